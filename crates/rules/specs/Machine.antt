@@ -1,0 +1,365 @@
+-- The machine: heap, frames and sets of locations, evaluation, each step, and a run of so many steps.
+use mathlib.Core.Bool.{Bool, true, false, not, cond, _&&_}
+use mathlib.Core.List.{List, [], _∷_, _++_, map}
+use Prim.Native.Nat.{ℕ, zero, suc, pred, _+_}
+use lib.Dec.{eqb, ltb, leb}
+use lib.ListN.{length, getD, replicate, take, drop}
+use Rattle.rules.specs.Base.{Try, ok, no, _>>=_, _>>_, check, any, keep, update}
+use Rattle.rules.specs.Limits.{most-locals, most-frames, values-shown}
+use Rattle.rules.specs.Answers.{Stop, Ending, finished, stepsTaken, stopped, heapFull, framesFull, permissionMissing, nullFollowed, formulaFalse}
+use Rattle.rules.specs.Syntax.{Rel, Expr, Atom, Formula, Simple, Stmt, Row, Field, Method, Program, noMethod, first-local, result-variable}
+use Rattle.rules.specs.Syntax.{eq, ne, num, null, var, path, acc, cmp, set, assign, new, call, return, assert, release, simple, if, else, join, end}
+
+-- HEAP AND FRAMES
+
+-- A value is 32 bits: a number, or an object's number from 1, with 0 for null. A field of an object: its name and value.
+pub record Cell : Type 0 where
+  pub name : ℕ
+  pub value : ℕ
+
+-- "Objects are numbered as made": the first is object 1
+abbrev pub Heap : Type 0
+Heap = List (List Cell)
+
+-- "locations (object, field)"
+pub record Location : Type 0 where
+  pub object : ℕ
+  pub field : ℕ
+
+-- "A frame has values and a set A of locations". rows: what is still to do, the next line first
+pub record Frame : Type 0 where
+  pub values : List ℕ
+  pub held : List Location
+  pub rows : List Row
+  pub ensures : Formula ℕ
+
+-- the frame that runs and its callers, the nearest first, each at its `call` line; main's is the last
+pub record Config : Type 0 where
+  pub heap : Heap
+  pub frame : Frame
+  pub callers : List Frame
+
+unfoldable pub eqLocation : Location → Location → Bool
+eqLocation p q = eqb (p .object) (q .object) && eqb (p .field) (q .field)
+
+unfoldable pub among : Location → List Location → Bool
+among p = any (eqLocation p)
+
+-- is the location in the frame's set A?
+unfoldable pub holds : Frame → Location → Bool
+holds F p = among p (F .held)
+
+-- the second set less the first
+unfoldable pub without : List Location → List Location → List Location
+without ps = keep (λ q. not (among q ps))
+
+unfoldable pub valueIn : List Cell → ℕ → ℕ
+valueIn [] f = 0
+valueIn (c ∷ cs) f = let r : ℕ = valueIn cs f in cond (eqb (c .name) f) (c .value) r
+
+-- the object with this number
+unfoldable pub object : Heap → ℕ → List Cell
+object h zero = []
+object h (suc i) = getD h i []
+
+-- the value of a field
+unfoldable pub valueAt : Heap → ℕ → ℕ → ℕ
+valueAt h o f = valueIn (object h o) f
+
+unfoldable pub storeIn : ℕ → ℕ → List Cell → List Cell
+storeIn f v [] = record { name = f; value = v } ∷ []
+storeIn f v (c ∷ cs) =
+    let r : List Cell = storeIn f v cs in cond (eqb (c .name) f) (record { name = f; value = v } ∷ cs) (c ∷ r)
+
+-- document 001's H[o ↦ [f ↦ v]]
+unfoldable pub store : Heap → ℕ → ℕ → ℕ → Heap
+store h zero f v = h
+store h (suc i) f v = update [] h i (storeIn f v (getD h i []))
+
+unfoldable pub fieldsOf : Heap → ℕ
+fieldsOf [] = 0
+fieldsOf (o ∷ h) = length o + fieldsOf h
+
+unfoldable pub valueOf : Frame → ℕ → ℕ
+valueOf F x = getD (F .values) x 0
+
+-- EVALUATION
+
+-- the location of `x.f`: a null is 25, "a location not in A" 24
+unfoldable pub locate : Frame → ℕ → ℕ → Try Stop Location
+locate F x f =
+    let p : Location = record { object = valueOf F x; field = f } in
+    check (not (eqb (valueOf F x) 0)) nullFollowed >> (check (holds F p) permissionMissing >> ok p)
+
+-- "reading a path needs its location in A"
+unfoldable pub value : Heap → Frame → Expr ℕ → Try Stop ℕ
+value h F (num n) = ok n
+value h F null = ok 0
+value h F (var x) = ok (valueOf F x)
+value h F (path x f) = locate F x f >>= λ p. ok (valueAt h (p .object) f)
+
+unfoldable pub compared : Rel → ℕ → ℕ → Bool
+compared eq v w = eqb v w
+compared ne v w = not (eqb v w)
+
+-- "Formula atoms go in order, of two sides the left first: `acc` of a null is 25, of a location not in A or already taken in this
+-- formula 24; reading likewise, over the whole A; a false `eq` or `ne` is 26." The result is what was taken, the last first.
+unfoldable pub takeFrom : Heap → Frame → Formula ℕ → List Location → Try Stop (List Location)
+takeFrom h F [] taken = ok taken
+takeFrom h F (acc x f ∷ φ) taken = do
+  p ← locate F x f
+  check (not (among p taken)) permissionMissing
+  takeFrom h F φ (p ∷ taken)
+takeFrom h F (cmp n a b ∷ φ) taken = do
+  v ← value h F a
+  w ← value h F b
+  check (compared n v w) formulaFalse
+  takeFrom h F φ taken
+
+-- "A formula's footprint is the locations that its `acc` atoms take."
+unfoldable pub footprint : Heap → Frame → Formula ℕ → Try Stop (List Location)
+footprint h F φ = takeFrom h F φ []
+
+-- FRAMES THAT CHANGE
+
+unfoldable pub tail : List Row → List Row
+tail [] = []
+tail (r ∷ rs) = rs
+
+unfoldable pub jump : List Row → Frame → Frame
+jump rs F = record { values = F .values; held = F .held; rows = rs; ensures = F .ensures }
+
+-- on to the next line
+unfoldable pub advance : Frame → Frame
+advance F = jump (tail (F .rows)) F
+
+unfoldable pub bind : ℕ → ℕ → Frame → Frame
+bind x v F = record { values = update 0 (F .values) x v; held = F .held; rows = F .rows; ensures = F .ensures }
+
+unfoldable pub holding : List Location → Frame → Frame
+holding A F = record { values = F .values; held = A; rows = F .rows; ensures = F .ensures }
+
+unfoldable pub withFrame : Config → Frame → Config
+withFrame m F = record { heap = m .heap; frame = F; callers = m .callers }
+
+-- BRANCHES
+
+-- the depth of the next row, counted in further branches
+unfoldable pub depthAfter : Stmt → ℕ → ℕ
+depthAfter (simple p) d = d
+depthAfter (if n a b) d = suc d
+depthAfter else d = d
+depthAfter (join φ) d = pred d
+depthAfter end d = d
+
+unfoldable pub isElse : Stmt → Bool
+isElse (simple p) = false
+isElse (if n a b) = false
+isElse else = true
+isElse (join φ) = false
+isElse end = false
+
+unfoldable pub isJoin : Stmt → Bool
+isJoin (simple p) = false
+isJoin (if n a b) = false
+isJoin else = false
+isJoin (join φ) = true
+isJoin end = false
+
+-- the rows from the first that passes and is not in a further branch
+unfoldable pub seek : (Stmt → Bool) → ℕ → List Row → List Row
+seek p d [] = []
+seek p d (r ∷ rs) = let k : List Row = seek p (depthAfter (r .stmt) d) rs in cond (p (r .stmt) && eqb d 0) (r ∷ rs) k
+
+-- "a false `if` goes to the line after its `else`"
+unfoldable pub afterElse : List Row → List Row
+afterElse rs = tail (seek isElse 0 (tail rs))
+
+-- "`else` (on to its `join`)"
+unfoldable pub toJoin : List Row → List Row
+toJoin rs = seek isJoin 0 (tail rs)
+
+unfoldable pub ifStep : Rel → Expr ℕ → Expr ℕ → Config → Try Stop Config
+ifStep n a b m = do
+  v ← value (m .heap) (m .frame) a
+  w ← value (m .heap) (m .frame) b
+  ok (withFrame m (cond (compared n v w) (advance (m .frame)) (jump (afterElse (m .frame .rows)) (m .frame))))
+
+-- STATEMENTS
+
+-- "`set` first tests `acc x f`."
+unfoldable pub stored : Config → ℕ → ℕ → ℕ → Config
+stored m o f v = record { heap = store (m .heap) o f v; frame = advance (m .frame); callers = m .callers }
+
+unfoldable pub setStep : ℕ → ℕ → ℕ → Config → Try Stop Config
+setStep x f y m = locate (m .frame) x f >>= λ p. ok (stored m (p .object) f (valueOf (m .frame) y))
+
+unfoldable pub assignStep : ℕ → Expr ℕ → Config → Try Stop Config
+assignStep x e m = value (m .heap) (m .frame) e >>= λ v. ok (withFrame m (advance (bind x v (m .frame))))
+
+-- a new object: each field null or 0; its locations are the running frame's
+unfoldable pub newCell : Field → Cell
+newCell f = record { name = f .name; value = 0 }
+
+unfoldable pub grown : Config → ℕ → List Cell → Config
+grown m x cells =
+    let o : ℕ = suc (length (m .heap)) in
+    let made : List Location = map (λ c. record { object = o; field = c .name }) cells in
+    record {
+      heap = m .heap ++ (cells ∷ []);
+      frame = advance (bind x o (holding (m .frame .held ++ made) (m .frame)));
+      callers = m .callers;
+    }
+
+-- the heap's two limits
+pub record Room : Type 0 where
+  pub objects : ℕ
+  pub fields : ℕ
+
+-- "22 only where `new` would pass 256 objects or 1,024 fields"
+unfoldable pub newStep : Room → ℕ → List Field → Config → Try Stop Config
+newStep room x fs m =
+    check (ltb (length (m .heap)) (room .objects) && leb (fieldsOf (m .heap) + length fs) (room .fields)) heapFull
+    >> ok (grown m x (map newCell fs))
+
+-- "Variables and `result` start as null or 0."
+unfoldable pub entryValues : ℕ → ℕ → List ℕ
+entryValues this w = this ∷ w ∷ replicate (suc most-locals) 0
+
+-- the frame of a call of M on y and z, before it is known what it is handed: it reads requires over the caller's set
+unfoldable pub callFrame : Config → Method → ℕ → ℕ → Frame
+callFrame m M y z =
+    record {
+      values = entryValues (valueOf (m .frame) y) (valueOf (m .frame) z);
+      held = m .frame .held;
+      rows = M .body;
+      ensures = M .ensures;
+    }
+
+-- "the new frame's A is the footprint of requires, which the caller loses"
+unfoldable pub entered : Config → Frame → List Location → Config
+entered m G A =
+    record { heap = m .heap; frame = holding A G; callers = holding (without A (m .frame .held)) (m .frame) ∷ m .callers }
+
+-- "`call`: null receiver, then requires, then frames full"
+unfoldable pub callStep : ℕ → Method → ℕ → Config → Try Stop Config
+callStep y M z m = do
+  check (not (eqb (valueOf (m .frame) y) 0)) nullFollowed
+  A ← footprint (m .heap) (callFrame m M y z) (M .requires)
+  check (ltb (suc (length (m .callers))) most-frames) framesFull
+  ok (entered m (callFrame m M y z) A)
+
+-- the x of the `call` at which a caller stands
+unfoldable pub targetOf : Stmt → ℕ
+targetOf (simple p) =
+    elim p [ call x y n z ↦ x | set x f y ↦ 0 | assign x e ↦ 0 | new x c ↦ 0 | return x ↦ 0 | assert φ ↦ 0 | release φ ↦ 0 ]
+targetOf (if n a b) = 0
+targetOf else = 0
+targetOf (join φ) = 0
+targetOf end = 0
+
+abbrev pub noRow : Row
+noRow = record { line = 0; stmt = end }
+
+-- the row that a frame does next
+unfoldable pub rowOf : Frame → Row
+rowOf F = getD (F .rows) 0 noRow
+
+-- "`end`: ensures, then the caller gains its footprint, and x the result; the rest of that A is lost."
+unfoldable pub returned : Config → Frame → List Frame → List Location → Config
+returned m C Cs A =
+    record {
+      heap = m .heap;
+      frame = advance (bind (targetOf (rowOf C .stmt)) (valueOf (m .frame) result-variable) (holding (C .held ++ A) C));
+      callers = Cs;
+    }
+
+-- "`join` tests its formula", as `assert` does
+unfoldable pub assertStep : Formula ℕ → Config → Try Stop Config
+assertStep φ m = footprint (m .heap) (m .frame) φ >>= λ A. ok (withFrame m (advance (m .frame)))
+
+unfoldable pub releaseStep : Formula ℕ → Config → Try Stop Config
+releaseStep φ m =
+    footprint (m .heap) (m .frame) φ >>= λ A.
+    ok (withFrame m (advance (holding (without A (m .frame .held)) (m .frame))))
+
+-- STEPS AND RUNS
+
+-- the state after a step; why it is not done; or main's `end` is done
+pub data Step : Type 0 where
+  on : Config → Step
+  stop : Stop → Step
+  done : Step
+
+unfoldable pub took : Try Stop Config → Step
+took (ok m) = on m
+took (no s) = stop s
+
+unfoldable pub endStep : Config → List Frame → Step
+endStep m [] = done
+endStep m (C ∷ Cs) = took (footprint (m .heap) (m .frame) (m .frame .ensures) >>= λ A. ok (returned m C Cs A))
+
+-- what a run ends with: how, the line of the row that is next (done last, where main's `end` is done), the steps taken, and
+-- main's variables
+pub record Outcome : Type 0 where
+  pub ending : Ending
+  pub line : ℕ
+  pub steps : ℕ
+  pub values : List ℕ
+
+unfoldable pub mainFrame : Frame → List Frame → Frame
+mainFrame F [] = F
+mainFrame F (C ∷ Cs) = mainFrame C Cs
+
+unfoldable pub ends : Ending → ℕ → Config → Outcome
+ends e n m =
+    record {
+      ending = e;
+      line = rowOf (m .frame) .line;
+      steps = n;
+      values = take values-shown (drop first-local (mainFrame (m .frame) (m .callers) .values));
+    }
+
+-- "A stopped step is not counted."
+unfoldable pub goOn : Step → ℕ → Config → (Config → Outcome) → Outcome
+goOn (on m′) n m k = k m′
+goOn (stop s) n m k = ends (stopped s) n m
+goOn done n m k = ends finished (suc n) m
+
+module _ (room : Room) (P : Program) where
+  unfoldable pub simpleStep : Simple → Config → Try Stop Config
+  simpleStep (set x f y) m = setStep x f y m
+  simpleStep (assign x e) m = assignStep x e m
+  simpleStep (new x c) m = newStep room x (getD (P .classes) c []) m
+  simpleStep (call x y n z) m = callStep y (getD (P .methods) n noMethod) z m
+  simpleStep (return x) m = assignStep result-variable (var x) m
+  simpleStep (assert φ) m = assertStep φ m
+  simpleStep (release φ) m = releaseStep φ m
+
+  unfoldable pub stepAt : Stmt → Config → Step
+  stepAt (simple p) m = took (simpleStep p m)
+  stepAt (if n a b) m = took (ifStep n a b m)
+  stepAt else m = on (withFrame m (jump (toJoin (m .frame .rows)) (m .frame)))
+  stepAt (join φ) m = took (assertStep φ m)
+  stepAt end m = endStep m (m .callers)
+
+  -- "Each statement line is one step"
+  unfoldable pub step : Config → Step
+  step m = stepAt (rowOf (m .frame) .stmt) m
+
+  -- at most k steps more, after n: "A run tests 21 before each step."
+  unfoldable pub run : ℕ → ℕ → Config → Outcome
+  run zero n m = ends stepsTaken n m
+  run (suc k) n m = goOn (step m) n m (λ m′. run k (suc n) m′)
+
+-- "from the empty heap and main's frame"
+unfoldable pub start : Program → Config
+start P = record { heap = []; frame = record { values = entryValues 0 0; held = []; rows = P .main; ensures = [] }; callers = [] }
+
+unfoldable pub runProgram : Room → Program → ℕ → Outcome
+runProgram room P k = run room P k 0 (start P)
+
+-- Everything above computes where this unfolds.
+unfoldable pub opened : Unit {0}
+unfolding eqLocation among holds without valueIn object valueAt storeIn store fieldsOf valueOf locate value compared takeFrom footprint tail jump advance bind holding withFrame depthAfter isElse isJoin seek afterElse toJoin ifStep stored setStep assignStep newCell grown newStep entryValues callFrame entered callStep targetOf rowOf returned assertStep releaseStep took endStep mainFrame ends goOn simpleStep stepAt step run start runProgram
+opened = tt

@@ -1,0 +1,227 @@
+-- What the checker knows: a state, ~, showing, the remainder, removing, adding.
+use mathlib.Core.Bool.{Bool, true, false, not, cond, _&&_, _||_}
+use mathlib.Core.List.{List, [], _∷_, _++_}
+use mathlib.Core.Option.{Option, none, some}
+use Prim.Native.Nat.{ℕ}
+use lib.Dec.{eqb, ltb}
+use lib.ListN.{length}
+use Rattle.rules.specs.Base.{Try, ok, no, _>>=_, _>>_, check, orElse, bindOption, any, keep, first, mapOption}
+use Rattle.rules.specs.Limits.{most-permissions, most-facts}
+use Rattle.rules.specs.Answers.{Refusal, unresolved, noPermission, notShown, stateFull}
+use Rattle.rules.specs.Syntax.{Rel, Expr, Atom, Formula, same, eq, ne, num, null, var, path, acc, cmp}
+
+abbrev pub Term : Type 0
+Term = Expr ℕ
+
+-- the permission to `x.f`
+pub record Permission : Type 0 where
+  pub variable : ℕ
+  pub field : ℕ
+
+-- an equality or an inequality
+pub record Fact : Type 0 where
+  pub rel : Rel
+  pub left : Term
+  pub right : Term
+
+-- "A state is an ordered list of permissions `x.f` and a list of equalities and inequalities over variables, constants and
+-- listed paths."
+pub record State : Type 0 where
+  pub permissions : List Permission
+  pub facts : List Fact
+
+abbrev pub empty : State
+empty = record { permissions = []; facts = [] }
+
+unfoldable pub pathOf : Permission → Term
+pathOf p = path (p .variable) (p .field)
+
+-- "Two terms are equal (~) if they are the same or the equalities link them." Each term has a representative; an equality gives
+-- all terms with the representative a of its left side the representative b of its right side.
+unfoldable pub linkedBy : Rel → (Term → Term) → Term → Term → Term → Term
+linkedBy eq r a b t = cond (same (r t) a) b (r t)
+linkedBy ne r a b t = r t
+
+unfoldable pub representative : List Fact → Term → Term
+representative [] = λ t. t
+representative (f ∷ fs) =
+    let r : Term → Term = representative fs in
+    let a : Term = r (f .left) in
+    let b : Term = r (f .right) in
+    linkedBy (f .rel) r a b
+
+abbrev pub Equality : Type 0
+Equality = Term → Term → Bool
+
+unfoldable pub equalBy : (Term → Term) → Equality
+equalBy r t u = same (r t) (r u)
+
+unfoldable pub equalIn : State → Equality
+equalIn s = equalBy (representative (s .facts))
+
+-- the numbers among the terms
+unfoldable pub numbers : List Term → List ℕ
+numbers [] = []
+numbers (num n ∷ ts) = n ∷ numbers ts
+numbers (null ∷ ts) = numbers ts
+numbers (var x ∷ ts) = numbers ts
+numbers (path x f ∷ ts) = numbers ts
+
+unfoldable pub termsOf : List Fact → List Term
+termsOf [] = []
+termsOf (f ∷ fs) = f .left ∷ f .right ∷ termsOf fs
+
+unfoldable pub isNe : Rel → Bool
+isNe eq = false
+isNe ne = true
+
+module _ (_~_ : Equality) where
+  infixl 40 _~_
+  -- a listed `x.f` with x ~ y
+  unfoldable pub names : ℕ → ℕ → Permission → Bool
+  names y f p = eqb (p .field) f && (var (p .variable) ~ var y)
+
+  -- "A path `y.f` resolves to the first listed `x.f` with x ~ y; other expressions to themselves."
+  unfoldable pub resolve : List Permission → Term → Try Refusal Term
+  resolve ps (num n) = ok (num n)
+  resolve ps null = ok null
+  resolve ps (var x) = ok (var x)
+  resolve ps (path y f) = orElse (first (names y f) ps) unresolved >>= λ p. ok (pathOf p)
+
+  -- a and b are ~ t and u, either way round
+  unfoldable pub links : Term → Term → Term → Term → Bool
+  links a b t u = ((a ~ t) && (b ~ u)) || ((a ~ u) && (b ~ t))
+
+  -- "(a) a listed inequality links them, either way round"
+  unfoldable pub listedUnequal : List Fact → Term → Term → Bool
+  listedUnequal fs t u = any (λ f. isNe (f .rel) && links (f .left) (f .right) t u) fs
+
+  -- "(b) they are ~ to different numbers"
+  unfoldable pub differentNumbers : List Fact → Term → Term → Bool
+  differentNumbers fs t u =
+      let ns : List ℕ = numbers (t ∷ u ∷ termsOf fs) in
+      any (λ m. (num m ~ t) && any (λ n. not (eqb m n) && (num n ~ u)) ns) ns
+
+  -- "(c) one is ~ null and the other ~ x with some `x.f` listed": t is the one
+  unfoldable pub nullAndObject : List Permission → Term → Term → Bool
+  nullAndObject ps t u = (null ~ t) && any (λ p. var (p .variable) ~ u) ps
+
+  -- "(d) they are ~ x and ~ y with `x.f` and `y.f` two entries of the list for one f"
+  unfoldable pub twoEntries : List Permission → Term → Term → Bool
+  twoEntries [] t u = false
+  twoEntries (p ∷ ps) t u =
+      let r : Bool = twoEntries ps t u in
+      any (λ q. eqb (p .field) (q .field) && links (var (p .variable)) (var (q .variable)) t u) ps || r
+
+  -- is this relation of resolved terms shown?
+  unfoldable pub holdsIn : State → Rel → Term → Term → Bool
+  holdsIn s eq t u = t ~ u
+  holdsIn s ne t u =
+      listedUnequal (s .facts) t u
+      || (differentNumbers (s .facts) t u
+      || (nullAndObject (s .permissions) t u || (nullAndObject (s .permissions) u t || twoEntries (s .permissions) t u)))
+
+-- the first entry that passes, and the others
+pub record Split : Type 0 where
+  pub taken : Permission
+  pub others : List Permission
+
+unfoldable pub split : (Permission → Bool) → List Permission → Option Split
+split t [] = none
+split t (p ∷ ps) =
+    elim (t p) [
+      | true ↦ some (record { taken = p; others = ps })
+      | false ↦ bindOption (split t ps) (λ c. some (record { taken = c .taken; others = p ∷ c .others }))
+    ]
+
+-- entries not yet consumed, and those that are
+pub record Shown : Type 0 where
+  pub kept : List Permission
+  pub consumed : List Permission
+
+-- "`acc y f` by the first listed, not yet consumed `x.f` with x ~ y, which it consumes; `eq` if both sides resolve and are ~; `ne`
+-- if both resolve and (a) .. (d)"; "Atoms go in order; `eq` and `ne` read the whole state."
+unfoldable pub showFrom : Equality → State → Formula ℕ → Shown → Try Refusal Shown
+showFrom _~_ s [] r = ok r
+showFrom _~_ s (acc y f ∷ φ) r =
+    orElse (split (names _~_ y f) (r .kept)) noPermission >>= λ c.
+    showFrom _~_ s φ (record { kept = c .others; consumed = c .taken ∷ r .consumed })
+showFrom _~_ s (cmp n a b ∷ φ) r = do
+  t ← resolve _~_ (s .permissions) a
+  u ← resolve _~_ (s .permissions) b
+  check (holdsIn _~_ s n t u) notShown
+  showFrom _~_ s φ r
+
+unfoldable pub show : State → Formula ℕ → Try Refusal Shown
+show s φ = showFrom (equalIn s) s φ (record { kept = s .permissions; consumed = [] })
+
+unfoldable pub namesPath : List Permission → Fact → Bool
+namesPath ps f = any (λ p. same (pathOf p) (f .left) || same (pathOf p) (f .right)) ps
+
+unfoldable pub withoutPaths : List Permission → List Fact → List Fact
+withoutPaths ps fs = keep (λ f. not (namesPath ps f)) fs
+
+-- "The remainder is the state without consumed paths and without facts that name them."
+unfoldable pub remainder : State → Shown → State
+remainder s r = record { permissions = r .kept; facts = withoutPaths (r .consumed) (s .facts) }
+
+-- x renamed to the variable `to`, or nothing where that is none
+unfoldable pub renameVariable : ℕ → Option ℕ → ℕ → Option ℕ
+renameVariable x to v = cond (eqb v x) to (some v)
+
+unfoldable pub renameTerm : ℕ → Option ℕ → Term → Option Term
+renameTerm x to (num n) = some (num n)
+renameTerm x to null = some null
+renameTerm x to (var v) = bindOption (renameVariable x to v) (λ w. some (var w))
+renameTerm x to (path v f) = bindOption (renameVariable x to v) (λ w. some (path w f))
+
+unfoldable pub renamePermission : ℕ → Option ℕ → Permission → Option Permission
+renamePermission x to p =
+    bindOption (renameVariable x to (p .variable)) (λ w. some (record { variable = w; field = p .field }))
+
+unfoldable pub renameFact : ℕ → Option ℕ → Fact → Option Fact
+renameFact x to f =
+    bindOption (renameTerm x to (f .left)) λ a.
+    bindOption (renameTerm x to (f .right)) λ b.
+    some (record { rel = f .rel; left = a; right = b })
+
+-- "(order: `this`, w, locals, `result`)"
+abbrev pub variables : List ℕ
+variables = 0 ∷ 1 ∷ 2 ∷ 3 ∷ 4 ∷ 5 ∷ 6 ∷ 7 ∷ 8 ∷ 9 ∷ 10 ∷ 11 ∷ 12 ∷ 13 ∷ 14 ∷ []
+
+-- "if another variable is ~ x, the first such"
+unfoldable pub successor : State → ℕ → Option ℕ
+successor s x = first (λ v. not (eqb v x) && equalIn s (var v) (var x)) variables
+
+-- "Removing x: .. takes its place everywhere; otherwise all that names x goes."
+unfoldable pub removeTo : ℕ → Option ℕ → State → State
+removeTo x to s =
+    record { permissions = mapOption (renamePermission x to) (s .permissions); facts = mapOption (renameFact x to) (s .facts) }
+
+unfoldable pub remove : ℕ → State → State
+remove x s = removeTo x (successor s x) s
+
+unfoldable pub addPermission : Permission → State → Try Refusal State
+addPermission p s =
+    check (ltb (length (s .permissions)) most-permissions) stateFull
+    >> ok (record { permissions = s .permissions ++ (p ∷ []); facts = s .facts })
+
+unfoldable pub addFact : Rel → Term → Term → State → Try Refusal State
+addFact n t u s =
+    check (ltb (length (s .facts)) most-facts) stateFull
+    >> ok (record { permissions = s .permissions; facts = s .facts ++ (record { rel = n; left = t; right = u } ∷ []) })
+
+-- "Adding a formula lists its permissions and its resolved facts, in order."
+unfoldable pub add : Formula ℕ → State → Try Refusal State
+add [] s = ok s
+add (acc x f ∷ φ) s = addPermission (record { variable = x; field = f }) s >>= λ s. add φ s
+add (cmp n a b ∷ φ) s = do
+  t ← resolve (equalIn s) (s .permissions) a
+  u ← resolve (equalIn s) (s .permissions) b
+  s′ ← addFact n t u s
+  add φ s′
+
+-- Everything above computes where this unfolds.
+unfoldable pub opened : Unit {0}
+unfolding pathOf linkedBy representative equalBy equalIn numbers termsOf isNe names resolve links listedUnequal differentNumbers nullAndObject twoEntries holdsIn split showFrom show namesPath withoutPaths remainder renameVariable renameTerm renamePermission renameFact successor removeTo remove addPermission addFact add
+opened = tt

@@ -1,0 +1,106 @@
+-- Scripts: expressions, atoms and formulas, over names as written or resolved to numbers; resolved statements and programs.
+use mathlib.Core.Bool.{Bool, true, false, _&&_}
+use mathlib.Core.List.{List, []}
+use Prim.Native.Nat.{ℕ}
+use lib.Dec.{eqb}
+
+-- `eq` or `ne`
+pub data Rel : Type 0 where
+  eq : Rel
+  ne : Rel
+
+-- "An expression e is a number, `null`, a variable x, or a path `x.f`." A number is held by its 32 bits, two's complement.
+pub data Expr (N : Type 0) : Type 0 where
+  num : ℕ → Expr N
+  null : Expr N
+  var : N → Expr N
+  path : N → N → Expr N
+
+-- "An atom is three fields: `acc x f`, `eq e e` or `ne e e`."
+pub data Atom (N : Type 0) : Type 0 where
+  acc : N → N → Atom N
+  cmp : Rel → Expr N → Expr N → Atom N
+
+-- "A formula is 0 to 8 atoms .., joined by the separating star; 0 atoms means true"
+abbrev pub Formula : Type 0 → Type 0
+Formula N = List (Atom N)
+
+-- Resolved names. A variable: 0 is `this`, 1 the parameter (w), 2 to 13 the locals, 14 `result`: the paper's order of variables.
+-- A field: the number of its name, which several classes may have. Classes and methods: their place in the text.
+abbrev pub this-variable : ℕ
+this-variable = 0
+
+abbrev pub parameter : ℕ
+parameter = 1
+
+abbrev pub first-local : ℕ
+first-local = 2
+
+abbrev pub result-variable : ℕ
+result-variable = 14
+
+-- statements that go on to the next line; `assign` is `let`
+pub data Simple : Type 0 where
+  set : ℕ → ℕ → ℕ → Simple
+  assign : ℕ → Expr ℕ → Simple
+  new : ℕ → ℕ → Simple
+  call : ℕ → ℕ → ℕ → ℕ → Simple
+  return : ℕ → Simple
+  assert : Formula ℕ → Simple
+  release : Formula ℕ → Simple
+
+pub data Stmt : Type 0 where
+  simple : Simple → Stmt
+  if : Rel → Expr ℕ → Expr ℕ → Stmt
+  else : Stmt
+  join : Formula ℕ → Stmt
+  end : Stmt
+
+-- a statement line with its number
+pub record Row : Type 0 where
+  pub line : ℕ
+  pub stmt : Stmt
+
+pub record Field : Type 0 where
+  pub name : ℕ
+  pub int : Bool
+
+-- body: the statement lines of the text from the method's first on; its own end with the first `end`
+pub record Method : Type 0 where
+  pub requires : Formula ℕ
+  pub ensures : Formula ℕ
+  pub body : List Row
+
+-- classes: the fields of each; main: the statement lines from its first on
+pub record Program : Type 0 where
+  pub classes : List (List Field)
+  pub methods : List Method
+  pub main : List Row
+
+-- what stands for a method that is not there
+abbrev pub noMethod : Method
+noMethod = record { requires = []; ensures = []; body = [] }
+
+-- the same expression, as written
+unfoldable pub same : Expr ℕ → Expr ℕ → Bool
+same (num m) (num n) = eqb m n
+same (num m) null = false
+same (num m) (var y) = false
+same (num m) (path y g) = false
+same null (num n) = false
+same null null = true
+same null (var y) = false
+same null (path y g) = false
+same (var x) (num n) = false
+same (var x) null = false
+same (var x) (var y) = eqb x y
+same (var x) (path y g) = false
+same (path x f) (num n) = false
+same (path x f) null = false
+same (path x f) (var y) = false
+same (path x f) (path y g) = eqb x y && eqb f g
+
+-- Everything above computes where this unfolds.
+unfoldable pub opened : Unit {0}
+unfolding same
+opened = tt
