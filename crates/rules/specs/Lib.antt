@@ -1,8 +1,14 @@
 pub mod Base
-pub mod Answers
 pub mod Limits
+pub mod Answers
 pub mod Syntax
+pub mod Text
+pub mod Grammar
+pub mod Places
+pub mod Names
+pub mod Reading
 pub mod State
 pub mod Rules
 pub mod Machine
+pub mod Calls
 pub mod Runs
