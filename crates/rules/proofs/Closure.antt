@@ -26,7 +26,9 @@ pub record Equivalence (R : Term → Term → Type 0) : Type 0 where
   pub symmetric : {t u : Term} → R t u → R u t
   pub transitive : {t u v : Term} → R t u → R u v → R t v
 
-pub linked-least : {R : Term → Term → Type 0} {fs : List Fact} {t u : Term} → Equivalence R → ((t u : Term) → Listed t u fs → R t u) → Linked fs t u → R t u
+pub linked-least :
+    {R : Term → Term → Type 0} {fs : List Fact} {t u : Term} → Equivalence R → ((t u : Term) → Listed t u fs → R t u) →
+    Linked fs t u → R t u
 linked-least E k itself = E .reflexive
 linked-least {t} {u} E k (listed l) = k t u l
 linked-least E k (back l) = E .symmetric (linked-least E k l)
@@ -100,7 +102,9 @@ picked : {fs : List Fact} (a b t : Term) (c : Bool) → c ≡ same t a → Linke
 picked a b t true e l = let p : t ≡ a = same→≡ t a (subst T e tt) in rw p l
 picked a b t false e l = itself
 
-linked-by : {fs : List Fact} (n : Rel) (r : Term → Term) (a b t : Term) → Linked fs t (r t) → (n ≡ eq → Linked fs a b) → Linked fs t (linkedBy n r a b t)
+linked-by :
+    {fs : List Fact} (n : Rel) (r : Term → Term) (a b t : Term) → Linked fs t (r t) → (n ≡ eq → Linked fs a b) →
+    Linked fs t (linkedBy n r a b t)
 unfolding linkedBy
 linked-by eq r a b t l k = onward l (picked a b (r t) (same (r t) a) refl (k refl))
 linked-by ne r a b t l k = l

@@ -18,7 +18,9 @@ unfolding valueIn storeIn
 stored-same f v [] = rw (T-true (eqb f f) (eqb-refl f))
 stored-same f v (c ∷ cs) = go (eqb (c .name) f) refl (stored-same f v cs)
   where
-    go : (b : Bool) → b ≡ eqb (c .name) f → valueIn (storeIn f v cs) f ≡ v → valueIn (cond b (record { name = f; value = v } ∷ cs) (c ∷ storeIn f v cs)) f ≡ v
+    go :
+        (b : Bool) → b ≡ eqb (c .name) f → valueIn (storeIn f v cs) f ≡ v →
+        valueIn (cond b (record { name = f; value = v } ∷ cs) (c ∷ storeIn f v cs)) f ≡ v
     go true e ih = rw (T-true (eqb f f) (eqb-refl f))
     go false e ih = rw (← e) ih
 
@@ -27,7 +29,9 @@ unfolding valueIn storeIn
 stored-other f v g n [] = rw (F-false (eqb f g) (λ t. n (sym (eqb→eq f g t))))
 stored-other f v g n (c ∷ cs) = go (eqb (c .name) f) refl (stored-other f v g n cs)
   where
-    go : (b : Bool) → b ≡ eqb (c .name) f → valueIn (storeIn f v cs) g ≡ valueIn cs g → valueIn (cond b (record { name = f; value = v } ∷ cs) (c ∷ storeIn f v cs)) g ≡ cond (eqb (c .name) g) (c .value) (valueIn cs g)
+    go :
+        (b : Bool) → b ≡ eqb (c .name) f → valueIn (storeIn f v cs) g ≡ valueIn cs g →
+        valueIn (cond b (record { name = f; value = v } ∷ cs) (c ∷ storeIn f v cs)) g ≡ cond (eqb (c .name) g) (c .value) (valueIn cs g)
     go true e ih =
         rw (F-false (eqb f g) (λ t. n (sym (eqb→eq f g t))), F-false (eqb (c .name) g) (λ t. n (sym (eqb→eq (c .name) g t) ∙ eqb→eq (c .name) f (subst T e tt))))
     go false e ih = ap (λ (r : ℕ). cond (eqb (c .name) g) (c .value) r) ih

@@ -5,3 +5,5 @@ pub mod Sets
 pub mod Heaps
 pub mod States
 pub mod Counting
+pub mod Changes
+pub mod Disjoint

@@ -1,6 +1,6 @@
 -- Laws of tests and lists that the other proofs share.
 use mathlib.Core.Path.{_≡_, refl, sym, ap, _∙_, subst}
-use mathlib.Core.Bool.{Bool, true, false, not, cond, _&&_, _||_}
+use mathlib.Core.Bool.{Bool, true, false, cond, _&&_, _||_}
 use mathlib.Core.List.{List, [], _∷_, _++_}
 use mathlib.Core.Logic.{_⊎_, inl, inr, ⊎-elim}
 use mathlib.Core.Option.{Option, none, some}
@@ -9,7 +9,7 @@ use native.Mathlib.Omega.{arith}
 use native.Mathlib.Nat.{le-refl}
 use lib.Dec.{T, eqb, eqb→eq, eqb-refl}
 use lib.ListN.{length, getD}
-use Rattle.rules.specs.Base.{any, keep, first, update, mapOption, bindOption}
+use Rattle.rules.specs.Base.{any, first, update, mapOption, bindOption}
 
 -- TESTS
 pub T-true : (b : Bool) → T b → b ≡ true
@@ -58,7 +58,8 @@ some-inj e = cc
 pub none-some : {A B : Type 0} {a : A} → _≡_ {A = Option A} none (some a) → B
 none-some e = absurd (let z : _≡_ {A = ℕ} 0 1 = cc in omega arith)
 
-pub bind-some : {A B : Type 0} (o : Option A) (f : A → Option B) (b : B) → bindOption o f ≡ some b → (a : A) × (o ≡ some a) × (f a ≡ some b)
+pub bind-some :
+    {A B : Type 0} (o : Option A) (f : A → Option B) (b : B) → bindOption o f ≡ some b → (a : A) × (o ≡ some a) × (f a ≡ some b)
 unfolding bindOption
 bind-some none f b e = none-some e
 bind-some (some a) f b e = (a, refl, e)
@@ -106,13 +107,17 @@ module _ {A : Type 0} where
   first-in t [] a e = none-some e
   first-in t (b ∷ l) a e = go (t b) refl (λ k. first-in t l a k) e
     where
-      go : (c : Bool) → c ≡ t b → (first t l ≡ some a → Member a l × T (t a)) → cond c (some b) (first t l) ≡ some a → Member a (b ∷ l) × T (t a)
+      go :
+          (c : Bool) → c ≡ t b → (first t l ≡ some a → Member a l × T (t a)) → cond c (some b) (first t l) ≡ some a →
+          Member a (b ∷ l) × T (t a)
       go true r ih k = (is-head (sym (some-inj k)), subst T (r ∙ ap t (some-inj k)) tt)
       go false r ih k = let (i, p) = ih k in (further i, p)
 
 -- where a member of mapOption comes from, and where a member goes
 module _ {A B : Type 0} (f : A → Option B) where
-  one-came : (a c : A) (l : List A) (m : List B) (b d : B) → f a ≡ some d → (Member b m → (a : A) × Member a l × (f a ≡ some b)) → Member b (d ∷ m) → (c : A) × Member c (a ∷ l) × (f c ≡ some b)
+  one-came :
+      (a c : A) (l : List A) (m : List B) (b d : B) → f a ≡ some d → (Member b m → (a : A) × Member a l × (f a ≡ some b)) →
+      Member b (d ∷ m) → (c : A) × Member c (a ∷ l) × (f c ≡ some b)
   one-came a c l m b d e k at-head = (a, at-head, e)
   one-came a c l m b d e k (further i) = let (x, y, z) = k i in (x, further y, z)
 

@@ -1,5 +1,5 @@
 -- Laws of sets of locations, and of what a formula takes from one.
-use mathlib.Core.Path.{_≡_, refl, sym, ap, _∙_, subst}
+use mathlib.Core.Path.{_≡_, refl, sym, ap, subst}
 use mathlib.Core.Bool.{Bool, true, false, not, cond}
 use mathlib.Core.List.{List, [], _∷_, _++_, map}
 use mathlib.Core.Logic.{_⊎_, inl, inr, ⊎-elim}
@@ -76,7 +76,9 @@ unfolding keep
 keep-in t p [] h = absurd (in-nil p h)
 keep-in t p (q ∷ B) h = go (t q) refl (λ j. keep-in t p B j) h
   where
-    go : (b : Bool) → b ≡ t q → (In p (keep t B) → In p B × T (t p)) → In p (cond b (q ∷ keep t B) (keep t B)) → In p (q ∷ B) × T (t p)
+    go :
+        (b : Bool) → b ≡ t q → (In p (keep t B) → In p B × T (t p)) → In p (cond b (q ∷ keep t B) (keep t B)) →
+        In p (q ∷ B) × T (t p)
     go true r ih k =
         ⊎-elim (λ e. (is-here B e, subst (λ w. T (t w)) (sym e) (subst T r tt))) (λ j. (in-there p q B (ih j .0), ih j .1))
         (in-cons p q (keep t B) k)
@@ -106,7 +108,8 @@ unfolding without
 in-without p A B i n = in-keep (λ q. not (among q A)) p B (not-T (among p A) n) i
 
 -- the locations of a new object
-pub in-new : (p : Location) (o : ℕ) (cs : List Cell) → In p (map (λ c. record { object = o; field = c .name }) cs) → p .object ≡ o
+pub in-new :
+    (p : Location) (o : ℕ) (cs : List Cell) → In p (map (λ c. record { object = o; field = c .name }) cs) → p .object ≡ o
 in-new p o [] h = absurd (in-nil p h)
 in-new p o (c ∷ cs) h = ⊎-elim (λ e. ap (λ (r : Location). r .object) e) (λ k. in-new p o cs k) (in-cons p _ _ h)
 
@@ -131,7 +134,9 @@ unfolding locate
 locate-object F x f p e z = T-not (eqb (valueOf F x) 0) (check-ok _ _ e .0) (subst (λ v. T (eqb v 0)) (sym z) tt)
 
 -- what a formula takes is held, and what was taken stays taken
-pub taken-held : (h : Heap) (F : Frame) (φ : Formula ℕ) (A B : List Location) → takeFrom h F φ A ≡ ok B → (p : Location) → In p B → In p A ⊎ Holds F p
+pub taken-held :
+    (h : Heap) (F : Frame) (φ : Formula ℕ) (A B : List Location) → takeFrom h F φ A ≡ ok B → (p : Location) → In p B →
+    In p A ⊎ Holds F p
 unfolding takeFrom
 taken-held h F [] A B e p i = inl (subst (In p) (sym (ok-inj e)) i)
 taken-held h F (acc x f ∷ φ) A B e p i =
@@ -147,7 +152,8 @@ taken-held h F (cmp n a b ∷ φ) A B e p i =
     let (_, e₃) = check-ok (compared n v w) formulaFalse e₂ in
     taken-held h F φ A B e₃ p i
 
-pub taken-stays : (h : Heap) (F : Frame) (φ : Formula ℕ) (A B : List Location) → takeFrom h F φ A ≡ ok B → (p : Location) → In p A → In p B
+pub taken-stays :
+    (h : Heap) (F : Frame) (φ : Formula ℕ) (A B : List Location) → takeFrom h F φ A ≡ ok B → (p : Location) → In p A → In p B
 unfolding takeFrom
 taken-stays h F [] A B e p i = subst (In p) (ok-inj e) i
 taken-stays h F (acc x f ∷ φ) A B e p i =
@@ -158,6 +164,7 @@ taken-stays h F (cmp n a b ∷ φ) A B e p i =
     let (w, _, e₂) = bind-ok (value h F b) e₁ in
     taken-stays h F φ A B (check-ok (compared n v w) formulaFalse e₂ .1) p i
 
-pub footprint-held : (h : Heap) (F : Frame) (φ : Formula ℕ) (B : List Location) → footprint h F φ ≡ ok B → (p : Location) → In p B → Holds F p
+pub footprint-held :
+    (h : Heap) (F : Frame) (φ : Formula ℕ) (B : List Location) → footprint h F φ ≡ ok B → (p : Location) → In p B → Holds F p
 unfolding footprint
 footprint-held h F φ B e p i = ⊎-elim (λ j. absurd (in-nil p j)) (λ j. j) (taken-held h F φ [] B e p i)

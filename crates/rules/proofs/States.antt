@@ -21,7 +21,9 @@ unfolding took
 took-on (ok m′) m e = ap ok (on-inj e)
 took-on (no s) m e = absurd (let z : _≡_ {A = ℕ} 0 1 = cc in omega arith)
 
-pub next-some : (s : Step) (k : Config → Option Config) (m″ : Config) → nextState s k ≡ some m″ → (m′ : Config) × (s ≡ on m′) × (k m′ ≡ some m″)
+pub next-some :
+    (s : Step) (k : Config → Option Config) (m″ : Config) → nextState s k ≡ some m″ →
+    (m′ : Config) × (s ≡ on m′) × (k m′ ≡ some m″)
 unfolding nextState
 next-some (on m′) k m″ e = (m′, refl, e)
 next-some (stop s) k m″ e = none-some e
@@ -34,7 +36,9 @@ module _ (room : Room) (P : Program) where
   unfolding stateFrom nextState
   state-on m m′ k e = rw e
 
-  pub state-suc : (m w : Config) (k : ℕ) → stateFrom room P (suc k) m ≡ some w → (m′ : Config) × (step room P m ≡ on m′) × (stateFrom room P k m′ ≡ some w)
+  pub state-suc :
+      (m w : Config) (k : ℕ) → stateFrom room P (suc k) m ≡ some w →
+      (m′ : Config) × (step room P m ≡ on m′) × (stateFrom room P k m′ ≡ some w)
   unfolding stateFrom
   state-suc m w k e = next-some (step room P m) (λ m′. stateFrom room P k m′) w e
 
@@ -49,14 +53,17 @@ module _ (room : Room) (P : Program) where
       rw suc-add (state-on s m′ (i + k) t ∙ state-plus i k m′ m q)
 
   -- the state after one step more
-  pub state-next : (k : ℕ) (m w : Config) → stateAfter room P k ≡ some m → stateAfter room P (suc k) ≡ some w → step room P m ≡ on w
+  pub state-next :
+      (k : ℕ) (m w : Config) → stateAfter room P k ≡ some m → stateAfter room P (suc k) ≡ some w → step room P m ≡ on w
   unfolding stateAfter
   state-next k m w e f =
       let (m′, t, q) = state-suc m w 0 (sym (state-plus k 1 (start P) m e) ∙ rw add-one f) in
       t ∙ ap on (state-zero m′ w q)
 
   -- what holds at the start and is kept by each step holds in every state
-  pub every-state : (Q : Config → Type 0) → ((m m′ : Config) → Q m → step room P m ≡ on m′ → Q m′) → (k : ℕ) (m w : Config) → Q m → stateFrom room P k m ≡ some w → Q w
+  pub every-state :
+      (Q : Config → Type 0) → ((m m′ : Config) → Q m → step room P m ≡ on m′ → Q m′) → (k : ℕ) (m w : Config) → Q m →
+      stateFrom room P k m ≡ some w → Q w
   every-state Q keeps zero m w q e = rw (sym (state-zero m w e)) q
   every-state Q keeps (suc k) m w q e =
       let (m′, t, r) = state-suc m w k e in every-state Q keeps k m′ w (keeps m m′ q t) r
