@@ -1,0 +1,214 @@
+-- What one step does to the heap and to the frames' sets, whatever the statement: it stays in its frame, enters a call or returns
+-- from one.
+use mathlib.Core.Path.{_≡_, refl, sym, ap, _∙_, subst}
+use mathlib.Core.Bool.{Bool, true, false, cond}
+use mathlib.Core.List.{List, [], _∷_, map}
+use mathlib.Core.Logic.{_⊎_, inl, inr, ⊎-elim}
+use Prim.Native.Nat.{ℕ, suc, _≤_, _<_}
+use native.Mathlib.Omega.{arith}
+use native.Mathlib.Nat.{le-refl}
+use lib.ListN.{length, getD, length-append}
+use Rattle.rules.specs.Base.{ok}
+use Rattle.rules.specs.Syntax.{Rel, Expr, Simple, Stmt, Row, Field, Method, Formula, Program, noMethod, result-variable}
+use Rattle.rules.specs.Syntax.{var, set, assign, new, call, return, assert, release, simple, if, else, join, end}
+use Rattle.rules.specs.Machine.{Config, Frame, Location, Cell, Room, on, holds, without, valueAt, valueOf, locate, value, compared, footprint, jump, advance, bind, holding, withFrame, afterElse, ifStep, stored, setStep, assignStep, newCell, grown, newStep, callFrame, entered, callStep, returned, assertStep, releaseStep, endStep, simpleStep, stepAt, step, rowOf}
+use Rattle.rules.proofs.Tries.{bind-ok, check-ok, ok-inj}
+use Rattle.rules.proofs.Sets.{Holds, in-append, in-new, without-in, without-out, locate-holds, locate-is, footprint-held}
+use Rattle.rules.proofs.Heaps.{store-other, store-length, grown-other}
+use Rattle.rules.proofs.States.{on-inj, took-on}
+
+-- an object that the step made
+abbrev pub Made : Config → Config → ℕ → Type 0
+Made m m′ o = (length (m .heap) < o) × (o ≤ length (m′ .heap))
+
+-- the frame goes on: it gains only locations of new objects, and what it does not hold keeps its value
+pub record Within (m m′ : Config) : Type 0 where
+  pub callers : m′ .callers ≡ m .callers
+  pub grows : length (m .heap) ≤ length (m′ .heap)
+  pub gains : (p : Location) → Holds (m′ .frame) p → Holds (m .frame) p ⊎ Made m m′ (p .object)
+  pub outside :
+      (p : Location) → (Holds (m .frame) p → ⊥) → p .object ≤ length (m .heap) →
+      valueAt (m′ .heap) (p .object) (p .field) ≡ valueAt (m .heap) (p .object) (p .field)
+
+-- a call: the set is divided between the frame that is entered and its caller
+pub record Entering (m m′ : Config) : Type 0 where
+  pub caller : Frame
+  pub callers : m′ .callers ≡ caller ∷ m .callers
+  pub heap : m′ .heap ≡ m .heap
+  pub handed : (p : Location) → Holds (m′ .frame) p → Holds (m .frame) p
+  pub left : (p : Location) → Holds caller p → Holds (m .frame) p
+  pub apart : (p : Location) → Holds (m′ .frame) p → Holds caller p → ⊥
+
+-- a call's `end`: the caller goes on, with its set and some of the ended frame's
+pub record Returning (m m′ : Config) : Type 0 where
+  pub caller : Frame
+  pub callers : m .callers ≡ caller ∷ m′ .callers
+  pub heap : m′ .heap ≡ m .heap
+  pub gains : (p : Location) → Holds (m′ .frame) p → Holds caller p ⊎ Holds (m .frame) p
+
+pub data Change (m m′ : Config) : Type 0 where
+  within : Within m m′ → Change m m′
+  entering : Entering m m′ → Change m m′
+  returning : Returning m m′ → Change m m′
+
+-- STATEMENTS
+-- only the frame changes, and its set does not grow
+same-heap : (m : Config) (F : Frame) → ((p : Location) → Holds F p → Holds (m .frame) p) → Within m (withFrame m F)
+unfolding withFrame
+same-heap m F s =
+    record { callers = refl; grows = le-refl _; gains = λ p i. inl (s p i); outside = λ p n l. refl }
+
+stored-within : (m : Config) (p : Location) (v : ℕ) → Holds (m .frame) p → Within m (stored m (p .object) (p .field) v)
+unfolding stored holds advance jump
+stored-within m p v i =
+    record {
+      callers = refl;
+      grows = store-length (m .heap) (p .object) (p .field) v;
+      gains = λ q j. inl j;
+      outside =
+          λ q n l.
+          store-other (m .heap) (p .object) (p .field) v (q .object) (q .field)
+          (λ e. n (subst (λ (r : Location). Holds (m .frame) r) (λ k. record { object = e .0 k; field = sym (e .1) k }) i));
+    }
+
+set-within : (x f y : ℕ) (m m′ : Config) → setStep x f y m ≡ ok m′ → Within m m′
+unfolding setStep
+set-within x f y m m′ e =
+    let (p, l, q) = bind-ok (locate (m .frame) x f) e in
+    subst (Within m) (ap (λ (g : ℕ). stored m (p .object) g (valueOf (m .frame) y)) (ap (λ (r : Location). r .field) (locate-is (m .frame) x f p l)) ∙ ok-inj q)
+    (stored-within m p (valueOf (m .frame) y) (locate-holds (m .frame) x f p l))
+
+assign-within : (x : ℕ) (e : Expr ℕ) (m m′ : Config) → assignStep x e m ≡ ok m′ → Within m m′
+unfolding assignStep holds advance jump bind
+assign-within x e m m′ q =
+    let (v, _, r) = bind-ok (value (m .heap) (m .frame) e) q in
+    subst (Within m) (ok-inj r) (same-heap m (advance (bind x v (m .frame))) (λ p i. i))
+
+grown-within : (x : ℕ) (cs : List Cell) (m : Config) → Within m (grown m x cs)
+unfolding grown holds advance jump bind holding
+grown-within x cs m =
+    record {
+      callers = refl;
+      grows = rw length-append (omega arith);
+      gains =
+          λ p i.
+          ⊎-elim (λ k. inl k)
+          (λ k. let e : p .object ≡ suc (length (m .heap)) = in-new p (suc (length (m .heap))) cs k in
+          inr (omega (arith, e), omega (arith, e, length-append (m .heap) (cs ∷ []))))
+          (in-append p (m .frame .held) _ i);
+      outside = λ p n l. grown-other (m .heap) cs (p .object) (p .field) l;
+    }
+
+new-within : (room : Room) (x : ℕ) (fs : List Field) (m m′ : Config) → newStep room x fs m ≡ ok m′ → Within m m′
+unfolding newStep
+new-within room x fs m m′ e = subst (Within m) (ok-inj (check-ok _ _ e .1)) (grown-within x (map newCell fs) m)
+
+entered-entering :
+    (m : Config) (M : Method) (y z : ℕ) (A : List Location) → footprint (m .heap) (callFrame m M y z) (M .requires) ≡ ok A →
+    Entering m (entered m (callFrame m M y z) A)
+unfolding entered holding holds callFrame
+entered-entering m M y z A e =
+    record {
+      caller = holding (without A (m .frame .held)) (m .frame);
+      callers = refl;
+      heap = refl;
+      handed = footprint-held (m .heap) (callFrame m M y z) (M .requires) A e;
+      left = λ p i. without-in p A (m .frame .held) i;
+      apart = λ p i j. without-out p A (m .frame .held) j i;
+    }
+
+-- a call that is done enters with the footprint of requires
+pub call-enters :
+    (y : ℕ) (M : Method) (z : ℕ) (m m′ : Config) → callStep y M z m ≡ ok m′ →
+    (A : List Location) × (footprint (m .heap) (callFrame m M y z) (M .requires) ≡ ok A) × (m′ ≡ entered m (callFrame m M y z) A)
+unfolding callStep
+call-enters y M z m m′ e =
+    let (A, f, q) = bind-ok (footprint (m .heap) (callFrame m M y z) (M .requires)) (check-ok _ _ e .1) in
+    (A, f, sym (ok-inj (check-ok _ _ q .1)))
+
+call-entering : (y : ℕ) (M : Method) (z : ℕ) (m m′ : Config) → callStep y M z m ≡ ok m′ → Entering m m′
+call-entering y M z m m′ e =
+    let (A, f, q) = call-enters y M z m m′ e in subst (Entering m) (sym q) (entered-entering m M y z A f)
+
+assert-within : (φ : Formula ℕ) (m m′ : Config) → assertStep φ m ≡ ok m′ → Within m m′
+unfolding assertStep holds advance jump
+assert-within φ m m′ e =
+    let (A, _, q) = bind-ok (footprint (m .heap) (m .frame) φ) e in
+    subst (Within m) (ok-inj q) (same-heap m (advance (m .frame)) (λ p i. i))
+
+release-within : (φ : Formula ℕ) (m m′ : Config) → releaseStep φ m ≡ ok m′ → Within m m′
+unfolding releaseStep holds advance jump holding
+release-within φ m m′ e =
+    let (A, _, q) = bind-ok (footprint (m .heap) (m .frame) φ) e in
+    subst (Within m) (ok-inj q)
+    (same-heap m (advance (holding (without A (m .frame .held)) (m .frame))) (λ p i. without-in p A (m .frame .held) i))
+
+if-within : (n : Rel) (a b : Expr ℕ) (m m′ : Config) → ifStep n a b m ≡ ok m′ → Within m m′
+unfolding ifStep holds advance jump
+if-within n a b m m′ e =
+    let (v, _, q) = bind-ok (value (m .heap) (m .frame) a) e in
+    let (w, _, r) = bind-ok (value (m .heap) (m .frame) b) q in
+    subst (Within m) (ok-inj r) (go (compared n v w) (afterElse (m .frame .rows)))
+  where
+    go : (c : Bool) (rs : List Row) → Within m (withFrame m (cond c (advance (m .frame)) (jump rs (m .frame))))
+    go true rs = same-heap m _ (λ p i. i)
+    go false rs = same-heap m _ (λ p i. i)
+
+returned-returning :
+    (m : Config) (C : Frame) (Cs : List Frame) (A : List Location) → m .callers ≡ C ∷ Cs →
+    footprint (m .heap) (m .frame) (m .frame .ensures) ≡ ok A → Returning m (returned m C Cs A)
+unfolding returned holds advance jump bind holding
+returned-returning m C Cs A c e =
+    record {
+      caller = C;
+      callers = c;
+      heap = refl;
+      gains =
+          λ p i.
+          ⊎-elim (λ k. inl k) (λ k. inr (footprint-held (m .heap) (m .frame) (m .frame .ensures) A e p k))
+          (in-append p (C .held) A i);
+    }
+
+end-returning : (m m′ : Config) (Cs : List Frame) → m .callers ≡ Cs → endStep m Cs ≡ on m′ → Returning m m′
+unfolding endStep
+end-returning m m′ [] c e = absurd (let z : _≡_ {A = ℕ} 0 1 = cc in omega arith)
+end-returning m m′ (C ∷ Cs) c e =
+    let (A, f, q) = bind-ok (footprint (m .heap) (m .frame) (m .frame .ensures)) (took-on _ m′ e) in
+    subst (Returning m) (ok-inj q) (returned-returning m C Cs A c f)
+
+-- A STEP
+module _ (room : Room) (P : Program) where
+  simple-changes : (p : Simple) (m m′ : Config) → simpleStep room P p m ≡ ok m′ → Change m m′
+  unfolding simpleStep
+  simple-changes (set x f y) m m′ e = within (set-within x f y m m′ e)
+  simple-changes (assign x a) m m′ e = within (assign-within x a m m′ e)
+  simple-changes (new x c) m m′ e = within (new-within room x (getD (P .classes) c []) m m′ e)
+  simple-changes (call x y n z) m m′ e = entering (call-entering y (getD (P .methods) n noMethod) z m m′ e)
+  simple-changes (return x) m m′ e = within (assign-within result-variable (var x) m m′ e)
+  simple-changes (assert φ) m m′ e = within (assert-within φ m m′ e)
+  simple-changes (release φ) m m′ e = within (release-within φ m m′ e)
+
+  stepAt-changes : (s : Stmt) (m m′ : Config) → stepAt room P s m ≡ on m′ → Change m m′
+  unfolding stepAt jump holds
+  stepAt-changes (simple p) m m′ e = simple-changes p m m′ (took-on _ m′ e)
+  stepAt-changes (if n a b) m m′ e = within (if-within n a b m m′ (took-on _ m′ e))
+  stepAt-changes else m m′ e = within (subst (Within m) (on-inj e) (same-heap m _ (λ p i. i)))
+  stepAt-changes (join φ) m m′ e = within (assert-within φ m m′ (took-on _ m′ e))
+  stepAt-changes end m m′ e = returning (end-returning m m′ (m .callers) refl e)
+
+  pub step-changes : (m m′ : Config) → step room P m ≡ on m′ → Change m m′
+  unfolding step
+  step-changes m m′ e = stepAt-changes (rowOf (m .frame) .stmt) m m′ e
+
+  -- a `call` step that is done
+  call-done :
+      (x y n z : ℕ) (m m′ : Config) → stepAt room P (simple (call x y n z)) m ≡ on m′ →
+      callStep y (getD (P .methods) n noMethod) z m ≡ ok m′
+  unfolding stepAt simpleStep
+  call-done x y n z m m′ e = took-on _ m′ e
+
+  pub step-enters :
+      (x y n z : ℕ) (m m′ : Config) → rowOf (m .frame) .stmt ≡ simple (call x y n z) → step room P m ≡ on m′ →
+      callStep y (getD (P .methods) n noMethod) z m ≡ ok m′
+  unfolding step
+  step-enters x y n z m m′ r e = call-done x y n z m m′ (subst (λ (s : Stmt). stepAt room P s m ≡ on m′) r e)
