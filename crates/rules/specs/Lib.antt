@@ -12,3 +12,7 @@ pub mod Rules
 pub mod Machine
 pub mod Calls
 pub mod Runs
+pub mod Counters
+pub mod Areas
+pub mod Printed
+pub mod Demand
