@@ -4,7 +4,7 @@ use Prim.Native.Nat.{ℕ}
 use lib.ListN.{replicate}
 use Rattle.rules.specs.Limits.{heap-objects, heap-fields, values-shown}
 use Rattle.rules.specs.Answers.{Verdict, Refusal, accepted, refused, then, refusalNumber, endingNumber}
-use Rattle.rules.specs.Names.{Item}
+use Rattle.rules.specs.Items.{Item}
 use Rattle.rules.specs.Reading.{readText, checkFramed, program}
 use Rattle.rules.specs.Rules.{checkProgram}
 use Rattle.rules.specs.Machine.{Outcome, Room, runProgram}
@@ -14,7 +14,9 @@ use Rattle.rules.specs.Syntax as Syntax
 use Rattle.rules.specs.Text as Text
 use Rattle.rules.specs.Grammar as Grammar
 use Rattle.rules.specs.Places as Places
+use Rattle.rules.specs.Scope as Scope
 use Rattle.rules.specs.Names as Names
+use Rattle.rules.specs.Items as Items
 use Rattle.rules.specs.Reading as Reading
 use Rattle.rules.specs.State as State
 use Rattle.rules.specs.Rules as Rules
@@ -60,5 +62,5 @@ runText t k = runItems (readText t) k
 
 -- Every definition of the language computes where this unfolds.
 unfoldable pub computing : Unit {0}
-unfolding Base.opened Answers.opened Syntax.opened Text.opened Grammar.opened Places.opened Names.opened Reading.opened State.opened Rules.opened Machine.opened checkItems verdictNumbers checkText outcomeResult runItems runText
+unfolding Base.opened Answers.opened Syntax.opened Text.opened Grammar.opened Places.opened Scope.opened Names.opened Items.opened Reading.opened State.opened Rules.opened Machine.opened checkItems verdictNumbers checkText outcomeResult runItems runText
 computing = tt

@@ -4,7 +4,7 @@ use mathlib.Core.List.{List}
 use mathlib.Core.Logic.{_⊎_}
 use Prim.Native.Nat.{ℕ, _+_}
 use Rattle.rules.specs.Answers.{accepted}
-use Rattle.rules.specs.Names.{Item}
+use Rattle.rules.specs.Items.{Item}
 use Rattle.rules.specs.Reading.{readText, program}
 use Rattle.rules.specs.Calls.{Result, checkText, runText, wholeHeap, outcomeResult}
 use Rattle.rules.specs.Machine.{ends}

@@ -8,7 +8,7 @@ use Rattle.rules.specs.Base.{Name, bytes, between}
 use Rattle.rules.specs.Limits.{program-steps}
 use Rattle.rules.specs.Answers.{Verdict, accepted, refused}
 use Rattle.rules.specs.Text.{tab, line-feed, minus, digit-zero}
-use Rattle.rules.specs.Names.{Item, aClass, aField, aMethod, aRequires, anEnsures, aMain, aLocal, aStatement}
+use Rattle.rules.specs.Items.{Item, aClass, aField, aMethod, aRequires, anEnsures, aMain, aLocal, aStatement}
 use Rattle.rules.specs.Reading.{readText}
 use Rattle.rules.specs.Calls.{Result, checkText, runText}
 

@@ -11,8 +11,9 @@ use Rattle.rules.specs.Syntax.{Expr, Formula, Stmt, Row, Field, Method, 
 use Rattle.rules.specs.Syntax.{num, null, var, path, acc, cmp, simple, if, else, join, end}
 use Rattle.rules.specs.Text.{lines}
 use Rattle.rules.specs.Places.{firstPlace, scanLines}
-use Rattle.rules.specs.Names.{Item, firstScope, declarations, resolveLines}
-use Rattle.rules.specs.Names.{aClass, aField, aMethod, aRequires, anEnsures, aMain, aLocal, aStatement}
+use Rattle.rules.specs.Scope.{declarations, firstScope}
+use Rattle.rules.specs.Items.{Item, resolveLines}
+use Rattle.rules.specs.Items.{aClass, aField, aMethod, aRequires, anEnsures, aMain, aLocal, aStatement}
 
 -- "2; then line by line 3, 4, 5; then 8; then line by line 6, 7, 9": an item for each line
 unfoldable pub readText : List ℕ → Verdict (List Item)
