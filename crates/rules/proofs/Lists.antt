@@ -1,7 +1,7 @@
 -- Laws of tests and lists that the other proofs share.
 use mathlib.Core.Path.{_≡_, refl, sym, ap, _∙_, subst}
 use mathlib.Core.Bool.{Bool, true, false, cond, _&&_, _||_}
-use mathlib.Core.List.{List, [], _∷_, _++_}
+use mathlib.Core.List.{List, [], _∷_, _++_, map}
 use mathlib.Core.Logic.{_⊎_, inl, inr, ⊎-elim}
 use mathlib.Core.Option.{Option, none, some}
 use Prim.Native.Nat.{ℕ, zero, suc, _≤_, suc-le-suc, zero-le}
@@ -9,7 +9,7 @@ use native.Mathlib.Omega.{arith}
 use native.Mathlib.Nat.{le-refl}
 use lib.Dec.{T, eqb, eqb→eq, eqb-refl}
 use lib.ListN.{length, getD}
-use Rattle.rules.specs.Base.{any, first, update, mapOption, bindOption}
+use Rattle.rules.specs.Base.{any, keep, first, update, mapOption, bindOption}
 
 -- TESTS
 pub T-true : (b : Bool) → T b → b ≡ true
@@ -77,18 +77,50 @@ module _ {A : Type 0} where
   pub is-head : {a b : A} {l : List A} → a ≡ b → Member a (b ∷ l)
   is-head {a} {b} {l} e = subst (λ c. Member a (c ∷ l)) e at-head
 
-  pub in-end : (l : List A) (a b : A) → Member b (l ++ (a ∷ [])) → Member b l ⊎ (b ≡ a)
-  in-end [] a b i = ⊎-elim (λ j. elim j [ ]) (λ e. inr e) (head-or i)
-  in-end (c ∷ l) a b i =
-      ⊎-elim (λ j. ⊎-elim (λ k. inl (further k)) (λ e. inr e) (in-end l a b j)) (λ e. inl (is-head e)) (head-or i)
+  -- in both lists together
+  pub append-member : (l m : List A) (a : A) → Member a (l ++ m) → Member a l ⊎ Member a m
+  append-member [] m a i = inr i
+  append-member (b ∷ l) m a i =
+      ⊎-elim (λ j. ⊎-elim (λ k. inl (further k)) (λ k. inr k) (append-member l m a j)) (λ e. inl (is-head e)) (head-or i)
 
-  pub end-in : (l : List A) (a : A) → Member a (l ++ (a ∷ []))
-  end-in [] a = at-head
-  end-in (b ∷ l) a = further (end-in l a)
+  pub member-left : (l m : List A) (a : A) → Member a l → Member a (l ++ m)
+  member-left [] m a i = elim i [ ]
+  member-left (b ∷ l) m a i = ⊎-elim (λ j. further (member-left l m a j)) (λ e. is-head e) (head-or i)
 
-  pub in-before : (l : List A) (a b : A) → Member b l → Member b (l ++ (a ∷ []))
-  in-before [] a b i = elim i [ ]
-  in-before (c ∷ l) a b i = ⊎-elim (λ j. further (in-before l a b j)) (λ e. is-head e) (head-or i)
+  pub member-right : (l m : List A) (a : A) → Member a m → Member a (l ++ m)
+  member-right [] m a i = i
+  member-right (b ∷ l) m a i = further (member-right l m a i)
+
+  -- with one more at the end
+  pub end-member : (l : List A) (a b : A) → Member b (l ++ (a ∷ [])) → Member b l ⊎ (b ≡ a)
+  end-member l a b i =
+      ⊎-elim (λ j. inl j) (λ j. ⊎-elim (λ k. elim k [ ]) (λ e. inr e) (head-or j)) (append-member l (a ∷ []) b i)
+
+  -- those that pass
+  pub keep-member : (t : A → Bool) (l : List A) (a : A) → Member a (keep t l) → Member a l × T (t a)
+  unfolding keep
+  keep-member t [] a i = elim i [ ]
+  keep-member t (b ∷ l) a i = go (t b) refl (λ j. keep-member t l a j) i
+    where
+      go :
+          (c : Bool) → c ≡ t b → (Member a (keep t l) → Member a l × T (t a)) → Member a (cond c (b ∷ keep t l) (keep t l)) →
+          Member a (b ∷ l) × T (t a)
+      go true r ih i =
+          ⊎-elim (λ j. (further (ih j .0), ih j .1)) (λ e. (is-head e, subst (λ w. T (t w)) (sym e) (subst T r tt))) (head-or i)
+      go false r ih i = (further (ih i .0), ih i .1)
+
+  pub member-keep : (t : A → Bool) (l : List A) (a : A) → T (t a) → Member a l → Member a (keep t l)
+  unfolding keep
+  member-keep t [] a y i = elim i [ ]
+  member-keep t (b ∷ l) a y i = go (t b) refl (member-keep t l a y) (head-or i)
+    where
+      go :
+          (c : Bool) → c ≡ t b → (Member a l → Member a (keep t l)) → Member a l ⊎ (a ≡ b) →
+          Member a (cond c (b ∷ keep t l) (keep t l))
+      go true r ih (inr e) = is-head e
+      go true r ih (inl i) = further (ih i)
+      go false r ih (inr e) = absurd (subst T (sym r) (subst (λ w. T (t w)) e y))
+      go false r ih (inl i) = ih i
 
   pub any-in : (t : A → Bool) (l : List A) (a : A) → Member a l → T (t a) → T (any t l)
   unfolding any
@@ -112,6 +144,16 @@ module _ {A : Type 0} where
           Member a (b ∷ l) × T (t a)
       go true r ih k = (is-head (sym (some-inj k)), subst T (r ∙ ap t (some-inj k)) tt)
       go false r ih k = let (i, p) = ih k in (further i, p)
+
+-- of a list whose elements are changed
+pub map-member : {A B : Type 0} (f : A → B) (l : List A) (b : B) → Member b (map f l) → (a : A) × Member a l × (b ≡ f a)
+map-member f [] b i = elim i [ ]
+map-member f (a ∷ l) b i =
+    ⊎-elim (λ j. let (x, y, z) = map-member f l b j in (x, further y, z)) (λ e. (a, at-head, e)) (head-or i)
+
+pub member-map : {A B : Type 0} (f : A → B) (l : List A) (a : A) → Member a l → Member (f a) (map f l)
+member-map f [] a i = elim i [ ]
+member-map f (b ∷ l) a i = ⊎-elim (λ j. further (member-map f l a j)) (λ e. is-head (ap f e)) (head-or i)
 
 -- where a member of mapOption comes from, and where a member goes
 module _ {A B : Type 0} (f : A → Option B) where
