@@ -51,6 +51,12 @@ pub data Change (m m′ : Config) : Type 0 where
   entering : Entering m m′ → Change m m′
   returning : Returning m m′ → Change m m′
 
+-- a step that leaves the callers as they are stays in its frame
+pub change-within : (m m′ : Config) → Change m m′ → m′ .callers ≡ m .callers → Within m m′
+change-within m m′ (within W) e = W
+change-within m m′ (entering N) e = absurd (omega (arith, ap (λ (Fs : List Frame). length Fs) (sym e ∙ N .callers)))
+change-within m m′ (returning R) e = absurd (omega (arith, ap (λ (Fs : List Frame). length Fs) (e ∙ R .callers)))
+
 -- STATEMENTS
 -- only the frame changes, and its set does not grow
 same-heap : (m : Config) (F : Frame) → ((p : Location) → Holds F p → Holds (m .frame) p) → Within m (withFrame m F)

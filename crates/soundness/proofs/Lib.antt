@@ -4,3 +4,10 @@ pub mod RemainderSound
 pub mod RemoveSound
 pub mod AddSound
 pub mod Actuals
+pub mod Branches
+pub mod Stack
+pub mod AssignSound
+pub mod SetSound
+pub mod NewSound
+pub mod AssertSound
+pub mod BranchSound

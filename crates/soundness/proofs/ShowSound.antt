@@ -8,7 +8,7 @@ use mathlib.Core.Option.{Option, none, some}
 use Prim.Native.Nat.{ℕ}
 use lib.Dec.{T, eqb, eqb→eq, eqb-refl, not-T, T-not}
 use Rattle.rules.specs.Base.{ok, any, first, orElse, bindOption}
-use Rattle.rules.specs.Answers.{unresolved, noPermission, notShown}
+use Rattle.rules.specs.Answers.{unresolved, noPermission, notShown, formulaFalse}
 use Rattle.rules.specs.Syntax.{Rel, Formula, acc, cmp, eq, ne, num, null, var, path}
 use Rattle.rules.specs.State.{Term, Permission, Fact, State, Shown, Split, Equality, equalIn, names, resolve, pathOf, split, holdsIn, listedUnequal, differentNumbers, nullAndObject, twoEntries, links, isNe, showFrom, show}
 use Rattle.rules.specs.Machine.{Frame, Heap, Location, locate, among, value, valueAt, valueOf, takeFrom, footprint, compared}
@@ -238,7 +238,7 @@ module _ (h : Heap) (F : Frame) (s : State) (S : Satisfied h F s) where
       let (R, L′) = showFrom-sound φ r r′ L e₃ in (
         bind-of-ok (value h F a) (termValue h F t) _ (resolve-reads h F s S a t i)
             ∙ (bind-of-ok (value h F b) (termValue h F u) _ (resolve-reads h F s S b u j)
-            ∙ (pass _ _ _ (related-compared n (termValue h F t) (termValue h F u) (holds-related h F s S n t u k)) ∙ R)),
+            ∙ (pass (compared n (termValue h F t) (termValue h F u)) formulaFalse _ (related-compared n (termValue h F t) (termValue h F u) (holds-related h F s S n t u k)) ∙ R)),
         L′,
       )
 
