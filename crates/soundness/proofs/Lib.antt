@@ -11,3 +11,4 @@ pub mod SetSound
 pub mod NewSound
 pub mod AssertSound
 pub mod BranchSound
+pub mod CallSound

@@ -157,7 +157,7 @@ callers-agree : (m m′ : Config) → HeldOnce m → HeldExists m → Within m m
 callers-agree m m′ H E W p l =
     W .outside p (λ i. omega (arith, H p, l, share-held (m .frame) p i)) (E p (omega (arith, l)))
 
-below-same : (P : Program) (h : Heap) (F G : Frame) (Cs : List Frame) → SameCall F G → BelowFrame P h F Cs → BelowFrame P h G Cs
+pub below-same : (P : Program) (h : Heap) (F G : Frame) (Cs : List Frame) → SameCall F G → BelowFrame P h F Cs → BelowFrame P h G Cs
 below-same P h F G Cs S B =
     subst (λ φ. Below P h (valueOf G this-variable) (valueOf G parameter) φ Cs) (sym (S .ensures))
     (subst (λ w. Below P h (valueOf G this-variable) w (F .ensures) Cs) (sym (S .w))
