@@ -145,7 +145,7 @@ change-keeps m m′ (entering N) H E = handed-keeps m m′ (N .heap) (entering-s
 change-keeps m m′ (returning R) H E = handed-keeps m m′ (R .heap) (returning-shares m m′ R) H E
 
 -- A RUN
-start-none : (P : Program) (p : Location) → sharesIn (start P) p ≡ 0
+pub start-none : (P : Program) (p : Location) → sharesIn (start P) p ≡ 0
 unfolding start shares holds
 start-none P p = omega (arith, share-none (start P .frame) p (λ i. in-nil p i))
 

@@ -12,3 +12,6 @@ pub mod NewSound
 pub mod AssertSound
 pub mod BranchSound
 pub mod CallSound
+pub mod StepKeeps
+pub mod NeverStuck
+pub mod FrameKept
