@@ -2,22 +2,24 @@
 use mathlib.Core.Path.{_≡_, refl, sym, ap, _∙_, subst}
 use mathlib.Core.Bool.{not}
 use mathlib.Core.List.{List, [], _∷_, _++_}
-use mathlib.Core.Logic.{_⊎_, inl, inr, ⊎-elim}
+use mathlib.Core.Logic.{⊎-elim}
 use Prim.Native.Nat.{ℕ}
 use lib.Dec.{T, eqb, eqb→eq, eqb-refl, T-not}
 use Rattle.rules.specs.Base.{ok}
 use Rattle.rules.specs.Answers.{permissionMissing, formulaFalse}
 use Rattle.rules.specs.Syntax.{Rel, Formula, eq, ne, num, null, var, path, acc, cmp}
-use Rattle.rules.specs.State.{Term, Permission, Fact, State, empty, equalIn, resolve, addPermission, addFact, add}
-use Rattle.rules.specs.Machine.{Frame, Heap, Location, among, valueAt, valueOf, locate, value, takeFrom, footprint, compared}
-use Rattle.rules.proofs.Lists.{Member, at-head, further, member-left, member-right, end-member}
+use Rattle.rules.specs.State.{Term, Permission, State, empty, equalIn, resolve, addPermission, addFact, add}
+use Rattle.rules.specs.Machine.{Frame, Heap, Location, among, valueAt, locate, value, takeFrom, footprint, compared}
+use Rattle.rules.proofs.Lists.{Member, at-head, further, member-left, end-member}
 use Rattle.rules.proofs.Tries.{bind-ok, check-ok, ok-inj}
 use Rattle.rules.proofs.Sets.{In, in-here, in-there, Holds, location-eq, locate-is, locate-object, taken-stays}
 use Rattle.soundness.proofs.Satisfied.{termValue, Related, locationOf, Owned, Apart, Reads, True, Satisfied, satisfied-empty, true-more, related-by, SameValues}
 use Rattle.soundness.proofs.ShowSound.{resolve-listed, resolve-reads}
 
 -- ONE FACT
-pub fact-added : (h : Heap) (F : Frame) (n : Rel) (t u : Term) (s s′ : State) → addFact n t u s ≡ ok s′ → Reads (s .permissions) t → Reads (s .permissions) u → Related n (termValue h F t) (termValue h F u) → Satisfied h F s → Satisfied h F s′
+pub fact-added :
+    (h : Heap) (F : Frame) (n : Rel) (t u : Term) (s s′ : State) → addFact n t u s ≡ ok s′ → Reads (s .permissions) t →
+    Reads (s .permissions) u → Related n (termValue h F t) (termValue h F u) → Satisfied h F s → Satisfied h F s′
 unfolding addFact
 fact-added h F n t u s s′ e a b r S =
     subst (Satisfied h F) (ok-inj (check-ok _ _ e .1))
@@ -35,14 +37,18 @@ unfolding addFact
 fact-permissions n t u s s′ e = ap (λ (w : State). w .permissions) (sym (ok-inj (check-ok _ _ e .1)))
 
 -- ONE ENTRY
-apart-end : (F : Frame) (ps : List Permission) (p : Permission) → Apart F ps → ((q : Permission) → Member q ps → locationOf F q ≡ locationOf F p → ⊥) → Apart F (ps ++ (p ∷ []))
+apart-end :
+    (F : Frame) (ps : List Permission) (p : Permission) → Apart F ps →
+    ((q : Permission) → Member q ps → locationOf F q ≡ locationOf F p → ⊥) → Apart F (ps ++ (p ∷ []))
 apart-end F [] p A n = (λ q i. elim i [ ], tt)
 apart-end F (r ∷ ps) p A n = (
   λ q i e. ⊎-elim (λ j. A .0 q j e) (λ w. n r at-head (sym e ∙ ap (locationOf F) w)) (end-member ps p q i),
   apart-end F ps p (A .1) (λ q i. n q (further i)),
 )
 
-pub permission-added : (h : Heap) (F : Frame) (p : Permission) (s s′ : State) → addPermission p s ≡ ok s′ → Owned F p → ((q : Permission) → Member q (s .permissions) → locationOf F q ≡ locationOf F p → ⊥) → Satisfied h F s → Satisfied h F s′
+pub permission-added :
+    (h : Heap) (F : Frame) (p : Permission) (s s′ : State) → addPermission p s ≡ ok s′ → Owned F p →
+    ((q : Permission) → Member q (s .permissions) → locationOf F q ≡ locationOf F p → ⊥) → Satisfied h F s → Satisfied h F s′
 unfolding addPermission
 permission-added h F p s s′ e O n S =
     subst (Satisfied h F) (ok-inj (check-ok _ _ e .1))
@@ -52,7 +58,8 @@ permission-added h F p s s′ e O n S =
       facts = λ f i. true-more (member-left (s .permissions) (p ∷ [])) (S .facts f i);
     })
 
-pub permission-permissions : (p : Permission) (s s′ : State) → addPermission p s ≡ ok s′ → s′ .permissions ≡ s .permissions ++ (p ∷ [])
+pub permission-permissions :
+    (p : Permission) (s s′ : State) → addPermission p s ≡ ok s′ → s′ .permissions ≡ s .permissions ++ (p ∷ [])
 unfolding addPermission
 permission-permissions p s s′ e = ap (λ (w : State). w .permissions) (sym (ok-inj (check-ok _ _ e .1)))
 
@@ -85,12 +92,17 @@ module _ (h : Heap) (F G : Frame) (W : SameValues F G) (B : List Location) (owns
   abbrev Taken : State → List Location → Type 0
   Taken s A = (q : Permission) → Member q (s .permissions) → In (locationOf F q) B → In (locationOf F q) A
 
-  resolved-value : (s : State) → Satisfied h F s → (e t : Term) (v : ℕ) → resolve (equalIn s) (s .permissions) e ≡ ok t → value h G e ≡ ok v → termValue h F t ≡ v
+  resolved-value :
+      (s : State) → Satisfied h F s → (e t : Term) (v : ℕ) → resolve (equalIn s) (s .permissions) e ≡ ok t →
+      value h G e ≡ ok v → termValue h F t ≡ v
   resolved-value s S e t v r g =
       value-read h F e (termValue h F t) (resolve-reads h F s S e t r)
       ∙ (sym (same-term h F G W e) ∙ sym (value-read h G e v g))
 
-  acc-added : (x f : ℕ) (A : List Location) (s s₁ : State) (p : Location) → locate G x f ≡ ok p → T (not (among p A)) → In p B → Taken s A → Satisfied h F s → addPermission (record { variable = x; field = f }) s ≡ ok s₁ → Satisfied h F s₁ × Taken s₁ (p ∷ A)
+  acc-added :
+      (x f : ℕ) (A : List Location) (s s₁ : State) (p : Location) → locate G x f ≡ ok p → T (not (among p A)) → In p B →
+      Taken s A → Satisfied h F s → addPermission (record { variable = x; field = f }) s ≡ ok s₁ →
+      Satisfied h F s₁ × Taken s₁ (p ∷ A)
   acc-added x f A s s₁ p l n i t S a =
       let P : Permission = record { variable = x; field = f } in
       let is : p ≡ locationOf F P = locate-is G x f p l ∙ location-eq (W x) refl in (
@@ -103,7 +115,9 @@ module _ (h : Heap) (F G : Frame) (W : SameValues F G) (B : List Location) (owns
             (end-member (s .permissions) P q (subst (Member q) (permission-permissions P s s₁ a) j)),
       )
 
-  addFrom-sound : (φ : Formula ℕ) (A : List Location) (s s′ : State) → takeFrom h G φ A ≡ ok B → Taken s A → Satisfied h F s → add φ s ≡ ok s′ → Satisfied h F s′
+  addFrom-sound :
+      (φ : Formula ℕ) (A : List Location) (s s′ : State) → takeFrom h G φ A ≡ ok B → Taken s A → Satisfied h F s →
+      add φ s ≡ ok s′ → Satisfied h F s′
   unfolding takeFrom add
   addFrom-sound [] A s s′ e t S a = subst (Satisfied h F) (ok-inj a) S
   addFrom-sound (acc x f ∷ φ) A s s′ e t S a =
@@ -125,7 +139,10 @@ module _ (h : Heap) (F G : Frame) (W : SameValues F G) (B : List Location) (owns
       c₃
 
   -- the lemma on adding: nothing of the footprint is in use
-  pub add-sound : (φ : Formula ℕ) (s s′ : State) → footprint h G φ ≡ ok B → ((q : Permission) → Member q (s .permissions) → In (locationOf F q) B → ⊥) → Satisfied h F s → add φ s ≡ ok s′ → Satisfied h F s′
+  pub add-sound :
+      (φ : Formula ℕ) (s s′ : State) → footprint h G φ ≡ ok B →
+      ((q : Permission) → Member q (s .permissions) → In (locationOf F q) B → ⊥) → Satisfied h F s → add φ s ≡ ok s′ →
+      Satisfied h F s′
   unfolding footprint
   add-sound φ s s′ e out S a = addFrom-sound φ [] s s′ e (λ q i b. absurd (out q i b)) S a
 

@@ -12,7 +12,7 @@ use Rattle.soundness.proofs.Satisfied.{locationOf, Satisfied, satisfied
 use Rattle.soundness.proofs.ShowSound.{show-sound}
 use Rattle.soundness.proofs.RemainderSound.{remainder-sound}
 use Rattle.soundness.proofs.AddSound.{add-empty}
-use Rattle.soundness.proofs.Stack.{Onward, Goes}
+use Rattle.soundness.proofs.Stack.{Goes}
 
 module _ (m : Config) (s : State) (S : Satisfied (m .heap) (m .frame) s) (φ : Formula ℕ) (r : Shown) (e : show s φ ≡ ok r) where
   -- a formula that is shown is no stop; the frame goes on as it is, to any state that it satisfies

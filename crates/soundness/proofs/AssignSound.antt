@@ -18,7 +18,7 @@ use Rattle.soundness.proofs.Satisfied.{termValue, Reads, Satisfied, sat
 use Rattle.soundness.proofs.ShowSound.{resolve-listed, resolve-reads}
 use Rattle.soundness.proofs.RemoveSound.{bound-same, bound-other, bound-holds, remove-sound, removed-value, removed-reads}
 use Rattle.soundness.proofs.AddSound.{fact-added}
-use Rattle.soundness.proofs.Stack.{SameCall, Onward, Goes}
+use Rattle.soundness.proofs.Stack.{SameCall, Goes}
 
 module _ (h : Heap) (F : Frame) (s : State) (S : Satisfied h F s) (x : ℕ) where
   -- x gets the value that it has
@@ -29,11 +29,15 @@ module _ (h : Heap) (F : Frame) (s : State) (S : Satisfied h F s) (x : ℕ) wher
       go (inl d) = ap (valueOf (bind x v F)) (sym d) ∙ (bound-same F x v ∙ (e ∙ ap (valueOf F) d))
       go (inr n) = bound-other F x v y n
 
-  equal-added : (r : Term) (s′ : State) → Reads (s .permissions) r → addEqual x (renameTerm x (successor s x) r) (remove x s) ≡ ok s′ → Satisfied h (bind x (termValue h F r) F) s′
+  equal-added :
+      (r : Term) (s′ : State) → Reads (s .permissions) r → addEqual x (renameTerm x (successor s x) r) (remove x s) ≡ ok s′ →
+      Satisfied h (bind x (termValue h F r) F) s′
   unfolding addEqual termValue
   equal-added r s′ l e = go (renameTerm x (successor s x) r) refl e
     where
-      go : (o : Option Term) → renameTerm x (successor s x) r ≡ o → addEqual x o (remove x s) ≡ ok s′ → Satisfied h (bind x (termValue h F r) F) s′
+      go :
+          (o : Option Term) → renameTerm x (successor s x) r ≡ o → addEqual x o (remove x s) ≡ ok s′ →
+          Satisfied h (bind x (termValue h F r) F) s′
       go none m a = subst (Satisfied h _) (ok-inj a) (remove-sound h F s S x (termValue h F r))
       go (some t) m a =
           fact-added h (bind x (termValue h F r) F) eq (var x) t (remove x s) s′ a tt
@@ -57,7 +61,10 @@ module _ (h : Heap) (F : Frame) (s : State) (S : Satisfied h F s) (x : ℕ) wher
         satisfied = go r (resolve-listed _ _ e r q) (same r (var x)) refl b;
       }
     where
-      go : (r : Term) → Reads (s .permissions) r → (b : Bool) → b ≡ same r (var x) → cond b (ok s) (addEqual x (renameTerm x (successor s x) r) (removeTo x (successor s x) s)) ≡ ok s′ → Satisfied h (bind x (termValue h F r) F) s′
+      go :
+          (r : Term) → Reads (s .permissions) r → (b : Bool) → b ≡ same r (var x) →
+          cond b (ok s) (addEqual x (renameTerm x (successor s x) r) (removeTo x (successor s x) s)) ≡ ok s′ →
+          Satisfied h (bind x (termValue h F r) F) s′
       go r l true d b =
           subst (Satisfied h _) (ok-inj b)
           (satisfied-frame h F _ s (bound-again (termValue h F r) (ap (termValue h F) (same→≡ r (var x) (subst T d tt)))) (bound-holds F x (termValue h F r)) S)
@@ -74,7 +81,9 @@ bound-call F x v l =
     }
 
 -- the lemma on `let`
-pub assign-sound : (m : Config) (s s′ : State) (x : ℕ) (e : Term) → Satisfied (m .heap) (m .frame) s → first-local ≤ x → assignRule x e s ≡ ok s′ → Goes m s′ (assignStep x e m)
+pub assign-sound :
+    (m : Config) (s s′ : State) (x : ℕ) (e : Term) → Satisfied (m .heap) (m .frame) s → first-local ≤ x →
+    assignRule x e s ≡ ok s′ → Goes m s′ (assignStep x e m)
 unfolding assignStep withFrame advance jump holds valueOf bind
 assign-sound m s s′ x e S l a =
     let F : Frame = m .frame in

@@ -1,21 +1,21 @@
 -- `if` and `else`: each goes on where the checker's state is satisfied.
 use mathlib.Core.Path.{_≡_, refl, sym, ap, _∙_, subst}
 use mathlib.Core.Bool.{Bool, true, false, not, cond}
-use mathlib.Core.List.{List, [], _∷_}
+use mathlib.Core.List.{List, _∷_}
 use Prim.Native.Nat.{ℕ}
 use lib.Dec.{T, eqb, eqb→eq, eqb-refl}
 use Rattle.rules.specs.Base.{ok}
 use Rattle.rules.specs.Syntax.{Rel, Row, Program, eq, ne}
 use Rattle.rules.specs.State.{Term, State, equalIn, resolve, show, addFact}
 use Rattle.rules.specs.Rules.{Open, inFirst, inSecond, opposite, ifRule, joinRule}
-use Rattle.rules.specs.Machine.{Config, Frame, Heap, on, valueOf, value, compared, tail, seek, isElse, isJoin, afterElse, toJoin, jump, advance, holds, withFrame, took, ifStep}
+use Rattle.rules.specs.Machine.{Config, Frame, Heap, valueOf, value, compared, tail, seek, isElse, isJoin, afterElse, toJoin, jump, advance, holds, withFrame, took, ifStep}
 use Rattle.rules.proofs.Tries.{bind-ok, ok-inj, bind-of-ok}
 use Rattle.soundness.specs.WellFormed.{RowsFormed}
 use Rattle.soundness.proofs.Satisfied.{termValue, Related, Satisfied, satisfied-frame}
 use Rattle.soundness.proofs.ShowSound.{resolve-listed, resolve-reads}
 use Rattle.soundness.proofs.AddSound.{fact-added, compared-related}
 use Rattle.soundness.proofs.Branches.{Accepts, Else, to-else, Join, to-join, seek-formed}
-use Rattle.soundness.proofs.Stack.{Ready, at-row, at-join, Running, Moved, same-frame, Kept}
+use Rattle.soundness.proofs.Stack.{at-row, at-join, Moved, same-frame, Kept}
 
 opposite-related : (n : Rel) (v w : ℕ) → (T (compared n v w) → ⊥) → Related (opposite n) v w
 unfolding compared opposite
@@ -35,7 +35,9 @@ record Chosen (h : Heap) (F : Frame) (n : Rel) (a b : Term) (c : State × State)
   if-true : T (compared n left right) → Satisfied h F (c .0)
   if-false : (T (compared n left right) → ⊥) → Satisfied h F (c .1)
 
-chosen : (h : Heap) (F : Frame) (s : State) → Satisfied h F s → (n : Rel) (a b : Term) (c : State × State) → ifRule n a b s ≡ ok c → Chosen h F n a b c
+chosen :
+    (h : Heap) (F : Frame) (s : State) → Satisfied h F s → (n : Rel) (a b : Term) (c : State × State) → ifRule n a b s ≡ ok c →
+    Chosen h F n a b c
 unfolding ifRule
 chosen h F s S n a b c e =
     let (t, p, e₁) = bind-ok (resolve (equalIn s) (s .permissions) a) e in
@@ -67,7 +69,9 @@ module _ (P : Program) (m : Config) (r : Row) (rs : List Row) (is-rows : m .fram
   tail-is = ap tail is-rows
 
   -- the frame goes on at other rows, with nothing else changed
-  jump-moved : (l ks : List Row) (s′ : State) (os : List Open) → l ≡ ks → RowsFormed ks → Satisfied (m .heap) (m .frame) s′ → Accepts P (m .frame .ensures) ks s′ os → Moved P m (withFrame m (jump l (m .frame)))
+  jump-moved :
+      (l ks : List Row) (s′ : State) (os : List Open) → l ≡ ks → RowsFormed ks → Satisfied (m .heap) (m .frame) s′ →
+      Accepts P (m .frame .ensures) ks s′ os → Moved P m (withFrame m (jump l (m .frame)))
   unfolding withFrame jump holds valueOf
   jump-moved l ks s′ os e f S′ k =
       same-frame
@@ -80,7 +84,9 @@ module _ (P : Program) (m : Config) (r : Row) (rs : List Row) (is-rows : m .fram
       (record { ensures = refl; this = refl; w = refl }) refl
 
   -- the lemma on `if`
-  pub if-sound : (n : Rel) (a b : Term) (c : State × State) (os : List Open) → ifRule n a b s ≡ ok c → Accepts P (m .frame .ensures) rs (c .0) (inFirst (c .1) ∷ os) → Kept P m (took (ifStep n a b m))
+  pub if-sound :
+      (n : Rel) (a b : Term) (c : State × State) (os : List Open) → ifRule n a b s ≡ ok c →
+      Accepts P (m .frame .ensures) rs (c .0) (inFirst (c .1) ∷ os) → Kept P m (took (ifStep n a b m))
   unfolding ifStep took advance afterElse tail
   if-sound n a b c os e k =
       let F : Frame = m .frame in
@@ -98,13 +104,17 @@ module _ (P : Program) (m : Config) (r : Row) (rs : List Row) (is-rows : m .fram
       else-formed : RowsFormed (E .rest)
       else-formed = subst RowsFormed (E .is-found) (seek-formed isElse 0 rs rows-formed) .1
 
-      go : (b : Bool) → (T b → Satisfied (m .heap) (m .frame) (c .0)) → ((T b → ⊥) → Satisfied (m .heap) (m .frame) (c .1)) → Moved P m (withFrame m (cond b (advance (m .frame)) (jump (afterElse (m .frame .rows)) (m .frame))))
+      go :
+          (b : Bool) → (T b → Satisfied (m .heap) (m .frame) (c .0)) → ((T b → ⊥) → Satisfied (m .heap) (m .frame) (c .1)) →
+          Moved P m (withFrame m (cond b (advance (m .frame)) (jump (afterElse (m .frame .rows)) (m .frame))))
       go true t f = jump-moved (tail (m .frame .rows)) rs (c .0) (inFirst (c .1) ∷ os) tail-is rows-formed (t tt) k
       go false t f =
           jump-moved (afterElse (m .frame .rows)) (E .rest) (c .1) (inSecond (E .first-end) ∷ os) else-is else-formed (f (λ z. z)) (E .goes-on)
 
   -- the lemma on `else`: the first branch's end goes on to the `join`, which showed its formula from there
-  pub else-sound : (s₂ : State) (os : List Open) → Accepts P (m .frame .ensures) rs s₂ (inSecond s ∷ os) → Moved P m (withFrame m (jump (toJoin (m .frame .rows)) (m .frame)))
+  pub else-sound :
+      (s₂ : State) (os : List Open) → Accepts P (m .frame .ensures) rs s₂ (inSecond s ∷ os) →
+      Moved P m (withFrame m (jump (toJoin (m .frame .rows)) (m .frame)))
   unfolding withFrame joinRule jump holds valueOf toJoin
   else-sound s₂ os k =
       let J : Join P (m .frame .ensures) s os (seek isJoin 0 rs) = to-join P (m .frame .ensures) rs s₂ s os k in

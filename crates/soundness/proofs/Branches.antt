@@ -6,7 +6,7 @@ use Prim.Native.Nat.{ℕ}
 use lib.Dec.{eqb, eqb·suc-zero}
 use lib.ListN.{length}
 use Rattle.rules.specs.Base.{ok}
-use Rattle.rules.specs.Answers.{Verdict, accepted}
+use Rattle.rules.specs.Answers.{accepted}
 use Rattle.rules.specs.Syntax.{Stmt, Row, Program, Formula, simple, if, else, join, end}
 use Rattle.rules.specs.State.{State}
 use Rattle.rules.specs.Rules.{Open, inFirst, inSecond, checkRows, checkRow, elseRow, joinRow, endRow, rule, ifRule, joinRule}
@@ -23,7 +23,9 @@ unfolding seek
 seek-formed t d [] k = tt
 seek-formed t d (r ∷ rs) k = go (t (r .stmt) && eqb d 0) (seek-formed t (depthAfter (r .stmt) d) rs (k .1))
   where
-    go : (b : Bool) → RowsFormed (seek t (depthAfter (r .stmt) d) rs) → RowsFormed (cond b (r ∷ rs) (seek t (depthAfter (r .stmt) d) rs))
+    go :
+        (b : Bool) → RowsFormed (seek t (depthAfter (r .stmt) d) rs) →
+        RowsFormed (cond b (r ∷ rs) (seek t (depthAfter (r .stmt) d) rs))
     go true i = k
     go false i = i
 
@@ -41,7 +43,10 @@ module _ (P : Program) (φ : Formula ℕ) where
   ElseLater rs s₂ os =
       (s : State) (os′ : List Open) → Accepts P φ rs s (os′ ++ (inFirst s₂ ∷ os)) → Else s₂ os (seek isElse (length os′) rs)
 
-  else-row : (r : Row) (rs : List Row) (t : Stmt) (s s₂ : State) (os′ os : List Open) → ElseLater rs s₂ os → checkRow P t (r .line) φ (λ s os. checkRows P φ rs s os) s (os′ ++ (inFirst s₂ ∷ os)) ≡ accepted tt → Else s₂ os (cond (isElse t && eqb (length os′) 0) (r ∷ rs) (seek isElse (depthAfter t (length os′)) rs))
+  else-row :
+      (r : Row) (rs : List Row) (t : Stmt) (s s₂ : State) (os′ os : List Open) → ElseLater rs s₂ os →
+      checkRow P t (r .line) φ (λ s os. checkRows P φ rs s os) s (os′ ++ (inFirst s₂ ∷ os)) ≡ accepted tt →
+      Else s₂ os (cond (isElse t && eqb (length os′) 0) (r ∷ rs) (seek isElse (depthAfter t (length os′)) rs))
   unfolding checkRow elseRow joinRow endRow isElse depthAfter
   else-row r rs (simple p) s s₂ os′ os ih e = let (s′, _, q) = atLine-accepted (r .line) (rule P p s) _ _ e in ih s′ os′ q
   else-row r rs (if n a b) s s₂ os′ os ih e =
@@ -61,7 +66,8 @@ module _ (P : Program) (φ : Formula ℕ) where
   find-else [] s₂ os s os′ e = refused-accepted e
   find-else (r ∷ rs) s₂ os s os′ e = else-row r rs (r .stmt) s s₂ os′ os (find-else rs s₂ os) e
 
-  pub to-else : (rs : List Row) (s s₂ : State) (os : List Open) → Accepts P φ rs s (inFirst s₂ ∷ os) → Else s₂ os (seek isElse 0 rs)
+  pub to-else :
+      (rs : List Row) (s s₂ : State) (os : List Open) → Accepts P φ rs s (inFirst s₂ ∷ os) → Else s₂ os (seek isElse 0 rs)
   to-else rs s s₂ os e = find-else rs s₂ os s [] e
 
   -- the `join` of a branch in its second part: it joins the first part's end s₁, and what follows it is accepted
@@ -80,7 +86,10 @@ module _ (P : Program) (φ : Formula ℕ) where
   JoinLater rs s₁ os =
       (s : State) (os′ : List Open) → Accepts P φ rs s (os′ ++ (inSecond s₁ ∷ os)) → Join s₁ os (seek isJoin (length os′) rs)
 
-  join-row : (r : Row) (rs : List Row) (t : Stmt) (s s₁ : State) (os′ os : List Open) → r .stmt ≡ t → JoinLater rs s₁ os → checkRow P t (r .line) φ (λ s os. checkRows P φ rs s os) s (os′ ++ (inSecond s₁ ∷ os)) ≡ accepted tt → Join s₁ os (cond (isJoin t && eqb (length os′) 0) (r ∷ rs) (seek isJoin (depthAfter t (length os′)) rs))
+  join-row :
+      (r : Row) (rs : List Row) (t : Stmt) (s s₁ : State) (os′ os : List Open) → r .stmt ≡ t → JoinLater rs s₁ os →
+      checkRow P t (r .line) φ (λ s os. checkRows P φ rs s os) s (os′ ++ (inSecond s₁ ∷ os)) ≡ accepted tt →
+      Join s₁ os (cond (isJoin t && eqb (length os′) 0) (r ∷ rs) (seek isJoin (depthAfter t (length os′)) rs))
   unfolding checkRow elseRow joinRow endRow isJoin depthAfter
   join-row r rs (simple p) s s₁ os′ os w ih e = let (s′, _, q) = atLine-accepted (r .line) (rule P p s) _ _ e in ih s′ os′ q
   join-row r rs (if n a b) s s₁ os′ os w ih e =
@@ -102,5 +111,6 @@ module _ (P : Program) (φ : Formula ℕ) where
   find-join [] s₁ os s os′ e = refused-accepted e
   find-join (r ∷ rs) s₁ os s os′ e = join-row r rs (r .stmt) s s₁ os′ os refl (find-join rs s₁ os) e
 
-  pub to-join : (rs : List Row) (s s₁ : State) (os : List Open) → Accepts P φ rs s (inSecond s₁ ∷ os) → Join s₁ os (seek isJoin 0 rs)
+  pub to-join :
+      (rs : List Row) (s s₁ : State) (os : List Open) → Accepts P φ rs s (inSecond s₁ ∷ os) → Join s₁ os (seek isJoin 0 rs)
   to-join rs s s₁ os e = find-join rs s₁ os s [] e

@@ -5,28 +5,28 @@ use mathlib.Core.List.{List, [], _∷_, _++_, map}
 use mathlib.Core.Logic.{_⊎_, inl, inr}
 use Prim.Native.Nat.{ℕ, suc}
 use native.Mathlib.Omega.{arith}
-use lib.Dec.{T, eqb, eqb→eq, ltb, not-T}
+use lib.Dec.{eqb, eqb→eq, ltb, not-T}
 use lib.ListN.{length, getD}
 use Rattle.rules.specs.Base.{ok, _>>_, check}
 use Rattle.rules.specs.Limits.{most-frames}
 use Rattle.rules.specs.Answers.{accepted, nullFollowed, framesFull, notShown}
-use Rattle.rules.specs.Syntax.{Formula, Method, Row, Program, noMethod, this-variable, parameter, result-variable, ne, var, null, call, simple}
-use Rattle.rules.specs.State.{State, Shown, Permission, empty, equalIn, holdsIn, show, remainder, add, remove}
+use Rattle.rules.specs.Syntax.{Method, Row, Program, noMethod, this-variable, parameter, result-variable, ne, var, null, call, simple}
+use Rattle.rules.specs.State.{State, Shown, empty, equalIn, holdsIn, show, remainder, add, remove}
 use Rattle.rules.specs.Rules.{Open, actual, substAtom, callRule, checkMethod}
-use Rattle.rules.specs.Machine.{Config, Frame, Heap, Location, valueOf, footprint, without, tail, advance, jump, bind, holding, holds, took, callFrame, entered, entryValues, callStep, endStep, returned, targetOf, rowOf}
+use Rattle.rules.specs.Machine.{Config, Frame, Location, valueOf, footprint, tail, advance, jump, bind, holding, holds, took, callFrame, entered, entryValues, callStep, endStep, returned, targetOf, rowOf}
 use Rattle.rules.proofs.Lists.{at-head}
 use Rattle.rules.proofs.Tries.{bind-ok, check-ok, pass, bind-of-ok, atLine-accepted}
 use Rattle.rules.proofs.Sets.{In, in-left, in-right, Holds, location-eq, footprint-held}
 use Rattle.rules.proofs.Disjoint.{HeldOnce, shares, callers-none, shares-none}
-use Rattle.soundness.specs.WellFormed.{AtCall, AtEnd, Over, SimpleFormed, RowsFormed, WellFormed}
+use Rattle.soundness.specs.WellFormed.{AtCall, AtEnd, SimpleFormed, RowsFormed, WellFormed}
 use Rattle.soundness.proofs.Satisfied.{termValue, locationOf, Satisfied, satisfied-frame}
 use Rattle.soundness.proofs.ShowSound.{holds-related, show-sound}
 use Rattle.soundness.proofs.RemainderSound.{remainder-sound}
-use Rattle.soundness.proofs.RemoveSound.{bound-same, bound-other, holds-bound, bound-holds, remove-sound}
+use Rattle.soundness.proofs.RemoveSound.{bound-same, bound-other, holds-bound, remove-sound}
 use Rattle.soundness.proofs.AddSound.{add-sound, add-empty}
 use Rattle.soundness.proofs.Actuals.{over-map, Renamed, footprint-renamed}
 use Rattle.soundness.proofs.Branches.{Accepts}
-use Rattle.soundness.proofs.Stack.{Ready, at-row, at-nothing, Running, Suspended, BelowFrame, below-same, Moved, other-frame, Kept}
+use Rattle.soundness.proofs.Stack.{Ready, at-row, at-nothing, Suspended, BelowFrame, below-same, Moved, other-frame, Kept}
 
 -- a method is accepted, or not there
 abbrev pub MethodAccepted : Program → Method → Type 0
@@ -52,19 +52,25 @@ module _ (P : Program) (W : WellFormed P) (all : (n : ℕ) → MethodAccepted P 
     G = callFrame m M y z
 
     -- the method starts from its requires, which the entered frame satisfies
-    entry-ready : (A : List Location) → footprint (m .heap) G (M .requires) ≡ ok A → MethodAccepted P M → Ready P (m .heap) (holding A G)
+    entry-ready :
+        (A : List Location) → footprint (m .heap) G (M .requires) ≡ ok A → MethodAccepted P M → Ready P (m .heap) (holding A G)
     unfolding holding callFrame checkMethod holds valueOf
     entry-ready A f (inl a) =
         let (s₀, d, k) = atLine-accepted 0 (add (M .requires) empty) _ _ a in
         at-row s₀ [] (add-empty (m .heap) (holding A G) G (λ v. refl) A (λ p i. i) (M .requires) s₀ f d) k
     entry-ready A f (inr e) = at-nothing (ap (λ (M : Method). M .body) e) (ap (λ (M : Method). M .ensures) e)
 
-    entered-moved : (u : Shown) (s′ : State) (os : List Open) → r .stmt ≡ simple (call x y n z) → SimpleFormed (call x y n z) → show s (map (substAtom (actual y z x)) (M .requires)) ≡ ok u → add (map (substAtom (actual y z x)) (M .ensures)) (remove x (remainder s u)) ≡ ok s′ → Accepts P (m .frame .ensures) rs s′ os → footprint (m .heap) G (M .requires) ≡ ok (map (locationOf (m .frame)) (u .consumed)) → Moved P m (entered m G (map (locationOf (m .frame)) (u .consumed)))
+    entered-moved :
+        (u : Shown) (s′ : State) (os : List Open) → r .stmt ≡ simple (call x y n z) → SimpleFormed (call x y n z) →
+        show s (map (substAtom (actual y z x)) (M .requires)) ≡ ok u →
+        add (map (substAtom (actual y z x)) (M .ensures)) (remove x (remainder s u)) ≡ ok s′ →
+        Accepts P (m .frame .ensures) rs s′ os →
+        footprint (m .heap) G (M .requires) ≡ ok (map (locationOf (m .frame)) (u .consumed)) →
+        Moved P m (entered m G (map (locationOf (m .frame)) (u .consumed)))
     unfolding entered holding callFrame entryValues valueOf
     entered-moved u s′ os c fits a b k f =
         other-frame
-        (record { ready = entry-ready (map (locationOf (m .frame)) (u .consumed)) f (all n); formed = W .bodies n })
-        (
+        (record { ready = entry-ready (map (locationOf (m .frame)) (u .consumed)) f (all n); formed = W .bodies n }) (
           record {
             row = r;
             rows = rs;
@@ -90,7 +96,9 @@ module _ (P : Program) (W : WellFormed P) (all : (n : ℕ) → MethodAccepted P 
         )
 
     -- the lemma on `call`
-    pub call-sound : (s′ : State) (os : List Open) → r .stmt ≡ simple (call x y n z) → SimpleFormed (call x y n z) → callRule x y M z s ≡ ok s′ → Accepts P (m .frame .ensures) rs s′ os → Kept P m (took (callStep y M z m))
+    pub call-sound :
+        (s′ : State) (os : List Open) → r .stmt ≡ simple (call x y n z) → SimpleFormed (call x y n z) →
+        callRule x y M z s ≡ ok s′ → Accepts P (m .frame .ensures) rs s′ os → Kept P m (took (callStep y M z m))
     unfolding callStep took callRule _>>_ check termValue
     call-sound s′ os c fits a k =
         let F : Frame = m .frame in
@@ -106,12 +114,16 @@ module _ (P : Program) (W : WellFormed P) (all : (n : ℕ) → MethodAccepted P 
         ∙ bind-of-ok (footprint (m .heap) G (M .requires)) _ _ f))
         (go (map (locationOf F) (u .consumed)) (ltb (suc (length (m .callers))) most-frames) (entered-moved u s′ os c fits b a₂ k f))
       where
-        go : (A : List Location) (b : Bool) → Moved P m (entered m G A) → Kept P m (took (check b framesFull >> ok (entered m G A)))
+        go :
+            (A : List Location) (b : Bool) → Moved P m (entered m G A) →
+            Kept P m (took (check b framesFull >> ok (entered m G A)))
         go A true i = i
         go A false i = tt
 
 -- END
-target-is : (C : Frame) (r : Row) (rs : List Row) (x y n z : ℕ) → C .rows ≡ r ∷ rs → r .stmt ≡ simple (call x y n z) → targetOf (rowOf C .stmt) ≡ x
+target-is :
+    (C : Frame) (r : Row) (rs : List Row) (x y n z : ℕ) → C .rows ≡ r ∷ rs → r .stmt ≡ simple (call x y n z) →
+    targetOf (rowOf C .stmt) ≡ x
 unfolding targetOf rowOf
 target-is C r rs x y n z e c = rw (e, c)
 
@@ -198,7 +210,9 @@ module _ (P : Program) (m : Config) (C : Frame) (Cs : List Frame) (A : List Loca
       B)
 
 -- the lemma on `end`
-pub end-sound : (P : Program) (m : Config) (A : List Location) → footprint (m .heap) (m .frame) (m .frame .ensures) ≡ ok A → HeldOnce m → (Cs : List Frame) → m .callers ≡ Cs → BelowFrame P (m .heap) (m .frame) Cs → Kept P m (endStep m Cs)
+pub end-sound :
+    (P : Program) (m : Config) (A : List Location) → footprint (m .heap) (m .frame) (m .frame .ensures) ≡ ok A → HeldOnce m →
+    (Cs : List Frame) → m .callers ≡ Cs → BelowFrame P (m .heap) (m .frame) Cs → Kept P m (endStep m Cs)
 unfolding endStep took returned
 end-sound P m A f H [] e B = tt
 end-sound P m A f H (C ∷ Cs) e B =

@@ -9,9 +9,9 @@ use native.Mathlib.Omega.{arith}
 use native.Mathlib.Nat.{le-refl}
 use lib.ListN.{length, getD}
 use Rattle.rules.specs.Base.{ok}
-use Rattle.rules.specs.Syntax.{Method, Program, noMethod}
+use Rattle.rules.specs.Syntax.{Program, noMethod}
 use Rattle.rules.specs.Machine.{Config, Frame, Heap, Location, Room, on, step, start, valueAt, holds, footprint, callFrame, entered, holding}
-use Rattle.rules.specs.Runs.{stateFrom, stateAfter, depth, locations, handedOver, CallAt, During, FrameKept}
+use Rattle.rules.specs.Runs.{stateFrom, stateAfter, depth, locations, handedOver, CallAt, FrameKept}
 use Rattle.rules.proofs.Sets.{In, Holds}
 use Rattle.rules.proofs.States.{zero-state, state-on, state-suc, state-zero, state-plus, state-next}
 use Rattle.rules.proofs.Changes.{Within, Entering, Returning, Change, within, entering, returning, step-changes, step-enters, call-enters}
@@ -103,7 +103,9 @@ module _ (h₀ : Heap) (A : List Location) where
     change-inside m m′ (returning R) O = returning-inside m m′ R O
 
     -- j steps on, with the call open before each
-    run-inside : (room : Room) (P : Program) (j : ℕ) (m m″ : Config) → Inside B Bs m → stateFrom room P j m ≡ some m″ → ((i : ℕ) → i < j → (w : Config) → stateFrom room P i m ≡ some w → length Bs < length (w .callers)) → Kept (m″ .heap)
+    run-inside :
+        (room : Room) (P : Program) (j : ℕ) (m m″ : Config) → Inside B Bs m → stateFrom room P j m ≡ some m″ →
+        ((i : ℕ) → i < j → (w : Config) → stateFrom room P i m ≡ some w → length Bs < length (w .callers)) → Kept (m″ .heap)
     run-inside room P zero m m″ O e open-before = subst (λ (w : Config). Kept (w .heap)) (state-zero room P m m″ e) (O .kept)
     run-inside room P (suc j) m m″ O e open-before =
         let (m′, s, q) = state-suc room P m m″ j e in
@@ -112,7 +114,9 @@ module _ (h₀ : Heap) (A : List Location) where
         (λ E. ended j m′ E q (λ l. open-before 1 (suc-le-suc l) m′ (state-on room P m m′ 0 s ∙ zero-state room P m′)))
         (change-inside m m′ (step-changes room P m m′ s) O)
       where
-        ended : (j : ℕ) (m′ : Config) → Ended Bs m′ → stateFrom room P j m′ ≡ some m″ → (0 < j → length Bs < length (m′ .callers)) → Kept (m″ .heap)
+        ended :
+            (j : ℕ) (m′ : Config) → Ended Bs m′ → stateFrom room P j m′ ≡ some m″ → (0 < j → length Bs < length (m′ .callers)) →
+            Kept (m″ .heap)
         ended zero m′ E q l = subst (λ (w : Config). Kept (w .heap)) (state-zero room P m′ m″ q) (E .kept)
         ended (suc j) m′ E q l = absurd (omega (arith, l (suc-le-suc zero-le), ap (λ (l : List Frame). length l) (E .callers)))
 
@@ -124,7 +128,10 @@ record Called (P : Program) (y n z : ℕ) (m m′ : Config) : Type 0 where
   callers : m′ .callers ≡ caller ∷ m .callers
   handed : (p : Location) → Holds (m′ .frame) p → In p (handedOver P m y n z)
 
-entered-called : (P : Program) (y n z : ℕ) (m : Config) (A : List Location) → footprint (m .heap) (callFrame m (getD (P .methods) n noMethod) y z) (getD (P .methods) n noMethod .requires) ≡ ok A → Called P y n z m (entered m (callFrame m (getD (P .methods) n noMethod) y z) A)
+entered-called :
+    (P : Program) (y n z : ℕ) (m : Config) (A : List Location) →
+    footprint (m .heap) (callFrame m (getD (P .methods) n noMethod) y z) (getD (P .methods) n noMethod .requires) ≡ ok A →
+    Called P y n z m (entered m (callFrame m (getD (P .methods) n noMethod) y z) A)
 unfolding entered holding holds handedOver locations
 entered-called P y n z m A e =
     record { caller = _; heap = refl; callers = refl; handed = λ p i. rw e i }

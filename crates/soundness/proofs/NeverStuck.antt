@@ -1,19 +1,19 @@
 -- Demand 3, first half: a run of an accepted program is never stuck. It finishes, takes its allowed steps, or fills the machine.
 use mathlib.Core.Path.{_≡_, refl}
 use mathlib.Core.List.{List, [], _∷_}
-use mathlib.Core.Logic.{_⊎_, inl, inr}
+use mathlib.Core.Logic.{inl, inr}
 use Prim.Native.Nat.{ℕ, zero, suc}
 use native.Mathlib.Omega.{arith}
 use lib.ListN.{getD}
-use Rattle.rules.specs.Answers.{Stop, Ending, Verdict, accepted, finished, stepsTaken, stopped, heapFull, framesFull, permissionMissing, nullFollowed, formulaFalse, stopNumber, endingNumber}
+use Rattle.rules.specs.Answers.{Ending, accepted, finished, stepsTaken, stopped, heapFull, framesFull, permissionMissing, nullFollowed, formulaFalse, stopNumber, endingNumber}
 use Rattle.rules.specs.Syntax.{Method, Program, noMethod}
 use Rattle.rules.specs.State.{empty}
 use Rattle.rules.specs.Rules.{checkMethod, checkBlocks, checkProgram}
-use Rattle.rules.specs.Machine.{Config, Location, Room, Step, Outcome, on, stop, done, step, run, goOn, ends, start, runProgram}
+use Rattle.rules.specs.Machine.{Config, Room, Step, Outcome, on, stop, done, step, run, goOn, ends, start, runProgram}
 use Rattle.rules.proofs.Tries.{then-accepted}
 use Rattle.rules.proofs.Disjoint.{start-none}
 use Rattle.soundness.specs.WellFormed.{WellFormed}
-use Rattle.soundness.specs.Endings.{Full, NotStuck, NotStuckNumber}
+use Rattle.soundness.specs.Endings.{NotStuck, NotStuckNumber}
 use Rattle.soundness.proofs.Satisfied.{satisfied-empty}
 use Rattle.soundness.proofs.Branches.{Accepts}
 use Rattle.soundness.proofs.Stack.{at-row, Invariant}
@@ -21,7 +21,8 @@ use Rattle.soundness.proofs.CallSound.{MethodAccepted}
 use Rattle.soundness.proofs.StepKeeps.{Fine, step-keeps}
 
 -- AN ACCEPTED PROGRAM: each method and main are accepted
-methods-accepted : (P : Program) (Ms : List Method) → checkBlocks P Ms ≡ accepted tt → (n : ℕ) → MethodAccepted P (getD Ms n noMethod)
+methods-accepted :
+    (P : Program) (Ms : List Method) → checkBlocks P Ms ≡ accepted tt → (n : ℕ) → MethodAccepted P (getD Ms n noMethod)
 unfolding checkBlocks
 methods-accepted P [] e n = inr refl
 methods-accepted P (M ∷ Ms) e zero = let (u, a, b) = then-accepted (checkMethod P M) (λ u. checkBlocks P Ms) tt e in inl a
@@ -36,7 +37,9 @@ main-accepted P (M ∷ Ms) e =
 
 -- A RUN
 module _ (room : Room) (P : Program) (W : WellFormed P) (all : (n : ℕ) → MethodAccepted P (getD (P .methods) n noMethod)) where
-  goes-on : (t : Step) (n : ℕ) (m : Config) (k : Config → Outcome) → Fine P t → ((m′ : Config) → Invariant P m′ → NotStuck (k m′ .ending)) → NotStuck (goOn t n m k .ending)
+  goes-on :
+      (t : Step) (n : ℕ) (m : Config) (k : Config → Outcome) → Fine P t →
+      ((m′ : Config) → Invariant P m′ → NotStuck (k m′ .ending)) → NotStuck (goOn t n m k .ending)
   unfolding goOn ends
   goes-on (on m′) n m k f h = h m′ f
   goes-on (stop r) n m k f h = f
@@ -59,7 +62,8 @@ start-invariant P W k =
     }
 
 -- THE CLAIM
-pub accepted-never-stuck : (P : Program) → WellFormed P → checkProgram P ≡ accepted tt → (room : Room) (k : ℕ) → NotStuck (runProgram room P k .ending)
+pub accepted-never-stuck :
+    (P : Program) → WellFormed P → checkProgram P ≡ accepted tt → (room : Room) (k : ℕ) → NotStuck (runProgram room P k .ending)
 unfolding checkProgram runProgram
 accepted-never-stuck P W e room k =
     run-not-stuck room P W (methods-accepted P (P .methods) e) k 0 (start P) (start-invariant P W (main-accepted P (P .methods) e))
@@ -75,5 +79,7 @@ not-stuck-number (stopped permissionMissing) k = absurd k
 not-stuck-number (stopped nullFollowed) k = absurd k
 not-stuck-number (stopped formulaFalse) k = absurd k
 
-pub accepted-number : (P : Program) → WellFormed P → checkProgram P ≡ accepted tt → (room : Room) (k : ℕ) → NotStuckNumber (endingNumber (runProgram room P k .ending))
+pub accepted-number :
+    (P : Program) → WellFormed P → checkProgram P ≡ accepted tt → (room : Room) (k : ℕ) →
+    NotStuckNumber (endingNumber (runProgram room P k .ending))
 accepted-number P W e room k = not-stuck-number (runProgram room P k .ending) (accepted-never-stuck P W e room k)

@@ -2,7 +2,7 @@
 use mathlib.Core.Path.{_≡_, refl, sym, ap, _∙_, subst}
 use mathlib.Core.Bool.{Bool, true, false, cond, _&&_}
 use mathlib.Core.List.{List, [], _∷_, _++_, map}
-use mathlib.Core.Logic.{_⊎_, inl, inr, ⊎-elim}
+use mathlib.Core.Logic.{⊎-elim}
 use Prim.Native.Nat.{ℕ, suc, _+_, _≤_}
 use native.Mathlib.Omega.{arith}
 use lib.Dec.{leb, ltb}
@@ -68,7 +68,9 @@ module _ (h : Heap) (F : Frame) (x o : ℕ) (is : valueOf F x ≡ o) (object : o
     still : (q : Permission) → Member q (s .permissions) → Member q (s′ .permissions)
     listed : AllListed s′ gs
 
-  fields-added : (gs : List Field) (s s′ : State) → NamesDiffer gs → ((g : Field) → Member g gs → Holds F (at g)) → Fresh s gs → Satisfied h F s → addFields x gs s ≡ ok s′ → FieldsAdded s s′ gs
+  fields-added :
+      (gs : List Field) (s s′ : State) → NamesDiffer gs → ((g : Field) → Member g gs → Holds F (at g)) → Fresh s gs →
+      Satisfied h F s → addFields x gs s ≡ ok s′ → FieldsAdded s s′ gs
   unfolding addFields
   fields-added [] s s′ D H K S a =
       record {
@@ -99,7 +101,9 @@ module _ (h : Heap) (F : Frame) (x o : ℕ) (is : valueOf F x ≡ o) (object : o
             (head-or i);
       }
 
-  initials-added : (gs : List Field) (s s′ : State) → ((n : ℕ) → valueAt h o n ≡ 0) → AllListed s gs → Satisfied h F s → addInitial x gs s ≡ ok s′ → Satisfied h F s′
+  initials-added :
+      (gs : List Field) (s s′ : State) → ((n : ℕ) → valueAt h o n ≡ 0) → AllListed s gs → Satisfied h F s →
+      addInitial x gs s ≡ ok s′ → Satisfied h F s′
   unfolding addInitial termValue
   initials-added [] s s′ Z L S a = subst (Satisfied h F) (ok-inj a) S
   initials-added (g ∷ gs) s s′ Z L S a =
@@ -108,7 +112,10 @@ module _ (h : Heap) (F : Frame) (x o : ℕ) (is : valueOf F x ≡ o) (object : o
       (fact-added h F eq (path x (g .name)) (initial g) s s₁ b (L g at-head) (initial-reads (s .permissions) g)
       (ap (λ (o : ℕ). valueAt h o (g .name)) is ∙ (Z (g .name) ∙ sym (initial-value h F g))) S) c
 
-  new-added : (fs : List Field) (s s₁ s₂ s₃ : State) → NamesDiffer fs → ((g : Field) → Member g fs → Holds F (at g)) → Fresh s fs → ((n : ℕ) → valueAt h o n ≡ 0) → Satisfied h F s → addFields x fs s ≡ ok s₁ → addFact ne (var x) null s₁ ≡ ok s₂ → addInitial x fs s₂ ≡ ok s₃ → Satisfied h F s₃
+  new-added :
+      (fs : List Field) (s s₁ s₂ s₃ : State) → NamesDiffer fs → ((g : Field) → Member g fs → Holds F (at g)) → Fresh s fs →
+      ((n : ℕ) → valueAt h o n ≡ 0) → Satisfied h F s → addFields x fs s ≡ ok s₁ → addFact ne (var x) null s₁ ≡ ok s₂ →
+      addInitial x fs s₂ ≡ ok s₃ → Satisfied h F s₃
   unfolding termValue
   new-added fs s s₁ s₂ s₃ D H K Z S a b c =
       let R : FieldsAdded s s₁ fs = fields-added fs s s₁ D H K S a in
@@ -147,7 +154,9 @@ module _ (h : Heap) (F : Frame) (fs : List Field) (x : ℕ) where
   unfolding valueOf bind holding
   new-value v = refl
 
-  new-rule : (s s′ : State) → ((p : Location) → Holds F p → p .object ≤ length h) → NamesDiffer fs → Satisfied h F s → newRule x fs s ≡ ok s′ → Satisfied newHeap newFrame s′
+  new-rule :
+      (s s′ : State) → ((p : Location) → Holds F p → p .object ≤ length h) → NamesDiffer fs → Satisfied h F s →
+      newRule x fs s ≡ ok s′ → Satisfied newHeap newFrame s′
   unfolding newRule
   new-rule s s′ E D S e =
       let (s₁, a, e₁) = bind-ok (addFields x fs (remove x s)) e in
@@ -166,7 +175,10 @@ module _ (h : Heap) (F : Frame) (fs : List Field) (x : ℕ) where
       (grown-new h fs) S₁ a b c
 
 -- THE STEP
-grown-onward : (m : Config) (s s′ : State) (x : ℕ) (fs : List Field) → Satisfied (m .heap) (m .frame) s → ((p : Location) → Holds (m .frame) p → p .object ≤ length (m .heap)) → NamesDiffer fs → first-local ≤ x → newRule x fs s ≡ ok s′ → Onward m s′ (grown m x (map newCell fs))
+grown-onward :
+    (m : Config) (s s′ : State) (x : ℕ) (fs : List Field) → Satisfied (m .heap) (m .frame) s →
+    ((p : Location) → Holds (m .frame) p → p .object ≤ length (m .heap)) → NamesDiffer fs → first-local ≤ x →
+    newRule x fs s ≡ ok s′ → Onward m s′ (grown m x (map newCell fs))
 unfolding grown advance jump bind holding holds valueOf
 grown-onward m s s′ x fs S E D l a =
     let G : Frame = newFrame (m .heap) (m .frame) fs x in
@@ -181,7 +193,10 @@ grown-onward m s s′ x fs S E D l a =
     }
 
 -- the lemma on `new`
-pub new-sound : (room : Room) (m : Config) (s s′ : State) (x : ℕ) (fs : List Field) → Satisfied (m .heap) (m .frame) s → ((p : Location) → Holds (m .frame) p → p .object ≤ length (m .heap)) → NamesDiffer fs → first-local ≤ x → newRule x fs s ≡ ok s′ → Goes m s′ (newStep room x fs m)
+pub new-sound :
+    (room : Room) (m : Config) (s s′ : State) (x : ℕ) (fs : List Field) → Satisfied (m .heap) (m .frame) s →
+    ((p : Location) → Holds (m .frame) p → p .object ≤ length (m .heap)) → NamesDiffer fs → first-local ≤ x →
+    newRule x fs s ≡ ok s′ → Goes m s′ (newStep room x fs m)
 unfolding newStep _>>_ check
 new-sound room m s s′ x fs S E D l a =
     go (ltb (length (m .heap)) (room .objects) && leb (fieldsOf (m .heap) + length fs) (room .fields)) (grown-onward m s s′ x fs S E D l a)

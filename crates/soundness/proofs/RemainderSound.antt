@@ -1,5 +1,5 @@
 -- The remainder of a state is satisfied by a frame that has lost the footprint.
-use mathlib.Core.Path.{_≡_, refl, subst}
+use mathlib.Core.Path.{_≡_, refl}
 use mathlib.Core.Bool.{not, _||_}
 use mathlib.Core.List.{List, map}
 use mathlib.Core.Logic.{_⊎_, inl, inr, ⊎-elim}
@@ -11,12 +11,14 @@ use Rattle.rules.specs.State.{Term, Permission, Fact, State, Shown, show, remai
 use Rattle.rules.specs.Machine.{Frame, Heap, Location, without, valueOf, holding, holds}
 use Rattle.rules.proofs.Lists.{Member, keep-member, any-in, or-left, or-right}
 use Rattle.rules.proofs.Closure.{same-refl}
-use Rattle.rules.proofs.Sets.{In, in-without}
+use Rattle.rules.proofs.Sets.{in-without}
 use Rattle.soundness.proofs.Satisfied.{locationOf, Reads, True, Satisfied, satisfied-by}
 use Rattle.soundness.proofs.ShowSound.{Left, show-left}
 
 -- FACTS THAT DO NOT NAME SOME PATHS
-names-path : (us : List Permission) (p : Permission) (f : Fact) → Member p us → T (same (pathOf p) (f .left)) ⊎ T (same (pathOf p) (f .right)) → T (namesPath us f)
+names-path :
+    (us : List Permission) (p : Permission) (f : Fact) → Member p us →
+    T (same (pathOf p) (f .left)) ⊎ T (same (pathOf p) (f .right)) → T (namesPath us f)
 unfolding namesPath
 names-path us p f i k =
     any-in (λ p. same (pathOf p) (f .left) || same (pathOf p) (f .right)) us p i
@@ -34,7 +36,9 @@ module _ (ps ks us : List Permission) (all : (p : Permission) → Member p ps �
   reads-kept (var x) out r = tt
   reads-kept (path x f) out r = ⊎-elim (λ k. k) (λ u. absurd (out _ u (path-same x f))) (all _ r)
 
-  pub facts-kept : (h : Heap) (F : Frame) (fs : List Fact) → ((f : Fact) → Member f fs → True h F ps f) → (f : Fact) → Member f (withoutPaths us fs) → True h F ks f
+  pub facts-kept :
+      (h : Heap) (F : Frame) (fs : List Fact) → ((f : Fact) → Member f fs → True h F ps f) → (f : Fact) →
+      Member f (withoutPaths us fs) → True h F ks f
   unfolding withoutPaths
   facts-kept h F fs K f i =
       let (j, n) = keep-member (λ f. not (namesPath us f)) fs f i in
@@ -47,7 +51,9 @@ module _ (ps ks us : List Permission) (all : (p : Permission) → Member p ps �
       }
 
 -- THE REMAINDER
-pub remainder-sound : (h : Heap) (F : Frame) (s : State) (φ : Formula ℕ) (r : Shown) → Satisfied h F s → show s φ ≡ ok r → Satisfied h (holding (without (map (locationOf F) (r .consumed)) (F .held)) F) (remainder s r)
+pub remainder-sound :
+    (h : Heap) (F : Frame) (s : State) (φ : Formula ℕ) (r : Shown) → Satisfied h F s → show s φ ≡ ok r →
+    Satisfied h (holding (without (map (locationOf F) (r .consumed)) (F .held)) F) (remainder s r)
 unfolding remainder holding holds valueOf
 remainder-sound h F s φ r S e =
     let L : Left F (s .permissions) r = show-left h F s S φ r e in

@@ -9,7 +9,7 @@ use Rattle.rules.specs.Base.{mapOption, bindOption}
 use Rattle.rules.specs.Syntax.{num, null, var, path}
 use Rattle.rules.specs.State.{Term, Permission, Fact, State, equalIn, renameVariable, renameTerm, renamePermission, renameFact, successor, removeTo, remove, variables}
 use Rattle.rules.specs.Machine.{Frame, Heap, Location, valueAt, valueOf, bind, holds}
-use Rattle.rules.proofs.Lists.{Member, and-both, first-in, some-inj, bind-some, came-from, went-to, update-same, update-other}
+use Rattle.rules.proofs.Lists.{and-both, first-in, some-inj, bind-some, came-from, went-to, update-same, update-other}
 use Rattle.rules.proofs.Sets.{Holds, location-eq}
 use Rattle.soundness.proofs.Satisfied.{termValue, locationOf, Owned, Apart, Reads, True, Satisfied, related-by}
 use Rattle.soundness.proofs.ShowSound.{equal-variable}
@@ -50,7 +50,8 @@ module _ (h : Heap) (F G : Frame) (x : ℕ) (to : Option ℕ) (K : (v w : ℕ) �
       let (w, m, r) = bind-some (renameVariable x to (p .variable)) _ q e in
       ap (locationOf G) (sym (some-inj r)) ∙ location-eq (K (p .variable) w m) refl
 
-  renamed-owned : (p q : Permission) → ((l : Location) → Holds F l → Holds G l) → renamePermission x to p ≡ some q → Owned F p → Owned G q
+  renamed-owned :
+      (p q : Permission) → ((l : Location) → Holds F l → Holds G l) → renamePermission x to p ≡ some q → Owned F p → Owned G q
   renamed-owned p q L e O =
       record {
         object = λ z. O .object (sym (ap (λ (l : Location). l .object) (renamed-location p q e)) ∙ z);
@@ -71,7 +72,9 @@ module _ (h : Heap) (F G : Frame) (x : ℕ) (to : Option ℕ) (K : (v w : ℕ) �
         ih,
       )
 
-  renamed-reads : (ps : List Permission) (t u : Term) → renameTerm x to t ≡ some u → Reads ps t → Reads (mapOption (renamePermission x to) ps) u
+  renamed-reads :
+      (ps : List Permission) (t u : Term) → renameTerm x to t ≡ some u → Reads ps t →
+      Reads (mapOption (renamePermission x to) ps) u
   unfolding renameTerm renamePermission bindOption
   renamed-reads ps (num n) u e r = subst (Reads _) (some-inj e) tt
   renamed-reads ps null u e r = subst (Reads _) (some-inj e) tt
@@ -83,7 +86,9 @@ module _ (h : Heap) (F G : Frame) (x : ℕ) (to : Option ℕ) (K : (v w : ℕ) �
       (went-to (renamePermission x to) ps (record { variable = v; field = f }) (record { variable = w; field = f })
       (ap (λ (o : Option ℕ). bindOption o (λ w. some (record { variable = w; field = f }))) m) r)
 
-  renamed-true : (ps : List Permission) (f g : Fact) → renameFact x to f ≡ some g → True h F ps f → True h G (mapOption (renamePermission x to) ps) g
+  renamed-true :
+      (ps : List Permission) (f g : Fact) → renameFact x to f ≡ some g → True h F ps f →
+      True h G (mapOption (renamePermission x to) ps) g
   unfolding renameFact
   renamed-true ps f g e t =
       let (a, i, e₁) = bind-some (renameTerm x to (f .left)) _ g e in
@@ -132,6 +137,7 @@ module _ (h : Heap) (F : Frame) (s : State) (S : Satisfied h F s) (x v : ℕ) wh
   pub removed-value : (t u : Term) → renameTerm x (successor s x) t ≡ some u → termValue h (bind x v F) u ≡ termValue h F t
   removed-value t u e = renamed-value h F (bind x v F) x (successor s x) removed-variable t u e
 
-  pub removed-reads : (t u : Term) → renameTerm x (successor s x) t ≡ some u → Reads (s .permissions) t → Reads (remove x s .permissions) u
+  pub removed-reads :
+      (t u : Term) → renameTerm x (successor s x) t ≡ some u → Reads (s .permissions) t → Reads (remove x s .permissions) u
   unfolding remove removeTo
   removed-reads t u e r = renamed-reads h F (bind x v F) x (successor s x) removed-variable (s .permissions) t u e r

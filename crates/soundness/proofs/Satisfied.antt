@@ -1,7 +1,6 @@
 -- When a checker's state is satisfied by a heap and a frame, and which changes of heap and frame keep it so.
 use mathlib.Core.Path.{_≡_, refl, sym, ap, _∙_, subst}
 use mathlib.Core.List.{List, [], _∷_}
-use mathlib.Core.Logic.{_⊎_}
 use Prim.Native.Nat.{ℕ}
 use Rattle.rules.specs.Syntax.{Rel, eq, ne, num, null, var, path}
 use Rattle.rules.specs.State.{Term, Permission, Fact, State, empty, pathOf}
@@ -62,7 +61,9 @@ reads-more null k r = tt
 reads-more (var x) k r = tt
 reads-more (path x f) k r = k _ r
 
-pub true-more : {h : Heap} {F : Frame} {ps qs : List Permission} {f : Fact} → ((p : Permission) → Member p ps → Member p qs) → True h F ps f → True h F qs f
+pub true-more :
+    {h : Heap} {F : Frame} {ps qs : List Permission} {f : Fact} → ((p : Permission) → Member p ps → Member p qs) →
+    True h F ps f → True h F qs f
 true-more {f = f} k t =
     record { related = t .related; reads-left = reads-more (f .left) k (t .reads-left); reads-right = reads-more (f .right) k (t .reads-right) }
 
@@ -91,7 +92,10 @@ apart-same F G [] W A = tt
 apart-same F G (p ∷ ps) W A =
     (λ q i e. A .0 q i (sym (same-location F G W q) ∙ (e ∙ same-location F G W p)), apart-same F G ps W (A .1))
 
-same-value : (h h′ : Heap) (F G : Frame) (ps : List Permission) → SameValues F G → ((p : Permission) → Member p ps → AgreeAt h h′ (locationOf F p)) → (t : Term) → Reads ps t → termValue h′ G t ≡ termValue h F t
+same-value :
+    (h h′ : Heap) (F G : Frame) (ps : List Permission) → SameValues F G →
+    ((p : Permission) → Member p ps → AgreeAt h h′ (locationOf F p)) → (t : Term) → Reads ps t →
+    termValue h′ G t ≡ termValue h F t
 unfolding termValue
 same-value h h′ F G ps W A (num n) r = refl
 same-value h h′ F G ps W A null r = refl
@@ -99,7 +103,10 @@ same-value h h′ F G ps W A (var x) r = W x
 same-value h h′ F G ps W A (path x f) r = ap (λ (o : ℕ). valueAt h′ o f) (W x) ∙ A (record { variable = x; field = f }) r
 
 -- the same values, the entries' locations still held, and a heap that agrees on them
-pub satisfied-by : (h h′ : Heap) (F G : Frame) (s : State) → SameValues F G → ((p : Permission) → Member p (s .permissions) → Holds G (locationOf F p)) → ((p : Permission) → Member p (s .permissions) → AgreeAt h h′ (locationOf F p)) → Satisfied h F s → Satisfied h′ G s
+pub satisfied-by :
+    (h h′ : Heap) (F G : Frame) (s : State) → SameValues F G →
+    ((p : Permission) → Member p (s .permissions) → Holds G (locationOf F p)) →
+    ((p : Permission) → Member p (s .permissions) → AgreeAt h h′ (locationOf F p)) → Satisfied h F s → Satisfied h′ G s
 satisfied-by h h′ F G s W L A S =
     record {
       owned =
@@ -123,9 +130,12 @@ satisfied-by h h′ F G s W L A S =
     value = same-value h h′ F G (s .permissions) W A
 
 -- another frame, which has the values and holds no less
-pub satisfied-frame : (h : Heap) (F G : Frame) (s : State) → SameValues F G → ((p : Location) → Holds F p → Holds G p) → Satisfied h F s → Satisfied h G s
+pub satisfied-frame :
+    (h : Heap) (F G : Frame) (s : State) → SameValues F G → ((p : Location) → Holds F p → Holds G p) → Satisfied h F s →
+    Satisfied h G s
 satisfied-frame h F G s W L S = satisfied-by h h F G s W (λ p i. L _ (S .owned p i .held)) (λ p i. refl) S
 
 -- another heap, which agrees on what the frame holds
-pub satisfied-heap : (h h′ : Heap) (F : Frame) (s : State) → ((p : Location) → Holds F p → AgreeAt h h′ p) → Satisfied h F s → Satisfied h′ F s
+pub satisfied-heap :
+    (h h′ : Heap) (F : Frame) (s : State) → ((p : Location) → Holds F p → AgreeAt h h′ p) → Satisfied h F s → Satisfied h′ F s
 satisfied-heap h h′ F s A S = satisfied-by h h′ F F s (λ v. refl) (λ p i. S .owned p i .held) (λ p i. A _ (S .owned p i .held)) S

@@ -1,23 +1,23 @@
 -- `set`: the checker's state after it is satisfied after the machine's step.
 use mathlib.Core.Path.{_≡_, refl, sym, ap, _∙_, subst}
-use mathlib.Core.List.{List, [], _∷_}
-use mathlib.Core.Logic.{_⊎_, inl, inr, ⊎-elim}
+use mathlib.Core.List.{[], _∷_}
+use mathlib.Core.Logic.{inl, inr, ⊎-elim}
 use Prim.Native.Nat.{ℕ}
 use Rattle.rules.specs.Base.{ok, orElse}
 use Rattle.rules.specs.Answers.{noPermission}
-use Rattle.rules.specs.Syntax.{eq, var, this-variable, parameter}
+use Rattle.rules.specs.Syntax.{eq, var}
 use Rattle.rules.specs.State.{Permission, State, Split, equalIn, names, split, pathOf, withoutPaths}
 use Rattle.rules.specs.Rules.{setRule}
 use Rattle.rules.specs.Machine.{Config, Frame, Heap, Location, valueAt, valueOf, locate, store, advance, jump, holds, stored, setStep}
-use Rattle.rules.proofs.Lists.{Member, at-head, is-head}
+use Rattle.rules.proofs.Lists.{is-head}
 use Rattle.rules.proofs.Tries.{bind-ok, orElse-ok, bind-of-ok}
 use Rattle.rules.proofs.Sets.{location-eq}
 use Rattle.rules.proofs.Heaps.{store-same, store-other}
-use Rattle.soundness.proofs.Satisfied.{termValue, locationOf, True, Satisfied, path-reads, apart-same, true-more, satisfied-by, satisfied-frame}
+use Rattle.soundness.proofs.Satisfied.{termValue, locationOf, Satisfied, path-reads, true-more, satisfied-by, satisfied-frame}
 use Rattle.soundness.proofs.ShowSound.{names-location, owned-located, Parted, split-parted}
 use Rattle.soundness.proofs.RemainderSound.{facts-kept}
 use Rattle.soundness.proofs.AddSound.{fact-added}
-use Rattle.soundness.proofs.Stack.{Onward, Goes}
+use Rattle.soundness.proofs.Stack.{Goes}
 
 module _ (h : Heap) (F : Frame) (s : State) (S : Satisfied h F s) (x f y : ℕ) where
   abbrev written : Heap
@@ -32,7 +32,9 @@ module _ (h : Heap) (F : Frame) (s : State) (S : Satisfied h F s) (x f y : ℕ) 
   forgotten p = record { permissions = s .permissions; facts = withoutPaths (p ∷ []) (s .facts) }
 
   -- the other entries, of which nothing is written
-  others-satisfied : (c : Split) → Taken c → Satisfied written F (record { permissions = c .others; facts = withoutPaths (c .taken ∷ []) (s .facts) })
+  others-satisfied :
+      (c : Split) → Taken c →
+      Satisfied written F (record { permissions = c .others; facts = withoutPaths (c .taken ∷ []) (s .facts) })
   others-satisfied c D =
       satisfied-by h written F F _ (λ v. refl) (λ p i. S .owned p (D .others-were p i) .held)
       (λ p i. store-other h (valueOf F x) f (valueOf F y) (valueOf F (p .variable)) (p .field)
@@ -53,13 +55,17 @@ module _ (h : Heap) (F : Frame) (s : State) (S : Satisfied h F s) (x f y : ℕ) 
         facts = λ g i. true-more (D .others-were) (others-satisfied c D .facts g i);
       }
 
-  written-value : (p : Permission) → (valueOf F x ≡ 0 → ⊥) → locationOf F p ≡ record { object = valueOf F x; field = f } → termValue written F (pathOf p) ≡ termValue written F (var y)
+  written-value :
+      (p : Permission) → (valueOf F x ≡ 0 → ⊥) → locationOf F p ≡ record { object = valueOf F x; field = f } →
+      termValue written F (pathOf p) ≡ termValue written F (var y)
   unfolding termValue pathOf
   written-value p n e =
       ap (λ (l : Location). valueAt written (l .object) (l .field)) e ∙ store-same h (valueOf F x) f (valueOf F y) n
 
   -- the rule: the machine locates `x.f`, and the frame satisfies the state over the heap that is written
-  set-rule : (s′ : State) → setRule x f y s ≡ ok s′ → (locate F x f ≡ ok (record { object = valueOf F x; field = f })) × Satisfied written F s′
+  set-rule :
+      (s′ : State) → setRule x f y s ≡ ok s′ →
+      (locate F x f ≡ ok (record { object = valueOf F x; field = f })) × Satisfied written F s′
   unfolding setRule
   set-rule s′ a =
       let (c, o, b) = bind-ok (orElse (split (names (equalIn s) x f) (s .permissions)) noPermission) a in
@@ -73,7 +79,9 @@ module _ (h : Heap) (F : Frame) (s : State) (S : Satisfied h F s) (x f y : ℕ) 
       )
 
 -- the lemma on `set`
-pub set-sound : (m : Config) (s s′ : State) (x f y : ℕ) → Satisfied (m .heap) (m .frame) s → setRule x f y s ≡ ok s′ → Goes m s′ (setStep x f y m)
+pub set-sound :
+    (m : Config) (s s′ : State) (x f y : ℕ) → Satisfied (m .heap) (m .frame) s → setRule x f y s ≡ ok s′ →
+    Goes m s′ (setStep x f y m)
 unfolding setStep stored advance jump holds valueOf
 set-sound m s s′ x f y S a =
     let F : Frame = m .frame in

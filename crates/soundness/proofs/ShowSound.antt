@@ -36,7 +36,9 @@ related-compared eq v w e = subst (λ u. T (eqb v u)) e (eqb-refl v)
 related-compared ne v w e = not-T (eqb v w) (λ t. e (eqb→eq v w t))
 
 -- an entry that is owned is located by every name of it
-pub owned-located : (F : Frame) (p : Permission) (y f : ℕ) → Owned F p → locationOf F p ≡ record { object = valueOf F y; field = f } → locate F y f ≡ ok (record { object = valueOf F y; field = f })
+pub owned-located :
+    (F : Frame) (p : Permission) (y f : ℕ) → Owned F p → locationOf F p ≡ record { object = valueOf F y; field = f } →
+    locate F y f ≡ ok (record { object = valueOf F y; field = f })
 unfolding locate
 owned-located F p y f O e =
     pass _ _ _ (not-T (eqb (valueOf F y) 0) (λ t. O .object (ap (λ (l : Location). l .object) e ∙ eqb→eq _ _ t)))
@@ -48,7 +50,8 @@ module _ (h : Heap) (F : Frame) (s : State) (S : Satisfied h F s) where
   val = termValue h F
 
   -- ~ IS EQUALITY OF VALUES
-  listed-value : (fs : List Fact) (t u : Term) → ((f : Fact) → Member f fs → True h F (s .permissions) f) → Listed t u fs → val t ≡ val u
+  listed-value :
+      (fs : List Fact) (t u : Term) → ((f : Fact) → Member f fs → True h F (s .permissions) f) → Listed t u fs → val t ≡ val u
   listed-value (f ∷ fs) t u K (here e p q) =
       ap val (sym p) ∙ (subst (λ (n : Rel). Related n (val (f .left)) (val (f .right))) e (K f at-head .related) ∙ ap val q)
   listed-value (f ∷ fs) t u K (there l) = listed-value fs t u (λ g i. K g (further i)) l
@@ -63,7 +66,8 @@ module _ (h : Heap) (F : Frame) (s : State) (S : Satisfied h F s) where
   equal-variable x y l = equal-value (var x) (var y) l
 
   -- an entry that names `y.f` is its location
-  pub names-location : (y f : ℕ) (p : Permission) → T (names (equalIn s) y f p) → locationOf F p ≡ record { object = valueOf F y; field = f }
+  pub names-location :
+      (y f : ℕ) (p : Permission) → T (names (equalIn s) y f p) → locationOf F p ≡ record { object = valueOf F y; field = f }
   unfolding names
   names-location y f p g =
       let (a, b) = and-both (eqb (p .field) f) _ g in
@@ -95,7 +99,9 @@ module _ (h : Heap) (F : Frame) (s : State) (S : Satisfied h F s) where
       (λ j. let (x, y) = and-both (equalIn s a u) _ j in r (equal-value a u x ∙ (sym e ∙ sym (equal-value c t y))))
       (or-cases (equalIn s a t && equalIn s c u) _ k)
 
-  fact-different : (n : Rel) (a c t u : Term) → Related n (val a) (val c) → T (isNe n && links (equalIn s) a c t u) → Related ne (val t) (val u)
+  fact-different :
+      (n : Rel) (a c t u : Term) → Related n (val a) (val c) → T (isNe n && links (equalIn s) a c t u) →
+      Related ne (val t) (val u)
   unfolding isNe
   fact-different eq a c t u r k = absurd k
   fact-different ne a c t u r k = links-different a c t u r k
@@ -121,13 +127,17 @@ module _ (h : Heap) (F : Frame) (s : State) (S : Satisfied h F s) where
       in-any (λ p. equalIn s (var (p .variable)) u) (s .permissions) c λ p i g.
       S .owned p i .object (equal-value (var (p .variable)) u g ∙ (sym e ∙ sym (equal-value null t a)))
 
-  pair-different : (p q : Permission) (t u : Term) → (locationOf F p ≡ locationOf F q → ⊥) → T (eqb (p .field) (q .field) && links (equalIn s) (var (p .variable)) (var (q .variable)) t u) → Related ne (val t) (val u)
+  pair-different :
+      (p q : Permission) (t u : Term) → (locationOf F p ≡ locationOf F q → ⊥) →
+      T (eqb (p .field) (q .field) && links (equalIn s) (var (p .variable)) (var (q .variable)) t u) →
+      Related ne (val t) (val u)
   unfolding termValue
   pair-different p q t u n k =
       let (a, b) = and-both (eqb (p .field) (q .field)) _ k in
       links-different (var (p .variable)) (var (q .variable)) t u (λ d. n (location-eq d (eqb→eq (p .field) (q .field) a))) b
 
-  entries-different : (ps : List Permission) → Apart F ps → (t u : Term) → T (twoEntries (equalIn s) ps t u) → Related ne (val t) (val u)
+  entries-different :
+      (ps : List Permission) → Apart F ps → (t u : Term) → T (twoEntries (equalIn s) ps t u) → Related ne (val t) (val u)
   unfolding twoEntries
   entries-different [] A t u b = absurd b
   entries-different (p ∷ ps) A t u b =
@@ -159,7 +169,8 @@ pub record Parted (F : Frame) (t : Permission → Bool) (ps : List Permission) (
   pub taken-apart : (q : Permission) → Member q (c .others) → locationOf F q ≡ locationOf F (c .taken) → ⊥
   pub all-were : (q : Permission) → Member q ps → Member q (c .others) ⊎ (q ≡ c .taken)
 
-pub split-parted : (F : Frame) (t : Permission → Bool) (ps : List Permission) (c : Split) → Apart F ps → split t ps ≡ some c → Parted F t ps c
+pub split-parted :
+    (F : Frame) (t : Permission → Bool) (ps : List Permission) (c : Split) → Apart F ps → split t ps ≡ some c → Parted F t ps c
 unfolding split bindOption
 split-parted F t [] c A e = none-some e
 split-parted F t (p ∷ ps) c A e = go (t p) refl (split t ps) (λ d k. split-parted F t ps d (A .1) k) e
@@ -202,7 +213,9 @@ pub record Left (F : Frame) (ps : List Permission) (r : Shown) : Type 0 where
 left-start : (F : Frame) (ps : List Permission) → Apart F ps → Left F ps (record { kept = ps; consumed = [] })
 left-start F ps A = record { some-of = λ p i. i; all-of = λ p i. inl i; apart = A; unused = λ p i k. in-nil (locationOf F p) k }
 
-left-consumed : (F : Frame) (ps : List Permission) (t : Permission → Bool) (r : Shown) (c : Split) → Left F ps r → Parted F t (r .kept) c → Left F ps (record { kept = c .others; consumed = c .taken ∷ r .consumed })
+left-consumed :
+    (F : Frame) (ps : List Permission) (t : Permission → Bool) (r : Shown) (c : Split) → Left F ps r → Parted F t (r .kept) c →
+    Left F ps (record { kept = c .others; consumed = c .taken ∷ r .consumed })
 left-consumed F ps t r c L D =
     record {
       some-of = λ p i. L .some-of p (D .others-were p i);
@@ -216,7 +229,9 @@ left-consumed F ps t r c L D =
     }
 
 module _ (h : Heap) (F : Frame) (s : State) (S : Satisfied h F s) where
-  showFrom-sound : (φ : Formula ℕ) (r r′ : Shown) → Left F (s .permissions) r → showFrom (equalIn s) s φ r ≡ ok r′ → (takeFrom h F φ (map (locationOf F) (r .consumed)) ≡ ok (map (locationOf F) (r′ .consumed))) × Left F (s .permissions) r′
+  showFrom-sound :
+      (φ : Formula ℕ) (r r′ : Shown) → Left F (s .permissions) r → showFrom (equalIn s) s φ r ≡ ok r′ →
+      (takeFrom h F φ (map (locationOf F) (r .consumed)) ≡ ok (map (locationOf F) (r′ .consumed))) × Left F (s .permissions) r′
   unfolding showFrom takeFrom
   showFrom-sound [] r r′ L e =
       (ap (λ (w : Shown). ok (map (locationOf F) (w .consumed))) (ok-inj e), subst (Left F (s .permissions)) (ok-inj e) L)
@@ -242,7 +257,9 @@ module _ (h : Heap) (F : Frame) (s : State) (S : Satisfied h F s) where
         L′,
       )
 
-  show-both : (φ : Formula ℕ) (r : Shown) → show s φ ≡ ok r → (footprint h F φ ≡ ok (map (locationOf F) (r .consumed))) × Left F (s .permissions) r
+  show-both :
+      (φ : Formula ℕ) (r : Shown) → show s φ ≡ ok r →
+      (footprint h F φ ≡ ok (map (locationOf F) (r .consumed))) × Left F (s .permissions) r
   unfolding show footprint
   show-both φ r e =
       showFrom-sound φ (record { kept = s .permissions; consumed = [] }) r (left-start F (s .permissions) (S .apart)) e

@@ -1,5 +1,5 @@
 -- The invariant of a run of an accepted program: what holds of the frame that runs and of each caller.
-use mathlib.Core.Path.{_≡_, refl, sym, ap, _∙_, subst}
+use mathlib.Core.Path.{_≡_, sym, ap, _∙_, subst}
 use mathlib.Core.List.{List, [], _∷_, map}
 use Prim.Native.Nat.{ℕ, _≤_}
 use native.Mathlib.Omega.{arith}
@@ -10,7 +10,7 @@ use Rattle.rules.specs.State.{State, Shown, empty, show, add, remove}
 use Rattle.rules.specs.Rules.{Open, actual, substAtom}
 use Rattle.rules.specs.Machine.{Config, Frame, Heap, Location, Room, Step, on, stop, done, step, took, tail, valueOf}
 use Rattle.rules.proofs.Changes.{Within, change-within, step-changes}
-use Rattle.rules.proofs.Disjoint.{share, shares, HeldOnce, HeldExists, share-held, shares-cons, change-keeps}
+use Rattle.rules.proofs.Disjoint.{shares, HeldOnce, HeldExists, share-held, shares-cons, change-keeps}
 use Rattle.rules.proofs.Sets.{Holds}
 use Rattle.soundness.specs.WellFormed.{SimpleFormed, RowsFormed, AtEnd, Over}
 use Rattle.soundness.specs.Endings.{Full}
@@ -105,7 +105,10 @@ unfolding tail
 tail-of l r rs e = ap tail e
 
 -- such a statement, where the rows after it are accepted from s′
-pub goes-kept : (P : Program) (m : Config) (r : Row) (rs : List Row) (s′ : State) (os : List Open) (t : Try Stop Config) → m .frame .rows ≡ r ∷ rs → RowsFormed (m .frame .rows) → Accepts P (m .frame .ensures) rs s′ os → Goes m s′ t → Kept P m (took t)
+pub goes-kept :
+    (P : Program) (m : Config) (r : Row) (rs : List Row) (s′ : State) (os : List Open) (t : Try Stop Config) →
+    m .frame .rows ≡ r ∷ rs → RowsFormed (m .frame .rows) → Accepts P (m .frame .ensures) rs s′ os → Goes m s′ t →
+    Kept P m (took t)
 unfolding took
 goes-kept P m r rs s′ os (no c) e f k g = g
 goes-kept P m r rs s′ os (ok m′) e f k g =
@@ -121,7 +124,9 @@ goes-kept P m r rs s′ os (ok m′) e f k g =
     (g .same-call) (g .callers)
 
 -- A HEAP THAT CHANGES
-suspended-heap : (P : Program) (h h′ : Heap) (t w : ℕ) (φ : Formula ℕ) (C : Frame) → ((p : Location) → Holds C p → AgreeAt h h′ p) → Suspended P h t w φ C → Suspended P h′ t w φ C
+suspended-heap :
+    (P : Program) (h h′ : Heap) (t w : ℕ) (φ : Formula ℕ) (C : Frame) → ((p : Location) → Holds C p → AgreeAt h h′ p) →
+    Suspended P h t w φ C → Suspended P h′ t w φ C
 suspended-heap P h h′ t w φ C A S =
     record {
       row = S .row;
@@ -145,7 +150,9 @@ suspended-heap P h h′ t w φ C A S =
       goes-on = S .goes-on;
     }
 
-below-heap : (P : Program) (h h′ : Heap) (t w : ℕ) (φ : Formula ℕ) (Cs : List Frame) → ((p : Location) → 1 ≤ shares Cs p → AgreeAt h h′ p) → Below P h t w φ Cs → Below P h′ t w φ Cs
+below-heap :
+    (P : Program) (h h′ : Heap) (t w : ℕ) (φ : Formula ℕ) (Cs : List Frame) →
+    ((p : Location) → 1 ≤ shares Cs p → AgreeAt h h′ p) → Below P h t w φ Cs → Below P h′ t w φ Cs
 below-heap P h h′ t w φ [] A B = tt
 below-heap P h h′ t w φ (C ∷ Cs) A B = (
   suspended-heap P h h′ t w φ C (λ p i. A p (omega (arith, share-held C p i, shares-cons C Cs p))) (B .0),
@@ -153,18 +160,22 @@ below-heap P h h′ t w φ (C ∷ Cs) A B = (
 )
 
 -- what the callers hold the frame does not hold, and no step of its own changes it
-callers-agree : (m m′ : Config) → HeldOnce m → HeldExists m → Within m m′ → (p : Location) → 1 ≤ shares (m .callers) p → AgreeAt (m .heap) (m′ .heap) p
+callers-agree :
+    (m m′ : Config) → HeldOnce m → HeldExists m → Within m m′ → (p : Location) → 1 ≤ shares (m .callers) p →
+    AgreeAt (m .heap) (m′ .heap) p
 callers-agree m m′ H E W p l =
     W .outside p (λ i. omega (arith, H p, l, share-held (m .frame) p i)) (E p (omega (arith, l)))
 
-pub below-same : (P : Program) (h : Heap) (F G : Frame) (Cs : List Frame) → SameCall F G → BelowFrame P h F Cs → BelowFrame P h G Cs
+pub below-same :
+    (P : Program) (h : Heap) (F G : Frame) (Cs : List Frame) → SameCall F G → BelowFrame P h F Cs → BelowFrame P h G Cs
 below-same P h F G Cs S B =
     subst (λ φ. Below P h (valueOf G this-variable) (valueOf G parameter) φ Cs) (sym (S .ensures))
     (subst (λ w. Below P h (valueOf G this-variable) w (F .ensures) Cs) (sym (S .w))
     (subst (λ t. Below P h t (valueOf F parameter) (F .ensures) Cs) (sym (S .this)) B))
 
 -- the invariant after a step, from what its statement shows
-pub moved-invariant : (room : Room) (P : Program) (m m′ : Config) → Invariant P m → step room P m ≡ on m′ → Moved P m m′ → Invariant P m′
+pub moved-invariant :
+    (room : Room) (P : Program) (m m′ : Config) → Invariant P m → step room P m ≡ on m′ → Moved P m m′ → Invariant P m′
 moved-invariant room P m m′ I e M =
     let (H, E) = change-keeps m m′ (step-changes room P m m′ e) (I .once) (I .exist) in go H E M
   where

@@ -38,10 +38,14 @@ module _ (room : Room) (P : Program) (W : WellFormed P) (all : (n : ℕ) → Met
 
   -- at the row r, with the rows rs after it, in a state that the frame satisfies
   module _ (r : Row) (rs : List Row) (e : m .frame .rows ≡ r ∷ rs) (s : State) (S : Satisfied (m .heap) (m .frame) s) where
-    onward : (s′ : State) (os : List Open) (t : Try Stop Config) → Accepts P (m .frame .ensures) rs s′ os → Goes m s′ t → Kept P m (took t)
+    onward :
+        (s′ : State) (os : List Open) (t : Try Stop Config) → Accepts P (m .frame .ensures) rs s′ os → Goes m s′ t →
+        Kept P m (took t)
     onward s′ os t k g = goes-kept P m r rs s′ os t e (I .running .formed) k g
 
-    simple-kept : (p : Simple) → r .stmt ≡ simple p → SimpleFormed p → (s′ : State) (os : List Open) → rule P p s ≡ ok s′ → Accepts P (m .frame .ensures) rs s′ os → Kept P m (took (simpleStep room P p m))
+    simple-kept :
+        (p : Simple) → r .stmt ≡ simple p → SimpleFormed p → (s′ : State) (os : List Open) → rule P p s ≡ ok s′ →
+        Accepts P (m .frame .ensures) rs s′ os → Kept P m (took (simpleStep room P p m))
     unfolding rule simpleStep
     simple-kept (set x f y) c l s′ os a k = onward s′ os _ k (set-sound m s s′ x f y S a)
     simple-kept (assign x v) c l s′ os a k = onward s′ os _ k (assign-sound m s s′ x v S l a)
@@ -58,7 +62,10 @@ module _ (room : Room) (P : Program) (W : WellFormed P) (all : (n : ℕ) → Met
         let (u, b, q) = bind-ok (show s φ) a in
         onward s′ os _ k (subst (λ w. Goes m w (releaseStep φ m)) (ok-inj q) (release-sound m s S φ u b))
 
-    row-kept : (os : List Open) (t : Stmt) → r .stmt ≡ t → checkRow P t (r .line) (m .frame .ensures) (λ s os. checkRows P (m .frame .ensures) rs s os) s os ≡ accepted tt → Kept P m (stepAt room P t m)
+    row-kept :
+        (os : List Open) (t : Stmt) → r .stmt ≡ t →
+        checkRow P t (r .line) (m .frame .ensures) (λ s os. checkRows P (m .frame .ensures) rs s os) s os ≡ accepted tt →
+        Kept P m (stepAt room P t m)
     unfolding checkRow elseRow joinRow endRow stepAt joinRule
     row-kept os (simple p) c k =
         let (s′, a, b) = atLine-accepted (r .line) (rule P p s) _ _ k in
@@ -81,7 +88,9 @@ module _ (room : Room) (P : Program) (W : WellFormed P) (all : (n : ℕ) → Met
         end-sound P m _ (show-sound (m .heap) (m .frame) s S (m .frame .ensures) u a) (I .once) (m .callers) refl (I .below)
     row-kept (o ∷ os) end c k = refused-accepted k
 
-  rows-kept : (l : List Row) → m .frame .rows ≡ l → (s : State) → Satisfied (m .heap) (m .frame) s → (os : List Open) → Accepts P (m .frame .ensures) l s os → Kept P m (stepAt room P (getD l 0 noRow .stmt) m)
+  rows-kept :
+      (l : List Row) → m .frame .rows ≡ l → (s : State) → Satisfied (m .heap) (m .frame) s → (os : List Open) →
+      Accepts P (m .frame .ensures) l s os → Kept P m (stepAt room P (getD l 0 noRow .stmt) m)
   unfolding checkRows
   rows-kept [] e s S os k = refused-accepted k
   rows-kept (r ∷ rs) e s S os k = row-kept r rs e s S os (r .stmt) refl k
