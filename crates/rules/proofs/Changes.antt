@@ -81,8 +81,10 @@ set-within : (x f y : ℕ) (m m′ : Config) → setStep x f y m ≡ ok m′ →
 unfolding setStep
 set-within x f y m m′ e =
     let (p, l, q) = bind-ok (locate (m .frame) x f) e in
-    subst (Within m) (ap (λ (g : ℕ). stored m (p .object) g (valueOf (m .frame) y)) (ap (λ (r : Location). r .field) (locate-is (m .frame) x f p l)) ∙ ok-inj q)
-    (stored-within m p (valueOf (m .frame) y) (locate-holds (m .frame) x f p l))
+    let v : ℕ = valueOf (m .frame) y in
+    let is : p .field ≡ f = ap (λ (r : Location). r .field) (locate-is (m .frame) x f p l) in
+    subst (Within m) (ap (λ (g : ℕ). stored m (p .object) g v) is ∙ ok-inj q)
+    (stored-within m p v (locate-holds (m .frame) x f p l))
 
 assign-within : (x : ℕ) (e : Expr ℕ) (m m′ : Config) → assignStep x e m ≡ ok m′ → Within m m′
 unfolding assignStep holds advance jump bind

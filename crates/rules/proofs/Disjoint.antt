@@ -53,7 +53,10 @@ held-share F p l = ⊎-elim (λ i. i) (λ n. absurd (omega (arith, share-none F 
 -- a frame that holds nothing that these do not holds no more
 share-less : (F G : Frame) (p : Location) → (Holds F p → Holds G p) → share F p ≤ share G p
 share-less F G p k =
-    ⊎-elim (λ i. omega (arith, share-held F p i, share-held G p (k i))) (λ n. omega (arith, share-none F p n)) (decide-test (holds F p))
+    ⊎-elim
+    (λ i. omega (arith, share-held F p i, share-held G p (k i)))
+    (λ n. omega (arith, share-none F p n))
+    (decide-test (holds F p))
 
 pub shares-cons : (F : Frame) (Fs : List Frame) (p : Location) → shares (F ∷ Fs) p ≡ share F p + shares Fs p
 unfolding shares
@@ -122,7 +125,9 @@ entering-shares m m′ N p =
     let c : shares (m′ .callers) p ≡ share (N .caller) p + shares (m .callers) p =
     ap (λ (Fs : List Frame). shares Fs p) (N .callers) ∙ shares-cons (N .caller) (m .callers) p in
     ⊎-elim
-    (λ i. omega (arith, c, share-held (m′ .frame) p i, share-held (m .frame) p (N .handed p i), share-none (N .caller) p (N .apart p i)))
+    (λ i.
+    omega
+    (arith, c, share-held (m′ .frame) p i, share-held (m .frame) p (N .handed p i), share-none (N .caller) p (N .apart p i)))
     (λ n. omega (arith, c, share-none (m′ .frame) p n, share-less (N .caller) (m .frame) p (N .left p)))
     (decide-test (holds (m′ .frame) p))
 

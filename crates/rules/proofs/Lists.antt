@@ -64,6 +64,17 @@ unfolding bindOption
 bind-some none f b e = none-some e
 bind-some (some a) f b e = (a, refl, e)
 
+pub option-cases : {A : Type 0} (o : Option A) → (o ≡ none) ⊎ ((a : A) × (o ≡ some a))
+option-cases none = inl refl
+option-cases (some a) = inr (a, refl)
+
+-- LISTS
+pub cons-head : {A : Type 0} {a b : A} {l m : List A} → a ∷ l ≡ b ∷ m → a ≡ b
+cons-head e = cc
+
+pub cons-tail : {A : Type 0} {a b : A} {l m : List A} → a ∷ l ≡ b ∷ m → l ≡ m
+cons-tail e = cc
+
 -- MEMBERS
 pub data Member {A : Type 0} (a : A) : List A → Type 0 where
   at-head : {l : List A} → Member a (a ∷ l)
@@ -126,7 +137,10 @@ module _ {A : Type 0} where
   unfolding any
   any-in t [] a i y = elim i [ ]
   any-in t (b ∷ l) a i y =
-      ⊎-elim (λ j. or-right (t b) (any t l) (any-in t l a j y)) (λ e. or-left (t b) (any t l) (subst (λ w. T (t w)) e y)) (head-or i)
+      ⊎-elim
+      (λ j. or-right (t b) (any t l) (any-in t l a j y))
+      (λ e. or-left (t b) (any t l) (subst (λ w. T (t w)) e y))
+      (head-or i)
 
   -- a test that passes at some member
   pub in-any : {B : Type 0} (t : A → Bool) (l : List A) → T (any t l) → ((a : A) → Member a l → T (t a) → B) → B
@@ -157,31 +171,39 @@ member-map f (b ∷ l) a i = ⊎-elim (λ j. further (member-map f l a j)) (λ e
 
 -- where a member of mapOption comes from, and where a member goes
 module _ {A B : Type 0} (f : A → Option B) where
-  one-came :
-      (a c : A) (l : List A) (m : List B) (b d : B) → f a ≡ some d → (Member b m → (a : A) × Member a l × (f a ≡ some b)) →
-      Member b (d ∷ m) → (c : A) × Member c (a ∷ l) × (f c ≡ some b)
-  one-came a c l m b d e k at-head = (a, at-head, e)
-  one-came a c l m b d e k (further i) = let (x, y, z) = k i in (x, further y, z)
+  pub mapOption-none : (a : A) (l : List A) → f a ≡ none → mapOption f (a ∷ l) ≡ mapOption f l
+  unfolding mapOption
+  mapOption-none a l e = rw (e, mapOption)
+
+  pub mapOption-some : (a : A) (l : List A) (b : B) → f a ≡ some b → mapOption f (a ∷ l) ≡ b ∷ mapOption f l
+  unfolding mapOption
+  mapOption-some a l b e = rw (e, mapOption)
+
+  nil-none : (b : B) → Member b (mapOption f []) → ⊥
+  unfolding mapOption
+  nil-none b i = elim i [ ]
 
   pub came-from : (l : List A) (b : B) → Member b (mapOption f l) → (a : A) × Member a l × (f a ≡ some b)
-  unfolding mapOption
-  came-from [] b i = elim i [ ]
-  came-from (a ∷ l) b i = go (f a) refl (came-from l b) i
-    where
-      go : (o : Option B) → f a ≡ o → (Member b (mapOption f l) → (a : A) × Member a l × (f a ≡ some b)) → Member b (elim o [ none ↦ mapOption f l | some d ↦ d ∷ mapOption f l ]) → (c : A) × Member c (a ∷ l) × (f c ≡ some b)
-      go none e ih i = let (x, y, z) = ih i in (x, further y, z)
-      go (some d) e ih i = one-came a a l _ b d e ih i
+  came-from [] b i = absurd (nil-none b i)
+  came-from (a ∷ l) b i =
+      ⊎-elim
+      (λ e. let (x, y, z) = came-from l b (subst (Member b) (mapOption-none a l e) i) in (x, further y, z))
+      (λ (d, e).
+      ⊎-elim (λ j. let (x, y, z) = came-from l b j in (x, further y, z)) (λ w. (a, at-head, e ∙ ap some (sym w)))
+      (head-or (subst (Member b) (mapOption-some a l d e) i)))
+      (option-cases (f a))
 
   pub went-to : (l : List A) (a : A) (b : B) → f a ≡ some b → Member a l → Member b (mapOption f l)
-  unfolding mapOption
   went-to [] a b e i = elim i [ ]
-  went-to (c ∷ l) a b e i = go (f c) refl (went-to l a b e) (head-or i)
-    where
-      go : (o : Option B) → f c ≡ o → (Member a l → Member b (mapOption f l)) → Member a l ⊎ (a ≡ c) → Member b (elim o [ none ↦ mapOption f l | some d ↦ d ∷ mapOption f l ])
-      go none d ih (inr w) = none-some (sym d ∙ (ap f (sym w) ∙ e))
-      go none d ih (inl i) = ih i
-      go (some r) d ih (inr w) = is-head (some-inj (sym e ∙ (ap f w ∙ d)))
-      go (some r) d ih (inl i) = further (ih i)
+  went-to (c ∷ l) a b e i =
+      ⊎-elim
+      (λ j.
+      ⊎-elim
+      (λ n. subst (Member b) (sym (mapOption-none c l n)) (went-to l a b e j))
+      (λ (d, k). subst (Member b) (sym (mapOption-some c l d k)) (further (went-to l a b e j)))
+      (option-cases (f c)))
+      (λ w. subst (Member b) (sym (mapOption-some c l b (ap f (sym w) ∙ e))) at-head)
+      (head-or i)
 
 -- UPDATES
 pub update-same : {A : Type 0} (d : A) (l : List A) (i : ℕ) (a : A) → getD (update d l i a) i d ≡ a

@@ -28,7 +28,8 @@ fact-added h F n t u s s′ e a b r S =
       apart = S .apart;
       facts =
           λ f i.
-          ⊎-elim (S .facts f) (λ w. subst (True h F (s .permissions)) (sym w) (record { related = r; reads-left = a; reads-right = b }))
+          ⊎-elim (S .facts f)
+          (λ w. subst (True h F (s .permissions)) (sym w) (record { related = r; reads-left = a; reads-right = b }))
           (end-member (s .facts) _ f i);
     })
 
@@ -105,13 +106,15 @@ module _ (h : Heap) (F G : Frame) (W : SameValues F G) (B : List Location) (owns
       Satisfied h F s₁ × Taken s₁ (p ∷ A)
   acc-added x f A s s₁ p l n i t S a =
       let P : Permission = record { variable = x; field = f } in
-      let is : p ≡ locationOf F P = locate-is G x f p l ∙ location-eq (W x) refl in (
-        permission-added h F P s s₁ a
-            (record { object = λ z. locate-object G x f p l (W x ∙ z); held = owns (locationOf F P) (subst (λ (l : Location). In l B) is i) })
-            (λ q j e. T-not (among p A) n (subst (λ (l : Location). In l A) (e ∙ sym is) (t q j (subst (λ (l : Location). In l B) (is ∙ sym e) i))))
-            S,
+      let is : p ≡ locationOf F P = locate-is G x f p l ∙ location-eq (W x) refl in
+      let in-B : (q : Location) → p ≡ q → In q B = λ q e. subst (λ (l : Location). In l B) e i in
+      let O : Owned F P = record { object = λ z. locate-object G x f p l (W x ∙ z); held = owns (locationOf F P) (in-B _ is) } in
+      let new : (q : Permission) → Member q (s .permissions) → locationOf F q ≡ locationOf F P → ⊥ =
+      λ q j e. T-not (among p A) n (subst (λ (l : Location). In l A) (e ∙ sym is) (t q j (in-B _ (is ∙ sym e)))) in (
+        permission-added h F P s s₁ a O new S,
         λ q j b.
-            ⊎-elim (λ k. in-there _ p A (t q k b)) (λ e. subst (λ (l : Location). In (locationOf F q) (l ∷ A)) (ap (locationOf F) e ∙ sym is) (in-here _ A))
+            ⊎-elim (λ k. in-there _ p A (t q k b))
+            (λ e. subst (λ (l : Location). In (locationOf F q) (l ∷ A)) (ap (locationOf F) e ∙ sym is) (in-here _ A))
             (end-member (s .permissions) P q (subst (Member q) (permission-permissions P s s₁ a) j)),
       )
 

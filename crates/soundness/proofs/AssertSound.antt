@@ -47,7 +47,9 @@ module _ (m : Config) (s : State) (S : Satisfied (m .heap) (m .frame) s) (φ : F
       let G : Frame = holding (without A (F .held)) F in
       subst (Goes m (remainder s r)) (sym (bind-of-ok (footprint (m .heap) F φ) A _ (show-sound (m .heap) F s S φ r e)))
       (record {
-        satisfied = satisfied-frame (m .heap) G (advance G) (remainder s r) (λ v. refl) (λ p i. i) (remainder-sound (m .heap) F s φ r S e);
+        satisfied =
+            satisfied-frame (m .heap) G (advance G) (remainder s r) (λ v. refl) (λ p i. i)
+            (remainder-sound (m .heap) F s φ r S e);
         rows = refl;
         same-call = record { ensures = refl; this = refl; w = refl };
         callers = refl;

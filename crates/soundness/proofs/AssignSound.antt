@@ -67,7 +67,8 @@ module _ (h : Heap) (F : Frame) (s : State) (S : Satisfied h F s) (x : ℕ) wher
           Satisfied h (bind x (termValue h F r) F) s′
       go r l true d b =
           subst (Satisfied h _) (ok-inj b)
-          (satisfied-frame h F _ s (bound-again (termValue h F r) (ap (termValue h F) (same→≡ r (var x) (subst T d tt)))) (bound-holds F x (termValue h F r)) S)
+          (satisfied-frame h F _ s (bound-again (termValue h F r) (ap (termValue h F) (same→≡ r (var x) (subst T d tt))))
+          (bound-holds F x (termValue h F r)) S)
       go r l false d b = equal-added r s′ l b
 
 -- a frame in which neither `this` nor w is assigned goes on in its call
@@ -90,7 +91,8 @@ assign-sound m s s′ x e S l a =
     let A : Assigned (m .heap) F s S x e s′ = assigned (m .heap) F s S x e s′ a in
     subst (Goes m s′) (sym (bind-of-ok (value (m .heap) F e) _ _ (A .reads)))
     (record {
-      satisfied = satisfied-frame (m .heap) (bind x (A .read) F) (advance (bind x (A .read) F)) s′ (λ v. refl) (λ p i. i) (A .satisfied);
+      satisfied =
+          satisfied-frame (m .heap) (bind x (A .read) F) (advance (bind x (A .read) F)) s′ (λ v. refl) (λ p i. i) (A .satisfied);
       rows = refl;
       same-call = bound-call F x (A .read) l;
       callers = refl;

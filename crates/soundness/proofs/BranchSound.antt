@@ -45,6 +45,8 @@ chosen h F s S n a b c e =
     let (s₁, i, e₃) = bind-ok (addFact n t u s) e₂ in
     let (s₂, j, e₄) = bind-ok (addFact (opposite n) t u s) e₃ in
     let is = ok-inj e₄ in
+    let reads-t = resolve-listed _ _ a t p in
+    let reads-u = resolve-listed _ _ b u q in
     record {
       left = termValue h F t;
       right = termValue h F u;
@@ -53,14 +55,15 @@ chosen h F s S n a b c e =
       if-true =
           λ k.
           subst (λ (c : State × State). Satisfied h F (c .0)) is
-          (fact-added h F n t u s s₁ i (resolve-listed _ _ a t p) (resolve-listed _ _ b u q) (compared-related n _ _ k) S);
+          (fact-added h F n t u s s₁ i reads-t reads-u (compared-related n _ _ k) S);
       if-false =
           λ k.
           subst (λ (c : State × State). Satisfied h F (c .1)) is
-          (fact-added h F (opposite n) t u s s₂ j (resolve-listed _ _ a t p) (resolve-listed _ _ b u q) (opposite-related n _ _ k) S);
+          (fact-added h F (opposite n) t u s s₂ j reads-t reads-u (opposite-related n _ _ k) S);
     }
 
-module _ (P : Program) (m : Config) (r : Row) (rs : List Row) (is-rows : m .frame .rows ≡ r ∷ rs) (formed : RowsFormed (m .frame .rows)) (s : State) (S : Satisfied (m .heap) (m .frame) s) where
+module _ (P : Program) (m : Config) (r : Row) (rs : List Row) (is-rows : m .frame .rows ≡ r ∷ rs)
+    (formed : RowsFormed (m .frame .rows)) (s : State) (S : Satisfied (m .heap) (m .frame) s) where
   rows-formed : RowsFormed rs
   rows-formed = subst RowsFormed is-rows formed .1
 
@@ -109,7 +112,8 @@ module _ (P : Program) (m : Config) (r : Row) (rs : List Row) (is-rows : m .fram
           Moved P m (withFrame m (cond b (advance (m .frame)) (jump (afterElse (m .frame .rows)) (m .frame))))
       go true t f = jump-moved (tail (m .frame .rows)) rs (c .0) (inFirst (c .1) ∷ os) tail-is rows-formed (t tt) k
       go false t f =
-          jump-moved (afterElse (m .frame .rows)) (E .rest) (c .1) (inSecond (E .first-end) ∷ os) else-is else-formed (f (λ z. z)) (E .goes-on)
+          jump-moved (afterElse (m .frame .rows)) (E .rest) (c .1) (inSecond (E .first-end) ∷ os) else-is else-formed (f (λ z. z))
+          (E .goes-on)
 
   -- the lemma on `else`: the first branch's end goes on to the `join`, which showed its formula from there
   pub else-sound :

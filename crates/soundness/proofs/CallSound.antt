@@ -32,6 +32,9 @@ use Rattle.soundness.proofs.Stack.{Ready, at-row, at-nothing, Suspended
 abbrev pub MethodAccepted : Program → Method → Type 0
 MethodAccepted P M = (checkMethod P M ≡ accepted tt) ⊎ (M ≡ noMethod)
 
+abbrev pub MethodsAccepted : Program → Type 0
+MethodsAccepted P = (n : ℕ) → MethodAccepted P (getD (P .methods) n noMethod)
+
 -- CALL
 -- the frame that is entered has the actual values for `this` and w
 entry-renamed : (m : Config) (M : Method) (x y z v : ℕ) → AtCall v → Renamed (m .frame) (callFrame m M y z) (actual y z x) v
@@ -43,7 +46,9 @@ call-held : (m : Config) (M : Method) (y z : ℕ) → callFrame m M y z .held �
 unfolding callFrame
 call-held m M y z = refl
 
-module _ (P : Program) (W : WellFormed P) (all : (n : ℕ) → MethodAccepted P (getD (P .methods) n noMethod)) (m : Config) (B : BelowFrame P (m .heap) (m .frame) (m .callers)) (r : Row) (rs : List Row) (is-rows : m .frame .rows ≡ r ∷ rs) (formed : RowsFormed (m .frame .rows)) (s : State) (S : Satisfied (m .heap) (m .frame) s) where
+module _ (P : Program) (W : WellFormed P) (all : MethodsAccepted P) (m : Config)
+    (B : BelowFrame P (m .heap) (m .frame) (m .callers)) (r : Row) (rs : List Row) (is-rows : m .frame .rows ≡ r ∷ rs)
+    (formed : RowsFormed (m .frame .rows)) (s : State) (S : Satisfied (m .heap) (m .frame) s) where
   module _ (x y n z : ℕ) where
     abbrev M : Method
     M = getD (P .methods) n noMethod
@@ -104,15 +109,17 @@ module _ (P : Program) (W : WellFormed P) (all : (n : ℕ) → MethodAccepted P 
         let F : Frame = m .frame in
         let (hy, a₁) = check-ok (holdsIn (equalIn s) s ne (var y) null) notShown a in
         let (u, b, a₂) = bind-ok (show s (map (substAtom (actual y z x)) (M .requires))) a₁ in
-        let f : footprint (m .heap) G (M .requires) ≡ ok (map (locationOf F) (u .consumed)) =
+        let A : List Location = map (locationOf F) (u .consumed) in
+        let object : valueOf F y ≡ 0 → ⊥ = holds-related (m .heap) F s S ne (var y) null hy in
+        let f : footprint (m .heap) G (M .requires) ≡ ok A =
         footprint-renamed (m .heap) F G (actual y z x) (call-held m M y z) (M .requires)
         (over-map AtCall (Renamed F G (actual y z x)) (entry-renamed m M x y z) (M .requires) (W .requires n))
         ∙ show-sound (m .heap) F s S _ u b in
         subst (λ t. Kept P m (took t))
         (sym
-        (pass (not (eqb (valueOf F y) 0)) nullFollowed _ (not-T (eqb (valueOf F y) 0) (λ t. holds-related (m .heap) F s S ne (var y) null hy (eqb→eq (valueOf F y) 0 t)))
-        ∙ bind-of-ok (footprint (m .heap) G (M .requires)) _ _ f))
-        (go (map (locationOf F) (u .consumed)) (ltb (suc (length (m .callers))) most-frames) (entered-moved u s′ os c fits b a₂ k f))
+        (pass (not (eqb (valueOf F y) 0)) nullFollowed _ (not-T (eqb (valueOf F y) 0) (λ t. object (eqb→eq (valueOf F y) 0 t)))
+        ∙ bind-of-ok (footprint (m .heap) G (M .requires)) A _ f))
+        (go A (ltb (suc (length (m .callers))) most-frames) (entered-moved u s′ os c fits b a₂ k f))
       where
         go :
             (A : List Location) (b : Bool) → Moved P m (entered m G A) →
@@ -128,7 +135,10 @@ unfolding targetOf rowOf
 target-is C r rs x y n z e c = rw (e, c)
 
 -- the frame that ends has the footprint A of ensures; its caller C is suspended, and holds nothing that the frame holds
-module _ (P : Program) (m : Config) (C : Frame) (Cs : List Frame) (A : List Location) (f : footprint (m .heap) (m .frame) (m .frame .ensures) ≡ ok A) (D : Suspended P (m .heap) (valueOf (m .frame) this-variable) (valueOf (m .frame) parameter) (m .frame .ensures) C) (apart : (p : Location) → Holds (m .frame) p → Holds C p → ⊥) where
+module _ (P : Program) (m : Config) (C : Frame) (Cs : List Frame) (A : List Location)
+    (f : footprint (m .heap) (m .frame) (m .frame .ensures) ≡ ok A)
+    (D : Suspended P (m .heap) (valueOf (m .frame) this-variable) (valueOf (m .frame) parameter) (m .frame .ensures) C)
+    (apart : (p : Location) → Holds (m .frame) p → Holds C p → ⊥) where
   abbrev result : ℕ
   result = valueOf (m .frame) result-variable
 
@@ -167,8 +177,10 @@ module _ (P : Program) (m : Config) (C : Frame) (Cs : List Frame) (A : List Loca
 
   reading-renamed : (v : ℕ) → AtEnd v → Renamed reading (m .frame) σ v
   unfolding actual
-  reading-renamed v (inl (inl e)) = subst (Renamed reading (m .frame) σ) (sym e) (D .is-this ∙ reading-other (D .y) (D .call-formed .1))
-  reading-renamed v (inl (inr e)) = subst (Renamed reading (m .frame) σ) (sym e) (D .is-w ∙ reading-other (D .z) (D .call-formed .2))
+  reading-renamed v (inl (inl e)) =
+      subst (Renamed reading (m .frame) σ) (sym e) (D .is-this ∙ reading-other (D .y) (D .call-formed .1))
+  reading-renamed v (inl (inr e)) =
+      subst (Renamed reading (m .frame) σ) (sym e) (D .is-w ∙ reading-other (D .z) (D .call-formed .2))
   reading-renamed v (inr e) = subst (Renamed reading (m .frame) σ) (sym e) reading-result
 
   gained-satisfied : Satisfied (m .heap) gained (D .after)
@@ -197,7 +209,8 @@ module _ (P : Program) (m : Config) (C : Frame) (Cs : List Frame) (A : List Loca
       other-frame
       (record {
         ready =
-            at-row (D .after) (D .opens) (satisfied-frame (m .heap) gained (advance gained) (D .after) (λ v. refl) (λ p i. i) gained-satisfied)
+            at-row (D .after) (D .opens)
+            (satisfied-frame (m .heap) gained (advance gained) (D .after) (λ v. refl) (λ p i. i) gained-satisfied)
             (subst (λ rs. Accepts P (C .ensures) rs (D .after) (D .opens)) (sym is) (D .goes-on));
         formed = subst RowsFormed (sym is) (D .formed);
       })
@@ -220,6 +233,14 @@ end-sound P m A f H (C ∷ Cs) e B =
     let apart : (p : Location) → Holds (m .frame) p → Holds C p → ⊥ =
     λ p i. shares-none (C ∷ Cs) p (subst (λ Fs. shares Fs p ≡ 0) e (callers-none m H p i)) C at-head in
     subst (λ t. Kept P m (took t)) (sym (bind-of-ok (footprint (m .heap) (m .frame) (m .frame .ensures)) A _ f))
-    (subst (λ x. Moved P m (record { heap = m .heap; frame = advance (bind x (valueOf (m .frame) result-variable) (holding (C .held ++ A) C)); callers = Cs }))
+    (subst (λ x. Moved P m (back x))
     (sym (target-is C (D .row) (D .rows) (D .x) (D .y) (D .method) (D .z) (D .is-rows) (D .is-call)))
     (returned-moved P m C Cs A f D apart (B .1)))
+  where
+    back : ℕ → Config
+    back x =
+        record {
+          heap = m .heap;
+          frame = advance (bind x (valueOf (m .frame) result-variable) (holding (C .held ++ A) C));
+          callers = Cs;
+        }

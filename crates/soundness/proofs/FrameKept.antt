@@ -12,6 +12,7 @@ use Rattle.rules.specs.Base.{ok}
 use Rattle.rules.specs.Syntax.{Program, noMethod}
 use Rattle.rules.specs.Machine.{Config, Frame, Heap, Location, Room, on, step, start, valueAt, holds, footprint, callFrame, entered, holding}
 use Rattle.rules.specs.Runs.{stateFrom, stateAfter, depth, locations, handedOver, CallAt, FrameKept}
+use Rattle.rules.proofs.Lists.{cons-head, cons-tail}
 use Rattle.rules.proofs.Sets.{In, Holds}
 use Rattle.rules.proofs.States.{zero-state, state-on, state-suc, state-zero, state-plus, state-next}
 use Rattle.rules.proofs.Changes.{Within, Entering, Returning, Change, within, entering, returning, step-changes, step-enters, call-enters}
@@ -50,7 +51,9 @@ module _ (h₀ : Heap) (A : List Location) where
     within-inside : (m m′ : Config) → Within m m′ → Inside B Bs m → Inside B Bs m′
     within-inside m m′ W O =
         record {
-          kept = λ o f l n. W .outside (record { object = o; field = f }) (λ i. n (O .safe _ i l)) (omega (arith, l, O .size)) ∙ O .kept o f l n;
+          kept =
+              λ o f l n.
+              W .outside (record { object = o; field = f }) (λ i. n (O .safe _ i l)) (omega (arith, l, O .size)) ∙ O .kept o f l n;
           size = omega (arith, O .size, W .grows);
           safe = λ p i l. ⊎-elim (λ j. O .safe p j l) (λ n. absurd (omega (arith, n .0, O .size, l))) (W .gains p i);
           inner = O .inner;
@@ -76,26 +79,18 @@ module _ (h₀ : Heap) (A : List Location) where
         kept = kept-same (m .heap) (m′ .heap) (R .heap) (O .kept)
 
         go : (inner : List Frame) → m .callers ≡ inner ++ (B ∷ Bs) → AllSafe inner → Inside B Bs m′ ⊎ Ended Bs m′
-        go [] s a = inr (record { kept = kept; callers = tail-eq (sym (R .callers) ∙ s) })
-          where
-            tail-eq : {a b : Frame} {l k : List Frame} → a ∷ l ≡ b ∷ k → l ≡ k
-            tail-eq e = cc
+        go [] s a = inr (record { kept = kept; callers = cons-tail (sym (R .callers) ∙ s) })
         go (C ∷ inner) s a =
+            let caller-safe : Safe (R .caller) = subst Safe (sym (cons-head (sym (R .callers) ∙ s))) (a .0) in
             inl
             (record {
               kept = kept;
               size = subst (λ (h : Heap). length h₀ ≤ length h) (sym (R .heap)) (O .size);
-              safe = λ p i l. ⊎-elim (λ j. a .0 p (subst (λ (F : Frame). Holds F p) (head-eq (sym (R .callers) ∙ s)) j) l) (λ j. O .safe p j l) (R .gains p i);
+              safe = λ p i l. ⊎-elim (λ j. caller-safe p j l) (λ j. O .safe p j l) (R .gains p i);
               inner = inner;
-              shape = tail-eq (sym (R .callers) ∙ s);
+              shape = cons-tail (sym (R .callers) ∙ s);
               inner-safe = a .1;
             })
-          where
-            head-eq : {a b : Frame} {l k : List Frame} → a ∷ l ≡ b ∷ k → a ≡ b
-            head-eq e = cc
-
-            tail-eq : {a b : Frame} {l k : List Frame} → a ∷ l ≡ b ∷ k → l ≡ k
-            tail-eq e = cc
 
     change-inside : (m m′ : Config) → Change m m′ → Inside B Bs m → Inside B Bs m′ ⊎ Ended Bs m′
     change-inside m m′ (within W) O = inl (within-inside m m′ W O)

@@ -17,7 +17,7 @@ use Rattle.soundness.specs.Endings.{NotStuck, NotStuckNumber}
 use Rattle.soundness.proofs.Satisfied.{satisfied-empty}
 use Rattle.soundness.proofs.Branches.{Accepts}
 use Rattle.soundness.proofs.Stack.{at-row, Invariant}
-use Rattle.soundness.proofs.CallSound.{MethodAccepted}
+use Rattle.soundness.proofs.CallSound.{MethodAccepted, MethodsAccepted}
 use Rattle.soundness.proofs.StepKeeps.{Fine, step-keeps}
 
 -- AN ACCEPTED PROGRAM: each method and main are accepted
@@ -36,7 +36,7 @@ main-accepted P (M ∷ Ms) e =
     let (u, a, b) = then-accepted (checkMethod P M) (λ u. checkBlocks P Ms) tt e in main-accepted P Ms b
 
 -- A RUN
-module _ (room : Room) (P : Program) (W : WellFormed P) (all : (n : ℕ) → MethodAccepted P (getD (P .methods) n noMethod)) where
+module _ (room : Room) (P : Program) (W : WellFormed P) (all : MethodsAccepted P) where
   goes-on :
       (t : Step) (n : ℕ) (m : Config) (k : Config → Outcome) → Fine P t →
       ((m′ : Config) → Invariant P m′ → NotStuck (k m′ .ending)) → NotStuck (goOn t n m k .ending)
@@ -49,7 +49,8 @@ module _ (room : Room) (P : Program) (W : WellFormed P) (all : (n : ℕ) → Met
   unfolding run ends
   run-not-stuck zero n m I = tt
   run-not-stuck (suc k) n m I =
-      goes-on (step room P m) n m (λ m′. run room P k (suc n) m′) (step-keeps room P W all m I) (λ m′ J. run-not-stuck k (suc n) m′ J)
+      goes-on (step room P m) n m (λ m′. run room P k (suc n) m′) (step-keeps room P W all m I)
+      (λ m′ J. run-not-stuck k (suc n) m′ J)
 
 start-invariant : (P : Program) → WellFormed P → Accepts P [] (P .main) empty [] → Invariant P (start P)
 unfolding start

@@ -26,7 +26,8 @@ use Rattle.soundness.proofs.Stack.{SameCall, Onward, Goes}
 
 none-named : (n : ℕ) (gs : List Field) → NoneNamed n gs → (g : Field) → Member g gs → n ≡ g .name → ⊥
 none-named n [] d g i e = elim i [ ]
-none-named n (k ∷ gs) d g i e = ⊎-elim (λ j. none-named n gs (d .1) g j e) (λ w. d .0 (e ∙ ap (λ (f : Field). f .name) w)) (head-or i)
+none-named n (k ∷ gs) d g i e =
+    ⊎-elim (λ j. none-named n gs (d .1) g j e) (λ w. d .0 (e ∙ ap (λ (f : Field). f .name) w)) (head-or i)
 
 -- what a fresh field has
 initial-value : (h : Heap) (F : Frame) (g : Field) → termValue h F (initial g) ≡ 0
@@ -90,6 +91,8 @@ module _ (h : Heap) (F : Frame) (x o : ℕ) (is : valueOf F x ≡ o) (object : o
       ⊎-elim (λ l. K q l k (further j) e)
       (λ w. none-named (g .name) gs (D .0) k j (ap (λ (p : Permission). p .field) (sym w) ∙ ap (λ (l : Location). l .field) e))
       (end-member (s .permissions) (entry g) q (subst (Member q) ps i)) in
+      let listed-g : Member (entry g) (s₁ .permissions) =
+      subst (Member (entry g)) (sym ps) (member-right (s .permissions) (entry g ∷ []) (entry g) at-head) in
       let R : FieldsAdded s₁ s′ gs = fields-added gs s₁ s′ (D .1) (λ k i. H k (further i)) fresh S₁ c in
       record {
         satisfied = R .satisfied;
@@ -97,7 +100,7 @@ module _ (h : Heap) (F : Frame) (x o : ℕ) (is : valueOf F x ≡ o) (object : o
         listed =
             λ k i.
             ⊎-elim (R .listed k)
-            (λ w. subst (λ (f : Field). Member (entry f) (s′ .permissions)) (sym w) (R .still (entry g) (subst (Member (entry g)) (sym ps) (member-right (s .permissions) (entry g ∷ []) (entry g) at-head))))
+            (λ w. subst (λ (f : Field). Member (entry f) (s′ .permissions)) (sym w) (R .still (entry g) listed-g))
             (head-or i);
       }
 
@@ -148,7 +151,8 @@ module _ (h : Heap) (F : Frame) (fs : List Field) (x : ℕ) where
   new-field g i =
       in-right _ (F .held) locations
       (member-in _ locations
-      (member-map {B = Location} (λ (c : Cell). record { object = number; field = c .name }) cells (newCell g) (member-map newCell fs g i)))
+      (member-map {B = Location} (λ (c : Cell). record { object = number; field = c .name }) cells (newCell g)
+      (member-map newCell fs g i)))
 
   new-value : (v : ℕ) → valueOf newFrame v ≡ valueOf (bind x number F) v
   unfolding valueOf bind holding
@@ -182,7 +186,8 @@ grown-onward :
 unfolding grown advance jump bind holding holds valueOf
 grown-onward m s s′ x fs S E D l a =
     let G : Frame = newFrame (m .heap) (m .frame) fs x in
-    let C : SameCall (m .frame) (advance (bind x (suc (length (m .heap))) (m .frame))) = bound-call (m .frame) x (suc (length (m .heap))) l in
+    let o : ℕ = suc (length (m .heap)) in
+    let C : SameCall (m .frame) (advance (bind x o (m .frame))) = bound-call (m .frame) x o l in
     record {
       satisfied =
           satisfied-frame (newHeap (m .heap) (m .frame) fs x) G (advance G) s′ (λ v. refl) (λ p i. i)
@@ -199,7 +204,8 @@ pub new-sound :
     newRule x fs s ≡ ok s′ → Goes m s′ (newStep room x fs m)
 unfolding newStep _>>_ check
 new-sound room m s s′ x fs S E D l a =
-    go (ltb (length (m .heap)) (room .objects) && leb (fieldsOf (m .heap) + length fs) (room .fields)) (grown-onward m s s′ x fs S E D l a)
+    go (ltb (length (m .heap)) (room .objects) && leb (fieldsOf (m .heap) + length fs) (room .fields))
+    (grown-onward m s s′ x fs S E D l a)
   where
     go : (b : Bool) → Onward m s′ (grown m x (map newCell fs)) → Goes m s′ (check b heapFull >> ok (grown m x (map newCell fs)))
     go true o = o

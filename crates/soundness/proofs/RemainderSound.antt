@@ -1,6 +1,6 @@
 -- The remainder of a state is satisfied by a frame that has lost the footprint.
 use mathlib.Core.Path.{_≡_, refl}
-use mathlib.Core.Bool.{not, _||_}
+use mathlib.Core.Bool.{Bool, not, _||_}
 use mathlib.Core.List.{List, map}
 use mathlib.Core.Logic.{_⊎_, inl, inr, ⊎-elim}
 use Prim.Native.Nat.{ℕ}
@@ -21,8 +21,9 @@ names-path :
     T (same (pathOf p) (f .left)) ⊎ T (same (pathOf p) (f .right)) → T (namesPath us f)
 unfolding namesPath
 names-path us p f i k =
-    any-in (λ p. same (pathOf p) (f .left) || same (pathOf p) (f .right)) us p i
-    (⊎-elim (or-left (same (pathOf p) (f .left)) (same (pathOf p) (f .right))) (or-right (same (pathOf p) (f .left)) (same (pathOf p) (f .right))) k)
+    let a : Bool = same (pathOf p) (f .left) in
+    let b : Bool = same (pathOf p) (f .right) in
+    any-in (λ p. same (pathOf p) (f .left) || same (pathOf p) (f .right)) us p i (⊎-elim (or-left a b) (or-right a b) k)
 
 path-same : (x f : ℕ) → T (same (pathOf (record { variable = x; field = f })) (path x f))
 unfolding pathOf

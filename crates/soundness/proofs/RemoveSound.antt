@@ -2,14 +2,15 @@
 use mathlib.Core.Path.{_≡_, refl, sym, ap, _∙_, subst}
 use mathlib.Core.Bool.{Bool, true, false, not, cond}
 use mathlib.Core.List.{List, [], _∷_}
-use mathlib.Core.Option.{Option, none, some}
+use mathlib.Core.Logic.{⊎-elim}
+use mathlib.Core.Option.{Option, some}
 use Prim.Native.Nat.{ℕ}
 use lib.Dec.{T, eqb, eqb→eq, eqb-refl, T-not}
 use Rattle.rules.specs.Base.{mapOption, bindOption}
 use Rattle.rules.specs.Syntax.{num, null, var, path}
 use Rattle.rules.specs.State.{Term, Permission, Fact, State, equalIn, renameVariable, renameTerm, renamePermission, renameFact, successor, removeTo, remove, variables}
 use Rattle.rules.specs.Machine.{Frame, Heap, Location, valueAt, valueOf, bind, holds}
-use Rattle.rules.proofs.Lists.{and-both, first-in, some-inj, bind-some, came-from, went-to, update-same, update-other}
+use Rattle.rules.proofs.Lists.{and-both, first-in, some-inj, bind-some, option-cases, mapOption-none, mapOption-some, came-from, went-to, update-same, update-other}
 use Rattle.rules.proofs.Sets.{Holds, location-eq}
 use Rattle.soundness.proofs.Satisfied.{termValue, locationOf, Owned, Apart, Reads, True, Satisfied, related-by}
 use Rattle.soundness.proofs.ShowSound.{equal-variable}
@@ -32,7 +33,8 @@ unfolding bind holds
 holds-bound F x v p i = i
 
 -- A RENAMING: G gives what it leaves the values that F gave
-module _ (h : Heap) (F G : Frame) (x : ℕ) (to : Option ℕ) (K : (v w : ℕ) → renameVariable x to v ≡ some w → valueOf G w ≡ valueOf F v) where
+module _ (h : Heap) (F G : Frame) (x : ℕ) (to : Option ℕ)
+    (K : (v w : ℕ) → renameVariable x to v ≡ some w → valueOf G w ≡ valueOf F v) where
   renamed-value : (t u : Term) → renameTerm x to t ≡ some u → termValue h G u ≡ termValue h F t
   unfolding renameTerm termValue
   renamed-value (num n) u e = ap (termValue h G) (sym (some-inj e))
@@ -61,16 +63,17 @@ module _ (h : Heap) (F G : Frame) (x : ℕ) (to : Option ℕ) (K : (v w : ℕ) �
   renamed-apart : (ps : List Permission) → Apart F ps → Apart G (mapOption (renamePermission x to) ps)
   unfolding mapOption
   renamed-apart [] A = tt
-  renamed-apart (p ∷ ps) A = go (renamePermission x to p) refl (renamed-apart ps (A .1))
-    where
-      go : (o : Option Permission) → renamePermission x to p ≡ o → Apart G (mapOption (renamePermission x to) ps) → Apart G (elim o [ none ↦ mapOption (renamePermission x to) ps | some b ↦ b ∷ mapOption (renamePermission x to) ps ])
-      go none e ih = ih
-      go (some r) e ih = (
+  renamed-apart (p ∷ ps) A =
+      ⊎-elim
+      (λ e. subst (Apart G) (sym (mapOption-none (renamePermission x to) p ps e)) (renamed-apart ps (A .1)))
+      (λ (r, e).
+      subst (Apart G) (sym (mapOption-some (renamePermission x to) p ps r e)) (
         λ q i l.
             let (a, b, c) = came-from (renamePermission x to) ps q i in
             A .0 a b (sym (renamed-location a q c) ∙ (l ∙ renamed-location p r e)),
-        ih,
-      )
+        renamed-apart ps (A .1),
+      ))
+      (option-cases (renamePermission x to p))
 
   renamed-reads :
       (ps : List Permission) (t u : Term) → renameTerm x to t ≡ some u → Reads ps t →
@@ -104,9 +107,13 @@ module _ (h : Heap) (F G : Frame) (x : ℕ) (to : Option ℕ) (K : (v w : ℕ) �
   unfolding removeTo
   renamed-satisfied s L S =
       record {
-        owned = λ q i. let (p, b, c) = came-from (renamePermission x to) (s .permissions) q i in renamed-owned p q L c (S .owned p b);
+        owned =
+            λ q i.
+            let (p, b, c) = came-from (renamePermission x to) (s .permissions) q i in renamed-owned p q L c (S .owned p b);
         apart = renamed-apart (s .permissions) (S .apart);
-        facts = λ g i. let (f, b, c) = came-from (renameFact x to) (s .facts) g i in renamed-true (s .permissions) f g c (S .facts f b);
+        facts =
+            λ g i.
+            let (f, b, c) = came-from (renameFact x to) (s .facts) g i in renamed-true (s .permissions) f g c (S .facts f b);
       }
 
 -- REMOVING x: its successor has the value that x had

@@ -65,7 +65,11 @@ pub true-more :
     {h : Heap} {F : Frame} {ps qs : List Permission} {f : Fact} → ((p : Permission) → Member p ps → Member p qs) →
     True h F ps f → True h F qs f
 true-more {f = f} k t =
-    record { related = t .related; reads-left = reads-more (f .left) k (t .reads-left); reads-right = reads-more (f .right) k (t .reads-right) }
+    record {
+      related = t .related;
+      reads-left = reads-more (f .left) k (t .reads-left);
+      reads-right = reads-more (f .right) k (t .reads-right);
+    }
 
 pub path-reads : (ps : List Permission) (p : Permission) → Member p ps → Reads ps (pathOf p)
 unfolding pathOf

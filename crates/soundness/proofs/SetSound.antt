@@ -73,7 +73,8 @@ module _ (h : Heap) (F : Frame) (s : State) (S : Satisfied h F s) (x f y : ℕ) 
       let g = names-location h F s S x f (c .taken) (D .passes) in
       let O = S .owned (c .taken) (D .was) in (
         owned-located F (c .taken) x f O g,
-        fact-added written F eq (pathOf (c .taken)) (var y) (forgotten (c .taken)) s′ b (path-reads (s .permissions) (c .taken) (D .was)) tt
+        fact-added written F eq (pathOf (c .taken)) (var y) (forgotten (c .taken)) s′ b
+            (path-reads (s .permissions) (c .taken) (D .was)) tt
             (written-value (c .taken) (λ z. O .object (ap (λ (l : Location). l .object) g ∙ z)) g)
             (forgotten-satisfied c D),
       )

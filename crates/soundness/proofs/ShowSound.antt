@@ -1,18 +1,18 @@
 -- What the checker shows holds in the machine: where a state is satisfied, a shown formula has a footprint, the locations of the
 -- entries that it consumed.
 use mathlib.Core.Path.{_≡_, refl, sym, ap, _∙_, subst}
-use mathlib.Core.Bool.{Bool, true, false, not, _&&_}
+use mathlib.Core.Bool.{Bool, not, _&&_}
 use mathlib.Core.List.{List, [], _∷_, map}
 use mathlib.Core.Logic.{_⊎_, inl, inr, ⊎-elim}
-use mathlib.Core.Option.{Option, none, some}
+use mathlib.Core.Option.{some}
 use Prim.Native.Nat.{ℕ}
 use lib.Dec.{T, eqb, eqb→eq, eqb-refl, not-T, T-not}
 use Rattle.rules.specs.Base.{ok, any, first, orElse, bindOption}
-use Rattle.rules.specs.Answers.{unresolved, noPermission, notShown, formulaFalse}
+use Rattle.rules.specs.Answers.{unresolved, noPermission, notShown, permissionMissing, formulaFalse}
 use Rattle.rules.specs.Syntax.{Rel, Formula, acc, cmp, eq, ne, num, null, var, path}
 use Rattle.rules.specs.State.{Term, Permission, Fact, State, Shown, Split, Equality, equalIn, names, resolve, pathOf, split, holdsIn, listedUnequal, differentNumbers, nullAndObject, twoEntries, links, isNe, showFrom, show}
 use Rattle.rules.specs.Machine.{Frame, Heap, Location, locate, among, value, valueAt, valueOf, takeFrom, footprint, compared}
-use Rattle.rules.proofs.Lists.{Member, at-head, further, head-or, is-head, and-both, or-cases, in-any, first-in, some-inj, none-some}
+use Rattle.rules.proofs.Lists.{T-true, F-false, decide-test, bind-some, Member, at-head, further, head-or, is-head, and-both, or-cases, in-any, first-in, some-inj, none-some}
 use Rattle.rules.proofs.Tries.{bind-ok, check-ok, orElse-ok, ok-inj, pass, bind-of-ok}
 use Rattle.rules.proofs.Closure.{Listed, here, there, linked-least, equalIn-sound}
 use Rattle.rules.proofs.Sets.{In, in-cons, in-nil, Holds, location-eq}
@@ -169,38 +169,58 @@ pub record Parted (F : Frame) (t : Permission → Bool) (ps : List Permission) (
   pub taken-apart : (q : Permission) → Member q (c .others) → locationOf F q ≡ locationOf F (c .taken) → ⊥
   pub all-were : (q : Permission) → Member q ps → Member q (c .others) ⊎ (q ≡ c .taken)
 
+split-here :
+    (t : Permission → Bool) (p : Permission) (ps : List Permission) → T (t p) →
+    split t (p ∷ ps) ≡ some (record { taken = p; others = ps })
+unfolding split
+split-here t p ps i = rw (T-true (t p) i, split)
+
+split-later :
+    (t : Permission → Bool) (p : Permission) (ps : List Permission) → (T (t p) → ⊥) →
+    split t (p ∷ ps) ≡ bindOption (split t ps) (λ c. some (record { taken = c .taken; others = p ∷ c .others }))
+unfolding split
+split-later t p ps n = rw (F-false (t p) n, split)
+
+parted-here :
+    (F : Frame) (t : Permission → Bool) (p : Permission) (ps : List Permission) → Apart F (p ∷ ps) → T (t p) →
+    Parted F t (p ∷ ps) (record { taken = p; others = ps })
+parted-here F t p ps A i =
+    record {
+      passes = i;
+      was = at-head;
+      others-were = λ q j. further j;
+      others-apart = A .1;
+      taken-apart = A .0;
+      all-were = λ q j. head-or j;
+    }
+
+parted-later :
+    (F : Frame) (t : Permission → Bool) (p : Permission) (ps : List Permission) (c : Split) → Apart F (p ∷ ps) →
+    Parted F t ps c → Parted F t (p ∷ ps) (record { taken = c .taken; others = p ∷ c .others })
+parted-later F t p ps c A D =
+    record {
+      passes = D .passes;
+      was = further (D .was);
+      others-were = λ q i. ⊎-elim (λ j. further (D .others-were q j)) (λ w. is-head w) (head-or i);
+      others-apart = (λ q i. A .0 q (D .others-were q i), D .others-apart);
+      taken-apart =
+          λ q i l. ⊎-elim (λ j. D .taken-apart q j l) (λ w. A .0 (c .taken) (D .was) (sym l ∙ ap (locationOf F) w)) (head-or i);
+      all-were =
+          λ q i.
+          ⊎-elim (λ j. ⊎-elim (λ k. inl (further k)) (λ w. inr w) (D .all-were q j)) (λ w. inl (is-head w)) (head-or i);
+    }
+
 pub split-parted :
     (F : Frame) (t : Permission → Bool) (ps : List Permission) (c : Split) → Apart F ps → split t ps ≡ some c → Parted F t ps c
-unfolding split bindOption
+unfolding split
 split-parted F t [] c A e = none-some e
-split-parted F t (p ∷ ps) c A e = go (t p) refl (split t ps) (λ d k. split-parted F t ps d (A .1) k) e
-  where
-    later : (d : Split) → Parted F t ps d → Parted F t (p ∷ ps) (record { taken = d .taken; others = p ∷ d .others })
-    later d D =
-        record {
-          passes = D .passes;
-          was = further (D .was);
-          others-were = λ q i. ⊎-elim (λ j. further (D .others-were q j)) (λ w. is-head w) (head-or i);
-          others-apart = (λ q i. A .0 q (D .others-were q i), D .others-apart);
-          taken-apart =
-              λ q i l.
-              ⊎-elim (λ j. D .taken-apart q j l) (λ w. A .0 (d .taken) (D .was) (sym l ∙ ap (locationOf F) w)) (head-or i);
-          all-were = λ q i. ⊎-elim (λ j. ⊎-elim (λ k. inl (further k)) (λ w. inr w) (D .all-were q j)) (λ w. inl (is-head w)) (head-or i);
-        }
-
-    go : (b : Bool) → b ≡ t p → (o : Option Split) → ((d : Split) → o ≡ some d → Parted F t ps d) → elim b [ true ↦ some (record { taken = p; others = ps }) | false ↦ bindOption o (λ d. some (record { taken = d .taken; others = p ∷ d .others })) ] ≡ some c → Parted F t (p ∷ ps) c
-    go true r o ih k =
-        subst (Parted F t (p ∷ ps)) (some-inj k)
-        (record {
-          passes = subst T r tt;
-          was = at-head;
-          others-were = λ q i. further i;
-          others-apart = A .1;
-          taken-apart = A .0;
-          all-were = λ q i. head-or i;
-        })
-    go false r none ih k = none-some k
-    go false r (some d) ih k = subst (Parted F t (p ∷ ps)) (some-inj k) (later d (ih d refl))
+split-parted F t (p ∷ ps) c A e =
+    ⊎-elim
+    (λ i. subst (Parted F t (p ∷ ps)) (some-inj (sym (split-here t p ps i) ∙ e)) (parted-here F t p ps A i))
+    (λ n.
+    let (d, k, q) = bind-some (split t ps) _ c (sym (split-later t p ps n) ∙ e) in
+    subst (Parted F t (p ∷ ps)) (some-inj q) (parted-later F t p ps d A (split-parted F t ps d (A .1) k)))
+    (decide-test (t p))
 
 -- SHOWING A FORMULA
 -- what is left while a formula is shown: the state's entries are kept or consumed, and those kept are apart from the others
@@ -225,10 +245,39 @@ left-consumed F ps t r c L D =
       apart = D .others-apart;
       unused =
           λ p i k.
-          ⊎-elim (λ e. D .taken-apart p i e) (λ j. L .unused p (D .others-were p i) j) (in-cons (locationOf F p) (locationOf F (c .taken)) _ k);
+          ⊎-elim (λ e. D .taken-apart p i e) (λ j. L .unused p (D .others-were p i) j)
+          (in-cons (locationOf F p) (locationOf F (c .taken)) _ k);
     }
 
 module _ (h : Heap) (F : Frame) (s : State) (S : Satisfied h F s) where
+  -- the machine takes the location of the entry that shows an `acc`
+  acc-taken :
+      (y f : ℕ) (φ : Formula ℕ) (r : Shown) (c : Split) → Left F (s .permissions) r →
+      Parted F (names (equalIn s) y f) (r .kept) c →
+      takeFrom h F (acc y f ∷ φ) (map (locationOf F) (r .consumed)) ≡ takeFrom h F φ (locationOf F (c .taken) ∷ map (locationOf F) (r .consumed))
+  unfolding takeFrom
+  acc-taken y f φ r c L D =
+      let p : Location = record { object = valueOf F y; field = f } in
+      let taken : List Location = map (locationOf F) (r .consumed) in
+      let is : locationOf F (c .taken) ≡ p = names-location h F s S y f (c .taken) (D .passes) in
+      let out : In p taken → ⊥ = λ i. L .unused (c .taken) (D .was) (subst (λ (l : Location). In l taken) (sym is) i) in
+      bind-of-ok (locate F y f) p _ (owned-located F (c .taken) y f (S .owned (c .taken) (L .some-of (c .taken) (D .was))) is)
+      ∙ (pass (not (among p taken)) permissionMissing _ (not-T (among p taken) out)
+      ∙ ap (λ (l : Location). takeFrom h F φ (l ∷ taken)) (sym is))
+
+  -- it finds a relation that is shown
+  cmp-passes :
+      (n : Rel) (a b : Term) (φ : Formula ℕ) (t u : Term) (A : List Location) → resolve (equalIn s) (s .permissions) a ≡ ok t →
+      resolve (equalIn s) (s .permissions) b ≡ ok u → T (holdsIn (equalIn s) s n t u) →
+      takeFrom h F (cmp n a b ∷ φ) A ≡ takeFrom h F φ A
+  unfolding takeFrom
+  cmp-passes n a b φ t u A i j k =
+      let v : ℕ = termValue h F t in
+      let w : ℕ = termValue h F u in
+      bind-of-ok (value h F a) v _ (resolve-reads h F s S a t i)
+      ∙ (bind-of-ok (value h F b) w _ (resolve-reads h F s S b u j)
+      ∙ pass (compared n v w) formulaFalse _ (related-compared n v w (holds-related h F s S n t u k)))
+
   showFrom-sound :
       (φ : Formula ℕ) (r r′ : Shown) → Left F (s .permissions) r → showFrom (equalIn s) s φ r ≡ ok r′ →
       (takeFrom h F φ (map (locationOf F) (r .consumed)) ≡ ok (map (locationOf F) (r′ .consumed))) × Left F (s .permissions) r′
@@ -236,26 +285,19 @@ module _ (h : Heap) (F : Frame) (s : State) (S : Satisfied h F s) where
   showFrom-sound [] r r′ L e =
       (ap (λ (w : Shown). ok (map (locationOf F) (w .consumed))) (ok-inj e), subst (Left F (s .permissions)) (ok-inj e) L)
   showFrom-sound (acc y f ∷ φ) r r′ L e =
-      let taken : List Location = map (locationOf F) (r .consumed) in
-      let (c, o, q) = bind-ok (orElse (split (names (equalIn s) y f) (r .kept)) noPermission) e in
-      let D : Parted F (names (equalIn s) y f) (r .kept) c = split-parted F _ (r .kept) c (L .apart) (orElse-ok _ noPermission c o) in
-      let g : locationOf F (c .taken) ≡ record { object = valueOf F y; field = f } = names-location h F s S y f (c .taken) (D .passes) in
-      let (R, L′) = showFrom-sound φ (record { kept = c .others; consumed = c .taken ∷ r .consumed }) r′ (left-consumed F (s .permissions) (names (equalIn s) y f) r c L D) q in (
-        bind-of-ok (locate F y f) _ _ (owned-located F (c .taken) y f (S .owned (c .taken) (L .some-of (c .taken) (D .was))) g)
-            ∙ (pass _ _ _ (not-T (among (record { object = valueOf F y; field = f }) taken) (λ i. L .unused (c .taken) (D .was) (subst (λ (l : Location). In l taken) (sym g) i)))
-            ∙ (ap (λ (l : Location). takeFrom h F φ (l ∷ taken)) (sym g) ∙ R)),
-        L′,
-      )
+      let t : Permission → Bool = names (equalIn s) y f in
+      let (c, o, q) = bind-ok (orElse (split t (r .kept)) noPermission) e in
+      let D : Parted F t (r .kept) c = split-parted F t (r .kept) c (L .apart) (orElse-ok _ noPermission c o) in
+      let (R, L′) =
+      showFrom-sound φ (record { kept = c .others; consumed = c .taken ∷ r .consumed }) r′
+      (left-consumed F (s .permissions) t r c L D) q in
+      (acc-taken y f φ r c L D ∙ R, L′)
   showFrom-sound (cmp n a b ∷ φ) r r′ L e =
       let (t, i, e₁) = bind-ok (resolve (equalIn s) (s .permissions) a) e in
       let (u, j, e₂) = bind-ok (resolve (equalIn s) (s .permissions) b) e₁ in
       let (k, e₃) = check-ok (holdsIn (equalIn s) s n t u) notShown e₂ in
-      let (R, L′) = showFrom-sound φ r r′ L e₃ in (
-        bind-of-ok (value h F a) (termValue h F t) _ (resolve-reads h F s S a t i)
-            ∙ (bind-of-ok (value h F b) (termValue h F u) _ (resolve-reads h F s S b u j)
-            ∙ (pass (compared n (termValue h F t) (termValue h F u)) formulaFalse _ (related-compared n (termValue h F t) (termValue h F u) (holds-related h F s S n t u k)) ∙ R)),
-        L′,
-      )
+      let (R, L′) = showFrom-sound φ r r′ L e₃ in
+      (cmp-passes n a b φ t u (map (locationOf F) (r .consumed)) i j k ∙ R, L′)
 
   show-both :
       (φ : Formula ℕ) (r : Shown) → show s φ ≡ ok r →

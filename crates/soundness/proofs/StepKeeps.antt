@@ -6,7 +6,7 @@ use native.Mathlib.Omega.{arith}
 use lib.ListN.{length, getD}
 use Rattle.rules.specs.Base.{Try, ok}
 use Rattle.rules.specs.Answers.{Stop, accepted}
-use Rattle.rules.specs.Syntax.{Formula, Simple, Stmt, Row, Program, noMethod, result-variable, var, set, assign, new, call, return, assert, release, simple, if, else, join, end}
+use Rattle.rules.specs.Syntax.{Formula, Simple, Stmt, Row, Program, result-variable, var, set, assign, new, call, return, assert, release, simple, if, else, join, end}
 use Rattle.rules.specs.State.{State, show}
 use Rattle.rules.specs.Rules.{Open, inFirst, inSecond, rule, ifRule, joinRule, checkRow, checkRows, elseRow, joinRow, endRow}
 use Rattle.rules.specs.Machine.{Config, Location, Room, Step, on, stop, done, noRow, rowOf, footprint, takeFrom, took, simpleStep, stepAt, step, assertStep, releaseStep}
@@ -24,7 +24,7 @@ use Rattle.soundness.proofs.SetSound.{set-sound}
 use Rattle.soundness.proofs.NewSound.{new-sound}
 use Rattle.soundness.proofs.AssertSound.{assert-sound, join-sound, release-sound}
 use Rattle.soundness.proofs.BranchSound.{if-sound, else-sound}
-use Rattle.soundness.proofs.CallSound.{MethodAccepted, call-sound, end-sound}
+use Rattle.soundness.proofs.CallSound.{MethodsAccepted, call-sound, end-sound}
 
 -- what a step comes to
 abbrev pub Fine : Program → Step → Type 0
@@ -32,7 +32,7 @@ Fine P (on m) = Invariant P m
 Fine P (stop r) = Full r
 Fine P done = Unit {0}
 
-module _ (room : Room) (P : Program) (W : WellFormed P) (all : (n : ℕ) → MethodAccepted P (getD (P .methods) n noMethod)) (m : Config) (I : Invariant P m) where
+module _ (room : Room) (P : Program) (W : WellFormed P) (all : MethodsAccepted P) (m : Config) (I : Invariant P m) where
   frame-exists : (p : Location) → Holds (m .frame) p → p .object ≤ length (m .heap)
   frame-exists p i = I .exist p (omega (arith, share-held (m .frame) p i))
 
