@@ -20,14 +20,6 @@ In p A = T (among p A)
 abbrev pub Holds : Frame → Location → Type 0
 Holds F p = T (holds F p)
 
-pub holds-in : (F : Frame) (p : Location) → Holds F p → In p (F .held)
-unfolding holds
-holds-in F p h = h
-
-pub in-holds : (F : Frame) (p : Location) → In p (F .held) → Holds F p
-unfolding holds
-in-holds F p h = h
-
 -- MEMBERS
 pub location-eq :
     {o o′ f f′ : ℕ} → o ≡ o′ → f ≡ f′ →

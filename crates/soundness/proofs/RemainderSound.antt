@@ -12,7 +12,7 @@ use Rattle.rules.specs.Machine.{Frame, Heap, Location, without, valueOf, holdin
 use Rattle.rules.proofs.Lists.{Member, keep-member, any-in, or-left, or-right}
 use Rattle.rules.proofs.Closure.{same-refl}
 use Rattle.rules.proofs.Sets.{in-without}
-use Rattle.soundness.proofs.Satisfied.{locationOf, Reads, True, Satisfied, satisfied-by}
+use Rattle.soundness.proofs.Satisfied.{locationOf, Reads, FactTrue, Satisfied, satisfied-by}
 use Rattle.soundness.proofs.ShowSound.{Left, show-left}
 
 -- FACTS THAT DO NOT NAME SOME PATHS
@@ -38,8 +38,8 @@ module _ (ps ks us : List Permission) (all : (p : Permission) → Member p ps �
   reads-kept (path x f) out r = ⊎-elim (λ k. k) (λ u. absurd (out _ u (path-same x f))) (all _ r)
 
   pub facts-kept :
-      (h : Heap) (F : Frame) (fs : List Fact) → ((f : Fact) → Member f fs → True h F ps f) → (f : Fact) →
-      Member f (withoutPaths us fs) → True h F ks f
+      (h : Heap) (F : Frame) (fs : List Fact) → ((f : Fact) → Member f fs → FactTrue h F ps f) → (f : Fact) →
+      Member f (withoutPaths us fs) → FactTrue h F ks f
   unfolding withoutPaths
   facts-kept h F fs K f i =
       let (j, n) = keep-member (λ f. not (namesPath us f)) fs f i in

@@ -12,7 +12,7 @@ use Rattle.rules.specs.State.{Term, Permission, Fact, State, equalIn, renameVar
 use Rattle.rules.specs.Machine.{Frame, Heap, Location, valueAt, valueOf, bind, holds}
 use Rattle.rules.proofs.Lists.{and-both, first-in, some-inj, bind-some, option-cases, mapOption-none, mapOption-some, came-from, went-to, update-same, update-other}
 use Rattle.rules.proofs.Sets.{Holds, location-eq}
-use Rattle.soundness.proofs.Satisfied.{termValue, locationOf, Owned, Apart, Reads, True, Satisfied, related-by}
+use Rattle.soundness.proofs.Satisfied.{termValue, locationOf, Owned, Apart, Reads, FactTrue, Satisfied, related-by}
 use Rattle.soundness.proofs.ShowSound.{equal-variable}
 
 -- A FRAME WITH A NEW VALUE OF x
@@ -90,13 +90,13 @@ module _ (h : Heap) (F G : Frame) (x : ℕ) (to : Option ℕ)
       (ap (λ (o : Option ℕ). bindOption o (λ w. some (record { variable = w; field = f }))) m) r)
 
   renamed-true :
-      (ps : List Permission) (f g : Fact) → renameFact x to f ≡ some g → True h F ps f →
-      True h G (mapOption (renamePermission x to) ps) g
+      (ps : List Permission) (f g : Fact) → renameFact x to f ≡ some g → FactTrue h F ps f →
+      FactTrue h G (mapOption (renamePermission x to) ps) g
   unfolding renameFact
   renamed-true ps f g e t =
       let (a, i, e₁) = bind-some (renameTerm x to (f .left)) _ g e in
       let (b, j, e₂) = bind-some (renameTerm x to (f .right)) _ g e₁ in
-      subst (True h G (mapOption (renamePermission x to) ps)) (some-inj e₂)
+      subst (FactTrue h G (mapOption (renamePermission x to) ps)) (some-inj e₂)
       (record {
         related = related-by (f .rel) (renamed-value (f .left) a i) (renamed-value (f .right) b j) (t .related);
         reads-left = renamed-reads ps (f .left) a i (t .reads-left);

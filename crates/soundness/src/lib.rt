@@ -1,3 +1,1 @@
-pub fn zero() -> u32 {
-    0
-}
+// Proofs only: demand 3 over the definitions of `rules` (proofs/NeverStuck, proofs/FrameKept).
