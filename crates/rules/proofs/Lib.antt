@@ -7,3 +7,4 @@ pub mod States
 pub mod Counting
 pub mod Changes
 pub mod Disjoint
+pub mod Examples

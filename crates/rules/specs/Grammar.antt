@@ -1,0 +1,158 @@
+-- The eighteen kinds of line: word, operands, and where each may stand. A kind of line is a row of this table.
+use mathlib.Core.Bool.{Bool, true, false, _&&_}
+use mathlib.Core.List.{List, [], _∷_}
+use mathlib.Core.Option.{Option}
+use Prim.Native.Nat.{ℕ}
+use Prim.Native.String.{String}
+use lib.Dec.{eqb, leb}
+use lib.ListN.{length, drop, getD}
+use Rattle.rules.specs.Base.{Name, Try, ok, no, _>>=_, _>>_, check, orElse, first, is}
+use Rattle.rules.specs.Limits.{most-atoms}
+use Rattle.rules.specs.Answers.{Refusal, badByte, malformed}
+use Rattle.rules.specs.Text as Text
+use Rattle.rules.specs.Text.{clean, isName, isExpr, isFormula, isCondition}
+
+pub data Kind : Type 0 where
+  Class Field Method Requires Ensures Main Var : Kind
+  Set Let New Call Return Assert Release If Else Join End : Kind
+
+-- what a new name is declared among
+pub data Space : Type 0 where
+  classes fields methods variables : Space
+
+pub data Use : Type 0 where
+  read assigned : Use
+
+pub data Member : Type 0 where
+  field method : Member
+
+-- What a field of a line is. A member is one of the class of the variable in the field before it.
+pub data Operand : Type 0 where
+  new : Space → Operand
+  typeName : Operand
+  className : Operand
+  variable : Use → Operand
+  member : Member → Operand
+  expression : Operand
+
+-- what follows the operands: no more fields, one `eq` or `ne`, or the atoms of a formula
+pub data Tail : Type 0 where
+  nothing condition formula : Tail
+
+-- where in a text a line may stand
+pub data Stage : Type 0 where
+  beginning inClass afterMethod afterHeader afterRequires inLocals inBody afterMain : Stage
+
+-- from the stage `first` to the stage `last`; after the line the text is at stage `next`
+pub record Form : Type 0 where
+  pub word : String
+  pub operands : List Operand
+  pub tail : Tail
+  pub first : Stage
+  pub last : Stage
+  pub next : Stage
+
+unfoldable pub stands : Stage → Stage → Stage → String → List Operand → Tail → Form
+stands a z n w os t = record { word = w; operands = os; tail = t; first = a; last = z; next = n }
+
+unfoldable pub statement : String → List Operand → Tail → Form
+statement = stands inLocals inBody inBody
+
+-- "`class C`, then `field T f` lines, then methods."
+-- "`method T m T w`, `requires` formula, `ensures` formula, `var T x` lines, statements, `end`."
+-- "Last `main`, `var` lines, statements, `end`. Nothing follows."
+-- "Statements: `set x f y`, `let x e`, `new x C`, `call x y m z`, `return x` .., `assert` formula, `release` formula, and `if eq e e`
+-- or `if ne e e` .. `else` .. `join` formula." After `end`, see `Places`.
+unfoldable pub form : Kind → Form
+form Class = stands beginning afterMethod inClass "class" (new classes ∷ []) nothing
+form Field = stands inClass inClass inClass "field" (typeName ∷ new fields ∷ []) nothing
+form Method = stands inClass afterMethod afterHeader "method" (typeName ∷ new methods ∷ typeName ∷ new variables ∷ []) nothing
+form Requires = stands afterHeader afterHeader afterRequires "requires" [] formula
+form Ensures = stands afterRequires afterRequires inLocals "ensures" [] formula
+form Main = stands beginning afterMethod inLocals "main" [] nothing
+form Var = stands inLocals inLocals inLocals "var" (typeName ∷ new variables ∷ []) nothing
+form Set = statement "set" (variable read ∷ member field ∷ variable read ∷ []) nothing
+form Let = statement "let" (variable assigned ∷ expression ∷ []) nothing
+form New = statement "new" (variable assigned ∷ className ∷ []) nothing
+form Call = statement "call" (variable assigned ∷ variable read ∷ member method ∷ variable read ∷ []) nothing
+form Return = statement "return" (variable read ∷ []) nothing
+form Assert = statement "assert" [] formula
+form Release = statement "release" [] formula
+form If = statement "if" [] condition
+form Else = statement "else" [] nothing
+form Join = statement "join" [] formula
+form End = statement "end" [] nothing
+
+abbrev pub kinds : List Kind
+kinds =
+    Class ∷ Field ∷ Method ∷ Requires ∷ Ensures ∷ Main ∷ Var ∷
+    Set ∷ Let ∷ New ∷ Call ∷ Return ∷ Assert ∷ Release ∷ If ∷ Else ∷ Join ∷ End ∷ []
+
+unfoldable pub kindNumber : Kind → ℕ
+kindNumber Class = 1
+kindNumber Field = 2
+kindNumber Method = 3
+kindNumber Requires = 4
+kindNumber Ensures = 5
+kindNumber Main = 6
+kindNumber Var = 7
+kindNumber Set = 8
+kindNumber Let = 9
+kindNumber New = 10
+kindNumber Call = 11
+kindNumber Return = 12
+kindNumber Assert = 13
+kindNumber Release = 14
+kindNumber If = 15
+kindNumber Else = 16
+kindNumber Join = 17
+kindNumber End = 18
+
+unfoldable pub isKind : Kind → Kind → Bool
+isKind a k = eqb (kindNumber a) (kindNumber k)
+
+-- statement lines come last: "with `else`, `join` and `end` counted"
+unfoldable pub isStatement : Kind → Bool
+isStatement k = leb (kindNumber Set) (kindNumber k)
+
+unfoldable pub kindOf : Name → Option Kind
+kindOf w = first (λ k. is (form k .word) w) kinds
+
+-- FORM OF A LINE
+
+unfoldable pub isOperand : Operand → Name → Bool
+isOperand (new s) w = isName w
+isOperand typeName w = isName w
+isOperand className w = isName w
+isOperand (variable u) w = isName w
+isOperand (member m) w = isName w
+isOperand expression w = isExpr w
+
+unfoldable pub isTail : Tail → List Name → Bool
+isTail nothing ws = eqb (length ws) 0
+isTail condition ws = isCondition ws
+isTail formula ws = isFormula most-atoms ws
+
+-- the fields after the word: operand by operand, then the tail
+unfoldable pub isFormed : List Operand → Tail → List Name → Bool
+isFormed [] t ws = isTail t ws
+isFormed (o ∷ os) t [] = false
+isFormed (o ∷ os) t (w ∷ ws) = let r : Bool = isFormed os t ws in isOperand o w && r
+
+-- a line: its kind, and its fields after the word
+pub record Line : Type 0 where
+  pub kind : Kind
+  pub fields : List Name
+
+-- 3: "byte other than tab, LF, 33 to 126; or last line without LF"; 4: "unknown word, wrong count or form of fields"
+unfoldable pub readLine : Name → Try Refusal Line
+readLine l = do
+  check (clean l) badByte
+  k ← orElse (kindOf (getD (Text.fields l) 0 [])) malformed
+  check (isFormed (form k .operands) (form k .tail) (drop 1 (Text.fields l))) malformed
+  ok (record { kind = k; fields = drop 1 (Text.fields l) })
+
+-- Everything above computes where this unfolds.
+unfoldable pub opened : Unit {0}
+unfolding stands statement form kindNumber isKind isStatement kindOf isOperand isTail isFormed readLine
+opened = tt

@@ -1,0 +1,98 @@
+-- What each line adds to the program, its names resolved to numbers: numbers 6, 7, 9 line by line.
+use mathlib.Core.List.{List, [], _∷_, map}
+use Prim.Native.Nat.{ℕ, suc}
+use Rattle.rules.specs.Base.{Name, Try, ok, no, _>>=_, _>>_, check, is}
+use Rattle.rules.specs.Answers.{Refusal, Verdict, accepted, refused, atLine, then, undeclared, wrongType, wrongTarget}
+use Rattle.rules.specs.Syntax as Syntax
+use Rattle.rules.specs.Syntax.{Expr, Atom, Formula, Stmt, num, null, var, path, acc, cmp}
+use Rattle.rules.specs.Syntax.{set, assign, new, call, return, assert, release, simple, if, else, join, end}
+use Rattle.rules.specs.Text.{exprOf, relOf, formulaOf}
+use Rattle.rules.specs.Grammar.{Kind, Line}
+use Rattle.rules.specs.Grammar.{Class, Field, Method, Requires, Ensures, Main, Var, Set, Let, New, Call, Return, Assert, Release, If, Else, Join, End}
+use Rattle.rules.specs.Scope.{Declarations, Variable, Scope, operand, atomsOf, visible, scopeAfter}
+use Rattle.rules.specs.Names.{variableNumber, variableType, fieldNumber, classNumber, methodNumber, allKnown, allTyped, allAssignable}
+
+-- what a line adds to the program, its names resolved; of a local its name, which the program prints
+pub data Item : Type 0 where
+  aClass : Item
+  aField : Syntax.Field → Item
+  aMethod : Item
+  aRequires : Formula ℕ → Item
+  anEnsures : Formula ℕ → Item
+  aMain : Item
+  aLocal : Name → Item
+  aStatement : Stmt → Item
+
+-- vs: the variables that the line may name
+module _ (Γ : Declarations) (vs : List Variable) where
+  unfoldable pub resolveExpr : Expr Name → Expr ℕ
+  resolveExpr (num n) = num n
+  resolveExpr null = null
+  resolveExpr (var x) = var (variableNumber vs x)
+  resolveExpr (path x f) = path (variableNumber vs x) (fieldNumber Γ f)
+
+  unfoldable pub resolveAtom : Atom Name → Atom ℕ
+  resolveAtom (acc x f) = acc (variableNumber vs x) (fieldNumber Γ f)
+  resolveAtom (cmp n a b) = cmp n (resolveExpr a) (resolveExpr b)
+
+  unfoldable pub resolveFormula : Line → Formula ℕ
+  resolveFormula l = map resolveAtom (formulaOf (atomsOf l))
+
+  unfoldable pub resolveField : Line → Syntax.Field
+  resolveField l = record { name = fieldNumber Γ (operand l 1); int = is "int" (operand l 0) }
+
+  unfoldable pub resolveSet : Line → Stmt
+  resolveSet l = simple (set (variableNumber vs (operand l 0)) (fieldNumber Γ (operand l 1)) (variableNumber vs (operand l 2)))
+
+  unfoldable pub resolveCall : Line → Stmt
+  resolveCall l =
+      simple
+      (call
+      (variableNumber vs (operand l 0))
+      (variableNumber vs (operand l 1))
+      (methodNumber Γ (variableType vs (operand l 1)) (operand l 2))
+      (variableNumber vs (operand l 3)))
+
+  unfoldable pub resolveIf : Line → Stmt
+  resolveIf l = if (relOf (operand l 0)) (resolveExpr (exprOf (operand l 1))) (resolveExpr (exprOf (operand l 2)))
+
+  unfoldable pub itemOf : Kind → Line → Item
+  itemOf Class l = aClass
+  itemOf Field l = aField (resolveField l)
+  itemOf Method l = aMethod
+  itemOf Requires l = aRequires (resolveFormula l)
+  itemOf Ensures l = anEnsures (resolveFormula l)
+  itemOf Main l = aMain
+  itemOf Var l = aLocal (operand l 1)
+  itemOf Set l = aStatement (resolveSet l)
+  itemOf Let l = aStatement (simple (assign (variableNumber vs (operand l 0)) (resolveExpr (exprOf (operand l 1)))))
+  itemOf New l = aStatement (simple (new (variableNumber vs (operand l 0)) (classNumber Γ (operand l 1))))
+  itemOf Call l = aStatement (resolveCall l)
+  itemOf Return l = aStatement (simple (return (variableNumber vs (operand l 0))))
+  itemOf Assert l = aStatement (simple (assert (resolveFormula l)))
+  itemOf Release l = aStatement (simple (release (resolveFormula l)))
+  itemOf If l = aStatement (resolveIf l)
+  itemOf Else l = aStatement else
+  itemOf Join l = aStatement (join (resolveFormula l))
+  itemOf End l = aStatement end
+
+module _ (Γ : Declarations) where
+  -- 6, 7, 9: "(for two on one line the lower)"
+  unfoldable pub resolveLine : Scope → Line → Try Refusal Item
+  resolveLine s l = do
+    let vs : List Variable = visible (s .block) (l .kind)
+    check (allKnown Γ vs s l) undeclared
+    check (allTyped Γ vs l) wrongType
+    check (allAssignable vs l) wrongTarget
+    ok (itemOf Γ vs (l .kind) l)
+
+  -- the lines after n lines above
+  unfoldable pub resolveLines : List Line → ℕ → Scope → Verdict (List Item)
+  resolveLines [] n s = accepted []
+  resolveLines (l ∷ ls) n s =
+      atLine (suc n) (resolveLine s l) λ a. then (resolveLines ls (suc n) (scopeAfter s l)) λ rest. accepted (a ∷ rest)
+
+-- Everything above computes where this unfolds.
+unfoldable pub opened : Unit {0}
+unfolding resolveExpr resolveAtom resolveFormula resolveField resolveSet resolveCall resolveIf itemOf resolveLine resolveLines
+opened = tt
