@@ -10,10 +10,11 @@ use Rattle.rules.specs.Syntax.{Method, Program, noMethod}
 use Rattle.rules.specs.State.{empty}
 use Rattle.rules.specs.Rules.{checkMethod, checkBlocks, checkProgram}
 use Rattle.rules.specs.Machine.{Config, Room, Step, Outcome, on, stop, done, step, run, goOn, ends, start, runProgram}
+use Rattle.rules.specs.Demand.{NotStuck}
 use Rattle.rules.proofs.Tries.{then-accepted}
 use Rattle.rules.proofs.Disjoint.{start-none}
 use Rattle.soundness.specs.WellFormed.{WellFormed}
-use Rattle.soundness.specs.Endings.{NotStuck, NotStuckNumber}
+use Rattle.soundness.specs.Endings.{EndsUnstuck}
 use Rattle.soundness.proofs.Satisfied.{satisfied-empty}
 use Rattle.soundness.proofs.Branches.{Accepts}
 use Rattle.soundness.proofs.Stack.{at-row, Invariant}
@@ -39,13 +40,13 @@ main-accepted P (M ∷ Ms) e =
 module _ (room : Room) (P : Program) (W : WellFormed P) (all : MethodsAccepted P) where
   goes-on :
       (t : Step) (n : ℕ) (m : Config) (k : Config → Outcome) → Fine P t →
-      ((m′ : Config) → Invariant P m′ → NotStuck (k m′ .ending)) → NotStuck (goOn t n m k .ending)
+      ((m′ : Config) → Invariant P m′ → EndsUnstuck (k m′ .ending)) → EndsUnstuck (goOn t n m k .ending)
   unfolding goOn ends
   goes-on (on m′) n m k f h = h m′ f
   goes-on (stop r) n m k f h = f
   goes-on done n m k f h = tt
 
-  run-not-stuck : (k n : ℕ) (m : Config) → Invariant P m → NotStuck (run room P k n m .ending)
+  run-not-stuck : (k n : ℕ) (m : Config) → Invariant P m → EndsUnstuck (run room P k n m .ending)
   unfolding run ends
   run-not-stuck zero n m I = tt
   run-not-stuck (suc k) n m I =
@@ -63,24 +64,25 @@ start-invariant P W k =
     }
 
 -- THE CLAIM
-pub accepted-never-stuck :
-    (P : Program) → WellFormed P → checkProgram P ≡ accepted tt → (room : Room) (k : ℕ) → NotStuck (runProgram room P k .ending)
+pub accepted-ends-unstuck :
+    (P :
+    Program) → WellFormed P → checkProgram P ≡ accepted tt → (room : Room) (k : ℕ) → EndsUnstuck (runProgram room P k .ending)
 unfolding checkProgram runProgram
-accepted-never-stuck P W e room k =
+accepted-ends-unstuck P W e room k =
     run-not-stuck room P W (methods-accepted P (P .methods) e) k 0 (start P) (start-invariant P W (main-accepted P (P .methods) e))
 
 -- in numbers
-pub not-stuck-number : (e : Ending) → NotStuck e → NotStuckNumber (endingNumber e)
+pub unstuck-number : (e : Ending) → EndsUnstuck e → NotStuck (endingNumber e)
 unfolding endingNumber stopNumber
-not-stuck-number finished k = inl refl
-not-stuck-number stepsTaken k = inr (inl refl)
-not-stuck-number (stopped heapFull) k = inr (inr (inl refl))
-not-stuck-number (stopped framesFull) k = inr (inr (inr refl))
-not-stuck-number (stopped permissionMissing) k = absurd k
-not-stuck-number (stopped nullFollowed) k = absurd k
-not-stuck-number (stopped formulaFalse) k = absurd k
+unstuck-number finished k = inl refl
+unstuck-number stepsTaken k = inr (inl refl)
+unstuck-number (stopped heapFull) k = inr (inr (inl refl))
+unstuck-number (stopped framesFull) k = inr (inr (inr refl))
+unstuck-number (stopped permissionMissing) k = absurd k
+unstuck-number (stopped nullFollowed) k = absurd k
+unstuck-number (stopped formulaFalse) k = absurd k
 
-pub accepted-number :
+pub accepted-not-stuck :
     (P : Program) → WellFormed P → checkProgram P ≡ accepted tt → (room : Room) (k : ℕ) →
-    NotStuckNumber (endingNumber (runProgram room P k .ending))
-accepted-number P W e room k = not-stuck-number (runProgram room P k .ending) (accepted-never-stuck P W e room k)
+    NotStuck (endingNumber (runProgram room P k .ending))
+accepted-not-stuck P W e room k = unstuck-number (runProgram room P k .ending) (accepted-ends-unstuck P W e room k)
