@@ -1,0 +1,168 @@
+-- The item of each line that is taken is formed: `requires` names `this` and w, `ensures` also `result`, a statement assigns a local,
+-- and a call's x is neither its y nor its z.
+use mathlib.Core.Path.{_≡_, refl, ap, subst}
+use mathlib.Core.Bool.{Bool, true, false, not, cond}
+use mathlib.Core.List.{List, [], _∷_, _++_}
+use mathlib.Core.Logic.{inl, inr, ⊎-elim}
+use Prim.Native.Nat.{ℕ, _≤_, _<_}
+use native.Mathlib.Omega.{arith}
+use lib.Dec.{T, T-not, eqb, eqb-refl, leb, leb→le, le→leb, lit<, lit≤}
+use lib.ListN.{length, getD}
+use Rattle.rules.specs.Base.{Name, all, between}
+use Rattle.rules.specs.Base as Base
+use Rattle.rules.specs.Syntax.{first-local, result-variable}
+use Rattle.rules.specs.Grammar.{Kind, Stage, Line, form, isKind, typeName, variable, assigned, afterHeader, afterRequires, afterMethod, afterMain}
+use Rattle.rules.specs.Grammar.{Class, Field, Method, Requires, Ensures, Main, Var, Set, Let, New, Call, Return, Assert, Release, If, Else, Join, End}
+use Rattle.rules.specs.Grammar as Grammar
+use Rattle.rules.specs.Places.{Place, firstPlace, stageNumber, inPlace, fits, placeAfter, stageAfter}
+use Rattle.rules.specs.Places as Places
+use Rattle.rules.specs.Scope.{Variable, Block, Scope, declarations, operand, methodBlock, blockAfter, scopeAfter, visible, firstScope, slots}
+use Rattle.rules.specs.Scope as Scope
+use Rattle.rules.specs.Names.{variableNumber, isLocal, mayBeAssigned, callApart, allAssignable}
+use Rattle.rules.specs.Items.{Item, itemOf, aClass, aField, aMethod, aRequires, anEnsures, aMain, aLocal, aStatement}
+use Rattle.rules.specs.Items as Items
+use Rattle.rules.proofs.Lists.{Member, head-or, append-member, or-cases, and-both, and-intro}
+use Rattle.soundness.specs.WellFormed.{Over, AtCall, AtEnd, StmtFormed}
+use Rattle.soundness.proofs.LinesTaken.{HasForm, Taken, TakenLines, none, line}
+use Rattle.soundness.proofs.NamesInScope.{operand-passes, formula-over}
+
+abbrev pub ItemFormed : Item → Type 0
+ItemFormed aClass = Unit {0}
+ItemFormed (aField f) = Unit {0}
+ItemFormed aMethod = Unit {0}
+ItemFormed (aRequires φ) = Over AtCall φ
+ItemFormed (anEnsures φ) = Over AtEnd φ
+ItemFormed aMain = Unit {0}
+ItemFormed (aLocal x) = Unit {0}
+ItemFormed (aStatement s) = StmtFormed s
+
+abbrev pub AllFormed : List Item → Type 0
+AllFormed [] = Unit {0}
+AllFormed (a ∷ items) = ItemFormed a × AllFormed items
+
+-- HEADERS: from a `method` line to its `ensures` the block has no locals yet
+record Header (b : Block) : Type 0 where
+  variables : (v : Variable) → Member v (b .variables) → AtCall (v .number)
+  result : (v : Variable) → Member v (b .result) → v .number ≡ result-variable
+
+method-header : (C T U w : Name) → Header (methodBlock C T U w)
+unfolding methodBlock
+method-header C T U w =
+    record {
+      variables =
+          λ v i.
+          ⊎-elim
+          (λ j. ⊎-elim (λ k. elim k [ ]) (λ e. inr (ap (λ (v : Variable). v .number) e)) (head-or j))
+          (λ e. inl (ap (λ (v : Variable). v .number) e))
+          (head-or i);
+      result = λ v i. ⊎-elim (λ j. elim j [ ]) (λ e. ap (λ (v : Variable). v .number) e) (head-or i);
+    }
+
+header-ends : (b : Block) → Header b → (v : Variable) → Member v (b .variables ++ b .result) → AtEnd (v .number)
+header-ends b H v i =
+    ⊎-elim (λ j. inl (H .variables v j)) (λ j. inr (H .result v j)) (append-member (b .variables) (b .result) v i)
+
+abbrev inHeader : Stage → Bool
+inHeader st = between (stageNumber afterHeader) (stageNumber afterRequires) (stageNumber st)
+
+abbrev HeaderAt : Stage → Block → Type 0
+HeaderAt st b = T (inHeader st) → Header b
+
+wider : (a z b y n : ℕ) → b ≤ a → z ≤ y → T (between a z n) → T (between b y n)
+unfolding between
+wider a z b y n l u t =
+    let (i, j) = and-both (leb a n) (leb n z) t in
+    and-intro (leb b n) (leb n y) (omega (arith, leb→le, le→leb)) (omega (arith, leb→le, le→leb))
+
+-- a kind of line that stands in headers only
+stands-in-header :
+    (k : Kind) (p : Place) → stageNumber afterHeader ≤ stageNumber (form k .first) →
+    stageNumber (form k .last) ≤ stageNumber afterRequires → T (inPlace k p) → T (inHeader (p .stage))
+unfolding inPlace
+stands-in-header k p a z t = wider _ _ _ _ (stageNumber (p .stage)) a z (and-both (between _ _ (stageNumber (p .stage))) _ t .0)
+
+after-end : (main : Bool) → T (inHeader (cond main afterMain afterMethod)) → ⊥
+unfolding stageNumber between
+after-end true h = h
+after-end false h = h
+
+-- STATEMENTS
+differ : (a b : ℕ) → T (not (eqb a b)) → a ≡ b → ⊥
+differ a b t e = T-not (eqb a b) t (subst (λ w. T (eqb a w)) e (eqb-refl a))
+
+module _ (vs : List Variable) (l : Line) where
+  assignable-both :
+      T (allAssignable vs l) → T (all (λ a. mayBeAssigned vs (a .operand) (a .name)) (slots l)) × T (callApart vs l)
+  unfolding allAssignable
+  assignable-both t = and-both (all (λ a. mayBeAssigned vs (a .operand) (a .name)) (slots l)) (callApart vs l) t
+
+  -- the i-th operand, where it is one that is assigned
+  assigned-local :
+      (i : ℕ) → i < length (form (l .kind) .operands) → getD (form (l .kind) .operands) i typeName ≡ variable assigned →
+      HasForm l → T (allAssignable vs l) → first-local ≤ variableNumber vs (operand l i)
+  unfolding mayBeAssigned isLocal
+  assigned-local i b e f t =
+      let x : ℕ = variableNumber vs (operand l i) in
+      let (_, h) = operand-passes (λ a. mayBeAssigned vs (a .operand) (a .name)) l i b f (assignable-both t .0) in
+      let h′ : T (isLocal x) = subst (λ o. T (mayBeAssigned vs o (operand l i))) e h in
+      leb→le first-local x (and-both (leb first-local x) _ h′ .0)
+
+  -- of a call
+  target-apart :
+      T (isKind Call (l .kind)) → T (allAssignable vs l) →
+      (variableNumber vs (operand l 0) ≡ variableNumber vs (operand l 1) → ⊥)
+      × (variableNumber vs (operand l 0) ≡ variableNumber vs (operand l 3) → ⊥)
+  unfolding callApart
+  target-apart c t =
+      let x : ℕ = variableNumber vs (operand l 0) in
+      let h = or-cases (not (isKind Call (l .kind))) _ (assignable-both t .1) in
+      ⊎-elim (λ n. absurd (T-not (isKind Call (l .kind)) n c))
+      (λ d. let (y, z) = and-both (not (eqb x (variableNumber vs (operand l 1)))) _ d in (differ x _ y, differ x _ z))
+      h
+
+-- LINES, kind by kind: the item, and whether the next line stands in a header
+module _ (text : List Line) (p : Place) (s : Scope) where
+  line-formed :
+      (k : Kind) (ws : List Name) → Taken text p s (record { kind = k; fields = ws }) → HeaderAt (p .stage) (s .block) →
+      ItemFormed (itemOf (declarations text) (visible (s .block) k) k (record { kind = k; fields = ws }))
+      × HeaderAt (stageAfter k p) (blockAfter (s .members .class) (s .block) (record { kind = k; fields = ws }))
+  unfolding Base.opened Grammar.opened Places.opened Scope.opened Items.opened
+  line-formed Class ws t h = (tt, absurd)
+  line-formed Field ws t h = (tt, absurd)
+  line-formed Method ws t h = (tt, λ _. method-header _ _ _ _)
+  line-formed Requires ws t h =
+      let H : Header (s .block) = h (stands-in-header Requires p (lit≤ tt) (lit≤ tt) (t .in-place)) in
+      (formula-over (declarations text) (s .block .variables) AtCall (H .variables) s _ (t .known), λ _. H)
+  line-formed Ensures ws t h =
+      let H : Header (s .block) = h (stands-in-header Ensures p (lit≤ tt) (lit≤ tt) (t .in-place)) in
+      (formula-over (declarations text) (s .block .variables ++ s .block .result) AtEnd (header-ends (s .block) H) s _ (t .known), absurd)
+  line-formed Main ws t h = (tt, absurd)
+  line-formed Var ws t h = (tt, absurd)
+  line-formed Set ws t h = (tt, absurd)
+  line-formed Let ws t h = (assigned-local _ _ 0 (lit< tt) refl (t .formed) (t .assignable), absurd)
+  line-formed New ws t h = (assigned-local _ _ 0 (lit< tt) refl (t .formed) (t .assignable), absurd)
+  line-formed Call ws t h =
+      let (y, z) = target-apart _ _ tt (t .assignable) in
+      ((assigned-local _ _ 0 (lit< tt) refl (t .formed) (t .assignable), y, z), absurd)
+  line-formed Return ws t h = (tt, absurd)
+  line-formed Assert ws t h = (tt, absurd)
+  line-formed Release ws t h = (tt, absurd)
+  line-formed If ws t h = (tt, absurd)
+  line-formed Else ws t h = (tt, absurd)
+  line-formed Join ws t h = (tt, absurd)
+  line-formed End ws t h = (tt, λ i. absurd (after-end (p .main) i))
+
+module _ (text : List Line) where
+  lines-formed :
+      (p : Place) (s : Scope) (ls : List Line) (items : List Item) → TakenLines text p s ls items →
+      HeaderAt (p .stage) (s .block) → AllFormed items
+  unfolding placeAfter scopeAfter
+  lines-formed p s ls items none h = tt
+  lines-formed p s ls items (line {l = l} {ls = ls′} {items = items′} t ts) h =
+      let (a, b) = line-formed text p s (l .kind) (l .fields) t h in (a, lines-formed _ _ ls′ items′ ts b)
+
+-- an accepted text's items are formed: its first line stands in no header
+pub items-formed :
+    (text : List Line) (items : List Item) → TakenLines text firstPlace firstScope text items → AllFormed items
+unfolding stageNumber between
+items-formed text items ts = lines-formed text firstPlace firstScope text items ts absurd
