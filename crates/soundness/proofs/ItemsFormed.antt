@@ -24,7 +24,7 @@ use Rattle.rules.specs.Items as Items
 use Rattle.rules.proofs.Lists.{Member, head-or, append-member, or-cases, and-both, and-intro}
 use Rattle.soundness.specs.WellFormed.{Over, AtCall, AtEnd, StmtFormed}
 use Rattle.soundness.proofs.LinesTaken.{HasForm, Taken, TakenLines, none, line}
-use Rattle.soundness.proofs.NamesInScope.{operand-passes, formula-over}
+use Rattle.soundness.proofs.NamesInScope.{assigned-local, target-apart, formula-over}
 
 abbrev pub ItemFormed : Item → Type 0
 ItemFormed aClass = Unit {0}
@@ -85,40 +85,6 @@ after-end : (main : Bool) → T (inHeader (cond main afterMain afterMethod)) →
 unfolding stageNumber between
 after-end true h = h
 after-end false h = h
-
--- STATEMENTS
-differ : (a b : ℕ) → T (not (eqb a b)) → a ≡ b → ⊥
-differ a b t e = T-not (eqb a b) t (subst (λ w. T (eqb a w)) e (eqb-refl a))
-
-module _ (vs : List Variable) (l : Line) where
-  assignable-both :
-      T (allAssignable vs l) → T (all (λ a. mayBeAssigned vs (a .operand) (a .name)) (slots l)) × T (callApart vs l)
-  unfolding allAssignable
-  assignable-both t = and-both (all (λ a. mayBeAssigned vs (a .operand) (a .name)) (slots l)) (callApart vs l) t
-
-  -- the i-th operand, where it is one that is assigned
-  assigned-local :
-      (i : ℕ) → i < length (form (l .kind) .operands) → getD (form (l .kind) .operands) i typeName ≡ variable assigned →
-      HasForm l → T (allAssignable vs l) → first-local ≤ variableNumber vs (operand l i)
-  unfolding mayBeAssigned isLocal
-  assigned-local i b e f t =
-      let x : ℕ = variableNumber vs (operand l i) in
-      let (_, h) = operand-passes (λ a. mayBeAssigned vs (a .operand) (a .name)) l i b f (assignable-both t .0) in
-      let h′ : T (isLocal x) = subst (λ o. T (mayBeAssigned vs o (operand l i))) e h in
-      leb→le first-local x (and-both (leb first-local x) _ h′ .0)
-
-  -- of a call
-  target-apart :
-      T (isKind Call (l .kind)) → T (allAssignable vs l) →
-      (variableNumber vs (operand l 0) ≡ variableNumber vs (operand l 1) → ⊥)
-      × (variableNumber vs (operand l 0) ≡ variableNumber vs (operand l 3) → ⊥)
-  unfolding callApart
-  target-apart c t =
-      let x : ℕ = variableNumber vs (operand l 0) in
-      let h = or-cases (not (isKind Call (l .kind))) _ (assignable-both t .1) in
-      ⊎-elim (λ n. absurd (T-not (isKind Call (l .kind)) n c))
-      (λ d. let (y, z) = and-both (not (eqb x (variableNumber vs (operand l 1)))) _ d in (differ x _ y, differ x _ z))
-      h
 
 -- LINES, kind by kind: the item, and whether the next line stands in a header
 module _ (text : List Line) (p : Place) (s : Scope) where

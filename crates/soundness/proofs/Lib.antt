@@ -18,3 +18,4 @@ pub mod FrameKept
 pub mod LinesTaken
 pub mod NamesInScope
 pub mod ItemsFormed
+pub mod FieldsDiffer

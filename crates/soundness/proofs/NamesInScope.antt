@@ -1,20 +1,22 @@
 -- What the tests of a line's names say of the numbers that these names get.
-use mathlib.Core.Bool.{Bool, true, false, cond, _||_}
+use mathlib.Core.Path.{_≡_, refl, ap₂, subst}
+use mathlib.Core.Bool.{Bool, true, false, not, cond, _&&_, _||_}
 use mathlib.Core.List.{List, [], _∷_, _++_, map}
+use mathlib.Core.Logic.{⊎-elim}
 use mathlib.Core.Option.{some}
-use Prim.Native.Nat.{ℕ, zero, suc, _<_}
+use Prim.Native.Nat.{ℕ, zero, suc, _≤_, _<_}
 use native.Mathlib.Omega.{arith}
-use lib.Dec.{T}
+use lib.Dec.{T, T-not, eqb, eqb→eq, eqb-refl, leb, leb→le}
 use lib.ListN.{length, getD}
-use Rattle.rules.specs.Base.{Name, withDefault, is, any, all, first}
-use Rattle.rules.specs.Syntax.{Expr, Formula, num, null, var, path, acc, cmp}
-use Rattle.rules.specs.Text.{relOf, exprOf, atomOf, formulaOf}
-use Rattle.rules.specs.Grammar.{Operand, Tail, Line, form, isOperand, isFormed, typeName}
-use Rattle.rules.specs.Grammar.{read, field, variable, member, expression}
-use Rattle.rules.specs.Scope.{Declarations, Variable, Scope, Slot, operand, slotsFrom, atomOperands, atomSlots, atomsOf, slots}
-use Rattle.rules.specs.Names.{noVariable, inScope, lookUp, variableNumber, knownExpr, known, allKnown}
+use Rattle.rules.specs.Base.{Name, withDefault, is, eqName, any, all, first}
+use Rattle.rules.specs.Syntax.{Expr, Formula, first-local, num, null, var, path, acc, cmp}
+use Rattle.rules.specs.Text.{reserved, relOf, exprOf, atomOf, formulaOf}
+use Rattle.rules.specs.Grammar.{Space, Operand, Tail, Line, Call, form, isKind, isOperand, isFormed}
+use Rattle.rules.specs.Grammar.{read, assigned, field, new, typeName, variable, member, expression}
+use Rattle.rules.specs.Scope.{Declarations, Variable, Scope, Slot, operand, declaredIn, slotsFrom, atomOperands, atomSlots, atomsOf, slots}
+use Rattle.rules.specs.Names.{noVariable, isLocal, inScope, lookUp, variableNumber, knownExpr, known, allKnown, mayBeAssigned, callApart, allAssignable}
 use Rattle.rules.specs.Items.{resolveExpr, resolveAtom, resolveFormula}
-use Rattle.rules.proofs.Lists.{Member, at-head, further, and-both, and-intro}
+use Rattle.rules.proofs.Lists.{Member, at-head, further, any-in, or-cases, and-both, and-intro}
 use Rattle.soundness.specs.WellFormed.{TermOver, Over}
 use Rattle.soundness.proofs.LinesTaken.{HasForm}
 
@@ -38,6 +40,19 @@ module _ {A : Type 0} (t : A → Bool) where
       go true h ih = at-head
       go false h ih = further (ih h)
 
+-- NAMES
+pub same-name : (a b : Name) → T (eqName a b) → a ≡ b
+unfolding eqName
+same-name [] [] t = refl
+same-name [] (y ∷ b) t = absurd t
+same-name (x ∷ a) [] t = absurd t
+same-name (x ∷ a) (y ∷ b) t = let (h, r) = and-both (eqb x y) (eqName a b) t in ap₂ _∷_ (eqb→eq x y h) (same-name a b r)
+
+pub name-same : (a : Name) → T (eqName a a)
+unfolding eqName
+name-same [] = tt
+name-same (x ∷ a) = and-intro (eqb x x) (eqName a a) (eqb-refl x) (name-same a)
+
 -- OPERANDS: a test that passes at each field of a line passes at the i-th, with the operand that the line's kind has there
 module _ (t : Slot → Bool) where
   slot-passes :
@@ -57,6 +72,52 @@ module _ (t : Slot → Bool) where
   operand-passes l i b f a =
       slot-passes [] (form (l .kind) .operands) (form (l .kind) .tail) (l .fields) i b f
       (all-append t (slotsFrom [] (form (l .kind) .operands) (l .fields)) (atomSlots (atomsOf l)) a .0)
+
+-- what is new is not among the names above
+pub new-apart :
+    (Γ : Declarations) (vs : List Variable) (s : Scope) (l : Line) (i : ℕ) (a : Space) → i < length (form (l .kind) .operands) →
+    getD (form (l .kind) .operands) i typeName ≡ new a → HasForm l → T (allKnown Γ vs s l) →
+    (g : Name) → Member g (declaredIn s a) → operand l i ≡ g → ⊥
+unfolding allKnown known
+new-apart Γ vs s l i a b e f t g j d =
+    let w : Name = operand l i in
+    let (u, h) = operand-passes (λ a. known Γ vs s (a .operand) (a .before) (a .name)) l i b f t in
+    let h′ : T (not (reserved w) && not (any (eqName w) (declaredIn s a))) = subst (λ o. T (known Γ vs s o u w)) e h in
+    T-not (any (eqName w) (declaredIn s a)) (and-both (not (reserved w)) _ h′ .1)
+    (any-in (eqName w) (declaredIn s a) g j (subst (λ v. T (eqName w v)) d (name-same w)))
+
+differ : (a b : ℕ) → T (not (eqb a b)) → a ≡ b → ⊥
+differ a b t e = T-not (eqb a b) t (subst (λ w. T (eqb a w)) e (eqb-refl a))
+
+module _ (vs : List Variable) (l : Line) where
+  assignable-both :
+      T (allAssignable vs l) → T (all (λ a. mayBeAssigned vs (a .operand) (a .name)) (slots l)) × T (callApart vs l)
+  unfolding allAssignable
+  assignable-both t = and-both (all (λ a. mayBeAssigned vs (a .operand) (a .name)) (slots l)) (callApart vs l) t
+
+  -- what is assigned is a local
+  pub assigned-local :
+      (i : ℕ) → i < length (form (l .kind) .operands) → getD (form (l .kind) .operands) i typeName ≡ variable assigned →
+      HasForm l → T (allAssignable vs l) → first-local ≤ variableNumber vs (operand l i)
+  unfolding mayBeAssigned isLocal
+  assigned-local i b e f t =
+      let x : ℕ = variableNumber vs (operand l i) in
+      let (_, h) = operand-passes (λ a. mayBeAssigned vs (a .operand) (a .name)) l i b f (assignable-both t .0) in
+      let h′ : T (isLocal x) = subst (λ o. T (mayBeAssigned vs o (operand l i))) e h in
+      leb→le first-local x (and-both (leb first-local x) _ h′ .0)
+
+  -- a call's x is neither its y nor its z
+  pub target-apart :
+      T (isKind Call (l .kind)) → T (allAssignable vs l) →
+      (variableNumber vs (operand l 0) ≡ variableNumber vs (operand l 1) → ⊥)
+      × (variableNumber vs (operand l 0) ≡ variableNumber vs (operand l 3) → ⊥)
+  unfolding callApart
+  target-apart c t =
+      let x : ℕ = variableNumber vs (operand l 0) in
+      let h = or-cases (not (isKind Call (l .kind))) _ (assignable-both t .1) in
+      ⊎-elim (λ n. absurd (T-not (isKind Call (l .kind)) n c))
+      (λ d. let (y, z) = and-both (not (eqb x (variableNumber vs (operand l 1)))) _ d in (differ x _ y, differ x _ z))
+      h
 
 -- FORMULAS: where each variable in scope has a number with the property Q, so have those of a formula whose names are known
 module _ (Γ : Declarations) (vs : List Variable) (Q : ℕ → Type 0) (has : (v : Variable) → Member v vs → Q (v .number)) where
