@@ -1,30 +1,31 @@
 -- The fields of a class have different numbers: their names are new where they are declared, and two declared names have two numbers.
-use mathlib.Core.Path.{_≡_, refl, sym, ap, ap₂, _∙_, subst}
-use mathlib.Core.Bool.{Bool, true, false, not, cond, _||_}
+use mathlib.Core.Path.{_≡_, refl, sym, _∙_, subst}
+use mathlib.Core.Bool.{Bool, true, false, cond, _||_}
 use mathlib.Core.List.{List, [], _∷_, _++_}
 use mathlib.Core.Logic.{⊎-elim}
 use Prim.Native.Nat.{ℕ, zero, suc, pred}
 use native.Mathlib.Omega.{arith}
-use lib.Dec.{T, T-not, eqb, eqb→eq, eqb-refl, lit<}
+use lib.Dec.{T, lit<}
 use lib.ListN.{getD}
 use Rattle.rules.specs.Base.{Name, eqName, any, index}
 use Rattle.rules.specs.Syntax as Syntax
 use Rattle.rules.specs.Grammar.{Kind, Line, isKind, fields}
 use Rattle.rules.specs.Grammar.{Class, Field, Method, Requires, Ensures, Main, Var, Set, Let, New, Call, Return, Assert, Release, If, Else, Join, End}
 use Rattle.rules.specs.Grammar as Grammar
-use Rattle.rules.specs.Places.{Place, placeAfter, firstPlace}
+use Rattle.rules.specs.Places.{Place, firstPlace}
 use Rattle.rules.specs.Scope.{FieldDeclaration, Scope, declarations, operand, classesAbove, fieldsOf, scopeAfter, visible, firstScope}
 use Rattle.rules.specs.Scope as Scope
-use Rattle.rules.specs.Names.{fieldNumber, known, allKnown}
+use Rattle.rules.specs.Names.{fieldNumber}
 use Rattle.rules.specs.Items.{Item, itemOf}
 use Rattle.rules.specs.Items as Items
 use Rattle.rules.specs.Reading.{Parts, parts, withItem, partsFrom}
-use Rattle.rules.proofs.Lists.{Member, at-head, further, head-or, member-left, member-right, any-in, or-left, or-right, and-both, and-intro}
+use Rattle.rules.proofs.Lists.{Member, at-head, head-or, member-left, member-right, or-left, or-right}
 use Rattle.soundness.specs.WellFormed.{NoneNamed, NamesDiffer}
-use Rattle.soundness.proofs.LinesTaken.{Taken, TakenLines, none, line}
+use Rattle.soundness.proofs.LinesTaken.{lineOf, Taken, TakenLines, TakenText, none, line}
 use Rattle.soundness.proofs.NamesInScope.{same-name, name-same, new-apart}
 
--- NAMES AND THEIR NUMBERS
+-- NUMBERS OF NAMES
+
 -- two tests that find one place find one element
 index-same :
     {A : Type 0} (p q : A → Bool) (l : List A) → T (any p l) → index p l ≡ index q l → (a : A) × T (p a) × T (q a)
@@ -70,7 +71,18 @@ field-declared c (m ∷ ls) l t i =
     (subst (λ (k : Line). T (eqName (operand k 1) (operand l 1))) e (name-same (operand l 1))))
     (head-or i)
 
+-- CLASSES
+abbrev AllDiffer : List (List Syntax.Field) → Type 0
+AllDiffer [] = Unit {0}
+AllDiffer (fs ∷ cs) = NamesDiffer fs × AllDiffer cs
+
+class-differs : (cs : List (List Syntax.Field)) → AllDiffer cs → (c : ℕ) → NamesDiffer (getD cs c [])
+class-differs [] D c = tt
+class-differs (fs ∷ cs) D zero = D .0
+class-differs (fs ∷ cs) D (suc c) = class-differs cs (D .1) c
+
 module _ (text : List Line) where
+  -- a declared name shares its number with no other
   same-number :
       (f g : Name) → T (any (named f) (declarations text .fields)) →
       fieldNumber (declarations text) f ≡ fieldNumber (declarations text) g → f ≡ g
@@ -79,18 +91,14 @@ module _ (text : List Line) where
       let (d, x, y) = index-same (named f) (named g) (declarations text .fields) t e in
       sym (same-name (d .name) f x) ∙ same-name (d .name) g y
 
-  -- LINES: what is shown of the classes and fields that the lines from one on declare, where `above` are the names of the fields
-  -- that its class has above it
-
-  abbrev AllDiffer : List (List Syntax.Field) → Type 0
-  AllDiffer [] = Unit {0}
-  AllDiffer (fs ∷ cs) = NamesDiffer fs × AllDiffer cs
-
+  -- these fields have none of these names
   abbrev Apart : List Name → List Syntax.Field → Type 0
   Apart above fs = (g : Name) → Member g above → NoneNamed (fieldNumber (declarations text) g) fs
 
-  pub record Differ (above : List Name) (cs : List (List Syntax.Field)) (fs : List Syntax.Field) : Type 0 where
-    pub classes : AllDiffer cs
+  -- what the lines from one on declare, whole classes and fields before the next `class`, where their class has the fields
+  -- `above` above them
+  record Differ (above : List Name) (cs : List (List Syntax.Field)) (fs : List Syntax.Field) : Type 0 where
+    classes : AllDiffer cs
     fields : NamesDiffer fs
     apart : Apart above fs
 
@@ -113,11 +121,12 @@ module _ (text : List Line) where
       }
 
   module _ (p : Place) (s : Scope) where
+    -- only `class` and `field` matter
     line-differs :
-        (k : Kind) (ws : List Name) → Taken text p s (record { kind = k; fields = ws }) → (n : ℕ) (q : Parts) →
-        PartsDiffer (scopeAfter s (record { kind = k; fields = ws }) .members .fields) q →
+        (k : Kind) (ws : List Name) → Taken text p s (lineOf k ws) → (n : ℕ) (q : Parts) →
+        PartsDiffer (scopeAfter s (lineOf k ws) .members .fields) q →
         PartsDiffer (s .members .fields)
-        (withItem n (itemOf (declarations text) (visible (s .block) k) k (record { kind = k; fields = ws })) q)
+        (withItem n (itemOf (declarations text) (visible (s .block) k) k (lineOf k ws)) q)
     unfolding Grammar.opened Scope.opened Items.opened parts withItem
     line-differs Class ws t n q D = with-class (s .members .fields) (q .classes) (q .fields) D
     line-differs Field ws t n q D =
@@ -148,14 +157,9 @@ module _ (text : List Line) where
   lines-differ p s ls items (line {l = l} {ls = ls′} {items = items′} t ts) n =
       line-differs p s (l .kind) (l .fields) t (suc n) (partsFrom (suc n) items′) (lines-differ _ _ ls′ items′ ts (suc n))
 
-  class-differs : (cs : List (List Syntax.Field)) → AllDiffer cs → (c : ℕ) → NamesDiffer (getD cs c [])
-  class-differs [] D c = tt
-  class-differs (fs ∷ cs) D zero = D .0
-  class-differs (fs ∷ cs) D (suc c) = class-differs cs (D .1) c
-
--- in each class
+-- THE CLAIM
 pub fields-differ :
-    (text : List Line) (items : List Item) → TakenLines text firstPlace firstScope text items → (c : ℕ) →
+    (text : List Line) (items : List Item) → TakenText text items → (c : ℕ) →
     NamesDiffer (getD (partsFrom 0 items .classes) c [])
 fields-differ text items ts =
-    class-differs text (partsFrom 0 items .classes) (lines-differ text firstPlace firstScope text items ts 0 .classes)
+    class-differs (partsFrom 0 items .classes) (lines-differ text firstPlace firstScope text items ts 0 .classes)

@@ -1,31 +1,30 @@
 -- The item of each line that is taken is formed: `requires` names `this` and w, `ensures` also `result`, a statement assigns a local,
 -- and a call's x is neither its y nor its z.
-use mathlib.Core.Path.{_≡_, refl, ap, subst}
-use mathlib.Core.Bool.{Bool, true, false, not, cond}
+use mathlib.Core.Path.{_≡_, refl, ap}
+use mathlib.Core.Bool.{Bool, true, false, cond}
 use mathlib.Core.List.{List, [], _∷_, _++_}
 use mathlib.Core.Logic.{inl, inr, ⊎-elim}
-use Prim.Native.Nat.{ℕ, _≤_, _<_}
+use Prim.Native.Nat.{ℕ, _≤_}
 use native.Mathlib.Omega.{arith}
-use lib.Dec.{T, T-not, eqb, eqb-refl, leb, leb→le, le→leb, lit<, lit≤}
-use lib.ListN.{length, getD}
-use Rattle.rules.specs.Base.{Name, all, between}
+use lib.Dec.{T, leb, leb→le, le→leb, lit<, lit≤}
+use Rattle.rules.specs.Base.{Name, between}
 use Rattle.rules.specs.Base as Base
-use Rattle.rules.specs.Syntax.{first-local, result-variable}
-use Rattle.rules.specs.Grammar.{Kind, Stage, Line, form, isKind, typeName, variable, assigned, afterHeader, afterRequires, afterMethod, afterMain}
+use Rattle.rules.specs.Syntax.{result-variable}
+use Rattle.rules.specs.Grammar.{Kind, Stage, Line, form, afterHeader, afterRequires, afterMethod, afterMain}
 use Rattle.rules.specs.Grammar.{Class, Field, Method, Requires, Ensures, Main, Var, Set, Let, New, Call, Return, Assert, Release, If, Else, Join, End}
 use Rattle.rules.specs.Grammar as Grammar
-use Rattle.rules.specs.Places.{Place, firstPlace, stageNumber, inPlace, fits, placeAfter, stageAfter}
+use Rattle.rules.specs.Places.{Place, firstPlace, stageNumber, inPlace, placeAfter, stageAfter}
 use Rattle.rules.specs.Places as Places
-use Rattle.rules.specs.Scope.{Variable, Block, Scope, declarations, operand, methodBlock, blockAfter, scopeAfter, visible, firstScope, slots}
+use Rattle.rules.specs.Scope.{Variable, Block, Scope, declarations, methodBlock, blockAfter, scopeAfter, visible, firstScope}
 use Rattle.rules.specs.Scope as Scope
-use Rattle.rules.specs.Names.{variableNumber, isLocal, mayBeAssigned, callApart, allAssignable}
 use Rattle.rules.specs.Items.{Item, itemOf, aClass, aField, aMethod, aRequires, anEnsures, aMain, aLocal, aStatement}
 use Rattle.rules.specs.Items as Items
-use Rattle.rules.proofs.Lists.{Member, head-or, append-member, or-cases, and-both, and-intro}
+use Rattle.rules.proofs.Lists.{Member, head-or, append-member, and-both, and-intro}
 use Rattle.soundness.specs.WellFormed.{Over, AtCall, AtEnd, StmtFormed}
-use Rattle.soundness.proofs.LinesTaken.{HasForm, Taken, TakenLines, none, line}
+use Rattle.soundness.proofs.LinesTaken.{lineOf, Taken, TakenLines, TakenText, none, line}
 use Rattle.soundness.proofs.NamesInScope.{assigned-local, target-apart, formula-over}
 
+-- what WellFormed asks of an item by itself
 abbrev pub ItemFormed : Item → Type 0
 ItemFormed aClass = Unit {0}
 ItemFormed (aField f) = Unit {0}
@@ -40,7 +39,7 @@ abbrev pub AllFormed : List Item → Type 0
 AllFormed [] = Unit {0}
 AllFormed (a ∷ items) = ItemFormed a × AllFormed items
 
--- HEADERS: from a `method` line to its `ensures` the block has no locals yet
+-- HEADERS: from a `method` line to its `ensures` the block has `this` and w, no locals yet, and `result` apart
 record Header (b : Block) : Type 0 where
   variables : (v : Variable) → Member v (b .variables) → AtCall (v .number)
   result : (v : Variable) → Member v (b .result) → v .number ≡ result-variable
@@ -58,6 +57,7 @@ method-header C T U w =
       result = λ v i. ⊎-elim (λ j. elim j [ ]) (λ e. ap (λ (v : Variable). v .number) e) (head-or i);
     }
 
+-- with `result`
 header-ends : (b : Block) → Header b → (v : Variable) → Member v (b .variables ++ b .result) → AtEnd (v .number)
 header-ends b H v i =
     ⊎-elim (λ j. inl (H .variables v j)) (λ j. inr (H .result v j)) (append-member (b .variables) (b .result) v i)
@@ -86,12 +86,12 @@ unfolding stageNumber between
 after-end true h = h
 after-end false h = h
 
--- LINES, kind by kind: the item, and whether the next line stands in a header
+-- LINES: kind by kind, the item is formed; and if the next line stands in a header, the block is one
 module _ (text : List Line) (p : Place) (s : Scope) where
   line-formed :
-      (k : Kind) (ws : List Name) → Taken text p s (record { kind = k; fields = ws }) → HeaderAt (p .stage) (s .block) →
-      ItemFormed (itemOf (declarations text) (visible (s .block) k) k (record { kind = k; fields = ws }))
-      × HeaderAt (stageAfter k p) (blockAfter (s .members .class) (s .block) (record { kind = k; fields = ws }))
+      (k : Kind) (ws : List Name) → Taken text p s (lineOf k ws) → HeaderAt (p .stage) (s .block) →
+      ItemFormed (itemOf (declarations text) (visible (s .block) k) k (lineOf k ws))
+      × HeaderAt (stageAfter k p) (blockAfter (s .members .class) (s .block) (lineOf k ws))
   unfolding Base.opened Grammar.opened Places.opened Scope.opened Items.opened
   line-formed Class ws t h = (tt, absurd)
   line-formed Field ws t h = (tt, absurd)
@@ -127,8 +127,7 @@ module _ (text : List Line) where
   lines-formed p s ls items (line {l = l} {ls = ls′} {items = items′} t ts) h =
       let (a, b) = line-formed text p s (l .kind) (l .fields) t h in (a, lines-formed _ _ ls′ items′ ts b)
 
--- an accepted text's items are formed: its first line stands in no header
-pub items-formed :
-    (text : List Line) (items : List Item) → TakenLines text firstPlace firstScope text items → AllFormed items
+-- the first line of a text stands in no header
+pub items-formed : (text : List Line) (items : List Item) → TakenText text items → AllFormed items
 unfolding stageNumber between
 items-formed text items ts = lines-formed text firstPlace firstScope text items ts absurd

@@ -19,3 +19,5 @@ pub mod LinesTaken
 pub mod NamesInScope
 pub mod ItemsFormed
 pub mod FieldsDiffer
+pub mod ReadFormed
+pub mod Demand3

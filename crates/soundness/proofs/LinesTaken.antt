@@ -7,11 +7,11 @@ use lib.Dec.{T, ltb}
 use lib.ListN.{length, getD}
 use Rattle.rules.specs.Base.{Name, ok, orElse}
 use Rattle.rules.specs.Limits.{most-bytes}
-use Rattle.rules.specs.Answers.{Verdict, accepted, refused, then, textTooLong, badByte, malformed, limitPassed, undeclared, wrongType, wrongTarget, textEnds}
+use Rattle.rules.specs.Answers.{accepted, refused, then, textTooLong, badByte, malformed, limitPassed, undeclared, wrongType, wrongTarget, textEnds}
 use Rattle.rules.specs.Text as Text
-use Rattle.rules.specs.Grammar.{Line, form, isFormed, kindOf, readLine}
+use Rattle.rules.specs.Grammar.{Kind, Line, form, isFormed, kindOf, readLine}
 use Rattle.rules.specs.Places.{Place, Placed, firstPlace, inPlace, placeAfter, withinLimits, placeLine, scanLine, ended, scanLines}
-use Rattle.rules.specs.Scope.{Declarations, Variable, Scope, declarations, firstScope, scopeAfter, visible}
+use Rattle.rules.specs.Scope.{Scope, declarations, firstScope, scopeAfter, visible}
 use Rattle.rules.specs.Names.{allKnown, allTyped, allAssignable}
 use Rattle.rules.specs.Items.{Item, itemOf, resolveLine, resolveLines}
 use Rattle.rules.specs.Reading.{readText}
@@ -19,6 +19,9 @@ use Rattle.rules.proofs.Lists.{Member, at-head, further}
 use Rattle.rules.proofs.Tries.{ok-inj, bind-ok, check-ok, refused-accepted, accepted-inj, atLine-accepted, then-accepted}
 
 -- FORM AND PLACE: what the first pass finds of a line
+
+abbrev pub lineOf : Kind → List Name → Line
+lineOf k ws = record { kind = k; fields = ws }
 
 -- the line has a field for each operand of its kind, and the tail
 abbrev pub HasForm : Line → Type 0
@@ -100,10 +103,12 @@ module _ (text : List Line) where
       (subst (λ a. TakenLines p s (l ∷ ls) (a ∷ rest)) (ok-inj i₃)
       (line L (lines-taken ls (suc n) (placeAfter (l .kind) p) (scopeAfter s l) rest (λ k i. sub k (further i)) os j)))
 
+-- the lines of a whole text
+abbrev pub TakenText : List Line → List Item → Type 0
+TakenText text items = TakenLines text firstPlace firstScope text items
+
 -- a text that is read is taken line by line
-pub read-taken :
-    (t : List ℕ) (items : List Item) → readText t ≡ accepted items →
-    (ls : List Line) × TakenLines ls firstPlace firstScope ls items
+pub read-taken : (t : List ℕ) (items : List Item) → readText t ≡ accepted items → (text : List Line) × TakenText text items
 unfolding readText
 read-taken t items e = go (ltb most-bytes (length t)) e
   where
@@ -112,7 +117,7 @@ read-taken t items e = go (ltb most-bytes (length t)) e
         cond b (refused textTooLong 0)
         (then (scanLines (Text.lines t) 0 firstPlace) λ ls. resolveLines (declarations ls) ls 0 firstScope)
         ≡ accepted items →
-        (ls : List Line) × TakenLines ls firstPlace firstScope ls items
+        (text : List Line) × TakenText text items
     go true e = refused-accepted e
     go false e =
         let (ls, i, j) = then-accepted (scanLines (Text.lines t) 0 firstPlace) _ items e in

@@ -65,7 +65,7 @@ module _ (t : Slot → Bool) where
   slot-passes v (o ∷ os) z (w ∷ ws) (suc i) l f a =
       slot-passes w os z ws i (omega arith) (and-both (isOperand o w) _ f .1) (and-both (t _) _ a .1)
 
-  pub operand-passes :
+  operand-passes :
       (l : Line) (i : ℕ) → i < length (form (l .kind) .operands) → HasForm l → T (all t (slots l)) →
       (u : Name) × T (t (record { operand = getD (form (l .kind) .operands) i typeName; before = u; name = operand l i }))
   unfolding slots operand
@@ -73,7 +73,14 @@ module _ (t : Slot → Bool) where
       slot-passes [] (form (l .kind) .operands) (form (l .kind) .tail) (l .fields) i b f
       (all-append t (slotsFrom [] (form (l .kind) .operands) (l .fields)) (atomSlots (atomsOf l)) a .0)
 
--- what is new is not among the names above
+-- the tests of a field's name
+abbrev knownSlot : Declarations → List Variable → Scope → Slot → Bool
+knownSlot Γ vs s a = known Γ vs s (a .operand) (a .before) (a .name)
+
+abbrev assignableSlot : List Variable → Slot → Bool
+assignableSlot vs a = mayBeAssigned vs (a .operand) (a .name)
+
+-- an operand that is new is not among the names above
 pub new-apart :
     (Γ : Declarations) (vs : List Variable) (s : Scope) (l : Line) (i : ℕ) (a : Space) → i < length (form (l .kind) .operands) →
     getD (form (l .kind) .operands) i typeName ≡ new a → HasForm l → T (allKnown Γ vs s l) →
@@ -81,28 +88,28 @@ pub new-apart :
 unfolding allKnown known
 new-apart Γ vs s l i a b e f t g j d =
     let w : Name = operand l i in
-    let (u, h) = operand-passes (λ a. known Γ vs s (a .operand) (a .before) (a .name)) l i b f t in
+    let (u, h) = operand-passes (knownSlot Γ vs s) l i b f t in
     let h′ : T (not (reserved w) && not (any (eqName w) (declaredIn s a))) = subst (λ o. T (known Γ vs s o u w)) e h in
     T-not (any (eqName w) (declaredIn s a)) (and-both (not (reserved w)) _ h′ .1)
     (any-in (eqName w) (declaredIn s a) g j (subst (λ v. T (eqName w v)) d (name-same w)))
 
-differ : (a b : ℕ) → T (not (eqb a b)) → a ≡ b → ⊥
-differ a b t e = T-not (eqb a b) t (subst (λ w. T (eqb a w)) e (eqb-refl a))
+unequal : (a b : ℕ) → T (not (eqb a b)) → a ≡ b → ⊥
+unequal a b t e = T-not (eqb a b) t (subst (λ w. T (eqb a w)) e (eqb-refl a))
 
 module _ (vs : List Variable) (l : Line) where
   assignable-both :
-      T (allAssignable vs l) → T (all (λ a. mayBeAssigned vs (a .operand) (a .name)) (slots l)) × T (callApart vs l)
+      T (allAssignable vs l) → T (all (assignableSlot vs) (slots l)) × T (callApart vs l)
   unfolding allAssignable
-  assignable-both t = and-both (all (λ a. mayBeAssigned vs (a .operand) (a .name)) (slots l)) (callApart vs l) t
+  assignable-both t = and-both (all (assignableSlot vs) (slots l)) (callApart vs l) t
 
-  -- what is assigned is a local
+  -- an operand that is assigned is a local
   pub assigned-local :
       (i : ℕ) → i < length (form (l .kind) .operands) → getD (form (l .kind) .operands) i typeName ≡ variable assigned →
       HasForm l → T (allAssignable vs l) → first-local ≤ variableNumber vs (operand l i)
   unfolding mayBeAssigned isLocal
   assigned-local i b e f t =
       let x : ℕ = variableNumber vs (operand l i) in
-      let (_, h) = operand-passes (λ a. mayBeAssigned vs (a .operand) (a .name)) l i b f (assignable-both t .0) in
+      let (_, h) = operand-passes (assignableSlot vs) l i b f (assignable-both t .0) in
       let h′ : T (isLocal x) = subst (λ o. T (mayBeAssigned vs o (operand l i))) e h in
       leb→le first-local x (and-both (leb first-local x) _ h′ .0)
 
@@ -114,10 +121,9 @@ module _ (vs : List Variable) (l : Line) where
   unfolding callApart
   target-apart c t =
       let x : ℕ = variableNumber vs (operand l 0) in
-      let h = or-cases (not (isKind Call (l .kind))) _ (assignable-both t .1) in
       ⊎-elim (λ n. absurd (T-not (isKind Call (l .kind)) n c))
-      (λ d. let (y, z) = and-both (not (eqb x (variableNumber vs (operand l 1)))) _ d in (differ x _ y, differ x _ z))
-      h
+      (λ d. let (y, z) = and-both (not (eqb x (variableNumber vs (operand l 1)))) _ d in (unequal x _ y, unequal x _ z))
+      (or-cases (not (isKind Call (l .kind))) _ (assignable-both t .1))
 
 -- FORMULAS: where each variable in scope has a number with the property Q, so have those of a formula whose names are known
 module _ (Γ : Declarations) (vs : List Variable) (Q : ℕ → Type 0) (has : (v : Variable) → Member v vs → Q (v .number)) where
@@ -133,35 +139,32 @@ module _ (Γ : Declarations) (vs : List Variable) (Q : ℕ → Type 0) (has : (v
   expr-over (path x f) h = number-has x (and-both (inScope vs x) _ h .0)
 
   module _ (s : Scope) where
-    abbrev knownSlot : Slot → Bool
-    knownSlot a = known Γ vs s (a .operand) (a .before) (a .name)
-
     atom-over :
-        (w a b : Name) (φ : Formula ℕ) → T (all knownSlot (slotsFrom [] (atomOperands w) (a ∷ b ∷ []))) → Over Q φ →
+        (w a b : Name) (φ : Formula ℕ) → T (all (knownSlot Γ vs s) (slotsFrom [] (atomOperands w) (a ∷ b ∷ []))) → Over Q φ →
         Over Q (resolveAtom Γ vs (atomOf w a b) ∷ φ)
     unfolding all slotsFrom atomOperands known atomOf resolveAtom
     atom-over w a b φ h o = go (is "acc" w) h
       where
         go :
             (c : Bool) →
-            T (all knownSlot (slotsFrom [] (cond c (variable read ∷ member field ∷ []) (expression ∷ expression ∷ [])) (a ∷ b ∷ []))) →
+            T (all (knownSlot Γ vs s) (slotsFrom [] (cond c (variable read ∷ member field ∷ []) (expression ∷ expression ∷ [])) (a ∷ b ∷ []))) →
             Over Q (resolveAtom Γ vs (cond c (acc a b) (cmp (relOf w) (exprOf a) (exprOf b))) ∷ φ)
         go true h = (number-has a (and-both (inScope vs a) _ h .0), o)
         go false h =
             let (x, y) = and-both (knownExpr Γ vs (exprOf a)) _ h in
             (expr-over (exprOf a) x, expr-over (exprOf b) (and-both (knownExpr Γ vs (exprOf b)) _ y .0), o)
 
-    atoms-over : (ws : List Name) → T (all knownSlot (atomSlots ws)) → Over Q (map (resolveAtom Γ vs) (formulaOf ws))
+    atoms-over : (ws : List Name) → T (all (knownSlot Γ vs s) (atomSlots ws)) → Over Q (map (resolveAtom Γ vs) (formulaOf ws))
     unfolding atomSlots formulaOf
     atoms-over [] h = tt
     atoms-over (w ∷ []) h = tt
     atoms-over (w ∷ a ∷ []) h = tt
     atoms-over (w ∷ a ∷ b ∷ ws) h =
-        let (x, y) = all-append knownSlot (slotsFrom [] (atomOperands w) (a ∷ b ∷ [])) (atomSlots ws) h in
+        let (x, y) = all-append (knownSlot Γ vs s) (slotsFrom [] (atomOperands w) (a ∷ b ∷ [])) (atomSlots ws) h in
         atom-over w a b (map (resolveAtom Γ vs) (formulaOf ws)) x (atoms-over ws y)
 
     pub formula-over : (l : Line) → T (allKnown Γ vs s l) → Over Q (resolveFormula Γ vs l)
     unfolding allKnown slots resolveFormula
     formula-over l h =
         atoms-over (atomsOf l)
-        (all-append knownSlot (slotsFrom [] (form (l .kind) .operands) (l .fields)) (atomSlots (atomsOf l)) h .1)
+        (all-append (knownSlot Γ vs s) (slotsFrom [] (form (l .kind) .operands) (l .fields)) (atomSlots (atomsOf l)) h .1)
