@@ -1,4 +1,5 @@
--- The fields of a class have different numbers: their names are new where they are declared, and two declared names have two numbers.
+-- The fields of a class have different numbers: the name of each is new where it is declared, and two declared names have two
+-- numbers.
 use mathlib.Core.Path.{_≡_, refl, sym, _∙_, subst}
 use mathlib.Core.Bool.{Bool, true, false, cond, _||_}
 use mathlib.Core.List.{List, [], _∷_, _++_}

@@ -1,5 +1,5 @@
--- The item of each line that is taken is formed: `requires` names `this` and w, `ensures` also `result`, a statement assigns a local,
--- and a call's x is neither its y nor its z.
+-- The item of each line that is taken is formed: `requires` names `this` and w, `ensures` also `result`, a statement assigns a
+-- local, and a call's x is neither its y nor its z.
 use mathlib.Core.Path.{_≡_, refl, ap}
 use mathlib.Core.Bool.{Bool, true, false, cond}
 use mathlib.Core.List.{List, [], _∷_, _++_}
@@ -101,7 +101,8 @@ module _ (text : List Line) (p : Place) (s : Scope) where
       (formula-over (declarations text) (s .block .variables) AtCall (H .variables) s _ (t .known), λ _. H)
   line-formed Ensures ws t h =
       let H : Header (s .block) = h (stands-in-header Ensures p (lit≤ tt) (lit≤ tt) (t .in-place)) in
-      (formula-over (declarations text) (s .block .variables ++ s .block .result) AtEnd (header-ends (s .block) H) s _ (t .known), absurd)
+      let vs : List Variable = s .block .variables ++ s .block .result in
+      (formula-over (declarations text) vs AtEnd (header-ends (s .block) H) s _ (t .known), absurd)
   line-formed Main ws t h = (tt, absurd)
   line-formed Var ws t h = (tt, absurd)
   line-formed Set ws t h = (tt, absurd)

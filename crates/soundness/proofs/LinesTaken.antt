@@ -11,7 +11,7 @@ use Rattle.rules.specs.Answers.{accepted, refused, then, textTooLong, badByte, 
 use Rattle.rules.specs.Text as Text
 use Rattle.rules.specs.Grammar.{Kind, Line, form, isFormed, kindOf, readLine}
 use Rattle.rules.specs.Places.{Place, Placed, firstPlace, inPlace, placeAfter, withinLimits, placeLine, scanLine, ended, scanLines}
-use Rattle.rules.specs.Scope.{Scope, declarations, firstScope, scopeAfter, visible}
+use Rattle.rules.specs.Scope.{Variable, Scope, declarations, firstScope, scopeAfter, visible}
 use Rattle.rules.specs.Names.{allKnown, allTyped, allAssignable}
 use Rattle.rules.specs.Items.{Item, itemOf, resolveLine, resolveLines}
 use Rattle.rules.specs.Reading.{readText}
@@ -27,10 +27,12 @@ lineOf k ws = record { kind = k; fields = ws }
 abbrev pub HasForm : Line → Type 0
 HasForm l = T (isFormed (form (l .kind) .operands) (form (l .kind) .tail) (l .fields))
 
+-- and stands where its kind may
 record Stands (p : Place) (l : Line) : Type 0 where
   formed : HasForm l
   in-place : T (inPlace (l .kind) p)
 
+-- each at the place where the lines before it lead
 abbrev AllStand : Place → List Line → Type 0
 AllStand p [] = Unit {0}
 AllStand p (l ∷ ls) = Stands p l × AllStand (placeAfter (l .kind) p) ls
@@ -69,14 +71,18 @@ lines-stand (w ∷ ws) n p ls e =
 
 -- NAMES: what the second pass finds besides
 
+-- the variables that a line may name
+abbrev pub seen : Scope → Line → List Variable
+seen s l = visible (s .block) (l .kind)
+
 module _ (text : List Line) where
   -- a line of the text that is taken at place p with s in scope
   pub record Taken (p : Place) (s : Scope) (l : Line) : Type 0 where
     pub of-text : Member l text
     pub formed : HasForm l
     pub in-place : T (inPlace (l .kind) p)
-    pub known : T (allKnown (declarations text) (visible (s .block) (l .kind)) s l)
-    pub assignable : T (allAssignable (visible (s .block) (l .kind)) l)
+    pub known : T (allKnown (declarations text) (seen s l) s l)
+    pub assignable : T (allAssignable (seen s l) l)
 
   -- lines that are taken one after the other, and their items
   pub data TakenLines : Place → Scope → List Line → List Item → Type 0 where
@@ -84,7 +90,7 @@ module _ (text : List Line) where
     line :
         {p : Place} {s : Scope} {l : Line} {ls : List Line} {items : List Item} → Taken p s l →
         TakenLines (placeAfter (l .kind) p) (scopeAfter s l) ls items →
-        TakenLines p s (l ∷ ls) (itemOf (declarations text) (visible (s .block) (l .kind)) (l .kind) l ∷ items)
+        TakenLines p s (l ∷ ls) (itemOf (declarations text) (seen s l) (l .kind) l ∷ items)
 
   lines-taken :
       (ls : List Line) (n : ℕ) (p : Place) (s : Scope) (items : List Item) → ((l : Line) → Member l ls → Member l text) →
@@ -94,9 +100,9 @@ module _ (text : List Line) where
   lines-taken (l ∷ ls) n p s items sub (o, os) e =
       let (a, i, e₁) = atLine-accepted (suc n) (resolveLine (declarations text) s l) _ items e in
       let (rest, j, e₂) = then-accepted (resolveLines (declarations text) ls (suc n) (scopeAfter s l)) _ items e₁ in
-      let (k, i₁) = check-ok (allKnown (declarations text) (visible (s .block) (l .kind)) s l) undeclared i in
-      let (_, i₂) = check-ok (allTyped (declarations text) (visible (s .block) (l .kind)) l) wrongType i₁ in
-      let (t, i₃) = check-ok (allAssignable (visible (s .block) (l .kind)) l) wrongTarget i₂ in
+      let (k, i₁) = check-ok (allKnown (declarations text) (seen s l) s l) undeclared i in
+      let (_, i₂) = check-ok (allTyped (declarations text) (seen s l) l) wrongType i₁ in
+      let (t, i₃) = check-ok (allAssignable (seen s l) l) wrongTarget i₂ in
       let L : Taken p s l =
       record { of-text = sub l at-head; formed = o .formed; in-place = o .in-place; known = k; assignable = t } in
       subst (TakenLines p s (l ∷ ls)) (accepted-inj e₂)

@@ -147,7 +147,9 @@ module _ (Γ : Declarations) (vs : List Variable) (Q : ℕ → Type 0) (has : (v
       where
         go :
             (c : Bool) →
-            T (all (knownSlot Γ vs s) (slotsFrom [] (cond c (variable read ∷ member field ∷ []) (expression ∷ expression ∷ [])) (a ∷ b ∷ []))) →
+            T
+            (all (knownSlot Γ vs s)
+            (slotsFrom [] (cond c (variable read ∷ member field ∷ []) (expression ∷ expression ∷ [])) (a ∷ b ∷ []))) →
             Over Q (resolveAtom Γ vs (cond c (acc a b) (cmp (relOf w) (exprOf a) (exprOf b))) ∷ φ)
         go true h = (number-has a (and-both (inScope vs a) _ h .0), o)
         go false h =

@@ -46,7 +46,8 @@ with-item n aMethod q f F =
       rows = F .rows;
       main = F .main;
     }
-with-item n (aRequires φ) q f F = record { methods = F .methods; requires = f; ensures = F .ensures; rows = F .rows; main = F .main }
+with-item n (aRequires φ) q f F =
+    record { methods = F .methods; requires = f; ensures = F .ensures; rows = F .rows; main = F .main }
 with-item n (anEnsures ψ) q f F = record { methods = F .methods; requires = tt; ensures = f; rows = F .rows; main = F .main }
 with-item n aMain q f F = record { methods = F .methods; requires = tt; ensures = tt; rows = F .rows; main = F .rows }
 with-item n (aLocal x) q f F = F
