@@ -1,18 +1,18 @@
 -- The examples of document 01 and the readings that it calls tempting and wrong, as rows under one theorem.
-use mathlib.Core.Path.{_≡_, refl, ap₂}
+use mathlib.Core.Path.{_≡_}
 use mathlib.Core.Bool.{Bool, cond}
 use mathlib.Core.List.{List, [], _∷_, _++_, map}
 use Prim.Native.Nat.{ℕ, zero, suc, pred, _<_}
 use native.Mathlib.Nat.{not-suc-le-zero, le-of-suc-le-suc}
 use Prim.Native.String.{String}
-use lib.Dec.{T, eqb, eqb→eq}
+use lib.Dec.{T, eqb}
 use lib.ListN.{length, getD}
 use Rattle.rules.specs.Base.{bytes, update, eqName, all}
 use Rattle.rules.specs.Text.{tab, line-feed}
 use Rattle.rules.specs.Calls.{Result, checkText, runText, computing}
 use Rattle.rules.specs.Printed.{printed}
 use Rattle.rules.specs.Printed as Printed
-use Rattle.rules.proofs.Lists.{and-both}
+use Rattle.rules.proofs.Lists.{and-both, same-name}
 
 -- TEXTS
 
@@ -192,14 +192,6 @@ right r = eqName (answer (text (r .text)) (r .call)) (r .answer)
 all-right : T (all right rows)
 unfolding computing Printed.opened right answer row three text tabbed withLine times reading alias acrossCall twice oldValue twoFields lower
 all-right = tt
-
-same-name : (a b : List ℕ) → T (eqName a b) → a ≡ b
-unfolding eqName
-same-name [] [] t = refl
-same-name [] (b ∷ bs) t = absurd t
-same-name (a ∷ as′) [] t = absurd t
-same-name (a ∷ as′) (b ∷ bs) t =
-    let h = and-both (eqb a b) (eqName as′ bs) t in ap₂ _∷_ (eqb→eq a b (h .0)) (same-name as′ bs (h .1))
 
 right-at : (rs : List Row) (d : Row) (i : ℕ) → i < length rs → T (all right rs) → T (right (getD rs i d))
 unfolding all

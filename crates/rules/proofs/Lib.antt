@@ -8,3 +8,4 @@ pub mod Counting
 pub mod Changes
 pub mod Disjoint
 pub mod Examples
+pub mod LinesTaken

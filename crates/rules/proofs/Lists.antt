@@ -1,5 +1,5 @@
 -- Laws of tests and lists that the other proofs share.
-use mathlib.Core.Path.{_≡_, refl, sym, ap, _∙_, subst}
+use mathlib.Core.Path.{_≡_, refl, sym, ap, ap₂, _∙_, subst}
 use mathlib.Core.Bool.{Bool, true, false, cond, _&&_, _||_}
 use mathlib.Core.List.{List, [], _∷_, _++_, map}
 use mathlib.Core.Logic.{_⊎_, inl, inr, ⊎-elim}
@@ -9,7 +9,7 @@ use native.Mathlib.Omega.{arith}
 use native.Mathlib.Nat.{le-refl}
 use lib.Dec.{T, eqb, eqb→eq, eqb-refl}
 use lib.ListN.{length, getD}
-use Rattle.rules.specs.Base.{any, keep, first, update, mapOption, bindOption}
+use Rattle.rules.specs.Base.{Name, eqName, any, all, keep, first, index, update, mapOption, bindOption, withDefault}
 
 -- TESTS
 pub T-true : (b : Bool) → T b → b ≡ true
@@ -230,3 +230,51 @@ update-length d [] zero a = zero-le
 update-length d (x ∷ l) zero a = le-refl _
 update-length d [] (suc i) a = zero-le
 update-length d (x ∷ l) (suc i) a = suc-le-suc (update-length d l i a)
+
+-- TESTS OVER A LIST
+module _ {A : Type 0} (t : A → Bool) where
+  pub all-append : (l m : List A) → T (all t (l ++ m)) → T (all t l) × T (all t m)
+  unfolding all
+  all-append [] m h = (tt, h)
+  all-append (a ∷ l) m h =
+      let (x, y) = and-both (t a) _ h in let (p, q) = all-append l m y in (and-intro (t a) (all t l) x p, q)
+
+  -- the first that passes, where one does
+  pub first-member : (d : A) (l : List A) → T (any t l) → Member (withDefault d (first t l)) l
+  unfolding any first withDefault
+  first-member d [] h = absurd h
+  first-member d (a ∷ l) h = go (t a) h (λ k. first-member d l k)
+    where
+      go :
+          (b : Bool) → T (b || any t l) → (T (any t l) → Member (withDefault d (first t l)) l) →
+          Member (withDefault d (cond b (some a) (first t l))) (a ∷ l)
+      go true h ih = at-head
+      go false h ih = further (ih h)
+
+-- two tests that find one place find one element
+pub index-same :
+    {A : Type 0} (p q : A → Bool) (l : List A) → T (any p l) → index p l ≡ index q l → (a : A) × T (p a) × T (q a)
+unfolding any index
+index-same p q [] h e = absurd h
+index-same {A} p q (a ∷ l) h e = go (p a) (q a) refl refl h e (λ k d. index-same p q l k d)
+  where
+    go :
+        (b c : Bool) → b ≡ p a → c ≡ q a → T (b || any p l) → cond b 0 (suc (index p l)) ≡ cond c 0 (suc (index q l)) →
+        (T (any p l) → index p l ≡ index q l → (a : A) × T (p a) × T (q a)) → (a : A) × T (p a) × T (q a)
+    go true true x y h e ih = (a, subst T x tt, subst T y tt)
+    go true false x y h e ih = absurd (omega arith)
+    go false true x y h e ih = absurd (omega arith)
+    go false false x y h e ih = ih h (omega arith)
+
+-- NAMES
+pub same-name : (a b : Name) → T (eqName a b) → a ≡ b
+unfolding eqName
+same-name [] [] t = refl
+same-name [] (y ∷ b) t = absurd t
+same-name (x ∷ a) [] t = absurd t
+same-name (x ∷ a) (y ∷ b) t = let (h, r) = and-both (eqb x y) (eqName a b) t in ap₂ _∷_ (eqb→eq x y h) (same-name a b r)
+
+pub name-same : (a : Name) → T (eqName a a)
+unfolding eqName
+name-same [] = tt
+name-same (x ∷ a) = and-intro (eqb x x) (eqName a a) (eqb-refl x) (name-same a)

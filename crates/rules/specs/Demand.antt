@@ -6,7 +6,7 @@ use Prim.Native.Nat.{ℕ, _+_}
 use Rattle.rules.specs.Answers.{accepted}
 use Rattle.rules.specs.Items.{Item}
 use Rattle.rules.specs.Reading.{readText, program}
-use Rattle.rules.specs.Calls.{Result, checkText, runText, wholeHeap, outcomeResult}
+use Rattle.rules.specs.Calls.{checkText, runText, wholeHeap, outcomeResult}
 use Rattle.rules.specs.Machine.{ends}
 use Rattle.rules.specs.Runs.{FrameKept, Reached, lastStep}
 

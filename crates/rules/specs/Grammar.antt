@@ -1,12 +1,12 @@
 -- The eighteen kinds of line: word, operands, and where each may stand. A kind of line is a row of this table.
-use mathlib.Core.Bool.{Bool, true, false, _&&_}
+use mathlib.Core.Bool.{Bool, false, _&&_}
 use mathlib.Core.List.{List, [], _∷_}
 use mathlib.Core.Option.{Option}
 use Prim.Native.Nat.{ℕ}
 use Prim.Native.String.{String}
 use lib.Dec.{eqb, leb}
 use lib.ListN.{length, drop, getD}
-use Rattle.rules.specs.Base.{Name, Try, ok, no, _>>=_, _>>_, check, orElse, first, is}
+use Rattle.rules.specs.Base.{Name, Try, ok, _>>=_, _>>_, check, orElse, first, is}
 use Rattle.rules.specs.Limits.{most-atoms}
 use Rattle.rules.specs.Answers.{Refusal, badByte, malformed}
 use Rattle.rules.specs.Text as Text

@@ -1,8 +1,8 @@
 -- What each line adds to the program, its names resolved to numbers: numbers 6, 7, 9 line by line.
 use mathlib.Core.List.{List, [], _∷_, map}
 use Prim.Native.Nat.{ℕ, suc}
-use Rattle.rules.specs.Base.{Name, Try, ok, no, _>>=_, _>>_, check, is}
-use Rattle.rules.specs.Answers.{Refusal, Verdict, accepted, refused, atLine, then, undeclared, wrongType, wrongTarget}
+use Rattle.rules.specs.Base.{Name, Try, ok, _>>=_, _>>_, check, is}
+use Rattle.rules.specs.Answers.{Refusal, Verdict, accepted, atLine, then, undeclared, wrongType, wrongTarget}
 use Rattle.rules.specs.Syntax as Syntax
 use Rattle.rules.specs.Syntax.{Expr, Atom, Formula, Stmt, num, null, var, path, acc, cmp}
 use Rattle.rules.specs.Syntax.{set, assign, new, call, return, assert, release, simple, if, else, join, end}

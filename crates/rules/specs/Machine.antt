@@ -7,7 +7,7 @@ use lib.ListN.{length, getD, replicate, take, drop}
 use Rattle.rules.specs.Base.{Try, ok, no, _>>=_, _>>_, check, any, keep, update}
 use Rattle.rules.specs.Limits.{most-locals, most-frames, values-shown}
 use Rattle.rules.specs.Answers.{Stop, Ending, finished, stepsTaken, stopped, heapFull, framesFull, permissionMissing, nullFollowed, formulaFalse}
-use Rattle.rules.specs.Syntax.{Rel, Expr, Atom, Formula, Simple, Stmt, Row, Field, Method, Program, noMethod, first-local, result-variable}
+use Rattle.rules.specs.Syntax.{Rel, Expr, Formula, Simple, Stmt, Row, Field, Method, Program, noMethod, first-local, result-variable}
 use Rattle.rules.specs.Syntax.{eq, ne, num, null, var, path, acc, cmp, set, assign, new, call, return, assert, release, simple, if, else, join, end}
 
 -- HEAP AND FRAMES

@@ -1,10 +1,10 @@
 -- Where each line stands, and the limits of the text: numbers 3, 4, 5 line by line, then 8.
 use mathlib.Core.Bool.{Bool, true, false, not, cond, _&&_, _||_}
 use mathlib.Core.List.{List, [], _∷_}
-use Prim.Native.Nat.{ℕ, zero, suc}
+use Prim.Native.Nat.{ℕ, suc}
 use lib.Dec.{eqb, leb}
 use lib.ListN.{length}
-use Rattle.rules.specs.Base.{Name, Try, ok, no, _>>=_, _>>_, check, between}
+use Rattle.rules.specs.Base.{Name, Try, ok, _>>=_, _>>_, check, between}
 use Rattle.rules.specs.Limits.{most-classes, most-fields, most-methods, most-locals, most-statements, most-branches}
 use Rattle.rules.specs.Answers.{Refusal, Verdict, accepted, refused, atLine, then, malformed, limitPassed, textEnds}
 use Rattle.rules.specs.Grammar.{Kind, Stage, Line, form, readLine, isKind, isStatement}

@@ -1,10 +1,10 @@
 -- What a text is read as: numbers 2 to 9 in the order told; number 10; the program.
-use mathlib.Core.Bool.{Bool, true, false, cond, _&&_}
+use mathlib.Core.Bool.{Bool, true, cond, _&&_}
 use mathlib.Core.List.{List, [], _∷_}
 use Prim.Native.Nat.{ℕ, suc}
 use lib.Dec.{eqb, ltb}
 use lib.ListN.{length}
-use Rattle.rules.specs.Base.{Name, any}
+use Rattle.rules.specs.Base.{any}
 use Rattle.rules.specs.Limits.{most-bytes}
 use Rattle.rules.specs.Answers.{Verdict, accepted, refused, then, textTooLong, unframed}
 use Rattle.rules.specs.Syntax.{Expr, Formula, Stmt, Row, Field, Method, Program}

@@ -1,15 +1,15 @@
 -- The checker's rules: each statement, branches, methods and main.
-use mathlib.Core.Bool.{Bool, cond}
+use mathlib.Core.Bool.{cond}
 use mathlib.Core.List.{List, [], _∷_, map}
 use mathlib.Core.Option.{Option, none, some}
 use Prim.Native.Nat.{ℕ}
 use lib.Dec.{eqb}
 use lib.ListN.{getD}
-use Rattle.rules.specs.Base.{Try, ok, no, _>>=_, _>>_, check, orElse}
+use Rattle.rules.specs.Base.{Try, ok, _>>=_, _>>_, check, orElse}
 use Rattle.rules.specs.Answers.{Refusal, Verdict, accepted, refused, atLine, then, malformed, textEnds, noPermission, notShown}
-use Rattle.rules.specs.Syntax.{Rel, Expr, Atom, Formula, Simple, Stmt, Row, Field, Method, Program, noMethod, same, this-variable, parameter, result-variable}
+use Rattle.rules.specs.Syntax.{Rel, Atom, Formula, Simple, Stmt, Row, Field, Method, Program, noMethod, same, this-variable, parameter, result-variable}
 use Rattle.rules.specs.Syntax.{eq, ne, num, null, var, path, acc, cmp, set, assign, new, call, return, assert, release, simple, if, else, join, end}
-use Rattle.rules.specs.State.{Term, Permission, State, Shown, Split, empty, pathOf, equalIn, names, resolve, holdsIn, split, show, remainder, withoutPaths, renameTerm, successor, removeTo, remove, addPermission, addFact, add}
+use Rattle.rules.specs.State.{Term, State, empty, pathOf, equalIn, names, resolve, holdsIn, split, show, remainder, withoutPaths, renameTerm, successor, removeTo, remove, addPermission, addFact, add}
 
 -- y, z and x for `this`, w and `result`
 unfoldable pub actual : ℕ → ℕ → ℕ → ℕ → ℕ

@@ -5,10 +5,10 @@ use mathlib.Core.Option.{Option, none, some}
 use Prim.Native.Nat.{ℕ}
 use lib.Dec.{eqb, ltb}
 use lib.ListN.{length}
-use Rattle.rules.specs.Base.{Try, ok, no, _>>=_, _>>_, check, orElse, bindOption, any, keep, first, mapOption}
+use Rattle.rules.specs.Base.{Try, ok, _>>=_, _>>_, check, orElse, bindOption, any, keep, first, mapOption}
 use Rattle.rules.specs.Limits.{most-permissions, most-facts}
 use Rattle.rules.specs.Answers.{Refusal, unresolved, noPermission, notShown, stateFull}
-use Rattle.rules.specs.Syntax.{Rel, Expr, Atom, Formula, same, eq, ne, num, null, var, path, acc, cmp}
+use Rattle.rules.specs.Syntax.{Rel, Expr, Formula, same, eq, ne, num, null, var, path, acc, cmp}
 
 abbrev pub Term : Type 0
 Term = Expr ℕ

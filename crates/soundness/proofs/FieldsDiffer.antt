@@ -1,14 +1,13 @@
 -- The fields of a class have different numbers: the name of each is new where it is declared, and two declared names have two
 -- numbers.
 use mathlib.Core.Path.{_≡_, refl, sym, _∙_, subst}
-use mathlib.Core.Bool.{Bool, true, false, cond, _||_}
+use mathlib.Core.Bool.{Bool, true, false, cond}
 use mathlib.Core.List.{List, [], _∷_, _++_}
 use mathlib.Core.Logic.{⊎-elim}
 use Prim.Native.Nat.{ℕ, zero, suc, pred}
-use native.Mathlib.Omega.{arith}
 use lib.Dec.{T, lit<}
 use lib.ListN.{getD}
-use Rattle.rules.specs.Base.{Name, eqName, any, index}
+use Rattle.rules.specs.Base.{Name, eqName, any}
 use Rattle.rules.specs.Syntax as Syntax
 use Rattle.rules.specs.Grammar.{Kind, Line, isKind, fields}
 use Rattle.rules.specs.Grammar.{Class, Field, Method, Requires, Ensures, Main, Var, Set, Let, New, Call, Return, Assert, Release, If, Else, Join, End}
@@ -20,27 +19,12 @@ use Rattle.rules.specs.Names.{fieldNumber}
 use Rattle.rules.specs.Items.{Item, itemOf}
 use Rattle.rules.specs.Items as Items
 use Rattle.rules.specs.Reading.{Parts, parts, withItem, partsFrom}
-use Rattle.rules.proofs.Lists.{Member, at-head, head-or, member-left, member-right, or-left, or-right}
+use Rattle.rules.proofs.Lists.{Member, at-head, head-or, member-left, member-right, or-left, or-right, same-name, name-same, index-same}
 use Rattle.soundness.specs.WellFormed.{NoneNamed, NamesDiffer}
-use Rattle.soundness.proofs.LinesTaken.{lineOf, Taken, TakenLines, TakenText, none, line}
-use Rattle.soundness.proofs.NamesInScope.{same-name, name-same, new-apart}
+use Rattle.rules.proofs.LinesTaken.{lineOf, Taken, TakenLines, TakenText, none, line}
+use Rattle.soundness.proofs.NamesInScope.{new-apart}
 
 -- NUMBERS OF NAMES
-
--- two tests that find one place find one element
-index-same :
-    {A : Type 0} (p q : A → Bool) (l : List A) → T (any p l) → index p l ≡ index q l → (a : A) × T (p a) × T (q a)
-unfolding any index
-index-same p q [] h e = absurd h
-index-same {A} p q (a ∷ l) h e = go (p a) (q a) refl refl h e (λ k d. index-same p q l k d)
-  where
-    go :
-        (b c : Bool) → b ≡ p a → c ≡ q a → T (b || any p l) → cond b 0 (suc (index p l)) ≡ cond c 0 (suc (index q l)) →
-        (T (any p l) → index p l ≡ index q l → (a : A) × T (p a) × T (q a)) → (a : A) × T (p a) × T (q a)
-    go true true x y h e ih = (a, subst T x tt, subst T y tt)
-    go true false x y h e ih = absurd (omega arith)
-    go false true x y h e ih = absurd (omega arith)
-    go false false x y h e ih = ih h (omega arith)
 
 abbrev named : Name → FieldDeclaration → Bool
 named f d = eqName (d .name) f

@@ -21,7 +21,7 @@ use Rattle.rules.specs.Items.{Item, itemOf, aClass, aField, aMethod, aRequires,
 use Rattle.rules.specs.Items as Items
 use Rattle.rules.proofs.Lists.{Member, head-or, append-member, and-both, and-intro}
 use Rattle.soundness.specs.WellFormed.{Over, AtCall, AtEnd, StmtFormed}
-use Rattle.soundness.proofs.LinesTaken.{lineOf, Taken, TakenLines, TakenText, none, line}
+use Rattle.rules.proofs.LinesTaken.{lineOf, Taken, TakenLines, TakenText, none, line}
 use Rattle.soundness.proofs.NamesInScope.{assigned-local, target-apart, formula-over}
 
 -- what WellFormed asks of an item by itself

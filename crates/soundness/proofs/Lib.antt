@@ -15,7 +15,6 @@ pub mod CallSound
 pub mod StepKeeps
 pub mod NeverStuck
 pub mod FrameKept
-pub mod LinesTaken
 pub mod NamesInScope
 pub mod ItemsFormed
 pub mod FieldsDiffer

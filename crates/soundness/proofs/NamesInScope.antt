@@ -1,14 +1,13 @@
 -- What the tests of a line's names say of the numbers that these names get.
-use mathlib.Core.Path.{_≡_, refl, ap₂, subst}
-use mathlib.Core.Bool.{Bool, true, false, not, cond, _&&_, _||_}
-use mathlib.Core.List.{List, [], _∷_, _++_, map}
+use mathlib.Core.Path.{_≡_, subst}
+use mathlib.Core.Bool.{Bool, true, false, not, cond, _&&_}
+use mathlib.Core.List.{List, [], _∷_, map}
 use mathlib.Core.Logic.{⊎-elim}
-use mathlib.Core.Option.{some}
 use Prim.Native.Nat.{ℕ, zero, suc, _≤_, _<_}
 use native.Mathlib.Omega.{arith}
-use lib.Dec.{T, T-not, eqb, eqb→eq, eqb-refl, leb, leb→le}
+use lib.Dec.{T, T-not, eqb, eqb-refl, leb, leb→le}
 use lib.ListN.{length, getD}
-use Rattle.rules.specs.Base.{Name, withDefault, is, eqName, any, all, first}
+use Rattle.rules.specs.Base.{Name, is, eqName, any, all}
 use Rattle.rules.specs.Syntax.{Expr, Formula, first-local, num, null, var, path, acc, cmp}
 use Rattle.rules.specs.Text.{reserved, relOf, exprOf, atomOf, formulaOf}
 use Rattle.rules.specs.Grammar.{Space, Operand, Tail, Line, Call, form, isKind, isOperand, isFormed}
@@ -16,42 +15,9 @@ use Rattle.rules.specs.Grammar.{read, assigned, field, new, typeName, variable,
 use Rattle.rules.specs.Scope.{Declarations, Variable, Scope, Slot, operand, declaredIn, slotsFrom, atomOperands, atomSlots, atomsOf, slots}
 use Rattle.rules.specs.Names.{noVariable, isLocal, inScope, lookUp, variableNumber, knownExpr, known, allKnown, mayBeAssigned, callApart, allAssignable}
 use Rattle.rules.specs.Items.{resolveExpr, resolveAtom, resolveFormula}
-use Rattle.rules.proofs.Lists.{Member, at-head, further, any-in, or-cases, and-both, and-intro}
+use Rattle.rules.proofs.Lists.{Member, any-in, or-cases, and-both, all-append, first-member, name-same}
 use Rattle.soundness.specs.WellFormed.{TermOver, Over}
-use Rattle.soundness.proofs.LinesTaken.{HasForm}
-
--- LISTS
-module _ {A : Type 0} (t : A → Bool) where
-  all-append : (l m : List A) → T (all t (l ++ m)) → T (all t l) × T (all t m)
-  unfolding all
-  all-append [] m h = (tt, h)
-  all-append (a ∷ l) m h =
-      let (x, y) = and-both (t a) _ h in let (p, q) = all-append l m y in (and-intro (t a) (all t l) x p, q)
-
-  -- the first that passes, where one does
-  first-member : (d : A) (l : List A) → T (any t l) → Member (withDefault d (first t l)) l
-  unfolding any first withDefault
-  first-member d [] h = absurd h
-  first-member d (a ∷ l) h = go (t a) h (λ k. first-member d l k)
-    where
-      go :
-          (b : Bool) → T (b || any t l) → (T (any t l) → Member (withDefault d (first t l)) l) →
-          Member (withDefault d (cond b (some a) (first t l))) (a ∷ l)
-      go true h ih = at-head
-      go false h ih = further (ih h)
-
--- NAMES
-pub same-name : (a b : Name) → T (eqName a b) → a ≡ b
-unfolding eqName
-same-name [] [] t = refl
-same-name [] (y ∷ b) t = absurd t
-same-name (x ∷ a) [] t = absurd t
-same-name (x ∷ a) (y ∷ b) t = let (h, r) = and-both (eqb x y) (eqName a b) t in ap₂ _∷_ (eqb→eq x y h) (same-name a b r)
-
-pub name-same : (a : Name) → T (eqName a a)
-unfolding eqName
-name-same [] = tt
-name-same (x ∷ a) = and-intro (eqb x x) (eqName a a) (eqb-refl x) (name-same a)
+use Rattle.rules.proofs.LinesTaken.{HasForm}
 
 -- OPERANDS: a test that passes at each field of a line passes at the i-th, with the operand that the line's kind has there
 module _ (t : Slot → Bool) where
