@@ -1,1 +1,2 @@
 pub mod Stacks
+pub mod TargetsRight
