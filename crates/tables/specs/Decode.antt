@@ -1,0 +1,194 @@
+-- What the tables mean: the program that a work area holds.
+use mathlib.Core.Bool.{Bool, cond, not}
+use mathlib.Core.List.{List, [], _∷_}
+use Prim.Native.Nat.{ℕ, zero, suc, _+_, _*_}
+use lib.Dec.{eqb}
+use lib.ListN.{getD, drop}
+use Rattle.rules.specs.Syntax.{Rel, Expr, Atom, Formula, Stmt, Row, Field, Method, Program}
+use Rattle.rules.specs.Syntax.{eq, ne, num, null, var, path, acc, cmp, set, assign, new, call, return, assert, release, simple, if, else, join, end}
+use Rattle.tables.specs.Layout.{rows-at, methods-at, classes-at, atoms-at, row-bytes, atom-bytes, method-bytes, class-bytes}
+
+-- NUMBERS, low byte first
+
+abbrev pub byteAt : List ℕ → ℕ → ℕ
+byteAt w i = getD w i 0
+
+abbrev pub halfAt : List ℕ → ℕ → ℕ
+halfAt w i = byteAt w i + byteAt w (i + 1) * 256
+
+abbrev pub wordAt : List ℕ → ℕ → ℕ
+wordAt w i = byteAt w i + byteAt w (i + 1) * 256 + byteAt w (i + 2) * 65536 + byteAt w (i + 3) * 16777216
+
+-- ATOMS: kind (0 `acc`, 1 `eq`, 2 `ne`), tag of the left and of the right side, a spare byte, 4 bytes for each side. `acc x f` has x
+-- and f in the first two bytes of the left side.
+
+-- a side: tag 0 is a number (4 bytes), 1 null, 2 a variable (a byte), 3 a path (two bytes)
+unfoldable pub exprAt : List ℕ → ℕ → ℕ → Expr ℕ
+exprAt w tag i =
+    cond (eqb tag 0) (num (wordAt w i))
+    (cond (eqb tag 1) null
+    (cond (eqb tag 2) (var (byteAt w i))
+    (path (byteAt w i) (byteAt w (i + 1)))))
+
+abbrev pub atomPlace : ℕ → ℕ
+atomPlace i = atoms-at + i * atom-bytes
+
+unfoldable pub relOf : ℕ → Rel
+relOf k = cond (eqb k 1) eq ne
+
+unfoldable pub leftAt : List ℕ → ℕ → Expr ℕ
+leftAt w i = exprAt w (byteAt w (atomPlace i + 1)) (atomPlace i + 4)
+
+unfoldable pub rightAt : List ℕ → ℕ → Expr ℕ
+rightAt w i = exprAt w (byteAt w (atomPlace i + 2)) (atomPlace i + 8)
+
+unfoldable pub atomAt : List ℕ → ℕ → Atom ℕ
+atomAt w i =
+    let k : ℕ = byteAt w (atomPlace i) in
+    cond (eqb k 0) (acc (byteAt w (atomPlace i + 4)) (byteAt w (atomPlace i + 5))) (cmp (relOf k) (leftAt w i) (rightAt w i))
+
+-- n atoms from atom i on
+unfoldable pub atomsFrom : List ℕ → ℕ → ℕ → Formula ℕ
+atomsFrom w i zero = []
+atomsFrom w i (suc n) = atomAt w i ∷ atomsFrom w (suc i) n
+
+-- STATEMENT ROWS: kind, x, y, z, member (field, class or method), count of atoms (a byte each); first atom, line, target (2 bytes each).
+-- `let x e` has e as the right side of its atom, `if` its condition as its atom. The target of `if` is the row after its `else`, that
+-- of `else` its `join`.
+
+abbrev pub rowPlace : ℕ → ℕ
+rowPlace i = rows-at + i * row-bytes
+
+abbrev pub kindAt : List ℕ → ℕ → ℕ
+kindAt w i = byteAt w (rowPlace i)
+
+abbrev pub xAt : List ℕ → ℕ → ℕ
+xAt w i = byteAt w (rowPlace i + 1)
+
+abbrev pub yAt : List ℕ → ℕ → ℕ
+yAt w i = byteAt w (rowPlace i + 2)
+
+abbrev pub zAt : List ℕ → ℕ → ℕ
+zAt w i = byteAt w (rowPlace i + 3)
+
+abbrev pub memberAt : List ℕ → ℕ → ℕ
+memberAt w i = byteAt w (rowPlace i + 4)
+
+abbrev pub atomCountAt : List ℕ → ℕ → ℕ
+atomCountAt w i = byteAt w (rowPlace i + 5)
+
+abbrev pub firstAtomAt : List ℕ → ℕ → ℕ
+firstAtomAt w i = halfAt w (rowPlace i + 6)
+
+abbrev pub lineAt : List ℕ → ℕ → ℕ
+lineAt w i = halfAt w (rowPlace i + 8)
+
+abbrev pub targetAt : List ℕ → ℕ → ℕ
+targetAt w i = halfAt w (rowPlace i + 10)
+
+unfoldable pub formulaAt : List ℕ → ℕ → Formula ℕ
+formulaAt w i = atomsFrom w (firstAtomAt w i) (atomCountAt w i)
+
+unfoldable pub ifAt : List ℕ → ℕ → Stmt
+ifAt w a = if (relOf (byteAt w (atomPlace a))) (leftAt w a) (rightAt w a)
+
+-- by the number of its kind: 8 `set` to 17 `join`, and `end`
+unfoldable pub stmtAt : List ℕ → ℕ → Stmt
+stmtAt w i =
+    let k : ℕ = kindAt w i in
+    cond (eqb k 8) (simple (set (xAt w i) (memberAt w i) (yAt w i)))
+    (cond (eqb k 9) (simple (assign (xAt w i) (rightAt w (firstAtomAt w i))))
+    (cond (eqb k 10) (simple (new (xAt w i) (memberAt w i)))
+    (cond (eqb k 11) (simple (call (xAt w i) (yAt w i) (memberAt w i) (zAt w i)))
+    (cond (eqb k 12) (simple (return (xAt w i)))
+    (cond (eqb k 13) (simple (assert (formulaAt w i)))
+    (cond (eqb k 14) (simple (release (formulaAt w i)))
+    (cond (eqb k 15) (ifAt w (firstAtomAt w i))
+    (cond (eqb k 16) else
+    (cond (eqb k 17) (join (formulaAt w i))
+    end)))))))))
+
+unfoldable pub rowAt : List ℕ → ℕ → Row
+rowAt w i = record { line = lineAt w i; stmt = stmtAt w i }
+
+-- n rows from row i on
+unfoldable pub rowsFrom : List ℕ → ℕ → ℕ → List Row
+rowsFrom w i zero = []
+rowsFrom w i (suc n) = rowAt w i ∷ rowsFrom w (suc i) n
+
+-- THE HEADER
+
+abbrev pub rowCount : List ℕ → ℕ
+rowCount w = halfAt w 0
+
+abbrev pub atomCount : List ℕ → ℕ
+atomCount w = halfAt w 2
+
+abbrev pub classCount : List ℕ → ℕ
+classCount w = byteAt w 4
+
+abbrev pub methodCount : List ℕ → ℕ
+methodCount w = byteAt w 5
+
+abbrev pub mainFirst : List ℕ → ℕ
+mainFirst w = halfAt w 6
+
+unfoldable pub allRows : List ℕ → List Row
+allRows w = rowsFrom w 0 (rowCount w)
+
+-- METHODS: requires' first atom (2 bytes), its count, ensures' count (a byte each), ensures' first atom, first row (2 bytes each)
+
+abbrev pub methodPlace : ℕ → ℕ
+methodPlace m = methods-at + m * method-bytes
+
+unfoldable pub requiresAt : List ℕ → ℕ → Formula ℕ
+requiresAt w m = atomsFrom w (halfAt w (methodPlace m)) (byteAt w (methodPlace m + 2))
+
+unfoldable pub ensuresAt : List ℕ → ℕ → Formula ℕ
+ensuresAt w m = atomsFrom w (halfAt w (methodPlace m + 4)) (byteAt w (methodPlace m + 3))
+
+abbrev pub firstRowAt : List ℕ → ℕ → ℕ
+firstRowAt w m = halfAt w (methodPlace m + 6)
+
+unfoldable pub methodAt : List ℕ → ℕ → Method
+methodAt w m = record { requires = requiresAt w m; ensures = ensuresAt w m; body = drop (firstRowAt w m) (allRows w) }
+
+unfoldable pub methodsFrom : List ℕ → ℕ → ℕ → List Method
+methodsFrom w m zero = []
+methodsFrom w m (suc n) = methodAt w m ∷ methodsFrom w (suc m) n
+
+-- CLASSES: count of fields, then for each its name's number and 1 for an int, 0 for a reference (a byte each)
+
+abbrev pub classPlace : ℕ → ℕ
+classPlace c = classes-at + c * class-bytes
+
+abbrev pub fieldCountAt : List ℕ → ℕ → ℕ
+fieldCountAt w c = byteAt w (classPlace c)
+
+-- the name of the j-th field
+abbrev pub fieldNameAt : List ℕ → ℕ → ℕ → ℕ
+fieldNameAt w c j = byteAt w (classPlace c + 1 + j * 2)
+
+unfoldable pub fieldAt : List ℕ → ℕ → ℕ → Field
+fieldAt w c j = record { name = fieldNameAt w c j; int = not (eqb (byteAt w (classPlace c + 2 + j * 2)) 0) }
+
+unfoldable pub fieldsFrom : List ℕ → ℕ → ℕ → ℕ → List Field
+fieldsFrom w c j zero = []
+fieldsFrom w c j (suc n) = fieldAt w c j ∷ fieldsFrom w c (suc j) n
+
+unfoldable pub classAt : List ℕ → ℕ → List Field
+classAt w c = fieldsFrom w c 0 (fieldCountAt w c)
+
+unfoldable pub classesFrom : List ℕ → ℕ → ℕ → List (List Field)
+classesFrom w c zero = []
+classesFrom w c (suc n) = classAt w c ∷ classesFrom w (suc c) n
+
+-- THE PROGRAM
+
+unfoldable pub programIn : List ℕ → Program
+programIn w =
+    record {
+      classes = classesFrom w 0 (classCount w);
+      methods = methodsFrom w 0 (methodCount w);
+      main = drop (mainFirst w) (allRows w);
+    }

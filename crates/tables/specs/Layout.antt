@@ -1,0 +1,83 @@
+-- Where each table stands in the work area, and how large it can get.
+use Prim.Native.Nat.{ℕ, _+_, _*_}
+use Rattle.rules.specs.Limits.{most-classes, most-fields, most-methods, most-locals, most-statements, most-atoms, heap-objects, heap-fields, most-frames}
+
+-- THE LARGEST TABLES
+
+-- Each of the blocks, 64 methods and main, has an `end`, so at most 256 - 65 statement lines have a formula beside those of 64
+-- methods; with fewer methods more lines have one, and fewer atoms stand in requires and ensures. A `let` or an `if` takes one atom.
+abbrev pub most-atom-rows : ℕ
+most-atom-rows = 2552
+
+-- the names of all fields
+abbrev pub most-names : ℕ
+most-names = 128
+
+-- variables of a frame: `this`, w, 12 locals, `result`
+abbrev pub frame-variables : ℕ
+frame-variables = 15
+
+-- ROWS: their lengths in bytes
+
+abbrev pub row-bytes : ℕ
+row-bytes = 12
+
+abbrev pub atom-bytes : ℕ
+atom-bytes = 12
+
+abbrev pub method-bytes : ℕ
+method-bytes = 8
+
+abbrev pub class-bytes : ℕ
+class-bytes = 32
+
+abbrev pub object-bytes : ℕ
+object-bytes = 4
+
+abbrev pub frame-bytes : ℕ
+frame-bytes = 72
+
+-- REGIONS: where each begins; the end of one is the begin of the next
+
+-- counts: statement rows, atoms (2 bytes each), classes, methods (a byte each), main's first row (2 bytes)
+abbrev pub header-at : ℕ
+header-at = 0
+
+abbrev pub rows-at : ℕ
+rows-at = 64
+
+abbrev pub methods-at : ℕ
+methods-at = 3136
+
+abbrev pub classes-at : ℕ
+classes-at = 3648
+
+-- for each class and each name of a field its place in the class
+abbrev pub places-at : ℕ
+places-at = 4160
+
+abbrev pub atoms-at : ℕ
+atoms-at = 6208
+
+-- names of classes, fields, methods and variables, while the text is read
+abbrev pub names-at : ℕ
+names-at = 36832
+
+-- the machine's stores: values of all fields, holders of all fields, room for a second holder, objects, frames
+abbrev pub values-at : ℕ
+values-at = 40960
+
+abbrev pub holders-at : ℕ
+holders-at = 45056
+
+abbrev pub seconds-at : ℕ
+seconds-at = 49152
+
+abbrev pub objects-at : ℕ
+objects-at = 53248
+
+abbrev pub frames-at : ℕ
+frames-at = 54272
+
+abbrev pub layout-end : ℕ
+layout-end = 58880

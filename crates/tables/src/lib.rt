@@ -1,0 +1,425 @@
+ghost use mathlib.Core.Path.{_≡_};
+ghost use Prim.Native.Nat.{ℕ, _+_, _*_, _%_, _≤_, _<_};
+ghost use lib.ListN.{length};
+ghost use Rattle.rules.specs.Limits.{most-statements, most-methods, most-classes, most-fields, work-bytes};
+ghost use Rattle.tables.specs.Layout.{most-atom-rows, most-names};
+ghost use Rattle.tables.specs.Decode.{byteAt, halfAt, wordAt, atomPlace, exprAt, leftAt, rightAt, kindAt, xAt, yAt, zAt, memberAt, atomCountAt, firstAtomAt, lineAt, targetAt, rowCount, atomCount, classCount, methodCount, mainFirst, methodPlace, firstRowAt, classPlace, fieldCountAt, fieldNameAt};
+ghost use Rattle.tables.specs.Tables.{placeAt};
+ghost use Rattle.tables.specs.Stores.{meaning, putByte, putHalf, putWord, offsets};
+
+// Where each table stands in the work area: the constants below as one value.
+pub struct Layout {
+    pub rows: usize,
+    pub methods: usize,
+    pub classes: usize,
+    pub places: usize,
+    pub atoms: usize,
+    pub names: usize,
+    pub values: usize,
+    pub holders: usize,
+    pub objects: usize,
+    pub frames: usize,
+    pub row_bytes: usize,
+    pub atom_bytes: usize,
+    pub method_bytes: usize,
+    pub class_bytes: usize,
+    pub object_bytes: usize,
+    pub frame_bytes: usize,
+    pub field_names: usize,
+}
+
+impl Layout {
+    pub const ROWS: usize = 64;
+
+    pub const METHODS: usize = 3136;
+
+    pub const CLASSES: usize = 3648;
+
+    pub const PLACES: usize = 4160;
+
+    pub const ATOMS: usize = 6208;
+
+    pub const NAMES: usize = 36832;
+
+    pub const VALUES: usize = 40960;
+
+    pub const HOLDERS: usize = 45056;
+
+    pub const OBJECTS: usize = 53248;
+
+    pub const FRAMES: usize = 54272;
+
+    pub const ROW_BYTES: usize = 12;
+
+    pub const ATOM_BYTES: usize = 12;
+
+    pub const METHOD_BYTES: usize = 8;
+
+    pub const CLASS_BYTES: usize = 32;
+
+    pub const OBJECT_BYTES: usize = 4;
+
+    pub const FRAME_BYTES: usize = 72;
+
+    pub const FIELD_NAMES: usize = 128;
+
+    pub fn offsets() -> Layout
+        ensures { λ r. ⌜ r ≡ offsets ⌝ }
+    {
+        Layout {
+            rows: Layout::ROWS,
+            methods: Layout::METHODS,
+            classes: Layout::CLASSES,
+            places: Layout::PLACES,
+            atoms: Layout::ATOMS,
+            names: Layout::NAMES,
+            values: Layout::VALUES,
+            holders: Layout::HOLDERS,
+            objects: Layout::OBJECTS,
+            frames: Layout::FRAMES,
+            row_bytes: Layout::ROW_BYTES,
+            atom_bytes: Layout::ATOM_BYTES,
+            method_bytes: Layout::METHOD_BYTES,
+            class_bytes: Layout::CLASS_BYTES,
+            object_bytes: Layout::OBJECT_BYTES,
+            frame_bytes: Layout::FRAME_BYTES,
+            field_names: Layout::FIELD_NAMES,
+        }
+    }
+}
+
+fn wide(b: u8) -> usize
+    ensures { λ r. ⌜ (r ≡ b) × (r < 256) ⌝ }
+{
+    b as usize
+}
+
+fn wide_word(b: u8) -> u32
+    ensures { λ r. ⌜ (r ≡ b) × (r < 256) ⌝ }
+{
+    b as u32
+}
+
+// One byte of the area.
+pub fn byte_at(w: &[u8], i: usize) -> usize
+    requires { ⌜ i < length (now w) ⌝ }
+    ensures { λ r. ⌜ (r ≡ byteAt (now (w .entry)) i) × (r < 256) ⌝ }
+{
+    wide(w[i])
+}
+
+// Two bytes, low byte first.
+pub fn half_at(w: &[u8], i: usize) -> usize
+    requires { ⌜ i + 2 ≤ length (now w) ⌝ }
+    ensures { λ r. ⌜ (r ≡ halfAt (now (w .entry)) i) × (r < 65536) ⌝ }
+{
+    let a = byte_at(w, i);
+    let b = byte_at(w, i + 1);
+    a + b * 256
+}
+
+// Four bytes, low byte first.
+pub fn word_at(w: &[u8], i: usize) -> u32
+    requires { ⌜ i + 4 ≤ length (now w) ⌝ }
+    ensures { λ r. ⌜ r ≡ wordAt (now (w .entry)) i ⌝ }
+{
+    let a = wide_word(w[i]);
+    let b = wide_word(w[i + 1]);
+    let c = wide_word(w[i + 2]);
+    let d = wide_word(w[i + 3]);
+    a + b * 256 + c * 65536 + d * 16777216
+}
+
+// A side of an atom, resolved: a variable by its number, a field by the number of its name.
+pub enum Expr {
+    Num(u32),
+    Null,
+    Var(usize),
+    Path(usize, usize),
+}
+
+fn expr_by(w: &[u8], tag: usize, i: usize) -> Expr
+    requires { ⌜ i + 4 ≤ length (now w) ⌝ }
+    ensures { λ r. ⌜ meaning r ≡ exprAt (now (w .entry)) tag i ⌝ }
+{
+    match tag {
+        0 => Expr::Num(word_at(w, i)),
+        1 => Expr::Null,
+        2 => Expr::Var(byte_at(w, i)),
+        _ => Expr::Path(byte_at(w, i), byte_at(w, i + 1)),
+    }
+}
+
+// The left side of the atom a.
+pub fn left_at(w: &[u8], a: usize) -> Expr
+    requires { ⌜ (length (now w) ≡ work-bytes) × (a < most-atom-rows) ⌝ }
+    ensures { λ r. ⌜ meaning r ≡ leftAt (now (w .entry)) a ⌝ }
+{
+    let i = Layout::ATOMS + a * Layout::ATOM_BYTES;
+    let tag = byte_at(w, i + 1);
+    expr_by(w, tag, i + 4)
+}
+
+// The right side of the atom a.
+pub fn right_at(w: &[u8], a: usize) -> Expr
+    requires { ⌜ (length (now w) ≡ work-bytes) × (a < most-atom-rows) ⌝ }
+    ensures { λ r. ⌜ meaning r ≡ rightAt (now (w .entry)) a ⌝ }
+{
+    let i = Layout::ATOMS + a * Layout::ATOM_BYTES;
+    let tag = byte_at(w, i + 2);
+    expr_by(w, tag, i + 8)
+}
+
+// THE HEADER
+
+// How many statement rows there are.
+pub fn row_count(w: &[u8]) -> usize
+    requires { ⌜ length (now w) ≡ work-bytes ⌝ }
+    ensures { λ r. ⌜ (r ≡ rowCount (now (w .entry))) × (r < 65536) ⌝ }
+{
+    half_at(w, 0)
+}
+
+// How many atoms there are.
+pub fn atom_count(w: &[u8]) -> usize
+    requires { ⌜ length (now w) ≡ work-bytes ⌝ }
+    ensures { λ r. ⌜ (r ≡ atomCount (now (w .entry))) × (r < 65536) ⌝ }
+{
+    half_at(w, 2)
+}
+
+// How many classes there are.
+pub fn class_count(w: &[u8]) -> usize
+    requires { ⌜ length (now w) ≡ work-bytes ⌝ }
+    ensures { λ r. ⌜ (r ≡ classCount (now (w .entry))) × (r < 256) ⌝ }
+{
+    byte_at(w, 4)
+}
+
+// How many methods there are.
+pub fn method_count(w: &[u8]) -> usize
+    requires { ⌜ length (now w) ≡ work-bytes ⌝ }
+    ensures { λ r. ⌜ (r ≡ methodCount (now (w .entry))) × (r < 256) ⌝ }
+{
+    byte_at(w, 5)
+}
+
+// The first row of main.
+pub fn main_first(w: &[u8]) -> usize
+    requires { ⌜ length (now w) ≡ work-bytes ⌝ }
+    ensures { λ r. ⌜ (r ≡ mainFirst (now (w .entry))) × (r < 65536) ⌝ }
+{
+    half_at(w, 6)
+}
+
+// ATOMS
+
+// The kind of the atom a: 0 `acc`, 1 `eq`, 2 `ne`.
+pub fn atom_kind(w: &[u8], a: usize) -> usize
+    requires { ⌜ (length (now w) ≡ work-bytes) × (a < most-atom-rows) ⌝ }
+    ensures { λ r. ⌜ (r ≡ byteAt (now (w .entry)) (atomPlace a)) × (r < 256) ⌝ }
+{
+    byte_at(w, Layout::ATOMS + a * Layout::ATOM_BYTES)
+}
+
+// The variable of the atom a, an `acc`.
+pub fn atom_variable(w: &[u8], a: usize) -> usize
+    requires { ⌜ (length (now w) ≡ work-bytes) × (a < most-atom-rows) ⌝ }
+    ensures { λ r. ⌜ (r ≡ byteAt (now (w .entry)) (atomPlace a + 4)) × (r < 256) ⌝ }
+{
+    byte_at(w, Layout::ATOMS + a * Layout::ATOM_BYTES + 4)
+}
+
+// The field of the atom a, an `acc`.
+pub fn atom_field(w: &[u8], a: usize) -> usize
+    requires { ⌜ (length (now w) ≡ work-bytes) × (a < most-atom-rows) ⌝ }
+    ensures { λ r. ⌜ (r ≡ byteAt (now (w .entry)) (atomPlace a + 5)) × (r < 256) ⌝ }
+{
+    byte_at(w, Layout::ATOMS + a * Layout::ATOM_BYTES + 5)
+}
+
+// ROWS
+
+// The kind of the row i.
+pub fn kind_at(w: &[u8], i: usize) -> usize
+    requires { ⌜ (length (now w) ≡ work-bytes) × (i < most-statements) ⌝ }
+    ensures { λ r. ⌜ (r ≡ kindAt (now (w .entry)) i) × (r < 256) ⌝ }
+{
+    byte_at(w, Layout::ROWS + i * Layout::ROW_BYTES)
+}
+
+// Its first variable.
+pub fn x_at(w: &[u8], i: usize) -> usize
+    requires { ⌜ (length (now w) ≡ work-bytes) × (i < most-statements) ⌝ }
+    ensures { λ r. ⌜ (r ≡ xAt (now (w .entry)) i) × (r < 256) ⌝ }
+{
+    byte_at(w, Layout::ROWS + i * Layout::ROW_BYTES + 1)
+}
+
+// Its second variable.
+pub fn y_at(w: &[u8], i: usize) -> usize
+    requires { ⌜ (length (now w) ≡ work-bytes) × (i < most-statements) ⌝ }
+    ensures { λ r. ⌜ (r ≡ yAt (now (w .entry)) i) × (r < 256) ⌝ }
+{
+    byte_at(w, Layout::ROWS + i * Layout::ROW_BYTES + 2)
+}
+
+// Its third variable.
+pub fn z_at(w: &[u8], i: usize) -> usize
+    requires { ⌜ (length (now w) ≡ work-bytes) × (i < most-statements) ⌝ }
+    ensures { λ r. ⌜ (r ≡ zAt (now (w .entry)) i) × (r < 256) ⌝ }
+{
+    byte_at(w, Layout::ROWS + i * Layout::ROW_BYTES + 3)
+}
+
+// Its field, class or method.
+pub fn member_at(w: &[u8], i: usize) -> usize
+    requires { ⌜ (length (now w) ≡ work-bytes) × (i < most-statements) ⌝ }
+    ensures { λ r. ⌜ (r ≡ memberAt (now (w .entry)) i) × (r < 256) ⌝ }
+{
+    byte_at(w, Layout::ROWS + i * Layout::ROW_BYTES + 4)
+}
+
+// How many atoms its formula has.
+pub fn atom_count_at(w: &[u8], i: usize) -> usize
+    requires { ⌜ (length (now w) ≡ work-bytes) × (i < most-statements) ⌝ }
+    ensures { λ r. ⌜ (r ≡ atomCountAt (now (w .entry)) i) × (r < 256) ⌝ }
+{
+    byte_at(w, Layout::ROWS + i * Layout::ROW_BYTES + 5)
+}
+
+// The first of them.
+pub fn first_atom_at(w: &[u8], i: usize) -> usize
+    requires { ⌜ (length (now w) ≡ work-bytes) × (i < most-statements) ⌝ }
+    ensures { λ r. ⌜ (r ≡ firstAtomAt (now (w .entry)) i) × (r < 65536) ⌝ }
+{
+    half_at(w, Layout::ROWS + i * Layout::ROW_BYTES + 6)
+}
+
+// Its line.
+pub fn line_at(w: &[u8], i: usize) -> usize
+    requires { ⌜ (length (now w) ≡ work-bytes) × (i < most-statements) ⌝ }
+    ensures { λ r. ⌜ (r ≡ lineAt (now (w .entry)) i) × (r < 65536) ⌝ }
+{
+    half_at(w, Layout::ROWS + i * Layout::ROW_BYTES + 8)
+}
+
+// Where an `if` or an `else` goes.
+pub fn target_at(w: &[u8], i: usize) -> usize
+    requires { ⌜ (length (now w) ≡ work-bytes) × (i < most-statements) ⌝ }
+    ensures { λ r. ⌜ (r ≡ targetAt (now (w .entry)) i) × (r < 65536) ⌝ }
+{
+    half_at(w, Layout::ROWS + i * Layout::ROW_BYTES + 10)
+}
+
+// METHODS
+
+// The first atom of the requires of the method m.
+pub fn requires_first(w: &[u8], m: usize) -> usize
+    requires { ⌜ (length (now w) ≡ work-bytes) × (m < most-methods) ⌝ }
+    ensures { λ r. ⌜ (r ≡ halfAt (now (w .entry)) (methodPlace m)) × (r < 65536) ⌝ }
+{
+    half_at(w, Layout::METHODS + m * Layout::METHOD_BYTES)
+}
+
+// How many atoms it has.
+pub fn requires_count(w: &[u8], m: usize) -> usize
+    requires { ⌜ (length (now w) ≡ work-bytes) × (m < most-methods) ⌝ }
+    ensures { λ r. ⌜ (r ≡ byteAt (now (w .entry)) (methodPlace m + 2)) × (r < 256) ⌝ }
+{
+    byte_at(w, Layout::METHODS + m * Layout::METHOD_BYTES + 2)
+}
+
+// The first atom of its ensures.
+pub fn ensures_first(w: &[u8], m: usize) -> usize
+    requires { ⌜ (length (now w) ≡ work-bytes) × (m < most-methods) ⌝ }
+    ensures { λ r. ⌜ (r ≡ halfAt (now (w .entry)) (methodPlace m + 4)) × (r < 65536) ⌝ }
+{
+    half_at(w, Layout::METHODS + m * Layout::METHOD_BYTES + 4)
+}
+
+// How many atoms that has.
+pub fn ensures_count(w: &[u8], m: usize) -> usize
+    requires { ⌜ (length (now w) ≡ work-bytes) × (m < most-methods) ⌝ }
+    ensures { λ r. ⌜ (r ≡ byteAt (now (w .entry)) (methodPlace m + 3)) × (r < 256) ⌝ }
+{
+    byte_at(w, Layout::METHODS + m * Layout::METHOD_BYTES + 3)
+}
+
+// Its first row.
+pub fn first_row_at(w: &[u8], m: usize) -> usize
+    requires { ⌜ (length (now w) ≡ work-bytes) × (m < most-methods) ⌝ }
+    ensures { λ r. ⌜ (r ≡ firstRowAt (now (w .entry)) m) × (r < 65536) ⌝ }
+{
+    half_at(w, Layout::METHODS + m * Layout::METHOD_BYTES + 6)
+}
+
+// CLASSES
+
+// How many fields the class c has.
+pub fn field_count_at(w: &[u8], c: usize) -> usize
+    requires { ⌜ (length (now w) ≡ work-bytes) × (c < most-classes) ⌝ }
+    ensures { λ r. ⌜ (r ≡ fieldCountAt (now (w .entry)) c) × (r < 256) ⌝ }
+{
+    byte_at(w, Layout::CLASSES + c * Layout::CLASS_BYTES)
+}
+
+// The name of its field j.
+pub fn field_name_at(w: &[u8], c: usize, j: usize) -> usize
+    requires { ⌜ (length (now w) ≡ work-bytes) × ((c < most-classes) × (j < most-fields)) ⌝ }
+    ensures { λ r. ⌜ (r ≡ fieldNameAt (now (w .entry)) c j) × (r < 256) ⌝ }
+{
+    byte_at(w, Layout::CLASSES + c * Layout::CLASS_BYTES + 1 + j * 2)
+}
+
+// 1 where that field is an int, 0 where it is a reference.
+pub fn field_kind_at(w: &[u8], c: usize, j: usize) -> usize
+    requires { ⌜ (length (now w) ≡ work-bytes) × ((c < most-classes) × (j < most-fields)) ⌝ }
+    ensures { λ r. ⌜ (r ≡ byteAt (now (w .entry)) (classPlace c + 2 + j * 2)) × (r < 256) ⌝ }
+{
+    byte_at(w, Layout::CLASSES + c * Layout::CLASS_BYTES + 2 + j * 2)
+}
+
+// The place in the class c of the field with the name n, 255 where it has none.
+pub fn place_at(w: &[u8], c: usize, n: usize) -> usize
+    requires { ⌜ (length (now w) ≡ work-bytes) × ((c < most-classes) × (n < most-names)) ⌝ }
+    ensures { λ r. ⌜ (r ≡ placeAt (now (w .entry)) c n) × (r < 256) ⌝ }
+{
+    byte_at(w, Layout::PLACES + c * Layout::FIELD_NAMES + n)
+}
+
+// STORES
+
+fn low(v: u32) -> u8
+    ensures { λ r. ⌜ r ≡ v % 256 ⌝ }
+{
+    (v % 256) as u8
+}
+
+// Writes a byte.
+pub fn put_byte(w: &mut [u8], i: usize, v: usize)
+    requires { ⌜ (i < length (now w)) × (v < 256) ⌝ }
+    ensures { λ _. ⌜ now (w .exit) ≡ putByte (now (w .entry)) i v ⌝ }
+{
+    w[i] = v as u8;
+}
+
+// Writes two bytes.
+pub fn put_half(w: &mut [u8], i: usize, v: usize)
+    requires { ⌜ (i + 2 ≤ length (now w)) × (v < 65536) ⌝ }
+    ensures { λ _. ⌜ now (w .exit) ≡ putHalf (now (w .entry)) i v ⌝ }
+{
+    w[i] = (v % 256) as u8;
+    w[i + 1] = (v / 256) as u8;
+}
+
+// Writes four bytes.
+pub fn put_word(w: &mut [u8], i: usize, v: u32)
+    requires { ⌜ i + 4 ≤ length (now w) ⌝ }
+    ensures { λ _. ⌜ now (w .exit) ≡ putWord (now (w .entry)) i v ⌝ }
+{
+    w[i] = low(v);
+    w[i + 1] = low(v / 256);
+    w[i + 2] = low(v / 65536);
+    w[i + 3] = low(v / 16777216);
+}

@@ -1,0 +1,545 @@
+-- The walk gives each `if` the row after its `else`, and each `else` its `join`.
+use mathlib.Core.Path.{_≡_, refl, sym, ap, _∙_, subst}
+use mathlib.Core.Bool.{Bool, true, false, cond, _&&_}
+use mathlib.Core.List.{List, [], _∷_}
+use mathlib.Core.Logic.{_⊎_, inl, inr, ⊎-elim}
+use Prim.Native.Nat.{ℕ, zero, suc, pred, _+_, _*_, _≤_, _<_}
+use native.Mathlib.Numerals.{add-one}
+use native.Mathlib.Omega.{arith}
+use lib.Dec.{T, ltb, eqb, eqb→eq, eqb-refl}
+use lib.ListN.{length, drop, drop-of-length-le}
+use native.Mathlib.Decide.{decLt}
+use borrow.Author.Tests.{ne-eqb}
+use Rattle.rules.specs.Syntax.{Simple, Stmt, Row, simple, if, else, join, end}
+use Rattle.rules.specs.Machine.{tail, depthAfter, isElse, isJoin, seek, afterElse, toJoin}
+use Rattle.rules.proofs.Lists.{Member, at-head, further, head-or, decide-eq, and-both, T-true}
+use Rattle.tables.proofs.Bytes.{Outside, put-half-byte, half-put, put-half-length}
+use Rattle.tables.specs.Stores.{putHalf}
+use Rattle.tables.specs.Decode.{kindAt, targetAt, firstAtomAt, rowPlace, formulaAt, ifAt, stmtAt, rowAt, rowsFrom}
+use Rattle.targets.proofs.Stacks.{open-at-if, open-at-else, open-at-join, open-elsewhere, work-at-else, work-at-join, work-elsewhere}
+use Rattle.targets.specs.Targets.{openAfter, workAfter, targetsFrom, pushed, popped, replaced, putTarget}
+use Rattle.targets.specs.Branched.{Wait, forElse, forJoin, rowNests, rowsNest, TargetRight}
+
+-- ROWS OF AN AREA
+pub rows-length : (w : List ℕ) (i n : ℕ) → length (rowsFrom w i n) ≡ n
+unfolding rowsFrom
+rows-length w i zero = refl
+rows-length w i (suc n) = ap suc (rows-length w (suc i) n)
+
+rows-drop : (w : List ℕ) (i n j : ℕ) → j < n → drop j (rowsFrom w i n) ≡ rowAt w (i + j) ∷ drop (suc j) (rowsFrom w i n)
+unfolding rowsFrom
+rows-drop w i zero j l = absurd (omega (arith, l))
+rows-drop w i (suc n) zero l = let e : i + 0 ≡ i = omega arith in rw e
+rows-drop w i (suc n) (suc j) l =
+    let e : suc i + j ≡ i + suc j = omega arith in
+    rows-drop w (suc i) n j (omega (arith, l)) ∙ ap (λ (k : ℕ). rowAt w k ∷ drop (suc j) (rowsFrom w (suc i) n)) e
+
+rows-cons : (w : List ℕ) (n i : ℕ) → i < n → drop i (rowsFrom w 0 n) ≡ rowAt w i ∷ drop (suc i) (rowsFrom w 0 n)
+rows-cons w n i l =
+    let e : 0 + i ≡ i = omega arith in
+    rows-drop w 0 n i l ∙ ap (λ (k : ℕ). rowAt w k ∷ drop (suc i) (rowsFrom w 0 n)) e
+
+-- SEEKING PAST A ROW
+
+-- a row that is not what is sought here
+pub seek-past :
+    (p : Stmt → Bool) (j : ℕ) (r : Row) (rs : List Row) → (T (p (r .stmt)) → j ≡ 0 → ⊥) →
+    seek p j (r ∷ rs) ≡ seek p (depthAfter (r .stmt) j) rs
+unfolding seek
+seek-past p j r rs n = go (p (r .stmt)) (eqb j 0) refl refl
+  where
+    go :
+        (a b : Bool) → a ≡ p (r .stmt) → b ≡ eqb j 0 →
+        cond (a && b) (r ∷ rs) (seek p (depthAfter (r .stmt) j) rs) ≡ seek p (depthAfter (r .stmt) j) rs
+    go true true x y = absurd (n (subst T x tt) (eqb→eq j 0 (subst T y tt)))
+    go true false x y = refl
+    go false b x y = refl
+
+seek-here : (p : Stmt → Bool) (r : Row) (rs : List Row) → T (p (r .stmt)) → seek p 0 (r ∷ rs) ≡ r ∷ rs
+unfolding seek
+seek-here p r rs t = go (p (r .stmt)) t
+  where
+    go : (a : Bool) → T a → cond (a && true) (r ∷ rs) (seek p (depthAfter (r .stmt) 0) rs) ≡ r ∷ rs
+    go true t = refl
+    go false t = absurd t
+
+-- WHAT AN OPEN BRANCH WAITS FOR
+
+-- Of the rows rs, rest is still to come. An open `if`, j branches inside it, waits for its `else`; an open `else` for its `join`.
+module _ (w : List ℕ) (rs : List Row) where
+  abbrev Waiting : List Row → ℕ → List Wait → List ℕ → Type 0
+  Waiting rest j [] [] = Unit {0}
+  Waiting rest j [] (i ∷ st) = ⊥
+  Waiting rest j (v ∷ ws) [] = ⊥
+  Waiting rest j (forElse ∷ ws) (i ∷ st) =
+      (i < length rs) × (kindAt w i ≡ 15) × (afterElse (drop i rs) ≡ tail (seek isElse j rest)) × Waiting rest (suc j) ws st
+  Waiting rest j (forJoin ∷ ws) (i ∷ st) =
+      (i < length rs) × (kindAt w i ≡ 16) × (toJoin (drop i rs) ≡ seek isJoin j rest) × Waiting rest (suc j) ws st
+
+  waiting-length : (rest : List Row) (j : ℕ) (ws : List Wait) (st : List ℕ) → Waiting rest j ws st → length st ≡ length ws
+  waiting-length rest j [] [] W = refl
+  waiting-length rest j [] (i ∷ st) W = absurd W
+  waiting-length rest j (v ∷ ws) [] W = absurd W
+  waiting-length rest j (forElse ∷ ws) (i ∷ st) W = ap suc (waiting-length rest (suc j) ws st (W .3))
+  waiting-length rest j (forJoin ∷ ws) (i ∷ st) W = ap suc (waiting-length rest (suc j) ws st (W .3))
+
+  -- a row r is passed at depth l, after which the depth is d l
+  pub record Passes (s : Stmt) (d : ℕ → ℕ) (l : ℕ) : Type 0 where
+    pub depth : depthAfter s l ≡ d l
+    pub no-else : T (isElse s) → l ≡ 0 → ⊥
+    pub no-join : T (isJoin s) → l ≡ 0 → ⊥
+    pub deeper : d (suc l) ≡ suc (d l)
+
+  waiting-past :
+      (r : Row) (rest : List Row) (d : ℕ → ℕ) (j : ℕ) (ws : List Wait) (st : List ℕ) →
+      ((l : ℕ) → j ≤ l → Passes (r .stmt) d l) → Waiting (r ∷ rest) j ws st → Waiting rest (d j) ws st
+  waiting-past r rest d j [] [] H W = tt
+  waiting-past r rest d j [] (i ∷ st) H W = W
+  waiting-past r rest d j (v ∷ ws) [] H W = absurd W
+  waiting-past r rest d j (forElse ∷ ws) (i ∷ st) H W =
+      let h = H j (omega arith) in (
+        W .0,
+        W .1,
+        W .2 ∙ ap tail (seek-past isElse j r rest (h .no-else) ∙ ap (λ (l : ℕ). seek isElse l rest) (h .depth)),
+        subst (λ l. Waiting rest l ws st) (h .deeper)
+            (waiting-past r rest d (suc j) ws st (λ l g. H l (omega (arith, g))) (W .3)),
+      )
+  waiting-past r rest d j (forJoin ∷ ws) (i ∷ st) H W =
+      let h = H j (omega arith) in (
+        W .0,
+        W .1,
+        W .2 ∙ (seek-past isJoin j r rest (h .no-join) ∙ ap (λ (l : ℕ). seek isJoin l rest) (h .depth)),
+        subst (λ l. Waiting rest l ws st) (h .deeper)
+            (waiting-past r rest d (suc j) ws st (λ l g. H l (omega (arith, g))) (W .3)),
+      )
+
+-- ROWS BY THEIR KIND
+module _ (w : List ℕ) (i : ℕ) where
+  at-if : kindAt w i ≡ 15 → stmtAt w i ≡ ifAt w (firstAtomAt w i)
+  unfolding stmtAt
+  at-if e = rw e
+
+  at-else : kindAt w i ≡ 16 → stmtAt w i ≡ else
+  unfolding stmtAt
+  at-else e = rw e
+
+  at-join : kindAt w i ≡ 17 → stmtAt w i ≡ join (formulaAt w i)
+  unfolding stmtAt
+  at-join e = rw e
+
+-- a row that opens and closes no branch
+data Quiet : Stmt → Type 0 where
+  is-simple : {p : Simple} → Quiet (simple p)
+  is-end : Quiet end
+
+quiet-row :
+    (w : List ℕ) (i : ℕ) → (kindAt w i ≡ 15 → ⊥) → (kindAt w i ≡ 16 → ⊥) → (kindAt w i ≡ 17 → ⊥) → Quiet (stmtAt w i)
+unfolding stmtAt
+quiet-row w i a b d =
+    rw (ne-eqb (kindAt w i) 15 a, ne-eqb (kindAt w i) 16 b, ne-eqb (kindAt w i) 17 d)
+    (go (eqb (kindAt w i) 8) (eqb (kindAt w i) 9) (eqb (kindAt w i) 10) (eqb (kindAt w i) 11) (eqb (kindAt w i) 12) (eqb (kindAt w i) 13) (eqb (kindAt w i) 14)
+    _ _ _ _ _ _ _)
+  where
+    go :
+        (a b c d e f g : Bool) (p q r s t u v : Simple) →
+        Quiet
+        (cond a (simple p)
+        (cond b (simple q)
+        (cond c (simple r) (cond d (simple s) (cond e (simple t) (cond f (simple u) (cond g (simple v) end)))))))
+    go true b c d e f g p q r s t u v = is-simple
+    go false true c d e f g p q r s t u v = is-simple
+    go false false true d e f g p q r s t u v = is-simple
+    go false false false true e f g p q r s t u v = is-simple
+    go false false false false true f g p q r s t u v = is-simple
+    go false false false false false true g p q r s t u v = is-simple
+    go false false false false false false true p q r s t u v = is-simple
+    go false false false false false false false p q r s t u v = is-end
+
+-- STORES OF A TARGET
+module _ (w : List ℕ) (t v : ℕ) where
+  -- no other column and no other row changes
+  put-kind : (i : ℕ) → kindAt (putHalf w (rowPlace t + 10) v) i ≡ kindAt w i
+  put-kind i = put-half-byte w (rowPlace t + 10) v (rowPlace i) (go (decLt i (suc t)))
+    where
+      go : Dec (i < suc t) → Outside (rowPlace t + 10) 2 (rowPlace i)
+      go (yes l) = inl (omega (arith, l))
+      go (no n) = inr (omega (arith, n))
+
+  put-target-other : (i : ℕ) → (i ≡ t → ⊥) → targetAt (putHalf w (rowPlace t + 10) v) i ≡ targetAt w i
+  put-target-other i n = go (decLt i t)
+    where
+      go : Dec (i < t) → targetAt (putHalf w (rowPlace t + 10) v) i ≡ targetAt w i
+      go (yes l) =
+          omega (
+            arith,
+            put-half-byte w (rowPlace t + 10) v (rowPlace i + 10) (inl (omega (arith, l))),
+            put-half-byte w (rowPlace t + 10) v (rowPlace i + 10 + 1) (inl (omega (arith, l))),
+          )
+      go (no m) =
+          let k : t < i = omega (arith, m, n) in
+          omega (
+            arith,
+            put-half-byte w (rowPlace t + 10) v (rowPlace i + 10) (inr (omega (arith, k))),
+            put-half-byte w (rowPlace t + 10) v (rowPlace i + 10 + 1) (inr (omega (arith, k))),
+          )
+
+  put-target-same : length w ≡ 65536 → t < 256 → v < 65536 → targetAt (putHalf w (rowPlace t + 10) v) t ≡ v
+  put-target-same l a b = half-put w (rowPlace t + 10) v (omega (arith, l, a)) b
+
+-- THE WALK
+
+-- w₀: the area before; rs: its n rows
+module _ (w₀ : List ℕ) (rs : List Row) (few : length rs ≤ 256) (row : (i : ℕ) → i < length rs → drop i rs ≡ rowAt w₀ i ∷ drop (suc i) rs) where
+  -- before row k: the kinds are the same; what is open waits; the other rows above go on where they should
+  record Walked (w : List ℕ) (k : ℕ) (b : Bool) (ws : List Wait) (st : List ℕ) : Type 0 where
+    size : length w ≡ 65536
+    kinds : (i : ℕ) → kindAt w i ≡ kindAt w₀ i
+    nests : T (rowsNest b ws (drop k rs))
+    waits : Waiting w₀ rs (drop k rs) 0 ws st
+    right : (i : ℕ) → i < k → Member i st ⊎ TargetRight w rs i
+
+  nests-row : (k : ℕ) (b : Bool) (ws : List Wait) → k < length rs → T (rowsNest b ws (drop k rs)) → T (rowNests (stmtAt w₀ k) ws (λ b ws. rowsNest b ws (drop (suc k) rs)))
+  unfolding rowsNest rowAt
+  nests-row k b ws l t = subst (λ (r : List Row). T (rowsNest b ws r)) (row k l) t
+
+  waits-row : (k : ℕ) (ws : List Wait) (st : List ℕ) → k < length rs → Waiting w₀ rs (drop k rs) 0 ws st → Waiting w₀ rs (rowAt w₀ k ∷ drop (suc k) rs) 0 ws st
+  waits-row k ws st l W = subst (λ (r : List Row). Waiting w₀ rs r 0 ws st) (row k l) W
+
+  -- more rows follow one that does not end a block
+  more-rows : (k : ℕ) (ws : List Wait) → T (rowsNest false ws (drop (suc k) rs)) → suc k < length rs
+  unfolding rowsNest
+  more-rows k ws t = go (decLt (suc k) (length rs))
+    where
+      none : (ws : List Wait) → T (rowsNest false ws []) → ⊥
+      none [] t = t
+      none (v ∷ ws) t = t
+
+      go : Dec (suc k < length rs) → suc k < length rs
+      go (yes l) = l
+      go (no n) = absurd (none ws (subst (λ (r : List Row). T (rowsNest false ws r)) (drop-of-length-le rs {i = suc k} (omega (arith, n))) t))
+
+  -- the open branches below row k, once it is passed
+  waits-past :
+      (k : ℕ) (d : ℕ → ℕ) (j : ℕ) (ws : List Wait) (st : List ℕ) → ((l : ℕ) → j ≤ l → Passes w₀ rs (stmtAt w₀ k) d l) →
+      Waiting w₀ rs (rowAt w₀ k ∷ drop (suc k) rs) j ws st → Waiting w₀ rs (drop (suc k) rs) (d j) ws st
+  unfolding rowAt
+  waits-past k d j ws st H W = waiting-past w₀ rs (rowAt w₀ k) (drop (suc k) rs) d j ws st H W
+
+  -- `if`
+  if-passes : (k : ℕ) → kindAt w₀ k ≡ 15 → (l : ℕ) → Passes w₀ rs (stmtAt w₀ k) suc l
+  unfolding depthAfter isElse isJoin ifAt
+  if-passes k e l =
+      subst (λ (s : Stmt). Passes w₀ rs s suc l) (sym (at-if w₀ k e))
+      (record { depth = refl; no-else = λ t. absurd t; no-join = λ t. absurd t; deeper = refl })
+
+  if-nests :
+      (k : ℕ) (b : Bool) (ws : List Wait) → k < length rs → kindAt w₀ k ≡ 15 → T (rowsNest b ws (drop k rs)) →
+      T (ltb (length ws) 4) × T (rowsNest false (forElse ∷ ws) (drop (suc k) rs))
+  unfolding rowNests ifAt
+  if-nests k b ws l e t =
+      and-both (ltb (length ws) 4) _
+      (subst (λ (s : Stmt). T (rowNests s ws (λ b ws. rowsNest b ws (drop (suc k) rs)))) (at-if w₀ k e) (nests-row k b ws l t))
+
+  after-if :
+      (w : List ℕ) (k : ℕ) (b : Bool) (ws : List Wait) (st : List ℕ) → k < length rs → kindAt w₀ k ≡ 15 → Walked w k b ws st →
+      Walked w (suc k) false (forElse ∷ ws) (k ∷ st)
+  unfolding afterElse tail
+  after-if w k b ws st l e X =
+      record {
+        size = X .size;
+        kinds = X .kinds;
+        nests = if-nests k b ws l e (X .nests) .1;
+        waits = (
+          l,
+          e,
+          ap (λ (r : List Row). tail (seek isElse 0 (tail r))) (row k l),
+          waits-past k suc 0 ws st (λ l g. if-passes k e l) (waits-row k ws st l (X .waits)),
+        );
+        right = λ i g. new i g (decide-eq i k);
+      }
+    where
+      new : (i : ℕ) → i < suc k → (i ≡ k) ⊎ (i ≡ k → ⊥) → Member i (k ∷ st) ⊎ TargetRight w rs i
+      new i g (inl h) = inl (subst (λ (j : ℕ). Member i (j ∷ st)) h at-head)
+      new i g (inr h) = ⊎-elim (λ m. inl (further m)) inr (X .right i (omega (arith, g, h)))
+
+  -- a quiet row
+  quiet-passes : (s : Stmt) → Quiet s → (l : ℕ) → Passes w₀ rs s (λ l. l) l
+  unfolding depthAfter isElse isJoin
+  quiet-passes s is-simple l = record { depth = refl; no-else = λ t. absurd t; no-join = λ t. absurd t; deeper = refl }
+  quiet-passes s is-end l = record { depth = refl; no-else = λ t. absurd t; no-join = λ t. absurd t; deeper = refl }
+
+  quiet-nests :
+      (s : Stmt) (ws : List Wait) (k : Bool → List Wait → Bool) → Quiet s → T (rowNests s ws k) → (b : Bool) × T (k b ws)
+  unfolding rowNests
+  quiet-nests s ws k is-simple t = (false, t)
+  quiet-nests s [] k is-end t = (true, t)
+  quiet-nests s (v ∷ ws) k is-end t = absurd t
+
+  after-quiet :
+      (w : List ℕ) (k : ℕ) (b : Bool) (ws : List Wait) (st : List ℕ) → k < length rs → Quiet (stmtAt w₀ k) →
+      (kindAt w₀ k ≡ 15 → ⊥) → (kindAt w₀ k ≡ 16 → ⊥) → Walked w k b ws st → (b′ : Bool) × Walked w (suc k) b′ ws st
+  after-quiet w k b ws st l q m n X =
+      let (b′, t) = quiet-nests (stmtAt w₀ k) ws _ q (nests-row k b ws l (X .nests)) in (
+        b′,
+        record {
+          size = X .size;
+          kinds = X .kinds;
+          nests = t;
+          waits = waits-past k (λ l. l) 0 ws st (λ l g. quiet-passes (stmtAt w₀ k) q l) (waits-row k ws st l (X .waits));
+          right = λ i g. new i g (decide-eq i k);
+        },
+      )
+    where
+      -- no branch is open at it
+      new : (i : ℕ) → i < suc k → (i ≡ k) ⊎ (i ≡ k → ⊥) → Member i st ⊎ TargetRight w rs i
+      new i g (inl h) =
+          inr
+          (record {
+            after-else = λ e. absurd (m (sym (X .kinds k) ∙ subst (λ (j : ℕ). kindAt w j ≡ 15) h e));
+            to-join = λ e. absurd (n (sym (X .kinds k) ∙ subst (λ (j : ℕ). kindAt w j ≡ 16) h e));
+          })
+      new i g (inr h) = X .right i (omega (arith, g, h))
+
+  -- STORES: row t, which was open, goes on to row v
+  module _ (w : List ℕ) (t v : ℕ) (size : length w ≡ 65536) (small : t < 256) (inside : v < length rs) where
+    stored : List ℕ
+    stored = putHalf w (rowPlace t + 10) v
+
+    stored-kinds : ((i : ℕ) → kindAt w i ≡ kindAt w₀ i) → (i : ℕ) → kindAt stored i ≡ kindAt w₀ i
+    unfolding stored
+    stored-kinds h i = put-kind w t v i ∙ h i
+
+    stored-size : length stored ≡ 65536
+    unfolding stored
+    stored-size = put-half-length w (rowPlace t + 10) v ∙ size
+
+    stored-target : targetAt stored t ≡ v
+    unfolding stored
+    stored-target = put-target-same w t v size small (omega (arith, few, inside))
+
+    other-right : (i : ℕ) → (i ≡ t → ⊥) → TargetRight w rs i → TargetRight stored rs i
+    unfolding stored
+    other-right i n R =
+        let k = put-kind w t v i in
+        let g = put-target-other w t v i n in
+        record {
+          after-else =
+              λ e.
+              let (a, b) = R .after-else (sym k ∙ e) in
+              (omega (arith, a, g), ap (λ (j : ℕ). drop j rs) g ∙ b);
+          to-join =
+              λ e.
+              let (a, b) = R .to-join (sym k ∙ e) in
+              (omega (arith, a, g), ap (λ (j : ℕ). drop j rs) g ∙ b);
+        }
+
+    if-right : ((i : ℕ) → kindAt w i ≡ kindAt w₀ i) → kindAt w₀ t ≡ 15 → drop v rs ≡ afterElse (drop t rs) → TargetRight stored rs t
+    if-right h e d =
+        record {
+          after-else = λ f. (omega (arith, inside, stored-target), ap (λ (j : ℕ). drop j rs) stored-target ∙ d);
+          to-join = λ f. absurd (omega (arith, f, e, stored-kinds h t));
+        }
+
+    else-right : ((i : ℕ) → kindAt w i ≡ kindAt w₀ i) → kindAt w₀ t ≡ 16 → drop v rs ≡ toJoin (drop t rs) → TargetRight stored rs t
+    else-right h e d =
+        record {
+          after-else = λ f. absurd (omega (arith, f, e, stored-kinds h t));
+          to-join = λ f. (omega (arith, inside, stored-target), ap (λ (j : ℕ). drop j rs) stored-target ∙ d);
+        }
+
+    -- what was open or right before, once row t is right
+    all-right :
+        (st : List ℕ) (k : ℕ) → TargetRight stored rs t → ((i : ℕ) → i < k → Member i (t ∷ st) ⊎ TargetRight w rs i) →
+        (i : ℕ) → i < k → Member i st ⊎ TargetRight stored rs i
+    all-right st k R h i l = go (decide-eq i t) (h i l)
+      where
+        go : (i ≡ t) ⊎ (i ≡ t → ⊥) → Member i (t ∷ st) ⊎ TargetRight w rs i → Member i st ⊎ TargetRight stored rs i
+        go (inl e) m = inr (subst (TargetRight stored rs) (sym e) R)
+        go (inr n) (inl m) = ⊎-elim inl (λ e. absurd (n e)) (head-or m)
+        go (inr n) (inr r) = inr (other-right i n r)
+
+  -- `else`
+  else-passes : (k : ℕ) → kindAt w₀ k ≡ 16 → (l : ℕ) → 1 ≤ l → Passes w₀ rs (stmtAt w₀ k) (λ l. l) l
+  unfolding depthAfter isElse isJoin
+  else-passes k e l g =
+      subst (λ (s : Stmt). Passes w₀ rs s (λ l. l) l) (sym (at-else w₀ k e))
+      (record { depth = refl; no-else = λ t z. omega (arith, g, z); no-join = λ t. absurd t; deeper = refl })
+
+  else-nests :
+      (k : ℕ) (b : Bool) (ws : List Wait) → k < length rs → kindAt w₀ k ≡ 16 → T (rowsNest b ws (drop k rs)) →
+      T (rowNests else ws (λ b ws. rowsNest b ws (drop (suc k) rs)))
+  else-nests k b ws l e t =
+      subst (λ (s : Stmt). T (rowNests s ws (λ b ws. rowsNest b ws (drop (suc k) rs)))) (at-else w₀ k e) (nests-row k b ws l t)
+
+  else-found : (k : ℕ) → k < length rs → kindAt w₀ k ≡ 16 → tail (seek isElse 0 (rowAt w₀ k ∷ drop (suc k) rs)) ≡ drop (suc k) rs
+  unfolding tail rowAt isElse
+  else-found k l e =
+      ap tail
+      (seek-here isElse (rowAt w₀ k) (drop (suc k) rs) (subst (λ (s : Stmt). T (isElse s)) (sym (at-else w₀ k e)) tt))
+
+  after-else :
+      (w : List ℕ) (k : ℕ) (b : Bool) (ws : List Wait) (st : List ℕ) → k < length rs → kindAt w₀ k ≡ 16 → Walked w k b ws st →
+      (ws′ : List Wait) × Walked (putTarget w st (suc k)) (suc k) false ws′ (replaced k st)
+  unfolding rowNests putTarget replaced toJoin stored tail
+  after-else w k b ws st l e X = go ws st (else-nests k b ws l e (X .nests)) (waits-row k ws st l (X .waits)) (X .right)
+    where
+      go :
+          (ws : List Wait) (st : List ℕ) → T (rowNests else ws (λ b ws. rowsNest b ws (drop (suc k) rs))) →
+          Waiting w₀ rs (rowAt w₀ k ∷ drop (suc k) rs) 0 ws st → ((i : ℕ) → i < k → Member i st ⊎ TargetRight w rs i) →
+          (ws′ : List Wait) × Walked (putTarget w st (suc k)) (suc k) false ws′ (replaced k st)
+      go [] st t W h = absurd t
+      go (forJoin ∷ ws) st t W h = absurd t
+      go (forElse ∷ ws) [] t W h = absurd W
+      go (forElse ∷ ws) (i ∷ st) t W h =
+          let more : suc k < length rs = more-rows k (forJoin ∷ ws) t in
+          let small : i < 256 = omega (arith, few, W .0) in
+          let R = if-right w i (suc k) (X .size) small more (X .kinds) (W .1) (sym (W .2 ∙ else-found k l e)) in
+          let before = all-right w i (suc k) (X .size) small more st k R h in (
+            forJoin ∷ ws,
+            record {
+              size = stored-size w i (suc k) (X .size) small more;
+              kinds = stored-kinds w i (suc k) (X .size) small more (X .kinds);
+              nests = t;
+              waits = (
+                l,
+                e,
+                ap (λ (r : List Row). seek isJoin 0 (tail r)) (row k l),
+                waits-past k (λ l. l) 1 ws st (else-passes k e) (W .3),
+              );
+              right = λ j g. ⊎-elim (λ z. inl (subst (λ (a : ℕ). Member j (a ∷ st)) z at-head)) (λ z. ⊎-elim (λ m. inl (further m)) inr (before j (omega (arith, g, z)))) (decide-eq j k);
+            },
+          )
+
+  -- `join`
+  join-passes : (k : ℕ) → kindAt w₀ k ≡ 17 → (l : ℕ) → 1 ≤ l → Passes w₀ rs (stmtAt w₀ k) pred l
+  unfolding depthAfter isElse isJoin
+  join-passes k e zero g = absurd (omega (arith, g))
+  join-passes k e (suc l) g =
+      subst (λ (s : Stmt). Passes w₀ rs s pred (suc l)) (sym (at-join w₀ k e))
+      (record { depth = refl; no-else = λ t. absurd t; no-join = λ t z. omega (arith, z); deeper = refl })
+
+  join-nests :
+      (k : ℕ) (b : Bool) (ws : List Wait) → k < length rs → kindAt w₀ k ≡ 17 → T (rowsNest b ws (drop k rs)) →
+      T (rowNests (join (formulaAt w₀ k)) ws (λ b ws. rowsNest b ws (drop (suc k) rs)))
+  join-nests k b ws l e t =
+      subst (λ (s : Stmt). T (rowNests s ws (λ b ws. rowsNest b ws (drop (suc k) rs)))) (at-join w₀ k e) (nests-row k b ws l t)
+
+  join-found : (k : ℕ) → k < length rs → kindAt w₀ k ≡ 17 → seek isJoin 0 (rowAt w₀ k ∷ drop (suc k) rs) ≡ drop k rs
+  unfolding rowAt isJoin
+  join-found k l e =
+      seek-here isJoin (rowAt w₀ k) (drop (suc k) rs) (subst (λ (s : Stmt). T (isJoin s)) (sym (at-join w₀ k e)) tt)
+      ∙ sym (row k l)
+
+  after-join :
+      (w : List ℕ) (k : ℕ) (b : Bool) (ws : List Wait) (st : List ℕ) → k < length rs → kindAt w₀ k ≡ 17 → Walked w k b ws st →
+      (ws′ : List Wait) × Walked (putTarget w st k) (suc k) false ws′ (popped st)
+  unfolding rowNests putTarget popped stored
+  after-join w k b ws st l e X = go ws st (join-nests k b ws l e (X .nests)) (waits-row k ws st l (X .waits)) (X .right)
+    where
+      go :
+          (ws : List Wait) (st : List ℕ) →
+          T (rowNests (join (formulaAt w₀ k)) ws (λ b ws. rowsNest b ws (drop (suc k) rs))) →
+          Waiting w₀ rs (rowAt w₀ k ∷ drop (suc k) rs) 0 ws st → ((i : ℕ) → i < k → Member i st ⊎ TargetRight w rs i) →
+          (ws′ : List Wait) × Walked (putTarget w st k) (suc k) false ws′ (popped st)
+      go [] st t W h = absurd t
+      go (forElse ∷ ws) st t W h = absurd t
+      go (forJoin ∷ ws) [] t W h = absurd W
+      go (forJoin ∷ ws) (i ∷ st) t W h =
+          let small : i < 256 = omega (arith, few, W .0) in
+          let R = else-right w i k (X .size) small l (X .kinds) (W .1) (sym (W .2 ∙ join-found k l e)) in
+          let before = all-right w i k (X .size) small l st k R h in
+          let kinds = stored-kinds w i k (X .size) small l (X .kinds) in (
+            ws,
+            record {
+              size = stored-size w i k (X .size) small l;
+              kinds = kinds;
+              nests = t;
+              waits = waits-past k pred 1 ws st (join-passes k e) (W .3);
+              right =
+                  λ j g.
+                  ⊎-elim
+                  (λ z.
+                  inr
+                  (record {
+                    after-else = λ f. absurd (omega (arith, e, ap (kindAt w₀) z, kinds j, f));
+                    to-join = λ f. absurd (omega (arith, e, ap (kindAt w₀) z, kinds j, f));
+                  }))
+                  (λ z. before j (omega (arith, g, z)))
+                  (decide-eq j k);
+            },
+          )
+
+  -- any row
+  after-row :
+      (w : List ℕ) (k : ℕ) (b : Bool) (ws : List Wait) (st : List ℕ) → k < length rs → Walked w k b ws st →
+      (b′ : Bool) × (ws′ : List Wait) × Walked (workAfter w (kindAt w k) k st) (suc k) b′ ws′ (openAfter (kindAt w k) k st)
+  unfolding pushed
+  after-row w k b ws st l X = go (decide-eq c 15) (decide-eq c 16) (decide-eq c 17)
+    where
+      c : ℕ
+      c = kindAt w₀ k
+
+      q : ℕ
+      q = kindAt w k
+
+      same : q ≡ c
+      same = X .kinds k
+
+      Out : List ℕ → List ℕ → Type 0
+      Out v s = (b′ : Bool) × (ws′ : List Wait) × Walked v (suc k) b′ ws′ s
+
+      by : {v v′ s s′ : List ℕ} → v ≡ v′ → s ≡ s′ → Out v s → Out v′ s′
+      by {v′ = v′} {s = s} p r O = subst (Out v′) r (subst (λ (v : List ℕ). Out v s) p O)
+
+      room : T (ltb (length ws) 4) → k ∷ st ≡ cond (ltb (length st) 4) (k ∷ st) st
+      room t =
+          let e = waiting-length w₀ rs (drop k rs) 0 ws st (X .waits) in
+          rw (T-true (ltb (length st) 4) (subst (λ (n : ℕ). T (ltb n 4)) (sym e) t))
+
+      go : (c ≡ 15) ⊎ (c ≡ 15 → ⊥) → (c ≡ 16) ⊎ (c ≡ 16 → ⊥) → (c ≡ 17) ⊎ (c ≡ 17 → ⊥) → Out (workAfter w q k st) (openAfter q k st)
+      go (inl e) y z =
+          by (work-elsewhere w q k st (λ f. omega (arith, same, e, f)) (λ f. omega (arith, same, e, f)))
+          (room (if-nests k b ws l e (X .nests) .0) ∙ open-at-if q k st (same ∙ e))
+          (false, forElse ∷ ws, after-if w k b ws st l e X)
+      go (inr m) (inl e) z =
+          let (ws′, Y) = after-else w k b ws st l e X in
+          by (ap (putTarget w st) (sym (add-one k)) ∙ work-at-else w q k st (same ∙ e)) (open-at-else q k st (same ∙ e)) (false, ws′, Y)
+      go (inr m) (inr n) (inl e) =
+          let (ws′, Y) = after-join w k b ws st l e X in
+          by (work-at-join w q k st (same ∙ e)) (open-at-join q k st (same ∙ e)) (false, ws′, Y)
+      go (inr m) (inr n) (inr o) =
+          let (b′, Y) = after-quiet w k b ws st l (quiet-row w₀ k m n o) m n X in
+          by (work-elsewhere w q k st (λ f. n (sym same ∙ f)) (λ f. o (sym same ∙ f)))
+          (open-elsewhere q k st (λ f. m (sym same ∙ f)) (λ f. n (sym same ∙ f)) (λ f. o (sym same ∙ f)))
+          (b′, ws, Y)
+
+  walk :
+      (n : ℕ) (w : List ℕ) (k : ℕ) (b : Bool) (ws : List Wait) (st : List ℕ) → k + n ≡ length rs → Walked w k b ws st →
+      (i : ℕ) → i < length rs → TargetRight (targetsFrom w k n st) rs i
+  unfolding targetsFrom rowsNest
+  walk zero w k b ws st e X i l =
+      done ws st (subst (λ (r : List Row). T (rowsNest b ws r)) none (X .nests)) (X .waits) (X .right i (omega (arith, e)))
+    where
+      none : drop k rs ≡ []
+      none = drop-of-length-le rs {i = k} (omega (arith, e))
+
+      done :
+          (ws : List Wait) (st : List ℕ) → T (rowsNest b ws []) → Waiting w₀ rs (drop k rs) 0 ws st →
+          Member i st ⊎ TargetRight w rs i → TargetRight w rs i
+      done [] [] t W (inl m) = elim m [ ]
+      done [] [] t W (inr r) = r
+      done [] (j ∷ st) t W m = absurd W
+      done (v ∷ ws) st t W m = absurd t
+  walk (suc n) w k b ws st e X i l =
+      let (b′, ws′, Y) = after-row w k b ws st (omega (arith, e)) X in
+      walk n _ (suc k) b′ ws′ _ (omega (arith, e)) Y i l
+
+-- THE CLAIM: rows that nest
+pub targets-right :
+    (w : List ℕ) (n : ℕ) → length w ≡ 65536 → n ≤ 256 → T (rowsNest true [] (rowsFrom w 0 n)) → (i : ℕ) → i < n →
+    TargetRight (targetsFrom w 0 n []) (rowsFrom w 0 n) i
+targets-right w n size few t i l =
+    let e : length (rowsFrom w 0 n) ≡ n = rows-length w 0 n in
+    walk w (rowsFrom w 0 n) (omega (arith, e, few)) (λ i l. rows-cons w n i (omega (arith, e, l))) n w 0 true [] [] (omega (arith, e))
+    (record { size = size; kinds = λ i. refl; nests = t; waits = tt; right = λ i l. absurd (omega (arith, l)) })
+    i (omega (arith, e, l))

@@ -1,0 +1,37 @@
+use mathlib.Core.Path.{_≡_, _∙_}
+use native.Mathlib.Omega.{arith}
+use Rattle.targets.proofs.Stacks.{open-at-if, open-at-else, open-at-join, open-elsewhere}
+use borrow.Author.Needs.{needs}
+use Rattle.targets.proofs.open_after.Statement.{statement}
+use Rattle.targets.proofs.open_after.Tie as tie
+use Rattle.targets.proofs.open_after.Reads as reads
+use Rattle.targets.proofs.open_after.Lts as lts
+use Rattle.targets.proofs.pop.Reads as pop-reads
+use Rattle.targets.proofs.push.Reads as push-reads
+use Rattle.targets.proofs.replace.Reads as replace-reads
+
+push-requires : tie.Need-push-requires
+push-requires c κs = search needs
+
+replace-requires : tie.Need-replace-requires
+replace-requires c κs = search needs
+
+pop-requires : tie.Need-pop-requires
+pop-requires c κs = search needs
+
+returns : tie.Need-returns
+returns c = (c .push .ensures .0 ∙ open-at-if _ _ _ (omega arith), c .push .ensures .1)
+
+returns-2 : tie.Need-returns-2
+returns-2 c = (c .replace .ensures .0 ∙ open-at-else _ _ _ (omega arith), c .replace .ensures .1)
+
+returns-3 : tie.Need-returns-3
+returns-3 c = (c .pop .ensures .0 ∙ open-at-join _ _ _ (omega arith), c .pop .ensures .1)
+
+returns-4 : tie.Need-returns-4
+returns-4 c = (open-elsewhere _ _ _ (λ e. omega (arith, e)) (λ e. omega (arith, e)) (λ e. omega (arith, e)), c .before .pre .0)
+
+pub open-after-spec : {M : Type 1} → statement M
+open-after-spec =
+    tie.close
+    (tie.spec push-requires replace-requires pop-requires returns returns-2 returns-3 returns-4)

@@ -1,0 +1,40 @@
+-- Rows whose branches nest: what the places of a read text give, and what targets and nesting follow from.
+use mathlib.Core.Path.{_≡_}
+use mathlib.Core.Bool.{Bool, true, false, _&&_}
+use mathlib.Core.List.{List, [], _∷_}
+use Prim.Native.Nat.{ℕ, _<_}
+use lib.Dec.{ltb}
+use lib.ListN.{length, drop}
+use Rattle.rules.specs.Limits.{most-branches}
+use Rattle.rules.specs.Syntax.{Stmt, Row, simple, if, else, join, end}
+use Rattle.rules.specs.Machine.{afterElse, toJoin}
+use Rattle.tables.specs.Decode.{kindAt, targetAt}
+
+-- what an open branch waits for
+pub data Wait : Type 0 where
+  forElse : Wait
+  forJoin : Wait
+
+-- ws: the open branches, innermost first; then k, with true where a block has just ended
+unfoldable pub rowNests : Stmt → List Wait → (Bool → List Wait → Bool) → Bool
+rowNests (simple p) ws k = k false ws
+rowNests (if n a b) ws k = ltb (length ws) most-branches && k false (forElse ∷ ws)
+rowNests else [] k = false
+rowNests else (forElse ∷ ws) k = k false (forJoin ∷ ws)
+rowNests else (forJoin ∷ ws) k = false
+rowNests (join φ) [] k = false
+rowNests (join φ) (forElse ∷ ws) k = false
+rowNests (join φ) (forJoin ∷ ws) k = k false ws
+rowNests end [] k = k true []
+rowNests end (v ∷ ws) k = false
+
+-- the rows of whole blocks, one after the other; b: whether they begin one
+unfoldable pub rowsNest : Bool → List Wait → List Row → Bool
+rowsNest b [] [] = b
+rowsNest b (v ∷ ws) [] = false
+rowsNest b ws (r ∷ rs) = rowNests (r .stmt) ws (λ b ws. rowsNest b ws rs)
+
+-- row i of the rows rs goes on where it should
+pub record TargetRight (w : List ℕ) (rs : List Row) (i : ℕ) : Type 0 where
+  pub after-else : kindAt w i ≡ 15 → (targetAt w i < length rs) × (drop (targetAt w i) rs ≡ afterElse (drop i rs))
+  pub to-join : kindAt w i ≡ 16 → (targetAt w i < length rs) × (drop (targetAt w i) rs ≡ toJoin (drop i rs))

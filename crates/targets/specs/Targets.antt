@@ -1,0 +1,52 @@
+-- Where `if` and `else` go on: a walk over the statement rows with the rows of the open branches, innermost first.
+use mathlib.Core.Bool.{cond}
+use mathlib.Core.List.{List, [], _∷_}
+use Prim.Native.Nat.{ℕ, zero, suc, _+_, _*_, _/_, _%_, _≤_, _<_}
+use lib.Dec.{eqb, ltb}
+use lib.ListN.{length}
+use Rattle.rules.specs.Limits.{most-branches}
+use Rattle.tables.specs.Decode.{kindAt, rowPlace}
+use Rattle.tables.specs.Stores.{putHalf}
+
+-- the open rows, at most 4
+unfoldable pub pushed : ℕ → List ℕ → List ℕ
+pushed i st = cond (ltb (length st) most-branches) (i ∷ st) st
+
+unfoldable pub popped : List ℕ → List ℕ
+popped [] = []
+popped (t ∷ st) = st
+
+unfoldable pub replaced : ℕ → List ℕ → List ℕ
+replaced i [] = []
+replaced i (t ∷ st) = i ∷ st
+
+-- `if` (15) opens a branch; `else` (16) stands for it from here on; `join` (17) closes it
+unfoldable pub openAfter : ℕ → ℕ → List ℕ → List ℕ
+openAfter k i st = cond (eqb k 15) (pushed i st) (cond (eqb k 16) (replaced i st) (cond (eqb k 17) (popped st) st))
+
+-- the innermost open row goes on to row v
+unfoldable pub putTarget : List ℕ → List ℕ → ℕ → List ℕ
+putTarget w [] v = w
+putTarget w (t ∷ st) v = putHalf w (rowPlace t + 10) v
+
+-- `else` is what a false `if` goes past, `join` what an `else` goes on to
+unfoldable pub workAfter : List ℕ → ℕ → ℕ → List ℕ → List ℕ
+workAfter w k i st = cond (eqb k 16) (putTarget w st (i + 1)) (cond (eqb k 17) (putTarget w st i) w)
+
+-- n rows from row i on
+unfoldable pub targetsFrom : List ℕ → ℕ → ℕ → List ℕ → List ℕ
+targetsFrom w i zero st = w
+targetsFrom w i (suc n) st = targetsFrom (workAfter w (kindAt w i) i st) (suc i) n (openAfter (kindAt w i) i st)
+
+-- a list of d rows as one number, the innermost in its lowest byte
+unfoldable pub stackOf : ℕ → ℕ → List ℕ
+stackOf zero s = []
+stackOf (suc d) s = s % 256 ∷ stackOf d (s / 256)
+
+-- it has no more bytes than rows
+unfoldable pub power : ℕ → ℕ
+power zero = 1
+power (suc d) = power d * 256
+
+abbrev pub Fits : ℕ → ℕ → Type 0
+Fits d s = (d ≤ 4) × (s < power d)

@@ -1,0 +1,109 @@
+ghost use mathlib.Core.Path.{_≡_};
+ghost use Prim.Native.Nat.{ℕ, _+_, _≤_, _<_};
+ghost use mathlib.Core.List.{[]};
+ghost use lib.ListN.{length};
+ghost use Rattle.tables.specs.Decode.{kindAt};
+ghost use Rattle.targets.specs.Targets.{Fits, stackOf, pushed, popped, replaced, openAfter, putTarget, workAfter, targetsFrom};
+use rules::Machine;
+use tables::Layout;
+use tables::kind_at;
+use tables::put_half;
+
+// The rows of the open branches: how many, and their numbers in base 256, the innermost lowest.
+pub struct Open {
+    pub depth: usize,
+    pub rows: usize,
+}
+
+fn push(o: Open, i: usize) -> Open
+    requires { ⌜ (Fits (o .depth) (o .rows)) × (i < 256) ⌝ }
+    ensures { λ r. ⌜ (stackOf (r .depth) (r .rows) ≡ pushed i (stackOf (o .depth) (o .rows))) × (Fits (r .depth) (r .rows)) ⌝ }
+{
+    let depth = o.depth;
+    if depth < Machine::BRANCHES {
+        return Open {
+            depth: depth + 1,
+            rows: o.rows * 256 + i,
+        };
+    }
+    o
+}
+
+fn pop(o: Open) -> Open
+    requires { ⌜ Fits (o .depth) (o .rows) ⌝ }
+    ensures { λ r. ⌜ (stackOf (r .depth) (r .rows) ≡ popped (stackOf (o .depth) (o .rows))) × (Fits (r .depth) (r .rows)) ⌝ }
+{
+    let depth = o.depth;
+    if depth == 0 {
+        return o;
+    }
+    Open {
+        depth: depth - 1,
+        rows: o.rows / 256,
+    }
+}
+
+fn replace(o: Open, i: usize) -> Open
+    requires { ⌜ (Fits (o .depth) (o .rows)) × (i < 256) ⌝ }
+    ensures { λ r. ⌜ (stackOf (r .depth) (r .rows) ≡ replaced i (stackOf (o .depth) (o .rows))) × (Fits (r .depth) (r .rows)) ⌝ }
+{
+    let depth = o.depth;
+    if depth == 0 {
+        return o;
+    }
+    Open {
+        depth: depth,
+        rows: o.rows / 256 * 256 + i,
+    }
+}
+
+// The open rows after row i of kind k.
+fn open_after(k: usize, i: usize, o: Open) -> Open
+    requires { ⌜ (Fits (o .depth) (o .rows)) × (i < 256) ⌝ }
+    ensures { λ r. ⌜ (stackOf (r .depth) (r .rows) ≡ openAfter k i (stackOf (o .depth) (o .rows))) × (Fits (r .depth) (r .rows)) ⌝ }
+{
+    match k {
+        15 => push(o, i),
+        16 => replace(o, i),
+        17 => pop(o),
+        _ => o,
+    }
+}
+
+// The innermost open row goes on to row v.
+fn put_target(work: &mut [u8], o: Open, v: usize)
+    requires { ⌜ (length (now work) ≡ 65536) × (v < 65536) ⌝ }
+    ensures { λ _. ⌜ now (work .exit) ≡ putTarget (now (work .entry)) (stackOf (o .depth) (o .rows)) v ⌝ }
+{
+    if o.depth != 0 {
+        let t = o.rows % 256;
+        put_half(work, Layout::ROWS + t * Layout::ROW_BYTES + 10, v);
+    }
+}
+
+// What row i of kind k says of the innermost open row.
+fn work_after(work: &mut [u8], k: usize, i: usize, o: Open)
+    requires { ⌜ (length (now work) ≡ 65536) × (i < 256) ⌝ }
+    ensures { λ _. ⌜ now (work .exit) ≡ workAfter (now (work .entry)) k i (stackOf (o .depth) (o .rows)) ⌝ }
+{
+    match k {
+        16 => put_target(work, o, i + 1),
+        17 => put_target(work, o, i),
+        _ => {}
+    }
+}
+
+// Gives each `if` and `else` of n rows the row that it goes on to.
+pub fn set_targets(work: &mut [u8], n: usize)
+    requires { ⌜ (length (now work) ≡ 65536) × (n ≤ 256) ⌝ }
+    ensures { λ _. ⌜ now (work .exit) ≡ targetsFrom (now (work .entry)) 0 n [] ⌝ }
+{
+    let mut o = Open { depth: 0, rows: 0 };
+    let mut i = 0;
+    while i < n {
+        let k = kind_at(work, i);
+        work_after(work, k, i, o);
+        o = open_after(k, i, o);
+        i += 1;
+    }
+}
