@@ -1,11 +1,10 @@
 -- A program that is put together line by line, in the order of the text, is the program of the definitions.
 use mathlib.Core.Path.{_≡_, refl, sym, ap, _∙_}
-use mathlib.Core.Bool.{Bool, true, false}
 use mathlib.Core.List.{List, [], _∷_, _++_, map, append-assoc, append-nil}
-use Prim.Native.Nat.{ℕ, zero, suc}
+use Prim.Native.Nat.{ℕ, suc}
 use lib.Dec.{T}
 use lib.ListN.{length, drop}
-use Rattle.rules.specs.Syntax.{Formula, Row, Field, Method, Program}
+use Rattle.rules.specs.Syntax.{Row, Field, Method}
 use Rattle.rules.specs.Items.{Item, aClass, aField, aMethod, aRequires, anEnsures, aMain, aLocal, aStatement}
 use Rattle.rules.specs.Reading.{Parts, parts, methodOf, withItem, partsFrom, program}
 use Rattle.assembly.specs.Flat.{Flat, FlatMethod, Stand, noFlat, onLast, withRequires, withEnsures, flatWith, flatFrom, methodIn, assembled, free, afterMethod, afterRequires, inMain, standAfter, endsAt, inOrder}

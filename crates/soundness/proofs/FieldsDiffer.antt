@@ -138,7 +138,7 @@ module _ (text : List Line) where
       (p : Place) (s : Scope) (ls : List Line) (items : List Item) → TakenLines text p s ls items → (n : ℕ) →
       PartsDiffer (s .members .fields) (partsFrom n items)
   unfolding parts partsFrom
-  lines-differ p s ls items none n = record { classes = tt; fields = tt; apart = λ g i. tt }
+  lines-differ p s ls items (none e) n = record { classes = tt; fields = tt; apart = λ g i. tt }
   lines-differ p s ls items (line {l = l} {ls = ls′} {items = items′} t ts) n =
       line-differs p s (l .kind) (l .fields) t (suc n) (partsFrom (suc n) items′) (lines-differ _ _ ls′ items′ ts (suc n))
 

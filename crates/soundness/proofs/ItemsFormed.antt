@@ -124,7 +124,7 @@ module _ (text : List Line) where
       (p : Place) (s : Scope) (ls : List Line) (items : List Item) → TakenLines text p s ls items →
       HeaderAt (p .stage) (s .block) → AllFormed items
   unfolding placeAfter scopeAfter
-  lines-formed p s ls items none h = tt
+  lines-formed p s ls items (none e) h = tt
   lines-formed p s ls items (line {l = l} {ls = ls′} {items = items′} t ts) h =
       let (a, b) = line-formed text p s (l .kind) (l .fields) t h in (a, lines-formed _ _ ls′ items′ ts b)
 

@@ -1,8 +1,7 @@
 -- What rows that nest say of each block: it nests, and only its `end` is last.
-use mathlib.Core.Path.{_≡_, refl, sym, ap, _∙_, subst}
-use mathlib.Core.Bool.{Bool, true, false, _&&_}
+use mathlib.Core.Path.{_≡_, refl, subst}
+use mathlib.Core.Bool.{Bool, true, false}
 use mathlib.Core.List.{List, [], _∷_}
-use mathlib.Core.Logic.{_⊎_, inl, inr}
 use Prim.Native.Nat.{ℕ, zero, suc, _<_}
 use native.Mathlib.Omega.{arith}
 use lib.Dec.{T, ltb, leb, le→leb}
@@ -11,7 +10,7 @@ use Rattle.rules.specs.Syntax.{Stmt, Row, simple, if, else, join, end}
 use Rattle.rules.specs.Machine.{noRow}
 use Rattle.rules.proofs.Lists.{and-both, and-intro}
 use Rattle.tables.specs.Tables.{nestedRow, nested}
-use Rattle.targets.specs.Branched.{Wait, forElse, forJoin, rowNests, rowsNest}
+use Rattle.assembly.specs.Nests.{Wait, forElse, forJoin, rowNests, rowsNest}
 
 -- EACH BLOCK NESTS
 row-nested :

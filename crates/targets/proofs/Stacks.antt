@@ -1,5 +1,5 @@
 -- The open rows as one number: what pushing, popping and replacing do to it.
-use mathlib.Core.Path.{_≡_, refl, ap, ap₂, _∙_}
+use mathlib.Core.Path.{_≡_, refl, ap, ap₂}
 use mathlib.Core.Bool.{Bool, true, false, cond}
 use mathlib.Core.List.{List, [], _∷_}
 use Prim.Native.Nat.{ℕ, zero, suc, _+_, _*_, _-_, _/_, _%_, _≤_, _<_}
@@ -11,7 +11,7 @@ use lib.ListN.{length}
 use Rattle.tables.specs.Decode.{kindAt, rowPlace}
 use Rattle.tables.specs.Stores.{putHalf}
 use Rattle.tables.proofs.Bytes.{put-half-length}
-use Rattle.targets.specs.Targets.{Fits, power, stackOf, pushed, popped, replaced, openAfter, putTarget, workAfter, targetsFrom}
+use Rattle.targets.specs.Targets.{power, stackOf, pushed, popped, replaced, openAfter, putTarget, workAfter, targetsFrom}
 
 stack-length : (d s : ℕ) → length (stackOf d s) ≡ d
 unfolding stackOf

@@ -3,14 +3,14 @@ use mathlib.Core.Path.{_≡_, refl, sym, ap, _∙_, subst}
 use mathlib.Core.Bool.{Bool, true, false, cond, _&&_}
 use mathlib.Core.List.{List, [], _∷_}
 use mathlib.Core.Logic.{_⊎_, inl, inr, ⊎-elim}
-use Prim.Native.Nat.{ℕ, zero, suc, pred, _+_, _*_, _≤_, _<_}
+use Prim.Native.Nat.{ℕ, zero, suc, pred, _+_, _≤_, _<_}
 use native.Mathlib.Numerals.{add-one}
 use native.Mathlib.Omega.{arith}
-use lib.Dec.{T, ltb, eqb, eqb→eq, eqb-refl}
+use lib.Dec.{T, ltb, eqb, eqb→eq}
 use lib.ListN.{length, drop, drop-of-length-le}
 use native.Mathlib.Decide.{decLt}
 use borrow.Author.Tests.{ne-eqb}
-use Rattle.rules.specs.Syntax.{Simple, Stmt, Row, simple, if, else, join, end}
+use Rattle.rules.specs.Syntax.{Simple, Stmt, Row, simple, else, join, end}
 use Rattle.rules.specs.Machine.{tail, depthAfter, isElse, isJoin, seek, afterElse, toJoin}
 use Rattle.rules.proofs.Lists.{Member, at-head, further, head-or, decide-eq, and-both, T-true}
 use Rattle.tables.proofs.Bytes.{Outside, put-half-byte, half-put, put-half-length}
@@ -18,7 +18,8 @@ use Rattle.tables.specs.Stores.{putHalf}
 use Rattle.tables.specs.Decode.{kindAt, targetAt, firstAtomAt, rowPlace, formulaAt, ifAt, stmtAt, rowAt, rowsFrom}
 use Rattle.targets.proofs.Stacks.{open-at-if, open-at-else, open-at-join, open-elsewhere, work-at-else, work-at-join, work-elsewhere}
 use Rattle.targets.specs.Targets.{openAfter, workAfter, targetsFrom, pushed, popped, replaced, putTarget}
-use Rattle.targets.specs.Branched.{Wait, forElse, forJoin, rowNests, rowsNest, TargetRight}
+use Rattle.assembly.specs.Nests.{Wait, forElse, forJoin, rowNests, rowsNest}
+use Rattle.targets.specs.Right.{TargetRight}
 
 -- ROWS OF AN AREA
 pub rows-length : (w : List ℕ) (i n : ℕ) → length (rowsFrom w i n) ≡ n

@@ -1,14 +1,10 @@
--- Rows whose branches nest: what the places of a read text give, and what targets and nesting follow from.
-use mathlib.Core.Path.{_≡_}
+-- Rows whose branches nest: what the places of a read text give.
 use mathlib.Core.Bool.{Bool, true, false, _&&_}
 use mathlib.Core.List.{List, [], _∷_}
-use Prim.Native.Nat.{ℕ, _<_}
 use lib.Dec.{ltb}
-use lib.ListN.{length, drop}
+use lib.ListN.{length}
 use Rattle.rules.specs.Limits.{most-branches}
 use Rattle.rules.specs.Syntax.{Stmt, Row, simple, if, else, join, end}
-use Rattle.rules.specs.Machine.{afterElse, toJoin}
-use Rattle.tables.specs.Decode.{kindAt, targetAt}
 
 -- what an open branch waits for
 pub data Wait : Type 0 where
@@ -33,8 +29,3 @@ unfoldable pub rowsNest : Bool → List Wait → List Row → Bool
 rowsNest b [] [] = b
 rowsNest b (v ∷ ws) [] = false
 rowsNest b ws (r ∷ rs) = rowNests (r .stmt) ws (λ b ws. rowsNest b ws rs)
-
--- row i of the rows rs goes on where it should
-pub record TargetRight (w : List ℕ) (rs : List Row) (i : ℕ) : Type 0 where
-  pub after-else : kindAt w i ≡ 15 → (targetAt w i < length rs) × (drop (targetAt w i) rs ≡ afterElse (drop i rs))
-  pub to-join : kindAt w i ≡ 16 → (targetAt w i < length rs) × (drop (targetAt w i) rs ≡ toJoin (drop i rs))
