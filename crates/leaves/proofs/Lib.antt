@@ -1,0 +1,4 @@
+pub mod Search
+pub mod Words
+pub mod Numbers
+pub mod Exprs
