@@ -29,17 +29,20 @@ pub fn is_digit(b: u8) -> bool
 pub fn is_letter(b: u8) -> bool
     ensures { λ r. ⌜ r ≡ letter b ⌝ }
 {
-    if between(b, 65, 90) {
-        return true;
+    if 97 <= b {
+        return b <= 122;
     }
-    between(b, 97, 122)
+    between(b, 65, 90)
 }
 
 pub fn is_letter_or_digit(b: u8) -> bool
     ensures { λ r. ⌜ r ≡ letterOrDigit b ⌝ }
 {
-    if is_letter(b) {
-        return true;
+    if 97 <= b {
+        return b <= 122;
+    }
+    if 65 <= b {
+        return b <= 90;
     }
     is_digit(b)
 }
@@ -73,16 +76,16 @@ pub fn in_set(b: u8, set: Set) -> bool
 {
     match set {
         Set::LineEnd => {
-            if b == 10 {
-                return true;
+            if b < 33 {
+                return b != 9;
             }
-            !is_allowed(b)
+            126 < b
         }
         Set::FieldEnd => {
-            if b == 9 {
-                return true;
+            if 10 < b {
+                return false;
             }
-            b == 10
+            9 <= b
         }
         Set::FullStop => b == 46,
         Set::NotLetterOrDigit => !is_letter_or_digit(b),

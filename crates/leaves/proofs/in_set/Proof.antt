@@ -1,5 +1,6 @@
+use Rattle.leaves.proofs.Bytes.{line-end-low, line-end-high, field-end-high, field-end-low}
 use borrow.Author.Needs.{needs}
-use borrow.Author.Tests.{ne-eqb}
+use mathlib.Core.Path.{sym}
 use Rattle.leaves.proofs.in_set.Statement.{statement}
 use Rattle.leaves.proofs.in_set.Tie as tie
 
@@ -7,16 +8,13 @@ enum-told : tie.Need-enum-told
 enum-told c = search needs
 
 returns : tie.Need-returns
-returns c = rw (c .before .enum-told .given .1, c .if1 .taken)
-
-is-allowed-requires : tie.Need-is-allowed-requires
-is-allowed-requires c κs = search needs
+returns c = rw (c .before .enum-told .given .1) (sym (line-end-low (c .before .before .before .args .b) (c .if1 .taken)))
 
 enum-told-2 : tie.Need-enum-told-2
 enum-told-2 c = search needs
 
 returns-2 : tie.Need-returns-2
-returns-2 c = rw (c .before .enum-told2 .given .1, c .if2 .taken)
+returns-2 c = rw (c .before .enum-told2 .given .1) (sym (field-end-high (c .before .before .before .args .b) (c .if2 .taken)))
 
 enum-told-3 : tie.Need-enum-told-3
 enum-told-3 c = search needs
@@ -34,10 +32,10 @@ is-digit-requires : tie.Need-is-digit-requires
 is-digit-requires c κs = search needs
 
 returns-3 : tie.Need-returns-3
-returns-3 c = rw (c .before .before .enum-told .given .1, ne-eqb _ 10 (c .before .if1 .left), c .is-allowed .ensures)
+returns-3 c = rw (c .before .enum-told .given .1) (sym (line-end-high (c .before .before .before .args .b) (c .if1 .left)))
 
 returns-4 : tie.Need-returns-4
-returns-4 c = rw (c .before .enum-told2 .given .1, ne-eqb _ 9 (c .if2 .left))
+returns-4 c = rw (c .before .enum-told2 .given .1) (sym (field-end-low (c .before .before .before .args .b) (c .if2 .left)))
 
 returns-5 : tie.Need-returns-5
 returns-5 c = rw (c .enum-told3 .given .1)
@@ -54,7 +52,6 @@ in-set-spec =
     (tie.spec
     enum-told
     returns
-    is-allowed-requires
     enum-told-2
     returns-2
     enum-told-3

@@ -1,23 +1,20 @@
-use Rattle.rules.specs.Text.{letterOrDigit}
+use Rattle.leaves.proofs.Bytes.{alnum-small, alnum-capital, alnum-digit}
 use borrow.Author.Needs.{needs}
 use mathlib.Core.Path.{sym, _∙_}
 use Rattle.leaves.proofs.is_letter_or_digit.Statement.{statement}
 use Rattle.leaves.proofs.is_letter_or_digit.Tie as tie
 
-is-letter-requires : tie.Need-is-letter-requires
-is-letter-requires c κs = search needs
-
 returns : tie.Need-returns
-unfolding letterOrDigit
-returns c = rw (sym (c .before .is-letter .ensures) ∙ c .if1 .taken)
+returns c = sym (alnum-small (c .before .args .b) (c .if1 .taken))
+
+returns-2 : tie.Need-returns-2
+returns-2 c = sym (alnum-capital (c .before .before .args .b) (c .before .if1 .left) (c .if2 .taken))
 
 is-digit-requires : tie.Need-is-digit-requires
 is-digit-requires c κs = search needs
 
-returns-2 : tie.Need-returns-2
-unfolding letterOrDigit
-returns-2 c = rw (sym (c .before .before .is-letter .ensures) ∙ c .before .if1 .left) (c .is-digit .ensures)
+returns-3 : tie.Need-returns-3
+returns-3 c = c .is-digit .ensures ∙ sym (alnum-digit (c .before .before .before .args .b) (c .before .if2 .left))
 
 pub is-letter-or-digit-spec : {M : Type 1} → statement M
-is-letter-or-digit-spec =
-    tie.close (tie.spec is-letter-requires returns is-digit-requires returns-2)
+is-letter-or-digit-spec = tie.close (tie.spec returns returns-2 is-digit-requires returns-3)
