@@ -1,0 +1,251 @@
+-- Laws of the grammar's rows: numbers stand for what the rules say of kinds, operands and tails.
+use mathlib.Core.Path.{_≡_, refl, sym, ap, _∙_}
+use mathlib.Core.Bool.{Bool, true, false, cond, _&&_}
+use mathlib.Core.List.{List, [], _∷_}
+use mathlib.Core.Option.{Option, none, some}
+use Prim.Native.Nat.{ℕ, zero, suc, _+_, _*_, _-_, _/_, _%_, _≤_, _<_}
+use native.Mathlib.Omega.{arith}
+use lib.Dec.{eqb}
+use lib.ListN.{length, getD, drop}
+use Rattle.rules.specs.Base.{Name, bindOption, withDefault}
+use Rattle.rules.specs.Base as Base
+use Rattle.rules.specs.Grammar as Grammar
+use Rattle.rules.specs.Grammar.{Kind, Operand, Tail, form, kindOf, kindNumber, isOperand, isTail, isFormed}
+use Rattle.rules.specs.Grammar.{new, typeName, className, variable, member, expression, nothing, condition, formula}
+use Rattle.rules.specs.Grammar.{classes, fields, methods, variables, read, assigned, field, method}
+use Rattle.rules.specs.Grammar.{Class, Field, Method, Requires, Ensures, Main, Var, Set, Let, New, Call, Return, Assert, Release, If, Else, Join, End}
+use Rattle.rules.specs.Places.{stageNumber}
+use Rattle.leaves.specs.Words as Words
+use Rattle.leaves.specs.Words.{kindAt, kindOr0}
+use Rattle.leaves.proofs.Search.{true-false}
+use Rattle.leaves.proofs.Words.{NoneOf, kind-number}
+use Rattle.lines.specs.declared.Row.{Row}
+use Rattle.lines.specs.Cuts.{part, more, NextField}
+use Rattle.lines.specs.Rows as Rows
+use Rattle.lines.specs.Rows.{kindNumbered, operandNumber, operandsNumber, tailNumber, rowOf, rowNumber, fitsOperand, fitsTail, formedKind}
+use Rattle.lines.proofs.Formulas.{more-on}
+
+-- KINDS
+pub number-of-kind : (n : ℕ) → 1 ≤ n → n ≤ 18 → kindNumber (kindNumbered n) ≡ n
+unfolding kindNumbered withDefault
+number-of-kind n l h = go (kindAt n) (kind-number n h)
+  where
+    go : (o : Option Kind) → kindOr0 o ≡ n → kindNumber (withDefault End o) ≡ n
+    go none e = absurd (omega arith)
+    go (some k) e = e
+
+pub kind-of-number : (k : Kind) → kindNumbered (kindNumber k) ≡ k
+unfolding Rows.opened Words.opened Grammar.opened Base.opened
+kind-of-number Class = refl
+kind-of-number Field = refl
+kind-of-number Method = refl
+kind-of-number Requires = refl
+kind-of-number Ensures = refl
+kind-of-number Main = refl
+kind-of-number Var = refl
+kind-of-number Set = refl
+kind-of-number Let = refl
+kind-of-number New = refl
+kind-of-number Call = refl
+kind-of-number Return = refl
+kind-of-number Assert = refl
+kind-of-number Release = refl
+kind-of-number If = refl
+kind-of-number Else = refl
+kind-of-number Join = refl
+kind-of-number End = refl
+
+pub kind-bounds : (k : Kind) → (1 ≤ kindNumber k) × (kindNumber k ≤ 18)
+unfolding kindNumber
+kind-bounds Class = omega arith
+kind-bounds Field = omega arith
+kind-bounds Method = omega arith
+kind-bounds Requires = omega arith
+kind-bounds Ensures = omega arith
+kind-bounds Main = omega arith
+kind-bounds Var = omega arith
+kind-bounds Set = omega arith
+kind-bounds Let = omega arith
+kind-bounds New = omega arith
+kind-bounds Call = omega arith
+kind-bounds Return = omega arith
+kind-bounds Assert = omega arith
+kind-bounds Release = omega arith
+kind-bounds If = omega arith
+kind-bounds Else = omega arith
+kind-bounds Join = omega arith
+kind-bounds End = omega arith
+
+-- ROWS
+abbrev pub down : ℕ → List ℕ
+down zero = []
+down (suc m) = suc m ∷ down m
+
+-- what the last arm of a `match` knows of a number, where the others are for 1 to m
+pub passed : (m n : ℕ) → 1 ≤ n → NoneOf n (down m) → m < n
+passed zero n h r = h
+passed (suc m) n h r = let l = passed m n h (r .0) in omega (arith, l, r .1)
+
+abbrev pub unpacked : ℕ → Row
+unpacked n =
+    record {
+      operands = n % 65536;
+      tail = n / 65536 % 16;
+      first = n / 1048576 % 16;
+      last = n / 16777216 % 16;
+      next = n / 268435456;
+    }
+
+pub row-back : (k : Kind) → unpacked (rowNumber (rowOf (form k))) ≡ rowOf (form k)
+unfolding Rows.opened Grammar.opened stageNumber
+row-back Class = refl
+row-back Field = refl
+row-back Method = refl
+row-back Requires = refl
+row-back Ensures = refl
+row-back Main = refl
+row-back Var = refl
+row-back Set = refl
+row-back Let = refl
+row-back New = refl
+row-back Call = refl
+row-back Return = refl
+row-back Assert = refl
+row-back Release = refl
+row-back If = refl
+row-back Else = refl
+row-back Join = refl
+row-back End = refl
+
+-- OPERANDS
+operand-bounds : (o : Operand) → (1 ≤ operandNumber o) × (operandNumber o < 16)
+unfolding operandNumber
+operand-bounds (new classes) = omega arith
+operand-bounds (new fields) = omega arith
+operand-bounds (new methods) = omega arith
+operand-bounds (new variables) = omega arith
+operand-bounds typeName = omega arith
+operand-bounds className = omega arith
+operand-bounds (variable read) = omega arith
+operand-bounds (variable assigned) = omega arith
+operand-bounds (member field) = omega arith
+operand-bounds (member method) = omega arith
+operand-bounds expression = omega arith
+
+operand-is : (o : Operand) (w : Name) → isOperand o w ≡ fitsOperand (operandNumber o) w
+unfolding isOperand fitsOperand operandNumber
+operand-is (new classes) w = refl
+operand-is (new fields) w = refl
+operand-is (new methods) w = refl
+operand-is (new variables) w = refl
+operand-is typeName w = refl
+operand-is className w = refl
+operand-is (variable read) w = refl
+operand-is (variable assigned) w = refl
+operand-is (member field) w = refl
+operand-is (member method) w = refl
+operand-is expression w = refl
+
+tail-is : (t : Tail) (ws : List Name) → isTail t ws ≡ fitsTail (tailNumber t) ws
+unfolding isTail fitsTail tailNumber
+tail-is nothing ws = refl
+tail-is condition ws = refl
+tail-is formula ws = refl
+
+-- the first of the operands, and those after it
+pub first-operand : (o : Operand) (os : List Operand) → (operandsNumber (o ∷ os) % 16 ≡ operandNumber o) × (operandsNumber (o ∷ os) / 16 ≡ operandsNumber os)
+unfolding operandsNumber
+first-operand o os = omega (arith, operand-bounds o)
+
+-- THE WALK OVER A LINE'S OPERANDS
+
+-- at the cursor r, operands with the number n are left of a line whose form is b
+pub record Walk (t : List ℕ) (tail : Tail) (b : Bool) (n r : ℕ) : Type 0 where
+  pub left : List Operand
+  pub number : n ≡ operandsNumber left
+  pub high : r ≤ length t
+  pub is : isFormed left tail (more (drop r t)) ≡ b
+
+module _ {t : List ℕ} {tail : Tail} {b : Bool} {n r : ℕ} (x : Walk t tail b n r) where
+  pub walk-done : n ≡ 0 → b ≡ fitsTail (tailNumber tail) (more (drop r t))
+  unfolding isFormed operandsNumber
+  walk-done e = go (x .left) (x .number) (x .is)
+    where
+      go : (os : List Operand) → n ≡ operandsNumber os → isFormed os tail (more (drop r t)) ≡ b → b ≡ fitsTail (tailNumber tail) (more (drop r t))
+      go [] h i = sym i ∙ tail-is tail _
+      go (o ∷ os) h i = absurd (omega (arith, operand-bounds o))
+
+  pub walk-short : (n ≡ 0 → ⊥) → more (drop r t) ≡ [] → b ≡ false
+  unfolding isFormed operandsNumber
+  walk-short l e = go (x .left) (x .number) (x .is)
+    where
+      go : (os : List Operand) → n ≡ operandsNumber os → isFormed os tail (more (drop r t)) ≡ b → b ≡ false
+      go [] h i = absurd (l h)
+      go (o ∷ os) h i = sym i ∙ rw e
+
+  module _ (l : n ≡ 0 → ⊥) {e : ℕ} (f : NextField t r e) (d : e ≡ r → ⊥) where
+    pub walk-wrong : fitsOperand (n % 16) (part (r + 1) e t) ≡ false → b ≡ false
+    unfolding isFormed operandsNumber
+    walk-wrong q = go (x .left) (x .number) (x .is)
+      where
+        go : (os : List Operand) → n ≡ operandsNumber os → isFormed os tail (more (drop r t)) ≡ b → b ≡ false
+        go [] h i = absurd (l h)
+        go (o ∷ os) h i =
+            let k : operandNumber o ≡ n % 16 = omega (arith, operand-bounds o) in
+            sym i ∙ rw (more-on f d, operand-is o _, k, q)
+
+    pub walk-on : fitsOperand (n % 16) (part (r + 1) e t) ≡ true → Walk t tail b (n / 16) e
+    unfolding isFormed operandsNumber
+    walk-on q = go (x .left) (x .number) (x .is)
+      where
+        go : (os : List Operand) → n ≡ operandsNumber os → isFormed os tail (more (drop r t)) ≡ b → Walk t tail b (n / 16) e
+        go [] h i = absurd (l h)
+        go (o ∷ os) h i =
+            let k : operandNumber o ≡ n % 16 = omega (arith, operand-bounds o) in
+            record {
+              left = os;
+              number = omega (arith, operand-bounds o);
+              high = f .high;
+              is = rw (more-on f d, operand-is o _, k, q) at i;
+            }
+
+-- THE KIND OF A LINE
+
+-- a word's number is that of a kind
+pub data Known (w : Name) (n : ℕ) : Type 0 where
+  known : (k : Kind) → kindOf w ≡ some k → n ≡ kindNumber k → Known w n
+
+pub is-known : (w : Name) (n : ℕ) → n ≡ kindOr0 (kindOf w) → (n ≡ 0 → ⊥) → Known w n
+is-known w n e z = go (kindOf w) refl
+  where
+    go : (o : Option Kind) → kindOf w ≡ o → Known w n
+    go none h = absurd (z (rw h at e))
+    go (some k) h = known k h (rw h at e)
+
+pub known-bounds : (w : Name) (n : ℕ) → Known w n → (1 ≤ n) × (n ≤ 18)
+known-bounds w n (known k e h) = let b = kind-bounds k in omega (arith, h, b)
+
+module _ (ws vs : List Name) (w : Name) (c : ws ≡ w ∷ vs) (n : ℕ) where
+  pub no-kind : n ≡ kindOr0 (kindOf w) → n ≡ 0 → kindOr0 (formedKind ws) ≡ 0
+  unfolding formedKind bindOption
+  no-kind e z = rw c (go (kindOf w) (sym e ∙ z))
+    where
+      go : (o : Option Kind) → kindOr0 o ≡ 0 → kindOr0 (bindOption o (λ k. Rattle.leaves.specs.Answers.whenTrue (isFormed (form k .operands) (form k .tail) vs) k)) ≡ 0
+      go none h = refl
+      go (some k) h = absurd (let b = kind-bounds k in omega (arith, h, b))
+
+  pub formed-known : Known w n → isFormed (form (kindNumbered n) .operands) (form (kindNumbered n) .tail) vs ≡ true → kindOr0 (formedKind ws) ≡ n
+  unfolding formedKind bindOption
+  formed-known (known k e h) f = let g : isFormed (form k .operands) (form k .tail) vs ≡ true = rw (h, kind-of-number k) at f in rw (c, e, g) (sym h)
+
+  pub unformed-known : Known w n → isFormed (form (kindNumbered n) .operands) (form (kindNumbered n) .tail) vs ≡ false → kindOr0 (formedKind ws) ≡ 0
+  unfolding formedKind bindOption
+  unformed-known (known k e h) f = let g : isFormed (form k .operands) (form k .tail) vs ≡ false = rw (h, kind-of-number k) at f in rw (c, e, g)
+
+-- the number of a line's kind, where it has one
+pub formed-bounds : (ws : List Name) (n : ℕ) → n ≡ kindOr0 (formedKind ws) → (n ≡ 0 → ⊥) → (1 ≤ n) × (n ≤ 18)
+formed-bounds ws n e z = go (formedKind ws) e
+  where
+    go : (o : Option Kind) → n ≡ kindOr0 o → (1 ≤ n) × (n ≤ 18)
+    go none h = absurd (z h)
+    go (some k) h = let b = kind-bounds k in omega (arith, h, b)

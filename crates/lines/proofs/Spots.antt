@@ -1,0 +1,142 @@
+-- Laws of places: the numbers of a place stand for what the rules say of it.
+use mathlib.Core.Path.{_≡_, refl, sym, ap, ap₂, _∙_}
+use mathlib.Core.Bool.{Bool, true, false, not, cond, _&&_, _||_}
+use mathlib.Core.List.{List, [], _∷_}
+use Prim.Native.Nat.{ℕ, zero, suc, _+_, _*_, _/_, _%_, _≤_, _<_}
+use native.Mathlib.Omega.{arith}
+use native.Mathlib.Decide.{decLt}
+use lib.Dec.{eqb, leb, ltb}
+use lib.ListN.{length}
+use borrow.Author.Tests.{eq-eqb, ne-eqb, eqb-true, eqb-false, lt-ltb, le-ltb, le-leb, lt-leb, leb-true, ltb-true}
+use Rattle.rules.specs.Base.{Try, ok, no, check, _>>=_, _>>_, between}
+use Rattle.rules.specs.Answers.{Refusal, malformed, limitPassed}
+use Rattle.rules.specs.Grammar.{Kind, form, kindNumber, isKind, isStatement, afterMain, afterMethod}
+use Rattle.rules.specs.Grammar.{Class, Field, Method, Main, Var, Return, If, Else, Join, End}
+use Rattle.rules.specs.Places as Places
+use Rattle.rules.specs.Places.{Branch, beforeElse, afterElse, stageNumber, mayElse, mayJoin, mayEnd, outer, oneMoreIf, placeLine}
+use Rattle.leaves.proofs.Search.{both-true}
+use Rattle.lines.specs.declared.Place.{Place}
+use Rattle.lines.specs.Rows.{kindNumbered}
+use Rattle.lines.specs.Spots.{branchNumber, branchesNumber, coded, fits, inPlace, stageAfter, branchesAfter, placeAfter, withinLimits}
+use Rattle.lines.proofs.Rows.{number-of-kind}
+
+eqb-sym : (a b : ℕ) → eqb a b ≡ eqb b a
+eqb-sym a b = go (eqb a b) refl
+  where
+    go : (q : Bool) → eqb a b ≡ q → q ≡ eqb b a
+    go true e = sym (eq-eqb b a (sym (eqb-true a b e)))
+    go false e = sym (ne-eqb b a (λ z. eqb-false a b e (sym z)))
+
+-- OPEN BRANCHES
+branch-bounds : (b : Branch) → (1 ≤ branchNumber b) × (branchNumber b ≤ 2)
+unfolding branchNumber
+branch-bounds beforeElse = omega arith
+branch-bounds afterElse = omega arith
+
+may-else : (bs : List Branch) → eqb (branchesNumber bs % 4) 1 ≡ mayElse bs
+unfolding branchesNumber branchNumber mayElse
+may-else [] = refl
+may-else (beforeElse ∷ bs) = eq-eqb (branchesNumber (beforeElse ∷ bs) % 4) 1 (omega arith)
+may-else (afterElse ∷ bs) = ne-eqb (branchesNumber (afterElse ∷ bs) % 4) 1 (λ e. omega arith)
+
+may-join : (bs : List Branch) → eqb (branchesNumber bs % 4) 2 ≡ mayJoin bs
+unfolding branchesNumber branchNumber mayJoin
+may-join [] = refl
+may-join (beforeElse ∷ bs) = ne-eqb (branchesNumber (beforeElse ∷ bs) % 4) 2 (λ e. omega arith)
+may-join (afterElse ∷ bs) = eq-eqb (branchesNumber (afterElse ∷ bs) % 4) 2 (omega arith)
+
+may-end : (bs : List Branch) → eqb (branchesNumber bs) 0 ≡ mayEnd bs
+unfolding branchesNumber mayEnd
+may-end [] = refl
+may-end (b ∷ bs) = ne-eqb (branchesNumber (b ∷ bs)) 0 (λ e. omega (arith, branch-bounds b))
+
+outer-number : (bs : List Branch) → branchesNumber (outer bs) ≡ branchesNumber bs / 4
+unfolding branchesNumber outer
+outer-number [] = refl
+outer-number (b ∷ bs) = omega (arith, branch-bounds b)
+
+-- at most four are open
+few : (bs : List Branch) → ltb (branchesNumber bs) 256 ≡ leb (length bs) 4
+unfolding branchesNumber
+few [] = refl
+few (a ∷ []) = lt-ltb (branchesNumber (a ∷ [])) 256 (omega (arith, branch-bounds a))
+few (a ∷ b ∷ []) = lt-ltb (branchesNumber (a ∷ b ∷ [])) 256 (omega (arith, branch-bounds a, branch-bounds b))
+few (a ∷ b ∷ c ∷ []) = lt-ltb (branchesNumber (a ∷ b ∷ c ∷ [])) 256 (omega (arith, branch-bounds a, branch-bounds b, branch-bounds c))
+few (a ∷ b ∷ c ∷ d ∷ []) = lt-ltb (branchesNumber (a ∷ b ∷ c ∷ d ∷ [])) 256 (omega (arith, branch-bounds a, branch-bounds b, branch-bounds c, branch-bounds d))
+few (a ∷ b ∷ c ∷ d ∷ e ∷ bs) =
+    le-ltb (branchesNumber (a ∷ b ∷ c ∷ d ∷ e ∷ bs)) 256 (omega (arith, branch-bounds e)) ∙ sym (lt-leb (length (a ∷ b ∷ c ∷ d ∷ e ∷ bs)) 4 (omega arith))
+
+-- PLACES
+module _ (p : Places.Place) where
+  pub within-is : withinLimits (coded p) ≡ Places.withinLimits p
+  unfolding withinLimits coded Places.withinLimits
+  within-is = rw (few (p .branches))
+
+  module _ (k : ℕ) (l : 1 ≤ k) (h : k ≤ 18) where
+    same : kindNumber (kindNumbered k) ≡ k
+    same = number-of-kind k l h
+
+    kind-is : (a : Kind) → isKind a (kindNumbered k) ≡ eqb k (kindNumber a)
+    unfolding isKind
+    kind-is a = rw same (eqb-sym (kindNumber a) k)
+
+    fits-is : fits k (coded p) ≡ Places.fits (kindNumbered k) p
+    unfolding fits coded Places.fits kindNumber
+    fits-is = rw (kind-is Return, kind-is Else, kind-is Join, kind-is End, may-else (p .branches), may-join (p .branches), may-end (p .branches))
+
+    pub in-place-is : inPlace k (coded p) ≡ Places.inPlace (kindNumbered k) p
+    unfolding inPlace coded Places.inPlace
+    in-place-is = rw fits-is
+
+    branches-is : branchesAfter k (branchesNumber (p .branches)) ≡ branchesNumber (Places.branchesAfter (kindNumbered k) (p .branches))
+    unfolding branchesAfter Places.branchesAfter kindNumber branchesNumber branchNumber
+    branches-is = rw (kind-is If, kind-is Else, kind-is Join) (go (eqb k 15) (eqb k 16) (eqb k 17))
+      where
+        go : (x y z : Bool) →
+            cond x (1 + 4 * branchesNumber (p .branches)) (cond y (2 + 4 * (branchesNumber (p .branches) / 4)) (cond z (branchesNumber (p .branches) / 4) (branchesNumber (p .branches))))
+            ≡ branchesNumber (cond x (beforeElse ∷ p .branches) (cond y (afterElse ∷ outer (p .branches)) (cond z (outer (p .branches)) (p .branches))))
+        go true y z = refl
+        go false true z = rw (← outer-number (p .branches))
+        go false false true = sym (outer-number (p .branches))
+        go false false false = refl
+
+    stage-is : stageAfter k (p .main) (stageNumber (form (kindNumbered k) .next)) ≡ stageNumber (Places.stageAfter (kindNumbered k) p)
+    unfolding stageAfter Places.stageAfter kindNumber stageNumber
+    stage-is = rw (kind-is End) (go (eqb k 18) (p .main))
+      where
+        go : (x y : Bool) →
+            cond x (cond y 7 2) (stageNumber (form (kindNumbered k) .next)) ≡ stageNumber (cond x (cond y afterMain afterMethod) (form (kindNumbered k) .next))
+        go true true = refl
+        go true false = refl
+        go false y = refl
+
+    pub place-after-is : placeAfter k (coded p) ≡ coded (Places.placeAfter (kindNumbered k) p)
+    unfolding placeAfter coded Places.placeAfter isStatement kindNumber
+    place-after-is =
+        rw (same, kind-is Main, kind-is Class, kind-is Field, kind-is Method, kind-is Var, stage-is, branches-is)
+
+-- what the limits leave room for
+pub record Low (s : Place) : Type 0 where
+  pub classes : s .classes ≤ 16
+  pub fields : s .fields ≤ 8
+  pub methods : s .methods ≤ 64
+  pub locals : s .locals ≤ 12
+  pub statements : s .statements ≤ 256
+  pub branches : s .branches < 256
+
+pub low : (s : Place) → withinLimits s ≡ true → Low s
+unfolding withinLimits
+low s e0 =
+    let e1 = both-true _ _ e0 in
+    let e2 = both-true _ _ (e1 .1) in
+    let e3 = both-true _ _ (e2 .1) in
+    let e4 = both-true _ _ (e3 .1) in
+    let e5 = both-true _ _ (e4 .1) in
+    record {
+      classes = leb-true _ _ (e1 .0);
+      fields = leb-true _ _ (e2 .0);
+      methods = leb-true _ _ (e3 .0);
+      locals = leb-true _ _ (e4 .0);
+      statements = leb-true _ _ (e5 .0);
+      branches = ltb-true _ _ (e5 .1);
+    }

@@ -1,0 +1,44 @@
+-- `lines::is_in_place` meets its contract. Assumes nothing.
+use borrow.Author.Needs.{needs}
+use mathlib.Core.Path.{_≡_, refl, sym, ap, _∙_}
+use mathlib.Core.Bool.{_&&_}
+use Prim.Native.Nat.{ℕ, _≤_, _<_}
+use lib.Dec.{leb}
+use borrow.Author.Tests.{le-leb, lt-leb}
+use Rattle.rules.specs.Base.{between}
+use Rattle.rules.specs.Grammar.{form}
+use Rattle.rules.specs.Places.{stageNumber}
+use Rattle.leaves.proofs.Search.{and-false}
+use Rattle.lines.specs.declared.Row.{Row}
+use Rattle.lines.specs.Rows.{kindNumbered, rowOf}
+use Rattle.lines.specs.Spots.{inPlace}
+use Rattle.lines.proofs.is_in_place.Statement.{statement}
+use Rattle.lines.proofs.is_in_place.Tie as tie
+
+row-of-requires : tie.Need-row-of-requires
+row-of-requires c κs = search needs
+
+returns : tie.Need-returns
+unfolding inPlace rowOf between
+returns c =
+    let e = ap (λ (r : Row). r .first) (c .before .before .before .row-of .ensures) in rw (← e, lt-leb _ _ (c .if1 .taken))
+
+returns-2 : tie.Need-returns-2
+unfolding inPlace rowOf between
+returns-2 c =
+    let e = ap (λ (r : Row). r .first) (c .before .before .before .before .before .before .row-of .ensures) in
+    let f = ap (λ (r : Row). r .last) (c .before .before .before .before .before .before .row-of .ensures) in
+    rw (← e, ← f, le-leb _ _ (c .before .before .before .if1 .left), lt-leb _ _ (c .if2 .taken))
+
+fits-requires : tie.Need-fits-requires
+fits-requires c κs = search needs
+
+returns-3 : tie.Need-returns-3
+unfolding inPlace rowOf between
+returns-3 c =
+    let e = ap (λ (r : Row). r .first) (c .before .before .before .before .before .before .before .row-of .ensures) in
+    let f = ap (λ (r : Row). r .last) (c .before .before .before .before .before .before .before .row-of .ensures) in
+    rw (← e, ← f, le-leb _ _ (c .before .before .before .before .if1 .left), le-leb _ _ (c .before .if2 .left)) (c .fits2 .ensures)
+
+pub is-in-place-spec : {M : Type 1} → statement M
+is-in-place-spec = tie.close (tie.spec row-of-requires returns returns-2 fits-requires returns-3)

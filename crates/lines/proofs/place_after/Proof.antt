@@ -1,0 +1,83 @@
+-- `lines::place_after` meets its contract, field by field. Assumes nothing.
+use native.Mathlib.Omega.{arith}
+use borrow.Author.Needs.{needs}
+use mathlib.Core.Path.{_≡_, refl, sym, ap, _∙_}
+use Rattle.lines.specs.declared.Row.{Row}
+use Rattle.lines.specs.Rows.{rowOf}
+use Rattle.lines.specs.Spots.{placeAfter}
+use Rattle.lines.proofs.Spots.{low}
+use Rattle.lines.proofs.place_after.Statement.{statement}
+use Rattle.lines.proofs.place_after.Tie as tie
+
+row-of-requires : tie.Need-row-of-requires
+row-of-requires c κs = c .pre .0
+
+stage-after-requires : tie.Need-stage-after-requires
+stage-after-requires c κs = search needs
+
+or-requires : tie.Need-or-requires
+or-requires c κs = search needs
+
+branches-after-requires : tie.Need-branches-after-requires
+branches-after-requires c κs = low (c .before .before .before .args .p) (c .before .before .before .pre .1) .branches
+
+one-more-if-requires : tie.Need-one-more-if-requires
+one-more-if-requires c κs = let b = low (c .before .before .before .before .args .p) (c .before .before .before .before .pre .1) in omega (arith, b .classes)
+
+one-more-if-requires-2 : tie.Need-one-more-if-requires-2
+one-more-if-requires-2 c κs = let b = low (c .before .before .before .before .before .args .p) (c .before .before .before .before .before .pre .1) in omega (arith, b .fields)
+
+zero-if-requires : tie.Need-zero-if-requires
+zero-if-requires c κs = search needs
+
+one-more-if-requires-3 : tie.Need-one-more-if-requires-3
+one-more-if-requires-3 c κs = let b = low (c .before .before .before .before .before .before .before .args .p) (c .before .before .before .before .before .before .before .pre .1) in omega (arith, b .methods)
+
+one-more-if-requires-4 : tie.Need-one-more-if-requires-4
+one-more-if-requires-4 c κs = let b = low (c .before .before .before .before .before .before .before .before .args .p) (c .before .before .before .before .before .before .before .before .pre .1) in omega (arith, b .locals)
+
+or-requires-2 : tie.Need-or-requires-2
+or-requires-2 c κs = search needs
+
+zero-if-requires-2 : tie.Need-zero-if-requires-2
+zero-if-requires-2 c κs = search needs
+
+one-more-if-requires-5 : tie.Need-one-more-if-requires-5
+one-more-if-requires-5 c κs = let b = low (c .before .before .before .before .before .before .before .before .before .before .before .args .p) (c .before .before .before .before .before .before .before .before .before .before .before .pre .1) in omega (arith, b .statements)
+
+returns : tie.Need-returns
+unfolding placeAfter rowOf
+returns c =
+    let e = ap (λ (r : Row). r .next) (c .before .before .before .before .before .before .before .before .before .before .before .row-of .ensures) in
+    rw (
+      c .before .before .before .before .before .before .before .before .before .before .stage-after .ensures,
+      e,
+      c .before .before .before .before .before .before .before .before .before .or .ensures,
+      c .before .before .before .before .before .before .before .before .branches-after .ensures,
+      c .before .before .before .before .before .before .before .one-more-if .ensures,
+      c .before .before .before .before .before .zero-if .ensures,
+      c .before .before .before .before .before .before .one-more-if2 .ensures,
+      c .before .before .before .before .one-more-if3 .ensures,
+      c .before .zero-if2 .ensures,
+      c .before .before .or2 .ensures,
+      c .before .before .before .one-more-if4 .ensures,
+      c .one-more-if5 .ensures,
+    )
+
+pub place-after-spec : {M : Type 1} → statement M
+place-after-spec =
+    tie.close
+    (tie.spec
+    row-of-requires
+    stage-after-requires
+    or-requires
+    branches-after-requires
+    one-more-if-requires
+    one-more-if-requires-2
+    zero-if-requires
+    one-more-if-requires-3
+    one-more-if-requires-4
+    or-requires-2
+    zero-if-requires-2
+    one-more-if-requires-5
+    returns)

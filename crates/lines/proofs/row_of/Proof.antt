@@ -1,0 +1,16 @@
+-- `lines::row_of` meets its contract. Assumes nothing.
+use borrow.Author.Needs.{needs}
+use mathlib.Core.Path.{_≡_, ap, _∙_}
+use Rattle.lines.specs.Rows.{kindNumbered}
+use Rattle.lines.proofs.Rows.{unpacked, row-back}
+use Rattle.lines.proofs.row_of.Statement.{statement}
+use Rattle.lines.proofs.row_of.Tie as tie
+
+row-number-requires : tie.Need-row-number-requires
+row-number-requires c κs = search needs
+
+returns : tie.Need-returns
+returns c = ap unpacked (c .row-number .ensures) ∙ row-back (kindNumbered (c .before .args .kind))
+
+pub row-of-spec : {M : Type 1} → statement M
+row-of-spec = tie.close (tie.spec row-number-requires returns)

@@ -1,0 +1,435 @@
+use leaves::Set;
+use rules::Machine;
+ghost use mathlib.Core.Path.{_≡_};
+ghost use mathlib.Core.Bool.{Bool, true, cond, _||_};
+ghost use Prim.Native.Nat.{_≤_, _<_};
+ghost use lib.ListN.{length, drop};
+ghost use Rattle.rules.specs.Text.{fields, isFormula, isCondition};
+ghost use Rattle.rules.specs.Grammar.{form, isFormed};
+ghost use Rattle.rules.specs.Places.{firstPlace, oneMoreIf};
+ghost use Rattle.leaves.specs.Sets.{Found};
+ghost use Rattle.leaves.specs.Words.{kindOr0};
+ghost use Rattle.lines.specs.Cuts.{more, NextField, NextAtom};
+ghost use Rattle.lines.specs.Rows.{kindNumbered, rowOf, rowNumber, fitsOperand, fitsTail, formedKind};
+ghost use Rattle.lines.specs.Spots.{coded, fits, inPlace, stageAfter, branchesAfter, placeAfter, withinLimits};
+ghost use Rattle.lines.specs.Scans.{PlacesLine, ScansLine, verdictOf, scanText};
+
+// FIELDS
+
+// The end of the field after the one that ends at r, or r where there is none.
+pub fn next_field(t: &[u8], r: usize) -> usize
+    requires { ⌜ r ≤ length (now t) ⌝ }
+    ensures { λ e. ⌜ NextField (now (t .entry)) r e ⌝ }
+{
+    if leaves::byte_at(t, r) != 9 {
+        return r;
+    }
+    leaves::find(t, r + 1, Set::FieldEnd)
+}
+
+// The end of the atom after the field that ends at r, or r where the next three fields are none.
+pub fn next_atom(t: &[u8], r: usize) -> usize
+    requires { ⌜ r ≤ length (now t) ⌝ }
+    ensures { λ e. ⌜ NextAtom (now (t .entry)) r e ⌝ }
+{
+    let x = next_field(t, r);
+    if x == r {
+        return r;
+    }
+    let y = next_field(t, x);
+    if y == x {
+        return r;
+    }
+    let z = next_field(t, y);
+    if z == y {
+        return r;
+    }
+    let a = r + 1;
+    let b = x + 1;
+    let c = y + 1;
+    if leaves::is_atom(&t[a..x], &t[b..y], &t[c..z]) {
+        return z;
+    }
+    r
+}
+
+// Are the fields after r at most n atoms?
+pub fn is_formula(t: &[u8], from: usize, most: usize) -> bool
+    requires { ⌜ from ≤ length (now t) ⌝ }
+    ensures { λ b. ⌜ b ≡ isFormula most (more (drop from (now (t .entry)))) ⌝ }
+{
+    let mut r = from;
+    let mut n = most;
+    while leaves::byte_at(t, r) == 9 {
+        if n == 0 {
+            return false;
+        }
+        let e = next_atom(t, r);
+        if e == r {
+            return false;
+        }
+        r = e;
+        n -= 1;
+    }
+    true
+}
+
+// Are the fields after r one `eq` or `ne`?
+pub fn is_condition(t: &[u8], r: usize) -> bool
+    requires { ⌜ r ≤ length (now t) ⌝ }
+    ensures { λ b. ⌜ b ≡ isCondition (more (drop r (now (t .entry)))) ⌝ }
+{
+    let x = next_field(t, r);
+    if x == r {
+        return false;
+    }
+    let a = r + 1;
+    let k = leaves::word(&t[a..x]);
+    if k < leaves::EQ {
+        return false;
+    }
+    if leaves::NE < k {
+        return false;
+    }
+    is_formula(t, r, 1)
+}
+
+// THE ROW OF A KIND
+
+// What the grammar says of a kind of line: its operands to the base 16, the first lowest; what follows them; the stages at which it may
+// stand; and the stage after it.
+pub struct Row {
+    pub operands: u32,
+    pub tail: u32,
+    pub first: u32,
+    pub last: u32,
+    pub next: u32,
+}
+
+// From the right: four operands, tail, first stage, last stage, next stage.
+fn row_number(kind: u8) -> u32
+    requires { ⌜ (1 ≤ kind) × (kind ≤ 18) ⌝ }
+    ensures { λ r. ⌜ r ≡ rowNumber (rowOf (form (kindNumbered kind))) ⌝ }
+{
+    match kind {
+        1 => 0x1200_0001, // class
+        2 => 0x1110_0025, // field
+        3 => 0x3210_4535, // method
+        4 => 0x4332_0000, // requires
+        5 => 0x5442_0000, // ensures
+        6 => 0x5200_0000, // main
+        7 => 0x5550_0045, // var
+        8 => 0x6650_0797, // set
+        9 => 0x6650_00b8, // let
+        10 => 0x6650_0068, // new
+        11 => 0x6650_7a78, // call
+        12 => 0x6650_0007, // return
+        13 => 0x6652_0000, // assert
+        14 => 0x6652_0000, // release
+        15 => 0x6651_0000, // if
+        16 => 0x6650_0000, // else
+        17 => 0x6652_0000, // join
+        _ => 0x6650_0000, // end
+    }
+}
+
+pub fn row_of(kind: u8) -> Row
+    requires { ⌜ (1 ≤ kind) × (kind ≤ 18) ⌝ }
+    ensures { λ r. ⌜ r ≡ rowOf (form (kindNumbered kind)) ⌝ }
+{
+    let n = row_number(kind);
+    Row {
+        operands: n % 65536,
+        tail: n / 65536 % 16,
+        first: n / 1048576 % 16,
+        last: n / 16777216 % 16,
+        next: n / 268435456,
+    }
+}
+
+// THE FORM OF A LINE
+
+// Is this the form of the operand with this number?
+fn is_operand(operand: u32, w: &[u8]) -> bool
+    ensures { λ b. ⌜ b ≡ fitsOperand operand (now (w .entry)) ⌝ }
+{
+    if operand == 11 {
+        return leaves::is_expr(w);
+    }
+    leaves::is_name(w)
+}
+
+// Are the fields after r the tail with this number?
+fn is_tail(tail: u32, t: &[u8], r: usize) -> bool
+    requires { ⌜ r ≤ length (now t) ⌝ }
+    ensures { λ b. ⌜ b ≡ fitsTail tail (more (drop r (now (t .entry)))) ⌝ }
+{
+    match tail {
+        0 => leaves::byte_at(t, r) != 9,
+        1 => is_condition(t, r),
+        _ => is_formula(t, r, Machine::ATOMS),
+    }
+}
+
+// Are the fields after the word, which ends at `from`, those of a line of this kind?
+pub fn is_formed(t: &[u8], from: usize, kind: u8) -> bool
+    requires { ⌜ (from ≤ length (now t)) × ((1 ≤ kind) × (kind ≤ 18)) ⌝ }
+    ensures { λ b. ⌜ b ≡ isFormed (form (kindNumbered kind) .operands) (form (kindNumbered kind) .tail) (more (drop from (now (t .entry)))) ⌝ }
+{
+    let row = row_of(kind);
+    let mut left = row.operands;
+    let mut r = from;
+    while left != 0 {
+        let e = next_field(t, r);
+        if e == r {
+            return false;
+        }
+        let a = r + 1;
+        if !is_operand(left % 16, &t[a..e]) {
+            return false;
+        }
+        r = e;
+        left = left / 16;
+    }
+    is_tail(row.tail, t, r)
+}
+
+// The number of the kind of the line that begins at a place, or 0 where its fields are of no kind's form.
+pub fn formed_kind(t: &[u8], at: usize) -> u8
+    requires { ⌜ at ≤ length (now t) ⌝ }
+    ensures { λ k. ⌜ k ≡ kindOr0 (formedKind (fields (drop at (now (t .entry))))) ⌝ }
+{
+    let e = leaves::find(t, at, Set::FieldEnd);
+    let k = leaves::kind_of(&t[at..e]);
+    if k == 0 {
+        return 0;
+    }
+    if is_formed(t, e, k) {
+        return k;
+    }
+    0
+}
+
+// THE PLACE OF A LINE
+
+// Where a line stands: the stage by its number, whether `main` is above, the open branches to the base 4, the innermost lowest (1 before
+// its `else`, 2 after it); and what the lines above have used of each limit.
+pub struct Place {
+    pub stage: u32,
+    pub main: bool,
+    pub branches: usize,
+    pub classes: usize,
+    pub fields: usize,
+    pub methods: usize,
+    pub locals: usize,
+    pub statements: usize,
+}
+
+// Why a text is refused in pass 1.
+pub enum Refusal {
+    BadByte,
+    Malformed,
+    LimitPassed,
+    TextEnds,
+}
+
+// The place after a line, or why the line is refused.
+pub enum Placing {
+    Next(Place),
+    Refused(Refusal),
+}
+
+pub fn first_place() -> Place
+    ensures { λ r. ⌜ r ≡ coded firstPlace ⌝ }
+{
+    Place {
+        stage: 0,
+        main: false,
+        branches: 0,
+        classes: 0,
+        fields: 0,
+        methods: 0,
+        locals: 0,
+        statements: 0,
+    }
+}
+
+// "`return x` (methods only)"; `else`, `join` and `end` go by the innermost open branch.
+fn fits(kind: u8, p: Place) -> bool
+    ensures { λ r. ⌜ r ≡ fits kind p ⌝ }
+{
+    match kind {
+        12 => !p.main,
+        16 => p.branches % 4 == 1,
+        17 => p.branches % 4 == 2,
+        18 => p.branches == 0,
+        _ => true,
+    }
+}
+
+fn is_in_place(kind: u8, p: Place) -> bool
+    requires { ⌜ (1 ≤ kind) × (kind ≤ 18) ⌝ }
+    ensures { λ r. ⌜ r ≡ inPlace kind p ⌝ }
+{
+    let row = row_of(kind);
+    if p.stage < row.first {
+        return false;
+    }
+    if row.last < p.stage {
+        return false;
+    }
+    fits(kind, p)
+}
+
+fn stage_after(kind: u8, main: bool, next: u32) -> u32
+    ensures { λ r. ⌜ r ≡ stageAfter kind main next ⌝ }
+{
+    if kind != 18 {
+        return next;
+    }
+    if main { 7 } else { 2 }
+}
+
+fn branches_after(kind: u8, n: usize) -> usize
+    requires { ⌜ n < 256 ⌝ }
+    ensures { λ r. ⌜ r ≡ branchesAfter kind n ⌝ }
+{
+    match kind {
+        15 => 1 + 4 * n,
+        16 => 2 + 4 * (n / 4),
+        17 => n / 4,
+        _ => n,
+    }
+}
+
+fn one_more_if(b: bool, n: usize) -> usize
+    requires { ⌜ n ≤ 256 ⌝ }
+    ensures { λ r. ⌜ r ≡ oneMoreIf b n ⌝ }
+{
+    if b { n + 1 } else { n }
+}
+
+fn zero_if(b: bool, n: usize) -> usize
+    ensures { λ r. ⌜ r ≡ cond b 0 n ⌝ }
+{
+    if b { 0 } else { n }
+}
+
+fn or(a: bool, b: bool) -> bool
+    ensures { λ r. ⌜ r ≡ (a || b) ⌝ }
+{
+    if a { true } else { b }
+}
+
+pub fn place_after(kind: u8, p: Place) -> Place
+    requires { ⌜ ((1 ≤ kind) × (kind ≤ 18)) × (withinLimits p ≡ true) ⌝ }
+    ensures { λ r. ⌜ r ≡ placeAfter kind p ⌝ }
+{
+    let row = row_of(kind);
+    let stage = stage_after(kind, p.main, row.next);
+    let main = or(kind == 6, p.main);
+    let branches = branches_after(kind, p.branches);
+    let classes = one_more_if(kind == 1, p.classes);
+    let more_fields = one_more_if(kind == 2, p.fields);
+    let fields = zero_if(kind == 1, more_fields);
+    let methods = one_more_if(kind == 3, p.methods);
+    let more_locals = one_more_if(kind == 7, p.locals);
+    let locals = zero_if(or(kind == 3, kind == 6), more_locals);
+    let statements = one_more_if(8 <= kind, p.statements);
+    Place {
+        stage,
+        main,
+        branches,
+        classes,
+        fields,
+        methods,
+        locals,
+        statements,
+    }
+}
+
+fn is_within_limits(p: Place) -> bool
+    ensures { λ r. ⌜ r ≡ withinLimits p ⌝ }
+{
+    if Machine::CLASSES < p.classes {
+        return false;
+    }
+    if Machine::CLASS_FIELDS < p.fields {
+        return false;
+    }
+    if Machine::METHODS < p.methods {
+        return false;
+    }
+    if Machine::LOCALS < p.locals {
+        return false;
+    }
+    if Machine::STATEMENTS < p.statements {
+        return false;
+    }
+    p.branches < 256
+}
+
+// "line out of place" before "a limit of the text passed"
+pub fn place_line(p: Place, kind: u8) -> Placing
+    requires { ⌜ ((1 ≤ kind) × (kind ≤ 18)) × (withinLimits p ≡ true) ⌝ }
+    ensures { λ r. ⌜ PlacesLine p kind r ⌝ }
+{
+    if !is_in_place(kind, p) {
+        return Placing::Refused(Refusal::Malformed);
+    }
+    let q = place_after(kind, p);
+    if !is_within_limits(q) {
+        return Placing::Refused(Refusal::LimitPassed);
+    }
+    Placing::Next(q)
+}
+
+// THE PASS
+
+// One line, from `at` to its LF at `end`.
+pub fn scan_line(t: &[u8], at: usize, end: usize, p: Place) -> Placing
+    requires { ⌜ ((at < length (now t)) × Found (now t) at Set.LineEnd end) × (withinLimits p ≡ true) ⌝ }
+    ensures { λ r. ⌜ ScansLine (now (t .entry)) at end p r ⌝ }
+{
+    if leaves::byte_at(t, end) != 10 {
+        return Placing::Refused(Refusal::BadByte);
+    }
+    let k = formed_kind(t, at);
+    if k == 0 {
+        return Placing::Refused(Refusal::Malformed);
+    }
+    place_line(p, k)
+}
+
+// A text that is taken, with the count of its lines; or why it is refused, and at which line.
+pub enum Scanned {
+    Taken(usize),
+    Refused(Refusal, usize),
+}
+
+// Form, place and limits of every line, and the text's end.
+pub fn scan(text: &[u8]) -> Scanned
+    ensures { λ r. ⌜ verdictOf r ≡ scanText (now (text .entry)) ⌝ }
+{
+    let mut p = first_place();
+    let mut at = 0;
+    let mut n = 0;
+    while at < text.len() {
+        let end = leaves::find(text, at, Set::LineEnd);
+        n += 1;
+        let a = scan_line(text, at, end, p);
+        match a {
+            Placing::Refused(why) => {
+                return Scanned::Refused(why, n);
+            }
+            Placing::Next(q) => {
+                p = q;
+                at = end + 1;
+            }
+        }
+    }
+    if p.stage == 7 {
+        return Scanned::Taken(n);
+    }
+    Scanned::Refused(Refusal::TextEnds, n)
+}
