@@ -1,0 +1,139 @@
+-- Laws of digits and numbers.
+use mathlib.Core.Path.{_≡_, refl, sym, ap, _∙_}
+use mathlib.Core.Bool.{Bool, true, false, not, cond, _&&_, _||_}
+use mathlib.Core.List.{List, [], _∷_}
+use mathlib.Core.Option.{Option, none, some}
+use Prim.Native.Nat.{ℕ, suc, _+_, _*_, _-_, _≤_, _<_}
+use native.Mathlib.Omega.{arith}
+use native.Mathlib.Numerals.{add-one}
+use native.Mathlib.Decide.{decLt}
+use lib.Dec.{eqb, leb}
+use lib.ListN.{length, getD, drop, drop-of-length-le}
+use lib.Seq.{drop-cons}
+use borrow.Author.Tests.{le-leb, lt-leb, eq-eqb, ne-eqb}
+use Rattle.rules.specs.Base.{Name, all, between}
+use Rattle.rules.specs.Text.{digit, isDigits, isNegative, isNumber, number, decimal}
+use Rattle.leaves.specs.Answers.{leadingZero, capped, whenTrue, numberIn, naturalIn, negativeIn}
+use Rattle.leaves.proofs.Search.{true-false, both-true, and-false, between-true, all-at}
+
+-- DIGITS
+
+pub decimal-on : (n : ℕ) (w : Name) (i : ℕ) → i < length w → decimal n (drop i w) ≡ decimal (n * 10 + (getD w i 0 - 48)) (drop (i + 1) w)
+unfolding decimal
+decimal-on n w i h = rw (add-one, drop-cons w i 0 h)
+
+pub decimal-end : (n : ℕ) (w : Name) (i : ℕ) → length w ≤ i → decimal n (drop i w) ≡ n
+unfolding decimal
+decimal-end n w i h = rw (drop-of-length-le w {i = i} h)
+
+pub decimal-grows : (w : Name) (n : ℕ) → n ≤ decimal n w
+unfolding decimal
+decimal-grows [] n = omega arith
+decimal-grows (b ∷ t) n = let h = decimal-grows t (n * 10 + (b - 48)) in omega (arith, h)
+
+-- a byte among digits
+pub digit-at : (w : Name) (i : ℕ) → isDigits w ≡ true → i < length w → (48 ≤ getD w i 0) × (getD w i 0 ≤ 57)
+unfolding isDigits digit
+digit-at w i e h =
+    let r = both-true (leb 1 (length w)) ((eqb (length w) 1 || not (eqb (getD w 0 0) 48)) && all digit w) e in
+    let q = both-true (eqb (length w) 1 || not (eqb (getD w 0 0) 48)) (all digit w) (r .1) in
+    between-true 48 57 (getD w i 0) (all-at digit w i (q .1) h)
+
+pub digits-are : (w : Name) → 1 ≤ length w → leadingZero w ≡ false → isDigits w ≡ all digit w
+unfolding isDigits leadingZero
+digits-are w h e = rw (le-leb 1 (length w) h, cleared (eqb (length w) 1 || not (eqb (getD w 0 0) 48)) e)
+  where
+    cleared : (q : Bool) → not q ≡ false → q ≡ true
+    cleared true z = refl
+    cleared false z = true-false z
+
+pub no-digits : (w : Name) → length w ≡ 0 → isDigits w ≡ false
+unfolding isDigits
+no-digits w h = rw h
+
+pub zero-led : (w : Name) → leadingZero w ≡ true → isDigits w ≡ false
+unfolding isDigits leadingZero
+zero-led w e = rw (cleared (eqb (length w) 1 || not (eqb (getD w 0 0) 48)) e) (and-false (leb 1 (length w)))
+  where
+    cleared : (q : Bool) → not q ≡ true → q ≡ false
+    cleared true z = true-false (sym z)
+    cleared false z = refl
+
+-- the capped number, and what it says of the number
+pub capped-over : (n : ℕ) → 2147483648 < n → capped n ≡ 2147483649
+unfolding capped
+capped-over n h = rw (lt-leb n 2147483648 h)
+
+pub capped-within : (n : ℕ) → n ≤ 2147483648 → capped n ≡ n
+unfolding capped
+capped-within n h = rw (le-leb n 2147483648 h)
+
+pub capped-is : (n c : ℕ) → c ≡ capped n → c ≤ 2147483648 → n ≡ c
+capped-is n c e h =
+    elim (decLt 2147483648 n) [ yes q ↦ absurd (omega (arith, e, capped-over n q)) | no q ↦ omega (arith, e, capped-within n (omega arith)) ]
+
+pub capped-above : (n c k : ℕ) → c ≡ capped n → k ≤ 2147483648 → k < c → k < n
+capped-above n c k e h l =
+    elim (decLt 2147483648 n) [ yes q ↦ omega arith | no q ↦ omega (arith, e, capped-within n (omega arith)) ]
+
+-- NUMBERS
+pub when-some : {A : Type 0} (q : Bool) (a b : A) → some b ≡ whenTrue q a → (q ≡ true) × (a ≡ b)
+when-some true a b e = (refl, cc)
+when-some false a b e = absurd (let z : _≡_ {A = ℕ} 0 1 = cc in omega arith)
+
+pub when-none : {A : Type 0} (q : Bool) (a : A) → none ≡ whenTrue q a → q ≡ false
+when-none true a e = absurd (let z : _≡_ {A = ℕ} 0 1 = cc in omega arith)
+when-none false a e = refl
+
+-- d: digits or not; c: what they write, capped
+module _ (d : Name) where
+  pub no-natural : isDigits d ≡ false → none ≡ naturalIn d
+  unfolding naturalIn
+  no-natural e = rw e
+
+  pub no-negative : isDigits d ≡ false → none ≡ negativeIn d
+  unfolding negativeIn
+  no-negative e = rw e
+
+module _ (d : Name) (c : ℕ) (e : isDigits d ≡ true) (h : c ≡ capped (decimal 0 d)) where
+  pub natural-large : 2147483647 < c → none ≡ naturalIn d
+  unfolding naturalIn
+  natural-large l = rw (e, lt-leb (decimal 0 d) 2147483647 (capped-above (decimal 0 d) c 2147483647 h (omega arith) l))
+
+  pub natural-is : c ≤ 2147483647 → some c ≡ naturalIn d
+  unfolding naturalIn
+  natural-is l = let z : decimal 0 d ≡ c = capped-is (decimal 0 d) c h (omega arith) in rw (e, z, le-leb c 2147483647 l)
+
+  pub negative-zero : c < 1 → none ≡ negativeIn d
+  unfolding negativeIn between
+  negative-zero l = let z : decimal 0 d ≡ c = capped-is (decimal 0 d) c h (omega arith) in rw (e, z, lt-leb 1 c l)
+
+  pub negative-large : 2147483648 < c → none ≡ negativeIn d
+  unfolding negativeIn between
+  negative-large l =
+      rw (e, lt-leb (decimal 0 d) 2147483648 (capped-above (decimal 0 d) c 2147483648 h (omega arith) l), and-false (leb 1 (decimal 0 d)))
+
+  pub negative-is : 1 ≤ c → c ≤ 2147483648 → some (4294967296 - c) ≡ negativeIn d
+  unfolding negativeIn between
+  negative-is m l = let z : decimal 0 d ≡ c = capped-is (decimal 0 d) c h l in rw (e, z, le-leb 1 c m, le-leb c 2147483648 l)
+
+pub number-negative : (w : Name) → getD w 0 0 ≡ 45 → numberIn w ≡ negativeIn (drop 1 w)
+unfolding numberIn negativeIn isNumber number isNegative
+number-negative w e = rw e
+
+pub number-natural : (w : Name) → (getD w 0 0 ≡ 45 → ⊥) → numberIn w ≡ naturalIn w
+unfolding numberIn naturalIn isNumber number isNegative
+number-natural w n = rw (ne-eqb (getD w 0 0) 45 n)
+
+-- the form and the content that an answer tells
+pub number-some : (w : Name) (n : ℕ) → some n ≡ numberIn w → (isNumber w ≡ true) × (number w ≡ n)
+unfolding numberIn
+number-some w n e = when-some (isNumber w) (number w) n e
+
+pub number-none : (w : Name) → none ≡ numberIn w → isNumber w ≡ false
+unfolding numberIn
+number-none w e = when-none (isNumber w) (number w) e
+
+pub has-first : (w : Name) (b : ℕ) → getD w 0 0 ≡ suc b → 1 ≤ length w
+has-first [] b e = absurd (omega arith)
+has-first (x ∷ w) b e = omega arith

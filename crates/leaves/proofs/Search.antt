@@ -1,0 +1,156 @@
+-- Laws of `upTo`, `all` and `eqName`: what a search or a comparison has found, step by step and as a whole.
+use mathlib.Core.Path.{_≡_, refl, sym, ap, ap₂, _∙_}
+use mathlib.Core.Bool.{Bool, true, false, not, cond, _&&_, _||_}
+use mathlib.Core.List.{List, [], _∷_}
+use Prim.Native.Nat.{ℕ, zero, suc, _+_, _-_, _≤_, _<_}
+use native.Mathlib.Omega.{arith}
+use native.Mathlib.Numerals.{add-one}
+use lib.Dec.{eqb, leb, eqb·suc-suc, eqb·zero-suc}
+use lib.ListN.{length, getD, drop, take, drop-of-length-le, length-drop}
+use lib.Seq.{drop-cons, take-all}
+use borrow.Author.Tests.{eqb-true, leb-true, eq-eqb}
+use Rattle.rules.specs.Base.{Name, all, eqName, between}
+use Rattle.rules.specs.Text.{upTo}
+
+-- TESTS
+pub true-false : {A : Type 0} → true ≡ false → A
+true-false e = absurd (let z : _≡_ {A = ℕ} 0 1 = cc in omega arith)
+
+pub both-true : (a b : Bool) → (a && b) ≡ true → (a ≡ true) × (b ≡ true)
+both-true true b e = (refl, e)
+both-true false b e = true-false (sym e)
+
+pub and-false : (a : Bool) → (a && false) ≡ false
+and-false true = refl
+and-false false = refl
+
+pub or-true : (a : Bool) → (a || true) ≡ true
+or-true true = refl
+or-true false = refl
+
+pub or-false : (a b : Bool) → (a || b) ≡ false → (a ≡ false) × (b ≡ false)
+or-false true b e = true-false e
+or-false false b e = (refl, e)
+
+pub between-true : (a z b : ℕ) → between a z b ≡ true → (a ≤ b) × (b ≤ z)
+unfolding between
+between-true a z b e = let q = both-true (leb a b) (leb b z) e in (leb-true _ _ (q .0), leb-true _ _ (q .1))
+
+-- A SEARCH, ONE STEP
+module _ (p : ℕ → Bool) (l : List ℕ) (i : ℕ) where
+  pub upTo-here : i < length l → p (getD l i 0) ≡ true → upTo p (drop i l) ≡ 0
+  unfolding upTo
+  upTo-here h e = rw (drop-cons l i 0 h, e)
+
+  pub upTo-on : i < length l → p (getD l i 0) ≡ false → upTo p (drop i l) ≡ suc (upTo p (drop (i + 1) l))
+  unfolding upTo
+  upTo-on h e = rw (add-one, drop-cons l i 0 h, e)
+
+  pub upTo-end : length l ≤ i → upTo p (drop i l) ≡ 0
+  unfolding upTo
+  upTo-end h = rw (drop-of-length-le l {i = i} h)
+
+-- A SEARCH AS A WHOLE
+step : (P : ℕ → Type 0) (q : Bool) (m n : ℕ) → (q ≡ true → P m) → (q ≡ false → P n) → P (cond q m n)
+step P true m n t f = t refl
+step P false m n t f = f refl
+
+module _ (p : ℕ → Bool) where
+  pub upTo-within : (l : List ℕ) → upTo p l ≤ length l
+  unfolding upTo
+  upTo-within [] = omega arith
+  upTo-within (b ∷ t) = let h = upTo-within t in step (λ n. n ≤ suc (length t)) (p b) 0 (suc (upTo p t)) (λ e. omega arith) (λ e. omega arith)
+
+  -- the byte found is in the set, and those before it are not
+  pub upTo-found : (l : List ℕ) → upTo p l < length l → p (getD l (upTo p l) 0) ≡ true
+  unfolding upTo
+  upTo-found [] h = absurd (omega arith)
+  upTo-found (b ∷ t) h =
+      step (λ n. n < suc (length t) → p (getD (b ∷ t) n 0) ≡ true) (p b) 0 (suc (upTo p t)) (λ e k. e) (λ e k. upTo-found t (omega arith)) h
+
+  pub upTo-passed : (l : List ℕ) (k : ℕ) → k < upTo p l → p (getD l k 0) ≡ false
+  unfolding upTo
+  upTo-passed [] k h = absurd (omega arith)
+  upTo-passed (b ∷ t) zero h = step (λ n. 0 < n → p b ≡ false) (p b) 0 (suc (upTo p t)) (λ e k. absurd (omega arith)) (λ e k. e) h
+  upTo-passed (b ∷ t) (suc k) h =
+      step (λ n. suc k < n → p (getD t k 0) ≡ false) (p b) 0 (suc (upTo p t)) (λ e j. absurd (omega arith)) (λ e j. upTo-passed t k (omega arith)) h
+
+  -- and these two facts say where it is
+  pub upTo-is :
+      (l : List ℕ) (d : ℕ) → d ≤ length l → ((k : ℕ) → k < d → p (getD l k 0) ≡ false) → (d < length l → p (getD l d 0) ≡ true) →
+      upTo p l ≡ d
+  unfolding upTo
+  upTo-is [] d h f t = omega arith
+  upTo-is (b ∷ l) zero h f t = rw (t (omega arith))
+  upTo-is (b ∷ l) (suc d) h f t =
+      rw (f 0 (omega arith)) (ap suc (upTo-is l d (omega arith) (λ k j. f (suc k) (omega arith)) (λ j. t (omega arith))))
+
+-- a search that goes to the end shows `all`
+all-case : (q a : Bool) (u n : ℕ) → a ≡ eqb u n → (q && a) ≡ eqb (cond (not q) 0 (suc u)) (suc n)
+all-case true a u n e = e ∙ sym (eqb·suc-suc u n)
+all-case false a u n e = sym (eqb·zero-suc n)
+
+module _ (p : ℕ → Bool) where
+  pub all-upTo : (l : List ℕ) → all p l ≡ eqb (upTo (λ b. not (p b)) l) (length l)
+  unfolding all upTo
+  all-upTo [] = refl
+  all-upTo (b ∷ t) = all-case (p b) (all p t) (upTo (λ c. not (p c)) t) (length t) (all-upTo t)
+
+  pub all-found : (l : List ℕ) (r : ℕ) → r ≡ 0 + upTo (λ b. not (p b)) l → all p l ≡ eqb r (length l)
+  all-found l r e = let q : upTo (λ b. not (p b)) l ≡ r = omega (arith, e) in all-upTo l ∙ rw q
+
+  pub all-at : (l : List ℕ) (i : ℕ) → all p l ≡ true → i < length l → p (getD l i 0) ≡ true
+  unfolding all
+  all-at [] i e h = absurd (omega arith)
+  all-at (b ∷ t) zero e h = both-true (p b) (all p t) e .0
+  all-at (b ∷ t) (suc i) e h = all-at t i (both-true (p b) (all p t) e .1) (omega arith)
+
+  pub all-of : (l : List ℕ) → ((i : ℕ) → i < length l → p (getD l i 0) ≡ true) → all p l ≡ true
+  unfolding all
+  all-of [] h = refl
+  all-of (b ∷ t) h = rw (h 0 (omega arith), all-of t (λ i k. h (suc i) (omega arith)))
+
+  pub not-all : (l : List ℕ) (i : ℕ) → i < length l → p (getD l i 0) ≡ false → all p l ≡ false
+  not-all l i h e = go (all p l) refl
+    where
+      go : (q : Bool) → all p l ≡ q → q ≡ false
+      go true z = sym (all-at l i z h) ∙ e
+      go false z = refl
+
+-- COMPARISON
+module _ (a b : Name) (i : ℕ) where
+  pub same-on : i < length a → i < length b → getD a i 0 ≡ getD b i 0 → eqName (drop i a) (drop i b) ≡ eqName (drop (i + 1) a) (drop (i + 1) b)
+  unfolding eqName
+  same-on h k e = rw (add-one, drop-cons a i 0 h, drop-cons b i 0 k, eq-eqb (getD a i 0) (getD b i 0) e)
+
+  pub same-off : i < length a → i < length b → eqb (getD a i 0) (getD b i 0) ≡ false → eqName (drop i a) (drop i b) ≡ false
+  unfolding eqName
+  same-off h k e = rw (drop-cons a i 0 h, drop-cons b i 0 k, e)
+
+  pub same-end : length a ≤ i → length b ≤ i → eqName (drop i a) (drop i b) ≡ true
+  unfolding eqName
+  same-end h k = rw (drop-of-length-le a {i = i} h, drop-of-length-le b {i = i} k)
+
+pub same-is : (a b : Name) → eqName a b ≡ true → a ≡ b
+unfolding eqName
+same-is [] [] e = refl
+same-is [] (y ∷ b) e = true-false (sym e)
+same-is (x ∷ a) [] e = true-false (sym e)
+same-is (x ∷ a) (y ∷ b) e =
+    let q = both-true (eqb x y) (eqName a b) e in ap₂ _∷_ (eqb-true x y (q .0)) (same-is a b (q .1))
+
+pub same-refl : (a : Name) → eqName a a ≡ true
+unfolding eqName
+same-refl [] = refl
+same-refl (x ∷ a) = rw (eq-eqb x x refl, same-refl a)
+
+pub not-same : (a b : Name) → (a ≡ b → ⊥) → eqName a b ≡ false
+not-same a b n = go (eqName a b) refl
+  where
+    go : (q : Bool) → eqName a b ≡ q → q ≡ false
+    go true e = absurd (n (same-is a b e))
+    go false e = refl
+
+-- the rest of a field from k on, as a part of it
+pub rest-part : (w : Name) (k : ℕ) → take (length w - k) (drop k w) ≡ drop k w
+rest-part w k = take-all (length w - k) (drop k w) (omega (arith, length-drop k w))

@@ -1,0 +1,59 @@
+-- Words by number: 1 to 18 begin lines, 19 to 21 atoms, 22 to 25 are reserved.
+use mathlib.Core.Bool.{cond}
+use mathlib.Core.List.{List, [], _∷_}
+use mathlib.Core.Option.{Option, none, some}
+use Prim.Native.Nat.{ℕ, suc, _+_, _*_}
+use Prim.Native.String.{String}
+use lib.Dec.{eqb}
+use Rattle.rules.specs.Base.{Name, is, first}
+use Rattle.rules.specs.Grammar.{Kind, kinds, kindNumber}
+
+-- in the order of `kindNumber`, then those of atoms, then the reserved ones
+abbrev pub words : List String
+words =
+    "class" ∷ "field" ∷ "method" ∷ "requires" ∷ "ensures" ∷ "main" ∷ "var" ∷
+    "set" ∷ "let" ∷ "new" ∷ "call" ∷ "return" ∷ "assert" ∷ "release" ∷ "if" ∷ "else" ∷ "join" ∷ "end" ∷
+    "acc" ∷ "eq" ∷ "ne" ∷
+    "int" ∷ "null" ∷ "this" ∷ "result" ∷ []
+
+abbrev pub last-kind : ℕ
+last-kind = 18
+
+abbrev pub acc-word : ℕ
+acc-word = 19
+
+abbrev pub eq-word : ℕ
+eq-word = 20
+
+abbrev pub ne-word : ℕ
+ne-word = 21
+
+abbrev pub first-reserved : ℕ
+first-reserved = 22
+
+-- the number of w in a list that is numbered from n on, or 0
+unfoldable pub placeIn : List String → ℕ → Name → ℕ
+placeIn [] n w = 0
+placeIn (s ∷ ss) n w = let r : ℕ = placeIn ss (suc n) w in cond (is s w) n r
+
+unfoldable pub wordNumber : Name → ℕ
+wordNumber w = placeIn words 1 w
+
+-- the kind that has a number
+unfoldable pub kindAt : ℕ → Option Kind
+kindAt n = first (λ k. eqb n (kindNumber k)) kinds
+
+-- the number of a kind of line, or 0 where there is none
+abbrev pub kindOr0 : Option Kind → ℕ
+kindOr0 none = 0
+kindOr0 (some k) = kindNumber k
+
+-- a word as one number: its bytes, after n, to the base 256
+unfoldable pub packed : ℕ → Name → ℕ
+packed n [] = n
+packed n (b ∷ t) = packed (n * 256 + b) t
+
+-- Everything above computes where this unfolds.
+unfoldable pub opened : Unit {0}
+unfolding placeIn wordNumber kindAt packed
+opened = tt

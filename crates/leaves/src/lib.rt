@@ -1,0 +1,478 @@
+ghost use mathlib.Core.Path.{_≡_};
+ghost use mathlib.Core.Bool.{Bool, true, false, _&&_};
+ghost use Prim.Native.Nat.{_≤_, _<_};
+ghost use lib.ListN.{length, getD};
+ghost use Rattle.rules.specs.Base.{between, eqName, is, all, withDefault};
+ghost use Rattle.rules.specs.Text.{allowed, letter, digit, letterOrDigit, isName, reserved, isDigits, isNumber, decimal, numeral, isExpr, isAtom};
+ghost use Rattle.rules.specs.Grammar.{kindOf};
+ghost use Rattle.leaves.specs.Sets.{inSet, Found};
+ghost use Rattle.leaves.specs.Words.{wordNumber, kindOr0, packed};
+ghost use Rattle.leaves.specs.Answers.{beginsName, leadingZero, capped, bitsOf, naturalIn, negativeIn, numberIn, exprIn, Reads, stopOr};
+
+// BYTES
+
+fn between(b: u8, a: u8, z: u8) -> bool
+    ensures { λ r. ⌜ r ≡ between a z b ⌝ }
+{
+    if b < a {
+        return false;
+    }
+    b <= z
+}
+
+pub fn is_digit(b: u8) -> bool
+    ensures { λ r. ⌜ r ≡ digit b ⌝ }
+{
+    between(b, 48, 57)
+}
+
+pub fn is_letter(b: u8) -> bool
+    ensures { λ r. ⌜ r ≡ letter b ⌝ }
+{
+    if 97 <= b {
+        return b <= 122;
+    }
+    between(b, 65, 90)
+}
+
+pub fn is_letter_or_digit(b: u8) -> bool
+    ensures { λ r. ⌜ r ≡ letterOrDigit b ⌝ }
+{
+    if 97 <= b {
+        return b <= 122;
+    }
+    if 65 <= b {
+        return b <= 90;
+    }
+    is_digit(b)
+}
+
+// "tab, LF, 33 to 126"
+pub fn is_allowed(b: u8) -> bool
+    ensures { λ r. ⌜ r ≡ allowed b ⌝ }
+{
+    if b == 9 {
+        return true;
+    }
+    if b == 10 {
+        return true;
+    }
+    between(b, 33, 126)
+}
+
+// What a search stops at.
+pub enum Set {
+    // LF, or a byte that is not allowed
+    LineEnd,
+    // tab or LF
+    FieldEnd,
+    FullStop,
+    NotLetterOrDigit,
+    NotDigit,
+}
+
+pub fn in_set(b: u8, set: Set) -> bool
+    ensures { λ r. ⌜ r ≡ inSet set b ⌝ }
+{
+    match set {
+        Set::LineEnd => {
+            if b < 33 {
+                return b != 9;
+            }
+            126 < b
+        }
+        Set::FieldEnd => {
+            if 10 < b {
+                return false;
+            }
+            9 <= b
+        }
+        Set::FullStop => b == 46,
+        Set::NotLetterOrDigit => !is_letter_or_digit(b),
+        Set::NotDigit => !is_digit(b),
+    }
+}
+
+// The first place from `at` on whose byte is in the set, or the end.
+pub fn find(l: &[u8], at: usize, set: Set) -> usize
+    requires { ⌜ at ≤ length (now l) ⌝ }
+    ensures { λ r. ⌜ Found (now (l .entry)) at set r ⌝ }
+{
+    let mut i = at;
+    while i < l.len() {
+        if in_set(l[i], set) {
+            return i;
+        }
+        i += 1;
+    }
+    i
+}
+
+// Byte i of a field, or 0 past its end.
+pub fn byte_at(w: &[u8], i: usize) -> u8
+    ensures { λ r. ⌜ r ≡ getD (now (w .entry)) i 0 ⌝ }
+{
+    if i < w.len() { w[i] } else { 0 }
+}
+
+pub fn same(a: &[u8], b: &[u8]) -> bool
+    ensures { λ r. ⌜ r ≡ eqName (now (a .entry)) (now (b .entry)) ⌝ }
+{
+    if a.len() != b.len() {
+        return false;
+    }
+    let mut i = 0;
+    while i < a.len() {
+        if a[i] != b[i] {
+            return false;
+        }
+        i += 1;
+    }
+    true
+}
+
+// WORDS
+
+// The words of atoms, and the reserved words, by number. Words that begin a line are 1 to 18.
+pub const ACC: u8 = 19;
+
+pub const EQ: u8 = 20;
+
+pub const NE: u8 = 21;
+
+pub const INT: u8 = 22;
+
+pub const NULL: u8 = 23;
+
+pub const THIS: u8 = 24;
+
+pub const RESULT: u8 = 25;
+
+// At most 8 bytes as one number, the first byte highest.
+fn pack(w: &[u8]) -> u64
+    requires { ⌜ length (now w) ≤ 8 ⌝ }
+    ensures { λ r. ⌜ r ≡ packed 0 (now (w .entry)) ⌝ }
+{
+    let mut n: u64 = 0;
+    let mut i = 0;
+    while i < w.len() {
+        n = n * 256 + w[i] as u64;
+        i += 1;
+    }
+    n
+}
+
+// The number of a word, or 0.
+pub fn word(w: &[u8]) -> u8
+    ensures { λ r. ⌜ r ≡ wordNumber (now (w .entry)) ⌝ }
+{
+    if 8 < w.len() {
+        return 0;
+    }
+    if byte_at(w, 0) == 0 {
+        return 0;
+    }
+    let k = pack(w);
+    match k {
+        0x636c617373 => 1, // class
+        0x6669656c64 => 2, // field
+        0x6d6574686f64 => 3, // method
+        0x7265717569726573 => 4, // requires
+        0x656e7375726573 => 5, // ensures
+        0x6d61696e => 6, // main
+        0x766172 => 7, // var
+        0x736574 => 8, // set
+        0x6c6574 => 9, // let
+        0x6e6577 => 10, // new
+        0x63616c6c => 11, // call
+        0x72657475726e => 12, // return
+        0x617373657274 => 13, // assert
+        0x72656c65617365 => 14, // release
+        0x6966 => 15, // if
+        0x656c7365 => 16, // else
+        0x6a6f696e => 17, // join
+        0x656e64 => 18, // end
+        0x616363 => ACC,
+        0x6571 => EQ,
+        0x6e65 => NE,
+        0x696e74 => INT,
+        0x6e756c6c => NULL,
+        0x74686973 => THIS,
+        0x726573756c74 => RESULT,
+        _ => 0,
+    }
+}
+
+// The number of the kind of line that a word begins, or 0.
+pub fn kind_of(w: &[u8]) -> u8
+    ensures { λ r. ⌜ r ≡ kindOr0 (kindOf (now (w .entry))) ⌝ }
+{
+    let k = word(w);
+    if k <= 18 { k } else { 0 }
+}
+
+pub fn is_reserved(w: &[u8]) -> bool
+    ensures { λ r. ⌜ r ≡ reserved (now (w .entry)) ⌝ }
+{
+    INT <= word(w)
+}
+
+fn is_null(w: &[u8]) -> bool
+    ensures { λ r. ⌜ r ≡ is "null" (now (w .entry)) ⌝ }
+{
+    if w.len() != 4 {
+        return false;
+    }
+    pack(w) == 0x6e756c6c
+}
+
+// NAMES
+
+// Are n bytes few enough for a name, and is the first a letter?
+fn begins_name(w: &[u8], n: usize) -> bool
+    ensures { λ r. ⌜ r ≡ beginsName n (now (w .entry)) ⌝ }
+{
+    if 12 < n {
+        return false;
+    }
+    is_letter(byte_at(w, 0))
+}
+
+pub fn is_name(w: &[u8]) -> bool
+    ensures { λ r. ⌜ r ≡ isName (now (w .entry)) ⌝ }
+{
+    if begins_name(w, w.len()) {
+        return find(w, 0, Set::NotLetterOrDigit) == w.len();
+    }
+    false
+}
+
+// NUMBERS
+
+fn has_leading_zero(w: &[u8]) -> bool
+    ensures { λ r. ⌜ r ≡ leadingZero (now (w .entry)) ⌝ }
+{
+    if w.len() == 1 {
+        return false;
+    }
+    byte_at(w, 0) == 48
+}
+
+pub fn is_digits(w: &[u8]) -> bool
+    ensures { λ r. ⌜ r ≡ isDigits (now (w .entry)) ⌝ }
+{
+    if w.len() == 0 {
+        return false;
+    }
+    if has_leading_zero(w) {
+        return false;
+    }
+    find(w, 0, Set::NotDigit) == w.len()
+}
+
+// The number that digits write, or 2147483649 where it is larger.
+fn decimal(w: &[u8]) -> u64
+    requires { ⌜ isDigits (now w) ≡ true ⌝ }
+    ensures { λ r. ⌜ r ≡ capped (decimal 0 (now (w .entry))) ⌝ }
+{
+    let mut n: u64 = 0;
+    let mut i = 0;
+    while i < w.len() {
+        n = n * 10 + (w[i] - 48) as u64;
+        if 2147483648 < n {
+            return 2147483649;
+        }
+        i += 1;
+    }
+    n
+}
+
+// A number by its 32 bits.
+pub enum Value {
+    Bits(u32),
+    NoNumber,
+}
+
+fn natural(d: &[u8]) -> Value
+    ensures { λ r. ⌜ bitsOf r ≡ naturalIn (now (d .entry)) ⌝ }
+{
+    if !is_digits(d) {
+        return Value::NoNumber;
+    }
+    let n = decimal(d);
+    if 2147483647 < n {
+        return Value::NoNumber;
+    }
+    Value::Bits(n as u32)
+}
+
+// What `-` before these digits writes.
+fn negative(d: &[u8]) -> Value
+    ensures { λ r. ⌜ bitsOf r ≡ negativeIn (now (d .entry)) ⌝ }
+{
+    if !is_digits(d) {
+        return Value::NoNumber;
+    }
+    let n = decimal(d);
+    if n < 1 {
+        return Value::NoNumber;
+    }
+    if 2147483648 < n {
+        return Value::NoNumber;
+    }
+    Value::Bits((4294967296 - n) as u32)
+}
+
+pub fn number_of(w: &[u8]) -> Value
+    ensures { λ r. ⌜ bitsOf r ≡ numberIn (now (w .entry)) ⌝ }
+{
+    if byte_at(w, 0) == 45 {
+        let d = &w[1..];
+        return negative(d);
+    }
+    natural(w)
+}
+
+pub fn is_number(w: &[u8]) -> bool
+    ensures { λ r. ⌜ r ≡ isNumber (now (w .entry)) ⌝ }
+{
+    let v = number_of(w);
+    match v {
+        Value::Bits(_) => true,
+        Value::NoNumber => false,
+    }
+}
+
+// The 32 bits of a number, or 0 where there is none.
+pub fn number(w: &[u8]) -> u32
+    ensures { λ r. ⌜ r ≡ withDefault 0 (numberIn (now (w .entry))) ⌝ }
+{
+    let v = number_of(w);
+    let Value::Bits(n) = v else {
+        return 0;
+    };
+    n
+}
+
+// EXPRESSIONS
+
+// An expression of a field: a variable is the whole field, a path has its full stop at a place of it.
+pub enum Expr {
+    Num(u32),
+    Null,
+    Var,
+    Path(usize),
+    NoExpr,
+}
+
+// Does it begin as a number?
+pub fn is_numeral(w: &[u8]) -> bool
+    ensures { λ r. ⌜ r ≡ numeral (now (w .entry)) ⌝ }
+{
+    let b = byte_at(w, 0);
+    if is_digit(b) {
+        return true;
+    }
+    b == 45
+}
+
+// A field of letters and digits.
+fn whole_expr(w: &[u8]) -> Expr
+    requires { ⌜ (numeral (now w) ≡ false) × (all letterOrDigit (now w) ≡ true) ⌝ }
+    ensures { λ r. ⌜ Reads (now (w .entry)) r ⌝ }
+{
+    if !begins_name(w, w.len()) {
+        return Expr::NoExpr;
+    }
+    if is_null(w) {
+        return Expr::Null;
+    }
+    Expr::Var
+}
+
+// A field whose first byte that is no letter or digit stands at d.
+fn path_expr(w: &[u8], d: usize) -> Expr
+    requires { ⌜ (numeral (now w) ≡ false) × ((d < length (now w)) × Found (now w) 0 Set.NotLetterOrDigit d) ⌝ }
+    ensures { λ r. ⌜ Reads (now (w .entry)) r ⌝ }
+{
+    if w[d] != 46 {
+        return Expr::NoExpr;
+    }
+    if !begins_name(w, d) {
+        return Expr::NoExpr;
+    }
+    let f = d + 1;
+    if is_name(&w[f..]) {
+        return Expr::Path(d);
+    }
+    Expr::NoExpr
+}
+
+pub fn expr_of(w: &[u8]) -> Expr
+    ensures { λ r. ⌜ Reads (now (w .entry)) r ⌝ }
+{
+    if is_numeral(w) {
+        let v = number_of(w);
+        let Value::Bits(n) = v else {
+            return Expr::NoExpr;
+        };
+        return Expr::Num(n);
+    }
+    let d = find(w, 0, Set::NotLetterOrDigit);
+    if d < w.len() {
+        return path_expr(w, d);
+    }
+    whole_expr(w)
+}
+
+pub fn is_expr(w: &[u8]) -> bool
+    ensures { λ r. ⌜ r ≡ isExpr (now (w .entry)) ⌝ }
+{
+    let e = expr_of(w);
+    let Expr::NoExpr = e else {
+        return true;
+    };
+    false
+}
+
+// The place of the full stop of a path; of any other field its length.
+pub fn path_stop(w: &[u8]) -> usize
+    ensures { λ r. ⌜ r ≡ stopOr (length (now (w .entry))) (exprIn (now (w .entry))) ⌝ }
+{
+    let e = expr_of(w);
+    let Expr::Path(d) = e else {
+        return w.len();
+    };
+    d
+}
+
+// ATOMS
+
+fn are_names(a: &[u8], b: &[u8]) -> bool
+    ensures { λ r. ⌜ r ≡ (isName (now (a .entry)) && isName (now (b .entry))) ⌝ }
+{
+    if is_name(a) {
+        return is_name(b);
+    }
+    false
+}
+
+fn are_exprs(a: &[u8], b: &[u8]) -> bool
+    ensures { λ r. ⌜ r ≡ (isExpr (now (a .entry)) && isExpr (now (b .entry))) ⌝ }
+{
+    if is_expr(a) {
+        return is_expr(b);
+    }
+    false
+}
+
+pub fn is_atom(w: &[u8], a: &[u8], b: &[u8]) -> bool
+    ensures { λ r. ⌜ r ≡ isAtom (now (w .entry)) (now (a .entry)) (now (b .entry)) ⌝ }
+{
+    let k = word(w);
+    match k {
+        ACC => are_names(a, b),
+        EQ | NE => are_exprs(a, b),
+        _ => false,
+    }
+}
