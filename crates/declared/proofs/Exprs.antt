@@ -1,0 +1,42 @@
+-- The expression of a field, by what the field was read as.
+use mathlib.Core.Path.{_≡_, refl, sym, ap, ap₂, _∙_, subst}
+use mathlib.Core.Bool.{Bool, true, false}
+use mathlib.Core.Option.{Option, none, some}
+use Prim.Native.Nat.{ℕ, suc, _+_, _-_, _<_}
+use native.Mathlib.Numerals.{add-one}
+use lib.ListN.{length, take, drop}
+use Rattle.rules.specs.Base.{Name}
+use Rattle.rules.specs.Syntax as Syntax
+use Rattle.rules.specs.Syntax.{num, null, var, path}
+use Rattle.rules.specs.Text.{isExpr, exprOf}
+use Rattle.rules.proofs.Lists.{some-inj, none-some}
+use Rattle.leaves.specs.declared.Expr.{Expr}
+use Rattle.leaves.specs.declared.Expr.the-variants.{Num, Null, Var, Path, NoExpr}
+use Rattle.leaves.specs.Answers.{whenTrue, meant, exprIn, stands, Reads}
+use Rattle.leaves.proofs.Search.{rest-part}
+
+module _ (w : Name) (e : Expr) (form : isExpr w ≡ true) (r : Reads w e) where
+  meant-is : meant w e ≡ some (exprOf w)
+  unfolding exprIn
+  meant-is = r .means ∙ ap (λ b. whenTrue b (exprOf w)) form
+
+  pub read-num : (n : ℕ) → e ≡ Num n → exprOf w ≡ num n
+  read-num n k = some-inj (sym meant-is ∙ ap (meant w) k)
+
+  pub read-null : e ≡ Null → exprOf w ≡ null
+  read-null k = some-inj (sym meant-is ∙ ap (meant w) k)
+
+  pub read-var : e ≡ Var → exprOf w ≡ var w
+  read-var k = some-inj (sym meant-is ∙ ap (meant w) k)
+
+  -- the second name as the rest of the field after its full stop
+  pub read-path : (d : ℕ) → e ≡ Path d → exprOf w ≡ path (take d w) (take (length w - (d + 1)) (drop (d + 1) w))
+  read-path d k =
+      some-inj (sym meant-is ∙ ap (meant w) k)
+      ∙ ap (path (take d w)) (ap (λ n. drop n w) (sym (add-one d)) ∙ sym (rest-part w (d + 1)))
+
+  pub read-none : {A : Type 0} → e ≡ NoExpr → A
+  read-none k = none-some (sym (ap (meant w) k) ∙ meant-is)
+
+pub stop-within : (w : Name) (e : Expr) (d : ℕ) → Reads w e → e ≡ Path d → d < length w
+stop-within w e d r k = subst (stands w) k (r .place) .1

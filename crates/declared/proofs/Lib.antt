@@ -1,0 +1,4 @@
+pub mod Searches
+pub mod LookUps
+pub mod Exprs
+pub mod Puts

@@ -1,0 +1,174 @@
+-- Laws of rows, and of the search for the first that passes a test.
+use mathlib.Core.Path.{_≡_, refl, sym, ap, _∙_}
+use mathlib.Core.Bool.{Bool, true, false, cond, _&&_, _||_}
+use mathlib.Core.List.{List, [], _∷_, _++_}
+use mathlib.Core.Option.{Option, none, some}
+use Prim.Native.Nat.{ℕ, zero, suc, _+_, _-_, _≤_, _<_}
+use native.Mathlib.Omega.{arith}
+use native.Mathlib.Nat.{add-zero, zero-add}
+use native.Mathlib.Numerals.{add-one}
+use lib.Dec.{eqb, ltb, eqb·zero-suc, eqb·suc-zero, eqb·suc-suc, leb·suc-suc}
+use lib.ListN.{length, getD}
+use borrow.Author.Tests.{lt-ltb, le-ltb}
+use Rattle.rules.specs.Base.{Name, eqName, any, first, index, withDefault}
+use Rattle.declared.specs.Rows.{rows}
+
+-- ROWS
+module _ {A : Type 0} (f : ℕ → A) where
+  pub rows-length : (i n : ℕ) → length (rows f i n) ≡ n
+  unfolding rows
+  rows-length i zero = refl
+  rows-length i (suc n) = ap suc (rows-length (suc i) n)
+
+  pub rows-at : (i n k : ℕ) (d : A) → k < n → getD (rows f i n) k d ≡ f (i + k)
+  unfolding rows
+  rows-at i zero k d l = absurd (omega arith)
+  rows-at i (suc n) zero d l = rw add-zero
+  rows-at i (suc n) (suc k) d l =
+      rows-at (suc i) n k d (omega arith) ∙ ap f (let e : suc i + k ≡ i + suc k = omega arith in e)
+
+  pub rows-past : (i n k : ℕ) (d : A) → n ≤ k → getD (rows f i n) k d ≡ d
+  unfolding rows
+  rows-past i zero k d l = refl
+  rows-past i (suc n) zero d l = absurd (omega arith)
+  rows-past i (suc n) (suc k) d l = rows-past (suc i) n k d (omega arith)
+
+  -- one row more
+  pub rows-end : (i n : ℕ) → rows f i (suc n) ≡ rows f i n ++ (f (i + n) ∷ [])
+  unfolding rows
+  rows-end i zero = rw add-zero
+  rows-end i (suc n) =
+      ap (_∷_ (f i)) (rows-end (suc i) n ∙ ap (λ j. rows f (suc i) n ++ (f j ∷ [])) (let e : suc i + n ≡ i + suc n = omega arith in e))
+
+pub rows-same :
+    {A : Type 0} (f g : ℕ → A) (i j n : ℕ) → ((k : ℕ) → k < n → f (i + k) ≡ g (j + k)) → rows f i n ≡ rows g j n
+unfolding rows
+rows-same f g i j zero h = refl
+rows-same f g i j (suc n) h =
+    let e : f i ≡ g j = rw (add-zero, add-zero) at (h 0 (omega arith)) in
+    let r : rows f (suc i) n ≡ rows g (suc j) n =
+    rows-same f g (suc i) (suc j) n
+    (λ k l.
+    let a : suc i + k ≡ i + suc k = omega arith in
+    let b : suc j + k ≡ j + suc k = omega arith in
+    rw (a, b) (h (suc k) (omega arith))) in
+    rw (e, r)
+
+-- THE SEARCH, ONE STEP: at the i-th of n rows
+module _ {A : Type 0} (p : A → Bool) (f : ℕ → A) (from n : ℕ) where
+  pub begin : 0 + index p (rows f (from + 0) (n - 0)) ≡ index p (rows f from n)
+  begin =
+      let z : from + 0 ≡ from = omega arith in
+      let m : n - 0 ≡ n = omega arith in
+      zero-add _ ∙ rw (z, m)
+
+module _ {A : Type 0} (p : A → Bool) (f : ℕ → A) (from n i : ℕ) where
+  pub here : i < n → p (f (from + i)) ≡ true → index p (rows f (from + i) (n - i)) ≡ 0
+  unfolding rows index
+  here l e = let z : n - i ≡ suc (n - suc i) = omega arith in rw (z, e)
+
+  pub on : i < n → p (f (from + i)) ≡ false → index p (rows f (from + i) (n - i)) ≡ suc (index p (rows f (from + (i + 1)) (n - (i + 1))))
+  unfolding rows index
+  on l e =
+      let z : n - i ≡ suc (n - (i + 1)) = omega arith in
+      let s : from + (i + 1) ≡ suc (from + i) = omega arith in
+      rw (z, e, s)
+
+  pub over : n ≤ i → index p (rows f (from + i) (n - i)) ≡ 0
+  unfolding rows index
+  over l = let z : n - i ≡ 0 = omega arith in rw z
+
+-- THE SEARCH AS A WHOLE
+step : {A : Type 0} (P : A → Type 0) (q : Bool) {a b : A} → (q ≡ true → P a) → (q ≡ false → P b) → P (cond q a b)
+step P true t f = t refl
+step P false t f = f refl
+
+module _ {A : Type 0} (p : A → Bool) where
+  pub index-within : (l : List A) → index p l ≤ length l
+  unfolding index
+  index-within [] = omega arith
+  index-within (a ∷ l) =
+      let h = index-within l in step (λ n. n ≤ suc (length l)) (p a) (λ e. omega arith) (λ e. omega arith)
+
+  pub any-index : (l : List A) → any p l ≡ ltb (index p l) (length l)
+  unfolding any index
+  any-index [] = refl
+  any-index (a ∷ l) = go (p a) (any-index l)
+    where
+      go : (q : Bool) → any p l ≡ ltb (index p l) (length l) → (q || any p l) ≡ ltb (cond q 0 (suc (index p l))) (suc (length l))
+      go true e = sym (lt-ltb 0 (suc (length l)) (omega arith))
+      go false e = e ∙ sym (leb·suc-suc (suc (index p l)) (length l))
+
+  pub first-index : (d : A) (l : List A) → withDefault d (first p l) ≡ getD l (index p l) d
+  unfolding first index withDefault
+  first-index d [] = refl
+  first-index d (a ∷ l) = go (p a) (first-index d l)
+    where
+      go :
+          (q : Bool) → withDefault d (first p l) ≡ getD l (index p l) d →
+          withDefault d (cond q (some a) (first p l)) ≡ getD (a ∷ l) (cond q 0 (suc (index p l))) d
+      go true e = refl
+      go false e = e
+
+-- the same test of rows that are read in two ways
+pub index-same :
+    {A B : Type 0} (p : A → Bool) (q : B → Bool) (f : ℕ → A) (g : ℕ → B) (i j n : ℕ) →
+    ((k : ℕ) → k < n → p (f (i + k)) ≡ q (g (j + k))) →
+    index p (rows f i n) ≡ index q (rows g j n)
+unfolding rows index
+index-same p q f g i j zero h = refl
+index-same p q f g i j (suc n) h =
+    let e : p (f i) ≡ q (g j) = rw (add-zero, add-zero) at (h 0 (omega arith)) in
+    let r : index p (rows f (suc i) n) ≡ index q (rows g (suc j) n) =
+    index-same p q f g (suc i) (suc j) n
+    (λ k l.
+    let a : suc i + k ≡ i + suc k = omega arith in
+    let b : suc j + k ≡ j + suc k = omega arith in
+    rw (a, b) (h (suc k) (omega arith))) in
+    rw (e, r)
+
+pub any-rows : {A : Type 0} (p : A → Bool) (f : ℕ → A) (i n : ℕ) → any p (rows f i n) ≡ ltb (index p (rows f i n)) n
+any-rows p f i n = any-index p (rows f i n) ∙ ap (ltb (index p (rows f i n))) (rows-length f i n)
+
+-- FIRST, with a list after the rows
+module _ {A : Type 0} (p : A → Bool) (f : ℕ → A) (rest : List A) where
+  pub first-found :
+      (i n k : ℕ) → k ≡ index p (rows f i n) → k < n → first p (rows f i n ++ rest) ≡ some (f (i + k))
+  unfolding rows index first
+  first-found i zero k e l = absurd (omega arith)
+  first-found i (suc n) k e l = go (p (f i)) k e l (λ j m. first-found (suc i) n j m)
+    where
+      go :
+          (q : Bool) (k : ℕ) → k ≡ cond q 0 (suc (index p (rows f (suc i) n))) → k < suc n →
+          ((j : ℕ) → j ≡ index p (rows f (suc i) n) → j < n → first p (rows f (suc i) n ++ rest) ≡ some (f (suc i + j))) →
+          cond q (some (f i)) (first p (rows f (suc i) n ++ rest)) ≡ some (f (i + k))
+      go true k e l h = let z : i + k ≡ i = omega (arith, e) in rw z
+      go false k e l h =
+          let z : suc i + index p (rows f (suc i) n) ≡ i + k = omega (arith, e) in
+          h (index p (rows f (suc i) n)) refl (omega (arith, e)) ∙ ap (λ j. some (f j)) z
+
+  pub first-none : (i n : ℕ) → n ≤ index p (rows f i n) → first p (rows f i n ++ rest) ≡ first p rest
+  unfolding rows index first
+  first-none i zero l = refl
+  first-none i (suc n) l = go (p (f i)) l (λ m. first-none (suc i) n m)
+    where
+      go :
+          (q : Bool) → suc n ≤ cond q 0 (suc (index p (rows f (suc i) n))) →
+          (n ≤ index p (rows f (suc i) n) → first p (rows f (suc i) n ++ rest) ≡ first p rest) →
+          cond q (some (f i)) (first p (rows f (suc i) n ++ rest)) ≡ first p rest
+      go true l h = absurd (omega arith)
+      go false l h = h (omega arith)
+
+-- NAMES
+eqb-comm : (m n : ℕ) → eqb m n ≡ eqb n m
+eqb-comm zero zero = refl
+eqb-comm zero (suc n) = eqb·zero-suc n ∙ sym (eqb·suc-zero n)
+eqb-comm (suc m) zero = eqb·suc-zero m ∙ sym (eqb·zero-suc m)
+eqb-comm (suc m) (suc n) = eqb·suc-suc m n ∙ (eqb-comm m n ∙ sym (eqb·suc-suc n m))
+
+pub name-comm : (x y : Name) → eqName x y ≡ eqName y x
+unfolding eqName
+name-comm [] [] = refl
+name-comm [] (b ∷ y) = refl
+name-comm (a ∷ x) [] = refl
+name-comm (a ∷ x) (b ∷ y) = rw (eqb-comm a b, name-comm x y)

@@ -1,0 +1,50 @@
+use Rattle.declared.proofs.LookUps.{null-agrees, int-agrees}
+use Rattle.declared.proofs.agree.Statement.{statement}
+use Rattle.declared.specs.Answers.{isIntType, typeMeant}
+use Rattle.rules.specs.Names.{agree}
+use borrow.Author.Needs.{needs}
+use Rattle.declared.proofs.agree.Tie as tie
+
+enum-told : tie.Need-enum-told
+enum-told c = search needs
+
+is-int-type-requires : tie.Need-is-int-type-requires
+is-int-type-requires c κs = search needs
+
+enum-told-2 : tie.Need-enum-told-2
+enum-told-2 c = search needs
+
+is-int-type-requires-2 : tie.Need-is-int-type-requires-2
+is-int-type-requires-2 c κs = search needs
+
+enum-known-a : tie.Need-enum-known-a
+enum-known-a c = search needs
+
+agree-named-requires : tie.Need-agree-named-requires
+agree-named-requires c κs = search needs
+
+returns : tie.Need-returns
+unfolding agree typeMeant isIntType
+returns c = rw (c .before .enum-told .given .1, c .is-int-type .ensures) (null-agrees (c .before .before .before .before .args .text .now) (c .before .before .before .before .args .b))
+
+returns-2 : tie.Need-returns-2
+unfolding agree typeMeant isIntType
+returns-2 c = rw (c .before .enum-told2 .given .1, c .is-int-type2 .ensures) (int-agrees (c .before .before .before .before .args .text .now) (c .before .before .before .before .args .b))
+
+returns-3 : tie.Need-returns-3
+unfolding typeMeant
+returns-3 c = rw (c .before .before .a .given .1) (c .agree-named .ensures)
+
+pub agree-spec : {M : Type 1} → statement M
+agree-spec =
+    tie.close
+    (tie.spec
+    enum-told
+    is-int-type-requires
+    enum-told-2
+    is-int-type-requires-2
+    enum-known-a
+    agree-named-requires
+    returns
+    returns-2
+    returns-3)

@@ -1,0 +1,16 @@
+use Rattle.declared.proofs.LookUps.{class-index}
+use Rattle.declared.proofs.class_number.Statement.{statement}
+use borrow.Author.Needs.{needs}
+use mathlib.Core.Path.{_∙_}
+use Rattle.declared.proofs.class_number.Tie as tie
+
+find-requires : tie.Need-find-requires
+find-requires c κs = search needs
+
+returns : tie.Need-returns
+returns c =
+    let s = c .before .before .before .before .args in
+    (c .find .ensures .0 ∙ class-index (s .text .now) (s .work .now) (s .c) (s .x .now), c .find .ensures .1)
+
+pub class-number-spec : {M : Type 1} → statement M
+class-number-spec = tie.close (tie.spec find-requires returns)

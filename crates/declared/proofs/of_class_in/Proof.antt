@@ -1,0 +1,69 @@
+use Rattle.declared.proofs.Exprs.{read-num, read-null, read-var, read-path, read-none, stop-within}
+use Rattle.declared.proofs.of_class_in.Statement.{statement}
+use Rattle.declared.specs.Meanings.{declarationsIn, variablesIn}
+use Rattle.leaves.proofs.Expr.{the-type}
+use Rattle.leaves.specs.Answers.{Reads}
+use Rattle.leaves.specs.declared.Expr.{Expr}
+use Rattle.leaves.specs.declared.Expr.the-variants.{Num, Null, Var, Path, NoExpr}
+use Rattle.rules.specs.Base.{Name}
+use Rattle.rules.specs.Names.{ofClassIn, isInt}
+use Rattle.rules.specs.Scope.{Variable, Declarations}
+use Rattle.rules.specs.Text.{isExpr, exprOf}
+use borrow.Author.Needs.{needs}
+use denote.Enum.Declared.{tagOf}
+use lib.Seq.{length-take-le}
+use mathlib.Core.Bool.{true}
+use mathlib.Core.List.{List, [], _∷_}
+use mathlib.Core.Path.{_≡_, refl, sym, ap}
+use native.Mathlib.Omega.{arith}
+use types.Run.{OneOf, miss}
+use Rattle.declared.proofs.of_class_in.Tie as tie
+
+-- an expression that is no path
+others :
+    (Γ : Declarations) (vs : List Variable) (w : Name) (e : Expr) → isExpr w ≡ true → Reads w e → OneOf (0 ∷ 1 ∷ 2 ∷ 4 ∷ []) (tagOf the-type e) →
+    true ≡ ofClassIn Γ vs (exprOf w)
+unfolding ofClassIn
+others Γ vs w (Num n) x r k = ap (ofClassIn Γ vs) (sym (read-num w (Num n) x r n refl))
+others Γ vs w Null x r k = ap (ofClassIn Γ vs) (sym (read-null w Null x r refl))
+others Γ vs w Var x r k = ap (ofClassIn Γ vs) (sym (read-var w Var x r refl))
+others Γ vs w (Path d) x r k = absurd (miss (0 ∷ 1 ∷ 2 ∷ 4 ∷ []) 3 tt k)
+others Γ vs w NoExpr x r k = read-none w NoExpr x r refl
+
+expr-of-requires : tie.Need-expr-of-requires
+expr-of-requires c κs = search needs
+
+enum-known-e : tie.Need-enum-known-e
+enum-known-e c = search needs
+
+returns : tie.Need-returns
+returns c =
+    let s = c .before .before .before .before .before .args in
+    others (declarationsIn (s .text .now) (s .work .now) (s .c)) (variablesIn (s .text .now) (s .work .now) (s .c)) (s .w .now) (c .before .expr-of .result) (c .before .before .before .before .before .pre .2) (c .before .expr-of .ensures) (c .match .keys2)
+
+slice-aggregate-variable-type : tie.Need-slice-aggregate-variable-type
+slice-aggregate-variable-type c = sym (length-take-le (c .before .before .e .given .0 .0) (c .before .before .before .before .before .before .before .before .args .w .now) (omega (arith, stop-within (c .before .before .before .before .before .before .before .before .args .w .now) (c .before .before .before .before .expr-of .result) (c .before .before .e .given .0 .0) (c .before .before .before .before .expr-of .ensures) (c .before .before .e .given .1))))
+
+variable-type-requires : tie.Need-variable-type-requires
+variable-type-requires c κs = search needs
+
+is-int-requires : tie.Need-is-int-requires
+is-int-requires c κs = search needs
+
+returns-2 : tie.Need-returns-2
+unfolding ofClassIn isInt
+returns-2 c =
+    let s = c .before .before .before .before .before .before .before .before .before .before .args in
+    rw (c .is-int .ensures, c .before .variable-type .ensures) (ap (ofClassIn (declarationsIn (s .text .now) (s .work .now) (s .c)) (variablesIn (s .text .now) (s .work .now) (s .c))) (sym (read-path (s .w .now) (c .before .before .before .before .before .before .expr-of .result) (c .before .before .before .before .before .before .before .before .before .before .pre .2) (c .before .before .before .before .before .before .expr-of .ensures) (c .before .before .before .before .e .given .0 .0) (c .before .before .before .before .e .given .1))))
+
+pub of-class-in-spec : {M : Type 1} → statement M
+of-class-in-spec =
+    tie.close
+    (tie.spec
+    expr-of-requires
+    enum-known-e
+    returns
+    slice-aggregate-variable-type
+    variable-type-requires
+    is-int-requires
+    returns-2)

@@ -1,0 +1,55 @@
+use Rattle.declared.proofs.put_row.Statement.{statement}
+use Rattle.declared.specs.Rows.{putRow}
+use borrow.Author.Needs.{needs}
+use mathlib.Core.Path.{_∙_}
+use Rattle.declared.proofs.put_row.Tie as tie
+
+mul-at : tie.Need-mul-at
+mul-at c = search needs
+
+add-at : tie.Need-add-at
+add-at c = search needs
+
+put-byte-requires : tie.Need-put-byte-requires
+put-byte-requires c κs = search needs
+
+add-put-span : tie.Need-add-put-span
+add-put-span c = search needs
+
+put-span-requires : tie.Need-put-span-requires
+put-span-requires c κs = search needs
+
+add-put-span-2 : tie.Need-add-put-span-2
+add-put-span-2 c = search needs
+
+put-span-requires-2 : tie.Need-put-span-requires-2
+put-span-requires-2 c κs = search needs
+
+add-put-span-3 : tie.Need-add-put-span-3
+add-put-span-3 c = search needs
+
+put-span-requires-3 : tie.Need-put-span-requires-3
+put-span-requires-3 c κs = search needs
+
+same-length : tie.Need-same-length
+same-length c = search needs
+
+returns : tie.Need-returns
+unfolding putRow
+returns c = c .before .before .put-span3 .ensures ∙ rw (c .before .before .before .before .before .before .put-span2 .ensures, c .before .before .before .before .before .before .before .before .before .before .put-span .ensures, c .before .before .before .before .before .before .before .before .before .before .before .before .before .before .put-byte .ensures)
+
+pub put-row-spec : {M : Type 1} → statement M
+put-row-spec =
+    tie.close
+    (tie.spec
+    mul-at
+    add-at
+    put-byte-requires
+    add-put-span
+    put-span-requires
+    add-put-span-2
+    put-span-requires-2
+    add-put-span-3
+    put-span-requires-3
+    same-length
+    returns)
