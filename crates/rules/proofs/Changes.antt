@@ -13,7 +13,7 @@ use Rattle.rules.specs.Syntax.{Rel, Expr, Simple, Stmt, Row, Field, Meth
 use Rattle.rules.specs.Syntax.{var, set, assign, new, call, return, assert, release, simple, if, else, join, end}
 use Rattle.rules.specs.Machine.{Config, Frame, Location, Cell, Room, on, holds, without, valueAt, valueOf, locate, value, compared, footprint, jump, advance, bind, holding, withFrame, afterElse, ifStep, stored, setStep, assignStep, newCell, grown, newStep, callFrame, entered, callStep, returned, assertStep, releaseStep, endStep, simpleStep, stepAt, step, rowOf}
 use Rattle.rules.proofs.Tries.{bind-ok, check-ok, ok-inj}
-use Rattle.rules.proofs.Sets.{Holds, in-append, in-new, without-in, without-out, locate-holds, locate-is, footprint-held}
+use Rattle.rules.proofs.Sets.{Holds, location-eq, in-append, in-new, without-in, without-out, locate-holds, locate-is, footprint-held}
 use Rattle.rules.proofs.Heaps.{store-other, store-length, grown-other}
 use Rattle.rules.proofs.States.{on-inj, took-on}
 
@@ -51,6 +51,12 @@ pub data Change (m m′ : Config) : Type 0 where
   entering : Entering m m′ → Change m m′
   returning : Returning m m′ → Change m m′
 
+-- a step that leaves the callers as they are stays in its frame
+pub change-within : (m m′ : Config) → Change m m′ → m′ .callers ≡ m .callers → Within m m′
+change-within m m′ (within W) e = W
+change-within m m′ (entering N) e = absurd (omega (arith, ap (λ (Fs : List Frame). length Fs) (sym e ∙ N .callers)))
+change-within m m′ (returning R) e = absurd (omega (arith, ap (λ (Fs : List Frame). length Fs) (e ∙ R .callers)))
+
 -- STATEMENTS
 -- only the frame changes, and its set does not grow
 same-heap : (m : Config) (F : Frame) → ((p : Location) → Holds F p → Holds (m .frame) p) → Within m (withFrame m F)
@@ -68,15 +74,17 @@ stored-within m p v i =
       outside =
           λ q n l.
           store-other (m .heap) (p .object) (p .field) v (q .object) (q .field)
-          (λ e. n (subst (λ (r : Location). Holds (m .frame) r) (λ k. record { object = e .0 k; field = sym (e .1) k }) i));
+          (λ e. n (subst (λ (r : Location). Holds (m .frame) r) (location-eq (e .0) (sym (e .1))) i));
     }
 
 set-within : (x f y : ℕ) (m m′ : Config) → setStep x f y m ≡ ok m′ → Within m m′
 unfolding setStep
 set-within x f y m m′ e =
     let (p, l, q) = bind-ok (locate (m .frame) x f) e in
-    subst (Within m) (ap (λ (g : ℕ). stored m (p .object) g (valueOf (m .frame) y)) (ap (λ (r : Location). r .field) (locate-is (m .frame) x f p l)) ∙ ok-inj q)
-    (stored-within m p (valueOf (m .frame) y) (locate-holds (m .frame) x f p l))
+    let v : ℕ = valueOf (m .frame) y in
+    let is : p .field ≡ f = ap (λ (r : Location). r .field) (locate-is (m .frame) x f p l) in
+    subst (Within m) (ap (λ (g : ℕ). stored m (p .object) g v) is ∙ ok-inj q)
+    (stored-within m p v (locate-holds (m .frame) x f p l))
 
 assign-within : (x : ℕ) (e : Expr ℕ) (m m′ : Config) → assignStep x e m ≡ ok m′ → Within m m′
 unfolding assignStep holds advance jump bind
@@ -120,7 +128,8 @@ entered-entering m M y z A e =
 -- a call that is done enters with the footprint of requires
 pub call-enters :
     (y : ℕ) (M : Method) (z : ℕ) (m m′ : Config) → callStep y M z m ≡ ok m′ →
-    (A : List Location) × (footprint (m .heap) (callFrame m M y z) (M .requires) ≡ ok A) × (m′ ≡ entered m (callFrame m M y z) A)
+    (A :
+    List Location) × (footprint (m .heap) (callFrame m M y z) (M .requires) ≡ ok A) × (m′ ≡ entered m (callFrame m M y z) A)
 unfolding callStep
 call-enters y M z m m′ e =
     let (A, f, q) = bind-ok (footprint (m .heap) (callFrame m M y z) (M .requires)) (check-ok _ _ e .1) in

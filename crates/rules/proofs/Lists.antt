@@ -1,7 +1,7 @@
 -- Laws of tests and lists that the other proofs share.
 use mathlib.Core.Path.{_≡_, refl, sym, ap, _∙_, subst}
 use mathlib.Core.Bool.{Bool, true, false, cond, _&&_, _||_}
-use mathlib.Core.List.{List, [], _∷_, _++_}
+use mathlib.Core.List.{List, [], _∷_, _++_, map}
 use mathlib.Core.Logic.{_⊎_, inl, inr, ⊎-elim}
 use mathlib.Core.Option.{Option, none, some}
 use Prim.Native.Nat.{ℕ, zero, suc, _≤_, suc-le-suc, zero-le}
@@ -9,7 +9,7 @@ use native.Mathlib.Omega.{arith}
 use native.Mathlib.Nat.{le-refl}
 use lib.Dec.{T, eqb, eqb→eq, eqb-refl}
 use lib.ListN.{length, getD}
-use Rattle.rules.specs.Base.{any, first, update, mapOption, bindOption}
+use Rattle.rules.specs.Base.{any, keep, first, update, mapOption, bindOption}
 
 -- TESTS
 pub T-true : (b : Bool) → T b → b ≡ true
@@ -64,6 +64,17 @@ unfolding bindOption
 bind-some none f b e = none-some e
 bind-some (some a) f b e = (a, refl, e)
 
+pub option-cases : {A : Type 0} (o : Option A) → (o ≡ none) ⊎ ((a : A) × (o ≡ some a))
+option-cases none = inl refl
+option-cases (some a) = inr (a, refl)
+
+-- LISTS
+pub cons-head : {A : Type 0} {a b : A} {l m : List A} → a ∷ l ≡ b ∷ m → a ≡ b
+cons-head e = cc
+
+pub cons-tail : {A : Type 0} {a b : A} {l m : List A} → a ∷ l ≡ b ∷ m → l ≡ m
+cons-tail e = cc
+
 -- MEMBERS
 pub data Member {A : Type 0} (a : A) : List A → Type 0 where
   at-head : {l : List A} → Member a (a ∷ l)
@@ -77,24 +88,59 @@ module _ {A : Type 0} where
   pub is-head : {a b : A} {l : List A} → a ≡ b → Member a (b ∷ l)
   is-head {a} {b} {l} e = subst (λ c. Member a (c ∷ l)) e at-head
 
-  pub in-end : (l : List A) (a b : A) → Member b (l ++ (a ∷ [])) → Member b l ⊎ (b ≡ a)
-  in-end [] a b i = ⊎-elim (λ j. elim j [ ]) (λ e. inr e) (head-or i)
-  in-end (c ∷ l) a b i =
-      ⊎-elim (λ j. ⊎-elim (λ k. inl (further k)) (λ e. inr e) (in-end l a b j)) (λ e. inl (is-head e)) (head-or i)
+  -- in both lists together
+  pub append-member : (l m : List A) (a : A) → Member a (l ++ m) → Member a l ⊎ Member a m
+  append-member [] m a i = inr i
+  append-member (b ∷ l) m a i =
+      ⊎-elim (λ j. ⊎-elim (λ k. inl (further k)) (λ k. inr k) (append-member l m a j)) (λ e. inl (is-head e)) (head-or i)
 
-  pub end-in : (l : List A) (a : A) → Member a (l ++ (a ∷ []))
-  end-in [] a = at-head
-  end-in (b ∷ l) a = further (end-in l a)
+  pub member-left : (l m : List A) (a : A) → Member a l → Member a (l ++ m)
+  member-left [] m a i = elim i [ ]
+  member-left (b ∷ l) m a i = ⊎-elim (λ j. further (member-left l m a j)) (λ e. is-head e) (head-or i)
 
-  pub in-before : (l : List A) (a b : A) → Member b l → Member b (l ++ (a ∷ []))
-  in-before [] a b i = elim i [ ]
-  in-before (c ∷ l) a b i = ⊎-elim (λ j. further (in-before l a b j)) (λ e. is-head e) (head-or i)
+  pub member-right : (l m : List A) (a : A) → Member a m → Member a (l ++ m)
+  member-right [] m a i = i
+  member-right (b ∷ l) m a i = further (member-right l m a i)
+
+  -- with one more at the end
+  pub end-member : (l : List A) (a b : A) → Member b (l ++ (a ∷ [])) → Member b l ⊎ (b ≡ a)
+  end-member l a b i =
+      ⊎-elim (λ j. inl j) (λ j. ⊎-elim (λ k. elim k [ ]) (λ e. inr e) (head-or j)) (append-member l (a ∷ []) b i)
+
+  -- those that pass
+  pub keep-member : (t : A → Bool) (l : List A) (a : A) → Member a (keep t l) → Member a l × T (t a)
+  unfolding keep
+  keep-member t [] a i = elim i [ ]
+  keep-member t (b ∷ l) a i = go (t b) refl (λ j. keep-member t l a j) i
+    where
+      go :
+          (c : Bool) → c ≡ t b → (Member a (keep t l) → Member a l × T (t a)) → Member a (cond c (b ∷ keep t l) (keep t l)) →
+          Member a (b ∷ l) × T (t a)
+      go true r ih i =
+          ⊎-elim (λ j. (further (ih j .0), ih j .1)) (λ e. (is-head e, subst (λ w. T (t w)) (sym e) (subst T r tt))) (head-or i)
+      go false r ih i = (further (ih i .0), ih i .1)
+
+  pub member-keep : (t : A → Bool) (l : List A) (a : A) → T (t a) → Member a l → Member a (keep t l)
+  unfolding keep
+  member-keep t [] a y i = elim i [ ]
+  member-keep t (b ∷ l) a y i = go (t b) refl (member-keep t l a y) (head-or i)
+    where
+      go :
+          (c : Bool) → c ≡ t b → (Member a l → Member a (keep t l)) → Member a l ⊎ (a ≡ b) →
+          Member a (cond c (b ∷ keep t l) (keep t l))
+      go true r ih (inr e) = is-head e
+      go true r ih (inl i) = further (ih i)
+      go false r ih (inr e) = absurd (subst T (sym r) (subst (λ w. T (t w)) e y))
+      go false r ih (inl i) = ih i
 
   pub any-in : (t : A → Bool) (l : List A) (a : A) → Member a l → T (t a) → T (any t l)
   unfolding any
   any-in t [] a i y = elim i [ ]
   any-in t (b ∷ l) a i y =
-      ⊎-elim (λ j. or-right (t b) (any t l) (any-in t l a j y)) (λ e. or-left (t b) (any t l) (subst (λ w. T (t w)) e y)) (head-or i)
+      ⊎-elim
+      (λ j. or-right (t b) (any t l) (any-in t l a j y))
+      (λ e. or-left (t b) (any t l) (subst (λ w. T (t w)) e y))
+      (head-or i)
 
   -- a test that passes at some member
   pub in-any : {B : Type 0} (t : A → Bool) (l : List A) → T (any t l) → ((a : A) → Member a l → T (t a) → B) → B
@@ -113,33 +159,51 @@ module _ {A : Type 0} where
       go true r ih k = (is-head (sym (some-inj k)), subst T (r ∙ ap t (some-inj k)) tt)
       go false r ih k = let (i, p) = ih k in (further i, p)
 
+-- of a list whose elements are changed
+pub map-member : {A B : Type 0} (f : A → B) (l : List A) (b : B) → Member b (map f l) → (a : A) × Member a l × (b ≡ f a)
+map-member f [] b i = elim i [ ]
+map-member f (a ∷ l) b i =
+    ⊎-elim (λ j. let (x, y, z) = map-member f l b j in (x, further y, z)) (λ e. (a, at-head, e)) (head-or i)
+
+pub member-map : {A B : Type 0} (f : A → B) (l : List A) (a : A) → Member a l → Member (f a) (map f l)
+member-map f [] a i = elim i [ ]
+member-map f (b ∷ l) a i = ⊎-elim (λ j. further (member-map f l a j)) (λ e. is-head (ap f e)) (head-or i)
+
 -- where a member of mapOption comes from, and where a member goes
 module _ {A B : Type 0} (f : A → Option B) where
-  one-came :
-      (a c : A) (l : List A) (m : List B) (b d : B) → f a ≡ some d → (Member b m → (a : A) × Member a l × (f a ≡ some b)) →
-      Member b (d ∷ m) → (c : A) × Member c (a ∷ l) × (f c ≡ some b)
-  one-came a c l m b d e k at-head = (a, at-head, e)
-  one-came a c l m b d e k (further i) = let (x, y, z) = k i in (x, further y, z)
+  pub mapOption-none : (a : A) (l : List A) → f a ≡ none → mapOption f (a ∷ l) ≡ mapOption f l
+  unfolding mapOption
+  mapOption-none a l e = rw (e, mapOption)
+
+  pub mapOption-some : (a : A) (l : List A) (b : B) → f a ≡ some b → mapOption f (a ∷ l) ≡ b ∷ mapOption f l
+  unfolding mapOption
+  mapOption-some a l b e = rw (e, mapOption)
+
+  nil-none : (b : B) → Member b (mapOption f []) → ⊥
+  unfolding mapOption
+  nil-none b i = elim i [ ]
 
   pub came-from : (l : List A) (b : B) → Member b (mapOption f l) → (a : A) × Member a l × (f a ≡ some b)
-  unfolding mapOption
-  came-from [] b i = elim i [ ]
-  came-from (a ∷ l) b i = go (f a) refl (came-from l b) i
-    where
-      go : (o : Option B) → f a ≡ o → (Member b (mapOption f l) → (a : A) × Member a l × (f a ≡ some b)) → Member b (elim o [ none ↦ mapOption f l | some d ↦ d ∷ mapOption f l ]) → (c : A) × Member c (a ∷ l) × (f c ≡ some b)
-      go none e ih i = let (x, y, z) = ih i in (x, further y, z)
-      go (some d) e ih i = one-came a a l _ b d e ih i
+  came-from [] b i = absurd (nil-none b i)
+  came-from (a ∷ l) b i =
+      ⊎-elim
+      (λ e. let (x, y, z) = came-from l b (subst (Member b) (mapOption-none a l e) i) in (x, further y, z))
+      (λ (d, e).
+      ⊎-elim (λ j. let (x, y, z) = came-from l b j in (x, further y, z)) (λ w. (a, at-head, e ∙ ap some (sym w)))
+      (head-or (subst (Member b) (mapOption-some a l d e) i)))
+      (option-cases (f a))
 
   pub went-to : (l : List A) (a : A) (b : B) → f a ≡ some b → Member a l → Member b (mapOption f l)
-  unfolding mapOption
   went-to [] a b e i = elim i [ ]
-  went-to (c ∷ l) a b e i = go (f c) refl (went-to l a b e) (head-or i)
-    where
-      go : (o : Option B) → f c ≡ o → (Member a l → Member b (mapOption f l)) → Member a l ⊎ (a ≡ c) → Member b (elim o [ none ↦ mapOption f l | some d ↦ d ∷ mapOption f l ])
-      go none d ih (inr w) = none-some (sym d ∙ (ap f (sym w) ∙ e))
-      go none d ih (inl i) = ih i
-      go (some r) d ih (inr w) = is-head (some-inj (sym e ∙ (ap f w ∙ d)))
-      go (some r) d ih (inl i) = further (ih i)
+  went-to (c ∷ l) a b e i =
+      ⊎-elim
+      (λ j.
+      ⊎-elim
+      (λ n. subst (Member b) (sym (mapOption-none c l n)) (went-to l a b e j))
+      (λ (d, k). subst (Member b) (sym (mapOption-some c l d k)) (further (went-to l a b e j)))
+      (option-cases (f c)))
+      (λ w. subst (Member b) (sym (mapOption-some c l b (ap f (sym w) ∙ e))) at-head)
+      (head-or i)
 
 -- UPDATES
 pub update-same : {A : Type 0} (d : A) (l : List A) (i : ℕ) (a : A) → getD (update d l i a) i d ≡ a

@@ -1,15 +1,15 @@
 -- Laws of sets of locations, and of what a formula takes from one.
-use mathlib.Core.Path.{_≡_, refl, sym, ap, subst}
-use mathlib.Core.Bool.{Bool, true, false, not, cond}
+use mathlib.Core.Path.{_≡_, sym, ap, subst}
+use mathlib.Core.Bool.{not}
 use mathlib.Core.List.{List, [], _∷_, _++_, map}
 use mathlib.Core.Logic.{_⊎_, inl, inr, ⊎-elim}
 use Prim.Native.Nat.{ℕ}
 use lib.Dec.{T, eqb, eqb→eq, eqb-refl, not-T, T-not}
-use Rattle.rules.specs.Base.{ok, any, keep}
+use Rattle.rules.specs.Base.{ok, any}
 use Rattle.rules.specs.Answers.{formulaFalse}
 use Rattle.rules.specs.Syntax.{Formula, acc, cmp}
 use Rattle.rules.specs.Machine.{Cell, Frame, Heap, Location, among, eqLocation, holds, without, locate, value, valueOf, takeFrom, footprint, compared}
-use Rattle.rules.proofs.Lists.{and-intro, and-both, or-cases, or-left, or-right}
+use Rattle.rules.proofs.Lists.{Member, at-head, further, head-or, append-member, member-left, member-right, keep-member, member-keep, map-member, any-in, in-any, and-intro, and-both}
 use Rattle.rules.proofs.Tries.{bind-ok, check-ok, ok-inj}
 
 -- p is in the set A
@@ -20,98 +20,69 @@ In p A = T (among p A)
 abbrev pub Holds : Frame → Location → Type 0
 Holds F p = T (holds F p)
 
-pub holds-in : (F : Frame) (p : Location) → Holds F p → In p (F .held)
-unfolding holds
-holds-in F p h = h
-
-pub in-holds : (F : Frame) (p : Location) → In p (F .held) → Holds F p
-unfolding holds
-in-holds F p h = h
-
 -- MEMBERS
+pub location-eq :
+    {o o′ f f′ : ℕ} → o ≡ o′ → f ≡ f′ →
+    _≡_ {A = Location} (record { object = o; field = f }) (record { object = o′; field = f′ })
+location-eq a b = λ i. record { object = a i; field = b i }
+
+-- the test is membership in the list
+pub in-member : (p : Location) (A : List Location) → In p A → Member p A
+unfolding among eqLocation
+in-member p A h =
+    in-any (eqLocation p) A h λ q i e.
+    let (a, b) = and-both (eqb (p .object) (q .object)) (eqb (p .field) (q .field)) e in
+    subst (λ r. Member r A) (sym (location-eq (eqb→eq (p .object) (q .object) a) (eqb→eq (p .field) (q .field) b))) i
+
+pub member-in : (p : Location) (A : List Location) → Member p A → In p A
+unfolding among eqLocation
+member-in p A i =
+    any-in (eqLocation p) A p i
+    (and-intro (eqb (p .object) (p .object)) (eqb (p .field) (p .field)) (eqb-refl (p .object)) (eqb-refl (p .field)))
+
 pub in-nil : (p : Location) → In p [] → ⊥
 unfolding among any
 in-nil p h = h
 
 pub in-cons : (p q : Location) (A : List Location) → In p (q ∷ A) → (p ≡ q) ⊎ In p A
-unfolding among any eqLocation
-in-cons p q A h =
-    ⊎-elim
-    (λ e. let (a, b) = and-both (eqb (p .object) (q .object)) (eqb (p .field) (q .field)) e in
-    inl (λ i. record { object = eqb→eq (p .object) (q .object) a i; field = eqb→eq (p .field) (q .field) b i }))
-    (λ k. inr k)
-    (or-cases (eqLocation p q) (among p A) h)
-
-pub in-there : (p q : Location) (A : List Location) → In p A → In p (q ∷ A)
-unfolding among any
-in-there p q A h = or-right (eqLocation p q) (among p A) h
+in-cons p q A h = ⊎-elim (λ j. inr (member-in p A j)) (λ e. inl e) (head-or (in-member p (q ∷ A) h))
 
 pub in-here : (p : Location) (A : List Location) → In p (p ∷ A)
-unfolding among any eqLocation
-in-here p A =
-    or-left (eqLocation p p) (among p A)
-    (and-intro (eqb (p .object) (p .object)) (eqb (p .field) (p .field)) (eqb-refl (p .object)) (eqb-refl (p .field)))
+in-here p A = member-in p (p ∷ A) at-head
 
-is-here : {p q : Location} (A : List Location) → p ≡ q → In p (q ∷ A)
-is-here {p} {q} A e = subst (λ r. In p (r ∷ A)) e (in-here p A)
+pub in-there : (p q : Location) (A : List Location) → In p A → In p (q ∷ A)
+in-there p q A h = member-in p (q ∷ A) (further (in-member p A h))
 
--- BOTH SETS
+-- both sets together
 pub in-append : (p : Location) (A B : List Location) → In p (A ++ B) → In p A ⊎ In p B
-in-append p [] B h = inr h
-in-append p (q ∷ A) B h =
-    ⊎-elim (λ e. inl (is-here A e)) (λ k. ⊎-elim (λ a. inl (in-there p q A a)) (λ b. inr b) (in-append p A B k))
-    (in-cons p q (A ++ B) h)
+in-append p A B h =
+    ⊎-elim (λ i. inl (member-in p A i)) (λ i. inr (member-in p B i)) (append-member A B p (in-member p (A ++ B) h))
 
-pub append-left : (p : Location) (A B : List Location) → In p A → In p (A ++ B)
-append-left p [] B i = absurd (in-nil p i)
-append-left p (q ∷ A) B i = ⊎-elim (λ e. is-here (A ++ B) e) (λ j. in-there p q _ (append-left p A B j)) (in-cons p q A i)
+pub in-left : (p : Location) (A B : List Location) → In p A → In p (A ++ B)
+in-left p A B h = member-in p (A ++ B) (member-left A B p (in-member p A h))
 
-pub append-right : (p : Location) (A B : List Location) → In p B → In p (A ++ B)
-append-right p [] B i = i
-append-right p (q ∷ A) B i = in-there p q _ (append-right p A B i)
+pub in-right : (p : Location) (A B : List Location) → In p B → In p (A ++ B)
+in-right p A B h = member-in p (A ++ B) (member-right A B p (in-member p B h))
 
--- ONE SET LESS ANOTHER
-keep-in : (t : Location → Bool) (p : Location) (B : List Location) → In p (keep t B) → In p B × T (t p)
-unfolding keep
-keep-in t p [] h = absurd (in-nil p h)
-keep-in t p (q ∷ B) h = go (t q) refl (λ j. keep-in t p B j) h
-  where
-    go :
-        (b : Bool) → b ≡ t q → (In p (keep t B) → In p B × T (t p)) → In p (cond b (q ∷ keep t B) (keep t B)) →
-        In p (q ∷ B) × T (t p)
-    go true r ih k =
-        ⊎-elim (λ e. (is-here B e, subst (λ w. T (t w)) (sym e) (subst T r tt))) (λ j. (in-there p q B (ih j .0), ih j .1))
-        (in-cons p q (keep t B) k)
-    go false r ih k = (in-there p q B (ih k .0), ih k .1)
-
-in-keep : (t : Location → Bool) (p : Location) (B : List Location) → T (t p) → In p B → In p (keep t B)
-unfolding keep
-in-keep t p [] y i = i
-in-keep t p (q ∷ B) y i = go (t q) refl (in-keep t p B y) (in-cons p q B i)
-  where
-    go : (b : Bool) → b ≡ t q → (In p B → In p (keep t B)) → (p ≡ q) ⊎ In p B → In p (cond b (q ∷ keep t B) (keep t B))
-    go true r ih (inl e) = is-here (keep t B) e
-    go true r ih (inr i) = in-there p q _ (ih i)
-    go false r ih (inl e) = absurd (subst T (sym r) (subst (λ w. T (t w)) e y))
-    go false r ih (inr i) = ih i
-
+-- one set less another
 pub without-in : (p : Location) (A B : List Location) → In p (without A B) → In p B
 unfolding without
-without-in p A B h = keep-in (λ q. not (among q A)) p B h .0
+without-in p A B h = member-in p B (keep-member (λ q. not (among q A)) B p (in-member p _ h) .0)
 
 pub without-out : (p : Location) (A B : List Location) → In p (without A B) → In p A → ⊥
 unfolding without
-without-out p A B i j = T-not (among p A) (keep-in (λ q. not (among q A)) p B i .1) j
+without-out p A B h j = T-not (among p A) (keep-member (λ q. not (among q A)) B p (in-member p _ h) .1) j
 
 pub in-without : (p : Location) (A B : List Location) → In p B → (In p A → ⊥) → In p (without A B)
 unfolding without
-in-without p A B i n = in-keep (λ q. not (among q A)) p B (not-T (among p A) n) i
+in-without p A B h n = member-in p _ (member-keep (λ q. not (among q A)) B p (not-T (among p A) n) (in-member p B h))
 
 -- the locations of a new object
 pub in-new :
     (p : Location) (o : ℕ) (cs : List Cell) → In p (map (λ c. record { object = o; field = c .name }) cs) → p .object ≡ o
-in-new p o [] h = absurd (in-nil p h)
-in-new p o (c ∷ cs) h = ⊎-elim (λ e. ap (λ (r : Location). r .object) e) (λ k. in-new p o cs k) (in-cons p _ _ h)
+in-new p o cs h =
+    let (c, _, e) = map-member {B = Location} (λ (c : Cell). record { object = o; field = c .name }) cs p (in-member p _ h) in
+    ap (λ (r : Location). r .object) e
 
 -- FOOTPRINTS
 -- `x.f` is located only where the frame holds it

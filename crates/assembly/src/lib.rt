@@ -1,0 +1,1 @@
+// Proofs only: a program put together line by line (proofs/Assembled).

@@ -1,0 +1,17 @@
+pub mod Satisfied
+pub mod ShowSound
+pub mod RemainderSound
+pub mod RemoveSound
+pub mod AddSound
+pub mod Actuals
+pub mod Branches
+pub mod Stack
+pub mod AssignSound
+pub mod SetSound
+pub mod NewSound
+pub mod AssertSound
+pub mod BranchSound
+pub mod CallSound
+pub mod StepKeeps
+pub mod NeverStuck
+pub mod FrameKept

@@ -1,0 +1,150 @@
+-- Removing x from a state keeps what is known, whatever value x gets.
+use mathlib.Core.Path.{_≡_, refl, sym, ap, _∙_, subst}
+use mathlib.Core.Bool.{Bool, true, false, not, cond}
+use mathlib.Core.List.{List, [], _∷_}
+use mathlib.Core.Logic.{⊎-elim}
+use mathlib.Core.Option.{Option, some}
+use Prim.Native.Nat.{ℕ}
+use lib.Dec.{T, eqb, eqb→eq, eqb-refl, T-not}
+use Rattle.rules.specs.Base.{mapOption, bindOption}
+use Rattle.rules.specs.Syntax.{num, null, var, path}
+use Rattle.rules.specs.State.{Term, Permission, Fact, State, equalIn, renameVariable, renameTerm, renamePermission, renameFact, successor, removeTo, remove, variables}
+use Rattle.rules.specs.Machine.{Frame, Heap, Location, valueAt, valueOf, bind, holds}
+use Rattle.rules.proofs.Lists.{and-both, first-in, some-inj, bind-some, option-cases, mapOption-none, mapOption-some, came-from, went-to, update-same, update-other}
+use Rattle.rules.proofs.Sets.{Holds, location-eq}
+use Rattle.soundness.proofs.Satisfied.{termValue, locationOf, Owned, Apart, Reads, FactTrue, Satisfied, related-by}
+use Rattle.soundness.proofs.ShowSound.{equal-variable}
+
+-- A FRAME WITH A NEW VALUE OF x
+pub bound-same : (F : Frame) (x v : ℕ) → valueOf (bind x v F) x ≡ v
+unfolding valueOf bind
+bound-same F x v = update-same 0 (F .values) x v
+
+pub bound-other : (F : Frame) (x v y : ℕ) → (x ≡ y → ⊥) → valueOf (bind x v F) y ≡ valueOf F y
+unfolding valueOf bind
+bound-other F x v y n = update-other 0 (F .values) x y v n
+
+pub bound-holds : (F : Frame) (x v : ℕ) (p : Location) → Holds F p → Holds (bind x v F) p
+unfolding bind holds
+bound-holds F x v p i = i
+
+pub holds-bound : (F : Frame) (x v : ℕ) (p : Location) → Holds (bind x v F) p → Holds F p
+unfolding bind holds
+holds-bound F x v p i = i
+
+-- A RENAMING: G gives what it leaves the values that F gave
+module _ (h : Heap) (F G : Frame) (x : ℕ) (to : Option ℕ)
+    (K : (v w : ℕ) → renameVariable x to v ≡ some w → valueOf G w ≡ valueOf F v) where
+  renamed-value : (t u : Term) → renameTerm x to t ≡ some u → termValue h G u ≡ termValue h F t
+  unfolding renameTerm termValue
+  renamed-value (num n) u e = ap (termValue h G) (sym (some-inj e))
+  renamed-value null u e = ap (termValue h G) (sym (some-inj e))
+  renamed-value (var v) u e =
+      let (w, m, q) = bind-some (renameVariable x to v) _ u e in
+      ap (termValue h G) (sym (some-inj q)) ∙ K v w m
+  renamed-value (path v f) u e =
+      let (w, m, q) = bind-some (renameVariable x to v) _ u e in
+      ap (termValue h G) (sym (some-inj q)) ∙ ap (λ (o : ℕ). valueAt h o f) (K v w m)
+
+  renamed-location : (p q : Permission) → renamePermission x to p ≡ some q → locationOf G q ≡ locationOf F p
+  unfolding renamePermission
+  renamed-location p q e =
+      let (w, m, r) = bind-some (renameVariable x to (p .variable)) _ q e in
+      ap (locationOf G) (sym (some-inj r)) ∙ location-eq (K (p .variable) w m) refl
+
+  renamed-owned :
+      (p q : Permission) → ((l : Location) → Holds F l → Holds G l) → renamePermission x to p ≡ some q → Owned F p → Owned G q
+  renamed-owned p q L e O =
+      record {
+        object = λ z. O .object (sym (ap (λ (l : Location). l .object) (renamed-location p q e)) ∙ z);
+        held = L _ (subst (Holds F) (sym (renamed-location p q e)) (O .held));
+      }
+
+  renamed-apart : (ps : List Permission) → Apart F ps → Apart G (mapOption (renamePermission x to) ps)
+  unfolding mapOption
+  renamed-apart [] A = tt
+  renamed-apart (p ∷ ps) A =
+      ⊎-elim
+      (λ e. subst (Apart G) (sym (mapOption-none (renamePermission x to) p ps e)) (renamed-apart ps (A .1)))
+      (λ (r, e).
+      subst (Apart G) (sym (mapOption-some (renamePermission x to) p ps r e)) (
+        λ q i l.
+            let (a, b, c) = came-from (renamePermission x to) ps q i in
+            A .0 a b (sym (renamed-location a q c) ∙ (l ∙ renamed-location p r e)),
+        renamed-apart ps (A .1),
+      ))
+      (option-cases (renamePermission x to p))
+
+  renamed-reads :
+      (ps : List Permission) (t u : Term) → renameTerm x to t ≡ some u → Reads ps t →
+      Reads (mapOption (renamePermission x to) ps) u
+  unfolding renameTerm renamePermission bindOption
+  renamed-reads ps (num n) u e r = subst (Reads _) (some-inj e) tt
+  renamed-reads ps null u e r = subst (Reads _) (some-inj e) tt
+  renamed-reads ps (var v) u e r =
+      let (w, m, q) = bind-some (renameVariable x to v) _ u e in subst (Reads _) (some-inj q) tt
+  renamed-reads ps (path v f) u e r =
+      let (w, m, q) = bind-some (renameVariable x to v) _ u e in
+      subst (Reads _) (some-inj q)
+      (went-to (renamePermission x to) ps (record { variable = v; field = f }) (record { variable = w; field = f })
+      (ap (λ (o : Option ℕ). bindOption o (λ w. some (record { variable = w; field = f }))) m) r)
+
+  renamed-true :
+      (ps : List Permission) (f g : Fact) → renameFact x to f ≡ some g → FactTrue h F ps f →
+      FactTrue h G (mapOption (renamePermission x to) ps) g
+  unfolding renameFact
+  renamed-true ps f g e t =
+      let (a, i, e₁) = bind-some (renameTerm x to (f .left)) _ g e in
+      let (b, j, e₂) = bind-some (renameTerm x to (f .right)) _ g e₁ in
+      subst (FactTrue h G (mapOption (renamePermission x to) ps)) (some-inj e₂)
+      (record {
+        related = related-by (f .rel) (renamed-value (f .left) a i) (renamed-value (f .right) b j) (t .related);
+        reads-left = renamed-reads ps (f .left) a i (t .reads-left);
+        reads-right = renamed-reads ps (f .right) b j (t .reads-right);
+      })
+
+  renamed-satisfied : (s : State) → ((l : Location) → Holds F l → Holds G l) → Satisfied h F s → Satisfied h G (removeTo x to s)
+  unfolding removeTo
+  renamed-satisfied s L S =
+      record {
+        owned =
+            λ q i.
+            let (p, b, c) = came-from (renamePermission x to) (s .permissions) q i in renamed-owned p q L c (S .owned p b);
+        apart = renamed-apart (s .permissions) (S .apart);
+        facts =
+            λ g i.
+            let (f, b, c) = came-from (renameFact x to) (s .facts) g i in renamed-true (s .permissions) f g c (S .facts f b);
+      }
+
+-- REMOVING x: its successor has the value that x had
+successor-is : (s : State) (x w : ℕ) → successor s x ≡ some w → (x ≡ w → ⊥) × T (equalIn s (var w) (var x))
+unfolding successor
+successor-is s x w e =
+    let (a, b) = and-both (not (eqb w x)) _ (first-in _ variables w e .1) in
+    (λ p. T-not (eqb w x) a (subst (λ z. T (eqb w z)) (sym p) (eqb-refl w)), b)
+
+module _ (h : Heap) (F : Frame) (s : State) (S : Satisfied h F s) (x v : ℕ) where
+  removed-variable : (y w : ℕ) → renameVariable x (successor s x) y ≡ some w → valueOf (bind x v F) w ≡ valueOf F y
+  unfolding renameVariable
+  removed-variable y w e = go (eqb y x) refl e
+    where
+      go : (b : Bool) → b ≡ eqb y x → cond b (successor s x) (some y) ≡ some w → valueOf (bind x v F) w ≡ valueOf F y
+      go true r k =
+          let (a, l) = successor-is s x w k in
+          bound-other F x v w a ∙ (equal-variable h F s S w x l ∙ ap (valueOf F) (sym (eqb→eq y x (subst T r tt))))
+      go false r k =
+          rw (← some-inj k) (bound-other F x v y (λ p. subst T (sym r) (subst (λ z. T (eqb y z)) (sym p) (eqb-refl y))))
+
+  -- the lemma on removing
+  pub remove-sound : Satisfied h (bind x v F) (remove x s)
+  unfolding remove
+  remove-sound = renamed-satisfied h F (bind x v F) x (successor s x) removed-variable s (bound-holds F x v) S
+
+  -- a term with x renamed has the value from before, and reads what is listed
+  pub removed-value : (t u : Term) → renameTerm x (successor s x) t ≡ some u → termValue h (bind x v F) u ≡ termValue h F t
+  removed-value t u e = renamed-value h F (bind x v F) x (successor s x) removed-variable t u e
+
+  pub removed-reads :
+      (t u : Term) → renameTerm x (successor s x) t ≡ some u → Reads (s .permissions) t → Reads (remove x s .permissions) u
+  unfolding remove removeTo
+  removed-reads t u e r = renamed-reads h F (bind x v F) x (successor s x) removed-variable (s .permissions) t u e r

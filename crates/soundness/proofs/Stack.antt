@@ -1,0 +1,194 @@
+-- The invariant of a run of an accepted program: what holds of the frame that runs and of each caller.
+use mathlib.Core.Path.{_≡_, sym, ap, _∙_, subst}
+use mathlib.Core.List.{List, [], _∷_, map}
+use Prim.Native.Nat.{ℕ, _≤_}
+use native.Mathlib.Omega.{arith}
+use Rattle.rules.specs.Base.{Try, ok, no}
+use Rattle.rules.specs.Answers.{Stop}
+use Rattle.rules.specs.Syntax.{Formula, Row, Program, this-variable, parameter, call, simple, join}
+use Rattle.rules.specs.State.{State, Shown, empty, show, add, remove}
+use Rattle.rules.specs.Rules.{Open, actual, substAtom}
+use Rattle.rules.specs.Machine.{Config, Frame, Heap, Location, Room, Step, on, stop, done, step, took, tail, valueOf}
+use Rattle.rules.proofs.Changes.{Within, change-within, step-changes}
+use Rattle.rules.proofs.Disjoint.{shares, HeldOnce, HeldExists, share-held, shares-cons, change-keeps}
+use Rattle.rules.proofs.Sets.{Holds}
+use Rattle.soundness.specs.WellFormed.{SimpleFormed, RowsFormed, AtEnd, Over}
+use Rattle.soundness.specs.Endings.{Full}
+use Rattle.soundness.proofs.Satisfied.{Satisfied, AgreeAt, satisfied-heap}
+use Rattle.soundness.proofs.Branches.{Accepts}
+
+-- THE FRAME THAT RUNS
+-- its rows are accepted from a state that it satisfies; or they start with the `join` to which its first branch goes on; or it
+-- is the frame of a method that is not there
+pub data Ready (P : Program) (h : Heap) (F : Frame) : Type 0 where
+  at-row : (s : State) (os : List Open) → Satisfied h F s → Accepts P (F .ensures) (F .rows) s os → Ready P h F
+  at-join :
+      (r : Row) (rs : List Row) (φ : Formula ℕ) (s s′ : State) (u : Shown) (os : List Open) →
+      F .rows ≡ r ∷ rs → r .stmt ≡ join φ → Satisfied h F s → show s φ ≡ ok u → add φ empty ≡ ok s′ →
+      Accepts P (F .ensures) rs s′ os → Ready P h F
+  at-nothing : F .rows ≡ [] → F .ensures ≡ [] → Ready P h F
+
+pub record Running (P : Program) (h : Heap) (F : Frame) : Type 0 where
+  pub ready : Ready P h F
+  pub formed : RowsFormed (F .rows)
+
+-- A CALLER
+-- at its `call` line, below a frame with the values `this` and w and the ensures φ: it satisfies what the call left it, and goes
+-- on from there with x removed and ensures added
+pub record Suspended (P : Program) (h : Heap) (this w : ℕ) (φ : Formula ℕ) (C : Frame) : Type 0 where
+  pub row : Row
+  pub rows : List Row
+  pub x : ℕ
+  pub y : ℕ
+  pub method : ℕ
+  pub z : ℕ
+  pub is-rows : C .rows ≡ row ∷ rows
+  pub is-call : row .stmt ≡ simple (call x y method z)
+  pub call-formed : SimpleFormed (call x y method z)
+  pub formed : RowsFormed rows
+  pub is-this : this ≡ valueOf C y
+  pub is-w : w ≡ valueOf C z
+  pub over : Over AtEnd φ
+  pub left : State
+  pub satisfied : Satisfied h C left
+  pub after : State
+  pub opens : List Open
+  pub adds : add (map (substAtom (actual y z x)) φ) (remove x left) ≡ ok after
+  pub goes-on : Accepts P (C .ensures) rows after opens
+
+-- all callers, the nearest first
+abbrev pub Below : Program → Heap → ℕ → ℕ → Formula ℕ → List Frame → Type 0
+Below P h this w φ [] = Unit {0}
+Below P h this w φ (C ∷ Cs) =
+    Suspended P h this w φ C × Below P h (valueOf C this-variable) (valueOf C parameter) (C .ensures) Cs
+
+abbrev pub BelowFrame : Program → Heap → Frame → List Frame → Type 0
+BelowFrame P h F Cs = Below P h (valueOf F this-variable) (valueOf F parameter) (F .ensures) Cs
+
+-- THE INVARIANT
+pub record Invariant (P : Program) (m : Config) : Type 0 where
+  pub once : HeldOnce m
+  pub exist : HeldExists m
+  pub running : Running P (m .heap) (m .frame)
+  pub below : BelowFrame P (m .heap) (m .frame) (m .callers)
+
+-- ONE STEP
+-- the frame goes on in its call
+pub record SameCall (F G : Frame) : Type 0 where
+  pub ensures : G .ensures ≡ F .ensures
+  pub this : valueOf G this-variable ≡ valueOf F this-variable
+  pub w : valueOf G parameter ≡ valueOf F parameter
+
+-- what each statement shows of its step: the frame goes on in its call, or another runs
+pub data Moved (P : Program) (m m′ : Config) : Type 0 where
+  same-frame : Running P (m′ .heap) (m′ .frame) → SameCall (m .frame) (m′ .frame) → m′ .callers ≡ m .callers → Moved P m m′
+  other-frame : Running P (m′ .heap) (m′ .frame) → BelowFrame P (m′ .heap) (m′ .frame) (m′ .callers) → Moved P m m′
+
+abbrev pub Kept : Program → Config → Step → Type 0
+Kept P m (on m′) = Moved P m m′
+Kept P m (stop r) = Full r
+Kept P m done = Unit {0}
+
+-- a statement that goes on to the next line, from a state to s′
+pub record Onward (m : Config) (s′ : State) (m′ : Config) : Type 0 where
+  pub satisfied : Satisfied (m′ .heap) (m′ .frame) s′
+  pub rows : m′ .frame .rows ≡ tail (m .frame .rows)
+  pub same-call : SameCall (m .frame) (m′ .frame)
+  pub callers : m′ .callers ≡ m .callers
+
+abbrev pub Goes : Config → State → Try Stop Config → Type 0
+Goes m s′ (ok m′) = Onward m s′ m′
+Goes m s′ (no r) = Full r
+
+tail-of : (l : List Row) (r : Row) (rs : List Row) → l ≡ r ∷ rs → tail l ≡ rs
+unfolding tail
+tail-of l r rs e = ap tail e
+
+-- such a statement, where the rows after it are accepted from s′
+pub goes-kept :
+    (P : Program) (m : Config) (r : Row) (rs : List Row) (s′ : State) (os : List Open) (t : Try Stop Config) →
+    m .frame .rows ≡ r ∷ rs → RowsFormed (m .frame .rows) → Accepts P (m .frame .ensures) rs s′ os → Goes m s′ t →
+    Kept P m (took t)
+unfolding took
+goes-kept P m r rs s′ os (no c) e f k g = g
+goes-kept P m r rs s′ os (ok m′) e f k g =
+    let is : m′ .frame .rows ≡ rs = g .rows ∙ tail-of (m .frame .rows) r rs e in
+    same-frame
+    (record {
+      ready =
+          at-row s′ os (g .satisfied)
+          (subst (λ φ. Accepts P φ (m′ .frame .rows) s′ os) (sym (g .same-call .ensures))
+          (subst (λ rs. Accepts P (m .frame .ensures) rs s′ os) (sym is) k));
+      formed = subst RowsFormed (sym is) (subst RowsFormed e f .1);
+    })
+    (g .same-call) (g .callers)
+
+-- A HEAP THAT CHANGES
+suspended-heap :
+    (P : Program) (h h′ : Heap) (t w : ℕ) (φ : Formula ℕ) (C : Frame) → ((p : Location) → Holds C p → AgreeAt h h′ p) →
+    Suspended P h t w φ C → Suspended P h′ t w φ C
+suspended-heap P h h′ t w φ C A S =
+    record {
+      row = S .row;
+      rows = S .rows;
+      x = S .x;
+      y = S .y;
+      method = S .method;
+      z = S .z;
+      is-rows = S .is-rows;
+      is-call = S .is-call;
+      call-formed = S .call-formed;
+      formed = S .formed;
+      is-this = S .is-this;
+      is-w = S .is-w;
+      over = S .over;
+      left = S .left;
+      satisfied = satisfied-heap h h′ C (S .left) A (S .satisfied);
+      after = S .after;
+      opens = S .opens;
+      adds = S .adds;
+      goes-on = S .goes-on;
+    }
+
+below-heap :
+    (P : Program) (h h′ : Heap) (t w : ℕ) (φ : Formula ℕ) (Cs : List Frame) →
+    ((p : Location) → 1 ≤ shares Cs p → AgreeAt h h′ p) → Below P h t w φ Cs → Below P h′ t w φ Cs
+below-heap P h h′ t w φ [] A B = tt
+below-heap P h h′ t w φ (C ∷ Cs) A B = (
+  suspended-heap P h h′ t w φ C (λ p i. A p (omega (arith, share-held C p i, shares-cons C Cs p))) (B .0),
+  below-heap P h h′ _ _ _ Cs (λ p l. A p (omega (arith, l, shares-cons C Cs p))) (B .1),
+)
+
+-- what the callers hold the frame does not hold, and no step of its own changes it
+callers-agree :
+    (m m′ : Config) → HeldOnce m → HeldExists m → Within m m′ → (p : Location) → 1 ≤ shares (m .callers) p →
+    AgreeAt (m .heap) (m′ .heap) p
+callers-agree m m′ H E W p l =
+    W .outside p (λ i. omega (arith, H p, l, share-held (m .frame) p i)) (E p (omega (arith, l)))
+
+pub below-same :
+    (P : Program) (h : Heap) (F G : Frame) (Cs : List Frame) → SameCall F G → BelowFrame P h F Cs → BelowFrame P h G Cs
+below-same P h F G Cs S B =
+    subst (λ φ. Below P h (valueOf G this-variable) (valueOf G parameter) φ Cs) (sym (S .ensures))
+    (subst (λ w. Below P h (valueOf G this-variable) w (F .ensures) Cs) (sym (S .w))
+    (subst (λ t. Below P h t (valueOf F parameter) (F .ensures) Cs) (sym (S .this)) B))
+
+-- the invariant after a step, from what its statement shows
+pub moved-invariant :
+    (room : Room) (P : Program) (m m′ : Config) → Invariant P m → step room P m ≡ on m′ → Moved P m m′ → Invariant P m′
+moved-invariant room P m m′ I e M =
+    let (H, E) = change-keeps m m′ (step-changes room P m m′ e) (I .once) (I .exist) in go H E M
+  where
+    go : HeldOnce m′ → HeldExists m′ → Moved P m m′ → Invariant P m′
+    go H E (same-frame R S c) =
+        let W : Within m m′ = change-within m m′ (step-changes room P m m′ e) c in
+        record {
+          once = H;
+          exist = E;
+          running = R;
+          below =
+              subst (BelowFrame P (m′ .heap) (m′ .frame)) (sym c)
+              (below-same P (m′ .heap) (m .frame) (m′ .frame) (m .callers) S
+              (below-heap P (m .heap) (m′ .heap) _ _ _ (m .callers) (callers-agree m m′ (I .once) (I .exist) W) (I .below)));
+        }
+    go H E (other-frame R B) = record { once = H; exist = E; running = R; below = B }

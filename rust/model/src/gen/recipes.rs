@@ -1,0 +1,227 @@
+//! Programs with a plan: full states of the checker, full heaps, full frames,
+//! and runs of many steps.
+
+use super::program::joined;
+use super::rng::Rng;
+
+fn push(lines: &mut Vec<String>, source: &str) {
+    lines.extend(source.lines().map(|line| line.trim().replace(' ', "\t")));
+}
+
+/// A program by one of the plans.
+pub fn recipe(rng: &mut Rng) -> Vec<u8> {
+    match rng.below(5) {
+        0 => full_state(rng),
+        1 => doubling(rng),
+        2 => recursion(rng),
+        3 => full_heap(rng),
+        _ => list_walk(rng),
+    }
+}
+
+/// States at 64 permissions or 64 facts, or one past it, or not quite there.
+pub fn full_state(rng: &mut Rng) -> Vec<u8> {
+    let mut lines = Vec::new();
+    givers(rng, &mut lines);
+    push(&mut lines, "main\nvar M m\nvar int a\nvar int b");
+    (0..9).for_each(|at| push(&mut lines, &format!("var C c{at}")));
+    push(&mut lines, "new m M");
+    for at in 0..rng.within(5, 12) {
+        let line = match rng.below(6) {
+            0 => "call a m facts b".to_string(),
+            1 => format!("new c{} C", at % 9),
+            2 => format!("let c{} c{}", rng.below(9), rng.below(9)),
+            _ => format!("call c{} m all b", at % 9),
+        };
+        push(&mut lines, &line);
+    }
+    for _ in 0..rng.within(0, 8) {
+        let line = match rng.below(6) {
+            0 => format!("let a {}", rng.below(3)),
+            1 => "if eq a b\nelse\njoin".to_string(),
+            2 => format!("set c{} f0 b", rng.below(9)),
+            3 => format!("release acc c{} f0", rng.below(9)),
+            _ => "call a m facts b".to_string(),
+        };
+        push(&mut lines, &line);
+    }
+    push(&mut lines, "end");
+    joined(&lines)
+}
+
+/// A class with methods that give permissions, and facts.
+fn givers(rng: &mut Rng, lines: &mut Vec<String>) {
+    let fields = rng.within(1, 8);
+    let facts = rng.within(0, 8);
+    push(lines, "class C\nfield int f0");
+    for at in 1..8 {
+        let kind = rng.pick(&["int", "C", "M"]);
+        push(lines, &format!("field {kind} f{at}"));
+    }
+    let acc: String = (0..fields).map(|at| format!(" acc result f{at}")).collect();
+    push(lines, "class M\nmethod C all int w\nrequires");
+    push(
+        lines,
+        &format!("ensures{acc}\nvar C c\nnew c C\nreturn c\nend"),
+    );
+    let known = [
+        " eq 1 1",
+        " eq w w",
+        " ne 1 2",
+        " eq this this",
+        " eq null null",
+    ];
+    let eq: String = (0..facts).map(|_| rng.pick(&known)).collect();
+    push(
+        lines,
+        &format!("method int facts int w\nrequires\nensures{eq}\nend"),
+    );
+}
+
+/// Methods that each call an earlier one some times: many steps, many objects.
+pub fn doubling(rng: &mut Rng) -> Vec<u8> {
+    let depth = rng.within(2, 9);
+    let mut lines = Vec::new();
+    push(&mut lines, "class D\nfield int n\nfield D d");
+    (0..depth).for_each(|at| doubling_method(rng, at, &mut lines));
+    push(&mut lines, "main\nvar D d\nvar int a\nvar int b\nnew d D");
+    push(&mut lines, &format!("let b {}", rng.below(5)));
+    for _ in 0..rng.within(1, 3) {
+        let method = rng.within(depth / 2, depth - 1);
+        push(&mut lines, &format!("call a d m{method} b"));
+    }
+    push(&mut lines, "assert acc d n\nend");
+    joined(&lines)
+}
+
+fn doubling_method(rng: &mut Rng, at: usize, lines: &mut Vec<String>) {
+    push(lines, &format!("method int m{at} int w"));
+    push(
+        lines,
+        "requires acc this n\nensures acc this n\nvar int r\nvar D t",
+    );
+    if rng.chance(50) {
+        push(lines, "set this n w");
+    }
+    let calls = if at == 0 { 0 } else { rng.within(1, 4) };
+    for _ in 0..calls {
+        let method = rng.within(at.saturating_sub(2), at - 1);
+        push(lines, &format!("call r this m{method} w"));
+    }
+    for _ in 0..rng.below(3) {
+        let more = ["new t D", "let r this.n", "assert eq w w", "return w"];
+        push(lines, rng.pick(&more));
+    }
+    push(lines, "end");
+}
+
+/// A method that calls itself, sometimes on a condition, and may make objects.
+pub fn recursion(rng: &mut Rng) -> Vec<u8> {
+    let mut lines = Vec::new();
+    push(
+        &mut lines,
+        "class R\nfield R next\nfield int n\nmethod R m R w",
+    );
+    let held = rng.chance(50);
+    let requires = if held {
+        "requires acc this n ne this null"
+    } else {
+        "requires ne this null"
+    };
+    push(&mut lines, requires);
+    push(&mut lines, "ensures\nvar R r\nvar R t\nvar int k");
+    for _ in 0..rng.below(6) {
+        push(
+            &mut lines,
+            rng.pick(&["new t R", "new r R", "let t w", "let k 3"]),
+        );
+    }
+    call_itself(rng, &mut lines);
+    let last = if held {
+        "release\nreturn r"
+    } else {
+        "new t R\nset t n k\nreturn t"
+    };
+    if rng.chance(50) {
+        push(&mut lines, last);
+    }
+    push(&mut lines, "end\nmain\nvar R a\nvar R b\nvar R c\nnew a R");
+    let calls = ["call b a m a", "new b R\ncall c a m b", "call b a m c"];
+    push(&mut lines, rng.pick(&calls));
+    push(&mut lines, "assert eq c c\nend");
+    joined(&lines)
+}
+
+fn call_itself(rng: &mut Rng, lines: &mut Vec<String>) {
+    let calls = [
+        "call r this m w",
+        "let t null\ncall r this m t",
+        "new t R\ncall r t m this",
+    ];
+    let call = rng.pick(&calls);
+    if rng.chance(60) {
+        push(lines, call);
+        return;
+    }
+    push(
+        lines,
+        rng.pick(&["if eq w null", "if ne w null", "if eq w this"]),
+    );
+    push(lines, &format!("let k 1\nelse\n{call}\njoin ne this null"));
+}
+
+/// Many objects: the heap is full by objects or by fields, or nearly so.
+pub fn full_heap(rng: &mut Rng) -> Vec<u8> {
+    let fields = rng.below(9);
+    let each = rng.within(1, 10);
+    let mut lines = Vec::new();
+    push(&mut lines, "class E");
+    (0..fields).for_each(|at| push(&mut lines, &format!("field int f{at}")));
+    push(
+        &mut lines,
+        "method E make int w\nrequires\nensures ne result null\nvar E x",
+    );
+    (0..each).for_each(|_| push(&mut lines, "new x E"));
+    push(
+        &mut lines,
+        "return x\nend\nmain\nvar E e\nvar E g\nvar int a\nnew e E",
+    );
+    let room = if fields > 4 { 1_024 / fields } else { 256 };
+    let calls = (room / each + rng.below(3)).min(230);
+    (0..calls).for_each(|_| push(&mut lines, "call g e make a"));
+    (0..rng.below(6)).for_each(|_| push(&mut lines, "new g E"));
+    push(&mut lines, "end");
+    joined(&lines)
+}
+
+/// A chain of objects made, handed on and read back; some links are wrong.
+pub fn list_walk(rng: &mut Rng) -> Vec<u8> {
+    let mut lines = Vec::new();
+    let source = "class L\nfield L next\nfield int n\nmethod L push L w\nrequires acc this next\n\
+                  ensures acc this next eq this.next w eq result this\nset this next w\n\
+                  return this\nend\nmethod int get L w\nrequires acc w n acc this n\n\
+                  ensures acc w n acc this n eq result this.n\nvar int t\nlet t w.n\n\
+                  set this n t\nreturn t\nend\nmain\nvar L a\nvar L b\nvar L c\nvar int i\nvar int j";
+    push(&mut lines, source);
+    for _ in 0..rng.within(3, 30) {
+        let line = match rng.below(14) {
+            0 => "new a L",
+            1 => "new b L",
+            2 => "new c L",
+            3 => "call c a push b",
+            4 => "call c b push a",
+            5 => "call i a get b",
+            6 => "call i b get c",
+            7 => "let j 7\nset a n j",
+            8 => "set b n i",
+            9 => "let c a.next",
+            10 => "let b a",
+            11 => "release acc b n",
+            12 => "if eq a b\nlet i 1\nelse\nassert ne b a\njoin",
+            _ => "assert eq a.next b",
+        };
+        push(&mut lines, line);
+    }
+    push(&mut lines, "end");
+    joined(&lines)
+}

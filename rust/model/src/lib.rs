@@ -1,0 +1,57 @@
+//! A model of catalogue scripts, written from document 01 alone: the text, the
+//! permission check and the machine, in the paper's order. It is clear before
+//! it is fast, and it shares nothing with the code that it is compared with.
+
+#![forbid(unsafe_code)]
+
+pub mod call;
+pub mod checker;
+pub mod framing;
+pub mod gen;
+pub mod limits;
+pub mod machine;
+pub mod names;
+pub mod number;
+pub mod print;
+pub mod text;
+
+pub use call::{check_call, run_call};
+pub use machine::Run;
+pub use number::Refusal;
+pub use print::printed;
+
+/// The reader: the program if the text has none of the numbers 2 to 9.
+pub fn read(text: &[u8]) -> Result<names::Program<'_>, Refusal> {
+    names::resolve(&text::lines(text)?)
+}
+
+/// All tests in their order: "1, 2; then line by line 3, 4, 5; then 8; then
+/// line by line 6, 7, 9 ...; then line by line 10; then the rules".
+fn check_all(text: &[u8]) -> Result<(), Refusal> {
+    let lines = text::lines(text)?;
+    let program = names::resolve(&lines)?;
+    framing::frame(&lines)?;
+    checker::check(&program)
+}
+
+/// Checks the text: number and line.
+pub fn check(text: &[u8]) -> (u32, u32) {
+    match check_all(text) {
+        Ok(()) => (number::DONE, 0),
+        Err(Refusal { number, line }) => (number, line),
+    }
+}
+
+/// Runs the text. "Run works on each text that the reader takes, accepted or
+/// not"; for the others steps and values are zeros.
+pub fn run(text: &[u8], steps: u32) -> Run {
+    match read(text) {
+        Ok(program) => machine::run(&program, steps),
+        Err(Refusal { number, line }) => Run {
+            number,
+            line,
+            steps: 0,
+            values: [0; limits::LOCALS],
+        },
+    }
+}

@@ -1,0 +1,375 @@
+//! The machine: the numbers 0 and 21 to 26 of a run.
+
+use crate::limits;
+use crate::names::{
+    Action, Atom, Block, Call, Expr, Path, Program, Statement, Var, FIRST_LOCAL, PARAM, RESULT,
+    THIS, VARS,
+};
+use crate::number;
+
+/// A location (object, field), as the place of the field in the heap.
+pub type Location = usize;
+
+/// The values of a frame's variables; null is 0.
+pub type Values = [i32; VARS];
+
+const WORDS: usize = limits::HEAP_FIELDS / 64;
+
+/// A set of locations.
+#[derive(Clone, Copy, Debug, Default, PartialEq, Eq)]
+pub struct Locations([u64; WORDS]);
+
+impl Locations {
+    pub fn contains(&self, location: Location) -> bool {
+        self.0[location / 64] >> (location % 64) & 1 == 1
+    }
+
+    pub fn insert(&mut self, location: Location) {
+        self.0[location / 64] |= 1 << (location % 64);
+    }
+
+    fn add_all(&mut self, other: &Locations) {
+        for (word, more) in self.0.iter_mut().zip(other.0) {
+            *word |= more;
+        }
+    }
+
+    fn remove_all(&mut self, other: &Locations) {
+        for (word, gone) in self.0.iter_mut().zip(other.0) {
+            *word &= !gone;
+        }
+    }
+}
+
+/// "A frame has values and a set A of locations". A frame that waits for a call
+/// stands at the `call`.
+#[derive(Clone, Copy, Debug)]
+pub struct Frame {
+    /// The frame's block, a place in the program's list.
+    pub block: usize,
+    /// The next statement, a place in the program's list.
+    pub next: usize,
+    pub values: Values,
+    pub held: Locations,
+}
+
+/// An object: the place of its first field in the heap, and how many it has.
+#[derive(Clone, Copy, Debug, PartialEq, Eq)]
+pub struct Object {
+    pub first: Location,
+    pub fields: usize,
+}
+
+/// What a step that was done leads to.
+#[derive(Clone, Copy, Debug, PartialEq, Eq)]
+pub enum Step {
+    /// The run goes on.
+    On,
+    /// Main's `end` is done.
+    Done,
+}
+
+/// A step that cannot be done stops with a number.
+type Outcome<T> = Result<T, u32>;
+
+/// The state of a run. "A run is the list of steps from the empty heap and
+/// main's frame."
+pub struct Machine<'p, 'a> {
+    pub program: &'p Program<'a>,
+    /// Object n is entry n - 1: "Objects are numbered as made".
+    pub objects: Vec<Object>,
+    /// The values of all fields of all objects.
+    pub heap: Vec<i32>,
+    /// Main's frame first, the running one last.
+    pub frames: Vec<Frame>,
+    /// The steps done.
+    pub steps: u32,
+}
+
+/// A formula's reader: the values it sees and the locations it may read.
+struct Reader<'m> {
+    objects: &'m [Object],
+    heap: &'m [i32],
+    values: &'m Values,
+    held: &'m Locations,
+}
+
+impl Reader<'_> {
+    /// The location of `x.f`: null followed is 25, one not held 24.
+    fn location(&self, path: Path) -> Outcome<Location> {
+        let location = location(self.objects, self.values, path).ok_or(number::NULL_FOLLOWED)?;
+        if self.held.contains(location) {
+            Ok(location)
+        } else {
+            Err(number::PERMISSION_MISSING)
+        }
+    }
+
+    /// "reading a path needs its location in A", over the whole A.
+    fn value(&self, expr: Expr) -> Outcome<i32> {
+        Ok(match expr {
+            Expr::Number(value) => value,
+            Expr::Null => 0,
+            Expr::Var(var) => self.values[var],
+            Expr::Path(path) => self.heap[self.location(path)?],
+        })
+    }
+
+    /// "of two sides the left first".
+    fn equal(&self, left: Expr, right: Expr) -> Outcome<bool> {
+        let left = self.value(left)?;
+        let right = self.value(right)?;
+        Ok(left == right)
+    }
+
+    /// "Formula atoms go in order". Gives the footprint, "the locations that
+    /// its `acc` atoms take"; one already taken in this formula is 24.
+    fn formula(&self, formula: &[Atom]) -> Outcome<Locations> {
+        let mut taken = Locations::default();
+        for &atom in formula {
+            let holds = match atom {
+                Atom::Acc(path) => {
+                    let location = self.location(path)?;
+                    if taken.contains(location) {
+                        return Err(number::PERMISSION_MISSING);
+                    }
+                    taken.insert(location);
+                    true
+                }
+                Atom::Eq(left, right) => self.equal(left, right)?,
+                Atom::Ne(left, right) => !self.equal(left, right)?,
+            };
+            if !holds {
+                return Err(number::FORMULA_FALSE);
+            }
+        }
+        Ok(taken)
+    }
+}
+
+/// Where `x.f` is, for these values of the variables; none if x is null.
+pub fn location(objects: &[Object], values: &Values, path: Path) -> Option<Location> {
+    let object = (values[path.var] as usize).checked_sub(1)?;
+    Some(objects[object].first + path.slot)
+}
+
+/// The values of a called method's variables at its start.
+pub fn callee_values(caller: &Values, call: Call) -> Values {
+    let mut values = [0; VARS];
+    values[THIS] = caller[call.y];
+    values[PARAM] = caller[call.z];
+    values
+}
+
+impl<'p, 'a> Machine<'p, 'a> {
+    /// "the empty heap and main's frame"
+    pub fn new(program: &'p Program<'a>) -> Machine<'p, 'a> {
+        let block = program.blocks.len() - 1;
+        let main = Frame {
+            block,
+            next: program.blocks[block].start,
+            values: [0; VARS],
+            held: Locations::default(),
+        };
+        Machine {
+            program,
+            objects: Vec::new(),
+            heap: Vec::new(),
+            frames: vec![main],
+            steps: 0,
+        }
+    }
+
+    /// The frame that runs.
+    pub fn frame(&self) -> &Frame {
+        &self.frames[self.frames.len() - 1]
+    }
+
+    fn frame_mut(&mut self) -> &mut Frame {
+        self.frames.last_mut().expect("main's frame stays")
+    }
+
+    /// The statement of the next step.
+    pub fn statement(&self) -> &'p Statement<'a> {
+        &self.program.statements[self.frame().next]
+    }
+
+    fn block(&self) -> &'p Block<'a> {
+        &self.program.blocks[self.frame().block]
+    }
+
+    fn reader(&self) -> Reader<'_> {
+        let frame = self.frame();
+        Reader {
+            objects: &self.objects,
+            heap: &self.heap,
+            values: &frame.values,
+            held: &frame.held,
+        }
+    }
+
+    /// "Each statement line is one step". "A stopped step is not counted", and
+    /// it changes nothing.
+    pub fn step(&mut self) -> Outcome<Step> {
+        let here = self.frame().next;
+        let step = match &self.statement().action {
+            Action::End => self.end()?,
+            Action::Call(call) => {
+                self.call(*call)?;
+                Step::On
+            }
+            action => {
+                let next = self.simple(here, action)?;
+                self.frame_mut().next = next;
+                Step::On
+            }
+        };
+        self.steps += 1;
+        Ok(step)
+    }
+
+    /// A step inside one frame; gives the place of the next statement.
+    fn simple(&mut self, here: usize, action: &Action) -> Outcome<usize> {
+        match action {
+            Action::Set(path, y) => {
+                let location = self.reader().location(*path)?;
+                self.heap[location] = self.frame().values[*y];
+            }
+            Action::Let(x, expr) => {
+                let value = self.reader().value(*expr)?;
+                self.assign(*x, value);
+            }
+            Action::New(x, class) => self.create(*x, *class)?,
+            Action::Return(x) => self.assign(RESULT, self.frame().values[*x]),
+            Action::Assert(formula) | Action::Join(formula) => {
+                self.reader().formula(formula)?;
+            }
+            Action::Release(formula) => {
+                let footprint = self.reader().formula(formula)?;
+                self.frame_mut().held.remove_all(&footprint);
+            }
+            // "a false `if` goes to the line after its `else`"
+            Action::If(branch) => {
+                if !self.condition(branch.condition)? {
+                    return Ok(branch.other + 1);
+                }
+            }
+            // "also `else` (on to its `join`)"
+            Action::Else(join) => return Ok(*join),
+            Action::Call(_) | Action::End => unreachable!("these change the frames"),
+        }
+        Ok(here + 1)
+    }
+
+    fn assign(&mut self, x: Var, value: i32) {
+        self.frame_mut().values[x] = value;
+    }
+
+    fn condition(&self, condition: Atom) -> Outcome<bool> {
+        match condition {
+            Atom::Eq(left, right) => self.reader().equal(left, right),
+            Atom::Ne(left, right) => self.reader().equal(left, right).map(|equal| !equal),
+            Atom::Acc(_) => unreachable!("a condition is eq or ne"),
+        }
+    }
+
+    /// "22 only where `new` would pass 256 objects or 1,024 fields."
+    fn create(&mut self, x: Var, class: usize) -> Outcome<()> {
+        let fields = self.program.classes[class].fields.len();
+        let first = self.heap.len();
+        if self.objects.len() == limits::OBJECTS || first + fields > limits::HEAP_FIELDS {
+            return Err(number::HEAP_FULL);
+        }
+        self.objects.push(Object { first, fields });
+        self.heap.resize(first + fields, 0);
+        for location in first..first + fields {
+            self.frame_mut().held.insert(location);
+        }
+        self.assign(x, self.objects.len() as i32);
+        Ok(())
+    }
+
+    /// "`call`: null receiver, then requires, then frames full; the new frame's
+    /// A is the footprint of requires, which the caller loses."
+    fn call(&mut self, call: Call) -> Outcome<()> {
+        let caller = self.frame();
+        if caller.values[call.y] == 0 {
+            return Err(number::NULL_FOLLOWED);
+        }
+        let method = &self.program.blocks[call.method];
+        let values = callee_values(&caller.values, call);
+        let reader = Reader {
+            values: &values,
+            ..self.reader()
+        };
+        let footprint = reader.formula(&method.requires)?;
+        if self.frames.len() == limits::FRAMES {
+            return Err(number::FRAMES_FULL);
+        }
+        self.frame_mut().held.remove_all(&footprint);
+        self.frames.push(Frame {
+            block: call.method,
+            next: method.start,
+            values,
+            held: footprint,
+        });
+        Ok(())
+    }
+
+    /// "`end`: ensures, then the caller gains its footprint, and x the result;
+    /// the rest of that A is lost."
+    fn end(&mut self) -> Outcome<Step> {
+        let footprint = self.reader().formula(&self.block().ensures)?;
+        if self.frames.len() == 1 {
+            return Ok(Step::Done);
+        }
+        let result = self.frame().values[RESULT];
+        self.frames.pop();
+        let Action::Call(call) = self.statement().action else {
+            unreachable!("a waiting frame stands at its call");
+        };
+        self.assign(call.x, result);
+        let caller = self.frame_mut();
+        caller.held.add_all(&footprint);
+        caller.next += 1;
+        Ok(Step::On)
+    }
+
+    /// Main's variables in order of `var` lines, then zeros.
+    pub fn values(&self) -> [i32; limits::LOCALS] {
+        let values = &self.frames[0].values;
+        std::array::from_fn(|place| values[FIRST_LOCAL + place])
+    }
+}
+
+/// What run returns and what it leaves in results.
+#[derive(Clone, Copy, Debug, PartialEq, Eq)]
+pub struct Run {
+    pub number: u32,
+    pub line: u32,
+    pub steps: u32,
+    pub values: [i32; limits::LOCALS],
+}
+
+/// "A run tests 21 before each step."
+pub fn run(program: &Program, allowed: u32) -> Run {
+    let mut machine = Machine::new(program);
+    loop {
+        let line = machine.statement().line;
+        let number = if machine.steps == allowed {
+            number::OUT_OF_STEPS
+        } else {
+            match machine.step() {
+                Ok(Step::On) => continue,
+                Ok(Step::Done) => number::DONE,
+                Err(number) => number,
+            }
+        };
+        return Run {
+            number,
+            line,
+            steps: machine.steps,
+            values: machine.values(),
+        };
+    }
+}

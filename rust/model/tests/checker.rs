@@ -1,0 +1,677 @@
+//! The rules of the checker's state, one by one.
+
+mod common;
+
+use common::{checks, main_with, ran, script, S};
+use model::check;
+
+/// A class `S` and a method `S m S w` with this contract and body; the first
+/// line of the body is line 11.
+fn method(requires: &str, ensures: &str, body: &str) -> String {
+    format!(
+        "{S}method S m S w\nrequires {requires}\nensures {ensures}\nvar S x\nvar S y\nvar int i\n\
+         var int j\n{body}\nend\nmain\nend"
+    )
+    .replace(" \n", "\n")
+}
+
+#[test]
+fn a_variable_assigned_leaves_its_place_to_an_equal_one() {
+    checks(&[
+        (
+            &main_with("new s S\nlet t s\nlet s null\nassert acc t n eq t.n 0"),
+            0,
+            0,
+        ),
+        (
+            &main_with("new s S\nlet t s\nnew s S\nassert acc t n acc s n ne s t"),
+            0,
+            0,
+        ),
+        (&main_with("new s S\nlet s null\nassert acc s n"), 12, 11),
+        // Equal through a constant: a takes b's place in b = 7, then b is free.
+        (
+            &main_with("let a 7\nlet b 7\nlet b 1\nassert eq a 7 eq b 1"),
+            0,
+            0,
+        ),
+        // Equal through a path: t = s.prev, and s.prev = null = s.
+        (
+            &main_with("new t S\nlet s t.prev\nlet t s\nassert eq t null"),
+            13,
+            12,
+        ),
+        (
+            &main_with("new t S\nlet s t.prev\nassert eq s null eq s t.prev"),
+            0,
+            0,
+        ),
+        (
+            &main_with("new t S\nlet s t.prev\nlet a t.n\nnew t S\nassert eq s null"),
+            13,
+            13,
+        ),
+    ]);
+}
+
+#[test]
+fn let_with_a_path_of_its_own_variable() {
+    checks(&[
+        // No other name for s: the path goes with it, and nothing is known.
+        (
+            &main_with("new s S\nlet s s.prev\nassert eq s null"),
+            13,
+            11,
+        ),
+        (&main_with("new s S\nlet s s.prev\nassert eq s s"), 0, 0),
+        // t takes the place of s, also in the path.
+        (
+            &main_with("new s S\nlet t s\nlet s s.prev\nassert eq s t.prev eq s null"),
+            0,
+            0,
+        ),
+        (
+            &main_with("new s S\nlet t s\nlet s t.prev\nassert eq s t.prev acc t n"),
+            0,
+            0,
+        ),
+        // r is x: no change.
+        (
+            &main_with("new s S\nlet s s\nassert acc s n eq s.n 0"),
+            0,
+            0,
+        ),
+        // r is another term that is ~ x: x is removed and added again.
+        (
+            &main_with("let a 7\nlet b a\nlet a b\nassert eq a b eq b 7"),
+            0,
+            0,
+        ),
+        (
+            &main_with("let a 7\nlet b a\nlet a b\nlet b 1\nassert eq a 7"),
+            0,
+            0,
+        ),
+    ]);
+}
+
+/// "the first such (order: `this`, w, locals, `result`) takes its place": t and
+/// u are ~ s through the path alone, so `set` parts them, and t has the path.
+#[test]
+fn the_first_equal_variable_takes_the_place() {
+    let source = |order: &str, last: &str| {
+        format!(
+            "{S}main\nvar S s\n{order}\nnew s S\nset s prev s\nlet t s.prev\nlet u s.prev\n\
+             let s null\nset t prev s\n{last}\nend"
+        )
+    };
+    checks(&[
+        (&source("var S t\nvar S u", "assert acc t prev"), 0, 0),
+        (&source("var S t\nvar S u", "assert acc u prev"), 12, 14),
+        (&source("var S u\nvar S t", "assert acc t prev"), 12, 14),
+        (&source("var S u\nvar S t", "assert acc u prev"), 0, 0),
+    ]);
+    // `this` and w come before the locals, `result` after them.
+    let in_method = |lines: &str| method("acc this prev", "", lines);
+    let parted = "let x this\nset x prev x\nlet y x.prev\nreturn x\nlet x null\nset y prev x";
+    checks(&[(&in_method(&format!("{parted}\nassert acc this prev")), 0, 0)]);
+    let made = "new x S\nset x prev x\nlet y x.prev\nreturn y\nlet x null\nset y prev x";
+    checks(&[
+        (&in_method(&format!("{made}\nassert acc y prev")), 0, 0),
+        (&in_method(&format!("{made}\nassert acc result prev")), 0, 0),
+    ]);
+    let made = "new x S\nset x prev x\nreturn x\nlet y x.prev\nlet x null\nset y prev x";
+    checks(&[(&in_method(&format!("{made}\nassert acc y prev")), 0, 0)]);
+}
+
+/// "If r is x" means the very same term: a variable that is only ~ x is
+/// removed and added, and each time leaves one `b = b`.
+#[test]
+fn let_of_an_equal_variable_changes_the_state() {
+    let lets = |count: usize| {
+        let lines = vec!["let a b"; count].join("\n");
+        check(&script(&main_with(&lines)))
+    };
+    assert_eq!(lets(64), (0, 0));
+    assert_eq!(lets(65), (14, 8 + 65));
+    let same = vec!["let a a"; 100].join("\n");
+    assert_eq!(check(&script(&main_with(&same))), (0, 0));
+}
+
+/// "if r is left, add x = r": a path of x that goes with x adds nothing, so a
+/// state with 64 facts has room.
+#[test]
+fn a_path_that_is_not_left_adds_no_fact() {
+    let facts = " eq 1 1".repeat(7);
+    let calls = ["call a m facts b"; 9].join("\n");
+    let source = |last: &str| {
+        format!(
+            "class C\nfield C f\nclass M\nmethod C all int w\nrequires\nensures acc result f\n\
+             var C c\nnew c C\nreturn c\nend\nmethod int facts int w\nrequires\n\
+             ensures{facts}\nend\nmain\nvar M m\nvar int a\nvar int b\nvar C c\nvar C d\n\
+             new m M\ncall c m all b\n{calls}\n{last}\nend"
+        )
+    };
+    checks(&[
+        (&source("let c c.f\nassert eq c c"), 0, 0),
+        (&source("let d c.f"), 14, 32),
+        (&source("let c c.f\nassert acc c f"), 12, 33),
+    ]);
+}
+
+/// Facts that become `v = v` stay: each round leaves one `b = b`.
+#[test]
+fn facts_of_a_variable_with_itself_count() {
+    let rounds = |lets: usize| {
+        let line = |at: usize| ["let a b", "let a 1"][at % 2];
+        let lines: Vec<&str> = (0..lets).map(line).collect();
+        check(&script(&main_with(&lines.join("\n"))))
+    };
+    // After round k there are k facts `b = b` and `a = 1`.
+    assert_eq!(rounds(127), (0, 0));
+    assert_eq!(rounds(128), (14, 8 + 128));
+}
+
+/// `set` drops the facts of its path before it adds one: they do not pile up.
+#[test]
+fn many_sets_of_one_path() {
+    let sets = ["set s n a"; 100].join("\n");
+    let source = main_with(&format!("new s S\n{sets}"));
+    assert_eq!(check(&script(&source)), (0, 0));
+}
+
+#[test]
+fn ne_by_a_listed_inequality() {
+    let in_branch = |lines: &str| main_with(&format!("if ne a b\n{lines}\nelse\njoin"));
+    checks(&[
+        (&in_branch("assert ne a b"), 0, 0),
+        (&in_branch("assert ne b a"), 0, 0),
+        (
+            &main_with("let a 1\nif ne a b\nassert ne 1 b ne b 1\nelse\njoin"),
+            0,
+            0,
+        ),
+        (
+            &main_with("if ne s t\nlet s t\nassert ne s t\nelse\njoin"),
+            13,
+            11,
+        ),
+        (
+            &main_with("if eq s t\nassert eq t s\nelse\nassert ne t s\njoin"),
+            0,
+            0,
+        ),
+        (&main_with("if eq s t\nassert ne t s\nelse\njoin"), 13, 10),
+        // An inequality is no equality's witness, and does not chain.
+        (
+            &main_with("if ne a b\nif ne b 1\nassert ne a 1\nelse\njoin\nelse\njoin"),
+            13,
+            11,
+        ),
+    ]);
+}
+
+#[test]
+fn ne_by_different_numbers() {
+    checks(&[
+        (
+            &main_with("let a 1\nlet b 2\nassert ne a b ne a 2 ne 1 b ne 1 2"),
+            0,
+            0,
+        ),
+        (&main_with("let a 1\nlet b 1\nassert ne a b"), 13, 11),
+        (
+            &main_with("new s S\nlet a s.n\nassert ne s.n 1 ne a -1"),
+            0,
+            0,
+        ),
+        // A state that contradicts itself has no rule of its own: `a` is ~ to
+        // two numbers, so it differs from itself, and `b` is still unknown.
+        (
+            &main_with("let a 1\nif eq a 2\nassert ne a a ne 1 1 eq 1 2\nelse\njoin"),
+            0,
+            0,
+        ),
+        (
+            &main_with("let a 1\nif eq a 2\nassert ne b 1\nelse\njoin"),
+            13,
+            11,
+        ),
+        (
+            &main_with("let a 1\nif eq a 2\nassert ne 3 3\nelse\njoin"),
+            13,
+            11,
+        ),
+    ]);
+}
+
+#[test]
+fn ne_by_null_and_a_listed_permission() {
+    checks(&[
+        (
+            &method("acc this n", "", "assert ne this null ne null this"),
+            0,
+            0,
+        ),
+        (&method("", "", "assert ne this null"), 13, 11),
+        (&method("acc w n", "", "assert ne this null"), 13, 11),
+        (
+            &method("acc this n", "", "let x this\nassert ne x null"),
+            0,
+            0,
+        ),
+        (
+            &method("acc this n", "", "release acc this n\nassert ne this null"),
+            13,
+            12,
+        ),
+        (
+            &method("acc this n eq w null", "", "assert ne this w ne w this"),
+            0,
+            0,
+        ),
+        (
+            &method("acc this n", "acc this n ne this null", "assert"),
+            0,
+            0,
+        ),
+        // Consumed permissions are still read in the same formula.
+        (
+            &method("acc this n", "", "release acc this n ne this null"),
+            0,
+            0,
+        ),
+    ]);
+}
+
+#[test]
+fn ne_by_two_entries_for_one_field() {
+    checks(&[
+        (
+            &method("acc this n acc w n", "", "assert ne this w ne w this"),
+            0,
+            0,
+        ),
+        (
+            &method("acc this n acc w prev", "", "assert ne this w"),
+            13,
+            11,
+        ),
+        (
+            &method("acc this n acc w n", "", "let x w\nassert ne this x"),
+            0,
+            0,
+        ),
+        (
+            &method("acc this n acc w n", "", "assert ne this this"),
+            13,
+            11,
+        ),
+        // Two entries may have one name.
+        (
+            &method("acc this n acc this n", "", "assert ne this this"),
+            0,
+            0,
+        ),
+        (
+            &method("acc this n acc w n eq w this", "", "assert ne w w"),
+            0,
+            0,
+        ),
+        (&main_with("new s S\nnew t S\nassert ne s t"), 0, 0),
+        (
+            &main_with("new s S\nnew t S\nrelease acc t n acc t prev\nassert ne s t"),
+            13,
+            12,
+        ),
+    ]);
+}
+
+#[test]
+fn the_remainder_loses_the_facts_of_consumed_paths() {
+    checks(&[
+        (&main_with("new s S\nlet a s.n\nassert eq a 0"), 0, 0),
+        (
+            &main_with("new s S\nlet a s.n\nrelease acc s n\nassert eq a 0"),
+            13,
+            12,
+        ),
+        (
+            &main_with("new s S\nlet a s.n\nrelease acc s prev\nassert eq a 0 eq s.n a"),
+            0,
+            0,
+        ),
+        (
+            &main_with("new s S\nrelease acc s n\nassert ne s null eq s.prev null"),
+            0,
+            0,
+        ),
+        // One entry of two with one name is consumed: its facts go all the same.
+        (
+            &method(
+                "acc this n eq this.n 1 acc this n",
+                "",
+                "release acc this n\nassert eq this.n 1",
+            ),
+            13,
+            12,
+        ),
+        (
+            &method(
+                "acc this n eq this.n 1 acc this n",
+                "",
+                "release acc this n\nassert acc this n",
+            ),
+            0,
+            0,
+        ),
+    ]);
+}
+
+/// A dropped path links nothing any more, on whichever side of a fact it stood.
+#[test]
+fn a_dropped_path_links_nothing() {
+    checks(&[
+        (
+            &main_with("new s S\nlet a s.n\nlet b s.n\nassert eq a b"),
+            0,
+            0,
+        ),
+        (
+            &main_with("new s S\nlet a s.n\nlet b s.n\nrelease acc s n\nassert eq a b"),
+            13,
+            13,
+        ),
+        (
+            &main_with("new s S\nlet b s.n\nset s n a\nassert eq b a"),
+            13,
+            12,
+        ),
+        (
+            &main_with("new s S\nset s n a\nlet b s.n\nassert eq b a"),
+            0,
+            0,
+        ),
+        (
+            &main_with("new s S\nlet a s.n\nlet b s.n\nnew s S\nassert eq a b"),
+            13,
+            13,
+        ),
+    ]);
+}
+
+#[test]
+fn set_drops_the_facts_of_its_path() {
+    checks(&[
+        (&main_with("new s S\nset s n a\nassert eq s.n a"), 0, 0),
+        (&main_with("new s S\nset s n a\nassert eq s.n 0"), 13, 11),
+        (
+            &main_with("new s S\nlet b s.n\nset s n a\nassert eq b 0"),
+            13,
+            12,
+        ),
+        // By another name of the object.
+        (
+            &main_with("new s S\nlet t s\nset t n a\nassert eq s.n a"),
+            0,
+            0,
+        ),
+        (
+            &main_with("new s S\nlet t s\nset t n a\nassert eq s.n 0"),
+            13,
+            12,
+        ),
+        // What was known of another object's field stays.
+        (
+            &main_with("new s S\nnew t S\nset t n a\nassert eq s.n 0"),
+            0,
+            0,
+        ),
+        (
+            &main_with("new s S\nset s prev s\nassert eq s.prev s"),
+            0,
+            0,
+        ),
+    ]);
+}
+
+#[test]
+fn return_assigns_result() {
+    checks(&[
+        (&method("", "eq result w", "return w"), 0, 0),
+        (&method("", "eq result w", "return w\nreturn this"), 13, 13),
+        (&method("", "eq result this", "return w\nreturn this"), 0, 0),
+        (
+            &method("", "eq result w", "let x w\nreturn x\nlet x this"),
+            0,
+            0,
+        ),
+        (&method("", "eq result w", "return w\nreturn result"), 0, 0),
+        (
+            &method("", "acc result n eq result.n 0", "new x S\nreturn x"),
+            0,
+            0,
+        ),
+        (
+            &method("", "acc result n", "new x S\nreturn x\nnew x S\nreturn x"),
+            0,
+            0,
+        ),
+        (
+            &method(
+                "",
+                "acc result n",
+                "new x S\nreturn x\nrelease acc result n",
+            ),
+            12,
+            14,
+        ),
+        // Before any return nothing is known of `result`.
+        (&method("", "eq result null", "assert"), 13, 12),
+    ]);
+}
+
+#[test]
+fn new_knows_its_fields() {
+    checks(&[
+        (
+            &main_with("new s S\nassert eq s.prev null eq s.n 0 ne s null acc s prev acc s n"),
+            0,
+            0,
+        ),
+        (
+            &main_with("new s S\nassert eq s.prev s.prev ne s s.prev"),
+            0,
+            0,
+        ),
+        (&main_with("new s S\nassert eq s.n 1"), 13, 10),
+    ]);
+    checks(&[(
+        "class E\nmain\nvar E e\nnew e E\nassert ne e null\nend",
+        0,
+        0,
+    )]);
+}
+
+/// A class with a method `give`, which hands over and gets back.
+fn calls(requires: &str, ensures: &str, statements: &str) -> String {
+    format!(
+        "{S}method S give S w\nrequires {requires}\nensures {ensures}\nend\nmain\nvar S s\nvar S t\n\
+         var S r\nvar int a\n{statements}\nend"
+    )
+    .replace(" \n", "\n")
+}
+
+#[test]
+fn a_call_hands_over_and_gets_back() {
+    // The method's own end is on line 7, the first statement of main on 13.
+    let given = |statements: &str| calls("acc this n", "acc this n", statements);
+    checks(&[
+        (
+            &given("new s S\ncall r s give t\nassert acc s n acc s prev"),
+            0,
+            0,
+        ),
+        (
+            &given("new s S\ncall r s give t\nassert eq s.prev null"),
+            0,
+            0,
+        ),
+        (&given("new s S\ncall r s give t\nassert eq s.n 0"), 13, 15),
+        (
+            &given("new s S\nlet t s\ncall r t give t\nassert acc s n"),
+            0,
+            0,
+        ),
+        (
+            &given("new s S\nlet r s\ncall r s give t\nassert acc s n acc s prev"),
+            0,
+            0,
+        ),
+        (
+            &given("new s S\nlet r s\ncall r s give t\nassert eq r s"),
+            13,
+            16,
+        ),
+        (&given("call r s give t"), 13, 13),
+        (&given("new s S\nrelease acc s n\ncall r s give t"), 12, 15),
+        (
+            &given("new s S\nrelease acc s prev\ncall r s give t\nassert acc s n"),
+            0,
+            0,
+        ),
+        // r's own permissions are lost when it is assigned.
+        (
+            &given("new s S\nnew r S\ncall r s give t\nassert acc r prev"),
+            12,
+            16,
+        ),
+    ]);
+    // The receiver's y ≠ null comes before requires.
+    checks(&[(&calls("acc w n", "", "call r s give t"), 13, 13)]);
+    checks(&[(&calls("acc w n", "", "new s S\ncall r s give t"), 12, 14)]);
+    checks(&[(&calls("eq w null", "", "new s S\ncall r s give t"), 13, 14)]);
+}
+
+#[test]
+fn ensures_speaks_of_the_callers_variables() {
+    let body = |ensures: &str, statements: &str| {
+        calls("acc this n acc w n", ensures, statements).replacen(
+            "end\nmain",
+            "return w\nend\nmain",
+            1,
+        )
+    };
+    let same = |statements: &str| body("acc this n acc w n eq result w", statements);
+    checks(&[
+        (
+            &same("new s S\nnew t S\ncall r s give t\nassert eq r t acc r n acc s n"),
+            0,
+            0,
+        ),
+        (
+            &same("new s S\nnew t S\ncall r s give t\nassert eq r s"),
+            13,
+            17,
+        ),
+        (
+            &same("new s S\nnew t S\ncall r s give t\nassert ne r s"),
+            0,
+            0,
+        ),
+        (&same("new s S\ncall r s give s"), 12, 15),
+    ]);
+}
+
+#[test]
+fn conditions_are_resolved() {
+    checks(&[
+        (
+            &main_with("new s S\nlet t s\nif eq t.n 5\nassert eq s.n 5 eq 0 5\nelse\njoin"),
+            0,
+            0,
+        ),
+        (
+            &main_with("new s S\nset s n a\nif eq s.n 5\nassert eq a 5\nelse\nassert ne a 5\njoin"),
+            0,
+            0,
+        ),
+        (
+            &main_with("if eq 1 2\nassert eq 1 2\nelse\nassert ne 1 2\njoin"),
+            0,
+            0,
+        ),
+        (&main_with("if eq 1 2\nelse\nassert eq 1 2\njoin"), 13, 11),
+    ]);
+}
+
+#[test]
+fn join_leaves_its_formula_alone() {
+    checks(&[
+        (&main_with("new s S\nif eq a 1\nelse\njoin acc s n\nassert acc s n"), 0, 0),
+        (&main_with("new s S\nif eq a 1\nelse\njoin acc s n\nassert acc s prev"), 12, 13),
+        (&main_with("new s S\nif eq a 1\nelse\njoin acc s n\nassert eq s.n 0"), 13, 13),
+        (&main_with("new s S\nif eq a 1\nelse\njoin acc s n\nassert ne s null"), 0, 0),
+        // By ~ in each end: the one branch holds it as t.n, the other as s.n.
+        (
+            &main_with("if eq a 1\nnew s S\nlet t s\nelse\nnew t S\nlet s t\njoin acc t n eq s t\nassert acc s n"),
+            0,
+            0,
+        ),
+        (&main_with("if eq a 1\nnew s S\nelse\njoin acc s n"), 12, 12),
+    ]);
+    // `join` leaves A as it is: a run goes on with what check has forgotten.
+    let text = script(&main_with(
+        "new s S\nif eq a 1\nelse\njoin\nassert eq s.n 0",
+    ));
+    assert_eq!(check(&text), (11, 13));
+    assert_eq!(ran(&text, 100), (0, 14, 5));
+}
+
+#[test]
+fn branches_four_deep() {
+    let deep = |inner: &str| {
+        main_with(&format!(
+            "new s S\nif eq a 1\nif eq a 2\nif eq a 3\nif eq a 4\n{inner}\nelse\njoin acc s n\n\
+             else\njoin acc s n\nelse\njoin acc s n\nelse\njoin acc s n\nassert acc s n"
+        ))
+    };
+    checks(&[
+        (&deep("assert eq a 4 eq 1 4"), 0, 0),
+        (&deep("release acc s n"), 12, 16),
+        (&deep("assert eq a 5"), 13, 14),
+        (&deep("new s S\nset s n a"), 0, 0),
+    ]);
+}
+
+#[test]
+fn methods_in_the_order_of_lines() {
+    let source = "class S\nfield int n\nmethod int a int w\nrequires\nensures\nset this n w\nend\n\
+                  method int b int w\nrequires\nensures acc this n\nend\nmain\nvar int i\n\
+                  assert eq i 1\nend";
+    assert_eq!(check(&script(source)), (12, 6));
+    assert_eq!(
+        check(&script(&source.replace("set this n w\n", "assert\n"))),
+        (12, 11)
+    );
+    let source = source
+        .replace("set this n w\n", "assert\n")
+        .replace("ensures acc this n", "ensures");
+    assert_eq!(check(&script(&source)), (13, 14));
+}
+
+/// Two classes may have a field of one name. Null links variables of different
+/// classes; then a path goes by the name of its field alone.
+#[test]
+fn variables_of_two_classes_linked_by_null() {
+    let source = "class A\nfield int f\nmethod int m A w\nrequires acc w f eq w null\nensures\n\
+                  var B y\nlet y null\nBODY\nend\nclass B\nfield int f\nmain\nend";
+    checks(&[
+        (&source.replace("BODY", "assert eq y.f w.f acc y f"), 0, 0),
+        (
+            &source.replace("BODY", "release acc y f\nassert acc w f"),
+            12,
+            9,
+        ),
+    ]);
+}

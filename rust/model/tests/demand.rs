@@ -1,0 +1,183 @@
+//! Demand 3, over the generator's texts: accepted texts stop with 0, 21, 22 or
+//! 23 alone, and during a call the fields of older objects that are not handed
+//! over keep their values. The second holds for every text that runs.
+
+mod common;
+
+use common::{example, script, text};
+use model::gen::{self, rng::Rng};
+use model::machine::{callee_values, location, Location, Machine, Step};
+use model::names::{Action, Atom, Call, Program};
+use model::{check, read, run};
+use std::collections::BTreeMap;
+
+/// A call that has not ended: what was there before its step.
+struct OpenCall {
+    /// The frames before the call.
+    frames: usize,
+    /// The fields of all objects that existed, before the `call` step.
+    heap: Vec<i32>,
+    /// The footprint of requires, in the state before the call.
+    handed: Vec<Location>,
+}
+
+/// What a walk has seen.
+#[derive(Debug, Default)]
+struct Seen {
+    calls: usize,
+    ended: usize,
+    deepest: usize,
+    /// Fields of older objects that were handed over and have changed.
+    changed: usize,
+    /// The first field that changed though it was not handed over.
+    violation: Option<(Location, u32)>,
+}
+
+/// The locations of the `acc` atoms of requires, by y and z for `this` and w.
+fn footprint(machine: &Machine, call: Call) -> Vec<Location> {
+    let values = callee_values(&machine.frame().values, call);
+    let requires = &machine.program.blocks[call.method].requires;
+    let place = |atom: &Atom| match atom {
+        Atom::Acc(path) => location(&machine.objects, &values, *path),
+        _ => None,
+    };
+    requires.iter().filter_map(place).collect()
+}
+
+fn look(machine: &Machine, open: &[OpenCall], line: u32, seen: &mut Seen) {
+    for call in open {
+        for (place, &before) in call.heap.iter().enumerate() {
+            if machine.heap[place] == before {
+                continue;
+            }
+            if call.handed.contains(&place) {
+                seen.changed += 1;
+            } else {
+                seen.violation = seen.violation.or(Some((place, line)));
+            }
+        }
+    }
+}
+
+/// Walks the run step by step. Without `hand_over` no field counts as handed
+/// over, so that a change by a method shows.
+fn walk(program: &Program, steps: u32, hand_over: bool) -> Seen {
+    let mut machine = Machine::new(program);
+    let mut open: Vec<OpenCall> = Vec::new();
+    let mut seen = Seen::default();
+    while machine.steps < steps {
+        let statement = machine.statement();
+        let (frames, heap) = (machine.frames.len(), machine.heap.clone());
+        let handed = match statement.action {
+            Action::Call(call) if machine.frame().values[call.y] != 0 => footprint(&machine, call),
+            _ => Vec::new(),
+        };
+        let step = machine.step();
+        if machine.frames.len() > frames {
+            seen.calls += 1;
+            let handed = if hand_over { handed } else { Vec::new() };
+            open.push(OpenCall {
+                frames,
+                heap,
+                handed,
+            });
+        }
+        seen.deepest = seen.deepest.max(machine.frames.len());
+        look(&machine, &open, statement.line, &mut seen);
+        // The step that ends a call is the last one that counts for it.
+        if open
+            .last()
+            .is_some_and(|call| machine.frames.len() == call.frames)
+        {
+            open.pop();
+            seen.ended += 1;
+        }
+        if step != Ok(Step::On) {
+            break;
+        }
+    }
+    seen
+}
+
+#[test]
+fn the_walk_sees_a_change_that_is_not_handed_over() {
+    let text = text(&example());
+    let program = read(&text).unwrap();
+    let seen = walk(&program, 1_000, true);
+    assert_eq!((seen.calls, seen.ended, seen.violation), (1, 1, None));
+    assert!(seen.changed > 0);
+    let seen = walk(&program, 1_000, false);
+    assert_eq!(seen.violation, Some((1, 7)));
+}
+
+#[test]
+fn the_walk_goes_on_up_to_the_last_state() {
+    // The run stops inside the call; the change before it is seen.
+    let source = "class S\nfield int n\nmethod int m int w\nrequires acc this n\nensures\n\
+                  set this n w\nassert eq w 3\nend\nmain\nvar S s\nvar int a\nvar int b\n\
+                  new s S\nlet b 5\ncall a s m b\nend";
+    let text = script(source);
+    let program = read(&text).unwrap();
+    let seen = walk(&program, 1_000, false);
+    assert_eq!((seen.calls, seen.ended), (1, 0));
+    assert_eq!(seen.violation, Some((0, 6)));
+    assert_eq!(walk(&program, 1_000, true).violation, None);
+}
+
+#[test]
+fn accepted_texts_stop_with_0_21_22_or_23() {
+    let mut numbers = BTreeMap::new();
+    let mut texts = 0;
+    for seed in 0..5_000 {
+        let text = gen::text(0x1000_0000 + seed);
+        if check(&text).0 != 0 {
+            continue;
+        }
+        texts += 1;
+        let whole = run(&text, 5_000);
+        let mut rng = Rng::new(seed);
+        let few = 0..whole.steps.min(40);
+        let some = (0..5).map(|_| rng.below(whole.steps as usize + 2) as u32);
+        for allowed in few.chain(some).chain([whole.steps, whole.steps + 1, 5_000]) {
+            let run = run(&text, allowed);
+            *numbers.entry(run.number).or_insert(0) += 1;
+            assert!([0, 21, 22, 23].contains(&run.number), "seed {seed}");
+            // 21 comes exactly where the allowed steps are taken.
+            let out = run.number == 21;
+            let taken = allowed == run.steps && run.number != 0;
+            assert_eq!(out, taken, "seed {seed}");
+            assert!(out || run == whole, "seed {seed}");
+        }
+    }
+    println!("{texts} accepted texts: {numbers:?}");
+    assert!(texts > 1_500);
+    assert_eq!(numbers.keys().copied().collect::<Vec<_>>(), [0, 21, 22, 23]);
+}
+
+/// Adds what the walk of one text has seen to what the others have.
+fn walk_one(text: &[u8], program: &Program, all: &mut Seen) {
+    let seen = walk(program, 600, true);
+    assert_eq!(seen.violation, None, "{}", String::from_utf8_lossy(text));
+    all.calls += seen.calls;
+    all.ended += seen.ended;
+    all.changed += seen.changed;
+    all.deepest = all.deepest.max(seen.deepest);
+}
+
+#[test]
+fn calls_leave_what_is_not_handed_over() {
+    let (mut accepted, mut refused) = (Seen::default(), Seen::default());
+    for seed in 0..10_000 {
+        let text = gen::text(0x2000_0000 + seed);
+        let Ok(program) = read(&text) else { continue };
+        match check(&text).0 {
+            0 => walk_one(&text, &program, &mut accepted),
+            _ => walk_one(&text, &program, &mut refused),
+        }
+    }
+    println!("accepted: {accepted:?}\nrefused: {refused:?}");
+    assert!(accepted.calls > 20_000 && accepted.ended > 10_000);
+    assert!(accepted.changed > 10_000 && accepted.deepest == 64);
+    assert!(refused.calls > 2_000 && refused.ended > 1_000);
+    assert!(refused.changed > 500);
+}

@@ -1,0 +1,91 @@
+//! The generator reaches every number of both calls, and its accepted programs
+//! are accepted.
+
+use model::gen::{self, rng::Rng};
+use model::{check, printed, run};
+use std::collections::BTreeMap;
+
+const TEXTS: u64 = 20_000;
+
+fn table(title: &str, counts: &BTreeMap<u32, u32>) {
+    println!("{title}");
+    for (number, count) in counts {
+        println!("  {number:>2}  {count:>6}");
+    }
+}
+
+#[test]
+fn every_number_occurs() {
+    let mut checks = BTreeMap::new();
+    let mut runs = BTreeMap::new();
+    let mut bytes = 0;
+    for seed in 0..TEXTS {
+        let text = gen::text(seed);
+        bytes += text.len();
+        *checks.entry(check(&text).0).or_insert(0) += 1;
+        let steps = gen::steps(&mut Rng::new(seed));
+        *runs.entry(run(&text, steps).number).or_insert(0) += 1;
+    }
+    println!("{TEXTS} texts of {} bytes on average", bytes as u64 / TEXTS);
+    table("check", &checks);
+    table("run", &runs);
+    for number in [0].into_iter().chain(2..=14) {
+        assert!(checks.contains_key(&number), "check {number} is missing");
+    }
+    for number in [0].into_iter().chain(2..=9).chain(21..=26) {
+        assert!(runs.contains_key(&number), "run {number} is missing");
+    }
+}
+
+/// How deep the branches of a text nest.
+fn nesting(text: &[u8]) -> usize {
+    let (mut depth, mut deepest) = (0usize, 0);
+    for line in text.split(|&byte| byte == b'\n') {
+        if line.starts_with(b"if\t") {
+            depth += 1;
+        } else if line.starts_with(b"join") {
+            depth -= 1;
+        }
+        deepest = deepest.max(depth);
+    }
+    deepest
+}
+
+#[test]
+fn accepted_programs_are_accepted() {
+    let mut runs = BTreeMap::new();
+    let mut words = BTreeMap::new();
+    let mut depths = [0; 5];
+    for seed in 0..2_000 {
+        let text = gen::accepted(seed);
+        assert_eq!(check(&text), (0, 0), "{}", String::from_utf8_lossy(&text));
+        *runs.entry(run(&text, 20_000).number).or_insert(0) += 1;
+        depths[nesting(&text)] += 1;
+        for line in text.split(|&byte| byte == b'\n') {
+            let word = line.split(|&byte| byte == b'\t').next().unwrap_or_default();
+            *words
+                .entry(String::from_utf8_lossy(word).into_owned())
+                .or_insert(0) += 1;
+        }
+    }
+    table("runs of accepted programs", &runs);
+    println!("lines by word: {words:?}");
+    println!("texts by nesting: {depths:?}");
+    assert!(depths.iter().all(|&texts| texts > 50));
+    let kinds = [
+        "set", "let", "new", "call", "return", "assert", "release", "if", "else", "join",
+    ];
+    for kind in kinds {
+        assert!(words[kind] > 500, "{kind} is rare");
+    }
+    assert!(runs.keys().all(|number| [0, 21, 22, 23].contains(number)));
+}
+
+#[test]
+fn a_seed_gives_one_text() {
+    for seed in 0..200 {
+        assert_eq!(gen::text(seed), gen::text(seed));
+        assert_eq!(printed(&gen::text(seed)), printed(&gen::text(seed)));
+    }
+    assert_ne!(gen::accepted(1), gen::accepted(2));
+}
