@@ -45,6 +45,23 @@ put-same w i (b ∷ bs) zero j e l f =
 put-same w i (b ∷ bs) (suc k) j e l f =
     put-same (set w i b) (suc i) bs k j (omega arith) (omega arith) (rw length-set (omega arith))
 
+-- the two bytes at i + k and after it
+pub put-same-half :
+    (w : List ℕ) (i : ℕ) (bs : List ℕ) (k j v : ℕ) → j ≡ i + k → k + 2 ≤ length bs → i + length bs ≤ length w →
+    getD bs k 0 ≡ v % 256 → getD bs (k + 1) 0 ≡ v / 256 → halfAt (putBytes w i bs) j ≡ v
+put-same-half w i bs k j v e l f lo hi =
+    let a : byteAt (putBytes w i bs) j ≡ getD bs k 0 = put-same w i bs k j e (omega arith) f in
+    let b : byteAt (putBytes w i bs) (j + 1) ≡ getD bs (k + 1) 0 = put-same w i bs (k + 1) (j + 1) (omega arith) (omega arith) f in
+    omega (arith, a, b, lo, hi)
+
+-- n bytes from i on are none of those from a up to b
+abbrev pub Clear : ℕ → ℕ → ℕ → ℕ → Type 0
+Clear i n a b = (b ≤ i) ⊎ (i + n ≤ a)
+
+pub put-kept : (w : List ℕ) (i : ℕ) (bs : List ℕ) (a b : ℕ) → Clear i (length bs) a b → Kept a b w (putBytes w i bs)
+put-kept w i bs a b (inl l) j p q = put-other w i bs j (inl (omega arith))
+put-kept w i bs a b (inr l) j p q = put-other w i bs j (inr (omega arith))
+
 pub put-append :
     (w : List ℕ) (i : ℕ) (ps bs : List ℕ) (j : ℕ) → j ≡ i + length ps →
     putBytes (putBytes w i ps) j bs ≡ putBytes w i (ps ++ bs)
