@@ -124,7 +124,7 @@ module _ (w w′ : List ℕ) (n : ℕ) (K : Kept atoms-at (atomPlace n) w w′) 
         (λ _. cond-same (eqb (r .kind) 16) (λ _. refl) (λ _. cond-same (eqb (r .kind) 17) (λ _. to-join) (λ _. refl))))))))))
 
 -- a row by its operands
-pub rowOf : List ℕ → Operands → Row
+unfoldable pub rowOf : List ℕ → Operands → Row
 rowOf w r = record { line = r .line; stmt = stmtOf w r }
 
 pub row-of : (w : List ℕ) (i : ℕ) → rowAt w i ≡ rowOf w (operandsAt w i)

@@ -2,3 +2,5 @@ pub mod Puts
 pub mod Runs
 pub mod Kept
 pub mod Atoms
+pub mod Rows
+pub mod Methods
