@@ -4,3 +4,4 @@ pub mod Kept
 pub mod Atoms
 pub mod Rows
 pub mod Methods
+pub mod Classes
