@@ -21,7 +21,7 @@ use Rattle.emit.specs.Puts.{putBytes, tagOf, wordOf, atomBytes, putAtom,
 use Rattle.emit.specs.Holds.{Declared, SideOk, AtomOk, accessOf, atomOf, AtomsHold, RowsHold, MethodsHold, ClassesHold, Holds, Building}
 use Rattle.emit.proofs.Puts.{put-length, put-same, Clear, put-kept}
 use Rattle.emit.proofs.Runs.{run, run-more, run-same, end-length, atoms-run}
-use Rattle.emit.proofs.Kept.{cond-same, atoms-kept, atoms-hold-kept, row-ok-more, method-ok-more, SameRows, holds-kept}
+use Rattle.emit.proofs.Kept.{all-rows, cond-same, atoms-kept, atoms-hold-kept, row-ok-more, method-ok-more, SameRows, holds-kept}
 
 -- SIDES
 
@@ -182,7 +182,7 @@ module _
       record {
         size = atom-length w n k l r (h .size) room ok;
         atoms = K _ _ (inl (omega arith));
-        rows = K _ _ (inl (omega (arith, h .rows .few)));
+        rows = all-rows (length (F .rows)) w (putAtom w n k l r) (K _ _ (inl (omega (arith, h .rows .few))));
         methods = K _ _ (inl (omega (arith, h .methods .few)));
         classes = K _ _ (inl (omega (arith, h .classes .few)));
         places = K _ _ (inl (omega (arith, h .classes .few)));

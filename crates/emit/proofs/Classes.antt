@@ -5,10 +5,9 @@ use mathlib.Core.List.{List, [], _∷_, _++_}
 use mathlib.Core.Logic.{_⊎_, inl, inr, ⊎-elim}
 use Prim.Native.Nat.{ℕ, zero, suc, _+_, _*_, _≤_, _<_}
 use native.Mathlib.Omega.{arith}
-use lib.Dec.{eqb, ltb}
+use lib.Dec.{eqb}
 use lib.ListN.{length, getD}
 use borrow.Author.Count.{below-more}
-use borrow.Author.Tests.{ltb-true, ltb-false}
 use Rattle.rules.specs.Limits.{most-classes, most-fields, work-bytes}
 use Rattle.rules.specs.Syntax.{Field}
 use Rattle.rules.specs.Items.{aClass, aField}
@@ -21,8 +20,8 @@ use Rattle.tables.proofs.Bytes.{Outside, kept-trans}
 use Rattle.emit.specs.Puts.{putBytes, blank, putClass, putFieldAt, putField, placesPlace}
 use Rattle.emit.specs.Holds.{Declared, ClassesHold, Holds}
 use Rattle.emit.proofs.Puts.{put-length, put-same, put-other, Clear, put-kept, blank-length, blank-get}
-use Rattle.emit.proofs.Runs.{run, run-more, run-same, run-grown, run-last, last-length, end-length, fields-run, classes-run}
-use Rattle.emit.proofs.Kept.{atoms-hold-kept, rows-kept, methods-kept, class-same, class-fits-kept, SameRows, holds-kept}
+use Rattle.emit.proofs.Runs.{three-ways, run, run-more, run-same, run-grown, run-last, last-length, end-length, fields-run, classes-run}
+use Rattle.emit.proofs.Kept.{all-rows, atoms-hold-kept, rows-kept, methods-kept, class-same, class-fits-kept, SameRows, holds-kept}
 
 -- A CLASS
 module _ (w : List ℕ) (c : ℕ) (size : length w ≡ work-bytes) (room : c < most-classes) where
@@ -88,7 +87,7 @@ module _ (D : Declared) (w : List ℕ) (F : Flat) (n : ℕ) (room : length (F .c
       record {
         size = class-length w C (h .size) room;
         atoms = K _ _ (inr (omega arith)) (inr (omega arith));
-        rows = K _ _ (inl (omega (arith, h .rows .few))) (inl (omega (arith, h .rows .few)));
+        rows = all-rows (length (F .rows)) w after (K _ _ (inl (omega (arith, h .rows .few))) (inl (omega (arith, h .rows .few))));
         methods = K _ _ (inl (omega (arith, h .methods .few))) (inl (omega (arith, h .methods .few)));
         classes = K _ _ (inl (omega arith)) (inl (omega arith));
         places = K _ _ (inr (omega arith)) (inl (omega arith));
@@ -126,16 +125,6 @@ unfolding after
 class-written D w F n l room h = class-more D w F n room h l
 
 -- A FIELD
-less-or-not : (m n : ℕ) (b : Bool) → ltb m n ≡ b → (m < n) ⊎ (n ≤ m)
-less-or-not m n true e = inl (ltb-true m n e)
-less-or-not m n false e = inr (ltb-false m n e)
-
-three-ways : (m n : ℕ) → (m ≡ n) ⊎ ((m < n) ⊎ (n < m))
-three-ways m n =
-    ⊎-elim (λ l. inr (inl l))
-    (λ g. ⊎-elim (λ l. inr (inr l)) (λ l. inl (omega arith)) (less-or-not n m (ltb n m) refl))
-    (less-or-not m n (ltb m n) refl)
-
 flag-read : (int : Bool) → not (eqb (cond int 1 0) 0) ≡ int
 flag-read true = refl
 flag-read false = refl
@@ -301,7 +290,8 @@ module _
         main = h .main;
         atoms = atoms-hold-kept w w′ n KA (h .atoms);
         rows =
-            rows-kept D w w′ n KA (F .rows) (K _ _ (inl (omega (arith, h .rows .few))) (inl (omega (arith, h .rows .few)))) (h .rows);
+            rows-kept D w w′ n KA (F .rows)
+            (all-rows (length (F .rows)) w w′ (K _ _ (inl (omega (arith, h .rows .few))) (inl (omega (arith, h .rows .few))))) (h .rows);
         methods =
             methods-kept D w w′ n KA (length (F .rows)) (F .methods)
             (K _ _ (inl (omega (arith, h .methods .few))) (inl (omega (arith, h .methods .few)))) (h .methods);

@@ -131,14 +131,21 @@ pub row-of : (w : List ℕ) (i : ℕ) → rowAt w i ≡ rowOf w (operandsAt w i)
 unfolding rowAt rowOf stmtAt stmtOf formulaAt formulaOf
 row-of w i = refl
 
-module _ (w w′ : List ℕ) (R : ℕ) (K : Kept rows-at (rowPlace R) w w′) where
+-- the bytes of the first R rows are the same, but for their targets
+abbrev pub RowsKept : ℕ → List ℕ → List ℕ → Type 0
+RowsKept R w w′ = (i j : ℕ) → i < R → rowPlace i ≤ j → j < rowPlace i + 10 → byteAt w′ j ≡ byteAt w j
+
+pub all-rows : (R : ℕ) (w w′ : List ℕ) → Kept rows-at (rowPlace R) w w′ → RowsKept R w w′
+all-rows R w w′ K i j l p q = K j (omega arith) (omega arith)
+
+module _ (w w′ : List ℕ) (R : ℕ) (K : RowsKept R w w′) where
   pub operands-kept : (i : ℕ) → i < R → operandsAt w′ i ≡ operandsAt w i
   operands-kept i l =
-      let byte : (k : ℕ) → k < 12 → byteAt w′ (rowPlace i + k) ≡ byteAt w (rowPlace i + k) =
-      λ k m. K (rowPlace i + k) (omega arith) (omega arith) in
-      let half : (k : ℕ) → k + 2 ≤ 12 → halfAt w′ (rowPlace i + k) ≡ halfAt w (rowPlace i + k) =
-      λ k m. half-kept rows-at (rowPlace R) w w′ K (rowPlace i + k) (omega arith) (omega arith) in
-      let first : kindAt w′ i ≡ kindAt w i = K (rowPlace i) (omega arith) (omega arith) in
+      let byte : (k : ℕ) → k < 10 → byteAt w′ (rowPlace i + k) ≡ byteAt w (rowPlace i + k) =
+      λ k m. K i (rowPlace i + k) l (omega arith) (omega arith) in
+      let half : (k : ℕ) → k + 2 ≤ 10 → halfAt w′ (rowPlace i + k) ≡ halfAt w (rowPlace i + k) =
+      λ k m. half-kept (rowPlace i) (rowPlace i + 10) w w′ (λ j p q. K i j l p q) (rowPlace i + k) (omega arith) (omega arith) in
+      let first : kindAt w′ i ≡ kindAt w i = K i (rowPlace i) l (omega arith) (omega arith) in
       λ j. record {
         kind = first j;
         x = byte 1 (omega arith) j;
@@ -165,7 +172,7 @@ row-ok-more {D} {n} {n′} {r} l o =
     }
 
 module _ (D : Declared) (w w′ : List ℕ) (n : ℕ) (KA : Kept atoms-at (atomPlace n) w w′) where
-  module _ (rs : List Row) (KR : Kept rows-at (rowPlace (length rs)) w w′) (h : RowsHold D w n rs) where
+  module _ (rs : List Row) (KR : RowsKept (length rs) w w′) (h : RowsHold D w n rs) where
     pub row-same : (i : ℕ) → i < length rs → rowAt w′ i ≡ rowAt w i
     unfolding rowOf
     row-same i l =
@@ -307,7 +314,7 @@ classes-kept w w′ cs KC KP h =
 pub record SameRows (w w′ : List ℕ) (F : Flat) (n : ℕ) : Type 0 where
   pub size : length w′ ≡ length w
   pub atoms : Kept atoms-at (atomPlace n) w w′
-  pub rows : Kept rows-at (rowPlace (length (F .rows))) w w′
+  pub rows : RowsKept (length (F .rows)) w w′
   pub methods : Kept methods-at (methodPlace (length (F .methods))) w w′
   pub classes : Kept classes-at (classPlace (length (F .classes))) w w′
   pub places : Kept places-at (placesPlace (length (F .classes))) w w′

@@ -5,3 +5,4 @@ pub mod Atoms
 pub mod Rows
 pub mod Methods
 pub mod Classes
+pub mod Header

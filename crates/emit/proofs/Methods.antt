@@ -17,7 +17,7 @@ use Rattle.emit.specs.Puts.{putBytes, methodBytes, putMethod, putRequire
 use Rattle.emit.specs.Holds.{Declared, Range, flatMethodAt, flatMethodsFrom, MethodOk, MethodsHold, Holds, Building}
 use Rattle.emit.proofs.Puts.{put-length, put-same, put-same-half, put-other, Clear, put-kept}
 use Rattle.emit.proofs.Runs.{run, run-grown, run-last, last-length, end-length, methods-run}
-use Rattle.emit.proofs.Kept.{atoms-kept, atoms-hold-kept, rows-kept, method-same, method-ok-kept, classes-kept, SameRows, holds-kept}
+use Rattle.emit.proofs.Kept.{all-rows, atoms-kept, atoms-hold-kept, rows-kept, method-same, method-ok-kept, classes-kept, SameRows, holds-kept}
 
 -- A METHOD
 module _ (w : List ℕ) (m first : ℕ) (size : length w ≡ work-bytes) (room : m < most-methods) where
@@ -89,7 +89,7 @@ module _ (D : Declared) (w : List ℕ) (F : Flat) (n : ℕ) (room : length (F .m
       record {
         size = method-length w (length (F .methods)) (length (F .rows)) (h .size) room;
         atoms = K _ _ (inr (omega arith));
-        rows = K _ _ (inl (omega (arith, h .rows .few)));
+        rows = all-rows (length (F .rows)) w after (K _ _ (inl (omega (arith, h .rows .few))));
         methods = K _ _ (inl (omega arith));
         classes = K _ _ (inr (omega arith));
         places = K _ _ (inr (omega arith));
@@ -147,7 +147,7 @@ last-changed D w w′ F n m f last K size new ok h =
       size = size ∙ h .size;
       main = h .main;
       atoms = atoms-hold-kept w w′ n KA (h .atoms);
-      rows = rows-kept D w w′ n KA (F .rows) (K _ _ (inl (omega (arith, h .rows .few)))) (h .rows);
+      rows = rows-kept D w w′ n KA (F .rows) (all-rows (length (F .rows)) w w′ (K _ _ (inl (omega (arith, h .rows .few))))) (h .rows);
       methods =
           record {
             few = omega (arith, same);

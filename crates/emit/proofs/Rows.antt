@@ -1,9 +1,10 @@
 -- One more statement row.
 use mathlib.Core.Path.{_≡_, refl, sym, ap, _∙_}
 use mathlib.Core.List.{List, [], _∷_, _++_}
-use mathlib.Core.Logic.{_⊎_, inl, inr}
+use mathlib.Core.Logic.{_⊎_, inl, inr, ⊎-elim}
 use Prim.Native.Nat.{ℕ, zero, suc, _+_, _*_, _/_, _%_, _≤_, _<_}
 use native.Mathlib.Omega.{arith}
+use lib.Dec.{ltb}
 use lib.ListN.{length, getD}
 use borrow.Author.Count.{below-more}
 use Rattle.rules.specs.Limits.{most-statements, work-bytes}
@@ -12,14 +13,15 @@ use Rattle.rules.specs.Syntax.{set, assign, new, call, return, assert, release,
 use Rattle.rules.specs.Items.{aStatement}
 use Rattle.assembly.specs.Flat.{Flat, flatWith}
 use Rattle.tables.specs.Layout.{rows-at, methods-at, classes-at, places-at, atoms-at, names-at, values-at, most-atom-rows}
-use Rattle.tables.specs.Decode.{byteAt, halfAt, rightAt, ifAt, atomsFrom, rowPlace, atomPlace, methodPlace, classPlace, rowAt, rowsFrom}
+use Rattle.tables.specs.Decode.{byteAt, halfAt, rightAt, ifAt, atomsFrom, rowPlace, atomPlace, methodPlace, classPlace, rowAt, rowsFrom, targetAt}
 use Rattle.tables.specs.Stores.{Kept}
+use Rattle.tables.proofs.Bytes.{half-kept}
 use Rattle.emit.specs.declared.Operands.{Operands}
-use Rattle.emit.specs.Puts.{putBytes, rowBytes, putRow, placesPlace, RowBytes}
+use Rattle.emit.specs.Puts.{putBytes, rowBytes, putRow, putTarget, placesPlace, RowBytes}
 use Rattle.emit.specs.Holds.{Declared, operandsAt, RowOk, formulaOf, stmtOf, RowsHold, MethodsHold, Holds, Building}
-use Rattle.emit.proofs.Puts.{put-length, put-same, put-same-half, Clear, put-kept}
-use Rattle.emit.proofs.Runs.{run, run-grown, end-length, rows-run}
-use Rattle.emit.proofs.Kept.{rowOf, row-of, row-same, row-ok-kept, stmt-of-kept, method-ok-more, SameRows, holds-kept}
+use Rattle.emit.proofs.Puts.{put-length, put-same, put-same-half, put-other, Clear, put-kept}
+use Rattle.emit.proofs.Runs.{less-or-not, run, run-grown, end-length, rows-run}
+use Rattle.emit.proofs.Kept.{RowsKept, all-rows, rowOf, row-of, row-same, row-ok-kept, stmt-of-kept, method-ok-more, SameRows, holds-kept}
 
 module _ (w : List ℕ) (i : ℕ) (r : Operands) (size : length w ≡ work-bytes) (room : i < most-statements) where
   row-byte : (k j : ℕ) → j ≡ rowPlace i + k → k < 12 → byteAt (putRow w i r) j ≡ getD (rowBytes r) k 0
@@ -72,7 +74,7 @@ module _
       record {
         size = row-length w (length (F .rows)) r (h .size) room;
         atoms = K _ _ (inr (omega arith));
-        rows = K _ _ (inl (omega arith));
+        rows = all-rows (length (F .rows)) w after (K _ _ (inl (omega arith)));
         methods = K _ _ (inr (omega arith));
         classes = K _ _ (inr (omega arith));
         places = K _ _ (inr (omega arith));
@@ -194,3 +196,49 @@ module _
   pub join-means : r .kind ≡ 17 → stmtOf w r ≡ join φ
   unfolding stmtOf formulaOf
   join-means k = rw (k, formula-built)
+
+-- A TARGET
+module _ (w : List ℕ) (i t : ℕ) (size : length w ≡ work-bytes) (room : i < most-statements) where
+  pub target-read : targetAt (putTarget w i t) i ≡ t
+  unfolding putTarget
+  target-read = put-same-half w (rowPlace i + 10) _ 0 (rowPlace i + 10) t (omega arith) (omega arith) (omega arith) refl refl
+
+  -- other bytes
+  pub target-kept : (a b : ℕ) → Clear (rowPlace i + 10) 2 a b → Kept a b w (putTarget w i t)
+  unfolding putTarget
+  target-kept a b o = put-kept w (rowPlace i + 10) _ a b o
+
+  pub target-other : (j : ℕ) → (j < i) ⊎ (i < j) → targetAt (putTarget w i t) j ≡ targetAt w j
+  target-other j (inl l) =
+      half-kept (rowPlace j) (rowPlace j + 12) w (putTarget w i t) (target-kept _ _ (inl (omega arith))) (rowPlace j + 10) (omega arith) (omega arith)
+  target-other j (inr l) =
+      half-kept (rowPlace j) (rowPlace j + 12) w (putTarget w i t) (target-kept _ _ (inr (omega arith))) (rowPlace j + 10) (omega arith) (omega arith)
+
+  pub target-names : Kept names-at values-at w (putTarget w i t)
+  target-names = target-kept names-at values-at (inr (omega arith))
+
+  pub target-length : length (putTarget w i t) ≡ length w
+  unfolding putTarget
+  target-length = put-length w (rowPlace i + 10) _
+
+  outside-target : (R : ℕ) → RowsKept R w (putTarget w i t)
+  unfolding putTarget
+  outside-target R k j l p q =
+      ⊎-elim (λ m. put-other w (rowPlace i + 10) _ j (inr (omega arith))) (λ m. put-other w (rowPlace i + 10) _ j (inl (omega arith)))
+      (less-or-not i k (ltb i k) refl)
+
+-- a target may be written at any time
+pub target-written :
+    (D : Declared) (w : List ℕ) (F : Flat) (n i t : ℕ) → i < most-statements → Holds D w F n → Holds D (putTarget w i t) F n
+target-written D w F n i t room h =
+    let K : (a b : ℕ) → Clear (rowPlace i + 10) 2 a b → Kept a b w (putTarget w i t) = target-kept w i t (h .size) room in
+    holds-kept D w (putTarget w i t) F n
+    (record {
+      size = target-length w i t (h .size) room;
+      atoms = K _ _ (inr (omega arith));
+      rows = outside-target w i t (h .size) room (length (F .rows));
+      methods = K _ _ (inr (omega arith));
+      classes = K _ _ (inr (omega arith));
+      places = K _ _ (inr (omega arith));
+    })
+    h

@@ -1,14 +1,28 @@
 -- Laws of a list that is made place by place, and the lists of the tables as such.
 use mathlib.Core.Path.{_≡_, refl, sym, ap, _∙_}
+use mathlib.Core.Bool.{Bool, true, false}
 use mathlib.Core.List.{List, [], _∷_, _++_}
+use mathlib.Core.Logic.{_⊎_, inl, inr, ⊎-elim}
 use Prim.Native.Nat.{ℕ, zero, suc, _+_, _≤_, _<_}
 use native.Mathlib.Nat.{add-zero}
 use native.Mathlib.Omega.{arith}
+use lib.Dec.{ltb}
 use lib.ListN.{length, length-append}
+use borrow.Author.Tests.{ltb-true, ltb-false}
 use Rattle.rules.specs.Syntax.{Atom, Row, Field}
 use Rattle.assembly.specs.Flat.{FlatMethod, onLast}
 use Rattle.tables.specs.Decode.{atomAt, atomsFrom, rowAt, rowsFrom, fieldAt, fieldsFrom, classAt, classesFrom}
 use Rattle.emit.specs.Holds.{flatMethodAt, flatMethodsFrom}
+
+pub less-or-not : (m n : ℕ) (b : Bool) → ltb m n ≡ b → (m < n) ⊎ (n ≤ m)
+less-or-not m n true e = inl (ltb-true m n e)
+less-or-not m n false e = inr (ltb-false m n e)
+
+pub three-ways : (m n : ℕ) → (m ≡ n) ⊎ ((m < n) ⊎ (n < m))
+three-ways m n =
+    ⊎-elim (λ l. inr (inl l))
+    (λ g. ⊎-elim (λ l. inr (inr l)) (λ l. inl (omega arith)) (less-or-not n m (ltb n m) refl))
+    (less-or-not m n (ltb m n) refl)
 
 module _ {A : Type 0} where
   -- f i, f (i + 1), .. : n of them

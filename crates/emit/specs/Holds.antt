@@ -5,15 +5,16 @@ use mathlib.Core.List.{List, [], _∷_}
 use mathlib.Core.Logic.{_⊎_}
 use Prim.Native.Nat.{ℕ, zero, suc, _+_, _≤_, _<_}
 use lib.Dec.{eqb}
-use lib.ListN.{length}
+use lib.ListN.{length, drop}
 use Rattle.rules.specs.Limits.{most-classes, most-methods, most-statements, most-atoms, work-bytes}
 use Rattle.rules.specs.Syntax.{Atom, Formula, Stmt, Row, Field}
 use Rattle.rules.specs.Syntax.{acc, cmp, set, assign, new, call, return, assert, release, simple, if, else, join, end}
+use Rattle.rules.specs.Machine.{afterElse, toJoin}
 use Rattle.assembly.specs.Flat.{Flat, FlatMethod}
 use Rattle.tables.specs.declared.Expr as Tables
 use Rattle.tables.specs.Layout.{most-atom-rows, most-names, frame-variables}
-use Rattle.tables.specs.Decode.{byteAt, halfAt, relOf, rightAt, ifAt, atomsFrom, kindAt, xAt, yAt, zAt, memberAt, atomCountAt, firstAtomAt, lineAt, rowsFrom, requiresAt, ensuresAt, methodPlace, firstRowAt, classesFrom}
-use Rattle.tables.specs.Tables.{AtomFits, ClassFits}
+use Rattle.tables.specs.Decode.{byteAt, halfAt, relOf, rightAt, ifAt, atomsFrom, kindAt, xAt, yAt, zAt, memberAt, atomCountAt, firstAtomAt, lineAt, targetAt, rowsFrom, allRows, rowCount, atomCount, classCount, methodCount, mainFirst, requiresAt, ensuresAt, methodPlace, firstRowAt, classesFrom}
+use Rattle.tables.specs.Tables.{AtomFits, ClassFits, BlockFits}
 use Rattle.tables.specs.Stores.{meaning}
 use Rattle.emit.specs.declared.Operands.{Operands}
 use Rattle.emit.specs.Puts.{tagOf}
@@ -150,3 +151,27 @@ pub record Building (D : Declared) (w : List ℕ) (F : Flat) (a n : ℕ) (φ : F
   pub holds : Holds D w F n
   pub place : n ≡ a + length φ
   pub mean : atomsFrom w a (length φ) ≡ φ
+
+-- THE END OF THE TEXT
+
+-- the header has the counts
+pub record Finished (D : Declared) (w : List ℕ) (F : Flat) (n : ℕ) : Type 0 where
+  pub holds : Holds D w F n
+  pub rows : rowCount w ≡ length (F .rows)
+  pub atoms : atomCount w ≡ n
+  pub classes : classCount w ≡ length (F .classes)
+  pub methods : methodCount w ≡ length (F .methods)
+  pub main : mainFirst w ≡ F .main
+
+-- what `RowFits` says of the rows that follow a row
+pub record TargetFits (w : List ℕ) (i : ℕ) : Type 0 where
+  pub target : targetAt w i < rowCount w
+  pub after-else : kindAt w i ≡ 15 → drop (targetAt w i) (allRows w) ≡ afterElse (drop i (allRows w))
+  pub to-join : kindAt w i ≡ 16 → drop (targetAt w i) (allRows w) ≡ toJoin (drop i (allRows w))
+  pub next : (kindAt w i ≡ 18) ⊎ (suc i < rowCount w)
+
+-- what `Tables` says beside what each row was given
+pub record Linked (w : List ℕ) : Type 0 where
+  pub targets : (i : ℕ) → i < rowCount w → TargetFits w i
+  pub blocks : (m : ℕ) → m < methodCount w → BlockFits w (firstRowAt w m)
+  pub main : BlockFits w (mainFirst w)

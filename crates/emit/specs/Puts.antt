@@ -51,6 +51,10 @@ rowBytes r =
 unfoldable pub putRow : List ℕ → ℕ → Operands → List ℕ
 putRow w i r = putBytes w (rowPlace i) (rowBytes r)
 
+-- the target of row i, once it is known
+unfoldable pub putTarget : List ℕ → ℕ → ℕ → List ℕ
+putTarget w i t = putBytes w (rowPlace i + 10) (halfBytes t)
+
 -- METHODS
 
 -- without requires and ensures
