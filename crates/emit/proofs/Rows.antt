@@ -1,0 +1,244 @@
+-- One more statement row.
+use mathlib.Core.Path.{_≡_, refl, sym, ap, _∙_}
+use mathlib.Core.List.{List, [], _∷_, _++_}
+use mathlib.Core.Logic.{_⊎_, inl, inr, ⊎-elim}
+use Prim.Native.Nat.{ℕ, zero, suc, _+_, _*_, _/_, _%_, _≤_, _<_}
+use native.Mathlib.Omega.{arith}
+use lib.Dec.{ltb}
+use lib.ListN.{length, getD}
+use borrow.Author.Count.{below-more}
+use Rattle.rules.specs.Limits.{most-statements, work-bytes}
+use Rattle.rules.specs.Syntax.{Formula, Expr, Rel, Stmt, Row}
+use Rattle.rules.specs.Syntax.{set, assign, new, call, return, assert, release, simple, if, else, join, end}
+use Rattle.rules.specs.Items.{aStatement}
+use Rattle.assembly.specs.Flat.{Flat, flatWith}
+use Rattle.tables.specs.Layout.{rows-at, methods-at, classes-at, places-at, atoms-at, names-at, values-at, most-atom-rows}
+use Rattle.tables.specs.Decode.{byteAt, halfAt, rightAt, ifAt, atomsFrom, rowPlace, atomPlace, methodPlace, classPlace, rowAt, rowsFrom, targetAt}
+use Rattle.tables.specs.Stores.{Kept}
+use Rattle.tables.proofs.Bytes.{half-kept}
+use Rattle.emit.specs.declared.Operands.{Operands}
+use Rattle.emit.specs.Puts.{putBytes, rowBytes, putRow, putTarget, placesPlace, RowBytes}
+use Rattle.emit.specs.Holds.{Declared, operandsAt, RowOk, formulaOf, stmtOf, RowsHold, MethodsHold, Holds, Building}
+use Rattle.emit.proofs.Puts.{put-length, put-same, put-same-half, put-other, Clear, put-kept}
+use Rattle.emit.proofs.Runs.{less-or-not, run, run-grown, end-length, rows-run}
+use Rattle.emit.proofs.Kept.{RowsKept, all-rows, rowOf, row-of, row-same, row-ok-kept, stmt-of-kept, method-ok-more, SameRows, holds-kept}
+
+module _ (w : List ℕ) (i : ℕ) (r : Operands) (size : length w ≡ work-bytes) (room : i < most-statements) where
+  row-byte : (k j : ℕ) → j ≡ rowPlace i + k → k < 12 → byteAt (putRow w i r) j ≡ getD (rowBytes r) k 0
+  unfolding putRow rowBytes
+  row-byte k j e l = put-same w (rowPlace i) (rowBytes r) k j e l (omega arith)
+
+  row-half :
+      (k v : ℕ) → k + 2 ≤ 12 → getD (rowBytes r) k 0 ≡ v % 256 → getD (rowBytes r) (k + 1) 0 ≡ v / 256 →
+      halfAt (putRow w i r) (rowPlace i + k) ≡ v
+  unfolding putRow rowBytes
+  row-half k v l p q = put-same-half w (rowPlace i) (rowBytes r) k (rowPlace i + k) v refl l (omega arith) p q
+
+  pub operands-written : operandsAt (putRow w i r) i ≡ r
+  unfolding rowBytes
+  operands-written = λ j.
+      record {
+        kind = row-byte 0 (rowPlace i) (omega arith) (omega arith) j;
+        x = row-byte 1 (rowPlace i + 1) refl (omega arith) j;
+        y = row-byte 2 (rowPlace i + 2) refl (omega arith) j;
+        z = row-byte 3 (rowPlace i + 3) refl (omega arith) j;
+        member = row-byte 4 (rowPlace i + 4) refl (omega arith) j;
+        atoms = row-byte 5 (rowPlace i + 5) refl (omega arith) j;
+        first = row-half 6 (r .first) (omega arith) refl refl j;
+        line = row-half 8 (r .line) (omega arith) refl refl j;
+      }
+
+  -- other bytes
+  pub row-kept : (a b : ℕ) → Clear (rowPlace i) 12 a b → Kept a b w (putRow w i r)
+  unfolding putRow rowBytes
+  row-kept a b o = put-kept w (rowPlace i) (rowBytes r) a b o
+
+  pub row-names : Kept names-at values-at w (putRow w i r)
+  row-names = row-kept names-at values-at (inr (omega arith))
+
+  pub row-length : length (putRow w i r) ≡ length w
+  unfolding putRow
+  row-length = put-length w (rowPlace i) (rowBytes r)
+
+module _
+    (D : Declared) (w : List ℕ) (F : Flat) (n : ℕ) (r : Operands) (room : length (F .rows) < most-statements) (ok : RowOk D n r)
+    (h : Holds D w F n) where
+  after : List ℕ
+  after = putRow w (length (F .rows)) r
+
+  same-rows : SameRows w after F n
+  unfolding after
+  same-rows =
+      let K : (a b : ℕ) → Clear (rowPlace (length (F .rows))) 12 a b → Kept a b w (putRow w (length (F .rows)) r) =
+      row-kept w (length (F .rows)) r (h .size) room in
+      record {
+        size = row-length w (length (F .rows)) r (h .size) room;
+        atoms = K _ _ (inr (omega arith));
+        rows = all-rows (length (F .rows)) w after (K _ _ (inl (omega arith)));
+        methods = K _ _ (inr (omega arith));
+        classes = K _ _ (inr (omega arith));
+        places = K _ _ (inr (omega arith));
+      }
+
+  here : operandsAt after (length (F .rows)) ≡ r
+  unfolding after
+  here = operands-written w (length (F .rows)) r (h .size) room
+
+  new-row : rowAt after (length (F .rows)) ≡ record { line = r .line; stmt = stmtOf w r }
+  unfolding rowOf
+  new-row =
+      row-of after (length (F .rows))
+      ∙ (ap (rowOf after) here
+      ∙ (λ j. record { line = r .line; stmt = stmt-of-kept w after n (same-rows .atoms) D r ok j }))
+
+  row-more : Holds D after (flatWith F (r .line) (aStatement (stmtOf w r))) n
+  unfolding flatWith
+  row-more =
+      let h′ : Holds D after F n = holds-kept D w _ F n same-rows h in
+      let new : Row = record { line = r .line; stmt = stmtOf w r } in
+      let one : length (F .rows ++ (new ∷ [])) ≡ suc (length (F .rows)) = end-length (F .rows) new in
+      record {
+        size = h′ .size;
+        main = omega (arith, h .main, one);
+        atoms = h′ .atoms;
+        rows =
+            record {
+              few = omega (arith, one);
+              mean =
+                  rows-run after 0 _
+                  ∙ run-grown (rowAt after) (rowAt after) (F .rows) (sym (rows-run after 0 _) ∙ h′ .rows .mean) new (λ k l. refl)
+                  new-row;
+              fit = λ i l.
+                  below-more (λ (k : ℕ). RowOk D n (operandsAt after k)) (length (F .rows)) (h′ .rows .fit) (rw here ok) i
+                  (omega (arith, one));
+            };
+        methods =
+            record {
+              few = h′ .methods .few;
+              mean = h′ .methods .mean;
+              fit = λ i l. method-ok-more (omega arith) (omega (arith, one)) (h′ .methods .fit i l);
+            };
+        classes = h′ .classes;
+      }
+
+-- the next row, with operands that fit
+pub row-written :
+    (D : Declared) (w : List ℕ) (F : Flat) (n : ℕ) (r : Operands) → length (F .rows) < most-statements → RowOk D n r →
+    Holds D w F n → Holds D (putRow w (length (F .rows)) r) (flatWith F (r .line) (aStatement (stmtOf w r))) n
+unfolding after
+row-written D w F n r room ok h = row-more D w F n r room ok h
+
+-- what the writer asks
+pub row-bytes :
+    (D : Declared) (n : ℕ) (r : Operands) → n ≤ most-atom-rows → r .member < 256 → r .line < 65536 → RowOk D n r → RowBytes r
+row-bytes D n r few m l o =
+    record {
+      kind = omega (arith, o .kind);
+      x = omega (arith, o .x);
+      y = omega (arith, o .y);
+      z = omega (arith, o .z);
+      member = m;
+      atoms = omega (arith, o .atoms);
+      first = omega (arith, o .atoms);
+      line = l;
+    }
+
+-- WHAT A ROW MEANS, by its kind
+module _ (w : List ℕ) (r : Operands) where
+  pub set-means : r .kind ≡ 8 → stmtOf w r ≡ simple (set (r .x) (r .member) (r .y))
+  unfolding stmtOf
+  set-means k = rw k
+
+  pub let-means : (e : Expr ℕ) → r .kind ≡ 9 → rightAt w (r .first) ≡ e → stmtOf w r ≡ simple (assign (r .x) e)
+  unfolding stmtOf
+  let-means e k p = rw (k, p)
+
+  pub new-means : r .kind ≡ 10 → stmtOf w r ≡ simple (new (r .x) (r .member))
+  unfolding stmtOf
+  new-means k = rw k
+
+  pub call-means : r .kind ≡ 11 → stmtOf w r ≡ simple (call (r .x) (r .y) (r .member) (r .z))
+  unfolding stmtOf
+  call-means k = rw k
+
+  pub return-means : r .kind ≡ 12 → stmtOf w r ≡ simple (return (r .x))
+  unfolding stmtOf
+  return-means k = rw k
+
+  pub if-means : (s : Stmt) → r .kind ≡ 15 → ifAt w (r .first) ≡ s → stmtOf w r ≡ s
+  unfolding stmtOf
+  if-means s k p = rw (k, p)
+
+  pub else-means : r .kind ≡ 16 → stmtOf w r ≡ else
+  unfolding stmtOf
+  else-means k = rw k
+
+  pub end-means : r .kind ≡ 18 → stmtOf w r ≡ end
+  unfolding stmtOf
+  end-means k = rw k
+
+-- a row with the formula that was built last
+module _
+    (D : Declared) (w : List ℕ) (F : Flat) (a n : ℕ) (φ : Formula ℕ) (b : Building D w F a n φ) (r : Operands)
+    (first : r .first ≡ a) (count : r .atoms ≡ length φ) where
+  formula-built : formulaOf w r ≡ φ
+  unfolding formulaOf
+  formula-built = rw (first, count) (b .mean)
+
+  pub assert-means : r .kind ≡ 13 → stmtOf w r ≡ simple (assert φ)
+  unfolding stmtOf formulaOf
+  assert-means k = rw (k, formula-built)
+
+  pub release-means : r .kind ≡ 14 → stmtOf w r ≡ simple (release φ)
+  unfolding stmtOf formulaOf
+  release-means k = rw (k, formula-built)
+
+  pub join-means : r .kind ≡ 17 → stmtOf w r ≡ join φ
+  unfolding stmtOf formulaOf
+  join-means k = rw (k, formula-built)
+
+-- A TARGET
+module _ (w : List ℕ) (i t : ℕ) (size : length w ≡ work-bytes) (room : i < most-statements) where
+  pub target-read : targetAt (putTarget w i t) i ≡ t
+  unfolding putTarget
+  target-read = put-same-half w (rowPlace i + 10) _ 0 (rowPlace i + 10) t (omega arith) (omega arith) (omega arith) refl refl
+
+  -- other bytes
+  pub target-kept : (a b : ℕ) → Clear (rowPlace i + 10) 2 a b → Kept a b w (putTarget w i t)
+  unfolding putTarget
+  target-kept a b o = put-kept w (rowPlace i + 10) _ a b o
+
+  pub target-other : (j : ℕ) → (j < i) ⊎ (i < j) → targetAt (putTarget w i t) j ≡ targetAt w j
+  target-other j (inl l) =
+      half-kept (rowPlace j) (rowPlace j + 12) w (putTarget w i t) (target-kept _ _ (inl (omega arith))) (rowPlace j + 10) (omega arith) (omega arith)
+  target-other j (inr l) =
+      half-kept (rowPlace j) (rowPlace j + 12) w (putTarget w i t) (target-kept _ _ (inr (omega arith))) (rowPlace j + 10) (omega arith) (omega arith)
+
+  pub target-names : Kept names-at values-at w (putTarget w i t)
+  target-names = target-kept names-at values-at (inr (omega arith))
+
+  pub target-length : length (putTarget w i t) ≡ length w
+  unfolding putTarget
+  target-length = put-length w (rowPlace i + 10) _
+
+  outside-target : (R : ℕ) → RowsKept R w (putTarget w i t)
+  unfolding putTarget
+  outside-target R k j l p q =
+      ⊎-elim (λ m. put-other w (rowPlace i + 10) _ j (inr (omega arith))) (λ m. put-other w (rowPlace i + 10) _ j (inl (omega arith)))
+      (less-or-not i k (ltb i k) refl)
+
+-- a target may be written at any time
+pub target-written :
+    (D : Declared) (w : List ℕ) (F : Flat) (n i t : ℕ) → i < most-statements → Holds D w F n → Holds D (putTarget w i t) F n
+target-written D w F n i t room h =
+    let K : (a b : ℕ) → Clear (rowPlace i + 10) 2 a b → Kept a b w (putTarget w i t) = target-kept w i t (h .size) room in
+    holds-kept D w (putTarget w i t) F n
+    (record {
+      size = target-length w i t (h .size) room;
+      atoms = K _ _ (inr (omega arith));
+      rows = outside-target w i t (h .size) room (length (F .rows));
+      methods = K _ _ (inr (omega arith));
+      classes = K _ _ (inr (omega arith));
+      places = K _ _ (inr (omega arith));
+    })
+    h

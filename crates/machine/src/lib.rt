@@ -1,0 +1,223 @@
+use rules::Machine;
+use tables::Expr;
+use tables::Layout;
+ghost use mathlib.Core.Path.{_≡_};
+ghost use mathlib.Core.List.{[], _∷_};
+ghost use mathlib.Core.Option.{some};
+ghost use Prim.Native.Nat.{ℕ, suc, _+_, _*_, _-_, _≤_, _<_};
+ghost use lib.ListN.{length, take};
+ghost use Rattle.rules.specs.Limits.{work-bytes, most-statements, most-frames, heap-objects, heap-fields};
+ghost use Rattle.tables.specs.Layout.{most-names, frame-variables};
+ghost use Rattle.tables.specs.Decode.{leftAt, rightAt, relOf, atomsFrom, atomCount, atomAt};
+ghost use Rattle.rules.specs.Base.{any, ok};
+ghost use Rattle.rules.specs.Machine.{compared};
+ghost use Rattle.tables.specs.Stores.{meaning};
+ghost use lib.Dec.{eqb};
+ghost use Rattle.machine.specs.Views.{frameAt, variableAt, cellValue, cellHolder, classIn, firstIn, heldCell, cellOf, spotOf, spot, readIn, rightTest, testIn, PlainIs, takeIn, fill, marked, spotIs, readIs, truthIs, tookIs, countOf, ObjectFits, ExprFits, Readable, viewOf};
+
+// Whose variables are read, where the heap ends, and who holds.
+pub struct View {
+    pub base: usize,
+    pub objects: usize,
+    pub holder: u32,
+}
+
+// Why a step is not done.
+pub enum Fault {
+    HeapFull,
+    FramesFull,
+    Permission,
+    Null,
+    False,
+}
+
+// The cell of a location.
+pub enum Spot {
+    At(usize),
+    Lacking(Fault),
+}
+
+// The value of an expression.
+pub enum Read {
+    Got(u32),
+    Lacking(Fault),
+}
+
+// Whether a comparison is true.
+pub enum Truth {
+    Holds,
+    Fails,
+    Lacking(Fault),
+}
+
+// How many cells a formula took.
+pub enum Took {
+    Cells(usize),
+    Lacking(Fault),
+}
+
+// A variable of the frame at b.
+fn variable(work: &[u8], b: usize, x: usize) -> u32
+    requires { ⌜ (b + 60 ≤ length (now work)) × (x < frame-variables) ⌝ }
+    ensures { λ r. ⌜ r ≡ variableAt (now (work .entry)) b x ⌝ }
+{
+    tables::word_at(work, b + x * 4)
+}
+
+fn cell_value(work: &[u8], k: usize) -> u32
+    requires { ⌜ (length (now work) ≡ work-bytes) × (k < heap-fields) ⌝ }
+    ensures { λ r. ⌜ r ≡ cellValue (now (work .entry)) k ⌝ }
+{
+    tables::word_at(work, Layout::VALUES + k * 4)
+}
+
+fn cell_holder(work: &[u8], k: usize) -> u32
+    requires { ⌜ (length (now work) ≡ work-bytes) × (k < heap-fields) ⌝ }
+    ensures { λ r. ⌜ r ≡ cellHolder (now (work .entry)) k ⌝ }
+{
+    tables::word_at(work, Layout::HOLDERS + k * 4)
+}
+
+// The cell, if h holds it.
+fn held_cell(work: &[u8], h: u32, k: usize) -> Spot
+    requires { ⌜ (length (now work) ≡ work-bytes) × (k < heap-fields) ⌝ }
+    ensures { λ r. ⌜ spotIs r ≡ heldCell (now (work .entry)) h (some k) ⌝ }
+{
+    let n = cell_holder(work, k);
+    if n == h {
+        return Spot::At(k);
+    }
+    Spot::Lacking(Fault::Permission)
+}
+
+// The class of object i + 1.
+fn class_of(work: &[u8], i: usize) -> usize
+    requires { ⌜ (length (now work) ≡ work-bytes) × (i < heap-objects) ⌝ }
+    ensures { λ r. ⌜ r ≡ classIn (now (work .entry)) i ⌝ }
+{
+    tables::byte_at(work, Layout::OBJECTS + i * Layout::OBJECT_BYTES)
+}
+
+// Its first cell.
+fn first_of(work: &[u8], i: usize) -> usize
+    requires { ⌜ (length (now work) ≡ work-bytes) × (i < heap-objects) ⌝ }
+    ensures { λ r. ⌜ (r ≡ firstIn (now (work .entry)) i) × (r < 65536) ⌝ }
+{
+    tables::half_at(work, Layout::OBJECTS + i * Layout::OBJECT_BYTES + 2)
+}
+
+// The cell of the field named f of object i + 1.
+fn cell_at(work: &[u8], v: View, i: usize, f: usize) -> Spot
+    requires { ⌜ Readable (now work) v × ((i < v .objects) × (f < most-names)) ⌝ }
+    ensures { λ r. ⌜ spotIs r ≡ heldCell (now (work .entry)) (v .holder) (cellOf (now (work .entry)) (v .objects) (suc i) f) ⌝ }
+{
+    let c = class_of(work, i);
+    let p = tables::place_at(work, c, f);
+    if p == 255 {
+        return Spot::Lacking(Fault::Permission);
+    }
+    let k = first_of(work, i) + p;
+    held_cell(work, v.holder, k)
+}
+
+// The cell of a field of the object o: "`acc` of a null is 25, of a location not in A .. 24".
+fn spot_of(work: &[u8], v: View, o: u32, f: usize) -> Spot
+    requires { ⌜ Readable (now work) v × (f < most-names) ⌝ }
+    ensures { λ r. ⌜ spotIs r ≡ spotOf (now (work .entry)) v o f ⌝ }
+{
+    if o == 0 {
+        return Spot::Lacking(Fault::Null);
+    }
+    let i = (o - 1) as usize;
+    if v.objects <= i {
+        return Spot::Lacking(Fault::Permission);
+    }
+    cell_at(work, v, i, f)
+}
+
+// The cell of `x.f`.
+fn locate(work: &[u8], v: View, x: usize, f: usize) -> Spot
+    requires { ⌜ Readable (now work) v × ((x < frame-variables) × (f < most-names)) ⌝ }
+    ensures { λ r. ⌜ spotIs r ≡ spot (now (work .entry)) v x f ⌝ }
+{
+    let o = variable(work, v.base, x);
+    spot_of(work, v, o, f)
+}
+
+// The value of an expression that is no path.
+fn plain(work: &[u8], v: View, e: Expr) -> u32
+    requires { ⌜ Readable (now work) v × ExprFits e ⌝ }
+    ensures { λ r. ⌜ PlainIs (now (work .entry)) v e r ⌝ }
+{
+    match e {
+        Expr::Num(n) => n,
+        Expr::Null => 0,
+        Expr::Var(x) => variable(work, v.base, x),
+        Expr::Path(_, _) => 0,
+    }
+}
+
+// "reading a path needs its location in A"
+fn value(work: &[u8], v: View, e: Expr) -> Read
+    requires { ⌜ Readable (now work) v × ExprFits e ⌝ }
+    ensures { λ r. ⌜ readIs r ≡ readIn (now (work .entry)) v (meaning e) ⌝ }
+{
+    let Expr::Path(x, f) = e else {
+        return Read::Got(plain(work, v, e));
+    };
+    match locate(work, v, x, f) {
+        Spot::At(k) => Read::Got(cell_value(work, k)),
+        Spot::Lacking(s) => Read::Lacking(s),
+    }
+}
+
+fn left(work: &[u8], v: View, a: usize) -> Read
+    requires { ⌜ Readable (now work) v × (a < atomCount (now work)) ⌝ }
+    ensures { λ r. ⌜ readIs r ≡ readIn (now (work .entry)) v (leftAt (now (work .entry)) a) ⌝ }
+{
+    value(work, v, tables::left_at(work, a))
+}
+
+fn right(work: &[u8], v: View, a: usize) -> Read
+    requires { ⌜ Readable (now work) v × (a < atomCount (now work)) ⌝ }
+    ensures { λ r. ⌜ readIs r ≡ readIn (now (work .entry)) v (rightAt (now (work .entry)) a) ⌝ }
+{
+    value(work, v, tables::right_at(work, a))
+}
+
+// Whether l and r compare as the kind of an atom says: 1 `eq`, else `ne`.
+fn compare(kind: usize, l: u32, r: u32) -> Truth
+    ensures { λ t. ⌜ truthIs t ≡ ok (compared (relOf kind) l r) ⌝ }
+{
+    if kind == 1 {
+        if l == r {
+            return Truth::Holds;
+        }
+        return Truth::Fails;
+    }
+    if l == r {
+        return Truth::Fails;
+    }
+    Truth::Holds
+}
+
+fn test_right(work: &[u8], v: View, a: usize, l: u32) -> Truth
+    requires { ⌜ Readable (now work) v × (a < atomCount (now work)) ⌝ }
+    ensures { λ r. ⌜ truthIs r ≡ rightTest (now (work .entry)) v a l ⌝ }
+{
+    match right(work, v, a) {
+        Read::Got(r) => compare(tables::atom_kind(work, a), l, r),
+        Read::Lacking(s) => Truth::Lacking(s),
+    }
+}
+
+// The comparison of the atom a, "of two sides the left first".
+fn test(work: &[u8], v: View, a: usize) -> Truth
+    requires { ⌜ Readable (now work) v × (a < atomCount (now work)) ⌝ }
+    ensures { λ r. ⌜ truthIs r ≡ testIn (now (work .entry)) v a ⌝ }
+{
+    match left(work, v, a) {
+        Read::Got(l) => test_right(work, v, a, l),
+        Read::Lacking(s) => Truth::Lacking(s),
+    }
+}
