@@ -53,7 +53,9 @@ formula-full t r e = full (more (drop r t)) (not-none t r e)
 pub more-on : {t : List ℕ} {r e : ℕ} → NextField t r e → (e ≡ r → ⊥) → more (drop r t) ≡ part (r + 1) e t ∷ more (drop e t)
 more-on f n = f .some (omega (arith, f .low, n))
 
-no-atom : {t : List ℕ} {r : ℕ} → r ≤ length t → ((n : ℕ) → (more (drop r t) ≡ [] → ⊥) → isFormula (suc n) (more (drop r t)) ≡ false) → NextAtom t r r
+no-atom :
+    {t : List ℕ} {r : ℕ} → r ≤ length t →
+    ((n : ℕ) → (more (drop r t) ≡ [] → ⊥) → isFormula (suc n) (more (drop r t)) ≡ false) → NextAtom t r r
 no-atom h f = record { low = omega arith; high = h; none = λ e. f; some = λ l. absurd (omega arith) }
 
 module _ {t : List ℕ} {r x : ℕ} (f : NextField t r x) where
@@ -69,7 +71,9 @@ module _ {t : List ℕ} {r x : ℕ} (f : NextField t r x) where
       atom-2 e = no-atom (omega (arith, f .low, f .high)) (λ n k. rw (more-on f a, more-on g b, h .none e) (formula-two n _ _))
 
       module _ (d : z ≡ y → ⊥) where
-        three : (n : ℕ) → isFormula (suc n) (more (drop r t)) ≡ (isAtom (part (r + 1) x t) (part (x + 1) y t) (part (y + 1) z t) && isFormula n (more (drop z t)))
+        three :
+            (n : ℕ) →
+            isFormula (suc n) (more (drop r t)) ≡ (isAtom (part (r + 1) x t) (part (x + 1) y t) (part (y + 1) z t) && isFormula n (more (drop z t)))
         three n = rw (more-on f a, more-on g b, more-on h d) (formula-atom n _ _ _ _)
 
         pub atom-3 : isAtom (part (r + 1) x t) (part (x + 1) y t) (part (y + 1) z t) ≡ false → NextAtom t r r

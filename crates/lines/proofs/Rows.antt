@@ -13,8 +13,10 @@ use Rattle.rules.specs.Grammar as Grammar
 use Rattle.rules.specs.Grammar.{Kind, Operand, Tail, form, kindOf, kindNumber, isOperand, isTail, isFormed}
 use Rattle.rules.specs.Grammar.{new, typeName, className, variable, member, expression, nothing, condition, formula}
 use Rattle.rules.specs.Grammar.{classes, fields, methods, variables, read, assigned, field, method}
-use Rattle.rules.specs.Grammar.{Class, Field, Method, Requires, Ensures, Main, Var, Set, Let, New, Call, Return, Assert, Release, If, Else, Join, End}
+use Rattle.rules.specs.Grammar.{Class, Field, Method, Requires, Ensures, Main, Var}
+use Rattle.rules.specs.Grammar.{Set, Let, New, Call, Return, Assert, Release, If, Else, Join, End}
 use Rattle.rules.specs.Places.{stageNumber}
+use Rattle.leaves.specs.Answers.{whenTrue}
 use Rattle.leaves.specs.Words as Words
 use Rattle.leaves.specs.Words.{kindAt, kindOr0}
 use Rattle.leaves.proofs.Search.{true-false}
@@ -22,7 +24,8 @@ use Rattle.leaves.proofs.Words.{NoneOf, kind-number}
 use Rattle.lines.specs.declared.Row.{Row}
 use Rattle.lines.specs.Cuts.{part, more, NextField}
 use Rattle.lines.specs.Rows as Rows
-use Rattle.lines.specs.Rows.{kindNumbered, operandNumber, operandsNumber, tailNumber, rowOf, rowNumber, fitsOperand, fitsTail, formedKind}
+use Rattle.lines.specs.Rows.{kindNumbered, operandNumber, operandsNumber, tailNumber, rowOf, rowNumber}
+use Rattle.lines.specs.Rows.{fitsOperand, fitsTail, formedKind}
 use Rattle.lines.proofs.Formulas.{more-on}
 
 -- KINDS
@@ -153,7 +156,9 @@ tail-is condition ws = refl
 tail-is formula ws = refl
 
 -- the first of the operands, and those after it
-pub first-operand : (o : Operand) (os : List Operand) → (operandsNumber (o ∷ os) % 16 ≡ operandNumber o) × (operandsNumber (o ∷ os) / 16 ≡ operandsNumber os)
+pub first-operand :
+    (o : Operand) (os : List Operand) →
+    (operandsNumber (o ∷ os) % 16 ≡ operandNumber o) × (operandsNumber (o ∷ os) / 16 ≡ operandsNumber os)
 unfolding operandsNumber
 first-operand o os = omega (arith, operand-bounds o)
 
@@ -171,7 +176,9 @@ module _ {t : List ℕ} {tail : Tail} {b : Bool} {n r : ℕ} (x : Walk t tail b 
   unfolding isFormed operandsNumber
   walk-done e = go (x .left) (x .number) (x .is)
     where
-      go : (os : List Operand) → n ≡ operandsNumber os → isFormed os tail (more (drop r t)) ≡ b → b ≡ fitsTail (tailNumber tail) (more (drop r t))
+      go :
+          (os : List Operand) → n ≡ operandsNumber os → isFormed os tail (more (drop r t)) ≡ b →
+          b ≡ fitsTail (tailNumber tail) (more (drop r t))
       go [] h i = sym i ∙ tail-is tail _
       go (o ∷ os) h i = absurd (omega (arith, operand-bounds o))
 
@@ -210,42 +217,41 @@ module _ {t : List ℕ} {tail : Tail} {b : Bool} {n r : ℕ} (x : Walk t tail b 
             }
 
 -- THE KIND OF A LINE
+pub kind-known : (o : Option Kind) (n : ℕ) → n ≡ kindOr0 o → (n ≡ 0 → ⊥) → (k : Kind) × (o ≡ some k) × (n ≡ kindNumber k)
+kind-known none n e z = absurd (z e)
+kind-known (some k) n e z = (k, refl, e)
 
--- a word's number is that of a kind
-pub data Known (w : Name) (n : ℕ) : Type 0 where
-  known : (k : Kind) → kindOf w ≡ some k → n ≡ kindNumber k → Known w n
+known-bounds : (o : Option Kind) (n : ℕ) → n ≡ kindOr0 o → (n ≡ 0 → ⊥) → (1 ≤ n) × (n ≤ 18)
+known-bounds o n e z = let (k, f, h) = kind-known o n e z in let b = kind-bounds k in omega (arith, h, b)
 
-pub is-known : (w : Name) (n : ℕ) → n ≡ kindOr0 (kindOf w) → (n ≡ 0 → ⊥) → Known w n
-is-known w n e z = go (kindOf w) refl
-  where
-    go : (o : Option Kind) → kindOf w ≡ o → Known w n
-    go none h = absurd (z (rw h at e))
-    go (some k) h = known k h (rw h at e)
-
-pub known-bounds : (w : Name) (n : ℕ) → Known w n → (1 ≤ n) × (n ≤ 18)
-known-bounds w n (known k e h) = let b = kind-bounds k in omega (arith, h, b)
-
-module _ (ws vs : List Name) (w : Name) (c : ws ≡ w ∷ vs) (n : ℕ) where
-  pub no-kind : n ≡ kindOr0 (kindOf w) → n ≡ 0 → kindOr0 (formedKind ws) ≡ 0
-  unfolding formedKind bindOption
-  no-kind e z = rw c (go (kindOf w) (sym e ∙ z))
-    where
-      go : (o : Option Kind) → kindOr0 o ≡ 0 → kindOr0 (bindOption o (λ k. Rattle.leaves.specs.Answers.whenTrue (isFormed (form k .operands) (form k .tail) vs) k)) ≡ 0
-      go none h = refl
-      go (some k) h = absurd (let b = kind-bounds k in omega (arith, h, b))
-
-  pub formed-known : Known w n → isFormed (form (kindNumbered n) .operands) (form (kindNumbered n) .tail) vs ≡ true → kindOr0 (formedKind ws) ≡ n
-  unfolding formedKind bindOption
-  formed-known (known k e h) f = let g : isFormed (form k .operands) (form k .tail) vs ≡ true = rw (h, kind-of-number k) at f in rw (c, e, g) (sym h)
-
-  pub unformed-known : Known w n → isFormed (form (kindNumbered n) .operands) (form (kindNumbered n) .tail) vs ≡ false → kindOr0 (formedKind ws) ≡ 0
-  unfolding formedKind bindOption
-  unformed-known (known k e h) f = let g : isFormed (form k .operands) (form k .tail) vs ≡ false = rw (h, kind-of-number k) at f in rw (c, e, g)
-
--- the number of a line's kind, where it has one
 pub formed-bounds : (ws : List Name) (n : ℕ) → n ≡ kindOr0 (formedKind ws) → (n ≡ 0 → ⊥) → (1 ≤ n) × (n ≤ 18)
-formed-bounds ws n e z = go (formedKind ws) e
-  where
-    go : (o : Option Kind) → n ≡ kindOr0 o → (1 ≤ n) × (n ≤ 18)
-    go none h = absurd (z h)
-    go (some k) h = let b = kind-bounds k in omega (arith, h, b)
+formed-bounds ws = known-bounds (formedKind ws)
+
+pub kind-none : (o : Option Kind) → kindOr0 o ≡ 0 → o ≡ none
+kind-none none e = refl
+kind-none (some k) e = absurd (let b = kind-bounds k in omega (arith, e, b))
+
+-- a line by its fields: the word w, whose number is n, and the others
+module _ (w : Name) (vs ws : List Name) (c : ws ≡ w ∷ vs) (n : ℕ) (e : n ≡ kindOr0 (kindOf w)) where
+  pub no-kind : n ≡ 0 → kindOr0 (formedKind ws) ≡ 0
+  unfolding formedKind bindOption
+  no-kind z = rw (c, kind-none (kindOf w) (sym e ∙ z))
+
+  module _ (z : n ≡ 0 → ⊥) where
+    pub word-bounds : (1 ≤ n) × (n ≤ 18)
+    word-bounds = known-bounds (kindOf w) n e z
+
+    kind-is :
+        (b : Bool) → isFormed (form (kindNumbered n) .operands) (form (kindNumbered n) .tail) vs ≡ b →
+        formedKind ws ≡ whenTrue b (kindNumbered n)
+    unfolding formedKind bindOption
+    kind-is b f =
+        let (k, g, h) = kind-known (kindOf w) n e z in
+        let m : kindNumbered n ≡ k = ap kindNumbered h ∙ kind-of-number k in
+        rw (c, g, ← m, f)
+
+    pub formed : isFormed (form (kindNumbered n) .operands) (form (kindNumbered n) .tail) vs ≡ true → kindOr0 (formedKind ws) ≡ n
+    formed f = rw (kind-is true f) (number-of-kind n (word-bounds .0) (word-bounds .1))
+
+    pub unformed : isFormed (form (kindNumbered n) .operands) (form (kindNumbered n) .tail) vs ≡ false → kindOr0 (formedKind ws) ≡ 0
+    unformed f = rw (kind-is false f)

@@ -23,40 +23,29 @@ use Rattle.leaves.specs.Answers.{whenTrue}
 use Rattle.leaves.specs.Words.{kindOr0}
 use Rattle.lines.specs.declared.Place.{Place}
 use Rattle.lines.specs.declared.Refusal.{Refusal}
-use Rattle.lines.specs.declared.Refusal.the-variants.{BadByte, Malformed, LimitPassed, TextEnds}
-use Rattle.lines.specs.declared.Placing.{Placing}
-use Rattle.lines.specs.declared.Placing.the-variants.{Next, Refused}
 use Rattle.lines.specs.Cuts.{part, firstLine, CleanLine, BadLine}
 use Rattle.lines.specs.Rows.{kindNumbered, formedKind}
 use Rattle.lines.specs.Spots.{coded, inPlace, placeAfter, withinLimits}
-use Rattle.lines.specs.Scans.{refusalOf, answerOf, PlacesLine, scanText, lineOf}
+use Rattle.lines.specs.Scans.{refusalOf, nextPlace, scanText, lineOf}
 use Rattle.lines.proofs.Cuts.{first-clean, first-bad, no-lines}
-use Rattle.lines.proofs.Rows.{kind-bounds, kind-of-number}
+use Rattle.lines.proofs.Rows.{kind-known, kind-none, kind-of-number}
 use Rattle.lines.proofs.Spots.{within-is, in-place-is, place-after-is}
 
 -- THE PLACE OF A LINE
-module _ (s : Place) (k : ℕ) (l : 1 ≤ k) (h : k ≤ 18) where
-  pub out-of-place : inPlace k s ≡ false → PlacesLine s k (Refused Malformed)
-  unfolding placeLine check _>>_ _>>=_
-  out-of-place e p c = let f : Places.inPlace (kindNumbered k) p ≡ false = sym (in-place-is p k l h) ∙ (rw c at e) in rw f
-
-  module _ (e : inPlace k s ≡ true) where
-    here : (p : Places.Place) → s ≡ coded p → Places.inPlace (kindNumbered k) p ≡ true
-    here p c = sym (in-place-is p k l h) ∙ (rw c at e)
-
-    after : (p : Places.Place) → s ≡ coded p → coded (Places.placeAfter (kindNumbered k) p) ≡ placeAfter k s
-    after p c = rw c (sym (place-after-is p k l h))
-
-    inside : (p : Places.Place) → s ≡ coded p → Places.withinLimits (Places.placeAfter (kindNumbered k) p) ≡ withinLimits (placeAfter k s)
-    inside p c = sym (within-is (Places.placeAfter (kindNumbered k) p)) ∙ ap withinLimits (after p c)
-
-    pub past-limit : withinLimits (placeAfter k s) ≡ false → PlacesLine s k (Refused LimitPassed)
-    unfolding placeLine check _>>_ _>>=_
-    past-limit w p c = rw (here p c, inside p c ∙ w)
-
-    pub placed : withinLimits (placeAfter k s) ≡ true → PlacesLine s k (Next (placeAfter k s))
-    unfolding placeLine check _>>_ _>>=_
-    placed w p c = rw (here p c, inside p c ∙ w, after p c)
+pub place-line-is :
+    (s : Place) (k : ℕ) → 1 ≤ k → k ≤ 18 → (p : Places.Place) → s ≡ coded p →
+    nextPlace (inPlace k s) (withinLimits (placeAfter k s)) (placeAfter k s) ≡ (placeLine p (kindNumbered k) >>= λ q. ok (coded q))
+unfolding placeLine nextPlace check _>>_ _>>=_
+place-line-is s k l h p e =
+    rw (e, in-place-is p k l h, place-after-is p k l h, within-is)
+    (go (Places.inPlace (kindNumbered k) p) (Places.withinLimits (Places.placeAfter (kindNumbered k) p)) _)
+  where
+    go :
+        (x y : Bool) (q : Places.Place) →
+        nextPlace x y (coded q) ≡ (check x malformed >> (check y limitPassed >> ok q) >>= λ r. ok (coded r))
+    go true true q = refl
+    go true false q = refl
+    go false y q = refl
 
 -- ONE LINE
 abbrev lineWith : Name → Kind → Try Answers.Refusal Line
@@ -83,7 +72,8 @@ read-is l = ap (check (clean l) badByte >>_) (go (kindOf (getD (Text.fields l) 0
 
     go :
         (o : Option Kind) →
-        (orElse o malformed >>= λ k. check (well k) malformed >> lineWith l k) ≡ (orElse (bindOption o (λ k. whenTrue (well k) k)) malformed >>= lineWith l)
+        (orElse o malformed >>= λ k. check (well k) malformed >> lineWith l k)
+        ≡ (orElse (bindOption o (λ k. whenTrue (well k) k)) malformed >>= lineWith l)
     go none = refl
     go (some k) = more k (well k)
 
@@ -94,31 +84,22 @@ module _ (p : Places.Place) (l : Name) where
 
   pub unformed-scan : clean l ≡ true → kindOr0 (formedKind (Text.fields l)) ≡ 0 → (scanLine p l >>= nextOf) ≡ no malformed
   unfolding scanLine check orElse _>>_ _>>=_
-  unformed-scan e z = rw (read-is l, e) (go (formedKind (Text.fields l)) z)
-    where
-      go :
-          (o : Option Kind) → kindOr0 o ≡ 0 →
-          (orElse o malformed >>= lineWith l >>= (λ a. placeLine p (a .kind) >>= placedWith a) >>= nextOf)
-          ≡ no malformed
-      go none h = refl
-      go (some k) h = absurd (let b = kind-bounds k in omega (arith, h, b))
+  unformed-scan e z = rw (read-is l, e, kind-none (formedKind (Text.fields l)) z)
 
   pub formed-scan :
       (n : ℕ) → clean l ≡ true → n ≡ kindOr0 (formedKind (Text.fields l)) → (n ≡ 0 → ⊥) →
       (scanLine p l >>= nextOf) ≡ (placeLine p (kindNumbered n) >>= λ q. ok (coded q))
   unfolding scanLine check orElse _>>_ _>>=_
-  formed-scan n e h z = rw (read-is l, e) (go (formedKind (Text.fields l)) h)
+  formed-scan n e h z = let (k, f, g) = kind-known (formedKind (Text.fields l)) n h z in known k f (ap kindNumbered g ∙ kind-of-number k)
     where
-      next : (a : Line) (r : Try Answers.Refusal Places.Place) → (r >>= placedWith a >>= nextOf) ≡ (r >>= λ q. ok (coded q))
-      next a (ok q) = refl
-      next a (no e) = refl
+      same : (a : Line) (r : Try Answers.Refusal Places.Place) → (r >>= placedWith a >>= nextOf) ≡ (r >>= λ q. ok (coded q))
+      same a (ok q) = refl
+      same a (no e) = refl
 
-      go :
-          (o : Option Kind) → n ≡ kindOr0 o →
-          (orElse o malformed >>= lineWith l >>= (λ a. placeLine p (a .kind) >>= placedWith a) >>= nextOf)
-          ≡ (placeLine p (kindNumbered n) >>= λ q. ok (coded q))
-      go none h = absurd (z h)
-      go (some k) h = rw (h, kind-of-number k) (next _ (placeLine p k))
+      known :
+          (k : Kind) → formedKind (Text.fields l) ≡ some k → kindNumbered n ≡ k →
+          (scanLine p l >>= nextOf) ≡ (placeLine p (kindNumbered n) >>= λ q. ok (coded q))
+      known k f m = rw (read-is l, e, f, m) (same _ (placeLine p k))
 
 -- A LINE THAT IS TAKEN
 pub read-line-of : (l : Name) (a : Line) → readLine l ≡ ok a → a ≡ lineOf l
@@ -196,7 +177,9 @@ unfolding scanText coded withinLimits stageNumber Rattle.lines.specs.Spo
 pass-start t s e = record { place = firstPlace; is = e; within = rw e; rest = counted-zero (scanLines (lines t) 0 firstPlace) }
 
 module _ {t : List ℕ} {a n : ℕ} {s : Place} (x : Passed t a n s) where
-  pub pass-on : (e : ℕ) (q : Place) → CleanLine t a e → ok q ≡ (scanLine (x .place) (firstLine (drop a t)) >>= nextOf) → Passed t (e + 1) (n + 1) q
+  pub pass-on :
+      (e : ℕ) (q : Place) → CleanLine t a e → ok q ≡ (scanLine (x .place) (firstLine (drop a t)) >>= nextOf) →
+      Passed t (e + 1) (n + 1) q
   unfolding scanLines atLine
   pass-on e q c i =
       let (y, f, g) = bind-ok (scanLine (x .place) (firstLine (drop a t))) (sym i) in
@@ -209,7 +192,9 @@ module _ {t : List ℕ} {a n : ℕ} {s : Place} (x : Passed t a n s) where
         rest = x .rest ∙ rw (c .cut, f', add-one n) (counted-on n (y .line) (scanLines (lines (drop (e + 1) t)) (suc n) (y .next)));
       }
 
-  pub pass-stop : (r : Refusal) → a < length t → no (refusalOf r) ≡ (scanLine (x .place) (firstLine (drop a t)) >>= nextOf) → refused (refusalOf r) (n + 1) ≡ scanText t
+  pub pass-stop :
+      (r : Refusal) → a < length t → no (refusalOf r) ≡ (scanLine (x .place) (firstLine (drop a t)) >>= nextOf) →
+      refused (refusalOf r) (n + 1) ≡ scanText t
   unfolding scanLines atLine then
   pass-stop r h i =
       let f = bind-no (scanLine (x .place) (firstLine (drop a t))) (refusalOf r) (sym i) in
@@ -239,7 +224,9 @@ pub record FirstTaken (l : Name) (ls : List Name) (n : ℕ) (p : Places.Place) (
   pub are : found ≡ lineOf l ∷ rest
   pub others : scanLines ls (suc n) (placed .next) ≡ accepted rest
 
-pub first-taken : (l : Name) (ls : List Name) (n : ℕ) (p : Places.Place) (found : List Line) → scanLines (l ∷ ls) n p ≡ accepted found → FirstTaken l ls n p found
+pub first-taken :
+    (l : Name) (ls : List Name) (n : ℕ) (p : Places.Place) (found : List Line) → scanLines (l ∷ ls) n p ≡ accepted found →
+    FirstTaken l ls n p found
 unfolding scanLines
 first-taken l ls n p found e =
     let (x, f, g) = atLine-accepted (suc n) (scanLine p l) _ found e in
@@ -259,4 +246,5 @@ nil-taken n p found e = go (ended p) e
 pub lines-taken : (ls : List Name) (n : ℕ) (p : Places.Place) (found : List Line) → scanLines ls n p ≡ accepted found → found ≡ map lineOf ls
 lines-taken [] n p found e = nil-taken n p found e
 lines-taken (l ∷ ls) n p found e =
-    let x = first-taken l ls n p found e in x .are ∙ ap (λ (m : List Line). lineOf l ∷ m) (lines-taken ls (suc n) (x .placed .next) (x .rest) (x .others))
+    let x = first-taken l ls n p found e in
+    x .are ∙ ap (λ (m : List Line). lineOf l ∷ m) (lines-taken ls (suc n) (x .placed .next) (x .rest) (x .others))

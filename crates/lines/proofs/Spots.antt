@@ -62,9 +62,12 @@ few [] = refl
 few (a ∷ []) = lt-ltb (branchesNumber (a ∷ [])) 256 (omega (arith, branch-bounds a))
 few (a ∷ b ∷ []) = lt-ltb (branchesNumber (a ∷ b ∷ [])) 256 (omega (arith, branch-bounds a, branch-bounds b))
 few (a ∷ b ∷ c ∷ []) = lt-ltb (branchesNumber (a ∷ b ∷ c ∷ [])) 256 (omega (arith, branch-bounds a, branch-bounds b, branch-bounds c))
-few (a ∷ b ∷ c ∷ d ∷ []) = lt-ltb (branchesNumber (a ∷ b ∷ c ∷ d ∷ [])) 256 (omega (arith, branch-bounds a, branch-bounds b, branch-bounds c, branch-bounds d))
+few (a ∷ b ∷ c ∷ d ∷ []) =
+    lt-ltb (branchesNumber (a ∷ b ∷ c ∷ d ∷ [])) 256
+    (omega (arith, branch-bounds a, branch-bounds b, branch-bounds c, branch-bounds d))
 few (a ∷ b ∷ c ∷ d ∷ e ∷ bs) =
-    le-ltb (branchesNumber (a ∷ b ∷ c ∷ d ∷ e ∷ bs)) 256 (omega (arith, branch-bounds e)) ∙ sym (lt-leb (length (a ∷ b ∷ c ∷ d ∷ e ∷ bs)) 4 (omega arith))
+    le-ltb (branchesNumber (a ∷ b ∷ c ∷ d ∷ e ∷ bs)) 256 (omega (arith, branch-bounds e)) ∙
+    sym (lt-leb (length (a ∷ b ∷ c ∷ d ∷ e ∷ bs)) 4 (omega arith))
 
 -- PLACES
 module _ (p : Places.Place) where
@@ -90,22 +93,24 @@ module _ (p : Places.Place) where
 
     branches-is : branchesAfter k (branchesNumber (p .branches)) ≡ branchesNumber (Places.branchesAfter (kindNumbered k) (p .branches))
     unfolding branchesAfter Places.branchesAfter kindNumber branchesNumber branchNumber
-    branches-is = rw (kind-is If, kind-is Else, kind-is Join) (go (eqb k 15) (eqb k 16) (eqb k 17))
+    branches-is = rw (kind-is If, kind-is Else, kind-is Join) (go (p .branches) (eqb k 15) (eqb k 16) (eqb k 17))
       where
-        go : (x y z : Bool) →
-            cond x (1 + 4 * branchesNumber (p .branches)) (cond y (2 + 4 * (branchesNumber (p .branches) / 4)) (cond z (branchesNumber (p .branches) / 4) (branchesNumber (p .branches))))
-            ≡ branchesNumber (cond x (beforeElse ∷ p .branches) (cond y (afterElse ∷ outer (p .branches)) (cond z (outer (p .branches)) (p .branches))))
-        go true y z = refl
-        go false true z = rw (← outer-number (p .branches))
-        go false false true = sym (outer-number (p .branches))
-        go false false false = refl
+        go :
+            (bs : List Branch) (x y z : Bool) → let n = branchesNumber bs in
+            cond x (1 + 4 * n) (cond y (2 + 4 * (n / 4)) (cond z (n / 4) n))
+            ≡ branchesNumber (cond x (beforeElse ∷ bs) (cond y (afterElse ∷ outer bs) (cond z (outer bs) bs)))
+        go bs true y z = refl
+        go bs false true z = rw (← outer-number bs)
+        go bs false false true = sym (outer-number bs)
+        go bs false false false = refl
 
     stage-is : stageAfter k (p .main) (stageNumber (form (kindNumbered k) .next)) ≡ stageNumber (Places.stageAfter (kindNumbered k) p)
     unfolding stageAfter Places.stageAfter kindNumber stageNumber
     stage-is = rw (kind-is End) (go (eqb k 18) (p .main))
       where
-        go : (x y : Bool) →
-            cond x (cond y 7 2) (stageNumber (form (kindNumbered k) .next)) ≡ stageNumber (cond x (cond y afterMain afterMethod) (form (kindNumbered k) .next))
+        go :
+            (x y : Bool) → let n = form (kindNumbered k) .next in
+            cond x (cond y 7 2) (stageNumber n) ≡ stageNumber (cond x (cond y afterMain afterMethod) n)
         go true true = refl
         go true false = refl
         go false y = refl

@@ -1,9 +1,10 @@
 -- What the answers of the pass mean: the refusal of each case, and the verdict on the text.
 use mathlib.Core.Path.{_≡_}
+use mathlib.Core.Bool.{Bool}
 use mathlib.Core.List.{List, []}
 use Prim.Native.Nat.{ℕ}
 use lib.ListN.{length, drop, getD}
-use Rattle.rules.specs.Base.{Name, Try, ok, no, _>>=_, withDefault}
+use Rattle.rules.specs.Base.{Name, Try, ok, no, check, _>>=_, _>>_, withDefault}
 use Rattle.rules.specs.Answers.{Verdict, accepted, refused, then, badByte, malformed, limitPassed, textEnds}
 use Rattle.rules.specs.Answers as Answers
 use Rattle.rules.specs.Text as Text
@@ -31,6 +32,10 @@ refusalOf TextEnds = textEnds
 abbrev pub answerOf : Placing → Try Answers.Refusal Place
 answerOf (Next s) = ok s
 answerOf (Refused r) = no (refusalOf r)
+
+-- the answer on a line: is it in place, and are the limits kept after it?
+unfoldable pub nextPlace : Bool → Bool → Place → Try Answers.Refusal Place
+nextPlace b w q = check b malformed >> (check w limitPassed >> ok q)
 
 -- The answer r is that on a line of kind k at each place that s stands for.
 abbrev pub PlacesLine : Place → ℕ → Placing → Type 0

@@ -12,7 +12,7 @@ ghost use Rattle.leaves.specs.Words.{kindOr0};
 ghost use Rattle.lines.specs.Cuts.{more, NextField, NextAtom};
 ghost use Rattle.lines.specs.Rows.{kindNumbered, rowOf, rowNumber, fitsOperand, fitsTail, formedKind};
 ghost use Rattle.lines.specs.Spots.{coded, fits, inPlace, stageAfter, branchesAfter, placeAfter, withinLimits};
-ghost use Rattle.lines.specs.Scans.{PlacesLine, ScansLine, verdictOf, scanText};
+ghost use Rattle.lines.specs.Scans.{answerOf, nextPlace, PlacesLine, ScansLine, verdictOf, scanText};
 
 // FIELDS
 
@@ -369,19 +369,26 @@ fn is_within_limits(p: Place) -> bool
     p.branches < 256
 }
 
-// "line out of place" before "a limit of the text passed"
+// 4, "line out of place", is tested before 5, "a limit of the text passed".
+fn next_place(in_place: bool, within: bool, next: Place) -> Placing
+    ensures { λ r. ⌜ answerOf r ≡ nextPlace «in_place» within next ⌝ }
+{
+    if in_place {
+        if within {
+            return Placing::Next(next);
+        }
+        return Placing::Refused(Refusal::LimitPassed);
+    }
+    Placing::Refused(Refusal::Malformed)
+}
+
+// The place after a line of this kind.
 pub fn place_line(p: Place, kind: u8) -> Placing
     requires { ⌜ ((1 ≤ kind) × (kind ≤ 18)) × (withinLimits p ≡ true) ⌝ }
     ensures { λ r. ⌜ PlacesLine p kind r ⌝ }
 {
-    if !is_in_place(kind, p) {
-        return Placing::Refused(Refusal::Malformed);
-    }
     let q = place_after(kind, p);
-    if !is_within_limits(q) {
-        return Placing::Refused(Refusal::LimitPassed);
-    }
-    Placing::Next(q)
+    next_place(is_in_place(kind, p), is_within_limits(q), q)
 }
 
 // THE PASS

@@ -27,18 +27,29 @@ word-requires : tie.Need-word-requires
 word-requires c κs = search needs
 
 returns-2 : tie.Need-returns-2
-returns-2 c = sym (condition-before (c .before .before .before .before .next-field .ensures) (c .before .before .before .if1 .left) (c .before .word .result) (c .before .word .ensures) (c .if2 .taken))
+returns-2 c =
+    let next-field = c .before .before .before .before .next-field in
+    let if1 = c .before .before .before .if1 in
+    sym (condition-before (next-field .ensures) (if1 .left) (c .before .word .result) (c .before .word .ensures) (c .if2 .taken))
 
 returns-3 : tie.Need-returns-3
-returns-3 c = sym (condition-after (c .before .before .before .before .before .next-field .ensures) (c .before .before .before .before .if1 .left) (c .before .before .word .result) (c .before .before .word .ensures) (c .if3 .taken))
+returns-3 c =
+    let next-field = c .before .before .before .before .before .next-field in
+    let if1 = c .before .before .before .before .if1 in
+    let word = c .before .before .word in
+    sym (condition-after (next-field .ensures) (if1 .left) (word .result) (word .ensures) (c .if3 .taken))
 
 is-formula-requires : tie.Need-is-formula-requires
 is-formula-requires c κs = search needs
 
 returns-4 : tie.Need-returns-4
 returns-4 c =
+    let next-field = c .before .before .before .before .before .before .next-field in
+    let if1 = c .before .before .before .before .before .if1 in
+    let word = c .before .before .before .word in
     c .is-formula .ensures ∙
-    sym (condition-here (c .before .before .before .before .before .before .next-field .ensures) (c .before .before .before .before .before .if1 .left) (c .before .before .before .word .result) (c .before .before .before .word .ensures) (c .before .before .if2 .left) (c .before .if3 .left))
+    sym
+    (condition-here (next-field .ensures) (if1 .left) (word .result) (word .ensures) (c .before .before .if2 .left) (c .before .if3 .left))
 
 pub is-condition-spec : {M : Type 1} → statement M
 is-condition-spec =

@@ -1,4 +1,4 @@
--- `lines::is_formula` meets its contract. What the fields after the cursor are, with the atoms that are left, is what all were. Assumes nothing.
+-- `lines::is_formula` meets its contract. The fields that are left are a formula where all are one. Assumes nothing.
 use native.Mathlib.Omega.{arith}
 use borrow.Author.Needs.{needs}
 use mathlib.Core.Path.{_≡_, refl, sym, ap, _∙_}
@@ -25,8 +25,10 @@ byte-at-requires c κs = search needs
 
 returns : tie.Need-returns Inv-loop μ-loop
 returns c =
-    let t = c .before .before .before .before .before .args .t .now in
-    let v = c .before .before .before .loop in
+    let start = c .before .before .before .before .before in
+    let loop = c .before .before .before .loop in
+    let t = start .args .t .now in
+    let v = loop in
     let z : v .n ≡ 0 = c .if2 .taken in
     sym (sym (v .inv .1) ∙ rw z (formula-full t (v .r) (sym (c .before .before .byte-at .ensures) ∙ c .before .if1 .taken)))
 
@@ -35,10 +37,15 @@ next-atom-requires c κs = omega arith
 
 returns-2 : tie.Need-returns-2 Inv-loop μ-loop
 returns-2 c =
-    let t = c .before .before .before .before .before .before .before .args .t .now in
-    let v = c .before .before .before .before .before .loop in
+    let start = c .before .before .before .before .before .before .before in
+    let loop = c .before .before .before .before .before .loop in
+    let byte-at = c .before .before .before .before .byte-at in
+    let if1 = c .before .before .before .if1 in
+    let t = start .args .t .now in
+    let v = loop in
     let z : suc (v .n - 1) ≡ v .n = omega (arith, c .before .before .if2 .left) in
-    let x = c .before .next-atom .ensures .none (c .if3 .taken) (v .n - 1) (not-none t (v .r) (sym (c .before .before .before .before .byte-at .ensures) ∙ c .before .before .before .if1 .taken)) in
+    let some = not-none t (v .r) (sym (byte-at .ensures) ∙ if1 .taken) in
+    let x = c .before .next-atom .ensures .none (c .if3 .taken) (v .n - 1) some in
     sym (sym (v .inv .1) ∙ (rw z at x))
 
 sub-n : tie.Need-sub-n Inv-loop μ-loop
@@ -49,14 +56,16 @@ loop-less c = omega (arith, c .before .before .if2 .left)
 
 loop-again : tie.Need-loop-again Inv-loop μ-loop
 loop-again c =
-    let v = c .before .before .before .before .before .loop in
+    let loop = c .before .before .before .before .before .loop in
+    let v = loop in
     let x = c .before .next-atom .ensures in
     let z : suc (v .n - 1) ≡ v .n = omega (arith, c .before .before .if2 .left) in
     (x .high, sym (rw z at (x .some (omega (arith, x .low, c .if3 .left)) (v .n - 1))) ∙ v .inv .1)
 
 returns-3 : tie.Need-returns-3 Inv-loop μ-loop
 returns-3 c =
-    let t = c .before .before .before .before .args .t .now in
+    let start = c .before .before .before .before in
+    let t = start .args .t .now in
     let v = c .before .before .loop in
     sym (sym (v .inv .1) ∙ formula-none (v .n) _ (no-more t (v .r) (λ e. c .if1 .left (c .before .byte-at .ensures ∙ e))))
 

@@ -21,14 +21,17 @@ row-of-requires c κs = search needs
 returns : tie.Need-returns
 unfolding inPlace rowOf between
 returns c =
-    let e = ap (λ (r : Row). r .first) (c .before .before .before .row-of .ensures) in rw (← e, lt-leb _ _ (c .if1 .taken))
+    let row-of = c .before .before .before .row-of in
+    let e = ap (λ (r : Row). r .first) (row-of .ensures) in rw (← e, lt-leb _ _ (c .if1 .taken))
 
 returns-2 : tie.Need-returns-2
 unfolding inPlace rowOf between
 returns-2 c =
-    let e = ap (λ (r : Row). r .first) (c .before .before .before .before .before .before .row-of .ensures) in
-    let f = ap (λ (r : Row). r .last) (c .before .before .before .before .before .before .row-of .ensures) in
-    rw (← e, ← f, le-leb _ _ (c .before .before .before .if1 .left), lt-leb _ _ (c .if2 .taken))
+    let row-of = c .before .before .before .before .before .before .row-of in
+    let if1 = c .before .before .before .if1 in
+    let e = ap (λ (r : Row). r .first) (row-of .ensures) in
+    let f = ap (λ (r : Row). r .last) (row-of .ensures) in
+    rw (← e, ← f, le-leb _ _ (if1 .left), lt-leb _ _ (c .if2 .taken))
 
 fits-requires : tie.Need-fits-requires
 fits-requires c κs = search needs
@@ -36,9 +39,11 @@ fits-requires c κs = search needs
 returns-3 : tie.Need-returns-3
 unfolding inPlace rowOf between
 returns-3 c =
-    let e = ap (λ (r : Row). r .first) (c .before .before .before .before .before .before .before .row-of .ensures) in
-    let f = ap (λ (r : Row). r .last) (c .before .before .before .before .before .before .before .row-of .ensures) in
-    rw (← e, ← f, le-leb _ _ (c .before .before .before .before .if1 .left), le-leb _ _ (c .before .if2 .left)) (c .fits2 .ensures)
+    let row-of = c .before .before .before .before .before .before .before .row-of in
+    let if1 = c .before .before .before .before .if1 in
+    let e = ap (λ (r : Row). r .first) (row-of .ensures) in
+    let f = ap (λ (r : Row). r .last) (row-of .ensures) in
+    rw (← e, ← f, le-leb _ _ (if1 .left), le-leb _ _ (c .before .if2 .left)) (c .fits2 .ensures)
 
 pub is-in-place-spec : {M : Type 1} → statement M
 is-in-place-spec = tie.close (tie.spec row-of-requires returns returns-2 fits-requires returns-3)

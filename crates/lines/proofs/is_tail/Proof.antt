@@ -18,7 +18,9 @@ is-formula-requires c κs = search needs
 
 returns : tie.Need-returns
 unfolding fitsTail
-returns c = rw (c .before .match .keys1, c .byte-at .ensures) (sym (more-tab (c .before .before .before .args .t .now) (c .before .before .before .args .r)))
+returns c =
+    let start = c .before .before .before in
+    rw (c .before .match .keys1, c .byte-at .ensures) (sym (more-tab (start .args .t .now) (start .args .r)))
 
 returns-2 : tie.Need-returns-2
 unfolding fitsTail

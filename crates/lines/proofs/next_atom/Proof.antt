@@ -15,14 +15,20 @@ next-field-requires-2 : tie.Need-next-field-requires-2
 next-field-requires-2 c κs = search needs
 
 returns-2 : tie.Need-returns-2
-returns-2 c = atom-1 (c .before .before .before .next-field .ensures) (c .before .before .if1 .left) (c .before .next-field2 .ensures) (c .if2 .taken)
+returns-2 c =
+    let next-field = c .before .before .before .next-field in
+    atom-1 (next-field .ensures) (c .before .before .if1 .left) (c .before .next-field2 .ensures) (c .if2 .taken)
 
 next-field-requires-3 : tie.Need-next-field-requires-3
 next-field-requires-3 c κs = search needs
 
 returns-3 : tie.Need-returns-3
 returns-3 c =
-    atom-2 (c .before .before .before .before .before .next-field .ensures) (c .before .before .before .before .if1 .left) (c .before .before .before .next-field2 .ensures) (c .before .before .if2 .left) (c .before .next-field3 .ensures) (c .if3 .taken)
+    let next-field = c .before .before .before .before .before .next-field in
+    let if1 = c .before .before .before .before .if1 in
+    let next-field2 = c .before .before .before .next-field2 in
+    atom-2 (next-field .ensures) (if1 .left) (next-field2 .ensures) (c .before .before .if2 .left)
+    (c .before .next-field3 .ensures) (c .if3 .taken)
 
 add-a : tie.Need-add-a
 add-a c = search needs
@@ -65,12 +71,24 @@ is-atom-requires c κs = search needs
 
 returns-4 : tie.Need-returns-4
 returns-4 c =
-    atom-here (c .before .before .before .before .before .before .before .before .before .before .next-field .ensures) (c .before .before .before .before .before .before .before .before .before .if1 .left) (c .before .before .before .before .before .before .before .before .next-field2 .ensures) (c .before .before .before .before .before .before .before .if2 .left) (c .before .before .before .before .before .before .next-field3 .ensures) (c .before .before .before .before .before .if3 .left)
+    let next-field = c .before .before .before .before .before .before .before .before .before .before .next-field in
+    let if1 = c .before .before .before .before .before .before .before .before .before .if1 in
+    let next-field2 = c .before .before .before .before .before .before .before .before .next-field2 in
+    let if2 = c .before .before .before .before .before .before .before .if2 in
+    let next-field3 = c .before .before .before .before .before .before .next-field3 in
+    let if3 = c .before .before .before .before .before .if3 in
+    atom-here (next-field .ensures) (if1 .left) (next-field2 .ensures) (if2 .left) (next-field3 .ensures) (if3 .left)
     (sym (c .before .is-atom .ensures) ∙ c .if4 .taken)
 
 returns-5 : tie.Need-returns-5
 returns-5 c =
-    atom-3 (c .before .before .before .before .before .before .before .before .before .before .next-field .ensures) (c .before .before .before .before .before .before .before .before .before .if1 .left) (c .before .before .before .before .before .before .before .before .next-field2 .ensures) (c .before .before .before .before .before .before .before .if2 .left) (c .before .before .before .before .before .before .next-field3 .ensures) (c .before .before .before .before .before .if3 .left)
+    let next-field = c .before .before .before .before .before .before .before .before .before .before .next-field in
+    let if1 = c .before .before .before .before .before .before .before .before .before .if1 in
+    let next-field2 = c .before .before .before .before .before .before .before .before .next-field2 in
+    let if2 = c .before .before .before .before .before .before .before .if2 in
+    let next-field3 = c .before .before .before .before .before .before .next-field3 in
+    let if3 = c .before .before .before .before .before .if3 in
+    atom-3 (next-field .ensures) (if1 .left) (next-field2 .ensures) (if2 .left) (next-field3 .ensures) (if3 .left)
     (sym (c .before .is-atom .ensures) ∙ c .if4 .left)
 
 pub next-atom-spec : {M : Type 1} → statement M

@@ -12,25 +12,28 @@ byte-at-requires c κs = search needs
 
 returns : tie.Need-returns
 returns c =
-    let n = no-more (c .before .before .before .args .t .now) (c .before .before .before .args .r) (λ e. c .if1 .taken (c .before .byte-at .ensures ∙ e)) in
-    record { low = omega arith; high = c .before .before .before .pre; none = λ e. n; some = λ l. absurd (omega arith) }
+    let start = c .before .before .before in
+    let n = no-more (start .args .t .now) (start .args .r) (λ e. c .if1 .taken (c .before .byte-at .ensures ∙ e)) in
+    record { low = omega arith; high = start .pre; none = λ e. n; some = λ l. absurd (omega arith) }
 
 add-find : tie.Need-add-find
 add-find c = search needs
 
 find-requires : tie.Need-find-requires
 find-requires c κs =
-    omega (arith, byte-in (c .before .before .before .args .t .now) (c .before .before .before .args .r) 9 (omega arith) (sym (c .before .byte-at .ensures) ∙ c .if1 .left))
+    let start = c .before .before .before in
+    omega (arith, byte-in (start .args .t .now) (start .args .r) 9 (omega arith) (sym (c .before .byte-at .ensures) ∙ c .if1 .left))
 
 returns-2 : tie.Need-returns-2
 returns-2 c =
+    let start = c .before .before .before .before in
     let f = c .find .ensures in
-    let m = some-more (c .before .before .before .before .args .t .now) (c .before .before .before .before .args .r) (sym (c .before .before .byte-at .ensures) ∙ c .before .if1 .left) in
+    let m = some-more (start .args .t .now) (start .args .r) (sym (c .before .before .byte-at .ensures) ∙ c .before .if1 .left) in
     record {
       low = omega (arith, f .low);
       high = f .high;
       none = λ e. absurd (omega (arith, f .low, e));
-      some = λ l. m ∙ fields-from (c .before .before .before .before .args .t .now) (c .before .before .before .before .args .r + 1) (c .find .result) f;
+      some = λ l. m ∙ fields-from (start .args .t .now) (start .args .r + 1) (c .find .result) f;
     }
 
 pub next-field-spec : {M : Type 1} → statement M

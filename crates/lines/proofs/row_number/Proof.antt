@@ -81,7 +81,8 @@ returns-17 c = rw (c .match .keys17)
 returns-18 : tie.Need-returns-18
 unfolding Rows.opened Words.opened Grammar.opened Base.opened stageNumber
 returns-18 c =
-    let e : c .before .args .kind ≡ 18 = omega (arith, passed 17 (c .before .args .kind) (c .before .pre .0) (c .match .rest)) in rw e
+    let start = c .before in
+    let e : start .args .kind ≡ 18 = omega (arith, passed 17 (start .args .kind) (start .pre .0) (c .match .rest)) in rw e
 
 pub row-number-spec : {M : Type 1} → statement M
 row-number-spec =

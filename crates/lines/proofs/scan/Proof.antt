@@ -37,40 +37,60 @@ enum-known-a c = search needs
 
 returns : tie.Need-returns Inv-loop μ-loop
 returns c =
-    pass-stop (c .before .before .before .before .before .before .loop .inv .1 .1) (c .before .a .given .0 .0) (c .before .before .before .before .before .loop-test .taken)
-    (ap answerOf (sym (c .before .a .given .1)) ∙ c .before .before .before .scan-line .ensures .is (c .before .before .before .before .before .before .loop .inv .1 .1 .place) (c .before .before .before .before .before .before .loop .inv .1 .1 .is))
+    let loop = c .before .before .before .before .before .before .loop in
+    let loop-test = c .before .before .before .before .before .loop-test in
+    let scan-line = c .before .before .before .scan-line in
+    pass-stop (loop .inv .1 .1) (c .before .a .given .0 .0) (loop-test .taken)
+    (ap answerOf (sym (c .before .a .given .1)) ∙
+    scan-line .ensures .is (loop .inv .1 .1 .place) (loop .inv .1 .1 .is))
 
 enum-known-a-2 : tie.Need-enum-known-a-2 Inv-loop μ-loop
 enum-known-a-2 c = search needs
 
 add-at : tie.Need-add-at Inv-loop μ-loop
 add-at c =
-    let l = c .before .before .before .scan-line .ensures .feed (c .before .a2 .given .0 .0) (c .before .a2 .given .1) in
-    omega (arith, byte-in (c .before .before .before .before .before .before .before .before .before .args .text .now) (c .before .before .before .before .find .result) 10 (omega arith) l)
+    let start = c .before .before .before .before .before .before .before .before .before in
+    let find = c .before .before .before .before .find in
+    let scan-line = c .before .before .before .scan-line in
+    let l = scan-line .ensures .feed (c .before .a2 .given .0 .0) (c .before .a2 .given .1) in
+    omega (arith, byte-in (start .args .text .now) (find .result) 10 (omega arith) l)
 
 loop-less : tie.Need-loop-less Inv-loop μ-loop
 loop-less c =
-    let l = c .before .before .before .scan-line .ensures .feed (c .before .a2 .given .0 .0) (c .before .a2 .given .1) in
-    omega (arith, byte-in (c .before .before .before .before .before .before .before .before .before .args .text .now) (c .before .before .before .before .find .result) 10 (omega arith) l, c .before .before .before .before .find .ensures .low)
+    let start = c .before .before .before .before .before .before .before .before .before in
+    let find = c .before .before .before .before .find in
+    let scan-line = c .before .before .before .scan-line in
+    let l = scan-line .ensures .feed (c .before .a2 .given .0 .0) (c .before .a2 .given .1) in
+    omega (arith, byte-in (start .args .text .now) (find .result) 10 (omega arith) l, find .ensures .low)
 
 loop-again : tie.Need-loop-again Inv-loop μ-loop
 loop-again c =
-    let t = c .before .before .before .before .before .before .before .before .before .args .text .now in
-    let g = c .before .before .before .scan-line .ensures .feed (c .before .a2 .given .0 .0) (c .before .a2 .given .1) in
-    let l = clean-line t (c .before .before .before .before .before .before .loop .at) (c .before .before .before .before .find .result) (c .before .before .before .before .find .ensures) g in (
+    let start = c .before .before .before .before .before .before .before .before .before in
+    let loop = c .before .before .before .before .before .before .loop in
+    let find = c .before .before .before .before .find in
+    let scan-line = c .before .before .before .scan-line in
+    let a2 = c .before .a2 in
+    let t = start .args .text .now in
+    let g = scan-line .ensures .feed (a2 .given .0 .0) (a2 .given .1) in
+    let l = clean-line t (loop .at) (find .result) (find .ensures) g in (
       omega (arith, l .high),
       (
-        omega (arith, l .low, c .before .before .before .before .before .before .loop .inv .1 .0),
-        pass-on (c .before .before .before .before .before .before .loop .inv .1 .1) (c .before .before .before .before .find .result) (c .before .a2 .given .0 .0) l
-            (ap answerOf (sym (c .before .a2 .given .1)) ∙ c .before .before .before .scan-line .ensures .is (c .before .before .before .before .before .before .loop .inv .1 .1 .place) (c .before .before .before .before .before .before .loop .inv .1 .1 .is)),
+        omega (arith, l .low, loop .inv .1 .0),
+        pass-on (loop .inv .1 .1) (find .result) (a2 .given .0 .0) l
+            (ap answerOf (sym (a2 .given .1)) ∙
+            scan-line .ensures .is (loop .inv .1 .1 .place) (loop .inv .1 .1 .is)),
       ),
     )
 
 returns-2 : tie.Need-returns-2 Inv-loop μ-loop
-returns-2 c = pass-done (c .before .before .before .loop .inv .1 .1) (c .before .before .loop-test .left) (c .if1 .taken)
+returns-2 c =
+    let loop = c .before .before .before .loop in
+    pass-done (loop .inv .1 .1) (c .before .before .loop-test .left) (c .if1 .taken)
 
 returns-3 : tie.Need-returns-3 Inv-loop μ-loop
-returns-3 c = pass-ends (c .before .before .before .loop .inv .1 .1) (c .before .before .loop-test .left) (c .if1 .left)
+returns-3 c =
+    let loop = c .before .before .before .loop in
+    pass-ends (loop .inv .1 .1) (c .before .before .loop-test .left) (c .if1 .left)
 
 pub scan-spec : {M : Type 1} → statement M
 scan-spec =

@@ -17,17 +17,25 @@ byte-at-requires c κs = search needs
 
 returns : tie.Need-returns
 returns c =
-    let v = c .before .before .before .args in
-    let b = bad-line (v .t .now) (v .at) (v .end) (c .before .before .before .pre .0 .1) (c .before .before .before .pre .0 .0) (λ e. c .if1 .taken (c .before .byte-at .ensures ∙ e)) in
-    record { is = λ p e. rw (first-bad _ b) (sym (bad-scan p (b .line) (b .bad))); feed = λ q e. absurd (let z : _≡_ {A = ℕ} 0 1 = cc in omega arith) }
+    let start = c .before .before .before in
+    let v = start .args in
+    let f = start .pre .0 in
+    let b = bad-line (v .t .now) (v .at) (v .end) (f .1) (f .0) (λ e. c .if1 .taken (c .before .byte-at .ensures ∙ e)) in
+    record {
+      is = λ p e. rw (first-bad _ b) (sym (bad-scan p (b .line) (b .bad)));
+      feed = λ q e. absurd (let z : _≡_ {A = ℕ} 0 1 = cc in omega arith);
+    }
 
 formed-kind-requires : tie.Need-formed-kind-requires
 formed-kind-requires c κs = search needs
 
 returns-2 : tie.Need-returns-2
 returns-2 c =
-    let v = c .before .before .before .before .before .args in
-    let l = clean-line (v .t .now) (v .at) (v .end) (c .before .before .before .before .before .pre .0 .1) (sym (c .before .before .before .byte-at .ensures) ∙ c .before .before .if1 .left) in
+    let start = c .before .before .before .before .before in
+    let byte-at = c .before .before .before .byte-at in
+    let v = start .args in
+    let g = sym (byte-at .ensures) ∙ c .before .before .if1 .left in
+    let l = clean-line (v .t .now) (v .at) (v .end) (start .pre .0 .1) g in
     let k = rw (← l .fields, c .if2 .taken) at (c .before .formed-kind .ensures) in
     record {
       is = λ p e. rw (first-clean _ _ _ l) (sym (unformed-scan p _ (l .clean) (sym k)));
@@ -35,16 +43,24 @@ returns-2 c =
     }
 
 place-line-requires : tie.Need-place-line-requires
-place-line-requires c κs = (formed-bounds _ (c .before .formed-kind .result) (c .before .formed-kind .ensures) (c .if2 .left), c .before .before .before .before .before .pre .1)
+place-line-requires c κs =
+    let start = c .before .before .before .before .before in
+    (formed-bounds _ (c .before .formed-kind .result) (c .before .formed-kind .ensures) (c .if2 .left), start .pre .1)
 
 returns-3 : tie.Need-returns-3
 returns-3 c =
-    let v = c .before .before .before .before .before .before .args in
-    let g = sym (c .before .before .before .before .byte-at .ensures) ∙ c .before .before .before .if1 .left in
-    let l = clean-line (v .t .now) (v .at) (v .end) (c .before .before .before .before .before .before .pre .0 .1) g in
-    let k = rw (← l .fields) at (c .before .before .formed-kind .ensures) in
+    let start = c .before .before .before .before .before .before in
+    let byte-at = c .before .before .before .before .byte-at in
+    let if1 = c .before .before .before .if1 in
+    let formed-kind = c .before .before .formed-kind in
+    let v = start .args in
+    let g = sym (byte-at .ensures) ∙ if1 .left in
+    let l = clean-line (v .t .now) (v .at) (v .end) (start .pre .0 .1) g in
+    let k = rw (← l .fields) at (formed-kind .ensures) in
     record {
-      is = λ p e. rw (first-clean _ _ _ l) (c .place-line .ensures p e ∙ sym (formed-scan p _ (c .before .before .formed-kind .result) (l .clean) k (c .before .if2 .left)));
+      is = λ p e.
+          rw (first-clean _ _ _ l)
+          (c .place-line .ensures p e ∙ sym (formed-scan p _ (formed-kind .result) (l .clean) k (c .before .if2 .left)));
       feed = λ q e. g;
     }
 
