@@ -2,3 +2,4 @@ pub mod Searches
 pub mod LookUps
 pub mod Exprs
 pub mod Puts
+pub mod Scopes

@@ -1,7 +1,6 @@
 use Rattle.declared.proofs.LookUps.{null-agrees, int-agrees}
 use Rattle.declared.proofs.agree.Statement.{statement}
-use Rattle.declared.specs.Answers.{isIntType, typeMeant}
-use Rattle.rules.specs.Names.{agree}
+use Rattle.declared.specs.Answers.{typeMeant}
 use borrow.Author.Needs.{needs}
 use Rattle.declared.proofs.agree.Tie as tie
 
@@ -24,12 +23,12 @@ agree-named-requires : tie.Need-agree-named-requires
 agree-named-requires c κs = search needs
 
 returns : tie.Need-returns
-unfolding agree typeMeant isIntType
-returns c = rw (c .before .enum-told .given .1, c .is-int-type .ensures) (null-agrees (c .before .before .before .before .args .text .now) (c .before .before .before .before .args .b))
+unfolding typeMeant
+returns c = rw (c .before .enum-told .given .1, c .is-int-type .ensures) (null-agrees _ _)
 
 returns-2 : tie.Need-returns-2
-unfolding agree typeMeant isIntType
-returns-2 c = rw (c .before .enum-told2 .given .1, c .is-int-type2 .ensures) (int-agrees (c .before .before .before .before .args .text .now) (c .before .before .before .before .args .b))
+unfolding typeMeant
+returns-2 c = rw (c .before .enum-told2 .given .1, c .is-int-type2 .ensures) (int-agrees _ _)
 
 returns-3 : tie.Need-returns-3
 unfolding typeMeant

@@ -1,8 +1,7 @@
 use Rattle.declared.proofs.Searches.{name-comm}
 use Rattle.declared.proofs.agree_named.Statement.{statement}
 use Rattle.declared.specs.Answers.{typeMeant}
-use Rattle.declared.specs.Rows.{nameIn}
-use Rattle.rules.specs.Base.{is, bytes}
+use Rattle.rules.specs.Base.{is}
 use Rattle.rules.specs.Names.{agree}
 use borrow.Author.Needs.{needs}
 use mathlib.Core.Path.{_∙_}
@@ -32,7 +31,7 @@ returns c = rw (c .before .enum-told .given .1, c .is-int .ensures)
 
 returns-2 : tie.Need-returns-2
 unfolding agree typeMeant is
-returns-2 c = rw (c .before .enum-told2 .given .1) (c .is-int2 .ensures ∙ name-comm (bytes "int") (nameIn (c .before .before .before .before .args .text .now) (c .before .before .before .before .args .s)))
+returns-2 c = rw (c .before .enum-told2 .given .1) (c .is-int2 .ensures ∙ name-comm _ _)
 
 returns-3 : tie.Need-returns-3
 unfolding agree typeMeant

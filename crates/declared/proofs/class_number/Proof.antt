@@ -8,9 +8,7 @@ find-requires : tie.Need-find-requires
 find-requires c κs = search needs
 
 returns : tie.Need-returns
-returns c =
-    let s = c .before .before .before .before .args in
-    (c .find .ensures .0 ∙ class-index (s .text .now) (s .work .now) (s .c) (s .x .now), c .find .ensures .1)
+returns c = (c .find .ensures .0 ∙ class-index _ _ _ _, c .find .ensures .1)
 
 pub class-number-spec : {M : Type 1} → statement M
 class-number-spec = tie.close (tie.spec find-requires returns)

@@ -1,6 +1,5 @@
 use Rattle.declared.proofs.LookUps.{field-index}
 use Rattle.declared.proofs.field_of.Statement.{statement}
-use Rattle.declared.specs.Rows.{nameIn}
 use borrow.Author.Needs.{needs}
 use mathlib.Core.Path.{_∙_}
 use native.Mathlib.Omega.{arith}
@@ -16,9 +15,7 @@ find-requires : tie.Need-find-requires
 find-requires c κs = search needs
 
 returns : tie.Need-returns
-returns c =
-    let s = c .before .before .before .before .before .before .args in
-    (c .find .ensures .0 ∙ field-index (s .text .now) (s .work .now) (s .c) (nameIn (s .text .now) (s .class)) (c .before .class-number .result) (c .before .class-number .ensures .0 ∙ rw (c .before .before .name-in .ensures)) (omega (arith, c .before .class-number .ensures .1, c .before .before .before .before .before .before .pre .1 .classes)) (s .f .now), c .find .ensures .1)
+returns c = (c .find .ensures .0 ∙ field-index _ _ _ _ _ (c .before .class-number .ensures .0 ∙ rw (c .before .before .name-in .ensures)) (omega (arith, c .before .class-number .ensures .1, c .before .before .before .before .before .before .pre .1 .classes)) _, c .find .ensures .1)
 
 pub field-of-spec : {M : Type 1} → statement M
 field-of-spec = tie.close (tie.spec name-in-requires class-number-requires find-requires returns)

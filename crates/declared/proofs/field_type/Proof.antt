@@ -15,17 +15,13 @@ gives-at-requires : tie.Need-gives-at-requires
 gives-at-requires c κs = search needs
 
 returns : tie.Need-returns
-returns c =
-    let s = c .before .before .before .before .before .before .before .args in
-    ap (nameIn (s .text .now)) (c .gives-at .ensures) ∙ type-found (s .text .now) (s .work .now) (s .c) (nameIn (s .text .now) (s .class)) (s .f .now) (c .before .before .before .field-of .result) (c .before .before .before .field-of .ensures .0) (c .before .if1 .taken)
+returns c = ap (nameIn _) (c .gives-at .ensures) ∙ type-found _ _ _ _ _ _ (c .before .before .before .field-of .ensures .0) (c .before .if1 .taken)
 
 no-span-requires : tie.Need-no-span-requires
 no-span-requires c κs = search needs
 
 returns-2 : tie.Need-returns-2
-returns-2 c =
-    let s = c .before .before .before .before .before .before .before .args in
-    ap (nameIn (s .text .now)) (c .no-span .ensures) ∙ type-none (s .text .now) (s .work .now) (s .c) (nameIn (s .text .now) (s .class)) (s .f .now) (c .before .before .before .field-of .result) (c .before .before .before .field-of .ensures .0) (c .before .if1 .left)
+returns-2 c = ap (nameIn _) (c .no-span .ensures) ∙ type-none _ _ _ _ _ _ (c .before .before .before .field-of .ensures .0) (c .before .if1 .left)
 
 pub field-type-spec : {M : Type 1} → statement M
 field-type-spec =

@@ -14,9 +14,7 @@ abbrev μ-loop : tie.MeasureT-loop
 μ-loop text work first count owner x i₀ i = count - i
 
 loop-holds : tie.Need-loop-holds Inv-loop μ-loop
-loop-holds c =
-    let s = c .before .before .before .args in
-    (omega arith, begin (isEntry (s .owner) (s .x .now)) (entryAt (s .text .now) (s .work .now)) (s .first) (s .count))
+loop-holds c = (omega arith, begin _ _ _ _)
 
 add-is-row : tie.Need-add-is-row Inv-loop μ-loop
 add-is-row c = omega arith
@@ -25,9 +23,7 @@ is-row-requires : tie.Need-is-row-requires Inv-loop μ-loop
 is-row-requires c κs = omega arith
 
 returns : tie.Need-returns Inv-loop μ-loop
-returns c =
-    let s = c .before .before .before .before .before .before .before .args in
-    (omega (arith, c .before .before .before .loop .inv .1, here (isEntry (s .owner) (s .x .now)) (entryAt (s .text .now) (s .work .now)) (s .first) (s .count) (c .before .before .before .loop .i) (c .before .before .loop-test .taken) (sym (c .before .is-row .ensures) ∙ c .if1 .taken)), omega arith)
+returns c = let s = c .before .before .before .before .before .before .before .args in (omega (arith, c .before .before .before .loop .inv .1, here (isEntry (s .owner) (s .x .now)) (entryAt (s .text .now) (s .work .now)) (s .first) (s .count) (c .before .before .before .loop .i) (c .before .before .loop-test .taken) (sym (c .before .is-row .ensures) ∙ c .if1 .taken)), omega arith)
 
 add-i : tie.Need-add-i Inv-loop μ-loop
 add-i c = omega arith
@@ -36,14 +32,10 @@ loop-less : tie.Need-loop-less Inv-loop μ-loop
 loop-less c = omega arith
 
 loop-again : tie.Need-loop-again Inv-loop μ-loop
-loop-again c =
-    let s = c .before .before .before .before .before .before .before .args in
-    (omega arith, omega (arith, c .before .before .before .loop .inv .1, on (isEntry (s .owner) (s .x .now)) (entryAt (s .text .now) (s .work .now)) (s .first) (s .count) (c .before .before .before .loop .i) (c .before .before .loop-test .taken) (sym (c .before .is-row .ensures) ∙ c .if1 .left)))
+loop-again c = let s = c .before .before .before .before .before .before .before .args in (omega arith, omega (arith, c .before .before .before .loop .inv .1, on (isEntry (s .owner) (s .x .now)) (entryAt (s .text .now) (s .work .now)) (s .first) (s .count) (c .before .before .before .loop .i) (c .before .before .loop-test .taken) (sym (c .before .is-row .ensures) ∙ c .if1 .left)))
 
 returns-2 : tie.Need-returns-2 Inv-loop μ-loop
-returns-2 c =
-    let s = c .before .before .before .before .before .args in
-    (omega (arith, c .before .loop .inv .1, over (isEntry (s .owner) (s .x .now)) (entryAt (s .text .now) (s .work .now)) (s .first) (s .count) (c .before .loop .i) (c .loop-test .left)), omega arith)
+returns-2 c = let s = c .before .before .before .before .before .args in (omega (arith, c .before .loop .inv .1, over (isEntry (s .owner) (s .x .now)) (entryAt (s .text .now) (s .work .now)) (s .first) (s .count) (c .before .loop .i) (c .loop-test .left)), omega arith)
 
 pub find-spec : {M : Type 1} → statement M
 find-spec =

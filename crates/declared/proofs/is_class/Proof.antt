@@ -17,9 +17,7 @@ class-number-requires c κs = search needs
 
 returns-2 : tie.Need-returns-2
 unfolding isClass
-returns-2 c =
-    let s = c .before .before .before .before .before .before .before .args in
-    rw (sym (c .before .before .before .is-reserved .ensures) ∙ c .before .before .if1 .left, class-any (s .text .now) (s .work .now) (s .c) (s .x .now), c .before .class-number .ensures .0)
+returns-2 c = rw (sym (c .before .before .before .is-reserved .ensures) ∙ c .before .before .if1 .left, class-any, c .before .class-number .ensures .0)
 
 pub is-class-spec : {M : Type 1} → statement M
 is-class-spec = tie.close (tie.spec is-reserved-requires returns class-number-requires returns-2)

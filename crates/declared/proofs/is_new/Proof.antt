@@ -17,9 +17,7 @@ find-requires c κs = search needs
 
 returns-2 : tie.Need-returns-2
 unfolding isNew
-returns-2 c =
-    let s = c .before .before .before .before .before .before .args in
-    rw (sym (c .before .before .is-reserved .ensures) ∙ c .before .if1 .left) (new-among (s .text .now) (s .work .now) (s .from) (s .n) (s .x .now) (c .find .result) (c .find .ensures .0) (c .find .ensures .1))
+returns-2 c = rw (sym (c .before .before .is-reserved .ensures) ∙ c .before .if1 .left) (new-among _ _ _ _ _ _ (c .find .ensures .0) (c .find .ensures .1))
 
 pub is-new-spec : {M : Type 1} → statement M
 is-new-spec = tie.close (tie.spec is-reserved-requires returns find-requires returns-2)

@@ -14,9 +14,7 @@ is-new-requires : tie.Need-is-new-requires
 is-new-requires c κs = search needs
 
 returns : tie.Need-returns
-returns c =
-    let s = c .before .before .before .before .before .args in
-    c .is-new .ensures ∙ new-in-method (s .text .now) (s .work .now) (s .c) (s .x .now) (c .before .if1 .taken)
+returns c = c .is-new .ensures ∙ new-in-method _ _ _ _ (c .before .if1 .taken)
 
 add-is-new-3 : tie.Need-add-is-new-3
 add-is-new-3 c = search needs
@@ -25,9 +23,7 @@ is-new-requires-2 : tie.Need-is-new-requires-2
 is-new-requires-2 c κs = search needs
 
 returns-2 : tie.Need-returns-2
-returns-2 c =
-    let s = c .before .before .before .before .before .args in
-    c .is-new2 .ensures ∙ new-in-main (s .text .now) (s .work .now) (s .c) (s .x .now) (c .before .if1 .left)
+returns-2 c = c .is-new2 .ensures ∙ new-in-main _ _ _ _ (c .before .if1 .left)
 
 pub is-new-variable-spec : {M : Type 1} → statement M
 is-new-variable-spec =

@@ -1,10 +1,9 @@
 use Rattle.declared.proofs.Exprs.{read-num, read-null, read-var, read-path, read-none, stop-within}
 use Rattle.declared.proofs.known_expr.Statement.{statement}
-use Rattle.declared.specs.Meanings.{declarationsIn, variablesIn}
 use Rattle.rules.specs.Names.{knownExpr}
 use borrow.Author.Needs.{needs}
 use lib.Seq.{length-take-le}
-use mathlib.Core.Path.{sym, ap, _∙_}
+use mathlib.Core.Path.{sym}
 use native.Mathlib.Omega.{arith}
 use Rattle.declared.proofs.known_expr.Tie as tie
 
@@ -27,16 +26,16 @@ enum-known-e : tie.Need-enum-known-e
 enum-known-e c = search needs
 
 add-f : tie.Need-add-f
-add-f c = omega (arith, stop-within (c .before .before .before .before .before .before .before .args .w .now) (c .before .before .before .expr-of .result) (c .before .e .given .0 .0) (c .before .before .before .expr-of .ensures) (c .before .e .given .1))
+add-f c = omega (arith, stop-within _ _ _ (c .before .before .before .expr-of .ensures) (c .before .e .given .1))
 
 slice-aggregate-known-path : tie.Need-slice-aggregate-known-path
-slice-aggregate-known-path c = sym (length-take-le (c .before .before .e .given .0 .0) (c .before .before .before .before .before .before .before .before .args .w .now) (omega (arith, stop-within (c .before .before .before .before .before .before .before .before .args .w .now) (c .before .before .before .before .expr-of .result) (c .before .before .e .given .0 .0) (c .before .before .before .before .expr-of .ensures) (c .before .before .e .given .1))))
+slice-aggregate-known-path c = sym (length-take-le _ _ (omega (arith, stop-within _ _ _ (c .before .before .before .before .expr-of .ensures) (c .before .before .e .given .1))))
 
 sub-known-path : tie.Need-sub-known-path
-sub-known-path c = omega (arith, stop-within (c .before .before .before .before .before .before .before .before .args .w .now) (c .before .before .before .before .expr-of .result) (c .before .before .e .given .0 .0) (c .before .before .before .before .expr-of .ensures) (c .before .before .e .given .1))
+sub-known-path c = omega (arith, stop-within _ _ _ (c .before .before .before .before .expr-of .ensures) (c .before .before .e .given .1))
 
 part-known-path-start : tie.Need-part-known-path-start
-part-known-path-start c = omega (arith, stop-within (c .before .before .before .before .before .before .before .before .args .w .now) (c .before .before .before .before .expr-of .result) (c .before .before .e .given .0 .0) (c .before .before .before .before .expr-of .ensures) (c .before .before .e .given .1))
+part-known-path-start c = omega (arith, stop-within _ _ _ (c .before .before .before .before .expr-of .ensures) (c .before .before .e .given .1))
 
 part-known-path-end : tie.Need-part-known-path-end
 part-known-path-end c = search needs
@@ -49,29 +48,21 @@ enum-told-4 c = search needs
 
 returns : tie.Need-returns
 unfolding knownExpr
-returns c =
-    let s = c .before .before .before .before .before .before .args in
-    ap (knownExpr (declarationsIn (s .text .now) (s .work .now) (s .c)) (variablesIn (s .text .now) (s .work .now) (s .c))) (sym (read-num (s .w .now) (c .before .before .expr-of .result) (c .before .before .before .before .before .before .pre .2) (c .before .before .expr-of .ensures) _ (c .enum-told .given .1)))
+returns c = rw (read-num _ _ (c .before .before .before .before .before .before .pre .2) (c .before .before .expr-of .ensures) _ (c .enum-told .given .1))
 
 returns-2 : tie.Need-returns-2
 unfolding knownExpr
-returns-2 c =
-    let s = c .before .before .before .before .before .before .args in
-    ap (knownExpr (declarationsIn (s .text .now) (s .work .now) (s .c)) (variablesIn (s .text .now) (s .work .now) (s .c))) (sym (read-null (s .w .now) (c .before .before .expr-of .result) (c .before .before .before .before .before .before .pre .2) (c .before .before .expr-of .ensures) (c .enum-told2 .given .1)))
+returns-2 c = rw (read-null _ _ (c .before .before .before .before .before .before .pre .2) (c .before .before .expr-of .ensures) (c .enum-told2 .given .1))
 
 returns-3 : tie.Need-returns-3
 unfolding knownExpr
-returns-3 c =
-    let s = c .before .before .before .before .before .before .before .args in
-    c .in-scope .ensures ∙ ap (knownExpr (declarationsIn (s .text .now) (s .work .now) (s .c)) (variablesIn (s .text .now) (s .work .now) (s .c))) (sym (read-var (s .w .now) (c .before .before .before .expr-of .result) (c .before .before .before .before .before .before .before .pre .2) (c .before .before .before .expr-of .ensures) (c .before .enum-told3 .given .1)))
+returns-3 c = rw (read-var _ _ (c .before .before .before .before .before .before .before .pre .2) (c .before .before .before .expr-of .ensures) (c .before .enum-told3 .given .1)) (c .in-scope .ensures)
 
 returns-4 : tie.Need-returns-4
-returns-4 c =
-    let s = c .before .before .before .before .before .before .before .before .before .before .args in
-    c .known-path .ensures ∙ ap (knownExpr (declarationsIn (s .text .now) (s .work .now) (s .c)) (variablesIn (s .text .now) (s .work .now) (s .c))) (sym (read-path (s .w .now) (c .before .before .before .before .before .before .expr-of .result) (c .before .before .before .before .before .before .before .before .before .before .pre .2) (c .before .before .before .before .before .before .expr-of .ensures) (c .before .before .before .before .e .given .0 .0) (c .before .before .before .before .e .given .1)))
+returns-4 c = rw (read-path _ _ (c .before .before .before .before .before .before .before .before .before .before .pre .2) (c .before .before .before .before .before .before .expr-of .ensures) _ (c .before .before .before .before .e .given .1)) (c .known-path .ensures)
 
 returns-5 : tie.Need-returns-5
-returns-5 c = read-none (c .before .before .before .before .before .before .args .w .now) (c .before .before .expr-of .result) (c .before .before .before .before .before .before .pre .2) (c .before .before .expr-of .ensures) (c .enum-told4 .given .1)
+returns-5 c = read-none _ _ (c .before .before .before .before .before .before .pre .2) (c .before .before .expr-of .ensures) (c .enum-told4 .given .1)
 
 pub known-expr-spec : {M : Type 1} → statement M
 known-expr-spec =

@@ -1,7 +1,6 @@
 use Rattle.declared.proofs.LookUps.{field-any}
 use Rattle.declared.proofs.known_field.Statement.{statement}
 use Rattle.declared.specs.Answers.{fieldKnown}
-use Rattle.declared.specs.Rows.{nameIn}
 use borrow.Author.Needs.{needs}
 use mathlib.Core.Path.{sym, _∙_}
 use Rattle.declared.proofs.known_field.Tie as tie
@@ -25,9 +24,7 @@ field-of-requires c κs = search needs
 
 returns-3 : tie.Need-returns-3
 unfolding fieldKnown
-returns-3 c =
-    let s = c .before .before .before .before .before .before .before .before .before .args in
-    rw (sym (c .before .before .before .before .before .is-reserved .ensures) ∙ c .before .before .before .before .if1 .left, sym (c .before .before .before .is-int .ensures) ∙ c .before .before .if2 .left, field-any (s .text .now) (s .work .now) (s .c) (nameIn (s .text .now) (s .class)) (s .f .now), c .before .field-of .ensures .0)
+returns-3 c = rw (sym (c .before .before .before .before .before .is-reserved .ensures) ∙ c .before .before .before .before .if1 .left, sym (c .before .before .before .is-int .ensures) ∙ c .before .before .if2 .left, field-any, c .before .field-of .ensures .0)
 
 pub known-field-spec : {M : Type 1} → statement M
 known-field-spec =

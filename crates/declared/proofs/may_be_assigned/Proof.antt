@@ -1,7 +1,6 @@
 use Rattle.declared.proofs.Operand.{the-type}
 use Rattle.declared.proofs.may_be_assigned.Statement.{statement}
 use Rattle.declared.specs.Answers.{operandMeant}
-use Rattle.declared.specs.Meanings.{variablesIn}
 use Rattle.declared.specs.declared.Operand.{Operand}
 use Rattle.rules.specs.Base.{Name}
 use Rattle.rules.specs.Names.{mayBeAssigned, isLocal}
@@ -36,9 +35,7 @@ others vs x Operand.Method k = refl
 others vs x Operand.Expression k = refl
 
 returns : tie.Need-returns
-returns c =
-    let s = c .before .before .before .before .args in
-    others (variablesIn (s .text .now) (s .work .now) (s .c)) (s .w .now) (s .o) (c .match .keys2)
+returns c = others _ _ _ (c .match .keys2)
 
 variable-requires : tie.Need-variable-requires
 variable-requires c κs = search needs

@@ -1,6 +1,5 @@
 use Rattle.declared.proofs.LookUps.{method-index}
 use Rattle.declared.proofs.method_number.Statement.{statement}
-use Rattle.declared.specs.Rows.{nameIn}
 use borrow.Author.Needs.{needs}
 use mathlib.Core.Path.{_∙_}
 use native.Mathlib.Omega.{arith}
@@ -16,9 +15,7 @@ find-requires : tie.Need-find-requires
 find-requires c κs = search needs
 
 returns : tie.Need-returns
-returns c =
-    let s = c .before .before .before .before .before .before .args in
-    (c .find .ensures .0 ∙ method-index (s .text .now) (s .work .now) (s .c) (nameIn (s .text .now) (s .class)) (c .before .class-number .result) (c .before .class-number .ensures .0 ∙ rw (c .before .before .name-in .ensures)) (omega (arith, c .before .class-number .ensures .1, c .before .before .before .before .before .before .pre .1 .classes)) (s .m .now), c .find .ensures .1)
+returns c = (c .find .ensures .0 ∙ method-index _ _ _ _ _ (c .before .class-number .ensures .0 ∙ rw (c .before .before .name-in .ensures)) (omega (arith, c .before .class-number .ensures .1, c .before .before .before .before .before .before .pre .1 .classes)) _, c .find .ensures .1)
 
 pub method-number-spec : {M : Type 1} → statement M
 method-number-spec =

@@ -17,9 +17,7 @@ part-result-end : tie.Need-part-result-end
 part-result-end c = search needs
 
 returns : tie.Need-returns
-returns c =
-    let s = c .before .before .args in
-    sym (ap (take (s .s .len)) (drop-of-length-le (s .text .now) {i = s .s .start} (c .before .if1 .taken)) ∙ take-nil (s .s .len))
+returns c = let s = c .before .before .args in sym (ap (take (s .s .len)) (drop-of-length-le (s .text .now) {i = s .s .start} (c .before .if1 .taken)) ∙ take-nil (s .s .len))
 
 sub-if2 : tie.Need-sub-if2
 sub-if2 c = search needs
@@ -34,9 +32,7 @@ part-result-end-2 : tie.Need-part-result-end-2
 part-result-end-2 c = search needs
 
 returns-2 : tie.Need-returns-2
-returns-2 c =
-    let s = c .before .before .before .args in
-    take-all (length (s .text .now) - (s .s .start)) (drop (s .s .start) (s .text .now)) (omega (arith, length-drop (s .s .start) (s .text .now))) ∙ sym (take-all (s .s .len) (drop (s .s .start) (s .text .now)) (omega (arith, length-drop (s .s .start) (s .text .now), c .before .if2 .taken)))
+returns-2 c = let s = c .before .before .before .args in take-all (length (s .text .now) - (s .s .start)) (drop (s .s .start) (s .text .now)) (omega (arith, length-drop (s .s .start) (s .text .now))) ∙ sym (take-all (s .s .len) (drop (s .s .start) (s .text .now)) (omega (arith, length-drop (s .s .start) (s .text .now), c .before .if2 .taken)))
 
 add-end : tie.Need-add-end
 add-end c = search needs
@@ -51,9 +47,7 @@ part-result-end-3 : tie.Need-part-result-end-3
 part-result-end-3 c = search needs
 
 returns-3 : tie.Need-returns-3
-returns-3 c =
-    let s = c .before .before .before .args in
-    let z : s .s .start + s .s .len - s .s .start ≡ s .s .len = omega arith in rw z
+returns-3 c = let s = c .before .before .before .args in let z : s .s .start + s .s .len - s .s .start ≡ s .s .len = omega arith in rw z
 
 pub name-in-spec : {M : Type 1} → statement M
 name-in-spec =

@@ -1,7 +1,6 @@
 use Rattle.declared.proofs.Operand.{the-type}
 use Rattle.declared.proofs.of_class.Statement.{statement}
 use Rattle.declared.specs.Answers.{operandMeant}
-use Rattle.declared.specs.Meanings.{variablesIn, declarationsIn}
 use Rattle.declared.specs.declared.Operand.{Operand}
 use Rattle.rules.specs.Base.{Name}
 use Rattle.rules.specs.Grammar.{isOperand}
@@ -64,9 +63,7 @@ unfolding ofClass operandMeant
 returns-3 c = rw (c .before .enum-told3 .given .1) (c .of-class-in .ensures)
 
 returns-4 : tie.Need-returns-4
-returns-4 c =
-    let s = c .before .before .before .before .before .args in
-    others (declarationsIn (s .text .now) (s .work .now) (s .c)) (variablesIn (s .text .now) (s .work .now) (s .c)) (s .v .now) (s .w .now) (s .o) (c .match .keys4)
+returns-4 c = others _ _ _ _ _ (c .match .keys4)
 
 pub of-class-spec : {M : Type 1} → statement M
 of-class-spec =

@@ -1,6 +1,5 @@
 use Rattle.declared.proofs.Exprs.{read-num, read-null, read-var, read-path, read-none, stop-within}
 use Rattle.declared.proofs.of_class_in.Statement.{statement}
-use Rattle.declared.specs.Meanings.{declarationsIn, variablesIn}
 use Rattle.leaves.proofs.Expr.{the-type}
 use Rattle.leaves.specs.Answers.{Reads}
 use Rattle.leaves.specs.declared.Expr.{Expr}
@@ -37,12 +36,10 @@ enum-known-e : tie.Need-enum-known-e
 enum-known-e c = search needs
 
 returns : tie.Need-returns
-returns c =
-    let s = c .before .before .before .before .before .args in
-    others (declarationsIn (s .text .now) (s .work .now) (s .c)) (variablesIn (s .text .now) (s .work .now) (s .c)) (s .w .now) (c .before .expr-of .result) (c .before .before .before .before .before .pre .2) (c .before .expr-of .ensures) (c .match .keys2)
+returns c = others _ _ _ _ (c .before .before .before .before .before .pre .2) (c .before .expr-of .ensures) (c .match .keys2)
 
 slice-aggregate-variable-type : tie.Need-slice-aggregate-variable-type
-slice-aggregate-variable-type c = sym (length-take-le (c .before .before .e .given .0 .0) (c .before .before .before .before .before .before .before .before .args .w .now) (omega (arith, stop-within (c .before .before .before .before .before .before .before .before .args .w .now) (c .before .before .before .before .expr-of .result) (c .before .before .e .given .0 .0) (c .before .before .before .before .expr-of .ensures) (c .before .before .e .given .1))))
+slice-aggregate-variable-type c = sym (length-take-le _ _ (omega (arith, stop-within _ _ _ (c .before .before .before .before .expr-of .ensures) (c .before .before .e .given .1))))
 
 variable-type-requires : tie.Need-variable-type-requires
 variable-type-requires c κs = search needs
@@ -52,9 +49,7 @@ is-int-requires c κs = search needs
 
 returns-2 : tie.Need-returns-2
 unfolding ofClassIn isInt
-returns-2 c =
-    let s = c .before .before .before .before .before .before .before .before .before .before .args in
-    rw (c .is-int .ensures, c .before .variable-type .ensures) (ap (ofClassIn (declarationsIn (s .text .now) (s .work .now) (s .c)) (variablesIn (s .text .now) (s .work .now) (s .c))) (sym (read-path (s .w .now) (c .before .before .before .before .before .before .expr-of .result) (c .before .before .before .before .before .before .before .before .before .before .pre .2) (c .before .before .before .before .before .before .expr-of .ensures) (c .before .before .before .before .e .given .0 .0) (c .before .before .before .before .e .given .1))))
+returns-2 c = rw (read-path _ _ (c .before .before .before .before .before .before .before .before .before .before .pre .2) (c .before .before .before .before .before .before .expr-of .ensures) _ (c .before .before .before .before .e .given .1), c .is-int .ensures, c .before .variable-type .ensures)
 
 pub of-class-in-spec : {M : Type 1} → statement M
 of-class-in-spec =

@@ -17,14 +17,10 @@ add-result : tie.Need-add-result
 add-result c = search needs
 
 returns : tie.Need-returns
-returns c =
-    let s = c .before .before .before .before .before .args in
-    own-found (s .text .now) (s .work .now) (s .from) (s .n) (s .result) (s .x .now) (c .before .find .result) (c .before .find .ensures .0) (c .if1 .taken) (c .before .before .before .before .before .pre .1)
+returns c = own-found _ _ _ _ _ _ _ (c .before .find .ensures .0) (c .if1 .taken) (c .before .before .before .before .before .pre .1)
 
 returns-2 : tie.Need-returns-2
-returns-2 c =
-    let s = c .before .before .before .before .before .before .args in
-    own-none (s .text .now) (s .work .now) (s .from) (s .n) (s .result) (s .x .now) (omega (arith, c .before .before .find .ensures .0, c .before .if1 .left)) (not-true _ (c .if2 .taken))
+returns-2 c = own-none _ _ _ _ _ _ (omega (arith, c .before .before .find .ensures .0, c .before .if1 .left)) (not-true _ (c .if2 .taken))
 
 slice-aggregate-same : tie.Need-slice-aggregate-same
 slice-aggregate-same c = search needs
@@ -34,15 +30,11 @@ same-requires c κs = search needs
 
 returns-3 : tie.Need-returns-3
 unfolding bytes
-returns-3 c =
-    let s = c .before .before .before .before .before .before .before .before .before .args in
-    own-result (s .text .now) (s .work .now) (s .from) (s .n) (s .result) (s .x .now) (omega (arith, c .before .before .before .before .before .find .ensures .0, c .before .before .before .before .if1 .left)) (not-false _ (c .before .before .before .if2 .left)) (sym (c .before .same .ensures) ∙ c .if3 .taken)
+returns-3 c = own-result _ _ _ _ _ _ (omega (arith, c .before .before .before .before .before .find .ensures .0, c .before .before .before .before .if1 .left)) (not-false _ (c .before .before .before .if2 .left)) (sym (c .before .same .ensures) ∙ c .if3 .taken)
 
 returns-4 : tie.Need-returns-4
 unfolding bytes
-returns-4 c =
-    let s = c .before .before .before .before .before .before .before .before .before .args in
-    own-other (s .text .now) (s .work .now) (s .from) (s .n) (s .result) (s .x .now) (omega (arith, c .before .before .before .before .before .find .ensures .0, c .before .before .before .before .if1 .left)) (not-false _ (c .before .before .before .if2 .left)) (sym (c .before .same .ensures) ∙ c .if3 .left)
+returns-4 c = own-other _ _ _ _ _ _ (omega (arith, c .before .before .before .before .before .find .ensures .0, c .before .before .before .before .if1 .left)) (not-false _ (c .before .before .before .if2 .left)) (sym (c .before .same .ensures) ∙ c .if3 .left)
 
 pub own-variable-spec : {M : Type 1} → statement M
 own-variable-spec =

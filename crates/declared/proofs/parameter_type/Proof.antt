@@ -15,17 +15,13 @@ takes-at-requires c κs = search needs
 
 returns : tie.Need-returns
 unfolding asMethod entryAt
-returns c =
-    let s = c .before .before .before .before .args in
-    λ t. ap (nameIn t) (c .takes-at .ensures) ∙ sym (ap (λ (d : MethodDeclaration). d .parameterType) (method-at t (s .work .now) (s .c) (s .i) (c .before .if1 .taken)))
+returns c = λ t. ap (nameIn t) (c .takes-at .ensures) ∙ sym (ap (λ (d : MethodDeclaration). d .parameterType) (method-at _ _ _ _ (c .before .if1 .taken)))
 
 no-span-requires : tie.Need-no-span-requires
 no-span-requires c κs = search needs
 
 returns-2 : tie.Need-returns-2
-returns-2 c =
-    let s = c .before .before .before .before .args in
-    λ t. ap (nameIn t) (c .no-span .ensures) ∙ sym (ap (λ (d : MethodDeclaration). d .parameterType) (method-past t (s .work .now) (s .c) (s .i) (c .before .if1 .left)))
+returns-2 c = λ t. ap (nameIn t) (c .no-span .ensures) ∙ sym (ap (λ (d : MethodDeclaration). d .parameterType) (method-past _ _ _ _ (c .before .if1 .left)))
 
 pub parameter-type-spec : {M : Type 1} → statement M
 parameter-type-spec =

@@ -1,11 +1,10 @@
 use Rattle.declared.proofs.Exprs.{read-num, read-null, read-var, read-path, read-none, stop-within}
 use Rattle.declared.proofs.resolve_expr.Statement.{statement}
-use Rattle.declared.specs.Meanings.{declarationsIn, variablesIn}
 use Rattle.rules.specs.Items.{resolveExpr}
 use Rattle.tables.specs.Stores.{meaning}
 use borrow.Author.Needs.{needs}
 use lib.Seq.{length-take-le}
-use mathlib.Core.Path.{sym, ap, _∙_}
+use mathlib.Core.Path.{sym, ap}
 use native.Mathlib.Omega.{arith}
 use Rattle.rules.specs.Syntax as Syntax
 use Rattle.declared.proofs.resolve_expr.Tie as tie
@@ -29,16 +28,16 @@ enum-known-e-2 : tie.Need-enum-known-e-2
 enum-known-e-2 c = search needs
 
 add-f : tie.Need-add-f
-add-f c = omega (arith, stop-within (c .before .before .before .before .before .before .before .args .w .now) (c .before .before .before .expr-of .result) (c .before .e2 .given .0 .0) (c .before .before .before .expr-of .ensures) (c .before .e2 .given .1))
+add-f c = omega (arith, stop-within _ _ _ (c .before .before .before .expr-of .ensures) (c .before .e2 .given .1))
 
 slice-aggregate-resolve-path : tie.Need-slice-aggregate-resolve-path
-slice-aggregate-resolve-path c = sym (length-take-le (c .before .before .e2 .given .0 .0) (c .before .before .before .before .before .before .before .before .args .w .now) (omega (arith, stop-within (c .before .before .before .before .before .before .before .before .args .w .now) (c .before .before .before .before .expr-of .result) (c .before .before .e2 .given .0 .0) (c .before .before .before .before .expr-of .ensures) (c .before .before .e2 .given .1))))
+slice-aggregate-resolve-path c = sym (length-take-le _ _ (omega (arith, stop-within _ _ _ (c .before .before .before .before .expr-of .ensures) (c .before .before .e2 .given .1))))
 
 sub-resolve-path : tie.Need-sub-resolve-path
-sub-resolve-path c = omega (arith, stop-within (c .before .before .before .before .before .before .before .before .args .w .now) (c .before .before .before .before .expr-of .result) (c .before .before .e2 .given .0 .0) (c .before .before .before .before .expr-of .ensures) (c .before .before .e2 .given .1))
+sub-resolve-path c = omega (arith, stop-within _ _ _ (c .before .before .before .before .expr-of .ensures) (c .before .before .e2 .given .1))
 
 part-resolve-path-start : tie.Need-part-resolve-path-start
-part-resolve-path-start c = omega (arith, stop-within (c .before .before .before .before .before .before .before .before .args .w .now) (c .before .before .before .before .expr-of .result) (c .before .before .e2 .given .0 .0) (c .before .before .before .before .expr-of .ensures) (c .before .before .e2 .given .1))
+part-resolve-path-start c = omega (arith, stop-within _ _ _ (c .before .before .before .before .expr-of .ensures) (c .before .before .e2 .given .1))
 
 part-resolve-path-end : tie.Need-part-resolve-path-end
 part-resolve-path-end c = search needs
@@ -51,29 +50,21 @@ enum-told-3 c = search needs
 
 returns : tie.Need-returns
 unfolding resolveExpr meaning
-returns c =
-    let s = c .before .before .before .before .before .before .before .args in
-    ap (resolveExpr (declarationsIn (s .text .now) (s .work .now) (s .c)) (variablesIn (s .text .now) (s .work .now) (s .c))) (sym (read-num (s .w .now) (c .before .before .before .expr-of .result) (c .before .before .before .before .before .before .before .pre .2) (c .before .before .before .expr-of .ensures) (c .before .e .given .0 .0) (c .before .e .given .1)))
+returns c = rw (read-num _ _ (c .before .before .before .before .before .before .before .pre .2) (c .before .before .before .expr-of .ensures) _ (c .before .e .given .1))
 
 returns-2 : tie.Need-returns-2
 unfolding resolveExpr meaning
-returns-2 c =
-    let s = c .before .before .before .before .before .before .args in
-    ap (resolveExpr (declarationsIn (s .text .now) (s .work .now) (s .c)) (variablesIn (s .text .now) (s .work .now) (s .c))) (sym (read-null (s .w .now) (c .before .before .expr-of .result) (c .before .before .before .before .before .before .pre .2) (c .before .before .expr-of .ensures) (c .enum-told .given .1)))
+returns-2 c = rw (read-null _ _ (c .before .before .before .before .before .before .pre .2) (c .before .before .expr-of .ensures) (c .enum-told .given .1))
 
 returns-3 : tie.Need-returns-3
 unfolding resolveExpr meaning
-returns-3 c =
-    let s = c .before .before .before .before .before .before .before .args in
-    ap Syntax.var (c .variable .ensures .number) ∙ ap (resolveExpr (declarationsIn (s .text .now) (s .work .now) (s .c)) (variablesIn (s .text .now) (s .work .now) (s .c))) (sym (read-var (s .w .now) (c .before .before .before .expr-of .result) (c .before .before .before .before .before .before .before .pre .2) (c .before .before .before .expr-of .ensures) (c .before .enum-told2 .given .1)))
+returns-3 c = rw (read-var _ _ (c .before .before .before .before .before .before .before .pre .2) (c .before .before .before .expr-of .ensures) (c .before .enum-told2 .given .1)) (ap Syntax.var (c .variable .ensures .number))
 
 returns-4 : tie.Need-returns-4
-returns-4 c =
-    let s = c .before .before .before .before .before .before .before .before .before .before .args in
-    c .resolve-path .ensures ∙ ap (resolveExpr (declarationsIn (s .text .now) (s .work .now) (s .c)) (variablesIn (s .text .now) (s .work .now) (s .c))) (sym (read-path (s .w .now) (c .before .before .before .before .before .before .expr-of .result) (c .before .before .before .before .before .before .before .before .before .before .pre .2) (c .before .before .before .before .before .before .expr-of .ensures) (c .before .before .before .before .e2 .given .0 .0) (c .before .before .before .before .e2 .given .1)))
+returns-4 c = rw (read-path _ _ (c .before .before .before .before .before .before .before .before .before .before .pre .2) (c .before .before .before .before .before .before .expr-of .ensures) _ (c .before .before .before .before .e2 .given .1)) (c .resolve-path .ensures)
 
 returns-5 : tie.Need-returns-5
-returns-5 c = read-none (c .before .before .before .before .before .before .args .w .now) (c .before .before .expr-of .result) (c .before .before .before .before .before .before .pre .2) (c .before .before .expr-of .ensures) (c .enum-told3 .given .1)
+returns-5 c = read-none _ _ (c .before .before .before .before .before .before .pre .2) (c .before .before .expr-of .ensures) (c .enum-told3 .given .1)
 
 pub resolve-expr-spec : {M : Type 1} → statement M
 resolve-expr-spec =

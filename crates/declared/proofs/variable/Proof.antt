@@ -1,7 +1,7 @@
 use Rattle.declared.proofs.LookUps.{looked-this, looked-on}
 use Rattle.declared.proofs.variable.Statement.{statement}
 use Rattle.declared.specs.Answers.{ownIn}
-use Rattle.declared.specs.Meanings.{variablesIn, blockIn, ownVariables, thisIn}
+use Rattle.declared.specs.Meanings.{variablesIn, blockIn, ownVariables}
 use Rattle.rules.specs.Base.{bytes}
 use borrow.Author.Needs.{needs}
 use borrow.Author.Tests.{not-true, not-false}
@@ -24,9 +24,7 @@ same-requires c κs = search needs
 
 returns-2 : tie.Need-returns-2
 unfolding variablesIn blockIn ownVariables bytes
-returns-2 c =
-    let s = c .before .before .before .before .before .before .before .before .args in
-    rw (not-false (s .c .method) (c .before .before .before .if1 .left)) (looked-this (s .text .now) (s .work .now) _ (s .x .now) (sym (c .before .same .ensures) ∙ c .if2 .taken))
+returns-2 c = rw (not-false (c .before .before .before .before .before .before .before .before .args .c .method) (c .before .before .before .if1 .left)) (looked-this _ _ _ _ (sym (c .before .same .ensures) ∙ c .if2 .taken))
 
 add-own-variable : tie.Need-add-own-variable
 add-own-variable c = search needs
@@ -36,9 +34,7 @@ own-variable-requires-2 c κs = search needs
 
 returns-3 : tie.Need-returns-3
 unfolding variablesIn blockIn ownVariables ownIn bytes
-returns-3 c =
-    let s = c .before .before .before .before .before .before .before .before .before .args in
-    rw (not-false (s .c .method) (c .before .before .before .before .if1 .left)) (looked-on (s .text .now) (s .work .now) _ (s .x .now) (thisIn (s .text .now) (s .work .now)) (c .own-variable2 .result) (sym (c .before .before .same .ensures) ∙ c .before .if2 .left) (rw (← add-one (s .c .locals)) (c .own-variable2 .ensures)))
+returns-3 c = rw (not-false (c .before .before .before .before .before .before .before .before .before .args .c .method) (c .before .before .before .before .if1 .left)) (looked-on _ _ _ _ _ _ (sym (c .before .before .same .ensures) ∙ c .before .if2 .left) (rw (← add-one (c .before .before .before .before .before .before .before .before .before .args .c .locals)) (c .own-variable2 .ensures)))
 
 pub variable-spec : {M : Type 1} → statement M
 variable-spec =

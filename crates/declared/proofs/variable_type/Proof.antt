@@ -11,7 +11,7 @@ type-of-requires : tie.Need-type-of-requires
 type-of-requires c κs = search needs
 
 returns : tie.Need-returns
-returns c = ap (nameIn (c .before .before .before .before .before .args .text .now)) (c .type-of .ensures) ∙ sym (c .before .variable .ensures .type)
+returns c = ap (nameIn _) (c .type-of .ensures) ∙ sym (c .before .variable .ensures .type)
 
 pub variable-type-spec : {M : Type 1} → statement M
 variable-type-spec = tie.close (tie.spec variable-requires type-of-requires returns)
