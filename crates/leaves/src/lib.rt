@@ -1,11 +1,13 @@
 ghost use mathlib.Core.Path.{_≡_};
-ghost use mathlib.Core.Bool.{Bool, true, false, _&&_};
+ghost use mathlib.Core.Bool.{Bool, true, false, _&&_, _||_};
+ghost use lib.Dec.{leb};
 ghost use Prim.Native.Nat.{_≤_, _<_};
 ghost use lib.ListN.{length, getD};
 ghost use Rattle.rules.specs.Base.{between, eqName, is, all, withDefault};
 ghost use Rattle.rules.specs.Text.{allowed, letter, digit, letterOrDigit, isName, reserved, isDigits, isNumber, decimal, numeral, isExpr, isAtom};
 ghost use Rattle.rules.specs.Grammar.{kindOf};
 ghost use Rattle.leaves.specs.Sets.{inSet, Found};
+ghost use Rattle.leaves.specs.Fields.{NameEnd};
 ghost use Rattle.leaves.specs.Words.{wordNumber, kindOr0, packed};
 ghost use Rattle.leaves.specs.Answers.{beginsName, leadingZero, capped, bitsOf, naturalIn, negativeIn, numberIn, exprIn, Reads, stopOr};
 
@@ -245,6 +247,32 @@ pub fn is_name(w: &[u8]) -> bool
         return find(w, 0, Set::NotLetterOrDigit) == w.len();
     }
     false
+}
+
+// Does the field that a byte may end, end here?
+fn ends_field(l: &[u8], e: usize) -> bool
+    ensures { λ r. ⌜ r ≡ (leb (length (now (l .entry))) e || inSet Set.FieldEnd (getD (now (l .entry)) e 0)) ⌝ }
+{
+    if e < l.len() {
+        return in_set(l[e], Set::FieldEnd);
+    }
+    true
+}
+
+// The end of the field that starts at `at`, if that field is a name; else `at`. One scan finds both.
+pub fn name_end(l: &[u8], at: usize) -> usize
+    requires { ⌜ at ≤ length (now l) ⌝ }
+    ensures { λ r. ⌜ NameEnd (now (l .entry)) at r ⌝ }
+{
+    let e = find(l, at, Set::NotLetterOrDigit);
+    if !ends_field(l, e) {
+        return at;
+    }
+    let n = e - at;
+    if begins_name(&l[at..], n) {
+        return e;
+    }
+    at
 }
 
 // NUMBERS
