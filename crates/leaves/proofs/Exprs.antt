@@ -1,15 +1,15 @@
 -- Laws of names and expressions: what one search for the first byte that is no letter or digit says of a field.
 use mathlib.Core.Path.{_≡_, refl, sym, ap, _∙_}
 use mathlib.Core.Bool.{Bool, true, false, not, cond, _&&_, _||_}
-use mathlib.Core.List.{List, [], _∷_}
-use mathlib.Core.Option.{Option, none, some}
+use mathlib.Core.List.{[], _∷_}
+use mathlib.Core.Option.{none, some}
 use Prim.Native.Nat.{ℕ, zero, suc, _+_, _-_, _≤_, _<_}
 use native.Mathlib.Omega.{arith}
 use native.Mathlib.Decide.{decLt}
 use lib.Dec.{eqb, leb, ltb}
 use lib.ListN.{length, getD, take, drop, length-drop}
 use lib.Seq.{getD-take, getD-drop, length-take-le}
-use borrow.Author.Tests.{eqb-true, eqb-false, leb-false, le-leb, lt-leb, lt-ltb, le-ltb, ltb-true, eq-eqb, ne-eqb, not-true, not-false}
+use borrow.Author.Tests.{eqb-true, leb-false, lt-leb, lt-ltb, le-ltb, ltb-true, eq-eqb, ne-eqb, not-true, not-false}
 use Rattle.rules.specs.Base as Base
 use Rattle.rules.specs.Base.{Name, all, is}
 use Rattle.rules.specs.Text as Text
@@ -18,9 +18,9 @@ use Rattle.rules.specs.Syntax as Syntax
 use Rattle.rules.specs.Syntax.{num, null, var, path}
 use Rattle.leaves.specs.declared.Set.the-variants.{FieldEnd}
 use Rattle.leaves.specs.Sets.{inSet}
-use Rattle.leaves.specs.Fields.{fieldLength, firstField}
+use Rattle.leaves.specs.Fields.{fieldLength, firstField, NameEnd}
 use Rattle.leaves.specs.Answers.{beginsName, whenTrue, numberIn, exprIn}
-use Rattle.leaves.proofs.Search.{true-false, both-true, and-false, or-false, upTo-within, upTo-found, upTo-passed, smaller-end, smaller-here, smaller-later, all-upTo, all-at, all-of, not-all, rest-part}
+use Rattle.leaves.proofs.Search.{true-false, and-false, or-false, upTo-within, upTo-found, upTo-passed, smaller-end, smaller-here, smaller-later, all-upTo, all-of, not-all, rest-part}
 use Rattle.leaves.proofs.Numbers.{when-some, when-none}
 
 -- NAMES
@@ -216,3 +216,23 @@ module _ (l : Name) (at e : ℕ) (h : at ≤ length l) (is : e ≡ at + upTo oth
   no-name-at t =
       let r = or-false (leb (length l) e) (inSet FieldEnd (getD l e 0)) t in
       not-ended (drop at l) (omega (arith, length-drop at l, is, leb-false (length l) e (r .0))) (rw (← byte-there) (r .1))
+
+-- what `name_end` tells: a name has a byte, so its end is not its start
+no-bytes : isName [] ≡ false
+unfolding isName Text.opened Base.opened
+no-bytes = refl
+
+named-case :
+    (q : Bool) (t : Name) (at r : ℕ) → isName (firstField t) ≡ q → r ≡ cond q (at + fieldLength t) at →
+    (r ≡ at → isName (firstField t) ≡ false) × ((r ≡ at → ⊥) → (isName (firstField t) ≡ true) × (r ≡ at + fieldLength t))
+unfolding firstField
+named-case true t at r e h =
+    (λ z. let k : fieldLength t ≡ 0 = omega (arith, h, z) in ap (λ n. isName (take n t)) k ∙ no-bytes, λ z. (e, h))
+named-case false t at r e h = (λ z. e, λ z. absurd (z h))
+
+module _ (l : Name) (at r : ℕ) (n : NameEnd l at r) where
+  pub unnamed : r ≡ at → isName (firstField (drop at l)) ≡ false
+  unnamed = named-case (isName (firstField (drop at l))) (drop at l) at r refl (n .is) .0
+
+  pub named : (r ≡ at → ⊥) → (isName (firstField (drop at l)) ≡ true) × (r ≡ at + fieldLength (drop at l))
+  named = named-case (isName (firstField (drop at l))) (drop at l) at r refl (n .is) .1

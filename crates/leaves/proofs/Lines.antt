@@ -1,21 +1,20 @@
 -- Laws of lines and fields: each is what a search finds, and the rest follows after its end.
-use mathlib.Core.Path.{_≡_, refl, sym, ap, _∙_}
-use mathlib.Core.Bool.{Bool, true, false, not, cond, _&&_, _||_}
-use mathlib.Core.List.{List, [], _∷_}
-use mathlib.Core.Logic.{⊎-elim}
-use Prim.Native.Nat.{ℕ, zero, suc, _+_, _-_, _≤_, _<_}
+use mathlib.Core.Path.{_≡_, refl, ap, _∙_}
+use mathlib.Core.Bool.{Bool, true, false, not, cond, _||_}
+use mathlib.Core.List.{[], _∷_}
+use Prim.Native.Nat.{ℕ, suc, _-_, _<_}
 use native.Mathlib.Omega.{arith}
 use native.Mathlib.Decide.{decLt}
 use lib.Dec.{eqb}
-use lib.ListN.{length, getD, take, drop, length-take, List·getD-eq-default}
+use lib.ListN.{length, getD, take, drop, length-take}
 use lib.Seq.{getD-take, length-take-le, take-all}
-use borrow.Author.Tests.{eqb-true, eqb-false, eq-eqb, ne-eqb, not-true, not-false}
+use borrow.Author.Tests.{eqb-true, eq-eqb, ne-eqb, not-true, not-false}
 use Rattle.rules.specs.Base.{Name, all}
-use Rattle.rules.specs.Text.{upTo, onto, lines, allowed, clean, fields, letterOrDigit, isName}
+use Rattle.rules.specs.Text.{upTo, onto, lines, allowed, clean, fields}
 use Rattle.leaves.specs.declared.Set.the-variants.{LineEnd, FieldEnd}
 use Rattle.leaves.specs.Sets.{inSet}
 use Rattle.leaves.specs.Fields.{lineLength, firstLine, fieldLength, firstField}
-use Rattle.leaves.proofs.Search.{true-false, and-false, or-false, upTo-within, upTo-found, upTo-passed, smaller-end, smaller-here, smaller-later, all-of, not-all}
+use Rattle.leaves.proofs.Search.{and-false, or-false, upTo-within, upTo-found, upTo-passed, smaller-end, smaller-here, smaller-later, all-of, not-all}
 
 -- FIELDS
 
