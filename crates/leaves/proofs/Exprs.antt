@@ -1,23 +1,26 @@
 -- Laws of names and expressions: what one search for the first byte that is no letter or digit says of a field.
 use mathlib.Core.Path.{_≡_, refl, sym, ap, _∙_}
 use mathlib.Core.Bool.{Bool, true, false, not, cond, _&&_, _||_}
-use mathlib.Core.List.{List, [], _∷_}
-use mathlib.Core.Option.{Option, none, some}
+use mathlib.Core.List.{[], _∷_}
+use mathlib.Core.Option.{none, some}
 use Prim.Native.Nat.{ℕ, zero, suc, _+_, _-_, _≤_, _<_}
 use native.Mathlib.Omega.{arith}
 use native.Mathlib.Decide.{decLt}
 use lib.Dec.{eqb, leb, ltb}
-use lib.ListN.{length, getD, take, drop, length-take}
-use lib.Seq.{getD-take, length-take-le}
-use borrow.Author.Tests.{eqb-true, eqb-false, le-leb, lt-leb, lt-ltb, le-ltb, ltb-true, eq-eqb, ne-eqb, not-true, not-false}
+use lib.ListN.{length, getD, take, drop, length-drop}
+use lib.Seq.{getD-take, getD-drop, length-take-le}
+use borrow.Author.Tests.{eqb-true, leb-false, lt-leb, lt-ltb, le-ltb, ltb-true, eq-eqb, ne-eqb, not-true, not-false}
 use Rattle.rules.specs.Base as Base
 use Rattle.rules.specs.Base.{Name, all, is}
 use Rattle.rules.specs.Text as Text
-use Rattle.rules.specs.Text.{letter, letterOrDigit, upTo, isName, stopIn, hasStop, beforeStop, afterStop, numeral, isNumber, number, isExpr, exprOf}
+use Rattle.rules.specs.Text.{letter, digit, letterOrDigit, upTo, isName, stopIn, hasStop, beforeStop, afterStop, numeral, isNumber, number, isExpr, exprOf}
 use Rattle.rules.specs.Syntax as Syntax
 use Rattle.rules.specs.Syntax.{num, null, var, path}
+use Rattle.leaves.specs.declared.Set.the-variants.{FieldEnd}
+use Rattle.leaves.specs.Sets.{inSet}
+use Rattle.leaves.specs.Fields.{fieldLength, firstField, NameEnd}
 use Rattle.leaves.specs.Answers.{beginsName, whenTrue, numberIn, exprIn}
-use Rattle.leaves.proofs.Search.{true-false, both-true, and-false, upTo-within, upTo-found, upTo-passed, upTo-is, all-upTo, all-at, all-of, not-all}
+use Rattle.leaves.proofs.Search.{true-false, and-false, or-false, upTo-within, upTo-found, upTo-passed, smaller-end, smaller-here, smaller-later, all-upTo, all-of, not-all, rest-part}
 use Rattle.leaves.proofs.Numbers.{when-some, when-none}
 
 -- NAMES
@@ -58,6 +61,30 @@ expr-none w h = when-none (isExpr w) (exprOf w) h
 abbrev other : ℕ → Bool
 other b = not (letterOrDigit b)
 
+other-first : (w : Name) → upTo other w ≡ 0 → letter (getD w 0 0) ≡ false
+unfolding Text.opened Base.opened
+other-first [] e = refl
+other-first (b ∷ w) e =
+    let t : other (getD (b ∷ w) (upTo other (b ∷ w)) 0) ≡ true = upTo-found other (b ∷ w) (omega (arith, e)) in
+    let f : other b ≡ true = ap (λ k. other (getD (b ∷ w) k 0)) (sym e) ∙ t in
+    or-false (letter b) (digit b) (not-true (letterOrDigit b) f) .0
+
+no-letter : letter 0 ≡ false
+unfolding Text.opened Base.opened
+no-letter = refl
+
+begins-same : (w : Name) (d : ℕ) → d ≡ upTo other w → beginsName d (take d w) ≡ beginsName d w
+unfolding beginsName
+begins-same w zero e = rw (other-first w (sym e)) no-letter
+begins-same w (suc d) e = rw (getD-take (suc d) w 0 0 (omega arith))
+
+-- the letters and digits that a field begins with are a name where they begin as one
+pub name-upTo : (w : Name) (d : ℕ) → d ≡ upTo other w → isName (take d w) ≡ beginsName d w
+name-upTo w d e =
+    let l : length (take d w) ≡ d = length-take-le d w (omega (arith, e, upTo-within other w)) in
+    let a : all letterOrDigit (take d w) ≡ true = all-of letterOrDigit (take d w) (λ k m. let q : k < d = omega arith in rw (getD-take d w k 0 q) (not-false (letterOrDigit (getD w k 0)) (upTo-passed other w k (omega (arith, e))))) in
+    name-begins (take d w) ∙ rw (a, l) (and-true (beginsName d (take d w)) ∙ begins-same w d e)
+
 -- a full stop is no letter or digit
 stop-other : (b : ℕ) → other b ≡ false → eqb b 46 ≡ false
 unfolding Text.opened Base.opened
@@ -67,8 +94,7 @@ stop-other b e = ne-eqb b 46 (λ z. true-false (sym (ap other z) ∙ e))
 module _ (w : Name) (a : all letterOrDigit w ≡ true) where
   pub no-stop : stopIn w ≡ length w
   unfolding stopIn
-  no-stop =
-      upTo-is (λ b. eqb b 46) w (length w) (omega arith) (λ k h. stop-other (getD w k 0) (ap not (all-at letterOrDigit w k a h))) (λ h. absurd (omega arith))
+  no-stop = smaller-end other (λ b. eqb b 46) stop-other w (eqb-true _ _ (sym (all-upTo letterOrDigit w) ∙ a))
 
   whole-form : numeral w ≡ false → isExpr w ≡ beginsName (length w) w
   unfolding isExpr hasStop
@@ -92,22 +118,15 @@ module _ (w : Name) (d : ℕ) (h : d < length w) (e : d ≡ 0 + upTo other w) wh
   at-d : d ≡ upTo other w
   at-d = omega (arith, e)
 
-  passed : (k : ℕ) → k < d → letterOrDigit (getD w k 0) ≡ true
-  passed k l = not-false _ (upTo-passed other w k (omega (arith, e)))
-
   here : letterOrDigit (getD w d 0) ≡ false
   here = let t : other (getD w d 0) ≡ true = rw at-d (upTo-found other w (omega (arith, e))) in not-true (letterOrDigit (getD w d 0)) t
 
   -- no full stop there: it is passed by, if there is one
   later : (getD w d 0 ≡ 46 → ⊥) → d < stopIn w
   unfolding stopIn
-  later s = elim (decLt d (stopIn w)) [
-    | yes q ↦ q
-    | no q ↦ (let f = upTo-found (λ b. eqb b 46) w (omega arith) in elim (decLt (stopIn w) d) [
-      | yes r ↦ true-false (sym f ∙ stop-other (getD w (stopIn w) 0) (ap not (passed (stopIn w) r)))
-      | no r ↦ absurd (s (let z : d ≡ stopIn w = omega arith in rw z (eqb-true _ _ f)))
-    ])
-  ]
+  later s =
+      let z : eqb (getD w (upTo other w) 0) 46 ≡ false = rw (← at-d) (ne-eqb (getD w d 0) 46 s) in
+      omega (arith, at-d, smaller-later other (λ b. eqb b 46) stop-other w (omega (arith, at-d)) z)
 
   pub sign-bad : numeral w ≡ false → (getD w d 0 ≡ 46 → ⊥) → none ≡ exprIn w
   unfolding exprIn isExpr hasStop beforeStop
@@ -126,22 +145,12 @@ module _ (w : Name) (d : ℕ) (h : d < length w) (e : d ≡ 0 + upTo other w) wh
     pub stop-here : stopIn w ≡ d
     unfolding stopIn
     stop-here =
-        upTo-is (λ b. eqb b 46) w d (omega arith) (λ k l. stop-other (getD w k 0) (ap not (passed k l))) (λ l. eq-eqb (getD w d 0) 46 s)
-
-    begins-same : (k : ℕ) → k ≡ d → beginsName k (take k w) ≡ beginsName k w
-    unfolding beginsName Text.opened Base.opened
-    begins-same zero e = let z : getD w 0 0 ≡ 46 = ap (λ k. getD w k 0) e ∙ s in rw z
-    begins-same (suc k) e = rw (getD-take (suc k) w 0 0 (omega arith))
-
-    name-before : isName (take d w) ≡ beginsName d w
-    name-before =
-        let l : length (take d w) ≡ d = length-take-le d w (omega arith) in
-        let a : all letterOrDigit (take d w) ≡ true = all-of letterOrDigit (take d w) (λ k m. let q : k < d = omega arith in rw (getD-take d w k 0 q) (passed k q)) in
-        name-begins (take d w) ∙ rw (a, l) (and-true (beginsName d (take d w)) ∙ begins-same d refl)
+        let z : eqb (getD w (upTo other w) 0) 46 ≡ true = rw (← at-d) (eq-eqb (getD w d 0) 46 s) in
+        smaller-here other (λ b. eqb b 46) stop-other w (omega (arith, at-d)) z ∙ sym at-d
 
     path-form : numeral w ≡ false → isExpr w ≡ (beginsName d w && isName (drop (suc d) w))
     unfolding isExpr hasStop beforeStop afterStop
-    path-form n = rw (n, stop-here, lt-ltb d (length w) h, name-before)
+    path-form n = rw (n, stop-here, lt-ltb d (length w) h, name-upTo w d at-d)
 
     pub path-no-variable : numeral w ≡ false → beginsName d w ≡ false → none ≡ exprIn w
     unfolding exprIn
@@ -154,3 +163,76 @@ module _ (w : Name) (d : ℕ) (h : d < length w) (e : d ≡ 0 + upTo other w) wh
     pub path-is : numeral w ≡ false → beginsName d w ≡ true → isName (drop (suc d) w) ≡ true → some (path (take d w) (drop (suc d) w)) ≡ exprIn w
     unfolding exprIn exprOf hasStop beforeStop afterStop
     path-is n a b = rw (path-form n, a, b, n, stop-here, lt-ltb d (length w) h)
+
+-- A NAME AS A FIELD OF A LINE
+
+-- tab and LF are no letters or digits
+end-other : (b : ℕ) → other b ≡ false → inSet FieldEnd b ≡ false
+unfolding Text.opened Base.opened
+end-other b e = rw (ne-eqb b 9 (λ z. true-false (sym (ap other z) ∙ e))) (ne-eqb b 10 (λ z. true-false (sym (ap other z) ∙ e)))
+
+module _ (l : Name) where
+  -- the first byte that is no letter or digit ends the field: it is the field's end
+  pub ended-length : upTo other l < length l → inSet FieldEnd (getD l (upTo other l) 0) ≡ true → fieldLength l ≡ upTo other l
+  unfolding fieldLength
+  ended-length h e = smaller-here other (inSet FieldEnd) end-other l h e
+
+  pub rest-length : upTo other l ≡ length l → fieldLength l ≡ upTo other l
+  unfolding fieldLength
+  rest-length e = smaller-end other (inSet FieldEnd) end-other l e ∙ sym e
+
+  pub ended-name : fieldLength l ≡ upTo other l → isName (firstField l) ≡ beginsName (upTo other l) l
+  unfolding firstField
+  ended-name e = rw e (name-upTo l (upTo other l) refl)
+
+  -- it does not: the field is no name
+  pub not-ended : upTo other l < length l → inSet FieldEnd (getD l (upTo other l) 0) ≡ false → isName (firstField l) ≡ false
+  unfolding firstField fieldLength
+  not-ended h e =
+      let m = smaller-later other (inSet FieldEnd) end-other l h e in
+      let n = upTo-within (inSet FieldEnd) l in
+      name-fails (take (upTo (inSet FieldEnd) l) l) (upTo other l) (rw (length-take-le (upTo (inSet FieldEnd) l) l n) m) (rw (getD-take (upTo (inSet FieldEnd) l) l (upTo other l) 0 m) (not-true (letterOrDigit (getD l (upTo other l) 0)) (upTo-found other l h)))
+
+-- the same of the field that starts at a place: e is where its first byte that is no letter or digit stands
+module _ (l : Name) (at e : ℕ) (h : at ≤ length l) (is : e ≡ at + upTo other (drop at l)) where
+  byte-there : getD l e 0 ≡ getD (drop at l) (upTo other (drop at l)) 0
+  byte-there = rw is (sym (getD-drop at l (upTo other (drop at l)) 0))
+
+  pub ended-at : (leb (length l) e || inSet FieldEnd (getD l e 0)) ≡ true → fieldLength (drop at l) ≡ upTo other (drop at l)
+  ended-at t =
+      let n = length-drop at l in
+      elim (decLt e (length l)) [
+        | yes q ↦ (let f : inSet FieldEnd (getD l e 0) ≡ true = rw (lt-leb (length l) e q) at t in ended-length (drop at l) (omega (arith, n, is)) (rw (← byte-there) f))
+        | no q ↦ rest-length (drop at l) (omega (arith, n, is, upTo-within other (drop at l)))
+      ]
+
+  pub name-at :
+      (leb (length l) e || inSet FieldEnd (getD l e 0)) ≡ true → isName (firstField (drop at l)) ≡ beginsName (e - at) (take (length l - at) (drop at l))
+  name-at t =
+      let z : e - at ≡ upTo other (drop at l) = omega (arith, is) in
+      ended-name (drop at l) (ended-at t) ∙ rw (z, rest-part l at)
+
+  pub no-name-at : (leb (length l) e || inSet FieldEnd (getD l e 0)) ≡ false → isName (firstField (drop at l)) ≡ false
+  no-name-at t =
+      let r = or-false (leb (length l) e) (inSet FieldEnd (getD l e 0)) t in
+      not-ended (drop at l) (omega (arith, length-drop at l, is, leb-false (length l) e (r .0))) (rw (← byte-there) (r .1))
+
+-- what `name_end` tells: a name has a byte, so its end is not its start
+no-bytes : isName [] ≡ false
+unfolding isName Text.opened Base.opened
+no-bytes = refl
+
+named-case :
+    (q : Bool) (t : Name) (at r : ℕ) → isName (firstField t) ≡ q → r ≡ cond q (at + fieldLength t) at →
+    (r ≡ at → isName (firstField t) ≡ false) × ((r ≡ at → ⊥) → (isName (firstField t) ≡ true) × (r ≡ at + fieldLength t))
+unfolding firstField
+named-case true t at r e h =
+    (λ z. let k : fieldLength t ≡ 0 = omega (arith, h, z) in ap (λ n. isName (take n t)) k ∙ no-bytes, λ z. (e, h))
+named-case false t at r e h = (λ z. e, λ z. absurd (z h))
+
+module _ (l : Name) (at r : ℕ) (n : NameEnd l at r) where
+  pub unnamed : r ≡ at → isName (firstField (drop at l)) ≡ false
+  unnamed = named-case (isName (firstField (drop at l))) (drop at l) at r refl (n .is) .0
+
+  pub named : (r ≡ at → ⊥) → (isName (firstField (drop at l)) ≡ true) × (r ≡ at + fieldLength (drop at l))
+  named = named-case (isName (firstField (drop at l))) (drop at l) at r refl (n .is) .1

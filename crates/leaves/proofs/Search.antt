@@ -5,6 +5,7 @@ use mathlib.Core.List.{List, [], _∷_}
 use Prim.Native.Nat.{ℕ, zero, suc, _+_, _-_, _≤_, _<_}
 use native.Mathlib.Omega.{arith}
 use native.Mathlib.Numerals.{add-one}
+use native.Mathlib.Decide.{decLt}
 use lib.Dec.{eqb, leb, eqb·suc-suc, eqb·zero-suc}
 use lib.ListN.{length, getD, drop, take, drop-of-length-le, length-drop}
 use lib.Seq.{drop-cons, take-all}
@@ -84,6 +85,26 @@ module _ (p : ℕ → Bool) where
   upTo-is (b ∷ l) zero h f t = rw (t (omega arith))
   upTo-is (b ∷ l) (suc d) h f t =
       rw (f 0 (omega arith)) (ap suc (upTo-is l d (omega arith) (λ k j. f (suc k) (omega arith)) (λ j. t (omega arith))))
+
+-- a search for a smaller set goes at least as far
+module _ (p q : ℕ → Bool) (part : (b : ℕ) → p b ≡ false → q b ≡ false) (l : List ℕ) where
+  pub smaller-end : upTo p l ≡ length l → upTo q l ≡ length l
+  smaller-end e =
+      upTo-is q l (length l) (omega arith) (λ k h. part (getD l k 0) (upTo-passed p l k (omega (arith, e)))) (λ h. absurd (omega arith))
+
+  pub smaller-here : upTo p l < length l → q (getD l (upTo p l) 0) ≡ true → upTo q l ≡ upTo p l
+  smaller-here h e =
+      upTo-is q l (upTo p l) (omega arith) (λ k j. part (getD l k 0) (upTo-passed p l k j)) (λ j. e)
+
+  pub smaller-later : upTo p l < length l → q (getD l (upTo p l) 0) ≡ false → upTo p l < upTo q l
+  smaller-later h e =
+      elim (decLt (upTo p l) (upTo q l)) [
+        | yes m ↦ m
+        | no m ↦ (let f : q (getD l (upTo q l) 0) ≡ true = upTo-found q l (omega arith) in elim (decLt (upTo q l) (upTo p l)) [
+          | yes n ↦ true-false (sym f ∙ part (getD l (upTo q l) 0) (upTo-passed p l (upTo q l) n))
+          | no n ↦ (let z : upTo q l ≡ upTo p l = omega arith in true-false (sym f ∙ (ap (λ k. q (getD l k 0)) z ∙ e)))
+        ])
+      ]
 
 -- a search that goes to the end shows `all`
 all-case : (q a : Bool) (u n : ℕ) → a ≡ eqb u n → (q && a) ≡ eqb (cond (not q) 0 (suc u)) (suc n)

@@ -1,15 +1,15 @@
 -- Laws of words: a word is known by its bytes packed into one number, and the words' numbers stand for what `rules` says of words.
 use mathlib.Core.Path.{_≡_, refl, sym, ap, ap₂, _∙_}
-use mathlib.Core.Bool.{Bool, true, false, not, cond, _&&_, _||_}
+use mathlib.Core.Bool.{Bool, true, false, cond, _&&_, _||_}
 use mathlib.Core.List.{List, [], _∷_}
 use mathlib.Core.Logic.{_⊎_, inl, inr, ⊎-elim}
-use mathlib.Core.Option.{Option, none, some}
+use mathlib.Core.Option.{none}
 use Prim.Native.Nat.{ℕ, zero, suc, _+_, _*_, _-_, _≤_, _<_}
 use Prim.Native.String.{String}
 use native.Mathlib.Omega.{arith}
 use native.Mathlib.Numerals.{add-one}
 use native.Mathlib.Decide.{decLt}
-use lib.Dec.{eqb, leb, ltb}
+use lib.Dec.{eqb, leb}
 use lib.ListN.{length, getD, drop, take, drop-of-length-le, length-drop, List·getD-eq-default}
 use lib.Seq.{drop-cons, getD-drop}
 use borrow.Author.Tests.{eqb-true, eqb-false, leb-true, eq-eqb, ne-eqb, le-leb, lt-leb}
@@ -20,7 +20,7 @@ use Rattle.rules.specs.Grammar as Grammar
 use Rattle.rules.specs.Grammar.{Kind, kinds, kindNumber, kindOf, form}
 use Rattle.rules.specs.Grammar.{Class, Field, Method, Requires, Ensures, Main, Var, Set, Let, New, Call, Return, Assert, Release, If, Else, Join, End}
 use Rattle.leaves.specs.Words as Words
-use Rattle.leaves.specs.Words.{words, placeIn, wordNumber, kindAt, kindOr0, packed}
+use Rattle.leaves.specs.Words.{words, placeIn, wordNumber, kindAt, kindOr0, packed, packedIn}
 use Rattle.leaves.proofs.Search.{true-false, both-true, and-false, or-false, between-true, all-at, same-is, same-refl}
 
 -- PACKING
@@ -116,17 +116,46 @@ spelled w s l p a = go (eqName s w) refl
         ne-eqb (packed 0 w) (packed 0 s)
         (λ z. true-false (sym (same-refl s) ∙ (ap (eqName s) (sym (packed-same w s 0 0 l p (solid s a) z .1)) ∙ e)))
 
+-- a word begins with no 0, and its bytes are bytes
+unfoldable fine : String → Bool
+fine s = leb 1 (length (bytes s)) && all (between 1 255) (bytes s)
+
+module _ (w : Name) (p : (i : ℕ) → getD w i 0 < 256) (f : 1 ≤ getD w 0 0) where
+  packs-as : (s : String) → fine s ≡ true → is s w ≡ eqb (packed 0 w) (packed 0 (bytes s))
+  unfolding is fine
+  packs-as s a = go (both-true (leb 1 (length (bytes s))) (all (between 1 255) (bytes s)) a) (eqName (bytes s) w) refl
+    where
+      go : (leb 1 (length (bytes s)) ≡ true) × (all (between 1 255) (bytes s) ≡ true) → (q : Bool) → eqName (bytes s) w ≡ q → q ≡ eqb (packed 0 w) (packed 0 (bytes s))
+      go b true e = sym (eq-eqb _ _ (ap (packed 0) (sym (same-is (bytes s) w e))))
+      go b false e =
+          sym
+          (ne-eqb (packed 0 w) (packed 0 (bytes s))
+          (λ z. true-false (sym (same-refl (bytes s)) ∙ (ap (eqName (bytes s)) (sym (word-is w (bytes s) p f (b .1) (b .0) z)) ∙ e))))
+
+  place-packed : (ss : List String) (n : ℕ) → all fine ss ≡ true → placeIn ss n w ≡ packedIn ss n (packed 0 w)
+  unfolding placeIn packedIn all
+  place-packed [] n a = refl
+  place-packed (s ∷ ss) n a =
+      let b = both-true (fine s) (all fine ss) a in rw (packs-as s (b .0), place-packed ss (suc n) (b .1))
+
+  -- the number of a field is that of what it packs to
+  pub word-packed : wordNumber w ≡ packedIn words 1 (packed 0 w)
+  unfolding wordNumber Base.opened fine
+  word-packed = place-packed words 1 refl
+
 -- NO WORD
 
--- what the last arm of a `match` knows of a number
-abbrev pub NoneOf : ℕ → List ℕ → Type 0
-NoneOf n [] = Unit {0}
-NoneOf n (k ∷ ks) = NoneOf n ks × (n ≡ k → ⊥)
+-- what the last arm of a `match` on a packed word knows: A, and that it is none of these
+abbrev pub NoneOf : Type 0 → List String → ℕ → Type 0
+NoneOf A [] k = A
+NoneOf A (s ∷ ss) k = NoneOf (A × (k ≡ packed 0 (bytes s) → ⊥)) ss k
 
-pub none-of : (n : ℕ) (ks : List ℕ) → NoneOf n ks → any (λ k. eqb n k) ks ≡ false
-unfolding any
-none-of n [] h = refl
-none-of n (k ∷ ks) h = rw (ne-eqb n k (h .1), none-of n ks (h .0))
+pub none-packed : (A : Type 0) (ss : List String) (n k : ℕ) → NoneOf A ss k → A × (packedIn ss n k ≡ 0)
+unfolding packedIn
+none-packed A [] n k h = (h, refl)
+none-packed A (s ∷ ss) n k h =
+    let r = none-packed (A × (k ≡ packed 0 (bytes s) → ⊥)) ss (suc n) k h in
+    (r .0 .0, rw (ne-eqb k (packed 0 (bytes s)) (r .0 .1)) (r .1))
 
 differs : (f : Name → Bool) (s : String) (w : Name) (q : Bool) (n r : ℕ) → f w ≡ true → f (bytes s) ≡ false → is s w ≡ q → r ≡ 0 → cond q n r ≡ 0
 unfolding is

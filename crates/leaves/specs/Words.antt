@@ -5,31 +5,16 @@ use mathlib.Core.Option.{Option, none, some}
 use Prim.Native.Nat.{ℕ, suc, _+_, _*_}
 use Prim.Native.String.{String}
 use lib.Dec.{eqb}
-use Rattle.rules.specs.Base.{Name, is, first}
+use Rattle.rules.specs.Base.{Name, bytes, is, first}
 use Rattle.rules.specs.Grammar.{Kind, kinds, kindNumber}
 
--- in the order of `kindNumber`, then those of atoms, then the reserved ones
+-- in the order of `kindNumber`, then `acc`, `eq`, `ne`, then the reserved ones
 abbrev pub words : List String
 words =
     "class" ∷ "field" ∷ "method" ∷ "requires" ∷ "ensures" ∷ "main" ∷ "var" ∷
     "set" ∷ "let" ∷ "new" ∷ "call" ∷ "return" ∷ "assert" ∷ "release" ∷ "if" ∷ "else" ∷ "join" ∷ "end" ∷
     "acc" ∷ "eq" ∷ "ne" ∷
     "int" ∷ "null" ∷ "this" ∷ "result" ∷ []
-
-abbrev pub last-kind : ℕ
-last-kind = 18
-
-abbrev pub acc-word : ℕ
-acc-word = 19
-
-abbrev pub eq-word : ℕ
-eq-word = 20
-
-abbrev pub ne-word : ℕ
-ne-word = 21
-
-abbrev pub first-reserved : ℕ
-first-reserved = 22
 
 -- the number of w in a list that is numbered from n on, or 0
 unfoldable pub placeIn : List String → ℕ → Name → ℕ
@@ -53,7 +38,12 @@ unfoldable pub packed : ℕ → Name → ℕ
 packed n [] = n
 packed n (b ∷ t) = packed (n * 256 + b) t
 
+-- the number of a packed word in a list that is numbered from n on, or 0
+unfoldable pub packedIn : List String → ℕ → ℕ → ℕ
+packedIn [] n k = 0
+packedIn (s ∷ ss) n k = let r : ℕ = packedIn ss (suc n) k in cond (eqb k (packed 0 (bytes s))) n r
+
 -- Everything above computes where this unfolds.
 unfoldable pub opened : Unit {0}
-unfolding placeIn wordNumber kindAt packed
+unfolding placeIn wordNumber kindAt packed packedIn
 opened = tt

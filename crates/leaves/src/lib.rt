@@ -1,12 +1,15 @@
+use rules::Machine;
 ghost use mathlib.Core.Path.{_≡_};
-ghost use mathlib.Core.Bool.{Bool, true, false, _&&_};
+ghost use mathlib.Core.Bool.{true, false, _&&_, _||_};
+ghost use lib.Dec.{leb};
 ghost use Prim.Native.Nat.{_≤_, _<_};
 ghost use lib.ListN.{length, getD};
 ghost use Rattle.rules.specs.Base.{between, eqName, is, all, withDefault};
 ghost use Rattle.rules.specs.Text.{allowed, letter, digit, letterOrDigit, isName, reserved, isDigits, isNumber, decimal, numeral, isExpr, isAtom};
 ghost use Rattle.rules.specs.Grammar.{kindOf};
 ghost use Rattle.leaves.specs.Sets.{inSet, Found};
-ghost use Rattle.leaves.specs.Words.{wordNumber, kindOr0, packed};
+ghost use Rattle.leaves.specs.Fields.{NameEnd};
+ghost use Rattle.leaves.specs.Words.{words, wordNumber, kindOr0, packed, packedIn};
 ghost use Rattle.leaves.specs.Answers.{beginsName, leadingZero, capped, bitsOf, naturalIn, negativeIn, numberIn, exprIn, Reads, stopOr};
 
 // BYTES
@@ -133,7 +136,9 @@ pub fn same(a: &[u8], b: &[u8]) -> bool
 
 // WORDS
 
-// The words of atoms, and the reserved words, by number. Words that begin a line are 1 to 18.
+// Words by number: those that begin a line to 18, those of atoms, the reserved ones.
+pub const LAST_KIND: u8 = 18;
+
 pub const ACC: u8 = 19;
 
 pub const EQ: u8 = 20;
@@ -162,17 +167,10 @@ fn pack(w: &[u8]) -> u64
     n
 }
 
-// The number of a word, or 0.
-pub fn word(w: &[u8]) -> u8
-    ensures { λ r. ⌜ r ≡ wordNumber (now (w .entry)) ⌝ }
+// The number of a packed word, or 0.
+fn numbered(k: u64) -> u8
+    ensures { λ r. ⌜ r ≡ packedIn words 1 k ⌝ }
 {
-    if 8 < w.len() {
-        return 0;
-    }
-    if byte_at(w, 0) == 0 {
-        return 0;
-    }
-    let k = pack(w);
     match k {
         0x636c617373 => 1, // class
         0x6669656c64 => 2, // field
@@ -203,12 +201,25 @@ pub fn word(w: &[u8]) -> u8
     }
 }
 
+// The number of a word, or 0.
+pub fn word(w: &[u8]) -> u8
+    ensures { λ r. ⌜ r ≡ wordNumber (now (w .entry)) ⌝ }
+{
+    if 8 < w.len() {
+        return 0;
+    }
+    if byte_at(w, 0) == 0 {
+        return 0;
+    }
+    numbered(pack(w))
+}
+
 // The number of the kind of line that a word begins, or 0.
 pub fn kind_of(w: &[u8]) -> u8
     ensures { λ r. ⌜ r ≡ kindOr0 (kindOf (now (w .entry))) ⌝ }
 {
     let k = word(w);
-    if k <= 18 { k } else { 0 }
+    if k <= LAST_KIND { k } else { 0 }
 }
 
 pub fn is_reserved(w: &[u8]) -> bool
@@ -232,7 +243,7 @@ fn is_null(w: &[u8]) -> bool
 fn begins_name(w: &[u8], n: usize) -> bool
     ensures { λ r. ⌜ r ≡ beginsName n (now (w .entry)) ⌝ }
 {
-    if 12 < n {
+    if Machine::NAME_BYTES < n {
         return false;
     }
     is_letter(byte_at(w, 0))
@@ -245,6 +256,32 @@ pub fn is_name(w: &[u8]) -> bool
         return find(w, 0, Set::NotLetterOrDigit) == w.len();
     }
     false
+}
+
+// Does a field end at e: at the end, or at tab or LF?
+fn ends_field(l: &[u8], e: usize) -> bool
+    ensures { λ r. ⌜ r ≡ (leb (length (now (l .entry))) e || inSet Set.FieldEnd (getD (now (l .entry)) e 0)) ⌝ }
+{
+    if e < l.len() {
+        return in_set(l[e], Set::FieldEnd);
+    }
+    true
+}
+
+// The end of the field that starts at `at`, if that field is a name; else `at`. One scan finds both.
+pub fn name_end(l: &[u8], at: usize) -> usize
+    requires { ⌜ at ≤ length (now l) ⌝ }
+    ensures { λ r. ⌜ NameEnd (now (l .entry)) at r ⌝ }
+{
+    let e = find(l, at, Set::NotLetterOrDigit);
+    if !ends_field(l, e) {
+        return at;
+    }
+    let n = e - at;
+    if begins_name(&l[at..], n) {
+        return e;
+    }
+    at
 }
 
 // NUMBERS

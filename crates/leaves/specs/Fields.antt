@@ -1,0 +1,36 @@
+-- Lines and fields by their lengths.
+use mathlib.Core.Path.{_≡_}
+use mathlib.Core.Bool.{cond}
+use mathlib.Core.List.{List}
+use Prim.Native.Nat.{ℕ, suc, _+_, _≤_}
+use lib.Dec.{eqb}
+use lib.ListN.{length, take, drop}
+use Rattle.rules.specs.Base.{Name}
+use Rattle.rules.specs.Text.{line-feed, upTo, isName}
+use Rattle.leaves.specs.declared.Set.the-variants.{FieldEnd}
+use Rattle.leaves.specs.Sets.{inSet}
+
+-- the bytes of a text's first line, LF not counted; that line
+unfoldable pub lineLength : Name → ℕ
+lineLength t = upTo (λ b. eqb b line-feed) t
+
+unfoldable pub firstLine : Name → Name
+firstLine t = take (suc (lineLength t)) t
+
+-- the bytes of a line's first field; that field
+unfoldable pub fieldLength : Name → ℕ
+fieldLength l = upTo (inSet FieldEnd) l
+
+unfoldable pub firstField : Name → Name
+firstField l = take (fieldLength l) l
+
+-- r is the end of the field that starts at a place, if that field is a name; else the place itself
+pub record NameEnd (l : List ℕ) (at r : ℕ) : Type 0 where
+  pub low : at ≤ r
+  pub high : r ≤ length l
+  pub is : r ≡ cond (isName (firstField (drop at l))) (at + fieldLength (drop at l)) at
+
+-- Everything above computes where this unfolds.
+unfoldable pub opened : Unit {0}
+unfolding lineLength firstLine fieldLength firstField
+opened = tt
