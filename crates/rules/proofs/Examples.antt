@@ -56,9 +56,9 @@ worked =
     "end" ∷
     []
 
--- let a n
-pub reading : String → List String
-reading l = "main" ∷ "var int a" ∷ l ∷ "end" ∷ []
+-- main with an int a and one line
+pub oneLine : String → List String
+oneLine l = "main" ∷ "var int a" ∷ l ∷ "end" ∷ []
 
 -- `let t s` keeps `t.n`
 pub alias : List String
@@ -168,9 +168,9 @@ rows =
     row (withLine 18 "release acc s n acc s n" worked) check (12 ∷ 18 ∷ []) ∷
     row (withLine 16 "call a s tag a" worked) check (9 ∷ 16 ∷ []) ∷
     row [] check (8 ∷ 0 ∷ []) ∷
-    row (reading "let a 2147483647") (run 9) (0 ∷ 4 ∷ 2 ∷ three 2147483647 0 0) ∷
-    row (reading "let a 2147483648") check (4 ∷ 3 ∷ []) ∷
-    row (reading "let a -2147483648") print (text ("check 0 0" ∷ "run 0 4 2" ∷ "var a -2147483648" ∷ [])) ∷
+    row (oneLine "let a 2147483647") (run 9) (0 ∷ 4 ∷ 2 ∷ three 2147483647 0 0) ∷
+    row (oneLine "let a 2147483648") check (4 ∷ 3 ∷ []) ∷
+    row (oneLine "let a -2147483648") print (text ("check 0 0" ∷ "run 0 4 2" ∷ "var a -2147483648" ∷ [])) ∷
     row ("class S" ∷ "main" ∷ "var S s" ∷ (times 256 "new s S" ++ ("end" ∷ []))) check (5 ∷ 260 ∷ []) ∷
     -- "Tempting, each wrong"
     row alias check (0 ∷ 0 ∷ []) ∷
@@ -190,7 +190,7 @@ right : Row → Bool
 right r = eqName (answer (text (r .text)) (r .call)) (r .answer)
 
 all-right : T (all right rows)
-unfolding computing Printed.opened right answer row three text tabbed withLine times reading alias acrossCall twice oldValue twoFields lower
+unfolding computing Printed.opened right answer row three text tabbed withLine times oneLine alias acrossCall twice oldValue twoFields lower
 all-right = tt
 
 right-at : (rs : List Row) (d : Row) (i : ℕ) → i < length rs → T (all right rs) → T (right (getD rs i d))
