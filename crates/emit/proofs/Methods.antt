@@ -154,10 +154,10 @@ last-changed D w w′ F n m f last K size new ok h =
             mean =
                 methods-run w′ 0 _
                 ∙ run-last (flatMethodAt w) (flatMethodAt w′) (F .methods) (sym (methods-run w 0 _) ∙ h .methods .mean) f m last
-                (method-same D w w′ n KA (length (F .rows)) (F .methods) m KM below (h .methods)) new;
+                (method-same w w′ n KA (length (F .rows)) (F .methods) m KM below (h .methods)) new;
             fit = λ i l.
                 below-more (λ (k : ℕ). MethodOk w′ n (length (F .rows)) k) m
-                (method-ok-kept D w w′ n KA (length (F .rows)) (F .methods) m KM below (h .methods)) ok i (omega (arith, same));
+                (method-ok-kept w w′ n KA (length (F .rows)) (F .methods) m KM below (h .methods)) ok i (omega (arith, same));
           };
       classes = classes-kept w w′ (F .classes) (K _ _ (inr (omega arith))) (K _ _ (inr (omega arith))) (h .classes);
     }
@@ -231,10 +231,12 @@ module _
       let i : ℕ = methodPlace m in
       let bs : List ℕ = a % 256 ∷ a / 256 ∷ length φ ∷ [] in
       row-changed i bs refl (omega arith) (omega arith) (withRequires φ) refl
-      (λ KA. (new-range _ KA _ _ (put-same-half w i bs 0 i a (omega arith) (omega arith) (omega (arith, room)) refl refl)
-      (put-same w i bs 2 (i + 2) refl (omega arith) (omega (arith, room))),
-      old-range _ KA _ _ (half-stays w m i bs few-methods refl (omega arith) (omega arith) _ (inr (omega arith)))
-      (byte-stays w m i bs few-methods refl (omega arith) (omega arith) _ (inr (omega arith))) (was .ensures)))
+      (λ KA. (
+        new-range _ KA _ _ (put-same-half w i bs 0 i a (omega arith) (omega arith) (omega (arith, room)) refl refl)
+            (put-same w i bs 2 (i + 2) refl (omega arith) (omega (arith, room))),
+        old-range _ KA _ _ (half-stays w m i bs few-methods refl (omega arith) (omega arith) _ (inr (omega arith)))
+            (byte-stays w m i bs few-methods refl (omega arith) (omega arith) _ (inr (omega arith))) (was .ensures),
+      ))
 
   with-ensures : (l : ℕ) → Holds D (putEnsures w m a (length φ)) (flatWith F l (anEnsures φ)) n
   unfolding flatWith withEnsures flatMethodAt requiresAt putEnsures
@@ -242,11 +244,13 @@ module _
       let i : ℕ = methodPlace m + 3 in
       let bs : List ℕ = length φ ∷ a % 256 ∷ a / 256 ∷ [] in
       row-changed i bs refl (omega arith) (omega arith) (withEnsures φ) refl
-      (λ KA. (old-range _ KA _ _ (half-stays w m i bs few-methods refl (omega arith) (omega arith) _ (inl (omega arith)))
-      (byte-stays w m i bs few-methods refl (omega arith) (omega arith) _ (inl (omega arith))) (was .requires),
-      new-range _ KA _ _
-      (put-same-half w i bs 1 (methodPlace m + 4) a (omega arith) (omega arith) (omega (arith, room)) refl refl)
-      (put-same w i bs 0 i (omega arith) (omega arith) (omega (arith, room)))))
+      (λ KA. (
+        old-range _ KA _ _ (half-stays w m i bs few-methods refl (omega arith) (omega arith) _ (inl (omega arith)))
+            (byte-stays w m i bs few-methods refl (omega arith) (omega arith) _ (inl (omega arith))) (was .requires),
+        new-range _ KA _ _
+            (put-same-half w i bs 1 (methodPlace m + 4) a (omega arith) (omega arith) (omega (arith, room)) refl refl)
+            (put-same w i bs 0 i (omega arith) (omega arith) (omega (arith, room))),
+      ))
 
 -- the formula that was built last becomes the requires, or the ensures, of the last method
 pub requires-written :

@@ -121,12 +121,13 @@ module _
         classes = h′ .classes;
       }
 
--- the next row, with operands that fit
+-- the next row, with operands that fit, which means s
 pub row-written :
-    (D : Declared) (w : List ℕ) (F : Flat) (n : ℕ) (r : Operands) → length (F .rows) < most-statements → RowOk D n r →
-    Holds D w F n → Holds D (putRow w (length (F .rows)) r) (flatWith F (r .line) (aStatement (stmtOf w r))) n
+    (D : Declared) (w : List ℕ) (F : Flat) (n : ℕ) (r : Operands) (s : Stmt) → length (F .rows) < most-statements →
+    RowOk D n r → stmtOf w r ≡ s → Holds D w F n →
+    Holds D (putRow w (length (F .rows)) r) (flatWith F (r .line) (aStatement s)) n
 unfolding after
-row-written D w F n r room ok h = row-more D w F n r room ok h
+row-written D w F n r s room ok means h = rw (← means) (row-more D w F n r room ok h)
 
 -- what the writer asks
 pub row-bytes :
