@@ -3,7 +3,7 @@ use mathlib.Core.Path.{_≡_, refl, sym, ap, _∙_}
 use mathlib.Core.Bool.{Bool, true, false, cond, not}
 use mathlib.Core.List.{List, [], _∷_, _++_}
 use mathlib.Core.Logic.{_⊎_, inl, inr, ⊎-elim}
-use Prim.Native.Nat.{ℕ, zero, suc, _+_, _*_, _≤_, _<_}
+use Prim.Native.Nat.{ℕ, suc, _+_, _*_, _<_}
 use native.Mathlib.Omega.{arith}
 use lib.Dec.{eqb}
 use lib.ListN.{length, getD}
@@ -12,16 +12,16 @@ use Rattle.rules.specs.Limits.{most-classes, most-fields, work-bytes}
 use Rattle.rules.specs.Syntax.{Field}
 use Rattle.rules.specs.Items.{aClass, aField}
 use Rattle.assembly.specs.Flat.{Flat, flatWith, onLast}
-use Rattle.tables.specs.Layout.{rows-at, methods-at, classes-at, places-at, atoms-at, names-at, values-at, most-names}
-use Rattle.tables.specs.Decode.{byteAt, rowPlace, atomPlace, methodPlace, classPlace, fieldCountAt, fieldNameAt, fieldAt, fieldsFrom, classAt, classesFrom}
+use Rattle.tables.specs.Layout.{classes-at, places-at, atoms-at, names-at, values-at, most-names}
+use Rattle.tables.specs.Decode.{byteAt, atomPlace, classPlace, fieldCountAt, fieldNameAt, fieldAt, fieldsFrom, classAt}
 use Rattle.tables.specs.Tables.{ClassFits, placeAt}
 use Rattle.tables.specs.Stores.{Kept}
 use Rattle.tables.proofs.Bytes.{Outside, kept-trans}
 use Rattle.tables.proofs.Rows.{class-length as class-length-of}
 use Rattle.emit.specs.Puts.{putBytes, blank, putClass, putFieldAt, putField, placesPlace}
-use Rattle.emit.specs.Holds.{Declared, ClassesHold, Holds}
+use Rattle.emit.specs.Holds.{Declared, Holds}
 use Rattle.emit.proofs.Puts.{put-length, put-same, put-other, Clear, put-kept, blank-length, blank-get}
-use Rattle.emit.proofs.Runs.{three-ways, run, run-get, run-more, run-same, run-grown, run-last, last-length, end-length, fields-run, classes-run}
+use Rattle.emit.proofs.Runs.{three-ways, run-get, run-more, run-same, run-grown, run-last, last-length, end-length, fields-run, classes-run}
 use Rattle.emit.proofs.Kept.{all-rows, atoms-hold-kept, rows-kept, methods-kept, class-same, class-fits-kept, SameRows, holds-kept}
 
 -- A CLASS

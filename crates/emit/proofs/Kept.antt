@@ -1,25 +1,25 @@
 -- What the tables mean depends on the bytes of the rows that are written: other bytes may change.
 use mathlib.Core.Path.{_≡_, refl, sym, ap, _∙_}
 use mathlib.Core.Bool.{Bool, true, false, cond}
-use mathlib.Core.List.{List, [], _∷_, _++_}
+use mathlib.Core.List.{List}
 use mathlib.Core.Logic.{_⊎_, inl, inr, ⊎-elim}
-use Prim.Native.Nat.{ℕ, zero, suc, _+_, _*_, _≤_, _<_}
+use Prim.Native.Nat.{ℕ, _+_, _*_, _≤_, _<_}
 use native.Mathlib.Omega.{arith}
 use lib.Dec.{T, eqb, eqb→eq}
 use lib.ListN.{length}
-use Rattle.rules.specs.Limits.{most-classes, most-fields, most-methods, most-statements, work-bytes}
-use Rattle.rules.specs.Syntax.{Formula, Stmt, Row, Field}
-use Rattle.rules.specs.Syntax.{set, assign, new, call, return, assert, release, simple, if, else, join, end}
+use Rattle.rules.specs.Limits.{most-fields, work-bytes}
+use Rattle.rules.specs.Syntax.{Formula, Row, Field}
+use Rattle.rules.specs.Syntax.{assign, assert, release, simple, join}
 use Rattle.assembly.specs.Flat.{Flat, FlatMethod, noFlat}
-use Rattle.tables.specs.Layout.{rows-at, methods-at, classes-at, places-at, atoms-at, names-at, most-atom-rows, most-names}
-use Rattle.tables.specs.Decode.{byteAt, halfAt, exprAt, leftAt, rightAt, relOf, atomAt, atomsFrom, atomPlace, ifAt, rowPlace, kindAt, xAt, yAt, zAt, memberAt, atomCountAt, firstAtomAt, lineAt, formulaAt, stmtAt, rowAt, rowsFrom, requiresAt, ensuresAt, methodPlace, firstRowAt, classPlace, fieldCountAt, fieldNameAt, fieldAt, fieldsFrom, classAt, classesFrom}
+use Rattle.tables.specs.Layout.{rows-at, methods-at, classes-at, places-at, atoms-at, names-at, most-names}
+use Rattle.tables.specs.Decode.{byteAt, halfAt, exprAt, leftAt, rightAt, atomAt, atomsFrom, atomPlace, ifAt, rowPlace, kindAt, lineAt, formulaAt, stmtAt, rowAt, rowsFrom, requiresAt, ensuresAt, methodPlace, firstRowAt, classPlace, fieldCountAt, fieldNameAt, fieldAt, classAt, classesFrom}
 use Rattle.tables.specs.Tables.{SideFits, AtomFits, ClassFits, placeAt}
 use Rattle.tables.specs.Stores.{Kept, SameTables}
 use Rattle.tables.proofs.Bytes.{half-kept}
 use Rattle.emit.specs.declared.Operands.{Operands}
 use Rattle.emit.specs.Puts.{placesPlace}
 use Rattle.emit.specs.Holds.{Declared, Range, AtomsHold, operandsAt, RowOk, formulaOf, stmtOf, RowsHold, flatMethodAt, flatMethodsFrom, MethodOk, MethodsHold, ClassesHold, Holds, Building}
-use Rattle.emit.proofs.Runs.{run, run-kept, run-same, atoms-run, rows-run, fields-run, classes-run, methods-run}
+use Rattle.emit.proofs.Runs.{run-kept, run-same, atoms-run, rows-run, fields-run, classes-run, methods-run}
 
 -- both branches, each where it is taken
 pub cond-same :

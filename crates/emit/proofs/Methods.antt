@@ -1,22 +1,22 @@
 -- One more method, and the requires and ensures of the last.
-use mathlib.Core.Path.{_≡_, refl, sym, ap, _∙_}
+use mathlib.Core.Path.{_≡_, refl, sym, _∙_}
 use mathlib.Core.List.{List, [], _∷_, _++_}
-use mathlib.Core.Logic.{_⊎_, inl, inr}
-use Prim.Native.Nat.{ℕ, zero, suc, _+_, _*_, _/_, _%_, _≤_, _<_}
+use mathlib.Core.Logic.{inl, inr}
+use Prim.Native.Nat.{ℕ, suc, _+_, _/_, _%_, _≤_, _<_}
 use native.Mathlib.Omega.{arith}
 use lib.ListN.{length, getD}
 use borrow.Author.Count.{below-more}
-use Rattle.rules.specs.Limits.{most-statements, most-methods, most-atoms, work-bytes}
+use Rattle.rules.specs.Limits.{most-methods, most-atoms, work-bytes}
 use Rattle.rules.specs.Syntax.{Formula}
-use Rattle.rules.specs.Items.{Item, aMethod, aRequires, anEnsures}
+use Rattle.rules.specs.Items.{aMethod, aRequires, anEnsures}
 use Rattle.assembly.specs.Flat.{Flat, FlatMethod, flatWith, onLast, withRequires, withEnsures}
-use Rattle.tables.specs.Layout.{rows-at, methods-at, classes-at, places-at, atoms-at, names-at, values-at}
-use Rattle.tables.specs.Decode.{byteAt, halfAt, atomsFrom, rowPlace, atomPlace, methodPlace, classPlace, requiresAt, ensuresAt, firstRowAt}
+use Rattle.tables.specs.Layout.{methods-at, atoms-at, names-at, values-at}
+use Rattle.tables.specs.Decode.{byteAt, halfAt, atomsFrom, atomPlace, methodPlace, requiresAt, ensuresAt, firstRowAt}
 use Rattle.tables.specs.Stores.{Kept}
-use Rattle.emit.specs.Puts.{putBytes, methodBytes, putMethod, putRequires, putEnsures, placesPlace}
-use Rattle.emit.specs.Holds.{Declared, Range, flatMethodAt, flatMethodsFrom, MethodOk, MethodsHold, Holds, Building}
+use Rattle.emit.specs.Puts.{putBytes, methodBytes, putMethod, putRequires, putEnsures}
+use Rattle.emit.specs.Holds.{Declared, Range, flatMethodAt, MethodOk, Holds, Building}
 use Rattle.emit.proofs.Puts.{put-length, put-same, put-same-half, put-other, Clear, put-kept}
-use Rattle.emit.proofs.Runs.{run, run-grown, run-last, last-length, end-length, methods-run}
+use Rattle.emit.proofs.Runs.{run-grown, run-last, last-length, end-length, methods-run}
 use Rattle.emit.proofs.Kept.{all-rows, atoms-kept, atoms-hold-kept, rows-kept, method-same, method-ok-kept, classes-kept, SameRows, holds-kept}
 
 -- A METHOD

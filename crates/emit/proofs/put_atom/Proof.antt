@@ -1,6 +1,6 @@
-use Rattle.emit.proofs.Puts.{put-then, byte-bytes, half-bytes, word-bytes}
+use Rattle.emit.proofs.Puts.{put-then, word-bytes}
 use native.Mathlib.Omega.{arith}
-use mathlib.Core.Path.{_≡_, refl, sym, ap, _∙_}
+use mathlib.Core.Path.{_∙_}
 use Rattle.emit.specs.Puts.{putAtom, atomBytes}
 use borrow.Author.Needs.{needs}
 use Rattle.emit.proofs.put_atom.Statement.{statement}

@@ -1,4 +1,3 @@
-use mathlib.Core.Path.{_≡_, refl, sym, ap, _∙_}
 use Rattle.emit.proofs.Puts.{class-stores}
 use borrow.Author.Needs.{needs}
 use Rattle.emit.proofs.put_class.Statement.{statement}

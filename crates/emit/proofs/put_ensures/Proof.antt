@@ -1,7 +1,7 @@
-use Rattle.emit.proofs.Puts.{put-then, byte-bytes, half-bytes, word-bytes}
+use Rattle.emit.proofs.Puts.{put-then, byte-bytes, half-bytes}
 use native.Mathlib.Omega.{arith}
-use mathlib.Core.Path.{_≡_, refl, sym, ap, _∙_}
-use Rattle.emit.specs.Puts.{putEnsures, putBytes}
+use mathlib.Core.Path.{_∙_}
+use Rattle.emit.specs.Puts.{putEnsures}
 use borrow.Author.Needs.{needs}
 use Rattle.emit.proofs.put_ensures.Statement.{statement}
 use Rattle.emit.proofs.put_ensures.Tie as tie

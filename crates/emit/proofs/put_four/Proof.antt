@@ -1,6 +1,6 @@
 use lib.ListN.{length-set}
 use native.Mathlib.Omega.{arith}
-use mathlib.Core.Path.{_≡_, refl, sym, ap, _∙_}
+use mathlib.Core.Path.{_≡_}
 use Prim.Native.Nat.{suc, _+_}
 use Rattle.emit.specs.Puts.{putBytes}
 use borrow.Author.Needs.{needs}

@@ -1,6 +1,5 @@
-use Rattle.emit.proofs.Puts.{put-then, byte-bytes, half-bytes, word-bytes}
+use Rattle.emit.proofs.Puts.{put-then}
 use native.Mathlib.Omega.{arith}
-use mathlib.Core.Path.{_≡_, refl, sym, ap, _∙_}
 use Rattle.emit.specs.Puts.{putRow, rowBytes}
 use borrow.Author.Needs.{needs}
 use Rattle.emit.proofs.put_row.Statement.{statement}

@@ -1,4 +1,4 @@
-use mathlib.Core.Path.{_≡_, refl, sym, ap, _∙_}
+use mathlib.Core.Path.{_∙_}
 use Rattle.emit.specs.Puts.{putTarget}
 use Rattle.emit.proofs.Puts.{half-bytes}
 use borrow.Author.Needs.{needs}

@@ -1,5 +1,4 @@
 use native.Mathlib.Omega.{arith}
-use mathlib.Core.Path.{_≡_, refl, sym, ap, _∙_}
 use Rattle.emit.specs.Puts.{wordOf, SideBytes}
 use borrow.Author.Needs.{needs}
 use Rattle.emit.proofs.word_of.Statement.{statement}
