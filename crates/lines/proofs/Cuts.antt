@@ -1,6 +1,6 @@
 -- Laws of lines and fields at places of a text: what a search for a line's or a field's end has found.
-use mathlib.Core.Path.{_≡_, refl, sym, ap, ap₂, _∙_}
-use mathlib.Core.Bool.{Bool, true, false, not, cond, _&&_, _||_}
+use mathlib.Core.Path.{_≡_, refl, sym, ap, _∙_}
+use mathlib.Core.Bool.{Bool, true, false, not, cond, _&&_}
 use mathlib.Core.List.{List, [], _∷_}
 use Prim.Native.Nat.{ℕ, zero, suc, _+_, _-_, _≤_, _<_}
 use native.Mathlib.Omega.{arith}
@@ -9,13 +9,13 @@ use native.Mathlib.Decide.{decLt}
 use lib.Dec.{eqb}
 use lib.ListN.{length, getD, drop, take, drop-of-length-le, length-drop, List·getD-eq-default}
 use lib.Seq.{drop-cons, drop-drop, getD-drop}
-use borrow.Author.Tests.{eqb-true, eqb-false, eq-eqb, ne-eqb, not-true, not-false}
+use borrow.Author.Tests.{eqb-true, eqb-false, ne-eqb, not-true, not-false}
 use Rattle.rules.specs.Base.{Name, all}
-use Rattle.rules.specs.Text.{lines, onto, fields, clean, allowed, upTo, isAtom, isFormula}
+use Rattle.rules.specs.Text.{lines, onto, fields, clean, allowed, upTo}
 use Rattle.leaves.specs.Sets.{inSet, Found}
 use Rattle.leaves.specs.declared.Set.the-variants.{LineEnd, FieldEnd}
-use Rattle.leaves.proofs.Search.{true-false, and-false, or-false}
-use Rattle.lines.specs.Cuts.{part, firstLine, more, CleanLine, BadLine, NextField, NextAtom}
+use Rattle.leaves.proofs.Search.{and-false, or-false}
+use Rattle.lines.specs.Cuts.{part, firstLine, more, CleanLine, BadLine}
 
 -- A SEARCH
 module _ (p : ℕ → Bool) (b : ℕ) (t : List ℕ) where

@@ -1,5 +1,5 @@
 pub mod Cuts
 pub mod Formulas
 pub mod Rows
-pub mod Spots
+pub mod Coded
 pub mod Scans

@@ -1,12 +1,11 @@
 -- Laws of the grammar's rows: numbers stand for what the rules say of kinds, operands and tails.
 use mathlib.Core.Path.{_≡_, refl, sym, ap, _∙_}
-use mathlib.Core.Bool.{Bool, true, false, cond, _&&_}
+use mathlib.Core.Bool.{Bool, true, false}
 use mathlib.Core.List.{List, [], _∷_}
 use mathlib.Core.Option.{Option, none, some}
-use Prim.Native.Nat.{ℕ, zero, suc, _+_, _*_, _-_, _/_, _%_, _≤_, _<_}
+use Prim.Native.Nat.{ℕ, zero, suc, _+_, _-_, _/_, _%_, _≤_, _<_}
 use native.Mathlib.Omega.{arith}
-use lib.Dec.{eqb}
-use lib.ListN.{length, getD, drop}
+use lib.ListN.{length, drop}
 use Rattle.rules.specs.Base.{Name, bindOption, withDefault}
 use Rattle.rules.specs.Base as Base
 use Rattle.rules.specs.Grammar as Grammar
@@ -19,7 +18,6 @@ use Rattle.rules.specs.Places.{stageNumber}
 use Rattle.leaves.specs.Answers.{whenTrue}
 use Rattle.leaves.specs.Words as Words
 use Rattle.leaves.specs.Words.{kindAt, kindOr0}
-use Rattle.leaves.proofs.Search.{true-false}
 use Rattle.leaves.proofs.Words.{NoneOf, kind-number}
 use Rattle.lines.specs.declared.Row.{Row}
 use Rattle.lines.specs.Cuts.{part, more, NextField}
@@ -121,7 +119,7 @@ row-back Join = refl
 row-back End = refl
 
 -- OPERANDS
-operand-bounds : (o : Operand) → (1 ≤ operandNumber o) × (operandNumber o < 16)
+pub operand-bounds : (o : Operand) → (1 ≤ operandNumber o) × (operandNumber o < 16)
 unfolding operandNumber
 operand-bounds (new classes) = omega arith
 operand-bounds (new fields) = omega arith
@@ -135,7 +133,7 @@ operand-bounds (member field) = omega arith
 operand-bounds (member method) = omega arith
 operand-bounds expression = omega arith
 
-operand-is : (o : Operand) (w : Name) → isOperand o w ≡ fitsOperand (operandNumber o) w
+pub operand-is : (o : Operand) (w : Name) → isOperand o w ≡ fitsOperand (operandNumber o) w
 unfolding isOperand fitsOperand operandNumber
 operand-is (new classes) w = refl
 operand-is (new fields) w = refl
@@ -149,7 +147,7 @@ operand-is (member field) w = refl
 operand-is (member method) w = refl
 operand-is expression w = refl
 
-tail-is : (t : Tail) (ws : List Name) → isTail t ws ≡ fitsTail (tailNumber t) ws
+pub tail-is : (t : Tail) (ws : List Name) → isTail t ws ≡ fitsTail (tailNumber t) ws
 unfolding isTail fitsTail tailNumber
 tail-is nothing ws = refl
 tail-is condition ws = refl

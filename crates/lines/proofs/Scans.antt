@@ -2,34 +2,38 @@
 use mathlib.Core.Path.{_≡_, refl, sym, ap, _∙_}
 use mathlib.Core.Bool.{Bool, true, false, cond}
 use mathlib.Core.List.{List, [], _∷_, map}
+use mathlib.Core.Logic.{⊎-elim}
 use mathlib.Core.Option.{Option, none, some}
-use Prim.Native.Nat.{ℕ, zero, suc, _+_, _≤_, _<_}
+use Prim.Native.Nat.{ℕ, suc, _+_, _≤_, _<_}
 use native.Mathlib.Omega.{arith}
 use native.Mathlib.Numerals.{add-one}
-use lib.Dec.{T, eqb}
-use lib.ListN.{length, getD, drop, length-drop}
+use lib.Dec.{eqb}
+use lib.ListN.{length, getD, drop, length-drop, length-map}
 use borrow.Author.Tests.{eq-eqb, ne-eqb}
 use Rattle.rules.specs.Base.{Name, Try, ok, no, check, orElse, _>>=_, _>>_, bindOption, withDefault}
 use Rattle.rules.specs.Answers.{Verdict, accepted, refused, atLine, then, badByte, malformed, limitPassed, textEnds}
 use Rattle.rules.specs.Answers as Answers
 use Rattle.rules.specs.Text as Text
 use Rattle.rules.specs.Text.{lines, onto, clean}
-use Rattle.rules.specs.Grammar.{Kind, Line, Class, form, kindOf, kindNumber, isFormed, readLine}
+use Rattle.rules.specs.Grammar.{Kind, Line, form, kindOf, kindNumber, isFormed, readLine}
 use Rattle.rules.specs.Places as Places
 use Rattle.rules.specs.Places.{Placed, stageNumber, placeLine, scanLine, scanLines, ended, firstPlace}
-use Rattle.rules.proofs.Lists.{T-true}
+use Rattle.rules.proofs.Lists.{T-true, decide-eq}
 use Rattle.rules.proofs.Tries.{no-ok, ok-inj, bind-ok, check-ok, orElse-ok, atLine-accepted, then-accepted, accepted-inj, refused-accepted}
 use Rattle.leaves.specs.Answers.{whenTrue}
+use Rattle.leaves.specs.Sets.{Found}
+use Rattle.leaves.specs.declared.Set.the-variants.{LineEnd}
+use Rattle.leaves.proofs.Search.{true-false}
 use Rattle.leaves.specs.Words.{kindOr0}
 use Rattle.lines.specs.declared.Place.{Place}
 use Rattle.lines.specs.declared.Refusal.{Refusal}
 use Rattle.lines.specs.Cuts.{part, firstLine, CleanLine, BadLine}
 use Rattle.lines.specs.Rows.{kindNumbered, formedKind}
-use Rattle.lines.specs.Spots.{coded, inPlace, placeAfter, withinLimits}
+use Rattle.lines.specs.Coded.{coded, inPlace, placeAfter, withinLimits}
 use Rattle.lines.specs.Scans.{refusalOf, nextPlace, scanText, lineOf}
-use Rattle.lines.proofs.Cuts.{first-clean, first-bad, no-lines}
+use Rattle.lines.proofs.Cuts.{clean-line, bad-line, first-clean, first-bad, no-lines}
 use Rattle.lines.proofs.Rows.{kind-known, kind-none, kind-of-number}
-use Rattle.lines.proofs.Spots.{within-is, in-place-is, place-after-is}
+use Rattle.lines.proofs.Coded.{within-is, in-place-is, place-after-is}
 
 -- THE PLACE OF A LINE
 pub place-line-is :
@@ -173,7 +177,7 @@ pub record Passed (t : List ℕ) (a n : ℕ) (s : Place) : Type 0 where
   pub rest : scanText t ≡ counted n (scanLines (lines (drop a t)) n place)
 
 pub pass-start : (t : List ℕ) (s : Place) → s ≡ coded firstPlace → Passed t 0 0 s
-unfolding scanText coded withinLimits stageNumber Rattle.lines.specs.Spots.branchesNumber
+unfolding scanText coded withinLimits stageNumber Rattle.lines.specs.Coded.branchesNumber
 pass-start t s e = record { place = firstPlace; is = e; within = rw e; rest = counted-zero (scanLines (lines t) 0 firstPlace) }
 
 module _ {t : List ℕ} {a n : ℕ} {s : Place} (x : Passed t a n s) where
@@ -248,3 +252,32 @@ lines-taken [] n p found e = nil-taken n p found e
 lines-taken (l ∷ ls) n p found e =
     let x = first-taken l ls n p found e in
     x .are ∙ ap (λ (m : List Line). lineOf l ∷ m) (lines-taken ls (suc n) (x .placed .next) (x .rest) (x .others))
+
+pub text-taken :
+    (t : List ℕ) (n : ℕ) → scanText t ≡ accepted n →
+    (scanLines (lines t) 0 firstPlace ≡ accepted (map lineOf (lines t))) × (n ≡ length (lines t))
+unfolding scanText
+text-taken t n e =
+    let (ls, f, g) = then-accepted (scanLines (lines t) 0 firstPlace) _ n e in
+    let h = lines-taken (lines t) 0 firstPlace ls f in
+    (f ∙ ap accepted h, sym (accepted-inj g) ∙ (ap length h ∙ length-map (lines t) lineOf))
+
+-- a line of it is clean, so that the search for its end finds its LF
+read-clean : (l : Name) (a : Line) → readLine l ≡ ok a → clean l ≡ true
+unfolding readLine
+read-clean l a e = T-true _ (check-ok (clean l) badByte e .0)
+
+pub taken-clean :
+    (t : List ℕ) (a e : ℕ) → Found t a LineEnd e → a < length t → (x : Line) → readLine (firstLine (drop a t)) ≡ ok x → CleanLine t a e
+taken-clean t a e f h x r = ⊎-elim (clean-line t a e f) (λ n. bad (bad-line t a e f h n)) (decide-eq (getD t e 0) 10)
+  where
+    bad : BadLine (drop a t) → CleanLine t a e
+    bad b = true-false (sym (read-clean _ x r) ∙ (ap clean (first-bad (drop a t) b) ∙ b .bad))
+
+-- the number of its kind is that of its word
+pub kind-of-line : (l : Name) (a : Line) → readLine l ≡ ok a → kindOr0 (kindOf (getD (Text.fields l) 0 [])) ≡ kindNumber (lineOf l .kind)
+unfolding readLine lineOf withDefault
+kind-of-line l a e =
+    let (c, f) = check-ok (clean l) badByte e in
+    let (k, g, h) = bind-ok (orElse (kindOf (getD (Text.fields l) 0 [])) malformed) f in
+    rw (orElse-ok (kindOf (getD (Text.fields l) 0 [])) malformed k g)

@@ -1,4 +1,4 @@
 pub mod Cuts
 pub mod Rows
-pub mod Spots
+pub mod Coded
 pub mod Scans

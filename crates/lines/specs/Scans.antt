@@ -14,7 +14,7 @@ use Rattle.rules.specs.Places as Places
 use Rattle.rules.specs.Places.{placeLine, scanLine, scanLines, firstPlace}
 use Rattle.lines.specs.Cuts.{firstLine}
 use Rattle.lines.specs.Rows.{kindNumbered}
-use Rattle.lines.specs.Spots.{coded}
+use Rattle.lines.specs.Coded.{coded}
 use Rattle.lines.specs.declared.Refusal.{Refusal}
 use Rattle.lines.specs.declared.Refusal.the-variants.{BadByte, Malformed, LimitPassed, TextEnds}
 use Rattle.lines.specs.declared.Place.{Place}

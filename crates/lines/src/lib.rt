@@ -11,7 +11,7 @@ ghost use Rattle.leaves.specs.Sets.{Found};
 ghost use Rattle.leaves.specs.Words.{kindOr0};
 ghost use Rattle.lines.specs.Cuts.{more, NextField, NextAtom};
 ghost use Rattle.lines.specs.Rows.{kindNumbered, rowOf, rowNumber, fitsOperand, fitsTail, formedKind};
-ghost use Rattle.lines.specs.Spots.{coded, fits, inPlace, stageAfter, branchesAfter, placeAfter, withinLimits};
+ghost use Rattle.lines.specs.Coded.{coded, fits, inPlace, stageAfter, branchesAfter, placeAfter, withinLimits};
 ghost use Rattle.lines.specs.Scans.{answerOf, nextPlace, PlacesLine, ScansLine, verdictOf, scanText};
 
 // FIELDS

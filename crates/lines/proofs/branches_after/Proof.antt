@@ -1,8 +1,7 @@
 -- `lines::branches_after` meets its contract. Assumes nothing.
 use borrow.Author.Needs.{needs}
-use mathlib.Core.Path.{sym}
 use borrow.Author.Tests.{ne-eqb}
-use Rattle.lines.specs.Spots.{branchesAfter}
+use Rattle.lines.specs.Coded.{branchesAfter}
 use Rattle.lines.proofs.branches_after.Statement.{statement}
 use Rattle.lines.proofs.branches_after.Tie as tie
 

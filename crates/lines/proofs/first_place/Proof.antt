@@ -1,7 +1,7 @@
 -- `lines::first_place` meets its contract. Assumes nothing.
 use mathlib.Core.Path.{refl}
 use Rattle.rules.specs.Places.{stageNumber}
-use Rattle.lines.specs.Spots.{coded, branchesNumber}
+use Rattle.lines.specs.Coded.{coded, branchesNumber}
 use Rattle.lines.proofs.first_place.Statement.{statement}
 use Rattle.lines.proofs.first_place.Tie as tie
 

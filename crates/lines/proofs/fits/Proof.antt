@@ -1,8 +1,6 @@
 -- `lines::fits` meets its contract. Assumes nothing.
 use borrow.Author.Tests.{ne-eqb}
-use mathlib.Core.Path.{_≡_, refl, sym}
-use Prim.Native.Nat.{ℕ}
-use Rattle.lines.specs.Spots.{fits}
+use Rattle.lines.specs.Coded.{fits}
 use Rattle.lines.proofs.fits.Statement.{statement}
 use Rattle.lines.proofs.fits.Tie as tie
 

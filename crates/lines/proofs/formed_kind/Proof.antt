@@ -1,6 +1,6 @@
 -- `lines::formed_kind` meets its contract. Assumes nothing.
 use borrow.Author.Needs.{needs}
-use mathlib.Core.Path.{_≡_, sym, _∙_}
+use mathlib.Core.Path.{sym, _∙_}
 use Rattle.lines.proofs.Cuts.{fields-from}
 use Rattle.lines.proofs.Rows.{word-bounds, no-kind, formed, unformed}
 use Rattle.lines.proofs.formed_kind.Statement.{statement}

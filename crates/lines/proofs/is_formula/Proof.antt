@@ -1,8 +1,8 @@
 -- `lines::is_formula` meets its contract. The fields that are left are a formula where all are one. Assumes nothing.
 use native.Mathlib.Omega.{arith}
 use borrow.Author.Needs.{needs}
-use mathlib.Core.Path.{_≡_, refl, sym, ap, _∙_}
-use Prim.Native.Nat.{ℕ, suc, _-_, _≤_}
+use mathlib.Core.Path.{_≡_, refl, sym, _∙_}
+use Prim.Native.Nat.{suc, _-_, _≤_}
 use lib.ListN.{length, drop}
 use Rattle.rules.specs.Text.{isFormula}
 use Rattle.lines.specs.Cuts.{more}

@@ -1,17 +1,11 @@
 -- `lines::is_in_place` meets its contract. Assumes nothing.
 use borrow.Author.Needs.{needs}
-use mathlib.Core.Path.{_≡_, refl, sym, ap, _∙_}
-use mathlib.Core.Bool.{_&&_}
-use Prim.Native.Nat.{ℕ, _≤_, _<_}
-use lib.Dec.{leb}
+use mathlib.Core.Path.{ap}
 use borrow.Author.Tests.{le-leb, lt-leb}
 use Rattle.rules.specs.Base.{between}
-use Rattle.rules.specs.Grammar.{form}
-use Rattle.rules.specs.Places.{stageNumber}
-use Rattle.leaves.proofs.Search.{and-false}
 use Rattle.lines.specs.declared.Row.{Row}
-use Rattle.lines.specs.Rows.{kindNumbered, rowOf}
-use Rattle.lines.specs.Spots.{inPlace}
+use Rattle.lines.specs.Rows.{rowOf}
+use Rattle.lines.specs.Coded.{inPlace}
 use Rattle.lines.proofs.is_in_place.Statement.{statement}
 use Rattle.lines.proofs.is_in_place.Tie as tie
 

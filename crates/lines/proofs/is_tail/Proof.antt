@@ -1,6 +1,6 @@
 -- `lines::is_tail` meets its contract. Assumes nothing.
 use borrow.Author.Needs.{needs}
-use mathlib.Core.Path.{sym, _∙_}
+use mathlib.Core.Path.{sym}
 use borrow.Author.Tests.{ne-eqb}
 use Rattle.lines.specs.Rows.{fitsTail}
 use Rattle.lines.proofs.Cuts.{more-tab}

@@ -1,6 +1,6 @@
 -- `lines::is_within_limits` meets its contract. Assumes nothing.
 use borrow.Author.Tests.{le-leb, lt-leb}
-use Rattle.lines.specs.Spots.{withinLimits}
+use Rattle.lines.specs.Coded.{withinLimits}
 use Rattle.lines.proofs.is_within_limits.Statement.{statement}
 use Rattle.lines.proofs.is_within_limits.Tie as tie
 

@@ -1,11 +1,11 @@
 -- `lines::place_after` meets its contract, field by field. Assumes nothing.
 use native.Mathlib.Omega.{arith}
 use borrow.Author.Needs.{needs}
-use mathlib.Core.Path.{_≡_, refl, sym, ap, _∙_}
+use mathlib.Core.Path.{ap}
 use Rattle.lines.specs.declared.Row.{Row}
 use Rattle.lines.specs.Rows.{rowOf}
-use Rattle.lines.specs.Spots.{placeAfter}
-use Rattle.lines.proofs.Spots.{low}
+use Rattle.lines.specs.Coded.{placeAfter}
+use Rattle.lines.proofs.Coded.{low}
 use Rattle.lines.proofs.place_after.Statement.{statement}
 use Rattle.lines.proofs.place_after.Tie as tie
 

@@ -1,6 +1,5 @@
 -- `lines::place_line` meets its contract. Assumes nothing.
 use borrow.Author.Needs.{needs}
-use mathlib.Core.Path.{_≡_, sym, ap, _∙_}
 use Rattle.lines.proofs.Scans.{place-line-is}
 use Rattle.lines.proofs.place_line.Statement.{statement}
 use Rattle.lines.proofs.place_line.Tie as tie

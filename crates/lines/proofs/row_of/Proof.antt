@@ -1,6 +1,6 @@
 -- `lines::row_of` meets its contract. Assumes nothing.
 use borrow.Author.Needs.{needs}
-use mathlib.Core.Path.{_≡_, ap, _∙_}
+use mathlib.Core.Path.{ap, _∙_}
 use Rattle.lines.specs.Rows.{kindNumbered}
 use Rattle.lines.proofs.Rows.{unpacked, row-back}
 use Rattle.lines.proofs.row_of.Statement.{statement}

@@ -1,8 +1,8 @@
 -- `lines::scan` meets its contract: what the lines that are left give from the present place is what the text gives. Assumes nothing.
 use native.Mathlib.Omega.{arith}
 use borrow.Author.Needs.{needs}
-use mathlib.Core.Path.{_≡_, refl, sym, ap, _∙_}
-use Prim.Native.Nat.{ℕ, _≤_, _-_}
+use mathlib.Core.Path.{sym, ap, _∙_}
+use Prim.Native.Nat.{_≤_, _-_}
 use lib.ListN.{length}
 use Rattle.lines.specs.Scans.{answerOf}
 use Rattle.lines.proofs.Cuts.{byte-in, clean-line}

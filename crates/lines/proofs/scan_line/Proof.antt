@@ -1,11 +1,8 @@
 -- `lines::scan_line` meets its contract. Assumes nothing.
 use native.Mathlib.Omega.{arith}
 use borrow.Author.Needs.{needs}
-use mathlib.Core.Path.{_≡_, refl, sym, ap, _∙_}
+use mathlib.Core.Path.{_≡_, sym, _∙_}
 use Prim.Native.Nat.{ℕ}
-use Rattle.leaves.specs.Words.{kindOr0}
-use Rattle.lines.specs.Cuts.{firstLine}
-use Rattle.lines.specs.Rows.{formedKind}
 use Rattle.lines.proofs.Cuts.{clean-line, bad-line, first-clean, first-bad}
 use Rattle.lines.proofs.Rows.{formed-bounds}
 use Rattle.lines.proofs.Scans.{bad-scan, unformed-scan, formed-scan}

@@ -1,7 +1,6 @@
 -- `lines::stage_after` meets its contract. Assumes nothing.
-use mathlib.Core.Path.{sym}
-use borrow.Author.Tests.{ne-eqb, eq-eqb}
-use Rattle.lines.specs.Spots.{stageAfter}
+use borrow.Author.Tests.{ne-eqb}
+use Rattle.lines.specs.Coded.{stageAfter}
 use Rattle.lines.proofs.stage_after.Statement.{statement}
 use Rattle.lines.proofs.stage_after.Tie as tie
 

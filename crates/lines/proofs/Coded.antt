@@ -1,23 +1,21 @@
 -- Laws of places: the numbers of a place stand for what the rules say of it.
-use mathlib.Core.Path.{_≡_, refl, sym, ap, ap₂, _∙_}
-use mathlib.Core.Bool.{Bool, true, false, not, cond, _&&_, _||_}
+use mathlib.Core.Path.{_≡_, refl, sym, _∙_}
+use mathlib.Core.Bool.{Bool, true, false, cond}
 use mathlib.Core.List.{List, [], _∷_}
-use Prim.Native.Nat.{ℕ, zero, suc, _+_, _*_, _/_, _%_, _≤_, _<_}
+use Prim.Native.Nat.{ℕ, _+_, _*_, _/_, _%_, _≤_, _<_}
 use native.Mathlib.Omega.{arith}
-use native.Mathlib.Decide.{decLt}
 use lib.Dec.{eqb, leb, ltb}
 use lib.ListN.{length}
-use borrow.Author.Tests.{eq-eqb, ne-eqb, eqb-true, eqb-false, lt-ltb, le-ltb, le-leb, lt-leb, leb-true, ltb-true}
-use Rattle.rules.specs.Base.{Try, ok, no, check, _>>=_, _>>_, between}
-use Rattle.rules.specs.Answers.{Refusal, malformed, limitPassed}
+use borrow.Author.Tests.{eq-eqb, ne-eqb, eqb-true, eqb-false, lt-ltb, le-ltb, lt-leb, leb-true, ltb-true}
 use Rattle.rules.specs.Grammar.{Kind, form, kindNumber, isKind, isStatement, afterMain, afterMethod}
 use Rattle.rules.specs.Grammar.{Class, Field, Method, Main, Var, Return, If, Else, Join, End}
 use Rattle.rules.specs.Places as Places
-use Rattle.rules.specs.Places.{Branch, beforeElse, afterElse, stageNumber, mayElse, mayJoin, mayEnd, outer, oneMoreIf, placeLine}
+use Rattle.rules.specs.Places.{Branch, beforeElse, afterElse, stageNumber, mayElse, mayJoin, mayEnd, outer}
 use Rattle.leaves.proofs.Search.{both-true}
 use Rattle.lines.specs.declared.Place.{Place}
 use Rattle.lines.specs.Rows.{kindNumbered}
-use Rattle.lines.specs.Spots.{branchNumber, branchesNumber, coded, fits, inPlace, stageAfter, branchesAfter, placeAfter, withinLimits}
+use Rattle.lines.specs.Coded.{branchNumber, branchesNumber, coded, fits, inPlace}
+use Rattle.lines.specs.Coded.{stageAfter, branchesAfter, placeAfter, withinLimits}
 use Rattle.lines.proofs.Rows.{number-of-kind}
 
 eqb-sym : (a b : ℕ) → eqb a b ≡ eqb b a

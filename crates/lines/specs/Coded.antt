@@ -1,7 +1,7 @@
 -- Places as the code has them. Each definition is that of the rules' `Places`, over numbers.
 use mathlib.Core.Bool.{Bool, true, not, cond, _&&_, _||_}
 use mathlib.Core.List.{List, [], _∷_}
-use Prim.Native.Nat.{ℕ, suc, _+_, _*_, _/_, _%_}
+use Prim.Native.Nat.{ℕ, _+_, _*_, _/_, _%_}
 use lib.Dec.{eqb, leb, ltb}
 use Rattle.rules.specs.Base.{between}
 use Rattle.rules.specs.Limits.{most-classes, most-fields, most-methods, most-locals, most-statements}
