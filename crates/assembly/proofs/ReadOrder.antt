@@ -1,24 +1,25 @@
 -- The items of a read text come in order, and its statement rows nest.
 use mathlib.Core.Path.{_≡_, refl, sym, ap, subst}
-use mathlib.Core.Bool.{Bool, true, false, cond, _&&_}
+use mathlib.Core.Bool.{Bool, true, false, not, cond, _&&_}
 use mathlib.Core.List.{List, [], _∷_}
 use Prim.Native.Nat.{ℕ, suc}
 use native.Mathlib.Omega.{arith}
-use lib.Dec.{T, leb, ltb, eqb, leb→le, le→leb}
+use lib.Dec.{T, not-T, leb, ltb, eqb, eqb→eq, leb→le, le→leb}
 use lib.ListN.{length}
 use Rattle.rules.specs.Base.{between}
 use Rattle.rules.specs.Answers.{accepted}
+use Rattle.rules.specs.Syntax as Syntax
 use Rattle.rules.specs.Syntax.{Formula, Stmt, Row, else, join, end}
 use Rattle.rules.specs.Grammar as Grammar
 use Rattle.rules.specs.Grammar.{Kind, Stage, Line, Class, Field, Method, Requires, Ensures, Main, Var, Set, Let, New, Call, Return, Assert, Release, If, Else, Join, End}
 use Rattle.rules.specs.Grammar.{beginning, inClass, afterHeader, inLocals, inBody, afterMain, form, stands, statement, isKind, kindNumber}
 use Rattle.rules.specs.Places as Places
 use Rattle.rules.specs.Places.{Place, Branch, beforeElse, firstPlace, stageNumber, mayElse, mayJoin, mayEnd, outer, fits, inPlace, stageAfter, branchesAfter, placeAfter, withinLimits, ended}
-use Rattle.rules.specs.Scope.{Scope, Variable, Declarations, firstScope}
+use Rattle.rules.specs.Scope.{Scope, Variable, Declarations, declarations, firstScope}
 use Rattle.rules.specs.Items.{Item, aClass, aMethod, aMain, aLocal, aStatement, itemOf, resolveFormula, resolveSet, resolveCall, resolveIf}
-use Rattle.rules.specs.Reading.{readText, partsFrom, withItem, parts}
+use Rattle.rules.specs.Reading.{Parts, readText, partsFrom, withItem, parts, methodOf, program}
 use Rattle.rules.proofs.Lists.{and-both, and-intro}
-use Rattle.rules.proofs.LinesTaken.{TakenLines, none, line, read-taken}
+use Rattle.rules.proofs.LinesTaken.{TakenLines, none, line, seen, read-taken}
 use Rattle.assembly.specs.Flat.{Stand, free, afterMethod, afterRequires, inMain, standAfter, endsAt, inOrder}
 use Rattle.assembly.specs.Nests.{Wait, forElse, forJoin, rowNests, rowsNest}
 
@@ -233,9 +234,9 @@ begin-nests b [] [] t = tt
 begin-nests b (v ∷ ws) [] t = t
 begin-nests b ws (r ∷ rs) t = t
 
--- after main's `end` no branch is open
+-- outside of bodies no branch is open
 abbrev Closed : Place → Type 0
-Closed p = T (ended p) → p .branches ≡ []
+Closed p = T (not (eqb (stageNumber (p .stage)) 6)) → p .branches ≡ []
 
 -- rows that nest inside a block are some
 some-nests : (b : Bool) (ws : List Wait) (rs : List Row) → T (rowsNest false ws rs) → T (rowsNest b ws rs)
@@ -280,7 +281,7 @@ few-branches q t =
     let d = and-both (leb (q .locals) 12) _ c .1 in
     and-both (leb (q .statements) 256) (leb (length (q .branches)) 4) d .1
 
-module _ (Γ : Declarations) (vs : List Variable) (l : Line) (p : Place) (n : ℕ) (rest : List Item) where
+module _ (Γ : Declarations) (vs : List Variable) (l : Line) (p : Place) (closed : Closed p) (n : ℕ) (rest : List Item) where
   rows : List Row
   rows = partsFrom (suc n) rest .rows
 
@@ -291,19 +292,26 @@ module _ (Γ : Declarations) (vs : List Variable) (l : Line) (p : Place) (n : �
       T (rowsNest (ended p) (waits (p .branches)) (partsFrom n (itemOf Γ vs k l ∷ rest) .rows)))
       × Closed (placeAfter k p)
 
+  -- a line that stands before bodies only
+  not-body : (k : Kind) → T (leb (stageNumber (form k .last)) 5) → T (inPlace k p) → T (not (eqb (stageNumber (p .stage)) 6))
+  not-body k l i =
+      let h = leb→le (stageNumber (p .stage)) (stageNumber (form k .last)) (bounds k p i .1) in
+      let g = leb→le (stageNumber (form k .last)) 5 l in
+      not-T (eqb (stageNumber (p .stage)) 6) (λ t. omega (arith, h, g, eqb→eq (stageNumber (p .stage)) 6 t))
+
   fit : (k : Kind) → T (inPlace k p) → T (fits k p)
   unfolding inPlace
   fit k i = and-both (between (stageNumber (form k .first)) (stageNumber (form k .last)) (stageNumber (p .stage))) (fits k p) i .1
 
   line-nests : (k : Kind) → Nests k
   unfolding Nests rows partsFrom withItem parts itemOf placeAfter stageAfter branchesAfter ended stageNumber form stands statement isKind kindNumber rowsNest rowNests resolveSet resolveCall resolveIf fits
-  line-nests Class i w = (some-nests (ended p) (waits (p .branches)) rows, λ e. absurd e)
-  line-nests Field i w = (some-nests (ended p) (waits (p .branches)) rows, λ e. absurd e)
-  line-nests Method i w = (some-nests (ended p) (waits (p .branches)) rows, λ e. absurd e)
-  line-nests Requires i w = (some-nests (ended p) (waits (p .branches)) rows, λ e. absurd e)
-  line-nests Ensures i w = (some-nests (ended p) (waits (p .branches)) rows, λ e. absurd e)
-  line-nests Main i w = (some-nests (ended p) (waits (p .branches)) rows, λ e. absurd e)
-  line-nests Var i w = (some-nests (ended p) (waits (p .branches)) rows, λ e. absurd e)
+  line-nests Class i w = (some-nests (ended p) (waits (p .branches)) rows, λ e. closed (not-body Class tt i))
+  line-nests Field i w = (some-nests (ended p) (waits (p .branches)) rows, λ e. closed (not-body Field tt i))
+  line-nests Method i w = (some-nests (ended p) (waits (p .branches)) rows, λ e. closed (not-body Method tt i))
+  line-nests Requires i w = (some-nests (ended p) (waits (p .branches)) rows, λ e. closed (not-body Requires tt i))
+  line-nests Ensures i w = (some-nests (ended p) (waits (p .branches)) rows, λ e. closed (not-body Ensures tt i))
+  line-nests Main i w = (some-nests (ended p) (waits (p .branches)) rows, λ e. closed (not-body Main tt i))
+  line-nests Var i w = (some-nests (ended p) (waits (p .branches)) rows, λ e. closed (not-body Var tt i))
   line-nests Set i w = (λ t. t, λ e. absurd e)
   line-nests Let i w = (λ t. t, λ e. absurd e)
   line-nests New i w = (λ t. t, λ e. absurd e)
@@ -322,15 +330,87 @@ module _ (Γ : Declarations) (vs : List Variable) (l : Line) (p : Place) (n : �
 lines-nest :
     (text : List Line) (p : Place) (s : Scope) (ls : List Line) (items : List Item) (n : ℕ) → TakenLines text p s ls items →
     Closed p → T (rowsNest (ended p) (waits (p .branches)) (partsFrom n items .rows))
-unfolding Nests rows partsFrom parts waits rowsNest
+unfolding Nests rows partsFrom parts waits rowsNest ended stageNumber
 lines-nest text p s ls items n (none e) h =
-    subst (λ (bs : List Branch). T (rowsNest (ended p) (waits bs) [])) (sym (h e)) e
+    subst (λ (bs : List Branch). T (rowsNest (ended p) (waits bs) [])) (sym (h (not-six (stageNumber (p .stage)) e))) e
+  where
+    not-six : (k : ℕ) → T (eqb k 7) → T (not (eqb k 6))
+    not-six k t = not-T (eqb k 6) (λ u. omega (arith, eqb→eq k 7 t, eqb→eq k 6 u))
 lines-nest text p s ls items n (line {l = l} {items = rest} L R) h =
-    let (o, c) = line-nests _ _ l p n rest (l .kind) (L .in-place) (L .within) in
+    let (o, c) = line-nests _ _ l p h n rest (l .kind) (L .in-place) (L .within) in
     o (lines-nest text _ _ _ rest (suc n) R c)
 
 pub read-nests : (t : List ℕ) (items : List Item) → readText t ≡ accepted items → T (rowsNest true [] (partsFrom 0 items .rows))
 unfolding ended stageNumber waits
 read-nests t items e =
     let (text, K) = read-taken t items e in
-    begin-nests (ended firstPlace) [] (partsFrom 0 items .rows) (lines-nest text firstPlace firstScope text items 0 K (λ e. absurd e))
+    begin-nests (ended firstPlace) [] (partsFrom 0 items .rows) (lines-nest text firstPlace firstScope text items 0 K (λ e. refl))
+
+-- BLOCKS
+
+-- each of these bodies is a block whose branches nest
+abbrev pub BodiesNest : List Syntax.Method → Type 0
+BodiesNest [] = Unit {0}
+BodiesNest (M ∷ Ms) = T (rowsNest false [] (M .body)) × BodiesNest Ms
+
+module _ (Γ : Declarations) (vs : List Variable) (l : Line) (p : Place) (closed : Closed p) (n : ℕ) (rest : List Item) where
+  later : Parts
+  later = partsFrom (suc n) rest
+
+  -- methods from here on, and main where its line is still to come
+  Blocks : Kind → Type 0
+  Blocks k =
+      T (inPlace k p) → T (rowsNest (ended (placeAfter k p)) (waits (placeAfter k p .branches)) (later .rows)) →
+      BodiesNest (later .methods) → (placeAfter k p .main ≡ false → T (rowsNest false [] (later .main))) →
+      BodiesNest (partsFrom n (itemOf Γ vs k l ∷ rest) .methods)
+      × (p .main ≡ false → T (rowsNest false [] (partsFrom n (itemOf Γ vs k l ∷ rest) .main)))
+
+  -- a block that begins after this line
+  begins : (k : Kind) → T (leb (stageNumber (form k .last)) 5) → T (inPlace k p) → T (rowsNest false (waits (p .branches)) (later .rows)) → T (rowsNest false [] (later .rows))
+  unfolding waits
+  begins k u i t =
+      subst (λ (bs : List Branch). T (rowsNest false (waits bs) (later .rows))) (closed (not-body Γ vs l p closed n rest k u i)) t
+
+  line-blocks : (k : Kind) → Blocks k
+  unfolding Blocks later partsFrom withItem parts methodOf itemOf placeAfter stageAfter branchesAfter ended stageNumber form stands statement isKind kindNumber
+  line-blocks Class i t ms m = (ms, m)
+  line-blocks Field i t ms m = (ms, m)
+  line-blocks Method i t ms m = ((begins Method tt i t, ms), m)
+  line-blocks Requires i t ms m = (ms, m)
+  line-blocks Ensures i t ms m = (ms, m)
+  line-blocks Main i t ms m = (ms, λ e. begins Main tt i t)
+  line-blocks Var i t ms m = (ms, m)
+  line-blocks Set i t ms m = (ms, m)
+  line-blocks Let i t ms m = (ms, m)
+  line-blocks New i t ms m = (ms, m)
+  line-blocks Call i t ms m = (ms, m)
+  line-blocks Return i t ms m = (ms, m)
+  line-blocks Assert i t ms m = (ms, m)
+  line-blocks Release i t ms m = (ms, m)
+  line-blocks If i t ms m = (ms, m)
+  line-blocks Else i t ms m = (ms, m)
+  line-blocks Join i t ms m = (ms, m)
+  line-blocks End i t ms m = (ms, m)
+
+lines-blocks :
+    (text : List Line) (p : Place) (s : Scope) (ls : List Line) (items : List Item) (n : ℕ) → TakenLines text p s ls items →
+    Closed p → MainInside p →
+    BodiesNest (partsFrom n items .methods) × (p .main ≡ false → T (rowsNest false [] (partsFrom n items .main)))
+unfolding Nests rows Ordered Blocks later partsFrom parts ended stageNumber
+lines-blocks text p s ls items n (none e) h g = (tt, λ f. absurd (subst T f (g .1 e)))
+lines-blocks text p s ls items n (line {p = q} {s = r} {l = l} {items = rest} L R) h g =
+    let Γ : Declarations = declarations text in
+    let vs : List Variable = seen r l in
+    let (o, c) = line-nests Γ vs l q h n rest (l .kind) (L .in-place) (L .within) in
+    let (_, i) = line-order Γ vs l q (λ z. true) g (l .kind) (L .in-place) in
+    let (ms, m) = lines-blocks text _ _ _ rest (suc n) R c i in
+    line-blocks Γ vs l q h n rest (l .kind) (L .in-place) (lines-nest text _ _ _ rest (suc n) R c) ms m
+
+pub read-blocks :
+    (t : List ℕ) (items : List Item) → readText t ≡ accepted items →
+    BodiesNest (program items .methods) × T (rowsNest false [] (program items .main))
+unfolding program stageNumber
+read-blocks t items e =
+    let (text, K) = read-taken t items e in
+    let (ms, m) = lines-blocks text firstPlace firstScope text items 0 K (λ e. refl) (λ u. absurd u, λ v. absurd v) in
+    (ms, m refl)

@@ -165,7 +165,7 @@ pub record Finished (D : Declared) (w : List ℕ) (F : Flat) (n : ℕ) : Type 0 
 
 -- what `RowFits` says of the rows that follow a row
 pub record TargetFits (w : List ℕ) (i : ℕ) : Type 0 where
-  pub target : targetAt w i < rowCount w
+  pub target : (kindAt w i ≡ 15) ⊎ (kindAt w i ≡ 16) → targetAt w i < rowCount w
   pub after-else : kindAt w i ≡ 15 → drop (targetAt w i) (allRows w) ≡ afterElse (drop i (allRows w))
   pub to-join : kindAt w i ≡ 16 → drop (targetAt w i) (allRows w) ≡ toJoin (drop i (allRows w))
   pub next : (kindAt w i ≡ 18) ⊎ (suc i < rowCount w)

@@ -309,7 +309,7 @@ module _ (w w′ : List ℕ) (same : SameTables w w′) where
           method = λ e. rw (member-same i s, methods-count-same) (f .method (k ∙ e));
           atoms = fit-kept _ _ _ _ (first-atom-same i s) (atom-count-same i s) (f .atoms);
           one-atom = λ o. atom-count-same i s ∙ f .one-atom (⊎-elim (λ e. inl (k ∙ e)) (λ e. inr (k ∙ e)) o);
-          target = omega (arith, t, rows-count-same, f .target);
+          target = λ o. omega (arith, t, rows-count-same, f .target (⊎-elim (λ e. inl (k ∙ e)) (λ e. inr (k ∙ e)) o));
           after-else = λ e. rw (t, all-same) (f .after-else (k ∙ e));
           to-join = λ e. rw (t, all-same) (f .to-join (k ∙ e));
           next = ⊎-elim (λ e. inl (sym k ∙ e)) (λ n. inr (omega (arith, n, rows-count-same))) (f .next);

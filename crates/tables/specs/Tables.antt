@@ -44,7 +44,7 @@ pub record RowFits (w : List ℕ) (i : ℕ) : Type 0 where
   pub method : kindAt w i ≡ 11 → memberAt w i < methodCount w
   pub atoms : AtomsFit w (firstAtomAt w i) (atomCountAt w i)
   pub one-atom : (kindAt w i ≡ 9) ⊎ (kindAt w i ≡ 15) → atomCountAt w i ≡ 1
-  pub target : targetAt w i < rowCount w
+  pub target : (kindAt w i ≡ 15) ⊎ (kindAt w i ≡ 16) → targetAt w i < rowCount w
   pub after-else : kindAt w i ≡ 15 → drop (targetAt w i) (allRows w) ≡ afterElse (drop i (allRows w))
   pub to-join : kindAt w i ≡ 16 → drop (targetAt w i) (allRows w) ≡ toJoin (drop i (allRows w))
   pub next : (kindAt w i ≡ 18) ⊎ (suc i < rowCount w)

@@ -29,7 +29,7 @@ row-nested (join φ) (forJoin ∷ ws) k l h t = h ws t
 row-nested end [] k l h t = tt
 row-nested end (v ∷ ws) k l h t = absurd t
 
-rows-nested : (rs : List Row) (ws : List Wait) → T (rowsNest false ws rs) → T (nested rs (length ws))
+pub rows-nested : (rs : List Row) (ws : List Wait) → T (rowsNest false ws rs) → T (nested rs (length ws))
 unfolding rowsNest nested
 rows-nested [] [] t = t
 rows-nested [] (v ∷ ws) t = absurd t
