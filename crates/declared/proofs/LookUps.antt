@@ -1,21 +1,21 @@
 -- What a search among the rows says of the declarations and variables that they mean.
 use mathlib.Core.Path.{_≡_, refl, sym, ap, _∙_}
 use mathlib.Core.Bool.{Bool, true, false, not, cond, _&&_, _||_}
-use mathlib.Core.List.{List, [], _∷_, _++_, map}
+use mathlib.Core.List.{List, [], _∷_, map}
 use mathlib.Core.Option.{Option, none, some}
-use Prim.Native.Nat.{ℕ, zero, suc, _+_, _-_, _≤_, _<_}
+use Prim.Native.Nat.{ℕ, zero, suc, _+_, _≤_, _<_}
 use native.Mathlib.Omega.{arith}
 use native.Mathlib.Numerals.{add-one}
 use lib.Dec.{eqb, ltb}
-use lib.ListN.{length, getD}
-use borrow.Author.Tests.{lt-ltb, le-ltb, ltb-true, ltb-false, eq-eqb, ne-eqb}
+use lib.ListN.{getD}
+use borrow.Author.Tests.{lt-ltb, ltb-true, ltb-false, eq-eqb, ne-eqb}
 use Rattle.rules.specs.Base.{Name, bytes, is, eqName, any, first, index, withDefault}
 use Rattle.rules.specs.Text.{reserved}
 use Rattle.rules.specs.Syntax.{this-variable, result-variable}
-use Rattle.rules.specs.Scope.{FieldDeclaration, MethodDeclaration, Declarations, Variable}
+use Rattle.rules.specs.Scope.{Variable}
 use Rattle.rules.specs.Names.{agree, noVariable, noField, noDeclaration, classNumber, isFieldOf, isMethodOf, fieldType, fieldNumber, methodNumber, inScope, lookUp, variableNumber, variableType}
 use Rattle.declared.specs.declared.Names.{Names}
-use Rattle.declared.specs.Rows.{Entry, entryAt, rows, isEntry, any-owner, nameIn, givesAt, takesAt, classes-first, fields-first, methods-first, variables-first}
+use Rattle.declared.specs.Rows.{Entry, entryAt, rows, isEntry, any-owner, nameIn, givesAt, classes-first, fields-first, methods-first, variables-first}
 use Rattle.declared.specs.Meanings.{asField, asMethod, namesFrom, declarationsIn, variableAt, thisIn, resultIn, blockIn, ownVariables}
 use Rattle.declared.specs.declared.ExprType.{ExprType}
 use Rattle.declared.specs.Answers.{typeOf, Looked, ownIn, typeMeant, isIntType, isNew}

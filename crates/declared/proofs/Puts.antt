@@ -1,16 +1,13 @@
 -- Laws of what is written: a row reads back as it was written, and all else stays.
-use mathlib.Core.Path.{_≡_, refl, sym, ap, _∙_}
+use mathlib.Core.Path.{_≡_, ap, _∙_}
 use mathlib.Core.List.{List, [], _∷_, _++_}
-use mathlib.Core.Logic.{_⊎_, inl, inr, ⊎-elim}
-use Prim.Native.Nat.{ℕ, zero, suc, _+_, _*_, _≤_, _<_}
+use mathlib.Core.Logic.{_⊎_, inl, inr}
+use Prim.Native.Nat.{ℕ, _+_, _≤_, _<_}
 use native.Mathlib.Omega.{arith}
 use native.Mathlib.Numerals.{add-one}
-use native.Mathlib.Nat.{le-refl}
-use lib.ListN.{length, getD, set, length-set}
+use lib.ListN.{length, length-set}
 use lib.Seq.{getD-set-same, getD-set-other}
-use Rattle.rules.specs.Base.{Name}
 use Rattle.rules.specs.Limits.{work-bytes}
-use Rattle.tables.specs.Layout.{names-at}
 use Rattle.tables.specs.Decode.{byteAt, halfAt}
 use Rattle.tables.specs.Stores.{putByte, putHalf, Kept, SameTables}
 use Rattle.tables.proofs.Bytes.{Outside, put-half-length, put-half-byte, half-put, half-kept}

@@ -3,25 +3,24 @@ use mathlib.Core.Path.{_≡_, refl, sym, ap, ap₂, _∙_}
 use mathlib.Core.Bool.{Bool, true, false, not, cond, _&&_}
 use mathlib.Core.List.{List, [], _∷_, _++_, append-nil}
 use mathlib.Core.Logic.{_⊎_, inl, inr, ⊎-elim}
-use Prim.Native.Nat.{ℕ, zero, suc, _+_, _-_, _*_, _≤_, _<_}
+use Prim.Native.Nat.{ℕ, suc, _+_, _-_, _≤_, _<_}
 use native.Mathlib.Omega.{arith}
 use native.Mathlib.Numerals.{add-one}
 use lib.Dec.{eqb}
 use lib.ListN.{length}
-use borrow.Author.Tests.{eqb-true, eqb-false}
 use Rattle.rules.specs.Base.{Name, bytes}
 use Rattle.rules.specs.Limits.{most-classes, most-methods, most-locals, work-bytes}
 use Rattle.rules.specs.Syntax.{this-variable, parameter, first-local, result-variable}
 use Rattle.rules.specs.Grammar.{Kind, isKind, Requires}
-use Rattle.rules.specs.Scope.{FieldDeclaration, MethodDeclaration, Declarations, Variable, Block, Scope, Members, methodBlock, withLocal, visible}
+use Rattle.rules.specs.Scope.{Variable, methodBlock, withLocal, visible}
 use Rattle.tables.specs.Layout.{most-names, names-at, values-at}
 use Rattle.tables.specs.Stores.{Kept, SameTables}
-use Rattle.tables.proofs.Bytes.{same-trans, kept-trans}
+use Rattle.tables.proofs.Bytes.{same-trans}
 use Rattle.declared.specs.declared.Span.{Span}
 use Rattle.declared.specs.declared.Row.{Row}
 use Rattle.declared.specs.declared.Names.{Names}
 use Rattle.declared.specs.declared.Above.{Above}
-use Rattle.declared.specs.Rows.{rows, row-bytes, rowPlace, most-rows, nameIn, Entry, entryAt, entryOf, SpanFits, RowFits, putRow, classes-first, fields-first, methods-first, variables-first}
+use Rattle.declared.specs.Rows.{rows, rowPlace, most-rows, nameIn, Entry, entryAt, entryOf, SpanFits, RowFits, putRow, classes-first, fields-first, methods-first, variables-first}
 use Rattle.declared.specs.Meanings.{typeAt, Fits, AboveFits, asField, asMethod, namesFrom, declarationsIn, thisIn, resultIn, variableAt, ownVariables, blockIn, variablesIn, classAbove, scopeIn, moreClasses, moreFields, moreMethods, moreLocals, noSpan, variableRow, putBlock}
 use Rattle.declared.proofs.Searches.{rows-same, rows-end}
 use Rattle.declared.proofs.Puts.{none-fits, entry-kept, row-length, row-other, row-tables, row-put, other-row, range-kept, range-other, range-more}

@@ -1,15 +1,14 @@
 -- Laws of rows, and of the search for the first that passes a test.
 use mathlib.Core.Path.{_≡_, refl, sym, ap, _∙_}
-use mathlib.Core.Bool.{Bool, true, false, cond, _&&_, _||_}
+use mathlib.Core.Bool.{Bool, true, false, cond, _||_}
 use mathlib.Core.List.{List, [], _∷_, _++_}
-use mathlib.Core.Option.{Option, none, some}
+use mathlib.Core.Option.{some}
 use Prim.Native.Nat.{ℕ, zero, suc, _+_, _-_, _≤_, _<_}
 use native.Mathlib.Omega.{arith}
 use native.Mathlib.Nat.{add-zero, zero-add}
-use native.Mathlib.Numerals.{add-one}
 use lib.Dec.{eqb, ltb, eqb·zero-suc, eqb·suc-zero, eqb·suc-suc, leb·suc-suc}
 use lib.ListN.{length, getD}
-use borrow.Author.Tests.{lt-ltb, le-ltb}
+use borrow.Author.Tests.{lt-ltb}
 use Rattle.rules.specs.Base.{Name, eqName, any, first, index, withDefault}
 use Rattle.declared.specs.Rows.{rows}
 
@@ -54,29 +53,38 @@ rows-same f g i j (suc n) h =
     rw (a, b) (h (suc k) (omega arith))) in
     rw (e, r)
 
--- THE SEARCH, ONE STEP: at the i-th of n rows
+-- THE SEARCH, ONE STEP: the first of n rows from `from` on that passes p stands i after, plus where it stands among those from i on
 module _ {A : Type 0} (p : A → Bool) (f : ℕ → A) (from n : ℕ) where
-  pub begin : 0 + index p (rows f (from + 0) (n - 0)) ≡ index p (rows f from n)
+  abbrev pub At : ℕ → Type 0
+  At i = i + index p (rows f (from + i) (n - i)) ≡ index p (rows f from n)
+
+  pub begin : At 0
   begin =
       let z : from + 0 ≡ from = omega arith in
       let m : n - 0 ≡ n = omega arith in
       zero-add _ ∙ rw (z, m)
 
-module _ {A : Type 0} (p : A → Bool) (f : ℕ → A) (from n i : ℕ) where
-  pub here : i < n → p (f (from + i)) ≡ true → index p (rows f (from + i) (n - i)) ≡ 0
+  pub here : (i : ℕ) → At i → i < n → p (f (from + i)) ≡ true → i ≡ index p (rows f from n)
   unfolding rows index
-  here l e = let z : n - i ≡ suc (n - suc i) = omega arith in rw (z, e)
+  here i h l e =
+      let z : n - i ≡ suc (n - suc i) = omega arith in
+      let q : index p (rows f (from + i) (n - i)) ≡ 0 = rw (z, e) in
+      omega (arith, h, q)
 
-  pub on : i < n → p (f (from + i)) ≡ false → index p (rows f (from + i) (n - i)) ≡ suc (index p (rows f (from + (i + 1)) (n - (i + 1))))
+  pub on : (i : ℕ) → At i → i < n → p (f (from + i)) ≡ false → At (i + 1)
   unfolding rows index
-  on l e =
+  on i h l e =
       let z : n - i ≡ suc (n - (i + 1)) = omega arith in
       let s : from + (i + 1) ≡ suc (from + i) = omega arith in
-      rw (z, e, s)
+      let q : index p (rows f (from + i) (n - i)) ≡ suc (index p (rows f (from + (i + 1)) (n - (i + 1)))) = rw (z, e, s) in
+      omega (arith, h, q)
 
-  pub over : n ≤ i → index p (rows f (from + i) (n - i)) ≡ 0
+  pub over : (i : ℕ) → At i → n ≤ i → i ≡ index p (rows f from n)
   unfolding rows index
-  over l = let z : n - i ≡ 0 = omega arith in rw z
+  over i h l =
+      let z : n - i ≡ 0 = omega arith in
+      let q : index p (rows f (from + i) (n - i)) ≡ 0 = rw z in
+      omega (arith, h, q)
 
 -- THE SEARCH AS A WHOLE
 step : {A : Type 0} (P : A → Type 0) (q : Bool) {a b : A} → (q ≡ true → P a) → (q ≡ false → P b) → P (cond q a b)

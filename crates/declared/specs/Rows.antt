@@ -1,9 +1,9 @@
 -- Rows of names in the work area: where each stands, what it holds, and what is written.
 use mathlib.Core.Bool.{Bool, _&&_, _||_}
 use mathlib.Core.List.{List, [], _∷_}
-use Prim.Native.Nat.{ℕ, zero, suc, _+_, _*_, _≤_, _<_}
+use Prim.Native.Nat.{ℕ, zero, suc, _+_, _*_, _<_}
 use lib.Dec.{eqb}
-use lib.ListN.{take, drop, set}
+use lib.ListN.{take, drop}
 use Rattle.rules.specs.Base.{Name, eqName}
 use Rattle.tables.specs.Layout.{names-at}
 use Rattle.tables.specs.Decode.{byteAt, halfAt}

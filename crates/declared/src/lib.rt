@@ -1,22 +1,22 @@
 use tables::Expr;
 use tables::Layout;
 ghost use mathlib.Core.Path.{_≡_};
-ghost use mathlib.Core.Bool.{Bool, true, false, not, _&&_, _||_};
+ghost use mathlib.Core.Bool.{true, false, not, _||_};
 ghost use mathlib.Core.List.{List, map};
 ghost use mathlib.Core.Option.{some};
-ghost use lib.Dec.{eqb, ltb};
+ghost use lib.Dec.{eqb};
 ghost use Prim.Native.Nat.{ℕ, _+_, _*_, _≤_, _<_};
 ghost use lib.ListN.{length, getD};
-ghost use Rattle.rules.specs.Base.{is, eqName, any, index};
+ghost use Rattle.rules.specs.Base.{is, eqName, index};
 ghost use Rattle.rules.specs.Syntax.{path};
 ghost use Rattle.rules.specs.Limits.{work-bytes, most-classes, most-methods, most-locals};
 ghost use Rattle.rules.specs.Text.{reserved, isExpr, exprOf};
 ghost use Rattle.rules.specs.Grammar.{isOperand};
-ghost use Rattle.rules.specs.Names.{agree, classNumber, isClass, isType, isFieldOf, isMethodOf, fieldType, fieldNumber, methodNumber, noDeclaration, inScope, variableNumber, variableType, isInt, known, knownExpr, ofClass, ofClassIn, exprType, mayBeAssigned, isLocal};
+ghost use Rattle.rules.specs.Names.{agree, classNumber, isClass, isType, isFieldOf, fieldType, fieldNumber, methodNumber, noDeclaration, inScope, variableType, isInt, known, knownExpr, ofClass, ofClassIn, exprType, mayBeAssigned};
 ghost use Rattle.rules.specs.Items.{resolveExpr};
 ghost use Rattle.tables.specs.Layout.{most-names};
 ghost use Rattle.tables.specs.Stores.{meaning};
-ghost use Rattle.declared.specs.Rows.{rows, rowPlace, most-rows, nameIn, spanAt, ownerAt, nameAt, givesAt, takesAt, entryAt, isEntry, any-owner, SpanFits, RowFits, putSpan, putRow, classes-first, fields-first, methods-first, variables-first};
+ghost use Rattle.declared.specs.Rows.{rows, most-rows, nameIn, spanAt, ownerAt, nameAt, givesAt, takesAt, entryAt, isEntry, any-owner, SpanFits, RowFits, putSpan, putRow, classes-first, fields-first, methods-first, variables-first};
 ghost use Rattle.declared.specs.Meanings.{Fits, AboveFits, namesFrom, declarationsIn, variablesIn, blockIn, scopeIn, noSpan, classRow, fieldRow, variableRow, moreClasses, moreFields, moreMethods, moreLocals, putBlock};
 ghost use Rattle.declared.specs.Answers.{typeOf, ownIn, isIntType, Looked, isNew, fieldKnown, methodKnown, typeMeant, operandMeant};
 

@@ -1,14 +1,14 @@
-use Prim.Native.Nat.{_+_, _-_, _≤_}
-use Rattle.declared.proofs.Searches.{begin, here, on, over}
+-- The invariant: among the rows from i on the first stands where it stands among all.
+use Prim.Native.Nat.{_-_, _≤_}
+use Rattle.declared.proofs.Searches.{At, begin, here, on, over}
 use Rattle.declared.proofs.find.Statement.{statement}
 use Rattle.declared.specs.Rows.{rows, entryAt, isEntry}
-use Rattle.rules.specs.Base.{index}
-use mathlib.Core.Path.{_≡_, sym, _∙_}
+use mathlib.Core.Path.{sym, _∙_}
 use native.Mathlib.Omega.{arith}
 use Rattle.declared.proofs.find.Tie as tie
 
 abbrev Inv-loop : tie.InvT-loop
-Inv-loop text work first count owner x i₀ i = (i ≤ count) × (i + index (isEntry owner x) (rows (entryAt text work) (first + i) (count - i)) ≡ index (isEntry owner x) (rows (entryAt text work) first count))
+Inv-loop text work first count owner x i₀ i = (i ≤ count) × At (isEntry owner x) (entryAt text work) first count i
 
 abbrev μ-loop : tie.MeasureT-loop
 μ-loop text work first count owner x i₀ i = count - i
@@ -23,7 +23,7 @@ is-row-requires : tie.Need-is-row-requires Inv-loop μ-loop
 is-row-requires c κs = omega arith
 
 returns : tie.Need-returns Inv-loop μ-loop
-returns c = let s = c .before .before .before .before .before .before .before .args in (omega (arith, c .before .before .before .loop .inv .1, here (isEntry (s .owner) (s .x .now)) (entryAt (s .text .now) (s .work .now)) (s .first) (s .count) (c .before .before .before .loop .i) (c .before .before .loop-test .taken) (sym (c .before .is-row .ensures) ∙ c .if1 .taken)), omega arith)
+returns c = (here _ _ _ _ _ (c .before .before .before .loop .inv .1) (c .before .before .loop-test .taken) (sym (c .before .is-row .ensures) ∙ c .if1 .taken), omega arith)
 
 add-i : tie.Need-add-i Inv-loop μ-loop
 add-i c = omega arith
@@ -32,10 +32,10 @@ loop-less : tie.Need-loop-less Inv-loop μ-loop
 loop-less c = omega arith
 
 loop-again : tie.Need-loop-again Inv-loop μ-loop
-loop-again c = let s = c .before .before .before .before .before .before .before .args in (omega arith, omega (arith, c .before .before .before .loop .inv .1, on (isEntry (s .owner) (s .x .now)) (entryAt (s .text .now) (s .work .now)) (s .first) (s .count) (c .before .before .before .loop .i) (c .before .before .loop-test .taken) (sym (c .before .is-row .ensures) ∙ c .if1 .left)))
+loop-again c = (omega arith, on _ _ _ _ _ (c .before .before .before .loop .inv .1) (c .before .before .loop-test .taken) (sym (c .before .is-row .ensures) ∙ c .if1 .left))
 
 returns-2 : tie.Need-returns-2 Inv-loop μ-loop
-returns-2 c = let s = c .before .before .before .before .before .args in (omega (arith, c .before .loop .inv .1, over (isEntry (s .owner) (s .x .now)) (entryAt (s .text .now) (s .work .now)) (s .first) (s .count) (c .before .loop .i) (c .loop-test .left)), omega arith)
+returns-2 c = (over _ _ _ _ _ (c .before .loop .inv .1) (c .loop-test .left), omega arith)
 
 pub find-spec : {M : Type 1} → statement M
 find-spec =

@@ -11,6 +11,7 @@ use denote.Enum.Declared.{tagOf}
 use mathlib.Core.Bool.{true}
 use mathlib.Core.List.{List, [], _∷_}
 use mathlib.Core.Path.{_≡_, refl}
+use native.Mathlib.Omega.{arith}
 use types.Run.{OneOf, miss}
 use Rattle.declared.proofs.may_be_assigned.Tie as tie
 
@@ -42,11 +43,11 @@ variable-requires c κs = search needs
 
 returns-2 : tie.Need-returns-2
 unfolding mayBeAssigned operandMeant isLocal
-returns-2 c = rw (c .before .before .enum-told .given .1, ← c .before .variable .ensures .number, lt-leb _ _ (c .if1 .taken))
+returns-2 c = rw (c .before .before .enum-told .given .1, ← c .before .variable .ensures .number, lt-leb 2 (c .before .variable .result) (omega arith))
 
 returns-3 : tie.Need-returns-3
 unfolding mayBeAssigned operandMeant isLocal
-returns-3 c = rw (c .before .before .enum-told .given .1, ← c .before .variable .ensures .number, le-leb _ _ (c .if1 .left))
+returns-3 c = rw (c .before .before .enum-told .given .1, ← c .before .variable .ensures .number, le-leb 2 (c .before .variable .result) (omega arith))
 
 pub may-be-assigned-spec : {M : Type 1} → statement M
 may-be-assigned-spec = tie.close (tie.spec enum-told returns variable-requires returns-2 returns-3)
