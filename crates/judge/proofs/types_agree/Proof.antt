@@ -1,0 +1,27 @@
+use borrow.Author.Needs.{needs}
+use Rattle.judge.proofs.types_agree.Statement.{statement}
+use Rattle.judge.proofs.types_agree.Tie as tie
+use Rattle.judge.proofs.types_agree.Reads as reads
+use Rattle.judge.proofs.types_agree.Lts as lts
+use Rattle.declared.proofs.agree.Reads as agree-reads
+use Rattle.declared.proofs.expr_type.Reads as expr-type-reads
+
+-- src/lib.rt:120:9
+expr-type-requires : tie.Need-expr-type-requires
+expr-type-requires c κs = search needs
+
+-- src/lib.rt:121:9
+expr-type-requires-2 : tie.Need-expr-type-requires-2
+expr-type-requires-2 c κs = search needs
+
+-- src/lib.rt:122:5
+agree-requires : tie.Need-agree-requires
+agree-requires c κs = search needs
+
+-- src/lib.rt:116:1
+returns : tie.Need-returns
+returns c = ?
+
+pub types-agree-spec : {M : Type 1} → statement M
+types-agree-spec =
+    tie.close (tie.spec expr-type-requires expr-type-requires-2 agree-requires returns)
