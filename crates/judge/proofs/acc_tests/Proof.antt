@@ -1,3 +1,6 @@
+use Rattle.rules.specs.Grammar.{isOperand}
+use Rattle.declared.specs.Answers.{operandMeant}
+use mathlib.Core.Path.{_∙_}
 use borrow.Author.Needs.{needs}
 use Rattle.judge.proofs.acc_tests.Statement.{statement}
 use Rattle.judge.proofs.acc_tests.Tie as tie
@@ -6,33 +9,29 @@ use Rattle.judge.proofs.acc_tests.Lts as lts
 use Rattle.judge.proofs.both.Reads as both-reads
 use Rattle.judge.proofs.field_tests.Reads as field-tests-reads
 
--- src/lib.rt:130:62
 sub-field-tests : tie.Need-sub-field-tests
 sub-field-tests c = search needs
 
--- src/lib.rt:130:62
 part-field-tests-start : tie.Need-part-field-tests-start
 part-field-tests-start c = search needs
 
--- src/lib.rt:130:62
 part-field-tests-end : tie.Need-part-field-tests-end
 part-field-tests-end c = search needs
 
--- src/lib.rt:130:9
 field-tests-requires : tie.Need-field-tests-requires
-field-tests-requires c κs = ?
+unfolding isOperand operandMeant
+field-tests-requires c κs = (c .before .before .before .before .before .pre .0, c .before .before .before .before .before .pre .1)
 
--- src/lib.rt:131:9
 field-tests-requires-2 : tie.Need-field-tests-requires-2
-field-tests-requires-2 c κs = ?
+unfolding isOperand operandMeant
+field-tests-requires-2 c κs = (c .before .before .before .before .before .before .pre .0, c .before .before .before .before .before .before .pre .2)
 
--- src/lib.rt:132:5
 both-requires : tie.Need-both-requires
 both-requires c κs = search needs
 
--- src/lib.rt:126:1
 returns : tie.Need-returns
-returns c = ?
+unfolding operandMeant
+returns c = c .both .ensures ∙ rw (c .before .before .field-tests .ensures, c .before .field-tests2 .ensures)
 
 pub acc-tests-spec : {M : Type 1} → statement M
 acc-tests-spec =

@@ -1,3 +1,7 @@
+use Rattle.rules.specs.Grammar.{isOperand}
+use Rattle.declared.specs.Answers.{operandMeant}
+use Rattle.judge.specs.Tests.{cmpTests}
+use mathlib.Core.Path.{_∙_}
 use borrow.Author.Needs.{needs}
 use Rattle.judge.proofs.cmp_tests.Statement.{statement}
 use Rattle.judge.proofs.cmp_tests.Tie as tie
@@ -7,41 +11,35 @@ use Rattle.judge.proofs.both.Reads as both-reads
 use Rattle.judge.proofs.field_tests.Reads as field-tests-reads
 use Rattle.judge.proofs.types_agree.Reads as types-agree-reads
 
--- src/lib.rt:140:68
 sub-field-tests : tie.Need-sub-field-tests
 sub-field-tests c = search needs
 
--- src/lib.rt:140:68
 part-field-tests-start : tie.Need-part-field-tests-start
 part-field-tests-start c = search needs
 
--- src/lib.rt:140:68
 part-field-tests-end : tie.Need-part-field-tests-end
 part-field-tests-end c = search needs
 
--- src/lib.rt:140:9
 field-tests-requires : tie.Need-field-tests-requires
-field-tests-requires c κs = ?
+unfolding isOperand operandMeant
+field-tests-requires c κs = (c .before .before .before .before .before .pre .0, c .before .before .before .before .before .pre .1)
 
--- src/lib.rt:141:9
 field-tests-requires-2 : tie.Need-field-tests-requires-2
-field-tests-requires-2 c κs = ?
+unfolding isOperand operandMeant
+field-tests-requires-2 c κs = (c .before .before .before .before .before .before .pre .0, c .before .before .before .before .before .before .pre .2)
 
--- src/lib.rt:142:9
 types-agree-requires : tie.Need-types-agree-requires
 types-agree-requires c κs = search needs
 
--- src/lib.rt:148:17
 both-requires : tie.Need-both-requires
 both-requires c κs = search needs
 
--- src/lib.rt:148:5
 both-requires-2 : tie.Need-both-requires-2
 both-requires-2 c κs = search needs
 
--- src/lib.rt:136:1
 returns : tie.Need-returns
-returns c = ?
+unfolding operandMeant cmpTests
+returns c = c .both2 .ensures ∙ rw (c .before .both .ensures, c .before .before .before .before .field-tests .ensures, c .before .before .before .field-tests2 .ensures, c .before .before .types-agree .ensures)
 
 pub cmp-tests-spec : {M : Type 1} → statement M
 cmp-tests-spec =

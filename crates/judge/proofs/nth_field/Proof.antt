@@ -5,10 +5,11 @@ use Rattle.judge.proofs.nth_field.Lts as lts
 use Rattle.lines.proofs.next_field.Reads as next-field-reads
 
 abbrev Inv-loop : tie.InvT-loop
-Inv-loop text from i r₀ left₀ r left = ?
+Inv-loop text from i r₀ left₀ r left =
+    (r ≤ length text) × (getD (more (drop r text)) left [] ≡ getD (more (drop from text)) i [])
 
 abbrev μ-loop : tie.MeasureT-loop
-μ-loop text from i r₀ left₀ r left = ?
+μ-loop text from i r₀ left₀ r left = left
 
 -- src/lib.rt:66:5
 loop-holds : tie.Need-loop-holds Inv-loop μ-loop

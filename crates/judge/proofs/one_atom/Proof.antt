@@ -1,3 +1,5 @@
+use Rattle.judge.proofs.Laws.{is-acc, not-acc, acc-names, cmp-exprs, acc-atom, cmp-atom}
+use mathlib.Core.Path.{_∙_, sym}
 use borrow.Author.Needs.{needs}
 use Rattle.judge.proofs.one_atom.Statement.{statement}
 use Rattle.judge.proofs.one_atom.Tie as tie
@@ -7,25 +9,20 @@ use Rattle.judge.proofs.acc_tests.Reads as acc-tests-reads
 use Rattle.judge.proofs.cmp_tests.Reads as cmp-tests-reads
 use Rattle.leaves.proofs.word.Reads as word-reads
 
--- src/lib.rt:155:8
 word-requires : tie.Need-word-requires
 word-requires c κs = search needs
 
--- src/lib.rt:156:9
 acc-tests-requires : tie.Need-acc-tests-requires
-acc-tests-requires c κs = ?
+acc-tests-requires c κs = (c .before .before .before .before .before .before .before .pre .0, acc-names _ _ _ (is-acc _ _ (c .before .word .ensures) (c .if1 .taken)) (c .before .before .before .before .before .before .before .pre .1))
 
--- src/lib.rt:156:9
 returns : tie.Need-returns
-returns c = ?
+returns c = c .acc-tests .ensures ∙ sym (acc-atom _ _ _ _ _ _ _ (is-acc _ _ (c .before .before .word .ensures) (c .before .if1 .taken)))
 
--- src/lib.rt:158:5
 cmp-tests-requires : tie.Need-cmp-tests-requires
-cmp-tests-requires c κs = ?
+cmp-tests-requires c κs = (c .before .before .before .before .before .before .before .pre .0, cmp-exprs _ _ _ (not-acc _ _ (c .before .word .ensures) (c .if1 .left)) (c .before .before .before .before .before .before .before .pre .1))
 
--- src/lib.rt:151:1
 returns-2 : tie.Need-returns-2
-returns-2 c = ?
+returns-2 c = c .cmp-tests .ensures ∙ sym (cmp-atom _ _ _ _ _ _ _ (not-acc _ _ (c .before .before .word .ensures) (c .before .if1 .left)))
 
 pub one-atom-spec : {M : Type 1} → statement M
 one-atom-spec =

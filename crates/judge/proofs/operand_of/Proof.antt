@@ -1,51 +1,56 @@
+use Rattle.lines.specs.Rows.{operandNumber}
+use Rattle.declared.specs.Answers.{operandMeant}
+use mathlib.Core.Path.{_≡_, sym}
+use native.Mathlib.Omega.{arith}
+use Rattle.lines.proofs.Rows.{passed}
 use Rattle.judge.proofs.operand_of.Statement.{statement}
 use Rattle.judge.proofs.operand_of.Tie as tie
 use Rattle.judge.proofs.operand_of.Reads as reads
 use Rattle.judge.proofs.operand_of.Lts as lts
 
--- src/lib.rt:79:1
 returns : tie.Need-returns
-returns c = ?
+unfolding operandNumber operandMeant
+returns c = sym (c .match .keys1)
 
--- src/lib.rt:79:1
 returns-2 : tie.Need-returns-2
-returns-2 c = ?
+unfolding operandNumber operandMeant
+returns-2 c = sym (c .match .keys2)
 
--- src/lib.rt:79:1
 returns-3 : tie.Need-returns-3
-returns-3 c = ?
+unfolding operandNumber operandMeant
+returns-3 c = sym (c .match .keys3)
 
--- src/lib.rt:79:1
 returns-4 : tie.Need-returns-4
-returns-4 c = ?
+unfolding operandNumber operandMeant
+returns-4 c = sym (c .match .keys4)
 
--- src/lib.rt:79:1
 returns-5 : tie.Need-returns-5
-returns-5 c = ?
+unfolding operandNumber operandMeant
+returns-5 c = sym (c .match .keys5)
 
--- src/lib.rt:79:1
 returns-6 : tie.Need-returns-6
-returns-6 c = ?
+unfolding operandNumber operandMeant
+returns-6 c = sym (c .match .keys6)
 
--- src/lib.rt:79:1
 returns-7 : tie.Need-returns-7
-returns-7 c = ?
+unfolding operandNumber operandMeant
+returns-7 c = sym (c .match .keys7)
 
--- src/lib.rt:79:1
 returns-8 : tie.Need-returns-8
-returns-8 c = ?
+unfolding operandNumber operandMeant
+returns-8 c = sym (c .match .keys8)
 
--- src/lib.rt:79:1
 returns-9 : tie.Need-returns-9
-returns-9 c = ?
+unfolding operandNumber operandMeant
+returns-9 c = sym (c .match .keys9)
 
--- src/lib.rt:79:1
 returns-10 : tie.Need-returns-10
-returns-10 c = ?
+unfolding operandNumber operandMeant
+returns-10 c = sym (c .match .keys10)
 
--- src/lib.rt:79:1
 returns-11 : tie.Need-returns-11
-returns-11 c = ?
+unfolding operandNumber operandMeant
+returns-11 c = omega (arith, passed 10 (c .before .args .n) (c .before .pre .0) (c .match .rest))
 
 pub operand-of-spec : {M : Type 1} → statement M
 operand-of-spec =

@@ -1,3 +1,4 @@
+use mathlib.Core.Path.{_∙_}
 use borrow.Author.Needs.{needs}
 use Rattle.judge.proofs.types_agree.Statement.{statement}
 use Rattle.judge.proofs.types_agree.Tie as tie
@@ -6,21 +7,17 @@ use Rattle.judge.proofs.types_agree.Lts as lts
 use Rattle.declared.proofs.agree.Reads as agree-reads
 use Rattle.declared.proofs.expr_type.Reads as expr-type-reads
 
--- src/lib.rt:120:9
 expr-type-requires : tie.Need-expr-type-requires
 expr-type-requires c κs = search needs
 
--- src/lib.rt:121:9
 expr-type-requires-2 : tie.Need-expr-type-requires-2
 expr-type-requires-2 c κs = search needs
 
--- src/lib.rt:122:5
 agree-requires : tie.Need-agree-requires
 agree-requires c κs = search needs
 
--- src/lib.rt:116:1
 returns : tie.Need-returns
-returns c = ?
+returns c = c .agree .ensures ∙ rw (c .before .before .expr-type .ensures, c .before .expr-type2 .ensures)
 
 pub types-agree-spec : {M : Type 1} → statement M
 types-agree-spec =
