@@ -1,3 +1,9 @@
+use mathlib.Core.Path.{refl, sym, _∙_}
+use Rattle.rules.specs.Grammar.{Set, Let, New, Call, Return, isKind, kindNumber}
+use Rattle.rules.specs.Scope.{operand}
+use Rattle.rules.specs.Names as Rules
+use Rattle.judge.specs.Tests.{sidesIn}
+use Rattle.judge.proofs.Sides.{sides-of}
 use borrow.Author.Needs.{needs}
 use Rattle.judge.proofs.call_agrees.Statement.{statement}
 use Rattle.judge.proofs.call_agrees.Tie as tie
@@ -11,61 +17,48 @@ use Rattle.declared.proofs.variable_type.Reads as variable-type-reads
 use Rattle.judge.proofs.and.Reads as and-reads
 use Rattle.judge.proofs.nth_field.Reads as nth-field-reads
 
--- src/lib.rt:253:52
 nth-field-requires : tie.Need-nth-field-requires
 nth-field-requires c κs = search needs
 
--- src/lib.rt:253:9
 variable-type-requires : tie.Need-variable-type-requires
 variable-type-requires c κs = search needs
 
--- src/lib.rt:254:52
 nth-field-requires-2 : tie.Need-nth-field-requires-2
 nth-field-requires-2 c κs = search needs
 
--- src/lib.rt:254:9
 variable-type-requires-2 : tie.Need-variable-type-requires-2
 variable-type-requires-2 c κs = search needs
 
--- src/lib.rt:255:55
 nth-field-requires-3 : tie.Need-nth-field-requires-3
 nth-field-requires-3 c κs = search needs
 
--- src/lib.rt:255:9
 method-number-requires : tie.Need-method-number-requires
 method-number-requires c κs = search needs
 
--- src/lib.rt:256:52
 nth-field-requires-4 : tie.Need-nth-field-requires-4
 nth-field-requires-4 c κs = search needs
 
--- src/lib.rt:256:9
 variable-type-requires-3 : tie.Need-variable-type-requires-3
 variable-type-requires-3 c κs = search needs
 
--- src/lib.rt:257:47
 result-type-requires : tie.Need-result-type-requires
-result-type-requires c κs = ?
+result-type-requires c κs = (c .before .before .before .before .before .before .before .before .before .before .pre .0, c .before .before .before .before .before .before .before .before .before .before .pre .1)
 
--- src/lib.rt:257:9
 same-name-requires : tie.Need-same-name-requires
 same-name-requires c κs = search needs
 
--- src/lib.rt:258:49
 parameter-type-requires : tie.Need-parameter-type-requires
-parameter-type-requires c κs = ?
+parameter-type-requires c κs = (c .before .before .before .before .before .before .before .before .before .before .before .before .pre .0, c .before .before .before .before .before .before .before .before .before .before .before .before .pre .1)
 
--- src/lib.rt:258:9
 same-name-requires-2 : tie.Need-same-name-requires-2
 same-name-requires-2 c κs = search needs
 
--- src/lib.rt:259:5
 and-requires : tie.Need-and-requires
 and-requires c κs = search needs
 
--- src/lib.rt:249:1
 returns : tie.Need-returns
-returns c = ?
+unfolding sidesIn Rules.sidesAgree operand isKind kindNumber Rules.callAgrees Rules.methodOfClass
+returns c =     c .and .ensures ∙ rw (c .before .before .before .same-name .ensures, c .before .same-name2 .ensures, c .before .before .before .before .result-type .ensures (c .before .before .before .before .before .before .before .before .before .before .before .before .before .before .before .args .text .now), c .before .before .parameter-type .ensures (c .before .before .before .before .before .before .before .before .before .before .before .before .before .before .before .args .text .now), c .before .before .before .before .before .before .before .method-number .ensures .0, c .before .before .before .before .before .before .before .before .before .before .before .variable-type .ensures, c .before .before .before .before .before .before .before .before .before .variable-type2 .ensures, c .before .before .before .before .before .variable-type3 .ensures, c .before .before .before .before .before .before .before .before .before .before .before .before .nth-field .ensures, c .before .before .before .before .before .before .before .before .before .before .nth-field2 .ensures, c .before .before .before .before .before .before .before .before .nth-field3 .ensures, c .before .before .before .before .before .before .nth-field4 .ensures) (sym (sides-of (c .before .before .before .before .before .before .before .before .before .before .before .before .before .before .before .args .text .now) (c .before .before .before .before .before .before .before .before .before .before .before .before .before .before .before .args .work .now) (c .before .before .before .before .before .before .before .before .before .before .before .before .before .before .before .args .c) (c .before .before .before .before .before .before .before .before .before .before .before .before .before .before .before .args .from) 11 Call refl))
 
 pub call-agrees-spec : {M : Type 1} → statement M
 call-agrees-spec =

@@ -1,3 +1,10 @@
+use mathlib.Core.Path.{refl, sym, _∙_}
+use Rattle.rules.specs.Grammar.{Set, Let, New, Call, Return, isKind, kindNumber}
+use Rattle.rules.specs.Scope.{operand}
+use Rattle.rules.specs.Names as Rules
+use Rattle.judge.specs.Tests.{sidesIn}
+use Rattle.judge.proofs.Sides.{sides-of}
+use Rattle.declared.specs.Answers.{typeMeant}
 use borrow.Author.Needs.{needs}
 use Rattle.judge.proofs.let_agrees.Statement.{statement}
 use Rattle.judge.proofs.let_agrees.Tie as tie
@@ -8,29 +15,24 @@ use Rattle.declared.proofs.expr_type.Reads as expr-type-reads
 use Rattle.declared.proofs.variable_type.Reads as variable-type-reads
 use Rattle.judge.proofs.nth_field.Reads as nth-field-reads
 
--- src/lib.rt:234:52
 nth-field-requires : tie.Need-nth-field-requires
 nth-field-requires c κs = search needs
 
--- src/lib.rt:234:9
 variable-type-requires : tie.Need-variable-type-requires
 variable-type-requires c κs = search needs
 
--- src/lib.rt:235:48
 nth-field-requires-2 : tie.Need-nth-field-requires-2
 nth-field-requires-2 c κs = search needs
 
--- src/lib.rt:235:9
 expr-type-requires : tie.Need-expr-type-requires
-expr-type-requires c κs = ?
+expr-type-requires c κs = (c .before .before .before .before .before .pre .0, c .before .before .before .before .before .pre .1, rw (c .nth-field2 .ensures) (c .before .before .before .before .before .pre .3))
 
--- src/lib.rt:236:5
 agree-requires : tie.Need-agree-requires
 agree-requires c κs = search needs
 
--- src/lib.rt:230:1
 returns : tie.Need-returns
-returns c = ?
+unfolding sidesIn Rules.sidesAgree operand isKind kindNumber typeMeant
+returns c =     c .agree .ensures ∙ rw (c .before .expr-type .ensures, c .before .before .before .variable-type .ensures, c .before .before .before .before .nth-field .ensures, c .before .before .nth-field2 .ensures) (sym (sides-of (c .before .before .before .before .before .before .before .args .text .now) (c .before .before .before .before .before .before .before .args .work .now) (c .before .before .before .before .before .before .before .args .c) (c .before .before .before .before .before .before .before .args .from) 9 Let refl))
 
 pub let-agrees-spec : {M : Type 1} → statement M
 let-agrees-spec =

@@ -1,3 +1,11 @@
+use native.Mathlib.Omega.{arith}
+use borrow.Author.Needs.{needs}
+use mathlib.Core.Path.{_∙_, sym, refl}
+use Rattle.rules.specs.Grammar.{form}
+use Rattle.lines.specs.Rows.{kindNumbered, rowOf}
+use Rattle.declared.specs.Answers.{operandMeant}
+use Rattle.judge.specs.Tests.{lineAfter, lineTests}
+use Rattle.judge.proofs.Laws.{Rest, operand-bounds, same-operand, operands-start, operand-at, operands-done}
 use Rattle.judge.proofs.line_tests.Statement.{statement}
 use Rattle.judge.proofs.line_tests.Tie as tie
 use Rattle.judge.proofs.line_tests.Reads as reads
@@ -10,82 +18,66 @@ use Rattle.lines.proofs.next_field.Reads as next-field-reads
 use Rattle.lines.proofs.row_of.Reads as row-of-reads
 
 abbrev Inv-loop : tie.InvT-loop
-Inv-loop text work from kind c a left₀ t₀ b₀ r₀ left t b r = ?
+Inv-loop text work from kind c a left₀ t₀ b₀ r₀ left t b r =
+    Rest text work c a (lineTests text work c a (lineAfter text from kind)) (form (kindNumbered kind) .tail) left b r t
 
 abbrev μ-loop : tie.MeasureT-loop
-μ-loop text work from kind c a left₀ t₀ b₀ r₀ left t b r = ?
+μ-loop text work from kind c a left₀ t₀ b₀ r₀ left t b r = left
 
--- src/lib.rt:193:9
 row-of-requires : tie.Need-row-of-requires Inv-loop μ-loop
-row-of-requires c κs = ?
+row-of-requires c κs = (c .before .before .pre .2 .first, c .before .before .pre .2 .last)
 
--- src/lib.rt:202:5
 loop-holds : tie.Need-loop-holds Inv-loop μ-loop
-loop-holds c = ?
+unfolding rowOf
+loop-holds c = rw (c .row-of .ensures) (operands-start _ _ _ _ _ (c .before .before .before .args .from) (c .before .before .before .args .kind) (c .before .before .before .pre .1) (c .before .before .before .pre .2 .is) refl)
 
--- src/lib.rt:203:13
 next-field-requires : tie.Need-next-field-requires Inv-loop μ-loop
-next-field-requires c κs = ?
+next-field-requires c κs = c .before .loop .inv .high
 
--- src/lib.rt:204:13
 operand-of-requires : tie.Need-operand-of-requires Inv-loop μ-loop
-operand-of-requires c κs = ?
+operand-of-requires c κs = omega (arith, (operand-at _ _ _ _ _ (c .before .before .loop .inv) (c .before .loop-test .taken) (c .next-field .ensures)) .number, operand-bounds ((operand-at _ _ _ _ _ (c .before .before .loop .inv) (c .before .loop-test .taken) (c .next-field .ensures)) .operand))
 
--- src/lib.rt:205:17
 add-s : tie.Need-add-s Inv-loop μ-loop
-add-s c = ?
+add-s c = omega (arith, (operand-at _ _ _ _ _ (c .before .before .before .loop .inv) (c .before .before .loop-test .taken) (c .before .next-field .ensures)) .on, c .before .next-field .ensures .high)
 
--- src/lib.rt:206:50
 sub-field-tests : tie.Need-sub-field-tests Inv-loop μ-loop
-sub-field-tests c = ?
+sub-field-tests c = omega (arith, c .before .before .before .loop .inv .low, c .before .before .before .loop .inv .high)
 
--- src/lib.rt:206:50
 part-field-tests-start : tie.Need-part-field-tests-start Inv-loop μ-loop
-part-field-tests-start c = ?
+part-field-tests-start c = omega (arith, c .before .before .before .loop .inv .low, c .before .before .before .loop .inv .high)
 
--- src/lib.rt:206:50
 part-field-tests-end : tie.Need-part-field-tests-end Inv-loop μ-loop
-part-field-tests-end c = ?
+part-field-tests-end c = omega (arith, c .before .before .before .loop .inv .low, c .before .before .before .loop .inv .high)
 
--- src/lib.rt:206:63
 sub-field-tests-2 : tie.Need-sub-field-tests-2 Inv-loop μ-loop
-sub-field-tests-2 c = ?
+sub-field-tests-2 c = omega (arith, (operand-at _ _ _ _ _ (c .before .before .before .before .loop .inv) (c .before .before .before .loop-test .taken) (c .before .before .next-field .ensures)) .on, c .before .before .next-field .ensures .high)
 
--- src/lib.rt:206:63
 part-field-tests-start-2 : tie.Need-part-field-tests-start-2 Inv-loop μ-loop
-part-field-tests-start-2 c = ?
+part-field-tests-start-2 c = omega (arith, (operand-at _ _ _ _ _ (c .before .before .before .before .loop .inv) (c .before .before .before .loop-test .taken) (c .before .before .next-field .ensures)) .on, c .before .before .next-field .ensures .high)
 
--- src/lib.rt:206:63
 part-field-tests-end-2 : tie.Need-part-field-tests-end-2 Inv-loop μ-loop
-part-field-tests-end-2 c = ?
+part-field-tests-end-2 c = omega (arith, (operand-at _ _ _ _ _ (c .before .before .before .before .loop .inv) (c .before .before .before .loop-test .taken) (c .before .before .next-field .ensures)) .on, c .before .before .next-field .ensures .high)
 
--- src/lib.rt:206:13
 field-tests-requires : tie.Need-field-tests-requires Inv-loop μ-loop
-field-tests-requires c κs = ?
+field-tests-requires c κs = (c .before .before .before .before .before .before .before .before .before .pre .0, rw (same-operand (operandMeant (c .before .before .operand-of .result)) ((operand-at _ _ _ _ _ (c .before .before .before .before .before .loop .inv) (c .before .before .before .before .loop-test .taken) (c .before .before .before .next-field .ensures)) .operand) (c .before .before .operand-of .ensures ∙ sym ((operand-at _ _ _ _ _ (c .before .before .before .before .before .loop .inv) (c .before .before .before .before .loop-test .taken) (c .before .before .before .next-field .ensures)) .number))) ((operand-at _ _ _ _ _ (c .before .before .before .before .before .loop .inv) (c .before .before .before .before .loop-test .taken) (c .before .before .before .next-field .ensures)) .fits))
 
--- src/lib.rt:207:9
 both-requires : tie.Need-both-requires Inv-loop μ-loop
-both-requires c κs = ?
+both-requires c κs = search needs
 
--- src/lib.rt:202:5
 loop-less : tie.Need-loop-less Inv-loop μ-loop
-loop-less c = ?
+loop-less c = omega (arith, c .before .before .before .before .before .before .loop-test .taken)
 
--- src/lib.rt:202:5
 loop-again : tie.Need-loop-again Inv-loop μ-loop
-loop-again c = ?
+loop-again c = rw (c .both .ensures) ((operand-at _ _ _ _ _ (c .before .before .before .before .before .before .before .loop .inv) (c .before .before .before .before .before .before .loop-test .taken) (c .before .before .before .before .before .next-field .ensures)) .next (operandMeant (c .before .before .before .before .operand-of .result)) _ (c .before .before .before .before .operand-of .ensures) (c .before .field-tests .ensures))
 
--- src/lib.rt:212:9
 atom-tests-requires : tie.Need-atom-tests-requires Inv-loop μ-loop
-atom-tests-requires c κs = ?
+atom-tests-requires c κs = (c .before .before .before .before .before .pre .0, c .before .loop .inv .high, operands-done _ _ _ _ _ (c .before .loop .inv) (c .loop-test .left) .0)
 
--- src/lib.rt:213:5
 both-requires-2 : tie.Need-both-requires-2 Inv-loop μ-loop
-both-requires-2 c κs = ?
+both-requires-2 c κs = search needs
 
--- src/lib.rt:189:1
 returns : tie.Need-returns Inv-loop μ-loop
-returns c = ?
+returns c = c .both2 .ensures ∙ rw (c .before .atom-tests .ensures) (operands-done _ _ _ _ _ (c .before .before .before .loop .inv) (c .before .before .loop-test .left) .1)
 
 pub line-tests-spec : {M : Type 1} → statement M
 line-tests-spec =

@@ -1,3 +1,9 @@
+use mathlib.Core.Path.{refl, sym, _∙_}
+use Rattle.rules.specs.Grammar.{Set, Let, New, Call, Return, isKind, kindNumber}
+use Rattle.rules.specs.Scope.{operand}
+use Rattle.rules.specs.Names as Rules
+use Rattle.judge.specs.Tests.{sidesIn}
+use Rattle.judge.proofs.Sides.{sides-of}
 use borrow.Author.Needs.{needs}
 use Rattle.judge.proofs.new_agrees.Statement.{statement}
 use Rattle.judge.proofs.new_agrees.Tie as tie
@@ -8,29 +14,24 @@ use Rattle.declared.proofs.variable_type.Reads as variable-type-reads
 use Rattle.judge.proofs.nth_field.Reads as nth-field-reads
 use Rattle.leaves.proofs.same.Reads as same-reads
 
--- src/lib.rt:244:52
 nth-field-requires : tie.Need-nth-field-requires
 nth-field-requires c κs = search needs
 
--- src/lib.rt:244:9
 variable-type-requires : tie.Need-variable-type-requires
 variable-type-requires c κs = search needs
 
--- src/lib.rt:245:18
 name-in-requires : tie.Need-name-in-requires
 name-in-requires c κs = search needs
 
--- src/lib.rt:245:46
 nth-field-requires-2 : tie.Need-nth-field-requires-2
 nth-field-requires-2 c κs = search needs
 
--- src/lib.rt:245:5
 same-requires : tie.Need-same-requires
 same-requires c κs = search needs
 
--- src/lib.rt:240:1
 returns : tie.Need-returns
-returns c = ?
+unfolding sidesIn Rules.sidesAgree operand isKind kindNumber
+returns c =     c .same .ensures ∙ rw (c .before .before .name-in .ensures, c .before .before .before .variable-type .ensures, c .before .before .before .before .nth-field .ensures, c .before .nth-field2 .ensures) (sym (sides-of (c .before .before .before .before .before .before .before .args .text .now) (c .before .before .before .before .before .before .before .args .work .now) (c .before .before .before .before .before .before .before .args .c) (c .before .before .before .before .before .before .before .args .from) 10 New refl))
 
 pub new-agrees-spec : {M : Type 1} → statement M
 new-agrees-spec =

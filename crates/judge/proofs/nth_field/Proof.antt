@@ -1,3 +1,11 @@
+use native.Mathlib.Omega.{arith}
+use borrow.Author.Needs.{needs}
+use mathlib.Core.Path.{_≡_, _∙_, sym, refl}
+use mathlib.Core.List.{[]}
+use Prim.Native.Nat.{suc, _-_, _≤_}
+use lib.ListN.{length, drop, getD}
+use Rattle.lines.specs.Cuts.{more}
+use Rattle.judge.proofs.Laws.{nth-on, nth-here, nth-none}
 use Rattle.judge.proofs.nth_field.Statement.{statement}
 use Rattle.judge.proofs.nth_field.Tie as tie
 use Rattle.judge.proofs.nth_field.Reads as reads
@@ -11,65 +19,51 @@ Inv-loop text from i r₀ left₀ r left =
 abbrev μ-loop : tie.MeasureT-loop
 μ-loop text from i r₀ left₀ r left = left
 
--- src/lib.rt:66:5
 loop-holds : tie.Need-loop-holds Inv-loop μ-loop
-loop-holds c = ?
+loop-holds c = (c .before .pre, refl)
 
--- src/lib.rt:67:9
 next-field-requires : tie.Need-next-field-requires Inv-loop μ-loop
-next-field-requires c κs = ?
+next-field-requires c κs = c .before .loop .inv .0
 
--- src/lib.rt:68:9
 sub-left : tie.Need-sub-left Inv-loop μ-loop
-sub-left c = ?
+sub-left c = omega (arith, c .before .loop-test .taken)
 
--- src/lib.rt:66:5
 loop-less : tie.Need-loop-less Inv-loop μ-loop
-loop-less c = ?
+loop-less c = omega (arith, c .before .loop-test .taken)
 
--- src/lib.rt:66:5
 loop-again : tie.Need-loop-again Inv-loop μ-loop
-loop-again c = ?
+loop-again c =     let z : suc (c .before .before .loop .left - 1) ≡ c .before .before .loop .left = omega (arith, c .before .loop-test .taken) in
+    (c .next-field .ensures .high, sym (rw z at (nth-on (c .next-field .ensures) (c .before .before .loop .left - 1))) ∙ c .before .before .loop .inv .1)
 
--- src/lib.rt:70:9
 next-field-requires-2 : tie.Need-next-field-requires-2 Inv-loop μ-loop
-next-field-requires-2 c κs = ?
+next-field-requires-2 c κs = c .before .loop .inv .0
 
--- src/lib.rt:72:16
 sub-result : tie.Need-sub-result Inv-loop μ-loop
-sub-result c = ?
+sub-result c = omega arith
 
--- src/lib.rt:72:16
 part-result-start : tie.Need-part-result-start Inv-loop μ-loop
-part-result-start c = ?
+part-result-start c = omega arith
 
--- src/lib.rt:72:16
 part-result-end : tie.Need-part-result-end Inv-loop μ-loop
-part-result-end c = ?
+part-result-end c = omega arith
 
--- src/lib.rt:72:9
 returns : tie.Need-returns Inv-loop μ-loop
-returns c = ?
+returns c = sym (nth-none (c .before .before .next-field2 .ensures) (c .before .if1 .taken)) ∙ (rw (c .before .before .before .loop-test .left) at (c .before .before .before .before .loop .inv .1))
 
--- src/lib.rt:74:13
 add-b : tie.Need-add-b Inv-loop μ-loop
-add-b c = ?
+add-b c = omega (arith, c .before .next-field2 .ensures .low, c .before .next-field2 .ensures .high, c .if1 .left)
 
--- src/lib.rt:75:5
 sub-result-2 : tie.Need-sub-result-2 Inv-loop μ-loop
-sub-result-2 c = ?
+sub-result-2 c = omega (arith, c .before .next-field2 .ensures .low, c .before .next-field2 .ensures .high, c .if1 .left)
 
--- src/lib.rt:75:5
 part-result-start-2 : tie.Need-part-result-start-2 Inv-loop μ-loop
-part-result-start-2 c = ?
+part-result-start-2 c = omega (arith, c .before .next-field2 .ensures .low, c .before .next-field2 .ensures .high, c .if1 .left)
 
--- src/lib.rt:75:5
 part-result-end-2 : tie.Need-part-result-end-2 Inv-loop μ-loop
-part-result-end-2 c = ?
+part-result-end-2 c = omega (arith, c .before .next-field2 .ensures .low, c .before .next-field2 .ensures .high, c .if1 .left)
 
--- src/lib.rt:60:1
 returns-2 : tie.Need-returns-2 Inv-loop μ-loop
-returns-2 c = ?
+returns-2 c = sym (nth-here (c .before .before .next-field2 .ensures) (c .before .if1 .left)) ∙ (rw (c .before .before .before .loop-test .left) at (c .before .before .before .before .loop .inv .1))
 
 pub nth-field-spec : {M : Type 1} → statement M
 nth-field-spec =

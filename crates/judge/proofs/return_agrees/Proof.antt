@@ -1,3 +1,10 @@
+use mathlib.Core.Path.{refl, sym, _∙_}
+use Rattle.rules.specs.Grammar.{Set, Let, New, Call, Return, isKind, kindNumber}
+use Rattle.rules.specs.Scope.{operand}
+use Rattle.rules.specs.Names as Rules
+use Rattle.judge.specs.Tests.{sidesIn}
+use Rattle.judge.proofs.Sides.{sides-of}
+use Rattle.rules.specs.Base.{bytes}
 use borrow.Author.Needs.{needs}
 use Rattle.judge.proofs.return_agrees.Statement.{statement}
 use Rattle.judge.proofs.return_agrees.Tie as tie
@@ -7,29 +14,24 @@ use Rattle.declared.proofs.same_name.Reads as same-name-reads
 use Rattle.declared.proofs.variable_type.Reads as variable-type-reads
 use Rattle.judge.proofs.nth_field.Reads as nth-field-reads
 
--- src/lib.rt:267:52
 nth-field-requires : tie.Need-nth-field-requires
 nth-field-requires c κs = search needs
 
--- src/lib.rt:267:9
 variable-type-requires : tie.Need-variable-type-requires
 variable-type-requires c κs = search needs
 
--- src/lib.rt:268:52
 slice-aggregate-variable-type : tie.Need-slice-aggregate-variable-type
 slice-aggregate-variable-type c = search needs
 
--- src/lib.rt:268:9
 variable-type-requires-2 : tie.Need-variable-type-requires-2
 variable-type-requires-2 c κs = search needs
 
--- src/lib.rt:269:5
 same-name-requires : tie.Need-same-name-requires
 same-name-requires c κs = search needs
 
--- src/lib.rt:263:1
 returns : tie.Need-returns
-returns c = ?
+unfolding sidesIn Rules.sidesAgree operand isKind kindNumber bytes
+returns c =     c .same-name .ensures ∙ rw (c .before .before .before .variable-type .ensures, c .before .variable-type2 .ensures, c .before .before .before .before .nth-field .ensures) (sym (sides-of (c .before .before .before .before .before .before .before .args .text .now) (c .before .before .before .before .before .before .before .args .work .now) (c .before .before .before .before .before .before .before .args .c) (c .before .before .before .before .before .before .before .args .from) 12 Return refl))
 
 pub return-agrees-spec : {M : Type 1} → statement M
 return-agrees-spec =

@@ -1,3 +1,4 @@
+use Rattle.judge.proofs.Sides.{let-side, sides-other}
 use borrow.Author.Needs.{needs}
 use Rattle.judge.proofs.sides_agree.Statement.{statement}
 use Rattle.judge.proofs.sides_agree.Tie as tie
@@ -9,49 +10,38 @@ use Rattle.judge.proofs.new_agrees.Reads as new-agrees-reads
 use Rattle.judge.proofs.return_agrees.Reads as return-agrees-reads
 use Rattle.judge.proofs.set_agrees.Reads as set-agrees-reads
 
--- src/lib.rt:277:14
 set-agrees-requires : tie.Need-set-agrees-requires
 set-agrees-requires c κs = search needs
 
--- src/lib.rt:278:14
 let-agrees-requires : tie.Need-let-agrees-requires
-let-agrees-requires c κs = ?
+let-agrees-requires c κs = (c .before .before .before .pre .0, c .before .before .before .pre .1, c .before .before .before .pre .2, let-side (c .before .before .before .args .text .now) (c .before .before .before .args .from) (c .before .before .before .args .kind) (c .match .keys2) (c .before .before .before .pre .3 .is))
 
--- src/lib.rt:279:15
 new-agrees-requires : tie.Need-new-agrees-requires
 new-agrees-requires c κs = search needs
 
--- src/lib.rt:280:15
 call-agrees-requires : tie.Need-call-agrees-requires
 call-agrees-requires c κs = search needs
 
--- src/lib.rt:281:15
 return-agrees-requires : tie.Need-return-agrees-requires
 return-agrees-requires c κs = search needs
 
--- src/lib.rt:272:1
 returns : tie.Need-returns
-returns c = ?
+returns c = rw (c .before .match .keys1) (c .set-agrees .ensures)
 
--- src/lib.rt:272:1
 returns-2 : tie.Need-returns-2
-returns-2 c = ?
+returns-2 c = rw (c .before .match .keys2) (c .let-agrees .ensures)
 
--- src/lib.rt:272:1
 returns-3 : tie.Need-returns-3
-returns-3 c = ?
+returns-3 c = rw (c .before .match .keys3) (c .new-agrees .ensures)
 
--- src/lib.rt:272:1
 returns-4 : tie.Need-returns-4
-returns-4 c = ?
+returns-4 c = rw (c .before .match .keys4) (c .call-agrees .ensures)
 
--- src/lib.rt:272:1
 returns-5 : tie.Need-returns-5
-returns-5 c = ?
+returns-5 c = rw (c .before .match .keys5) (c .return-agrees .ensures)
 
--- src/lib.rt:272:1
 returns-6 : tie.Need-returns-6
-returns-6 c = ?
+returns-6 c = sides-other (c .before .before .before .args .text .now) (c .before .before .before .args .work .now) (c .before .before .before .args .c) (c .before .before .before .args .from) (c .before .before .before .args .kind) (c .before .before .before .pre .3 .first) (c .before .before .before .pre .3 .last) (c .match .rest)
 
 pub sides-agree-spec : {M : Type 1} → statement M
 sides-agree-spec =
