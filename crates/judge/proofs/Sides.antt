@@ -7,8 +7,8 @@ use lib.Dec.{eqb}
 use lib.ListN.{drop, getD}
 use borrow.Author.Tests.{ne-eqb}
 use Rattle.rules.specs.Base.{Name}
-use Rattle.rules.specs.Text.{isExpr}
-use Rattle.rules.specs.Grammar.{Kind, Let, Call, form, stands, statement, isFormed, isOperand, isKind, kindNumber}
+use Rattle.rules.specs.Text.{isName, isExpr}
+use Rattle.rules.specs.Grammar.{Kind, Let, Call, form, stands, statement, isFormed, isOperand, isTail, nothing, isKind, kindNumber}
 use Rattle.rules.specs.Scope.{operand}
 use Rattle.rules.specs.Names as Rules
 use Rattle.leaves.proofs.Search.{true-false, both-true, and-false}
@@ -23,8 +23,8 @@ use Rattle.judge.specs.Tests.{lineAfter, formed, sidesIn, apartIn}
 let-form : (ws : List Name) → isFormed (form Let .operands) (form Let .tail) ws ≡ true → isExpr (getD ws 1 []) ≡ true
 unfolding form statement stands isFormed isOperand
 let-form [] e = true-false (sym e)
-let-form (x ∷ []) e = true-false (sym e ∙ and-false _)
-let-form (x ∷ y ∷ ws) e = both-true (isExpr y) _ (both-true _ _ e .1) .0
+let-form (x ∷ []) e = true-false (sym e ∙ and-false (isName x))
+let-form (x ∷ y ∷ ws) e = both-true (isExpr y) (isTail nothing ws) (both-true (isName x) (isExpr y && isTail nothing ws) e .1) .0
 
 -- the second side of `let` is an expression
 pub let-side : (t : List ℕ) (r k : ℕ) → k ≡ 9 → formed (lineAfter t r k) ≡ true → isExpr (getD (more (drop r t)) 1 []) ≡ true
