@@ -1,7 +1,7 @@
 -- A line's refusal is that of `resolveLine`, and follows from its tests.
-use mathlib.Core.Path.{_≡_, refl, sym, _∙_}
-use mathlib.Core.Bool.{Bool, true, false, cond, _&&_}
-use mathlib.Core.List.{List, []}
+use mathlib.Core.Path.{_≡_, refl, sym, ap, _∙_}
+use mathlib.Core.Bool.{Bool, true, false, not, cond, _&&_}
+use mathlib.Core.List.{List, [], _∷_, _++_, append-nil}
 use mathlib.Core.Option.{Option, none, some}
 use Prim.Native.Nat.{ℕ}
 use lib.ListN.{drop, getD}
@@ -9,8 +9,8 @@ use Rattle.rules.specs.Base as Base
 use Rattle.rules.specs.Base.{ok, check, _>>_, bindOption}
 use Rattle.rules.specs.Answers.{Refusal, undeclared, wrongType, wrongTarget}
 use Rattle.rules.specs.Text.{fields}
-use Rattle.rules.specs.Grammar.{Kind, Line, form, isFormed, kindOf}
-use Rattle.rules.specs.Scope.{Declarations, Scope, visible}
+use Rattle.rules.specs.Grammar.{Kind, Requires, Line, form, isFormed, isKind, kindOf}
+use Rattle.rules.specs.Scope.{Declarations, Variable, Scope, visible}
 use Rattle.rules.specs.Items.{Item, resolveLine, itemOf}
 use Rattle.leaves.specs.Sets.{Found}
 use Rattle.leaves.specs.declared.Set.the-variants.{FieldEnd}
@@ -20,7 +20,7 @@ use Rattle.lines.specs.Rows.{kindNumbered, formedKind}
 use Rattle.lines.proofs.Rows.{kind-of-number, formed-bounds}
 use Rattle.declared.specs.declared.Names.{Names}
 use Rattle.declared.specs.declared.Above.{Above}
-use Rattle.declared.specs.Meanings.{declarationsIn, variablesIn, scopeIn}
+use Rattle.declared.specs.Meanings.{declarationsIn, variablesIn, blockIn, resultIn, scopeIn}
 use Rattle.judge.specs.declared.Tests.{Tests}
 use Rattle.judge.specs.declared.Judged.{Judged}
 use Rattle.judge.specs.Tests.{lineAfter, lineAt, formed, Formed, lineTests, sidesIn, apartIn}
@@ -54,9 +54,11 @@ formed-at t a k e z =
   where
     isOf : Kind → Bool
     isOf K = isFormed (form K .operands) (form K .tail) (drop 1 (fields (drop a t)))
+
     step : (K : Kind) (b : Bool) → isOf K ≡ b → k ≡ kindOr0 (whenTrue b K) → isOf (kindNumbered k) ≡ true
     step K true q h = rw (h, kind-of-number K) q
     step K false q h = absurd (z h)
+
     go : (o : Option Kind) → k ≡ kindOr0 (bindOption o (λ K. whenTrue (isFormed (form K .operands) (form K .tail) (drop 1 (fields (drop a t)))) K)) → isOf (kindNumbered k) ≡ true
     go none h = absurd (z h)
     go (some K) h = step K (isOf K) refl h
@@ -96,3 +98,28 @@ module _
       pub is-good : z ≡ true → refusalOf Judged.Good ≡ here
       unfolding refusalOf
       is-good q = sym (by-tests ∙ rw (n, ← i, ← j, m, ← u, ← v, q))
+
+-- THE VARIABLES THAT A LINE MAY NAME
+
+may-name : (vs rs : List Variable) (m q : Bool) → vs ++ cond (m && not q) rs [] ≡ cond q vs (vs ++ cond m rs [])
+may-name vs rs true true = append-nil vs
+may-name vs rs true false = refl
+may-name vs rs false true = append-nil vs
+may-name vs rs false false = refl
+
+-- `result` is among them in a method, but for `requires`
+pub visible-is :
+    (t w : List ℕ) (c : Names) (k : Kind) → c .result ≡ (c .method && not (isKind Requires k)) → variablesIn t w c ≡ visible (blockIn t w c) k
+unfolding variablesIn visible blockIn
+visible-is t w c k e =
+    ap (λ (b : Bool). blockIn t w c .variables ++ cond b (resultIn t w ∷ []) []) e
+    ∙ may-name (blockIn t w c .variables) (resultIn t w ∷ []) (c .method) (isKind Requires k)
+
+-- what `judge` answers is what `resolveLine` does
+pub resolves :
+    (t w : List ℕ) (c : Names) (a : Above) (l : Line) (r : Judged) → c .result ≡ (c .method && not (isKind Requires (l .kind))) →
+    refusalOf r ≡ refusalIn (declarationsIn t w c) (variablesIn t w c) (scopeIn t w c a) l →
+    resolveLine (declarationsIn t w c) (scopeIn t w c a) l
+    ≡ unlessRefused (refusalOf r) (itemOf (declarationsIn t w c) (variablesIn t w c) (l .kind) l)
+unfolding scopeIn
+resolves t w c a l r e h = rw (h, visible-is t w c (l .kind) e) (refuses (declarationsIn t w c) (scopeIn t w c a) l)

@@ -1,6 +1,6 @@
 -- Laws of the sides of a line, and of the variables of a `call`, by the number of the line's kind.
-use mathlib.Core.Path.{_≡_, refl, sym, _∙_}
-use mathlib.Core.Bool.{Bool, true, false, not, _&&_}
+use mathlib.Core.Path.{_≡_, sym, _∙_}
+use mathlib.Core.Bool.{true, not, _&&_}
 use mathlib.Core.List.{List, [], _∷_}
 use Prim.Native.Nat.{ℕ, _≤_}
 use lib.Dec.{eqb}
@@ -14,7 +14,6 @@ use Rattle.rules.specs.Names as Rules
 use Rattle.leaves.proofs.Search.{true-false, both-true, and-false}
 use Rattle.leaves.proofs.Words.{NoneOf}
 use Rattle.lines.specs.Cuts.{more}
-use Rattle.lines.specs.Rows.{kindNumbered}
 use Rattle.lines.proofs.Rows.{number-of-kind, kind-of-number}
 use Rattle.declared.specs.declared.Names.{Names}
 use Rattle.declared.specs.Meanings.{variablesIn}

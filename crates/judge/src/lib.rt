@@ -4,9 +4,9 @@ use declared::Names;
 use declared::Operand;
 use leaves::Set;
 ghost use mathlib.Core.Path.{_≡_};
-ghost use mathlib.Core.Bool.{Bool, true, false, not, _&&_};
-ghost use mathlib.Core.List.{List, [], _∷_};
-ghost use Prim.Native.Nat.{_≤_, _<_};
+ghost use mathlib.Core.Bool.{true, _&&_};
+ghost use mathlib.Core.List.{[], _∷_};
+ghost use Prim.Native.Nat.{_≤_};
 ghost use lib.ListN.{length, drop, getD};
 ghost use Rattle.rules.specs.Limits.{work-bytes, most-atoms};
 ghost use Rattle.rules.specs.Text.{isName, isExpr, exprOf, isAtom, isFormula, atomOf, formulaOf};
@@ -15,9 +15,9 @@ ghost use Rattle.rules.specs.Names.{agree, exprType};
 ghost use Rattle.rules.specs.Scope.{slotsFrom, atomOperands, atomSlots};
 ghost use Rattle.lines.specs.Cuts.{more};
 ghost use Rattle.lines.specs.Rows.{operandNumber};
-ghost use Rattle.declared.specs.Meanings.{Fits, AboveFits, declarationsIn, variablesIn, scopeIn};
+ghost use Rattle.declared.specs.Meanings.{Fits, declarationsIn, variablesIn, scopeIn};
 ghost use Rattle.declared.specs.Answers.{operandMeant};
-ghost use Rattle.judge.specs.Tests.{lineAfter, lineAt, Formed, Ready, bothTests, allPassed, slotTests, cmpTests, tested, lineTests, sidesIn, apartIn};
+ghost use Rattle.judge.specs.Tests.{lineAfter, lineAt, Formed, Ready, bothTests, slotTests, cmpTests, tested, lineTests, sidesIn, apartIn};
 ghost use Rattle.judge.specs.Refusals.{refusalOf, refusalIn};
 
 // Which of the tests of numbers 6, 7 and 9 are passed.
@@ -96,7 +96,15 @@ fn operand_of(n: u32) -> Operand
 }
 
 // The tests of the field x, with v before it.
-fn field_tests(text: &[u8], work: &[u8], c: Names, a: Above, o: Operand, v: &[u8], x: &[u8]) -> Tests
+fn field_tests(
+    text: &[u8],
+    work: &[u8],
+    c: Names,
+    a: Above,
+    o: Operand,
+    v: &[u8],
+    x: &[u8],
+) -> Tests
     requires { ⌜ Ready (now work) c a × (isOperand (operandMeant o) (now x) ≡ true) ⌝ }
     ensures { λ r. ⌜ r ≡ slotTests (now (text .entry)) (now (work .entry)) c a (operandMeant o) (now (v .entry)) (now (x .entry)) ⌝ }
 {

@@ -1,13 +1,10 @@
+-- `judge::acc_tests` meets its contract: the two fields of `acc`. Assumes nothing.
 use Rattle.rules.specs.Grammar.{isOperand}
 use Rattle.declared.specs.Answers.{operandMeant}
 use mathlib.Core.Path.{_∙_}
 use borrow.Author.Needs.{needs}
 use Rattle.judge.proofs.acc_tests.Statement.{statement}
 use Rattle.judge.proofs.acc_tests.Tie as tie
-use Rattle.judge.proofs.acc_tests.Reads as reads
-use Rattle.judge.proofs.acc_tests.Lts as lts
-use Rattle.judge.proofs.both.Reads as both-reads
-use Rattle.judge.proofs.field_tests.Reads as field-tests-reads
 
 sub-field-tests : tie.Need-sub-field-tests
 sub-field-tests c = search needs

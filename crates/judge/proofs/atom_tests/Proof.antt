@@ -1,3 +1,4 @@
+-- `judge::atom_tests` meets its contract: it walks the atoms, and `Atoms` says what is left. Assumes nothing.
 use native.Mathlib.Omega.{arith}
 use borrow.Author.Needs.{needs}
 use mathlib.Core.Path.{_∙_, sym, refl}
@@ -11,12 +12,6 @@ use Rattle.judge.specs.Tests.{tested}
 use Rattle.judge.proofs.Laws.{Atoms, atom-at, atoms-done}
 use Rattle.judge.proofs.atom_tests.Statement.{statement}
 use Rattle.judge.proofs.atom_tests.Tie as tie
-use Rattle.judge.proofs.atom_tests.Reads as reads
-use Rattle.judge.proofs.atom_tests.Lts as lts
-use Rattle.judge.proofs.both.Reads as both-reads
-use Rattle.judge.proofs.one_atom.Reads as one-atom-reads
-use Rattle.leaves.proofs.byte_at.Reads as byte-at-reads
-use Rattle.lines.proofs.next_field.Reads as next-field-reads
 
 abbrev Inv-loop : tie.InvT-loop
 Inv-loop text work from c a t₀ r₀ t r =
@@ -50,31 +45,31 @@ add-q : tie.Need-add-q Inv-loop μ-loop
 add-q c = omega (arith, (atom-at _ _ _ _ _ (c .before .before .before .before .before .loop .inv) (sym (c .before .before .before .before .byte-at .ensures) ∙ c .before .before .before .if1 .taken) (c .before .before .next-field .ensures) (c .before .next-field2 .ensures) (c .next-field3 .ensures)) .third)
 
 sub-one-atom : tie.Need-sub-one-atom Inv-loop μ-loop
-sub-one-atom c = omega (arith, (atom-at _ _ _ _ _ (c .before .before .before .before .before .loop .inv) (sym (c .before .before .before .before .byte-at .ensures) ∙ c .before .before .before .if1 .taken) (c .before .before .next-field .ensures) (c .before .next-field2 .ensures) (c .next-field3 .ensures)) .first, (atom-at _ _ _ _ _ (c .before .before .before .before .before .loop .inv) (sym (c .before .before .before .before .byte-at .ensures) ∙ c .before .before .before .if1 .taken) (c .before .before .next-field .ensures) (c .before .next-field2 .ensures) (c .next-field3 .ensures)) .second, (atom-at _ _ _ _ _ (c .before .before .before .before .before .loop .inv) (sym (c .before .before .before .before .byte-at .ensures) ∙ c .before .before .before .if1 .taken) (c .before .before .next-field .ensures) (c .before .next-field2 .ensures) (c .next-field3 .ensures)) .third, c .before .before .next-field .ensures .high, c .before .next-field2 .ensures .high, c .next-field3 .ensures .high)
+sub-one-atom c = omega (arith, (atom-at _ _ _ _ _ (c .before .before .before .before .before .loop .inv) (sym (c .before .before .before .before .byte-at .ensures) ∙ c .before .before .before .if1 .taken) (c .before .before .next-field .ensures) (c .before .next-field2 .ensures) (c .next-field3 .ensures)) .first)
 
 part-one-atom-start : tie.Need-part-one-atom-start Inv-loop μ-loop
-part-one-atom-start c = omega (arith, (atom-at _ _ _ _ _ (c .before .before .before .before .before .loop .inv) (sym (c .before .before .before .before .byte-at .ensures) ∙ c .before .before .before .if1 .taken) (c .before .before .next-field .ensures) (c .before .next-field2 .ensures) (c .next-field3 .ensures)) .first, (atom-at _ _ _ _ _ (c .before .before .before .before .before .loop .inv) (sym (c .before .before .before .before .byte-at .ensures) ∙ c .before .before .before .if1 .taken) (c .before .before .next-field .ensures) (c .before .next-field2 .ensures) (c .next-field3 .ensures)) .second, (atom-at _ _ _ _ _ (c .before .before .before .before .before .loop .inv) (sym (c .before .before .before .before .byte-at .ensures) ∙ c .before .before .before .if1 .taken) (c .before .before .next-field .ensures) (c .before .next-field2 .ensures) (c .next-field3 .ensures)) .third, c .before .before .next-field .ensures .high, c .before .next-field2 .ensures .high, c .next-field3 .ensures .high)
+part-one-atom-start c = omega (arith, (atom-at _ _ _ _ _ (c .before .before .before .before .before .loop .inv) (sym (c .before .before .before .before .byte-at .ensures) ∙ c .before .before .before .if1 .taken) (c .before .before .next-field .ensures) (c .before .next-field2 .ensures) (c .next-field3 .ensures)) .first)
 
 part-one-atom-end : tie.Need-part-one-atom-end Inv-loop μ-loop
-part-one-atom-end c = omega (arith, (atom-at _ _ _ _ _ (c .before .before .before .before .before .loop .inv) (sym (c .before .before .before .before .byte-at .ensures) ∙ c .before .before .before .if1 .taken) (c .before .before .next-field .ensures) (c .before .next-field2 .ensures) (c .next-field3 .ensures)) .first, (atom-at _ _ _ _ _ (c .before .before .before .before .before .loop .inv) (sym (c .before .before .before .before .byte-at .ensures) ∙ c .before .before .before .if1 .taken) (c .before .before .next-field .ensures) (c .before .next-field2 .ensures) (c .next-field3 .ensures)) .second, (atom-at _ _ _ _ _ (c .before .before .before .before .before .loop .inv) (sym (c .before .before .before .before .byte-at .ensures) ∙ c .before .before .before .if1 .taken) (c .before .before .next-field .ensures) (c .before .next-field2 .ensures) (c .next-field3 .ensures)) .third, c .before .before .next-field .ensures .high, c .before .next-field2 .ensures .high, c .next-field3 .ensures .high)
+part-one-atom-end c = omega (arith, (atom-at _ _ _ _ _ (c .before .before .before .before .before .loop .inv) (sym (c .before .before .before .before .byte-at .ensures) ∙ c .before .before .before .if1 .taken) (c .before .before .next-field .ensures) (c .before .next-field2 .ensures) (c .next-field3 .ensures)) .first)
 
 sub-one-atom-2 : tie.Need-sub-one-atom-2 Inv-loop μ-loop
-sub-one-atom-2 c = omega (arith, (atom-at _ _ _ _ _ (c .before .before .before .before .before .before .loop .inv) (sym (c .before .before .before .before .before .byte-at .ensures) ∙ c .before .before .before .before .if1 .taken) (c .before .before .before .next-field .ensures) (c .before .before .next-field2 .ensures) (c .before .next-field3 .ensures)) .first, (atom-at _ _ _ _ _ (c .before .before .before .before .before .before .loop .inv) (sym (c .before .before .before .before .before .byte-at .ensures) ∙ c .before .before .before .before .if1 .taken) (c .before .before .before .next-field .ensures) (c .before .before .next-field2 .ensures) (c .before .next-field3 .ensures)) .second, (atom-at _ _ _ _ _ (c .before .before .before .before .before .before .loop .inv) (sym (c .before .before .before .before .before .byte-at .ensures) ∙ c .before .before .before .before .if1 .taken) (c .before .before .before .next-field .ensures) (c .before .before .next-field2 .ensures) (c .before .next-field3 .ensures)) .third, c .before .before .before .next-field .ensures .high, c .before .before .next-field2 .ensures .high, c .before .next-field3 .ensures .high)
+sub-one-atom-2 c = omega (arith, (atom-at _ _ _ _ _ (c .before .before .before .before .before .before .loop .inv) (sym (c .before .before .before .before .before .byte-at .ensures) ∙ c .before .before .before .before .if1 .taken) (c .before .before .before .next-field .ensures) (c .before .before .next-field2 .ensures) (c .before .next-field3 .ensures)) .second)
 
 part-one-atom-start-2 : tie.Need-part-one-atom-start-2 Inv-loop μ-loop
-part-one-atom-start-2 c = omega (arith, (atom-at _ _ _ _ _ (c .before .before .before .before .before .before .loop .inv) (sym (c .before .before .before .before .before .byte-at .ensures) ∙ c .before .before .before .before .if1 .taken) (c .before .before .before .next-field .ensures) (c .before .before .next-field2 .ensures) (c .before .next-field3 .ensures)) .first, (atom-at _ _ _ _ _ (c .before .before .before .before .before .before .loop .inv) (sym (c .before .before .before .before .before .byte-at .ensures) ∙ c .before .before .before .before .if1 .taken) (c .before .before .before .next-field .ensures) (c .before .before .next-field2 .ensures) (c .before .next-field3 .ensures)) .second, (atom-at _ _ _ _ _ (c .before .before .before .before .before .before .loop .inv) (sym (c .before .before .before .before .before .byte-at .ensures) ∙ c .before .before .before .before .if1 .taken) (c .before .before .before .next-field .ensures) (c .before .before .next-field2 .ensures) (c .before .next-field3 .ensures)) .third, c .before .before .before .next-field .ensures .high, c .before .before .next-field2 .ensures .high, c .before .next-field3 .ensures .high)
+part-one-atom-start-2 c = omega (arith, (atom-at _ _ _ _ _ (c .before .before .before .before .before .before .loop .inv) (sym (c .before .before .before .before .before .byte-at .ensures) ∙ c .before .before .before .before .if1 .taken) (c .before .before .before .next-field .ensures) (c .before .before .next-field2 .ensures) (c .before .next-field3 .ensures)) .second)
 
 part-one-atom-end-2 : tie.Need-part-one-atom-end-2 Inv-loop μ-loop
-part-one-atom-end-2 c = omega (arith, (atom-at _ _ _ _ _ (c .before .before .before .before .before .before .loop .inv) (sym (c .before .before .before .before .before .byte-at .ensures) ∙ c .before .before .before .before .if1 .taken) (c .before .before .before .next-field .ensures) (c .before .before .next-field2 .ensures) (c .before .next-field3 .ensures)) .first, (atom-at _ _ _ _ _ (c .before .before .before .before .before .before .loop .inv) (sym (c .before .before .before .before .before .byte-at .ensures) ∙ c .before .before .before .before .if1 .taken) (c .before .before .before .next-field .ensures) (c .before .before .next-field2 .ensures) (c .before .next-field3 .ensures)) .second, (atom-at _ _ _ _ _ (c .before .before .before .before .before .before .loop .inv) (sym (c .before .before .before .before .before .byte-at .ensures) ∙ c .before .before .before .before .if1 .taken) (c .before .before .before .next-field .ensures) (c .before .before .next-field2 .ensures) (c .before .next-field3 .ensures)) .third, c .before .before .before .next-field .ensures .high, c .before .before .next-field2 .ensures .high, c .before .next-field3 .ensures .high)
+part-one-atom-end-2 c = omega (arith, (atom-at _ _ _ _ _ (c .before .before .before .before .before .before .loop .inv) (sym (c .before .before .before .before .before .byte-at .ensures) ∙ c .before .before .before .before .if1 .taken) (c .before .before .before .next-field .ensures) (c .before .before .next-field2 .ensures) (c .before .next-field3 .ensures)) .second)
 
 sub-one-atom-3 : tie.Need-sub-one-atom-3 Inv-loop μ-loop
-sub-one-atom-3 c = omega (arith, (atom-at _ _ _ _ _ (c .before .before .before .before .before .before .before .loop .inv) (sym (c .before .before .before .before .before .before .byte-at .ensures) ∙ c .before .before .before .before .before .if1 .taken) (c .before .before .before .before .next-field .ensures) (c .before .before .before .next-field2 .ensures) (c .before .before .next-field3 .ensures)) .first, (atom-at _ _ _ _ _ (c .before .before .before .before .before .before .before .loop .inv) (sym (c .before .before .before .before .before .before .byte-at .ensures) ∙ c .before .before .before .before .before .if1 .taken) (c .before .before .before .before .next-field .ensures) (c .before .before .before .next-field2 .ensures) (c .before .before .next-field3 .ensures)) .second, (atom-at _ _ _ _ _ (c .before .before .before .before .before .before .before .loop .inv) (sym (c .before .before .before .before .before .before .byte-at .ensures) ∙ c .before .before .before .before .before .if1 .taken) (c .before .before .before .before .next-field .ensures) (c .before .before .before .next-field2 .ensures) (c .before .before .next-field3 .ensures)) .third, c .before .before .before .before .next-field .ensures .high, c .before .before .before .next-field2 .ensures .high, c .before .before .next-field3 .ensures .high)
+sub-one-atom-3 c = omega (arith, (atom-at _ _ _ _ _ (c .before .before .before .before .before .before .before .loop .inv) (sym (c .before .before .before .before .before .before .byte-at .ensures) ∙ c .before .before .before .before .before .if1 .taken) (c .before .before .before .before .next-field .ensures) (c .before .before .before .next-field2 .ensures) (c .before .before .next-field3 .ensures)) .third)
 
 part-one-atom-start-3 : tie.Need-part-one-atom-start-3 Inv-loop μ-loop
-part-one-atom-start-3 c = omega (arith, (atom-at _ _ _ _ _ (c .before .before .before .before .before .before .before .loop .inv) (sym (c .before .before .before .before .before .before .byte-at .ensures) ∙ c .before .before .before .before .before .if1 .taken) (c .before .before .before .before .next-field .ensures) (c .before .before .before .next-field2 .ensures) (c .before .before .next-field3 .ensures)) .first, (atom-at _ _ _ _ _ (c .before .before .before .before .before .before .before .loop .inv) (sym (c .before .before .before .before .before .before .byte-at .ensures) ∙ c .before .before .before .before .before .if1 .taken) (c .before .before .before .before .next-field .ensures) (c .before .before .before .next-field2 .ensures) (c .before .before .next-field3 .ensures)) .second, (atom-at _ _ _ _ _ (c .before .before .before .before .before .before .before .loop .inv) (sym (c .before .before .before .before .before .before .byte-at .ensures) ∙ c .before .before .before .before .before .if1 .taken) (c .before .before .before .before .next-field .ensures) (c .before .before .before .next-field2 .ensures) (c .before .before .next-field3 .ensures)) .third, c .before .before .before .before .next-field .ensures .high, c .before .before .before .next-field2 .ensures .high, c .before .before .next-field3 .ensures .high)
+part-one-atom-start-3 c = omega (arith, (atom-at _ _ _ _ _ (c .before .before .before .before .before .before .before .loop .inv) (sym (c .before .before .before .before .before .before .byte-at .ensures) ∙ c .before .before .before .before .before .if1 .taken) (c .before .before .before .before .next-field .ensures) (c .before .before .before .next-field2 .ensures) (c .before .before .next-field3 .ensures)) .third)
 
 part-one-atom-end-3 : tie.Need-part-one-atom-end-3 Inv-loop μ-loop
-part-one-atom-end-3 c = omega (arith, (atom-at _ _ _ _ _ (c .before .before .before .before .before .before .before .loop .inv) (sym (c .before .before .before .before .before .before .byte-at .ensures) ∙ c .before .before .before .before .before .if1 .taken) (c .before .before .before .before .next-field .ensures) (c .before .before .before .next-field2 .ensures) (c .before .before .next-field3 .ensures)) .first, (atom-at _ _ _ _ _ (c .before .before .before .before .before .before .before .loop .inv) (sym (c .before .before .before .before .before .before .byte-at .ensures) ∙ c .before .before .before .before .before .if1 .taken) (c .before .before .before .before .next-field .ensures) (c .before .before .before .next-field2 .ensures) (c .before .before .next-field3 .ensures)) .second, (atom-at _ _ _ _ _ (c .before .before .before .before .before .before .before .loop .inv) (sym (c .before .before .before .before .before .before .byte-at .ensures) ∙ c .before .before .before .before .before .if1 .taken) (c .before .before .before .before .next-field .ensures) (c .before .before .before .next-field2 .ensures) (c .before .before .next-field3 .ensures)) .third, c .before .before .before .before .next-field .ensures .high, c .before .before .before .next-field2 .ensures .high, c .before .before .next-field3 .ensures .high)
+part-one-atom-end-3 c = omega (arith, (atom-at _ _ _ _ _ (c .before .before .before .before .before .before .before .loop .inv) (sym (c .before .before .before .before .before .before .byte-at .ensures) ∙ c .before .before .before .before .before .if1 .taken) (c .before .before .before .before .next-field .ensures) (c .before .before .before .next-field2 .ensures) (c .before .before .next-field3 .ensures)) .third)
 
 one-atom-requires : tie.Need-one-atom-requires Inv-loop μ-loop
 one-atom-requires c κs = (c .before .before .before .before .before .before .before .before .before .before .before .pre .0, (atom-at _ _ _ _ _ (c .before .before .before .before .before .before .before .before .loop .inv) (sym (c .before .before .before .before .before .before .before .byte-at .ensures) ∙ c .before .before .before .before .before .before .if1 .taken) (c .before .before .before .before .before .next-field .ensures) (c .before .before .before .before .next-field2 .ensures) (c .before .before .before .next-field3 .ensures)) .atom)

@@ -1,10 +1,8 @@
+-- `judge::both` meets its contract: test by test. Assumes nothing.
 use Rattle.judge.proofs.Laws.{same-tests}
 use borrow.Author.Needs.{needs}
 use Rattle.judge.proofs.both.Statement.{statement}
 use Rattle.judge.proofs.both.Tie as tie
-use Rattle.judge.proofs.both.Reads as reads
-use Rattle.judge.proofs.both.Lts as lts
-use Rattle.judge.proofs.and.Reads as and-reads
 
 and-requires : tie.Need-and-requires
 and-requires c κs = search needs

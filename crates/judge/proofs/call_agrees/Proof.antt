@@ -1,5 +1,6 @@
+-- `judge::call_agrees` meets its contract: `sidesAgree` at `call`. Assumes nothing.
 use mathlib.Core.Path.{refl, sym, _∙_}
-use Rattle.rules.specs.Grammar.{Set, Let, New, Call, Return, isKind, kindNumber}
+use Rattle.rules.specs.Grammar.{Call, isKind, kindNumber}
 use Rattle.rules.specs.Scope.{operand}
 use Rattle.rules.specs.Names as Rules
 use Rattle.judge.specs.Tests.{sidesIn}
@@ -7,15 +8,6 @@ use Rattle.judge.proofs.Sides.{sides-of}
 use borrow.Author.Needs.{needs}
 use Rattle.judge.proofs.call_agrees.Statement.{statement}
 use Rattle.judge.proofs.call_agrees.Tie as tie
-use Rattle.judge.proofs.call_agrees.Reads as reads
-use Rattle.judge.proofs.call_agrees.Lts as lts
-use Rattle.declared.proofs.method_number.Reads as method-number-reads
-use Rattle.declared.proofs.parameter_type.Reads as parameter-type-reads
-use Rattle.declared.proofs.result_type.Reads as result-type-reads
-use Rattle.declared.proofs.same_name.Reads as same-name-reads
-use Rattle.declared.proofs.variable_type.Reads as variable-type-reads
-use Rattle.judge.proofs.and.Reads as and-reads
-use Rattle.judge.proofs.nth_field.Reads as nth-field-reads
 
 nth-field-requires : tie.Need-nth-field-requires
 nth-field-requires c κs = search needs
@@ -58,7 +50,7 @@ and-requires c κs = search needs
 
 returns : tie.Need-returns
 unfolding sidesIn Rules.sidesAgree operand isKind kindNumber Rules.callAgrees Rules.methodOfClass
-returns c =     c .and .ensures ∙ rw (c .before .before .before .same-name .ensures, c .before .same-name2 .ensures, c .before .before .before .before .result-type .ensures (c .before .before .before .before .before .before .before .before .before .before .before .before .before .before .before .args .text .now), c .before .before .parameter-type .ensures (c .before .before .before .before .before .before .before .before .before .before .before .before .before .before .before .args .text .now), c .before .before .before .before .before .before .before .method-number .ensures .0, c .before .before .before .before .before .before .before .before .before .before .before .variable-type .ensures, c .before .before .before .before .before .before .before .before .before .variable-type2 .ensures, c .before .before .before .before .before .variable-type3 .ensures, c .before .before .before .before .before .before .before .before .before .before .before .before .nth-field .ensures, c .before .before .before .before .before .before .before .before .before .before .nth-field2 .ensures, c .before .before .before .before .before .before .before .before .nth-field3 .ensures, c .before .before .before .before .before .before .nth-field4 .ensures) (sym (sides-of (c .before .before .before .before .before .before .before .before .before .before .before .before .before .before .before .args .text .now) (c .before .before .before .before .before .before .before .before .before .before .before .before .before .before .before .args .work .now) (c .before .before .before .before .before .before .before .before .before .before .before .before .before .before .before .args .c) (c .before .before .before .before .before .before .before .before .before .before .before .before .before .before .before .args .from) 11 Call refl))
+returns c = c .and .ensures ∙ rw (c .before .before .before .same-name .ensures, c .before .same-name2 .ensures, c .before .before .before .before .result-type .ensures (c .before .before .before .before .before .before .before .before .before .before .before .before .before .before .before .args .text .now), c .before .before .parameter-type .ensures (c .before .before .before .before .before .before .before .before .before .before .before .before .before .before .before .args .text .now), c .before .before .before .before .before .before .before .method-number .ensures .0, c .before .before .before .before .before .before .before .before .before .before .before .variable-type .ensures, c .before .before .before .before .before .before .before .before .before .variable-type2 .ensures, c .before .before .before .before .before .variable-type3 .ensures, c .before .before .before .before .before .before .before .before .before .before .before .before .nth-field .ensures, c .before .before .before .before .before .before .before .before .before .before .nth-field2 .ensures, c .before .before .before .before .before .before .before .before .nth-field3 .ensures, c .before .before .before .before .before .before .nth-field4 .ensures) (sym (sides-of (c .before .before .before .before .before .before .before .before .before .before .before .before .before .before .before .args .text .now) (c .before .before .before .before .before .before .before .before .before .before .before .before .before .before .before .args .work .now) (c .before .before .before .before .before .before .before .before .before .before .before .before .before .before .before .args .c) (c .before .before .before .before .before .before .before .before .before .before .before .before .before .before .before .args .from) 11 Call refl))
 
 pub call-agrees-spec : {M : Type 1} → statement M
 call-agrees-spec =

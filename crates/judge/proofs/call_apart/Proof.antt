@@ -1,13 +1,9 @@
+-- `judge::call_apart` meets its contract: `callApart`, by the kind. Assumes nothing.
 use mathlib.Core.Path.{sym, _∙_}
 use Rattle.judge.proofs.Sides.{apart-other, apart-call}
 use borrow.Author.Needs.{needs}
 use Rattle.judge.proofs.call_apart.Statement.{statement}
 use Rattle.judge.proofs.call_apart.Tie as tie
-use Rattle.judge.proofs.call_apart.Reads as reads
-use Rattle.judge.proofs.call_apart.Lts as lts
-use Rattle.declared.proofs.variable.Reads as variable-reads
-use Rattle.judge.proofs.and.Reads as and-reads
-use Rattle.judge.proofs.nth_field.Reads as nth-field-reads
 
 returns : tie.Need-returns
 returns c = apart-other (c .before .before .before .args .text .now) (c .before .before .before .args .work .now) (c .before .before .before .args .c) (c .before .before .before .args .from) (c .before .before .before .args .kind) (c .before .before .before .pre .3 .0) (c .before .before .before .pre .3 .1) (c .if1 .taken)
@@ -34,7 +30,7 @@ and-requires : tie.Need-and-requires
 and-requires c κs = search needs
 
 returns-2 : tie.Need-returns-2
-returns-2 c =     c .and .ensures ∙ rw (c .before .before .before .before .before .variable .ensures .number, c .before .before .before .variable2 .ensures .number, c .before .variable3 .ensures .number, c .before .before .before .before .before .before .nth-field .ensures, c .before .before .before .before .nth-field2 .ensures, c .before .before .nth-field3 .ensures) (sym (apart-call (c .before .before .before .before .before .before .before .before .before .before .args .text .now) (c .before .before .before .before .before .before .before .before .before .before .args .work .now) (c .before .before .before .before .before .before .before .before .before .before .args .c) (c .before .before .before .before .before .before .before .before .before .before .args .from) (c .before .before .before .before .before .before .before .before .before .before .args .kind) (c .before .before .before .before .before .before .before .if1 .left)))
+returns-2 c = c .and .ensures ∙ rw (c .before .before .before .before .before .variable .ensures .number, c .before .before .before .variable2 .ensures .number, c .before .variable3 .ensures .number, c .before .before .before .before .before .before .nth-field .ensures, c .before .before .before .before .nth-field2 .ensures, c .before .before .nth-field3 .ensures) (sym (apart-call (c .before .before .before .before .before .before .before .before .before .before .args .text .now) (c .before .before .before .before .before .before .before .before .before .before .args .work .now) (c .before .before .before .before .before .before .before .before .before .before .args .c) (c .before .before .before .before .before .before .before .before .before .before .args .from) (c .before .before .before .before .before .before .before .before .before .before .args .kind) (c .before .before .before .before .before .before .before .if1 .left)))
 
 pub call-apart-spec : {M : Type 1} → statement M
 call-apart-spec =

@@ -1,3 +1,4 @@
+-- `judge::cmp_tests` meets its contract: the two fields, and their sides. Assumes nothing.
 use Rattle.rules.specs.Grammar.{isOperand}
 use Rattle.declared.specs.Answers.{operandMeant}
 use Rattle.judge.specs.Tests.{cmpTests}
@@ -5,11 +6,6 @@ use mathlib.Core.Path.{_∙_}
 use borrow.Author.Needs.{needs}
 use Rattle.judge.proofs.cmp_tests.Statement.{statement}
 use Rattle.judge.proofs.cmp_tests.Tie as tie
-use Rattle.judge.proofs.cmp_tests.Reads as reads
-use Rattle.judge.proofs.cmp_tests.Lts as lts
-use Rattle.judge.proofs.both.Reads as both-reads
-use Rattle.judge.proofs.field_tests.Reads as field-tests-reads
-use Rattle.judge.proofs.types_agree.Reads as types-agree-reads
 
 sub-field-tests : tie.Need-sub-field-tests
 sub-field-tests c = search needs

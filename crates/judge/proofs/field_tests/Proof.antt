@@ -1,13 +1,9 @@
+-- `judge::field_tests` meets its contract: test by test. Assumes nothing.
 use Rattle.judge.proofs.Laws.{same-tests}
 use Rattle.judge.specs.Tests.{slotTests}
 use borrow.Author.Needs.{needs}
 use Rattle.judge.proofs.field_tests.Statement.{statement}
 use Rattle.judge.proofs.field_tests.Tie as tie
-use Rattle.judge.proofs.field_tests.Reads as reads
-use Rattle.judge.proofs.field_tests.Lts as lts
-use Rattle.declared.proofs.known.Reads as known-reads
-use Rattle.declared.proofs.may_be_assigned.Reads as may-be-assigned-reads
-use Rattle.declared.proofs.of_class.Reads as of-class-reads
 
 known-requires : tie.Need-known-requires
 known-requires c κs = search needs

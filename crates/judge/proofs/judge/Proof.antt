@@ -1,16 +1,10 @@
+-- `judge::judge` meets its contract: each way out is a law of `Refusals`. Assumes nothing.
 use borrow.Author.Tests.{not-true, not-false}
 use Rattle.judge.proofs.Laws.{line-at}
 use Rattle.judge.proofs.Refusals.{is-undeclared, is-wrong-type, is-wrong-target, is-good}
 use borrow.Author.Needs.{needs}
 use Rattle.judge.proofs.judge.Statement.{statement}
 use Rattle.judge.proofs.judge.Tie as tie
-use Rattle.judge.proofs.judge.Reads as reads
-use Rattle.judge.proofs.judge.Lts as lts
-use Rattle.judge.proofs.and.Reads as and-reads
-use Rattle.judge.proofs.call_apart.Reads as call-apart-reads
-use Rattle.judge.proofs.line_tests.Reads as line-tests-reads
-use Rattle.judge.proofs.sides_agree.Reads as sides-agree-reads
-use Rattle.leaves.proofs.find.Reads as find-reads
 
 find-requires : tie.Need-find-requires
 find-requires c κs = search needs

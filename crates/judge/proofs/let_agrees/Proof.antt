@@ -1,5 +1,6 @@
+-- `judge::let_agrees` meets its contract: `sidesAgree` at `let`. Assumes nothing.
 use mathlib.Core.Path.{refl, sym, _∙_}
-use Rattle.rules.specs.Grammar.{Set, Let, New, Call, Return, isKind, kindNumber}
+use Rattle.rules.specs.Grammar.{Let, isKind, kindNumber}
 use Rattle.rules.specs.Scope.{operand}
 use Rattle.rules.specs.Names as Rules
 use Rattle.judge.specs.Tests.{sidesIn}
@@ -8,12 +9,6 @@ use Rattle.declared.specs.Answers.{typeMeant}
 use borrow.Author.Needs.{needs}
 use Rattle.judge.proofs.let_agrees.Statement.{statement}
 use Rattle.judge.proofs.let_agrees.Tie as tie
-use Rattle.judge.proofs.let_agrees.Reads as reads
-use Rattle.judge.proofs.let_agrees.Lts as lts
-use Rattle.declared.proofs.agree.Reads as agree-reads
-use Rattle.declared.proofs.expr_type.Reads as expr-type-reads
-use Rattle.declared.proofs.variable_type.Reads as variable-type-reads
-use Rattle.judge.proofs.nth_field.Reads as nth-field-reads
 
 nth-field-requires : tie.Need-nth-field-requires
 nth-field-requires c κs = search needs
@@ -32,7 +27,7 @@ agree-requires c κs = search needs
 
 returns : tie.Need-returns
 unfolding sidesIn Rules.sidesAgree operand isKind kindNumber typeMeant
-returns c =     c .agree .ensures ∙ rw (c .before .expr-type .ensures, c .before .before .before .variable-type .ensures, c .before .before .before .before .nth-field .ensures, c .before .before .nth-field2 .ensures) (sym (sides-of (c .before .before .before .before .before .before .before .args .text .now) (c .before .before .before .before .before .before .before .args .work .now) (c .before .before .before .before .before .before .before .args .c) (c .before .before .before .before .before .before .before .args .from) 9 Let refl))
+returns c = c .agree .ensures ∙ rw (c .before .expr-type .ensures, c .before .before .before .variable-type .ensures, c .before .before .before .before .nth-field .ensures, c .before .before .nth-field2 .ensures) (sym (sides-of (c .before .before .before .before .before .before .before .args .text .now) (c .before .before .before .before .before .before .before .args .work .now) (c .before .before .before .before .before .before .before .args .c) (c .before .before .before .before .before .before .before .args .from) 9 Let refl))
 
 pub let-agrees-spec : {M : Type 1} → statement M
 let-agrees-spec =

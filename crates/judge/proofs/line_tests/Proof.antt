@@ -1,3 +1,4 @@
+-- `judge::line_tests` meets its contract: it walks the operands of the kind's row, and `Rest` says what is left. Assumes nothing.
 use native.Mathlib.Omega.{arith}
 use borrow.Author.Needs.{needs}
 use mathlib.Core.Path.{_∙_, sym, refl}
@@ -8,14 +9,6 @@ use Rattle.judge.specs.Tests.{lineAfter, lineTests}
 use Rattle.judge.proofs.Laws.{Rest, operand-bounds, same-operand, operands-start, operand-at, operands-done}
 use Rattle.judge.proofs.line_tests.Statement.{statement}
 use Rattle.judge.proofs.line_tests.Tie as tie
-use Rattle.judge.proofs.line_tests.Reads as reads
-use Rattle.judge.proofs.line_tests.Lts as lts
-use Rattle.judge.proofs.atom_tests.Reads as atom-tests-reads
-use Rattle.judge.proofs.both.Reads as both-reads
-use Rattle.judge.proofs.field_tests.Reads as field-tests-reads
-use Rattle.judge.proofs.operand_of.Reads as operand-of-reads
-use Rattle.lines.proofs.next_field.Reads as next-field-reads
-use Rattle.lines.proofs.row_of.Reads as row-of-reads
 
 abbrev Inv-loop : tie.InvT-loop
 Inv-loop text work from kind c a left₀ t₀ b₀ r₀ left t b r =

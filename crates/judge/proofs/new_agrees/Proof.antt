@@ -1,5 +1,6 @@
+-- `judge::new_agrees` meets its contract: `sidesAgree` at `new`. Assumes nothing.
 use mathlib.Core.Path.{refl, sym, _∙_}
-use Rattle.rules.specs.Grammar.{Set, Let, New, Call, Return, isKind, kindNumber}
+use Rattle.rules.specs.Grammar.{New, isKind, kindNumber}
 use Rattle.rules.specs.Scope.{operand}
 use Rattle.rules.specs.Names as Rules
 use Rattle.judge.specs.Tests.{sidesIn}
@@ -7,12 +8,6 @@ use Rattle.judge.proofs.Sides.{sides-of}
 use borrow.Author.Needs.{needs}
 use Rattle.judge.proofs.new_agrees.Statement.{statement}
 use Rattle.judge.proofs.new_agrees.Tie as tie
-use Rattle.judge.proofs.new_agrees.Reads as reads
-use Rattle.judge.proofs.new_agrees.Lts as lts
-use Rattle.declared.proofs.name_in.Reads as name-in-reads
-use Rattle.declared.proofs.variable_type.Reads as variable-type-reads
-use Rattle.judge.proofs.nth_field.Reads as nth-field-reads
-use Rattle.leaves.proofs.same.Reads as same-reads
 
 nth-field-requires : tie.Need-nth-field-requires
 nth-field-requires c κs = search needs
@@ -31,7 +26,7 @@ same-requires c κs = search needs
 
 returns : tie.Need-returns
 unfolding sidesIn Rules.sidesAgree operand isKind kindNumber
-returns c =     c .same .ensures ∙ rw (c .before .before .name-in .ensures, c .before .before .before .variable-type .ensures, c .before .before .before .before .nth-field .ensures, c .before .nth-field2 .ensures) (sym (sides-of (c .before .before .before .before .before .before .before .args .text .now) (c .before .before .before .before .before .before .before .args .work .now) (c .before .before .before .before .before .before .before .args .c) (c .before .before .before .before .before .before .before .args .from) 10 New refl))
+returns c = c .same .ensures ∙ rw (c .before .before .name-in .ensures, c .before .before .before .variable-type .ensures, c .before .before .before .before .nth-field .ensures, c .before .nth-field2 .ensures) (sym (sides-of (c .before .before .before .before .before .before .before .args .text .now) (c .before .before .before .before .before .before .before .args .work .now) (c .before .before .before .before .before .before .before .args .c) (c .before .before .before .before .before .before .before .args .from) 10 New refl))
 
 pub new-agrees-spec : {M : Type 1} → statement M
 new-agrees-spec =

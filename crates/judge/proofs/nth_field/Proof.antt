@@ -1,5 +1,5 @@
+-- `judge::nth_field` meets its contract: the field that is left to find stays the same. Assumes nothing.
 use native.Mathlib.Omega.{arith}
-use borrow.Author.Needs.{needs}
 use mathlib.Core.Path.{_≡_, _∙_, sym, refl}
 use mathlib.Core.List.{[]}
 use Prim.Native.Nat.{suc, _-_, _≤_}
@@ -8,9 +8,6 @@ use Rattle.lines.specs.Cuts.{more}
 use Rattle.judge.proofs.Laws.{nth-on, nth-here, nth-none}
 use Rattle.judge.proofs.nth_field.Statement.{statement}
 use Rattle.judge.proofs.nth_field.Tie as tie
-use Rattle.judge.proofs.nth_field.Reads as reads
-use Rattle.judge.proofs.nth_field.Lts as lts
-use Rattle.lines.proofs.next_field.Reads as next-field-reads
 
 abbrev Inv-loop : tie.InvT-loop
 Inv-loop text from i r₀ left₀ r left =
@@ -32,7 +29,7 @@ loop-less : tie.Need-loop-less Inv-loop μ-loop
 loop-less c = omega (arith, c .before .loop-test .taken)
 
 loop-again : tie.Need-loop-again Inv-loop μ-loop
-loop-again c =     let z : suc (c .before .before .loop .left - 1) ≡ c .before .before .loop .left = omega (arith, c .before .loop-test .taken) in
+loop-again c = let z : suc (c .before .before .loop .left - 1) ≡ c .before .before .loop .left = omega (arith, c .before .loop-test .taken) in
     (c .next-field .ensures .high, sym (rw z at (nth-on (c .next-field .ensures) (c .before .before .loop .left - 1))) ∙ c .before .before .loop .inv .1)
 
 next-field-requires-2 : tie.Need-next-field-requires-2 Inv-loop μ-loop

@@ -1,12 +1,11 @@
+-- `judge::operand_of` meets its contract: number by number. Assumes nothing.
 use Rattle.lines.specs.Rows.{operandNumber}
 use Rattle.declared.specs.Answers.{operandMeant}
-use mathlib.Core.Path.{_≡_, sym}
+use mathlib.Core.Path.{sym}
 use native.Mathlib.Omega.{arith}
 use Rattle.lines.proofs.Rows.{passed}
 use Rattle.judge.proofs.operand_of.Statement.{statement}
 use Rattle.judge.proofs.operand_of.Tie as tie
-use Rattle.judge.proofs.operand_of.Reads as reads
-use Rattle.judge.proofs.operand_of.Lts as lts
 
 returns : tie.Need-returns
 unfolding operandNumber operandMeant

@@ -1,5 +1,6 @@
+-- `judge::return_agrees` meets its contract: `sidesAgree` at `return`. Assumes nothing.
 use mathlib.Core.Path.{refl, sym, _∙_}
-use Rattle.rules.specs.Grammar.{Set, Let, New, Call, Return, isKind, kindNumber}
+use Rattle.rules.specs.Grammar.{Return, isKind, kindNumber}
 use Rattle.rules.specs.Scope.{operand}
 use Rattle.rules.specs.Names as Rules
 use Rattle.judge.specs.Tests.{sidesIn}
@@ -8,11 +9,6 @@ use Rattle.rules.specs.Base.{bytes}
 use borrow.Author.Needs.{needs}
 use Rattle.judge.proofs.return_agrees.Statement.{statement}
 use Rattle.judge.proofs.return_agrees.Tie as tie
-use Rattle.judge.proofs.return_agrees.Reads as reads
-use Rattle.judge.proofs.return_agrees.Lts as lts
-use Rattle.declared.proofs.same_name.Reads as same-name-reads
-use Rattle.declared.proofs.variable_type.Reads as variable-type-reads
-use Rattle.judge.proofs.nth_field.Reads as nth-field-reads
 
 nth-field-requires : tie.Need-nth-field-requires
 nth-field-requires c κs = search needs
@@ -31,7 +27,7 @@ same-name-requires c κs = search needs
 
 returns : tie.Need-returns
 unfolding sidesIn Rules.sidesAgree operand isKind kindNumber bytes
-returns c =     c .same-name .ensures ∙ rw (c .before .before .before .variable-type .ensures, c .before .variable-type2 .ensures, c .before .before .before .before .nth-field .ensures) (sym (sides-of (c .before .before .before .before .before .before .before .args .text .now) (c .before .before .before .before .before .before .before .args .work .now) (c .before .before .before .before .before .before .before .args .c) (c .before .before .before .before .before .before .before .args .from) 12 Return refl))
+returns c = c .same-name .ensures ∙ rw (c .before .before .before .variable-type .ensures, c .before .variable-type2 .ensures, c .before .before .before .before .nth-field .ensures) (sym (sides-of (c .before .before .before .before .before .before .before .args .text .now) (c .before .before .before .before .before .before .before .args .work .now) (c .before .before .before .before .before .before .before .args .c) (c .before .before .before .before .before .before .before .args .from) 12 Return refl))
 
 pub return-agrees-spec : {M : Type 1} → statement M
 return-agrees-spec =

@@ -1,5 +1,6 @@
+-- `judge::set_agrees` meets its contract: `sidesAgree` at `set`. Assumes nothing.
 use mathlib.Core.Path.{refl, sym, _∙_}
-use Rattle.rules.specs.Grammar.{Set, Let, New, Call, Return, isKind, kindNumber}
+use Rattle.rules.specs.Grammar.{Set, isKind, kindNumber}
 use Rattle.rules.specs.Scope.{operand}
 use Rattle.rules.specs.Names as Rules
 use Rattle.judge.specs.Tests.{sidesIn}
@@ -7,12 +8,6 @@ use Rattle.judge.proofs.Sides.{sides-of}
 use borrow.Author.Needs.{needs}
 use Rattle.judge.proofs.set_agrees.Statement.{statement}
 use Rattle.judge.proofs.set_agrees.Tie as tie
-use Rattle.judge.proofs.set_agrees.Reads as reads
-use Rattle.judge.proofs.set_agrees.Lts as lts
-use Rattle.declared.proofs.field_type.Reads as field-type-reads
-use Rattle.declared.proofs.same_name.Reads as same-name-reads
-use Rattle.declared.proofs.variable_type.Reads as variable-type-reads
-use Rattle.judge.proofs.nth_field.Reads as nth-field-reads
 
 nth-field-requires : tie.Need-nth-field-requires
 nth-field-requires c κs = search needs
@@ -37,7 +32,7 @@ same-name-requires c κs = search needs
 
 returns : tie.Need-returns
 unfolding sidesIn Rules.sidesAgree operand isKind kindNumber
-returns c =     c .same-name .ensures ∙ rw (c .before .before .before .field-type .ensures, c .before .before .before .before .before .variable-type .ensures, c .before .variable-type2 .ensures, c .before .before .before .before .before .before .nth-field .ensures, c .before .before .before .before .nth-field2 .ensures, c .before .before .nth-field3 .ensures) (sym (sides-of (c .before .before .before .before .before .before .before .before .before .args .text .now) (c .before .before .before .before .before .before .before .before .before .args .work .now) (c .before .before .before .before .before .before .before .before .before .args .c) (c .before .before .before .before .before .before .before .before .before .args .from) 8 Set refl))
+returns c = c .same-name .ensures ∙ rw (c .before .before .before .field-type .ensures, c .before .before .before .before .before .variable-type .ensures, c .before .variable-type2 .ensures, c .before .before .before .before .before .before .nth-field .ensures, c .before .before .before .before .nth-field2 .ensures, c .before .before .nth-field3 .ensures) (sym (sides-of (c .before .before .before .before .before .before .before .before .before .args .text .now) (c .before .before .before .before .before .before .before .before .before .args .work .now) (c .before .before .before .before .before .before .before .before .before .args .c) (c .before .before .before .before .before .before .before .before .before .args .from) 8 Set refl))
 
 pub set-agrees-spec : {M : Type 1} → statement M
 set-agrees-spec =

@@ -1,14 +1,8 @@
+-- `judge::sides_agree` meets its contract: kind by kind. Assumes nothing.
 use Rattle.judge.proofs.Sides.{let-side, sides-other}
 use borrow.Author.Needs.{needs}
 use Rattle.judge.proofs.sides_agree.Statement.{statement}
 use Rattle.judge.proofs.sides_agree.Tie as tie
-use Rattle.judge.proofs.sides_agree.Reads as reads
-use Rattle.judge.proofs.sides_agree.Lts as lts
-use Rattle.judge.proofs.call_agrees.Reads as call-agrees-reads
-use Rattle.judge.proofs.let_agrees.Reads as let-agrees-reads
-use Rattle.judge.proofs.new_agrees.Reads as new-agrees-reads
-use Rattle.judge.proofs.return_agrees.Reads as return-agrees-reads
-use Rattle.judge.proofs.set_agrees.Reads as set-agrees-reads
 
 set-agrees-requires : tie.Need-set-agrees-requires
 set-agrees-requires c κs = search needs

@@ -1,11 +1,8 @@
+-- `judge::types_agree` meets its contract: the types of both sides. Assumes nothing.
 use mathlib.Core.Path.{_∙_}
 use borrow.Author.Needs.{needs}
 use Rattle.judge.proofs.types_agree.Statement.{statement}
 use Rattle.judge.proofs.types_agree.Tie as tie
-use Rattle.judge.proofs.types_agree.Reads as reads
-use Rattle.judge.proofs.types_agree.Lts as lts
-use Rattle.declared.proofs.agree.Reads as agree-reads
-use Rattle.declared.proofs.expr_type.Reads as expr-type-reads
 
 expr-type-requires : tie.Need-expr-type-requires
 expr-type-requires c κs = search needs
