@@ -1,0 +1,41 @@
+-- `judge::let_agrees` meets its contract: `sidesAgree` at `let`. Assumes nothing.
+use mathlib.Core.Path.{refl, sym, _∙_}
+use Rattle.rules.specs.Grammar.{Let, isKind, kindNumber}
+use Rattle.rules.specs.Scope.{operand}
+use Rattle.rules.specs.Names as Rules
+use Rattle.judge.specs.Tests.{sidesIn}
+use Rattle.judge.proofs.Sides.{sides-of}
+use Rattle.declared.specs.Answers.{typeMeant}
+use borrow.Author.Needs.{needs}
+use Rattle.judge.proofs.let_agrees.Statement.{statement}
+use Rattle.judge.proofs.let_agrees.Tie as tie
+
+nth-field-requires : tie.Need-nth-field-requires
+nth-field-requires c κs = search needs
+
+variable-type-requires : tie.Need-variable-type-requires
+variable-type-requires c κs = search needs
+
+nth-field-requires-2 : tie.Need-nth-field-requires-2
+nth-field-requires-2 c κs = search needs
+
+expr-type-requires : tie.Need-expr-type-requires
+expr-type-requires c κs = (c .before .before .before .before .before .pre .0, c .before .before .before .before .before .pre .1, rw (c .nth-field2 .ensures) (c .before .before .before .before .before .pre .3))
+
+agree-requires : tie.Need-agree-requires
+agree-requires c κs = search needs
+
+returns : tie.Need-returns
+unfolding sidesIn Rules.sidesAgree operand isKind kindNumber typeMeant
+returns c = c .agree .ensures ∙ rw (c .before .expr-type .ensures, c .before .before .before .variable-type .ensures, c .before .before .before .before .nth-field .ensures, c .before .before .nth-field2 .ensures) (sym (sides-of (c .before .before .before .before .before .before .before .args .text .now) (c .before .before .before .before .before .before .before .args .work .now) (c .before .before .before .before .before .before .before .args .c) (c .before .before .before .before .before .before .before .args .from) 9 Let refl))
+
+pub let-agrees-spec : {M : Type 1} → statement M
+let-agrees-spec =
+    tie.close
+    (tie.spec
+    nth-field-requires
+    variable-type-requires
+    nth-field-requires-2
+    expr-type-requires
+    agree-requires
+    returns)

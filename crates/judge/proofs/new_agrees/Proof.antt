@@ -1,0 +1,40 @@
+-- `judge::new_agrees` meets its contract: `sidesAgree` at `new`. Assumes nothing.
+use mathlib.Core.Path.{refl, sym, _∙_}
+use Rattle.rules.specs.Grammar.{New, isKind, kindNumber}
+use Rattle.rules.specs.Scope.{operand}
+use Rattle.rules.specs.Names as Rules
+use Rattle.judge.specs.Tests.{sidesIn}
+use Rattle.judge.proofs.Sides.{sides-of}
+use borrow.Author.Needs.{needs}
+use Rattle.judge.proofs.new_agrees.Statement.{statement}
+use Rattle.judge.proofs.new_agrees.Tie as tie
+
+nth-field-requires : tie.Need-nth-field-requires
+nth-field-requires c κs = search needs
+
+variable-type-requires : tie.Need-variable-type-requires
+variable-type-requires c κs = search needs
+
+name-in-requires : tie.Need-name-in-requires
+name-in-requires c κs = search needs
+
+nth-field-requires-2 : tie.Need-nth-field-requires-2
+nth-field-requires-2 c κs = search needs
+
+same-requires : tie.Need-same-requires
+same-requires c κs = search needs
+
+returns : tie.Need-returns
+unfolding sidesIn Rules.sidesAgree operand isKind kindNumber
+returns c = c .same .ensures ∙ rw (c .before .before .name-in .ensures, c .before .before .before .variable-type .ensures, c .before .before .before .before .nth-field .ensures, c .before .nth-field2 .ensures) (sym (sides-of (c .before .before .before .before .before .before .before .args .text .now) (c .before .before .before .before .before .before .before .args .work .now) (c .before .before .before .before .before .before .before .args .c) (c .before .before .before .before .before .before .before .args .from) 10 New refl))
+
+pub new-agrees-spec : {M : Type 1} → statement M
+new-agrees-spec =
+    tie.close
+    (tie.spec
+    nth-field-requires
+    variable-type-requires
+    name-in-requires
+    nth-field-requires-2
+    same-requires
+    returns)

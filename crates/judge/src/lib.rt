@@ -1,0 +1,329 @@
+use declared::Above;
+use declared::ExprType;
+use declared::Names;
+use declared::Operand;
+use leaves::Set;
+ghost use mathlib.Core.Path.{_≡_};
+ghost use mathlib.Core.Bool.{true, _&&_};
+ghost use mathlib.Core.List.{[], _∷_};
+ghost use Prim.Native.Nat.{_≤_};
+ghost use lib.ListN.{length, drop, getD};
+ghost use Rattle.rules.specs.Limits.{work-bytes, most-atoms};
+ghost use Rattle.rules.specs.Text.{isName, isExpr, exprOf, isAtom, isFormula, atomOf, formulaOf};
+ghost use Rattle.rules.specs.Grammar.{isOperand, variable, member, read, field};
+ghost use Rattle.rules.specs.Names.{agree, exprType};
+ghost use Rattle.rules.specs.Scope.{slotsFrom, atomOperands, atomSlots};
+ghost use Rattle.lines.specs.Cuts.{more};
+ghost use Rattle.lines.specs.Rows.{operandNumber};
+ghost use Rattle.declared.specs.Meanings.{Fits, declarationsIn, variablesIn, scopeIn};
+ghost use Rattle.declared.specs.Answers.{operandMeant};
+ghost use Rattle.judge.specs.Tests.{lineAfter, lineAt, Formed, Ready, bothTests, slotTests, cmpTests, tested, lineTests, sidesIn, apartIn};
+ghost use Rattle.judge.specs.Refusals.{refusalOf, refusalIn};
+
+// Which of the tests of numbers 6, 7 and 9 are passed.
+pub struct Tests {
+    pub known: bool,
+    pub typed: bool,
+    pub assignable: bool,
+}
+
+// What a line is: good, or refused by number 6, 7 or 9.
+pub enum Judged {
+    Good,
+    Undeclared,
+    WrongType,
+    WrongTarget,
+}
+
+fn and(a: bool, b: bool) -> bool
+    ensures { λ r. ⌜ r ≡ (a && b) ⌝ }
+{
+    if a { b } else { false }
+}
+
+fn both(a: Tests, b: Tests) -> Tests
+    ensures { λ r. ⌜ r ≡ bothTests a b ⌝ }
+{
+    let known = and(a.known, b.known);
+    let typed = and(a.typed, b.typed);
+    let assignable = and(a.assignable, b.assignable);
+    Tests {
+        known,
+        typed,
+        assignable,
+    }
+}
+
+// FIELDS
+
+// Field i of those after a field that ends at `from`; nothing if there is none.
+fn nth_field(text: &[u8], from: usize, i: usize) -> &[u8]
+    requires { ⌜ from ≤ length (now text) ⌝ }
+    ensures { λ x. ⌜ now x ≡ getD (more (drop from (now (text .entry)))) i [] ⌝ }
+{
+    let mut r = from;
+    let mut left = i;
+    while left != 0 {
+        r = lines::next_field(text, r);
+        left -= 1;
+    }
+    let e = lines::next_field(text, r);
+    if e == r {
+        return &text[0..0];
+    }
+    let b = r + 1;
+    &text[b..e]
+}
+
+// The operand that has this number in a row of the grammar.
+fn operand_of(n: u32) -> Operand
+    requires { ⌜ (1 ≤ n) × (n ≤ 11) ⌝ }
+    ensures { λ r. ⌜ operandNumber (operandMeant r) ≡ n ⌝ }
+{
+    match n {
+        1 => Operand::NewClass,
+        2 => Operand::NewField,
+        3 => Operand::NewMethod,
+        4 => Operand::NewVariable,
+        5 => Operand::TypeName,
+        6 => Operand::ClassName,
+        7 => Operand::Read,
+        8 => Operand::Assigned,
+        9 => Operand::Field,
+        10 => Operand::Method,
+        _ => Operand::Expression,
+    }
+}
+
+// The tests of the field x, with v before it.
+fn field_tests(
+    text: &[u8],
+    work: &[u8],
+    c: Names,
+    a: Above,
+    o: Operand,
+    v: &[u8],
+    x: &[u8],
+) -> Tests
+    requires { ⌜ Ready (now work) c a × (isOperand (operandMeant o) (now x) ≡ true) ⌝ }
+    ensures { λ r. ⌜ r ≡ slotTests (now (text .entry)) (now (work .entry)) c a (operandMeant o) (now (v .entry)) (now (x .entry)) ⌝ }
+{
+    let known = declared::known(text, work, c, a, o, v, x);
+    let typed = declared::of_class(text, work, c, o, v, x);
+    let assignable = declared::may_be_assigned(text, work, c, o, x);
+    Tests {
+        known,
+        typed,
+        assignable,
+    }
+}
+
+// ATOMS
+
+// Are the types of two expressions those of two sides?
+fn types_agree(text: &[u8], work: &[u8], c: Names, x: &[u8], y: &[u8]) -> bool
+    requires { ⌜ (length (now work) ≡ work-bytes) × Fits c × (isExpr (now x) ≡ true) × (isExpr (now y) ≡ true) ⌝ }
+    ensures { λ r. ⌜ r ≡ agree (exprType (declarationsIn (now (text .entry)) (now (work .entry)) c) (variablesIn (now (text .entry)) (now (work .entry)) c) (exprOf (now (x .entry)))) (exprType (declarationsIn (now (text .entry)) (now (work .entry)) c) (variablesIn (now (text .entry)) (now (work .entry)) c) (exprOf (now (y .entry)))) ⌝ }
+{
+    let s = declared::expr_type(text, work, c, x);
+    let u = declared::expr_type(text, work, c, y);
+    declared::agree(text, s, u)
+}
+
+// `acc x f`
+fn acc_tests(text: &[u8], work: &[u8], c: Names, a: Above, x: &[u8], f: &[u8]) -> Tests
+    requires { ⌜ Ready (now work) c a × (isName (now x) ≡ true) × (isName (now f) ≡ true) ⌝ }
+    ensures { λ r. ⌜ r ≡ bothTests (slotTests (now (text .entry)) (now (work .entry)) c a (variable read) [] (now (x .entry))) (slotTests (now (text .entry)) (now (work .entry)) c a (member field) (now (x .entry)) (now (f .entry))) ⌝ }
+{
+    let first = field_tests(text, work, c, a, Operand::Read, &x[0..0], x);
+    let second = field_tests(text, work, c, a, Operand::Field, x, f);
+    both(first, second)
+}
+
+// `eq x y` or `ne x y`
+fn cmp_tests(text: &[u8], work: &[u8], c: Names, a: Above, x: &[u8], y: &[u8]) -> Tests
+    requires { ⌜ Ready (now work) c a × (isExpr (now x) ≡ true) × (isExpr (now y) ≡ true) ⌝ }
+    ensures { λ r. ⌜ r ≡ cmpTests (now (text .entry)) (now (work .entry)) c a (now (x .entry)) (now (y .entry)) ⌝ }
+{
+    let first = field_tests(text, work, c, a, Operand::Expression, &x[0..0], x);
+    let second = field_tests(text, work, c, a, Operand::Expression, x, y);
+    let typed = types_agree(text, work, c, x, y);
+    let sides = Tests {
+        known: true,
+        typed,
+        assignable: true,
+    };
+    both(first, both(second, sides))
+}
+
+fn one_atom(text: &[u8], work: &[u8], c: Names, a: Above, w: &[u8], x: &[u8], y: &[u8]) -> Tests
+    requires { ⌜ Ready (now work) c a × (isAtom (now w) (now x) (now y) ≡ true) ⌝ }
+    ensures { λ r. ⌜ r ≡ tested (now (text .entry)) (now (work .entry)) c a (slotsFrom [] (atomOperands (now (w .entry))) (now (x .entry) ∷ now (y .entry) ∷ [])) (atomOf (now (w .entry)) (now (x .entry)) (now (y .entry)) ∷ []) ⌝ }
+{
+    if leaves::word(w) == leaves::ACC {
+        return acc_tests(text, work, c, a, x, y);
+    }
+    cmp_tests(text, work, c, a, x, y)
+}
+
+// The atoms after a field that ends at `from`.
+fn atom_tests(text: &[u8], work: &[u8], from: usize, c: Names, a: Above) -> Tests
+    requires { ⌜ Ready (now work) c a × (from ≤ length (now text)) × (isFormula most-atoms (more (drop from (now text))) ≡ true) ⌝ }
+    ensures { λ r. ⌜ r ≡ tested (now (text .entry)) (now (work .entry)) c a (atomSlots (more (drop from (now (text .entry))))) (formulaOf (more (drop from (now (text .entry))))) ⌝ }
+{
+    let mut t = Tests {
+        known: true,
+        typed: true,
+        assignable: true,
+    };
+    let mut r = from;
+    while leaves::byte_at(text, r) == 9 {
+        let x = lines::next_field(text, r);
+        let y = lines::next_field(text, x);
+        let z = lines::next_field(text, y);
+        let w = r + 1;
+        let p = x + 1;
+        let q = y + 1;
+        let f = one_atom(text, work, c, a, &text[w..x], &text[p..y], &text[q..z]);
+        t = both(t, f);
+        r = z;
+    }
+    t
+}
+
+// OPERANDS
+
+// The fields of a line of this kind, whose word ends at `from`: its operands, then its atoms.
+fn line_tests(text: &[u8], work: &[u8], from: usize, kind: u8, c: Names, a: Above) -> Tests
+    requires { ⌜ Ready (now work) c a × (from ≤ length (now text)) × Formed kind (lineAfter (now text) from kind) ⌝ }
+    ensures { λ r. ⌜ r ≡ lineTests (now (text .entry)) (now (work .entry)) c a (lineAfter (now (text .entry)) from kind) ⌝ }
+{
+    let row = lines::row_of(kind);
+    let mut left = row.operands;
+    let mut t = Tests {
+        known: true,
+        typed: true,
+        assignable: true,
+    };
+    let mut b = from;
+    let mut r = from;
+    while left != 0 {
+        let e = lines::next_field(text, r);
+        let o = operand_of(left % 16);
+        let s = r + 1;
+        let f = field_tests(text, work, c, a, o, &text[b..r], &text[s..e]);
+        t = both(t, f);
+        b = s;
+        r = e;
+        left = left / 16;
+    }
+    let f = atom_tests(text, work, r, c, a);
+    both(t, f)
+}
+
+// SIDES
+
+// `set x f y`
+fn set_agrees(text: &[u8], work: &[u8], from: usize, c: Names) -> bool
+    requires { ⌜ (length (now work) ≡ work-bytes) × Fits c × (from ≤ length (now text)) ⌝ }
+    ensures { λ r. ⌜ r ≡ sidesIn (now (text .entry)) (now (work .entry)) c (lineAfter (now (text .entry)) from 8) ⌝ }
+{
+    let x = declared::variable_type(text, work, c, nth_field(text, from, 0));
+    let f = declared::field_type(text, work, c, x, nth_field(text, from, 1));
+    let y = declared::variable_type(text, work, c, nth_field(text, from, 2));
+    declared::same_name(text, f, y)
+}
+
+// `let x e`
+fn let_agrees(text: &[u8], work: &[u8], from: usize, c: Names) -> bool
+    requires { ⌜ (length (now work) ≡ work-bytes) × Fits c × (from ≤ length (now text)) × (isExpr (getD (more (drop from (now text))) 1 []) ≡ true) ⌝ }
+    ensures { λ r. ⌜ r ≡ sidesIn (now (text .entry)) (now (work .entry)) c (lineAfter (now (text .entry)) from 9) ⌝ }
+{
+    let x = declared::variable_type(text, work, c, nth_field(text, from, 0));
+    let e = declared::expr_type(text, work, c, nth_field(text, from, 1));
+    declared::agree(text, ExprType::Named(x), e)
+}
+
+// `new x C`
+fn new_agrees(text: &[u8], work: &[u8], from: usize, c: Names) -> bool
+    requires { ⌜ (length (now work) ≡ work-bytes) × Fits c × (from ≤ length (now text)) ⌝ }
+    ensures { λ r. ⌜ r ≡ sidesIn (now (text .entry)) (now (work .entry)) c (lineAfter (now (text .entry)) from 10) ⌝ }
+{
+    let x = declared::variable_type(text, work, c, nth_field(text, from, 0));
+    leaves::same(declared::name_in(text, x), nth_field(text, from, 1))
+}
+
+// `call x y m z`: the result, and the argument
+fn call_agrees(text: &[u8], work: &[u8], from: usize, c: Names) -> bool
+    requires { ⌜ (length (now work) ≡ work-bytes) × Fits c × (from ≤ length (now text)) ⌝ }
+    ensures { λ r. ⌜ r ≡ sidesIn (now (text .entry)) (now (work .entry)) c (lineAfter (now (text .entry)) from 11) ⌝ }
+{
+    let x = declared::variable_type(text, work, c, nth_field(text, from, 0));
+    let y = declared::variable_type(text, work, c, nth_field(text, from, 1));
+    let m = declared::method_number(text, work, c, y, nth_field(text, from, 2));
+    let z = declared::variable_type(text, work, c, nth_field(text, from, 3));
+    let result = declared::same_name(text, x, declared::result_type(work, c, m));
+    let argument = declared::same_name(text, z, declared::parameter_type(work, c, m));
+    and(result, argument)
+}
+
+// `return x`
+fn return_agrees(text: &[u8], work: &[u8], from: usize, c: Names) -> bool
+    requires { ⌜ (length (now work) ≡ work-bytes) × Fits c × (from ≤ length (now text)) ⌝ }
+    ensures { λ r. ⌜ r ≡ sidesIn (now (text .entry)) (now (work .entry)) c (lineAfter (now (text .entry)) from 12) ⌝ }
+{
+    let x = declared::variable_type(text, work, c, nth_field(text, from, 0));
+    let r = declared::variable_type(text, work, c, b"result");
+    declared::same_name(text, x, r)
+}
+
+fn sides_agree(text: &[u8], work: &[u8], from: usize, kind: u8, c: Names) -> bool
+    requires { ⌜ (length (now work) ≡ work-bytes) × Fits c × (from ≤ length (now text)) × Formed kind (lineAfter (now text) from kind) ⌝ }
+    ensures { λ r. ⌜ r ≡ sidesIn (now (text .entry)) (now (work .entry)) c (lineAfter (now (text .entry)) from kind) ⌝ }
+{
+    match kind {
+        8 => set_agrees(text, work, from, c),
+        9 => let_agrees(text, work, from, c),
+        10 => new_agrees(text, work, from, c),
+        11 => call_agrees(text, work, from, c),
+        12 => return_agrees(text, work, from, c),
+        _ => true,
+    }
+}
+
+// 9: "`call x` with x the same name as y or z"
+fn call_apart(text: &[u8], work: &[u8], from: usize, kind: u8, c: Names) -> bool
+    requires { ⌜ (length (now work) ≡ work-bytes) × Fits c × (from ≤ length (now text)) × ((1 ≤ kind) × (kind ≤ 18)) ⌝ }
+    ensures { λ r. ⌜ r ≡ apartIn (now (text .entry)) (now (work .entry)) c (lineAfter (now (text .entry)) from kind) ⌝ }
+{
+    if kind != 11 {
+        return true;
+    }
+    let x = declared::variable(text, work, c, nth_field(text, from, 0));
+    let y = declared::variable(text, work, c, nth_field(text, from, 1));
+    let z = declared::variable(text, work, c, nth_field(text, from, 3));
+    and(x != y, x != z)
+}
+
+// THE LINE
+
+// Is the line of this kind that begins at `at` good? 6 before 7 before 9.
+pub fn judge(text: &[u8], work: &[u8], at: usize, kind: u8, c: Names, a: Above) -> Judged
+    requires { ⌜ Ready (now work) c a × (at ≤ length (now text)) × Formed kind (lineAt (now text) at kind) ⌝ }
+    ensures { λ r. ⌜ refusalOf r ≡ refusalIn (declarationsIn (now (text .entry)) (now (work .entry)) c) (variablesIn (now (text .entry)) (now (work .entry)) c) (scopeIn (now (text .entry)) (now (work .entry)) c a) (lineAt (now (text .entry)) at kind) ⌝ }
+{
+    let from = leaves::find(text, at, Set::FieldEnd);
+    let t = line_tests(text, work, from, kind, c, a);
+    if !t.known {
+        return Judged::Undeclared;
+    }
+    let sides = sides_agree(text, work, from, kind, c);
+    if !and(t.typed, sides) {
+        return Judged::WrongType;
+    }
+    let apart = call_apart(text, work, from, kind, c);
+    if !and(t.assignable, apart) {
+        return Judged::WrongTarget;
+    }
+    Judged::Good
+}
