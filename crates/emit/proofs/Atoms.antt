@@ -1,27 +1,26 @@
 -- One more atom: what was written is read back, and a formula grows.
 use mathlib.Core.Path.{_≡_, refl, sym, ap, _∙_}
-use mathlib.Core.Bool.{Bool, true, false, cond}
 use mathlib.Core.List.{List, [], _∷_, _++_}
-use mathlib.Core.Logic.{_⊎_, inl, inr, ⊎-elim}
-use Prim.Native.Nat.{ℕ, zero, suc, _+_, _*_, _/_, _%_, _≤_, _<_}
+use mathlib.Core.Logic.{inl, inr}
+use Prim.Native.Nat.{ℕ, suc, _+_, _*_, _/_, _%_, _<_}
 use native.Mathlib.Omega.{arith}
 use lib.Dec.{T, eqb, eqb→eq}
 use lib.ListN.{length, getD}
 use borrow.Author.Count.{below-more}
 use Rattle.rules.specs.Limits.{work-bytes}
-use Rattle.rules.specs.Syntax.{Atom, Formula, Expr, num, null, var, path, acc, cmp, if}
+use Rattle.rules.specs.Syntax.{Atom, Formula, Expr, num, var, path, acc, if}
 use Rattle.assembly.specs.Flat.{Flat}
 use Rattle.tables.specs.declared.Expr as Tables
-use Rattle.tables.specs.Layout.{rows-at, methods-at, classes-at, places-at, atoms-at, names-at, values-at, most-atom-rows, most-names, frame-variables}
-use Rattle.tables.specs.Decode.{byteAt, wordAt, exprAt, leftAt, rightAt, relOf, atomAt, atomsFrom, atomPlace, ifAt, rowPlace, methodPlace, classPlace}
+use Rattle.tables.specs.Layout.{names-at, values-at, most-atom-rows}
+use Rattle.tables.specs.Decode.{byteAt, wordAt, exprAt, leftAt, rightAt, relOf, atomAt, atomsFrom, atomPlace, ifAt}
 use Rattle.tables.specs.Tables.{SideFits, AtomFits}
 use Rattle.tables.specs.Stores.{meaning, putWord, Kept}
 use Rattle.tables.proofs.Bytes.{word-put}
-use Rattle.emit.specs.Puts.{putBytes, tagOf, wordOf, atomBytes, putAtom, placesPlace, SideBytes}
-use Rattle.emit.specs.Holds.{Declared, SideOk, AtomOk, accessOf, atomOf, AtomsHold, RowsHold, MethodsHold, ClassesHold, Holds, Building}
+use Rattle.emit.specs.Puts.{tagOf, wordOf, atomBytes, putAtom, SideBytes}
+use Rattle.emit.specs.Holds.{Declared, SideOk, AtomOk, accessOf, atomOf, Holds, Building}
 use Rattle.emit.proofs.Puts.{put-length, put-same, Clear, put-kept}
-use Rattle.emit.proofs.Runs.{run, run-more, run-same, end-length, atoms-run}
-use Rattle.emit.proofs.Kept.{all-rows, cond-same, atoms-kept, atoms-hold-kept, row-ok-more, method-ok-more, SameRows, holds-kept}
+use Rattle.emit.proofs.Runs.{run-more, end-length, atoms-run}
+use Rattle.emit.proofs.Kept.{all-rows, cond-same, atoms-kept, row-ok-more, method-ok-more, SameRows, holds-kept}
 
 -- SIDES
 

@@ -3,7 +3,7 @@ use mathlib.Core.Path.{_≡_, refl, sym, ap, _∙_}
 use mathlib.Core.Bool.{Bool, true, false, cond, not}
 use mathlib.Core.List.{List, [], _∷_, _++_}
 use mathlib.Core.Logic.{_⊎_, inl, inr, ⊎-elim}
-use Prim.Native.Nat.{ℕ, zero, suc, _+_, _*_, _≤_, _<_}
+use Prim.Native.Nat.{ℕ, suc, _+_, _*_, _<_}
 use native.Mathlib.Omega.{arith}
 use lib.Dec.{eqb}
 use lib.ListN.{length, getD}
@@ -12,15 +12,16 @@ use Rattle.rules.specs.Limits.{most-classes, most-fields, work-bytes}
 use Rattle.rules.specs.Syntax.{Field}
 use Rattle.rules.specs.Items.{aClass, aField}
 use Rattle.assembly.specs.Flat.{Flat, flatWith, onLast}
-use Rattle.tables.specs.Layout.{rows-at, methods-at, classes-at, places-at, atoms-at, names-at, values-at, most-names}
-use Rattle.tables.specs.Decode.{byteAt, rowPlace, atomPlace, methodPlace, classPlace, fieldCountAt, fieldNameAt, fieldAt, fieldsFrom, classAt, classesFrom}
+use Rattle.tables.specs.Layout.{classes-at, places-at, atoms-at, names-at, values-at, most-names}
+use Rattle.tables.specs.Decode.{byteAt, atomPlace, classPlace, fieldCountAt, fieldNameAt, fieldAt, fieldsFrom, classAt}
 use Rattle.tables.specs.Tables.{ClassFits, placeAt}
 use Rattle.tables.specs.Stores.{Kept}
 use Rattle.tables.proofs.Bytes.{Outside, kept-trans}
+use Rattle.tables.proofs.Rows.{class-length as class-length-of}
 use Rattle.emit.specs.Puts.{putBytes, blank, putClass, putFieldAt, putField, placesPlace}
-use Rattle.emit.specs.Holds.{Declared, ClassesHold, Holds}
+use Rattle.emit.specs.Holds.{Declared, Holds}
 use Rattle.emit.proofs.Puts.{put-length, put-same, put-other, Clear, put-kept, blank-length, blank-get}
-use Rattle.emit.proofs.Runs.{three-ways, run, run-more, run-same, run-grown, run-last, last-length, end-length, fields-run, classes-run}
+use Rattle.emit.proofs.Runs.{three-ways, run-get, run-more, run-same, run-grown, run-last, last-length, end-length, fields-run, classes-run}
 use Rattle.emit.proofs.Kept.{all-rows, atoms-hold-kept, rows-kept, methods-kept, class-same, class-fits-kept, SameRows, holds-kept}
 
 -- A CLASS
@@ -123,6 +124,27 @@ pub class-written :
     Holds D (putClass w (length (F .classes))) (flatWith F l aClass) n
 unfolding after
 class-written D w F n l room h = class-more D w F n room h l
+
+-- a class that is written, as its fields
+module _ (D : Declared) (w : List ℕ) (F : Flat) (n c : ℕ) (here : c < length (F .classes)) (h : Holds D w F n) where
+  pub class-fields : classAt w c ≡ getD (F .classes) c []
+  class-fields =
+      let z : 0 + c ≡ c = omega arith in
+      sym
+      (ap (λ (l : List (List Field)). getD l c []) (sym (h .classes .mean) ∙ classes-run w 0 _)
+      ∙ (run-get (classAt w) 0 _ c [] here ∙ ap (classAt w) z))
+
+  pub class-count : fieldCountAt w c ≡ length (getD (F .classes) c [])
+  class-count = sym (class-length-of w c) ∙ ap length class-fields
+
+  pub class-name :
+      (k : ℕ) (d : Field) → k < length (getD (F .classes) c []) → fieldNameAt w c k ≡ getD (getD (F .classes) c []) k d .name
+  unfolding classAt fieldAt
+  class-name k d l =
+      let z : 0 + k ≡ k = omega arith in
+      sym
+      (ap (λ (fs : List Field). getD fs k d .name) (sym class-fields ∙ fields-run w c 0 _)
+      ∙ (ap (λ (f : Field). f .name) (run-get (fieldAt w c) 0 _ k d (omega (arith, class-count)) ∙ ap (fieldAt w c) z)))
 
 -- A FIELD
 flag-read : (int : Bool) → not (eqb (cond int 1 0) 0) ≡ int
@@ -293,7 +315,7 @@ module _
             rows-kept D w w′ n KA (F .rows)
             (all-rows (length (F .rows)) w w′ (K _ _ (inl (omega (arith, h .rows .few))) (inl (omega (arith, h .rows .few))))) (h .rows);
         methods =
-            methods-kept D w w′ n KA (length (F .rows)) (F .methods)
+            methods-kept w w′ n KA (length (F .rows)) (F .methods)
             (K _ _ (inl (omega (arith, h .methods .few))) (inl (omega (arith, h .methods .few)))) (h .methods);
         classes =
             record {
@@ -313,7 +335,12 @@ module _
 
 -- one more field of the last class, under a name that it has not
 pub field-written :
-    (D : Declared) (w : List ℕ) (F : Flat) (n c name l : ℕ) (int : Bool) → length (F .classes) ≡ suc c →
-    fieldCountAt w c < most-fields → name < most-names → ((k : ℕ) → k < fieldCountAt w c → fieldNameAt w c k ≡ name → ⊥) →
+    (D : Declared) (w : List ℕ) (F : Flat) (n c name l : ℕ) (int : Bool) (d : Field) → length (F .classes) ≡ suc c →
+    length (getD (F .classes) c []) < most-fields → name < most-names →
+    ((k : ℕ) → k < length (getD (F .classes) c []) → getD (getD (F .classes) c []) k d .name ≡ name → ⊥) →
     Holds D w F n → Holds D (putField w c name int) (flatWith F l (aField (record { name = name; int = int }))) n
-field-written D w F n c name l int last few known new h = field-more D w F n c name int last few known new h l
+field-written D w F n c name l int d last few known new h =
+    let here : c < length (F .classes) = omega arith in
+    let count : fieldCountAt w c ≡ length (getD (F .classes) c []) = class-count D w F n c here h in
+    field-more D w F n c name int last (omega (arith, count)) known
+    (λ k p e. new k (omega (arith, count)) (sym (class-name D w F n c here h k d (omega (arith, count))) ∙ e)) h l

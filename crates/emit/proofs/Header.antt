@@ -1,23 +1,23 @@
 -- The header, and the program that the finished tables mean.
-use mathlib.Core.Path.{_≡_, refl, sym, ap, _∙_}
-use mathlib.Core.List.{List, [], _∷_, _++_, map}
-use mathlib.Core.Logic.{_⊎_, inl, inr}
-use Prim.Native.Nat.{ℕ, zero, suc, _+_, _*_, _/_, _%_, _≤_, _<_}
+use mathlib.Core.Path.{_≡_, refl, ap, _∙_}
+use mathlib.Core.List.{List, _∷_, map}
+use mathlib.Core.Logic.{inr}
+use Prim.Native.Nat.{ℕ, zero, suc, _+_, _/_, _%_, _≤_, _<_}
 use native.Mathlib.Omega.{arith}
 use lib.ListN.{length, getD, drop}
 use Rattle.rules.specs.Base.{Name}
 use Rattle.rules.specs.Limits.{work-bytes}
-use Rattle.rules.specs.Syntax.{Row, Field, Method, Program}
+use Rattle.rules.specs.Syntax.{Method}
 use Rattle.rules.specs.Items.{aMain, aLocal}
-use Rattle.assembly.specs.Flat.{Flat, FlatMethod, flatWith, methodIn, assembled}
-use Rattle.tables.specs.Layout.{rows-at, methods-at, classes-at, places-at, atoms-at, names-at, values-at}
-use Rattle.tables.specs.Decode.{byteAt, halfAt, rowsFrom, allRows, rowCount, atomCount, classCount, methodCount, mainFirst, methodAt, methodsFrom, classesFrom, programIn, rowPlace, atomPlace, methodPlace, classPlace}
+use Rattle.assembly.specs.Flat.{Flat, flatWith, methodIn, assembled}
+use Rattle.tables.specs.Layout.{names-at, values-at}
+use Rattle.tables.specs.Decode.{byteAt, halfAt, rowsFrom, allRows, rowCount, atomCount, classCount, methodCount, mainFirst, methodAt, methodsFrom, classesFrom, programIn}
 use Rattle.tables.specs.Tables.{Tables}
 use Rattle.tables.specs.Stores.{Kept}
-use Rattle.emit.specs.Puts.{putBytes, headerBytes, putHeader, placesPlace}
+use Rattle.emit.specs.Puts.{headerBytes, putHeader}
 use Rattle.emit.specs.Holds.{Declared, flatMethodAt, flatMethodsFrom, operandsAt, RowOk, MethodOk, Holds, Finished, TargetFits, Linked}
-use Rattle.emit.proofs.Puts.{put-length, put-same, put-same-half, Clear, put-kept}
-use Rattle.emit.proofs.Kept.{all-rows, SameRows, holds-kept}
+use Rattle.emit.proofs.Puts.{put-length, put-same, put-same-half, put-kept}
+use Rattle.emit.proofs.Kept.{all-rows, holds-kept}
 
 -- LINES THAT WRITE NOTHING
 pub main-written : (D : Declared) (w : List ℕ) (F : Flat) (n l : ℕ) → Holds D w F n → Holds D w (flatWith F l aMain) n
@@ -122,6 +122,10 @@ finished-program D w F n f =
     methods-in w 0 (methodCount w)
     ∙ ((λ j. map (methodIn (rs j)) (flatMethodsFrom w 0 (f .methods j))) ∙ ap (map (methodIn (F .rows))) (h .methods .mean)) in
     λ j. record { classes = cs j; methods = ms j; main = drop (f .main j) (rs j) }
+
+-- the header is all that was left to write
+pub program-written : (D : Declared) (w : List ℕ) (F : Flat) (n : ℕ) → Holds D w F n → programIn (withHeader w F n) ≡ assembled F
+program-written D w F n h = finished-program D (withHeader w F n) F n (header-written D w F n h)
 
 -- with targets and blocks that fit, they are tables for the checker and the machine
 pub finished-tables :

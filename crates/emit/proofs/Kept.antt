@@ -1,25 +1,25 @@
 -- What the tables mean depends on the bytes of the rows that are written: other bytes may change.
 use mathlib.Core.Path.{_≡_, refl, sym, ap, _∙_}
 use mathlib.Core.Bool.{Bool, true, false, cond}
-use mathlib.Core.List.{List, [], _∷_, _++_}
+use mathlib.Core.List.{List}
 use mathlib.Core.Logic.{_⊎_, inl, inr, ⊎-elim}
-use Prim.Native.Nat.{ℕ, zero, suc, _+_, _*_, _≤_, _<_}
+use Prim.Native.Nat.{ℕ, _+_, _*_, _≤_, _<_}
 use native.Mathlib.Omega.{arith}
 use lib.Dec.{T, eqb, eqb→eq}
 use lib.ListN.{length}
-use Rattle.rules.specs.Limits.{most-classes, most-fields, most-methods, most-statements}
-use Rattle.rules.specs.Syntax.{Formula, Stmt, Row, Field}
-use Rattle.rules.specs.Syntax.{set, assign, new, call, return, assert, release, simple, if, else, join, end}
-use Rattle.assembly.specs.Flat.{Flat, FlatMethod}
-use Rattle.tables.specs.Layout.{rows-at, methods-at, classes-at, places-at, atoms-at, most-atom-rows, most-names}
-use Rattle.tables.specs.Decode.{byteAt, halfAt, exprAt, leftAt, rightAt, relOf, atomAt, atomsFrom, atomPlace, ifAt, rowPlace, kindAt, xAt, yAt, zAt, memberAt, atomCountAt, firstAtomAt, lineAt, formulaAt, stmtAt, rowAt, rowsFrom, requiresAt, ensuresAt, methodPlace, firstRowAt, classPlace, fieldCountAt, fieldNameAt, fieldAt, fieldsFrom, classAt, classesFrom}
+use Rattle.rules.specs.Limits.{most-fields, work-bytes}
+use Rattle.rules.specs.Syntax.{Formula, Row, Field}
+use Rattle.rules.specs.Syntax.{assign, assert, release, simple, join}
+use Rattle.assembly.specs.Flat.{Flat, FlatMethod, noFlat}
+use Rattle.tables.specs.Layout.{rows-at, methods-at, classes-at, places-at, atoms-at, names-at, most-names}
+use Rattle.tables.specs.Decode.{byteAt, halfAt, exprAt, leftAt, rightAt, atomAt, atomsFrom, atomPlace, ifAt, rowPlace, kindAt, lineAt, formulaAt, stmtAt, rowAt, rowsFrom, requiresAt, ensuresAt, methodPlace, firstRowAt, classPlace, fieldCountAt, fieldNameAt, fieldAt, classAt, classesFrom}
 use Rattle.tables.specs.Tables.{SideFits, AtomFits, ClassFits, placeAt}
-use Rattle.tables.specs.Stores.{Kept}
+use Rattle.tables.specs.Stores.{Kept, SameTables}
 use Rattle.tables.proofs.Bytes.{half-kept}
 use Rattle.emit.specs.declared.Operands.{Operands}
 use Rattle.emit.specs.Puts.{placesPlace}
-use Rattle.emit.specs.Holds.{Declared, Range, AtomsHold, operandsAt, RowOk, formulaOf, stmtOf, RowsHold, flatMethodAt, flatMethodsFrom, MethodOk, MethodsHold, ClassesHold, Holds}
-use Rattle.emit.proofs.Runs.{run, run-kept, run-same, atoms-run, rows-run, fields-run, classes-run, methods-run}
+use Rattle.emit.specs.Holds.{Declared, Range, AtomsHold, operandsAt, RowOk, formulaOf, stmtOf, RowsHold, flatMethodAt, flatMethodsFrom, MethodOk, MethodsHold, ClassesHold, Holds, Building}
+use Rattle.emit.proofs.Runs.{run-kept, run-same, atoms-run, rows-run, fields-run, classes-run, methods-run}
 
 -- both branches, each where it is taken
 pub cond-same :
@@ -192,7 +192,8 @@ module _ (D : Declared) (w w′ : List ℕ) (n : ℕ) (KA : Kept atoms-at (atomP
           fit = row-ok-kept;
         }
 
-  -- METHODS
+-- METHODS
+module _ (w w′ : List ℕ) (n : ℕ) (KA : Kept atoms-at (atomPlace n) w w′) where
   module _ (R : ℕ) (ms : List FlatMethod) (M : ℕ) (KM : Kept methods-at (methodPlace M) w w′) (few : M ≤ length ms) (h : MethodsHold w n R ms) where
     module _ (m : ℕ) (l : m < M) where
       method-byte : (k : ℕ) → k < 8 → byteAt w′ (methodPlace m + k) ≡ byteAt w (methodPlace m + k)
@@ -326,6 +327,47 @@ holds-kept D w w′ F n s h =
       main = h .main;
       atoms = atoms-hold-kept w w′ n (s .atoms) (h .atoms);
       rows = rows-kept D w w′ n (s .atoms) (F .rows) (s .rows) (h .rows);
-      methods = methods-kept D w w′ n (s .atoms) (length (F .rows)) (F .methods) (s .methods) (h .methods);
+      methods = methods-kept w w′ n (s .atoms) (length (F .rows)) (F .methods) (s .methods) (h .methods);
       classes = classes-kept w w′ (F .classes) (s .classes) (s .places) (h .classes);
+    }
+
+-- what lies past the tables is free
+pub holds-same : (D : Declared) (w w′ : List ℕ) (F : Flat) (n : ℕ) → SameTables w w′ → Holds D w F n → Holds D w′ F n
+holds-same D w w′ F n s h =
+    let K : (a b : ℕ) → b ≤ names-at → Kept a b w w′ = λ a b l i p q. s .bytes i (omega arith) (omega arith) in
+    holds-kept D w w′ F n
+    (record {
+      size = s .size;
+      atoms = K _ _ (omega (arith, h .atoms .few));
+      rows = all-rows _ w w′ (K _ _ (omega (arith, h .rows .few)));
+      methods = K _ _ (omega (arith, h .methods .few));
+      classes = K _ _ (omega (arith, h .classes .few));
+      places = K _ _ (omega (arith, h .classes .few));
+    })
+    h
+
+pub building-same :
+    (D : Declared) (w w′ : List ℕ) (F : Flat) (a n : ℕ) (φ : Formula ℕ) → SameTables w w′ → Building D w F a n φ →
+    Building D w′ F a n φ
+building-same D w w′ F a n φ s b =
+    record {
+      holds = holds-same D w w′ F n s (b .holds);
+      place = b .place;
+      mean =
+          atoms-kept w w′ n (λ i p q. s .bytes i (omega arith) (omega (arith, b .holds .atoms .few))) a (length φ)
+          (omega (arith, b .place))
+          ∙ b .mean;
+    }
+
+-- nothing is written yet
+pub none-written : (D : Declared) (w : List ℕ) → length w ≡ work-bytes → Holds D w noFlat 0
+unfolding rowsFrom flatMethodsFrom classesFrom
+none-written D w size =
+    record {
+      size = size;
+      main = omega arith;
+      atoms = record { few = omega arith; fit = λ i l. absurd (omega arith) };
+      rows = record { few = omega arith; mean = refl; fit = λ i l. absurd (omega arith) };
+      methods = record { few = omega arith; mean = refl; fit = λ i l. absurd (omega arith) };
+      classes = record { few = omega arith; mean = refl; fit = λ i l. absurd (omega arith) };
     }

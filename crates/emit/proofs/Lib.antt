@@ -6,3 +6,4 @@ pub mod Rows
 pub mod Methods
 pub mod Classes
 pub mod Header
+pub mod Statements

@@ -1,22 +1,22 @@
 -- One more method, and the requires and ensures of the last.
-use mathlib.Core.Path.{_≡_, refl, sym, ap, _∙_}
+use mathlib.Core.Path.{_≡_, refl, sym, _∙_}
 use mathlib.Core.List.{List, [], _∷_, _++_}
-use mathlib.Core.Logic.{_⊎_, inl, inr}
-use Prim.Native.Nat.{ℕ, zero, suc, _+_, _*_, _/_, _%_, _≤_, _<_}
+use mathlib.Core.Logic.{inl, inr}
+use Prim.Native.Nat.{ℕ, suc, _+_, _/_, _%_, _≤_, _<_}
 use native.Mathlib.Omega.{arith}
 use lib.ListN.{length, getD}
 use borrow.Author.Count.{below-more}
-use Rattle.rules.specs.Limits.{most-statements, most-methods, most-atoms, work-bytes}
+use Rattle.rules.specs.Limits.{most-methods, most-atoms, work-bytes}
 use Rattle.rules.specs.Syntax.{Formula}
-use Rattle.rules.specs.Items.{Item, aMethod, aRequires, anEnsures}
+use Rattle.rules.specs.Items.{aMethod, aRequires, anEnsures}
 use Rattle.assembly.specs.Flat.{Flat, FlatMethod, flatWith, onLast, withRequires, withEnsures}
-use Rattle.tables.specs.Layout.{rows-at, methods-at, classes-at, places-at, atoms-at, names-at, values-at}
-use Rattle.tables.specs.Decode.{byteAt, halfAt, atomsFrom, rowPlace, atomPlace, methodPlace, classPlace, requiresAt, ensuresAt, firstRowAt}
+use Rattle.tables.specs.Layout.{methods-at, atoms-at, names-at, values-at}
+use Rattle.tables.specs.Decode.{byteAt, halfAt, atomsFrom, atomPlace, methodPlace, requiresAt, ensuresAt, firstRowAt}
 use Rattle.tables.specs.Stores.{Kept}
-use Rattle.emit.specs.Puts.{putBytes, methodBytes, putMethod, putRequires, putEnsures, placesPlace}
-use Rattle.emit.specs.Holds.{Declared, Range, flatMethodAt, flatMethodsFrom, MethodOk, MethodsHold, Holds, Building}
+use Rattle.emit.specs.Puts.{putBytes, methodBytes, putMethod, putRequires, putEnsures}
+use Rattle.emit.specs.Holds.{Declared, Range, flatMethodAt, MethodOk, Holds, Building}
 use Rattle.emit.proofs.Puts.{put-length, put-same, put-same-half, put-other, Clear, put-kept}
-use Rattle.emit.proofs.Runs.{run, run-grown, run-last, last-length, end-length, methods-run}
+use Rattle.emit.proofs.Runs.{run-grown, run-last, last-length, end-length, methods-run}
 use Rattle.emit.proofs.Kept.{all-rows, atoms-kept, atoms-hold-kept, rows-kept, method-same, method-ok-kept, classes-kept, SameRows, holds-kept}
 
 -- A METHOD
@@ -154,10 +154,10 @@ last-changed D w w′ F n m f last K size new ok h =
             mean =
                 methods-run w′ 0 _
                 ∙ run-last (flatMethodAt w) (flatMethodAt w′) (F .methods) (sym (methods-run w 0 _) ∙ h .methods .mean) f m last
-                (method-same D w w′ n KA (length (F .rows)) (F .methods) m KM below (h .methods)) new;
+                (method-same w w′ n KA (length (F .rows)) (F .methods) m KM below (h .methods)) new;
             fit = λ i l.
                 below-more (λ (k : ℕ). MethodOk w′ n (length (F .rows)) k) m
-                (method-ok-kept D w w′ n KA (length (F .rows)) (F .methods) m KM below (h .methods)) ok i (omega (arith, same));
+                (method-ok-kept w w′ n KA (length (F .rows)) (F .methods) m KM below (h .methods)) ok i (omega (arith, same));
           };
       classes = classes-kept w w′ (F .classes) (K _ _ (inr (omega arith))) (K _ _ (inr (omega arith))) (h .classes);
     }
@@ -231,10 +231,12 @@ module _
       let i : ℕ = methodPlace m in
       let bs : List ℕ = a % 256 ∷ a / 256 ∷ length φ ∷ [] in
       row-changed i bs refl (omega arith) (omega arith) (withRequires φ) refl
-      (λ KA. (new-range _ KA _ _ (put-same-half w i bs 0 i a (omega arith) (omega arith) (omega (arith, room)) refl refl)
-      (put-same w i bs 2 (i + 2) refl (omega arith) (omega (arith, room))),
-      old-range _ KA _ _ (half-stays w m i bs few-methods refl (omega arith) (omega arith) _ (inr (omega arith)))
-      (byte-stays w m i bs few-methods refl (omega arith) (omega arith) _ (inr (omega arith))) (was .ensures)))
+      (λ KA. (
+        new-range _ KA _ _ (put-same-half w i bs 0 i a (omega arith) (omega arith) (omega (arith, room)) refl refl)
+            (put-same w i bs 2 (i + 2) refl (omega arith) (omega (arith, room))),
+        old-range _ KA _ _ (half-stays w m i bs few-methods refl (omega arith) (omega arith) _ (inr (omega arith)))
+            (byte-stays w m i bs few-methods refl (omega arith) (omega arith) _ (inr (omega arith))) (was .ensures),
+      ))
 
   with-ensures : (l : ℕ) → Holds D (putEnsures w m a (length φ)) (flatWith F l (anEnsures φ)) n
   unfolding flatWith withEnsures flatMethodAt requiresAt putEnsures
@@ -242,11 +244,13 @@ module _
       let i : ℕ = methodPlace m + 3 in
       let bs : List ℕ = length φ ∷ a % 256 ∷ a / 256 ∷ [] in
       row-changed i bs refl (omega arith) (omega arith) (withEnsures φ) refl
-      (λ KA. (old-range _ KA _ _ (half-stays w m i bs few-methods refl (omega arith) (omega arith) _ (inl (omega arith)))
-      (byte-stays w m i bs few-methods refl (omega arith) (omega arith) _ (inl (omega arith))) (was .requires),
-      new-range _ KA _ _
-      (put-same-half w i bs 1 (methodPlace m + 4) a (omega arith) (omega arith) (omega (arith, room)) refl refl)
-      (put-same w i bs 0 i (omega arith) (omega arith) (omega (arith, room)))))
+      (λ KA. (
+        old-range _ KA _ _ (half-stays w m i bs few-methods refl (omega arith) (omega arith) _ (inl (omega arith)))
+            (byte-stays w m i bs few-methods refl (omega arith) (omega arith) _ (inl (omega arith))) (was .requires),
+        new-range _ KA _ _
+            (put-same-half w i bs 1 (methodPlace m + 4) a (omega arith) (omega arith) (omega (arith, room)) refl refl)
+            (put-same w i bs 0 i (omega arith) (omega arith) (omega (arith, room))),
+      ))
 
 -- the formula that was built last becomes the requires, or the ensures, of the last method
 pub requires-written :

@@ -2,26 +2,26 @@
 use mathlib.Core.Path.{_≡_, refl, sym, ap, _∙_}
 use mathlib.Core.List.{List, [], _∷_, _++_}
 use mathlib.Core.Logic.{_⊎_, inl, inr, ⊎-elim}
-use Prim.Native.Nat.{ℕ, zero, suc, _+_, _*_, _/_, _%_, _≤_, _<_}
+use Prim.Native.Nat.{ℕ, suc, _+_, _/_, _%_, _≤_, _<_}
 use native.Mathlib.Omega.{arith}
 use lib.Dec.{ltb}
 use lib.ListN.{length, getD}
 use borrow.Author.Count.{below-more}
 use Rattle.rules.specs.Limits.{most-statements, work-bytes}
-use Rattle.rules.specs.Syntax.{Formula, Expr, Rel, Stmt, Row}
-use Rattle.rules.specs.Syntax.{set, assign, new, call, return, assert, release, simple, if, else, join, end}
+use Rattle.rules.specs.Syntax.{Formula, Expr, Stmt, Row}
+use Rattle.rules.specs.Syntax.{set, assign, new, call, return, assert, release, simple, else, join, end}
 use Rattle.rules.specs.Items.{aStatement}
 use Rattle.assembly.specs.Flat.{Flat, flatWith}
-use Rattle.tables.specs.Layout.{rows-at, methods-at, classes-at, places-at, atoms-at, names-at, values-at, most-atom-rows}
-use Rattle.tables.specs.Decode.{byteAt, halfAt, rightAt, ifAt, atomsFrom, rowPlace, atomPlace, methodPlace, classPlace, rowAt, rowsFrom, targetAt}
+use Rattle.tables.specs.Layout.{names-at, values-at, most-atom-rows}
+use Rattle.tables.specs.Decode.{byteAt, halfAt, rightAt, ifAt, rowPlace, rowAt, targetAt}
 use Rattle.tables.specs.Stores.{Kept}
 use Rattle.tables.proofs.Bytes.{half-kept}
 use Rattle.emit.specs.declared.Operands.{Operands}
-use Rattle.emit.specs.Puts.{putBytes, rowBytes, putRow, putTarget, placesPlace, RowBytes}
-use Rattle.emit.specs.Holds.{Declared, operandsAt, RowOk, formulaOf, stmtOf, RowsHold, MethodsHold, Holds, Building}
+use Rattle.emit.specs.Puts.{rowBytes, putRow, putTarget, RowBytes}
+use Rattle.emit.specs.Holds.{Declared, operandsAt, RowOk, formulaOf, stmtOf, Holds, Building}
 use Rattle.emit.proofs.Puts.{put-length, put-same, put-same-half, put-other, Clear, put-kept}
-use Rattle.emit.proofs.Runs.{less-or-not, run, run-grown, end-length, rows-run}
-use Rattle.emit.proofs.Kept.{RowsKept, all-rows, rowOf, row-of, row-same, row-ok-kept, stmt-of-kept, method-ok-more, SameRows, holds-kept}
+use Rattle.emit.proofs.Runs.{less-or-not, run-grown, end-length, rows-run}
+use Rattle.emit.proofs.Kept.{RowsKept, all-rows, rowOf, row-of, stmt-of-kept, method-ok-more, SameRows, holds-kept}
 
 module _ (w : List ℕ) (i : ℕ) (r : Operands) (size : length w ≡ work-bytes) (room : i < most-statements) where
   row-byte : (k j : ℕ) → j ≡ rowPlace i + k → k < 12 → byteAt (putRow w i r) j ≡ getD (rowBytes r) k 0
@@ -121,12 +121,13 @@ module _
         classes = h′ .classes;
       }
 
--- the next row, with operands that fit
+-- the next row, with operands that fit, which means s
 pub row-written :
-    (D : Declared) (w : List ℕ) (F : Flat) (n : ℕ) (r : Operands) → length (F .rows) < most-statements → RowOk D n r →
-    Holds D w F n → Holds D (putRow w (length (F .rows)) r) (flatWith F (r .line) (aStatement (stmtOf w r))) n
+    (D : Declared) (w : List ℕ) (F : Flat) (n : ℕ) (r : Operands) (s : Stmt) → length (F .rows) < most-statements →
+    RowOk D n r → stmtOf w r ≡ s → Holds D w F n →
+    Holds D (putRow w (length (F .rows)) r) (flatWith F (r .line) (aStatement s)) n
 unfolding after
-row-written D w F n r room ok h = row-more D w F n r room ok h
+row-written D w F n r s room ok means h = rw (← means) (row-more D w F n r room ok h)
 
 -- what the writer asks
 pub row-bytes :

@@ -7,7 +7,7 @@ use Prim.Native.Nat.{ℕ, zero, suc, _+_, _≤_, _<_}
 use native.Mathlib.Nat.{add-zero}
 use native.Mathlib.Omega.{arith}
 use lib.Dec.{ltb}
-use lib.ListN.{length, length-append}
+use lib.ListN.{length, getD, length-append}
 use borrow.Author.Tests.{ltb-true, ltb-false}
 use Rattle.rules.specs.Syntax.{Atom, Row, Field}
 use Rattle.assembly.specs.Flat.{FlatMethod, onLast}
@@ -48,6 +48,13 @@ module _ {A : Type 0} where
   run-same f g i zero h = refl
   run-same f g i (suc n) h =
       rw (h i (omega arith) (omega arith), run-same f g (suc i) n (λ k l m. h k (omega arith) (omega arith)))
+
+  pub run-get : (f : ℕ → A) (i n k : ℕ) (d : A) → k < n → getD (run f i n) k d ≡ f (i + k)
+  unfolding run
+  run-get f i zero k d l = absurd (omega arith)
+  run-get f i (suc n) zero d l = ap f (sym (add-zero i))
+  run-get f i (suc n) (suc k) d l =
+      run-get f (suc i) n k d (omega arith) ∙ ap f (let e : suc i + k ≡ i + suc k = omega arith in e)
 
   last-end : (φ : A → A) (l : List A) (a : A) → onLast φ (l ++ (a ∷ [])) ≡ l ++ (φ a ∷ [])
   unfolding onLast

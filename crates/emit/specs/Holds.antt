@@ -1,6 +1,6 @@
 -- What the tables mean while they are written, row by row: a program put together so far.
 use mathlib.Core.Path.{_≡_}
-use mathlib.Core.Bool.{Bool, cond}
+use mathlib.Core.Bool.{cond}
 use mathlib.Core.List.{List, [], _∷_}
 use mathlib.Core.Logic.{_⊎_}
 use Prim.Native.Nat.{ℕ, zero, suc, _+_, _≤_, _<_}
@@ -8,7 +8,7 @@ use lib.Dec.{eqb}
 use lib.ListN.{length, drop}
 use Rattle.rules.specs.Limits.{most-classes, most-methods, most-statements, most-atoms, work-bytes}
 use Rattle.rules.specs.Syntax.{Atom, Formula, Stmt, Row, Field}
-use Rattle.rules.specs.Syntax.{acc, cmp, set, assign, new, call, return, assert, release, simple, if, else, join, end}
+use Rattle.rules.specs.Syntax.{acc, cmp, set, assign, new, call, return, assert, release, simple, else, join, end}
 use Rattle.rules.specs.Machine.{afterElse, toJoin}
 use Rattle.assembly.specs.Flat.{Flat, FlatMethod}
 use Rattle.tables.specs.declared.Expr as Tables

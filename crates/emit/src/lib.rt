@@ -3,7 +3,7 @@ use tables::Layout;
 ghost use mathlib.Core.Path.{_≡_};
 ghost use mathlib.Core.Bool.{cond};
 ghost use mathlib.Core.List.{[], _∷_};
-ghost use Prim.Native.Nat.{ℕ, _+_, _*_, _≤_, _<_};
+ghost use Prim.Native.Nat.{_+_, _*_, _≤_, _<_};
 ghost use lib.ListN.{length};
 ghost use Rattle.rules.specs.Limits.{most-statements, most-methods, most-classes, most-fields, work-bytes};
 ghost use Rattle.tables.specs.Layout.{most-atom-rows, most-names};

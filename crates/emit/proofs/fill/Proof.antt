@@ -1,13 +1,11 @@
 use native.Mathlib.Omega.{arith}
-use mathlib.Core.Path.{_≡_, refl, sym, ap, _∙_}
+use mathlib.Core.Path.{_≡_, refl, sym, _∙_}
 use Prim.Native.Nat.{_+_, _-_, _≤_}
 use lib.ListN.{length, length-set}
 use Rattle.emit.specs.Puts.{putBytes, blank}
 use Rattle.emit.proofs.Puts.{blank-next, blank-end}
 use Rattle.emit.proofs.fill.Statement.{statement}
 use Rattle.emit.proofs.fill.Tie as tie
-use Rattle.emit.proofs.fill.Reads as reads
-use Rattle.emit.proofs.fill.Lts as lts
 
 abbrev Inv-loop : tie.InvT-loop
 Inv-loop work₀ at n i₀ work i =
@@ -16,39 +14,31 @@ Inv-loop work₀ at n i₀ work i =
 abbrev μ-loop : tie.MeasureT-loop
 μ-loop work₀ at n i₀ work i = n - i
 
--- src/lib.rt:135:5
 loop-holds : tie.Need-loop-holds Inv-loop μ-loop
 loop-holds c =
     let e : c .args .at + 0 ≡ c .args .at = omega arith in
     let f : c .args .n - 0 ≡ c .args .n = omega arith in
     (omega arith, refl, rw (e, f))
 
--- src/lib.rt:136:14
 add-work : tie.Need-add-work Inv-loop μ-loop
 add-work c = omega arith
 
--- src/lib.rt:136:9
 slice-write-work : tie.Need-slice-write-work Inv-loop μ-loop
 slice-write-work c = omega arith
 
--- src/lib.rt:137:9
 add-i : tie.Need-add-i Inv-loop μ-loop
 add-i c = omega arith
 
--- src/lib.rt:135:5
 loop-less : tie.Need-loop-less Inv-loop μ-loop
 loop-less c = omega arith
 
--- src/lib.rt:135:5
 loop-again : tie.Need-loop-again Inv-loop μ-loop
 loop-again c =
     (omega arith, simp length-set (c .before .loop .inv .1), blank-next _ _ _ _ (c .loop-test .taken) ∙ c .before .loop .inv .2)
 
--- src/lib.rt:130:1
 same-length : tie.Need-same-length Inv-loop μ-loop
 same-length c = c .before .loop .inv .1
 
--- src/lib.rt:130:1
 returns : tie.Need-returns Inv-loop μ-loop
 returns c = sym (blank-end _ _ _ _ (c .loop-test .left)) ∙ c .before .loop .inv .2
 

@@ -1,42 +1,29 @@
-use mathlib.Core.Path.{_≡_, refl, sym, ap, _∙_}
 use Rattle.emit.proofs.Puts.{class-stores}
 use borrow.Author.Needs.{needs}
 use Rattle.emit.proofs.put_class.Statement.{statement}
 use Rattle.emit.proofs.put_class.Tie as tie
-use Rattle.emit.proofs.put_class.Reads as reads
-use Rattle.emit.proofs.put_class.Lts as lts
-use Rattle.emit.proofs.fill.Reads as fill-reads
-use Rattle.tables.proofs.put_byte.Reads as put-byte-reads
 
--- src/lib.rt:146:46
 mul-put-byte : tie.Need-mul-put-byte
 mul-put-byte c = search needs
 
--- src/lib.rt:146:28
 add-put-byte : tie.Need-add-put-byte
 add-put-byte c = search needs
 
--- src/lib.rt:146:5
 put-byte-requires : tie.Need-put-byte-requires
 put-byte-requires c κs = search needs
 
--- src/lib.rt:147:33
 mul-fill : tie.Need-mul-fill
 mul-fill c = search needs
 
--- src/lib.rt:147:16
 add-fill : tie.Need-add-fill
 add-fill c = search needs
 
--- src/lib.rt:147:5
 fill-requires : tie.Need-fill-requires
 fill-requires c κs = search needs
 
--- src/lib.rt:142:1
 same-length : tie.Need-same-length
 same-length c = search needs
 
--- src/lib.rt:142:1
 returns : tie.Need-returns
 returns c = class-stores _ _ (c .before .before .before .before .before .before .put-byte .ensures) (c .before .before .fill .ensures)
 

@@ -1,44 +1,32 @@
-use Rattle.emit.proofs.Puts.{put-then, byte-bytes, half-bytes, word-bytes}
+use Rattle.emit.proofs.Puts.{put-then, byte-bytes, half-bytes}
 use native.Mathlib.Omega.{arith}
-use mathlib.Core.Path.{_≡_, refl, sym, ap, _∙_}
-use Rattle.emit.specs.Puts.{putEnsures, putBytes}
+use mathlib.Core.Path.{_∙_}
+use Rattle.emit.specs.Puts.{putEnsures}
 use borrow.Author.Needs.{needs}
 use Rattle.emit.proofs.put_ensures.Statement.{statement}
 use Rattle.emit.proofs.put_ensures.Tie as tie
-use Rattle.emit.proofs.put_ensures.Reads as reads
-use Rattle.emit.proofs.put_ensures.Lts as lts
-use Rattle.tables.proofs.put_byte.Reads as put-byte-reads
-use Rattle.tables.proofs.put_half.Reads as put-half-reads
 
--- src/lib.rt:123:32
 mul-at : tie.Need-mul-at
 mul-at c = search needs
 
--- src/lib.rt:123:14
 add-at : tie.Need-add-at
 add-at c = search needs
 
--- src/lib.rt:124:28
 add-put-byte : tie.Need-add-put-byte
 add-put-byte c = search needs
 
--- src/lib.rt:124:5
 put-byte-requires : tie.Need-put-byte-requires
 put-byte-requires c κs = search needs
 
--- src/lib.rt:125:28
 add-put-half : tie.Need-add-put-half
 add-put-half c = search needs
 
--- src/lib.rt:125:5
 put-half-requires : tie.Need-put-half-requires
 put-half-requires c κs = search needs
 
--- src/lib.rt:119:1
 same-length : tie.Need-same-length
 same-length c = search needs
 
--- src/lib.rt:119:1
 returns : tie.Need-returns
 unfolding putEnsures
 returns c = put-then _ _ _ _ _ (omega arith) (c .before .before .before .before .before .before .put-byte .ensures ∙ byte-bytes _ _ _) (c .before .before .put-half .ensures ∙ half-bytes _ _ _)

@@ -1,91 +1,65 @@
-use mathlib.Core.Path.{_≡_, refl, sym, ap, _∙_}
 use Rattle.emit.proofs.Puts.{field-stores}
 use borrow.Author.Needs.{needs}
 use Rattle.emit.proofs.put_field.Statement.{statement}
 use Rattle.emit.proofs.put_field.Tie as tie
-use Rattle.emit.proofs.put_field.Reads as reads
-use Rattle.emit.proofs.put_field.Lts as lts
-use Rattle.emit.proofs.flag.Reads as flag-reads
-use Rattle.tables.proofs.field_count_at.Reads as field-count-at-reads
-use Rattle.tables.proofs.put_byte.Reads as put-byte-reads
 
--- src/lib.rt:161:32
 mul-at : tie.Need-mul-at
 mul-at c = search needs
 
--- src/lib.rt:161:14
 add-at : tie.Need-add-at
 add-at c = search needs
 
--- src/lib.rt:162:9
 field-count-at-requires : tie.Need-field-count-at-requires
 field-count-at-requires c κs = search needs
 
--- src/lib.rt:163:32
 add-put-byte : tie.Need-add-put-byte
 add-put-byte c = search needs
 
--- src/lib.rt:163:5
 put-byte-requires : tie.Need-put-byte-requires
 put-byte-requires c κs = search needs
 
--- src/lib.rt:164:28
 add-put-byte-2 : tie.Need-add-put-byte-2
 add-put-byte-2 c = search needs
 
--- src/lib.rt:164:37
 mul-put-byte : tie.Need-mul-put-byte
 mul-put-byte c = search needs
 
--- src/lib.rt:164:28
 add-put-byte-3 : tie.Need-add-put-byte-3
 add-put-byte-3 c = search needs
 
--- src/lib.rt:164:5
 put-byte-requires-2 : tie.Need-put-byte-requires-2
 put-byte-requires-2 c κs = search needs
 
--- src/lib.rt:165:28
 add-put-byte-4 : tie.Need-add-put-byte-4
 add-put-byte-4 c = search needs
 
--- src/lib.rt:165:37
 mul-put-byte-2 : tie.Need-mul-put-byte-2
 mul-put-byte-2 c = search needs
 
--- src/lib.rt:165:28
 add-put-byte-5 : tie.Need-add-put-byte-5
 add-put-byte-5 c = search needs
 
--- src/lib.rt:165:44
 flag-requires : tie.Need-flag-requires
 flag-requires c κs = search needs
 
--- src/lib.rt:165:5
 put-byte-requires-3 : tie.Need-put-byte-requires-3
 put-byte-requires-3 c κs = search needs
 
--- src/lib.rt:166:45
 mul-put-byte-3 : tie.Need-mul-put-byte-3
 mul-put-byte-3 c = search needs
 
--- src/lib.rt:166:28
 add-put-byte-6 : tie.Need-add-put-byte-6
 add-put-byte-6 c = search needs
 
--- src/lib.rt:166:28
 add-put-byte-7 : tie.Need-add-put-byte-7
 add-put-byte-7 c = search needs
 
--- src/lib.rt:166:5
 put-byte-requires-4 : tie.Need-put-byte-requires-4
 put-byte-requires-4 c κs = search needs
 
--- src/lib.rt:157:1
 same-length : tie.Need-same-length
 same-length c = search needs
 
--- src/lib.rt:157:1
 returns : tie.Need-returns
 returns c =
     field-stores _ _ _ _ _ _ (c .before .before .before .before .before .before .before .before .before .before .before .before .before .before .before .before .before .field-count-at .ensures .0) (c .before .before .before .before .before .before .before .flag .ensures .0) (c .before .before .before .before .before .before .before .before .before .before .before .before .before .before .before .put-byte .ensures) (c .before .before .before .before .before .before .before .before .before .before .before .put-byte2 .ensures)

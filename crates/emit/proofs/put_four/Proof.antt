@@ -1,63 +1,48 @@
 use lib.ListN.{length-set}
 use native.Mathlib.Omega.{arith}
-use mathlib.Core.Path.{_≡_, refl, sym, ap, _∙_}
+use mathlib.Core.Path.{_≡_}
 use Prim.Native.Nat.{suc, _+_}
 use Rattle.emit.specs.Puts.{putBytes}
 use borrow.Author.Needs.{needs}
 use Rattle.emit.proofs.put_four.Statement.{statement}
 use Rattle.emit.proofs.put_four.Tie as tie
-use Rattle.emit.proofs.put_four.Reads as reads
-use Rattle.emit.proofs.put_four.Lts as lts
 
--- src/lib.rt:30:15
 cast-work : tie.Need-cast-work
 cast-work c = search needs
 
--- src/lib.rt:30:5
 slice-write-work : tie.Need-slice-write-work
 slice-write-work c = search needs
 
--- src/lib.rt:31:19
 cast-work-2 : tie.Need-cast-work-2
 cast-work-2 c = search needs
 
--- src/lib.rt:31:10
 add-work : tie.Need-add-work
 add-work c = search needs
 
--- src/lib.rt:31:5
 slice-write-work-2 : tie.Need-slice-write-work-2
 slice-write-work-2 c = simp length-set (omega arith)
 
--- src/lib.rt:32:19
 cast-work-3 : tie.Need-cast-work-3
 cast-work-3 c = search needs
 
--- src/lib.rt:32:10
 add-work-2 : tie.Need-add-work-2
 add-work-2 c = search needs
 
--- src/lib.rt:32:5
 slice-write-work-3 : tie.Need-slice-write-work-3
 slice-write-work-3 c = simp length-set (omega arith)
 
--- src/lib.rt:33:19
 cast-work-4 : tie.Need-cast-work-4
 cast-work-4 c = search needs
 
--- src/lib.rt:33:10
 add-work-3 : tie.Need-add-work-3
 add-work-3 c = search needs
 
--- src/lib.rt:33:5
 slice-write-work-4 : tie.Need-slice-write-work-4
 slice-write-work-4 c = simp length-set (omega arith)
 
--- src/lib.rt:26:1
 same-length : tie.Need-same-length
 same-length c = search needs
 
--- src/lib.rt:26:1
 returns : tie.Need-returns
 unfolding putBytes
 returns c =

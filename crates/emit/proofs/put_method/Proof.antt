@@ -1,39 +1,28 @@
-use Rattle.emit.proofs.Puts.{put-then, byte-bytes, half-bytes, word-bytes}
+use Rattle.emit.proofs.Puts.{put-then}
 use native.Mathlib.Omega.{arith}
-use mathlib.Core.Path.{_≡_, refl, sym, ap, _∙_}
 use Rattle.emit.specs.Puts.{putMethod, methodBytes}
 use borrow.Author.Needs.{needs}
 use Rattle.emit.proofs.put_method.Statement.{statement}
 use Rattle.emit.proofs.put_method.Tie as tie
-use Rattle.emit.proofs.put_method.Reads as reads
-use Rattle.emit.proofs.put_method.Lts as lts
-use Rattle.emit.proofs.put_four.Reads as put-four-reads
 
--- src/lib.rt:103:32
 mul-at : tie.Need-mul-at
 mul-at c = search needs
 
--- src/lib.rt:103:14
 add-at : tie.Need-add-at
 add-at c = search needs
 
--- src/lib.rt:104:5
 put-four-requires : tie.Need-put-four-requires
 put-four-requires c κs = search needs
 
--- src/lib.rt:105:20
 add-put-four : tie.Need-add-put-four
 add-put-four c = search needs
 
--- src/lib.rt:105:5
 put-four-requires-2 : tie.Need-put-four-requires-2
 put-four-requires-2 c κs = search needs
 
--- src/lib.rt:99:1
 same-length : tie.Need-same-length
 same-length c = search needs
 
--- src/lib.rt:99:1
 returns : tie.Need-returns
 unfolding putMethod methodBytes
 returns c = put-then _ _ _ _ _ (omega arith) (c .before .before .before .before .before .before .put-four .ensures) (c .before .before .put-four2 .ensures)

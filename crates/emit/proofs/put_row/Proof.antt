@@ -1,47 +1,34 @@
-use Rattle.emit.proofs.Puts.{put-then, byte-bytes, half-bytes, word-bytes}
+use Rattle.emit.proofs.Puts.{put-then}
 use native.Mathlib.Omega.{arith}
-use mathlib.Core.Path.{_≡_, refl, sym, ap, _∙_}
 use Rattle.emit.specs.Puts.{putRow, rowBytes}
 use borrow.Author.Needs.{needs}
 use Rattle.emit.proofs.put_row.Statement.{statement}
 use Rattle.emit.proofs.put_row.Tie as tie
-use Rattle.emit.proofs.put_row.Reads as reads
-use Rattle.emit.proofs.put_row.Lts as lts
-use Rattle.emit.proofs.put_four.Reads as put-four-reads
 
--- src/lib.rt:88:29
 mul-at : tie.Need-mul-at
 mul-at c = search needs
 
--- src/lib.rt:88:14
 add-at : tie.Need-add-at
 add-at c = search needs
 
--- src/lib.rt:91:5
 put-four-requires : tie.Need-put-four-requires
 put-four-requires c κs = search needs
 
--- src/lib.rt:92:20
 add-put-four : tie.Need-add-put-four
 add-put-four c = search needs
 
--- src/lib.rt:92:5
 put-four-requires-2 : tie.Need-put-four-requires-2
 put-four-requires-2 c κs = search needs
 
--- src/lib.rt:93:20
 add-put-four-2 : tie.Need-add-put-four-2
 add-put-four-2 c = search needs
 
--- src/lib.rt:93:5
 put-four-requires-3 : tie.Need-put-four-requires-3
 put-four-requires-3 c κs = search needs
 
--- src/lib.rt:84:1
 same-length : tie.Need-same-length
 same-length c = search needs
 
--- src/lib.rt:84:1
 returns : tie.Need-returns
 unfolding putRow rowBytes
 returns c =

@@ -1,44 +1,33 @@
 use native.Mathlib.Omega.{arith}
-use mathlib.Core.Path.{_≡_, refl, sym, ap, _∙_}
 use Rattle.emit.specs.Puts.{tagOf}
 use borrow.Author.Needs.{needs}
 use Rattle.emit.proofs.tag_of.Statement.{statement}
 use Rattle.emit.proofs.tag_of.Tie as tie
-use Rattle.emit.proofs.tag_of.Reads as reads
-use Rattle.emit.proofs.tag_of.Lts as lts
 
--- src/lib.rt:42:25
 enum-told : tie.Need-enum-told
 enum-told c = search needs
 
--- src/lib.rt:43:23
 enum-told-2 : tie.Need-enum-told-2
 enum-told-2 c = search needs
 
--- src/lib.rt:44:25
 enum-told-3 : tie.Need-enum-told-3
 enum-told-3 c = search needs
 
--- src/lib.rt:45:29
 enum-told-4 : tie.Need-enum-told-4
 enum-told-4 c = search needs
 
--- src/lib.rt:38:1
 returns : tie.Need-returns
 unfolding tagOf
 returns c = (rw (c .enum-told .given .1), omega arith)
 
--- src/lib.rt:38:1
 returns-2 : tie.Need-returns-2
 unfolding tagOf
 returns-2 c = (rw (c .enum-told2 .given .1), omega arith)
 
--- src/lib.rt:38:1
 returns-3 : tie.Need-returns-3
 unfolding tagOf
 returns-3 c = (rw (c .enum-told3 .given .1), omega arith)
 
--- src/lib.rt:38:1
 returns-4 : tie.Need-returns-4
 unfolding tagOf
 returns-4 c = (rw (c .enum-told4 .given .1), omega arith)

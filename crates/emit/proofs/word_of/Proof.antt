@@ -1,55 +1,41 @@
 use native.Mathlib.Omega.{arith}
-use mathlib.Core.Path.{_≡_, refl, sym, ap, _∙_}
 use Rattle.emit.specs.Puts.{wordOf, SideBytes}
 use borrow.Author.Needs.{needs}
 use Rattle.emit.proofs.word_of.Statement.{statement}
 use Rattle.emit.proofs.word_of.Tie as tie
-use Rattle.emit.proofs.word_of.Reads as reads
-use Rattle.emit.proofs.word_of.Lts as lts
-use Rattle.emit.proofs.pair.Reads as pair-reads
 
--- src/lib.rt:61:19
 enum-known-e : tie.Need-enum-known-e
 enum-known-e c = search needs
 
--- src/lib.rt:62:23
 enum-told : tie.Need-enum-told
 enum-told c = search needs
 
--- src/lib.rt:63:19
 enum-known-e-2 : tie.Need-enum-known-e-2
 enum-known-e-2 c = search needs
 
--- src/lib.rt:63:25
 pair-requires : tie.Need-pair-requires
 unfolding SideBytes
 pair-requires c κs = (rw (c .before .e2 .given .1) at (c .before .before .before .pre), omega arith)
 
--- src/lib.rt:64:20
 enum-known-e-3 : tie.Need-enum-known-e-3
 enum-known-e-3 c = search needs
 
--- src/lib.rt:64:29
 pair-requires-2 : tie.Need-pair-requires-2
 unfolding SideBytes
 pair-requires-2 c κs = rw (c .before .e3 .given .1) at (c .before .before .before .pre)
 
--- src/lib.rt:56:1
 returns : tie.Need-returns
 unfolding wordOf
 returns c = rw (c .before .e .given .1)
 
--- src/lib.rt:56:1
 returns-2 : tie.Need-returns-2
 unfolding wordOf
 returns-2 c = rw (c .enum-told .given .1)
 
--- src/lib.rt:56:1
 returns-3 : tie.Need-returns-3
 unfolding wordOf
 returns-3 c = rw (c .before .before .e2 .given .1) (omega (arith, c .pair .ensures))
 
--- src/lib.rt:56:1
 returns-4 : tie.Need-returns-4
 unfolding wordOf
 returns-4 c = rw (c .before .before .e3 .given .1) (c .pair2 .ensures)
