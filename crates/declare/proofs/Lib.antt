@@ -1,0 +1,3 @@
+pub mod Lines
+pub mod Counts
+pub mod Steps
