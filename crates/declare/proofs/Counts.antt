@@ -1,13 +1,13 @@
 -- The counts of a text that pass 1 takes: what the limits leave room for.
 use mathlib.Core.Path.{_≡_, refl, sym, ap, subst, _∙_}
-use mathlib.Core.Bool.{Bool, true, false, cond}
-use mathlib.Core.List.{List, [], _∷_}
-use Prim.Native.Nat.{ℕ, suc, _+_, _*_, _-_, _≤_, _<_}
+use mathlib.Core.Bool.{Bool, true, false, cond, _&&_}
+use Prim.Native.Nat.{suc, _+_, _*_, _-_, _≤_}
 use native.Mathlib.Omega.{arith}
 use native.Mathlib.Numerals.{add-one}
+use lib.Dec.{leb}
 use borrow.Author.Tests.{leb-true}
 use Rattle.rules.specs.Grammar as Grammar
-use Rattle.rules.specs.Grammar.{Kind, isKind}
+use Rattle.rules.specs.Grammar.{Kind}
 use Rattle.rules.specs.Grammar.{Class, Field, Method, Requires, Ensures, Main, Var}
 use Rattle.rules.specs.Grammar.{Set, Let, New, Call, Return, Assert, Release, If, Else, Join, End}
 use Rattle.rules.specs.Places as Places
@@ -119,18 +119,20 @@ module _ {p : Place} {c : Names} (x : Counted p c) (w : withinLimits p ≡ true)
         result = x .result;
       }
 
-  counted-field : inPlace Field p ≡ true → Counted (placeAfter Field p) (namesAfter Field c)
+  counted-field : inPlace Field p ≡ true → withinLimits (placeAfter Field p) ≡ true → Counted (placeAfter Field p) (namesAfter Field c)
   unfolding Places.opened Grammar.opened Base.opened namesAfter moreFields
-  counted-field i =
-      let s = small p w in
-      let b = both-true _ _ (both-true _ _ i .0) in
-      let n : stageNumber (p .stage) ≡ 1 = omega (arith, leb-true _ _ (b .0), leb-true _ _ (b .1)) in
+  counted-field i m =
+      let s = small (placeAfter Field p) m in
+      let u = leb 1 (stageNumber (p .stage)) in
+      let v = leb (stageNumber (p .stage)) 1 in
+      let b : (u ≡ true) × (v ≡ true) = both-true u v (both-true (u && v) true i .0) in
+      let n : stageNumber (p .stage) ≡ 1 = omega (arith, leb-true 1 (stageNumber (p .stage)) (b .0), leb-true (stageNumber (p .stage)) 1 (b .1)) in
       let o = x .stage n in
       record {
         classes = x .classes;
         methods = x .methods;
         fields = omega (arith, x .fields);
-        owned = omega (arith, o, s .fields, x .owned);
+        owned = omega (arith, o, s .fields);
         stage = λ i. o;
         method = x .method;
         locals = x .locals;
@@ -151,23 +153,23 @@ module _ {p : Place} {c : Names} (x : Counted p c) (w : withinLimits p ≡ true)
         result = x .result;
       }
 
-  pub counted-on : (k : Kind) → inPlace k p ≡ true → Counted (placeAfter k p) (namesAfter k c)
+  pub counted-on : (k : Kind) → inPlace k p ≡ true → withinLimits (placeAfter k p) ≡ true → Counted (placeAfter k p) (namesAfter k c)
   unfolding Places.opened Grammar.opened namesAfter
-  counted-on Class i = counted-class
-  counted-on Field i = counted-field i
-  counted-on Method i = counted-method
-  counted-on Requires i = other _ _ refl refl refl refl (λ e. omega arith)
-  counted-on Ensures i = other _ _ refl refl refl refl (λ e. omega arith)
-  counted-on Main i = other _ _ refl refl refl refl (λ e. omega arith)
-  counted-on Var i = other _ _ refl refl refl refl (λ e. omega arith)
-  counted-on Set i = other _ _ refl refl refl refl (λ e. omega arith)
-  counted-on Let i = other _ _ refl refl refl refl (λ e. omega arith)
-  counted-on New i = other _ _ refl refl refl refl (λ e. omega arith)
-  counted-on Call i = other _ _ refl refl refl refl (λ e. omega arith)
-  counted-on Return i = other _ _ refl refl refl refl (λ e. omega arith)
-  counted-on Assert i = other _ _ refl refl refl refl (λ e. omega arith)
-  counted-on Release i = other _ _ refl refl refl refl (λ e. omega arith)
-  counted-on If i = other _ _ refl refl refl refl (λ e. omega arith)
-  counted-on Else i = other _ _ refl refl refl refl (λ e. omega arith)
-  counted-on Join i = other _ _ refl refl refl refl (λ e. omega arith)
-  counted-on End i = other _ _ refl refl refl refl (end-stage (p .main))
+  counted-on Class i v = counted-class
+  counted-on Field i v = counted-field i v
+  counted-on Method i v = counted-method
+  counted-on Requires i v = other _ _ refl refl refl refl (λ e. omega arith)
+  counted-on Ensures i v = other _ _ refl refl refl refl (λ e. omega arith)
+  counted-on Main i v = other _ _ refl refl refl refl (λ e. omega arith)
+  counted-on Var i v = other _ _ refl refl refl refl (λ e. omega arith)
+  counted-on Set i v = other _ _ refl refl refl refl (λ e. omega arith)
+  counted-on Let i v = other _ _ refl refl refl refl (λ e. omega arith)
+  counted-on New i v = other _ _ refl refl refl refl (λ e. omega arith)
+  counted-on Call i v = other _ _ refl refl refl refl (λ e. omega arith)
+  counted-on Return i v = other _ _ refl refl refl refl (λ e. omega arith)
+  counted-on Assert i v = other _ _ refl refl refl refl (λ e. omega arith)
+  counted-on Release i v = other _ _ refl refl refl refl (λ e. omega arith)
+  counted-on If i v = other _ _ refl refl refl refl (λ e. omega arith)
+  counted-on Else i v = other _ _ refl refl refl refl (λ e. omega arith)
+  counted-on Join i v = other _ _ refl refl refl refl (λ e. omega arith)
+  counted-on End i v = other _ _ refl refl refl refl (end-stage (p .main))

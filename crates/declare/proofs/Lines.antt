@@ -1,9 +1,10 @@
 -- Laws of a line's fields: the names that its form asks for, and their places.
-use mathlib.Core.Path.{_≡_, refl, sym, ap, _∙_}
-use mathlib.Core.Bool.{Bool, true, false}
+use mathlib.Core.Path.{_≡_, sym, ap, _∙_}
+use mathlib.Core.Bool.{Bool, true, false, _&&_}
 use mathlib.Core.List.{List, [], _∷_}
-use Prim.Native.Nat.{ℕ, _+_, _-_, _≤_, _<_}
+use Prim.Native.Nat.{ℕ, _+_, _≤_}
 use native.Mathlib.Omega.{arith}
+use lib.Dec.{eqb}
 use lib.ListN.{length, getD, drop, take, length-drop}
 use lib.Seq.{getD-drop, length-take-le}
 use borrow.Author.Tests.{leb-true}
@@ -23,7 +24,7 @@ pub span-fits :
     (t : List ℕ) (s : Span) → length t ≤ most-bytes → s .start + s .len ≤ length t → isName (nameIn t s) ≡ true → SpanFits s
 unfolding isName
 span-fits t s l h n =
-    let b = leb-true _ _ (both-true _ _ n .0) in
+    let b : length (nameIn t s) ≤ 12 = leb-true _ _ (both-true _ _ n .0) in
     let m : length (take (s .len) (drop (s .start) t)) ≡ s .len =
     length-take-le (s .len) (drop (s .start) t) (omega (arith, length-drop (s .start) t)) in
     record { start = omega arith; len = omega (arith, b, m) }
@@ -54,15 +55,20 @@ class-names (u ∷ ws) e = both-true _ _ e .0
 pub field-names : (ws : List Name) → Formed Field ws → Named ws 0 × Named ws 1
 unfolding Grammar.opened
 field-names [] e = true-false (sym e)
-field-names (u ∷ []) e = true-false (sym (both-true _ _ e .1))
-field-names (u ∷ v ∷ ws) e = let f = both-true _ _ e in (f .0, both-true _ _ (f .1) .0)
+field-names (u ∷ []) e = true-false (sym (both-true (isName u) false e .1))
+field-names (u ∷ v ∷ ws) e =
+    let f = both-true (isName u) (isName v && eqb (length ws) 0) e in
+    (f .0, both-true (isName v) (eqb (length ws) 0) (f .1) .0)
 
 pub method-names : (ws : List Name) → Formed Method ws → Named ws 0 × Named ws 1 × Named ws 2
 unfolding Grammar.opened
 method-names [] e = true-false (sym e)
-method-names (u ∷ []) e = true-false (sym (both-true _ _ e .1))
-method-names (u ∷ v ∷ []) e = let f = both-true _ _ e in true-false (sym (both-true _ _ (f .1) .1))
+method-names (u ∷ []) e = true-false (sym (both-true (isName u) false e .1))
+method-names (u ∷ v ∷ []) e =
+    let f = both-true (isName u) (isName v && false) e in
+    true-false (sym (both-true (isName v) false (f .1) .1))
 method-names (u ∷ v ∷ x ∷ ws) e =
-    let f = both-true _ _ e in
-    let g = both-true _ _ (f .1) in
-    (f .0, g .0, both-true _ _ (g .1) .0)
+    let r : Bool = isFormed (Grammar.new Grammar.variables ∷ []) Grammar.nothing ws in
+    let f = both-true (isName u) (isName v && (isName x && r)) e in
+    let g = both-true (isName v) (isName x && r) (f .1) in
+    (f .0, g .0, both-true (isName x) r (g .1) .0)

@@ -4,12 +4,11 @@ use mathlib.Core.Bool.{Bool, true, false, cond}
 use mathlib.Core.List.{List, [], _∷_, _++_, append-nil, append-assoc}
 use mathlib.Core.Option.{some}
 use mathlib.Core.Logic.{⊎-elim}
-use Prim.Native.Nat.{ℕ, suc, pred, _+_, _≤_, _<_}
-use native.Mathlib.Omega.{arith}
+use Prim.Native.Nat.{ℕ, suc, _+_, _≤_, _<_}
 use native.Mathlib.Numerals.{add-one}
 use lib.Dec.{T}
 use lib.ListN.{length, getD, drop}
-use Rattle.rules.specs.Base.{Name, ok, orElse}
+use Rattle.rules.specs.Base.{ok, orElse}
 use Rattle.rules.specs.Answers.{accepted, badByte, malformed, limitPassed}
 use Rattle.rules.specs.Text as Text
 use Rattle.rules.specs.Text.{lines, clean}
@@ -23,7 +22,6 @@ use Rattle.leaves.specs.declared.Set.the-variants.{LineEnd}
 use Rattle.lines.specs.Cuts.{part, CleanLine}
 use Rattle.lines.specs.Scans.{lineOf}
 use Rattle.lines.proofs.Cuts.{clean-line, bad-line, no-lines}
-use Rattle.lines.proofs.Scans as Scans
 use Rattle.lines.proofs.Scans.{first-taken, FirstTaken}
 use Rattle.tables.specs.Stores.{SameTables}
 use Rattle.tables.proofs.Bytes.{same-trans}
@@ -75,9 +73,13 @@ formed-at {t} {a} {e} c r =
     let (u, f) = check-ok (clean (part a (e + 1) t)) badByte r in
     let (k, g, h) = bind-ok (orElse (kindOf (getD (Text.fields (part a (e + 1) t)) 0 [])) malformed) f in
     let (w, i) = check-ok (isFormed (form k .operands) (form k .tail) (drop 1 (Text.fields (part a (e + 1) t)))) malformed h in
-    let n : kindOf (getD (Text.fields (drop a t)) 0 []) ≡ some k = rw (c .fields) at (orElse-ok _ malformed k g) in
-    let v : isFormed (form k .operands) (form k .tail) (drop 1 (Text.fields (drop a t))) ≡ true = rw (c .fields) at (T-true _ w) in
-    record { known = rw n; formed = rw n v }
+    let n : kindOf (getD (Text.fields (drop a t)) 0 []) ≡ some k = ap (λ ws. kindOf (getD ws 0 [])) (sym (c .fields)) ∙ orElse-ok _ malformed k g in
+    let v : isFormed (form k .operands) (form k .tail) (drop 1 (Text.fields (drop a t))) ≡ true =
+    ap (λ ws. isFormed (form k .operands) (form k .tail) (drop 1 ws)) (sym (c .fields)) ∙ T-true _ w in
+    formed-with n v
+  where
+    formed-with : {k : Kind} → kindOf (getD (Text.fields (drop a t)) 0 []) ≡ some k → isFormed (form k .operands) (form k .tail) (drop 1 (Text.fields (drop a t))) ≡ true → FormedAt t a
+    formed-with n v = record { known = rw n; formed = rw n v }
 
 -- THE LOOP
 
@@ -142,6 +144,7 @@ module _ {t v : List ℕ} {a : ℕ} {c : Names} {w : List ℕ} (x : Declaring t 
     -- the line's place
     record Placed : Type 0 where
       in-place : inPlace (lineAt t a .kind) (x .place) ≡ true
+      room : withinLimits (placeAfter (lineAt t a .kind) (x .place)) ≡ true
       next : line-first .placed .next ≡ placeAfter (lineAt t a .kind) (x .place)
 
     placed : Placed
@@ -150,11 +153,11 @@ module _ {t v : List ℕ} {a : ℕ} {c : Names} {w : List ℕ} (x : Declaring t 
         let p = subst (λ k. placeLine (x .place) (k .kind) ≡ ok (line-first .placed .next)) (line-at declaring-clean) (line-first .taken .place) in
         let (i, m) = check-ok (inPlace (lineAt t a .kind) (x .place)) malformed p in
         let (u, n) = check-ok (withinLimits (placeAfter (lineAt t a .kind) (x .place))) limitPassed m in
-        record { in-place = T-true _ i; next = sym (ok-inj n) }
+        record { in-place = T-true _ i; room = T-true _ u; next = sym (ok-inj n) }
 
     pub declaring-room : Room (lineAt t a .kind) c
     declaring-room =
-        counted-room (x .counted) (x .within) (lineAt t a .kind) (subst (λ p. withinLimits p ≡ true) (placed .next) (line-first .taken .within))
+        counted-room (x .counted) (x .within) (lineAt t a .kind) (placed .room)
 
     pub declaring-on : {d : Names} {u : List ℕ} → Adds t w c (lineAt t a) u d → Declaring t v (e + 1) d u
     unfolding linesOf
@@ -171,7 +174,7 @@ module _ {t v : List ℕ} {a : ℕ} {c : Names} {w : List ℕ} (x : Declaring t 
           above = suc (x .above);
           rest = line-first .others ∙ ap accepted (sym (same-rest (line-first .are) m));
           within = line-first .taken .within;
-          counted = subst (λ p. Counted p d) (sym (placed .next)) (subst (Counted (placeAfter k (x .place))) (sym (y .names)) (counted-on (x .counted) (x .within) k (placed .in-place)));
+          counted = subst (λ p. Counted p d) (sym (placed .next)) (subst (Counted (placeAfter k (x .place))) (sym (y .names)) (counted-on (x .counted) (x .within) k (placed .in-place) (placed .room)));
           declared = ap₂ (λ h i. joined h i ls) (y .declared) n ∙ (sym (joined-on (declarationsIn t w c) (c .classes) (lineAt t a) ls) ∙ z);
           tables = same-trans (x .tables) (y .tables);
         }

@@ -1,12 +1,11 @@
 -- What the rows of a text's lines mean.
 use mathlib.Core.Path.{_≡_}
-use mathlib.Core.Bool.{Bool, true, false, cond}
+use mathlib.Core.Bool.{false, cond}
 use mathlib.Core.List.{List, [], _∷_, _++_}
-use Prim.Native.Nat.{ℕ, pred, _<_, _≤_}
+use Prim.Native.Nat.{ℕ, _<_, _≤_}
 use lib.ListN.{length, getD}
 use Rattle.rules.specs.Base.{Name}
 use Rattle.rules.specs.Limits.{work-bytes, most-bytes, most-classes, most-methods}
-use Rattle.rules.specs.Text.{isName}
 use Rattle.rules.specs.Grammar.{Kind, Line, Class, Field, Method, isKind}
 use Rattle.rules.specs.Scope.{Declarations, classesOf, fieldsOf, methodsOf, declarations}
 use Rattle.tables.specs.Layout.{most-names}

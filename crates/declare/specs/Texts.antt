@@ -1,11 +1,11 @@
 -- A text that pass 1 takes, line by line, and a line by the place where it begins.
 use mathlib.Core.Path.{_≡_}
-use mathlib.Core.Bool.{Bool, true}
+use mathlib.Core.Bool.{true}
 use mathlib.Core.List.{List, [], map}
 use mathlib.Core.Option.{some}
 use Prim.Native.Nat.{ℕ, _+_, _≤_}
 use lib.ListN.{length, getD, drop}
-use Rattle.rules.specs.Base.{Name, withDefault}
+use Rattle.rules.specs.Base.{withDefault}
 use Rattle.rules.specs.Answers.{accepted}
 use Rattle.rules.specs.Text.{lines, fields}
 use Rattle.rules.specs.Grammar.{Line, Class, form, kindOf, isFormed}

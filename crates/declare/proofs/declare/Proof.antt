@@ -1,52 +1,61 @@
+-- `declare::declare` meets its contract. Assumes nothing.
+use mathlib.Core.Path.{_∙_}
+use Prim.Native.Nat.{_-_, _≤_}
+use native.Mathlib.Omega.{arith}
+use lib.ListN.{length}
+use borrow.Author.Needs.{needs}
+use Rattle.declare.proofs.Steps.{Declaring, declaring-first, declaring-fits, declaring-done, declaring-clean, declaring-formed, declaring-room, declaring-on}
 use Rattle.declare.proofs.declare.Statement.{statement}
 use Rattle.declare.proofs.declare.Tie as tie
-use Rattle.declare.proofs.declare.Reads as reads
-use Rattle.declare.proofs.declare.Lts as lts
-use Rattle.declare.proofs.declare_line.Reads as declare-line-reads
-use Rattle.declare.proofs.no_names.Reads as no-names-reads
-use Rattle.leaves.proofs.find.Reads as find-reads
 
 abbrev Inv-loop : tie.InvT-loop
-Inv-loop text work₀ c₀ at₀ work c at = ?
+Inv-loop text work₀ c₀ at₀ work c at = (at ≤ length text) × Declaring text work₀ at c work
 
 abbrev μ-loop : tie.MeasureT-loop
-μ-loop text work₀ c₀ at₀ work c at = ?
+μ-loop text work₀ c₀ at₀ work c at = length text - at
 
--- src/lib.rt:140:9
 no-names-requires : tie.Need-no-names-requires Inv-loop μ-loop
-no-names-requires c κs = ?
+no-names-requires c κs =
+    search needs
 
--- src/lib.rt:142:5
 loop-holds : tie.Need-loop-holds Inv-loop μ-loop
-loop-holds c = ?
+loop-holds c =
+    (omega arith, declaring-first (c .before .before .before .args .text .now) (c .before .before .before .args .work .now) (c .no-names .result) (c .no-names .ensures) (c .before .before .before .pre .2))
 
--- src/lib.rt:143:13
 find-requires : tie.Need-find-requires Inv-loop μ-loop
-find-requires c κs = ?
+find-requires c κs =
+    omega arith
 
--- src/lib.rt:144:9
 declare-line-requires : tie.Need-declare-line-requires Inv-loop μ-loop
-declare-line-requires c κs = ?
+declare-line-requires c κs =
+    let x = c .before .before .before .loop .inv .1 in
+    let l = c .before .before .loop-test .taken in
+    let f = c .before .find .ensures in
+    (record { text = c .before .before .before .before .before .before .before .pre .0; whole = x .tables .size ∙ c .before .before .before .before .before .before .before .pre .1; fits = declaring-fits x }, omega arith, declaring-formed x l f, declaring-room x l f)
 
--- src/lib.rt:145:14
 add-at : tie.Need-add-at Inv-loop μ-loop
-add-at c = ?
+add-at c =
+    omega (arith, declaring-clean (c .before .before .before .before .before .before .loop .inv .1) (c .before .before .before .before .before .loop-test .taken) (c .before .before .before .before .find .ensures) .high)
 
--- src/lib.rt:142:5
 loop-less : tie.Need-loop-less Inv-loop μ-loop
-loop-less c = ?
+loop-less c =
+    let l = declaring-clean (c .before .before .before .before .before .before .loop .inv .1) (c .before .before .before .before .before .loop-test .taken) (c .before .before .before .before .find .ensures) in
+    omega (arith, l .high, l .low)
 
--- src/lib.rt:142:5
 loop-again : tie.Need-loop-again Inv-loop μ-loop
-loop-again c = ?
+loop-again c =
+    let x = c .before .before .before .before .before .before .loop .inv .1 in
+    let l = c .before .before .before .before .before .loop-test .taken in
+    let f = c .before .before .before .before .find .ensures in
+    (omega (arith, declaring-clean x l f .high), declaring-on x l f (c .before .before .declare-line .ensures))
 
--- src/lib.rt:136:1
 same-length : tie.Need-same-length Inv-loop μ-loop
-same-length c = ?
+same-length c =
+    c .before .loop .inv .1 .tables .size
 
--- src/lib.rt:136:1
 returns : tie.Need-returns Inv-loop μ-loop
-returns c = ?
+returns c =
+    declaring-done (c .before .loop .inv .1) (c .loop-test .left)
 
 pub declare-spec : {M : Type 1} → statement M
 declare-spec =

@@ -1,26 +1,32 @@
+-- `declare::declare_class` meets its contract. Assumes nothing.
+use mathlib.Core.Path.{ap, _∙_}
+use Rattle.rules.specs.Text.{isName}
+use Rattle.declare.proofs.Lines.{span-fits}
+use Rattle.declare.proofs.Adds.{class-adds}
 use borrow.Author.Needs.{needs}
 use Rattle.declare.proofs.declare_class.Statement.{statement}
 use Rattle.declare.proofs.declare_class.Tie as tie
-use Rattle.declare.proofs.declare_class.Reads as reads
-use Rattle.declare.proofs.declare_class.Lts as lts
-use Rattle.declare.proofs.span_after.Reads as span-after-reads
-use Rattle.declared.proofs.put_class.Reads as put-class-reads
 
--- src/lib.rt:67:9
 span-after-requires : tie.Need-span-after-requires
 span-after-requires c κs = search needs
 
--- src/lib.rt:68:5
 put-class-requires : tie.Need-put-class-requires
-put-class-requires c κs = ?
+put-class-requires c κs =
+    let t = c .before .before .before .before .args .text .now in
+    let x = c .before .span-after .ensures in
+    let p = c .before .before .before .before .pre in
+    (p .0 .whole, p .2, span-fits t (c .before .span-after .result) (p .0 .text) (x .high) (ap isName (x .name) ∙ p .3))
 
--- src/lib.rt:63:1
 same-length : tie.Need-same-length
 same-length c = search needs
 
--- src/lib.rt:63:1
 returns : tie.Need-returns
-returns c = ?
+returns c =
+    let t = c .before .before .before .before .before .before .before .args .text .now in
+    let x = c .before .before .before .before .span-after .ensures in
+    let p = c .before .before .before .before .before .before .before .pre in
+    let f = span-fits t (c .before .before .before .before .span-after .result) (p .0 .text) (x .high) (ap isName (x .name) ∙ p .3) in
+    class-adds (p .0) _ (c .before .before .before .before .span-after .result) (x .name) f (p .2) (c .before .before .put-class .ensures .0) (c .before .before .put-class .ensures .1)
 
 pub declare-class-spec : {M : Type 1} → statement M
 declare-class-spec =

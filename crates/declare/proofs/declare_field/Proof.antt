@@ -1,39 +1,50 @@
+-- `declare::declare_field` meets its contract. Assumes nothing.
+use mathlib.Core.Path.{ap, _∙_}
+use native.Mathlib.Omega.{arith}
+use Rattle.rules.specs.Text.{isName}
+use Rattle.declare.proofs.Lines.{span-fits, second}
+use Rattle.declare.proofs.Adds.{field-fits, field-adds}
 use borrow.Author.Needs.{needs}
 use Rattle.declare.proofs.declare_field.Statement.{statement}
 use Rattle.declare.proofs.declare_field.Tie as tie
-use Rattle.declare.proofs.declare_field.Reads as reads
-use Rattle.declare.proofs.declare_field.Lts as lts
-use Rattle.declare.proofs.owner.Reads as owner-reads
-use Rattle.declare.proofs.span_after.Reads as span-after-reads
-use Rattle.declared.proofs.put_field.Reads as put-field-reads
 
--- src/lib.rt:75:9
 span-after-requires : tie.Need-span-after-requires
 span-after-requires c κs = search needs
 
--- src/lib.rt:76:33
 add-span-after : tie.Need-add-span-after
 add-span-after c = search needs
 
--- src/lib.rt:76:9
 span-after-requires-2 : tie.Need-span-after-requires-2
 span-after-requires-2 c κs = search needs
 
--- src/lib.rt:77:34
 owner-requires : tie.Need-owner-requires
 owner-requires c κs = search needs
 
--- src/lib.rt:77:5
 put-field-requires : tie.Need-put-field-requires
-put-field-requires c κs = ?
+put-field-requires c κs =
+    let t = c .before .before .before .before .before .before .before .args .text .now in
+    let x = c .before .before .before .before .span-after .ensures in
+    let y = c .before .before .span-after2 .ensures in
+    let p = c .before .before .before .before .before .before .before .pre in
+    let n = second x y in
+    let f = span-fits t (c .before .before .before .before .span-after .result) (p .0 .text) (x .high) (ap isName (x .name) ∙ p .3) in
+    let g = span-fits t (c .before .before .span-after2 .result) (p .0 .text) (y .high) (ap isName n ∙ p .4) in
+    (p .0 .whole, p .2, field-fits (omega (arith, c .owner .ensures, p .0 .fits .classes)) g f)
 
--- src/lib.rt:71:1
 same-length : tie.Need-same-length
 same-length c = search needs
 
--- src/lib.rt:71:1
 returns : tie.Need-returns
-returns c = ?
+returns c =
+    let t = c .before .before .before .before .before .before .before .before .before .before .args .text .now in
+    let x = c .before .before .before .before .before .before .before .span-after .ensures in
+    let y = c .before .before .before .before .before .span-after2 .ensures in
+    let p = c .before .before .before .before .before .before .before .before .before .before .pre in
+    let n = second x y in
+    let f = span-fits t (c .before .before .before .before .before .before .before .span-after .result) (p .0 .text) (x .high) (ap isName (x .name) ∙ p .3) in
+    let g = span-fits t (c .before .before .before .before .before .span-after2 .result) (p .0 .text) (y .high) (ap isName n ∙ p .4) in
+    field-adds (p .0) _ (c .before .before .before .owner .result) (c .before .before .before .before .before .span-after2 .result) (c .before .before .before .before .before .before .before .span-after .result) (c .before .before .before .owner .ensures) n (x .name)
+    (field-fits (omega (arith, c .before .before .before .owner .ensures, p .0 .fits .classes)) g f) (p .2) (c .before .before .put-field .ensures .0) (c .before .before .put-field .ensures .1)
 
 pub declare-field-spec : {M : Type 1} → statement M
 declare-field-spec =

@@ -1,56 +1,77 @@
+-- `declare::declare_line` meets its contract. Assumes nothing.
+use mathlib.Core.Path.{sym, _∙_}
+use Rattle.rules.specs.Grammar.{Class, Field, Method, kindNumber, isKind}
+use Rattle.declare.proofs.Lines.{class-names, field-names, method-names}
+use Rattle.declare.proofs.Adds.{none-adds, word-kind, kind-is, form-is, adds-line}
+use borrow.Author.Tests.{ne-eqb}
 use borrow.Author.Needs.{needs}
 use Rattle.declare.proofs.declare_line.Statement.{statement}
 use Rattle.declare.proofs.declare_line.Tie as tie
-use Rattle.declare.proofs.declare_line.Reads as reads
-use Rattle.declare.proofs.declare_line.Lts as lts
-use Rattle.declare.proofs.declare_class.Reads as declare-class-reads
-use Rattle.declare.proofs.declare_field.Reads as declare-field-reads
-use Rattle.declare.proofs.declare_method.Reads as declare-method-reads
-use Rattle.declare.proofs.word_at.Reads as word-at-reads
 
--- src/lib.rt:109:9
 word-at-requires : tie.Need-word-at-requires
 word-at-requires c κs = search needs
 
--- src/lib.rt:113:14
 declare-class-requires : tie.Need-declare-class-requires
-declare-class-requires c κs = ?
+unfolding kindNumber
+declare-class-requires c κs =
+    let p = c .before .before .before .before .before .pre in
+    let w = c .before .before .word-at .ensures in
+    let e = kind-is (p .2) w {k = Class} (c .before .match .keys1) in
+    let m = class-names _ (form-is (p .2) w Class (c .before .match .keys1)) in
+    (p .0, w .high, p .3 .class e, m)
 
--- src/lib.rt:114:14
 declare-field-requires : tie.Need-declare-field-requires
-declare-field-requires c κs = ?
+unfolding kindNumber
+declare-field-requires c κs =
+    let p = c .before .before .before .before .before .pre in
+    let w = c .before .before .word-at .ensures in
+    let e = kind-is (p .2) w {k = Field} (c .before .match .keys2) in
+    let m = field-names _ (form-is (p .2) w Field (c .before .match .keys2)) in
+    (p .0, w .high, p .3 .field e, m .0, m .1)
 
--- src/lib.rt:115:14
 declare-method-requires : tie.Need-declare-method-requires
-declare-method-requires c κs = ?
+unfolding kindNumber
+declare-method-requires c κs =
+    let p = c .before .before .before .before .before .pre in
+    let w = c .before .before .word-at .ensures in
+    let e = kind-is (p .2) w {k = Method} (c .before .match .keys3) in
+    let m = method-names _ (form-is (p .2) w Method (c .before .match .keys3)) in
+    (p .0, w .high, p .3 .method e, m .0, m .1, m .2)
 
--- src/lib.rt:105:1
 same-length : tie.Need-same-length
 same-length c = search needs
 
--- src/lib.rt:105:1
 returns : tie.Need-returns
-returns c = ?
+unfolding kindNumber
+returns c =
+    let p = c .before .before .before .before .before .before .before .before .pre in
+    adds-line (p .2) (c .before .before .before .before .before .word-at .ensures) {k = Class} (c .before .before .before .before .match .keys1) (c .before .before .declare-class .ensures)
 
--- src/lib.rt:105:1
 same-length-2 : tie.Need-same-length-2
 same-length-2 c = search needs
 
--- src/lib.rt:105:1
 returns-2 : tie.Need-returns-2
-returns-2 c = ?
+unfolding kindNumber
+returns-2 c =
+    let p = c .before .before .before .before .before .before .before .before .pre in
+    adds-line (p .2) (c .before .before .before .before .before .word-at .ensures) {k = Field} (c .before .before .before .before .match .keys2) (c .before .before .declare-field .ensures)
 
--- src/lib.rt:105:1
 same-length-3 : tie.Need-same-length-3
 same-length-3 c = search needs
 
--- src/lib.rt:105:1
 returns-3 : tie.Need-returns-3
-returns-3 c = ?
+unfolding kindNumber
+returns-3 c =
+    let p = c .before .before .before .before .before .before .before .before .pre in
+    adds-line (p .2) (c .before .before .before .before .before .word-at .ensures) {k = Method} (c .before .before .before .before .match .keys3) (c .before .before .declare-method .ensures)
 
--- src/lib.rt:105:1
 returns-4 : tie.Need-returns-4
-returns-4 c = ?
+unfolding isKind kindNumber
+returns-4 c =
+    let p = c .before .before .before .before .pre in
+    let w = word-kind (p .2) (c .before .word-at .ensures) in
+    let r = c .match .rest in
+    none-adds _ _ _ _ (ne-eqb 1 _ (λ e. r .0 .0 .1 (w ∙ sym e))) (ne-eqb 2 _ (λ e. r .0 .1 (w ∙ sym e))) (ne-eqb 3 _ (λ e. r .1 (w ∙ sym e)))
 
 pub declare-line-spec : {M : Type 1} → statement M
 declare-line-spec =

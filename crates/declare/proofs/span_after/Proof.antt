@@ -1,29 +1,49 @@
+-- `declare::span_after` meets its contract. Assumes nothing.
+use mathlib.Core.Path.{_≡_, sym, ap, subst, _∙_}
+use mathlib.Core.List.{[]}
+use Prim.Native.Nat.{ℕ, _+_, _-_}
+use native.Mathlib.Omega.{arith}
+use lib.ListN.{getD, drop}
+use Rattle.lines.specs.Cuts.{more}
+use Rattle.lines.proofs.Formulas.{more-on}
 use borrow.Author.Needs.{needs}
 use Rattle.declare.proofs.span_after.Statement.{statement}
 use Rattle.declare.proofs.span_after.Tie as tie
-use Rattle.declare.proofs.span_after.Reads as reads
-use Rattle.declare.proofs.span_after.Lts as lts
-use Rattle.lines.proofs.next_field.Reads as next-field-reads
 
--- src/lib.rt:40:9
 next-field-requires : tie.Need-next-field-requires
 next-field-requires c κs = search needs
 
--- src/lib.rt:42:9
 returns : tie.Need-returns
-returns c = ?
+returns c =
+    let v = c .before .before .before .args in
+    let n = c .before .next-field .ensures .none (c .if1 .taken) in
+    record {
+      high = omega (arith, c .before .before .before .pre);
+      name = rw n;
+      rest = subst (λ k. more (drop k (v .text .now)) ≡ drop 1 (more (drop (v .r) (v .text .now)))) (same (v .r)) (n ∙ sym (ap (drop 1) n));
+    }
+  where
+    same : (r : ℕ) → r ≡ r + 0
+    same r = omega arith
 
--- src/lib.rt:44:17
 add-start : tie.Need-add-start
 add-start c = search needs
 
--- src/lib.rt:47:14
 sub-t6 : tie.Need-sub-t6
 sub-t6 c = search needs
 
--- src/lib.rt:36:1
 returns-2 : tie.Need-returns-2
-returns-2 c = ?
+returns-2 c =
+    let v = c .before .before .before .args in
+    let t = v .text .now in
+    let e = c .before .next-field .result in
+    let n = more-on (c .before .next-field .ensures) (c .if1 .left) in
+    let m : v .r + 1 + (e - (v .r + 1)) ≡ e = omega (arith, c .before .next-field .ensures .low, c .if1 .left) in
+    record {
+      high = omega (arith, m, c .before .next-field .ensures .high);
+      name = ap (λ ws. getD ws 0 []) (sym n);
+      rest = ap (λ k. more (drop k t)) m ∙ sym (ap (drop 1) n);
+    }
 
 pub span-after-spec : {M : Type 1} → statement M
 span-after-spec = tie.close (tie.spec next-field-requires returns add-start sub-t6 returns-2)
