@@ -1,0 +1,148 @@
+use declared::Names;
+use declared::Row;
+use declared::Span;
+use leaves::Set;
+ghost use mathlib.Core.Path.{_≡_};
+ghost use mathlib.Core.Bool.{true};
+ghost use Prim.Native.Nat.{_≤_, _<_, pred};
+ghost use lib.ListN.{length, getD, drop};
+ghost use mathlib.Core.List.{[]};
+ghost use Rattle.rules.specs.Limits.{work-bytes, most-bytes, most-classes, most-methods};
+ghost use Rattle.rules.specs.Text.{isName};
+ghost use Rattle.rules.specs.Grammar.{Class, Field, Method};
+ghost use Rattle.tables.specs.Layout.{most-names};
+ghost use Rattle.lines.specs.Cuts.{more};
+ghost use Rattle.declare.specs.Texts.{Taken, lineAt, FormedAt, WordAt, SpanAfter};
+ghost use Rattle.declare.specs.Declares.{lineWith, noNames, Ready, Room, MethodRow, Adds, Declares};
+
+// FIELDS OF A LINE
+
+// The word that a line begins with: the number of its kind, or 0, and the word's end.
+pub struct Word {
+    pub kind: u8,
+    pub end: usize,
+}
+
+pub fn word_at(text: &[u8], at: usize) -> Word
+    requires { ⌜ at ≤ length (now text) ⌝ }
+    ensures { λ r. ⌜ WordAt (now (text .entry)) at r ⌝ }
+{
+    let end = leaves::find(text, at, Set::FieldEnd);
+    let kind = leaves::kind_of(&text[at..end]);
+    Word { kind, end }
+}
+
+// The place of the field after the one that ends at r; an empty place where there is none.
+pub fn span_after(text: &[u8], r: usize) -> Span
+    requires { ⌜ r ≤ length (now text) ⌝ }
+    ensures { λ s. ⌜ SpanAfter (now (text .entry)) r s ⌝ }
+{
+    let e = lines::next_field(text, r);
+    if e == r {
+        return Span { start: r, len: 0 };
+    }
+    let start = r + 1;
+    Span {
+        start,
+        len: e - start,
+    }
+}
+
+// ONE LINE: its word ends at r
+
+// The place of the last class, or 0 where there is none.
+fn owner(c: Names) -> usize
+    ensures { λ r. ⌜ r ≡ pred (c .classes) ⌝ }
+{
+    if c.classes == 0 {
+        return 0;
+    }
+    c.classes - 1
+}
+
+fn declare_class(text: &[u8], work: &mut [u8], r: usize, c: Names) -> Names
+    requires { ⌜ Ready (now text) (now work) c × (r ≤ length (now text)) × (c .classes < most-classes) × (isName (getD (more (drop r (now text))) 0 []) ≡ true) ⌝ }
+    ensures { λ d. ⌜ Adds (now (text .entry)) (now (work .entry)) c (lineWith Class (more (drop r (now (text .entry))))) (now (work .exit)) d ⌝ }
+{
+    let name = span_after(text, r);
+    declared::put_class(work, c, name)
+}
+
+fn declare_field(text: &[u8], work: &mut [u8], r: usize, c: Names) -> Names
+    requires { ⌜ Ready (now text) (now work) c × (r ≤ length (now text)) × (c .fields < most-names) × (isName (getD (more (drop r (now text))) 0 []) ≡ true) × (isName (getD (more (drop r (now text))) 1 []) ≡ true) ⌝ }
+    ensures { λ d. ⌜ Adds (now (text .entry)) (now (work .entry)) c (lineWith Field (more (drop r (now (text .entry))))) (now (work .exit)) d ⌝ }
+{
+    let gives = span_after(text, r);
+    let name = span_after(text, gives.start + gives.len);
+    declared::put_field(work, c, owner(c), name, gives)
+}
+
+// The row of a method by its header.
+pub fn method_row(text: &[u8], r: usize, owner: usize) -> Row
+    requires { ⌜ (length (now text) ≤ most-bytes) × (r ≤ length (now text)) × (owner < 256) × (isName (getD (more (drop r (now text))) 0 []) ≡ true) × (isName (getD (more (drop r (now text))) 1 []) ≡ true) × (isName (getD (more (drop r (now text))) 2 []) ≡ true) ⌝ }
+    ensures { λ m. ⌜ MethodRow (now (text .entry)) owner (more (drop r (now (text .entry)))) m ⌝ }
+{
+    let gives = span_after(text, r);
+    let name = span_after(text, gives.start + gives.len);
+    let takes = span_after(text, name.start + name.len);
+    Row {
+        owner,
+        name,
+        gives,
+        takes,
+    }
+}
+
+fn declare_method(text: &[u8], work: &mut [u8], r: usize, c: Names) -> Names
+    requires { ⌜ Ready (now text) (now work) c × (r ≤ length (now text)) × (c .methods < most-methods) × (isName (getD (more (drop r (now text))) 0 []) ≡ true) × (isName (getD (more (drop r (now text))) 1 []) ≡ true) × (isName (getD (more (drop r (now text))) 2 []) ≡ true) ⌝ }
+    ensures { λ d. ⌜ Adds (now (text .entry)) (now (work .entry)) c (lineWith Method (more (drop r (now (text .entry))))) (now (work .exit)) d ⌝ }
+{
+    let m = method_row(text, r, owner(c));
+    declared::put_method(work, c, m)
+}
+
+// The row of the line that begins at a place, if it declares something.
+fn declare_line(text: &[u8], work: &mut [u8], at: usize, c: Names) -> Names
+    requires { ⌜ Ready (now text) (now work) c × (at ≤ length (now text)) × FormedAt (now text) at × Room (lineAt (now text) at .kind) c ⌝ }
+    ensures { λ d. ⌜ Adds (now (text .entry)) (now (work .entry)) c (lineAt (now (text .entry)) at) (now (work .exit)) d ⌝ }
+{
+    let w = word_at(text, at);
+    let r = w.end;
+    let kind = w.kind;
+    match kind {
+        1 => declare_class(text, work, r, c),
+        2 => declare_field(text, work, r, c),
+        3 => declare_method(text, work, r, c),
+        _ => c,
+    }
+}
+
+// ALL LINES
+
+fn no_names() -> Names
+    ensures { λ r. ⌜ r ≡ noNames ⌝ }
+{
+    Names {
+        classes: 0,
+        fields: 0,
+        methods: 0,
+        method: false,
+        locals: 0,
+        result: false,
+    }
+}
+
+// The rows of all classes, fields and methods of a text that pass 1 takes.
+pub fn declare(text: &[u8], work: &mut [u8]) -> Names
+    requires { ⌜ (length (now text) ≤ most-bytes) × (length (now work) ≡ work-bytes) × Taken (now text) ⌝ }
+    ensures { λ r. ⌜ Declares (now (text .entry)) (now (work .entry)) (now (work .exit)) r ⌝ }
+{
+    let mut c = no_names();
+    let mut at = 0;
+    while at < text.len() {
+        let end = leaves::find(text, at, Set::LineEnd);
+        c = declare_line(text, work, at, c);
+        at = end + 1;
+    }
+    c
+}
