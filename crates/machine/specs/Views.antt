@@ -4,8 +4,8 @@ use mathlib.Core.List.{List, [], _∷_, _++_}
 use mathlib.Core.Option.{Option, none, some}
 use mathlib.Core.Path.{_≡_}
 use Prim.Native.Nat.{ℕ, zero, suc, _+_, _*_, _-_, _≤_, _<_}
-use lib.Dec.{eqb, ltb}
-use lib.ListN.{take}
+use lib.Dec.{T, eqb, ltb}
+use lib.ListN.{length, take}
 use Rattle.rules.specs.Limits.{heap-objects, heap-fields, work-bytes}
 use Rattle.rules.specs.Base.{Try, ok, no, _>>=_, _>>_, check, any}
 use Rattle.rules.specs.Answers.{Stop, heapFull, framesFull, permissionMissing, nullFollowed, formulaFalse}
@@ -101,13 +101,17 @@ rightTest w v a l = readIn w v (rightAt w a) >>= λ r. ok (compared (relOf (byte
 unfoldable pub testIn : List ℕ → View → ℕ → Try Stop Bool
 testIn w v a = readIn w v (leftAt w a) >>= rightTest w v a
 
+-- one cell more, if it is not taken already
+unfoldable pub newCells : List ℕ → ℕ → Try Stop (List ℕ)
+newCells ks k = check (not (any (eqb k) ks)) permissionMissing >> ok (ks ++ (k ∷ []))
+
+unfoldable pub accIn : List ℕ → View → ℕ → ℕ → List ℕ → Try Stop (List ℕ)
+accIn w v x f ks = spot w v x f >>= newCells ks
+
 -- what a formula takes, as cells, the first first
 unfoldable pub takeIn : List ℕ → View → Formula ℕ → List ℕ → Try Stop (List ℕ)
 takeIn w v [] ks = ok ks
-takeIn w v (acc x f ∷ φ) ks = do
-  k ← spot w v x f
-  check (not (any (eqb k) ks)) permissionMissing
-  takeIn w v φ (ks ++ (k ∷ []))
+takeIn w v (acc x f ∷ φ) ks = accIn w v x f ks >>= takeIn w v φ
 takeIn w v (cmp n a b ∷ φ) ks = do
   l ← readIn w v a
   r ← readIn w v b
@@ -158,7 +162,16 @@ unfoldable pub tookIs : Took → List ℕ → Try Stop (List ℕ)
 tookIs (Took.Cells n) ks = ok (take n ks)
 tookIs (Took.Lacking s) ks = no (stopOf s)
 
+-- what a formula took is in the first of 8 cells, at most n
+pub record TookUpTo (r : Took) (ks : List ℕ) (n : ℕ) (t : Try Stop (List ℕ)) : Type 0 where
+  pub took : tookIs r ks ≡ t
+  pub count : countOf r ≤ n
+  pub size : length ks ≡ 8
+
 -- WHAT READING NEEDS
+
+abbrev pub SmallCells : List ℕ → Type 0
+SmallCells ks = (k : ℕ) → T (any (eqb k) ks) → k < heap-fields
 
 pub record ObjectFits (w : List ℕ) (most i : ℕ) : Type 0 where
   pub class : classIn w i < classCount w

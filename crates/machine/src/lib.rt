@@ -13,7 +13,7 @@ ghost use Rattle.rules.specs.Base.{any, ok};
 ghost use Rattle.rules.specs.Machine.{compared};
 ghost use Rattle.tables.specs.Stores.{meaning};
 ghost use lib.Dec.{eqb};
-ghost use Rattle.machine.specs.Views.{frameAt, variableAt, cellValue, cellHolder, classIn, firstIn, heldCell, cellOf, spotOf, spot, readIn, rightTest, testIn, PlainIs, takeIn, fill, marked, spotIs, readIs, truthIs, tookIs, countOf, ObjectFits, ExprFits, Readable, viewOf};
+ghost use Rattle.machine.specs.Views.{frameAt, variableAt, cellValue, cellHolder, classIn, firstIn, heldCell, cellOf, spotOf, spot, readIn, rightTest, testIn, PlainIs, newCells, accIn, takeIn, SmallCells, fill, marked, spotIs, readIs, truthIs, tookIs, TookUpTo, ObjectFits, ExprFits, Readable, viewOf};
 
 // Whose variables are read, where the heap ends, and who holds.
 pub struct View {
@@ -219,5 +219,104 @@ fn test(work: &[u8], v: View, a: usize) -> Truth
     match left(work, v, a) {
         Read::Got(l) => test_right(work, v, a, l),
         Read::Lacking(s) => Truth::Lacking(s),
+    }
+}
+
+// Whether k is one of the first n cells.
+fn among(cells: &[usize; 8], n: usize, k: usize) -> bool
+    requires { ⌜ (n ≤ 8) × (length (now cells) ≡ 8) ⌝ }
+    ensures { λ r. ⌜ r ≡ any (eqb k) (take n (now (cells .entry))) ⌝ }
+{
+    let mut i = 0;
+    while i < n {
+        let c = cells[i];
+        if c == k {
+            return true;
+        }
+        i += 1;
+    }
+    false
+}
+
+// Takes the cell k after n others.
+fn put_cell(cells: &mut [usize; 8], n: usize, k: usize) -> Took
+    requires { ⌜ (n < 8) × (length (now cells) ≡ 8) ⌝ }
+    ensures { λ r. ⌜ TookUpTo r (now (cells .exit)) (n + 1) (newCells (take n (now (cells .entry))) k) ⌝ }
+{
+    if among(cells, n, k) {
+        return Took::Lacking(Fault::Permission);
+    }
+    cells[n] = k;
+    Took::Cells(n + 1)
+}
+
+// `acc x f`, after n cells: "of a null is 25, of a location not in A or already taken in this formula 24".
+fn take_cell(work: &[u8], v: View, x: usize, f: usize, cells: &mut [usize; 8], n: usize) -> Took
+    requires { ⌜ (Readable (now work) v × ((x < frame-variables) × (f < most-names))) × ((n < 8) × (length (now cells) ≡ 8)) ⌝ }
+    ensures { λ r. ⌜ TookUpTo r (now (cells .exit)) (n + 1) (accIn (now (work .entry)) v x f (take n (now (cells .entry)))) ⌝ }
+{
+    match locate(work, v, x, f) {
+        Spot::At(k) => put_cell(cells, n, k),
+        Spot::Lacking(s) => Took::Lacking(s),
+    }
+}
+
+// The atom a, after n cells.
+fn take_atom(work: &[u8], v: View, a: usize, cells: &mut [usize; 8], n: usize) -> Took
+    requires { ⌜ (Readable (now work) v × (a < atomCount (now work))) × ((n < 8) × (length (now cells) ≡ 8)) ⌝ }
+    ensures { λ r. ⌜ TookUpTo r (now (cells .exit)) (n + 1) (takeIn (now (work .entry)) v (atomAt (now (work .entry)) a ∷ []) (take n (now (cells .entry)))) ⌝ }
+{
+    if tables::atom_kind(work, a) == 0 {
+        let x = tables::atom_variable(work, a);
+        let f = tables::atom_field(work, a);
+        return take_cell(work, v, x, f, cells, n);
+    }
+    match test(work, v, a) {
+        Truth::Holds => Took::Cells(n),
+        Truth::Fails => Took::Lacking(Fault::False),
+        Truth::Lacking(s) => Took::Lacking(s),
+    }
+}
+
+// "A formula's footprint is the locations that its `acc` atoms take": n atoms from the first on.
+fn footprint(work: &[u8], v: View, first: usize, n: usize, cells: &mut [usize; 8]) -> Took
+    requires { ⌜ (Readable (now work) v × (first + n ≤ atomCount (now work))) × ((n ≤ 8) × (length (now cells) ≡ 8)) ⌝ }
+    ensures { λ r. ⌜ TookUpTo r (now (cells .exit)) 8 (takeIn (now (work .entry)) v (atomsFrom (now (work .entry)) first n) []) ⌝ }
+{
+    let mut count = 0;
+    let mut i = 0;
+    while i < n {
+        let t = take_atom(work, v, first + i, cells, count);
+        let Took::Cells(k) = t else {
+            return t;
+        };
+        count = k;
+        i += 1;
+    }
+    Took::Cells(count)
+}
+
+// n words v from i on.
+fn fill_words(work: &mut [u8], at: usize, n: usize, v: u32)
+    requires { ⌜ at + n * 4 ≤ length (now work) ⌝ }
+    ensures { λ _. ⌜ now (work .exit) ≡ fill (now (work .entry)) at n v ⌝ }
+{
+    let mut i = 0;
+    while i < n {
+        tables::put_word(work, at + i * 4, v);
+        i += 1;
+    }
+}
+
+// The first n cells are held by v from now on.
+fn mark(work: &mut [u8], cells: &[usize; 8], n: usize, v: u32)
+    requires { ⌜ ((length (now work) ≡ work-bytes) × ((n ≤ 8) × (length (now cells) ≡ 8))) × SmallCells (take n (now cells)) ⌝ }
+    ensures { λ _. ⌜ now (work .exit) ≡ marked (now (work .entry)) (take n (now (cells .entry))) v ⌝ }
+{
+    let mut i = 0;
+    while i < n {
+        let k = cells[i];
+        tables::put_word(work, Layout::HOLDERS + k * 4, v);
+        i += 1;
     }
 }
