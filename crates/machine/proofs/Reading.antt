@@ -180,7 +180,7 @@ at-least (suc (suc zero)) a b c = absurd (c refl)
 at-least (suc (suc (suc t))) a b c = omega arith
 
 module _ (w : List ℕ) (t i : ℕ) (fits : SideFits w t i) where
-  var-fits : (x : ℕ) → var x ≡ exprAt w t i → x < frame-variables
+  pub var-fits : (x : ℕ) → var x ≡ exprAt w t i → x < frame-variables
   unfolding exprAt
   var-fits x e = go (eqb t 0) (eqb t 1) (eqb t 2) refl e
     where
@@ -194,7 +194,7 @@ module _ (w : List ℕ) (t i : ℕ) (fits : SideFits w t i) where
           ⊎-elim (λ l. absurd (omega (arith, eqb-true t 2 q))) (λ l. omega (arith, y, l)) (fits .variable)
       go false false false q e = absurd (let z : _≡_ {A = ℕ} 0 1 = cc in omega arith)
 
-  path-fits : (x f : ℕ) → path x f ≡ exprAt w t i → (x < frame-variables) × (f < most-names)
+  pub path-fits : (x f : ℕ) → path x f ≡ exprAt w t i → (x < frame-variables) × (f < most-names)
   unfolding exprAt
   path-fits x f e = go (eqb t 0) (eqb t 1) (eqb t 2) refl refl refl e
     where

@@ -56,6 +56,13 @@ pub enum Took {
     Lacking(Fault),
 }
 
+// What became of a step: on to the next, not done, or main's `end` done.
+pub enum Turn {
+    On(Machine),
+    Stopped(Fault),
+    Done,
+}
+
 // A variable of the frame at b.
 fn variable(work: &[u8], b: usize, x: usize) -> u32
     requires { ⌜ (b + 60 ≤ length (now work)) × (x < frame-variables) ⌝ }
