@@ -1,3 +1,5 @@
 pub mod Reading
 pub mod Cells
 pub mod Seeing
+pub mod Regions
+pub mod Keeping
