@@ -3,3 +3,4 @@ pub mod Cells
 pub mod Seeing
 pub mod Regions
 pub mod Keeping
+pub mod Moves

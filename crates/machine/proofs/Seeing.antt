@@ -15,6 +15,7 @@ use Rattle.rules.specs.Answers.{Stop, permissionMissing, nullFollowed, formulaF
 use Rattle.rules.specs.Syntax.{Rel, Expr, Atom, Formula, num, null, var, path, acc, cmp}
 use Rattle.rules.specs.Machine.{Heap, Frame, Location, holds, valueAt, valueOf, locate, value, compared, takeFrom, footprint, among, eqLocation}
 use Rattle.rules.proofs.Lists.{some-inj, none-some, or-cases, and-both, and-intro, T-true}
+use Rattle.rules.proofs.Tries.{ok-inj}
 use Rattle.tables.specs.Layout.{most-names, frame-variables}
 use Rattle.tables.specs.Decode.{byteAt, exprAt, leftAt, rightAt, atomAt, atomsFrom, atomPlace, atomCount, relOf, fieldCountAt, fieldNameAt}
 use Rattle.tables.specs.Tables.{Tables, SideFits, AtomFits, ClassFits, placeAt}
@@ -255,6 +256,25 @@ module _ {w : List ℕ} {v : View} {h : Heap} {F : Frame} (S : Sees w v h F) whe
   pub footprint-agrees : (φ : Formula ℕ) → FormulaOk φ → Agree w (v .objects) (footprint h F φ) (takeIn w v φ [])
   unfolding footprint among any
   footprint-agrees φ l = takes φ l [] [] (record { member = λ p k c. refl; small = λ k t. absurd t })
+
+  -- what a formula takes, from what the code takes
+  pub no-footprint : (φ : Formula ℕ) (s : Stop) → FormulaOk φ → takeIn w v φ [] ≡ no s → footprint h F φ ≡ no s
+  no-footprint φ s l e = go (footprint h F φ) (takeIn w v φ []) (footprint-agrees φ l) e
+    where
+      go : (a : Try Stop (List Location)) (b : Try Stop (List ℕ)) → Agree w (v .objects) a b → b ≡ no s → a ≡ no s
+      go (ok A) (ok ks) (both M) e = absurd (let z : _≡_ {A = ℕ} 0 1 = cc in omega arith)
+      go (no r) (no q) neither e = cc
+
+  pub ok-footprint :
+      (φ : Formula ℕ) (ks : List ℕ) → FormulaOk φ → takeIn w v φ [] ≡ ok ks →
+      (A : List Location) × (footprint h F φ ≡ ok A) × Matches w (v .objects) A ks
+  ok-footprint φ ks l e = go (footprint h F φ) (takeIn w v φ []) refl (footprint-agrees φ l) e
+    where
+      go :
+          (a : Try Stop (List Location)) (b : Try Stop (List ℕ)) → footprint h F φ ≡ a → Agree w (v .objects) a b → b ≡ ok ks →
+          (A : List Location) × (footprint h F φ ≡ ok A) × Matches w (v .objects) A ks
+      go (ok A) (ok js) q (both M) e = (A, q, subst (λ (i : List ℕ). Matches w (v .objects) A i) (ok-inj e) M)
+      go (no r) (no s) q neither e = absurd (let z : _≡_ {A = ℕ} 0 1 = cc in omega arith)
 
 -- THE ATOMS OF THE TABLES
 side-ok : (w : List ℕ) (t i : ℕ) → SideFits w t i → (e : Expr ℕ) → e ≡ exprAt w t i → SideOk e

@@ -84,3 +84,26 @@ Follows w c Turn.Done m s = (s ≡ done) × Represents w c m
 pub record Does (w : List ℕ) (c : Machine) (w′ : List ℕ) (r : Turn) (f : Config → Step) : Type 0 where
   pub tables : SameTables w w′
   pub follows : (m : Config) → Represents w c m → Follows w′ c r m (f m)
+
+-- one step more, on to a row
+abbrev pub stepped : Machine → ℕ → Machine
+stepped c row =
+    record {
+      objects = c .objects;
+      fields = c .fields;
+      frames = c .frames;
+      row = row;
+      holder = c .holder;
+      holders = c .holders;
+      steps = c .steps + 1;
+    }
+
+-- a state is represented, and a further step can be counted
+pub record Ready (w : List ℕ) (c : Machine) : Type 0 where
+  pub state : Config
+  pub represents : Represents w c state
+  pub more : c .steps < 4294967295
+
+-- the row is of this kind
+abbrev pub AtKind : List ℕ → Machine → ℕ → Type 0
+AtKind w c k = kindAt w (c .row) ≡ k
