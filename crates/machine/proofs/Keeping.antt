@@ -11,7 +11,7 @@ use lib.ListN.{length, drop}
 use borrow.Author.Tests.{eqb-true, eqb-false, ne-eqb, eq-eqb, ltb-true}
 use Rattle.rules.specs.Limits.{work-bytes, heap-objects, heap-fields, most-classes, most-statements, most-frames}
 use Rattle.rules.specs.Base.{any}
-use Rattle.rules.specs.Machine.{Heap, Frame, Location, holds, valueAt, valueOf}
+use Rattle.rules.specs.Machine.{Heap, Frame, Location, holds, fieldsOf, object, valueAt, valueOf}
 use Rattle.rules.proofs.Lists.{none-some, some-inj, T-true, and-both}
 use Rattle.tables.specs.Layout.{names-at, values-at, holders-at, seconds-at, objects-at, frames-at, frame-variables, most-names}
 use Rattle.tables.specs.Decode.{allRows, rowCount, kindAt, methodCount, ensuresAt, classCount, fieldCountAt}
@@ -21,6 +21,7 @@ use Rattle.tables.proofs.Decoding.{tables-same, all-same, rows-count-same, kind
 use Rattle.machine.specs.Views.{frameAt, variableAt, savedHolder, savedRow, methodOf, cellValue, cellHolder, classIn, firstIn, placed, cellOf, holderIn, holderOf, ObjectFits}
 use Rattle.machine.specs.States.{HeapIs, FrameIs, EnsuresIs, CallerIs, CallersAre}
 use Rattle.machine.proofs.Reading.{cell-small}
+use Rattle.machine.proofs.Regions.{Only, variable-kept, saved-holder-kept, saved-row-kept, method-kept, class-in-kept, first-in-kept}
 
 -- the rows of the first n objects are the same
 pub record SameObjects (n : ℕ) (w w′ : List ℕ) : Type 0 where
@@ -129,14 +130,15 @@ module _ (w w′ : List ℕ) (same : SameTables w w′) (tables : Tables w) wher
   )
 
   -- THE HEAP
-  pub heap-kept :
-      (objects fields holders holders′ : ℕ) (h : Heap) → SameObjects objects w w′ →
-      ((k : ℕ) → k < fields → cellValue w′ k ≡ cellValue w k) → ((k : ℕ) → k < fields → cellHolder w′ k ≤ holders′) →
-      HeapIs w objects fields holders h → HeapIs w′ objects fields holders′ h
-  heap-kept objects fields holders holders′ h S v m H =
+  pub heap-changed :
+      (objects fields holders holders′ : ℕ) (h h′ : Heap) → SameObjects objects w w′ → length h′ ≡ length h → fieldsOf h′ ≡ fieldsOf h →
+      ((o f k : ℕ) → cellOf w objects o f ≡ some k → valueAt h′ o f ≡ cellValue w′ k) →
+      ((o f : ℕ) → T (any (λ c. eqb (c .name) f) (object h o)) → T (any (λ c. eqb (c .name) f) (object h′ o))) →
+      ((k : ℕ) → k < fields → cellHolder w′ k ≤ holders′) → HeapIs w objects fields holders h → HeapIs w′ objects fields holders′ h′
+  heap-changed objects fields holders holders′ h h′ S n g v s m H =
       record {
-        count = H .count;
-        fields-count = H .fields-count;
+        count = n ∙ H .count;
+        fields-count = g ∙ H .fields-count;
         most-objects = H .most-objects;
         most-fields = H .most-fields;
         fit = λ i l. fits-kept fields i (S .class i l) (S .first i l) (H .fit i l);
@@ -144,9 +146,33 @@ module _ (w w′ : List ℕ) (same : SameTables w w′) (tables : Tables w) wher
             let s : fieldCountAt w′ (classIn w i) ≡ fieldCountAt w (classIn w i) =
             field-count-same w w′ same (classIn w i) (small-class i fields (H .fit i (omega arith))) in
             rw (S .class i (omega arith), S .first i (omega arith), S .first j k, s) (H .apart i j l k);
-        value = λ o f k e.
-            let e′ : cellOf w objects o f ≡ some k = sym (cell-kept objects fields o f (H .fit) S) ∙ e in
-            H .value o f k e′ ∙ sym (v k (cell-small o f tables (H .fit) e′));
-        has = λ o f k e. H .has o f k (sym (cell-kept objects fields o f (H .fit) S) ∙ e);
+        value = λ o f k e. v o f k (sym (cell-kept objects fields o f (H .fit) S) ∙ e);
+        has = λ o f k e. s o f (H .has o f k (sym (cell-kept objects fields o f (H .fit) S) ∙ e));
         marks = m;
       }
+
+  pub heap-kept :
+      (objects fields holders holders′ : ℕ) (h : Heap) → SameObjects objects w w′ →
+      ((k : ℕ) → k < fields → cellValue w′ k ≡ cellValue w k) → ((k : ℕ) → k < fields → cellHolder w′ k ≤ holders′) →
+      HeapIs w objects fields holders h → HeapIs w′ objects fields holders′ h
+  heap-kept objects fields holders holders′ h S v m H =
+      heap-changed objects fields holders holders′ h h S refl refl
+      (λ o f k e. H .value o f k e ∙ sym (v k (cell-small o f tables (H .fit) e))) (λ o f t. t) m H
+
+-- ONE REGION CHANGES
+pub same-objects :
+    (a b : ℕ) (w w′ : List ℕ) (n : ℕ) → Only a b w w′ → (frames-at ≤ a) ⊎ (b ≤ objects-at) → n ≤ heap-objects → SameObjects n w w′
+same-objects a b w w′ n s o l =
+    record {
+      class = λ i h. class-in-kept a b w w′ s o i (omega arith);
+      first = λ i h. first-in-kept a b w w′ s o i (omega arith);
+    }
+
+pub same-frame : (a b : ℕ) (w w′ : List ℕ) (n : ℕ) → Only a b w w′ → (frameAt n + 72 ≤ a) ⊎ (b ≤ frameAt n) → SameFrame n w w′
+same-frame a b w w′ n s o =
+    record {
+      variables = λ x l. variable-kept a b w w′ s (frameAt n) x (⊎-elim (λ p. inl (omega arith)) (λ p. inr p) o) l;
+      holder = saved-holder-kept a b w w′ s n o;
+      row = saved-row-kept a b w w′ s n o;
+      method = method-kept a b w w′ s n o;
+    }

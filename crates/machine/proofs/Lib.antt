@@ -4,3 +4,5 @@ pub mod Seeing
 pub mod Regions
 pub mod Keeping
 pub mod Moves
+pub mod Heaps
+pub mod Changes

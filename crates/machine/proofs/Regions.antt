@@ -139,7 +139,7 @@ module _ (a b : ℕ) (w w′ : List ℕ) (s : Only a b w w′) where
       half-kept objects-at frames-at w w′ (only-kept s objects-at frames-at o) (objects-at + i * 4 + 2) (omega arith) (omega arith)
 
 -- WHAT IS MARKED
-apart : (k j : ℕ) → (k ≡ j → ⊥) → (k < j) ⊎ (j < k)
+pub apart : (k j : ℕ) → (k ≡ j → ⊥) → (k < j) ⊎ (j < k)
 apart zero zero d = absurd (d refl)
 apart zero (suc j) d = inl (omega arith)
 apart (suc k) zero d = inr (omega arith)

@@ -102,7 +102,7 @@ pub data Agree (w : List ℕ) (n : ℕ) : Try Stop (List Location) → Try Stop 
   both : {A : List Location} {ks : List ℕ} → Matches w n A ks → Agree w n (ok A) (ok ks)
   neither : {s : Stop} → Agree w n (no s) (no s)
 
-bool-iff : (a b : Bool) → (T a → T b) → (T b → T a) → a ≡ b
+pub bool-iff : (a b : Bool) → (T a → T b) → (T b → T a) → a ≡ b
 bool-iff true b f g = sym (T-true b (f tt))
 bool-iff false true f g = absurd (g tt)
 bool-iff false false f g = refl
