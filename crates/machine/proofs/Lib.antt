@@ -6,3 +6,4 @@ pub mod Keeping
 pub mod Moves
 pub mod Heaps
 pub mod Changes
+pub mod Steps
