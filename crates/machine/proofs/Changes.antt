@@ -107,9 +107,9 @@ module _ {w : List ℕ} {c : Machine} {m : Config} (R : Represents w c m) where
         let t : SameTables w w′ = only-tables s (omega arith) in
         let S : SameObjects (c .objects) w w′ = same-objects b (b + 60) w w′ (c .objects) s (inl (omega arith)) (R .heap .most-objects) in
         let K : (k : ℕ) → k < c .fields → cellHolder w′ k ≡ cellHolder w k =
-            λ k l. holder-kept b (b + 60) w w′ s (inl (omega arith)) k (omega (arith, R .heap .most-fields)) in
+        λ k l. holder-kept b (b + 60) w w′ s (inl (omega arith)) k (omega (arith, R .heap .most-fields)) in
         let H : (p : Location) → holderOf w′ (c .objects) p ≡ holderOf w (c .objects) p =
-            λ p. holder-of-kept w w′ t (R .tables) (c .objects) (c .fields) p (R .heap .fit) S K in
+        λ p. holder-of-kept w w′ t (R .tables) (c .objects) (c .fields) p (R .heap .fit) S K in
         record {
           tables = tables-same w w′ t (R .tables);
           heap =
@@ -143,11 +143,11 @@ module _ {w : List ℕ} {c : Machine} {m : Config} (R : Represents w c m) where
       let t : SameTables w w′ = only-tables s (omega arith) in
       let S : SameObjects (c .objects) w w′ = same-objects values-at holders-at w w′ (c .objects) s (inr (omega arith)) (R .heap .most-objects) in
       let K : (k : ℕ) → k < c .fields → cellHolder w′ k ≡ cellHolder w k =
-          λ k l. holder-kept values-at holders-at w w′ s (inr (omega arith)) k (omega (arith, R .heap .most-fields)) in
+      λ k l. holder-kept values-at holders-at w w′ s (inr (omega arith)) k (omega (arith, R .heap .most-fields)) in
       let H : (p : Location) → holderOf w′ (c .objects) p ≡ holderOf w (c .objects) p =
-          λ p. holder-of-kept w w′ t (R .tables) (c .objects) (c .fields) p (R .heap .fit) S K in
+      λ p. holder-of-kept w w′ t (R .tables) (c .objects) (c .fields) p (R .heap .fit) S K in
       let E : (number : ℕ) (p : Location) → eqb (holderOf w′ (c .objects) p) number ≡ eqb (holderOf w (c .objects) p) number =
-          λ number p. ap (λ (i : ℕ). eqb i number) (H p) in
+      λ number p. ap (λ (i : ℕ). eqb i number) (H p) in
       record {
         tables = tables-same w w′ t (R .tables);
         heap = stored (cell-placed w (c .objects) o f k e) t S K;
@@ -202,7 +202,7 @@ module _ {w : List ℕ} {c : Machine} {m : Config} (R : Represents w c m) where
           let l : P .index < length (m .heap) = omega (arith, P .exists, R .heap .count) in
           let q : suc (P .index) ≡ o = sym (P .is-object) in
           let has : Has (object (m .heap) (suc (P .index))) f =
-              subst (λ i. Has (object (m .heap) i) f) (P .is-object) (R .heap .has o f k e) in
+          subst (λ i. Has (object (m .heap) i) f) (P .is-object) (R .heap .has o f k e) in
           heap-changed w (putWord w (values-at + k * 4) v) t (R .tables) (c .objects) (c .fields) (c .holders) (c .holders)
           (m .heap) (store (m .heap) o f v) S
           (subst (λ i. length (store (m .heap) i f v) ≡ length (m .heap)) q (store-size (m .heap) (P .index) f v l))

@@ -62,7 +62,7 @@ module _ (w w′ : List ℕ) (same : SameTables w w′) (tables : Tables w) wher
           let (x, y) = and-both (ltb i n) (ltb f most-names) (subst T (sym t) tt) in
           let l : i < n = ltb-true i n (T-true _ x) in
           let p : placeAt w′ (classIn w i) f ≡ placeAt w (classIn w i) f =
-              place-same w w′ same (classIn w i) (small-class i most (fit i l)) f (ltb-true f most-names (T-true _ y)) in
+          place-same w w′ same (classIn w i) (small-class i most (fit i l)) f (ltb-true f most-names (T-true _ y)) in
           rw (S .class i l, S .first i l, p)
       go false t = refl
 
@@ -125,8 +125,8 @@ module _ (w w′ : List ℕ) (same : SameTables w w′) (tables : Tables w) wher
   callers-kept n n′ bound (F ∷ Fs) S h C = (
     caller-kept n n′ (length Fs) bound F (S (length Fs) (omega arith)) h (C .0),
     rw (S (length Fs) (omega arith) .holder)
-    (callers-kept n n′ (savedHolder w (length Fs)) Fs (λ i l. S i (omega arith))
-    (λ number o l. h number o (omega (arith, C .0 .below))) (C .1)),
+        (callers-kept n n′ (savedHolder w (length Fs)) Fs (λ i l. S i (omega arith))
+        (λ number o l. h number o (omega (arith, C .0 .below))) (C .1)),
   )
 
   -- THE HEAP

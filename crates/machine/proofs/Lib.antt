@@ -7,3 +7,4 @@ pub mod Moves
 pub mod Heaps
 pub mod Changes
 pub mod Steps
+pub mod Doing

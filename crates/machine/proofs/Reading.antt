@@ -312,9 +312,10 @@ pub access-fits :
     (byteAt w (atomPlace a + 4) < frame-variables) × (byteAt w (atomPlace a + 5) < most-names)
 access-fits w a F e =
     let t : byteAt w (atomPlace a + 1) ≡ 3 = F .access e in
-    let s : atomPlace a + 4 + 1 ≡ atomPlace a + 5 = omega arith in
-    (⊎-elim (λ l. absurd (omega (arith, l, t))) (λ l. l) (F .left .variable),
-    ⊎-elim (λ l. absurd (omega (arith, l, t))) (λ l. rw s at l) (F .left .field))
+    let s : atomPlace a + 4 + 1 ≡ atomPlace a + 5 = omega arith in (
+      ⊎-elim (λ l. absurd (omega (arith, l, t))) (λ l. l) (F .left .variable),
+      ⊎-elim (λ l. absurd (omega (arith, l, t))) (λ l. rw s at l) (F .left .field),
+    )
 
 -- n atoms from the first on, i of them done
 module _ (w : List ℕ) (v : View) (first n i : ℕ) (ks : List ℕ) where

@@ -54,12 +54,12 @@ module _ {w : List ℕ} {objects fields holders : ℕ} {h : Heap} (tables : Tabl
       let e : P .index ≡ Q .index = same-index _ _ _ _ k P Q in
       let O = H .fit (Q .index) (Q .exists) in
       let present : placeAt w (classIn w (Q .index)) (p .field) ≡ 255 → ⊥ =
-          subst (λ i. placeAt w (classIn w i) (p .field) ≡ 255 → ⊥) e (P .present) in
+      subst (λ i. placeAt w (classIn w i) (p .field) ≡ 255 → ⊥) e (P .present) in
       let cell : k ≡ firstIn w (Q .index) + placeAt w (classIn w (Q .index)) (p .field) =
-          subst (λ i. k ≡ firstIn w i + placeAt w (classIn w i) (p .field)) e (P .is-cell) in
+      subst (λ i. k ≡ firstIn w i + placeAt w (classIn w i) (p .field)) e (P .is-cell) in
       let f : p .field ≡ q .field =
-          same-place (tables .class-fits (classIn w (Q .index)) (O .class)) (P .named) (Q .named) present (Q .present)
-          (omega (arith, cell, Q .is-cell)) in
+      same-place (tables .class-fits (classIn w (Q .index)) (O .class)) (P .named) (Q .named) present (Q .present)
+      (omega (arith, cell, Q .is-cell)) in
       let o : p .object ≡ q .object = P .is-object ∙ (ap suc e ∙ sym (Q .is-object)) in
       λ i. record { object = o i; field = f i }
 

@@ -64,8 +64,8 @@ module _ {w : List ℕ} {c : Machine} {m : Config} (R : Represents w c m) where
   assign-on x e v lx lv ok-e n r =
       let w′ : List ℕ = putWord w (frameAt (length (m .callers)) + x * 4) v in
       let t : SameTables w w′ =
-          only-tables (only-word frames-at (frames-at + 8192) w (frameAt (length (m .callers)) + x * 4) v (omega arith) (omega (arith, R .most, R .frames)))
-          (omega arith) in
+      only-tables (only-word frames-at (frames-at + 8192) w (frameAt (length (m .callers)) + x * 4) v (omega arith) (omega (arith, R .most, R .frames)))
+      (omega arith) in
       rw base-is
       (follow-on R _ _ _ (rw (value-is (sees R) e ok-e, r)) refl
       (moved-on (put-variable R x v lx lv) (λ z. n (sym (kind-kept w′ t) ∙ z))))
@@ -105,7 +105,7 @@ module _ {w : List ℕ} {c : Machine} {m : Config} (R : Represents w c m) where
       let w′ : List ℕ = marked w ks 0 in
       let z : 0 < 4294967296 = omega arith in
       let s : Only holders-at seconds-at w w′ =
-          marks-only w (c .objects) (c .fields) (R .tables) (R .heap .fit) (R .heap .most-objects) (R .heap .most-fields) A ks 0 z M in
+      marks-only w (c .objects) (c .fields) (R .tables) (R .heap .fit) (R .heap .most-objects) (R .heap .most-fields) A ks 0 z M in
       let t : SameTables w w′ = only-tables s (omega arith) in
       record {
         tables = tables-same w w′ t (R .tables);
@@ -145,7 +145,7 @@ module _ {w : List ℕ} {c : Machine} {m : Config} (R : Represents w c m) where
   release-on φ ks l n e =
       let (A, a, M) = ok-footprint (sees R) φ ks l e in
       let t : SameTables w (marked w ks 0) =
-          marks-tables w (c .objects) (c .fields) (R .tables) (R .heap .fit) (R .heap .most-objects) (R .heap .most-fields) A ks 0 (omega arith) M in
+      marks-tables w (c .objects) (c .fields) (R .tables) (R .heap .fit) (R .heap .most-objects) (R .heap .most-fields) A ks 0 (omega arith) M in
       follow-on R _ _ _ (rw a) refl
       (moved-on (released A ks M (footprint-held (m .heap) (m .frame) φ A a)) (λ z. n (sym (kind-kept (marked w ks 0) t) ∙ z)))
 

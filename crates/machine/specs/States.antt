@@ -104,6 +104,10 @@ pub record Ready (w : List ℕ) (c : Machine) : Type 0 where
   pub represents : Represents w c state
   pub more : c .steps < 4294967295
 
+-- the row is no `end`
+abbrev pub NotEnd : List ℕ → Machine → Type 0
+NotEnd w c = kindAt w (c .row) ≡ 18 → ⊥
+
 -- the row is of this kind
 abbrev pub AtKind : List ℕ → Machine → ℕ → Type 0
 AtKind w c k = kindAt w (c .row) ≡ k
