@@ -32,7 +32,7 @@ use Rattle.machine.proofs.Moves.{frame-bind}
 use Rattle.machine.proofs.Heaps.{Has, store-size, store-fields, store-has}
 
 -- another word of the frame
-other-variable :
+pub other-variable :
     (w : List ℕ) (b x y v : ℕ) → (y ≡ x → ⊥) → variableAt (putWord w (b + x * 4) v) b y ≡ variableAt w b y
 unfolding variableAt
 other-variable w b x y v d =
@@ -41,7 +41,7 @@ other-variable w b x y v d =
     (⊎-elim (λ l. inl (omega arith)) (λ l. inr (omega arith)) (apart y x d)))
     (b + y * 4) (omega arith) (omega arith)
 
-this-variable :
+pub this-variable :
     (w : List ℕ) (b x v : ℕ) → b + x * 4 + 4 ≤ length w → v < 4294967296 → variableAt (putWord w (b + x * 4) v) b x ≡ v
 unfolding variableAt
 this-variable w b x v l h = word-put w (b + x * 4) v l h

@@ -8,3 +8,7 @@ pub mod Heaps
 pub mod Changes
 pub mod Steps
 pub mod Doing
+pub mod Statements
+pub mod Returning
+pub mod Framing
+pub mod Calling

@@ -26,7 +26,7 @@ use Rattle.machine.specs.declared.View.{View}
 use Rattle.machine.specs.declared.Fault.{Fault}
 use Rattle.machine.specs.declared.Turn.{Turn}
 use Rattle.machine.specs.Views.{frameAt, variableAt, cellOf, holderOf, cellValue, cellHolder, classIn, firstIn, methodOf, viewOf, readIn, rightTest, testIn, takeIn, stopOf, ObjectFits, Readable}
-use Rattle.machine.specs.States.{HeapIs, FrameIs, EnsuresIs, CallersAre, Represents, Goes, Follows, Does, stepped, AtKind}
+use Rattle.machine.specs.States.{HeapIs, FrameIs, EnsuresIs, CallersAre, Represents, Goes, Follows, Does, atRow, stepped, AtKind}
 use Rattle.machine.proofs.Reading.{cell-small}
 use Rattle.machine.proofs.Seeing.{Sees, Agree, Matches, both, neither, SideOk, FormulaOk, cells-apart, value-is, no-footprint, ok-footprint, atoms-ok, left-ok, right-ok}
 
@@ -118,12 +118,12 @@ module _ {w : List ℕ} {c : Machine} {m : Config} (R : Represents w c m) where
   pub next-fits : (kindAt w (c .row) ≡ 18 → ⊥) → c .row + 1 < rowCount w
   next-fits n = ⊎-elim (λ e. absurd (n e)) (λ l. omega arith) (row-fits .next)
 
-  -- the same state, at another row
-  pub moved :
-      (row : ℕ) (rs : List Row) → row < rowCount w → rs ≡ drop row (allRows w) →
-      Represents w (stepped c row) (withFrame m (jump rs (m .frame)))
+  -- the same state, at another row and after as many steps or more
+  pub moved-to :
+      (row steps : ℕ) (rs : List Row) → row < rowCount w → rs ≡ drop row (allRows w) → c .steps ≤ steps →
+      Represents w (atRow c row steps) (withFrame m (jump rs (m .frame)))
   unfolding withFrame jump
-  moved row rs l e =
+  moved-to row steps rs l e h =
       record {
         tables = R .tables;
         heap = R .heap;
@@ -138,6 +138,11 @@ module _ {w : List ℕ} {c : Machine} {m : Config} (R : Represents w c m) where
     where
       at-row : FrameIs w (c .objects) (frameAt (length (m .callers))) (c .holder) row (jump rs (m .frame))
       at-row = frame-jump row rs l e (R .frame)
+
+  pub moved :
+      (row : ℕ) (rs : List Row) → row < rowCount w → rs ≡ drop row (allRows w) →
+      Represents w (stepped c row) (withFrame m (jump rs (m .frame)))
+  moved row rs l e = moved-to row (c .steps + 1) rs l e (omega arith)
 
   pub moved-on :
       (kindAt w (c .row) ≡ 18 → ⊥) → Represents w (stepped c (c .row + 1)) (withFrame m (advance (m .frame)))

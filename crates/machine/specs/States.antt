@@ -3,7 +3,7 @@ use mathlib.Core.Path.{_≡_}
 use mathlib.Core.List.{List, [], _∷_}
 use mathlib.Core.Logic.{_⊎_}
 use mathlib.Core.Option.{some}
-use Prim.Native.Nat.{ℕ, suc, _+_, _*_, _≤_, _<_}
+use Prim.Native.Nat.{ℕ, suc, _+_, _-_, _*_, _≤_, _<_}
 use lib.Dec.{T, eqb}
 use lib.ListN.{length, drop}
 use Rattle.rules.specs.Limits.{heap-objects, heap-fields, most-frames}
@@ -85,9 +85,9 @@ pub record Does (w : List ℕ) (c : Machine) (w′ : List ℕ) (r : Turn) (f : C
   pub tables : SameTables w w′
   pub follows : (m : Config) → Represents w c m → Follows w′ c r m (f m)
 
--- one step more, on to a row
-abbrev pub stepped : Machine → ℕ → Machine
-stepped c row =
+-- at a row, after so many steps
+abbrev pub atRow : Machine → ℕ → ℕ → Machine
+atRow c row steps =
     record {
       objects = c .objects;
       fields = c .fields;
@@ -95,7 +95,50 @@ stepped c row =
       row = row;
       holder = c .holder;
       holders = c .holders;
+      steps = steps;
+    }
+
+-- one step more, on to a row
+abbrev pub stepped : Machine → ℕ → Machine
+stepped c row = atRow c row (c .steps + 1)
+
+-- back in the caller, which holds by this number
+abbrev pub back : Machine → ℕ → ℕ → Machine
+back c holder row =
+    record {
+      objects = c .objects;
+      fields = c .fields;
+      frames = c .frames - 1;
+      row = row;
+      holder = holder;
+      holders = c .holders;
       steps = c .steps + 1;
+    }
+
+-- a call more, which holds by a new number
+abbrev pub called : Machine → ℕ → Machine
+called c row =
+    record {
+      objects = c .objects;
+      fields = c .fields;
+      frames = c .frames + 1;
+      row = row;
+      holder = c .holders + 1;
+      holders = c .holders + 1;
+      steps = c .steps + 1;
+    }
+
+-- an object more, with n fields
+abbrev pub larger : Machine → ℕ → ℕ → Machine
+larger c n steps =
+    record {
+      objects = c .objects + 1;
+      fields = c .fields + n;
+      frames = c .frames;
+      row = c .row;
+      holder = c .holder;
+      holders = c .holders;
+      steps = steps;
     }
 
 -- a state is represented, and a further step can be counted

@@ -5,7 +5,7 @@ use mathlib.Core.Option.{Option, none, some}
 use mathlib.Core.Path.{_≡_}
 use Prim.Native.Nat.{ℕ, zero, suc, _+_, _*_, _-_, _≤_, _<_}
 use lib.Dec.{T, eqb, ltb}
-use lib.ListN.{length, take}
+use lib.ListN.{length, take, set}
 use Rattle.rules.specs.Limits.{heap-objects, heap-fields, work-bytes}
 use Rattle.rules.specs.Base.{Try, ok, no, _>>=_, _>>_, check, any}
 use Rattle.rules.specs.Answers.{Stop, heapFull, framesFull, permissionMissing, nullFollowed, formulaFalse}
@@ -16,7 +16,7 @@ use Rattle.tables.specs.Layout.{most-names, frame-variables, values-at, holders
 use Rattle.tables.specs.declared.Expr as Tables
 use Rattle.tables.specs.Decode.{byteAt, halfAt, wordAt, classCount, fieldCountAt, leftAt, rightAt, relOf, atomPlace}
 use Rattle.tables.specs.Tables.{Tables, placeAt}
-use Rattle.tables.specs.Stores.{putWord}
+use Rattle.tables.specs.Stores.{putHalf, putWord}
 use Rattle.machine.specs.declared.View.{View}
 use Rattle.machine.specs.declared.Fault.{Fault}
 use Rattle.machine.specs.declared.Spot.{Spot}
@@ -129,6 +129,18 @@ fill w i (suc n) v = fill (putWord w i v) (i + 4) n v
 unfoldable pub marked : List ℕ → List ℕ → ℕ → List ℕ
 marked w [] v = w
 marked w (k ∷ ks) v = marked (putWord w (holders-at + k * 4) v) ks v
+
+-- The frame at a calls: it keeps its number and row. The next, at b, has its values, `this`, w and zeros, and its method.
+unfoldable pub framed : List ℕ → ℕ → ℕ → ℕ → ℕ → ℕ → ℕ → ℕ → List ℕ
+framed w a b holder row method o p =
+    set (putHalf (putWord (putWord (putWord (fill w b 15 0) b o) (b + 4) p) (a + 60) holder) (a + 64) row) (b + 66) method
+
+abbrev pub prepared : List ℕ → Machine → ℕ → ℕ → ℕ → List ℕ
+prepared w c method o p = framed w (frameAt (c .frames - 1)) (frameAt (c .frames)) (c .holder) (c .row) method o p
+
+-- the view of the next frame, which sees what the running one holds
+abbrev pub nextView : Machine → View
+nextView c = record { base = frameAt (c .frames); objects = c .objects; holder = c .holder }
 
 -- ANSWERS
 
