@@ -10,9 +10,9 @@ use lib.Dec.{T, eqb}
 use lib.ListN.{length, drop, getD, set, replicate, getD-replicate}
 use lib.Seq.{getD-set-same}
 use borrow.Author.Tests.{ne-eqb, eq-eqb, lt-ltb, le-ltb}
-use Rattle.rules.specs.Limits.{work-bytes, heap-objects, heap-fields, most-frames, most-statements}
+use Rattle.rules.specs.Limits.{work-bytes, heap-objects, heap-fields, most-frames, most-statements, most-methods}
 use Rattle.rules.specs.Base.{Try, ok, no, _>>=_, _>>_, check, any}
-use Rattle.rules.specs.Answers.{Stop, framesFull}
+use Rattle.rules.specs.Answers.{Stop, framesFull, nullFollowed}
 use Rattle.rules.specs.Syntax.{Row, Formula, Method, noMethod}
 use Rattle.rules.specs.Machine.{Heap, Frame, Location, Config, took, holds, among, without, valueOf, footprint, holding, entryValues, callFrame, entered, callStep}
 use Rattle.rules.specs.declared.Machine.{Machine}
@@ -33,9 +33,10 @@ use Rattle.machine.proofs.Reading.{cell-small}
 use Rattle.machine.proofs.Seeing.{Sees, Matches, FormulaOk, no-footprint, ok-footprint, atoms-ok, bool-iff}
 use Rattle.machine.proofs.Regions.{Only, only-trans, only-wide, only-word, only-half, only-byte, only-fill, only-tables, only-kept, only-marked, fill-word, variable-kept, saved-holder-kept, value-kept, holder-kept}
 use Rattle.machine.proofs.Keeping.{SameObjects, SameFrame, same-objects, same-frame, holder-of-kept, frame-kept, ensures-kept, callers-kept, heap-kept}
-use Rattle.machine.proofs.Moves.{sees, follow-stop, follow-on}
+use Rattle.machine.proofs.Moves.{sees, follow-stop, follow-stop-in, follow-on}
 use Rattle.machine.proofs.Changes.{other-variable, this-variable, holds-without, marks-only, marks-tables, holder-marked, taken-held, others-kept, heap-marked}
 use Rattle.machine.proofs.Steps.{frame-holding}
+use Rattle.machine.proofs.Framing.{framed-only, framed-before, framed-method, framed-holder, framed-row, framed-values}
 
 module _ {w : List ℕ} {c : Machine} {m : Config} (R : Represents w c m) where
   -- bytes after the running frame's variables, but for its method, are free
@@ -49,11 +50,11 @@ module _ {w : List ℕ} {c : Machine} {m : Config} (R : Represents w c m) where
       let t : SameTables w w′ = only-tables s (omega arith) in
       let S : SameObjects (c .objects) w w′ = same-objects a b w w′ (c .objects) s (inl (omega arith)) (R .heap .most-objects) in
       let K : (k : ℕ) → k < c .fields → cellHolder w′ k ≡ cellHolder w k =
-          λ k l. holder-kept a b w w′ s (inl (omega arith)) k (omega (arith, R .heap .most-fields)) in
+      λ k l. holder-kept a b w w′ s (inl (omega arith)) k (omega (arith, R .heap .most-fields)) in
       let H : (p : Location) → holderOf w′ (c .objects) p ≡ holderOf w (c .objects) p =
-          λ p. holder-of-kept w w′ t (R .tables) (c .objects) (c .fields) p (R .heap .fit) S K in
+      λ p. holder-of-kept w w′ t (R .tables) (c .objects) (c .fields) p (R .heap .fit) S K in
       let E : (number : ℕ) (p : Location) → eqb (holderOf w′ (c .objects) p) number ≡ eqb (holderOf w (c .objects) p) number =
-          λ number p. ap (λ (o : ℕ). eqb o number) (H p) in
+      λ number p. ap (λ (o : ℕ). eqb o number) (H p) in
       record {
         tables = tables-same w w′ t (R .tables);
         heap =
@@ -193,15 +194,159 @@ module _ {w : List ℕ} {c : Machine} {m : Config} {method : ℕ} {G : Frame} (R
           most = omega arith;
           frame = the-frame;
           ensures =
-              inr (rw e (omega (arith, N .exists, methods-count-same w w′ new-tables)),
-              rw e (N .ensures ∙ sym (ensures-same w w′ new-tables (R .tables) method (N .exists))));
+              inr (
+                rw e (omega (arith, N .exists, methods-count-same w w′ new-tables)),
+                rw e (N .ensures ∙ sym (ensures-same w w′ new-tables (R .tables) method (N .exists))),
+              );
           callers = (
             the-caller k,
             rw h
-            (callers-kept w w′ new-tables (R .tables) (c .objects) (c .objects) (c .holder) (m .callers) (λ j _. kept-frame j)
-            (λ n o b p. others-kept R A ks (c .holders + 1) fits M taken n o b (λ z. omega (arith, z, b, R .last)) p) (R .callers)),
+                (callers-kept w w′ new-tables (R .tables) (c .objects) (c .objects) (c .holder) (m .callers) (λ j _. kept-frame j)
+                (λ n o b p. others-kept R A ks (c .holders + 1) fits M taken n o b (λ z. omega (arith, z, b, R .last)) p) (R .callers)),
           );
           last = omega arith;
           given = omega (arith, R .given);
         }
 
+-- THE STEP
+entry-size : (o p : ℕ) → length (entryValues o p) ≡ frame-variables
+unfolding entryValues
+entry-size o p = refl
+
+module _ {w : List ℕ} {c : Machine} {m : Config} (R : Represents w c m) (y z method o p : ℕ)
+    (exists : method < methodCount w) (ly : y < frame-variables) (lz : z < frame-variables)
+    (eo : o ≡ variableAt w (frameAt (c .frames - 1)) y) (ep : p ≡ variableAt w (frameAt (c .frames - 1)) z)
+    (lo : o < 4294967296) (lp : p < 4294967296) (lh : c .holder < 4294967296) where
+  i : ℕ
+  i = length (m .callers)
+
+  a-is : frameAt (c .frames - 1) ≡ frameAt (length (m .callers))
+  a-is = omega (arith, R .frames)
+
+  b-is : frameAt (c .frames) ≡ frameAt (suc (length (m .callers)))
+  b-is = omega (arith, R .frames)
+
+  next : frameAt (c .frames) ≡ frameAt (c .frames - 1) + 72
+  next = omega (arith, R .frames)
+
+  room-left : frameAt (c .frames) + 72 ≤ length w
+  room-left = omega (arith, R .most, R .tables .size)
+
+  this-is : valueOf (m .frame) y ≡ o
+  this-is = sees R .values y ly ∙ sym eo
+
+  parameter-is : valueOf (m .frame) z ≡ p
+  parameter-is = sees R .values z lz ∙ sym ep
+
+  row-half : c .row < 65536
+  row-half = omega (arith, R .frame .row-fits, R .tables .rows)
+
+  ready-only : Only (frameAt (length (m .callers)) + 60) (frames-at + 8192) w (prepared w c method o p)
+  ready-only =
+      only-wide
+      (framed-only w (frameAt (c .frames - 1)) (frameAt (c .frames)) (c .holder) (c .row) method o p next room-left)
+      (omega (arith, a-is)) (omega (arith, R .most))
+
+  pub call-tables : SameTables w (prepared w c method o p)
+  call-tables = only-tables ready-only (omega arith)
+
+  pub call-kept : Represents (prepared w c method o p) c m
+  unfolding methodOf
+  call-kept =
+      above-kept R (prepared w c method o p) ready-only
+      (subst (λ (n : ℕ). byteAt (prepared w c method o p) (n + 66) ≡ byteAt w (n + 66)) a-is
+      (framed-before w (frameAt (c .frames - 1)) (frameAt (c .frames)) (c .holder) (c .row) method o p next room-left))
+
+  pub call-prepared : Prepared (prepared w c method o p) c m method (callFrame m (methodAt w method) y z)
+  unfolding callFrame methodAt methodOf savedHolder savedRow valueOf
+  call-prepared =
+      let u : List ℕ = prepared w c method o p in
+      let A : ℕ = frameAt (c .frames - 1) in
+      let B : ℕ = frameAt (c .frames) in
+      let lm : method < most-methods = omega (arith, exists, R .tables .methods) in
+      record {
+        exists = omega (arith, exists, methods-count-same w u call-tables);
+        holder =
+            subst (λ (n : ℕ). wordAt u (n + 60) ≡ c .holder) a-is
+            (framed-holder w A B (c .holder) (c .row) method o p next room-left lh);
+        row =
+            subst (λ (n : ℕ). halfAt u (n + 64) ≡ c .row) a-is
+            (framed-row w A B (c .holder) (c .row) method o p next room-left row-half);
+        is-method =
+            subst (λ (n : ℕ). byteAt u (n + 66) ≡ method) b-is (framed-method w A B (c .holder) (c .row) method o p next room-left);
+        size = entry-size (valueOf (m .frame) y) (valueOf (m .frame) z);
+        values = λ x l.
+            ap (λ (n : ℕ). getD (entryValues n (valueOf (m .frame) z)) x 0) this-is
+            ∙ (ap (λ (n : ℕ). getD (entryValues o n) x 0) parameter-is
+            ∙ (framed-values w A B (c .holder) (c .row) method o p next room-left lo lp x l ∙ ap (λ (n : ℕ). variableAt u n x) b-is));
+        rows = sym (rw (first-row-same w u call-tables method lm, all-same w u call-tables (R .tables)));
+        ensures = sym (ensures-same w u call-tables (R .tables) method exists);
+        held = refl;
+      }
+
+  -- requires as the code reads it, and as the definition has it
+  requires-is : methodAt w method .requires ≡ requiresAt (prepared w c method o p) method
+  unfolding methodAt
+  requires-is = sym (requires-same w (prepared w c method o p) call-tables (R .tables) method exists)
+
+  requires-ok : FormulaOk (requiresAt (prepared w c method o p) method)
+  unfolding requiresAt
+  requires-ok =
+      atoms-ok (prepared w c method o p) (call-kept .tables) _ _ (call-kept .tables .method-fits method (call-prepared .exists) .requires .1)
+
+  G : Frame
+  G = callFrame m (methodAt w method) y z
+
+  -- the test of `call`, once the receiver is known not to be null
+  after-null : (o ≡ 0 → ⊥) → (t : Try Stop Config) → check (not (eqb (valueOf (m .frame) y) 0)) nullFollowed >> t ≡ t
+  unfolding check _>>_
+  after-null n t = rw (ne-eqb _ 0 (λ e. n (sym this-is ∙ e)))
+
+  pub call-null : o ≡ 0 → Follows w c (Turn.Stopped Fault.Null) m (took (callStep y (methodAt w method) z m))
+  unfolding callStep check _>>_ stopOf
+  call-null e = follow-stop R Fault.Null _ (rw (eq-eqb _ 0 (this-is ∙ e)))
+
+  taken-by : (A : List Location) → footprint (m .heap) (callFrame m (methodAt w method) y z) (requiresAt (prepared w c method o p) method) ≡ ok A →
+      (q : Location) → T (among q A) → Holds (m .frame) q
+  unfolding callFrame holds
+  taken-by A e q t = footprint-held (m .heap) (callFrame m (methodAt w method) y z) _ A e q t
+
+  pub call-lacks :
+      (s : Fault) → (o ≡ 0 → ⊥) → takeIn (prepared w c method o p) (nextView c) (requiresAt (prepared w c method o p) method) [] ≡ no (stopOf s) →
+      Follows (prepared w c method o p) c (Turn.Stopped s) m (took (callStep y (methodAt w method) z m))
+  unfolding callStep _>>=_
+  call-lacks s n e =
+      let f = no-footprint (next-sees call-kept call-prepared) _ (stopOf s) requires-ok e in
+      let f′ : footprint (m .heap) (callFrame m (methodAt w method) y z) (methodAt w method .requires) ≡ no (stopOf s) =
+      ap (footprint (m .heap) (callFrame m (methodAt w method) y z)) requires-is ∙ f in
+      follow-stop-in R s _ (after-null n _ ∙ rw f′) call-kept
+
+  pub call-full :
+      (ks : List ℕ) → (o ≡ 0 → ⊥) → most-frames ≤ c .frames →
+      takeIn (prepared w c method o p) (nextView c) (requiresAt (prepared w c method o p) method) [] ≡ ok ks →
+      Follows (prepared w c method o p) c (Turn.Stopped Fault.FramesFull) m (took (callStep y (methodAt w method) z m))
+  unfolding callStep _>>=_ check _>>_ stopOf
+  call-full ks n l e =
+      let (A, f, M) = ok-footprint (next-sees call-kept call-prepared) _ ks requires-ok e in
+      let f′ : footprint (m .heap) (callFrame m (methodAt w method) y z) (methodAt w method .requires) ≡ ok A =
+      ap (footprint (m .heap) (callFrame m (methodAt w method) y z)) requires-is ∙ f in
+      follow-stop-in R Fault.FramesFull _ (after-null n _ ∙ rw (f′, le-ltb (suc (length (m .callers))) most-frames (omega (arith, R .frames)))) call-kept
+
+  pub call-small :
+      (ks : List ℕ) → takeIn (prepared w c method o p) (nextView c) (requiresAt (prepared w c method o p) method) [] ≡ ok ks → SmallCells ks
+  call-small ks e = let (A, f, M) = ok-footprint (next-sees call-kept call-prepared) _ ks requires-ok e in M .small
+
+  pub call-enters :
+      (ks : List ℕ) → (o ≡ 0 → ⊥) → c .frames < most-frames → kindAt w (c .row) ≡ 11 → c .steps < 4294967295 →
+      takeIn (prepared w c method o p) (nextView c) (requiresAt (prepared w c method o p) method) [] ≡ ok ks →
+      Follows (marked (prepared w c method o p) ks (c .holders + 1)) c
+      (Turn.On (called c (firstRowAt (prepared w c method o p) method))) m (took (callStep y (methodAt w method) z m))
+  unfolding callStep _>>=_ check _>>_
+  call-enters ks n l k h e =
+      let (A, f, M) = ok-footprint (next-sees call-kept call-prepared) _ ks requires-ok e in
+      let f′ : footprint (m .heap) (callFrame m (methodAt w method) y z) (methodAt w method .requires) ≡ ok A =
+      ap (footprint (m .heap) (callFrame m (methodAt w method) y z)) requires-is ∙ f in
+      let k′ : kindAt (prepared w c method o p) (c .row) ≡ 11 =
+      kind-same w (prepared w c method o p) call-tables (c .row) (omega (arith, R .frame .row-fits, R .tables .rows)) ∙ k in
+      follow-on R _ _ _ (after-null n _ ∙ rw (f′, lt-ltb (suc (length (m .callers))) most-frames (omega (arith, R .frames)))) refl
+      (enters call-kept call-prepared A ks M (taken-by A f) (omega (arith, R .given, R .most)) k′ l)

@@ -155,6 +155,11 @@ module _ {w : List ℕ} {c : Machine} {m : Config} (R : Represents w c m) where
   unfolding took
   follow-stop f t e = (rw e, R)
 
+  pub follow-stop-in :
+      (f : Fault) (t : Try Stop Config) {w′ : List ℕ} → t ≡ no (stopOf f) → Represents w′ c m → Follows w′ c (Turn.Stopped f) m (took t)
+  unfolding took
+  follow-stop-in f t e I = (rw e, I)
+
   pub follow-on :
       (d : Machine) (t : Try Stop Config) (n : Config) {w′ : List ℕ} → t ≡ ok n → d .steps ≡ c .steps + 1 → Represents w′ d n →
       Follows w′ c (Turn.On d) m (took t)

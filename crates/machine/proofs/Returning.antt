@@ -26,6 +26,7 @@ use Rattle.tables.proofs.Bytes.{same-trans, same-refl}
 use Rattle.tables.proofs.Decoding.{tables-same, all-same, rows-count-same, kind-same}
 use Rattle.machine.specs.declared.Fault.{Fault}
 use Rattle.machine.specs.declared.Turn.{Turn}
+use Rattle.machine.specs.declared.View.{View}
 use Rattle.machine.specs.Views.{frameAt, variableAt, savedHolder, savedRow, methodOf, holderOf, takeIn, marked, viewOf, stopOf, SmallCells}
 use Rattle.machine.specs.States.{FrameIs, EnsuresIs, CallerIs, CallersAre, Represents, Follows, Does, Ready, back, atRow}
 use Rattle.machine.proofs.Seeing.{Matches, FormulaOk, no-footprint, ok-footprint, atoms-ok, bool-iff}
@@ -73,7 +74,7 @@ module _ {w : List ℕ} {c : Machine} {h : _} {F C : Frame} {Cs : List Frame}
       let v : ℕ = savedHolder w (length Cs) in
       let w′ : List ℕ = marked w ks v in
       let s : Only holders-at seconds-at w w′ =
-          marks-only w (c .objects) (c .fields) (R .tables) (R .heap .fit) (R .heap .most-objects) (R .heap .most-fields) A ks v l M in
+      marks-only w (c .objects) (c .fields) (R .tables) (R .heap .fit) (R .heap .most-objects) (R .heap .most-fields) A ks v l M in
       let t : SameTables w w′ = only-tables s (omega arith) in
       record {
         tables = tables-same w w′ t (R .tables);
@@ -138,7 +139,7 @@ module _ {w : List ℕ} {c : Machine} {h : _} {F C : Frame} {Cs : List Frame}
       let R2 = put-variable R1 x v lx lv in
       let t1 : SameTables w (marked w ks n) = only-tables (only-marked w ks n (M .small)) (omega arith) in
       let t2 : SameTables (marked w ks n) (putWord (marked w ks n) (frameAt (length Cs) + x * 4) v) =
-          only-tables (only-word frames-at (frames-at + 8192) (marked w ks n) (frameAt (length Cs) + x * 4) v (omega arith) (omega (arith, R .most, R .frames))) (omega arith) in
+      only-tables (only-word frames-at (frames-at + 8192) (marked w ks n) (frameAt (length Cs) + x * 4) v (omega arith) (omega (arith, R .most, R .frames))) (omega arith) in
       let k : kindAt (putWord (marked w ks n) (frameAt (length Cs) + x * 4) v) (savedRow w (length Cs)) ≡ 11 = row-stays _ (same-trans t1 t2) in
       let target : targetOf (rowOf C .stmt) ≡ x = ap (λ (r : Row). targetOf (r .stmt)) (row-of (caller .frame)) ∙ target-is in
       follow-on R (back c n (savedRow w (length Cs) + 1)) _ _ (rw (a′, target, ← ev)) refl
@@ -240,3 +241,17 @@ module _ {w : List ℕ} {c : Machine} (ready : Ready w c) where
             rw (i, r′, n′, x′)
             (returns-on R ks v (subst (λ (k : ℕ). k < 4294967296) n′ ln) lv (ev ∙ sym (sees R .values result-variable (omega arith)))
             (subst (λ (k : ℕ). k < frame-variables) x′ xl) (rw j e))
+
+    -- the atoms of ensures
+    module _ (mt a n : ℕ) (em : mt ≡ methodOf w (c .frames - 1)) (ea : a ≡ halfAt w (methodPlace mt + 4)) (en : n ≡ byteAt w (methodPlace mt + 3)) where
+      pub end-method : mt < methodCount w
+      end-method = omega (arith, em, last-saved .1)
+
+      pub end-atoms : (a + n ≤ atomCount w) × (n ≤ 8)
+      end-atoms =
+          let f = ready .represents .tables .method-fits mt end-method .ensures in
+          (omega (arith, f .1, ea, en), omega (arith, f .0, en))
+
+      pub end-takes : (v : View) → v ≡ viewOf c → takeIn w v (atomsFrom w a n) [] ≡ takeIn w (viewOf c) (ensuresAt w (methodOf w (c .frames - 1))) []
+      unfolding ensuresAt
+      end-takes v ev = rw (ev, ea, en, em)

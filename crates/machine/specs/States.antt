@@ -5,17 +5,18 @@ use mathlib.Core.Logic.{_⊎_}
 use mathlib.Core.Option.{some}
 use Prim.Native.Nat.{ℕ, suc, _+_, _-_, _*_, _≤_, _<_}
 use lib.Dec.{T, eqb}
-use lib.ListN.{length, drop}
-use Rattle.rules.specs.Limits.{heap-objects, heap-fields, most-frames}
-use Rattle.rules.specs.Base.{any}
+use lib.ListN.{length, take, drop}
+use Rattle.rules.specs.Limits.{heap-objects, heap-fields, most-frames, most-methods, work-bytes}
+use Rattle.rules.specs.Base.{any, ok, no}
 use Rattle.rules.specs.Machine.{Heap, Frame, Location, Config, Step, fieldsOf, valueAt, object, valueOf, holds, on, stop, done}
 use Rattle.rules.specs.declared.Machine.{Machine}
 use Rattle.tables.specs.Layout.{frame-variables}
-use Rattle.tables.specs.Decode.{allRows, rowCount, kindAt, methodCount, ensuresAt, fieldCountAt}
+use Rattle.tables.specs.Decode.{allRows, rowCount, kindAt, methodCount, requiresAt, ensuresAt, firstRowAt, fieldCountAt}
 use Rattle.tables.specs.Tables.{Tables}
 use Rattle.tables.specs.Stores.{SameTables}
+use Rattle.machine.specs.declared.Fault.{Fault}
 use Rattle.machine.specs.declared.Turn.{Turn}
-use Rattle.machine.specs.Views.{frameAt, variableAt, savedHolder, savedRow, methodOf, cellValue, cellHolder, classIn, firstIn, cellOf, holderOf, ObjectFits, stopOf}
+use Rattle.machine.specs.Views.{frameAt, variableAt, savedHolder, savedRow, methodOf, cellValue, cellHolder, classIn, firstIn, cellOf, holderOf, ObjectFits, marked, takeIn, viewOf, nextView, SmallCells, Readable, stopOf}
 
 -- so many objects with so many fields stand for the heap; no cell is held by a number above `holders`
 pub record HeapIs (w : List ℕ) (objects fields holders : ℕ) (h : Heap) : Type 0 where
@@ -128,6 +129,13 @@ called c row =
       steps = c .steps + 1;
     }
 
+-- a call is entered with these cells, unless frames are full
+abbrev pub Enters : List ℕ → Machine → ℕ → List ℕ → List ℕ → Turn → Type 0
+Enters w c method ks w′ (Turn.On d) =
+    (c .frames < most-frames) × (w′ ≡ marked w ks (c .holders + 1)) × (d ≡ called c (firstRowAt w method))
+Enters w c method ks w′ (Turn.Stopped f) = (most-frames ≤ c .frames) × (w′ ≡ w) × (f ≡ Fault.FramesFull)
+Enters w c method ks w′ Turn.Done = ⊥
+
 -- an object more, with n fields
 abbrev pub larger : Machine → ℕ → ℕ → Machine
 larger c n steps =
@@ -154,3 +162,35 @@ NotEnd w c = kindAt w (c .row) ≡ 18 → ⊥
 -- the row is of this kind
 abbrev pub AtKind : List ℕ → Machine → ℕ → Type 0
 AtKind w c k = kindAt w (c .row) ≡ k
+
+-- `end` of a call: ensures took these cells
+pub record Leaving (w : List ℕ) (c : Machine) (cells : List ℕ) (n : ℕ) : Type 0 where
+  pub ready : Ready w c
+  pub inner : c .frames ≡ 1 → ⊥
+  pub size : length cells ≡ 8
+  pub count : n ≤ 8
+  pub took : takeIn w (viewOf c) (ensuresAt w (methodOf w (c .frames - 1))) [] ≡ ok (take n cells)
+
+-- `call`: requires took these cells
+pub record Entering (w : List ℕ) (c : Machine) (method : ℕ) (cells : List ℕ) (n : ℕ) : Type 0 where
+  pub area : length w ≡ work-bytes
+  pub method-fits : method < most-methods
+  pub more : c .steps < 4294967295
+  pub numbers : c .holders < 4294967295
+  pub size : length cells ≡ 8
+  pub count : n ≤ 8
+  pub small : SmallCells (take n cells)
+
+-- requires takes cells, and the call is entered; or it does not, and nothing is changed
+abbrev pub Admits : List ℕ → Machine → ℕ → List ℕ → Turn → Type 0
+Admits w c method w′ r =
+    ((ks : List ℕ) × (takeIn w (nextView c) (requiresAt w method) [] ≡ ok ks) × Enters w c method ks w′ r)
+    ⊎ ((s : Fault) × (takeIn w (nextView c) (requiresAt w method) [] ≡ no (stopOf s)) × (r ≡ Turn.Stopped s) × (w′ ≡ w))
+
+-- `call` with the next frame in its place
+pub record Calling (w : List ℕ) (c : Machine) (method : ℕ) : Type 0 where
+  pub readable : Readable w (nextView c)
+  pub exists : method < methodCount w
+  pub more : c .steps < 4294967295
+  pub numbers : c .holders < 4294967295
+  pub small : (ks : List ℕ) → takeIn w (nextView c) (requiresAt w method) [] ≡ ok ks → SmallCells ks

@@ -6,7 +6,7 @@ ghost use mathlib.Core.List.{[], _∷_};
 ghost use mathlib.Core.Option.{some};
 ghost use Prim.Native.Nat.{ℕ, suc, _+_, _*_, _-_, _≤_, _<_};
 ghost use lib.ListN.{length, take};
-ghost use Rattle.rules.specs.Limits.{work-bytes, most-statements, most-frames, heap-objects, heap-fields};
+ghost use Rattle.rules.specs.Limits.{work-bytes, most-statements, most-methods, most-frames, heap-objects, heap-fields};
 ghost use Rattle.tables.specs.Layout.{most-names, frame-variables};
 ghost use Rattle.tables.specs.Decode.{leftAt, rightAt, relOf, atomsFrom, atomCount, atomAt};
 ghost use Rattle.rules.specs.Base.{any, ok};
@@ -14,10 +14,10 @@ ghost use Rattle.rules.specs.Machine.{compared};
 ghost use Rattle.tables.specs.Stores.{meaning};
 ghost use Rattle.rules.specs.Machine.{took, on, withFrame, jump, toJoin, setStep, assignStep, newStep, callStep, ifStep, assertStep, releaseStep, endStep};
 ghost use Rattle.rules.specs.Syntax.{var, result-variable};
-ghost use Rattle.tables.specs.Decode.{byteAt, atomPlace, xAt, yAt, zAt, memberAt, firstAtomAt, formulaAt};
-ghost use Rattle.machine.specs.States.{Ready, NotEnd, AtKind, Does, stepped};
+ghost use Rattle.tables.specs.Decode.{byteAt, atomPlace, xAt, yAt, zAt, memberAt, firstAtomAt, formulaAt, methodAt};
+ghost use Rattle.machine.specs.States.{Ready, NotEnd, AtKind, Does, Leaving, Entering, Enters, Calling, Admits, stepped, back, called};
 ghost use lib.Dec.{eqb};
-ghost use Rattle.machine.specs.Views.{frameAt, variableAt, cellValue, cellHolder, classIn, firstIn, heldCell, cellOf, spotOf, spot, readIn, rightTest, testIn, PlainIs, newCells, accIn, takeIn, SmallCells, fill, marked, spotIs, readIs, truthIs, tookIs, TookUpTo, ObjectFits, ExprFits, Readable, viewOf};
+ghost use Rattle.machine.specs.Views.{frameAt, variableAt, savedHolder, savedRow, methodOf, prepared, nextView, cellValue, cellHolder, classIn, firstIn, heldCell, cellOf, spotOf, spot, readIn, rightTest, testIn, PlainIs, newCells, accIn, takeIn, SmallCells, fill, marked, spotIs, readIs, truthIs, tookIs, TookUpTo, ObjectFits, ExprFits, Readable, viewOf};
 
 // Whose variables are read, where the heap ends, and who holds.
 pub struct View {
@@ -477,4 +477,163 @@ fn set_step(work: &mut [u8], c: Machine) -> Turn
         }
         Spot::Lacking(s) => Turn::Stopped(s),
     }
+}
+
+fn saved_holder(work: &[u8], i: usize) -> u32
+    requires { ⌜ (length (now work) ≡ work-bytes) × (i < most-frames) ⌝ }
+    ensures { λ r. ⌜ r ≡ savedHolder (now (work .entry)) i ⌝ }
+{
+    tables::word_at(work, Layout::FRAMES + i * Layout::FRAME_BYTES + 60)
+}
+
+fn saved_row(work: &[u8], i: usize) -> usize
+    requires { ⌜ (length (now work) ≡ work-bytes) × (i < most-frames) ⌝ }
+    ensures { λ r. ⌜ (r ≡ savedRow (now (work .entry)) i) × (r < 65536) ⌝ }
+{
+    tables::half_at(work, Layout::FRAMES + i * Layout::FRAME_BYTES + 64)
+}
+
+fn method_of(work: &[u8], i: usize) -> usize
+    requires { ⌜ (length (now work) ≡ work-bytes) × (i < most-frames) ⌝ }
+    ensures { λ r. ⌜ r ≡ methodOf (now (work .entry)) i ⌝ }
+{
+    tables::byte_at(work, Layout::FRAMES + i * Layout::FRAME_BYTES + 66)
+}
+
+// One step more, back in the caller.
+fn back_in(c: Machine, holder: u32, row: u32) -> Machine
+    requires { ⌜ (c .steps < 4294967295) × (1 ≤ c .frames) ⌝ }
+    ensures { λ r. ⌜ r ≡ back c holder row ⌝ }
+{
+    Machine {
+        objects: c.objects,
+        fields: c.fields,
+        frames: c.frames - 1,
+        row: row,
+        holder: holder,
+        holders: c.holders,
+        steps: c.steps + 1,
+    }
+}
+
+// The caller goes on with the cells that ensures took, and its x is the result.
+fn leave(work: &mut [u8], c: Machine, cells: &[usize; 8], n: usize) -> Turn
+    requires { ⌜ Leaving (now work) c (now cells) n ⌝ }
+    ensures { λ r. ⌜ Does (now (work .entry)) c (now (work .exit)) r (λ m. endStep m (m .callers)) ⌝ }
+{
+    let i = (c.frames - 2) as usize;
+    let at = Layout::FRAMES + i * Layout::FRAME_BYTES;
+    let holder = saved_holder(work, i);
+    let row = saved_row(work, i);
+    let result = variable(work, at + Layout::FRAME_BYTES, 14);
+    let x = tables::x_at(work, row);
+    mark(work, cells, n, holder);
+    tables::put_word(work, at + x * 4, result);
+    Turn::On(back_in(c, holder, row as u32 + 1))
+}
+
+// `end`: "ensures, then the caller gains its footprint, and x the result; the rest of that A is lost".
+fn end_step(work: &mut [u8], c: Machine) -> Turn
+    requires { ⌜ Ready (now work) c ⌝ }
+    ensures { λ r. ⌜ Does (now (work .entry)) c (now (work .exit)) r (λ m. endStep m (m .callers)) ⌝ }
+{
+    if c.frames == 1 {
+        return Turn::Done;
+    }
+    let i = (c.frames - 1) as usize;
+    let v = view_of(c);
+    let m = method_of(work, i);
+    let first = tables::ensures_first(work, m);
+    let n = tables::ensures_count(work, m);
+    let mut cells = [0usize; 8];
+    match footprint(work, v, first, n, &mut cells) {
+        Took::Cells(k) => leave(work, c, &cells, k),
+        Took::Lacking(s) => Turn::Stopped(s),
+    }
+}
+
+// The place of the next frame, and what the running one must keep.
+fn prepare(work: &mut [u8], c: Machine, m: usize, o: u32, p: u32)
+    requires { ⌜ (length (now work) ≡ work-bytes) × (((1 ≤ c .frames) × (c .frames ≤ most-frames)) × ((c .row < most-statements) × (m < most-methods))) ⌝ }
+    ensures { λ _. ⌜ now (work .exit) ≡ prepared (now (work .entry)) c m o p ⌝ }
+{
+    let i = (c.frames - 1) as usize;
+    let j = c.frames as usize;
+    let a = Layout::FRAMES + i * Layout::FRAME_BYTES;
+    let b = Layout::FRAMES + j * Layout::FRAME_BYTES;
+    fill_words(work, b, 15, 0);
+    tables::put_word(work, b, o);
+    tables::put_word(work, b + 4, p);
+    tables::put_word(work, a + 60, c.holder);
+    tables::put_half(work, a + 64, c.row as usize);
+    tables::put_byte(work, b + 66, m);
+}
+
+// One step more, in a call that holds by a new number.
+fn call_in(c: Machine, row: u32) -> Machine
+    requires { ⌜ (c .steps < 4294967295) × ((c .frames < most-frames) × (c .holders < 4294967295)) ⌝ }
+    ensures { λ r. ⌜ r ≡ called c row ⌝ }
+{
+    Machine {
+        objects: c.objects,
+        fields: c.fields,
+        frames: c.frames + 1,
+        row: row,
+        holder: c.holders + 1,
+        holders: c.holders + 1,
+        steps: c.steps + 1,
+    }
+}
+
+// "the new frame's A is the footprint of requires": after it frames full.
+fn enter(work: &mut [u8], c: Machine, m: usize, cells: &[usize; 8], n: usize) -> Turn
+    requires { ⌜ Entering (now work) c m (now cells) n ⌝ }
+    ensures { λ r. ⌜ Enters (now (work .entry)) c m (take n (now (cells .entry))) (now (work .exit)) r ⌝ }
+{
+    if 64 <= c.frames {
+        return Turn::Stopped(Fault::FramesFull);
+    }
+    let row = tables::first_row_at(work, m);
+    mark(work, cells, n, c.holders + 1);
+    Turn::On(call_in(c, row as u32))
+}
+
+// Requires, over the values in the next frame's place and what the running frame holds.
+fn admit(work: &mut [u8], c: Machine, m: usize) -> Turn
+    requires { ⌜ Calling (now work) c m ⌝ }
+    ensures { λ r. ⌜ Admits (now (work .entry)) c m (now (work .exit)) r ⌝ }
+{
+    let j = c.frames as usize;
+    let v = View {
+        base: Layout::FRAMES + j * Layout::FRAME_BYTES,
+        objects: c.objects as usize,
+        holder: c.holder,
+    };
+    let first = tables::requires_first(work, m);
+    let n = tables::requires_count(work, m);
+    let mut cells = [0usize; 8];
+    match footprint(work, v, first, n, &mut cells) {
+        Took::Cells(k) => enter(work, c, m, &cells, k),
+        Took::Lacking(s) => Turn::Stopped(s),
+    }
+}
+
+// `call`: "null receiver, then requires, then frames full".
+fn call_step(work: &mut [u8], c: Machine) -> Turn
+    requires { ⌜ Ready (now work) c × AtKind (now work) c 11 ⌝ }
+    ensures { λ r. ⌜ Does (now (work .entry)) c (now (work .exit)) r (λ m. took (callStep (yAt (now (work .entry)) (c .row)) (methodAt (now (work .entry)) (memberAt (now (work .entry)) (c .row))) (zAt (now (work .entry)) (c .row)) m)) ⌝ }
+{
+    let row = c.row as usize;
+    let v = view_of(c);
+    let b = v.base;
+    let y = tables::y_at(work, row);
+    let o = variable(work, b, y);
+    if o == 0 {
+        return Turn::Stopped(Fault::Null);
+    }
+    let z = tables::z_at(work, row);
+    let p = variable(work, b, z);
+    let m = tables::member_at(work, row);
+    prepare(work, c, m, o, p);
+    admit(work, c, m)
 }

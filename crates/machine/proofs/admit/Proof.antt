@@ -1,0 +1,84 @@
+use borrow.Author.Needs.{needs}
+use Rattle.machine.proofs.admit.Statement.{statement}
+use Rattle.machine.proofs.admit.Tie as tie
+use Rattle.machine.proofs.admit.Reads as reads
+use Rattle.machine.proofs.admit.Lts as lts
+use Rattle.machine.proofs.enter.Reads as enter-reads
+use Rattle.machine.proofs.footprint.Reads as footprint-reads
+use Rattle.tables.proofs.requires_count.Reads as requires-count-reads
+use Rattle.tables.proofs.requires_first.Reads as requires-first-reads
+
+-- src/lib.rt:606:13
+cast-j : tie.Need-cast-j
+cast-j c = search needs
+
+-- src/lib.rt:608:32
+mul-t11 : tie.Need-mul-t11
+mul-t11 c = search needs
+
+-- src/lib.rt:608:15
+add-t12 : tie.Need-add-t12
+add-t12 c = search needs
+
+-- src/lib.rt:609:18
+cast-t13 : tie.Need-cast-t13
+cast-t13 c = search needs
+
+-- src/lib.rt:612:9
+requires-first-requires : tie.Need-requires-first-requires
+requires-first-requires c κs = search needs
+
+-- src/lib.rt:613:9
+requires-count-requires : tie.Need-requires-count-requires
+requires-count-requires c κs = search needs
+
+-- src/lib.rt:615:11
+footprint-requires : tie.Need-footprint-requires
+footprint-requires c κs = ?
+
+-- src/lib.rt:616:21
+enum-known-k : tie.Need-enum-known-k
+enum-known-k c = search needs
+
+-- src/lib.rt:616:27
+enter-requires : tie.Need-enter-requires
+enter-requires c κs = ?
+
+-- src/lib.rt:617:23
+enum-known-s : tie.Need-enum-known-s
+enum-known-s c = search needs
+
+-- src/lib.rt:602:1
+same-length : tie.Need-same-length
+same-length c = search needs
+
+-- src/lib.rt:602:1
+returns : tie.Need-returns
+returns c = ?
+
+-- src/lib.rt:602:1
+same-length-2 : tie.Need-same-length-2
+same-length-2 c = search needs
+
+-- src/lib.rt:602:1
+returns-2 : tie.Need-returns-2
+returns-2 c = ?
+
+pub admit-spec : {M : Type 1} → statement M
+admit-spec =
+    tie.close
+    (tie.spec
+    cast-j
+    mul-t11
+    add-t12
+    cast-t13
+    requires-first-requires
+    requires-count-requires
+    footprint-requires
+    enum-known-k
+    enter-requires
+    enum-known-s
+    same-length
+    returns
+    same-length-2
+    returns-2)
