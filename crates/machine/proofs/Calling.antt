@@ -14,28 +14,29 @@ use Rattle.rules.specs.Limits.{work-bytes, heap-objects, heap-fields, most-fram
 use Rattle.rules.specs.Base.{Try, ok, no, _>>=_, _>>_, check, any}
 use Rattle.rules.specs.Answers.{Stop, framesFull, nullFollowed}
 use Rattle.rules.specs.Syntax.{Row, Formula, Method, noMethod}
-use Rattle.rules.specs.Machine.{Heap, Frame, Location, Config, took, holds, among, without, valueOf, footprint, holding, entryValues, callFrame, entered, callStep}
+use Rattle.rules.specs.Machine.{Heap, Frame, Location, Config, Step, took, holds, among, without, valueOf, footprint, holding, entryValues, callFrame, entered, callStep}
 use Rattle.rules.specs.declared.Machine.{Machine}
 use Rattle.rules.proofs.Lists.{T-true, F-false}
 use Rattle.rules.proofs.Sets.{Holds, footprint-held, holds-in, in-holds}
 use Rattle.tables.specs.Layout.{frame-variables, names-at, values-at, holders-at, seconds-at, objects-at, frames-at}
-use Rattle.tables.specs.Decode.{byteAt, halfAt, wordAt, allRows, rowCount, kindAt, methodCount, methodAt, requiresAt, ensuresAt, firstRowAt, programIn}
+use Rattle.tables.specs.Decode.{byteAt, halfAt, wordAt, yAt, zAt, memberAt, methodPlace, atomsFrom, atomCount, allRows, rowCount, kindAt, methodCount, methodAt, requiresAt, ensuresAt, firstRowAt, programIn}
 use Rattle.tables.specs.Tables.{Tables}
 use Rattle.tables.specs.Stores.{SameTables, putHalf, putWord}
-use Rattle.tables.proofs.Bytes.{word-put, half-put, word-kept, half-kept, put-word-length, put-half-length}
+use Rattle.tables.proofs.Bytes.{same-refl, same-trans}
 use Rattle.tables.proofs.Decoding.{tables-same, all-same, rows-count-same, kind-same, methods-count-same, first-row-same, ensures-same, requires-same}
 use Rattle.machine.specs.declared.View.{View}
 use Rattle.machine.specs.declared.Fault.{Fault}
 use Rattle.machine.specs.declared.Turn.{Turn}
 use Rattle.machine.specs.Views.{frameAt, variableAt, savedHolder, savedRow, methodOf, cellHolder, cellOf, holderIn, holderOf, fill, marked, framed, prepared, nextView, takeIn, viewOf, stopOf, SmallCells}
-use Rattle.machine.specs.States.{HeapIs, FrameIs, EnsuresIs, CallerIs, CallersAre, Represents, Follows, called}
+use Rattle.machine.specs.States.{HeapIs, FrameIs, EnsuresIs, CallerIs, CallersAre, Represents, Follows, Does, Ready, AtKind, Calling, Admits, called}
 use Rattle.machine.proofs.Reading.{cell-small}
 use Rattle.machine.proofs.Seeing.{Sees, Matches, FormulaOk, no-footprint, ok-footprint, atoms-ok, bool-iff}
 use Rattle.machine.proofs.Regions.{Only, only-trans, only-wide, only-word, only-half, only-byte, only-fill, only-tables, only-kept, only-marked, fill-word, variable-kept, saved-holder-kept, value-kept, holder-kept}
 use Rattle.machine.proofs.Keeping.{SameObjects, SameFrame, same-objects, same-frame, holder-of-kept, frame-kept, ensures-kept, callers-kept, heap-kept}
-use Rattle.machine.proofs.Moves.{sees, follow-stop, follow-stop-in, follow-on}
+use Rattle.machine.proofs.Moves.{sees, readable, follow-stop, follow-stop-in, follow-on}
 use Rattle.machine.proofs.Changes.{other-variable, this-variable, holds-without, marks-only, marks-tables, holder-marked, taken-held, others-kept, heap-marked}
 use Rattle.machine.proofs.Steps.{frame-holding}
+use Rattle.machine.proofs.Doing.{does-on, does-stop, fits}
 use Rattle.machine.proofs.Framing.{framed-only, framed-before, framed-method, framed-holder, framed-row, framed-values}
 
 module _ {w : List ℕ} {c : Machine} {m : Config} (R : Represents w c m) where
@@ -302,10 +303,6 @@ module _ {w : List ℕ} {c : Machine} {m : Config} (R : Represents w c m) (y z m
   unfolding check _>>_
   after-null n t = rw (ne-eqb _ 0 (λ e. n (sym this-is ∙ e)))
 
-  pub call-null : o ≡ 0 → Follows w c (Turn.Stopped Fault.Null) m (took (callStep y (methodAt w method) z m))
-  unfolding callStep check _>>_ stopOf
-  call-null e = follow-stop R Fault.Null _ (rw (eq-eqb _ 0 (this-is ∙ e)))
-
   taken-by : (A : List Location) → footprint (m .heap) (callFrame m (methodAt w method) y z) (requiresAt (prepared w c method o p) method) ≡ ok A →
       (q : Location) → T (among q A) → Holds (m .frame) q
   unfolding callFrame holds
@@ -350,3 +347,100 @@ module _ {w : List ℕ} {c : Machine} {m : Config} (R : Represents w c m) (y z m
       kind-same w (prepared w c method o p) call-tables (c .row) (omega (arith, R .frame .row-fits, R .tables .rows)) ∙ k in
       follow-on R _ _ _ (after-null n _ ∙ rw (f′, lt-ltb (suc (length (m .callers))) most-frames (omega (arith, R .frames)))) refl
       (enters call-kept call-prepared A ks M (taken-by A f) (omega (arith, R .given, R .most)) k′ l)
+
+-- THE CODE
+module _ {w : List ℕ} {c : Machine} (ready : Ready w c) (k : AtKind w c 11) (y z method o p : ℕ)
+    (ey : y ≡ yAt w (c .row)) (ez : z ≡ zAt w (c .row)) (em : method ≡ memberAt w (c .row))
+    (eo : o ≡ variableAt w (frameAt (c .frames - 1)) y) (ep : p ≡ variableAt w (frameAt (c .frames - 1)) z)
+    (lo : o < 4294967296) (lp : p < 4294967296) where
+  exists : method < methodCount w
+  exists = omega (arith, em, fits ready .method k)
+
+  ly : y < frame-variables
+  ly = omega (arith, ey, fits ready .y)
+
+  lz : z < frame-variables
+  lz = omega (arith, ez, fits ready .z)
+
+  numbers : c .holders + 1 < 4294967296
+  numbers = omega (arith, ready .represents .given, ready .represents .most, ready .more)
+
+  lh : c .holder < 4294967296
+  lh = omega (arith, ready .represents .last, numbers)
+
+  step-is : (m : Config) → took (callStep y (methodAt w method) z m) ≡ took (callStep (yAt w (c .row)) (methodAt w (memberAt w (c .row))) (zAt w (c .row)) m)
+  step-is m = rw (ey, ez, em)
+
+  follow-as :
+      (w′ : List ℕ) (r : Turn) (m : Config) → Follows w′ c r m (took (callStep y (methodAt w method) z m)) →
+      Follows w′ c r m (took (callStep (yAt w (c .row)) (methodAt w (memberAt w (c .row))) (zAt w (c .row)) m))
+  follow-as w′ r m f = subst (Follows w′ c r m) (step-is m) f
+
+  tables-too : SameTables w (prepared w c method o p)
+  tables-too = call-tables (ready .represents) y z method o p exists ly lz eo ep lo lp lh
+
+  pub calling : Calling (prepared w c method o p) c method
+  calling =
+      let R = ready .represents in
+      let K = call-kept R y z method o p exists ly lz eo ep lo lp lh in
+      record {
+        readable =
+            record {
+              tables = K .tables;
+              base = omega (arith, R .most);
+              objects = K .heap .most-objects;
+              object = readable K .object;
+            };
+        exists = call-prepared R y z method o p exists ly lz eo ep lo lp lh .exists;
+        more = ready .more;
+        numbers = omega (arith, numbers);
+        small = λ ks e. call-small R y z method o p exists ly lz eo ep lo lp lh ks e;
+      }
+
+  stopped-at :
+      (w′ : List ℕ) (s : Fault) → w′ ≡ prepared w c method o p →
+      ((m : Config) → Represents w c m → Follows (prepared w c method o p) c (Turn.Stopped s) m (took (callStep y (methodAt w method) z m))) →
+      Does w c w′ (Turn.Stopped s) (λ m. took (callStep (yAt w (c .row)) (methodAt w (memberAt w (c .row))) (zAt w (c .row)) m))
+  stopped-at w′ s q h =
+      record {
+        tables = subst (SameTables w) (sym q) tables-too;
+        follows = λ m R. follow-as w′ (Turn.Stopped s) m (subst (λ u. Follows u c (Turn.Stopped s) m (took (callStep y (methodAt w method) z m))) (sym q) (h m R));
+      }
+
+  pub calls :
+      (w′ : List ℕ) (r : Turn) → (o ≡ 0 → ⊥) → Admits (prepared w c method o p) c method w′ r →
+      Does w c w′ r (λ m. took (callStep (yAt w (c .row)) (methodAt w (memberAt w (c .row))) (zAt w (c .row)) m))
+  calls w′ (Turn.On d) n (inl (ks, e, (l, q, g))) =
+      does-on q g
+      (same-trans tables-too
+      (only-tables (only-marked (prepared w c method o p) ks (c .holders + 1) (calling .small ks e)) (omega arith)))
+      (λ m R. follow-as _ (Turn.On (called c (firstRowAt (prepared w c method o p) method))) m (call-enters R y z method o p exists ly lz eo ep lo lp lh ks n l k (ready .more) e))
+  calls w′ (Turn.Stopped f) n (inl (ks, e, (l, q, g))) =
+      subst (λ s. Does w c w′ (Turn.Stopped s) (λ m. took (callStep (yAt w (c .row)) (methodAt w (memberAt w (c .row))) (zAt w (c .row)) m))) (sym g)
+      (stopped-at w′ Fault.FramesFull q (λ m R. call-full R y z method o p exists ly lz eo ep lo lp lh ks n l e))
+  calls w′ Turn.Done n (inl (ks, e, b)) = absurd b
+  calls w′ r n (inr (s, e, g, q)) =
+      subst (λ t. Does w c w′ t (λ m. took (callStep (yAt w (c .row)) (methodAt w (memberAt w (c .row))) (zAt w (c .row)) m))) (sym g)
+      (stopped-at w′ s q (λ m R. call-lacks R y z method o p exists ly lz eo ep lo lp lh s n e))
+
+-- requires as the code reads it
+module _ {w : List ℕ} {c : Machine} (method a n : ℕ) (C : Calling w c method) (ea : a ≡ halfAt w (methodPlace method)) (en : n ≡ byteAt w (methodPlace method + 2)) where
+  pub requires-atoms : (a + n ≤ atomCount w) × (n ≤ 8)
+  requires-atoms =
+      let f = C .readable .tables .method-fits method (C .exists) .requires in
+      (omega (arith, f .1, ea, en), omega (arith, f .0, en))
+
+  pub requires-takes : takeIn w (nextView c) (atomsFrom w a n) [] ≡ takeIn w (nextView c) (requiresAt w method) []
+  unfolding requiresAt
+  requires-takes = rw (ea, en)
+
+pub call-null-does :
+    {w : List ℕ} {c : Machine} (ready : Ready w c) → AtKind w c 11 → (y o : ℕ) → y ≡ yAt w (c .row) →
+    o ≡ variableAt w (frameAt (c .frames - 1)) y → o ≡ 0 →
+    Does w c w (Turn.Stopped Fault.Null) (λ m. took (callStep (yAt w (c .row)) (methodAt w (memberAt w (c .row))) (zAt w (c .row)) m))
+unfolding callStep check _>>_ stopOf
+call-null-does {w} {c} ready k y o ey eo e =
+    does-stop Fault.Null
+    (λ m R.
+    follow-stop R Fault.Null (callStep (yAt w (c .row)) (methodAt w (memberAt w (c .row))) (zAt w (c .row)) m)
+    (rw (eq-eqb (valueOf (m .frame) (yAt w (c .row))) 0 (sees R .values (yAt w (c .row)) (fits ready .y) ∙ (ap (variableAt w (frameAt (c .frames - 1))) (sym ey) ∙ (sym eo ∙ e))))))

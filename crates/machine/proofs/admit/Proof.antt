@@ -1,3 +1,8 @@
+use native.Mathlib.Omega.{arith}
+use mathlib.Core.Path.{refl, sym, ap, _∙_}
+use mathlib.Core.Logic.{inl, inr}
+use Rattle.machine.proofs.Calling.{requires-atoms, requires-takes}
+use Rattle.machine.proofs.Reading.{took-cells, took-lacking, count-cells}
 use borrow.Author.Needs.{needs}
 use Rattle.machine.proofs.admit.Statement.{statement}
 use Rattle.machine.proofs.admit.Tie as tie
@@ -34,7 +39,7 @@ requires-count-requires c κs = search needs
 
 -- src/lib.rt:615:11
 footprint-requires : tie.Need-footprint-requires
-footprint-requires c κs = ?
+footprint-requires c κs = let r = requires-atoms _ _ _ (c .before .before .before .before .before .before .before .before .before .pre) (c .before .before .before .before .requires-first .ensures .0) (c .before .before .requires-count .ensures .0) in ((c .before .before .before .before .before .before .before .before .before .pre .readable, r .0), (r .1, refl))
 
 -- src/lib.rt:616:21
 enum-known-k : tie.Need-enum-known-k
@@ -42,7 +47,8 @@ enum-known-k c = search needs
 
 -- src/lib.rt:616:27
 enter-requires : tie.Need-enter-requires
-enter-requires c κs = ?
+enter-requires c κs = let e = sym (requires-takes _ _ _ (c .before .before .before .before .before .before .before .before .before .before .before .before .before .before .before .pre) (c .before .before .before .before .before .before .before .before .before .before .requires-first .ensures .0) (c .before .before .before .before .before .before .before .before .requires-count .ensures .0)) ∙ took-cells _ _ _ (c .before .before .before .k .given .1) (c .before .before .before .before .before .footprint .ensures .took) in
+    record { area = c .before .before .before .before .before .before .before .before .before .before .before .before .before .before .before .pre .readable .tables .size; method-fits = omega (arith, c .before .before .before .before .before .before .before .before .before .before .before .before .before .before .before .pre .exists, c .before .before .before .before .before .before .before .before .before .before .before .before .before .before .before .pre .readable .tables .methods); more = c .before .before .before .before .before .before .before .before .before .before .before .before .before .before .before .pre .more; numbers = c .before .before .before .before .before .before .before .before .before .before .before .before .before .before .before .pre .numbers; size = c .before .before .before .before .before .footprint .ensures .size; count = count-cells _ _ _ (c .before .before .before .k .given .1) (c .before .before .before .before .before .footprint .ensures .count); small = c .before .before .before .before .before .before .before .before .before .before .before .before .before .before .before .pre .small _ e }
 
 -- src/lib.rt:617:23
 enum-known-s : tie.Need-enum-known-s
@@ -54,7 +60,7 @@ same-length c = search needs
 
 -- src/lib.rt:602:1
 returns : tie.Need-returns
-returns c = ?
+returns c = inl (_, sym (requires-takes _ _ _ (c .before .before .before .before .before .before .before .before .before .before .before .before .before .before .before .before .before .before .pre) (c .before .before .before .before .before .before .before .before .before .before .before .before .before .requires-first .ensures .0) (c .before .before .before .before .before .before .before .before .before .before .before .requires-count .ensures .0)) ∙ took-cells _ _ _ (c .before .before .before .before .before .before .k .given .1) (c .before .before .before .before .before .before .before .before .footprint .ensures .took), c .before .before .enter .ensures)
 
 -- src/lib.rt:602:1
 same-length-2 : tie.Need-same-length-2
@@ -62,7 +68,7 @@ same-length-2 c = search needs
 
 -- src/lib.rt:602:1
 returns-2 : tie.Need-returns-2
-returns-2 c = ?
+returns-2 c = inr (_, sym (requires-takes _ _ _ (c .before .before .before .before .before .before .before .before .before .before .before .before .before .pre) (c .before .before .before .before .before .before .before .before .requires-first .ensures .0) (c .before .before .before .before .before .before .requires-count .ensures .0)) ∙ took-lacking _ _ _ (c .before .s .given .1) (c .before .before .before .footprint .ensures .took), refl, refl)
 
 pub admit-spec : {M : Type 1} → statement M
 admit-spec =

@@ -1,3 +1,11 @@
+use mathlib.Core.Path.{subst}
+use Rattle.machine.specs.States.{Admits}
+use native.Mathlib.Omega.{arith}
+use mathlib.Core.Path.{refl, sym, ap, _∙_}
+use Rattle.machine.proofs.Calling.{call-null-does, calling, calls}
+use Rattle.machine.proofs.Doing.{size, fits, frames-fit, row-small, base-fits}
+use Rattle.machine.specs.Views.{variableAt}
+use denote.Ref.{now}
 use borrow.Author.Needs.{needs}
 use Rattle.machine.proofs.call_step.Statement.{statement}
 use Rattle.machine.proofs.call_step.Tie as tie
@@ -25,7 +33,7 @@ y-at-requires c κs = search needs
 
 -- src/lib.rt:630:9
 variable-requires : tie.Need-variable-requires
-variable-requires c κs = ?
+variable-requires c κs = (omega (arith, base-fits (c .before .before .before .before .before .before .pre .0) (c .before .before .before .view-of .ensures), size (c .before .before .before .before .before .before .pre .0)), omega (arith, c .before .y-at .ensures .0, fits (c .before .before .before .before .before .before .pre .0) .y))
 
 -- src/lib.rt:632:9
 same-length : tie.Need-same-length
@@ -33,7 +41,7 @@ same-length c = search needs
 
 -- src/lib.rt:632:9
 returns : tie.Need-returns
-returns c = ?
+returns c = call-null-does (c .before .before .before .before .before .before .before .before .pre .0) (c .before .before .before .before .before .before .before .before .pre .1) _ _ (c .before .before .before .y-at .ensures .0) (c .before .variable .ensures ∙ ap (λ u. variableAt (now (c .before .before .before .before .before .before .before .before .args .work)) (u .base) (c .before .before .before .y-at .result)) (c .before .before .before .before .before .view-of .ensures)) (c .if1 .taken)
 
 -- src/lib.rt:634:9
 z-at-requires : tie.Need-z-at-requires
@@ -41,7 +49,7 @@ z-at-requires c κs = search needs
 
 -- src/lib.rt:635:9
 variable-requires-2 : tie.Need-variable-requires-2
-variable-requires-2 c κs = ?
+variable-requires-2 c κs = (omega (arith, base-fits (c .before .before .before .before .before .before .before .before .before .before .before .pre .0) (c .before .before .before .before .before .before .before .before .view-of .ensures), size (c .before .before .before .before .before .before .before .before .before .before .before .pre .0)), omega (arith, c .before .z-at .ensures .0, fits (c .before .before .before .before .before .before .before .before .before .before .before .pre .0) .z))
 
 -- src/lib.rt:636:9
 member-at-requires : tie.Need-member-at-requires
@@ -49,11 +57,11 @@ member-at-requires c κs = search needs
 
 -- src/lib.rt:637:5
 prepare-requires : tie.Need-prepare-requires
-prepare-requires c κs = ?
+prepare-requires c κs = (size (c .before .before .before .before .before .before .before .before .before .before .before .before .before .before .before .pre .0), (frames-fit (c .before .before .before .before .before .before .before .before .before .before .before .before .before .before .before .pre .0), (row-small (c .before .before .before .before .before .before .before .before .before .before .before .before .before .before .before .pre .0), omega (arith, c .before .member-at .ensures .0, fits (c .before .before .before .before .before .before .before .before .before .before .before .before .before .before .before .pre .0) .method (c .before .before .before .before .before .before .before .before .before .before .before .before .before .before .before .pre .1), c .before .before .before .before .before .before .before .before .before .before .before .before .before .before .before .pre .0 .represents .tables .methods))))
 
 -- src/lib.rt:638:5
 admit-requires : tie.Need-admit-requires
-admit-requires c κs = ?
+admit-requires c κs = rw (c .before .before .before .prepare .ensures) (calling (c .before .before .before .before .before .before .before .before .before .before .before .before .before .before .before .before .before .before .before .pre .0) (c .before .before .before .before .before .before .before .before .before .before .before .before .before .before .before .before .before .before .before .pre .1) _ _ _ _ _ (c .before .before .before .before .before .before .before .before .before .before .before .before .before .before .y-at .ensures .0) (c .before .before .before .before .before .before .before .before .before .z-at .ensures .0) (c .before .before .before .before .before .member-at .ensures .0) (c .before .before .before .before .before .before .before .before .before .before .before .before .variable .ensures ∙ ap (λ u. variableAt (now (c .before .before .before .before .before .before .before .before .before .before .before .before .before .before .before .before .before .before .before .args .work)) (u .base) (c .before .before .before .before .before .before .before .before .before .before .before .before .before .before .y-at .result)) (c .before .before .before .before .before .before .before .before .before .before .before .before .before .before .before .before .view-of .ensures)) (c .before .before .before .before .before .before .before .variable2 .ensures ∙ ap (λ u. variableAt (now (c .before .before .before .before .before .before .before .before .before .before .before .before .before .before .before .before .before .before .before .args .work)) (u .base) (c .before .before .before .before .before .before .before .before .before .z-at .result)) (c .before .before .before .before .before .before .before .before .before .before .before .before .before .before .before .before .view-of .ensures)) (search needs) (search needs))
 
 -- src/lib.rt:622:1
 same-length-2 : tie.Need-same-length-2
@@ -61,7 +69,7 @@ same-length-2 c = search needs
 
 -- src/lib.rt:622:1
 returns-2 : tie.Need-returns-2
-returns-2 c = ?
+returns-2 c = calls (c .before .before .before .before .before .before .before .before .before .before .before .before .before .before .before .before .before .before .before .before .before .before .pre .0) (c .before .before .before .before .before .before .before .before .before .before .before .before .before .before .before .before .before .before .before .before .before .before .pre .1) _ _ _ _ _ (c .before .before .before .before .before .before .before .before .before .before .before .before .before .before .before .before .before .y-at .ensures .0) (c .before .before .before .before .before .before .before .before .before .before .before .before .z-at .ensures .0) (c .before .before .before .before .before .before .before .before .member-at .ensures .0) (c .before .before .before .before .before .before .before .before .before .before .before .before .before .before .before .variable .ensures ∙ ap (λ u. variableAt (now (c .before .before .before .before .before .before .before .before .before .before .before .before .before .before .before .before .before .before .before .before .before .before .args .work)) (u .base) (c .before .before .before .before .before .before .before .before .before .before .before .before .before .before .before .before .before .y-at .result)) (c .before .before .before .before .before .before .before .before .before .before .before .before .before .before .before .before .before .before .before .view-of .ensures)) (c .before .before .before .before .before .before .before .before .before .before .variable2 .ensures ∙ ap (λ u. variableAt (now (c .before .before .before .before .before .before .before .before .before .before .before .before .before .before .before .before .before .before .before .before .before .before .args .work)) (u .base) (c .before .before .before .before .before .before .before .before .before .before .before .before .z-at .result)) (c .before .before .before .before .before .before .before .before .before .before .before .before .before .before .before .before .before .before .before .view-of .ensures)) (search needs) (search needs) (c .before .before .admit .last .0) (c .before .before .admit .result) (c .before .before .before .before .before .before .before .before .before .before .before .before .before .before .if1 .left) (subst (λ u. Admits u (c .before .before .before .before .before .before .before .before .before .before .before .before .before .before .before .before .before .before .before .before .before .before .args .c) (c .before .before .before .before .before .before .before .before .member-at .result) (c .before .before .admit .last .0) (c .before .before .admit .result)) (c .before .before .before .before .before .before .prepare .ensures) (c .before .before .admit .ensures))
 
 pub call-step-spec : {M : Type 1} → statement M
 call-step-spec =
