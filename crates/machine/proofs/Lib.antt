@@ -12,3 +12,5 @@ pub mod Statements
 pub mod Returning
 pub mod Framing
 pub mod Calling
+pub mod Making
+pub mod Growing

@@ -138,6 +138,15 @@ framed w a b holder row method o p =
 abbrev pub prepared : List ℕ → Machine → ℕ → ℕ → ℕ → List ℕ
 prepared w c method o p = framed w (frameAt (c .frames - 1)) (frameAt (c .frames)) (c .holder) (c .row) method o p
 
+-- object i + 1 of a class, its n fields from the cell k on, each 0 and held by a number
+unfoldable pub made : List ℕ → ℕ → ℕ → ℕ → ℕ → ℕ → List ℕ
+made w i k n class holder =
+    fill
+    (fill (putHalf (set w (objects-at + i * object-bytes) class) (objects-at + i * object-bytes + 2) k) (values-at + k * 4) n 0)
+    (holders-at + k * 4)
+    n
+    holder
+
 -- the view of the next frame, which sees what the running one holds
 abbrev pub nextView : Machine → View
 nextView c = record { base = frameAt (c .frames); objects = c .objects; holder = c .holder }
