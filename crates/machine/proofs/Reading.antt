@@ -125,6 +125,15 @@ pub cell-beyond : (w : List ℕ) (n i f : ℕ) → n ≤ i → cellOf w n (suc i
 unfolding cellOf
 cell-beyond w n i f l = rw (le-ltb i n l)
 
+pub cell-null : (w : List ℕ) (n f : ℕ) → cellOf w n 0 f ≡ none
+unfolding cellOf
+cell-null w n f = refl
+
+-- how many objects there are does not matter for one of them
+pub bound-free : (w : List ℕ) (n m i f : ℕ) → i < n → i < m → cellOf w n (suc i) f ≡ cellOf w m (suc i) f
+unfolding cellOf
+bound-free w n m i f l h = rw (lt-ltb i n l, lt-ltb i m h)
+
 -- the place of a field that is there is one of its class's
 pub place-found :
     {w : List ℕ} {c f : ℕ} → ClassFits w c → f < most-names → (placeAt w c f ≡ 255 → ⊥) →

@@ -6,7 +6,7 @@ ghost use mathlib.Core.List.{[], _∷_};
 ghost use mathlib.Core.Option.{some};
 ghost use Prim.Native.Nat.{ℕ, suc, _+_, _*_, _-_, _≤_, _<_};
 ghost use lib.ListN.{length, take};
-ghost use Rattle.rules.specs.Limits.{work-bytes, most-statements, most-methods, most-frames, heap-objects, heap-fields};
+ghost use Rattle.rules.specs.Limits.{work-bytes, most-statements, most-methods, most-classes, most-frames, heap-objects, heap-fields};
 ghost use Rattle.tables.specs.Layout.{most-names, frame-variables};
 ghost use Rattle.tables.specs.Decode.{leftAt, rightAt, relOf, atomsFrom, atomCount, atomAt};
 ghost use Rattle.rules.specs.Base.{any, ok};
@@ -14,10 +14,10 @@ ghost use Rattle.rules.specs.Machine.{compared};
 ghost use Rattle.tables.specs.Stores.{meaning};
 ghost use Rattle.rules.specs.Machine.{took, on, withFrame, jump, toJoin, setStep, assignStep, newStep, callStep, ifStep, assertStep, releaseStep, endStep};
 ghost use Rattle.rules.specs.Syntax.{var, result-variable};
-ghost use Rattle.tables.specs.Decode.{byteAt, atomPlace, xAt, yAt, zAt, memberAt, firstAtomAt, formulaAt, methodAt};
-ghost use Rattle.machine.specs.States.{Ready, NotEnd, AtKind, Does, Leaving, Entering, Enters, Calling, Admits, stepped, back, called};
+ghost use Rattle.tables.specs.Decode.{byteAt, atomPlace, xAt, yAt, zAt, memberAt, firstAtomAt, formulaAt, methodAt, classAt};
+ghost use Rattle.machine.specs.States.{Ready, NotEnd, AtKind, Does, Leaving, Entering, Enters, Calling, Admits, stepped, back, called, atRow, larger};
 ghost use lib.Dec.{eqb};
-ghost use Rattle.machine.specs.Views.{frameAt, variableAt, savedHolder, savedRow, methodOf, prepared, nextView, cellValue, cellHolder, classIn, firstIn, heldCell, cellOf, spotOf, spot, readIn, rightTest, testIn, PlainIs, newCells, accIn, takeIn, SmallCells, fill, marked, spotIs, readIs, truthIs, tookIs, TookUpTo, ObjectFits, ExprFits, Readable, viewOf};
+ghost use Rattle.machine.specs.Views.{frameAt, variableAt, savedHolder, savedRow, methodOf, prepared, nextView, made, cellValue, cellHolder, classIn, firstIn, heldCell, cellOf, spotOf, spot, readIn, rightTest, testIn, PlainIs, newCells, accIn, takeIn, SmallCells, fill, marked, spotIs, readIs, truthIs, tookIs, TookUpTo, ObjectFits, ExprFits, Readable, viewOf};
 
 // Whose variables are read, where the heap ends, and who holds.
 pub struct View {
@@ -636,4 +636,57 @@ fn call_step(work: &mut [u8], c: Machine) -> Turn
     let m = tables::member_at(work, row);
     prepare(work, c, m, o, p);
     admit(work, c, m)
+}
+
+// One step more, with an object of n fields more.
+fn grow(c: Machine, n: u32) -> Machine
+    requires { ⌜ (c .steps < 4294967295) × ((c .objects < heap-objects) × ((c .fields + n ≤ heap-fields) × (c .row < most-statements))) ⌝ }
+    ensures { λ r. ⌜ r ≡ atRow (larger c n (c .steps)) (c .row + 1) (c .steps + 1) ⌝ }
+{
+    Machine {
+        objects: c.objects + 1,
+        fields: c.fields + n,
+        frames: c.frames,
+        row: c.row + 1,
+        holder: c.holder,
+        holders: c.holders,
+        steps: c.steps + 1,
+    }
+}
+
+// Object number `objects` + 1, of a class with n fields, which are the running frame's.
+fn make_object(work: &mut [u8], c: Machine, class: usize, n: usize)
+    requires { ⌜ (length (now work) ≡ work-bytes) × (((c .objects < heap-objects) × (c .fields + n ≤ heap-fields)) × (class < most-classes)) ⌝ }
+    ensures { λ _. ⌜ now (work .exit) ≡ made (now (work .entry)) (c .objects) (c .fields) n class (c .holder) ⌝ }
+{
+    let i = c.objects as usize;
+    let k = c.fields as usize;
+    let at = Layout::OBJECTS + i * Layout::OBJECT_BYTES;
+    tables::put_byte(work, at, class);
+    tables::put_half(work, at + 2, k);
+    fill_words(work, Layout::VALUES + k * 4, n, 0);
+    fill_words(work, Layout::HOLDERS + k * 4, n, c.holder);
+}
+
+// `new`: "22 only where `new` would pass 256 objects or 1,024 fields", the heap's two limits.
+fn new_step(work: &mut [u8], c: Machine, most_objects: u32, most_fields: u32) -> Turn
+    requires { ⌜ (Ready (now work) c × AtKind (now work) c 10) × ((«most_objects» ≤ heap-objects) × («most_fields» ≤ heap-fields)) ⌝ }
+    ensures { λ r. ⌜ Does (now (work .entry)) c (now (work .exit)) r (λ m. took (newStep (record { objects = «most_objects»; fields = «most_fields» }) (xAt (now (work .entry)) (c .row)) (classAt (now (work .entry)) (memberAt (now (work .entry)) (c .row))) m)) ⌝ }
+{
+    let row = c.row as usize;
+    let class = tables::member_at(work, row);
+    let n = tables::field_count_at(work, class);
+    if most_objects <= c.objects {
+        return Turn::Stopped(Fault::HeapFull);
+    }
+    let fields = c.fields + n as u32;
+    if most_fields < fields {
+        return Turn::Stopped(Fault::HeapFull);
+    }
+    let v = view_of(c);
+    let b = v.base;
+    let x = tables::x_at(work, row);
+    make_object(work, c, class, n);
+    tables::put_word(work, b + x * 4, c.objects + 1);
+    Turn::On(grow(c, n as u32))
 }
