@@ -14,3 +14,5 @@ pub mod Framing
 pub mod Calling
 pub mod Making
 pub mod Growing
+pub mod Stepping
+pub mod Running

@@ -1,2 +1,3 @@
 pub mod Views
 pub mod States
+pub mod Runs

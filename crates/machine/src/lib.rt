@@ -16,6 +16,12 @@ ghost use Rattle.rules.specs.Machine.{took, on, withFrame, jump, toJoin, setSte
 ghost use Rattle.rules.specs.Syntax.{var, result-variable};
 ghost use Rattle.tables.specs.Decode.{byteAt, atomPlace, xAt, yAt, zAt, memberAt, firstAtomAt, formulaAt, methodAt, classAt};
 ghost use Rattle.machine.specs.States.{Ready, NotEnd, AtKind, Does, Leaving, Entering, Enters, Calling, Admits, stepped, back, called, atRow, larger};
+ghost use Rattle.rules.specs.Machine.{step as stepOf};
+ghost use Rattle.rules.specs.Counters.{freshMachine};
+ghost use Rattle.tables.specs.Layout.{frames-at};
+ghost use Rattle.tables.specs.Decode.{kindAt, lineAt, mainFirst, programIn};
+ghost use Rattle.tables.specs.Tables.{Tables};
+ghost use Rattle.machine.specs.Runs.{RanAs};
 ghost use lib.Dec.{eqb};
 ghost use Rattle.machine.specs.Views.{frameAt, variableAt, savedHolder, savedRow, methodOf, prepared, nextView, made, cellValue, cellHolder, classIn, firstIn, heldCell, cellOf, spotOf, spot, readIn, rightTest, testIn, PlainIs, newCells, accIn, takeIn, SmallCells, fill, marked, spotIs, readIs, truthIs, tookIs, TookUpTo, ObjectFits, ExprFits, Readable, viewOf};
 
@@ -65,6 +71,20 @@ pub enum Turn {
     On(Machine),
     Stopped(Fault),
     Done,
+}
+
+// How a run ends.
+pub enum Ending {
+    Finished,
+    StepsTaken,
+    Stopped(Fault),
+}
+
+// What a run ends with; main's values are in its frame, from byte FRAMES + 8 of the work area on.
+pub struct Ran {
+    pub ending: Ending,
+    pub line: u32,
+    pub steps: u32,
 }
 
 // A variable of the frame at b.
@@ -689,4 +709,77 @@ fn new_step(work: &mut [u8], c: Machine, most_objects: u32, most_fields: u32) ->
     make_object(work, c, class, n);
     tables::put_word(work, b + x * 4, c.objects + 1);
     Turn::On(grow(c, n as u32))
+}
+
+fn kind_of(work: &[u8], row: usize) -> u8
+    requires { ⌜ (length (now work) ≡ work-bytes) × (row < most-statements) ⌝ }
+    ensures { λ r. ⌜ r ≡ kindAt (now (work .entry)) row ⌝ }
+{
+    work[Layout::ROWS + row * Layout::ROW_BYTES]
+}
+
+// "Each statement line is one step": by the kind of the row, on a heap with these two limits.
+pub fn step(work: &mut [u8], c: Machine, most_objects: u32, most_fields: u32) -> Turn
+    requires { ⌜ Ready (now work) c × ((«most_objects» ≤ heap-objects) × («most_fields» ≤ heap-fields)) ⌝ }
+    ensures { λ r. ⌜ Does (now (work .entry)) c (now (work .exit)) r (stepOf (record { objects = «most_objects»; fields = «most_fields» }) (programIn (now (work .entry)))) ⌝ }
+{
+    let row = c.row as usize;
+    match kind_of(work, row) {
+        8 => set_step(work, c),
+        9 => let_step(work, c),
+        10 => new_step(work, c, most_objects, most_fields),
+        11 => call_step(work, c),
+        12 => return_step(work, c),
+        13 | 17 => assert_step(work, c),
+        14 => release_step(work, c),
+        15 => if_step(work, c),
+        16 => else_step(work, c),
+        0..=7 | 18..=255 => end_step(work, c),
+    }
+}
+
+// "from the empty heap and main's frame"
+fn begin(work: &mut [u8]) -> Machine
+    requires { ⌜ Tables (now work) ⌝ }
+    ensures { λ r. ⌜ (r ≡ freshMachine (mainFirst (now (work .entry)))) × (now (work .exit) ≡ fill (now (work .entry)) frames-at 15 0) ⌝ }
+{
+    let row = tables::main_first(work);
+    fill_words(work, Layout::FRAMES, 15, 0);
+    Machine::new(row as u32)
+}
+
+// A run that stands at a row.
+fn ended(work: &[u8], row: u32, e: Ending, n: u32) -> Ran
+    requires { ⌜ (length (now work) ≡ work-bytes) × (row < most-statements) ⌝ }
+    ensures { λ r. ⌜ ((r .ending ≡ e) × (r .line ≡ lineAt (now (work .entry)) row)) × (r .steps ≡ n) ⌝ }
+{
+    let line = tables::line_at(work, row as usize);
+    Ran {
+        ending: e,
+        line: line as u32,
+        steps: n,
+    }
+}
+
+// At most so many steps of the program in the tables: "A run tests 21 before each step"; "A stopped step is not counted".
+pub fn run(work: &mut [u8], steps: u32) -> Ran
+    requires { ⌜ Tables (now work) ⌝ }
+    ensures { λ r. ⌜ RanAs (now (work .entry)) steps (now (work .exit)) r ⌝ }
+{
+    let mut c = begin(work);
+    while c.steps < steps {
+        let t = step(work, c, Machine::OBJECTS as u32, Machine::FIELDS as u32);
+        match t {
+            Turn::On(d) => {
+                c = d;
+            }
+            Turn::Stopped(s) => {
+                return ended(work, c.row, Ending::Stopped(s), c.steps);
+            }
+            Turn::Done => {
+                return ended(work, c.row, Ending::Finished, c.steps + 1);
+            }
+        }
+    }
+    ended(work, c.row, Ending::StepsTaken, c.steps)
 }

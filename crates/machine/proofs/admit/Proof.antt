@@ -6,67 +6,47 @@ use Rattle.machine.proofs.Reading.{took-cells, took-lacking, count-cell
 use borrow.Author.Needs.{needs}
 use Rattle.machine.proofs.admit.Statement.{statement}
 use Rattle.machine.proofs.admit.Tie as tie
-use Rattle.machine.proofs.admit.Reads as reads
-use Rattle.machine.proofs.admit.Lts as lts
-use Rattle.machine.proofs.enter.Reads as enter-reads
-use Rattle.machine.proofs.footprint.Reads as footprint-reads
-use Rattle.tables.proofs.requires_count.Reads as requires-count-reads
-use Rattle.tables.proofs.requires_first.Reads as requires-first-reads
 
--- src/lib.rt:606:13
 cast-j : tie.Need-cast-j
 cast-j c = search needs
 
--- src/lib.rt:608:32
 mul-t11 : tie.Need-mul-t11
 mul-t11 c = search needs
 
--- src/lib.rt:608:15
 add-t12 : tie.Need-add-t12
 add-t12 c = search needs
 
--- src/lib.rt:609:18
 cast-t13 : tie.Need-cast-t13
 cast-t13 c = search needs
 
--- src/lib.rt:612:9
 requires-first-requires : tie.Need-requires-first-requires
 requires-first-requires c κs = search needs
 
--- src/lib.rt:613:9
 requires-count-requires : tie.Need-requires-count-requires
 requires-count-requires c κs = search needs
 
--- src/lib.rt:615:11
 footprint-requires : tie.Need-footprint-requires
 footprint-requires c κs = let r = requires-atoms _ _ _ (c .before .before .before .before .before .before .before .before .before .pre) (c .before .before .before .before .requires-first .ensures .0) (c .before .before .requires-count .ensures .0) in ((c .before .before .before .before .before .before .before .before .before .pre .readable, r .0), (r .1, refl))
 
--- src/lib.rt:616:21
 enum-known-k : tie.Need-enum-known-k
 enum-known-k c = search needs
 
--- src/lib.rt:616:27
 enter-requires : tie.Need-enter-requires
 enter-requires c κs = let e = sym (requires-takes _ _ _ (c .before .before .before .before .before .before .before .before .before .before .before .before .before .before .before .pre) (c .before .before .before .before .before .before .before .before .before .before .requires-first .ensures .0) (c .before .before .before .before .before .before .before .before .requires-count .ensures .0)) ∙ took-cells _ _ _ (c .before .before .before .k .given .1) (c .before .before .before .before .before .footprint .ensures .took) in
     record { area = c .before .before .before .before .before .before .before .before .before .before .before .before .before .before .before .pre .readable .tables .size; method-fits = omega (arith, c .before .before .before .before .before .before .before .before .before .before .before .before .before .before .before .pre .exists, c .before .before .before .before .before .before .before .before .before .before .before .before .before .before .before .pre .readable .tables .methods); more = c .before .before .before .before .before .before .before .before .before .before .before .before .before .before .before .pre .more; numbers = c .before .before .before .before .before .before .before .before .before .before .before .before .before .before .before .pre .numbers; size = c .before .before .before .before .before .footprint .ensures .size; count = count-cells _ _ _ (c .before .before .before .k .given .1) (c .before .before .before .before .before .footprint .ensures .count); small = c .before .before .before .before .before .before .before .before .before .before .before .before .before .before .before .pre .small _ e }
 
--- src/lib.rt:617:23
 enum-known-s : tie.Need-enum-known-s
 enum-known-s c = search needs
 
--- src/lib.rt:602:1
 same-length : tie.Need-same-length
 same-length c = search needs
 
--- src/lib.rt:602:1
 returns : tie.Need-returns
 returns c = inl (_, sym (requires-takes _ _ _ (c .before .before .before .before .before .before .before .before .before .before .before .before .before .before .before .before .before .before .pre) (c .before .before .before .before .before .before .before .before .before .before .before .before .before .requires-first .ensures .0) (c .before .before .before .before .before .before .before .before .before .before .before .requires-count .ensures .0)) ∙ took-cells _ _ _ (c .before .before .before .before .before .before .k .given .1) (c .before .before .before .before .before .before .before .before .footprint .ensures .took), c .before .before .enter .ensures)
 
--- src/lib.rt:602:1
 same-length-2 : tie.Need-same-length-2
 same-length-2 c = search needs
 
--- src/lib.rt:602:1
 returns-2 : tie.Need-returns-2
 returns-2 c = inr (_, sym (requires-takes _ _ _ (c .before .before .before .before .before .before .before .before .before .before .before .before .before .pre) (c .before .before .before .before .before .before .before .before .requires-first .ensures .0) (c .before .before .before .before .before .before .requires-count .ensures .0)) ∙ took-lacking _ _ _ (c .before .s .given .1) (c .before .before .before .footprint .ensures .took), refl, refl)
 

@@ -9,8 +9,6 @@ use lib.Dec.{eqb}
 use Rattle.rules.specs.Base.{any}
 use Rattle.machine.proofs.among.Statement.{statement}
 use Rattle.machine.proofs.among.Tie as tie
-use Rattle.machine.proofs.among.Reads as reads
-use Rattle.machine.proofs.among.Lts as lts
 
 abbrev Inv-loop : tie.InvT-loop
 Inv-loop cells n k i₀ i = (i ≤ n) × (any (eqb k) (drop i (take n cells)) ≡ any (eqb k) (take n cells))
@@ -18,35 +16,27 @@ Inv-loop cells n k i₀ i = (i ≤ n) × (any (eqb k) (drop i (take n cells)) �
 abbrev μ-loop : tie.MeasureT-loop
 μ-loop cells n k i₀ i = n - i
 
--- src/lib.rt:231:5
 loop-holds : tie.Need-loop-holds Inv-loop μ-loop
 loop-holds c = (omega arith, refl)
 
--- src/lib.rt:232:17
 mul-c : tie.Need-mul-c Inv-loop μ-loop
 mul-c c = omega arith
 
--- src/lib.rt:232:17
 element-copy-out-c : tie.Need-element-copy-out-c Inv-loop μ-loop
 element-copy-out-c c = omega arith
 
--- src/lib.rt:234:13
 returns : tie.Need-returns Inv-loop μ-loop
 returns c = let g : length (c .before .before .before .before .args .cells .now) ≡ 8 = c .before .before .before .before .pre .1 in search-hit (c .before .before .before .before .args .cells .now) _ _ _ (omega arith) (c .before .before .before .loop .inv .1) (c .before .before .loop-test .taken) (c .if1 .taken)
 
--- src/lib.rt:236:9
 add-i : tie.Need-add-i Inv-loop μ-loop
 add-i c = omega arith
 
--- src/lib.rt:231:5
 loop-less : tie.Need-loop-less Inv-loop μ-loop
 loop-less c = omega arith
 
--- src/lib.rt:231:5
 loop-again : tie.Need-loop-again Inv-loop μ-loop
 loop-again c = let g : length (c .before .before .before .before .args .cells .now) ≡ 8 = c .before .before .before .before .pre .1 in (omega arith, search-on (c .before .before .before .before .args .cells .now) _ _ _ (omega arith) (c .before .before .before .loop .inv .1) (c .before .before .loop-test .taken) (c .if1 .left))
 
--- src/lib.rt:226:1
 returns-2 : tie.Need-returns-2 Inv-loop μ-loop
 returns-2 c = let g : length (c .before .before .args .cells .now) ≡ 8 = c .before .before .pre .1 in search-end (c .before .before .args .cells .now) _ _ _ (omega arith) (c .before .loop .inv .1) (c .loop-test .left)
 

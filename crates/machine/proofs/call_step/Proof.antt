@@ -9,65 +9,43 @@ use denote.Ref.{now}
 use borrow.Author.Needs.{needs}
 use Rattle.machine.proofs.call_step.Statement.{statement}
 use Rattle.machine.proofs.call_step.Tie as tie
-use Rattle.machine.proofs.call_step.Reads as reads
-use Rattle.machine.proofs.call_step.Lts as lts
-use Rattle.machine.proofs.admit.Reads as admit-reads
-use Rattle.machine.proofs.prepare.Reads as prepare-reads
-use Rattle.machine.proofs.variable.Reads as variable-reads
-use Rattle.machine.proofs.view_of.Reads as view-of-reads
-use Rattle.tables.proofs.member_at.Reads as member-at-reads
-use Rattle.tables.proofs.y_at.Reads as y-at-reads
-use Rattle.tables.proofs.z_at.Reads as z-at-reads
 
--- src/lib.rt:626:15
 cast-row : tie.Need-cast-row
 cast-row c = search needs
 
--- src/lib.rt:627:9
 view-of-requires : tie.Need-view-of-requires
 view-of-requires c κs = search needs
 
--- src/lib.rt:629:9
 y-at-requires : tie.Need-y-at-requires
 y-at-requires c κs = search needs
 
--- src/lib.rt:630:9
 variable-requires : tie.Need-variable-requires
 variable-requires c κs = (omega (arith, base-fits (c .before .before .before .before .before .before .pre .0) (c .before .before .before .view-of .ensures), size (c .before .before .before .before .before .before .pre .0)), omega (arith, c .before .y-at .ensures .0, fits (c .before .before .before .before .before .before .pre .0) .y))
 
--- src/lib.rt:632:9
 same-length : tie.Need-same-length
 same-length c = search needs
 
--- src/lib.rt:632:9
 returns : tie.Need-returns
 returns c = call-null-does (c .before .before .before .before .before .before .before .before .pre .0) (c .before .before .before .before .before .before .before .before .pre .1) _ _ (c .before .before .before .y-at .ensures .0) (c .before .variable .ensures ∙ ap (λ u. variableAt (now (c .before .before .before .before .before .before .before .before .args .work)) (u .base) (c .before .before .before .y-at .result)) (c .before .before .before .before .before .view-of .ensures)) (c .if1 .taken)
 
--- src/lib.rt:634:9
 z-at-requires : tie.Need-z-at-requires
 z-at-requires c κs = search needs
 
--- src/lib.rt:635:9
 variable-requires-2 : tie.Need-variable-requires-2
 variable-requires-2 c κs = (omega (arith, base-fits (c .before .before .before .before .before .before .before .before .before .before .before .pre .0) (c .before .before .before .before .before .before .before .before .view-of .ensures), size (c .before .before .before .before .before .before .before .before .before .before .before .pre .0)), omega (arith, c .before .z-at .ensures .0, fits (c .before .before .before .before .before .before .before .before .before .before .before .pre .0) .z))
 
--- src/lib.rt:636:9
 member-at-requires : tie.Need-member-at-requires
 member-at-requires c κs = search needs
 
--- src/lib.rt:637:5
 prepare-requires : tie.Need-prepare-requires
 prepare-requires c κs = (size (c .before .before .before .before .before .before .before .before .before .before .before .before .before .before .before .pre .0), (frames-fit (c .before .before .before .before .before .before .before .before .before .before .before .before .before .before .before .pre .0), (row-small (c .before .before .before .before .before .before .before .before .before .before .before .before .before .before .before .pre .0), omega (arith, c .before .member-at .ensures .0, fits (c .before .before .before .before .before .before .before .before .before .before .before .before .before .before .before .pre .0) .method (c .before .before .before .before .before .before .before .before .before .before .before .before .before .before .before .pre .1), c .before .before .before .before .before .before .before .before .before .before .before .before .before .before .before .pre .0 .represents .tables .methods))))
 
--- src/lib.rt:638:5
 admit-requires : tie.Need-admit-requires
 admit-requires c κs = rw (c .before .before .before .prepare .ensures) (calling (c .before .before .before .before .before .before .before .before .before .before .before .before .before .before .before .before .before .before .before .pre .0) (c .before .before .before .before .before .before .before .before .before .before .before .before .before .before .before .before .before .before .before .pre .1) _ _ _ _ _ (c .before .before .before .before .before .before .before .before .before .before .before .before .before .before .y-at .ensures .0) (c .before .before .before .before .before .before .before .before .before .z-at .ensures .0) (c .before .before .before .before .before .member-at .ensures .0) (c .before .before .before .before .before .before .before .before .before .before .before .before .variable .ensures ∙ ap (λ u. variableAt (now (c .before .before .before .before .before .before .before .before .before .before .before .before .before .before .before .before .before .before .before .args .work)) (u .base) (c .before .before .before .before .before .before .before .before .before .before .before .before .before .before .y-at .result)) (c .before .before .before .before .before .before .before .before .before .before .before .before .before .before .before .before .view-of .ensures)) (c .before .before .before .before .before .before .before .variable2 .ensures ∙ ap (λ u. variableAt (now (c .before .before .before .before .before .before .before .before .before .before .before .before .before .before .before .before .before .before .before .args .work)) (u .base) (c .before .before .before .before .before .before .before .before .before .z-at .result)) (c .before .before .before .before .before .before .before .before .before .before .before .before .before .before .before .before .view-of .ensures)) (search needs) (search needs))
 
--- src/lib.rt:622:1
 same-length-2 : tie.Need-same-length-2
 same-length-2 c = search needs
 
--- src/lib.rt:622:1
 returns-2 : tie.Need-returns-2
 returns-2 c = calls (c .before .before .before .before .before .before .before .before .before .before .before .before .before .before .before .before .before .before .before .before .before .before .pre .0) (c .before .before .before .before .before .before .before .before .before .before .before .before .before .before .before .before .before .before .before .before .before .before .pre .1) _ _ _ _ _ (c .before .before .before .before .before .before .before .before .before .before .before .before .before .before .before .before .before .y-at .ensures .0) (c .before .before .before .before .before .before .before .before .before .before .before .before .z-at .ensures .0) (c .before .before .before .before .before .before .before .before .member-at .ensures .0) (c .before .before .before .before .before .before .before .before .before .before .before .before .before .before .before .variable .ensures ∙ ap (λ u. variableAt (now (c .before .before .before .before .before .before .before .before .before .before .before .before .before .before .before .before .before .before .before .before .before .before .args .work)) (u .base) (c .before .before .before .before .before .before .before .before .before .before .before .before .before .before .before .before .before .y-at .result)) (c .before .before .before .before .before .before .before .before .before .before .before .before .before .before .before .before .before .before .before .view-of .ensures)) (c .before .before .before .before .before .before .before .before .before .before .variable2 .ensures ∙ ap (λ u. variableAt (now (c .before .before .before .before .before .before .before .before .before .before .before .before .before .before .before .before .before .before .before .before .before .before .args .work)) (u .base) (c .before .before .before .before .before .before .before .before .before .before .before .before .z-at .result)) (c .before .before .before .before .before .before .before .before .before .before .before .before .before .before .before .before .before .before .before .view-of .ensures)) (search needs) (search needs) (c .before .before .admit .last .0) (c .before .before .admit .result) (c .before .before .before .before .before .before .before .before .before .before .before .before .before .before .if1 .left) (subst (λ u. Admits u (c .before .before .before .before .before .before .before .before .before .before .before .before .before .before .before .before .before .before .before .before .before .before .args .c) (c .before .before .before .before .before .before .before .before .member-at .result) (c .before .before .admit .last .0) (c .before .before .admit .result)) (c .before .before .before .before .before .before .prepare .ensures) (c .before .before .admit .ensures))
 

@@ -9,39 +9,26 @@ use denote.Ref.{now}
 use borrow.Author.Needs.{needs}
 use Rattle.machine.proofs.cell_at.Statement.{statement}
 use Rattle.machine.proofs.cell_at.Tie as tie
-use Rattle.machine.proofs.cell_at.Reads as reads
-use Rattle.machine.proofs.cell_at.Lts as lts
-use Rattle.machine.proofs.class_of.Reads as class-of-reads
-use Rattle.machine.proofs.first_of.Reads as first-of-reads
-use Rattle.machine.proofs.held_cell.Reads as held-cell-reads
-use Rattle.tables.proofs.place_at.Reads as place-at-reads
 
--- src/lib.rt:115:9
 class-of-requires : tie.Need-class-of-requires
 class-of-requires c κs = (c .before .pre .0 .tables .size, omega (arith, c .before .pre .0 .objects, c .before .pre .1 .0))
 
--- src/lib.rt:116:9
 place-at-requires : tie.Need-place-at-requires
 place-at-requires c κs = (c .before .before .pre .0 .tables .size, (omega (arith, c .class-of .ensures, c .before .before .pre .0 .object (c .before .before .args .i) (c .before .before .pre .1 .0) .class, c .before .before .pre .0 .tables .classes), c .before .before .pre .1 .1))
 
--- src/lib.rt:118:9
 returns : tie.Need-returns
 unfolding spotIs heldCell stopOf
 returns c = let e : placeAt (now (c .before .before .before .before .args .work)) (classIn (now (c .before .before .before .before .args .work)) (c .before .before .before .before .args .i)) (c .before .before .before .before .args .f) ≡ 255 = rw (← c .before .before .class-of .ensures) (sym (c .before .place-at .ensures .0) ∙ c .if1 .taken) in rw (cell-absent (now (c .before .before .before .before .args .work)) (c .before .before .before .before .args .v .objects) (c .before .before .before .before .args .i) (c .before .before .before .before .args .f) e)
 
--- src/lib.rt:120:13
 first-of-requires : tie.Need-first-of-requires
 first-of-requires c κs = (c .before .before .before .before .pre .0 .tables .size, omega (arith, c .before .before .before .before .pre .0 .objects, c .before .before .before .before .pre .1 .0))
 
--- src/lib.rt:120:13
 add-k : tie.Need-add-k
 add-k c = search needs
 
--- src/lib.rt:121:5
 held-cell-requires : tie.Need-held-cell-requires
 held-cell-requires c κs = (c .before .before .before .before .before .pre .0 .tables .size, cell-small (suc (c .before .before .before .before .before .args .i)) (c .before .before .before .before .before .args .f) (c .before .before .before .before .before .pre .0 .tables) (c .before .before .before .before .before .pre .0 .object) (cell-is _ _ _ _ _ _ _ (c .before .before .before .class-of .ensures) (c .before .before .place-at .ensures .0) (c .before .if1 .left) (c .first-of .ensures .0) (c .before .before .before .before .before .pre .1 .0) (c .before .before .before .before .before .pre .1 .1)))
 
--- src/lib.rt:111:1
 returns-2 : tie.Need-returns-2
 returns-2 c = c .held-cell .ensures ∙ ap (heldCell (now (c .before .before .before .before .before .before .args .work)) (c .before .before .before .before .before .before .args .v .holder)) (sym (cell-is _ _ _ _ _ _ _ (c .before .before .before .before .class-of .ensures) (c .before .before .before .place-at .ensures .0) (c .before .before .if1 .left) (c .before .first-of .ensures .0) (c .before .before .before .before .before .before .pre .1 .0) (c .before .before .before .before .before .before .pre .1 .1)))
 

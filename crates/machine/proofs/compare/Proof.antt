@@ -4,25 +4,19 @@ use Rattle.rules.specs.Machine.{compared}
 use borrow.Author.Tests.{eq-eqb, ne-eqb, lt-ltb}
 use Rattle.machine.proofs.compare.Statement.{statement}
 use Rattle.machine.proofs.compare.Tie as tie
-use Rattle.machine.proofs.compare.Reads as reads
-use Rattle.machine.proofs.compare.Lts as lts
 
--- src/lib.rt:180:13
 returns : tie.Need-returns
 unfolding truthIs relOf compared
 returns c = rw (c .before .if1 .taken, eq-eqb _ _ (c .if2 .taken))
 
--- src/lib.rt:182:9
 returns-2 : tie.Need-returns-2
 unfolding truthIs relOf compared
 returns-2 c = rw (c .before .if1 .taken, ne-eqb _ _ (c .if2 .left))
 
--- src/lib.rt:185:9
 returns-3 : tie.Need-returns-3
 unfolding truthIs relOf compared
 returns-3 c = rw (ne-eqb _ _ (c .before .if1 .left), eq-eqb _ _ (c .if3 .taken))
 
--- src/lib.rt:175:1
 returns-4 : tie.Need-returns-4
 unfolding truthIs relOf compared
 returns-4 c = rw (ne-eqb _ _ (c .before .if1 .left), ne-eqb _ _ (c .if3 .left))

@@ -6,72 +6,49 @@ use Rattle.machine.proofs.Reading.{took-cells, took-lacking, count-cell
 use borrow.Author.Needs.{needs}
 use Rattle.machine.proofs.end_step.Statement.{statement}
 use Rattle.machine.proofs.end_step.Tie as tie
-use Rattle.machine.proofs.end_step.Reads as reads
-use Rattle.machine.proofs.end_step.Lts as lts
-use Rattle.machine.proofs.footprint.Reads as footprint-reads
-use Rattle.machine.proofs.leave.Reads as leave-reads
-use Rattle.machine.proofs.method_of.Reads as method-of-reads
-use Rattle.machine.proofs.view_of.Reads as view-of-reads
-use Rattle.tables.proofs.ensures_count.Reads as ensures-count-reads
-use Rattle.tables.proofs.ensures_first.Reads as ensures-first-reads
 
--- src/lib.rt:541:9
 returns : tie.Need-returns
 returns c = end-done (c .before .before .before .pre) (c .if1 .taken)
 
--- src/lib.rt:543:14
 sub-i : tie.Need-sub-i
 sub-i c = search needs
 
--- src/lib.rt:543:13
 cast-i : tie.Need-cast-i
 cast-i c = search needs
 
--- src/lib.rt:544:9
 view-of-requires : tie.Need-view-of-requires
 view-of-requires c κs = search needs
 
--- src/lib.rt:545:9
 method-of-requires : tie.Need-method-of-requires
 method-of-requires c κs = search needs
 
--- src/lib.rt:546:9
 ensures-first-requires : tie.Need-ensures-first-requires
 ensures-first-requires c κs = (size (c .before .before .before .before .before .before .before .before .pre), omega (arith, c .before .method-of .ensures, last-saved (c .before .before .before .before .before .before .before .before .pre) (c .before .before .before .before .before .if1 .left) .1, c .before .before .before .before .before .before .before .before .pre .represents .tables .methods))
 
--- src/lib.rt:547:9
 ensures-count-requires : tie.Need-ensures-count-requires
 ensures-count-requires c κs = (size (c .before .before .before .before .before .before .before .before .before .before .pre), omega (arith, c .before .before .before .method-of .ensures, last-saved (c .before .before .before .before .before .before .before .before .before .before .pre) (c .before .before .before .before .before .before .before .if1 .left) .1, c .before .before .before .before .before .before .before .before .before .before .pre .represents .tables .methods))
 
--- src/lib.rt:549:11
 footprint-requires : tie.Need-footprint-requires
 footprint-requires c κs = let r = end-atoms (c .before .before .before .before .before .before .before .before .before .before .before .before .before .pre) (c .before .before .before .before .before .before .before .before .before .before .if1 .left) _ _ _ (c .before .before .before .before .before .before .method-of .ensures) (c .before .before .before .before .ensures-first .ensures .0) (c .before .before .ensures-count .ensures .0) in ((view-readable (c .before .before .before .before .before .before .before .before .before .before .before .before .before .pre) (c .before .before .before .before .before .before .before .before .view-of .ensures), r .0), (r .1, refl))
 
--- src/lib.rt:550:21
 enum-known-k : tie.Need-enum-known-k
 enum-known-k c = search needs
 
--- src/lib.rt:550:27
 leave-requires : tie.Need-leave-requires
 leave-requires c κs = record { ready = c .before .before .before .before .before .before .before .before .before .before .before .before .before .before .before .before .before .before .before .pre; inner = c .before .before .before .before .before .before .before .before .before .before .before .before .before .before .before .before .if1 .left; size = c .before .before .before .before .before .footprint .ensures .size; count = count-cells _ _ _ (c .before .before .before .k .given .1) (c .before .before .before .before .before .footprint .ensures .count); took = sym (end-takes (c .before .before .before .before .before .before .before .before .before .before .before .before .before .before .before .before .before .before .before .pre) (c .before .before .before .before .before .before .before .before .before .before .before .before .before .before .before .before .if1 .left) _ _ _ (c .before .before .before .before .before .before .before .before .before .before .before .before .method-of .ensures) (c .before .before .before .before .before .before .before .before .before .before .ensures-first .ensures .0) (c .before .before .before .before .before .before .before .before .ensures-count .ensures .0) _ (c .before .before .before .before .before .before .before .before .before .before .before .before .before .before .view-of .ensures)) ∙ took-cells _ _ _ (c .before .before .before .k .given .1) (c .before .before .before .before .before .footprint .ensures .took) }
 
--- src/lib.rt:551:23
 enum-known-s : tie.Need-enum-known-s
 enum-known-s c = search needs
 
--- src/lib.rt:536:1
 same-length : tie.Need-same-length
 same-length c = search needs
 
--- src/lib.rt:536:1
 returns-2 : tie.Need-returns-2
 returns-2 c = search needs
 
--- src/lib.rt:536:1
 same-length-2 : tie.Need-same-length-2
 same-length-2 c = search needs
 
--- src/lib.rt:536:1
 returns-3 : tie.Need-returns-3
 returns-3 c = end-stops (c .before .before .before .before .before .before .before .before .before .before .before .before .before .before .before .before .before .pre) (c .before .before .before .before .before .before .before .before .before .before .before .before .before .before .if1 .left) _ (sym (end-takes (c .before .before .before .before .before .before .before .before .before .before .before .before .before .before .before .before .before .pre) (c .before .before .before .before .before .before .before .before .before .before .before .before .before .before .if1 .left) _ _ _ (c .before .before .before .before .before .before .before .before .before .before .method-of .ensures) (c .before .before .before .before .before .before .before .before .ensures-first .ensures .0) (c .before .before .before .before .before .before .ensures-count .ensures .0) _ (c .before .before .before .before .before .before .before .before .before .before .before .before .view-of .ensures)) ∙ took-lacking _ _ _ (c .before .s .given .1) (c .before .before .before .footprint .ensures .took))
 

@@ -2,41 +2,28 @@ use mathlib.Core.Path.{refl, sym, ap, _∙_}
 use borrow.Author.Needs.{needs}
 use Rattle.machine.proofs.enter.Statement.{statement}
 use Rattle.machine.proofs.enter.Tie as tie
-use Rattle.machine.proofs.enter.Reads as reads
-use Rattle.machine.proofs.enter.Lts as lts
-use Rattle.machine.proofs.call_in.Reads as call-in-reads
-use Rattle.machine.proofs.mark.Reads as mark-reads
-use Rattle.tables.proofs.first_row_at.Reads as first-row-at-reads
 
--- src/lib.rt:594:9
 returns : tie.Need-returns
 returns c = search needs
 
--- src/lib.rt:596:9
 first-row-at-requires : tie.Need-first-row-at-requires
 first-row-at-requires c κs = search needs
 
--- src/lib.rt:597:26
 add-mark : tie.Need-add-mark
 add-mark c = search needs
 
--- src/lib.rt:597:5
 mark-requires : tie.Need-mark-requires
 mark-requires c κs = search needs
 
--- src/lib.rt:598:25
 cast-call-in : tie.Need-cast-call-in
 cast-call-in c = search needs
 
--- src/lib.rt:598:14
 call-in-requires : tie.Need-call-in-requires
 call-in-requires c κs = search needs
 
--- src/lib.rt:589:1
 same-length : tie.Need-same-length
 same-length c = search needs
 
--- src/lib.rt:589:1
 returns-2 : tie.Need-returns-2
 returns-2 c = (c .before .before .before .before .before .before .before .before .if1 .left, c .before .before .before .mark .ensures, c .call-in .ensures ∙ rw (c .before .before .before .before .before .before .first-row-at .ensures .0))
 

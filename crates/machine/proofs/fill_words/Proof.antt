@@ -8,9 +8,6 @@ use Prim.Native.Nat.{_≤_, _-_, _+_, _*_}
 use Rattle.machine.proofs.Cells.{fill-next, fill-end}
 use Rattle.machine.proofs.fill_words.Statement.{statement}
 use Rattle.machine.proofs.fill_words.Tie as tie
-use Rattle.machine.proofs.fill_words.Reads as reads
-use Rattle.machine.proofs.fill_words.Lts as lts
-use Rattle.tables.proofs.put_word.Reads as put-word-reads
 
 abbrev Inv-loop : tie.InvT-loop
 Inv-loop work₀ at n v i₀ work i = (i ≤ n) × (length work ≡ length work₀) × (fill work (at + i * 4) (n - i) v ≡ fill work₀ at n v)
@@ -18,39 +15,30 @@ Inv-loop work₀ at n v i₀ work i = (i ≤ n) × (length work ≡ length work�
 abbrev μ-loop : tie.MeasureT-loop
 μ-loop work₀ at n v i₀ work i = n - i
 
--- src/lib.rt:305:5
 loop-holds : tie.Need-loop-holds Inv-loop μ-loop
 loop-holds c = (omega arith, refl, let e : c .before .args .at + 0 * 4 ≡ c .before .args .at = omega arith in let f : c .before .args .n - 0 ≡ c .before .args .n = omega arith in rw (e, f))
 
--- src/lib.rt:306:37
 mul-put-word : tie.Need-mul-put-word Inv-loop μ-loop
 mul-put-word c = omega arith
 
--- src/lib.rt:306:32
 add-put-word : tie.Need-add-put-word Inv-loop μ-loop
 add-put-word c = omega arith
 
--- src/lib.rt:306:9
 put-word-requires : tie.Need-put-word-requires Inv-loop μ-loop
 put-word-requires c κs = omega arith
 
--- src/lib.rt:307:9
 add-i : tie.Need-add-i Inv-loop μ-loop
 add-i c = omega arith
 
--- src/lib.rt:305:5
 loop-less : tie.Need-loop-less Inv-loop μ-loop
 loop-less c = omega arith
 
--- src/lib.rt:305:5
 loop-again : tie.Need-loop-again Inv-loop μ-loop
 loop-again c = (omega arith, c .before .before .put-word .kept .0 ∙ c .before .before .before .before .before .loop .inv .1, rw (c .before .before .put-word .ensures) (fill-next _ _ _ _ _ (c .before .before .before .before .loop-test .taken) ∙ c .before .before .before .before .before .loop .inv .2))
 
--- src/lib.rt:300:1
 same-length : tie.Need-same-length Inv-loop μ-loop
 same-length c = c .before .loop .inv .1
 
--- src/lib.rt:300:1
 returns : tie.Need-returns Inv-loop μ-loop
 returns c = sym (fill-end _ _ _ _ _ (c .loop-test .left)) ∙ c .before .loop .inv .2
 

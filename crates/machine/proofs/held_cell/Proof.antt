@@ -5,20 +5,14 @@ use mathlib.Core.Path.{refl, sym, ap, _∙_}
 use borrow.Author.Needs.{needs}
 use Rattle.machine.proofs.held_cell.Statement.{statement}
 use Rattle.machine.proofs.held_cell.Tie as tie
-use Rattle.machine.proofs.held_cell.Reads as reads
-use Rattle.machine.proofs.held_cell.Lts as lts
-use Rattle.machine.proofs.cell_holder.Reads as cell-holder-reads
 
--- src/lib.rt:87:9
 cell-holder-requires : tie.Need-cell-holder-requires
 cell-holder-requires c κs = search needs
 
--- src/lib.rt:89:9
 returns : tie.Need-returns
 unfolding spotIs heldCell check _>>_
 returns c = rw (eq-eqb _ _ (sym (c .before .cell-holder .ensures) ∙ c .if1 .taken))
 
--- src/lib.rt:83:1
 returns-2 : tie.Need-returns-2
 unfolding spotIs heldCell check _>>_ stopOf
 returns-2 c = rw (ne-eqb _ _ (λ e. c .if1 .left (c .before .cell-holder .ensures ∙ e)))

@@ -4,71 +4,49 @@ use Rattle.machine.proofs.Reading.{truth-holds, truth-fails, truth-lack
 use borrow.Author.Needs.{needs}
 use Rattle.machine.proofs.if_step.Statement.{statement}
 use Rattle.machine.proofs.if_step.Tie as tie
-use Rattle.machine.proofs.if_step.Reads as reads
-use Rattle.machine.proofs.if_step.Lts as lts
-use Rattle.machine.proofs.next.Reads as next-reads
-use Rattle.machine.proofs.test.Reads as test-reads
-use Rattle.machine.proofs.view_of.Reads as view-of-reads
-use Rattle.tables.proofs.first_atom_at.Reads as first-atom-at-reads
-use Rattle.tables.proofs.target_at.Reads as target-at-reads
 
--- src/lib.rt:410:15
 cast-row : tie.Need-cast-row
 cast-row c = search needs
 
--- src/lib.rt:411:9
 first-atom-at-requires : tie.Need-first-atom-at-requires
 first-atom-at-requires c κs = search needs
 
--- src/lib.rt:412:22
 view-of-requires : tie.Need-view-of-requires
 view-of-requires c κs = search needs
 
--- src/lib.rt:412:11
 test-requires : tie.Need-test-requires
 test-requires c κs = (view-readable (c .before .before .before .before .pre .0) (c .view-of .ensures), rw (c .before .first-atom-at .ensures .0) (if-atom (c .before .before .before .before .pre .0) (c .before .before .before .before .pre .1)))
 
--- src/lib.rt:413:42
 enum-told : tie.Need-enum-told
 enum-told c = search needs
 
--- src/lib.rt:413:42
 add-next : tie.Need-add-next
 add-next c = search needs
 
--- src/lib.rt:413:34
 next-requires : tie.Need-next-requires
 next-requires c κs = search needs
 
--- src/lib.rt:414:42
 enum-told-2 : tie.Need-enum-told-2
 enum-told-2 c = search needs
 
--- src/lib.rt:414:42
 target-at-requires : tie.Need-target-at-requires
 target-at-requires c κs = search needs
 
--- src/lib.rt:414:42
 cast-next : tie.Need-cast-next
 cast-next c = search needs
 
--- src/lib.rt:414:34
 next-requires-2 : tie.Need-next-requires-2
 next-requires-2 c κs = search needs
 
--- src/lib.rt:415:24
 enum-known-s : tie.Need-enum-known-s
 enum-known-s c = search needs
 
--- src/lib.rt:406:1
 returns : tie.Need-returns
 returns c = if-holds (c .before .before .before .before .before .before .before .before .before .pre .0) (c .before .before .before .before .before .before .before .before .before .pre .1) _ _ (c .before .before .before .before .before .view-of .ensures) (c .before .before .before .before .before .before .first-atom-at .ensures .0) (truth-holds _ (c .before .before .enum-told .given .1) (c .before .before .before .before .test .ensures)) (c .next .ensures)
 
--- src/lib.rt:406:1
 returns-2 : tie.Need-returns-2
 returns-2 c = if-fails (c .before .before .before .before .before .before .before .before .before .pre .0) (c .before .before .before .before .before .before .before .before .before .pre .1) _ _ (c .before .before .before .before .before .view-of .ensures) (c .before .before .before .before .before .before .first-atom-at .ensures .0) (truth-fails _ (c .before .before .enum-told2 .given .1) (c .before .before .before .before .test .ensures)) (c .next2 .ensures ∙ rw (c .before .target-at .ensures .0))
 
--- src/lib.rt:406:1
 returns-3 : tie.Need-returns-3
 returns-3 c = if-stops (c .before .before .before .before .before .before .before .before .pre .0) (c .before .before .before .before .before .before .before .before .pre .1) _ _ (c .before .before .before .before .view-of .ensures) (c .before .before .before .before .before .first-atom-at .ensures .0) _ (truth-lacking _ _ (c .before .s .given .1) (c .before .before .before .test .ensures))
 

@@ -3,20 +3,13 @@ use mathlib.Core.Path.{refl, sym, ap, _∙_}
 use borrow.Author.Needs.{needs}
 use Rattle.machine.proofs.left.Statement.{statement}
 use Rattle.machine.proofs.left.Tie as tie
-use Rattle.machine.proofs.left.Reads as reads
-use Rattle.machine.proofs.left.Lts as lts
-use Rattle.machine.proofs.value.Reads as value-reads
-use Rattle.tables.proofs.left_at.Reads as left-at-reads
 
--- src/lib.rt:164:20
 left-at-requires : tie.Need-left-at-requires
 left-at-requires c κs = search needs
 
--- src/lib.rt:164:5
 value-requires : tie.Need-value-requires
 value-requires c κs = (c .before .before .pre .0, left-fits _ _ _ (c .before .before .pre .0 .tables .atom-fits (c .before .before .args .a) (c .before .before .pre .1)) (c .left-at .ensures))
 
--- src/lib.rt:160:1
 returns : tie.Need-returns
 returns c = c .value .ensures ∙ rw (c .before .left-at .ensures)
 

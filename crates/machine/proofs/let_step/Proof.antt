@@ -5,76 +5,52 @@ use Rattle.machine.proofs.Reading.{read-got, read-lacking}
 use borrow.Author.Needs.{needs}
 use Rattle.machine.proofs.let_step.Statement.{statement}
 use Rattle.machine.proofs.let_step.Tie as tie
-use Rattle.machine.proofs.let_step.Reads as reads
-use Rattle.machine.proofs.let_step.Lts as lts
-use Rattle.machine.proofs.next.Reads as next-reads
-use Rattle.machine.proofs.right.Reads as right-reads
-use Rattle.machine.proofs.view_of.Reads as view-of-reads
-use Rattle.tables.proofs.first_atom_at.Reads as first-atom-at-reads
-use Rattle.tables.proofs.put_word.Reads as put-word-reads
-use Rattle.tables.proofs.x_at.Reads as x-at-reads
 
--- src/lib.rt:433:15
 cast-row : tie.Need-cast-row
 cast-row c = search needs
 
--- src/lib.rt:434:9
 view-of-requires : tie.Need-view-of-requires
 view-of-requires c κs = search needs
 
--- src/lib.rt:436:9
 first-atom-at-requires : tie.Need-first-atom-at-requires
 first-atom-at-requires c κs = search needs
 
--- src/lib.rt:437:11
 right-requires : tie.Need-right-requires
 right-requires c κs = (view-readable (c .before .before .before .before .before .before .pre .0) (c .before .before .before .view-of .ensures), rw (c .before .first-atom-at .ensures .0) (let-atom (c .before .before .before .before .before .before .pre .0) (c .before .before .before .before .before .before .pre .1)))
 
--- src/lib.rt:438:19
 enum-known-n : tie.Need-enum-known-n
 enum-known-n c = search needs
 
--- src/lib.rt:439:17
 x-at-requires : tie.Need-x-at-requires
 x-at-requires c κs = search needs
 
--- src/lib.rt:440:40
 mul-put-word : tie.Need-mul-put-word
 mul-put-word c = search needs
 
--- src/lib.rt:440:36
 add-put-word : tie.Need-add-put-word
 add-put-word c = omega (arith, base-fits (c .before .before .before .before .before .before .before .before .before .before .before .before .before .pre .0) (c .before .before .before .before .before .before .before .before .before .before .view-of .ensures), c .before .x-at .ensures .0, fits (c .before .before .before .before .before .before .before .before .before .before .before .before .before .pre .0) .x, size (c .before .before .before .before .before .before .before .before .before .before .before .before .before .pre .0))
 
--- src/lib.rt:440:13
 put-word-requires : tie.Need-put-word-requires
 put-word-requires c κs = omega (arith, base-fits (c .before .before .before .before .before .before .before .before .before .before .before .before .before .pre .0) (c .before .before .before .before .before .before .before .before .before .before .view-of .ensures), c .before .x-at .ensures .0, fits (c .before .before .before .before .before .before .before .before .before .before .before .before .before .pre .0) .x, size (c .before .before .before .before .before .before .before .before .before .before .before .before .before .pre .0))
 
--- src/lib.rt:441:30
 add-next : tie.Need-add-next
 add-next c = search needs
 
--- src/lib.rt:441:22
 next-requires : tie.Need-next-requires
 next-requires c κs = search needs
 
--- src/lib.rt:443:23
 enum-known-s : tie.Need-enum-known-s
 enum-known-s c = search needs
 
--- src/lib.rt:429:1
 same-length : tie.Need-same-length
 same-length c = search needs
 
--- src/lib.rt:429:1
 returns : tie.Need-returns
 returns c = let-does (c .before .before .before .before .before .before .before .before .before .before .before .before .before .before .before .before .before .before .pre .0) (c .before .before .before .before .before .before .before .before .before .before .before .before .before .before .before .before .before .before .pre .1) _ _ (c .before .before .before .before .before .before .before .before .before .before .before .before .before .before .before .view-of .ensures) (c .before .before .before .before .before .before .before .before .before .before .before .before .before .first-atom-at .ensures .0) _ _ (c .before .before .before .before .before .before .x-at .ensures .0) (search needs) (read-got _ _ (c .before .before .before .before .before .before .before .before .before .n .given .1) (c .before .before .before .before .before .before .before .before .before .before .before .right .ensures)) (c .before .before .before .before .put-word .ensures) (c .next .ensures)
 
--- src/lib.rt:429:1
 same-length-2 : tie.Need-same-length-2
 same-length-2 c = search needs
 
--- src/lib.rt:429:1
 returns-2 : tie.Need-returns-2
 returns-2 c = let-stops (c .before .before .before .before .before .before .before .before .before .before .pre .0) (c .before .before .before .before .before .before .before .before .before .before .pre .1) _ _ (c .before .before .before .before .before .before .before .view-of .ensures) (c .before .before .before .before .before .first-atom-at .ensures .0) _ (read-lacking _ _ (c .before .s .given .1) (c .before .before .before .right .ensures))
 

@@ -9,9 +9,6 @@ use denote.Ref.{now}
 use Rattle.machine.proofs.Cells.{mark-next, mark-end, nth-among}
 use Rattle.machine.proofs.mark.Statement.{statement}
 use Rattle.machine.proofs.mark.Tie as tie
-use Rattle.machine.proofs.mark.Reads as reads
-use Rattle.machine.proofs.mark.Lts as lts
-use Rattle.tables.proofs.put_word.Reads as put-word-reads
 
 abbrev Inv-loop : tie.InvT-loop
 Inv-loop work₀ cells n v i₀ work i = (i ≤ n) × (length work ≡ length work₀) × (marked work (drop i (take n cells)) v ≡ marked work₀ (take n cells) v)
@@ -19,47 +16,36 @@ Inv-loop work₀ cells n v i₀ work i = (i ≤ n) × (length work ≡ length wo
 abbrev μ-loop : tie.MeasureT-loop
 μ-loop work₀ cells n v i₀ work i = n - i
 
--- src/lib.rt:317:5
 loop-holds : tie.Need-loop-holds Inv-loop μ-loop
 loop-holds c = (omega arith, refl, refl)
 
--- src/lib.rt:318:17
 mul-k : tie.Need-mul-k Inv-loop μ-loop
 mul-k c = omega arith
 
--- src/lib.rt:318:17
 element-copy-out-k : tie.Need-element-copy-out-k Inv-loop μ-loop
 element-copy-out-k c = omega arith
 
--- src/lib.rt:319:50
 mul-put-word : tie.Need-mul-put-word Inv-loop μ-loop
 mul-put-word c = let g : length (c .before .before .before .before .before .args .cells .now) ≡ 8 = c .before .before .before .before .before .pre .0 .1 .1 in omega (arith, c .before .before .before .before .before .pre .1 (getD (c .before .before .before .before .before .args .cells .now) (c .before .before .before .loop .i) 0) (nth-among (c .before .before .before .before .before .args .cells .now) _ _ (omega arith) (c .before .before .loop-test .taken)))
 
--- src/lib.rt:319:32
 add-put-word : tie.Need-add-put-word Inv-loop μ-loop
 add-put-word c = let g : length (c .before .before .before .before .before .args .cells .now) ≡ 8 = c .before .before .before .before .before .pre .0 .1 .1 in omega (arith, c .before .before .before .before .before .pre .1 (getD (c .before .before .before .before .before .args .cells .now) (c .before .before .before .loop .i) 0) (nth-among (c .before .before .before .before .before .args .cells .now) _ _ (omega arith) (c .before .before .loop-test .taken)))
 
--- src/lib.rt:319:9
 put-word-requires : tie.Need-put-word-requires Inv-loop μ-loop
 put-word-requires c κs = let g : length (c .before .before .before .before .before .args .cells .now) ≡ 8 = c .before .before .before .before .before .pre .0 .1 .1 in omega (arith, c .before .before .before .before .before .pre .1 (getD (c .before .before .before .before .before .args .cells .now) (c .before .before .before .loop .i) 0) (nth-among (c .before .before .before .before .before .args .cells .now) _ _ (omega arith) (c .before .before .loop-test .taken)))
 
--- src/lib.rt:320:9
 add-i : tie.Need-add-i Inv-loop μ-loop
 add-i c = omega arith
 
--- src/lib.rt:317:5
 loop-less : tie.Need-loop-less Inv-loop μ-loop
 loop-less c = omega arith
 
--- src/lib.rt:317:5
 loop-again : tie.Need-loop-again Inv-loop μ-loop
 loop-again c = let g : length (c .before .before .before .before .before .before .before .before .args .cells .now) ≡ 8 = c .before .before .before .before .before .before .before .before .pre .0 .1 .1 in (omega arith, c .before .before .put-word .kept .0 ∙ c .before .before .before .before .before .before .loop .inv .1, rw (c .before .before .put-word .ensures) (mark-next _ (c .before .before .before .before .before .before .before .before .args .cells .now) _ _ _ (omega arith) (c .before .before .before .before .before .loop-test .taken) ∙ c .before .before .before .before .before .before .loop .inv .2))
 
--- src/lib.rt:312:1
 same-length : tie.Need-same-length Inv-loop μ-loop
 same-length c = c .before .loop .inv .1
 
--- src/lib.rt:312:1
 returns : tie.Need-returns Inv-loop μ-loop
 returns c = sym (mark-end _ (now (c .before .before .before .args .cells)) _ _ _ (c .loop-test .left)) ∙ c .before .loop .inv .2
 

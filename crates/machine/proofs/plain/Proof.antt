@@ -3,43 +3,31 @@ use mathlib.Core.Path.{refl, sym, ap, _∙_}
 use borrow.Author.Needs.{needs}
 use Rattle.machine.proofs.plain.Statement.{statement}
 use Rattle.machine.proofs.plain.Tie as tie
-use Rattle.machine.proofs.plain.Reads as reads
-use Rattle.machine.proofs.plain.Lts as lts
-use Rattle.machine.proofs.variable.Reads as variable-reads
 
--- src/lib.rt:139:19
 enum-known-e : tie.Need-enum-known-e
 enum-known-e c = search needs
 
--- src/lib.rt:140:23
 enum-told : tie.Need-enum-told
 enum-told c = search needs
 
--- src/lib.rt:141:19
 enum-known-e-2 : tie.Need-enum-known-e-2
 enum-known-e-2 c = search needs
 
--- src/lib.rt:141:25
 variable-requires : tie.Need-variable-requires
 variable-requires c κs = (omega (arith, c .before .before .before .before .pre .0 .base, c .before .before .before .before .pre .0 .tables .size), rw (c .before .e2 .given .1) at (c .before .before .before .before .pre .1))
 
--- src/lib.rt:142:29
 enum-told-2 : tie.Need-enum-told-2
 enum-told-2 c = search needs
 
--- src/lib.rt:134:1
 returns : tie.Need-returns
 returns c = rw (c .before .e .given .1) refl
 
--- src/lib.rt:134:1
 returns-2 : tie.Need-returns-2
 returns-2 c = rw (c .enum-told .given .1) refl
 
--- src/lib.rt:134:1
 returns-3 : tie.Need-returns-3
 returns-3 c = rw (c .before .before .e2 .given .1) (c .variable .ensures)
 
--- src/lib.rt:134:1
 returns-4 : tie.Need-returns-4
 returns-4 c = rw (c .enum-told2 .given .1) tt
 

@@ -8,32 +8,23 @@ use Rattle.machine.proofs.Reading.{new-taken, new-free}
 use borrow.Author.Needs.{needs}
 use Rattle.machine.proofs.put_cell.Statement.{statement}
 use Rattle.machine.proofs.put_cell.Tie as tie
-use Rattle.machine.proofs.put_cell.Reads as reads
-use Rattle.machine.proofs.put_cell.Lts as lts
-use Rattle.machine.proofs.among.Reads as among-reads
 
--- src/lib.rt:246:8
 among-requires : tie.Need-among-requires
 among-requires c κs = search needs
 
--- src/lib.rt:247:9
 returns : tie.Need-returns
 unfolding tookIs stopOf countOf
 returns c = record { took = sym (new-taken _ _ (sym (c .before .among .ensures) ∙ c .if1 .taken)); count = omega arith; size = c .before .before .before .pre .1 }
 
--- src/lib.rt:249:5
 mul-cells : tie.Need-mul-cells
 mul-cells c = search needs
 
--- src/lib.rt:249:5
 element-write-cells : tie.Need-element-write-cells
 element-write-cells c = search needs
 
--- src/lib.rt:250:17
 add-t7 : tie.Need-add-t7
 add-t7 c = search needs
 
--- src/lib.rt:242:1
 returns-2 : tie.Need-returns-2
 unfolding tookIs countOf
 returns-2 c = record { took = rw (add-one, take-suc-set (c .before .before .before .args .cells .now) (c .before .before .before .args .n) (c .before .before .before .args .k) (omega arith)) (sym (new-free _ _ (sym (c .before .among .ensures) ∙ c .if1 .left))); count = omega arith; size = simp length-set (c .before .before .before .pre .1) }

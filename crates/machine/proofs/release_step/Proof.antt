@@ -4,49 +4,34 @@ use Rattle.machine.proofs.Reading.{took-cells, took-lacking, count-cell
 use borrow.Author.Needs.{needs}
 use Rattle.machine.proofs.release_step.Statement.{statement}
 use Rattle.machine.proofs.release_step.Tie as tie
-use Rattle.machine.proofs.release_step.Reads as reads
-use Rattle.machine.proofs.release_step.Lts as lts
-use Rattle.machine.proofs.mark.Reads as mark-reads
-use Rattle.machine.proofs.next.Reads as next-reads
-use Rattle.machine.proofs.row_footprint.Reads as row-footprint-reads
 
--- src/lib.rt:396:11
 row-footprint-requires : tie.Need-row-footprint-requires
 row-footprint-requires c κs = search needs
 
--- src/lib.rt:397:21
 enum-known-n : tie.Need-enum-known-n
 enum-known-n c = search needs
 
--- src/lib.rt:398:13
 mark-requires : tie.Need-mark-requires
 mark-requires c κs = ((size (c .before .before .before .before .before .before .before .before .before .pre .0), (count-cells _ _ _ (c .before .before .before .n .given .1) (c .before .before .before .before .before .row-footprint .ensures .count), c .before .before .before .before .before .row-footprint .ensures .size)), taken-small (c .before .before .before .before .before .before .before .before .before .pre .0) _ (took-cells _ _ _ (c .before .before .before .n .given .1) (c .before .before .before .before .before .row-footprint .ensures .took)))
 
--- src/lib.rt:399:30
 add-next : tie.Need-add-next
 add-next c = search needs
 
--- src/lib.rt:399:22
 next-requires : tie.Need-next-requires
 next-requires c κs = search needs
 
--- src/lib.rt:401:23
 enum-known-s : tie.Need-enum-known-s
 enum-known-s c = search needs
 
--- src/lib.rt:391:1
 same-length : tie.Need-same-length
 same-length c = search needs
 
--- src/lib.rt:391:1
 returns : tie.Need-returns
 returns c = release-does (c .before .before .before .before .before .before .before .before .before .before .before .before .before .before .pre .0) _ (c .before .before .before .before .before .before .before .before .before .before .before .before .before .before .pre .1) (took-cells _ _ _ (c .before .before .before .before .before .before .before .before .n .given .1) (c .before .before .before .before .before .before .before .before .before .before .row-footprint .ensures .took)) (c .before .before .before .before .mark .ensures) (c .next .ensures)
 
--- src/lib.rt:391:1
 same-length-2 : tie.Need-same-length-2
 same-length-2 c = search needs
 
--- src/lib.rt:391:1
 returns-2 : tie.Need-returns-2
 returns-2 c = release-stops (c .before .before .before .before .before .before .before .pre .0) _ (took-lacking _ _ _ (c .before .s .given .1) (c .before .before .before .row-footprint .ensures .took))
 

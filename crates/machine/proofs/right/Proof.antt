@@ -3,20 +3,13 @@ use mathlib.Core.Path.{refl, sym, ap, _∙_}
 use borrow.Author.Needs.{needs}
 use Rattle.machine.proofs.right.Statement.{statement}
 use Rattle.machine.proofs.right.Tie as tie
-use Rattle.machine.proofs.right.Reads as reads
-use Rattle.machine.proofs.right.Lts as lts
-use Rattle.machine.proofs.value.Reads as value-reads
-use Rattle.tables.proofs.right_at.Reads as right-at-reads
 
--- src/lib.rt:171:20
 right-at-requires : tie.Need-right-at-requires
 right-at-requires c κs = search needs
 
--- src/lib.rt:171:5
 value-requires : tie.Need-value-requires
 value-requires c κs = (c .before .before .pre .0, right-fits _ _ _ (c .before .before .pre .0 .tables .atom-fits (c .before .before .args .a) (c .before .before .pre .1)) (c .right-at .ensures))
 
--- src/lib.rt:167:1
 returns : tie.Need-returns
 returns c = c .value .ensures ∙ rw (c .before .right-at .ensures)
 

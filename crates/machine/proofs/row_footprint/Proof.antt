@@ -3,34 +3,22 @@ use mathlib.Core.Path.{refl, sym, ap, _∙_}
 use borrow.Author.Needs.{needs}
 use Rattle.machine.proofs.row_footprint.Statement.{statement}
 use Rattle.machine.proofs.row_footprint.Tie as tie
-use Rattle.machine.proofs.row_footprint.Reads as reads
-use Rattle.machine.proofs.row_footprint.Lts as lts
-use Rattle.machine.proofs.footprint.Reads as footprint-reads
-use Rattle.machine.proofs.view_of.Reads as view-of-reads
-use Rattle.tables.proofs.atom_count_at.Reads as atom-count-at-reads
-use Rattle.tables.proofs.first_atom_at.Reads as first-atom-at-reads
 
--- src/lib.rt:371:15
 cast-row : tie.Need-cast-row
 cast-row c = search needs
 
--- src/lib.rt:372:9
 view-of-requires : tie.Need-view-of-requires
 view-of-requires c κs = search needs
 
--- src/lib.rt:373:9
 first-atom-at-requires : tie.Need-first-atom-at-requires
 first-atom-at-requires c κs = search needs
 
--- src/lib.rt:374:9
 atom-count-at-requires : tie.Need-atom-count-at-requires
 atom-count-at-requires c κs = search needs
 
--- src/lib.rt:375:5
 footprint-requires : tie.Need-footprint-requires
 footprint-requires c κs = let r = row-atoms (c .before .before .before .before .before .before .pre .0) _ _ _ (c .before .before .before .view-of .ensures) (c .before .before .first-atom-at .ensures .0) (c .before .atom-count-at .ensures .0) in ((view-readable (c .before .before .before .before .before .before .pre .0) (c .before .before .before .view-of .ensures), r .0), (r .1, c .before .before .before .before .before .before .pre .1))
 
--- src/lib.rt:367:1
 returns : tie.Need-returns
 returns c = record { took = c .footprint .ensures .took ∙ row-takes (c .before .before .before .before .before .before .before .pre .0) _ _ _ (c .before .before .before .before .view-of .ensures) (c .before .before .before .first-atom-at .ensures .0) (c .before .before .atom-count-at .ensures .0); count = c .footprint .ensures .count; size = c .footprint .ensures .size }
 

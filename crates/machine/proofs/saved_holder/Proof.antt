@@ -2,27 +2,19 @@ use Rattle.machine.specs.Views.{savedHolder}
 use borrow.Author.Needs.{needs}
 use Rattle.machine.proofs.saved_holder.Statement.{statement}
 use Rattle.machine.proofs.saved_holder.Tie as tie
-use Rattle.machine.proofs.saved_holder.Reads as reads
-use Rattle.machine.proofs.saved_holder.Lts as lts
-use Rattle.tables.proofs.word_at.Reads as word-at-reads
 
--- src/lib.rt:486:44
 mul-word-at : tie.Need-mul-word-at
 mul-word-at c = search needs
 
--- src/lib.rt:486:27
 add-word-at : tie.Need-add-word-at
 add-word-at c = search needs
 
--- src/lib.rt:486:27
 add-word-at-2 : tie.Need-add-word-at-2
 add-word-at-2 c = search needs
 
--- src/lib.rt:486:5
 word-at-requires : tie.Need-word-at-requires
 word-at-requires c κs = search needs
 
--- src/lib.rt:482:1
 returns : tie.Need-returns
 unfolding savedHolder
 returns c = c .word-at .ensures

@@ -2,27 +2,19 @@ use Rattle.machine.specs.Views.{savedRow}
 use borrow.Author.Needs.{needs}
 use Rattle.machine.proofs.saved_row.Statement.{statement}
 use Rattle.machine.proofs.saved_row.Tie as tie
-use Rattle.machine.proofs.saved_row.Reads as reads
-use Rattle.machine.proofs.saved_row.Lts as lts
-use Rattle.tables.proofs.half_at.Reads as half-at-reads
 
--- src/lib.rt:493:44
 mul-half-at : tie.Need-mul-half-at
 mul-half-at c = search needs
 
--- src/lib.rt:493:27
 add-half-at : tie.Need-add-half-at
 add-half-at c = search needs
 
--- src/lib.rt:493:27
 add-half-at-2 : tie.Need-add-half-at-2
 add-half-at-2 c = search needs
 
--- src/lib.rt:493:5
 half-at-requires : tie.Need-half-at-requires
 half-at-requires c κs = search needs
 
--- src/lib.rt:489:1
 returns : tie.Need-returns
 unfolding savedRow
 returns c = c .half-at .ensures

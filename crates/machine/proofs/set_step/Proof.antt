@@ -5,86 +5,58 @@ use Rattle.machine.proofs.Reading.{spot-at, spot-lacking}
 use borrow.Author.Needs.{needs}
 use Rattle.machine.proofs.set_step.Statement.{statement}
 use Rattle.machine.proofs.set_step.Tie as tie
-use Rattle.machine.proofs.set_step.Reads as reads
-use Rattle.machine.proofs.set_step.Lts as lts
-use Rattle.machine.proofs.locate.Reads as locate-reads
-use Rattle.machine.proofs.next.Reads as next-reads
-use Rattle.machine.proofs.variable.Reads as variable-reads
-use Rattle.machine.proofs.view_of.Reads as view-of-reads
-use Rattle.tables.proofs.member_at.Reads as member-at-reads
-use Rattle.tables.proofs.put_word.Reads as put-word-reads
-use Rattle.tables.proofs.x_at.Reads as x-at-reads
-use Rattle.tables.proofs.y_at.Reads as y-at-reads
 
--- src/lib.rt:466:15
 cast-row : tie.Need-cast-row
 cast-row c = search needs
 
--- src/lib.rt:467:9
 view-of-requires : tie.Need-view-of-requires
 view-of-requires c κs = search needs
 
--- src/lib.rt:469:9
 x-at-requires : tie.Need-x-at-requires
 x-at-requires c κs = search needs
 
--- src/lib.rt:470:9
 member-at-requires : tie.Need-member-at-requires
 member-at-requires c κs = search needs
 
--- src/lib.rt:471:11
 locate-requires : tie.Need-locate-requires
 locate-requires c κs = (view-readable (c .before .before .before .before .before .before .before .before .pre .0) (c .before .before .before .before .before .view-of .ensures), set-operands (c .before .before .before .before .before .before .before .before .pre .0) (c .before .before .before .before .before .before .before .before .pre .1) _ _ _ (c .before .before .before .before .before .view-of .ensures) (c .before .before .before .x-at .ensures .0) (c .before .member-at .ensures .0))
 
--- src/lib.rt:472:18
 enum-known-k : tie.Need-enum-known-k
 enum-known-k c = search needs
 
--- src/lib.rt:473:17
 y-at-requires : tie.Need-y-at-requires
 y-at-requires c κs = search needs
 
--- src/lib.rt:474:17
 variable-requires : tie.Need-variable-requires
 variable-requires c κs = (omega (arith, base-fits (c .before .before .before .before .before .before .before .before .before .before .before .before .before .before .before .pre .0) (c .before .before .before .before .before .before .before .before .before .before .before .before .view-of .ensures), size (c .before .before .before .before .before .before .before .before .before .before .before .before .before .before .before .pre .0)), omega (arith, c .before .y-at .ensures .0, fits (c .before .before .before .before .before .before .before .before .before .before .before .before .before .before .before .pre .0) .y))
 
--- src/lib.rt:475:53
 mul-put-word : tie.Need-mul-put-word
 mul-put-word c = let l = set-small (c .before .before .before .before .before .before .before .before .before .before .before .before .before .before .before .before .before .pre .0) (c .before .before .before .before .before .before .before .before .before .before .before .before .before .before .before .before .before .pre .1) _ _ _ (c .before .before .before .before .before .before .before .before .before .before .before .before .before .before .view-of .ensures) (c .before .before .before .before .before .before .before .before .before .before .before .before .x-at .ensures .0) (c .before .before .before .before .before .before .before .before .before .before .member-at .ensures .0) _ (spot-at _ _ (c .before .before .before .before .before .before .k .given .1) (c .before .before .before .before .before .before .before .before .locate .ensures)) in omega (arith, l, size (c .before .before .before .before .before .before .before .before .before .before .before .before .before .before .before .before .before .pre .0))
 
--- src/lib.rt:475:36
 add-put-word : tie.Need-add-put-word
 add-put-word c = let l = set-small (c .before .before .before .before .before .before .before .before .before .before .before .before .before .before .before .before .before .pre .0) (c .before .before .before .before .before .before .before .before .before .before .before .before .before .before .before .before .before .pre .1) _ _ _ (c .before .before .before .before .before .before .before .before .before .before .before .before .before .before .view-of .ensures) (c .before .before .before .before .before .before .before .before .before .before .before .before .x-at .ensures .0) (c .before .before .before .before .before .before .before .before .before .before .member-at .ensures .0) _ (spot-at _ _ (c .before .before .before .before .before .before .k .given .1) (c .before .before .before .before .before .before .before .before .locate .ensures)) in omega (arith, l, size (c .before .before .before .before .before .before .before .before .before .before .before .before .before .before .before .before .before .pre .0))
 
--- src/lib.rt:475:13
 put-word-requires : tie.Need-put-word-requires
 put-word-requires c κs = let l = set-small (c .before .before .before .before .before .before .before .before .before .before .before .before .before .before .before .before .before .pre .0) (c .before .before .before .before .before .before .before .before .before .before .before .before .before .before .before .before .before .pre .1) _ _ _ (c .before .before .before .before .before .before .before .before .before .before .before .before .before .before .view-of .ensures) (c .before .before .before .before .before .before .before .before .before .before .before .before .x-at .ensures .0) (c .before .before .before .before .before .before .before .before .before .before .member-at .ensures .0) _ (spot-at _ _ (c .before .before .before .before .before .before .k .given .1) (c .before .before .before .before .before .before .before .before .locate .ensures)) in omega (arith, l, size (c .before .before .before .before .before .before .before .before .before .before .before .before .before .before .before .before .before .pre .0))
 
--- src/lib.rt:476:30
 add-next : tie.Need-add-next
 add-next c = omega (arith, row-small (c .before .before .before .before .before .before .before .before .before .before .before .before .before .before .before .before .before .before .before .before .before .pre .0))
 
--- src/lib.rt:476:22
 next-requires : tie.Need-next-requires
 next-requires c κs = search needs
 
--- src/lib.rt:478:23
 enum-known-s : tie.Need-enum-known-s
 enum-known-s c = search needs
 
--- src/lib.rt:462:1
 same-length : tie.Need-same-length
 same-length c = search needs
 
--- src/lib.rt:462:1
 returns : tie.Need-returns
 returns c = set-does (c .before .before .before .before .before .before .before .before .before .before .before .before .before .before .before .before .before .before .before .before .before .before .pre .0) (c .before .before .before .before .before .before .before .before .before .before .before .before .before .before .before .before .before .before .before .before .before .before .pre .1) _ _ _ (c .before .before .before .before .before .before .before .before .before .before .before .before .before .before .before .before .before .before .before .view-of .ensures) (c .before .before .before .before .before .before .before .before .before .before .before .before .before .before .before .before .before .x-at .ensures .0) (c .before .before .before .before .before .before .before .before .before .before .before .before .before .before .before .member-at .ensures .0) _ _ _ (spot-at _ _ (c .before .before .before .before .before .before .before .before .before .before .before .k .given .1) (c .before .before .before .before .before .before .before .before .before .before .before .before .before .locate .ensures)) (c .before .before .before .before .before .before .before .before .y-at .ensures .0) (search needs) (c .before .before .before .before .before .before .variable .ensures) (c .before .before .before .before .put-word .ensures) (c .next .ensures)
 
--- src/lib.rt:462:1
 same-length-2 : tie.Need-same-length-2
 same-length-2 c = search needs
 
--- src/lib.rt:462:1
 returns-2 : tie.Need-returns-2
 returns-2 c = set-stops (c .before .before .before .before .before .before .before .before .before .before .before .before .pre .0) (c .before .before .before .before .before .before .before .before .before .before .before .before .pre .1) _ _ _ (c .before .before .before .before .before .before .before .before .before .view-of .ensures) (c .before .before .before .before .before .before .before .x-at .ensures .0) (c .before .before .before .before .before .member-at .ensures .0) _ (spot-lacking _ _ (c .before .s .given .1) (c .before .before .before .locate .ensures))
 

@@ -5,32 +5,22 @@ use Rattle.machine.proofs.Reading.{acc-at, acc-lacking, spot-at, spot-l
 use borrow.Author.Needs.{needs}
 use Rattle.machine.proofs.take_cell.Statement.{statement}
 use Rattle.machine.proofs.take_cell.Tie as tie
-use Rattle.machine.proofs.take_cell.Reads as reads
-use Rattle.machine.proofs.take_cell.Lts as lts
-use Rattle.machine.proofs.locate.Reads as locate-reads
-use Rattle.machine.proofs.put_cell.Reads as put-cell-reads
 
--- src/lib.rt:258:11
 locate-requires : tie.Need-locate-requires
 locate-requires c κs = search needs
 
--- src/lib.rt:259:18
 enum-known-k : tie.Need-enum-known-k
 enum-known-k c = search needs
 
--- src/lib.rt:259:24
 put-cell-requires : tie.Need-put-cell-requires
 put-cell-requires c κs = search needs
 
--- src/lib.rt:260:23
 enum-known-s : tie.Need-enum-known-s
 enum-known-s c = search needs
 
--- src/lib.rt:254:1
 returns : tie.Need-returns
 returns c = record { took = c .put-cell .ensures .took ∙ sym (acc-at _ _ _ _ _ _ (spot-at _ _ (c .before .before .before .k .given .1) (c .before .before .before .before .before .locate .ensures))); count = c .put-cell .ensures .count; size = c .put-cell .ensures .size }
 
--- src/lib.rt:254:1
 returns-2 : tie.Need-returns-2
 unfolding tookIs countOf
 returns-2 c = record { took = sym (acc-lacking _ _ _ _ _ _ (spot-lacking _ _ (c .before .s .given .1) (c .before .before .before .locate .ensures))); count = omega arith; size = c .before .before .before .before .before .pre .1 .1 }

@@ -5,33 +5,23 @@ use Rattle.machine.proofs.Reading.{read-got, read-lacking}
 use borrow.Author.Needs.{needs}
 use Rattle.machine.proofs.test.Statement.{statement}
 use Rattle.machine.proofs.test.Tie as tie
-use Rattle.machine.proofs.test.Reads as reads
-use Rattle.machine.proofs.test.Lts as lts
-use Rattle.machine.proofs.left.Reads as left-reads
-use Rattle.machine.proofs.test_right.Reads as test-right-reads
 
--- src/lib.rt:205:11
 left-requires : tie.Need-left-requires
 left-requires c κs = search needs
 
--- src/lib.rt:206:19
 enum-known-l : tie.Need-enum-known-l
 enum-known-l c = search needs
 
--- src/lib.rt:206:25
 test-right-requires : tie.Need-test-right-requires
 test-right-requires c κs = search needs
 
--- src/lib.rt:207:23
 enum-known-s : tie.Need-enum-known-s
 enum-known-s c = search needs
 
--- src/lib.rt:201:1
 returns : tie.Need-returns
 unfolding testIn _>>=_
 returns c = c .test-right .ensures ∙ rw (read-got _ _ (c .before .before .l .given .1) (c .before .before .before .before .left .ensures))
 
--- src/lib.rt:201:1
 returns-2 : tie.Need-returns-2
 unfolding truthIs testIn _>>=_
 returns-2 c = rw (read-lacking _ _ (c .before .s .given .1) (c .before .before .before .left .ensures))

@@ -5,38 +5,26 @@ use Rattle.machine.proofs.Reading.{read-got, read-lacking}
 use borrow.Author.Needs.{needs}
 use Rattle.machine.proofs.test_right.Statement.{statement}
 use Rattle.machine.proofs.test_right.Tie as tie
-use Rattle.machine.proofs.test_right.Reads as reads
-use Rattle.machine.proofs.test_right.Lts as lts
-use Rattle.machine.proofs.compare.Reads as compare-reads
-use Rattle.machine.proofs.right.Reads as right-reads
-use Rattle.tables.proofs.atom_kind.Reads as atom-kind-reads
 
--- src/lib.rt:194:11
 right-requires : tie.Need-right-requires
 right-requires c κs = search needs
 
--- src/lib.rt:195:19
 enum-known-r : tie.Need-enum-known-r
 enum-known-r c = search needs
 
--- src/lib.rt:195:33
 atom-kind-requires : tie.Need-atom-kind-requires
 atom-kind-requires c κs = search needs
 
--- src/lib.rt:195:25
 compare-requires : tie.Need-compare-requires
 compare-requires c κs = search needs
 
--- src/lib.rt:196:23
 enum-known-s : tie.Need-enum-known-s
 enum-known-s c = search needs
 
--- src/lib.rt:190:1
 returns : tie.Need-returns
 unfolding rightTest _>>=_
 returns c = c .compare .ensures ∙ rw (read-got _ _ (c .before .before .before .r .given .1) (c .before .before .before .before .before .right .ensures), c .before .atom-kind .ensures .0)
 
--- src/lib.rt:190:1
 returns-2 : tie.Need-returns-2
 unfolding truthIs rightTest _>>=_
 returns-2 c = rw (read-lacking _ _ (c .before .s .given .1) (c .before .before .before .right .ensures))

@@ -8,48 +8,34 @@ use mathlib.Core.Logic.{⊎-elim}
 use borrow.Author.Needs.{needs}
 use Rattle.machine.proofs.value.Statement.{statement}
 use Rattle.machine.proofs.value.Tie as tie
-use Rattle.machine.proofs.value.Reads as reads
-use Rattle.machine.proofs.value.Lts as lts
-use Rattle.machine.proofs.cell_value.Reads as cell-value-reads
-use Rattle.machine.proofs.locate.Reads as locate-reads
-use Rattle.machine.proofs.plain.Reads as plain-reads
 
--- src/lib.rt:151:20
 enum-known-e : tie.Need-enum-known-e
 enum-known-e c = search needs
 
--- src/lib.rt:152:26
 plain-requires : tie.Need-plain-requires
 plain-requires c κs = search needs
 
--- src/lib.rt:152:9
 returns : tie.Need-returns
 unfolding readIs
 returns c = plain-read _ _ _ _ (c .plain .ensures)
     (λ x f p. let k = rw p at (c .before .match .keys2) in ⊎-elim (λ z. omega arith) (⊎-elim (λ z. omega arith) (λ z. omega arith)) k)
 
--- src/lib.rt:154:11
 locate-requires : tie.Need-locate-requires
 locate-requires c κs = (c .before .before .before .before .pre .0, rw (c .before .e .given .1) at (c .before .before .before .before .pre .1))
 
--- src/lib.rt:155:18
 enum-known-k : tie.Need-enum-known-k
 enum-known-k c = search needs
 
--- src/lib.rt:155:34
 cell-value-requires : tie.Need-cell-value-requires
 cell-value-requires c κs = (c .before .before .before .before .before .before .before .before .pre .0 .tables .size, spot-small _ _ (c .before .before .before .before .before .before .before .before .pre .0) (spot-at _ _ (c .before .k .given .1) (c .before .before .before .locate .ensures)))
 
--- src/lib.rt:156:23
 enum-known-s : tie.Need-enum-known-s
 enum-known-s c = search needs
 
--- src/lib.rt:147:1
 returns-2 : tie.Need-returns-2
 unfolding readIs readIn meaning _>>=_
 returns-2 c = rw (c .before .before .before .before .before .before .e .given .1, spot-at _ _ (c .before .before .k .given .1) (c .before .before .before .before .locate .ensures), c .cell-value .ensures)
 
--- src/lib.rt:147:1
 returns-3 : tie.Need-returns-3
 unfolding readIs readIn meaning _>>=_
 returns-3 c = rw (c .before .before .before .before .before .e .given .1, spot-lacking _ _ (c .before .s .given .1) (c .before .before .before .locate .ensures))
