@@ -1,0 +1,105 @@
+-- A step by the kind of its row is the definition's step.
+use mathlib.Core.Path.{_≡_, refl, sym, ap, _∙_, subst}
+use mathlib.Core.List.{List, []}
+use mathlib.Core.Logic.{_⊎_, inl, inr, ⊎-elim}
+use Prim.Native.Nat.{ℕ, _+_, _≤_, _<_}
+use native.Mathlib.Omega.{arith}
+use lib.ListN.{getD}
+use Rattle.rules.specs.Syntax.{Row, Stmt, Program, noMethod, result-variable, var}
+use Rattle.rules.specs.Machine.{Config, Step, Room, took, on, rowOf, step, stepAt, simpleStep, withFrame, jump, toJoin, setStep, assignStep, newStep, callStep, ifStep, assertStep, releaseStep, endStep}
+use Rattle.rules.specs.declared.Machine.{Machine}
+use Rattle.tables.specs.Decode.{byteAt, atomPlace, relOf, rowAt, stmtAt, ifAt, kindAt, xAt, yAt, zAt, memberAt, firstAtomAt, formulaAt, leftAt, rightAt, methodAt, classAt, programIn}
+use Rattle.tables.proofs.Rows.{method-get, class-get}
+use Rattle.machine.specs.declared.Turn.{Turn}
+use Rattle.machine.specs.States.{Represents, Follows, Does, Ready, AtKind}
+use Rattle.machine.proofs.Returning.{row-of}
+use Rattle.machine.proofs.Doing.{fits}
+use Rattle.machine.proofs.Statements.{at-set, at-let, at-new, at-call, at-return, at-assert, at-release, at-if, at-else, at-join, at-end}
+
+-- the statement that is done
+statement : {w : List ℕ} {c : Machine} (m : Config) → Represents w c m → rowOf (m .frame) .stmt ≡ stmtAt w (c .row)
+unfolding rowAt
+statement m R = ap (λ (r : Row). r .stmt) (row-of (R .frame))
+
+up : (a k : ℕ) → a ≤ k → (k ≡ a → ⊥) → a + 1 ≤ k
+up a k l n = omega arith
+
+is-end : (k : ℕ) → 18 ≤ k → k ≤ 18 → k ≡ 18
+is-end k l h = omega arith
+
+-- a kind that is none of the others is that of `end`
+pub only-end :
+    (k : ℕ) → 8 ≤ k → k ≤ 18 → (k ≡ 8 → ⊥) → (k ≡ 9 → ⊥) → (k ≡ 10 → ⊥) → (k ≡ 11 → ⊥) → (k ≡ 12 → ⊥) →
+    ((k ≡ 13) ⊎ (k ≡ 17) → ⊥) → (k ≡ 14 → ⊥) → (k ≡ 15 → ⊥) → (k ≡ 16 → ⊥) → k ≡ 18
+only-end k l h a b c d e f g i j =
+    let l1 : 13 ≤ k = up 12 k (up 11 k (up 10 k (up 9 k (up 8 k l a) b) c) d) e in
+    let l2 : 17 ≤ k = up 16 k (up 15 k (up 14 k (up 13 k l1 (λ z. f (inl z))) g) i) j in
+    let l3 : 18 ≤ k = up 17 k l2 (λ z. f (inr z)) in
+    is-end k l3 h
+
+module _ {w w′ : List ℕ} {c : Machine} {r : Turn} (ready : Ready w c) (room : Room) where
+  does-as :
+      (f : Config → Step) → ((m : Config) → stepAt room (programIn w) (stmtAt w (c .row)) m ≡ f m) → Does w c w′ r f →
+      Does w c w′ r (step room (programIn w))
+  unfolding step
+  does-as f e D =
+      record {
+        tables = D .tables;
+        follows = λ m R.
+            subst (Follows w′ c r m) (sym (ap (λ (s : Stmt). stepAt room (programIn w) s m) (statement m R) ∙ e m)) (D .follows m R);
+      }
+
+  pub sets : AtKind w c 8 → Does w c w′ r (λ m. took (setStep (xAt w (c .row)) (memberAt w (c .row)) (yAt w (c .row)) m)) → Does w c w′ r (step room (programIn w))
+  unfolding stepAt simpleStep
+  sets k = does-as _ (λ m. rw (at-set w (c .row) k))
+
+  pub lets :
+      AtKind w c 9 → Does w c w′ r (λ m. took (assignStep (xAt w (c .row)) (rightAt w (firstAtomAt w (c .row))) m)) →
+      Does w c w′ r (step room (programIn w))
+  unfolding stepAt simpleStep
+  lets k = does-as _ (λ m. rw (at-let w (c .row) k))
+
+  pub news :
+      AtKind w c 10 → Does w c w′ r (λ m. took (newStep room (xAt w (c .row)) (classAt w (memberAt w (c .row))) m)) →
+      Does w c w′ r (step room (programIn w))
+  unfolding stepAt simpleStep
+  news k = does-as _ (λ m. rw (at-new w (c .row) k, class-get w (memberAt w (c .row)) (fits ready .class k)))
+
+  pub calls :
+      AtKind w c 11 → Does w c w′ r (λ m. took (callStep (yAt w (c .row)) (methodAt w (memberAt w (c .row))) (zAt w (c .row)) m)) →
+      Does w c w′ r (step room (programIn w))
+  unfolding stepAt simpleStep
+  calls k = does-as _ (λ m. rw (at-call w (c .row) k, method-get w (memberAt w (c .row)) (fits ready .method k)))
+
+  pub returns :
+      AtKind w c 12 → Does w c w′ r (λ m. took (assignStep result-variable (var (xAt w (c .row))) m)) → Does w c w′ r (step room (programIn w))
+  unfolding stepAt simpleStep
+  returns k = does-as _ (λ m. rw (at-return w (c .row) k))
+
+  pub asserts :
+      (kindAt w (c .row) ≡ 13) ⊎ (kindAt w (c .row) ≡ 17) → Does w c w′ r (λ m. took (assertStep (formulaAt w (c .row)) m)) →
+      Does w c w′ r (step room (programIn w))
+  unfolding stepAt simpleStep
+  asserts (inl k) = does-as _ (λ m. rw (at-assert w (c .row) k))
+  asserts (inr k) = does-as _ (λ m. rw (at-join w (c .row) k))
+
+  pub releases : AtKind w c 14 → Does w c w′ r (λ m. took (releaseStep (formulaAt w (c .row)) m)) → Does w c w′ r (step room (programIn w))
+  unfolding stepAt simpleStep
+  releases k = does-as _ (λ m. rw (at-release w (c .row) k))
+
+  pub ifs :
+      AtKind w c 15 →
+      Does w c w′ r
+      (λ m. took (ifStep (relOf (byteAt w (atomPlace (firstAtomAt w (c .row))))) (leftAt w (firstAtomAt w (c .row))) (rightAt w (firstAtomAt w (c .row))) m)) →
+      Does w c w′ r (step room (programIn w))
+  unfolding stepAt ifAt
+  ifs k = does-as _ (λ m. rw (at-if w (c .row) k))
+
+  pub elses :
+      AtKind w c 16 → Does w c w′ r (λ m. on (withFrame m (jump (toJoin (m .frame .rows)) (m .frame)))) → Does w c w′ r (step room (programIn w))
+  unfolding stepAt
+  elses k = does-as _ (λ m. rw (at-else w (c .row) k))
+
+  pub ends : AtKind w c 18 → Does w c w′ r (λ m. endStep m (m .callers)) → Does w c w′ r (step room (programIn w))
+  unfolding stepAt
+  ends k = does-as _ (λ m. rw (at-end w (c .row) k))

@@ -1,0 +1,141 @@
+use native.Mathlib.Omega.{arith}
+use mathlib.Core.Path.{refl, sym, ap, _∙_}
+use Rattle.machine.proofs.Stepping as Stepping
+use mathlib.Core.Logic.{inl, inr, ⊎-elim}
+use Rattle.machine.proofs.Doing.{fits}
+use borrow.Author.Needs.{needs}
+use Rattle.machine.proofs.step.Statement.{statement}
+use Rattle.machine.proofs.step.Tie as tie
+
+cast-row : tie.Need-cast-row
+cast-row c = search needs
+
+kind-of-requires : tie.Need-kind-of-requires
+kind-of-requires c κs = search needs
+
+set-step-requires : tie.Need-set-step-requires
+set-step-requires c κs = search needs
+
+let-step-requires : tie.Need-let-step-requires
+let-step-requires c κs = search needs
+
+new-step-requires : tie.Need-new-step-requires
+new-step-requires c κs = search needs
+
+call-step-requires : tie.Need-call-step-requires
+call-step-requires c κs = search needs
+
+return-step-requires : tie.Need-return-step-requires
+return-step-requires c κs = search needs
+
+assert-step-requires : tie.Need-assert-step-requires
+assert-step-requires c κs = (c .before .before .before .before .before .before .pre .0, ⊎-elim (λ e z. omega (arith, e, z, c .before .before .kind-of .ensures)) (λ e z. omega (arith, e, z, c .before .before .kind-of .ensures)) (c .before .match .keys6))
+
+release-step-requires : tie.Need-release-step-requires
+release-step-requires c κs = search needs
+
+if-step-requires : tie.Need-if-step-requires
+if-step-requires c κs = search needs
+
+else-step-requires : tie.Need-else-step-requires
+else-step-requires c κs = search needs
+
+end-step-requires : tie.Need-end-step-requires
+end-step-requires c κs = search needs
+
+same-length : tie.Need-same-length
+same-length c = search needs
+
+returns : tie.Need-returns
+returns c = Stepping.sets (c .before .before .before .before .before .before .before .before .before .pre .0) _ (sym (c .before .before .before .before .before .kind-of .ensures) ∙ c .before .before .before .before .match .keys1) (c .before .before .set-step .ensures)
+
+same-length-2 : tie.Need-same-length-2
+same-length-2 c = search needs
+
+returns-2 : tie.Need-returns-2
+returns-2 c = Stepping.lets (c .before .before .before .before .before .before .before .before .before .pre .0) _ (sym (c .before .before .before .before .before .kind-of .ensures) ∙ c .before .before .before .before .match .keys2) (c .before .before .let-step .ensures)
+
+same-length-3 : tie.Need-same-length-3
+same-length-3 c = search needs
+
+returns-3 : tie.Need-returns-3
+returns-3 c = Stepping.news (c .before .before .before .before .before .before .before .before .before .pre .0) _ (sym (c .before .before .before .before .before .kind-of .ensures) ∙ c .before .before .before .before .match .keys3) (c .before .before .new-step .ensures)
+
+same-length-4 : tie.Need-same-length-4
+same-length-4 c = search needs
+
+returns-4 : tie.Need-returns-4
+returns-4 c = Stepping.calls (c .before .before .before .before .before .before .before .before .before .pre .0) _ (sym (c .before .before .before .before .before .kind-of .ensures) ∙ c .before .before .before .before .match .keys4) (c .before .before .call-step .ensures)
+
+same-length-5 : tie.Need-same-length-5
+same-length-5 c = search needs
+
+returns-5 : tie.Need-returns-5
+returns-5 c = Stepping.returns (c .before .before .before .before .before .before .before .before .before .pre .0) _ (sym (c .before .before .before .before .before .kind-of .ensures) ∙ c .before .before .before .before .match .keys5) (c .before .before .return-step .ensures)
+
+same-length-6 : tie.Need-same-length-6
+same-length-6 c = search needs
+
+returns-6 : tie.Need-returns-6
+returns-6 c = Stepping.asserts (c .before .before .before .before .before .before .before .pre .0) _ (⊎-elim (λ e. inl (sym (c .before .before .before .kind-of .ensures) ∙ e)) (λ e. inr (sym (c .before .before .before .kind-of .ensures) ∙ e)) (c .before .before .match .keys6)) (c .assert-step .ensures)
+
+same-length-7 : tie.Need-same-length-7
+same-length-7 c = search needs
+
+returns-7 : tie.Need-returns-7
+returns-7 c = Stepping.releases (c .before .before .before .before .before .before .before .before .before .pre .0) _ (sym (c .before .before .before .before .before .kind-of .ensures) ∙ c .before .before .before .before .match .keys7) (c .before .before .release-step .ensures)
+
+same-length-8 : tie.Need-same-length-8
+same-length-8 c = search needs
+
+returns-8 : tie.Need-returns-8
+returns-8 c = Stepping.ifs (c .before .before .before .before .before .before .before .pre .0) _ (sym (c .before .before .before .kind-of .ensures) ∙ c .before .before .match .keys8) (c .if-step .ensures)
+
+same-length-9 : tie.Need-same-length-9
+same-length-9 c = search needs
+
+returns-9 : tie.Need-returns-9
+returns-9 c = Stepping.elses (c .before .before .before .before .before .before .before .pre .0) _ (sym (c .before .before .before .kind-of .ensures) ∙ c .before .before .match .keys9) (c .else-step .ensures)
+
+same-length-10 : tie.Need-same-length-10
+same-length-10 c = search needs
+
+returns-10 : tie.Need-returns-10
+returns-10 c = Stepping.ends (c .before .before .before .before .before .before .before .before .before .pre .0) _ (Stepping.only-end _ (fits (c .before .before .before .before .before .before .before .before .before .pre .0) .kind .0) (fits (c .before .before .before .before .before .before .before .before .before .pre .0) .kind .1) (λ z. c .before .before .before .before .match .rest .0 .0 .0 .0 .0 .0 .0 .0 .1 (c .before .before .before .before .before .kind-of .ensures ∙ z)) (λ z. c .before .before .before .before .match .rest .0 .0 .0 .0 .0 .0 .0 .1 (c .before .before .before .before .before .kind-of .ensures ∙ z)) (λ z. c .before .before .before .before .match .rest .0 .0 .0 .0 .0 .0 .1 (c .before .before .before .before .before .kind-of .ensures ∙ z)) (λ z. c .before .before .before .before .match .rest .0 .0 .0 .0 .0 .1 (c .before .before .before .before .before .kind-of .ensures ∙ z)) (λ z. c .before .before .before .before .match .rest .0 .0 .0 .0 .1 (c .before .before .before .before .before .kind-of .ensures ∙ z)) (λ o. c .before .before .before .before .match .rest .0 .0 .0 .1 (⊎-elim (λ z. inl (c .before .before .before .before .before .kind-of .ensures ∙ z)) (λ z. inr (c .before .before .before .before .before .kind-of .ensures ∙ z)) o)) (λ z. c .before .before .before .before .match .rest .0 .0 .1 (c .before .before .before .before .before .kind-of .ensures ∙ z)) (λ z. c .before .before .before .before .match .rest .0 .1 (c .before .before .before .before .before .kind-of .ensures ∙ z)) (λ z. c .before .before .before .before .match .rest .1 (c .before .before .before .before .before .kind-of .ensures ∙ z))) (c .before .before .end-step .ensures)
+
+pub step-spec : {M : Type 1} → statement M
+step-spec =
+    tie.close
+    (tie.spec
+    cast-row
+    kind-of-requires
+    set-step-requires
+    let-step-requires
+    new-step-requires
+    call-step-requires
+    return-step-requires
+    assert-step-requires
+    release-step-requires
+    if-step-requires
+    else-step-requires
+    end-step-requires
+    same-length
+    returns
+    same-length-2
+    returns-2
+    same-length-3
+    returns-3
+    same-length-4
+    returns-4
+    same-length-5
+    returns-5
+    same-length-6
+    returns-6
+    same-length-7
+    returns-7
+    same-length-8
+    returns-8
+    same-length-9
+    returns-9
+    same-length-10
+    returns-10)
