@@ -14,8 +14,8 @@ use Rattle.rules.specs.Places as Places
 use Rattle.rules.specs.Places.{Place, firstPlace, stageNumber, inPlace, placeAfter, withinLimits}
 use Rattle.rules.specs.Base as Base
 use Rattle.leaves.proofs.Search.{both-true}
-use Rattle.lines.specs.Spots.{coded}
-use Rattle.lines.proofs.Spots.{within-is, low}
+use Rattle.lines.specs.Coded.{coded}
+use Rattle.lines.proofs.Coded.{within-is, low}
 use Rattle.declared.specs.declared.Names.{Names}
 use Rattle.declared.specs.Meanings.{Fits, moreClasses, moreFields, moreMethods}
 use Rattle.declare.specs.Declares.{namesAfter, noNames, Room}

@@ -193,7 +193,7 @@ module _ {w : List ℕ} {c : Machine} {m : Config} (R : Represents w c m) where
         next = withFrame m (jump (toJoin (m .frame .rows)) (m .frame));
         is-next = refl;
         represents =
-            moved (targetAt w (c .row)) (toJoin (m .frame .rows)) (row-fits .target)
+            moved (targetAt w (c .row)) (toJoin (m .frame .rows)) (row-fits .target (inr e))
             (ap toJoin (R .frame .rows) ∙ sym (row-fits .to-join e));
         counted = refl;
       }
@@ -234,5 +234,5 @@ module _ {w : List ℕ} {c : Machine} {m : Config} (R : Represents w c m) where
     unfolding _>>=_
     if-false k e =
         follow-on _ _ _ (if-is ∙ rw e) refl
-        (moved (targetAt w (c .row)) (afterElse (m .frame .rows)) (row-fits .target)
+        (moved (targetAt w (c .row)) (afterElse (m .frame .rows)) (row-fits .target (inl k))
         (ap afterElse (R .frame .rows) ∙ sym (row-fits .after-else k)))

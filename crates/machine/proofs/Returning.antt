@@ -16,7 +16,7 @@ use Rattle.rules.specs.Answers.{Stop}
 use Rattle.rules.specs.Machine.{Heap, Frame, Location, Config, Step, done, took, holds, among, valueOf, footprint, tail, jump, advance, bind, holding, withFrame, rowOf, noRow, targetOf, returned, endStep}
 use Rattle.rules.specs.declared.Machine.{Machine}
 use Rattle.rules.proofs.Lists.{T-true, F-false}
-use Rattle.rules.proofs.Sets.{Holds, footprint-held, in-append, append-left, append-right}
+use Rattle.rules.proofs.Sets.{Holds, footprint-held, in-append, in-left, in-right}
 use Rattle.tables.specs.Layout.{frame-variables, holders-at, seconds-at, frames-at}
 use Rattle.tables.specs.Decode.{byteAt, halfAt, methodPlace, allRows, rowAt, stmtAt, kindAt, xAt, rowCount, methodCount, atomsFrom, atomCount, ensuresAt}
 use Rattle.tables.specs.Tables.{Tables}
@@ -43,10 +43,10 @@ pub among-append : (p : Location) (A B : List Location) → among p (A ++ B) ≡
 among-append p A B = go (among p B) refl
   where
     go : (b : Bool) → among p B ≡ b → among p (A ++ B) ≡ cond b true (among p A)
-    go true e = T-true (among p (A ++ B)) (append-right p A B (subst T (sym e) tt))
+    go true e = T-true (among p (A ++ B)) (in-right p A B (subst T (sym e) tt))
     go false e =
         bool-iff (among p (A ++ B)) (among p A)
-        (λ t. ⊎-elim (λ a. a) (λ b. absurd (subst T e b)) (in-append p A B t)) (λ t. append-left p A B t)
+        (λ t. ⊎-elim (λ a. a) (λ b. absurd (subst T e b)) (in-append p A B t)) (λ t. in-left p A B t)
 
 -- the row of a frame
 pub row-of : {w : List ℕ} {n b number row : ℕ} {F : Frame} → FrameIs w n b number row F → rowOf F ≡ rowAt w row
