@@ -12,9 +12,8 @@ use Rattle.rules.specs.Grammar.{Kind, Let, Call, form, stands, statement, isFor
 use Rattle.rules.specs.Scope.{operand}
 use Rattle.rules.specs.Names as Rules
 use Rattle.leaves.proofs.Search.{true-false, both-true, and-false}
-use Rattle.leaves.proofs.Words.{NoneOf}
 use Rattle.lines.specs.Cuts.{more}
-use Rattle.lines.proofs.Rows.{number-of-kind, kind-of-number}
+use Rattle.lines.proofs.Rows.{NoneOf, number-of-kind, kind-of-number}
 use Rattle.declared.specs.declared.Names.{Names}
 use Rattle.declared.specs.Meanings.{variablesIn}
 use Rattle.judge.specs.Tests.{lineAfter, formed, sidesIn, apartIn}

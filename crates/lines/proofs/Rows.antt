@@ -18,7 +18,7 @@ use Rattle.rules.specs.Places.{stageNumber}
 use Rattle.leaves.specs.Answers.{whenTrue}
 use Rattle.leaves.specs.Words as Words
 use Rattle.leaves.specs.Words.{kindAt, kindOr0}
-use Rattle.leaves.proofs.Words.{NoneOf, kind-number}
+use Rattle.leaves.proofs.Words.{kind-number}
 use Rattle.lines.specs.declared.Row.{Row}
 use Rattle.lines.specs.Cuts.{part, more, NextField}
 use Rattle.lines.specs.Rows as Rows
@@ -81,6 +81,11 @@ kind-bounds End = omega arith
 abbrev pub down : ℕ → List ℕ
 down zero = []
 down (suc m) = suc m ∷ down m
+
+-- n is none of these
+abbrev pub NoneOf : ℕ → List ℕ → Type 0
+NoneOf n [] = Unit {0}
+NoneOf n (k ∷ ks) = NoneOf n ks × (n ≡ k → ⊥)
 
 -- what the last arm of a `match` knows of a number, where the others are for 1 to m
 pub passed : (m n : ℕ) → 1 ≤ n → NoneOf n (down m) → m < n
