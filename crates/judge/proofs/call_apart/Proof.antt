@@ -30,7 +30,7 @@ and-requires : tie.Need-and-requires
 and-requires c κs = search needs
 
 returns-2 : tie.Need-returns-2
-returns-2 c = c .and .ensures ∙ rw (c .before .before .before .before .before .variable .ensures .number, c .before .before .before .variable2 .ensures .number, c .before .variable3 .ensures .number, c .before .before .before .before .before .before .nth-field .ensures, c .before .before .before .before .nth-field2 .ensures, c .before .before .nth-field3 .ensures) (sym (apart-call (c .before .before .before .before .before .before .before .before .before .before .args .text .now) (c .before .before .before .before .before .before .before .before .before .before .args .work .now) (c .before .before .before .before .before .before .before .before .before .before .args .c) (c .before .before .before .before .before .before .before .before .before .before .args .from) (c .before .before .before .before .before .before .before .before .before .before .args .kind) (c .before .before .before .before .before .before .before .if1 .left)))
+returns-2 c = c .and .ensures ∙ simp (c .before .before .before .before .before .variable .ensures .number, c .before .before .before .variable2 .ensures .number, c .before .variable3 .ensures .number, c .before .before .before .before .before .before .nth-field .ensures, c .before .before .before .before .nth-field2 .ensures, c .before .before .nth-field3 .ensures) (sym (apart-call (c .before .before .before .before .before .before .before .before .before .before .args .text .now) (c .before .before .before .before .before .before .before .before .before .before .args .work .now) (c .before .before .before .before .before .before .before .before .before .before .args .c) (c .before .before .before .before .before .before .before .before .before .before .args .from) (c .before .before .before .before .before .before .before .before .before .before .args .kind) (c .before .before .before .before .before .before .before .if1 .left)))
 
 pub call-apart-spec : {M : Type 1} → statement M
 call-apart-spec =

@@ -35,7 +35,7 @@ both-requires-2 c κs = search needs
 
 returns : tie.Need-returns
 unfolding operandMeant cmpTests
-returns c = c .both2 .ensures ∙ rw (c .before .both .ensures, c .before .before .before .before .field-tests .ensures, c .before .before .before .field-tests2 .ensures, c .before .before .types-agree .ensures)
+returns c = c .both2 .ensures ∙ simp (c .before .both .ensures, c .before .before .before .before .field-tests .ensures, c .before .before .before .field-tests2 .ensures, c .before .before .types-agree .ensures)
 
 pub cmp-tests-spec : {M : Type 1} → statement M
 cmp-tests-spec =
