@@ -21,7 +21,7 @@ ghost use Rattle.rules.specs.Counters.{freshMachine};
 ghost use Rattle.tables.specs.Layout.{frames-at};
 ghost use Rattle.tables.specs.Decode.{kindAt, lineAt, mainFirst, programIn};
 ghost use Rattle.tables.specs.Tables.{Tables};
-ghost use Rattle.machine.specs.Runs.{RanAs};
+ghost use Rattle.machine.specs.Runs.{RanAs, faultNumber, number};
 ghost use lib.Dec.{eqb};
 ghost use Rattle.machine.specs.Views.{frameAt, variableAt, savedHolder, savedRow, methodOf, prepared, nextView, made, cellValue, cellHolder, classIn, firstIn, heldCell, cellOf, spotOf, spot, readIn, rightTest, testIn, PlainIs, newCells, accIn, takeIn, SmallCells, fill, marked, spotIs, readIs, truthIs, tookIs, TookUpTo, ObjectFits, ExprFits, Readable, viewOf};
 
@@ -85,6 +85,30 @@ pub struct Ran {
     pub ending: Ending,
     pub line: u32,
     pub steps: u32,
+}
+
+// The number of document 01 for a step that is not done.
+fn fault_number(f: Fault) -> u32
+    ensures { λ r. ⌜ r ≡ faultNumber f ⌝ }
+{
+    match f {
+        Fault::HeapFull => 22,
+        Fault::FramesFull => 23,
+        Fault::Permission => 24,
+        Fault::Null => 25,
+        Fault::False => 26,
+    }
+}
+
+// The number of document 01 for the end of a run.
+pub fn number_of(e: Ending) -> u32
+    ensures { λ r. ⌜ r ≡ number e ⌝ }
+{
+    match e {
+        Ending::Finished => 0,
+        Ending::StepsTaken => 21,
+        Ending::Stopped(f) => fault_number(f),
+    }
 }
 
 // A variable of the frame at b.
