@@ -37,7 +37,7 @@ pub fn variable_key(x: u8) -> u64
 
 // A path's key.
 pub fn path_key(x: u8, f: u8) -> u64
-    ensures { λ r. ⌜ termOf r ≡ Syntax.path x f ⌝ }
+    ensures { λ r. ⌜ (termOf r ≡ Syntax.path x f) × (r ≡ 257 + x * 256 + f) × (r < 65793) ⌝ }
 {
     let a = wide(x);
     let b = wide(f);

@@ -1,6 +1,6 @@
-use mathlib.Core.Path.{_≡_, refl, sym, _∙_, ap}
-use Rattle.links.specs.Keys.{meaning}
 use Rattle.links.proofs.Keys.{of-null}
+use Rattle.links.specs.Keys.{meaning}
+use mathlib.Core.Path.{sym, ap, _∙_}
 use borrow.Author.Needs.{needs}
 use Rattle.links.proofs.key_of.Statement.{statement}
 use Rattle.links.proofs.key_of.Tie as tie
@@ -45,7 +45,7 @@ returns-3 c = c .variable-key .ensures .0 ∙ ap meaning (sym (c .before .before
 
 returns-4 : tie.Need-returns-4
 unfolding meaning
-returns-4 c = c .path-key .ensures ∙ ap meaning (sym (c .before .before .t3 .given .1))
+returns-4 c = c .path-key .ensures .0 ∙ ap meaning (sym (c .before .before .t3 .given .1))
 
 pub key-of-spec : {M : Type 1} → statement M
 key-of-spec =

@@ -1,6 +1,5 @@
 use Prim.Native.Nat.{_-_, _≤_}
 use Rattle.links.specs.Links.{Missing}
-use Rattle.rules.proofs.Changes.{within}
 use Rattle.rules.specs.Base.{is}
 use borrow.Author.Count.{below-more}
 use mathlib.Core.Logic.{inl, inr}

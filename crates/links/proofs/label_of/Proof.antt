@@ -1,5 +1,4 @@
 use Rattle.links.proofs.Labels.{not-in-header}
-use Rattle.rules.proofs.Changes.{within}
 use Rattle.rules.specs.Base.{is}
 use mathlib.Core.Logic.{inl}
 use mathlib.Core.Path.{refl, sym, _∙_}

@@ -1,6 +1,8 @@
-use mathlib.Core.Path.{_≡_, sym, _∙_, ap₂}
-use Rattle.rules.specs.Syntax.{path}
+use Prim.Native.Nat.{ℕ, _+_, _*_}
 use Rattle.links.proofs.Keys.{of-path}
+use Rattle.rules.specs.Syntax.{path}
+use mathlib.Core.Path.{ap₂, _∙_}
+use native.Mathlib.Omega.{arith}
 use borrow.Author.Needs.{needs}
 use Rattle.links.proofs.path_key.Statement.{statement}
 use Rattle.links.proofs.path_key.Tie as tie
@@ -25,7 +27,9 @@ add-result-2 c = search needs
 
 returns : tie.Need-returns
 returns c =
-    let a = c .before .wide .ensures in let b = c .wide2 .ensures in of-path _ _ (a .1) (b .1) ∙ ap₂ path (a .0) (b .0)
+    let a = c .before .wide .ensures in
+    let b = c .wide2 .ensures in
+    (of-path _ _ (a .1) (b .1) ∙ ap₂ path (a .0) (b .0), ap₂ (λ (m n : ℕ). 257 + m * 256 + n) (a .0) (b .0), omega arith)
 
 pub path-key-spec : {M : Type 1} → statement M
 path-key-spec =
