@@ -83,7 +83,7 @@ pub record ClassFits (w : List ℕ) (c : ℕ) : Type 0 where
   pub names : (j : ℕ) → j < fieldCountAt w c → fieldNameAt w c j < most-names
   pub places : (j : ℕ) → j < fieldCountAt w c → placeAt w c (fieldNameAt w c j) ≡ j
   pub found : (n : ℕ) → n < most-names →
-    (placeAt w c n ≡ 255) ⊎ ((placeAt w c n < fieldCountAt w c) × (fieldNameAt w c (placeAt w c n) ≡ n))
+      (placeAt w c n ≡ 255) ⊎ ((placeAt w c n < fieldCountAt w c) × (fieldNameAt w c (placeAt w c n) ≡ n))
 
 -- ALL OF THEM
 pub record Tables (w : List ℕ) : Type 0 where

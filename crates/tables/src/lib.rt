@@ -1,9 +1,92 @@
 ghost use mathlib.Core.Path.{_≡_};
 ghost use Prim.Native.Nat.{ℕ, _+_, _*_, _%_, _≤_, _<_};
 ghost use lib.ListN.{length};
-ghost use Rattle.tables.specs.Layout.{most-atom-rows};
-ghost use Rattle.tables.specs.Decode.{byteAt, halfAt, wordAt, exprAt, leftAt, rightAt};
-ghost use Rattle.tables.specs.Stores.{meaning, putByte, putHalf, putWord};
+ghost use Rattle.rules.specs.Limits.{most-statements, most-methods, most-classes, most-fields, work-bytes};
+ghost use Rattle.tables.specs.Layout.{most-atom-rows, most-names};
+ghost use Rattle.tables.specs.Decode.{byteAt, halfAt, wordAt, atomPlace, exprAt, leftAt, rightAt, kindAt, xAt, yAt, zAt, memberAt, atomCountAt, firstAtomAt, lineAt, targetAt, rowCount, atomCount, classCount, methodCount, mainFirst, methodPlace, firstRowAt, classPlace, fieldCountAt, fieldNameAt};
+ghost use Rattle.tables.specs.Tables.{placeAt};
+ghost use Rattle.tables.specs.Stores.{meaning, putByte, putHalf, putWord, offsets};
+
+// Where each table stands in the work area: the constants below as one value.
+pub struct Layout {
+    pub rows: usize,
+    pub methods: usize,
+    pub classes: usize,
+    pub places: usize,
+    pub atoms: usize,
+    pub names: usize,
+    pub values: usize,
+    pub holders: usize,
+    pub objects: usize,
+    pub frames: usize,
+    pub row_bytes: usize,
+    pub atom_bytes: usize,
+    pub method_bytes: usize,
+    pub class_bytes: usize,
+    pub object_bytes: usize,
+    pub frame_bytes: usize,
+    pub field_names: usize,
+}
+
+impl Layout {
+    pub const ROWS: usize = 64;
+
+    pub const METHODS: usize = 3136;
+
+    pub const CLASSES: usize = 3648;
+
+    pub const PLACES: usize = 4160;
+
+    pub const ATOMS: usize = 6208;
+
+    pub const NAMES: usize = 36832;
+
+    pub const VALUES: usize = 40960;
+
+    pub const HOLDERS: usize = 45056;
+
+    pub const OBJECTS: usize = 53248;
+
+    pub const FRAMES: usize = 54272;
+
+    pub const ROW_BYTES: usize = 12;
+
+    pub const ATOM_BYTES: usize = 12;
+
+    pub const METHOD_BYTES: usize = 8;
+
+    pub const CLASS_BYTES: usize = 32;
+
+    pub const OBJECT_BYTES: usize = 4;
+
+    pub const FRAME_BYTES: usize = 72;
+
+    pub const FIELD_NAMES: usize = 128;
+
+    pub fn offsets() -> Layout
+        ensures { λ r. ⌜ r ≡ offsets ⌝ }
+    {
+        Layout {
+            rows: Layout::ROWS,
+            methods: Layout::METHODS,
+            classes: Layout::CLASSES,
+            places: Layout::PLACES,
+            atoms: Layout::ATOMS,
+            names: Layout::NAMES,
+            values: Layout::VALUES,
+            holders: Layout::HOLDERS,
+            objects: Layout::OBJECTS,
+            frames: Layout::FRAMES,
+            row_bytes: Layout::ROW_BYTES,
+            atom_bytes: Layout::ATOM_BYTES,
+            method_bytes: Layout::METHOD_BYTES,
+            class_bytes: Layout::CLASS_BYTES,
+            object_bytes: Layout::OBJECT_BYTES,
+            frame_bytes: Layout::FRAME_BYTES,
+            field_names: Layout::FIELD_NAMES,
+        }
+    }
+}
 
 fn wide(b: u8) -> usize
     ensures { λ r. ⌜ (r ≡ b) × (r < 256) ⌝ }
@@ -69,23 +152,243 @@ fn expr_by(w: &[u8], tag: usize, i: usize) -> Expr
 
 // The left side of the atom a.
 pub fn left_at(w: &[u8], a: usize) -> Expr
-    requires { ⌜ (length (now w) ≡ 65536) × (a < most-atom-rows) ⌝ }
+    requires { ⌜ (length (now w) ≡ work-bytes) × (a < most-atom-rows) ⌝ }
     ensures { λ r. ⌜ meaning r ≡ leftAt (now (w .entry)) a ⌝ }
 {
-    let i = 6208 + a * 12;
+    let i = Layout::ATOMS + a * Layout::ATOM_BYTES;
     let tag = byte_at(w, i + 1);
     expr_by(w, tag, i + 4)
 }
 
 // The right side of the atom a.
 pub fn right_at(w: &[u8], a: usize) -> Expr
-    requires { ⌜ (length (now w) ≡ 65536) × (a < most-atom-rows) ⌝ }
+    requires { ⌜ (length (now w) ≡ work-bytes) × (a < most-atom-rows) ⌝ }
     ensures { λ r. ⌜ meaning r ≡ rightAt (now (w .entry)) a ⌝ }
 {
-    let i = 6208 + a * 12;
+    let i = Layout::ATOMS + a * Layout::ATOM_BYTES;
     let tag = byte_at(w, i + 2);
     expr_by(w, tag, i + 8)
 }
+
+// THE HEADER
+
+// How many statement rows there are.
+pub fn row_count(w: &[u8]) -> usize
+    requires { ⌜ length (now w) ≡ work-bytes ⌝ }
+    ensures { λ r. ⌜ (r ≡ rowCount (now (w .entry))) × (r < 65536) ⌝ }
+{
+    half_at(w, 0)
+}
+
+// How many atoms there are.
+pub fn atom_count(w: &[u8]) -> usize
+    requires { ⌜ length (now w) ≡ work-bytes ⌝ }
+    ensures { λ r. ⌜ (r ≡ atomCount (now (w .entry))) × (r < 65536) ⌝ }
+{
+    half_at(w, 2)
+}
+
+// How many classes there are.
+pub fn class_count(w: &[u8]) -> usize
+    requires { ⌜ length (now w) ≡ work-bytes ⌝ }
+    ensures { λ r. ⌜ (r ≡ classCount (now (w .entry))) × (r < 256) ⌝ }
+{
+    byte_at(w, 4)
+}
+
+// How many methods there are.
+pub fn method_count(w: &[u8]) -> usize
+    requires { ⌜ length (now w) ≡ work-bytes ⌝ }
+    ensures { λ r. ⌜ (r ≡ methodCount (now (w .entry))) × (r < 256) ⌝ }
+{
+    byte_at(w, 5)
+}
+
+// The first row of main.
+pub fn main_first(w: &[u8]) -> usize
+    requires { ⌜ length (now w) ≡ work-bytes ⌝ }
+    ensures { λ r. ⌜ (r ≡ mainFirst (now (w .entry))) × (r < 65536) ⌝ }
+{
+    half_at(w, 6)
+}
+
+// ATOMS
+
+// The kind of the atom a: 0 `acc`, 1 `eq`, 2 `ne`.
+pub fn atom_kind(w: &[u8], a: usize) -> usize
+    requires { ⌜ (length (now w) ≡ work-bytes) × (a < most-atom-rows) ⌝ }
+    ensures { λ r. ⌜ (r ≡ byteAt (now (w .entry)) (atomPlace a)) × (r < 256) ⌝ }
+{
+    byte_at(w, Layout::ATOMS + a * Layout::ATOM_BYTES)
+}
+
+// The variable of the atom a, an `acc`.
+pub fn atom_variable(w: &[u8], a: usize) -> usize
+    requires { ⌜ (length (now w) ≡ work-bytes) × (a < most-atom-rows) ⌝ }
+    ensures { λ r. ⌜ (r ≡ byteAt (now (w .entry)) (atomPlace a + 4)) × (r < 256) ⌝ }
+{
+    byte_at(w, Layout::ATOMS + a * Layout::ATOM_BYTES + 4)
+}
+
+// The field of the atom a, an `acc`.
+pub fn atom_field(w: &[u8], a: usize) -> usize
+    requires { ⌜ (length (now w) ≡ work-bytes) × (a < most-atom-rows) ⌝ }
+    ensures { λ r. ⌜ (r ≡ byteAt (now (w .entry)) (atomPlace a + 5)) × (r < 256) ⌝ }
+{
+    byte_at(w, Layout::ATOMS + a * Layout::ATOM_BYTES + 5)
+}
+
+// ROWS
+
+// The kind of the row i.
+pub fn kind_at(w: &[u8], i: usize) -> usize
+    requires { ⌜ (length (now w) ≡ work-bytes) × (i < most-statements) ⌝ }
+    ensures { λ r. ⌜ (r ≡ kindAt (now (w .entry)) i) × (r < 256) ⌝ }
+{
+    byte_at(w, Layout::ROWS + i * Layout::ROW_BYTES)
+}
+
+// Its first variable.
+pub fn x_at(w: &[u8], i: usize) -> usize
+    requires { ⌜ (length (now w) ≡ work-bytes) × (i < most-statements) ⌝ }
+    ensures { λ r. ⌜ (r ≡ xAt (now (w .entry)) i) × (r < 256) ⌝ }
+{
+    byte_at(w, Layout::ROWS + i * Layout::ROW_BYTES + 1)
+}
+
+// Its second variable.
+pub fn y_at(w: &[u8], i: usize) -> usize
+    requires { ⌜ (length (now w) ≡ work-bytes) × (i < most-statements) ⌝ }
+    ensures { λ r. ⌜ (r ≡ yAt (now (w .entry)) i) × (r < 256) ⌝ }
+{
+    byte_at(w, Layout::ROWS + i * Layout::ROW_BYTES + 2)
+}
+
+// Its third variable.
+pub fn z_at(w: &[u8], i: usize) -> usize
+    requires { ⌜ (length (now w) ≡ work-bytes) × (i < most-statements) ⌝ }
+    ensures { λ r. ⌜ (r ≡ zAt (now (w .entry)) i) × (r < 256) ⌝ }
+{
+    byte_at(w, Layout::ROWS + i * Layout::ROW_BYTES + 3)
+}
+
+// Its field, class or method.
+pub fn member_at(w: &[u8], i: usize) -> usize
+    requires { ⌜ (length (now w) ≡ work-bytes) × (i < most-statements) ⌝ }
+    ensures { λ r. ⌜ (r ≡ memberAt (now (w .entry)) i) × (r < 256) ⌝ }
+{
+    byte_at(w, Layout::ROWS + i * Layout::ROW_BYTES + 4)
+}
+
+// How many atoms its formula has.
+pub fn atom_count_at(w: &[u8], i: usize) -> usize
+    requires { ⌜ (length (now w) ≡ work-bytes) × (i < most-statements) ⌝ }
+    ensures { λ r. ⌜ (r ≡ atomCountAt (now (w .entry)) i) × (r < 256) ⌝ }
+{
+    byte_at(w, Layout::ROWS + i * Layout::ROW_BYTES + 5)
+}
+
+// The first of them.
+pub fn first_atom_at(w: &[u8], i: usize) -> usize
+    requires { ⌜ (length (now w) ≡ work-bytes) × (i < most-statements) ⌝ }
+    ensures { λ r. ⌜ (r ≡ firstAtomAt (now (w .entry)) i) × (r < 65536) ⌝ }
+{
+    half_at(w, Layout::ROWS + i * Layout::ROW_BYTES + 6)
+}
+
+// Its line.
+pub fn line_at(w: &[u8], i: usize) -> usize
+    requires { ⌜ (length (now w) ≡ work-bytes) × (i < most-statements) ⌝ }
+    ensures { λ r. ⌜ (r ≡ lineAt (now (w .entry)) i) × (r < 65536) ⌝ }
+{
+    half_at(w, Layout::ROWS + i * Layout::ROW_BYTES + 8)
+}
+
+// Where an `if` or an `else` goes.
+pub fn target_at(w: &[u8], i: usize) -> usize
+    requires { ⌜ (length (now w) ≡ work-bytes) × (i < most-statements) ⌝ }
+    ensures { λ r. ⌜ (r ≡ targetAt (now (w .entry)) i) × (r < 65536) ⌝ }
+{
+    half_at(w, Layout::ROWS + i * Layout::ROW_BYTES + 10)
+}
+
+// METHODS
+
+// The first atom of the requires of the method m.
+pub fn requires_first(w: &[u8], m: usize) -> usize
+    requires { ⌜ (length (now w) ≡ work-bytes) × (m < most-methods) ⌝ }
+    ensures { λ r. ⌜ (r ≡ halfAt (now (w .entry)) (methodPlace m)) × (r < 65536) ⌝ }
+{
+    half_at(w, Layout::METHODS + m * Layout::METHOD_BYTES)
+}
+
+// How many atoms it has.
+pub fn requires_count(w: &[u8], m: usize) -> usize
+    requires { ⌜ (length (now w) ≡ work-bytes) × (m < most-methods) ⌝ }
+    ensures { λ r. ⌜ (r ≡ byteAt (now (w .entry)) (methodPlace m + 2)) × (r < 256) ⌝ }
+{
+    byte_at(w, Layout::METHODS + m * Layout::METHOD_BYTES + 2)
+}
+
+// The first atom of its ensures.
+pub fn ensures_first(w: &[u8], m: usize) -> usize
+    requires { ⌜ (length (now w) ≡ work-bytes) × (m < most-methods) ⌝ }
+    ensures { λ r. ⌜ (r ≡ halfAt (now (w .entry)) (methodPlace m + 4)) × (r < 65536) ⌝ }
+{
+    half_at(w, Layout::METHODS + m * Layout::METHOD_BYTES + 4)
+}
+
+// How many atoms that has.
+pub fn ensures_count(w: &[u8], m: usize) -> usize
+    requires { ⌜ (length (now w) ≡ work-bytes) × (m < most-methods) ⌝ }
+    ensures { λ r. ⌜ (r ≡ byteAt (now (w .entry)) (methodPlace m + 3)) × (r < 256) ⌝ }
+{
+    byte_at(w, Layout::METHODS + m * Layout::METHOD_BYTES + 3)
+}
+
+// Its first row.
+pub fn first_row_at(w: &[u8], m: usize) -> usize
+    requires { ⌜ (length (now w) ≡ work-bytes) × (m < most-methods) ⌝ }
+    ensures { λ r. ⌜ (r ≡ firstRowAt (now (w .entry)) m) × (r < 65536) ⌝ }
+{
+    half_at(w, Layout::METHODS + m * Layout::METHOD_BYTES + 6)
+}
+
+// CLASSES
+
+// How many fields the class c has.
+pub fn field_count_at(w: &[u8], c: usize) -> usize
+    requires { ⌜ (length (now w) ≡ work-bytes) × (c < most-classes) ⌝ }
+    ensures { λ r. ⌜ (r ≡ fieldCountAt (now (w .entry)) c) × (r < 256) ⌝ }
+{
+    byte_at(w, Layout::CLASSES + c * Layout::CLASS_BYTES)
+}
+
+// The name of its field j.
+pub fn field_name_at(w: &[u8], c: usize, j: usize) -> usize
+    requires { ⌜ (length (now w) ≡ work-bytes) × ((c < most-classes) × (j < most-fields)) ⌝ }
+    ensures { λ r. ⌜ (r ≡ fieldNameAt (now (w .entry)) c j) × (r < 256) ⌝ }
+{
+    byte_at(w, Layout::CLASSES + c * Layout::CLASS_BYTES + 1 + j * 2)
+}
+
+// 1 where that field is an int, 0 where it is a reference.
+pub fn field_kind_at(w: &[u8], c: usize, j: usize) -> usize
+    requires { ⌜ (length (now w) ≡ work-bytes) × ((c < most-classes) × (j < most-fields)) ⌝ }
+    ensures { λ r. ⌜ (r ≡ byteAt (now (w .entry)) (classPlace c + 2 + j * 2)) × (r < 256) ⌝ }
+{
+    byte_at(w, Layout::CLASSES + c * Layout::CLASS_BYTES + 2 + j * 2)
+}
+
+// The place in the class c of the field with the name n, 255 where it has none.
+pub fn place_at(w: &[u8], c: usize, n: usize) -> usize
+    requires { ⌜ (length (now w) ≡ work-bytes) × ((c < most-classes) × (n < most-names)) ⌝ }
+    ensures { λ r. ⌜ (r ≡ placeAt (now (w .entry)) c n) × (r < 256) ⌝ }
+{
+    byte_at(w, Layout::PLACES + c * Layout::FIELD_NAMES + n)
+}
+
+// STORES
 
 fn low(v: u32) -> u8
     ensures { λ r. ⌜ r ≡ v % 256 ⌝ }

@@ -1,0 +1,33 @@
+use Rattle.tables.specs.Stores.{meaning}
+use Rattle.tables.specs.Decode.{exprAt, leftAt, rightAt}
+use mathlib.Core.Path.{ap, _∙_}
+use borrow.Author.Needs.{needs}
+use Rattle.tables.proofs.right_at.Statement.{statement}
+use Rattle.tables.proofs.right_at.Tie as tie
+
+mul-i : tie.Need-mul-i
+mul-i c = search needs
+
+add-i : tie.Need-add-i
+add-i c = search needs
+
+add-byte-at : tie.Need-add-byte-at
+add-byte-at c = search needs
+
+byte-at-requires : tie.Need-byte-at-requires
+byte-at-requires c κs = search needs
+
+add-expr-by : tie.Need-add-expr-by
+add-expr-by c = search needs
+
+expr-by-requires : tie.Need-expr-by-requires
+expr-by-requires c κs = search needs
+
+returns : tie.Need-returns
+unfolding rightAt
+returns c = c .expr-by .ensures ∙ rw (c .before .byte-at .ensures .0)
+
+pub right-at-spec : {M : Type 1} → statement M
+right-at-spec =
+    tie.close
+    (tie.spec mul-i add-i add-byte-at byte-at-requires add-expr-by expr-by-requires returns)
