@@ -7,7 +7,7 @@ use Prim.Native.Nat.{ℕ, _+_, _*_, _-_, _≤_, _<_}
 use lib.Dec.{eqb, ltb, leb}
 use lib.ListN.{length, getD}
 use Rattle.rules.specs.Base.{Try, ok, no, _>>=_, any}
-use Rattle.rules.specs.Answers.{Refusal, unresolved, noPermission, notShown, stateFull}
+use Rattle.rules.specs.Answers.{Refusal, unresolved, noPermission, notShown, stateFull, malformed}
 use Rattle.rules.specs.Syntax as Syntax
 use Rattle.rules.specs.Syntax.{Formula, eq, ne, acc, cmp}
 use Rattle.rules.specs.State as Rules
@@ -30,6 +30,7 @@ answered Answer.Unresolved x = no unresolved
 answered Answer.NoPermission x = no noPermission
 answered Answer.NotShown x = no notShown
 answered Answer.Full x = no stateFull
+answered Answer.Malformed x = no malformed
 
 unfoldable pub resolvedAs : Resolved → Try Refusal Rules.Term
 resolvedAs (Resolved.Key k) = ok (termOf k)

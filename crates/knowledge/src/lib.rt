@@ -757,6 +757,7 @@ pub enum Answer {
     NoPermission,
     NotShown,
     Full,
+    Malformed,
 }
 
 pub enum Atom {
