@@ -97,8 +97,7 @@ show-start s φ =
         ∙ any-false (λ j. getD (replicate 64 false) j false && q (permissionAt (s .variable) (s .field) j)) (listed (λ i. i) (s .permissions)) (λ j. ap (λ (b : Bool). b && q (permissionAt (s .variable) (s .field) j)) (no-flags 64 j))
 
 module _ (s : State) (φ rest : Formula ℕ) (out : List Bool) (S : Showing s φ rest out) (a : Atom ℕ) (more : Formula ℕ) (e : rest ≡ a ∷ more)
-  (k : Answer) (out′ : List Bool) (A : ShowsAtom s out a k out′) where
-
+    (k : Answer) (out′ : List Bool) (A : ShowsAtom s out a k out′) where
   on : (answered k (A .after (S .shown)) >>= λ d. showFrom (equalIn (stateOf s)) (stateOf s) more d) ≡ Rules.show (stateOf s) φ
   on = sym (A .shows (S .shown) more (S .taken)) ∙ rw (← e) (S .same)
 

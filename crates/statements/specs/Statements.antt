@@ -44,3 +44,10 @@ partRule n t u s = do
 -- a field's first value, by its kind
 unfoldable pub initialOf : ℕ → Rules.Term
 initialOf k = cond (not (eqb k 0)) (num 0) null
+
+-- `assert` and `release`
+unfoldable pub assertRule : Formula ℕ → Rules.State → Try Refusal Rules.State
+assertRule φ s = Rules.show s φ >>= λ r. ok s
+
+unfoldable pub releaseRule : Formula ℕ → Rules.State → Try Refusal Rules.State
+releaseRule φ s = Rules.show s φ >>= λ r. ok (Rules.remainder s r)

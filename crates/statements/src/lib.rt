@@ -8,7 +8,6 @@ ghost use mathlib.Core.List.{List, [], _∷_};
 ghost use Prim.Native.Nat.{ℕ, _+_, _-_, _≤_, _<_};
 ghost use lib.ListN.{length};
 ghost use Rattle.rules.specs.Limits.{work-bytes, most-classes, most-fields, most-methods};
-ghost use Rattle.rules.specs.Base.{ok, _>>=_};
 ghost use Rattle.rules.specs.State as Rules;
 ghost use Rattle.rules.specs.Rules.{setRule, addEqual, assignRule, newRule, addFields, addInitial, callRule, ifRule, joinRule};
 ghost use Rattle.tables.specs.Layout.{most-atom-rows};
@@ -19,7 +18,7 @@ ghost use Rattle.links.specs.Links.{relOf};
 ghost use Rattle.knowledge.specs.States.{Wf, stateOf};
 ghost use Rattle.knowledge.specs.Answers.{Adds, leftOver};
 ghost use Rattle.formulas.specs.Formulas.{formula};
-ghost use Rattle.statements.specs.Statements.{Parts, assignTerm, callShown, partRule, initialOf};
+ghost use Rattle.statements.specs.Statements.{Parts, assignTerm, callShown, partRule, initialOf, assertRule, releaseRule};
 
 // `set x f y`: the facts that name the path that shows `acc x f` go, and the path is y.
 pub fn set_rule(s: State, x: u8, f: u8, y: u8) -> Added
@@ -163,11 +162,12 @@ pub fn new_rule(w: &[u8], s: State, x: u8, c: usize) -> Added
 // `assert`: the formula is shown, and the state stays.
 pub fn assert_rule(w: &[u8], s: State, a: usize, n: usize) -> Added
     requires { ⌜ (length (now w) ≡ work-bytes) × (a + n ≤ most-atom-rows) × Wf s ⌝ }
-    ensures { λ r. ⌜ Adds (Rules.show (stateOf s) (atomsFrom (now (w .entry)) a n) >>= λ c. ok (stateOf s)) r ⌝ }
+    ensures { λ r. ⌜ Adds (assertRule (atomsFrom (now (w .entry)) a n) (stateOf s)) r ⌝ }
 {
     let r = formulas::show(w, a, n, 0, 1, 14, s);
+    let k = r.answer;
     Added {
-        answer: r.answer,
+        answer: k,
         state: s,
     }
 }
@@ -175,12 +175,13 @@ pub fn assert_rule(w: &[u8], s: State, a: usize, n: usize) -> Added
 // `release`: the formula is shown, and the remainder is left.
 pub fn release_rule(w: &[u8], s: State, a: usize, n: usize) -> Added
     requires { ⌜ (length (now w) ≡ work-bytes) × (a + n ≤ most-atom-rows) × Wf s ⌝ }
-    ensures { λ r. ⌜ Adds (Rules.show (stateOf s) (atomsFrom (now (w .entry)) a n) >>= λ c. ok (Rules.remainder (stateOf s) c)) r ⌝ }
+    ensures { λ r. ⌜ Adds (releaseRule (atomsFrom (now (w .entry)) a n) (stateOf s)) r ⌝ }
 {
     let r = formulas::show(w, a, n, 0, 1, 14, s);
+    let k = r.answer;
     let out = r.out;
     Added {
-        answer: r.answer,
+        answer: k,
         state: knowledge::remainder(s, out),
     }
 }
@@ -249,10 +250,11 @@ fn part(s: State, apart: bool, t: u64, u: u64) -> Branches
         return none(s, k);
     };
     let b = knowledge::add_fact(s, !apart, t, u);
+    let l = b.answer;
     let first = a.state;
     let second = b.state;
     Branches {
-        answer: b.answer,
+        answer: l,
         first,
         second,
     }
