@@ -1148,8 +1148,8 @@ pub fn add_fact(s: State, apart: bool, t: u64, u: u64) -> Added
     requires { ⌜ Wf s ⌝ }
     ensures { λ r. ⌜ Adds (Rules.addFact (relOf apart) (termOf t) (termOf u) (stateOf s)) r ⌝ }
 {
-    let n = s.facts;
-    if 64 <= n {
+    let count = s.facts;
+    if 64 <= count {
         return Added {
             answer: Answer::Full,
             state: s,
@@ -1158,8 +1158,8 @@ pub fn add_fact(s: State, apart: bool, t: u64, u: u64) -> Added
     let mut key = s.key;
     let mut label = s.label;
     let mut flags = s.apart;
-    links::push(&mut key, &mut label, 16 + 2 * n, apart, t, u);
-    flags[n] = apart;
+    links::push(&mut key, &mut label, 16 + 2 * count, apart, t, u);
+    flags[count] = apart;
     let variable = s.variable;
     let field = s.field;
     Added {
@@ -1168,7 +1168,7 @@ pub fn add_fact(s: State, apart: bool, t: u64, u: u64) -> Added
             key,
             label,
             apart: flags,
-            facts: n + 1,
+            facts: count + 1,
             variable,
             field,
             permissions: s.permissions,

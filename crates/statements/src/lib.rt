@@ -289,5 +289,6 @@ pub fn join_rule(w: &[u8], a: usize, n: usize, s: State, t: State) -> Added
     let Answer::Done = l else {
         return second;
     };
-    formulas::add(w, a, n, 0, 1, 14, knowledge::empty())
+    let known = knowledge::empty();
+    formulas::add(w, a, n, 0, 1, 14, known)
 }
