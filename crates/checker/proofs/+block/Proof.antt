@@ -1,0 +1,557 @@
+use Prim.Native.Nat.{_-_}
+use Rattle.checker.proofs.Blocks.{goes-on, Going, begin, ends, step-stops, step-on, if-stops, deep, turn-wf, turn-stops, turn-nests, join-stops, join-on, far-on, below-15}
+use Rattle.checker.proofs.Stepping.{is-if}
+use Rattle.tables.specs.Decode.{rowCount}
+use borrow.Author.Needs.{needs}
+use mathlib.Core.Path.{sym, _∙_}
+use native.Mathlib.Omega.{arith}
+use Rattle.knowledge.specs.declared.Answer.{Answer}
+use Rattle.rules.specs.State as Rules
+use Rattle.tables.specs.Tables.{Tables}
+use Prim.Native.Nat.{ℕ, _<_}
+use borrow.Fn.Kinds.{In}
+use borrow.Fn.PlainCycle.{Measures, is, falls, and}
+use Rattle.checker.proofs.block.Reads as block
+use Rattle.checker.proofs.block.Kinds as block-kinds
+use Rattle.checker.proofs.+block.Lts-block as block-lts
+use Rattle.checker.proofs.if_at.Reads as if-at-reads
+use Rattle.checker.proofs.joined.Reads as joined-reads
+use Rattle.checker.proofs.statement.Reads as statement-reads
+use Rattle.checker.proofs.turned.Reads as turned-reads
+use Rattle.tables.proofs.kind_at.Reads as kind-at-reads
+use Rattle.checker.proofs.+block.{statement}
+use Rattle.checker.proofs.+block.Tie.{close}
+
+abbrev μ-block : Measures 1 block-kinds.ps ℕ
+μ-block κs a = a .1 .0
+
+abbrev block-at : ℕ → In 1 block-kinds.ps
+block-at t = and 1 block-kinds.ps (is 1 block-kinds.ps μ-block t) block.Pre
+
+abbrev block-below : ℕ → In 1 block-kinds.ps
+block-below t = and 1 block-kinds.ps (falls 1 block-kinds.ps _<_ μ-block t) block.Pre
+
+abbrev block-Inv-loop : block-lts.InvT-loop
+block-Inv-loop w depth from at₀ s₀ at s = Going w depth from s₀ at s
+
+abbrev block-μ-loop : block-lts.MeasureT-loop
+block-μ-loop w depth from at₀ s₀ at s = rowCount w - at
+
+block-loop-holds : (t : ℕ) → block-lts.Need-loop-holds (
+  kind-at-reads.Asked,
+  kind-at-reads.Learnt,
+  if-at-reads.Asked,
+  if-at-reads.Learnt,
+  block-below t,
+  block.Post,
+  turned-reads.Asked,
+  turned-reads.Learnt,
+  joined-reads.Asked,
+  joined-reads.Learnt,
+  statement-reads.Asked,
+  statement-reads.Learnt,
+) (block-at t) block.Post block-Inv-loop block-μ-loop
+block-loop-holds t c = begin _ _ _ _ (c .before .pre .1 .4) (c .before .pre .1 .2) (c .before .pre .1 .3)
+
+block-kind-at-requires : (t : ℕ) → block-lts.Need-kind-at-requires (
+  kind-at-reads.Asked,
+  kind-at-reads.Learnt,
+  if-at-reads.Asked,
+  if-at-reads.Learnt,
+  block-below t,
+  block.Post,
+  turned-reads.Asked,
+  turned-reads.Learnt,
+  joined-reads.Asked,
+  joined-reads.Learnt,
+  statement-reads.Asked,
+  statement-reads.Learnt,
+) (block-at t) block.Post block-Inv-loop block-μ-loop
+block-kind-at-requires t c κs =
+    ((c .before .before .pre .1 .0) .size, omega (arith, (c .before .before .pre .1 .0) .rows, (c .loop .inv) .within))
+
+block-kind-at-requires-2 : (t : ℕ) → block-lts.Need-kind-at-requires-2 (
+  kind-at-reads.Asked,
+  kind-at-reads.Learnt,
+  if-at-reads.Asked,
+  if-at-reads.Learnt,
+  block-below t,
+  block.Post,
+  turned-reads.Asked,
+  turned-reads.Learnt,
+  joined-reads.Asked,
+  joined-reads.Learnt,
+  statement-reads.Asked,
+  statement-reads.Learnt,
+) (block-at t) block.Post block-Inv-loop block-μ-loop
+block-kind-at-requires-2 t c κs =
+    ((c .before .before .before .before .pre .1 .0) .size, omega (arith, (c .before .before .before .before .pre .1 .0) .rows, (c .before .before .loop .inv) .within))
+
+block-if-at-requires : (t : ℕ) → block-lts.Need-if-at-requires (
+  kind-at-reads.Asked,
+  kind-at-reads.Learnt,
+  if-at-reads.Asked,
+  if-at-reads.Learnt,
+  block-below t,
+  block.Post,
+  turned-reads.Asked,
+  turned-reads.Learnt,
+  joined-reads.Asked,
+  joined-reads.Learnt,
+  statement-reads.Asked,
+  statement-reads.Learnt,
+) (block-at t) block.Post block-Inv-loop block-μ-loop
+block-if-at-requires t c κs =
+    ((c .before .before .before .before .before .before .pre .1 .0), (c .before .before .before .before .loop .inv) .within, (sym (c .before .kind-at2 .ensures .0) ∙ c .if2 .taken), (c .before .before .before .before .loop .inv) .wf)
+
+block-enum-told : (t : ℕ) → block-lts.Need-enum-told (
+  kind-at-reads.Asked,
+  kind-at-reads.Learnt,
+  if-at-reads.Asked,
+  if-at-reads.Learnt,
+  block-below t,
+  block.Post,
+  turned-reads.Asked,
+  turned-reads.Learnt,
+  joined-reads.Asked,
+  joined-reads.Learnt,
+  statement-reads.Asked,
+  statement-reads.Learnt,
+) (block-at t) block.Post block-Inv-loop block-μ-loop
+block-enum-told t c = search needs
+
+block-returns : (t : ℕ) → block-lts.Need-returns (
+  kind-at-reads.Asked,
+  kind-at-reads.Learnt,
+  if-at-reads.Asked,
+  if-at-reads.Learnt,
+  block-below t,
+  block.Post,
+  turned-reads.Asked,
+  turned-reads.Learnt,
+  joined-reads.Asked,
+  joined-reads.Learnt,
+  statement-reads.Asked,
+  statement-reads.Learnt,
+) (block-at t) block.Post block-Inv-loop block-μ-loop
+block-returns t c =
+    if-stops (c .before .before .before .before .before .before .before .before .args .w .now) (c .before .before .before .before .before .before .before .before .pre .1 .0) (c .before .before .before .before .before .before .before .before .args .depth) (c .before .before .before .before .before .before .before .before .args .from) (c .before .before .before .before .before .before .before .before .pre .1 .1) (c .before .before .before .before .before .before .before .before .args .start) (c .before .before .before .before .before .before .loop .at) (c .before .before .before .before .before .before .loop .s) (c .before .before .before .before .before .before .loop .inv) _ _ _ (is-if _ _ (sym (c .before .before .before .kind-at2 .ensures .0) ∙ c .before .before .if2 .taken)) (c .before .if-at .result) (c .before .if-at .ensures) (c .match .keys2)
+
+block-sub-block : (t : ℕ) → block-lts.Need-sub-block (
+  kind-at-reads.Asked,
+  kind-at-reads.Learnt,
+  if-at-reads.Asked,
+  if-at-reads.Learnt,
+  block-below t,
+  block.Post,
+  turned-reads.Asked,
+  turned-reads.Learnt,
+  joined-reads.Asked,
+  joined-reads.Learnt,
+  statement-reads.Asked,
+  statement-reads.Learnt,
+) (block-at t) block.Post block-Inv-loop block-μ-loop
+block-sub-block t c =
+    let d = (deep (c .before .before .before .before .before .before .before .before .before .args .w .now) (c .before .before .before .before .before .before .before .before .before .pre .1 .0) (c .before .before .before .before .before .before .before .before .before .args .depth) (c .before .before .before .before .before .before .before .before .before .args .from) (c .before .before .before .before .before .before .before .before .before .pre .1 .1) (c .before .before .before .before .before .before .before .before .before .args .start) (c .before .before .before .before .before .before .before .loop .at) (c .before .before .before .before .before .before .before .loop .s) (c .before .before .before .before .before .before .before .loop .inv) _ _ _ (is-if _ _ (sym (c .before .before .before .before .kind-at2 .ensures .0) ∙ c .before .before .before .if2 .taken)) (c .before .before .if-at .result) (c .before .before .if-at .ensures)) .0 in omega arith
+
+block-add-block : (t : ℕ) → block-lts.Need-add-block (
+  kind-at-reads.Asked,
+  kind-at-reads.Learnt,
+  if-at-reads.Asked,
+  if-at-reads.Learnt,
+  block-below t,
+  block.Post,
+  turned-reads.Asked,
+  turned-reads.Learnt,
+  joined-reads.Asked,
+  joined-reads.Learnt,
+  statement-reads.Asked,
+  statement-reads.Learnt,
+) (block-at t) block.Post block-Inv-loop block-μ-loop
+block-add-block t c =
+    omega (arith, (c .before .before .before .before .before .before .before .loop .inv) .within, (c .before .before .before .before .before .before .before .before .before .pre .1 .0) .rows)
+
+block-block-requires : (t : ℕ) → block-lts.Need-block-requires (
+  kind-at-reads.Asked,
+  kind-at-reads.Learnt,
+  if-at-reads.Asked,
+  if-at-reads.Learnt,
+  block-below t,
+  block.Post,
+  turned-reads.Asked,
+  turned-reads.Learnt,
+  joined-reads.Asked,
+  joined-reads.Learnt,
+  statement-reads.Asked,
+  statement-reads.Learnt,
+) (block-at t) block.Post block-Inv-loop block-μ-loop
+block-block-requires t c κs =
+    let d = (deep (c .before .before .before .before .before .before .before .before .before .args .w .now) (c .before .before .before .before .before .before .before .before .before .pre .1 .0) (c .before .before .before .before .before .before .before .before .before .args .depth) (c .before .before .before .before .before .before .before .before .before .args .from) (c .before .before .before .before .before .before .before .before .before .pre .1 .1) (c .before .before .before .before .before .before .before .before .before .args .start) (c .before .before .before .before .before .before .before .loop .at) (c .before .before .before .before .before .before .before .loop .s) (c .before .before .before .before .before .before .before .loop .inv) _ _ _ (is-if _ _ (sym (c .before .before .before .before .kind-at2 .ensures .0) ∙ c .before .before .before .if2 .taken)) (c .before .before .if-at .result) (c .before .before .if-at .ensures)) in let h = d .0 in let k = (sym (c .before .before .before .before .kind-at2 .ensures .0) ∙ c .before .before .before .if2 .taken) in (omega (arith, c .before .before .before .before .before .before .before .before .before .pre .0), ((c .before .before .before .before .before .before .before .before .before .pre .1 .0), omega (arith, (c .before .before .before .before .before .before .before .before .before .pre .1 .1)), goes-on _ (c .before .before .before .before .before .before .before .before .before .pre .1 .0) _ ((c .before .before .before .before .before .before .before .loop .inv) .within) (omega arith), d .1, c .before .before .if-at .ensures .first))
+
+block-turned-requires : (t : ℕ) → block-lts.Need-turned-requires (
+  kind-at-reads.Asked,
+  kind-at-reads.Learnt,
+  if-at-reads.Asked,
+  if-at-reads.Learnt,
+  block-below t,
+  block.Post,
+  turned-reads.Asked,
+  turned-reads.Learnt,
+  joined-reads.Asked,
+  joined-reads.Learnt,
+  statement-reads.Asked,
+  statement-reads.Learnt,
+) (block-at t) block.Post block-Inv-loop block-μ-loop
+block-turned-requires t c κs =
+    ((c .before .before .before .before .before .before .before .before .before .before .pre .1 .0), record { wf = c .block .ensures .wf; within = c .block .ensures .within; closes = c .block .ensures .closes })
+
+block-enum-told-2 : (t : ℕ) → block-lts.Need-enum-told-2 (
+  kind-at-reads.Asked,
+  kind-at-reads.Learnt,
+  if-at-reads.Asked,
+  if-at-reads.Learnt,
+  block-below t,
+  block.Post,
+  turned-reads.Asked,
+  turned-reads.Learnt,
+  joined-reads.Asked,
+  joined-reads.Learnt,
+  statement-reads.Asked,
+  statement-reads.Learnt,
+) (block-at t) block.Post block-Inv-loop block-μ-loop
+block-enum-told-2 t c = search needs
+
+block-returns-2 : (t : ℕ) → block-lts.Need-returns-2 (
+  kind-at-reads.Asked,
+  kind-at-reads.Learnt,
+  if-at-reads.Asked,
+  if-at-reads.Learnt,
+  block-below t,
+  block.Post,
+  turned-reads.Asked,
+  turned-reads.Learnt,
+  joined-reads.Asked,
+  joined-reads.Learnt,
+  statement-reads.Asked,
+  statement-reads.Learnt,
+) (block-at t) block.Post block-Inv-loop block-μ-loop
+block-returns-2 t c =
+    turn-stops (c .before .before .before .before .before .before .before .before .before .before .before .before .args .w .now) (c .before .before .before .before .before .before .before .before .before .before .before .before .pre .1 .0) (c .before .before .before .before .before .before .before .before .before .before .before .before .args .depth) (c .before .before .before .before .before .before .before .before .before .before .before .before .args .from) (c .before .before .before .before .before .before .before .before .before .before .before .before .pre .1 .1) (c .before .before .before .before .before .before .before .before .before .before .before .before .args .start) (c .before .before .before .before .before .before .before .before .before .before .loop .at) (c .before .before .before .before .before .before .before .before .before .before .loop .s) (c .before .before .before .before .before .before .before .before .before .before .loop .inv) _ _ _ (is-if _ _ (sym (c .before .before .before .before .before .before .before .kind-at2 .ensures .0) ∙ c .before .before .before .before .before .before .if2 .taken)) (c .before .before .before .before .before .if-at .result) (c .before .before .before .before .before .if-at .ensures) (sym (c .before .before .before .before .before .before .before .kind-at2 .ensures .0) ∙ c .before .before .before .before .before .before .if2 .taken) (c .before .before .before .enum-told .given .1) (c .before .before .block .result) (c .before .turned .result) (c .before .before .block .ensures) (c .before .turned .ensures) (c .match2 .keys2)
+
+block-sub-block-2 : (t : ℕ) → block-lts.Need-sub-block-2 (
+  kind-at-reads.Asked,
+  kind-at-reads.Learnt,
+  if-at-reads.Asked,
+  if-at-reads.Learnt,
+  block-below t,
+  block.Post,
+  turned-reads.Asked,
+  turned-reads.Learnt,
+  joined-reads.Asked,
+  joined-reads.Learnt,
+  statement-reads.Asked,
+  statement-reads.Learnt,
+) (block-at t) block.Post block-Inv-loop block-μ-loop
+block-sub-block-2 t c =
+    let d = (deep (c .before .before .before .before .before .before .before .before .before .before .before .before .before .args .w .now) (c .before .before .before .before .before .before .before .before .before .before .before .before .before .pre .1 .0) (c .before .before .before .before .before .before .before .before .before .before .before .before .before .args .depth) (c .before .before .before .before .before .before .before .before .before .before .before .before .before .args .from) (c .before .before .before .before .before .before .before .before .before .before .before .before .before .pre .1 .1) (c .before .before .before .before .before .before .before .before .before .before .before .before .before .args .start) (c .before .before .before .before .before .before .before .before .before .before .before .loop .at) (c .before .before .before .before .before .before .before .before .before .before .before .loop .s) (c .before .before .before .before .before .before .before .before .before .before .before .loop .inv) _ _ _ (is-if _ _ (sym (c .before .before .before .before .before .before .before .before .kind-at2 .ensures .0) ∙ c .before .before .before .before .before .before .before .if2 .taken)) (c .before .before .before .before .before .before .if-at .result) (c .before .before .before .before .before .before .if-at .ensures)) .0 in omega arith
+
+block-add-block-2 : (t : ℕ) → block-lts.Need-add-block-2 (
+  kind-at-reads.Asked,
+  kind-at-reads.Learnt,
+  if-at-reads.Asked,
+  if-at-reads.Learnt,
+  block-below t,
+  block.Post,
+  turned-reads.Asked,
+  turned-reads.Learnt,
+  joined-reads.Asked,
+  joined-reads.Learnt,
+  statement-reads.Asked,
+  statement-reads.Learnt,
+) (block-at t) block.Post block-Inv-loop block-μ-loop
+block-add-block-2 t c =
+    omega (arith, c .before .before .before .turned .ensures .place, c .before .before .before .before .block .ensures .within, (c .before .before .before .before .before .before .before .before .before .before .before .before .before .before .pre .1 .0) .rows)
+
+block-block-requires-2 : (t : ℕ) → block-lts.Need-block-requires-2 (
+  kind-at-reads.Asked,
+  kind-at-reads.Learnt,
+  if-at-reads.Asked,
+  if-at-reads.Learnt,
+  block-below t,
+  block.Post,
+  turned-reads.Asked,
+  turned-reads.Learnt,
+  joined-reads.Asked,
+  joined-reads.Learnt,
+  statement-reads.Asked,
+  statement-reads.Learnt,
+) (block-at t) block.Post block-Inv-loop block-μ-loop
+block-block-requires-2 t c κs =
+    let d = (deep (c .before .before .before .before .before .before .before .before .before .before .before .before .before .before .args .w .now) (c .before .before .before .before .before .before .before .before .before .before .before .before .before .before .pre .1 .0) (c .before .before .before .before .before .before .before .before .before .before .before .before .before .before .args .depth) (c .before .before .before .before .before .before .before .before .before .before .before .before .before .before .args .from) (c .before .before .before .before .before .before .before .before .before .before .before .before .before .before .pre .1 .1) (c .before .before .before .before .before .before .before .before .before .before .before .before .before .before .args .start) (c .before .before .before .before .before .before .before .before .before .before .before .before .loop .at) (c .before .before .before .before .before .before .before .before .before .before .before .before .loop .s) (c .before .before .before .before .before .before .before .before .before .before .before .before .loop .inv) _ _ _ (is-if _ _ (sym (c .before .before .before .before .before .before .before .before .before .kind-at2 .ensures .0) ∙ c .before .before .before .before .before .before .before .before .if2 .taken)) (c .before .before .before .before .before .before .before .if-at .result) (c .before .before .before .before .before .before .before .if-at .ensures)) in let h = d .0 in (omega (arith, c .before .before .before .before .before .before .before .before .before .before .before .before .before .before .pre .0), ((c .before .before .before .before .before .before .before .before .before .before .before .before .before .before .pre .1 .0), omega (arith, (c .before .before .before .before .before .before .before .before .before .before .before .before .before .before .pre .1 .1)), c .before .before .before .turned .ensures .next (c .before .enum-told2 .given .1), turn-nests (c .before .before .before .before .before .before .before .before .before .before .before .before .before .before .args .w .now) (c .before .before .before .before .before .before .before .before .before .before .before .before .before .before .pre .1 .0) (c .before .before .before .before .before .before .before .before .before .before .before .before .before .before .args .depth) (c .before .before .before .before .before .before .before .before .before .before .before .before .before .before .args .from) (c .before .before .before .before .before .before .before .before .before .before .before .before .before .before .pre .1 .1) (c .before .before .before .before .before .before .before .before .before .before .before .before .before .before .args .start) (c .before .before .before .before .before .before .before .before .before .before .before .before .loop .at) (c .before .before .before .before .before .before .before .before .before .before .before .before .loop .s) (c .before .before .before .before .before .before .before .before .before .before .before .before .loop .inv) _ _ _ (is-if _ _ (sym (c .before .before .before .before .before .before .before .before .before .kind-at2 .ensures .0) ∙ c .before .before .before .before .before .before .before .before .if2 .taken)) (c .before .before .before .before .before .before .before .if-at .result) (c .before .before .before .before .before .before .before .if-at .ensures) (sym (c .before .before .before .before .before .before .before .before .before .kind-at2 .ensures .0) ∙ c .before .before .before .before .before .before .before .before .if2 .taken) (c .before .before .before .before .before .enum-told .given .1) (c .before .before .before .before .block .result) (c .before .before .before .turned .result) (c .before .before .before .before .block .ensures) (c .before .before .before .turned .ensures) (c .before .enum-told2 .given .1), c .before .before .before .before .before .before .before .if-at .ensures .second))
+
+block-joined-requires : (t : ℕ) → block-lts.Need-joined-requires (
+  kind-at-reads.Asked,
+  kind-at-reads.Learnt,
+  if-at-reads.Asked,
+  if-at-reads.Learnt,
+  block-below t,
+  block.Post,
+  turned-reads.Asked,
+  turned-reads.Learnt,
+  joined-reads.Asked,
+  joined-reads.Learnt,
+  statement-reads.Asked,
+  statement-reads.Learnt,
+) (block-at t) block.Post block-Inv-loop block-μ-loop
+block-joined-requires t c κs =
+    ((c .before .before .before .before .before .before .before .before .before .before .before .before .before .before .before .pre .1 .0), turn-wf (c .before .before .before .before .before .before .before .before .before .before .before .before .before .before .before .args .w .now) (c .before .before .before .before .before .before .before .before .before .before .before .before .before .before .before .pre .1 .0) (c .before .before .before .before .before .before .before .before .before .before .before .before .before .before .before .args .depth) (c .before .before .before .before .before .before .before .before .before .before .before .before .before .before .before .args .from) (c .before .before .before .before .before .before .before .before .before .before .before .before .before .before .before .pre .1 .1) (c .before .before .before .before .before .before .before .before .before .before .before .before .before .before .before .args .start) (c .before .before .before .before .before .before .before .before .before .before .before .before .before .loop .at) (c .before .before .before .before .before .before .before .before .before .before .before .before .before .loop .s) (c .before .before .before .before .before .before .before .before .before .before .before .before .before .loop .inv) _ _ _ (is-if _ _ (sym (c .before .before .before .before .before .before .before .before .before .before .kind-at2 .ensures .0) ∙ c .before .before .before .before .before .before .before .before .before .if2 .taken)) (c .before .before .before .before .before .before .before .before .if-at .result) (c .before .before .before .before .before .before .before .before .if-at .ensures) (sym (c .before .before .before .before .before .before .before .before .before .before .kind-at2 .ensures .0) ∙ c .before .before .before .before .before .before .before .before .before .if2 .taken) (c .before .before .before .before .before .before .enum-told .given .1) (c .before .before .before .before .before .block .result) (c .before .before .before .before .turned .result) (c .before .before .before .before .before .block .ensures) (c .before .before .before .before .turned .ensures), record { wf = c .block2 .ensures .wf; within = c .block2 .ensures .within; closes = c .block2 .ensures .closes })
+
+block-enum-told-3 : (t : ℕ) → block-lts.Need-enum-told-3 (
+  kind-at-reads.Asked,
+  kind-at-reads.Learnt,
+  if-at-reads.Asked,
+  if-at-reads.Learnt,
+  block-below t,
+  block.Post,
+  turned-reads.Asked,
+  turned-reads.Learnt,
+  joined-reads.Asked,
+  joined-reads.Learnt,
+  statement-reads.Asked,
+  statement-reads.Learnt,
+) (block-at t) block.Post block-Inv-loop block-μ-loop
+block-enum-told-3 t c = search needs
+
+block-returns-3 : (t : ℕ) → block-lts.Need-returns-3 (
+  kind-at-reads.Asked,
+  kind-at-reads.Learnt,
+  if-at-reads.Asked,
+  if-at-reads.Learnt,
+  block-below t,
+  block.Post,
+  turned-reads.Asked,
+  turned-reads.Learnt,
+  joined-reads.Asked,
+  joined-reads.Learnt,
+  statement-reads.Asked,
+  statement-reads.Learnt,
+) (block-at t) block.Post block-Inv-loop block-μ-loop
+block-returns-3 t c =
+    join-stops (c .before .before .before .before .before .before .before .before .before .before .before .before .before .before .before .before .before .args .w .now) (c .before .before .before .before .before .before .before .before .before .before .before .before .before .before .before .before .before .pre .1 .0) (c .before .before .before .before .before .before .before .before .before .before .before .before .before .before .before .before .before .args .depth) (c .before .before .before .before .before .before .before .before .before .before .before .before .before .before .before .before .before .args .from) (c .before .before .before .before .before .before .before .before .before .before .before .before .before .before .before .before .before .pre .1 .1) (c .before .before .before .before .before .before .before .before .before .before .before .before .before .before .before .before .before .args .start) (c .before .before .before .before .before .before .before .before .before .before .before .before .before .before .before .loop .at) (c .before .before .before .before .before .before .before .before .before .before .before .before .before .before .before .loop .s) (c .before .before .before .before .before .before .before .before .before .before .before .before .before .before .before .loop .inv) _ _ _ (is-if _ _ (sym (c .before .before .before .before .before .before .before .before .before .before .before .before .kind-at2 .ensures .0) ∙ c .before .before .before .before .before .before .before .before .before .before .before .if2 .taken)) (c .before .before .before .before .before .before .before .before .before .before .if-at .result) (c .before .before .before .before .before .before .before .before .before .before .if-at .ensures) (sym (c .before .before .before .before .before .before .before .before .before .before .before .before .kind-at2 .ensures .0) ∙ c .before .before .before .before .before .before .before .before .before .before .before .if2 .taken) (c .before .before .before .before .before .before .before .before .enum-told .given .1) (c .before .before .before .before .before .before .before .block .result) (c .before .before .before .before .before .before .turned .result) (c .before .before .before .before .before .before .before .block .ensures) (c .before .before .before .before .before .before .turned .ensures) (c .before .before .before .before .enum-told2 .given .1) (c .before .before .block2 .result) (c .before .joined .result) (c .before .before .block2 .ensures) (c .before .joined .ensures) (c .match3 .keys2)
+
+block-add-at : (t : ℕ) → block-lts.Need-add-at (
+  kind-at-reads.Asked,
+  kind-at-reads.Learnt,
+  if-at-reads.Asked,
+  if-at-reads.Learnt,
+  block-below t,
+  block.Post,
+  turned-reads.Asked,
+  turned-reads.Learnt,
+  joined-reads.Asked,
+  joined-reads.Learnt,
+  statement-reads.Asked,
+  statement-reads.Learnt,
+) (block-at t) block.Post block-Inv-loop block-μ-loop
+block-add-at t c =
+    omega (arith, c .before .before .before .joined .ensures .place, c .before .before .before .before .block2 .ensures .within, (c .before .before .before .before .before .before .before .before .before .before .before .before .before .before .before .before .before .before .before .pre .1 .0) .rows)
+
+block-loop-less : (t : ℕ) → block-lts.Need-loop-less (
+  kind-at-reads.Asked,
+  kind-at-reads.Learnt,
+  if-at-reads.Asked,
+  if-at-reads.Learnt,
+  block-below t,
+  block.Post,
+  turned-reads.Asked,
+  turned-reads.Learnt,
+  joined-reads.Asked,
+  joined-reads.Learnt,
+  statement-reads.Asked,
+  statement-reads.Learnt,
+) (block-at t) block.Post block-Inv-loop block-μ-loop
+block-loop-less t c =
+    let h = far-on (c .before .before .before .before .before .before .before .before .before .before .before .before .before .before .before .before .before .before .before .before .args .w .now) (c .before .before .before .before .before .before .before .before .before .before .before .before .before .before .before .before .before .before .before .before .pre .1 .0) (c .before .before .before .before .before .before .before .before .before .before .before .before .before .before .before .before .before .before .before .before .args .depth) (c .before .before .before .before .before .before .before .before .before .before .before .before .before .before .before .before .before .before .before .before .args .from) (c .before .before .before .before .before .before .before .before .before .before .before .before .before .before .before .before .before .before .before .before .pre .1 .1) (c .before .before .before .before .before .before .before .before .before .before .before .before .before .before .before .before .before .before .before .before .args .start) (c .before .before .before .before .before .before .before .before .before .before .before .before .before .before .before .before .before .before .loop .at) (c .before .before .before .before .before .before .before .before .before .before .before .before .before .before .before .before .before .before .loop .s) (c .before .before .before .before .before .before .before .before .before .before .before .before .before .before .before .before .before .before .loop .inv) _ _ _ (is-if _ _ (sym (c .before .before .before .before .before .before .before .before .before .before .before .before .before .before .before .kind-at2 .ensures .0) ∙ c .before .before .before .before .before .before .before .before .before .before .before .before .before .before .if2 .taken)) (c .before .before .before .before .before .before .before .before .before .before .before .before .before .if-at .result) (c .before .before .before .before .before .before .before .before .before .before .before .before .before .if-at .ensures) (sym (c .before .before .before .before .before .before .before .before .before .before .before .before .before .before .before .kind-at2 .ensures .0) ∙ c .before .before .before .before .before .before .before .before .before .before .before .before .before .before .if2 .taken) (c .before .before .before .before .before .before .before .before .before .before .before .enum-told .given .1) (c .before .before .before .before .before .before .before .before .before .before .block .result) (c .before .before .before .before .before .before .before .before .before .turned .result) (c .before .before .before .before .before .before .before .before .before .before .block .ensures) (c .before .before .before .before .before .before .before .before .before .turned .ensures) (c .before .before .before .before .before .before .before .enum-told2 .given .1) (c .before .before .before .before .before .block2 .result) (c .before .before .before .before .joined .result) (c .before .before .before .before .before .block2 .ensures) (c .before .before .before .before .joined .ensures) in omega (arith, (c .before .before .before .before .before .before .before .before .before .before .before .before .before .before .before .before .before .before .loop .inv) .within)
+
+block-loop-again : (t : ℕ) → block-lts.Need-loop-again (
+  kind-at-reads.Asked,
+  kind-at-reads.Learnt,
+  if-at-reads.Asked,
+  if-at-reads.Learnt,
+  block-below t,
+  block.Post,
+  turned-reads.Asked,
+  turned-reads.Learnt,
+  joined-reads.Asked,
+  joined-reads.Learnt,
+  statement-reads.Asked,
+  statement-reads.Learnt,
+) (block-at t) block.Post block-Inv-loop block-μ-loop
+block-loop-again t c =
+    join-on (c .before .before .before .before .before .before .before .before .before .before .before .before .before .before .before .before .before .before .before .before .args .w .now) (c .before .before .before .before .before .before .before .before .before .before .before .before .before .before .before .before .before .before .before .before .pre .1 .0) (c .before .before .before .before .before .before .before .before .before .before .before .before .before .before .before .before .before .before .before .before .args .depth) (c .before .before .before .before .before .before .before .before .before .before .before .before .before .before .before .before .before .before .before .before .args .from) (c .before .before .before .before .before .before .before .before .before .before .before .before .before .before .before .before .before .before .before .before .pre .1 .1) (c .before .before .before .before .before .before .before .before .before .before .before .before .before .before .before .before .before .before .before .before .args .start) (c .before .before .before .before .before .before .before .before .before .before .before .before .before .before .before .before .before .before .loop .at) (c .before .before .before .before .before .before .before .before .before .before .before .before .before .before .before .before .before .before .loop .s) (c .before .before .before .before .before .before .before .before .before .before .before .before .before .before .before .before .before .before .loop .inv) _ _ _ (is-if _ _ (sym (c .before .before .before .before .before .before .before .before .before .before .before .before .before .before .before .kind-at2 .ensures .0) ∙ c .before .before .before .before .before .before .before .before .before .before .before .before .before .before .if2 .taken)) (c .before .before .before .before .before .before .before .before .before .before .before .before .before .if-at .result) (c .before .before .before .before .before .before .before .before .before .before .before .before .before .if-at .ensures) (sym (c .before .before .before .before .before .before .before .before .before .before .before .before .before .before .before .kind-at2 .ensures .0) ∙ c .before .before .before .before .before .before .before .before .before .before .before .before .before .before .if2 .taken) (c .before .before .before .before .before .before .before .before .before .before .before .enum-told .given .1) (c .before .before .before .before .before .before .before .before .before .before .block .result) (c .before .before .before .before .before .before .before .before .before .turned .result) (c .before .before .before .before .before .before .before .before .before .before .block .ensures) (c .before .before .before .before .before .before .before .before .before .turned .ensures) (c .before .before .before .before .before .before .before .enum-told2 .given .1) (c .before .before .before .before .before .block2 .result) (c .before .before .before .before .joined .result) (c .before .before .before .before .before .block2 .ensures) (c .before .before .before .before .joined .ensures) (c .before .before .enum-told3 .given .1)
+
+block-statement-requires : (t : ℕ) → block-lts.Need-statement-requires (
+  kind-at-reads.Asked,
+  kind-at-reads.Learnt,
+  if-at-reads.Asked,
+  if-at-reads.Learnt,
+  block-below t,
+  block.Post,
+  turned-reads.Asked,
+  turned-reads.Learnt,
+  joined-reads.Asked,
+  joined-reads.Learnt,
+  statement-reads.Asked,
+  statement-reads.Learnt,
+) (block-at t) block.Post block-Inv-loop block-μ-loop
+block-statement-requires t c κs =
+    ((c .before .before .before .before .before .before .pre .1 .0), (c .before .before .before .before .loop .inv) .within, below-15 _ (rw (c .before .before .before .kind-at .ensures .0) at (c .before .before .if1 .taken)) (λ e. c .if2 .left (c .before .kind-at2 .ensures .0 ∙ e)), (c .before .before .before .before .loop .inv) .wf)
+
+block-enum-told-4 : (t : ℕ) → block-lts.Need-enum-told-4 (
+  kind-at-reads.Asked,
+  kind-at-reads.Learnt,
+  if-at-reads.Asked,
+  if-at-reads.Learnt,
+  block-below t,
+  block.Post,
+  turned-reads.Asked,
+  turned-reads.Learnt,
+  joined-reads.Asked,
+  joined-reads.Learnt,
+  statement-reads.Asked,
+  statement-reads.Learnt,
+) (block-at t) block.Post block-Inv-loop block-μ-loop
+block-enum-told-4 t c = search needs
+
+block-returns-4 : (t : ℕ) → block-lts.Need-returns-4 (
+  kind-at-reads.Asked,
+  kind-at-reads.Learnt,
+  if-at-reads.Asked,
+  if-at-reads.Learnt,
+  block-below t,
+  block.Post,
+  turned-reads.Asked,
+  turned-reads.Learnt,
+  joined-reads.Asked,
+  joined-reads.Learnt,
+  statement-reads.Asked,
+  statement-reads.Learnt,
+) (block-at t) block.Post block-Inv-loop block-μ-loop
+block-returns-4 t c =
+    step-stops (c .before .before .before .before .before .before .before .before .before .args .w .now) (c .before .before .before .before .before .before .before .before .before .pre .1 .0) (c .before .before .before .before .before .before .before .before .before .args .depth) (c .before .before .before .before .before .before .before .before .before .args .from) (c .before .before .before .before .before .before .before .before .before .pre .1 .1) (c .before .before .before .before .before .before .before .before .before .args .start) (c .before .before .before .before .before .before .before .loop .at) (c .before .before .before .before .before .before .before .loop .s) (c .before .before .before .before .before .before .before .loop .inv) _ (c .before .before .statement .ensures) (c .match4 .keys2)
+
+block-add-at-2 : (t : ℕ) → block-lts.Need-add-at-2 (
+  kind-at-reads.Asked,
+  kind-at-reads.Learnt,
+  if-at-reads.Asked,
+  if-at-reads.Learnt,
+  block-below t,
+  block.Post,
+  turned-reads.Asked,
+  turned-reads.Learnt,
+  joined-reads.Asked,
+  joined-reads.Learnt,
+  statement-reads.Asked,
+  statement-reads.Learnt,
+) (block-at t) block.Post block-Inv-loop block-μ-loop
+block-add-at-2 t c =
+    omega (arith, (c .before .before .before .before .before .before .before .before .loop .inv) .within, (c .before .before .before .before .before .before .before .before .before .before .pre .1 .0) .rows)
+
+block-loop-less-2 : (t : ℕ) → block-lts.Need-loop-less-2 (
+  kind-at-reads.Asked,
+  kind-at-reads.Learnt,
+  if-at-reads.Asked,
+  if-at-reads.Learnt,
+  block-below t,
+  block.Post,
+  turned-reads.Asked,
+  turned-reads.Learnt,
+  joined-reads.Asked,
+  joined-reads.Learnt,
+  statement-reads.Asked,
+  statement-reads.Learnt,
+) (block-at t) block.Post block-Inv-loop block-μ-loop
+block-loop-less-2 t c =
+    omega (arith, (c .before .before .before .before .before .before .before .before .loop .inv) .within)
+
+block-loop-again-2 : (t : ℕ) → block-lts.Need-loop-again-2 (
+  kind-at-reads.Asked,
+  kind-at-reads.Learnt,
+  if-at-reads.Asked,
+  if-at-reads.Learnt,
+  block-below t,
+  block.Post,
+  turned-reads.Asked,
+  turned-reads.Learnt,
+  joined-reads.Asked,
+  joined-reads.Learnt,
+  statement-reads.Asked,
+  statement-reads.Learnt,
+) (block-at t) block.Post block-Inv-loop block-μ-loop
+block-loop-again-2 t c =
+    step-on (c .before .before .before .before .before .before .before .before .before .before .args .w .now) (c .before .before .before .before .before .before .before .before .before .before .pre .1 .0) (c .before .before .before .before .before .before .before .before .before .before .args .depth) (c .before .before .before .before .before .before .before .before .before .before .args .from) (c .before .before .before .before .before .before .before .before .before .before .pre .1 .1) (c .before .before .before .before .before .before .before .before .before .before .args .start) (c .before .before .before .before .before .before .before .before .loop .at) (c .before .before .before .before .before .before .before .before .loop .s) (c .before .before .before .before .before .before .before .before .loop .inv) _ (c .before .before .before .statement .ensures) (below-15 _ (rw (c .before .before .before .before .before .before .before .kind-at .ensures .0) at (c .before .before .before .before .before .before .if1 .taken)) (λ e. c .before .before .before .before .if2 .left (c .before .before .before .before .before .kind-at2 .ensures .0 ∙ e))) (c .enum-told4 .given .1)
+
+block-returns-5 : (t : ℕ) → block-lts.Need-returns-5 (
+  kind-at-reads.Asked,
+  kind-at-reads.Learnt,
+  if-at-reads.Asked,
+  if-at-reads.Learnt,
+  block-below t,
+  block.Post,
+  turned-reads.Asked,
+  turned-reads.Learnt,
+  joined-reads.Asked,
+  joined-reads.Learnt,
+  statement-reads.Asked,
+  statement-reads.Learnt,
+) (block-at t) block.Post block-Inv-loop block-μ-loop
+block-returns-5 t c =
+    ends (c .before .before .before .before .args .w .now) (c .before .before .before .before .pre .1 .0) (c .before .before .before .before .args .depth) (c .before .before .before .before .args .from) (c .before .before .before .before .pre .1 .1) (c .before .before .before .before .args .start) (c .before .before .loop .at) (c .before .before .loop .s) (c .before .before .loop .inv) (rw (c .before .kind-at .ensures .0) at (c .if1 .left))
+
+pub +block-spec : {M : Type 1} → statement M
++block-spec = close μ-block λ t. block-lts.spec (
+  kind-at-reads.Asked,
+  kind-at-reads.Learnt,
+  if-at-reads.Asked,
+  if-at-reads.Learnt,
+  block-below t,
+  block.Post,
+  turned-reads.Asked,
+  turned-reads.Learnt,
+  joined-reads.Asked,
+  joined-reads.Learnt,
+  statement-reads.Asked,
+  statement-reads.Learnt,
+)
+    (block-at t)
+    block.Post
+    block-Inv-loop
+    block-μ-loop
+    (block-loop-holds t)
+    (block-kind-at-requires t)
+    (block-kind-at-requires-2 t)
+    (block-if-at-requires t)
+    (block-enum-told t)
+    (block-returns t)
+    (block-sub-block t)
+    (block-add-block t)
+    (block-block-requires t)
+    (block-turned-requires t)
+    (block-enum-told-2 t)
+    (block-returns-2 t)
+    (block-sub-block-2 t)
+    (block-add-block-2 t)
+    (block-block-requires-2 t)
+    (block-joined-requires t)
+    (block-enum-told-3 t)
+    (block-returns-3 t)
+    (block-add-at t)
+    (block-loop-less t)
+    (block-loop-again t)
+    (block-statement-requires t)
+    (block-enum-told-4 t)
+    (block-returns-4 t)
+    (block-add-at-2 t)
+    (block-loop-less-2 t)
+    (block-loop-again-2 t)
+    (block-returns-5 t)

@@ -1,0 +1,237 @@
+-- One row at a time.
+use mathlib.Core.Path.{_≡_, refl, sym, ap, ap₂, _∙_, subst}
+use mathlib.Core.Bool.{Bool, true, false, cond, not, _&&_}
+use mathlib.Core.List.{List, [], _∷_}
+use mathlib.Core.Logic.{_⊎_, inl, inr, ⊎-elim}
+use Prim.Native.Nat.{ℕ, zero, suc, _+_, _*_, _-_, _≤_, _<_}
+use native.Mathlib.Omega.{arith}
+use native.Mathlib.Numerals.{add-one}
+use lib.Dec.{T, eqb, leb, leb→le}
+use lib.ListN.{length, getD, drop}
+use borrow.Author.Tests.{eq-eqb, ne-eqb}
+use Rattle.rules.specs.Base.{Try, ok, no, _>>=_}
+use Rattle.rules.specs.Limits.{most-branches}
+use Rattle.rules.specs.Answers as Answers
+use Rattle.rules.specs.Answers.{Refusal, accepted, refused, atLine, malformed}
+use Rattle.rules.specs.Syntax.{Formula, Rel, Simple, Stmt, Row, simple, if, else, join, end, eq, ne}
+use Rattle.rules.specs.Syntax as Syntax
+use Rattle.rules.specs.State as Rules
+use Rattle.rules.specs.Rules.{Open, inFirst, inSecond, rule, newRule, callRule, ifRule, joinRule, elseRow, joinRow, endRow, checkRow, checkRows}
+use Rattle.rules.proofs.Lists.{and-both}
+use Rattle.tables.specs.Decode.{kindAt, xAt, yAt, zAt, memberAt, lineAt, stmtAt, rowAt, ifAt, formulaAt, firstAtomAt, atomCountAt, relOf, leftAt, rightAt, byteAt, atomPlace, rowCount, classCount, methodCount, classAt, methodAt, allRows, programIn}
+use Rattle.tables.specs.Tables.{Tables, nested, nestedRow}
+use Rattle.tables.proofs.Rows.{row-cons, class-get, method-get}
+use Rattle.links.specs.Links as Links
+use Rattle.knowledge.specs.declared.State.{State}
+use Rattle.knowledge.specs.declared.Answer.{Answer}
+use Rattle.knowledge.specs.declared.Added.{Added}
+use Rattle.knowledge.specs.States.{Wf, stateOf}
+use Rattle.knowledge.specs.Answers.{answered, Adds}
+use Rattle.statements.specs.declared.Branches.{Branches}
+use Rattle.statements.specs.Statements.{Parts}
+use Rattle.checker.specs.Checked.{outcome, Nests, verdictFrom, Stepped, Ran}
+
+-- `eq` by its number
+pub relation : (k : ℕ) → Links.relOf (not (eqb k 1)) ≡ relOf k
+unfolding Links.relOf relOf
+relation k = go (eqb k 1)
+  where
+    go : (c : Bool) → cond (not c) ne eq ≡ cond c eq ne
+    go true = refl
+    go false = refl
+
+-- STATEMENTS BY THEIR KINDS
+module _ (w : List ℕ) (i : ℕ) where
+  not-kind : (k n : ℕ) → k ≡ n → (m : ℕ) → (n ≡ m → ⊥) → eqb k m ≡ false
+  not-kind k n e m d = ne-eqb k m (λ f. d (sym e ∙ f))
+
+  pub is-set : kindAt w i ≡ 8 → stmtAt w i ≡ simple (Syntax.set (xAt w i) (memberAt w i) (yAt w i))
+  unfolding stmtAt
+  is-set e = rw e
+
+  pub is-let : kindAt w i ≡ 9 → stmtAt w i ≡ simple (Syntax.assign (xAt w i) (rightAt w (firstAtomAt w i)))
+  unfolding stmtAt
+  is-let e = rw e
+
+  pub is-new : kindAt w i ≡ 10 → stmtAt w i ≡ simple (Syntax.new (xAt w i) (memberAt w i))
+  unfolding stmtAt
+  is-new e = rw e
+
+  pub is-call : kindAt w i ≡ 11 → stmtAt w i ≡ simple (Syntax.call (xAt w i) (yAt w i) (memberAt w i) (zAt w i))
+  unfolding stmtAt
+  is-call e = rw e
+
+  pub is-return : kindAt w i ≡ 12 → stmtAt w i ≡ simple (Syntax.return (xAt w i))
+  unfolding stmtAt
+  is-return e = rw e
+
+  pub is-assert : kindAt w i ≡ 13 → stmtAt w i ≡ simple (Syntax.assert (formulaAt w i))
+  unfolding stmtAt
+  is-assert e = rw e
+
+  pub is-release : kindAt w i ≡ 14 → stmtAt w i ≡ simple (Syntax.release (formulaAt w i))
+  unfolding stmtAt
+  is-release e = rw e
+
+  pub is-if : kindAt w i ≡ 15 → stmtAt w i ≡ if (relOf (byteAt w (atomPlace (firstAtomAt w i)))) (leftAt w (firstAtomAt w i)) (rightAt w (firstAtomAt w i))
+  unfolding stmtAt ifAt
+  is-if e = rw e
+
+  pub is-else : kindAt w i ≡ 16 → stmtAt w i ≡ else
+  unfolding stmtAt
+  is-else e = rw e
+
+  pub is-join : kindAt w i ≡ 17 → stmtAt w i ≡ join (formulaAt w i)
+  unfolding stmtAt
+  is-join e = rw e
+
+  pub is-end : kindAt w i ≡ 18 → stmtAt w i ≡ end
+  unfolding stmtAt
+  is-end e = rw e
+
+-- A VERDICT AT A LINE
+line-answered :
+    {A : Type 0} (l : ℕ) (a : Answer) (x : A) (k : A → Answers.Verdict (Unit {0})) → atLine l (answered a x) k ≡ outcome a l (k x)
+unfolding atLine answered outcome
+line-answered l Answer.Done x k = refl
+line-answered l Answer.Unresolved x k = refl
+line-answered l Answer.NoPermission x k = refl
+line-answered l Answer.NotShown x k = refl
+line-answered l Answer.Full x k = refl
+line-answered l Answer.Malformed x k = refl
+
+pub at-line :
+    (l : ℕ) (t : Try Refusal Rules.State) (r : Added) → Adds t r → (k : Rules.State → Answers.Verdict (Unit {0})) →
+    atLine l t k ≡ outcome (r .answer) l (k (stateOf (r .state)))
+at-line l t r A k = ap (λ (u : Try Refusal Rules.State). atLine l u k) (sym (A .same)) ∙ line-answered l (r .answer) (stateOf (r .state)) k
+
+pub at-branch :
+    (l : ℕ) (t : Try Refusal (Rules.State × Rules.State)) (r : Branches) → Parts t r → (k : Rules.State × Rules.State → Answers.Verdict (Unit {0})) →
+    atLine l t k ≡ outcome (r .answer) l (k (stateOf (r .first), stateOf (r .second)))
+at-branch l t r P k = ap (λ (u : Try Refusal (Rules.State × Rules.State)). atLine l u k) (sym (P .same)) ∙ line-answered l (r .answer) (stateOf (r .first), stateOf (r .second)) k
+
+-- THE ROW AT i
+module _ (w : List ℕ) (i : ℕ) (h : i < rowCount w) where
+  pub row-verdict :
+      (q : Stmt) → stmtAt w i ≡ q → (s : Rules.State) (φ : Formula ℕ) (os : List Open) →
+      checkRows (programIn w) φ (drop i (allRows w)) s os
+      ≡ checkRow (programIn w) q (lineAt w i) φ (λ s os. checkRows (programIn w) φ (drop (i + 1) (allRows w)) s os) s os
+  unfolding checkRows rowAt
+  row-verdict q e s φ os =
+      let d : suc i ≡ i + 1 = omega arith in
+      ap (λ (rs : List Row). checkRows (programIn w) φ rs s os) (row-cons w i h)
+      ∙ ap₂ (λ (p : Stmt) (k : ℕ). checkRow (programIn w) p (lineAt w i) φ (λ s os. checkRows (programIn w) φ (drop k (allRows w)) s os) s os) e d
+
+  pub row-nested : (q : Stmt) → stmtAt w i ≡ q → (d : ℕ) → nested (drop i (allRows w)) d ≡ nestedRow q (λ d. nested (drop (i + 1) (allRows w)) d) d
+  unfolding nested rowAt
+  row-nested q e d =
+      let f : suc i ≡ i + 1 = omega arith in
+      ap (λ (rs : List Row). nested rs d) (row-cons w i h)
+      ∙ ap₂ (λ (p : Stmt) (k : ℕ). nestedRow p (λ d. nested (drop k (allRows w)) d) d) e f
+
+module _ (w : List ℕ) (i : ℕ) (h : i < rowCount w) where
+  -- a statement that goes on
+  pub step-verdict :
+      (s : State) (r : Added) → Stepped w i s r → (φ : Formula ℕ) (os : List Open) →
+      verdictFrom w i s φ os ≡ outcome (r .answer) (lineAt w i) (verdictFrom w (i + 1) (r .state) φ os)
+  unfolding checkRow
+  step-verdict s r S φ os =
+      row-verdict w i h (simple (S .statement)) (S .is) (stateOf s) φ os
+      ∙ at-line (lineAt w i) _ r (S .adds) (λ s′. checkRows (programIn w) φ (drop (i + 1) (allRows w)) s′ os)
+
+  pub step-nests : (s : State) (r : Added) → Stepped w i s r → (d : ℕ) → Nests w i d → Nests w (i + 1) d
+  unfolding nestedRow
+  step-nests s r S d t = subst T (row-nested w i h (simple (S .statement)) (S .is) d) t
+
+  -- a branch
+  module _ (n : Rel) (a b : Rules.Term) (e : stmtAt w i ≡ if n a b) where
+    pub if-verdict :
+        (s : State) (r : Branches) → Parts (ifRule n a b (stateOf s)) r → (φ : Formula ℕ) (os : List Open) →
+        verdictFrom w i s φ os ≡ outcome (r .answer) (lineAt w i) (verdictFrom w (i + 1) (r .first) φ (inFirst (stateOf (r .second)) ∷ os))
+    unfolding checkRow
+    if-verdict s r P φ os =
+        row-verdict w i h (if n a b) e (stateOf s) φ os
+        ∙ at-branch (lineAt w i) _ r P (λ c. checkRows (programIn w) φ (drop (i + 1) (allRows w)) (c .0) (inFirst (c .1) ∷ os))
+
+    pub if-nests : (d : ℕ) → Nests w i d → (suc d ≤ 4) × Nests w (i + 1) (suc d)
+    unfolding nestedRow
+    if-nests d t =
+        let p = and-both (leb (suc d) 4) (nested (drop (i + 1) (allRows w)) (suc d)) (subst T (row-nested w i h (if n a b) e d) t) in
+        (leb→le (suc d) 4 (p .0), p .1)
+
+  -- its second part
+  module _ (e : stmtAt w i ≡ else) where
+    pub else-verdict :
+        (s : State) (s₂ : Rules.State) (φ : Formula ℕ) (os : List Open) →
+        verdictFrom w i s φ (inFirst s₂ ∷ os) ≡ checkRows (programIn w) φ (drop (i + 1) (allRows w)) s₂ (inSecond (stateOf s) ∷ os)
+    unfolding checkRow elseRow
+    else-verdict s s₂ φ os = row-verdict w i h else e (stateOf s) φ (inFirst s₂ ∷ os)
+
+    pub else-twice : (s : State) (s₁ : Rules.State) (φ : Formula ℕ) (os : List Open) → verdictFrom w i s φ (inSecond s₁ ∷ os) ≡ refused malformed (lineAt w i)
+    unfolding checkRow elseRow
+    else-twice s s₁ φ os = row-verdict w i h else e (stateOf s) φ (inSecond s₁ ∷ os)
+
+    pub else-nests : (d : ℕ) → Nests w i d → Nests w (i + 1) d
+    unfolding nestedRow
+    else-nests d t = and-both (leb 1 d) (nested (drop (i + 1) (allRows w)) d) (subst T (row-nested w i h else e d) t) .1
+
+  -- its end
+  module _ (ψ : Formula ℕ) (e : stmtAt w i ≡ join ψ) where
+    pub join-verdict :
+        (s : State) (s₁ : Rules.State) (r : Added) → Adds (joinRule ψ s₁ (stateOf s)) r → (φ : Formula ℕ) (os : List Open) →
+        verdictFrom w i s φ (inSecond s₁ ∷ os) ≡ outcome (r .answer) (lineAt w i) (verdictFrom w (i + 1) (r .state) φ os)
+    unfolding checkRow joinRow
+    join-verdict s s₁ r A φ os =
+        row-verdict w i h (join ψ) e (stateOf s) φ (inSecond s₁ ∷ os)
+        ∙ at-line (lineAt w i) _ r A (λ s′. checkRows (programIn w) φ (drop (i + 1) (allRows w)) s′ os)
+
+    pub join-early : (s : State) (s₂ : Rules.State) (φ : Formula ℕ) (os : List Open) → verdictFrom w i s φ (inFirst s₂ ∷ os) ≡ refused malformed (lineAt w i)
+    unfolding checkRow joinRow
+    join-early s s₂ φ os = row-verdict w i h (join ψ) e (stateOf s) φ (inFirst s₂ ∷ os)
+
+    pub join-alone : (s : State) (φ : Formula ℕ) → verdictFrom w i s φ [] ≡ refused malformed (lineAt w i)
+    unfolding checkRow joinRow
+    join-alone s φ = row-verdict w i h (join ψ) e (stateOf s) φ []
+
+    pub join-nests : (d : ℕ) → Nests w i (suc d) → Nests w (i + 1) d
+    unfolding nestedRow
+    join-nests d t = subst T (row-nested w i h (join ψ) e (suc d)) t
+
+  -- the block's end
+  module _ (e : stmtAt w i ≡ end) where
+    pub end-inside : (s : State) (o : Open) (φ : Formula ℕ) (os : List Open) → verdictFrom w i s φ (o ∷ os) ≡ refused malformed (lineAt w i)
+    unfolding checkRow endRow
+    end-inside s o φ os = row-verdict w i h end e (stateOf s) φ (o ∷ os)
+
+    pub end-verdict : (s : State) (φ : Formula ℕ) → verdictFrom w i s φ [] ≡ atLine (lineAt w i) (Rules.show (stateOf s) φ) (λ r. accepted tt)
+    unfolding checkRow endRow
+    end-verdict s φ = row-verdict w i h end e (stateOf s) φ []
+
+  pub else-alone : stmtAt w i ≡ else → (s : State) (φ : Formula ℕ) → verdictFrom w i s φ [] ≡ refused malformed (lineAt w i)
+  unfolding checkRow elseRow
+  else-alone e s φ = row-verdict w i h else e (stateOf s) φ []
+
+pub new-at :
+    (w : List ℕ) (x x′ c c′ : ℕ) (s : Rules.State) → x′ ≡ x → c′ ≡ c → c < classCount w →
+    newRule x′ (classAt w c′) s ≡ rule (programIn w) (Syntax.new x c) s
+unfolding rule
+new-at w x x′ c c′ s e d h = rw (e, d, class-get w c h)
+
+pub call-at :
+    (w : List ℕ) (x x′ y y′ m m′ z z′ : ℕ) (s : Rules.State) → x′ ≡ x → y′ ≡ y → m′ ≡ m → z′ ≡ z → m < methodCount w →
+    callRule x′ y′ (methodAt w m′) z′ s ≡ rule (programIn w) (Syntax.call x y m z) s
+unfolding rule
+call-at w x x′ y y′ m m′ z z′ s a b c d h = rw (a, b, c, d, method-get w m h)
+
+above : (k n : ℕ) → n ≤ k → (k ≡ n → ⊥) → n + 1 ≤ k
+above k n h d = omega arith
+
+pub no-kind :
+    (k : ℕ) → 8 ≤ k → k < 15 → (k ≡ 8 → ⊥) → (k ≡ 9 → ⊥) → (k ≡ 10 → ⊥) → (k ≡ 11 → ⊥) → (k ≡ 12 → ⊥) → (k ≡ 13 → ⊥) →
+    (k ≡ 14 → ⊥) → ⊥
+no-kind k h l a b c d e f g =
+    let p = above k 14 (above k 13 (above k 12 (above k 11 (above k 10 (above k 9 (above k 8 h a) b) c) d) e) f) g in
+    last k p l
+  where
+    last : (k : ℕ) → 15 ≤ k → k < 15 → ⊥
+    last k p l = omega arith

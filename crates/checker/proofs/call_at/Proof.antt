@@ -1,0 +1,68 @@
+use Rattle.checker.proofs.Stepping.{call-at}
+use Rattle.knowledge.specs.Answers.{Adds}
+use Rattle.rules.specs.Answers.{Refusal}
+use Rattle.rules.specs.Base.{Try}
+use mathlib.Core.Path.{subst}
+use native.Mathlib.Omega.{arith}
+use Rattle.knowledge.specs.declared.Answer.{Answer}
+use Rattle.rules.specs.Syntax as Syntax
+use Rattle.rules.specs.State as Rules
+use Rattle.rules.specs.Rules.{rule, setRule, assignRule, newRule, callRule}
+use Rattle.links.specs.Links as Links
+use Rattle.links.specs.Keys.{meaning}
+use borrow.Author.Needs.{needs}
+use Rattle.checker.proofs.call_at.Statement.{statement}
+use Rattle.checker.proofs.call_at.Tie as tie
+use Rattle.checker.proofs.call_at.Reads as reads
+use Rattle.checker.proofs.call_at.Lts as lts
+use Rattle.statements.proofs.call_rule.Reads as call-rule-reads
+use Rattle.tables.proofs.member_at.Reads as member-at-reads
+use Rattle.tables.proofs.x_at.Reads as x-at-reads
+use Rattle.tables.proofs.y_at.Reads as y-at-reads
+use Rattle.tables.proofs.z_at.Reads as z-at-reads
+
+x-at-requires : tie.Need-x-at-requires
+x-at-requires c κs = (c .before .pre .0 .size, omega (arith, c .before .pre .0 .rows, c .before .pre .1))
+
+cast-x : tie.Need-cast-x
+cast-x c = record { fits = c .x-at .ensures .1 }
+
+y-at-requires : tie.Need-y-at-requires
+y-at-requires c κs =
+    (c .before .before .pre .0 .size, omega (arith, c .before .before .pre .0 .rows, c .before .before .pre .1))
+
+cast-y : tie.Need-cast-y
+cast-y c = record { fits = c .y-at .ensures .1 }
+
+z-at-requires : tie.Need-z-at-requires
+z-at-requires c κs =
+    (c .before .before .before .pre .0 .size, omega (arith, c .before .before .before .pre .0 .rows, c .before .before .before .pre .1))
+
+cast-z : tie.Need-cast-z
+cast-z c = record { fits = c .z-at .ensures .1 }
+
+member-at-requires : tie.Need-member-at-requires
+member-at-requires c κs =
+    (c .before .before .before .before .pre .0 .size, omega (arith, c .before .before .before .before .pre .0 .rows, c .before .before .before .before .pre .1))
+
+call-rule-requires : tie.Need-call-rule-requires
+call-rule-requires c κs =
+    (c .before .before .before .before .before .pre .0, omega (arith, c .before .before .before .before .before .pre .0 .row-fits (c .before .before .before .before .before .args .i) (c .before .before .before .before .before .pre .1) .method (c .before .before .before .before .before .pre .2), c .member-at .ensures .0), c .before .before .before .before .before .pre .3)
+
+returns : tie.Need-returns
+returns c =
+    subst (λ (t : Try Refusal Rules.State). Adds t (c .call-rule .result)) (call-at _ _ _ _ _ _ _ _ _ _ (c .before .before .before .before .x-at .ensures .0) (c .before .before .before .y-at .ensures .0) (c .before .member-at .ensures .0) (c .before .before .z-at .ensures .0) (c .before .before .before .before .before .before .pre .0 .row-fits (c .before .before .before .before .before .before .args .i) (c .before .before .before .before .before .before .pre .1) .method (c .before .before .before .before .before .before .pre .2))) (c .call-rule .ensures)
+
+pub call-at-spec : {M : Type 1} → statement M
+call-at-spec =
+    tie.close
+    (tie.spec
+    x-at-requires
+    cast-x
+    y-at-requires
+    cast-y
+    z-at-requires
+    cast-z
+    member-at-requires
+    call-rule-requires
+    returns)

@@ -1,0 +1,35 @@
+use Rattle.knowledge.specs.Answers.{Adds}
+use Rattle.rules.specs.Answers.{Refusal}
+use Rattle.rules.specs.Base.{Try}
+use mathlib.Core.Path.{subst}
+use native.Mathlib.Omega.{arith}
+use Rattle.knowledge.specs.declared.Answer.{Answer}
+use Rattle.rules.specs.Syntax as Syntax
+use Rattle.rules.specs.State as Rules
+use Rattle.rules.specs.Rules.{rule, setRule, assignRule, newRule, callRule}
+use Rattle.links.specs.Links as Links
+use Rattle.links.specs.Keys.{meaning}
+use borrow.Author.Needs.{needs}
+use Rattle.checker.proofs.return_at.Statement.{statement}
+use Rattle.checker.proofs.return_at.Tie as tie
+use Rattle.checker.proofs.return_at.Reads as reads
+use Rattle.checker.proofs.return_at.Lts as lts
+use Rattle.statements.proofs.assign_rule.Reads as assign-rule-reads
+use Rattle.tables.proofs.x_at.Reads as x-at-reads
+
+x-at-requires : tie.Need-x-at-requires
+x-at-requires c κs = (c .before .pre .0 .size, omega (arith, c .before .pre .0 .rows, c .before .pre .1))
+
+cast-x : tie.Need-cast-x
+cast-x c = record { fits = c .x-at .ensures .1 }
+
+assign-rule-requires : tie.Need-assign-rule-requires
+assign-rule-requires c κs = search needs
+
+returns : tie.Need-returns
+unfolding rule meaning
+returns c =
+    subst (λ (t : Try Refusal Rules.State). Adds t (c .assign-rule .result)) (rw (c .before .x-at .ensures .0)) (c .assign-rule .ensures)
+
+pub return-at-spec : {M : Type 1} → statement M
+return-at-spec = tie.close (tie.spec x-at-requires cast-x assign-rule-requires returns)

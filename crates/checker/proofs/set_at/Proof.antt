@@ -1,0 +1,61 @@
+use Rattle.knowledge.specs.Answers.{Adds}
+use Rattle.rules.specs.Answers.{Refusal}
+use Rattle.rules.specs.Base.{Try}
+use mathlib.Core.Path.{subst}
+use native.Mathlib.Omega.{arith}
+use Rattle.knowledge.specs.declared.Answer.{Answer}
+use Rattle.rules.specs.Syntax as Syntax
+use Rattle.rules.specs.State as Rules
+use Rattle.rules.specs.Rules.{rule, setRule, assignRule, newRule, callRule}
+use Rattle.links.specs.Links as Links
+use Rattle.links.specs.Keys.{meaning}
+use borrow.Author.Needs.{needs}
+use Rattle.checker.proofs.set_at.Statement.{statement}
+use Rattle.checker.proofs.set_at.Tie as tie
+use Rattle.checker.proofs.set_at.Reads as reads
+use Rattle.checker.proofs.set_at.Lts as lts
+use Rattle.statements.proofs.set_rule.Reads as set-rule-reads
+use Rattle.tables.proofs.member_at.Reads as member-at-reads
+use Rattle.tables.proofs.x_at.Reads as x-at-reads
+use Rattle.tables.proofs.y_at.Reads as y-at-reads
+
+x-at-requires : tie.Need-x-at-requires
+x-at-requires c κs = (c .before .pre .0 .size, omega (arith, c .before .pre .0 .rows, c .before .pre .1))
+
+cast-x : tie.Need-cast-x
+cast-x c = record { fits = c .x-at .ensures .1 }
+
+member-at-requires : tie.Need-member-at-requires
+member-at-requires c κs =
+    (c .before .before .pre .0 .size, omega (arith, c .before .before .pre .0 .rows, c .before .before .pre .1))
+
+cast-f : tie.Need-cast-f
+cast-f c = record { fits = c .member-at .ensures .1 }
+
+y-at-requires : tie.Need-y-at-requires
+y-at-requires c κs =
+    (c .before .before .before .pre .0 .size, omega (arith, c .before .before .before .pre .0 .rows, c .before .before .before .pre .1))
+
+cast-y : tie.Need-cast-y
+cast-y c = record { fits = c .y-at .ensures .1 }
+
+set-rule-requires : tie.Need-set-rule-requires
+set-rule-requires c κs = search needs
+
+returns : tie.Need-returns
+unfolding rule
+returns c =
+    subst (λ (t : Try Refusal Rules.State). Adds t (c .set-rule .result)) (rw (c .before .before .before .x-at .ensures .0, c .before .before .member-at .ensures .0, c .before .y-at .ensures .0)) (c .set-rule .ensures)
+
+pub set-at-spec : {M : Type 1} → statement M
+set-at-spec =
+    tie.close
+    (tie.spec
+    x-at-requires
+    cast-x
+    member-at-requires
+    cast-f
+    y-at-requires
+    cast-y
+    set-rule-requires
+    returns)

@@ -1,0 +1,71 @@
+-- The state that knows nothing.
+use mathlib.Core.Path.{_≡_, refl, sym, ap, _∙_}
+use mathlib.Core.Bool.{Bool, true, false}
+use mathlib.Core.List.{List, [], _∷_}
+use mathlib.Core.Logic.{_⊎_, inl, inr, ⊎-elim}
+use Prim.Native.Nat.{ℕ, zero, suc, _+_, _*_, _≤_, _<_}
+use native.Mathlib.Omega.{arith}
+use lib.Dec.{T, eqb, eqb→eq}
+use lib.ListN.{length, getD}
+use Rattle.rules.specs.State.{Fact, representative}
+use Rattle.rules.proofs.Lists.{decide-eq, and-both}
+use mathlib.Core.Bool.{_&&_}
+use Rattle.links.specs.Keys.{termOf}
+use Rattle.links.specs.Listing.{listed}
+use Rattle.links.specs.Links.{Header, Decides, termAt}
+use Rattle.links.proofs.Keys.{one-key}
+use Rattle.knowledge.specs.States.{factsIn, Linked}
+
+-- a test of each place below n
+abbrev pub below : (ℕ → Bool) → ℕ → Bool
+below p zero = true
+below p (suc n) = p n && below p n
+
+pub each : (p : ℕ → Bool) (n : ℕ) → T (below p n) → (i : ℕ) → i < n → T (p i)
+each p zero t i h = absurd (omega arith)
+each p (suc n) t i h =
+    ⊎-elim (λ e. rw e (and-both (p n) (below p n) t .0)) (λ e. each p n (and-both (p n) (below p n) t .1) i (omega arith)) (decide-eq i n)
+
+header-place : (key : List ℕ) → Header key → (i j : ℕ) → i < 16 → j < 16 → getD key i 0 ≡ getD key j 0 → i ≡ j
+header-place key H i j h g e = go (decide-eq i 15) (decide-eq j 15)
+  where
+    go : (i ≡ 15) ⊎ (i ≡ 15 → ⊥) → (j ≡ 15) ⊎ (j ≡ 15 → ⊥) → i ≡ j
+    go (inl a) (inl b) = a ∙ sym b
+    go (inl a) (inr b) = let p : getD key i 0 ≡ 256 = rw a (H .null) in omega (arith, H .variables j (omega arith))
+    go (inr a) (inl b) = let p : getD key j 0 ≡ 256 = rw b (H .null) in omega (arith, H .variables i (omega arith))
+    go (inr a) (inr b) = omega (arith, H .variables i (omega arith), H .variables j (omega arith))
+
+pub fresh-decides : (key label : List ℕ) → Header key → ((i : ℕ) → i < 16 → getD label i 0 ≡ i) → Decides [] key label 16
+unfolding representative
+fresh-decides key label H own =
+    record {
+      low = λ i h. omega (arith, own i h);
+      unique = λ i j h g e. ap (λ (k : ℕ). getD label k 0) (header-place key H i j h g (one-key _ _ e));
+      sound = λ i j h g e. let d : i ≡ j = omega (arith, own i h, own j g) in ap (termAt key) d;
+      linked = λ t u e. inl e;
+    }
+
+pub fresh-linked :
+    (key label : List ℕ) (apart : List Bool) → Header key → length label ≡ 144 → length apart ≡ 64 →
+    ((i : ℕ) → i < 16 → getD label i 0 ≡ i) → Linked key label apart 0
+unfolding listed
+fresh-linked key label apart H l a own =
+    record { header = H; label-size = l; apart-size = a; fit = omega arith; decides = fresh-decides key label H own }
+
+pub nothing : {A : Type 0} (f : ℕ → A) → listed f 0 ≡ []
+unfolding listed
+nothing f = refl
+
+pub header-by : (key : List ℕ) → length key ≡ 144 → T (below (λ i. eqb (getD key i 0) i) 15) → getD key 15 0 ≡ 256 → Header key
+header-by key l t n = record { size = l; variables = λ i h. eqb→eq _ _ (each (λ i. eqb (getD key i 0) i) 15 t i h); null = n }
+
+pub own-by : (label : List ℕ) → T (below (λ i. eqb (getD label i 0) i) 16) → (i : ℕ) → i < 16 → getD label i 0 ≡ i
+own-by label t i h = eqb→eq _ _ (each (λ i. eqb (getD label i 0) i) 16 t i h)
+
+-- the labels of the first slots
+abbrev pub fresh : List ℕ
+fresh =
+    0 ∷ 1 ∷ 2 ∷ 3 ∷ 4 ∷ 5 ∷ 6 ∷ 7 ∷ 8 ∷ 9 ∷ 10 ∷ 11 ∷ 12 ∷ 13 ∷ 14 ∷ 15 ∷ 0 ∷ 0 ∷ 0 ∷ 0 ∷ 0 ∷ 0 ∷ 0 ∷ 0 ∷ 0 ∷ 0 ∷ 0 ∷ 0 ∷ 0 ∷ 0 ∷ 0 ∷ 0 ∷ 0 ∷ 0 ∷ 0 ∷ 0 ∷ 0 ∷ 0 ∷ 0 ∷ 0 ∷ 0 ∷ 0 ∷ 0 ∷ 0 ∷ 0 ∷ 0 ∷ 0 ∷ 0 ∷ 0 ∷ 0 ∷ 0 ∷ 0 ∷ 0 ∷ 0 ∷ 0 ∷ 0 ∷ 0 ∷ 0 ∷ 0 ∷ 0 ∷ 0 ∷ 0 ∷ 0 ∷ 0 ∷ 0 ∷ 0 ∷ 0 ∷ 0 ∷ 0 ∷ 0 ∷ 0 ∷ 0 ∷ 0 ∷ 0 ∷ 0 ∷ 0 ∷ 0 ∷ 0 ∷ 0 ∷ 0 ∷ 0 ∷ 0 ∷ 0 ∷ 0 ∷ 0 ∷ 0 ∷ 0 ∷ 0 ∷ 0 ∷ 0 ∷ 0 ∷ 0 ∷ 0 ∷ 0 ∷ 0 ∷ 0 ∷ 0 ∷ 0 ∷ 0 ∷ 0 ∷ 0 ∷ 0 ∷ 0 ∷ 0 ∷ 0 ∷ 0 ∷ 0 ∷ 0 ∷ 0 ∷ 0 ∷ 0 ∷ 0 ∷ 0 ∷ 0 ∷ 0 ∷ 0 ∷ 0 ∷ 0 ∷ 0 ∷ 0 ∷ 0 ∷ 0 ∷ 0 ∷ 0 ∷ 0 ∷ 0 ∷ 0 ∷ 0 ∷ 0 ∷ 0 ∷ 0 ∷ 0 ∷ 0 ∷ 0 ∷ 0 ∷ 0 ∷ 0 ∷ 0 ∷ 0 ∷ 0 ∷ 0 ∷ 0 ∷ 0 ∷ 0 ∷ []
+
+pub own-fresh : (i : ℕ) → i < 16 → getD fresh i 0 ≡ i
+own-fresh = own-by fresh tt

@@ -1,0 +1,35 @@
+use Rattle.links.proofs.Labels.{alike}
+use Rattle.rules.specs.State.{equalIn}
+use mathlib.Core.Path.{sym, _∙_}
+use native.Mathlib.Omega.{arith}
+use borrow.Author.Needs.{needs}
+use Rattle.knowledge.proofs.equal.Statement.{statement}
+use Rattle.knowledge.proofs.equal.Tie as tie
+use Rattle.knowledge.proofs.equal.Reads as reads
+use Rattle.knowledge.proofs.equal.Lts as lts
+use Rattle.links.proofs.alike.Reads as alike-reads
+use Rattle.links.proofs.label_of.Reads as label-of-reads
+
+mul-m : tie.Need-mul-m
+mul-m c = search needs
+
+add-m : tie.Need-add-m
+add-m c = search needs
+
+label-of-requires : tie.Need-label-of-requires
+label-of-requires c κs = search needs
+
+label-of-requires-2 : tie.Need-label-of-requires-2
+label-of-requires-2 c κs = search needs
+
+alike-requires : tie.Need-alike-requires
+alike-requires c κs = search needs
+
+returns : tie.Need-returns
+unfolding equalIn
+returns c =
+    let w = c .before .before .before .before .before .before .before .before .before .pre .linked in c .alike .ensures ∙ sym (alike (w .decides) (omega (arith, w .fit)) _ _ _ _ (c .before .before .before .before .before .label-of .ensures) (c .before .label-of2 .ensures))
+
+pub equal-spec : {M : Type 1} → statement M
+equal-spec =
+    tie.close (tie.spec mul-m add-m label-of-requires label-of-requires-2 alike-requires returns)

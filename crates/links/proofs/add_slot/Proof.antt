@@ -1,0 +1,39 @@
+use Rattle.links.proofs.Labels.{slotted}
+use native.Mathlib.Omega.{arith}
+use borrow.Author.Needs.{needs}
+use Rattle.links.proofs.add_slot.Statement.{statement}
+use Rattle.links.proofs.add_slot.Tie as tie
+use Rattle.links.proofs.add_slot.Reads as reads
+use Rattle.links.proofs.add_slot.Lts as lts
+use Rattle.links.proofs.label_of.Reads as label-of-reads
+use Rattle.links.proofs.new_label.Reads as new-label-reads
+
+label-of-requires : tie.Need-label-of-requires
+label-of-requires c κs = search needs
+
+mul-key : tie.Need-mul-key
+mul-key c = search needs
+
+element-write-key : tie.Need-element-write-key
+element-write-key c = search needs
+
+new-label-requires : tie.Need-new-label-requires
+new-label-requires c κs = search needs
+
+element-write-label : tie.Need-element-write-label
+element-write-label c = search needs
+
+returns : tie.Need-returns
+returns c =
+    slotted _ _ _ _ _ _ (c .before .before .before .before .pre .1) (omega (arith, c .before .before .before .before .pre .2 .size)) (omega (arith, c .before .before .before .before .pre .3)) (c .before .label-of .ensures) (c .new-label .ensures)
+
+pub add-slot-spec : {M : Type 1} → statement M
+add-slot-spec =
+    tie.close
+    (tie.spec
+    label-of-requires
+    mul-key
+    element-write-key
+    new-label-requires
+    element-write-label
+    returns)

@@ -1,0 +1,18 @@
+use borrow.Author.Tests.{eq-eqb, ne-eqb}
+use borrow.Author.Needs.{needs}
+use Rattle.links.proofs.new_label.Statement.{statement}
+use Rattle.links.proofs.new_label.Tie as tie
+use Rattle.links.proofs.new_label.Reads as reads
+use Rattle.links.proofs.new_label.Lts as lts
+
+cast-result : tie.Need-cast-result
+cast-result c = search needs
+
+returns : tie.Need-returns
+returns c = rw (eq-eqb _ _ (c .if1 .taken))
+
+returns-2 : tie.Need-returns-2
+returns-2 c = rw (ne-eqb _ _ (c .if1 .left))
+
+pub new-label-spec : {M : Type 1} → statement M
+new-label-spec = tie.close (tie.spec cast-result returns returns-2)

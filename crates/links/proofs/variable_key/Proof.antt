@@ -1,0 +1,17 @@
+use mathlib.Core.Path.{_≡_, sym, _∙_}
+use Rattle.links.proofs.Keys.{of-variable}
+use borrow.Author.Needs.{needs}
+use Rattle.links.proofs.variable_key.Statement.{statement}
+use Rattle.links.proofs.variable_key.Tie as tie
+use Rattle.links.proofs.variable_key.Reads as reads
+use Rattle.links.proofs.variable_key.Lts as lts
+use Rattle.links.proofs.wide.Reads as wide-reads
+
+wide-requires : tie.Need-wide-requires
+wide-requires c κs = search needs
+
+returns : tie.Need-returns
+returns c = let w = c .wide .ensures in (of-variable _ (w .1) ∙ rw (w .0), w .0, w .1)
+
+pub variable-key-spec : {M : Type 1} → statement M
+variable-key-spec = tie.close (tie.spec wide-requires returns)

@@ -1,0 +1,26 @@
+use Prim.Native.Nat.{ℕ}
+use Rattle.knowledge.specs.Answers.{Adds}
+use Rattle.knowledge.specs.States.{stateOf}
+use Rattle.rules.specs.Syntax.{Formula}
+use Rattle.statements.proofs.Ruled.{plain, assert-law}
+use Rattle.statements.specs.Statements.{assertRule}
+use mathlib.Core.Path.{subst}
+use Rattle.links.specs.Links.{relOf}
+use Rattle.knowledge.specs.declared.Answer.{Answer}
+use Rattle.rules.specs.State as Rules
+use borrow.Author.Needs.{needs}
+use Rattle.statements.proofs.assert_rule.Statement.{statement}
+use Rattle.statements.proofs.assert_rule.Tie as tie
+use Rattle.statements.proofs.assert_rule.Reads as reads
+use Rattle.statements.proofs.assert_rule.Lts as lts
+use Rattle.formulas.proofs.show.Reads as show-reads
+
+show-requires : tie.Need-show-requires
+show-requires c κs = search needs
+
+returns : tie.Need-returns
+returns c =
+    subst (λ (φ : Formula ℕ). Adds (assertRule φ (stateOf (c .before .before .args .s))) (record { answer = c .show .result .answer; state = c .before .before .args .s })) (plain _ _ _) (assert-law _ _ _ _ (c .before .before .pre .2) (c .show .ensures))
+
+pub assert-rule-spec : {M : Type 1} → statement M
+assert-rule-spec = tie.close (tie.spec show-requires returns)

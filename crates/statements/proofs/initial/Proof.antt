@@ -1,0 +1,21 @@
+use Rattle.links.proofs.Keys.{of-null, of-number}
+use Rattle.statements.specs.Statements.{initialOf}
+use borrow.Author.Tests.{eq-eqb, ne-eqb}
+use Rattle.links.specs.Links.{relOf}
+use Rattle.knowledge.specs.declared.Answer.{Answer}
+use Rattle.rules.specs.State as Rules
+use Rattle.statements.proofs.initial.Statement.{statement}
+use Rattle.statements.proofs.initial.Tie as tie
+use Rattle.statements.proofs.initial.Reads as reads
+use Rattle.statements.proofs.initial.Lts as lts
+
+returns : tie.Need-returns
+unfolding initialOf
+returns c = rw (eq-eqb _ _ (c .if1 .taken)) of-null
+
+returns-2 : tie.Need-returns-2
+unfolding initialOf
+returns-2 c = rw (ne-eqb _ _ (c .if1 .left)) (of-number 0)
+
+pub initial-spec : {M : Type 1} → statement M
+initial-spec = tie.close (tie.spec returns returns-2)
