@@ -1,0 +1,201 @@
+-- A formula as the cursor passes it: three fields are an atom, and what is written grows with it.
+use mathlib.Core.Path.{_≡_, refl, sym, ap, ap₂, subst, _∙_}
+use mathlib.Core.Bool.{Bool, true, false}
+use mathlib.Core.List.{List, [], _∷_, _++_, map, append-nil, append-assoc}
+use Prim.Native.Nat.{ℕ, zero, suc, _+_, _≤_, _<_}
+use native.Mathlib.Omega.{arith}
+use lib.ListN.{length, getD, drop, length-append}
+use Rattle.rules.specs.Base.{Name, all}
+use Rattle.rules.specs.Limits.{most-atoms}
+use Rattle.rules.specs.Syntax.{Atom, Formula}
+use Rattle.rules.specs.Text.{isAtom, atomOf, isFormula, formulaOf}
+use Rattle.rules.specs.Items.{resolveAtom}
+use Rattle.leaves.proofs.Search.{both-true, true-false}
+use Rattle.lines.specs.Cuts.{part, more, NextField, NextAtom}
+use Rattle.lines.proofs.Cuts.{no-more}
+use Rattle.lines.proofs.Formulas.{more-on, not-none, formula-full, atom-0, atom-1, atom-2, atom-3, atom-here}
+use Rattle.tables.specs.Layout.{names-at, values-at, most-atom-rows}
+use Rattle.tables.specs.Stores.{Kept}
+use Rattle.declared.specs.declared.Names.{Names}
+use Rattle.declared.specs.Meanings.{declarationsIn, variablesIn}
+use Rattle.declared.proofs.Scopes.{names-kept, variables-kept}
+use Rattle.assembly.specs.Flat.{Flat}
+use Rattle.emit.specs.Puts.{putAtom}
+use Rattle.emit.specs.Holds as Holds
+use Rattle.emit.specs.Holds.{Declared, Building}
+use Rattle.emit.proofs.Atoms.{atom-names, atom-length, building, atom-written}
+use Rattle.atoms.specs.declared.AtomRow.{AtomRow}
+use Rattle.atoms.specs.Good.{goodAtom}
+use Rattle.atoms.specs.Written.{Resolved, formulaAfter, goodAfter, Ready, AtomFollows, AtomPut, FormulaFollows, FormulaPut}
+
+-- THREE FIELDS
+module _
+    {t : List ℕ} {r x y z : ℕ} (f : NextField t r x) (g : NextField t x y) (h : NextField t y z) (tab : getD t r 0 ≡ 9) (m : ℕ)
+    (form : isFormula (suc m) (more (drop r t)) ≡ true) where
+  never : {A : Type 0} → NextAtom t r r → A
+  never n = true-false (sym form ∙ n .none refl m (not-none t r tab))
+
+  pub some-1 : x ≡ r → ⊥
+  some-1 e = never (atom-0 f e)
+
+  pub some-2 : y ≡ x → ⊥
+  some-2 e = never (atom-1 f some-1 g e)
+
+  pub some-3 : z ≡ y → ⊥
+  some-3 e = never (atom-2 f some-1 g some-2 h e)
+
+  pub is-atom : isAtom (part (r + 1) x t) (part (x + 1) y t) (part (y + 1) z t) ≡ true
+  is-atom = go (isAtom (part (r + 1) x t) (part (x + 1) y t) (part (y + 1) z t)) refl
+    where
+      go : (q : Bool) → isAtom (part (r + 1) x t) (part (x + 1) y t) (part (y + 1) z t) ≡ q → q ≡ true
+      go true e = refl
+      go false e = never (atom-3 f some-1 g some-2 h some-3 e)
+
+  abbrev here : Atom Name
+  here = atomOf (part (r + 1) x t) (part (x + 1) y t) (part (y + 1) z t)
+
+  formula-cut : formulaOf (more (drop r t)) ≡ here ∷ formulaOf (more (drop z t))
+  unfolding formulaOf
+  formula-cut = rw (more-on f some-1, more-on g some-2, more-on h some-3)
+
+  pub next-form : (n : ℕ) → isFormula (suc n) (more (drop r t)) ≡ isFormula n (more (drop z t))
+  next-form n = atom-here f some-1 g some-2 h some-3 is-atom .some (omega (arith, f .low, g .low, h .low, some-1)) n
+
+  module _ (w : List ℕ) (c : Names) (good : goodAfter t w c r ≡ true) where
+    goods : (goodAtom (declarationsIn t w c) (variablesIn t w c) here ≡ true) × (goodAfter t w c z ≡ true)
+    unfolding goodAfter all
+    goods =
+        both-true _ _
+        (subst (λ φ. all (goodAtom (declarationsIn t w c) (variablesIn t w c)) φ ≡ true) formula-cut good)
+
+    pub good-atom : goodAtom (declarationsIn t w c) (variablesIn t w c) here ≡ true
+    good-atom = goods .0
+
+    pub put-is :
+        (k : Ready t w c) (n : ℕ) (a : AtomRow) (u : List ℕ) → n < most-atom-rows →
+        Resolved (declarationsIn t w c) (variablesIn t w c) here a → u ≡ putAtom w n (a .kind) (a .left) (a .right) →
+        AtomPut t w c r n u z
+    unfolding formulaAfter
+    put-is k n a u l x e =
+        record {
+          atom = resolveAtom (declarationsIn t w c) (variablesIn t w c) here;
+          low = omega (arith, f .low, g .low, h .low, some-1);
+          high = h .high;
+          form = next-form;
+          good = goods .1;
+          is = ap (map (resolveAtom (declarationsIn t w c) (variablesIn t w c))) formula-cut;
+          built = λ D F i φ b.
+              subst (λ v. Building D v F i (n + 1) (φ ++ (resolveAtom (declarationsIn t w c) (variablesIn t w c) here ∷ []))) (sym e)
+              (subst (λ y. Building D (putAtom w n (a .kind) (a .left) (a .right)) F i (n + 1) (φ ++ (y ∷ []))) (x .is)
+              (atom-written D w F i n φ (a .kind) (a .left) (a .right) l (x .ok) b));
+          names = subst (Kept names-at values-at w) (sym e) (atom-names w n (a .kind) (a .left) (a .right) (k .whole) l (x .ok));
+          size = ap length e ∙ atom-length w n (a .kind) (a .left) (a .right) (k .whole) l (x .ok);
+        }
+
+-- THE LOOP
+
+-- the atoms before r are written
+pub record Writing (t v : List ℕ) (c : Names) (from first : ℕ) (w : List ℕ) (r n : ℕ) : Type 0 where
+  pub high : r ≤ length t
+  pub most : ℕ
+  pub form : isFormula most (more (drop r t)) ≡ true
+  pub good : goodAfter t v c r ≡ true
+  pub done : Formula ℕ
+  pub all : formulaAfter t v c from ≡ done ++ formulaAfter t v c r
+  pub count : n ≡ first + length done
+  pub built : (D : Declared) (F : Flat) → Holds.Holds D v F first → Building D w F first n done
+  pub names : Kept names-at values-at v w
+  pub size : length w ≡ length v
+
+pub writing-first : {t v : List ℕ} {c : Names} {from first : ℕ} → FormulaFollows t v c from first → Writing t v c from first v from first
+writing-first {t} {v} {c} {from} {first} x =
+    record {
+      high = x .high;
+      most = most-atoms;
+      form = x .form;
+      good = x .good;
+      done = [];
+      all = refl;
+      count = omega arith;
+      built = λ D F h. building D v F first h;
+      names = λ i a b. refl;
+      size = refl;
+    }
+
+module _ {t v : List ℕ} {c : Names} {from first : ℕ} {w : List ℕ} {r n : ℕ} (x : Writing t v c from first w r n) (k : Ready t v c) where
+  pub still-ready : Ready t w c
+  still-ready = record { whole = x .size ∙ k .whole; fits = k .fits }
+
+  same-good : (e : ℕ) → goodAfter t w c e ≡ goodAfter t v c e
+  unfolding goodAfter
+  same-good e =
+      ap₂ (λ Γ vs. Rattle.rules.specs.Base.all (goodAtom Γ vs) (formulaOf (more (drop e t)))) (names-kept t v w c (k .fits) (x .names))
+      (variables-kept t v w c (k .fits) (x .names))
+
+  same-formula : (e : ℕ) → formulaAfter t w c e ≡ formulaAfter t v c e
+  unfolding formulaAfter
+  same-formula e =
+      ap₂ (λ Γ vs. map (resolveAtom Γ vs) (formulaOf (more (drop e t)))) (names-kept t v w c (k .fits) (x .names))
+      (variables-kept t v w c (k .fits) (x .names))
+
+  pub writing-done : (getD t r 0 ≡ 9 → ⊥) → FormulaPut t v c from first w n
+  unfolding formulaOf formulaAfter
+  writing-done e =
+      let z : formulaAfter t v c r ≡ [] =
+      ap (λ ws. map (resolveAtom (declarationsIn t v c) (variablesIn t v c)) (formulaOf ws)) (no-more t r e) in
+      let a : formulaAfter t v c from ≡ x .done = x .all ∙ (ap (λ φ. x .done ++ φ) z ∙ append-nil (x .done)) in
+      record {
+        count = x .count ∙ ap (λ φ. first + length φ) (sym a);
+        built = λ D F h. subst (Building D w F first n) (sym a) (x .built D F h);
+        names = x .names;
+        size = x .size;
+      }
+
+  module _ (tab : getD t r 0 ≡ 9) where
+    pub writing-follows : AtomFollows t w c r
+    writing-follows = go (x .most) (x .form)
+      where
+        go : (m : ℕ) → isFormula m (more (drop r t)) ≡ true → AtomFollows t w c r
+        go zero f = true-false (sym f ∙ formula-full t r tab)
+        go (suc m) f = record { high = x .high; byte = tab; most = m; form = f; good = same-good r ∙ x .good }
+
+    module _ {u : List ℕ} {e : ℕ} (y : AtomPut t w c r n u e) where
+      pub writing-on : Writing t v c from first u e (n + 1)
+      writing-on =
+          let a : formulaAfter t v c r ≡ y .atom ∷ formulaAfter t v c e =
+          sym (same-formula r) ∙ (y .is ∙ ap (λ φ. y .atom ∷ φ) (same-formula e)) in
+          record {
+            high = y .high;
+            most = writing-follows .most;
+            form = sym (y .form (writing-follows .most)) ∙ writing-follows .form;
+            good = sym (same-good e) ∙ y .good;
+            done = x .done ++ (y .atom ∷ []);
+            all = x .all ∙ (ap (λ φ. x .done ++ φ) a ∙ sym (append-assoc (x .done) (y .atom ∷ []) (formulaAfter t v c e)));
+            count = omega (arith, x .count, length-append (x .done) (y .atom ∷ []));
+            built = λ D F h. y .built D F first (x .done) (x .built D F h);
+            names = λ i a b. y .names i a b ∙ x .names i a b;
+            size = y .size ∙ x .size;
+          }
+
+    pub writing-room : first + length (formulaAfter t v c from) ≤ most-atom-rows → n < most-atom-rows
+    unfolding formulaAfter formulaOf isFormula
+    writing-room l = go (writing-follows .good)
+      where
+        some : (φ : Formula ℕ) → formulaAfter t v c r ≡ φ → (φ ≡ [] → ⊥) → n < most-atom-rows
+        some [] e h = absurd (h refl)
+        some (a ∷ φ) e h = omega (arith, l, x .count, ap length (x .all), length-append (x .done) (formulaAfter t v c r), ap length e)
+
+        not-empty : (m : ℕ) → isFormula m (more (drop r t)) ≡ true → formulaAfter t v c r ≡ [] → ⊥
+        not-empty m f e = cut m (more (drop r t)) f (not-none t r tab) e
+          where
+            cut :
+                (m : ℕ) (ws : List Name) → isFormula m ws ≡ true → (ws ≡ [] → ⊥) →
+                map (resolveAtom (declarationsIn t v c) (variablesIn t v c)) (formulaOf ws) ≡ [] → ⊥
+            cut m [] f h e = h refl
+            cut zero (a ∷ ws) f h e = true-false (sym f)
+            cut (suc m) (a ∷ []) f h e = true-false (sym f)
+            cut (suc m) (a ∷ b ∷ []) f h e = true-false (sym f)
+            cut (suc m) (a ∷ b ∷ d ∷ ws) f h e = let z : _≡_ {A = ℕ} 0 1 = cc in omega arith
+
+        go : goodAfter t w c r ≡ true → n < most-atom-rows
+        go g = some (formulaAfter t v c r) refl (not-empty (x .most) (x .form))

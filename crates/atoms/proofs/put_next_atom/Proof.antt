@@ -1,0 +1,99 @@
+-- `atoms::put_next_atom` meets its contract. Assumes nothing.
+use native.Mathlib.Omega.{arith}
+use Rattle.emit.proofs.Atoms.{side-bytes}
+use Rattle.atoms.specs.Good.{good}
+use Rattle.atoms.proofs.Formulas.{some-1, some-2, some-3, is-atom, good-atom, put-is}
+use borrow.Author.Needs.{needs}
+use Rattle.atoms.proofs.put_next_atom.Statement.{statement}
+use Rattle.atoms.proofs.put_next_atom.Tie as tie
+
+next-field-requires : tie.Need-next-field-requires
+next-field-requires c κs = search needs
+
+next-field-requires-2 : tie.Need-next-field-requires-2
+next-field-requires-2 c κs = search needs
+
+next-field-requires-3 : tie.Need-next-field-requires-3
+next-field-requires-3 c κs = search needs
+
+add-i : tie.Need-add-i
+add-i c = search needs
+
+add-j : tie.Need-add-j
+add-j c = search needs
+
+add-k : tie.Need-add-k
+add-k c = search needs
+
+sub-resolve-atom : tie.Need-sub-resolve-atom
+sub-resolve-atom c =
+    omega (arith, c .before .before .before .next-field .ensures .low, some-1 (c .before .before .before .next-field .ensures) (c .before .before .next-field2 .ensures) (c .before .next-field3 .ensures) (c .before .before .before .before .before .before .pre .1 .byte) _ (c .before .before .before .before .before .before .pre .1 .form))
+
+part-resolve-atom-start : tie.Need-part-resolve-atom-start
+part-resolve-atom-start c =
+    omega (arith, c .before .before .before .next-field .ensures .low, some-1 (c .before .before .before .next-field .ensures) (c .before .before .next-field2 .ensures) (c .before .next-field3 .ensures) (c .before .before .before .before .before .before .pre .1 .byte) _ (c .before .before .before .before .before .before .pre .1 .form))
+
+part-resolve-atom-end : tie.Need-part-resolve-atom-end
+part-resolve-atom-end c = search needs
+
+sub-resolve-atom-2 : tie.Need-sub-resolve-atom-2
+sub-resolve-atom-2 c =
+    omega (arith, c .before .before .before .next-field2 .ensures .low, some-2 (c .before .before .before .before .next-field .ensures) (c .before .before .before .next-field2 .ensures) (c .before .before .next-field3 .ensures) (c .before .before .before .before .before .before .before .pre .1 .byte) _ (c .before .before .before .before .before .before .before .pre .1 .form))
+
+part-resolve-atom-start-2 : tie.Need-part-resolve-atom-start-2
+part-resolve-atom-start-2 c =
+    omega (arith, c .before .before .before .next-field2 .ensures .low, some-2 (c .before .before .before .before .next-field .ensures) (c .before .before .before .next-field2 .ensures) (c .before .before .next-field3 .ensures) (c .before .before .before .before .before .before .before .pre .1 .byte) _ (c .before .before .before .before .before .before .before .pre .1 .form))
+
+part-resolve-atom-end-2 : tie.Need-part-resolve-atom-end-2
+part-resolve-atom-end-2 c = search needs
+
+sub-resolve-atom-3 : tie.Need-sub-resolve-atom-3
+sub-resolve-atom-3 c =
+    omega (arith, c .before .before .before .next-field3 .ensures .low, some-3 (c .before .before .before .before .before .next-field .ensures) (c .before .before .before .before .next-field2 .ensures) (c .before .before .before .next-field3 .ensures) (c .before .before .before .before .before .before .before .before .pre .1 .byte) _ (c .before .before .before .before .before .before .before .before .pre .1 .form))
+
+part-resolve-atom-start-3 : tie.Need-part-resolve-atom-start-3
+part-resolve-atom-start-3 c =
+    omega (arith, c .before .before .before .next-field3 .ensures .low, some-3 (c .before .before .before .before .before .next-field .ensures) (c .before .before .before .before .next-field2 .ensures) (c .before .before .before .next-field3 .ensures) (c .before .before .before .before .before .before .before .before .pre .1 .byte) _ (c .before .before .before .before .before .before .before .before .pre .1 .form))
+
+part-resolve-atom-end-3 : tie.Need-part-resolve-atom-end-3
+part-resolve-atom-end-3 c = search needs
+
+resolve-atom-requires : tie.Need-resolve-atom-requires
+resolve-atom-requires c κs =
+    (c .before .before .before .before .before .before .before .before .before .pre .0, is-atom (c .before .before .before .before .before .before .next-field .ensures) (c .before .before .before .before .before .next-field2 .ensures) (c .before .before .before .before .next-field3 .ensures) (c .before .before .before .before .before .before .before .before .before .pre .1 .byte) _ (c .before .before .before .before .before .before .before .before .before .pre .1 .form), good-atom (c .before .before .before .before .before .before .next-field .ensures) (c .before .before .before .before .before .next-field2 .ensures) (c .before .before .before .before .next-field3 .ensures) (c .before .before .before .before .before .before .before .before .before .pre .1 .byte) _ (c .before .before .before .before .before .before .before .before .before .pre .1 .form) _ _ (c .before .before .before .before .before .before .before .before .before .pre .1 .good))
+
+put-atom-requires : tie.Need-put-atom-requires
+put-atom-requires c κs =
+    let o = c .before .resolve-atom .ensures .ok in
+    ((c .before .before .before .before .before .before .before .before .before .before .before .pre .0 .whole, c .before .before .before .before .before .before .before .before .before .before .before .pre .2), (omega (arith, o .kind), (side-bytes _ (o .left), side-bytes _ (o .right))))
+
+same-length : tie.Need-same-length
+same-length c = search needs
+
+returns : tie.Need-returns
+returns c =
+    put-is (c .before .before .before .before .before .before .before .before .before .before .before .next-field .ensures) (c .before .before .before .before .before .before .before .before .before .before .next-field2 .ensures) (c .before .before .before .before .before .before .before .before .before .next-field3 .ensures) (c .before .before .before .before .before .before .before .before .before .before .before .before .before .before .pre .1 .byte) _ (c .before .before .before .before .before .before .before .before .before .before .before .before .before .before .pre .1 .form) _ _ (c .before .before .before .before .before .before .before .before .before .before .before .before .before .before .pre .1 .good) (c .before .before .before .before .before .before .before .before .before .before .before .before .before .before .pre .0) _ (c .before .before .before .before .resolve-atom .result) _ (c .before .before .before .before .before .before .before .before .before .before .before .before .before .before .pre .2) (c .before .before .before .before .resolve-atom .ensures) (c .before .before .put-atom .ensures)
+
+pub put-next-atom-spec : {M : Type 1} → statement M
+put-next-atom-spec =
+    tie.close
+    (tie.spec
+    next-field-requires
+    next-field-requires-2
+    next-field-requires-3
+    add-i
+    add-j
+    add-k
+    sub-resolve-atom
+    part-resolve-atom-start
+    part-resolve-atom-end
+    sub-resolve-atom-2
+    part-resolve-atom-start-2
+    part-resolve-atom-end-2
+    sub-resolve-atom-3
+    part-resolve-atom-start-3
+    part-resolve-atom-end-3
+    resolve-atom-requires
+    put-atom-requires
+    same-length
+    returns)

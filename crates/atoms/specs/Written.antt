@@ -1,0 +1,73 @@
+-- An atom and a formula of a line, resolved and written.
+use mathlib.Core.Path.{_≡_}
+use mathlib.Core.Bool.{Bool, true}
+use mathlib.Core.List.{List, [], _∷_, _++_, map}
+use Prim.Native.Nat.{ℕ, suc, _+_, _≤_, _<_}
+use lib.ListN.{length, getD, drop}
+use Rattle.rules.specs.Base.{Name, all}
+use Rattle.rules.specs.Limits.{work-bytes, most-atoms}
+use Rattle.rules.specs.Syntax.{Atom, Formula}
+use Rattle.rules.specs.Text.{tab, isFormula, formulaOf}
+use Rattle.rules.specs.Scope.{Declarations, Variable}
+use Rattle.rules.specs.Items.{resolveAtom}
+use Rattle.lines.specs.Cuts.{more}
+use Rattle.tables.specs.Layout.{names-at, values-at, most-atom-rows}
+use Rattle.tables.specs.Stores.{Kept}
+use Rattle.declared.specs.declared.Names.{Names}
+use Rattle.declared.specs.Meanings.{Fits, declarationsIn, variablesIn}
+use Rattle.assembly.specs.Flat.{Flat}
+use Rattle.emit.specs.Holds.{Declared, AtomOk, atomOf, Holds, Building}
+use Rattle.atoms.specs.declared.AtomRow.{AtomRow}
+use Rattle.atoms.specs.Good.{goodAtom}
+
+-- the row r is the atom x, resolved
+pub record Resolved (Γ : Declarations) (vs : List Variable) (x : Atom Name) (r : AtomRow) : Type 0 where
+  pub is : atomOf (r .kind) (r .left) (r .right) ≡ resolveAtom Γ vs x
+  pub ok : AtomOk (r .kind) (r .left) (r .right)
+
+module _ (t w : List ℕ) (c : Names) where
+  -- the formula of the fields after r, resolved
+  unfoldable pub formulaAfter : ℕ → Formula ℕ
+  formulaAfter r = map (resolveAtom (declarationsIn t w c) (variablesIn t w c)) (formulaOf (more (drop r t)))
+
+  unfoldable pub goodAfter : ℕ → Bool
+  goodAfter r = all (goodAtom (declarationsIn t w c) (variablesIn t w c)) (formulaOf (more (drop r t)))
+
+  pub record Ready : Type 0 where
+    pub whole : length w ≡ work-bytes
+    pub fits : Fits c
+
+  -- after the field that ends at r stands an atom of a formula
+  pub record AtomFollows (r : ℕ) : Type 0 where
+    pub high : r ≤ length t
+    pub byte : getD t r 0 ≡ tab
+    pub most : ℕ
+    pub form : isFormula (suc most) (more (drop r t)) ≡ true
+    pub good : goodAfter r ≡ true
+
+  -- it ends at e, and is written as the atom n
+  pub record AtomPut (r n : ℕ) (w′ : List ℕ) (e : ℕ) : Type 0 where
+    pub atom : Atom ℕ
+    pub low : r < e
+    pub high : e ≤ length t
+    pub form : (m : ℕ) → isFormula (suc m) (more (drop r t)) ≡ isFormula m (more (drop e t))
+    pub good : goodAfter e ≡ true
+    pub is : formulaAfter r ≡ atom ∷ formulaAfter e
+    pub built :
+        (D : Declared) (F : Flat) (a : ℕ) (φ : Formula ℕ) → Building D w F a n φ → Building D w′ F a (n + 1) (φ ++ (atom ∷ []))
+    pub names : Kept names-at values-at w w′
+    pub size : length w′ ≡ length w
+
+  -- the fields after r are a formula, and there is room for its atoms from n on
+  pub record FormulaFollows (r n : ℕ) : Type 0 where
+    pub high : r ≤ length t
+    pub form : isFormula most-atoms (more (drop r t)) ≡ true
+    pub good : goodAfter r ≡ true
+    pub room : n + length (formulaAfter r) ≤ most-atom-rows
+
+  -- it is written as the atoms from n up to m
+  pub record FormulaPut (r n : ℕ) (w′ : List ℕ) (m : ℕ) : Type 0 where
+    pub count : m ≡ n + length (formulaAfter r)
+    pub built : (D : Declared) (F : Flat) → Holds D w F n → Building D w′ F n m (formulaAfter r)
+    pub names : Kept names-at values-at w w′
+    pub size : length w′ ≡ length w
