@@ -1,11 +1,10 @@
 -- A line whose names and types are right has good atoms.
-use mathlib.Core.Path.{_≡_, refl, sym, ap, subst, _∙_}
+use mathlib.Core.Path.{_≡_, refl, sym, ap, subst}
 use mathlib.Core.Bool.{Bool, true, false, not, cond, _&&_}
 use mathlib.Core.List.{List, [], _∷_, _++_}
-use Prim.Native.Nat.{ℕ}
 use lib.ListN.{length, drop}
 use Rattle.rules.specs.Base.{Name, all, is}
-use Rattle.rules.specs.Syntax.{path, acc, cmp}
+use Rattle.rules.specs.Syntax.{acc, cmp}
 use Rattle.rules.specs.Text.{exprOf, relOf, atomOf, formulaOf}
 use Rattle.rules.specs.Grammar.{Line, form, variable, member, expression, read, field}
 use Rattle.rules.specs.Scope.{Declarations, Variable, Scope, Slot, slotsFrom, atomOperands, atomSlots, atomsOf, slots}
