@@ -9,19 +9,21 @@ use lib.Dec.{eqb}
 use lib.ListN.{length, drop}
 use borrow.Author.Tests.{eqb-true}
 use Rattle.rules.specs.Base.{Name}
-use Rattle.rules.specs.Limits.{most-statements, most-atoms}
+use Rattle.rules.specs.Limits.{most-methods, most-statements, most-atoms}
 use Rattle.rules.specs.Text.{isFormula, formulaOf}
-use Rattle.rules.specs.Items.{resolveAtom, aStatement}
+use Rattle.rules.specs.Items.{resolveAtom, aStatement, aRequires, anEnsures}
 use Rattle.leaves.proofs.Search.{both-true, true-false}
 use Rattle.lines.specs.Cuts.{more}
 use Rattle.declared.specs.declared.Names.{Names}
 use Rattle.declared.specs.Meanings.{declarationsIn, variablesIn}
 use Rattle.assembly.specs.Flat.{Flat, flatWith}
-use Rattle.emit.specs.Puts.{putRow, RowBytes}
+use Rattle.emit.specs.Puts.{putRow, putRequires, putEnsures, RowBytes}
+use Rattle.emit.proofs.Puts.{put-length}
+use Rattle.emit.proofs.Methods.{requires-written, ensures-written, requires-names, ensures-names}
 use Rattle.emit.specs.Holds.{Declared, RowOk, stmtOf, Holds, Building}
 use Rattle.emit.proofs.Rows.{row-written, row-names, row-length, row-bytes, assert-means, release-means, join-means}
 use Rattle.atoms.specs.Written.{formulaAfter, Ready, FormulaFollows, FormulaPut}
-use Rattle.claims.specs.Claims.{isClaim, claimOf, claimRow, ClaimPut}
+use Rattle.claims.specs.Claims.{isClaim, claimOf, claimRow, ClaimPut, HeaderPut}
 
 claim-cases : (k : ℕ) → isClaim k ≡ true → (k ≡ 13) ⊎ ((k ≡ 14) ⊎ (k ≡ 17))
 unfolding isClaim
@@ -48,12 +50,15 @@ map-length : {A B : Type 0} (f : A → B) (l : List A) → length (map f l) ≡ 
 map-length f [] = refl
 map-length f (a ∷ l) = ap suc (map-length f l)
 
+formula-short : {t w : List ℕ} {c : Names} {r n : ℕ} → FormulaFollows t w c r n → length (formulaAfter t w c r) ≤ 8
+unfolding formulaAfter
+formula-short {t} {w} {c} {r} x =
+    let a = few most-atoms (more (drop r t)) (x .form) in
+    omega (arith, a, map-length (resolveAtom (declarationsIn t w c) (variablesIn t w c)) (formulaOf (more (drop r t))))
+
 module _ {t w : List ℕ} {c : Names} {r n : ℕ} (k i l : ℕ) (ready : Ready t w c) (x : FormulaFollows t w c r n) (claim : isClaim k ≡ true) where
   short : length (formulaAfter t w c r) ≤ 8
-  unfolding formulaAfter
-  short =
-      let a = few most-atoms (more (drop r t)) (x .form) in
-      omega (arith, a, map-length (resolveAtom (declarationsIn t w c) (variablesIn t w c)) (formulaOf (more (drop r t))))
+  short = formula-short x
 
   bounds : (13 ≤ k) × (k ≤ 17)
   bounds = ⊎-elim (λ e. omega arith) (λ o. ⊎-elim (λ e. omega arith) (λ e. omega arith) o) (claim-cases k claim)
@@ -102,3 +107,33 @@ module _ {t w : List ℕ} {c : Names} {r n : ℕ} (k i l : ℕ) (ready : Ready t
           names = λ p a d. ap (λ z. Rattle.tables.specs.Decode.byteAt z p) e ∙ (row-names u i (claimRow k n m l) (y .size ∙ ready .whole) room p a d ∙ y .names p a d);
           size = ap length e ∙ (row-length u i (claimRow k n m l) (y .size ∙ ready .whole) room ∙ y .size);
         }
+
+-- THE FORMULAS OF A METHOD
+module _ {t w : List ℕ} {c : Names} {r n m : ℕ} (x : FormulaFollows t w c r n) (room : m < most-methods) {u : List ℕ} {e : ℕ} (y : FormulaPut t w c r n u e) where
+  count-is : e - n ≡ length (formulaAfter t w c r)
+  count-is = omega (arith, y .count)
+
+  pub header-bytes : (n < 65536) × (e - n < 256)
+  header-bytes = omega (arith, x .room, count-is, formula-short x)
+
+  pub requires-put : {v : List ℕ} → v ≡ putRequires u m n (e - n) → HeaderPut aRequires t w c r m n v e
+  unfolding putRequires
+  requires-put i =
+      record {
+        built = λ D F l k h.
+            subst (λ z. Holds D z (flatWith F l (aRequires (formulaAfter t w c r))) e) (sym (i ∙ ap (putRequires u m n) count-is))
+            (requires-written D u F n e (formulaAfter t w c r) m l k (formula-short x) (y .built D F h));
+        names = λ p a d. ap (λ z. Rattle.tables.specs.Decode.byteAt z p) i ∙ (requires-names u m n (e - n) room p a d ∙ y .names p a d);
+        size = ap length i ∙ (put-length u _ _ ∙ y .size);
+      }
+
+  pub ensures-put : {v : List ℕ} → v ≡ putEnsures u m n (e - n) → HeaderPut anEnsures t w c r m n v e
+  unfolding putEnsures
+  ensures-put i =
+      record {
+        built = λ D F l k h.
+            subst (λ z. Holds D z (flatWith F l (anEnsures (formulaAfter t w c r))) e) (sym (i ∙ ap (putEnsures u m n) count-is))
+            (ensures-written D u F n e (formulaAfter t w c r) m l k (formula-short x) (y .built D F h));
+        names = λ p a d. ap (λ z. Rattle.tables.specs.Decode.byteAt z p) i ∙ (ensures-names u m n (e - n) room p a d ∙ y .names p a d);
+        size = ap length i ∙ (put-length u _ _ ∙ y .size);
+      }

@@ -1,12 +1,12 @@
--- Rows of the statements that are a formula: `assert`, `release`, `join`.
+-- What a formula of a line becomes: the row of `assert`, `release` or `join`; the requires or ensures of a method.
 use mathlib.Core.Path.{_≡_}
 use mathlib.Core.Bool.{Bool, cond, _||_}
 use mathlib.Core.List.{List}
-use Prim.Native.Nat.{ℕ, _-_}
+use Prim.Native.Nat.{ℕ, suc, _-_}
 use lib.Dec.{eqb}
 use lib.ListN.{length}
 use Rattle.rules.specs.Syntax.{Formula, Stmt, simple, assert, release, join}
-use Rattle.rules.specs.Items.{aStatement}
+use Rattle.rules.specs.Items.{Item, aStatement}
 use Rattle.tables.specs.Layout.{names-at, values-at}
 use Rattle.tables.specs.Stores.{Kept}
 use Rattle.declared.specs.declared.Names.{Names}
@@ -31,5 +31,13 @@ pub record ClaimPut (t w : List ℕ) (c : Names) (k r i n l : ℕ) (w′ : List 
   pub built :
       (D : Declared) (F : Flat) → length (F .rows) ≡ i → Holds D w F n →
       Holds D w′ (flatWith F l (aStatement (claimOf k (formulaAfter t w c r)))) m
+  pub names : Kept names-at values-at w w′
+  pub size : length w′ ≡ length w
+
+-- The formula after r is written as the atoms from n up to e, and is what `item` makes of it in the last method, m.
+pub record HeaderPut (item : Formula ℕ → Item) (t w : List ℕ) (c : Names) (r m n : ℕ) (w′ : List ℕ) (e : ℕ) : Type 0 where
+  pub built :
+      (D : Declared) (F : Flat) (l : ℕ) → length (F .methods) ≡ suc m → Holds D w F n →
+      Holds D w′ (flatWith F l (item (formulaAfter t w c r))) e
   pub names : Kept names-at values-at w w′
   pub size : length w′ ≡ length w
