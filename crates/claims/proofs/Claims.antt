@@ -1,0 +1,139 @@
+-- The row of a formula: it fits, and means its statement.
+use mathlib.Core.Path.{_≡_, refl, sym, ap, subst, _∙_}
+use mathlib.Core.Bool.{Bool, true, false, _||_}
+use mathlib.Core.List.{List, [], _∷_, map}
+use mathlib.Core.Logic.{_⊎_, inl, inr, ⊎-elim}
+use Prim.Native.Nat.{ℕ, zero, suc, _-_, _≤_, _<_}
+use native.Mathlib.Omega.{arith}
+use lib.Dec.{eqb}
+use lib.ListN.{length, drop}
+use borrow.Author.Tests.{eqb-true}
+use Rattle.rules.specs.Base.{Name}
+use Rattle.rules.specs.Limits.{most-methods, most-statements, most-atoms}
+use Rattle.rules.specs.Text.{isFormula, formulaOf}
+use Rattle.rules.specs.Items.{resolveAtom, aStatement, aRequires, anEnsures}
+use Rattle.leaves.proofs.Search.{both-true, true-false}
+use Rattle.lines.specs.Cuts.{more}
+use Rattle.declared.specs.declared.Names.{Names}
+use Rattle.declared.specs.Meanings.{declarationsIn, variablesIn}
+use Rattle.assembly.specs.Flat.{Flat, flatWith}
+use Rattle.emit.specs.Puts.{putRow, putRequires, putEnsures, RowBytes}
+use Rattle.emit.proofs.Puts.{put-length}
+use Rattle.emit.proofs.Methods.{requires-written, ensures-written, requires-names, ensures-names}
+use Rattle.emit.specs.Holds.{Declared, RowOk, stmtOf, Holds, Building}
+use Rattle.emit.proofs.Rows.{row-written, row-names, row-length, row-bytes, assert-means, release-means, join-means}
+use Rattle.atoms.specs.Written.{formulaAfter, Ready, FormulaFollows, FormulaPut}
+use Rattle.claims.specs.Claims.{isClaim, claimOf, claimRow, ClaimPut, HeaderPut}
+
+claim-cases : (k : ℕ) → isClaim k ≡ true → (k ≡ 13) ⊎ ((k ≡ 14) ⊎ (k ≡ 17))
+unfolding isClaim
+claim-cases k e = go (eqb k 13) (eqb k 14) (eqb k 17) refl refl refl e
+  where
+    go :
+        (a b d : Bool) → eqb k 13 ≡ a → eqb k 14 ≡ b → eqb k 17 ≡ d → (a || (b || d)) ≡ true → (k ≡ 13) ⊎ ((k ≡ 14) ⊎ (k ≡ 17))
+    go true b d p q r e = inl (eqb-true k 13 p)
+    go false true d p q r e = inr (inl (eqb-true k 14 q))
+    go false false true p q r e = inr (inr (eqb-true k 17 r))
+    go false false false p q r e = true-false (sym e)
+
+-- a formula of at most m atoms
+few : (m : ℕ) (ws : List Name) → isFormula m ws ≡ true → length (formulaOf ws) ≤ m
+unfolding isFormula formulaOf
+few m [] e = omega arith
+few zero (a ∷ ws) e = true-false (sym e)
+few (suc m) (a ∷ []) e = true-false (sym e)
+few (suc m) (a ∷ b ∷ []) e = true-false (sym e)
+few (suc m) (a ∷ b ∷ d ∷ ws) e =
+    let i = few m ws (both-true (Rattle.rules.specs.Text.isAtom a b d) (isFormula m ws) e .1) in omega (arith, i)
+
+map-length : {A B : Type 0} (f : A → B) (l : List A) → length (map f l) ≡ length l
+map-length f [] = refl
+map-length f (a ∷ l) = ap suc (map-length f l)
+
+formula-short : {t w : List ℕ} {c : Names} {r n : ℕ} → FormulaFollows t w c r n → length (formulaAfter t w c r) ≤ 8
+unfolding formulaAfter
+formula-short {t} {w} {c} {r} x =
+    let a = few most-atoms (more (drop r t)) (x .form) in
+    omega (arith, a, map-length (resolveAtom (declarationsIn t w c) (variablesIn t w c)) (formulaOf (more (drop r t))))
+
+module _ {t w : List ℕ} {c : Names} {r n : ℕ} (k i l : ℕ) (ready : Ready t w c) (x : FormulaFollows t w c r n) (claim : isClaim k ≡ true) where
+  short : length (formulaAfter t w c r) ≤ 8
+  short = formula-short x
+
+  bounds : (13 ≤ k) × (k ≤ 17)
+  bounds = ⊎-elim (λ e. omega arith) (λ o. ⊎-elim (λ e. omega arith) (λ e. omega arith) o) (claim-cases k claim)
+
+  no-if : k ≡ 15 → ⊥
+  no-if z = ⊎-elim (λ e. omega arith) (λ o. ⊎-elim (λ e. omega arith) (λ e. omega arith) o) (claim-cases k claim)
+
+  module _ {u : List ℕ} {m : ℕ} (y : FormulaPut t w c r n u m) (line : l < 65536) where
+    claim-ok : (D : Declared) → RowOk D m (claimRow k n m l)
+    claim-ok D =
+        record {
+          kind = omega (arith, bounds);
+          x = omega arith;
+          y = omega arith;
+          z = omega arith;
+          field = λ e. absurd (omega (arith, bounds));
+          class = λ e. absurd (omega (arith, bounds));
+          method = λ e. absurd (omega (arith, bounds));
+          atoms = (omega (arith, y .count, short), omega (arith, y .count));
+          one-atom = λ o. ⊎-elim (λ e. absurd (omega (arith, bounds))) (λ e. absurd (no-if e)) o;
+        }
+
+    pub claim-bytes : RowBytes (claimRow k n m l)
+    claim-bytes =
+        row-bytes (record { classes = 0; methods = 0 }) m (claimRow k n m l) (omega (arith, y .count, x .room)) (omega arith) line (claim-ok _)
+
+    means :
+        (D : Declared) (F : Flat) → Building D u F n m (formulaAfter t w c r) →
+        stmtOf u (claimRow k n m l) ≡ claimOf k (formulaAfter t w c r)
+    unfolding claimOf
+    means D F b =
+        let e : m - n ≡ length (formulaAfter t w c r) = omega (arith, y .count) in
+        ⊎-elim (λ q. assert-means D u F n m _ b (claimRow k n m l) refl e q ∙ sym (rw q))
+        (λ o.
+        ⊎-elim (λ q. release-means D u F n m _ b (claimRow k n m l) refl e q ∙ sym (rw q))
+        (λ q. join-means D u F n m _ b (claimRow k n m l) refl e q ∙ sym (rw q)) o)
+        (claim-cases k claim)
+
+    pub claim-put : (i < most-statements) → (v : List ℕ) → v ≡ putRow u i (claimRow k n m l) → ClaimPut t w c k r i n l v m
+    claim-put room v e =
+        record {
+          built = λ D F j h.
+              let b = y .built D F h in
+              let q = row-written D u F m (claimRow k n m l) (claimOf k (formulaAfter t w c r)) (omega (arith, j, room)) (claim-ok D) (means D F b) (b .holds) in
+              subst (λ z. Holds D z (flatWith F l (aStatement (claimOf k (formulaAfter t w c r)))) m) (sym (e ∙ ap (λ p. putRow u p (claimRow k n m l)) (sym j))) q;
+          names = λ p a d. ap (λ z. Rattle.tables.specs.Decode.byteAt z p) e ∙ (row-names u i (claimRow k n m l) (y .size ∙ ready .whole) room p a d ∙ y .names p a d);
+          size = ap length e ∙ (row-length u i (claimRow k n m l) (y .size ∙ ready .whole) room ∙ y .size);
+        }
+
+-- THE FORMULAS OF A METHOD
+module _ {t w : List ℕ} {c : Names} {r n m : ℕ} (x : FormulaFollows t w c r n) (room : m < most-methods) {u : List ℕ} {e : ℕ} (y : FormulaPut t w c r n u e) where
+  count-is : e - n ≡ length (formulaAfter t w c r)
+  count-is = omega (arith, y .count)
+
+  pub header-bytes : (n < 65536) × (e - n < 256)
+  header-bytes = omega (arith, x .room, count-is, formula-short x)
+
+  pub requires-put : {v : List ℕ} → v ≡ putRequires u m n (e - n) → HeaderPut aRequires t w c r m n v e
+  unfolding putRequires
+  requires-put i =
+      record {
+        built = λ D F l k h.
+            subst (λ z. Holds D z (flatWith F l (aRequires (formulaAfter t w c r))) e) (sym (i ∙ ap (putRequires u m n) count-is))
+            (requires-written D u F n e (formulaAfter t w c r) m l k (formula-short x) (y .built D F h));
+        names = λ p a d. ap (λ z. Rattle.tables.specs.Decode.byteAt z p) i ∙ (requires-names u m n (e - n) room p a d ∙ y .names p a d);
+        size = ap length i ∙ (put-length u _ _ ∙ y .size);
+      }
+
+  pub ensures-put : {v : List ℕ} → v ≡ putEnsures u m n (e - n) → HeaderPut anEnsures t w c r m n v e
+  unfolding putEnsures
+  ensures-put i =
+      record {
+        built = λ D F l k h.
+            subst (λ z. Holds D z (flatWith F l (anEnsures (formulaAfter t w c r))) e) (sym (i ∙ ap (putEnsures u m n) count-is))
+            (ensures-written D u F n e (formulaAfter t w c r) m l k (formula-short x) (y .built D F h));
+        names = λ p a d. ap (λ z. Rattle.tables.specs.Decode.byteAt z p) i ∙ (ensures-names u m n (e - n) room p a d ∙ y .names p a d);
+        size = ap length i ∙ (put-length u _ _ ∙ y .size);
+      }

@@ -1,0 +1,43 @@
+-- What a formula of a line becomes: the row of `assert`, `release` or `join`; the requires or ensures of a method.
+use mathlib.Core.Path.{_≡_}
+use mathlib.Core.Bool.{Bool, cond, _||_}
+use mathlib.Core.List.{List}
+use Prim.Native.Nat.{ℕ, suc, _-_}
+use lib.Dec.{eqb}
+use lib.ListN.{length}
+use Rattle.rules.specs.Syntax.{Formula, Stmt, simple, assert, release, join}
+use Rattle.rules.specs.Items.{Item, aStatement}
+use Rattle.tables.specs.Layout.{names-at, values-at}
+use Rattle.tables.specs.Stores.{Kept}
+use Rattle.declared.specs.declared.Names.{Names}
+use Rattle.assembly.specs.Flat.{Flat, flatWith}
+use Rattle.emit.specs.declared.Operands.{Operands}
+use Rattle.emit.specs.Holds.{Declared, Holds}
+use Rattle.atoms.specs.Written.{formulaAfter}
+
+-- by the number of the kind: 13 `assert`, 14 `release`, 17 `join`
+unfoldable pub isClaim : ℕ → Bool
+isClaim k = eqb k 13 || (eqb k 14 || eqb k 17)
+
+unfoldable pub claimOf : ℕ → Formula ℕ → Stmt
+claimOf k φ = cond (eqb k 13) (simple (assert φ)) (cond (eqb k 14) (simple (release φ)) (join φ))
+
+-- its row, with the atoms from n up to m
+abbrev pub claimRow : ℕ → ℕ → ℕ → ℕ → Operands
+claimRow k n m l = record { kind = k; x = 0; y = 0; z = 0; member = 0; atoms = m - n; first = n; line = l }
+
+-- The formula after r is written as the atoms from n up to m, and the statement with it as the row i.
+pub record ClaimPut (t w : List ℕ) (c : Names) (k r i n l : ℕ) (w′ : List ℕ) (m : ℕ) : Type 0 where
+  pub built :
+      (D : Declared) (F : Flat) → length (F .rows) ≡ i → Holds D w F n →
+      Holds D w′ (flatWith F l (aStatement (claimOf k (formulaAfter t w c r)))) m
+  pub names : Kept names-at values-at w w′
+  pub size : length w′ ≡ length w
+
+-- The formula after r is written as the atoms from n up to e, and is what `item` makes of it in the last method, m.
+pub record HeaderPut (item : Formula ℕ → Item) (t w : List ℕ) (c : Names) (r m n : ℕ) (w′ : List ℕ) (e : ℕ) : Type 0 where
+  pub built :
+      (D : Declared) (F : Flat) (l : ℕ) → length (F .methods) ≡ suc m → Holds D w F n →
+      Holds D w′ (flatWith F l (item (formulaAfter t w c r))) e
+  pub names : Kept names-at values-at w w′
+  pub size : length w′ ≡ length w

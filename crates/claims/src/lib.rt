@@ -1,0 +1,62 @@
+use declared::Names;
+use emit::Operands;
+ghost use mathlib.Core.Path.{_≡_};
+ghost use mathlib.Core.Bool.{true};
+ghost use Prim.Native.Nat.{_<_};
+ghost use Rattle.rules.specs.Limits.{most-statements, most-methods};
+ghost use Rattle.rules.specs.Items.{aRequires, anEnsures};
+ghost use Rattle.atoms.specs.Written.{Ready, FormulaFollows};
+ghost use Rattle.claims.specs.Claims.{isClaim, ClaimPut, HeaderPut};
+
+// Writes the formula after r as the atoms from n on, and the statement of this kind with it as the row i; gives the number after the
+// last atom.
+pub fn put_claim(
+    text: &[u8],
+    work: &mut [u8],
+    c: Names,
+    kind: usize,
+    r: usize,
+    i: usize,
+    n: usize,
+    line: usize,
+) -> usize
+    requires { ⌜ Ready (now text) (now work) c × FormulaFollows (now text) (now work) c r n × (isClaim kind ≡ true) × (i < most-statements) × (line < 65536) ⌝ }
+    ensures { λ m. ⌜ ClaimPut (now (text .entry)) (now (work .entry)) c kind r i n line (now (work .exit)) m ⌝ }
+{
+    let m = atoms::put_formula(text, work, r, n, c);
+    emit::put_row(
+        work,
+        i,
+        Operands {
+            kind,
+            x: 0,
+            y: 0,
+            z: 0,
+            member: 0,
+            atoms: m - n,
+            first: n,
+            line,
+        },
+    );
+    m
+}
+
+// Writes the formula after r as the atoms from n on, and as the requires of the method m.
+pub fn put_requires(text: &[u8], work: &mut [u8], c: Names, r: usize, m: usize, n: usize) -> usize
+    requires { ⌜ Ready (now text) (now work) c × FormulaFollows (now text) (now work) c r n × (m < most-methods) ⌝ }
+    ensures { λ e. ⌜ HeaderPut aRequires (now (text .entry)) (now (work .entry)) c r m n (now (work .exit)) e ⌝ }
+{
+    let e = atoms::put_formula(text, work, r, n, c);
+    emit::put_requires(work, m, n, e - n);
+    e
+}
+
+// Writes it as the ensures of the method m.
+pub fn put_ensures(text: &[u8], work: &mut [u8], c: Names, r: usize, m: usize, n: usize) -> usize
+    requires { ⌜ Ready (now text) (now work) c × FormulaFollows (now text) (now work) c r n × (m < most-methods) ⌝ }
+    ensures { λ e. ⌜ HeaderPut anEnsures (now (text .entry)) (now (work .entry)) c r m n (now (work .exit)) e ⌝ }
+{
+    let e = atoms::put_formula(text, work, r, n, c);
+    emit::put_ensures(work, m, n, e - n);
+    e
+}

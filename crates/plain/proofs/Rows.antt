@@ -1,0 +1,190 @@
+-- A line without atoms that passes the tests: its row fits, and means its statement.
+use mathlib.Core.Path.{_≡_, refl, sym, ap, _∙_}
+use mathlib.Core.Bool.{Bool, true, false, not, _&&_, _||_}
+use mathlib.Core.List.{List, [], _∷_}
+use mathlib.Core.Logic.{⊎-elim}
+use Prim.Native.Nat.{ℕ, _+_, _≤_, _<_}
+use native.Mathlib.Omega.{arith}
+use lib.ListN.{length, getD, drop}
+use lib.Seq.{getD-drop}
+use borrow.Author.Tests.{ltb-true, not-true}
+use Rattle.rules.specs.Base as Base
+use Rattle.rules.specs.Base.{Name, any, eqName}
+use Rattle.rules.specs.Limits.{most-statements}
+use Rattle.rules.specs.Text.{reserved, isName}
+use Rattle.rules.specs.Grammar as Grammar
+use Rattle.rules.specs.Grammar.{Kind, Set, New, Call, Return, Else, End}
+use Rattle.rules.specs.Scope as Scopes
+use Rattle.rules.specs.Scope.{Declarations, Variable, Scope}
+use Rattle.rules.specs.Names as Names
+use Rattle.rules.specs.Names.{inScope, isInt, knownField, knownMethod, isClass, isFieldOf, isMethodOf, variableType, fieldNumber, classNumber, methodNumber}
+use Rattle.rules.specs.Items as Items
+use Rattle.rules.specs.Items.{itemOf}
+use Rattle.leaves.proofs.Search.{both-true, true-false}
+use Rattle.lines.specs.Cuts.{more}
+use Rattle.declared.specs.declared.Names as Counts
+use Rattle.declared.specs.declared.Span.{Span}
+use Rattle.declared.specs.Rows.{nameIn}
+use Rattle.declared.specs.Meanings.{Fits, declarationsIn, variablesIn}
+use Rattle.declared.proofs.LookUps.{class-any, method-any}
+use Rattle.tables.specs.Layout.{most-names, frame-variables}
+use Rattle.assembly.specs.Flat.{Flat, flatWith}
+use Rattle.emit.specs.declared.Operands.{Operands}
+use Rattle.emit.specs.Puts.{putRow}
+use Rattle.emit.specs.Holds.{RowOk, Holds}
+use Rattle.emit.proofs.Rows.{row-written, set-means, new-means, call-means, return-means, else-means, end-means}
+use Rattle.declare.specs.Texts.{SpanAfter}
+use Rattle.declare.specs.Declares.{lineWith}
+use Rattle.atoms.proofs.Sides.{variable-small, field-small}
+use Rattle.plain.specs.Plain.{bare, setRow, newRow, callRow, returnRow, Tested, counts}
+
+-- the fourth field of a line
+pub fourth :
+    {t : List ℕ} {r : ℕ} {a b c d : Span} → SpanAfter t r a → SpanAfter t (a .start + a .len) b → SpanAfter t (b .start + b .len) c →
+    SpanAfter t (c .start + c .len) d → nameIn t d ≡ getD (more (drop r t)) 3 []
+fourth {t} {r} x y z u =
+    u .name
+    ∙ (ap (λ ws. getD ws 0 []) (z .rest ∙ ap (drop 1) (y .rest ∙ ap (drop 1) (x .rest)))
+    ∙ (getD-drop 1 (drop 1 (drop 1 (more (drop r t)))) 0 []
+    ∙ (getD-drop 1 (drop 1 (more (drop r t))) 1 [] ∙ getD-drop 1 (more (drop r t)) 2 [])))
+
+module _ (t w : List ℕ) (c : Counts.Names) (fits : Fits c) (s : Scope) (n l : ℕ) where
+  abbrev Γ : Declarations
+  Γ = declarationsIn t w c
+
+  abbrev vs : List Variable
+  vs = variablesIn t w c
+
+  -- a row of this kind without atoms
+  bare-ok :
+      (k x y z m : ℕ) → 8 ≤ k → k ≤ 18 → (k ≡ 9 → ⊥) → (k ≡ 15 → ⊥) → x < frame-variables → y < frame-variables → z < frame-variables →
+      (k ≡ 8 → m < most-names) → (k ≡ 10 → m < c .classes) → (k ≡ 11 → m < c .methods) → RowOk (counts c) n (bare k x y z m n l)
+  bare-ok k x y z m a b no-let no-if p q r f g h =
+      record {
+        kind = (a, b);
+        x = p;
+        y = q;
+        z = r;
+        field = f;
+        class = g;
+        method = h;
+        atoms = (omega arith, omega arith);
+        one-atom = λ o. ⊎-elim (λ e. absurd (no-let e)) (λ e. absurd (no-if e)) o;
+      }
+
+  -- WHAT IS KNOWN
+  or-right : (a b : Bool) → a ≡ false → (a || b) ≡ true → b ≡ true
+  or-right true b e h = true-false e
+  or-right false b e h = h
+
+  field-known : (x f : Name) → knownField Γ vs x f ≡ true → not (isInt vs x) ≡ true → fieldNumber Γ f < most-names
+  unfolding knownField
+  field-known x f k i =
+      let a = both-true (not (reserved f)) (isInt vs x || any (isFieldOf Γ (variableType vs x) f) (Γ .fields)) k in
+      field-small t w c fits (variableType vs x) f (or-right (isInt vs x) _ (not-true _ i) (a .1))
+
+  method-known :
+      (y m : Name) → knownMethod Γ vs y m ≡ true → not (isInt vs y) ≡ true → methodNumber Γ (variableType vs y) m < c .methods
+  unfolding knownMethod
+  method-known y m k i =
+      let a = both-true (not (reserved m)) (isInt vs y || any (isMethodOf Γ (variableType vs y) m) (Γ .methods)) k in
+      let b = or-right (isInt vs y) (any (isMethodOf Γ (variableType vs y) m) (Γ .methods)) (not-true _ i) (a .1) in
+      ltb-true (methodNumber Γ (variableType vs y) m) (c .methods) (sym (method-any t w c (variableType vs y) m) ∙ b)
+
+  class-known : (C : Name) → isClass Γ C ≡ true → classNumber Γ C < c .classes
+  unfolding isClass
+  class-known C k =
+      let a = both-true (not (reserved C)) (any (eqName C) (Γ .classes)) k in
+      ltb-true (classNumber Γ C) (c .classes) (sym (class-any t w c C) ∙ a .1)
+
+  -- BY THE KIND OF THE LINE
+  set-ok : (ws : List Name) → Tested Γ vs s (lineWith Set ws) → RowOk (counts c) n (setRow Γ vs ws n l)
+  unfolding Grammar.opened Scopes.opened Names.allKnown Names.known Names.allTyped Names.ofClass Base.all setRow
+  set-ok [] x = true-false (sym (x .formed))
+  set-ok (u ∷ []) x = true-false (sym (both-true (isName u) false (x .formed) .1))
+  set-ok (u ∷ v ∷ []) x = true-false (sym (both-true (isName v) false (both-true (isName u) (isName v && false) (x .formed) .1) .1))
+  set-ok (u ∷ v ∷ y ∷ ws) x =
+      let a = both-true (inScope vs u) _ (x .known) in
+      let b = both-true (knownField Γ vs u v) _ (a .1) in
+      let d = both-true (inScope vs y) _ (b .1) in
+      let e = both-true (not (isInt vs u)) _ (both-true _ _ (x .typed) .0) in
+      bare-ok 8 _ _ _ _ (omega arith) (omega arith) (λ e. omega arith) (λ e. omega arith) (variable-small t w c fits u (a .0))
+      (variable-small t w c fits y (d .0)) (omega arith) (λ i. field-known u v (b .0) (e .0)) (λ i. absurd (omega arith)) (λ i. absurd (omega arith))
+
+  new-ok : (ws : List Name) → Tested Γ vs s (lineWith New ws) → RowOk (counts c) n (newRow Γ vs ws n l)
+  unfolding Grammar.opened Scopes.opened Names.allKnown Names.known Names.allTyped Names.ofClass Base.all newRow
+  new-ok [] x = true-false (sym (x .formed))
+  new-ok (u ∷ []) x = true-false (sym (both-true (isName u) false (x .formed) .1))
+  new-ok (u ∷ v ∷ ws) x =
+      let a = both-true (inScope vs u) _ (x .known) in
+      let b = both-true (isClass Γ v) _ (a .1) in
+      bare-ok 10 _ _ _ _ (omega arith) (omega arith) (λ e. omega arith) (λ e. omega arith) (variable-small t w c fits u (a .0))
+      (omega arith) (omega arith) (λ i. absurd (omega arith)) (λ i. class-known v (b .0)) (λ i. absurd (omega arith))
+
+  return-ok : (ws : List Name) → Tested Γ vs s (lineWith Return ws) → RowOk (counts c) n (returnRow Γ vs ws n l)
+  unfolding Grammar.opened Scopes.opened Names.allKnown Names.known Names.allTyped Names.ofClass Base.all returnRow
+  return-ok [] x = true-false (sym (x .formed))
+  return-ok (u ∷ ws) x =
+      let a = both-true (inScope vs u) _ (x .known) in
+      bare-ok 12 _ _ _ _ (omega arith) (omega arith) (λ e. omega arith) (λ e. omega arith) (variable-small t w c fits u (a .0))
+      (omega arith) (omega arith) (λ i. absurd (omega arith)) (λ i. absurd (omega arith)) (λ i. absurd (omega arith))
+
+  call-ok : (ws : List Name) → Tested Γ vs s (lineWith Call ws) → RowOk (counts c) n (callRow Γ vs ws n l)
+  unfolding Grammar.opened Scopes.opened Names.allKnown Names.known Names.allTyped Names.ofClass Base.all callRow
+  call-ok [] x = true-false (sym (x .formed))
+  call-ok (u ∷ []) x = true-false (sym (both-true (isName u) false (x .formed) .1))
+  call-ok (u ∷ v ∷ []) x =
+      true-false (sym (both-true (isName v) false (both-true (isName u) (isName v && false) (x .formed) .1) .1))
+  call-ok (u ∷ v ∷ y ∷ []) x =
+      let f = both-true (isName u) (isName v && (isName y && false)) (x .formed) in
+      let g = both-true (isName v) (isName y && false) (f .1) in
+      true-false (sym (both-true (isName y) false (g .1) .1))
+  call-ok (u ∷ v ∷ y ∷ z ∷ ws) x =
+      let a = both-true (inScope vs u) _ (x .known) in
+      let b = both-true (inScope vs v) _ (a .1) in
+      let d = both-true (knownMethod Γ vs v y) _ (b .1) in
+      let e = both-true (inScope vs z) _ (d .1) in
+      let i = both-true (not (isInt vs v)) _ (both-true _ _ (x .typed) .0) in
+      bare-ok 11 _ _ _ _ (omega arith) (omega arith) (λ e. omega arith) (λ e. omega arith) (variable-small t w c fits u (a .0))
+      (variable-small t w c fits v (b .0)) (variable-small t w c fits z (e .0)) (λ i. absurd (omega arith)) (λ i. absurd (omega arith))
+      (λ j. method-known v y (d .0) (i .0))
+
+  -- WHAT IS WRITTEN: the row of a line that passes the tests is the line's item
+  module _ (F : Flat) (room : length (F .rows) < most-statements) (h : Holds (counts c) w F n) where
+    -- the row r is written
+    abbrev Written : Operands → Kind → List Name → Type 0
+    Written r k ws = Holds (counts c) (putRow w (length (F .rows)) r) (flatWith F l (itemOf Γ vs k (lineWith k ws))) n
+
+    pub set-written : (ws : List Name) → Tested Γ vs s (lineWith Set ws) → Written (setRow Γ vs ws n l) Set ws
+    unfolding itemOf Items.resolveSet Scopes.operand setRow
+    set-written ws x = row-written (counts c) w F n (setRow Γ vs ws n l) _ room (set-ok ws x) (set-means w (setRow Γ vs ws n l) refl) h
+
+    pub new-written : (ws : List Name) → Tested Γ vs s (lineWith New ws) → Written (newRow Γ vs ws n l) New ws
+    unfolding itemOf Scopes.operand newRow
+    new-written ws x = row-written (counts c) w F n (newRow Γ vs ws n l) _ room (new-ok ws x) (new-means w (newRow Γ vs ws n l) refl) h
+
+    pub call-written : (ws : List Name) → Tested Γ vs s (lineWith Call ws) → Written (callRow Γ vs ws n l) Call ws
+    unfolding itemOf Items.resolveCall Scopes.operand callRow
+    call-written ws x = row-written (counts c) w F n (callRow Γ vs ws n l) _ room (call-ok ws x) (call-means w (callRow Γ vs ws n l) refl) h
+
+    pub return-written : (ws : List Name) → Tested Γ vs s (lineWith Return ws) → Written (returnRow Γ vs ws n l) Return ws
+    unfolding itemOf Scopes.operand returnRow
+    return-written ws x =
+        row-written (counts c) w F n (returnRow Γ vs ws n l) _ room (return-ok ws x) (return-means w (returnRow Γ vs ws n l) refl) h
+
+    empty-ok : (k : ℕ) → 8 ≤ k → k ≤ 18 → 15 < k → RowOk (counts c) n (bare k 0 0 0 0 n l)
+    empty-ok k a b d =
+        bare-ok k 0 0 0 0 a b (λ e. omega arith) (λ e. omega arith) (omega arith) (omega arith) (omega arith) (λ i. absurd (omega arith))
+        (λ i. absurd (omega arith)) (λ i. absurd (omega arith))
+
+    pub else-written : (ws : List Name) → Written (bare 16 0 0 0 0 n l) Else ws
+    unfolding itemOf
+    else-written ws =
+        row-written (counts c) w F n (bare 16 0 0 0 0 n l) _ room (empty-ok 16 (omega arith) (omega arith) (omega arith))
+        (else-means w (bare 16 0 0 0 0 n l) refl) h
+
+    pub end-written : (ws : List Name) → Written (bare 18 0 0 0 0 n l) End ws
+    unfolding itemOf
+    end-written ws =
+        row-written (counts c) w F n (bare 18 0 0 0 0 n l) _ room (empty-ok 18 (omega arith) (omega arith) (omega arith))
+        (end-means w (bare 18 0 0 0 0 n l) refl) h
