@@ -1,20 +1,21 @@
 -- Pass 2, line by line: what the tables mean so far, what the next line may ask, and what it leaves.
 use mathlib.Core.Path.{_≡_}
-use mathlib.Core.Bool.{Bool, true, false, cond, _&&_, _||_, not}
+use mathlib.Core.Bool.{Bool, true, false, not, cond, _&&_, _||_}
 use mathlib.Core.List.{List, [], map}
-use Prim.Native.Nat.{ℕ, suc, pred, _+_, _≤_, _<_}
+use Prim.Native.Nat.{ℕ, suc, pred, _+_, _-_, _≤_, _<_}
 use lib.Dec.{eqb}
 use lib.ListN.{length, getD}
 use Rattle.rules.specs.Limits.{work-bytes, most-bytes, most-fields, most-locals, most-statements, most-atoms}
-use Rattle.rules.specs.Syntax.{Field}
+use Rattle.rules.specs.Syntax.{Field, Formula, Stmt, simple, if, else, join, end}
 use Rattle.rules.specs.Grammar.{Kind, Line, form, isFormed, isKind, isStatement}
 use Rattle.rules.specs.Grammar as Grammar
 use Rattle.rules.specs.Places.{oneMoreIf}
-use Rattle.rules.specs.Scope.{Declarations, Variable, Scope, operand, scopeAfter}
+use Rattle.rules.specs.Scope.{operand, scopeAfter}
 use Rattle.rules.specs.Names.{fieldNumber, allKnown, allTyped}
-use Rattle.rules.specs.Items.{Item, itemOf}
+use Rattle.rules.specs.Items.{Item, itemOf, aClass, aField, aMethod, aRequires, anEnsures, aMain, aLocal, aStatement}
 use Rattle.rules.specs.Reading.{framedItem}
 use Rattle.tables.specs.Layout.{most-atom-rows}
+use Rattle.tables.specs.Decode.{atomsFrom}
 use Rattle.declared.specs.declared.Names.{Names}
 use Rattle.declared.specs.declared.Above.{Above}
 use Rattle.declared.specs.declared.Range.{Range}
@@ -79,6 +80,28 @@ hasAtoms k =
     (isKind Grammar.Requires k || isKind Grammar.Ensures k)
     || ((isKind Grammar.Let k || isKind Grammar.If k)
     || (isKind Grammar.Assert k || (isKind Grammar.Release k || isKind Grammar.Join k)))
+
+-- number 10 is about these
+unfoldable pub isFramed : Kind → Bool
+isFramed k = isKind Grammar.Requires k || (isKind Grammar.Ensures k || isKind Grammar.Join k)
+
+unfoldable pub joinFormula : Stmt → Formula ℕ
+joinFormula (simple s) = []
+joinFormula (if n a b) = []
+joinFormula else = []
+joinFormula (join φ) = φ
+joinFormula end = []
+
+-- the formula that it is about
+unfoldable pub framedFormula : Item → Formula ℕ
+framedFormula aClass = []
+framedFormula (aField f) = []
+framedFormula aMethod = []
+framedFormula (aRequires φ) = φ
+framedFormula (anEnsures φ) = φ
+framedFormula aMain = []
+framedFormula (aLocal x) = []
+framedFormula (aStatement s) = joinFormula s
 
 -- THE LINES ABOVE: t is the text, w the work area
 
@@ -151,6 +174,9 @@ pub record Counts (p : Pass) (k : Kind) (q : Pass) : Type 0 where
 pub record LinePut (t w : List ℕ) (p : Pass) (l : Line) (w′ : List ℕ) (q : Pass) : Type 0 where
   pub counted : Counts p (l .kind) q
   pub built : (F : Flat) → Stands t w p F → Stands t w′ q (flatWith F (suc (p .line)) (item t w p l))
+  pub formula :
+      isFramed (l .kind) ≡ true → (F : Flat) → Stands t w p F →
+      atomsFrom w′ (p .atoms) (q .atoms - p .atoms) ≡ framedFormula (item t w p l)
   pub declared : declarationsIn t w′ (q .names) ≡ declarationsIn t w (p .names)
   pub scope : scopeIn t w′ (q .names) (q .above) ≡ scopeAfter (scopeIn t w (p .names) (p .above)) l
   pub size : length w′ ≡ length w
