@@ -1,4 +1,5 @@
 pub mod Lines
 pub mod Counts
 pub mod Adds
+pub mod Walks
 pub mod Steps

@@ -4,7 +4,8 @@ use Prim.Native.Nat.{_-_, _≤_}
 use native.Mathlib.Omega.{arith}
 use lib.ListN.{length}
 use borrow.Author.Needs.{needs}
-use Rattle.declare.proofs.Steps.{Declaring, declaring-first, declaring-fits, declaring-done, declaring-clean, declaring-formed, declaring-room, declaring-on}
+use Rattle.declare.proofs.Steps.{Declaring, declaring-first, declaring-fits, declaring-done, declaring-room, declaring-on}
+use Rattle.declare.proofs.Walks.{walking-clean, walking-formed}
 use Rattle.declare.proofs.declare.Statement.{statement}
 use Rattle.declare.proofs.declare.Tie as tie
 
@@ -31,15 +32,15 @@ declare-line-requires c κs =
     let x = c .before .before .before .loop .inv .1 in
     let l = c .before .before .loop-test .taken in
     let f = c .before .find .ensures in
-    (record { text = c .before .before .before .before .before .before .before .pre .0; whole = x .tables .size ∙ c .before .before .before .before .before .before .before .pre .1; fits = declaring-fits x }, omega arith, declaring-formed x l f, declaring-room x l f)
+    (record { text = c .before .before .before .before .before .before .before .pre .0; whole = x .tables .size ∙ c .before .before .before .before .before .before .before .pre .1; fits = declaring-fits x }, omega arith, walking-formed (x .walk) l f, declaring-room x l f)
 
 add-at : tie.Need-add-at Inv-loop μ-loop
 add-at c =
-    omega (arith, declaring-clean (c .before .before .before .before .before .before .loop .inv .1) (c .before .before .before .before .before .loop-test .taken) (c .before .before .before .before .find .ensures) .high)
+    omega (arith, walking-clean (c .before .before .before .before .before .before .loop .inv .1 .walk) (c .before .before .before .before .before .loop-test .taken) (c .before .before .before .before .find .ensures) .high)
 
 loop-less : tie.Need-loop-less Inv-loop μ-loop
 loop-less c =
-    let l = declaring-clean (c .before .before .before .before .before .before .loop .inv .1) (c .before .before .before .before .before .loop-test .taken) (c .before .before .before .before .find .ensures) in
+    let l = walking-clean (c .before .before .before .before .before .before .loop .inv .1 .walk) (c .before .before .before .before .before .loop-test .taken) (c .before .before .before .before .find .ensures) in
     omega (arith, l .high, l .low)
 
 loop-again : tie.Need-loop-again Inv-loop μ-loop
@@ -47,7 +48,7 @@ loop-again c =
     let x = c .before .before .before .before .before .before .loop .inv .1 in
     let l = c .before .before .before .before .before .loop-test .taken in
     let f = c .before .before .before .before .find .ensures in
-    (omega (arith, declaring-clean x l f .high), declaring-on x l f (c .before .before .declare-line .ensures))
+    (omega (arith, walking-clean (x .walk) l f .high), declaring-on x l f (c .before .before .declare-line .ensures))
 
 same-length : tie.Need-same-length Inv-loop μ-loop
 same-length c =
