@@ -166,6 +166,7 @@ pub record Counts (p : Pass) (k : Kind) (q : Pass) : Type 0 where
   pub names : q .names ≡ namesAfter k (p .names)
   pub above : q .above ≡ aboveAfter k (p .above)
   pub rows : q .rows ≡ oneMoreIf (isStatement k) (p .rows)
+  pub grown : p .atoms ≤ q .atoms
   pub atoms : q .atoms ≤ p .atoms + cond (hasAtoms k) most-atoms 0
   pub main : q .main ≡ cond (isKind Grammar.Main k) (p .rows) (p .main)
   pub line : q .line ≡ p .line + 1

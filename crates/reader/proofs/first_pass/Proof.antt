@@ -1,0 +1,13 @@
+use mathlib.Core.Path.{refl}
+use Rattle.reader.proofs.first_pass.Statement.{statement}
+use Rattle.reader.proofs.first_pass.Tie as tie
+use Rattle.reader.proofs.first_pass.Reads as reads
+use Rattle.reader.proofs.first_pass.Lts as lts
+
+-- src/lib.rt:147:1
+returns : tie.Need-returns
+unfolding Rattle.reader.specs.Readings.firstPass
+returns c = refl
+
+pub first-pass-spec : {M : Type 1} → statement M
+first-pass-spec = tie.close (tie.spec returns)

@@ -1,0 +1,48 @@
+-- `reader::first_unframed` meets its contract. Assumes nothing.
+use mathlib.Core.Path.{sym, _∙_}
+use native.Mathlib.Omega.{arith}
+use native.Mathlib.Numerals.{add-one}
+use borrow.Author.Tests.{ne-eqb}
+use borrow.Author.Needs.{needs}
+use Rattle.reader.specs.Readings.{unframedBy}
+use Rattle.reader.proofs.Lines.{not-asked, all-framed, one-unframed}
+use Rattle.reader.proofs.first_unframed.Statement.{statement}
+use Rattle.reader.proofs.first_unframed.Tie as tie
+
+returns : tie.Need-returns
+unfolding unframedBy
+returns c = sym (rw (ne-eqb _ 0 (c .if1 .taken)))
+
+is-framed-requires : tie.Need-is-framed-requires
+is-framed-requires c κs = search needs
+
+sub-framed-atoms : tie.Need-sub-framed-atoms
+sub-framed-atoms c = omega (arith, c .before .before .before .before .before .before .before .pre .0 .low)
+
+framed-atoms-requires : tie.Need-framed-atoms-requires
+framed-atoms-requires c κs = (c .before .before .before .before .before .before .before .pre .0 .whole, omega (arith, c .before .before .before .before .before .before .before .pre .0 .high), λ i a b. c .before .before .before .before .before .before .before .pre .0 .fit i (omega (arith, b, c .before .before .before .before .before .before .before .pre .0 .low)))
+
+returns-2 : tie.Need-returns-2
+returns-2 c = sym (all-framed _ _ (c .before .before .before .before .before .before .if1 .left) _ _ (c .before .before .before .before .before .is-framed .ensures) (c .before .before .before .before .if2 .taken) _ (c .before .framed-atoms .ensures) (c .if3 .taken))
+
+add-result : tie.Need-add-result
+add-result c = omega (arith, c .before .before .before .before .before .before .before .before .before .before .pre .0 .line)
+
+returns-3 : tie.Need-returns-3
+returns-3 c = add-one _ ∙ sym (one-unframed _ _ (c .before .before .before .before .before .before .before .if1 .left) _ _ (c .before .before .before .before .before .before .is-framed .ensures) (c .before .before .before .before .before .if2 .taken) _ (c .before .before .framed-atoms .ensures) (c .before .if3 .left))
+
+returns-4 : tie.Need-returns-4
+returns-4 c = sym (not-asked _ _ (c .before .before .if1 .left) _ _ (c .before .is-framed .ensures) (c .if2 .left))
+
+pub first-unframed-spec : {M : Type 1} → statement M
+first-unframed-spec =
+    tie.close
+    (tie.spec
+    returns
+    is-framed-requires
+    sub-framed-atoms
+    framed-atoms-requires
+    returns-2
+    add-result
+    returns-3
+    returns-4)

@@ -1,0 +1,134 @@
+-- What the reader's answers mean: the refusal of each case, and the tables of a text that is taken.
+use mathlib.Core.Path.{_≡_}
+use mathlib.Core.Bool.{Bool, false, cond}
+use mathlib.Core.List.{List, []}
+use Prim.Native.Nat.{ℕ, suc, _+_, _≤_, _<_}
+use lib.Dec.{eqb}
+use lib.ListN.{length}
+use Rattle.rules.specs.Limits.{work-bytes, most-bytes, most-atoms}
+use Rattle.rules.specs.Syntax.{Formula}
+use Rattle.rules.specs.Base.{ok, no}
+use Rattle.rules.specs.Answers as Answers
+use Rattle.rules.specs.Answers.{Verdict, accepted, refused}
+use Rattle.rules.specs.Grammar.{Line}
+use Rattle.rules.specs.Scope.{declarations, firstScope}
+use Rattle.rules.specs.Items.{Item, resolveLine, resolveLines}
+use Rattle.rules.specs.Reading.{readText, framed, checkFramed, program}
+use Rattle.tables.specs.Decode.{programIn}
+use Rattle.tables.specs.Tables.{Tables, AtomFits}
+use Rattle.declared.specs.declared.Names.{Names}
+use Rattle.declared.specs.Meanings.{Fits, declarationsIn, scopeIn}
+use Rattle.assembly.specs.Flat.{Flat, noFlat, flatFrom}
+use Rattle.declare.specs.Texts.{linesOf}
+use Rattle.pass.specs.declared.Pass.{Pass}
+use Rattle.pass.specs.Passes.{Stands, LinePut, after, item, unframedAfter}
+use Rattle.reader.specs.declared.Refusal.{Refusal}
+use Rattle.reader.specs.declared.Step.{Step}
+use Rattle.reader.specs.declared.Resolved.{Resolved}
+use Rattle.reader.specs.declared.Reading.{Reading}
+
+-- the row of the table that a refusal is
+unfoldable pub refusalOf : Refusal → Answers.Refusal
+refusalOf Refusal.TextTooLong = Answers.textTooLong
+refusalOf Refusal.BadByte = Answers.badByte
+refusalOf Refusal.Malformed = Answers.malformed
+refusalOf Refusal.LimitPassed = Answers.limitPassed
+refusalOf Refusal.Undeclared = Answers.undeclared
+refusalOf Refusal.WrongType = Answers.wrongType
+refusalOf Refusal.TextEnds = Answers.textEnds
+refusalOf Refusal.WrongTarget = Answers.wrongTarget
+
+-- the verdict of number 10, by the first line that it refuses, or 0
+unfoldable pub framedVerdict : ℕ → Verdict (Unit {0})
+framedVerdict u = cond (eqb u 0) (accepted tt) (refused Answers.unframed u)
+
+-- ONE LINE: t is the text, w the work area before it, w′ after it
+
+-- the tables mean something so far
+pub record Written (t w : List ℕ) (p : Pass) : Type 0 where
+  pub flat : Flat
+  pub stands : Stands t w p flat
+
+-- its atoms, between p and q, are written
+pub record Between (w : List ℕ) (p q : Pass) : Type 0 where
+  pub whole : length w ≡ work-bytes
+  pub line : p .line < most-bytes
+  pub low : p .atoms ≤ q .atoms
+  pub high : q .atoms ≤ p .atoms + most-atoms
+  pub fit : (a : ℕ) → a < q .atoms → AtomFits w a
+
+-- with a formula that number 10 is about, or not
+unfoldable pub unframedBy : Bool → Formula ℕ → Pass → ℕ
+unframedBy b φ p = cond (eqb (p .unframed) 0) (cond b (cond (framed [] φ) 0 (suc (p .line))) 0) (p .unframed)
+
+unfoldable pub withUnframed : Pass → ℕ → Pass
+withUnframed p u =
+    record { names = p .names; above = p .above; rows = p .rows; atoms = p .atoms; main = p .main; line = p .line; unframed = u }
+
+-- the line is in the tables, and number 10 has its line
+pub record LineTaken (t w : List ℕ) (p : Pass) (l : Line) (w′ : List ℕ) (q : Pass) : Type 0 where
+  pub put : LinePut t w p l w′ q
+  pub unframed : q .unframed ≡ unframedAfter (p .unframed) (p .line) (item t w p l)
+
+pub record LineRead (t w : List ℕ) (p : Pass) (l : Line) (w′ : List ℕ) (q : Pass) : Type 0 where
+  pub taken : LineTaken t w p l w′ q
+  pub resolved : resolveLine (declarationsIn t w (p .names)) (scopeIn t w (p .names) (p .above)) l ≡ ok (item t w p l)
+
+unfoldable pub StepIs : (t w : List ℕ) (p : Pass) (l : Line) (w′ : List ℕ) → Step → Type 0
+StepIs t w p l w′ (Step.On q) = LineRead t w p l w′ q
+StepIs t w p l w′ (Step.Refused r) =
+    resolveLine (declarationsIn t w (p .names)) (scopeIn t w (p .names) (p .above)) l ≡ no (refusalOf r)
+
+-- ALL LINES
+
+abbrev pub resolvedText : List ℕ → Verdict (List Item)
+resolvedText t = resolveLines (declarations (linesOf t)) (linesOf t) 0 firstScope
+
+-- before the first line
+unfoldable pub firstPass : Names → Pass
+firstPass c =
+    record {
+      names = c;
+      above =
+          record { classes = 0; fields = record { first = 0; count = 0 }; methods = record { first = 0; count = 0 } };
+      rows = 0;
+      atoms = 0;
+      main = 0;
+      line = 0;
+      unframed = 0;
+    }
+
+-- the declarations of the text stand in w, and no block is open
+pub record DeclaredIn (t w : List ℕ) (c : Names) : Type 0 where
+  pub are : declarationsIn t w c ≡ declarations (linesOf t)
+  pub fits : Fits c
+  pub method : c .method ≡ false
+  pub locals : c .locals ≡ 0
+  pub result : c .result ≡ false
+
+-- all lines are in the tables
+pub record AllRead (t w : List ℕ) (p : Pass) : Type 0 where
+  pub items : List Item
+  pub resolved : resolvedText t ≡ accepted items
+  pub stands : Stands t w p (flatFrom noFlat 0 items)
+  pub classes : p .above .classes ≡ p .names .classes
+  pub methods : after (p .above .methods) ≡ p .names .methods
+  pub unframed : checkFramed items 0 ≡ framedVerdict (p .unframed)
+
+unfoldable pub ResolvedIs : (t w : List ℕ) → Resolved → Type 0
+ResolvedIs t w (Resolved.Done p) = AllRead t w p
+ResolvedIs t w (Resolved.Refused r l) = resolvedText t ≡ refused (refusalOf r) l
+
+-- THE TEXT
+
+-- the tables in w are those of a text that is read as these items; u is the first line that number 10 refuses, or 0
+pub record Tabled (t w : List ℕ) (u : ℕ) : Type 0 where
+  pub items : List Item
+  pub read : readText t ≡ accepted items
+  pub tables : Tables w
+  pub program : programIn w ≡ program items
+  pub framed : checkFramed items 0 ≡ framedVerdict u
+
+unfoldable pub ReadingIs : (t w : List ℕ) → Reading → Type 0
+ReadingIs t w (Reading.Taken u) = Tabled t w u
+ReadingIs t w (Reading.Refused r l) = readText t ≡ refused (refusalOf r) l

@@ -1,0 +1,244 @@
+use declared::Above;
+use declared::Names;
+use declared::Range;
+use judge::Judged;
+use leaves::Set;
+use lines::Scanned;
+use pass::Pass;
+use rules::Machine;
+ghost use mathlib.Core.Path.{_≡_};
+ghost use mathlib.Core.List.{[]};
+ghost use Prim.Native.Nat.{ℕ, _+_, _-_, _≤_, _<_};
+ghost use lib.ListN.{length, drop};
+ghost use Rattle.rules.specs.Limits.{work-bytes, most-bytes, most-atoms};
+ghost use Rattle.rules.specs.Reading.{framed};
+ghost use Rattle.lines.specs.Cuts.{more};
+ghost use Rattle.lines.specs.Rows.{kindNumbered};
+ghost use Rattle.lines.specs.Scans as Scans;
+ghost use Rattle.tables.specs.Decode.{atomsFrom};
+ghost use Rattle.tables.specs.Tables.{AtomFits};
+ghost use Rattle.declare.specs.Texts.{Taken, lineAt, FormedAt};
+ghost use Rattle.declare.specs.Declares.{lineWith, Declares};
+ghost use Rattle.pass.specs.Passes.{Ready, Tested, Room, LinePut, isFramed, seenBy};
+ghost use Rattle.reader.specs.Readings.{unframedBy, withUnframed, Between, Written, LineTaken, StepIs, firstPass, DeclaredIn, ResolvedIs, ReadingIs, refusalOf};
+
+// Why a text is refused.
+pub enum Refusal {
+    TextTooLong,
+    BadByte,
+    Malformed,
+    LimitPassed,
+    Undeclared,
+    WrongType,
+    TextEnds,
+    WrongTarget,
+}
+
+// ONE LINE
+
+// STUB
+fn put_line(text: &[u8], work: &mut [u8], p: Pass, kind: u8, r: usize) -> Pass
+    requires { ⌜ Ready (now text) (now work) p × (r ≤ length (now text)) × ((1 ≤ kind) × (kind ≤ 18)) × Tested (now text) (now work) p (lineWith (kindNumbered kind) (more (drop r (now text)))) × Room (now text) (now work) p (lineWith (kindNumbered kind) (more (drop r (now text)))) ⌝ }
+    ensures { λ q. ⌜ LinePut (now (text .entry)) (now (work .entry)) p (lineWith (kindNumbered kind) (more (drop r (now (text .entry))))) (now (work .exit)) q × (q .unframed ≡ p .unframed) ⌝ }
+{
+    p
+}
+
+// STUB
+fn framed_atoms(work: &[u8], first: usize, count: usize) -> bool
+    requires { ⌜ (length (now work) ≡ work-bytes) × (count ≤ most-atoms) × ((i : ℕ) → first ≤ i → i < first + count → AtomFits (now work) i) ⌝ }
+    ensures { λ r. ⌜ r ≡ framed [] (atomsFrom (now (work .entry)) first count) ⌝ }
+{
+    true
+}
+
+// STUB
+fn seen(c: Names, kind: u8) -> Names
+    requires { ⌜ (1 ≤ kind) × (kind ≤ 18) ⌝ }
+    ensures { λ r. ⌜ r ≡ seenBy (kindNumbered kind) c ⌝ }
+{
+    c
+}
+
+// Is number 10 about lines of this kind?
+fn is_framed(kind: u8) -> bool
+    requires { ⌜ (1 ≤ kind) × (kind ≤ 18) ⌝ }
+    ensures { λ r. ⌜ r ≡ isFramed (kindNumbered kind) ⌝ }
+{
+    match kind {
+        4 => true,
+        5 => true,
+        17 => true,
+        _ => false,
+    }
+}
+
+// The first line that number 10 refuses, or 0, after a line of this kind between p and q.
+fn first_unframed(work: &[u8], kind: u8, p: Pass, q: Pass) -> usize
+    requires { ⌜ Between (now work) p q × ((1 ≤ kind) × (kind ≤ 18)) ⌝ }
+    ensures { λ u. ⌜ u ≡ unframedBy (isFramed (kindNumbered kind)) (atomsFrom (now (work .entry)) (p .atoms) (q .atoms - p .atoms)) p ⌝ }
+{
+    if p.unframed != 0 {
+        return p.unframed;
+    }
+    if is_framed(kind) {
+        if framed_atoms(work, p.atoms, q.atoms - p.atoms) {
+            return 0;
+        }
+        return p.line + 1;
+    }
+    0
+}
+
+fn with_unframed(p: Pass, unframed: usize) -> Pass
+    ensures { λ r. ⌜ r ≡ withUnframed p unframed ⌝ }
+{
+    let names = p.names;
+    let above = p.above;
+    Pass {
+        names,
+        above,
+        rows: p.rows,
+        atoms: p.atoms,
+        main: p.main,
+        line: p.line,
+        unframed,
+    }
+}
+
+// What a line is: in the tables, or refused.
+pub enum Step {
+    On(Pass),
+    Refused(Refusal),
+}
+
+// A good line of this kind, the word of which ends at r.
+fn take_line(text: &[u8], work: &mut [u8], p: Pass, kind: u8, r: usize) -> Pass
+    requires { ⌜ Ready (now text) (now work) p × (r ≤ length (now text)) × ((1 ≤ kind) × (kind ≤ 18)) × Tested (now text) (now work) p (lineWith (kindNumbered kind) (more (drop r (now text)))) × Room (now text) (now work) p (lineWith (kindNumbered kind) (more (drop r (now text)))) × Written (now text) (now work) p ⌝ }
+    ensures { λ q. ⌜ LineTaken (now (text .entry)) (now (work .entry)) p (lineWith (kindNumbered kind) (more (drop r (now (text .entry))))) (now (work .exit)) q ⌝ }
+{
+    let q = put_line(text, work, p, kind, r);
+    let u = first_unframed(work, kind, p, q);
+    with_unframed(q, u)
+}
+
+// The line that begins at a place.
+fn read_line(text: &[u8], work: &mut [u8], at: usize, p: Pass) -> Step
+    requires { ⌜ Ready (now text) (now work) p × (at ≤ length (now text)) × FormedAt (now text) at × Room (now text) (now work) p (lineAt (now text) at) × Written (now text) (now work) p ⌝ }
+    ensures { λ s. ⌜ StepIs (now (text .entry)) (now (work .entry)) p (lineAt (now (text .entry)) at) (now (work .exit)) s ⌝ }
+{
+    let w = declare::word_at(text, at);
+    let kind = w.kind;
+    let names = p.names;
+    let above = p.above;
+    let c = seen(names, kind);
+    let j = judge::judge(text, work, at, kind, c, above);
+    match j {
+        Judged::Undeclared => Step::Refused(Refusal::Undeclared),
+        Judged::WrongType => Step::Refused(Refusal::WrongType),
+        Judged::WrongTarget => Step::Refused(Refusal::WrongTarget),
+        Judged::Good => Step::On(take_line(text, work, p, kind, w.end)),
+    }
+}
+
+// ALL LINES
+
+// All lines are in the tables; or why one is refused, and which.
+pub enum Resolved {
+    Done(Pass),
+    Refused(Refusal, usize),
+}
+
+fn first_pass(names: Names) -> Pass
+    ensures { λ p. ⌜ p ≡ firstPass names ⌝ }
+{
+    let none = Range { first: 0, count: 0 };
+    let above = Above {
+        classes: 0,
+        fields: none,
+        methods: none,
+    };
+    Pass {
+        names,
+        above,
+        rows: 0,
+        atoms: 0,
+        main: 0,
+        line: 0,
+        unframed: 0,
+    }
+}
+
+// Names, types and targets of every line of a text that pass 1 takes and whose declarations stand in the work area.
+fn read_lines(text: &[u8], work: &mut [u8], names: Names) -> Resolved
+    requires { ⌜ (length (now text) ≤ most-bytes) × (length (now work) ≡ work-bytes) × Taken (now text) × DeclaredIn (now text) (now work) names ⌝ }
+    ensures { λ r. ⌜ ResolvedIs (now (text .entry)) (now (work .exit)) r ⌝ }
+{
+    let mut p = first_pass(names);
+    let mut at = 0;
+    while at < text.len() {
+        let end = leaves::find(text, at, Set::LineEnd);
+        let s = read_line(text, work, at, p);
+        match s {
+            Step::Refused(why) => {
+                return Resolved::Refused(why, p.line + 1);
+            }
+            Step::On(q) => {
+                p = q;
+                at = end + 1;
+            }
+        }
+    }
+    Resolved::Done(p)
+}
+
+// THE TEXT
+
+// A text that is taken, with the first line that number 10 refuses, or 0; or why it is refused, and at which line.
+pub enum Reading {
+    Taken(usize),
+    Refused(Refusal, usize),
+}
+
+fn scan_refusal(r: lines::Refusal) -> Refusal
+    ensures { λ s. ⌜ refusalOf s ≡ Scans.refusalOf r ⌝ }
+{
+    match r {
+        lines::Refusal::BadByte => Refusal::BadByte,
+        lines::Refusal::Malformed => Refusal::Malformed,
+        lines::Refusal::LimitPassed => Refusal::LimitPassed,
+        lines::Refusal::TextEnds => Refusal::TextEnds,
+    }
+}
+
+// Pass 2 over a text that pass 1 takes.
+fn resolve(text: &[u8], work: &mut [u8]) -> Reading
+    requires { ⌜ (length (now text) ≤ most-bytes) × (length (now work) ≡ work-bytes) × Taken (now text) ⌝ }
+    ensures { λ r. ⌜ ReadingIs (now (text .entry)) (now (work .exit)) r ⌝ }
+{
+    let names = declare::declare(text, work);
+    let r = read_lines(text, work, names);
+    match r {
+        Resolved::Refused(why, line) => Reading::Refused(why, line),
+        Resolved::Done(p) => {
+            let names = p.names;
+            finish::finish(work, p.rows, p.atoms, names.classes, names.methods, p.main);
+            Reading::Taken(p.unframed)
+        }
+    }
+}
+
+// The text as tables in the work area, or its number and line.
+pub fn read(text: &[u8], work: &mut [u8]) -> Reading
+    requires { ⌜ length (now work) ≡ work-bytes ⌝ }
+    ensures { λ r. ⌜ ReadingIs (now (text .entry)) (now (work .exit)) r ⌝ }
+{
+    if Machine::TEXT_BYTES < text.len() {
+        return Reading::Refused(Refusal::TextTooLong, 0);
+    }
+    let s = lines::scan(text);
+    match s {
+        Scanned::Refused(why, line) => Reading::Refused(scan_refusal(why), line),
+        Scanned::Taken(_) => resolve(text, work),
+    }
+}
