@@ -1,2 +1,4 @@
 pub mod Stages
 pub mod Counted
+pub mod Declared
+pub mod Places
