@@ -1,0 +1,23 @@
+-- The accesses of a formula that its atoms before a place name.
+use mathlib.Core.Bool.{Bool, cond, _&&_}
+use mathlib.Core.List.{List, [], _∷_}
+use Prim.Native.Nat.{ℕ, zero, suc, _+_}
+use lib.Dec.{eqb}
+use Rattle.rules.specs.Reading.{Access}
+use Rattle.tables.specs.Decode.{byteAt, atomPlace}
+
+-- the variable and the field of the atom i, an `acc`
+abbrev pub accessAt : List ℕ → ℕ → Access
+accessAt w i = record { variable = byteAt w (atomPlace i + 4); field = byteAt w (atomPlace i + 5) }
+
+abbrev pub isAccess : List ℕ → ℕ → Bool
+isAccess w i = eqb (byteAt w (atomPlace i)) 0
+
+-- is it `x.f`?
+abbrev pub isOf : ℕ → ℕ → Access → Bool
+isOf x f a = eqb (a .variable) x && eqb (a .field) f
+
+-- those of n atoms from atom i on, the last of them first
+unfoldable pub accesses : List ℕ → ℕ → ℕ → List Access
+accesses w i zero = []
+accesses w i (suc n) = let r : List Access = accesses w i n in cond (isAccess w (i + n)) (accessAt w (i + n) ∷ r) r
