@@ -2,10 +2,10 @@
 use mathlib.Core.Path.{_≡_}
 use mathlib.Core.Bool.{Bool, false, cond}
 use mathlib.Core.List.{List, []}
-use Prim.Native.Nat.{ℕ, suc, _+_, _≤_, _<_}
+use Prim.Native.Nat.{ℕ, suc, _≤_, _<_}
 use lib.Dec.{eqb}
 use lib.ListN.{length}
-use Rattle.rules.specs.Limits.{work-bytes, most-bytes, most-atoms}
+use Rattle.rules.specs.Limits.{work-bytes, most-bytes}
 use Rattle.rules.specs.Syntax.{Formula}
 use Rattle.rules.specs.Base.{ok, no}
 use Rattle.rules.specs.Answers as Answers
@@ -14,8 +14,9 @@ use Rattle.rules.specs.Grammar.{Line}
 use Rattle.rules.specs.Scope.{declarations, firstScope}
 use Rattle.rules.specs.Items.{Item, resolveLine, resolveLines}
 use Rattle.rules.specs.Reading.{readText, framed, checkFramed, program}
+use Rattle.tables.specs.Layout.{most-atom-rows}
 use Rattle.tables.specs.Decode.{programIn}
-use Rattle.tables.specs.Tables.{Tables, AtomFits}
+use Rattle.tables.specs.Tables.{Tables}
 use Rattle.declared.specs.declared.Names.{Names}
 use Rattle.declared.specs.Meanings.{Fits, declarationsIn, scopeIn}
 use Rattle.assembly.specs.Flat.{Flat, noFlat, flatFrom}
@@ -54,8 +55,7 @@ pub record Between (w : List ℕ) (p q : Pass) : Type 0 where
   pub whole : length w ≡ work-bytes
   pub line : p .line < most-bytes
   pub low : p .atoms ≤ q .atoms
-  pub high : q .atoms ≤ p .atoms + most-atoms
-  pub fit : (a : ℕ) → a < q .atoms → AtomFits w a
+  pub high : q .atoms ≤ most-atom-rows
 
 -- with a formula that number 10 is about, or not
 unfoldable pub unframedBy : Bool → Formula ℕ → Pass → ℕ

@@ -45,14 +45,6 @@ fn put_line(text: &[u8], work: &mut [u8], p: Pass, kind: u8, r: usize) -> Pass
 }
 
 // STUB
-fn framed_atoms(work: &[u8], first: usize, count: usize) -> bool
-    requires { ⌜ (length (now work) ≡ work-bytes) × (count ≤ most-atoms) × ((i : ℕ) → first ≤ i → i < first + count → AtomFits (now work) i) ⌝ }
-    ensures { λ r. ⌜ r ≡ framed [] (atomsFrom (now (work .entry)) first count) ⌝ }
-{
-    true
-}
-
-// STUB
 fn seen(c: Names, kind: u8) -> Names
     requires { ⌜ (1 ≤ kind) × (kind ≤ 18) ⌝ }
     ensures { λ r. ⌜ r ≡ seenBy (kindNumbered kind) c ⌝ }
@@ -82,7 +74,7 @@ fn first_unframed(work: &[u8], kind: u8, p: Pass, q: Pass) -> usize
         return p.unframed;
     }
     if is_framed(kind) {
-        if framed_atoms(work, p.atoms, q.atoms - p.atoms) {
+        if framing::framed(work, p.atoms, q.atoms - p.atoms) {
             return 0;
         }
         return p.line + 1;

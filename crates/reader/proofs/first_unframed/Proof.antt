@@ -16,20 +16,20 @@ returns c = sym (rw (ne-eqb _ 0 (c .if1 .taken)))
 is-framed-requires : tie.Need-is-framed-requires
 is-framed-requires c κs = search needs
 
-sub-framed-atoms : tie.Need-sub-framed-atoms
-sub-framed-atoms c = omega (arith, c .before .before .before .before .before .before .before .pre .0 .low)
+sub-framed : tie.Need-sub-framed
+sub-framed c = omega (arith, c .before .before .before .before .before .before .before .pre .0 .low)
 
-framed-atoms-requires : tie.Need-framed-atoms-requires
-framed-atoms-requires c κs = (c .before .before .before .before .before .before .before .pre .0 .whole, omega (arith, c .before .before .before .before .before .before .before .pre .0 .high), λ i a b. c .before .before .before .before .before .before .before .pre .0 .fit i (omega (arith, b, c .before .before .before .before .before .before .before .pre .0 .low)))
+framed-requires : tie.Need-framed-requires
+framed-requires c κs = (c .before .before .before .before .before .before .before .pre .0 .whole, omega (arith, c .before .before .before .before .before .before .before .pre .0 .high, c .before .before .before .before .before .before .before .pre .0 .low))
 
 returns-2 : tie.Need-returns-2
-returns-2 c = sym (all-framed _ _ (c .before .before .before .before .before .before .if1 .left) _ _ (c .before .before .before .before .before .is-framed .ensures) (c .before .before .before .before .if2 .taken) _ (c .before .framed-atoms .ensures) (c .if3 .taken))
+returns-2 c = sym (all-framed _ _ (c .before .before .before .before .before .before .if1 .left) _ _ (c .before .before .before .before .before .is-framed .ensures) (c .before .before .before .before .if2 .taken) _ (c .before .framed .ensures) (c .if3 .taken))
 
 add-result : tie.Need-add-result
 add-result c = omega (arith, c .before .before .before .before .before .before .before .before .before .before .pre .0 .line)
 
 returns-3 : tie.Need-returns-3
-returns-3 c = add-one _ ∙ sym (one-unframed _ _ (c .before .before .before .before .before .before .before .if1 .left) _ _ (c .before .before .before .before .before .before .is-framed .ensures) (c .before .before .before .before .before .if2 .taken) _ (c .before .before .framed-atoms .ensures) (c .before .if3 .left))
+returns-3 c = add-one _ ∙ sym (one-unframed _ _ (c .before .before .before .before .before .before .before .if1 .left) _ _ (c .before .before .before .before .before .before .is-framed .ensures) (c .before .before .before .before .before .if2 .taken) _ (c .before .before .framed .ensures) (c .before .if3 .left))
 
 returns-4 : tie.Need-returns-4
 returns-4 c = sym (not-asked _ _ (c .before .before .if1 .left) _ _ (c .before .is-framed .ensures) (c .if2 .left))
@@ -40,8 +40,8 @@ first-unframed-spec =
     (tie.spec
     returns
     is-framed-requires
-    sub-framed-atoms
-    framed-atoms-requires
+    sub-framed
+    framed-requires
     returns-2
     add-result
     returns-3
