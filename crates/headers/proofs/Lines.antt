@@ -50,7 +50,7 @@ use Rattle.emit.proofs.Methods.{method-written, method-names, method-length}
 use Rattle.emit.proofs.Header.{main-written, local-written}
 use Rattle.pass.specs.declared.Pass.{Pass}
 use Rattle.pass.specs.Passes.{counts, after, oneMore, nextRange, aboveAfter, withBlock, namesAfter, isFramed, Ready, lastClass, Stands, Tested, Room, item}
-use Rattle.headers.specs.Headers.{isHeader, moved, Held, HeaderPut}
+use Rattle.headers.specs.Headers.{isDeclaration, moved, Held, DeclarationPut}
 use Rattle.headers.proofs.Scopes.{block-alone, class-scope, field-scope, method-scope}
 use Rattle.headers.proofs.Fields.{last-of, last-changed, name-declared, number-new}
 
@@ -82,14 +82,14 @@ module _ (t w : List ℕ) (p : Pass) (l : Line) (w′ : List ℕ) where
         map (λ f. f .name) (lastClass F)
         ≡ map (fieldNumber (declarationsIn t w (p .names))) (scopeAfter (scopeIn t w (p .names) (p .above)) l .members .fields)
 
-  pub header-put :
+  pub declaration-put :
       isStatement (l .kind) ≡ false → isFramed (l .kind) ≡ false → counts (namesAfter (l .kind) (p .names)) ≡ counts (p .names) →
       ((F : Flat) → Stands t w p F → Grown (flatWith F (suc (p .line)) (item t w p l))) →
       declarationsIn t w′ (namesAfter (l .kind) (p .names)) ≡ declarationsIn t w (p .names) →
       scopeIn t w′ (namesAfter (l .kind) (p .names)) (aboveAfter (l .kind) (p .above)) ≡ scopeAfter (scopeIn t w (p .names) (p .above)) l →
-      length w′ ≡ length w → HeaderPut t w p l w′ (next (l .kind) p)
+      length w′ ≡ length w → DeclarationPut t w p l w′ (next (l .kind) p)
   unfolding oneMoreIf
-  header-put a b n g d s z =
+  declaration-put a b n g d s z =
       record {
         put =
             record {
@@ -116,7 +116,7 @@ module _ (t w : List ℕ) (p : Pass) (l : Line) (w′ : List ℕ) where
 -- `class`
 pub class-line :
     (t w : List ℕ) (p : Pass) (ws : List Name) → Ready t w p → Room t w p (lineWith Class ws) →
-    HeaderPut t w p (lineWith Class ws) (putClass w (p .above .classes)) (next Class p)
+    DeclarationPut t w p (lineWith Class ws) (putClass w (p .above .classes)) (next Class p)
 unfolding namesAfter aboveAfter nextRange isFramed itemOf flatWith lastClass Scope.opened Grammar.opened
 class-line t w p ws r m =
     let x = m .class refl in
@@ -129,7 +129,7 @@ class-line t w p ws r m =
       fields = omega (arith, r .above .fields);
       methods = omega (arith, r .above .methods);
     } in
-    header-put t w p (lineWith Class ws) (putClass w c) refl refl refl
+    declaration-put t w p (lineWith Class ws) (putClass w c) refl refl refl
     (λ F s.
     let n = end-length (F .classes) [] in
     record {
@@ -149,10 +149,10 @@ class-line t w p ws r m =
 
 -- `main`
 pub main-line :
-    (t w : List ℕ) (p : Pass) (ws : List Name) → HeaderPut t w p (lineWith Main ws) w (next Main p)
+    (t w : List ℕ) (p : Pass) (ws : List Name) → DeclarationPut t w p (lineWith Main ws) w (next Main p)
 unfolding namesAfter aboveAfter isFramed itemOf flatWith lastClass Scope.opened Grammar.opened
 main-line t w p ws =
-    header-put t w p (lineWith Main ws) w refl refl refl
+    declaration-put t w p (lineWith Main ws) w refl refl refl
     (λ F s.
     record {
       holds = main-written (counts (p .names)) w F (p .atoms) (suc (p .line)) (s .holds);
@@ -225,7 +225,7 @@ module _ (t w : List ℕ) (p : Pass) (ws : List Name) (k : ℕ) (r : Ready t w p
       let c : fieldCountAt w k ≡ p .above .fields .count = ap (fieldCountAt w) (sym e) ∙ h .fields (omega (arith, last)) in
       (omega (arith, r .above .classes, last), (omega (arith, name-small, r .names .fields), omega (arith, c, m .field refl .0 .1)))
 
-  pub field-line : HeaderPut t w p (lineWith Field ws) put (next Field p)
+  pub field-line : DeclarationPut t w p (lineWith Field ws) put (next Field p)
   unfolding namesAfter aboveAfter oneMore isFramed itemOf resolveField flatWith lastClass Scope.opened Grammar.opened
   field-line =
       let j : ℕ = fieldCountAt w k in
@@ -239,7 +239,7 @@ module _ (t w : List ℕ) (p : Pass) (ws : List Name) (k : ℕ) (r : Ready t w p
         fields = omega (arith, room .1 .0, r .names .fields);
         methods = r .above .methods;
       } in
-      header-put t w p (lineWith Field ws) put refl refl refl
+      declaration-put t w p (lineWith Field ws) put refl refl refl
       (λ F s.
       let e : length (F .classes) ≡ suc k = s .classes ∙ last in
       let i : pred (length (F .classes)) ≡ k = ap pred e in
@@ -335,7 +335,7 @@ module _
       block-rows with-row k s n j a b
       ∙ method-names w (after (p .above .methods)) (p .rows) (r .whole) few-methods j (omega arith) (omega arith)
 
-  pub method-line : HeaderPut t w p (lineWith Method ws) (putBlock with-row k n s) (next Method p)
+  pub method-line : DeclarationPut t w p (lineWith Method ws) (putBlock with-row k n s) (next Method p)
   unfolding namesAfter aboveAfter oneMore withBlock declarationsIn isFramed itemOf flatWith lastClass Scope.opened Grammar.opened
   method-line =
       let c : Names = withBlock true (p .names) in
@@ -353,7 +353,7 @@ module _
         fields = r .above .fields;
         methods = omega (arith, few-methods);
       } in
-      header-put t w p (lineWith Method ws) (putBlock with-row k n s) refl refl refl
+      declaration-put t w p (lineWith Method ws) (putBlock with-row k n s) refl refl refl
       (λ F x.
       let G : Flat = flatWith F (suc (p .line)) (item t w p (lineWith Method ws)) in
       let e = method-written (counts (p .names)) w F (p .atoms) (suc (p .line)) (omega (arith, few-methods, x .methods)) (x .holds) in
@@ -378,7 +378,7 @@ module _
 pub var-line :
     (t w : List ℕ) (p : Pass) (ws : List Name) (s g : Span) → Ready t w p → Room t w p (lineWith Var ws) →
     nameIn t g ≡ getD ws 0 [] → nameIn t s ≡ getD ws 1 [] → SpanFits s → SpanFits g →
-    HeaderPut t w p (lineWith Var ws) (putRow w (variables-first + (2 + p .names .locals)) (variableRow s g)) (next Var p)
+    DeclarationPut t w p (lineWith Var ws) (putRow w (variables-first + (2 + p .names .locals)) (variableRow s g)) (next Var p)
 unfolding namesAfter aboveAfter moreLocals declarationsIn scopeIn isFramed itemOf flatWith lastClass Scope.opened Grammar.opened
 var-line t w p ws s g r m type name fs fg =
     let i : ℕ = variables-first + (2 + p .names .locals) in
@@ -395,7 +395,7 @@ var-line t w p ws s g r m type name fs fg =
     let block =
     local-put t w (p .names) s g (r .whole) few fs fg
     ∙ (λ j. Scope.withLocal (blockIn t w (p .names)) (type j) (name j)) in
-    header-put t w p (lineWith Var ws) u refl refl refl
+    declaration-put t w p (lineWith Var ws) u refl refl refl
     (λ F x.
     record {
       holds =
@@ -416,8 +416,8 @@ var-line t w p ws s g r m type name fs fg =
 
 -- what is written and counted, by equations
 pub at-end :
-    {t w : List ℕ} {p : Pass} {l : Line} {w′ u : List ℕ} {q v : Pass} → u ≡ w′ → v ≡ q → HeaderPut t w p l w′ q → HeaderPut t w p l u v
-at-end {t} {w} {p} {l} {w′} {u} {q} {v} e f x = subst (λ z. HeaderPut t w p l z v) (sym e) (subst (HeaderPut t w p l w′) (sym f) x)
+    {t w : List ℕ} {p : Pass} {l : Line} {w′ u : List ℕ} {q v : Pass} → u ≡ w′ → v ≡ q → DeclarationPut t w p l w′ q → DeclarationPut t w p l u v
+at-end {t} {w} {p} {l} {w′} {u} {q} {v} e f x = subst (λ z. DeclarationPut t w p l z v) (sym e) (subst (DeclarationPut t w p l w′) (sym f) x)
 
 line-is : {ws : List Name} {n : ℕ} (k : Kind) → n ≡ kindNumber k → lineWith (kindNumbered n) ws ≡ lineWith k ws
 line-is {ws} k e = ap (λ k. lineWith k ws) (ap kindNumbered e ∙ kind-of-number k)
@@ -429,9 +429,9 @@ module _ {t w : List ℕ} {p : Pass} {ws : List Name} {n : ℕ} (k : Kind) (e : 
   pub room-as : Room t w p (lineWith (kindNumbered n) ws) → Room t w p (lineWith k ws)
   room-as x = subst (Room t w p) (line-is k e) x
 
-  pub put-as : {u : List ℕ} {q : Pass} → HeaderPut t w p (lineWith k ws) u q → HeaderPut t w p (lineWith (kindNumbered n) ws) u q
-  put-as {u} {q} x = subst (λ l. HeaderPut t w p l u q) (sym (line-is k e)) x
+  pub put-as : {u : List ℕ} {q : Pass} → DeclarationPut t w p (lineWith k ws) u q → DeclarationPut t w p (lineWith (kindNumbered n) ws) u q
+  put-as {u} {q} x = subst (λ l. DeclarationPut t w p l u q) (sym (line-is k e)) x
 
-pub last-kind : (n : ℕ) → isHeader n ≡ true → (n ≡ 1 → ⊥) → (n ≡ 2 → ⊥) → (n ≡ 3 → ⊥) → (n ≡ 6 → ⊥) → n ≡ 7
-unfolding isHeader
+pub last-kind : (n : ℕ) → isDeclaration n ≡ true → (n ≡ 1 → ⊥) → (n ≡ 2 → ⊥) → (n ≡ 3 → ⊥) → (n ≡ 6 → ⊥) → n ≡ 7
+unfolding isDeclaration
 last-kind n e a b c d = eqb-true n 7 (rw (ne-eqb n 1 a, ne-eqb n 2 b, ne-eqb n 3 c, ne-eqb n 6 d) at e)

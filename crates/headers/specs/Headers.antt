@@ -17,8 +17,8 @@ use Rattle.pass.specs.declared.Pass.{Pass}
 use Rattle.pass.specs.Passes.{LinePut}
 
 -- by the number of the kind
-unfoldable pub isHeader : ℕ → Bool
-isHeader k = eqb k 1 || (eqb k 2 || (eqb k 3 || (eqb k 6 || eqb k 7)))
+unfoldable pub isDeclaration : ℕ → Bool
+isDeclaration k = eqb k 1 || (eqb k 2 || (eqb k 3 || (eqb k 6 || eqb k 7)))
 
 -- the line of the kind numbered k whose word ends at r
 abbrev pub lineAfter : List ℕ → ℕ → ℕ → Line
@@ -35,6 +35,6 @@ moved p c a m =
     record { names = c; above = a; rows = p .rows; atoms = p .atoms; main = m; line = p .line + 1; unframed = p .unframed }
 
 -- The line is in the tables, and number 10 says nothing about it.
-pub record HeaderPut (t w : List ℕ) (p : Pass) (l : Line) (w′ : List ℕ) (q : Pass) : Type 0 where
+pub record DeclarationPut (t w : List ℕ) (p : Pass) (l : Line) (w′ : List ℕ) (q : Pass) : Type 0 where
   pub put : LinePut t w p l w′ q
   pub unframed : q .unframed ≡ p .unframed

@@ -17,7 +17,7 @@ ghost use Rattle.declared.specs.Meanings.{AboveFits};
 ghost use Rattle.declare.specs.Declares.{lineWith};
 ghost use Rattle.emit.specs.Puts.{putClass};
 ghost use Rattle.pass.specs.Passes.{Ready, Tested, Room, oneMore, withBlock, aboveAfter};
-ghost use Rattle.headers.specs.Headers.{isHeader, lineAfter, Held, moved, HeaderPut};
+ghost use Rattle.headers.specs.Headers.{isDeclaration, lineAfter, Held, moved, DeclarationPut};
 
 const ROW_BYTES: usize = 10;
 
@@ -115,7 +115,7 @@ fn in_method(c: Names) -> Names
 
 // PLACES OF NAMES
 
-// The name of the row i.
+// The name of the row i, which fits a row.
 fn name_at(work: &[u8], i: usize) -> Span
     requires { ⌜ (length (now work) ≡ work-bytes) × (i < most-rows) ⌝ }
     ensures { λ r. ⌜ (r ≡ nameAt (now (work .entry)) i) × SpanFits r ⌝ }
@@ -153,7 +153,7 @@ fn put_class(work: &mut [u8], p: Pass) -> Pass
 // `field T f`: one more field of the last class.
 fn put_field(text: &[u8], work: &mut [u8], p: Pass, r: usize) -> Pass
     requires { ⌜ Ready (now text) (now work) p × (r ≤ length (now text)) × Tested (now text) (now work) p (lineWith Field (more (drop r (now text)))) × Room (now text) (now work) p (lineWith Field (more (drop r (now text)))) × Held (now work) p ⌝ }
-    ensures { λ q. ⌜ HeaderPut (now (text .entry)) (now (work .entry)) p (lineWith Field (more (drop r (now (text .entry))))) (now (work .exit)) q ⌝ }
+    ensures { λ q. ⌜ DeclarationPut (now (text .entry)) (now (work .entry)) p (lineWith Field (more (drop r (now (text .entry))))) (now (work .exit)) q ⌝ }
 {
     let names = p.names;
     let above = p.above;
@@ -168,7 +168,7 @@ fn put_field(text: &[u8], work: &mut [u8], p: Pass, r: usize) -> Pass
 // `method T m T w`: the next method, from the next row on, and its block.
 fn put_method(text: &[u8], work: &mut [u8], p: Pass, r: usize) -> Pass
     requires { ⌜ Ready (now text) (now work) p × (r ≤ length (now text)) × Tested (now text) (now work) p (lineWith Method (more (drop r (now text)))) × Room (now text) (now work) p (lineWith Method (more (drop r (now text)))) × Held (now work) p ⌝ }
-    ensures { λ q. ⌜ HeaderPut (now (text .entry)) (now (work .entry)) p (lineWith Method (more (drop r (now (text .entry))))) (now (work .exit)) q ⌝ }
+    ensures { λ q. ⌜ DeclarationPut (now (text .entry)) (now (work .entry)) p (lineWith Method (more (drop r (now (text .entry))))) (now (work .exit)) q ⌝ }
 {
     let names = p.names;
     let above = p.above;
@@ -195,7 +195,7 @@ fn put_main(p: Pass) -> Pass
 // `var T x`: one more local.
 fn put_var(text: &[u8], work: &mut [u8], p: Pass, r: usize) -> Pass
     requires { ⌜ Ready (now text) (now work) p × (r ≤ length (now text)) × Tested (now text) (now work) p (lineWith Var (more (drop r (now text)))) × Room (now text) (now work) p (lineWith Var (more (drop r (now text)))) ⌝ }
-    ensures { λ q. ⌜ HeaderPut (now (text .entry)) (now (work .entry)) p (lineWith Var (more (drop r (now (text .entry))))) (now (work .exit)) q ⌝ }
+    ensures { λ q. ⌜ DeclarationPut (now (text .entry)) (now (work .entry)) p (lineWith Var (more (drop r (now (text .entry))))) (now (work .exit)) q ⌝ }
 {
     let names = p.names;
     let above = p.above;
@@ -207,8 +207,8 @@ fn put_var(text: &[u8], work: &mut [u8], p: Pass, r: usize) -> Pass
 
 // Puts the line of this kind (1 `class`, 2 `field`, 3 `method`, 6 `main`, 7 `var`) whose word ends at r.
 pub fn put_declaration(text: &[u8], work: &mut [u8], p: Pass, kind: u8, r: usize) -> Pass
-    requires { ⌜ Ready (now text) (now work) p × (r ≤ length (now text)) × (isHeader kind ≡ true) × Tested (now text) (now work) p (lineAfter (now text) r kind) × Room (now text) (now work) p (lineAfter (now text) r kind) × Held (now work) p ⌝ }
-    ensures { λ q. ⌜ HeaderPut (now (text .entry)) (now (work .entry)) p (lineAfter (now (text .entry)) r kind) (now (work .exit)) q ⌝ }
+    requires { ⌜ Ready (now text) (now work) p × (r ≤ length (now text)) × (isDeclaration kind ≡ true) × Tested (now text) (now work) p (lineAfter (now text) r kind) × Room (now text) (now work) p (lineAfter (now text) r kind) × Held (now work) p ⌝ }
+    ensures { λ q. ⌜ DeclarationPut (now (text .entry)) (now (work .entry)) p (lineAfter (now (text .entry)) r kind) (now (work .exit)) q ⌝ }
 {
     match kind {
         1 => put_class(work, p),
