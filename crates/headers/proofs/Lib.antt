@@ -1,0 +1,3 @@
+pub mod Scopes
+pub mod Fields
+pub mod Lines

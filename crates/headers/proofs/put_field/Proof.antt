@@ -1,0 +1,100 @@
+-- `headers::put_field` meets its contract. Assumes nothing.
+use mathlib.Core.Path.{_≡_, refl, ap, _∙_}
+use mathlib.Core.List.{[]}
+use Prim.Native.Nat.{suc, _-_}
+use native.Mathlib.Omega.{arith}
+use lib.ListN.{getD, drop}
+use Rattle.rules.specs.Base.{is}
+use Rattle.rules.specs.Grammar.{kindNumber, isKind}
+use Rattle.rules.specs.Names.{fieldNumber}
+use Rattle.lines.specs.Cuts.{more}
+use Rattle.declared.specs.Meanings.{declarationsIn}
+use Rattle.declare.proofs.Lines.{second}
+use Rattle.emit.specs.Puts.{putField}
+use Rattle.pass.specs.Passes.{namesAfter}
+use Rattle.headers.specs.Headers.{moved}
+use Rattle.headers.proofs.Lines.{field-fits, field-line, at-end}
+use borrow.Author.Needs.{needs}
+use Rattle.headers.proofs.put_field.Statement.{statement}
+use Rattle.headers.proofs.put_field.Tie as tie
+
+span-after-requires : tie.Need-span-after-requires
+span-after-requires c κs = search needs
+
+add-span-after : tie.Need-add-span-after
+add-span-after c = search needs
+
+span-after-requires-2 : tie.Need-span-after-requires-2
+span-after-requires-2 c κs = search needs
+
+is-int-requires : tie.Need-is-int-requires
+is-int-requires c κs = search needs
+
+name-in-requires : tie.Need-name-in-requires
+name-in-requires c κs = search needs
+
+field-number-requires : tie.Need-field-number-requires
+field-number-requires c κs = search needs
+
+sub-put-field : tie.Need-sub-put-field
+sub-put-field c = omega (arith, c .before .before .before .before .before .before .before .before .before .before .before .before .before .pre .3 .field refl .0 .0)
+
+put-field-requires : tie.Need-put-field-requires
+put-field-requires c κs =
+    let p = c .before .before .before .before .before .before .before .before .before .before .before .before .before .pre in
+    let v = c .before .before .before .before .before .before .before .before .before .before .before .before .before .args in
+    let x = c .before .before .before .before .before .before .before .before .span-after .ensures in
+    let y = c .before .before .before .before .before .before .span-after2 .ensures in
+    let ws = more (drop (v .r) (v .text .now)) in
+    let Γ = declarationsIn (v .text .now) (v .work .now) (v .p .names) in
+    let one = p .3 .field refl .0 .0 in
+    let last : v .p .above .classes ≡ suc (v .p .above .classes - 1) = omega (arith, one) in
+    let name : c .before .before .field-number .result ≡ fieldNumber Γ (getD ws 1 []) =
+    c .before .before .field-number .ensures .0 ∙ ap (fieldNumber Γ) (c .before .before .before .name-in .ensures ∙ second x y) in
+    let b = field-fits (v .text .now) (v .work .now) (v .p) ws (v .p .above .classes - 1) (p .0) (p .2) (p .3) (p .4) last in
+    ((p .0 .whole, b .0), (omega (arith, name, b .1 .0), b .1 .1))
+
+with-field-requires : tie.Need-with-field-requires
+with-field-requires c κs = search needs
+
+moved-requires : tie.Need-moved-requires
+moved-requires c κs = c .before .before .before .before .before .before .before .before .before .before .before .before .before .before .before .before .before .pre .3 .line
+
+same-length : tie.Need-same-length
+same-length c = search needs
+
+returns : tie.Need-returns
+unfolding namesAfter isKind kindNumber
+returns c =
+    let p = c .before .before .before .before .before .before .before .before .before .before .before .before .before .before .before .before .before .before .pre in
+    let v = c .before .before .before .before .before .before .before .before .before .before .before .before .before .before .before .before .before .before .args in
+    let x = c .before .before .before .before .before .before .before .before .before .before .before .before .before .span-after .ensures in
+    let y = c .before .before .before .before .before .before .before .before .before .before .before .span-after2 .ensures in
+    let ws = more (drop (v .r) (v .text .now)) in
+    let Γ = declarationsIn (v .text .now) (v .work .now) (v .p .names) in
+    let one = p .3 .field refl .0 .0 in
+    let last : v .p .above .classes ≡ suc (v .p .above .classes - 1) = omega (arith, one) in
+    let name : c .before .before .before .before .before .before .before .field-number .result ≡ fieldNumber Γ (getD ws 1 []) =
+    c .before .before .before .before .before .before .before .field-number .ensures .0 ∙ ap (fieldNumber Γ) (c .before .before .before .before .before .before .before .before .name-in .ensures ∙ second x y) in
+    let int = c .before .before .before .before .before .before .before .before .before .before .is-int .ensures ∙ ap (is "int") (x .name) in
+    at-end
+    (c .before .before .before .before .put-field .ensures ∙ (λ j. putField (v .work .now) (v .p .above .classes - 1) (name j) (int j)))
+    (c .moved .ensures ∙ (λ j. moved (v .p) (v .p .names) (c .before .with-field .ensures j) (v .p .main)))
+    (field-line (v .text .now) (v .work .now) (v .p) ws (v .p .above .classes - 1) (p .0) (p .2) (p .3) (p .4) last)
+
+pub put-field-spec : {M : Type 1} → statement M
+put-field-spec =
+    tie.close
+    (tie.spec
+    span-after-requires
+    add-span-after
+    span-after-requires-2
+    is-int-requires
+    name-in-requires
+    field-number-requires
+    sub-put-field
+    put-field-requires
+    with-field-requires
+    moved-requires
+    same-length
+    returns)

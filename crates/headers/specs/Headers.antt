@@ -1,0 +1,40 @@
+-- Lines that declare and add no statement row: `class`, `field`, `method`, `main`, `var`.
+use mathlib.Core.Path.{_≡_}
+use mathlib.Core.Bool.{Bool, _||_}
+use mathlib.Core.List.{List}
+use Prim.Native.Nat.{ℕ, pred, _+_, _≤_}
+use lib.Dec.{eqb}
+use lib.ListN.{drop}
+use Rattle.rules.specs.Limits.{most-statements}
+use Rattle.rules.specs.Grammar.{Line}
+use Rattle.lines.specs.Cuts.{more}
+use Rattle.lines.specs.Rows.{kindNumbered}
+use Rattle.tables.specs.Decode.{fieldCountAt}
+use Rattle.declared.specs.declared.Names.{Names}
+use Rattle.declared.specs.declared.Above.{Above}
+use Rattle.declare.specs.Declares.{lineWith}
+use Rattle.pass.specs.declared.Pass.{Pass}
+use Rattle.pass.specs.Passes.{LinePut}
+
+-- by the number of the kind
+unfoldable pub isDeclaration : ℕ → Bool
+isDeclaration k = eqb k 1 || (eqb k 2 || (eqb k 3 || (eqb k 6 || eqb k 7)))
+
+-- the line of the kind numbered k whose word ends at r
+abbrev pub lineAfter : List ℕ → ℕ → ℕ → Line
+lineAfter t r k = lineWith (kindNumbered k) (more (drop r t))
+
+-- The rows that are written fit, and the last class has as many fields as are counted. Where the tables stand, they do.
+pub record Held (w : List ℕ) (p : Pass) : Type 0 where
+  pub rows : p .rows ≤ most-statements
+  pub fields : 1 ≤ p .above .classes → fieldCountAt w (pred (p .above .classes)) ≡ p .above .fields .count
+
+-- one line further, without a row or an atom more
+abbrev pub moved : Pass → Names → Above → ℕ → Pass
+moved p c a m =
+    record { names = c; above = a; rows = p .rows; atoms = p .atoms; main = m; line = p .line + 1; unframed = p .unframed }
+
+-- The line is in the tables, and number 10 says nothing about it.
+pub record DeclarationPut (t w : List ℕ) (p : Pass) (l : Line) (w′ : List ℕ) (q : Pass) : Type 0 where
+  pub put : LinePut t w p l w′ q
+  pub unframed : q .unframed ≡ p .unframed

@@ -1,0 +1,220 @@
+use declared::Above;
+use declared::Names;
+use declared::Range;
+use declared::Span;
+use pass::Pass;
+use tables::Layout;
+ghost use mathlib.Core.Path.{_≡_};
+ghost use mathlib.Core.Bool.{true};
+ghost use mathlib.Core.List.{[]};
+ghost use Prim.Native.Nat.{_+_, _≤_, _<_};
+ghost use lib.ListN.{length, getD, drop};
+ghost use Rattle.rules.specs.Limits.{work-bytes, most-bytes, most-classes};
+ghost use Rattle.rules.specs.Grammar.{Class, Field, Method, Var};
+ghost use Rattle.lines.specs.Cuts.{more};
+ghost use Rattle.declared.specs.Rows.{nameIn, nameAt, most-rows, SpanFits};
+ghost use Rattle.declared.specs.Meanings.{AboveFits};
+ghost use Rattle.declare.specs.Declares.{lineWith};
+ghost use Rattle.emit.specs.Puts.{putClass};
+ghost use Rattle.pass.specs.Passes.{Ready, Tested, Room, oneMore, withBlock, aboveAfter};
+ghost use Rattle.headers.specs.Headers.{isDeclaration, lineAfter, Held, moved, DeclarationPut};
+
+const ROW_BYTES: usize = 10;
+
+// THE COUNTS
+
+fn moved(p: Pass, names: Names, above: Above, main: usize) -> Pass
+    requires { ⌜ p .line < most-bytes ⌝ }
+    ensures { λ q. ⌜ q ≡ moved p names above main ⌝ }
+{
+    Pass {
+        names,
+        above,
+        rows: p.rows,
+        atoms: p.atoms,
+        main,
+        line: p.line + 1,
+        unframed: p.unframed,
+    }
+}
+
+fn after(r: Range) -> usize
+    requires { ⌜ r .first + r .count < 65536 ⌝ }
+    ensures { λ n. ⌜ n ≡ r .first + r .count ⌝ }
+{
+    r.first + r.count
+}
+
+fn with_class(a: Above) -> Above
+    requires { ⌜ AboveFits a ⌝ }
+    ensures { λ b. ⌜ b ≡ aboveAfter Class a ⌝ }
+{
+    let fields = a.fields;
+    let methods = a.methods;
+    Above {
+        classes: a.classes + 1,
+        fields: Range {
+            first: after(fields),
+            count: 0,
+        },
+        methods: Range {
+            first: after(methods),
+            count: 0,
+        },
+    }
+}
+
+fn one_more(r: Range) -> Range
+    requires { ⌜ r .first + r .count < 65536 ⌝ }
+    ensures { λ s. ⌜ s ≡ oneMore r ⌝ }
+{
+    Range {
+        first: r.first,
+        count: r.count + 1,
+    }
+}
+
+fn with_field(a: Above) -> Above
+    requires { ⌜ AboveFits a ⌝ }
+    ensures { λ b. ⌜ b ≡ aboveAfter Field a ⌝ }
+{
+    let fields = a.fields;
+    let methods = a.methods;
+    Above {
+        classes: a.classes,
+        fields: one_more(fields),
+        methods,
+    }
+}
+
+fn with_method(a: Above) -> Above
+    requires { ⌜ AboveFits a ⌝ }
+    ensures { λ b. ⌜ b ≡ aboveAfter Method a ⌝ }
+{
+    let fields = a.fields;
+    let methods = a.methods;
+    Above {
+        classes: a.classes,
+        fields,
+        methods: one_more(methods),
+    }
+}
+
+fn in_method(c: Names) -> Names
+    ensures { λ d. ⌜ d ≡ withBlock true c ⌝ }
+{
+    Names {
+        classes: c.classes,
+        fields: c.fields,
+        methods: c.methods,
+        method: true,
+        locals: 0,
+        result: true,
+    }
+}
+
+// PLACES OF NAMES
+
+// The name of the row i, which fits a row.
+fn name_at(work: &[u8], i: usize) -> Span
+    requires { ⌜ (length (now work) ≡ work-bytes) × (i < most-rows) ⌝ }
+    ensures { λ r. ⌜ (r ≡ nameAt (now (work .entry)) i) × SpanFits r ⌝ }
+{
+    let at = Layout::NAMES + i * ROW_BYTES + 1;
+    let start = tables::half_at(work, at);
+    let len = tables::byte_at(work, at + 2);
+    Span { start, len }
+}
+
+// The fourth field after the word that ends at r.
+fn fourth(text: &[u8], r: usize) -> Span
+    requires { ⌜ r ≤ length (now text) ⌝ }
+    ensures { λ s. ⌜ (nameIn (now (text .entry)) s ≡ getD (more (drop r (now (text .entry)))) 3 []) × (s .start + s .len ≤ length (now (text .entry))) ⌝ }
+{
+    let a = declare::span_after(text, r);
+    let b = declare::span_after(text, a.start + a.len);
+    let c = declare::span_after(text, b.start + b.len);
+    declare::span_after(text, c.start + c.len)
+}
+
+// ONE LINE: its word ends at r
+
+// `class C`: the next class. Its name stands in its row.
+fn put_class(work: &mut [u8], p: Pass) -> Pass
+    requires { ⌜ (length (now work) ≡ work-bytes) × AboveFits (p .above) × (p .above .classes < most-classes) × (p .line < most-bytes) ⌝ }
+    ensures { λ q. ⌜ (q ≡ moved p (p .names) (aboveAfter Class (p .above)) (p .main)) × (now (work .exit) ≡ putClass (now (work .entry)) (p .above .classes)) ⌝ }
+{
+    let names = p.names;
+    let above = p.above;
+    emit::put_class(work, above.classes);
+    moved(p, names, with_class(above), p.main)
+}
+
+// `field T f`: one more field of the last class.
+fn put_field(text: &[u8], work: &mut [u8], p: Pass, r: usize) -> Pass
+    requires { ⌜ Ready (now text) (now work) p × (r ≤ length (now text)) × Tested (now text) (now work) p (lineWith Field (more (drop r (now text)))) × Room (now text) (now work) p (lineWith Field (more (drop r (now text)))) × Held (now work) p ⌝ }
+    ensures { λ q. ⌜ DeclarationPut (now (text .entry)) (now (work .entry)) p (lineWith Field (more (drop r (now (text .entry))))) (now (work .exit)) q ⌝ }
+{
+    let names = p.names;
+    let above = p.above;
+    let gives = declare::span_after(text, r);
+    let name = declare::span_after(text, gives.start + gives.len);
+    let int = declared::is_int(text, gives);
+    let f = declared::field_number(text, work, names, declared::name_in(text, name));
+    emit::put_field(work, above.classes - 1, f, int);
+    moved(p, names, with_field(above), p.main)
+}
+
+// `method T m T w`: the next method, from the next row on, and its block.
+fn put_method(text: &[u8], work: &mut [u8], p: Pass, r: usize) -> Pass
+    requires { ⌜ Ready (now text) (now work) p × (r ≤ length (now text)) × Tested (now text) (now work) p (lineWith Method (more (drop r (now text)))) × Room (now text) (now work) p (lineWith Method (more (drop r (now text)))) × Held (now work) p ⌝ }
+    ensures { λ q. ⌜ DeclarationPut (now (text .entry)) (now (work .entry)) p (lineWith Method (more (drop r (now (text .entry))))) (now (work .exit)) q ⌝ }
+{
+    let names = p.names;
+    let above = p.above;
+    let methods = above.methods;
+    let owner = above.classes - 1;
+    let class = name_at(work, owner);
+    let m = declare::method_row(text, r, owner);
+    let parameter = fourth(text, r);
+    emit::put_method(work, after(methods), p.rows);
+    declared::put_block(work, class, m, parameter);
+    moved(p, in_method(names), with_method(above), p.main)
+}
+
+// `main`: its first row is the next.
+fn put_main(p: Pass) -> Pass
+    requires { ⌜ p .line < most-bytes ⌝ }
+    ensures { λ q. ⌜ q ≡ moved p (p .names) (p .above) (p .rows) ⌝ }
+{
+    let names = p.names;
+    let above = p.above;
+    moved(p, names, above, p.rows)
+}
+
+// `var T x`: one more local.
+fn put_var(text: &[u8], work: &mut [u8], p: Pass, r: usize) -> Pass
+    requires { ⌜ Ready (now text) (now work) p × (r ≤ length (now text)) × Tested (now text) (now work) p (lineWith Var (more (drop r (now text)))) × Room (now text) (now work) p (lineWith Var (more (drop r (now text)))) ⌝ }
+    ensures { λ q. ⌜ DeclarationPut (now (text .entry)) (now (work .entry)) p (lineWith Var (more (drop r (now (text .entry))))) (now (work .exit)) q ⌝ }
+{
+    let names = p.names;
+    let above = p.above;
+    let gives = declare::span_after(text, r);
+    let name = declare::span_after(text, gives.start + gives.len);
+    let grown = declared::put_local(work, names, name, gives);
+    moved(p, grown, above, p.main)
+}
+
+// Puts the line of this kind (1 `class`, 2 `field`, 3 `method`, 6 `main`, 7 `var`) whose word ends at r.
+pub fn put_declaration(text: &[u8], work: &mut [u8], p: Pass, kind: u8, r: usize) -> Pass
+    requires { ⌜ Ready (now text) (now work) p × (r ≤ length (now text)) × (isDeclaration kind ≡ true) × Tested (now text) (now work) p (lineAfter (now text) r kind) × Room (now text) (now work) p (lineAfter (now text) r kind) × Held (now work) p ⌝ }
+    ensures { λ q. ⌜ DeclarationPut (now (text .entry)) (now (work .entry)) p (lineAfter (now (text .entry)) r kind) (now (work .exit)) q ⌝ }
+{
+    match kind {
+        1 => put_class(work, p),
+        2 => put_field(text, work, p, r),
+        3 => put_method(text, work, p, r),
+        6 => put_main(p),
+        _ => put_var(text, work, p, r),
+    }
+}
