@@ -94,7 +94,7 @@ module _ (t w : List ℕ) (p : Pass) (l : Line) (w′ : List ℕ) where
         put =
             record {
               counted =
-                  record { names = refl; above = refl; rows = rw a; atoms = omega arith; main = refl; line = refl };
+                  record { names = refl; above = refl; rows = rw a; grown = omega arith; atoms = omega arith; main = refl; line = refl };
               built = λ F h.
                   let x = g F h in
                   record {

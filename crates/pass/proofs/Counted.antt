@@ -19,7 +19,7 @@ use Rattle.declared.specs.declared.Names.{Names}
 use Rattle.declared.specs.declared.Above.{Above}
 use Rattle.declared.specs.Meanings.{moreLocals}
 use Rattle.pass.specs.declared.Pass.{Pass}
-use Rattle.pass.specs.Passes.{after, oneMore, nextRange, aboveAfter, withBlock, namesAfter, hasAtoms, Counts}
+use Rattle.pass.specs.Passes.{firstPass, after, oneMore, nextRange, aboveAfter, withBlock, namesAfter, hasAtoms, Counts}
 use Rattle.pass.proofs.Stages.{neededAt, spareAt, localsAt, classesAt, methodsAt, atLeast, limits}
 use Rattle.pass.proofs.Stages.{at-header, at-requires, at-body, at-between, at-class, stage-from, stage-to}
 
@@ -39,19 +39,6 @@ pub record Counted (place : Place) (p : Pass) : Type 0 where
   pub methods : after (p .above .methods) ≡ place .methods
   pub result : p .names .result ≡ p .names .method
   pub staged : Staged place (p .names .locals) (p .atoms)
-
--- no line is above
-abbrev pub firstPass : Names → Pass
-firstPass r =
-    record {
-      names = r;
-      above = record { classes = 0; fields = record { first = 0; count = 0 }; methods = record { first = 0; count = 0 } };
-      rows = 0;
-      atoms = 0;
-      main = 0;
-      line = 0;
-      unframed = 0;
-    }
 
 pub counted-first : (r : Names) → r .method ≡ false → r .locals ≡ 0 → r .result ≡ false → Counted firstPlace (firstPass r)
 unfolding stageNumber

@@ -19,9 +19,9 @@ use Rattle.declared.specs.Meanings.{Fits, moreLocals, declarationsIn}
 use Rattle.declare.specs.Texts.{linesOf}
 use Rattle.declare.specs.Declares.{Declares}
 use Rattle.pass.specs.declared.Pass.{Pass}
-use Rattle.pass.specs.Passes.{namesAfter, withBlock, Ready, Room, LinePut}
+use Rattle.pass.specs.Passes.{firstPass, namesAfter, withBlock, Ready, Room, LinePut}
 use Rattle.pass.proofs.Stages.{localsAt, limits, at-least}
-use Rattle.pass.proofs.Counted.{Counted, firstPass, counted-first, counted-on}
+use Rattle.pass.proofs.Counted.{Counted, counted-first, counted-on}
 use Rattle.pass.proofs.Counted.{rows-room, fields-room, method-room, local-room, header-room, atoms-room}
 use Rattle.pass.proofs.Declared.{Follow, follow-first, follow-on, above-fits, class-next, field-next, method-next}
 

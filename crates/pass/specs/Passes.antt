@@ -81,6 +81,19 @@ hasAtoms k =
     || ((isKind Grammar.Let k || isKind Grammar.If k)
     || (isKind Grammar.Assert k || (isKind Grammar.Release k || isKind Grammar.Join k)))
 
+-- before the first line
+abbrev pub firstPass : Names → Pass
+firstPass r =
+    record {
+      names = r;
+      above = record { classes = 0; fields = record { first = 0; count = 0 }; methods = record { first = 0; count = 0 } };
+      rows = 0;
+      atoms = 0;
+      main = 0;
+      line = 0;
+      unframed = 0;
+    }
+
 -- number 10 is about these
 unfoldable pub isFramed : Kind → Bool
 isFramed k = isKind Grammar.Requires k || (isKind Grammar.Ensures k || isKind Grammar.Join k)

@@ -1,5 +1,5 @@
 -- One line of pass 2: what number 10 finds in it.
-use mathlib.Core.Path.{_≡_, refl, sym, ap, _∙_}
+use mathlib.Core.Path.{_≡_, refl, sym, ap, subst, _∙_}
 use mathlib.Core.Bool.{Bool, true, false, cond, _||_}
 use mathlib.Core.List.{List, []}
 use Prim.Native.Nat.{ℕ, suc, _-_, _≤_}
@@ -14,7 +14,7 @@ use Rattle.assembly.specs.Flat.{Flat}
 use Rattle.pass.specs.declared.Pass.{Pass}
 use Rattle.pass.specs.Passes.{isFramed, Ready, Stands, Room, LinePut, item, unframedAfter}
 use Rattle.pass.proofs.Unframed.{framed-formula, framed-other}
-use Rattle.reader.specs.Readings.{Between, unframedBy, withUnframed}
+use Rattle.reader.specs.Readings.{Between, LineTaken, unframedBy, withUnframed}
 
 -- the kinds that number 10 is about, by their numbers
 pub framed-number : (n : ℕ) → 1 ≤ n → n ≤ 18 → isFramed (kindNumbered n) ≡ (eqb 4 n || (eqb 5 n || eqb 17 n))
@@ -70,6 +70,9 @@ module _ {t w : List ℕ} {p : Pass} {l : Line} {w′ : List ℕ} {q : Pass} (x 
         low = x .counted .grown;
         high = x .built F s .holds .atoms .few;
       }
+
+pub line-as : {t w : List ℕ} {p : Pass} {l l′ : Line} {w′ : List ℕ} {q : Pass} → l ≡ l′ → LineTaken t w p l w′ q → LineTaken t w p l′ w′ q
+line-as {t} {w} {p} {w′ = w′} {q = q} e x = subst (λ (l : Line). LineTaken t w p l w′ q) e x
 
 -- THE TEST, STEP BY STEP
 module _ (p : Pass) (φ : Formula ℕ) (none : p .unframed ≡ 0) (b r : Bool) (is : r ≡ b) where

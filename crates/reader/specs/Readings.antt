@@ -1,6 +1,6 @@
 -- What the reader's answers mean: the refusal of each case, and the tables of a text that is taken.
 use mathlib.Core.Path.{_≡_}
-use mathlib.Core.Bool.{Bool, false, cond}
+use mathlib.Core.Bool.{Bool, cond}
 use mathlib.Core.List.{List, []}
 use Prim.Native.Nat.{ℕ, suc, _≤_, _<_}
 use lib.Dec.{eqb}
@@ -17,8 +17,7 @@ use Rattle.rules.specs.Reading.{readText, framed, checkFramed, program}
 use Rattle.tables.specs.Layout.{most-atom-rows}
 use Rattle.tables.specs.Decode.{programIn}
 use Rattle.tables.specs.Tables.{Tables}
-use Rattle.declared.specs.declared.Names.{Names}
-use Rattle.declared.specs.Meanings.{Fits, declarationsIn, scopeIn}
+use Rattle.declared.specs.Meanings.{declarationsIn, scopeIn}
 use Rattle.assembly.specs.Flat.{Flat, noFlat, flatFrom}
 use Rattle.declare.specs.Texts.{linesOf}
 use Rattle.pass.specs.declared.Pass.{Pass}
@@ -77,34 +76,12 @@ pub record LineRead (t w : List ℕ) (p : Pass) (l : Line) (w′ : List ℕ) (q 
 unfoldable pub StepIs : (t w : List ℕ) (p : Pass) (l : Line) (w′ : List ℕ) → Step → Type 0
 StepIs t w p l w′ (Step.On q) = LineRead t w p l w′ q
 StepIs t w p l w′ (Step.Refused r) =
-    resolveLine (declarationsIn t w (p .names)) (scopeIn t w (p .names) (p .above)) l ≡ no (refusalOf r)
+    (resolveLine (declarationsIn t w (p .names)) (scopeIn t w (p .names) (p .above)) l ≡ no (refusalOf r)) × (w′ ≡ w)
 
 -- ALL LINES
 
 abbrev pub resolvedText : List ℕ → Verdict (List Item)
 resolvedText t = resolveLines (declarations (linesOf t)) (linesOf t) 0 firstScope
-
--- before the first line
-unfoldable pub firstPass : Names → Pass
-firstPass c =
-    record {
-      names = c;
-      above =
-          record { classes = 0; fields = record { first = 0; count = 0 }; methods = record { first = 0; count = 0 } };
-      rows = 0;
-      atoms = 0;
-      main = 0;
-      line = 0;
-      unframed = 0;
-    }
-
--- the declarations of the text stand in w, and no block is open
-pub record DeclaredIn (t w : List ℕ) (c : Names) : Type 0 where
-  pub are : declarationsIn t w c ≡ declarations (linesOf t)
-  pub fits : Fits c
-  pub method : c .method ≡ false
-  pub locals : c .locals ≡ 0
-  pub result : c .result ≡ false
 
 -- all lines are in the tables
 pub record AllRead (t w : List ℕ) (p : Pass) : Type 0 where

@@ -19,8 +19,8 @@ ghost use Rattle.tables.specs.Decode.{atomsFrom};
 ghost use Rattle.tables.specs.Tables.{AtomFits};
 ghost use Rattle.declare.specs.Texts.{Taken, lineAt, FormedAt};
 ghost use Rattle.declare.specs.Declares.{lineWith, Declares};
-ghost use Rattle.pass.specs.Passes.{Ready, Tested, Room, LinePut, isFramed, seenBy};
-ghost use Rattle.reader.specs.Readings.{unframedBy, withUnframed, Between, Written, LineTaken, StepIs, firstPass, DeclaredIn, ResolvedIs, ReadingIs, refusalOf};
+ghost use Rattle.pass.specs.Passes.{firstPass, Ready, Tested, Room, LinePut, isFramed, seenBy};
+ghost use Rattle.reader.specs.Readings.{unframedBy, withUnframed, Between, Written, LineTaken, StepIs, ResolvedIs, ReadingIs, refusalOf};
 
 // Why a text is refused.
 pub enum Refusal {
@@ -163,8 +163,8 @@ fn first_pass(names: Names) -> Pass
 
 // Names, types and targets of every line of a text that pass 1 takes and whose declarations stand in the work area.
 fn read_lines(text: &[u8], work: &mut [u8], names: Names) -> Resolved
-    requires { ⌜ (length (now text) ≤ most-bytes) × (length (now work) ≡ work-bytes) × Taken (now text) × DeclaredIn (now text) (now work) names ⌝ }
-    ensures { λ r. ⌜ ResolvedIs (now (text .entry)) (now (work .exit)) r ⌝ }
+    requires { ⌜ (length (now text) ≤ most-bytes) × (length (now work) ≡ work-bytes) × Taken (now text) × Declares (now text) (now work) (now work) names ⌝ }
+    ensures { λ r. ⌜ ResolvedIs (now (text .entry)) (now (work .exit)) r × (length (now (work .exit)) ≡ work-bytes) ⌝ }
 {
     let mut p = first_pass(names);
     let mut at = 0;
@@ -206,7 +206,7 @@ fn scan_refusal(r: lines::Refusal) -> Refusal
 // Pass 2 over a text that pass 1 takes.
 fn resolve(text: &[u8], work: &mut [u8]) -> Reading
     requires { ⌜ (length (now text) ≤ most-bytes) × (length (now work) ≡ work-bytes) × Taken (now text) ⌝ }
-    ensures { λ r. ⌜ ReadingIs (now (text .entry)) (now (work .exit)) r ⌝ }
+    ensures { λ r. ⌜ ReadingIs (now (text .entry)) (now (work .exit)) r × (length (now (work .exit)) ≡ work-bytes) ⌝ }
 {
     let names = declare::declare(text, work);
     let r = read_lines(text, work, names);
@@ -223,7 +223,7 @@ fn resolve(text: &[u8], work: &mut [u8]) -> Reading
 // The text as tables in the work area, or its number and line.
 pub fn read(text: &[u8], work: &mut [u8]) -> Reading
     requires { ⌜ length (now work) ≡ work-bytes ⌝ }
-    ensures { λ r. ⌜ ReadingIs (now (text .entry)) (now (work .exit)) r ⌝ }
+    ensures { λ r. ⌜ ReadingIs (now (text .entry)) (now (work .exit)) r × (length (now (work .exit)) ≡ work-bytes) ⌝ }
 {
     if Machine::TEXT_BYTES < text.len() {
         return Reading::Refused(Refusal::TextTooLong, 0);

@@ -6,7 +6,6 @@ use Rattle.reader.proofs.first_pass.Lts as lts
 
 -- src/lib.rt:147:1
 returns : tie.Need-returns
-unfolding Rattle.reader.specs.Readings.firstPass
 returns c = refl
 
 pub first-pass-spec : {M : Type 1} → statement M

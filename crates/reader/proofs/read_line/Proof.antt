@@ -5,10 +5,10 @@ use Rattle.declared.specs.Meanings.{Fits}
 use Rattle.judge.specs.declared.Judged.{Judged}
 use Rattle.judge.specs.Refusals as Judges
 use Rattle.reader.specs.declared.Refusal.{Refusal}
-use Rattle.rules.specs.Grammar.{Line}
 use Rattle.pass.specs.Passes.{Tested, Room}
-use Rattle.reader.specs.Readings.{refusalOf, LineTaken, StepIs}
+use Rattle.reader.specs.Readings.{refusalOf, StepIs}
 use Rattle.reader.proofs.Judged.{word-bounds, word-line, word-formed, seen-fits, good-tested, good-resolved, bad-resolved}
+use Rattle.reader.proofs.Lines.{line-as}
 use Rattle.reader.proofs.read_line.Statement.{statement}
 use Rattle.reader.proofs.read_line.Tie as tie
 
@@ -44,21 +44,21 @@ same-length c = refl
 
 returns : tie.Need-returns
 unfolding StepIs Judges.refusalOf refusalOf
-returns c = bad-resolved _ _ (c .before .before .before .before .before .before .before .before .before .before .args .p) _ (c .before .before .before .before .before .before .before .word-at .ensures) (c .before .before .before .before .before .before .before .before .before .before .pre .2) _ (c .before .before .before .before .seen .ensures) (c .before .before .judge .result) (c .before .before .judge .ensures) Judged.Undeclared Refusal.Undeclared (sym (c .enum-told .given .1)) refl
+returns c = (bad-resolved _ _ (c .before .before .before .before .before .before .before .before .before .before .args .p) _ (c .before .before .before .before .before .before .before .word-at .ensures) (c .before .before .before .before .before .before .before .before .before .before .pre .2) _ (c .before .before .before .before .seen .ensures) (c .before .before .judge .result) (c .before .before .judge .ensures) Judged.Undeclared Refusal.Undeclared (sym (c .enum-told .given .1)) refl, refl)
 
 same-length-2 : tie.Need-same-length-2
 same-length-2 c = refl
 
 returns-2 : tie.Need-returns-2
 unfolding StepIs Judges.refusalOf refusalOf
-returns-2 c = bad-resolved _ _ (c .before .before .before .before .before .before .before .before .before .before .args .p) _ (c .before .before .before .before .before .before .before .word-at .ensures) (c .before .before .before .before .before .before .before .before .before .before .pre .2) _ (c .before .before .before .before .seen .ensures) (c .before .before .judge .result) (c .before .before .judge .ensures) Judged.WrongType Refusal.WrongType (sym (c .enum-told2 .given .1)) refl
+returns-2 c = (bad-resolved _ _ (c .before .before .before .before .before .before .before .before .before .before .args .p) _ (c .before .before .before .before .before .before .before .word-at .ensures) (c .before .before .before .before .before .before .before .before .before .before .pre .2) _ (c .before .before .before .before .seen .ensures) (c .before .before .judge .result) (c .before .before .judge .ensures) Judged.WrongType Refusal.WrongType (sym (c .enum-told2 .given .1)) refl, refl)
 
 same-length-3 : tie.Need-same-length-3
 same-length-3 c = refl
 
 returns-3 : tie.Need-returns-3
 unfolding StepIs Judges.refusalOf refusalOf
-returns-3 c = bad-resolved _ _ (c .before .before .before .before .before .before .before .before .before .before .args .p) _ (c .before .before .before .before .before .before .before .word-at .ensures) (c .before .before .before .before .before .before .before .before .before .before .pre .2) _ (c .before .before .before .before .seen .ensures) (c .before .before .judge .result) (c .before .before .judge .ensures) Judged.WrongTarget Refusal.WrongTarget (sym (c .enum-told3 .given .1)) refl
+returns-3 c = (bad-resolved _ _ (c .before .before .before .before .before .before .before .before .before .before .args .p) _ (c .before .before .before .before .before .before .before .word-at .ensures) (c .before .before .before .before .before .before .before .before .before .before .pre .2) _ (c .before .before .before .before .seen .ensures) (c .before .before .judge .result) (c .before .before .judge .ensures) Judged.WrongTarget Refusal.WrongTarget (sym (c .enum-told3 .given .1)) refl, refl)
 
 same-length-4 : tie.Need-same-length-4
 same-length-4 c = c .before .before .take-line .ensures .put .size
@@ -67,7 +67,7 @@ returns-4 : tie.Need-returns-4
 unfolding StepIs
 returns-4 c =
     record {
-      taken = subst (λ (l : Line). LineTaken _ _ (c .before .before .before .before .before .before .before .before .before .before .before .before .before .before .args .p) l _ _) (word-line (c .before .before .before .before .before .before .before .before .before .before .before .word-at .ensures) (c .before .before .before .before .before .before .before .before .before .before .before .before .before .before .pre .2)) (c .before .before .take-line .ensures);
+      taken = line-as (word-line (c .before .before .before .before .before .before .before .before .before .before .before .word-at .ensures) (c .before .before .before .before .before .before .before .before .before .before .before .before .before .before .pre .2)) (c .before .before .take-line .ensures);
       resolved = good-resolved _ _ (c .before .before .before .before .before .before .before .before .before .before .before .before .before .before .args .p) _ (c .before .before .before .before .before .before .before .before .before .before .before .word-at .ensures) (c .before .before .before .before .before .before .before .before .before .before .before .before .before .before .pre .2) _ (c .before .before .before .before .before .before .before .before .seen .ensures) (c .before .before .before .before .before .before .judge .result) (c .before .before .before .before .before .before .judge .ensures) (sym (c .before .before .before .before .enum-told4 .given .1));
     }
 

@@ -1,0 +1,223 @@
+-- Pass 2, line by line: the items of the lines above, and what resolving the lines that are left gives.
+use mathlib.Core.Path.{_≡_, refl, sym, ap, ap₂, subst, _∙_}
+use mathlib.Core.Bool.{false}
+use mathlib.Core.List.{List, [], _∷_, _++_, append-nil, append-assoc}
+use Prim.Native.Nat.{ℕ, zero, suc, _+_, _≤_, _<_}
+use native.Mathlib.Omega.{arith}
+use native.Mathlib.Numerals.{add-one}
+use lib.ListN.{length, drop}
+use Rattle.rules.specs.Limits.{most-bytes, work-bytes}
+use Rattle.rules.specs.Base.{Try, ok, no}
+use Rattle.rules.specs.Answers.{Refusal, Verdict, accepted, refused, atLine, then}
+use Rattle.rules.specs.Text.{lines}
+use Rattle.rules.specs.Grammar.{Line}
+use Rattle.rules.specs.Places.{Place, firstPlace, placeAfter}
+use Rattle.rules.specs.Scope.{Declarations, Scope, declarations, firstScope, scopeAfter, classesOf, fieldsOf, methodsOf}
+use Rattle.rules.specs.Items.{Item, resolveLine, resolveLines}
+use Rattle.rules.specs.Reading.{checkFramed}
+use Rattle.leaves.specs.Sets.{Found}
+use Rattle.leaves.specs.declared.Set.the-variants.{LineEnd}
+use Rattle.declared.specs.declared.Names.{Names}
+use Rattle.declared.specs.Rows.{rows}
+use Rattle.declared.specs.Meanings.{declarationsIn, namesFrom, blockIn, ownVariables, classAbove, scopeIn}
+use Rattle.declared.proofs.Searches.{rows-length}
+use Rattle.declare.specs.Texts.{linesOf, Taken, lineAt, FormedAt}
+use Rattle.declare.specs.Declares.{Declares}
+use Rattle.declare.proofs.Walks.{Walking, walking-first, walking-done, walking-clean, walking-formed, walking-placed, walking-lines, walking-on}
+use Rattle.assembly.specs.Flat.{Flat, noFlat, flatFrom, flatWith}
+use Rattle.emit.proofs.Kept.{none-written}
+use Rattle.pass.specs.declared.Pass.{Pass}
+use Rattle.pass.specs.Passes.{counts, firstPass, after, lastClass, Ready, Stands, Room, LinePut, item, unframedAfter}
+use Rattle.pass.proofs.Declared.{Rest}
+use Rattle.pass.proofs.Places.{At, at-first, at-ready, at-room, at-on}
+use Rattle.pass.proofs.Unframed.{framedAfter, framed-first, framed-on, framed-last}
+use Rattle.reader.specs.Readings.{refusalOf, framedVerdict, Written, LineRead, StepIs, resolvedText, AllRead}
+use Rattle.reader.specs.declared.Refusal as Reasons
+use Rattle.reader.specs.declared.Step.{Step}
+
+-- LISTS AND VERDICTS
+flat-more : (F : Flat) (n : ℕ) (xs : List Item) (a : Item) → flatFrom F n (xs ++ (a ∷ [])) ≡ flatWith (flatFrom F n xs) (suc (n + length xs)) a
+unfolding flatFrom
+flat-more F n [] a = let e : n + 0 ≡ n = omega arith in ap (λ (m : ℕ). flatWith F (suc m) a) (sym e)
+flat-more F n (x ∷ xs) a =
+    let e : suc n + length xs ≡ n + suc (length xs) = omega arith in
+    flat-more (flatWith F (suc n) x) (suc n) xs a ∙ ap (λ (m : ℕ). flatWith (flatFrom (flatWith F (suc n) x) (suc n) xs) (suc m) a) e
+
+zero-add : (n : ℕ) → 0 + n ≡ n
+zero-add n = omega arith
+
+end-length : (xs : List Item) (a : Item) → length (xs ++ (a ∷ [])) ≡ suc (length xs)
+end-length [] a = refl
+end-length (x ∷ xs) a = ap suc (end-length xs a)
+
+then-all : {A : Type 0} (v : Verdict A) → v ≡ then v accepted
+unfolding then
+then-all (accepted a) = refl
+then-all (refused r l) = refl
+
+-- one item more before the rest
+then-more :
+    (v : Verdict (List Item)) (xs : List Item) (a : Item) →
+    then (then v (λ rest. accepted (a ∷ rest))) (λ rest. accepted (xs ++ rest)) ≡ then v (λ rest. accepted ((xs ++ (a ∷ [])) ++ rest))
+unfolding then
+then-more (accepted rest) xs a = ap accepted (sym (append-assoc xs (a ∷ []) rest))
+then-more (refused r l) xs a = refl
+
+-- nothing of a list is left
+all-above : {A : Type 0} (l : List A) (n : ℕ) → n ≤ length l → drop n l ≡ [] → n ≡ length l
+all-above [] zero h e = refl
+all-above [] (suc n) h e = absurd (omega (arith, h))
+all-above (a ∷ l) zero h e = absurd (let z : _≡_ {A = ℕ} 0 1 = cc in omega arith)
+all-above (a ∷ l) (suc n) h e = ap suc (all-above l n (omega (arith, h)) e)
+
+-- before the first line nothing is in scope
+first-scope : (t w : List ℕ) (c : Names) → c .method ≡ false → c .locals ≡ 0 → scopeIn t w c (firstPass c .above) ≡ firstScope
+unfolding scopeIn namesFrom rows classAbove blockIn ownVariables
+first-scope t w c m l = rw (m, l)
+
+-- A STEP BY ITS CASES
+module _ (t w : List ℕ) (p : Pass) (l : Line) (w′ : List ℕ) (s : Step) (x : StepIs t w p l w′ s) where
+  pub step-refused :
+      (r : Reasons.Refusal) → s ≡ Step.Refused r →
+      (resolveLine (declarationsIn t w (p .names)) (scopeIn t w (p .names) (p .above)) l ≡ no (refusalOf r)) × (w′ ≡ w)
+  unfolding StepIs
+  step-refused r e = subst (StepIs t w p l w′) e x
+
+  pub step-on : (q : Pass) → s ≡ Step.On q → LineRead t w p l w′ q
+  unfolding StepIs
+  step-on q e = subst (StepIs t w p l w′) e x
+
+-- THE LOOP
+pub record Resolving (t : List ℕ) (a : ℕ) (p : Pass) (w : List ℕ) : Type 0 where
+  pub place : Place
+  pub walk : Walking t a place (p .line)
+  pub stand : At t w p place (linesOf (drop a t))
+  pub whole : length w ≡ work-bytes
+  pub early : p .line ≤ a
+  pub declared : declarationsIn t w (p .names) ≡ declarations (linesOf t)
+  pub items : List Item
+  pub count : length items ≡ p .line
+  pub stands : Stands t w p (flatFrom noFlat 0 items)
+  pub framed : (rest : List Item) → checkFramed (items ++ rest) 0 ≡ framedAfter (p .unframed) (p .line) rest
+  pub resolved :
+      resolvedText t
+      ≡ then (resolveLines (declarations (linesOf t)) (linesOf (drop a t)) (p .line) (scopeIn t w (p .names) (p .above)))
+      (λ rest. accepted (items ++ rest))
+
+first-stands : (t w : List ℕ) (c : Names) → length w ≡ work-bytes → Stands t w (firstPass c) (flatFrom noFlat 0 [])
+unfolding flatFrom lastClass scopeIn namesFrom rows
+first-stands t w c n =
+    record { holds = none-written (counts c) w n; rows = refl; classes = refl; methods = refl; main = refl; fields = refl }
+
+pub resolving-first :
+    (t w : List ℕ) (c : Names) (p : Pass) → p ≡ firstPass c → Taken t → length w ≡ work-bytes → Declares t w w c → Resolving t 0 p w
+resolving-first t w c p e k n d =
+    subst (λ (p : Pass). Resolving t 0 p w) (sym e)
+    (record {
+      place = firstPlace;
+      walk = walking-first k;
+      stand = at-first t w w c d;
+      whole = n;
+      early = omega arith;
+      declared = d .are;
+      items = [];
+      count = refl;
+      stands = first-stands t w c n;
+      framed = λ rest. sym (framed-first rest);
+      resolved = then-all _ ∙ ap (λ (s : Scope). then (resolveLines (declarations (linesOf t)) (linesOf t) 0 s) accepted) (sym (first-scope t w c (d .method) (d .locals)));
+    })
+
+module _ {t : List ℕ} {a : ℕ} {p : Pass} {w : List ℕ} (x : Resolving t a p w) where
+  -- what the lines above leave to be resolved
+  abbrev left : List Line → ℕ → Scope → Verdict (List Item)
+  left = resolveLines (declarations (linesOf t))
+
+  abbrev here : Scope
+  here = scopeIn t w (p .names) (p .above)
+
+  pub resolving-ready : length t ≤ most-bytes → Ready t w p
+  resolving-ready h = at-ready (x .stand) h (x .whole)
+
+  pub resolving-written : Written t w p
+  resolving-written = record { flat = _; stands = x .stands }
+
+  class-count : length (declarationsIn t w (p .names) .classes) ≡ p .names .classes
+  unfolding declarationsIn namesFrom
+  class-count = rows-length _ _ _
+
+  method-count : length (declarationsIn t w (p .names) .methods) ≡ p .names .methods
+  unfolding declarationsIn
+  method-count = rows-length _ _ _
+
+  pub resolving-done : length t ≤ a → AllRead t w p
+  unfolding framedVerdict resolveLines then classesOf methodsOf
+  resolving-done h =
+      let e : linesOf (drop a t) ≡ [] = walking-done t a h in
+      let f = subst (λ (ls : List Line). At t w p (x .place) ls) e (x .stand) .follow in
+      record {
+        items = x .items;
+        resolved = x .resolved ∙ (ap (λ (ls : List Line). then (left ls (p .line) here) (λ rest. accepted (x .items ++ rest))) e ∙ ap accepted (append-nil (x .items)));
+        stands = x .stands;
+        classes = all-above _ _ (f .classes .low) (f .classes .are) ∙ class-count;
+        methods = all-above _ _ (f .methods .low) (f .methods .are) ∙ method-count;
+        unframed = ap (λ (xs : List Item). checkFramed xs 0) (sym (append-nil (x .items))) ∙ (x .framed [] ∙ framed-last (p .unframed) (p .line));
+      }
+  module _ (size : length t ≤ most-bytes) {e : ℕ} (l : a < length t) (f : Found t a LineEnd e) where
+    stand-here : At t w p (x .place) (lineAt t a ∷ linesOf (drop (e + 1) t))
+    stand-here = subst (At t w p (x .place)) (walking-lines (x .walk) l f) (x .stand)
+
+    pub resolving-formed : FormedAt t a
+    resolving-formed = walking-formed (x .walk) l f
+
+    pub resolving-room : Room t w p (lineAt t a)
+    resolving-room =
+        let m = walking-placed (x .walk) l f in
+        at-room stand-here (m .in-place) (m .room) (lines (drop (e + 1) t)) (suc (p .line)) (walking-on (x .walk) l f .rest) (omega (arith, x .early, l, size))
+
+    -- what is left, by its first line
+    resolved-here :
+        resolvedText t
+        ≡ then (left (lineAt t a ∷ linesOf (drop (e + 1) t)) (p .line) here) (λ rest. accepted (x .items ++ rest))
+    resolved-here = x .resolved ∙ ap (λ (ls : List Line). then (left ls (p .line) here) (λ rest. accepted (x .items ++ rest))) (walking-lines (x .walk) l f)
+
+    pub resolving-refused :
+        (r : Refusal) → resolveLine (declarationsIn t w (p .names)) here (lineAt t a) ≡ no r → resolvedText t ≡ refused r (suc (p .line))
+    unfolding resolveLines atLine then
+    resolving-refused r h =
+        let g : resolveLine (declarations (linesOf t)) here (lineAt t a) ≡ no r = subst (λ (Γ : Declarations). resolveLine Γ here (lineAt t a) ≡ no r) (x .declared) h in
+        resolved-here ∙ rw g
+
+    resolved-line :
+        resolveLine (declarationsIn t w (p .names)) here (lineAt t a) ≡ ok (item t w p (lineAt t a)) →
+        resolvedText t
+        ≡ then (left (linesOf (drop (e + 1) t)) (suc (p .line)) (scopeAfter here (lineAt t a)))
+        (λ rest. accepted ((x .items ++ (item t w p (lineAt t a) ∷ [])) ++ rest))
+    unfolding resolveLines atLine
+    resolved-line h =
+        let g : resolveLine (declarations (linesOf t)) here (lineAt t a) ≡ ok (item t w p (lineAt t a)) =
+        subst (λ (Γ : Declarations). resolveLine Γ here (lineAt t a) ≡ ok (item t w p (lineAt t a))) (x .declared) h in
+        resolved-here ∙ rw g (then-more _ (x .items) (item t w p (lineAt t a)))
+
+    pub resolving-on : {w′ : List ℕ} {q : Pass} → LineRead t w p (lineAt t a) w′ q → Resolving t (e + 1) q w′
+    resolving-on {w′} {q} y =
+        let m = walking-placed (x .walk) l f in
+        let z = y .taken .put in
+        let n : q .line ≡ suc (p .line) = z .counted .line ∙ add-one (p .line) in
+        record {
+          place = placeAfter (lineAt t a .kind) (x .place);
+          walk = subst (Walking t (e + 1) (placeAfter (lineAt t a .kind) (x .place))) (sym n) (walking-on (x .walk) l f);
+          stand = at-on stand-here (m .in-place) (m .room) z;
+          whole = z .size ∙ x .whole;
+          early = omega (arith, n, x .early, walking-clean (x .walk) l f .low);
+          declared = z .declared ∙ x .declared;
+          items = x .items ++ (item t w p (lineAt t a) ∷ []);
+          count = end-length (x .items) _ ∙ (ap suc (x .count) ∙ sym n);
+          stands = subst (Stands t w′ q) (sym (flat-more noFlat 0 (x .items) _ ∙ ap (λ (k : ℕ). flatWith (flatFrom noFlat 0 (x .items)) (suc k) (item t w p (lineAt t a))) (zero-add (length (x .items)) ∙ x .count))) (z .built _ (x .stands));
+          framed = λ rest.
+              ap (λ (xs : List Item). checkFramed xs 0) (append-assoc (x .items) (item t w p (lineAt t a) ∷ []) rest)
+              ∙ (x .framed (item t w p (lineAt t a) ∷ rest)
+              ∙ (sym (framed-on (p .unframed) (p .line) (item t w p (lineAt t a)) rest)
+              ∙ ap₂ (λ (u k : ℕ). framedAfter u k rest) (sym (y .taken .unframed)) (sym n)));
+          resolved = resolved-line (y .resolved)
+              ∙ ap₂ (λ (k : ℕ) (s : Scope). then (left (linesOf (drop (e + 1) t)) k s) (λ rest. accepted ((x .items ++ (item t w p (lineAt t a) ∷ [])) ++ rest))) (sym n) (sym (z .scope));
+        }
