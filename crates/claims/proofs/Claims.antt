@@ -30,7 +30,7 @@ use Rattle.emit.proofs.Rows.{row-written, row-kept, row-names, row-length, row-
 use Rattle.atoms.specs.Written.{formulaAfter, Ready, FormulaFollows, FormulaPut}
 use Rattle.claims.specs.Claims.{isClaim, claimOf, claimRow, ClaimPut, HeaderPut}
 
-claim-cases : (k : ℕ) → isClaim k ≡ true → (k ≡ 13) ⊎ ((k ≡ 14) ⊎ (k ≡ 17))
+pub claim-cases : (k : ℕ) → isClaim k ≡ true → (k ≡ 13) ⊎ ((k ≡ 14) ⊎ (k ≡ 17))
 unfolding isClaim
 claim-cases k e = go (eqb k 13) (eqb k 14) (eqb k 17) refl refl refl e
   where

@@ -26,7 +26,7 @@ use Rattle.emit.specs.Holds.{RowOk, Holds}
 use Rattle.emit.proofs.Rows.{row-bytes, row-names, row-length}
 use Rattle.pass.specs.Passes.{counts}
 use Rattle.declare.specs.Declares.{lineWith}
-use Rattle.plain.specs.Plain.{bare, setRow, newRow, callRow, returnRow, plainRow, Ready, Tested, isPlain, PlainFollows, PlainPut}
+use Rattle.plain.specs.Plain.{setRow, newRow, callRow, returnRow, plainRow, Ready, Tested, isPlain, PlainFollows, PlainPut}
 use Rattle.plain.proofs.Rows.{set-ok, new-ok, call-ok, return-ok, empty-ok, set-written, new-written, call-written, return-written, else-written, end-written}
 
 either : {A : Type 0} (k m : ℕ) (b : Bool) → (eqb k m || b) ≡ true → (k ≡ m → A) → (b ≡ true → A) → A

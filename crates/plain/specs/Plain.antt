@@ -63,19 +63,19 @@ isPlain k = eqb k 8 || (eqb k 10 || (eqb k 11 || (eqb k 12 || (eqb k 16 || eqb k
 
 -- the line of this kind whose word ends at r
 abbrev pub lineAfter : List ℕ → ℕ → ℕ → Line
-lineAfter t k r = lineWith (kindNumbered k) (more (drop r t))
+lineAfter t r k = lineWith (kindNumbered k) (more (drop r t))
 
 -- it passes the tests
 pub record PlainFollows (t w : List ℕ) (c : Names) (k r : ℕ) : Type 0 where
   pub kind : isPlain k ≡ true
   pub high : r ≤ length t
   pub scope : Scope
-  pub tested : Tested (declarationsIn t w c) (variablesIn t w c) scope (lineAfter t k r)
+  pub tested : Tested (declarationsIn t w c) (variablesIn t w c) scope (lineAfter t r k)
 
 -- it is written as the row i, and is the line l
 pub record PlainPut (t w : List ℕ) (c : Names) (k r i l : ℕ) (w′ : List ℕ) : Type 0 where
   pub built :
       (F : Flat) (n : ℕ) → length (F .rows) ≡ i → Holds (counts c) w F n →
-      Holds (counts c) w′ (flatWith F l (itemOf (declarationsIn t w c) (variablesIn t w c) (kindNumbered k) (lineAfter t k r))) n
+      Holds (counts c) w′ (flatWith F l (itemOf (declarationsIn t w c) (variablesIn t w c) (kindNumbered k) (lineAfter t r k))) n
   pub names : Kept names-at values-at w w′
   pub size : length w′ ≡ length w

@@ -9,7 +9,6 @@ ghost use Rattle.rules.specs.Names.{variableNumber};
 ghost use Rattle.lines.specs.Cuts.{more};
 ghost use Rattle.declared.specs.Rows.{nameIn};
 ghost use Rattle.declared.specs.Meanings.{declarationsIn, variablesIn};
-ghost use Rattle.emit.specs.Puts.{putRow, RowBytes};
 ghost use Rattle.plain.specs.Plain.{bare, setRow, newRow, callRow, returnRow, plainRow, Ready, PlainFollows, PlainPut};
 
 // The number of the variable named at a place of the text.
