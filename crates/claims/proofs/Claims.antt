@@ -3,29 +3,34 @@ use mathlib.Core.Path.{_≡_, refl, sym, ap, subst, _∙_}
 use mathlib.Core.Bool.{Bool, true, false, _||_}
 use mathlib.Core.List.{List, [], _∷_, map}
 use mathlib.Core.Logic.{_⊎_, inl, inr, ⊎-elim}
-use Prim.Native.Nat.{ℕ, zero, suc, _-_, _≤_, _<_}
+use Prim.Native.Nat.{ℕ, zero, suc, _+_, _-_, _≤_, _<_}
 use native.Mathlib.Omega.{arith}
 use lib.Dec.{eqb}
 use lib.ListN.{length, drop}
 use borrow.Author.Tests.{eqb-true}
 use Rattle.rules.specs.Base.{Name}
 use Rattle.rules.specs.Limits.{most-methods, most-statements, most-atoms}
+use Rattle.rules.specs.Syntax.{Formula}
 use Rattle.rules.specs.Text.{isFormula, formulaOf}
 use Rattle.rules.specs.Items.{resolveAtom, aStatement, aRequires, anEnsures}
 use Rattle.leaves.proofs.Search.{both-true, true-false}
 use Rattle.lines.specs.Cuts.{more}
+use Rattle.tables.specs.Layout.{atoms-at}
+use Rattle.tables.specs.Decode.{byteAt, atomPlace, methodPlace, atomsFrom}
+use Rattle.tables.specs.Stores.{Kept}
 use Rattle.declared.specs.declared.Names.{Names}
 use Rattle.declared.specs.Meanings.{declarationsIn, variablesIn}
 use Rattle.assembly.specs.Flat.{Flat, flatWith}
 use Rattle.emit.specs.Puts.{putRow, putRequires, putEnsures, RowBytes}
-use Rattle.emit.proofs.Puts.{put-length}
+use Rattle.emit.proofs.Puts.{put-length, put-kept}
+use Rattle.emit.proofs.Kept.{atoms-kept}
 use Rattle.emit.proofs.Methods.{requires-written, ensures-written, requires-names, ensures-names}
 use Rattle.emit.specs.Holds.{Declared, RowOk, stmtOf, Holds, Building}
-use Rattle.emit.proofs.Rows.{row-written, row-names, row-length, row-bytes, assert-means, release-means, join-means}
+use Rattle.emit.proofs.Rows.{row-written, row-kept, row-names, row-length, row-bytes, assert-means, release-means, join-means}
 use Rattle.atoms.specs.Written.{formulaAfter, Ready, FormulaFollows, FormulaPut}
 use Rattle.claims.specs.Claims.{isClaim, claimOf, claimRow, ClaimPut, HeaderPut}
 
-claim-cases : (k : ℕ) → isClaim k ≡ true → (k ≡ 13) ⊎ ((k ≡ 14) ⊎ (k ≡ 17))
+pub claim-cases : (k : ℕ) → isClaim k ≡ true → (k ≡ 13) ⊎ ((k ≡ 14) ⊎ (k ≡ 17))
 unfolding isClaim
 claim-cases k e = go (eqb k 13) (eqb k 14) (eqb k 17) refl refl refl e
   where
@@ -50,11 +55,23 @@ map-length : {A B : Type 0} (f : A → B) (l : List A) → length (map f l) ≡ 
 map-length f [] = refl
 map-length f (a ∷ l) = ap suc (map-length f l)
 
-formula-short : {t w : List ℕ} {c : Names} {r n : ℕ} → FormulaFollows t w c r n → length (formulaAfter t w c r) ≤ 8
+pub formula-few :
+    (t w : List ℕ) (c : Names) (r : ℕ) → isFormula most-atoms (more (drop r t)) ≡ true → length (formulaAfter t w c r) ≤ most-atoms
 unfolding formulaAfter
-formula-short {t} {w} {c} {r} x =
-    let a = few most-atoms (more (drop r t)) (x .form) in
+formula-few t w c r e =
+    let a = few most-atoms (more (drop r t)) e in
     omega (arith, a, map-length (resolveAtom (declarationsIn t w c) (variablesIn t w c)) (formulaOf (more (drop r t))))
+
+formula-short : {t w : List ℕ} {c : Names} {r n : ℕ} → FormulaFollows t w c r n → length (formulaAfter t w c r) ≤ 8
+formula-short {t} {w} {c} {r} x = formula-few t w c r (x .form)
+
+-- a store outside the atoms leaves the formula that was built last
+formula-stays :
+    (u v : List ℕ) {D : Declared} {F : Flat} {n m : ℕ} {φ : Formula ℕ} → Building D u F n m φ → Kept atoms-at (atomPlace m) u v →
+    atomsFrom v n (m - n) ≡ φ
+formula-stays u v {D} {F} {n} {m} {φ} b k =
+    let e : m - n ≡ length φ = omega (arith, b .place) in
+    atoms-kept u v m k n (m - n) (omega (arith, b .place)) ∙ (ap (atomsFrom u n) e ∙ b .mean)
 
 module _ {t w : List ℕ} {c : Names} {r n : ℕ} (k i l : ℕ) (ready : Ready t w c) (x : FormulaFollows t w c r n) (claim : isClaim k ≡ true) where
   short : length (formulaAfter t w c r) ≤ 8
@@ -104,7 +121,11 @@ module _ {t w : List ℕ} {c : Names} {r n : ℕ} (k i l : ℕ) (ready : Ready t
               let b = y .built D F h in
               let q = row-written D u F m (claimRow k n m l) (claimOf k (formulaAfter t w c r)) (omega (arith, j, room)) (claim-ok D) (means D F b) (b .holds) in
               subst (λ z. Holds D z (flatWith F l (aStatement (claimOf k (formulaAfter t w c r)))) m) (sym (e ∙ ap (λ p. putRow u p (claimRow k n m l)) (sym j))) q;
-          names = λ p a d. ap (λ z. Rattle.tables.specs.Decode.byteAt z p) e ∙ (row-names u i (claimRow k n m l) (y .size ∙ ready .whole) room p a d ∙ y .names p a d);
+          count = y .count;
+          formula = λ D F h.
+              formula-stays u _ (y .built D F h)
+              (subst (Kept atoms-at (atomPlace m) u) (sym e) (row-kept u i (claimRow k n m l) (y .size ∙ ready .whole) room _ _ (inr (omega arith))));
+          names = λ p a d. ap (λ z. byteAt z p) e ∙ (row-names u i (claimRow k n m l) (y .size ∙ ready .whole) room p a d ∙ y .names p a d);
           size = ap length e ∙ (row-length u i (claimRow k n m l) (y .size ∙ ready .whole) room ∙ y .size);
         }
 
@@ -123,7 +144,11 @@ module _ {t w : List ℕ} {c : Names} {r n m : ℕ} (x : FormulaFollows t w c r 
         built = λ D F l k h.
             subst (λ z. Holds D z (flatWith F l (aRequires (formulaAfter t w c r))) e) (sym (i ∙ ap (putRequires u m n) count-is))
             (requires-written D u F n e (formulaAfter t w c r) m l k (formula-short x) (y .built D F h));
-        names = λ p a d. ap (λ z. Rattle.tables.specs.Decode.byteAt z p) i ∙ (requires-names u m n (e - n) room p a d ∙ y .names p a d);
+        count = y .count;
+        formula = λ D F h.
+            formula-stays u _ (y .built D F h)
+            (subst (Kept atoms-at (atomPlace e) u) (sym i) (put-kept u (methodPlace m) _ _ _ (inr (omega arith))));
+        names = λ p a d. ap (λ z. byteAt z p) i ∙ (requires-names u m n (e - n) room p a d ∙ y .names p a d);
         size = ap length i ∙ (put-length u _ _ ∙ y .size);
       }
 
@@ -134,6 +159,10 @@ module _ {t w : List ℕ} {c : Names} {r n m : ℕ} (x : FormulaFollows t w c r 
         built = λ D F l k h.
             subst (λ z. Holds D z (flatWith F l (anEnsures (formulaAfter t w c r))) e) (sym (i ∙ ap (putEnsures u m n) count-is))
             (ensures-written D u F n e (formulaAfter t w c r) m l k (formula-short x) (y .built D F h));
-        names = λ p a d. ap (λ z. Rattle.tables.specs.Decode.byteAt z p) i ∙ (ensures-names u m n (e - n) room p a d ∙ y .names p a d);
+        count = y .count;
+        formula = λ D F h.
+            formula-stays u _ (y .built D F h)
+            (subst (Kept atoms-at (atomPlace e) u) (sym i) (put-kept u (methodPlace m + 3) _ _ _ (inr (omega arith))));
+        names = λ p a d. ap (λ z. byteAt z p) i ∙ (ensures-names u m n (e - n) room p a d ∙ y .names p a d);
         size = ap length i ∙ (put-length u _ _ ∙ y .size);
       }

@@ -2,12 +2,13 @@
 use mathlib.Core.Path.{_≡_}
 use mathlib.Core.Bool.{Bool, cond, _||_}
 use mathlib.Core.List.{List}
-use Prim.Native.Nat.{ℕ, suc, _-_}
+use Prim.Native.Nat.{ℕ, suc, _+_, _-_}
 use lib.Dec.{eqb}
 use lib.ListN.{length}
 use Rattle.rules.specs.Syntax.{Formula, Stmt, simple, assert, release, join}
 use Rattle.rules.specs.Items.{Item, aStatement}
 use Rattle.tables.specs.Layout.{names-at, values-at}
+use Rattle.tables.specs.Decode.{atomsFrom}
 use Rattle.tables.specs.Stores.{Kept}
 use Rattle.declared.specs.declared.Names.{Names}
 use Rattle.assembly.specs.Flat.{Flat, flatWith}
@@ -31,6 +32,8 @@ pub record ClaimPut (t w : List ℕ) (c : Names) (k r i n l : ℕ) (w′ : List 
   pub built :
       (D : Declared) (F : Flat) → length (F .rows) ≡ i → Holds D w F n →
       Holds D w′ (flatWith F l (aStatement (claimOf k (formulaAfter t w c r)))) m
+  pub count : m ≡ n + length (formulaAfter t w c r)
+  pub formula : (D : Declared) (F : Flat) → Holds D w F n → atomsFrom w′ n (m - n) ≡ formulaAfter t w c r
   pub names : Kept names-at values-at w w′
   pub size : length w′ ≡ length w
 
@@ -39,5 +42,7 @@ pub record HeaderPut (item : Formula ℕ → Item) (t w : List ℕ) (c : Names) 
   pub built :
       (D : Declared) (F : Flat) (l : ℕ) → length (F .methods) ≡ suc m → Holds D w F n →
       Holds D w′ (flatWith F l (item (formulaAfter t w c r))) e
+  pub count : e ≡ n + length (formulaAfter t w c r)
+  pub formula : (D : Declared) (F : Flat) → Holds D w F n → atomsFrom w′ n (e - n) ≡ formulaAfter t w c r
   pub names : Kept names-at values-at w w′
   pub size : length w′ ≡ length w

@@ -33,10 +33,11 @@ use Rattle.emit.specs.declared.Operands.{Operands}
 use Rattle.emit.specs.Puts.{putRow}
 use Rattle.emit.specs.Holds.{RowOk, Holds}
 use Rattle.emit.proofs.Rows.{row-written, set-means, new-means, call-means, return-means, else-means, end-means}
+use Rattle.pass.specs.Passes.{counts}
 use Rattle.declare.specs.Texts.{SpanAfter}
 use Rattle.declare.specs.Declares.{lineWith}
 use Rattle.atoms.proofs.Sides.{variable-small, field-small}
-use Rattle.plain.specs.Plain.{bare, setRow, newRow, callRow, returnRow, Tested, counts}
+use Rattle.plain.specs.Plain.{bare, setRow, newRow, callRow, returnRow, Tested}
 
 -- the fourth field of a line
 pub fourth :
@@ -58,7 +59,7 @@ module _ (t w : List ℕ) (c : Counts.Names) (fits : Fits c) (s : Scope) (n l : 
   -- a row of this kind without atoms
   bare-ok :
       (k x y z m : ℕ) → 8 ≤ k → k ≤ 18 → (k ≡ 9 → ⊥) → (k ≡ 15 → ⊥) → x < frame-variables → y < frame-variables → z < frame-variables →
-      (k ≡ 8 → m < most-names) → (k ≡ 10 → m < c .classes) → (k ≡ 11 → m < c .methods) → RowOk (counts c) n (bare k x y z m n l)
+      (k ≡ 8 → m < most-names) → (k ≡ 10 → m < c .classes) → (k ≡ 11 → m < c .methods) → RowOk (counts c) n (bare k x y z m l)
   bare-ok k x y z m a b no-let no-if p q r f g h =
       record {
         kind = (a, b);
@@ -98,7 +99,7 @@ module _ (t w : List ℕ) (c : Counts.Names) (fits : Fits c) (s : Scope) (n l : 
       ltb-true (classNumber Γ C) (c .classes) (sym (class-any t w c C) ∙ a .1)
 
   -- BY THE KIND OF THE LINE
-  set-ok : (ws : List Name) → Tested Γ vs s (lineWith Set ws) → RowOk (counts c) n (setRow Γ vs ws n l)
+  pub set-ok : (ws : List Name) → Tested Γ vs s (lineWith Set ws) → RowOk (counts c) n (setRow Γ vs ws l)
   unfolding Grammar.opened Scopes.opened Names.allKnown Names.known Names.allTyped Names.ofClass Base.all setRow
   set-ok [] x = true-false (sym (x .formed))
   set-ok (u ∷ []) x = true-false (sym (both-true (isName u) false (x .formed) .1))
@@ -111,7 +112,7 @@ module _ (t w : List ℕ) (c : Counts.Names) (fits : Fits c) (s : Scope) (n l : 
       bare-ok 8 _ _ _ _ (omega arith) (omega arith) (λ e. omega arith) (λ e. omega arith) (variable-small t w c fits u (a .0))
       (variable-small t w c fits y (d .0)) (omega arith) (λ i. field-known u v (b .0) (e .0)) (λ i. absurd (omega arith)) (λ i. absurd (omega arith))
 
-  new-ok : (ws : List Name) → Tested Γ vs s (lineWith New ws) → RowOk (counts c) n (newRow Γ vs ws n l)
+  pub new-ok : (ws : List Name) → Tested Γ vs s (lineWith New ws) → RowOk (counts c) n (newRow Γ vs ws l)
   unfolding Grammar.opened Scopes.opened Names.allKnown Names.known Names.allTyped Names.ofClass Base.all newRow
   new-ok [] x = true-false (sym (x .formed))
   new-ok (u ∷ []) x = true-false (sym (both-true (isName u) false (x .formed) .1))
@@ -121,7 +122,7 @@ module _ (t w : List ℕ) (c : Counts.Names) (fits : Fits c) (s : Scope) (n l : 
       bare-ok 10 _ _ _ _ (omega arith) (omega arith) (λ e. omega arith) (λ e. omega arith) (variable-small t w c fits u (a .0))
       (omega arith) (omega arith) (λ i. absurd (omega arith)) (λ i. class-known v (b .0)) (λ i. absurd (omega arith))
 
-  return-ok : (ws : List Name) → Tested Γ vs s (lineWith Return ws) → RowOk (counts c) n (returnRow Γ vs ws n l)
+  pub return-ok : (ws : List Name) → Tested Γ vs s (lineWith Return ws) → RowOk (counts c) n (returnRow Γ vs ws l)
   unfolding Grammar.opened Scopes.opened Names.allKnown Names.known Names.allTyped Names.ofClass Base.all returnRow
   return-ok [] x = true-false (sym (x .formed))
   return-ok (u ∷ ws) x =
@@ -129,7 +130,7 @@ module _ (t w : List ℕ) (c : Counts.Names) (fits : Fits c) (s : Scope) (n l : 
       bare-ok 12 _ _ _ _ (omega arith) (omega arith) (λ e. omega arith) (λ e. omega arith) (variable-small t w c fits u (a .0))
       (omega arith) (omega arith) (λ i. absurd (omega arith)) (λ i. absurd (omega arith)) (λ i. absurd (omega arith))
 
-  call-ok : (ws : List Name) → Tested Γ vs s (lineWith Call ws) → RowOk (counts c) n (callRow Γ vs ws n l)
+  pub call-ok : (ws : List Name) → Tested Γ vs s (lineWith Call ws) → RowOk (counts c) n (callRow Γ vs ws l)
   unfolding Grammar.opened Scopes.opened Names.allKnown Names.known Names.allTyped Names.ofClass Base.all callRow
   call-ok [] x = true-false (sym (x .formed))
   call-ok (u ∷ []) x = true-false (sym (both-true (isName u) false (x .formed) .1))
@@ -149,42 +150,42 @@ module _ (t w : List ℕ) (c : Counts.Names) (fits : Fits c) (s : Scope) (n l : 
       (variable-small t w c fits v (b .0)) (variable-small t w c fits z (e .0)) (λ i. absurd (omega arith)) (λ i. absurd (omega arith))
       (λ j. method-known v y (d .0) (i .0))
 
+  pub empty-ok : (k : ℕ) → 8 ≤ k → k ≤ 18 → 15 < k → RowOk (counts c) n (bare k 0 0 0 0 l)
+  empty-ok k a b d =
+      bare-ok k 0 0 0 0 a b (λ e. omega arith) (λ e. omega arith) (omega arith) (omega arith) (omega arith) (λ i. absurd (omega arith))
+      (λ i. absurd (omega arith)) (λ i. absurd (omega arith))
+
   -- WHAT IS WRITTEN: the row of a line that passes the tests is the line's item
   module _ (F : Flat) (room : length (F .rows) < most-statements) (h : Holds (counts c) w F n) where
     -- the row r is written
     abbrev Written : Operands → Kind → List Name → Type 0
     Written r k ws = Holds (counts c) (putRow w (length (F .rows)) r) (flatWith F l (itemOf Γ vs k (lineWith k ws))) n
 
-    pub set-written : (ws : List Name) → Tested Γ vs s (lineWith Set ws) → Written (setRow Γ vs ws n l) Set ws
+    pub set-written : (ws : List Name) → Tested Γ vs s (lineWith Set ws) → Written (setRow Γ vs ws l) Set ws
     unfolding itemOf Items.resolveSet Scopes.operand setRow
-    set-written ws x = row-written (counts c) w F n (setRow Γ vs ws n l) _ room (set-ok ws x) (set-means w (setRow Γ vs ws n l) refl) h
+    set-written ws x = row-written (counts c) w F n (setRow Γ vs ws l) _ room (set-ok ws x) (set-means w (setRow Γ vs ws l) refl) h
 
-    pub new-written : (ws : List Name) → Tested Γ vs s (lineWith New ws) → Written (newRow Γ vs ws n l) New ws
+    pub new-written : (ws : List Name) → Tested Γ vs s (lineWith New ws) → Written (newRow Γ vs ws l) New ws
     unfolding itemOf Scopes.operand newRow
-    new-written ws x = row-written (counts c) w F n (newRow Γ vs ws n l) _ room (new-ok ws x) (new-means w (newRow Γ vs ws n l) refl) h
+    new-written ws x = row-written (counts c) w F n (newRow Γ vs ws l) _ room (new-ok ws x) (new-means w (newRow Γ vs ws l) refl) h
 
-    pub call-written : (ws : List Name) → Tested Γ vs s (lineWith Call ws) → Written (callRow Γ vs ws n l) Call ws
+    pub call-written : (ws : List Name) → Tested Γ vs s (lineWith Call ws) → Written (callRow Γ vs ws l) Call ws
     unfolding itemOf Items.resolveCall Scopes.operand callRow
-    call-written ws x = row-written (counts c) w F n (callRow Γ vs ws n l) _ room (call-ok ws x) (call-means w (callRow Γ vs ws n l) refl) h
+    call-written ws x = row-written (counts c) w F n (callRow Γ vs ws l) _ room (call-ok ws x) (call-means w (callRow Γ vs ws l) refl) h
 
-    pub return-written : (ws : List Name) → Tested Γ vs s (lineWith Return ws) → Written (returnRow Γ vs ws n l) Return ws
+    pub return-written : (ws : List Name) → Tested Γ vs s (lineWith Return ws) → Written (returnRow Γ vs ws l) Return ws
     unfolding itemOf Scopes.operand returnRow
     return-written ws x =
-        row-written (counts c) w F n (returnRow Γ vs ws n l) _ room (return-ok ws x) (return-means w (returnRow Γ vs ws n l) refl) h
+        row-written (counts c) w F n (returnRow Γ vs ws l) _ room (return-ok ws x) (return-means w (returnRow Γ vs ws l) refl) h
 
-    empty-ok : (k : ℕ) → 8 ≤ k → k ≤ 18 → 15 < k → RowOk (counts c) n (bare k 0 0 0 0 n l)
-    empty-ok k a b d =
-        bare-ok k 0 0 0 0 a b (λ e. omega arith) (λ e. omega arith) (omega arith) (omega arith) (omega arith) (λ i. absurd (omega arith))
-        (λ i. absurd (omega arith)) (λ i. absurd (omega arith))
-
-    pub else-written : (ws : List Name) → Written (bare 16 0 0 0 0 n l) Else ws
+    pub else-written : (ws : List Name) → Written (bare 16 0 0 0 0 l) Else ws
     unfolding itemOf
     else-written ws =
-        row-written (counts c) w F n (bare 16 0 0 0 0 n l) _ room (empty-ok 16 (omega arith) (omega arith) (omega arith))
-        (else-means w (bare 16 0 0 0 0 n l) refl) h
+        row-written (counts c) w F n (bare 16 0 0 0 0 l) _ room (empty-ok 16 (omega arith) (omega arith) (omega arith))
+        (else-means w (bare 16 0 0 0 0 l) refl) h
 
-    pub end-written : (ws : List Name) → Written (bare 18 0 0 0 0 n l) End ws
+    pub end-written : (ws : List Name) → Written (bare 18 0 0 0 0 l) End ws
     unfolding itemOf
     end-written ws =
-        row-written (counts c) w F n (bare 18 0 0 0 0 n l) _ room (empty-ok 18 (omega arith) (omega arith) (omega arith))
-        (end-means w (bare 18 0 0 0 0 n l) refl) h
+        row-written (counts c) w F n (bare 18 0 0 0 0 l) _ room (empty-ok 18 (omega arith) (omega arith) (omega arith))
+        (end-means w (bare 18 0 0 0 0 l) refl) h

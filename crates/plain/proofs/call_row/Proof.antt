@@ -71,7 +71,7 @@ returns c =
     let z = c .before .before .before .before .before .variable-at3 .ensures ∙ ap (variableNumber vs) e in
     let k = c .before .before .before .variable-type .ensures ∙ ap (variableType vs) (c .before .before .before .before .name-in .ensures ∙ b) in
     let m = c .before .method-number .ensures .0 ∙ (λ j. methodNumber Γ (k j) ((c .before .before .name-in2 .ensures ∙ d) j)) in
-    c .row .ensures ∙ (λ j. bare 11 (x j) (y j) (z j) (m j) (c .before .before .before .before .before .before .before .before .before .before .before .before .before .before .before .before .before .args .n) (c .before .before .before .before .before .before .before .before .before .before .before .before .before .before .before .before .before .args .line))
+    c .row .ensures ∙ (λ j. bare 11 (x j) (y j) (z j) (m j) (c .before .before .before .before .before .before .before .before .before .before .before .before .before .before .before .before .before .args .line))
 
 pub call-row-spec : {M : Type 1} → statement M
 call-row-spec =

@@ -38,7 +38,7 @@ returns c =
     let Γ = declarationsIn t w (c .before .before .before .before .before .before .before .before .before .args .c) in
     let x = c .before .before .before .variable-at .ensures ∙ ap (variableNumber vs) (c .before .before .before .before .before .before .span-after .ensures .name) in
     let k = c .before .class-number .ensures .0 ∙ ap (classNumber Γ) (c .before .before .name-in .ensures ∙ second (c .before .before .before .before .before .before .span-after .ensures) (c .before .before .before .before .span-after2 .ensures)) in
-    c .row .ensures ∙ (λ j. bare 10 (x j) 0 0 (k j) (c .before .before .before .before .before .before .before .before .before .args .n) (c .before .before .before .before .before .before .before .before .before .args .line))
+    c .row .ensures ∙ (λ j. bare 10 (x j) 0 0 (k j) (c .before .before .before .before .before .before .before .before .before .args .line))
 
 pub new-row-spec : {M : Type 1} → statement M
 new-row-spec =

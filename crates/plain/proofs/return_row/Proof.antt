@@ -23,7 +23,7 @@ returns c =
     let w = c .before .before .before .before .before .args .work .now in
     let vs = variablesIn t w (c .before .before .before .before .before .args .c) in
     let x = c .before .variable-at .ensures ∙ ap (variableNumber vs) (c .before .before .span-after .ensures .name) in
-    c .row .ensures ∙ (λ j. bare 12 (x j) 0 0 0 (c .before .before .before .before .before .args .n) (c .before .before .before .before .before .args .line))
+    c .row .ensures ∙ (λ j. bare 12 (x j) 0 0 0 (c .before .before .before .before .before .args .line))
 
 pub return-row-spec : {M : Type 1} → statement M
 return-row-spec =

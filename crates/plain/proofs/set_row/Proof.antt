@@ -48,7 +48,7 @@ returns c =
     let x = c .before .before .before .before .variable-at .ensures ∙ ap (variableNumber vs) (c .before .before .before .before .before .before .before .before .before .span-after .ensures .name) in
     let y = c .before .before .before .variable-at2 .ensures ∙ ap (variableNumber vs) (third (c .before .before .before .before .before .before .before .before .before .span-after .ensures) (c .before .before .before .before .before .before .before .span-after2 .ensures) (c .before .before .before .before .before .span-after3 .ensures)) in
     let f = c .before .field-number .ensures .0 ∙ ap (fieldNumber Γ) (c .before .before .name-in .ensures ∙ second (c .before .before .before .before .before .before .before .before .before .span-after .ensures) (c .before .before .before .before .before .before .before .span-after2 .ensures)) in
-    c .row .ensures ∙ (λ j. bare 8 (x j) (y j) 0 (f j) (c .before .before .before .before .before .before .before .before .before .before .before .before .args .n) (c .before .before .before .before .before .before .before .before .before .before .before .before .args .line))
+    c .row .ensures ∙ (λ j. bare 8 (x j) (y j) 0 (f j) (c .before .before .before .before .before .before .before .before .before .before .before .before .args .line))
 
 pub set-row-spec : {M : Type 1} → statement M
 set-row-spec =

@@ -1,0 +1,324 @@
+-- A line by its kind: what the writer of its row or formula asks, and that what it leaves is the line's item.
+use mathlib.Core.Path.{_≡_, refl, sym, ap, ap₂, subst, _∙_}
+use mathlib.Core.Bool.{Bool, true, false, cond, _||_}
+use mathlib.Core.List.{List, [], map}
+use mathlib.Core.Logic.{_⊎_, inl, inr, ⊎-elim}
+use Prim.Native.Nat.{ℕ, suc, _+_, _-_, _≤_, _<_}
+use native.Mathlib.Omega.{arith}
+use native.Mathlib.Numerals.{add-one}
+use lib.Dec.{eqb}
+use lib.ListN.{length, drop}
+use borrow.Author.Tests.{eqb-true, eq-eqb, ne-eqb, le-leb, lt-leb}
+use Rattle.rules.specs.Base.{Name}
+use Rattle.rules.specs.Limits.{most-methods, most-statements, most-atoms}
+use Rattle.rules.specs.Syntax.{Formula}
+use Rattle.rules.specs.Text.{isFormula, formulaOf}
+use Rattle.rules.specs.Grammar as Grammar
+use Rattle.rules.specs.Grammar.{Kind, form, isFormed, isTail, isKind, isStatement, kindNumber}
+use Rattle.rules.specs.Scope.{Declarations, Variable, Scope, atomsOf}
+use Rattle.rules.specs.Items as Items
+use Rattle.rules.specs.Items.{Item, itemOf, aStatement, aRequires, anEnsures}
+use Rattle.leaves.proofs.Search.{true-false}
+use Rattle.lines.specs.Cuts.{more}
+use Rattle.lines.specs.Rows.{kindNumbered}
+use Rattle.lines.proofs.Rows.{number-of-kind, kind-of-number}
+use Rattle.tables.specs.Layout.{names-at, values-at, most-atom-rows}
+use Rattle.tables.specs.Decode.{atomsFrom}
+use Rattle.tables.specs.Stores.{Kept}
+use Rattle.declared.specs.declared.Names.{Names}
+use Rattle.declared.specs.Meanings.{Fits, declarationsIn, variablesIn, scopeIn}
+use Rattle.assembly.specs.Flat.{Flat, flatWith}
+use Rattle.emit.specs.Holds.{Holds}
+use Rattle.pass.specs.declared.Pass.{Pass}
+use Rattle.pass.specs.Passes.{counts, after, withBlock, namesAfter, seenBy, hasAtoms, isFramed, joinFormula, framedFormula, item, Stands}
+use Rattle.declare.specs.Declares.{lineWith}
+use Rattle.atoms.specs.Written as Written
+use Rattle.atoms.specs.Written.{formulaAfter, goodAfter, FormulaFollows}
+use Rattle.atoms.proofs.Goods.{line-good}
+use Rattle.plain.specs.Plain as Plain
+use Rattle.plain.specs.Plain.{lineAfter, isPlain, PlainFollows, PlainPut}
+use Rattle.claims.specs.Claims.{isClaim, claimOf, ClaimPut, HeaderPut}
+use Rattle.claims.proofs.Claims.{claim-cases, formula-few}
+use Rattle.sides.specs.Sides.{SideFollows, SidePut}
+use Rattle.bodies.specs.Bodies.{Follows, ItemPut}
+use Rattle.bodies.proofs.Lines.{statement-quiet, names-is}
+
+-- KINDS BY THEIR NUMBERS
+pub kind-as : (K : Kind) (k : ℕ) → k ≡ kindNumber K → kindNumbered k ≡ K
+kind-as K k e = ap kindNumbered e ∙ kind-of-number K
+
+eqb-flip : (m n : ℕ) → eqb m n ≡ eqb n m
+eqb-flip m n = go (eqb n m) refl
+  where
+    go : (q : Bool) → eqb n m ≡ q → eqb m n ≡ q
+    go true e = eq-eqb m n (sym (eqb-true n m e))
+    go false e = ne-eqb m n (λ z. true-false (sym (eq-eqb n m (sym z)) ∙ e))
+
+pub seen-result : (k : ℕ) → 1 ≤ k → k ≤ 18 → isKind Grammar.Requires (kindNumbered k) ≡ eqb k 4
+unfolding isKind kindNumber
+seen-result k a b = ap (eqb 4) (number-of-kind k a b) ∙ eqb-flip 4 k
+
+pub is-statement : (k : ℕ) → 8 ≤ k → k ≤ 18 → isStatement (kindNumbered k) ≡ true
+unfolding isStatement kindNumber
+is-statement k a b = le-leb 8 (kindNumber (kindNumbered k)) (omega (arith, number-of-kind k (omega arith) b))
+
+pub no-statement : (k : ℕ) → 1 ≤ k → k ≤ 7 → isStatement (kindNumbered k) ≡ false
+unfolding isStatement kindNumber
+no-statement k a b = lt-leb 8 (kindNumber (kindNumbered k)) (omega (arith, number-of-kind k a (omega arith)))
+
+-- `end`, and other statements
+module _ (k : ℕ) (a : 8 ≤ k) (b : k ≤ 18) where
+  ends : isKind Grammar.End (kindNumbered k) ≡ eqb 18 k
+  unfolding isKind kindNumber
+  ends = ap (eqb 18) (number-of-kind k (omega arith) b)
+
+  names-end : (c : Names) → namesAfter (kindNumbered k) c ≡ cond (eqb 18 k) (withBlock false c) c
+  names-end c =
+      names-is (kindNumbered k) (statement-quiet (kindNumbered k) (omega (arith, number-of-kind k (omega arith) b))) c
+      ∙ ap (λ e. cond e (withBlock false c) c) ends
+
+  pub stays-open : (k ≡ 18 → ⊥) → (c : Names) → c ≡ namesAfter (kindNumbered k) c
+  stays-open n c = sym (names-end c ∙ ap (λ e. cond e (withBlock false c) c) (ne-eqb 18 k (λ z. n (sym z))))
+
+  pub closes : k ≡ 18 → (c : Names) → withBlock false c ≡ namesAfter (kindNumbered k) c
+  closes z c = sym (names-end c ∙ ap (λ e. cond e (withBlock false c) c) (eq-eqb 18 k (sym z)))
+
+not-framed : (k : ℕ) → 8 ≤ k → k ≤ 18 → (k ≡ 17 → ⊥) → isFramed (kindNumbered k) ≡ false
+unfolding isFramed isKind kindNumber
+not-framed k a b n =
+    let e = number-of-kind k (omega arith) b in
+    rw (
+      e,
+      ne-eqb 4 k (λ z. omega arith),
+      ne-eqb 5 k (λ z. omega arith),
+      ne-eqb 17 k (λ z. n (sym z)),
+    )
+
+or-else : (k m : ℕ) (b : Bool) → ((k ≡ m → ⊥) → b ≡ true) → (eqb k m || b) ≡ true
+or-else k m b f = go (eqb k m) refl
+  where
+    go : (q : Bool) → eqb k m ≡ q → (q || b) ≡ true
+    go true i = refl
+    go false i = f (λ z. true-false (sym (eq-eqb k m z) ∙ i))
+
+-- the numbers that are left
+above : (k m : ℕ) → m ≤ k → (k ≡ m → ⊥) → suc m ≤ k
+above k m l n = omega (arith, l, n)
+
+last : (k : ℕ) → k ≤ 18 → 18 ≤ k → k ≡ 18
+last k l m = omega (arith, l, m)
+
+pub plain-left :
+    (k : ℕ) → 8 ≤ k → k ≤ 18 → (k ≡ 9 → ⊥) → (k ≡ 13 → ⊥) → (k ≡ 14 → ⊥) → (k ≡ 15 → ⊥) → (k ≡ 17 → ⊥) → isPlain k ≡ true
+unfolding isPlain
+plain-left k a b n9 n13 n14 n15 n17 =
+    or-else k 8 _
+    (λ x8. let b10 = above k 9 (above k 8 a x8) n9 in
+    or-else k 10 _
+    (λ x10. or-else k 11 _
+    (λ x11. or-else k 12 _
+    (λ x12. let b16 = above k 15 (above k 14 (above k 13 (above k 12 (above k 11 (above k 10 b10 x10) x11) x12) n13) n14) n15 in
+    or-else k 16 _ (λ x16. let b18 = above k 17 (above k 16 b16 x16) n17 in eq-eqb k 18 (last k b b18))))))
+
+-- KINDS WHOSE LINE IS A FORMULA
+
+-- z is the item with the formula
+pub record Formulaic (K : Kind) (z : Formula ℕ → Item) : Type 0 where
+  pub item :
+      (Γ : Declarations) (vs : List Variable) (ws : List Name) → itemOf Γ vs K (lineWith K ws) ≡ z (map (Items.resolveAtom Γ vs) (formulaOf ws))
+  pub framed : (φ : Formula ℕ) → isFramed K ≡ true → framedFormula (z φ) ≡ φ
+  pub atoms : hasAtoms K ≡ true
+  pub operands : form K .operands ≡ []
+  pub tail : form K .tail ≡ Grammar.formula
+
+pub requires-is : Formulaic Grammar.Requires aRequires
+unfolding Grammar.opened itemOf Items.resolveFormula atomsOf framedFormula hasAtoms
+requires-is = record { item = λ Γ vs ws. refl; framed = λ φ e. refl; atoms = refl; operands = refl; tail = refl }
+
+pub ensures-is : Formulaic Grammar.Ensures anEnsures
+unfolding Grammar.opened itemOf Items.resolveFormula atomsOf framedFormula hasAtoms
+ensures-is = record { item = λ Γ vs ws. refl; framed = λ φ e. refl; atoms = refl; operands = refl; tail = refl }
+
+assert-is : Formulaic Grammar.Assert (λ φ. aStatement (claimOf 13 φ))
+unfolding Grammar.opened itemOf Items.resolveFormula atomsOf hasAtoms isFramed claimOf
+assert-is = record { item = λ Γ vs ws. refl; framed = λ φ e. true-false (sym e); atoms = refl; operands = refl; tail = refl }
+
+release-is : Formulaic Grammar.Release (λ φ. aStatement (claimOf 14 φ))
+unfolding Grammar.opened itemOf Items.resolveFormula atomsOf hasAtoms isFramed claimOf
+release-is = record { item = λ Γ vs ws. refl; framed = λ φ e. true-false (sym e); atoms = refl; operands = refl; tail = refl }
+
+join-is : Formulaic Grammar.Join (λ φ. aStatement (claimOf 17 φ))
+unfolding Grammar.opened itemOf Items.resolveFormula atomsOf framedFormula joinFormula hasAtoms claimOf
+join-is = record { item = λ Γ vs ws. refl; framed = λ φ e. refl; atoms = refl; operands = refl; tail = refl }
+
+pub claim-is : (k : ℕ) → isClaim k ≡ true → Formulaic (kindNumbered k) (λ φ. aStatement (claimOf k φ))
+unfolding kindNumber
+claim-is k i =
+    let P : ℕ → Type 0 = λ k. Formulaic (kindNumbered k) (λ φ. aStatement (claimOf k φ)) in
+    ⊎-elim (λ e. subst P (sym e) (subst (λ K. Formulaic K (λ φ. aStatement (claimOf 13 φ))) (sym (kind-of-number Grammar.Assert)) assert-is))
+    (λ o.
+    ⊎-elim (λ e. subst P (sym e) (subst (λ K. Formulaic K (λ φ. aStatement (claimOf 14 φ))) (sym (kind-of-number Grammar.Release)) release-is))
+    (λ e. subst P (sym e) (subst (λ K. Formulaic K (λ φ. aStatement (claimOf 17 φ))) (sym (kind-of-number Grammar.Join)) join-is)) o)
+    (claim-cases k i)
+
+pub claim-at : (m k : ℕ) → isClaim m ≡ true → k ≡ m → isClaim k ≡ true
+claim-at m k i e = ap isClaim e ∙ i
+
+pub header-kind : (k : ℕ) → 4 ≤ k → k ≤ 5 → (k ≡ 4) ⊎ (k ≡ 5)
+header-kind k a b = go (eqb k 4) refl
+  where
+    go : (q : Bool) → eqb k 4 ≡ q → (k ≡ 4) ⊎ (k ≡ 5)
+    go true e = inl (eqb-true k 4 e)
+    go false e = inr (omega (arith, a, b, above k 4 a (λ z. true-false (sym (eq-eqb k 4 z) ∙ e))))
+
+-- WHAT IS ASKED
+module _ {t w : List ℕ} {p : Pass} {k r : ℕ} (x : Follows t w p k r) where
+  abbrev ws : List Name
+  ws = more (drop r t)
+
+  abbrev S : Scope
+  S = scopeIn t w (p .names) (p .above)
+
+  pub line-small : p .line + 1 < 65536
+  line-small = omega (arith, x .room .line)
+
+  pub row-room : 8 ≤ k → k ≤ 18 → p .rows < most-statements
+  row-room a b = x .room .rows (is-statement k a b)
+
+  pub method-room : 4 ≤ k → k ≤ 5 → (1 ≤ after (p .above .methods)) × (after (p .above .methods) ≤ most-methods)
+  unfolding isKind kindNumber
+  method-room a b =
+      let is : Kind → Bool = λ K. isKind Grammar.Requires K || isKind Grammar.Ensures K in
+      let i : is (kindNumbered k) ≡ true =
+      ⊎-elim (λ e. ap is (kind-as Grammar.Requires k e)) (λ e. ap is (kind-as Grammar.Ensures k e)) (header-kind k a b) in
+      (x .room .header i, x .ready .above .methods)
+
+  module _ {c : Names} (g : c ≡ seenBy (kindNumbered k) (p .names)) where
+    seen-fits : Fits c
+    unfolding seenBy
+    seen-fits =
+        let f = x .ready .names in
+        subst Fits (sym g) (record { classes = f .classes; fields = f .fields; methods = f .methods; locals = f .locals })
+
+    pub plain-ready : Plain.Ready w c
+    plain-ready = record { whole = x .ready .whole; fits = seen-fits }
+
+    pub atoms-ready : Written.Ready t w c
+    atoms-ready = record { whole = x .ready .whole; fits = seen-fits }
+
+    module _ (K : Kind) (e : kindNumbered k ≡ K) where
+      tested-as : Plain.Tested (declarationsIn t w c) (variablesIn t w c) S (lineWith K ws)
+      unfolding seenBy declarationsIn
+      tested-as =
+          let y : Plain.Tested (declarationsIn t w (p .names)) (variablesIn t w (seenBy (kindNumbered k) (p .names))) S (lineWith (kindNumbered k) ws) =
+          record { formed = x .tested .formed; known = x .tested .known; typed = x .tested .typed } in
+          subst (λ K. Plain.Tested (declarationsIn t w c) (variablesIn t w c) S (lineWith K ws)) e
+          (subst (λ c. Plain.Tested (declarationsIn t w c) (variablesIn t w c) S (lineWith (kindNumbered k) ws)) (sym g) y)
+
+      item-as : item t w p (lineAfter t r k) ≡ itemOf (declarationsIn t w c) (variablesIn t w c) K (lineWith K ws)
+      unfolding seenBy declarationsIn
+      item-as = λ j. itemOf (declarationsIn t w (sym g j)) (variablesIn t w (sym g j)) (e j) (lineWith (e j) ws)
+
+      module _ (h : hasAtoms K ≡ true) where
+        atoms-room : p .atoms + most-atoms ≤ most-atom-rows
+        atoms-room = x .room .atoms (ap hasAtoms e ∙ h)
+
+        atoms-most : cond (hasAtoms (kindNumbered k)) most-atoms 0 ≡ most-atoms
+        atoms-most = ap (λ b. cond b most-atoms 0) (ap hasAtoms e ∙ h)
+
+        pub side-follows : SideFollows K t w c r (p .atoms)
+        side-follows = record { high = x .high; scope = S; tested = tested-as; room = omega (arith, atoms-room) }
+
+        pub formula-follows : form K .operands ≡ [] → form K .tail ≡ Grammar.formula → FormulaFollows t w c r (p .atoms)
+        unfolding goodAfter isFormed isTail
+        formula-follows o f =
+            let i : isFormula most-atoms ws ≡ true = sym (ap₂ (λ os u. isFormed os u ws) o f) ∙ tested-as .formed in
+            record {
+              high = x .high;
+              form = i;
+              good = line-good (declarationsIn t w c) (variablesIn t w c) S (lineWith K ws) o (tested-as .known) (tested-as .typed);
+              room = omega (arith, atoms-room, formula-few t w c r i);
+            }
+
+    pub plain-follows : isPlain k ≡ true → PlainFollows t w c k r
+    plain-follows i = record { kind = i; high = x .high; scope = S; tested = tested-as (kindNumbered k) refl }
+
+-- WHAT IS LEFT
+module _ {t w : List ℕ} {p : Pass} {k r : ℕ} (x : Follows t w p k r) {c : Names} (g : c ≡ seenBy (kindNumbered k) (p .names)) where
+  -- the tables with the item z of the next line, which is the line's
+  placed :
+      (K : Kind) (e : kindNumbered k ≡ K) {z : Item} {v : List ℕ} {m : ℕ} (F : Flat) →
+      z ≡ itemOf (declarationsIn t w c) (variablesIn t w c) K (lineWith K (more (drop r t))) →
+      Holds (counts (p .names)) v (flatWith F (p .line + 1) z) m → Holds (counts (p .names)) v (flatWith F (suc (p .line)) (item t w p (lineAfter t r k))) m
+  placed K e {z} {v} {m} F i h =
+      subst (λ G. Holds (counts (p .names)) v G m) (λ j. flatWith F (add-one (p .line) j) ((i ∙ sym (item-as x g K e)) j)) h
+
+  seen-counts : counts c ≡ counts (p .names)
+  unfolding seenBy
+  seen-counts = ap counts g
+
+  pub side-put :
+      (K : Kind) (e : kindNumbered k ≡ K) → hasAtoms K ≡ true → isFramed K ≡ false → {v : List ℕ} {m : ℕ} →
+      SidePut K t w c r (p .rows) (p .atoms) (p .line + 1) v m → ItemPut t w p (lineAfter t r k) v m
+  side-put K e h n y =
+      record {
+        count = omega (arith, y .count, atoms-most x g K e h);
+        built = λ F s. placed K e F refl (y .built (counts (p .names)) F (s .rows) (s .holds));
+        formula = λ f F s. true-false (sym (sym (ap isFramed e ∙ n) ∙ f));
+        names = y .names;
+        size = y .size;
+      }
+
+  pub plain-put :
+      8 ≤ k → k ≤ 18 → (k ≡ 17 → ⊥) → {v : List ℕ} → PlainPut t w c k r (p .rows) (p .line + 1) v → ItemPut t w p (lineAfter t r k) v (p .atoms)
+  plain-put a b n {v} y =
+      record {
+        count = omega arith;
+        built = λ F s.
+            placed (kindNumbered k) refl F refl
+            (subst
+            (λ d.
+            Holds d v
+            (flatWith F (p .line + 1) (itemOf (declarationsIn t w c) (variablesIn t w c) (kindNumbered k) (lineAfter t r k))) (p .atoms))
+            seen-counts (y .built F (p .atoms) (s .rows) (subst (λ d. Holds d w F (p .atoms)) (sym seen-counts) (s .holds))));
+        formula = λ f F s. true-false (sym (sym (not-framed k a b n) ∙ f));
+        names = y .names;
+        size = y .size;
+      }
+
+  -- FORMULAS
+  abbrev φ : Formula ℕ
+  φ = formulaAfter t w c r
+
+  pub follows-as : {K : Kind} {z : Formula ℕ → Item} → Formulaic K z → kindNumbered k ≡ K → FormulaFollows t w c r (p .atoms)
+  follows-as {K} y e = formula-follows x g K e (y .atoms) (y .operands) (y .tail)
+
+  -- the formula φ is written, and the item with it
+  pub formula-put :
+      {K : Kind} {z : Formula ℕ → Item} → Formulaic K z → (e : kindNumbered k ≡ K) → {v : List ℕ} {m : ℕ} → m ≡ p .atoms + length φ →
+      ((F : Flat) → Stands t w p F → Holds (counts (p .names)) v (flatWith F (p .line + 1) (z φ)) m) →
+      ((F : Flat) → Stands t w p F → atomsFrom v (p .atoms) (m - p .atoms) ≡ φ) → Kept names-at values-at w v → length v ≡ length w →
+      ItemPut t w p (lineAfter t r k) v m
+  unfolding formulaAfter
+  formula-put {K} {z} y e count built formula names size =
+      let i = y .item (declarationsIn t w c) (variablesIn t w c) (more (drop r t)) in
+      record {
+        count = omega (arith, count, formula-few t w c r (follows-as y e .form), atoms-most x g K e (y .atoms));
+        built = λ F s. placed K e F (sym i) (built F s);
+        formula = λ f F s. formula F s ∙ sym (ap framedFormula (item-as x g K e ∙ i) ∙ y .framed φ (sym (ap isFramed e) ∙ f));
+        names = names;
+        size = size;
+      }
+
+  pub claim-put : isClaim k ≡ true → {v : List ℕ} {m : ℕ} → ClaimPut t w c k r (p .rows) (p .atoms) (p .line + 1) v m → ItemPut t w p (lineAfter t r k) v m
+  claim-put i y =
+      formula-put (claim-is k i) refl (y .count)
+      (λ F s. y .built (counts (p .names)) F (s .rows) (s .holds)) (λ F s. y .formula (counts (p .names)) F (s .holds)) (y .names) (y .size)
+
+  pub header-put :
+      {K : Kind} {z : Formula ℕ → Item} → Formulaic K z → kindNumbered k ≡ K → (n : ℕ) → suc n ≡ after (p .above .methods) → {v : List ℕ} {m : ℕ} →
+      HeaderPut z t w c r n (p .atoms) v m → ItemPut t w p (lineAfter t r k) v m
+  header-put {K} {z} f e n l y =
+      formula-put f e (y .count)
+      (λ F s. y .built (counts (p .names)) F (p .line + 1) (s .methods ∙ sym l) (s .holds)) (λ F s. y .formula (counts (p .names)) F (s .holds))
+      (y .names) (y .size)

@@ -1,0 +1,129 @@
+use declared::Names;
+use pass::Pass;
+ghost use mathlib.Core.Path.{_≡_};
+ghost use mathlib.Core.Bool.{not, _&&_};
+ghost use Prim.Native.Nat.{_≤_};
+ghost use Rattle.lines.specs.Rows.{kindNumbered};
+ghost use Rattle.pass.specs.Passes.{seenBy, namesAfter, LinePut};
+ghost use Rattle.plain.specs.Plain.{lineAfter};
+ghost use Rattle.bodies.specs.Bodies.{Follows, ItemPut};
+
+fn unless(a: bool, b: bool) -> bool
+    ensures { λ r. ⌜ r ≡ (a && not b) ⌝ }
+{
+    if b { false } else { a }
+}
+
+// What a line of this kind may name.
+pub fn seen(c: Names, kind: u8) -> Names
+    requires { ⌜ (1 ≤ kind) × (kind ≤ 18) ⌝ }
+    ensures { λ r. ⌜ r ≡ seenBy (kindNumbered kind) c ⌝ }
+{
+    let result = unless(c.method, kind == 4);
+    Names {
+        classes: c.classes,
+        fields: c.fields,
+        methods: c.methods,
+        method: c.method,
+        locals: c.locals,
+        result,
+    }
+}
+
+// The names after a statement: `end` closes the block.
+fn names_after(c: Names, kind: u8) -> Names
+    requires { ⌜ (8 ≤ kind) × (kind ≤ 18) ⌝ }
+    ensures { λ r. ⌜ r ≡ namesAfter (kindNumbered kind) c ⌝ }
+{
+    if kind != 18 {
+        return c;
+    }
+    Names {
+        classes: c.classes,
+        fields: c.fields,
+        methods: c.methods,
+        method: false,
+        locals: 0,
+        result: false,
+    }
+}
+
+// Writes the atoms and the row of a statement; gives the number after its last atom.
+fn put_row(text: &[u8], work: &mut [u8], p: Pass, kind: u8, r: usize) -> usize
+    requires { ⌜ Follows (now text) (now work) p kind r × ((8 ≤ kind) × (kind ≤ 18)) ⌝ }
+    ensures { λ m. ⌜ ItemPut (now (text .entry)) (now (work .entry)) p (lineAfter (now (text .entry)) r kind) (now (work .exit)) m ⌝ }
+{
+    let names = p.names;
+    let c = seen(names, kind);
+    let i = p.rows;
+    let n = p.atoms;
+    let line = p.line + 1;
+    let k = kind as usize;
+    match kind {
+        9 => sides::put_let(text, work, c, r, i, n, line),
+        13 => claims::put_claim(text, work, c, k, r, i, n, line),
+        14 => claims::put_claim(text, work, c, k, r, i, n, line),
+        15 => sides::put_if(text, work, c, r, i, n, line),
+        17 => claims::put_claim(text, work, c, k, r, i, n, line),
+        _ => {
+            plain::put_plain(text, work, c, k, r, i, line);
+            n
+        }
+    }
+}
+
+// Writes the line of a statement (kinds 8 to 18), the word of which ends at r.
+pub fn put_statement(text: &[u8], work: &mut [u8], p: Pass, kind: u8, r: usize) -> Pass
+    requires { ⌜ Follows (now text) (now work) p kind r × ((8 ≤ kind) × (kind ≤ 18)) ⌝ }
+    ensures { λ q. ⌜ LinePut (now (text .entry)) (now (work .entry)) p (lineAfter (now (text .entry)) r kind) (now (work .exit)) q × (q .unframed ≡ p .unframed) ⌝ }
+{
+    let atoms = put_row(text, work, p, kind, r);
+    let before = p.names;
+    let names = names_after(before, kind);
+    let above = p.above;
+    Pass {
+        names,
+        above,
+        rows: p.rows + 1,
+        atoms,
+        main: p.main,
+        line: p.line + 1,
+        unframed: p.unframed,
+    }
+}
+
+// Writes the atoms of the requires or the ensures of the last method; gives the number after the last of them.
+fn put_formula(text: &[u8], work: &mut [u8], p: Pass, kind: u8, r: usize) -> usize
+    requires { ⌜ Follows (now text) (now work) p kind r × ((4 ≤ kind) × (kind ≤ 5)) ⌝ }
+    ensures { λ m. ⌜ ItemPut (now (text .entry)) (now (work .entry)) p (lineAfter (now (text .entry)) r kind) (now (work .exit)) m ⌝ }
+{
+    let names = p.names;
+    let c = seen(names, kind);
+    let above = p.above;
+    let own = above.methods;
+    let m = own.first + own.count - 1;
+    let n = p.atoms;
+    match kind {
+        4 => claims::put_requires(text, work, c, r, m, n),
+        _ => claims::put_ensures(text, work, c, r, m, n),
+    }
+}
+
+// Writes the line `requires` (kind 4) or `ensures` (kind 5), the word of which ends at r.
+pub fn put_header(text: &[u8], work: &mut [u8], p: Pass, kind: u8, r: usize) -> Pass
+    requires { ⌜ Follows (now text) (now work) p kind r × ((4 ≤ kind) × (kind ≤ 5)) ⌝ }
+    ensures { λ q. ⌜ LinePut (now (text .entry)) (now (work .entry)) p (lineAfter (now (text .entry)) r kind) (now (work .exit)) q × (q .unframed ≡ p .unframed) ⌝ }
+{
+    let atoms = put_formula(text, work, p, kind, r);
+    let names = p.names;
+    let above = p.above;
+    Pass {
+        names,
+        above,
+        rows: p.rows,
+        atoms,
+        main: p.main,
+        line: p.line + 1,
+        unframed: p.unframed,
+    }
+}

@@ -1,0 +1,102 @@
+-- The row of a line without atoms, by the number of its kind.
+use mathlib.Core.Path.{_≡_, refl, sym, ap, subst, _∙_}
+use mathlib.Core.Bool.{Bool, true, false, _||_}
+use mathlib.Core.List.{List}
+use Prim.Native.Nat.{ℕ, _<_}
+use native.Mathlib.Omega.{arith}
+use lib.Dec.{eqb}
+use lib.ListN.{length, drop}
+use borrow.Author.Tests.{eqb-true}
+use Rattle.rules.specs.Base as Base
+use Rattle.rules.specs.Base.{Name}
+use Rattle.rules.specs.Limits.{most-statements}
+use Rattle.rules.specs.Grammar as Grammar
+use Rattle.rules.specs.Scope.{Scope}
+use Rattle.rules.specs.Items.{itemOf}
+use Rattle.leaves.specs.Words.{kindAt}
+use Rattle.lines.specs.Cuts.{more}
+use Rattle.lines.specs.Rows.{kindNumbered}
+use Rattle.tables.specs.Decode.{byteAt}
+use Rattle.declared.specs.declared.Names as Counts
+use Rattle.declared.specs.Meanings.{Fits, declarationsIn, variablesIn}
+use Rattle.assembly.specs.Flat.{Flat, flatWith}
+use Rattle.emit.specs.declared.Operands.{Operands}
+use Rattle.emit.specs.Puts.{putRow, RowBytes}
+use Rattle.emit.specs.Holds.{RowOk, Holds}
+use Rattle.emit.proofs.Rows.{row-bytes, row-names, row-length}
+use Rattle.pass.specs.Passes.{counts}
+use Rattle.declare.specs.Declares.{lineWith}
+use Rattle.plain.specs.Plain.{setRow, newRow, callRow, returnRow, plainRow, Ready, Tested, isPlain, PlainFollows, PlainPut}
+use Rattle.plain.proofs.Rows.{set-ok, new-ok, call-ok, return-ok, empty-ok, set-written, new-written, call-written, return-written, else-written, end-written}
+
+either : {A : Type 0} (k m : ℕ) (b : Bool) → (eqb k m || b) ≡ true → (k ≡ m → A) → (b ≡ true → A) → A
+either {A} k m b e f g = go (eqb k m) refl e
+  where
+    go : (q : Bool) → eqb k m ≡ q → (q || b) ≡ true → A
+    go true i h = f (eqb-true k m i)
+    go false i h = g h
+
+plain-kinds : (P : ℕ → Type 0) (k : ℕ) → isPlain k ≡ true → P 8 → P 10 → P 11 → P 12 → P 16 → P 18 → P k
+unfolding isPlain
+plain-kinds P k e a b c d f g =
+    either k 8 _ e (λ q. subst P (sym q) a)
+    (λ e. either k 10 _ e (λ q. subst P (sym q) b)
+    (λ e. either k 11 _ e (λ q. subst P (sym q) c)
+    (λ e. either k 12 _ e (λ q. subst P (sym q) d)
+    (λ e. either k 16 _ e (λ q. subst P (sym q) f) (λ e. subst P (sym (eqb-true k 18 e)) g)))))
+
+module _ (t w : List ℕ) (c : Counts.Names) (fits : Fits c) (s : Scope) (l : ℕ) (ws : List Name) where
+  abbrev rowOf : ℕ → Operands
+  rowOf k = plainRow (declarationsIn t w c) (variablesIn t w c) ws l k
+
+  abbrev TestedOf : ℕ → Type 0
+  TestedOf k = Tested (declarationsIn t w c) (variablesIn t w c) s (lineWith (kindNumbered k) ws)
+
+  pub plain-bytes : (k : ℕ) → isPlain k ≡ true → l < 65536 → TestedOf k → RowBytes (rowOf k)
+  unfolding kindNumbered kindAt Base.withDefault Base.first Grammar.kindNumber plainRow setRow newRow callRow returnRow
+  plain-bytes k e line =
+      let small : (r : Operands) → r .member < 256 → r .line < 65536 → RowOk (counts c) 0 r → RowBytes r =
+      λ r. row-bytes (counts c) 0 r (omega arith) in
+      plain-kinds (λ k. TestedOf k → RowBytes (rowOf k)) k e
+      (λ x. let o = set-ok t w c fits s 0 l ws x in small (rowOf 8) (omega (arith, o .field refl)) line o)
+      (λ x. let o = new-ok t w c fits s 0 l ws x in small (rowOf 10) (omega (arith, o .class refl, fits .classes)) line o)
+      (λ x. let o = call-ok t w c fits s 0 l ws x in small (rowOf 11) (omega (arith, o .method refl, fits .methods)) line o)
+      (λ x. small (rowOf 12) (omega arith) line (return-ok t w c fits s 0 l ws x))
+      (λ x. small (rowOf 16) (omega arith) line (empty-ok t w c fits s 0 l 16 (omega arith) (omega arith) (omega arith)))
+      (λ x. small (rowOf 18) (omega arith) line (empty-ok t w c fits s 0 l 18 (omega arith) (omega arith) (omega arith)))
+
+  plain-written :
+      (F : Flat) (n : ℕ) → length (F .rows) < most-statements → Holds (counts c) w F n → (k : ℕ) → isPlain k ≡ true → TestedOf k →
+      Holds (counts c) (putRow w (length (F .rows)) (rowOf k))
+      (flatWith F l (itemOf (declarationsIn t w c) (variablesIn t w c) (kindNumbered k) (lineWith (kindNumbered k) ws))) n
+  unfolding kindNumbered kindAt Base.withDefault Base.first Grammar.kindNumber plainRow
+  plain-written F n room h k e =
+      plain-kinds
+      (λ k.
+      TestedOf k →
+      Holds (counts c) (putRow w (length (F .rows)) (rowOf k))
+      (flatWith F l (itemOf (declarationsIn t w c) (variablesIn t w c) (kindNumbered k) (lineWith (kindNumbered k) ws))) n)
+      k e
+      (set-written t w c fits s n l F room h ws)
+      (new-written t w c fits s n l F room h ws)
+      (call-written t w c fits s n l F room h ws)
+      (return-written t w c fits s n l F room h ws)
+      (λ x. else-written t w c fits s n l F room h ws)
+      (λ x. end-written t w c fits s n l F room h ws)
+
+pub plain-put :
+    (t w : List ℕ) (c : Counts.Names) (k r i l : ℕ) (v : List ℕ) → Ready w c → PlainFollows t w c k r → i < most-statements →
+    v ≡ putRow w i (plainRow (declarationsIn t w c) (variablesIn t w c) (more (drop r t)) l k) → PlainPut t w c k r i l v
+plain-put t w c k r i l v ready x room e =
+    let o : Operands = plainRow (declarationsIn t w c) (variablesIn t w c) (more (drop r t)) l k in
+    record {
+      built = λ F n j h.
+          subst
+          (λ z.
+          Holds (counts c) z
+          (flatWith F l (itemOf (declarationsIn t w c) (variablesIn t w c) (kindNumbered k) (lineWith (kindNumbered k) (more (drop r t))))) n)
+          (sym (e ∙ ap (λ p. putRow w p o) (sym j)))
+          (plain-written t w c (ready .fits) (x .scope) l (more (drop r t)) F n (omega (arith, j)) h k (x .kind) (x .tested));
+      names = λ p a d. ap (λ z. byteAt z p) e ∙ row-names w i o (ready .whole) room p a d;
+      size = ap length e ∙ row-length w i o (ready .whole) room;
+    }
