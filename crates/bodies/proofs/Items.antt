@@ -262,6 +262,7 @@ module _ {t w : List ℕ} {p : Pass} {k r : ℕ} (x : Follows t w p k r) {c : Na
       SidePut K t w c r (p .rows) (p .atoms) (p .line + 1) v m → ItemPut t w p (lineAfter t r k) v m
   side-put K e h n y =
       record {
+        grown = omega (arith, y .count);
         count = omega (arith, y .count, atoms-most x g K e h);
         built = λ F s. placed K e F refl (y .built (counts (p .names)) F (s .rows) (s .holds));
         formula = λ f F s. true-false (sym (sym (ap isFramed e ∙ n) ∙ f));
@@ -273,6 +274,7 @@ module _ {t w : List ℕ} {p : Pass} {k r : ℕ} (x : Follows t w p k r) {c : Na
       8 ≤ k → k ≤ 18 → (k ≡ 17 → ⊥) → {v : List ℕ} → PlainPut t w c k r (p .rows) (p .line + 1) v → ItemPut t w p (lineAfter t r k) v (p .atoms)
   plain-put a b n {v} y =
       record {
+        grown = omega arith;
         count = omega arith;
         built = λ F s.
             placed (kindNumbered k) refl F refl
@@ -303,6 +305,7 @@ module _ {t w : List ℕ} {p : Pass} {k r : ℕ} (x : Follows t w p k r) {c : Na
   formula-put {K} {z} y e count built formula names size =
       let i = y .item (declarationsIn t w c) (variablesIn t w c) (more (drop r t)) in
       record {
+        grown = omega (arith, count);
         count = omega (arith, count, formula-few t w c r (follows-as y e .form), atoms-most x g K e (y .atoms));
         built = λ F s. placed K e F (sym i) (built F s);
         formula = λ f F s. formula F s ∙ sym (ap framedFormula (item-as x g K e ∙ i) ∙ y .framed φ (sym (ap isFramed e) ∙ f));

@@ -33,6 +33,7 @@ module _ {t w : List ℕ} {p : Pass} {k r : ℕ} (x : Follows t w p k r) {v : Li
         names = n;
         above = a ∙ sym (above-is (kindNumbered k) o (p .above));
         rows = r;
+        grown = y .grown;
         atoms = y .count;
         main = m ∙ sym (ap (λ b. cond b (p .rows) (p .main)) (o .main));
         line = l;

@@ -24,6 +24,7 @@ pub record Follows (t w : List ℕ) (p : Pass) (k r : ℕ) : Type 0 where
 
 -- its item is in the tables, and m atoms are written
 pub record ItemPut (t w : List ℕ) (p : Pass) (l : Line) (w′ : List ℕ) (m : ℕ) : Type 0 where
+  pub grown : p .atoms ≤ m
   pub count : m ≤ p .atoms + cond (hasAtoms (l .kind)) most-atoms 0
   pub built : (F : Flat) → Stands t w p F → Holds (counts (p .names)) w′ (flatWith F (suc (p .line)) (item t w p l)) m
   pub formula :

@@ -2,8 +2,10 @@
 use mathlib.Core.Path.{_≡_, refl, sym, ap, subst, _∙_}
 use mathlib.Core.Bool.{Bool, true, false, cond, _||_}
 use mathlib.Core.List.{List, []}
-use Prim.Native.Nat.{ℕ, suc, _-_, _≤_}
+use Prim.Native.Nat.{ℕ, suc, _-_, _≤_, _<_}
+use native.Mathlib.Omega.{arith}
 use lib.Dec.{eqb}
+use borrow.Author.Tests.{eqb-false}
 use Rattle.rules.specs.Syntax.{Formula}
 use Rattle.rules.specs.Grammar.{Line, kindNumber, isKind}
 use Rattle.rules.specs.Reading.{framed, framedItem}
@@ -13,6 +15,7 @@ use Rattle.tables.specs.Decode.{atomsFrom}
 use Rattle.assembly.specs.Flat.{Flat}
 use Rattle.pass.specs.declared.Pass.{Pass}
 use Rattle.pass.specs.Passes.{isFramed, Ready, Stands, Room, LinePut, item, unframedAfter}
+use Rattle.headers.specs.Headers.{isDeclaration}
 use Rattle.pass.proofs.Unframed.{framed-formula, framed-other}
 use Rattle.reader.specs.Readings.{Between, LineTaken, unframedBy, withUnframed}
 
@@ -20,6 +23,28 @@ use Rattle.reader.specs.Readings.{Between, LineTaken, unframedBy, withUn
 pub framed-number : (n : ℕ) → 1 ≤ n → n ≤ 18 → isFramed (kindNumbered n) ≡ (eqb 4 n || (eqb 5 n || eqb 17 n))
 unfolding isFramed isKind kindNumber
 framed-number n a b = rw (number-of-kind n a b)
+
+-- the kinds that are neither a formula of a method nor a statement declare something
+pub declares : (k : ℕ) → 1 ≤ k → (k ≡ 4 → ⊥) → (k ≡ 5 → ⊥) → k < 8 → isDeclaration k ≡ true
+unfolding isDeclaration
+declares k a m n l = go (eqb k 1) (eqb k 2) (eqb k 3) (eqb k 6) (eqb k 7) refl refl refl refl refl
+  where
+    go :
+        (x y z u v : Bool) → eqb k 1 ≡ x → eqb k 2 ≡ y → eqb k 3 ≡ z → eqb k 6 ≡ u → eqb k 7 ≡ v →
+        (x || (y || (z || (u || v)))) ≡ true
+    go true y z u v p q r s t = refl
+    go false true z u v p q r s t = refl
+    go false false true u v p q r s t = refl
+    go false false false true v p q r s t = refl
+    go false false false false true p q r s t = refl
+    go false false false false false p q r s t =
+        let b : 2 ≤ k = omega (arith, a, eqb-false k 1 p) in
+        let d : 3 ≤ k = omega (arith, b, eqb-false k 2 q) in
+        let e : 4 ≤ k = omega (arith, d, eqb-false k 3 r) in
+        let f : 5 ≤ k = omega (arith, e, m) in
+        let g : 6 ≤ k = omega (arith, f, n) in
+        let h : 7 ≤ k = omega (arith, g, eqb-false k 6 s) in
+        absurd (omega (arith, h, l, eqb-false k 7 t))
 
 module _ {t w : List ℕ} {p : Pass} {l : Line} {w′ : List ℕ} {q : Pass} (x : LinePut t w p l w′ q) where
   -- the line's formula was tested

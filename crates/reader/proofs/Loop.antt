@@ -7,12 +7,12 @@ use native.Mathlib.Omega.{arith}
 use native.Mathlib.Numerals.{add-one}
 use lib.ListN.{length, drop}
 use Rattle.rules.specs.Limits.{most-bytes, work-bytes}
-use Rattle.rules.specs.Base.{Try, ok, no}
+use Rattle.rules.specs.Base.{ok, no}
 use Rattle.rules.specs.Answers.{Refusal, Verdict, accepted, refused, atLine, then}
 use Rattle.rules.specs.Text.{lines}
 use Rattle.rules.specs.Grammar.{Line}
 use Rattle.rules.specs.Places.{Place, firstPlace, placeAfter}
-use Rattle.rules.specs.Scope.{Declarations, Scope, declarations, firstScope, scopeAfter, classesOf, fieldsOf, methodsOf}
+use Rattle.rules.specs.Scope.{Declarations, Scope, declarations, firstScope, scopeAfter, classesOf, methodsOf}
 use Rattle.rules.specs.Items.{Item, resolveLine, resolveLines}
 use Rattle.rules.specs.Reading.{checkFramed}
 use Rattle.leaves.specs.Sets.{Found}
@@ -27,8 +27,7 @@ use Rattle.declare.proofs.Walks.{Walking, walking-first, walking-done, walking-
 use Rattle.assembly.specs.Flat.{Flat, noFlat, flatFrom, flatWith}
 use Rattle.emit.proofs.Kept.{none-written}
 use Rattle.pass.specs.declared.Pass.{Pass}
-use Rattle.pass.specs.Passes.{counts, firstPass, after, lastClass, Ready, Stands, Room, LinePut, item, unframedAfter}
-use Rattle.pass.proofs.Declared.{Rest}
+use Rattle.pass.specs.Passes.{counts, firstPass, lastClass, Ready, Stands, Room, item}
 use Rattle.pass.proofs.Places.{At, at-first, at-ready, at-room, at-on}
 use Rattle.pass.proofs.Unframed.{framedAfter, framed-first, framed-on, framed-last}
 use Rattle.reader.specs.Readings.{refusalOf, framedVerdict, Written, LineRead, StepIs, resolvedText, AllRead}
@@ -162,6 +161,7 @@ module _ {t : List ℕ} {a : ℕ} {p : Pass} {w : List ℕ} (x : Resolving t a p
         methods = all-above _ _ (f .methods .low) (f .methods .are) ∙ method-count;
         unframed = ap (λ (xs : List Item). checkFramed xs 0) (sym (append-nil (x .items))) ∙ (x .framed [] ∙ framed-last (p .unframed) (p .line));
       }
+
   module _ (size : length t ≤ most-bytes) {e : ℕ} (l : a < length t) (f : Found t a LineEnd e) where
     stand-here : At t w p (x .place) (lineAt t a ∷ linesOf (drop (e + 1) t))
     stand-here = subst (At t w p (x .place)) (walking-lines (x .walk) l f) (x .stand)

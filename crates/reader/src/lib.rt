@@ -7,19 +7,18 @@ use lines::Scanned;
 use pass::Pass;
 use rules::Machine;
 ghost use mathlib.Core.Path.{_≡_};
-ghost use mathlib.Core.List.{[]};
-ghost use Prim.Native.Nat.{ℕ, _+_, _-_, _≤_, _<_};
-ghost use lib.ListN.{length, drop};
-ghost use Rattle.rules.specs.Limits.{work-bytes, most-bytes, most-atoms};
+ghost use Prim.Native.Nat.{_+_, _-_, _≤_, _<_};
+ghost use lib.ListN.{length};
+ghost use Rattle.rules.specs.Limits.{work-bytes, most-bytes};
 ghost use Rattle.rules.specs.Reading.{framed};
-ghost use Rattle.lines.specs.Cuts.{more};
 ghost use Rattle.lines.specs.Rows.{kindNumbered};
 ghost use Rattle.lines.specs.Scans as Scans;
 ghost use Rattle.tables.specs.Decode.{atomsFrom};
-ghost use Rattle.tables.specs.Tables.{AtomFits};
 ghost use Rattle.declare.specs.Texts.{Taken, lineAt, FormedAt};
-ghost use Rattle.declare.specs.Declares.{lineWith, Declares};
-ghost use Rattle.pass.specs.Passes.{firstPass, Ready, Tested, Room, LinePut, isFramed, seenBy};
+ghost use Rattle.declare.specs.Declares.{Declares};
+ghost use Rattle.plain.specs.Plain.{lineAfter};
+ghost use Rattle.bodies.specs.Bodies.{Follows};
+ghost use Rattle.pass.specs.Passes.{firstPass, Ready, Room, LinePut, isFramed};
 ghost use Rattle.reader.specs.Readings.{unframedBy, withUnframed, Between, Written, LineTaken, StepIs, ResolvedIs, ReadingIs, refusalOf};
 
 // Why a text is refused.
@@ -36,20 +35,19 @@ pub enum Refusal {
 
 // ONE LINE
 
-// STUB
+// Puts a good line of this kind, the word of which ends at r, into the tables.
 fn put_line(text: &[u8], work: &mut [u8], p: Pass, kind: u8, r: usize) -> Pass
-    requires { ⌜ Ready (now text) (now work) p × (r ≤ length (now text)) × ((1 ≤ kind) × (kind ≤ 18)) × Tested (now text) (now work) p (lineWith (kindNumbered kind) (more (drop r (now text)))) × Room (now text) (now work) p (lineWith (kindNumbered kind) (more (drop r (now text)))) ⌝ }
-    ensures { λ q. ⌜ LinePut (now (text .entry)) (now (work .entry)) p (lineWith (kindNumbered kind) (more (drop r (now (text .entry))))) (now (work .exit)) q × (q .unframed ≡ p .unframed) ⌝ }
+    requires { ⌜ Follows (now text) (now work) p kind r × ((1 ≤ kind) × (kind ≤ 18)) × Written (now text) (now work) p ⌝ }
+    ensures { λ q. ⌜ LinePut (now (text .entry)) (now (work .entry)) p (lineAfter (now (text .entry)) r kind) (now (work .exit)) q × (q .unframed ≡ p .unframed) ⌝ }
 {
-    p
-}
-
-// STUB
-fn seen(c: Names, kind: u8) -> Names
-    requires { ⌜ (1 ≤ kind) × (kind ≤ 18) ⌝ }
-    ensures { λ r. ⌜ r ≡ seenBy (kindNumbered kind) c ⌝ }
-{
-    c
+    if 8 <= kind {
+        return bodies::put_statement(text, work, p, kind, r);
+    }
+    match kind {
+        4 => bodies::put_header(text, work, p, kind, r),
+        5 => bodies::put_header(text, work, p, kind, r),
+        _ => headers::put_declaration(text, work, p, kind, r),
+    }
 }
 
 // Is number 10 about lines of this kind?
@@ -106,8 +104,8 @@ pub enum Step {
 
 // A good line of this kind, the word of which ends at r.
 fn take_line(text: &[u8], work: &mut [u8], p: Pass, kind: u8, r: usize) -> Pass
-    requires { ⌜ Ready (now text) (now work) p × (r ≤ length (now text)) × ((1 ≤ kind) × (kind ≤ 18)) × Tested (now text) (now work) p (lineWith (kindNumbered kind) (more (drop r (now text)))) × Room (now text) (now work) p (lineWith (kindNumbered kind) (more (drop r (now text)))) × Written (now text) (now work) p ⌝ }
-    ensures { λ q. ⌜ LineTaken (now (text .entry)) (now (work .entry)) p (lineWith (kindNumbered kind) (more (drop r (now (text .entry))))) (now (work .exit)) q ⌝ }
+    requires { ⌜ Follows (now text) (now work) p kind r × ((1 ≤ kind) × (kind ≤ 18)) × Written (now text) (now work) p ⌝ }
+    ensures { λ q. ⌜ LineTaken (now (text .entry)) (now (work .entry)) p (lineAfter (now (text .entry)) r kind) (now (work .exit)) q ⌝ }
 {
     let q = put_line(text, work, p, kind, r);
     let u = first_unframed(work, kind, p, q);
@@ -123,7 +121,7 @@ fn read_line(text: &[u8], work: &mut [u8], at: usize, p: Pass) -> Step
     let kind = w.kind;
     let names = p.names;
     let above = p.above;
-    let c = seen(names, kind);
+    let c = bodies::seen(names, kind);
     let j = judge::judge(text, work, at, kind, c, above);
     match j {
         Judged::Undeclared => Step::Refused(Refusal::Undeclared),

@@ -1,8 +1,6 @@
 use mathlib.Core.Path.{refl}
 use Rattle.reader.proofs.first_pass.Statement.{statement}
 use Rattle.reader.proofs.first_pass.Tie as tie
-use Rattle.reader.proofs.first_pass.Reads as reads
-use Rattle.reader.proofs.first_pass.Lts as lts
 
 -- src/lib.rt:147:1
 returns : tie.Need-returns

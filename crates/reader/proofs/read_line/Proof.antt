@@ -36,8 +36,16 @@ enum-told-4 c = search needs
 
 take-line-requires : tie.Need-take-line-requires
 take-line-requires c κs =
-    let e = sym (word-line (c .before .before .before .before .before .before .before .before .word-at .ensures) (c .before .before .before .before .before .before .before .before .before .before .before .pre .2)) in
-    (c .before .before .before .before .before .before .before .before .before .before .before .pre .0, c .before .before .before .before .before .before .before .before .word-at .ensures .high, word-bounds (c .before .before .before .before .before .before .before .before .word-at .ensures) (c .before .before .before .before .before .before .before .before .before .before .before .pre .2), subst (Tested _ _ _) e (good-tested _ _ (c .before .before .before .before .before .before .before .before .before .before .before .args .p) _ (c .before .before .before .before .before .before .before .before .word-at .ensures) (c .before .before .before .before .before .before .before .before .before .before .before .pre .2) _ (c .before .before .before .before .before .seen .ensures) (c .before .before .before .judge .result) (c .before .before .before .judge .ensures) (sym (c .before .enum-told4 .given .1))), subst (Room _ _ _) e (c .before .before .before .before .before .before .before .before .before .before .before .pre .3), c .before .before .before .before .before .before .before .before .before .before .before .pre .4)
+    let e = sym (word-line (c .before .before .before .before .before .before .before .before .word-at .ensures) (c .before .before .before .before .before .before .before .before .before .before .before .pre .2)) in (
+      record {
+        ready = c .before .before .before .before .before .before .before .before .before .before .before .pre .0;
+        high = c .before .before .before .before .before .before .before .before .word-at .ensures .high;
+        tested = subst (Tested _ _ _) e (good-tested _ _ (c .before .before .before .before .before .before .before .before .before .before .before .args .p) _ (c .before .before .before .before .before .before .before .before .word-at .ensures) (c .before .before .before .before .before .before .before .before .before .before .before .pre .2) _ (c .before .before .before .before .before .seen .ensures) (c .before .before .before .judge .result) (c .before .before .before .judge .ensures) (sym (c .before .enum-told4 .given .1)));
+        room = subst (Room _ _ _) e (c .before .before .before .before .before .before .before .before .before .before .before .pre .3);
+      },
+      word-bounds (c .before .before .before .before .before .before .before .before .word-at .ensures) (c .before .before .before .before .before .before .before .before .before .before .before .pre .2),
+      c .before .before .before .before .before .before .before .before .before .before .before .pre .4,
+    )
 
 same-length : tie.Need-same-length
 same-length c = refl

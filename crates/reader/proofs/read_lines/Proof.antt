@@ -7,7 +7,7 @@ use Rattle.rules.specs.Answers.{refused}
 use lib.ListN.{length}
 use borrow.Author.Needs.{needs}
 use Rattle.declare.proofs.Walks.{walking-clean}
-use Rattle.reader.specs.Readings.{ResolvedIs}
+use Rattle.reader.specs.Readings.{refusalOf, ResolvedIs}
 use Rattle.reader.proofs.Loop.{step-refused, step-on, Resolving, resolving-first, resolving-ready, resolving-written, resolving-done, resolving-formed, resolving-room, resolving-refused, resolving-on}
 use Rattle.reader.proofs.read_lines.Statement.{statement}
 use Rattle.reader.proofs.read_lines.Tie as tie
@@ -48,7 +48,7 @@ unfolding ResolvedIs
 returns c =
     let x = c .before .before .before .before .before .before .before .before .before .before .loop .inv .1 in
     let y = step-refused _ _ _ _ _ _ (c .before .before .before .before .before .before .read-line .ensures) (c .before .before .s .given .0 .0) (c .before .before .s .given .1) in
-    (resolving-refused x (c .before .before .before .before .before .before .before .before .before .before .before .before .before .before .pre .0) (c .before .before .before .before .before .before .before .before .before .loop-test .taken) (c .before .before .before .before .before .before .before .before .find .ensures) _ (y .0) ∙ ap (refused _) (sym (add-one _)), ap length (y .1) ∙ x .whole)
+    (resolving-refused x (c .before .before .before .before .before .before .before .before .before .before .before .before .before .before .pre .0) (c .before .before .before .before .before .before .before .before .before .loop-test .taken) (c .before .before .before .before .before .before .before .before .find .ensures) (refusalOf (c .before .before .s .given .0 .0)) (y .0) ∙ ap (refused (refusalOf (c .before .before .s .given .0 .0))) (sym (add-one _)), ap length (y .1) ∙ x .whole)
 
 enum-known-s-2 : tie.Need-enum-known-s-2 Inv-loop μ-loop
 enum-known-s-2 c = search needs
