@@ -1,1 +1,5 @@
 pub mod Writes
+pub mod Walk
+pub mod Variables
+pub mod Reading
+pub mod Answers

@@ -12,6 +12,10 @@ use Rattle.rules.specs.Calls.{Result}
 use Rattle.rules.specs.Printed.{digits, signed, printedLine, mainVariables, printedRun}
 use Rattle.tables.specs.Decode.{wordAt}
 
+-- all that is printed fits
+abbrev pub out-bytes : ℕ
+out-bytes = 512
+
 -- n words of an area, from place i on
 unfoldable pub wordsFrom : ℕ → ℕ → List ℕ → List ℕ
 wordsFrom zero i b = []
@@ -24,10 +28,14 @@ numberIn r = r / 65536
 abbrev pub lineIn : ℕ → ℕ
 lineIn r = r % 65536
 
+-- the twelve values of a results area, which stand after the steps
+abbrev pub valuesIn : List ℕ → List ℕ
+valuesIn b = wordsFrom values-shown 4 b
+
 -- what `run` returned and left in the results area
 unfoldable pub resultIn : ℕ → List ℕ → Result
 resultIn ran b =
-    record { number = numberIn ran; line = lineIn ran; steps = wordAt b 0; values = wordsFrom values-shown 4 b }
+    record { number = numberIn ran; line = lineIn ran; steps = wordAt b 0; values = valuesIn b }
 
 abbrev pub checkLine : ℕ → Name
 checkLine checked = printedLine (bytes "check") (digits (numberIn checked) ∷ digits (lineIn checked) ∷ [])

@@ -10,3 +10,8 @@ pub record Writes (o : List ℕ) (a : ℕ) (bs : List ℕ) (o′ : List ℕ) (e 
   pub end : e ≡ a + length bs
   pub high : e ≤ length o′
   pub are : take e o′ ≡ take a o ++ bs
+
+-- The first r bytes of o are bs.
+pub record Prints (bs o : List ℕ) (r : ℕ) : Type 0 where
+  pub high : r ≤ length o
+  pub are : take r o ≡ bs
