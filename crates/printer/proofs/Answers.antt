@@ -1,12 +1,12 @@
 -- What is written is what is printed.
-use mathlib.Core.Path.{_≡_, refl, sym, ap, _∙_}
+use mathlib.Core.Path.{_≡_, sym, ap, _∙_}
 use mathlib.Core.Bool.{true, false}
 use mathlib.Core.List.{List, [], _∷_, _++_, append-nil}
 use Prim.Native.Nat.{ℕ, _+_, _≤_}
 use native.Mathlib.Omega.{arith}
 use lib.ListN.{length, length-append}
 use Rattle.rules.specs.Base.{Name, bytes, between}
-use Rattle.rules.specs.Printed.{digits, printedLine, printedVariables, printedRun, mainVariables}
+use Rattle.rules.specs.Printed.{digits, printedLine, printedVariables, printedRun}
 use Rattle.rules.specs.Items.{Item}
 use Rattle.rules.specs.Answers.{accepted}
 use Rattle.rules.specs.Reading.{readText}

@@ -3,3 +3,7 @@ pub mod Walk
 pub mod Variables
 pub mod Reading
 pub mod Answers
+pub mod Called
+pub mod Bounds
+pub mod RunBounds
+pub mod Calls

@@ -11,7 +11,7 @@ use borrow.Author.Tests.{leb-true}
 use Rattle.rules.specs.Base.{Name, bytes}
 use Rattle.rules.specs.Text.{isName}
 use Rattle.rules.specs.Grammar as Grammar
-use Rattle.rules.specs.Grammar.{Kind, Line, Method, Main, Var, kindNumber, isKind, isFormed, form}
+use Rattle.rules.specs.Grammar.{Line, Method, Main, Var, kindNumber, isKind, isFormed, form}
 use Rattle.rules.specs.Scope.{operand}
 use Rattle.rules.specs.Places.{Place, placeAfter, withinLimits, oneMoreIf}
 use Rattle.rules.specs.Printed.{printedLine, signed, printedVariables}
@@ -32,7 +32,7 @@ use Rattle.printer.specs.Writes.{Writes}
 use Rattle.printer.specs.Answers.{wordsFrom, valuesIn, variableLine}
 use Rattle.printer.specs.Variables.{localsBy, locals, Room, Shows, Goes, ShowsLocal}
 use Rattle.printer.proofs.Writes.{writes-none, writes-on, writes-as, signed-few}
-use Rattle.printer.proofs.Walk.{Walk, walk-first, walk-first-locals, walk-clean, walk-lines, walk-on, walk-place}
+use Rattle.printer.proofs.Walk.{Walk, walk-first, walk-first-locals, walk-lines, walk-on, walk-place}
 
 -- VALUES
 pub words-length : (n i : ℕ) (b : List ℕ) → length (wordsFrom n i b) ≡ n

@@ -9,7 +9,7 @@ use native.Mathlib.Nat.{mod-eq-of-lt}
 use lib.Dec.{ltb}
 use borrow.Author.Tests.{lt-ltb, le-ltb}
 use lib.ListN.{length, getD, take, set, length-append, length-set}
-use lib.Seq.{take-suc, take-suc-set, take-all}
+use lib.Seq.{take-suc, take-suc-set}
 use Rattle.rules.specs.Base.{Name}
 use Rattle.rules.specs.Printed.{digitsBefore, digits, signed}
 use Rattle.printer.specs.Writes.{Writes}

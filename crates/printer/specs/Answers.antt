@@ -4,11 +4,12 @@ use mathlib.Core.Bool.{false, cond}
 use mathlib.Core.List.{List, [], _∷_, _++_}
 use Prim.Native.Nat.{ℕ, zero, suc, _+_, _/_, _%_}
 use Rattle.rules.specs.Base.{Name, bytes, between}
-use Rattle.rules.specs.Limits.{values-shown}
+use Rattle.rules.specs.Limits.{values-shown, program-steps}
 use Rattle.rules.specs.Answers.{accepted}
 use Rattle.rules.specs.Items.{Item}
 use Rattle.rules.specs.Reading.{readText}
-use Rattle.rules.specs.Calls.{Result}
+use Rattle.rules.specs.Calls.{Result, checkText, runText}
+use Rattle.rules.specs.Areas.{packed, resultBytes}
 use Rattle.rules.specs.Printed.{digits, signed, printedLine, mainVariables, printedRun}
 use Rattle.tables.specs.Decode.{wordAt}
 
@@ -54,3 +55,11 @@ printedAnswers t checked ran b =
 -- Unless the number is 1 to 9, the text is read.
 abbrev pub ReadUnless : List ℕ → ℕ → Type 0
 ReadUnless t checked = between 1 9 (numberIn checked) ≡ false → (items : List Item) × (readText t ≡ accepted items)
+
+-- WHAT THE CALLS GIVE
+
+-- Both calls returned, and `run` left its results.
+pub record Called (t : List ℕ) (checked ran : ℕ) (b : List ℕ) : Type 0 where
+  pub check : checked ≡ packed (checkText t .0) (checkText t .1)
+  pub run : ran ≡ packed (runText t program-steps .number) (runText t program-steps .line)
+  pub results : b ≡ resultBytes (runText t program-steps)

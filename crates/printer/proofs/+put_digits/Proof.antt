@@ -1,3 +1,4 @@
+-- `printer::put_digits` meets its contract. Assumes nothing.
 use mathlib.Core.Path.{ap, _∙_}
 use mathlib.Core.List.{[], _∷_, _++_}
 use Rattle.rules.specs.Printed.{digitsBefore}
@@ -26,7 +27,6 @@ abbrev put-digits-below : ℕ → In 1 put-digits-kinds.ps
 put-digits-below t =
     and 1 put-digits-kinds.ps (falls 1 put-digits-kinds.ps _<_ μ-put-digits t) put-digits.Pre
 
--- src/lib.rt:44:9
 put-digits-low-digit-requires : (t : ℕ) → put-digits-lts.Need-low-digit-requires (
   low-digit-reads.Asked,
   low-digit-reads.Learnt,
@@ -38,7 +38,6 @@ put-digits-low-digit-requires : (t : ℕ) → put-digits-lts.Need-low-digit-requ
 put-digits-low-digit-requires t c κs =
     search needs
 
--- src/lib.rt:46:9
 put-digits-put-requires : (t : ℕ) → put-digits-lts.Need-put-requires (
   low-digit-reads.Asked,
   low-digit-reads.Learnt,
@@ -50,7 +49,6 @@ put-digits-put-requires : (t : ℕ) → put-digits-lts.Need-put-requires (
 put-digits-put-requires t c κs =
     omega (arith, c .before .before .before .before .pre .1)
 
--- src/lib.rt:46:9
 put-digits-same-length : (t : ℕ) → put-digits-lts.Need-same-length (
   low-digit-reads.Asked,
   low-digit-reads.Learnt,
@@ -62,7 +60,6 @@ put-digits-same-length : (t : ℕ) → put-digits-lts.Need-same-length (
 put-digits-same-length t c =
     c .before .before .put .ensures .size
 
--- src/lib.rt:46:9
 put-digits-returns : (t : ℕ) → put-digits-lts.Need-returns (
   low-digit-reads.Asked,
   low-digit-reads.Learnt,
@@ -75,7 +72,6 @@ put-digits-returns t c =
     let v = c .before .before .before .before .before .before .before .args in
     writes-as (c .before .before .put .ensures) (ap (λ d. d ∷ []) (c .before .before .before .before .before .low-digit .ensures) ∙ digits-last (v .k) (v .n) (c .before .before .before .before .if1 .taken))
 
--- src/lib.rt:49:9
 put-digits-put-requires-2 : (t : ℕ) → put-digits-lts.Need-put-requires-2 (
   low-digit-reads.Asked,
   low-digit-reads.Learnt,
@@ -87,7 +83,6 @@ put-digits-put-requires-2 : (t : ℕ) → put-digits-lts.Need-put-requires-2 (
 put-digits-put-requires-2 t c κs =
     omega (arith, c .before .before .before .before .before .pre .1)
 
--- src/lib.rt:49:9
 put-digits-same-length-2 : (t : ℕ) → put-digits-lts.Need-same-length-2 (
   low-digit-reads.Asked,
   low-digit-reads.Learnt,
@@ -99,7 +94,6 @@ put-digits-same-length-2 : (t : ℕ) → put-digits-lts.Need-same-length-2 (
 put-digits-same-length-2 t c =
     c .before .before .put2 .ensures .size
 
--- src/lib.rt:49:9
 put-digits-returns-2 : (t : ℕ) → put-digits-lts.Need-returns-2 (
   low-digit-reads.Asked,
   low-digit-reads.Learnt,
@@ -112,7 +106,6 @@ put-digits-returns-2 t c =
     let v = c .before .before .before .before .before .before .before .before .args in
     writes-as (c .before .before .put2 .ensures) (ap (λ d. d ∷ []) (c .before .before .before .before .before .before .low-digit .ensures) ∙ digits-one (v .k) (v .n) (c .before .before .before .before .if2 .taken))
 
--- src/lib.rt:51:33
 put-digits-sub-put-digits : (t : ℕ) → put-digits-lts.Need-sub-put-digits (
   low-digit-reads.Asked,
   low-digit-reads.Learnt,
@@ -124,7 +117,6 @@ put-digits-sub-put-digits : (t : ℕ) → put-digits-lts.Need-sub-put-digits (
 put-digits-sub-put-digits t c =
     search needs
 
--- src/lib.rt:51:9
 put-digits-put-digits-requires : (t : ℕ) → put-digits-lts.Need-put-digits-requires (
   low-digit-reads.Asked,
   low-digit-reads.Learnt,
@@ -136,7 +128,6 @@ put-digits-put-digits-requires : (t : ℕ) → put-digits-lts.Need-put-digits-re
 put-digits-put-digits-requires t c κs =
     (omega (arith, c .before .before .before .before .before .pre .0, c .before .before .if1 .left), omega (arith, c .before .before .before .before .before .pre .1, c .before .before .if1 .left))
 
--- src/lib.rt:52:5
 put-digits-put-requires-3 : (t : ℕ) → put-digits-lts.Need-put-requires-3 (
   low-digit-reads.Asked,
   low-digit-reads.Learnt,
@@ -150,7 +141,6 @@ put-digits-put-requires-3 t c κs =
     let x = c .before .before .before .put-digits .ensures in
     omega (arith, c .before .before .before .before .before .before .before .before .before .pre .1, x .end, x .size, digits-few (v .k - 1) (v .n / 10), c .before .before .before .before .before .before .if1 .left)
 
--- src/lib.rt:40:1
 put-digits-same-length-3 : (t : ℕ) → put-digits-lts.Need-same-length-3 (
   low-digit-reads.Asked,
   low-digit-reads.Learnt,
@@ -162,7 +152,6 @@ put-digits-same-length-3 : (t : ℕ) → put-digits-lts.Need-same-length-3 (
 put-digits-same-length-3 t c =
     c .before .before .put3 .ensures .size ∙ c .before .before .before .before .before .before .put-digits .ensures .size
 
--- src/lib.rt:40:1
 put-digits-returns-3 : (t : ℕ) → put-digits-lts.Need-returns-3 (
   low-digit-reads.Asked,
   low-digit-reads.Learnt,

@@ -1,16 +1,13 @@
+-- `printer::is_unread` meets its contract. Assumes nothing.
 use Rattle.rules.specs.Base.{between}
 use borrow.Author.Tests.{lt-leb, le-leb}
 use Rattle.printer.proofs.is_unread.Statement.{statement}
 use Rattle.printer.proofs.is_unread.Tie as tie
-use Rattle.printer.proofs.is_unread.Reads as reads
-use Rattle.printer.proofs.is_unread.Lts as lts
 
--- src/lib.rt:205:9
 returns : tie.Need-returns
 unfolding between
 returns c = rw (lt-leb 1 _ (c .if1 .taken))
 
--- src/lib.rt:201:1
 returns-2 : tie.Need-returns-2
 unfolding between
 returns-2 c = rw (le-leb 1 _ (c .if1 .left))

@@ -1,3 +1,4 @@
+-- `printer::print` meets its contract. Assumes nothing.
 use mathlib.Core.Path.{sym, ap, _∙_}
 use native.Mathlib.Omega.{arith}
 use Rattle.printer.specs.Answers.{runLine}
@@ -7,43 +8,29 @@ use Rattle.printer.proofs.Answers.{check-few, run-few, written, unread-
 use borrow.Author.Needs.{needs}
 use Rattle.printer.proofs.print.Statement.{statement}
 use Rattle.printer.proofs.print.Tie as tie
-use Rattle.printer.proofs.print.Reads as reads
-use Rattle.printer.proofs.print.Lts as lts
-use Rattle.printer.proofs.is_unread.Reads as is-unread-reads
-use Rattle.printer.proofs.put_check.Reads as put-check-reads
-use Rattle.printer.proofs.put_run.Reads as put-run-reads
-use Rattle.printer.proofs.show_variables.Reads as show-variables-reads
-use Rattle.tables.proofs.word_at.Reads as word-at-reads
 
--- src/lib.rt:215:9
 put-check-requires : tie.Need-put-check-requires
 put-check-requires c κs = search needs
 
--- src/lib.rt:216:8
 is-unread-requires : tie.Need-is-unread-requires
 is-unread-requires c κs = search needs
 
--- src/lib.rt:217:9
 same-length : tie.Need-same-length
 same-length c = search needs
 
--- src/lib.rt:217:9
 returns : tie.Need-returns
 returns c =
     let v = c .before .before .before .before .before .before .before .before .before .args in
     written (c .before .before .before .before .put-check .ensures) (unread-printed (v .text .now) (v .checked) (v .ran) (v .results .now) (sym (c .before .is-unread .ensures) ∙ c .if1 .taken))
 
--- src/lib.rt:219:34
 word-at-requires : tie.Need-word-at-requires
 word-at-requires c κs = search needs
 
--- src/lib.rt:219:9
 put-run-requires : tie.Need-put-run-requires
 put-run-requires c κs =
     let x = c .before .before .before .before .before .before .put-check .ensures in
     omega (arith, x .end, x .size, check-few (c .before .before .before .before .before .before .before .before .before .before .before .args .checked), c .before .before .before .before .before .before .before .before .before .before .before .pre .0)
 
--- src/lib.rt:220:5
 show-variables-requires : tie.Need-show-variables-requires
 show-variables-requires c κs =
     let v = c .before .before .before .before .before .before .before .before .before .before .before .before .before .before .before .args in
@@ -53,11 +40,9 @@ show-variables-requires c κs =
     let (items, e) = p .2 (sym (c .before .before .before .before .before .before .before .is-unread .ensures) ∙ c .before .before .before .before .before .before .if1 .left) in
     (omega (arith, x .end, y .end, x .size, y .size, check-few (v .checked), run-few (v .ran) (c .before .before .before .before .word-at .result), p .0), p .1, read-parts (v .text .now) items e .taken)
 
--- src/lib.rt:211:1
 same-length-2 : tie.Need-same-length-2
 same-length-2 c = search needs
 
--- src/lib.rt:211:1
 returns-2 : tie.Need-returns-2
 returns-2 c =
     let v = c .before .before .before .before .before .before .before .before .before .before .before .before .before .before .before .before .before .before .args in

@@ -1,3 +1,4 @@
+-- `printer::put_check` meets its contract. Assumes nothing.
 use native.Mathlib.Omega.{arith}
 use Prim.Native.Nat.{_/_, _%_}
 use Rattle.rules.specs.Base.{bytes}
@@ -6,40 +7,28 @@ use Rattle.printer.proofs.Writes.{writes-on, digits-short}
 use borrow.Author.Needs.{needs}
 use Rattle.printer.proofs.put_check.Statement.{statement}
 use Rattle.printer.proofs.put_check.Tie as tie
-use Rattle.printer.proofs.put_check.Reads as reads
-use Rattle.printer.proofs.put_check.Lts as lts
-use Rattle.printer.proofs.put.Reads as put-reads
-use Rattle.printer.proofs.put_field.Reads as put-field-reads
-use Rattle.printer.proofs.put_word.Reads as put-word-reads
 
--- src/lib.rt:92:30
 slice-aggregate-put-word : tie.Need-slice-aggregate-put-word
 slice-aggregate-put-word c = search needs
 
--- src/lib.rt:92:9
 put-word-requires : tie.Need-put-word-requires
 put-word-requires c κs = search needs
 
--- src/lib.rt:93:9
 put-field-requires : tie.Need-put-field-requires
 put-field-requires c κs = search needs
 
--- src/lib.rt:94:9
 put-field-requires-2 : tie.Need-put-field-requires-2
 put-field-requires-2 c κs =
     omega (arith, c .before .before .before .before .before .before .before .put-word .ensures .end, c .before .before .before .put-field .ensures .end, c .before .before .before .put-field .ensures .size, c .before .before .before .before .before .before .before .put-word .ensures .size, digits-short (c .before .before .before .before .before .before .before .before .before .before .before .args .checked / 65536), c .before .before .before .before .before .before .before .before .before .before .before .pre)
 
--- src/lib.rt:95:5
 put-requires : tie.Need-put-requires
 put-requires c κs =
     let v = c .before .before .before .before .before .before .before .before .before .before .before .before .before .before .before .args .checked in
     omega (arith, c .before .before .before .before .before .before .before .before .before .before .before .put-word .ensures .end, c .before .before .before .before .before .before .before .put-field .ensures .end, c .before .before .before .put-field2 .ensures .end, c .before .before .before .put-field2 .ensures .size, c .before .before .before .before .before .before .before .put-field .ensures .size, c .before .before .before .before .before .before .before .before .before .before .before .put-word .ensures .size, digits-short (v / 65536), digits-short (v % 65536), c .before .before .before .before .before .before .before .before .before .before .before .before .before .before .before .pre)
 
--- src/lib.rt:88:1
 same-length : tie.Need-same-length
 same-length c = search needs
 
--- src/lib.rt:88:1
 returns : tie.Need-returns
 unfolding bytes printedLine
 returns c =

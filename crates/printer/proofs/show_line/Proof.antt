@@ -1,3 +1,4 @@
+-- `printer::show_line` meets its contract. Assumes nothing.
 use mathlib.Core.Path.{sym, _∙_}
 use mathlib.Core.Logic.{⊎-elim, inl, inr}
 use borrow.Author.Tests.{ne-eqb}
@@ -7,16 +8,10 @@ use Rattle.printer.proofs.Variables.{var-named, goes-method, goes-main,
 use borrow.Author.Needs.{needs}
 use Rattle.printer.proofs.show_line.Statement.{statement}
 use Rattle.printer.proofs.show_line.Tie as tie
-use Rattle.printer.proofs.show_line.Reads as reads
-use Rattle.printer.proofs.show_line.Lts as lts
-use Rattle.declare.proofs.word_at.Reads as word-at-reads
-use Rattle.printer.proofs.show_local.Reads as show-local-reads
 
--- src/lib.rt:159:9
 word-at-requires : tie.Need-word-at-requires
 word-at-requires c κs = search needs
 
--- src/lib.rt:167:14
 show-local-requires : tie.Need-show-local-requires
 unfolding kindNumber
 show-local-requires c κs =
@@ -25,7 +20,6 @@ show-local-requires c κs =
     let e = kind-is (p .2) w {k = Var} (c .before .match .keys2) in
     (w .high, p .1, p .3 .value e, p .3 .line e, var-named _ (form-is (p .2) w Var (c .before .match .keys2)))
 
--- src/lib.rt:155:1
 returns : tie.Need-returns
 unfolding kindNumber
 returns c =
@@ -33,11 +27,9 @@ returns c =
     let w = c .before .word-at .ensures in
     ⊎-elim (λ e. goes-method _ _ _ _ _ (kind-is (p .2) w {k = Method} e)) (λ e. goes-main _ _ _ _ _ (kind-is (p .2) w {k = Main} e)) (c .match .keys1)
 
--- src/lib.rt:155:1
 same-length : tie.Need-same-length
 same-length c = search needs
 
--- src/lib.rt:155:1
 returns-2 : tie.Need-returns-2
 unfolding kindNumber
 returns-2 c =
@@ -47,7 +39,6 @@ returns-2 c =
     let e = kind-is (p .2) w {k = Var} (c .before .before .before .before .match .keys2) in
     goes-line (line-is (p .2) w {k = Var} (c .before .before .before .before .match .keys2)) (goes-local _ _ _ _ _ _ _ (p .3 .value e) (c .before .before .show-local .ensures))
 
--- src/lib.rt:155:1
 returns-3 : tie.Need-returns-3
 unfolding isKind kindNumber
 returns-3 c =

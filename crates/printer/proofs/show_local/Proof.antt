@@ -1,3 +1,4 @@
+-- `printer::show_local` meets its contract. Assumes nothing.
 use mathlib.Core.Path.{_≡_, refl, sym, ap, ap₂, _∙_}
 use Rattle.printer.specs.Answers.{valuesIn, variableLine}
 use Rattle.printer.proofs.Writes.{writes-as}
@@ -12,53 +13,37 @@ use Rattle.printer.proofs.Variables.{word-in, part-name, name-few, line
 use borrow.Author.Needs.{needs}
 use Rattle.printer.proofs.show_local.Statement.{statement}
 use Rattle.printer.proofs.show_local.Tie as tie
-use Rattle.printer.proofs.show_local.Reads as reads
-use Rattle.printer.proofs.show_local.Lts as lts
-use Rattle.declare.proofs.span_after.Reads as span-after-reads
-use Rattle.printer.proofs.put_variable.Reads as put-variable-reads
-use Rattle.tables.proofs.word_at.Reads as word-at-reads
 
--- src/lib.rt:141:9
 span-after-requires : tie.Need-span-after-requires
 span-after-requires c κs = search needs
 
--- src/lib.rt:142:42
 add-span-after : tie.Need-add-span-after
 add-span-after c = search needs
 
--- src/lib.rt:142:9
 span-after-requires-2 : tie.Need-span-after-requires-2
 span-after-requires-2 c κs = search needs
 
--- src/lib.rt:144:14
 add-to : tie.Need-add-to
 add-to c = search needs
 
--- src/lib.rt:146:42
 mul-word-at : tie.Need-mul-word-at
 mul-word-at c = search needs
 
--- src/lib.rt:146:38
 add-word-at : tie.Need-add-word-at
 add-word-at c = search needs
 
--- src/lib.rt:146:9
 word-at-requires : tie.Need-word-at-requires
 word-at-requires c κs = search needs
 
--- src/lib.rt:147:40
 sub-put-variable : tie.Need-sub-put-variable
 sub-put-variable c = search needs
 
--- src/lib.rt:147:40
 part-put-variable-start : tie.Need-part-put-variable-start
 part-put-variable-start c = search needs
 
--- src/lib.rt:147:40
 part-put-variable-end : tie.Need-part-put-variable-end
 part-put-variable-end c = search needs
 
--- src/lib.rt:147:9
 put-variable-requires : tie.Need-put-variable-requires
 put-variable-requires c κs =
     let p = c .before .before .before .before .before .before .before .before .before .before .pre in
@@ -68,15 +53,12 @@ put-variable-requires c κs =
     part-name _ (c .before .before .before .before .span-after2 .result) ∙ second (c .before .before .before .before .before .before .span-after .ensures) (c .before .before .before .before .span-after2 .ensures) in
     omega (arith, name-few x (p .4), ap length n, p .3)
 
--- src/lib.rt:149:16
 add-t14 : tie.Need-add-t14
 add-t14 c = search needs
 
--- src/lib.rt:137:1
 same-length : tie.Need-same-length
 same-length c = search needs
 
--- src/lib.rt:137:1
 returns : tie.Need-returns
 returns c =
     let p = c .before .before .before .before .before .before .before .before .before .before .before .before .before .pre in

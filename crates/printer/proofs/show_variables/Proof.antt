@@ -1,3 +1,4 @@
+-- `printer::show_variables` meets its contract. Assumes nothing.
 use Prim.Native.Nat.{_-_, _≤_}
 use native.Mathlib.Omega.{arith}
 use lib.ListN.{length}
@@ -5,10 +6,6 @@ use Rattle.printer.proofs.Walk.{walk-clean, walk-formed}
 use Rattle.printer.proofs.Variables.{Showing, showing-first, showing-done, showing-room, showing-on}
 use Rattle.printer.proofs.show_variables.Statement.{statement}
 use Rattle.printer.proofs.show_variables.Tie as tie
-use Rattle.printer.proofs.show_variables.Reads as reads
-use Rattle.printer.proofs.show_variables.Lts as lts
-use Rattle.leaves.proofs.find.Reads as find-reads
-use Rattle.printer.proofs.show_line.Reads as show-line-reads
 
 abbrev Inv-loop : tie.InvT-loop
 Inv-loop text out₀ first results s₀ at₀ out s at = (at ≤ length text) × Showing text results first out₀ at s out
@@ -16,18 +13,15 @@ Inv-loop text out₀ first results s₀ at₀ out s at = (at ≤ length text) ×
 abbrev μ-loop : tie.MeasureT-loop
 μ-loop text out₀ first results s₀ at₀ out s at = length text - at
 
--- src/lib.rt:182:5
 loop-holds : tie.Need-loop-holds Inv-loop μ-loop
 loop-holds c =
     let p = c .before .before .before .pre in
     (omega arith, showing-first _ _ _ _ (omega (arith, p .0)) (p .2))
 
--- src/lib.rt:183:13
 find-requires : tie.Need-find-requires Inv-loop μ-loop
 find-requires c κs =
     omega arith
 
--- src/lib.rt:184:9
 show-line-requires : tie.Need-show-line-requires Inv-loop μ-loop
 show-line-requires c κs =
     let p = c .before .before .before .before .before .before .before .pre in
@@ -36,18 +30,15 @@ show-line-requires c κs =
     let f = c .before .find .ensures in
     (omega arith, p .1, walk-formed (x .walk) l f, showing-room x l f (p .0))
 
--- src/lib.rt:185:14
 add-at : tie.Need-add-at Inv-loop μ-loop
 add-at c =
     omega (arith, walk-clean (c .before .before .before .before .before .before .loop .inv .1 .walk) (c .before .before .before .before .before .loop-test .taken) (c .before .before .before .before .find .ensures) .high)
 
--- src/lib.rt:182:5
 loop-less : tie.Need-loop-less Inv-loop μ-loop
 loop-less c =
     let y = walk-clean (c .before .before .before .before .before .before .loop .inv .1 .walk) (c .before .before .before .before .before .loop-test .taken) (c .before .before .before .before .find .ensures) in
     omega (arith, y .low, y .high)
 
--- src/lib.rt:182:5
 loop-again : tie.Need-loop-again Inv-loop μ-loop
 loop-again c =
     let x = c .before .before .before .before .before .before .loop .inv .1 in
@@ -55,12 +46,10 @@ loop-again c =
     let f = c .before .before .before .before .find .ensures in
     (omega (arith, walk-clean (x .walk) l f .high), showing-on x l f (c .before .before .show-line .ensures))
 
--- src/lib.rt:173:1
 same-length : tie.Need-same-length Inv-loop μ-loop
 same-length c =
     c .before .loop .inv .1 .shows .bytes .size
 
--- src/lib.rt:173:1
 returns : tie.Need-returns Inv-loop μ-loop
 returns c =
     showing-done (c .before .loop .inv .1) (c .loop-test .left)
