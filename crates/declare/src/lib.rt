@@ -23,13 +23,41 @@ pub struct Word {
     pub end: usize,
 }
 
-pub fn word_at(text: &[u8], at: usize) -> Word
+fn word_from(text: &[u8], at: usize) -> Word
     requires { ⌜ at ≤ length (now text) ⌝ }
     ensures { λ r. ⌜ WordAt (now (text .entry)) at r ⌝ }
 {
     let end = leaves::find(text, at, Set::FieldEnd);
     let kind = leaves::kind_of(&text[at..end]);
     Word { kind, end }
+}
+
+// THE LINE READER: the lent text with its position in it
+
+pub struct Reader<'a> {
+    pub text: &'a [u8],
+    pub at: usize,
+}
+
+fn reader_at<'a>(text: &'a [u8], at: usize) -> Reader<'a>
+    ensures { λ r. ⌜ (r .text ≡ text .entry) × (r .at ≡ at) ⌝ }
+{
+    Reader { text, at }
+}
+
+// The word of the line that begins at the position.
+fn read_word<'a>(r: Reader<'a>) -> Word
+    requires { ⌜ r .at ≤ length (now (r .text)) ⌝ }
+    ensures { λ w. ⌜ WordAt (now (r .entry .text)) (r .entry .at) w ⌝ }
+{
+    word_from(r.text, r.at)
+}
+
+pub fn word_at(text: &[u8], at: usize) -> Word
+    requires { ⌜ at ≤ length (now text) ⌝ }
+    ensures { λ r. ⌜ WordAt (now (text .entry)) at r ⌝ }
+{
+    read_word(reader_at(text, at))
 }
 
 // The place of the field after the one that ends at r; an empty place where there is none.
