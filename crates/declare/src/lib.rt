@@ -32,6 +32,21 @@ fn word_from(text: &[u8], at: usize) -> Word
     Word { kind, end }
 }
 
+fn field_from(text: &[u8], r: usize) -> Span
+    requires { ⌜ r ≤ length (now text) ⌝ }
+    ensures { λ s. ⌜ SpanAfter (now (text .entry)) r s ⌝ }
+{
+    let e = lines::next_field(text, r);
+    if e == r {
+        return Span { start: r, len: 0 };
+    }
+    let start = r + 1;
+    Span {
+        start,
+        len: e - start,
+    }
+}
+
 // THE LINE READER: the lent text with its position in it
 
 pub struct Reader<'a> {
@@ -45,7 +60,6 @@ fn reader_at<'a>(text: &'a [u8], at: usize) -> Reader<'a>
     Reader { text, at }
 }
 
-// The word of the line that begins at the position.
 fn read_word<'a>(r: Reader<'a>) -> Word
     requires { ⌜ r .at ≤ length (now (r .text)) ⌝ }
     ensures { λ w. ⌜ WordAt (now (r .entry .text)) (r .entry .at) w ⌝ }
@@ -53,6 +67,16 @@ fn read_word<'a>(r: Reader<'a>) -> Word
     word_from(r.text, r.at)
 }
 
+fn read_field<'a>(r: Reader<'a>) -> Span
+    requires { ⌜ r .at ≤ length (now (r .text)) ⌝ }
+    ensures { λ s. ⌜ SpanAfter (now (r .entry .text)) (r .entry .at) s ⌝ }
+{
+    field_from(r.text, r.at)
+}
+
+// WITH PLAIN PARAMETERS
+
+// The word of the line that begins at a place.
 pub fn word_at(text: &[u8], at: usize) -> Word
     requires { ⌜ at ≤ length (now text) ⌝ }
     ensures { λ r. ⌜ WordAt (now (text .entry)) at r ⌝ }
@@ -65,15 +89,7 @@ pub fn span_after(text: &[u8], r: usize) -> Span
     requires { ⌜ r ≤ length (now text) ⌝ }
     ensures { λ s. ⌜ SpanAfter (now (text .entry)) r s ⌝ }
 {
-    let e = lines::next_field(text, r);
-    if e == r {
-        return Span { start: r, len: 0 };
-    }
-    let start = r + 1;
-    Span {
-        start,
-        len: e - start,
-    }
+    read_field(reader_at(text, r))
 }
 
 // ONE LINE: its word ends at r
