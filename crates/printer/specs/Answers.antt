@@ -38,15 +38,19 @@ unfoldable pub resultIn : ℕ → List ℕ → Result
 resultIn ran b =
     record { number = numberIn ran; line = lineIn ran; steps = wordAt b 0; values = valuesIn b }
 
+-- `check` number line
 abbrev pub checkLine : ℕ → Name
 checkLine checked = printedLine (bytes "check") (digits (numberIn checked) ∷ digits (lineIn checked) ∷ [])
 
+-- `run` number line steps
 abbrev pub runLine : ℕ → ℕ → Name
 runLine ran steps = printedLine (bytes "run") (digits (numberIn ran) ∷ digits (lineIn ran) ∷ digits steps ∷ [])
 
+-- `var` name value
 abbrev pub variableLine : Name → ℕ → Name
 variableLine x v = printedLine (bytes "var") (x ∷ signed v ∷ [])
 
+-- the line of `check`; then, unless its number is 1 to 9, those of `run` and of main's variables
 unfoldable pub printedAnswers : List ℕ → ℕ → ℕ → List ℕ → List ℕ
 printedAnswers t checked ran b =
     let more : Name = printedRun (resultIn ran b) (mainVariables (readText t)) in

@@ -29,6 +29,10 @@ locals xs (l ∷ ls) = locals (localsBy xs l) ls
 abbrev pub most-line : ℕ
 most-line = 29
 
+-- twelve of them
+abbrev pub most-lines : ℕ
+most-lines = 348
+
 -- there is room for one more
 pub record Room (k : Kind) (s : Shown) (o : List ℕ) : Type 0 where
   pub value : k ≡ Var → s .count < values-shown

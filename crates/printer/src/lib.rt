@@ -12,7 +12,7 @@ ghost use Rattle.lines.specs.Cuts.{more};
 ghost use Rattle.declare.specs.Texts.{Taken, linesOf, lineAt, FormedAt};
 ghost use Rattle.printer.specs.Writes.{Writes, Prints};
 ghost use Rattle.printer.specs.Answers.{out-bytes, checkLine, runLine, variableLine, valuesIn, printedAnswers, ReadUnless};
-ghost use Rattle.printer.specs.Variables.{locals, most-line, Room, ShowsLocal, Goes};
+ghost use Rattle.printer.specs.Variables.{locals, most-line, most-lines, Room, ShowsLocal, Goes};
 
 // BYTES: each function writes from a place on and returns the place after
 
@@ -179,7 +179,7 @@ fn show_line(
 
 // The locals of main, from a place on. Those of a method are written over.
 fn show_variables(text: &[u8], out: &mut [u8], first: usize, results: &[u8]) -> usize
-    requires { ⌜ (first + 348 ≤ length (now out)) × (length (now results) ≡ results-bytes) × Taken (now text) ⌝ }
+    requires { ⌜ (first + most-lines ≤ length (now out)) × (length (now results) ≡ results-bytes) × Taken (now text) ⌝ }
     ensures { λ r. ⌜ Writes (now (out .entry)) first (printedVariables (locals [] (linesOf (now (text .entry)))) (valuesIn (now (results .entry)))) (now (out .exit)) r ⌝ }
 {
     let mut s = Shown {
