@@ -23,7 +23,7 @@ pub struct Word {
     pub end: usize,
 }
 
-pub fn word_at(text: &[u8], at: usize) -> Word
+fn word_from(text: &[u8], at: usize) -> Word
     requires { ⌜ at ≤ length (now text) ⌝ }
     ensures { λ r. ⌜ WordAt (now (text .entry)) at r ⌝ }
 {
@@ -32,8 +32,7 @@ pub fn word_at(text: &[u8], at: usize) -> Word
     Word { kind, end }
 }
 
-// The place of the field after the one that ends at r; an empty place where there is none.
-pub fn span_after(text: &[u8], r: usize) -> Span
+fn field_from(text: &[u8], r: usize) -> Span
     requires { ⌜ r ≤ length (now text) ⌝ }
     ensures { λ s. ⌜ SpanAfter (now (text .entry)) r s ⌝ }
 {
@@ -46,6 +45,51 @@ pub fn span_after(text: &[u8], r: usize) -> Span
         start,
         len: e - start,
     }
+}
+
+// THE LINE READER: the lent text with its position in it
+
+pub struct Reader<'a> {
+    pub text: &'a [u8],
+    pub at: usize,
+}
+
+fn reader_at<'a>(text: &'a [u8], at: usize) -> Reader<'a>
+    ensures { λ r. ⌜ (r .text ≡ text .entry) × (r .at ≡ at) ⌝ }
+{
+    Reader { text, at }
+}
+
+fn read_word<'a>(r: Reader<'a>) -> Word
+    requires { ⌜ r .at ≤ length (now (r .text)) ⌝ }
+    ensures { λ w. ⌜ WordAt (now (r .entry .text)) (r .entry .at) w ⌝ }
+{
+    word_from(r.text, r.at)
+}
+
+fn read_field<'a>(r: Reader<'a>) -> Span
+    requires { ⌜ r .at ≤ length (now (r .text)) ⌝ }
+    ensures { λ s. ⌜ SpanAfter (now (r .entry .text)) (r .entry .at) s ⌝ }
+{
+    field_from(r.text, r.at)
+}
+
+// WITH PLAIN PARAMETERS
+
+// The word of the line that begins at a place.
+pub fn word_at(text: &[u8], at: usize) -> Word
+    requires { ⌜ at ≤ length (now text) ⌝ }
+    ensures { λ r. ⌜ WordAt (now (text .entry)) at r ⌝ }
+{
+    read_word(reader_at(text, at))
+}
+
+// The place of the field after the one that ends at r; an empty place where there is none.
+pub fn span_after(text: &[u8], r: usize) -> Span
+    requires { ⌜ r ≤ length (now text) ⌝ }
+    ensures { λ s. ⌜ SpanAfter (now (text .entry)) r s ⌝ }
+{
+    read_field(reader_at(text, r))
 }
 
 // ONE LINE: its word ends at r

@@ -1,0 +1,322 @@
+-- Bounds of what is read and checked: the line of a refusal is one of the text, and each number of the program fits 32 bits.
+use mathlib.Core.Path.{_≡_, refl, sym, ap, _∙_}
+use mathlib.Core.Bool.{Bool, true, false, cond, _&&_}
+use mathlib.Core.List.{List, [], _∷_}
+use Prim.Native.Nat.{ℕ, zero, suc, _+_, _-_, _≤_, _<_}
+use native.Mathlib.Omega.{arith}
+use lib.Dec.{T, eqb, ltb, leb, leb→le}
+use lib.ListN.{length, getD, drop, length-map}
+use borrow.Author.Tests.{ltb-false}
+use Rattle.rules.specs.Base as Base
+use Rattle.rules.specs.Base.{Name, Try, ok, no, update, between}
+use Rattle.rules.specs.Limits.{most-bytes}
+use Rattle.rules.specs.Answers.{Refusal, Verdict, accepted, refused, atLine, then, textTooLong, textEnds, unframed}
+use Rattle.rules.specs.Syntax.{Expr, Formula, Stmt, Simple, Row, Method, Program, num, null, var, path}
+use Rattle.rules.specs.Syntax.{set, assign, new, call, return, assert, release, simple, if, else, join, end}
+use Rattle.rules.specs.Text.{lines, onto, isExpr, exprOf, numeral, hasStop, beforeStop, afterStop, isNumber, number, isNegative, isDigits, decimal}
+use Rattle.rules.specs.Grammar as Grammar
+use Rattle.rules.specs.Grammar.{Kind, Line}
+use Rattle.rules.specs.Grammar.{Class, Field, Requires, Ensures, Main, Var}
+use Rattle.rules.specs.Grammar.{Set, Let, New, Call, Return, Assert, Release, If, Else, Join, End}
+use Rattle.rules.specs.Places.{Place, firstPlace, scanLine, scanLines, ended}
+use Rattle.rules.specs.Scope.{Declarations, Variable, Scope, operand, declarations, firstScope, scopeAfter}
+use Rattle.rules.specs.Items.{Item, aClass, aField, aMethod, aRequires, anEnsures, aMain, aLocal, aStatement}
+use Rattle.rules.specs.Items.{resolveExpr, itemOf, resolveLine, resolveLines}
+use Rattle.rules.specs.Reading.{readText, framedItem, checkFramed, Parts, parts, methodOf, withItem, partsFrom, program}
+use Rattle.rules.specs.State.{State}
+use Rattle.rules.specs.Rules.{Open, inFirst, inSecond, checkRow, checkRows, elseRow, joinRow, endRow, checkMethod, checkBlocks, checkProgram}
+use Rattle.rules.specs.Calls.{checkItems}
+use Rattle.rules.proofs.Lists.{and-both}
+use Rattle.rules.proofs.Tries.{refused-accepted, accepted-inj, atLine-accepted, then-accepted}
+use Rattle.rules.proofs.LinesTaken.{HasForm, lineOf, TakenLines, none, line}
+use Rattle.lines.proofs.Scans.{lines-taken}
+
+-- EACH OF A LIST
+abbrev pub All : {A : Type 0} → (A → Type 0) → List A → Type 0
+All p [] = Unit {0}
+All p (a ∷ l) = p a × All p l
+
+module _ {A : Type 0} (p : A → Type 0) where
+  pub all-get : (l : List A) (d : A) (i : ℕ) → p d → All p l → p (getD l i d)
+  all-get [] d i z x = z
+  all-get (a ∷ l) d zero z x = x .0
+  all-get (a ∷ l) d (suc i) z x = all-get l d i z (x .1)
+
+  pub all-update : (l : List A) (d : A) (i : ℕ) (a : A) → p d → p a → All p l → All p (update d l i a)
+  unfolding update
+  all-update [] d zero a z y x = (y, tt)
+  all-update (b ∷ l) d zero a z y x = (y, x .1)
+  all-update [] d (suc i) a z y x = (z, all-update [] d i a z y tt)
+  all-update (b ∷ l) d (suc i) a z y x = (x .0, all-update l d i a z y (x .1))
+
+-- THE LINE OF A REFUSAL is at most n
+abbrev pub Within : {A : Type 0} → ℕ → Verdict A → Type 0
+Within n (accepted a) = Unit {0}
+Within n (refused r l) = l ≤ n
+
+then-within :
+    {A B : Type 0} (n : ℕ) (v : Verdict A) (k : A → Verdict B) → Within n v → ((a : A) → v ≡ accepted a → Within n (k a)) →
+    Within n (then v k)
+unfolding then
+then-within n (accepted a) k x y = y a refl
+then-within n (refused r l) k x y = x
+
+at-within :
+    {A B : Type 0} (n l : ℕ) (m : Try Refusal A) (k : A → Verdict B) → l ≤ n → ((a : A) → Within n (k a)) → Within n (atLine l m k)
+unfolding atLine
+at-within n l (ok a) k h y = y a
+at-within n l (no r) k h y = h
+
+module _ (n : ℕ) where
+  scan-within : (ls : List Name) (m : ℕ) (p : Place) → m + length ls ≤ n → Within n (scanLines ls m p)
+  unfolding scanLines
+  scan-within [] m p h = go (ended p)
+    where
+      go : (b : Bool) → Within {A = List Line} n (cond b (accepted []) (refused textEnds m))
+      go true = tt
+      go false = omega arith
+  scan-within (l ∷ ls) m p h =
+      at-within n (suc m) (scanLine p l) _ (omega arith)
+      (λ a. then-within n (scanLines ls (suc m) (a .next)) _ (scan-within ls (suc m) (a .next) (omega arith)) (λ rest e. tt))
+
+  resolve-within : (Γ : Declarations) (ls : List Line) (m : ℕ) (s : Scope) → m + length ls ≤ n → Within n (resolveLines Γ ls m s)
+  unfolding resolveLines
+  resolve-within Γ [] m s h = tt
+  resolve-within Γ (l ∷ ls) m s h =
+      at-within n (suc m) (resolveLine Γ s l) _ (omega arith)
+      (λ a. then-within n (resolveLines Γ ls (suc m) (scopeAfter s l)) _ (resolve-within Γ ls (suc m) (scopeAfter s l) (omega arith)) (λ rest e. tt))
+
+  framed-within : (items : List Item) (m : ℕ) → m + length items ≤ n → Within n (checkFramed items m)
+  unfolding checkFramed
+  framed-within [] m h = tt
+  framed-within (a ∷ items) m h = go (framedItem a) (checkFramed items (suc m)) (framed-within items (suc m) (omega arith))
+    where
+      go : (b : Bool) (v : Verdict (Unit {0})) → Within n v → Within n (cond b v (refused unframed (suc m)))
+      go true v x = x
+      go false v x = omega arith
+
+lines-few : (t : List ℕ) → length (lines t) ≤ length t
+unfolding lines onto
+lines-few [] = omega arith
+lines-few (b ∷ t) = go (eqb b 10) (lines t) (lines-few t)
+  where
+    go : (c : Bool) (ls : List Name) → length ls ≤ length t → length (cond c ((10 ∷ []) ∷ ls) (onto b ls)) ≤ suc (length t)
+    go true ls h = omega arith
+    go false [] h = omega arith
+    go false (w ∷ ls) h = omega arith
+
+pub read-within : (t : List ℕ) → Within most-bytes (readText t)
+unfolding readText
+read-within t = go (ltb most-bytes (length t)) refl
+  where
+    go :
+        (b : Bool) → b ≡ ltb most-bytes (length t) →
+        Within most-bytes
+        (cond b (refused textTooLong 0)
+        (then (scanLines (lines t) 0 firstPlace) λ ls. resolveLines (declarations ls) ls 0 firstScope))
+    go true e = omega arith
+    go false e =
+        let few : length (lines t) ≤ 32768 = omega (arith, lines-few t, ltb-false most-bytes (length t) (sym e)) in
+        then-within most-bytes (scanLines (lines t) 0 firstPlace) _ (scan-within most-bytes (lines t) 0 firstPlace (omega arith))
+        (λ ls i. resolve-within most-bytes (declarations ls) ls 0 firstScope (omega (arith, few, ap length (lines-taken (lines t) 0 firstPlace ls i), length-map (lines t) Rattle.lines.specs.Scans.lineOf)))
+
+resolved-few :
+    (Γ : Declarations) (ls : List Line) (n : ℕ) (s : Scope) (items : List Item) → resolveLines Γ ls n s ≡ accepted items → length items ≡ length ls
+unfolding resolveLines
+resolved-few Γ [] n s items e = ap length (sym (accepted-inj e))
+resolved-few Γ (l ∷ ls) n s items e =
+    let (a, i, e₁) = atLine-accepted (suc n) (resolveLine Γ s l) _ items e in
+    let (rest, j, e₂) = then-accepted (resolveLines Γ ls (suc n) (scopeAfter s l)) _ items e₁ in
+    ap length (sym (accepted-inj e₂)) ∙ ap suc (resolved-few Γ ls (suc n) (scopeAfter s l) rest j)
+
+-- an item for each line of the text
+pub items-few : (t : List ℕ) (items : List Item) → readText t ≡ accepted items → length items ≤ most-bytes
+unfolding readText
+items-few t items e = go (ltb most-bytes (length t)) refl e
+  where
+    go :
+        (b : Bool) → b ≡ ltb most-bytes (length t) →
+        cond b (refused textTooLong 0)
+        (then (scanLines (lines t) 0 firstPlace) λ ls. resolveLines (declarations ls) ls 0 firstScope)
+        ≡ accepted items →
+        length items ≤ most-bytes
+    go true i e = refused-accepted e
+    go false i e =
+        let (ls, j, k) = then-accepted (scanLines (lines t) 0 firstPlace) _ items e in
+        omega (arith, resolved-few (declarations ls) ls 0 firstScope items k, lines-few t, ltb-false most-bytes (length t) (sym i), ap length (lines-taken (lines t) 0 firstPlace ls j), length-map (lines t) Rattle.lines.specs.Scans.lineOf)
+
+-- NUMBERS OF THE PROGRAM
+abbrev pub Small : ℕ → Type 0
+Small v = v < 4294967296
+
+abbrev pub SmallExpr : Expr ℕ → Type 0
+SmallExpr (num n) = Small n
+SmallExpr null = Unit {0}
+SmallExpr (var x) = Unit {0}
+SmallExpr (path x f) = Unit {0}
+
+abbrev pub SmallSimple : Simple → Type 0
+SmallSimple (set x f y) = Unit {0}
+SmallSimple (assign x e) = SmallExpr e
+SmallSimple (new x c) = Unit {0}
+SmallSimple (call x y m z) = Unit {0}
+SmallSimple (return x) = Unit {0}
+SmallSimple (assert φ) = Unit {0}
+SmallSimple (release φ) = Unit {0}
+
+abbrev pub SmallStmt : Stmt → Type 0
+SmallStmt (simple p) = SmallSimple p
+SmallStmt (if n a b) = Unit {0}
+SmallStmt else = Unit {0}
+SmallStmt (join φ) = Unit {0}
+SmallStmt end = Unit {0}
+
+abbrev pub SmallItem : Item → Type 0
+SmallItem aClass = Unit {0}
+SmallItem (aField f) = Unit {0}
+SmallItem aMethod = Unit {0}
+SmallItem (aRequires φ) = Unit {0}
+SmallItem (anEnsures φ) = Unit {0}
+SmallItem aMain = Unit {0}
+SmallItem (aLocal x) = Unit {0}
+SmallItem (aStatement s) = SmallStmt s
+
+-- a row of one of n lines
+pub record RowFits (n : ℕ) (r : Row) : Type 0 where
+  pub line : r .line ≤ n
+  pub stmt : SmallStmt (r .stmt)
+
+abbrev pub MethodFits : ℕ → Method → Type 0
+MethodFits n M = All (RowFits n) (M .body)
+
+pub record ProgramFits (n : ℕ) (P : Program) : Type 0 where
+  pub methods : All (MethodFits n) (P .methods)
+  pub main : All (RowFits n) (P .main)
+
+number-small : (w : Name) → T (isNumber w) → Small (number w)
+unfolding isNumber number between
+number-small w h = go (isNegative w) h
+  where
+    go :
+        (b : Bool) →
+        T (cond b (isDigits (drop 1 w) && between 1 2147483648 (decimal 0 (drop 1 w))) (isDigits w && leb (decimal 0 w) 2147483647)) →
+        Small (cond b (4294967296 - decimal 0 (drop 1 w)) (decimal 0 w))
+    go true x =
+        let (u, v) = and-both (isDigits (drop 1 w)) _ x in
+        let (i, j) = and-both (leb 1 (decimal 0 (drop 1 w))) _ v in
+        omega (arith, leb→le 1 (decimal 0 (drop 1 w)) i)
+    go false x = let (u, v) = and-both (isDigits w) _ x in omega (arith, leb→le (decimal 0 w) 2147483647 v)
+
+module _ (Γ : Declarations) (vs : List Variable) where
+  expr-small : (w : Name) → T (isExpr w) → SmallExpr (resolveExpr Γ vs (exprOf w))
+  unfolding isExpr exprOf resolveExpr
+  expr-small w h = go (numeral w) _ h
+    where
+      other : (b c : Bool) → SmallExpr (resolveExpr Γ vs (cond b (path (beforeStop w) (afterStop w)) (cond c null (var w))))
+      other true c = tt
+      other false true = tt
+      other false false = tt
+
+      go :
+          (b x : Bool) → T (cond b (isNumber w) x) →
+          SmallExpr
+          (resolveExpr Γ vs
+          (cond b (num (number w)) (cond (hasStop w) (path (beforeStop w) (afterStop w)) (cond (Base.is "null" w) null (var w)))))
+      go true x h = number-small w h
+      go false x h = other (hasStop w) (Base.is "null" w)
+
+  let-small : (ws : List Name) → HasForm (lineOf Let ws) → SmallExpr (resolveExpr Γ vs (exprOf (operand (lineOf Let ws) 1)))
+  unfolding Grammar.opened operand
+  let-small [] h = absurd h
+  let-small (u ∷ []) h = absurd (and-both (Rattle.rules.specs.Text.isName u) false h .1)
+  let-small (u ∷ w ∷ ws) h =
+      expr-small w (and-both (isExpr w) (eqb (length ws) 0) (and-both (Rattle.rules.specs.Text.isName u) _ h .1) .0)
+
+  item-small : (k : Kind) (ws : List Name) → HasForm (lineOf k ws) → SmallItem (itemOf Γ vs k (lineOf k ws))
+  unfolding itemOf Rattle.rules.specs.Items.resolveSet Rattle.rules.specs.Items.resolveCall Rattle.rules.specs.Items.resolveIf
+  item-small Class ws h = tt
+  item-small Field ws h = tt
+  item-small Grammar.Method ws h = tt
+  item-small Requires ws h = tt
+  item-small Ensures ws h = tt
+  item-small Main ws h = tt
+  item-small Var ws h = tt
+  item-small Set ws h = tt
+  item-small Let ws h = let-small ws h
+  item-small New ws h = tt
+  item-small Call ws h = tt
+  item-small Return ws h = tt
+  item-small Assert ws h = tt
+  item-small Release ws h = tt
+  item-small If ws h = tt
+  item-small Else ws h = tt
+  item-small Join ws h = tt
+  item-small End ws h = tt
+
+pub items-small : (text : List Line) {p : Place} {s : Scope} {ls : List Line} {items : List Item} → TakenLines text p s ls items → All SmallItem items
+items-small text (none h) = tt
+items-small text (line {l = l} x xs) = (item-small (declarations text) _ (l .kind) (l .fields) (x .formed), items-small text xs)
+
+-- ROWS
+record PartsFit (n : ℕ) (p : Parts) : Type 0 where
+  methods : All (MethodFits n) (p .methods)
+  rows : All (RowFits n) (p .rows)
+  main : All (RowFits n) (p .main)
+
+module _ (n : ℕ) where
+  item-fits : (l : ℕ) (a : Item) (p : Parts) → l ≤ n → SmallItem a → PartsFit n p → PartsFit n (withItem l a p)
+  unfolding withItem parts methodOf
+  item-fits l aClass p h s x = record { methods = x .methods; rows = x .rows; main = x .main }
+  item-fits l (aField f) p h s x = record { methods = x .methods; rows = x .rows; main = x .main }
+  item-fits l aMethod p h s x = record { methods = (x .rows, x .methods); rows = x .rows; main = x .main }
+  item-fits l (aRequires φ) p h s x = record { methods = x .methods; rows = x .rows; main = x .main }
+  item-fits l (anEnsures φ) p h s x = record { methods = x .methods; rows = x .rows; main = x .main }
+  item-fits l aMain p h s x = record { methods = x .methods; rows = x .rows; main = x .rows }
+  item-fits l (aLocal y) p h s x = x
+  item-fits l (aStatement y) p h s x = record { methods = x .methods; rows = (record { line = h; stmt = s }, x .rows); main = x .main }
+
+  parts-fit : (m : ℕ) (items : List Item) → m + length items ≤ n → All SmallItem items → PartsFit n (partsFrom m items)
+  unfolding partsFrom parts
+  parts-fit m [] h s = record { methods = tt; rows = tt; main = tt }
+  parts-fit m (a ∷ items) h s =
+      item-fits (suc m) a (partsFrom (suc m) items) (omega arith) (s .0) (parts-fit (suc m) items (omega arith) (s .1))
+
+  pub program-fits : (items : List Item) → length items ≤ n → All SmallItem items → ProgramFits n (program items)
+  unfolding program
+  program-fits items h s = let x = parts-fit 0 items (omega arith) s in record { methods = x .methods; main = x .main }
+
+  module _ (P : Program) (φ : Formula ℕ) where
+    row-within :
+        (st : Stmt) (l : ℕ) (k : State → List Open → Verdict (Unit {0})) (s : State) (os : List Open) → l ≤ n →
+        ((s : State) (os : List Open) → Within n (k s os)) → Within n (checkRow P st l φ k s os)
+    unfolding checkRow elseRow joinRow endRow
+    row-within (simple p) l k s os h x = at-within n l _ _ h (λ a. x a os)
+    row-within (if r a b) l k s os h x = at-within n l _ _ h (λ c. x (c .0) (inFirst (c .1) ∷ os))
+    row-within else l k s [] h x = h
+    row-within else l k s (inFirst s₂ ∷ os) h x = x s₂ (inSecond s ∷ os)
+    row-within else l k s (inSecond s₁ ∷ os) h x = h
+    row-within (join ψ) l k s [] h x = h
+    row-within (join ψ) l k s (inFirst s₂ ∷ os) h x = h
+    row-within (join ψ) l k s (inSecond s₁ ∷ os) h x = at-within n l _ _ h (λ a. x a os)
+    row-within end l k s [] h x = at-within n l _ _ h (λ a. tt)
+    row-within end l k s (o ∷ os) h x = h
+
+    rows-within : (rs : List Row) (s : State) (os : List Open) → All (RowFits n) rs → Within n (checkRows P φ rs s os)
+    unfolding checkRows
+    rows-within [] s os x = omega arith
+    rows-within (r ∷ rs) s os x =
+        row-within (r .stmt) (r .line) _ s os (x .0 .line) (λ s′ os′. rows-within rs s′ os′ (x .1))
+
+  blocks-within : (P : Program) (Ms : List Method) → All (MethodFits n) Ms → All (RowFits n) (P .main) → Within n (checkBlocks P Ms)
+  unfolding checkBlocks checkMethod
+  blocks-within P [] x y = rows-within P [] (P .main) _ [] y
+  blocks-within P (M ∷ Ms) x y =
+      then-within n (checkMethod P M) _ (at-within n 0 _ _ (omega arith) (λ s. rows-within P (M .ensures) (M .body) s [] (x .0)))
+      (λ u e. blocks-within P Ms (x .1) y)
+
+  pub check-within : (items : List Item) → length items ≤ n → All SmallItem items → Within n (checkItems items)
+  unfolding checkItems checkProgram
+  check-within items h s =
+      let x = program-fits items h s in
+      then-within n (checkFramed items 0) _ (framed-within n items 0 (omega arith))
+      (λ u e. blocks-within (program items) (program items .methods) (x .methods) (x .main))

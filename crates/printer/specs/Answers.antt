@@ -1,0 +1,69 @@
+-- What is printed, by what the two calls return and the bytes of the results area.
+use mathlib.Core.Path.{_≡_}
+use mathlib.Core.Bool.{false, cond}
+use mathlib.Core.List.{List, [], _∷_, _++_}
+use Prim.Native.Nat.{ℕ, zero, suc, _+_, _/_, _%_}
+use Rattle.rules.specs.Base.{Name, bytes, between}
+use Rattle.rules.specs.Limits.{values-shown, program-steps}
+use Rattle.rules.specs.Answers.{accepted}
+use Rattle.rules.specs.Items.{Item}
+use Rattle.rules.specs.Reading.{readText}
+use Rattle.rules.specs.Calls.{Result, checkText, runText}
+use Rattle.rules.specs.Areas.{packed, resultBytes}
+use Rattle.rules.specs.Printed.{digits, signed, printedLine, mainVariables, printedRun}
+use Rattle.tables.specs.Decode.{wordAt}
+
+-- all that is printed fits
+abbrev pub out-bytes : ℕ
+out-bytes = 512
+
+-- n words of an area, from place i on
+unfoldable pub wordsFrom : ℕ → ℕ → List ℕ → List ℕ
+wordsFrom zero i b = []
+wordsFrom (suc n) i b = wordAt b i ∷ wordsFrom n (i + 4) b
+
+-- a call returns number × 65,536 + line
+abbrev pub numberIn : ℕ → ℕ
+numberIn r = r / 65536
+
+abbrev pub lineIn : ℕ → ℕ
+lineIn r = r % 65536
+
+-- the twelve values of a results area, which stand after the steps
+abbrev pub valuesIn : List ℕ → List ℕ
+valuesIn b = wordsFrom values-shown 4 b
+
+-- what `run` returned and left in the results area
+unfoldable pub resultIn : ℕ → List ℕ → Result
+resultIn ran b =
+    record { number = numberIn ran; line = lineIn ran; steps = wordAt b 0; values = valuesIn b }
+
+-- `check` number line
+abbrev pub checkLine : ℕ → Name
+checkLine checked = printedLine (bytes "check") (digits (numberIn checked) ∷ digits (lineIn checked) ∷ [])
+
+-- `run` number line steps
+abbrev pub runLine : ℕ → ℕ → Name
+runLine ran steps = printedLine (bytes "run") (digits (numberIn ran) ∷ digits (lineIn ran) ∷ digits steps ∷ [])
+
+-- `var` name value
+abbrev pub variableLine : Name → ℕ → Name
+variableLine x v = printedLine (bytes "var") (x ∷ signed v ∷ [])
+
+-- the line of `check`; then, unless its number is 1 to 9, those of `run` and of main's variables
+unfoldable pub printedAnswers : List ℕ → ℕ → ℕ → List ℕ → List ℕ
+printedAnswers t checked ran b =
+    let more : Name = printedRun (resultIn ran b) (mainVariables (readText t)) in
+    checkLine checked ++ cond (between 1 9 (numberIn checked)) [] more
+
+-- Unless the number is 1 to 9, the text is read.
+abbrev pub ReadUnless : List ℕ → ℕ → Type 0
+ReadUnless t checked = between 1 9 (numberIn checked) ≡ false → (items : List Item) × (readText t ≡ accepted items)
+
+-- WHAT THE CALLS GIVE
+
+-- Both calls returned, and `run` left its results.
+pub record Called (t : List ℕ) (checked ran : ℕ) (b : List ℕ) : Type 0 where
+  pub check : checked ≡ packed (checkText t .0) (checkText t .1)
+  pub run : ran ≡ packed (runText t program-steps .number) (runText t program-steps .line)
+  pub results : b ≡ resultBytes (runText t program-steps)
