@@ -28,16 +28,16 @@ use Rattle.tables.specs.Tables.{Tables}
 use Rattle.tables.specs.Stores.{SameTables}
 use Rattle.tables.proofs.Bytes.{same-trans, same-refl}
 use Rattle.tables.proofs.Decoding.{tables-same, all-same, rows-count-same, program-same}
-use Rattle.machine.specs.declared.Fault.{Fault}
-use Rattle.machine.specs.declared.Turn.{Turn}
+use Rattle.stores.specs.declared.Fault.{Fault}
+use Rattle.steps.specs.declared.Turn.{Turn}
 use Rattle.machine.specs.declared.Ending.{Ending}
 use Rattle.machine.specs.declared.Ran.{Ran}
-use Rattle.machine.specs.Views.{frameAt, variableAt, cellOf, holderIn, holderOf, fill, stopOf}
-use Rattle.machine.specs.States.{HeapIs, FrameIs, CallersAre, Represents, Goes, Follows, Does, Ready}
+use Rattle.stores.specs.Views.{frameAt, variableAt, cellOf, holderIn, holderOf, fill, stopOf}
+use Rattle.steps.specs.States.{HeapIs, FrameIs, CallersAre, Represents, Goes, Follows, Does, Ready}
 use Rattle.machine.specs.Runs.{endingOf, words, mainValues, outcomeIn, RanAs}
-use Rattle.machine.proofs.Reading.{cell-null, cell-beyond, cell-placed}
-use Rattle.machine.proofs.Regions.{Only, only-fill, only-tables, fill-word}
-use Rattle.machine.proofs.Returning.{row-of}
+use Rattle.stores.proofs.Reading.{cell-null, cell-beyond, cell-placed}
+use Rattle.stores.proofs.Regions.{Only, only-fill, only-tables, fill-word}
+use Rattle.calls.proofs.Returning.{row-of}
 
 -- THE FIRST STATE
 no-cells : (w : List ℕ) (o f k : ℕ) → cellOf w 0 o f ≡ some k → ⊥

@@ -10,11 +10,11 @@ use Rattle.rules.specs.Machine.{Config, Step, Room, took, on, rowOf, step, step
 use Rattle.rules.specs.declared.Machine.{Machine}
 use Rattle.tables.specs.Decode.{byteAt, atomPlace, relOf, rowAt, stmtAt, ifAt, kindAt, xAt, yAt, zAt, memberAt, firstAtomAt, formulaAt, leftAt, rightAt, methodAt, classAt, programIn}
 use Rattle.tables.proofs.Rows.{method-get, class-get}
-use Rattle.machine.specs.declared.Turn.{Turn}
-use Rattle.machine.specs.States.{Represents, Follows, Does, Ready, AtKind}
-use Rattle.machine.proofs.Returning.{row-of}
-use Rattle.machine.proofs.Doing.{fits}
-use Rattle.machine.proofs.Statements.{at-set, at-let, at-new, at-call, at-return, at-assert, at-release, at-if, at-else, at-join, at-end}
+use Rattle.steps.specs.declared.Turn.{Turn}
+use Rattle.steps.specs.States.{Represents, Follows, Does, Ready, AtKind}
+use Rattle.calls.proofs.Returning.{row-of}
+use Rattle.steps.proofs.Doing.{fits}
+use Rattle.steps.proofs.Statements.{at-set, at-let, at-new, at-call, at-return, at-assert, at-release, at-if, at-else, at-join, at-end}
 
 -- the statement that is done
 statement : {w : List ℕ} {c : Machine} (m : Config) → Represents w c m → rowOf (m .frame) .stmt ≡ stmtAt w (c .row)
