@@ -9,10 +9,9 @@ ghost use mathlib.Core.Path.{_≡_};
 ghost use mathlib.Core.List.{[]};
 ghost use Prim.Native.Nat.{_+_, _*_, _<_};
 ghost use lib.ListN.{length};
-ghost use Rattle.tables.specs.Decode.{leftAt, rightAt, relOf};
+ghost use Rattle.tables.specs.Decode.{leftAt, rightAt, relOf, byteAt, atomPlace, xAt, yAt, memberAt, firstAtomAt, formulaAt};
 ghost use Rattle.rules.specs.Machine.{took, on, withFrame, jump, toJoin, setStep, assignStep, ifStep, assertStep, releaseStep};
 ghost use Rattle.rules.specs.Syntax.{var, result-variable};
-ghost use Rattle.tables.specs.Decode.{byteAt, atomPlace, xAt, yAt, memberAt, firstAtomAt, formulaAt};
 ghost use Rattle.steps.specs.States.{Ready, NotEnd, AtKind, Does, stepped};
 ghost use Rattle.stores.specs.Views.{takeIn, TookUpTo, viewOf};
 
@@ -85,7 +84,7 @@ pub fn if_step(work: &[u8], c: Machine) -> Turn
 {
     let row = c.row as usize;
     let a = tables::first_atom_at(work, row);
-    match stores::test(work, stores::view_of(c), a) {
+    match stores::condition(work, stores::view_of(c), a) {
         Truth::Holds => Turn::On(next(c, c.row + 1)),
         Truth::Fails => Turn::On(next(c, tables::target_at(work, row) as u32)),
         Truth::Lacking(s) => Turn::Stopped(s),

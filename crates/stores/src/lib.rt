@@ -212,12 +212,33 @@ fn test_right(work: &[u8], v: View, a: usize, l: u32) -> Truth
 }
 
 // The comparison of the atom a, "of two sides the left first".
-pub fn test(work: &[u8], v: View, a: usize) -> Truth
+fn test(work: &[u8], v: View, a: usize) -> Truth
     requires { ⌜ Readable (now work) v × (a < atomCount (now work)) ⌝ }
     ensures { λ r. ⌜ truthIs r ≡ testIn (now (work .entry)) v a ⌝ }
 {
     match left(work, v, a) {
         Read::Got(l) => test_right(work, v, a, l),
+        Read::Lacking(s) => Truth::Lacking(s),
+    }
+}
+
+fn condition_right(work: &[u8], v: View, a: usize, l: u32) -> Truth
+    requires { ⌜ Readable (now work) v × (a < atomCount (now work)) ⌝ }
+    ensures { λ r. ⌜ truthIs r ≡ rightTest (now (work .entry)) v a l ⌝ }
+{
+    match right(work, v, a) {
+        Read::Got(r) => compare(tables::atom_kind(work, a), l, r),
+        Read::Lacking(s) => Truth::Lacking(s),
+    }
+}
+
+// The condition of an `if`: as `test`, which is the formulas' own, so that `footprint` calls nothing and keeps its arguments in registers.
+pub fn condition(work: &[u8], v: View, a: usize) -> Truth
+    requires { ⌜ Readable (now work) v × (a < atomCount (now work)) ⌝ }
+    ensures { λ r. ⌜ truthIs r ≡ testIn (now (work .entry)) v a ⌝ }
+{
+    match left(work, v, a) {
+        Read::Got(l) => condition_right(work, v, a, l),
         Read::Lacking(s) => Truth::Lacking(s),
     }
 }

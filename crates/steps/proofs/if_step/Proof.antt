@@ -14,8 +14,8 @@ first-atom-at-requires c κs = search needs
 view-of-requires : tie.Need-view-of-requires
 view-of-requires c κs = search needs
 
-test-requires : tie.Need-test-requires
-test-requires c κs = (view-readable (c .before .before .before .before .pre .0) (c .view-of .ensures), rw (c .before .first-atom-at .ensures .0) (if-atom (c .before .before .before .before .pre .0) (c .before .before .before .before .pre .1)))
+condition-requires : tie.Need-condition-requires
+condition-requires c κs = (view-readable (c .before .before .before .before .pre .0) (c .view-of .ensures), rw (c .before .first-atom-at .ensures .0) (if-atom (c .before .before .before .before .pre .0) (c .before .before .before .before .pre .1)))
 
 enum-told : tie.Need-enum-told
 enum-told c = search needs
@@ -42,13 +42,13 @@ enum-known-s : tie.Need-enum-known-s
 enum-known-s c = search needs
 
 returns : tie.Need-returns
-returns c = if-holds (c .before .before .before .before .before .before .before .before .before .pre .0) (c .before .before .before .before .before .before .before .before .before .pre .1) _ _ (c .before .before .before .before .before .view-of .ensures) (c .before .before .before .before .before .before .first-atom-at .ensures .0) (truth-holds _ (c .before .before .enum-told .given .1) (c .before .before .before .before .test .ensures)) (c .next .ensures)
+returns c = if-holds (c .before .before .before .before .before .before .before .before .before .pre .0) (c .before .before .before .before .before .before .before .before .before .pre .1) _ _ (c .before .before .before .before .before .view-of .ensures) (c .before .before .before .before .before .before .first-atom-at .ensures .0) (truth-holds _ (c .before .before .enum-told .given .1) (c .before .before .before .before .condition .ensures)) (c .next .ensures)
 
 returns-2 : tie.Need-returns-2
-returns-2 c = if-fails (c .before .before .before .before .before .before .before .before .before .pre .0) (c .before .before .before .before .before .before .before .before .before .pre .1) _ _ (c .before .before .before .before .before .view-of .ensures) (c .before .before .before .before .before .before .first-atom-at .ensures .0) (truth-fails _ (c .before .before .enum-told2 .given .1) (c .before .before .before .before .test .ensures)) (c .next2 .ensures ∙ rw (c .before .target-at .ensures .0))
+returns-2 c = if-fails (c .before .before .before .before .before .before .before .before .before .pre .0) (c .before .before .before .before .before .before .before .before .before .pre .1) _ _ (c .before .before .before .before .before .view-of .ensures) (c .before .before .before .before .before .before .first-atom-at .ensures .0) (truth-fails _ (c .before .before .enum-told2 .given .1) (c .before .before .before .before .condition .ensures)) (c .next2 .ensures ∙ rw (c .before .target-at .ensures .0))
 
 returns-3 : tie.Need-returns-3
-returns-3 c = if-stops (c .before .before .before .before .before .before .before .before .pre .0) (c .before .before .before .before .before .before .before .before .pre .1) _ _ (c .before .before .before .before .view-of .ensures) (c .before .before .before .before .before .first-atom-at .ensures .0) _ (truth-lacking _ _ (c .before .s .given .1) (c .before .before .before .test .ensures))
+returns-3 c = if-stops (c .before .before .before .before .before .before .before .before .pre .0) (c .before .before .before .before .before .before .before .before .pre .1) _ _ (c .before .before .before .before .view-of .ensures) (c .before .before .before .before .before .first-atom-at .ensures .0) _ (truth-lacking _ _ (c .before .s .given .1) (c .before .before .before .condition .ensures))
 
 pub if-step-spec : {M : Type 1} → statement M
 if-step-spec =
@@ -57,7 +57,7 @@ if-step-spec =
     cast-row
     first-atom-at-requires
     view-of-requires
-    test-requires
+    condition-requires
     enum-told
     add-next
     next-requires
