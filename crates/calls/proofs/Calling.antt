@@ -1,41 +1,36 @@
 -- `call`: the new frame holds what requires takes, which the caller loses.
 use mathlib.Core.Path.{_≡_, refl, sym, ap, _∙_, subst}
 use mathlib.Core.Bool.{Bool, true, false, cond, not}
-use mathlib.Core.List.{List, [], _∷_, _++_}
-use mathlib.Core.Logic.{_⊎_, inl, inr, ⊎-elim}
+use mathlib.Core.List.{List, []}
+use mathlib.Core.Logic.{inl, inr}
 use mathlib.Core.Option.{Option, none, some}
-use Prim.Native.Nat.{ℕ, zero, suc, _+_, _*_, _-_, _≤_, _<_}
+use Prim.Native.Nat.{ℕ, suc, _+_, _-_, _≤_, _<_}
 use native.Mathlib.Omega.{arith}
 use lib.Dec.{T, eqb}
-use lib.ListN.{length, drop, getD, set, replicate, getD-replicate}
-use lib.Seq.{getD-set-same}
+use lib.ListN.{length, drop, getD, set}
 use borrow.Author.Tests.{ne-eqb, eq-eqb, lt-ltb, le-ltb}
-use Rattle.rules.specs.Limits.{work-bytes, heap-objects, heap-fields, most-frames, most-statements, most-methods}
-use Rattle.rules.specs.Base.{Try, ok, no, _>>=_, _>>_, check, any}
-use Rattle.rules.specs.Answers.{Stop, framesFull, nullFollowed}
-use Rattle.rules.specs.Syntax.{Row, Formula, Method, noMethod}
-use Rattle.rules.specs.Machine.{Heap, Frame, Location, Config, Step, took, holds, among, without, valueOf, footprint, holding, entryValues, callFrame, entered, callStep}
+use Rattle.rules.specs.Limits.{most-frames, most-methods}
+use Rattle.rules.specs.Base.{Try, ok, no, _>>=_, _>>_, check}
+use Rattle.rules.specs.Answers.{Stop, nullFollowed}
+use Rattle.rules.specs.Machine.{Frame, Location, Config, took, holds, among, without, valueOf, footprint, holding, entryValues, callFrame, entered, callStep}
 use Rattle.rules.specs.declared.Machine.{Machine}
-use Rattle.rules.proofs.Lists.{T-true, F-false}
-use Rattle.rules.proofs.Sets.{Holds, footprint-held, holds-in, in-holds}
-use Rattle.tables.specs.Layout.{frame-variables, names-at, values-at, holders-at, seconds-at, objects-at, frames-at}
-use Rattle.tables.specs.Decode.{byteAt, halfAt, wordAt, yAt, zAt, memberAt, methodPlace, atomsFrom, atomCount, allRows, rowCount, kindAt, methodCount, methodAt, requiresAt, ensuresAt, firstRowAt, programIn}
-use Rattle.tables.specs.Tables.{Tables}
-use Rattle.tables.specs.Stores.{SameTables, putHalf, putWord}
-use Rattle.tables.proofs.Bytes.{same-refl, same-trans}
+use Rattle.rules.proofs.Sets.{Holds, footprint-held}
+use Rattle.tables.specs.Layout.{frame-variables, holders-at, seconds-at, frames-at}
+use Rattle.tables.specs.Decode.{byteAt, halfAt, wordAt, yAt, zAt, memberAt, methodPlace, atomsFrom, atomCount, allRows, kindAt, methodCount, methodAt, requiresAt, ensuresAt, firstRowAt}
+use Rattle.tables.specs.Stores.{SameTables}
+use Rattle.tables.proofs.Bytes.{same-trans}
 use Rattle.tables.proofs.Decoding.{tables-same, all-same, rows-count-same, kind-same, methods-count-same, first-row-same, ensures-same, requires-same}
-use Rattle.stores.specs.declared.View.{View}
 use Rattle.stores.specs.declared.Fault.{Fault}
 use Rattle.steps.specs.declared.Turn.{Turn}
-use Rattle.stores.specs.Views.{frameAt, variableAt, savedHolder, savedRow, methodOf, cellHolder, cellOf, holderIn, holderOf, fill, marked, framed, prepared, nextView, takeIn, viewOf, stopOf, SmallCells}
-use Rattle.steps.specs.States.{HeapIs, FrameIs, EnsuresIs, CallerIs, CallersAre, Represents, Follows, Does, Ready, AtKind}
+use Rattle.stores.specs.Views.{frameAt, variableAt, savedHolder, savedRow, methodOf, cellHolder, cellOf, holderIn, holderOf, marked, prepared, nextView, takeIn, stopOf, SmallCells}
+use Rattle.steps.specs.States.{FrameIs, CallerIs, CallersAre, Represents, Follows, Does, Ready, AtKind}
 use Rattle.calls.specs.Calls.{Calling, Admits, called}
 use Rattle.stores.proofs.Reading.{cell-small}
-use Rattle.steps.proofs.Seeing.{Sees, Matches, FormulaOk, no-footprint, ok-footprint, atoms-ok, bool-iff}
-use Rattle.stores.proofs.Regions.{Only, only-trans, only-wide, only-word, only-half, only-byte, only-fill, only-tables, only-kept, only-marked, fill-word, variable-kept, saved-holder-kept, value-kept, holder-kept}
+use Rattle.steps.proofs.Seeing.{Sees, Matches, FormulaOk, no-footprint, ok-footprint, atoms-ok}
+use Rattle.stores.proofs.Regions.{Only, only-wide, only-tables, only-marked, variable-kept, value-kept, holder-kept}
 use Rattle.steps.proofs.Keeping.{SameObjects, SameFrame, same-objects, same-frame, holder-of-kept, frame-kept, ensures-kept, callers-kept, heap-kept}
 use Rattle.steps.proofs.Moves.{sees, readable, follow-stop, follow-stop-in, follow-on}
-use Rattle.steps.proofs.Changes.{other-variable, this-variable, holds-without, marks-only, marks-tables, holder-marked, taken-held, others-kept, heap-marked}
+use Rattle.steps.proofs.Changes.{holds-without, marks-only, holder-marked, taken-held, others-kept, heap-marked}
 use Rattle.steps.proofs.Steps.{frame-holding}
 use Rattle.steps.proofs.Doing.{does-on, does-stop, fits}
 use Rattle.calls.proofs.Framing.{framed-only, framed-before, framed-method, framed-holder, framed-row, framed-values}

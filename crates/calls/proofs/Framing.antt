@@ -1,16 +1,16 @@
 -- The stores of a call: what each leaves, and what it puts.
-use mathlib.Core.Path.{_≡_, refl, sym, ap, _∙_, subst}
-use mathlib.Core.List.{List, [], _∷_}
+use mathlib.Core.Path.{_≡_, refl, sym, ap, _∙_}
+use mathlib.Core.List.{List}
 use mathlib.Core.Logic.{inl, inr}
 use Prim.Native.Nat.{ℕ, zero, suc, _+_, _*_, _≤_, _<_}
 use native.Mathlib.Omega.{arith}
-use lib.ListN.{length, getD, set, replicate, getD-replicate, length-set}
+use lib.ListN.{length, getD, set, getD-replicate}
 use lib.Seq.{getD-set-same}
 use Rattle.rules.specs.Machine.{entryValues}
 use Rattle.tables.specs.Layout.{frame-variables}
 use Rattle.tables.specs.Decode.{byteAt, halfAt, wordAt}
 use Rattle.tables.specs.Stores.{putHalf, putWord}
-use Rattle.tables.proofs.Bytes.{word-put, half-put, word-kept, half-kept, put-word-length, put-half-length}
+use Rattle.tables.proofs.Bytes.{word-put, half-put, word-kept, half-kept, put-word-length}
 use Rattle.stores.specs.Views.{variableAt, fill, framed}
 use Rattle.stores.proofs.Regions.{Only, only-trans, only-wide, only-word, only-half, only-byte, only-fill, only-kept, fill-word, variable-kept}
 use Rattle.steps.proofs.Changes.{other-variable, this-variable}

@@ -1,29 +1,27 @@
 -- `new`: the heap grows by an object, whose locations the running frame holds.
 use mathlib.Core.Path.{_≡_, refl, sym, ap, _∙_, subst}
-use mathlib.Core.Bool.{Bool, true, false, cond, not, _&&_, _||_}
+use mathlib.Core.Bool.{Bool, true, false, cond, _&&_}
 use mathlib.Core.List.{List, [], _∷_, _++_, map}
 use mathlib.Core.Logic.{_⊎_, inl, inr, ⊎-elim}
 use mathlib.Core.Option.{Option, none, some}
 use Prim.Native.Nat.{ℕ, zero, suc, _+_, _*_, _-_, _≤_, _<_}
 use native.Mathlib.Nat.{add-zero}
-use native.Mathlib.Numerals.{add-one}
 use native.Mathlib.Omega.{arith}
 use lib.Dec.{T, eqb, ltb, leb, eqb→eq, eqb-refl}
-use lib.ListN.{length, drop, getD, length-append, length-map, List·getD-append}
+use lib.ListN.{length, getD, length-append, length-map, List·getD-append}
 use lib.Seq.{getD-append-seam}
 use borrow.Author.Tests.{ne-eqb, eq-eqb, lt-ltb, le-ltb, le-leb, lt-leb}
-use Rattle.rules.specs.Limits.{work-bytes, heap-objects, heap-fields, most-frames, most-fields, most-classes}
-use Rattle.rules.specs.Base.{Try, ok, no, _>>=_, _>>_, check, any}
+use Rattle.rules.specs.Limits.{heap-objects, heap-fields, most-fields, most-classes}
+use Rattle.rules.specs.Base.{Try, ok, no, _>>_, check, any}
 use Rattle.rules.specs.Answers.{Stop, heapFull}
-use Rattle.rules.specs.Syntax.{Field}
-use Rattle.rules.specs.Machine.{Heap, Cell, Frame, Location, Config, Room, took, holds, among, eqLocation, fieldsOf, object, valueAt, valueOf, holding, bind, advance, withFrame, newCell, grown, newStep}
+use Rattle.rules.specs.Machine.{Heap, Cell, Location, Config, took, holds, among, eqLocation, fieldsOf, object, valueAt, holding, bind, advance, withFrame, newCell, grown, newStep}
 use Rattle.rules.specs.declared.Machine.{Machine}
 use Rattle.rules.proofs.Lists.{T-true, F-false, or-left, or-right, or-cases, none-some, decide-eq}
 use Rattle.rules.proofs.Heaps.{grown-other, grown-new}
-use Rattle.rules.proofs.Sets.{In, in-new}
-use Rattle.tables.specs.Layout.{frame-variables, most-names, names-at, values-at, holders-at, seconds-at, objects-at, frames-at}
-use Rattle.tables.specs.Decode.{kindAt, xAt, memberAt, allRows, rowCount, classCount, classAt, fieldsFrom, fieldAt, fieldCountAt, fieldNameAt}
-use Rattle.tables.specs.Tables.{Tables, ClassFits, placeAt}
+use Rattle.rules.proofs.Sets.{in-new}
+use Rattle.tables.specs.Layout.{frame-variables, most-names, values-at, frames-at}
+use Rattle.tables.specs.Decode.{kindAt, xAt, memberAt, classCount, classAt, fieldsFrom, fieldAt, fieldCountAt, fieldNameAt}
+use Rattle.tables.specs.Tables.{ClassFits, placeAt}
 use Rattle.tables.specs.Stores.{SameTables, putWord}
 use Rattle.tables.proofs.Rows.{class-length}
 use Rattle.tables.proofs.Bytes.{same-trans}
@@ -31,13 +29,13 @@ use Rattle.tables.proofs.Decoding.{tables-same, all-same, rows-count-same, kind
 use Rattle.stores.specs.declared.Fault.{Fault}
 use Rattle.steps.specs.declared.Turn.{Turn}
 use Rattle.stores.specs.declared.View.{View}
-use Rattle.stores.specs.Views.{frameAt, variableAt, cellValue, cellHolder, classIn, firstIn, cellOf, holderIn, holderOf, made, viewOf, stopOf, ObjectFits}
-use Rattle.steps.specs.States.{HeapIs, FrameIs, CallersAre, Represents, Follows, Does, Ready, AtKind, atRow, stepped}
+use Rattle.stores.specs.Views.{frameAt, cellValue, cellHolder, classIn, firstIn, cellOf, holderIn, holderOf, made, viewOf, stopOf, ObjectFits}
+use Rattle.steps.specs.States.{HeapIs, Represents, Follows, Does, Ready, AtKind, atRow}
 use Rattle.calls.specs.Calls.{larger}
 use Rattle.stores.proofs.Reading.{Placed, cell-placed, cell-small, cell-beyond, cell-null, cell-some, bound-free, place-found}
 use Rattle.steps.proofs.Seeing.{bool-iff, at}
 use Rattle.stores.proofs.Regions.{Only, only-tables, only-word}
-use Rattle.steps.proofs.Keeping.{SameObjects, SameFrame, same-frame, cell-kept, fits-kept, ensures-kept, callers-kept}
+use Rattle.steps.proofs.Keeping.{SameObjects, same-frame, cell-kept, fits-kept, ensures-kept, callers-kept}
 use Rattle.steps.proofs.Moves.{moved-to, tail-is, next-fits, follow-stop, follow-on}
 use Rattle.steps.proofs.Changes.{put-variable}
 use Rattle.steps.proofs.Steps.{frame-holding}

@@ -1,18 +1,17 @@
 -- The stores of a new object: what each leaves, and what it puts.
-use mathlib.Core.Path.{_≡_, refl, sym, ap, _∙_, subst}
-use mathlib.Core.List.{List, [], _∷_}
-use mathlib.Core.Logic.{_⊎_, inl, inr, ⊎-elim}
-use Prim.Native.Nat.{ℕ, zero, suc, _+_, _*_, _-_, _≤_, _<_}
+use mathlib.Core.Path.{_≡_, refl, _∙_}
+use mathlib.Core.List.{List}
+use mathlib.Core.Logic.{inl, inr}
+use Prim.Native.Nat.{ℕ, _+_, _*_, _≤_, _<_}
 use native.Mathlib.Omega.{arith}
-use lib.ListN.{length, getD, set}
+use lib.ListN.{length, set}
 use lib.Seq.{getD-set-same}
 use Rattle.rules.specs.Limits.{work-bytes, heap-objects, heap-fields}
 use Rattle.tables.specs.Layout.{values-at, holders-at, seconds-at, objects-at, frames-at}
-use Rattle.tables.specs.Decode.{byteAt, halfAt, wordAt}
-use Rattle.tables.specs.Stores.{putHalf, putWord}
+use Rattle.tables.specs.Stores.{putHalf}
 use Rattle.tables.proofs.Bytes.{half-put, word-kept, half-kept}
 use Rattle.stores.specs.Views.{cellValue, cellHolder, classIn, firstIn, fill, made}
-use Rattle.stores.proofs.Regions.{Only, only-trans, only-wide, only-half, only-byte, only-fill, only-kept, fill-word, class-in-kept, first-in-kept, value-kept, holder-kept, apart}
+use Rattle.stores.proofs.Regions.{Only, only-trans, only-wide, only-half, only-byte, only-fill, only-kept, fill-word, class-in-kept, first-in-kept}
 use Rattle.steps.proofs.Keeping.{SameObjects}
 
 module _ (w : List ℕ) (i k n class holder : ℕ) (size : length w ≡ work-bytes) (li : i < heap-objects) (lk : k + n ≤ heap-fields)

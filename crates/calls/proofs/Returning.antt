@@ -1,25 +1,22 @@
 -- `end`: the caller gains what ensures takes, and its x the result.
 use mathlib.Core.Path.{_≡_, refl, sym, ap, _∙_, subst}
-use mathlib.Core.Bool.{Bool, true, false, cond, _||_}
+use mathlib.Core.Bool.{Bool, true, false, cond}
 use mathlib.Core.List.{List, [], _∷_, _++_}
-use mathlib.Core.Logic.{_⊎_, inl, inr, ⊎-elim}
-use Prim.Native.Nat.{ℕ, zero, suc, _+_, _*_, _-_, _≤_, _<_}
-use native.Mathlib.Numerals.{add-one}
+use mathlib.Core.Logic.{inr, ⊎-elim}
+use Prim.Native.Nat.{ℕ, suc, _+_, _*_, _-_, _≤_, _<_}
 use native.Mathlib.Omega.{arith}
-use lib.Dec.{T, eqb, eqb-refl}
-use lib.ListN.{length, drop, getD}
-use borrow.Author.Tests.{ne-eqb, eq-eqb}
-use Rattle.rules.specs.Limits.{most-frames, most-statements}
+use lib.Dec.{T, eqb}
+use lib.ListN.{length}
+use borrow.Author.Tests.{eq-eqb}
 use Rattle.rules.specs.Base.{Try, ok, no, _>>=_}
-use Rattle.rules.specs.Syntax.{Row, Formula, result-variable}
+use Rattle.rules.specs.Syntax.{Row, result-variable}
 use Rattle.rules.specs.Answers.{Stop}
-use Rattle.rules.specs.Machine.{Heap, Frame, Location, Config, Step, done, took, holds, among, valueOf, footprint, tail, jump, advance, bind, holding, withFrame, rowOf, noRow, targetOf, returned, endStep}
+use Rattle.rules.specs.Machine.{Heap, Frame, Location, holds, among, valueOf, footprint, advance, bind, holding, withFrame, rowOf, targetOf, returned, endStep}
 use Rattle.rules.specs.declared.Machine.{Machine}
-use Rattle.rules.proofs.Lists.{T-true, F-false}
+use Rattle.rules.proofs.Lists.{T-true}
 use Rattle.rules.proofs.Sets.{Holds, footprint-held, in-append, in-left, in-right}
 use Rattle.tables.specs.Layout.{frame-variables, holders-at, seconds-at, frames-at}
-use Rattle.tables.specs.Decode.{byteAt, halfAt, methodPlace, allRows, rowAt, stmtAt, kindAt, xAt, rowCount, methodCount, atomsFrom, atomCount, ensuresAt}
-use Rattle.tables.specs.Tables.{Tables}
+use Rattle.tables.specs.Decode.{byteAt, halfAt, methodPlace, rowAt, kindAt, xAt, rowCount, methodCount, atomsFrom, atomCount, ensuresAt}
 use Rattle.tables.specs.Stores.{SameTables, putWord}
 use Rattle.tables.proofs.Rows.{row-cons}
 use Rattle.tables.proofs.Bytes.{same-trans, same-refl}
@@ -28,7 +25,7 @@ use Rattle.stores.specs.declared.Fault.{Fault}
 use Rattle.steps.specs.declared.Turn.{Turn}
 use Rattle.stores.specs.declared.View.{View}
 use Rattle.stores.specs.Views.{frameAt, variableAt, savedHolder, savedRow, methodOf, holderOf, takeIn, marked, viewOf, stopOf, SmallCells}
-use Rattle.steps.specs.States.{FrameIs, EnsuresIs, CallerIs, CallersAre, Represents, Follows, Does, Ready, atRow}
+use Rattle.steps.specs.States.{FrameIs, CallerIs, CallersAre, Represents, Follows, Does, Ready}
 use Rattle.calls.specs.Calls.{back}
 use Rattle.steps.proofs.Seeing.{Matches, FormulaOk, no-footprint, ok-footprint, atoms-ok, bool-iff}
 use Rattle.stores.proofs.Regions.{Only, only-tables, only-word, only-marked}

@@ -1,11 +1,10 @@
 -- A step by the kind of its row is the definition's step.
-use mathlib.Core.Path.{_≡_, refl, sym, ap, _∙_, subst}
-use mathlib.Core.List.{List, []}
-use mathlib.Core.Logic.{_⊎_, inl, inr, ⊎-elim}
-use Prim.Native.Nat.{ℕ, _+_, _≤_, _<_}
+use mathlib.Core.Path.{_≡_, sym, ap, _∙_, subst}
+use mathlib.Core.List.{List}
+use mathlib.Core.Logic.{_⊎_, inl, inr}
+use Prim.Native.Nat.{ℕ, _+_, _≤_}
 use native.Mathlib.Omega.{arith}
-use lib.ListN.{getD}
-use Rattle.rules.specs.Syntax.{Row, Stmt, Program, noMethod, result-variable, var}
+use Rattle.rules.specs.Syntax.{Row, Stmt, result-variable, var}
 use Rattle.rules.specs.Machine.{Config, Step, Room, took, on, rowOf, step, stepAt, simpleStep, withFrame, jump, toJoin, setStep, assignStep, newStep, callStep, ifStep, assertStep, releaseStep, endStep}
 use Rattle.rules.specs.declared.Machine.{Machine}
 use Rattle.tables.specs.Decode.{byteAt, atomPlace, relOf, rowAt, stmtAt, ifAt, kindAt, xAt, yAt, zAt, memberAt, firstAtomAt, formulaAt, leftAt, rightAt, methodAt, classAt, programIn}

@@ -1,29 +1,28 @@
 -- A variable of the running frame, a value of the heap, and holders: how the represented state changes with the store.
 use mathlib.Core.Path.{_≡_, refl, sym, ap, _∙_, subst}
-use mathlib.Core.Bool.{Bool, true, false, cond, not, _&&_}
-use mathlib.Core.List.{List, [], _∷_}
-use mathlib.Core.Logic.{_⊎_, inl, inr, ⊎-elim}
+use mathlib.Core.Bool.{Bool, true, false, cond}
+use mathlib.Core.List.{List}
+use mathlib.Core.Logic.{inl, inr, ⊎-elim}
 use mathlib.Core.Option.{Option, none, some}
-use Prim.Native.Nat.{ℕ, zero, suc, _+_, _*_, _-_, _≤_, _<_}
+use Prim.Native.Nat.{ℕ, suc, _+_, _*_, _≤_, _<_}
 use native.Mathlib.Omega.{arith}
 use lib.Dec.{T, eqb}
-use lib.ListN.{length, drop}
-use borrow.Author.Tests.{ne-eqb, eq-eqb, eqb-true}
-use Rattle.rules.specs.Limits.{work-bytes, heap-objects, heap-fields, most-frames}
-use Rattle.rules.specs.Base.{Try, ok, no, any}
-use Rattle.rules.specs.Machine.{Heap, Frame, Location, Config, holds, among, without, valueOf, valueAt, object, fieldsOf, store, bind, holding, withFrame, footprint}
+use lib.ListN.{length}
+use borrow.Author.Tests.{ne-eqb, eqb-true}
+use Rattle.rules.specs.Limits.{heap-objects, heap-fields, most-frames}
+use Rattle.rules.specs.Base.{any}
+use Rattle.rules.specs.Machine.{Location, Config, holds, among, without, valueAt, object, fieldsOf, store, bind, withFrame}
 use Rattle.rules.specs.declared.Machine.{Machine}
 use Rattle.rules.proofs.Lists.{decide-eq, some-inj, T-true, F-false}
 use Rattle.rules.proofs.Heaps.{store-same, store-other}
-use Rattle.rules.proofs.Sets.{Holds, in-holds, holds-in, without-in, without-out, in-without}
-use Rattle.tables.specs.Layout.{frame-variables, names-at, values-at, holders-at, seconds-at, objects-at, frames-at}
-use Rattle.tables.specs.Decode.{byteAt}
+use Rattle.rules.proofs.Sets.{Holds, without-in, without-out, in-without}
+use Rattle.tables.specs.Layout.{frame-variables, values-at, holders-at, seconds-at}
 use Rattle.tables.specs.Tables.{Tables}
 use Rattle.tables.specs.Stores.{SameTables, putWord}
 use Rattle.tables.proofs.Bytes.{word-put, word-kept}
 use Rattle.tables.proofs.Decoding.{tables-same, all-same, rows-count-same}
-use Rattle.stores.specs.Views.{frameAt, variableAt, cellValue, cellHolder, cellOf, holderIn, holderOf, methodOf, marked, viewOf, SmallCells, ObjectFits}
-use Rattle.steps.specs.States.{HeapIs, FrameIs, EnsuresIs, CallersAre, Represents}
+use Rattle.stores.specs.Views.{frameAt, variableAt, cellValue, cellHolder, cellOf, holderIn, holderOf, methodOf, marked, ObjectFits}
+use Rattle.steps.specs.States.{HeapIs, Represents}
 use Rattle.stores.proofs.Reading.{Placed, cell-placed, cell-small}
 use Rattle.steps.proofs.Seeing.{Matches, cells-apart, bool-iff}
 use Rattle.stores.proofs.Regions.{Only, only-word, only-kept, only-tables, only-marked, marked-holder, value-kept, holder-kept, apart}

@@ -5,14 +5,14 @@ use mathlib.Core.List.{List, []}
 use mathlib.Core.Logic.{inl, inr}
 use Prim.Native.Nat.{ℕ, _+_, _*_, _-_, _≤_, _<_}
 use native.Mathlib.Omega.{arith}
-use lib.ListN.{length, take}
+use lib.ListN.{length}
 use Rattle.rules.specs.Limits.{heap-fields, most-statements, most-frames}
 use Rattle.rules.specs.Base.{ok, no}
 use Rattle.rules.specs.Syntax.{var, result-variable}
 use Rattle.rules.specs.Machine.{Config, Step, took, on, withFrame, jump, toJoin, setStep, assignStep, ifStep, assertStep, releaseStep}
 use Rattle.rules.specs.declared.Machine.{Machine}
 use Rattle.tables.specs.Layout.{frame-variables, values-at, holders-at, frames-at, most-names}
-use Rattle.tables.specs.Decode.{byteAt, atomPlace, relOf, kindAt, xAt, yAt, memberAt, targetAt, firstAtomAt, atomCountAt, atomsFrom, atomCount, formulaAt, leftAt, rightAt}
+use Rattle.tables.specs.Decode.{byteAt, atomPlace, relOf, xAt, yAt, memberAt, targetAt, firstAtomAt, atomCountAt, atomsFrom, atomCount, formulaAt, leftAt, rightAt}
 use Rattle.tables.specs.Tables.{RowFits}
 use Rattle.tables.specs.Stores.{SameTables, putWord}
 use Rattle.tables.proofs.Bytes.{same-refl}

@@ -4,20 +4,20 @@ use mathlib.Core.Bool.{Bool, true, false, cond, _&&_}
 use mathlib.Core.List.{List, [], _∷_}
 use mathlib.Core.Logic.{_⊎_, inl, inr, ⊎-elim}
 use mathlib.Core.Option.{Option, none, some}
-use Prim.Native.Nat.{ℕ, zero, suc, _+_, _*_, _-_, _≤_, _<_}
+use Prim.Native.Nat.{ℕ, zero, suc, _+_, _≤_, _<_}
 use native.Mathlib.Omega.{arith}
 use lib.Dec.{T, eqb, ltb}
 use lib.ListN.{length, drop}
-use borrow.Author.Tests.{eqb-true, eqb-false, ne-eqb, eq-eqb, ltb-true}
-use Rattle.rules.specs.Limits.{work-bytes, heap-objects, heap-fields, most-classes, most-statements, most-frames}
+use borrow.Author.Tests.{ltb-true}
+use Rattle.rules.specs.Limits.{heap-objects, most-classes, most-statements}
 use Rattle.rules.specs.Base.{any}
-use Rattle.rules.specs.Machine.{Heap, Frame, Location, holds, fieldsOf, object, valueAt, valueOf}
-use Rattle.rules.proofs.Lists.{none-some, some-inj, T-true, and-both}
-use Rattle.tables.specs.Layout.{names-at, values-at, holders-at, seconds-at, objects-at, frames-at, frame-variables, most-names}
-use Rattle.tables.specs.Decode.{allRows, rowCount, kindAt, methodCount, ensuresAt, classCount, fieldCountAt}
+use Rattle.rules.specs.Machine.{Heap, Frame, Location, fieldsOf, object, valueAt}
+use Rattle.rules.proofs.Lists.{T-true, and-both}
+use Rattle.tables.specs.Layout.{objects-at, frames-at, frame-variables, most-names}
+use Rattle.tables.specs.Decode.{fieldCountAt}
 use Rattle.tables.specs.Tables.{Tables, placeAt}
 use Rattle.tables.specs.Stores.{SameTables}
-use Rattle.tables.proofs.Decoding.{tables-same, all-same, rows-count-same, kind-same, methods-count-same, classes-count-same, field-count-same, place-same, ensures-same}
+use Rattle.tables.proofs.Decoding.{all-same, rows-count-same, kind-same, methods-count-same, classes-count-same, field-count-same, place-same, ensures-same}
 use Rattle.stores.specs.Views.{frameAt, variableAt, savedHolder, savedRow, methodOf, cellValue, cellHolder, classIn, firstIn, placed, cellOf, holderIn, holderOf, ObjectFits}
 use Rattle.steps.specs.States.{HeapIs, FrameIs, EnsuresIs, CallerIs, CallersAre}
 use Rattle.stores.proofs.Reading.{cell-small}

@@ -1,34 +1,30 @@
 -- Steps that change no more than the row, a variable, a value or holders of the running frame.
-use mathlib.Core.Path.{_≡_, refl, sym, ap, _∙_, subst}
-use mathlib.Core.Bool.{Bool, true, false, cond, not}
+use mathlib.Core.Path.{_≡_, refl, sym, ap, _∙_}
+use mathlib.Core.Bool.{true, false, cond}
 use mathlib.Core.List.{List, [], _∷_}
-use mathlib.Core.Logic.{_⊎_, inl, inr, ⊎-elim}
-use mathlib.Core.Option.{Option, none, some}
-use Prim.Native.Nat.{ℕ, zero, suc, _+_, _*_, _-_, _≤_, _<_}
+use mathlib.Core.Logic.{inl, inr, ⊎-elim}
+use Prim.Native.Nat.{ℕ, zero, suc, _+_, _-_, _≤_, _<_}
 use native.Mathlib.Numerals.{add-one}
 use native.Mathlib.Omega.{arith}
-use lib.Dec.{T, eqb}
+use lib.Dec.{eqb}
 use lib.ListN.{length, drop}
-use Rattle.rules.specs.Limits.{work-bytes, heap-objects, heap-fields, most-frames, most-statements}
-use Rattle.rules.specs.Base.{Try, ok, no, _>>=_, _>>_, check, any, update}
+use Rattle.rules.specs.Limits.{heap-fields}
+use Rattle.rules.specs.Base.{Try, ok, no, _>>=_, update}
 use Rattle.rules.specs.Answers.{Stop}
-use Rattle.rules.specs.Syntax.{Rel, Expr, Row, Formula}
-use Rattle.rules.specs.Machine.{Heap, Frame, Location, Config, Step, on, stop, took, holds, valueOf, value, compared, footprint, tail, jump, advance, bind, holding, withFrame, afterElse, toJoin, ifStep, assignStep, assertStep, releaseStep, without}
+use Rattle.rules.specs.Syntax.{Row, Formula}
+use Rattle.rules.specs.Machine.{Frame, Location, Config, on, took, holds, valueOf, value, compared, tail, jump, advance, bind, withFrame, afterElse, toJoin, ifStep, assertStep}
 use Rattle.rules.specs.declared.Machine.{Machine}
 use Rattle.rules.proofs.Lists.{update-same, update-other, decide-eq}
-use Rattle.tables.specs.Layout.{frame-variables, names-at, frames-at, holders-at, seconds-at}
-use Rattle.tables.specs.Decode.{byteAt, allRows, rowAt, rowCount, kindAt, xAt, targetAt, firstAtomAt, atomCountAt, formulaAt, atomsFrom, atomCount, leftAt, rightAt, relOf, atomPlace}
-use Rattle.tables.specs.Tables.{Tables, RowFits}
-use Rattle.tables.specs.Stores.{SameTables, putWord}
+use Rattle.tables.specs.Layout.{frame-variables}
+use Rattle.tables.specs.Decode.{byteAt, allRows, rowAt, rowCount, kindAt, targetAt, formulaAt, atomCount, leftAt, rightAt, relOf, atomPlace}
+use Rattle.tables.specs.Tables.{RowFits}
 use Rattle.tables.proofs.Rows.{row-cons}
-use Rattle.tables.proofs.Bytes.{same-refl, word-put}
-use Rattle.stores.specs.declared.View.{View}
 use Rattle.stores.specs.declared.Fault.{Fault}
 use Rattle.steps.specs.declared.Turn.{Turn}
-use Rattle.stores.specs.Views.{frameAt, variableAt, cellOf, holderOf, cellValue, cellHolder, classIn, firstIn, methodOf, viewOf, readIn, rightTest, testIn, takeIn, stopOf, ObjectFits, Readable}
-use Rattle.steps.specs.States.{HeapIs, FrameIs, EnsuresIs, CallersAre, Represents, Goes, Follows, Does, atRow, stepped, AtKind}
+use Rattle.stores.specs.Views.{frameAt, variableAt, holderOf, viewOf, readIn, rightTest, testIn, takeIn, stopOf, ObjectFits, Readable}
+use Rattle.steps.specs.States.{FrameIs, Represents, Follows, atRow, stepped}
 use Rattle.stores.proofs.Reading.{cell-small}
-use Rattle.steps.proofs.Seeing.{Sees, Agree, Matches, both, neither, SideOk, FormulaOk, cells-apart, value-is, no-footprint, ok-footprint, atoms-ok, left-ok, right-ok}
+use Rattle.steps.proofs.Seeing.{Sees, FormulaOk, cells-apart, value-is, no-footprint, ok-footprint, atoms-ok, left-ok, right-ok}
 
 -- FRAMES
 pub frame-jump :

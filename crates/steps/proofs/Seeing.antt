@@ -1,28 +1,28 @@
 -- What the code reads is what the definitions evaluate, in a frame that the view sees.
 use mathlib.Core.Path.{_≡_, refl, sym, ap, _∙_, subst}
-use mathlib.Core.Bool.{Bool, true, false, cond, not, _||_}
+use mathlib.Core.Bool.{Bool, true, false, cond, not}
 use mathlib.Core.List.{List, [], _∷_, _++_}
-use mathlib.Core.Logic.{_⊎_, inl, inr, ⊎-elim}
+use mathlib.Core.Logic.{_⊎_, inl, inr}
 use mathlib.Core.Option.{Option, none, some}
-use Prim.Native.Nat.{ℕ, zero, suc, _+_, _*_, _-_, _≤_, _<_}
+use Prim.Native.Nat.{ℕ, zero, suc, _+_, _≤_, _<_}
 use native.Mathlib.Omega.{arith}
 use lib.Dec.{T, eqb, eqb→eq, eqb-refl}
-use lib.ListN.{length}
 use borrow.Author.Tests.{ne-eqb, eqb-true}
 use Rattle.rules.specs.Limits.{heap-fields}
 use Rattle.rules.specs.Base.{Try, ok, no, _>>=_, _>>_, check, any}
 use Rattle.rules.specs.Answers.{Stop, permissionMissing, nullFollowed, formulaFalse}
 use Rattle.rules.specs.Syntax.{Rel, Expr, Atom, Formula, num, null, var, path, acc, cmp}
 use Rattle.rules.specs.Machine.{Heap, Frame, Location, holds, valueAt, valueOf, locate, value, compared, takeFrom, footprint, among, eqLocation}
-use Rattle.rules.proofs.Lists.{some-inj, none-some, or-cases, and-both, and-intro, T-true}
+use Rattle.rules.proofs.Lists.{some-inj, or-cases, and-both, and-intro, T-true}
 use Rattle.rules.proofs.Tries.{ok-inj}
 use Rattle.tables.specs.Layout.{most-names, frame-variables}
-use Rattle.tables.specs.Decode.{byteAt, exprAt, leftAt, rightAt, atomAt, atomsFrom, atomPlace, atomCount, relOf, fieldCountAt, fieldNameAt}
+use Rattle.tables.specs.Decode.{byteAt, exprAt, leftAt, rightAt, atomAt, atomsFrom, atomPlace, atomCount, relOf, fieldNameAt}
 use Rattle.tables.specs.Tables.{Tables, SideFits, AtomFits, ClassFits, placeAt}
 use Rattle.stores.specs.declared.View.{View}
-use Rattle.stores.specs.Views.{variableAt, cellHolder, cellValue, classIn, firstIn, cellOf, holderIn, holderOf, heldCell, spotOf, spot, readIn, newCells, accIn, takeIn, ObjectFits, SmallCells}
-use Rattle.steps.specs.States.{HeapIs, FrameIs}
-use Rattle.stores.proofs.Reading.{Placed, cell-placed, cell-small, place-found, spot-is, var-fits, path-fits, access-fits}
+use Rattle.stores.specs.Views.{variableAt, cellHolder, cellValue, classIn, firstIn, cellOf, holderIn, holderOf, heldCell, spotOf, spot, readIn, newCells, accIn, takeIn, SmallCells}
+use Rattle.steps.specs.States.{HeapIs}
+use Rattle.stores.proofs.Cells.{any-end}
+use Rattle.stores.proofs.Reading.{Placed, cell-placed, place-found, spot-is, var-fits, path-fits, access-fits}
 
 -- CELLS OF TWO LOCATIONS DIFFER
 same-place :
@@ -118,17 +118,6 @@ unfolding eqLocation
 location-same {p} {q} e =
     subst (λ r. T (eqLocation p r)) e
     (and-intro (eqb (p .object) (p .object)) (eqb (p .field) (p .field)) (eqb-refl (p .object)) (eqb-refl (p .field)))
-
-any-end : (k j : ℕ) (ks : List ℕ) → any (eqb k) (ks ++ (j ∷ [])) ≡ (eqb k j || any (eqb k) ks)
-unfolding any
-any-end k j [] = refl
-any-end k j (i ∷ ks) = rw (any-end k j ks) (swap (eqb k i) (eqb k j) (any (eqb k) ks))
-  where
-    swap : (a b c : Bool) → (a || (b || c)) ≡ (b || (a || c))
-    swap true true c = refl
-    swap true false c = refl
-    swap false true c = refl
-    swap false false c = refl
 
 module _ {w : List ℕ} {v : View} {h : Heap} {F : Frame} (S : Sees w v h F) where
   -- LOCATIONS

@@ -1,8 +1,8 @@
 -- The statement of a row, by its kind.
-use mathlib.Core.Path.{_≡_, refl, sym, ap, _∙_}
+use mathlib.Core.Path.{_≡_}
 use mathlib.Core.List.{List}
 use Prim.Native.Nat.{ℕ}
-use Rattle.rules.specs.Syntax.{Stmt, simple, set, assign, new, call, return, assert, release, else, join, end}
+use Rattle.rules.specs.Syntax.{simple, set, assign, new, call, return, assert, release, else, join, end}
 use Rattle.rules.specs.Machine.{targetOf}
 use Rattle.tables.specs.Decode.{kindAt, xAt, yAt, zAt, memberAt, firstAtomAt, formulaAt, rightAt, ifAt, stmtAt}
 

@@ -1,19 +1,17 @@
 -- The steps that stay in their frame: `let`, `return`, `set`, `release`.
-use mathlib.Core.Path.{_≡_, refl, sym, ap, _∙_, subst}
-use mathlib.Core.Bool.{Bool, true, false, cond, not}
-use mathlib.Core.List.{List, [], _∷_}
-use mathlib.Core.Logic.{_⊎_, inl, inr, ⊎-elim}
-use mathlib.Core.Option.{Option, none, some}
-use Prim.Native.Nat.{ℕ, zero, suc, _+_, _*_, _-_, _≤_, _<_}
+use mathlib.Core.Path.{_≡_, refl, sym, ap, _∙_}
+use mathlib.Core.Bool.{Bool, true, false, cond}
+use mathlib.Core.List.{List, []}
+use mathlib.Core.Logic.{inr}
+use Prim.Native.Nat.{ℕ, _+_, _*_, _-_, _<_}
 use native.Mathlib.Omega.{arith}
 use lib.Dec.{T, eqb}
 use lib.ListN.{length, drop}
 use borrow.Author.Tests.{ne-eqb}
-use Rattle.rules.specs.Limits.{heap-objects, heap-fields, most-frames, most-statements}
-use Rattle.rules.specs.Base.{Try, ok, no, _>>=_, _>>_, check}
-use Rattle.rules.specs.Answers.{Stop}
-use Rattle.rules.specs.Syntax.{Expr, Formula, var, result-variable}
-use Rattle.rules.specs.Machine.{Frame, Location, Config, took, holds, among, without, valueOf, value, locate, footprint, advance, bind, holding, withFrame, store, stored, setStep, assignStep, releaseStep}
+use Rattle.rules.specs.Limits.{heap-fields}
+use Rattle.rules.specs.Base.{ok, no, _>>=_}
+use Rattle.rules.specs.Syntax.{Expr, Formula}
+use Rattle.rules.specs.Machine.{Frame, Location, Config, took, holds, among, without, valueOf, advance, bind, holding, withFrame, stored, setStep, assignStep, releaseStep}
 use Rattle.rules.specs.declared.Machine.{Machine}
 use Rattle.rules.proofs.Sets.{Holds, footprint-held}
 use Rattle.tables.specs.Layout.{frame-variables, values-at, holders-at, seconds-at, frames-at}
@@ -22,12 +20,12 @@ use Rattle.tables.specs.Stores.{SameTables, putWord}
 use Rattle.tables.proofs.Decoding.{tables-same, all-same, rows-count-same, kind-same}
 use Rattle.stores.specs.declared.Fault.{Fault}
 use Rattle.steps.specs.declared.Turn.{Turn}
-use Rattle.stores.specs.Views.{frameAt, variableAt, holderOf, cellOf, spot, readIn, takeIn, marked, viewOf, stopOf}
+use Rattle.stores.specs.Views.{frameAt, variableAt, holderOf, spot, readIn, takeIn, marked, viewOf, stopOf}
 use Rattle.steps.specs.States.{FrameIs, Represents, Follows, stepped}
 use Rattle.steps.proofs.Seeing.{Matches, SideOk, FormulaOk, locate-at, locate-no, value-is, no-footprint, ok-footprint}
 use Rattle.stores.proofs.Regions.{Only, only-word, only-tables}
 use Rattle.steps.proofs.Keeping.{same-frame, ensures-kept, callers-kept}
-use Rattle.steps.proofs.Moves.{sees, moved-on, follow-stop, follow-on, row-formula-ok}
+use Rattle.steps.proofs.Moves.{sees, moved-on, follow-stop, follow-on}
 use Rattle.steps.proofs.Changes.{put-variable, put-value, holds-without, marks-only, marks-tables, holder-marked, taken-held, others-kept, heap-marked}
 
 -- the same frame with another set

@@ -23,7 +23,7 @@ pub enum Turn {
 }
 
 // One step more, on to a row.
-pub fn next(c: Machine, row: u32) -> Machine
+fn next(c: Machine, row: u32) -> Machine
     requires { ⌜ c .steps < 4294967295 ⌝ }
     ensures { λ r. ⌜ r ≡ stepped c row ⌝ }
 {

@@ -1,6 +1,6 @@
 -- Laws of the lists of cells that the code goes through.
-use mathlib.Core.Path.{_≡_, refl, sym, ap, _∙_, subst}
-use mathlib.Core.Bool.{Bool, true, false, not, _||_}
+use mathlib.Core.Path.{_≡_, refl, sym, ap, _∙_}
+use mathlib.Core.Bool.{Bool, true, false, _||_}
 use mathlib.Core.List.{List, [], _∷_, _++_}
 use Prim.Native.Nat.{ℕ, zero, suc, _+_, _*_, _-_, _≤_, _<_}
 use native.Mathlib.Numerals.{add-one}
@@ -9,12 +9,11 @@ use lib.Dec.{T, eqb, eqb-refl}
 use lib.ListN.{length, take, drop, getD, length-take, drop-of-length-le}
 use lib.Seq.{drop-cons, getD-take, length-take-le}
 use borrow.Author.Tests.{eq-eqb, ne-eqb}
-use Rattle.rules.specs.Limits.{heap-fields}
 use Rattle.rules.specs.Base.{any}
 use Rattle.rules.proofs.Lists.{or-right, or-left}
 use Rattle.tables.specs.Layout.{holders-at}
 use Rattle.tables.specs.Stores.{putWord}
-use Rattle.stores.specs.Views.{fill, marked, SmallCells}
+use Rattle.stores.specs.Views.{fill, marked}
 
 -- the i-th of the first n
 pub nth : (l : List ℕ) (n i : ℕ) → n ≤ length l → i < n → drop i (take n l) ≡ getD l i 0 ∷ drop (i + 1) (take n l)
@@ -41,6 +40,18 @@ module _ (l : List ℕ) (n i k : ℕ) (fits : n ≤ length l) (seen : any (eqb k
   pub search-end : n ≤ i → false ≡ any (eqb k) (take n l)
   unfolding any
   search-end h = sym (ap (any (eqb k)) (past l n i h)) ∙ seen
+
+-- in a list with one more at its end
+pub any-end : (k j : ℕ) (ks : List ℕ) → any (eqb k) (ks ++ (j ∷ [])) ≡ (eqb k j || any (eqb k) ks)
+unfolding any
+any-end k j [] = refl
+any-end k j (i ∷ ks) = rw (any-end k j ks) (swap (eqb k i) (eqb k j) (any (eqb k) ks))
+  where
+    swap : (a b c : Bool) → (a || (b || c)) ≡ (b || (a || c))
+    swap true true c = refl
+    swap true false c = refl
+    swap false true c = refl
+    swap false false c = refl
 
 -- MARKS AND WORDS
 pub mark-next :

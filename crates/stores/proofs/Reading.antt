@@ -2,23 +2,23 @@
 use mathlib.Core.Path.{_≡_, refl, sym, ap, _∙_, subst}
 use mathlib.Core.Bool.{Bool, true, false, cond, not, _&&_}
 use mathlib.Core.List.{List, [], _∷_, _++_}
-use mathlib.Core.Logic.{_⊎_, inl, inr, ⊎-elim}
+use mathlib.Core.Logic.{⊎-elim}
 use mathlib.Core.Option.{Option, none, some}
-use Prim.Native.Nat.{ℕ, zero, suc, _+_, _*_, _-_, _≤_, _<_}
+use Prim.Native.Nat.{ℕ, zero, suc, _+_, _-_, _≤_, _<_}
 use native.Mathlib.Omega.{arith}
 use lib.Dec.{T, eqb, ltb}
-use lib.ListN.{length, take, drop, getD}
-use borrow.Author.Tests.{ltb-true, ne-eqb, eq-eqb, eqb-true, eqb-false, lt-ltb, le-ltb}
-use Rattle.rules.specs.Limits.{heap-objects, heap-fields, work-bytes}
+use lib.ListN.{take}
+use borrow.Author.Tests.{ltb-true, ne-eqb, eqb-true, eqb-false, lt-ltb, le-ltb}
+use Rattle.rules.specs.Limits.{heap-fields}
 use Rattle.rules.specs.Base.{Try, ok, no, _>>=_, _>>_, check, any}
 use Rattle.rules.specs.Answers.{Stop, permissionMissing, nullFollowed, formulaFalse}
 use Rattle.rules.specs.Syntax.{Expr, Atom, Formula, num, null, var, path, acc, cmp}
 use Rattle.rules.specs.Machine.{compared}
 use Rattle.rules.proofs.Lists.{some-inj, none-some, T-true, and-both}
-use Rattle.rules.proofs.Tries.{check-ok, bind-ok, ok-inj}
+use Rattle.rules.proofs.Tries.{check-ok, ok-inj}
 use Rattle.tables.specs.declared.Expr as Tables
 use Rattle.tables.specs.Layout.{most-names, frame-variables}
-use Rattle.tables.specs.Decode.{byteAt, wordAt, exprAt, leftAt, rightAt, atomAt, atomsFrom, atomPlace, atomCount, relOf, fieldCountAt, fieldNameAt, classCount}
+use Rattle.tables.specs.Decode.{byteAt, wordAt, exprAt, leftAt, rightAt, atomAt, atomsFrom, atomPlace, relOf, fieldCountAt, fieldNameAt}
 use Rattle.tables.specs.Tables.{Tables, SideFits, AtomFits, ClassFits, placeAt}
 use Rattle.tables.specs.Stores.{meaning}
 use Rattle.stores.specs.declared.View.{View}
@@ -27,7 +27,7 @@ use Rattle.stores.specs.declared.Spot.{Spot}
 use Rattle.stores.specs.declared.Read.{Read}
 use Rattle.stores.specs.declared.Truth.{Truth}
 use Rattle.stores.specs.declared.Took.{Took}
-use Rattle.stores.specs.Views.{variableAt, cellHolder, cellValue, classIn, firstIn, placed, cellOf, heldCell, spotOf, spot, readIn, rightTest, testIn, newCells, accIn, takeIn, stopOf, spotIs, readIs, truthIs, tookIs, countOf, ObjectFits, ExprFits, PlainIs, Readable}
+use Rattle.stores.specs.Views.{variableAt, cellHolder, classIn, firstIn, placed, cellOf, heldCell, spotOf, spot, readIn, rightTest, testIn, newCells, accIn, takeIn, stopOf, spotIs, readIs, truthIs, tookIs, countOf, ObjectFits, ExprFits, PlainIs, Readable}
 
 -- ANSWERS BY CASES
 pub spot-at : (r : Spot) (k : ℕ) {t : Try Stop ℕ} → r ≡ Spot.At k → spotIs r ≡ t → t ≡ ok k

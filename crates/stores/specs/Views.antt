@@ -3,9 +3,9 @@ use mathlib.Core.Bool.{Bool, true, false, cond, not, _&&_}
 use mathlib.Core.List.{List, [], _∷_, _++_}
 use mathlib.Core.Option.{Option, none, some}
 use mathlib.Core.Path.{_≡_}
-use Prim.Native.Nat.{ℕ, zero, suc, _+_, _*_, _-_, _≤_, _<_}
+use Prim.Native.Nat.{ℕ, zero, suc, _+_, _*_, _-_, _%_, _≤_, _<_}
 use lib.Dec.{T, eqb, ltb}
-use lib.ListN.{length, take, set}
+use lib.ListN.{length, take, set, getD}
 use Rattle.rules.specs.Limits.{heap-objects, heap-fields, work-bytes}
 use Rattle.rules.specs.Base.{Try, ok, no, _>>=_, _>>_, check, any}
 use Rattle.rules.specs.Answers.{Stop, heapFull, framesFull, permissionMissing, nullFollowed, formulaFalse}
@@ -188,6 +188,11 @@ pub record TookUpTo (r : Took) (ks : List ℕ) (n : ℕ) (t : Try Stop (List ℕ
   pub took : tookIs r ks ≡ t
   pub count : countOf r ≤ n
   pub size : length ks ≡ 8
+
+-- where the byte for a cell's remainder by 64 is 0, the cell is none of these
+pub record Sieve (ks seen : List ℕ) : Type 0 where
+  pub size : length seen ≡ 64
+  pub clear : (k : ℕ) → getD seen (k % 64) 0 ≡ 0 → any (eqb k) ks ≡ false
 
 -- WHAT READING NEEDS
 

@@ -13,7 +13,7 @@ ghost use Rattle.rules.specs.Base.{any, ok};
 ghost use Rattle.rules.specs.Machine.{compared};
 ghost use Rattle.tables.specs.Stores.{meaning};
 ghost use lib.Dec.{eqb};
-ghost use Rattle.stores.specs.Views.{variableAt, savedHolder, savedRow, methodOf, prepared, made, cellValue, cellHolder, classIn, firstIn, heldCell, cellOf, spotOf, spot, readIn, rightTest, testIn, PlainIs, newCells, accIn, takeIn, SmallCells, fill, marked, spotIs, readIs, truthIs, TookUpTo, ExprFits, Readable, viewOf};
+ghost use Rattle.stores.specs.Views.{variableAt, savedHolder, savedRow, methodOf, prepared, made, cellValue, cellHolder, classIn, firstIn, heldCell, cellOf, spotOf, spot, readIn, rightTest, testIn, PlainIs, newCells, accIn, takeIn, SmallCells, fill, marked, spotIs, readIs, truthIs, countOf, TookUpTo, Sieve, ExprFits, Readable, viewOf};
 
 // Whose variables are read, where the heap ends, and who holds.
 pub struct View {
@@ -259,8 +259,8 @@ fn among(cells: &[usize; 8], n: usize, k: usize) -> bool
     false
 }
 
-// Takes the cell k after n others.
-fn put_cell(cells: &mut [usize; 8], n: usize, k: usize) -> Took
+// Takes the cell k after n others, which may be among them.
+fn put_seen(cells: &mut [usize; 8], n: usize, k: usize) -> Took
     requires { ⌜ (n < 8) × (length (now cells) ≡ 8) ⌝ }
     ensures { λ r. ⌜ TookUpTo r (now (cells .exit)) (n + 1) (newCells (take n (now (cells .entry))) k) ⌝ }
 {
@@ -271,26 +271,56 @@ fn put_cell(cells: &mut [usize; 8], n: usize, k: usize) -> Took
     Took::Cells(n + 1)
 }
 
+// Takes the cell k after n others. It is looked for only where its remainder by 64 has been seen.
+fn put_cell(cells: &mut [usize; 8], seen: &mut [u8; 64], n: usize, k: usize) -> Took
+    requires { ⌜ ((n < 8) × (length (now cells) ≡ 8)) × Sieve (take n (now cells)) (now seen) ⌝ }
+    ensures { λ r. ⌜ TookUpTo r (now (cells .exit)) (n + 1) (newCells (take n (now (cells .entry))) k) × Sieve (take (countOf r) (now (cells .exit))) (now (seen .exit)) ⌝ }
+{
+    let s = k % 64;
+    let b = seen[s];
+    if b == 0 {
+        seen[s] = 1;
+        cells[n] = k;
+        return Took::Cells(n + 1);
+    }
+    put_seen(cells, n, k)
+}
+
 // `acc x f`, after n cells: "of a null is 25, of a location not in A or already taken in this formula 24".
-fn take_cell(work: &[u8], v: View, x: usize, f: usize, cells: &mut [usize; 8], n: usize) -> Took
-    requires { ⌜ (Readable (now work) v × ((x < frame-variables) × (f < most-names))) × ((n < 8) × (length (now cells) ≡ 8)) ⌝ }
-    ensures { λ r. ⌜ TookUpTo r (now (cells .exit)) (n + 1) (accIn (now (work .entry)) v x f (take n (now (cells .entry)))) ⌝ }
+fn take_cell(
+    work: &[u8],
+    v: View,
+    x: usize,
+    f: usize,
+    cells: &mut [usize; 8],
+    seen: &mut [u8; 64],
+    n: usize,
+) -> Took
+    requires { ⌜ (Readable (now work) v × ((x < frame-variables) × (f < most-names))) × (((n < 8) × (length (now cells) ≡ 8)) × Sieve (take n (now cells)) (now seen)) ⌝ }
+    ensures { λ r. ⌜ TookUpTo r (now (cells .exit)) (n + 1) (accIn (now (work .entry)) v x f (take n (now (cells .entry)))) × Sieve (take (countOf r) (now (cells .exit))) (now (seen .exit)) ⌝ }
 {
     match locate(work, v, x, f) {
-        Spot::At(k) => put_cell(cells, n, k),
+        Spot::At(k) => put_cell(cells, seen, n, k),
         Spot::Lacking(s) => Took::Lacking(s),
     }
 }
 
 // The atom a, after n cells.
-fn take_atom(work: &[u8], v: View, a: usize, cells: &mut [usize; 8], n: usize) -> Took
-    requires { ⌜ (Readable (now work) v × (a < atomCount (now work))) × ((n < 8) × (length (now cells) ≡ 8)) ⌝ }
-    ensures { λ r. ⌜ TookUpTo r (now (cells .exit)) (n + 1) (takeIn (now (work .entry)) v (atomAt (now (work .entry)) a ∷ []) (take n (now (cells .entry)))) ⌝ }
+fn take_atom(
+    work: &[u8],
+    v: View,
+    a: usize,
+    cells: &mut [usize; 8],
+    seen: &mut [u8; 64],
+    n: usize,
+) -> Took
+    requires { ⌜ (Readable (now work) v × (a < atomCount (now work))) × (((n < 8) × (length (now cells) ≡ 8)) × Sieve (take n (now cells)) (now seen)) ⌝ }
+    ensures { λ r. ⌜ TookUpTo r (now (cells .exit)) (n + 1) (takeIn (now (work .entry)) v (atomAt (now (work .entry)) a ∷ []) (take n (now (cells .entry)))) × Sieve (take (countOf r) (now (cells .exit))) (now (seen .exit)) ⌝ }
 {
     if tables::atom_kind(work, a) == 0 {
         let x = tables::atom_variable(work, a);
         let f = tables::atom_field(work, a);
-        return take_cell(work, v, x, f, cells, n);
+        return take_cell(work, v, x, f, cells, seen, n);
     }
     match test(work, v, a) {
         Truth::Holds => Took::Cells(n),
@@ -304,10 +334,11 @@ pub fn footprint(work: &[u8], v: View, first: usize, n: usize, cells: &mut [usiz
     requires { ⌜ (Readable (now work) v × (first + n ≤ atomCount (now work))) × ((n ≤ 8) × (length (now cells) ≡ 8)) ⌝ }
     ensures { λ r. ⌜ TookUpTo r (now (cells .exit)) 8 (takeIn (now (work .entry)) v (atomsFrom (now (work .entry)) first n) []) ⌝ }
 {
+    let mut seen = [0u8; 64];
     let mut count = 0;
     let mut i = 0;
     while i < n {
-        let t = take_atom(work, v, first + i, cells, count);
+        let t = take_atom(work, v, first + i, cells, &mut seen, count);
         let Took::Cells(k) = t else {
             return t;
         };

@@ -1,5 +1,5 @@
 use native.Mathlib.Omega.{arith}
-use mathlib.Core.Path.{refl, sym, ap, _∙_}
+use mathlib.Core.Path.{refl, sym, _∙_}
 use mathlib.Core.Logic.{inl, inr}
 use Rattle.calls.proofs.Calling.{requires-atoms, requires-takes}
 use Rattle.stores.proofs.Reading.{took-cells, took-lacking, count-cells}

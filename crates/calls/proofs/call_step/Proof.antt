@@ -1,7 +1,7 @@
 use mathlib.Core.Path.{subst}
 use Rattle.calls.specs.Calls.{Admits}
 use native.Mathlib.Omega.{arith}
-use mathlib.Core.Path.{refl, sym, ap, _∙_}
+use mathlib.Core.Path.{ap, _∙_}
 use Rattle.calls.proofs.Calling.{call-null-does, calling, calls}
 use Rattle.steps.proofs.Doing.{size, fits, frames-fit, row-small, base-fits}
 use Rattle.stores.specs.Views.{variableAt}

@@ -1,5 +1,5 @@
 use native.Mathlib.Omega.{arith}
-use mathlib.Core.Path.{refl, sym, ap, _∙_}
+use mathlib.Core.Path.{refl, sym, _∙_}
 use Rattle.calls.proofs.Returning.{last-saved, end-done, end-stops, end-atoms, end-takes}
 use Rattle.steps.proofs.Doing.{size, view-readable}
 use Rattle.stores.proofs.Reading.{took-cells, took-lacking, count-cells}

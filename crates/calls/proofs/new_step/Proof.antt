@@ -1,5 +1,5 @@
 use native.Mathlib.Omega.{arith}
-use mathlib.Core.Path.{refl, sym, ap, _∙_}
+use mathlib.Core.Path.{_∙_}
 use mathlib.Core.Logic.{inl, inr}
 use Rattle.calls.proofs.Growing.{new-small, new-stops, new-does}
 use Rattle.steps.proofs.Doing.{size, fits, row-small, base-fits}

@@ -1,5 +1,5 @@
-use Rattle.rules.specs.Answers.{stopNumber, endingNumber}
-use Rattle.machine.specs.Runs.{faultNumber, number, endingOf}
+use Rattle.rules.specs.Answers.{stopNumber}
+use Rattle.machine.specs.Runs.{faultNumber}
 use Rattle.stores.specs.Views.{stopOf}
 use borrow.Author.Needs.{needs}
 use Rattle.machine.proofs.fault_number.Statement.{statement}

@@ -1,5 +1,5 @@
 use native.Mathlib.Omega.{arith}
-use mathlib.Core.Path.{refl, sym, ap, _∙_}
+use mathlib.Core.Path.{sym, _∙_}
 use Rattle.machine.proofs.Stepping as Stepping
 use mathlib.Core.Logic.{inl, inr, ⊎-elim}
 use Rattle.steps.proofs.Doing.{fits}

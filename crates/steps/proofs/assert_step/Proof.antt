@@ -1,5 +1,4 @@
 use Rattle.steps.proofs.Doing.{assert-does, assert-stops}
-use mathlib.Core.Path.{refl, sym, ap, _∙_}
 use Rattle.stores.proofs.Reading.{took-cells, took-lacking}
 use borrow.Author.Needs.{needs}
 use Rattle.steps.proofs.assert_step.Statement.{statement}

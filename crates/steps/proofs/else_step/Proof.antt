@@ -1,5 +1,5 @@
 use Rattle.steps.proofs.Doing.{else-does}
-use mathlib.Core.Path.{refl, sym, ap, _∙_}
+use mathlib.Core.Path.{_∙_}
 use borrow.Author.Needs.{needs}
 use Rattle.steps.proofs.else_step.Statement.{statement}
 use Rattle.steps.proofs.else_step.Tie as tie

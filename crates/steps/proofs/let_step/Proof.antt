@@ -1,5 +1,4 @@
 use Rattle.steps.proofs.Doing.{fits, size, base-fits, view-readable, let-atom, let-does, let-stops}
-use mathlib.Core.Path.{refl, sym, ap, _∙_}
 use native.Mathlib.Omega.{arith}
 use Rattle.stores.proofs.Reading.{read-got, read-lacking}
 use borrow.Author.Needs.{needs}

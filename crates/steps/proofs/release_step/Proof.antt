@@ -1,5 +1,4 @@
 use Rattle.steps.proofs.Doing.{size, taken-small, release-does, release-stops}
-use mathlib.Core.Path.{refl, sym, ap, _∙_}
 use Rattle.stores.proofs.Reading.{took-cells, took-lacking, count-cells}
 use borrow.Author.Needs.{needs}
 use Rattle.steps.proofs.release_step.Statement.{statement}

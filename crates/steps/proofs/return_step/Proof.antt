@@ -1,5 +1,4 @@
 use Rattle.steps.proofs.Doing.{fits, size, base-fits, return-does}
-use mathlib.Core.Path.{refl, sym, ap, _∙_}
 use native.Mathlib.Omega.{arith}
 use borrow.Author.Needs.{needs}
 use Rattle.steps.proofs.return_step.Statement.{statement}

@@ -1,5 +1,5 @@
 use Rattle.steps.proofs.Doing.{row-atoms, row-takes, view-readable}
-use mathlib.Core.Path.{refl, sym, ap, _∙_}
+use mathlib.Core.Path.{_∙_}
 use borrow.Author.Needs.{needs}
 use Rattle.steps.proofs.row_footprint.Statement.{statement}
 use Rattle.steps.proofs.row_footprint.Tie as tie

@@ -1,5 +1,4 @@
 use Rattle.steps.proofs.Doing.{fits, size, row-small, base-fits, view-readable, set-operands, set-small, set-does, set-stops}
-use mathlib.Core.Path.{refl, sym, ap, _∙_}
 use native.Mathlib.Omega.{arith}
 use Rattle.stores.proofs.Reading.{spot-at, spot-lacking}
 use borrow.Author.Needs.{needs}

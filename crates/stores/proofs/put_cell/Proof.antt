@@ -1,20 +1,14 @@
 use native.Mathlib.Omega.{arith}
-use mathlib.Core.Path.{refl, sym, ap, _∙_}
-use lib.ListN.{length, take, drop, getD, set, length-set}
-use native.Mathlib.Numerals.{add-one}
-use lib.Seq.{take-suc-set}
-use Rattle.stores.specs.Views.{tookIs, stopOf, countOf}
-use Rattle.stores.proofs.Reading.{new-taken, new-free}
+use Rattle.stores.proofs.Sieves.{took-new, sieve-set, sieve-more, sieve-took}
 use borrow.Author.Needs.{needs}
 use Rattle.stores.proofs.put_cell.Statement.{statement}
 use Rattle.stores.proofs.put_cell.Tie as tie
 
-among-requires : tie.Need-among-requires
-among-requires c κs = search needs
+element-copy-out-b : tie.Need-element-copy-out-b
+element-copy-out-b c = search needs
 
-returns : tie.Need-returns
-unfolding tookIs stopOf countOf
-returns c = record { took = sym (new-taken _ _ (sym (c .before .among .ensures) ∙ c .if1 .taken)); count = omega arith; size = c .before .before .before .pre .1 }
+element-write-seen : tie.Need-element-write-seen
+element-write-seen c = search needs
 
 mul-cells : tie.Need-mul-cells
 mul-cells c = search needs
@@ -22,13 +16,27 @@ mul-cells c = search needs
 element-write-cells : tie.Need-element-write-cells
 element-write-cells c = search needs
 
-add-t7 : tie.Need-add-t7
-add-t7 c = search needs
+add-t13 : tie.Need-add-t13
+add-t13 c = search needs
+
+returns : tie.Need-returns
+returns c = let a = took-new (c .before .before .args .cells .now) (c .before .before .args .n) (c .before .before .args .k) (c .before .before .pre .0 .0) (c .before .before .pre .0 .1) (c .before .before .pre .1 .clear _ (c .if1 .taken)) in (a, sieve-took _ _ _ _ _ (a .took) (sieve-set _ _ _ (c .before .before .pre .1) (omega arith)))
+
+put-seen-requires : tie.Need-put-seen-requires
+put-seen-requires c κs = search needs
 
 returns-2 : tie.Need-returns-2
-unfolding tookIs countOf
-returns-2 c = record { took = rw (add-one, take-suc-set (c .before .before .before .args .cells .now) (c .before .before .before .args .n) (c .before .before .before .args .k) (omega arith)) (sym (new-free _ _ (sym (c .before .among .ensures) ∙ c .if1 .left))); count = omega arith; size = simp length-set (c .before .before .before .pre .1) }
+returns-2 c = (c .put-seen .ensures, sieve-took _ _ _ _ _ (c .put-seen .ensures .took) (sieve-more _ _ _ _ (c .before .before .before .before .pre .1) (c .before .before .before .before .pre .1 .size) (c .before .before .if1 .left) (λ i e. e)))
 
 pub put-cell-spec : {M : Type 1} → statement M
 put-cell-spec =
-    tie.close (tie.spec among-requires returns mul-cells element-write-cells add-t7 returns-2)
+    tie.close
+    (tie.spec
+    element-copy-out-b
+    element-write-seen
+    mul-cells
+    element-write-cells
+    add-t13
+    returns
+    put-seen-requires
+    returns-2)
