@@ -1,43 +1,38 @@
 -- A run: the first state, each step, and the end.
 use mathlib.Core.Path.{_≡_, refl, sym, ap, _∙_, subst}
-use mathlib.Core.Bool.{Bool, true, false}
 use mathlib.Core.List.{List, [], _∷_}
-use mathlib.Core.Logic.{_⊎_, inl, inr}
+use mathlib.Core.Logic.{inl}
 use mathlib.Core.Option.{some}
 use Prim.Native.Nat.{ℕ, zero, suc, _+_, _*_, _-_, _≤_, _<_}
-use native.Mathlib.Nat.{add-zero}
 use native.Mathlib.Numerals.{add-one}
 use native.Mathlib.Omega.{arith}
-use lib.Dec.{T, eqb}
-use lib.ListN.{length, take, drop, getD, replicate, getD-replicate}
+use lib.Dec.{eqb}
+use lib.ListN.{length, take, drop, getD, getD-replicate}
 use lib.Seq.{drop-cons}
-use borrow.Author.Tests.{ne-eqb}
-use Rattle.rules.specs.Limits.{work-bytes, most-frames, most-statements, heap-objects, heap-fields, values-shown}
+use Rattle.rules.specs.Limits.{most-statements, values-shown}
 use Rattle.rules.specs.Base.{any}
 use Rattle.rules.specs.Answers as Answers
-use Rattle.rules.specs.Answers.{finished, stepsTaken, stopped}
 use Rattle.rules.specs.Syntax.{Row, Program}
-use Rattle.rules.specs.Machine.{Heap, Frame, Location, Config, Step, Outcome, on, stop, done, holds, among, fieldsOf, object, valueAt, valueOf, entryValues, rowOf, mainFrame, ends, goOn, step, run, start, runProgram}
+use Rattle.rules.specs.Machine.{Frame, Location, Config, Step, on, holds, among, fieldsOf, object, valueOf, entryValues, mainFrame, ends, goOn, step, run, start, runProgram}
 use Rattle.rules.specs.Calls.{wholeHeap}
 use Rattle.rules.specs.Counters.{freshMachine}
 use Rattle.rules.specs.declared.Machine.{Machine}
-use Rattle.rules.proofs.Lists.{none-some}
 use Rattle.tables.specs.Layout.{frame-variables, frames-at}
-use Rattle.tables.specs.Decode.{wordAt, allRows, rowAt, rowCount, lineAt, mainFirst, programIn}
+use Rattle.tables.specs.Decode.{wordAt, rowAt, lineAt, mainFirst, programIn}
 use Rattle.tables.specs.Tables.{Tables}
 use Rattle.tables.specs.Stores.{SameTables}
 use Rattle.tables.proofs.Bytes.{same-trans, same-refl}
 use Rattle.tables.proofs.Decoding.{tables-same, all-same, rows-count-same, program-same}
-use Rattle.machine.specs.declared.Fault.{Fault}
-use Rattle.machine.specs.declared.Turn.{Turn}
+use Rattle.stores.specs.declared.Fault.{Fault}
+use Rattle.steps.specs.declared.Turn.{Turn}
 use Rattle.machine.specs.declared.Ending.{Ending}
 use Rattle.machine.specs.declared.Ran.{Ran}
-use Rattle.machine.specs.Views.{frameAt, variableAt, cellOf, holderIn, holderOf, fill, stopOf}
-use Rattle.machine.specs.States.{HeapIs, FrameIs, CallersAre, Represents, Goes, Follows, Does, Ready}
-use Rattle.machine.specs.Runs.{endingOf, words, mainValues, outcomeIn, RanAs}
-use Rattle.machine.proofs.Reading.{cell-null, cell-beyond, cell-placed}
-use Rattle.machine.proofs.Regions.{Only, only-fill, only-tables, fill-word}
-use Rattle.machine.proofs.Returning.{row-of}
+use Rattle.stores.specs.Views.{frameAt, variableAt, cellOf, holderIn, holderOf, fill}
+use Rattle.steps.specs.States.{FrameIs, CallersAre, Represents, Goes, Does, Ready}
+use Rattle.machine.specs.Runs.{endingOf, words, mainValues, RanAs}
+use Rattle.stores.proofs.Reading.{cell-null, cell-beyond, cell-placed}
+use Rattle.stores.proofs.Regions.{only-fill, only-tables, fill-word}
+use Rattle.calls.proofs.Returning.{row-of}
 
 -- THE FIRST STATE
 no-cells : (w : List ℕ) (o f k : ℕ) → cellOf w 0 o f ≡ some k → ⊥

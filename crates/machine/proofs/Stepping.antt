@@ -1,20 +1,19 @@
 -- A step by the kind of its row is the definition's step.
-use mathlib.Core.Path.{_≡_, refl, sym, ap, _∙_, subst}
-use mathlib.Core.List.{List, []}
-use mathlib.Core.Logic.{_⊎_, inl, inr, ⊎-elim}
-use Prim.Native.Nat.{ℕ, _+_, _≤_, _<_}
+use mathlib.Core.Path.{_≡_, sym, ap, _∙_, subst}
+use mathlib.Core.List.{List}
+use mathlib.Core.Logic.{_⊎_, inl, inr}
+use Prim.Native.Nat.{ℕ, _+_, _≤_}
 use native.Mathlib.Omega.{arith}
-use lib.ListN.{getD}
-use Rattle.rules.specs.Syntax.{Row, Stmt, Program, noMethod, result-variable, var}
+use Rattle.rules.specs.Syntax.{Row, Stmt, result-variable, var}
 use Rattle.rules.specs.Machine.{Config, Step, Room, took, on, rowOf, step, stepAt, simpleStep, withFrame, jump, toJoin, setStep, assignStep, newStep, callStep, ifStep, assertStep, releaseStep, endStep}
 use Rattle.rules.specs.declared.Machine.{Machine}
 use Rattle.tables.specs.Decode.{byteAt, atomPlace, relOf, rowAt, stmtAt, ifAt, kindAt, xAt, yAt, zAt, memberAt, firstAtomAt, formulaAt, leftAt, rightAt, methodAt, classAt, programIn}
 use Rattle.tables.proofs.Rows.{method-get, class-get}
-use Rattle.machine.specs.declared.Turn.{Turn}
-use Rattle.machine.specs.States.{Represents, Follows, Does, Ready, AtKind}
-use Rattle.machine.proofs.Returning.{row-of}
-use Rattle.machine.proofs.Doing.{fits}
-use Rattle.machine.proofs.Statements.{at-set, at-let, at-new, at-call, at-return, at-assert, at-release, at-if, at-else, at-join, at-end}
+use Rattle.steps.specs.declared.Turn.{Turn}
+use Rattle.steps.specs.States.{Represents, Follows, Does, Ready, AtKind}
+use Rattle.calls.proofs.Returning.{row-of}
+use Rattle.steps.proofs.Doing.{fits}
+use Rattle.steps.proofs.Statements.{at-set, at-let, at-new, at-call, at-return, at-assert, at-release, at-if, at-else, at-join, at-end}
 
 -- the statement that is done
 statement : {w : List ℕ} {c : Machine} (m : Config) → Represents w c m → rowOf (m .frame) .stmt ≡ stmtAt w (c .row)

@@ -10,10 +10,10 @@ use Rattle.rules.specs.Calls.{wholeHeap}
 use Rattle.tables.specs.Layout.{frames-at}
 use Rattle.tables.specs.Decode.{wordAt, programIn}
 use Rattle.tables.specs.Stores.{SameTables}
-use Rattle.machine.specs.declared.Fault.{Fault}
+use Rattle.stores.specs.declared.Fault.{Fault}
 use Rattle.machine.specs.declared.Ending.{Ending}
 use Rattle.machine.specs.declared.Ran.{Ran}
-use Rattle.machine.specs.Views.{stopOf}
+use Rattle.stores.specs.Views.{stopOf}
 
 -- how a run ends
 unfoldable pub endingOf : Ending → Answers.Ending

@@ -1,6 +1,6 @@
-use Rattle.rules.specs.Answers.{stopNumber, endingNumber}
+use Rattle.rules.specs.Answers.{endingNumber}
 use Rattle.machine.specs.Runs.{faultNumber, number, endingOf}
-use mathlib.Core.Path.{refl, sym, ap, _∙_}
+use mathlib.Core.Path.{_∙_}
 use borrow.Author.Needs.{needs}
 use Rattle.machine.proofs.number_of.Statement.{statement}
 use Rattle.machine.proofs.number_of.Tie as tie

@@ -1,6 +1,6 @@
 use borrow.Author.Needs.{needs}
 use native.Mathlib.Omega.{arith}
-use mathlib.Core.Path.{refl, sym, ap, _∙_}
+use mathlib.Core.Path.{_∙_}
 use Prim.Native.Nat.{_-_}
 use Rattle.machine.proofs.Running.{Going, going, ready, at-row, goes-on, goes-less, does-answer, ends-stopped, ends-finished, ends-taken, from-tables}
 use Rattle.machine.proofs.run.Statement.{statement}

@@ -1,8 +1,8 @@
 use native.Mathlib.Omega.{arith}
-use mathlib.Core.Path.{refl, sym, ap, _∙_}
+use mathlib.Core.Path.{sym, _∙_}
 use Rattle.machine.proofs.Stepping as Stepping
 use mathlib.Core.Logic.{inl, inr, ⊎-elim}
-use Rattle.machine.proofs.Doing.{fits}
+use Rattle.steps.proofs.Doing.{fits}
 use borrow.Author.Needs.{needs}
 use Rattle.machine.proofs.step.Statement.{statement}
 use Rattle.machine.proofs.step.Tie as tie

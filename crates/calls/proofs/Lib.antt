@@ -1,0 +1,5 @@
+pub mod Returning
+pub mod Framing
+pub mod Calling
+pub mod Making
+pub mod Growing

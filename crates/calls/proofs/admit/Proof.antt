@@ -1,0 +1,70 @@
+use native.Mathlib.Omega.{arith}
+use mathlib.Core.Path.{refl, sym, _∙_}
+use mathlib.Core.Logic.{inl, inr}
+use Rattle.calls.proofs.Calling.{requires-atoms, requires-takes}
+use Rattle.stores.proofs.Reading.{took-cells, took-lacking, count-cells}
+use borrow.Author.Needs.{needs}
+use Rattle.calls.proofs.admit.Statement.{statement}
+use Rattle.calls.proofs.admit.Tie as tie
+
+cast-j : tie.Need-cast-j
+cast-j c = search needs
+
+mul-t11 : tie.Need-mul-t11
+mul-t11 c = search needs
+
+add-t12 : tie.Need-add-t12
+add-t12 c = search needs
+
+cast-t13 : tie.Need-cast-t13
+cast-t13 c = search needs
+
+requires-first-requires : tie.Need-requires-first-requires
+requires-first-requires c κs = search needs
+
+requires-count-requires : tie.Need-requires-count-requires
+requires-count-requires c κs = search needs
+
+footprint-requires : tie.Need-footprint-requires
+footprint-requires c κs = let r = requires-atoms _ _ _ (c .before .before .before .before .before .before .before .before .before .pre) (c .before .before .before .before .requires-first .ensures .0) (c .before .before .requires-count .ensures .0) in ((c .before .before .before .before .before .before .before .before .before .pre .readable, r .0), (r .1, refl))
+
+enum-known-k : tie.Need-enum-known-k
+enum-known-k c = search needs
+
+enter-requires : tie.Need-enter-requires
+enter-requires c κs = let e = sym (requires-takes _ _ _ (c .before .before .before .before .before .before .before .before .before .before .before .before .before .before .before .pre) (c .before .before .before .before .before .before .before .before .before .before .requires-first .ensures .0) (c .before .before .before .before .before .before .before .before .requires-count .ensures .0)) ∙ took-cells _ _ _ (c .before .before .before .k .given .1) (c .before .before .before .before .before .footprint .ensures .took) in
+    record { area = c .before .before .before .before .before .before .before .before .before .before .before .before .before .before .before .pre .readable .tables .size; method-fits = omega (arith, c .before .before .before .before .before .before .before .before .before .before .before .before .before .before .before .pre .exists, c .before .before .before .before .before .before .before .before .before .before .before .before .before .before .before .pre .readable .tables .methods); more = c .before .before .before .before .before .before .before .before .before .before .before .before .before .before .before .pre .more; numbers = c .before .before .before .before .before .before .before .before .before .before .before .before .before .before .before .pre .numbers; size = c .before .before .before .before .before .footprint .ensures .size; count = count-cells _ _ _ (c .before .before .before .k .given .1) (c .before .before .before .before .before .footprint .ensures .count); small = c .before .before .before .before .before .before .before .before .before .before .before .before .before .before .before .pre .small _ e }
+
+enum-known-s : tie.Need-enum-known-s
+enum-known-s c = search needs
+
+same-length : tie.Need-same-length
+same-length c = search needs
+
+returns : tie.Need-returns
+returns c = inl (_, sym (requires-takes _ _ _ (c .before .before .before .before .before .before .before .before .before .before .before .before .before .before .before .before .before .before .pre) (c .before .before .before .before .before .before .before .before .before .before .before .before .before .requires-first .ensures .0) (c .before .before .before .before .before .before .before .before .before .before .before .requires-count .ensures .0)) ∙ took-cells _ _ _ (c .before .before .before .before .before .before .k .given .1) (c .before .before .before .before .before .before .before .before .footprint .ensures .took), c .before .before .enter .ensures)
+
+same-length-2 : tie.Need-same-length-2
+same-length-2 c = search needs
+
+returns-2 : tie.Need-returns-2
+returns-2 c = inr (_, sym (requires-takes _ _ _ (c .before .before .before .before .before .before .before .before .before .before .before .before .before .pre) (c .before .before .before .before .before .before .before .before .requires-first .ensures .0) (c .before .before .before .before .before .before .requires-count .ensures .0)) ∙ took-lacking _ _ _ (c .before .s .given .1) (c .before .before .before .footprint .ensures .took), refl, refl)
+
+pub admit-spec : {M : Type 1} → statement M
+admit-spec =
+    tie.close
+    (tie.spec
+    cast-j
+    mul-t11
+    add-t12
+    cast-t13
+    requires-first-requires
+    requires-count-requires
+    footprint-requires
+    enum-known-k
+    enter-requires
+    enum-known-s
+    same-length
+    returns
+    same-length-2
+    returns-2)

@@ -1,0 +1,73 @@
+use native.Mathlib.Omega.{arith}
+use mathlib.Core.Path.{refl, sym, _∙_}
+use Rattle.calls.proofs.Returning.{last-saved, end-done, end-stops, end-atoms, end-takes}
+use Rattle.steps.proofs.Doing.{size, view-readable}
+use Rattle.stores.proofs.Reading.{took-cells, took-lacking, count-cells}
+use borrow.Author.Needs.{needs}
+use Rattle.calls.proofs.end_step.Statement.{statement}
+use Rattle.calls.proofs.end_step.Tie as tie
+
+returns : tie.Need-returns
+returns c = end-done (c .before .before .before .pre) (c .if1 .taken)
+
+sub-i : tie.Need-sub-i
+sub-i c = search needs
+
+cast-i : tie.Need-cast-i
+cast-i c = search needs
+
+view-of-requires : tie.Need-view-of-requires
+view-of-requires c κs = search needs
+
+method-of-requires : tie.Need-method-of-requires
+method-of-requires c κs = search needs
+
+ensures-first-requires : tie.Need-ensures-first-requires
+ensures-first-requires c κs = (size (c .before .before .before .before .before .before .before .before .pre), omega (arith, c .before .method-of .ensures, last-saved (c .before .before .before .before .before .before .before .before .pre) (c .before .before .before .before .before .if1 .left) .1, c .before .before .before .before .before .before .before .before .pre .represents .tables .methods))
+
+ensures-count-requires : tie.Need-ensures-count-requires
+ensures-count-requires c κs = (size (c .before .before .before .before .before .before .before .before .before .before .pre), omega (arith, c .before .before .before .method-of .ensures, last-saved (c .before .before .before .before .before .before .before .before .before .before .pre) (c .before .before .before .before .before .before .before .if1 .left) .1, c .before .before .before .before .before .before .before .before .before .before .pre .represents .tables .methods))
+
+footprint-requires : tie.Need-footprint-requires
+footprint-requires c κs = let r = end-atoms (c .before .before .before .before .before .before .before .before .before .before .before .before .before .pre) (c .before .before .before .before .before .before .before .before .before .before .if1 .left) _ _ _ (c .before .before .before .before .before .before .method-of .ensures) (c .before .before .before .before .ensures-first .ensures .0) (c .before .before .ensures-count .ensures .0) in ((view-readable (c .before .before .before .before .before .before .before .before .before .before .before .before .before .pre) (c .before .before .before .before .before .before .before .before .view-of .ensures), r .0), (r .1, refl))
+
+enum-known-k : tie.Need-enum-known-k
+enum-known-k c = search needs
+
+leave-requires : tie.Need-leave-requires
+leave-requires c κs = record { ready = c .before .before .before .before .before .before .before .before .before .before .before .before .before .before .before .before .before .before .before .pre; inner = c .before .before .before .before .before .before .before .before .before .before .before .before .before .before .before .before .if1 .left; size = c .before .before .before .before .before .footprint .ensures .size; count = count-cells _ _ _ (c .before .before .before .k .given .1) (c .before .before .before .before .before .footprint .ensures .count); took = sym (end-takes (c .before .before .before .before .before .before .before .before .before .before .before .before .before .before .before .before .before .before .before .pre) (c .before .before .before .before .before .before .before .before .before .before .before .before .before .before .before .before .if1 .left) _ _ _ (c .before .before .before .before .before .before .before .before .before .before .before .before .method-of .ensures) (c .before .before .before .before .before .before .before .before .before .before .ensures-first .ensures .0) (c .before .before .before .before .before .before .before .before .ensures-count .ensures .0) _ (c .before .before .before .before .before .before .before .before .before .before .before .before .before .before .view-of .ensures)) ∙ took-cells _ _ _ (c .before .before .before .k .given .1) (c .before .before .before .before .before .footprint .ensures .took) }
+
+enum-known-s : tie.Need-enum-known-s
+enum-known-s c = search needs
+
+same-length : tie.Need-same-length
+same-length c = search needs
+
+returns-2 : tie.Need-returns-2
+returns-2 c = search needs
+
+same-length-2 : tie.Need-same-length-2
+same-length-2 c = search needs
+
+returns-3 : tie.Need-returns-3
+returns-3 c = end-stops (c .before .before .before .before .before .before .before .before .before .before .before .before .before .before .before .before .before .pre) (c .before .before .before .before .before .before .before .before .before .before .before .before .before .before .if1 .left) _ (sym (end-takes (c .before .before .before .before .before .before .before .before .before .before .before .before .before .before .before .before .before .pre) (c .before .before .before .before .before .before .before .before .before .before .before .before .before .before .if1 .left) _ _ _ (c .before .before .before .before .before .before .before .before .before .before .method-of .ensures) (c .before .before .before .before .before .before .before .before .ensures-first .ensures .0) (c .before .before .before .before .before .before .ensures-count .ensures .0) _ (c .before .before .before .before .before .before .before .before .before .before .before .before .view-of .ensures)) ∙ took-lacking _ _ _ (c .before .s .given .1) (c .before .before .before .footprint .ensures .took))
+
+pub end-step-spec : {M : Type 1} → statement M
+end-step-spec =
+    tie.close
+    (tie.spec
+    returns
+    sub-i
+    cast-i
+    view-of-requires
+    method-of-requires
+    ensures-first-requires
+    ensures-count-requires
+    footprint-requires
+    enum-known-k
+    leave-requires
+    enum-known-s
+    same-length
+    returns-2
+    same-length-2
+    returns-3)

@@ -1,0 +1,93 @@
+use native.Mathlib.Omega.{arith}
+use mathlib.Core.Path.{_∙_}
+use mathlib.Core.Logic.{inl, inr}
+use Rattle.calls.proofs.Growing.{new-small, new-stops, new-does}
+use Rattle.steps.proofs.Doing.{size, fits, row-small, base-fits}
+use borrow.Author.Needs.{needs}
+use Rattle.calls.proofs.new_step.Statement.{statement}
+use Rattle.calls.proofs.new_step.Tie as tie
+
+cast-row : tie.Need-cast-row
+cast-row c = search needs
+
+member-at-requires : tie.Need-member-at-requires
+member-at-requires c κs = search needs
+
+field-count-at-requires : tie.Need-field-count-at-requires
+field-count-at-requires c κs = (size (c .before .before .before .before .before .pre .0 .0), omega (arith, c .before .member-at .ensures .0, fits (c .before .before .before .before .before .pre .0 .0) .class (c .before .before .before .before .before .pre .0 .1), c .before .before .before .before .before .pre .0 .0 .represents .tables .classes))
+
+same-length : tie.Need-same-length
+same-length c = search needs
+
+returns : tie.Need-returns
+returns c = new-stops (c .before .before .before .before .before .before .before .before .pre .0 .0) (c .before .before .before .before .before .before .before .before .pre .0 .1) _ _ (c .before .before .before .before .before .before .before .before .pre .1 .0) (c .before .before .before .before .before .before .before .before .pre .1 .1) _ _ (c .before .before .before .before .member-at .ensures .0) (c .before .before .field-count-at .ensures .0) (inl (c .if1 .taken))
+
+cast-fields : tie.Need-cast-fields
+cast-fields c = search needs
+
+add-fields : tie.Need-add-fields
+add-fields c = search needs
+
+same-length-2 : tie.Need-same-length-2
+same-length-2 c = search needs
+
+returns-2 : tie.Need-returns-2
+returns-2 c = new-stops (c .before .before .before .before .before .before .before .before .before .before .pre .0 .0) (c .before .before .before .before .before .before .before .before .before .before .pre .0 .1) _ _ (c .before .before .before .before .before .before .before .before .before .before .pre .1 .0) (c .before .before .before .before .before .before .before .before .before .before .pre .1 .1) _ _ (c .before .before .before .before .before .before .member-at .ensures .0) (c .before .before .before .before .field-count-at .ensures .0) (inr (c .if2 .taken))
+
+view-of-requires : tie.Need-view-of-requires
+view-of-requires c κs = search needs
+
+x-at-requires : tie.Need-x-at-requires
+x-at-requires c κs = search needs
+
+make-object-requires : tie.Need-make-object-requires
+make-object-requires c κs = (size (c .before .before .before .before .before .before .before .before .before .before .before .before .before .before .pre .0 .0), ((omega (arith, c .before .before .before .before .before .before .if1 .left, c .before .before .before .before .before .before .before .before .before .before .before .before .before .before .pre .1), omega (arith, c .before .before .before .before .if2 .left, c .before .before .before .before .before .before .before .before .before .before .before .before .before .before .pre .1)), new-small (c .before .before .before .before .before .before .before .before .before .before .before .before .before .before .pre .0 .0) (c .before .before .before .before .before .before .before .before .before .before .before .before .before .before .pre .0 .1) _ _ (c .before .before .before .before .before .before .before .before .before .before .before .before .before .before .pre .1 .0) (c .before .before .before .before .before .before .before .before .before .before .before .before .before .before .pre .1 .1) _ _ (c .before .before .before .before .before .before .before .before .before .before .member-at .ensures .0) (c .before .before .before .before .before .before .before .before .field-count-at .ensures .0) .0))
+
+mul-put-word : tie.Need-mul-put-word
+mul-put-word c = search needs
+
+add-put-word : tie.Need-add-put-word
+add-put-word c = omega (arith, base-fits (c .before .before .before .before .before .before .before .before .before .before .before .before .before .before .before .before .before .before .pre .0 .0) (c .before .before .before .before .before .before .before .view-of .ensures), c .before .before .before .before .before .x-at .ensures .0, fits (c .before .before .before .before .before .before .before .before .before .before .before .before .before .before .before .before .before .before .pre .0 .0) .x, size (c .before .before .before .before .before .before .before .before .before .before .before .before .before .before .before .before .before .before .pre .0 .0), c .before .before .before .make-object .kept .0)
+
+add-put-word-2 : tie.Need-add-put-word-2
+add-put-word-2 c = omega (arith, c .before .before .before .before .before .before .before .before .before .before .before .if1 .left, c .before .before .before .before .before .before .before .before .before .before .before .before .before .before .before .before .before .before .before .pre .1)
+
+put-word-requires : tie.Need-put-word-requires
+put-word-requires c κs = omega (arith, base-fits (c .before .before .before .before .before .before .before .before .before .before .before .before .before .before .before .before .before .before .before .pre .0 .0) (c .before .before .before .before .before .before .before .before .view-of .ensures), c .before .before .before .before .before .before .x-at .ensures .0, fits (c .before .before .before .before .before .before .before .before .before .before .before .before .before .before .before .before .before .before .before .pre .0 .0) .x, size (c .before .before .before .before .before .before .before .before .before .before .before .before .before .before .before .before .before .before .before .pre .0 .0), c .before .before .before .before .make-object .kept .0)
+
+cast-grow : tie.Need-cast-grow
+cast-grow c = search needs
+
+grow-requires : tie.Need-grow-requires
+grow-requires c κs = (c .before .before .before .before .before .before .before .before .before .before .before .before .before .before .before .before .before .before .before .before .before .before .pre .0 .0 .more, (omega (arith, c .before .before .before .before .before .before .before .before .before .before .before .before .before .before .if1 .left, c .before .before .before .before .before .before .before .before .before .before .before .before .before .before .before .before .before .before .before .before .before .before .pre .1), (omega (arith, c .before .before .before .before .before .before .before .before .before .before .before .before .if2 .left, c .before .before .before .before .before .before .before .before .before .before .before .before .before .before .before .before .before .before .before .before .before .before .pre .1), row-small (c .before .before .before .before .before .before .before .before .before .before .before .before .before .before .before .before .before .before .before .before .before .before .pre .0 .0))))
+
+same-length-3 : tie.Need-same-length-3
+same-length-3 c = search needs
+
+returns-3 : tie.Need-returns-3
+returns-3 c = new-does (c .before .before .before .before .before .before .before .before .before .before .before .before .before .before .before .before .before .before .before .before .before .before .before .pre .0 .0) (c .before .before .before .before .before .before .before .before .before .before .before .before .before .before .before .before .before .before .before .before .before .before .before .pre .0 .1) _ _ (c .before .before .before .before .before .before .before .before .before .before .before .before .before .before .before .before .before .before .before .before .before .before .before .pre .1 .0) (c .before .before .before .before .before .before .before .before .before .before .before .before .before .before .before .before .before .before .before .before .before .before .before .pre .1 .1) _ _ (c .before .before .before .before .before .before .before .before .before .before .before .before .before .before .before .before .before .before .before .member-at .ensures .0) (c .before .before .before .before .before .before .before .before .before .before .before .before .before .before .before .before .before .field-count-at .ensures .0) _ _ (c .before .before .before .before .before .before .before .before .before .before .before .before .before .before .before .if1 .left) (c .before .before .before .before .before .before .before .before .before .before .before .before .before .if2 .left) (c .before .before .before .before .before .before .before .before .before .before .before .before .view-of .ensures) (c .before .before .before .before .before .before .before .before .before .before .x-at .ensures .0) (c .before .before .before .put-word .ensures ∙ rw (c .before .before .before .before .before .before .before .before .make-object .ensures)) (c .grow .ensures)
+
+pub new-step-spec : {M : Type 1} → statement M
+new-step-spec =
+    tie.close
+    (tie.spec
+    cast-row
+    member-at-requires
+    field-count-at-requires
+    same-length
+    returns
+    cast-fields
+    add-fields
+    same-length-2
+    returns-2
+    view-of-requires
+    x-at-requires
+    make-object-requires
+    mul-put-word
+    add-put-word
+    add-put-word-2
+    put-word-requires
+    cast-grow
+    grow-requires
+    same-length-3
+    returns-3)

@@ -1,0 +1,363 @@
+-- Laws of what the code reads: cells of locations, expressions and formulas, as the bytes have them.
+use mathlib.Core.Path.{_≡_, refl, sym, ap, _∙_, subst}
+use mathlib.Core.Bool.{Bool, true, false, cond, not, _&&_}
+use mathlib.Core.List.{List, [], _∷_, _++_}
+use mathlib.Core.Logic.{⊎-elim}
+use mathlib.Core.Option.{Option, none, some}
+use Prim.Native.Nat.{ℕ, zero, suc, _+_, _-_, _≤_, _<_}
+use native.Mathlib.Omega.{arith}
+use lib.Dec.{T, eqb, ltb}
+use lib.ListN.{take}
+use borrow.Author.Tests.{ltb-true, ne-eqb, eqb-true, eqb-false, lt-ltb, le-ltb}
+use Rattle.rules.specs.Limits.{heap-fields}
+use Rattle.rules.specs.Base.{Try, ok, no, _>>=_, _>>_, check, any}
+use Rattle.rules.specs.Answers.{Stop, permissionMissing, nullFollowed, formulaFalse}
+use Rattle.rules.specs.Syntax.{Expr, Atom, Formula, num, null, var, path, acc, cmp}
+use Rattle.rules.specs.Machine.{compared}
+use Rattle.rules.proofs.Lists.{some-inj, none-some, T-true, and-both}
+use Rattle.rules.proofs.Tries.{check-ok, ok-inj}
+use Rattle.tables.specs.declared.Expr as Tables
+use Rattle.tables.specs.Layout.{most-names, frame-variables}
+use Rattle.tables.specs.Decode.{byteAt, wordAt, exprAt, leftAt, rightAt, atomAt, atomsFrom, atomPlace, relOf, fieldCountAt, fieldNameAt}
+use Rattle.tables.specs.Tables.{Tables, SideFits, AtomFits, ClassFits, placeAt}
+use Rattle.tables.specs.Stores.{meaning}
+use Rattle.stores.specs.declared.View.{View}
+use Rattle.stores.specs.declared.Fault.{Fault}
+use Rattle.stores.specs.declared.Spot.{Spot}
+use Rattle.stores.specs.declared.Read.{Read}
+use Rattle.stores.specs.declared.Truth.{Truth}
+use Rattle.stores.specs.declared.Took.{Took}
+use Rattle.stores.specs.Views.{variableAt, cellHolder, classIn, firstIn, placed, cellOf, heldCell, spotOf, spot, readIn, rightTest, testIn, newCells, accIn, takeIn, stopOf, spotIs, readIs, truthIs, tookIs, countOf, ObjectFits, ExprFits, PlainIs, Readable}
+
+-- ANSWERS BY CASES
+pub spot-at : (r : Spot) (k : ℕ) {t : Try Stop ℕ} → r ≡ Spot.At k → spotIs r ≡ t → t ≡ ok k
+unfolding spotIs
+spot-at r k e s = sym s ∙ rw e
+
+pub spot-lacking : (r : Spot) (s : Fault) {t : Try Stop ℕ} → r ≡ Spot.Lacking s → spotIs r ≡ t → t ≡ no (stopOf s)
+unfolding spotIs
+spot-lacking r k e s = sym s ∙ rw e
+
+pub read-got : (r : Read) (k : ℕ) {t : Try Stop ℕ} → r ≡ Read.Got k → readIs r ≡ t → t ≡ ok k
+unfolding readIs
+read-got r k e s = sym s ∙ rw e
+
+pub read-lacking : (r : Read) (s : Fault) {t : Try Stop ℕ} → r ≡ Read.Lacking s → readIs r ≡ t → t ≡ no (stopOf s)
+unfolding readIs
+read-lacking r k e s = sym s ∙ rw e
+
+pub truth-holds : (r : Truth) {t : Try Stop Bool} → r ≡ Truth.Holds → truthIs r ≡ t → t ≡ ok true
+unfolding truthIs
+truth-holds r e s = sym s ∙ rw e
+
+pub truth-fails : (r : Truth) {t : Try Stop Bool} → r ≡ Truth.Fails → truthIs r ≡ t → t ≡ ok false
+unfolding truthIs
+truth-fails r e s = sym s ∙ rw e
+
+pub truth-lacking : (r : Truth) (s : Fault) {t : Try Stop Bool} → r ≡ Truth.Lacking s → truthIs r ≡ t → t ≡ no (stopOf s)
+unfolding truthIs
+truth-lacking r k e s = sym s ∙ rw e
+
+-- CELLS
+
+-- where the cell of a field stands
+pub record Placed (w : List ℕ) (n o f k : ℕ) : Type 0 where
+  pub index : ℕ
+  pub is-object : o ≡ suc index
+  pub exists : index < n
+  pub named : f < most-names
+  pub present : placeAt w (classIn w index) f ≡ 255 → ⊥
+  pub is-cell : k ≡ firstIn w index + placeAt w (classIn w index) f
+
+placed-some : (a p k : ℕ) → placed a p ≡ some k → (p ≡ 255 → ⊥) × (k ≡ a + p)
+unfolding placed
+placed-some a p k e = go (eqb p 255) refl e
+  where
+    go : (b : Bool) → eqb p 255 ≡ b → cond b none (some (a + p)) ≡ some k → (p ≡ 255 → ⊥) × (k ≡ a + p)
+    go true t e = none-some e
+    go false t e = (eqb-false p 255 t, sym (some-inj e))
+
+pub cell-placed : (w : List ℕ) (n o f k : ℕ) → cellOf w n o f ≡ some k → Placed w n o f k
+unfolding cellOf
+cell-placed w n zero f k e = none-some e
+cell-placed w n (suc i) f k e = go (ltb i n && ltb f most-names) refl e
+  where
+    go :
+        (b : Bool) → (ltb i n && ltb f most-names) ≡ b → cond b (placed (firstIn w i) (placeAt w (classIn w i) f)) none ≡ some k →
+        Placed w n (suc i) f k
+    go true t e =
+        let (x, y) = and-both (ltb i n) (ltb f most-names) (subst T (sym t) tt) in
+        let (p, q) = placed-some (firstIn w i) (placeAt w (classIn w i) f) k e in
+        record {
+          index = i;
+          is-object = refl;
+          exists = ltb-true i n (T-true _ x);
+          named = ltb-true f most-names (T-true _ y);
+          present = p;
+          is-cell = q;
+        }
+    go false t e = none-some e
+
+-- the cell of a field that is there
+pub cell-some :
+    (w : List ℕ) (n i f : ℕ) → i < n → f < most-names → (placeAt w (classIn w i) f ≡ 255 → ⊥) →
+    cellOf w n (suc i) f ≡ some (firstIn w i + placeAt w (classIn w i) f)
+unfolding cellOf placed
+cell-some w n i f l h p = rw (lt-ltb i n l, lt-ltb f most-names h, ne-eqb _ _ p)
+
+pub cell-is :
+    (w : List ℕ) (n i f c p a : ℕ) → c ≡ classIn w i → p ≡ placeAt w c f → (p ≡ 255 → ⊥) → a ≡ firstIn w i → i < n → f < most-names →
+    cellOf w n (suc i) f ≡ some (a + p)
+cell-is w n i f c p a ec ep np ea l h =
+    let q : p ≡ placeAt w (classIn w i) f = rw (← ec) ep in
+    cell-some w n i f l h (λ z. np (q ∙ z)) ∙ rw (ea, q)
+
+pub cell-absent :
+    (w : List ℕ) (n i f : ℕ) → placeAt w (classIn w i) f ≡ 255 → cellOf w n (suc i) f ≡ none
+unfolding cellOf placed
+cell-absent w n i f p = rw p (go (ltb i n && ltb f most-names))
+  where
+    go : (b : Bool) → _≡_ {A = Option ℕ} (cond b none none) none
+    go true = refl
+    go false = refl
+
+pub cell-beyond : (w : List ℕ) (n i f : ℕ) → n ≤ i → cellOf w n (suc i) f ≡ none
+unfolding cellOf
+cell-beyond w n i f l = rw (le-ltb i n l)
+
+pub cell-null : (w : List ℕ) (n f : ℕ) → cellOf w n 0 f ≡ none
+unfolding cellOf
+cell-null w n f = refl
+
+-- how many objects there are does not matter for one of them
+pub bound-free : (w : List ℕ) (n m i f : ℕ) → i < n → i < m → cellOf w n (suc i) f ≡ cellOf w m (suc i) f
+unfolding cellOf
+bound-free w n m i f l h = rw (lt-ltb i n l, lt-ltb i m h)
+
+-- the place of a field that is there is one of its class's
+pub place-found :
+    {w : List ℕ} {c f : ℕ} → ClassFits w c → f < most-names → (placeAt w c f ≡ 255 → ⊥) →
+    (placeAt w c f < fieldCountAt w c) × (fieldNameAt w c (placeAt w c f) ≡ f)
+place-found {w} {c} {f} F l n = ⊎-elim (λ e. absurd (n e)) (λ p. p) (F .found f l)
+
+pub cell-small :
+    {w : List ℕ} {most n k : ℕ} (o f : ℕ) → Tables w → ((i : ℕ) → i < n → ObjectFits w most i) → cellOf w n o f ≡ some k → k < most
+cell-small {w} {most} {n} {k} o f t fits e =
+    let P = cell-placed w n o f k e in
+    let O = fits (P .index) (P .exists) in
+    let F = place-found {f = f} (t .class-fits (classIn w (P .index)) (O .class)) (P .named) (P .present) in
+    omega (arith, O .cells, F .0, P .is-cell)
+
+held-cell-is : (w : List ℕ) (h : ℕ) (o : Option ℕ) (k : ℕ) → heldCell w h o ≡ ok k → (o ≡ some k) × (cellHolder w k ≡ h)
+unfolding heldCell
+held-cell-is w h none k e = absurd (let z : _≡_ {A = ℕ} 0 1 = cc in omega arith)
+held-cell-is w h (some j) k e =
+    let (t, e′) = check-ok (eqb (cellHolder w j) h) permissionMissing e in
+    let q : j ≡ k = ok-inj e′ in
+    (ap some q, subst (λ i. cellHolder w i ≡ h) q (eqb-true _ _ (T-true _ t)))
+
+pub spot-is :
+    (w : List ℕ) (v : View) (o f k : ℕ) → spotOf w v o f ≡ ok k → (cellOf w (v .objects) o f ≡ some k) × (cellHolder w k ≡ v .holder)
+unfolding spotOf
+spot-is w v o f k e = let (_, e′) = check-ok (not (eqb o 0)) nullFollowed e in held-cell-is w (v .holder) _ k e′
+
+pub spot-next :
+    (w : List ℕ) (v : View) (o f : ℕ) → (o ≡ 0 → ⊥) →
+    spotOf w v o f ≡ heldCell w (v .holder) (cellOf w (v .objects) (suc (o - 1)) f)
+unfolding spotOf check _>>_
+spot-next w v zero f n = absurd (n refl)
+spot-next w v (suc i) f n = let e : suc i - 1 ≡ i = omega arith in rw (e, ne-eqb (suc i) 0 n)
+
+pub spot-small : {w : List ℕ} {v : View} {k : ℕ} (x f : ℕ) → Readable w v → spot w v x f ≡ ok k → k < heap-fields
+unfolding spot
+spot-small {w} {v} {k} x f r e = cell-small (variableAt w (v .base) x) f (r .tables) (r .object) (spot-is w v (variableAt w (v .base) x) f k e .0)
+
+-- SIDES
+pub plain-read :
+    (w : List ℕ) (v : View) (e : Tables.Expr) (r : ℕ) → PlainIs w v e r → ((x f : ℕ) → e ≡ Tables.Expr.Path x f → ⊥) →
+    ok r ≡ readIn w v (meaning e)
+unfolding readIn meaning
+plain-read w v (Tables.Expr.Num n) r p k = ap ok p
+plain-read w v Tables.Expr.Null r p k = ap ok p
+plain-read w v (Tables.Expr.Var x) r p k = ap ok p
+plain-read w v (Tables.Expr.Path x f) r p k = absurd (k x f refl)
+
+at-least : (t : ℕ) → (t ≡ 0 → ⊥) → (t ≡ 1 → ⊥) → (t ≡ 2 → ⊥) → 3 ≤ t
+at-least zero a b c = absurd (a refl)
+at-least (suc zero) a b c = absurd (b refl)
+at-least (suc (suc zero)) a b c = absurd (c refl)
+at-least (suc (suc (suc t))) a b c = omega arith
+
+module _ (w : List ℕ) (t i : ℕ) (fits : SideFits w t i) where
+  pub var-fits : (x : ℕ) → var x ≡ exprAt w t i → x < frame-variables
+  unfolding exprAt
+  var-fits x e = go (eqb t 0) (eqb t 1) (eqb t 2) refl e
+    where
+      go :
+          (a b c : Bool) → eqb t 2 ≡ c → var x ≡ cond a (num (wordAt w i)) (cond b null (cond c (var (byteAt w i)) (path (byteAt w i) (byteAt w (i + 1))))) →
+          x < frame-variables
+      go true b c q e = absurd (let z : _≡_ {A = ℕ} 0 1 = cc in omega arith)
+      go false true c q e = absurd (let z : _≡_ {A = ℕ} 0 1 = cc in omega arith)
+      go false false true q e =
+          let y : x ≡ byteAt w i = cc in
+          ⊎-elim (λ l. absurd (omega (arith, eqb-true t 2 q))) (λ l. omega (arith, y, l)) (fits .variable)
+      go false false false q e = absurd (let z : _≡_ {A = ℕ} 0 1 = cc in omega arith)
+
+  pub path-fits : (x f : ℕ) → path x f ≡ exprAt w t i → (x < frame-variables) × (f < most-names)
+  unfolding exprAt
+  path-fits x f e = go (eqb t 0) (eqb t 1) (eqb t 2) refl refl refl e
+    where
+      go :
+          (a b c : Bool) → eqb t 0 ≡ a → eqb t 1 ≡ b → eqb t 2 ≡ c →
+          path x f ≡ cond a (num (wordAt w i)) (cond b null (cond c (var (byteAt w i)) (path (byteAt w i) (byteAt w (i + 1))))) →
+          (x < frame-variables) × (f < most-names)
+      go true b c p q r e = absurd (let z : _≡_ {A = ℕ} 0 1 = cc in omega arith)
+      go false true c p q r e = absurd (let z : _≡_ {A = ℕ} 0 1 = cc in omega arith)
+      go false false true p q r e = absurd (let z : _≡_ {A = ℕ} 0 1 = cc in omega arith)
+      go false false false p q r e =
+          let y : x ≡ byteAt w i = cc in
+          let z : f ≡ byteAt w (i + 1) = cc in
+          let n0 : t ≡ 0 → ⊥ = eqb-false t 0 p in
+          let n1 : t ≡ 1 → ⊥ = eqb-false t 1 q in
+          let n2 : t ≡ 2 → ⊥ = eqb-false t 2 r in
+          let three : 3 ≤ t = at-least t n0 n1 n2 in (
+            ⊎-elim (λ l. absurd (omega (arith, l, three))) (λ l. omega (arith, y, l)) (fits .variable),
+            ⊎-elim (λ l. absurd (omega (arith, l, three))) (λ l. omega (arith, z, l)) (fits .field),
+          )
+
+  expr-fits : (e : Tables.Expr) → meaning e ≡ exprAt w t i → ExprFits e
+  unfolding meaning
+  expr-fits (Tables.Expr.Num n) e = tt
+  expr-fits Tables.Expr.Null e = tt
+  expr-fits (Tables.Expr.Var x) e = var-fits x e
+  expr-fits (Tables.Expr.Path x f) e = path-fits x f e
+
+pub left-fits : (w : List ℕ) (a : ℕ) (e : Tables.Expr) → AtomFits w a → meaning e ≡ leftAt w a → ExprFits e
+unfolding leftAt
+left-fits w a e f m = expr-fits w _ _ (f .left) e m
+
+pub right-fits : (w : List ℕ) (a : ℕ) (e : Tables.Expr) → AtomFits w a → meaning e ≡ rightAt w a → ExprFits e
+unfolding rightAt
+right-fits w a e f m = expr-fits w _ _ (f .right) e m
+
+-- FORMULAS
+pub new-taken : (ks : List ℕ) (k : ℕ) → any (eqb k) ks ≡ true → newCells ks k ≡ no permissionMissing
+unfolding newCells check _>>_
+new-taken ks k e = rw e
+
+pub new-free : (ks : List ℕ) (k : ℕ) → any (eqb k) ks ≡ false → newCells ks k ≡ ok (ks ++ (k ∷ []))
+unfolding newCells check _>>_
+new-free ks k e = rw e
+
+pub acc-at : (w : List ℕ) (v : View) (x f k : ℕ) (ks : List ℕ) → spot w v x f ≡ ok k → accIn w v x f ks ≡ newCells ks k
+unfolding accIn _>>=_
+acc-at w v x f k ks e = rw e
+
+pub acc-lacking : (w : List ℕ) (v : View) (x f : ℕ) (s : Stop) (ks : List ℕ) → spot w v x f ≡ no s → accIn w v x f ks ≡ no s
+unfolding accIn _>>=_
+acc-lacking w v x f s ks e = rw e
+
+bind-last : (w : List ℕ) (v : View) (t : Try Stop (List ℕ)) → t ≡ t >>= takeIn w v []
+unfolding _>>=_ takeIn
+bind-last w v (ok ks) = refl
+bind-last w v (no s) = refl
+
+-- an atom, and then the others
+pub take-one :
+    (w : List ℕ) (v : View) (a : Atom ℕ) (φ : Formula ℕ) (ks : List ℕ) →
+    takeIn w v (a ∷ φ) ks ≡ takeIn w v (a ∷ []) ks >>= takeIn w v φ
+unfolding takeIn check _>>_ _>>=_
+take-one w v (acc x f) φ ks = ap (λ (t : Try Stop (List ℕ)). t >>= takeIn w v φ) (bind-last w v (accIn w v x f ks))
+take-one w v (cmp n a b) φ ks = go (readIn w v a) (readIn w v b)
+  where
+    last : (c : Bool) → check c formulaFalse >> takeIn w v φ ks ≡ (check c formulaFalse >> takeIn w v [] ks) >>= takeIn w v φ
+    last true = refl
+    last false = refl
+
+    go :
+        (s t : Try Stop ℕ) →
+        s >>= (λ l. t >>= λ r. check (compared n l r) formulaFalse >> takeIn w v φ ks)
+        ≡ (s >>= (λ l. t >>= λ r. check (compared n l r) formulaFalse >> takeIn w v [] ks)) >>= takeIn w v φ
+    go (ok l) (ok r) = last (compared n l r)
+    go (ok l) (no z) = refl
+    go (no z) t = refl
+
+-- the atom a
+pub take-acc :
+    (w : List ℕ) (v : View) (a : ℕ) (ks : List ℕ) → byteAt w (atomPlace a) ≡ 0 →
+    takeIn w v (atomAt w a ∷ []) ks ≡ accIn w v (byteAt w (atomPlace a + 4)) (byteAt w (atomPlace a + 5)) ks
+unfolding atomAt takeIn
+take-acc w v a ks e = rw e (sym (bind-last w v _))
+
+pub take-cmp :
+    (w : List ℕ) (v : View) (a : ℕ) (ks : List ℕ) → (byteAt w (atomPlace a) ≡ 0 → ⊥) →
+    takeIn w v (atomAt w a ∷ []) ks ≡ testIn w v a >>= λ b. check b formulaFalse >> ok ks
+unfolding atomAt takeIn testIn rightTest _>>=_
+take-cmp w v a ks e = rw (ne-eqb _ _ e) (go (readIn w v (leftAt w a)) (readIn w v (rightAt w a)))
+  where
+    go :
+        (s t : Try Stop ℕ) →
+        s >>= (λ l. t >>= λ r. check (compared (relOf (byteAt w (atomPlace a))) l r) formulaFalse >> ok ks)
+        ≡ (s >>= (λ l. t >>= λ r. ok (compared (relOf (byteAt w (atomPlace a))) l r))) >>= λ b. check b formulaFalse >> ok ks
+    go (ok l) (ok r) = refl
+    go (ok l) (no z) = refl
+    go (no z) t = refl
+
+pub test-true : (ks : List ℕ) (t : Try Stop Bool) → t ≡ ok true → t >>= (λ b. check b formulaFalse >> ok ks) ≡ ok ks
+unfolding _>>=_ _>>_ check
+test-true ks t e = rw e
+
+pub test-false : (ks : List ℕ) (t : Try Stop Bool) → t ≡ ok false → t >>= (λ b. check b formulaFalse >> ok ks) ≡ no formulaFalse
+unfolding _>>=_ _>>_ check
+test-false ks t e = rw e
+
+pub test-lacking : (ks : List ℕ) (s : Stop) (t : Try Stop Bool) → t ≡ no s → t >>= (λ b. check b formulaFalse >> ok ks) ≡ no s
+unfolding _>>=_
+test-lacking ks s t e = rw e
+
+-- `acc x f` names a variable and a field
+pub access-fits :
+    (w : List ℕ) (a : ℕ) → AtomFits w a → byteAt w (atomPlace a) ≡ 0 →
+    (byteAt w (atomPlace a + 4) < frame-variables) × (byteAt w (atomPlace a + 5) < most-names)
+access-fits w a F e =
+    let t : byteAt w (atomPlace a + 1) ≡ 3 = F .access e in
+    let s : atomPlace a + 4 + 1 ≡ atomPlace a + 5 = omega arith in (
+      ⊎-elim (λ l. absurd (omega (arith, l, t))) (λ l. l) (F .left .variable),
+      ⊎-elim (λ l. absurd (omega (arith, l, t))) (λ l. rw s at l) (F .left .field),
+    )
+
+-- n atoms from the first on, i of them done
+module _ (w : List ℕ) (v : View) (first n i : ℕ) (ks : List ℕ) where
+  atoms-next : i < n → atomsFrom w (first + i) (n - i) ≡ atomAt w (first + i) ∷ atomsFrom w (first + (i + 1)) (n - (i + 1))
+  unfolding atomsFrom
+  atoms-next h =
+      let e : n - i ≡ suc (n - (i + 1)) = omega arith in
+      let f : first + (i + 1) ≡ suc (first + i) = omega arith in
+      rw (e, f)
+
+  pub foot-next :
+      (ks′ : List ℕ) → i < n → takeIn w v (atomAt w (first + i) ∷ []) ks ≡ ok ks′ →
+      takeIn w v (atomsFrom w (first + (i + 1)) (n - (i + 1))) ks′ ≡ takeIn w v (atomsFrom w (first + i) (n - i)) ks
+  unfolding _>>=_
+  foot-next ks′ h e = rw (atoms-next h) (sym (take-one w v _ _ ks ∙ rw e))
+
+  pub foot-stop :
+      (s : Stop) → i < n → takeIn w v (atomAt w (first + i) ∷ []) ks ≡ no s → takeIn w v (atomsFrom w (first + i) (n - i)) ks ≡ no s
+  unfolding _>>=_
+  foot-stop s h e = rw (atoms-next h) (take-one w v _ _ ks ∙ rw e)
+
+  pub foot-end : n ≤ i → takeIn w v (atomsFrom w (first + i) (n - i)) ks ≡ ok ks
+  unfolding atomsFrom takeIn
+  foot-end h = let e : n - i ≡ 0 = omega arith in rw e
+
+pub took-cells : (r : Took) (n : ℕ) (ks : List ℕ) {t : Try Stop (List ℕ)} → r ≡ Took.Cells n → tookIs r ks ≡ t → t ≡ ok (take n ks)
+unfolding tookIs
+took-cells r n ks e s = sym s ∙ rw e
+
+pub took-lacking : (r : Took) (s : Fault) (ks : List ℕ) {t : Try Stop (List ℕ)} → r ≡ Took.Lacking s → tookIs r ks ≡ t → t ≡ no (stopOf s)
+unfolding tookIs
+took-lacking r n ks e s = sym s ∙ rw e
+
+pub count-cells : (r : Took) (n m : ℕ) → r ≡ Took.Cells n → countOf r ≤ m → n ≤ m
+unfolding countOf
+count-cells r n m e l = rw e at l

@@ -1,0 +1,68 @@
+use native.Mathlib.Omega.{arith}
+use mathlib.Core.Path.{sym, _∙_}
+use mathlib.Core.Path.{_≡_}
+use denote.Ref.{now}
+use Rattle.tables.specs.Decode.{byteAt, atomPlace}
+use Rattle.stores.specs.Views.{tookIs, countOf, stopOf}
+use Rattle.stores.proofs.Reading.{access-fits, take-acc, take-cmp, test-true, test-false, test-lacking, truth-holds, truth-fails, truth-lacking}
+use Rattle.stores.proofs.Sieves.{sieve-none}
+use borrow.Author.Needs.{needs}
+use Rattle.stores.proofs.take_atom.Statement.{statement}
+use Rattle.stores.proofs.take_atom.Tie as tie
+
+atom-kind-requires : tie.Need-atom-kind-requires
+atom-kind-requires c κs = search needs
+
+atom-variable-requires : tie.Need-atom-variable-requires
+atom-variable-requires c κs = search needs
+
+atom-field-requires : tie.Need-atom-field-requires
+atom-field-requires c κs = search needs
+
+take-cell-requires : tie.Need-take-cell-requires
+take-cell-requires c κs = let k : byteAt (now (c .before .before .before .before .before .before .before .args .work)) (atomPlace (c .before .before .before .before .before .before .before .args .a)) ≡ 0 = sym (c .before .before .before .before .before .atom-kind .ensures .0) ∙ c .before .before .before .before .if1 .taken in let f = access-fits _ _ (c .before .before .before .before .before .before .before .pre .0 .0 .tables .atom-fits (c .before .before .before .before .before .before .before .args .a) (c .before .before .before .before .before .before .before .pre .0 .1)) k in
+    ((c .before .before .before .before .before .before .before .pre .0 .0, (omega (arith, f .0, c .before .before .before .atom-variable .ensures .0), omega (arith, f .1, c .before .before .atom-field .ensures .0))), c .before .before .before .before .before .before .before .pre .1)
+
+returns : tie.Need-returns
+returns c = let k : byteAt (now (c .before .before .before .before .before .before .before .before .args .work)) (atomPlace (c .before .before .before .before .before .before .before .before .args .a)) ≡ 0 = sym (c .before .before .before .before .before .before .atom-kind .ensures .0) ∙ c .before .before .before .before .before .if1 .taken in (record { took = c .take-cell .ensures .0 .took ∙ rw (c .before .before .before .before .atom-variable .ensures .0, c .before .before .before .atom-field .ensures .0) (sym (take-acc _ _ _ _ k)); count = c .take-cell .ensures .0 .count; size = c .take-cell .ensures .0 .size }, c .take-cell .ensures .1)
+
+test-requires : tie.Need-test-requires
+test-requires c κs = search needs
+
+enum-told : tie.Need-enum-told
+enum-told c = search needs
+
+enum-told-2 : tie.Need-enum-told-2
+enum-told-2 c = search needs
+
+enum-known-s : tie.Need-enum-known-s
+enum-known-s c = search needs
+
+returns-2 : tie.Need-returns-2
+unfolding tookIs countOf
+returns-2 c = let k : byteAt (now (c .before .before .before .before .before .before .args .work)) (atomPlace (c .before .before .before .before .before .before .args .a)) ≡ 0 → ⊥ = λ z. c .before .before .before .if1 .left (c .before .before .before .before .atom-kind .ensures .0 ∙ z) in (record { took = sym (take-cmp _ _ _ _ k ∙ test-true _ _ (truth-holds _ (c .enum-told .given .1) (c .before .before .test .ensures))); count = omega arith; size = c .before .before .before .before .before .before .pre .1 .0 .1 }, c .before .before .before .before .before .before .pre .1 .1)
+
+returns-3 : tie.Need-returns-3
+unfolding tookIs countOf stopOf
+returns-3 c = let k : byteAt (now (c .before .before .before .before .before .before .args .work)) (atomPlace (c .before .before .before .before .before .before .args .a)) ≡ 0 → ⊥ = λ z. c .before .before .before .if1 .left (c .before .before .before .before .atom-kind .ensures .0 ∙ z) in (record { took = sym (take-cmp _ _ _ _ k ∙ test-false _ _ (truth-fails _ (c .enum-told2 .given .1) (c .before .before .test .ensures))); count = omega arith; size = c .before .before .before .before .before .before .pre .1 .0 .1 }, sieve-none (c .before .before .before .before .before .before .args .cells .now) _ (c .before .before .before .before .before .before .pre .1 .1 .size))
+
+returns-4 : tie.Need-returns-4
+unfolding tookIs countOf
+returns-4 c = let k : byteAt (now (c .before .before .before .before .before .before .before .args .work)) (atomPlace (c .before .before .before .before .before .before .before .args .a)) ≡ 0 → ⊥ = λ z. c .before .before .before .before .if1 .left (c .before .before .before .before .before .atom-kind .ensures .0 ∙ z) in (record { took = sym (take-cmp _ _ _ _ k ∙ test-lacking _ _ _ (truth-lacking _ _ (c .before .s .given .1) (c .before .before .before .test .ensures))); count = omega arith; size = c .before .before .before .before .before .before .before .pre .1 .0 .1 }, sieve-none (c .before .before .before .before .before .before .before .args .cells .now) _ (c .before .before .before .before .before .before .before .pre .1 .1 .size))
+
+pub take-atom-spec : {M : Type 1} → statement M
+take-atom-spec =
+    tie.close
+    (tie.spec
+    atom-kind-requires
+    atom-variable-requires
+    atom-field-requires
+    take-cell-requires
+    returns
+    test-requires
+    enum-told
+    enum-told-2
+    enum-known-s
+    returns-2
+    returns-3
+    returns-4)

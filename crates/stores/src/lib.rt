@@ -1,0 +1,439 @@
+use rules::Machine;
+use tables::Expr;
+use tables::Layout;
+ghost use mathlib.Core.Path.{_≡_};
+ghost use mathlib.Core.List.{[], _∷_};
+ghost use mathlib.Core.Option.{some};
+ghost use Prim.Native.Nat.{suc, _+_, _*_, _-_, _≤_, _<_};
+ghost use lib.ListN.{length, take};
+ghost use Rattle.rules.specs.Limits.{work-bytes, most-statements, most-methods, most-classes, most-frames, heap-objects, heap-fields};
+ghost use Rattle.tables.specs.Layout.{most-names, frame-variables};
+ghost use Rattle.tables.specs.Decode.{leftAt, rightAt, relOf, atomsFrom, atomCount, atomAt};
+ghost use Rattle.rules.specs.Base.{any, ok};
+ghost use Rattle.rules.specs.Machine.{compared};
+ghost use Rattle.tables.specs.Stores.{meaning};
+ghost use lib.Dec.{eqb};
+ghost use Rattle.stores.specs.Views.{variableAt, savedHolder, savedRow, methodOf, prepared, made, cellValue, cellHolder, classIn, firstIn, heldCell, cellOf, spotOf, spot, readIn, rightTest, testIn, PlainIs, newCells, accIn, takeIn, SmallCells, fill, marked, spotIs, readIs, truthIs, countOf, TookUpTo, Sieve, ExprFits, Readable, viewOf};
+
+// Whose variables are read, where the heap ends, and who holds.
+pub struct View {
+    pub base: usize,
+    pub objects: usize,
+    pub holder: u32,
+}
+
+// Why a step is not done.
+pub enum Fault {
+    HeapFull,
+    FramesFull,
+    Permission,
+    Null,
+    False,
+}
+
+// The cell of a location.
+pub enum Spot {
+    At(usize),
+    Lacking(Fault),
+}
+
+// The value of an expression.
+pub enum Read {
+    Got(u32),
+    Lacking(Fault),
+}
+
+// Whether a comparison is true.
+pub enum Truth {
+    Holds,
+    Fails,
+    Lacking(Fault),
+}
+
+// How many cells a formula took.
+pub enum Took {
+    Cells(usize),
+    Lacking(Fault),
+}
+
+// A variable of the frame at b.
+pub fn variable(work: &[u8], b: usize, x: usize) -> u32
+    requires { ⌜ (b + 60 ≤ length (now work)) × (x < frame-variables) ⌝ }
+    ensures { λ r. ⌜ r ≡ variableAt (now (work .entry)) b x ⌝ }
+{
+    tables::word_at(work, b + x * 4)
+}
+
+fn cell_value(work: &[u8], k: usize) -> u32
+    requires { ⌜ (length (now work) ≡ work-bytes) × (k < heap-fields) ⌝ }
+    ensures { λ r. ⌜ r ≡ cellValue (now (work .entry)) k ⌝ }
+{
+    tables::word_at(work, Layout::VALUES + k * 4)
+}
+
+fn cell_holder(work: &[u8], k: usize) -> u32
+    requires { ⌜ (length (now work) ≡ work-bytes) × (k < heap-fields) ⌝ }
+    ensures { λ r. ⌜ r ≡ cellHolder (now (work .entry)) k ⌝ }
+{
+    tables::word_at(work, Layout::HOLDERS + k * 4)
+}
+
+// The cell, if h holds it.
+fn held_cell(work: &[u8], h: u32, k: usize) -> Spot
+    requires { ⌜ (length (now work) ≡ work-bytes) × (k < heap-fields) ⌝ }
+    ensures { λ r. ⌜ spotIs r ≡ heldCell (now (work .entry)) h (some k) ⌝ }
+{
+    let n = cell_holder(work, k);
+    if n == h {
+        return Spot::At(k);
+    }
+    Spot::Lacking(Fault::Permission)
+}
+
+// The class of object i + 1.
+fn class_of(work: &[u8], i: usize) -> usize
+    requires { ⌜ (length (now work) ≡ work-bytes) × (i < heap-objects) ⌝ }
+    ensures { λ r. ⌜ r ≡ classIn (now (work .entry)) i ⌝ }
+{
+    tables::byte_at(work, Layout::OBJECTS + i * Layout::OBJECT_BYTES)
+}
+
+// Its first cell.
+fn first_of(work: &[u8], i: usize) -> usize
+    requires { ⌜ (length (now work) ≡ work-bytes) × (i < heap-objects) ⌝ }
+    ensures { λ r. ⌜ (r ≡ firstIn (now (work .entry)) i) × (r < 65536) ⌝ }
+{
+    tables::half_at(work, Layout::OBJECTS + i * Layout::OBJECT_BYTES + 2)
+}
+
+// The cell of the field named f of object i + 1.
+fn cell_at(work: &[u8], v: View, i: usize, f: usize) -> Spot
+    requires { ⌜ Readable (now work) v × ((i < v .objects) × (f < most-names)) ⌝ }
+    ensures { λ r. ⌜ spotIs r ≡ heldCell (now (work .entry)) (v .holder) (cellOf (now (work .entry)) (v .objects) (suc i) f) ⌝ }
+{
+    let c = class_of(work, i);
+    let p = tables::place_at(work, c, f);
+    if p == 255 {
+        return Spot::Lacking(Fault::Permission);
+    }
+    let k = first_of(work, i) + p;
+    held_cell(work, v.holder, k)
+}
+
+// The cell of a field of the object o: "`acc` of a null is 25, of a location not in A .. 24".
+fn spot_of(work: &[u8], v: View, o: u32, f: usize) -> Spot
+    requires { ⌜ Readable (now work) v × (f < most-names) ⌝ }
+    ensures { λ r. ⌜ spotIs r ≡ spotOf (now (work .entry)) v o f ⌝ }
+{
+    if o == 0 {
+        return Spot::Lacking(Fault::Null);
+    }
+    let i = (o - 1) as usize;
+    if v.objects <= i {
+        return Spot::Lacking(Fault::Permission);
+    }
+    cell_at(work, v, i, f)
+}
+
+// The cell of `x.f`.
+pub fn locate(work: &[u8], v: View, x: usize, f: usize) -> Spot
+    requires { ⌜ Readable (now work) v × ((x < frame-variables) × (f < most-names)) ⌝ }
+    ensures { λ r. ⌜ spotIs r ≡ spot (now (work .entry)) v x f ⌝ }
+{
+    let o = variable(work, v.base, x);
+    spot_of(work, v, o, f)
+}
+
+// The value of an expression that is no path.
+fn plain(work: &[u8], v: View, e: Expr) -> u32
+    requires { ⌜ Readable (now work) v × ExprFits e ⌝ }
+    ensures { λ r. ⌜ PlainIs (now (work .entry)) v e r ⌝ }
+{
+    match e {
+        Expr::Num(n) => n,
+        Expr::Null => 0,
+        Expr::Var(x) => variable(work, v.base, x),
+        Expr::Path(_, _) => 0,
+    }
+}
+
+// "reading a path needs its location in A"
+fn value(work: &[u8], v: View, e: Expr) -> Read
+    requires { ⌜ Readable (now work) v × ExprFits e ⌝ }
+    ensures { λ r. ⌜ readIs r ≡ readIn (now (work .entry)) v (meaning e) ⌝ }
+{
+    let Expr::Path(x, f) = e else {
+        return Read::Got(plain(work, v, e));
+    };
+    match locate(work, v, x, f) {
+        Spot::At(k) => Read::Got(cell_value(work, k)),
+        Spot::Lacking(s) => Read::Lacking(s),
+    }
+}
+
+fn left(work: &[u8], v: View, a: usize) -> Read
+    requires { ⌜ Readable (now work) v × (a < atomCount (now work)) ⌝ }
+    ensures { λ r. ⌜ readIs r ≡ readIn (now (work .entry)) v (leftAt (now (work .entry)) a) ⌝ }
+{
+    value(work, v, tables::left_at(work, a))
+}
+
+pub fn right(work: &[u8], v: View, a: usize) -> Read
+    requires { ⌜ Readable (now work) v × (a < atomCount (now work)) ⌝ }
+    ensures { λ r. ⌜ readIs r ≡ readIn (now (work .entry)) v (rightAt (now (work .entry)) a) ⌝ }
+{
+    value(work, v, tables::right_at(work, a))
+}
+
+// Whether l and r compare as the kind of an atom says: 1 `eq`, else `ne`.
+fn compare(kind: usize, l: u32, r: u32) -> Truth
+    ensures { λ t. ⌜ truthIs t ≡ ok (compared (relOf kind) l r) ⌝ }
+{
+    if kind == 1 {
+        if l == r {
+            return Truth::Holds;
+        }
+        return Truth::Fails;
+    }
+    if l == r {
+        return Truth::Fails;
+    }
+    Truth::Holds
+}
+
+fn test_right(work: &[u8], v: View, a: usize, l: u32) -> Truth
+    requires { ⌜ Readable (now work) v × (a < atomCount (now work)) ⌝ }
+    ensures { λ r. ⌜ truthIs r ≡ rightTest (now (work .entry)) v a l ⌝ }
+{
+    match right(work, v, a) {
+        Read::Got(r) => compare(tables::atom_kind(work, a), l, r),
+        Read::Lacking(s) => Truth::Lacking(s),
+    }
+}
+
+// The comparison of the atom a, "of two sides the left first".
+fn test(work: &[u8], v: View, a: usize) -> Truth
+    requires { ⌜ Readable (now work) v × (a < atomCount (now work)) ⌝ }
+    ensures { λ r. ⌜ truthIs r ≡ testIn (now (work .entry)) v a ⌝ }
+{
+    match left(work, v, a) {
+        Read::Got(l) => test_right(work, v, a, l),
+        Read::Lacking(s) => Truth::Lacking(s),
+    }
+}
+
+fn condition_right(work: &[u8], v: View, a: usize, l: u32) -> Truth
+    requires { ⌜ Readable (now work) v × (a < atomCount (now work)) ⌝ }
+    ensures { λ r. ⌜ truthIs r ≡ rightTest (now (work .entry)) v a l ⌝ }
+{
+    match right(work, v, a) {
+        Read::Got(r) => compare(tables::atom_kind(work, a), l, r),
+        Read::Lacking(s) => Truth::Lacking(s),
+    }
+}
+
+// The condition of an `if`: as `test`, which is the formulas' own, so that `footprint` calls nothing and keeps its arguments in registers.
+pub fn condition(work: &[u8], v: View, a: usize) -> Truth
+    requires { ⌜ Readable (now work) v × (a < atomCount (now work)) ⌝ }
+    ensures { λ r. ⌜ truthIs r ≡ testIn (now (work .entry)) v a ⌝ }
+{
+    match left(work, v, a) {
+        Read::Got(l) => condition_right(work, v, a, l),
+        Read::Lacking(s) => Truth::Lacking(s),
+    }
+}
+
+// Whether k is one of the first n cells.
+fn among(cells: &[usize; 8], n: usize, k: usize) -> bool
+    requires { ⌜ (n ≤ 8) × (length (now cells) ≡ 8) ⌝ }
+    ensures { λ r. ⌜ r ≡ any (eqb k) (take n (now (cells .entry))) ⌝ }
+{
+    let mut i = 0;
+    while i < n {
+        let c = cells[i];
+        if c == k {
+            return true;
+        }
+        i += 1;
+    }
+    false
+}
+
+// Takes the cell k after n others, which may be among them.
+fn put_seen(cells: &mut [usize; 8], n: usize, k: usize) -> Took
+    requires { ⌜ (n < 8) × (length (now cells) ≡ 8) ⌝ }
+    ensures { λ r. ⌜ TookUpTo r (now (cells .exit)) (n + 1) (newCells (take n (now (cells .entry))) k) ⌝ }
+{
+    if among(cells, n, k) {
+        return Took::Lacking(Fault::Permission);
+    }
+    cells[n] = k;
+    Took::Cells(n + 1)
+}
+
+// Takes the cell k after n others. It is looked for only where its remainder by 64 has been seen.
+fn put_cell(cells: &mut [usize; 8], seen: &mut [u8; 64], n: usize, k: usize) -> Took
+    requires { ⌜ ((n < 8) × (length (now cells) ≡ 8)) × Sieve (take n (now cells)) (now seen) ⌝ }
+    ensures { λ r. ⌜ TookUpTo r (now (cells .exit)) (n + 1) (newCells (take n (now (cells .entry))) k) × Sieve (take (countOf r) (now (cells .exit))) (now (seen .exit)) ⌝ }
+{
+    let s = k % 64;
+    let b = seen[s];
+    if b == 0 {
+        seen[s] = 1;
+        cells[n] = k;
+        return Took::Cells(n + 1);
+    }
+    put_seen(cells, n, k)
+}
+
+// `acc x f`, after n cells: "of a null is 25, of a location not in A or already taken in this formula 24".
+fn take_cell(
+    work: &[u8],
+    v: View,
+    x: usize,
+    f: usize,
+    cells: &mut [usize; 8],
+    seen: &mut [u8; 64],
+    n: usize,
+) -> Took
+    requires { ⌜ (Readable (now work) v × ((x < frame-variables) × (f < most-names))) × (((n < 8) × (length (now cells) ≡ 8)) × Sieve (take n (now cells)) (now seen)) ⌝ }
+    ensures { λ r. ⌜ TookUpTo r (now (cells .exit)) (n + 1) (accIn (now (work .entry)) v x f (take n (now (cells .entry)))) × Sieve (take (countOf r) (now (cells .exit))) (now (seen .exit)) ⌝ }
+{
+    match locate(work, v, x, f) {
+        Spot::At(k) => put_cell(cells, seen, n, k),
+        Spot::Lacking(s) => Took::Lacking(s),
+    }
+}
+
+// The atom a, after n cells.
+fn take_atom(
+    work: &[u8],
+    v: View,
+    a: usize,
+    cells: &mut [usize; 8],
+    seen: &mut [u8; 64],
+    n: usize,
+) -> Took
+    requires { ⌜ (Readable (now work) v × (a < atomCount (now work))) × (((n < 8) × (length (now cells) ≡ 8)) × Sieve (take n (now cells)) (now seen)) ⌝ }
+    ensures { λ r. ⌜ TookUpTo r (now (cells .exit)) (n + 1) (takeIn (now (work .entry)) v (atomAt (now (work .entry)) a ∷ []) (take n (now (cells .entry)))) × Sieve (take (countOf r) (now (cells .exit))) (now (seen .exit)) ⌝ }
+{
+    if tables::atom_kind(work, a) == 0 {
+        let x = tables::atom_variable(work, a);
+        let f = tables::atom_field(work, a);
+        return take_cell(work, v, x, f, cells, seen, n);
+    }
+    match test(work, v, a) {
+        Truth::Holds => Took::Cells(n),
+        Truth::Fails => Took::Lacking(Fault::False),
+        Truth::Lacking(s) => Took::Lacking(s),
+    }
+}
+
+// "A formula's footprint is the locations that its `acc` atoms take": n atoms from the first on.
+pub fn footprint(work: &[u8], v: View, first: usize, n: usize, cells: &mut [usize; 8]) -> Took
+    requires { ⌜ (Readable (now work) v × (first + n ≤ atomCount (now work))) × ((n ≤ 8) × (length (now cells) ≡ 8)) ⌝ }
+    ensures { λ r. ⌜ TookUpTo r (now (cells .exit)) 8 (takeIn (now (work .entry)) v (atomsFrom (now (work .entry)) first n) []) ⌝ }
+{
+    let mut seen = [0u8; 64];
+    let mut count = 0;
+    let mut i = 0;
+    while i < n {
+        let t = take_atom(work, v, first + i, cells, &mut seen, count);
+        let Took::Cells(k) = t else {
+            return t;
+        };
+        count = k;
+        i += 1;
+    }
+    Took::Cells(count)
+}
+
+// n words v from i on.
+pub fn fill_words(work: &mut [u8], at: usize, n: usize, v: u32)
+    requires { ⌜ at + n * 4 ≤ length (now work) ⌝ }
+    ensures { λ _. ⌜ now (work .exit) ≡ fill (now (work .entry)) at n v ⌝ }
+{
+    let mut i = 0;
+    while i < n {
+        tables::put_word(work, at + i * 4, v);
+        i += 1;
+    }
+}
+
+// The first n cells are held by v from now on.
+pub fn mark(work: &mut [u8], cells: &[usize; 8], n: usize, v: u32)
+    requires { ⌜ ((length (now work) ≡ work-bytes) × ((n ≤ 8) × (length (now cells) ≡ 8))) × SmallCells (take n (now cells)) ⌝ }
+    ensures { λ _. ⌜ now (work .exit) ≡ marked (now (work .entry)) (take n (now (cells .entry))) v ⌝ }
+{
+    let mut i = 0;
+    while i < n {
+        let k = cells[i];
+        tables::put_word(work, Layout::HOLDERS + k * 4, v);
+        i += 1;
+    }
+}
+
+// The view of the running frame.
+pub fn view_of(c: Machine) -> View
+    requires { ⌜ (1 ≤ c .frames) × (c .frames ≤ most-frames) ⌝ }
+    ensures { λ r. ⌜ r ≡ viewOf c ⌝ }
+{
+    let i = c.frames - 1;
+    View {
+        base: Layout::FRAMES + i as usize * Layout::FRAME_BYTES,
+        objects: c.objects as usize,
+        holder: c.holder,
+    }
+}
+
+pub fn saved_holder(work: &[u8], i: usize) -> u32
+    requires { ⌜ (length (now work) ≡ work-bytes) × (i < most-frames) ⌝ }
+    ensures { λ r. ⌜ r ≡ savedHolder (now (work .entry)) i ⌝ }
+{
+    tables::word_at(work, Layout::FRAMES + i * Layout::FRAME_BYTES + 60)
+}
+
+pub fn saved_row(work: &[u8], i: usize) -> usize
+    requires { ⌜ (length (now work) ≡ work-bytes) × (i < most-frames) ⌝ }
+    ensures { λ r. ⌜ (r ≡ savedRow (now (work .entry)) i) × (r < 65536) ⌝ }
+{
+    tables::half_at(work, Layout::FRAMES + i * Layout::FRAME_BYTES + 64)
+}
+
+pub fn method_of(work: &[u8], i: usize) -> usize
+    requires { ⌜ (length (now work) ≡ work-bytes) × (i < most-frames) ⌝ }
+    ensures { λ r. ⌜ r ≡ methodOf (now (work .entry)) i ⌝ }
+{
+    tables::byte_at(work, Layout::FRAMES + i * Layout::FRAME_BYTES + 66)
+}
+
+// The place of the next frame, and what the running one must keep.
+pub fn prepare(work: &mut [u8], c: Machine, m: usize, o: u32, p: u32)
+    requires { ⌜ (length (now work) ≡ work-bytes) × (((1 ≤ c .frames) × (c .frames ≤ most-frames)) × ((c .row < most-statements) × (m < most-methods))) ⌝ }
+    ensures { λ _. ⌜ now (work .exit) ≡ prepared (now (work .entry)) c m o p ⌝ }
+{
+    let i = (c.frames - 1) as usize;
+    let j = c.frames as usize;
+    let a = Layout::FRAMES + i * Layout::FRAME_BYTES;
+    let b = Layout::FRAMES + j * Layout::FRAME_BYTES;
+    fill_words(work, b, 15, 0);
+    tables::put_word(work, b, o);
+    tables::put_word(work, b + 4, p);
+    tables::put_word(work, a + 60, c.holder);
+    tables::put_half(work, a + 64, c.row as usize);
+    tables::put_byte(work, b + 66, m);
+}
+
+// Object number `objects` + 1, of a class with n fields, which are the running frame's.
+pub fn make_object(work: &mut [u8], c: Machine, class: usize, n: usize)
+    requires { ⌜ (length (now work) ≡ work-bytes) × (((c .objects < heap-objects) × (c .fields + n ≤ heap-fields)) × (class < most-classes)) ⌝ }
+    ensures { λ _. ⌜ now (work .exit) ≡ made (now (work .entry)) (c .objects) (c .fields) n class (c .holder) ⌝ }
+{
+    let i = c.objects as usize;
+    let k = c.fields as usize;
+    let at = Layout::OBJECTS + i * Layout::OBJECT_BYTES;
+    tables::put_byte(work, at, class);
+    tables::put_half(work, at + 2, k);
+    fill_words(work, Layout::VALUES + k * 4, n, 0);
+    fill_words(work, Layout::HOLDERS + k * 4, n, c.holder);
+}
