@@ -1,0 +1,11 @@
+-- What the parts of the two calls answer.
+use Prim.Native.Nat.{ℕ}
+use Rattle.rules.specs.Calls.{Result}
+use Rattle.station.specs.declared.Found.{Found}
+
+-- number and line
+abbrev pub numbersIn : Found → ℕ × ℕ
+numbersIn f = (f .number, f .line)
+
+abbrev pub runNumbers : Result → ℕ × ℕ
+runNumbers r = (r .number, r .line)

@@ -1,0 +1,191 @@
+use checker::Verdict;
+use knowledge::Answer;
+use machine::Ran;
+use reader::Reading;
+use reader::Refusal;
+use rules::Machine;
+use tables::Layout;
+ghost use mathlib.Core.Path.{_≡_};
+ghost use mathlib.Core.List.{_∷_};
+ghost use Prim.Native.Nat.{_<_};
+ghost use lib.ListN.{length};
+ghost use Rattle.rules.specs.Limits.{work-bytes, results-bytes};
+ghost use Rattle.rules.specs.Answers.{refusalNumber, then};
+ghost use Rattle.rules.specs.Rules.{checkProgram};
+ghost use Rattle.rules.specs.Machine.{runProgram};
+ghost use Rattle.rules.specs.Calls.{verdictNumbers, checkText, wholeHeap, outcomeResult, runText};
+ghost use Rattle.rules.specs.Areas.{packed, cleared, wordsBytes, resultBytes, checkCall, runCall};
+ghost use Rattle.tables.specs.Decode.{programIn};
+ghost use Rattle.tables.specs.Tables.{Tables};
+ghost use Rattle.reader.specs.Readings as Reader;
+ghost use Rattle.reader.specs.Readings.{framedVerdict};
+ghost use Rattle.checker.specs.Checked as Checker;
+ghost use Rattle.machine.specs.Runs.{mainValues};
+ghost use Rattle.station.specs.Station.{numbersIn, runNumbers};
+
+// A number of document 01's table, and the line that it goes with.
+pub struct Found {
+    pub number: u32,
+    pub line: usize,
+}
+
+// NUMBERS
+
+fn reading_number(r: Refusal) -> u32
+    ensures { λ n. ⌜ n ≡ refusalNumber (Reader.refusalOf r) ⌝ }
+{
+    match r {
+        Refusal::TextTooLong => 2,
+        Refusal::BadByte => 3,
+        Refusal::Malformed => 4,
+        Refusal::LimitPassed => 5,
+        Refusal::Undeclared => 6,
+        Refusal::WrongType => 7,
+        Refusal::TextEnds => 8,
+        Refusal::WrongTarget => 9,
+    }
+}
+
+fn checking_number(a: Answer) -> u32
+    ensures { λ n. ⌜ n ≡ refusalNumber (Checker.refusalOf a) ⌝ }
+{
+    match a {
+        Answer::Unresolved => 11,
+        Answer::NoPermission => 12,
+        Answer::NotShown => 13,
+        Answer::Full => 14,
+        Answer::Done => 4,
+        Answer::Malformed => 4,
+    }
+}
+
+// number × 65,536 + line
+fn pack(f: Found) -> u32
+    requires { ⌜ (f .number < 65536) × (f .line < 65536) ⌝ }
+    ensures { λ r. ⌜ r ≡ packed (f .number) (f .line) ⌝ }
+{
+    f.number * 65536 + (f.line as u32)
+}
+
+// AREAS
+
+// All bytes 0.
+fn clear(area: &mut [u8])
+    ensures { λ _. ⌜ now (area .exit) ≡ cleared (now (area .entry)) ⌝ }
+{
+    let mut i = 0;
+    while i < area.len() {
+        area[i] = 0;
+        i += 1;
+    }
+}
+
+// The steps taken and main's twelve values.
+fn put_results(work: &[u8], results: &mut [u8], steps: u32)
+    requires { ⌜ (length (now work) ≡ work-bytes) × (length (now results) ≡ results-bytes) ⌝ }
+    ensures { λ _. ⌜ now (results .exit) ≡ wordsBytes (steps ∷ mainValues (now (work .entry))) ⌝ }
+{
+    tables::put_word(results, 0, steps);
+    let mut i = 0;
+    while i < Machine::VALUES {
+        let v = tables::word_at(work, Layout::FRAMES + 8 + i * 4);
+        tables::put_word(results, 4 + i * 4, v);
+        i += 1;
+    }
+}
+
+// CHECK
+
+// Number 10, then the rules, over the tables of a text that is taken; `unframed` is the first line that number 10 refuses, or 0.
+fn check_tables(work: &[u8], unframed: usize) -> Found
+    requires { ⌜ Tables (now work) ⌝ }
+    ensures { λ f. ⌜ numbersIn f ≡ verdictNumbers (then (framedVerdict unframed) (λ u. checkProgram (programIn (now (work .entry))))) ⌝ }
+{
+    if unframed != 0 {
+        return Found {
+            number: 10,
+            line: unframed,
+        };
+    }
+    let v = checker::check(work);
+    match v {
+        Verdict::Accepted => Found { number: 0, line: 0 },
+        Verdict::Refused(why, line) => {
+            let number = checking_number(why);
+            Found { number, line }
+        }
+    }
+}
+
+fn check_text(text: &[u8], work: &mut [u8]) -> Found
+    requires { ⌜ length (now work) ≡ work-bytes ⌝ }
+    ensures { λ f. ⌜ (numbersIn f ≡ checkText (now (text .entry))) × (length (now (work .exit)) ≡ work-bytes) ⌝ }
+{
+    let r = reader::read(text, work);
+    match r {
+        Reading::Refused(why, line) => {
+            let number = reading_number(why);
+            Found { number, line }
+        }
+        Reading::Taken(unframed) => check_tables(work, unframed),
+    }
+}
+
+// Is the text a script that keeps to its permissions? The number and line of document 01's table, as number × 65,536 + line.
+#[no_mangle]
+pub extern "C" fn check(text: &[u8], work: &mut [u8]) -> u32
+    ensures { λ r. ⌜ (r ≡ checkCall (now (text .entry)) (now (work .entry)) .returned) × (now (work .exit) ≡ checkCall (now (text .entry)) (now (work .entry)) .work) ⌝ }
+{
+    if work.len() != Machine::WORK_BYTES {
+        return 65536;
+    }
+    let f = check_text(text, work);
+    clear(work);
+    pack(f)
+}
+
+// RUN
+
+fn run_tables(work: &mut [u8], steps: u32, results: &mut [u8]) -> Found
+    requires { ⌜ Tables (now work) × (length (now results) ≡ results-bytes) ⌝ }
+    ensures { λ f. ⌜ (numbersIn f ≡ runNumbers (outcomeResult (runProgram wholeHeap (programIn (now (work .entry))) steps))) × (now (results .exit) ≡ resultBytes (outcomeResult (runProgram wholeHeap (programIn (now (work .entry))) steps))) × (length (now (work .exit)) ≡ work-bytes) ⌝ }
+{
+    let r = machine::run(work, steps);
+    put_results(work, results, r.steps);
+    let number = machine::number_of(r.ending);
+    Found {
+        number,
+        line: r.line as usize,
+    }
+}
+
+fn run_text(text: &[u8], work: &mut [u8], steps: u32, results: &mut [u8]) -> Found
+    requires { ⌜ (length (now work) ≡ work-bytes) × (length (now results) ≡ results-bytes) ⌝ }
+    ensures { λ f. ⌜ (numbersIn f ≡ runNumbers (runText (now (text .entry)) steps)) × (now (results .exit) ≡ resultBytes (runText (now (text .entry)) steps)) × (length (now (work .exit)) ≡ work-bytes) ⌝ }
+{
+    let r = reader::read(text, work);
+    match r {
+        Reading::Refused(why, line) => {
+            clear(results);
+            let number = reading_number(why);
+            Found { number, line }
+        }
+        Reading::Taken(_) => run_tables(work, steps, results),
+    }
+}
+
+// Runs main for at most so many steps: the number and line as for check; the steps taken and main's values in `results`.
+#[no_mangle]
+pub extern "C" fn run(text: &[u8], work: &mut [u8], steps: u32, results: &mut [u8]) -> u32
+    ensures { λ r. ⌜ (r ≡ runCall (now (text .entry)) (now (work .entry)) steps (now (results .entry)) .returned) × (now (work .exit) ≡ runCall (now (text .entry)) (now (work .entry)) steps (now (results .entry)) .work) × (now (results .exit) ≡ runCall (now (text .entry)) (now (work .entry)) steps (now (results .entry)) .results) ⌝ }
+{
+    if work.len() != Machine::WORK_BYTES {
+        return 65536;
+    }
+    if results.len() != Machine::RESULTS_BYTES {
+        return 65536;
+    }
+    let f = run_text(text, work, steps, results);
+    clear(work);
+    pack(f)
+}
