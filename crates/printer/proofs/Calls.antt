@@ -4,7 +4,7 @@ use mathlib.Core.Path.{_≡_, refl, sym, ap, _∙_}
 use mathlib.Core.Bool.{Bool, true, false, cond}
 use mathlib.Core.List.{List, [], _∷_}
 use mathlib.Core.Option.{Option, none, some}
-use Prim.Native.Nat.{ℕ, zero, suc, _≤_}
+use Prim.Native.Nat.{ℕ, zero, suc, _≤_, _<_}
 use native.Mathlib.Omega.{arith}
 use lib.Dec.{T, ltb}
 use lib.ListN.{length, getD, drop, replicate}
@@ -38,23 +38,23 @@ unfolding verdictNumbers
 line-within n (accepted u) x = omega arith
 line-within n (refused r l) x = x
 
-pub fits : (t : List ℕ) → Fits t
+pub fits : (t : List ℕ) (k : ℕ) → k < 4294967296 → Fits t k
 unfolding checkText runText runItems outcomeResult then verdictNumbers
-fits t = go (readText t) refl (read-within t)
+fits t k small = go (readText t) refl (read-within t)
   where
-    go : (v : Verdict (List Item)) → readText t ≡ v → Within most-bytes v → Fits t
+    go : (v : Verdict (List Item)) → readText t ≡ v → Within most-bytes v → Fits t k
     go (accepted items) e w =
         let few = items-few t items e in
         let (text, x) = read-taken t items e in
         let s = items-small text x in
         let l = line-within most-bytes (checkItems items) (check-within most-bytes items few s) in
-        let o = outcome-fits most-bytes wholeHeap (program items) (omega arith) (program-fits most-bytes items few s) program-steps in
+        let o = outcome-fits most-bytes wholeHeap (program items) (omega arith) (program-fits most-bytes items few s) k in
         record {
           check-line = rw e (omega (arith, l));
           run-line = rw e (omega (arith, o .line));
-          steps = rw e (omega (arith, o .steps));
+          steps = rw e (omega (arith, o .steps, small));
           shown = rw e (o .shown);
-          values = λ i. rw e (all-get Small (runProgram wholeHeap (program items) program-steps .values) 0 i (omega arith) (o .values));
+          values = λ i. rw e (all-get Small (runProgram wholeHeap (program items) k .values) 0 i (omega arith) (o .values));
         }
     go (refused r l) e w =
         record {
@@ -65,10 +65,10 @@ fits t = go (readText t) refl (read-within t)
           values = λ i. rw e (zeros 12 i);
         }
       where
-        zeros : (k i : ℕ) → Small (getD (replicate k 0) i 0)
+        zeros : (n i : ℕ) → Small (getD (replicate n 0) i 0)
         zeros zero i = omega arith
-        zeros (suc k) zero = omega arith
-        zeros (suc k) (suc i) = zeros k i
+        zeros (suc n) zero = omega arith
+        zeros (suc n) (suc i) = zeros n i
 
 -- A TEXT THAT IS NOT READ: the number is 1 to 9
 abbrev Low : Refusal → Type 0
@@ -171,7 +171,7 @@ unfolding checkText verdictNumbers then
 read-unless t checked c h = go (readText t) refl (read-early t)
   where
     number : numberIn checked ≡ checkText t .0
-    number = ap (λ k. numberIn k) c ∙ number-packed _ _ (fits t .check-line)
+    number = ap (λ k. numberIn k) c ∙ number-packed _ _ (fits t program-steps (omega arith) .check-line)
 
     go : (v : Verdict (List Item)) → readText t ≡ v → Early v → (items : List Item) × (readText t ≡ accepted items)
     go (accepted items) e x = (items, e)
@@ -180,4 +180,4 @@ read-unless t checked c h = go (readText t) refl (read-early t)
         true-false (sym (T-true _ x) ∙ (ap (between 1 9) (sym (number ∙ n)) ∙ h))
 
 pub printed-answers : (t : List ℕ) (checked ran : ℕ) (b : List ℕ) → Called t checked ran b → printedAnswers t checked ran b ≡ printed t
-printed-answers t checked ran b c = printed-is t checked ran b (fits t) c
+printed-answers t checked ran b c = printed-is t checked ran b (fits t program-steps (omega arith)) c

@@ -1,1 +1,3 @@
-
+pub mod Words
+pub mod Texts
+pub mod Calls

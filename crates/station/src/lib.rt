@@ -86,10 +86,10 @@ fn put_results(work: &[u8], results: &mut [u8], steps: u32)
     ensures { λ _. ⌜ now (results .exit) ≡ wordsBytes (steps ∷ mainValues (now (work .entry))) ⌝ }
 {
     tables::put_word(results, 0, steps);
-    let mut i = 0;
-    while i < Machine::VALUES {
-        let v = tables::word_at(work, Layout::FRAMES + 8 + i * 4);
-        tables::put_word(results, 4 + i * 4, v);
+    let mut i = 1;
+    while i <= Machine::VALUES {
+        let v = tables::word_at(work, Layout::FRAMES + 4 + i * 4);
+        tables::put_word(results, i * 4, v);
         i += 1;
     }
 }
@@ -152,7 +152,8 @@ fn run_tables(work: &mut [u8], steps: u32, results: &mut [u8]) -> Found
 {
     let r = machine::run(work, steps);
     put_results(work, results, r.steps);
-    let number = machine::number_of(r.ending);
+    let ending = r.ending;
+    let number = machine::number_of(ending);
     Found {
         number,
         line: r.line as usize,
