@@ -1,3 +1,4 @@
 pub mod Words
 pub mod Texts
 pub mod Calls
+pub mod Demand3
