@@ -1,10 +1,9 @@
 -- Number 10 in pass 2: the first line that it refuses, kept from line to line, is that of the rules.
-use mathlib.Core.Path.{_≡_, refl, sym, _∙_}
+use mathlib.Core.Path.{_≡_, refl}
 use mathlib.Core.Bool.{Bool, true, false, cond}
 use mathlib.Core.List.{List, [], _∷_}
 use Prim.Native.Nat.{ℕ, zero, suc}
 use lib.Dec.{eqb, eqb·suc-zero}
-use borrow.Author.Tests.{ne-eqb}
 use Rattle.rules.specs.Answers.{Verdict, accepted, refused, unframed}
 use Rattle.rules.specs.Syntax.{Stmt, simple, if, else, join, end}
 use Rattle.rules.specs.Grammar as Grammar
@@ -88,24 +87,3 @@ framed-on (suc u) n a items = rw (eqb·suc-zero u, eqb·suc-zero u)
 pub framed-last : (u n : ℕ) → framedAfter u n [] ≡ cond (eqb u 0) (accepted tt) (refused unframed u)
 unfolding framedAfter checkFramed
 framed-last u n = refl
-
--- the first that it refuses of these items after n lines, or 0
-unfoldable pub unframedOf : ℕ → ℕ → List Item → ℕ
-unframedOf u n [] = u
-unframedOf u n (a ∷ items) = unframedOf (unframedAfter u n a) (suc n) items
-
-pub framed-all :
-    (u n : ℕ) (items : List Item) →
-    framedAfter u n items ≡ cond (eqb (unframedOf u n items) 0) (accepted tt) (refused unframed (unframedOf u n items))
-unfolding unframedOf
-framed-all u n [] = framed-last u n
-framed-all u n (a ∷ items) = sym (framed-on u n a items) ∙ framed-all (unframedAfter u n a) (suc n) items
-
-module _ (items : List Item) (n : ℕ) where
-  pub check-framed : unframedOf 0 n items ≡ 0 → checkFramed items n ≡ accepted tt
-  unfolding framedAfter
-  check-framed e = framed-all 0 n items ∙ rw e
-
-  pub check-unframed : (unframedOf 0 n items ≡ 0 → ⊥) → checkFramed items n ≡ refused unframed (unframedOf 0 n items)
-  unfolding framedAfter
-  check-unframed e = framed-all 0 n items ∙ rw (ne-eqb (unframedOf 0 n items) 0 e)

@@ -1,5 +1,4 @@
 pub mod Writes
-pub mod Walk
 pub mod Variables
 pub mod Reading
 pub mod Answers

@@ -13,7 +13,7 @@ use Rattle.rules.specs.Text.{isName}
 use Rattle.rules.specs.Grammar as Grammar
 use Rattle.rules.specs.Grammar.{Line, Method, Main, Var, kindNumber, isKind, isFormed, form}
 use Rattle.rules.specs.Scope.{operand}
-use Rattle.rules.specs.Places.{Place, placeAfter, withinLimits, oneMoreIf}
+use Rattle.rules.specs.Places.{firstPlace, Place, placeAfter, withinLimits, oneMoreIf}
 use Rattle.rules.specs.Printed.{printedLine, signed, printedVariables}
 use Rattle.leaves.specs.Sets.{Found}
 use Rattle.leaves.specs.declared.Set.the-variants.{LineEnd}
@@ -32,7 +32,7 @@ use Rattle.printer.specs.Writes.{Writes}
 use Rattle.printer.specs.Answers.{wordsFrom, valuesIn, variableLine}
 use Rattle.printer.specs.Variables.{localsBy, locals, Room, Shows, Goes, ShowsLocal}
 use Rattle.printer.proofs.Writes.{writes-none, writes-on, writes-as, signed-few}
-use Rattle.printer.proofs.Walk.{Walk, walk-first, walk-first-locals, walk-lines, walk-on, walk-place}
+use Rattle.declare.proofs.Walks.{Walking, walking-first, walking-placed, walking-lines, walking-on}
 
 -- VALUES
 pub words-length : (n i : ℕ) (b : List ℕ) → length (wordsFrom n i b) ≡ n
@@ -147,20 +147,24 @@ goes-line {a} {b} {l} {m} {o} {s} {o′} {r} e x = subst (λ k. Goes a b k o s o
 
 -- the lines before p have been walked: the locals so far, and what the rest of the lines makes of them
 pub record Showing (t b : List ℕ) (a : ℕ) (o : List ℕ) (p : ℕ) (s : Shown) (o′ : List ℕ) : Type 0 where
-  pub walk : Walk t p
+  pub place : Place
+  pub above : ℕ
+  pub walk : Walking t p place above
   pub names : List Name
   pub shows : Shows o a b names s o′
-  pub counted : length names ≡ walk .place .locals
+  pub counted : length names ≡ place .locals
   pub rest : locals names (linesOf (drop p t)) ≡ locals [] (linesOf t)
 
 pub showing-first : (t b : List ℕ) (a : ℕ) (o : List ℕ) → a ≤ length o → Taken t → Showing t b a o 0 (fresh a) o
 unfolding printedVariables
 showing-first t b a o h k =
     record {
-      walk = walk-first t k;
+      place = firstPlace;
+      above = 0;
+      walk = walking-first k;
       names = [];
       shows = record { count = refl; bytes = writes-none o a h; few = omega arith };
-      counted = walk-first-locals t k;
+      counted = refl;
       rest = refl;
     }
 
@@ -195,10 +199,9 @@ module _ {t b : List ℕ} {a : ℕ} {o : List ℕ} {p : ℕ} {s : Shown} {o′ :
   module _ {e : ℕ} (l : p < length t) (f : Found t p LineEnd e) where
     pub showing-room : a + 348 ≤ length o → Room (lineAt t p .kind) s o′
     showing-room h =
-        let w = x .walk in
-        let m = locals-counted (x .names) (lineAt t p) (w .place) (x .counted) in
+        let m = locals-counted (x .names) (lineAt t p) (x .place) (x .counted) in
         let n : length (localsBy (x .names) (lineAt t p)) ≤ 12 =
-        omega (arith, m, ap (λ (q : Place). q .locals) (walk-place w l f), few-locals (walk-on w l f .place) (walk-on w l f .within)) in
+        omega (arith, m, few-locals _ (walking-placed (x .walk) l f .room)) in
         let small : lineAt t p .kind ≡ Var → s .count < 12 =
         λ k. omega (arith, x .shows .count, n, one-local (x .names) (lineAt t p) k) in
         record { value = small; line = λ k. omega (arith, small k, x .shows .few, x .shows .bytes .size) }
@@ -206,11 +209,12 @@ module _ {t b : List ℕ} {a : ℕ} {o : List ℕ} {p : ℕ} {s : Shown} {o′ :
     pub showing-on : {r : Shown} {o″ : List ℕ} → Goes a b (lineAt t p) o′ s o″ r → Showing t b a o (e + 1) r o″
     unfolding locals
     showing-on g =
-        let w = x .walk in
         record {
-          walk = walk-on w l f;
+          place = placeAfter (lineAt t p .kind) (x .place);
+          above = suc (x .above);
+          walk = walking-on (x .walk) l f;
           names = localsBy (x .names) (lineAt t p);
           shows = g .on o (x .names) (x .shows);
-          counted = locals-counted (x .names) (lineAt t p) (w .place) (x .counted) ∙ ap (λ (q : Place). q .locals) (sym (walk-place w l f));
-          rest = sym (ap (locals (x .names)) (walk-lines w l f)) ∙ x .rest;
+          counted = locals-counted (x .names) (lineAt t p) (x .place) (x .counted);
+          rest = sym (ap (locals (x .names)) (walking-lines (x .walk) l f)) ∙ x .rest;
         }

@@ -2,7 +2,7 @@
 use Prim.Native.Nat.{_-_, _≤_}
 use native.Mathlib.Omega.{arith}
 use lib.ListN.{length}
-use Rattle.printer.proofs.Walk.{walk-clean, walk-formed}
+use Rattle.declare.proofs.Walks.{walking-clean, walking-formed}
 use Rattle.printer.proofs.Variables.{Showing, showing-first, showing-done, showing-room, showing-on}
 use Rattle.printer.proofs.show_variables.Statement.{statement}
 use Rattle.printer.proofs.show_variables.Tie as tie
@@ -28,15 +28,15 @@ show-line-requires c κs =
     let x = c .before .before .before .loop .inv .1 in
     let l = c .before .before .loop-test .taken in
     let f = c .before .find .ensures in
-    (omega arith, p .1, walk-formed (x .walk) l f, showing-room x l f (p .0))
+    (omega arith, p .1, walking-formed (x .walk) l f, showing-room x l f (p .0))
 
 add-at : tie.Need-add-at Inv-loop μ-loop
 add-at c =
-    omega (arith, walk-clean (c .before .before .before .before .before .before .loop .inv .1 .walk) (c .before .before .before .before .before .loop-test .taken) (c .before .before .before .before .find .ensures) .high)
+    omega (arith, walking-clean (c .before .before .before .before .before .before .loop .inv .1 .walk) (c .before .before .before .before .before .loop-test .taken) (c .before .before .before .before .find .ensures) .high)
 
 loop-less : tie.Need-loop-less Inv-loop μ-loop
 loop-less c =
-    let y = walk-clean (c .before .before .before .before .before .before .loop .inv .1 .walk) (c .before .before .before .before .before .loop-test .taken) (c .before .before .before .before .find .ensures) in
+    let y = walking-clean (c .before .before .before .before .before .before .loop .inv .1 .walk) (c .before .before .before .before .before .loop-test .taken) (c .before .before .before .before .find .ensures) in
     omega (arith, y .low, y .high)
 
 loop-again : tie.Need-loop-again Inv-loop μ-loop
@@ -44,7 +44,7 @@ loop-again c =
     let x = c .before .before .before .before .before .before .loop .inv .1 in
     let l = c .before .before .before .before .before .loop-test .taken in
     let f = c .before .before .before .before .find .ensures in
-    (omega (arith, walk-clean (x .walk) l f .high), showing-on x l f (c .before .before .show-line .ensures))
+    (omega (arith, walking-clean (x .walk) l f .high), showing-on x l f (c .before .before .show-line .ensures))
 
 same-length : tie.Need-same-length Inv-loop μ-loop
 same-length c =
