@@ -7,8 +7,8 @@ use mathlib.Core.Logic.{_⊎_, inl, inr, ⊎-elim}
 use Prim.Native.Nat.{ℕ, zero, suc, _+_, _*_, _≤_, _<_}
 use native.Mathlib.Omega.{arith}
 use lib.Dec.{eqb}
-use lib.ListN.{length, getD, set, replicate, length-replicate}
-use borrow.Author.Tests.{eq-eqb, ne-eqb}
+use lib.ListN.{getD, replicate}
+use borrow.Author.Tests.{ne-eqb, eqb-true, eqb-false}
 use Rattle.rules.specs.Base.{any, first, keep, mapOption, bindOption}
 use Rattle.rules.specs.Syntax as Syntax
 use Rattle.rules.specs.Syntax.{var, path}
@@ -17,16 +17,15 @@ use Rattle.rules.specs.State.{Permission, Fact, Equality, equalIn, equalBy, rep
 use Rattle.links.specs.Keys.{termOf}
 use Rattle.links.specs.Listing.{listed}
 use Rattle.links.specs.Links.{factOf}
-use Rattle.links.proofs.Listing.{any-append, first-here, first-found, or-false}
-use Rattle.knowledge.specs.declared.State.{State}
-use Rattle.knowledge.specs.States.{Wf, stateOf, factAt, factsOf, permissionAt, permissionsOf, kept, gone}
-use Rattle.knowledge.specs.Questions.{places}
-use Rattle.knowledge.specs.Answers.{Becomes, Taken, Rebuilt, Packed, Flags, renamedKey, renamedVariable, renamedFact, renamedPermission, mentionsKey, factMentions, pathOut, pathOutAt, keyOut, factNames, withoutPath, standsFor, variableOr}
-use Rattle.knowledge.proofs.Searches.{any-same, any-false}
-use Rattle.knowledge.proofs.Entries.{no-flags, first-none}
-use Rattle.knowledge.proofs.Renaming.{renamed-same, renamed-term, gone-term}
-use Rattle.knowledge.proofs.Keeping.{kept-same, kept-all, kept-keep, kept-map, gone-any}
-use Rattle.knowledge.proofs.Splits.{gone-set}
+use Rattle.links.proofs.Keys.{same-key}
+use Rattle.links.proofs.Listing.{any-found, listed-same, or-false}
+use Rattle.known.specs.States.{Wf, stateOf, facts, entries, factAt, factsOf, factsIn, variableAt, fieldAt, permissionAt, permissionsOf}
+use Rattle.known.specs.Questions.{places}
+use Rattle.knowledge.specs.Answers.{Becomes, Taken, Rebuilt, Packed, Flags, renamedKey, renamedVariable, renamedFact, renamedPermission, mentionsKey, factMentions, pathOut, pathOutAt, keyOut, factHas, factNames, flagged, withoutPath, kept, gone}
+use Rattle.known.proofs.Searches.{any-same, any-false}
+use Rattle.known.proofs.Entries.{no-flags}
+use Rattle.knowledge.proofs.Renaming.{renamed-same, renamed-silent, renamed-term, gone-term}
+use Rattle.knowledge.proofs.Keeping.{kept-same, kept-all, kept-keep, kept-map, gone-any, entries-same, packed-wf, packed-facts}
 
 -- NOTHING RENAMED
 same-variable : (v : ℕ) → renamedVariable 0 0 v ≡ v
@@ -34,25 +33,75 @@ unfolding renamedVariable
 same-variable zero = refl
 same-variable (suc v) = rw (ne-eqb (suc v) 0 (omega arith))
 
-same-fact : (s : State) (i : ℕ) → renamedFact (s .key) (s .apart) 0 0 i ≡ factAt (s .key) (s .apart) i
-same-fact s i = rw (renamed-same 0 (getD (s .key) (16 + 2 * i) 0), renamed-same 0 (getD (s .key) (17 + 2 * i) 0))
+same-fact : (key b : List ℕ) (i : ℕ) → renamedFact key b 0 0 i ≡ factAt key b i
+same-fact key b i = rw (renamed-same 0 (getD key (16 + 2 * i) 0), renamed-same 0 (getD key (17 + 2 * i) 0))
 
-same-entry : (s : State) (i : ℕ) → renamedPermission (s .variable) (s .field) 0 0 i ≡ permissionAt (s .variable) (s .field) i
-same-entry s i = rw (same-variable (getD (s .variable) i 0))
+same-entry : (b : List ℕ) (i : ℕ) → renamedPermission b 0 0 i ≡ permissionAt b i
+same-entry b i = rw (same-variable (variableAt b i))
 
-kept-facts : (s : State) (dead : List Bool) → kept dead (renamedFact (s .key) (s .apart) 0 0) (s .facts) ≡ kept dead (factAt (s .key) (s .apart)) (s .facts)
-kept-facts s dead = kept-same dead dead _ _ (s .facts) (λ i h. refl) (λ i h. same-fact s i)
+kept-facts : (key b : List ℕ) (dead : List Bool) → kept dead (renamedFact key b 0 0) (facts b) ≡ kept dead (factAt key b) (facts b)
+kept-facts key b dead = kept-same dead dead _ _ (facts b) (λ i h. refl) (λ i h. same-fact key b i)
 
-kept-entries : (s : State) (out : List Bool) → kept out (renamedPermission (s .variable) (s .field) 0 0) (s .permissions) ≡ kept out (permissionAt (s .variable) (s .field)) (s .permissions)
-kept-entries s out = kept-same out out _ _ (s .permissions) (λ i h. refl) (λ i h. same-entry s i)
+kept-entries : (b : List ℕ) (out : List Bool) → kept out (renamedPermission b 0 0) (entries b) ≡ kept out (permissionAt b) (entries b)
+kept-entries b out = kept-same out out _ _ (entries b) (λ i h. refl) (λ i h. same-entry b i)
 
--- facts and entries, one after the other
-module _ (s t r : State) (dead out : List Bool) (x to : ℕ) (R : Rebuilt s dead x to t) (P : Packed t out x to r) where
-  pub both-facts : factsOf r ≡ kept dead (renamedFact (s .key) (s .apart) x to) (s .facts)
-  both-facts = P .facts ∙ R .facts
+-- NOTHING OUT
+none-flagged : (out : List Bool) (n : ℕ) → false ≡ flagged out n → (i : ℕ) → i < n → getD out i false ≡ false
+none-flagged out n e i h = go (getD out i false) refl
+  where
+    go : (c : Bool) → getD out i false ≡ c → c ≡ false
+    go true d = absurd (let f : true ≡ false = sym (any-found (λ i. getD out i false) (λ i. i) n i h d) ∙ sym e in let z : _≡_ {A = ℕ} 0 1 = cc in omega arith)
+    go false d = refl
 
-  pub both-entries : permissionsOf r ≡ kept out (renamedPermission (s .variable) (s .field) x to) (s .permissions)
-  both-entries = P .entries ∙ rw (R .variables, R .fields, R .count)
+-- the facts stay as they are
+unchanged : (key b : List ℕ) (out : List Bool) (x to : ℕ) → Wf key b → ((i : ℕ) → i < facts b → getD out i false ≡ false) → ((i : ℕ) → i < facts b → renamedFact key b x to i ≡ factAt key b i) → Rebuilt key b out x to key b
+unchanged key b out x to w h e =
+    record { wf = w; facts = sym (kept-all out (renamedFact key b x to) (facts b) h ∙ listed-same _ _ (facts b) e); rest = λ i g s. refl }
+
+pub nothing-dropped : (key b : List ℕ) (out : List Bool) → Wf key b → false ≡ flagged out (facts b) → Rebuilt key b out 0 0 key b
+nothing-dropped key b out w e = unchanged key b out 0 0 w (none-flagged out (facts b) e) (λ i h. same-fact key b i)
+
+-- no fact names x
+pub nothing-renamed :
+    (key b : List ℕ) (named : List Bool) (x to : ℕ) → Wf key b → Flags (factMentions key x) (facts b) named → false ≡ flagged named (facts b) →
+    (out : List Bool) → ((i : ℕ) → getD out i false ≡ false) → Rebuilt key b out x to key b
+nothing-renamed key b named x to w F e out h = unchanged key b out x to w (λ i g. h i) fact-as
+  where
+    silent : (a c : Bool) → (a || c) ≡ false → (a ≡ false) × (c ≡ false)
+    silent true c d = absurd (let z : _≡_ {A = ℕ} 0 1 = cc in omega arith)
+    silent false c d = (refl, d)
+
+    fact-as : (i : ℕ) → i < facts b → renamedFact key b x to i ≡ factAt key b i
+    fact-as i g =
+        let s = silent (mentionsKey x (getD key (16 + 2 * i) 0)) (mentionsKey x (getD key (17 + 2 * i) 0)) (sym (F .at i g) ∙ none-flagged named (facts b) e i g) in
+        rw (renamed-silent x to (getD key (16 + 2 * i) 0) (s .0), renamed-silent x to (getD key (17 + 2 * i) 0) (s .1))
+
+-- flags that are not set, whatever list they stand in
+pub rebuilt-unflagged :
+    (key b : List ℕ) (x to : ℕ) (key′ b′ : List ℕ) → Rebuilt key b (replicate 64 false) x to key′ b′ → (out : List Bool) → ((i : ℕ) → getD out i false ≡ false) →
+    Rebuilt key b out x to key′ b′
+rebuilt-unflagged key b x to key′ b′ R out h =
+    record { wf = R .wf; facts = R .facts ∙ kept-same _ _ _ _ (facts b) (λ i g. no-flags 64 i ∙ sym (h i)) (λ i g. refl); rest = R .rest }
+
+-- FACTS AND ENTRIES, one after the other
+module _ (key b key₁ b₁ b₂ : List ℕ) (dead out : List Bool) (x to : ℕ) (w : Wf key b) (R : Rebuilt key b dead x to key₁ b₁) (P : Packed b₁ out x to b₂) where
+  count : entries b₁ ≡ entries b
+  count = R .rest 337 (omega arith) (omega arith)
+
+  as-before : (i : ℕ) → i < entries b → permissionAt b₁ i ≡ permissionAt b i
+  as-before = entries-same b b₁ (entries b) (w .fit) (λ i g h. R .rest i g (omega arith))
+
+  renamed-as : (i : ℕ) → i < entries b → renamedPermission b₁ x to i ≡ renamedPermission b x to i
+  renamed-as i h = ap (λ (p : Permission). record { variable = renamedVariable x to (p .variable); field = p .field }) (as-before i h)
+
+  pub both-facts : factsOf key₁ b₂ ≡ kept dead (renamedFact key b x to) (facts b)
+  both-facts = packed-facts key₁ b₁ b₂ out x to (R .wf) P ∙ R .facts
+
+  pub both-entries : permissionsOf b₂ ≡ kept out (renamedPermission b x to) (entries b)
+  both-entries = P .entries ∙ ap (kept out (renamedPermission b₁ x to)) count ∙ kept-same out out _ _ (entries b) (λ i h. refl) renamed-as
+
+  pub both-wf : Wf key₁ b₂
+  both-wf = packed-wf key₁ b₁ b₂ out x to (R .wf) P
 
 -- WITHOUT PATHS
 any-or : {A : Type 0} (p q : A → Bool) (l : List A) → any (λ a. p a || q a) l ≡ (any p l || any q l)
@@ -67,128 +116,114 @@ any-or p q (a ∷ l) = ap (λ (b : Bool). (p a || q a) || b) (any-or p q l) ∙ 
     mix false false true d = refl
     mix false false false d = refl
 
-module _ (s : State) (out : List Bool) (ps : List Permission)
-    (used : (q : Permission → Bool) → any q ps ≡ any q (gone out (permissionAt (s .variable) (s .field)) (s .permissions))) where
-  key-named : (k : ℕ) → any (λ p. Syntax.same (pathOf p) (termOf k)) ps ≡ keyOut s out k
-  unfolding pathOut pathOf
-  key-named k =
-      used (λ p. Syntax.same (pathOf p) (termOf k)) ∙ gone-any _ out (permissionAt (s .variable) (s .field)) (s .permissions)
+-- the facts that are left, by a test of each
+left-by :
+    (key b : List ℕ) (ps : List Permission) (test : ℕ → Bool) (dead : List Bool) → ((i : ℕ) → namesPath ps (factAt key b i) ≡ test i) →
+    Flags test (facts b) dead → kept dead (renamedFact key b 0 0) (facts b) ≡ withoutPaths ps (factsOf key b)
+unfolding withoutPaths
+left-by key b ps test dead e F =
+    kept-facts key b dead ∙ sym (kept-keep (λ f. not (namesPath ps f)) dead (factAt key b) (facts b) (λ i h. ap not (e i ∙ sym (F .at i h))))
 
-  fact-named : (i : ℕ) → namesPath ps (factAt (s .key) (s .apart) i) ≡ factNames s out i
+module _ (key b : List ℕ) (out : List Bool) (ps : List Permission) (used : (q : Permission → Bool) → any q ps ≡ any q (gone out (permissionAt b) (entries b))) where
+  key-named : (k : ℕ) → any (λ p. Syntax.same (pathOf p) (termOf k)) ps ≡ keyOut b out k
+  unfolding pathOut pathOf
+  key-named k = used (λ p. Syntax.same (pathOf p) (termOf k)) ∙ gone-any _ out (permissionAt b) (entries b)
+
+  fact-named : (i : ℕ) → namesPath ps (factAt key b i) ≡ factNames key b out i
   unfolding namesPath
   fact-named i =
-      any-or (λ p. Syntax.same (pathOf p) (termOf (getD (s .key) (16 + 2 * i) 0))) (λ p. Syntax.same (pathOf p) (termOf (getD (s .key) (17 + 2 * i) 0))) ps
-      ∙ ap₂ (λ (a b : Bool). a || b) (key-named (getD (s .key) (16 + 2 * i) 0)) (key-named (getD (s .key) (17 + 2 * i) 0))
-
-  pub facts-left : (dead : List Bool) → Flags (factNames s out) (s .facts) dead → kept dead (renamedFact (s .key) (s .apart) 0 0) (s .facts) ≡ withoutPaths ps (factsOf s)
-  unfolding withoutPaths
-  facts-left dead F =
-      kept-facts s dead
-      ∙ sym (kept-keep (λ f. not (namesPath ps f)) dead (factAt (s .key) (s .apart)) (s .facts) (λ i h. ap not (fact-named i ∙ sym (F .at i h))))
+      any-or (λ p. Syntax.same (pathOf p) (termOf (getD key (16 + 2 * i) 0))) (λ p. Syntax.same (pathOf p) (termOf (getD key (17 + 2 * i) 0))) ps
+      ∙ ap₂ (λ (a b : Bool). a || b) (key-named (getD key (16 + 2 * i) 0)) (key-named (getD key (17 + 2 * i) 0))
 
 pub remainder-law :
-    (s t r : State) (dead out : List Bool) → Flags (factNames s out) (s .facts) dead → Rebuilt s dead 0 0 t → Packed t out 0 0 r →
-    (c : Rules.Shown) → Taken s out c → Becomes (Rules.remainder (stateOf s) c) r
+    (key b key₁ b₁ b₂ : List ℕ) (dead out : List Bool) → Wf key b → Flags (factNames key b out) (facts b) dead → Rebuilt key b dead 0 0 key₁ b₁ →
+    Packed b₁ out 0 0 b₂ → (c : Rules.Shown) → Taken b out c → Becomes (Rules.remainder (stateOf key b) c) key₁ b₂
 unfolding Rules.remainder
-remainder-law s t r dead out F R P c T =
+remainder-law key b key₁ b₁ b₂ dead out w F R P c T =
     record {
-      wf = P .wf;
+      wf = both-wf key b key₁ b₁ b₂ dead out 0 0 w R P;
       same = ap₂ (λ (ps : List Permission) (fs : List Fact). record { permissions = ps; facts = fs })
-          (both-entries s t r dead out 0 0 R P ∙ kept-entries s out ∙ sym (T .rest))
-          (both-facts s t r dead out 0 0 R P ∙ facts-left s out (c .consumed) (T .used) dead F);
+          (both-entries key b key₁ b₁ b₂ dead out 0 0 w R P ∙ kept-entries b out ∙ sym (T .rest))
+          (both-facts key b key₁ b₁ b₂ dead out 0 0 w R P ∙ left-by key b (c .consumed) _ dead (fact-named key b out (c .consumed) (T .used)) F);
     }
 
 pub path-law :
-    (s r : State) (dead : List Bool) (i : ℕ) → Wf s → i < s .permissions → Flags (factNames s (set (replicate 64 false) i true)) (s .facts) dead →
-    Rebuilt s dead 0 0 r → Becomes (withoutPath s i) r
-unfolding any
-path-law s r dead i w h F R =
+    (key b key′ b′ : List ℕ) (dead : List Bool) (i k : ℕ) → Wf key b → termOf k ≡ path (variableAt b i) (fieldAt b i) → Flags (factHas key k) (facts b) dead →
+    Rebuilt key b dead 0 0 key′ b′ → Becomes (withoutPath key b i) key′ b′
+unfolding pathOf namesPath any
+path-law key b key′ b′ dead i k w e F R =
     record {
       wf = R .wf;
-      same = ap₂ (λ (ps : List Permission) (fs : List Fact). record { permissions = ps; facts = fs }) (R .entries)
-          (R .facts ∙ facts-left s (set (replicate 64 false) i true) (permissionAt (s .variable) (s .field) i ∷ []) only dead F);
+      same = ap₂ (λ (ps : List Permission) (fs : List Fact). record { permissions = ps; facts = fs })
+          (ap (λ (n : ℕ). listed (permissionAt b′) n) (R .rest 337 (omega arith) (omega arith)) ∙ listed-same _ _ (entries b) (entries-same b b′ (entries b) (w .fit) (λ i g h. R .rest i g (omega arith))))
+          (R .facts ∙ left-by key b (permissionAt b i ∷ []) _ dead only F);
     }
   where
-    nothing : (q : Permission → Bool) → any q (gone (replicate 64 false) (permissionAt (s .variable) (s .field)) (s .permissions)) ≡ false
-    nothing q =
-        gone-any q (replicate 64 false) (permissionAt (s .variable) (s .field)) (s .permissions)
-        ∙ any-false (λ j. getD (replicate 64 false) j false && q (permissionAt (s .variable) (s .field) j)) (listed (λ i. i) (s .permissions)) (λ j. ap (λ (b : Bool). b && q (permissionAt (s .variable) (s .field) j)) (no-flags 64 j))
+    is : (l : ℕ) → Syntax.same (pathOf (permissionAt b i)) (termOf l) ≡ eqb l k
+    is l = ap (λ (t : Rules.Term). Syntax.same t (termOf l)) (sym e) ∙ same-key k l ∙ flip (eqb k l) (eqb l k) refl refl
+      where
+        flip : (a c : Bool) → eqb k l ≡ a → eqb l k ≡ c → a ≡ c
+        flip true true p q = refl
+        flip true false p q = absurd (eqb-false l k q (sym (eqb-true k l p)))
+        flip false true p q = absurd (eqb-false k l p (sym (eqb-true l k q)))
+        flip false false p q = refl
 
-    only : (q : Permission → Bool) → any q (permissionAt (s .variable) (s .field) i ∷ []) ≡ any q (gone (set (replicate 64 false) i true) (permissionAt (s .variable) (s .field)) (s .permissions))
-    only q =
-        sym (gone-set q (replicate 64 false) (permissionAt (s .variable) (s .field)) (s .permissions) i h (rw (length-replicate 64 false) (omega (arith, w .fit))) (no-flags 64 i)
-        ∙ ap (λ (b : Bool). q (permissionAt (s .variable) (s .field) i) || b) (nothing q))
+    only : (j : ℕ) → namesPath (permissionAt b i ∷ []) (factAt key b j) ≡ factHas key k j
+    only j = or-false _ ∙ ap₂ (λ (a c : Bool). a || c) (is (getD key (16 + 2 * j) 0)) (is (getD key (17 + 2 * j) 0))
 
 -- REMOVED
-module _ (s t r : State) (x : ℕ) (h : x < 256) where
-  module _ (dead out : List Bool) (F : Flags (factMentions (s .key) x) (s .facts) dead) (G : Flags (λ i. eqb (getD (s .variable) i 0) x) (s .permissions) out) (R : Rebuilt s dead 0 0 t) (P : Packed t out 0 0 r) where
-    fact-gone : (i : ℕ) → renameFact x none (factAt (s .key) (s .apart) i) ≡ cond (factMentions (s .key) x i) none (some (factAt (s .key) (s .apart) i))
+module _ (key b key₁ b₁ b₂ : List ℕ) (x : ℕ) (h : x < 256) (w : Wf key b) where
+  module _ (dead out : List Bool) (F : Flags (factMentions key x) (facts b) dead) (G : Flags (λ i. eqb (variableAt b i) x) (entries b) out) (R : Rebuilt key b dead 0 0 key₁ b₁) (P : Packed b₁ out 0 0 b₂) where
+    fact-gone : (i : ℕ) → renameFact x none (factAt key b i) ≡ cond (factMentions key x i) none (some (factAt key b i))
     unfolding renameFact bindOption
-    fact-gone i = rw (gone-term x h (getD (s .key) (16 + 2 * i) 0), gone-term x h (getD (s .key) (17 + 2 * i) 0)) (go (mentionsKey x (getD (s .key) (16 + 2 * i) 0)) (mentionsKey x (getD (s .key) (17 + 2 * i) 0)))
+    fact-gone i = rw (gone-term x h (getD key (16 + 2 * i) 0), gone-term x h (getD key (17 + 2 * i) 0)) (go (mentionsKey x (getD key (16 + 2 * i) 0)) (mentionsKey x (getD key (17 + 2 * i) 0)))
       where
-        go : (a b : Bool) → bindOption (cond a none (some (termOf (getD (s .key) (16 + 2 * i) 0)))) (λ l. bindOption (cond b none (some (termOf (getD (s .key) (17 + 2 * i) 0)))) (λ m. some (record { rel = factAt (s .key) (s .apart) i .rel; left = l; right = m }))) ≡ cond (a || b) none (some (factAt (s .key) (s .apart) i))
-        go true b = refl
+        go : (a c : Bool) → bindOption (cond a none (some (termOf (getD key (16 + 2 * i) 0)))) (λ l. bindOption (cond c none (some (termOf (getD key (17 + 2 * i) 0)))) (λ m. some (record { rel = factAt key b i .rel; left = l; right = m }))) ≡ cond (a || c) none (some (factAt key b i))
+        go true c = refl
         go false true = refl
         go false false = refl
 
-    entry-gone : (i : ℕ) → renamePermission x none (permissionAt (s .variable) (s .field) i) ≡ cond (eqb (getD (s .variable) i 0) x) none (some (permissionAt (s .variable) (s .field) i))
+    entry-gone : (i : ℕ) → renamePermission x none (permissionAt b i) ≡ cond (eqb (variableAt b i) x) none (some (permissionAt b i))
     unfolding renamePermission renameVariable bindOption
-    entry-gone i = go (eqb (getD (s .variable) i 0) x)
+    entry-gone i = go (eqb (variableAt b i) x)
       where
-        go : (c : Bool) → bindOption (cond c none (some (getD (s .variable) i 0))) (λ w. some (record { variable = w; field = getD (s .field) i 0 })) ≡ cond c none (some (permissionAt (s .variable) (s .field) i))
+        go : (c : Bool) → bindOption (cond c none (some (variableAt b i))) (λ w. some (record { variable = w; field = fieldAt b i })) ≡ cond c none (some (permissionAt b i))
         go true = refl
         go false = refl
 
-    pub forget-law : Becomes (Rules.removeTo x none (stateOf s)) r
+    pub forget-law : Becomes (Rules.removeTo x none (stateOf key b)) key₁ b₂
     unfolding Rules.removeTo
     forget-law =
         record {
-          wf = P .wf;
+          wf = both-wf key b key₁ b₁ b₂ dead out 0 0 w R P;
           same = ap₂ (λ (ps : List Permission) (fs : List Fact). record { permissions = ps; facts = fs })
-              (both-entries s t r dead out 0 0 R P ∙ kept-entries s out
-              ∙ sym (kept-map (renamePermission x none) out (permissionAt (s .variable) (s .field)) (permissionAt (s .variable) (s .field)) (s .permissions) (λ i g. entry-gone i ∙ ap (λ (c : Bool). cond c none (some (permissionAt (s .variable) (s .field) i))) (sym (G .at i g)))))
-              (both-facts s t r dead out 0 0 R P ∙ kept-facts s dead
-              ∙ sym (kept-map (renameFact x none) dead (factAt (s .key) (s .apart)) (factAt (s .key) (s .apart)) (s .facts) (λ i g. fact-gone i ∙ ap (λ (c : Bool). cond c none (some (factAt (s .key) (s .apart) i))) (sym (F .at i g)))));
+              (both-entries key b key₁ b₁ b₂ dead out 0 0 w R P ∙ kept-entries b out
+              ∙ sym (kept-map (renamePermission x none) out (permissionAt b) (permissionAt b) (entries b) (λ i g. entry-gone i ∙ ap (λ (c : Bool). cond c none (some (permissionAt b i))) (sym (G .at i g)))))
+              (both-facts key b key₁ b₁ b₂ dead out 0 0 w R P ∙ kept-facts key b dead
+              ∙ sym (kept-map (renameFact x none) dead (factAt key b) (factAt key b) (facts b) (λ i g. fact-gone i ∙ ap (λ (c : Bool). cond c none (some (factAt key b i))) (sym (F .at i g)))));
         }
 
-  module _ (to : ℕ) (g : to < 256) (R : Rebuilt s (replicate 64 false) x to t) (P : Packed t (replicate 64 false) x to r) where
-    fact-new : (i : ℕ) → renameFact x (some to) (factAt (s .key) (s .apart) i) ≡ some (renamedFact (s .key) (s .apart) x to i)
+  module _ (to : ℕ) (g : to < 256) (R : Rebuilt key b (replicate 64 false) x to key₁ b₁) (P : Packed b₁ (replicate 64 false) x to b₂) where
+    fact-new : (i : ℕ) → renameFact x (some to) (factAt key b i) ≡ some (renamedFact key b x to i)
     unfolding renameFact bindOption
-    fact-new i = rw (renamed-term x h to g (getD (s .key) (16 + 2 * i) 0), renamed-term x h to g (getD (s .key) (17 + 2 * i) 0))
+    fact-new i = rw (renamed-term x h to g (getD key (16 + 2 * i) 0), renamed-term x h to g (getD key (17 + 2 * i) 0))
 
-    entry-new : (i : ℕ) → renamePermission x (some to) (permissionAt (s .variable) (s .field) i) ≡ some (renamedPermission (s .variable) (s .field) x to i)
+    entry-new : (i : ℕ) → renamePermission x (some to) (permissionAt b i) ≡ some (renamedPermission b x to i)
     unfolding renamePermission renameVariable renamedVariable bindOption
-    entry-new i = go (eqb (getD (s .variable) i 0) x)
+    entry-new i = go (eqb (variableAt b i) x)
       where
-        go : (c : Bool) → bindOption {B = Permission} (cond c (some to) (some (getD (s .variable) i 0))) (λ w. some (record { variable = w; field = getD (s .field) i 0 })) ≡ some (record { variable = cond c to (getD (s .variable) i 0); field = getD (s .field) i 0 })
+        go : (c : Bool) → bindOption {B = Permission} (cond c (some to) (some (variableAt b i))) (λ w. some (record { variable = w; field = fieldAt b i })) ≡ some (record { variable = cond c to (variableAt b i); field = fieldAt b i })
         go true = refl
         go false = refl
 
-    pub replace-law : Becomes (Rules.removeTo x (some to) (stateOf s)) r
+    pub replace-law : Becomes (Rules.removeTo x (some to) (stateOf key b)) key₁ b₂
     unfolding Rules.removeTo
     replace-law =
         record {
-          wf = P .wf;
+          wf = both-wf key b key₁ b₁ b₂ _ _ x to w R P;
           same = ap₂ (λ (ps : List Permission) (fs : List Fact). record { permissions = ps; facts = fs })
-              (both-entries s t r (replicate 64 false) (replicate 64 false) x to R P
-              ∙ sym (kept-map (renamePermission x (some to)) (replicate 64 false) (permissionAt (s .variable) (s .field)) (renamedPermission (s .variable) (s .field) x to) (s .permissions) (λ i k. entry-new i ∙ ap (λ (c : Bool). cond c none (some (renamedPermission (s .variable) (s .field) x to i))) (sym (no-flags 64 i)))))
-              (both-facts s t r (replicate 64 false) (replicate 64 false) x to R P
-              ∙ sym (kept-map (renameFact x (some to)) (replicate 64 false) (factAt (s .key) (s .apart)) (renamedFact (s .key) (s .apart) x to) (s .facts) (λ i k. fact-new i ∙ ap (λ (c : Bool). cond c none (some (renamedFact (s .key) (s .apart) x to i))) (sym (no-flags 64 i)))));
+              (both-entries key b key₁ b₁ b₂ (replicate 64 false) (replicate 64 false) x to w R P
+              ∙ sym (kept-map (renamePermission x (some to)) (replicate 64 false) (permissionAt b) (renamedPermission b x to) (entries b) (λ i k. entry-new i ∙ ap (λ (c : Bool). cond c none (some (renamedPermission b x to i))) (sym (no-flags 64 i)))))
+              (both-facts key b key₁ b₁ b₂ (replicate 64 false) (replicate 64 false) x to w R P
+              ∙ sym (kept-map (renameFact x (some to)) (replicate 64 false) (factAt key b) (renamedFact key b x to) (facts b) (λ i k. fact-new i ∙ ap (λ (c : Bool). cond c none (some (renamedFact key b x to i))) (sym (no-flags 64 i)))));
         }
-
--- THE SUCCESSOR
-module _ (s : State) (x v : ℕ) (before : (j : ℕ) → j < v → standsFor (equalBy (representative (factsOf s))) x j ≡ false) where
-  none-before : first (standsFor (equalBy (representative (factsOf s))) x) (listed (λ i. i) v) ≡ none
-  none-before = first-none _ (λ i. i) v before
-
-  pub successor-none : v ≡ 15 → none ≡ Rules.successor (stateOf s) x
-  unfolding Rules.successor standsFor listed equalIn
-  successor-none e = sym (rw e at none-before)
-
-  pub successor-found : v < 15 → standsFor (equalBy (representative (factsOf s))) x v ≡ true → some v ≡ Rules.successor (stateOf s) x
-  unfolding Rules.successor standsFor listed equalIn
-  successor-found h e = sym (first-found (standsFor (equalBy (representative (factsOf s))) x) (λ i. i) 15 v h (first-here (standsFor (equalBy (representative (factsOf s))) x) (λ i. i) v none-before e))
-
-pub a-variable : (v : ℕ) → v < 15 → variableOr v ≡ some v
-unfolding variableOr
-a-variable v h = rw (ne-eqb v 255 (omega arith))

@@ -68,6 +68,16 @@ module _ (x to k : ℕ) where
   mentions-past n h = rw (ne-eqb k x n, le-leb (257 + x * 256) k h)
 
 -- the same variable
+-- a key that does not name x stays
+pub renamed-silent : (x to k : ℕ) → mentionsKey x k ≡ false → renamedKey x to k ≡ k
+unfolding mentionsKey renamedKey
+renamed-silent x to k e = go (eqb k x) (leb (257 + x * 256) k && ltb (k - (257 + x * 256)) 256) e
+  where
+    go : (a b : Bool) → (a || b) ≡ false → cond a to (cond b (257 + to * 256 + (k - (257 + x * 256))) k) ≡ k
+    go true b d = absurd (let z : _≡_ {A = ℕ} 0 1 = cc in omega arith)
+    go false true d = absurd (let z : _≡_ {A = ℕ} 0 1 = cc in omega arith)
+    go false false d = refl
+
 pub renamed-same : (x k : ℕ) → renamedKey x x k ≡ k
 unfolding renamedKey
 renamed-same x k = ⊎-elim (λ e. renamed-variable x x k e ∙ sym e) other (decide-eq k x)

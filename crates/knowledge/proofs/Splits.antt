@@ -13,9 +13,9 @@ use Rattle.rules.specs.State.{Permission, Split, split}
 use Rattle.rules.proofs.Lists.{decide-eq}
 use Rattle.links.specs.Listing.{listed}
 use Rattle.links.proofs.Listing.{any-append}
-use Rattle.knowledge.specs.States.{kept, gone}
-use Rattle.knowledge.specs.Questions.{places}
-use Rattle.knowledge.proofs.Searches.{any-same}
+use Rattle.knowledge.specs.Answers.{kept, gone}
+use Rattle.known.specs.Questions.{places}
+use Rattle.known.proofs.Searches.{any-same}
 use Rattle.knowledge.proofs.Keeping.{gone-any, kept-same}
 
 abbrev ahead : List Permission → Split → Split

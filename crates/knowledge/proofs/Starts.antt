@@ -1,12 +1,13 @@
 -- The state that knows nothing.
-use mathlib.Core.Path.{_≡_, refl, sym, ap, _∙_}
+use mathlib.Core.Path.{_≡_, refl, sym, ap, ap₂, _∙_, subst}
 use mathlib.Core.Bool.{Bool, true, false}
 use mathlib.Core.List.{List, [], _∷_}
 use mathlib.Core.Logic.{_⊎_, inl, inr, ⊎-elim}
 use Prim.Native.Nat.{ℕ, zero, suc, _+_, _*_, _≤_, _<_}
 use native.Mathlib.Omega.{arith}
 use lib.Dec.{T, eqb, eqb→eq}
-use lib.ListN.{length, getD}
+use lib.ListN.{length, getD, set, length-set}
+use lib.Seq.{getD-set-same, getD-set-other}
 use Rattle.rules.specs.State.{Fact, representative}
 use Rattle.rules.proofs.Lists.{decide-eq, and-both}
 use mathlib.Core.Bool.{_&&_}
@@ -14,7 +15,9 @@ use Rattle.links.specs.Keys.{termOf}
 use Rattle.links.specs.Listing.{listed}
 use Rattle.links.specs.Links.{Header, Decides, termAt}
 use Rattle.links.proofs.Keys.{one-key}
-use Rattle.knowledge.specs.States.{factsIn, Linked}
+use Rattle.rules.specs.State as Rules
+use Rattle.known.specs.States.{factsIn, permissionsIn, facts, entries, Linked}
+use Rattle.knowledge.specs.Answers.{Becomes, Fresh}
 
 -- a test of each place below n
 abbrev pub below : (ℕ → Bool) → ℕ → Bool
@@ -45,27 +48,34 @@ fresh-decides key label H own =
       linked = λ t u e. inl e;
     }
 
-pub fresh-linked :
-    (key label : List ℕ) (apart : List Bool) → Header key → length label ≡ 144 → length apart ≡ 64 →
-    ((i : ℕ) → i < 16 → getD label i 0 ≡ i) → Linked key label apart 0
+pub fresh-linked : (key b : List ℕ) → Header key → length b ≡ 338 → ((i : ℕ) → i < 16 → getD b i 0 ≡ i) → Linked key b 0
 unfolding listed
-fresh-linked key label apart H l a own =
-    record { header = H; label-size = l; apart-size = a; fit = omega arith; decides = fresh-decides key label H own }
+fresh-linked key b H l own = record { header = H; size = l; fit = omega arith; decides = fresh-decides key b H own }
 
-pub nothing : {A : Type 0} (f : ℕ → A) → listed f 0 ≡ []
-unfolding listed
-nothing f = refl
+-- no facts, no entries
+module _ (key b b′ : List ℕ) (H : Header key) (l : length b ≡ 338) (F : Fresh b b′) where
+  abbrev done : List ℕ
+  done = set (set b′ 336 0) 337 0
+
+  size : length done ≡ 338
+  size = length-set (set b′ 336 0) 337 0 ∙ length-set b′ 336 0 ∙ F .size ∙ l
+
+  at : (i : ℕ) → (i ≡ 336 → ⊥) → (i ≡ 337 → ⊥) → getD done i 0 ≡ getD b′ i 0
+  at i p q = getD-set-other (set b′ 336 0) 337 i 0 0 q ∙ getD-set-other b′ 336 i 0 0 p
+
+  none : facts done ≡ 0
+  none = getD-set-other (set b′ 336 0) 337 336 0 0 (omega arith) ∙ getD-set-same b′ 336 0 0 (omega (arith, F .size))
+
+  last : entries done ≡ 0
+  last = getD-set-same (set b′ 336 0) 337 0 0 (rw (length-set b′ 336 0) (omega (arith, F .size)))
+
+  pub cleared : Becomes Rules.empty key done
+  unfolding listed
+  cleared =
+      record {
+        wf = record { linked = subst (λ (n : ℕ). Linked key done n) (sym none) (fresh-linked key done H size (λ i h. at i (omega arith) (omega arith) ∙ F .own i h)); fit = omega (arith, last) };
+        same = ap₂ (λ (n m : ℕ). record { permissions = permissionsIn done n; facts = factsIn key done m }) last none;
+      }
 
 pub header-by : (key : List ℕ) → length key ≡ 144 → T (below (λ i. eqb (getD key i 0) i) 15) → getD key 15 0 ≡ 256 → Header key
 header-by key l t n = record { size = l; variables = λ i h. eqb→eq _ _ (each (λ i. eqb (getD key i 0) i) 15 t i h); null = n }
-
-pub own-by : (label : List ℕ) → T (below (λ i. eqb (getD label i 0) i) 16) → (i : ℕ) → i < 16 → getD label i 0 ≡ i
-own-by label t i h = eqb→eq _ _ (each (λ i. eqb (getD label i 0) i) 16 t i h)
-
--- the labels of the first slots
-abbrev pub fresh : List ℕ
-fresh =
-    0 ∷ 1 ∷ 2 ∷ 3 ∷ 4 ∷ 5 ∷ 6 ∷ 7 ∷ 8 ∷ 9 ∷ 10 ∷ 11 ∷ 12 ∷ 13 ∷ 14 ∷ 15 ∷ 0 ∷ 0 ∷ 0 ∷ 0 ∷ 0 ∷ 0 ∷ 0 ∷ 0 ∷ 0 ∷ 0 ∷ 0 ∷ 0 ∷ 0 ∷ 0 ∷ 0 ∷ 0 ∷ 0 ∷ 0 ∷ 0 ∷ 0 ∷ 0 ∷ 0 ∷ 0 ∷ 0 ∷ 0 ∷ 0 ∷ 0 ∷ 0 ∷ 0 ∷ 0 ∷ 0 ∷ 0 ∷ 0 ∷ 0 ∷ 0 ∷ 0 ∷ 0 ∷ 0 ∷ 0 ∷ 0 ∷ 0 ∷ 0 ∷ 0 ∷ 0 ∷ 0 ∷ 0 ∷ 0 ∷ 0 ∷ 0 ∷ 0 ∷ 0 ∷ 0 ∷ 0 ∷ 0 ∷ 0 ∷ 0 ∷ 0 ∷ 0 ∷ 0 ∷ 0 ∷ 0 ∷ 0 ∷ 0 ∷ 0 ∷ 0 ∷ 0 ∷ 0 ∷ 0 ∷ 0 ∷ 0 ∷ 0 ∷ 0 ∷ 0 ∷ 0 ∷ 0 ∷ 0 ∷ 0 ∷ 0 ∷ 0 ∷ 0 ∷ 0 ∷ 0 ∷ 0 ∷ 0 ∷ 0 ∷ 0 ∷ 0 ∷ 0 ∷ 0 ∷ 0 ∷ 0 ∷ 0 ∷ 0 ∷ 0 ∷ 0 ∷ 0 ∷ 0 ∷ 0 ∷ 0 ∷ 0 ∷ 0 ∷ 0 ∷ 0 ∷ 0 ∷ 0 ∷ 0 ∷ 0 ∷ 0 ∷ 0 ∷ 0 ∷ 0 ∷ 0 ∷ 0 ∷ 0 ∷ 0 ∷ 0 ∷ 0 ∷ 0 ∷ 0 ∷ 0 ∷ 0 ∷ 0 ∷ 0 ∷ 0 ∷ 0 ∷ 0 ∷ 0 ∷ 0 ∷ []
-
-pub own-fresh : (i : ℕ) → i < 16 → getD fresh i 0 ≡ i
-own-fresh = own-by fresh tt

@@ -29,7 +29,7 @@ assign-rule-requires c κs = search needs
 returns : tie.Need-returns
 unfolding rule meaning
 returns c =
-    subst (λ (t : Try Refusal Rules.State). Adds t (c .assign-rule .result)) (rw (c .before .x-at .ensures .0)) (c .assign-rule .ensures)
+    subst (λ (t : Try Refusal Rules.State). Adds t (c .assign-rule .result) (c .assign-rule .last .0) (c .assign-rule .last .1 .0)) (rw (c .before .before .before .x-at .ensures .0)) (c .assign-rule .ensures)
 
 pub return-at-spec : {M : Type 1} → statement M
 return-at-spec = tie.close (tie.spec x-at-requires cast-x assign-rule-requires returns)

@@ -45,7 +45,7 @@ set-rule-requires c κs = search needs
 returns : tie.Need-returns
 unfolding rule
 returns c =
-    subst (λ (t : Try Refusal Rules.State). Adds t (c .set-rule .result)) (rw (c .before .before .before .x-at .ensures .0, c .before .before .member-at .ensures .0, c .before .y-at .ensures .0)) (c .set-rule .ensures)
+    subst (λ (t : Try Refusal Rules.State). Adds t (c .set-rule .result) (c .set-rule .last .0) (c .set-rule .last .1 .0)) (rw (c .before .before .before .before .before .x-at .ensures .0, c .before .before .before .before .member-at .ensures .0, c .before .before .before .y-at .ensures .0)) (c .set-rule .ensures)
 
 pub set-at-spec : {M : Type 1} → statement M
 set-at-spec =

@@ -1,4 +1,4 @@
-use Prim.Native.Nat.{ℕ, _-_, _≤_, _<_}
+use Prim.Native.Nat.{ℕ, _+_, _-_, _≤_, _<_}
 use Rattle.knowledge.proofs.Keeping.{flags-more}
 use lib.Dec.{eqb}
 use lib.ListN.{length, getD, length-set}
@@ -11,14 +11,17 @@ use Rattle.knowledge.proofs.entries_of.Reads as reads
 use Rattle.knowledge.proofs.entries_of.Lts as lts
 
 abbrev Inv-loop : tie.InvT-loop
-Inv-loop x s count out₀ i₀ out i =
-    (i ≤ count) × (length out ≡ 64) × ((j : ℕ) → j < i → getD out j false ≡ eqb (getD (s .variable) j 0) x)
+Inv-loop b n x out₀ i₀ out i =
+    (i ≤ n) × (length out ≡ 64) × ((j : ℕ) → j < i → getD out j false ≡ eqb (getD b (208 + j) 0) x)
 
 abbrev μ-loop : tie.MeasureT-loop
-μ-loop x s count out₀ i₀ out i = count - i
+μ-loop b n x out₀ i₀ out i = n - i
 
 loop-holds : tie.Need-loop-holds Inv-loop μ-loop
 loop-holds c = (omega arith, refl, λ j h. absurd (omega arith))
+
+add-out : tie.Need-add-out Inv-loop μ-loop
+add-out c = omega arith
 
 element-copy-out-out : tie.Need-element-copy-out-out Inv-loop μ-loop
 element-copy-out-out c = omega arith
@@ -34,7 +37,7 @@ loop-less c = omega arith
 
 loop-again : tie.Need-loop-again Inv-loop μ-loop
 loop-again c =
-    (omega arith, length-set (c .before .before .loop .out) (c .before .before .loop .i) _ ∙ c .before .before .loop .inv .1, flags-more (c .before .before .loop .out) (c .before .before .loop .i) _ _ (omega (arith, c .before .before .loop .inv .1, c .before .before .before .pre .fit)) (c .before .before .loop .inv .2) refl)
+    (omega arith, length-set (c .before .before .loop .out) (c .before .before .loop .i) _ ∙ c .before .before .loop .inv .1, flags-more (c .before .before .loop .out) (c .before .before .loop .i) _ _ (omega (arith, c .before .before .loop .inv .1, c .before .before .before .pre)) (c .before .before .loop .inv .2) refl)
 
 returns : tie.Need-returns Inv-loop μ-loop
 returns c = record { size = c .before .loop .inv .1; at = λ i h. c .before .loop .inv .2 i (omega arith) }
@@ -46,6 +49,7 @@ entries-of-spec =
     Inv-loop
     μ-loop
     loop-holds
+    add-out
     element-copy-out-out
     array-write-out
     add-i

@@ -9,60 +9,81 @@ use Rattle.knowledge.proofs.facts_naming.Statement.{statement}
 use Rattle.knowledge.proofs.facts_naming.Tie as tie
 use Rattle.knowledge.proofs.facts_naming.Reads as reads
 use Rattle.knowledge.proofs.facts_naming.Lts as lts
-use Rattle.knowledge.proofs.names_out.Reads as names-out-reads
+use Rattle.knowledge.proofs.marks_out.Reads as marks-out-reads
+use Rattle.knowledge.proofs.names_marked.Reads as names-marked-reads
 
 abbrev Inv-loop : tie.InvT-loop
-Inv-loop s out count n dead₀ i₀ dead i = (i ≤ count) × (length dead ≡ 64) × ((j : ℕ) → j < i → getD dead j false ≡ factNames s out j)
+Inv-loop key b out all n marks dead₀ i₀ dead i =
+    (i ≤ all) × (length dead ≡ 64) × ((j : ℕ) → j < i → getD dead j false ≡ factNames key b out j)
 
 abbrev μ-loop : tie.MeasureT-loop
-μ-loop s out count n dead₀ i₀ dead i = count - i
+μ-loop key b out all n marks dead₀ i₀ dead i = all - i
+
+element-copy-out-all : tie.Need-element-copy-out-all Inv-loop μ-loop
+element-copy-out-all c = omega (arith, c .pre .linked .fit)
+
+cast-all : tie.Need-cast-all Inv-loop μ-loop
+cast-all c =
+    omega (arith, c .before .pre .linked .fit)
+
+element-copy-out-n : tie.Need-element-copy-out-n Inv-loop μ-loop
+element-copy-out-n c = omega (arith, c .before .pre .linked .fit)
+
+cast-n : tie.Need-cast-n Inv-loop μ-loop
+cast-n c =
+    omega (arith, c .before .before .pre .fit)
+
+marks-out-requires : tie.Need-marks-out-requires Inv-loop μ-loop
+marks-out-requires c κs =
+    c .before .before .pre .fit
 
 loop-holds : tie.Need-loop-holds Inv-loop μ-loop
 loop-holds c = (omega arith, refl, λ j h. absurd (omega arith))
 
-mul-k : tie.Need-mul-k Inv-loop μ-loop
-mul-k c = omega arith
+mul-names-marked : tie.Need-mul-names-marked Inv-loop μ-loop
+mul-names-marked c = omega (arith, c .before .before .before .before .before .before .pre .linked .fit)
 
-add-k : tie.Need-add-k Inv-loop μ-loop
-add-k c = omega arith
+add-names-marked : tie.Need-add-names-marked Inv-loop μ-loop
+add-names-marked c = omega (arith, c .before .before .before .before .before .before .pre .linked .fit)
 
-mul-k-2 : tie.Need-mul-k-2 Inv-loop μ-loop
-mul-k-2 c = omega arith
+mul-names-marked-2 : tie.Need-mul-names-marked-2 Inv-loop μ-loop
+mul-names-marked-2 c = omega (arith, c .before .before .before .before .before .before .pre .linked .fit)
 
-element-copy-out-k : tie.Need-element-copy-out-k Inv-loop μ-loop
-element-copy-out-k c = omega arith
+element-copy-out-names-marked : tie.Need-element-copy-out-names-marked Inv-loop μ-loop
+element-copy-out-names-marked c = omega (arith, c .before .before .before .before .before .before .pre .linked .fit)
 
-mul-m : tie.Need-mul-m Inv-loop μ-loop
-mul-m c = omega arith
+names-marked-requires : tie.Need-names-marked-requires Inv-loop μ-loop
+names-marked-requires c κs =
+    (c .before .before .before .before .before .before .before .pre .fit, c .before .before .before .before .marks-out .ensures)
 
-add-m : tie.Need-add-m Inv-loop μ-loop
-add-m c = omega arith
+mul-names-marked-3 : tie.Need-mul-names-marked-3 Inv-loop μ-loop
+mul-names-marked-3 c = omega (arith, c .before .before .before .before .before .before .before .before .before .pre .linked .fit)
 
-mul-m-2 : tie.Need-mul-m-2 Inv-loop μ-loop
-mul-m-2 c = omega arith
+add-names-marked-2 : tie.Need-add-names-marked-2 Inv-loop μ-loop
+add-names-marked-2 c = omega (arith, c .before .before .before .before .before .before .before .before .before .pre .linked .fit)
 
-element-copy-out-m : tie.Need-element-copy-out-m Inv-loop μ-loop
-element-copy-out-m c = omega arith
+mul-names-marked-4 : tie.Need-mul-names-marked-4 Inv-loop μ-loop
+mul-names-marked-4 c = omega (arith, c .before .before .before .before .before .before .before .before .before .pre .linked .fit)
 
-names-out-requires : tie.Need-names-out-requires Inv-loop μ-loop
-names-out-requires c κs = c .before .before .before .before .before .before .before .before .pre .fit
+element-copy-out-names-marked-2 : tie.Need-element-copy-out-names-marked-2 Inv-loop μ-loop
+element-copy-out-names-marked-2 c = omega (arith, c .before .before .before .before .before .before .before .before .before .pre .linked .fit)
 
-names-out-requires-2 : tie.Need-names-out-requires-2 Inv-loop μ-loop
-names-out-requires-2 c κs =
-    c .before .before .before .before .before .before .before .before .before .before .before .before .before .pre .fit
+names-marked-requires-2 : tie.Need-names-marked-requires-2 Inv-loop μ-loop
+names-marked-requires-2 c κs =
+    (c .before .before .before .before .before .before .before .before .before .before .pre .fit, c .before .before .before .before .before .before .before .marks-out .ensures)
 
 array-write-dead : tie.Need-array-write-dead Inv-loop μ-loop
-array-write-dead c = omega arith
+array-write-dead c = omega (arith, c .before .before .before .before .before .before .before .before .before .before .before .pre .linked .fit)
 
 add-i : tie.Need-add-i Inv-loop μ-loop
-add-i c = omega arith
+add-i c = omega (arith, c .before .before .before .before .before .before .before .before .before .before .before .pre .linked .fit)
 
 loop-less : tie.Need-loop-less Inv-loop μ-loop
 loop-less c = omega arith
 
 loop-again : tie.Need-loop-again Inv-loop μ-loop
 loop-again c =
-    (omega arith, length-set (c .before .before .before .before .before .before .before .before .before .before .before .before .before .loop .dead) (c .before .before .before .before .before .before .before .before .before .before .before .before .before .loop .i) _ ∙ c .before .before .before .before .before .before .before .before .before .before .before .before .before .loop .inv .1, flags-more (c .before .before .before .before .before .before .before .before .before .before .before .before .before .loop .dead) (c .before .before .before .before .before .before .before .before .before .before .before .before .before .loop .i) _ _ (omega (arith, c .before .before .before .before .before .before .before .before .before .before .before .before .before .loop .inv .1, c .before .before .before .before .before .before .before .before .before .before .before .before .before .before .pre .linked .fit)) (c .before .before .before .before .before .before .before .before .before .before .before .before .before .loop .inv .2) (ap₂ (λ (a b : Bool). a || b) (c .before .before .before .before .before .names-out .ensures) (c .names-out2 .ensures)))
+    (omega arith, length-set (c .before .before .before .before .before .before .before .loop .dead) (c .before .before .before .before .before .before .before .loop .i) _ ∙ c .before .before .before .before .before .before .before .loop .inv .1, flags-more (c .before .before .before .before .before .before .before .loop .dead) (c .before .before .before .before .before .before .before .loop .i) _ _ (omega (arith, c .before .before .before .before .before .before .before .loop .inv .1, c .before .before .before .before .before .before .before .before .before .before .before .pre .linked .fit)) (c .before .before .before .before .before .before .before .loop .inv .2) (ap₂ (λ (a b : Bool). a || b) (c .before .before .before .names-marked .ensures) (c .names-marked2 .ensures)))
 
 returns : tie.Need-returns Inv-loop μ-loop
 returns c = record { size = c .before .loop .inv .1; at = λ i h. c .before .loop .inv .2 i (omega arith) }
@@ -73,17 +94,22 @@ facts-naming-spec =
     (tie.spec
     Inv-loop
     μ-loop
+    element-copy-out-all
+    cast-all
+    element-copy-out-n
+    cast-n
+    marks-out-requires
     loop-holds
-    mul-k
-    add-k
-    mul-k-2
-    element-copy-out-k
-    mul-m
-    add-m
-    mul-m-2
-    element-copy-out-m
-    names-out-requires
-    names-out-requires-2
+    mul-names-marked
+    add-names-marked
+    mul-names-marked-2
+    element-copy-out-names-marked
+    names-marked-requires
+    mul-names-marked-3
+    add-names-marked-2
+    mul-names-marked-4
+    element-copy-out-names-marked-2
+    names-marked-requires-2
     array-write-dead
     add-i
     loop-less

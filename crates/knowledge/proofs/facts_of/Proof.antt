@@ -12,10 +12,10 @@ use Rattle.knowledge.proofs.facts_of.Lts as lts
 use Rattle.knowledge.proofs.mentions.Reads as mentions-reads
 
 abbrev Inv-loop : tie.InvT-loop
-Inv-loop x s count out₀ i₀ out i = (i ≤ count) × (length out ≡ 64) × ((j : ℕ) → j < i → getD out j false ≡ factMentions (s .key) x j)
+Inv-loop key n x out₀ i₀ out i = (i ≤ n) × (length out ≡ 64) × ((j : ℕ) → j < i → getD out j false ≡ factMentions key x j)
 
 abbrev μ-loop : tie.MeasureT-loop
-μ-loop x s count out₀ i₀ out i = count - i
+μ-loop key n x out₀ i₀ out i = n - i
 
 loop-holds : tie.Need-loop-holds Inv-loop μ-loop
 loop-holds c = (omega arith, refl, λ j h. absurd (omega arith))
@@ -61,7 +61,7 @@ loop-less c = omega arith
 
 loop-again : tie.Need-loop-again Inv-loop μ-loop
 loop-again c =
-    (omega arith, length-set (c .before .before .before .before .before .loop .out) (c .before .before .before .before .before .loop .i) _ ∙ c .before .before .before .before .before .loop .inv .1, flags-more (c .before .before .before .before .before .loop .out) (c .before .before .before .before .before .loop .i) _ _ (omega (arith, c .before .before .before .before .before .loop .inv .1, c .before .before .before .before .before .before .pre .linked .fit)) (c .before .before .before .before .before .loop .inv .2) (ap₂ (λ (a b : Bool). a || b) (c .before .before .mentions .ensures) (c .mentions2 .ensures)))
+    (omega arith, length-set (c .before .before .before .before .before .loop .out) (c .before .before .before .before .before .loop .i) _ ∙ c .before .before .before .before .before .loop .inv .1, flags-more (c .before .before .before .before .before .loop .out) (c .before .before .before .before .before .loop .i) _ _ (omega (arith, c .before .before .before .before .before .loop .inv .1, c .before .before .before .before .before .before .pre)) (c .before .before .before .before .before .loop .inv .2) (ap₂ (λ (a b : Bool). a || b) (c .before .before .mentions .ensures) (c .mentions2 .ensures)))
 
 returns : tie.Need-returns Inv-loop μ-loop
 returns c = record { size = c .before .loop .inv .1; at = λ i h. c .before .loop .inv .2 i (omega arith) }

@@ -1,6 +1,6 @@
 use Prim.Native.Nat.{_-_, _≤_}
 use Rattle.knowledge.specs.Answers.{pathOutAt}
-use Rattle.knowledge.specs.Questions.{places}
+use Rattle.known.specs.Questions.{places}
 use Rattle.links.proofs.Listing.{any-none, any-past, any-found}
 use Rattle.rules.specs.Base.{any}
 use mathlib.Core.Bool.{false}
@@ -13,10 +13,10 @@ use Rattle.knowledge.proofs.names_out.Lts as lts
 use Rattle.knowledge.proofs.path_out.Reads as path-out-reads
 
 abbrev Inv-loop : tie.InvT-loop
-Inv-loop variable field out n k i₀ i = (i ≤ n) × (any (pathOutAt variable field out k) (places i) ≡ false)
+Inv-loop b out n k i₀ i = (i ≤ n) × (any (pathOutAt b out k) (places i) ≡ false)
 
 abbrev μ-loop : tie.MeasureT-loop
-μ-loop variable field out n k i₀ i = n - i
+μ-loop b out n k i₀ i = n - i
 
 loop-holds : tie.Need-loop-holds Inv-loop μ-loop
 loop-holds c = (omega arith, any-none _ _)
@@ -24,8 +24,14 @@ loop-holds c = (omega arith, any-none _ _)
 element-copy-out-path-out : tie.Need-element-copy-out-path-out Inv-loop μ-loop
 element-copy-out-path-out c = omega arith
 
+add-path-out : tie.Need-add-path-out Inv-loop μ-loop
+add-path-out c = omega arith
+
 element-copy-out-path-out-2 : tie.Need-element-copy-out-path-out-2 Inv-loop μ-loop
 element-copy-out-path-out-2 c = omega arith
+
+add-path-out-2 : tie.Need-add-path-out-2 Inv-loop μ-loop
+add-path-out-2 c = omega arith
 
 element-copy-out-path-out-3 : tie.Need-element-copy-out-path-out-3 Inv-loop μ-loop
 element-copy-out-path-out-3 c = omega arith
@@ -59,7 +65,9 @@ names-out-spec =
     μ-loop
     loop-holds
     element-copy-out-path-out
+    add-path-out
     element-copy-out-path-out-2
+    add-path-out-2
     element-copy-out-path-out-3
     path-out-requires
     returns

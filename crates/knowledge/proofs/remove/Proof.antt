@@ -1,6 +1,6 @@
 use Prim.Native.Nat.{ℕ}
 use Rattle.knowledge.specs.Answers.{Becomes}
-use Rattle.knowledge.specs.States.{stateOf}
+use Rattle.known.specs.States.{stateOf}
 use mathlib.Core.Option.{Option}
 use mathlib.Core.Path.{subst}
 use Rattle.rules.specs.State as Rules
@@ -10,7 +10,7 @@ use Rattle.knowledge.proofs.remove.Tie as tie
 use Rattle.knowledge.proofs.remove.Reads as reads
 use Rattle.knowledge.proofs.remove.Lts as lts
 use Rattle.knowledge.proofs.remove_to.Reads as remove-to-reads
-use Rattle.knowledge.proofs.successor.Reads as successor-reads
+use Rattle.known.proofs.successor.Reads as successor-reads
 
 successor-requires : tie.Need-successor-requires
 successor-requires c κs = search needs
@@ -21,7 +21,7 @@ remove-to-requires c κs = search needs
 returns : tie.Need-returns
 unfolding Rules.remove
 returns c =
-    subst (λ (o : Option ℕ). Becomes (Rules.removeTo (c .before .before .args .x) o (stateOf (c .before .before .args .s))) (c .remove-to .result)) (c .before .successor .ensures) (c .remove-to .ensures)
+    subst (λ (o : Option ℕ). Becomes (Rules.removeTo (c .before .before .before .before .before .before .args .x) o (stateOf (c .before .before .before .before .before .before .args .key .now) (c .before .before .before .before .before .before .args .b .now))) (c .remove-to .last .0) (c .remove-to .last .1 .0)) (c .before .before .before .successor .ensures) (c .remove-to .ensures)
 
 pub remove-spec : {M : Type 1} → statement M
 remove-spec = tie.close (tie.spec successor-requires remove-to-requires returns)

@@ -1,4 +1,4 @@
-use Rattle.knowledge.specs.Answers.{variableOr}
+use Rattle.known.specs.Questions.{variableOr}
 use borrow.Author.Tests.{eq-eqb, ne-eqb}
 use borrow.Author.Needs.{needs}
 use Rattle.knowledge.proofs.remove_to.Statement.{statement}
@@ -16,11 +16,11 @@ replace-requires c κs = search needs
 
 returns : tie.Need-returns
 unfolding variableOr
-returns c = rw (eq-eqb _ _ (c .before .if1 .taken)) (c .forget .ensures)
+returns c = rw (eq-eqb _ _ (c .before .before .before .if1 .taken)) (c .forget .ensures)
 
 returns-2 : tie.Need-returns-2
 unfolding variableOr
-returns-2 c = rw (ne-eqb _ _ (c .before .if1 .left)) (c .replace .ensures)
+returns-2 c = rw (ne-eqb _ _ (c .before .before .before .if1 .left)) (c .replace .ensures)
 
 pub remove-to-spec : {M : Type 1} → statement M
 remove-to-spec = tie.close (tie.spec forget-requires replace-requires returns returns-2)

@@ -1,6 +1,7 @@
 use Prim.Native.Nat.{ℕ}
 use Rattle.knowledge.proofs.Renaming.{renamed-term}
-use Rattle.knowledge.specs.Answers.{leftOver, variableOr}
+use Rattle.knowledge.specs.Answers.{leftOver}
+use Rattle.known.specs.Questions.{variableOr}
 use Rattle.links.specs.Keys.{termOf}
 use borrow.Author.Tests.{eq-eqb, ne-eqb}
 use mathlib.Core.Option.{some}

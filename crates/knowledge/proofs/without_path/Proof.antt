@@ -1,25 +1,38 @@
+use native.Mathlib.Omega.{arith}
 use Rattle.knowledge.proofs.Changes.{path-law}
 use borrow.Author.Needs.{needs}
 use Rattle.knowledge.proofs.without_path.Statement.{statement}
 use Rattle.knowledge.proofs.without_path.Tie as tie
 use Rattle.knowledge.proofs.without_path.Reads as reads
 use Rattle.knowledge.proofs.without_path.Lts as lts
-use Rattle.knowledge.proofs.facts_naming.Reads as facts-naming-reads
-use Rattle.knowledge.proofs.rebuild.Reads as rebuild-reads
+use Rattle.knowledge.proofs.drop_facts.Reads as drop-facts-reads
+use Rattle.knowledge.proofs.facts_with.Reads as facts-with-reads
 
-array-write-out : tie.Need-array-write-out
-array-write-out c = search needs
+element-copy-out-facts-with : tie.Need-element-copy-out-facts-with
+element-copy-out-facts-with c = search needs
 
-facts-naming-requires : tie.Need-facts-naming-requires
-facts-naming-requires c κs = search needs
+cast-facts-with : tie.Need-cast-facts-with
+cast-facts-with c =
+    omega (arith, c .before .before .pre .0 .linked .fit)
 
-rebuild-requires : tie.Need-rebuild-requires
-rebuild-requires c κs = search needs
+facts-with-requires : tie.Need-facts-with-requires
+facts-with-requires c κs =
+    c .before .before .pre .0 .linked .fit
+
+drop-facts-requires : tie.Need-drop-facts-requires
+drop-facts-requires c κs =
+    c .before .before .before .before .before .before .pre .0
 
 returns : tie.Need-returns
 returns c =
-    path-law _ _ _ _ (c .before .before .pre .0) (c .before .before .pre .1) (c .before .facts-naming .ensures) (c .rebuild .ensures)
+    path-law _ _ _ _ _ (c .before .before .before .before .before .before .before .args .i) _ (c .before .before .before .before .before .before .before .pre .0) (c .before .before .before .before .before .before .before .pre .2) (c .before .before .before .before .facts-with .ensures) (c .drop-facts .ensures)
 
 pub without-path-spec : {M : Type 1} → statement M
 without-path-spec =
-    tie.close (tie.spec array-write-out facts-naming-requires rebuild-requires returns)
+    tie.close
+    (tie.spec
+    element-copy-out-facts-with
+    cast-facts-with
+    facts-with-requires
+    drop-facts-requires
+    returns)

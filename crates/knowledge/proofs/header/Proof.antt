@@ -1,0 +1,13 @@
+use Rattle.knowledge.proofs.Starts.{header-by}
+use mathlib.Core.Path.{refl}
+use Rattle.knowledge.proofs.header.Statement.{statement}
+use Rattle.knowledge.proofs.header.Tie as tie
+use Rattle.knowledge.proofs.header.Reads as reads
+use Rattle.knowledge.proofs.header.Lts as lts
+
+returns : tie.Need-returns
+returns c =
+    header-by _ refl tt refl
+
+pub header-spec : {M : Type 1} → statement M
+header-spec = tie.close (tie.spec returns)
