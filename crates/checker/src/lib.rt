@@ -276,7 +276,7 @@ fn check_method(w: &[u8], m: usize, key: &mut [u64; 144], b: &mut [u8; 338]) -> 
     requires { ⌜ Tables (now w) × (m < methodCount (now w)) × Wf (now key) (now b) ⌝ }
     ensures { λ r. ⌜ (verdictOf r ≡ checkMethod (programIn (now (w .entry))) (methodAt (now (w .entry)) m)) × Wf (now (key .exit)) (now (b .exit)) ⌝ }
 {
-    knowledge::clear(b);
+    removal::clear(b);
     let a = tables::requires_first(w, m);
     let n = tables::requires_count(w, m);
     let k = formulas::add(w, a, n, 0, 1, 14, key, b);
@@ -293,9 +293,9 @@ pub fn check(w: &[u8]) -> Verdict
     requires { ⌜ Tables (now w) ⌝ }
     ensures { λ r. ⌜ verdictOf r ≡ checkProgram (programIn (now (w .entry))) ⌝ }
 {
-    let mut key = knowledge::header();
+    let mut key = removal::header();
     let mut b = [0u8; 338];
-    knowledge::clear(&mut b);
+    removal::clear(&mut b);
     let n = tables::method_count(w);
     let mut m = 0;
     while m < n {
@@ -305,6 +305,6 @@ pub fn check(w: &[u8]) -> Verdict
         };
         m += 1;
     }
-    knowledge::clear(&mut b);
+    removal::clear(&mut b);
     check_block(w, tables::main_first(w), 0, 0, &mut key, &mut b)
 }

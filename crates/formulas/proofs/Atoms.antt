@@ -20,9 +20,10 @@ use Rattle.links.specs.Listing.{listed}
 use Rattle.knowledge.specs.declared.Answer.{Answer}
 use Rattle.knowledge.proofs.Answer.{the-type}
 use Rattle.known.specs.States.{Wf, stateOf, entries, permissionsOf, permissionAt}
-use Rattle.knowledge.specs.Answers.{answered, gone, ShowsAtom, Adds, AddsAtom}
+use Rattle.removal.specs.Changes.{gone}
+use Rattle.knowledge.specs.Answers.{answered, ShowsAtom, Adds, AddsAtom}
 use Rattle.known.proofs.Entries.{no-flags}
-use Rattle.knowledge.proofs.Keeping.{kept-all, gone-any}
+use Rattle.removal.proofs.Keeping.{kept-all, gone-any}
 use Rattle.known.proofs.Searches.{any-false}
 use Rattle.formulas.specs.Formulas.{formula, accessAt, Shows, Showing}
 

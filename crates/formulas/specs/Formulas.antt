@@ -11,7 +11,8 @@ use Rattle.rules.specs.Rules.{actual, substAtom}
 use Rattle.tables.specs.Decode.{byteAt, atomPlace, atomsFrom}
 use Rattle.knowledge.specs.declared.Answer.{Answer}
 use Rattle.known.specs.States.{stateOf}
-use Rattle.knowledge.specs.Answers.{answered, Taken}
+use Rattle.removal.specs.Changes.{Taken}
+use Rattle.knowledge.specs.Answers.{answered}
 
 -- n atoms from the atom a on, with y, z and x for `this`, w and `result`
 unfoldable pub formula : List ℕ → ℕ → ℕ → ℕ → ℕ → ℕ → Formula ℕ

@@ -21,11 +21,12 @@ use Rattle.knowledge.specs.declared.Answer.{Answer}
 use Rattle.known.specs.declared.Resolved.{Resolved}
 use Rattle.known.specs.States.{Wf, stateOf, facts, entries, factAt, factsOf, permissionAt, permissionsOf}
 use Rattle.known.specs.Questions.{FirstPlace, entryTest, passes, resolvedAs}
-use Rattle.knowledge.specs.Answers.{answered, kept, gone, Taken, ShowsAtom, ShowsRelation, Adds, AddsAtom}
+use Rattle.removal.specs.Changes.{kept, gone, Taken}
+use Rattle.knowledge.specs.Answers.{answered, ShowsAtom, ShowsRelation, Adds, AddsAtom}
 use Rattle.known.specs.States.{factsIn, permissionsIn, Linked}
 use Rattle.links.specs.Links.{Pushed, factOf}
 use Rattle.links.proofs.Listing.{listed-same}
-use Rattle.knowledge.proofs.Keeping.{with-entry, entry-size, entry-other, entries-more, entries-same, linked-same, facts-same, pushed-facts, pushed-linked, pushed-rest, counted-linked, counted-facts, counted-other}
+use Rattle.removal.proofs.Keeping.{with-entry, entry-size, entry-other, entries-more, entries-same, linked-same, facts-same, pushed-facts, pushed-linked, pushed-rest, counted-linked, counted-facts, counted-other}
 use Rattle.knowledge.proofs.Splits.{split-none, split-first, gone-set}
 
 -- ACCESS

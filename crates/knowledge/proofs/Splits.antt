@@ -13,10 +13,10 @@ use Rattle.rules.specs.State.{Permission, Split, split}
 use Rattle.rules.proofs.Lists.{decide-eq}
 use Rattle.links.specs.Listing.{listed}
 use Rattle.links.proofs.Listing.{any-append}
-use Rattle.knowledge.specs.Answers.{kept, gone}
+use Rattle.removal.specs.Changes.{kept, gone}
 use Rattle.known.specs.Questions.{places}
 use Rattle.known.proofs.Searches.{any-same}
-use Rattle.knowledge.proofs.Keeping.{gone-any, kept-same}
+use Rattle.removal.proofs.Keeping.{gone-any, kept-same}
 
 abbrev ahead : List Permission → Split → Split
 ahead l c = record { taken = c .taken; others = l ++ c .others }

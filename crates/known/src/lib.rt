@@ -41,10 +41,10 @@ fn names<'a>(
     requires { ⌜ Slots (now key) (now b) m × Labelled (now key) (now b) m k a ⌝ }
     ensures { λ r. ⌜ Told (now (key .entry)) (now (b .entry)) m (λ same. (y : ℕ) → termOf k ≡ var y → r ≡ passes same y g out x f) ⌝ }
 {
-    if out {
+    if f != g {
         return false;
     }
-    if f != g {
+    if out {
         return false;
     }
     variable_is(key, b, m, x, k, a)

@@ -26,9 +26,10 @@ use Rattle.known.specs.declared.Resolved.{Resolved}
 use Rattle.knowledge.proofs.Answer.{the-type}
 use Rattle.known.specs.States.{Wf, stateOf, entries, variableAt, fieldAt, permissionAt, permissionsOf}
 use Rattle.known.specs.Questions.{FirstPlace, entryTest, passes}
-use Rattle.knowledge.specs.Answers.{answered, kept, leftOver, Adds, Becomes, withoutPath, Taken}
+use Rattle.removal.specs.Changes.{kept, leftOver, Becomes, withoutPath, Taken}
+use Rattle.knowledge.specs.Answers.{answered, Adds}
 use Rattle.known.proofs.Entries.{no-flags}
-use Rattle.knowledge.proofs.Keeping.{kept-all}
+use Rattle.removal.proofs.Keeping.{kept-all}
 use Rattle.knowledge.proofs.Splits.{split-none, split-first}
 use Rattle.formulas.specs.Formulas.{formula, Shows}
 use Rattle.formulas.proofs.Atoms.{not-done, is-done}

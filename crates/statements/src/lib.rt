@@ -13,7 +13,8 @@ ghost use Rattle.tables.specs.Tables.{Tables};
 ghost use Rattle.links.specs.Keys.{termOf, meaning};
 ghost use Rattle.links.specs.Links.{relOf};
 ghost use Rattle.known.specs.States.{Wf, stateOf};
-ghost use Rattle.knowledge.specs.Answers.{Adds, leftOver};
+ghost use Rattle.removal.specs.Changes.{leftOver};
+ghost use Rattle.knowledge.specs.Answers.{Adds};
 ghost use Rattle.formulas.specs.Formulas.{formula};
 ghost use Rattle.statements.specs.Statements.{Parts, assignTerm, callShown, partRule, initialOf, Asserts, releaseRule};
 
@@ -26,7 +27,7 @@ pub fn set_rule(key: &mut [u64; 144], b: &mut [u8; 338], x: u8, f: u8, y: u8) ->
     let i = known::entry(key, b, &out, x, f);
     if i < (b[337] as usize) {
         let path = links::path_key(b[208 + i], b[272 + i]);
-        knowledge::without_path(key, b, i, path);
+        removal::without_path(key, b, i, path);
         return knowledge::add_fact(key, b, false, path, links::variable_key(y));
     }
     Answer::NoPermission
@@ -52,8 +53,8 @@ fn assign_key(key: &mut [u64; 144], b: &mut [u8; 338], x: u8, k: u64) -> Answer
         return Answer::Done;
     }
     let to = known::successor(key, b, x);
-    knowledge::remove_to(key, b, x, to);
-    add_equal(key, b, x, knowledge::renamed(k, x, to))
+    removal::remove_to(key, b, x, to);
+    add_equal(key, b, x, removal::renamed(k, x, to))
 }
 
 // `let x e`
@@ -127,7 +128,7 @@ pub fn new_rule(w: &[u8], key: &mut [u64; 144], b: &mut [u8; 338], x: u8, c: usi
     ensures { λ r. ⌜ Adds (newRule x (classAt (now (w .entry)) c) (stateOf (now (key .entry)) (now (b .entry)))) r (now (key .exit)) (now (b .exit)) ⌝ }
 {
     let n = tables::field_count_at(w, c);
-    knowledge::remove(key, b, x);
+    removal::remove(key, b, x);
     let k = add_fields(w, key, b, x, c, n);
     let Answer::Done = k else {
         return k;
@@ -163,7 +164,7 @@ pub fn release_rule(w: &[u8], key: &mut [u64; 144], b: &mut [u8; 338], a: usize,
     let r = formulas::show(w, a, n, 0, 1, 14, key, b);
     let k = r.answer;
     let out = r.out;
-    knowledge::remainder(key, b, &out);
+    removal::remainder(key, b, &out);
     k
 }
 
@@ -188,8 +189,8 @@ fn call_shown(
         return k;
     };
     let out = r.out;
-    knowledge::remainder(key, b, &out);
-    knowledge::remove(key, b, x);
+    removal::remainder(key, b, &out);
+    removal::remove(key, b, x);
     let c = tables::ensures_first(w, m);
     let o = tables::ensures_count(w, m);
     formulas::add(w, c, o, y, z, x, key, b)
@@ -277,6 +278,6 @@ pub fn join_rule<'a>(
     let Answer::Done = l else {
         return l;
     };
-    knowledge::clear(b);
+    removal::clear(b);
     formulas::add(w, a, n, 0, 1, 14, key, b)
 }

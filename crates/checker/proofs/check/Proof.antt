@@ -14,8 +14,8 @@ use Rattle.checker.proofs.check.Reads as reads
 use Rattle.checker.proofs.check.Lts as lts
 use Rattle.checker.proofs.check_block.Reads as check-block-reads
 use Rattle.checker.proofs.check_method.Reads as check-method-reads
-use Rattle.knowledge.proofs.clear.Reads as clear-reads
-use Rattle.knowledge.proofs.header.Reads as header-reads
+use Rattle.removal.proofs.clear.Reads as clear-reads
+use Rattle.removal.proofs.header.Reads as header-reads
 use Rattle.tables.proofs.main_first.Reads as main-first-reads
 use Rattle.tables.proofs.method_count.Reads as method-count-reads
 

@@ -11,7 +11,7 @@ use Rattle.checker.proofs.check_method.Reads as reads
 use Rattle.checker.proofs.check_method.Lts as lts
 use Rattle.checker.proofs.check_block.Reads as check-block-reads
 use Rattle.formulas.proofs.add.Reads as add-reads
-use Rattle.knowledge.proofs.clear.Reads as clear-reads
+use Rattle.removal.proofs.clear.Reads as clear-reads
 use Rattle.tables.proofs.ensures_count.Reads as ensures-count-reads
 use Rattle.tables.proofs.ensures_first.Reads as ensures-first-reads
 use Rattle.tables.proofs.first_row_at.Reads as first-row-at-reads

@@ -8,11 +8,11 @@ use Rattle.knowledge.proofs.add_fact.Lts as lts
 use Rattle.knowledge.proofs.flag.Reads as flag-reads
 use Rattle.links.proofs.push.Reads as push-reads
 
-element-copy-out-n : tie.Need-element-copy-out-n
-element-copy-out-n c = search needs
+element-copy-out-count : tie.Need-element-copy-out-count
+element-copy-out-count c = search needs
 
-cast-n : tie.Need-cast-n
-cast-n c =
+cast-count : tie.Need-cast-count
+cast-count c =
     omega (arith, c .before .pre .linked .fit)
 
 returns : tie.Need-returns
@@ -55,8 +55,8 @@ pub add-fact-spec : {M : Type 1} → statement M
 add-fact-spec =
     tie.close
     (tie.spec
-    element-copy-out-n
-    cast-n
+    element-copy-out-count
+    cast-count
     returns
     mul-push
     add-push

@@ -8,8 +8,8 @@ use Rattle.statements.proofs.assign_key.Statement.{statement}
 use Rattle.statements.proofs.assign_key.Tie as tie
 use Rattle.statements.proofs.assign_key.Reads as reads
 use Rattle.statements.proofs.assign_key.Lts as lts
-use Rattle.knowledge.proofs.remove_to.Reads as remove-to-reads
-use Rattle.knowledge.proofs.renamed.Reads as renamed-reads
+use Rattle.removal.proofs.remove_to.Reads as remove-to-reads
+use Rattle.removal.proofs.renamed.Reads as renamed-reads
 use Rattle.known.proofs.successor.Reads as successor-reads
 use Rattle.links.proofs.variable_key.Reads as variable-key-reads
 use Rattle.statements.proofs.add_equal.Reads as add-equal-reads

@@ -11,8 +11,8 @@ use Rattle.statements.proofs.call_shown.Reads as reads
 use Rattle.statements.proofs.call_shown.Lts as lts
 use Rattle.formulas.proofs.add.Reads as add-reads
 use Rattle.formulas.proofs.show.Reads as show-reads
-use Rattle.knowledge.proofs.remainder.Reads as remainder-reads
-use Rattle.knowledge.proofs.remove.Reads as remove-reads
+use Rattle.removal.proofs.remainder.Reads as remainder-reads
+use Rattle.removal.proofs.remove.Reads as remove-reads
 use Rattle.tables.proofs.ensures_count.Reads as ensures-count-reads
 use Rattle.tables.proofs.ensures_first.Reads as ensures-first-reads
 use Rattle.tables.proofs.requires_count.Reads as requires-count-reads

@@ -10,7 +10,7 @@ use Rattle.statements.proofs.join_rule.Tie as tie
 use Rattle.statements.proofs.join_rule.Reads as reads
 use Rattle.statements.proofs.join_rule.Lts as lts
 use Rattle.formulas.proofs.add.Reads as add-reads
-use Rattle.knowledge.proofs.clear.Reads as clear-reads
+use Rattle.removal.proofs.clear.Reads as clear-reads
 use Rattle.statements.proofs.assert_rule.Reads as assert-rule-reads
 
 assert-rule-requires : tie.Need-assert-rule-requires

@@ -10,7 +10,7 @@ use Rattle.statements.proofs.new_rule.Tie as tie
 use Rattle.statements.proofs.new_rule.Reads as reads
 use Rattle.statements.proofs.new_rule.Lts as lts
 use Rattle.knowledge.proofs.add_fact.Reads as add-fact-reads
-use Rattle.knowledge.proofs.remove.Reads as remove-reads
+use Rattle.removal.proofs.remove.Reads as remove-reads
 use Rattle.links.proofs.variable_key.Reads as variable-key-reads
 use Rattle.statements.proofs.add_fields.Reads as add-fields-reads
 use Rattle.statements.proofs.add_initial.Reads as add-initial-reads

@@ -14,7 +14,7 @@ use Rattle.statements.proofs.release_rule.Tie as tie
 use Rattle.statements.proofs.release_rule.Reads as reads
 use Rattle.statements.proofs.release_rule.Lts as lts
 use Rattle.formulas.proofs.show.Reads as show-reads
-use Rattle.knowledge.proofs.remainder.Reads as remainder-reads
+use Rattle.removal.proofs.remainder.Reads as remainder-reads
 
 show-requires : tie.Need-show-requires
 show-requires c κs =

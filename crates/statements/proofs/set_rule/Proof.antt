@@ -11,7 +11,7 @@ use Rattle.statements.proofs.set_rule.Tie as tie
 use Rattle.statements.proofs.set_rule.Reads as reads
 use Rattle.statements.proofs.set_rule.Lts as lts
 use Rattle.knowledge.proofs.add_fact.Reads as add-fact-reads
-use Rattle.knowledge.proofs.without_path.Reads as without-path-reads
+use Rattle.removal.proofs.without_path.Reads as without-path-reads
 use Rattle.known.proofs.entry.Reads as entry-reads
 use Rattle.links.proofs.path_key.Reads as path-key-reads
 use Rattle.links.proofs.variable_key.Reads as variable-key-reads
