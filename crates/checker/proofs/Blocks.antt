@@ -1,28 +1,26 @@
 -- The parts of a branch, and a block.
-use mathlib.Core.Path.{_≡_, refl, sym, ap, ap₂, _∙_, subst}
-use mathlib.Core.Bool.{Bool, true, false}
+use mathlib.Core.Path.{_≡_, refl, sym, ap, _∙_, subst}
 use mathlib.Core.List.{List, [], _∷_}
-use mathlib.Core.Logic.{_⊎_, inl, inr, ⊎-elim}
-use Prim.Native.Nat.{ℕ, zero, suc, _+_, _*_, _-_, _≤_, _<_}
+use mathlib.Core.Logic.{⊎-elim}
+use Prim.Native.Nat.{ℕ, suc, _+_, _-_, _≤_, _<_}
 use native.Mathlib.Omega.{arith}
-use lib.ListN.{length, getD, drop}
+use lib.ListN.{drop}
 use types.Run.{OneOf, miss}
 use denote.Enum.Declared.{tagOf}
 use Rattle.rules.specs.Base.{Try, ok, no, _>>=_}
 use Rattle.rules.specs.Limits.{most-branches}
 use Rattle.rules.specs.Answers as Answers
 use Rattle.rules.specs.Answers.{Refusal, accepted, refused, atLine, then, malformed}
-use Rattle.rules.specs.Syntax.{Formula, Rel, Stmt, Method, if, else, join, end}
+use Rattle.rules.specs.Syntax.{Formula, Rel, if}
 use Rattle.rules.specs.State as Rules
 use Rattle.rules.specs.Rules.{Open, inFirst, inSecond, ifRule, joinRule, checkRows, checkMethod, checkBlocks, checkProgram}
 use Rattle.rules.proofs.Lists.{decide-eq}
 use Rattle.tables.specs.Decode.{kindAt, lineAt, stmtAt, formulaAt, rowCount, allRows, programIn, methodAt, methodsFrom, methodCount, mainFirst, atomsFrom, requiresAt, ensuresAt, firstRowAt, byteAt, halfAt, methodPlace}
 use Rattle.formulas.specs.Formulas.{formula}
-use Rattle.tables.specs.Tables.{Tables, RowFits}
+use Rattle.tables.specs.Tables.{Tables}
 use Rattle.knowledge.specs.declared.Answer.{Answer}
-use Rattle.knowledge.proofs.Answer.{the-type}
 use Rattle.known.specs.States.{Wf, stateOf}
-use Rattle.knowledge.specs.Answers.{answered, Adds}
+use Rattle.knowledge.specs.Answers.{Adds}
 use Rattle.statements.specs.Statements.{Parts, assertRule, Asserts}
 use Rattle.statements.proofs.Ruled.{Refused, adds-same, empty-add, asserted}
 use Rattle.checker.proofs.Verdict.{the-type as verdict-type}

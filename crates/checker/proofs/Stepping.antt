@@ -1,32 +1,29 @@
 -- One row at a time.
 use mathlib.Core.Path.{_≡_, refl, sym, ap, ap₂, _∙_, subst}
-use mathlib.Core.Bool.{Bool, true, false, cond, not, _&&_}
+use mathlib.Core.Bool.{Bool, true, false, cond, not}
 use mathlib.Core.List.{List, [], _∷_}
-use mathlib.Core.Logic.{_⊎_, inl, inr, ⊎-elim}
-use Prim.Native.Nat.{ℕ, zero, suc, _+_, _*_, _-_, _≤_, _<_}
+use Prim.Native.Nat.{ℕ, suc, _+_, _≤_, _<_}
 use native.Mathlib.Omega.{arith}
-use native.Mathlib.Numerals.{add-one}
 use lib.Dec.{T, eqb, leb, leb→le}
-use lib.ListN.{length, getD, drop}
-use borrow.Author.Tests.{eq-eqb, ne-eqb}
-use Rattle.rules.specs.Base.{Try, ok, no, _>>=_}
-use Rattle.rules.specs.Limits.{most-branches}
+use lib.ListN.{drop}
+use borrow.Author.Tests.{ne-eqb}
+use Rattle.rules.specs.Base.{Try}
 use Rattle.rules.specs.Answers as Answers
 use Rattle.rules.specs.Answers.{Refusal, accepted, refused, atLine, malformed}
-use Rattle.rules.specs.Syntax.{Formula, Rel, Simple, Stmt, Row, simple, if, else, join, end, eq, ne}
+use Rattle.rules.specs.Syntax.{Formula, Rel, Stmt, Row, simple, if, else, join, end, eq, ne}
 use Rattle.rules.specs.Syntax as Syntax
 use Rattle.rules.specs.State as Rules
 use Rattle.rules.specs.Rules.{Open, inFirst, inSecond, rule, newRule, callRule, ifRule, joinRule, elseRow, joinRow, endRow, checkRow, checkRows}
 use Rattle.rules.proofs.Lists.{and-both}
-use Rattle.tables.specs.Decode.{kindAt, xAt, yAt, zAt, memberAt, lineAt, stmtAt, rowAt, ifAt, formulaAt, firstAtomAt, atomCountAt, relOf, leftAt, rightAt, byteAt, atomPlace, rowCount, classCount, methodCount, classAt, methodAt, allRows, programIn}
-use Rattle.tables.specs.Tables.{Tables, nested, nestedRow}
+use Rattle.tables.specs.Decode.{kindAt, xAt, yAt, zAt, memberAt, lineAt, stmtAt, rowAt, ifAt, formulaAt, firstAtomAt, relOf, leftAt, rightAt, byteAt, atomPlace, rowCount, classCount, methodCount, classAt, methodAt, allRows, programIn}
+use Rattle.tables.specs.Tables.{nested, nestedRow}
 use Rattle.tables.proofs.Rows.{row-cons, class-get, method-get}
 use Rattle.links.specs.Links as Links
 use Rattle.knowledge.specs.declared.Answer.{Answer}
 use Rattle.known.specs.States.{stateOf}
 use Rattle.knowledge.specs.Answers.{answered, Adds}
 use Rattle.statements.specs.Statements.{Parts}
-use Rattle.checker.specs.Checked.{outcome, Nests, verdictFrom, Stepped, Ran}
+use Rattle.checker.specs.Checked.{outcome, Nests, verdictFrom, Stepped}
 
 -- `eq` by its number
 pub relation : (k : ℕ) → Links.relOf (not (eqb k 1)) ≡ relOf k

@@ -7,9 +7,9 @@ use lib.ListN.{drop}
 use Rattle.rules.specs.Limits.{most-branches}
 use Rattle.rules.specs.Answers as Answers
 use Rattle.rules.specs.Answers.{Refusal, accepted, refused, unresolved, noPermission, notShown, stateFull, malformed}
-use Rattle.rules.specs.Syntax.{Formula, Simple, simple, if, join}
+use Rattle.rules.specs.Syntax.{Formula, Simple, simple}
 use Rattle.rules.specs.State as Rules
-use Rattle.rules.specs.Rules.{Open, inFirst, inSecond, rule, ifRule, joinRule, checkRows}
+use Rattle.rules.specs.Rules.{Open, inFirst, inSecond, rule, checkRows}
 use Rattle.tables.specs.Decode.{kindAt, lineAt, stmtAt, rowCount, allRows, programIn}
 use Rattle.tables.specs.Tables.{nested}
 use Rattle.knowledge.specs.declared.Answer.{Answer}

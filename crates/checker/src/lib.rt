@@ -1,8 +1,8 @@
 use knowledge::Answer;
 use links::Term;
 ghost use mathlib.Core.Path.{_≡_};
-ghost use mathlib.Core.List.{List, [], _∷_};
-ghost use Prim.Native.Nat.{ℕ, _+_, _-_, _≤_, _<_};
+ghost use mathlib.Core.List.{[]};
+ghost use Prim.Native.Nat.{_+_, _-_, _≤_, _<_};
 ghost use Rattle.rules.specs.Limits.{most-branches};
 ghost use Rattle.rules.specs.Answers as Answers;
 ghost use Rattle.rules.specs.Syntax as Syntax;
@@ -10,7 +10,6 @@ ghost use Rattle.tables.specs.Layout.{most-atom-rows};
 ghost use Rattle.rules.specs.Rules.{rule, ifRule, joinRule, checkProgram, checkMethod};
 ghost use Rattle.tables.specs.Decode.{kindAt, xAt, yAt, zAt, memberAt, firstAtomAt, rowCount, methodCount, relOf, leftAt, rightAt, byteAt, atomPlace, formulaAt, atomsFrom, methodAt, programIn};
 ghost use Rattle.tables.specs.Tables.{Tables};
-ghost use Rattle.links.specs.Links.{Header};
 ghost use Rattle.known.specs.States.{Wf, stateOf};
 ghost use Rattle.knowledge.specs.Answers.{Adds};
 ghost use Rattle.statements.specs.Statements.{Parts};

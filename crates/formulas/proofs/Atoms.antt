@@ -1,17 +1,16 @@
 -- Atoms of the tables, and formulas atom by atom.
 use mathlib.Core.Path.{_≡_, refl, sym, ap, ap₂, _∙_, subst}
-use mathlib.Core.Bool.{Bool, true, false, cond, _&&_}
+use mathlib.Core.Bool.{Bool, false, _&&_}
 use mathlib.Core.List.{List, [], _∷_, map}
-use Prim.Native.Nat.{ℕ, zero, suc, _+_, _-_, _≤_, _<_}
+use Prim.Native.Nat.{ℕ, suc, _+_, _-_, _<_}
 use native.Mathlib.Omega.{arith}
-use lib.Dec.{eqb}
-use lib.ListN.{length, getD, replicate}
+use lib.ListN.{getD, replicate}
 use borrow.Author.Tests.{eq-eqb, ne-eqb}
 use types.Run.{OneOf, miss}
 use denote.Enum.Declared.{tagOf}
-use Rattle.rules.specs.Base.{Try, ok, no, _>>=_, any}
+use Rattle.rules.specs.Base.{Try, _>>=_, any}
 use Rattle.rules.specs.Answers.{Refusal}
-use Rattle.rules.specs.Syntax.{Formula, Atom, eq, ne, acc, cmp}
+use Rattle.rules.specs.Syntax.{Formula, Atom, eq, ne, cmp}
 use Rattle.rules.specs.State as Rules
 use Rattle.rules.specs.State.{Permission, equalIn, showFrom}
 use Rattle.rules.specs.Rules.{actual, substTerm, substAtom}

@@ -3,7 +3,7 @@ use knowledge::Atom;
 use knowledge::Shown;
 use links::Term;
 ghost use mathlib.Core.Path.{_≡_};
-ghost use Prim.Native.Nat.{ℕ, _+_, _≤_, _<_};
+ghost use Prim.Native.Nat.{_+_, _≤_, _<_};
 ghost use lib.ListN.{length};
 ghost use Rattle.rules.specs.Limits.{work-bytes};
 ghost use Rattle.rules.specs.State as Rules;

@@ -1,19 +1,18 @@
 -- Showing and adding, one atom at a time.
-use mathlib.Core.Path.{_≡_, refl, sym, ap, ap₂, _∙_, subst}
-use mathlib.Core.Bool.{Bool, true, false, cond, not, _&&_, _||_}
+use mathlib.Core.Path.{_≡_, refl, sym, ap, _∙_, subst}
+use mathlib.Core.Bool.{Bool, true, false, not, _&&_, _||_}
 use mathlib.Core.List.{List, [], _∷_, _++_}
-use mathlib.Core.Option.{Option, none, some}
-use Prim.Native.Nat.{ℕ, zero, suc, _+_, _*_, _≤_, _<_}
+use Prim.Native.Nat.{ℕ, _+_, _*_, _≤_, _<_}
 use native.Mathlib.Omega.{arith}
-use lib.Dec.{eqb, ltb}
+use lib.Dec.{eqb}
 use lib.ListN.{length, getD, set, length-set}
 use lib.Seq.{getD-set-same, getD-set-other}
 use borrow.Author.Tests.{lt-ltb, le-ltb}
-use Rattle.rules.specs.Base.{Try, ok, no, _>>=_, _>>_, check, orElse, any}
-use Rattle.rules.specs.Answers.{Refusal, unresolved, noPermission, notShown, stateFull}
-use Rattle.rules.specs.Syntax.{Formula, Rel, acc, cmp, eq, ne}
+use Rattle.rules.specs.Base.{ok, no, _>>=_, _>>_, check, orElse, any}
+use Rattle.rules.specs.Answers.{unresolved}
+use Rattle.rules.specs.Syntax.{Formula, Rel, acc, cmp}
 use Rattle.rules.specs.State as Rules
-use Rattle.rules.specs.State.{Permission, Term, equalIn, names, holdsIn, showFrom, split, resolve}
+use Rattle.rules.specs.State.{Permission, Term, equalIn, names, holdsIn, showFrom, resolve}
 use Rattle.links.specs.Keys.{termOf}
 use Rattle.links.specs.Links.{relOf}
 use Rattle.links.proofs.Listing.{listed-length}
@@ -21,7 +20,7 @@ use Rattle.knowledge.specs.declared.Answer.{Answer}
 use Rattle.known.specs.declared.Resolved.{Resolved}
 use Rattle.known.specs.States.{Wf, stateOf, facts, entries, factAt, factsOf, permissionAt, permissionsOf}
 use Rattle.known.specs.Questions.{FirstPlace, entryTest, passes, resolvedAs}
-use Rattle.removal.specs.Changes.{kept, gone, Taken}
+use Rattle.removal.specs.Changes.{kept}
 use Rattle.knowledge.specs.Answers.{answered, ShowsAtom, ShowsRelation, Adds, AddsAtom}
 use Rattle.known.specs.States.{factsIn, permissionsIn, Linked}
 use Rattle.links.specs.Links.{Pushed, factOf}

@@ -1,22 +1,21 @@
 -- The first entry that passes.
-use mathlib.Core.Path.{_≡_, refl, sym, ap, ap₂, _∙_}
-use mathlib.Core.Bool.{Bool, true, false, cond, not, _&&_, _||_}
-use mathlib.Core.List.{List, [], _∷_, _++_}
-use mathlib.Core.Option.{Option, none, some}
+use mathlib.Core.Path.{_≡_, refl, sym, _∙_}
+use mathlib.Core.Bool.{Bool, true, false, cond}
+use mathlib.Core.List.{List, [], _∷_}
+use mathlib.Core.Option.{none, some}
 use mathlib.Core.Logic.{_⊎_, inl, inr, ⊎-elim}
-use Prim.Native.Nat.{ℕ, zero, suc, _+_, _≤_, _<_}
+use Prim.Native.Nat.{ℕ, zero, suc, _<_}
 use native.Mathlib.Omega.{arith}
-use lib.Dec.{eqb, ltb}
-use lib.ListN.{length, getD, set, replicate, getD-replicate, List·getD-eq-default, length-replicate}
-use borrow.Author.Tests.{ne-eqb, lt-ltb, le-ltb, ltb-true, ltb-false}
-use Rattle.rules.specs.Base.{Try, ok, no, _>>=_, orElse, first}
-use Rattle.rules.specs.Answers.{Refusal, unresolved}
-use Rattle.rules.specs.Syntax.{var, path}
+use lib.Dec.{ltb}
+use lib.ListN.{getD, replicate, getD-replicate, List·getD-eq-default, length-replicate}
+use borrow.Author.Tests.{ne-eqb, ltb-true, ltb-false}
+use Rattle.rules.specs.Base.{ok, no, _>>=_, orElse, first}
+use Rattle.rules.specs.Answers.{unresolved}
+use Rattle.rules.specs.Syntax.{path}
 use Rattle.rules.specs.State as Rules
-use Rattle.rules.specs.State.{Permission, Equality, equalIn, equalBy, representative, names, pathOf}
-use Rattle.rules.proofs.Lists.{decide-eq}
+use Rattle.rules.specs.State.{Equality, equalIn, equalBy, representative, names, pathOf}
 use Rattle.links.specs.Listing.{listed}
-use Rattle.links.proofs.Listing.{listed-none, first-append, first-here, first-found}
+use Rattle.links.proofs.Listing.{first-append, first-here, first-found}
 use Rattle.known.specs.States.{factsOf, permissionAt, permissionsOf, stateOf, entries}
 use Rattle.known.specs.Questions.{FirstPlace, entryTest, passes, pathAt, standsFor, variableOr}
 

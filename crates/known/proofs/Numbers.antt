@@ -1,14 +1,14 @@
 -- (b): different numbers.
-use mathlib.Core.Path.{_≡_, refl, sym, ap, ap₂, _∙_, subst}
+use mathlib.Core.Path.{_≡_, refl, sym, ap, ap₂, _∙_}
 use mathlib.Core.Bool.{Bool, true, false, cond, not, _&&_, _||_}
 use mathlib.Core.List.{List, [], _∷_, _++_}
-use mathlib.Core.Logic.{_⊎_, inl, inr, ⊎-elim}
+use mathlib.Core.Logic.{inl, ⊎-elim}
 use Prim.Native.Nat.{ℕ, zero, suc, _+_, _*_, _-_, _/_, _%_, _≤_, _<_}
 use native.Mathlib.Omega.{arith}
 use lib.Dec.{eqb, ltb, leb}
 use lib.ListN.{length, getD, set, length-set}
 use lib.Seq.{getD-set-same, getD-set-other}
-use borrow.Author.Tests.{eq-eqb, ne-eqb, lt-ltb, le-ltb, le-leb, lt-leb, leb-true, leb-false, eqb-true, eqb-false}
+use borrow.Author.Tests.{eq-eqb, ne-eqb, lt-ltb, leb-true, leb-false}
 use Rattle.rules.specs.Base.{any}
 use Rattle.rules.specs.Syntax.{num, null, var, path}
 use Rattle.rules.specs.State.{Fact, Term, Equality, representative, equalBy, numbers, termsOf, differentNumbers}
@@ -16,11 +16,10 @@ use Rattle.rules.proofs.Lists.{decide-eq}
 use Rattle.links.specs.Keys.{termOf}
 use Rattle.links.specs.Listing.{listed}
 use Rattle.links.specs.Links.{Labelled, Decides, alikeBy}
-use Rattle.links.proofs.Keys.{of-variable, of-null, of-number}
-use Rattle.links.proofs.Listing.{any-append, or-false}
+use Rattle.links.proofs.Keys.{of-number}
 use Rattle.links.proofs.Labels.{alike}
 use Rattle.known.specs.States.{factAt, factsIn}
-use Rattle.known.specs.Questions.{numberLike, otherLike, otherIn, otherNumber, twoNumbers, places}
+use Rattle.known.specs.Questions.{numberLike, otherLike, otherNumber, twoNumbers, places}
 use Rattle.known.proofs.Searches.{any-same}
 
 -- the numbers among terms, one term at a time

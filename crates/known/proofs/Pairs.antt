@@ -1,15 +1,15 @@
 -- (d): two entries for one field.
-use mathlib.Core.Path.{_≡_, refl, sym, ap, ap₂, _∙_}
-use mathlib.Core.Bool.{Bool, true, false, cond, not, _&&_, _||_}
+use mathlib.Core.Path.{_≡_, refl, ap, ap₂, _∙_}
+use mathlib.Core.Bool.{Bool, true, false, _&&_, _||_}
 use mathlib.Core.List.{List, [], _∷_, _++_}
-use mathlib.Core.Logic.{_⊎_, inl, inr, ⊎-elim}
-use Prim.Native.Nat.{ℕ, zero, suc, _+_, _*_, _≤_, _<_}
+use mathlib.Core.Logic.{⊎-elim}
+use Prim.Native.Nat.{ℕ, zero, suc, _+_, _≤_, _<_}
 use native.Mathlib.Omega.{arith}
 use lib.Dec.{eqb}
 use borrow.Author.Tests.{eq-eqb}
 use Rattle.rules.specs.Base.{any}
 use Rattle.rules.specs.Syntax.{var}
-use Rattle.rules.specs.State.{Permission, Term, Equality, links, twoEntries}
+use Rattle.rules.specs.State.{Permission, Equality, links, twoEntries}
 use Rattle.rules.proofs.Lists.{decide-eq}
 use Rattle.links.specs.Keys.{termOf}
 use Rattle.links.specs.Listing.{listed}

@@ -1,15 +1,15 @@
 -- Laws of searches over a list by its places.
 use mathlib.Core.Path.{_≡_, refl, sym, ap, ap₂, _∙_}
-use mathlib.Core.Bool.{Bool, true, false, cond, not, _&&_, _||_}
-use mathlib.Core.List.{List, [], _∷_, _++_}
-use mathlib.Core.Logic.{_⊎_, inl, inr, ⊎-elim}
+use mathlib.Core.Bool.{Bool, true, false, cond, _&&_, _||_}
+use mathlib.Core.List.{List, [], _∷_}
+use mathlib.Core.Logic.{inl}
 use Prim.Native.Nat.{ℕ, zero, suc, _+_, _*_, _≤_, _<_}
 use native.Mathlib.Omega.{arith}
 use lib.Dec.{eqb}
-use lib.ListN.{length, getD}
+use lib.ListN.{getD}
 use borrow.Author.Tests.{ne-eqb}
 use Rattle.rules.specs.Base.{any}
-use Rattle.rules.specs.Syntax.{eq, ne, null}
+use Rattle.rules.specs.Syntax.{null}
 use Rattle.rules.specs.State.{Fact, Term, representative, equalBy, links, listedUnequal, isNe}
 use Rattle.links.specs.Keys.{termOf}
 use Rattle.links.specs.Listing.{listed}

@@ -1,9 +1,8 @@
 -- The ways in which an inequality is shown.
-use mathlib.Core.Path.{_≡_, refl, sym, ap, _∙_}
-use mathlib.Core.Bool.{Bool, true, false, _&&_, _||_}
+use mathlib.Core.Path.{_≡_, refl, sym, _∙_}
+use mathlib.Core.Bool.{Bool, true, false, _||_}
 use mathlib.Core.List.{List}
-use Prim.Native.Nat.{ℕ, _+_, _*_, _≤_, _<_}
-use native.Mathlib.Omega.{arith}
+use Prim.Native.Nat.{ℕ, _+_, _*_}
 use Rattle.rules.specs.Base.{any}
 use Rattle.rules.specs.Syntax.{ne}
 use Rattle.rules.specs.State.{Equality, representative, equalBy, equalIn, holdsIn, listedUnequal, differentNumbers, nullAndObject, twoEntries}

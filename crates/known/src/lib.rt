@@ -8,7 +8,7 @@ ghost use Rattle.rules.specs.Syntax.{var};
 ghost use Rattle.rules.specs.State as Rules;
 ghost use Rattle.rules.specs.State.{nullAndObject, twoEntries, differentNumbers, equalBy, equalIn, representative, holdsIn};
 ghost use Rattle.links.specs.Keys.{termOf, meaning};
-ghost use Rattle.links.specs.Links.{Labelled, Decides, alikeBy, relOf};
+ghost use Rattle.links.specs.Links.{Labelled, Decides, relOf};
 ghost use Rattle.known.specs.States.{Wf, stateOf, factsIn, permissionsIn, permissionsOf, variableAt, entries};
 ghost use Rattle.known.specs.Questions.{Slots, Told, FirstPlace, entryTest, passes, eitherWay, unequalAt, unequalIn, places, numberLike, otherLike, otherNumber, twoNumbers, pairAt, resolvedAs, pathAt, standsFor, variableOr};
 

@@ -3,7 +3,7 @@ use mathlib.Core.Path.{_≡_, refl, sym, ap, _∙_, subst}
 use mathlib.Core.Bool.{Bool, true, false, cond}
 use mathlib.Core.List.{List, [], _∷_, _++_}
 use mathlib.Core.Logic.{_⊎_, inl, inr, ⊎-elim}
-use Prim.Native.Nat.{ℕ, zero, suc, _+_, _≤_, _<_}
+use Prim.Native.Nat.{ℕ, _+_, _≤_, _<_}
 use native.Mathlib.Omega.{arith}
 use lib.Dec.{T, eqb, ltb}
 use lib.ListN.{length, getD, set, length-set}
@@ -11,7 +11,7 @@ use lib.Seq.{getD-set-same, getD-set-other}
 use borrow.Author.Tests.{eq-eqb, ne-eqb, eqb-true, eqb-false, ltb-true, ltb-false}
 use Rattle.rules.specs.Syntax.{eq, ne, same}
 use Rattle.rules.specs.State.{Term, Fact, representative, equalBy}
-use Rattle.rules.proofs.Closure.{Listed, Linked, Equivalence, linked-least, here, there, listed, linked→representative, representative→linked, same→≡, same-refl}
+use Rattle.rules.proofs.Closure.{Listed, Equivalence, linked-least, here, there, listed, linked→representative, representative→linked, same→≡, same-refl}
 use Rattle.rules.proofs.Lists.{decide-eq, T-true, F-false}
 use Rattle.links.specs.Keys.{termOf}
 use Rattle.links.specs.Links.{termAt, Header, Found, Missing, Labelled, Alike, Together, Decides, Merged, Joined, Told, Slotted, Pushed, Marked, placeOf, picked, relOf, factOf, alikeBy, left-new, right-new, both-known}

@@ -1,28 +1,24 @@
 -- What the changes of a state leave.
 use mathlib.Core.Path.{_≡_, refl, sym, ap, ap₂, _∙_}
-use mathlib.Core.Bool.{Bool, true, false, cond, not, _&&_, _||_}
-use mathlib.Core.List.{List, [], _∷_, _++_}
-use mathlib.Core.Option.{Option, none, some}
-use mathlib.Core.Logic.{_⊎_, inl, inr, ⊎-elim}
-use Prim.Native.Nat.{ℕ, zero, suc, _+_, _*_, _≤_, _<_}
+use mathlib.Core.Bool.{Bool, true, false, cond, not, _||_}
+use mathlib.Core.List.{List, [], _∷_}
+use mathlib.Core.Option.{none, some}
+use Prim.Native.Nat.{ℕ, zero, suc, _+_, _*_, _<_}
 use native.Mathlib.Omega.{arith}
 use lib.Dec.{eqb}
 use lib.ListN.{getD, replicate}
 use borrow.Author.Tests.{ne-eqb, eqb-true, eqb-false}
-use Rattle.rules.specs.Base.{any, first, keep, mapOption, bindOption}
+use Rattle.rules.specs.Base.{any, bindOption}
 use Rattle.rules.specs.Syntax as Syntax
-use Rattle.rules.specs.Syntax.{var, path}
+use Rattle.rules.specs.Syntax.{path}
 use Rattle.rules.specs.State as Rules
-use Rattle.rules.specs.State.{Permission, Fact, Equality, equalIn, equalBy, representative, pathOf, namesPath, withoutPaths, renameVariable, renameTerm, renameFact, renamePermission, variables}
+use Rattle.rules.specs.State.{Permission, Fact, pathOf, namesPath, withoutPaths, renameVariable, renameFact, renamePermission}
 use Rattle.links.specs.Keys.{termOf}
 use Rattle.links.specs.Listing.{listed}
-use Rattle.links.specs.Links.{factOf}
 use Rattle.links.proofs.Keys.{same-key}
 use Rattle.links.proofs.Listing.{any-found, listed-same, or-false}
-use Rattle.known.specs.States.{Wf, stateOf, facts, entries, factAt, factsOf, factsIn, variableAt, fieldAt, permissionAt, permissionsOf}
-use Rattle.known.specs.Questions.{places}
-use Rattle.removal.specs.Changes.{Becomes, Taken, Rebuilt, Packed, Flags, renamedKey, renamedVariable, renamedFact, renamedPermission, mentionsKey, factMentions, pathOut, pathOutAt, keyOut, factHas, factNames, flagged, withoutPath, kept, gone}
-use Rattle.known.proofs.Searches.{any-same, any-false}
+use Rattle.known.specs.States.{Wf, stateOf, facts, entries, factAt, factsOf, variableAt, fieldAt, permissionAt, permissionsOf}
+use Rattle.removal.specs.Changes.{Becomes, Taken, Rebuilt, Packed, Flags, renamedVariable, renamedFact, renamedPermission, mentionsKey, factMentions, pathOut, keyOut, factHas, factNames, flagged, withoutPath, kept, gone}
 use Rattle.known.proofs.Entries.{no-flags}
 use Rattle.removal.proofs.Renaming.{renamed-same, renamed-silent, renamed-term, gone-term}
 use Rattle.removal.proofs.Keeping.{kept-same, kept-all, kept-keep, kept-map, gone-any, entries-same, packed-wf, packed-facts}

@@ -4,7 +4,7 @@ use mathlib.Core.Bool.{Bool, true, false, cond, not, _&&_, _||_}
 use mathlib.Core.List.{List, [], _∷_, _++_, append-nil}
 use mathlib.Core.Option.{Option, none, some}
 use mathlib.Core.Logic.{_⊎_, inl, inr, ⊎-elim}
-use Prim.Native.Nat.{ℕ, zero, suc, _+_, _*_, _-_, _≤_, _<_}
+use Prim.Native.Nat.{ℕ, zero, suc, _+_, _*_, _≤_, _<_}
 use native.Mathlib.Omega.{arith}
 use native.Mathlib.Numerals.{add-one}
 use lib.Dec.{eqb}
@@ -15,9 +15,9 @@ use Rattle.rules.specs.State.{Fact, Permission}
 use Rattle.rules.proofs.Lists.{decide-eq}
 use Rattle.links.specs.Listing.{listed}
 use Rattle.links.specs.Links.{Header, Decides, Pushed, factOf}
-use Rattle.links.proofs.Listing.{listed-more, listed-same, any-append, keep-append, map-append, or-false}
+use Rattle.links.proofs.Listing.{listed-more, listed-same, any-append, keep-append, map-append}
 use Rattle.links.proofs.Labels.{header-set}
-use Rattle.known.specs.States.{apartAt, factAt, factsIn, factsOf, facts, entries, variableAt, fieldAt, permissionAt, permissionsIn, permissionsOf, Linked, Wf}
+use Rattle.known.specs.States.{factAt, factsIn, factsOf, facts, entries, permissionAt, permissionsIn, Linked, Wf}
 use Rattle.removal.specs.Changes.{kept, gone, KeepsFact, KeepsEntry, Fresh, Rebuilt, Packed, renamedFact, renamedPermission}
 
 module _ {A : Type 0} where

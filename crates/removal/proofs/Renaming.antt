@@ -1,15 +1,15 @@
 -- Renaming a variable in a key.
-use mathlib.Core.Path.{_≡_, refl, sym, ap, ap₂, _∙_}
+use mathlib.Core.Path.{_≡_, refl, sym, _∙_}
 use mathlib.Core.Bool.{Bool, true, false, cond, _&&_, _||_}
-use mathlib.Core.Option.{Option, none, some}
+use mathlib.Core.Option.{none, some}
 use mathlib.Core.Logic.{_⊎_, inl, inr, ⊎-elim}
-use Prim.Native.Nat.{ℕ, zero, suc, _+_, _*_, _-_, _/_, _%_, _≤_, _<_}
+use Prim.Native.Nat.{ℕ, _+_, _*_, _-_, _/_, _%_, _≤_, _<_}
 use native.Mathlib.Omega.{arith}
 use lib.Dec.{eqb, ltb, leb}
 use borrow.Author.Tests.{eq-eqb, ne-eqb, lt-ltb, le-ltb, le-leb, lt-leb, ltb-true, ltb-false, leb-true, leb-false}
 use Rattle.rules.specs.Base.{bindOption}
-use Rattle.rules.specs.Syntax.{num, null, var, path}
-use Rattle.rules.specs.State.{Term, renameVariable, renameTerm}
+use Rattle.rules.specs.Syntax.{var, path}
+use Rattle.rules.specs.State.{renameVariable, renameTerm}
 use Rattle.rules.proofs.Lists.{decide-eq}
 use Rattle.links.specs.Keys.{termOf}
 use Rattle.links.proofs.Keys.{of-variable, of-null, of-path, of-number}

@@ -2,8 +2,7 @@ use knowledge::Answer;
 use known::Resolved;
 use links::Term;
 ghost use mathlib.Core.Path.{_≡_};
-ghost use mathlib.Core.List.{List};
-ghost use Prim.Native.Nat.{ℕ, _+_, _≤_, _<_};
+ghost use Prim.Native.Nat.{_+_, _≤_, _<_};
 ghost use lib.ListN.{length};
 ghost use Rattle.rules.specs.Limits.{work-bytes, most-classes, most-fields};
 ghost use Rattle.rules.specs.Rules.{setRule, addEqual, assignRule, newRule, addFields, addInitial, callRule, ifRule, joinRule};
@@ -15,7 +14,6 @@ ghost use Rattle.links.specs.Links.{relOf};
 ghost use Rattle.known.specs.States.{Wf, stateOf};
 ghost use Rattle.removal.specs.Changes.{leftOver};
 ghost use Rattle.knowledge.specs.Answers.{Adds};
-ghost use Rattle.formulas.specs.Formulas.{formula};
 ghost use Rattle.statements.specs.Statements.{Parts, assignTerm, callShown, partRule, initialOf, Asserts, releaseRule};
 
 // `set x f y`: the facts that name the path that shows `acc x f` go, and the path is y.

@@ -6,7 +6,6 @@ use Rattle.tables.specs.Decode.{methodsFrom, programIn}
 use borrow.Author.Needs.{needs}
 use mathlib.Core.Path.{_≡_, sym, _∙_, subst, refl}
 use native.Mathlib.Omega.{arith}
-use Rattle.knowledge.specs.declared.Answer.{Answer}
 use Rattle.checker.specs.Checked.{Nests}
 use Rattle.checker.proofs.check.Statement.{statement}
 use Rattle.checker.proofs.check.Tie as tie

@@ -1,6 +1,5 @@
 use Rattle.checker.proofs.Blocks.{block-refused, block-ended, block-open}
 use mathlib.Core.Path.{sym, _∙_}
-use Rattle.knowledge.specs.declared.Answer.{Answer}
 use borrow.Author.Needs.{needs}
 use Rattle.checker.proofs.check_block.Statement.{statement}
 use Rattle.checker.proofs.check_block.Tie as tie

@@ -2,7 +2,6 @@ use Prim.Native.Nat.{ℕ}
 use Rattle.checker.proofs.Blocks.{method-refused, method-done}
 use mathlib.Core.Path.{sym, _∙_, subst}
 use native.Mathlib.Omega.{arith}
-use Rattle.knowledge.specs.declared.Answer.{Answer}
 use Rattle.checker.specs.Checked.{Nests}
 use borrow.Author.Needs.{needs}
 use Rattle.checker.proofs.check_method.Statement.{statement}

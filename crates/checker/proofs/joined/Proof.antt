@@ -1,9 +1,6 @@
 use Rattle.checker.proofs.Blocks.{joined-refused, joined-join, joined-wrong}
 use mathlib.Core.Path.{sym, _∙_}
 use native.Mathlib.Omega.{arith}
-use Rattle.knowledge.specs.declared.Answer.{Answer}
-use Rattle.rules.specs.State as Rules
-use Rattle.tables.specs.Tables.{Tables}
 use borrow.Author.Needs.{needs}
 use Rattle.checker.proofs.joined.Statement.{statement}
 use Rattle.checker.proofs.joined.Tie as tie

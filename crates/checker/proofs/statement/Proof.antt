@@ -2,12 +2,6 @@ use Rattle.checker.proofs.Stepping.{is-set, is-let, is-new, is-call, is
 use Rattle.rules.specs.Base.{is}
 use mathlib.Core.Path.{sym, _∙_}
 use native.Mathlib.Omega.{arith}
-use Rattle.knowledge.specs.declared.Answer.{Answer}
-use Rattle.rules.specs.Syntax as Syntax
-use Rattle.rules.specs.State as Rules
-use Rattle.rules.specs.Rules.{rule, setRule, assignRule, newRule, callRule}
-use Rattle.links.specs.Links as Links
-use Rattle.links.specs.Keys.{meaning}
 use borrow.Author.Needs.{needs}
 use Rattle.checker.proofs.statement.Statement.{statement}
 use Rattle.checker.proofs.statement.Tie as tie

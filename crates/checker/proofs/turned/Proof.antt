@@ -1,9 +1,6 @@
 use Rattle.checker.proofs.Blocks.{turned-refused, turned-else, turned-wrong}
 use mathlib.Core.Path.{sym, _∙_}
 use native.Mathlib.Omega.{arith}
-use Rattle.knowledge.specs.declared.Answer.{Answer}
-use Rattle.rules.specs.State as Rules
-use Rattle.tables.specs.Tables.{Tables}
 use borrow.Author.Needs.{needs}
 use Rattle.checker.proofs.turned.Statement.{statement}
 use Rattle.checker.proofs.turned.Tie as tie

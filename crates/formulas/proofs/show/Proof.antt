@@ -5,7 +5,7 @@ use Rattle.knowledge.specs.Answers.{ShowsAtom}
 use borrow.Author.Needs.{needs}
 use mathlib.Core.Path.{_≡_, subst}
 use native.Mathlib.Omega.{arith}
-use Rattle.rules.specs.Syntax.{Atom, Formula}
+use Rattle.rules.specs.Syntax.{Atom}
 use Rattle.formulas.proofs.show.Statement.{statement}
 use Rattle.formulas.proofs.show.Tie as tie
 use Rattle.formulas.proofs.show.Reads as reads

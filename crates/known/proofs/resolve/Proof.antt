@@ -1,4 +1,3 @@
-use native.Mathlib.Omega.{arith}
 use Rattle.known.proofs.Entries.{resolve-path}
 use Rattle.known.specs.Questions.{resolvedAs}
 use Rattle.known.specs.States.{permissionsOf, stateOf}

@@ -1,4 +1,4 @@
-use Prim.Native.Nat.{ℕ, _-_, _≤_}
+use Prim.Native.Nat.{_-_, _≤_}
 use Rattle.known.specs.Questions.{Told}
 use Rattle.known.specs.States.{permissionAt, permissionsIn}
 use Rattle.links.proofs.Listing.{any-none, any-past, any-found}

@@ -1,7 +1,7 @@
 use Rattle.links.proofs.Labels.{not-in-header, unmarked}
-use mathlib.Core.Bool.{Bool, false}
+use mathlib.Core.Bool.{false}
 use mathlib.Core.Logic.{inl, inr}
-use mathlib.Core.Path.{_≡_, refl, sym, ap, _∙_}
+use mathlib.Core.Path.{refl, sym, ap, _∙_}
 use lib.ListN.{getD}
 use Prim.Native.Nat.{ℕ}
 use native.Mathlib.Omega.{arith}

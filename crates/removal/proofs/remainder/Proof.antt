@@ -1,5 +1,4 @@
 use Rattle.removal.proofs.Changes.{remainder-law}
-use borrow.Author.Needs.{needs}
 use Rattle.removal.proofs.remainder.Statement.{statement}
 use Rattle.removal.proofs.remainder.Tie as tie
 use Rattle.removal.proofs.remainder.Reads as reads

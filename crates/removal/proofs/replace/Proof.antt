@@ -3,7 +3,6 @@ use lib.ListN.{replicate}
 use mathlib.Core.Bool.{false}
 use Rattle.removal.proofs.Changes.{replace-law}
 use native.Mathlib.Omega.{arith}
-use borrow.Author.Needs.{needs}
 use Rattle.removal.proofs.replace.Statement.{statement}
 use Rattle.removal.proofs.replace.Tie as tie
 use Rattle.removal.proofs.replace.Reads as reads

@@ -1,8 +1,5 @@
 use Rattle.known.specs.States.{stateOf}
 use Rattle.statements.proofs.Ruled.{equal-none, equal-some}
-use Rattle.links.specs.Links.{relOf}
-use Rattle.knowledge.specs.declared.Answer.{Answer}
-use Rattle.rules.specs.State as Rules
 use borrow.Author.Needs.{needs}
 use Rattle.statements.proofs.add_equal.Statement.{statement}
 use Rattle.statements.proofs.add_equal.Tie as tie

@@ -9,8 +9,6 @@ use borrow.Author.Needs.{needs}
 use mathlib.Core.List.{List}
 use mathlib.Core.Path.{_≡_, sym, ap, _∙_, subst}
 use native.Mathlib.Omega.{arith}
-use Rattle.links.specs.Links.{relOf}
-use Rattle.knowledge.specs.declared.Answer.{Answer}
 use Rattle.rules.specs.State as Rules
 use Rattle.statements.proofs.add_fields.Statement.{statement}
 use Rattle.statements.proofs.add_fields.Tie as tie

@@ -9,9 +9,6 @@ use borrow.Author.Needs.{needs}
 use mathlib.Core.List.{List}
 use mathlib.Core.Path.{_≡_, sym, ap, _∙_}
 use native.Mathlib.Omega.{arith}
-use Rattle.links.specs.Links.{relOf}
-use Rattle.knowledge.specs.declared.Answer.{Answer}
-use Rattle.rules.specs.State as Rules
 use Rattle.statements.proofs.add_initial.Statement.{statement}
 use Rattle.statements.proofs.add_initial.Tie as tie
 use Rattle.statements.proofs.add_initial.Reads as reads

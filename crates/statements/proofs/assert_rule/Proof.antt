@@ -4,9 +4,6 @@ use Rattle.rules.specs.Syntax.{Formula}
 use Rattle.statements.proofs.Ruled.{plain, assert-law}
 use Rattle.statements.specs.Statements.{Asserts}
 use mathlib.Core.Path.{subst}
-use Rattle.links.specs.Links.{relOf}
-use Rattle.knowledge.specs.declared.Answer.{Answer}
-use Rattle.rules.specs.State as Rules
 use borrow.Author.Needs.{needs}
 use Rattle.statements.proofs.assert_rule.Statement.{statement}
 use Rattle.statements.proofs.assert_rule.Tie as tie

@@ -1,8 +1,5 @@
 use Rattle.statements.proofs.Ruled.{adds-same, adds-ok, assign-same, assign-other}
 use mathlib.Core.Path.{sym}
-use Rattle.links.specs.Links.{relOf}
-use Rattle.knowledge.specs.declared.Answer.{Answer}
-use Rattle.rules.specs.State as Rules
 use borrow.Author.Needs.{needs}
 use Rattle.statements.proofs.assign_key.Statement.{statement}
 use Rattle.statements.proofs.assign_key.Tie as tie

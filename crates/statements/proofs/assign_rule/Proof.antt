@@ -3,9 +3,7 @@ use Rattle.knowledge.specs.Answers.{answered}
 use Rattle.known.specs.States.{stateOf}
 use Rattle.statements.proofs.Ruled.{adds-same, adds-no, assign-found, assign-lost}
 use mathlib.Core.Path.{sym, _∙_}
-use Rattle.links.specs.Links.{relOf}
 use Rattle.knowledge.specs.declared.Answer.{Answer}
-use Rattle.rules.specs.State as Rules
 use borrow.Author.Needs.{needs}
 use Rattle.statements.proofs.assign_rule.Statement.{statement}
 use Rattle.statements.proofs.assign_rule.Tie as tie

@@ -2,9 +2,7 @@ use Rattle.known.specs.States.{stateOf}
 use Rattle.knowledge.specs.Answers.{answered}
 use Rattle.statements.proofs.Ruled.{adds-same, adds-no, call-null, call-object}
 use mathlib.Core.Path.{sym, _∙_}
-use Rattle.links.specs.Links.{relOf}
 use Rattle.knowledge.specs.declared.Answer.{Answer}
-use Rattle.rules.specs.State as Rules
 use borrow.Author.Needs.{needs}
 use Rattle.statements.proofs.call_rule.Statement.{statement}
 use Rattle.statements.proofs.call_rule.Tie as tie

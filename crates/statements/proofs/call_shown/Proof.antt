@@ -1,9 +1,6 @@
 use Rattle.statements.proofs.Ruled.{call-refused, call-done}
 use mathlib.Core.Path.{refl}
 use native.Mathlib.Omega.{arith}
-use Rattle.links.specs.Links.{relOf}
-use Rattle.knowledge.specs.declared.Answer.{Answer}
-use Rattle.rules.specs.State as Rules
 use borrow.Author.Needs.{needs}
 use Rattle.statements.proofs.call_shown.Statement.{statement}
 use Rattle.statements.proofs.call_shown.Tie as tie

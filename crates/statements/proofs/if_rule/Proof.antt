@@ -1,14 +1,9 @@
 use Rattle.statements.proofs.Ruled.{copied}
 use Rattle.knowledge.proofs.Showing.{nothing-resolved, key-resolved}
-use Rattle.known.specs.States.{stateOf}
-use Rattle.rules.specs.Rules.{ifRule}
 use Rattle.statements.proofs.Ruled.{if-left, if-right, if-both}
-use Rattle.statements.specs.Statements.{Parts}
-use mathlib.Core.Path.{sym, _∙_, subst}
+use mathlib.Core.Path.{sym, _∙_}
 use Rattle.links.specs.Links.{relOf}
 use Rattle.links.specs.Keys.{meaning}
-use Rattle.knowledge.specs.declared.Answer.{Answer}
-use Rattle.rules.specs.State as Rules
 use borrow.Author.Needs.{needs}
 use Rattle.statements.proofs.if_rule.Statement.{statement}
 use Rattle.statements.proofs.if_rule.Tie as tie

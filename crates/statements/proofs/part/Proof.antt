@@ -1,12 +1,7 @@
 use mathlib.Core.Path.{ap₂}
 use Rattle.statements.proofs.Ruled.{copied}
 use Rattle.known.specs.States.{stateOf}
-use Rattle.links.specs.Keys.{termOf}
 use Rattle.statements.proofs.Ruled.{part-refused, part-done}
-use Rattle.links.specs.Links.{relOf}
-use Rattle.links.specs.Keys.{meaning}
-use Rattle.knowledge.specs.declared.Answer.{Answer}
-use Rattle.rules.specs.State as Rules
 use borrow.Author.Needs.{needs}
 use Rattle.statements.proofs.part.Statement.{statement}
 use Rattle.statements.proofs.part.Tie as tie

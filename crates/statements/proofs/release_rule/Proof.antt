@@ -5,10 +5,6 @@ use Rattle.rules.specs.Syntax.{Formula}
 use Rattle.statements.proofs.Ruled.{plain, release-law}
 use Rattle.statements.specs.Statements.{releaseRule}
 use mathlib.Core.Path.{subst}
-use Rattle.links.specs.Links.{relOf}
-use Rattle.knowledge.specs.declared.Answer.{Answer}
-use Rattle.rules.specs.State as Rules
-use borrow.Author.Needs.{needs}
 use Rattle.statements.proofs.release_rule.Statement.{statement}
 use Rattle.statements.proofs.release_rule.Tie as tie
 use Rattle.statements.proofs.release_rule.Reads as reads

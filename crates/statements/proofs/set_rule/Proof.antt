@@ -4,7 +4,6 @@ use Rattle.statements.proofs.Ruled.{adds-same, adds-no, set-refused, se
 use mathlib.Core.Path.{sym}
 use Rattle.links.specs.Links.{relOf}
 use Rattle.knowledge.specs.declared.Answer.{Answer}
-use Rattle.rules.specs.State as Rules
 use borrow.Author.Needs.{needs}
 use Rattle.statements.proofs.set_rule.Statement.{statement}
 use Rattle.statements.proofs.set_rule.Tie as tie
