@@ -1,5 +1,5 @@
--- The checker's state in the code, and the state of the definitions that it means. It stands in two arrays, one of keys and one of
--- bytes.
+-- The checker's state in the code, and the state of the definitions that it means. It stands in two arrays: the keys of 144 slots; and
+-- bytes, which are 144 labels, a flag for each of 64 facts, the variables and then the fields of 64 entries, and two counts.
 use mathlib.Core.Path.{_≡_}
 use mathlib.Core.Bool.{Bool}
 use mathlib.Core.List.{List}

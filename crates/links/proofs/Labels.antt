@@ -14,7 +14,7 @@ use Rattle.rules.specs.State.{Term, Fact, representative, equalBy}
 use Rattle.rules.proofs.Closure.{Listed, Equivalence, linked-least, here, there, listed, linked→representative, representative→linked, same→≡, same-refl}
 use Rattle.rules.proofs.Lists.{decide-eq, T-true, F-false}
 use Rattle.links.specs.Keys.{termOf}
-use Rattle.links.specs.Links.{termAt, Header, Found, Missing, Labelled, Alike, Together, Decides, Merged, Joined, Told, Slotted, Pushed, Marked, placeOf, picked, relOf, factOf, alikeBy, left-new, right-new, both-known}
+use Rattle.links.specs.Links.{termAt, Header, Found, Missing, Labelled, Alike, Together, Decides, Merged, Joined, LinkedUnless, Slotted, Pushed, Marked, placeOf, picked, relOf, factOf, alikeBy, left-new, right-new, both-known}
 use Rattle.links.proofs.Keys.{one-key}
 
 pub not-in-header : (key : List ℕ) (k : ℕ) → Header key → 15 ≤ k → (k ≡ 256 → ⊥) → (i : ℕ) → i < 16 → getD key i 0 ≡ k → ⊥
@@ -426,7 +426,7 @@ module _
     pushed-eq h s label₃ (both-known M) = pushed-merged h label₃ M
 
     pub pushed :
-        m + 2 ≤ 144 → 144 ≤ length label₂ → (b : Bool) (label₃ : List ℕ) → Told b m label₂ label₃ → Pushed key label m b l r key₂ label₃
+        m + 2 ≤ 144 → 144 ≤ length label₂ → (b : Bool) (label₃ : List ℕ) → LinkedUnless b m label₂ label₃ → Pushed key label m b l r key₂ label₃
     pushed h s true label₃ T = subst (λ (k : List ℕ). Pushed key label m true l r key₂ k) (sym (T .apart refl)) (pushed-ne h)
     pushed h s false label₃ T = pushed-eq h s label₃ (T .equal refl)
 

@@ -74,8 +74,8 @@ pub data Joined (m : ℕ) (label label′ : List ℕ) : Type 0 where
   right-new : getD label (m + 1) 0 ≡ m + 1 → label′ ≡ set label (m + 1) (getD label m 0) → Joined m label label′
   both-known : Merged (getD label (m + 1) 0) (getD label m 0) label label′ → Joined m label label′
 
--- .. unless they are told to be unequal
-pub record Told (b : Bool) (m : ℕ) (label label′ : List ℕ) : Type 0 where
+-- .. unless they are unequal
+pub record LinkedUnless (b : Bool) (m : ℕ) (label label′ : List ℕ) : Type 0 where
   pub apart : b ≡ true → label′ ≡ label
   pub equal : b ≡ false → Joined m label label′
 

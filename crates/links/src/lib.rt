@@ -5,7 +5,7 @@ ghost use Prim.Native.Nat.{_+_, _*_, _≤_, _<_};
 ghost use lib.ListN.{length};
 ghost use Rattle.rules.specs.Syntax as Syntax;
 ghost use Rattle.links.specs.Keys.{termOf, meaning};
-ghost use Rattle.links.specs.Links.{Header, Labelled, Missing, Merged, Joined, Told, Slotted, Pushed, Marked, placeOf, picked, alikeBy, no-label};
+ghost use Rattle.links.specs.Links.{Header, Labelled, Missing, Merged, Joined, LinkedUnless, Slotted, Pushed, Marked, placeOf, picked, alikeBy, no-label};
 
 // A term of the checker: a variable or a field by its number, a number by its 32 bits.
 pub enum Term {
@@ -147,9 +147,10 @@ fn link(label: &mut [u8; 338], m: usize)
     merge(label, from, to);
 }
 
+// The terms in the slots m and m + 1 are equal, unless `ne`.
 fn link_unless(label: &mut [u8; 338], m: usize, ne: bool)
     requires { ⌜ (m + 2 ≤ 144) × (length (now label) ≡ 338) ⌝ }
-    ensures { λ _. ⌜ Told ne m (now (label .entry)) (now (label .exit)) ⌝ }
+    ensures { λ _. ⌜ LinkedUnless ne m (now (label .entry)) (now (label .exit)) ⌝ }
 {
     if !ne {
         link(label, m);

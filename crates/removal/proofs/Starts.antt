@@ -1,32 +1,19 @@
 -- The state that knows nothing.
 use mathlib.Core.Path.{_≡_, sym, ap, ap₂, _∙_, subst}
-use mathlib.Core.Bool.{Bool, true}
 use mathlib.Core.List.{List, []}
 use mathlib.Core.Logic.{_⊎_, inl, inr, ⊎-elim}
-use Prim.Native.Nat.{ℕ, zero, suc, _<_}
+use Prim.Native.Nat.{ℕ, _+_, _<_}
 use native.Mathlib.Omega.{arith}
-use lib.Dec.{T, eqb, eqb→eq}
 use lib.ListN.{length, getD, set, length-set}
 use lib.Seq.{getD-set-same, getD-set-other}
 use Rattle.rules.specs.State.{representative}
-use Rattle.rules.proofs.Lists.{decide-eq, and-both}
-use mathlib.Core.Bool.{_&&_}
+use Rattle.rules.proofs.Lists.{decide-eq}
 use Rattle.links.specs.Listing.{listed}
 use Rattle.links.specs.Links.{Header, Decides, termAt}
 use Rattle.links.proofs.Keys.{one-key}
 use Rattle.rules.specs.State as Rules
 use Rattle.known.specs.States.{factsIn, permissionsIn, facts, entries, Linked}
 use Rattle.removal.specs.Changes.{Becomes, Fresh}
-
--- a test of each place below n
-abbrev pub below : (ℕ → Bool) → ℕ → Bool
-below p zero = true
-below p (suc n) = p n && below p n
-
-pub each : (p : ℕ → Bool) (n : ℕ) → T (below p n) → (i : ℕ) → i < n → T (p i)
-each p zero t i h = absurd (omega arith)
-each p (suc n) t i h =
-    ⊎-elim (λ e. rw e (and-both (p n) (below p n) t .0)) (λ e. each p n (and-both (p n) (below p n) t .1) i (omega arith)) (decide-eq i n)
 
 header-place : (key : List ℕ) → Header key → (i j : ℕ) → i < 16 → j < 16 → getD key i 0 ≡ getD key j 0 → i ≡ j
 header-place key H i j h g e = go (decide-eq i 15) (decide-eq j 15)
@@ -76,5 +63,20 @@ module _ (key b b′ : List ℕ) (H : Header key) (l : length b ≡ 338) (F : Fr
         same = ap₂ (λ (n m : ℕ). record { permissions = permissionsIn done n; facts = factsIn key done m }) last none;
       }
 
-pub header-by : (key : List ℕ) → length key ≡ 144 → T (below (λ i. eqb (getD key i 0) i) 15) → getD key 15 0 ≡ 256 → Header key
-header-by key l t n = record { size = l; variables = λ i h. eqb→eq _ _ (each (λ i. eqb (getD key i 0) i) 15 t i h); null = n }
+-- one more place that holds its own number
+pub own-more : (l : List ℕ) (i : ℕ) → i < length l → ((j : ℕ) → j < i → getD l j 0 ≡ j) → (j : ℕ) → j < i + 1 → getD (set l i i) j 0 ≡ j
+own-more l i h before j g = ⊎-elim here there (decide-eq j i)
+  where
+    here : j ≡ i → getD (set l i i) j 0 ≡ j
+    here d = rw d (getD-set-same l i i 0 h)
+
+    there : (j ≡ i → ⊥) → getD (set l i i) j 0 ≡ j
+    there d = getD-set-other l i j i 0 d ∙ before j (omega arith)
+
+pub header-from : (key : List ℕ) → length key ≡ 144 → ((i : ℕ) → i < 15 → getD key i 0 ≡ i) → Header (set key 15 256)
+header-from key l own =
+    record {
+      size = length-set key 15 256 ∙ l;
+      variables = λ i h. getD-set-other key 15 i 256 0 (omega arith) ∙ own i h;
+      null = getD-set-same key 15 256 0 (omega arith);
+    }

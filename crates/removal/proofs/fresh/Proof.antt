@@ -1,9 +1,7 @@
-use Prim.Native.Nat.{ℕ, _+_, _-_, _≤_, _<_}
-use Rattle.rules.proofs.Lists.{decide-eq}
-use lib.ListN.{length, getD, set, length-set}
-use lib.Seq.{getD-set-same, getD-set-other}
-use mathlib.Core.List.{List}
-use mathlib.Core.Logic.{⊎-elim}
+use Rattle.removal.proofs.Starts.{own-more}
+use Prim.Native.Nat.{ℕ, _-_, _≤_, _<_}
+use lib.ListN.{length, getD, length-set}
+use lib.Seq.{getD-set-other}
 use mathlib.Core.Path.{_≡_, refl, _∙_}
 use native.Mathlib.Omega.{arith}
 use Rattle.removal.proofs.fresh.Statement.{statement}
@@ -17,15 +15,6 @@ Inv-loop b₀ i₀ b i =
 
 abbrev μ-loop : tie.MeasureT-loop
 μ-loop b₀ i₀ b i = 16 - i
-
-own-more : (l : List ℕ) (i : ℕ) → i < length l → ((j : ℕ) → j < i → getD l j 0 ≡ j) → (j : ℕ) → j < i + 1 → getD (set l i i) j 0 ≡ j
-own-more l i h before j g = ⊎-elim here there (decide-eq j i)
-  where
-    here : j ≡ i → getD (set l i i) j 0 ≡ j
-    here d = rw d (getD-set-same l i i 0 h)
-
-    there : (j ≡ i → ⊥) → getD (set l i i) j 0 ≡ j
-    there d = getD-set-other l i j i 0 d ∙ before j (omega arith)
 
 loop-holds : tie.Need-loop-holds Inv-loop μ-loop
 loop-holds c =
