@@ -1,33 +1,28 @@
 -- The parts of a branch, and a block.
-use mathlib.Core.Path.{_≡_, refl, sym, ap, ap₂, _∙_, subst}
-use mathlib.Core.Bool.{Bool, true, false}
+use mathlib.Core.Path.{_≡_, refl, sym, ap, _∙_, subst}
 use mathlib.Core.List.{List, [], _∷_}
-use mathlib.Core.Logic.{_⊎_, inl, inr, ⊎-elim}
-use Prim.Native.Nat.{ℕ, zero, suc, _+_, _*_, _-_, _≤_, _<_}
+use mathlib.Core.Logic.{⊎-elim}
+use Prim.Native.Nat.{ℕ, suc, _+_, _-_, _≤_, _<_}
 use native.Mathlib.Omega.{arith}
-use lib.ListN.{length, getD, drop}
+use lib.ListN.{drop}
 use types.Run.{OneOf, miss}
 use denote.Enum.Declared.{tagOf}
 use Rattle.rules.specs.Base.{Try, ok, no, _>>=_}
 use Rattle.rules.specs.Limits.{most-branches}
 use Rattle.rules.specs.Answers as Answers
 use Rattle.rules.specs.Answers.{Refusal, accepted, refused, atLine, then, malformed}
-use Rattle.rules.specs.Syntax.{Formula, Rel, Stmt, Method, if, else, join, end}
+use Rattle.rules.specs.Syntax.{Formula, Rel, if}
 use Rattle.rules.specs.State as Rules
 use Rattle.rules.specs.Rules.{Open, inFirst, inSecond, ifRule, joinRule, checkRows, checkMethod, checkBlocks, checkProgram}
 use Rattle.rules.proofs.Lists.{decide-eq}
 use Rattle.tables.specs.Decode.{kindAt, lineAt, stmtAt, formulaAt, rowCount, allRows, programIn, methodAt, methodsFrom, methodCount, mainFirst, atomsFrom, requiresAt, ensuresAt, firstRowAt, byteAt, halfAt, methodPlace}
 use Rattle.formulas.specs.Formulas.{formula}
-use Rattle.tables.specs.Tables.{Tables, RowFits}
-use Rattle.knowledge.specs.declared.State.{State}
+use Rattle.tables.specs.Tables.{Tables}
 use Rattle.knowledge.specs.declared.Answer.{Answer}
-use Rattle.knowledge.specs.declared.Added.{Added}
-use Rattle.knowledge.proofs.Answer.{the-type}
-use Rattle.knowledge.specs.States.{Wf, stateOf}
-use Rattle.knowledge.specs.Answers.{answered, Adds}
-use Rattle.statements.specs.declared.Branches.{Branches}
-use Rattle.statements.specs.Statements.{Parts, assertRule}
-use Rattle.statements.proofs.Ruled.{Refused, adds-same, empty-add}
+use Rattle.known.specs.States.{Wf, stateOf}
+use Rattle.knowledge.specs.Answers.{Adds}
+use Rattle.statements.specs.Statements.{Parts, assertRule, Asserts}
+use Rattle.statements.proofs.Ruled.{Refused, adds-same, empty-add, asserted}
 use Rattle.checker.proofs.Verdict.{the-type as verdict-type}
 use Rattle.checker.specs.declared.Out.{Out}
 use Rattle.checker.specs.declared.Verdict.{Verdict}
@@ -92,11 +87,10 @@ module _ (w : List ℕ) (T : Tables w) where
     turned-refused o =
         record {
           place = refl;
-          state = refl;
           was = λ e. e;
           next = λ e. never o e;
           nests = λ e d t. never o e;
-          same = λ s φ os. refused-outcome (one .answer) o _ _ _;
+          same = λ s s₂ φ os. refused-outcome (one .answer) o _ _ _;
         }
 
     module _ (e : one .answer ≡ Answer.Done) where
@@ -104,31 +98,29 @@ module _ (w : List ℕ) (T : Tables w) where
       turned-else k =
           record {
             place = refl;
-            state = refl;
             was = λ e. e;
             next = λ _. goes-on (one .at) (E .within) (omega arith);
             nests = λ _ d t. else-nests w (one .at) (E .within) (is-else w (one .at) k) d t;
-            same = λ s φ os. ap (outcome (one .answer) (lineAt w (one .at))) (else-verdict w (one .at) (E .within) (is-else w (one .at) k) (one .state) s φ os);
+            same = λ s s₂ φ os. ap (outcome (one .answer) (lineAt w (one .at))) (else-verdict w (one .at) (E .within) (is-else w (one .at) k) s s₂ φ os);
           }
 
-      pub turned-wrong : (kindAt w (one .at) ≡ 16 → ⊥) → Turned w one (record { answer = Answer.Malformed; at = one .at; state = one .state })
+      pub turned-wrong : (kindAt w (one .at) ≡ 16 → ⊥) → Turned w one (record { answer = Answer.Malformed; at = one .at })
       turned-wrong n =
           record {
             place = refl;
-            state = refl;
             was = λ d. wrong d;
             next = λ d. wrong d;
             nests = λ d. wrong d;
-            same = λ s φ os. done-outcome (one .answer) e _ _ ∙ closing (one .at) (E .within) (E .closes e) (λ k. absurd (n k)) (λ k. join-early w (one .at) (E .within) (formulaAt w (one .at)) (is-join w (one .at) k) (one .state) s φ os) (λ k. end-inside w (one .at) (E .within) (is-end w (one .at) k) (one .state) (inFirst s) φ os) ∙ sym (malformed-outcome _ _);
+            same = λ s s₂ φ os. done-outcome (one .answer) e _ _ ∙ closing (one .at) (E .within) (E .closes e) (λ k. absurd (n k)) (λ k. join-early w (one .at) (E .within) (formulaAt w (one .at)) (is-join w (one .at) k) s s₂ φ os) (λ k. end-inside w (one .at) (E .within) (is-end w (one .at) k) s (inFirst s₂) φ os) ∙ sym (malformed-outcome _ _);
           }
 
   -- THE SECOND PART'S END
-  module _ (s : State) (two : Out) (E : Ended w two) where
-    pub joined-refused : Refused (two .answer) → Joined w s two two
-    joined-refused o =
+  module _ (two : Out) (E : Ended w two) (s t : Rules.State) where
+    pub joined-refused : Refused (two .answer) → (key b : List ℕ) → Wf key b → Joined w two s t two key b
+    joined-refused o key b f =
         record {
           place = refl;
-          wf = E .wf;
+          wf = f;
           was = λ e. e;
           next = λ e. never o e;
           nests = λ e d t. never o e;
@@ -137,43 +129,46 @@ module _ (w : List ℕ) (T : Tables w) where
 
     module _ (e : two .answer ≡ Answer.Done) where
       pub joined-join :
-          kindAt w (two .at) ≡ 17 → (r : Added) → Adds (joinRule (formulaAt w (two .at)) (stateOf s) (stateOf (two .state))) r →
-          Joined w s two (record { answer = r .answer; at = two .at; state = r .state })
-      joined-join k r A =
+          kindAt w (two .at) ≡ 17 → (a : Answer) (key b : List ℕ) → Adds (joinRule (formulaAt w (two .at)) s t) a key b →
+          Joined w two s t (record { answer = a; at = two .at }) key b
+      joined-join k a key b A =
           record {
             place = refl;
             wf = A .wf;
             was = λ d. e;
             next = λ _. goes-on (two .at) (E .within) (omega arith);
             nests = λ _ d t. join-nests w (two .at) (E .within) (formulaAt w (two .at)) (is-join w (two .at) k) d t;
-            same = λ φ os. done-outcome (two .answer) e _ _ ∙ join-verdict w (two .at) (E .within) (formulaAt w (two .at)) (is-join w (two .at) k) (two .state) (stateOf s) r A φ os;
+            same = λ φ os. done-outcome (two .answer) e _ _ ∙ join-verdict w (two .at) (E .within) (formulaAt w (two .at)) (is-join w (two .at) k) t s a key b A φ os;
           }
 
-      pub joined-wrong : (kindAt w (two .at) ≡ 17 → ⊥) → Joined w s two (record { answer = Answer.Malformed; at = two .at; state = two .state })
-      joined-wrong n =
+      pub joined-wrong : (kindAt w (two .at) ≡ 17 → ⊥) → (key b : List ℕ) → Wf key b → Joined w two s t (record { answer = Answer.Malformed; at = two .at }) key b
+      joined-wrong n key b f =
           record {
             place = refl;
-            wf = E .wf;
+            wf = f;
             was = λ d. wrong d;
             next = λ d. wrong d;
             nests = λ d. wrong d;
-            same = λ φ os. done-outcome (two .answer) e _ _ ∙ closing (two .at) (E .within) (E .closes e) (λ k. else-twice w (two .at) (E .within) (is-else w (two .at) k) (two .state) (stateOf s) φ os) (λ k. absurd (n k)) (λ k. end-inside w (two .at) (E .within) (is-end w (two .at) k) (two .state) (inSecond (stateOf s)) φ os) ∙ sym (malformed-outcome _ _);
+            same = λ φ os. done-outcome (two .answer) e _ _ ∙ closing (two .at) (E .within) (E .closes e) (λ k. else-twice w (two .at) (E .within) (is-else w (two .at) k) t s φ os) (λ k. absurd (n k)) (λ k. end-inside w (two .at) (E .within) (is-end w (two .at) k) t (inSecond s) φ os) ∙ sym (malformed-outcome _ _);
           }
 
 -- A BLOCK
 -- what the loop keeps
-pub record Going (w : List ℕ) (depth from : ℕ) (start : State) (i : ℕ) (s : State) : Type 0 where
-  pub wf : Wf s
+pub record Going (w : List ℕ) (depth from : ℕ) (start : Rules.State) (i : ℕ) (key b : List ℕ) : Type 0 where
+  pub wf : Wf key b
   pub on : from ≤ i
   pub within : i < rowCount w
   pub nests : Nests w i (most-branches - depth)
-  pub same : (φ : Formula ℕ) (os : List Open) → verdictFrom w from start φ os ≡ verdictFrom w i s φ os
+  pub same : (φ : Formula ℕ) (os : List Open) → verdictFrom w from start φ os ≡ verdictFrom w i (stateOf key b) φ os
 
-pub begin : (w : List ℕ) (depth from : ℕ) (start : State) → Wf start → from < rowCount w → Nests w from (most-branches - depth) → Going w depth from start from start
-begin w depth from start f h n = record { wf = f; on = omega arith; within = h; nests = n; same = λ φ os. refl }
+pub begin : (w : List ℕ) (depth from : ℕ) (key b : List ℕ) → Wf key b → from < rowCount w → Nests w from (most-branches - depth) → Going w depth from (stateOf key b) from key b
+begin w depth from key b f h n = record { wf = f; on = omega arith; within = h; nests = n; same = λ φ os. refl }
 
-module _ (w : List ℕ) (T : Tables w) (depth from : ℕ) (d4 : depth ≤ 4) (start : State) (i : ℕ) (s : State) (G : Going w depth from start i s) where
-  pub ends : 16 ≤ kindAt w i → Ran w depth from start (record { answer = Answer.Done; at = i; state = s })
+module _ (w : List ℕ) (T : Tables w) (depth from : ℕ) (d4 : depth ≤ 4) (start : Rules.State) (i : ℕ) (key b : List ℕ) (G : Going w depth from start i key b) where
+  abbrev s : Rules.State
+  s = stateOf key b
+
+  pub ends : 16 ≤ kindAt w i → Ran w depth from start (record { answer = Answer.Done; at = i }) key b
   ends k =
       record {
         wf = G .wf;
@@ -185,8 +180,10 @@ module _ (w : List ℕ) (T : Tables w) (depth from : ℕ) (d4 : depth ≤ 4) (st
       }
 
   -- a refusal on the way
-  stops : (k : Answer) (j : ℕ) (t : State) → Refused k → Wf t → i ≤ j → j < rowCount w → ((φ : Formula ℕ) (os : List Open) (v : Result) → verdictFrom w i s φ os ≡ outcome k (lineAt w j) v) → Ran w depth from start (record { answer = k; at = j; state = t })
-  stops k j t o f h g e =
+  stops :
+      (k : Answer) (j : ℕ) (key′ b′ : List ℕ) → Refused k → Wf key′ b′ → i ≤ j → j < rowCount w →
+      ((φ : Formula ℕ) (os : List Open) (v : Result) → verdictFrom w i s φ os ≡ outcome k (lineAt w j) v) → Ran w depth from start (record { answer = k; at = j }) key′ b′
+  stops k j key′ b′ o f h g e =
       record {
         wf = f;
         on = omega (arith, G .on);
@@ -196,61 +193,55 @@ module _ (w : List ℕ) (T : Tables w) (depth from : ℕ) (d4 : depth ≤ 4) (st
         same = λ φ os. G .same φ os ∙ e φ os _;
       }
 
-  module _ (r : Added) (S : Stepped w i s r) where
-    pub step-stops : Refused (r .answer) → Ran w depth from start (record { answer = r .answer; at = i; state = r .state })
-    step-stops o = stops (r .answer) i (r .state) o (S .adds .wf) (omega arith) (G .within) (λ φ os v. step-verdict w i (G .within) s r S φ os ∙ refused-outcome (r .answer) o _ _ _)
+  module _ (k : Answer) (key′ b′ : List ℕ) (S : Stepped w i s k key′ b′) where
+    pub step-stops : Refused k → Ran w depth from start (record { answer = k; at = i }) key′ b′
+    step-stops o = stops k i key′ b′ o (S .adds .wf) (omega arith) (G .within) (λ φ os v. step-verdict w i (G .within) s k key′ b′ S φ os ∙ refused-outcome k o _ _ _)
 
-    pub step-on : kindAt w i < 15 → r .answer ≡ Answer.Done → Going w depth from start (i + 1) (r .state)
-    step-on k e =
+    pub step-on : kindAt w i < 15 → k ≡ Answer.Done → Going w depth from start (i + 1) key′ b′
+    step-on l e =
         record {
           wf = S .adds .wf;
           on = omega (arith, G .on);
           within = goes-on w T i (G .within) (omega arith);
-          nests = step-nests w i (G .within) s r S _ (G .nests);
-          same = λ φ os. G .same φ os ∙ step-verdict w i (G .within) s r S φ os ∙ done-outcome (r .answer) e _ _;
+          nests = step-nests w i (G .within) s k key′ b′ S _ (G .nests);
+          same = λ φ os. G .same φ os ∙ step-verdict w i (G .within) s k key′ b′ S φ os ∙ done-outcome k e _ _;
         }
 
-  module _ (n : Rel) (a b : Rules.Term) (is : stmtAt w i ≡ if n a b) (B : Branches) (P : Parts (ifRule n a b (stateOf s)) B) where
-    pub if-stops : Refused (B .answer) → Ran w depth from start (record { answer = B .answer; at = i; state = s })
-    if-stops o = stops (B .answer) i s o (G .wf) (omega arith) (G .within) (λ φ os v. if-verdict w i (G .within) n a b is s B P φ os ∙ refused-outcome (B .answer) o _ _ _)
+  module _ (n : Rel) (x y : Rules.Term) (is : stmtAt w i ≡ if n x y) (k : Answer) (key₁ b₁ key₂ b₂ : List ℕ) (P : Parts (ifRule n x y s) k key₁ b₁ key₂ b₂) where
+    pub if-stops : Refused k → Ran w depth from start (record { answer = k; at = i }) key₁ b₁
+    if-stops o = stops k i key₁ b₁ o (P .first) (omega arith) (G .within) (λ φ os v. if-verdict w i (G .within) n x y is s k key₁ b₁ key₂ b₂ P φ os ∙ refused-outcome k o _ _ _)
 
     pub deep : (0 < depth) × Nests w (i + 1) (most-branches - (depth - 1))
     deep =
-        let p = if-nests w i (G .within) n a b is (most-branches - depth) (G .nests) in
+        let p = if-nests w i (G .within) n x y is (most-branches - depth) (G .nests) in
         let l = p .0 in
         let e : suc (most-branches - depth) ≡ most-branches - (depth - 1) = omega arith in
         (omega arith, subst (λ (m : ℕ). Nests w (i + 1) m) e (p .1))
 
-    module _ (k : kindAt w i ≡ 15) (done : B .answer ≡ Answer.Done) (one turn : Out) (R : Ran w (depth - 1) (i + 1) (B .first) one) (U : Turned w one turn) where
-      pub inside : i + 1 < rowCount w
-      inside = goes-on w T i (G .within) (omega arith)
-
-      first-verdict : (φ : Formula ℕ) (os : List Open) → verdictFrom w i s φ os ≡ outcome (turn .answer) (lineAt w (turn .at)) (checkRows (programIn w) φ (drop (turn .at + 1) (allRows w)) (stateOf (B .second)) (inSecond (stateOf (turn .state)) ∷ os))
+    module _ (q : kindAt w i ≡ 15) (done : k ≡ Answer.Done) (one turn : Out) (key₃ b₃ : List ℕ) (R : Ran w (depth - 1) (i + 1) (stateOf key₁ b₁) one key₃ b₃) (U : Turned w one turn) where
+      first-verdict : (φ : Formula ℕ) (os : List Open) → verdictFrom w i s φ os ≡ outcome (turn .answer) (lineAt w (turn .at)) (verdictFrom w (turn .at + 1) (stateOf key₂ b₂) φ (inSecond (stateOf key₃ b₃) ∷ os))
       first-verdict φ os =
-          if-verdict w i (G .within) n a b is s B P φ os ∙ done-outcome (B .answer) done _ _
-          ∙ R .same φ (inFirst (stateOf (B .second)) ∷ os) ∙ U .same (stateOf (B .second)) φ os
+          if-verdict w i (G .within) n x y is s k key₁ b₁ key₂ b₂ P φ os ∙ done-outcome k done _ _
+          ∙ R .same φ (inFirst (stateOf key₂ b₂) ∷ os) ∙ U .same (stateOf key₃ b₃) (stateOf key₂ b₂) φ os
 
-      pub turn-wf : Wf (turn .state)
-      turn-wf = subst Wf (sym (U .state)) (R .wf)
-
-      pub turn-stops : Refused (turn .answer) → Ran w depth from start turn
-      turn-stops o = stops (turn .answer) (turn .at) (turn .state) o turn-wf (omega (arith, R .on, U .place)) (omega (arith, R .within, U .place)) (λ φ os v. first-verdict φ os ∙ refused-outcome (turn .answer) o _ _ _)
+      pub turn-stops : Refused (turn .answer) → Ran w depth from start turn key₃ b₃
+      turn-stops o = stops (turn .answer) (turn .at) key₃ b₃ o (R .wf) (omega (arith, R .on, U .place)) (omega (arith, R .within, U .place)) (λ φ os v. first-verdict φ os ∙ refused-outcome (turn .answer) o _ _ _)
 
       pub turn-nests : turn .answer ≡ Answer.Done → Nests w (turn .at + 1) (most-branches - (depth - 1))
       turn-nests e = U .nests e _ (R .nests (U .was e))
 
-      module _ (e : turn .answer ≡ Answer.Done) (two fin : Out) (Q : Ran w (depth - 1) (turn .at + 1) (B .second) two) (J : Joined w (turn .state) two fin) where
-        second-verdict : (φ : Formula ℕ) (os : List Open) → verdictFrom w i s φ os ≡ outcome (fin .answer) (lineAt w (fin .at)) (verdictFrom w (fin .at + 1) (fin .state) φ os)
+      module _ (e : turn .answer ≡ Answer.Done) (two fin : Out) (key₄ b₄ key₅ b₅ : List ℕ) (Q : Ran w (depth - 1) (turn .at + 1) (stateOf key₂ b₂) two key₄ b₄) (J : Joined w two (stateOf key₃ b₃) (stateOf key₄ b₄) fin key₅ b₅) where
+        second-verdict : (φ : Formula ℕ) (os : List Open) → verdictFrom w i s φ os ≡ outcome (fin .answer) (lineAt w (fin .at)) (verdictFrom w (fin .at + 1) (stateOf key₅ b₅) φ os)
         second-verdict φ os =
-            first-verdict φ os ∙ done-outcome (turn .answer) e _ _ ∙ Q .same φ (inSecond (stateOf (turn .state)) ∷ os) ∙ J .same φ os
+            first-verdict φ os ∙ done-outcome (turn .answer) e _ _ ∙ Q .same φ (inSecond (stateOf key₃ b₃) ∷ os) ∙ J .same φ os
 
         far : i < fin .at
         far = omega (arith, R .on, U .place, Q .on, J .place)
 
-        pub join-stops : Refused (fin .answer) → Ran w depth from start fin
-        join-stops o = stops (fin .answer) (fin .at) (fin .state) o (J .wf) (omega (arith, far)) (omega (arith, Q .within, J .place)) (λ φ os v. second-verdict φ os ∙ refused-outcome (fin .answer) o _ _ _)
+        pub join-stops : Refused (fin .answer) → Ran w depth from start fin key₅ b₅
+        join-stops o = stops (fin .answer) (fin .at) key₅ b₅ o (J .wf) (omega (arith, far)) (omega (arith, Q .within, J .place)) (λ φ os v. second-verdict φ os ∙ refused-outcome (fin .answer) o _ _ _)
 
-        pub join-on : fin .answer ≡ Answer.Done → Going w depth from start (fin .at + 1) (fin .state)
+        pub join-on : fin .answer ≡ Answer.Done → Going w depth from start (fin .at + 1) key₅ b₅
         join-on f =
             record {
               wf = J .wf;
@@ -275,43 +266,43 @@ assert-end l φ s = go (Rules.show s φ)
     go (ok r) = refl
     go (no e) = refl
 
-module _ (w : List ℕ) (T : Tables w) (from : ℕ) (s : State) (r : Out) (R : Ran w 4 from s r) (φ : Formula ℕ) (line : ℕ) (el : line ≡ lineAt w (r .at)) where
+module _ (w : List ℕ) (T : Tables w) (from : ℕ) (s : Rules.State) (r : Out) (key b : List ℕ) (R : Ran w 4 from s r key b) (φ : Formula ℕ) (line : ℕ) (el : line ≡ lineAt w (r .at)) where
   pub block-refused : Refused (r .answer) → verdictOf (Verdict.Refused (r .answer) line) ≡ verdictFrom w from s φ []
   block-refused o =
-      refused-verdict (r .answer) o line (verdictFrom w (r .at) (r .state) φ [])
-      ∙ ap (λ (l : ℕ). outcome (r .answer) l (verdictFrom w (r .at) (r .state) φ [])) el ∙ sym (R .same φ [])
+      refused-verdict (r .answer) o line (verdictFrom w (r .at) (stateOf key b) φ [])
+      ∙ ap (λ (l : ℕ). outcome (r .answer) l (verdictFrom w (r .at) (stateOf key b) φ [])) el ∙ sym (R .same φ [])
 
   module _ (e : r .answer ≡ Answer.Done) where
-    reached : verdictFrom w from s φ [] ≡ verdictFrom w (r .at) (r .state) φ []
+    reached : verdictFrom w from s φ [] ≡ verdictFrom w (r .at) (stateOf key b) φ []
     reached = R .same φ [] ∙ done-outcome (r .answer) e _ _
 
-    pub block-ended : kindAt w (r .at) ≡ 18 → (a : Added) → Adds (assertRule φ (stateOf (r .state))) a → outcome (a .answer) line (accepted tt) ≡ verdictFrom w from s φ []
+    pub block-ended : kindAt w (r .at) ≡ 18 → (a : Answer) → Asserts φ (stateOf key b) a → outcome a line (accepted tt) ≡ verdictFrom w from s φ []
     block-ended k a A =
-        ap (λ (l : ℕ). outcome (a .answer) l (accepted tt)) el
-        ∙ sym (reached ∙ end-verdict w (r .at) (R .within) (is-end w (r .at) k) (r .state) φ ∙ assert-end (lineAt w (r .at)) φ (stateOf (r .state))
-        ∙ at-line (lineAt w (r .at)) _ a A (λ t. accepted tt))
+        ap (λ (l : ℕ). outcome a l (accepted tt)) el
+        ∙ sym (reached ∙ end-verdict w (r .at) (R .within) (is-end w (r .at) k) (stateOf key b) φ ∙ assert-end (lineAt w (r .at)) φ (stateOf key b)
+        ∙ at-line (lineAt w (r .at)) _ a key b (asserted φ key b a (R .wf) A) (λ t. accepted tt))
 
     pub block-open : (kindAt w (r .at) ≡ 18 → ⊥) → verdictOf (Verdict.Refused Answer.Malformed line) ≡ verdictFrom w from s φ []
     block-open n =
         malformed-verdict line ∙ ap (λ (l : ℕ). refused malformed l) el
-        ∙ sym (reached ∙ closing w T (r .at) (R .within) (R .closes e) (λ k. else-alone w (r .at) (R .within) (is-else w (r .at) k) (r .state) φ) (λ k. join-alone w (r .at) (R .within) (formulaAt w (r .at)) (is-join w (r .at) k) (r .state) φ) (λ k. absurd (n k)))
+        ∙ sym (reached ∙ closing w T (r .at) (R .within) (R .closes e) (λ k. else-alone w (r .at) (R .within) (is-else w (r .at) k) (stateOf key b) φ) (λ k. join-alone w (r .at) (R .within) (formulaAt w (r .at)) (is-join w (r .at) k) (stateOf key b) φ) (λ k. absurd (n k)))
 
 -- A METHOD
-module _ (w : List ℕ) (m a n b o f : ℕ) (ea : a ≡ halfAt w (methodPlace m)) (en : n ≡ byteAt w (methodPlace m + 2)) (t : State) (et : stateOf t ≡ Rules.empty) (r : Added) (A : Adds (Rules.add (formula w 0 1 14 a n) (stateOf t)) r) where
-  start-added : Adds (Rules.add (requiresAt w m) Rules.empty) r
+module _ (w : List ℕ) (m a n c o f : ℕ) (ea : a ≡ halfAt w (methodPlace m)) (en : n ≡ byteAt w (methodPlace m + 2)) (s : Rules.State) (es : s ≡ Rules.empty) (k : Answer) (key b : List ℕ) (A : Adds (Rules.add (formula w 0 1 14 a n) s) k key b) where
+  start-added : Adds (Rules.add (requiresAt w m) Rules.empty) k key b
   unfolding requiresAt
-  start-added = adds-same _ _ r (empty-add w a n t et ∙ rw (ea, en)) A
+  start-added = adds-same _ _ k key b (empty-add w a n s es ∙ rw (ea, en)) A
 
-  method-verdict : checkMethod (programIn w) (methodAt w m) ≡ outcome (r .answer) 0 (checkRows (programIn w) (ensuresAt w m) (drop (firstRowAt w m) (allRows w)) (stateOf (r .state)) [])
+  method-verdict : checkMethod (programIn w) (methodAt w m) ≡ outcome k 0 (verdictFrom w (firstRowAt w m) (stateOf key b) (ensuresAt w m) [])
   unfolding checkMethod methodAt
-  method-verdict = at-line 0 (Rules.add (requiresAt w m) Rules.empty) r start-added (λ s. checkRows (programIn w) (ensuresAt w m) (drop (firstRowAt w m) (allRows w)) s [])
+  method-verdict = at-line 0 (Rules.add (requiresAt w m) Rules.empty) k key b start-added (λ s. checkRows (programIn w) (ensuresAt w m) (drop (firstRowAt w m) (allRows w)) s [])
 
-  pub method-refused : Refused (r .answer) → verdictOf (Verdict.Refused (r .answer) 0) ≡ checkMethod (programIn w) (methodAt w m)
-  method-refused q = refused-verdict (r .answer) q 0 (checkRows (programIn w) (ensuresAt w m) (drop (firstRowAt w m) (allRows w)) (stateOf (r .state)) []) ∙ sym method-verdict
+  pub method-refused : Refused k → verdictOf (Verdict.Refused k 0) ≡ checkMethod (programIn w) (methodAt w m)
+  method-refused q = refused-verdict k q 0 (verdictFrom w (firstRowAt w m) (stateOf key b) (ensuresAt w m) []) ∙ sym method-verdict
 
-  pub method-done : r .answer ≡ Answer.Done → b ≡ halfAt w (methodPlace m + 4) → o ≡ byteAt w (methodPlace m + 3) → f ≡ firstRowAt w m → verdictFrom w f (r .state) (atomsFrom w b o) [] ≡ checkMethod (programIn w) (methodAt w m)
+  pub method-done : k ≡ Answer.Done → c ≡ halfAt w (methodPlace m + 4) → o ≡ byteAt w (methodPlace m + 3) → f ≡ firstRowAt w m → verdictFrom w f (stateOf key b) (atomsFrom w c o) [] ≡ checkMethod (programIn w) (methodAt w m)
   unfolding ensuresAt
-  method-done e eb eo ef = rw (eb, eo, ef) (sym (method-verdict ∙ done-outcome (r .answer) e _ _))
+  method-done e ec eo ef = rw (ec, eo, ef) (sym (method-verdict ∙ done-outcome k e _ _))
 
 -- THE PROGRAM
 refusal-stays : (v : Verdict) → OneOf (1 ∷ []) (tagOf verdict-type v) → (f : Unit {0} → Result) → then (verdictOf v) f ≡ verdictOf v
@@ -345,6 +336,6 @@ module _ (w : List ℕ) where
       stays : (v : Verdict) → OneOf (1 ∷ []) (tagOf verdict-type v) → then (verdictOf v) (λ u. checkBlocks (programIn w) (methodsFrom w (m + 1) (n - (m + 1)))) ≡ verdictOf v
       stays v o = refusal-stays v o (λ u. checkBlocks (programIn w) (methodsFrom w (m + 1) (n - (m + 1))))
 
-  pub main-last : (n m f : ℕ) → n ≤ m → f ≡ mainFirst w → (t : State) → stateOf t ≡ Rules.empty → verdictFrom w f t (atomsFrom w 0 0) [] ≡ checkBlocks (programIn w) (methodsFrom w m (n - m))
+  pub main-last : (n m f : ℕ) → n ≤ m → f ≡ mainFirst w → (t : Rules.State) → t ≡ Rules.empty → verdictFrom w f t (atomsFrom w 0 0) [] ≡ checkBlocks (programIn w) (methodsFrom w m (n - m))
   unfolding checkBlocks methodsFrom atomsFrom programIn
   main-last n m f h e t d = let z : n - m ≡ 0 = omega arith in rw (z, e, d)

@@ -1,35 +1,29 @@
 -- One row at a time.
 use mathlib.Core.Path.{_≡_, refl, sym, ap, ap₂, _∙_, subst}
-use mathlib.Core.Bool.{Bool, true, false, cond, not, _&&_}
+use mathlib.Core.Bool.{Bool, true, false, cond, not}
 use mathlib.Core.List.{List, [], _∷_}
-use mathlib.Core.Logic.{_⊎_, inl, inr, ⊎-elim}
-use Prim.Native.Nat.{ℕ, zero, suc, _+_, _*_, _-_, _≤_, _<_}
+use Prim.Native.Nat.{ℕ, suc, _+_, _≤_, _<_}
 use native.Mathlib.Omega.{arith}
-use native.Mathlib.Numerals.{add-one}
 use lib.Dec.{T, eqb, leb, leb→le}
-use lib.ListN.{length, getD, drop}
-use borrow.Author.Tests.{eq-eqb, ne-eqb}
-use Rattle.rules.specs.Base.{Try, ok, no, _>>=_}
-use Rattle.rules.specs.Limits.{most-branches}
+use lib.ListN.{drop}
+use borrow.Author.Tests.{ne-eqb}
+use Rattle.rules.specs.Base.{Try}
 use Rattle.rules.specs.Answers as Answers
 use Rattle.rules.specs.Answers.{Refusal, accepted, refused, atLine, malformed}
-use Rattle.rules.specs.Syntax.{Formula, Rel, Simple, Stmt, Row, simple, if, else, join, end, eq, ne}
+use Rattle.rules.specs.Syntax.{Formula, Rel, Stmt, Row, simple, if, else, join, end, eq, ne}
 use Rattle.rules.specs.Syntax as Syntax
 use Rattle.rules.specs.State as Rules
 use Rattle.rules.specs.Rules.{Open, inFirst, inSecond, rule, newRule, callRule, ifRule, joinRule, elseRow, joinRow, endRow, checkRow, checkRows}
 use Rattle.rules.proofs.Lists.{and-both}
-use Rattle.tables.specs.Decode.{kindAt, xAt, yAt, zAt, memberAt, lineAt, stmtAt, rowAt, ifAt, formulaAt, firstAtomAt, atomCountAt, relOf, leftAt, rightAt, byteAt, atomPlace, rowCount, classCount, methodCount, classAt, methodAt, allRows, programIn}
-use Rattle.tables.specs.Tables.{Tables, nested, nestedRow}
+use Rattle.tables.specs.Decode.{kindAt, xAt, yAt, zAt, memberAt, lineAt, stmtAt, rowAt, ifAt, formulaAt, firstAtomAt, relOf, leftAt, rightAt, byteAt, atomPlace, rowCount, classCount, methodCount, classAt, methodAt, allRows, programIn}
+use Rattle.tables.specs.Tables.{nested, nestedRow}
 use Rattle.tables.proofs.Rows.{row-cons, class-get, method-get}
 use Rattle.links.specs.Links as Links
-use Rattle.knowledge.specs.declared.State.{State}
 use Rattle.knowledge.specs.declared.Answer.{Answer}
-use Rattle.knowledge.specs.declared.Added.{Added}
-use Rattle.knowledge.specs.States.{Wf, stateOf}
+use Rattle.known.specs.States.{stateOf}
 use Rattle.knowledge.specs.Answers.{answered, Adds}
-use Rattle.statements.specs.declared.Branches.{Branches}
 use Rattle.statements.specs.Statements.{Parts}
-use Rattle.checker.specs.Checked.{outcome, Nests, verdictFrom, Stepped, Ran}
+use Rattle.checker.specs.Checked.{outcome, Nests, verdictFrom, Stepped}
 
 -- `eq` by its number
 pub relation : (k : ℕ) → Links.relOf (not (eqb k 1)) ≡ relOf k
@@ -101,14 +95,15 @@ line-answered l Answer.Full x k = refl
 line-answered l Answer.Malformed x k = refl
 
 pub at-line :
-    (l : ℕ) (t : Try Refusal Rules.State) (r : Added) → Adds t r → (k : Rules.State → Answers.Verdict (Unit {0})) →
-    atLine l t k ≡ outcome (r .answer) l (k (stateOf (r .state)))
-at-line l t r A k = ap (λ (u : Try Refusal Rules.State). atLine l u k) (sym (A .same)) ∙ line-answered l (r .answer) (stateOf (r .state)) k
+    (l : ℕ) (t : Try Refusal Rules.State) (a : Answer) (key b : List ℕ) → Adds t a key b → (k : Rules.State → Answers.Verdict (Unit {0})) →
+    atLine l t k ≡ outcome a l (k (stateOf key b))
+at-line l t a key b A k = ap (λ (u : Try Refusal Rules.State). atLine l u k) (sym (A .same)) ∙ line-answered l a (stateOf key b) k
 
 pub at-branch :
-    (l : ℕ) (t : Try Refusal (Rules.State × Rules.State)) (r : Branches) → Parts t r → (k : Rules.State × Rules.State → Answers.Verdict (Unit {0})) →
-    atLine l t k ≡ outcome (r .answer) l (k (stateOf (r .first), stateOf (r .second)))
-at-branch l t r P k = ap (λ (u : Try Refusal (Rules.State × Rules.State)). atLine l u k) (sym (P .same)) ∙ line-answered l (r .answer) (stateOf (r .first), stateOf (r .second)) k
+    (l : ℕ) (t : Try Refusal (Rules.State × Rules.State)) (a : Answer) (key b key2 b2 : List ℕ) → Parts t a key b key2 b2 →
+    (k : Rules.State × Rules.State → Answers.Verdict (Unit {0})) → atLine l t k ≡ outcome a l (k (stateOf key b, stateOf key2 b2))
+at-branch l t a key b key2 b2 P k =
+    ap (λ (u : Try Refusal (Rules.State × Rules.State)). atLine l u k) (sym (P .same)) ∙ line-answered l a (stateOf key b, stateOf key2 b2) k
 
 -- THE ROW AT i
 module _ (w : List ℕ) (i : ℕ) (h : i < rowCount w) where
@@ -132,26 +127,26 @@ module _ (w : List ℕ) (i : ℕ) (h : i < rowCount w) where
 module _ (w : List ℕ) (i : ℕ) (h : i < rowCount w) where
   -- a statement that goes on
   pub step-verdict :
-      (s : State) (r : Added) → Stepped w i s r → (φ : Formula ℕ) (os : List Open) →
-      verdictFrom w i s φ os ≡ outcome (r .answer) (lineAt w i) (verdictFrom w (i + 1) (r .state) φ os)
+      (s : Rules.State) (k : Answer) (key b : List ℕ) → Stepped w i s k key b → (φ : Formula ℕ) (os : List Open) →
+      verdictFrom w i s φ os ≡ outcome k (lineAt w i) (verdictFrom w (i + 1) (stateOf key b) φ os)
   unfolding checkRow
-  step-verdict s r S φ os =
-      row-verdict w i h (simple (S .statement)) (S .is) (stateOf s) φ os
-      ∙ at-line (lineAt w i) _ r (S .adds) (λ s′. checkRows (programIn w) φ (drop (i + 1) (allRows w)) s′ os)
+  step-verdict s k key b S φ os =
+      row-verdict w i h (simple (S .statement)) (S .is) s φ os
+      ∙ at-line (lineAt w i) _ k key b (S .adds) (λ s′. checkRows (programIn w) φ (drop (i + 1) (allRows w)) s′ os)
 
-  pub step-nests : (s : State) (r : Added) → Stepped w i s r → (d : ℕ) → Nests w i d → Nests w (i + 1) d
+  pub step-nests : (s : Rules.State) (k : Answer) (key b : List ℕ) → Stepped w i s k key b → (d : ℕ) → Nests w i d → Nests w (i + 1) d
   unfolding nestedRow
-  step-nests s r S d t = subst T (row-nested w i h (simple (S .statement)) (S .is) d) t
+  step-nests s k key b S d t = subst T (row-nested w i h (simple (S .statement)) (S .is) d) t
 
   -- a branch
   module _ (n : Rel) (a b : Rules.Term) (e : stmtAt w i ≡ if n a b) where
     pub if-verdict :
-        (s : State) (r : Branches) → Parts (ifRule n a b (stateOf s)) r → (φ : Formula ℕ) (os : List Open) →
-        verdictFrom w i s φ os ≡ outcome (r .answer) (lineAt w i) (verdictFrom w (i + 1) (r .first) φ (inFirst (stateOf (r .second)) ∷ os))
+        (s : Rules.State) (k : Answer) (key c key2 c2 : List ℕ) → Parts (ifRule n a b s) k key c key2 c2 → (φ : Formula ℕ) (os : List Open) →
+        verdictFrom w i s φ os ≡ outcome k (lineAt w i) (verdictFrom w (i + 1) (stateOf key c) φ (inFirst (stateOf key2 c2) ∷ os))
     unfolding checkRow
-    if-verdict s r P φ os =
-        row-verdict w i h (if n a b) e (stateOf s) φ os
-        ∙ at-branch (lineAt w i) _ r P (λ c. checkRows (programIn w) φ (drop (i + 1) (allRows w)) (c .0) (inFirst (c .1) ∷ os))
+    if-verdict s k key c key2 c2 P φ os =
+        row-verdict w i h (if n a b) e s φ os
+        ∙ at-branch (lineAt w i) _ k key c key2 c2 P (λ c. checkRows (programIn w) φ (drop (i + 1) (allRows w)) (c .0) (inFirst (c .1) ∷ os))
 
     pub if-nests : (d : ℕ) → Nests w i d → (suc d ≤ 4) × Nests w (i + 1) (suc d)
     unfolding nestedRow
@@ -162,14 +157,14 @@ module _ (w : List ℕ) (i : ℕ) (h : i < rowCount w) where
   -- its second part
   module _ (e : stmtAt w i ≡ else) where
     pub else-verdict :
-        (s : State) (s₂ : Rules.State) (φ : Formula ℕ) (os : List Open) →
-        verdictFrom w i s φ (inFirst s₂ ∷ os) ≡ checkRows (programIn w) φ (drop (i + 1) (allRows w)) s₂ (inSecond (stateOf s) ∷ os)
+        (s s₂ : Rules.State) (φ : Formula ℕ) (os : List Open) →
+        verdictFrom w i s φ (inFirst s₂ ∷ os) ≡ checkRows (programIn w) φ (drop (i + 1) (allRows w)) s₂ (inSecond s ∷ os)
     unfolding checkRow elseRow
-    else-verdict s s₂ φ os = row-verdict w i h else e (stateOf s) φ (inFirst s₂ ∷ os)
+    else-verdict s s₂ φ os = row-verdict w i h else e s φ (inFirst s₂ ∷ os)
 
-    pub else-twice : (s : State) (s₁ : Rules.State) (φ : Formula ℕ) (os : List Open) → verdictFrom w i s φ (inSecond s₁ ∷ os) ≡ refused malformed (lineAt w i)
+    pub else-twice : (s s₁ : Rules.State) (φ : Formula ℕ) (os : List Open) → verdictFrom w i s φ (inSecond s₁ ∷ os) ≡ refused malformed (lineAt w i)
     unfolding checkRow elseRow
-    else-twice s s₁ φ os = row-verdict w i h else e (stateOf s) φ (inSecond s₁ ∷ os)
+    else-twice s s₁ φ os = row-verdict w i h else e s φ (inSecond s₁ ∷ os)
 
     pub else-nests : (d : ℕ) → Nests w i d → Nests w (i + 1) d
     unfolding nestedRow
@@ -178,20 +173,20 @@ module _ (w : List ℕ) (i : ℕ) (h : i < rowCount w) where
   -- its end
   module _ (ψ : Formula ℕ) (e : stmtAt w i ≡ join ψ) where
     pub join-verdict :
-        (s : State) (s₁ : Rules.State) (r : Added) → Adds (joinRule ψ s₁ (stateOf s)) r → (φ : Formula ℕ) (os : List Open) →
-        verdictFrom w i s φ (inSecond s₁ ∷ os) ≡ outcome (r .answer) (lineAt w i) (verdictFrom w (i + 1) (r .state) φ os)
+        (s s₁ : Rules.State) (k : Answer) (key b : List ℕ) → Adds (joinRule ψ s₁ s) k key b → (φ : Formula ℕ) (os : List Open) →
+        verdictFrom w i s φ (inSecond s₁ ∷ os) ≡ outcome k (lineAt w i) (verdictFrom w (i + 1) (stateOf key b) φ os)
     unfolding checkRow joinRow
-    join-verdict s s₁ r A φ os =
-        row-verdict w i h (join ψ) e (stateOf s) φ (inSecond s₁ ∷ os)
-        ∙ at-line (lineAt w i) _ r A (λ s′. checkRows (programIn w) φ (drop (i + 1) (allRows w)) s′ os)
+    join-verdict s s₁ k key b A φ os =
+        row-verdict w i h (join ψ) e s φ (inSecond s₁ ∷ os)
+        ∙ at-line (lineAt w i) _ k key b A (λ s′. checkRows (programIn w) φ (drop (i + 1) (allRows w)) s′ os)
 
-    pub join-early : (s : State) (s₂ : Rules.State) (φ : Formula ℕ) (os : List Open) → verdictFrom w i s φ (inFirst s₂ ∷ os) ≡ refused malformed (lineAt w i)
+    pub join-early : (s s₂ : Rules.State) (φ : Formula ℕ) (os : List Open) → verdictFrom w i s φ (inFirst s₂ ∷ os) ≡ refused malformed (lineAt w i)
     unfolding checkRow joinRow
-    join-early s s₂ φ os = row-verdict w i h (join ψ) e (stateOf s) φ (inFirst s₂ ∷ os)
+    join-early s s₂ φ os = row-verdict w i h (join ψ) e s φ (inFirst s₂ ∷ os)
 
-    pub join-alone : (s : State) (φ : Formula ℕ) → verdictFrom w i s φ [] ≡ refused malformed (lineAt w i)
+    pub join-alone : (s : Rules.State) (φ : Formula ℕ) → verdictFrom w i s φ [] ≡ refused malformed (lineAt w i)
     unfolding checkRow joinRow
-    join-alone s φ = row-verdict w i h (join ψ) e (stateOf s) φ []
+    join-alone s φ = row-verdict w i h (join ψ) e s φ []
 
     pub join-nests : (d : ℕ) → Nests w i (suc d) → Nests w (i + 1) d
     unfolding nestedRow
@@ -199,17 +194,17 @@ module _ (w : List ℕ) (i : ℕ) (h : i < rowCount w) where
 
   -- the block's end
   module _ (e : stmtAt w i ≡ end) where
-    pub end-inside : (s : State) (o : Open) (φ : Formula ℕ) (os : List Open) → verdictFrom w i s φ (o ∷ os) ≡ refused malformed (lineAt w i)
+    pub end-inside : (s : Rules.State) (o : Open) (φ : Formula ℕ) (os : List Open) → verdictFrom w i s φ (o ∷ os) ≡ refused malformed (lineAt w i)
     unfolding checkRow endRow
-    end-inside s o φ os = row-verdict w i h end e (stateOf s) φ (o ∷ os)
+    end-inside s o φ os = row-verdict w i h end e s φ (o ∷ os)
 
-    pub end-verdict : (s : State) (φ : Formula ℕ) → verdictFrom w i s φ [] ≡ atLine (lineAt w i) (Rules.show (stateOf s) φ) (λ r. accepted tt)
+    pub end-verdict : (s : Rules.State) (φ : Formula ℕ) → verdictFrom w i s φ [] ≡ atLine (lineAt w i) (Rules.show s φ) (λ r. accepted tt)
     unfolding checkRow endRow
-    end-verdict s φ = row-verdict w i h end e (stateOf s) φ []
+    end-verdict s φ = row-verdict w i h end e s φ []
 
-  pub else-alone : stmtAt w i ≡ else → (s : State) (φ : Formula ℕ) → verdictFrom w i s φ [] ≡ refused malformed (lineAt w i)
+  pub else-alone : stmtAt w i ≡ else → (s : Rules.State) (φ : Formula ℕ) → verdictFrom w i s φ [] ≡ refused malformed (lineAt w i)
   unfolding checkRow elseRow
-  else-alone e s φ = row-verdict w i h else e (stateOf s) φ []
+  else-alone e s φ = row-verdict w i h else e s φ []
 
 pub new-at :
     (w : List ℕ) (x x′ c c′ : ℕ) (s : Rules.State) → x′ ≡ x → c′ ≡ c → c < classCount w →

@@ -7,18 +7,14 @@ use lib.ListN.{drop}
 use Rattle.rules.specs.Limits.{most-branches}
 use Rattle.rules.specs.Answers as Answers
 use Rattle.rules.specs.Answers.{Refusal, accepted, refused, unresolved, noPermission, notShown, stateFull, malformed}
-use Rattle.rules.specs.Syntax.{Formula, Simple, simple, if, join}
+use Rattle.rules.specs.Syntax.{Formula, Simple, simple}
 use Rattle.rules.specs.State as Rules
-use Rattle.rules.specs.Rules.{Open, inFirst, inSecond, rule, ifRule, joinRule, checkRows}
+use Rattle.rules.specs.Rules.{Open, inFirst, inSecond, rule, checkRows}
 use Rattle.tables.specs.Decode.{kindAt, lineAt, stmtAt, rowCount, allRows, programIn}
 use Rattle.tables.specs.Tables.{nested}
-use Rattle.knowledge.specs.declared.State.{State}
 use Rattle.knowledge.specs.declared.Answer.{Answer}
-use Rattle.knowledge.specs.declared.Added.{Added}
-use Rattle.knowledge.specs.States.{Wf, stateOf}
+use Rattle.known.specs.States.{Wf, stateOf}
 use Rattle.knowledge.specs.Answers.{Adds}
-use Rattle.statements.specs.declared.Branches.{Branches}
-use Rattle.statements.specs.Statements.{Parts}
 use Rattle.checker.specs.declared.Out.{Out}
 use Rattle.checker.specs.declared.Verdict.{Verdict}
 
@@ -46,55 +42,54 @@ outcome Answer.Full l v = refused stateFull l
 outcome Answer.Malformed l v = refused malformed l
 
 -- a statement that goes on to the next line
-pub record Stepped (w : List ℕ) (i : ℕ) (s : State) (r : Added) : Type 0 where
+pub record Stepped (w : List ℕ) (i : ℕ) (s : Rules.State) (answer : Answer) (key b : List ℕ) : Type 0 where
   pub statement : Simple
   pub is : stmtAt w i ≡ simple statement
-  pub adds : Adds (rule (programIn w) statement (stateOf s)) r
+  pub adds : Adds (rule (programIn w) statement s) answer key b
 
 -- the rows from i on, where d branches are open
 abbrev pub Nests : List ℕ → ℕ → ℕ → Type 0
 Nests w i d = T (nested (drop i (allRows w)) d)
 
-abbrev pub verdictFrom : List ℕ → ℕ → State → Formula ℕ → List Open → Answers.Verdict (Unit {0})
-verdictFrom w i s φ os = checkRows (programIn w) φ (drop i (allRows w)) (stateOf s) os
+abbrev pub verdictFrom : List ℕ → ℕ → Rules.State → Formula ℕ → List Open → Answers.Verdict (Unit {0})
+verdictFrom w i s φ os = checkRows (programIn w) φ (drop i (allRows w)) s os
 
--- a block's rows from i on, up to one that closes it: what its rows give, whatever is open around them
-pub record Ran (w : List ℕ) (depth i : ℕ) (s : State) (r : Out) : Type 0 where
-  pub wf : Wf (r .state)
+-- a block's rows from i on, up to one that closes it, where the arrays then hold the state: what its rows give, whatever is open
+-- around them
+pub record Ran (w : List ℕ) (depth i : ℕ) (s : Rules.State) (r : Out) (key b : List ℕ) : Type 0 where
+  pub wf : Wf key b
   pub on : i ≤ r .at
   pub within : r .at < rowCount w
   pub closes : r .answer ≡ Answer.Done → 16 ≤ kindAt w (r .at)
   pub nests : r .answer ≡ Answer.Done → Nests w (r .at) (most-branches - depth)
   pub same :
       (φ : Formula ℕ) (os : List Open) →
-      verdictFrom w i s φ os ≡ outcome (r .answer) (lineAt w (r .at)) (verdictFrom w (r .at) (r .state) φ os)
+      verdictFrom w i s φ os ≡ outcome (r .answer) (lineAt w (r .at)) (verdictFrom w (r .at) (stateOf key b) φ os)
 
 -- THE PARTS OF A BRANCH
 pub record Ended (w : List ℕ) (r : Out) : Type 0 where
-  pub wf : Wf (r .state)
   pub within : r .at < rowCount w
   pub closes : r .answer ≡ Answer.Done → 16 ≤ kindAt w (r .at)
 
--- the first part ends at its `else`
+-- the first part ends, with any state s, at its `else`
 pub record Turned (w : List ℕ) (one r : Out) : Type 0 where
   pub place : r .at ≡ one .at
-  pub state : r .state ≡ one .state
   pub was : r .answer ≡ Answer.Done → one .answer ≡ Answer.Done
   pub next : r .answer ≡ Answer.Done → r .at + 1 < rowCount w
   pub nests : r .answer ≡ Answer.Done → (d : ℕ) → Nests w (one .at) d → Nests w (r .at + 1) d
   pub same :
-      (s₂ : Rules.State) (φ : Formula ℕ) (os : List Open) →
-      outcome (one .answer) (lineAt w (one .at)) (verdictFrom w (one .at) (one .state) φ (inFirst s₂ ∷ os))
-      ≡ outcome (r .answer) (lineAt w (r .at)) (checkRows (programIn w) φ (drop (r .at + 1) (allRows w)) s₂ (inSecond (stateOf (r .state)) ∷ os))
+      (s s₂ : Rules.State) (φ : Formula ℕ) (os : List Open) →
+      outcome (one .answer) (lineAt w (one .at)) (verdictFrom w (one .at) s φ (inFirst s₂ ∷ os))
+      ≡ outcome (r .answer) (lineAt w (r .at)) (verdictFrom w (r .at + 1) s₂ φ (inSecond s ∷ os))
 
--- the second part ends at its `join`; s is the first's end
-pub record Joined (w : List ℕ) (s : State) (two r : Out) : Type 0 where
+-- the second part ends at its `join`; s is the first's end, t the second's
+pub record Joined (w : List ℕ) (two : Out) (s t : Rules.State) (r : Out) (key b : List ℕ) : Type 0 where
   pub place : r .at ≡ two .at
-  pub wf : Wf (r .state)
+  pub wf : Wf key b
   pub was : r .answer ≡ Answer.Done → two .answer ≡ Answer.Done
   pub next : r .answer ≡ Answer.Done → r .at + 1 < rowCount w
   pub nests : r .answer ≡ Answer.Done → (d : ℕ) → Nests w (two .at) (suc d) → Nests w (r .at + 1) d
   pub same :
       (φ : Formula ℕ) (os : List Open) →
-      outcome (two .answer) (lineAt w (two .at)) (verdictFrom w (two .at) (two .state) φ (inSecond (stateOf s) ∷ os))
-      ≡ outcome (r .answer) (lineAt w (r .at)) (verdictFrom w (r .at + 1) (r .state) φ os)
+      outcome (two .answer) (lineAt w (two .at)) (verdictFrom w (two .at) t φ (inSecond s ∷ os))
+      ≡ outcome (r .answer) (lineAt w (r .at)) (verdictFrom w (r .at + 1) (stateOf key b) φ os)

@@ -1,31 +1,29 @@
 -- Atoms of the tables, and formulas atom by atom.
 use mathlib.Core.Path.{_≡_, refl, sym, ap, ap₂, _∙_, subst}
-use mathlib.Core.Bool.{Bool, true, false, cond, _&&_}
+use mathlib.Core.Bool.{Bool, false, _&&_}
 use mathlib.Core.List.{List, [], _∷_, map}
-use Prim.Native.Nat.{ℕ, zero, suc, _+_, _-_, _≤_, _<_}
+use Prim.Native.Nat.{ℕ, suc, _+_, _-_, _<_}
 use native.Mathlib.Omega.{arith}
-use lib.Dec.{eqb}
-use lib.ListN.{length, getD, replicate}
+use lib.ListN.{getD, replicate}
 use borrow.Author.Tests.{eq-eqb, ne-eqb}
 use types.Run.{OneOf, miss}
 use denote.Enum.Declared.{tagOf}
-use Rattle.rules.specs.Base.{Try, ok, no, _>>=_, any}
+use Rattle.rules.specs.Base.{Try, _>>=_, any}
 use Rattle.rules.specs.Answers.{Refusal}
-use Rattle.rules.specs.Syntax.{Formula, Atom, eq, ne, acc, cmp}
+use Rattle.rules.specs.Syntax.{Formula, Atom, eq, ne, cmp}
 use Rattle.rules.specs.State as Rules
 use Rattle.rules.specs.State.{Permission, equalIn, showFrom}
 use Rattle.rules.specs.Rules.{actual, substTerm, substAtom}
 use Rattle.tables.specs.Decode.{byteAt, atomPlace, relOf, leftAt, rightAt, atomAt, atomsFrom}
 use Rattle.links.specs.Listing.{listed}
-use Rattle.knowledge.specs.declared.State.{State}
 use Rattle.knowledge.specs.declared.Answer.{Answer}
-use Rattle.knowledge.specs.declared.Added.{Added}
 use Rattle.knowledge.proofs.Answer.{the-type}
-use Rattle.knowledge.specs.States.{Wf, stateOf, permissionsOf, permissionAt, kept, gone}
-use Rattle.knowledge.specs.Answers.{answered, Taken, ShowsAtom, Adds, AddsAtom}
-use Rattle.knowledge.proofs.Entries.{no-flags}
-use Rattle.knowledge.proofs.Keeping.{kept-all, gone-any}
-use Rattle.knowledge.proofs.Searches.{any-false}
+use Rattle.known.specs.States.{Wf, stateOf, entries, permissionsOf, permissionAt}
+use Rattle.removal.specs.Changes.{gone}
+use Rattle.knowledge.specs.Answers.{answered, ShowsAtom, Adds, AddsAtom}
+use Rattle.known.proofs.Entries.{no-flags}
+use Rattle.removal.proofs.Keeping.{kept-all, gone-any}
+use Rattle.known.proofs.Searches.{any-false}
 use Rattle.formulas.specs.Formulas.{formula, accessAt, Shows, Showing}
 
 module _ (w : List ℕ) (y z x a : ℕ) where
@@ -81,50 +79,50 @@ unfolding answered _>>=_
 is-done k e a f = rw e
 
 -- SHOWING
-pub show-start : (s : State) (φ : Formula ℕ) → Showing s φ φ (replicate 64 false)
+pub show-start : (key b : List ℕ) (φ : Formula ℕ) → Showing key b φ φ (replicate 64 false)
 unfolding Rules.show any
-show-start s φ =
+show-start key b φ =
     record {
       size = refl;
-      shown = record { kept = permissionsOf s; consumed = [] };
-      taken = record { rest = sym (kept-all (replicate 64 false) (permissionAt (s .variable) (s .field)) (s .permissions) (λ i h. no-flags 64 i)); used = λ q. sym (none-gone q) };
+      shown = record { kept = permissionsOf b; consumed = [] };
+      taken = record { rest = sym (kept-all (replicate 64 false) (permissionAt b) (entries b) (λ i h. no-flags 64 i)); used = λ q. sym (none-gone q) };
       same = refl;
     }
   where
-    none-gone : (q : Permission → Bool) → any q (gone (replicate 64 false) (permissionAt (s .variable) (s .field)) (s .permissions)) ≡ false
+    none-gone : (q : Permission → Bool) → any q (gone (replicate 64 false) (permissionAt b) (entries b)) ≡ false
     none-gone q =
-        gone-any q (replicate 64 false) (permissionAt (s .variable) (s .field)) (s .permissions)
-        ∙ any-false (λ j. getD (replicate 64 false) j false && q (permissionAt (s .variable) (s .field) j)) (listed (λ i. i) (s .permissions)) (λ j. ap (λ (b : Bool). b && q (permissionAt (s .variable) (s .field) j)) (no-flags 64 j))
+        gone-any q (replicate 64 false) (permissionAt b) (entries b)
+        ∙ any-false (λ j. getD (replicate 64 false) j false && q (permissionAt b j)) (listed (λ i. i) (entries b)) (λ j. ap (λ (d : Bool). d && q (permissionAt b j)) (no-flags 64 j))
 
-module _ (s : State) (φ rest : Formula ℕ) (out : List Bool) (S : Showing s φ rest out) (a : Atom ℕ) (more : Formula ℕ) (e : rest ≡ a ∷ more)
-    (k : Answer) (out′ : List Bool) (A : ShowsAtom s out a k out′) where
-  on : (answered k (A .after (S .shown)) >>= λ d. showFrom (equalIn (stateOf s)) (stateOf s) more d) ≡ Rules.show (stateOf s) φ
+module _ (key b : List ℕ) (φ rest : Formula ℕ) (out : List Bool) (S : Showing key b φ rest out) (a : Atom ℕ) (more : Formula ℕ) (e : rest ≡ a ∷ more)
+    (k : Answer) (out′ : List Bool) (A : ShowsAtom key b out a k out′) where
+  on : (answered k (A .after (S .shown)) >>= λ d. showFrom (equalIn (stateOf key b)) (stateOf key b) more d) ≡ Rules.show (stateOf key b) φ
   on = sym (A .shows (S .shown) more (S .taken)) ∙ rw (← e) (S .same)
 
-  pub show-more : k ≡ Answer.Done → Showing s φ more out′
+  pub show-more : k ≡ Answer.Done → Showing key b φ more out′
   show-more d = record { size = A .size; shown = A .after (S .shown); taken = A .taken (S .shown) (S .taken); same = sym (is-done k d _ _) ∙ on }
 
-  pub show-refused : OneOf (1 ∷ 2 ∷ 3 ∷ 4 ∷ 5 ∷ []) (tagOf the-type k) → Shows s φ k out′
+  pub show-refused : OneOf (1 ∷ 2 ∷ 3 ∷ 4 ∷ 5 ∷ []) (tagOf the-type k) → Shows key b φ k out′
   show-refused o = record { size = A .size; shown = A .after (S .shown); taken = A .taken (S .shown) (S .taken); same = sym (not-done k o _ _ (A .after (S .shown))) ∙ on }
 
-pub show-end : (s : State) (φ rest : Formula ℕ) (out : List Bool) → Showing s φ rest out → rest ≡ [] → Shows s φ Answer.Done out
+pub show-end : (key b : List ℕ) (φ rest : Formula ℕ) (out : List Bool) → Showing key b φ rest out → rest ≡ [] → Shows key b φ Answer.Done out
 unfolding showFrom answered
-show-end s φ rest out S e = record { size = S .size; shown = S .shown; taken = S .taken; same = rw e at (S .same) }
+show-end key b φ rest out S e = record { size = S .size; shown = S .shown; taken = S .taken; same = rw e at (S .same) }
 
 -- ADDING
-module _ (s : State) (a : Atom ℕ) (r : Added) (A : AddsAtom s a r) (rest more : Formula ℕ) (e : rest ≡ a ∷ more) where
-  pub add-more : r .answer ≡ Answer.Done → Rules.add rest (stateOf s) ≡ Rules.add more (stateOf (r .state))
-  add-more d = rw e (A .adds more ∙ is-done (r .answer) d _ _)
+module _ (key b : List ℕ) (a : Atom ℕ) (k : Answer) (key′ b′ : List ℕ) (A : AddsAtom key b a k key′ b′) (rest more : Formula ℕ) (e : rest ≡ a ∷ more) where
+  pub add-more : k ≡ Answer.Done → Rules.add rest (stateOf key b) ≡ Rules.add more (stateOf key′ b′)
+  add-more d = rw e (A .adds more ∙ is-done k d _ _)
 
-  pub add-refused : OneOf (1 ∷ 2 ∷ 3 ∷ 4 ∷ 5 ∷ []) (tagOf the-type (r .answer)) → Adds (Rules.add rest (stateOf s)) r
-  add-refused o = record { wf = A .wf; same = sym (rw e (A .adds more ∙ not-done (r .answer) o _ _ (stateOf (r .state)))) }
+  pub add-refused : OneOf (1 ∷ 2 ∷ 3 ∷ 4 ∷ 5 ∷ []) (tagOf the-type k) → Adds (Rules.add rest (stateOf key b)) k key′ b′
+  add-refused o = record { wf = A .wf; same = sym (rw e (A .adds more ∙ not-done k o _ _ (stateOf key′ b′))) }
 
-pub add-end : (s : State) (rest : Formula ℕ) → Wf s → rest ≡ [] → Adds (Rules.add rest (stateOf s)) (record { answer = Answer.Done; state = s })
+pub add-end : (key b : List ℕ) (rest : Formula ℕ) → Wf key b → rest ≡ [] → Adds (Rules.add rest (stateOf key b)) Answer.Done key b
 unfolding Rules.add answered
-add-end s rest w e = record { wf = w; same = rw e }
+add-end key b rest w e = record { wf = w; same = rw e }
 
 pub show-begin :
-    (w : List ℕ) (y z x a n : ℕ) (s : State) →
-    Showing s (formula w y z x a n) (formula w y z x (a + 0) (n - 0)) (replicate 64 false)
-show-begin w y z x a n s =
-    subst (λ (φ : Formula ℕ). Showing s (formula w y z x a n) φ (replicate 64 false)) (sym (formula-all w y z x a n)) (show-start s (formula w y z x a n))
+    (w : List ℕ) (y z x a n : ℕ) (key b : List ℕ) →
+    Showing key b (formula w y z x a n) (formula w y z x (a + 0) (n - 0)) (replicate 64 false)
+show-begin w y z x a n key b =
+    subst (λ (φ : Formula ℕ). Showing key b (formula w y z x a n) φ (replicate 64 false)) (sym (formula-all w y z x a n)) (show-start key b (formula w y z x a n))

@@ -1,11 +1,9 @@
-use knowledge::Added;
 use knowledge::Answer;
 use knowledge::Atom;
 use knowledge::Shown;
-use knowledge::State;
 use links::Term;
 ghost use mathlib.Core.Path.{_≡_};
-ghost use Prim.Native.Nat.{ℕ, _+_, _≤_, _<_};
+ghost use Prim.Native.Nat.{_+_, _≤_, _<_};
 ghost use lib.ListN.{length};
 ghost use Rattle.rules.specs.Limits.{work-bytes};
 ghost use Rattle.rules.specs.State as Rules;
@@ -14,7 +12,7 @@ ghost use Rattle.rules.specs.Rules as Rule;
 ghost use Rattle.tables.specs.Layout.{most-atom-rows};
 ghost use Rattle.tables.specs.Decode.{exprAt, leftAt, rightAt, atomAt};
 ghost use Rattle.links.specs.Keys.{meaning};
-ghost use Rattle.knowledge.specs.States.{Wf, stateOf};
+ghost use Rattle.known.specs.States.{Wf, stateOf};
 ghost use Rattle.knowledge.specs.Answers.{atomOf, Adds};
 ghost use Rattle.formulas.specs.Formulas.{formula, accessAt, Shows};
 
@@ -85,14 +83,23 @@ pub fn atom(w: &[u8], a: usize, y: u8, z: u8, x: u8) -> Atom
 }
 
 // Shows n atoms from the atom a on; the entries that they consume are out then.
-pub fn show(w: &[u8], a: usize, n: usize, y: u8, z: u8, x: u8, s: State) -> Shown
-    requires { ⌜ (length (now w) ≡ work-bytes) × (a + n ≤ most-atom-rows) × Wf s ⌝ }
-    ensures { λ r. ⌜ Shows s (formula (now (w .entry)) y z x a n) (r .answer) (r .out) ⌝ }
+pub fn show<'a>(
+    w: &'a [u8],
+    a: usize,
+    n: usize,
+    y: u8,
+    z: u8,
+    x: u8,
+    key: &'a [u64; 144],
+    b: &'a [u8; 338],
+) -> Shown
+    requires { ⌜ (length (now w) ≡ work-bytes) × (a + n ≤ most-atom-rows) × Wf (now key) (now b) ⌝ }
+    ensures { λ r. ⌜ Shows (now (key .entry)) (now (b .entry)) (formula (now (w .entry)) y z x a n) (r .answer) (r .out) ⌝ }
 {
     let mut out = [false; 64];
     let mut i = 0;
     while i < n {
-        let r = knowledge::show_atom(s, out, atom(w, a + i, y, z, x));
+        let r = knowledge::show_atom(key, b, out, atom(w, a + i, y, z, x));
         let k = r.answer;
         out = r.out;
         let Answer::Done = k else {
@@ -107,26 +114,26 @@ pub fn show(w: &[u8], a: usize, n: usize, y: u8, z: u8, x: u8, s: State) -> Show
 }
 
 // Adds n atoms from the atom a on.
-pub fn add(w: &[u8], a: usize, n: usize, y: u8, z: u8, x: u8, s: State) -> Added
-    requires { ⌜ (length (now w) ≡ work-bytes) × (a + n ≤ most-atom-rows) × Wf s ⌝ }
-    ensures { λ r. ⌜ Adds (Rules.add (formula (now (w .entry)) y z x a n) (stateOf s)) r ⌝ }
+pub fn add(
+    w: &[u8],
+    a: usize,
+    n: usize,
+    y: u8,
+    z: u8,
+    x: u8,
+    key: &mut [u64; 144],
+    b: &mut [u8; 338],
+) -> Answer
+    requires { ⌜ (length (now w) ≡ work-bytes) × (a + n ≤ most-atom-rows) × Wf (now key) (now b) ⌝ }
+    ensures { λ r. ⌜ Adds (Rules.add (formula (now (w .entry)) y z x a n) (stateOf (now (key .entry)) (now (b .entry)))) r (now (key .exit)) (now (b .exit)) ⌝ }
 {
-    let mut t = s;
     let mut i = 0;
     while i < n {
-        let r = knowledge::add_atom(t, atom(w, a + i, y, z, x));
-        let k = r.answer;
-        t = r.state;
+        let k = knowledge::add_atom(key, b, atom(w, a + i, y, z, x));
         let Answer::Done = k else {
-            return Added {
-                answer: k,
-                state: t,
-            };
+            return k;
         };
         i += 1;
     }
-    Added {
-        answer: Answer::Done,
-        state: t,
-    }
+    Answer::Done
 }

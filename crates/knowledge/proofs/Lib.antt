@@ -1,11 +1,2 @@
-pub mod Searches
-pub mod Pairs
-pub mod Numbers
-pub mod Starts
-pub mod Entries
-pub mod Ways
-pub mod Renaming
-pub mod Keeping
 pub mod Splits
-pub mod Changes
 pub mod Showing

@@ -1,10 +1,10 @@
 -- The first entry that passes, and the others.
 use mathlib.Core.Path.{_≡_, refl, sym, ap, ap₂, _∙_}
 use mathlib.Core.Bool.{Bool, true, false, cond, not, _&&_, _||_}
-use mathlib.Core.List.{List, [], _∷_, _++_, append-nil}
+use mathlib.Core.List.{List, [], _∷_, _++_}
 use mathlib.Core.Option.{Option, none, some}
-use mathlib.Core.Logic.{_⊎_, inl, inr, ⊎-elim}
-use Prim.Native.Nat.{ℕ, zero, suc, _+_, _≤_, _<_}
+use mathlib.Core.Logic.{⊎-elim}
+use Prim.Native.Nat.{ℕ, zero, suc, _<_}
 use native.Mathlib.Omega.{arith}
 use lib.ListN.{length, getD, set}
 use lib.Seq.{getD-set-same, getD-set-other}
@@ -13,10 +13,10 @@ use Rattle.rules.specs.State.{Permission, Split, split}
 use Rattle.rules.proofs.Lists.{decide-eq}
 use Rattle.links.specs.Listing.{listed}
 use Rattle.links.proofs.Listing.{any-append}
-use Rattle.knowledge.specs.States.{kept, gone}
-use Rattle.knowledge.specs.Questions.{places}
-use Rattle.knowledge.proofs.Searches.{any-same}
-use Rattle.knowledge.proofs.Keeping.{gone-any, kept-same}
+use Rattle.removal.specs.Changes.{kept, gone}
+use Rattle.known.specs.Questions.{places}
+use Rattle.known.proofs.Searches.{any-same}
+use Rattle.removal.proofs.Keeping.{gone-any, kept-same}
 
 abbrev ahead : List Permission → Split → Split
 ahead l c = record { taken = c .taken; others = l ++ c .others }

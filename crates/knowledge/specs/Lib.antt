@@ -1,3 +1,1 @@
-pub mod States
-pub mod Questions
 pub mod Answers

@@ -3,12 +3,12 @@ use mathlib.Core.Path.{_≡_, refl, sym, ap, ap₂, _∙_}
 use mathlib.Core.Bool.{Bool, true, false, cond}
 use Prim.Native.Nat.{ℕ, _+_, _*_, _-_, _/_, _%_, _≤_, _<_}
 use native.Mathlib.Omega.{arith}
-use lib.Dec.{T, eqb, ltb}
-use borrow.Author.Tests.{lt-ltb, le-ltb, eq-eqb, ne-eqb, ltb-true, ltb-false, eqb-true, eqb-false}
-use Rattle.rules.specs.Syntax.{Expr, same, num, null, var, path}
+use lib.Dec.{eqb, ltb}
+use borrow.Author.Tests.{lt-ltb, le-ltb, ne-eqb, ltb-false, eqb-true, eqb-false}
+use Rattle.rules.specs.Syntax.{same, num, null, var, path}
 use Rattle.rules.proofs.Closure.{same→≡, same-refl}
 use Rattle.rules.proofs.Lists.{T-true, F-false}
-use Rattle.links.specs.Keys.{termOf, keyOf, null-key, first-path, first-number}
+use Rattle.links.specs.Keys.{termOf, keyOf}
 
 pub of-variable : (k : ℕ) → k < 256 → termOf k ≡ var k
 unfolding termOf

@@ -1,20 +1,20 @@
 -- Labels keep deciding ~ as slots and facts are added.
 use mathlib.Core.Path.{_≡_, refl, sym, ap, _∙_, subst}
 use mathlib.Core.Bool.{Bool, true, false, cond}
-use mathlib.Core.List.{List, [], _∷_, _++_, map}
+use mathlib.Core.List.{List, [], _∷_, _++_}
 use mathlib.Core.Logic.{_⊎_, inl, inr, ⊎-elim}
-use Prim.Native.Nat.{ℕ, zero, suc, _+_, _≤_, _<_}
+use Prim.Native.Nat.{ℕ, _+_, _≤_, _<_}
 use native.Mathlib.Omega.{arith}
-use lib.Dec.{T, eqb}
-use lib.ListN.{length, getD, set, length-set, length-map}
+use lib.Dec.{T, eqb, ltb}
+use lib.ListN.{length, getD, set, length-set}
 use lib.Seq.{getD-set-same, getD-set-other}
-use borrow.Author.Tests.{eq-eqb, ne-eqb, eqb-true, eqb-false}
+use borrow.Author.Tests.{eq-eqb, ne-eqb, eqb-true, eqb-false, ltb-true, ltb-false}
 use Rattle.rules.specs.Syntax.{eq, ne, same}
 use Rattle.rules.specs.State.{Term, Fact, representative, equalBy}
-use Rattle.rules.proofs.Closure.{Listed, Linked, Equivalence, linked-least, here, there, listed, linked→representative, representative→linked, same→≡, same-refl}
+use Rattle.rules.proofs.Closure.{Listed, Equivalence, linked-least, here, there, listed, linked→representative, representative→linked, same→≡, same-refl}
 use Rattle.rules.proofs.Lists.{decide-eq, T-true, F-false}
 use Rattle.links.specs.Keys.{termOf}
-use Rattle.links.specs.Links.{termAt, Header, Found, Missing, Labelled, Alike, Together, Decides, Slotted, Pushed, picked, relOf, factOf, alikeBy}
+use Rattle.links.specs.Links.{termAt, Header, Found, Missing, Labelled, Alike, Together, Decides, Merged, Joined, LinkedUnless, Slotted, Pushed, Marked, placeOf, picked, relOf, factOf, alikeBy, left-new, right-new, both-known}
 use Rattle.links.proofs.Keys.{one-key}
 
 pub not-in-header : (key : List ℕ) (k : ℕ) → Header key → 15 ≤ k → (k ≡ 256 → ⊥) → (i : ℕ) → i < 16 → getD key i 0 ≡ k → ⊥
@@ -171,7 +171,7 @@ module _ {fs : List Fact} {key label : List ℕ} {m : ℕ} (D : Decides fs key l
 
   -- AN EQUALITY: the label of b's slot becomes that of a's
   module _
-      (f : Fact) (a b : ℕ) (ha : a < m) (hb : b < m) (ends : Ends f (termAt key a) (termAt key b)) (label′ : List ℕ)
+      (f : Fact) (a b : ℕ) (ha : a < m) (hb : b < m) (ends : Ends f (termAt key a) (termAt key b) ⊎ Ends f (termAt key b) (termAt key a)) (label′ : List ℕ)
       (new : (i : ℕ) → i < m → getD label′ i 0 ≡ picked (getD label b 0) (getD label a 0) (getD label i 0))
     where
       hit : (l : ℕ) → l ≡ getD label b 0 → picked (getD label b 0) (getD label a 0) l ≡ getD label a 0
@@ -183,7 +183,7 @@ module _ {fs : List Fact} {key label : List ℕ} {m : ℕ} (D : Decides fs key l
       pass l e = rw (ne-eqb l (getD label b 0) e)
 
       both : Alike (fs ++ (f ∷ [])) (termAt key a) (termAt key b)
-      both = linked→representative (listed (listed-end fs f ends))
+      both = ⊎-elim (λ e. linked→representative (listed (listed-end fs f e))) (λ e. sym (linked→representative (listed (listed-end fs f e)))) ends
 
       more : (i j : ℕ) → i < m → j < m → getD label i 0 ≡ getD label j 0 → Alike (fs ++ (f ∷ [])) (termAt key i) (termAt key j)
       more i j h g e = grows fs f _ _ (D .sound i j h g e)
@@ -199,16 +199,16 @@ module _ {fs : List Fact} {key label : List ℕ} {m : ℕ} (D : Decides fs key l
           more i a h ha (sym (pass _ p) ∙ sym (new i h) ∙ e ∙ new j g ∙ hit _ q) ∙ both ∙ more b j hb g (sym q)
       sound-at i j h g e (inr p) (inr q) = more i j h g (sym (pass _ p) ∙ sym (new i h) ∙ e ∙ new j g ∙ pass _ q)
 
-      abbrev Joined : Term → Term → Type 0
-      Joined t u = (t ≡ u) ⊎ Together key label′ m t u
+      abbrev Meets : Term → Term → Type 0
+      Meets t u = (t ≡ u) ⊎ Together key label′ m t u
 
-      joined-sym : (t u : Term) → Joined t u → Joined u t
+      joined-sym : (t u : Term) → Meets t u → Meets u t
       joined-sym t u (inl e) = inl (sym e)
       joined-sym t u (inr w) =
           inr (record { one = w .other; other = w .one; one-within = w .other-within; other-within = w .one-within; one-is = w .other-is; other-is = w .one-is; agree = sym (w .agree) })
 
-      joined-on : (t u v : Term) → Joined t u → Joined u v → Joined t v
-      joined-on t u v (inl e) x = subst (λ (z : Term). Joined z v) (sym e) x
+      joined-on : (t u v : Term) → Meets t u → Meets u v → Meets t v
+      joined-on t u v (inl e) x = subst (λ (z : Term). Meets z v) (sym e) x
       joined-on t u v (inr w) (inl e) = inr (subst (λ (z : Term). Together key label′ m t z) e w)
       joined-on t u v (inr w) (inr x) =
           inr (record {
@@ -221,16 +221,18 @@ module _ {fs : List Fact} {key label : List ℕ} {m : ℕ} (D : Decides fs key l
             agree = w .agree ∙ kept (w .other) (x .one) (w .other-within) (x .one-within) (D .unique (w .other) (x .one) (w .other-within) (x .one-within) (w .other-is ∙ sym (x .one-is))) ∙ x .agree;
           })
 
-      joined-old : (t u : Term) → Alike fs t u → Joined t u
+      joined-old : (t u : Term) → Alike fs t u → Meets t u
       joined-old t u e = ⊎-elim (λ d. inl d) (λ w. inr (record { one = w .one; other = w .other; one-within = w .one-within; other-within = w .other-within; one-is = w .one-is; other-is = w .other-is; agree = kept (w .one) (w .other) (w .one-within) (w .other-within) (w .agree) })) (D .linked t u e)
 
       meet : getD label′ a 0 ≡ getD label′ b 0
       meet = ⊎-elim (λ p. kept a b ha hb p) (λ p. new a ha ∙ pass _ p ∙ sym (hit _ refl) ∙ sym (new b hb)) (decide-eq (getD label a 0) (getD label b 0))
 
-      joined-end : (t u : Term) → Ends f t u → Joined t u
-      joined-end t u w = inr (record { one = a; other = b; one-within = ha; other-within = hb; one-is = sym (ends .left) ∙ w .left; other-is = sym (ends .right) ∙ w .right; agree = meet })
+      joined-end : (t u : Term) → Ends f t u → Meets t u
+      joined-end t u w =
+          ⊎-elim (λ e. inr (record { one = a; other = b; one-within = ha; other-within = hb; one-is = sym (e .left) ∙ w .left; other-is = sym (e .right) ∙ w .right; agree = meet }))
+          (λ e. inr (record { one = b; other = a; one-within = hb; other-within = ha; one-is = sym (e .left) ∙ w .left; other-is = sym (e .right) ∙ w .right; agree = sym meet })) ends
 
-      joined-all : (t u : Term) → Alike (fs ++ (f ∷ [])) t u → Joined t u
+      joined-all : (t u : Term) → Alike (fs ++ (f ∷ [])) t u → Meets t u
       joined-all t u e =
           linked-least (record { reflexive = inl refl; symmetric = λ {t} {u} w. joined-sym t u w; transitive = λ {t} {u} {v} w x. joined-on t u v w x })
           (λ t u l. ⊎-elim (λ k. joined-old t u (linked→representative (listed k))) (joined-end t u) (listed-cases fs f l))
@@ -313,17 +315,13 @@ slotted key label m k l n h hk hl (inl w) e =
     record {
       keys = refl;
       size = length-set label m n;
+      rest = λ i g. getD-set-other label m i n 0 g;
       labels = λ fs D.
           let d : n ≡ l = e ∙ rw (ne-eqb l 255 (λ x. labelled D (omega arith) (w .place) (w .within) (sym (w .shown) ∙ x))) in
           one-slot D k n hk hl (known (record { place = w .place; within = w .within; is = w .is; shown = d ∙ w .shown }));
     }
 slotted key label m k l n h hk hl (inr w) e =
-    record { keys = refl; size = length-set label m n; labels = λ fs D. one-slot D k n hk hl (fresh (w .nowhere) (e ∙ rw (eq-eqb l 255 (w .shown)))) }
-
-map-at : (f : ℕ → ℕ) (l : List ℕ) (i : ℕ) → i < length l → getD (map f l) i 0 ≡ f (getD l i 0)
-map-at f [] i h = absurd (omega arith)
-map-at f (a ∷ l) zero h = refl
-map-at f (a ∷ l) (suc i) h = map-at f l i (omega arith)
+    record { keys = refl; size = length-set label m n; rest = λ i g. getD-set-other label m i n 0 g; labels = λ fs D. one-slot D k n hk hl (fresh (w .nowhere) (e ∙ rw (eq-eqb l 255 (w .shown)))) }
 
 module _
     (key label : List ℕ) (m l r : ℕ) (hk : m + 2 ≤ length key) (key₁ label₁ key₂ label₂ : List ℕ)
@@ -337,9 +335,12 @@ module _
         let e : m + 1 + 1 ≡ m + 2 = omega arith in
         subst (λ (n : ℕ). Decides fs key₂ label₂ n) e (two .labels fs (one .labels fs D))
 
-    pub pushed-ne : Pushed key label m true l r key₂ label₂
+    far : m + 2 ≤ 144 → (i : ℕ) → 144 ≤ i → getD label₂ i 0 ≡ getD label i 0
+    far h i g = two .rest i (omega arith) ∙ one .rest i (omega arith)
+
+    pushed-ne : m + 2 ≤ 144 → Pushed key label m true l r key₂ label₂
     unfolding relOf
-    pushed-ne = record { keys = keys-set; size = two .size ∙ one .size; labels = λ fs D. one-inequality (both-slots fs D) (factOf true l r) refl }
+    pushed-ne h = record { keys = keys-set; size = two .size ∙ one .size; rest = far h; labels = λ fs D. one-inequality (both-slots fs D) (factOf true l r) refl }
 
     left-is : getD key₂ m 0 ≡ l
     left-is =
@@ -351,16 +352,115 @@ module _
         ap (λ (k : List ℕ). getD k (m + 1) 0) keys-set
         ∙ getD-set-same (set key m l) (m + 1) r 0 (rw (length-set key m l) (omega arith))
 
-    pub pushed-eq :
-        m + 2 ≤ length label₂ → (label₃ : List ℕ) → label₃ ≡ map (picked (getD label₂ (m + 1) 0) (getD label₂ m 0)) label₂ →
-        Pushed key label m false l r key₂ label₃
+    left-end : Ends (factOf false l r) (termAt key₂ m) (termAt key₂ (m + 1))
     unfolding relOf
-    pushed-eq h label₃ e =
+    left-end = record { rel = refl; left = ap termOf (sym left-is); right = ap termOf (sym right-is) }
+
+    -- the labels before the two slots, and that of the first
+    old-low : {fs : List Fact} → Decides fs key label m → (i : ℕ) → i < m → getD label₂ i 0 < m
+    old-low D i h = omega (arith, two .rest i (omega arith), one .rest i (omega arith), D .low i h)
+
+    first-low : {fs : List Fact} → Decides fs key label m → getD label₂ m 0 < m + 1
+    first-low {fs = fs} D = omega (arith, two .rest m (omega arith), one .labels fs D .low m (omega arith))
+
+    -- the slot c, alone with its label, takes another label
+    alone-picked :
+        (c to : ℕ) → c < length label₂ → ((i : ℕ) → i < m + 2 → (i ≡ c → ⊥) → (getD label₂ i 0 ≡ getD label₂ c 0 → ⊥) ⊎ (getD label₂ i 0 ≡ to)) →
+        (i : ℕ) → i < m + 2 → getD (set label₂ c to) i 0 ≡ picked (getD label₂ c 0) to (getD label₂ i 0)
+    unfolding picked
+    alone-picked c to h only i g = ⊎-elim here there (decide-eq i c)
+      where
+        here : i ≡ c → getD (set label₂ c to) i 0 ≡ cond (eqb (getD label₂ i 0) (getD label₂ c 0)) to (getD label₂ i 0)
+        here e = rw (e, eq-eqb (getD label₂ c 0) (getD label₂ c 0) refl) (getD-set-same label₂ c to 0 h)
+
+        same : getD label₂ i 0 ≡ to → (x : Bool) → getD label₂ i 0 ≡ cond x to (getD label₂ i 0)
+        same d true = d
+        same d false = refl
+
+        there : (i ≡ c → ⊥) → getD (set label₂ c to) i 0 ≡ cond (eqb (getD label₂ i 0) (getD label₂ c 0)) to (getD label₂ i 0)
+        there e =
+            getD-set-other label₂ c i to 0 e
+            ∙ ⊎-elim (λ d. rw (ne-eqb (getD label₂ i 0) (getD label₂ c 0) d)) (λ d. same d (eqb (getD label₂ i 0) (getD label₂ c 0))) (only i g e)
+
+    abbrev Equal : List ℕ → Type 0
+    Equal label₃ = Pushed key label m false l r key₂ label₃
+
+    pushed-left : m + 2 ≤ 144 → 144 ≤ length label₂ → getD label₂ m 0 ≡ m → Equal (set label₂ m (getD label₂ (m + 1) 0))
+    pushed-left h s e =
         record {
           keys = keys-set;
-          size = ap length e ∙ length-map label₂ _ ∙ two .size ∙ one .size;
+          size = length-set label₂ m _ ∙ two .size ∙ one .size;
+          rest = λ i g. getD-set-other label₂ m i _ 0 (omega arith) ∙ far h i g;
           labels = λ fs D.
-              one-equality (both-slots fs D) (factOf false l r) m (m + 1) (omega arith) (omega arith)
-              (record { rel = refl; left = ap termOf (sym left-is); right = ap termOf (sym right-is) }) label₃
-              (λ i g. ap (λ (k : List ℕ). getD k i 0) e ∙ map-at _ label₂ i (omega arith));
+              one-equality (both-slots fs D) (factOf false l r) (m + 1) m (omega arith) (omega arith) (inr left-end) _
+              (alone-picked m (getD label₂ (m + 1) 0) (omega arith) (λ i g d.
+              ⊎-elim (λ q. inr (ap (λ (j : ℕ). getD label₂ j 0) q)) (λ q. inl (λ x. omega (arith, old-low D i (omega arith)))) (decide-eq i (m + 1))));
         }
+
+    pushed-right : m + 2 ≤ 144 → 144 ≤ length label₂ → getD label₂ (m + 1) 0 ≡ m + 1 → Equal (set label₂ (m + 1) (getD label₂ m 0))
+    pushed-right h s e =
+        record {
+          keys = keys-set;
+          size = length-set label₂ (m + 1) _ ∙ two .size ∙ one .size;
+          rest = λ i g. getD-set-other label₂ (m + 1) i _ 0 (omega arith) ∙ far h i g;
+          labels = λ fs D.
+              one-equality (both-slots fs D) (factOf false l r) m (m + 1) (omega arith) (omega arith) (inl left-end) _
+              (alone-picked (m + 1) (getD label₂ m 0) (omega arith) (λ i g d.
+              ⊎-elim (λ q. inr (ap (λ (j : ℕ). getD label₂ j 0) q)) (λ q. inl (λ x. omega (arith, old-low D i (omega arith)))) (decide-eq i m)));
+        }
+
+    pushed-merged : m + 2 ≤ 144 → (label₃ : List ℕ) → Merged (getD label₂ (m + 1) 0) (getD label₂ m 0) label₂ label₃ → Equal label₃
+    pushed-merged h label₃ M =
+        record {
+          keys = keys-set;
+          size = M .size ∙ two .size ∙ one .size;
+          rest = λ i g. M .rest i g ∙ far h i g;
+          labels = λ fs D.
+              one-equality (both-slots fs D) (factOf false l r) m (m + 1) (omega arith) (omega arith) (inl left-end) label₃
+              (λ i g. M .labels i (omega arith));
+        }
+
+    pushed-eq : m + 2 ≤ 144 → 144 ≤ length label₂ → (label₃ : List ℕ) → Joined m label₂ label₃ → Equal label₃
+    pushed-eq h s label₃ (left-new e d) = subst Equal (sym d) (pushed-left h s e)
+    pushed-eq h s label₃ (right-new e d) = subst Equal (sym d) (pushed-right h s e)
+    pushed-eq h s label₃ (both-known M) = pushed-merged h label₃ M
+
+    pub pushed :
+        m + 2 ≤ 144 → 144 ≤ length label₂ → (b : Bool) (label₃ : List ℕ) → LinkedUnless b m label₂ label₃ → Pushed key label m b l r key₂ label₃
+    pushed h s true label₃ T = subst (λ (k : List ℕ). Pushed key label m true l r key₂ k) (sym (T .apart refl)) (pushed-ne h)
+    pushed h s false label₃ T = pushed-eq h s label₃ (T .equal refl)
+
+-- MARKS
+pub marked-more :
+    (key key′ : List ℕ) (marks : List Bool) (m k p : ℕ) → key′ ≡ set key m k → m < length key → (p ≡ placeOf k) × (p < 512) →
+    Marked key marks m → Marked key′ (set marks p true) (m + 1)
+marked-more key key′ marks m k p e h q M =
+    record { size = length-set marks p true ∙ M .size; at = λ i g s. rw e (⊎-elim here (there i g s) (decide-eq i m)) }
+  where
+    on : (r : ℕ) → getD marks r false ≡ true → getD (set marks p true) r false ≡ true
+    on r d = ⊎-elim (λ x. rw x (getD-set-same marks p true false (omega (arith, M .size)))) (λ x. getD-set-other marks p r true false x ∙ d) (decide-eq r p)
+
+    here : {i : ℕ} → i ≡ m → getD (set marks p true) (placeOf (getD (set key m k) i 0)) false ≡ true
+    here d = rw (d, getD-set-same key m k 0 h, ← q .0) (getD-set-same marks p true false (omega (arith, M .size)))
+
+    there : (i : ℕ) → 16 ≤ i → i < m + 1 → (i ≡ m → ⊥) → getD (set marks p true) (placeOf (getD (set key m k) i 0)) false ≡ true
+    there i g s d = rw (getD-set-other key m i k 0 d) (on _ (M .at i g (omega arith)))
+
+pub unmarked :
+    (key : List ℕ) (marks : List Bool) (m k : ℕ) → Header key → 15 ≤ k → (k ≡ 256 → ⊥) → Marked key marks m →
+    getD marks (placeOf k) false ≡ false → Missing key m k 255
+unmarked key marks m k H h n M e =
+    record {
+      nowhere = λ i g d. ⊎-elim (λ x. not-in-header key k H h n i x d) (λ x. clash (sym (ap (λ (j : ℕ). getD marks (placeOf j) false) d) ∙ M .at i x g) e) (low i);
+      shown = refl;
+    }
+  where
+    low : (i : ℕ) → (i < 16) ⊎ (16 ≤ i)
+    low i = go (ltb i 16) refl
+      where
+        go : (c : Bool) → ltb i 16 ≡ c → (i < 16) ⊎ (16 ≤ i)
+        go true d = inl (ltb-true i 16 d)
+        go false d = inr (ltb-false i 16 d)
+
+    clash : {x : Bool} → x ≡ true → x ≡ false → ⊥
+    clash p q = let z : _≡_ {A = ℕ} 0 1 = cc in omega arith

@@ -4,7 +4,7 @@ use mathlib.Core.Path.{_≡_}
 use mathlib.Core.Bool.{Bool, true, false, cond}
 use mathlib.Core.List.{List, [], _∷_, _++_}
 use mathlib.Core.Logic.{_⊎_}
-use Prim.Native.Nat.{ℕ, _+_, _*_, _<_}
+use Prim.Native.Nat.{ℕ, _+_, _/_, _%_, _≤_, _<_}
 use lib.Dec.{eqb}
 use lib.ListN.{length, getD, set}
 use Rattle.rules.specs.Syntax.{Rel, eq, ne}
@@ -62,6 +62,23 @@ pub record Decides (fs : List Fact) (key label : List ℕ) (m : ℕ) : Type 0 wh
 unfoldable pub picked : ℕ → ℕ → ℕ → ℕ
 picked from to l = cond (eqb l from) to l
 
+-- the label `to` for each label `from`; what stands after the labels stays
+pub record Merged (from to : ℕ) (label label′ : List ℕ) : Type 0 where
+  pub size : length label′ ≡ length label
+  pub labels : (i : ℕ) → i < 144 → getD label′ i 0 ≡ picked from to (getD label i 0)
+  pub rest : (i : ℕ) → 144 ≤ i → getD label′ i 0 ≡ getD label i 0
+
+-- the terms in the slots m and m + 1 are made equal: a new term, which has its slot's number, takes the other's label
+pub data Joined (m : ℕ) (label label′ : List ℕ) : Type 0 where
+  left-new : getD label m 0 ≡ m → label′ ≡ set label m (getD label (m + 1) 0) → Joined m label label′
+  right-new : getD label (m + 1) 0 ≡ m + 1 → label′ ≡ set label (m + 1) (getD label m 0) → Joined m label label′
+  both-known : Merged (getD label (m + 1) 0) (getD label m 0) label label′ → Joined m label label′
+
+-- .. unless they are unequal
+pub record LinkedUnless (b : Bool) (m : ℕ) (label label′ : List ℕ) : Type 0 where
+  pub apart : b ≡ true → label′ ≡ label
+  pub equal : b ≡ false → Joined m label label′
+
 unfoldable pub relOf : Bool → Rel
 relOf b = cond b ne eq
 
@@ -72,13 +89,24 @@ factOf b l r = record { rel = relOf b; left = termOf l; right = termOf r }
 pub record Slotted (key label : List ℕ) (m k : ℕ) (key′ label′ : List ℕ) : Type 0 where
   pub keys : key′ ≡ set key m k
   pub size : length label′ ≡ length label
+  pub rest : (i : ℕ) → (i ≡ m → ⊥) → getD label′ i 0 ≡ getD label i 0
   pub labels : (fs : List Fact) → Decides fs key label m → Decides fs key′ label′ (m + 1)
 
 -- one more fact, whose sides take the slots m and m + 1
 pub record Pushed (key label : List ℕ) (m : ℕ) (b : Bool) (l r : ℕ) (key′ label′ : List ℕ) : Type 0 where
   pub keys : key′ ≡ set (set key m l) (m + 1) r
   pub size : length label′ ≡ length label
+  pub rest : (i : ℕ) → 144 ≤ i → getD label′ i 0 ≡ getD label i 0
   pub labels : (fs : List Fact) → Decides fs key label m → Decides (fs ++ (factOf b l r ∷ [])) key′ label′ (m + 2)
+
+-- a place below 512 for each key
+unfoldable pub placeOf : ℕ → ℕ
+placeOf k = (k / 8 + k % 512) % 512
+
+-- the places of the keys in the slots from 16 to m are marked
+pub record Marked (key : List ℕ) (marks : List Bool) (m : ℕ) : Type 0 where
+  pub size : length marks ≡ 512
+  pub at : (i : ℕ) → 16 ≤ i → i < m → getD marks (placeOf (getD key i 0)) false ≡ true
 
 -- are the terms of two keys with their labels ~?
 unfoldable pub alikeBy : ℕ → ℕ → ℕ → ℕ → Bool

@@ -2,103 +2,118 @@
 use mathlib.Core.Path.{_≡_, refl, sym, ap, ap₂, _∙_, subst}
 use mathlib.Core.Bool.{Bool, true, false, cond, not, _&&_}
 use mathlib.Core.List.{List, [], _∷_, map}
-use mathlib.Core.Option.{Option, none, some}
-use Prim.Native.Nat.{ℕ, zero, suc, _+_, _*_, _-_, _≤_, _<_}
+use mathlib.Core.Option.{none, some}
+use Prim.Native.Nat.{ℕ, suc, _+_, _*_, _-_, _≤_, _<_}
 use native.Mathlib.Omega.{arith}
-use lib.Dec.{T, eqb}
-use lib.ListN.{length, getD, set, replicate}
+use lib.Dec.{eqb}
+use lib.ListN.{getD, set, replicate}
 use borrow.Author.Tests.{eq-eqb, ne-eqb, eqb-true}
 use types.Run.{OneOf, miss}
 use denote.Enum.Declared.{tagOf}
 use Rattle.rules.specs.Base.{Try, ok, no, _>>=_, _>>_, check, orElse}
 use Rattle.rules.specs.Answers.{Refusal, unresolved, noPermission, notShown}
-use Rattle.rules.specs.Syntax.{Formula, Atom, Expr, Rel, Field, Method, same, eq, ne, num, null, var, path, acc, cmp}
+use Rattle.rules.specs.Syntax.{Formula, Atom, Rel, same, eq, ne, num, null, var, path, acc, cmp}
 use Rattle.rules.specs.State as Rules
 use Rattle.rules.specs.State.{Permission, equalIn, names, split, pathOf, holdsIn}
 use Rattle.rules.specs.Rules.{actual, substTerm, substAtom, addEqual, setRule, assignRule, addFields, initial, addInitial, newRule, callRule, opposite, ifRule, joinRule}
-use Rattle.tables.specs.Decode.{atomAt, atomsFrom, fieldAt, fieldsFrom, classAt, fieldCountAt, fieldNameAt, byteAt, classPlace, methodAt, requiresAt, ensuresAt, methodPlace, halfAt}
+use Rattle.tables.specs.Decode.{atomsFrom, fieldsFrom, classAt, fieldCountAt, fieldNameAt, byteAt, classPlace, methodAt, requiresAt, ensuresAt, methodPlace, halfAt}
+use Rattle.tables.specs.Decode as Decode
 use Rattle.links.specs.Keys.{termOf}
 use Rattle.links.specs.Links.{relOf}
-use Rattle.links.proofs.Keys.{same-key, of-null, of-number}
-use Rattle.knowledge.specs.declared.State.{State}
+use Rattle.links.proofs.Keys.{same-key, of-null}
 use Rattle.knowledge.specs.declared.Answer.{Answer}
-use Rattle.knowledge.specs.declared.Added.{Added}
-use Rattle.knowledge.specs.declared.Resolved.{Resolved}
+use Rattle.known.specs.declared.Resolved.{Resolved}
 use Rattle.knowledge.proofs.Answer.{the-type}
-use Rattle.knowledge.specs.States.{Wf, stateOf, permissionAt, permissionsOf, kept}
-use Rattle.knowledge.specs.Questions.{FirstPlace, entryTest, passes}
-use Rattle.knowledge.specs.Answers.{answered, leftOver, variableOr, Adds, Becomes, withoutPath, Taken}
-use Rattle.knowledge.proofs.Entries.{no-flags}
-use Rattle.knowledge.proofs.Keeping.{kept-all}
+use Rattle.known.specs.States.{Wf, stateOf, entries, variableAt, fieldAt, permissionAt, permissionsOf}
+use Rattle.known.specs.Questions.{FirstPlace, entryTest, passes}
+use Rattle.removal.specs.Changes.{kept, leftOver, Becomes, withoutPath, Taken}
+use Rattle.knowledge.specs.Answers.{answered, Adds}
+use Rattle.known.proofs.Entries.{no-flags}
+use Rattle.removal.proofs.Keeping.{kept-all}
 use Rattle.knowledge.proofs.Splits.{split-none, split-first}
 use Rattle.formulas.specs.Formulas.{formula, Shows}
 use Rattle.formulas.proofs.Atoms.{not-done, is-done}
-use Rattle.statements.specs.declared.Branches.{Branches}
-use Rattle.statements.specs.Statements.{Parts, assignTerm, callShown, partRule, initialOf, assertRule, releaseRule}
+use Rattle.statements.specs.Statements.{Parts, assignTerm, callShown, partRule, initialOf, assertRule, Asserts, releaseRule}
 
 abbrev pub Refused : Answer → Type 0
 Refused k = OneOf (1 ∷ 2 ∷ 3 ∷ 4 ∷ 5 ∷ []) (tagOf the-type k)
 
 -- ONE AFTER THE OTHER
-pub adds-same : (t u : Try Refusal Rules.State) (r : Added) → t ≡ u → Adds t r → Adds u r
-adds-same t u r e A = record { wf = A .wf; same = A .same ∙ e }
+pub adds-same : (t u : Try Refusal Rules.State) (k : Answer) (key b : List ℕ) → t ≡ u → Adds t k key b → Adds u k key b
+adds-same t u k key b e A = record { wf = A .wf; same = A .same ∙ e }
 
-module _ {B : Type 0} (t : Try Refusal Rules.State) (r : Added) (A : Adds t r) (f : Rules.State → Try Refusal B) where
-  pub after-done : r .answer ≡ Answer.Done → (t >>= f) ≡ f (stateOf (r .state))
-  after-done e = ap (λ (u : Try Refusal Rules.State). u >>= f) (sym (A .same)) ∙ is-done (r .answer) e (stateOf (r .state)) f
+module _ {B : Type 0} (t : Try Refusal Rules.State) (k : Answer) (key b : List ℕ) (A : Adds t k key b) (f : Rules.State → Try Refusal B) where
+  pub after-done : k ≡ Answer.Done → (t >>= f) ≡ f (stateOf key b)
+  after-done e = ap (λ (u : Try Refusal Rules.State). u >>= f) (sym (A .same)) ∙ is-done k e (stateOf key b) f
 
-  pub after-refused : Refused (r .answer) → (b : B) → (t >>= f) ≡ answered (r .answer) b
-  after-refused o b = ap (λ (u : Try Refusal Rules.State). u >>= f) (sym (A .same)) ∙ not-done (r .answer) o (stateOf (r .state)) f b
+  pub after-refused : Refused k → (c : B) → (t >>= f) ≡ answered k c
+  after-refused o c = ap (λ (u : Try Refusal Rules.State). u >>= f) (sym (A .same)) ∙ not-done k o (stateOf key b) f c
 
-pub adds-refused : (t : Try Refusal Rules.State) (r : Added) → Adds t r → (f : Rules.State → Try Refusal Rules.State) → Refused (r .answer) → Adds (t >>= f) r
-adds-refused t r A f o = record { wf = A .wf; same = sym (after-refused t r A f o (stateOf (r .state))) }
+pub adds-refused : (t : Try Refusal Rules.State) (k : Answer) (key b : List ℕ) → Adds t k key b → (f : Rules.State → Try Refusal Rules.State) → Refused k → Adds (t >>= f) k key b
+adds-refused t k key b A f o = record { wf = A .wf; same = sym (after-refused t k key b A f o (stateOf key b)) }
 
-pub adds-on : (t : Try Refusal Rules.State) (r : Added) → Adds t r → (f : Rules.State → Try Refusal Rules.State) → r .answer ≡ Answer.Done → (q : Added) → Adds (f (stateOf (r .state))) q → Adds (t >>= f) q
-adds-on t r A f e q Q = adds-same _ _ q (sym (after-done t r A f e)) Q
+pub adds-on :
+    (t : Try Refusal Rules.State) (k : Answer) (key b : List ℕ) → Adds t k key b → (f : Rules.State → Try Refusal Rules.State) → k ≡ Answer.Done →
+    (k′ : Answer) (key′ b′ : List ℕ) → Adds (f (stateOf key b)) k′ key′ b′ → Adds (t >>= f) k′ key′ b′
+adds-on t k key b A f e k′ key′ b′ Q = adds-same _ _ k′ key′ b′ (sym (after-done t k key b A f e)) Q
 
-pub adds-ok : (s : State) → Wf s → Adds (ok (stateOf s)) (record { answer = Answer.Done; state = s })
+pub adds-ok : (key b : List ℕ) → Wf key b → Adds (ok (stateOf key b)) Answer.Done key b
 unfolding answered
-adds-ok s w = record { wf = w; same = refl }
+adds-ok key b w = record { wf = w; same = refl }
 
-pub adds-no : (k : Answer) (s : State) → Wf s → (t : Try Refusal Rules.State) → t ≡ answered k (stateOf s) → Adds t (record { answer = k; state = s })
-adds-no k s w t e = record { wf = w; same = sym e }
+pub adds-no : (k : Answer) (key b : List ℕ) → Wf key b → (t : Try Refusal Rules.State) → t ≡ answered k (stateOf key b) → Adds t k key b
+adds-no k key b w t e = record { wf = w; same = sym e }
+
+refused-same : {A : Type 0} (k : Answer) → Refused k → (x y : A) → answered k x ≡ answered k y
+unfolding answered
+refused-same Answer.Done o x y = absurd (miss (1 ∷ 2 ∷ 3 ∷ 4 ∷ 5 ∷ []) 0 tt o)
+refused-same Answer.Unresolved o x y = refl
+refused-same Answer.NoPermission o x y = refl
+refused-same Answer.NotShown o x y = refl
+refused-same Answer.Full o x y = refl
+refused-same Answer.Malformed o x y = refl
+
+-- a refusal, whatever the arrays hold
+pub adds-elsewhere : (t : Try Refusal Rules.State) (k : Answer) (key b : List ℕ) → Adds t k key b → Refused k → (key′ b′ : List ℕ) → Wf key′ b′ → Adds t k key′ b′
+adds-elsewhere t k key b A o key′ b′ w = record { wf = w; same = refused-same k o (stateOf key′ b′) (stateOf key b) ∙ A .same }
 
 -- SET
-module _ (s : State) (w : Wf s) (x f y i : ℕ)
-    (F : FirstPlace (entryTest (s .variable) (s .field) (replicate 64 false) x f (equalIn (stateOf s))) (s .permissions) i) where
+module _ (key b : List ℕ) (w : Wf key b) (x f y i : ℕ) (F : FirstPlace (entryTest b (replicate 64 false) x f (equalIn (stateOf key b))) (entries b) i) where
   abbrev perm : ℕ → Permission
-  perm = permissionAt (s .variable) (s .field)
+  perm = permissionAt b
 
-  all-kept : kept (replicate 64 false) perm (s .permissions) ≡ permissionsOf s
-  all-kept = kept-all (replicate 64 false) perm (s .permissions) (λ j h. no-flags 64 j)
+  all-kept : kept (replicate 64 false) perm (entries b) ≡ permissionsOf b
+  all-kept = kept-all (replicate 64 false) perm (entries b) (λ j h. no-flags 64 j)
 
-  passed : (j : ℕ) → (not (getD (replicate 64 false) j false) && names (equalIn (stateOf s)) x f (perm j)) ≡ entryTest (s .variable) (s .field) (replicate 64 false) x f (equalIn (stateOf s)) j
+  passed : (j : ℕ) → (not (getD (replicate 64 false) j false) && names (equalIn (stateOf key b)) x f (perm j)) ≡ entryTest b (replicate 64 false) x f (equalIn (stateOf key b)) j
   unfolding passes
   passed j = refl
 
-  pub set-refused : s .permissions ≤ i → setRule x f y (stateOf s) ≡ no noPermission
+  pub set-refused : entries b ≤ i → setRule x f y (stateOf key b) ≡ no noPermission
   unfolding setRule orElse _>>=_
   set-refused h =
-      let e : split (names (equalIn (stateOf s)) x f) (permissionsOf s) ≡ none =
-      subst (λ (l : List Permission). split (names (equalIn (stateOf s)) x f) l ≡ none) all-kept
-      (split-none (names (equalIn (stateOf s)) x f) (replicate 64 false) perm (s .permissions) (λ j g. passed j ∙ F .before j (omega arith))) in
+      let e : split (names (equalIn (stateOf key b)) x f) (permissionsOf b) ≡ none =
+      subst (λ (l : List Permission). split (names (equalIn (stateOf key b)) x f) l ≡ none) all-kept
+      (split-none (names (equalIn (stateOf key b)) x f) (replicate 64 false) perm (entries b) (λ j g. passed j ∙ F .before j (omega arith))) in
       rw e
 
-  pub set-found : i < s .permissions → setRule x f y (stateOf s) ≡ Rules.addFact eq (path (getD (s .variable) i 0) (getD (s .field) i 0)) (var y) (withoutPath s i)
+  pub set-found : i < entries b → setRule x f y (stateOf key b) ≡ Rules.addFact eq (path (variableAt b i) (fieldAt b i)) (var y) (withoutPath key b i)
   unfolding setRule orElse _>>=_ pathOf
   set-found h =
-      let e = subst (λ (l : List Permission). split (names (equalIn (stateOf s)) x f) l ≡ some (record { taken = perm i; others = kept (set (replicate 64 false) i true) perm (s .permissions) })) all-kept
-      (split-first (names (equalIn (stateOf s)) x f) (replicate 64 false) perm (s .permissions) i h (omega (arith, w .fit)) (λ j g. passed j ∙ F .before j g) (passed i ∙ F .found h)) in
+      let e = subst (λ (l : List Permission). split (names (equalIn (stateOf key b)) x f) l ≡ some (record { taken = perm i; others = kept (set (replicate 64 false) i true) perm (entries b) })) all-kept
+      (split-first (names (equalIn (stateOf key b)) x f) (replicate 64 false) perm (entries b) i h (omega (arith, w .fit)) (λ j g. passed j ∙ F .before j g) (passed i ∙ F .found h)) in
       rw e
 
 -- LET
-pub equal-none : (x : ℕ) (k : Resolved) (s : State) → Wf s → k ≡ Resolved.Nothing → Adds (addEqual x (leftOver k) (stateOf s)) (record { answer = Answer.Done; state = s })
+pub equal-none : (x : ℕ) (k : Resolved) (key b : List ℕ) → Wf key b → k ≡ Resolved.Nothing → Adds (addEqual x (leftOver k) (stateOf key b)) Answer.Done key b
 unfolding addEqual leftOver
-equal-none x k s w e = rw e (adds-ok s w)
+equal-none x k key b w e = rw e (adds-ok key b w)
 
-pub equal-some : (x t v : ℕ) (k : Resolved) (s : State) (r : Added) → termOf v ≡ var x → k ≡ Resolved.Key t → Adds (Rules.addFact (relOf false) (termOf v) (termOf t) (stateOf s)) r → Adds (addEqual x (leftOver k) (stateOf s)) r
+pub equal-some :
+    (x t v : ℕ) (k : Resolved) (s : Rules.State) (r : Answer) (key b : List ℕ) → termOf v ≡ var x → k ≡ Resolved.Key t →
+    Adds (Rules.addFact (relOf false) (termOf v) (termOf t) s) r key b → Adds (addEqual x (leftOver k) s) r key b
 unfolding addEqual leftOver relOf
-equal-some x t v k s r d e A = rw (e, ← d) A
+equal-some x t v k s r key b d e A = rw (e, ← d) A
 
 pub assign-same : (x k v : ℕ) (s : Rules.State) → termOf v ≡ var x → k ≡ v → assignTerm x (termOf k) s ≡ ok s
 unfolding assignTerm
@@ -118,12 +133,12 @@ assign-lost x e s d = rw d
 
 -- NEW
 module _ (w : List ℕ) (c : ℕ) where
-  pub fields-more : (n j : ℕ) → j < n → fieldsFrom w c j (n - j) ≡ fieldAt w c j ∷ fieldsFrom w c (j + 1) (n - (j + 1))
+  pub fields-more : (n j : ℕ) → j < n → fieldsFrom w c j (n - j) ≡ Decode.fieldAt w c j ∷ fieldsFrom w c (j + 1) (n - (j + 1))
   unfolding fieldsFrom
   fields-more n j h =
       let e : n - j ≡ suc (n - (j + 1)) = omega arith in
       let d : suc j ≡ j + 1 = omega arith in
-      ap (λ (k : ℕ). fieldsFrom w c j k) e ∙ ap (λ (k : ℕ). fieldAt w c j ∷ fieldsFrom w c k (n - (j + 1))) d
+      ap (λ (k : ℕ). fieldsFrom w c j k) e ∙ ap (λ (k : ℕ). Decode.fieldAt w c j ∷ fieldsFrom w c k (n - (j + 1))) d
 
   pub fields-end : (n j : ℕ) → n ≤ j → fieldsFrom w c j (n - j) ≡ []
   unfolding fieldsFrom
@@ -134,11 +149,11 @@ module _ (w : List ℕ) (c : ℕ) where
 
   module _ (x : ℕ) (n j : ℕ) (h : j < n) (s : Rules.State) where
     pub permission-more : addFields x (fieldsFrom w c j (n - j)) s ≡ (Rules.addPermission (record { variable = x; field = fieldNameAt w c j }) s >>= λ t. addFields x (fieldsFrom w c (j + 1) (n - (j + 1))) t)
-    unfolding addFields fieldAt
+    unfolding addFields Decode.fieldAt
     permission-more = rw (fields-more n j h)
 
     pub initial-more : addInitial x (fieldsFrom w c j (n - j)) s ≡ (Rules.addFact eq (path x (fieldNameAt w c j)) (initialOf (byteAt w (classPlace c + 2 + j * 2))) s >>= λ t. addInitial x (fieldsFrom w c (j + 1) (n - (j + 1))) t)
-    unfolding addInitial fieldAt initial initialOf
+    unfolding addInitial Decode.fieldAt initial initialOf
     initial-more = rw (fields-more n j h)
 
   pub permission-end : (x n j : ℕ) → n ≤ j → (s : Rules.State) → addFields x (fieldsFrom w c j (n - j)) s ≡ ok s
@@ -197,72 +212,89 @@ bind-answered Answer.NotShown a f b e = refl
 bind-answered Answer.Full a f b e = refl
 bind-answered Answer.Malformed a f b e = refl
 
-pub assert-law : (s : State) (φ : Formula ℕ) (k : Answer) (out : List Bool) → Wf s → Shows s φ k out → Adds (assertRule φ (stateOf s)) (record { answer = k; state = s })
+pub assert-law : (key b : List ℕ) (φ : Formula ℕ) (k : Answer) (out : List Bool) → Shows key b φ k out → Asserts φ (stateOf key b) k
 unfolding assertRule
-assert-law s φ k out w S = record { wf = w; same = sym (ap (λ (t : Try Refusal Rules.Shown). t >>= λ r. ok (stateOf s)) (sym (S .same)) ∙ bind-answered k (S .shown) (λ r. ok (stateOf s)) (stateOf s) refl) }
+assert-law key b φ k out S = sym (ap (λ (t : Try Refusal Rules.Shown). t >>= λ r. ok (stateOf key b)) (sym (S .same)) ∙ bind-answered k (S .shown) (λ r. ok (stateOf key b)) (stateOf key b) refl)
 
-pub release-law : (s t : State) (φ : Formula ℕ) (k : Answer) (out : List Bool) → Shows s φ k out → ((c : Rules.Shown) → Taken s out c → Becomes (Rules.remainder (stateOf s) c) t) → Adds (releaseRule φ (stateOf s)) (record { answer = k; state = t })
+pub release-law :
+    (key b key′ b′ : List ℕ) (φ : Formula ℕ) (k : Answer) (out : List Bool) → Shows key b φ k out →
+    ((c : Rules.Shown) → Taken b out c → Becomes (Rules.remainder (stateOf key b) c) key′ b′) → Adds (releaseRule φ (stateOf key b)) k key′ b′
 unfolding releaseRule
-release-law s t φ k out S R =
+release-law key b key′ b′ φ k out S R =
     let B = R (S .shown) (S .taken) in
-    record { wf = B .wf; same = sym (ap (λ (u : Try Refusal Rules.Shown). u >>= λ r. ok (Rules.remainder (stateOf s) r)) (sym (S .same)) ∙ bind-answered k (S .shown) (λ r. ok (Rules.remainder (stateOf s) r)) (stateOf t) (ap ok (sym (B .same)))) }
+    record { wf = B .wf; same = sym (ap (λ (u : Try Refusal Rules.Shown). u >>= λ r. ok (Rules.remainder (stateOf key b) r)) (sym (S .same)) ∙ bind-answered k (S .shown) (λ r. ok (Rules.remainder (stateOf key b) r)) (stateOf key′ b′) (ap ok (sym (B .same)))) }
 
 -- CALL
-module _ (w : List ℕ) (x y m z : ℕ) (s : State) (a n b o : ℕ) (ea : a ≡ halfAt w (methodPlace m)) (en : n ≡ byteAt w (methodPlace m + 2)) (eb : b ≡ halfAt w (methodPlace m + 4)) (eo : o ≡ byteAt w (methodPlace m + 3)) (k : Answer) (out : List Bool) (S : Shows s (formula w y z x a n) k out) where
-  shown-first : callShown x y (methodAt w m) z (stateOf s) ≡ (answered k (S .shown) >>= λ r. Rules.add (formula w y z x b o) (Rules.remove x (Rules.remainder (stateOf s) r)))
+module _ (w : List ℕ) (x y m z : ℕ) (key b : List ℕ) (a n c o : ℕ) (ea : a ≡ halfAt w (methodPlace m)) (en : n ≡ byteAt w (methodPlace m + 2)) (ec : c ≡ halfAt w (methodPlace m + 4)) (eo : o ≡ byteAt w (methodPlace m + 3)) (k : Answer) (out : List Bool) (S : Shows key b (formula w y z x a n) k out) where
+  shown-first : callShown x y (methodAt w m) z (stateOf key b) ≡ (answered k (S .shown) >>= λ r. Rules.add (formula w y z x c o) (Rules.remove x (Rules.remainder (stateOf key b) r)))
   unfolding callShown methodAt requiresAt ensuresAt formula
-  shown-first = rw (S .same, ea, en, eb, eo)
+  shown-first = rw (S .same, ea, en, ec, eo)
 
-  pub call-refused : Wf s → Refused k → Adds (callShown x y (methodAt w m) z (stateOf s)) (record { answer = k; state = s })
-  call-refused W o = record { wf = W; same = sym (shown-first ∙ not-done k o _ _ (stateOf s)) }
+  pub call-refused : Wf key b → Refused k → Adds (callShown x y (methodAt w m) z (stateOf key b)) k key b
+  call-refused W r = record { wf = W; same = sym (shown-first ∙ not-done k r _ _ (stateOf key b)) }
 
-  pub call-done : k ≡ Answer.Done → (t u : State) → ((c : Rules.Shown) → Taken s out c → Becomes (Rules.remainder (stateOf s) c) t) → Becomes (Rules.remove x (stateOf t)) u → (r : Added) → Adds (Rules.add (formula w y z x b o) (stateOf u)) r → Adds (callShown x y (methodAt w m) z (stateOf s)) r
-  call-done e t u R Q r A = adds-same _ _ r (sym (shown-first ∙ is-done k e _ _ ∙ rw (← R (S .shown) (S .taken) .same, ← Q .same))) A
+  pub call-done :
+      k ≡ Answer.Done → (key₁ b₁ key₂ b₂ : List ℕ) → ((c : Rules.Shown) → Taken b out c → Becomes (Rules.remainder (stateOf key b) c) key₁ b₁) →
+      Becomes (Rules.remove x (stateOf key₁ b₁)) key₂ b₂ → (r : Answer) (key₃ b₃ : List ℕ) → Adds (Rules.add (formula w y z x c o) (stateOf key₂ b₂)) r key₃ b₃ →
+      Adds (callShown x y (methodAt w m) z (stateOf key b)) r key₃ b₃
+  call-done e key₁ b₁ key₂ b₂ R Q r key₃ b₃ A =
+      adds-same _ _ r key₃ b₃ (sym (shown-first ∙ is-done k e _ _ ∙ rw (← R (S .shown) (S .taken) .same, ← Q .same))) A
 
-pub call-null : (w : List ℕ) (x y m z v : ℕ) (s : State) → termOf v ≡ var y → false ≡ holdsIn (equalIn (stateOf s)) (stateOf s) (relOf true) (termOf v) (termOf 256) → callRule x y (methodAt w m) z (stateOf s) ≡ no notShown
+pub call-null :
+    (w : List ℕ) (x y m z v : ℕ) (s : Rules.State) → termOf v ≡ var y → false ≡ holdsIn (equalIn s) s (relOf true) (termOf v) (termOf 256) →
+    callRule x y (methodAt w m) z s ≡ no notShown
 unfolding callRule check _>>_ relOf
-call-null w x y m z v s d e = let h : holdsIn (equalIn (stateOf s)) (stateOf s) ne (var y) null ≡ false = rw (← d, ← of-null) (sym e) in rw h
+call-null w x y m z v s d e = let h : holdsIn (equalIn s) s ne (var y) null ≡ false = rw (← d, ← of-null) (sym e) in rw h
 
-pub call-object : (w : List ℕ) (x y m z v : ℕ) (s : State) → termOf v ≡ var y → true ≡ holdsIn (equalIn (stateOf s)) (stateOf s) (relOf true) (termOf v) (termOf 256) → callShown x y (methodAt w m) z (stateOf s) ≡ callRule x y (methodAt w m) z (stateOf s)
+pub call-object :
+    (w : List ℕ) (x y m z v : ℕ) (s : Rules.State) → termOf v ≡ var y → true ≡ holdsIn (equalIn s) s (relOf true) (termOf v) (termOf 256) →
+    callShown x y (methodAt w m) z s ≡ callRule x y (methodAt w m) z s
 unfolding callRule callShown check _>>_ relOf
-call-object w x y m z v s d e = let h : holdsIn (equalIn (stateOf s)) (stateOf s) ne (var y) null ≡ true = rw (← d, ← of-null) (sym e) in rw h
+call-object w x y m z v s d e = let h : holdsIn (equalIn s) s ne (var y) null ≡ true = rw (← d, ← of-null) (sym e) in rw h
 
 -- IF
-pub part-refused : (n : Rel) (t u : Rules.Term) (s : State) (a : Added) → Wf s → Adds (Rules.addFact n t u (stateOf s)) a → Refused (a .answer) → Parts (partRule n t u (stateOf s)) (record { answer = a .answer; first = s; second = s })
+pub part-refused :
+    (n : Rel) (t u : Rules.Term) (s : Rules.State) (k : Answer) (key b key2 b2 : List ℕ) → Adds (Rules.addFact n t u s) k key b → Wf key2 b2 → Refused k →
+    Parts (partRule n t u s) k key b key2 b2
 unfolding partRule
-part-refused n t u s a w A o = record { first = w; second = w; same = sym (after-refused _ a A _ o (stateOf s, stateOf s)) }
+part-refused n t u s k key b key2 b2 A w o =
+    record { first = A .wf; second = w; same = sym (after-refused _ k key b A _ o (stateOf key b, stateOf key2 b2)) }
 
 other : (b : Bool) → opposite (relOf b) ≡ relOf (not b)
 unfolding opposite relOf
 other true = refl
 other false = refl
 
-pub part-done : (b : Bool) (t u : Rules.Term) (s : State) (a c : Added) → Adds (Rules.addFact (relOf b) t u (stateOf s)) a → a .answer ≡ Answer.Done → Adds (Rules.addFact (relOf (not b)) t u (stateOf s)) c → Parts (partRule (relOf b) t u (stateOf s)) (record { answer = c .answer; first = a .state; second = c .state })
+pub part-done :
+    (c : Bool) (t u : Rules.Term) (s : Rules.State) (k : Answer) (key b : List ℕ) → Adds (Rules.addFact (relOf c) t u s) k key b → k ≡ Answer.Done →
+    (s₂ : Rules.State) → s₂ ≡ s → (k2 : Answer) (key2 b2 : List ℕ) → Adds (Rules.addFact (relOf (not c)) t u s₂) k2 key2 b2 → Parts (partRule (relOf c) t u s) k2 key b key2 b2
 unfolding partRule
-part-done b t u s a c A e C =
+part-done c t u s k key b A e s₂ d k2 key2 b2 C =
     record {
       first = A .wf;
       second = C .wf;
-      same = sym (after-done _ a A _ e ∙ ap (λ (n : Rel). Rules.addFact n t u (stateOf s) >>= λ s₂. ok (stateOf (a .state), s₂)) (other b) ∙ ap (λ (q : Try Refusal Rules.State). q >>= λ s₂. ok (stateOf (a .state), s₂)) (sym (C .same)) ∙ bind-answered (c .answer) _ (λ s₂. ok (stateOf (a .state), s₂)) _ refl);
+      same = sym (after-done _ k key b A _ e ∙ ap (λ (n : Rel). Rules.addFact n t u s >>= λ q. ok (stateOf key b, q)) (other c) ∙ ap (λ (q : Try Refusal Rules.State). q >>= λ q. ok (stateOf key b, q)) (ap (Rules.addFact (relOf (not c)) t u) (sym d) ∙ sym (C .same)) ∙ bind-answered k2 _ (λ q. ok (stateOf key b, q)) _ refl);
     }
 
-module _ (s : State) (w : Wf s) (n : Rel) (a b : Rules.Term) where
-  pub if-left : Rules.resolve (equalIn (stateOf s)) (permissionsOf s) a ≡ no unresolved → Parts (ifRule n a b (stateOf s)) (record { answer = Answer.Unresolved; first = s; second = s })
+module _ (key b : List ℕ) (w : Wf key b) (n : Rel) (a c : Rules.Term) (key2 b2 : List ℕ) (w2 : Wf key2 b2) where
+  pub if-left : Rules.resolve (equalIn (stateOf key b)) (permissionsOf b) a ≡ no unresolved → Parts (ifRule n a c (stateOf key b)) Answer.Unresolved key b key2 b2
   unfolding ifRule _>>=_ answered
-  if-left e = record { first = w; second = w; same = rw e }
+  if-left e = record { first = w; second = w2; same = rw e }
 
-  module _ (t : Rules.Term) (et : Rules.resolve (equalIn (stateOf s)) (permissionsOf s) a ≡ ok t) where
-    pub if-right : Rules.resolve (equalIn (stateOf s)) (permissionsOf s) b ≡ no unresolved → Parts (ifRule n a b (stateOf s)) (record { answer = Answer.Unresolved; first = s; second = s })
+  module _ (t : Rules.Term) (et : Rules.resolve (equalIn (stateOf key b)) (permissionsOf b) a ≡ ok t) where
+    pub if-right : Rules.resolve (equalIn (stateOf key b)) (permissionsOf b) c ≡ no unresolved → Parts (ifRule n a c (stateOf key b)) Answer.Unresolved key b key2 b2
     unfolding ifRule _>>=_ answered
-    if-right e = record { first = w; second = w; same = rw (et, e) }
+    if-right e = record { first = w; second = w2; same = rw (et, e) }
 
-    pub if-both : (u : Rules.Term) → Rules.resolve (equalIn (stateOf s)) (permissionsOf s) b ≡ ok u → (r : Branches) → Parts (partRule n t u (stateOf s)) r → Parts (ifRule n a b (stateOf s)) r
+    pub if-both :
+        (u : Rules.Term) → Rules.resolve (equalIn (stateOf key b)) (permissionsOf b) c ≡ ok u → (k : Answer) (key₁ b₁ key₂ b₂ : List ℕ) →
+        Parts (partRule n t u (stateOf key b)) k key₁ b₁ key₂ b₂ → Parts (ifRule n a c (stateOf key b)) k key₁ b₁ key₂ b₂
     unfolding ifRule partRule _>>=_
-    if-both u eu r P = record { first = P .first; second = P .second; same = P .same ∙ rw (et, eu) }
+    if-both u eu k key₁ b₁ key₂ b₂ P = record { first = P .first; second = P .second; same = P .same ∙ rw (et, eu) }
 
 pub new-law :
-    (w : List ℕ) (x c n : ℕ) (s : Rules.State) (t : State) → n ≡ fieldCountAt w c → stateOf t ≡ Rules.remove x s →
-    (addFields x (fieldsFrom w c 0 n) (stateOf t) >>= λ s. Rules.addFact ne (var x) null s >>= λ s. addInitial x (fieldsFrom w c 0 n) s) ≡ newRule x (classAt w c) s
+    (w : List ℕ) (x c n : ℕ) (s t : Rules.State) → n ≡ fieldCountAt w c → t ≡ Rules.remove x s →
+    (addFields x (fieldsFrom w c 0 n) t >>= λ s. Rules.addFact ne (var x) null s >>= λ s. addInitial x (fieldsFrom w c 0 n) s) ≡ newRule x (classAt w c) s
 new-law w x c n s t e d =
     ap (λ (u : Rules.State). addFields x (fieldsFrom w c 0 n) u >>= λ s. Rules.addFact ne (var x) null s >>= λ s. addInitial x (fieldsFrom w c 0 n) s) d
     ∙ new-by w x c n s e
@@ -287,8 +319,15 @@ join-cases φ s t = go (Rules.show s φ) (Rules.show t φ)
     go (ok p) (no e) = refl
     go (no e) q = refl
 
-pub join-law : (φ : Formula ℕ) (s t : State) → (assertRule φ (stateOf s) >>= λ a. assertRule φ (stateOf t) >>= λ b. Rules.add φ Rules.empty) ≡ joinRule φ (stateOf s) (stateOf t)
-join-law φ s t = join-cases φ (stateOf s) (stateOf t)
+pub join-law : (φ : Formula ℕ) (s t : Rules.State) → (assertRule φ s >>= λ a. assertRule φ t >>= λ b. Rules.add φ Rules.empty) ≡ joinRule φ s t
+join-law φ s t = join-cases φ s t
 
-pub empty-add : (w : List ℕ) (a n : ℕ) (e : State) → stateOf e ≡ Rules.empty → Rules.add (formula w 0 1 14 a n) (stateOf e) ≡ Rules.add (atomsFrom w a n) Rules.empty
-empty-add w a n e d = ap₂ (λ (φ : Formula ℕ) (s : Rules.State). Rules.add φ s) (plain w a n) d
+pub empty-add : (w : List ℕ) (a n : ℕ) (s : Rules.State) → s ≡ Rules.empty → Rules.add (formula w 0 1 14 a n) s ≡ Rules.add (atomsFrom w a n) Rules.empty
+empty-add w a n s d = ap₂ (λ (φ : Formula ℕ) (s : Rules.State). Rules.add φ s) (plain w a n) d
+
+pub asserted : (φ : Formula ℕ) (key b : List ℕ) (k : Answer) → Wf key b → Asserts φ (stateOf key b) k → Adds (assertRule φ (stateOf key b)) k key b
+asserted φ key b k w e = record { wf = w; same = e }
+
+-- a copy of a state
+pub copied : (key b key2 b2 : List ℕ) → Wf key b → key2 ≡ key → b2 ≡ b → Wf key2 b2
+copied key b key2 b2 w e d = rw (e, d) w

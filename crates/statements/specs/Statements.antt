@@ -1,26 +1,24 @@
 -- What the rules of statements answer.
 use mathlib.Core.Path.{_≡_}
-use mathlib.Core.Bool.{Bool, cond, not}
+use mathlib.Core.Bool.{cond, not}
 use mathlib.Core.Option.{Option}
-use mathlib.Core.List.{List, [], map}
+use mathlib.Core.List.{List, map}
 use Prim.Native.Nat.{ℕ}
 use lib.Dec.{eqb}
-use Rattle.rules.specs.Base.{Try, ok, no, _>>=_}
+use Rattle.rules.specs.Base.{Try, ok, _>>=_}
 use Rattle.rules.specs.Answers.{Refusal}
 use Rattle.rules.specs.Syntax.{Formula, Rel, Method, same, num, null, var}
 use Rattle.rules.specs.Rules.{addEqual, actual, substAtom, opposite}
 use Rattle.rules.specs.State as Rules
-use Rattle.knowledge.specs.declared.State.{State}
 use Rattle.knowledge.specs.declared.Answer.{Answer}
-use Rattle.knowledge.specs.States.{Wf, stateOf}
+use Rattle.known.specs.States.{Wf, stateOf}
 use Rattle.knowledge.specs.Answers.{answered}
-use Rattle.statements.specs.declared.Branches.{Branches}
 
--- the states of two branches, or why there are none
-pub record Parts (t : Try Refusal (Rules.State × Rules.State)) (r : Branches) : Type 0 where
-  pub first : Wf (r .first)
-  pub second : Wf (r .second)
-  pub same : answered (r .answer) (stateOf (r .first), stateOf (r .second)) ≡ t
+-- the arrays then hold the states of two branches, or an answer says why there are none
+pub record Parts (t : Try Refusal (Rules.State × Rules.State)) (answer : Answer) (key b key2 b2 : List ℕ) : Type 0 where
+  pub first : Wf key b
+  pub second : Wf key2 b2
+  pub same : answered answer (stateOf key b, stateOf key2 b2) ≡ t
 
 -- `let x e`, where e resolves to r
 unfoldable pub assignTerm : ℕ → Rules.Term → Rules.State → Try Refusal Rules.State
@@ -48,6 +46,9 @@ initialOf k = cond (not (eqb k 0)) (num 0) null
 -- `assert` and `release`
 unfoldable pub assertRule : Formula ℕ → Rules.State → Try Refusal Rules.State
 assertRule φ s = Rules.show s φ >>= λ r. ok s
+
+abbrev pub Asserts : Formula ℕ → Rules.State → Answer → Type 0
+Asserts φ s k = answered k s ≡ assertRule φ s
 
 unfoldable pub releaseRule : Formula ℕ → Rules.State → Try Refusal Rules.State
 releaseRule φ s = Rules.show s φ >>= λ r. ok (Rules.remainder s r)

@@ -1,110 +1,92 @@
-use knowledge::Added;
 use knowledge::Answer;
-use knowledge::Resolved;
-use knowledge::State;
+use known::Resolved;
 use links::Term;
 ghost use mathlib.Core.Path.{_≡_};
-ghost use mathlib.Core.List.{List, [], _∷_};
-ghost use Prim.Native.Nat.{ℕ, _+_, _-_, _≤_, _<_};
+ghost use Prim.Native.Nat.{_+_, _≤_, _<_};
 ghost use lib.ListN.{length};
-ghost use Rattle.rules.specs.Limits.{work-bytes, most-classes, most-fields, most-methods};
-ghost use Rattle.rules.specs.State as Rules;
+ghost use Rattle.rules.specs.Limits.{work-bytes, most-classes, most-fields};
 ghost use Rattle.rules.specs.Rules.{setRule, addEqual, assignRule, newRule, addFields, addInitial, callRule, ifRule, joinRule};
 ghost use Rattle.tables.specs.Layout.{most-atom-rows};
 ghost use Rattle.tables.specs.Decode.{fieldCountAt, fieldsFrom, classAt, methodAt, methodCount, atomsFrom};
 ghost use Rattle.tables.specs.Tables.{Tables};
 ghost use Rattle.links.specs.Keys.{termOf, meaning};
 ghost use Rattle.links.specs.Links.{relOf};
-ghost use Rattle.knowledge.specs.States.{Wf, stateOf};
-ghost use Rattle.knowledge.specs.Answers.{Adds, leftOver};
-ghost use Rattle.formulas.specs.Formulas.{formula};
-ghost use Rattle.statements.specs.Statements.{Parts, assignTerm, callShown, partRule, initialOf, assertRule, releaseRule};
+ghost use Rattle.known.specs.States.{Wf, stateOf};
+ghost use Rattle.removal.specs.Changes.{leftOver};
+ghost use Rattle.knowledge.specs.Answers.{Adds};
+ghost use Rattle.statements.specs.Statements.{Parts, assignTerm, callShown, partRule, initialOf, Asserts, releaseRule};
 
 // `set x f y`: the facts that name the path that shows `acc x f` go, and the path is y.
-pub fn set_rule(s: State, x: u8, f: u8, y: u8) -> Added
-    requires { ⌜ Wf s ⌝ }
-    ensures { λ r. ⌜ Adds (setRule x f y (stateOf s)) r ⌝ }
+pub fn set_rule(key: &mut [u64; 144], b: &mut [u8; 338], x: u8, f: u8, y: u8) -> Answer
+    requires { ⌜ Wf (now key) (now b) ⌝ }
+    ensures { λ r. ⌜ Adds (setRule x f y (stateOf (now (key .entry)) (now (b .entry)))) r (now (key .exit)) (now (b .exit)) ⌝ }
 {
     let out = [false; 64];
-    let i = knowledge::entry(s, out, x, f);
-    if i < s.permissions {
-        let path = links::path_key(s.variable[i], s.field[i]);
-        let t = knowledge::without_path(s, i);
-        return knowledge::add_fact(t, false, path, links::variable_key(y));
+    let i = known::entry(key, b, &out, x, f);
+    if i < (b[337] as usize) {
+        let path = links::path_key(b[208 + i], b[272 + i]);
+        removal::without_path(key, b, i, path);
+        return knowledge::add_fact(key, b, false, path, links::variable_key(y));
     }
-    Added {
-        answer: Answer::NoPermission,
-        state: s,
-    }
+    Answer::NoPermission
 }
 
 // x = k, where the term is left.
-fn add_equal(s: State, x: u8, k: Resolved) -> Added
-    requires { ⌜ Wf s ⌝ }
-    ensures { λ r. ⌜ Adds (addEqual x (leftOver k) (stateOf s)) r ⌝ }
+fn add_equal(key: &mut [u64; 144], b: &mut [u8; 338], x: u8, k: Resolved) -> Answer
+    requires { ⌜ Wf (now key) (now b) ⌝ }
+    ensures { λ r. ⌜ Adds (addEqual x (leftOver k) (stateOf (now (key .entry)) (now (b .entry)))) r (now (key .exit)) (now (b .exit)) ⌝ }
 {
     let Resolved::Key(t) = k else {
-        return Added {
-            answer: Answer::Done,
-            state: s,
-        };
+        return Answer::Done;
     };
-    knowledge::add_fact(s, false, links::variable_key(x), t)
+    knowledge::add_fact(key, b, false, links::variable_key(x), t)
 }
 
 // `let x e`, where e resolves to the term of k.
-fn assign_key(s: State, x: u8, k: u64) -> Added
-    requires { ⌜ Wf s ⌝ }
-    ensures { λ r. ⌜ Adds (assignTerm x (termOf k) (stateOf s)) r ⌝ }
+fn assign_key(key: &mut [u64; 144], b: &mut [u8; 338], x: u8, k: u64) -> Answer
+    requires { ⌜ Wf (now key) (now b) ⌝ }
+    ensures { λ r. ⌜ Adds (assignTerm x (termOf k) (stateOf (now (key .entry)) (now (b .entry)))) r (now (key .exit)) (now (b .exit)) ⌝ }
 {
     if k == links::variable_key(x) {
-        return Added {
-            answer: Answer::Done,
-            state: s,
-        };
+        return Answer::Done;
     }
-    let to = knowledge::successor(s, x);
-    let t = knowledge::remove_to(s, x, to);
-    add_equal(t, x, knowledge::renamed(k, x, to))
+    let to = known::successor(key, b, x);
+    removal::remove_to(key, b, x, to);
+    add_equal(key, b, x, removal::renamed(k, x, to))
 }
 
 // `let x e`
-pub fn assign_rule(s: State, x: u8, e: Term) -> Added
-    requires { ⌜ Wf s ⌝ }
-    ensures { λ r. ⌜ Adds (assignRule x (meaning e) (stateOf s)) r ⌝ }
+pub fn assign_rule(key: &mut [u64; 144], b: &mut [u8; 338], x: u8, e: Term) -> Answer
+    requires { ⌜ Wf (now key) (now b) ⌝ }
+    ensures { λ r. ⌜ Adds (assignRule x (meaning e) (stateOf (now (key .entry)) (now (b .entry)))) r (now (key .exit)) (now (b .exit)) ⌝ }
 {
-    let Resolved::Key(k) = knowledge::resolve(s, e) else {
-        return Added {
-            answer: Answer::Unresolved,
-            state: s,
-        };
+    let Resolved::Key(k) = known::resolve(key, b, e) else {
+        return Answer::Unresolved;
     };
-    assign_key(s, x, k)
+    assign_key(key, b, x, k)
 }
 
 // The permissions of a new x of the class c.
-fn add_fields(w: &[u8], s: State, x: u8, c: usize, n: usize) -> Added
-    requires { ⌜ (length (now w) ≡ work-bytes) × (c < most-classes) × (n ≤ most-fields) × Wf s ⌝ }
-    ensures { λ r. ⌜ Adds (addFields x (fieldsFrom (now (w .entry)) c 0 n) (stateOf s)) r ⌝ }
+fn add_fields(
+    w: &[u8],
+    key: &mut [u64; 144],
+    b: &mut [u8; 338],
+    x: u8,
+    c: usize,
+    n: usize,
+) -> Answer
+    requires { ⌜ (length (now w) ≡ work-bytes) × (c < most-classes) × (n ≤ most-fields) × Wf (now key) (now b) ⌝ }
+    ensures { λ r. ⌜ Adds (addFields x (fieldsFrom (now (w .entry)) c 0 n) (stateOf (now (key .entry)) (now (b .entry)))) r (now (key .exit)) (now (b .exit)) ⌝ }
 {
-    let mut t = s;
     let mut j = 0;
     while j < n {
-        let r = knowledge::add_permission(t, x, tables::field_name_at(w, c, j) as u8);
-        let k = r.answer;
-        t = r.state;
+        let k = knowledge::add_permission(b, x, tables::field_name_at(w, c, j) as u8);
         let Answer::Done = k else {
-            return Added {
-                answer: k,
-                state: t,
-            };
+            return k;
         };
         j += 1;
     }
-    Added {
-        answer: Answer::Done,
-        state: t,
-    }
+    Answer::Done
 }
 
 // The key of a new field's value: 0 for an int, or else null.
@@ -115,180 +97,185 @@ fn initial(kind: usize) -> u64
 }
 
 // What the fields of a new x are.
-fn add_initial(w: &[u8], s: State, x: u8, c: usize, n: usize) -> Added
-    requires { ⌜ (length (now w) ≡ work-bytes) × (c < most-classes) × (n ≤ most-fields) × Wf s ⌝ }
-    ensures { λ r. ⌜ Adds (addInitial x (fieldsFrom (now (w .entry)) c 0 n) (stateOf s)) r ⌝ }
+fn add_initial(
+    w: &[u8],
+    key: &mut [u64; 144],
+    b: &mut [u8; 338],
+    x: u8,
+    c: usize,
+    n: usize,
+) -> Answer
+    requires { ⌜ (length (now w) ≡ work-bytes) × (c < most-classes) × (n ≤ most-fields) × Wf (now key) (now b) ⌝ }
+    ensures { λ r. ⌜ Adds (addInitial x (fieldsFrom (now (w .entry)) c 0 n) (stateOf (now (key .entry)) (now (b .entry)))) r (now (key .exit)) (now (b .exit)) ⌝ }
 {
-    let mut t = s;
     let mut j = 0;
     while j < n {
         let path = links::path_key(x, tables::field_name_at(w, c, j) as u8);
-        let r = knowledge::add_fact(t, false, path, initial(tables::field_kind_at(w, c, j)));
-        let k = r.answer;
-        t = r.state;
+        let k = knowledge::add_fact(key, b, false, path, initial(tables::field_kind_at(w, c, j)));
         let Answer::Done = k else {
-            return Added {
-                answer: k,
-                state: t,
-            };
+            return k;
         };
         j += 1;
     }
-    Added {
-        answer: Answer::Done,
-        state: t,
-    }
+    Answer::Done
 }
 
 // `new x C`
-pub fn new_rule(w: &[u8], s: State, x: u8, c: usize) -> Added
-    requires { ⌜ (length (now w) ≡ work-bytes) × (c < most-classes) × (fieldCountAt (now w) c ≤ most-fields) × Wf s ⌝ }
-    ensures { λ r. ⌜ Adds (newRule x (classAt (now (w .entry)) c) (stateOf s)) r ⌝ }
+pub fn new_rule(w: &[u8], key: &mut [u64; 144], b: &mut [u8; 338], x: u8, c: usize) -> Answer
+    requires { ⌜ (length (now w) ≡ work-bytes) × (c < most-classes) × (fieldCountAt (now w) c ≤ most-fields) × Wf (now key) (now b) ⌝ }
+    ensures { λ r. ⌜ Adds (newRule x (classAt (now (w .entry)) c) (stateOf (now (key .entry)) (now (b .entry)))) r (now (key .exit)) (now (b .exit)) ⌝ }
 {
     let n = tables::field_count_at(w, c);
-    let a = add_fields(w, knowledge::remove(s, x), x, c, n);
-    let k = a.answer;
+    removal::remove(key, b, x);
+    let k = add_fields(w, key, b, x, c, n);
     let Answer::Done = k else {
-        return a;
+        return k;
     };
-    let b = knowledge::add_fact(a.state, true, links::variable_key(x), 256);
-    let l = b.answer;
+    let l = knowledge::add_fact(key, b, true, links::variable_key(x), 256);
     let Answer::Done = l else {
-        return b;
+        return l;
     };
-    add_initial(w, b.state, x, c, n)
+    add_initial(w, key, b, x, c, n)
 }
 
 // `assert`: the formula is shown, and the state stays.
-pub fn assert_rule(w: &[u8], s: State, a: usize, n: usize) -> Added
-    requires { ⌜ (length (now w) ≡ work-bytes) × (a + n ≤ most-atom-rows) × Wf s ⌝ }
-    ensures { λ r. ⌜ Adds (assertRule (atomsFrom (now (w .entry)) a n) (stateOf s)) r ⌝ }
+pub fn assert_rule<'a>(
+    w: &'a [u8],
+    key: &'a [u64; 144],
+    b: &'a [u8; 338],
+    a: usize,
+    n: usize,
+) -> Answer
+    requires { ⌜ (length (now w) ≡ work-bytes) × (a + n ≤ most-atom-rows) × Wf (now key) (now b) ⌝ }
+    ensures { λ r. ⌜ Asserts (atomsFrom (now (w .entry)) a n) (stateOf (now (key .entry)) (now (b .entry))) r ⌝ }
 {
-    let r = formulas::show(w, a, n, 0, 1, 14, s);
+    let r = formulas::show(w, a, n, 0, 1, 14, key, b);
     let k = r.answer;
-    Added {
-        answer: k,
-        state: s,
-    }
+    k
 }
 
 // `release`: the formula is shown, and the remainder is left.
-pub fn release_rule(w: &[u8], s: State, a: usize, n: usize) -> Added
-    requires { ⌜ (length (now w) ≡ work-bytes) × (a + n ≤ most-atom-rows) × Wf s ⌝ }
-    ensures { λ r. ⌜ Adds (releaseRule (atomsFrom (now (w .entry)) a n) (stateOf s)) r ⌝ }
+pub fn release_rule(w: &[u8], key: &mut [u64; 144], b: &mut [u8; 338], a: usize, n: usize) -> Answer
+    requires { ⌜ (length (now w) ≡ work-bytes) × (a + n ≤ most-atom-rows) × Wf (now key) (now b) ⌝ }
+    ensures { λ r. ⌜ Adds (releaseRule (atomsFrom (now (w .entry)) a n) (stateOf (now (key .entry)) (now (b .entry)))) r (now (key .exit)) (now (b .exit)) ⌝ }
 {
-    let r = formulas::show(w, a, n, 0, 1, 14, s);
+    let r = formulas::show(w, a, n, 0, 1, 14, key, b);
     let k = r.answer;
     let out = r.out;
-    Added {
-        answer: k,
-        state: knowledge::remainder(s, out),
-    }
+    removal::remainder(key, b, &out);
+    k
 }
 
 // `call x y m z`, where y ≠ null is shown.
-fn call_shown(w: &[u8], s: State, x: u8, y: u8, m: usize, z: u8) -> Added
-    requires { ⌜ Tables (now w) × (m < methodCount (now w)) × Wf s ⌝ }
-    ensures { λ r. ⌜ Adds (callShown x y (methodAt (now (w .entry)) m) z (stateOf s)) r ⌝ }
+fn call_shown(
+    w: &[u8],
+    key: &mut [u64; 144],
+    b: &mut [u8; 338],
+    x: u8,
+    y: u8,
+    m: usize,
+    z: u8,
+) -> Answer
+    requires { ⌜ Tables (now w) × (m < methodCount (now w)) × Wf (now key) (now b) ⌝ }
+    ensures { λ r. ⌜ Adds (callShown x y (methodAt (now (w .entry)) m) z (stateOf (now (key .entry)) (now (b .entry)))) r (now (key .exit)) (now (b .exit)) ⌝ }
 {
     let a = tables::requires_first(w, m);
     let n = tables::requires_count(w, m);
-    let r = formulas::show(w, a, n, y, z, x, s);
+    let r = formulas::show(w, a, n, y, z, x, key, b);
     let k = r.answer;
     let Answer::Done = k else {
-        return Added {
-            answer: k,
-            state: s,
-        };
+        return k;
     };
     let out = r.out;
-    let t = knowledge::remove(knowledge::remainder(s, out), x);
-    let b = tables::ensures_first(w, m);
+    removal::remainder(key, b, &out);
+    removal::remove(key, b, x);
+    let c = tables::ensures_first(w, m);
     let o = tables::ensures_count(w, m);
-    formulas::add(w, b, o, y, z, x, t)
+    formulas::add(w, c, o, y, z, x, key, b)
 }
 
 // `call x y m z`
-pub fn call_rule(w: &[u8], s: State, x: u8, y: u8, m: usize, z: u8) -> Added
-    requires { ⌜ Tables (now w) × (m < methodCount (now w)) × Wf s ⌝ }
-    ensures { λ r. ⌜ Adds (callRule x y (methodAt (now (w .entry)) m) z (stateOf s)) r ⌝ }
+pub fn call_rule(
+    w: &[u8],
+    key: &mut [u64; 144],
+    b: &mut [u8; 338],
+    x: u8,
+    y: u8,
+    m: usize,
+    z: u8,
+) -> Answer
+    requires { ⌜ Tables (now w) × (m < methodCount (now w)) × Wf (now key) (now b) ⌝ }
+    ensures { λ r. ⌜ Adds (callRule x y (methodAt (now (w .entry)) m) z (stateOf (now (key .entry)) (now (b .entry)))) r (now (key .exit)) (now (b .exit)) ⌝ }
 {
-    if knowledge::holds(s, true, links::variable_key(y), 256) {
-        return call_shown(w, s, x, y, m, z);
+    if known::holds(key, b, true, links::variable_key(y), 256) {
+        return call_shown(w, key, b, x, y, m, z);
     }
-    Added {
-        answer: Answer::NotShown,
-        state: s,
-    }
+    Answer::NotShown
 }
 
-// The states in which the parts of a branch start.
-pub struct Branches {
-    pub answer: Answer,
-    pub first: State,
-    pub second: State,
-}
-
-fn none(s: State, k: Answer) -> Branches
-    ensures { λ r. ⌜ r ≡ record { answer = k; first = s; second = s } ⌝ }
+// The condition, or where `apart` its opposite, in the first state, and the other in the second, which is a copy of the first.
+fn part(
+    key: &mut [u64; 144],
+    b: &mut [u8; 338],
+    key2: &mut [u64; 144],
+    b2: &mut [u8; 338],
+    apart: bool,
+    t: u64,
+    u: u64,
+) -> Answer
+    requires { ⌜ Wf (now key) (now b) × (now key2 ≡ now key) × (now b2 ≡ now b) ⌝ }
+    ensures { λ r. ⌜ Parts (partRule (relOf apart) (termOf t) (termOf u) (stateOf (now (key .entry)) (now (b .entry)))) r (now (key .exit)) (now (b .exit)) (now (key2 .exit)) (now (b2 .exit)) ⌝ }
 {
-    Branches {
-        answer: k,
-        first: s,
-        second: s,
-    }
-}
-
-// The condition, or where `apart` its opposite, in the first part, and the other in the second.
-fn part(s: State, apart: bool, t: u64, u: u64) -> Branches
-    requires { ⌜ Wf s ⌝ }
-    ensures { λ r. ⌜ Parts (partRule (relOf apart) (termOf t) (termOf u) (stateOf s)) r ⌝ }
-{
-    let a = knowledge::add_fact(s, apart, t, u);
-    let k = a.answer;
+    let k = knowledge::add_fact(key, b, apart, t, u);
     let Answer::Done = k else {
-        return none(s, k);
+        return k;
     };
-    let b = knowledge::add_fact(s, !apart, t, u);
-    let l = b.answer;
-    let first = a.state;
-    let second = b.state;
-    Branches {
-        answer: l,
-        first,
-        second,
-    }
+    knowledge::add_fact(key2, b2, !apart, t, u)
 }
 
 // `if eq l r`, or where `apart` `if ne l r`
-pub fn if_rule(s: State, apart: bool, l: Term, r: Term) -> Branches
-    requires { ⌜ Wf s ⌝ }
-    ensures { λ b. ⌜ Parts (ifRule (relOf apart) (meaning l) (meaning r) (stateOf s)) b ⌝ }
+pub fn if_rule(
+    key: &mut [u64; 144],
+    b: &mut [u8; 338],
+    key2: &mut [u64; 144],
+    b2: &mut [u8; 338],
+    apart: bool,
+    l: Term,
+    r: Term,
+) -> Answer
+    requires { ⌜ Wf (now key) (now b) × (now key2 ≡ now key) × (now b2 ≡ now b) ⌝ }
+    ensures { λ a. ⌜ Parts (ifRule (relOf apart) (meaning l) (meaning r) (stateOf (now (key .entry)) (now (b .entry)))) a (now (key .exit)) (now (b .exit)) (now (key2 .exit)) (now (b2 .exit)) ⌝ }
 {
-    let Resolved::Key(t) = knowledge::resolve(s, l) else {
-        return none(s, Answer::Unresolved);
+    let Resolved::Key(t) = known::resolve(key, b, l) else {
+        return Answer::Unresolved;
     };
-    let Resolved::Key(u) = knowledge::resolve(s, r) else {
-        return none(s, Answer::Unresolved);
+    let Resolved::Key(u) = known::resolve(key, b, r) else {
+        return Answer::Unresolved;
     };
-    part(s, apart, t, u)
+    part(key, b, key2, b2, apart, t, u)
 }
 
 // `join`: the first end, then the second, shows the formula, which is all that is known then.
-pub fn join_rule(w: &[u8], a: usize, n: usize, s: State, t: State) -> Added
-    requires { ⌜ (length (now w) ≡ work-bytes) × (a + n ≤ most-atom-rows) × Wf s × Wf t ⌝ }
-    ensures { λ r. ⌜ Adds (joinRule (atomsFrom (now (w .entry)) a n) (stateOf s) (stateOf t)) r ⌝ }
+pub fn join_rule<'a>(
+    w: &'a [u8],
+    a: usize,
+    n: usize,
+    key: &mut [u64; 144],
+    b: &mut [u8; 338],
+    key2: &'a [u64; 144],
+    b2: &'a [u8; 338],
+) -> Answer
+    requires { ⌜ (length (now w) ≡ work-bytes) × (a + n ≤ most-atom-rows) × Wf (now key) (now b) × Wf (now key2) (now b2) ⌝ }
+    ensures { λ r. ⌜ Adds (joinRule (atomsFrom (now (w .entry)) a n) (stateOf (now (key .entry)) (now (b .entry))) (stateOf (now (key2 .entry)) (now (b2 .entry)))) r (now (key .exit)) (now (b .exit)) ⌝ }
 {
-    let first = assert_rule(w, s, a, n);
-    let k = first.answer;
+    let k = assert_rule(w, key, b, a, n);
     let Answer::Done = k else {
-        return first;
+        return k;
     };
-    let second = assert_rule(w, t, a, n);
-    let l = second.answer;
+    let l = assert_rule(w, key2, b2, a, n);
     let Answer::Done = l else {
-        return second;
+        return l;
     };
-    let known = knowledge::empty();
-    formulas::add(w, a, n, 0, 1, 14, known)
+    removal::clear(b);
+    formulas::add(w, a, n, 0, 1, 14, key, b)
 }

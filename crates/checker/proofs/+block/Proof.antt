@@ -1,13 +1,11 @@
 use Prim.Native.Nat.{_-_}
-use Rattle.checker.proofs.Blocks.{goes-on, Going, begin, ends, step-stops, step-on, if-stops, deep, turn-wf, turn-stops, turn-nests, join-stops, join-on, far-on, below-15}
+use Rattle.checker.proofs.Blocks.{goes-on, Going, begin, ends, step-stops, step-on, if-stops, deep, turn-stops, turn-nests, join-stops, join-on, far-on, below-15}
 use Rattle.checker.proofs.Stepping.{is-if}
+use Rattle.known.specs.States.{stateOf}
 use Rattle.tables.specs.Decode.{rowCount}
 use borrow.Author.Needs.{needs}
-use mathlib.Core.Path.{sym, _∙_}
+use mathlib.Core.Path.{refl, sym, _∙_}
 use native.Mathlib.Omega.{arith}
-use Rattle.knowledge.specs.declared.Answer.{Answer}
-use Rattle.rules.specs.State as Rules
-use Rattle.tables.specs.Tables.{Tables}
 use Prim.Native.Nat.{ℕ, _<_}
 use borrow.Fn.Kinds.{In}
 use borrow.Fn.PlainCycle.{Measures, is, falls, and}
@@ -22,20 +20,20 @@ use Rattle.tables.proofs.kind_at.Reads as kind-at-reads
 use Rattle.checker.proofs.+block.{statement}
 use Rattle.checker.proofs.+block.Tie.{close}
 
-abbrev μ-block : Measures 1 block-kinds.ps ℕ
+abbrev μ-block : Measures 3 block-kinds.ps ℕ
 μ-block κs a = a .1 .0
 
-abbrev block-at : ℕ → In 1 block-kinds.ps
-block-at t = and 1 block-kinds.ps (is 1 block-kinds.ps μ-block t) block.Pre
+abbrev block-at : ℕ → In 3 block-kinds.ps
+block-at t = and 3 block-kinds.ps (is 3 block-kinds.ps μ-block t) block.Pre
 
-abbrev block-below : ℕ → In 1 block-kinds.ps
-block-below t = and 1 block-kinds.ps (falls 1 block-kinds.ps _<_ μ-block t) block.Pre
+abbrev block-below : ℕ → In 3 block-kinds.ps
+block-below t = and 3 block-kinds.ps (falls 3 block-kinds.ps _<_ μ-block t) block.Pre
 
 abbrev block-Inv-loop : block-lts.InvT-loop
-block-Inv-loop w depth from at₀ s₀ at s = Going w depth from s₀ at s
+block-Inv-loop w depth from key₀ b₀ at₀ key b at = Going w depth from (stateOf key₀ b₀) at key b
 
 abbrev block-μ-loop : block-lts.MeasureT-loop
-block-μ-loop w depth from at₀ s₀ at s = rowCount w - at
+block-μ-loop w depth from key₀ b₀ at₀ key b at = rowCount w - at
 
 block-loop-holds : (t : ℕ) → block-lts.Need-loop-holds (
   kind-at-reads.Asked,
@@ -51,7 +49,8 @@ block-loop-holds : (t : ℕ) → block-lts.Need-loop-holds (
   statement-reads.Asked,
   statement-reads.Learnt,
 ) (block-at t) block.Post block-Inv-loop block-μ-loop
-block-loop-holds t c = begin _ _ _ _ (c .before .pre .1 .4) (c .before .pre .1 .2) (c .before .pre .1 .3)
+block-loop-holds t c =
+    begin _ _ _ _ _ (c .before .pre .1 .4) (c .before .pre .1 .2) (c .before .pre .1 .3)
 
 block-kind-at-requires : (t : ℕ) → block-lts.Need-kind-at-requires (
   kind-at-reads.Asked,
@@ -68,7 +67,7 @@ block-kind-at-requires : (t : ℕ) → block-lts.Need-kind-at-requires (
   statement-reads.Learnt,
 ) (block-at t) block.Post block-Inv-loop block-μ-loop
 block-kind-at-requires t c κs =
-    ((c .before .before .pre .1 .0) .size, omega (arith, (c .before .before .pre .1 .0) .rows, (c .loop .inv) .within))
+    (c .before .before .pre .1 .0 .size, omega (arith, c .before .before .pre .1 .0 .rows, c .loop .inv .within))
 
 block-kind-at-requires-2 : (t : ℕ) → block-lts.Need-kind-at-requires-2 (
   kind-at-reads.Asked,
@@ -85,7 +84,7 @@ block-kind-at-requires-2 : (t : ℕ) → block-lts.Need-kind-at-requires-2 (
   statement-reads.Learnt,
 ) (block-at t) block.Post block-Inv-loop block-μ-loop
 block-kind-at-requires-2 t c κs =
-    ((c .before .before .before .before .pre .1 .0) .size, omega (arith, (c .before .before .before .before .pre .1 .0) .rows, (c .before .before .loop .inv) .within))
+    (c .before .before .before .before .pre .1 .0 .size, omega (arith, c .before .before .before .before .pre .1 .0 .rows, c .before .before .loop .inv .within))
 
 block-if-at-requires : (t : ℕ) → block-lts.Need-if-at-requires (
   kind-at-reads.Asked,
@@ -102,7 +101,7 @@ block-if-at-requires : (t : ℕ) → block-lts.Need-if-at-requires (
   statement-reads.Learnt,
 ) (block-at t) block.Post block-Inv-loop block-μ-loop
 block-if-at-requires t c κs =
-    ((c .before .before .before .before .before .before .pre .1 .0), (c .before .before .before .before .loop .inv) .within, (sym (c .before .kind-at2 .ensures .0) ∙ c .if2 .taken), (c .before .before .before .before .loop .inv) .wf)
+    (c .before .before .before .before .before .before .before .before .before .before .before .before .pre .1 .0, c .before .before .before .before .before .before .before .before .before .before .loop .inv .within, (sym (c .before .before .before .before .before .before .before .kind-at2 .ensures .0) ∙ c .before .before .before .before .before .before .if2 .taken), c .before .before .before .before .before .before .before .before .before .before .loop .inv .wf, refl, refl)
 
 block-enum-told : (t : ℕ) → block-lts.Need-enum-told (
   kind-at-reads.Asked,
@@ -118,7 +117,8 @@ block-enum-told : (t : ℕ) → block-lts.Need-enum-told (
   statement-reads.Asked,
   statement-reads.Learnt,
 ) (block-at t) block.Post block-Inv-loop block-μ-loop
-block-enum-told t c = search needs
+block-enum-told t c =
+    search needs
 
 block-returns : (t : ℕ) → block-lts.Need-returns (
   kind-at-reads.Asked,
@@ -135,7 +135,7 @@ block-returns : (t : ℕ) → block-lts.Need-returns (
   statement-reads.Learnt,
 ) (block-at t) block.Post block-Inv-loop block-μ-loop
 block-returns t c =
-    if-stops (c .before .before .before .before .before .before .before .before .args .w .now) (c .before .before .before .before .before .before .before .before .pre .1 .0) (c .before .before .before .before .before .before .before .before .args .depth) (c .before .before .before .before .before .before .before .before .args .from) (c .before .before .before .before .before .before .before .before .pre .1 .1) (c .before .before .before .before .before .before .before .before .args .start) (c .before .before .before .before .before .before .loop .at) (c .before .before .before .before .before .before .loop .s) (c .before .before .before .before .before .before .loop .inv) _ _ _ (is-if _ _ (sym (c .before .before .before .kind-at2 .ensures .0) ∙ c .before .before .if2 .taken)) (c .before .if-at .result) (c .before .if-at .ensures) (c .match .keys2)
+    if-stops (c .before .before .before .before .before .before .before .before .before .before .before .before .before .before .args .w .now) (c .before .before .before .before .before .before .before .before .before .before .before .before .before .before .pre .1 .0) (c .before .before .before .before .before .before .before .before .before .before .before .before .before .before .args .depth) (c .before .before .before .before .before .before .before .before .before .before .before .before .before .before .args .from) (c .before .before .before .before .before .before .before .before .before .before .before .before .before .before .pre .1 .1) (stateOf (c .before .before .before .before .before .before .before .before .before .before .before .before .before .before .args .key .now) (c .before .before .before .before .before .before .before .before .before .before .before .before .before .before .args .b .now)) (c .before .before .before .before .before .before .before .before .before .before .before .before .loop .at) (c .before .before .before .before .before .before .before .before .before .before .before .before .loop .key) (c .before .before .before .before .before .before .before .before .before .before .before .before .loop .b) (c .before .before .before .before .before .before .before .before .before .before .before .before .loop .inv) _ _ _ (is-if _ _ (sym (c .before .before .before .before .before .before .before .before .before .kind-at2 .ensures .0) ∙ c .before .before .before .before .before .before .before .before .if2 .taken)) (c .before .if-at .result) _ _ _ _ (c .before .if-at .ensures) (c .match .keys2)
 
 block-sub-block : (t : ℕ) → block-lts.Need-sub-block (
   kind-at-reads.Asked,
@@ -152,7 +152,7 @@ block-sub-block : (t : ℕ) → block-lts.Need-sub-block (
   statement-reads.Learnt,
 ) (block-at t) block.Post block-Inv-loop block-μ-loop
 block-sub-block t c =
-    let d = (deep (c .before .before .before .before .before .before .before .before .before .args .w .now) (c .before .before .before .before .before .before .before .before .before .pre .1 .0) (c .before .before .before .before .before .before .before .before .before .args .depth) (c .before .before .before .before .before .before .before .before .before .args .from) (c .before .before .before .before .before .before .before .before .before .pre .1 .1) (c .before .before .before .before .before .before .before .before .before .args .start) (c .before .before .before .before .before .before .before .loop .at) (c .before .before .before .before .before .before .before .loop .s) (c .before .before .before .before .before .before .before .loop .inv) _ _ _ (is-if _ _ (sym (c .before .before .before .before .kind-at2 .ensures .0) ∙ c .before .before .before .if2 .taken)) (c .before .before .if-at .result) (c .before .before .if-at .ensures)) .0 in omega arith
+    let d = deep (c .before .before .before .before .before .before .before .before .before .before .before .before .before .before .before .args .w .now) (c .before .before .before .before .before .before .before .before .before .before .before .before .before .before .before .pre .1 .0) (c .before .before .before .before .before .before .before .before .before .before .before .before .before .before .before .args .depth) (c .before .before .before .before .before .before .before .before .before .before .before .before .before .before .before .args .from) (c .before .before .before .before .before .before .before .before .before .before .before .before .before .before .before .pre .1 .1) (stateOf (c .before .before .before .before .before .before .before .before .before .before .before .before .before .before .before .args .key .now) (c .before .before .before .before .before .before .before .before .before .before .before .before .before .before .before .args .b .now)) (c .before .before .before .before .before .before .before .before .before .before .before .before .before .loop .at) (c .before .before .before .before .before .before .before .before .before .before .before .before .before .loop .key) (c .before .before .before .before .before .before .before .before .before .before .before .before .before .loop .b) (c .before .before .before .before .before .before .before .before .before .before .before .before .before .loop .inv) _ _ _ (is-if _ _ (sym (c .before .before .before .before .before .before .before .before .before .before .kind-at2 .ensures .0) ∙ c .before .before .before .before .before .before .before .before .before .if2 .taken)) (c .before .before .if-at .result) _ _ _ _ (c .before .before .if-at .ensures) .0 in omega arith
 
 block-add-block : (t : ℕ) → block-lts.Need-add-block (
   kind-at-reads.Asked,
@@ -169,7 +169,7 @@ block-add-block : (t : ℕ) → block-lts.Need-add-block (
   statement-reads.Learnt,
 ) (block-at t) block.Post block-Inv-loop block-μ-loop
 block-add-block t c =
-    omega (arith, (c .before .before .before .before .before .before .before .loop .inv) .within, (c .before .before .before .before .before .before .before .before .before .pre .1 .0) .rows)
+    omega (arith, c .before .before .before .before .before .before .before .before .before .before .before .before .before .loop .inv .within, c .before .before .before .before .before .before .before .before .before .before .before .before .before .before .before .pre .1 .0 .rows)
 
 block-block-requires : (t : ℕ) → block-lts.Need-block-requires (
   kind-at-reads.Asked,
@@ -186,7 +186,7 @@ block-block-requires : (t : ℕ) → block-lts.Need-block-requires (
   statement-reads.Learnt,
 ) (block-at t) block.Post block-Inv-loop block-μ-loop
 block-block-requires t c κs =
-    let d = (deep (c .before .before .before .before .before .before .before .before .before .args .w .now) (c .before .before .before .before .before .before .before .before .before .pre .1 .0) (c .before .before .before .before .before .before .before .before .before .args .depth) (c .before .before .before .before .before .before .before .before .before .args .from) (c .before .before .before .before .before .before .before .before .before .pre .1 .1) (c .before .before .before .before .before .before .before .before .before .args .start) (c .before .before .before .before .before .before .before .loop .at) (c .before .before .before .before .before .before .before .loop .s) (c .before .before .before .before .before .before .before .loop .inv) _ _ _ (is-if _ _ (sym (c .before .before .before .before .kind-at2 .ensures .0) ∙ c .before .before .before .if2 .taken)) (c .before .before .if-at .result) (c .before .before .if-at .ensures)) in let h = d .0 in let k = (sym (c .before .before .before .before .kind-at2 .ensures .0) ∙ c .before .before .before .if2 .taken) in (omega (arith, c .before .before .before .before .before .before .before .before .before .pre .0), ((c .before .before .before .before .before .before .before .before .before .pre .1 .0), omega (arith, (c .before .before .before .before .before .before .before .before .before .pre .1 .1)), goes-on _ (c .before .before .before .before .before .before .before .before .before .pre .1 .0) _ ((c .before .before .before .before .before .before .before .loop .inv) .within) (omega arith), d .1, c .before .before .if-at .ensures .first))
+    let d = deep (c .before .before .before .before .before .before .before .before .before .before .before .before .before .before .before .before .before .args .w .now) (c .before .before .before .before .before .before .before .before .before .before .before .before .before .before .before .before .before .pre .1 .0) (c .before .before .before .before .before .before .before .before .before .before .before .before .before .before .before .before .before .args .depth) (c .before .before .before .before .before .before .before .before .before .before .before .before .before .before .before .before .before .args .from) (c .before .before .before .before .before .before .before .before .before .before .before .before .before .before .before .before .before .pre .1 .1) (stateOf (c .before .before .before .before .before .before .before .before .before .before .before .before .before .before .before .before .before .args .key .now) (c .before .before .before .before .before .before .before .before .before .before .before .before .before .before .before .before .before .args .b .now)) (c .before .before .before .before .before .before .before .before .before .before .before .before .before .before .before .loop .at) (c .before .before .before .before .before .before .before .before .before .before .before .before .before .before .before .loop .key) (c .before .before .before .before .before .before .before .before .before .before .before .before .before .before .before .loop .b) (c .before .before .before .before .before .before .before .before .before .before .before .before .before .before .before .loop .inv) _ _ _ (is-if _ _ (sym (c .before .before .before .before .before .before .before .before .before .before .before .before .kind-at2 .ensures .0) ∙ c .before .before .before .before .before .before .before .before .before .before .before .if2 .taken)) (c .before .before .before .before .if-at .result) _ _ _ _ (c .before .before .before .before .if-at .ensures) in let h = d .0 in let k = (sym (c .before .before .before .before .before .before .before .before .before .before .before .before .kind-at2 .ensures .0) ∙ c .before .before .before .before .before .before .before .before .before .before .before .if2 .taken) in (omega (arith, c .before .before .before .before .before .before .before .before .before .before .before .before .before .before .before .before .before .pre .0), (c .before .before .before .before .before .before .before .before .before .before .before .before .before .before .before .before .before .pre .1 .0, omega (arith, c .before .before .before .before .before .before .before .before .before .before .before .before .before .before .before .before .before .pre .1 .1), goes-on _ (c .before .before .before .before .before .before .before .before .before .before .before .before .before .before .before .before .before .pre .1 .0) _ (c .before .before .before .before .before .before .before .before .before .before .before .before .before .before .before .loop .inv .within) (omega arith), d .1, c .before .before .before .before .if-at .ensures .first))
 
 block-turned-requires : (t : ℕ) → block-lts.Need-turned-requires (
   kind-at-reads.Asked,
@@ -203,7 +203,7 @@ block-turned-requires : (t : ℕ) → block-lts.Need-turned-requires (
   statement-reads.Learnt,
 ) (block-at t) block.Post block-Inv-loop block-μ-loop
 block-turned-requires t c κs =
-    ((c .before .before .before .before .before .before .before .before .before .before .pre .1 .0), record { wf = c .block .ensures .wf; within = c .block .ensures .within; closes = c .block .ensures .closes })
+    (c .before .before .before .before .before .before .before .before .before .before .before .before .before .before .before .before .before .before .pre .1 .0, record { within = c .block .ensures .within; closes = c .block .ensures .closes })
 
 block-enum-told-2 : (t : ℕ) → block-lts.Need-enum-told-2 (
   kind-at-reads.Asked,
@@ -219,7 +219,8 @@ block-enum-told-2 : (t : ℕ) → block-lts.Need-enum-told-2 (
   statement-reads.Asked,
   statement-reads.Learnt,
 ) (block-at t) block.Post block-Inv-loop block-μ-loop
-block-enum-told-2 t c = search needs
+block-enum-told-2 t c =
+    search needs
 
 block-returns-2 : (t : ℕ) → block-lts.Need-returns-2 (
   kind-at-reads.Asked,
@@ -236,7 +237,7 @@ block-returns-2 : (t : ℕ) → block-lts.Need-returns-2 (
   statement-reads.Learnt,
 ) (block-at t) block.Post block-Inv-loop block-μ-loop
 block-returns-2 t c =
-    turn-stops (c .before .before .before .before .before .before .before .before .before .before .before .before .args .w .now) (c .before .before .before .before .before .before .before .before .before .before .before .before .pre .1 .0) (c .before .before .before .before .before .before .before .before .before .before .before .before .args .depth) (c .before .before .before .before .before .before .before .before .before .before .before .before .args .from) (c .before .before .before .before .before .before .before .before .before .before .before .before .pre .1 .1) (c .before .before .before .before .before .before .before .before .before .before .before .before .args .start) (c .before .before .before .before .before .before .before .before .before .before .loop .at) (c .before .before .before .before .before .before .before .before .before .before .loop .s) (c .before .before .before .before .before .before .before .before .before .before .loop .inv) _ _ _ (is-if _ _ (sym (c .before .before .before .before .before .before .before .kind-at2 .ensures .0) ∙ c .before .before .before .before .before .before .if2 .taken)) (c .before .before .before .before .before .if-at .result) (c .before .before .before .before .before .if-at .ensures) (sym (c .before .before .before .before .before .before .before .kind-at2 .ensures .0) ∙ c .before .before .before .before .before .before .if2 .taken) (c .before .before .before .enum-told .given .1) (c .before .before .block .result) (c .before .turned .result) (c .before .before .block .ensures) (c .before .turned .ensures) (c .match2 .keys2)
+    turn-stops (c .before .before .before .before .before .before .before .before .before .before .before .before .before .before .before .before .before .before .before .before .args .w .now) (c .before .before .before .before .before .before .before .before .before .before .before .before .before .before .before .before .before .before .before .before .pre .1 .0) (c .before .before .before .before .before .before .before .before .before .before .before .before .before .before .before .before .before .before .before .before .args .depth) (c .before .before .before .before .before .before .before .before .before .before .before .before .before .before .before .before .before .before .before .before .args .from) (c .before .before .before .before .before .before .before .before .before .before .before .before .before .before .before .before .before .before .before .before .pre .1 .1) (stateOf (c .before .before .before .before .before .before .before .before .before .before .before .before .before .before .before .before .before .before .before .before .args .key .now) (c .before .before .before .before .before .before .before .before .before .before .before .before .before .before .before .before .before .before .before .before .args .b .now)) (c .before .before .before .before .before .before .before .before .before .before .before .before .before .before .before .before .before .before .loop .at) (c .before .before .before .before .before .before .before .before .before .before .before .before .before .before .before .before .before .before .loop .key) (c .before .before .before .before .before .before .before .before .before .before .before .before .before .before .before .before .before .before .loop .b) (c .before .before .before .before .before .before .before .before .before .before .before .before .before .before .before .before .before .before .loop .inv) _ _ _ (is-if _ _ (sym (c .before .before .before .before .before .before .before .before .before .before .before .before .before .before .before .kind-at2 .ensures .0) ∙ c .before .before .before .before .before .before .before .before .before .before .before .before .before .before .if2 .taken)) (c .before .before .before .before .before .before .before .if-at .result) _ _ _ _ (c .before .before .before .before .before .before .before .if-at .ensures) (sym (c .before .before .before .before .before .before .before .before .before .before .before .before .before .before .before .kind-at2 .ensures .0) ∙ c .before .before .before .before .before .before .before .before .before .before .before .before .before .before .if2 .taken) (c .before .before .before .before .before .enum-told .given .1) (c .before .before .block .result) (c .before .turned .result) _ _ (c .before .before .block .ensures) (c .before .turned .ensures) (c .match2 .keys2)
 
 block-sub-block-2 : (t : ℕ) → block-lts.Need-sub-block-2 (
   kind-at-reads.Asked,
@@ -253,7 +254,7 @@ block-sub-block-2 : (t : ℕ) → block-lts.Need-sub-block-2 (
   statement-reads.Learnt,
 ) (block-at t) block.Post block-Inv-loop block-μ-loop
 block-sub-block-2 t c =
-    let d = (deep (c .before .before .before .before .before .before .before .before .before .before .before .before .before .args .w .now) (c .before .before .before .before .before .before .before .before .before .before .before .before .before .pre .1 .0) (c .before .before .before .before .before .before .before .before .before .before .before .before .before .args .depth) (c .before .before .before .before .before .before .before .before .before .before .before .before .before .args .from) (c .before .before .before .before .before .before .before .before .before .before .before .before .before .pre .1 .1) (c .before .before .before .before .before .before .before .before .before .before .before .before .before .args .start) (c .before .before .before .before .before .before .before .before .before .before .before .loop .at) (c .before .before .before .before .before .before .before .before .before .before .before .loop .s) (c .before .before .before .before .before .before .before .before .before .before .before .loop .inv) _ _ _ (is-if _ _ (sym (c .before .before .before .before .before .before .before .before .kind-at2 .ensures .0) ∙ c .before .before .before .before .before .before .before .if2 .taken)) (c .before .before .before .before .before .before .if-at .result) (c .before .before .before .before .before .before .if-at .ensures)) .0 in omega arith
+    let d = deep (c .before .before .before .before .before .before .before .before .before .before .before .before .before .before .before .before .before .before .before .before .before .args .w .now) (c .before .before .before .before .before .before .before .before .before .before .before .before .before .before .before .before .before .before .before .before .before .pre .1 .0) (c .before .before .before .before .before .before .before .before .before .before .before .before .before .before .before .before .before .before .before .before .before .args .depth) (c .before .before .before .before .before .before .before .before .before .before .before .before .before .before .before .before .before .before .before .before .before .args .from) (c .before .before .before .before .before .before .before .before .before .before .before .before .before .before .before .before .before .before .before .before .before .pre .1 .1) (stateOf (c .before .before .before .before .before .before .before .before .before .before .before .before .before .before .before .before .before .before .before .before .before .args .key .now) (c .before .before .before .before .before .before .before .before .before .before .before .before .before .before .before .before .before .before .before .before .before .args .b .now)) (c .before .before .before .before .before .before .before .before .before .before .before .before .before .before .before .before .before .before .before .loop .at) (c .before .before .before .before .before .before .before .before .before .before .before .before .before .before .before .before .before .before .before .loop .key) (c .before .before .before .before .before .before .before .before .before .before .before .before .before .before .before .before .before .before .before .loop .b) (c .before .before .before .before .before .before .before .before .before .before .before .before .before .before .before .before .before .before .before .loop .inv) _ _ _ (is-if _ _ (sym (c .before .before .before .before .before .before .before .before .before .before .before .before .before .before .before .before .kind-at2 .ensures .0) ∙ c .before .before .before .before .before .before .before .before .before .before .before .before .before .before .before .if2 .taken)) (c .before .before .before .before .before .before .before .before .if-at .result) _ _ _ _ (c .before .before .before .before .before .before .before .before .if-at .ensures) .0 in omega arith
 
 block-add-block-2 : (t : ℕ) → block-lts.Need-add-block-2 (
   kind-at-reads.Asked,
@@ -270,7 +271,7 @@ block-add-block-2 : (t : ℕ) → block-lts.Need-add-block-2 (
   statement-reads.Learnt,
 ) (block-at t) block.Post block-Inv-loop block-μ-loop
 block-add-block-2 t c =
-    omega (arith, c .before .before .before .turned .ensures .place, c .before .before .before .before .block .ensures .within, (c .before .before .before .before .before .before .before .before .before .before .before .before .before .before .pre .1 .0) .rows)
+    omega (arith, c .before .before .before .turned .ensures .place, c .before .before .before .before .block .ensures .within, c .before .before .before .before .before .before .before .before .before .before .before .before .before .before .before .before .before .before .before .before .before .before .pre .1 .0 .rows)
 
 block-block-requires-2 : (t : ℕ) → block-lts.Need-block-requires-2 (
   kind-at-reads.Asked,
@@ -287,7 +288,7 @@ block-block-requires-2 : (t : ℕ) → block-lts.Need-block-requires-2 (
   statement-reads.Learnt,
 ) (block-at t) block.Post block-Inv-loop block-μ-loop
 block-block-requires-2 t c κs =
-    let d = (deep (c .before .before .before .before .before .before .before .before .before .before .before .before .before .before .args .w .now) (c .before .before .before .before .before .before .before .before .before .before .before .before .before .before .pre .1 .0) (c .before .before .before .before .before .before .before .before .before .before .before .before .before .before .args .depth) (c .before .before .before .before .before .before .before .before .before .before .before .before .before .before .args .from) (c .before .before .before .before .before .before .before .before .before .before .before .before .before .before .pre .1 .1) (c .before .before .before .before .before .before .before .before .before .before .before .before .before .before .args .start) (c .before .before .before .before .before .before .before .before .before .before .before .before .loop .at) (c .before .before .before .before .before .before .before .before .before .before .before .before .loop .s) (c .before .before .before .before .before .before .before .before .before .before .before .before .loop .inv) _ _ _ (is-if _ _ (sym (c .before .before .before .before .before .before .before .before .before .kind-at2 .ensures .0) ∙ c .before .before .before .before .before .before .before .before .if2 .taken)) (c .before .before .before .before .before .before .before .if-at .result) (c .before .before .before .before .before .before .before .if-at .ensures)) in let h = d .0 in (omega (arith, c .before .before .before .before .before .before .before .before .before .before .before .before .before .before .pre .0), ((c .before .before .before .before .before .before .before .before .before .before .before .before .before .before .pre .1 .0), omega (arith, (c .before .before .before .before .before .before .before .before .before .before .before .before .before .before .pre .1 .1)), c .before .before .before .turned .ensures .next (c .before .enum-told2 .given .1), turn-nests (c .before .before .before .before .before .before .before .before .before .before .before .before .before .before .args .w .now) (c .before .before .before .before .before .before .before .before .before .before .before .before .before .before .pre .1 .0) (c .before .before .before .before .before .before .before .before .before .before .before .before .before .before .args .depth) (c .before .before .before .before .before .before .before .before .before .before .before .before .before .before .args .from) (c .before .before .before .before .before .before .before .before .before .before .before .before .before .before .pre .1 .1) (c .before .before .before .before .before .before .before .before .before .before .before .before .before .before .args .start) (c .before .before .before .before .before .before .before .before .before .before .before .before .loop .at) (c .before .before .before .before .before .before .before .before .before .before .before .before .loop .s) (c .before .before .before .before .before .before .before .before .before .before .before .before .loop .inv) _ _ _ (is-if _ _ (sym (c .before .before .before .before .before .before .before .before .before .kind-at2 .ensures .0) ∙ c .before .before .before .before .before .before .before .before .if2 .taken)) (c .before .before .before .before .before .before .before .if-at .result) (c .before .before .before .before .before .before .before .if-at .ensures) (sym (c .before .before .before .before .before .before .before .before .before .kind-at2 .ensures .0) ∙ c .before .before .before .before .before .before .before .before .if2 .taken) (c .before .before .before .before .before .enum-told .given .1) (c .before .before .before .before .block .result) (c .before .before .before .turned .result) (c .before .before .before .before .block .ensures) (c .before .before .before .turned .ensures) (c .before .enum-told2 .given .1), c .before .before .before .before .before .before .before .if-at .ensures .second))
+    let d = deep (c .before .before .before .before .before .before .before .before .before .before .before .before .before .before .before .before .before .before .before .before .before .before .before .before .args .w .now) (c .before .before .before .before .before .before .before .before .before .before .before .before .before .before .before .before .before .before .before .before .before .before .before .before .pre .1 .0) (c .before .before .before .before .before .before .before .before .before .before .before .before .before .before .before .before .before .before .before .before .before .before .before .before .args .depth) (c .before .before .before .before .before .before .before .before .before .before .before .before .before .before .before .before .before .before .before .before .before .before .before .before .args .from) (c .before .before .before .before .before .before .before .before .before .before .before .before .before .before .before .before .before .before .before .before .before .before .before .before .pre .1 .1) (stateOf (c .before .before .before .before .before .before .before .before .before .before .before .before .before .before .before .before .before .before .before .before .before .before .before .before .args .key .now) (c .before .before .before .before .before .before .before .before .before .before .before .before .before .before .before .before .before .before .before .before .before .before .before .before .args .b .now)) (c .before .before .before .before .before .before .before .before .before .before .before .before .before .before .before .before .before .before .before .before .before .before .loop .at) (c .before .before .before .before .before .before .before .before .before .before .before .before .before .before .before .before .before .before .before .before .before .before .loop .key) (c .before .before .before .before .before .before .before .before .before .before .before .before .before .before .before .before .before .before .before .before .before .before .loop .b) (c .before .before .before .before .before .before .before .before .before .before .before .before .before .before .before .before .before .before .before .before .before .before .loop .inv) _ _ _ (is-if _ _ (sym (c .before .before .before .before .before .before .before .before .before .before .before .before .before .before .before .before .before .before .before .kind-at2 .ensures .0) ∙ c .before .before .before .before .before .before .before .before .before .before .before .before .before .before .before .before .before .before .if2 .taken)) (c .before .before .before .before .before .before .before .before .before .before .before .if-at .result) _ _ _ _ (c .before .before .before .before .before .before .before .before .before .before .before .if-at .ensures) in let h = d .0 in (omega (arith, c .before .before .before .before .before .before .before .before .before .before .before .before .before .before .before .before .before .before .before .before .before .before .before .before .pre .0), (c .before .before .before .before .before .before .before .before .before .before .before .before .before .before .before .before .before .before .before .before .before .before .before .before .pre .1 .0, omega (arith, c .before .before .before .before .before .before .before .before .before .before .before .before .before .before .before .before .before .before .before .before .before .before .before .before .pre .1 .1), c .before .before .before .before .before .turned .ensures .next (c .before .before .before .enum-told2 .given .1), turn-nests (c .before .before .before .before .before .before .before .before .before .before .before .before .before .before .before .before .before .before .before .before .before .before .before .before .args .w .now) (c .before .before .before .before .before .before .before .before .before .before .before .before .before .before .before .before .before .before .before .before .before .before .before .before .pre .1 .0) (c .before .before .before .before .before .before .before .before .before .before .before .before .before .before .before .before .before .before .before .before .before .before .before .before .args .depth) (c .before .before .before .before .before .before .before .before .before .before .before .before .before .before .before .before .before .before .before .before .before .before .before .before .args .from) (c .before .before .before .before .before .before .before .before .before .before .before .before .before .before .before .before .before .before .before .before .before .before .before .before .pre .1 .1) (stateOf (c .before .before .before .before .before .before .before .before .before .before .before .before .before .before .before .before .before .before .before .before .before .before .before .before .args .key .now) (c .before .before .before .before .before .before .before .before .before .before .before .before .before .before .before .before .before .before .before .before .before .before .before .before .args .b .now)) (c .before .before .before .before .before .before .before .before .before .before .before .before .before .before .before .before .before .before .before .before .before .before .loop .at) (c .before .before .before .before .before .before .before .before .before .before .before .before .before .before .before .before .before .before .before .before .before .before .loop .key) (c .before .before .before .before .before .before .before .before .before .before .before .before .before .before .before .before .before .before .before .before .before .before .loop .b) (c .before .before .before .before .before .before .before .before .before .before .before .before .before .before .before .before .before .before .before .before .before .before .loop .inv) _ _ _ (is-if _ _ (sym (c .before .before .before .before .before .before .before .before .before .before .before .before .before .before .before .before .before .before .before .kind-at2 .ensures .0) ∙ c .before .before .before .before .before .before .before .before .before .before .before .before .before .before .before .before .before .before .if2 .taken)) (c .before .before .before .before .before .before .before .before .before .before .before .if-at .result) _ _ _ _ (c .before .before .before .before .before .before .before .before .before .before .before .if-at .ensures) (sym (c .before .before .before .before .before .before .before .before .before .before .before .before .before .before .before .before .before .before .before .kind-at2 .ensures .0) ∙ c .before .before .before .before .before .before .before .before .before .before .before .before .before .before .before .before .before .before .if2 .taken) (c .before .before .before .before .before .before .before .before .before .enum-told .given .1) (c .before .before .before .before .before .before .block .result) (c .before .before .before .before .before .turned .result) _ _ (c .before .before .before .before .before .before .block .ensures) (c .before .before .before .before .before .turned .ensures) (c .before .before .before .enum-told2 .given .1), c .before .before .before .before .before .before .before .before .before .before .before .if-at .ensures .second))
 
 block-joined-requires : (t : ℕ) → block-lts.Need-joined-requires (
   kind-at-reads.Asked,
@@ -304,7 +305,7 @@ block-joined-requires : (t : ℕ) → block-lts.Need-joined-requires (
   statement-reads.Learnt,
 ) (block-at t) block.Post block-Inv-loop block-μ-loop
 block-joined-requires t c κs =
-    ((c .before .before .before .before .before .before .before .before .before .before .before .before .before .before .before .pre .1 .0), turn-wf (c .before .before .before .before .before .before .before .before .before .before .before .before .before .before .before .args .w .now) (c .before .before .before .before .before .before .before .before .before .before .before .before .before .before .before .pre .1 .0) (c .before .before .before .before .before .before .before .before .before .before .before .before .before .before .before .args .depth) (c .before .before .before .before .before .before .before .before .before .before .before .before .before .before .before .args .from) (c .before .before .before .before .before .before .before .before .before .before .before .before .before .before .before .pre .1 .1) (c .before .before .before .before .before .before .before .before .before .before .before .before .before .before .before .args .start) (c .before .before .before .before .before .before .before .before .before .before .before .before .before .loop .at) (c .before .before .before .before .before .before .before .before .before .before .before .before .before .loop .s) (c .before .before .before .before .before .before .before .before .before .before .before .before .before .loop .inv) _ _ _ (is-if _ _ (sym (c .before .before .before .before .before .before .before .before .before .before .kind-at2 .ensures .0) ∙ c .before .before .before .before .before .before .before .before .before .if2 .taken)) (c .before .before .before .before .before .before .before .before .if-at .result) (c .before .before .before .before .before .before .before .before .if-at .ensures) (sym (c .before .before .before .before .before .before .before .before .before .before .kind-at2 .ensures .0) ∙ c .before .before .before .before .before .before .before .before .before .if2 .taken) (c .before .before .before .before .before .before .enum-told .given .1) (c .before .before .before .before .before .block .result) (c .before .before .before .before .turned .result) (c .before .before .before .before .before .block .ensures) (c .before .before .before .before .turned .ensures), record { wf = c .block2 .ensures .wf; within = c .block2 .ensures .within; closes = c .block2 .ensures .closes })
+    (c .before .before .before .before .before .before .before .before .before .before .before .before .before .before .before .before .before .before .before .before .before .before .before .before .before .before .before .before .before .pre .1 .0, record { within = c .before .before .before .before .block2 .ensures .within; closes = c .before .before .before .before .block2 .ensures .closes }, c .before .before .before .before .before .before .before .before .before .before .before .block .ensures .wf, c .before .before .before .before .block2 .ensures .wf)
 
 block-enum-told-3 : (t : ℕ) → block-lts.Need-enum-told-3 (
   kind-at-reads.Asked,
@@ -320,7 +321,8 @@ block-enum-told-3 : (t : ℕ) → block-lts.Need-enum-told-3 (
   statement-reads.Asked,
   statement-reads.Learnt,
 ) (block-at t) block.Post block-Inv-loop block-μ-loop
-block-enum-told-3 t c = search needs
+block-enum-told-3 t c =
+    search needs
 
 block-returns-3 : (t : ℕ) → block-lts.Need-returns-3 (
   kind-at-reads.Asked,
@@ -337,7 +339,7 @@ block-returns-3 : (t : ℕ) → block-lts.Need-returns-3 (
   statement-reads.Learnt,
 ) (block-at t) block.Post block-Inv-loop block-μ-loop
 block-returns-3 t c =
-    join-stops (c .before .before .before .before .before .before .before .before .before .before .before .before .before .before .before .before .before .args .w .now) (c .before .before .before .before .before .before .before .before .before .before .before .before .before .before .before .before .before .pre .1 .0) (c .before .before .before .before .before .before .before .before .before .before .before .before .before .before .before .before .before .args .depth) (c .before .before .before .before .before .before .before .before .before .before .before .before .before .before .before .before .before .args .from) (c .before .before .before .before .before .before .before .before .before .before .before .before .before .before .before .before .before .pre .1 .1) (c .before .before .before .before .before .before .before .before .before .before .before .before .before .before .before .before .before .args .start) (c .before .before .before .before .before .before .before .before .before .before .before .before .before .before .before .loop .at) (c .before .before .before .before .before .before .before .before .before .before .before .before .before .before .before .loop .s) (c .before .before .before .before .before .before .before .before .before .before .before .before .before .before .before .loop .inv) _ _ _ (is-if _ _ (sym (c .before .before .before .before .before .before .before .before .before .before .before .before .kind-at2 .ensures .0) ∙ c .before .before .before .before .before .before .before .before .before .before .before .if2 .taken)) (c .before .before .before .before .before .before .before .before .before .before .if-at .result) (c .before .before .before .before .before .before .before .before .before .before .if-at .ensures) (sym (c .before .before .before .before .before .before .before .before .before .before .before .before .kind-at2 .ensures .0) ∙ c .before .before .before .before .before .before .before .before .before .before .before .if2 .taken) (c .before .before .before .before .before .before .before .before .enum-told .given .1) (c .before .before .before .before .before .before .before .block .result) (c .before .before .before .before .before .before .turned .result) (c .before .before .before .before .before .before .before .block .ensures) (c .before .before .before .before .before .before .turned .ensures) (c .before .before .before .before .enum-told2 .given .1) (c .before .before .block2 .result) (c .before .joined .result) (c .before .before .block2 .ensures) (c .before .joined .ensures) (c .match3 .keys2)
+    join-stops (c .before .before .before .before .before .before .before .before .before .before .before .before .before .before .before .before .before .before .before .before .before .before .before .before .before .before .before .before .before .before .before .args .w .now) (c .before .before .before .before .before .before .before .before .before .before .before .before .before .before .before .before .before .before .before .before .before .before .before .before .before .before .before .before .before .before .before .pre .1 .0) (c .before .before .before .before .before .before .before .before .before .before .before .before .before .before .before .before .before .before .before .before .before .before .before .before .before .before .before .before .before .before .before .args .depth) (c .before .before .before .before .before .before .before .before .before .before .before .before .before .before .before .before .before .before .before .before .before .before .before .before .before .before .before .before .before .before .before .args .from) (c .before .before .before .before .before .before .before .before .before .before .before .before .before .before .before .before .before .before .before .before .before .before .before .before .before .before .before .before .before .before .before .pre .1 .1) (stateOf (c .before .before .before .before .before .before .before .before .before .before .before .before .before .before .before .before .before .before .before .before .before .before .before .before .before .before .before .before .before .before .before .args .key .now) (c .before .before .before .before .before .before .before .before .before .before .before .before .before .before .before .before .before .before .before .before .before .before .before .before .before .before .before .before .before .before .before .args .b .now)) (c .before .before .before .before .before .before .before .before .before .before .before .before .before .before .before .before .before .before .before .before .before .before .before .before .before .before .before .before .before .loop .at) (c .before .before .before .before .before .before .before .before .before .before .before .before .before .before .before .before .before .before .before .before .before .before .before .before .before .before .before .before .before .loop .key) (c .before .before .before .before .before .before .before .before .before .before .before .before .before .before .before .before .before .before .before .before .before .before .before .before .before .before .before .before .before .loop .b) (c .before .before .before .before .before .before .before .before .before .before .before .before .before .before .before .before .before .before .before .before .before .before .before .before .before .before .before .before .before .loop .inv) _ _ _ (is-if _ _ (sym (c .before .before .before .before .before .before .before .before .before .before .before .before .before .before .before .before .before .before .before .before .before .before .before .before .before .before .kind-at2 .ensures .0) ∙ c .before .before .before .before .before .before .before .before .before .before .before .before .before .before .before .before .before .before .before .before .before .before .before .before .before .if2 .taken)) (c .before .before .before .before .before .before .before .before .before .before .before .before .before .before .before .before .before .before .if-at .result) _ _ _ _ (c .before .before .before .before .before .before .before .before .before .before .before .before .before .before .before .before .before .before .if-at .ensures) (sym (c .before .before .before .before .before .before .before .before .before .before .before .before .before .before .before .before .before .before .before .before .before .before .before .before .before .before .kind-at2 .ensures .0) ∙ c .before .before .before .before .before .before .before .before .before .before .before .before .before .before .before .before .before .before .before .before .before .before .before .before .before .if2 .taken) (c .before .before .before .before .before .before .before .before .before .before .before .before .before .before .before .before .enum-told .given .1) (c .before .before .before .before .before .before .before .before .before .before .before .before .before .block .result) (c .before .before .before .before .before .before .before .before .before .before .before .before .turned .result) _ _ (c .before .before .before .before .before .before .before .before .before .before .before .before .before .block .ensures) (c .before .before .before .before .before .before .before .before .before .before .before .before .turned .ensures) (c .before .before .before .before .before .before .before .before .before .before .enum-told2 .given .1) (c .before .before .before .before .before .before .block2 .result) (c .before .joined .result) _ _ _ _ (c .before .before .before .before .before .before .block2 .ensures) (c .before .joined .ensures) (c .match3 .keys2)
 
 block-add-at : (t : ℕ) → block-lts.Need-add-at (
   kind-at-reads.Asked,
@@ -354,7 +356,7 @@ block-add-at : (t : ℕ) → block-lts.Need-add-at (
   statement-reads.Learnt,
 ) (block-at t) block.Post block-Inv-loop block-μ-loop
 block-add-at t c =
-    omega (arith, c .before .before .before .joined .ensures .place, c .before .before .before .before .block2 .ensures .within, (c .before .before .before .before .before .before .before .before .before .before .before .before .before .before .before .before .before .before .before .pre .1 .0) .rows)
+    omega (arith, c .before .before .before .joined .ensures .place, c .before .before .before .before .before .before .before .before .block2 .ensures .within, c .before .before .before .before .before .before .before .before .before .before .before .before .before .before .before .before .before .before .before .before .before .before .before .before .before .before .before .before .before .before .before .before .before .pre .1 .0 .rows)
 
 block-loop-less : (t : ℕ) → block-lts.Need-loop-less (
   kind-at-reads.Asked,
@@ -371,7 +373,7 @@ block-loop-less : (t : ℕ) → block-lts.Need-loop-less (
   statement-reads.Learnt,
 ) (block-at t) block.Post block-Inv-loop block-μ-loop
 block-loop-less t c =
-    let h = far-on (c .before .before .before .before .before .before .before .before .before .before .before .before .before .before .before .before .before .before .before .before .args .w .now) (c .before .before .before .before .before .before .before .before .before .before .before .before .before .before .before .before .before .before .before .before .pre .1 .0) (c .before .before .before .before .before .before .before .before .before .before .before .before .before .before .before .before .before .before .before .before .args .depth) (c .before .before .before .before .before .before .before .before .before .before .before .before .before .before .before .before .before .before .before .before .args .from) (c .before .before .before .before .before .before .before .before .before .before .before .before .before .before .before .before .before .before .before .before .pre .1 .1) (c .before .before .before .before .before .before .before .before .before .before .before .before .before .before .before .before .before .before .before .before .args .start) (c .before .before .before .before .before .before .before .before .before .before .before .before .before .before .before .before .before .before .loop .at) (c .before .before .before .before .before .before .before .before .before .before .before .before .before .before .before .before .before .before .loop .s) (c .before .before .before .before .before .before .before .before .before .before .before .before .before .before .before .before .before .before .loop .inv) _ _ _ (is-if _ _ (sym (c .before .before .before .before .before .before .before .before .before .before .before .before .before .before .before .kind-at2 .ensures .0) ∙ c .before .before .before .before .before .before .before .before .before .before .before .before .before .before .if2 .taken)) (c .before .before .before .before .before .before .before .before .before .before .before .before .before .if-at .result) (c .before .before .before .before .before .before .before .before .before .before .before .before .before .if-at .ensures) (sym (c .before .before .before .before .before .before .before .before .before .before .before .before .before .before .before .kind-at2 .ensures .0) ∙ c .before .before .before .before .before .before .before .before .before .before .before .before .before .before .if2 .taken) (c .before .before .before .before .before .before .before .before .before .before .before .enum-told .given .1) (c .before .before .before .before .before .before .before .before .before .before .block .result) (c .before .before .before .before .before .before .before .before .before .turned .result) (c .before .before .before .before .before .before .before .before .before .before .block .ensures) (c .before .before .before .before .before .before .before .before .before .turned .ensures) (c .before .before .before .before .before .before .before .enum-told2 .given .1) (c .before .before .before .before .before .block2 .result) (c .before .before .before .before .joined .result) (c .before .before .before .before .before .block2 .ensures) (c .before .before .before .before .joined .ensures) in omega (arith, (c .before .before .before .before .before .before .before .before .before .before .before .before .before .before .before .before .before .before .loop .inv) .within)
+    let h = far-on (c .before .before .before .before .before .before .before .before .before .before .before .before .before .before .before .before .before .before .before .before .before .before .before .before .before .before .before .before .before .before .before .before .before .args .w .now) (c .before .before .before .before .before .before .before .before .before .before .before .before .before .before .before .before .before .before .before .before .before .before .before .before .before .before .before .before .before .before .before .before .before .pre .1 .0) (c .before .before .before .before .before .before .before .before .before .before .before .before .before .before .before .before .before .before .before .before .before .before .before .before .before .before .before .before .before .before .before .before .before .args .depth) (c .before .before .before .before .before .before .before .before .before .before .before .before .before .before .before .before .before .before .before .before .before .before .before .before .before .before .before .before .before .before .before .before .before .args .from) (c .before .before .before .before .before .before .before .before .before .before .before .before .before .before .before .before .before .before .before .before .before .before .before .before .before .before .before .before .before .before .before .before .before .pre .1 .1) (stateOf (c .before .before .before .before .before .before .before .before .before .before .before .before .before .before .before .before .before .before .before .before .before .before .before .before .before .before .before .before .before .before .before .before .before .args .key .now) (c .before .before .before .before .before .before .before .before .before .before .before .before .before .before .before .before .before .before .before .before .before .before .before .before .before .before .before .before .before .before .before .before .before .args .b .now)) (c .before .before .before .before .before .before .before .before .before .before .before .before .before .before .before .before .before .before .before .before .before .before .before .before .before .before .before .before .before .before .before .loop .at) (c .before .before .before .before .before .before .before .before .before .before .before .before .before .before .before .before .before .before .before .before .before .before .before .before .before .before .before .before .before .before .before .loop .key) (c .before .before .before .before .before .before .before .before .before .before .before .before .before .before .before .before .before .before .before .before .before .before .before .before .before .before .before .before .before .before .before .loop .b) (c .before .before .before .before .before .before .before .before .before .before .before .before .before .before .before .before .before .before .before .before .before .before .before .before .before .before .before .before .before .before .before .loop .inv) _ _ _ (is-if _ _ (sym (c .before .before .before .before .before .before .before .before .before .before .before .before .before .before .before .before .before .before .before .before .before .before .before .before .before .before .before .before .kind-at2 .ensures .0) ∙ c .before .before .before .before .before .before .before .before .before .before .before .before .before .before .before .before .before .before .before .before .before .before .before .before .before .before .before .if2 .taken)) (c .before .before .before .before .before .before .before .before .before .before .before .before .before .before .before .before .before .before .before .before .if-at .result) _ _ _ _ (c .before .before .before .before .before .before .before .before .before .before .before .before .before .before .before .before .before .before .before .before .if-at .ensures) (sym (c .before .before .before .before .before .before .before .before .before .before .before .before .before .before .before .before .before .before .before .before .before .before .before .before .before .before .before .before .kind-at2 .ensures .0) ∙ c .before .before .before .before .before .before .before .before .before .before .before .before .before .before .before .before .before .before .before .before .before .before .before .before .before .before .before .if2 .taken) (c .before .before .before .before .before .before .before .before .before .before .before .before .before .before .before .before .before .before .enum-told .given .1) (c .before .before .before .before .before .before .before .before .before .before .before .before .before .before .before .block .result) (c .before .before .before .before .before .before .before .before .before .before .before .before .before .before .turned .result) _ _ (c .before .before .before .before .before .before .before .before .before .before .before .before .before .before .before .block .ensures) (c .before .before .before .before .before .before .before .before .before .before .before .before .before .before .turned .ensures) (c .before .before .before .before .before .before .before .before .before .before .before .before .enum-told2 .given .1) (c .before .before .before .before .before .before .before .before .block2 .result) (c .before .before .before .joined .result) _ _ _ _ (c .before .before .before .before .before .before .before .before .block2 .ensures) (c .before .before .before .joined .ensures) in omega (arith, c .before .before .before .before .before .before .before .before .before .before .before .before .before .before .before .before .before .before .before .before .before .before .before .before .before .before .before .before .before .before .before .loop .inv .within)
 
 block-loop-again : (t : ℕ) → block-lts.Need-loop-again (
   kind-at-reads.Asked,
@@ -388,7 +390,7 @@ block-loop-again : (t : ℕ) → block-lts.Need-loop-again (
   statement-reads.Learnt,
 ) (block-at t) block.Post block-Inv-loop block-μ-loop
 block-loop-again t c =
-    join-on (c .before .before .before .before .before .before .before .before .before .before .before .before .before .before .before .before .before .before .before .before .args .w .now) (c .before .before .before .before .before .before .before .before .before .before .before .before .before .before .before .before .before .before .before .before .pre .1 .0) (c .before .before .before .before .before .before .before .before .before .before .before .before .before .before .before .before .before .before .before .before .args .depth) (c .before .before .before .before .before .before .before .before .before .before .before .before .before .before .before .before .before .before .before .before .args .from) (c .before .before .before .before .before .before .before .before .before .before .before .before .before .before .before .before .before .before .before .before .pre .1 .1) (c .before .before .before .before .before .before .before .before .before .before .before .before .before .before .before .before .before .before .before .before .args .start) (c .before .before .before .before .before .before .before .before .before .before .before .before .before .before .before .before .before .before .loop .at) (c .before .before .before .before .before .before .before .before .before .before .before .before .before .before .before .before .before .before .loop .s) (c .before .before .before .before .before .before .before .before .before .before .before .before .before .before .before .before .before .before .loop .inv) _ _ _ (is-if _ _ (sym (c .before .before .before .before .before .before .before .before .before .before .before .before .before .before .before .kind-at2 .ensures .0) ∙ c .before .before .before .before .before .before .before .before .before .before .before .before .before .before .if2 .taken)) (c .before .before .before .before .before .before .before .before .before .before .before .before .before .if-at .result) (c .before .before .before .before .before .before .before .before .before .before .before .before .before .if-at .ensures) (sym (c .before .before .before .before .before .before .before .before .before .before .before .before .before .before .before .kind-at2 .ensures .0) ∙ c .before .before .before .before .before .before .before .before .before .before .before .before .before .before .if2 .taken) (c .before .before .before .before .before .before .before .before .before .before .before .enum-told .given .1) (c .before .before .before .before .before .before .before .before .before .before .block .result) (c .before .before .before .before .before .before .before .before .before .turned .result) (c .before .before .before .before .before .before .before .before .before .before .block .ensures) (c .before .before .before .before .before .before .before .before .before .turned .ensures) (c .before .before .before .before .before .before .before .enum-told2 .given .1) (c .before .before .before .before .before .block2 .result) (c .before .before .before .before .joined .result) (c .before .before .before .before .before .block2 .ensures) (c .before .before .before .before .joined .ensures) (c .before .before .enum-told3 .given .1)
+    join-on (c .before .before .before .before .before .before .before .before .before .before .before .before .before .before .before .before .before .before .before .before .before .before .before .before .before .before .before .before .before .before .before .before .before .args .w .now) (c .before .before .before .before .before .before .before .before .before .before .before .before .before .before .before .before .before .before .before .before .before .before .before .before .before .before .before .before .before .before .before .before .before .pre .1 .0) (c .before .before .before .before .before .before .before .before .before .before .before .before .before .before .before .before .before .before .before .before .before .before .before .before .before .before .before .before .before .before .before .before .before .args .depth) (c .before .before .before .before .before .before .before .before .before .before .before .before .before .before .before .before .before .before .before .before .before .before .before .before .before .before .before .before .before .before .before .before .before .args .from) (c .before .before .before .before .before .before .before .before .before .before .before .before .before .before .before .before .before .before .before .before .before .before .before .before .before .before .before .before .before .before .before .before .before .pre .1 .1) (stateOf (c .before .before .before .before .before .before .before .before .before .before .before .before .before .before .before .before .before .before .before .before .before .before .before .before .before .before .before .before .before .before .before .before .before .args .key .now) (c .before .before .before .before .before .before .before .before .before .before .before .before .before .before .before .before .before .before .before .before .before .before .before .before .before .before .before .before .before .before .before .before .before .args .b .now)) (c .before .before .before .before .before .before .before .before .before .before .before .before .before .before .before .before .before .before .before .before .before .before .before .before .before .before .before .before .before .before .before .loop .at) (c .before .before .before .before .before .before .before .before .before .before .before .before .before .before .before .before .before .before .before .before .before .before .before .before .before .before .before .before .before .before .before .loop .key) (c .before .before .before .before .before .before .before .before .before .before .before .before .before .before .before .before .before .before .before .before .before .before .before .before .before .before .before .before .before .before .before .loop .b) (c .before .before .before .before .before .before .before .before .before .before .before .before .before .before .before .before .before .before .before .before .before .before .before .before .before .before .before .before .before .before .before .loop .inv) _ _ _ (is-if _ _ (sym (c .before .before .before .before .before .before .before .before .before .before .before .before .before .before .before .before .before .before .before .before .before .before .before .before .before .before .before .before .kind-at2 .ensures .0) ∙ c .before .before .before .before .before .before .before .before .before .before .before .before .before .before .before .before .before .before .before .before .before .before .before .before .before .before .before .if2 .taken)) (c .before .before .before .before .before .before .before .before .before .before .before .before .before .before .before .before .before .before .before .before .if-at .result) _ _ _ _ (c .before .before .before .before .before .before .before .before .before .before .before .before .before .before .before .before .before .before .before .before .if-at .ensures) (sym (c .before .before .before .before .before .before .before .before .before .before .before .before .before .before .before .before .before .before .before .before .before .before .before .before .before .before .before .before .kind-at2 .ensures .0) ∙ c .before .before .before .before .before .before .before .before .before .before .before .before .before .before .before .before .before .before .before .before .before .before .before .before .before .before .before .if2 .taken) (c .before .before .before .before .before .before .before .before .before .before .before .before .before .before .before .before .before .before .enum-told .given .1) (c .before .before .before .before .before .before .before .before .before .before .before .before .before .before .before .block .result) (c .before .before .before .before .before .before .before .before .before .before .before .before .before .before .turned .result) _ _ (c .before .before .before .before .before .before .before .before .before .before .before .before .before .before .before .block .ensures) (c .before .before .before .before .before .before .before .before .before .before .before .before .before .before .turned .ensures) (c .before .before .before .before .before .before .before .before .before .before .before .before .enum-told2 .given .1) (c .before .before .before .before .before .before .before .before .block2 .result) (c .before .before .before .joined .result) _ _ _ _ (c .before .before .before .before .before .before .before .before .block2 .ensures) (c .before .before .before .joined .ensures) (c .before .enum-told3 .given .1)
 
 block-statement-requires : (t : ℕ) → block-lts.Need-statement-requires (
   kind-at-reads.Asked,
@@ -405,7 +407,7 @@ block-statement-requires : (t : ℕ) → block-lts.Need-statement-requires (
   statement-reads.Learnt,
 ) (block-at t) block.Post block-Inv-loop block-μ-loop
 block-statement-requires t c κs =
-    ((c .before .before .before .before .before .before .pre .1 .0), (c .before .before .before .before .loop .inv) .within, below-15 _ (rw (c .before .before .before .kind-at .ensures .0) at (c .before .before .if1 .taken)) (λ e. c .if2 .left (c .before .kind-at2 .ensures .0 ∙ e)), (c .before .before .before .before .loop .inv) .wf)
+    (c .before .before .before .before .before .before .before .before .pre .1 .0, c .before .before .before .before .before .before .loop .inv .within, below-15 _ (rw (c .before .before .before .before .before .kind-at .ensures .0) at (c .before .before .before .before .if1 .taken)) (λ e. c .before .before .if2 .left (c .before .before .before .kind-at2 .ensures .0 ∙ e)), c .before .before .before .before .before .before .loop .inv .wf)
 
 block-enum-told-4 : (t : ℕ) → block-lts.Need-enum-told-4 (
   kind-at-reads.Asked,
@@ -421,7 +423,8 @@ block-enum-told-4 : (t : ℕ) → block-lts.Need-enum-told-4 (
   statement-reads.Asked,
   statement-reads.Learnt,
 ) (block-at t) block.Post block-Inv-loop block-μ-loop
-block-enum-told-4 t c = search needs
+block-enum-told-4 t c =
+    search needs
 
 block-returns-4 : (t : ℕ) → block-lts.Need-returns-4 (
   kind-at-reads.Asked,
@@ -438,7 +441,7 @@ block-returns-4 : (t : ℕ) → block-lts.Need-returns-4 (
   statement-reads.Learnt,
 ) (block-at t) block.Post block-Inv-loop block-μ-loop
 block-returns-4 t c =
-    step-stops (c .before .before .before .before .before .before .before .before .before .args .w .now) (c .before .before .before .before .before .before .before .before .before .pre .1 .0) (c .before .before .before .before .before .before .before .before .before .args .depth) (c .before .before .before .before .before .before .before .before .before .args .from) (c .before .before .before .before .before .before .before .before .before .pre .1 .1) (c .before .before .before .before .before .before .before .before .before .args .start) (c .before .before .before .before .before .before .before .loop .at) (c .before .before .before .before .before .before .before .loop .s) (c .before .before .before .before .before .before .before .loop .inv) _ (c .before .before .statement .ensures) (c .match4 .keys2)
+    step-stops (c .before .before .before .before .before .before .before .before .before .before .args .w .now) (c .before .before .before .before .before .before .before .before .before .before .pre .1 .0) (c .before .before .before .before .before .before .before .before .before .before .args .depth) (c .before .before .before .before .before .before .before .before .before .before .args .from) (c .before .before .before .before .before .before .before .before .before .before .pre .1 .1) (stateOf (c .before .before .before .before .before .before .before .before .before .before .args .key .now) (c .before .before .before .before .before .before .before .before .before .before .args .b .now)) (c .before .before .before .before .before .before .before .before .loop .at) (c .before .before .before .before .before .before .before .before .loop .key) (c .before .before .before .before .before .before .before .before .loop .b) (c .before .before .before .before .before .before .before .before .loop .inv) (c .before .statement .result) _ _ (c .before .statement .ensures) (c .match4 .keys2)
 
 block-add-at-2 : (t : ℕ) → block-lts.Need-add-at-2 (
   kind-at-reads.Asked,
@@ -455,7 +458,7 @@ block-add-at-2 : (t : ℕ) → block-lts.Need-add-at-2 (
   statement-reads.Learnt,
 ) (block-at t) block.Post block-Inv-loop block-μ-loop
 block-add-at-2 t c =
-    omega (arith, (c .before .before .before .before .before .before .before .before .loop .inv) .within, (c .before .before .before .before .before .before .before .before .before .before .pre .1 .0) .rows)
+    omega (arith, (c .before .before .before .before .before .before .before .before .before .loop .inv) .within, (c .before .before .before .before .before .before .before .before .before .before .before .pre .1 .0) .rows)
 
 block-loop-less-2 : (t : ℕ) → block-lts.Need-loop-less-2 (
   kind-at-reads.Asked,
@@ -472,7 +475,7 @@ block-loop-less-2 : (t : ℕ) → block-lts.Need-loop-less-2 (
   statement-reads.Learnt,
 ) (block-at t) block.Post block-Inv-loop block-μ-loop
 block-loop-less-2 t c =
-    omega (arith, (c .before .before .before .before .before .before .before .before .loop .inv) .within)
+    omega (arith, (c .before .before .before .before .before .before .before .before .before .loop .inv) .within)
 
 block-loop-again-2 : (t : ℕ) → block-lts.Need-loop-again-2 (
   kind-at-reads.Asked,
@@ -489,7 +492,7 @@ block-loop-again-2 : (t : ℕ) → block-lts.Need-loop-again-2 (
   statement-reads.Learnt,
 ) (block-at t) block.Post block-Inv-loop block-μ-loop
 block-loop-again-2 t c =
-    step-on (c .before .before .before .before .before .before .before .before .before .before .args .w .now) (c .before .before .before .before .before .before .before .before .before .before .pre .1 .0) (c .before .before .before .before .before .before .before .before .before .before .args .depth) (c .before .before .before .before .before .before .before .before .before .before .args .from) (c .before .before .before .before .before .before .before .before .before .before .pre .1 .1) (c .before .before .before .before .before .before .before .before .before .before .args .start) (c .before .before .before .before .before .before .before .before .loop .at) (c .before .before .before .before .before .before .before .before .loop .s) (c .before .before .before .before .before .before .before .before .loop .inv) _ (c .before .before .before .statement .ensures) (below-15 _ (rw (c .before .before .before .before .before .before .before .kind-at .ensures .0) at (c .before .before .before .before .before .before .if1 .taken)) (λ e. c .before .before .before .before .if2 .left (c .before .before .before .before .before .kind-at2 .ensures .0 ∙ e))) (c .enum-told4 .given .1)
+    step-on (c .before .before .before .before .before .before .before .before .before .before .before .args .w .now) (c .before .before .before .before .before .before .before .before .before .before .before .pre .1 .0) (c .before .before .before .before .before .before .before .before .before .before .before .args .depth) (c .before .before .before .before .before .before .before .before .before .before .before .args .from) (c .before .before .before .before .before .before .before .before .before .before .before .pre .1 .1) (stateOf (c .before .before .before .before .before .before .before .before .before .before .before .args .key .now) (c .before .before .before .before .before .before .before .before .before .before .before .args .b .now)) (c .before .before .before .before .before .before .before .before .before .loop .at) (c .before .before .before .before .before .before .before .before .before .loop .key) (c .before .before .before .before .before .before .before .before .before .loop .b) (c .before .before .before .before .before .before .before .before .before .loop .inv) (c .before .before .statement .result) _ _ (c .before .before .statement .ensures) (below-15 _ (rw (c .before .before .before .before .before .before .before .before .kind-at .ensures .0) at (c .before .before .before .before .before .before .before .if1 .taken)) (λ e. c .before .before .before .before .before .if2 .left (c .before .before .before .before .before .before .kind-at2 .ensures .0 ∙ e))) (c .enum-told4 .given .1)
 
 block-returns-5 : (t : ℕ) → block-lts.Need-returns-5 (
   kind-at-reads.Asked,
@@ -506,7 +509,7 @@ block-returns-5 : (t : ℕ) → block-lts.Need-returns-5 (
   statement-reads.Learnt,
 ) (block-at t) block.Post block-Inv-loop block-μ-loop
 block-returns-5 t c =
-    ends (c .before .before .before .before .args .w .now) (c .before .before .before .before .pre .1 .0) (c .before .before .before .before .args .depth) (c .before .before .before .before .args .from) (c .before .before .before .before .pre .1 .1) (c .before .before .before .before .args .start) (c .before .before .loop .at) (c .before .before .loop .s) (c .before .before .loop .inv) (rw (c .before .kind-at .ensures .0) at (c .if1 .left))
+    ends (c .before .before .before .before .args .w .now) (c .before .before .before .before .pre .1 .0) (c .before .before .before .before .args .depth) (c .before .before .before .before .args .from) (c .before .before .before .before .pre .1 .1) (stateOf (c .before .before .before .before .args .key .now) (c .before .before .before .before .args .b .now)) (c .before .before .loop .at) (c .before .before .loop .key) (c .before .before .loop .b) (c .before .before .loop .inv) (rw (c .before .kind-at .ensures .0) at (c .if1 .left))
 
 pub +block-spec : {M : Type 1} → statement M
 +block-spec = close μ-block λ t. block-lts.spec (

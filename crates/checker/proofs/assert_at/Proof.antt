@@ -1,3 +1,4 @@
+use Rattle.statements.proofs.Ruled.{asserted}
 use Rattle.knowledge.specs.Answers.{Adds}
 use Rattle.rules.specs.Answers.{Refusal}
 use Rattle.rules.specs.Base.{Try}
@@ -5,13 +6,8 @@ use Rattle.statements.specs.Statements.{assertRule}
 use Rattle.tables.specs.Decode.{formulaAt}
 use mathlib.Core.Path.{subst}
 use native.Mathlib.Omega.{arith}
-use Rattle.knowledge.specs.declared.Answer.{Answer}
-use Rattle.rules.specs.Syntax as Syntax
 use Rattle.rules.specs.State as Rules
-use Rattle.rules.specs.Rules.{rule, setRule, assignRule, newRule, callRule}
-use Rattle.links.specs.Links as Links
-use Rattle.links.specs.Keys.{meaning}
-use borrow.Author.Needs.{needs}
+use Rattle.rules.specs.Rules.{rule}
 use Rattle.checker.proofs.assert_at.Statement.{statement}
 use Rattle.checker.proofs.assert_at.Tie as tie
 use Rattle.checker.proofs.assert_at.Reads as reads
@@ -25,16 +21,16 @@ first-atom-at-requires c κs = (c .before .pre .0 .size, omega (arith, c .before
 
 atom-count-at-requires : tie.Need-atom-count-at-requires
 atom-count-at-requires c κs =
-    (c .before .before .pre .0 .size, omega (arith, c .before .before .pre .0 .rows, c .before .before .pre .1))
+    (c .before .before .before .before .pre .0 .size, omega (arith, c .before .before .before .before .pre .0 .rows, c .before .before .before .before .pre .1))
 
 assert-rule-requires : tie.Need-assert-rule-requires
 assert-rule-requires c κs =
-    (c .before .before .before .pre .0 .size, omega (arith, c .before .before .before .pre .0 .row-fits (c .before .before .before .args .i) (c .before .before .before .pre .1) .atoms .1, c .before .before .before .pre .0 .atoms, c .before .first-atom-at .ensures .0, c .atom-count-at .ensures .0), c .before .before .before .pre .2)
+    (c .before .before .before .before .before .pre .0 .size, omega (arith, c .before .before .before .before .before .pre .0 .row-fits (c .before .before .before .before .before .args .i) (c .before .before .before .before .before .pre .1) .atoms .1, c .before .before .before .before .before .pre .0 .atoms, c .before .before .before .first-atom-at .ensures .0, c .atom-count-at .ensures .0), c .before .before .before .before .before .pre .2)
 
 returns : tie.Need-returns
 unfolding rule formulaAt assertRule
 returns c =
-    subst (λ (t : Try Refusal Rules.State). Adds t (c .assert-rule .result)) (rw (c .before .before .first-atom-at .ensures .0, c .before .atom-count-at .ensures .0)) (c .assert-rule .ensures)
+    subst (λ (t : Try Refusal Rules.State). Adds t (c .assert-rule .result) (c .before .before .before .before .before .before .args .key .now) (c .before .before .before .before .before .before .args .b .now)) (rw (c .before .before .before .before .first-atom-at .ensures .0, c .before .atom-count-at .ensures .0)) (asserted _ _ _ _ (c .before .before .before .before .before .before .pre .2) (c .assert-rule .ensures))
 
 pub assert-at-spec : {M : Type 1} → statement M
 assert-at-spec =

@@ -4,13 +4,7 @@ use Rattle.rules.specs.Answers.{Refusal}
 use Rattle.rules.specs.Base.{Try}
 use mathlib.Core.Path.{subst}
 use native.Mathlib.Omega.{arith}
-use Rattle.knowledge.specs.declared.Answer.{Answer}
-use Rattle.rules.specs.Syntax as Syntax
 use Rattle.rules.specs.State as Rules
-use Rattle.rules.specs.Rules.{rule, setRule, assignRule, newRule, callRule}
-use Rattle.links.specs.Links as Links
-use Rattle.links.specs.Keys.{meaning}
-use borrow.Author.Needs.{needs}
 use Rattle.checker.proofs.call_at.Statement.{statement}
 use Rattle.checker.proofs.call_at.Tie as tie
 use Rattle.checker.proofs.call_at.Reads as reads
@@ -43,15 +37,15 @@ cast-z c = record { fits = c .z-at .ensures .1 }
 
 member-at-requires : tie.Need-member-at-requires
 member-at-requires c κs =
-    (c .before .before .before .before .pre .0 .size, omega (arith, c .before .before .before .before .pre .0 .rows, c .before .before .before .before .pre .1))
+    (c .before .before .before .before .before .before .pre .0 .size, omega (arith, c .before .before .before .before .before .before .pre .0 .rows, c .before .before .before .before .before .before .pre .1))
 
 call-rule-requires : tie.Need-call-rule-requires
 call-rule-requires c κs =
-    (c .before .before .before .before .before .pre .0, omega (arith, c .before .before .before .before .before .pre .0 .row-fits (c .before .before .before .before .before .args .i) (c .before .before .before .before .before .pre .1) .method (c .before .before .before .before .before .pre .2), c .member-at .ensures .0), c .before .before .before .before .before .pre .3)
+    (c .before .before .before .before .before .before .before .pre .0, omega (arith, c .before .before .before .before .before .before .before .pre .0 .row-fits (c .before .before .before .before .before .before .before .args .i) (c .before .before .before .before .before .before .before .pre .1) .method (c .before .before .before .before .before .before .before .pre .2), c .member-at .ensures .0), c .before .before .before .before .before .before .before .pre .3)
 
 returns : tie.Need-returns
 returns c =
-    subst (λ (t : Try Refusal Rules.State). Adds t (c .call-rule .result)) (call-at _ _ _ _ _ _ _ _ _ _ (c .before .before .before .before .x-at .ensures .0) (c .before .before .before .y-at .ensures .0) (c .before .member-at .ensures .0) (c .before .before .z-at .ensures .0) (c .before .before .before .before .before .before .pre .0 .row-fits (c .before .before .before .before .before .before .args .i) (c .before .before .before .before .before .before .pre .1) .method (c .before .before .before .before .before .before .pre .2))) (c .call-rule .ensures)
+    subst (λ (t : Try Refusal Rules.State). Adds t (c .call-rule .result) (c .call-rule .last .1 .0) (c .call-rule .last .1 .1 .0)) (call-at _ _ _ _ _ _ _ _ _ _ (c .before .before .before .before .before .before .x-at .ensures .0) (c .before .before .before .before .before .y-at .ensures .0) (c .before .member-at .ensures .0) (c .before .before .before .before .z-at .ensures .0) (c .before .before .before .before .before .before .before .before .pre .0 .row-fits (c .before .before .before .before .before .before .before .before .args .i) (c .before .before .before .before .before .before .before .before .pre .1) .method (c .before .before .before .before .before .before .before .before .pre .2))) (c .call-rule .ensures)
 
 pub call-at-spec : {M : Type 1} → statement M
 call-at-spec =

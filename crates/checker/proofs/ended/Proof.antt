@@ -1,9 +1,6 @@
 use Rattle.checker.proofs.Blocks.{done-outcome, refused-verdict}
 use Rattle.checker.specs.Checked.{verdictOf}
 use mathlib.Core.Path.{sym}
-use Rattle.knowledge.specs.declared.Answer.{Answer}
-use Rattle.rules.specs.State as Rules
-use Rattle.tables.specs.Tables.{Tables}
 use borrow.Author.Needs.{needs}
 use Rattle.checker.proofs.ended.Statement.{statement}
 use Rattle.checker.proofs.ended.Tie as tie

@@ -6,13 +6,7 @@ use Rattle.statements.specs.Statements.{Parts}
 use mathlib.Core.Logic.{inr}
 use mathlib.Core.Path.{subst}
 use native.Mathlib.Omega.{arith}
-use Rattle.knowledge.specs.declared.Answer.{Answer}
-use Rattle.rules.specs.Syntax as Syntax
 use Rattle.rules.specs.State as Rules
-use Rattle.rules.specs.Rules.{rule, setRule, assignRule, newRule, callRule}
-use Rattle.links.specs.Links as Links
-use Rattle.links.specs.Keys.{meaning}
-use borrow.Author.Needs.{needs}
 use Rattle.checker.proofs.if_at.Statement.{statement}
 use Rattle.checker.proofs.if_at.Tie as tie
 use Rattle.checker.proofs.if_at.Reads as reads
@@ -39,11 +33,12 @@ right-requires c κs =
     (c .before .before .before .before .pre .0 .size, omega (arith, c .before .before .before .before .pre .0 .row-fits (c .before .before .before .before .args .i) (c .before .before .before .before .pre .1) .atoms .1, c .before .before .before .before .pre .0 .row-fits (c .before .before .before .before .args .i) (c .before .before .before .before .pre .1) .one-atom (inr (c .before .before .before .before .pre .2)), c .before .before .before .before .pre .0 .atoms, c .before .before .first-atom-at .ensures .0))
 
 if-rule-requires : tie.Need-if-rule-requires
-if-rule-requires c κs = c .before .before .before .before .before .pre .3
+if-rule-requires c κs =
+    (c .before .before .before .before .before .before .before .before .before .pre .3, c .before .before .before .before .before .before .before .before .before .pre .4, c .before .before .before .before .before .before .before .before .before .pre .5)
 
 returns : tie.Need-returns
 returns c =
-    subst (λ (t : Try Refusal (Rules.State × Rules.State)). Parts t (c .if-rule .result)) (rw (c .before .before .before .atom-kind .ensures .0, relation, c .before .before .left .ensures, c .before .right .ensures, plain-term, plain-term, c .before .before .before .before .first-atom-at .ensures .0)) (c .if-rule .ensures)
+    subst (λ (t : Try Refusal (Rules.State × Rules.State)). Parts t (c .if-rule .result) (c .if-rule .last .0) (c .if-rule .last .1 .0) (c .if-rule .last .1 .1 .0) (c .if-rule .last .1 .1 .1 .0)) (rw (c .before .before .before .before .before .before .before .atom-kind .ensures .0, relation, c .before .before .before .before .before .before .left .ensures, c .before .before .before .before .before .right .ensures, plain-term, plain-term, c .before .before .before .before .before .before .before .before .first-atom-at .ensures .0)) (c .if-rule .ensures)
 
 pub if-at-spec : {M : Type 1} → statement M
 if-at-spec =

@@ -4,13 +4,7 @@ use Rattle.rules.specs.Base.{Try}
 use Rattle.tables.specs.Decode.{formulaAt}
 use mathlib.Core.Path.{subst}
 use native.Mathlib.Omega.{arith}
-use Rattle.knowledge.specs.declared.Answer.{Answer}
-use Rattle.rules.specs.Syntax as Syntax
 use Rattle.rules.specs.State as Rules
-use Rattle.rules.specs.Rules.{rule, setRule, assignRule, newRule, callRule}
-use Rattle.links.specs.Links as Links
-use Rattle.links.specs.Keys.{meaning}
-use borrow.Author.Needs.{needs}
 use Rattle.checker.proofs.join_at.Statement.{statement}
 use Rattle.checker.proofs.join_at.Tie as tie
 use Rattle.checker.proofs.join_at.Reads as reads
@@ -28,12 +22,12 @@ atom-count-at-requires c κs =
 
 join-rule-requires : tie.Need-join-rule-requires
 join-rule-requires c κs =
-    (c .before .before .before .pre .0 .size, omega (arith, c .before .before .before .pre .0 .row-fits (c .before .before .before .args .i) (c .before .before .before .pre .1) .atoms .1, c .before .before .before .pre .0 .atoms, c .before .first-atom-at .ensures .0, c .atom-count-at .ensures .0), c .before .before .before .pre .2, c .before .before .before .pre .3)
+    (c .before .before .before .before .before .pre .0 .size, omega (arith, c .before .before .before .before .before .pre .0 .row-fits (c .before .before .before .before .before .args .i) (c .before .before .before .before .before .pre .1) .atoms .1, c .before .before .before .before .before .pre .0 .atoms, c .before .before .before .first-atom-at .ensures .0, c .before .before .atom-count-at .ensures .0), c .before .before .before .before .before .pre .2, c .before .before .before .before .before .pre .3)
 
 returns : tie.Need-returns
 unfolding formulaAt
 returns c =
-    subst (λ (t : Try Refusal Rules.State). Adds t (c .join-rule .result)) (rw (c .before .before .first-atom-at .ensures .0, c .before .atom-count-at .ensures .0)) (c .join-rule .ensures)
+    subst (λ (t : Try Refusal Rules.State). Adds t (c .join-rule .result) (c .join-rule .last .1 .1 .1 .0) (c .join-rule .last .1 .1 .1 .1 .0)) (rw (c .before .before .before .before .first-atom-at .ensures .0, c .before .before .before .atom-count-at .ensures .0)) (c .join-rule .ensures)
 
 pub join-at-spec : {M : Type 1} → statement M
 join-at-spec =

@@ -5,13 +5,8 @@ use Rattle.statements.proofs.Ruled.{plain-term}
 use mathlib.Core.Logic.{inl}
 use mathlib.Core.Path.{subst}
 use native.Mathlib.Omega.{arith}
-use Rattle.knowledge.specs.declared.Answer.{Answer}
-use Rattle.rules.specs.Syntax as Syntax
 use Rattle.rules.specs.State as Rules
-use Rattle.rules.specs.Rules.{rule, setRule, assignRule, newRule, callRule}
-use Rattle.links.specs.Links as Links
-use Rattle.links.specs.Keys.{meaning}
-use borrow.Author.Needs.{needs}
+use Rattle.rules.specs.Rules.{rule}
 use Rattle.checker.proofs.let_at.Statement.{statement}
 use Rattle.checker.proofs.let_at.Tie as tie
 use Rattle.checker.proofs.let_at.Reads as reads
@@ -33,15 +28,15 @@ first-atom-at-requires c κs =
 
 right-requires : tie.Need-right-requires
 right-requires c κs =
-    (c .before .before .before .pre .0 .size, omega (arith, c .before .before .before .pre .0 .row-fits (c .before .before .before .args .i) (c .before .before .before .pre .1) .atoms .1, c .before .before .before .pre .0 .row-fits (c .before .before .before .args .i) (c .before .before .before .pre .1) .one-atom (inl (c .before .before .before .pre .2)), c .before .before .before .pre .0 .atoms, c .first-atom-at .ensures .0))
+    (c .before .before .before .before .before .pre .0 .size, omega (arith, c .before .before .before .before .before .pre .0 .row-fits (c .before .before .before .before .before .args .i) (c .before .before .before .before .before .pre .1) .atoms .1, c .before .before .before .before .before .pre .0 .row-fits (c .before .before .before .before .before .args .i) (c .before .before .before .before .before .pre .1) .one-atom (inl (c .before .before .before .before .before .pre .2)), c .before .before .before .before .before .pre .0 .atoms, c .before .before .first-atom-at .ensures .0))
 
 assign-rule-requires : tie.Need-assign-rule-requires
-assign-rule-requires c κs = c .before .before .before .before .pre .3
+assign-rule-requires c κs = c .before .before .before .before .before .before .pre .3
 
 returns : tie.Need-returns
 unfolding rule
 returns c =
-    subst (λ (t : Try Refusal Rules.State). Adds t (c .assign-rule .result)) (rw (c .before .before .before .x-at .ensures .0, c .before .right .ensures, plain-term, c .before .before .first-atom-at .ensures .0)) (c .assign-rule .ensures)
+    subst (λ (t : Try Refusal Rules.State). Adds t (c .assign-rule .result) (c .assign-rule .last .0) (c .assign-rule .last .1 .0)) (rw (c .before .before .before .before .before .x-at .ensures .0, c .before .right .ensures, plain-term, c .before .before .before .before .first-atom-at .ensures .0)) (c .assign-rule .ensures)
 
 pub let-at-spec : {M : Type 1} → statement M
 let-at-spec =

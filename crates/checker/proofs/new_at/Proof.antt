@@ -4,13 +4,7 @@ use Rattle.rules.specs.Answers.{Refusal}
 use Rattle.rules.specs.Base.{Try}
 use mathlib.Core.Path.{subst}
 use native.Mathlib.Omega.{arith}
-use Rattle.knowledge.specs.declared.Answer.{Answer}
-use Rattle.rules.specs.Syntax as Syntax
 use Rattle.rules.specs.State as Rules
-use Rattle.rules.specs.Rules.{rule, setRule, assignRule, newRule, callRule}
-use Rattle.links.specs.Links as Links
-use Rattle.links.specs.Keys.{meaning}
-use borrow.Author.Needs.{needs}
 use Rattle.checker.proofs.new_at.Statement.{statement}
 use Rattle.checker.proofs.new_at.Tie as tie
 use Rattle.checker.proofs.new_at.Reads as reads
@@ -27,15 +21,15 @@ cast-x c = record { fits = c .x-at .ensures .1 }
 
 member-at-requires : tie.Need-member-at-requires
 member-at-requires c κs =
-    (c .before .before .pre .0 .size, omega (arith, c .before .before .pre .0 .rows, c .before .before .pre .1))
+    (c .before .before .before .before .pre .0 .size, omega (arith, c .before .before .before .before .pre .0 .rows, c .before .before .before .before .pre .1))
 
 new-rule-requires : tie.Need-new-rule-requires
 new-rule-requires c κs =
-    let m = c .before .before .before .pre .0 .row-fits (c .before .before .before .args .i) (c .before .before .before .pre .1) .class (c .before .before .before .pre .2) in (c .before .before .before .pre .0 .size, omega (arith, m, c .member-at .ensures .0, c .before .before .before .pre .0 .classes), rw (c .member-at .ensures .0) (c .before .before .before .pre .0 .class-fits _ m .count), c .before .before .before .pre .3)
+    let m = c .before .before .before .before .before .pre .0 .row-fits (c .before .before .before .before .before .args .i) (c .before .before .before .before .before .pre .1) .class (c .before .before .before .before .before .pre .2) in (c .before .before .before .before .before .pre .0 .size, omega (arith, m, c .member-at .ensures .0, c .before .before .before .before .before .pre .0 .classes), rw (c .member-at .ensures .0) (c .before .before .before .before .before .pre .0 .class-fits _ m .count), c .before .before .before .before .before .pre .3)
 
 returns : tie.Need-returns
 returns c =
-    subst (λ (t : Try Refusal Rules.State). Adds t (c .new-rule .result)) (new-at _ _ _ _ _ _ (c .before .before .x-at .ensures .0) (c .before .member-at .ensures .0) (c .before .before .before .before .pre .0 .row-fits (c .before .before .before .before .args .i) (c .before .before .before .before .pre .1) .class (c .before .before .before .before .pre .2))) (c .new-rule .ensures)
+    subst (λ (t : Try Refusal Rules.State). Adds t (c .new-rule .result) (c .new-rule .last .1 .0) (c .new-rule .last .1 .1 .0)) (new-at _ _ _ _ _ _ (c .before .before .before .before .x-at .ensures .0) (c .before .member-at .ensures .0) (c .before .before .before .before .before .before .pre .0 .row-fits (c .before .before .before .before .before .before .args .i) (c .before .before .before .before .before .before .pre .1) .class (c .before .before .before .before .before .before .pre .2))) (c .new-rule .ensures)
 
 pub new-at-spec : {M : Type 1} → statement M
 new-at-spec =

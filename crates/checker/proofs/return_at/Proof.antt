@@ -3,11 +3,8 @@ use Rattle.rules.specs.Answers.{Refusal}
 use Rattle.rules.specs.Base.{Try}
 use mathlib.Core.Path.{subst}
 use native.Mathlib.Omega.{arith}
-use Rattle.knowledge.specs.declared.Answer.{Answer}
-use Rattle.rules.specs.Syntax as Syntax
 use Rattle.rules.specs.State as Rules
-use Rattle.rules.specs.Rules.{rule, setRule, assignRule, newRule, callRule}
-use Rattle.links.specs.Links as Links
+use Rattle.rules.specs.Rules.{rule}
 use Rattle.links.specs.Keys.{meaning}
 use borrow.Author.Needs.{needs}
 use Rattle.checker.proofs.return_at.Statement.{statement}
@@ -29,7 +26,7 @@ assign-rule-requires c κs = search needs
 returns : tie.Need-returns
 unfolding rule meaning
 returns c =
-    subst (λ (t : Try Refusal Rules.State). Adds t (c .assign-rule .result)) (rw (c .before .x-at .ensures .0)) (c .assign-rule .ensures)
+    subst (λ (t : Try Refusal Rules.State). Adds t (c .assign-rule .result) (c .assign-rule .last .0) (c .assign-rule .last .1 .0)) (rw (c .before .before .before .x-at .ensures .0)) (c .assign-rule .ensures)
 
 pub return-at-spec : {M : Type 1} → statement M
 return-at-spec = tie.close (tie.spec x-at-requires cast-x assign-rule-requires returns)

@@ -3,12 +3,8 @@ use Rattle.rules.specs.Answers.{Refusal}
 use Rattle.rules.specs.Base.{Try}
 use mathlib.Core.Path.{subst}
 use native.Mathlib.Omega.{arith}
-use Rattle.knowledge.specs.declared.Answer.{Answer}
-use Rattle.rules.specs.Syntax as Syntax
 use Rattle.rules.specs.State as Rules
-use Rattle.rules.specs.Rules.{rule, setRule, assignRule, newRule, callRule}
-use Rattle.links.specs.Links as Links
-use Rattle.links.specs.Keys.{meaning}
+use Rattle.rules.specs.Rules.{rule}
 use borrow.Author.Needs.{needs}
 use Rattle.checker.proofs.set_at.Statement.{statement}
 use Rattle.checker.proofs.set_at.Tie as tie
@@ -45,7 +41,7 @@ set-rule-requires c κs = search needs
 returns : tie.Need-returns
 unfolding rule
 returns c =
-    subst (λ (t : Try Refusal Rules.State). Adds t (c .set-rule .result)) (rw (c .before .before .before .x-at .ensures .0, c .before .before .member-at .ensures .0, c .before .y-at .ensures .0)) (c .set-rule .ensures)
+    subst (λ (t : Try Refusal Rules.State). Adds t (c .set-rule .result) (c .set-rule .last .0) (c .set-rule .last .1 .0)) (rw (c .before .before .before .before .before .x-at .ensures .0, c .before .before .before .before .member-at .ensures .0, c .before .before .before .y-at .ensures .0)) (c .set-rule .ensures)
 
 pub set-at-spec : {M : Type 1} → statement M
 set-at-spec =

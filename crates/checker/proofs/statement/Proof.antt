@@ -2,12 +2,6 @@ use Rattle.checker.proofs.Stepping.{is-set, is-let, is-new, is-call, is
 use Rattle.rules.specs.Base.{is}
 use mathlib.Core.Path.{sym, _∙_}
 use native.Mathlib.Omega.{arith}
-use Rattle.knowledge.specs.declared.Answer.{Answer}
-use Rattle.rules.specs.Syntax as Syntax
-use Rattle.rules.specs.State as Rules
-use Rattle.rules.specs.Rules.{rule, setRule, assignRule, newRule, callRule}
-use Rattle.links.specs.Links as Links
-use Rattle.links.specs.Keys.{meaning}
 use borrow.Author.Needs.{needs}
 use Rattle.checker.proofs.statement.Statement.{statement}
 use Rattle.checker.proofs.statement.Tie as tie
@@ -27,59 +21,59 @@ kind-at-requires c κs = search needs
 
 set-at-requires : tie.Need-set-at-requires
 set-at-requires c κs =
-    (c .before .before .before .pre .0, c .before .before .before .pre .1, c .before .before .before .pre .3)
+    (c .before .before .before .before .before .pre .0, c .before .before .before .before .before .pre .1, c .before .before .before .before .before .pre .3)
 
 let-at-requires : tie.Need-let-at-requires
 let-at-requires c κs =
-    (c .before .before .before .pre .0, c .before .before .before .pre .1, sym (c .before .kind-at .ensures .0) ∙ c .match .keys2, c .before .before .before .pre .3)
+    (c .before .before .before .before .before .pre .0, c .before .before .before .before .before .pre .1, sym (c .before .before .before .kind-at .ensures .0) ∙ c .before .before .match .keys2, c .before .before .before .before .before .pre .3)
 
 new-at-requires : tie.Need-new-at-requires
 new-at-requires c κs =
-    (c .before .before .before .pre .0, c .before .before .before .pre .1, sym (c .before .kind-at .ensures .0) ∙ c .match .keys3, c .before .before .before .pre .3)
+    (c .before .before .before .before .before .pre .0, c .before .before .before .before .before .pre .1, sym (c .before .before .before .kind-at .ensures .0) ∙ c .before .before .match .keys3, c .before .before .before .before .before .pre .3)
 
 call-at-requires : tie.Need-call-at-requires
 call-at-requires c κs =
-    (c .before .before .before .pre .0, c .before .before .before .pre .1, sym (c .before .kind-at .ensures .0) ∙ c .match .keys4, c .before .before .before .pre .3)
+    (c .before .before .before .before .before .pre .0, c .before .before .before .before .before .pre .1, sym (c .before .before .before .kind-at .ensures .0) ∙ c .before .before .match .keys4, c .before .before .before .before .before .pre .3)
 
 return-at-requires : tie.Need-return-at-requires
 return-at-requires c κs =
-    (c .before .before .before .pre .0, c .before .before .before .pre .1, c .before .before .before .pre .3)
+    (c .before .before .before .before .before .pre .0, c .before .before .before .before .before .pre .1, c .before .before .before .before .before .pre .3)
 
 assert-at-requires : tie.Need-assert-at-requires
 assert-at-requires c κs =
-    (c .before .before .before .pre .0, c .before .before .before .pre .1, c .before .before .before .pre .3)
+    (c .before .before .before .before .before .pre .0, c .before .before .before .before .before .pre .1, c .before .before .before .before .before .pre .3)
 
 release-at-requires : tie.Need-release-at-requires
 release-at-requires c κs =
-    (c .before .before .before .pre .0, c .before .before .before .pre .1, c .before .before .before .pre .3)
+    (c .before .before .before .before .before .pre .0, c .before .before .before .before .before .pre .1, c .before .before .before .before .before .pre .3)
 
 returns : tie.Need-returns
 returns c =
-    record { statement = _; is = is-set _ _ (sym (c .before .before .kind-at .ensures .0) ∙ c .before .match .keys1); adds = c .set-at .ensures }
+    record { statement = _; is = is-set _ _ (sym (c .before .before .before .before .kind-at .ensures .0) ∙ c .before .before .before .match .keys1); adds = c .set-at .ensures }
 
 returns-2 : tie.Need-returns-2
 returns-2 c =
-    record { statement = _; is = is-let _ _ (sym (c .before .before .kind-at .ensures .0) ∙ c .before .match .keys2); adds = c .let-at .ensures }
+    record { statement = _; is = is-let _ _ (sym (c .before .before .before .before .kind-at .ensures .0) ∙ c .before .before .before .match .keys2); adds = c .let-at .ensures }
 
 returns-3 : tie.Need-returns-3
 returns-3 c =
-    record { statement = _; is = is-new _ _ (sym (c .before .before .kind-at .ensures .0) ∙ c .before .match .keys3); adds = c .new-at .ensures }
+    record { statement = _; is = is-new _ _ (sym (c .before .before .before .before .kind-at .ensures .0) ∙ c .before .before .before .match .keys3); adds = c .new-at .ensures }
 
 returns-4 : tie.Need-returns-4
 returns-4 c =
-    record { statement = _; is = is-call _ _ (sym (c .before .before .kind-at .ensures .0) ∙ c .before .match .keys4); adds = c .call-at .ensures }
+    record { statement = _; is = is-call _ _ (sym (c .before .before .before .before .kind-at .ensures .0) ∙ c .before .before .before .match .keys4); adds = c .call-at .ensures }
 
 returns-5 : tie.Need-returns-5
 returns-5 c =
-    record { statement = _; is = is-return _ _ (sym (c .before .before .kind-at .ensures .0) ∙ c .before .match .keys5); adds = c .return-at .ensures }
+    record { statement = _; is = is-return _ _ (sym (c .before .before .before .before .kind-at .ensures .0) ∙ c .before .before .before .match .keys5); adds = c .return-at .ensures }
 
 returns-6 : tie.Need-returns-6
 returns-6 c =
-    record { statement = _; is = is-assert _ _ (sym (c .before .before .kind-at .ensures .0) ∙ c .before .match .keys6); adds = c .assert-at .ensures }
+    record { statement = _; is = is-assert _ _ (sym (c .before .before .before .before .kind-at .ensures .0) ∙ c .before .before .before .match .keys6); adds = c .assert-at .ensures }
 
 returns-7 : tie.Need-returns-7
 returns-7 c =
-    record { statement = _; is = is-release _ _ (sym (c .before .before .kind-at .ensures .0) ∙ c .before .match .keys7); adds = c .release-at .ensures }
+    record { statement = _; is = is-release _ _ (sym (c .before .before .before .before .kind-at .ensures .0) ∙ c .before .before .before .match .keys7); adds = c .release-at .ensures }
 
 returns-8 : tie.Need-returns-8
 returns-8 c =

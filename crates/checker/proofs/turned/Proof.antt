@@ -1,9 +1,6 @@
 use Rattle.checker.proofs.Blocks.{turned-refused, turned-else, turned-wrong}
 use mathlib.Core.Path.{sym, _∙_}
 use native.Mathlib.Omega.{arith}
-use Rattle.knowledge.specs.declared.Answer.{Answer}
-use Rattle.rules.specs.State as Rules
-use Rattle.tables.specs.Tables.{Tables}
 use borrow.Author.Needs.{needs}
 use Rattle.checker.proofs.turned.Statement.{statement}
 use Rattle.checker.proofs.turned.Tie as tie
@@ -27,7 +24,7 @@ returns-2 c =
 
 returns-3 : tie.Need-returns-3
 returns-3 c =
-    turned-wrong _ (c .before .before .before .before .before .before .pre .0) _ (c .before .before .before .before .before .before .pre .1) (c .before .before .before .enum-told .given .1) (λ e. c .before .if1 .left (c .before .before .kind-at .ensures .0 ∙ e))
+    turned-wrong _ (c .before .before .before .before .before .pre .0) _ (c .before .before .before .before .before .pre .1) (c .before .before .enum-told .given .1) (λ e. c .if1 .left (c .before .kind-at .ensures .0 ∙ e))
 
 pub turned-spec : {M : Type 1} → statement M
 turned-spec = tie.close (tie.spec enum-told returns kind-at-requires returns-2 returns-3)

@@ -2,7 +2,7 @@ use Prim.Native.Nat.{ℕ, _+_, _-_, _≤_}
 use Rattle.formulas.proofs.Atoms.{formula-none, formula-more, formula-all, add-more, add-refused, add-end}
 use Rattle.formulas.specs.Formulas.{formula}
 use Rattle.knowledge.specs.Answers.{Adds, AddsAtom}
-use Rattle.knowledge.specs.States.{stateOf, Wf}
+use Rattle.known.specs.States.{stateOf, Wf}
 use Rattle.rules.specs.Answers.{Refusal}
 use Rattle.rules.specs.Base.{Try}
 use borrow.Author.Needs.{needs}
@@ -19,31 +19,31 @@ use Rattle.formulas.proofs.atom.Reads as atom-reads
 use Rattle.knowledge.proofs.add_atom.Reads as add-atom-reads
 
 abbrev Inv-loop : tie.InvT-loop
-Inv-loop w a n y z x t₀ i₀ t i =
-    (i ≤ n) × Wf t × (Rules.add (formula w y z x a n) (stateOf t₀) ≡ Rules.add (formula w y z x (a + i) (n - i)) (stateOf t))
+Inv-loop w a n y z x key₀ b₀ i₀ key b i =
+    (i ≤ n) × Wf key b × (Rules.add (formula w y z x a n) (stateOf key₀ b₀) ≡ Rules.add (formula w y z x (a + i) (n - i)) (stateOf key b))
 
 abbrev μ-loop : tie.MeasureT-loop
-μ-loop w a n y z x t₀ i₀ t i = n - i
+μ-loop w a n y z x key₀ b₀ i₀ key b i = n - i
 
 loop-holds : tie.Need-loop-holds Inv-loop μ-loop
 loop-holds c =
-    (omega arith, c .before .pre .2, ap (λ (φ : Formula ℕ). Rules.add φ (stateOf (c .before .args .s))) (sym (formula-all _ _ _ _ _ _)))
+    (omega arith, c .before .pre .2, ap (λ (φ : Formula ℕ). Rules.add φ (stateOf (c .before .args .key .now) (c .before .args .b .now))) (sym (formula-all _ _ _ _ _ _)))
 
 add-atom : tie.Need-add-atom Inv-loop μ-loop
 add-atom c = omega arith
 
 atom-requires : tie.Need-atom-requires Inv-loop μ-loop
-atom-requires c κs = (c .before .before .before .pre .0, omega (arith, c .before .before .before .pre .1))
+atom-requires c κs = (c .before .before .before .before .before .pre .0, omega (arith, c .before .before .before .before .before .pre .1))
 
 add-atom-requires : tie.Need-add-atom-requires Inv-loop μ-loop
-add-atom-requires c κs = c .before .before .loop .inv .1
+add-atom-requires c κs = c .before .before .before .before .loop .inv .1
 
 enum-told : tie.Need-enum-told Inv-loop μ-loop
 enum-told c = search needs
 
 returns : tie.Need-returns Inv-loop μ-loop
 returns c =
-    subst (λ (q : Try Refusal Rules.State). Adds q (c .before .before .add-atom .result)) (sym (c .before .before .before .before .before .loop .inv .2)) (add-refused (c .before .before .before .before .before .loop .t) _ _ (subst (λ (b : Atom ℕ). AddsAtom (c .before .before .before .before .before .loop .t) b (c .before .before .add-atom .result)) (c .before .before .before .atom .ensures) (c .before .before .add-atom .ensures)) _ _ (formula-more _ _ _ _ _ _ _ (c .before .before .before .before .loop-test .taken)) (c .match .keys2))
+    subst (λ (q : Try Refusal Rules.State). Adds q (c .before .add-atom .result) (c .before .add-atom .last .0) (c .before .add-atom .last .1 .0)) (sym (c .before .before .before .before .before .before .loop .inv .2)) (add-refused (c .before .before .before .before .before .before .loop .key) (c .before .before .before .before .before .before .loop .b) _ _ _ _ (subst (λ (a : Atom ℕ). AddsAtom (c .before .before .before .before .before .before .loop .key) (c .before .before .before .before .before .before .loop .b) a (c .before .add-atom .result) (c .before .add-atom .last .0) (c .before .add-atom .last .1 .0)) (c .before .before .atom .ensures) (c .before .add-atom .ensures)) _ _ (formula-more _ _ _ _ _ _ _ (c .before .before .before .before .before .loop-test .taken)) (c .match .keys2))
 
 add-i : tie.Need-add-i Inv-loop μ-loop
 add-i c = omega arith
@@ -53,11 +53,11 @@ loop-less c = omega arith
 
 loop-again : tie.Need-loop-again Inv-loop μ-loop
 loop-again c =
-    (omega arith, c .before .before .before .add-atom .ensures .wf, c .before .before .before .before .before .before .loop .inv .2 ∙ add-more (c .before .before .before .before .before .before .loop .t) _ _ (subst (λ (b : Atom ℕ). AddsAtom (c .before .before .before .before .before .before .loop .t) b (c .before .before .before .add-atom .result)) (c .before .before .before .before .atom .ensures) (c .before .before .before .add-atom .ensures)) _ _ (formula-more _ _ _ _ _ _ _ (c .before .before .before .before .before .loop-test .taken)) (c .enum-told .given .1))
+    (omega arith, c .before .before .add-atom .ensures .wf, c .before .before .before .before .before .before .before .loop .inv .2 ∙ add-more (c .before .before .before .before .before .before .before .loop .key) (c .before .before .before .before .before .before .before .loop .b) _ _ _ _ (subst (λ (a : Atom ℕ). AddsAtom (c .before .before .before .before .before .before .before .loop .key) (c .before .before .before .before .before .before .before .loop .b) a (c .before .before .add-atom .result) (c .before .before .add-atom .last .0) (c .before .before .add-atom .last .1 .0)) (c .before .before .before .atom .ensures) (c .before .before .add-atom .ensures)) _ _ (formula-more _ _ _ _ _ _ _ (c .before .before .before .before .before .before .loop-test .taken)) (c .enum-told .given .1))
 
 returns-2 : tie.Need-returns-2 Inv-loop μ-loop
 returns-2 c =
-    subst (λ (q : Try Refusal Rules.State). Adds q (record { answer = Answer.Done; state = c .before .loop .t })) (sym (c .before .loop .inv .2)) (add-end (c .before .loop .t) _ (c .before .loop .inv .1) (let e : c .before .before .before .args .n - c .before .loop .i ≡ 0 = omega arith in rw e (formula-none _ _ _ _ _)))
+    subst (λ (q : Try Refusal Rules.State). Adds q Answer.Done (c .before .loop .key) (c .before .loop .b)) (sym (c .before .loop .inv .2)) (add-end (c .before .loop .key) (c .before .loop .b) _ (c .before .loop .inv .1) (let e : c .before .before .before .args .n - c .before .loop .i ≡ 0 = omega arith in rw e (formula-none _ _ _ _ _)))
 
 pub add-spec : {M : Type 1} → statement M
 add-spec =

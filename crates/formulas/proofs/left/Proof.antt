@@ -1,6 +1,5 @@
 use mathlib.Core.Path.{_∙_}
-use Rattle.rules.specs.Rules.{actual, substTerm}
-use Rattle.tables.specs.Decode.{exprAt, leftAt}
+use Rattle.tables.specs.Decode.{leftAt}
 use borrow.Author.Needs.{needs}
 use Rattle.formulas.proofs.left.Statement.{statement}
 use Rattle.formulas.proofs.left.Tie as tie

@@ -1,6 +1,5 @@
 use mathlib.Core.Path.{_∙_}
-use Rattle.rules.specs.Rules.{actual, substTerm}
-use Rattle.tables.specs.Decode.{exprAt, rightAt}
+use Rattle.tables.specs.Decode.{rightAt}
 use borrow.Author.Needs.{needs}
 use Rattle.formulas.proofs.right.Statement.{statement}
 use Rattle.formulas.proofs.right.Tie as tie

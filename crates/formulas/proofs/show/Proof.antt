@@ -5,7 +5,7 @@ use Rattle.knowledge.specs.Answers.{ShowsAtom}
 use borrow.Author.Needs.{needs}
 use mathlib.Core.Path.{_≡_, subst}
 use native.Mathlib.Omega.{arith}
-use Rattle.rules.specs.Syntax.{Atom, Formula}
+use Rattle.rules.specs.Syntax.{Atom}
 use Rattle.formulas.proofs.show.Statement.{statement}
 use Rattle.formulas.proofs.show.Tie as tie
 use Rattle.formulas.proofs.show.Reads as reads
@@ -14,13 +14,14 @@ use Rattle.formulas.proofs.atom.Reads as atom-reads
 use Rattle.knowledge.proofs.show_atom.Reads as show-atom-reads
 
 abbrev Inv-loop : tie.InvT-loop
-Inv-loop w a n y z x s out₀ i₀ out i = (i ≤ n) × Showing s (formula w y z x a n) (formula w y z x (a + i) (n - i)) out
+Inv-loop w a n y z x key b out₀ i₀ out i =
+    (i ≤ n) × Showing key b (formula w y z x a n) (formula w y z x (a + i) (n - i)) out
 
 abbrev μ-loop : tie.MeasureT-loop
-μ-loop w a n y z x s out₀ i₀ out i = n - i
+μ-loop w a n y z x key b out₀ i₀ out i = n - i
 
 loop-holds : tie.Need-loop-holds Inv-loop μ-loop
-loop-holds c = (omega arith, show-begin _ _ _ _ _ _ _)
+loop-holds c = (omega arith, show-begin _ _ _ _ _ _ _ _)
 
 add-atom : tie.Need-add-atom Inv-loop μ-loop
 add-atom c = omega arith
@@ -36,7 +37,7 @@ enum-told c = search needs
 
 returns : tie.Need-returns Inv-loop μ-loop
 returns c =
-    show-refused _ _ _ _ (c .before .before .before .before .before .loop .inv .1) _ _ (formula-more _ _ _ _ _ _ _ (c .before .before .before .before .loop-test .taken)) _ _ (subst (λ (b : Atom ℕ). ShowsAtom (c .before .before .before .before .before .before .before .args .s) (c .before .before .before .before .before .loop .out) b (c .before .before .show-atom .result .answer) (c .before .before .show-atom .result .out)) (c .before .before .before .atom .ensures) (c .before .before .show-atom .ensures)) (c .match .keys2)
+    show-refused _ _ _ _ _ (c .before .before .before .before .before .loop .inv .1) _ _ (formula-more _ _ _ _ _ _ _ (c .before .before .before .before .loop-test .taken)) _ _ (subst (λ (b : Atom ℕ). ShowsAtom (c .before .before .before .before .before .before .before .args .key .now) (c .before .before .before .before .before .before .before .args .b .now) (c .before .before .before .before .before .loop .out) b (c .before .before .show-atom .result .answer) (c .before .before .show-atom .result .out)) (c .before .before .before .atom .ensures) (c .before .before .show-atom .ensures)) (c .match .keys2)
 
 add-i : tie.Need-add-i Inv-loop μ-loop
 add-i c = omega arith
@@ -46,11 +47,11 @@ loop-less c = omega arith
 
 loop-again : tie.Need-loop-again Inv-loop μ-loop
 loop-again c =
-    (omega arith, show-more _ _ _ _ (c .before .before .before .before .before .before .loop .inv .1) _ _ (formula-more _ _ _ _ _ _ _ (c .before .before .before .before .before .loop-test .taken)) _ _ (subst (λ (b : Atom ℕ). ShowsAtom (c .before .before .before .before .before .before .before .before .args .s) (c .before .before .before .before .before .before .loop .out) b (c .before .before .before .show-atom .result .answer) (c .before .before .before .show-atom .result .out)) (c .before .before .before .before .atom .ensures) (c .before .before .before .show-atom .ensures)) (c .enum-told .given .1))
+    (omega arith, show-more _ _ _ _ _ (c .before .before .before .before .before .before .loop .inv .1) _ _ (formula-more _ _ _ _ _ _ _ (c .before .before .before .before .before .loop-test .taken)) _ _ (subst (λ (b : Atom ℕ). ShowsAtom (c .before .before .before .before .before .before .before .before .args .key .now) (c .before .before .before .before .before .before .before .before .args .b .now) (c .before .before .before .before .before .before .loop .out) b (c .before .before .before .show-atom .result .answer) (c .before .before .before .show-atom .result .out)) (c .before .before .before .before .atom .ensures) (c .before .before .before .show-atom .ensures)) (c .enum-told .given .1))
 
 returns-2 : tie.Need-returns-2 Inv-loop μ-loop
 returns-2 c =
-    show-end _ _ _ _ (c .before .loop .inv .1) (let e : c .before .before .before .args .n - c .before .loop .i ≡ 0 = omega arith in rw e (formula-none _ _ _ _ _))
+    show-end _ _ _ _ _ (c .before .loop .inv .1) (let e : c .before .before .before .args .n - c .before .loop .i ≡ 0 = omega arith in rw e (formula-none _ _ _ _ _))
 
 pub show-spec : {M : Type 1} → statement M
 show-spec =

@@ -1,8 +1,6 @@
 use Rattle.knowledge.proofs.Showing.{permission-atom}
-use Rattle.knowledge.specs.Answers.{atomOf, AddsAtom}
+use Rattle.knowledge.specs.Answers.{atomOf}
 use Rattle.links.specs.Links.{relOf}
-use mathlib.Core.Path.{sym, subst}
-use Rattle.knowledge.specs.declared.Atom.{Atom}
 use borrow.Author.Needs.{needs}
 use Rattle.knowledge.proofs.add_atom.Statement.{statement}
 use Rattle.knowledge.proofs.add_atom.Tie as tie
@@ -15,7 +13,8 @@ enum-known-a : tie.Need-enum-known-a
 enum-known-a c = search needs
 
 add-permission-requires : tie.Need-add-permission-requires
-add-permission-requires c κs = search needs
+add-permission-requires c κs =
+    (c .before .before .before .before .pre .fit, c .before .before .before .before .pre .linked .size)
 
 enum-known-a-2 : tie.Need-enum-known-a-2
 enum-known-a-2 c = search needs
@@ -32,17 +31,17 @@ add-relation-requires-2 c κs = search needs
 returns : tie.Need-returns
 unfolding atomOf
 returns c =
-    subst (λ (a : Atom). AddsAtom (c .before .before .before .before .args .s) (atomOf a) (c .add-permission .result)) (sym (c .before .before .a .given .1)) (permission-atom _ _ _ _ (c .add-permission .ensures))
+    rw (c .before .before .before .a .given .1) (permission-atom _ _ _ _ _ _ (c .add-permission .ensures _ (c .before .before .before .before .before .pre)))
 
 returns-2 : tie.Need-returns-2
 unfolding atomOf relOf
 returns-2 c =
-    subst (λ (a : Atom). AddsAtom (c .before .before .before .before .args .s) (atomOf a) (c .add-relation .result)) (sym (c .before .before .a2 .given .1)) (c .add-relation .ensures)
+    rw (c .before .before .before .before .a2 .given .1) (c .add-relation .ensures)
 
 returns-3 : tie.Need-returns-3
 unfolding atomOf relOf
 returns-3 c =
-    subst (λ (a : Atom). AddsAtom (c .before .before .before .before .args .s) (atomOf a) (c .add-relation2 .result)) (sym (c .before .before .a3 .given .1)) (c .add-relation2 .ensures)
+    rw (c .before .before .before .before .a3 .given .1) (c .add-relation2 .ensures)
 
 pub add-atom-spec : {M : Type 1} → statement M
 add-atom-spec =

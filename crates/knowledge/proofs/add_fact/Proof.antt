@@ -1,15 +1,23 @@
-use Rattle.knowledge.proofs.Keeping.{pushed-facts, pushed-linked}
-use Rattle.knowledge.proofs.Showing.{full-facts, room-facts}
-use mathlib.Core.Path.{refl}
+use Rattle.knowledge.proofs.Showing.{full-facts, one-fact}
+use native.Mathlib.Omega.{arith}
 use borrow.Author.Needs.{needs}
 use Rattle.knowledge.proofs.add_fact.Statement.{statement}
 use Rattle.knowledge.proofs.add_fact.Tie as tie
 use Rattle.knowledge.proofs.add_fact.Reads as reads
 use Rattle.knowledge.proofs.add_fact.Lts as lts
+use Rattle.knowledge.proofs.flag.Reads as flag-reads
 use Rattle.links.proofs.push.Reads as push-reads
 
+element-copy-out-count : tie.Need-element-copy-out-count
+element-copy-out-count c = search needs
+
+cast-count : tie.Need-cast-count
+cast-count c =
+    omega (arith, c .before .pre .linked .fit)
+
 returns : tie.Need-returns
-returns c = full-facts _ _ _ _ (c .before .pre) (c .if1 .taken)
+returns c =
+    full-facts _ _ _ _ _ (c .before .before .pre) (c .if1 .taken)
 
 mul-push : tie.Need-mul-push
 mul-push c = search needs
@@ -18,22 +26,45 @@ add-push : tie.Need-add-push
 add-push c = search needs
 
 push-requires : tie.Need-push-requires
-push-requires c κs = search needs
+push-requires c κs =
+    (omega arith, omega (arith, c .before .before .if1 .left), c .before .before .before .before .pre .linked .header, c .before .before .before .before .pre .linked .size)
 
-array-write-flags : tie.Need-array-write-flags
-array-write-flags c = search needs
+flag-requires : tie.Need-flag-requires
+flag-requires c κs = search needs
 
-add-t16 : tie.Need-add-t16
-add-t16 c = search needs
+add-b : tie.Need-add-b
+add-b c = search needs
+
+element-write-b : tie.Need-element-write-b
+element-write-b c = search needs
+
+add-b-2 : tie.Need-add-b-2
+add-b-2 c = search needs
+
+cast-b : tie.Need-cast-b
+cast-b c = search needs
+
+element-write-b-2 : tie.Need-element-write-b-2
+element-write-b-2 c = search needs
 
 returns-2 : tie.Need-returns-2
 returns-2 c =
-    let p = c .before .before .before .before .before .before .before .before .before .pre in
-    room-facts (c .before .before .before .before .before .before .before .before .before .args .s) _ _ _ _ (c .before .before .before .before .before .before .before .before .if1 .left)
-    (record { linked = pushed-linked _ _ _ _ _ _ _ (p .linked) (c .before .before .before .before .before .before .before .before .if1 .left) _ _ (c .before .before .push .ensures); variable-size = p .variable-size; field-size = p .field-size; fit = p .fit })
-    refl (pushed-facts _ _ _ _ _ _ _ (p .linked) (c .before .before .before .before .before .before .before .before .if1 .left) _ _ (c .before .before .push .ensures))
+    one-fact _ _ _ _ _ _ (c .before .before .before .before .before .before .pre) (c .before .before .before .before .if1 .left) _ _ (c .flag .ensures) (c .before .push .ensures)
 
 pub add-fact-spec : {M : Type 1} → statement M
 add-fact-spec =
     tie.close
-    (tie.spec returns mul-push add-push push-requires array-write-flags add-t16 returns-2)
+    (tie.spec
+    element-copy-out-count
+    cast-count
+    returns
+    mul-push
+    add-push
+    push-requires
+    flag-requires
+    add-b
+    element-write-b
+    add-b-2
+    cast-b
+    element-write-b-2
+    returns-2)

@@ -1,7 +1,4 @@
-use Rattle.knowledge.proofs.Keeping.{entries-more}
-use Rattle.knowledge.proofs.Showing.{full-permissions, room-permissions}
-use lib.ListN.{length-set}
-use mathlib.Core.Path.{refl, _∙_}
+use Rattle.knowledge.proofs.Showing.{full-permissions, one-permission}
 use native.Mathlib.Omega.{arith}
 use borrow.Author.Needs.{needs}
 use Rattle.knowledge.proofs.add_permission.Statement.{statement}
@@ -9,25 +6,54 @@ use Rattle.knowledge.proofs.add_permission.Tie as tie
 use Rattle.knowledge.proofs.add_permission.Reads as reads
 use Rattle.knowledge.proofs.add_permission.Lts as lts
 
+element-copy-out-n : tie.Need-element-copy-out-n
+element-copy-out-n c = search needs
+
+cast-n : tie.Need-cast-n
+cast-n c =
+    omega (arith, c .before .pre .0)
+
 returns : tie.Need-returns
-returns c = full-permissions _ _ (c .before .pre) (c .if1 .taken)
+returns c =
+    λ key w. full-permissions key _ _ w (c .if1 .taken)
 
-element-write-t : tie.Need-element-write-t
-element-write-t c = search needs
+add-b : tie.Need-add-b
+add-b c = search needs
 
-element-write-t-2 : tie.Need-element-write-t-2
-element-write-t-2 c = search needs
+element-write-b : tie.Need-element-write-b
+element-write-b c = search needs
 
-add-t : tie.Need-add-t
-add-t c = search needs
+add-b-2 : tie.Need-add-b-2
+add-b-2 c = search needs
+
+element-write-b-2 : tie.Need-element-write-b-2
+element-write-b-2 c = search needs
+
+add-b-3 : tie.Need-add-b-3
+add-b-3 c = search needs
+
+cast-b : tie.Need-cast-b
+cast-b c = search needs
+
+element-write-b-3 : tie.Need-element-write-b-3
+element-write-b-3 c = search needs
 
 returns-2 : tie.Need-returns-2
 returns-2 c =
-    let p = c .before .pre in
-    room-permissions (c .before .args .s) _ _ (c .if1 .left)
-    (record { linked = p .linked; variable-size = length-set (c .before .args .s .variable) _ _ ∙ p .variable-size; field-size = length-set (c .before .args .s .field) _ _ ∙ p .field-size; fit = omega (arith, c .if1 .left) })
-    (entries-more (c .before .args .s .variable) (c .before .args .s .field) (c .before .args .s .permissions) (c .before .args .x) (c .before .args .f) (p .variable-size) (p .field-size) (c .if1 .left)) refl
+    λ key w. one-permission key _ _ _ w (c .if1 .left)
 
 pub add-permission-spec : {M : Type 1} → statement M
 add-permission-spec =
-    tie.close (tie.spec returns element-write-t element-write-t-2 add-t returns-2)
+    tie.close
+    (tie.spec
+    element-copy-out-n
+    cast-n
+    returns
+    add-b
+    element-write-b
+    add-b-2
+    element-write-b-2
+    add-b-3
+    cast-b
+    element-write-b-3
+    returns-2)

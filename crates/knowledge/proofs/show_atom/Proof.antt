@@ -1,9 +1,7 @@
 use Rattle.knowledge.proofs.Showing.{relation-atom}
-use Rattle.knowledge.specs.Answers.{atomOf, ShowsAtom}
+use Rattle.knowledge.specs.Answers.{atomOf}
 use Rattle.links.specs.Links.{relOf}
 use mathlib.Core.Bool.{true, false}
-use mathlib.Core.Path.{sym, subst}
-use Rattle.knowledge.specs.declared.Atom.{Atom}
 use borrow.Author.Needs.{needs}
 use Rattle.knowledge.proofs.show_atom.Statement.{statement}
 use Rattle.knowledge.proofs.show_atom.Tie as tie
@@ -33,17 +31,17 @@ show-relation-requires-2 c κs = search needs
 returns : tie.Need-returns
 unfolding atomOf
 returns c =
-    subst (λ (a : Atom). ShowsAtom (c .before .before .before .before .args .s) (c .before .before .before .before .args .out) (atomOf a) (c .show-access .result .answer) (c .show-access .result .out)) (sym (c .before .before .a .given .1)) (c .show-access .ensures)
+    rw (c .before .before .a .given .1) (c .show-access .ensures)
 
 returns-2 : tie.Need-returns-2
 unfolding atomOf relOf
 returns-2 c =
-    subst (λ (a : Atom). ShowsAtom (c .before .before .before .before .args .s) (c .before .before .before .before .args .out) (atomOf a) (c .show-relation .result) (c .before .before .before .before .args .out)) (sym (c .before .before .a2 .given .1)) (relation-atom _ _ false _ _ _ (c .before .before .before .before .pre .1) (c .show-relation .ensures))
+    rw (c .before .before .a2 .given .1) (relation-atom _ _ _ false _ _ _ (c .before .before .before .before .pre .1) (c .show-relation .ensures))
 
 returns-3 : tie.Need-returns-3
 unfolding atomOf relOf
 returns-3 c =
-    subst (λ (a : Atom). ShowsAtom (c .before .before .before .before .args .s) (c .before .before .before .before .args .out) (atomOf a) (c .show-relation2 .result) (c .before .before .before .before .args .out)) (sym (c .before .before .a3 .given .1)) (relation-atom _ _ true _ _ _ (c .before .before .before .before .pre .1) (c .show-relation2 .ensures))
+    rw (c .before .before .a3 .given .1) (relation-atom _ _ _ true _ _ _ (c .before .before .before .before .pre .1) (c .show-relation2 .ensures))
 
 pub show-atom-spec : {M : Type 1} → statement M
 show-atom-spec =

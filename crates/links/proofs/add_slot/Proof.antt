@@ -5,11 +5,7 @@ use Rattle.links.proofs.add_slot.Statement.{statement}
 use Rattle.links.proofs.add_slot.Tie as tie
 use Rattle.links.proofs.add_slot.Reads as reads
 use Rattle.links.proofs.add_slot.Lts as lts
-use Rattle.links.proofs.label_of.Reads as label-of-reads
 use Rattle.links.proofs.new_label.Reads as new-label-reads
-
-label-of-requires : tie.Need-label-of-requires
-label-of-requires c κs = search needs
 
 mul-key : tie.Need-mul-key
 mul-key c = search needs
@@ -25,13 +21,13 @@ element-write-label c = search needs
 
 returns : tie.Need-returns
 returns c =
-    slotted _ _ _ _ _ _ (c .before .before .before .before .pre .1) (omega (arith, c .before .before .before .before .pre .2 .size)) (omega (arith, c .before .before .before .before .pre .3)) (c .before .label-of .ensures) (c .new-label .ensures)
+    let p = c .before .pre in
+    slotted _ _ _ _ _ _ (p .1) (omega (arith, p .2 .size)) (omega (arith, p .3)) (p .4) (c .new-label .ensures)
 
 pub add-slot-spec : {M : Type 1} → statement M
 add-slot-spec =
     tie.close
     (tie.spec
-    label-of-requires
     mul-key
     element-write-key
     new-label-requires

@@ -1,4 +1,4 @@
-use mathlib.Core.Path.{_≡_, sym, _∙_}
+use mathlib.Core.Path.{_∙_}
 use Rattle.links.proofs.Keys.{of-variable}
 use borrow.Author.Needs.{needs}
 use Rattle.links.proofs.variable_key.Statement.{statement}

@@ -1,7 +1,5 @@
+use Rattle.known.specs.States.{stateOf}
 use Rattle.statements.proofs.Ruled.{equal-none, equal-some}
-use Rattle.links.specs.Links.{relOf}
-use Rattle.knowledge.specs.declared.Answer.{Answer}
-use Rattle.rules.specs.State as Rules
 use borrow.Author.Needs.{needs}
 use Rattle.statements.proofs.add_equal.Statement.{statement}
 use Rattle.statements.proofs.add_equal.Tie as tie
@@ -17,7 +15,8 @@ enum-told : tie.Need-enum-told
 enum-told c = search needs
 
 returns : tie.Need-returns
-returns c = equal-none _ _ _ (c .before .before .pre) (c .enum-told .given .1)
+returns c =
+    equal-none _ _ _ _ (c .before .before .pre) (c .enum-told .given .1)
 
 variable-key-requires : tie.Need-variable-key-requires
 variable-key-requires c κs = search needs
@@ -27,7 +26,7 @@ add-fact-requires c κs = search needs
 
 returns-2 : tie.Need-returns-2
 returns-2 c =
-    equal-some _ _ _ _ (c .before .before .before .before .before .args .s) _ (c .before .variable-key .ensures .0) (c .before .before .before .k .given .1) (c .add-fact .ensures)
+    equal-some _ _ _ _ (stateOf (c .before .before .before .before .before .before .before .args .key .now) (c .before .before .before .before .before .before .before .args .b .now)) _ _ _ (c .before .variable-key .ensures .0) (c .before .before .before .before .before .k .given .1) (c .add-fact .ensures)
 
 pub add-equal-spec : {M : Type 1} → statement M
 add-equal-spec =

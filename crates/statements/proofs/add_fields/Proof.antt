@@ -1,6 +1,6 @@
 use Prim.Native.Nat.{ℕ, _-_, _≤_}
 use Rattle.knowledge.specs.Answers.{Adds}
-use Rattle.knowledge.specs.States.{stateOf, Wf}
+use Rattle.known.specs.States.{stateOf, Wf}
 use Rattle.rules.specs.Rules.{addFields}
 use Rattle.rules.specs.Syntax.{Field}
 use Rattle.statements.proofs.Ruled.{adds-same, after-done, adds-refused, adds-ok, fields-all, permission-more, permission-end}
@@ -9,8 +9,6 @@ use borrow.Author.Needs.{needs}
 use mathlib.Core.List.{List}
 use mathlib.Core.Path.{_≡_, sym, ap, _∙_, subst}
 use native.Mathlib.Omega.{arith}
-use Rattle.links.specs.Links.{relOf}
-use Rattle.knowledge.specs.declared.Answer.{Answer}
 use Rattle.rules.specs.State as Rules
 use Rattle.statements.proofs.add_fields.Statement.{statement}
 use Rattle.statements.proofs.add_fields.Tie as tie
@@ -20,32 +18,33 @@ use Rattle.knowledge.proofs.add_permission.Reads as add-permission-reads
 use Rattle.tables.proofs.field_name_at.Reads as field-name-at-reads
 
 abbrev Inv-loop : tie.InvT-loop
-Inv-loop w x c n t₀ j₀ t j =
-    (j ≤ n) × Wf t × (addFields x (fieldsFrom w c 0 n) (stateOf t₀) ≡ addFields x (fieldsFrom w c j (n - j)) (stateOf t))
+Inv-loop w key b₀ x c n j₀ b j =
+    (j ≤ n) × Wf key b × (addFields x (fieldsFrom w c 0 n) (stateOf key b₀) ≡ addFields x (fieldsFrom w c j (n - j)) (stateOf key b))
 
 abbrev μ-loop : tie.MeasureT-loop
-μ-loop w x c n t₀ j₀ t j = n - j
+μ-loop w key b₀ x c n j₀ b j = n - j
 
 loop-holds : tie.Need-loop-holds Inv-loop μ-loop
 loop-holds c =
-    (omega arith, c .before .pre .3, ap (λ (fs : List Field). addFields (c .before .args .x) fs (stateOf (c .before .args .s))) (fields-all _ _ _))
+    (omega arith, c .before .pre .3, ap (λ (fs : List Field). addFields (c .before .args .x) fs (stateOf (c .before .args .key .now) (c .before .args .b .now))) (fields-all _ _ _))
 
 field-name-at-requires : tie.Need-field-name-at-requires Inv-loop μ-loop
 field-name-at-requires c κs =
-    (c .before .before .before .pre .0, (c .before .before .before .pre .1, omega (arith, c .before .before .before .pre .2)))
+    (c .before .before .before .before .pre .0, (c .before .before .before .before .pre .1, omega (arith, c .before .before .before .before .pre .2)))
 
 cast-add-permission : tie.Need-cast-add-permission Inv-loop μ-loop
 cast-add-permission c = record { fits = c .field-name-at .ensures .1 }
 
 add-permission-requires : tie.Need-add-permission-requires Inv-loop μ-loop
-add-permission-requires c κs = c .before .before .loop .inv .1
+add-permission-requires c κs =
+    (c .before .before .before .loop .inv .1 .fit, c .before .before .before .loop .inv .1 .linked .size)
 
 enum-told : tie.Need-enum-told Inv-loop μ-loop
 enum-told c = search needs
 
 returns : tie.Need-returns Inv-loop μ-loop
 returns c =
-    adds-same _ _ (c .before .before .add-permission .result) (sym (c .before .before .before .before .before .loop .inv .2 ∙ permission-more (c .before .before .before .before .before .before .before .args .w .now) (c .before .before .before .before .before .before .before .args .c) (c .before .before .before .before .before .before .before .args .x) (c .before .before .before .before .before .before .before .args .n) (c .before .before .before .before .before .loop .j) (c .before .before .before .before .loop-test .taken) (stateOf (c .before .before .before .before .before .loop .t)))) (adds-refused _ _ (subst (λ (f : ℕ). Adds (Rules.addPermission (record { variable = c .before .before .before .before .before .before .before .args .x; field = f }) (stateOf (c .before .before .before .before .before .loop .t))) (c .before .before .add-permission .result)) (c .before .before .before .field-name-at .ensures .0) (c .before .before .add-permission .ensures)) _ (c .match .keys2))
+    adds-same _ _ (c .before .add-permission .result) _ _ (sym (c .before .before .before .before .before .loop .inv .2 ∙ permission-more (c .before .before .before .before .before .before .before .args .w .now) (c .before .before .before .before .before .before .before .args .c) (c .before .before .before .before .before .before .before .args .x) (c .before .before .before .before .before .before .before .args .n) (c .before .before .before .before .before .loop .j) (c .before .before .before .before .loop-test .taken) (stateOf (c .before .before .before .before .before .before .before .args .key .now) (c .before .before .before .before .before .loop .b)))) (adds-refused _ _ _ _ (subst (λ (f : ℕ). Adds (Rules.addPermission (record { variable = c .before .before .before .before .before .before .before .args .x; field = f }) (stateOf (c .before .before .before .before .before .before .before .args .key .now) (c .before .before .before .before .before .loop .b))) (c .before .add-permission .result) (c .before .before .before .before .before .before .before .args .key .now) (c .before .add-permission .last .0)) (c .before .before .field-name-at .ensures .0) (c .before .add-permission .ensures _ (c .before .before .before .before .before .loop .inv .1))) _ (c .match .keys2))
 
 add-j : tie.Need-add-j Inv-loop μ-loop
 add-j c = omega arith
@@ -55,11 +54,11 @@ loop-less c = omega arith
 
 loop-again : tie.Need-loop-again Inv-loop μ-loop
 loop-again c =
-    (omega arith, c .before .before .before .add-permission .ensures .wf, c .before .before .before .before .before .before .loop .inv .2 ∙ permission-more (c .before .before .before .before .before .before .before .before .args .w .now) (c .before .before .before .before .before .before .before .before .args .c) (c .before .before .before .before .before .before .before .before .args .x) (c .before .before .before .before .before .before .before .before .args .n) (c .before .before .before .before .before .before .loop .j) (c .before .before .before .before .before .loop-test .taken) (stateOf (c .before .before .before .before .before .before .loop .t)) ∙ after-done _ _ (subst (λ (f : ℕ). Adds (Rules.addPermission (record { variable = c .before .before .before .before .before .before .before .before .args .x; field = f }) (stateOf (c .before .before .before .before .before .before .loop .t))) (c .before .before .before .add-permission .result)) (c .before .before .before .before .field-name-at .ensures .0) (c .before .before .before .add-permission .ensures)) _ (c .enum-told .given .1))
+    (omega arith, c .before .before .add-permission .ensures _ (c .before .before .before .before .before .before .loop .inv .1) .wf, c .before .before .before .before .before .before .loop .inv .2 ∙ permission-more (c .before .before .before .before .before .before .before .before .args .w .now) (c .before .before .before .before .before .before .before .before .args .c) (c .before .before .before .before .before .before .before .before .args .x) (c .before .before .before .before .before .before .before .before .args .n) (c .before .before .before .before .before .before .loop .j) (c .before .before .before .before .before .loop-test .taken) (stateOf (c .before .before .before .before .before .before .before .before .args .key .now) (c .before .before .before .before .before .before .loop .b)) ∙ after-done _ _ _ _ (subst (λ (f : ℕ). Adds (Rules.addPermission (record { variable = c .before .before .before .before .before .before .before .before .args .x; field = f }) (stateOf (c .before .before .before .before .before .before .before .before .args .key .now) (c .before .before .before .before .before .before .loop .b))) (c .before .before .add-permission .result) (c .before .before .before .before .before .before .before .before .args .key .now) (c .before .before .add-permission .last .0)) (c .before .before .before .field-name-at .ensures .0) (c .before .before .add-permission .ensures _ (c .before .before .before .before .before .before .loop .inv .1))) _ (c .enum-told .given .1))
 
 returns-2 : tie.Need-returns-2 Inv-loop μ-loop
 returns-2 c =
-    adds-same _ _ _ (sym (c .before .loop .inv .2 ∙ permission-end _ _ _ _ _ (c .loop-test .left) _)) (adds-ok (c .before .loop .t) (c .before .loop .inv .1))
+    adds-same _ _ _ _ _ (sym (c .before .loop .inv .2 ∙ permission-end _ _ _ _ _ (c .loop-test .left) _)) (adds-ok (c .before .before .before .args .key .now) (c .before .loop .b) (c .before .loop .inv .1))
 
 pub add-fields-spec : {M : Type 1} → statement M
 add-fields-spec =

@@ -1,13 +1,9 @@
 use Prim.Native.Nat.{ℕ}
-use Rattle.knowledge.specs.Answers.{Adds}
-use Rattle.knowledge.specs.States.{stateOf}
+use Rattle.known.specs.States.{stateOf}
 use Rattle.rules.specs.Syntax.{Formula}
 use Rattle.statements.proofs.Ruled.{plain, assert-law}
-use Rattle.statements.specs.Statements.{assertRule}
+use Rattle.statements.specs.Statements.{Asserts}
 use mathlib.Core.Path.{subst}
-use Rattle.links.specs.Links.{relOf}
-use Rattle.knowledge.specs.declared.Answer.{Answer}
-use Rattle.rules.specs.State as Rules
 use borrow.Author.Needs.{needs}
 use Rattle.statements.proofs.assert_rule.Statement.{statement}
 use Rattle.statements.proofs.assert_rule.Tie as tie
@@ -20,7 +16,7 @@ show-requires c κs = search needs
 
 returns : tie.Need-returns
 returns c =
-    subst (λ (φ : Formula ℕ). Adds (assertRule φ (stateOf (c .before .before .args .s))) (record { answer = c .show .result .answer; state = c .before .before .args .s })) (plain _ _ _) (assert-law _ _ _ _ (c .before .before .pre .2) (c .show .ensures))
+    subst (λ (φ : Formula ℕ). Asserts φ (stateOf (c .before .before .args .key .now) (c .before .before .args .b .now)) (c .show .result .answer)) (plain _ _ _) (assert-law _ _ _ _ _ (c .show .ensures))
 
 pub assert-rule-spec : {M : Type 1} → statement M
 assert-rule-spec = tie.close (tie.spec show-requires returns)

@@ -1,16 +1,13 @@
 use Rattle.statements.proofs.Ruled.{adds-same, adds-ok, assign-same, assign-other}
 use mathlib.Core.Path.{sym}
-use Rattle.links.specs.Links.{relOf}
-use Rattle.knowledge.specs.declared.Answer.{Answer}
-use Rattle.rules.specs.State as Rules
 use borrow.Author.Needs.{needs}
 use Rattle.statements.proofs.assign_key.Statement.{statement}
 use Rattle.statements.proofs.assign_key.Tie as tie
 use Rattle.statements.proofs.assign_key.Reads as reads
 use Rattle.statements.proofs.assign_key.Lts as lts
-use Rattle.knowledge.proofs.remove_to.Reads as remove-to-reads
-use Rattle.knowledge.proofs.renamed.Reads as renamed-reads
-use Rattle.knowledge.proofs.successor.Reads as successor-reads
+use Rattle.removal.proofs.remove_to.Reads as remove-to-reads
+use Rattle.removal.proofs.renamed.Reads as renamed-reads
+use Rattle.known.proofs.successor.Reads as successor-reads
 use Rattle.links.proofs.variable_key.Reads as variable-key-reads
 use Rattle.statements.proofs.add_equal.Reads as add-equal-reads
 
@@ -19,7 +16,7 @@ variable-key-requires c κs = search needs
 
 returns : tie.Need-returns
 returns c =
-    adds-same _ _ _ (sym (assign-same _ _ _ _ (c .before .variable-key .ensures .0) (c .if1 .taken))) (adds-ok _ (c .before .before .pre))
+    adds-same _ _ _ _ _ (sym (assign-same _ _ _ _ (c .before .variable-key .ensures .0) (c .if1 .taken))) (adds-ok _ _ (c .before .before .pre))
 
 successor-requires : tie.Need-successor-requires
 successor-requires c κs = search needs
@@ -35,7 +32,7 @@ add-equal-requires c κs = search needs
 
 returns-2 : tie.Need-returns-2
 returns-2 c =
-    adds-same _ _ _ (rw (c .before .renamed .ensures, c .before .before .remove-to .ensures .same, c .before .before .before .successor .ensures) (sym (assign-other _ _ _ _ (c .before .before .before .before .before .variable-key .ensures .0) (c .before .before .before .before .if1 .left)))) (c .add-equal .ensures)
+    adds-same _ _ _ _ _ (rw (c .before .renamed .ensures, c .before .before .before .before .remove-to .ensures .same, c .before .before .before .before .before .before .before .successor .ensures) (sym (assign-other _ _ _ _ (c .before .before .before .before .before .before .before .before .before .before .before .variable-key .ensures .0) (c .before .before .before .before .before .before .before .before .before .before .if1 .left)))) (c .add-equal .ensures)
 
 pub assign-key-spec : {M : Type 1} → statement M
 assign-key-spec =

@@ -1,9 +1,6 @@
 use Rattle.links.proofs.Keys.{of-null, of-number}
 use Rattle.statements.specs.Statements.{initialOf}
 use borrow.Author.Tests.{eq-eqb, ne-eqb}
-use Rattle.links.specs.Links.{relOf}
-use Rattle.knowledge.specs.declared.Answer.{Answer}
-use Rattle.rules.specs.State as Rules
 use Rattle.statements.proofs.initial.Statement.{statement}
 use Rattle.statements.proofs.initial.Tie as tie
 use Rattle.statements.proofs.initial.Reads as reads

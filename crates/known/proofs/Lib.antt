@@ -1,0 +1,5 @@
+pub mod Searches
+pub mod Pairs
+pub mod Numbers
+pub mod Entries
+pub mod Ways

@@ -1,0 +1,22 @@
+use Rattle.known.specs.Questions.{unequalAt}
+use borrow.Author.Tests.{eq-eqb, ne-eqb}
+use borrow.Author.Needs.{needs}
+use Rattle.known.proofs.unequal_at.Statement.{statement}
+use Rattle.known.proofs.unequal_at.Tie as tie
+use Rattle.known.proofs.unequal_at.Reads as reads
+use Rattle.known.proofs.unequal_at.Lts as lts
+use Rattle.known.proofs.either_way.Reads as either-way-reads
+
+either-way-requires : tie.Need-either-way-requires
+either-way-requires c κs = search needs
+
+returns : tie.Need-returns
+unfolding unequalAt
+returns c = rw (eq-eqb _ _ (c .before .if1 .taken)) (c .either-way .ensures)
+
+returns-2 : tie.Need-returns-2
+unfolding unequalAt
+returns-2 c = rw (ne-eqb _ _ (c .if1 .left))
+
+pub unequal-at-spec : {M : Type 1} → statement M
+unequal-at-spec = tie.close (tie.spec either-way-requires returns returns-2)

@@ -1,0 +1,431 @@
+use links::Term;
+ghost use mathlib.Core.Path.{_≡_};
+ghost use Prim.Native.Nat.{ℕ, _+_, _*_, _≤_, _<_};
+ghost use lib.ListN.{length};
+ghost use Rattle.rules.specs.Base.{any};
+ghost use Rattle.rules.specs.Syntax as Syntax;
+ghost use Rattle.rules.specs.Syntax.{var};
+ghost use Rattle.rules.specs.State as Rules;
+ghost use Rattle.rules.specs.State.{nullAndObject, twoEntries, differentNumbers, equalBy, equalIn, representative, holdsIn};
+ghost use Rattle.links.specs.Keys.{termOf, meaning};
+ghost use Rattle.links.specs.Links.{Labelled, Decides, relOf};
+ghost use Rattle.known.specs.States.{Wf, stateOf, factsIn, permissionsIn, permissionsOf, variableAt, entries};
+ghost use Rattle.known.specs.Questions.{Slots, Told, FirstPlace, entryTest, passes, eitherWay, unequalAt, unequalIn, places, numberLike, otherLike, otherNumber, twoNumbers, pairAt, resolvedAs, pathAt, standsFor, variableOr};
+
+// What the checker knows stands in two arrays, `key` and `b`. The sides of fact i are the terms of the keys in the slots 16 + 2 i and
+// 17 + 2 i. Of b, byte i is the label of slot i: two slots have one label where their terms are ~. Byte 144 + i is 1 where fact i is
+// an inequality; entry i is the permission x.f with x in byte 208 + i and f in byte 272 + i. Bytes 336 and 337 count facts and entries.
+
+// Is x ~ the term of the key k, whose label is a?
+fn variable_is<'a>(key: &'a [u64; 144], b: &'a [u8; 338], m: usize, x: u8, k: u64, a: u8) -> bool
+    requires { ⌜ Slots (now key) (now b) m × Labelled (now key) (now b) m k a ⌝ }
+    ensures { λ r. ⌜ Told (now (key .entry)) (now (b .entry)) m (λ same. r ≡ same (var x) (termOf k)) ⌝ }
+{
+    let l = links::variable_key(x);
+    let c = links::label_of(key, b, m, l);
+    links::alike(l, c, k, a)
+}
+
+// Is the entry x.f not out, and a y.g with x ~ y? k and a are y's key and label.
+fn names<'a>(
+    key: &'a [u64; 144],
+    b: &'a [u8; 338],
+    m: usize,
+    out: bool,
+    x: u8,
+    f: u8,
+    k: u64,
+    a: u8,
+    g: u8,
+) -> bool
+    requires { ⌜ Slots (now key) (now b) m × Labelled (now key) (now b) m k a ⌝ }
+    ensures { λ r. ⌜ Told (now (key .entry)) (now (b .entry)) m (λ same. (y : ℕ) → termOf k ≡ var y → r ≡ passes same y g out x f) ⌝ }
+{
+    if f != g {
+        return false;
+    }
+    if out {
+        return false;
+    }
+    variable_is(key, b, m, x, k, a)
+}
+
+// The place of the first entry that is not out and a y.f up to ~, or n.
+fn find<'a>(
+    key: &'a [u64; 144],
+    b: &'a [u8; 338],
+    m: usize,
+    out: &'a [bool; 64],
+    n: usize,
+    y: u8,
+    f: u8,
+) -> usize
+    requires { ⌜ Slots (now key) (now b) m × (n ≤ 64) ⌝ }
+    ensures { λ r. ⌜ Told (now (key .entry)) (now (b .entry)) m (λ same. FirstPlace (entryTest (now (b .entry)) (now (out .entry)) y f same) n r) ⌝ }
+{
+    let k = links::variable_key(y);
+    let a = links::label_of(key, b, m, k);
+    let mut i = 0;
+    while i < n {
+        if names(key, b, m, out[i], b[208 + i], b[272 + i], k, a, f) {
+            return i;
+        }
+        i += 1;
+    }
+    n
+}
+
+fn either_way(x: u8, y: u8, a: u8, b: u8) -> bool
+    ensures { λ r. ⌜ r ≡ eitherWay x y a b ⌝ }
+{
+    ((x == a) & (y == b)) | ((x == b) & (y == a))
+}
+
+fn unequal_at(c: u8, x: u8, y: u8, a: u8, b: u8) -> bool
+    ensures { λ r. ⌜ r ≡ unequalAt c x y a b ⌝ }
+{
+    if c == 1 {
+        either_way(x, y, a, b)
+    } else {
+        false
+    }
+}
+
+// (a) Is an inequality listed whose sides have the labels x and y?
+fn listed_unequal(b: &[u8; 338], n: usize, x: u8, y: u8) -> bool
+    requires { ⌜ n ≤ 64 ⌝ }
+    ensures { λ r. ⌜ r ≡ any (unequalIn (now (b .entry)) x y) (places n) ⌝ }
+{
+    let mut i = 0;
+    while i < n {
+        if unequal_at(b[144 + i], b[16 + 2 * i], b[17 + 2 * i], x, y) {
+            return true;
+        }
+        i += 1;
+    }
+    false
+}
+
+// Is k a number's key, and the number ~ the term of l?
+fn number_like(k: u64, c: u8, l: u64, b: u8) -> bool
+    ensures { λ r. ⌜ r ≡ numberLike k c l b ⌝ }
+{
+    if k < 65793 {
+        return false;
+    }
+    links::alike(k, c, l, b)
+}
+
+fn other_like(j: u64, l: u64, b: u8, k: u64, c: u8) -> bool
+    ensures { λ r. ⌜ r ≡ otherLike j l b k c ⌝ }
+{
+    if j == k {
+        return false;
+    }
+    number_like(k, c, l, b)
+}
+
+// Is a number other than that of j ~ the term of l?
+fn other_number<'a>(
+    key: &'a [u64; 144],
+    label: &'a [u8; 338],
+    n: usize,
+    l: u64,
+    b: u8,
+    j: u64,
+) -> bool
+    requires { ⌜ n ≤ 130 ⌝ }
+    ensures { λ r. ⌜ r ≡ otherNumber (now (key .entry)) (now (label .entry)) n l b j ⌝ }
+{
+    let mut i = 0;
+    while i < n {
+        if other_like(j, l, b, key[14 + i], label[14 + i]) {
+            return true;
+        }
+        i += 1;
+    }
+    false
+}
+
+// Is the term in slot 14 + i a number ~ the term of t, and another one ~ that of u?
+fn two_numbers<'a>(
+    key: &'a [u64; 144],
+    label: &'a [u8; 338],
+    n: usize,
+    t: u64,
+    a: u8,
+    u: u64,
+    b: u8,
+    i: usize,
+) -> bool
+    requires { ⌜ (n ≤ 130) × (i < n) ⌝ }
+    ensures { λ r. ⌜ r ≡ twoNumbers (now (key .entry)) (now (label .entry)) n t a u b i ⌝ }
+{
+    let k = key[14 + i];
+    if number_like(k, label[14 + i], t, a) {
+        return other_number(key, label, n, u, b, k);
+    }
+    false
+}
+
+// (b) Are two numbers ~ the terms of t and u?
+fn different_numbers<'a>(
+    key: &'a [u64; 144],
+    label: &'a [u8; 338],
+    n: usize,
+    t: u64,
+    a: u8,
+    u: u64,
+    b: u8,
+) -> bool
+    requires { ⌜ n ≤ 130 ⌝ }
+    ensures { λ r. ⌜ r ≡ any (twoNumbers (now (key .entry)) (now (label .entry)) n t a u b) (places n) ⌝ }
+{
+    let mut i = 0;
+    while i < n {
+        if two_numbers(key, label, n, t, a, u, b, i) {
+            return true;
+        }
+        i += 1;
+    }
+    false
+}
+
+// (b) with the two terms in the slots before the facts.
+fn numbers_apart<'a>(
+    key: &'a [u64; 144],
+    label: &'a [u8; 338],
+    n: usize,
+    t: u64,
+    a: u8,
+    u: u64,
+    b: u8,
+) -> bool
+    requires { ⌜ (n ≤ 64) × (length (now key) ≡ 144) × (length (now label) ≡ 338) × Labelled (now key) (now label) (16 + 2 * n) t a × Labelled (now key) (now label) (16 + 2 * n) u b ⌝ }
+    ensures { λ r. ⌜ (Decides (factsIn (now (key .entry)) (now (label .entry)) n) (now (key .entry)) (now (label .entry)) (16 + 2 * n) → r ≡ differentNumbers (equalBy (representative (factsIn (now (key .entry)) (now (label .entry)) n))) (factsIn (now (key .entry)) (now (label .entry)) n) (termOf t) (termOf u)) ⌝ }
+{
+    let mut k = *key;
+    k[14] = t;
+    k[15] = u;
+    let mut l = *label;
+    l[14] = a;
+    l[15] = b;
+    different_numbers(&k, &l, 2 + 2 * n, t, a, u, b)
+}
+
+// Is the variable of some entry ~ the term of k?
+fn some_object<'a>(key: &'a [u64; 144], b: &'a [u8; 338], m: usize, n: usize, k: u64, a: u8) -> bool
+    requires { ⌜ Slots (now key) (now b) m × Labelled (now key) (now b) m k a × (n ≤ 64) ⌝ }
+    ensures { λ r. ⌜ Told (now (key .entry)) (now (b .entry)) m (λ same. r ≡ any (λ p. same (var (p .variable)) (termOf k)) (permissionsIn (now (b .entry)) n)) ⌝ }
+{
+    let mut i = 0;
+    while i < n {
+        if variable_is(key, b, m, b[208 + i], k, a) {
+            return true;
+        }
+        i += 1;
+    }
+    false
+}
+
+// (c) Is the term of t ~ null, and that of u ~ the variable of some entry?
+fn null_and_object<'a>(
+    key: &'a [u64; 144],
+    b: &'a [u8; 338],
+    m: usize,
+    n: usize,
+    t: u64,
+    x: u8,
+    u: u64,
+    y: u8,
+) -> bool
+    requires { ⌜ Slots (now key) (now b) m × Labelled (now key) (now b) m t x × Labelled (now key) (now b) m u y × (n ≤ 64) ⌝ }
+    ensures { λ r. ⌜ Told (now (key .entry)) (now (b .entry)) m (λ same. r ≡ nullAndObject same (permissionsIn (now (b .entry)) n) (termOf t) (termOf u)) ⌝ }
+{
+    if links::alike(256, b[15], t, x) {
+        return some_object(key, b, m, n, u, y);
+    }
+    false
+}
+
+// The entries j and i, where p and q say whether the variable of i is ~ the terms of t and u.
+fn pair<'a>(
+    key: &'a [u64; 144],
+    b: &'a [u8; 338],
+    m: usize,
+    j: usize,
+    i: usize,
+    t: u64,
+    x: u8,
+    u: u64,
+    y: u8,
+    p: bool,
+    q: bool,
+) -> bool
+    requires { ⌜ Slots (now key) (now b) m × Labelled (now key) (now b) m t x × Labelled (now key) (now b) m u y × (j < 64) × (i < 64) ⌝ }
+    ensures { λ r. ⌜ Told (now (key .entry)) (now (b .entry)) m (λ same. p ≡ same (var (variableAt (now (b .entry)) i)) (termOf t) → q ≡ same (var (variableAt (now (b .entry)) i)) (termOf u) → r ≡ pairAt same t u (now (b .entry)) j i) ⌝ }
+{
+    if b[272 + j] != b[272 + i] {
+        return false;
+    }
+    let c = variable_is(key, b, m, b[208 + j], t, x);
+    let d = variable_is(key, b, m, b[208 + j], u, y);
+    (c & q) | (d & p)
+}
+
+// (d) Are the terms of t and u ~ the variables of two entries for one field? Only an entry whose variable is ~ to one of them is
+// tried with those before it.
+fn two_entries<'a>(
+    key: &'a [u64; 144],
+    b: &'a [u8; 338],
+    m: usize,
+    n: usize,
+    t: u64,
+    x: u8,
+    u: u64,
+    y: u8,
+) -> bool
+    requires { ⌜ Slots (now key) (now b) m × Labelled (now key) (now b) m t x × Labelled (now key) (now b) m u y × (n ≤ 64) ⌝ }
+    ensures { λ r. ⌜ Told (now (key .entry)) (now (b .entry)) m (λ same. r ≡ twoEntries same (permissionsIn (now (b .entry)) n) (termOf t) (termOf u)) ⌝ }
+{
+    let mut found = false;
+    let mut i = 0;
+    'entries: while i < n {
+        let p = variable_is(key, b, m, b[208 + i], t, x);
+        let q = variable_is(key, b, m, b[208 + i], u, y);
+        if p | q {
+            let mut j = 0;
+            while j < i {
+                if pair(key, b, m, j, i, t, x, u, y, p, q) {
+                    found = true;
+                    break 'entries;
+                }
+                j += 1;
+            }
+        }
+        i += 1;
+    }
+    found
+}
+
+// Is the inequality of two terms shown? The ways (a), (c), (d) and then (b).
+fn unequal<'a>(key: &'a [u64; 144], b: &'a [u8; 338], t: u64, u: u64) -> bool
+    requires { ⌜ Wf (now key) (now b) ⌝ }
+    ensures { λ r. ⌜ r ≡ holdsIn (equalIn (stateOf (now (key .entry)) (now (b .entry)))) (stateOf (now (key .entry)) (now (b .entry))) Syntax.ne (termOf t) (termOf u) ⌝ }
+{
+    let n = b[336] as usize;
+    let m = 16 + 2 * n;
+    let p = b[337] as usize;
+    let x = links::label_of(key, b, m, t);
+    let y = links::label_of(key, b, m, u);
+    if listed_unequal(b, n, x, y) {
+        return true;
+    }
+    if null_and_object(key, b, m, p, t, x, u, y) {
+        return true;
+    }
+    if null_and_object(key, b, m, p, u, y, t, x) {
+        return true;
+    }
+    if two_entries(key, b, m, p, t, x, u, y) {
+        return true;
+    }
+    numbers_apart(key, b, n, t, x, u, y)
+}
+
+// Are two terms ~?
+fn equal<'a>(key: &'a [u64; 144], b: &'a [u8; 338], t: u64, u: u64) -> bool
+    requires { ⌜ Wf (now key) (now b) ⌝ }
+    ensures { λ r. ⌜ r ≡ equalIn (stateOf (now (key .entry)) (now (b .entry))) (termOf t) (termOf u) ⌝ }
+{
+    let m = 16 + 2 * (b[336] as usize);
+    let x = links::label_of(key, b, m, t);
+    let y = links::label_of(key, b, m, u);
+    links::alike(t, x, u, y)
+}
+
+// Is the equality, or where `apart` the inequality, of two terms shown?
+pub fn holds<'a>(key: &'a [u64; 144], b: &'a [u8; 338], apart: bool, t: u64, u: u64) -> bool
+    requires { ⌜ Wf (now key) (now b) ⌝ }
+    ensures { λ r. ⌜ r ≡ holdsIn (equalIn (stateOf (now (key .entry)) (now (b .entry)))) (stateOf (now (key .entry)) (now (b .entry))) (relOf apart) (termOf t) (termOf u) ⌝ }
+{
+    if apart {
+        unequal(key, b, t, u)
+    } else {
+        equal(key, b, t, u)
+    }
+}
+
+// A term by its key, or none.
+pub enum Resolved {
+    Key(u64),
+    Nothing,
+}
+
+// The place of the first entry that is not out and a y.f up to ~, or the count of entries.
+pub fn entry<'a>(key: &'a [u64; 144], b: &'a [u8; 338], out: &'a [bool; 64], y: u8, f: u8) -> usize
+    requires { ⌜ Wf (now key) (now b) ⌝ }
+    ensures { λ r. ⌜ FirstPlace (entryTest (now (b .entry)) (now (out .entry)) y f (equalIn (stateOf (now (key .entry)) (now (b .entry))))) (entries (now (b .entry))) r ⌝ }
+{
+    let m = 16 + 2 * (b[336] as usize);
+    find(key, b, m, out, b[337] as usize, y, f)
+}
+
+fn path_at(b: &[u8; 338], i: usize) -> Resolved
+    requires { ⌜ entries (now b) ≤ 64 ⌝ }
+    ensures { λ r. ⌜ resolvedAs r ≡ pathAt (now (b .entry)) i ⌝ }
+{
+    if i < (b[337] as usize) {
+        return Resolved::Key(links::path_key(b[208 + i], b[272 + i]));
+    }
+    Resolved::Nothing
+}
+
+// What an expression resolves to.
+pub fn resolve<'a>(key: &'a [u64; 144], b: &'a [u8; 338], e: Term) -> Resolved
+    requires { ⌜ Wf (now key) (now b) ⌝ }
+    ensures { λ r. ⌜ resolvedAs r ≡ Rules.resolve (equalIn (stateOf (now (key .entry)) (now (b .entry)))) (permissionsOf (now (b .entry))) (meaning e) ⌝ }
+{
+    let Term::Path(y, f) = e else {
+        return Resolved::Key(links::key_of(e));
+    };
+    let out = [false; 64];
+    path_at(b, entry(key, b, &out, y, f))
+}
+
+// Is v a variable other than x and ~ x? k and a are x's key and label.
+fn stands_for<'a>(
+    key: &'a [u64; 144],
+    b: &'a [u8; 338],
+    m: usize,
+    v: u8,
+    x: u8,
+    k: u64,
+    a: u8,
+) -> bool
+    requires { ⌜ Slots (now key) (now b) m × Labelled (now key) (now b) m k a × (termOf k ≡ var x) ⌝ }
+    ensures { λ r. ⌜ Told (now (key .entry)) (now (b .entry)) m (λ same. r ≡ standsFor same x v) ⌝ }
+{
+    if v == x {
+        return false;
+    }
+    variable_is(key, b, m, v, k, a)
+}
+
+// The first other variable ~ x, or 255.
+pub fn successor<'a>(key: &'a [u64; 144], b: &'a [u8; 338], x: u8) -> u8
+    requires { ⌜ Wf (now key) (now b) ⌝ }
+    ensures { λ r. ⌜ variableOr r ≡ Rules.successor (stateOf (now (key .entry)) (now (b .entry))) x ⌝ }
+{
+    let m = 16 + 2 * (b[336] as usize);
+    let k = links::variable_key(x);
+    let a = links::label_of(key, b, m, k);
+    let mut v = 0;
+    while v < 15 {
+        if stands_for(key, b, m, v, x, k, a) {
+            return v;
+        }
+        v += 1;
+    }
+    255
+}

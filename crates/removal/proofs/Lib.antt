@@ -1,0 +1,5 @@
+pub mod Starts
+pub mod Renaming
+pub mod Keeping
+pub mod Changes
+pub mod Marking

@@ -1,0 +1,148 @@
+-- What goes from a state, and what is renamed in it.
+use mathlib.Core.Path.{_≡_}
+use mathlib.Core.Bool.{Bool, true, false, cond, _&&_, _||_}
+use mathlib.Core.List.{List, [], _∷_, _++_}
+use mathlib.Core.Option.{Option, none, some}
+use mathlib.Core.Logic.{_⊎_}
+use Prim.Native.Nat.{ℕ, zero, suc, _+_, _*_, _-_, _≤_, _<_}
+use lib.Dec.{eqb, ltb, leb}
+use lib.ListN.{length, getD}
+use Rattle.rules.specs.Base.{any}
+use Rattle.rules.specs.Syntax as Syntax
+use Rattle.rules.specs.State as Rules
+use Rattle.rules.specs.State.{Permission, Fact}
+use Rattle.links.specs.Keys.{termOf, keyOf, first-path}
+use Rattle.links.specs.Links.{factOf, placeOf}
+use Rattle.known.specs.declared.Resolved.{Resolved}
+use Rattle.known.specs.States.{Wf, Linked, stateOf, facts, entries, factsIn, factsOf, variableAt, fieldAt, permissionsIn, permissionsOf, permissionAt, apartAt}
+use Rattle.known.specs.Questions.{places}
+
+-- the arrays then hold the state
+pub record Becomes (t : Rules.State) (key b : List ℕ) : Type 0 where
+  pub wf : Wf key b
+  pub same : stateOf key b ≡ t
+
+-- a renamed term, or that it goes
+unfoldable pub leftOver : Resolved → Option Rules.Term
+leftOver (Resolved.Key k) = some (termOf k)
+leftOver Resolved.Nothing = none
+
+-- LISTS OF WHICH SOME ELEMENTS ARE OUT
+-- those of f 0 to f (n - 1) that are not out
+unfoldable pub kept : {A : Type 0} → List Bool → (ℕ → A) → ℕ → List A
+kept out f zero = []
+kept out f (suc n) = kept out f n ++ cond (getD out n false) [] (f n ∷ [])
+
+-- those that are out
+unfoldable pub gone : {A : Type 0} → List Bool → (ℕ → A) → ℕ → List A
+gone out f zero = []
+gone out f (suc n) = gone out f n ++ cond (getD out n false) (f n ∷ []) []
+
+-- flags of the places below n
+pub record Flags (test : ℕ → Bool) (n : ℕ) (r : List Bool) : Type 0 where
+  pub size : length r ≡ 64
+  pub at : (i : ℕ) → i < n → getD r i false ≡ test i
+
+-- one of the first n is out
+abbrev pub flagged : List Bool → ℕ → Bool
+flagged out n = any (λ i. getD out i false) (places n)
+
+-- WHAT A FORMULA CONSUMES
+-- the entries that are out are those consumed
+pub record Taken (b : List ℕ) (out : List Bool) (c : Rules.Shown) : Type 0 where
+  pub rest : c .kept ≡ kept out (permissionAt b) (entries b)
+  pub used : (q : Permission → Bool) → any q (c .consumed) ≡ any q (gone out (permissionAt b) (entries b))
+
+-- CHANGES
+-- the labels of the first 16 slots are their own numbers
+pub record Fresh (b b′ : List ℕ) : Type 0 where
+  pub size : length b′ ≡ length b
+  pub own : (i : ℕ) → i < 16 → getD b′ i 0 ≡ i
+  pub rest : (i : ℕ) → 16 ≤ i → getD b′ i 0 ≡ getD b i 0
+
+-- a key, with the variable `to` for x
+unfoldable pub renamedKey : ℕ → ℕ → ℕ → ℕ
+renamedKey x to k =
+    cond (eqb k x) to
+    (cond (leb (first-path + x * 256) k && ltb (k - (first-path + x * 256)) 256) (first-path + to * 256 + (k - (first-path + x * 256))) k)
+
+-- it names x
+unfoldable pub mentionsKey : ℕ → ℕ → Bool
+mentionsKey x k = eqb k x || (leb (first-path + x * 256) k && ltb (k - (first-path + x * 256)) 256)
+
+unfoldable pub renamedVariable : ℕ → ℕ → ℕ → ℕ
+renamedVariable x to v = cond (eqb v x) to v
+
+abbrev pub renamedFact : List ℕ → List ℕ → ℕ → ℕ → ℕ → Fact
+renamedFact key b x to i = factOf (apartAt b i) (renamedKey x to (getD key (16 + 2 * i) 0)) (renamedKey x to (getD key (17 + 2 * i) 0))
+
+abbrev pub renamedPermission : List ℕ → ℕ → ℕ → ℕ → Permission
+renamedPermission b x to i = record { variable = renamedVariable x to (variableAt b i); field = fieldAt b i }
+
+-- one more fact, unless it is out; c is 1 for an inequality
+pub record KeepsFact (key b : List ℕ) (n : ℕ) (out : Bool) (c l r : ℕ) (key′ b′ : List ℕ) (n′ : ℕ) : Type 0 where
+  pub few : n′ ≤ n + 1
+  pub linked : Linked key′ b′ n′
+  pub facts : factsIn key′ b′ n′ ≡ factsIn key b n ++ cond out [] (factOf (eqb c 1) l r ∷ [])
+  pub keys : (j : ℕ) → 18 + 2 * n ≤ j → getD key′ j 0 ≡ getD key j 0
+  pub rest : (j : ℕ) → 144 + n < j → getD b′ j 0 ≡ getD b j 0
+
+-- the facts that are not out, renamed; the entries stay
+pub record Rebuilt (key b : List ℕ) (out : List Bool) (x to : ℕ) (key′ b′ : List ℕ) : Type 0 where
+  pub wf : Wf key′ b′
+  pub facts : factsOf key′ b′ ≡ kept out (renamedFact key b x to) (facts b)
+  pub rest : (i : ℕ) → 208 ≤ i → (i ≡ 336 → ⊥) → getD b′ i 0 ≡ getD b i 0
+
+-- one more entry, unless it is out
+pub record KeepsEntry (b : List ℕ) (n : ℕ) (out : Bool) (x f : ℕ) (b′ : List ℕ) (n′ : ℕ) : Type 0 where
+  pub few : n′ ≤ n + 1
+  pub size : length b′ ≡ 338
+  pub entries : permissionsIn b′ n′ ≡ permissionsIn b n ++ cond out [] (record { variable = x; field = f } ∷ [])
+  pub later : (j : ℕ) → n < j → j < 64 → permissionAt b′ j ≡ permissionAt b j
+  pub rest : (j : ℕ) → (j < 208) ⊎ (336 ≤ j) → getD b′ j 0 ≡ getD b j 0
+
+-- the entries that are not out, renamed; the facts stay
+pub record Packed (b : List ℕ) (out : List Bool) (x to : ℕ) (b′ : List ℕ) : Type 0 where
+  pub size : length b′ ≡ 338
+  pub few : entries b′ ≤ 64
+  pub entries : permissionsOf b′ ≡ kept out (renamedPermission b x to) (entries b)
+  pub rest : (i : ℕ) → (i < 208) ⊎ (i ≡ 336) → getD b′ i 0 ≡ getD b i 0
+
+abbrev pub factMentions : List ℕ → ℕ → ℕ → Bool
+factMentions key x i = mentionsKey x (getD key (16 + 2 * i) 0) || mentionsKey x (getD key (17 + 2 * i) 0)
+
+-- a side of the fact i is the term of k
+abbrev pub factHas : List ℕ → ℕ → ℕ → Bool
+factHas key k i = eqb (getD key (16 + 2 * i) 0) k || eqb (getD key (17 + 2 * i) 0) k
+
+-- the entry `x.f` is out, and its path is the term of k
+unfoldable pub pathOut : Bool → ℕ → ℕ → ℕ → Bool
+pathOut out x f k = out && Syntax.same (Syntax.path x f) (termOf k)
+
+abbrev pub pathOutAt : List ℕ → List Bool → ℕ → ℕ → Bool
+pathOutAt b out k i = pathOut (getD out i false) (variableAt b i) (fieldAt b i) k
+
+abbrev pub keyOut : List ℕ → List Bool → ℕ → Bool
+keyOut b out k = any (pathOutAt b out k) (places (entries b))
+
+abbrev pub factNames : List ℕ → List ℕ → List Bool → ℕ → Bool
+factNames key b out i = keyOut b out (getD key (16 + 2 * i) 0) || keyOut b out (getD key (17 + 2 * i) 0)
+
+-- the place of a path's key
+abbrev pub placeOfPath : ℕ → ℕ → ℕ
+placeOfPath x f = placeOf (keyOf (Syntax.path x f))
+
+-- the place of `x.f` is marked where it is out
+pub record Marks (out : Bool) (x f : ℕ) (marks marks′ : List Bool) : Type 0 where
+  pub size : length marks′ ≡ length marks
+  pub new : out ≡ true → getD marks′ (placeOfPath x f) false ≡ true
+  pub old : (p : ℕ) → getD marks p false ≡ true → getD marks′ p false ≡ true
+
+-- the places of the paths of the first n entries that are out are marked
+pub record MarksOut (b : List ℕ) (out : List Bool) (n : ℕ) (marks : List Bool) : Type 0 where
+  pub size : length marks ≡ 512
+  pub at : (i : ℕ) → i < n → getD out i false ≡ true → getD marks (placeOfPath (variableAt b i) (fieldAt b i)) false ≡ true
+
+abbrev pub withoutPath : List ℕ → List ℕ → ℕ → Rules.State
+withoutPath key b i =
+    record { permissions = permissionsOf b; facts = Rules.withoutPaths (permissionAt b i ∷ []) (factsOf key b) }
