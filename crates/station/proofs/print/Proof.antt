@@ -8,8 +8,9 @@ use borrow.Author.Tests.{eq-eqb}
 use Rattle.rules.specs.Limits.{work-bytes, results-bytes, program-steps}
 use Rattle.rules.specs.Calls.{checkText, runText}
 use Rattle.rules.specs.Areas.{packed, cleared, resultBytes, Checked, checkCall, Ran, runCall}
+use Rattle.rules.specs.Printed.{printed}
 use Rattle.printer.specs.Writes.{Prints}
-use Rattle.printer.specs.Answers.{Called}
+use Rattle.printer.specs.Answers.{printedAnswers, Called}
 use Rattle.printer.proofs.Calls.{read-unless, printed-answers}
 use Rattle.station.proofs.print.Statement.{statement}
 use Rattle.station.proofs.print.Tie as tie
@@ -36,8 +37,10 @@ called {t = t} w v b l m n c r d =
       results = d ∙ ap (λ (x : Ran). x .results) (run-is t v program-steps b m n);
     }
 
-prints-as : {bs cs o : List ℕ} {r : ℕ} → Prints bs o r → bs ≡ cs → Prints cs o r
-prints-as x e = record { high = x .high; are = x .are ∙ e }
+prints :
+    {t : List ℕ} {checked ran : ℕ} {d o : List ℕ} {r : ℕ} → Called t checked ran d → Prints (printedAnswers t checked ran d) o r →
+    Prints (printed t) o r
+prints c x = record { high = x .high; are = x .are ∙ printed-answers _ _ _ _ c }
 
 check-requires : tie.Need-check-requires
 check-requires c κs = search needs
@@ -69,7 +72,7 @@ returns c =
     let y = c .before .before .before .before .before .before .before .before .before .run in
     let x = c .before .before .before .before .before .before .before .before .before .before .before .before .before .before .check in
     let k = called _ _ _ (p .0) (x .kept .1 .0 ∙ p .0) (p .1) (x .ensures .0) (y .ensures .0) (y .ensures .2) in
-    prints-as (c .before .before .print .ensures) (printed-answers _ _ _ _ k)
+    prints k (c .before .before .print .ensures)
 
 pub print-spec : {M : Type 1} → statement M
 print-spec = tie.close (tie.spec check-requires cast-run run-requires print-requires same-length same-length-2 same-length-3 returns)
