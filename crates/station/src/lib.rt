@@ -15,12 +15,15 @@ ghost use Rattle.rules.specs.Rules.{checkProgram};
 ghost use Rattle.rules.specs.Machine.{runProgram};
 ghost use Rattle.rules.specs.Calls.{verdictNumbers, checkText, wholeHeap, outcomeResult, runText};
 ghost use Rattle.rules.specs.Areas.{packed, cleared, wordsBytes, resultBytes, checkCall, runCall};
+ghost use Rattle.rules.specs.Printed.{printed};
 ghost use Rattle.tables.specs.Decode.{programIn};
 ghost use Rattle.tables.specs.Tables.{Tables};
 ghost use Rattle.reader.specs.Readings as Reader;
 ghost use Rattle.reader.specs.Readings.{framedVerdict};
 ghost use Rattle.checker.specs.Checked as Checker;
 ghost use Rattle.machine.specs.Runs.{mainValues};
+ghost use Rattle.printer.specs.Writes.{Prints};
+ghost use Rattle.printer.specs.Answers.{out-bytes};
 ghost use Rattle.station.specs.Station.{numbersIn, runNumbers};
 
 // A number of document 01's table, and the line that it goes with.
@@ -189,4 +192,16 @@ pub extern "C" fn run(text: &[u8], work: &mut [u8], steps: u32, results: &mut [u
     let f = run_text(text, work, steps, results);
     clear(work);
     pack(f)
+}
+
+// PRINT
+
+// What the program of document 01 prints for the text; how many bytes.
+pub fn print(text: &[u8], work: &mut [u8], results: &mut [u8], out: &mut [u8]) -> usize
+    requires { ⌜ (length (now work) ≡ work-bytes) × (length (now results) ≡ results-bytes) × (length (now out) ≡ out-bytes) ⌝ }
+    ensures { λ r. ⌜ Prints (printed (now (text .entry))) (now (out .exit)) r ⌝ }
+{
+    let checked = check(text, work);
+    let ran = run(text, work, Machine::PROGRAM_STEPS as u32, results);
+    printer::print(text, out, checked, ran, results)
 }
