@@ -177,11 +177,13 @@ impl fmt::Display for Outcome {
                 "stopped at line {line} after {steps} {step}: {} (number {number}); {}",
                 known.title, known.mend
             ),
-            (_, Some(known)) => write!(
-                f,
-                "not run, line {line}: {} (number {number}); {}",
-                known.title, known.mend
-            ),
+            (_, Some(known)) => {
+                write!(f, "not run")?;
+                if *line != 0 {
+                    write!(f, ", line {line}")?;
+                }
+                write!(f, ": {} (number {number}); {}", known.title, known.mend)
+            }
             (_, None) => write!(f, "number {number}, which this version does not know"),
         }
     }
