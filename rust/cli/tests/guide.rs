@@ -186,3 +186,24 @@ fn json_fields() {
         assert!(guide.contains(&format!("`{name}`")), "the guide does not list {name}");
     }
 }
+
+/// The table of limits has those of the machine, in this order.
+#[test]
+fn limits() {
+    use host::limits::*;
+    let guide = guide();
+    let (_, table) = guide.split_once("## Limits\n").expect("the last section");
+    let numbers: Vec<usize> = table
+        .replace(',', "")
+        .split(|letter: char| !letter.is_ascii_digit())
+        .filter_map(|digits| digits.parse().ok())
+        .collect();
+    let limits = [
+        TEXT_BYTES, CLASSES, CLASS_FIELDS, METHODS, LOCALS, STATEMENTS, BRANCHES, ATOMS, NAME_BYTES,
+        PERMISSIONS, FACTS, OBJECTS, FIELDS, FRAMES,
+    ];
+    assert_eq!(numbers, limits);
+    for (said, size) in [("32,769 bytes", TEXT_BYTES + 1), ("room for 63 below", FRAMES - 1)] {
+        assert!(guide.contains(said) && said.replace(',', "").contains(&size.to_string()));
+    }
+}
