@@ -48,7 +48,7 @@ fn main() {
     println!("clearing {WORK_BYTES} bytes, a part of every call: {clear:.0} ns\n");
     println!("| Text | Bytes | Call | Answer | Steps | Library ns | ns a step | Model ns | Model / library |");
     println!("|---|---:|---|---|---:|---:|---:|---:|---:|");
-    for workload in workloads::all() {
+    for workload in workloads::all().into_iter().chain(workloads::growth()) {
         if !workload.name.contains(&part) {
             continue;
         }

@@ -145,14 +145,14 @@ pub fn all() -> Vec<Workload> {
         workload("check: eq of paths", full_state(&[&eq_paths]), None),
         workload("check: acc", full_state(&[&acc]), None),
         workload("check: new", full_state(&news), None),
-        workload("check: let", full_state(&["let x11 x6.f7", "let x10 x5.f7"]), None),
+        workload("check: let", full_state(&["let x11 x6.f7", "let x11 x5.f7"]), None),
         workload("check: set", full_state(&["set x6 f7 x5", "set x5 f7 x6"]), None),
         workload("check: call", full_state(&["call x11 x6 m x5"]), None),
         workload("check: branches", full_state_of(6, 228, &nested), None),
     ];
-    let mut late = asserts(|_| "eq 5 5".to_string());
-    let end = late.len() - 4;
-    late.splice(end.., *b"assert\teq\tnone\t5\nend\n");
+    let mut late = asserts(|_| "eq 1000000001 1000000001".to_string());
+    let last = late.windows(7).rposition(|word| word == b"\nassert").unwrap_or(0);
+    late.splice(last + 1.., *b"assert\teq\tnone\t5\nend\n");
     let reads = [
         workload("read: declarations", declarations(), None),
         workload("read: long numbers", asserts(|_| "eq 2147483647 2147483647".to_string()), None),
@@ -167,4 +167,48 @@ pub fn all() -> Vec<Workload> {
     all.extend(checks);
     all.extend(reads);
     all
+}
+
+/// Texts that differ in one thing each, to see how cost grows with it.
+pub fn growth() -> Vec<Workload> {
+    let mut all = Vec::new();
+    let mut add = |name, text, steps| all.push(Workload { name, text, steps });
+    let asserted = ["assert acc x0 f0 ne x0 null eq x0.f0 null"];
+    add("statements: 60", full_state_of(4, 60, &asserted), None);
+    add("statements: 120", full_state_of(4, 120, &asserted), None);
+    add("statements: 240", full_state_of(4, 240, &asserted), None);
+    add("state: 8 permissions, 9 facts", full_state_of(1, 240, &asserted), None);
+    add("state: 24 permissions, 27 facts", full_state_of(3, 240, &asserted), None);
+    add("state: 56 permissions, 63 facts", full_state_of(7, 240, &asserted), None);
+    let steps = Some(1_000_000);
+    add("steps: calls 19 deep", calls(19, HELD, BACK, &[]), steps);
+    add("steps: calls 60 deep", calls(60, HELD, BACK, &[]), steps);
+    add("steps: 19 KB more text", padded(calls(19, HELD, BACK, &[])), steps);
+    add("steps: 180 objects more", crowded(calls(19, HELD, BACK, &[])), steps);
+    all
+}
+
+/// The text with a method before main that is never called.
+fn padded(text: Vec<u8>) -> Vec<u8> {
+    let mut method = String::from("method int pad int w\nrequires\nensures\n");
+    for _ in 0..150 {
+        method.push_str("assert eq 1000000001 1000000001 eq 1000000001 1000000001 eq 1000000001 1000000001 eq 100000001 100000001 eq 10000001 10000001\n");
+    }
+    method.push_str("end\n");
+    with_lines(text, "main\n", &method)
+}
+
+/// The text with objects made before main's first statement.
+fn crowded(text: Vec<u8>) -> Vec<u8> {
+    with_lines(text, "new\ts\tS\n", &"new s S\n".repeat(180))
+}
+
+/// The text with lines before the last place where others stand.
+fn with_lines(text: Vec<u8>, before: &str, lines: &str) -> Vec<u8> {
+    let text = String::from_utf8(text).expect("ASCII");
+    let at = text.rfind(before).expect("such lines");
+    let lines = lines.replace(' ', "\t");
+    let text = [&text[..at], &lines, &text[at..]].concat().into_bytes();
+    assert!(text.len() <= TEXT_BYTES);
+    text
 }
