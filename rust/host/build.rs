@@ -27,7 +27,9 @@ fn latest_source(folder: &Path) -> Option<SystemTime> {
             if path.is_dir() {
                 return latest_source(&path);
             }
-            let source = path.extension().is_some_and(|end| end == "rt" || end == "antt");
+            let source = path
+                .extension()
+                .is_some_and(|end| end == "rt" || end == "antt");
             source.then(|| changed(&path))?
         })
         .max()
@@ -70,11 +72,15 @@ fn limits(root: &Path) -> String {
         let Some(rest) = line.strip_prefix("pub const ") else {
             continue;
         };
-        let value = rest.strip_suffix(';').and_then(|rest| rest.split_once(": usize = "));
+        let value = rest
+            .strip_suffix(';')
+            .and_then(|rest| rest.split_once(": usize = "));
         let Some((name, value)) = value.filter(|(_, value)| value.parse::<u32>().is_ok()) else {
             fail(format!("{}: not understood: {line}", path.display()));
         };
-        limits.push_str(&format!("/// `Machine::{name}`\npub const {name}: usize = {value};\n"));
+        limits.push_str(&format!(
+            "/// `Machine::{name}`\npub const {name}: usize = {value};\n"
+        ));
     }
     limits
 }

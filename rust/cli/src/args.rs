@@ -76,7 +76,10 @@ pub fn parse(words: impl Iterator<Item = OsString>) -> Result<(Command, Options)
         Some("run") => return Err("run needs one file, or - for standard input".to_string()),
         Some("tabs") if names.len() == 1 => Command::Tabs(names),
         Some("tabs") => return Err("tabs needs one file, or - for standard input".to_string()),
-        Some("explain") => match (names.len(), names.first().and_then(|name| name.to_str()?.parse().ok())) {
+        Some("explain") => match (
+            names.len(),
+            names.first().and_then(|name| name.to_str()?.parse().ok()),
+        ) {
             (1, Some(number)) => Command::Explain(number),
             _ => return Err("explain needs one number".to_string()),
         },

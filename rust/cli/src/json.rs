@@ -71,7 +71,9 @@ impl Object {
 }
 
 pub fn report(report: &Report) -> String {
-    let (number, line) = report.refusal.map_or((0, 0), |refusal| (refusal.number(), refusal.line()));
+    let (number, line) = report
+        .refusal
+        .map_or((0, 0), |refusal| (refusal.number(), refusal.line()));
     let object = Object::new().text("file", report.file);
     let object = match &report.run {
         None => {
@@ -82,7 +84,10 @@ pub fn report(report: &Report) -> String {
                 .put("line", line)
                 .words(number)
                 .line_text(report.text, line);
-            match report.refusal.and_then(|refusal| note(report.text, refusal)) {
+            match report
+                .refusal
+                .and_then(|refusal| note(report.text, refusal))
+            {
                 Some(note) => object.text("note", &note),
                 None => object,
             }

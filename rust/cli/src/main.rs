@@ -26,9 +26,14 @@ const READ_BYTES: u64 = host::limits::TEXT_BYTES as u64 + 1;
 fn read(name: &OsString) -> std::io::Result<Vec<u8>> {
     let mut text = Vec::new();
     if name == "-" {
-        std::io::stdin().lock().take(READ_BYTES).read_to_end(&mut text)?;
+        std::io::stdin()
+            .lock()
+            .take(READ_BYTES)
+            .read_to_end(&mut text)?;
     } else {
-        std::fs::File::open(name)?.take(READ_BYTES).read_to_end(&mut text)?;
+        std::fs::File::open(name)?
+            .take(READ_BYTES)
+            .read_to_end(&mut text)?;
     }
     Ok(text)
 }
@@ -72,7 +77,10 @@ fn file(command: &Command, options: &Options, name: &OsString) -> Result<u8, Exi
     };
     if let Command::Tabs(_) = command {
         if text.len() > host::limits::TEXT_BYTES {
-            complain(&format!("{shown}: more than {} bytes; nothing is printed", host::limits::TEXT_BYTES));
+            complain(&format!(
+                "{shown}: more than {} bytes; nothing is printed",
+                host::limits::TEXT_BYTES
+            ));
             return Ok(REFUSED);
         }
         write(&tabs::tabbed(&text))?;

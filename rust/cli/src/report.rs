@@ -117,7 +117,10 @@ fn byte_note(line: &[u8], at: usize) -> String {
 
 fn form_note(line: &[u8]) -> String {
     let mut fields = line.split(|&byte| byte == b'\t');
-    let word = fields.next().and_then(|word| std::str::from_utf8(word).ok()).unwrap_or("");
+    let word = fields
+        .next()
+        .and_then(|word| std::str::from_utf8(word).ok())
+        .unwrap_or("");
     let empty = line.split(|&byte| byte == b'\t').position(<[u8]>::is_empty);
     match (WORDS.contains(&word), empty) {
         (_, Some(_)) if line.is_empty() => "the line is empty".to_string(),

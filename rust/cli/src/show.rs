@@ -145,7 +145,11 @@ pub fn report(report: &Report, colour: bool) -> String {
             let (number, line) = (refusal.number(), refusal.line());
             let known = explain(number);
             let title = known.map_or("", |known| known.title);
-            let said = if ran.is_some() { "check refuses it" } else { "refused" };
+            let said = if ran.is_some() {
+                "check refuses it"
+            } else {
+                "refused"
+            };
             let _ = writeln!(
                 out,
                 "{}: {}, number {number}: {title}",
@@ -170,7 +174,11 @@ pub fn report(report: &Report, colour: bool) -> String {
     };
     if ran.outcome.ending() == Ending::Finished {
         let finished = paint.good("finished");
-        let _ = writeln!(out, "{}: {finished} after {steps}", place(report.file, line));
+        let _ = writeln!(
+            out,
+            "{}: {finished} after {steps}",
+            place(report.file, line)
+        );
     } else {
         let known = explain(number);
         let title = known.map_or("", |known| known.title);
@@ -194,7 +202,11 @@ pub fn report(report: &Report, colour: bool) -> String {
 /// A number in words, with its example.
 pub fn explanation(known: &Explanation, colour: bool) -> String {
     let paint = Paint(colour);
-    let mut out = format!("{}: {}\n", paint.side(&known.number.to_string()), known.title);
+    let mut out = format!(
+        "{}: {}\n",
+        paint.side(&known.number.to_string()),
+        known.title
+    );
     number_in_words(&mut out, known, None);
     if let Some(example) = known.example {
         let _ = writeln!(out, "  a script that gets it, its tabs shown as blanks:");

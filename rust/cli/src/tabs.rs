@@ -14,9 +14,17 @@ pub fn tabbed(text: &[u8]) -> Vec<u8> {
     let mut out = Vec::with_capacity(text.len() + 1);
     for line in text.split_inclusive(|&byte| byte == b'\n') {
         let line = line.strip_suffix(b"\n").unwrap_or(line);
-        let from = line.iter().position(|byte| !edge(byte)).unwrap_or(line.len());
-        let to = line.iter().rposition(|byte| !edge(byte)).map_or(from, |at| at + 1);
-        let fields = line[from..to].split(blank).filter(|field| !field.is_empty());
+        let from = line
+            .iter()
+            .position(|byte| !edge(byte))
+            .unwrap_or(line.len());
+        let to = line
+            .iter()
+            .rposition(|byte| !edge(byte))
+            .map_or(from, |at| at + 1);
+        let fields = line[from..to]
+            .split(blank)
+            .filter(|field| !field.is_empty());
         for (at, field) in fields.enumerate() {
             if at > 0 {
                 out.push(b'\t');
@@ -46,7 +54,9 @@ mod tests {
     fn a_tabbed_text_stays() {
         for seed in 0..2_000u64 {
             let text: Vec<u8> = (0..seed % 97)
-                .map(|at| b" \t\r\nab\x80"[(seed.wrapping_mul(0x9e37_79b9) >> (at % 23)) as usize % 7])
+                .map(|at| {
+                    b" \t\r\nab\x80"[(seed.wrapping_mul(0x9e37_79b9) >> (at % 23)) as usize % 7]
+                })
                 .collect();
             let once = tabbed(&text);
             assert_eq!(tabbed(&once), once, "{text:?}");

@@ -43,7 +43,10 @@ fn statuses() {
     assert_eq!(status(&["run", "examples/tag.script"], b""), 0);
     assert_eq!(status(&["run", "examples/stopped-23.script"], b""), 1);
     assert_eq!(status(&["run", "examples/refused-06.script"], b""), 1);
-    assert_eq!(status(&["run", "--steps", "7", "examples/tag.script"], b""), 1);
+    assert_eq!(
+        status(&["run", "--steps", "7", "examples/tag.script"], b""),
+        1
+    );
     assert_eq!(status(&["run", "--steps=8", "examples/tag.script"], b""), 0);
     assert_eq!(status(&["explain", "12"], b""), 0);
     assert_eq!(status(&["tabs", "-"], b"a b"), 0);
@@ -79,7 +82,12 @@ fn wrong_use() {
 /// A file that can't be read doesn't keep the others from being done.
 #[test]
 fn the_other_files_are_done() {
-    let words = ["check", "examples/refused-12.script", "no-such-file", "examples/tag.script"];
+    let words = [
+        "check",
+        "examples/refused-12.script",
+        "no-such-file",
+        "examples/tag.script",
+    ];
     let (out, error, status) = said(&words, b"");
     assert_eq!(status, 2);
     assert!(out.starts_with("examples/refused-12.script:6: refused, number 12: "));
@@ -91,7 +99,10 @@ fn the_other_files_are_done() {
 fn standard_input() {
     assert_eq!(said(&["check", "-"], b"main\nend\n").0, "-: accepted\n");
     let (out, _, status) = said(&["run", "-"], b"main\nvar\tint\ta\nlet\ta\t-7\nend\n");
-    assert_eq!((out.as_str(), status), ("-:4: finished after 2 steps\n  a = -7\n", 0));
+    assert_eq!(
+        (out.as_str(), status),
+        ("-:4: finished after 2 steps\n  a = -7\n", 0)
+    );
 }
 
 /// At most one byte more than a text may have is read: more than a pipe holds
@@ -100,7 +111,10 @@ fn standard_input() {
 fn long_input() {
     let (out, _, status) = said(&["check", "-"], &vec![b'\n'; 1 << 20]);
     assert_eq!(status, 1);
-    assert!(out.starts_with("-: refused, number 2: a text that is too long\n"), "{out}");
+    assert!(
+        out.starts_with("-: refused, number 2: a text that is too long\n"),
+        "{out}"
+    );
     let (out, error, status) = said(&["tabs", "-"], &vec![b'a'; 32_769]);
     assert_eq!((out.as_str(), status), ("", 1));
     assert!(error.contains("32768 bytes"), "{error}");
@@ -113,11 +127,24 @@ fn long_input() {
 fn escapes() {
     let (out, _, _) = said(&["check", "-"], b"main\nvar\tint\t\x1b[31m\xe9\nend\n");
     let lines: Vec<&str> = out.lines().collect();
-    assert_eq!(lines[2..4], ["2 | var int \\x1b[31m\\xe9", "  |         ^^^^"]);
-    assert!(out.bytes().all(|byte| byte == b'\n' || (32..127).contains(&byte)));
-    let (json, _, _) = said(&["check", "--json", "-"], b"main\nvar\tint\t\x1b[31m\xe9\"\nend\n");
-    assert!(json.contains(r#""text":"var\\tint\\t\\x1b[31m\\xe9\"""#), "{json}");
-    assert!(json.bytes().all(|byte| byte == b'\n' || (32..127).contains(&byte)));
+    assert_eq!(
+        lines[2..4],
+        ["2 | var int \\x1b[31m\\xe9", "  |         ^^^^"]
+    );
+    assert!(out
+        .bytes()
+        .all(|byte| byte == b'\n' || (32..127).contains(&byte)));
+    let (json, _, _) = said(
+        &["check", "--json", "-"],
+        b"main\nvar\tint\t\x1b[31m\xe9\"\nend\n",
+    );
+    assert!(
+        json.contains(r#""text":"var\\tint\\t\\x1b[31m\\xe9\"""#),
+        "{json}"
+    );
+    assert!(json
+        .bytes()
+        .all(|byte| byte == b'\n' || (32..127).contains(&byte)));
 }
 
 /// A long line is cut around the byte that is pointed at.
@@ -136,7 +163,10 @@ fn long_lines() {
 /// Without a terminal there is no colour, whatever the environment says.
 #[test]
 fn no_colour_in_a_pipe() {
-    for words in [&["check", "examples/refused-12.script"][..], &["explain", "4"]] {
+    for words in [
+        &["check", "examples/refused-12.script"][..],
+        &["explain", "4"],
+    ] {
         assert!(!said(words, b"").0.contains('\x1b'));
     }
 }
@@ -157,7 +187,10 @@ mod json {
     impl Json {
         pub fn get(&self, name: &str) -> Option<&Json> {
             match self {
-                Json::Object(fields) => fields.iter().find(|field| field.0 == name).map(|field| &field.1),
+                Json::Object(fields) => fields
+                    .iter()
+                    .find(|field| field.0 == name)
+                    .map(|field| &field.1),
                 _ => None,
             }
         }
@@ -175,7 +208,11 @@ mod json {
     }
 
     fn value(rest: &mut &str) -> Option<Json> {
-        for (word, value) in [("null", Json::Null), ("true", Json::Bool(true)), ("false", Json::Bool(false))] {
+        for (word, value) in [
+            ("null", Json::Null),
+            ("true", Json::Bool(true)),
+            ("false", Json::Bool(false)),
+        ] {
             if take(rest, word).is_some() {
                 return Some(value);
             }
@@ -200,7 +237,12 @@ mod json {
         }
     }
 
-    fn list<T>(rest: &mut &str, open: &str, close: &str, item: impl Fn(&mut &str) -> Option<T>) -> Option<Vec<T>> {
+    fn list<T>(
+        rest: &mut &str,
+        open: &str,
+        close: &str,
+        item: impl Fn(&mut &str) -> Option<T>,
+    ) -> Option<Vec<T>> {
         take(rest, open)?;
         let mut items = Vec::new();
         if take(rest, close).is_some() {
@@ -253,17 +295,30 @@ fn object(words: &[&str], input: &[u8]) -> Json {
 #[test]
 fn json_of_check() {
     let accepted = object(&["check", "--json", "examples/tag.script"], b"");
-    assert_eq!(accepted.get("file"), Some(&Json::String("examples/tag.script".to_string())));
-    assert_eq!(accepted.get("call"), Some(&Json::String("check".to_string())));
+    assert_eq!(
+        accepted.get("file"),
+        Some(&Json::String("examples/tag.script".to_string()))
+    );
+    assert_eq!(
+        accepted.get("call"),
+        Some(&Json::String("check".to_string()))
+    );
     assert_eq!(accepted.get("accepted"), Some(&Json::Bool(true)));
     assert_eq!(accepted.get("number"), Some(&Json::Number(0)));
     let refused = object(&["check", "--json", "examples/refused-12.script"], b"");
     assert_eq!(refused.get("accepted"), Some(&Json::Bool(false)));
     assert_eq!(refused.get("number"), Some(&Json::Number(12)));
     assert_eq!(refused.get("line"), Some(&Json::Number(6)));
-    assert_eq!(refused.get("text"), Some(&Json::String("set\\tthis\\tn\\tk".to_string())));
+    assert_eq!(
+        refused.get("text"),
+        Some(&Json::String("set\\tthis\\tn\\tk".to_string()))
+    );
     let known = host::explain(12).expect("12 is explained");
-    for (name, text) in [("title", known.title), ("meaning", known.meaning), ("mend", known.mend)] {
+    for (name, text) in [
+        ("title", known.title),
+        ("meaning", known.meaning),
+        ("mend", known.mend),
+    ] {
         assert_eq!(refused.get(name), Some(&Json::String(text.to_string())));
     }
     let noted = object(&["check", "--json", "examples/refused-03.script"], b"");
@@ -272,18 +327,28 @@ fn json_of_check() {
 
 #[test]
 fn json_of_run() {
-    let run = object(&["run", "--json", "--steps", "5", "examples/tag.script"], b"");
+    let run = object(
+        &["run", "--json", "--steps", "5", "examples/tag.script"],
+        b"",
+    );
     assert_eq!(run.get("call"), Some(&Json::String("run".to_string())));
     assert_eq!(run.get("finished"), Some(&Json::Bool(false)));
     assert_eq!(run.get("number"), Some(&Json::Number(21)));
     assert_eq!(run.get("allowed"), Some(&Json::Number(5)));
     assert_eq!(run.get("steps"), Some(&Json::Number(5)));
-    assert_eq!(run.get("check").and_then(|check| check.get("accepted")), Some(&Json::Bool(true)));
+    assert_eq!(
+        run.get("check").and_then(|check| check.get("accepted")),
+        Some(&Json::Bool(true))
+    );
     let Some(Json::List(variables)) = run.get("variables") else {
         panic!("no variables: {run:?}");
     };
     let text = |text: &str| Json::String(text.to_string());
-    let expected = [("c", "Card", Json::Number(1)), ("k", "int", Json::Number(7)), ("r", "int", Json::Number(0))];
+    let expected = [
+        ("c", "Card", Json::Number(1)),
+        ("k", "int", Json::Number(7)),
+        ("r", "int", Json::Number(0)),
+    ];
     assert_eq!(variables.len(), expected.len());
     for (variable, (name, kind, value)) in variables.iter().zip(expected) {
         assert_eq!(variable.get("name"), Some(&text(name)));
@@ -295,7 +360,10 @@ fn json_of_run() {
         panic!("no variables: {null:?}");
     };
     assert_eq!(variables[0].get("value"), Some(&Json::Null));
-    assert_eq!(null.get("check").and_then(|check| check.get("number")), Some(&Json::Number(11)));
+    assert_eq!(
+        null.get("check").and_then(|check| check.get("number")),
+        Some(&Json::Number(11))
+    );
 }
 
 /// Every input gives one JSON object, whatever its bytes, also where a file
@@ -305,14 +373,30 @@ fn json_of_anything() {
     let unread = object(&["check", "--json", "no-such-file"], b"");
     assert!(matches!(unread.get("error"), Some(Json::String(_))));
     let every_byte: Vec<u8> = (0..=255).collect();
-    for text in [&every_byte[..], b"", b"\n", b"main", b"main\nend\nend\n", b"\"\\\n"] {
-        assert!(matches!(object(&["check", "--json", "-"], text).get("number"), Some(Json::Number(_))));
-        assert!(matches!(object(&["run", "--json", "-"], text).get("number"), Some(Json::Number(_))));
+    for text in [
+        &every_byte[..],
+        b"",
+        b"\n",
+        b"main",
+        b"main\nend\nend\n",
+        b"\"\\\n",
+    ] {
+        assert!(matches!(
+            object(&["check", "--json", "-"], text).get("number"),
+            Some(Json::Number(_))
+        ));
+        assert!(matches!(
+            object(&["run", "--json", "-"], text).get("number"),
+            Some(Json::Number(_))
+        ));
     }
     for known in host::EXPLANATIONS {
         let number = known.number.to_string();
         let shown = object(&["explain", "--json", &number], b"");
-        assert_eq!(shown.get("mend"), Some(&Json::String(known.mend.to_string())));
+        assert_eq!(
+            shown.get("mend"),
+            Some(&Json::String(known.mend.to_string()))
+        );
     }
 }
 

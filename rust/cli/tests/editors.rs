@@ -19,7 +19,9 @@ fn read(name: &str) -> String {
 
 fn examples() -> Vec<PathBuf> {
     let entries = std::fs::read_dir(root().join("examples")).expect("examples");
-    let mut names: Vec<PathBuf> = entries.map(|entry| entry.expect("an entry").path()).collect();
+    let mut names: Vec<PathBuf> = entries
+        .map(|entry| entry.expect("an entry").path())
+        .collect();
     names.retain(|name| name.extension().is_some_and(|end| end == "script"));
     names.sort();
     names
@@ -45,7 +47,9 @@ fn colour(place: usize, field: &str) -> Colour {
         (_, "acc" | "eq" | "ne") => Colour::Atom,
         (_, "int") => Colour::Type,
         (_, "null" | "this" | "result") => Colour::Reserved,
-        _ if first.starts_with(|letter: char| letter == '-' || letter.is_ascii_digit()) => Colour::Number,
+        _ if first.starts_with(|letter: char| letter == '-' || letter.is_ascii_digit()) => {
+            Colour::Number
+        }
         _ => Colour::Name,
     }
 }
@@ -54,10 +58,14 @@ fn colour(place: usize, field: &str) -> Colour {
 fn compare(editor: &str, text: &str, given: &str, known: impl Fn(&str) -> Option<Colour>) {
     let mut lines = given.lines();
     for line in text.lines() {
-        let given = lines.next().unwrap_or_else(|| panic!("{editor}: no answer for {line}"));
+        let given = lines
+            .next()
+            .unwrap_or_else(|| panic!("{editor}: no answer for {line}"));
         let given: Vec<Option<Colour>> = given.split(' ').map(&known).collect();
         let fields = line.split('\t').enumerate();
-        let expected: Vec<_> = fields.map(|(place, field)| Some(colour(place, field))).collect();
+        let expected: Vec<_> = fields
+            .map(|(place, field)| Some(colour(place, field)))
+            .collect();
         assert_eq!(given, expected, "{editor}: {line:?}");
     }
 }
@@ -65,11 +73,16 @@ fn compare(editor: &str, text: &str, given: &str, known: impl Fn(&str) -> Option
 #[test]
 fn the_eighteen_words() {
     let all = WORDS.join("|");
-    assert!(read("editors/vscode/syntaxes/station.tmLanguage.json").contains(&format!("^({all})(?=")));
+    assert!(
+        read("editors/vscode/syntaxes/station.tmLanguage.json").contains(&format!("^({all})(?="))
+    );
     let all = WORDS.join("\\|");
     assert!(read("editors/vim/syntax/station.vim").contains(&format!("/^\\({all}\\)\\ze")));
     for word in WORDS {
-        assert!(read("docs/LANGUAGE.md").contains(&format!("`{word}")), "{word} in the guide");
+        assert!(
+            read("docs/LANGUAGE.md").contains(&format!("`{word}")),
+            "{word} in the guide"
+        );
     }
 }
 
@@ -96,9 +109,16 @@ fn vim() {
         return;
     }
     let folder = Path::new(env!("CARGO_TARGET_TMPDIR"));
-    let (setup, probe, out) = (folder.join("setup.vim"), folder.join("probe.vim"), folder.join("vim.out"));
+    let (setup, probe, out) = (
+        folder.join("setup.vim"),
+        folder.join("probe.vim"),
+        folder.join("vim.out"),
+    );
     let path = root().join("editors/vim");
-    let lines = format!("set nocompatible\nset rtp^={}\nsyntax on\nfiletype plugin on\n", path.display());
+    let lines = format!(
+        "set nocompatible\nset rtp^={}\nsyntax on\nfiletype plugin on\n",
+        path.display()
+    );
     std::fs::write(&setup, lines).expect("a file");
     std::fs::write(&probe, PROBE).expect("a file");
     for name in examples() {
@@ -175,19 +195,28 @@ fn textmate() {
             .arg(&name)
             .output()
             .expect("node");
-        assert!(output.status.success(), "{}", String::from_utf8_lossy(&output.stderr));
+        assert!(
+            output.status.success(),
+            "{}",
+            String::from_utf8_lossy(&output.stderr)
+        );
         let text = std::fs::read_to_string(&name).expect("an example");
-        compare("textmate", &text, &String::from_utf8_lossy(&output.stdout), |name| {
-            Some(match name {
-                "keyword.control.station" => Colour::Word,
-                "keyword.operator.station" => Colour::Atom,
-                "storage.type.station" => Colour::Type,
-                "constant.language.station" | "variable.language.station" => Colour::Reserved,
-                "constant.numeric.station" => Colour::Number,
-                "variable.other.station" => Colour::Name,
-                "invalid.illegal.station" => Colour::Bad,
-                _ => return None,
-            })
-        });
+        compare(
+            "textmate",
+            &text,
+            &String::from_utf8_lossy(&output.stdout),
+            |name| {
+                Some(match name {
+                    "keyword.control.station" => Colour::Word,
+                    "keyword.operator.station" => Colour::Atom,
+                    "storage.type.station" => Colour::Type,
+                    "constant.language.station" | "variable.language.station" => Colour::Reserved,
+                    "constant.numeric.station" => Colour::Number,
+                    "variable.other.station" => Colour::Name,
+                    "invalid.illegal.station" => Colour::Bad,
+                    _ => return None,
+                })
+            },
+        );
     }
 }

@@ -62,7 +62,10 @@ fn fresh(block: &Block) -> String {
         return script(name).replace('\t', " ");
     }
     if block.heading == "console" {
-        let commands = block.lines.iter().filter_map(|line| line.strip_prefix("$ "));
+        let commands = block
+            .lines
+            .iter()
+            .filter_map(|line| line.strip_prefix("$ "));
         let shown = commands.map(|command| format!("$ {command}\n{}", printed(command)));
         return shown.collect();
     }
@@ -99,14 +102,22 @@ fn every_example() {
     });
     let mut files = BTreeSet::new();
     for entry in std::fs::read_dir(root().join("examples")).expect("examples") {
-        let name = entry.expect("an entry").file_name().into_string().expect("a name");
+        let name = entry
+            .expect("an entry")
+            .file_name()
+            .into_string()
+            .expect("a name");
         if name.ends_with(".script") {
             files.insert(format!("examples/{name}"));
         }
     }
     assert!(files.len() >= 24, "{files:?}");
     assert_eq!(shown, files);
-    assert!(answered.is_superset(&files), "without an answer: {:?}", &files - &answered);
+    assert!(
+        answered.is_superset(&files),
+        "without an answer: {:?}",
+        &files - &answered
+    );
 }
 
 /// A script with each line that is crossed out replaced by those that follow.
@@ -118,7 +129,9 @@ fn mended(script: &str, lines: &[&str]) -> String {
         let line = line.replace(' ', "\t");
         match sign {
             "- " => {
-                let found = all[at..].iter().position(|old| old.replace(' ', "\t") == line);
+                let found = all[at..]
+                    .iter()
+                    .position(|old| old.replace(' ', "\t") == line);
                 at += found.unwrap_or_else(|| panic!("not in the script: {line}"));
                 all.remove(at);
             }
@@ -153,10 +166,16 @@ fn mends() {
         String::new()
     });
     for number in 3..=14 {
-        assert!(mends.contains(&format!("examples/refused-{number:02}.script")), "{number}");
+        assert!(
+            mends.contains(&format!("examples/refused-{number:02}.script")),
+            "{number}"
+        );
     }
     for number in 22..=26 {
-        assert!(mends.contains(&format!("examples/stopped-{number}.script")), "{number}");
+        assert!(
+            mends.contains(&format!("examples/stopped-{number}.script")),
+            "{number}"
+        );
     }
 }
 
@@ -176,14 +195,20 @@ fn json_fields() {
         let parts: Vec<&str> = printed.split('"').collect();
         for (at, part) in parts.iter().enumerate() {
             let name = part.len() < 12 && part.bytes().all(|byte| byte.is_ascii_lowercase());
-            if name && !part.is_empty() && parts.get(at + 1).is_some_and(|next| next.starts_with(':')) {
+            if name
+                && !part.is_empty()
+                && parts.get(at + 1).is_some_and(|next| next.starts_with(':'))
+            {
                 names.insert(part.to_string());
             }
         }
     }
     assert!(names.len() >= 16, "{names:?}");
     for name in names {
-        assert!(guide.contains(&format!("`{name}`")), "the guide does not list {name}");
+        assert!(
+            guide.contains(&format!("`{name}`")),
+            "the guide does not list {name}"
+        );
     }
 }
 
@@ -199,11 +224,26 @@ fn limits() {
         .filter_map(|digits| digits.parse().ok())
         .collect();
     let limits = [
-        TEXT_BYTES, CLASSES, CLASS_FIELDS, METHODS, LOCALS, STATEMENTS, BRANCHES, ATOMS, NAME_BYTES,
-        PERMISSIONS, FACTS, OBJECTS, FIELDS, FRAMES,
+        TEXT_BYTES,
+        CLASSES,
+        CLASS_FIELDS,
+        METHODS,
+        LOCALS,
+        STATEMENTS,
+        BRANCHES,
+        ATOMS,
+        NAME_BYTES,
+        PERMISSIONS,
+        FACTS,
+        OBJECTS,
+        FIELDS,
+        FRAMES,
     ];
     assert_eq!(numbers, limits);
-    for (said, size) in [("32,769 bytes", TEXT_BYTES + 1), ("room for 63 below", FRAMES - 1)] {
+    for (said, size) in [
+        ("32,769 bytes", TEXT_BYTES + 1),
+        ("room for 63 below", FRAMES - 1),
+    ] {
         assert!(guide.contains(said) && said.replace(',', "").contains(&size.to_string()));
     }
 }

@@ -40,7 +40,10 @@ fn sink(answer: u32) {
 
 fn main() {
     let mut words = std::env::args().skip(1);
-    let ms = words.next().and_then(|word| word.parse().ok()).unwrap_or(100.0);
+    let ms = words
+        .next()
+        .and_then(|word| word.parse().ok())
+        .unwrap_or(100.0);
     let part = words.next().unwrap_or_default();
     let mut work = (vec![0; WORK_BYTES], vec![0; WORK_BYTES]);
     let mut results = ([0; RESULTS_BYTES], [0; RESULTS_BYTES]);
@@ -53,7 +56,10 @@ fn main() {
             continue;
         }
         let (name, text) = (workload.name, &workload.text[..]);
-        let answers = (calls::check(text, &mut work.0), model::check_call(text, &mut work.1));
+        let answers = (
+            calls::check(text, &mut work.0),
+            model::check_call(text, &mut work.1),
+        );
         assert_eq!(answers.0, answers.1, "{name}");
         let (library, model) = duel(
             || sink(calls::check(black_box(text), &mut work.0)),
@@ -82,10 +88,27 @@ fn main() {
             model::run_call(text, &mut work.1, allowed, &mut results.1),
         );
         assert_eq!((answers.0, results.0), (answers.1, results.1), "{name}");
-        let steps = results.0[..4].iter().rev().fold(0, |all, &byte| all << 8 | u32::from(byte));
+        let steps = results.0[..4]
+            .iter()
+            .rev()
+            .fold(0, |all, &byte| all << 8 | u32::from(byte));
         let (library, model) = duel(
-            || sink(calls::run(black_box(text), &mut work.0, allowed, &mut results.0)),
-            || sink(model::run_call(black_box(text), &mut work.1, allowed, &mut results.1)),
+            || {
+                sink(calls::run(
+                    black_box(text),
+                    &mut work.0,
+                    allowed,
+                    &mut results.0,
+                ))
+            },
+            || {
+                sink(model::run_call(
+                    black_box(text),
+                    &mut work.1,
+                    allowed,
+                    &mut results.1,
+                ))
+            },
             ms,
         );
         row("run", answers.0, steps, library, model);

@@ -9,13 +9,21 @@ mod compare;
 
 fn main() {
     let mut words = std::env::args().skip(1);
-    let mut number = |usual: u64| words.next().and_then(|word| word.parse().ok()).unwrap_or(usual);
+    let mut number = |usual: u64| {
+        words
+            .next()
+            .and_then(|word| word.parse().ok())
+            .unwrap_or(usual)
+    };
     let (first, seeds) = (number(50_000), number(10_000));
     match compare::compare_seeds(first..first.saturating_add(seeds)) {
         Ok((checks, runs)) => {
             println!("{} texts, no difference", checks.iter().sum::<u64>());
             for number in (0..27).filter(|&number| checks[number] + runs[number] > 0) {
-                println!("{number:>2}: check {:>9}, run {:>9}", checks[number], runs[number]);
+                println!(
+                    "{number:>2}: check {:>9}, run {:>9}",
+                    checks[number], runs[number]
+                );
             }
         }
         Err(difference) => {

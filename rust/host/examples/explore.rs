@@ -28,7 +28,9 @@ struct Reached {
 /// The first word of a line and, where it has one, its first atom's.
 fn kind_of(text: &[u8], line: u32) -> Vec<u8> {
     let lines = text.split(|&byte| byte == b'\n');
-    let line = (line as usize).checked_sub(1).and_then(|at| lines.skip(at).step_by(1).next());
+    let line = (line as usize)
+        .checked_sub(1)
+        .and_then(|at| lines.skip(at).step_by(1).next());
     let fields = line.unwrap_or_default().split(|&byte| byte == b'\t');
     let known = |word: &&[u8]| word.len() < 9 && word.iter().all(u8::is_ascii_lowercase);
     fields.take(2).filter(known).flatten().copied().collect()
@@ -47,7 +49,12 @@ fn reached(text: &[u8], check: u32, run: u32) -> Reached {
 
 fn main() {
     let mut words = std::env::args().skip(1);
-    let mut number = |usual: u64| words.next().and_then(|word| word.parse().ok()).unwrap_or(usual);
+    let mut number = |usual: u64| {
+        words
+            .next()
+            .and_then(|word| word.parse().ok())
+            .unwrap_or(usual)
+    };
     let (texts, seed) = (number(100_000), number(1));
     let folder = words.next();
     let mut rng = Rng::new(seed);
@@ -89,7 +96,9 @@ fn main() {
     };
     let written = std::fs::create_dir_all(&folder).and_then(|()| {
         let mut named = kept.iter().enumerate();
-        named.try_for_each(|(at, text)| std::fs::write(Path::new(&folder).join(format!("{at:05}")), text))
+        named.try_for_each(|(at, text)| {
+            std::fs::write(Path::new(&folder).join(format!("{at:05}")), text)
+        })
     });
     if let Err(error) = written {
         eprintln!("{folder}: {error}");

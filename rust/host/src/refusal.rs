@@ -96,8 +96,16 @@ impl fmt::Display for Refusal {
             write!(f, "line {}: ", self.line)?;
         }
         match explain(self.number) {
-            Some(known) => write!(f, "{} (number {}); {}", known.title, self.number, known.mend),
-            None => write!(f, "number {}, which this version does not know", self.number),
+            Some(known) => write!(
+                f,
+                "{} (number {}); {}",
+                known.title, self.number, known.mend
+            ),
+            None => write!(
+                f,
+                "number {}, which this version does not know",
+                self.number
+            ),
         }
     }
 }

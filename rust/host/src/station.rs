@@ -39,10 +39,11 @@ impl Station {
     /// As [`crate::run`].
     pub fn run(&mut self, text: &[u8], steps: u32) -> Outcome {
         let returned = calls::run(text, &mut self.work, steps, &mut self.results);
-        let mut words = self
-            .results
-            .chunks_exact(4)
-            .map(|four| four.iter().rev().fold(0, |word, &byte| word << 8 | u32::from(byte)));
+        let mut words = self.results.chunks_exact(4).map(|four| {
+            four.iter()
+                .rev()
+                .fold(0, |word, &byte| word << 8 | u32::from(byte))
+        });
         let steps = words.next().unwrap_or(0);
         let mut values = [0; VALUES];
         for (value, word) in values.iter_mut().zip(words) {

@@ -15,7 +15,10 @@ fn numbers_and_kinds() {
     for number in [0, 1, 15, 21, u32::MAX] {
         assert_eq!(Kind::of(number), Kind::Unknown);
     }
-    let explained: Vec<u32> = host::EXPLANATIONS.iter().map(|known| known.number).collect();
+    let explained: Vec<u32> = host::EXPLANATIONS
+        .iter()
+        .map(|known| known.number)
+        .collect();
     let returned: Vec<u32> = (0..=14).chain(21..=26).collect();
     assert_eq!(explained, returned);
     for known in host::EXPLANATIONS {
@@ -34,13 +37,19 @@ fn sizes_in_words() {
         let words = format!("{} {}", known.meaning, known.mend).replace(',', "");
         let words: Vec<&str> = words.split_whitespace().collect();
         for size in sizes {
-            assert!(words.contains(&size.to_string().as_str()), "{size} in {words:?}");
+            assert!(
+                words.contains(&size.to_string().as_str()),
+                "{size} in {words:?}"
+            );
         }
     };
     said(1, &[WORK_BYTES, RESULTS_BYTES]);
     said(2, &[TEXT_BYTES]);
     said(4, &[ATOMS, NAME_BYTES]);
-    said(5, &[CLASSES, CLASS_FIELDS, METHODS, LOCALS, STATEMENTS, BRANCHES]);
+    said(
+        5,
+        &[CLASSES, CLASS_FIELDS, METHODS, LOCALS, STATEMENTS, BRANCHES],
+    );
     said(14, &[PERMISSIONS, FACTS]);
     said(22, &[OBJECTS, FIELDS]);
     said(23, &[FRAMES, FRAMES - 1]);
@@ -104,7 +113,11 @@ fn generated_texts() {
             }
             Ending::Refused(kind) => {
                 assert_eq!(kind, Kind::of(number));
-                let start = if line == 0 { "not run: ".to_string() } else { format!("not run, line {line}: ") };
+                let start = if line == 0 {
+                    "not run: ".to_string()
+                } else {
+                    format!("not run, line {line}: ")
+                };
                 assert!(outcome.to_string().starts_with(&start), "{outcome}");
             }
         }

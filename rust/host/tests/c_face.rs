@@ -74,7 +74,10 @@ fn numbers() {
             digits.parse().expect("a number")
         })
         .collect();
-    let explained: Vec<u32> = host::EXPLANATIONS.iter().map(|known| known.number).collect();
+    let explained: Vec<u32> = host::EXPLANATIONS
+        .iter()
+        .map(|known| known.number)
+        .collect();
     assert_eq!(named, explained);
 }
 
@@ -83,7 +86,9 @@ fn compiled(name: &str) -> PathBuf {
     let host = Path::new(env!("CARGO_MANIFEST_DIR"));
     let program = Path::new(env!("CARGO_TARGET_TMPDIR")).join(name);
     let output = Command::new("gcc")
-        .args(["-std=c11", "-O2", "-Wall", "-Wextra", "-Werror", "-pthread", "-I"])
+        .args([
+            "-std=c11", "-O2", "-Wall", "-Wextra", "-Werror", "-pthread", "-I",
+        ])
         .arg(host.join("../../include"))
         .arg(host.join(format!("tests/c/{name}.c")))
         .arg(concat!(env!("OUT_DIR"), "/libstation.a"))
@@ -91,15 +96,24 @@ fn compiled(name: &str) -> PathBuf {
         .arg(&program)
         .output()
         .expect("gcc");
-    assert!(output.status.success(), "{}", String::from_utf8_lossy(&output.stderr));
+    assert!(
+        output.status.success(),
+        "{}",
+        String::from_utf8_lossy(&output.stderr)
+    );
     program
 }
 
 #[test]
 fn called_from_c() {
-    let output = Command::new(compiled("calls")).output().expect("the program");
+    let output = Command::new(compiled("calls"))
+        .output()
+        .expect("the program");
     let printed = String::from_utf8_lossy(&output.stdout);
-    assert_eq!((printed.as_ref(), output.status.code()), ("right\n", Some(0)));
+    assert_eq!(
+        (printed.as_ref(), output.status.code()),
+        ("right\n", Some(0))
+    );
 }
 
 /// Under valgrind, where there is one: nothing outside the areas is touched, and
@@ -109,7 +123,9 @@ fn replayed() {
     let folder = Path::new(env!("CARGO_TARGET_TMPDIR")).join("replay-texts");
     std::fs::create_dir_all(&folder).expect("a folder");
     let texts: Vec<Vec<u8>> = (0..150).map(model::gen::text).collect();
-    let names: Vec<PathBuf> = (0..texts.len()).map(|at| folder.join(format!("{at}"))).collect();
+    let names: Vec<PathBuf> = (0..texts.len())
+        .map(|at| folder.join(format!("{at}")))
+        .collect();
     for (name, text) in names.iter().zip(&texts) {
         std::fs::write(name, text).expect("a text");
     }
@@ -120,9 +136,15 @@ fn replayed() {
         false => Command::new(&program),
     };
     if valgrind {
-        command.args(["--quiet", "--error-exitcode=9"]).arg(&program);
+        command
+            .args(["--quiet", "--error-exitcode=9"])
+            .arg(&program);
     }
-    let output = command.arg("500").args(&names).output().expect("the program");
+    let output = command
+        .arg("500")
+        .args(&names)
+        .output()
+        .expect("the program");
     let errors = String::from_utf8_lossy(&output.stderr);
     assert_eq!((output.status.code(), errors.as_ref()), (Some(0), ""));
     let printed = String::from_utf8_lossy(&output.stdout);
@@ -134,7 +156,12 @@ fn replayed() {
         let ran = model::run_call(text, &mut work, 500, &mut results);
         let add = |sum: u32, &byte: &u8| sum.wrapping_mul(31).wrapping_add(u32::from(byte));
         let expected = format!("{checked} {ran} {}", results.iter().fold(0, add));
-        assert_eq!(lines.next(), Some(expected.as_str()), "{}", text.escape_ascii());
+        assert_eq!(
+            lines.next(),
+            Some(expected.as_str()),
+            "{}",
+            text.escape_ascii()
+        );
     }
     assert_eq!(lines.next(), None);
 }
@@ -156,7 +183,10 @@ fn stack() {
             name
         })
         .collect();
-    let output = Command::new(compiled("stack")).arg("2000").args(&names).output();
+    let output = Command::new(compiled("stack"))
+        .arg("2000")
+        .args(&names)
+        .output();
     let output = output.expect("the program");
     assert!(output.status.success());
     let printed = String::from_utf8_lossy(&output.stdout);

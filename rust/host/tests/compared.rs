@@ -23,7 +23,13 @@ fn decoded(results: &[u8]) -> Vec<i64> {
     let word = |four: &[u8]| i32::from_le_bytes(four.try_into().expect("four bytes"));
     let words = results.chunks(4).map(word).enumerate();
     words
-        .map(|(at, word)| if at == 0 { i64::from(word as u32) } else { i64::from(word) })
+        .map(|(at, word)| {
+            if at == 0 {
+                i64::from(word as u32)
+            } else {
+                i64::from(word)
+            }
+        })
         .collect()
 }
 
@@ -108,7 +114,11 @@ fn lengths_and_single_bytes() {
 /// At least a million texts; a fortieth of them without optimisation.
 #[test]
 fn a_million_texts() {
-    let seeds = if cfg!(debug_assertions) { 1_250 } else { 50_000 };
+    let seeds = if cfg!(debug_assertions) {
+        1_250
+    } else {
+        50_000
+    };
     let (checks, runs) = match compare_seeds(0..seeds) {
         Ok(counts) => counts,
         Err(difference) => panic!("{difference}"),
@@ -158,7 +168,11 @@ fn two_threads_at_once() {
     let answers = || -> Vec<_> {
         let mut station = host::Station::new();
         let answer = |text| (station.check(text).err(), station.run(text, 500));
-        texts.iter().map(|text| text.as_slice()).map(answer).collect()
+        texts
+            .iter()
+            .map(|text| text.as_slice())
+            .map(answer)
+            .collect()
     };
     let alone = answers();
     for _ in 0..20 {

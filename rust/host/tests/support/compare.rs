@@ -33,8 +33,14 @@ impl Lent {
 /// Which call, over which areas.
 #[derive(Clone, Copy, Debug)]
 pub enum Call {
-    Check { work: usize },
-    Run { work: usize, steps: u32, results: usize },
+    Check {
+        work: usize,
+    },
+    Run {
+        work: usize,
+        steps: u32,
+        results: usize,
+    },
 }
 
 /// A check and a run with areas of the right length.
@@ -72,7 +78,11 @@ impl fmt::Display for Difference {
             shown(self.model),
             self.model_results
         )?;
-        write!(f, "{}", self.text.escape_ascii().to_string().replace("\\n", "\n"))
+        write!(
+            f,
+            "{}",
+            self.text.escape_ascii().to_string().replace("\\n", "\n")
+        )
     }
 }
 
@@ -176,7 +186,14 @@ impl Comparer {
         let results = other(rng, RESULTS_BYTES);
         let steps = gen::steps(rng);
         self.call(text, Call::Check { work })?;
-        self.call(text, Call::Run { work, steps, results })?;
+        self.call(
+            text,
+            Call::Run {
+                work,
+                steps,
+                results,
+            },
+        )?;
         Ok(())
     }
 

@@ -14,7 +14,10 @@ pub struct Workload {
 fn text(lines: &[String]) -> Vec<u8> {
     let mut text = Vec::new();
     for line in lines {
-        text.extend(line.bytes().map(|byte| if byte == b' ' { b'\t' } else { byte }));
+        text.extend(
+            line.bytes()
+                .map(|byte| if byte == b' ' { b'\t' } else { byte }),
+        );
         text.push(b'\n');
     }
     assert!(text.len() <= TEXT_BYTES);
@@ -34,7 +37,9 @@ pub fn calls(depth: usize, requires: &str, ensures: &str, body: &[&str]) -> Vec<
     let mut all = lines("class S\nfield S p\nfield int n");
     for at in 0..depth {
         all.push(format!("method int m{at} int w"));
-        all.extend(lines(&format!("{requires}\n{ensures}\nvar int a\nvar int b\nvar S s")));
+        all.extend(lines(&format!(
+            "{requires}\n{ensures}\nvar int a\nvar int b\nvar S s"
+        )));
         all.extend(body.iter().map(|line| line.to_string()));
         if at + 1 < depth {
             all.push(format!("call a this m{} w", at + 1));
@@ -42,7 +47,9 @@ pub fn calls(depth: usize, requires: &str, ensures: &str, body: &[&str]) -> Vec<
         }
         all.push("end".to_string());
     }
-    all.extend(lines("main\nvar S s\nvar int a\nvar int b\nnew s S\ncall a s m0 b\nend"));
+    all.extend(lines(
+        "main\nvar S s\nvar int a\nvar int b\nnew s S\ncall a s m0 b\nend",
+    ));
     text(&all)
 }
 
@@ -57,8 +64,14 @@ pub fn full_state_of(objects: usize, count: usize, more: &[&str]) -> Vec<u8> {
     let mut all = lines("class S");
     all.extend((0..CLASS_FIELDS).map(|at| format!("field S f{at}")));
     all.push("method S m S w".to_string());
-    let fields: String = (0..CLASS_FIELDS).map(|at| format!(" acc this f{at}")).collect();
-    all.extend([format!("requires{fields}"), format!("ensures{fields}"), "end".to_string()]);
+    let fields: String = (0..CLASS_FIELDS)
+        .map(|at| format!(" acc this f{at}"))
+        .collect();
+    all.extend([
+        format!("requires{fields}"),
+        format!("ensures{fields}"),
+        "end".to_string(),
+    ]);
     all.push("main".to_string());
     all.extend((0..LOCALS).map(|at| format!("var S x{at}")));
     all.extend((0..objects).map(|at| format!("new x{at} S")));
@@ -75,12 +88,17 @@ fn declarations() -> Vec<u8> {
     for class in 0..CLASSES {
         all.push(format!("class {names}{class:02}"));
         for field in 0..CLASS_FIELDS {
-            all.push(format!("field {names}{:02} {names}{field:02}", CLASSES - 1 - class));
+            all.push(format!(
+                "field {names}{:02} {names}{field:02}",
+                CLASSES - 1 - class
+            ));
         }
         for method in 0..METHODS / CLASSES {
             all.push(format!("method int {names}{method:02} int {names}ww"));
             all.extend(lines("requires\nensures"));
-            all.extend((0..LOCALS).map(|at| format!("var {names}{:02} {names}{at:02}", CLASSES - 1)));
+            all.extend(
+                (0..LOCALS).map(|at| format!("var {names}{:02} {names}{at:02}", CLASSES - 1)),
+            );
             all.push("end".to_string());
         }
     }
@@ -107,37 +125,99 @@ fn asserts(atom: impl Fn(usize) -> String) -> Vec<u8> {
 
 pub fn all() -> Vec<Workload> {
     let plain = "requires ne this null";
-    let set_let = ["let a w", "set this n a", "let b this.n", "let b 5", "set this n b", "let a b", "let b this.n"];
+    let set_let = [
+        "let a w",
+        "set this n a",
+        "let b this.n",
+        "let b 5",
+        "set this n b",
+        "let a b",
+        "let b this.n",
+    ];
     let formula = [
         "set this n w",
         "assert acc this n acc this p eq this.n w eq w w ne this null",
         "assert eq this.n w eq w this.n ne this null eq 5 5 ne 4 5",
     ];
     let branches = [
-        "if eq w 0", "let a 1", "else", "let a 2", "join acc this n acc this p ne this null",
-        "if ne this.p null", "let s this.p", "else", "let b 3", "join acc this n acc this p ne this null",
+        "if eq w 0",
+        "let a 1",
+        "else",
+        "let a 2",
+        "join acc this n acc this p ne this null",
+        "if ne this.p null",
+        "let s this.p",
+        "else",
+        "let b 3",
+        "join acc this n acc this p ne this null",
     ];
     let workload = |name, text, steps| Workload { name, text, steps };
     let examples = [
-        workload("worked script", include_bytes!("../../../../examples/worked.txt").to_vec(), Some(1_000)),
-        workload("station script", include_bytes!("../../../../examples/station.script").to_vec(), Some(1_000)),
+        workload(
+            "worked script",
+            include_bytes!("../../../../examples/worked.txt").to_vec(),
+            Some(1_000),
+        ),
+        workload(
+            "station script",
+            include_bytes!("../../../../examples/station.script").to_vec(),
+            Some(1_000),
+        ),
     ];
     let runs = [
-        workload("run: set, let", calls(23, HELD, BACK, &set_let), Some(1_000_000)),
-        workload("run: bare calls", calls(60, plain, "ensures", &[]), Some(1_000_000)),
-        workload("run: calls with fields", calls(60, HELD, BACK, &[]), Some(1_000_000)),
-        workload("run: asserts", calls(40, HELD, BACK, &formula), Some(1_000_000)),
-        workload("run: branches", calls(19, HELD, BACK, &branches), Some(1_000_000)),
+        workload(
+            "run: set, let",
+            calls(23, HELD, BACK, &set_let),
+            Some(1_000_000),
+        ),
+        workload(
+            "run: bare calls",
+            calls(60, plain, "ensures", &[]),
+            Some(1_000_000),
+        ),
+        workload(
+            "run: calls with fields",
+            calls(60, HELD, BACK, &[]),
+            Some(1_000_000),
+        ),
+        workload(
+            "run: asserts",
+            calls(40, HELD, BACK, &formula),
+            Some(1_000_000),
+        ),
+        workload(
+            "run: branches",
+            calls(19, HELD, BACK, &branches),
+            Some(1_000_000),
+        ),
     ];
-    let ne: String = (0..8).map(|at| format!(" ne x{} x{}", at % 6, at % 6 + 1)).collect();
-    let ne_paths: String = (0..8).map(|at| format!(" ne x{}.f7 x{}", at % 6, at % 6 + 1)).collect();
-    let eq_paths: String = (0..8).map(|at| format!(" eq x{}.f{at} x6.f7", at % 6)).collect();
+    let ne: String = (0..8)
+        .map(|at| format!(" ne x{} x{}", at % 6, at % 6 + 1))
+        .collect();
+    let ne_paths: String = (0..8)
+        .map(|at| format!(" ne x{}.f7 x{}", at % 6, at % 6 + 1))
+        .collect();
+    let eq_paths: String = (0..8)
+        .map(|at| format!(" eq x{}.f{at} x6.f7", at % 6))
+        .collect();
     let acc: String = (0..8).map(|at| format!(" acc x6 f{at}")).collect();
-    let [ne, ne_paths, eq_paths, acc] = [ne, ne_paths, eq_paths, acc].map(|atoms| format!("assert{atoms}"));
+    let [ne, ne_paths, eq_paths, acc] =
+        [ne, ne_paths, eq_paths, acc].map(|atoms| format!("assert{atoms}"));
     let news: Vec<String> = (0..7).map(|at| format!("new x{at} S")).collect();
     let news: Vec<&str> = news.iter().map(String::as_str).collect();
     let nested = [
-        "if eq x0 x7", "if eq x1 x7", "if eq x2 x7", "if eq x3 x7", "else", "join", "else", "join", "else", "join", "else", "join",
+        "if eq x0 x7",
+        "if eq x1 x7",
+        "if eq x2 x7",
+        "if eq x3 x7",
+        "else",
+        "join",
+        "else",
+        "join",
+        "else",
+        "join",
+        "else",
+        "join",
     ];
     let checks = [
         workload("check: ne, pairs", full_state(&[&ne]), None),
@@ -145,21 +225,51 @@ pub fn all() -> Vec<Workload> {
         workload("check: eq of paths", full_state(&[&eq_paths]), None),
         workload("check: acc", full_state(&[&acc]), None),
         workload("check: new", full_state(&news), None),
-        workload("check: let", full_state(&["let x11 x6.f7", "let x11 x5.f7"]), None),
-        workload("check: set", full_state(&["set x6 f7 x5", "set x5 f7 x6"]), None),
+        workload(
+            "check: let",
+            full_state(&["let x11 x6.f7", "let x11 x5.f7"]),
+            None,
+        ),
+        workload(
+            "check: set",
+            full_state(&["set x6 f7 x5", "set x5 f7 x6"]),
+            None,
+        ),
         workload("check: call", full_state(&["call x11 x6 m x5"]), None),
         workload("check: branches", full_state_of(6, 228, &nested), None),
     ];
     let mut late = asserts(|_| "eq 1000000001 1000000001".to_string());
-    let last = late.windows(7).rposition(|word| word == b"\nassert").unwrap_or(0);
+    let last = late
+        .windows(7)
+        .rposition(|word| word == b"\nassert")
+        .unwrap_or(0);
     late.splice(last + 1.., *b"assert\teq\tnone\t5\nend\n");
     let reads = [
         workload("read: declarations", declarations(), None),
-        workload("read: long numbers", asserts(|_| "eq 2147483647 2147483647".to_string()), None),
-        workload("read: different numbers", asserts(|at| format!("eq {at} {at}")), None),
-        workload("read: long paths", asserts(|_| "eq longvariable.longfieldone 0".to_string()), None),
+        workload(
+            "read: long numbers",
+            asserts(|_| "eq 2147483647 2147483647".to_string()),
+            None,
+        ),
+        workload(
+            "read: different numbers",
+            asserts(|at| format!("eq {at} {at}")),
+            None,
+        ),
+        workload(
+            "read: long paths",
+            asserts(|_| "eq longvariable.longfieldone 0".to_string()),
+            None,
+        ),
         workload("read: undeclared at the end", late, None),
-        workload("read: one line", vec![b'a'; TEXT_BYTES - 1].into_iter().chain([b'\n']).collect(), None),
+        workload(
+            "read: one line",
+            vec![b'a'; TEXT_BYTES - 1]
+                .into_iter()
+                .chain([b'\n'])
+                .collect(),
+            None,
+        ),
     ];
     let mut all = Vec::new();
     all.extend(examples);
@@ -177,14 +287,34 @@ pub fn growth() -> Vec<Workload> {
     add("statements: 60", full_state_of(4, 60, &asserted), None);
     add("statements: 120", full_state_of(4, 120, &asserted), None);
     add("statements: 240", full_state_of(4, 240, &asserted), None);
-    add("state: 8 permissions, 9 facts", full_state_of(1, 240, &asserted), None);
-    add("state: 24 permissions, 27 facts", full_state_of(3, 240, &asserted), None);
-    add("state: 56 permissions, 63 facts", full_state_of(7, 240, &asserted), None);
+    add(
+        "state: 8 permissions, 9 facts",
+        full_state_of(1, 240, &asserted),
+        None,
+    );
+    add(
+        "state: 24 permissions, 27 facts",
+        full_state_of(3, 240, &asserted),
+        None,
+    );
+    add(
+        "state: 56 permissions, 63 facts",
+        full_state_of(7, 240, &asserted),
+        None,
+    );
     let steps = Some(1_000_000);
     add("steps: calls 19 deep", calls(19, HELD, BACK, &[]), steps);
     add("steps: calls 60 deep", calls(60, HELD, BACK, &[]), steps);
-    add("steps: 19 KB more text", padded(calls(19, HELD, BACK, &[])), steps);
-    add("steps: 180 objects more", crowded(calls(19, HELD, BACK, &[])), steps);
+    add(
+        "steps: 19 KB more text",
+        padded(calls(19, HELD, BACK, &[])),
+        steps,
+    );
+    add(
+        "steps: 180 objects more",
+        crowded(calls(19, HELD, BACK, &[])),
+        steps,
+    );
     all
 }
 
