@@ -13,7 +13,7 @@ use host::limits::{RESULTS_BYTES, WORK_BYTES};
 use std::hint::black_box;
 use std::time::Instant;
 
-const ROUNDS: u32 = 12;
+const ROUNDS: u32 = 40;
 
 /// The best time of a call of each side, in ns, timed in turn.
 fn duel(mut one: impl FnMut(), mut two: impl FnMut(), ms: f64) -> (f64, f64) {

@@ -287,21 +287,13 @@ pub fn growth() -> Vec<Workload> {
     add("statements: 60", full_state_of(4, 60, &asserted), None);
     add("statements: 120", full_state_of(4, 120, &asserted), None);
     add("statements: 240", full_state_of(4, 240, &asserted), None);
-    add(
-        "state: 8 permissions, 9 facts",
-        full_state_of(1, 240, &asserted),
-        None,
-    );
-    add(
-        "state: 24 permissions, 27 facts",
-        full_state_of(3, 240, &asserted),
-        None,
-    );
-    add(
-        "state: 56 permissions, 63 facts",
-        full_state_of(7, 240, &asserted),
-        None,
-    );
+    let lets = ["let x11 x0.f0", "let x11 x0.f1"];
+    add("assert: 9 facts", full_state_of(1, 240, &asserted), None);
+    add("assert: 27 facts", full_state_of(3, 240, &asserted), None);
+    add("assert: 63 facts", full_state_of(7, 240, &asserted), None);
+    add("let: 9 facts", full_state_of(1, 240, &lets), None);
+    add("let: 27 facts", full_state_of(3, 240, &lets), None);
+    add("let: 63 facts", full_state_of(7, 240, &lets), None);
     let steps = Some(1_000_000);
     add("steps: calls 19 deep", calls(19, HELD, BACK, &[]), steps);
     add("steps: calls 60 deep", calls(60, HELD, BACK, &[]), steps);
