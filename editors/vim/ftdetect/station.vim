@@ -1,0 +1,1 @@
+autocmd BufNewFile,BufRead *.script setfiletype station

@@ -1,0 +1,75 @@
+/* Catalogue scripts: the two functions of libstation.a.
+ *
+ * Each returns number * 65536 + line. The text is only read; it may be null if
+ * its length is 0. The areas must not overlap, with each other or with the
+ * text. They may hold anything before a call; after it the work area is all
+ * zero, except for number 1, which changes neither area.
+ *
+ * Nothing is kept between calls and nothing is allocated: calls may run in
+ * parallel on areas of their own.
+ */
+#ifndef STATION_H
+#define STATION_H
+
+#include <stddef.h>
+#include <stdint.h>
+
+#ifdef __cplusplus
+extern "C" {
+#endif
+
+/* Lengths of the two areas, in bytes: each call takes these and no other. */
+#define STATION_WORK_BYTES 65536
+#define STATION_RESULTS_BYTES 52
+/* The longest text, in bytes. */
+#define STATION_TEXT_BYTES 32768
+/* Values in the results area: main's variables in the order of their lines. */
+#define STATION_VALUES 12
+
+/* What a call returned. */
+#define STATION_NUMBER(returned) ((uint32_t)(returned) >> 16)
+#define STATION_LINE(returned) ((uint32_t)(returned) & 0xffff)
+
+enum station_number {
+    STATION_DONE = 0,               /* accepted; main's `end` done */
+    STATION_AREA_LENGTH = 1,        /* a lent area of wrong length */
+    STATION_TEXT_TOO_LONG = 2,      /* text too long */
+    STATION_BYTE = 3,               /* byte other than tab, LF, 33 to 126; last line without LF */
+    STATION_FORM = 4,               /* unknown word, count or form of fields, line out of place */
+    STATION_LIMIT = 5,              /* a limit of the text passed */
+    STATION_NAME = 6,               /* name undeclared, not allowed, reserved, declared twice */
+    STATION_TYPE = 7,               /* wrong type */
+    STATION_UNFINISHED = 8,         /* text ends before main's `end` */
+    STATION_ASSIGNED = 9,           /* variable that may not be assigned */
+    STATION_UNFRAMED = 10,          /* path read before its `acc` */
+    STATION_UNRESOLVED = 11,        /* path that does not resolve */
+    STATION_NO_PERMISSION = 12,     /* permission not shown */
+    STATION_NOT_SHOWN = 13,         /* `eq` or `ne` not shown */
+    STATION_STATE_FULL = 14,        /* checker's state full */
+    STATION_OUT_OF_STEPS = 21,      /* allowed steps taken */
+    STATION_HEAP_FULL = 22,         /* heap full */
+    STATION_FRAMES_FULL = 23,       /* frames full */
+    STATION_PERMISSION_MISSING = 24, /* permission missing */
+    STATION_NULL_FOLLOWED = 25,     /* null followed */
+    STATION_FORMULA_FALSE = 26      /* formula false */
+};
+
+/* Is the text a script that keeps to its permissions? Returns number 0, or 1 to
+ * 14 with the line. */
+uint32_t check(const uint8_t *text, size_t text_len,
+               uint8_t *work, size_t work_len);
+
+/* Runs main for at most so many steps. Returns number 0, 1 to 9 or 21 to 26 with
+ * the line. The results area then holds the steps taken (unsigned) and the
+ * values (signed; an object is its number from 1, null is 0), 4 bytes each, low
+ * byte first; all zero for the numbers 2 to 9. */
+uint32_t run(const uint8_t *text, size_t text_len,
+             uint8_t *work, size_t work_len,
+             uint32_t steps,
+             uint8_t *results, size_t results_len);
+
+#ifdef __cplusplus
+}
+#endif
+
+#endif

@@ -1,0 +1,249 @@
+//! The guide can't go stale: its scripts are the files of `examples/`, its
+//! answers are what the command prints, and its mends mend.
+//!
+//! `UPDATE_GUIDE=1 cargo test -p cli --test guide` writes the blocks anew.
+
+use std::collections::BTreeSet;
+use std::path::{Path, PathBuf};
+use std::process::Command;
+
+fn root() -> PathBuf {
+    Path::new(env!("CARGO_MANIFEST_DIR")).join("../..")
+}
+
+fn guide() -> String {
+    std::fs::read_to_string(root().join("docs/LANGUAGE.md")).expect("the guide")
+}
+
+/// What the command prints, both streams, run in the repository's root.
+fn printed(line: &str) -> String {
+    let mut words = line.split(' ');
+    assert_eq!(words.next(), Some("station"), "{line}");
+    let output = Command::new(env!("CARGO_BIN_EXE_station"))
+        .args(words)
+        .current_dir(root())
+        .output()
+        .expect("station");
+    let bytes = [output.stdout, output.stderr].concat();
+    String::from_utf8(bytes).expect("UTF-8")
+}
+
+fn script(name: &str) -> String {
+    std::fs::read_to_string(root().join(name)).unwrap_or_else(|error| panic!("{name}: {error}"))
+}
+
+/// A fenced block: its heading and its lines.
+struct Block<'a> {
+    heading: &'a str,
+    lines: Vec<&'a str>,
+}
+
+/// The guide with each block as `filled` gives it.
+fn with_blocks(guide: &str, mut filled: impl FnMut(&Block) -> String) -> String {
+    let mut out = String::new();
+    let mut lines = guide.lines();
+    while let Some(line) = lines.next() {
+        out.push_str(line);
+        out.push('\n');
+        if let Some(heading) = line.strip_prefix("```") {
+            let block = Block {
+                heading,
+                lines: lines.by_ref().take_while(|line| *line != "```").collect(),
+            };
+            out.push_str(&filled(&block));
+            out.push_str("```\n");
+        }
+    }
+    out
+}
+
+fn fresh(block: &Block) -> String {
+    if let Some(name) = block.heading.strip_prefix("script ") {
+        return script(name).replace('\t', " ");
+    }
+    if block.heading == "console" {
+        let commands = block
+            .lines
+            .iter()
+            .filter_map(|line| line.strip_prefix("$ "));
+        let shown = commands.map(|command| format!("$ {command}\n{}", printed(command)));
+        return shown.collect();
+    }
+    block.lines.iter().map(|line| format!("{line}\n")).collect()
+}
+
+#[test]
+fn scripts_and_answers() {
+    let guide = guide();
+    let fresh = with_blocks(&guide, fresh);
+    if std::env::var_os("UPDATE_GUIDE").is_some() {
+        std::fs::write(root().join("docs/LANGUAGE.md"), fresh).expect("the guide is written");
+        return;
+    }
+    for (at, (have, want)) in guide.lines().zip(fresh.lines()).enumerate() {
+        assert_eq!(have, want, "line {} of the guide", at + 1);
+    }
+    assert_eq!(guide, fresh);
+}
+
+/// Every example stands in the guide, and has an answer there.
+#[test]
+fn every_example() {
+    let guide = guide();
+    let (mut shown, mut answered) = (BTreeSet::new(), BTreeSet::new());
+    with_blocks(&guide, |block| {
+        if let Some(name) = block.heading.strip_prefix("script ") {
+            assert!(shown.insert(name.to_string()), "{name} is shown twice");
+        }
+        for line in block.lines.iter().filter(|line| line.starts_with("$ ")) {
+            answered.extend(line.split(' ').map(str::to_string));
+        }
+        String::new()
+    });
+    let mut files = BTreeSet::new();
+    for entry in std::fs::read_dir(root().join("examples")).expect("examples") {
+        let name = entry
+            .expect("an entry")
+            .file_name()
+            .into_string()
+            .expect("a name");
+        if name.ends_with(".script") {
+            files.insert(format!("examples/{name}"));
+        }
+    }
+    assert!(files.len() >= 24, "{files:?}");
+    assert_eq!(shown, files);
+    assert!(
+        answered.is_superset(&files),
+        "without an answer: {:?}",
+        &files - &answered
+    );
+}
+
+/// A script with each line that is crossed out replaced by those that follow.
+fn mended(script: &str, lines: &[&str]) -> String {
+    let mut all: Vec<String> = script.lines().map(str::to_string).collect();
+    let mut at = 0;
+    for line in lines {
+        let (sign, line) = line.split_at(2);
+        let line = line.replace(' ', "\t");
+        match sign {
+            "- " => {
+                let found = all[at..]
+                    .iter()
+                    .position(|old| old.replace(' ', "\t") == line);
+                at += found.unwrap_or_else(|| panic!("not in the script: {line}"));
+                all.remove(at);
+            }
+            "+ " => {
+                all.insert(at, line);
+                at += 1;
+            }
+            "  " => {
+                let found = all[at..].iter().position(|old| *old == line);
+                at += 1 + found.unwrap_or_else(|| panic!("not in the script: {line}"));
+            }
+            _ => panic!("no change: {sign}{line}"),
+        }
+    }
+    all.join("\n") + "\n"
+}
+
+/// Each mend makes its script accepted, and its run finish.
+#[test]
+fn mends() {
+    let guide = guide();
+    let mut mends = BTreeSet::new();
+    with_blocks(&guide, |block| {
+        if let Some(name) = block.heading.strip_prefix("diff ") {
+            mends.insert(name.to_string());
+            let text = mended(&script(name), &block.lines);
+            let checked = host::check(text.as_bytes());
+            assert!(checked.is_ok(), "{name}: {checked:?}\n{text}");
+            let outcome = host::run(text.as_bytes(), 1_000);
+            assert!(outcome.finished(), "{name}: {outcome}");
+        }
+        String::new()
+    });
+    for number in 3..=14 {
+        assert!(
+            mends.contains(&format!("examples/refused-{number:02}.script")),
+            "{number}"
+        );
+    }
+    for number in 22..=26 {
+        assert!(
+            mends.contains(&format!("examples/stopped-{number}.script")),
+            "{number}"
+        );
+    }
+}
+
+/// The names of all JSON fields are listed.
+#[test]
+fn json_fields() {
+    let guide = guide();
+    let commands = [
+        "station check --json examples/refused-03.script",
+        "station run --json examples/stopped-24.script",
+        "station explain --json 12",
+        "station check --json no-such-file",
+    ];
+    let mut names = BTreeSet::new();
+    for command in commands {
+        let printed = printed(command);
+        let parts: Vec<&str> = printed.split('"').collect();
+        for (at, part) in parts.iter().enumerate() {
+            let name = part.len() < 12 && part.bytes().all(|byte| byte.is_ascii_lowercase());
+            if name
+                && !part.is_empty()
+                && parts.get(at + 1).is_some_and(|next| next.starts_with(':'))
+            {
+                names.insert(part.to_string());
+            }
+        }
+    }
+    assert!(names.len() >= 16, "{names:?}");
+    for name in names {
+        assert!(
+            guide.contains(&format!("`{name}`")),
+            "the guide does not list {name}"
+        );
+    }
+}
+
+/// The table of limits has those of the machine, in this order.
+#[test]
+fn limits() {
+    use host::limits::*;
+    let guide = guide();
+    let (_, table) = guide.split_once("## Limits\n").expect("the last section");
+    let numbers: Vec<usize> = table
+        .replace(',', "")
+        .split(|letter: char| !letter.is_ascii_digit())
+        .filter_map(|digits| digits.parse().ok())
+        .collect();
+    let limits = [
+        TEXT_BYTES,
+        CLASSES,
+        CLASS_FIELDS,
+        METHODS,
+        LOCALS,
+        STATEMENTS,
+        BRANCHES,
+        ATOMS,
+        NAME_BYTES,
+        PERMISSIONS,
+        FACTS,
+        OBJECTS,
+        FIELDS,
+        FRAMES,
+    ];
+    assert_eq!(numbers, limits);
+    for (said, size) in [
+        ("32,769 bytes", TEXT_BYTES + 1),
+        ("room for 63 below", FRAMES - 1),
+    ] {
+        assert!(guide.contains(said) && said.replace(',', "").contains(&size.to_string()));
+    }
+}

@@ -1,0 +1,116 @@
+//! Times check and run of the library beside those of `rust/model`, in one run,
+//! and prints a table. Each round times a batch of the one, then of the other;
+//! the best round counts. The answers are compared too.
+//!
+//! `cargo run --release --example bench [MS] [PART]`: about MS milliseconds for
+//! each side of a row (100), only rows whose name has PART in it.
+
+#[path = "../tests/support/workloads.rs"]
+mod workloads;
+
+use host::calls;
+use host::limits::{RESULTS_BYTES, WORK_BYTES};
+use std::hint::black_box;
+use std::time::Instant;
+
+const ROUNDS: u32 = 40;
+
+/// The best time of a call of each side, in ns, timed in turn.
+fn duel(mut one: impl FnMut(), mut two: impl FnMut(), ms: f64) -> (f64, f64) {
+    let timed = |call: &mut dyn FnMut(), times: u64| {
+        let start = Instant::now();
+        (0..times).for_each(|_| call());
+        start.elapsed().as_nanos() as f64 / times as f64
+    };
+    let batch = ms * 1e6 / f64::from(ROUNDS);
+    let first = (timed(&mut one, 2), timed(&mut two, 2));
+    let times = |each: f64| (batch / each).clamp(1.0, 1e6) as u64;
+    let mut best = first;
+    for _ in 0..ROUNDS {
+        best.0 = best.0.min(timed(&mut one, times(first.0)));
+        best.1 = best.1.min(timed(&mut two, times(first.1)));
+    }
+    best
+}
+
+/// Uses an answer, so that the call is made.
+fn sink(answer: u32) {
+    black_box(answer);
+}
+
+fn main() {
+    let mut words = std::env::args().skip(1);
+    let ms = words
+        .next()
+        .and_then(|word| word.parse().ok())
+        .unwrap_or(100.0);
+    let part = words.next().unwrap_or_default();
+    let mut work = (vec![0; WORK_BYTES], vec![0; WORK_BYTES]);
+    let mut results = ([0; RESULTS_BYTES], [0; RESULTS_BYTES]);
+    let (clear, _) = duel(|| black_box(&mut work.0[..]).fill(0), || (), ms / 10.0);
+    println!("clearing {WORK_BYTES} bytes, a part of every call: {clear:.0} ns\n");
+    println!("| Text | Bytes | Call | Answer | Steps | Library ns | ns a step | Model ns | Model / library |");
+    println!("|---|---:|---|---|---:|---:|---:|---:|---:|");
+    for workload in workloads::all().into_iter().chain(workloads::growth()) {
+        if !workload.name.contains(&part) {
+            continue;
+        }
+        let (name, text) = (workload.name, &workload.text[..]);
+        let answers = (
+            calls::check(text, &mut work.0),
+            model::check_call(text, &mut work.1),
+        );
+        assert_eq!(answers.0, answers.1, "{name}");
+        let (library, model) = duel(
+            || sink(calls::check(black_box(text), &mut work.0)),
+            || sink(model::check_call(black_box(text), &mut work.1)),
+            ms,
+        );
+        let row = |call: &str, answer: u32, steps: u32, library: f64, model: f64| {
+            let (number, line) = (answer / 65_536, answer % 65_536);
+            let each = library / f64::from(steps);
+            let (count, each) = match steps {
+                0 => (String::new(), String::new()),
+                _ => (steps.to_string(), format!("{each:.1}")),
+            };
+            let ratio = model / library;
+            println!(
+                "| {name} | {} | {call} | {number} at {line} | {count} | {library:.0} | {each} | {model:.0} | {ratio:.2} |",
+                text.len()
+            );
+        };
+        row("check", answers.0, 0, library, model);
+        let Some(allowed) = workload.steps else {
+            continue;
+        };
+        let answers = (
+            calls::run(text, &mut work.0, allowed, &mut results.0),
+            model::run_call(text, &mut work.1, allowed, &mut results.1),
+        );
+        assert_eq!((answers.0, results.0), (answers.1, results.1), "{name}");
+        let steps = results.0[..4]
+            .iter()
+            .rev()
+            .fold(0, |all, &byte| all << 8 | u32::from(byte));
+        let (library, model) = duel(
+            || {
+                sink(calls::run(
+                    black_box(text),
+                    &mut work.0,
+                    allowed,
+                    &mut results.0,
+                ))
+            },
+            || {
+                sink(model::run_call(
+                    black_box(text),
+                    &mut work.1,
+                    allowed,
+                    &mut results.1,
+                ))
+            },
+            ms,
+        );
+        row("run", answers.0, steps, library, model);
+    }
+}

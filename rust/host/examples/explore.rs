@@ -1,0 +1,107 @@
+//! A mutation loop: texts that reach a number, line or stop that no text before
+//! reached are kept and mutated further, each compared with the model.
+//!
+//! `cargo run --release --example explore [TEXTS] [SEED] [FOLDER]`: so many
+//! texts (100,000), from a seed (1); the kept ones are written to the folder if
+//! one is named, for `tests/c/replay.c` to call the library with under valgrind.
+//! Exit status 1 if library and model differ; the text is then shown, reduced.
+
+#[path = "../tests/support/compare.rs"]
+mod compare;
+
+use compare::{gently_mutated, Comparer};
+use model::gen::{self, mutate, rng::Rng};
+use std::collections::HashSet;
+use std::path::Path;
+
+/// What a text reached: the answers of both calls, with the kind of line that
+/// they name and how far down the text it stands.
+#[derive(PartialEq, Eq, Hash)]
+struct Reached {
+    check: u32,
+    check_line: Vec<u8>,
+    run: u32,
+    run_line: Vec<u8>,
+    depth: u32,
+}
+
+/// The first word of a line and, where it has one, its first atom's.
+fn kind_of(text: &[u8], line: u32) -> Vec<u8> {
+    let lines = text.split(|&byte| byte == b'\n');
+    let line = (line as usize)
+        .checked_sub(1)
+        .and_then(|at| lines.skip(at).step_by(1).next());
+    let fields = line.unwrap_or_default().split(|&byte| byte == b'\t');
+    let known = |word: &&[u8]| word.len() < 9 && word.iter().all(u8::is_ascii_lowercase);
+    fields.take(2).filter(known).flatten().copied().collect()
+}
+
+fn reached(text: &[u8], check: u32, run: u32) -> Reached {
+    let (check_line, run_line) = (check % 65_536, run % 65_536);
+    Reached {
+        check: check / 65_536,
+        check_line: kind_of(text, check_line),
+        run: run / 65_536,
+        run_line: kind_of(text, run_line),
+        depth: (check_line.max(run_line) + 1).ilog2(),
+    }
+}
+
+fn main() {
+    let mut words = std::env::args().skip(1);
+    let mut number = |usual: u64| {
+        words
+            .next()
+            .and_then(|word| word.parse().ok())
+            .unwrap_or(usual)
+    };
+    let (texts, seed) = (number(100_000), number(1));
+    let folder = words.next();
+    let mut rng = Rng::new(seed);
+    let mut comparer = Comparer::new(seed);
+    let mut known = HashSet::new();
+    let mut kept: Vec<Vec<u8>> = Vec::new();
+    for at in 0..texts {
+        let text = match rng.below(20) {
+            0 => gen::text(rng.bits()),
+            _ if kept.is_empty() => gen::text(rng.bits()),
+            // One of those kept last, more often than not.
+            choice => {
+                let recent = kept.len().min(64);
+                let from = if choice < 12 { kept.len() - recent } else { 0 };
+                let base = &kept[from + rng.below(kept.len() - from)];
+                match choice % 2 {
+                    0 => gently_mutated(&mut rng, base),
+                    _ => mutate::mutated(&mut rng, base),
+                }
+            }
+        };
+        match comparer.both(&text, &mut rng) {
+            Ok((check, run)) => {
+                if known.insert(reached(&text, check, run)) {
+                    kept.push(text);
+                }
+            }
+            Err(found) => {
+                println!("{}", comparer.reduced(found));
+                std::process::exit(1);
+            }
+        }
+        if (at + 1).is_power_of_two() || at + 1 == texts {
+            println!("{} texts, {} kept", at + 1, kept.len());
+        }
+    }
+    let Some(folder) = folder else {
+        return;
+    };
+    let written = std::fs::create_dir_all(&folder).and_then(|()| {
+        let mut named = kept.iter().enumerate();
+        named.try_for_each(|(at, text)| {
+            std::fs::write(Path::new(&folder).join(format!("{at:05}")), text)
+        })
+    });
+    if let Err(error) = written {
+        eprintln!("{folder}: {error}");
+        std::process::exit(2);
+    }
+}

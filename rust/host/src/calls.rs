@@ -1,0 +1,63 @@
+//! The two C functions of libstation.a, declared once, and over Rust slices.
+//!
+//! Most callers want [`crate::check`] and [`crate::run`]. The functions here are
+//! for those who lend areas of their own and want the number as it comes.
+
+/// The functions as C has them. A null text is allowed with length 0; the areas
+/// must not overlap, with each other or with the text.
+pub mod raw {
+    extern "C" {
+        pub fn check(text: *const u8, text_len: usize, work: *mut u8, work_len: usize) -> u32;
+        pub fn run(
+            text: *const u8,
+            text_len: usize,
+            work: *mut u8,
+            work_len: usize,
+            steps: u32,
+            results: *mut u8,
+            results_len: usize,
+        ) -> u32;
+    }
+}
+
+/// Checks the text over a lent work area of [`WORK_BYTES`](crate::limits::WORK_BYTES)
+/// bytes. Returns number × 65,536 + line. Afterwards the work area is all zero,
+/// except for number 1 (an area of wrong length), which changes nothing.
+///
+/// ```
+/// let mut work = vec![0xa5; host::limits::WORK_BYTES];
+/// assert_eq!(host::calls::check(b"main\nend\n", &mut work), 0);
+/// assert!(work.iter().all(|&byte| byte == 0));
+/// assert_eq!(host::calls::check(b"main\nend\n", &mut work[1..]), 65_536);
+/// ```
+pub fn check(text: &[u8], work: &mut [u8]) -> u32 {
+    // SAFETY: each pointer comes with the length of its slice, the text is only
+    // read, and the borrows keep the slices alive and apart during the call.
+    unsafe { raw::check(text.as_ptr(), text.len(), work.as_mut_ptr(), work.len()) }
+}
+
+/// Runs the text for at most so many steps, with a results area of
+/// [`RESULTS_BYTES`](crate::limits::RESULTS_BYTES) bytes: the steps taken, then
+/// the values of main's variables, 4 bytes each, low byte first.
+///
+/// ```
+/// let mut work = vec![0; host::limits::WORK_BYTES];
+/// let mut results = [0xa5; host::limits::RESULTS_BYTES];
+/// let text = b"main\nvar\tint\ta\nlet\ta\t7\nend\n";
+/// assert_eq!(host::calls::run(text, &mut work, 1_000, &mut results), 4);
+/// assert_eq!(results[..8], [2, 0, 0, 0, 7, 0, 0, 0]);
+/// ```
+pub fn run(text: &[u8], work: &mut [u8], steps: u32, results: &mut [u8]) -> u32 {
+    // SAFETY: as in `check`; the two areas are two borrows, so they are apart.
+    unsafe {
+        raw::run(
+            text.as_ptr(),
+            text.len(),
+            work.as_mut_ptr(),
+            work.len(),
+            steps,
+            results.as_mut_ptr(),
+            results.len(),
+        )
+    }
+}

@@ -1,0 +1,221 @@
+//! Every number in words: what it means and what usually mends it.
+
+/// A number in words.
+#[derive(Clone, Copy, Debug, PartialEq, Eq)]
+pub struct Explanation {
+    /// The number.
+    pub number: u32,
+    /// What is the matter, in a few words.
+    pub title: &'static str,
+    /// What the number means.
+    pub meaning: &'static str,
+    /// What usually mends it.
+    pub mend: &'static str,
+    /// A short script that gets the number, where there is one.
+    pub example: Option<&'static str>,
+}
+
+macro_rules! example {
+    ($name:literal) => {
+        Some(include_str!(concat!(
+            "../../../examples/",
+            $name,
+            ".script"
+        )))
+    };
+}
+
+/// The explanation of a number, if it is one that the calls return.
+///
+/// ```
+/// let known = host::explain(12).unwrap();
+/// assert_eq!(known.title, "a permission that is not shown");
+/// assert!(host::explain(15).is_none());
+/// ```
+pub fn explain(number: u32) -> Option<&'static Explanation> {
+    EXPLANATIONS.iter().find(|known| known.number == number)
+}
+
+/// Every number that the calls return, in rising order.
+pub const EXPLANATIONS: [Explanation; 21] = [
+    Explanation {
+        number: 0,
+        title: "accepted, or finished",
+        meaning: "Check accepts the text: its runs never lack a permission, follow null or meet \
+                  a false formula. A run has done main's `end`.",
+        mend: "there is nothing to mend",
+        example: None,
+    },
+    Explanation {
+        number: 1,
+        title: "a lent area of wrong length",
+        meaning: "The program that calls the library lent it a work area or a results area of \
+                  another length than it takes. No script can cause this.",
+        mend: "lend 65,536 bytes to work in and 52 bytes for results",
+        example: None,
+    },
+    Explanation {
+        number: 2,
+        title: "a text that is too long",
+        meaning: "A text has at most 32,768 bytes, tabs and line ends counted.",
+        mend: "shorten names, or split the script into several",
+        example: None,
+    },
+    Explanation {
+        number: 3,
+        title: "a byte that may not stand in a text",
+        meaning: "A text has tabs, line ends (LF) and the visible ASCII characters, and its last \
+                  line is ended too. Blanks, CR, accented letters and control characters are refused.",
+        mend: "part fields by tabs, not blanks, end lines with LF alone, end the last line: \
+               `station tabs FILE` does all three",
+        example: example!("refused-03"),
+    },
+    Explanation {
+        number: 4,
+        title: "a line that has no form of the language, or stands in the wrong place",
+        meaning: "The first word is unknown, a field is missing or too many, a field is no name, \
+                  number, expression or atom, or the line may not stand here: `requires` and \
+                  `ensures` follow `method`, `var` lines come before statements, every `if` has \
+                  `else` and `join`, `return` stands in methods only, nothing follows main's `end`. \
+                  A formula has at most 8 atoms, a name at most 12 letters and digits.",
+        mend: "compare the line with its form in the guide; where fields are parted by two tabs, or \
+               a line ends in one, `station tabs FILE` mends it",
+        example: example!("refused-04"),
+    },
+    Explanation {
+        number: 5,
+        title: "a limit of the text is passed",
+        meaning: "A text has at most 16 classes, 8 fields a class, 64 methods, 12 `var` lines a \
+                  block, 256 statement lines (`else`, `join` and `end` counted), and branches that \
+                  nest 4 deep.",
+        mend: "move statements into methods that are called more than once, or split the script",
+        example: example!("refused-05"),
+    },
+    Explanation {
+        number: 6,
+        title: "a name that is not declared, not allowed here, reserved or declared twice",
+        meaning: "Every class, field, method and variable is declared once, and a field or method \
+                  belongs to the class of the variable before it. `requires` names only `this` and \
+                  the parameter, `ensures` also `result`; main has none of the three. `int`, `null`, \
+                  `this` and `result` are reserved.",
+        mend: "declare the name, look for a slip in its letters, or look up which class has the field",
+        example: example!("refused-06"),
+    },
+    Explanation {
+        number: 7,
+        title: "a wrong type",
+        meaning: "Both sides of `eq`, `ne`, `let` and `set`, an argument and its parameter, a result \
+                  and what takes it are both int, or both null or of one class. Only a variable of a \
+                  class has fields and methods. The variable of `new` is of that class.",
+        mend: "give both sides one type: change the declaration, or name another variable",
+        example: example!("refused-07"),
+    },
+    Explanation {
+        number: 8,
+        title: "the text ends before main's `end`",
+        meaning: "A text ends with a block `main`, and that block with `end`. The line given is the \
+                  last one.",
+        mend: "add the missing lines; an `if` without its `join`, or a method without its `end`, \
+               makes main's `end` count for that block",
+        example: example!("refused-08"),
+    },
+    Explanation {
+        number: 9,
+        title: "a variable that may not be assigned here",
+        meaning: "`let`, `new` and `call` may not assign `this`, the parameter or `result`, and the \
+                  x of `call x y m z` may be neither y nor z.",
+        mend: "assign a local variable instead; `return` is what sets `result`",
+        example: example!("refused-09"),
+    },
+    Explanation {
+        number: 10,
+        title: "a path that is read before its `acc`",
+        meaning: "In `requires`, `ensures` and `join` a path `x.f` may be read only after `acc x f`, \
+                  by these two names, in the same line.",
+        mend: "write `acc x f` before the atom that reads `x.f`",
+        example: example!("refused-10"),
+    },
+    Explanation {
+        number: 11,
+        title: "a path that does not resolve",
+        meaning: "The line reads `x.f`, but no permission to it is known here: not for x, nor for \
+                  anything known to be equal to x.",
+        mend: "keep or ask for the permission before this line: in `requires`, in the `ensures` of \
+               the method called before, in the `join` before, or by not releasing it",
+        example: example!("refused-11"),
+    },
+    Explanation {
+        number: 12,
+        title: "a permission that is not shown",
+        meaning: "The line needs `acc x f`, for itself or for a formula that it must show, and no \
+                  permission that is known here and not yet used by the same formula gives it.",
+        mend: "ask for it in `requires`, give it back in `ensures`, keep it in `join`; a formula \
+               with `acc x f` twice needs two objects",
+        example: example!("refused-12"),
+    },
+    Explanation {
+        number: 13,
+        title: "an `eq` or `ne` that is not shown",
+        meaning: "What is known here does not make the two sides equal, or different. A call forgets \
+                  what was known of the fields that it is handed, `join` all but its formula, and an \
+                  assignment what was known of its variable.",
+        mend: "state the fact where it is lost: in `ensures`, in `join`, or by `if`",
+        example: example!("refused-13"),
+    },
+    Explanation {
+        number: 14,
+        title: "the checker's state is full",
+        meaning: "At most 64 permissions and 64 facts can be known at one line. The line would add \
+                  one more.",
+        mend: "release what is not needed any more, or move a part into a method",
+        example: example!("refused-14"),
+    },
+    Explanation {
+        number: 21,
+        title: "the allowed steps are taken",
+        meaning: "Each statement line is a step, `else`, `join` and `end` too. The line given is the \
+                  one that would have come next.",
+        mend: "allow more steps, or look for a method that calls itself without end",
+        example: example!("stopped-21"),
+    },
+    Explanation {
+        number: 22,
+        title: "the heap is full",
+        meaning: "A run makes at most 256 objects with 1,024 fields in all. Objects are never taken \
+                  back.",
+        mend: "make fewer objects, or classes with fewer fields",
+        example: example!("stopped-22"),
+    },
+    Explanation {
+        number: 23,
+        title: "the frames are full",
+        meaning: "At most 64 blocks are open at a time, main's among them: calls nest at most 63 \
+                  deep.",
+        mend: "look for a method that calls itself without end, or make the chain of calls shorter",
+        example: example!("stopped-23"),
+    },
+    Explanation {
+        number: 24,
+        title: "a permission is missing",
+        meaning: "The running block does not hold the field that the line reads, writes or claims. \
+                  An accepted text never stops so.",
+        mend: "check the text: the refused line says which permission is not handed over",
+        example: example!("stopped-24"),
+    },
+    Explanation {
+        number: 25,
+        title: "null was followed",
+        meaning: "The line reads or claims a field of null, or calls a method of null. An accepted \
+                  text never stops so.",
+        mend: "check the text; test by `if ne x null` before following x",
+        example: example!("stopped-25"),
+    },
+    Explanation {
+        number: 26,
+        title: "an `eq` or `ne` is false",
+        meaning: "A formula of the line is false: an `assert` or `release`, a `join`, the `requires` \
+                  of a call or the `ensures` of a method. An accepted text never stops so.",
+        mend: "check the text, and compare the values that the run left with the formula",
+        example: example!("stopped-26"),
+    },
+];

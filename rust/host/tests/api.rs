@@ -1,0 +1,147 @@
+//! The Rust API beside the model: kinds, lines, main's variables by name.
+
+use host::{Ending, Kind, Station, Stop, Value};
+use model::gen::{self, rng::Rng};
+use model::names::{Declared, Type};
+
+/// Every number has its own kind or ending, and words.
+#[test]
+fn numbers_and_kinds() {
+    let kinds: Vec<Kind> = (2..=14).map(Kind::of).collect();
+    for (at, kind) in kinds.iter().enumerate() {
+        assert_ne!(*kind, Kind::Unknown);
+        assert!(!kinds[..at].contains(kind));
+    }
+    for number in [0, 1, 15, 21, u32::MAX] {
+        assert_eq!(Kind::of(number), Kind::Unknown);
+    }
+    let explained: Vec<u32> = host::EXPLANATIONS
+        .iter()
+        .map(|known| known.number)
+        .collect();
+    let returned: Vec<u32> = (0..=14).chain(21..=26).collect();
+    assert_eq!(explained, returned);
+    for known in host::EXPLANATIONS {
+        for words in [known.title, known.meaning, known.mend] {
+            assert!(words.len() > 10 && !words.contains("  "), "{words}");
+        }
+    }
+}
+
+/// The sizes that the explanations name are those of the machine.
+#[test]
+fn sizes_in_words() {
+    use host::limits::*;
+    let said = |number: u32, sizes: &[usize]| {
+        let known = host::explain(number).expect("an explanation");
+        let words = format!("{} {}", known.meaning, known.mend).replace(',', "");
+        let words: Vec<&str> = words.split_whitespace().collect();
+        for size in sizes {
+            assert!(
+                words.contains(&size.to_string().as_str()),
+                "{size} in {words:?}"
+            );
+        }
+    };
+    said(1, &[WORK_BYTES, RESULTS_BYTES]);
+    said(2, &[TEXT_BYTES]);
+    said(4, &[ATOMS, NAME_BYTES]);
+    said(
+        5,
+        &[CLASSES, CLASS_FIELDS, METHODS, LOCALS, STATEMENTS, BRANCHES],
+    );
+    said(14, &[PERMISSIONS, FACTS]);
+    said(22, &[OBJECTS, FIELDS]);
+    said(23, &[FRAMES, FRAMES - 1]);
+}
+
+/// Answers, kinds and variables for generated texts, by an API that keeps its
+/// areas and by one that makes them anew.
+#[test]
+fn generated_texts() {
+    let mut station = Station::new();
+    let mut stops = Vec::new();
+    for seed in 1_000_000..1_004_000 {
+        let text = gen::text(seed);
+        let steps = gen::steps(&mut Rng::new(seed));
+        let (number, line) = model::check(&text);
+        let checked = station.check(&text);
+        assert_eq!(checked, host::check(&text));
+        match checked {
+            Ok(accepted) => {
+                assert_eq!((number, accepted.text()), (0, &text[..]));
+                assert_eq!(accepted.run(steps), station.run(&text, steps));
+            }
+            Err(refusal) => {
+                assert_eq!((refusal.number(), refusal.line()), (number, line));
+                assert_eq!(refusal.kind(), Kind::of(number));
+                let shown = refusal.to_string();
+                assert!(line == 0 || shown.starts_with(&format!("line {line}: ")));
+                assert!(shown.contains(&format!("(number {number}); ")), "{shown}");
+            }
+        }
+        let outcome = station.run(&text, steps);
+        let run = model::run(&text, steps);
+        assert_eq!(
+            (outcome.number(), outcome.line(), outcome.steps()),
+            (run.number, run.line, run.steps)
+        );
+        assert_eq!(outcome.finished(), run.number == 0);
+        let declared = model::read(&text).map(|program| program.main().locals.clone());
+        let declared = declared.unwrap_or_default();
+        assert_eq!(outcome.variables().len(), declared.len());
+        for ((variable, Declared { name, kind, .. }), value) in
+            outcome.variables().iter().zip(&declared).zip(run.values)
+        {
+            assert_eq!(variable.name.as_bytes(), *name);
+            let (kind, value) = match kind {
+                Type::Int => (&b"int"[..], Value::Int(value)),
+                Type::Class(class) if value == 0 => (*class, Value::Null),
+                Type::Class(class) => (*class, Value::Object(value as u32)),
+            };
+            assert_eq!((variable.kind.as_bytes(), variable.value), (kind, value));
+            assert_eq!(outcome.variable(&variable.name), Some(variable));
+        }
+        assert_eq!(outcome.variable("no name"), None);
+        match outcome.ending() {
+            Ending::Finished => assert!(outcome.to_string().starts_with("finished at line ")),
+            Ending::Stopped(stop) => {
+                assert!(outcome.to_string().starts_with("stopped at line "));
+                if !stops.contains(&stop) {
+                    stops.push(stop);
+                }
+            }
+            Ending::Refused(kind) => {
+                assert_eq!(kind, Kind::of(number));
+                let start = if line == 0 {
+                    "not run: ".to_string()
+                } else {
+                    format!("not run, line {line}: ")
+                };
+                assert!(outcome.to_string().starts_with(&start), "{outcome}");
+            }
+        }
+    }
+    stops.sort();
+    let all = [
+        Stop::OutOfSteps,
+        Stop::HeapFull,
+        Stop::FramesFull,
+        Stop::PermissionMissing,
+        Stop::NullFollowed,
+        Stop::FormulaFalse,
+    ];
+    assert_eq!(stops, all);
+}
+
+/// A refusal is an error that can be passed on.
+#[test]
+fn a_refusal_is_an_error() {
+    fn checked(text: &[u8]) -> Result<u32, Box<dyn std::error::Error + '_>> {
+        Ok(host::check(text)?.run(10).steps())
+    }
+    assert_eq!(checked(b"main\nend\n").expect("accepted"), 1);
+    let error = checked(b"main\nend").expect_err("the last line is not ended");
+    let words = "line 2: a byte that may not stand in a text (number 3); part fields by tabs";
+    assert!(error.to_string().starts_with(words), "{error}");
+}

@@ -1,0 +1,80 @@
+/* Calls both functions as a C program would. Exit status 0 if all is as said. */
+#include "station.h"
+
+#include <stdio.h>
+#include <string.h>
+
+static uint8_t work[STATION_WORK_BYTES + 1];
+static uint8_t results[STATION_RESULTS_BYTES + 1];
+static int wrong;
+
+static void expect(int holds, const char *what)
+{
+    if (!holds) {
+        printf("wrong: %s\n", what);
+        wrong = 1;
+    }
+}
+
+static int all(const uint8_t *bytes, size_t count, uint8_t byte)
+{
+    for (size_t i = 0; i < count; i++)
+        if (bytes[i] != byte)
+            return 0;
+    return 1;
+}
+
+static void garbage(void)
+{
+    memset(work, 0xa5, sizeof work);
+    memset(results, 0x5a, sizeof results);
+}
+
+static uint32_t word(size_t at)
+{
+    const uint8_t *b = results + 4 * at;
+    return b[0] | (uint32_t)b[1] << 8 | (uint32_t)b[2] << 16 | (uint32_t)b[3] << 24;
+}
+
+int main(void)
+{
+    const char *script = "main\nvar\tint\ta\nvar\tint\tb\nlet\ta\t-7\nend\n";
+    const uint8_t *text = (const uint8_t *)script;
+    size_t len = strlen(script);
+    uint32_t returned;
+
+    garbage();
+    returned = check(text, len, work, STATION_WORK_BYTES);
+    expect(returned == STATION_DONE, "the script is accepted");
+    expect(all(work, STATION_WORK_BYTES, 0), "check clears the work area");
+    expect(work[STATION_WORK_BYTES] == 0xa5, "check stays within the work area");
+
+    garbage();
+    returned = run(text, len, work, STATION_WORK_BYTES, 1000, results, STATION_RESULTS_BYTES);
+    expect(STATION_NUMBER(returned) == STATION_DONE && STATION_LINE(returned) == 5, "the run ends at line 5");
+    expect(word(0) == 2 && (int32_t)word(1) == -7, "two steps, and a is -7");
+    expect(all(results + 8, 4 * (STATION_VALUES - 1), 0), "zeros after the last variable");
+    expect(all(work, STATION_WORK_BYTES, 0), "run clears the work area");
+    expect(work[STATION_WORK_BYTES] == 0xa5 && results[STATION_RESULTS_BYTES] == 0x5a, "run stays within the areas");
+
+    returned = run(text, len, work, STATION_WORK_BYTES, 1, results, STATION_RESULTS_BYTES);
+    expect(returned == STATION_OUT_OF_STEPS * 65536 + 5, "one step is not enough");
+
+    garbage();
+    expect(check(NULL, 0, work, STATION_WORK_BYTES) == STATION_UNFINISHED * 65536, "check of a null text");
+    returned = run(NULL, 0, work, STATION_WORK_BYTES, 1, results, STATION_RESULTS_BYTES);
+    expect(returned == STATION_UNFINISHED * 65536, "run of a null text");
+    expect(all(results, STATION_RESULTS_BYTES, 0), "zeros after a refusal");
+
+    garbage();
+    expect(check(text, len, work, STATION_WORK_BYTES + 1) == 65536, "a work area too long for check");
+    expect(check(text, len, NULL, 0) == 65536, "no work area for check");
+    returned = run(text, len, work, STATION_WORK_BYTES - 1, 9, results, STATION_RESULTS_BYTES);
+    expect(returned == STATION_AREA_LENGTH * 65536, "a work area too short for run");
+    returned = run(text, len, work, STATION_WORK_BYTES, 9, results, STATION_RESULTS_BYTES + 1);
+    expect(returned == STATION_AREA_LENGTH * 65536, "a results area too long");
+    expect(all(work, sizeof work, 0xa5) && all(results, sizeof results, 0x5a), "number 1 changes nothing");
+
+    puts(wrong ? "wrong" : "right");
+    return wrong;
+}

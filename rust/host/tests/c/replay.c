@@ -1,0 +1,44 @@
+/* Calls the library on each file with areas fresh from malloc, so that valgrind
+ * sees a byte that is read or written outside them, and a result that rests on
+ * what they held before.
+ *
+ * replay STEPS FILE..: prints what check and run returned, for each file. */
+#include "station.h"
+
+#include <stdio.h>
+#include <stdlib.h>
+#include <string.h>
+
+int main(int count, char **words)
+{
+    static uint8_t read[STATION_TEXT_BYTES + 1];
+
+    if (count < 3)
+        return 2;
+    uint32_t steps = (uint32_t)strtoul(words[1], NULL, 10);
+    for (int i = 2; i < count; i++) {
+        FILE *file = fopen(words[i], "rb");
+        if (!file)
+            return 2;
+        size_t len = fread(read, 1, sizeof read, file);
+        fclose(file);
+        uint8_t *text = malloc(len ? len : 1);
+        uint8_t *work = malloc(STATION_WORK_BYTES);
+        uint8_t *again = malloc(STATION_WORK_BYTES);
+        uint8_t *results = malloc(STATION_RESULTS_BYTES);
+        if (!text || !work || !again || !results)
+            return 2;
+        memcpy(text, read, len);
+        uint32_t checked = check(text, len, work, STATION_WORK_BYTES);
+        uint32_t ran = run(text, len, again, STATION_WORK_BYTES, steps, results, STATION_RESULTS_BYTES);
+        uint32_t sum = 0;
+        for (size_t at = 0; at < STATION_RESULTS_BYTES; at++)
+            sum = sum * 31 + results[at];
+        printf("%u %u %u\n", checked, ran, sum);
+        free(text);
+        free(work);
+        free(again);
+        free(results);
+    }
+    return 0;
+}

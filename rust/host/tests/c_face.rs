@@ -1,0 +1,205 @@
+//! The C header: its sizes and numbers, two C programs that use it, and the
+//! stack that each call takes.
+
+#[path = "support/workloads.rs"]
+mod workloads;
+
+use host::limits;
+use std::collections::BTreeMap;
+use std::path::{Path, PathBuf};
+use std::process::Command;
+
+fn header() -> String {
+    let path = Path::new(env!("CARGO_MANIFEST_DIR")).join("../../include/station.h");
+    std::fs::read_to_string(path).expect("the header")
+}
+
+/// The header's sizes are those of the type `Machine`.
+#[test]
+fn sizes() {
+    let header = header();
+    let sizes: BTreeMap<&str, usize> = header
+        .lines()
+        .filter_map(|line| line.strip_prefix("#define STATION_")?.split_once(' '))
+        .filter_map(|(name, value)| Some((name, value.parse().ok()?)))
+        .collect();
+    let machine = BTreeMap::from([
+        ("WORK_BYTES", limits::WORK_BYTES),
+        ("RESULTS_BYTES", limits::RESULTS_BYTES),
+        ("TEXT_BYTES", limits::TEXT_BYTES),
+        ("VALUES", limits::VALUES),
+    ]);
+    assert_eq!(sizes, machine);
+    assert_eq!(limits::RESULTS_BYTES, 4 * (1 + limits::VALUES));
+}
+
+/// The model, made from document 01 alone, has the same limits.
+#[test]
+fn limits_of_the_model() {
+    use model::limits as model;
+    let pairs = [
+        (limits::TEXT_BYTES, model::TEXT_BYTES),
+        (limits::CLASSES, model::CLASSES),
+        (limits::CLASS_FIELDS, model::FIELDS),
+        (limits::METHODS, model::METHODS),
+        (limits::LOCALS, model::LOCALS),
+        (limits::STATEMENTS, model::STATEMENT_LINES),
+        (limits::BRANCHES, model::NESTING),
+        (limits::NAME_BYTES, model::NAME_BYTES),
+        (limits::ATOMS, model::ATOMS),
+        (limits::PERMISSIONS, model::PERMISSIONS),
+        (limits::FACTS, model::FACTS),
+        (limits::OBJECTS, model::OBJECTS),
+        (limits::FIELDS, model::HEAP_FIELDS),
+        (limits::FRAMES, model::FRAMES),
+        (limits::WORK_BYTES, model::WORK_BYTES),
+        (limits::RESULTS_BYTES, model::RESULT_BYTES),
+        (limits::VALUES, model::LOCALS),
+        (limits::PROGRAM_STEPS, model::PROGRAM_STEPS as usize),
+    ];
+    for (at, (ours, theirs)) in pairs.into_iter().enumerate() {
+        assert_eq!(ours, theirs, "limit {at}");
+    }
+}
+
+/// The header names every number that is explained, and no other.
+#[test]
+fn numbers() {
+    let header = header();
+    let named: Vec<u32> = header
+        .lines()
+        .filter_map(|line| line.trim().strip_prefix("STATION_")?.split_once(" = "))
+        .map(|(_, rest)| {
+            let digits: String = rest.chars().take_while(char::is_ascii_digit).collect();
+            digits.parse().expect("a number")
+        })
+        .collect();
+    let explained: Vec<u32> = host::EXPLANATIONS
+        .iter()
+        .map(|known| known.number)
+        .collect();
+    assert_eq!(named, explained);
+}
+
+/// Compiles a C program with the library, in a folder of its own.
+fn compiled(name: &str) -> PathBuf {
+    let host = Path::new(env!("CARGO_MANIFEST_DIR"));
+    let program = Path::new(env!("CARGO_TARGET_TMPDIR")).join(name);
+    let output = Command::new("gcc")
+        .args([
+            "-std=c11", "-O2", "-Wall", "-Wextra", "-Werror", "-pthread", "-I",
+        ])
+        .arg(host.join("../../include"))
+        .arg(host.join(format!("tests/c/{name}.c")))
+        .arg(concat!(env!("OUT_DIR"), "/libstation.a"))
+        .arg("-o")
+        .arg(&program)
+        .output()
+        .expect("gcc");
+    assert!(
+        output.status.success(),
+        "{}",
+        String::from_utf8_lossy(&output.stderr)
+    );
+    program
+}
+
+#[test]
+fn called_from_c() {
+    let output = Command::new(compiled("calls"))
+        .output()
+        .expect("the program");
+    let printed = String::from_utf8_lossy(&output.stdout);
+    assert_eq!(
+        (printed.as_ref(), output.status.code()),
+        ("right\n", Some(0))
+    );
+}
+
+/// Under valgrind, where there is one: nothing outside the areas is touched, and
+/// no result rests on what they held before. The answers are the model's.
+#[test]
+fn replayed() {
+    let folder = Path::new(env!("CARGO_TARGET_TMPDIR")).join("replay-texts");
+    std::fs::create_dir_all(&folder).expect("a folder");
+    let texts: Vec<Vec<u8>> = (0..150).map(model::gen::text).collect();
+    let names: Vec<PathBuf> = (0..texts.len())
+        .map(|at| folder.join(format!("{at}")))
+        .collect();
+    for (name, text) in names.iter().zip(&texts) {
+        std::fs::write(name, text).expect("a text");
+    }
+    let program = compiled("replay");
+    let valgrind = Command::new("valgrind").arg("--version").output().is_ok();
+    let mut command = match valgrind {
+        true => Command::new("valgrind"),
+        false => Command::new(&program),
+    };
+    if valgrind {
+        command
+            .args(["--quiet", "--error-exitcode=9"])
+            .arg(&program);
+    }
+    let output = command
+        .arg("500")
+        .args(&names)
+        .output()
+        .expect("the program");
+    let errors = String::from_utf8_lossy(&output.stderr);
+    assert_eq!((output.status.code(), errors.as_ref()), (Some(0), ""));
+    let printed = String::from_utf8_lossy(&output.stdout);
+    let mut lines = printed.lines();
+    for text in &texts {
+        let mut work = vec![0; limits::WORK_BYTES];
+        let mut results = [0; limits::RESULTS_BYTES];
+        let checked = model::check_call(text, &mut work);
+        let ran = model::run_call(text, &mut work, 500, &mut results);
+        let add = |sum: u32, &byte: &u8| sum.wrapping_mul(31).wrapping_add(u32::from(byte));
+        let expected = format!("{checked} {ran} {}", results.iter().fold(0, add));
+        assert_eq!(
+            lines.next(),
+            Some(expected.as_str()),
+            "{}",
+            text.escape_ascii()
+        );
+    }
+    assert_eq!(lines.next(), None);
+}
+
+/// Each call takes less stack than docs/PERFORMANCE.md says, on every text that is timed and
+/// on generated ones; and the measure itself sees something.
+#[test]
+fn stack() {
+    let folder = Path::new(env!("CARGO_TARGET_TMPDIR")).join("stack-texts");
+    std::fs::create_dir_all(&folder).expect("a folder");
+    let timed = workloads::all().into_iter().map(|workload| workload.text);
+    let generated = (0..200).map(model::gen::text);
+    let names: Vec<PathBuf> = timed
+        .chain(generated)
+        .enumerate()
+        .map(|(at, text)| {
+            let name = folder.join(format!("{at}"));
+            std::fs::write(&name, text).expect("a text");
+            name
+        })
+        .collect();
+    let output = Command::new(compiled("stack"))
+        .arg("2000")
+        .args(&names)
+        .output();
+    let output = output.expect("the program");
+    assert!(output.status.success());
+    let printed = String::from_utf8_lossy(&output.stdout);
+    let (mut check, mut run, mut rows) = (0, 0, 0);
+    for line in printed.lines() {
+        let mut words = line.split(' ').map(|word| word.parse::<usize>());
+        let mut next = || words.next().and_then(Result::ok).expect("bytes");
+        check = check.max(next());
+        run = run.max(next());
+        rows += 1;
+    }
+    println!("stack: check {check} bytes, run {run} bytes");
+    assert_eq!(rows, names.len());
+    assert!((256..96 * 1_024).contains(&check), "check takes {check}");
+    assert!((256..8 * 1_024).contains(&run), "run takes {run}");
+}

@@ -1,0 +1,308 @@
+//! The library beside the model, on one text: number, line and every byte of
+//! the lent areas, with canaries around them and garbage in them before.
+#![allow(dead_code)]
+
+use host::calls;
+use host::limits::{RESULTS_BYTES, WORK_BYTES};
+use model::gen::{self, mutate, rng::Rng};
+use std::fmt;
+
+/// The bytes that stand before and after a lent area and must stay.
+const CANARY: usize = 64;
+
+/// A lent area between two canaries.
+struct Lent {
+    bytes: Vec<u8>,
+    len: usize,
+}
+
+impl Lent {
+    /// An area with garbage in it and around it.
+    fn set(&mut self, garbage: &[u8], len: usize) -> &mut Lent {
+        self.len = len;
+        self.bytes.clear();
+        self.bytes.extend_from_slice(&garbage[..len + 2 * CANARY]);
+        self
+    }
+
+    fn area(&mut self) -> &mut [u8] {
+        &mut self.bytes[CANARY..CANARY + self.len]
+    }
+}
+
+/// Which call, over which areas.
+#[derive(Clone, Copy, Debug)]
+pub enum Call {
+    Check {
+        work: usize,
+    },
+    Run {
+        work: usize,
+        steps: u32,
+        results: usize,
+    },
+}
+
+/// A check and a run with areas of the right length.
+pub const CHECK: Call = Call::Check { work: WORK_BYTES };
+
+pub fn run_of(steps: u32) -> Call {
+    Call::Run {
+        work: WORK_BYTES,
+        steps,
+        results: RESULTS_BYTES,
+    }
+}
+
+/// A text on which library and model differ.
+pub struct Difference {
+    pub call: Call,
+    pub text: Vec<u8>,
+    pub what: &'static str,
+    pub library: u32,
+    pub model: u32,
+    library_results: Vec<u8>,
+    model_results: Vec<u8>,
+}
+
+impl fmt::Display for Difference {
+    fn fmt(&self, f: &mut fmt::Formatter<'_>) -> fmt::Result {
+        let shown = |returned: u32| (returned / 65_536, returned % 65_536);
+        writeln!(
+            f,
+            "{} differs for {:?}: library {:?} {:?}, model {:?} {:?}, on the text",
+            self.what,
+            self.call,
+            shown(self.library),
+            self.library_results,
+            shown(self.model),
+            self.model_results
+        )?;
+        write!(
+            f,
+            "{}",
+            self.text.escape_ascii().to_string().replace("\\n", "\n")
+        )
+    }
+}
+
+/// Makes calls of both sides over areas that are kept for the next text.
+pub struct Comparer {
+    garbage: Vec<u8>,
+    areas: [Lent; 4],
+    text: Vec<u8>,
+}
+
+impl Comparer {
+    pub fn new(seed: u64) -> Comparer {
+        let mut rng = Rng::new(seed);
+        let lent = || Lent {
+            bytes: Vec::new(),
+            len: 0,
+        };
+        Comparer {
+            garbage: (0..3 * WORK_BYTES).map(|_| rng.bits() as u8).collect(),
+            areas: [lent(), lent(), lent(), lent()],
+            text: Vec::new(),
+        }
+    }
+
+    /// The number and line that both sides return, or how they differ.
+    pub fn call(&mut self, text: &[u8], call: Call) -> Result<u32, Box<Difference>> {
+        let from = text.len() % WORK_BYTES;
+        let garbage = &self.garbage[from..];
+        let [own_work, own_results, work, results] = &mut self.areas;
+        // The library reads a copy of its own, whose bytes must stay.
+        self.text.clear();
+        self.text.extend_from_slice(text);
+        let (library, model) = match call {
+            Call::Check { work: len } => {
+                own_results.set(garbage, 0);
+                results.set(garbage, 0);
+                (
+                    calls::check(&self.text, own_work.set(garbage, len).area()),
+                    model::check_call(text, work.set(garbage, len).area()),
+                )
+            }
+            Call::Run {
+                work: len,
+                steps,
+                results: results_len,
+            } => {
+                let own_results = own_results.set(garbage, results_len).area();
+                let results = results.set(garbage, results_len).area();
+                let own_work = own_work.set(garbage, len).area();
+                let work = work.set(garbage, len).area();
+                (
+                    calls::run(&self.text, own_work, steps, own_results),
+                    model::run_call(text, work, steps, results),
+                )
+            }
+        };
+        let what = if library != model {
+            "the returned number"
+        } else if self.text != text {
+            "the text"
+        } else if own_results.bytes != results.bytes {
+            "the results area"
+        } else if own_work.bytes != work.bytes {
+            "the work area"
+        } else {
+            return Ok(model);
+        };
+        Err(Box::new(Difference {
+            call,
+            text: text.to_vec(),
+            what,
+            library,
+            model,
+            library_results: own_results.area().to_vec(),
+            model_results: results.area().to_vec(),
+        }))
+    }
+
+    /// Both calls; now and then with areas of another length, and with as many
+    /// steps as can be allowed where the run ends before them.
+    pub fn both(&mut self, text: &[u8], rng: &mut Rng) -> Result<(u32, u32), Box<Difference>> {
+        let checked = self.call(text, CHECK)?;
+        let ran = self.call(text, run_of(gen::steps(rng)))?;
+        if rng.below(64) == 0 {
+            self.wrong_lengths(text, rng)?;
+        }
+        if ran / 65_536 != model::number::OUT_OF_STEPS && rng.below(8) == 0 {
+            self.call(text, run_of(u32::MAX))?;
+        }
+        Ok((checked, ran))
+    }
+
+    fn wrong_lengths(&mut self, text: &[u8], rng: &mut Rng) -> Result<(), Box<Difference>> {
+        let other = |rng: &mut Rng, right: usize| match rng.below(4) {
+            0 => right - 1,
+            1 => right + 1,
+            2 => rng.below(right),
+            _ => right,
+        };
+        let work = other(rng, WORK_BYTES);
+        let results = other(rng, RESULTS_BYTES);
+        let steps = gen::steps(rng);
+        self.call(text, Call::Check { work })?;
+        self.call(
+            text,
+            Call::Run {
+                work,
+                steps,
+                results,
+            },
+        )?;
+        Ok(())
+    }
+
+    /// The shortest text found that still differs: lines, then fields, go.
+    pub fn reduced(&mut self, found: Box<Difference>) -> Box<Difference> {
+        let mut least = found;
+        loop {
+            let lines = mutate::fields_of(&least.text);
+            let without_line = (0..lines.len()).rev().map(|at| {
+                let mut lines = lines.clone();
+                lines.remove(at);
+                lines
+            });
+            let without_field = (0..lines.len()).rev().flat_map(|at| {
+                let lines = &lines;
+                (0..lines[at].len()).rev().map(move |place| {
+                    let mut lines = lines.clone();
+                    lines[at].remove(place);
+                    lines
+                })
+            });
+            let call = least.call;
+            let shorter = without_line
+                .chain(without_field)
+                .map(|lines| mutate::text_from(&lines))
+                .filter(|text| text.len() < least.text.len())
+                .find_map(|text| self.call(&text, call).err());
+            match shorter {
+                Some(shorter) => least = shorter,
+                None => return least,
+            }
+        }
+    }
+}
+
+/// A small change that keeps the form of the lines it touches.
+pub fn gently_mutated(rng: &mut Rng, text: &[u8]) -> Vec<u8> {
+    let mut lines = mutate::fields_of(text);
+    if lines.is_empty() {
+        return text.to_vec();
+    }
+    for _ in 0..rng.within(1, 3) {
+        let at = rng.below(lines.len());
+        mutate::exchange(rng, &mut lines, at);
+    }
+    mutate::text_from(&lines)
+}
+
+/// The mutations of each generated text.
+pub const MUTATIONS: usize = 19;
+
+/// How often each number came.
+pub type Counts = [u64; 27];
+
+/// The text of a seed and its mutations, compared; counts by number.
+pub fn compare_seed(
+    comparer: &mut Comparer,
+    seed: u64,
+    checks: &mut Counts,
+    runs: &mut Counts,
+) -> Result<(), Box<Difference>> {
+    let mut rng = Rng::new(!seed);
+    let text = gen::text(seed);
+    let mut compare = |rng: &mut Rng, text: &[u8]| -> Result<(), Box<Difference>> {
+        let (checked, ran) = comparer.both(text, rng)?;
+        checks[checked as usize / 65_536] += 1;
+        runs[ran as usize / 65_536] += 1;
+        Ok(())
+    };
+    compare(&mut rng, &text)?;
+    let mut last = text.clone();
+    for at in 0..MUTATIONS {
+        let new = match at % 3 {
+            0 => mutate::mutated(&mut rng, &text),
+            1 => gently_mutated(&mut rng, &text),
+            _ => gently_mutated(&mut rng, &last),
+        };
+        compare(&mut rng, &new)?;
+        last = new;
+    }
+    Ok(())
+}
+
+/// Seeds compared by two threads; the texts are the same however they share them.
+pub fn compare_seeds(seeds: std::ops::Range<u64>) -> Result<(Counts, Counts), Box<Difference>> {
+    use std::sync::atomic::{AtomicU64, Ordering};
+    let next = AtomicU64::new(seeds.start);
+    let work = || {
+        let mut comparer = Comparer::new(seeds.start);
+        let (mut checks, mut runs) = ([0; 27], [0; 27]);
+        loop {
+            let seed = next.fetch_add(1, Ordering::Relaxed);
+            if seed >= seeds.end {
+                return Ok((checks, runs));
+            }
+            if let Err(found) = compare_seed(&mut comparer, seed, &mut checks, &mut runs) {
+                next.store(seeds.end, Ordering::Relaxed);
+                return Err(comparer.reduced(found));
+            }
+        }
+    };
+    let (one, two) = std::thread::scope(|scope| {
+        let other = scope.spawn(work);
+        (work(), other.join().expect("the other thread ends"))
+    });
+    let ((mut checks, mut runs), (more_checks, more_runs)) = (one?, two?);
+    for at in 0..27 {
+        checks[at] += more_checks[at];
+        runs[at] += more_runs[at];
+    }
+    Ok((checks, runs))
+}
