@@ -197,27 +197,15 @@ impl Comparer {
         Ok(())
     }
 
-    /// The shortest text found that still differs: lines, then fields, go.
+    /// The shortest text found that still differs.
     pub fn reduced(&mut self, found: Box<Difference>) -> Box<Difference> {
         let mut least = found;
         loop {
             let lines = mutate::fields_of(&least.text);
-            let without_line = (0..lines.len()).rev().map(|at| {
-                let mut lines = lines.clone();
-                lines.remove(at);
-                lines
-            });
-            let without_field = (0..lines.len()).rev().flat_map(|at| {
-                let lines = &lines;
-                (0..lines[at].len()).rev().map(move |place| {
-                    let mut lines = lines.clone();
-                    lines[at].remove(place);
-                    lines
-                })
-            });
             let call = least.call;
-            let shorter = without_line
-                .chain(without_field)
+            let shorter = runs_of_lines(&lines)
+                .chain(branches(&lines))
+                .chain(fields(&lines))
                 .map(|lines| mutate::text_from(&lines))
                 .filter(|text| text.len() < least.text.len())
                 .find_map(|text| self.call(&text, call).err());
@@ -227,6 +215,53 @@ impl Comparer {
             }
         }
     }
+}
+
+type Lines = Vec<Vec<Vec<u8>>>;
+
+/// The lines without a run of them, the longest runs first.
+fn runs_of_lines(lines: &Lines) -> impl Iterator<Item = Lines> + '_ {
+    let sizes = (1..=lines.len()).rev();
+    let runs = sizes.flat_map(|size| (0..=lines.len() - size).map(move |at| at..at + size));
+    runs.map(|run| {
+        let mut lines = lines.clone();
+        lines.drain(run);
+        lines
+    })
+}
+
+/// The lines without an `if`, `else` and `join`.
+fn branches(lines: &Lines) -> impl Iterator<Item = Lines> + '_ {
+    let of = |word: &[u8]| -> Vec<usize> {
+        let places = 0..lines.len();
+        places.filter(|&at| lines[at][0] == word).collect()
+    };
+    let (ifs, elses, joins) = (of(b"if"), of(b"else"), of(b"join"));
+    let mut triples = Vec::new();
+    for &first in &ifs {
+        for &middle in elses.iter().filter(|&&middle| middle > first) {
+            let after = joins.iter().filter(|&&last| last > middle);
+            triples.extend(after.map(|&last| [first, middle, last]));
+        }
+    }
+    triples.into_iter().map(|triple| {
+        let kept = (0..lines.len()).filter(|at| !triple.contains(at));
+        kept.map(|at| lines[at].clone()).collect()
+    })
+}
+
+/// The lines without an atom or a single field.
+fn fields(lines: &Lines) -> impl Iterator<Item = Lines> + '_ {
+    let places = (0..lines.len()).flat_map(|at| (0..lines[at].len()).map(move |place| (at, place)));
+    places.flat_map(move |(at, place)| {
+        let sizes = [3, 1].into_iter();
+        let sizes = sizes.filter(move |size| place + size <= lines[at].len());
+        sizes.map(move |size| {
+            let mut lines = lines.clone();
+            lines[at].drain(place..place + size);
+            lines
+        })
+    })
 }
 
 /// A small change that keeps the form of the lines it touches.
