@@ -139,18 +139,16 @@ module _ (p : ℕ → Bool) where
       go false z = refl
 
 -- COMPARISON
-module _ (a b : Name) (i : ℕ) where
-  pub same-on : i < length a → i < length b → getD a i 0 ≡ getD b i 0 → eqName (drop i a) (drop i b) ≡ eqName (drop (i + 1) a) (drop (i + 1) b)
-  unfolding eqName
-  same-on h k e = rw (add-one, drop-cons a i 0 h, drop-cons b i 0 k, eq-eqb (getD a i 0) (getD b i 0) e)
 
-  pub same-off : i < length a → i < length b → eqb (getD a i 0) (getD b i 0) ≡ false → eqName (drop i a) (drop i b) ≡ false
-  unfolding eqName
-  same-off h k e = rw (drop-cons a i 0 h, drop-cons b i 0 k, e)
+-- fields whose rests from i on are the same, and the byte before them
+pub rest-back :
+    (a b : Name) (i j : ℕ) → i ≡ suc j → i ≤ length a → i ≤ length b → getD a j 0 ≡ getD b j 0 → drop i a ≡ drop i b → drop j a ≡ drop j b
+rest-back a b i j z h k e r =
+    let q : drop (suc j) a ≡ drop (suc j) b = ap (λ n. drop n a) (sym z) ∙ (r ∙ ap (λ n. drop n b) z) in
+    drop-cons a j 0 (omega arith) ∙ (ap₂ _∷_ e q ∙ sym (drop-cons b j 0 (omega arith)))
 
-  pub same-end : length a ≤ i → length b ≤ i → eqName (drop i a) (drop i b) ≡ true
-  unfolding eqName
-  same-end h k = rw (drop-of-length-le a {i = i} h, drop-of-length-le b {i = i} k)
+pub rest-end : (a b : Name) (i : ℕ) → length a ≤ i → length b ≤ i → drop i a ≡ drop i b
+rest-end a b i h k = rw (drop-of-length-le a {i = i} h, drop-of-length-le b {i = i} k)
 
 pub same-is : (a b : Name) → eqName a b ≡ true → a ≡ b
 unfolding eqName

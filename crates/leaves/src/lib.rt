@@ -118,18 +118,19 @@ pub fn byte_at(w: &[u8], i: usize) -> u8
     if i < w.len() { w[i] } else { 0 }
 }
 
+// From the last byte to the first: names of one length differ more often in their last bytes.
 pub fn same(a: &[u8], b: &[u8]) -> bool
     ensures { λ r. ⌜ r ≡ eqName (now (a .entry)) (now (b .entry)) ⌝ }
 {
     if a.len() != b.len() {
         return false;
     }
-    let mut i = 0;
-    while i < a.len() {
+    let mut i = a.len();
+    while i != 0 {
+        i -= 1;
         if a[i] != b[i] {
             return false;
         }
-        i += 1;
     }
     true
 }
@@ -460,6 +461,25 @@ pub fn expr_of(w: &[u8]) -> Expr
         return path_expr(w, d);
     }
     whole_expr(w)
+}
+
+// The same of a field that is known to be an expression: fewer tests.
+pub fn known_expr(w: &[u8]) -> Expr
+    requires { ⌜ isExpr (now w) ≡ true ⌝ }
+    ensures { λ r. ⌜ Reads (now (w .entry)) r ⌝ }
+{
+    if is_numeral(w) {
+        let n = number(w);
+        return Expr::Num(n);
+    }
+    let d = find(w, 0, Set::FullStop);
+    if d < w.len() {
+        return Expr::Path(d);
+    }
+    if is_null(w) {
+        return Expr::Null;
+    }
+    Expr::Var
 }
 
 pub fn is_expr(w: &[u8]) -> bool
