@@ -51,6 +51,18 @@ module _ (p : ℕ → Bool) (l : List ℕ) (i : ℕ) where
   unfolding upTo
   upTo-end h = rw (drop-of-length-le l {i = i} h)
 
+-- A SEARCH, EIGHT STEPS
+module _ (p : ℕ → Bool) (l : List ℕ) where
+  upTo-next : (i j : ℕ) → j ≡ i + 1 → i < length l → p (getD l i 0) ≡ false → upTo p (drop i l) ≡ suc (upTo p (drop j l))
+  upTo-next i j z h e = upTo-on p l i h e ∙ ap (λ n. suc (upTo p (drop n l))) (sym z)
+
+  pub upTo-eight :
+      (i : ℕ) → i + 8 ≤ length l → p (getD l i 0) ≡ false → p (getD l (i + 1) 0) ≡ false → p (getD l (i + 2) 0) ≡ false →
+      p (getD l (i + 3) 0) ≡ false → p (getD l (i + 4) 0) ≡ false → p (getD l (i + 5) 0) ≡ false → p (getD l (i + 6) 0) ≡ false →
+      p (getD l (i + 7) 0) ≡ false → upTo p (drop i l) ≡ 8 + upTo p (drop (i + 8) l)
+  upTo-eight i h a b c d e f g k =
+      omega (arith, upTo-next i (i + 1) (omega arith) (omega arith) a, upTo-next (i + 1) (i + 2) (omega arith) (omega arith) b, upTo-next (i + 2) (i + 3) (omega arith) (omega arith) c, upTo-next (i + 3) (i + 4) (omega arith) (omega arith) d, upTo-next (i + 4) (i + 5) (omega arith) (omega arith) e, upTo-next (i + 5) (i + 6) (omega arith) (omega arith) f, upTo-next (i + 6) (i + 7) (omega arith) (omega arith) g, upTo-next (i + 7) (i + 8) (omega arith) (omega arith) k)
+
 -- A SEARCH AS A WHOLE
 step : (P : ℕ → Type 0) (q : Bool) (m n : ℕ) → (q ≡ true → P m) → (q ≡ false → P n) → P (cond q m n)
 step P true m n t f = t refl
