@@ -8,7 +8,7 @@ use lib.ListN.{length, take, drop}
 use Rattle.rules.specs.Base.{Name}
 use Rattle.rules.specs.Syntax as Syntax
 use Rattle.rules.specs.Syntax.{num, null, var, path}
-use Rattle.rules.specs.Text.{isExpr, exprOf}
+use Rattle.rules.specs.Text.{numeral, number, isExpr, exprOf}
 use Rattle.rules.proofs.Lists.{some-inj, none-some}
 use Rattle.leaves.specs.declared.Expr.{Expr}
 use Rattle.leaves.specs.declared.Expr.the-variants.{Num, Null, Var, Path, NoExpr}
@@ -37,6 +37,11 @@ module _ (w : Name) (e : Expr) (form : isExpr w ≡ true) (r : Reads w e) where
 
   pub read-none : {A : Type 0} → e ≡ NoExpr → A
   read-none k = none-some (sym (ap (meant w) k) ∙ meant-is)
+
+-- a field that begins as a number is one
+pub numeral-num : (w : Name) → numeral w ≡ true → exprOf w ≡ num (number w)
+unfolding exprOf
+numeral-num w h = rw h
 
 pub stop-within : (w : Name) (e : Expr) (d : ℕ) → Reads w e → e ≡ Path d → d < length w
 stop-within w e d r k = subst (stands w) k (r .place) .1

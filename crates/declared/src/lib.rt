@@ -595,7 +595,10 @@ pub fn known_expr(text: &[u8], work: &[u8], c: Names, w: &[u8]) -> bool
     requires { ⌜ (length (now work) ≡ work-bytes) × Fits c × (isExpr (now w) ≡ true) ⌝ }
     ensures { λ r. ⌜ r ≡ knownExpr (declarationsIn (now (text .entry)) (now (work .entry)) c) (variablesIn (now (text .entry)) (now (work .entry)) c) (exprOf (now (w .entry))) ⌝ }
 {
-    let e = leaves::expr_of(w);
+    if leaves::is_numeral(w) {
+        return true;
+    }
+    let e = leaves::known_expr(w);
     match e {
         leaves::Expr::Num(_) => true,
         leaves::Expr::Null => true,
@@ -613,7 +616,10 @@ pub fn of_class_in(text: &[u8], work: &[u8], c: Names, w: &[u8]) -> bool
     requires { ⌜ (length (now work) ≡ work-bytes) × Fits c × (isExpr (now w) ≡ true) ⌝ }
     ensures { λ r. ⌜ r ≡ ofClassIn (declarationsIn (now (text .entry)) (now (work .entry)) c) (variablesIn (now (text .entry)) (now (work .entry)) c) (exprOf (now (w .entry))) ⌝ }
 {
-    let e = leaves::expr_of(w);
+    if leaves::is_numeral(w) {
+        return true;
+    }
+    let e = leaves::known_expr(w);
     let leaves::Expr::Path(d) = e else {
         return true;
     };
@@ -634,7 +640,10 @@ pub fn expr_type(text: &[u8], work: &[u8], c: Names, w: &[u8]) -> ExprType
     requires { ⌜ (length (now work) ≡ work-bytes) × Fits c × (isExpr (now w) ≡ true) ⌝ }
     ensures { λ r. ⌜ typeMeant (now (text .entry)) r ≡ exprType (declarationsIn (now (text .entry)) (now (work .entry)) c) (variablesIn (now (text .entry)) (now (work .entry)) c) (exprOf (now (w .entry))) ⌝ }
 {
-    let e = leaves::expr_of(w);
+    if leaves::is_numeral(w) {
+        return ExprType::Int;
+    }
+    let e = leaves::known_expr(w);
     match e {
         leaves::Expr::Num(_) => ExprType::Int,
         leaves::Expr::Null => ExprType::Null,
@@ -664,7 +673,7 @@ pub fn resolve_expr(text: &[u8], work: &[u8], c: Names, w: &[u8]) -> Expr
     requires { ⌜ (length (now work) ≡ work-bytes) × Fits c × (isExpr (now w) ≡ true) ⌝ }
     ensures { λ r. ⌜ meaning r ≡ resolveExpr (declarationsIn (now (text .entry)) (now (work .entry)) c) (variablesIn (now (text .entry)) (now (work .entry)) c) (exprOf (now (w .entry))) ⌝ }
 {
-    let e = leaves::expr_of(w);
+    let e = leaves::known_expr(w);
     match e {
         leaves::Expr::Num(n) => Expr::Num(n),
         leaves::Expr::Null => Expr::Null,

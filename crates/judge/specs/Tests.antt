@@ -56,6 +56,15 @@ bothTests a b =
 abbrev pub allPassed : Tests
 allPassed = record { known = true; typed = true; assignable = true }
 
+-- of a field that is an expression
+unfoldable pub exprTests : List ℕ → List ℕ → Names → Name → Tests
+exprTests t w c x =
+    record {
+      known = Rules.knownExpr (declarationsIn t w c) (variablesIn t w c) (exprOf x);
+      typed = Rules.ofClassIn (declarationsIn t w c) (variablesIn t w c) (exprOf x);
+      assignable = true;
+    }
+
 module _ (t w : List ℕ) (c : Names) (a : Above) where
   -- of the field x with v before it
   unfoldable pub slotTests : Operand → Name → Name → Tests

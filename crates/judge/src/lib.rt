@@ -17,7 +17,7 @@ ghost use Rattle.lines.specs.Cuts.{more};
 ghost use Rattle.lines.specs.Rows.{operandNumber};
 ghost use Rattle.declared.specs.Meanings.{Fits, declarationsIn, variablesIn, scopeIn};
 ghost use Rattle.declared.specs.Answers.{operandMeant};
-ghost use Rattle.judge.specs.Tests.{lineAfter, lineAt, Formed, Ready, bothTests, slotTests, cmpTests, tested, lineTests, sidesIn, apartIn};
+ghost use Rattle.judge.specs.Tests.{lineAfter, lineAt, Formed, Ready, bothTests, slotTests, exprTests, cmpTests, tested, lineTests, sidesIn, apartIn};
 ghost use Rattle.judge.specs.Refusals.{refusalOf, refusalIn};
 
 // Which of the tests of numbers 6, 7 and 9 are passed.
@@ -140,13 +140,34 @@ fn acc_tests(text: &[u8], work: &[u8], c: Names, a: Above, x: &[u8], f: &[u8]) -
     both(first, second)
 }
 
+// The tests of a field that is an expression; a number passes them.
+fn expr_tests(text: &[u8], work: &[u8], c: Names, x: &[u8]) -> Tests
+    requires { ⌜ (length (now work) ≡ work-bytes) × Fits c × (isExpr (now x) ≡ true) ⌝ }
+    ensures { λ r. ⌜ r ≡ exprTests (now (text .entry)) (now (work .entry)) c (now (x .entry)) ⌝ }
+{
+    if leaves::is_numeral(x) {
+        return Tests {
+            known: true,
+            typed: true,
+            assignable: true,
+        };
+    }
+    let known = declared::known_expr(text, work, c, x);
+    let typed = declared::of_class_in(text, work, c, x);
+    Tests {
+        known,
+        typed,
+        assignable: true,
+    }
+}
+
 // `eq x y` or `ne x y`
 fn cmp_tests(text: &[u8], work: &[u8], c: Names, a: Above, x: &[u8], y: &[u8]) -> Tests
     requires { ⌜ Ready (now work) c a × (isExpr (now x) ≡ true) × (isExpr (now y) ≡ true) ⌝ }
     ensures { λ r. ⌜ r ≡ cmpTests (now (text .entry)) (now (work .entry)) c a (now (x .entry)) (now (y .entry)) ⌝ }
 {
-    let first = field_tests(text, work, c, a, Operand::Expression, &x[0..0], x);
-    let second = field_tests(text, work, c, a, Operand::Expression, x, y);
+    let first = expr_tests(text, work, c, x);
+    let second = expr_tests(text, work, c, y);
     let typed = types_agree(text, work, c, x, y);
     let sides = Tests {
         known: true,

@@ -11,7 +11,7 @@ use lib.ListN.{length, getD, take, drop, length-drop}
 use lib.Seq.{getD-take, getD-drop, length-take-le}
 use borrow.Author.Tests.{eqb-true, leb-false, lt-leb, lt-ltb, le-ltb, ltb-true, eq-eqb, ne-eqb, not-true, not-false}
 use Rattle.rules.specs.Base as Base
-use Rattle.rules.specs.Base.{Name, all, is}
+use Rattle.rules.specs.Base.{Name, all, is, withDefault}
 use Rattle.rules.specs.Text as Text
 use Rattle.rules.specs.Text.{letter, digit, letterOrDigit, upTo, isName, stopIn, hasStop, beforeStop, afterStop, numeral, isNumber, number, isExpr, exprOf}
 use Rattle.rules.specs.Syntax as Syntax
@@ -163,6 +163,32 @@ module _ (w : Name) (d : ℕ) (h : d < length w) (e : d ≡ 0 + upTo other w) wh
     pub path-is : numeral w ≡ false → beginsName d w ≡ true → isName (drop (suc d) w) ≡ true → some (path (take d w) (drop (suc d) w)) ≡ exprIn w
     unfolding exprIn exprOf hasStop beforeStop afterStop
     path-is n a b = rw (path-form n, a, b, n, stop-here, lt-ltb d (length w) h)
+
+-- a field that is known to be an expression: its first byte, its full stop and `null` tell which
+module _ (w : Name) (x : isExpr w ≡ true) where
+  pub known-number : (n : ℕ) → numeral w ≡ true → n ≡ withDefault 0 (numberIn w) → some (num n) ≡ exprIn w
+  unfolding exprIn isExpr exprOf numberIn withDefault
+  known-number n h e =
+      let q : isNumber w ≡ true = rw h at x in
+      let z : n ≡ number w = rw q at e in
+      rw (h, q, z)
+
+  module _ (n : numeral w ≡ false) (d : ℕ) (e : d ≡ 0 + upTo (λ b. eqb b 46) w) where
+    pub known-stop : d ≡ stopIn w
+    unfolding stopIn
+    known-stop = omega (arith, e)
+
+    pub known-path : d < length w → some (path (take d w) (drop (suc d) w)) ≡ exprIn w
+    unfolding exprIn exprOf hasStop beforeStop afterStop
+    known-path h = rw (x, n, ← known-stop, lt-ltb d (length w) h)
+
+    pub known-null : length w ≤ d → is "null" w ≡ true → some null ≡ exprIn w
+    unfolding exprIn exprOf hasStop
+    known-null h z = rw (x, n, ← known-stop, le-ltb d (length w) h, z)
+
+    pub known-var : length w ≤ d → is "null" w ≡ false → some (var w) ≡ exprIn w
+    unfolding exprIn exprOf hasStop
+    known-var h z = rw (x, n, ← known-stop, le-ltb d (length w) h, z)
 
 -- A NAME AS A FIELD OF A LINE
 

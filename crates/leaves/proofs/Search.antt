@@ -51,6 +51,18 @@ module _ (p : ℕ → Bool) (l : List ℕ) (i : ℕ) where
   unfolding upTo
   upTo-end h = rw (drop-of-length-le l {i = i} h)
 
+-- A SEARCH, EIGHT STEPS
+module _ (p : ℕ → Bool) (l : List ℕ) where
+  upTo-next : (i j : ℕ) → j ≡ i + 1 → i < length l → p (getD l i 0) ≡ false → upTo p (drop i l) ≡ suc (upTo p (drop j l))
+  upTo-next i j z h e = upTo-on p l i h e ∙ ap (λ n. suc (upTo p (drop n l))) (sym z)
+
+  pub upTo-eight :
+      (i : ℕ) → i + 8 ≤ length l → p (getD l i 0) ≡ false → p (getD l (i + 1) 0) ≡ false → p (getD l (i + 2) 0) ≡ false →
+      p (getD l (i + 3) 0) ≡ false → p (getD l (i + 4) 0) ≡ false → p (getD l (i + 5) 0) ≡ false → p (getD l (i + 6) 0) ≡ false →
+      p (getD l (i + 7) 0) ≡ false → upTo p (drop i l) ≡ 8 + upTo p (drop (i + 8) l)
+  upTo-eight i h a b c d e f g k =
+      omega (arith, upTo-next i (i + 1) (omega arith) (omega arith) a, upTo-next (i + 1) (i + 2) (omega arith) (omega arith) b, upTo-next (i + 2) (i + 3) (omega arith) (omega arith) c, upTo-next (i + 3) (i + 4) (omega arith) (omega arith) d, upTo-next (i + 4) (i + 5) (omega arith) (omega arith) e, upTo-next (i + 5) (i + 6) (omega arith) (omega arith) f, upTo-next (i + 6) (i + 7) (omega arith) (omega arith) g, upTo-next (i + 7) (i + 8) (omega arith) (omega arith) k)
+
 -- A SEARCH AS A WHOLE
 step : (P : ℕ → Type 0) (q : Bool) (m n : ℕ) → (q ≡ true → P m) → (q ≡ false → P n) → P (cond q m n)
 step P true m n t f = t refl
@@ -139,18 +151,16 @@ module _ (p : ℕ → Bool) where
       go false z = refl
 
 -- COMPARISON
-module _ (a b : Name) (i : ℕ) where
-  pub same-on : i < length a → i < length b → getD a i 0 ≡ getD b i 0 → eqName (drop i a) (drop i b) ≡ eqName (drop (i + 1) a) (drop (i + 1) b)
-  unfolding eqName
-  same-on h k e = rw (add-one, drop-cons a i 0 h, drop-cons b i 0 k, eq-eqb (getD a i 0) (getD b i 0) e)
 
-  pub same-off : i < length a → i < length b → eqb (getD a i 0) (getD b i 0) ≡ false → eqName (drop i a) (drop i b) ≡ false
-  unfolding eqName
-  same-off h k e = rw (drop-cons a i 0 h, drop-cons b i 0 k, e)
+-- fields whose rests from i on are the same, and the byte before them
+pub rest-back :
+    (a b : Name) (i j : ℕ) → i ≡ suc j → i ≤ length a → i ≤ length b → getD a j 0 ≡ getD b j 0 → drop i a ≡ drop i b → drop j a ≡ drop j b
+rest-back a b i j z h k e r =
+    let q : drop (suc j) a ≡ drop (suc j) b = ap (λ n. drop n a) (sym z) ∙ (r ∙ ap (λ n. drop n b) z) in
+    drop-cons a j 0 (omega arith) ∙ (ap₂ _∷_ e q ∙ sym (drop-cons b j 0 (omega arith)))
 
-  pub same-end : length a ≤ i → length b ≤ i → eqName (drop i a) (drop i b) ≡ true
-  unfolding eqName
-  same-end h k = rw (drop-of-length-le a {i = i} h, drop-of-length-le b {i = i} k)
+pub rest-end : (a b : Name) (i : ℕ) → length a ≤ i → length b ≤ i → drop i a ≡ drop i b
+rest-end a b i h k = rw (drop-of-length-le a {i = i} h, drop-of-length-le b {i = i} k)
 
 pub same-is : (a b : Name) → eqName a b ≡ true → a ≡ b
 unfolding eqName

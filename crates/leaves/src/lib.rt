@@ -2,10 +2,10 @@ use rules::Machine;
 ghost use mathlib.Core.Path.{_≡_};
 ghost use mathlib.Core.Bool.{true, false, _&&_, _||_};
 ghost use lib.Dec.{leb};
-ghost use Prim.Native.Nat.{_≤_, _<_};
-ghost use lib.ListN.{length, getD};
+ghost use Prim.Native.Nat.{_+_, _≤_, _<_};
+ghost use lib.ListN.{length, getD, drop};
 ghost use Rattle.rules.specs.Base.{between, eqName, is, all, withDefault};
-ghost use Rattle.rules.specs.Text.{allowed, letter, digit, letterOrDigit, isName, reserved, isDigits, isNumber, decimal, numeral, isExpr, isAtom};
+ghost use Rattle.rules.specs.Text.{allowed, letter, digit, letterOrDigit, upTo, isName, reserved, isDigits, isNumber, decimal, numeral, isExpr, isAtom};
 ghost use Rattle.rules.specs.Grammar.{kindOf};
 ghost use Rattle.leaves.specs.Sets.{inSet, Found};
 ghost use Rattle.leaves.specs.Fields.{NameEnd};
@@ -96,8 +96,9 @@ pub fn in_set(b: u8, set: Set) -> bool
     }
 }
 
-// The first place from `at` on whose byte is in the set, or the end.
-pub fn find(l: &[u8], at: usize, set: Set) -> usize
+// SEARCHES
+
+fn find_from(l: &[u8], at: usize, set: Set) -> usize
     requires { ⌜ at ≤ length (now l) ⌝ }
     ensures { λ r. ⌜ Found (now (l .entry)) at set r ⌝ }
 {
@@ -111,6 +112,60 @@ pub fn find(l: &[u8], at: usize, set: Set) -> usize
     i
 }
 
+fn or(a: bool, b: bool) -> bool
+    ensures { λ r. ⌜ r ≡ (a || b) ⌝ }
+{
+    if a { true } else { b }
+}
+
+// Is one of the eight bytes from i on in the set? All eight are tested, so that they can be tested at once.
+fn any_of_8(l: &[u8], i: usize, set: Set) -> bool
+    requires { ⌜ i + 8 ≤ length (now l) ⌝ }
+    ensures { λ r. ⌜ (r ≡ false → upTo (inSet set) (drop i (now (l .entry))) ≡ 8 + upTo (inSet set) (drop (i + 8) (now (l .entry)))) ⌝ }
+{
+    let a = or(in_set(l[i], set), in_set(l[i + 1], set));
+    let b = or(in_set(l[i + 2], set), in_set(l[i + 3], set));
+    let c = or(in_set(l[i + 4], set), in_set(l[i + 5], set));
+    let d = or(in_set(l[i + 6], set), in_set(l[i + 7], set));
+    or(or(a, b), or(c, d))
+}
+
+// A place from `at` on, up to which no byte is in the set, found in steps of eight.
+fn skip(l: &[u8], at: usize, set: Set) -> usize
+    requires { ⌜ at ≤ length (now l) ⌝ }
+    ensures { λ r. ⌜ (at ≤ r) × (r ≤ length (now (l .entry))) × (r + upTo (inSet set) (drop r (now (l .entry))) ≡ at + upTo (inSet set) (drop at (now (l .entry)))) ⌝ }
+{
+    let mut i = at;
+    while 8 <= l.len() - i {
+        if any_of_8(l, i, set) {
+            return i;
+        }
+        i += 8;
+    }
+    i
+}
+
+fn line_end(l: &[u8], at: usize) -> usize
+    requires { ⌜ at ≤ length (now l) ⌝ }
+    ensures { λ r. ⌜ Found (now (l .entry)) at Set.LineEnd r ⌝ }
+{
+    let i = skip(l, at, Set::LineEnd);
+    find_from(l, i, Set::LineEnd)
+}
+
+// The first place from `at` on whose byte is in the set, or the end. Lines are long, so their ends are searched in steps of eight.
+pub fn find(l: &[u8], at: usize, set: Set) -> usize
+    requires { ⌜ at ≤ length (now l) ⌝ }
+    ensures { λ r. ⌜ Found (now (l .entry)) at set r ⌝ }
+{
+    match set {
+        Set::LineEnd => line_end(l, at),
+        _ => find_from(l, at, set),
+    }
+}
+
+// FIELDS
+
 // Byte i of a field, or 0 past its end.
 pub fn byte_at(w: &[u8], i: usize) -> u8
     ensures { λ r. ⌜ r ≡ getD (now (w .entry)) i 0 ⌝ }
@@ -118,18 +173,19 @@ pub fn byte_at(w: &[u8], i: usize) -> u8
     if i < w.len() { w[i] } else { 0 }
 }
 
+// From the last byte to the first: names of one length differ more often in their last bytes.
 pub fn same(a: &[u8], b: &[u8]) -> bool
     ensures { λ r. ⌜ r ≡ eqName (now (a .entry)) (now (b .entry)) ⌝ }
 {
     if a.len() != b.len() {
         return false;
     }
-    let mut i = 0;
-    while i < a.len() {
+    let mut i = a.len();
+    while i != 0 {
+        i -= 1;
         if a[i] != b[i] {
             return false;
         }
-        i += 1;
     }
     true
 }
@@ -460,6 +516,25 @@ pub fn expr_of(w: &[u8]) -> Expr
         return path_expr(w, d);
     }
     whole_expr(w)
+}
+
+// The same of a field that is known to be an expression: fewer tests.
+pub fn known_expr(w: &[u8]) -> Expr
+    requires { ⌜ isExpr (now w) ≡ true ⌝ }
+    ensures { λ r. ⌜ Reads (now (w .entry)) r ⌝ }
+{
+    if is_numeral(w) {
+        let n = number(w);
+        return Expr::Num(n);
+    }
+    let d = find(w, 0, Set::FullStop);
+    if d < w.len() {
+        return Expr::Path(d);
+    }
+    if is_null(w) {
+        return Expr::Null;
+    }
+    Expr::Var
 }
 
 pub fn is_expr(w: &[u8]) -> bool

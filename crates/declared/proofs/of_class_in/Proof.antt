@@ -1,4 +1,4 @@
-use Rattle.declared.proofs.Exprs.{read-num, read-null, read-var, read-path, read-none, stop-within}
+use Rattle.declared.proofs.Exprs.{read-num, read-null, read-var, read-path, read-none, numeral-num, stop-within}
 use Rattle.declared.proofs.of_class_in.Statement.{statement}
 use Rattle.leaves.proofs.Expr.{the-type}
 use Rattle.leaves.specs.Answers.{Reads}
@@ -13,7 +13,7 @@ use denote.Enum.Declared.{tagOf}
 use lib.Seq.{length-take-le}
 use mathlib.Core.Bool.{true}
 use mathlib.Core.List.{List, [], _∷_}
-use mathlib.Core.Path.{_≡_, refl, sym, ap}
+use mathlib.Core.Path.{_≡_, refl, sym, ap, _∙_}
 use native.Mathlib.Omega.{arith}
 use types.Run.{OneOf, miss}
 use Rattle.declared.proofs.of_class_in.Tie as tie
@@ -29,17 +29,24 @@ others Γ vs w Var x r k = ap (ofClassIn Γ vs) (sym (read-var w Var x r refl))
 others Γ vs w (Path d) x r k = absurd (miss (0 ∷ 1 ∷ 2 ∷ 4 ∷ []) 3 tt k)
 others Γ vs w NoExpr x r k = read-none w NoExpr x r refl
 
-expr-of-requires : tie.Need-expr-of-requires
-expr-of-requires c κs = search needs
+is-numeral-requires : tie.Need-is-numeral-requires
+is-numeral-requires c κs = search needs
+
+returns : tie.Need-returns
+unfolding ofClassIn
+returns c = rw (numeral-num _ (sym (c .before .is-numeral .ensures) ∙ c .if1 .taken))
+
+known-expr-requires : tie.Need-known-expr-requires
+known-expr-requires c κs = search needs
 
 enum-known-e : tie.Need-enum-known-e
 enum-known-e c = search needs
 
-returns : tie.Need-returns
-returns c = others _ _ _ _ (c .before .before .before .before .before .pre .2) (c .before .expr-of .ensures) (c .match .keys2)
+returns-2 : tie.Need-returns-2
+returns-2 c = others _ _ _ _ (c .before .before .before .before .before .before .before .pre .2) (c .before .known-expr .ensures) (c .match .keys2)
 
 slice-aggregate-variable-type : tie.Need-slice-aggregate-variable-type
-slice-aggregate-variable-type c = sym (length-take-le _ _ (omega (arith, stop-within _ _ _ (c .before .before .before .before .expr-of .ensures) (c .before .before .e .given .1))))
+slice-aggregate-variable-type c = sym (length-take-le _ _ (omega (arith, stop-within _ _ _ (c .before .before .before .before .known-expr .ensures) (c .before .before .e .given .1))))
 
 variable-type-requires : tie.Need-variable-type-requires
 variable-type-requires c κs = search needs
@@ -47,18 +54,20 @@ variable-type-requires c κs = search needs
 is-int-requires : tie.Need-is-int-requires
 is-int-requires c κs = search needs
 
-returns-2 : tie.Need-returns-2
+returns-3 : tie.Need-returns-3
 unfolding ofClassIn isInt
-returns-2 c = rw (read-path _ _ (c .before .before .before .before .before .before .before .before .before .before .pre .2) (c .before .before .before .before .before .before .expr-of .ensures) _ (c .before .before .before .before .e .given .1), c .is-int .ensures, c .before .variable-type .ensures)
+returns-3 c = rw (read-path _ _ (c .before .before .before .before .before .before .before .before .before .before .before .before .pre .2) (c .before .before .before .before .before .before .known-expr .ensures) _ (c .before .before .before .before .e .given .1), c .is-int .ensures, c .before .variable-type .ensures)
 
 pub of-class-in-spec : {M : Type 1} → statement M
 of-class-in-spec =
     tie.close
     (tie.spec
-    expr-of-requires
-    enum-known-e
+    is-numeral-requires
     returns
+    known-expr-requires
+    enum-known-e
+    returns-2
     slice-aggregate-variable-type
     variable-type-requires
     is-int-requires
-    returns-2)
+    returns-3)
