@@ -30,13 +30,13 @@ use Rattle.declared.specs.Meanings.{Fits, declarationsIn, variablesIn, scopeIn}
 use Rattle.assembly.specs.Flat.{Flat, flatWith}
 use Rattle.emit.specs.Holds.{Holds}
 use Rattle.pass.specs.declared.Pass.{Pass}
-use Rattle.pass.specs.Passes.{counts, after, withBlock, namesAfter, seenBy, hasAtoms, isFramed, joinFormula, framedFormula, item, Stands}
+use Rattle.pass.specs.Passes.{counts, after, withBlock, namesAfter, seenBy, hasAtoms, isFramed, joinFormula, framedFormula, item, Stands, lineAfter}
 use Rattle.declare.specs.Declares.{lineWith}
 use Rattle.atoms.specs.Written as Written
 use Rattle.atoms.specs.Written.{formulaAfter, goodAfter, FormulaFollows}
 use Rattle.atoms.proofs.Goods.{line-good}
 use Rattle.plain.specs.Plain as Plain
-use Rattle.plain.specs.Plain.{lineAfter, isPlain, PlainFollows, PlainPut}
+use Rattle.plain.specs.Plain.{isPlain, PlainFollows, PlainPut}
 use Rattle.claims.specs.Claims.{isClaim, claimOf, ClaimPut, HeaderPut}
 use Rattle.claims.proofs.Claims.{claim-cases, formula-few}
 use Rattle.sides.specs.Sides.{SideFollows, SidePut}

@@ -17,8 +17,7 @@ use Rattle.lines.proofs.Rows.{number-of-kind}
 use Rattle.declared.specs.Meanings.{declarationsIn, variablesIn}
 use Rattle.assembly.specs.Flat.{Flat, flatWith}
 use Rattle.pass.specs.declared.Pass.{Pass}
-use Rattle.pass.specs.Passes.{withBlock, namesAfter, seenBy, item, Counts, LinePut}
-use Rattle.plain.specs.Plain.{lineAfter}
+use Rattle.pass.specs.Passes.{withBlock, namesAfter, seenBy, item, Counts, LinePut, lineAfter}
 use Rattle.bodies.specs.Bodies.{Follows, ItemPut}
 use Rattle.bodies.proofs.Lines.{Quiet, statement-quiet, header-quiet, above-is, names-is, Grown, statement-grown, requires-grown, ensures-grown, line-put}
 use Rattle.bodies.proofs.Items.{kind-as, is-statement, no-statement, header-kind}

@@ -12,8 +12,7 @@ use Rattle.tables.specs.Stores.{Kept}
 use Rattle.assembly.specs.Flat.{Flat, flatWith}
 use Rattle.emit.specs.Holds.{Holds}
 use Rattle.pass.specs.declared.Pass.{Pass}
-use Rattle.pass.specs.Passes.{counts, hasAtoms, isFramed, framedFormula, item, Ready, Stands, Tested, Room}
-use Rattle.plain.specs.Plain.{lineAfter}
+use Rattle.pass.specs.Passes.{counts, hasAtoms, isFramed, framedFormula, item, Ready, Stands, Tested, Room, lineAfter}
 
 -- the line of this kind, whose word ends at r, may be written
 pub record Follows (t w : List ℕ) (p : Pass) (k r : ℕ) : Type 0 where

@@ -4,8 +4,7 @@ ghost use mathlib.Core.Path.{_≡_};
 ghost use mathlib.Core.Bool.{not, _&&_};
 ghost use Prim.Native.Nat.{_≤_};
 ghost use Rattle.lines.specs.Rows.{kindNumbered};
-ghost use Rattle.pass.specs.Passes.{seenBy, namesAfter, LinePut};
-ghost use Rattle.plain.specs.Plain.{lineAfter};
+ghost use Rattle.pass.specs.Passes.{seenBy, namesAfter, LinePut, lineAfter};
 ghost use Rattle.bodies.specs.Bodies.{Follows, ItemPut};
 
 fn unless(a: bool, b: bool) -> bool

@@ -4,25 +4,17 @@ use mathlib.Core.Bool.{Bool, _||_}
 use mathlib.Core.List.{List}
 use Prim.Native.Nat.{ℕ, pred, _+_, _≤_}
 use lib.Dec.{eqb}
-use lib.ListN.{drop}
 use Rattle.rules.specs.Limits.{most-statements}
 use Rattle.rules.specs.Grammar.{Line}
-use Rattle.lines.specs.Cuts.{more}
-use Rattle.lines.specs.Rows.{kindNumbered}
 use Rattle.tables.specs.Decode.{fieldCountAt}
 use Rattle.declared.specs.declared.Names.{Names}
 use Rattle.declared.specs.declared.Above.{Above}
-use Rattle.declare.specs.Declares.{lineWith}
 use Rattle.pass.specs.declared.Pass.{Pass}
 use Rattle.pass.specs.Passes.{LinePut}
 
 -- by the number of the kind
 unfoldable pub isDeclaration : ℕ → Bool
 isDeclaration k = eqb k 1 || (eqb k 2 || (eqb k 3 || (eqb k 6 || eqb k 7)))
-
--- the line of the kind numbered k whose word ends at r
-abbrev pub lineAfter : List ℕ → ℕ → ℕ → Line
-lineAfter t r k = lineWith (kindNumbered k) (more (drop r t))
 
 -- The rows that are written fit, and the last class has as many fields as are counted. Where the tables stand, they do.
 pub record Held (w : List ℕ) (p : Pass) : Type 0 where

@@ -16,8 +16,8 @@ ghost use Rattle.declared.specs.Rows.{nameIn, nameAt, most-rows, SpanFits};
 ghost use Rattle.declared.specs.Meanings.{AboveFits};
 ghost use Rattle.declare.specs.Declares.{lineWith};
 ghost use Rattle.emit.specs.Puts.{putClass};
-ghost use Rattle.pass.specs.Passes.{Ready, Tested, Room, oneMore, withBlock, aboveAfter};
-ghost use Rattle.headers.specs.Headers.{isDeclaration, lineAfter, Held, moved, DeclarationPut};
+ghost use Rattle.pass.specs.Passes.{Ready, Tested, Room, oneMore, withBlock, aboveAfter, lineAfter};
+ghost use Rattle.headers.specs.Headers.{isDeclaration, Held, moved, DeclarationPut};
 
 const ROW_BYTES: usize = 10;
 

@@ -4,7 +4,7 @@ use mathlib.Core.Bool.{Bool, true, false, not, cond, _&&_, _||_}
 use mathlib.Core.List.{List, [], map}
 use Prim.Native.Nat.{ℕ, suc, pred, _+_, _-_, _≤_, _<_}
 use lib.Dec.{eqb}
-use lib.ListN.{length, getD}
+use lib.ListN.{length, getD, drop}
 use Rattle.rules.specs.Limits.{work-bytes, most-bytes, most-fields, most-locals, most-statements, most-atoms}
 use Rattle.rules.specs.Syntax.{Field, Formula, Stmt, simple, if, else, join, end}
 use Rattle.rules.specs.Grammar.{Kind, Line, form, isFormed, isKind, isStatement}
@@ -14,6 +14,8 @@ use Rattle.rules.specs.Scope.{operand, scopeAfter}
 use Rattle.rules.specs.Names.{fieldNumber, allKnown, allTyped}
 use Rattle.rules.specs.Items.{Item, itemOf, aClass, aField, aMethod, aRequires, anEnsures, aMain, aLocal, aStatement}
 use Rattle.rules.specs.Reading.{framedItem}
+use Rattle.lines.specs.Cuts.{more}
+use Rattle.lines.specs.Rows.{kindNumbered}
 use Rattle.tables.specs.Layout.{most-atom-rows}
 use Rattle.tables.specs.Decode.{atomsFrom}
 use Rattle.declared.specs.declared.Names.{Names}
@@ -21,6 +23,7 @@ use Rattle.declared.specs.declared.Above.{Above}
 use Rattle.declared.specs.declared.Range.{Range}
 use Rattle.declared.specs.Rows.{entryAt, classes-first, fields-first, methods-first}
 use Rattle.declared.specs.Meanings.{Fits, AboveFits, declarationsIn, variablesIn, scopeIn, moreLocals}
+use Rattle.declare.specs.Declares.{lineWith}
 use Rattle.assembly.specs.Flat.{Flat, flatWith}
 use Rattle.emit.specs.Holds.{Declared, Holds}
 use Rattle.pass.specs.declared.Pass.{Pass}
@@ -141,6 +144,11 @@ pub record Stands (t w : List ℕ) (p : Pass) (F : Flat) : Type 0 where
       ≡ map (fieldNumber (declarationsIn t w (p .names))) (scopeIn t w (p .names) (p .above) .members .fields)
 
 -- THE NEXT LINE
+
+-- the line of this kind whose word ends at r
+abbrev pub lineAfter : List ℕ → ℕ → ℕ → Line
+lineAfter t r k = lineWith (kindNumbered k) (more (drop r t))
+
 module _ (t w : List ℕ) (p : Pass) (l : Line) where
   -- it has its form and passes the tests of numbers 6 and 7
   pub record Tested : Type 0 where

@@ -4,14 +4,13 @@ use mathlib.Core.Bool.{Bool, true, cond, _||_}
 use mathlib.Core.List.{List, []}
 use Prim.Native.Nat.{ℕ, _≤_}
 use lib.Dec.{eqb}
-use lib.ListN.{length, getD, drop}
+use lib.ListN.{length, getD}
 use Rattle.rules.specs.Base.{Name}
 use Rattle.rules.specs.Limits.{work-bytes}
 use Rattle.rules.specs.Grammar.{Line, form, isFormed}
 use Rattle.rules.specs.Scope.{Declarations, Variable, Scope}
 use Rattle.rules.specs.Names.{variableNumber, variableType, fieldNumber, classNumber, methodNumber, allKnown, allTyped}
 use Rattle.rules.specs.Items.{itemOf}
-use Rattle.lines.specs.Cuts.{more}
 use Rattle.lines.specs.Rows.{kindNumbered}
 use Rattle.tables.specs.Layout.{names-at, values-at}
 use Rattle.tables.specs.Stores.{Kept}
@@ -20,8 +19,7 @@ use Rattle.declared.specs.Meanings.{Fits, declarationsIn, variablesIn}
 use Rattle.assembly.specs.Flat.{Flat, flatWith}
 use Rattle.emit.specs.declared.Operands.{Operands}
 use Rattle.emit.specs.Holds.{Holds}
-use Rattle.pass.specs.Passes.{counts}
-use Rattle.declare.specs.Declares.{lineWith}
+use Rattle.pass.specs.Passes.{counts, lineAfter}
 
 -- a row without atoms, of this line
 abbrev pub bare : ℕ → ℕ → ℕ → ℕ → ℕ → ℕ → Operands
@@ -61,11 +59,7 @@ pub record Tested (Γ : Declarations) (vs : List Variable) (s : Scope) (l : Line
 unfoldable pub isPlain : ℕ → Bool
 isPlain k = eqb k 8 || (eqb k 10 || (eqb k 11 || (eqb k 12 || (eqb k 16 || eqb k 18))))
 
--- the line of this kind whose word ends at r
-abbrev pub lineAfter : List ℕ → ℕ → ℕ → Line
-lineAfter t r k = lineWith (kindNumbered k) (more (drop r t))
-
--- it passes the tests
+-- the line of this kind whose word ends at r passes the tests
 pub record PlainFollows (t w : List ℕ) (c : Names) (k r : ℕ) : Type 0 where
   pub kind : isPlain k ≡ true
   pub high : r ≤ length t

@@ -16,9 +16,8 @@ ghost use Rattle.lines.specs.Scans as Scans;
 ghost use Rattle.tables.specs.Decode.{atomsFrom};
 ghost use Rattle.declare.specs.Texts.{Taken, lineAt, FormedAt};
 ghost use Rattle.declare.specs.Declares.{Declares};
-ghost use Rattle.plain.specs.Plain.{lineAfter};
 ghost use Rattle.bodies.specs.Bodies.{Follows};
-ghost use Rattle.pass.specs.Passes.{firstPass, Ready, Room, LinePut, isFramed};
+ghost use Rattle.pass.specs.Passes.{firstPass, Ready, Room, LinePut, isFramed, lineAfter};
 ghost use Rattle.reader.specs.Readings.{unframedBy, withUnframed, Between, Written, LineTaken, StepIs, ResolvedIs, ReadingIs, refusalOf};
 
 // Why a text is refused.
