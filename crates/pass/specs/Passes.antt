@@ -10,14 +10,15 @@ use Rattle.rules.specs.Syntax.{Field, Formula, Stmt, simple, if, else, join, en
 use Rattle.rules.specs.Grammar.{Kind, Line, form, isFormed, isKind, isStatement}
 use Rattle.rules.specs.Grammar as Grammar
 use Rattle.rules.specs.Places.{oneMoreIf}
-use Rattle.rules.specs.Scope.{operand, scopeAfter}
-use Rattle.rules.specs.Names.{fieldNumber, allKnown, allTyped}
+use Rattle.rules.specs.Scope.{Declarations, Variable, Scope, operand, scopeAfter}
+use Rattle.rules.specs.Names.{fieldNumber, allKnown, allTyped, allAssignable}
 use Rattle.rules.specs.Items.{Item, itemOf, aClass, aField, aMethod, aRequires, anEnsures, aMain, aLocal, aStatement}
 use Rattle.rules.specs.Reading.{framedItem}
 use Rattle.lines.specs.Cuts.{more}
 use Rattle.lines.specs.Rows.{kindNumbered}
-use Rattle.tables.specs.Layout.{most-atom-rows}
+use Rattle.tables.specs.Layout.{most-atom-rows, names-at, values-at}
 use Rattle.tables.specs.Decode.{atomsFrom}
+use Rattle.tables.specs.Stores.{Kept}
 use Rattle.declared.specs.declared.Names.{Names}
 use Rattle.declared.specs.declared.Above.{Above}
 use Rattle.declared.specs.declared.Range.{Range}
@@ -27,6 +28,7 @@ use Rattle.declare.specs.Declares.{lineWith}
 use Rattle.assembly.specs.Flat.{Flat, flatWith}
 use Rattle.emit.specs.Holds.{Declared, Holds}
 use Rattle.pass.specs.declared.Pass.{Pass}
+use Rattle.pass.specs.declared.Tried.{Tried}
 
 -- COUNTS
 
@@ -149,7 +151,16 @@ pub record Stands (t w : List ℕ) (p : Pass) (F : Flat) : Type 0 where
 abbrev pub lineAfter : List ℕ → ℕ → ℕ → Line
 lineAfter t r k = lineWith (kindNumbered k) (more (drop r t))
 
+-- it passes the tests of numbers 6, 7 and 9
+unfoldable pub isGood : Declarations → List Variable → Scope → Line → Bool
+isGood Γ vs s l = allKnown Γ vs s l && (allTyped Γ vs l && allAssignable vs l)
+
 module _ (t w : List ℕ) (p : Pass) (l : Line) where
+  -- as it stands in the text
+  unfoldable pub isGoodHere : Bool
+  isGoodHere =
+      isGood (declarationsIn t w (p .names)) (variablesIn t w (seenBy (l .kind) (p .names))) (scopeIn t w (p .names) (p .above)) l
+
   -- it has its form and passes the tests of numbers 6 and 7
   pub record Tested : Type 0 where
     pub formed : isFormed (form (l .kind) .operands) (form (l .kind) .tail) (l .fields) ≡ true
@@ -202,6 +213,17 @@ pub record LinePut (t w : List ℕ) (p : Pass) (l : Line) (w′ : List ℕ) (q :
   pub declared : declarationsIn t w′ (q .names) ≡ declarationsIn t w (p .names)
   pub scope : scopeIn t w′ (q .names) (q .above) ≡ scopeAfter (scopeIn t w (p .names) (p .above)) l
   pub size : length w′ ≡ length w
+
+-- a line that is not good leaves no name changed
+pub record BadLine (t w : List ℕ) (p : Pass) (l : Line) (w′ : List ℕ) : Type 0 where
+  pub bad : isGoodHere t w p l ≡ false
+  pub names : Kept names-at values-at w w′
+  pub size : length w′ ≡ length w
+
+-- a line is put in the tables just if it is good
+unfoldable pub LineTried : (t w : List ℕ) (p : Pass) (l : Line) (w′ : List ℕ) → Tried → Type 0
+LineTried t w p l w′ (Tried.On q) = (isGoodHere t w p l ≡ true) × (LinePut t w p l w′ q × (q .unframed ≡ p .unframed))
+LineTried t w p l w′ Tried.Bad = BadLine t w p l w′
 
 -- the first line that number 10 refuses, or 0, after one line more
 unfoldable pub unframedAfter : ℕ → ℕ → Item → ℕ

@@ -12,3 +12,9 @@ pub struct Pass {
     pub line: usize,
     pub unframed: usize,
 }
+
+// What trying a line gives: it is in the tables, or it is not good.
+pub enum Tried {
+    On(Pass),
+    Bad,
+}
