@@ -1,8 +1,9 @@
 -- What the rows of a text's lines mean.
 use mathlib.Core.Path.{_≡_}
-use mathlib.Core.Bool.{false, cond}
+use mathlib.Core.Bool.{Bool, false, cond, _||_}
 use mathlib.Core.List.{List, [], _∷_, _++_}
 use Prim.Native.Nat.{ℕ, _<_, _≤_}
+use lib.Dec.{eqb}
 use lib.ListN.{length, getD}
 use Rattle.rules.specs.Base.{Name}
 use Rattle.rules.specs.Limits.{work-bytes, most-bytes, most-classes, most-methods}
@@ -23,6 +24,10 @@ joined d n ls =
 
 abbrev pub lineWith : Kind → List Name → Line
 lineWith k ws = record { kind = k; fields = ws }
+
+-- the first letter of `class`, `field` or `method`
+unfoldable pub mayDeclare : ℕ → Bool
+mayDeclare b = eqb b 99 || (eqb b 102 || eqb b 109)
 
 -- the counts after a line
 unfoldable pub namesAfter : Kind → Names → Names

@@ -13,7 +13,7 @@ ghost use Rattle.rules.specs.Grammar.{Class, Field, Method};
 ghost use Rattle.tables.specs.Layout.{most-names};
 ghost use Rattle.lines.specs.Cuts.{more};
 ghost use Rattle.declare.specs.Texts.{Taken, lineAt, FormedAt, WordAt, SpanAfter};
-ghost use Rattle.declare.specs.Declares.{lineWith, noNames, Ready, Room, MethodRow, Adds, Declares};
+ghost use Rattle.declare.specs.Declares.{lineWith, noNames, mayDeclare, Ready, Room, MethodRow, Adds, Declares};
 
 // FIELDS OF A LINE
 
@@ -145,11 +145,26 @@ fn declare_method(text: &[u8], work: &mut [u8], r: usize, c: Names) -> Names
     declared::put_method(work, c, m)
 }
 
+// May a word that begins with this letter be `class`, `field` or `method`? Most lines need no more of their word.
+fn may_declare(b: u8) -> bool
+    ensures { λ r. ⌜ r ≡ mayDeclare b ⌝ }
+{
+    match b {
+        99 => true,
+        102 => true,
+        109 => true,
+        _ => false,
+    }
+}
+
 // The row of the line that begins at a place, if it declares something.
 fn declare_line(text: &[u8], work: &mut [u8], at: usize, c: Names) -> Names
     requires { ⌜ Ready (now text) (now work) c × (at ≤ length (now text)) × FormedAt (now text) at × Room (lineAt (now text) at .kind) c ⌝ }
     ensures { λ d. ⌜ Adds (now (text .entry)) (now (work .entry)) c (lineAt (now (text .entry)) at) (now (work .exit)) d ⌝ }
 {
+    if !may_declare(leaves::byte_at(text, at)) {
+        return c;
+    }
     let w = word_at(text, at);
     let r = w.end;
     let kind = w.kind;
