@@ -1,13 +1,19 @@
 -- The ways in which an inequality is shown.
-use mathlib.Core.Path.{_≡_, refl, sym, _∙_}
-use mathlib.Core.Bool.{Bool, true, false, _||_}
-use mathlib.Core.List.{List}
-use Prim.Native.Nat.{ℕ, _+_, _*_}
+use mathlib.Core.Path.{_≡_, refl, sym, ap, _∙_}
+use mathlib.Core.Bool.{Bool, true, false, not, _&&_, _||_}
+use mathlib.Core.List.{List, _∷_}
+use Prim.Native.Nat.{ℕ, _+_, _*_, _-_, _≤_}
+use native.Mathlib.Omega.{arith}
+use lib.Dec.{eqb}
+use borrow.Author.Tests.{ne-eqb}
 use Rattle.rules.specs.Base.{any}
-use Rattle.rules.specs.Syntax.{ne}
-use Rattle.rules.specs.State.{Equality, representative, equalBy, equalIn, holdsIn, listedUnequal, differentNumbers, nullAndObject, twoEntries}
-use Rattle.links.specs.Keys.{termOf}
+use Rattle.rules.specs.Syntax.{ne, num, same}
+use Rattle.rules.specs.State.{Term, Fact, Equality, numbers, termsOf, representative, equalBy, equalIn, holdsIn, listedUnequal, differentNumbers, nullAndObject, twoEntries}
+use Rattle.rules.proofs.Closure.{same-refl}
+use Rattle.rules.proofs.Lists.{T-true}
+use Rattle.links.specs.Keys.{termOf, first-number}
 use Rattle.links.specs.Links.{Labelled}
+use Rattle.links.proofs.Keys.{of-number}
 use Rattle.links.proofs.Listing.{or-false}
 use Rattle.known.specs.States.{Wf, stateOf, facts, factsOf, permissionsOf}
 use Rattle.known.specs.Questions.{unequalIn, places}
@@ -25,6 +31,26 @@ or-4 false B C = or-3 B C
 or-5 : (A B C D : Bool) → true ≡ (A || (B || (C || (D || true))))
 or-5 true B C D = refl
 or-5 false B C D = or-4 B C D
+
+any-first : (p : ℕ → Bool) (a : ℕ) (l : List ℕ) → p a ≡ true → any p (a ∷ l) ≡ true
+unfolding any
+any-first p a l e = rw e
+
+any-second : (p : ℕ → Bool) (a b : ℕ) (l : List ℕ) → p b ≡ true → any p (a ∷ b ∷ l) ≡ true
+unfolding any
+any-second p a b l e = rw e (or-true (p a))
+  where
+    or-true : (A : Bool) → (A || true) ≡ true
+    or-true true = refl
+    or-true false = refl
+
+-- (b) for two numbers: each is ~ to itself
+values-differ : (r : Term → Term) (fs : List Fact) (m n : ℕ) → eqb m n ≡ false → differentNumbers (equalBy r) fs (num m) (num n) ≡ true
+unfolding differentNumbers numbers equalBy
+values-differ r fs m n d =
+    let l : List ℕ = numbers (termsOf fs) in
+    let q : any (λ b. not (eqb m b) && same (r (num b)) (r (num n))) (m ∷ n ∷ l) ≡ true = any-second _ m n l (rw (d, T-true (same (r (num n)) (r (num n))) (same-refl (r (num n))))) in
+    any-first _ m (n ∷ l) (rw (T-true (same (r (num m)) (r (num m))) (same-refl (r (num m))), q))
 
 module _ (key c : List ℕ) (w : Wf key c) (t u : ℕ) where
   abbrev _~_ : Equality
@@ -71,3 +97,20 @@ module _ (key c : List ℕ) (w : Wf key c) (t u : ℕ) where
     pub by-numbers : false ≡ Facts → false ≡ Null → false ≡ Object → false ≡ Entries → (r : Bool) → r ≡ Numbers → Unequal r
     unfolding holdsIn equalIn
     by-numbers p q x y r e = e ∙ rw (← listed-law, ← p, ← q, ← x, ← y) (sym (or-false Numbers))
+
+  -- two numbers
+  pub by-values : first-number ≤ t → first-number ≤ u → (t ≡ u → ⊥) → Unequal true
+  unfolding holdsIn equalIn
+  by-values h k d = rw values (or-2 (listedUnequal _~_ (factsOf key c) (termOf t) (termOf u)) (Null || (Object || Entries)))
+    where
+      number-of : (k : ℕ) → first-number ≤ k → termOf k ≡ num (k - first-number)
+      number-of k h = let e : k ≡ first-number + (k - first-number) = omega arith in ap termOf e ∙ of-number (k - first-number)
+
+      values : Numbers ≡ true
+      values =
+          rw (number-of t h, number-of u k)
+          (values-differ (representative (factsOf key c)) (factsOf key c) (t - first-number) (u - first-number) (ne-eqb (t - first-number) (u - first-number) (λ e. d (omega (arith, e)))))
+
+      or-2 : (A B : Bool) → true ≡ (A || (true || B))
+      or-2 true B = refl
+      or-2 false B = refl

@@ -1,5 +1,6 @@
 use links::Term;
 ghost use mathlib.Core.Path.{_≡_};
+ghost use mathlib.Core.Bool.{true};
 ghost use Prim.Native.Nat.{ℕ, _+_, _*_, _≤_, _<_};
 ghost use lib.ListN.{length};
 ghost use Rattle.rules.specs.Base.{any};
@@ -7,7 +8,7 @@ ghost use Rattle.rules.specs.Syntax as Syntax;
 ghost use Rattle.rules.specs.Syntax.{var};
 ghost use Rattle.rules.specs.State as Rules;
 ghost use Rattle.rules.specs.State.{nullAndObject, twoEntries, differentNumbers, equalBy, equalIn, representative, holdsIn};
-ghost use Rattle.links.specs.Keys.{termOf, meaning};
+ghost use Rattle.links.specs.Keys.{termOf, meaning, first-number};
 ghost use Rattle.links.specs.Links.{Labelled, Decides, relOf};
 ghost use Rattle.known.specs.States.{Wf, stateOf, factsIn, permissionsIn, permissionsOf, variableAt, entries};
 ghost use Rattle.known.specs.Questions.{Slots, Told, FirstPlace, entryTest, passes, eitherWay, unequalAt, unequalIn, places, numberLike, otherLike, otherNumber, twoNumbers, pairAt, resolvedAs, pathAt, standsFor, variableOr};
@@ -333,6 +334,30 @@ fn unequal<'a>(key: &'a [u64; 144], b: &'a [u8; 338], t: u64, u: u64) -> bool
     numbers_apart(key, b, n, t, x, u, y)
 }
 
+// Are these the keys of two numbers?
+fn are_two_numbers(t: u64, u: u64) -> bool
+    ensures { λ r. ⌜ (r ≡ true → (first-number ≤ t) × (first-number ≤ u) × (t ≡ u → ⊥)) ⌝ }
+{
+    if t < 65793 {
+        return false;
+    }
+    if u < 65793 {
+        return false;
+    }
+    t != u
+}
+
+// The same, but two numbers are unequal at once, by (b).
+fn differ<'a>(key: &'a [u64; 144], b: &'a [u8; 338], t: u64, u: u64) -> bool
+    requires { ⌜ Wf (now key) (now b) ⌝ }
+    ensures { λ r. ⌜ r ≡ holdsIn (equalIn (stateOf (now (key .entry)) (now (b .entry)))) (stateOf (now (key .entry)) (now (b .entry))) Syntax.ne (termOf t) (termOf u) ⌝ }
+{
+    if are_two_numbers(t, u) {
+        return true;
+    }
+    unequal(key, b, t, u)
+}
+
 // Are two terms ~?
 fn equal<'a>(key: &'a [u64; 144], b: &'a [u8; 338], t: u64, u: u64) -> bool
     requires { ⌜ Wf (now key) (now b) ⌝ }
@@ -350,7 +375,7 @@ pub fn holds<'a>(key: &'a [u64; 144], b: &'a [u8; 338], apart: bool, t: u64, u: 
     ensures { λ r. ⌜ r ≡ holdsIn (equalIn (stateOf (now (key .entry)) (now (b .entry)))) (stateOf (now (key .entry)) (now (b .entry))) (relOf apart) (termOf t) (termOf u) ⌝ }
 {
     if apart {
-        unequal(key, b, t, u)
+        differ(key, b, t, u)
     } else {
         equal(key, b, t, u)
     }

@@ -6,21 +6,21 @@ use Rattle.known.proofs.holds.Tie as tie
 use Rattle.known.proofs.holds.Reads as reads
 use Rattle.known.proofs.holds.Lts as lts
 use Rattle.known.proofs.equal.Reads as equal-reads
-use Rattle.known.proofs.unequal.Reads as unequal-reads
+use Rattle.known.proofs.differ.Reads as differ-reads
 
-unequal-requires : tie.Need-unequal-requires
-unequal-requires c κs = search needs
+differ-requires : tie.Need-differ-requires
+differ-requires c κs = search needs
 
 equal-requires : tie.Need-equal-requires
 equal-requires c κs = search needs
 
 returns : tie.Need-returns
 unfolding relOf
-returns c = rw (c .before .if1 .taken) (c .unequal .ensures)
+returns c = rw (c .before .if1 .taken) (c .differ .ensures)
 
 returns-2 : tie.Need-returns-2
 unfolding relOf holdsIn
 returns-2 c = rw (c .before .if1 .left) (c .equal .ensures)
 
 pub holds-spec : {M : Type 1} → statement M
-holds-spec = tie.close (tie.spec unequal-requires equal-requires returns returns-2)
+holds-spec = tie.close (tie.spec differ-requires equal-requires returns returns-2)
