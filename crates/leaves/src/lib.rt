@@ -1,17 +1,17 @@
 use rules::Machine;
 ghost use mathlib.Core.Path.{_≡_};
-ghost use mathlib.Core.Bool.{true, false, _&&_, _||_};
+ghost use mathlib.Core.Bool.{true, false, cond, _&&_, _||_};
 ghost use lib.Dec.{leb};
 ghost use Prim.Native.Nat.{_+_, _≤_, _<_};
 ghost use lib.ListN.{length, getD, drop};
 ghost use Rattle.rules.specs.Base.{between, eqName, is, all, withDefault};
-ghost use Rattle.rules.specs.Text.{allowed, letter, digit, letterOrDigit, upTo, isName, reserved, isDigits, isNumber, decimal, numeral, isExpr, isAtom};
+ghost use Rattle.rules.specs.Text.{allowed, letter, digit, letterOrDigit, upTo, isName, reserved, isNumber, decimal, numeral, isExpr, isAtom};
 ghost use Rattle.rules.specs.Grammar.{kindOf};
 ghost use Rattle.leaves.specs.Sets.{inSet, Found};
 ghost use Rattle.leaves.specs.Marks.{eight, littleEndian, value, lineForm, fieldForm, nameForm, formOf};
 ghost use Rattle.leaves.specs.Fields.{NameEnd};
 ghost use Rattle.leaves.specs.Words.{words, wordNumber, kindOr0, packed, packedIn};
-ghost use Rattle.leaves.specs.Answers.{beginsName, leadingZero, capped, bitsOf, naturalIn, negativeIn, numberIn, exprIn, Reads, stopOr};
+ghost use Rattle.leaves.specs.Answers.{beginsName, leadingZero, capped, decimalIn, bitsOf, naturalIn, negativeIn, numberIn, exprIn, Reads, stopOr};
 
 // BYTES
 
@@ -395,26 +395,16 @@ fn has_leading_zero(w: &[u8]) -> bool
     byte_at(w, 0) == 48
 }
 
-pub fn is_digits(w: &[u8]) -> bool
-    ensures { λ r. ⌜ r ≡ isDigits (now (w .entry)) ⌝ }
-{
-    if w.len() == 0 {
-        return false;
-    }
-    if has_leading_zero(w) {
-        return false;
-    }
-    find(w, 0, Set::NotDigit) == w.len()
-}
-
-// The number that digits write, or 2147483649 where it is larger.
-fn decimal(w: &[u8]) -> u64
-    requires { ⌜ isDigits (now w) ≡ true ⌝ }
-    ensures { λ r. ⌜ r ≡ capped (decimal 0 (now (w .entry))) ⌝ }
+// The number that bytes write; 2147483649 where it is larger, or where one is no digit.
+fn decimal_digits(w: &[u8]) -> u64
+    ensures { λ r. ⌜ r ≡ cond (all digit (now (w .entry))) (capped (decimal 0 (now (w .entry)))) 2147483649 ⌝ }
 {
     let mut n: u64 = 0;
     let mut i = 0;
     while i < w.len() {
+        if !is_digit(w[i]) {
+            return 2147483649;
+        }
         n = n * 10 + (w[i] - 48) as u64;
         if 2147483648 < n {
             return 2147483649;
@@ -422,6 +412,19 @@ fn decimal(w: &[u8]) -> u64
         i += 1;
     }
     n
+}
+
+// The number that digits write; 2147483649 where it is larger, or where there is none.
+fn decimal(w: &[u8]) -> u64
+    ensures { λ r. ⌜ r ≡ decimalIn (now (w .entry)) ⌝ }
+{
+    if w.len() == 0 {
+        return 2147483649;
+    }
+    if has_leading_zero(w) {
+        return 2147483649;
+    }
+    decimal_digits(w)
 }
 
 // A number by its 32 bits.
@@ -433,9 +436,6 @@ pub enum Value {
 fn natural(d: &[u8]) -> Value
     ensures { λ r. ⌜ bitsOf r ≡ naturalIn (now (d .entry)) ⌝ }
 {
-    if !is_digits(d) {
-        return Value::NoNumber;
-    }
     let n = decimal(d);
     if 2147483647 < n {
         return Value::NoNumber;
@@ -447,9 +447,6 @@ fn natural(d: &[u8]) -> Value
 fn negative(d: &[u8]) -> Value
     ensures { λ r. ⌜ bitsOf r ≡ negativeIn (now (d .entry)) ⌝ }
 {
-    if !is_digits(d) {
-        return Value::NoNumber;
-    }
     let n = decimal(d);
     if n < 1 {
         return Value::NoNumber;
