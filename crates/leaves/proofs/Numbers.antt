@@ -1,6 +1,6 @@
 -- Laws of digits and numbers.
 use mathlib.Core.Path.{_≡_, refl, sym}
-use mathlib.Core.Bool.{Bool, true, false, not, _&&_, _||_}
+use mathlib.Core.Bool.{Bool, true, false, not, cond, _&&_, _||_}
 use mathlib.Core.List.{[], _∷_}
 use mathlib.Core.Option.{none, some}
 use Prim.Native.Nat.{ℕ, suc, _+_, _*_, _-_, _≤_, _<_}
@@ -13,8 +13,8 @@ use lib.Seq.{drop-cons}
 use borrow.Author.Tests.{le-leb, lt-leb, ne-eqb}
 use Rattle.rules.specs.Base.{Name, all, between}
 use Rattle.rules.specs.Text.{digit, isDigits, isNegative, isNumber, number, decimal}
-use Rattle.leaves.specs.Answers.{leadingZero, capped, whenTrue, numberIn, naturalIn, negativeIn}
-use Rattle.leaves.proofs.Search.{true-false, both-true, and-false, between-true, all-at}
+use Rattle.leaves.specs.Answers.{leadingZero, capped, decimalIn, whenTrue, numberIn, naturalIn, negativeIn}
+use Rattle.leaves.proofs.Search.{true-false, and-false, between-true}
 
 -- DIGITS
 
@@ -31,13 +31,9 @@ unfolding decimal
 decimal-grows [] n = omega arith
 decimal-grows (b ∷ t) n = let h = decimal-grows t (n * 10 + (b - 48)) in omega (arith, h)
 
--- a byte among digits
-pub digit-at : (w : Name) (i : ℕ) → isDigits w ≡ true → i < length w → (48 ≤ getD w i 0) × (getD w i 0 ≤ 57)
-unfolding isDigits digit
-digit-at w i e h =
-    let r = both-true (leb 1 (length w)) ((eqb (length w) 1 || not (eqb (getD w 0 0) 48)) && all digit w) e in
-    let q = both-true (eqb (length w) 1 || not (eqb (getD w 0 0) 48)) (all digit w) (r .1) in
-    between-true 48 57 (getD w i 0) (all-at digit w i (q .1) h)
+pub digit-is : (b : ℕ) → digit b ≡ true → (48 ≤ b) × (b ≤ 57)
+unfolding digit
+digit-is b e = between-true 48 57 b e
 
 pub digits-are : (w : Name) → 1 ≤ length w → leadingZero w ≡ false → isDigits w ≡ all digit w
 unfolding isDigits leadingZero
@@ -59,10 +55,24 @@ zero-led w e = rw (cleared (eqb (length w) 1 || not (eqb (getD w 0 0) 48)) e) (a
     cleared true z = true-false (sym z)
     cleared false z = refl
 
+-- what bytes write, whether or not they are digits
+pub not-decimal : (w : Name) → isDigits w ≡ false → 2147483649 ≡ decimalIn w
+unfolding decimalIn
+not-decimal w e = rw e
+
+pub are-decimal :
+    (w : Name) (r : ℕ) → isDigits w ≡ all digit w → r ≡ cond (all digit w) (capped (decimal 0 w)) 2147483649 → r ≡ decimalIn w
+unfolding decimalIn
+are-decimal w r d e = rw d e
+
 -- the capped number, and what it says of the number
 pub capped-over : (n : ℕ) → 2147483648 < n → capped n ≡ 2147483649
 unfolding capped
 capped-over n h = rw (lt-leb n 2147483648 h)
+
+pub either-large : (q : Bool) (n : ℕ) → 2147483648 < n → 2147483649 ≡ cond q (capped n) 2147483649
+either-large true n h = sym (capped-over n h)
+either-large false n h = refl
 
 pub capped-within : (n : ℕ) → n ≤ 2147483648 → capped n ≡ n
 unfolding capped
@@ -76,6 +86,10 @@ pub capped-above : (n c k : ℕ) → c ≡ capped n → k ≤ 2147483648 → k <
 capped-above n c k e h l =
     elim (decLt 2147483648 n) [ yes q ↦ omega arith | no q ↦ omega (arith, e, capped-within n (omega arith)) ]
 
+last-false : (p q r : Bool) → (p && r) ≡ false → (p && (q && r)) ≡ false
+last-false true q r e = rw e (and-false q)
+last-false false q r e = refl
+
 -- NUMBERS
 pub when-some : {A : Type 0} (q : Bool) (a b : A) → some b ≡ whenTrue q a → (q ≡ true) × (a ≡ b)
 when-some true a b e = (refl, cc)
@@ -86,36 +100,45 @@ when-none true a e = absurd (let z : _≡_ {A = ℕ} 0 1 = cc in omega arith)
 when-none false a e = refl
 
 -- d: digits or not; c: what they write, capped
-module _ (d : Name) where
-  pub no-natural : isDigits d ≡ false → none ≡ naturalIn d
-  unfolding naturalIn
-  no-natural e = rw e
+module _ (d : Name) (c : ℕ) (h : c ≡ decimalIn d) where
+  -- where c is no larger than a number can be, it is what the digits write
+  within : c ≤ 2147483648 → (isDigits d ≡ true) × (decimal 0 d ≡ c)
+  unfolding decimalIn
+  within l = go (isDigits d) h
+    where
+      go : (q : Bool) → c ≡ cond q (capped (decimal 0 d)) 2147483649 → (q ≡ true) × (decimal 0 d ≡ c)
+      go true e = (refl, capped-is (decimal 0 d) c e l)
+      go false e = absurd (omega arith)
 
-  pub no-negative : isDigits d ≡ false → none ≡ negativeIn d
-  unfolding negativeIn
-  no-negative e = rw e
+  -- where c is larger than k, the digits write more than k, if there are any
+  beyond : (k : ℕ) → k ≤ 2147483648 → k < c → (isDigits d && leb (decimal 0 d) k) ≡ false
+  unfolding decimalIn
+  beyond k m l = go (isDigits d) h
+    where
+      go : (q : Bool) → c ≡ cond q (capped (decimal 0 d)) 2147483649 → (q && leb (decimal 0 d) k) ≡ false
+      go true e = lt-leb (decimal 0 d) k (capped-above (decimal 0 d) c k e m l)
+      go false e = refl
 
-module _ (d : Name) (c : ℕ) (e : isDigits d ≡ true) (h : c ≡ capped (decimal 0 d)) where
   pub natural-large : 2147483647 < c → none ≡ naturalIn d
   unfolding naturalIn
-  natural-large l = rw (e, lt-leb (decimal 0 d) 2147483647 (capped-above (decimal 0 d) c 2147483647 h (omega arith) l))
+  natural-large l = rw (beyond 2147483647 (omega arith) l)
 
   pub natural-is : c ≤ 2147483647 → some c ≡ naturalIn d
   unfolding naturalIn
-  natural-is l = let z : decimal 0 d ≡ c = capped-is (decimal 0 d) c h (omega arith) in rw (e, z, le-leb c 2147483647 l)
+  natural-is l = let z = within (omega arith) in rw (z .0, z .1, le-leb c 2147483647 l)
 
   pub negative-zero : c < 1 → none ≡ negativeIn d
   unfolding negativeIn between
-  negative-zero l = let z : decimal 0 d ≡ c = capped-is (decimal 0 d) c h (omega arith) in rw (e, z, lt-leb 1 c l)
+  negative-zero l = let z = within (omega arith) in rw (z .0, z .1, lt-leb 1 c l)
 
   pub negative-large : 2147483648 < c → none ≡ negativeIn d
   unfolding negativeIn between
   negative-large l =
-      rw (e, lt-leb (decimal 0 d) 2147483648 (capped-above (decimal 0 d) c 2147483648 h (omega arith) l), and-false (leb 1 (decimal 0 d)))
+      rw (last-false (isDigits d) (leb 1 (decimal 0 d)) (leb (decimal 0 d) 2147483648) (beyond 2147483648 (omega arith) l))
 
   pub negative-is : 1 ≤ c → c ≤ 2147483648 → some (4294967296 - c) ≡ negativeIn d
   unfolding negativeIn between
-  negative-is m l = let z : decimal 0 d ≡ c = capped-is (decimal 0 d) c h l in rw (e, z, le-leb 1 c m, le-leb c 2147483648 l)
+  negative-is m l = let z = within l in rw (z .0, z .1, le-leb 1 c m, le-leb c 2147483648 l)
 
 pub number-negative : (w : Name) → getD w 0 0 ≡ 45 → numberIn w ≡ negativeIn (drop 1 w)
 unfolding numberIn negativeIn isNumber number isNegative

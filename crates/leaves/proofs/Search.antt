@@ -1,7 +1,7 @@
 -- Laws of `upTo`, `all` and `eqName`: what a search or a comparison has found, step by step and as a whole.
 use mathlib.Core.Path.{_≡_, refl, sym, ap, ap₂, _∙_}
 use mathlib.Core.Bool.{Bool, true, false, not, cond, _&&_, _||_}
-use mathlib.Core.List.{List, [], _∷_}
+use mathlib.Core.List.{List, [], _∷_, _++_}
 use Prim.Native.Nat.{ℕ, zero, suc, _+_, _-_, _≤_, _<_}
 use native.Mathlib.Omega.{arith}
 use native.Mathlib.Numerals.{add-one}
@@ -51,18 +51,6 @@ module _ (p : ℕ → Bool) (l : List ℕ) (i : ℕ) where
   unfolding upTo
   upTo-end h = rw (drop-of-length-le l {i = i} h)
 
--- A SEARCH, EIGHT STEPS
-module _ (p : ℕ → Bool) (l : List ℕ) where
-  upTo-next : (i j : ℕ) → j ≡ i + 1 → i < length l → p (getD l i 0) ≡ false → upTo p (drop i l) ≡ suc (upTo p (drop j l))
-  upTo-next i j z h e = upTo-on p l i h e ∙ ap (λ n. suc (upTo p (drop n l))) (sym z)
-
-  pub upTo-eight :
-      (i : ℕ) → i + 8 ≤ length l → p (getD l i 0) ≡ false → p (getD l (i + 1) 0) ≡ false → p (getD l (i + 2) 0) ≡ false →
-      p (getD l (i + 3) 0) ≡ false → p (getD l (i + 4) 0) ≡ false → p (getD l (i + 5) 0) ≡ false → p (getD l (i + 6) 0) ≡ false →
-      p (getD l (i + 7) 0) ≡ false → upTo p (drop i l) ≡ 8 + upTo p (drop (i + 8) l)
-  upTo-eight i h a b c d e f g k =
-      omega (arith, upTo-next i (i + 1) (omega arith) (omega arith) a, upTo-next (i + 1) (i + 2) (omega arith) (omega arith) b, upTo-next (i + 2) (i + 3) (omega arith) (omega arith) c, upTo-next (i + 3) (i + 4) (omega arith) (omega arith) d, upTo-next (i + 4) (i + 5) (omega arith) (omega arith) e, upTo-next (i + 5) (i + 6) (omega arith) (omega arith) f, upTo-next (i + 6) (i + 7) (omega arith) (omega arith) g, upTo-next (i + 7) (i + 8) (omega arith) (omega arith) k)
-
 -- A SEARCH AS A WHOLE
 step : (P : ℕ → Type 0) (q : Bool) (m n : ℕ) → (q ≡ true → P m) → (q ≡ false → P n) → P (cond q m n)
 step P true m n t f = t refl
@@ -97,6 +85,27 @@ module _ (p : ℕ → Bool) where
   upTo-is (b ∷ l) zero h f t = rw (t (omega arith))
   upTo-is (b ∷ l) (suc d) h f t =
       rw (f 0 (omega arith)) (ap suc (upTo-is l d (omega arith) (λ k j. f (suc k) (omega arith)) (λ j. t (omega arith))))
+
+  -- what comes after does not shorten a search, and a search may start at any place before its end
+  pub upTo-more : (l t : List ℕ) → upTo p l ≤ upTo p (l ++ t)
+  unfolding upTo
+  upTo-more [] t = omega arith
+  upTo-more (b ∷ l) t = go (p b) (upTo-more l t)
+    where
+      go : (q : Bool) → upTo p l ≤ upTo p (l ++ t) → cond q 0 (suc (upTo p l)) ≤ cond q 0 (suc (upTo p (l ++ t)))
+      go true h = omega arith
+      go false h = omega arith
+
+  pub upTo-jump : (l : List ℕ) (j : ℕ) → j ≤ upTo p l → upTo p l ≡ j + upTo p (drop j l)
+  unfolding upTo
+  upTo-jump l zero h = omega arith
+  upTo-jump [] (suc j) h = absurd (omega arith)
+  upTo-jump (b ∷ l) (suc j) h = go (p b) h (λ k. upTo-jump l j k)
+    where
+      go : (q : Bool) → suc j ≤ cond q 0 (suc (upTo p l)) → (j ≤ upTo p l → upTo p l ≡ j + upTo p (drop j l)) →
+          cond q 0 (suc (upTo p l)) ≡ suc j + upTo p (drop j l)
+      go true k r = absurd (omega arith)
+      go false k r = omega (arith, r (omega arith))
 
 -- a search for a smaller set goes at least as far
 module _ (p q : ℕ → Bool) (part : (b : ℕ) → p b ≡ false → q b ≡ false) (l : List ℕ) where
@@ -142,6 +151,15 @@ module _ (p : ℕ → Bool) where
   unfolding all
   all-of [] h = refl
   all-of (b ∷ t) h = rw (h 0 (omega arith), all-of t (λ i k. h (suc i) (omega arith)))
+
+  -- one step, and the end
+  pub all-on : (l : List ℕ) (i : ℕ) → i < length l → p (getD l i 0) ≡ true → all p (drop i l) ≡ all p (drop (i + 1) l)
+  unfolding all
+  all-on l i h e = rw (add-one, drop-cons l i 0 h, e)
+
+  pub all-end : (l : List ℕ) (i : ℕ) → length l ≤ i → all p (drop i l) ≡ true
+  unfolding all
+  all-end l i h = rw (drop-of-length-le l {i = i} h)
 
   pub not-all : (l : List ℕ) (i : ℕ) → i < length l → p (getD l i 0) ≡ false → all p l ≡ false
   not-all l i h e = go (all p l) refl

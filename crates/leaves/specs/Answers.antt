@@ -30,6 +30,10 @@ leadingZero w = not (eqb (length w) 1 || not (eqb (getD w 0 0) digit-zero))
 unfoldable pub capped : ℕ → ℕ
 capped n = cond (leb n 2147483648) n 2147483649
 
+-- what digits write; 2147483649 where it is larger, or where there are no digits
+unfoldable pub decimalIn : Name → ℕ
+decimalIn w = cond (isDigits w) (capped (decimal 0 w)) 2147483649
+
 -- a, if the test passes
 abbrev pub whenTrue : {A : Type 0} → Bool → A → Option A
 whenTrue true a = some a
@@ -85,5 +89,5 @@ stopOr n (some (path x f)) = length x
 
 -- Everything above computes where this unfolds.
 unfoldable pub opened : Unit {0}
-unfolding beginsName leadingZero capped numberIn naturalIn negativeIn exprIn
+unfolding beginsName leadingZero capped decimalIn numberIn naturalIn negativeIn exprIn
 opened = tt

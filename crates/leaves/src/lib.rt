@@ -1,16 +1,17 @@
 use rules::Machine;
 ghost use mathlib.Core.Path.{_≡_};
-ghost use mathlib.Core.Bool.{true, false, _&&_, _||_};
+ghost use mathlib.Core.Bool.{true, false, cond, _&&_, _||_};
 ghost use lib.Dec.{leb};
 ghost use Prim.Native.Nat.{_+_, _≤_, _<_};
 ghost use lib.ListN.{length, getD, drop};
 ghost use Rattle.rules.specs.Base.{between, eqName, is, all, withDefault};
-ghost use Rattle.rules.specs.Text.{allowed, letter, digit, letterOrDigit, upTo, isName, reserved, isDigits, isNumber, decimal, numeral, isExpr, isAtom};
+ghost use Rattle.rules.specs.Text.{allowed, letter, digit, letterOrDigit, upTo, isName, reserved, isNumber, decimal, numeral, isExpr, isAtom};
 ghost use Rattle.rules.specs.Grammar.{kindOf};
 ghost use Rattle.leaves.specs.Sets.{inSet, Found};
+ghost use Rattle.leaves.specs.Marks.{eight, littleEndian, value, lineForm, fieldForm, nameForm, formOf};
 ghost use Rattle.leaves.specs.Fields.{NameEnd};
 ghost use Rattle.leaves.specs.Words.{words, wordNumber, kindOr0, packed, packedIn};
-ghost use Rattle.leaves.specs.Answers.{beginsName, leadingZero, capped, bitsOf, naturalIn, negativeIn, numberIn, exprIn, Reads, stopOr};
+ghost use Rattle.leaves.specs.Answers.{beginsName, leadingZero, capped, decimalIn, bitsOf, naturalIn, negativeIn, numberIn, exprIn, Reads, stopOr};
 
 // BYTES
 
@@ -112,54 +113,97 @@ fn find_from(l: &[u8], at: usize, set: Set) -> usize
     i
 }
 
-fn or(a: bool, b: bool) -> bool
-    ensures { λ r. ⌜ r ≡ (a || b) ⌝ }
-{
-    if a { true } else { b }
-}
-
-// Is one of the eight bytes from i on in the set? All eight are tested, so that they can be tested at once.
-fn any_of_8(l: &[u8], i: usize, set: Set) -> bool
+// Eight bytes from i on as one number, the first lowest.
+fn word8(l: &[u8], i: usize) -> u64
     requires { ⌜ i + 8 ≤ length (now l) ⌝ }
-    ensures { λ r. ⌜ (r ≡ false → upTo (inSet set) (drop i (now (l .entry))) ≡ 8 + upTo (inSet set) (drop (i + 8) (now (l .entry)))) ⌝ }
+    ensures { λ r. ⌜ r ≡ littleEndian (eight (now (l .entry)) i) ⌝ }
 {
-    let a = or(in_set(l[i], set), in_set(l[i + 1], set));
-    let b = or(in_set(l[i + 2], set), in_set(l[i + 3], set));
-    let c = or(in_set(l[i + 4], set), in_set(l[i + 5], set));
-    let d = or(in_set(l[i + 6], set), in_set(l[i + 7], set));
-    or(or(a, b), or(c, d))
+    let a = l[i] as u64
+        + (l[i + 1] as u64) * 0x100
+        + (l[i + 2] as u64) * 0x10000
+        + (l[i + 3] as u64) * 0x1000000;
+    let b = (l[i + 4] as u64) * 0x100000000
+        + (l[i + 5] as u64) * 0x10000000000
+        + (l[i + 6] as u64) * 0x1000000000000
+        + (l[i + 7] as u64) * 0x100000000000000;
+    a + b
 }
 
-// A place from `at` on, up to which no byte is in the set, found in steps of eight.
-fn skip(l: &[u8], at: usize, set: Set) -> usize
+// Bit 7 of each byte that may end a field.
+fn field_marks(x: u64) -> u64
+    ensures { λ r. ⌜ r ≡ value 0x0101010101010101 x fieldForm ⌝ }
+{
+    (((x & 0x6060606060606060) + 0x6060606060606060) & 0x8080808080808080) ^ 0x8080808080808080
+}
+
+// Bit 7 of each byte that is not 9 or 33 to 126.
+fn line_marks(x: u64) -> u64
+    ensures { λ r. ⌜ r ≡ value 0x0101010101010101 x lineForm ⌝ }
+{
+    let y = x & 0x7f7f7f7f7f7f7f7f;
+    let low = y + 0x5f5f5f5f5f5f5f5f;
+    let del = y + 0x0101010101010101;
+    let tab = (y ^ 0x0909090909090909) + 0x7f7f7f7f7f7f7f7f;
+    (((low ^ 0x8080808080808080) & tab) | del | x) & 0x8080808080808080
+}
+
+// Bit 7 of each byte that is no letter or digit.
+fn name_marks(x: u64) -> u64
+    ensures { λ r. ⌜ r ≡ value 0x0101010101010101 x nameForm ⌝ }
+{
+    let y = x & 0x7f7f7f7f7f7f7f7f;
+    let u = y | 0x2020202020202020;
+    let letter = (u + 0x1f1f1f1f1f1f1f1f) & ((u + 0x0505050505050505) ^ 0x8080808080808080);
+    let digit = (y + 0x5050505050505050) & ((y + 0x4646464646464646) ^ 0x8080808080808080);
+    (((letter | digit) ^ 0x8080808080808080) | x) & 0x8080808080808080
+}
+
+// Bit 7 of each byte that may be in the set.
+fn marks(x: u64, set: Set) -> u64
+    ensures { λ r. ⌜ r ≡ value 0x0101010101010101 x (formOf set) ⌝ }
+{
+    match set {
+        Set::LineEnd => line_marks(x),
+        Set::FieldEnd => field_marks(x),
+        Set::NotLetterOrDigit => name_marks(x),
+        Set::FullStop => 0x8080808080808080,
+        Set::NotDigit => 0x8080808080808080,
+    }
+}
+
+// A place from `at` on, up to which no byte is in the set: the first mark in whole words, or their end.
+fn skip_words(l: &[u8], at: usize, set: Set) -> usize
     requires { ⌜ at ≤ length (now l) ⌝ }
     ensures { λ r. ⌜ (at ≤ r) × (r ≤ length (now (l .entry))) × (r + upTo (inSet set) (drop r (now (l .entry))) ≡ at + upTo (inSet set) (drop at (now (l .entry)))) ⌝ }
 {
     let mut i = at;
     while 8 <= l.len() - i {
-        if any_of_8(l, i, set) {
-            return i;
+        let z = marks(word8(l, i), set);
+        if z != 0 {
+            return i + (u64::trailing_zeros(z) / 8) as usize;
         }
         i += 8;
     }
     i
 }
 
-fn line_end(l: &[u8], at: usize) -> usize
+fn find_wide(l: &[u8], at: usize, set: Set) -> usize
     requires { ⌜ at ≤ length (now l) ⌝ }
-    ensures { λ r. ⌜ Found (now (l .entry)) at Set.LineEnd r ⌝ }
+    ensures { λ r. ⌜ Found (now (l .entry)) at set r ⌝ }
 {
-    let i = skip(l, at, Set::LineEnd);
-    find_from(l, i, Set::LineEnd)
+    let i = skip_words(l, at, set);
+    find_from(l, i, set)
 }
 
-// The first place from `at` on whose byte is in the set, or the end. Lines are long, so their ends are searched in steps of eight.
+// The first place from `at` on whose byte is in the set, or the end. Lines, fields and names are searched in steps of eight bytes.
 pub fn find(l: &[u8], at: usize, set: Set) -> usize
     requires { ⌜ at ≤ length (now l) ⌝ }
     ensures { λ r. ⌜ Found (now (l .entry)) at set r ⌝ }
 {
     match set {
-        Set::LineEnd => line_end(l, at),
+        Set::LineEnd => find_wide(l, at, Set::LineEnd),
+        Set::FieldEnd => find_wide(l, at, Set::FieldEnd),
+        Set::NotLetterOrDigit => find_wide(l, at, Set::NotLetterOrDigit),
         _ => find_from(l, at, set),
     }
 }
@@ -351,26 +395,16 @@ fn has_leading_zero(w: &[u8]) -> bool
     byte_at(w, 0) == 48
 }
 
-pub fn is_digits(w: &[u8]) -> bool
-    ensures { λ r. ⌜ r ≡ isDigits (now (w .entry)) ⌝ }
-{
-    if w.len() == 0 {
-        return false;
-    }
-    if has_leading_zero(w) {
-        return false;
-    }
-    find(w, 0, Set::NotDigit) == w.len()
-}
-
-// The number that digits write, or 2147483649 where it is larger.
-fn decimal(w: &[u8]) -> u64
-    requires { ⌜ isDigits (now w) ≡ true ⌝ }
-    ensures { λ r. ⌜ r ≡ capped (decimal 0 (now (w .entry))) ⌝ }
+// The number that bytes write; 2147483649 where it is larger, or where one is no digit.
+fn decimal_digits(w: &[u8]) -> u64
+    ensures { λ r. ⌜ r ≡ cond (all digit (now (w .entry))) (capped (decimal 0 (now (w .entry)))) 2147483649 ⌝ }
 {
     let mut n: u64 = 0;
     let mut i = 0;
     while i < w.len() {
+        if !is_digit(w[i]) {
+            return 2147483649;
+        }
         n = n * 10 + (w[i] - 48) as u64;
         if 2147483648 < n {
             return 2147483649;
@@ -378,6 +412,19 @@ fn decimal(w: &[u8]) -> u64
         i += 1;
     }
     n
+}
+
+// The number that digits write; 2147483649 where it is larger, or where there is none.
+fn decimal(w: &[u8]) -> u64
+    ensures { λ r. ⌜ r ≡ decimalIn (now (w .entry)) ⌝ }
+{
+    if w.len() == 0 {
+        return 2147483649;
+    }
+    if has_leading_zero(w) {
+        return 2147483649;
+    }
+    decimal_digits(w)
 }
 
 // A number by its 32 bits.
@@ -389,9 +436,6 @@ pub enum Value {
 fn natural(d: &[u8]) -> Value
     ensures { λ r. ⌜ bitsOf r ≡ naturalIn (now (d .entry)) ⌝ }
 {
-    if !is_digits(d) {
-        return Value::NoNumber;
-    }
     let n = decimal(d);
     if 2147483647 < n {
         return Value::NoNumber;
@@ -403,9 +447,6 @@ fn natural(d: &[u8]) -> Value
 fn negative(d: &[u8]) -> Value
     ensures { λ r. ⌜ bitsOf r ≡ negativeIn (now (d .entry)) ⌝ }
 {
-    if !is_digits(d) {
-        return Value::NoNumber;
-    }
     let n = decimal(d);
     if n < 1 {
         return Value::NoNumber;

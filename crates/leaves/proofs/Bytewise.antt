@@ -1,0 +1,192 @@
+-- Laws of words and marks: a formula works on each byte of a word apart, and what it does not mark is not in the set.
+use mathlib.Core.Path.{_≡_, refl, sym, ap, ap₂, _∙_, subst}
+use mathlib.Core.Bool.{Bool, true, false, not, _&&_, _||_}
+use mathlib.Core.List.{List, [], _∷_, _++_}
+use Prim.Native.Nat.{ℕ, zero, suc, _+_, _-_, _*_, _/_, _%_, _^_, _≤_, _<_}
+use native.Mathlib.Nat.{zero-mul, mul-one, add-mul, mul-assoc, mul-right-comm, pow-suc}
+use native.Mathlib.Omega.{arith}
+use native.Mathlib.Numerals.{add-one}
+use native.Mathlib.Decide.{decLt}
+use lib.Bits.{bitAnd, bitOr, bitXor, and-block, or-block, xor-block, and-lt, or-lt, xor-lt}
+use lib.Count.{trailingZeros, under}
+use lib.Dec.{eqb, ltb}
+use lib.ListN.{length, getD, drop}
+use lib.Pow.{pow-add}
+use lib.Seq.{drop-cons, drop-drop}
+use borrow.Author.Tests.{ltb-true, not-true, eq-eqb}
+use Rattle.rules.specs.Base as Base
+use Rattle.rules.specs.Text as Text
+use Rattle.rules.specs.Text.{upTo}
+use Rattle.leaves.specs.declared.Set.{Set}
+use Rattle.leaves.specs.declared.Set.the-variants.{LineEnd, FieldEnd, FullStop, NotLetterOrDigit, NotDigit}
+use Rattle.leaves.specs.Sets.{inSet}
+use Rattle.leaves.specs.Marks.{Form, it, each, and, or, xor, plus, value, formOf, littleEndian, eight}
+use Rattle.leaves.proofs.Search.{both-true, true-false, upTo-jump, upTo-more}
+
+-- BYTE BY BYTE
+
+-- x is the byte b below the word w
+abbrev Apart : ℕ → ℕ → ℕ → Type 0
+Apart x w b = (x ≡ w * 256 + b) × (b < 256)
+
+module _ (op : ℕ → ℕ → ℕ)
+    (block : (a b r s : ℕ) → r < 256 → s < 256 → op (a * 256 + r) (b * 256 + s) ≡ op a b * 256 + op r s)
+    (bound : (a b : ℕ) → a < 256 → b < 256 → op a b < 256) where
+  apart : (x v a y w b : ℕ) → Apart x v a → Apart y w b → Apart (op x y) (op v w) (op a b)
+  apart x v a y w b p q = (ap₂ op (p .0) (q .0) ∙ block v w a b (p .1) (q .1), bound a b (p .1) (q .1))
+
+-- no sum of a formula carries, for the byte b
+abbrev fits : ℕ → Form → Bool
+fits b it = ltb b 256
+fits b (each a) = ltb (1 * a) 256
+fits b (and f g) = fits b f && fits b g
+fits b (or f g) = fits b f && fits b g
+fits b (xor f g) = fits b f && fits b g
+fits b (plus f g) = ltb (value 1 b f + value 1 b g) 256 && (fits b f && fits b g)
+
+module _ (k w b : ℕ) where
+  value-apart : (f : Form) → fits b f ≡ true → Apart (value (k * 256 + 1) (w * 256 + b) f) (value k w f) (value 1 b f)
+  value-apart it h = (refl, ltb-true b 256 h)
+  value-apart (each a) h = (add-mul (k * 256) 1 a ∙ ap (λ n. n + 1 * a) (mul-right-comm k 256 a), ltb-true (1 * a) 256 h)
+  value-apart (and f g) h =
+      let r = both-true (fits b f) (fits b g) h in
+      apart bitAnd (and-block 8) (and-lt 8) _ _ _ _ _ _ (value-apart f (r .0)) (value-apart g (r .1))
+  value-apart (or f g) h =
+      let r = both-true (fits b f) (fits b g) h in
+      apart bitOr (or-block 8) (or-lt 8) _ _ _ _ _ _ (value-apart f (r .0)) (value-apart g (r .1))
+  value-apart (xor f g) h =
+      let r = both-true (fits b f) (fits b g) h in
+      apart bitXor (xor-block 8) (xor-lt 8) _ _ _ _ _ _ (value-apart f (r .0)) (value-apart g (r .1))
+  value-apart (plus f g) h =
+      let r = both-true (ltb (value 1 b f + value 1 b g) 256) (fits b f && fits b g) h in
+      let q = both-true (fits b f) (fits b g) (r .1) in
+      (omega (arith, value-apart f (q .0) .0, value-apart g (q .1) .0), ltb-true (value 1 b f + value 1 b g) 256 (r .0))
+
+-- ALL BYTES, BY COMPUTING
+
+abbrev allBelow : (ℕ → Bool) → ℕ → Bool
+allBelow p zero = true
+allBelow p (suc n) = p n && allBelow p n
+
+below-all : (p : ℕ → Bool) (n b : ℕ) → allBelow p n ≡ true → b < n → p b ≡ true
+below-all p zero b e h = absurd (omega arith)
+below-all p (suc n) b e h =
+    let q = both-true (p n) (allBelow p n) e in
+    elim (decLt b n) [ yes l ↦ below-all p n b (q .1) l | no l ↦ subst (λ m. p m ≡ true) (let z : n ≡ b = omega arith in z) (q .0) ]
+
+-- its sums do not carry, and the byte is marked or is not in the set
+abbrev sound : Set → ℕ → Bool
+sound s b = fits b (formOf s) && (not (eqb (value 1 b (formOf s)) 0) || not (inSet s b))
+
+sound-all : (s : Set) → allBelow (sound s) 256 ≡ true
+unfolding Base.opened Text.opened
+sound-all LineEnd = refl
+sound-all FieldEnd = refl
+sound-all FullStop = refl
+sound-all NotLetterOrDigit = refl
+sound-all NotDigit = refl
+
+or-not : (p q : Bool) → p ≡ true → (not p || not q) ≡ true → q ≡ false
+or-not true q d e = not-true q e
+or-not false q d e = true-false (sym d)
+
+unmarked : (s : Set) (b : ℕ) → sound s b ≡ true → value 1 b (formOf s) ≡ 0 → inSet s b ≡ false
+unmarked s b e z =
+    let q = both-true (fits b (formOf s)) (not (eqb (value 1 b (formOf s)) 0) || not (inSet s b)) e in
+    or-not (eqb (value 1 b (formOf s)) 0) (inSet s b) (eq-eqb (value 1 b (formOf s)) 0 z) (q .1)
+
+-- MARKS OF A WORD
+
+-- the j low bytes of z are 0
+abbrev pub Zeros : ℕ → ℕ → Type 0
+Zeros zero z = Unit {0}
+Zeros (suc j) z = (q : ℕ) × (z ≡ q * 256) × Zeros j q
+
+-- each is below 256
+abbrev Bytes : List ℕ → Type 0
+Bytes [] = Unit {0}
+Bytes (b ∷ t) = (b < 256) × Bytes t
+
+-- the word of n bytes that are 1
+abbrev ones : ℕ → ℕ
+ones zero = 0
+ones (suc n) = ones n * 256 + 1
+
+clear : (s : Set) (l : List ℕ) (j : ℕ) → Bytes l → j ≤ length l →
+    Zeros j (value (ones (length l)) (littleEndian l) (formOf s)) → j ≤ upTo (inSet s) l
+unfolding littleEndian upTo
+clear s l zero h k z = omega arith
+clear s [] (suc j) h k z = absurd (omega arith)
+clear s (b ∷ t) (suc j) h k z =
+    let e = below-all (sound s) 256 b (sound-all s) (h .0) in
+    let f = both-true (fits b (formOf s)) (not (eqb (value 1 b (formOf s)) 0) || not (inSet s b)) e in
+    let a = value-apart (ones (length t)) (littleEndian t) b (formOf s) (f .0) in
+    let q : z .0 ≡ value (ones (length t)) (littleEndian t) (formOf s) = omega (arith, a .0, a .1, z .1) in
+    let m : value 1 b (formOf s) ≡ 0 = omega (arith, a .0, a .1, z .1) in
+    let r = clear s t j (h .1) (omega arith) (subst (Zeros j) q (z .2)) in
+    rw (unmarked s b e m) (omega arith)
+
+-- ZEROS OF A NUMBER
+
+twice : (n : ℕ) → n % 2 ≡ 0 → n ≡ n / 2 * 2
+twice n e = omega arith
+
+trailing : (d n : ℕ) → (q : ℕ) × (n ≡ q * 2 ^ trailingZeros d n)
+unfolding trailingZeros
+trailing zero n = (n, sym (mul-one n))
+trailing (suc d) n = go (n % 2) refl (trailing d (n / 2))
+  where
+    go : (r : ℕ) → n % 2 ≡ r → (q : ℕ) × (n / 2 ≡ q * 2 ^ trailingZeros d (n / 2)) →
+        (q : ℕ) × (n ≡ q * 2 ^ under r (trailingZeros d (n / 2)))
+    go zero e p =
+        let t = trailingZeros d (n / 2) in
+        (p .0, twice n e ∙ (ap (λ m. m * 2) (p .1) ∙ (mul-assoc (p .0) (2 ^ t) 2 ∙ ap (λ m. p .0 * m) (sym (pow-suc 2 t)))))
+    go (suc r) e p = (n, sym (mul-one n))
+
+zeros-of : (j t q z : ℕ) → j * 8 ≤ t → z ≡ q * 2 ^ t → Zeros j z
+zeros-of zero t q z h e = tt
+zeros-of (suc j) t q z h e = (q * 2 ^ (t - 8), over (t - 8) (omega arith), zeros-of j (t - 8) q (q * 2 ^ (t - 8)) (omega arith) refl)
+  where
+    over : (u : ℕ) → t ≡ u + 8 → z ≡ q * 2 ^ u * 256
+    over u d = e ∙ (ap (λ m. q * 2 ^ m) d ∙ (ap (λ m. q * m) (pow-add 2 u 8) ∙ sym (mul-assoc q (2 ^ u) 256)))
+
+pub trailing-zeros : (z : ℕ) → Zeros (trailingZeros 64 z / 8) z
+trailing-zeros z = let p = trailing 64 z in zeros-of (trailingZeros 64 z / 8) (trailingZeros 64 z) (p .0) z (omega arith) (p .1)
+
+zero-zeros : (j : ℕ) → Zeros j 0
+zero-zeros zero = tt
+zero-zeros (suc j) = (0, refl, zero-zeros j)
+
+pub no-marks : (j z : ℕ) → z ≡ 0 → Zeros j z
+no-marks j z e = subst (Zeros j) (sym e) (zero-zeros j)
+
+-- EIGHT BYTES OF A LIST
+
+module _ (l : List ℕ) (i : ℕ) (h : i + 8 ≤ length l) where
+  next : (j k : ℕ) → k ≡ j + 1 → j < i + 8 → drop j l ≡ getD l j 0 ∷ drop k l
+  next j k e g = drop-cons l j 0 (omega arith) ∙ ap (λ n. getD l j 0 ∷ drop n l) (sym (e ∙ add-one j))
+
+  more : (j k : ℕ) (t : List ℕ) → k ≡ j + 1 → j < i + 8 → drop k l ≡ t → drop j l ≡ getD l j 0 ∷ t
+  more j k t e g q = next j k e g ∙ ap (λ n. getD l j 0 ∷ n) q
+
+  eight-is : drop i l ≡ eight l i ++ drop (i + 8) l
+  eight-is =
+      more i (i + 1) _ (omega arith) (omega arith)
+      (more (i + 1) (i + 2) _ (omega arith) (omega arith)
+      (more (i + 2) (i + 3) _ (omega arith) (omega arith)
+      (more (i + 3) (i + 4) _ (omega arith) (omega arith)
+      (more (i + 4) (i + 5) _ (omega arith) (omega arith)
+      (more (i + 5) (i + 6) _ (omega arith) (omega arith)
+      (more (i + 6) (i + 7) _ (omega arith) (omega arith)
+      (more (i + 7) (i + 8) _ (omega arith) (omega arith) refl)))))))
+
+  -- the bytes below the first mark are not in the set
+  pub skipped : ((k : ℕ) → getD l k 0 < 256) → (s : Set) (j x z : ℕ) → x ≡ littleEndian (eight l i) → z ≡ value 0x0101010101010101 x (formOf s) → j ≤ 8 → Zeros j z →
+      i + j + upTo (inSet s) (drop (i + j) l) ≡ i + upTo (inSet s) (drop i l)
+  skipped b s j x z w e g m =
+      let q : z ≡ value (ones 8) (littleEndian (eight l i)) (formOf s) = e ∙ ap (λ n. value 0x0101010101010101 n (formOf s)) w in
+      let c = clear s (eight l i) j (b i, (b (i + 1), (b (i + 2), (b (i + 3), (b (i + 4), (b (i + 5), (b (i + 6), (b (i + 7), tt)))))))) (omega arith) (subst (Zeros j) q m) in
+      let u = upTo-more (inSet s) (eight l i) (drop (i + 8) l) in
+      let v : upTo (inSet s) (drop i l) ≡ upTo (inSet s) (eight l i ++ drop (i + 8) l) = ap (upTo (inSet s)) eight-is in
+      let n = upTo-jump (inSet s) (drop i l) j (omega (arith, c, u, v)) in
+      omega (arith, n, ap (upTo (inSet s)) (drop-drop j i l))
