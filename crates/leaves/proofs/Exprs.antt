@@ -11,7 +11,7 @@ use lib.ListN.{length, getD, take, drop, length-drop}
 use lib.Seq.{getD-take, getD-drop, length-take-le}
 use borrow.Author.Tests.{eqb-true, leb-false, lt-leb, lt-ltb, le-ltb, ltb-true, eq-eqb, ne-eqb, not-true, not-false}
 use Rattle.rules.specs.Base as Base
-use Rattle.rules.specs.Base.{Name, all, is, withDefault}
+use Rattle.rules.specs.Base.{Name, all, is}
 use Rattle.rules.specs.Text as Text
 use Rattle.rules.specs.Text.{letter, digit, letterOrDigit, upTo, isName, stopIn, hasStop, beforeStop, afterStop, numeral, isNumber, number, isExpr, exprOf}
 use Rattle.rules.specs.Syntax as Syntax
@@ -166,12 +166,13 @@ module _ (w : Name) (d : ℕ) (h : d < length w) (e : d ≡ 0 + upTo other w) wh
 
 -- a field that is known to be an expression: its first byte, its full stop and `null` tell which
 module _ (w : Name) (x : isExpr w ≡ true) where
-  pub known-number : (n : ℕ) → numeral w ≡ true → n ≡ withDefault 0 (numberIn w) → some (num n) ≡ exprIn w
-  unfolding exprIn isExpr exprOf numberIn withDefault
-  known-number n h e =
-      let q : isNumber w ≡ true = rw h at x in
-      let z : n ≡ number w = rw q at e in
-      rw (h, q, z)
+  pub numeral-number : numeral w ≡ true → isNumber w ≡ true
+  unfolding isExpr
+  numeral-number h = rw h at x
+
+  pub known-number : (n : ℕ) → numeral w ≡ true → n ≡ number w → some (num n) ≡ exprIn w
+  unfolding exprIn exprOf
+  known-number n h e = rw (h, x, e)
 
   module _ (n : numeral w ≡ false) (d : ℕ) (e : d ≡ 0 + upTo (λ b. eqb b 46) w) where
     pub known-stop : d ≡ stopIn w

@@ -10,11 +10,11 @@ use native.Mathlib.Decide.{decLt}
 use lib.Dec.{eqb, leb}
 use lib.ListN.{length, getD, drop, drop-of-length-le}
 use lib.Seq.{drop-cons}
-use borrow.Author.Tests.{le-leb, lt-leb, ne-eqb}
+use borrow.Author.Tests.{le-leb, lt-leb, leb-true, ne-eqb}
 use Rattle.rules.specs.Base.{Name, all, between}
 use Rattle.rules.specs.Text.{digit, isDigits, isNegative, isNumber, number, decimal}
 use Rattle.leaves.specs.Answers.{leadingZero, capped, decimalIn, whenTrue, numberIn, naturalIn, negativeIn}
-use Rattle.leaves.proofs.Search.{true-false, and-false, between-true}
+use Rattle.leaves.proofs.Search.{true-false, and-false, both-true, between-true}
 
 -- DIGITS
 
@@ -156,6 +156,33 @@ number-some w n e = when-some (isNumber w) (number w) n e
 pub number-none : (w : Name) → none ≡ numberIn w → isNumber w ≡ false
 unfolding numberIn
 number-none w e = when-none (isNumber w) (number w) e
+
+-- of a number: its digits, and what they write
+digits-all : (w : Name) → isDigits w ≡ true → all digit w ≡ true
+unfolding isDigits
+digits-all w e =
+    both-true (eqb (length w) 1 || not (eqb (getD w 0 0) 48)) (all digit w) (both-true (leb 1 (length w)) ((eqb (length w) 1 || not (eqb (getD w 0 0) 48)) && all digit w) e .1) .1
+
+pub negative-digits : (w : Name) → isNumber w ≡ true → getD w 0 0 ≡ 45 → (all digit (drop 1 w) ≡ true) × (1 ≤ decimal 0 (drop 1 w)) × (decimal 0 (drop 1 w) ≤ 2147483648)
+unfolding isNumber isNegative
+negative-digits w e m =
+    let h = both-true (isDigits (drop 1 w)) (between 1 2147483648 (decimal 0 (drop 1 w))) (rw m at e) in
+    let b = between-true 1 2147483648 (decimal 0 (drop 1 w)) (h .1) in
+    (digits-all (drop 1 w) (h .0), b .0, b .1)
+
+pub natural-digits : (w : Name) → isNumber w ≡ true → (getD w 0 0 ≡ 45 → ⊥) → (all digit w ≡ true) × (decimal 0 w ≤ 2147483647)
+unfolding isNumber isNegative
+natural-digits w e n =
+    let h = both-true (isDigits w) (leb (decimal 0 w) 2147483647) (rw (ne-eqb (getD w 0 0) 45 n) at e) in
+    (digits-all w (h .0), leb-true (decimal 0 w) 2147483647 (h .1))
+
+pub bits-negative : (w : Name) → getD w 0 0 ≡ 45 → number w ≡ 4294967296 - decimal 0 (drop 1 w)
+unfolding number isNegative
+bits-negative w e = rw e
+
+pub bits-natural : (w : Name) → (getD w 0 0 ≡ 45 → ⊥) → number w ≡ decimal 0 w
+unfolding number isNegative
+bits-natural w n = rw (ne-eqb (getD w 0 0) 45 n)
 
 pub has-first : (w : Name) (b : ℕ) → getD w 0 0 ≡ suc b → 1 ≤ length w
 has-first [] b e = absurd (omega arith)

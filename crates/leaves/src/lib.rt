@@ -4,8 +4,8 @@ ghost use mathlib.Core.Bool.{true, false, cond, _&&_, _||_};
 ghost use lib.Dec.{leb};
 ghost use Prim.Native.Nat.{_+_, _≤_, _<_};
 ghost use lib.ListN.{length, getD, drop};
-ghost use Rattle.rules.specs.Base.{between, eqName, is, all, withDefault};
-ghost use Rattle.rules.specs.Text.{allowed, letter, digit, letterOrDigit, upTo, isName, reserved, isNumber, decimal, numeral, isExpr, isAtom};
+ghost use Rattle.rules.specs.Base.{between, eqName, is, all};
+ghost use Rattle.rules.specs.Text.{allowed, letter, digit, letterOrDigit, upTo, isName, reserved, isNumber, number, decimal, numeral, isExpr, isAtom};
 ghost use Rattle.rules.specs.Grammar.{kindOf};
 ghost use Rattle.leaves.specs.Sets.{inSet, Found};
 ghost use Rattle.leaves.specs.Marks.{eight, littleEndian, value, lineForm, fieldForm, nameForm, formOf};
@@ -477,15 +477,30 @@ pub fn is_number(w: &[u8]) -> bool
     }
 }
 
-// The 32 bits of a number, or 0 where there is none.
-pub fn number(w: &[u8]) -> u32
-    ensures { λ r. ⌜ r ≡ withDefault 0 (numberIn (now (w .entry))) ⌝ }
+// The number that digits write, if it is no larger than a number can be.
+fn value_of(w: &[u8]) -> u64
+    requires { ⌜ (all digit (now w) ≡ true) × (decimal 0 (now w) ≤ 2147483648) ⌝ }
+    ensures { λ r. ⌜ r ≡ decimal 0 (now (w .entry)) ⌝ }
 {
-    let v = number_of(w);
-    let Value::Bits(n) = v else {
-        return 0;
-    };
+    let mut n: u64 = 0;
+    let mut i = 0;
+    while i < w.len() {
+        n = n * 10 + (w[i] - 48) as u64;
+        i += 1;
+    }
     n
+}
+
+// The 32 bits of a field that is known to be a number.
+fn known_number(w: &[u8]) -> u32
+    requires { ⌜ isNumber (now w) ≡ true ⌝ }
+    ensures { λ r. ⌜ r ≡ number (now (w .entry)) ⌝ }
+{
+    if byte_at(w, 0) == 45 {
+        let d = &w[1..];
+        return (4294967296 - value_of(d)) as u32;
+    }
+    value_of(w) as u32
 }
 
 // EXPRESSIONS
@@ -565,7 +580,7 @@ pub fn known_expr(w: &[u8]) -> Expr
     ensures { λ r. ⌜ Reads (now (w .entry)) r ⌝ }
 {
     if is_numeral(w) {
-        let n = number(w);
+        let n = known_number(w);
         return Expr::Num(n);
     }
     let d = find(w, 0, Set::FullStop);

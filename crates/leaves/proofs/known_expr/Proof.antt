@@ -1,4 +1,4 @@
-use Rattle.leaves.proofs.Exprs.{known-number, known-stop, known-path, known-null, known-var}
+use Rattle.leaves.proofs.Exprs.{numeral-number, known-number, known-stop, known-path, known-null, known-var}
 use borrow.Author.Needs.{needs}
 use mathlib.Core.Path.{sym, _∙_}
 use native.Mathlib.Omega.{arith}
@@ -8,11 +8,11 @@ use Rattle.leaves.proofs.known_expr.Tie as tie
 is-numeral-requires : tie.Need-is-numeral-requires
 is-numeral-requires c κs = search needs
 
-number-requires : tie.Need-number-requires
-number-requires c κs = search needs
+known-number-requires : tie.Need-known-number-requires
+known-number-requires c κs = numeral-number (c .before .before .before .args .w .now) (c .before .before .before .pre) (sym (c .before .is-numeral .ensures) ∙ c .if1 .taken)
 
 returns : tie.Need-returns
-returns c = record { means = known-number (c .before .before .before .before .args .w .now) (c .before .before .before .before .pre) _ (sym (c .before .before .is-numeral .ensures) ∙ c .before .if1 .taken) (c .number .ensures); place = tt }
+returns c = record { means = known-number (c .before .before .before .before .args .w .now) (c .before .before .before .before .pre) _ (sym (c .before .before .is-numeral .ensures) ∙ c .before .if1 .taken) (c .known-number .ensures); place = tt }
 
 find-requires : tie.Need-find-requires
 find-requires c κs = search needs
@@ -34,7 +34,7 @@ known-expr-spec =
     tie.close
     (tie.spec
     is-numeral-requires
-    number-requires
+    known-number-requires
     returns
     find-requires
     returns-2
