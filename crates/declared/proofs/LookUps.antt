@@ -11,15 +11,17 @@ use lib.ListN.{getD}
 use borrow.Author.Tests.{lt-ltb, ltb-true, ltb-false, eq-eqb, ne-eqb}
 use Rattle.rules.specs.Base.{Name, bytes, is, eqName, any, first, index, withDefault}
 use Rattle.rules.specs.Text.{reserved}
-use Rattle.rules.specs.Syntax.{this-variable, result-variable}
+use Rattle.rules.specs.Syntax.{this-variable, result-variable, path}
 use Rattle.rules.specs.Scope.{Variable}
-use Rattle.rules.specs.Names.{agree, noVariable, noField, noDeclaration, classNumber, isFieldOf, isMethodOf, fieldType, fieldNumber, methodNumber, inScope, lookUp, variableNumber, variableType}
+use Rattle.rules.specs.Names.{agree, noVariable, noField, noDeclaration, classNumber, isFieldOf, isMethodOf, fieldType, fieldNumber, methodNumber, inScope, lookUp, variableNumber, variableType, isInt, knownField, knownExpr, ofClassIn}
+use Rattle.leaves.proofs.Search.{both-true}
+use Rattle.declared.specs.declared.Span.{Span}
 use Rattle.declared.specs.declared.Names.{Names}
-use Rattle.declared.specs.Rows.{Entry, entryAt, rows, isEntry, any-owner, nameIn, givesAt, classes-first, fields-first, methods-first, variables-first}
+use Rattle.declared.specs.Rows.{Entry, entryAt, rows, isEntry, any-owner, nameIn, ownerAt, givesAt, classes-first, fields-first, methods-first, variables-first}
 use Rattle.declared.specs.Meanings.{asField, asMethod, namesFrom, declarationsIn, variableAt, thisIn, resultIn, blockIn, ownVariables}
 use Rattle.declared.specs.declared.ExprType.{ExprType}
-use Rattle.declared.specs.Answers.{typeOf, Looked, ownIn, typeMeant, isIntType, isNew}
-use Rattle.declared.proofs.Searches.{rows-at, rows-past, index-same, any-rows, first-index, first-found, first-none, name-comm}
+use Rattle.declared.specs.Answers.{typeOf, Looked, ownIn, typeMeant, isIntType, isNew, good, mayName}
+use Rattle.declared.proofs.Searches.{rows-at, rows-past, index-same, index-both, any-rows, first-index, first-found, first-none, name-comm}
 
 -- the tests of a search: by name alone, and of an owner
 entry-any : (x : Name) (e : Entry) → isEntry any-owner x e ≡ eqName (e .name) x
@@ -60,6 +62,16 @@ module _ (t w : List ℕ) (c : Names) where
         entry-of k f (entryAt t w (fields-first + i)) small
         ∙ ap (λ n. eqb (entryAt t w (fields-first + i) .owner) n && eqName (entryAt t w (fields-first + i) .name) f) own)
 
+    -- the first field f of any class, if it is of this one
+    pub field-owned :
+        (f : Name) (i : ℕ) → i ≡ fieldNumber (declarationsIn t w c) f → (ltb i (c .fields) && eqb (ownerAt w (fields-first + i)) k) ≡ true →
+        i ≡ index (isFieldOf (declarationsIn t w c) C f) (declarationsIn t w c .fields)
+    unfolding isEntry entryAt
+    field-owned f i e h =
+        index-both (λ r. eqb k any-owner || eqb (r .owner) k) (λ r. eqName (r .name) f) (entryAt t w) fields-first (c .fields) i
+        (e ∙ sym (name-index f)) (rw (ne-eqb k any-owner (λ z. omega arith)) (both-true (ltb i (c .fields)) (eqb (ownerAt w (fields-first + i)) k) h .1))
+        ∙ field-index f
+
     pub method-index :
         (m : Name) → index (isEntry k m) (rows (entryAt t w) methods-first (c .methods)) ≡ methodNumber (declarationsIn t w c) C m
     unfolding declarationsIn methodNumber isMethodOf asMethod
@@ -77,26 +89,21 @@ module _ (t w : List ℕ) (c : Names) where
     unfolding declarationsIn
     field-any = any-rows (isFieldOf (declarationsIn t w c) C f) (λ j. asField (entryAt t w j)) fields-first (c .fields)
 
-    type-by : (i : ℕ) → i ≡ index (isFieldOf (declarationsIn t w c) C f) (declarationsIn t w c .fields) →
+    pub type-by : (i : ℕ) → i ≡ index (isFieldOf (declarationsIn t w c) C f) (declarationsIn t w c .fields) →
         fieldType (declarationsIn t w c) C f ≡ getD (declarationsIn t w c .fields) i noField .type
     unfolding fieldType
     type-by i e =
         ap (λ d. d .type) (first-index (isFieldOf (declarationsIn t w c) C f) noField (declarationsIn t w c .fields))
         ∙ ap (λ k. getD (declarationsIn t w c .fields) k noField .type) (sym e)
 
-    pub type-found :
-        (i : ℕ) → i ≡ index (isFieldOf (declarationsIn t w c) C f) (declarationsIn t w c .fields) → i < c .fields →
-        nameIn t (givesAt w (fields-first + i)) ≡ fieldType (declarationsIn t w c) C f
-    unfolding declarationsIn asField entryAt
-    type-found i e l =
-        sym (type-by i e ∙ ap (λ d. d .type) (rows-at (λ j. asField (entryAt t w j)) fields-first (c .fields) i noField l))
+  pub field-at :
+      (i : ℕ) → i < c .fields → getD (declarationsIn t w c .fields) i noField .type ≡ nameIn t (givesAt w (fields-first + i))
+  unfolding declarationsIn asField entryAt
+  field-at i l = ap (λ d. d .type) (rows-at (λ j. asField (entryAt t w j)) fields-first (c .fields) i noField l)
 
-    pub type-none :
-        (i : ℕ) → i ≡ index (isFieldOf (declarationsIn t w c) C f) (declarationsIn t w c .fields) → c .fields ≤ i →
-        [] ≡ fieldType (declarationsIn t w c) C f
-    unfolding declarationsIn
-    type-none i e l =
-        sym (type-by i e ∙ ap (λ d. d .type) (rows-past (λ j. asField (entryAt t w j)) fields-first (c .fields) i noField l))
+  pub field-past : (i : ℕ) → c .fields ≤ i → getD (declarationsIn t w c .fields) i noField .type ≡ []
+  unfolding declarationsIn
+  field-past i l = ap (λ d. d .type) (rows-past (λ j. asField (entryAt t w j)) fields-first (c .fields) i noField l)
 
   pub method-any :
       (C m : Name) → any (isMethodOf (declarationsIn t w c) C m) (declarationsIn t w c .methods)
@@ -215,6 +222,42 @@ module _ (t w : List ℕ) (from n : ℕ) (b : Bool) (x : Name) where
       Looked t w (ownIn t w from n b) x 15
   unfolding first
   own-none l s = looked-none t w (ownIn t w from n b) x (own-past l ∙ rw s)
+
+pub and-true : (q : Bool) → (q && true) ≡ q
+and-true true = refl
+and-true false = refl
+
+pub looked-type :
+    (t w : List ℕ) (vs : List Variable) (x : Name) (v : ℕ) (s : Span) → Looked t w vs x v → s ≡ typeOf w v → nameIn t s ≡ variableType vs x
+looked-type t w vs x v s h p = ap (nameIn t) p ∙ sym (h .type)
+
+-- A PATH: what its look-ups say of it
+pub path-type :
+    (t w : List ℕ) (c : Names) (vs : List Variable) (x f : Name) (v : ℕ) (s : Span) (i : ℕ) → Looked t w vs x v → s ≡ typeOf w v →
+    i ≡ index (isFieldOf (declarationsIn t w c) (nameIn t s) f) (declarationsIn t w c .fields) →
+    getD (declarationsIn t w c .fields) i noField .type ≡ fieldType (declarationsIn t w c) (variableType vs x) f
+path-type t w c vs x f v s i h p e =
+    sym (type-by t w c (nameIn t s) f i e) ∙ ap (λ k. fieldType (declarationsIn t w c) k f) (looked-type t w vs x v s h p)
+
+pub path-good :
+    (t w : List ℕ) (c : Names) (vs : List Variable) (x f : Name) (v : ℕ) (s : Span) (i : ℕ) → Looked t w vs x v → s ≡ typeOf w v →
+    i ≡ index (isFieldOf (declarationsIn t w c) (nameIn t s) f) (declarationsIn t w c .fields) →
+    mayName t c v s i f ≡ good (declarationsIn t w c) vs (path x f)
+unfolding mayName good knownExpr knownField isInt ofClassIn
+path-good t w c vs x f v s i h p e =
+    let y : variableType vs x ≡ nameIn t s = sym (looked-type t w vs x v s h p) in
+    rw (h .known, y, field-any t w c (nameIn t s) f, sym e) (go (ltb v 15) (ltb i (c .fields)) (is "int" (nameIn t s)) (reserved f))
+  where
+    go : (a b d r : Bool) → (a && (b && (not d && not r))) ≡ ((a && (not r && (d || b))) && not d)
+    go false b d r = refl
+    go true false true true = refl
+    go true false true false = refl
+    go true false false true = refl
+    go true false false false = refl
+    go true true true true = refl
+    go true true true false = refl
+    go true true false true = refl
+    go true true false false = refl
 
 -- TYPES
 pub null-agrees : (t : List ℕ) (b : ExprType) → not (isIntType t b) ≡ agree none (typeMeant t b)

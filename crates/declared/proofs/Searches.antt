@@ -1,6 +1,6 @@
 -- Laws of rows, and of the search for the first that passes a test.
 use mathlib.Core.Path.{_≡_, refl, sym, ap, _∙_}
-use mathlib.Core.Bool.{Bool, true, false, cond, _||_}
+use mathlib.Core.Bool.{Bool, true, false, cond, _&&_, _||_}
 use mathlib.Core.List.{List, [], _∷_, _++_}
 use mathlib.Core.Option.{some}
 use Prim.Native.Nat.{ℕ, zero, suc, _+_, _-_, _≤_, _<_}
@@ -134,6 +134,29 @@ index-same p q f g i j (suc n) h =
     let b : suc j + k ≡ j + suc k = omega arith in
     rw (a, b) (h (suc k) (omega arith))) in
     rw (e, r)
+
+-- where the first that passes q is one of o too, it is the first that is both
+pub index-both :
+    {A : Type 0} (o q : A → Bool) (f : ℕ → A) (i n k : ℕ) → k ≡ index q (rows f i n) → o (f (i + k)) ≡ true →
+    k ≡ index (λ a. o a && q a) (rows f i n)
+unfolding rows index
+index-both o q f i zero k e h = e
+index-both o q f i (suc n) k e h = go (q (f i)) (o (f i)) refl k e h (λ j m b. index-both o q f (suc i) n j m b)
+  where
+    go :
+        (b d : Bool) → o (f i) ≡ d → (k : ℕ) → k ≡ cond b 0 (suc (index q (rows f (suc i) n))) → o (f (i + k)) ≡ true →
+        ((j : ℕ) → j ≡ index q (rows f (suc i) n) → o (f (suc i + j)) ≡ true → j ≡ index (λ a. o a && q a) (rows f (suc i) n)) →
+        k ≡ cond (d && b) 0 (suc (index (λ a. o a && q a) (rows f (suc i) n)))
+    go true d c k e h g =
+        let z : i + k ≡ i = omega (arith, e) in
+        e ∙ sym (ap (λ r. cond (r && true) 0 (suc (index (λ a. o a && q a) (rows f (suc i) n)))) (sym c ∙ (ap (λ j. o (f j)) (sym z) ∙ h)))
+    go false d c k e h g =
+        let z : suc i + index q (rows f (suc i) n) ≡ i + k = omega (arith, e) in
+        e ∙ (ap suc (g (index q (rows f (suc i) n)) refl (ap (λ j. o (f j)) z ∙ h)) ∙ sym (ap (λ r. cond r 0 (suc (index (λ a. o a && q a) (rows f (suc i) n)))) (none d)))
+      where
+        none : (d : Bool) → (d && false) ≡ false
+        none true = refl
+        none false = refl
 
 pub any-rows : {A : Type 0} (p : A → Bool) (f : ℕ → A) (i n : ℕ) → any p (rows f i n) ≡ ltb (index p (rows f i n)) n
 any-rows p f i n = any-index p (rows f i n) ∙ ap (ltb (index p (rows f i n))) (rows-length f i n)

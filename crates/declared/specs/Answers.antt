@@ -6,15 +6,21 @@ use mathlib.Core.Option.{none, some}
 use Prim.Native.Nat.{ℕ, _+_, _≤_}
 use lib.Dec.{eqb, ltb}
 use Rattle.rules.specs.Base.{Name, bytes, is, eqName, any}
+use Rattle.rules.specs.Syntax.{Expr, path}
 use Rattle.rules.specs.Text.{reserved}
 use Rattle.rules.specs.Grammar as Grammar
 use Rattle.rules.specs.Grammar.{read, assigned, field, method, new, typeName, className, variable, member, expression, classes, fields, methods, variables}
 use Rattle.rules.specs.Scope.{Declarations, Variable}
 use Rattle.rules.specs.Names as Rules
-use Rattle.rules.specs.Names.{variableNumber, variableType, inScope, isFieldOf, isMethodOf}
+use Rattle.rules.specs.Names.{variableNumber, variableType, inScope, isFieldOf, isMethodOf, fieldType, fieldNumber, knownExpr, ofClassIn, exprType}
+use Rattle.rules.specs.Items.{resolveExpr}
+use Rattle.tables.specs.Stores.{meaning}
 use Rattle.declared.specs.declared.Span.{Span}
 use Rattle.declared.specs.declared.ExprType.{ExprType}
 use Rattle.declared.specs.declared.Operand.{Operand}
+use Rattle.declared.specs.declared.Names.{Names}
+use Rattle.declared.specs.declared.Member.{Member}
+use Rattle.declared.specs.declared.Lookup.{Lookup}
 use Rattle.declared.specs.Rows.{rows, nameIn, givesAt, variables-first}
 use Rattle.declared.specs.Meanings.{variableAt, resultIn, noSpan}
 
@@ -70,3 +76,26 @@ operandMeant Operand.Assigned = variable assigned
 operandMeant Operand.Field = member field
 operandMeant Operand.Method = member method
 operandMeant Operand.Expression = expression
+
+-- LOOKING UP
+
+-- an expression that passes the tests of 6 and 7
+unfoldable pub good : Declarations → List Variable → Expr Name → Bool
+good Γ vs e = knownExpr Γ vs e && ofClassIn Γ vs e
+
+-- may a line name f of the variable v, of the class named at s, if i is where the class's field f stands?
+unfoldable pub mayName : List ℕ → Names → ℕ → Span → ℕ → Name → Bool
+mayName t c v s i f = ltb v 15 && (ltb i (c .fields) && (not (is "int" (nameIn t s)) && not (reserved f)))
+
+-- what looking up x.f gives
+pub record MemberIs (t : List ℕ) (Γ : Declarations) (vs : List Variable) (x f : Name) (r : Member) : Type 0 where
+  pub variable : r .variable ≡ variableNumber vs x
+  pub number : r .number ≡ fieldNumber Γ f
+  pub is : nameIn t (r .is) ≡ fieldType Γ (variableType vs x) f
+  pub good : r .good ≡ good Γ vs (path x f)
+
+-- what looking up an expression gives
+pub record LookIs (t : List ℕ) (Γ : Declarations) (vs : List Variable) (e : Expr Name) (r : Lookup) : Type 0 where
+  pub expr : meaning (r .expr) ≡ resolveExpr Γ vs e
+  pub is : typeMeant t (r .is) ≡ exprType Γ vs e
+  pub good : r .good ≡ good Γ vs e

@@ -1,24 +1,24 @@
 use tables::Expr;
 use tables::Layout;
 ghost use mathlib.Core.Path.{_≡_};
-ghost use mathlib.Core.Bool.{true, false, not, _||_};
+ghost use mathlib.Core.Bool.{true, false, not, _&&_, _||_};
 ghost use mathlib.Core.List.{List, map};
 ghost use mathlib.Core.Option.{some};
-ghost use lib.Dec.{eqb};
+ghost use lib.Dec.{eqb, ltb};
 ghost use Prim.Native.Nat.{ℕ, _+_, _*_, _≤_, _<_};
 ghost use lib.ListN.{length, getD};
 ghost use Rattle.rules.specs.Base.{is, eqName, index};
-ghost use Rattle.rules.specs.Syntax.{path};
+ghost use Rattle.rules.specs.Syntax.{var, path};
 ghost use Rattle.rules.specs.Limits.{work-bytes, most-classes, most-methods, most-locals};
 ghost use Rattle.rules.specs.Text.{reserved, isExpr, exprOf};
 ghost use Rattle.rules.specs.Grammar.{isOperand};
-ghost use Rattle.rules.specs.Names.{agree, classNumber, isClass, isType, isFieldOf, fieldType, fieldNumber, methodNumber, noDeclaration, inScope, variableType, isInt, known, knownExpr, ofClass, ofClassIn, exprType, mayBeAssigned};
+ghost use Rattle.rules.specs.Names.{agree, classNumber, isClass, isType, isFieldOf, fieldType, fieldNumber, methodNumber, noField, noDeclaration, inScope, variableType, isInt, known, knownExpr, ofClass, ofClassIn, exprType, mayBeAssigned};
 ghost use Rattle.rules.specs.Items.{resolveExpr};
 ghost use Rattle.tables.specs.Layout.{most-names};
 ghost use Rattle.tables.specs.Stores.{meaning};
 ghost use Rattle.declared.specs.Rows.{rows, most-rows, nameIn, spanAt, ownerAt, nameAt, givesAt, takesAt, entryAt, isEntry, any-owner, SpanFits, RowFits, putSpan, putRow, classes-first, fields-first, methods-first, variables-first};
 ghost use Rattle.declared.specs.Meanings.{Fits, AboveFits, namesFrom, declarationsIn, variablesIn, blockIn, scopeIn, noSpan, classRow, fieldRow, variableRow, moreClasses, moreFields, moreMethods, moreLocals, putBlock};
-ghost use Rattle.declared.specs.Answers.{typeOf, ownIn, isIntType, Looked, isNew, fieldKnown, methodKnown, typeMeant, operandMeant};
+ghost use Rattle.declared.specs.Answers.{typeOf, ownIn, isIntType, Looked, isNew, fieldKnown, methodKnown, typeMeant, operandMeant, mayName, MemberIs, LookIs};
 
 // A name by its place in the text.
 pub struct Span {
@@ -78,6 +78,21 @@ pub enum ExprType {
     Null,
     Int,
     Named(Span),
+}
+
+// What looking up x.f gives: the numbers of x and of the name f, the type of the field, and whether a line may name it.
+pub struct Member {
+    pub variable: usize,
+    pub number: usize,
+    pub is: Span,
+    pub good: bool,
+}
+
+// What looking up an expression gives: the expression by its numbers, its type, and whether a line may name it.
+pub struct Lookup {
+    pub expr: Expr,
+    pub is: ExprType,
+    pub good: bool,
 }
 
 const ROW_BYTES: usize = 10;
@@ -464,15 +479,23 @@ pub fn field_of(text: &[u8], work: &[u8], c: Names, class: Span, f: &[u8]) -> us
     find(text, work, FIELDS, n, k, f)
 }
 
+// The type of the field i.
+fn field_gives(work: &[u8], c: Names, i: usize) -> Span
+    requires { ⌜ (length (now work) ≡ work-bytes) × Fits c ⌝ }
+    ensures { λ r. ⌜ ((t : List ℕ) → nameIn t r ≡ getD (declarationsIn t (now (work .entry)) c .fields) i noField .type) ⌝ }
+{
+    if i < c.fields {
+        return gives_at(work, FIELDS + i);
+    }
+    no_span()
+}
+
 pub fn field_type(text: &[u8], work: &[u8], c: Names, class: Span, f: &[u8]) -> Span
     requires { ⌜ (length (now work) ≡ work-bytes) × Fits c ⌝ }
     ensures { λ r. ⌜ nameIn (now (text .entry)) r ≡ fieldType (declarationsIn (now (text .entry)) (now (work .entry)) c) (nameIn (now (text .entry)) class) (now (f .entry)) ⌝ }
 {
     let i = field_of(text, work, c, class, f);
-    if i < c.fields {
-        return gives_at(work, FIELDS + i);
-    }
-    no_span()
+    field_gives(work, c, i)
 }
 
 // The number of a field's name: where the first field of that name stands, of whatever class.
@@ -482,6 +505,29 @@ pub fn field_number(text: &[u8], work: &[u8], c: Names, f: &[u8]) -> usize
 {
     let n = c.fields;
     find(text, work, FIELDS, n, ANY_OWNER, f)
+}
+
+// Is there a field i, and is it of the class k?
+fn is_field_of(work: &[u8], c: Names, k: usize, i: usize) -> bool
+    requires { ⌜ (length (now work) ≡ work-bytes) × Fits c ⌝ }
+    ensures { λ r. ⌜ r ≡ (ltb i (c .fields) && eqb (ownerAt (now (work .entry)) (fields-first + i)) k) ⌝ }
+{
+    if i < c.fields {
+        return owner_at(work, FIELDS + i) == k;
+    }
+    false
+}
+
+// As field_of, where the number of the name f is known: the first field of that name, if it is of the class, needs no other search.
+fn owned_field(text: &[u8], work: &[u8], c: Names, class: Span, number: usize, f: &[u8]) -> usize
+    requires { ⌜ (length (now work) ≡ work-bytes) × Fits c × (number ≡ fieldNumber (declarationsIn (now text) (now work) c) (now f)) ⌝ }
+    ensures { λ r. ⌜ r ≡ index (isFieldOf (declarationsIn (now (text .entry)) (now (work .entry)) c) (nameIn (now (text .entry)) class) (now (f .entry))) ((declarationsIn (now (text .entry)) (now (work .entry)) c) .fields) ⌝ }
+{
+    let k = class_number(text, work, c, name_in(text, class));
+    if is_field_of(work, c, k, number) {
+        return number;
+    }
+    find(text, work, FIELDS, c.fields, k, f)
 }
 
 // The number of the first method m of a class; the count of methods if there is none.
@@ -689,6 +735,92 @@ pub fn resolve_expr(text: &[u8], work: &[u8], c: Names, w: &[u8]) -> Expr
     }
 }
 
+// LOOKING UP: all that a line needs to know of an expression, its names looked up once
+
+// May a line name f of the variable v, of this class, if i is where the class's field f stands?
+fn is_member(text: &[u8], c: Names, v: usize, class: Span, i: usize, f: &[u8]) -> bool
+    ensures { λ r. ⌜ r ≡ mayName (now (text .entry)) c v class i (now (f .entry)) ⌝ }
+{
+    if NO_VARIABLE <= v {
+        return false;
+    }
+    if c.fields <= i {
+        return false;
+    }
+    if is_int(text, class) {
+        return false;
+    }
+    !leaves::is_reserved(f)
+}
+
+pub fn look_path(text: &[u8], work: &[u8], c: Names, x: &[u8], f: &[u8]) -> Member
+    requires { ⌜ (length (now work) ≡ work-bytes) × Fits c ⌝ }
+    ensures { λ r. ⌜ MemberIs (now (text .entry)) (declarationsIn (now (text .entry)) (now (work .entry)) c) (variablesIn (now (text .entry)) (now (work .entry)) c) (now (x .entry)) (now (f .entry)) r ⌝ }
+{
+    let v = variable(text, work, c, x);
+    let class = type_of(work, v);
+    let number = field_number(text, work, c, f);
+    let i = owned_field(text, work, c, class, number, f);
+    let is = field_gives(work, c, i);
+    let good = is_member(text, c, v, class, i, f);
+    Member {
+        variable: v,
+        number,
+        is,
+        good,
+    }
+}
+
+fn path_look(text: &[u8], work: &[u8], c: Names, x: &[u8], f: &[u8]) -> Lookup
+    requires { ⌜ (length (now work) ≡ work-bytes) × Fits c ⌝ }
+    ensures { λ r. ⌜ LookIs (now (text .entry)) (declarationsIn (now (text .entry)) (now (work .entry)) c) (variablesIn (now (text .entry)) (now (work .entry)) c) (path (now (x .entry)) (now (f .entry))) r ⌝ }
+{
+    let m = look_path(text, work, c, x, f);
+    let is = m.is;
+    Lookup {
+        expr: Expr::Path(m.variable, m.number),
+        is: ExprType::Named(is),
+        good: m.good,
+    }
+}
+
+fn var_look(text: &[u8], work: &[u8], c: Names, x: &[u8]) -> Lookup
+    requires { ⌜ (length (now work) ≡ work-bytes) × Fits c ⌝ }
+    ensures { λ r. ⌜ LookIs (now (text .entry)) (declarationsIn (now (text .entry)) (now (work .entry)) c) (variablesIn (now (text .entry)) (now (work .entry)) c) (var (now (x .entry))) r ⌝ }
+{
+    let v = variable(text, work, c, x);
+    let is = type_of(work, v);
+    Lookup {
+        expr: Expr::Var(v),
+        is: ExprType::Named(is),
+        good: v < NO_VARIABLE,
+    }
+}
+
+pub fn look(text: &[u8], work: &[u8], c: Names, w: &[u8]) -> Lookup
+    requires { ⌜ (length (now work) ≡ work-bytes) × Fits c × (isExpr (now w) ≡ true) ⌝ }
+    ensures { λ r. ⌜ LookIs (now (text .entry)) (declarationsIn (now (text .entry)) (now (work .entry)) c) (variablesIn (now (text .entry)) (now (work .entry)) c) (exprOf (now (w .entry))) r ⌝ }
+{
+    let e = leaves::known_expr(w);
+    match e {
+        leaves::Expr::Num(n) => Lookup {
+            expr: Expr::Num(n),
+            is: ExprType::Int,
+            good: true,
+        },
+        leaves::Expr::Var => var_look(text, work, c, w),
+        leaves::Expr::Path(d) => {
+            let f = d + 1;
+            path_look(text, work, c, &w[..d], &w[f..])
+        }
+        _ => Lookup {
+            expr: Expr::Null,
+            is: ExprType::Null,
+            good: true,
+        },
+    }
+}
+
 // FIELDS OF A LINE
 
 // Is x no reserved word, and no name of n rows from `from` on?
@@ -711,6 +843,17 @@ fn is_new_variable(text: &[u8], work: &[u8], c: Names, x: &[u8]) -> bool
         return is_new(text, work, VARIABLES + 1, n + 1, x);
     }
     is_new(text, work, VARIABLES + 2, n, x)
+}
+
+// May a line declare a variable of this name and of this type?
+pub fn may_declare(text: &[u8], work: &[u8], c: Names, name: Span, gives: Span) -> bool
+    requires { ⌜ (length (now work) ≡ work-bytes) × Fits c ⌝ }
+    ensures { λ r. ⌜ r ≡ (isType (declarationsIn (now (text .entry)) (now (work .entry)) c) (nameIn (now (text .entry)) gives) && isNew (nameIn (now (text .entry)) name) (map (λ v. v .name) (blockIn (now (text .entry)) (now (work .entry)) c .variables))) ⌝ }
+{
+    if is_type(text, work, c, name_in(text, gives)) {
+        return is_new_variable(text, work, c, name_in(text, name));
+    }
+    false
 }
 
 fn is_new_member(text: &[u8], work: &[u8], from: usize, r: Range, x: &[u8]) -> bool
