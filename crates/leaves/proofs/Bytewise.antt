@@ -3,7 +3,7 @@ use mathlib.Core.Path.{_≡_, refl, sym, ap, ap₂, _∙_, subst}
 use mathlib.Core.Bool.{Bool, true, false, not, _&&_, _||_}
 use mathlib.Core.List.{List, [], _∷_, _++_}
 use Prim.Native.Nat.{ℕ, zero, suc, _+_, _-_, _*_, _/_, _%_, _^_, _≤_, _<_}
-use native.Mathlib.Nat.{zero-mul, mul-one, add-mul, mul-assoc, mul-right-comm, pow-suc}
+use native.Mathlib.Nat.{mul-one, add-mul, mul-assoc, mul-right-comm, pow-suc}
 use native.Mathlib.Omega.{arith}
 use native.Mathlib.Numerals.{add-one}
 use native.Mathlib.Decide.{decLt}
@@ -45,6 +45,7 @@ fits b (xor f g) = fits b f && fits b g
 fits b (plus f g) = ltb (value 1 b f + value 1 b g) 256 && (fits b f && fits b g)
 
 module _ (k w b : ℕ) where
+  -- a formula's value for a word is that for its lowest byte, below that for the rest
   value-apart : (f : Form) → fits b f ≡ true → Apart (value (k * 256 + 1) (w * 256 + b) f) (value k w f) (value 1 b f)
   value-apart it h = (refl, ltb-true b 256 h)
   value-apart (each a) h = (add-mul (k * 256) 1 a ∙ ap (λ n. n + 1 * a) (mul-right-comm k 256 a), ltb-true (1 * a) 256 h)
@@ -64,6 +65,7 @@ module _ (k w b : ℕ) where
 
 -- ALL BYTES, BY COMPUTING
 
+-- the test passes for each number below n
 abbrev allBelow : (ℕ → Bool) → ℕ → Bool
 allBelow p zero = true
 allBelow p (suc n) = p n && allBelow p n
@@ -112,6 +114,7 @@ abbrev ones : ℕ → ℕ
 ones zero = 0
 ones (suc n) = ones n * 256 + 1
 
+-- bytes whose marks are 0 are not in the set
 clear : (s : Set) (l : List ℕ) (j : ℕ) → Bytes l → j ≤ length l →
     Zeros j (value (ones (length l)) (littleEndian l) (formOf s)) → j ≤ upTo (inSet s) l
 unfolding littleEndian upTo
@@ -131,6 +134,7 @@ clear s (b ∷ t) (suc j) h k z =
 twice : (n : ℕ) → n % 2 ≡ 0 → n ≡ n / 2 * 2
 twice n e = omega arith
 
+-- the zeros at a number's end can be divided out
 trailing : (d n : ℕ) → (q : ℕ) × (n ≡ q * 2 ^ trailingZeros d n)
 unfolding trailingZeros
 trailing zero n = (n, sym (mul-one n))
@@ -169,6 +173,7 @@ module _ (l : List ℕ) (i : ℕ) (h : i + 8 ≤ length l) where
   more : (j k : ℕ) (t : List ℕ) → k ≡ j + 1 → j < i + 8 → drop k l ≡ t → drop j l ≡ getD l j 0 ∷ t
   more j k t e g q = next j k e g ∙ ap (λ n. getD l j 0 ∷ n) q
 
+  -- they come before the rest
   eight-is : drop i l ≡ eight l i ++ drop (i + 8) l
   eight-is =
       more i (i + 1) _ (omega arith) (omega arith)
