@@ -18,7 +18,7 @@ use Rattle.rules.specs.Base as Base
 use Rattle.rules.specs.Text as Text
 use Rattle.rules.specs.Text.{upTo}
 use Rattle.leaves.specs.declared.Set.{Set}
-use Rattle.leaves.specs.declared.Set.the-variants.{LineEnd, FieldEnd, FullStop, NotLetterOrDigit, NotDigit}
+use Rattle.leaves.specs.declared.Set.the-variants.{LineEnd, FieldEnd, FullStop, NotLetterOrDigit}
 use Rattle.leaves.specs.Sets.{inSet}
 use Rattle.leaves.specs.Marks.{Form, it, each, and, or, xor, plus, value, formOf, littleEndian, eight}
 use Rattle.leaves.proofs.Search.{both-true, true-false, upTo-jump, upTo-more}
@@ -86,7 +86,6 @@ sound-all LineEnd = refl
 sound-all FieldEnd = refl
 sound-all FullStop = refl
 sound-all NotLetterOrDigit = refl
-sound-all NotDigit = refl
 
 or-not : (p q : Bool) → p ≡ true → (not p || not q) ≡ true → q ≡ false
 or-not true q d e = not-true q e

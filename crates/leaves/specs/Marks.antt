@@ -4,7 +4,7 @@ use Prim.Native.Nat.{ℕ, _+_, _*_}
 use lib.Bits.{bitAnd, bitOr, bitXor}
 use lib.ListN.{getD}
 use Rattle.leaves.specs.declared.Set.{Set}
-use Rattle.leaves.specs.declared.Set.the-variants.{LineEnd, FieldEnd, FullStop, NotLetterOrDigit, NotDigit}
+use Rattle.leaves.specs.declared.Set.the-variants.{LineEnd, FieldEnd, FullStop, NotLetterOrDigit}
 
 -- WORDS
 
@@ -63,10 +63,9 @@ nameForm =
     it)
     (each 0x80)
 
--- the formula of a set: 0x80 for each byte of it; of two sets, for every byte
+-- the formula of a set: 0x80 for each byte of it; of the full stop, which is searched byte by byte, for every byte
 abbrev pub formOf : Set → Form
 formOf LineEnd = lineForm
 formOf FieldEnd = fieldForm
 formOf FullStop = each 0x80
 formOf NotLetterOrDigit = nameForm
-formOf NotDigit = each 0x80

@@ -5,9 +5,9 @@ use mathlib.Core.List.{List}
 use Prim.Native.Nat.{ℕ, _+_, _≤_}
 use lib.Dec.{eqb}
 use lib.ListN.{length, drop}
-use Rattle.rules.specs.Text.{tab, line-feed, full-stop, allowed, digit, letterOrDigit, upTo}
+use Rattle.rules.specs.Text.{tab, line-feed, full-stop, allowed, letterOrDigit, upTo}
 use Rattle.leaves.specs.declared.Set.{Set}
-use Rattle.leaves.specs.declared.Set.the-variants.{LineEnd, FieldEnd, FullStop, NotLetterOrDigit, NotDigit}
+use Rattle.leaves.specs.declared.Set.the-variants.{LineEnd, FieldEnd, FullStop, NotLetterOrDigit}
 
 -- A line ends at its LF or at a byte that is not allowed, whichever comes first; a field at a tab or at LF.
 abbrev pub inSet : Set → ℕ → Bool
@@ -15,7 +15,6 @@ inSet LineEnd b = eqb b line-feed || not (allowed b)
 inSet FieldEnd b = eqb b tab || eqb b line-feed
 inSet FullStop b = eqb b full-stop
 inSet NotLetterOrDigit b = not (letterOrDigit b)
-inSet NotDigit b = not (digit b)
 
 -- r is the first place from at on whose byte is in the set, or the end.
 pub record Found (l : List ℕ) (at : ℕ) (s : Set) (r : ℕ) : Type 0 where

@@ -72,7 +72,6 @@ pub enum Set {
     FieldEnd,
     FullStop,
     NotLetterOrDigit,
-    NotDigit,
 }
 
 pub fn in_set(b: u8, set: Set) -> bool
@@ -93,7 +92,6 @@ pub fn in_set(b: u8, set: Set) -> bool
         }
         Set::FullStop => b == 46,
         Set::NotLetterOrDigit => !is_letter_or_digit(b),
-        Set::NotDigit => !is_digit(b),
     }
 }
 
@@ -167,7 +165,6 @@ fn marks(x: u64, set: Set) -> u64
         Set::FieldEnd => field_marks(x),
         Set::NotLetterOrDigit => name_marks(x),
         Set::FullStop => 0x8080808080808080,
-        Set::NotDigit => 0x8080808080808080,
     }
 }
 

@@ -22,6 +22,9 @@ enum-told-3 c = search needs
 find-wide-requires-3 : tie.Need-find-wide-requires-3
 find-wide-requires-3 c κs = search needs
 
+enum-told-4 : tie.Need-enum-told-4
+enum-told-4 c = search needs
+
 find-from-requires : tie.Need-find-from-requires
 find-from-requires c κs = search needs
 
@@ -47,6 +50,7 @@ find-spec =
     find-wide-requires-2
     enum-told-3
     find-wide-requires-3
+    enum-told-4
     find-from-requires
     returns
     returns-2

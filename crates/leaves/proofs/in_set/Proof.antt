@@ -25,12 +25,6 @@ enum-told-4 c = search needs
 is-letter-or-digit-requires : tie.Need-is-letter-or-digit-requires
 is-letter-or-digit-requires c κs = search needs
 
-enum-told-5 : tie.Need-enum-told-5
-enum-told-5 c = search needs
-
-is-digit-requires : tie.Need-is-digit-requires
-is-digit-requires c κs = search needs
-
 returns-3 : tie.Need-returns-3
 returns-3 c = rw (c .before .enum-told .given .1) (sym (line-end-high (c .before .before .before .args .b) (c .if1 .left)))
 
@@ -43,9 +37,6 @@ returns-5 c = rw (c .enum-told3 .given .1)
 returns-6 : tie.Need-returns-6
 returns-6 c = rw (c .before .enum-told4 .given .1, c .is-letter-or-digit .ensures)
 
-returns-7 : tie.Need-returns-7
-returns-7 c = rw (c .before .enum-told5 .given .1, c .is-digit .ensures)
-
 pub in-set-spec : {M : Type 1} → statement M
 in-set-spec =
     tie.close
@@ -57,10 +48,7 @@ in-set-spec =
     enum-told-3
     enum-told-4
     is-letter-or-digit-requires
-    enum-told-5
-    is-digit-requires
     returns-3
     returns-4
     returns-5
-    returns-6
-    returns-7)
+    returns-6)

@@ -25,9 +25,6 @@ name-marks-requires c κs = search needs
 enum-told-4 : tie.Need-enum-told-4
 enum-told-4 c = search needs
 
-enum-told-5 : tie.Need-enum-told-5
-enum-told-5 c = search needs
-
 returns : tie.Need-returns
 returns c = c .line-marks .ensures ∙ ap (λ s. value 0x0101010101010101 (c .before .before .before .args .x) (formOf s)) (sym (c .before .enum-told .given .1))
 
@@ -40,9 +37,6 @@ returns-3 c = c .name-marks .ensures ∙ ap (λ s. value 0x0101010101010101 (c .
 returns-4 : tie.Need-returns-4
 returns-4 c = search needs
 
-returns-5 : tie.Need-returns-5
-returns-5 c = search needs
-
 pub marks-spec : {M : Type 1} → statement M
 marks-spec =
     tie.close
@@ -54,9 +48,7 @@ marks-spec =
     enum-told-3
     name-marks-requires
     enum-told-4
-    enum-told-5
     returns
     returns-2
     returns-3
-    returns-4
-    returns-5)
+    returns-4)
