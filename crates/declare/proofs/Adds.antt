@@ -2,11 +2,12 @@
 use mathlib.Core.Path.{_≡_, refl, sym, ap, subst, _∙_}
 use mathlib.Core.Bool.{true, false}
 use mathlib.Core.List.{List, [], _∷_, _++_, append-nil}
+use mathlib.Core.Logic.{inr}
 use Prim.Native.Nat.{ℕ, pred, _+_, _<_}
 use native.Mathlib.Omega.{arith}
 use lib.ListN.{getD, drop}
 use Rattle.rules.specs.Base.{Name}
-use Rattle.rules.specs.Limits.{most-classes, most-methods}
+use Rattle.rules.specs.Limits.{work-bytes, most-classes, most-methods}
 use Rattle.rules.specs.Grammar as Grammar
 use Rattle.rules.specs.Grammar.{Kind, Line, Class, Field, Method, kindNumber, isKind}
 use Rattle.rules.specs.Scope as Scope
@@ -14,25 +15,30 @@ use Rattle.rules.specs.Scope.{classesOf, fieldsOf, methodsOf}
 use Rattle.leaves.specs.Words.{kindOr0}
 use Rattle.lines.specs.Cuts.{more}
 use Rattle.lines.specs.Rows.{kindNumbered}
+use Rattle.lines.specs.declared.Word.{Word}
+use Rattle.lines.specs.Table.{WordAt}
 use Rattle.lines.proofs.Rows.{kind-of-number}
-use Rattle.tables.specs.Layout.{most-names}
-use Rattle.tables.specs.Stores.{SameTables}
+use Rattle.tables.specs.Layout.{most-names, lines-at}
+use Rattle.tables.specs.Stores.{Kept, SameTables}
 use Rattle.declared.specs.declared.Span.{Span}
 use Rattle.declared.specs.declared.Row.{Row}
 use Rattle.declared.specs.declared.Names.{Names}
-use Rattle.declared.specs.Rows.{nameIn, entryOf, putRow, SpanFits, RowFits, classes-first, fields-first, methods-first}
+use Rattle.declared.specs.Rows.{nameIn, entryOf, putRow, SpanFits, RowFits, most-rows, classes-first, fields-first, methods-first}
 use Rattle.declared.specs.Meanings.{declarationsIn, asField, asMethod, classRow, fieldRow, moreClasses, moreFields, moreMethods}
-use Rattle.declared.proofs.Puts.{none-fits, row-tables}
+use Rattle.declared.proofs.Puts.{none-fits, row-tables, row-other}
 use Rattle.declared.proofs.Scopes.{class-put, field-put, method-put}
-use Rattle.declare.specs.declared.Word.{Word}
-use Rattle.declare.specs.Texts.{lineAt, FormedAt, WordAt}
-use Rattle.declare.specs.Declares.{joined, lineWith, namesAfter, Ready, MethodRow, methodEntry, Adds}
+use Rattle.declare.specs.Texts.{lineAt, FormedAt}
+use Rattle.declare.specs.Declares.{joined, lineWith, namesAfter, Ready, Room, LineReady, MethodRow, methodEntry, Adds}
 
 pub class-fits : {s : Span} → SpanFits s → RowFits (classRow s)
 class-fits f = record { owner = omega arith; name = f; gives = none-fits; takes = none-fits }
 
 pub field-fits : {o : ℕ} {s g : Span} → o < 256 → SpanFits s → SpanFits g → RowFits (fieldRow o s g)
 field-fits l f g = record { owner = l; name = f; gives = g; takes = none-fits }
+
+-- the table of lines stands above the rows
+row-lines : (w : List ℕ) {u : List ℕ} (i : ℕ) (r : Row) → i < most-rows → u ≡ putRow w i r → Kept lines-at work-bytes w u
+row-lines w {u} i r l e = subst (Kept lines-at work-bytes w) (sym e) (λ j a b. row-other w i r j (inr (omega arith)))
 
 module _ {t w : List ℕ} {c : Names} (x : Ready t w c) (ws : List Name) {u : List ℕ} {d : Names} where
   pub class-adds :
@@ -48,6 +54,7 @@ module _ {t w : List ℕ} {c : Names} (x : Ready t w c) (ws : List Name) {u : Li
             (λ j. declarationsIn t (i j) (e j))
             ∙ (a ∙ (λ j. record { classes = D .classes ++ (n j ∷ []); fields = sym (append-nil (D .fields)) j; methods = sym (append-nil (D .methods)) j }));
         tables = subst (SameTables w) (sym i) (row-tables w _ _);
+        lines = row-lines w _ _ (omega (arith, x .fits .classes, x .fits .fields, x .fits .methods)) i;
       }
 
   pub field-adds :
@@ -68,6 +75,7 @@ module _ {t w : List ℕ} {c : Names} (x : Ready t w c) (ws : List Name) {u : Li
               methods = sym (append-nil (D .methods)) j;
             }));
         tables = subst (SameTables w) (sym i) (row-tables w _ _);
+        lines = row-lines w _ _ (omega (arith, x .fits .classes, x .fits .fields, x .fits .methods)) i;
       }
 
   pub method-adds :
@@ -88,6 +96,7 @@ module _ {t w : List ℕ} {c : Names} (x : Ready t w c) (ws : List Name) {u : Li
               methods = D .methods ++ (n j ∷ []);
             }));
         tables = subst (SameTables w) (sym i) (row-tables w _ _);
+        lines = row-lines w _ _ (omega (arith, x .fits .classes, x .fits .fields, x .fits .methods)) i;
       }
 
 -- a line of another kind
@@ -106,7 +115,23 @@ none-adds t w c l a b m =
             methods = sym (append-nil (D .methods)) j;
           });
       tables = record { size = refl; bytes = λ i p q. refl };
+      lines = λ i p q. refl;
     }
+
+-- THE LINE BY THE NUMBER OF ITS KIND
+module _ {t : List ℕ} {r n : ℕ} {c : Names} (x : LineReady t r n c) (k : Kind) (e : n ≡ kindNumber k) where
+  numbered-is : kindNumbered n ≡ k
+  numbered-is = ap kindNumbered e ∙ kind-of-number k
+
+  pub ready-room : Room k c
+  ready-room = subst (λ j. Room j c) numbered-is (x .room)
+
+  pub ready-formed : Grammar.isFormed (Grammar.form k .operands) (Grammar.form k .tail) (more (drop r t)) ≡ true
+  ready-formed = subst (λ j. Grammar.isFormed (Grammar.form j .operands) (Grammar.form j .tail) (more (drop r t)) ≡ true) numbered-is (x .formed)
+
+  pub adds-numbered :
+      {w u : List ℕ} {d : Names} → Adds t w c (lineWith k (more (drop r t))) u d → Adds t w c (lineWith (kindNumbered n) (more (drop r t))) u d
+  adds-numbered {w} {u} {d} y = subst (λ j. Adds t w c (lineWith j (more (drop r t))) u d) (sym numbered-is) y
 
 -- THE LINE BY ITS WORD
 module _ {t : List ℕ} {a : ℕ} {r : Word} (f : FormedAt t a) (x : WordAt t a r) where

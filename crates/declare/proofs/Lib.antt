@@ -1,4 +1,3 @@
-pub mod Letters
 pub mod Lines
 pub mod Counts
 pub mod Adds

@@ -3,22 +3,32 @@ use mathlib.Core.Path.{_≡_, refl, sym, ap, ap₂, subst, _∙_}
 use mathlib.Core.Bool.{Bool, true, false, cond}
 use mathlib.Core.List.{List, [], _∷_, _++_, append-nil, append-assoc}
 use Prim.Native.Nat.{ℕ, suc, _+_, _≤_, _<_}
+use native.Mathlib.Omega.{arith}
 use native.Mathlib.Numerals.{add-one}
 use lib.ListN.{length, drop}
+use Rattle.rules.specs.Limits.{work-bytes}
 use Rattle.rules.specs.Text.{lines}
-use Rattle.rules.specs.Grammar.{Kind, Line, Class, Field, Method, isKind}
+use Rattle.rules.specs.Grammar.{Kind, Line, Class, Field, Method, kindNumber, isKind}
 use Rattle.rules.specs.Places.{Place, firstPlace, placeAfter}
 use Rattle.rules.specs.Scope.{Declarations, classesOf, classesAbove, fieldsOf, methodsOf, declarations}
 use Rattle.leaves.specs.Sets.{Found}
 use Rattle.leaves.specs.declared.Set.the-variants.{LineEnd}
-use Rattle.tables.specs.Stores.{SameTables}
-use Rattle.tables.proofs.Bytes.{same-trans}
+use Rattle.tables.specs.Layout.{lines-at}
+use Rattle.tables.specs.Stores.{Kept, SameTables}
+use Rattle.tables.proofs.Bytes.{same-trans, kept-trans}
+use Rattle.lines.specs.declared.Word.{Word}
+use Rattle.lines.specs.Cuts.{more}
+use Rattle.lines.specs.Rows.{kindNumbered}
+use Rattle.lines.specs.Table.{WordAt, lineEnd}
+use Rattle.lines.proofs.Rows.{kind-bounds, number-of-kind}
+use Rattle.lines.proofs.Table.{found-end}
 use Rattle.declared.specs.declared.Names.{Names}
 use Rattle.declared.specs.Rows.{rows}
 use Rattle.declared.specs.Meanings.{Fits, declarationsIn, namesFrom, moreClasses, moreFields, moreMethods}
-use Rattle.declare.specs.Texts.{linesOf, Taken, lineAt}
-use Rattle.declare.specs.Declares.{joined, namesAfter, noNames, Room, Adds, Declares}
-use Rattle.declare.proofs.Walks.{Walking, walking-first, walking-done, walking-placed, walking-lines, walking-on}
+use Rattle.declare.specs.Texts.{linesOf, Taken, lineAt, FormedAt}
+use Rattle.declare.specs.Declares.{joined, lineWith, namesAfter, noNames, Room, LineReady, Adds, Declares}
+use Rattle.declare.proofs.Walks.{Walking, walking-first, walking-done, walking-placed, walking-formed, walking-lines, walking-on}
+use Rattle.declare.proofs.Adds.{word-kind, kind-is, form-is, adds-line}
 use Rattle.declare.proofs.Counts.{Counted, counted-first, counted-fits, counted-room, counted-on}
 
 -- LINES AND DECLARATIONS
@@ -61,6 +71,7 @@ pub record Declaring (t v : List ℕ) (a : ℕ) (c : Names) (w : List ℕ) : Typ
   pub counted : Counted place c
   pub declared : joined (declarationsIn t w c) (c .classes) (linesOf (drop a t)) ≡ declarations (linesOf t)
   pub tables : SameTables v w
+  pub lines : Kept lines-at work-bytes v w
 
 pub declaring-first : (t w : List ℕ) (c : Names) → c ≡ noNames → Taken t → Declaring t w 0 c w
 unfolding joined declarationsIn namesFrom rows declarations Rattle.rules.specs.Places.opened
@@ -73,6 +84,7 @@ declaring-first t w c e k =
       counted = counted-first;
       declared = refl;
       tables = record { size = refl; bytes = λ i a b. refl };
+      lines = λ i a b. refl;
     })
 
 module _ {t v : List ℕ} {a : ℕ} {c : Names} {w : List ℕ} (x : Declaring t v a c w) where
@@ -109,4 +121,34 @@ module _ {t v : List ℕ} {a : ℕ} {c : Names} {w : List ℕ} (x : Declaring t 
           counted = subst (Counted (placeAfter k (x .place))) (sym (y .names)) (counted-on (x .counted) (x .walk .within) k (m .in-place) (m .room));
           declared = ap₂ (λ h i. joined h i ls) (y .declared) n ∙ (sym (joined-on (declarationsIn t w c) (c .classes) (lineAt t a) ls) ∙ z);
           tables = same-trans (x .tables) (y .tables);
+          lines = kept-trans lines-at work-bytes v w u (x .lines) (y .lines);
         }
+
+  -- the line here by its word
+  module _ (l : a < length t) {r : Word} (y : WordAt t a r) where
+    ends : Found t a LineEnd (lineEnd t a)
+    ends = found-end t a (omega arith)
+
+    formed : FormedAt t a
+    formed = walking-formed (x .walk) l ends
+
+    bounds : (1 ≤ r .kind) × (r .kind ≤ 18)
+    bounds = omega (arith, word-kind formed y, kind-bounds (lineAt t a .kind))
+
+    numbered : r .kind ≡ kindNumber (kindNumbered (r .kind))
+    numbered = sym (number-of-kind (r .kind) (bounds .0) (bounds .1))
+
+    pub declaring-ready : LineReady t (r .end) (r .kind) c
+    declaring-ready =
+        record {
+          high = y .high;
+          first = bounds .0;
+          last = bounds .1;
+          formed = form-is formed y (kindNumbered (r .kind)) numbered;
+          room = subst (λ k. Room k c) (kind-is formed y {k = kindNumbered (r .kind)} numbered) (declaring-room l ends);
+        }
+
+    pub declaring-next :
+        {d : Names} {u : List ℕ} → Adds t w c (lineWith (kindNumbered (r .kind)) (more (drop (r .end) t))) u d →
+        Declaring t v (lineEnd t a + 1) d u
+    declaring-next z = declaring-on l ends (adds-line formed y {k = kindNumbered (r .kind)} numbered z)

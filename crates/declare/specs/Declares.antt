@@ -1,16 +1,17 @@
 -- What the rows of a text's lines mean.
 use mathlib.Core.Path.{_≡_}
-use mathlib.Core.Bool.{Bool, false, cond, _||_}
+use mathlib.Core.Bool.{true, false, cond}
 use mathlib.Core.List.{List, [], _∷_, _++_}
 use Prim.Native.Nat.{ℕ, _<_, _≤_}
-use lib.Dec.{eqb}
-use lib.ListN.{length, getD}
+use lib.ListN.{length, getD, drop}
 use Rattle.rules.specs.Base.{Name}
 use Rattle.rules.specs.Limits.{work-bytes, most-bytes, most-classes, most-methods}
-use Rattle.rules.specs.Grammar.{Kind, Line, Class, Field, Method, isKind}
+use Rattle.rules.specs.Grammar.{Kind, Line, Class, Field, Method, form, isFormed, isKind}
 use Rattle.rules.specs.Scope.{Declarations, classesOf, fieldsOf, methodsOf, declarations}
-use Rattle.tables.specs.Layout.{most-names}
-use Rattle.tables.specs.Stores.{SameTables}
+use Rattle.tables.specs.Layout.{most-names, lines-at}
+use Rattle.tables.specs.Stores.{Kept, SameTables}
+use Rattle.lines.specs.Cuts.{more}
+use Rattle.lines.specs.Rows.{kindNumbered}
 use Rattle.declared.specs.declared.Names.{Names}
 use Rattle.declared.specs.declared.Row.{Row}
 use Rattle.declared.specs.Rows.{Entry, entryOf, RowFits}
@@ -24,10 +25,6 @@ joined d n ls =
 
 abbrev pub lineWith : Kind → List Name → Line
 lineWith k ws = record { kind = k; fields = ws }
-
--- the first letter of `class`, `field` or `method`
-unfoldable pub mayDeclare : ℕ → Bool
-mayDeclare b = eqb b 99 || (eqb b 102 || eqb b 109)
 
 -- the counts after a line
 unfoldable pub namesAfter : Kind → Names → Names
@@ -49,6 +46,14 @@ pub record Room (k : Kind) (c : Names) : Type 0 where
   pub field : k ≡ Field → c .fields < most-names
   pub method : k ≡ Method → c .methods < most-methods
 
+-- the line of kind k whose word ends at r has its form, and there is room for its row
+pub record LineReady (t : List ℕ) (r k : ℕ) (c : Names) : Type 0 where
+  pub high : r ≤ length t
+  pub first : 1 ≤ k
+  pub last : k ≤ 18
+  pub formed : isFormed (form (kindNumbered k) .operands) (form (kindNumbered k) .tail) (more (drop r t)) ≡ true
+  pub room : Room (kindNumbered k) c
+
 -- the row of a method of this owner whose header has these fields
 unfoldable pub methodEntry : ℕ → List Name → Entry
 methodEntry o ws = record { owner = o; name = getD ws 1 []; gives = getD ws 0 []; takes = getD ws 2 [] }
@@ -57,11 +62,12 @@ pub record MethodRow (t : List ℕ) (o : ℕ) (ws : List Name) (r : Row) : Type 
   pub is : entryOf t r ≡ methodEntry o ws
   pub fits : RowFits r
 
--- The line l has its row, and the tables stay.
+-- The line l has its row; the tables and the table of lines stay.
 pub record Adds (t w : List ℕ) (c : Names) (l : Line) (w′ : List ℕ) (c′ : Names) : Type 0 where
   pub names : c′ ≡ namesAfter (l .kind) c
   pub declared : declarationsIn t w′ c′ ≡ joined (declarationsIn t w c) (c .classes) (l ∷ [])
   pub tables : SameTables w w′
+  pub lines : Kept lines-at work-bytes w w′
 
 -- All lines of the text have their rows; no block is open.
 pub record Declares (t w w′ : List ℕ) (r : Names) : Type 0 where

@@ -10,12 +10,10 @@ use Rattle.rules.specs.Answers.{accepted}
 use Rattle.rules.specs.Text.{lines, fields}
 use Rattle.rules.specs.Grammar.{Line, Class, form, kindOf, isFormed}
 use Rattle.rules.specs.Places.{firstPlace, scanLines}
-use Rattle.leaves.specs.Words.{kindOr0}
 use Rattle.lines.specs.Cuts.{more}
 use Rattle.lines.specs.Scans.{lineOf}
 use Rattle.declared.specs.declared.Span.{Span}
 use Rattle.declared.specs.Rows.{nameIn}
-use Rattle.declare.specs.declared.Word.{Word}
 
 -- the lines of a text that pass 1 takes
 unfoldable pub linesOf : List ℕ → List Line
@@ -33,12 +31,6 @@ lineAt t a =
 pub record FormedAt (t : List ℕ) (a : ℕ) : Type 0 where
   pub known : kindOf (getD (fields (drop a t)) 0 []) ≡ some (lineAt t a .kind)
   pub formed : isFormed (form (lineAt t a .kind) .operands) (form (lineAt t a .kind) .tail) (lineAt t a .fields) ≡ true
-
--- the number of its kind, or 0, and where its word ends
-pub record WordAt (t : List ℕ) (a : ℕ) (r : Word) : Type 0 where
-  pub kind : r .kind ≡ kindOr0 (kindOf (getD (fields (drop a t)) 0 []))
-  pub high : r .end ≤ length t
-  pub fields : more (drop (r .end) t) ≡ drop 1 (fields (drop a t))
 
 -- The field after one that ends at r has its place at s; an empty place where there is none.
 pub record SpanAfter (t : List ℕ) (r : ℕ) (s : Span) : Type 0 where

@@ -2,6 +2,7 @@ use declared::Names;
 use declared::Row;
 use declared::Span;
 use leaves::Set;
+use lines::Word;
 ghost use mathlib.Core.Path.{_≡_};
 ghost use mathlib.Core.Bool.{true};
 ghost use Prim.Native.Nat.{_≤_, _<_, pred};
@@ -10,18 +11,15 @@ ghost use mathlib.Core.List.{[]};
 ghost use Rattle.rules.specs.Limits.{work-bytes, most-bytes, most-classes, most-methods};
 ghost use Rattle.rules.specs.Text.{isName};
 ghost use Rattle.rules.specs.Grammar.{Class, Field, Method};
-ghost use Rattle.tables.specs.Layout.{most-names};
+ghost use Rattle.tables.specs.Layout.{most-names, lines-at};
+ghost use Rattle.tables.specs.Stores.{Kept};
 ghost use Rattle.lines.specs.Cuts.{more};
-ghost use Rattle.declare.specs.Texts.{Taken, lineAt, FormedAt, WordAt, SpanAfter};
-ghost use Rattle.declare.specs.Declares.{lineWith, noNames, mayDeclare, Ready, Room, MethodRow, Adds, Declares};
+ghost use Rattle.lines.specs.Rows.{kindNumbered};
+ghost use Rattle.lines.specs.Table.{WordAt, LineTable};
+ghost use Rattle.declare.specs.Texts.{Taken, SpanAfter};
+ghost use Rattle.declare.specs.Declares.{lineWith, noNames, Ready, LineReady, MethodRow, Adds, Declares};
 
 // FIELDS OF A LINE
-
-// The word that a line begins with: the number of its kind, or 0, and the word's end.
-pub struct Word {
-    pub kind: u8,
-    pub end: usize,
-}
 
 fn word_from(text: &[u8], at: usize) -> Word
     requires { ⌜ at ≤ length (now text) ⌝ }
@@ -145,29 +143,11 @@ fn declare_method(text: &[u8], work: &mut [u8], r: usize, c: Names) -> Names
     declared::put_method(work, c, m)
 }
 
-// May a word that begins with this letter be `class`, `field` or `method`? Most lines need no more of their word.
-fn may_declare(b: u8) -> bool
-    ensures { λ r. ⌜ r ≡ mayDeclare b ⌝ }
+// The row of a line of this kind, if it declares something.
+fn declare_line(text: &[u8], work: &mut [u8], r: usize, kind: u8, c: Names) -> Names
+    requires { ⌜ Ready (now text) (now work) c × LineReady (now text) r kind c ⌝ }
+    ensures { λ d. ⌜ Adds (now (text .entry)) (now (work .entry)) c (lineWith (kindNumbered kind) (more (drop r (now (text .entry))))) (now (work .exit)) d ⌝ }
 {
-    match b {
-        99 => true,
-        102 => true,
-        109 => true,
-        _ => false,
-    }
-}
-
-// The row of the line that begins at a place, if it declares something.
-fn declare_line(text: &[u8], work: &mut [u8], at: usize, c: Names) -> Names
-    requires { ⌜ Ready (now text) (now work) c × (at ≤ length (now text)) × FormedAt (now text) at × Room (lineAt (now text) at .kind) c ⌝ }
-    ensures { λ d. ⌜ Adds (now (text .entry)) (now (work .entry)) c (lineAt (now (text .entry)) at) (now (work .exit)) d ⌝ }
-{
-    if !may_declare(leaves::byte_at(text, at)) {
-        return c;
-    }
-    let w = word_at(text, at);
-    let r = w.end;
-    let kind = w.kind;
     match kind {
         1 => declare_class(text, work, r, c),
         2 => declare_field(text, work, r, c),
@@ -191,17 +171,17 @@ fn no_names() -> Names
     }
 }
 
-// The rows of all classes, fields and methods of a text that pass 1 takes.
-pub fn declare(text: &[u8], work: &mut [u8]) -> Names
-    requires { ⌜ (length (now text) ≤ most-bytes) × (length (now work) ≡ work-bytes) × Taken (now text) ⌝ }
-    ensures { λ r. ⌜ Declares (now (text .entry)) (now (work .entry)) (now (work .exit)) r ⌝ }
+// The rows of all classes, fields and methods of a text that pass 1 takes, by its table of n lines.
+pub fn declare(text: &[u8], work: &mut [u8], n: usize) -> Names
+    requires { ⌜ (length (now text) ≤ most-bytes) × (length (now work) ≡ work-bytes) × Taken (now text) × LineTable (now text) (now work) n ⌝ }
+    ensures { λ r. ⌜ Declares (now (text .entry)) (now (work .entry)) (now (work .exit)) r × Kept lines-at work-bytes (now (work .entry)) (now (work .exit)) ⌝ }
 {
     let mut c = no_names();
-    let mut at = 0;
-    while at < text.len() {
-        let end = leaves::find(text, at, Set::LineEnd);
-        c = declare_line(text, work, at, c);
-        at = end + 1;
+    let mut i = 0;
+    while i < n {
+        let w = lines::line_word(work, i);
+        c = declare_line(text, work, w.end, w.kind, c);
+        i += 1;
     }
     c
 }

@@ -17,20 +17,18 @@ use Rattle.rules.specs.Grammar.{new, typeName, className, variable, member, exp
 use Rattle.rules.specs.Grammar.{classes, fields, methods, variables, read, assigned, field, method}
 use Rattle.rules.specs.Scope.{Slot, slotsFrom, atomOperands, atomSlots, atomsOf, slots}
 use Rattle.rules.specs.Names as Rules
-use Rattle.leaves.specs.Sets.{Found}
-use Rattle.leaves.specs.declared.Set.the-variants.{FieldEnd}
 use Rattle.leaves.specs.Words.{wordNumber}
 use Rattle.leaves.proofs.Words.{acc-is}
 use Rattle.leaves.proofs.Search.{true-false, both-true, and-false}
 use Rattle.lines.specs.Cuts.{part, more, NextField}
 use Rattle.lines.specs.Rows.{kindNumbered, operandNumber, operandsNumber}
-use Rattle.lines.proofs.Cuts.{fields-from, no-more}
+use Rattle.lines.proofs.Cuts.{no-more}
 use Rattle.lines.proofs.Formulas.{more-on, not-none}
 use Rattle.declared.specs.declared.Names.{Names}
 use Rattle.declared.specs.declared.Above.{Above}
 use Rattle.declared.specs.Meanings.{declarationsIn, variablesIn, scopeIn}
 use Rattle.judge.specs.declared.Tests.{Tests}
-use Rattle.judge.specs.Tests.{lineAfter, lineAt, formed, bothTests, allPassed, slotTests, cmpTests, tested, lineTests, sidesIn, apartIn}
+use Rattle.judge.specs.Tests.{lineAfter, formed, bothTests, allPassed, slotTests, cmpTests, tested, lineTests, sidesIn, apartIn}
 
 -- BOTH
 and-assoc : (x y z : Bool) → ((x && y) && z) ≡ (x && (y && z))
@@ -102,11 +100,6 @@ nth-here f d = rw (more-on f d)
 
 pub nth-none : {t : List ℕ} {r e : ℕ} → NextField t r e → e ≡ r → getD (more (drop r t)) 0 [] ≡ []
 nth-none f d = rw (f .none d)
-
--- a line by its word's end
-pub line-at : (t : List ℕ) (a e k : ℕ) → Found t a FieldEnd e → lineAt t a k ≡ lineAfter t e k
-unfolding lineAt lineAfter
-line-at t a e k f = rw (fields-from t a e f)
 
 -- FORMULAS
 one-field : (n : ℕ) (w : Name) → isFormula n (w ∷ []) ≡ true → ⊥

@@ -4,28 +4,20 @@ use mathlib.Core.Bool.{Bool, true, false, not, cond, _&&_}
 use mathlib.Core.List.{List, [], _∷_, _++_, append-nil}
 use mathlib.Core.Option.{Option, none, some}
 use Prim.Native.Nat.{ℕ}
-use lib.ListN.{drop, getD}
 use Rattle.rules.specs.Base as Base
-use Rattle.rules.specs.Base.{ok, check, _>>_, bindOption}
+use Rattle.rules.specs.Base.{ok, check, _>>_}
 use Rattle.rules.specs.Answers.{Refusal, undeclared, wrongType, wrongTarget}
-use Rattle.rules.specs.Text.{fields}
-use Rattle.rules.specs.Grammar.{Kind, Requires, Line, form, isFormed, isKind, kindOf}
+use Rattle.rules.specs.Grammar.{Kind, Requires, Line, isKind}
 use Rattle.rules.specs.Scope.{Declarations, Variable, Scope, visible}
 use Rattle.rules.specs.Items.{Item, resolveLine, itemOf}
-use Rattle.leaves.specs.Sets.{Found}
-use Rattle.leaves.specs.declared.Set.the-variants.{FieldEnd}
-use Rattle.leaves.specs.Words.{kindOr0}
-use Rattle.leaves.specs.Answers.{whenTrue}
-use Rattle.lines.specs.Rows.{kindNumbered, formedKind}
-use Rattle.lines.proofs.Rows.{kind-of-number, formed-bounds}
 use Rattle.declared.specs.declared.Names.{Names}
 use Rattle.declared.specs.declared.Above.{Above}
 use Rattle.declared.specs.Meanings.{declarationsIn, variablesIn, blockIn, resultIn, scopeIn}
 use Rattle.judge.specs.declared.Tests.{Tests}
 use Rattle.judge.specs.declared.Judged.{Judged}
-use Rattle.judge.specs.Tests.{lineAfter, lineAt, formed, Formed, lineTests, sidesIn, apartIn}
+use Rattle.judge.specs.Tests.{lineAfter, lineTests, sidesIn, apartIn}
 use Rattle.judge.specs.Refusals.{refusalOf, refusalIn, unlessRefused}
-use Rattle.judge.proofs.Laws.{line-at, known-is, typed-is, assignable-is}
+use Rattle.judge.proofs.Laws.{known-is, typed-is, assignable-is}
 
 three-checks :
     (a b d : Bool) (i : Item) →
@@ -43,32 +35,12 @@ pub refuses :
 unfolding resolveLine refusalIn
 refuses Γ s l = three-checks _ _ _ _
 
--- A LINE OF THE TEXT
-
--- what `lines::formed_kind` finds
-pub formed-at : (t : List ℕ) (a k : ℕ) → k ≡ kindOr0 (formedKind (fields (drop a t))) → (k ≡ 0 → ⊥) → Formed k (lineAt t a k)
-unfolding formedKind bindOption lineAt formed
-formed-at t a k e z =
-    let b = formed-bounds (fields (drop a t)) k e z in
-    record { first = b .0; last = b .1; is = go (kindOf (getD (fields (drop a t)) 0 [])) e }
-  where
-    isOf : Kind → Bool
-    isOf K = isFormed (form K .operands) (form K .tail) (drop 1 (fields (drop a t)))
-
-    step : (K : Kind) (b : Bool) → isOf K ≡ b → k ≡ kindOr0 (whenTrue b K) → isOf (kindNumbered k) ≡ true
-    step K true q h = rw (h, kind-of-number K) q
-    step K false q h = absurd (z h)
-
-    go : (o : Option Kind) → k ≡ kindOr0 (bindOption o (λ K. whenTrue (isFormed (form K .operands) (form K .tail) (drop 1 (fields (drop a t)))) K)) → isOf (kindNumbered k) ≡ true
-    go none h = absurd (z h)
-    go (some K) h = step K (isOf K) refl h
-
--- The line of kind k at `at`, whose word ends at e; x is what its fields pass.
+-- A LINE OF THE TEXT: of kind k, its word ends at e; x is what its fields pass.
 module _
-    (t w : List ℕ) (c : Names) (a : Above) (at e k : ℕ) (f : Found t at FieldEnd e)
+    (t w : List ℕ) (c : Names) (a : Above) (e k : ℕ)
     (x : Tests) (h : x ≡ lineTests t w c a (lineAfter t e k)) where
   abbrev here : Option Refusal
-  here = refusalIn (declarationsIn t w c) (variablesIn t w c) (scopeIn t w c a) (lineAt t at k)
+  here = refusalIn (declarationsIn t w c) (variablesIn t w c) (scopeIn t w c a) (lineAfter t e k)
 
   by-tests :
       here
@@ -79,7 +51,7 @@ module _
       (some undeclared)
   unfolding refusalIn
   by-tests =
-      rw (line-at t at e k f, known-is t w c a (lineAfter t e k), typed-is t w c a (lineAfter t e k), assignable-is t w c a (lineAfter t e k), h)
+      rw (known-is t w c a (lineAfter t e k), typed-is t w c a (lineAfter t e k), assignable-is t w c a (lineAfter t e k), h)
 
   pub is-undeclared : x .known ≡ false → refusalOf Judged.Undeclared ≡ here
   unfolding refusalOf

@@ -7,7 +7,7 @@ use lib.ListN.{length, drop}
 use Rattle.rules.specs.Base.{Name, all}
 use Rattle.rules.specs.Limits.{work-bytes}
 use Rattle.rules.specs.Syntax.{Formula}
-use Rattle.rules.specs.Text.{fields, exprOf, formulaOf}
+use Rattle.rules.specs.Text.{exprOf, formulaOf}
 use Rattle.rules.specs.Grammar.{Operand, Line, form, isFormed, expression}
 use Rattle.rules.specs.Scope.{Slot, slots, atomsOf}
 use Rattle.rules.specs.Names as Rules
@@ -23,10 +23,6 @@ use Rattle.judge.specs.declared.Tests.{Tests}
 -- the line of this kind whose word ends at r
 unfoldable pub lineAfter : List ℕ → ℕ → ℕ → Line
 lineAfter t r k = record { kind = kindNumbered k; fields = more (drop r t) }
-
--- the line of this kind that begins at a
-unfoldable pub lineAt : List ℕ → ℕ → ℕ → Line
-lineAt t a k = record { kind = kindNumbered k; fields = drop 1 (fields (drop a t)) }
 
 unfoldable pub formed : Line → Bool
 formed l = isFormed (form (l .kind) .operands) (form (l .kind) .tail) (l .fields)

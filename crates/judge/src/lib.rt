@@ -2,7 +2,6 @@ use declared::Above;
 use declared::ExprType;
 use declared::Names;
 use declared::Operand;
-use leaves::Set;
 ghost use mathlib.Core.Path.{_≡_};
 ghost use mathlib.Core.Bool.{true, _&&_};
 ghost use mathlib.Core.List.{[], _∷_};
@@ -17,7 +16,7 @@ ghost use Rattle.lines.specs.Cuts.{more};
 ghost use Rattle.lines.specs.Rows.{operandNumber};
 ghost use Rattle.declared.specs.Meanings.{Fits, declarationsIn, variablesIn, scopeIn};
 ghost use Rattle.declared.specs.Answers.{operandMeant};
-ghost use Rattle.judge.specs.Tests.{lineAfter, lineAt, Formed, Ready, bothTests, slotTests, exprTests, cmpTests, tested, lineTests, sidesIn, apartIn};
+ghost use Rattle.judge.specs.Tests.{lineAfter, Formed, Ready, bothTests, slotTests, exprTests, cmpTests, tested, lineTests, sidesIn, apartIn};
 ghost use Rattle.judge.specs.Refusals.{refusalOf, refusalIn};
 
 // Which of the tests of numbers 6, 7 and 9 are passed.
@@ -328,12 +327,11 @@ fn call_apart(text: &[u8], work: &[u8], from: usize, kind: u8, c: Names) -> bool
 
 // THE LINE
 
-// Is the line of this kind that begins at `at` good? 6 before 7 before 9.
-pub fn judge(text: &[u8], work: &[u8], at: usize, kind: u8, c: Names, a: Above) -> Judged
-    requires { ⌜ Ready (now work) c a × (at ≤ length (now text)) × Formed kind (lineAt (now text) at kind) ⌝ }
-    ensures { λ r. ⌜ refusalOf r ≡ refusalIn (declarationsIn (now (text .entry)) (now (work .entry)) c) (variablesIn (now (text .entry)) (now (work .entry)) c) (scopeIn (now (text .entry)) (now (work .entry)) c a) (lineAt (now (text .entry)) at kind) ⌝ }
+// Is the line of this kind whose word ends at `from` good? 6 before 7 before 9.
+pub fn judge(text: &[u8], work: &[u8], from: usize, kind: u8, c: Names, a: Above) -> Judged
+    requires { ⌜ Ready (now work) c a × (from ≤ length (now text)) × Formed kind (lineAfter (now text) from kind) ⌝ }
+    ensures { λ r. ⌜ refusalOf r ≡ refusalIn (declarationsIn (now (text .entry)) (now (work .entry)) c) (variablesIn (now (text .entry)) (now (work .entry)) c) (scopeIn (now (text .entry)) (now (work .entry)) c a) (lineAfter (now (text .entry)) from kind) ⌝ }
 {
-    let from = leaves::find(text, at, Set::FieldEnd);
     let t = line_tests(text, work, from, kind, c, a);
     if !t.known {
         return Judged::Undeclared;

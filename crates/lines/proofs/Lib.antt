@@ -3,3 +3,4 @@ pub mod Formulas
 pub mod Rows
 pub mod Coded
 pub mod Scans
+pub mod Table

@@ -2,3 +2,4 @@ pub mod Cuts
 pub mod Rows
 pub mod Coded
 pub mod Scans
+pub mod Table

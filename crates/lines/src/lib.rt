@@ -1,18 +1,20 @@
 use leaves::Set;
 use rules::Machine;
+use tables::Layout;
 ghost use mathlib.Core.Path.{_≡_};
 ghost use mathlib.Core.Bool.{Bool, true, cond, _||_};
-ghost use Prim.Native.Nat.{_≤_, _<_};
+ghost use Prim.Native.Nat.{_*_, _≤_, _<_};
 ghost use lib.ListN.{length, drop};
-ghost use Rattle.rules.specs.Text.{fields, isFormula, isCondition};
+ghost use Rattle.rules.specs.Limits.{most-bytes, work-bytes};
+ghost use Rattle.rules.specs.Text.{isFormula, isCondition};
 ghost use Rattle.rules.specs.Grammar.{form, isFormed};
 ghost use Rattle.rules.specs.Places.{firstPlace, oneMoreIf};
 ghost use Rattle.leaves.specs.Sets.{Found};
-ghost use Rattle.leaves.specs.Words.{kindOr0};
 ghost use Rattle.lines.specs.Cuts.{more, NextField, NextAtom};
-ghost use Rattle.lines.specs.Rows.{kindNumbered, rowOf, rowNumber, fitsOperand, fitsTail, formedKind};
+ghost use Rattle.lines.specs.Rows.{kindNumbered, rowOf, rowNumber, fitsOperand, fitsTail};
 ghost use Rattle.lines.specs.Coded.{coded, fits, inPlace, stageAfter, branchesAfter, placeAfter, withinLimits};
 ghost use Rattle.lines.specs.Scans.{answerOf, nextPlace, PlacesLine, ScansLine, verdictOf, scanText};
+ghost use Rattle.lines.specs.Table.{FormedWord, most-lines, wordIn, putLine, NotesLine, TableOf};
 
 // FIELDS
 
@@ -194,20 +196,26 @@ pub fn is_formed(t: &[u8], from: usize, kind: u8) -> bool
     is_tail(row.tail, t, r)
 }
 
-// The number of the kind of the line that begins at a place, or 0 where its fields are of no kind's form.
-pub fn formed_kind(t: &[u8], at: usize) -> u8
+// The word that a line begins with: the number of its kind, or 0, and the word's end.
+pub struct Word {
+    pub kind: u8,
+    pub end: usize,
+}
+
+// The word of the line that begins at a place; its kind is 0 where the line's fields are of no kind's form.
+pub fn formed_word(t: &[u8], at: usize) -> Word
     requires { ⌜ at ≤ length (now t) ⌝ }
-    ensures { λ k. ⌜ k ≡ kindOr0 (formedKind (fields (drop at (now (t .entry))))) ⌝ }
+    ensures { λ w. ⌜ FormedWord (now (t .entry)) at w ⌝ }
 {
-    let e = leaves::find(t, at, Set::FieldEnd);
-    let k = leaves::kind_of(&t[at..e]);
-    if k == 0 {
-        return 0;
+    let end = leaves::find(t, at, Set::FieldEnd);
+    let kind = leaves::kind_of(&t[at..end]);
+    if kind == 0 {
+        return Word { kind: 0, end };
     }
-    if is_formed(t, e, k) {
-        return k;
+    if is_formed(t, end, kind) {
+        return Word { kind, end };
     }
-    0
+    Word { kind: 0, end }
 }
 
 // THE PLACE OF A LINE
@@ -391,21 +399,44 @@ pub fn place_line(p: Place, kind: u8) -> Placing
     next_place(is_in_place(kind, p), is_within_limits(q), q)
 }
 
+// THE TABLE OF LINES: 3 bytes a line, the end of its word (2 bytes) and the number of its kind
+
+fn put_line(work: &mut [u8], i: usize, w: Word)
+    requires { ⌜ (length (now work) ≡ work-bytes) × (i < most-lines) × (w .end < 65536) ⌝ }
+    ensures { λ _. ⌜ now (work .exit) ≡ putLine (now (work .entry)) i w ⌝ }
+{
+    let at = Layout::LINES + 3 * i;
+    tables::put_half(work, at, w.end);
+    work[at + 2] = w.kind;
+}
+
+// The word of line i.
+pub fn line_word(work: &[u8], i: usize) -> Word
+    requires { ⌜ (length (now work) ≡ work-bytes) × (i < most-lines) ⌝ }
+    ensures { λ r. ⌜ r ≡ wordIn (now (work .entry)) i ⌝ }
+{
+    let at = Layout::LINES + 3 * i;
+    let end = tables::half_at(work, at);
+    let kind = work[at + 2];
+    Word { kind, end }
+}
+
 // THE PASS
 
-// One line, from `at` to its LF at `end`.
-pub fn scan_line(t: &[u8], at: usize, end: usize, p: Place) -> Placing
-    requires { ⌜ ((at < length (now t)) × Found (now t) at Set.LineEnd end) × (withinLimits p ≡ true) ⌝ }
-    ensures { λ r. ⌜ ScansLine (now (t .entry)) at end p r ⌝ }
+// One line, from `at` to its LF at `end`, with n lines above it.
+pub fn scan_line(t: &[u8], work: &mut [u8], at: usize, end: usize, n: usize, p: Place) -> Placing
+    requires { ⌜ ((at < length (now t)) × Found (now t) at Set.LineEnd end) × (withinLimits p ≡ true) × (length (now t) ≤ most-bytes) × (length (now work) ≡ work-bytes) × (4 * n ≤ at) ⌝ }
+    ensures { λ r. ⌜ ScansLine (now (t .entry)) at end p r × NotesLine (now (t .entry)) (now (work .entry)) at end n r (now (work .exit)) ⌝ }
 {
     if leaves::byte_at(t, end) != 10 {
         return Placing::Refused(Refusal::BadByte);
     }
-    let k = formed_kind(t, at);
-    if k == 0 {
+    let w = formed_word(t, at);
+    if w.kind == 0 {
         return Placing::Refused(Refusal::Malformed);
     }
-    place_line(p, k)
+    put_line(work, n, w);
+    place_line(p, w.kind)
 }
 
 // A text that is taken, with the count of its lines; or why it is refused, and at which line.
@@ -414,17 +445,18 @@ pub enum Scanned {
     Refused(Refusal, usize),
 }
 
-// Form, place and limits of every line, and the text's end.
-pub fn scan(text: &[u8]) -> Scanned
-    ensures { λ r. ⌜ verdictOf r ≡ scanText (now (text .entry)) ⌝ }
+// Form, place and limits of every line, and the text's end; keeps the table of lines.
+pub fn scan(text: &[u8], work: &mut [u8]) -> Scanned
+    requires { ⌜ (length (now text) ≤ most-bytes) × (length (now work) ≡ work-bytes) ⌝ }
+    ensures { λ r. ⌜ (verdictOf r ≡ scanText (now (text .entry))) × TableOf (now (text .entry)) (now (work .exit)) r × (length (now (work .exit)) ≡ length (now (work .entry))) ⌝ }
 {
     let mut p = first_place();
     let mut at = 0;
     let mut n = 0;
     while at < text.len() {
         let end = leaves::find(text, at, Set::LineEnd);
+        let a = scan_line(text, work, at, end, n, p);
         n += 1;
-        let a = scan_line(text, at, end, p);
         match a {
             Placing::Refused(why) => {
                 return Scanned::Refused(why, n);

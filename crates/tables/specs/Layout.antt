@@ -63,6 +63,10 @@ atoms-at = 6208
 abbrev pub names-at : ℕ
 names-at = 36832
 
+-- the table of lines, while the text is read, stands where the machine's stores do later
+abbrev pub lines-at : ℕ
+lines-at = 40960
+
 -- the machine's stores: values of all fields, holders of all fields, room for a second holder, objects, frames
 abbrev pub values-at : ℕ
 values-at = 40960

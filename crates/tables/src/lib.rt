@@ -43,6 +43,9 @@ impl Layout {
 
     pub const VALUES: usize = 40960;
 
+    // The table of lines, while the text is read, stands where the machine's stores do later.
+    pub const LINES: usize = 40960;
+
     pub const HOLDERS: usize = 45056;
 
     pub const OBJECTS: usize = 53248;

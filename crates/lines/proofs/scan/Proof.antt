@@ -1,96 +1,104 @@
--- `lines::scan` meets its contract: what the lines that are left give from the present place is what the text gives. Assumes nothing.
+-- `lines::scan` meets its contract: what the lines that are left give from the present place is what the text gives, and the lines before
+-- it stand in the table. Assumes nothing.
 use native.Mathlib.Omega.{arith}
 use borrow.Author.Needs.{needs}
-use mathlib.Core.Path.{sym, ap, _∙_}
+use mathlib.Core.Path.{_≡_, refl, sym, ap, _∙_}
 use Prim.Native.Nat.{_≤_, _-_}
 use lib.ListN.{length}
 use Rattle.lines.specs.Scans.{answerOf}
 use Rattle.lines.proofs.Cuts.{byte-in, clean-line}
 use Rattle.lines.proofs.Scans.{Passed, pass-start, pass-on, pass-stop, pass-done, pass-ends}
+use Rattle.lines.proofs.Table.{Tabled, tabled-first, tabled-on, tabled-all}
 use Rattle.lines.proofs.scan.Statement.{statement}
 use Rattle.lines.proofs.scan.Tie as tie
 
 abbrev Inv-loop : tie.InvT-loop
-Inv-loop text p₀ at₀ n₀ p at n = (at ≤ length text) × ((n ≤ at) × Passed text at n p)
+Inv-loop text work₀ p₀ at₀ n₀ work p at n = (at ≤ length text) × Passed text at n p × Tabled text work at n × (length work ≡ length work₀)
 
 abbrev μ-loop : tie.MeasureT-loop
-μ-loop text p₀ at₀ n₀ p at n = length text - at
+μ-loop text work₀ p₀ at₀ n₀ work p at n = length text - at
 
 first-place-requires : tie.Need-first-place-requires Inv-loop μ-loop
 first-place-requires c κs = tt
 
 loop-holds : tie.Need-loop-holds Inv-loop μ-loop
 loop-holds c =
-    (omega arith, (omega arith, pass-start (c .before .before .args .text .now) (c .first-place .result) (c .first-place .ensures)))
+    let t = c .before .before .before .args .text .now in
+    (omega arith, pass-start t (c .first-place .result) (c .first-place .ensures), tabled-first t (c .before .before .before .args .work .now), refl)
 
 find-requires : tie.Need-find-requires Inv-loop μ-loop
 find-requires c κs = omega arith
 
-add-n : tie.Need-add-n Inv-loop μ-loop
-add-n c = omega arith
-
 scan-line-requires : tie.Need-scan-line-requires Inv-loop μ-loop
-scan-line-requires c κs = ((c .before .loop-test .taken, c .find .ensures), c .before .before .loop .inv .1 .1 .within)
+scan-line-requires c κs =
+    let inv = c .before .before .before .loop .inv in
+    let pre = c .before .before .before .before .before .before .before .pre in
+    ((c .before .before .loop-test .taken, c .before .find .ensures), inv .1 .within, pre .0, inv .3 ∙ pre .1, inv .2 .short)
+
+add-n : tie.Need-add-n Inv-loop μ-loop
+add-n c = omega (arith, c .before .before .before .before .before .before .loop .inv .0, c .before .before .before .before .before .before .loop .inv .2 .short)
 
 enum-known-a : tie.Need-enum-known-a Inv-loop μ-loop
 enum-known-a c = search needs
 
+same-length : tie.Need-same-length Inv-loop μ-loop
+same-length c = c .before .before .before .before .before .scan-line .ensures .1 .size ∙ c .before .before .before .before .before .before .before .before .before .loop .inv .3
+
 returns : tie.Need-returns Inv-loop μ-loop
 returns c =
-    let loop = c .before .before .before .before .before .before .loop in
-    let loop-test = c .before .before .before .before .before .loop-test in
-    let scan-line = c .before .before .before .scan-line in
-    pass-stop (loop .inv .1 .1) (c .before .a .given .0 .0) (loop-test .taken)
-    (ap answerOf (sym (c .before .a .given .1)) ∙
-    scan-line .ensures .is (loop .inv .1 .1 .place) (loop .inv .1 .1 .is))
+    let inv = c .before .before .before .before .before .before .before .before .before .loop .inv in
+    let scan-line = c .before .before .before .before .before .scan-line in (
+      pass-stop (inv .1) (c .before .a .given .0 .0) (c .before .before .before .before .before .before .before .before .loop-test .taken)
+          (ap answerOf (sym (c .before .a .given .1)) ∙ scan-line .ensures .0 .is (inv .1 .place) (inv .1 .is)),
+      tt,
+      scan-line .ensures .1 .size ∙ inv .3,
+    )
 
 enum-known-a-2 : tie.Need-enum-known-a-2 Inv-loop μ-loop
 enum-known-a-2 c = search needs
 
 add-at : tie.Need-add-at Inv-loop μ-loop
 add-at c =
-    let start = c .before .before .before .before .before .before .before .before .before in
-    let find = c .before .before .before .before .find in
-    let scan-line = c .before .before .before .scan-line in
-    let l = scan-line .ensures .feed (c .before .a2 .given .0 .0) (c .before .a2 .given .1) in
-    omega (arith, byte-in (start .args .text .now) (find .result) 10 (omega arith) l)
+    let l = c .before .before .before .before .before .scan-line .ensures .0 .feed (c .before .a2 .given .0 .0) (c .before .a2 .given .1) in
+    omega (arith, byte-in (c .before .before .before .before .before .before .before .before .before .before .before .before .before .args .text .now) (c .before .before .before .before .before .before .before .find .result) 10 (omega arith) l)
 
 loop-less : tie.Need-loop-less Inv-loop μ-loop
 loop-less c =
-    let start = c .before .before .before .before .before .before .before .before .before in
-    let find = c .before .before .before .before .find in
-    let scan-line = c .before .before .before .scan-line in
-    let l = scan-line .ensures .feed (c .before .a2 .given .0 .0) (c .before .a2 .given .1) in
-    omega (arith, byte-in (start .args .text .now) (find .result) 10 (omega arith) l, find .ensures .low)
+    let l = c .before .before .before .before .before .scan-line .ensures .0 .feed (c .before .a2 .given .0 .0) (c .before .a2 .given .1) in
+    omega (arith, byte-in (c .before .before .before .before .before .before .before .before .before .before .before .before .before .args .text .now) (c .before .before .before .before .before .before .before .find .result) 10 (omega arith) l, c .before .before .before .before .before .before .before .find .ensures .low)
 
 loop-again : tie.Need-loop-again Inv-loop μ-loop
 loop-again c =
-    let start = c .before .before .before .before .before .before .before .before .before in
-    let loop = c .before .before .before .before .before .before .loop in
-    let find = c .before .before .before .before .find in
-    let scan-line = c .before .before .before .scan-line in
+    let loop = c .before .before .before .before .before .before .before .before .before .loop in
+    let find = c .before .before .before .before .before .before .before .find in
+    let scan-line = c .before .before .before .before .before .scan-line in
     let a2 = c .before .a2 in
-    let t = start .args .text .now in
-    let g = scan-line .ensures .feed (a2 .given .0 .0) (a2 .given .1) in
+    let t = c .before .before .before .before .before .before .before .before .before .before .before .before .before .args .text .now in
+    let g = scan-line .ensures .0 .feed (a2 .given .0 .0) (a2 .given .1) in
     let l = clean-line t (loop .at) (find .result) (find .ensures) g in (
       omega (arith, l .high),
-      (
-        omega (arith, l .low, loop .inv .1 .0),
-        pass-on (loop .inv .1 .1) (find .result) (a2 .given .0 .0) l
-            (ap answerOf (sym (a2 .given .1)) ∙
-            scan-line .ensures .is (loop .inv .1 .1 .place) (loop .inv .1 .1 .is)),
-      ),
+      pass-on (loop .inv .1) (find .result) (a2 .given .0 .0) l
+          (ap answerOf (sym (a2 .given .1)) ∙ scan-line .ensures .0 .is (loop .inv .1 .place) (loop .inv .1 .is)),
+      tabled-on (loop .inv .2) (c .before .before .before .before .before .before .before .before .loop-test .taken) (find .ensures) (scan-line .ensures .1 .noted (a2 .given .0 .0) (a2 .given .1)),
+      scan-line .ensures .1 .size ∙ loop .inv .3,
     )
+
+same-length-2 : tie.Need-same-length-2 Inv-loop μ-loop
+same-length-2 c = c .before .before .before .loop .inv .3
 
 returns-2 : tie.Need-returns-2 Inv-loop μ-loop
 returns-2 c =
-    let loop = c .before .before .before .loop in
-    pass-done (loop .inv .1 .1) (c .before .before .loop-test .left) (c .if1 .taken)
+    let inv = c .before .before .before .loop .inv in
+    let h = c .before .before .loop-test .left in
+    (pass-done (inv .1) h (c .if1 .taken), tabled-all (inv .2) (c .before .before .before .before .before .before .before .pre .0) (inv .0) h, inv .3)
+
+same-length-3 : tie.Need-same-length-3 Inv-loop μ-loop
+same-length-3 c = c .before .before .before .loop .inv .3
 
 returns-3 : tie.Need-returns-3 Inv-loop μ-loop
 returns-3 c =
-    let loop = c .before .before .before .loop in
-    pass-ends (loop .inv .1 .1) (c .before .before .loop-test .left) (c .if1 .left)
+    let inv = c .before .before .before .loop .inv in
+    (pass-ends (inv .1) (c .before .before .loop-test .left) (c .if1 .left), tt, inv .3)
 
 pub scan-spec : {M : Type 1} → statement M
 scan-spec =
@@ -101,13 +109,16 @@ scan-spec =
     first-place-requires
     loop-holds
     find-requires
-    add-n
     scan-line-requires
+    add-n
     enum-known-a
+    same-length
     returns
     enum-known-a-2
     add-at
     loop-less
     loop-again
+    same-length-2
     returns-2
+    same-length-3
     returns-3)

@@ -1,10 +1,10 @@
--- `lines::formed_kind` meets its contract. Assumes nothing.
+-- `lines::formed_word` meets its contract. Assumes nothing.
 use borrow.Author.Needs.{needs}
 use mathlib.Core.Path.{sym, _∙_}
 use Rattle.lines.proofs.Cuts.{fields-from}
 use Rattle.lines.proofs.Rows.{word-bounds, no-kind, formed, unformed}
-use Rattle.lines.proofs.formed_kind.Statement.{statement}
-use Rattle.lines.proofs.formed_kind.Tie as tie
+use Rattle.lines.proofs.formed_word.Statement.{statement}
+use Rattle.lines.proofs.formed_word.Tie as tie
 
 find-requires : tie.Need-find-requires
 find-requires c κs = search needs
@@ -26,7 +26,7 @@ returns c =
     let start = c .before .before .before .before .before in
     let find = c .before .before .before .find in
     let w = fields-from (start .args .t .now) (start .args .at) (find .result) (find .ensures) in
-    sym (no-kind _ _ _ w (c .before .kind-of .result) (c .before .kind-of .ensures) (c .if1 .taken))
+    record { kind = sym (no-kind _ _ _ w (c .before .kind-of .result) (c .before .kind-of .ensures) (c .if1 .taken)); end = find .ensures }
 
 is-formed-requires : tie.Need-is-formed-requires
 is-formed-requires c κs =
@@ -41,8 +41,8 @@ returns-2 c =
     let find = c .before .before .before .before .before .find in
     let kind-of = c .before .before .before .kind-of in
     let w = fields-from (start .args .t .now) (start .args .at) (find .result) (find .ensures) in
-    sym (formed _ _ _ w (kind-of .result) (kind-of .ensures) (c .before .before .if1 .left)
-    (sym (c .before .is-formed .ensures) ∙ c .if2 .taken))
+    let k = formed _ _ _ w (kind-of .result) (kind-of .ensures) (c .before .before .if1 .left) (sym (c .before .is-formed .ensures) ∙ c .if2 .taken) in
+    record { kind = sym k; end = find .ensures }
 
 returns-3 : tie.Need-returns-3
 returns-3 c =
@@ -50,11 +50,11 @@ returns-3 c =
     let find = c .before .before .before .before .before .find in
     let kind-of = c .before .before .before .kind-of in
     let w = fields-from (start .args .t .now) (start .args .at) (find .result) (find .ensures) in
-    sym (unformed _ _ _ w (kind-of .result) (kind-of .ensures) (c .before .before .if1 .left)
-    (sym (c .before .is-formed .ensures) ∙ c .if2 .left))
+    let k = unformed _ _ _ w (kind-of .result) (kind-of .ensures) (c .before .before .if1 .left) (sym (c .before .is-formed .ensures) ∙ c .if2 .left) in
+    record { kind = sym k; end = find .ensures }
 
-pub formed-kind-spec : {M : Type 1} → statement M
-formed-kind-spec =
+pub formed-word-spec : {M : Type 1} → statement M
+formed-word-spec =
     tie.close
     (tie.spec
     find-requires
