@@ -1,17 +1,15 @@
 -- Laws of the table of lines: a line that is taken has at least 4 bytes, its word is put and read back, and the table grows line by line.
 use mathlib.Core.Path.{_≡_, refl, sym, ap, subst, _∙_}
-use mathlib.Core.Bool.{Bool, true, false, not}
+use mathlib.Core.Bool.{Bool, true, false}
 use mathlib.Core.List.{List, [], _∷_}
 use mathlib.Core.Logic.{_⊎_, inl, inr, ⊎-elim}
 use mathlib.Core.Option.{Option, none, some}
-use Prim.Native.Nat.{ℕ, suc, _+_, _-_, _*_, _≤_, _<_}
+use Prim.Native.Nat.{ℕ, _+_, _-_, _*_, _≤_, _<_}
 use native.Mathlib.Omega.{arith}
 use native.Mathlib.Numerals.{add-one}
 use native.Mathlib.Decide.{decLt}
-use lib.Dec.{eqb}
-use lib.ListN.{length, getD, drop, take, length-drop, length-set}
+use lib.ListN.{length, getD, drop, length-drop, length-set}
 use lib.Seq.{getD-drop, getD-set-same, getD-set-other, length-take-le}
-use borrow.Author.Tests.{eqb-true, ne-eqb}
 use Rattle.rules.specs.Base.{Name, bytes, bindOption}
 use Rattle.rules.specs.Base as Base
 use Rattle.rules.specs.Limits.{most-bytes, work-bytes}
@@ -21,7 +19,7 @@ use Rattle.rules.specs.Grammar as Grammar
 use Rattle.rules.specs.Grammar.{Kind, form, kinds, kindOf, isFormed}
 use Rattle.rules.specs.Grammar.{Class, Field, Method, Requires, Ensures, Main, Var}
 use Rattle.rules.specs.Grammar.{Set, Let, New, Call, Return, Assert, Release, If, Else, Join, End}
-use Rattle.rules.proofs.Lists.{first-in, same-name, decide-eq}
+use Rattle.rules.proofs.Lists.{first-in, same-name}
 use Rattle.leaves.specs.Answers.{whenTrue}
 use Rattle.leaves.specs.Sets.{inSet, Found}
 use Rattle.leaves.specs.Words.{kindOr0}
@@ -30,7 +28,7 @@ use Rattle.leaves.proofs.Search.{true-false, upTo-within, upTo-passed}
 use Rattle.tables.specs.Layout.{lines-at}
 use Rattle.tables.specs.Decode.{byteAt, halfAt}
 use Rattle.tables.specs.Stores.{putByte, putHalf, Kept}
-use Rattle.tables.proofs.Bytes.{Outside, put-half-length, put-half-byte, half-put, half-kept}
+use Rattle.tables.proofs.Bytes.{put-half-length, put-half-byte, half-put, half-kept}
 use Rattle.lines.specs.declared.Word.{Word}
 use Rattle.lines.specs.Cuts.{part, more}
 use Rattle.lines.specs.Rows.{formedKind}
