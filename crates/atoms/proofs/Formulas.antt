@@ -6,7 +6,7 @@ use Prim.Native.Nat.{ℕ, zero, suc, _+_, _≤_, _<_}
 use native.Mathlib.Omega.{arith}
 use lib.ListN.{length, getD, drop, length-append}
 use Rattle.rules.specs.Base.{Name, all}
-use Rattle.rules.specs.Limits.{most-atoms}
+use Rattle.rules.specs.Limits.{work-bytes, most-atoms}
 use Rattle.rules.specs.Syntax.{Atom, Formula}
 use Rattle.rules.specs.Text.{isAtom, atomOf, isFormula, formulaOf}
 use Rattle.rules.specs.Scope.{Declarations, Variable}
@@ -15,7 +15,7 @@ use Rattle.leaves.proofs.Search.{true-false}
 use Rattle.lines.specs.Cuts.{part, more, NextField, NextAtom}
 use Rattle.lines.proofs.Cuts.{no-more}
 use Rattle.lines.proofs.Formulas.{more-on, not-none, formula-full, atom-0, atom-1, atom-2, atom-3, atom-here}
-use Rattle.tables.specs.Layout.{names-at, values-at, most-atom-rows}
+use Rattle.tables.specs.Layout.{names-at, most-atom-rows}
 use Rattle.tables.specs.Stores.{Kept}
 use Rattle.declared.specs.declared.Names.{Names}
 use Rattle.declared.specs.Meanings.{declarationsIn, variablesIn}
@@ -89,7 +89,7 @@ module _
               subst (λ v. Building D v F i (n + 1) (φ ++ (resolveAtom (declarationsIn t w c) (variablesIn t w c) here ∷ []))) (sym e)
               (subst (λ y. Building D (putAtom w n (a .kind) (a .left) (a .right)) F i (n + 1) (φ ++ (y ∷ []))) (x .1 .is)
               (atom-written D w F i n φ (a .kind) (a .left) (a .right) l (x .1 .ok) b));
-          names = subst (Kept names-at values-at w) (sym e) (atom-names w n (a .kind) (a .left) (a .right) (k .whole) l (x .1 .ok));
+          names = subst (Kept names-at work-bytes w) (sym e) (atom-names w n (a .kind) (a .left) (a .right) (k .whole) l (x .1 .ok));
           size = ap length e ∙ atom-length w n (a .kind) (a .left) (a .right) (k .whole) l (x .1 .ok);
         }
 
@@ -120,7 +120,7 @@ pub record Writing (t v : List ℕ) (c : Names) (from first : ℕ) (w : List ℕ
   pub all : formulaAfter t v c from ≡ done ++ formulaAfter t v c r
   pub count : n ≡ first + length done
   pub built : (D : Declared) (F : Flat) → Holds.Holds D v F first → Building D w F first n done
-  pub names : Kept names-at values-at v w
+  pub names : Kept names-at work-bytes v w
   pub size : length w ≡ length v
 
 pub writing-first : {t v : List ℕ} {c : Names} {from first : ℕ} → FormulaFollows t v c from first → Writing t v c from first v from first
@@ -181,7 +181,7 @@ module _ {t v : List ℕ} {c : Names} {from first : ℕ} {w : List ℕ} {r n : �
   unfolding NextTried FormulaTried
   writing-bad u q y i =
       let z : (fitsAfter t w c r ≡ false) × (u ≡ w) = subst (NextTried t w c r n u) i y in
-      (x .fits ∙ (sym (same-fits r) ∙ z .0), subst (Kept names-at values-at v) (sym (z .1)) (x .names), ap length (z .1) ∙ x .size)
+      (x .fits ∙ (sym (same-fits r) ∙ z .0), subst (Kept names-at work-bytes v) (sym (z .1)) (x .names), ap length (z .1) ∙ x .size)
 
   module _ (tab : getD t r 0 ≡ 9) where
     pub writing-follows : AtomFollows t r

@@ -11,7 +11,7 @@ use Rattle.rules.specs.Text.{tab, isFormula, formulaOf}
 use Rattle.rules.specs.Scope.{Declarations, Variable}
 use Rattle.rules.specs.Items.{resolveAtom}
 use Rattle.lines.specs.Cuts.{more}
-use Rattle.tables.specs.Layout.{names-at, values-at, most-atom-rows}
+use Rattle.tables.specs.Layout.{names-at, most-atom-rows}
 use Rattle.tables.specs.Stores.{Kept}
 use Rattle.declared.specs.declared.Names.{Names}
 use Rattle.declared.specs.Meanings.{Fits, declarationsIn, variablesIn}
@@ -62,7 +62,7 @@ module _ (t w : List ℕ) (c : Names) where
     pub is : formulaAfter r ≡ atom ∷ formulaAfter e
     pub built :
         (D : Declared) (F : Flat) (a : ℕ) (φ : Formula ℕ) → Building D w F a n φ → Building D w′ F a (n + 1) (φ ++ (atom ∷ []))
-    pub names : Kept names-at values-at w w′
+    pub names : Kept names-at work-bytes w w′
     pub size : length w′ ≡ length w
 
   -- it is written just if it passes the tests
@@ -80,12 +80,12 @@ module _ (t w : List ℕ) (c : Names) where
   pub record FormulaPut (r n : ℕ) (w′ : List ℕ) (m : ℕ) : Type 0 where
     pub count : m ≡ n + length (formulaAfter r)
     pub built : (D : Declared) (F : Flat) → Holds D w F n → Building D w′ F n m (formulaAfter r)
-    pub names : Kept names-at values-at w w′
+    pub names : Kept names-at work-bytes w w′
     pub size : length w′ ≡ length w
 
   -- where some atom fails a test, no name is changed
   abbrev pub Unfit : (r : ℕ) (w′ : List ℕ) → Type 0
-  Unfit r w′ = (fitsAfter r ≡ false) × (Kept names-at values-at w w′) × (length w′ ≡ length w)
+  Unfit r w′ = (fitsAfter r ≡ false) × (Kept names-at work-bytes w w′) × (length w′ ≡ length w)
 
   -- it is written just if its atoms pass the tests
   unfoldable pub FormulaTried : (r n : ℕ) (w′ : List ℕ) → Put → Type 0

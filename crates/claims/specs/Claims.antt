@@ -5,9 +5,10 @@ use mathlib.Core.List.{List}
 use Prim.Native.Nat.{ℕ, suc, _+_, _-_}
 use lib.Dec.{eqb}
 use lib.ListN.{length}
+use Rattle.rules.specs.Limits.{work-bytes}
 use Rattle.rules.specs.Syntax.{Formula, Stmt, simple, assert, release, join}
 use Rattle.rules.specs.Items.{Item, aStatement}
-use Rattle.tables.specs.Layout.{names-at, values-at}
+use Rattle.tables.specs.Layout.{names-at}
 use Rattle.tables.specs.Decode.{atomsFrom}
 use Rattle.tables.specs.Stores.{Kept}
 use Rattle.declared.specs.declared.Names.{Names}
@@ -35,7 +36,7 @@ pub record ClaimPut (t w : List ℕ) (c : Names) (k r i n l : ℕ) (w′ : List 
       Holds D w′ (flatWith F l (aStatement (claimOf k (formulaAfter t w c r)))) m
   pub count : m ≡ n + length (formulaAfter t w c r)
   pub formula : (D : Declared) (F : Flat) → Holds D w F n → atomsFrom w′ n (m - n) ≡ formulaAfter t w c r
-  pub names : Kept names-at values-at w w′
+  pub names : Kept names-at work-bytes w w′
   pub size : length w′ ≡ length w
 
 -- The formula after r is written as the atoms from n up to e, and is what `item` makes of it in the last method, m.
@@ -45,7 +46,7 @@ pub record HeaderPut (item : Formula ℕ → Item) (t w : List ℕ) (c : Names) 
       Holds D w′ (flatWith F l (item (formulaAfter t w c r))) e
   pub count : e ≡ n + length (formulaAfter t w c r)
   pub formula : (D : Declared) (F : Flat) → Holds D w F n → atomsFrom w′ n (e - n) ≡ formulaAfter t w c r
-  pub names : Kept names-at values-at w w′
+  pub names : Kept names-at work-bytes w w′
   pub size : length w′ ≡ length w
 
 -- It is written just if its atoms pass the tests of 6 and 7.

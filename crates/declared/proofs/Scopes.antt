@@ -13,7 +13,7 @@ use Rattle.rules.specs.Limits.{most-classes, most-methods, most-locals, work-by
 use Rattle.rules.specs.Syntax.{this-variable, parameter, first-local, result-variable}
 use Rattle.rules.specs.Grammar.{Kind, isKind, Requires}
 use Rattle.rules.specs.Scope.{Variable, methodBlock, withLocal, visible}
-use Rattle.tables.specs.Layout.{most-names, names-at, values-at}
+use Rattle.tables.specs.Layout.{most-names, names-at}
 use Rattle.tables.specs.Stores.{Kept, SameTables}
 use Rattle.tables.proofs.Bytes.{same-trans}
 use Rattle.declared.specs.declared.Span.{Span}
@@ -69,7 +69,7 @@ module _ (t w w′ : List ℕ) where
       }
 
   -- A store outside the region of names leaves them all.
-  module _ (c : Names) (f : Fits c) (k : Kept names-at values-at w w′) where
+  module _ (c : Names) (f : Fits c) (k : Kept names-at work-bytes w w′) where
     pub names-kept : declarationsIn t w′ c ≡ declarationsIn t w c
     names-kept = declarations-kept c f (λ j p q. k j (omega arith) (omega arith))
 

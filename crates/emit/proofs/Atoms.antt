@@ -11,7 +11,7 @@ use Rattle.rules.specs.Limits.{work-bytes}
 use Rattle.rules.specs.Syntax.{Atom, Formula, Expr, num, var, path, acc, if}
 use Rattle.assembly.specs.Flat.{Flat}
 use Rattle.tables.specs.declared.Expr as Tables
-use Rattle.tables.specs.Layout.{names-at, values-at, most-atom-rows}
+use Rattle.tables.specs.Layout.{names-at, most-atom-rows}
 use Rattle.tables.specs.Decode.{byteAt, wordAt, exprAt, leftAt, rightAt, relOf, atomAt, atomsFrom, atomPlace, ifAt}
 use Rattle.tables.specs.Tables.{SideFits, AtomFits}
 use Rattle.tables.specs.Stores.{meaning, putWord, Kept}
@@ -158,8 +158,8 @@ module _
   unfolding putAtom atomBytes
   atom-kept b c o = put-kept w (atomPlace a) (atomBytes k l r) b c o
 
-  pub atom-names : Kept names-at values-at w (putAtom w a k l r)
-  atom-names = atom-kept names-at values-at (inr (omega arith))
+  pub atom-names : Kept names-at work-bytes w (putAtom w a k l r)
+  atom-names = atom-kept names-at work-bytes (inr (omega arith))
 
   pub atom-length : length (putAtom w a k l r) ≡ length w
   unfolding putAtom

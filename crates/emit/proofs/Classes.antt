@@ -12,7 +12,7 @@ use Rattle.rules.specs.Limits.{most-classes, most-fields, work-bytes}
 use Rattle.rules.specs.Syntax.{Field}
 use Rattle.rules.specs.Items.{aClass, aField}
 use Rattle.assembly.specs.Flat.{Flat, flatWith, onLast}
-use Rattle.tables.specs.Layout.{classes-at, places-at, atoms-at, names-at, values-at, most-names}
+use Rattle.tables.specs.Layout.{classes-at, places-at, atoms-at, names-at, most-names}
 use Rattle.tables.specs.Decode.{byteAt, atomPlace, classPlace, fieldCountAt, fieldNameAt, fieldAt, fieldsFrom, classAt}
 use Rattle.tables.specs.Tables.{ClassFits, placeAt}
 use Rattle.tables.specs.Stores.{Kept}
@@ -68,8 +68,8 @@ module _ (w : List ℕ) (c : ℕ) (size : length w ≡ work-bytes) (room : c < m
       kept-trans a b w counted (putClass w c) (put-kept w (classPlace c) (0 ∷ []) a b o)
       (put-kept counted (placesPlace c) (blank most-names) a b (rw (blank-length most-names) p))
 
-  pub class-names : Kept names-at values-at w (putClass w c)
-  class-names = class-kept names-at values-at (inr (omega arith)) (inr (omega arith))
+  pub class-names : Kept names-at work-bytes w (putClass w c)
+  class-names = class-kept names-at work-bytes (inr (omega arith)) (inr (omega arith))
 
   pub class-length : length (putClass w c) ≡ length w
   unfolding putClass counted
@@ -189,8 +189,8 @@ module _
   field-kept a b (inr o) (inl p) i l m = field-other i (inr (omega arith)) (inr (omega arith)) (inl (omega arith))
   field-kept a b (inr o) (inr p) i l m = field-other i (inr (omega arith)) (inr (omega arith)) (inr (omega arith))
 
-  pub field-names : Kept names-at values-at w (putFieldAt w c j name int)
-  field-names = field-kept names-at values-at (inr (omega arith)) (inr (omega arith))
+  pub field-names : Kept names-at work-bytes w (putFieldAt w c j name int)
+  field-names = field-kept names-at work-bytes (inr (omega arith)) (inr (omega arith))
 
   -- what is read
   count-read : fieldCountAt (putFieldAt w c j name int) c ≡ j + 1

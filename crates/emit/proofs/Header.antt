@@ -10,7 +10,7 @@ use Rattle.rules.specs.Limits.{work-bytes}
 use Rattle.rules.specs.Syntax.{Method}
 use Rattle.rules.specs.Items.{aMain, aLocal}
 use Rattle.assembly.specs.Flat.{Flat, flatWith, methodIn, assembled}
-use Rattle.tables.specs.Layout.{names-at, values-at}
+use Rattle.tables.specs.Layout.{names-at}
 use Rattle.tables.specs.Decode.{byteAt, halfAt, rowsFrom, allRows, rowCount, atomCount, classCount, methodCount, mainFirst, methodAt, methodsFrom, classesFrom, programIn}
 use Rattle.tables.specs.Tables.{Tables}
 use Rattle.tables.specs.Stores.{Kept}
@@ -69,8 +69,8 @@ module _ (w : List ℕ) (rows atoms classes methods main : ℕ) (size : length w
   unfolding putHeader headerBytes
   header-kept a b l = put-kept w 0 (headerBytes rows atoms classes methods main) a b (inr (omega arith))
 
-  pub header-names : Kept names-at values-at w (putHeader w rows atoms classes methods main)
-  header-names = header-kept names-at values-at (omega arith)
+  pub header-names : Kept names-at work-bytes w (putHeader w rows atoms classes methods main)
+  header-names = header-kept names-at work-bytes (omega arith)
 
   pub header-length : length (putHeader w rows atoms classes methods main) ≡ length w
   unfolding putHeader

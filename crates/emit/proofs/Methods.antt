@@ -10,7 +10,7 @@ use Rattle.rules.specs.Limits.{most-methods, most-atoms, work-bytes}
 use Rattle.rules.specs.Syntax.{Formula}
 use Rattle.rules.specs.Items.{aMethod, aRequires, anEnsures}
 use Rattle.assembly.specs.Flat.{Flat, FlatMethod, flatWith, onLast, withRequires, withEnsures}
-use Rattle.tables.specs.Layout.{methods-at, atoms-at, names-at, values-at}
+use Rattle.tables.specs.Layout.{methods-at, atoms-at, names-at}
 use Rattle.tables.specs.Decode.{byteAt, halfAt, atomsFrom, atomPlace, methodPlace, requiresAt, ensuresAt, firstRowAt}
 use Rattle.tables.specs.Stores.{Kept}
 use Rattle.emit.specs.Puts.{putBytes, methodBytes, putMethod, putRequires, putEnsures}
@@ -68,8 +68,8 @@ module _ (w : List ℕ) (m first : ℕ) (size : length w ≡ work-bytes) (room :
   unfolding putMethod methodBytes
   method-kept a b o = put-kept w (methodPlace m) (methodBytes first) a b o
 
-  pub method-names : Kept names-at values-at w (putMethod w m first)
-  method-names = method-kept names-at values-at (inr (omega arith))
+  pub method-names : Kept names-at work-bytes w (putMethod w m first)
+  method-names = method-kept names-at work-bytes (inr (omega arith))
 
   pub method-length : length (putMethod w m first) ≡ length w
   unfolding putMethod
@@ -263,10 +263,10 @@ pub ensures-written :
     length φ ≤ most-atoms → Building D w F a n φ → Holds D (putEnsures w m a (length φ)) (flatWith F l (anEnsures φ)) n
 ensures-written D w F a n φ m l last short b = with-ensures D w F a n φ m last short b l
 
-pub requires-names : (w : List ℕ) (m a n : ℕ) → m < most-methods → Kept names-at values-at w (putRequires w m a n)
+pub requires-names : (w : List ℕ) (m a n : ℕ) → m < most-methods → Kept names-at work-bytes w (putRequires w m a n)
 unfolding putRequires
-requires-names w m a n few = put-kept w (methodPlace m) _ names-at values-at (inr (omega arith))
+requires-names w m a n few = put-kept w (methodPlace m) _ names-at work-bytes (inr (omega arith))
 
-pub ensures-names : (w : List ℕ) (m a n : ℕ) → m < most-methods → Kept names-at values-at w (putEnsures w m a n)
+pub ensures-names : (w : List ℕ) (m a n : ℕ) → m < most-methods → Kept names-at work-bytes w (putEnsures w m a n)
 unfolding putEnsures
-ensures-names w m a n few = put-kept w (methodPlace m + 3) _ names-at values-at (inr (omega arith))
+ensures-names w m a n few = put-kept w (methodPlace m + 3) _ names-at work-bytes (inr (omega arith))

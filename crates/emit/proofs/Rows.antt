@@ -12,7 +12,7 @@ use Rattle.rules.specs.Syntax.{Formula, Expr, Stmt, Row}
 use Rattle.rules.specs.Syntax.{set, assign, new, call, return, assert, release, simple, else, join, end}
 use Rattle.rules.specs.Items.{aStatement}
 use Rattle.assembly.specs.Flat.{Flat, flatWith}
-use Rattle.tables.specs.Layout.{names-at, values-at, most-atom-rows}
+use Rattle.tables.specs.Layout.{names-at, most-atom-rows}
 use Rattle.tables.specs.Decode.{byteAt, halfAt, rightAt, ifAt, rowPlace, rowAt, targetAt}
 use Rattle.tables.specs.Stores.{Kept}
 use Rattle.tables.proofs.Bytes.{half-kept}
@@ -53,8 +53,8 @@ module _ (w : List ℕ) (i : ℕ) (r : Operands) (size : length w ≡ work-bytes
   unfolding putRow rowBytes
   row-kept a b o = put-kept w (rowPlace i) (rowBytes r) a b o
 
-  pub row-names : Kept names-at values-at w (putRow w i r)
-  row-names = row-kept names-at values-at (inr (omega arith))
+  pub row-names : Kept names-at work-bytes w (putRow w i r)
+  row-names = row-kept names-at work-bytes (inr (omega arith))
 
   pub row-length : length (putRow w i r) ≡ length w
   unfolding putRow
@@ -215,8 +215,8 @@ module _ (w : List ℕ) (i t : ℕ) (size : length w ≡ work-bytes) (room : i <
   target-other j (inr l) =
       half-kept (rowPlace j) (rowPlace j + 12) w (putTarget w i t) (target-kept _ _ (inr (omega arith))) (rowPlace j + 10) (omega arith) (omega arith)
 
-  pub target-names : Kept names-at values-at w (putTarget w i t)
-  target-names = target-kept names-at values-at (inr (omega arith))
+  pub target-names : Kept names-at work-bytes w (putTarget w i t)
+  target-names = target-kept names-at work-bytes (inr (omega arith))
 
   pub target-length : length (putTarget w i t) ≡ length w
   unfolding putTarget

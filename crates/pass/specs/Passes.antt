@@ -16,7 +16,7 @@ use Rattle.rules.specs.Items.{Item, itemOf, aClass, aField, aMethod, aRequires,
 use Rattle.rules.specs.Reading.{framedItem}
 use Rattle.lines.specs.Cuts.{more}
 use Rattle.lines.specs.Rows.{kindNumbered}
-use Rattle.tables.specs.Layout.{most-atom-rows, names-at, values-at}
+use Rattle.tables.specs.Layout.{most-atom-rows, names-at}
 use Rattle.tables.specs.Decode.{atomsFrom}
 use Rattle.tables.specs.Stores.{Kept}
 use Rattle.declared.specs.declared.Names.{Names}
@@ -217,7 +217,7 @@ pub record LinePut (t w : List ℕ) (p : Pass) (l : Line) (w′ : List ℕ) (q :
 -- a line that is not good leaves no name changed
 pub record BadLine (t w : List ℕ) (p : Pass) (l : Line) (w′ : List ℕ) : Type 0 where
   pub bad : isGoodHere t w p l ≡ false
-  pub names : Kept names-at values-at w w′
+  pub names : Kept names-at work-bytes w w′
   pub size : length w′ ≡ length w
 
 -- a line is put in the tables just if it is good

@@ -14,7 +14,7 @@ use Rattle.rules.specs.Names.{isLocal, inScope, isInt, isClass, knownMethod, va
 use Rattle.rules.specs.Items.{itemOf}
 use Rattle.lines.specs.Cuts.{more}
 use Rattle.lines.specs.Rows.{kindNumbered}
-use Rattle.tables.specs.Layout.{names-at, values-at}
+use Rattle.tables.specs.Layout.{names-at}
 use Rattle.tables.specs.Stores.{Kept}
 use Rattle.declared.specs.declared.Names.{Names}
 use Rattle.declared.specs.Meanings.{Fits, declarationsIn, variablesIn}
@@ -129,7 +129,7 @@ pub record PlainPut (t w : List ℕ) (c : Names) (k r i l : ℕ) (w′ : List �
   pub built :
       (F : Flat) (n : ℕ) → length (F .rows) ≡ i → Holds (counts c) w F n →
       Holds (counts c) w′ (flatWith F l (itemOf (declarationsIn t w c) (variablesIn t w c) (kindNumbered k) (lineAfter t r k))) n
-  pub names : Kept names-at values-at w w′
+  pub names : Kept names-at work-bytes w w′
   pub size : length w′ ≡ length w
 
 -- it is written just if it is good, whatever the scope
