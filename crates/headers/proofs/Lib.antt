@@ -1,3 +1,4 @@
 pub mod Scopes
 pub mod Fields
 pub mod Lines
+pub mod Goods

@@ -419,7 +419,7 @@ pub at-end :
     {t w : List ℕ} {p : Pass} {l : Line} {w′ u : List ℕ} {q v : Pass} → u ≡ w′ → v ≡ q → DeclarationPut t w p l w′ q → DeclarationPut t w p l u v
 at-end {t} {w} {p} {l} {w′} {u} {q} {v} e f x = subst (λ z. DeclarationPut t w p l z v) (sym e) (subst (DeclarationPut t w p l w′) (sym f) x)
 
-line-is : {ws : List Name} {n : ℕ} (k : Kind) → n ≡ kindNumber k → lineWith (kindNumbered n) ws ≡ lineWith k ws
+pub line-is : {ws : List Name} {n : ℕ} (k : Kind) → n ≡ kindNumber k → lineWith (kindNumbered n) ws ≡ lineWith k ws
 line-is {ws} k e = ap (λ k. lineWith k ws) (ap kindNumbered e ∙ kind-of-number k)
 
 module _ {t w : List ℕ} {p : Pass} {ws : List Name} {n : ℕ} (k : Kind) (e : n ≡ kindNumber k) where
@@ -432,6 +432,6 @@ module _ {t w : List ℕ} {p : Pass} {ws : List Name} {n : ℕ} (k : Kind) (e : 
   pub put-as : {u : List ℕ} {q : Pass} → DeclarationPut t w p (lineWith k ws) u q → DeclarationPut t w p (lineWith (kindNumbered n) ws) u q
   put-as {u} {q} x = subst (λ l. DeclarationPut t w p l u q) (sym (line-is k e)) x
 
-pub last-kind : (n : ℕ) → isDeclaration n ≡ true → (n ≡ 1 → ⊥) → (n ≡ 2 → ⊥) → (n ≡ 3 → ⊥) → (n ≡ 6 → ⊥) → n ≡ 7
+pub last-kind : (n : ℕ) → isDeclaration n ≡ true → (n ≡ 1 → ⊥) → (n ≡ 2 → ⊥) → (n ≡ 3 → ⊥) → n ≡ 6
 unfolding isDeclaration
-last-kind n e a b c d = eqb-true n 7 (rw (ne-eqb n 1 a, ne-eqb n 2 b, ne-eqb n 3 c, ne-eqb n 6 d) at e)
+last-kind n e a b c = eqb-true n 6 (rw (ne-eqb n 1 a, ne-eqb n 2 b, ne-eqb n 3 c) at e)

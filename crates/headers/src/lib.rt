@@ -3,6 +3,7 @@ use declared::Names;
 use declared::Range;
 use declared::Span;
 use pass::Pass;
+use pass::Tried;
 use tables::Layout;
 ghost use mathlib.Core.Path.{_≡_};
 ghost use mathlib.Core.Bool.{true};
@@ -10,13 +11,13 @@ ghost use mathlib.Core.List.{[]};
 ghost use Prim.Native.Nat.{_+_, _≤_, _<_};
 ghost use lib.ListN.{length, getD, drop};
 ghost use Rattle.rules.specs.Limits.{work-bytes, most-bytes, most-classes};
-ghost use Rattle.rules.specs.Grammar.{Class, Field, Method, Var};
+ghost use Rattle.rules.specs.Grammar.{Class, Field, Method, Var, form, isFormed};
 ghost use Rattle.lines.specs.Cuts.{more};
 ghost use Rattle.declared.specs.Rows.{nameIn, nameAt, most-rows, SpanFits};
 ghost use Rattle.declared.specs.Meanings.{AboveFits};
 ghost use Rattle.declare.specs.Declares.{lineWith};
 ghost use Rattle.emit.specs.Puts.{putClass};
-ghost use Rattle.pass.specs.Passes.{Ready, Tested, Room, oneMore, withBlock, aboveAfter, lineAfter};
+ghost use Rattle.pass.specs.Passes.{Ready, Tested, Room, oneMore, withBlock, aboveAfter, lineAfter, LineTried};
 ghost use Rattle.headers.specs.Headers.{isDeclaration, Held, moved, DeclarationPut};
 
 const ROW_BYTES: usize = 10;
@@ -192,20 +193,7 @@ fn put_main(p: Pass) -> Pass
     moved(p, names, above, p.rows)
 }
 
-// `var T x`: one more local.
-fn put_var(text: &[u8], work: &mut [u8], p: Pass, r: usize) -> Pass
-    requires { ⌜ Ready (now text) (now work) p × (r ≤ length (now text)) × Tested (now text) (now work) p (lineWith Var (more (drop r (now text)))) × Room (now text) (now work) p (lineWith Var (more (drop r (now text)))) ⌝ }
-    ensures { λ q. ⌜ DeclarationPut (now (text .entry)) (now (work .entry)) p (lineWith Var (more (drop r (now (text .entry))))) (now (work .exit)) q ⌝ }
-{
-    let names = p.names;
-    let above = p.above;
-    let gives = declare::span_after(text, r);
-    let name = declare::span_after(text, gives.start + gives.len);
-    let grown = declared::put_local(work, names, name, gives);
-    moved(p, grown, above, p.main)
-}
-
-// Puts the line of this kind (1 `class`, 2 `field`, 3 `method`, 6 `main`, 7 `var`) whose word ends at r.
+// Puts the line of this kind (1 `class`, 2 `field`, 3 `method`, 6 `main`) whose word ends at r.
 pub fn put_declaration(text: &[u8], work: &mut [u8], p: Pass, kind: u8, r: usize) -> Pass
     requires { ⌜ Ready (now text) (now work) p × (r ≤ length (now text)) × (isDeclaration kind ≡ true) × Tested (now text) (now work) p (lineAfter (now text) r kind) × Room (now text) (now work) p (lineAfter (now text) r kind) × Held (now work) p ⌝ }
     ensures { λ q. ⌜ DeclarationPut (now (text .entry)) (now (work .entry)) p (lineAfter (now (text .entry)) r kind) (now (work .exit)) q ⌝ }
@@ -214,7 +202,22 @@ pub fn put_declaration(text: &[u8], work: &mut [u8], p: Pass, kind: u8, r: usize
         1 => put_class(work, p),
         2 => put_field(text, work, p, r),
         3 => put_method(text, work, p, r),
-        6 => put_main(p),
-        _ => put_var(text, work, p, r),
+        _ => put_main(p),
     }
+}
+
+// `var T x` (kind 7), whose word ends at r: one more local, if T is a type and x a new name.
+pub fn put_var(text: &[u8], work: &mut [u8], p: Pass, r: usize) -> Tried
+    requires { ⌜ Ready (now text) (now work) p × (r ≤ length (now text)) × (isFormed (form Var .operands) (form Var .tail) (more (drop r (now text))) ≡ true) × Room (now text) (now work) p (lineAfter (now text) r 7) ⌝ }
+    ensures { λ q. ⌜ LineTried (now (text .entry)) (now (work .entry)) p (lineAfter (now (text .entry)) r 7) (now (work .exit)) q ⌝ }
+{
+    let names = p.names;
+    let above = p.above;
+    let gives = declare::span_after(text, r);
+    let name = declare::span_after(text, gives.start + gives.len);
+    if !declared::may_declare(text, work, names, name, gives) {
+        return Tried::Bad;
+    }
+    let grown = declared::put_local(work, names, name, gives);
+    Tried::On(moved(p, grown, above, p.main))
 }

@@ -2,7 +2,7 @@
 use mathlib.Core.Path.{refl}
 use native.Mathlib.Omega.{arith}
 use lib.ListN.{drop}
-use Rattle.rules.specs.Grammar.{Class, Field, Method, Main, Var, kindNumber, isKind}
+use Rattle.rules.specs.Grammar.{Class, Field, Method, Main, kindNumber, isKind}
 use Rattle.lines.specs.Cuts.{more}
 use Rattle.pass.specs.Passes.{namesAfter, aboveAfter}
 use Rattle.headers.proofs.Lines.{class-line, main-line, at-end, tested-as, room-as, put-as, last-kind}
@@ -38,15 +38,6 @@ put-method-requires c κs =
 put-main-requires : tie.Need-put-main-requires
 put-main-requires c κs = search needs
 
-put-var-requires : tie.Need-put-var-requires
-unfolding kindNumber
-put-var-requires c κs =
-    let p = c .before .before .before .before .pre in
-    let v = c .before .before .before .before .args in
-    let o = c .before .match .rest in
-    let e = last-kind (v .kind) (p .2) (o .0 .0 .0 .1) (o .0 .0 .1) (o .0 .1) (o .1) in
-    (p .0, p .1, tested-as Var e (p .3), room-as Var e (p .4))
-
 same-length : tie.Need-same-length
 same-length c = search needs
 
@@ -80,20 +71,10 @@ unfolding kindNumber isKind namesAfter aboveAfter
 returns-4 c =
     let p = c .before .before .before .before .pre in
     let v = c .before .before .before .before .args in
-    put-as Main (c .before .match .keys4)
+    let o = c .before .match .rest in
+    let e = last-kind (v .kind) (p .2) (o .0 .0 .1) (o .0 .1) (o .1) in
+    put-as Main e
     (at-end refl (c .put-main .ensures) (main-line (v .text .now) (v .work .now) (v .p) (more (drop (v .r) (v .text .now)))))
-
-same-length-4 : tie.Need-same-length-4
-same-length-4 c = search needs
-
-returns-5 : tie.Need-returns-5
-unfolding kindNumber
-returns-5 c =
-    let p = c .before .before .before .before .before .before .before .pre in
-    let v = c .before .before .before .before .before .before .before .args in
-    let o = c .before .before .before .before .match .rest in
-    let e = last-kind (v .kind) (p .2) (o .0 .0 .0 .1) (o .0 .0 .1) (o .0 .1) (o .1) in
-    put-as Var e (c .before .before .put-var .ensures)
 
 pub put-declaration-spec : {M : Type 1} → statement M
 put-declaration-spec =
@@ -103,13 +84,10 @@ put-declaration-spec =
     put-field-requires
     put-method-requires
     put-main-requires
-    put-var-requires
     same-length
     returns
     same-length-2
     returns-2
     same-length-3
     returns-3
-    returns-4
-    same-length-4
-    returns-5)
+    returns-4)
