@@ -2,7 +2,7 @@
 use mathlib.Core.Path.{_≡_, refl, sym, ap, subst, _∙_}
 use mathlib.Core.Bool.{Bool, true, false, not, cond, _&&_}
 use mathlib.Core.List.{List, [], _∷_, _++_, map}
-use mathlib.Core.Logic.{inl}
+use mathlib.Core.Logic.{inl, inr}
 use Prim.Native.Nat.{ℕ, suc, pred, _+_, _-_, _<_}
 use native.Mathlib.Omega.{arith}
 use native.Mathlib.Nat.{zero-add}
@@ -27,7 +27,7 @@ use Rattle.leaves.proofs.Search.{both-true, true-false}
 use Rattle.lines.specs.Cuts.{more}
 use Rattle.lines.specs.Rows.{kindNumbered}
 use Rattle.lines.proofs.Rows.{kind-of-number}
-use Rattle.tables.specs.Layout.{most-names}
+use Rattle.tables.specs.Layout.{most-names, lines-at}
 use Rattle.tables.specs.Decode.{fieldCountAt}
 use Rattle.tables.specs.Stores.{Kept}
 use Rattle.declared.specs.declared.Span.{Span}
@@ -87,9 +87,9 @@ module _ (t w : List ℕ) (p : Pass) (l : Line) (w′ : List ℕ) where
       ((F : Flat) → Stands t w p F → Grown (flatWith F (suc (p .line)) (item t w p l))) →
       declarationsIn t w′ (namesAfter (l .kind) (p .names)) ≡ declarationsIn t w (p .names) →
       scopeIn t w′ (namesAfter (l .kind) (p .names)) (aboveAfter (l .kind) (p .above)) ≡ scopeAfter (scopeIn t w (p .names) (p .above)) l →
-      length w′ ≡ length w → DeclarationPut t w p l w′ (next (l .kind) p)
+      Kept lines-at work-bytes w w′ → length w′ ≡ length w → DeclarationPut t w p l w′ (next (l .kind) p)
   unfolding oneMoreIf
-  declaration-put a b n g d s z =
+  declaration-put a b n g d s k z =
       record {
         put =
             record {
@@ -108,6 +108,7 @@ module _ (t w : List ℕ) (p : Pass) (l : Line) (w′ : List ℕ) where
               formula = λ e. true-false (sym e ∙ b);
               declared = d;
               scope = s;
+              lines = k;
               size = z;
             };
         unframed = refl;
@@ -145,6 +146,7 @@ class-line t w p ws r m =
     (names-kept t w (putClass w c) (p .names) (r .names) keep)
     (scope-kept t w (putClass w c) (p .names) (r .names) keep (aboveAfter Class (p .above)) fits
     ∙ class-scope t w (p .names) (p .above) ws (x .1))
+    (λ j a b. keep j (omega (arith, a)) b)
     (class-length w c (r .whole) few)
 
 -- `main`
@@ -162,7 +164,7 @@ main-line t w p ws =
       main = s .rows;
       fields = s .fields;
     })
-    refl refl refl
+    refl refl (λ j a b. refl) refl
 
 -- WHERE THE TABLES STAND
 map-length : {A B : Type 0} (f : A → B) (l : List A) → length (map f l) ≡ length l
@@ -266,6 +268,7 @@ module _ (t w : List ℕ) (p : Pass) (ws : List Name) (k : ℕ) (r : Ready t w p
       })
       (names-kept t w put (p .names) (r .names) keep)
       (scope-kept t w put (p .names) (r .names) keep (aboveAfter Field (p .above)) fits ∙ field-scope t w (p .names) (p .above) ws (room .1 .1))
+      (λ j a b. keep j (omega (arith, a)) b)
       (field-length w k j name int (r .whole) (few .0) (few .1 .1) (few .1 .0))
 
 -- NAMES OF VARIABLES
@@ -301,6 +304,11 @@ block-rows :
 unfolding putBlock
 block-rows w k s m j p q =
     row-other _ _ _ j (inl (omega arith)) ∙ (row-other _ _ _ j (inl (omega arith)) ∙ row-other w _ _ j (inl (omega arith)))
+
+block-lines : (w : List ℕ) (k s : Span) (m : Row) → Kept lines-at work-bytes w (putBlock w k m s)
+unfolding putBlock
+block-lines w k s m j p q =
+    row-other _ _ _ j (inr (omega (arith, p))) ∙ (row-other _ _ _ j (inr (omega (arith, p))) ∙ row-other w _ _ j (inr (omega (arith, p))))
 
 module _
     (t w : List ℕ) (p : Pass) (ws : List Name) (i : ℕ) (k s : Span) (n : Row) (r : Ready t w p) (m : Room t w p (lineWith Method ws))
@@ -371,6 +379,7 @@ module _
       ∙ names-kept t w with-row c fits (method-names w (after (p .above .methods)) (p .rows) (r .whole) few-methods))
       (block-alone t w (putBlock with-row k n s) (p .names) c (aboveAfter Method (p .above)) above kept
       ∙ method-scope t w (p .names) (p .above) ws (room .1 .1) _ the-block)
+      (λ j a b. block-lines with-row k s n j a b ∙ method-names w (after (p .above .methods)) (p .rows) (r .whole) few-methods j (omega (arith, a)) b)
       (block-tables t with-row c k s n whole fk fs (row .fits) .size
       ∙ method-length w (after (p .above .methods)) (p .rows) (r .whole) few-methods)
 
@@ -410,6 +419,7 @@ var-line t w p ws s g r m type name fs fg =
     (variable-row t w c fits i (variableRow s g) (omega arith))
     (block-alone t w u (p .names) c (p .above) (r .above) (λ j a b. row-other w i (variableRow s g) j (inl (omega arith)))
     ∙ (λ j. record { classes = scopeIn t w (p .names) (p .above) .classes; members = scopeIn t w (p .names) (p .above) .members; block = block j }))
+    (λ j a b. row-other w i (variableRow s g) j (inr (omega (arith, a, few))))
     (row-length w i (variableRow s g))
 
 -- BY THE NUMBER OF THE KIND

@@ -16,7 +16,7 @@ use Rattle.rules.specs.Items.{Item, itemOf, aClass, aField, aMethod, aRequires,
 use Rattle.rules.specs.Reading.{framedItem}
 use Rattle.lines.specs.Cuts.{more}
 use Rattle.lines.specs.Rows.{kindNumbered}
-use Rattle.tables.specs.Layout.{most-atom-rows, names-at}
+use Rattle.tables.specs.Layout.{most-atom-rows, names-at, lines-at}
 use Rattle.tables.specs.Decode.{atomsFrom}
 use Rattle.tables.specs.Stores.{Kept}
 use Rattle.declared.specs.declared.Names.{Names}
@@ -212,6 +212,7 @@ pub record LinePut (t w : List ℕ) (p : Pass) (l : Line) (w′ : List ℕ) (q :
       atomsFrom w′ (p .atoms) (q .atoms - p .atoms) ≡ framedFormula (item t w p l)
   pub declared : declarationsIn t w′ (q .names) ≡ declarationsIn t w (p .names)
   pub scope : scopeIn t w′ (q .names) (q .above) ≡ scopeAfter (scopeIn t w (p .names) (p .above)) l
+  pub lines : Kept lines-at work-bytes w w′
   pub size : length w′ ≡ length w
 
 -- a line that is not good leaves no name changed
