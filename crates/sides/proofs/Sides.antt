@@ -11,7 +11,7 @@ use lib.ListN.{length, getD, drop}
 use borrow.Author.Tests.{eqb-true, ne-eqb}
 use Rattle.rules.specs.Base as Base
 use Rattle.rules.specs.Base.{Name}
-use Rattle.rules.specs.Limits.{most-statements}
+use Rattle.rules.specs.Limits.{work-bytes, most-statements}
 use Rattle.rules.specs.Syntax.{Rel, Expr, Atom, Stmt, acc, cmp, simple, assign, if, end}
 use Rattle.rules.specs.Text.{isName, isExpr, exprOf, relOf, isRel, isAtom, atomOf, isFormula, isCondition, formulaOf}
 use Rattle.rules.specs.Grammar as Grammar
@@ -27,7 +27,7 @@ use Rattle.leaves.proofs.Search.{both-true, true-false, between-true}
 use Rattle.leaves.proofs.Words.{acc-is, rel-is}
 use Rattle.lines.specs.Cuts.{more}
 use Rattle.tables.specs.declared.Expr as Tables
-use Rattle.tables.specs.Layout.{frame-variables, most-atom-rows, names-at, values-at}
+use Rattle.tables.specs.Layout.{frame-variables, most-atom-rows, names-at}
 use Rattle.tables.specs.Decode as Decode
 use Rattle.tables.specs.Decode.{byteAt}
 use Rattle.tables.specs.Stores.{Kept, meaning}
@@ -196,7 +196,7 @@ module _ (t w : List ℕ) (c : Counts.Names) (r i n l : ℕ) (ready : Ready t w 
     size-first : length u ≡ length w
     size-first = ap length e ∙ atom-length w n a p q (ready .whole) room atom
 
-    names-kept : Kept names-at values-at w v
+    names-kept : Kept names-at work-bytes w v
     names-kept j b d =
         ap (λ z. byteAt z j) f
         ∙ (row-names u i (oneRow k x n l) (size-first ∙ ready .whole) few j b d

@@ -5,6 +5,7 @@ use mathlib.Core.List.{List, []}
 use mathlib.Core.Option.{some}
 use Prim.Native.Nat.{ℕ, _+_, _≤_, _<_}
 use lib.ListN.{length, getD, drop}
+use Rattle.rules.specs.Limits.{work-bytes}
 use Rattle.rules.specs.Base.{Name}
 use Rattle.rules.specs.Text.{exprOf}
 use Rattle.rules.specs.Grammar.{Kind, form, isFormed}
@@ -12,7 +13,7 @@ use Rattle.rules.specs.Scope.{Declarations, Variable, Scope}
 use Rattle.rules.specs.Names.{isLocal, agree, variableNumber, variableType, exprType}
 use Rattle.rules.specs.Items.{itemOf}
 use Rattle.lines.specs.Cuts.{more}
-use Rattle.tables.specs.Layout.{most-atom-rows, names-at, values-at}
+use Rattle.tables.specs.Layout.{most-atom-rows, names-at}
 use Rattle.tables.specs.Stores.{Kept}
 use Rattle.declared.specs.declared.Names.{Names}
 use Rattle.declared.specs.Meanings.{declarationsIn, variablesIn}
@@ -48,7 +49,7 @@ module _ (k : Kind) (t w : List ℕ) (c : Names) (r : ℕ) where
     pub built :
         (D : Declared) (F : Flat) → length (F .rows) ≡ i → Holds D w F n →
         Holds D w′ (flatWith F l (itemOf (declarationsIn t w c) (variablesIn t w c) k (lineWith k (more (drop r t))))) m
-    pub names : Kept names-at values-at w w′
+    pub names : Kept names-at work-bytes w w′
     pub size : length w′ ≡ length w
 
   -- it is written just if it is good, whatever the scope
@@ -57,4 +58,4 @@ module _ (k : Kind) (t w : List ℕ) (c : Names) (r : ℕ) where
       ((s : Scope) → isGood (declarationsIn t w c) (variablesIn t w c) s (lineWith k (more (drop r t))) ≡ true) × SidePut i n l w′ m
   SideTried i n l w′ Put.Bad =
       ((s : Scope) → isGood (declarationsIn t w c) (variablesIn t w c) s (lineWith k (more (drop r t))) ≡ false)
-      × (Kept names-at values-at w w′) × (length w′ ≡ length w)
+      × (Kept names-at work-bytes w w′) × (length w′ ≡ length w)
