@@ -13,9 +13,7 @@ ghost use Rattle.rules.specs.Limits.{work-bytes, most-classes, most-methods, mo
 ghost use Rattle.rules.specs.Text.{reserved, isExpr, exprOf};
 ghost use Rattle.rules.specs.Grammar.{isOperand};
 ghost use Rattle.rules.specs.Names.{agree, classNumber, isClass, isType, isFieldOf, fieldType, fieldNumber, methodNumber, noField, noDeclaration, inScope, variableType, isInt, known, knownExpr, ofClass, ofClassIn, exprType, mayBeAssigned};
-ghost use Rattle.rules.specs.Items.{resolveExpr};
 ghost use Rattle.tables.specs.Layout.{most-names};
-ghost use Rattle.tables.specs.Stores.{meaning};
 ghost use Rattle.declared.specs.Rows.{rows, most-rows, nameIn, spanAt, ownerAt, nameAt, givesAt, takesAt, entryAt, isEntry, any-owner, SpanFits, RowFits, putSpan, putRow, classes-first, fields-first, methods-first, variables-first};
 ghost use Rattle.declared.specs.Meanings.{Fits, AboveFits, namesFrom, declarationsIn, variablesIn, blockIn, scopeIn, noSpan, classRow, fieldRow, variableRow, moreClasses, moreFields, moreMethods, moreLocals, putBlock};
 ghost use Rattle.declared.specs.Answers.{typeOf, ownIn, isIntType, Looked, isNew, fieldKnown, methodKnown, typeMeant, operandMeant, mayName, MemberIs, LookIs};
@@ -702,36 +700,6 @@ pub fn expr_type(text: &[u8], work: &[u8], c: Names, w: &[u8]) -> ExprType
             path_type(text, work, c, &w[..d], &w[f..])
         }
         leaves::Expr::NoExpr => ExprType::Null,
-    }
-}
-
-// A path by the numbers of its variable and of its field's name.
-pub fn resolve_path(text: &[u8], work: &[u8], c: Names, x: &[u8], f: &[u8]) -> Expr
-    requires { ⌜ (length (now work) ≡ work-bytes) × Fits c ⌝ }
-    ensures { λ r. ⌜ meaning r ≡ resolveExpr (declarationsIn (now (text .entry)) (now (work .entry)) c) (variablesIn (now (text .entry)) (now (work .entry)) c) (path (now (x .entry)) (now (f .entry))) ⌝ }
-{
-    let v = variable(text, work, c, x);
-    let n = field_number(text, work, c, f);
-    Expr::Path(v, n)
-}
-
-pub fn resolve_expr(text: &[u8], work: &[u8], c: Names, w: &[u8]) -> Expr
-    requires { ⌜ (length (now work) ≡ work-bytes) × Fits c × (isExpr (now w) ≡ true) ⌝ }
-    ensures { λ r. ⌜ meaning r ≡ resolveExpr (declarationsIn (now (text .entry)) (now (work .entry)) c) (variablesIn (now (text .entry)) (now (work .entry)) c) (exprOf (now (w .entry))) ⌝ }
-{
-    let e = leaves::known_expr(w);
-    match e {
-        leaves::Expr::Num(n) => Expr::Num(n),
-        leaves::Expr::Null => Expr::Null,
-        leaves::Expr::Var => {
-            let v = variable(text, work, c, w);
-            Expr::Var(v)
-        }
-        leaves::Expr::Path(d) => {
-            let f = d + 1;
-            resolve_path(text, work, c, &w[..d], &w[f..])
-        }
-        leaves::Expr::NoExpr => Expr::Null,
     }
 }
 
