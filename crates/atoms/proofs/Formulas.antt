@@ -1,6 +1,6 @@
 -- A formula as the cursor passes it: three fields are an atom, and what is written grows with it.
 use mathlib.Core.Path.{_≡_, refl, sym, ap, ap₂, subst, _∙_}
-use mathlib.Core.Bool.{Bool, true, false}
+use mathlib.Core.Bool.{Bool, true, false, _&&_}
 use mathlib.Core.List.{List, [], _∷_, _++_, map, append-nil, append-assoc}
 use Prim.Native.Nat.{ℕ, zero, suc, _+_, _≤_, _<_}
 use native.Mathlib.Omega.{arith}
@@ -9,8 +9,9 @@ use Rattle.rules.specs.Base.{Name, all}
 use Rattle.rules.specs.Limits.{most-atoms}
 use Rattle.rules.specs.Syntax.{Atom, Formula}
 use Rattle.rules.specs.Text.{isAtom, atomOf, isFormula, formulaOf}
+use Rattle.rules.specs.Scope.{Declarations, Variable}
 use Rattle.rules.specs.Items.{resolveAtom}
-use Rattle.leaves.proofs.Search.{both-true, true-false}
+use Rattle.leaves.proofs.Search.{true-false}
 use Rattle.lines.specs.Cuts.{part, more, NextField, NextAtom}
 use Rattle.lines.proofs.Cuts.{no-more}
 use Rattle.lines.proofs.Formulas.{more-on, not-none, formula-full, atom-0, atom-1, atom-2, atom-3, atom-here}
@@ -22,11 +23,13 @@ use Rattle.declared.proofs.Scopes.{names-kept, variables-kept}
 use Rattle.assembly.specs.Flat.{Flat}
 use Rattle.emit.specs.Puts.{putAtom}
 use Rattle.emit.specs.Holds as Holds
-use Rattle.emit.specs.Holds.{Declared, Building}
+use Rattle.emit.specs.Holds.{Declared, AtomOk, Building}
 use Rattle.emit.proofs.Atoms.{atom-names, atom-length, building, atom-written}
 use Rattle.atoms.specs.declared.AtomRow.{AtomRow}
-use Rattle.atoms.specs.Good.{goodAtom}
-use Rattle.atoms.specs.Written.{Resolved, formulaAfter, goodAfter, Ready, AtomFollows, AtomPut, FormulaFollows, FormulaPut}
+use Rattle.atoms.specs.declared.Tried.{Tried}
+use Rattle.atoms.specs.declared.Put.{Put}
+use Rattle.atoms.specs.Good.{fitsAtom}
+use Rattle.atoms.specs.Written.{Resolved, AtomTried, formulaAfter, fitsAfter, Ready, AtomFollows, AtomPut, NextTried, FormulaFollows, FormulaTried}
 
 -- THREE FIELDS
 module _
@@ -61,36 +64,49 @@ module _
   pub next-form : (n : ℕ) → isFormula (suc n) (more (drop r t)) ≡ isFormula n (more (drop z t))
   next-form n = atom-here f some-1 g some-2 h some-3 is-atom .some (omega (arith, f .low, g .low, h .low, some-1)) n
 
-  module _ (w : List ℕ) (c : Names) (good : goodAfter t w c r ≡ true) where
-    goods : (goodAtom (declarationsIn t w c) (variablesIn t w c) here ≡ true) × (goodAfter t w c z ≡ true)
-    unfolding goodAfter all
-    goods =
-        both-true _ _
-        (subst (λ φ. all (goodAtom (declarationsIn t w c) (variablesIn t w c)) φ ≡ true) formula-cut good)
+  module _ (w : List ℕ) (c : Names) where
+    fits-cut :
+        fitsAfter t w c r ≡ (fitsAtom (declarationsIn t w c) (variablesIn t w c) here && fitsAfter t w c z)
+    unfolding fitsAfter all
+    fits-cut = ap (all (fitsAtom (declarationsIn t w c) (variablesIn t w c))) formula-cut
 
-    pub good-atom : goodAtom (declarationsIn t w c) (variablesIn t w c) here ≡ true
-    good-atom = goods .0
-
-    pub put-is :
-        (k : Ready t w c) (n : ℕ) (a : AtomRow) (u : List ℕ) → n < most-atom-rows →
-        Resolved (declarationsIn t w c) (variablesIn t w c) here a → u ≡ putAtom w n (a .kind) (a .left) (a .right) →
-        AtomPut t w c r n u z
-    unfolding formulaAfter
-    put-is k n a u l x e =
+    pub next-put :
+        (k : Ready t w c) (n : ℕ) (q : Tried) (a : AtomRow) (u : List ℕ) → n < most-atom-rows →
+        AtomTried (declarationsIn t w c) (variablesIn t w c) here q → q ≡ Tried.Row a → u ≡ putAtom w n (a .kind) (a .left) (a .right) →
+        NextTried t w c r n u (Put.Done z)
+    unfolding formulaAfter NextTried AtomTried
+    next-put k n q a u l y i e =
+        let x : (fitsAtom (declarationsIn t w c) (variablesIn t w c) here ≡ true) × Resolved (declarationsIn t w c) (variablesIn t w c) here a =
+        subst (AtomTried (declarationsIn t w c) (variablesIn t w c) here) i y in
         record {
           atom = resolveAtom (declarationsIn t w c) (variablesIn t w c) here;
           low = omega (arith, f .low, g .low, h .low, some-1);
           high = h .high;
           form = next-form;
-          good = goods .1;
+          fits = fits-cut ∙ rw (x .0);
           is = ap (map (resolveAtom (declarationsIn t w c) (variablesIn t w c))) formula-cut;
           built = λ D F i φ b.
               subst (λ v. Building D v F i (n + 1) (φ ++ (resolveAtom (declarationsIn t w c) (variablesIn t w c) here ∷ []))) (sym e)
-              (subst (λ y. Building D (putAtom w n (a .kind) (a .left) (a .right)) F i (n + 1) (φ ++ (y ∷ []))) (x .is)
-              (atom-written D w F i n φ (a .kind) (a .left) (a .right) l (x .ok) b));
-          names = subst (Kept names-at values-at w) (sym e) (atom-names w n (a .kind) (a .left) (a .right) (k .whole) l (x .ok));
-          size = ap length e ∙ atom-length w n (a .kind) (a .left) (a .right) (k .whole) l (x .ok);
+              (subst (λ y. Building D (putAtom w n (a .kind) (a .left) (a .right)) F i (n + 1) (φ ++ (y ∷ []))) (x .1 .is)
+              (atom-written D w F i n φ (a .kind) (a .left) (a .right) l (x .1 .ok) b));
+          names = subst (Kept names-at values-at w) (sym e) (atom-names w n (a .kind) (a .left) (a .right) (k .whole) l (x .1 .ok));
+          size = ap length e ∙ atom-length w n (a .kind) (a .left) (a .right) (k .whole) l (x .1 .ok);
         }
+
+    pub next-bad :
+        (n : ℕ) (q : Tried) → AtomTried (declarationsIn t w c) (variablesIn t w c) here q → q ≡ Tried.Bad → NextTried t w c r n w Put.Bad
+    unfolding NextTried AtomTried
+    next-bad n q y i =
+        let x : fitsAtom (declarationsIn t w c) (variablesIn t w c) here ≡ false =
+        subst (AtomTried (declarationsIn t w c) (variablesIn t w c) here) i y in
+        (fits-cut ∙ rw x, refl)
+
+-- the row of an atom that was tried
+pub row-ok : (Γ : Declarations) (vs : List Variable) (x : Atom Name) (q : Tried) (a : AtomRow) → AtomTried Γ vs x q → q ≡ Tried.Row a →
+    AtomOk (a .kind) (a .left) (a .right)
+unfolding AtomTried
+row-ok Γ vs x q a y i =
+    let z : (fitsAtom Γ vs x ≡ true) × Resolved Γ vs x a = subst (AtomTried Γ vs x) i y in z .1 .ok
 
 -- THE LOOP
 
@@ -99,7 +115,7 @@ pub record Writing (t v : List ℕ) (c : Names) (from first : ℕ) (w : List ℕ
   pub high : r ≤ length t
   pub most : ℕ
   pub form : isFormula most (more (drop r t)) ≡ true
-  pub good : goodAfter t v c r ≡ true
+  pub fits : fitsAfter t v c from ≡ fitsAfter t v c r
   pub done : Formula ℕ
   pub all : formulaAfter t v c from ≡ done ++ formulaAfter t v c r
   pub count : n ≡ first + length done
@@ -113,7 +129,7 @@ writing-first {t} {v} {c} {from} {first} x =
       high = x .high;
       most = most-atoms;
       form = x .form;
-      good = x .good;
+      fits = refl;
       done = [];
       all = refl;
       count = omega arith;
@@ -126,10 +142,10 @@ module _ {t v : List ℕ} {c : Names} {from first : ℕ} {w : List ℕ} {r n : �
   pub still-ready : Ready t w c
   still-ready = record { whole = x .size ∙ k .whole; fits = k .fits }
 
-  same-good : (e : ℕ) → goodAfter t w c e ≡ goodAfter t v c e
-  unfolding goodAfter
-  same-good e =
-      ap₂ (λ Γ vs. Rattle.rules.specs.Base.all (goodAtom Γ vs) (formulaOf (more (drop e t)))) (names-kept t v w c (k .fits) (x .names))
+  same-fits : (e : ℕ) → fitsAfter t w c e ≡ fitsAfter t v c e
+  unfolding fitsAfter
+  same-fits e =
+      ap₂ (λ Γ vs. Rattle.rules.specs.Base.all (fitsAtom Γ vs) (formulaOf (more (drop e t)))) (names-kept t v w c (k .fits) (x .names))
       (variables-kept t v w c (k .fits) (x .names))
 
   same-formula : (e : ℕ) → formulaAfter t w c e ≡ formulaAfter t v c e
@@ -138,28 +154,51 @@ module _ {t v : List ℕ} {c : Names} {from first : ℕ} {w : List ℕ} {r n : �
       ap₂ (λ Γ vs. map (resolveAtom Γ vs) (formulaOf (more (drop e t)))) (names-kept t v w c (k .fits) (x .names))
       (variables-kept t v w c (k .fits) (x .names))
 
-  pub writing-done : (getD t r 0 ≡ 9 → ⊥) → FormulaPut t v c from first w n
-  unfolding formulaOf formulaAfter
+  pub writing-done : (getD t r 0 ≡ 9 → ⊥) → FormulaTried t v c from first w (Put.Done n)
+  unfolding formulaOf formulaAfter fitsAfter FormulaTried Rattle.rules.specs.Base.all
   writing-done e =
       let z : formulaAfter t v c r ≡ [] =
       ap (λ ws. map (resolveAtom (declarationsIn t v c) (variablesIn t v c)) (formulaOf ws)) (no-more t r e) in
       let a : formulaAfter t v c from ≡ x .done = x .all ∙ (ap (λ φ. x .done ++ φ) z ∙ append-nil (x .done)) in
-      record {
-        count = x .count ∙ ap (λ φ. first + length φ) (sym a);
-        built = λ D F h. subst (Building D w F first n) (sym a) (x .built D F h);
-        names = x .names;
-        size = x .size;
-      }
+      let f : fitsAfter t v c r ≡ true =
+      ap (λ ws. Rattle.rules.specs.Base.all (fitsAtom (declarationsIn t v c) (variablesIn t v c)) (formulaOf ws)) (no-more t r e) in (
+        x .fits ∙ f,
+        record {
+          count = x .count ∙ ap (λ φ. first + length φ) (sym a);
+          built = λ D F h. subst (Building D w F first n) (sym a) (x .built D F h);
+          names = x .names;
+          size = x .size;
+        },
+      )
+
+  pub bad-size : (u : List ℕ) (q : Put) → NextTried t w c r n u q → q ≡ Put.Bad → length u ≡ length v
+  unfolding NextTried
+  bad-size u q y i =
+      let z : (fitsAfter t w c r ≡ false) × (u ≡ w) = subst (NextTried t w c r n u) i y in ap length (z .1) ∙ x .size
+
+  -- the atom after r fails a test
+  pub writing-bad : (u : List ℕ) (q : Put) → NextTried t w c r n u q → q ≡ Put.Bad → FormulaTried t v c from first u Put.Bad
+  unfolding NextTried FormulaTried
+  writing-bad u q y i =
+      let z : (fitsAfter t w c r ≡ false) × (u ≡ w) = subst (NextTried t w c r n u) i y in
+      (x .fits ∙ (sym (same-fits r) ∙ z .0), subst (Kept names-at values-at v) (sym (z .1)) (x .names), ap length (z .1) ∙ x .size)
 
   module _ (tab : getD t r 0 ≡ 9) where
-    pub writing-follows : AtomFollows t w c r
+    pub writing-follows : AtomFollows t r
     writing-follows = go (x .most) (x .form)
       where
-        go : (m : ℕ) → isFormula m (more (drop r t)) ≡ true → AtomFollows t w c r
+        go : (m : ℕ) → isFormula m (more (drop r t)) ≡ true → AtomFollows t r
         go zero f = true-false (sym f ∙ formula-full t r tab)
-        go (suc m) f = record { high = x .high; byte = tab; most = m; form = f; good = same-good r ∙ x .good }
+        go (suc m) f = record { high = x .high; byte = tab; most = m; form = f }
 
-    module _ {u : List ℕ} {e : ℕ} (y : AtomPut t w c r n u e) where
+    module _ (u : List ℕ) (e : ℕ) (q : Put) (d : NextTried t w c r n u q) (i : q ≡ Put.Done e) where
+      pub next-is : AtomPut t w c r n u e
+      unfolding NextTried
+      next-is = subst (NextTried t w c r n u) i d
+
+      abbrev y : AtomPut t w c r n u e
+      y = next-is
+
       pub writing-on : Writing t v c from first u e (n + 1)
       writing-on =
           let a : formulaAfter t v c r ≡ y .atom ∷ formulaAfter t v c e =
@@ -168,7 +207,7 @@ module _ {t v : List ℕ} {c : Names} {from first : ℕ} {w : List ℕ} {r n : �
             high = y .high;
             most = writing-follows .most;
             form = sym (y .form (writing-follows .most)) ∙ writing-follows .form;
-            good = sym (same-good e) ∙ y .good;
+            fits = x .fits ∙ (sym (same-fits r) ∙ (y .fits ∙ same-fits e));
             done = x .done ++ (y .atom ∷ []);
             all = x .all ∙ (ap (λ φ. x .done ++ φ) a ∙ sym (append-assoc (x .done) (y .atom ∷ []) (formulaAfter t v c e)));
             count = omega (arith, x .count, length-append (x .done) (y .atom ∷ []));
@@ -179,7 +218,7 @@ module _ {t v : List ℕ} {c : Names} {from first : ℕ} {w : List ℕ} {r n : �
 
     pub writing-room : first + length (formulaAfter t v c from) ≤ most-atom-rows → n < most-atom-rows
     unfolding formulaAfter formulaOf isFormula
-    writing-room l = go (writing-follows .good)
+    writing-room l = some (formulaAfter t v c r) refl (not-empty (x .most) (x .form))
       where
         some : (φ : Formula ℕ) → formulaAfter t v c r ≡ φ → (φ ≡ [] → ⊥) → n < most-atom-rows
         some [] e h = absurd (h refl)
@@ -196,6 +235,3 @@ module _ {t v : List ℕ} {c : Names} {from first : ℕ} {w : List ℕ} {r n : �
             cut (suc m) (a ∷ []) f h e = true-false (sym f)
             cut (suc m) (a ∷ b ∷ []) f h e = true-false (sym f)
             cut (suc m) (a ∷ b ∷ d ∷ ws) f h e = let z : _≡_ {A = ℕ} 0 1 = cc in omega arith
-
-        go : goodAfter t w c r ≡ true → n < most-atom-rows
-        go g = some (formulaAfter t v c r) refl (not-empty (x .most) (x .form))

@@ -1,72 +1,157 @@
--- A line whose names and types are right has good atoms.
-use mathlib.Core.Path.{_≡_, refl, sym, ap, subst}
+-- A line of atoms alone passes the tests of 6, 7 and 9 just if its atoms pass those of 6 and 7.
+use mathlib.Core.Path.{_≡_, refl, ap, _∙_}
 use mathlib.Core.Bool.{Bool, true, false, not, cond, _&&_}
 use mathlib.Core.List.{List, [], _∷_, _++_}
+use Prim.Native.Nat.{ℕ}
+use native.Mathlib.Omega.{arith}
 use lib.ListN.{length, drop}
 use Rattle.rules.specs.Base.{Name, all, is}
 use Rattle.rules.specs.Syntax.{acc, cmp}
 use Rattle.rules.specs.Text.{exprOf, relOf, atomOf, formulaOf}
-use Rattle.rules.specs.Grammar.{Line, form, variable, member, expression, read, field}
+use Rattle.rules.specs.Grammar.{Kind, Line, Operand, form, statement, stands, isKind, kindNumber, variable, member, expression, read, field}
+use Rattle.rules.specs.Grammar.{Class, Field, Method, Requires, Ensures, Main, Var, Set, Let, New, Call, Return, Assert, Release, If, Else, Join, End}
 use Rattle.rules.specs.Scope.{Declarations, Variable, Scope, Slot, slotsFrom, atomOperands, atomSlots, atomsOf, slots}
-use Rattle.rules.specs.Names.{known, ofClass, knownExpr, ofClassIn, knownField, inScope, isInt, sidesAgree, atomAgrees, allKnown, allTyped}
-use Rattle.leaves.proofs.Search.{both-true, true-false}
-use Rattle.atoms.specs.Good.{good, goodAtom}
+use Rattle.rules.specs.Names.{agree, exprType, known, ofClass, mayBeAssigned, knownExpr, ofClassIn, knownField, inScope, isInt, sidesAgree, atomAgrees, callApart, allKnown, allTyped, allAssignable}
+use Rattle.declared.specs.Answers.{good}
+use Rattle.atoms.specs.Good.{fitsAtom}
 
-both : (a b : Bool) → a ≡ true → b ≡ true → (a && b) ≡ true
-both true b p q = q
-both false b p q = true-false (sym p)
+-- TESTS IN ANOTHER ORDER
+access-order :
+    (a b d k t r : Bool) → ((a && (b && k)) && ((d && t) && r)) ≡ (((a && b) && d) && (k && (t && r)))
+access-order false b d k t r = refl
+access-order true false d k t r = refl
+access-order true true true k t r = refl
+access-order true true false true t r = refl
+access-order true true false false t r = refl
+
+compared-order :
+    (a b d e g k t r : Bool) →
+    ((a && (b && k)) && ((d && (e && t)) && (g && r))) ≡ (((a && d) && ((b && e) && g)) && (k && (t && r)))
+compared-order false b d e g k t r = refl
+compared-order true false true e g k t r = refl
+compared-order true false false e g k t r = refl
+compared-order true true false e g true t r = refl
+compared-order true true false e g false t r = refl
+compared-order true true true false g true t r = refl
+compared-order true true true false g false t r = refl
+compared-order true true true true true k t r = refl
+compared-order true true true true false true true r = refl
+compared-order true true true true false true false r = refl
+compared-order true true true true false false t r = refl
+
+line-order : (k t r : Bool) → (k && ((t && (true && r)) && (true && true))) ≡ (k && (t && r))
+line-order false t r = refl
+line-order true false r = refl
+line-order true true false = refl
+line-order true true true = refl
 
 module _ (Γ : Declarations) (vs : List Variable) (s : Scope) where
-  -- tests of 6 and 7 of a field
+  -- tests of 6, 7 and 9 of a field
   abbrev knownSlot : Slot → Bool
   knownSlot x = known Γ vs s (x .operand) (x .before) (x .name)
 
   abbrev typedSlot : Slot → Bool
   typedSlot x = ofClass Γ vs (x .operand) (x .before) (x .name)
 
-  atom-good :
-      (q : Bool) (u a b : Name) (xs : List Slot) →
-      all knownSlot (slotsFrom [] (cond q (variable read ∷ member field ∷ []) (expression ∷ expression ∷ [])) (a ∷ b ∷ []) ++ xs) ≡ true →
-      all typedSlot (slotsFrom [] (cond q (variable read ∷ member field ∷ []) (expression ∷ expression ∷ [])) (a ∷ b ∷ []) ++ xs) ≡ true →
-      (goodAtom Γ vs (cond q (acc a b) (cmp (relOf u) (exprOf a) (exprOf b))) ≡ true) × (all knownSlot xs ≡ true) × (all typedSlot xs ≡ true)
-  unfolding slotsFrom all known ofClass goodAtom good knownExpr ofClassIn
-  atom-good true u a b xs k t =
-      let p = both-true (inScope vs a) (knownField Γ vs a b && all knownSlot xs) k in
-      let q = both-true (knownField Γ vs a b) (all knownSlot xs) (p .1) in
-      let r = both-true (not (isInt vs a)) (all typedSlot xs) t in (
-        both (inScope vs a && knownField Γ vs a b) (not (isInt vs a)) (both (inScope vs a) (knownField Γ vs a b) (p .0) (q .0)) (r .0),
-        q .1,
-        r .1,
-      )
-  atom-good false u a b xs k t =
-      let p = both-true (knownExpr Γ vs (exprOf a)) (knownExpr Γ vs (exprOf b) && all knownSlot xs) k in
-      let q = both-true (knownExpr Γ vs (exprOf b)) (all knownSlot xs) (p .1) in
-      let r = both-true (ofClassIn Γ vs (exprOf a)) (ofClassIn Γ vs (exprOf b) && all typedSlot xs) t in
-      let v = both-true (ofClassIn Γ vs (exprOf b)) (all typedSlot xs) (r .1) in (
-        both (good Γ vs (exprOf a)) (good Γ vs (exprOf b)) (both (knownExpr Γ vs (exprOf a)) (ofClassIn Γ vs (exprOf a)) (p .0) (r .0))
-            (both (knownExpr Γ vs (exprOf b)) (ofClassIn Γ vs (exprOf b)) (q .0) (v .0)),
-        q .1,
-        v .1,
-      )
+  abbrev assignableSlot : Slot → Bool
+  assignableSlot x = mayBeAssigned vs (x .operand) (x .name)
 
-  atoms-good :
-      (ws : List Name) → all knownSlot (atomSlots ws) ≡ true → all typedSlot (atomSlots ws) ≡ true →
-      all (goodAtom Γ vs) (formulaOf ws) ≡ true
+  atom-fits :
+      (q : Bool) (u a b : Name) (xs : List Slot) (r : Bool) →
+      (all knownSlot (slotsFrom [] (cond q (variable read ∷ member field ∷ []) (expression ∷ expression ∷ [])) (a ∷ b ∷ []) ++ xs)
+      && (all typedSlot (slotsFrom [] (cond q (variable read ∷ member field ∷ []) (expression ∷ expression ∷ [])) (a ∷ b ∷ []) ++ xs)
+      && (atomAgrees Γ vs (cond q (acc a b) (cmp (relOf u) (exprOf a) (exprOf b))) && r)))
+      ≡ (fitsAtom Γ vs (cond q (acc a b) (cmp (relOf u) (exprOf a) (exprOf b))) && (all knownSlot xs && (all typedSlot xs && r)))
+  unfolding slotsFrom all known ofClass atomAgrees fitsAtom good knownExpr ofClassIn
+  atom-fits true u a b xs r =
+      access-order (inScope vs a) (knownField Γ vs a b) (not (isInt vs a)) (all knownSlot xs) (all typedSlot xs) r
+  atom-fits false u a b xs r =
+      compared-order (knownExpr Γ vs (exprOf a)) (knownExpr Γ vs (exprOf b)) (ofClassIn Γ vs (exprOf a)) (ofClassIn Γ vs (exprOf b))
+      (agree (exprType Γ vs (exprOf a)) (exprType Γ vs (exprOf b))) (all knownSlot xs) (all typedSlot xs) r
+
+  atoms-fit :
+      (ws : List Name) →
+      (all knownSlot (atomSlots ws) && (all typedSlot (atomSlots ws) && all (atomAgrees Γ vs) (formulaOf ws)))
+      ≡ all (fitsAtom Γ vs) (formulaOf ws)
   unfolding atomSlots atomOperands formulaOf atomOf all
-  atoms-good [] k t = refl
-  atoms-good (u ∷ []) k t = refl
-  atoms-good (u ∷ a ∷ []) k t = refl
-  atoms-good (u ∷ a ∷ b ∷ ws) k t =
-      let x = atom-good (is "acc" u) u a b (atomSlots ws) k t in
-      both (goodAtom Γ vs (atomOf u a b)) (all (goodAtom Γ vs) (formulaOf ws)) (x .0) (atoms-good ws (x .1) (x .2))
+  atoms-fit [] = refl
+  atoms-fit (u ∷ []) = refl
+  atoms-fit (u ∷ a ∷ []) = refl
+  atoms-fit (u ∷ a ∷ b ∷ ws) =
+      atom-fits (is "acc" u) u a b (atomSlots ws) (all (atomAgrees Γ vs) (formulaOf ws))
+      ∙ ap (λ q. fitsAtom Γ vs (atomOf u a b) && q) (atoms-fit ws)
 
-  -- a line that is atoms alone: `requires`, `ensures`, `assert`, `release`, `join`, `if`
-  pub line-good :
-      (l : Line) → form (l .kind) .operands ≡ [] → allKnown Γ vs s l ≡ true → allTyped Γ vs l ≡ true →
-      all (goodAtom Γ vs) (formulaOf (l .fields)) ≡ true
-  unfolding allKnown allTyped slots atomsOf slotsFrom
-  line-good l e k t =
+  -- atoms assign nothing
+  atom-assigns :
+      (q : Bool) (a b : Name) (xs : List Slot) →
+      all assignableSlot (slotsFrom [] (cond q (variable read ∷ member field ∷ []) (expression ∷ expression ∷ [])) (a ∷ b ∷ []) ++ xs)
+      ≡ all assignableSlot xs
+  unfolding slotsFrom all mayBeAssigned
+  atom-assigns true a b xs = refl
+  atom-assigns false a b xs = refl
+
+  atoms-assign : (ws : List Name) → all assignableSlot (atomSlots ws) ≡ true
+  unfolding atomSlots atomOperands all
+  atoms-assign [] = refl
+  atoms-assign (u ∷ []) = refl
+  atoms-assign (u ∷ a ∷ []) = refl
+  atoms-assign (u ∷ a ∷ b ∷ ws) = atom-assigns (is "acc" u) a b (atomSlots ws) ∙ atoms-assign ws
+
+  -- a line without operands has no sides, and calls nothing
+  some-operand : {A : Type 0} {o : Operand} {os : List Operand} → (o ∷ os) ≡ [] → A
+  some-operand e = absurd (let z : _≡_ {A = ℕ} 0 1 = cc in omega arith)
+
+  no-sides : (k : Kind) (ws : List Name) → form k .operands ≡ [] → sidesAgree Γ vs (record { kind = k; fields = ws }) ≡ true
+  unfolding sidesAgree isKind kindNumber form statement stands
+  no-sides Class ws e = some-operand e
+  no-sides Field ws e = some-operand e
+  no-sides Method ws e = some-operand e
+  no-sides Var ws e = some-operand e
+  no-sides Set ws e = some-operand e
+  no-sides Let ws e = some-operand e
+  no-sides New ws e = some-operand e
+  no-sides Call ws e = some-operand e
+  no-sides Return ws e = some-operand e
+  no-sides Requires ws e = refl
+  no-sides Ensures ws e = refl
+  no-sides Main ws e = refl
+  no-sides Assert ws e = refl
+  no-sides Release ws e = refl
+  no-sides If ws e = refl
+  no-sides Else ws e = refl
+  no-sides Join ws e = refl
+  no-sides End ws e = refl
+
+  no-call : (k : Kind) (ws : List Name) → form k .operands ≡ [] → callApart vs (record { kind = k; fields = ws }) ≡ true
+  unfolding callApart isKind kindNumber form statement stands
+  no-call Class ws e = some-operand e
+  no-call Field ws e = some-operand e
+  no-call Method ws e = some-operand e
+  no-call Var ws e = some-operand e
+  no-call Set ws e = some-operand e
+  no-call Let ws e = some-operand e
+  no-call New ws e = some-operand e
+  no-call Call ws e = some-operand e
+  no-call Return ws e = some-operand e
+  no-call Requires ws e = refl
+  no-call Ensures ws e = refl
+  no-call Main ws e = refl
+  no-call Assert ws e = refl
+  no-call Release ws e = refl
+  no-call If ws e = refl
+  no-call Else ws e = refl
+  no-call Join ws e = refl
+  no-call End ws e = refl
+
+  -- `requires`, `ensures`, `assert`, `release`, `join`, `if`
+  pub formula-good :
+      (l : Line) → form (l .kind) .operands ≡ [] →
+      (allKnown Γ vs s l && (allTyped Γ vs l && allAssignable vs l)) ≡ all (fitsAtom Γ vs) (formulaOf (l .fields))
+  unfolding allKnown allTyped allAssignable slots atomsOf slotsFrom
+  formula-good l e =
       let y : slots l ≡ atomSlots (l .fields) =
       ap (λ os. slotsFrom [] os (l .fields) ++ atomSlots (drop (length os) (l .fields))) e in
-      let u = both-true (all typedSlot (slots l)) (sidesAgree Γ vs l && all (atomAgrees Γ vs) (formulaOf (atomsOf l))) t in
-      atoms-good (l .fields) (subst (λ xs. all knownSlot xs ≡ true) y k) (subst (λ xs. all typedSlot xs ≡ true) y (u .0))
+      let z : atomsOf l ≡ l .fields = ap (λ os. drop (length os) (l .fields)) e in
+      rw (y, z, no-sides (l .kind) (l .fields) e, no-call (l .kind) (l .fields) e, atoms-assign (l .fields))
+      (line-order (all knownSlot (atomSlots (l .fields))) (all typedSlot (atomSlots (l .fields))) (all (atomAgrees Γ vs) (formulaOf (l .fields)))
+      ∙ atoms-fit (l .fields))

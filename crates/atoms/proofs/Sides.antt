@@ -1,5 +1,5 @@
 -- The sides of a resolved atom fit their rows.
-use mathlib.Core.Path.{_≡_, refl, sym, ap, subst, _∙_}
+use mathlib.Core.Path.{_≡_, refl, sym, ap, ap₂, subst, _∙_}
 use mathlib.Core.Bool.{Bool, true, false, not, cond, _&&_, _||_}
 use mathlib.Core.List.{List, [], _∷_, _++_}
 use mathlib.Core.Logic.{_⊎_, ⊎-elim}
@@ -26,15 +26,18 @@ use Rattle.tables.specs.Layout.{most-names, frame-variables}
 use Rattle.tables.specs.Decode as Decode
 use Rattle.tables.specs.Stores.{meaning}
 use Rattle.declared.specs.declared.Names as Declared
+use Rattle.declared.specs.declared.Member as Member
+use Rattle.declared.specs.declared.Lookup as Lookup
+use Rattle.declared.specs.Answers.{good, typeMeant, MemberIs, LookIs}
 use Rattle.declared.specs.Rows.{rows, entryAt, fields-first}
 use Rattle.declared.specs.Meanings.{Fits, asField, declarationsIn, blockIn, ownVariables, variablesIn, variableAt, thisIn, resultIn}
 use Rattle.declared.proofs.Searches.{rows-length, any-index}
 use Rattle.emit.specs.Puts.{tagOf}
 use Rattle.emit.specs.Holds as Holds
 use Rattle.emit.specs.Holds.{SideOk, accessOf}
-use Rattle.atoms.specs.declared.AtomRow.{AtomRow}
-use Rattle.atoms.specs.Good.{good, goodAtom}
-use Rattle.atoms.specs.Written.{Resolved}
+use Rattle.atoms.specs.declared.Tried.{Tried}
+use Rattle.atoms.specs.Good.{fitsAtom}
+use Rattle.atoms.specs.Written.{Resolved, AtomTried}
 
 -- SIDES
 
@@ -177,7 +180,7 @@ module _ (t w : List ℕ) (c : Declared.Names) (fits : Fits c) where
       go (path x f) i h = path-fine x f h
 
   -- ATOMS
-  pub access-is :
+  access-is :
       (x f : Name) (l : Tables.Expr) → good Γ vs (path x f) ≡ true → meaning l ≡ resolveExpr Γ vs (path x f) →
       Resolved Γ vs (acc x f) (record { kind = 0; left = l; right = Tables.Expr.Null })
   unfolding resolveExpr resolveAtom Holds.atomOf SideOk
@@ -187,6 +190,19 @@ module _ (t w : List ℕ) (c : Declared.Names) (fits : Fits c) where
         is = p .1;
         ok = record { kind = omega arith; left = fine-side l _ m (path-fine x f g); right = tt; access = λ e. p .0 };
       }
+
+  pub access-row :
+      (x f : Name) (m : Member.Member) → MemberIs t Γ vs x f m → m .good ≡ true →
+      AtomTried Γ vs (acc x f) (Tried.Row (record { kind = 0; left = Tables.Expr.Path (m .variable) (m .number); right = Tables.Expr.Null }))
+  unfolding AtomTried fitsAtom resolveExpr meaning
+  access-row x f m h g =
+      let e : good Γ vs (path x f) ≡ true = sym (h .good) ∙ g in
+      (e, access-is x f (Tables.Expr.Path (m .variable) (m .number)) e (ap₂ path (h .variable) (h .number)))
+
+  pub access-bad :
+      (x f : Name) (m : Member.Member) → MemberIs t Γ vs x f m → m .good ≡ false → AtomTried Γ vs (acc x f) Tried.Bad
+  unfolding AtomTried fitsAtom
+  access-bad x f m h g = sym (h .good) ∙ g
 
   pub compared-is :
       (k : ℕ) (a b : Name) (l r : Tables.Expr) → 1 ≤ k → k ≤ 2 → isExpr a ≡ true → isExpr b ≡ true →
@@ -206,20 +222,46 @@ module _ (t w : List ℕ) (c : Declared.Names) (fits : Fits c) where
             };
       }
 
+  module _ (k : ℕ) (a b : Name) (l r : Lookup.Lookup) (p : LookIs t Γ vs (exprOf a) l) (q : LookIs t Γ vs (exprOf b) r) where
+    -- the tests of a comparison, by what the look-ups of its sides say
+    compared-fits :
+        fitsAtom Γ vs (cmp (Decode.relOf k) (exprOf a) (exprOf b)) ≡ (l .good && (r .good && Names.agree (typeMeant t (l .is)) (typeMeant t (r .is))))
+    unfolding fitsAtom
+    compared-fits = rw (p .good, q .good, p .is, q .is)
+
+    pub compared-row :
+        (1 ≤ k) × (k ≤ 2) → isExpr a ≡ true → isExpr b ≡ true → l .good ≡ true → r .good ≡ true →
+        Names.agree (typeMeant t (l .is)) (typeMeant t (r .is)) ≡ true →
+        AtomTried Γ vs (cmp (Decode.relOf k) (exprOf a) (exprOf b)) (Tried.Row (record { kind = k; left = l .expr; right = r .expr }))
+    unfolding AtomTried
+    compared-row i f g u v y = (
+      compared-fits ∙ rw (u, v, y),
+      compared-is k a b (l .expr) (r .expr) (i .0) (i .1) f g (sym (p .good) ∙ u) (sym (q .good) ∙ v) (p .expr) (q .expr),
+    )
+
+    pub left-bad : l .good ≡ false → AtomTried Γ vs (cmp (Decode.relOf k) (exprOf a) (exprOf b)) Tried.Bad
+    unfolding AtomTried
+    left-bad u = compared-fits ∙ rw u
+
+    pub right-bad : l .good ≡ true → r .good ≡ false → AtomTried Γ vs (cmp (Decode.relOf k) (exprOf a) (exprOf b)) Tried.Bad
+    unfolding AtomTried
+    right-bad u v = compared-fits ∙ rw (u, v)
+
+    pub apart-bad :
+        l .good ≡ true → r .good ≡ true → Names.agree (typeMeant t (l .is)) (typeMeant t (r .is)) ≡ false →
+        AtomTried Γ vs (cmp (Decode.relOf k) (exprOf a) (exprOf b)) Tried.Bad
+    unfolding AtomTried
+    apart-bad u v y = compared-fits ∙ rw (u, v, y)
+
 -- THE ATOM OF THREE FIELDS
 module _ (u a b : Name) (k : ℕ) (h : k ≡ wordNumber u) where
   pub atom-access : k ≡ 19 → atomOf u a b ≡ acc a b
   unfolding atomOf
   atom-access e = rw (acc-is u, ← h, e)
 
-  pub access-good :
-      (Γ : Declarations) (vs : List Variable) → k ≡ 19 → goodAtom Γ vs (atomOf u a b) ≡ true → good Γ vs (path a b) ≡ true
-  unfolding goodAtom
-  access-good Γ vs e g = subst (λ x. goodAtom Γ vs x ≡ true) (atom-access e) g
-
-  pub access-resolved :
-      {Γ : Declarations} {vs : List Variable} {r : AtomRow} → k ≡ 19 → Resolved Γ vs (acc a b) r → Resolved Γ vs (atomOf u a b) r
-  access-resolved {Γ} {vs} {r} e x = subst (λ y. Resolved Γ vs y r) (sym (atom-access e)) x
+  pub access-tried :
+      (Γ : Declarations) (vs : List Variable) (r : Tried) → k ≡ 19 → AtomTried Γ vs (acc a b) r → AtomTried Γ vs (atomOf u a b) r
+  access-tried Γ vs r e x = subst (λ y. AtomTried Γ vs y r) (sym (atom-access e)) x
 
   relation-is : (q : Bool) → Decode.relOf (cond q 1 2) ≡ cond q Syntax.eq Syntax.ne
   unfolding Decode.relOf
@@ -242,18 +284,11 @@ module _ (u a b : Name) (k : ℕ) (h : k ≡ wordNumber u) where
         below : (i j : ℕ) → (i < j) ⊎ (j ≤ i)
         below i j = Rattle.emit.proofs.Runs.less-or-not i j (ltb i j) refl
 
-    pub compared-good :
-        (Γ : Declarations) (vs : List Variable) → goodAtom Γ vs (atomOf u a b) ≡ true →
-        (good Γ vs (exprOf a) ≡ true) × (good Γ vs (exprOf b) ≡ true)
-    unfolding goodAtom
-    compared-good Γ vs e =
-        both-true (good Γ vs (exprOf a)) (good Γ vs (exprOf b)) (subst (λ x. goodAtom Γ vs x ≡ true) atom-compared e)
-
-    pub compared-resolved :
-        {Γ : Declarations} {vs : List Variable} {r : AtomRow} (i : ℕ) → i ≡ cond (eqb k 20) 1 2 →
-        Resolved Γ vs (cmp (Decode.relOf i) (exprOf a) (exprOf b)) r → Resolved Γ vs (atomOf u a b) r
-    compared-resolved {Γ} {vs} {r} i e x =
-        subst (λ y. Resolved Γ vs y r) (sym (atom-compared ∙ ap (λ j. cmp (Decode.relOf j) (exprOf a) (exprOf b)) (sym e))) x
+    pub compared-tried :
+        (Γ : Declarations) (vs : List Variable) (r : Tried) (i : ℕ) → i ≡ cond (eqb k 20) 1 2 →
+        AtomTried Γ vs (cmp (Decode.relOf i) (exprOf a) (exprOf b)) r → AtomTried Γ vs (atomOf u a b) r
+    compared-tried Γ vs r i e x =
+        subst (λ y. AtomTried Γ vs y r) (sym (atom-compared ∙ ap (λ j. cmp (Decode.relOf j) (exprOf a) (exprOf b)) (sym e))) x
 
 pub relation-bounds : (k n : ℕ) → n ≡ cond (eqb k 20) 1 2 → (1 ≤ n) × (n ≤ 2)
 relation-bounds k n e = go (eqb k 20) e

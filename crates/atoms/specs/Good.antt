@@ -1,16 +1,14 @@
--- Atoms that pass the tests of 6 and 7: what they name is declared.
+-- Atoms that pass the tests of 6 and 7: what they name is declared, and their sides agree.
 use mathlib.Core.Bool.{Bool, _&&_}
 use mathlib.Core.List.{List}
 use Rattle.rules.specs.Base.{Name}
-use Rattle.rules.specs.Syntax.{Expr, Atom, acc, cmp, path}
+use Rattle.rules.specs.Syntax.{Atom, acc, cmp, path}
 use Rattle.rules.specs.Scope.{Declarations, Variable}
-use Rattle.rules.specs.Names.{knownExpr, ofClassIn}
+use Rattle.rules.specs.Names.{agree, exprType}
+use Rattle.declared.specs.Answers.{good}
 
 module _ (Γ : Declarations) (vs : List Variable) where
-  unfoldable pub good : Expr Name → Bool
-  good e = knownExpr Γ vs e && ofClassIn Γ vs e
-
   -- `acc x f` names what x.f names
-  unfoldable pub goodAtom : Atom Name → Bool
-  goodAtom (acc x f) = good (path x f)
-  goodAtom (cmp n a b) = good a && good b
+  unfoldable pub fitsAtom : Atom Name → Bool
+  fitsAtom (acc x f) = good Γ vs (path x f)
+  fitsAtom (cmp n a b) = good Γ vs a && (good Γ vs b && agree (exprType Γ vs a) (exprType Γ vs b))

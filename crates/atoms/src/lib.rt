@@ -4,15 +4,12 @@ ghost use mathlib.Core.Path.{_≡_};
 ghost use mathlib.Core.Bool.{true, cond};
 ghost use Prim.Native.Nat.{_≤_, _<_};
 ghost use lib.Dec.{eqb};
-ghost use lib.ListN.{length};
-ghost use Rattle.rules.specs.Limits.{work-bytes};
-ghost use Rattle.rules.specs.Syntax.{acc, cmp, path};
+ghost use Rattle.rules.specs.Syntax.{acc, cmp};
 ghost use Rattle.rules.specs.Text.{isExpr, exprOf, isAtom, atomOf};
 ghost use Rattle.tables.specs.Layout.{most-atom-rows};
 ghost use Rattle.tables.specs.Decode.{relOf};
-ghost use Rattle.declared.specs.Meanings.{Fits, declarationsIn, variablesIn};
-ghost use Rattle.atoms.specs.Good.{good, goodAtom};
-ghost use Rattle.atoms.specs.Written.{Resolved, Ready, AtomFollows, AtomPut, FormulaFollows, FormulaPut};
+ghost use Rattle.declared.specs.Meanings.{declarationsIn, variablesIn};
+ghost use Rattle.atoms.specs.Written.{AtomTried, Ready, AtomFollows, NextTried, FormulaFollows, FormulaTried};
 
 // An atom as a row has it: its kind (0 `acc`, 1 `eq`, 2 `ne`) and its sides.
 pub struct AtomRow {
@@ -21,29 +18,57 @@ pub struct AtomRow {
     pub right: Expr,
 }
 
+// An atom tried: its row, or it fails a test of 6 or 7.
+pub enum Tried {
+    Row(AtomRow),
+    Bad,
+}
+
+// What is written: the number after it; nothing of it counts if a test of 6 or 7 fails.
+pub enum Put {
+    Done(usize),
+    Bad,
+}
+
 // ONE ATOM
 
 // `acc x f`
-fn access(text: &[u8], work: &[u8], c: Names, x: &[u8], f: &[u8]) -> AtomRow
-    requires { ⌜ Ready (now text) (now work) c × (good (declarationsIn (now text) (now work) c) (variablesIn (now text) (now work) c) (path (now x) (now f)) ≡ true) ⌝ }
-    ensures { λ r. ⌜ Resolved (declarationsIn (now (text .entry)) (now (work .entry)) c) (variablesIn (now (text .entry)) (now (work .entry)) c) (acc (now (x .entry)) (now (f .entry))) r ⌝ }
+fn access(text: &[u8], work: &[u8], c: Names, x: &[u8], f: &[u8]) -> Tried
+    requires { ⌜ Ready (now text) (now work) c ⌝ }
+    ensures { λ r. ⌜ AtomTried (declarationsIn (now (text .entry)) (now (work .entry)) c) (variablesIn (now (text .entry)) (now (work .entry)) c) (acc (now (x .entry)) (now (f .entry))) r ⌝ }
 {
-    let left = declared::resolve_path(text, work, c, x, f);
-    AtomRow {
-        kind: 0,
-        left,
-        right: Expr::Null,
+    let m = declared::look_path(text, work, c, x, f);
+    if !m.good {
+        return Tried::Bad;
     }
+    Tried::Row(AtomRow {
+        kind: 0,
+        left: Expr::Path(m.variable, m.number),
+        right: Expr::Null,
+    })
 }
 
 // `eq` or `ne`, by its kind
-pub fn compared(text: &[u8], work: &[u8], c: Names, kind: usize, a: &[u8], b: &[u8]) -> AtomRow
-    requires { ⌜ Ready (now text) (now work) c × ((1 ≤ kind) × (kind ≤ 2)) × ((isExpr (now a) ≡ true) × (isExpr (now b) ≡ true)) × ((good (declarationsIn (now text) (now work) c) (variablesIn (now text) (now work) c) (exprOf (now a)) ≡ true) × (good (declarationsIn (now text) (now work) c) (variablesIn (now text) (now work) c) (exprOf (now b)) ≡ true)) ⌝ }
-    ensures { λ r. ⌜ (r .kind ≡ kind) × Resolved (declarationsIn (now (text .entry)) (now (work .entry)) c) (variablesIn (now (text .entry)) (now (work .entry)) c) (cmp (relOf kind) (exprOf (now (a .entry))) (exprOf (now (b .entry)))) r ⌝ }
+pub fn compared(text: &[u8], work: &[u8], c: Names, kind: usize, a: &[u8], b: &[u8]) -> Tried
+    requires { ⌜ Ready (now text) (now work) c × ((1 ≤ kind) × (kind ≤ 2)) × ((isExpr (now a) ≡ true) × (isExpr (now b) ≡ true)) ⌝ }
+    ensures { λ r. ⌜ AtomTried (declarationsIn (now (text .entry)) (now (work .entry)) c) (variablesIn (now (text .entry)) (now (work .entry)) c) (cmp (relOf kind) (exprOf (now (a .entry))) (exprOf (now (b .entry)))) r ⌝ }
 {
-    let left = declared::resolve_expr(text, work, c, a);
-    let right = declared::resolve_expr(text, work, c, b);
-    AtomRow { kind, left, right }
+    let x = declared::look(text, work, c, a);
+    let y = declared::look(text, work, c, b);
+    if !x.good {
+        return Tried::Bad;
+    }
+    if !y.good {
+        return Tried::Bad;
+    }
+    let s = x.is;
+    let u = y.is;
+    if !declared::agree(text, s, u) {
+        return Tried::Bad;
+    }
+    let left = x.expr;
+    let right = y.expr;
+    Tried::Row(AtomRow { kind, left, right })
 }
 
 // The kind of `eq`, or that of `ne`.
@@ -54,9 +79,9 @@ pub fn relation(word: u8) -> usize
 }
 
 // The atom of three fields.
-pub fn resolve_atom(text: &[u8], work: &[u8], c: Names, w: &[u8], a: &[u8], b: &[u8]) -> AtomRow
-    requires { ⌜ Ready (now text) (now work) c × (isAtom (now w) (now a) (now b) ≡ true) × (goodAtom (declarationsIn (now text) (now work) c) (variablesIn (now text) (now work) c) (atomOf (now w) (now a) (now b)) ≡ true) ⌝ }
-    ensures { λ r. ⌜ Resolved (declarationsIn (now (text .entry)) (now (work .entry)) c) (variablesIn (now (text .entry)) (now (work .entry)) c) (atomOf (now (w .entry)) (now (a .entry)) (now (b .entry))) r ⌝ }
+pub fn resolve_atom(text: &[u8], work: &[u8], c: Names, w: &[u8], a: &[u8], b: &[u8]) -> Tried
+    requires { ⌜ Ready (now text) (now work) c × (isAtom (now w) (now a) (now b) ≡ true) ⌝ }
+    ensures { λ r. ⌜ AtomTried (declarationsIn (now (text .entry)) (now (work .entry)) c) (variablesIn (now (text .entry)) (now (work .entry)) c) (atomOf (now (w .entry)) (now (a .entry)) (now (b .entry))) r ⌝ }
 {
     let k = leaves::word(w);
     if k == leaves::ACC {
@@ -68,9 +93,9 @@ pub fn resolve_atom(text: &[u8], work: &[u8], c: Names, w: &[u8], a: &[u8], b: &
 // THE FORMULA OF A LINE
 
 // Writes the atom after the field that ends at r as the atom n, and gives its end.
-fn put_next_atom(text: &[u8], work: &mut [u8], r: usize, n: usize, c: Names) -> usize
-    requires { ⌜ Ready (now text) (now work) c × AtomFollows (now text) (now work) c r × (n < most-atom-rows) ⌝ }
-    ensures { λ e. ⌜ AtomPut (now (text .entry)) (now (work .entry)) c r n (now (work .exit)) e ⌝ }
+fn put_next_atom(text: &[u8], work: &mut [u8], r: usize, n: usize, c: Names) -> Put
+    requires { ⌜ Ready (now text) (now work) c × AtomFollows (now text) r × (n < most-atom-rows) ⌝ }
+    ensures { λ e. ⌜ NextTried (now (text .entry)) (now (work .entry)) c r n (now (work .exit)) e ⌝ }
 {
     let x = lines::next_field(text, r);
     let y = lines::next_field(text, x);
@@ -78,23 +103,30 @@ fn put_next_atom(text: &[u8], work: &mut [u8], r: usize, n: usize, c: Names) -> 
     let i = r + 1;
     let j = x + 1;
     let k = y + 1;
-    let a = resolve_atom(text, work, c, &text[i..x], &text[j..y], &text[k..z]);
+    let t = resolve_atom(text, work, c, &text[i..x], &text[j..y], &text[k..z]);
+    let Tried::Row(a) = t else {
+        return Put::Bad;
+    };
     let left = a.left;
     let right = a.right;
     emit::put_atom(work, n, a.kind, left, right);
-    z
+    Put::Done(z)
 }
 
 // Writes the formula of the fields after r as the atoms from `first` on, and gives the number after its last.
-pub fn put_formula(text: &[u8], work: &mut [u8], from: usize, first: usize, c: Names) -> usize
+pub fn put_formula(text: &[u8], work: &mut [u8], from: usize, first: usize, c: Names) -> Put
     requires { ⌜ Ready (now text) (now work) c × FormulaFollows (now text) (now work) c from first ⌝ }
-    ensures { λ m. ⌜ FormulaPut (now (text .entry)) (now (work .entry)) c from first (now (work .exit)) m ⌝ }
+    ensures { λ m. ⌜ FormulaTried (now (text .entry)) (now (work .entry)) c from first (now (work .exit)) m ⌝ }
 {
     let mut r = from;
     let mut n = first;
     while leaves::byte_at(text, r) == 9 {
-        r = put_next_atom(text, work, r, n, c);
+        let p = put_next_atom(text, work, r, n, c);
+        let Put::Done(e) = p else {
+            return Put::Bad;
+        };
+        r = e;
         n += 1;
     }
-    n
+    Put::Done(n)
 }

@@ -1,16 +1,20 @@
 -- `atoms::access` meets its contract. Assumes nothing.
-use Rattle.atoms.proofs.Sides.{access-is}
+use borrow.Author.Tests.{not-true, not-false}
+use Rattle.atoms.proofs.Sides.{access-row, access-bad}
 use borrow.Author.Needs.{needs}
 use Rattle.atoms.proofs.access.Statement.{statement}
 use Rattle.atoms.proofs.access.Tie as tie
 
-resolve-path-requires : tie.Need-resolve-path-requires
-resolve-path-requires c κs = search needs
+look-path-requires : tie.Need-look-path-requires
+look-path-requires c κs = search needs
 
 returns : tie.Need-returns
 returns c =
-    let p = c .before .before .before .before .before .pre in
-    access-is _ _ _ (p .0 .fits) _ _ _ (p .1) (c .resolve-path .ensures)
+    access-bad _ _ _ (c .before .before .before .before .before .before .before .pre .fits) _ _ _ (c .before .before .look-path .ensures) (not-true _ (c .if1 .taken))
+
+returns-2 : tie.Need-returns-2
+returns-2 c =
+    access-row _ _ _ (c .before .before .before .before .before .before .before .pre .fits) _ _ _ (c .before .before .look-path .ensures) (not-false _ (c .if1 .left))
 
 pub access-spec : {M : Type 1} → statement M
-access-spec = tie.close (tie.spec resolve-path-requires returns)
+access-spec = tie.close (tie.spec look-path-requires returns returns-2)

@@ -1,8 +1,7 @@
 -- `atoms::put_next_atom` meets its contract. Assumes nothing.
 use native.Mathlib.Omega.{arith}
 use Rattle.emit.proofs.Atoms.{side-bytes}
-use Rattle.atoms.specs.Good.{good}
-use Rattle.atoms.proofs.Formulas.{some-1, some-2, some-3, is-atom, good-atom, put-is}
+use Rattle.atoms.proofs.Formulas.{some-1, some-2, some-3, is-atom, next-put, next-bad, row-ok}
 use borrow.Author.Needs.{needs}
 use Rattle.atoms.proofs.put_next_atom.Statement.{statement}
 use Rattle.atoms.proofs.put_next_atom.Tie as tie
@@ -60,19 +59,36 @@ part-resolve-atom-end-3 c = search needs
 
 resolve-atom-requires : tie.Need-resolve-atom-requires
 resolve-atom-requires c κs =
-    (c .before .before .before .before .before .before .before .before .before .pre .0, is-atom (c .before .before .before .before .before .before .next-field .ensures) (c .before .before .before .before .before .next-field2 .ensures) (c .before .before .before .before .next-field3 .ensures) (c .before .before .before .before .before .before .before .before .before .pre .1 .byte) _ (c .before .before .before .before .before .before .before .before .before .pre .1 .form), good-atom (c .before .before .before .before .before .before .next-field .ensures) (c .before .before .before .before .before .next-field2 .ensures) (c .before .before .before .before .next-field3 .ensures) (c .before .before .before .before .before .before .before .before .before .pre .1 .byte) _ (c .before .before .before .before .before .before .before .before .before .pre .1 .form) _ _ (c .before .before .before .before .before .before .before .before .before .pre .1 .good))
+    (c .before .before .before .before .before .before .before .before .before .pre .0, is-atom (c .before .before .before .before .before .before .next-field .ensures) (c .before .before .before .before .before .next-field2 .ensures) (c .before .before .before .before .next-field3 .ensures) (c .before .before .before .before .before .before .before .before .before .pre .1 .byte) _ (c .before .before .before .before .before .before .before .before .before .pre .1 .form))
 
-put-atom-requires : tie.Need-put-atom-requires
-put-atom-requires c κs =
-    let o = c .before .resolve-atom .ensures .ok in
-    ((c .before .before .before .before .before .before .before .before .before .before .before .pre .0 .whole, c .before .before .before .before .before .before .before .before .before .before .before .pre .2), (omega (arith, o .kind), (side-bytes _ (o .left), side-bytes _ (o .right))))
+enum-known-t : tie.Need-enum-known-t
+enum-known-t c =
+    search needs
+
+enum-told : tie.Need-enum-told
+enum-told c =
+    search needs
 
 same-length : tie.Need-same-length
-same-length c = search needs
+same-length c =
+    search needs
 
 returns : tie.Need-returns
 returns c =
-    put-is (c .before .before .before .before .before .before .before .before .before .before .before .next-field .ensures) (c .before .before .before .before .before .before .before .before .before .before .next-field2 .ensures) (c .before .before .before .before .before .before .before .before .before .next-field3 .ensures) (c .before .before .before .before .before .before .before .before .before .before .before .before .before .before .pre .1 .byte) _ (c .before .before .before .before .before .before .before .before .before .before .before .before .before .before .pre .1 .form) _ _ (c .before .before .before .before .before .before .before .before .before .before .before .before .before .before .pre .1 .good) (c .before .before .before .before .before .before .before .before .before .before .before .before .before .before .pre .0) _ (c .before .before .before .before .resolve-atom .result) _ (c .before .before .before .before .before .before .before .before .before .before .before .before .before .before .pre .2) (c .before .before .before .before .resolve-atom .ensures) (c .before .before .put-atom .ensures)
+    next-bad (c .before .before .before .before .before .before .before .before .before .next-field .ensures) (c .before .before .before .before .before .before .before .before .next-field2 .ensures) (c .before .before .before .before .before .before .before .next-field3 .ensures) (c .before .before .before .before .before .before .before .before .before .before .before .before .pre .1 .byte) _ (c .before .before .before .before .before .before .before .before .before .before .before .before .pre .1 .form) _ _ _ _ (c .before .before .resolve-atom .ensures) (c .enum-told .given .1)
+
+put-atom-requires : tie.Need-put-atom-requires
+put-atom-requires c κs =
+    let o = row-ok _ _ _ _ _ (c .before .before .before .before .resolve-atom .ensures) (c .before .before .t .given .1) in
+    ((c .before .before .before .before .before .before .before .before .before .before .before .before .before .before .pre .0 .whole, c .before .before .before .before .before .before .before .before .before .before .before .before .before .before .pre .2), (omega (arith, o .kind), (side-bytes _ (o .left), side-bytes _ (o .right))))
+
+same-length-2 : tie.Need-same-length-2
+same-length-2 c =
+    search needs
+
+returns-2 : tie.Need-returns-2
+returns-2 c =
+    next-put (c .before .before .before .before .before .before .before .before .before .before .before .before .before .before .next-field .ensures) (c .before .before .before .before .before .before .before .before .before .before .before .before .before .next-field2 .ensures) (c .before .before .before .before .before .before .before .before .before .before .before .before .next-field3 .ensures) (c .before .before .before .before .before .before .before .before .before .before .before .before .before .before .before .before .before .pre .1 .byte) _ (c .before .before .before .before .before .before .before .before .before .before .before .before .before .before .before .before .before .pre .1 .form) _ _ (c .before .before .before .before .before .before .before .before .before .before .before .before .before .before .before .before .before .pre .0) _ _ _ _ (c .before .before .before .before .before .before .before .before .before .before .before .before .before .before .before .before .before .pre .2) (c .before .before .before .before .before .before .before .resolve-atom .ensures) (c .before .before .before .before .before .t .given .1) (c .before .before .put-atom .ensures)
 
 pub put-next-atom-spec : {M : Type 1} → statement M
 put-next-atom-spec =
@@ -94,6 +110,10 @@ put-next-atom-spec =
     part-resolve-atom-start-3
     part-resolve-atom-end-3
     resolve-atom-requires
-    put-atom-requires
+    enum-known-t
+    enum-told
     same-length
-    returns)
+    returns
+    put-atom-requires
+    same-length-2
+    returns-2)
