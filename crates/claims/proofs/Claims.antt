@@ -12,7 +12,7 @@ use Rattle.rules.specs.Base.{Name}
 use Rattle.rules.specs.Limits.{most-methods, most-statements, most-atoms}
 use Rattle.rules.specs.Syntax.{Formula}
 use Rattle.rules.specs.Text.{isFormula, formulaOf}
-use Rattle.rules.specs.Items.{resolveAtom, aStatement, aRequires, anEnsures}
+use Rattle.rules.specs.Items.{Item, resolveAtom, aStatement, aRequires, anEnsures}
 use Rattle.leaves.proofs.Search.{both-true, true-false}
 use Rattle.lines.specs.Cuts.{more}
 use Rattle.tables.specs.Layout.{atoms-at}
@@ -27,8 +27,9 @@ use Rattle.emit.proofs.Kept.{atoms-kept}
 use Rattle.emit.proofs.Methods.{requires-written, ensures-written, requires-names, ensures-names}
 use Rattle.emit.specs.Holds.{Declared, RowOk, stmtOf, Holds, Building}
 use Rattle.emit.proofs.Rows.{row-written, row-kept, row-names, row-length, row-bytes, assert-means, release-means, join-means}
-use Rattle.atoms.specs.Written.{formulaAfter, Ready, FormulaFollows, FormulaPut}
-use Rattle.claims.specs.Claims.{isClaim, claimOf, claimRow, ClaimPut, HeaderPut}
+use Rattle.atoms.specs.declared.Put.{Put}
+use Rattle.atoms.specs.Written.{formulaAfter, fitsAfter, Ready, FormulaFollows, FormulaPut, FormulaTried, Unfit}
+use Rattle.claims.specs.Claims.{isClaim, claimOf, claimRow, ClaimPut, HeaderPut, ClaimTried, HeaderTried}
 
 pub claim-cases : (k : ℕ) → isClaim k ≡ true → (k ≡ 13) ⊎ ((k ≡ 14) ⊎ (k ≡ 17))
 unfolding isClaim
@@ -166,3 +167,34 @@ module _ {t w : List ℕ} {c : Names} {r n m : ℕ} (x : FormulaFollows t w c r 
         names = λ p a d. ap (λ z. byteAt z p) i ∙ (ensures-names u m n (e - n) room p a d ∙ y .names p a d);
         size = ap length i ∙ (put-length u _ _ ∙ y .size);
       }
+
+-- A FORMULA THAT WAS TRIED
+module _ (t w : List ℕ) (c : Names) (r n : ℕ) (u : List ℕ) (q : Put) (y : FormulaTried t w c r n u q) where
+  pub tried-done : (m : ℕ) → q ≡ Put.Done m → (fitsAfter t w c r ≡ true) × FormulaPut t w c r n u m
+  unfolding FormulaTried
+  tried-done m i = subst (FormulaTried t w c r n u) i y
+
+  module _ (i : q ≡ Put.Bad) where
+    pub tried-bad : Unfit t w c r u
+    unfolding FormulaTried
+    tried-bad = subst (FormulaTried t w c r n u) i y
+
+    pub claim-bad : (k j l : ℕ) → ClaimTried t w c k r j n l u Put.Bad
+    unfolding ClaimTried
+    claim-bad k j l = tried-bad
+
+    pub header-bad : (item : Formula ℕ → Item) (m : ℕ) → HeaderTried item t w c r m n u Put.Bad
+    unfolding HeaderTried
+    header-bad item m = tried-bad
+
+pub claim-done :
+    (t w : List ℕ) (c : Names) (k r i n l : ℕ) (v : List ℕ) (m : ℕ) → fitsAfter t w c r ≡ true → ClaimPut t w c k r i n l v m →
+    ClaimTried t w c k r i n l v (Put.Done m)
+unfolding ClaimTried
+claim-done t w c k r i n l v m f x = (f, x)
+
+pub header-done :
+    (item : Formula ℕ → Item) (t w : List ℕ) (c : Names) (r m n : ℕ) (v : List ℕ) (e : ℕ) → fitsAfter t w c r ≡ true →
+    HeaderPut item t w c r m n v e → HeaderTried item t w c r m n v (Put.Done e)
+unfolding HeaderTried
+header-done item t w c r m n v e f x = (f, x)

@@ -1,6 +1,6 @@
 -- What a formula of a line becomes: the row of `assert`, `release` or `join`; the requires or ensures of a method.
 use mathlib.Core.Path.{_≡_}
-use mathlib.Core.Bool.{Bool, cond, _||_}
+use mathlib.Core.Bool.{Bool, true, cond, _||_}
 use mathlib.Core.List.{List}
 use Prim.Native.Nat.{ℕ, suc, _+_, _-_}
 use lib.Dec.{eqb}
@@ -14,7 +14,8 @@ use Rattle.declared.specs.declared.Names.{Names}
 use Rattle.assembly.specs.Flat.{Flat, flatWith}
 use Rattle.emit.specs.declared.Operands.{Operands}
 use Rattle.emit.specs.Holds.{Declared, Holds}
-use Rattle.atoms.specs.Written.{formulaAfter}
+use Rattle.atoms.specs.declared.Put.{Put}
+use Rattle.atoms.specs.Written.{formulaAfter, fitsAfter, Unfit}
 
 -- by the number of the kind: 13 `assert`, 14 `release`, 17 `join`
 unfoldable pub isClaim : ℕ → Bool
@@ -46,3 +47,12 @@ pub record HeaderPut (item : Formula ℕ → Item) (t w : List ℕ) (c : Names) 
   pub formula : (D : Declared) (F : Flat) → Holds D w F n → atomsFrom w′ n (e - n) ≡ formulaAfter t w c r
   pub names : Kept names-at values-at w w′
   pub size : length w′ ≡ length w
+
+-- It is written just if its atoms pass the tests of 6 and 7.
+unfoldable pub ClaimTried : (t w : List ℕ) (c : Names) (k r i n l : ℕ) (w′ : List ℕ) → Put → Type 0
+ClaimTried t w c k r i n l w′ (Put.Done m) = (fitsAfter t w c r ≡ true) × ClaimPut t w c k r i n l w′ m
+ClaimTried t w c k r i n l w′ Put.Bad = Unfit t w c r w′
+
+unfoldable pub HeaderTried : (item : Formula ℕ → Item) (t w : List ℕ) (c : Names) (r m n : ℕ) (w′ : List ℕ) → Put → Type 0
+HeaderTried item t w c r m n w′ (Put.Done e) = (fitsAfter t w c r ≡ true) × HeaderPut item t w c r m n w′ e
+HeaderTried item t w c r m n w′ Put.Bad = Unfit t w c r w′

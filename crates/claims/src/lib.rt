@@ -1,3 +1,4 @@
+use atoms::Put;
 use declared::Names;
 use emit::Operands;
 ghost use mathlib.Core.Path.{_≡_};
@@ -6,7 +7,7 @@ ghost use Prim.Native.Nat.{_<_};
 ghost use Rattle.rules.specs.Limits.{most-statements, most-methods};
 ghost use Rattle.rules.specs.Items.{aRequires, anEnsures};
 ghost use Rattle.atoms.specs.Written.{Ready, FormulaFollows};
-ghost use Rattle.claims.specs.Claims.{isClaim, ClaimPut, HeaderPut};
+ghost use Rattle.claims.specs.Claims.{isClaim, ClaimTried, HeaderTried};
 
 // Writes the formula after r as the atoms from n on, and the statement of this kind with it as the row i; gives the number after the
 // last atom.
@@ -19,11 +20,14 @@ pub fn put_claim(
     i: usize,
     n: usize,
     line: usize,
-) -> usize
+) -> Put
     requires { ⌜ Ready (now text) (now work) c × FormulaFollows (now text) (now work) c r n × (isClaim kind ≡ true) × (i < most-statements) × (line < 65536) ⌝ }
-    ensures { λ m. ⌜ ClaimPut (now (text .entry)) (now (work .entry)) c kind r i n line (now (work .exit)) m ⌝ }
+    ensures { λ m. ⌜ ClaimTried (now (text .entry)) (now (work .entry)) c kind r i n line (now (work .exit)) m ⌝ }
 {
-    let m = atoms::put_formula(text, work, r, n, c);
+    let p = atoms::put_formula(text, work, r, n, c);
+    let Put::Done(m) = p else {
+        return Put::Bad;
+    };
     emit::put_row(
         work,
         i,
@@ -38,25 +42,31 @@ pub fn put_claim(
             line,
         },
     );
-    m
+    Put::Done(m)
 }
 
 // Writes the formula after r as the atoms from n on, and as the requires of the method m.
-pub fn put_requires(text: &[u8], work: &mut [u8], c: Names, r: usize, m: usize, n: usize) -> usize
+pub fn put_requires(text: &[u8], work: &mut [u8], c: Names, r: usize, m: usize, n: usize) -> Put
     requires { ⌜ Ready (now text) (now work) c × FormulaFollows (now text) (now work) c r n × (m < most-methods) ⌝ }
-    ensures { λ e. ⌜ HeaderPut aRequires (now (text .entry)) (now (work .entry)) c r m n (now (work .exit)) e ⌝ }
+    ensures { λ e. ⌜ HeaderTried aRequires (now (text .entry)) (now (work .entry)) c r m n (now (work .exit)) e ⌝ }
 {
-    let e = atoms::put_formula(text, work, r, n, c);
+    let p = atoms::put_formula(text, work, r, n, c);
+    let Put::Done(e) = p else {
+        return Put::Bad;
+    };
     emit::put_requires(work, m, n, e - n);
-    e
+    Put::Done(e)
 }
 
 // Writes it as the ensures of the method m.
-pub fn put_ensures(text: &[u8], work: &mut [u8], c: Names, r: usize, m: usize, n: usize) -> usize
+pub fn put_ensures(text: &[u8], work: &mut [u8], c: Names, r: usize, m: usize, n: usize) -> Put
     requires { ⌜ Ready (now text) (now work) c × FormulaFollows (now text) (now work) c r n × (m < most-methods) ⌝ }
-    ensures { λ e. ⌜ HeaderPut anEnsures (now (text .entry)) (now (work .entry)) c r m n (now (work .exit)) e ⌝ }
+    ensures { λ e. ⌜ HeaderTried anEnsures (now (text .entry)) (now (work .entry)) c r m n (now (work .exit)) e ⌝ }
 {
-    let e = atoms::put_formula(text, work, r, n, c);
+    let p = atoms::put_formula(text, work, r, n, c);
+    let Put::Done(e) = p else {
+        return Put::Bad;
+    };
     emit::put_ensures(work, m, n, e - n);
-    e
+    Put::Done(e)
 }
