@@ -1,4 +1,4 @@
--- A line without atoms that passes the tests: its row fits, and means its statement.
+-- A line without atoms that is good: its row fits, and means its statement.
 use mathlib.Core.Path.{_≡_, refl, sym, ap, _∙_}
 use mathlib.Core.Bool.{Bool, true, false, not, _&&_, _||_}
 use mathlib.Core.List.{List, [], _∷_}
@@ -8,16 +8,14 @@ use native.Mathlib.Omega.{arith}
 use lib.ListN.{length, getD, drop}
 use lib.Seq.{getD-drop}
 use borrow.Author.Tests.{ltb-true, not-true}
-use Rattle.rules.specs.Base as Base
 use Rattle.rules.specs.Base.{Name, any, eqName}
 use Rattle.rules.specs.Limits.{most-statements}
-use Rattle.rules.specs.Text.{reserved, isName}
-use Rattle.rules.specs.Grammar as Grammar
+use Rattle.rules.specs.Text.{reserved}
 use Rattle.rules.specs.Grammar.{Kind, Set, New, Call, Return, Else, End}
 use Rattle.rules.specs.Scope as Scopes
-use Rattle.rules.specs.Scope.{Declarations, Variable, Scope}
+use Rattle.rules.specs.Scope.{Declarations, Variable}
 use Rattle.rules.specs.Names as Names
-use Rattle.rules.specs.Names.{inScope, isInt, knownField, knownMethod, isClass, isFieldOf, isMethodOf, variableType, fieldNumber, classNumber, methodNumber}
+use Rattle.rules.specs.Names.{inScope, isLocal, isInt, knownField, knownMethod, isClass, isFieldOf, isMethodOf, variableType, variableNumber, fieldNumber, classNumber, methodNumber}
 use Rattle.rules.specs.Items as Items
 use Rattle.rules.specs.Items.{itemOf}
 use Rattle.leaves.proofs.Search.{both-true, true-false}
@@ -36,8 +34,10 @@ use Rattle.emit.proofs.Rows.{row-written, set-means, new-means, call-means, ret
 use Rattle.pass.specs.Passes.{counts}
 use Rattle.declare.specs.Texts.{SpanAfter}
 use Rattle.declare.specs.Declares.{lineWith}
+use Rattle.declared.specs.Answers.{good}
 use Rattle.atoms.proofs.Sides.{variable-small, field-small}
-use Rattle.plain.specs.Plain.{bare, setRow, newRow, callRow, returnRow, Tested}
+use Rattle.plain.specs.Plain.{bare, setRow, newRow, callRow, returnRow, setGood, newGood, callApart, callKnown, callGood, returnGood}
+use Rattle.plain.proofs.Goods.{local-known}
 
 -- the fourth field of a line
 pub fourth :
@@ -49,7 +49,7 @@ fourth {t} {r} x y z u =
     ∙ (getD-drop 1 (drop 1 (drop 1 (more (drop r t)))) 0 []
     ∙ (getD-drop 1 (drop 1 (more (drop r t))) 1 [] ∙ getD-drop 1 (more (drop r t)) 2 [])))
 
-module _ (t w : List ℕ) (c : Counts.Names) (fits : Fits c) (s : Scope) (n l : ℕ) where
+module _ (t w : List ℕ) (c : Counts.Names) (fits : Fits c) (n l : ℕ) where
   abbrev Γ : Declarations
   Γ = declarationsIn t w c
 
@@ -99,81 +99,72 @@ module _ (t w : List ℕ) (c : Counts.Names) (fits : Fits c) (s : Scope) (n l : 
       ltb-true (classNumber Γ C) (c .classes) (sym (class-any t w c C) ∙ a .1)
 
   -- BY THE KIND OF THE LINE
-  pub set-ok : (ws : List Name) → Tested Γ vs s (lineWith Set ws) → RowOk (counts c) n (setRow Γ vs ws l)
-  unfolding Grammar.opened Scopes.opened Names.allKnown Names.known Names.allTyped Names.ofClass Base.all setRow
-  set-ok [] x = true-false (sym (x .formed))
-  set-ok (u ∷ []) x = true-false (sym (both-true (isName u) false (x .formed) .1))
-  set-ok (u ∷ v ∷ []) x = true-false (sym (both-true (isName v) false (both-true (isName u) (isName v && false) (x .formed) .1) .1))
-  set-ok (u ∷ v ∷ y ∷ ws) x =
-      let a = both-true (inScope vs u) _ (x .known) in
-      let b = both-true (knownField Γ vs u v) _ (a .1) in
-      let d = both-true (inScope vs y) _ (b .1) in
-      let e = both-true (not (isInt vs u)) _ (both-true _ _ (x .typed) .0) in
-      bare-ok 8 _ _ _ _ (omega arith) (omega arith) (λ e. omega arith) (λ e. omega arith) (variable-small t w c fits u (a .0))
-      (variable-small t w c fits y (d .0)) (omega arith) (λ i. field-known u v (b .0) (e .0)) (λ i. absurd (omega arith)) (λ i. absurd (omega arith))
+  pub set-ok : (ws : List Name) → setGood Γ vs ws ≡ true → RowOk (counts c) n (setRow Γ vs ws l)
+  unfolding setGood setRow good Names.knownExpr Names.ofClassIn
+  set-ok ws e =
+      let u : Name = getD ws 0 [] in
+      let v : Name = getD ws 1 [] in
+      let a = both-true ((inScope vs u && knownField Γ vs u v) && not (isInt vs u)) _ e in
+      let p = both-true (inScope vs u && knownField Γ vs u v) (not (isInt vs u)) (a .0) in
+      let b = both-true (inScope vs u) (knownField Γ vs u v) (p .0) in
+      let d = both-true (inScope vs (getD ws 2 [])) _ (a .1) in
+      bare-ok 8 _ _ _ _ (omega arith) (omega arith) (λ e. omega arith) (λ e. omega arith) (variable-small t w c fits u (b .0))
+      (variable-small t w c fits (getD ws 2 []) (d .0)) (omega arith) (λ i. field-known u v (b .1) (p .1)) (λ i. absurd (omega arith)) (λ i. absurd (omega arith))
 
-  pub new-ok : (ws : List Name) → Tested Γ vs s (lineWith New ws) → RowOk (counts c) n (newRow Γ vs ws l)
-  unfolding Grammar.opened Scopes.opened Names.allKnown Names.known Names.allTyped Names.ofClass Base.all newRow
-  new-ok [] x = true-false (sym (x .formed))
-  new-ok (u ∷ []) x = true-false (sym (both-true (isName u) false (x .formed) .1))
-  new-ok (u ∷ v ∷ ws) x =
-      let a = both-true (inScope vs u) _ (x .known) in
-      let b = both-true (isClass Γ v) _ (a .1) in
-      bare-ok 10 _ _ _ _ (omega arith) (omega arith) (λ e. omega arith) (λ e. omega arith) (variable-small t w c fits u (a .0))
-      (omega arith) (omega arith) (λ i. absurd (omega arith)) (λ i. class-known v (b .0)) (λ i. absurd (omega arith))
+  pub new-ok : (ws : List Name) → newGood Γ vs ws ≡ true → RowOk (counts c) n (newRow Γ vs ws l)
+  unfolding newGood newRow
+  new-ok ws e =
+      let a = both-true (isLocal (variableNumber vs (getD ws 0 []))) _ e in
+      let b = both-true (isClass Γ (getD ws 1 [])) _ (a .1) in
+      bare-ok 10 _ _ _ _ (omega arith) (omega arith) (λ e. omega arith) (λ e. omega arith)
+      (variable-small t w c fits (getD ws 0 []) (local-known vs (getD ws 0 []) (a .0)))
+      (omega arith) (omega arith) (λ i. absurd (omega arith)) (λ i. class-known (getD ws 1 []) (b .0)) (λ i. absurd (omega arith))
 
-  pub return-ok : (ws : List Name) → Tested Γ vs s (lineWith Return ws) → RowOk (counts c) n (returnRow Γ vs ws l)
-  unfolding Grammar.opened Scopes.opened Names.allKnown Names.known Names.allTyped Names.ofClass Base.all returnRow
-  return-ok [] x = true-false (sym (x .formed))
-  return-ok (u ∷ ws) x =
-      let a = both-true (inScope vs u) _ (x .known) in
-      bare-ok 12 _ _ _ _ (omega arith) (omega arith) (λ e. omega arith) (λ e. omega arith) (variable-small t w c fits u (a .0))
+  pub return-ok : (ws : List Name) → returnGood Γ vs ws ≡ true → RowOk (counts c) n (returnRow Γ vs ws l)
+  unfolding returnGood returnRow
+  return-ok ws e =
+      let a = both-true (inScope vs (getD ws 0 [])) _ e in
+      bare-ok 12 _ _ _ _ (omega arith) (omega arith) (λ e. omega arith) (λ e. omega arith) (variable-small t w c fits (getD ws 0 []) (a .0))
       (omega arith) (omega arith) (λ i. absurd (omega arith)) (λ i. absurd (omega arith)) (λ i. absurd (omega arith))
 
-  pub call-ok : (ws : List Name) → Tested Γ vs s (lineWith Call ws) → RowOk (counts c) n (callRow Γ vs ws l)
-  unfolding Grammar.opened Scopes.opened Names.allKnown Names.known Names.allTyped Names.ofClass Base.all callRow
-  call-ok [] x = true-false (sym (x .formed))
-  call-ok (u ∷ []) x = true-false (sym (both-true (isName u) false (x .formed) .1))
-  call-ok (u ∷ v ∷ []) x =
-      true-false (sym (both-true (isName v) false (both-true (isName u) (isName v && false) (x .formed) .1) .1))
-  call-ok (u ∷ v ∷ y ∷ []) x =
-      let f = both-true (isName u) (isName v && (isName y && false)) (x .formed) in
-      let g = both-true (isName v) (isName y && false) (f .1) in
-      true-false (sym (both-true (isName y) false (g .1) .1))
-  call-ok (u ∷ v ∷ y ∷ z ∷ ws) x =
-      let a = both-true (inScope vs u) _ (x .known) in
-      let b = both-true (inScope vs v) _ (a .1) in
-      let d = both-true (knownMethod Γ vs v y) _ (b .1) in
-      let e = both-true (inScope vs z) _ (d .1) in
-      let i = both-true (not (isInt vs v)) _ (both-true _ _ (x .typed) .0) in
-      bare-ok 11 _ _ _ _ (omega arith) (omega arith) (λ e. omega arith) (λ e. omega arith) (variable-small t w c fits u (a .0))
-      (variable-small t w c fits v (b .0)) (variable-small t w c fits z (e .0)) (λ i. absurd (omega arith)) (λ i. absurd (omega arith))
-      (λ j. method-known v y (d .0) (i .0))
+  pub call-ok : (ws : List Name) → callGood Γ vs ws ≡ true → RowOk (counts c) n (callRow Γ vs ws l)
+  unfolding callGood callApart callKnown callRow
+  call-ok ws e =
+      let g = both-true (callApart Γ vs ws) _ e in
+      let a = both-true (isLocal (variableNumber vs (getD ws 0 []))) _ (g .0) in
+      let b = both-true (inScope vs (getD ws 1 [])) _ (a .1) in
+      let d = both-true (inScope vs (getD ws 3 [])) _ (b .1) in
+      let k = both-true (callKnown Γ vs ws) _ (g .1) in
+      let m = both-true (not (isInt vs (getD ws 1 []))) _ (k .0) in
+      bare-ok 11 _ _ _ _ (omega arith) (omega arith) (λ e. omega arith) (λ e. omega arith)
+      (variable-small t w c fits (getD ws 0 []) (local-known vs (getD ws 0 []) (a .0)))
+      (variable-small t w c fits (getD ws 1 []) (b .0)) (variable-small t w c fits (getD ws 3 []) (d .0)) (λ i. absurd (omega arith)) (λ i. absurd (omega arith))
+      (λ j. method-known (getD ws 1 []) (getD ws 2 []) (m .1) (m .0))
 
   pub empty-ok : (k : ℕ) → 8 ≤ k → k ≤ 18 → 15 < k → RowOk (counts c) n (bare k 0 0 0 0 l)
   empty-ok k a b d =
       bare-ok k 0 0 0 0 a b (λ e. omega arith) (λ e. omega arith) (omega arith) (omega arith) (omega arith) (λ i. absurd (omega arith))
       (λ i. absurd (omega arith)) (λ i. absurd (omega arith))
 
-  -- WHAT IS WRITTEN: the row of a line that passes the tests is the line's item
+  -- WHAT IS WRITTEN: the row of a good line is the line's item
   module _ (F : Flat) (room : length (F .rows) < most-statements) (h : Holds (counts c) w F n) where
     -- the row r is written
     abbrev Written : Operands → Kind → List Name → Type 0
     Written r k ws = Holds (counts c) (putRow w (length (F .rows)) r) (flatWith F l (itemOf Γ vs k (lineWith k ws))) n
 
-    pub set-written : (ws : List Name) → Tested Γ vs s (lineWith Set ws) → Written (setRow Γ vs ws l) Set ws
+    pub set-written : (ws : List Name) → setGood Γ vs ws ≡ true → Written (setRow Γ vs ws l) Set ws
     unfolding itemOf Items.resolveSet Scopes.operand setRow
     set-written ws x = row-written (counts c) w F n (setRow Γ vs ws l) _ room (set-ok ws x) (set-means w (setRow Γ vs ws l) refl) h
 
-    pub new-written : (ws : List Name) → Tested Γ vs s (lineWith New ws) → Written (newRow Γ vs ws l) New ws
+    pub new-written : (ws : List Name) → newGood Γ vs ws ≡ true → Written (newRow Γ vs ws l) New ws
     unfolding itemOf Scopes.operand newRow
     new-written ws x = row-written (counts c) w F n (newRow Γ vs ws l) _ room (new-ok ws x) (new-means w (newRow Γ vs ws l) refl) h
 
-    pub call-written : (ws : List Name) → Tested Γ vs s (lineWith Call ws) → Written (callRow Γ vs ws l) Call ws
+    pub call-written : (ws : List Name) → callGood Γ vs ws ≡ true → Written (callRow Γ vs ws l) Call ws
     unfolding itemOf Items.resolveCall Scopes.operand callRow
     call-written ws x = row-written (counts c) w F n (callRow Γ vs ws l) _ room (call-ok ws x) (call-means w (callRow Γ vs ws l) refl) h
 
-    pub return-written : (ws : List Name) → Tested Γ vs s (lineWith Return ws) → Written (returnRow Γ vs ws l) Return ws
+    pub return-written : (ws : List Name) → returnGood Γ vs ws ≡ true → Written (returnRow Γ vs ws l) Return ws
     unfolding itemOf Scopes.operand returnRow
     return-written ws x =
         row-written (counts c) w F n (returnRow Γ vs ws l) _ room (return-ok ws x) (return-means w (returnRow Γ vs ws l) refl) h

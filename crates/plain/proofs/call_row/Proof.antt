@@ -1,10 +1,7 @@
 -- `plain::call_row` meets its contract. Assumes nothing.
-use mathlib.Core.Path.{ap, _∙_}
-use Rattle.rules.specs.Names.{variableNumber, methodNumber, variableType}
-use Rattle.declared.specs.Meanings.{declarationsIn, variablesIn}
-use Rattle.declare.proofs.Lines.{second, third}
-use Rattle.plain.specs.Plain.{bare, callRow}
-use Rattle.plain.proofs.Rows.{fourth}
+use borrow.Author.Tests.{not-true, not-false}
+use Rattle.plain.specs.Plain.{RowTried}
+use Rattle.plain.proofs.Tries.{call-apart, call-known, call-tried, call-not-apart, call-unknown}
 use borrow.Author.Needs.{needs}
 use Rattle.plain.proofs.call_row.Statement.{statement}
 use Rattle.plain.proofs.call_row.Tie as tie
@@ -39,39 +36,60 @@ variable-at-requires-2 c κs = search needs
 variable-at-requires-3 : tie.Need-variable-at-requires-3
 variable-at-requires-3 c κs = search needs
 
+may-call-requires : tie.Need-may-call-requires
+may-call-requires c κs = search needs
+
+returns : tie.Need-returns
+unfolding RowTried
+returns c =
+    let v = c .before .before .before .before .before .before .before .before .before .before .before .before .before .before .args in
+    let apart = call-apart (v .text .now) (v .work .now) (v .c) (v .r) (v .line)
+    (c .before .before .before .before .before .before .before .before .before .before .before .span-after .ensures) (c .before .before .before .before .before .before .before .before .before .span-after2 .ensures) (c .before .before .before .before .before .before .before .span-after3 .ensures) (c .before .before .before .before .before .span-after4 .ensures) (c .before .before .before .before .variable-at .ensures) (c .before .before .before .variable-at2 .ensures) (c .before .before .variable-at3 .ensures) (c .before .may-call .ensures) (not-true _ (c .if1 .taken)) in
+    call-not-apart (v .text .now) (v .work .now) (v .c) (v .r) (v .line) apart
+
+type-of-requires : tie.Need-type-of-requires
+type-of-requires c κs = (c .before .before .before .before .before .before .before .before .before .before .before .before .before .before .pre .0 .whole, c .before .before .before .variable-at2 .ensures .within)
+
 name-in-requires : tie.Need-name-in-requires
 name-in-requires c κs = search needs
 
-variable-type-requires : tie.Need-variable-type-requires
-variable-type-requires c κs =
-    (c .before .before .before .before .before .before .before .before .before .before .before .before .before .pre .0 .whole, c .before .before .before .before .before .before .before .before .before .before .before .before .before .pre .0 .fits)
-
-name-in-requires-2 : tie.Need-name-in-requires-2
-name-in-requires-2 c κs = search needs
-
 method-number-requires : tie.Need-method-number-requires
-method-number-requires c κs =
-    (c .before .before .before .before .before .before .before .before .before .before .before .before .before .before .before .pre .0 .whole, c .before .before .before .before .before .before .before .before .before .before .before .before .before .before .before .pre .0 .fits)
+method-number-requires c κs = (c .before .before .before .before .before .before .before .before .before .before .before .before .before .before .before .before .pre .0 .whole, c .before .before .before .before .before .before .before .before .before .before .before .before .before .before .before .before .pre .0 .fits)
+
+has-method-requires : tie.Need-has-method-requires
+has-method-requires c κs = search needs
+
+returns-2 : tie.Need-returns-2
+unfolding RowTried
+returns-2 c =
+    let v = c .before .before .before .before .before .before .before .before .before .before .before .before .before .before .before .before .before .before .before .args in
+    let apart = call-apart (v .text .now) (v .work .now) (v .c) (v .r) (v .line)
+    (c .before .before .before .before .before .before .before .before .before .before .before .before .before .before .before .before .span-after .ensures) (c .before .before .before .before .before .before .before .before .before .before .before .before .before .before .span-after2 .ensures) (c .before .before .before .before .before .before .before .before .before .before .before .before .span-after3 .ensures) (c .before .before .before .before .before .before .before .before .before .before .span-after4 .ensures) (c .before .before .before .before .before .before .before .before .before .variable-at .ensures) (c .before .before .before .before .before .before .before .before .variable-at2 .ensures) (c .before .before .before .before .before .before .before .variable-at3 .ensures) (c .before .before .before .before .before .before .may-call .ensures) (not-false _ (c .before .before .before .before .before .if1 .left)) in
+    let known = call-known (v .text .now) (v .work .now) (v .c) (v .r) (v .line)
+    (c .before .before .before .before .before .before .before .before .before .before .before .before .before .before .before .before .span-after .ensures) (c .before .before .before .before .before .before .before .before .before .before .before .before .before .before .span-after2 .ensures) (c .before .before .before .before .before .before .before .before .before .before .before .before .span-after3 .ensures) (c .before .before .before .before .before .before .before .before .before .before .span-after4 .ensures) (c .before .before .before .before .before .before .before .before .before .variable-at .ensures) (c .before .before .before .before .before .before .before .before .variable-at2 .ensures) (c .before .before .before .before .before .before .before .variable-at3 .ensures)
+    (c .before .before .before .before .type-of .ensures) (c .before .before .before .name-in .ensures) (c .before .before .method-number .ensures .0) (c .before .has-method .ensures) (not-true _ (c .if2 .taken)) in
+    call-unknown (v .text .now) (v .work .now) (v .c) (v .r) (v .line) apart known
+
+call-agrees-requires : tie.Need-call-agrees-requires
+call-agrees-requires c κs = (c .before .before .before .before .before .before .before .before .before .before .before .before .before .before .before .before .before .before .before .pre .0, c .before .before .before .before .before .before .before .before .before .variable-at .ensures .within, c .before .before .before .before .before .before .before .variable-at3 .ensures .within)
 
 row-requires : tie.Need-row-requires
 row-requires c κs = search needs
 
-returns : tie.Need-returns
-unfolding callRow
-returns c =
-    let t = c .before .before .before .before .before .before .before .before .before .before .before .before .before .before .before .before .before .args .text .now in
-    let w = c .before .before .before .before .before .before .before .before .before .before .before .before .before .before .before .before .before .args .work .now in
-    let vs = variablesIn t w (c .before .before .before .before .before .before .before .before .before .before .before .before .before .before .before .before .before .args .c) in
-    let Γ = declarationsIn t w (c .before .before .before .before .before .before .before .before .before .before .before .before .before .before .before .before .before .args .c) in
-    let b = second (c .before .before .before .before .before .before .before .before .before .before .before .before .before .before .span-after .ensures) (c .before .before .before .before .before .before .before .before .before .before .before .before .span-after2 .ensures) in
-    let d = third (c .before .before .before .before .before .before .before .before .before .before .before .before .before .before .span-after .ensures) (c .before .before .before .before .before .before .before .before .before .before .before .before .span-after2 .ensures) (c .before .before .before .before .before .before .before .before .before .before .span-after3 .ensures) in
-    let e = fourth (c .before .before .before .before .before .before .before .before .before .before .before .before .before .before .span-after .ensures) (c .before .before .before .before .before .before .before .before .before .before .before .before .span-after2 .ensures) (c .before .before .before .before .before .before .before .before .before .before .span-after3 .ensures) (c .before .before .before .before .before .before .before .before .span-after4 .ensures) in
-    let x = c .before .before .before .before .before .before .before .variable-at .ensures ∙ ap (variableNumber vs) (c .before .before .before .before .before .before .before .before .before .before .before .before .before .before .span-after .ensures .name) in
-    let y = c .before .before .before .before .before .before .variable-at2 .ensures ∙ ap (variableNumber vs) b in
-    let z = c .before .before .before .before .before .variable-at3 .ensures ∙ ap (variableNumber vs) e in
-    let k = c .before .before .before .variable-type .ensures ∙ ap (variableType vs) (c .before .before .before .before .name-in .ensures ∙ b) in
-    let m = c .before .method-number .ensures .0 ∙ (λ j. methodNumber Γ (k j) ((c .before .before .name-in2 .ensures ∙ d) j)) in
-    c .row .ensures ∙ (λ j. bare 11 (x j) (y j) (z j) (m j) (c .before .before .before .before .before .before .before .before .before .before .before .before .before .before .before .before .before .args .line))
+row-if-requires : tie.Need-row-if-requires
+row-if-requires c κs = search needs
+
+returns-3 : tie.Need-returns-3
+returns-3 c =
+    let v = c .before .before .before .before .before .before .before .before .before .before .before .before .before .before .before .before .before .before .before .before .before .before .args in
+    let apart = call-apart (v .text .now) (v .work .now) (v .c) (v .r) (v .line)
+    (c .before .before .before .before .before .before .before .before .before .before .before .before .before .before .before .before .before .before .before .span-after .ensures) (c .before .before .before .before .before .before .before .before .before .before .before .before .before .before .before .before .before .span-after2 .ensures) (c .before .before .before .before .before .before .before .before .before .before .before .before .before .before .before .span-after3 .ensures) (c .before .before .before .before .before .before .before .before .before .before .before .before .before .span-after4 .ensures) (c .before .before .before .before .before .before .before .before .before .before .before .before .variable-at .ensures) (c .before .before .before .before .before .before .before .before .before .before .before .variable-at2 .ensures) (c .before .before .before .before .before .before .before .before .before .before .variable-at3 .ensures) (c .before .before .before .before .before .before .before .before .before .may-call .ensures) (not-false _ (c .before .before .before .before .before .before .before .before .if1 .left)) in
+    let known = call-known (v .text .now) (v .work .now) (v .c) (v .r) (v .line)
+    (c .before .before .before .before .before .before .before .before .before .before .before .before .before .before .before .before .before .before .before .span-after .ensures) (c .before .before .before .before .before .before .before .before .before .before .before .before .before .before .before .before .before .span-after2 .ensures) (c .before .before .before .before .before .before .before .before .before .before .before .before .before .before .before .span-after3 .ensures) (c .before .before .before .before .before .before .before .before .before .before .before .before .before .span-after4 .ensures) (c .before .before .before .before .before .before .before .before .before .before .before .before .variable-at .ensures) (c .before .before .before .before .before .before .before .before .before .before .before .variable-at2 .ensures) (c .before .before .before .before .before .before .before .before .before .before .variable-at3 .ensures)
+    (c .before .before .before .before .before .before .before .type-of .ensures) (c .before .before .before .before .before .before .name-in .ensures) (c .before .before .before .before .before .method-number .ensures .0) (c .before .before .before .before .has-method .ensures) (not-false _ (c .before .before .before .if2 .left)) in
+    call-tried (v .text .now) (v .work .now) (v .c) (v .r) (v .line)
+    (c .before .before .before .before .before .before .before .before .before .before .before .before .before .before .before .before .before .before .before .span-after .ensures) (c .before .before .before .before .before .before .before .before .before .before .before .before .before .before .before .before .before .span-after2 .ensures) (c .before .before .before .before .before .before .before .before .before .before .before .before .before .before .before .span-after3 .ensures) (c .before .before .before .before .before .before .before .before .before .before .before .before .before .span-after4 .ensures) (c .before .before .before .before .before .before .before .before .before .before .before .before .variable-at .ensures) (c .before .before .before .before .before .before .before .before .before .before .before .variable-at2 .ensures) (c .before .before .before .before .before .before .before .before .before .before .variable-at3 .ensures)
+    (c .before .before .before .before .before .before .before .type-of .ensures) (c .before .before .before .before .before .before .name-in .ensures) (c .before .before .before .before .before .method-number .ensures .0) (c .row-if .result) apart known (c .before .before .call-agrees .ensures) (c .before .row .ensures) (c .row-if .ensures)
 
 pub call-row-spec : {M : Type 1} → statement M
 call-row-spec =
@@ -87,9 +105,14 @@ call-row-spec =
     variable-at-requires
     variable-at-requires-2
     variable-at-requires-3
+    may-call-requires
+    returns
+    type-of-requires
     name-in-requires
-    variable-type-requires
-    name-in-requires-2
     method-number-requires
+    has-method-requires
+    returns-2
+    call-agrees-requires
     row-requires
-    returns)
+    row-if-requires
+    returns-3)

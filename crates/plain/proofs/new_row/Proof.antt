@@ -1,9 +1,5 @@
 -- `plain::new_row` meets its contract. Assumes nothing.
-use mathlib.Core.Path.{ap, _∙_}
-use Rattle.rules.specs.Names.{variableNumber, classNumber}
-use Rattle.declared.specs.Meanings.{declarationsIn, variablesIn}
-use Rattle.declare.proofs.Lines.{second}
-use Rattle.plain.specs.Plain.{bare, newRow}
+use Rattle.plain.proofs.Tries.{new-tried}
 use borrow.Author.Needs.{needs}
 use Rattle.plain.proofs.new_row.Statement.{statement}
 use Rattle.plain.proofs.new_row.Tie as tie
@@ -26,19 +22,20 @@ name-in-requires c κs = search needs
 class-number-requires : tie.Need-class-number-requires
 class-number-requires c κs = search needs
 
+new-fits-requires : tie.Need-new-fits-requires
+new-fits-requires c κs = (c .before .before .before .before .before .before .before .before .pre .0 .whole, c .before .before .variable-at .ensures .within)
+
 row-requires : tie.Need-row-requires
 row-requires c κs = search needs
 
+row-if-requires : tie.Need-row-if-requires
+row-if-requires c κs = search needs
+
 returns : tie.Need-returns
-unfolding newRow
 returns c =
-    let t = c .before .before .before .before .before .before .before .before .before .args .text .now in
-    let w = c .before .before .before .before .before .before .before .before .before .args .work .now in
-    let vs = variablesIn t w (c .before .before .before .before .before .before .before .before .before .args .c) in
-    let Γ = declarationsIn t w (c .before .before .before .before .before .before .before .before .before .args .c) in
-    let x = c .before .before .before .variable-at .ensures ∙ ap (variableNumber vs) (c .before .before .before .before .before .before .span-after .ensures .name) in
-    let k = c .before .class-number .ensures .0 ∙ ap (classNumber Γ) (c .before .before .name-in .ensures ∙ second (c .before .before .before .before .before .before .span-after .ensures) (c .before .before .before .before .span-after2 .ensures)) in
-    c .row .ensures ∙ (λ j. bare 10 (x j) 0 0 (k j) (c .before .before .before .before .before .before .before .before .before .args .line))
+    let v = c .before .before .before .before .before .before .before .before .before .before .before .args in
+    new-tried (v .text .now) (v .work .now) (v .c) (v .r) (v .line) (c .row-if .result) (c .before .before .before .before .before .before .before .before .span-after .ensures) (c .before .before .before .before .before .before .span-after2 .ensures) (c .before .before .before .before .before .variable-at .ensures)
+    (c .before .before .before .before .name-in .ensures) (c .before .before .before .class-number .ensures .0) (c .before .before .new-fits .ensures) (c .before .row .ensures) (c .row-if .ensures)
 
 pub new-row-spec : {M : Type 1} → statement M
 new-row-spec =
@@ -50,5 +47,7 @@ new-row-spec =
     variable-at-requires
     name-in-requires
     class-number-requires
+    new-fits-requires
     row-requires
+    row-if-requires
     returns)

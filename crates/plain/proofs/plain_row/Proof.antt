@@ -1,7 +1,7 @@
 -- `plain::plain_row` meets its contract. Assumes nothing.
-use mathlib.Core.Path.{sym, _∙_}
+use mathlib.Core.Path.{sym}
 use borrow.Author.Tests.{ne-eqb}
-use Rattle.plain.specs.Plain.{plainRow}
+use Rattle.plain.specs.Plain.{plainRow, plainGood}
 use borrow.Author.Needs.{needs}
 use Rattle.plain.proofs.plain_row.Statement.{statement}
 use Rattle.plain.proofs.plain_row.Tie as tie
@@ -21,31 +21,30 @@ return-row-requires c κs = search needs
 row-requires : tie.Need-row-requires
 row-requires c κs = search needs
 
+row-if-requires : tie.Need-row-if-requires
+row-if-requires c κs = search needs
+
 returns : tie.Need-returns
-unfolding plainRow
-returns c =
-    c .set-row .ensures ∙ sym (rw (c .before .match .keys1))
+unfolding plainRow plainGood
+returns c = rw (c .before .match .keys1) (c .set-row .ensures)
 
 returns-2 : tie.Need-returns-2
-unfolding plainRow
-returns-2 c =
-    c .new-row .ensures ∙ sym (rw (c .before .match .keys2))
+unfolding plainRow plainGood
+returns-2 c = rw (c .before .match .keys2) (c .new-row .ensures)
 
 returns-3 : tie.Need-returns-3
-unfolding plainRow
-returns-3 c =
-    c .call-row .ensures ∙ sym (rw (c .before .match .keys3))
+unfolding plainRow plainGood
+returns-3 c = rw (c .before .match .keys3) (c .call-row .ensures)
 
 returns-4 : tie.Need-returns-4
-unfolding plainRow
-returns-4 c =
-    c .return-row .ensures ∙ sym (rw (c .before .match .keys4))
+unfolding plainRow plainGood
+returns-4 c = rw (c .before .match .keys4) (c .return-row .ensures)
 
 returns-5 : tie.Need-returns-5
-unfolding plainRow
+unfolding plainRow plainGood
 returns-5 c =
-    let r = c .before .match .rest in
-    c .row .ensures ∙ sym (rw (ne-eqb _ 8 (r .0 .0 .0 .1), ne-eqb _ 10 (r .0 .0 .1), ne-eqb _ 11 (r .0 .1), ne-eqb _ 12 (r .1)))
+    let r = c .before .before .match .rest in
+    rw (ne-eqb _ 8 (r .0 .0 .0 .1), ne-eqb _ 10 (r .0 .0 .1), ne-eqb _ 11 (r .0 .1), ne-eqb _ 12 (r .1), ← c .before .row .ensures) (c .row-if .ensures)
 
 pub plain-row-spec : {M : Type 1} → statement M
 plain-row-spec =
@@ -56,6 +55,7 @@ plain-row-spec =
     call-row-requires
     return-row-requires
     row-requires
+    row-if-requires
     returns
     returns-2
     returns-3

@@ -1,7 +1,7 @@
 -- `plain::variable_at` meets its contract. Assumes nothing.
-use mathlib.Core.Path.{ap, _∙_}
-use Rattle.rules.specs.Names.{variableNumber}
+use mathlib.Core.Path.{subst}
 use Rattle.declared.specs.Meanings.{variablesIn}
+use Rattle.declared.specs.Answers.{Looked}
 use borrow.Author.Needs.{needs}
 use Rattle.plain.proofs.variable_at.Statement.{statement}
 use Rattle.plain.proofs.variable_at.Tie as tie
@@ -14,10 +14,9 @@ variable-requires c κs = search needs
 
 returns : tie.Need-returns
 returns c =
-    let t = c .before .before .before .before .args .text .now in
-    let w = c .before .before .before .before .args .work .now in
-    let vs = variablesIn t w (c .before .before .before .before .args .c) in
-    c .variable .ensures .number ∙ ap (variableNumber vs) (c .before .name-in .ensures)
+    let v = c .before .before .before .before .args in
+    subst (λ x. Looked (v .text .now) (v .work .now) (variablesIn (v .text .now) (v .work .now) (v .c)) x (c .variable .result))
+    (c .before .name-in .ensures) (c .variable .ensures)
 
 pub variable-at-spec : {M : Type 1} → statement M
 variable-at-spec = tie.close (tie.spec name-in-requires variable-requires returns)
