@@ -24,7 +24,7 @@ use Rattle.declared.specs.Answers.{good}
 use Rattle.plain.specs.Plain.{setGood, newGood, callApart, callKnown, callAgrees, callGood, returnGood}
 
 -- FORM: a line of operands alone has as many fields
-formed-length : (os : List Operand) (ws : List Name) → isFormed os nothing ws ≡ true → length ws ≡ length os
+pub formed-length : (os : List Operand) (ws : List Name) → isFormed os nothing ws ≡ true → length ws ≡ length os
 unfolding isFormed Grammar.isTail
 formed-length [] ws e = eqb-true (length ws) 0 e
 formed-length (o ∷ os) [] e = true-false (sym e)

@@ -8,9 +8,9 @@ use lib.ListN.{length, getD, drop}
 use Rattle.rules.specs.Base.{Name, bytes, eqName}
 use Rattle.rules.specs.Limits.{work-bytes}
 use Rattle.rules.specs.Syntax.{path}
-use Rattle.rules.specs.Grammar.{Line, form, isFormed}
+use Rattle.rules.specs.Grammar.{form, isFormed}
 use Rattle.rules.specs.Scope.{MethodDeclaration, Declarations, Variable, Scope}
-use Rattle.rules.specs.Names.{isLocal, inScope, isInt, isClass, knownMethod, variableNumber, variableType, fieldNumber, fieldType, classNumber, methodNumber, methodOfClass, allKnown, allTyped}
+use Rattle.rules.specs.Names.{isLocal, inScope, isInt, isClass, knownMethod, variableNumber, variableType, fieldNumber, fieldType, classNumber, methodNumber, methodOfClass}
 use Rattle.rules.specs.Items.{itemOf}
 use Rattle.lines.specs.Cuts.{more}
 use Rattle.lines.specs.Rows.{kindNumbered}
@@ -107,12 +107,6 @@ RowTried b o Tried.Bad = b ≡ false
 pub record Ready (w : List ℕ) (c : Names) : Type 0 where
   pub whole : length w ≡ work-bytes
   pub fits : Fits c
-
--- the line has its form, and passes the tests of 6 and 7
-pub record Tested (Γ : Declarations) (vs : List Variable) (s : Scope) (l : Line) : Type 0 where
-  pub formed : isFormed (form (l .kind) .operands) (form (l .kind) .tail) (l .fields) ≡ true
-  pub known : allKnown Γ vs s l ≡ true
-  pub typed : allTyped Γ vs l ≡ true
 
 -- by the number of the kind: 8 `set`, 10 `new`, 11 `call`, 12 `return`, 16 `else`, 18 `end`
 unfoldable pub isPlain : ℕ → Bool

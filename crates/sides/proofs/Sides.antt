@@ -3,24 +3,25 @@ use mathlib.Core.Path.{_≡_, refl, sym, ap, subst, _∙_}
 use mathlib.Core.Bool.{Bool, true, false, cond, _&&_}
 use mathlib.Core.List.{List, [], _∷_}
 use mathlib.Core.Logic.{_⊎_, inl, inr, ⊎-elim}
+use mathlib.Core.Option.{some}
 use Prim.Native.Nat.{ℕ, _+_, _≤_, _<_}
 use native.Mathlib.Omega.{arith}
 use lib.Dec.{eqb}
 use lib.ListN.{length, getD, drop}
-use borrow.Author.Tests.{ne-eqb}
+use borrow.Author.Tests.{eqb-true, ne-eqb}
 use Rattle.rules.specs.Base as Base
 use Rattle.rules.specs.Base.{Name}
 use Rattle.rules.specs.Limits.{most-statements}
 use Rattle.rules.specs.Syntax.{Rel, Expr, Atom, Stmt, acc, cmp, simple, assign, if, end}
 use Rattle.rules.specs.Text.{isName, isExpr, exprOf, relOf, isRel, isAtom, atomOf, isFormula, isCondition, formulaOf}
 use Rattle.rules.specs.Grammar as Grammar
-use Rattle.rules.specs.Grammar.{Let, If}
+use Rattle.rules.specs.Grammar.{Kind, Let, If, form, isFormed}
 use Rattle.rules.specs.Scope as Scopes
 use Rattle.rules.specs.Scope.{Declarations, Variable, Scope}
 use Rattle.rules.specs.Names as Names
-use Rattle.rules.specs.Names.{inScope, variableNumber}
+use Rattle.rules.specs.Names.{isLocal, agree, inScope, variableNumber, variableType, exprType}
 use Rattle.rules.specs.Items as Items
-use Rattle.rules.specs.Items.{resolveExpr, resolveAtom, itemOf, aStatement}
+use Rattle.rules.specs.Items.{resolveAtom, itemOf, aStatement}
 use Rattle.leaves.specs.Words.{wordNumber}
 use Rattle.leaves.proofs.Search.{both-true, true-false, between-true}
 use Rattle.leaves.proofs.Words.{acc-is, rel-is}
@@ -31,7 +32,11 @@ use Rattle.tables.specs.Decode as Decode
 use Rattle.tables.specs.Decode.{byteAt}
 use Rattle.tables.specs.Stores.{Kept, meaning}
 use Rattle.declared.specs.declared.Names as Counts
+use Rattle.declared.specs.declared.Span.{Span}
+use Rattle.declared.specs.declared.Lookup.{Lookup}
+use Rattle.declared.specs.Rows.{nameIn}
 use Rattle.declared.specs.Meanings.{declarationsIn, variablesIn}
+use Rattle.declared.specs.Answers.{good, Looked, LookIs, typeOf, typeMeant}
 use Rattle.assembly.specs.Flat.{Flat, flatWith}
 use Rattle.emit.specs.Puts.{putAtom, putRow, RowBytes}
 use Rattle.emit.specs.Holds as Holds
@@ -39,18 +44,19 @@ use Rattle.emit.specs.Holds.{Declared, SideOk, AtomOk, accessOf, RowOk, Holds}
 use Rattle.emit.proofs.Atoms.{atom-names, atom-length}
 use Rattle.emit.proofs.Rows.{row-bytes, row-names, row-length}
 use Rattle.emit.proofs.Statements.{let-written, if-written}
+use Rattle.declare.specs.Texts.{SpanAfter}
 use Rattle.declare.specs.Declares.{lineWith}
+use Rattle.declare.proofs.Lines.{second, third}
+use Rattle.pass.specs.Passes.{isGood}
 use Rattle.atoms.specs.declared.AtomRow.{AtomRow}
-use Rattle.atoms.specs.Good.{good, goodAtom}
-use Rattle.atoms.specs.Written.{Resolved, Ready}
+use Rattle.atoms.specs.declared.Tried.{Tried}
+use Rattle.atoms.specs.declared.Put.{Put}
+use Rattle.atoms.specs.Good.{fitsAtom}
+use Rattle.atoms.specs.Written.{Resolved, AtomTried, Ready}
 use Rattle.atoms.proofs.Sides.{variable-small, compared-is}
-use Rattle.atoms.proofs.Goods.{line-good}
-use Rattle.plain.specs.Plain.{Tested}
-use Rattle.sides.specs.Sides.{oneRow, SideFollows, SidePut}
-
-both : (a b : Bool) → a ≡ true → b ≡ true → (a && b) ≡ true
-both true b p q = q
-both false b p q = true-false (sym p)
+use Rattle.atoms.proofs.Goods.{formula-good}
+use Rattle.plain.proofs.Goods.{formed-length, local-known}
+use Rattle.sides.specs.Sides.{oneRow, letGood, SideFollows, SidePut, SideTried}
 
 no-access : (u a b : Name) → isRel u ≡ true → atomOf u a b ≡ cmp (relOf u) (exprOf a) (exprOf b)
 unfolding atomOf
@@ -58,42 +64,73 @@ no-access u a b e =
     let r = between-true 20 21 (wordNumber u) (sym (rel-is u) ∙ e) in
     rw (acc-is u, ne-eqb (wordNumber u) 19 (λ z. omega (arith, r)))
 
--- WHAT THE TESTS GIVE
+-- THE TESTS OF A LINE THAT HAS ITS FORM
+abbrev Formed : Kind → List Name → Type 0
+Formed k ws = isFormed (form k .operands) (form k .tail) ws ≡ true
+
+let-form : (ws : List Name) → Formed Let ws → isExpr (getD ws 1 []) ≡ true
+unfolding Grammar.opened
+let-form [] e = true-false (sym e)
+let-form (u ∷ []) e = true-false (sym (both-true (isName u) false e .1))
+let-form (u ∷ v ∷ ws) e = both-true (isExpr v) _ (both-true (isName u) _ e .1) .0
+
+-- the fields of `if`
+pub record IfForm (u a b : Name) : Type 0 where
+  pub form : isAtom u a b ≡ true
+  pub compared : atomOf u a b ≡ cmp (relOf u) (exprOf a) (exprOf b)
+
+if-form : (ws : List Name) → Formed If ws → IfForm (getD ws 0 []) (getD ws 1 []) (getD ws 2 [])
+unfolding Grammar.opened isCondition isFormula
+if-form [] x = true-false (sym x)
+if-form (u ∷ []) x = true-false (sym x)
+if-form (u ∷ a ∷ []) x = true-false (sym x)
+if-form (u ∷ a ∷ b ∷ ws) x =
+    let f = both-true (isRel u) _ (both-true (eqb (length (u ∷ a ∷ b ∷ ws)) 3) _ x .1) in
+    record { form = both-true (isAtom u a b) _ (f .1) .0; compared = no-access u a b (f .0) }
+
+and-true : (a : Bool) → (a && true) ≡ a
+and-true true = refl
+and-true false = refl
+
 module _ (Γ : Declarations) (vs : List Variable) (s : Scope) where
-  pub record LetFacts (u v : Name) : Type 0 where
-    pub variable : inScope vs u ≡ true
-    pub form : isExpr v ≡ true
-    pub good : good Γ vs (exprOf v) ≡ true
+  let-shuffle :
+      (x k o a l : Bool) → (l ≡ true → x ≡ true) →
+      ((x && (k && true)) && (((o && true) && (a && true)) && ((l && true) && true))) ≡ (l && ((k && o) && a))
+  let-shuffle false k o a true h = true-false (sym (h refl))
+  let-shuffle false k o a false h = refl
+  let-shuffle true false o a true h = refl
+  let-shuffle true false o a false h = refl
+  let-shuffle true true false a true h = refl
+  let-shuffle true true false a false h = refl
+  let-shuffle true true true false true h = refl
+  let-shuffle true true true false false h = refl
+  let-shuffle true true true true true h = refl
+  let-shuffle true true true true false h = refl
 
-  pub let-facts : (ws : List Name) → Tested Γ vs s (lineWith Let ws) → LetFacts (getD ws 0 []) (getD ws 1 [])
-  unfolding Grammar.opened Scopes.opened Names.allKnown Names.known Names.allTyped Names.ofClass Base.all good
-  let-facts [] x = true-false (sym (x .formed))
-  let-facts (u ∷ []) x = true-false (sym (both-true (isName u) false (x .formed) .1))
-  let-facts (u ∷ v ∷ ws) x =
-      let a = both-true (inScope vs u) _ (x .known) in
-      let b = both-true (Names.knownExpr Γ vs (exprOf v)) _ (a .1) in
-      let d = both-true (Names.ofClassIn Γ vs (exprOf v)) _ (both-true _ _ (x .typed) .0) in
-      let f = both-true (isExpr v) _ (both-true (isName u) _ (x .formed) .1) in
-      record { variable = a .0; form = f .0; good = both _ _ (b .0) (d .0) }
+  let-two : (ws : List Name) → length ws ≡ 2 → isGood Γ vs s (lineWith Let ws) ≡ letGood Γ vs ws
+  unfolding Base.all Grammar.opened Scopes.opened Names.allKnown Names.known Names.allTyped Names.ofClass Names.sidesAgree Names.allAssignable Names.mayBeAssigned Names.callApart formulaOf isGood letGood good
+  let-two [] e = absurd (omega arith)
+  let-two (u ∷ []) e = absurd (omega arith)
+  let-two (u ∷ v ∷ []) e =
+      let-shuffle (inScope vs u) (Names.knownExpr Γ vs (exprOf v)) (Names.ofClassIn Γ vs (exprOf v))
+      (agree (some (variableType vs u)) (exprType Γ vs (exprOf v))) (isLocal (variableNumber vs u)) (local-known vs u)
+  let-two (u ∷ v ∷ x ∷ ws) e = absurd (omega arith)
 
-  pub record IfFacts (u a b : Name) : Type 0 where
-    pub form : isAtom u a b ≡ true
-    pub good : goodAtom Γ vs (atomOf u a b) ≡ true
-    pub compared : atomOf u a b ≡ cmp (relOf u) (exprOf a) (exprOf b)
+  let-good : (ws : List Name) → Formed Let ws → isGood Γ vs s (lineWith Let ws) ≡ letGood Γ vs ws
+  unfolding Grammar.opened
+  let-good ws e = let-two ws (formed-length (form Let .operands) ws e)
 
-  pub if-facts : (ws : List Name) → Tested Γ vs s (lineWith If ws) → IfFacts (getD ws 0 []) (getD ws 1 []) (getD ws 2 [])
-  unfolding Grammar.opened isCondition isFormula formulaOf Base.all
-  if-facts [] x = true-false (sym (x .formed))
-  if-facts (u ∷ []) x = true-false (sym (x .formed))
-  if-facts (u ∷ a ∷ []) x = true-false (sym (x .formed))
-  if-facts (u ∷ a ∷ b ∷ ws) x =
-      let f = both-true (isRel u) _ (both-true (eqb (length (u ∷ a ∷ b ∷ ws)) 3) _ (x .formed) .1) in
-      let g = line-good Γ vs s (lineWith If (u ∷ a ∷ b ∷ ws)) refl (x .known) (x .typed) in
-      record {
-        form = both-true (isAtom u a b) _ (f .1) .0;
-        good = both-true (goodAtom Γ vs (atomOf u a b)) _ g .0;
-        compared = no-access u a b (f .0);
-      }
+  if-good :
+      (ws : List Name) → Formed If ws →
+      isGood Γ vs s (lineWith If ws) ≡ fitsAtom Γ vs (atomOf (getD ws 0 []) (getD ws 1 []) (getD ws 2 []))
+  unfolding Grammar.opened isCondition formulaOf Base.all isGood
+  if-good [] x = true-false (sym x)
+  if-good (u ∷ []) x = true-false (sym x)
+  if-good (u ∷ a ∷ []) x = true-false (sym x)
+  if-good (u ∷ a ∷ b ∷ []) x = formula-good Γ vs s (lineWith If (u ∷ a ∷ b ∷ [])) refl ∙ and-true (fitsAtom Γ vs (atomOf u a b))
+  if-good (u ∷ a ∷ b ∷ d ∷ ws) x =
+      let z : length (u ∷ a ∷ b ∷ d ∷ ws) ≡ 3 = eqb-true _ 3 (both-true (eqb (length (u ∷ a ∷ b ∷ d ∷ ws)) 3) _ x .0) in
+      absurd (omega (arith, z))
 
 -- THE ROW
 one-ok : (D : Declared) (k x n l : ℕ) → (k ≡ 9) ⊎ (k ≡ 15) → x < frame-variables → RowOk D (n + 1) (oneRow k x n l)
@@ -172,51 +209,80 @@ module _ (t w : List ℕ) (c : Counts.Names) (r i n l : ℕ) (ready : Ready t w 
     stored F j = sym (f ∙ (λ z. putRow (e z) (sym j z) (oneRow k x n l)))
 
   -- LET
-  module _ (y : SideFollows Let t w c r n) where
-    pub let-given : LetFacts Γ vs (y .scope) (getD ws 0 []) (getD ws 1 [])
-    let-given = let-facts Γ vs (y .scope) ws (y .tested)
+  module _ (y : SideFollows Let t r n) where
+    pub let-formed : isExpr (getD ws 1 []) ≡ true
+    let-formed = let-form ws (y .formed)
 
-    pub let-variable : {x : ℕ} → x ≡ variableNumber vs (getD ws 0 []) → x < frame-variables
-    let-variable e = omega (arith, e, variable-small t w c (ready .fits) (getD ws 0 []) (let-given .variable))
+    module _ {a b : Span} {u v : Name} {x : ℕ} {e : Lookup} (p : SpanAfter t r a) (p2 : SpanAfter t (a .start + a .len) b) (eu : u ≡ nameIn t a)
+        (ev : v ≡ nameIn t b) (hx : Looked t w vs u x) (he : LookIs t Γ vs (exprOf v) e) {g : Bool}
+        (answer : g ≡ (isLocal x && (e .good && agree (some (nameIn t (typeOf w x))) (typeMeant t (e .is))))) where
+      X : Looked t w vs (getD ws 0 []) x
+      X = subst (λ z. Looked t w vs z x) (eu ∙ p .name) hx
 
-    pub let-atom : {b : Tables.Expr} → meaning b ≡ resolveExpr Γ vs (exprOf (getD ws 1 [])) → AtomOk 1 Tables.Expr.Null b
-    unfolding SideOk
-    let-atom {b} m =
-        let g = let-given in
-        let o = compared-is t w c (ready .fits) 1 (getD ws 1 []) (getD ws 1 []) b b (omega arith) (omega arith) (g .form) (g .form) (g .good) (g .good) m m .ok in
-        record { kind = omega arith; left = tt; right = o .right; access = λ z. absurd (omega arith) }
+      E : LookIs t Γ vs (exprOf (getD ws 1 [])) e
+      E = subst (λ z. LookIs t Γ vs (exprOf z) e) (ev ∙ second p p2) he
 
-    pub let-put :
-        {x : ℕ} (b : Tables.Expr) {u v : List ℕ} → x ≡ variableNumber vs (getD ws 0 []) →
-        meaning b ≡ resolveExpr Γ vs (exprOf (getD ws 1 [])) → u ≡ putAtom w n 1 Tables.Expr.Null b → v ≡ putRow u i (oneRow 9 x n l) →
-        SidePut Let t w c r i n l v (n + 1)
-    unfolding itemOf Scopes.operand
-    let-put {x} b g m e f =
-        record {
-          count = refl;
-          built = λ D F j h.
-              subst (λ z. Holds D z (flatWith F l (itemOf Γ vs Let (lineWith Let ws))) (n + 1))
-              (stored (y .room) 9 x 1 Tables.Expr.Null b (let-atom m) e f F j)
-              (subst (λ z. Holds D (putRow (putAtom w n 1 Tables.Expr.Null b) (length (F .rows)) (oneRow 9 x n l)) (flatWith F l z) (n + 1))
-              (λ z. aStatement (simple (assign (g z) (m z))))
-              (let-written D w F n 1 Tables.Expr.Null b (oneRow 9 x n l) (y .room) (omega (arith, j, few)) (let-atom m)
-              (one-ok D 9 x n l (inl refl) (let-variable g)) refl h refl));
-          names = names-kept (y .room) 9 x 1 Tables.Expr.Null b (let-atom m) e f;
-          size = size-kept (y .room) 9 x 1 Tables.Expr.Null b (let-atom m) e f;
-        }
+      let-is : g ≡ letGood Γ vs ws
+      unfolding letGood
+      let-is = answer ∙ (λ j. isLocal (X .number j) && (E .good j && agree (some (sym (X .type) j)) (E .is j)))
+
+      pub let-bad : g ≡ false → SideTried Let t w c r i n l w Put.Bad
+      unfolding SideTried
+      let-bad f = (λ s. let-good Γ vs s ws (y .formed) ∙ (sym let-is ∙ f), λ j q d. refl, refl)
+
+      module _ (fits : g ≡ true) where
+        pub let-variable : x < frame-variables
+        unfolding letGood
+        let-variable =
+            let k = both-true (isLocal (variableNumber vs (getD ws 0 []))) _ (sym let-is ∙ fits) in
+            omega (arith, X .number, variable-small t w c (ready .fits) (getD ws 0 []) (local-known vs (getD ws 0 []) (k .0)))
+
+        pub let-atom : AtomOk 1 Tables.Expr.Null (e .expr)
+        unfolding SideOk letGood
+        let-atom =
+            let k = both-true (isLocal (variableNumber vs (getD ws 0 []))) _ (sym let-is ∙ fits) in
+            let g = both-true (good Γ vs (exprOf (getD ws 1 []))) _ (k .1) .0 in
+            let o = compared-is t w c (ready .fits) 1 (getD ws 1 []) (getD ws 1 []) (e .expr) (e .expr) (omega arith) (omega arith) let-formed let-formed g g (E .expr) (E .expr) .ok in
+            record { kind = omega arith; left = tt; right = o .right; access = λ z. absurd (omega arith) }
+
+        let-put :
+            {q z : List ℕ} → q ≡ putAtom w n 1 Tables.Expr.Null (e .expr) → z ≡ putRow q i (oneRow 9 x n l) → SidePut Let t w c r i n l z (n + 1)
+        unfolding itemOf Scopes.operand
+        let-put d f =
+            record {
+              count = refl;
+              built = λ D F j h.
+                  subst (λ z. Holds D z (flatWith F l (itemOf Γ vs Let (lineWith Let ws))) (n + 1))
+                  (stored (y .room) 9 x 1 Tables.Expr.Null (e .expr) let-atom d f F j)
+                  (subst (λ z. Holds D (putRow (putAtom w n 1 Tables.Expr.Null (e .expr)) (length (F .rows)) (oneRow 9 x n l)) (flatWith F l z) (n + 1))
+                  (λ z. aStatement (simple (assign (X .number z) (E .expr z))))
+                  (let-written D w F n 1 Tables.Expr.Null (e .expr) (oneRow 9 x n l) (y .room) (omega (arith, j, few)) let-atom
+                  (one-ok D 9 x n l (inl refl) let-variable) refl h refl));
+              names = names-kept (y .room) 9 x 1 Tables.Expr.Null (e .expr) let-atom d f;
+              size = size-kept (y .room) 9 x 1 Tables.Expr.Null (e .expr) let-atom d f;
+            }
+
+        pub let-done :
+            {q z : List ℕ} → q ≡ putAtom w n 1 Tables.Expr.Null (e .expr) → z ≡ putRow q i (oneRow 9 x n l) →
+            SideTried Let t w c r i n l z (Put.Done (n + 1))
+        unfolding SideTried
+        let-done d f = (λ s. let-good Γ vs s ws (y .formed) ∙ (sym let-is ∙ fits), let-put d f)
 
   -- IF
-  module _ (y : SideFollows If t w c r n) where
-    pub if-given : IfFacts Γ vs (y .scope) (getD ws 0 []) (getD ws 1 []) (getD ws 2 [])
-    if-given = if-facts Γ vs (y .scope) ws (y .tested)
+  module _ (y : SideFollows If t r n) where
+    if-formed : IfForm (getD ws 0 []) (getD ws 1 []) (getD ws 2 [])
+    if-formed = if-form ws (y .formed)
 
-    pub if-put :
-        {s : AtomRow} {u v : List ℕ} → Resolved Γ vs (atomOf (getD ws 0 []) (getD ws 1 []) (getD ws 2 [])) s →
-        u ≡ putAtom w n (s .kind) (s .left) (s .right) → v ≡ putRow u i (oneRow 15 0 n l) → SidePut If t w c r i n l v (n + 1)
+    abbrev atom : Atom Name
+    atom = atomOf (getD ws 0 []) (getD ws 1 []) (getD ws 2 [])
+
+    if-put :
+        (s : AtomRow) {u v : List ℕ} → Resolved Γ vs atom s → u ≡ putAtom w n (s .kind) (s .left) (s .right) →
+        v ≡ putRow u i (oneRow 15 0 n l) → SidePut If t w c r i n l v (n + 1)
     unfolding itemOf Items.resolveIf Scopes.operand resolveAtom
-    if-put {s} o e f =
+    if-put s o e f =
         let means =
-        condition-is (s .kind) (s .left) (s .right) _ _ _ (o .is ∙ ap (resolveAtom Γ vs) (if-given .compared)) in
+        condition-is (s .kind) (s .left) (s .right) _ _ _ (o .is ∙ ap (resolveAtom Γ vs) (if-formed .compared)) in
         record {
           count = refl;
           built = λ D F j h.
@@ -229,3 +295,34 @@ module _ (t w : List ℕ) (c : Counts.Names) (r i n l : ℕ) (ready : Ready t w 
           names = names-kept (y .room) 15 0 (s .kind) (s .left) (s .right) (o .ok) e f;
           size = size-kept (y .room) 15 0 (s .kind) (s .left) (s .right) (o .ok) e f;
         }
+
+    module _ {a b d : Span} {u x z : Name} (p : SpanAfter t r a) (p2 : SpanAfter t (a .start + a .len) b) (p3 : SpanAfter t (b .start + b .len) d)
+        (eu : u ≡ nameIn t a) (ex : x ≡ nameIn t b) (ez : z ≡ nameIn t d) where
+      pub if-atom : isAtom u x z ≡ true
+      if-atom = (λ j. isAtom ((eu ∙ p .name) j) ((ex ∙ second p p2) j) ((ez ∙ third p p2 p3) j)) ∙ if-formed .form
+
+      atom-is : atomOf u x z ≡ atom
+      atom-is j = atomOf ((eu ∙ p .name) j) ((ex ∙ second p p2) j) ((ez ∙ third p p2 p3) j)
+
+      pub if-bad : (q : Tried) → q ≡ Tried.Bad → AtomTried Γ vs (atomOf u x z) q → SideTried If t w c r i n l w Put.Bad
+      unfolding SideTried AtomTried
+      if-bad q e h =
+          let g : fitsAtom Γ vs (atomOf u x z) ≡ false = subst (AtomTried Γ vs (atomOf u x z)) e h in
+          (λ s. if-good Γ vs s ws (y .formed) ∙ (ap (fitsAtom Γ vs) (sym atom-is) ∙ g), λ j k m. refl, refl)
+
+      module _ (q : Tried) (s : AtomRow) (e : q ≡ Tried.Row s) (h : AtomTried Γ vs (atomOf u x z) q) where
+        if-row : (fitsAtom Γ vs (atomOf u x z) ≡ true) × Resolved Γ vs (atomOf u x z) s
+        unfolding AtomTried
+        if-row = subst (AtomTried Γ vs (atomOf u x z)) e h
+
+        pub if-ok : AtomOk (s .kind) (s .left) (s .right)
+        if-ok = if-row .1 .ok
+
+        pub if-done :
+            {f v : List ℕ} → f ≡ putAtom w n (s .kind) (s .left) (s .right) → v ≡ putRow f i (oneRow 15 0 n l) →
+            SideTried If t w c r i n l v (Put.Done (n + 1))
+        unfolding SideTried
+        if-done k m = (
+          λ s. if-good Γ vs s ws (y .formed) ∙ (ap (fitsAtom Γ vs) (sym atom-is) ∙ if-row .0),
+          if-put s (subst (λ z. Resolved Γ vs z s) atom-is (if-row .1)) k m,
+        )

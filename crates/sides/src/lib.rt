@@ -1,12 +1,22 @@
+use atoms::Put;
+use atoms::Tried;
+use declared::ExprType;
+use declared::Lookup;
 use declared::Names;
 use emit::Operands;
 use tables::Expr;
 ghost use mathlib.Core.Path.{_≡_};
-ghost use Prim.Native.Nat.{_<_};
-ghost use Rattle.rules.specs.Limits.{most-statements};
+ghost use mathlib.Core.Bool.{_&&_};
+ghost use mathlib.Core.Option.{some};
+ghost use Prim.Native.Nat.{_≤_, _<_};
+ghost use lib.ListN.{length};
+ghost use Rattle.rules.specs.Limits.{work-bytes, most-statements};
 ghost use Rattle.rules.specs.Grammar.{Let, If};
+ghost use Rattle.rules.specs.Names.{isLocal, agree};
+ghost use Rattle.declared.specs.Rows.{nameIn};
+ghost use Rattle.declared.specs.Answers.{typeOf, typeMeant};
 ghost use Rattle.atoms.specs.Written.{Ready};
-ghost use Rattle.sides.specs.Sides.{oneRow, SideFollows, SidePut};
+ghost use Rattle.sides.specs.Sides.{oneRow, SideFollows, SideTried};
 
 fn row(kind: usize, x: usize, n: usize, line: usize) -> Operands
     ensures { λ r. ⌜ r ≡ oneRow kind x n line ⌝ }
@@ -23,8 +33,27 @@ fn row(kind: usize, x: usize, n: usize, line: usize) -> Operands
     }
 }
 
-// Writes `let x e`, the word of which ends at r: e as the right side of the atom n, and the statement as the row i; gives the number
-// after the atom.
+// Is x a local of the type of e?
+fn let_fits(text: &[u8], work: &[u8], x: usize, e: Lookup) -> bool
+    requires { ⌜ (length (now work) ≡ work-bytes) × (x ≤ 15) ⌝ }
+    ensures { λ r. ⌜ r ≡ (isLocal x && (e .good && agree (some (nameIn (now (text .entry)) (typeOf (now (work .entry)) x))) (typeMeant (now (text .entry)) (e .is)))) ⌝ }
+{
+    if x < 2 {
+        return false;
+    }
+    if 14 <= x {
+        return false;
+    }
+    if !e.good {
+        return false;
+    }
+    let s = declared::type_of(work, x);
+    let is = e.is;
+    declared::agree(text, ExprType::Named(s), is)
+}
+
+// Tries `let x e`, the word of which ends at r. If it is good, e is written as the right side of the atom n, and the statement as the
+// row i; then it gives the number after the atom.
 pub fn put_let(
     text: &[u8],
     work: &mut [u8],
@@ -33,21 +62,25 @@ pub fn put_let(
     i: usize,
     n: usize,
     line: usize,
-) -> usize
-    requires { ⌜ Ready (now text) (now work) c × SideFollows Let (now text) (now work) c r n × (i < most-statements) × (line < 65536) ⌝ }
-    ensures { λ m. ⌜ SidePut Let (now (text .entry)) (now (work .entry)) c r i n line (now (work .exit)) m ⌝ }
+) -> Put
+    requires { ⌜ Ready (now text) (now work) c × SideFollows Let (now text) r n × (i < most-statements) × (line < 65536) ⌝ }
+    ensures { λ p. ⌜ SideTried Let (now (text .entry)) (now (work .entry)) c r i n line (now (work .exit)) p ⌝ }
 {
     let a = declare::span_after(text, r);
     let b = declare::span_after(text, a.start + a.len);
     let x = declared::variable(text, work, c, declared::name_in(text, a));
-    let e = declared::resolve_expr(text, work, c, declared::name_in(text, b));
+    let l = declared::look(text, work, c, declared::name_in(text, b));
+    if !let_fits(text, work, x, l) {
+        return Put::Bad;
+    }
+    let e = l.expr;
     let o = row(9, x, n, line);
     emit::put_atom(work, n, 1, Expr::Null, e);
     emit::put_row(work, i, o);
-    n + 1
+    Put::Done(n + 1)
 }
 
-// Writes `if eq e e` or `if ne e e`: its condition as the atom n, and the statement as the row i.
+// Tries `if eq e e` or `if ne e e`: if it is good, its condition is written as the atom n, and the statement as the row i.
 pub fn put_if(
     text: &[u8],
     work: &mut [u8],
@@ -56,9 +89,9 @@ pub fn put_if(
     i: usize,
     n: usize,
     line: usize,
-) -> usize
-    requires { ⌜ Ready (now text) (now work) c × SideFollows If (now text) (now work) c r n × (i < most-statements) × (line < 65536) ⌝ }
-    ensures { λ m. ⌜ SidePut If (now (text .entry)) (now (work .entry)) c r i n line (now (work .exit)) m ⌝ }
+) -> Put
+    requires { ⌜ Ready (now text) (now work) c × SideFollows If (now text) r n × (i < most-statements) × (line < 65536) ⌝ }
+    ensures { λ p. ⌜ SideTried If (now (text .entry)) (now (work .entry)) c r i n line (now (work .exit)) p ⌝ }
 {
     let a = declare::span_after(text, r);
     let b = declare::span_after(text, a.start + a.len);
@@ -66,11 +99,14 @@ pub fn put_if(
     let word = declared::name_in(text, a);
     let x = declared::name_in(text, b);
     let y = declared::name_in(text, d);
-    let s = atoms::resolve_atom(text, work, c, word, x, y);
+    let q = atoms::resolve_atom(text, work, c, word, x, y);
+    let Tried::Row(s) = q else {
+        return Put::Bad;
+    };
     let left = s.left;
     let right = s.right;
     let o = row(15, 0, n, line);
     emit::put_atom(work, n, s.kind, left, right);
     emit::put_row(work, i, o);
-    n + 1
+    Put::Done(n + 1)
 }
