@@ -14,7 +14,7 @@ use Rattle.rules.specs.Limits.{most-methods, most-statements, most-atoms}
 use Rattle.rules.specs.Syntax.{Formula}
 use Rattle.rules.specs.Text.{isFormula, formulaOf}
 use Rattle.rules.specs.Grammar as Grammar
-use Rattle.rules.specs.Grammar.{Kind, form, isFormed, isTail, isKind, isStatement, kindNumber}
+use Rattle.rules.specs.Grammar.{Kind, Line, form, isFormed, isTail, isKind, isStatement, kindNumber}
 use Rattle.rules.specs.Scope.{Declarations, Variable, Scope, atomsOf}
 use Rattle.rules.specs.Items as Items
 use Rattle.rules.specs.Items.{Item, itemOf, aStatement, aRequires, anEnsures}
@@ -30,17 +30,18 @@ use Rattle.declared.specs.Meanings.{Fits, declarationsIn, variablesIn, scopeIn}
 use Rattle.assembly.specs.Flat.{Flat, flatWith}
 use Rattle.emit.specs.Holds.{Holds}
 use Rattle.pass.specs.declared.Pass.{Pass}
-use Rattle.pass.specs.Passes.{counts, after, withBlock, namesAfter, seenBy, hasAtoms, isFramed, joinFormula, framedFormula, item, Stands, lineAfter}
+use Rattle.pass.specs.Passes.{counts, after, withBlock, namesAfter, seenBy, hasAtoms, isFramed, joinFormula, framedFormula, item, Stands, lineAfter, isGood, isGoodHere, BadLine}
 use Rattle.declare.specs.Declares.{lineWith}
 use Rattle.atoms.specs.Written as Written
-use Rattle.atoms.specs.Written.{formulaAfter, goodAfter, FormulaFollows}
-use Rattle.atoms.proofs.Goods.{line-good}
+use Rattle.atoms.specs.declared.Put.{Put}
+use Rattle.atoms.specs.Written.{formulaAfter, fitsAfter, FormulaFollows, Unfit}
+use Rattle.atoms.proofs.Goods.{formula-good}
 use Rattle.plain.specs.Plain as Plain
-use Rattle.plain.specs.Plain.{isPlain, PlainFollows, PlainPut}
-use Rattle.claims.specs.Claims.{isClaim, claimOf, ClaimPut, HeaderPut}
+use Rattle.plain.specs.Plain.{isPlain, PlainFollows, PlainPut, PlainTried}
+use Rattle.claims.specs.Claims.{isClaim, claimOf, ClaimPut, HeaderPut, ClaimTried, HeaderTried}
 use Rattle.claims.proofs.Claims.{claim-cases, formula-few}
-use Rattle.sides.specs.Sides.{SideFollows, SidePut}
-use Rattle.bodies.specs.Bodies.{Follows, ItemPut}
+use Rattle.sides.specs.Sides.{SideFollows, SidePut, SideTried}
+use Rattle.bodies.specs.Bodies.{Follows, ItemPut, ItemTried, doneIf}
 use Rattle.bodies.proofs.Lines.{statement-quiet, names-is}
 
 -- KINDS BY THEIR NUMBERS
@@ -207,13 +208,12 @@ module _ {t w : List ℕ} {p : Pass} {k r : ℕ} (x : Follows t w p k r) where
     atoms-ready = record { whole = x .ready .whole; fits = seen-fits }
 
     module _ (K : Kind) (e : kindNumbered k ≡ K) where
-      tested-as : Plain.Tested (declarationsIn t w c) (variablesIn t w c) S (lineWith K ws)
-      unfolding seenBy declarationsIn
-      tested-as =
-          let y : Plain.Tested (declarationsIn t w (p .names)) (variablesIn t w (seenBy (kindNumbered k) (p .names))) S (lineWith (kindNumbered k) ws) =
-          record { formed = x .tested .formed; known = x .tested .known; typed = x .tested .typed } in
-          subst (λ K. Plain.Tested (declarationsIn t w c) (variablesIn t w c) S (lineWith K ws)) e
-          (subst (λ c. Plain.Tested (declarationsIn t w c) (variablesIn t w c) S (lineWith (kindNumbered k) ws)) (sym g) y)
+      formed-as : isFormed (form K .operands) (form K .tail) ws ≡ true
+      formed-as = subst (λ K. isFormed (form K .operands) (form K .tail) ws ≡ true) e (x .formed)
+
+      good-as : isGoodHere t w p (lineAfter t r k) ≡ isGood (declarationsIn t w c) (variablesIn t w c) S (lineWith K ws)
+      unfolding seenBy declarationsIn isGoodHere
+      good-as = λ j. isGood (declarationsIn t w (sym g j)) (variablesIn t w (sym g j)) S (lineWith (e j) ws)
 
       item-as : item t w p (lineAfter t r k) ≡ itemOf (declarationsIn t w c) (variablesIn t w c) K (lineWith K ws)
       unfolding seenBy declarationsIn
@@ -226,22 +226,22 @@ module _ {t w : List ℕ} {p : Pass} {k r : ℕ} (x : Follows t w p k r) where
         atoms-most : cond (hasAtoms (kindNumbered k)) most-atoms 0 ≡ most-atoms
         atoms-most = ap (λ b. cond b most-atoms 0) (ap hasAtoms e ∙ h)
 
-        pub side-follows : SideFollows K t w c r (p .atoms)
-        side-follows = record { high = x .high; scope = S; tested = tested-as; room = omega (arith, atoms-room) }
+        pub side-follows : SideFollows K t r (p .atoms)
+        side-follows = record { high = x .high; formed = formed-as; room = omega (arith, atoms-room) }
 
         pub formula-follows : form K .operands ≡ [] → form K .tail ≡ Grammar.formula → FormulaFollows t w c r (p .atoms)
-        unfolding goodAfter isFormed isTail
+        unfolding isFormed isTail
         formula-follows o f =
-            let i : isFormula most-atoms ws ≡ true = sym (ap₂ (λ os u. isFormed os u ws) o f) ∙ tested-as .formed in
-            record {
-              high = x .high;
-              form = i;
-              good = line-good (declarationsIn t w c) (variablesIn t w c) S (lineWith K ws) o (tested-as .known) (tested-as .typed);
-              room = omega (arith, atoms-room, formula-few t w c r i);
-            }
+            let i : isFormula most-atoms ws ≡ true = sym (ap₂ (λ os u. isFormed os u ws) o f) ∙ formed-as in
+            record { high = x .high; form = i; room = omega (arith, atoms-room, formula-few t w c r i) }
 
-    pub plain-follows : isPlain k ≡ true → PlainFollows t w c k r
-    plain-follows i = record { kind = i; high = x .high; scope = S; tested = tested-as (kindNumbered k) refl }
+      -- a formula is good just if its atoms are
+      pub formula-here : form K .operands ≡ [] → isGoodHere t w p (lineAfter t r k) ≡ fitsAfter t w c r
+      unfolding isGood fitsAfter
+      formula-here o = good-as ∙ formula-good (declarationsIn t w c) (variablesIn t w c) S (lineWith K ws) o
+
+    pub plain-follows : isPlain k ≡ true → PlainFollows t k r
+    plain-follows i = record { kind = i; high = x .high; formed = x .formed }
 
 -- WHAT IS LEFT
 module _ {t w : List ℕ} {p : Pass} {k r : ℕ} (x : Follows t w p k r) {c : Names} (g : c ≡ seenBy (kindNumbered k) (p .names)) where
@@ -325,3 +325,51 @@ module _ {t w : List ℕ} {p : Pass} {k r : ℕ} (x : Follows t w p k r) {c : Na
       formula-put f e (y .count)
       (λ F s. y .built (counts (p .names)) F (p .line + 1) (s .methods ∙ sym l) (s .holds)) (λ F s. y .formula (counts (p .names)) F (s .holds))
       (y .names) (y .size)
+
+  -- AS IT IS TRIED
+  pub side-tried :
+      (K : Kind) (e : kindNumbered k ≡ K) → hasAtoms K ≡ true → isFramed K ≡ false → (v : List ℕ) (y : Put) →
+      SideTried K t w c r (p .rows) (p .atoms) (p .line + 1) v y → ItemTried t w p (lineAfter t r k) v y
+  unfolding SideTried ItemTried
+  side-tried K e h n v (Put.Done m) y = (good-as x g K e ∙ y .0 (S x), side-put K e h n (y .1))
+  side-tried K e h n v Put.Bad y = record { bad = good-as x g K e ∙ y .0 (S x); names = y .1; size = y .2 }
+
+  pub plain-tried :
+      8 ≤ k → k ≤ 18 → (k ≡ 17 → ⊥) → (v : List ℕ) (b : Bool) (z : Put) → z ≡ doneIf b (p .atoms) →
+      PlainTried t w c k r (p .rows) (p .line + 1) v b → ItemTried t w p (lineAfter t r k) v z
+  unfolding PlainTried ItemTried doneIf
+  plain-tried l h n v true z i y =
+      subst (ItemTried t w p (lineAfter t r k) v) (sym i) (good-as x g (kindNumbered k) refl ∙ y .0 (S x), plain-put l h n (y .1))
+  plain-tried l h n v false z i y =
+      subst (ItemTried t w p (lineAfter t r k) v) (sym i)
+      (record {
+        bad = good-as x g (kindNumbered k) refl ∙ y .0 (S x);
+        names = subst (Kept names-at values-at w) (sym (y .1)) (λ j a b. refl);
+        size = ap length (y .1);
+      })
+
+  unfit : {K : Kind} {z : Formula ℕ → Item} → Formulaic K z → kindNumbered k ≡ K → {v : List ℕ} → Unfit t w c r v → BadLine t w p (lineAfter t r k) v
+  unfit {K} f e y = record { bad = formula-here x g K e (f .operands) ∙ y .0; names = y .1; size = y .2 }
+
+  pub claim-tried :
+      isClaim k ≡ true → (v : List ℕ) (y : Put) → ClaimTried t w c k r (p .rows) (p .atoms) (p .line + 1) v y → ItemTried t w p (lineAfter t r k) v y
+  unfolding ClaimTried ItemTried
+  claim-tried i v (Put.Done m) y = (formula-here x g (kindNumbered k) refl (claim-is k i .operands) ∙ y .0, claim-put i (y .1))
+  claim-tried i v Put.Bad y = unfit (claim-is k i) refl y
+
+  pub header-tried :
+      {K : Kind} {z : Formula ℕ → Item} → Formulaic K z → kindNumbered k ≡ K → (n : ℕ) → suc n ≡ after (p .above .methods) → (v : List ℕ) (y : Put) →
+      HeaderTried z t w c r n (p .atoms) v y → ItemTried t w p (lineAfter t r k) v y
+  unfolding HeaderTried ItemTried
+  header-tried {K} f e n l v (Put.Done m) y = (formula-here x g K e (f .operands) ∙ y .0, header-put f e n l (y .1))
+  header-tried f e n l v Put.Bad y = unfit f e y
+
+-- BY ITS CASES
+module _ {t w : List ℕ} {p : Pass} {l : Line} {v : List ℕ} {y : Put} (x : ItemTried t w p l v y) where
+  pub item-done : (m : ℕ) → y ≡ Put.Done m → (isGoodHere t w p l ≡ true) × ItemPut t w p l v m
+  unfolding ItemTried
+  item-done m e = subst (ItemTried t w p l v) e x
+
+  pub item-bad : y ≡ Put.Bad → BadLine t w p l v
+  unfolding ItemTried
+  item-bad e = subst (ItemTried t w p l v) e x

@@ -1,24 +1,27 @@
 -- A line that writes a statement or a formula of a method: what it needs, and what it writes.
 use mathlib.Core.Path.{_≡_}
-use mathlib.Core.Bool.{true, cond}
+use mathlib.Core.Bool.{Bool, true, cond}
 use mathlib.Core.List.{List}
 use Prim.Native.Nat.{ℕ, suc, _+_, _-_, _≤_}
-use lib.ListN.{length}
+use lib.ListN.{length, drop}
 use Rattle.rules.specs.Limits.{most-atoms}
-use Rattle.rules.specs.Grammar.{Line}
+use Rattle.rules.specs.Grammar.{Line, form, isFormed}
+use Rattle.lines.specs.Cuts.{more}
+use Rattle.lines.specs.Rows.{kindNumbered}
 use Rattle.tables.specs.Layout.{names-at, values-at}
 use Rattle.tables.specs.Decode.{atomsFrom}
 use Rattle.tables.specs.Stores.{Kept}
 use Rattle.assembly.specs.Flat.{Flat, flatWith}
 use Rattle.emit.specs.Holds.{Holds}
 use Rattle.pass.specs.declared.Pass.{Pass}
-use Rattle.pass.specs.Passes.{counts, hasAtoms, isFramed, framedFormula, item, Ready, Stands, Tested, Room, lineAfter}
+use Rattle.pass.specs.Passes.{counts, hasAtoms, isFramed, framedFormula, item, Ready, Stands, Room, lineAfter, isGoodHere, BadLine}
+use Rattle.atoms.specs.declared.Put.{Put}
 
--- the line of this kind, whose word ends at r, may be written
+-- the line of this kind, whose word ends at r, may be tried
 pub record Follows (t w : List ℕ) (p : Pass) (k r : ℕ) : Type 0 where
   pub ready : Ready t w p
   pub high : r ≤ length t
-  pub tested : Tested t w p (lineAfter t r k)
+  pub formed : isFormed (form (kindNumbered k) .operands) (form (kindNumbered k) .tail) (more (drop r t)) ≡ true
   pub room : Room t w p (lineAfter t r k)
 
 -- its item is in the tables, and m atoms are written
@@ -30,3 +33,12 @@ pub record ItemPut (t w : List ℕ) (p : Pass) (l : Line) (w′ : List ℕ) (m :
       isFramed (l .kind) ≡ true → (F : Flat) → Stands t w p F → atomsFrom w′ (p .atoms) (m - p .atoms) ≡ framedFormula (item t w p l)
   pub names : Kept names-at values-at w w′
   pub size : length w′ ≡ length w
+
+-- it is written just if it is good
+unfoldable pub ItemTried : (t w : List ℕ) (p : Pass) (l : Line) (w′ : List ℕ) → Put → Type 0
+ItemTried t w p l w′ (Put.Done m) = (isGoodHere t w p l ≡ true) × ItemPut t w p l w′ m
+ItemTried t w p l w′ Put.Bad = BadLine t w p l w′
+
+-- by whether a row without atoms is
+unfoldable pub doneIf : Bool → ℕ → Put
+doneIf b n = cond b (Put.Done n) Put.Bad

@@ -1,11 +1,13 @@
+use atoms::Put;
 use declared::Names;
 use pass::Pass;
+use pass::Tried;
 ghost use mathlib.Core.Path.{_≡_};
 ghost use mathlib.Core.Bool.{not, _&&_};
 ghost use Prim.Native.Nat.{_≤_};
 ghost use Rattle.lines.specs.Rows.{kindNumbered};
-ghost use Rattle.pass.specs.Passes.{seenBy, namesAfter, LinePut, lineAfter};
-ghost use Rattle.bodies.specs.Bodies.{Follows, ItemPut};
+ghost use Rattle.pass.specs.Passes.{seenBy, namesAfter, lineAfter, LineTried};
+ghost use Rattle.bodies.specs.Bodies.{Follows, ItemTried, doneIf};
 
 fn unless(a: bool, b: bool) -> bool
     ensures { λ r. ⌜ r ≡ (a && not b) ⌝ }
@@ -47,10 +49,16 @@ fn names_after(c: Names, kind: u8) -> Names
     }
 }
 
-// Writes the atoms and the row of a statement; gives the number after its last atom.
-fn put_row(text: &[u8], work: &mut [u8], p: Pass, kind: u8, r: usize) -> usize
+fn done_if(b: bool, n: usize) -> Put
+    ensures { λ r. ⌜ r ≡ doneIf b n ⌝ }
+{
+    if b { Put::Done(n) } else { Put::Bad }
+}
+
+// Writes the atoms and the row of a statement, if it is good; gives the number after its last atom.
+fn put_row(text: &[u8], work: &mut [u8], p: Pass, kind: u8, r: usize) -> Put
     requires { ⌜ Follows (now text) (now work) p kind r × ((8 ≤ kind) × (kind ≤ 18)) ⌝ }
-    ensures { λ m. ⌜ ItemPut (now (text .entry)) (now (work .entry)) p (lineAfter (now (text .entry)) r kind) (now (work .exit)) m ⌝ }
+    ensures { λ m. ⌜ ItemTried (now (text .entry)) (now (work .entry)) p (lineAfter (now (text .entry)) r kind) (now (work .exit)) m ⌝ }
 {
     let names = p.names;
     let c = seen(names, kind);
@@ -64,23 +72,23 @@ fn put_row(text: &[u8], work: &mut [u8], p: Pass, kind: u8, r: usize) -> usize
         14 => claims::put_claim(text, work, c, k, r, i, n, line),
         15 => sides::put_if(text, work, c, r, i, n, line),
         17 => claims::put_claim(text, work, c, k, r, i, n, line),
-        _ => {
-            plain::put_plain(text, work, c, k, r, i, line);
-            n
-        }
+        _ => done_if(plain::put_plain(text, work, c, k, r, i, line), n),
     }
 }
 
-// Writes the line of a statement (kinds 8 to 18), the word of which ends at r.
-pub fn put_statement(text: &[u8], work: &mut [u8], p: Pass, kind: u8, r: usize) -> Pass
+// Writes the line of a statement (kinds 8 to 18), the word of which ends at r, if it is good.
+pub fn put_statement(text: &[u8], work: &mut [u8], p: Pass, kind: u8, r: usize) -> Tried
     requires { ⌜ Follows (now text) (now work) p kind r × ((8 ≤ kind) × (kind ≤ 18)) ⌝ }
-    ensures { λ q. ⌜ LinePut (now (text .entry)) (now (work .entry)) p (lineAfter (now (text .entry)) r kind) (now (work .exit)) q × (q .unframed ≡ p .unframed) ⌝ }
+    ensures { λ q. ⌜ LineTried (now (text .entry)) (now (work .entry)) p (lineAfter (now (text .entry)) r kind) (now (work .exit)) q ⌝ }
 {
-    let atoms = put_row(text, work, p, kind, r);
+    let t = put_row(text, work, p, kind, r);
+    let Put::Done(atoms) = t else {
+        return Tried::Bad;
+    };
     let before = p.names;
     let names = names_after(before, kind);
     let above = p.above;
-    Pass {
+    Tried::On(Pass {
         names,
         above,
         rows: p.rows + 1,
@@ -88,13 +96,13 @@ pub fn put_statement(text: &[u8], work: &mut [u8], p: Pass, kind: u8, r: usize) 
         main: p.main,
         line: p.line + 1,
         unframed: p.unframed,
-    }
+    })
 }
 
-// Writes the atoms of the requires or the ensures of the last method; gives the number after the last of them.
-fn put_formula(text: &[u8], work: &mut [u8], p: Pass, kind: u8, r: usize) -> usize
+// Writes the atoms of the requires or the ensures of the last method, if they are good; gives the number after the last of them.
+fn put_formula(text: &[u8], work: &mut [u8], p: Pass, kind: u8, r: usize) -> Put
     requires { ⌜ Follows (now text) (now work) p kind r × ((4 ≤ kind) × (kind ≤ 5)) ⌝ }
-    ensures { λ m. ⌜ ItemPut (now (text .entry)) (now (work .entry)) p (lineAfter (now (text .entry)) r kind) (now (work .exit)) m ⌝ }
+    ensures { λ m. ⌜ ItemTried (now (text .entry)) (now (work .entry)) p (lineAfter (now (text .entry)) r kind) (now (work .exit)) m ⌝ }
 {
     let names = p.names;
     let c = seen(names, kind);
@@ -108,15 +116,18 @@ fn put_formula(text: &[u8], work: &mut [u8], p: Pass, kind: u8, r: usize) -> usi
     }
 }
 
-// Writes the line `requires` (kind 4) or `ensures` (kind 5), the word of which ends at r.
-pub fn put_header(text: &[u8], work: &mut [u8], p: Pass, kind: u8, r: usize) -> Pass
+// Writes the line `requires` (kind 4) or `ensures` (kind 5), the word of which ends at r, if it is good.
+pub fn put_header(text: &[u8], work: &mut [u8], p: Pass, kind: u8, r: usize) -> Tried
     requires { ⌜ Follows (now text) (now work) p kind r × ((4 ≤ kind) × (kind ≤ 5)) ⌝ }
-    ensures { λ q. ⌜ LinePut (now (text .entry)) (now (work .entry)) p (lineAfter (now (text .entry)) r kind) (now (work .exit)) q × (q .unframed ≡ p .unframed) ⌝ }
+    ensures { λ q. ⌜ LineTried (now (text .entry)) (now (work .entry)) p (lineAfter (now (text .entry)) r kind) (now (work .exit)) q ⌝ }
 {
-    let atoms = put_formula(text, work, p, kind, r);
+    let t = put_formula(text, work, p, kind, r);
+    let Put::Done(atoms) = t else {
+        return Tried::Bad;
+    };
     let names = p.names;
     let above = p.above;
-    Pass {
+    Tried::On(Pass {
         names,
         above,
         rows: p.rows,
@@ -124,5 +135,5 @@ pub fn put_header(text: &[u8], work: &mut [u8], p: Pass, kind: u8, r: usize) -> 
         main: p.main,
         line: p.line + 1,
         unframed: p.unframed,
-    }
+    })
 }

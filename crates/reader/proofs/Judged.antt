@@ -9,17 +9,20 @@ use lib.ListN.{drop}
 use Rattle.rules.specs.Base.{ok, no}
 use Rattle.rules.specs.Answers as Answers
 use Rattle.rules.specs.Text.{fields}
-use Rattle.rules.specs.Grammar.{Kind, Line, isKind, Requires}
-use Rattle.rules.specs.Scope.{Declarations, Variable, Scope}
+use Rattle.rules.specs.Grammar.{Kind, Line, isKind, Requires, form, isFormed}
+use Rattle.rules.specs.Scope.{Declarations, Variable, Scope, visible}
 use Rattle.rules.specs.Names.{allKnown, allTyped, allAssignable}
 use Rattle.rules.specs.Items.{itemOf, resolveLine}
 use Rattle.lines.specs.Cuts.{more}
 use Rattle.lines.specs.Rows.{kindNumbered}
 use Rattle.lines.proofs.Rows.{kind-of-number, kind-bounds}
 use Rattle.leaves.proofs.Search.{true-false}
+use Rattle.tables.specs.Layout.{names-at, values-at}
+use Rattle.tables.specs.Stores.{Kept}
 use Rattle.declared.specs.declared.Names.{Names}
 use Rattle.declared.specs.declared.Above.{Above}
 use Rattle.declared.specs.Meanings.{Fits, declarationsIn, variablesIn, scopeIn, blockIn, ownVariables}
+use Rattle.declared.proofs.Scopes.{names-kept, variables-kept, scope-kept}
 use Rattle.declare.specs.declared.Word.{Word}
 use Rattle.declare.specs.Texts.{lineAt, FormedAt, WordAt}
 use Rattle.declare.specs.Declares.{lineWith}
@@ -28,18 +31,18 @@ use Rattle.judge.specs.declared.Judged.{Judged}
 use Rattle.judge.specs.Tests as Tests
 use Rattle.judge.specs.Refusals as Judges
 use Rattle.judge.specs.Refusals.{refusalIn, unlessRefused}
-use Rattle.judge.proofs.Refusals.{resolves}
+use Rattle.judge.proofs.Refusals.{refuses, visible-is}
 use Rattle.pass.specs.declared.Pass.{Pass}
-use Rattle.pass.specs.Passes.{seenBy, Tested, item}
+use Rattle.pass.specs.Passes.{seenBy, isGood, isGoodHere, Ready, Tested, item}
 use Rattle.reader.specs.declared.Refusal.{Refusal}
-use Rattle.reader.specs.Readings.{refusalOf}
+use Rattle.reader.specs.Readings.{refusalOf, refusalHere}
 
 -- THE LINE BY ITS WORD
 module _ {t : List ℕ} {a : ℕ} {r : Word} (x : WordAt t a r) (f : FormedAt t a) where
   pub word-bounds : (1 ≤ r .kind) × (r .kind ≤ 18)
   word-bounds = let b = kind-bounds (lineAt t a .kind) in (omega (arith, b .0, word-kind f x), omega (arith, b .1, word-kind f x))
 
-  kind-is : kindNumbered (r .kind) ≡ lineAt t a .kind
+  pub kind-is : kindNumbered (r .kind) ≡ lineAt t a .kind
   kind-is = ap kindNumbered (word-kind f x) ∙ kind-of-number (lineAt t a .kind)
 
   pub word-line : lineWith (kindNumbered (r .kind)) (more (drop (r .end) t)) ≡ lineAt t a
@@ -67,80 +70,132 @@ pub seen-fits : (k : Kind) (c : Names) → Fits c → Fits (seenBy k c)
 unfolding seenBy
 seen-fits k c f = record { classes = f .classes; fields = f .fields; methods = f .methods; locals = f .locals }
 
+-- THE TESTS
 isNone : {A : Type 0} → Option A → Bool
 isNone none = true
 isNone (some a) = false
 
-good-tests :
-    (Γ : Declarations) (vs : List Variable) (s : Scope) (l : Line) → none ≡ refusalIn Γ vs s l →
-    (allKnown Γ vs s l ≡ true) × (allTyped Γ vs l ≡ true)
-unfolding refusalIn isNone
-good-tests Γ vs s l e = go (allKnown Γ vs s l) (allTyped Γ vs l) e
-  where
-    go :
-        (x y : Bool) → none ≡ cond x (cond y (cond (allAssignable vs l) none (some Answers.wrongTarget)) (some Answers.wrongType)) (some Answers.undeclared) →
-        (x ≡ true) × (y ≡ true)
-    go true true e = (refl, refl)
-    go true false e = absurd (true-false (ap isNone e))
-    go false y e = absurd (true-false (ap isNone e))
+module _ (Γ : Declarations) (vs : List Variable) (s : Scope) (l : Line) where
+  -- the first of three tests that fails
+  refused : Bool → Bool → Bool → Option Answers.Refusal
+  refused x y z = cond x (cond y (cond z none (some Answers.wrongTarget)) (some Answers.wrongType)) (some Answers.undeclared)
 
--- what `judge` says of the line of p
-module _
-    (t w : List ℕ) (p : Pass) (a : ℕ) {r : Word} (x : WordAt t a r) (f : FormedAt t a) (c : Names) (c-is : c ≡ seenBy (kindNumbered (r .kind)) (p .names)) (j : Judged)
-    (h : Judges.refusalOf j ≡ refusalIn (declarationsIn t w c) (variablesIn t w c) (scopeIn t w c (p .above)) (Tests.lineAt t a (r .kind))) where
-  -- the line, and what it may name
-  l : Line
-  l = lineAt t a
+  good-tests : refusalIn Γ vs s l ≡ none → (allKnown Γ vs s l ≡ true) × (allTyped Γ vs l ≡ true)
+  unfolding refusalIn isNone refused
+  good-tests e = go (allKnown Γ vs s l) (allTyped Γ vs l) e
+    where
+      go : (x y : Bool) → refused x y (allAssignable vs l) ≡ none → (x ≡ true) × (y ≡ true)
+      go true true e = (refl, refl)
+      go true false e = absurd (true-false (sym (ap isNone e)))
+      go false y e = absurd (true-false (sym (ap isNone e)))
 
+  good-passes : isGood Γ vs s l ≡ true → refusalIn Γ vs s l ≡ none
+  unfolding refusalIn isGood refused
+  good-passes e = go (allKnown Γ vs s l) (allTyped Γ vs l) (allAssignable vs l) e
+    where
+      go : (x y z : Bool) → (x && (y && z)) ≡ true → refused x y z ≡ none
+      go true true true e = refl
+      go true true false e = absurd (true-false (sym e))
+      go true false z e = absurd (true-false (sym e))
+      go false y z e = absurd (true-false (sym e))
+
+  bad-fails : isGood Γ vs s l ≡ false → refusalIn Γ vs s l ≡ none → ⊥
+  unfolding refusalIn isGood isNone refused
+  bad-fails e = go (allKnown Γ vs s l) (allTyped Γ vs l) (allAssignable vs l) e
+    where
+      go : (x y z : Bool) → (x && (y && z)) ≡ false → refused x y z ≡ none → ⊥
+      go true true true e n = true-false e
+      go true true false e n = true-false (sym (ap isNone n))
+      go true false z e n = true-false (sym (ap isNone n))
+      go false y z e n = true-false (sym (ap isNone n))
+
+-- THE LINE OF p
+module _ (t w : List ℕ) (p : Pass) (l : Line) where
   d : Names
-  unfolding l
   d = seenBy (l .kind) (p .names)
-
-  seen-is : c ≡ d
-  unfolding l d
-  seen-is = c-is ∙ ap (λ (k : Kind). seenBy k (p .names)) (kind-is x f)
-
-  seen-judged : Judges.refusalOf j ≡ refusalIn (declarationsIn t w d) (variablesIn t w d) (scopeIn t w d (p .above)) l
-  unfolding l
-  seen-judged =
-      subst (λ (c : Names). Judges.refusalOf j ≡ refusalIn (declarationsIn t w c) (variablesIn t w c) (scopeIn t w c (p .above)) (lineAt t a)) seen-is
-      (subst (λ (l : Line). Judges.refusalOf j ≡ refusalIn (declarationsIn t w c) (variablesIn t w c) (scopeIn t w c (p .above)) l) (judged-line x f) h)
-
-  judged :
-      Judges.refusalOf j
-      ≡ refusalIn (declarationsIn t w (p .names)) (variablesIn t w (seenBy (lineAt t a .kind) (p .names))) (scopeIn t w (p .names) (p .above)) (lineAt t a)
-  unfolding l d
-  judged =
-      seen-judged
-      ∙ ap₂ (λ (Γ : Declarations) (s : Scope). refusalIn Γ (variablesIn t w d) s l) (seen-declared t w (l .kind) (p .names)) (seen-scope t w (l .kind) (p .names) (p .above))
 
   seen-result : d .result ≡ (d .method && not (isKind Requires (l .kind)))
   unfolding d seenBy
   seen-result = refl
 
+  seen-variables : variablesIn t w d ≡ visible (scopeIn t w (p .names) (p .above) .block) (l .kind)
+  unfolding d scopeIn blockIn ownVariables seenBy
+  seen-variables = visible-is t w d (l .kind) seen-result
+
   resolved :
-      resolveLine (declarationsIn t w (p .names)) (scopeIn t w (p .names) (p .above)) (lineAt t a)
-      ≡ unlessRefused (Judges.refusalOf j) (item t w p (lineAt t a))
-  unfolding l d
+      resolveLine (declarationsIn t w (p .names)) (scopeIn t w (p .names) (p .above)) l ≡ unlessRefused (refusalHere t w p l) (item t w p l)
+  unfolding d refusalHere
   resolved =
-      let e = resolves t w d (p .above) l j seen-result seen-judged in
-      subst (λ (s : Scope). resolveLine (declarationsIn t w (p .names)) s l ≡ unlessRefused (Judges.refusalOf j) (item t w p l)) (seen-scope t w (l .kind) (p .names) (p .above))
-      (subst (λ (Γ : Declarations). resolveLine Γ (scopeIn t w d (p .above)) l ≡ unlessRefused (Judges.refusalOf j) (itemOf Γ (variablesIn t w d) (l .kind) l)) (seen-declared t w (l .kind) (p .names)) e)
+      let Γ = declarationsIn t w (p .names) in
+      let s = scopeIn t w (p .names) (p .above) in
+      subst (λ (vs : List Variable). resolveLine Γ s l ≡ unlessRefused (refusalIn Γ vs s l) (itemOf Γ vs (l .kind) l)) (sym seen-variables) (refuses Γ s l)
 
-  pub good-tested : Judged.Good ≡ j → Tested t w p (lineAt t a)
-  unfolding Judges.refusalOf
-  good-tested e =
-      let g = good-tests _ _ _ _ (ap Judges.refusalOf e ∙ judged) in
-      record { formed = f .formed; known = g .0; typed = g .1 }
-
-  pub good-resolved :
-      Judged.Good ≡ j → resolveLine (declarationsIn t w (p .names)) (scopeIn t w (p .names) (p .above)) (lineAt t a) ≡ ok (item t w p (lineAt t a))
-  unfolding Judges.refusalOf unlessRefused
-  good-resolved e = resolved ∙ rw (sym e)
-
-  -- a refusal of `judge` is one of the reader
-  pub bad-resolved :
-      (b : Judged) (q : Refusal) → b ≡ j → Judges.refusalOf b ≡ some (refusalOf q) →
-      resolveLine (declarationsIn t w (p .names)) (scopeIn t w (p .names) (p .above)) (lineAt t a) ≡ no (refusalOf q)
+  none-resolved : refusalHere t w p l ≡ none → resolveLine (declarationsIn t w (p .names)) (scopeIn t w (p .names) (p .above)) l ≡ ok (item t w p l)
   unfolding unlessRefused
-  bad-resolved b q e i = resolved ∙ rw (sym (ap Judges.refusalOf e), i)
+  none-resolved e = resolved ∙ rw e
+
+  pub good-resolved : isGoodHere t w p l ≡ true → resolveLine (declarationsIn t w (p .names)) (scopeIn t w (p .names) (p .above)) l ≡ ok (item t w p l)
+  unfolding isGoodHere refusalHere
+  good-resolved e = none-resolved (good-passes _ _ _ _ e)
+
+  pub bad-resolved :
+      (q : Refusal) → refusalHere t w p l ≡ some (refusalOf q) →
+      resolveLine (declarationsIn t w (p .names)) (scopeIn t w (p .names) (p .above)) l ≡ no (refusalOf q)
+  unfolding unlessRefused
+  bad-resolved q e = resolved ∙ rw e
+
+  -- as `judge` answers
+  module _ (j : Judged) (h : Judges.refusalOf j ≡ refusalHere t w p l) where
+    none-here : j ≡ Judged.Good → refusalHere t w p l ≡ none
+    unfolding Judges.refusalOf
+    none-here e = sym h ∙ ap Judges.refusalOf e
+
+    pub judged-tested : isFormed (form (l .kind) .operands) (form (l .kind) .tail) (l .fields) ≡ true → j ≡ Judged.Good → Tested t w p l
+    unfolding refusalHere
+    judged-tested f e = let g = good-tests _ _ _ _ (none-here e) in record { formed = f; known = g .0; typed = g .1 }
+
+    pub judged-good :
+        j ≡ Judged.Good → resolveLine (declarationsIn t w (p .names)) (scopeIn t w (p .names) (p .above)) l ≡ ok (item t w p l)
+    judged-good e = none-resolved (none-here e)
+
+    pub judged-bad : (b : Judged) (q : Refusal) → j ≡ b → Judges.refusalOf b ≡ some (refusalOf q) → refusalHere t w p l ≡ some (refusalOf q)
+    judged-bad b q e i = sym h ∙ (ap Judges.refusalOf e ∙ i)
+
+    -- a line that is not good is refused
+    pub not-good : isGoodHere t w p l ≡ false → j ≡ Judged.Good → ⊥
+    unfolding isGoodHere refusalHere
+    not-good g e = bad-fails _ _ _ _ g (none-here e)
+
+-- They are said of the names alone.
+module _ {t w : List ℕ} {p : Pass} (w′ : List ℕ) (l : Line) (r : Ready t w p) (k : Kept names-at values-at w w′) where
+  declared-same : declarationsIn t w′ (p .names) ≡ declarationsIn t w (p .names)
+  declared-same = names-kept t w w′ (p .names) (r .names) k
+
+  variables-same : variablesIn t w′ (seenBy (l .kind) (p .names)) ≡ variablesIn t w (seenBy (l .kind) (p .names))
+  variables-same = variables-kept t w w′ (seenBy (l .kind) (p .names)) (seen-fits (l .kind) (p .names) (r .names)) k
+
+  scope-same : scopeIn t w′ (p .names) (p .above) ≡ scopeIn t w (p .names) (p .above)
+  scope-same = scope-kept t w w′ (p .names) (r .names) k (p .above) (r .above)
+
+  pub refusal-kept : refusalHere t w′ p l ≡ refusalHere t w p l
+  unfolding refusalHere
+  refusal-kept = λ j. refusalIn (declared-same j) (variables-same j) (scope-same j) l
+
+  pub good-kept : isGoodHere t w′ p l ≡ isGoodHere t w p l
+  unfolding isGoodHere
+  good-kept = λ j. isGood (declared-same j) (variables-same j) (scope-same j) l
+
+-- what `judge` says
+pub judged-here :
+    (t w : List ℕ) (p : Pass) (a : ℕ) {r : Word} (x : WordAt t a r) (f : FormedAt t a) (c : Names) → c ≡ seenBy (kindNumbered (r .kind)) (p .names) →
+    (j : Judged) → Judges.refusalOf j ≡ refusalIn (declarationsIn t w c) (variablesIn t w c) (scopeIn t w c (p .above)) (Tests.lineAt t a (r .kind)) →
+    Judges.refusalOf j ≡ refusalHere t w p (lineAt t a)
+unfolding refusalHere
+judged-here t w p a x f c c-is j h =
+    let l : Line = lineAt t a in
+    let k : Kind = lineAt t a .kind in
+    let seen : c ≡ seenBy k (p .names) = c-is ∙ ap (λ (k : Kind). seenBy k (p .names)) (kind-is x f) in
+    h
+    ∙ (ap (refusalIn (declarationsIn t w c) (variablesIn t w c) (scopeIn t w c (p .above))) (judged-line x f)
+    ∙ (ap (λ (c : Names). refusalIn (declarationsIn t w c) (variablesIn t w c) (scopeIn t w c (p .above)) l) seen
+    ∙ ap₂ (λ (Γ : Declarations) (s : Scope). refusalIn Γ (variablesIn t w (seenBy k (p .names))) s l) (seen-declared t w k (p .names)) (seen-scope t w k (p .names) (p .above))))

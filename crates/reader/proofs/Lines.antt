@@ -2,49 +2,66 @@
 use mathlib.Core.Path.{_≡_, refl, sym, ap, subst, _∙_}
 use mathlib.Core.Bool.{Bool, true, false, cond, _||_}
 use mathlib.Core.List.{List, []}
-use Prim.Native.Nat.{ℕ, suc, _-_, _≤_, _<_}
+use Prim.Native.Nat.{ℕ, zero, suc, _-_, _≤_, _<_}
 use native.Mathlib.Omega.{arith}
-use lib.Dec.{eqb}
-use borrow.Author.Tests.{eqb-false}
+use lib.Dec.{eqb, eqb·suc-zero}
+use lib.ListN.{length, drop}
+use borrow.Author.Tests.{eqb-true, eqb-false}
 use Rattle.rules.specs.Syntax.{Formula}
-use Rattle.rules.specs.Grammar.{Line, kindNumber, isKind}
+use Rattle.rules.specs.Grammar.{Kind, Line, Class, Field, Method, Main, Var, kindNumber, isKind, form, isFormed}
 use Rattle.rules.specs.Reading.{framed, framedItem}
+use Rattle.leaves.proofs.Search.{true-false, or-false}
+use Rattle.lines.specs.Cuts.{more}
 use Rattle.lines.specs.Rows.{kindNumbered}
-use Rattle.lines.proofs.Rows.{number-of-kind}
+use Rattle.lines.proofs.Rows.{kind-of-number, number-of-kind}
 use Rattle.tables.specs.Decode.{atomsFrom}
 use Rattle.assembly.specs.Flat.{Flat}
+use Rattle.declare.specs.declared.Word.{Word}
+use Rattle.declare.specs.Texts.{lineAt}
 use Rattle.pass.specs.declared.Pass.{Pass}
-use Rattle.pass.specs.Passes.{isFramed, Ready, Stands, Room, LinePut, item, unframedAfter}
+use Rattle.pass.specs.declared.Tried.{Tried}
+use Rattle.pass.specs.Passes.{isFramed, Ready, Stands, Room, LinePut, item, unframedAfter, lineAfter, isGoodHere, BadLine, LineTried}
 use Rattle.headers.specs.Headers.{isDeclaration}
 use Rattle.pass.proofs.Unframed.{framed-formula, framed-other}
-use Rattle.reader.specs.Readings.{Between, LineTaken, unframedBy, withUnframed}
+use Rattle.reader.specs.Readings.{Between, Written, Begins, LineTaken, unframedBy, withUnframed}
+use Rattle.bodies.specs.Bodies.{Follows}
+use Rattle.reader.proofs.Judged.{word-line}
 
 -- the kinds that number 10 is about, by their numbers
 pub framed-number : (n : ℕ) → 1 ≤ n → n ≤ 18 → isFramed (kindNumbered n) ≡ (eqb 4 n || (eqb 5 n || eqb 17 n))
 unfolding isFramed isKind kindNumber
 framed-number n a b = rw (number-of-kind n a b)
 
--- the kinds that are neither a formula of a method nor a statement declare something
-pub declares : (k : ℕ) → 1 ≤ k → (k ≡ 4 → ⊥) → (k ≡ 5 → ⊥) → k < 8 → isDeclaration k ≡ true
-unfolding isDeclaration
-declares k a m n l = go (eqb k 1) (eqb k 2) (eqb k 3) (eqb k 6) (eqb k 7) refl refl refl refl refl
+-- the kinds that it is not about, by theirs
+pub declares-unframed : (k : ℕ) → isDeclaration k ≡ true → isFramed (kindNumbered k) ≡ false
+unfolding isDeclaration isFramed isKind kindNumber
+declares-unframed k e = go (eqb k 1) (eqb k 2) (eqb k 3) (eqb k 6) refl refl refl refl e
   where
+    is : (K : Kind) → k ≡ kindNumber K → isFramed K ≡ false → isFramed (kindNumbered k) ≡ false
+    is K i f = ap isFramed (ap kindNumbered i ∙ kind-of-number K) ∙ f
+
     go :
-        (x y z u v : Bool) → eqb k 1 ≡ x → eqb k 2 ≡ y → eqb k 3 ≡ z → eqb k 6 ≡ u → eqb k 7 ≡ v →
-        (x || (y || (z || (u || v)))) ≡ true
-    go true y z u v p q r s t = refl
-    go false true z u v p q r s t = refl
-    go false false true u v p q r s t = refl
-    go false false false true v p q r s t = refl
-    go false false false false true p q r s t = refl
-    go false false false false false p q r s t =
-        let b : 2 ≤ k = omega (arith, a, eqb-false k 1 p) in
-        let d : 3 ≤ k = omega (arith, b, eqb-false k 2 q) in
-        let e : 4 ≤ k = omega (arith, d, eqb-false k 3 r) in
-        let f : 5 ≤ k = omega (arith, e, m) in
-        let g : 6 ≤ k = omega (arith, f, n) in
-        let h : 7 ≤ k = omega (arith, g, eqb-false k 6 s) in
-        absurd (omega (arith, h, l, eqb-false k 7 t))
+        (x y z u : Bool) → eqb k 1 ≡ x → eqb k 2 ≡ y → eqb k 3 ≡ z → eqb k 6 ≡ u → (x || (y || (z || u))) ≡ true →
+        isFramed (kindNumbered k) ≡ false
+    go true y z u p q r s e = is Class (eqb-true k 1 p) refl
+    go false true z u p q r s e = is Field (eqb-true k 2 q) refl
+    go false false true u p q r s e = is Method (eqb-true k 3 r) refl
+    go false false false true p q r s e = is Main (eqb-true k 6 s) refl
+    go false false false false p q r s e = true-false (sym e)
+
+-- of the kinds that are no statements and no formulas of a method, one does not declare
+pub last-kind : (k : ℕ) → 1 ≤ k → k < 8 → (k ≡ 4 → ⊥) → (k ≡ 5 → ⊥) → isDeclaration k ≡ false → k ≡ 7
+unfolding isDeclaration
+last-kind k a l m n e =
+    let x = or-false (eqb k 1) _ e in
+    let y = or-false (eqb k 2) _ (x .1) in
+    let z = or-false (eqb k 3) (eqb k 6) (y .1) in
+    let b : 2 ≤ k = omega (arith, a, eqb-false k 1 (x .0)) in
+    let d : 3 ≤ k = omega (arith, b, eqb-false k 2 (y .0)) in
+    let f : 4 ≤ k = omega (arith, d, eqb-false k 3 (z .0)) in
+    let g : 5 ≤ k = omega (arith, f, m) in
+    let h : 6 ≤ k = omega (arith, g, n) in
+    omega (arith, h, l, eqb-false k 6 (z .1))
 
 module _ {t w : List ℕ} {p : Pass} {l : Line} {w′ : List ℕ} {q : Pass} (x : LinePut t w p l w′ q) where
   -- the line's formula was tested
@@ -96,8 +113,75 @@ module _ {t w : List ℕ} {p : Pass} {l : Line} {w′ : List ℕ} {q : Pass} (x 
         high = x .built F s .holds .atoms .few;
       }
 
+  -- number 10 has its line
+  pub line-taken :
+      Written t w p → {k : Kind} → k ≡ l .kind → (r : Pass) →
+      r ≡ withUnframed q (unframedBy (isFramed k) (atomsFrom w′ (p .atoms) (q .atoms - p .atoms)) p) → LineTaken t w p l w′ r
+  unfolding withUnframed
+  line-taken s e r i =
+      let f = i ∙ ap (λ (k : Kind). withUnframed q (unframedBy (isFramed k) (atomsFrom w′ (p .atoms) (q .atoms - p .atoms)) p)) e in
+      subst (LineTaken t w p l w′) (sym f) (record { put = put-unframed _; unframed = unframed-is (s .flat) (s .stands) })
+
+  -- it is not about the line
+  pub line-declared : isFramed (l .kind) ≡ false → q .unframed ≡ p .unframed → LineTaken t w p l w′ q
+  unfolding unframedAfter
+  line-declared e u = record { put = x; unframed = u ∙ go (p .unframed) (framedItem (item t w p l)) (framed-other _ _ (l .kind) l e) }
+    where
+      go : (u : ℕ) (b : Bool) → b ≡ true → u ≡ cond (eqb u 0) (cond b 0 (suc (p .line))) u
+      go zero b i = sym (rw i)
+      go (suc u) b i = sym (rw (eqb·suc-zero u))
+
 pub line-as : {t w : List ℕ} {p : Pass} {l l′ : Line} {w′ : List ℕ} {q : Pass} → l ≡ l′ → LineTaken t w p l w′ q → LineTaken t w p l′ w′ q
 line-as {t} {w} {p} {w′ = w′} {q = q} e x = subst (λ (l : Line). LineTaken t w p l w′ q) e x
+
+-- A LINE THAT IS TRIED
+module _ {t w : List ℕ} {p : Pass} {a : ℕ} {r : Word} (x : Begins t w p a r) where
+  pub follows : Room t w p (lineAt t a) → Follows t w p (r .kind) (r .end)
+  follows m =
+      let e = sym (word-line (x .word) (x .formed)) in
+      record {
+        ready = x .ready;
+        high = x .word .high;
+        formed = subst (λ (l : Line). isFormed (form (l .kind) .operands) (form (l .kind) .tail) (l .fields) ≡ true) e (x .formed .formed);
+        room = subst (Room t w p) e m;
+      }
+
+  pub begins-after : {w′ : List ℕ} → length w′ ≡ length w → Begins t w′ p a r
+  begins-after e =
+      record {
+        ready =
+            record {
+              text = x .ready .text;
+              whole = e ∙ x .ready .whole;
+              names = x .ready .names;
+              above = x .ready .above;
+              result = x .ready .result;
+            };
+        low = x .low;
+        formed = x .formed;
+        word = x .word;
+      }
+
+module _ {t w : List ℕ} {p : Pass} {l l′ : Line} {w′ : List ℕ} {y : Tried} (e : l ≡ l′) (x : LineTried t w p l w′ y) where
+  pub tried-on : (q : Pass) → y ≡ Tried.On q → (isGoodHere t w p l′ ≡ true) × (LinePut t w p l′ w′ q × (q .unframed ≡ p .unframed))
+  unfolding LineTried
+  tried-on q i = subst (LineTried t w p l′ w′) i (subst (λ (l : Line). LineTried t w p l w′ y) e x)
+
+  pub tried-bad : y ≡ Tried.Bad → BadLine t w p l′ w′
+  unfolding LineTried
+  tried-bad i = subst (LineTried t w p l′ w′) i (subst (λ (l : Line). LineTried t w p l w′ y) e x)
+
+-- `var`, by its number
+module _ (t w : List ℕ) (p : Pass) {k : ℕ} (r : ℕ) (e : k ≡ 7) where
+  pub var-formed :
+      isFormed (form (lineAfter t r k .kind) .operands) (form (lineAfter t r k .kind) .tail) (lineAfter t r k .fields) ≡ true →
+      isFormed (form Var .operands) (form Var .tail) (more (drop r t)) ≡ true
+  unfolding kindNumber
+  var-formed f =
+      subst (λ (K : Kind). isFormed (form K .operands) (form K .tail) (more (drop r t)) ≡ true) (ap kindNumbered e ∙ kind-of-number Var) f
+
+  pub var-room : Room t w p (lineAfter t r k) → Room t w p (lineAfter t r 7)
+  var-room m = subst (λ (k : ℕ). Room t w p (lineAfter t r k)) e m
 
 -- THE TEST, STEP BY STEP
 module _ (p : Pass) (φ : Formula ℕ) (none : p .unframed ≡ 0) (b r : Bool) (is : r ≡ b) where

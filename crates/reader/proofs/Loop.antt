@@ -78,7 +78,7 @@ first-scope t w c m l = rw (m, l)
 module _ (t w : List ℕ) (p : Pass) (l : Line) (w′ : List ℕ) (s : Step) (x : StepIs t w p l w′ s) where
   pub step-refused :
       (r : Reasons.Refusal) → s ≡ Step.Refused r →
-      (resolveLine (declarationsIn t w (p .names)) (scopeIn t w (p .names) (p .above)) l ≡ no (refusalOf r)) × (w′ ≡ w)
+      (resolveLine (declarationsIn t w (p .names)) (scopeIn t w (p .names) (p .above)) l ≡ no (refusalOf r)) × (length w′ ≡ length w)
   unfolding StepIs
   step-refused r e = subst (StepIs t w p l w′) e x
 

@@ -2,6 +2,7 @@
 use mathlib.Core.Path.{_≡_}
 use mathlib.Core.Bool.{Bool, cond}
 use mathlib.Core.List.{List, []}
+use mathlib.Core.Option.{Option}
 use Prim.Native.Nat.{ℕ, suc, _≤_, _<_}
 use lib.Dec.{eqb}
 use lib.ListN.{length}
@@ -17,11 +18,13 @@ use Rattle.rules.specs.Reading.{readText, framed, checkFramed, program}
 use Rattle.tables.specs.Layout.{most-atom-rows}
 use Rattle.tables.specs.Decode.{programIn}
 use Rattle.tables.specs.Tables.{Tables}
-use Rattle.declared.specs.Meanings.{declarationsIn, scopeIn}
+use Rattle.declared.specs.Meanings.{declarationsIn, variablesIn, scopeIn}
 use Rattle.assembly.specs.Flat.{Flat, noFlat, flatFrom}
-use Rattle.declare.specs.Texts.{linesOf}
+use Rattle.declare.specs.declared.Word.{Word}
+use Rattle.declare.specs.Texts.{linesOf, FormedAt, WordAt}
+use Rattle.judge.specs.Refusals.{refusalIn}
 use Rattle.pass.specs.declared.Pass.{Pass}
-use Rattle.pass.specs.Passes.{Stands, LinePut, after, item, unframedAfter}
+use Rattle.pass.specs.Passes.{seenBy, Ready, Stands, LinePut, after, item, unframedAfter}
 use Rattle.reader.specs.declared.Refusal.{Refusal}
 use Rattle.reader.specs.declared.Step.{Step}
 use Rattle.reader.specs.declared.Resolved.{Resolved}
@@ -48,6 +51,18 @@ framedVerdict u = cond (eqb u 0) (accepted tt) (refused Answers.unframed u)
 pub record Written (t w : List ℕ) (p : Pass) : Type 0 where
   pub flat : Flat
   pub stands : Stands t w p flat
+
+-- it begins at a with the word r
+pub record Begins (t w : List ℕ) (p : Pass) (a : ℕ) (r : Word) : Type 0 where
+  pub ready : Ready t w p
+  pub low : a ≤ length t
+  pub formed : FormedAt t a
+  pub word : WordAt t a r
+
+-- the number of 6, 7 and 9 that refuses it, or none
+unfoldable pub refusalHere : (t w : List ℕ) → Pass → Line → Option Answers.Refusal
+refusalHere t w p l =
+    refusalIn (declarationsIn t w (p .names)) (variablesIn t w (seenBy (l .kind) (p .names))) (scopeIn t w (p .names) (p .above)) l
 
 -- its atoms, between p and q, are written
 pub record Between (w : List ℕ) (p q : Pass) : Type 0 where
@@ -76,7 +91,7 @@ pub record LineRead (t w : List ℕ) (p : Pass) (l : Line) (w′ : List ℕ) (q 
 unfoldable pub StepIs : (t w : List ℕ) (p : Pass) (l : Line) (w′ : List ℕ) → Step → Type 0
 StepIs t w p l w′ (Step.On q) = LineRead t w p l w′ q
 StepIs t w p l w′ (Step.Refused r) =
-    (resolveLine (declarationsIn t w (p .names)) (scopeIn t w (p .names) (p .above)) l ≡ no (refusalOf r)) × (w′ ≡ w)
+    (resolveLine (declarationsIn t w (p .names)) (scopeIn t w (p .names) (p .above)) l ≡ no (refusalOf r)) × (length w′ ≡ length w)
 
 -- ALL LINES
 

@@ -1,3 +1,4 @@
+use declare::Word;
 use declared::Above;
 use declared::Names;
 use declared::Range;
@@ -5,8 +6,11 @@ use judge::Judged;
 use leaves::Set;
 use lines::Scanned;
 use pass::Pass;
+use pass::Tried;
 use rules::Machine;
 ghost use mathlib.Core.Path.{_≡_};
+ghost use mathlib.Core.Bool.{true, false};
+ghost use mathlib.Core.Option.{some};
 ghost use Prim.Native.Nat.{_+_, _-_, _≤_, _<_};
 ghost use lib.ListN.{length};
 ghost use Rattle.rules.specs.Limits.{work-bytes, most-bytes};
@@ -16,9 +20,11 @@ ghost use Rattle.lines.specs.Scans as Scans;
 ghost use Rattle.tables.specs.Decode.{atomsFrom};
 ghost use Rattle.declare.specs.Texts.{Taken, lineAt, FormedAt};
 ghost use Rattle.declare.specs.Declares.{Declares};
+ghost use Rattle.judge.specs.Refusals as Judges;
+ghost use Rattle.headers.specs.Headers.{isDeclaration};
 ghost use Rattle.bodies.specs.Bodies.{Follows};
-ghost use Rattle.pass.specs.Passes.{firstPass, Ready, Room, LinePut, isFramed, lineAfter};
-ghost use Rattle.reader.specs.Readings.{unframedBy, withUnframed, Between, Written, LineTaken, StepIs, ResolvedIs, ReadingIs, refusalOf};
+ghost use Rattle.pass.specs.Passes.{firstPass, Ready, Room, isFramed, lineAfter, isGoodHere, LineTried};
+ghost use Rattle.reader.specs.Readings.{unframedBy, withUnframed, Between, Written, Begins, refusalHere, StepIs, ResolvedIs, ReadingIs, refusalOf};
 
 // Why a text is refused.
 pub enum Refusal {
@@ -34,10 +40,11 @@ pub enum Refusal {
 
 // ONE LINE
 
-// Puts a good line of this kind, the word of which ends at r, into the tables.
-fn put_line(text: &[u8], work: &mut [u8], p: Pass, kind: u8, r: usize) -> Pass
-    requires { ⌜ Follows (now text) (now work) p kind r × ((1 ≤ kind) × (kind ≤ 18)) × Written (now text) (now work) p ⌝ }
-    ensures { λ q. ⌜ LinePut (now (text .entry)) (now (work .entry)) p (lineAfter (now (text .entry)) r kind) (now (work .exit)) q × (q .unframed ≡ p .unframed) ⌝ }
+// Puts a line of this kind, the word of which ends at r, into the tables if it is good. The kind is not `class`, `field`, `method` or
+// `main`.
+fn try_line(text: &[u8], work: &mut [u8], p: Pass, kind: u8, r: usize) -> Tried
+    requires { ⌜ Follows (now text) (now work) p kind r × ((1 ≤ kind) × (kind ≤ 18)) × (isDeclaration kind ≡ false) ⌝ }
+    ensures { λ q. ⌜ LineTried (now (text .entry)) (now (work .entry)) p (lineAfter (now (text .entry)) r kind) (now (work .exit)) q ⌝ }
 {
     if 8 <= kind {
         return bodies::put_statement(text, work, p, kind, r);
@@ -45,7 +52,7 @@ fn put_line(text: &[u8], work: &mut [u8], p: Pass, kind: u8, r: usize) -> Pass
     match kind {
         4 => bodies::put_header(text, work, p, kind, r),
         5 => bodies::put_header(text, work, p, kind, r),
-        _ => headers::put_declaration(text, work, p, kind, r),
+        _ => headers::put_var(text, work, p, r),
     }
 }
 
@@ -95,38 +102,87 @@ fn with_unframed(p: Pass, unframed: usize) -> Pass
     }
 }
 
+// The pass q after a line of this kind, with the first line that number 10 refuses; p is the pass before it.
+fn take_line(work: &[u8], kind: u8, p: Pass, q: Pass) -> Pass
+    requires { ⌜ Between (now work) p q × ((1 ≤ kind) × (kind ≤ 18)) ⌝ }
+    ensures { λ r. ⌜ r ≡ withUnframed q (unframedBy (isFramed (kindNumbered kind)) (atomsFrom (now (work .entry)) (p .atoms) (q .atoms - p .atoms)) p) ⌝ }
+{
+    let u = first_unframed(work, kind, p, q);
+    with_unframed(q, u)
+}
+
+// What the tests of numbers 6, 7 and 9 say of the line that begins at a place with the word w.
+fn judge_line(text: &[u8], work: &[u8], at: usize, w: Word, p: Pass) -> Judged
+    requires { ⌜ Begins (now text) (now work) p at w ⌝ }
+    ensures { λ j. ⌜ Judges.refusalOf j ≡ refusalHere (now (text .entry)) (now (work .entry)) p (lineAt (now (text .entry)) at) ⌝ }
+{
+    let names = p.names;
+    let above = p.above;
+    let c = bodies::seen(names, w.kind);
+    judge::judge(text, work, at, w.kind, c, above)
+}
+
+// Why a line that is not good is refused.
+fn why_refused(text: &[u8], work: &[u8], at: usize, w: Word, p: Pass) -> Refusal
+    requires { ⌜ Begins (now text) (now work) p at w × (isGoodHere (now text) (now work) p (lineAt (now text) at) ≡ false) ⌝ }
+    ensures { λ r. ⌜ refusalHere (now (text .entry)) (now (work .entry)) p (lineAt (now (text .entry)) at) ≡ some (refusalOf r) ⌝ }
+{
+    let j = judge_line(text, work, at, w, p);
+    match j {
+        Judged::Undeclared => Refusal::Undeclared,
+        Judged::WrongType => Refusal::WrongType,
+        Judged::WrongTarget => Refusal::WrongTarget,
+        // Not so: a line that is not good is refused.
+        Judged::Good => Refusal::WrongTarget,
+    }
+}
+
 // What a line is: in the tables, or refused.
 pub enum Step {
     On(Pass),
     Refused(Refusal),
 }
 
-// A good line of this kind, the word of which ends at r.
-fn take_line(text: &[u8], work: &mut [u8], p: Pass, kind: u8, r: usize) -> Pass
-    requires { ⌜ Follows (now text) (now work) p kind r × ((1 ≤ kind) × (kind ≤ 18)) × Written (now text) (now work) p ⌝ }
-    ensures { λ q. ⌜ LineTaken (now (text .entry)) (now (work .entry)) p (lineAfter (now (text .entry)) r kind) (now (work .exit)) q ⌝ }
+fn is_declaration(kind: u8) -> bool
+    ensures { λ r. ⌜ r ≡ isDeclaration kind ⌝ }
 {
-    let q = put_line(text, work, p, kind, r);
-    let u = first_unframed(work, kind, p, q);
-    with_unframed(q, u)
+    match kind {
+        1 => true,
+        2 => true,
+        3 => true,
+        6 => true,
+        _ => false,
+    }
 }
 
-// The line that begins at a place.
+// A line `class`, `field`, `method` or `main` is judged before it is put.
+fn declare_line(text: &[u8], work: &mut [u8], at: usize, w: Word, p: Pass) -> Step
+    requires { ⌜ Begins (now text) (now work) p at w × (isDeclaration (w .kind) ≡ true) × Room (now text) (now work) p (lineAt (now text) at) × Written (now text) (now work) p ⌝ }
+    ensures { λ s. ⌜ StepIs (now (text .entry)) (now (work .entry)) p (lineAt (now (text .entry)) at) (now (work .exit)) s ⌝ }
+{
+    let j = judge_line(text, work, at, w, p);
+    match j {
+        Judged::Undeclared => Step::Refused(Refusal::Undeclared),
+        Judged::WrongType => Step::Refused(Refusal::WrongType),
+        Judged::WrongTarget => Step::Refused(Refusal::WrongTarget),
+        Judged::Good => Step::On(headers::put_declaration(text, work, p, w.kind, w.end)),
+    }
+}
+
+// The line that begins at a place. Unless `declare_line` takes it, its names are looked up once, as it is written, and it is judged
+// only if it is not good.
 fn read_line(text: &[u8], work: &mut [u8], at: usize, p: Pass) -> Step
     requires { ⌜ Ready (now text) (now work) p × (at ≤ length (now text)) × FormedAt (now text) at × Room (now text) (now work) p (lineAt (now text) at) × Written (now text) (now work) p ⌝ }
     ensures { λ s. ⌜ StepIs (now (text .entry)) (now (work .entry)) p (lineAt (now (text .entry)) at) (now (work .exit)) s ⌝ }
 {
     let w = declare::word_at(text, at);
-    let kind = w.kind;
-    let names = p.names;
-    let above = p.above;
-    let c = bodies::seen(names, kind);
-    let j = judge::judge(text, work, at, kind, c, above);
-    match j {
-        Judged::Undeclared => Step::Refused(Refusal::Undeclared),
-        Judged::WrongType => Step::Refused(Refusal::WrongType),
-        Judged::WrongTarget => Step::Refused(Refusal::WrongTarget),
-        Judged::Good => Step::On(take_line(text, work, p, kind, w.end)),
+    if is_declaration(w.kind) {
+        return declare_line(text, work, at, w, p);
+    }
+    let t = try_line(text, work, p, w.kind, w.end);
+    match t {
+        Tried::Bad => Step::Refused(why_refused(text, work, at, w, p)),
+        Tried::On(q) => Step::On(take_line(work, w.kind, p, q)),
     }
 }
 

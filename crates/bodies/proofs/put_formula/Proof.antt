@@ -3,7 +3,7 @@ use mathlib.Core.Path.{_≡_}
 use native.Mathlib.Omega.{arith}
 use Rattle.rules.specs.Grammar as Grammar
 use Rattle.rules.specs.Grammar.{kindNumber}
-use Rattle.bodies.proofs.Items.{kind-as, requires-is, ensures-is, method-room, atoms-ready, follows-as, header-put}
+use Rattle.bodies.proofs.Items.{kind-as, requires-is, ensures-is, method-room, atoms-ready, follows-as, header-tried}
 use borrow.Author.Needs.{needs}
 use Rattle.bodies.proofs.put_formula.Statement.{statement}
 use Rattle.bodies.proofs.put_formula.Tie as tie
@@ -41,7 +41,7 @@ unfolding kindNumber
 returns c =
     let p = c .before .before .before .before .before .before .before .before .before .before .before .before .pre in
     let g = c .before .before .before .before .before .before .before .before .seen .ensures in
-    header-put (p .0) g requires-is (kind-as Grammar.Requires _ (c .before .before .before .before .match .keys1)) _ (omega (arith, method-room (p .0) (p .1 .0) (p .1 .1))) (c .before .before .put-requires .ensures)
+    header-tried (p .0) g requires-is (kind-as Grammar.Requires _ (c .before .before .before .before .match .keys1)) _ (omega (arith, method-room (p .0) (p .1 .0) (p .1 .1))) _ (c .before .before .put-requires .result) (c .before .before .put-requires .ensures)
 
 same-length-2 : tie.Need-same-length-2
 same-length-2 c = search needs
@@ -51,7 +51,7 @@ unfolding kindNumber
 returns-2 c =
     let p = c .before .before .before .before .before .before .before .before .before .before .before .before .pre in
     let g = c .before .before .before .before .before .before .before .before .seen .ensures in
-    header-put (p .0) g ensures-is (kind-as Grammar.Ensures _ (let e : c .before .before .before .before .before .before .before .before .before .before .before .before .args .kind ≡ 5 = omega (arith, p .1 .0, p .1 .1, c .before .before .before .before .match .rest .1) in e)) _ (omega (arith, method-room (p .0) (p .1 .0) (p .1 .1))) (c .before .before .put-ensures .ensures)
+    header-tried (p .0) g ensures-is (kind-as Grammar.Ensures _ (let e : c .before .before .before .before .before .before .before .before .before .before .before .before .args .kind ≡ 5 = omega (arith, p .1 .0, p .1 .1, c .before .before .before .before .match .rest .1) in e)) _ (omega (arith, method-room (p .0) (p .1 .0) (p .1 .1))) _ (c .before .before .put-ensures .result) (c .before .before .put-ensures .ensures)
 
 pub put-formula-spec : {M : Type 1} → statement M
 put-formula-spec =

@@ -4,7 +4,7 @@ use Rattle.rules.specs.Grammar as Grammar
 use Rattle.rules.specs.Grammar.{kindNumber}
 use Rattle.pass.specs.Passes.{hasAtoms, isFramed}
 use Rattle.claims.specs.Claims.{isClaim}
-use Rattle.bodies.proofs.Items.{kind-as, plain-left, claim-is, claim-at, line-small, row-room, plain-ready, atoms-ready, side-follows, plain-follows, side-put, plain-put, follows-as, claim-put}
+use Rattle.bodies.proofs.Items.{kind-as, plain-left, claim-is, claim-at, line-small, row-room, plain-ready, atoms-ready, side-follows, plain-follows, follows-as, side-tried, plain-tried, claim-tried}
 use borrow.Author.Needs.{needs}
 use Rattle.bodies.proofs.put_row.Statement.{statement}
 use Rattle.bodies.proofs.put_row.Tie as tie
@@ -60,6 +60,9 @@ put-plain-requires c κs =
     let r = c .before .match .rest in
     (plain-ready (p .0) g, plain-follows (p .0) g (plain-left _ (p .1 .0) (p .1 .1) (r .0 .0 .0 .0 .1) (r .0 .0 .0 .1) (r .0 .0 .1) (r .0 .1) (r .1)), row-room (p .0) (p .1 .0) (p .1 .1), line-small (p .0))
 
+done-if-requires : tie.Need-done-if-requires
+done-if-requires c κs = search needs
+
 same-length : tie.Need-same-length
 same-length c = search needs
 
@@ -68,7 +71,7 @@ unfolding kindNumber Grammar.isKind hasAtoms isFramed
 returns c =
     let p = c .before .before .before .before .before .before .before .before .before .before .pre in
     let g = c .before .before .before .before .before .before .seen .ensures in
-    side-put (p .0) g Grammar.Let (kind-as Grammar.Let _ (c .before .before .before .before .match .keys1)) refl refl (c .before .before .put-let .ensures)
+    side-tried (p .0) g Grammar.Let (kind-as Grammar.Let _ (c .before .before .before .before .match .keys1)) refl refl _ (c .before .before .put-let .result) (c .before .before .put-let .ensures)
 
 same-length-2 : tie.Need-same-length-2
 same-length-2 c = search needs
@@ -78,7 +81,7 @@ unfolding isClaim
 returns-2 c =
     let p = c .before .before .before .before .before .before .before .before .before .before .pre in
     let g = c .before .before .before .before .before .before .seen .ensures in
-    claim-put (p .0) g (claim-at 13 _ refl (c .before .before .before .before .match .keys2)) (c .before .before .put-claim .ensures)
+    claim-tried (p .0) g (claim-at 13 _ refl (c .before .before .before .before .match .keys2)) _ (c .before .before .put-claim .result) (c .before .before .put-claim .ensures)
 
 same-length-3 : tie.Need-same-length-3
 same-length-3 c = search needs
@@ -88,7 +91,7 @@ unfolding isClaim
 returns-3 c =
     let p = c .before .before .before .before .before .before .before .before .before .before .pre in
     let g = c .before .before .before .before .before .before .seen .ensures in
-    claim-put (p .0) g (claim-at 14 _ refl (c .before .before .before .before .match .keys3)) (c .before .before .put-claim2 .ensures)
+    claim-tried (p .0) g (claim-at 14 _ refl (c .before .before .before .before .match .keys3)) _ (c .before .before .put-claim2 .result) (c .before .before .put-claim2 .ensures)
 
 same-length-4 : tie.Need-same-length-4
 same-length-4 c = search needs
@@ -98,7 +101,7 @@ unfolding kindNumber Grammar.isKind hasAtoms isFramed
 returns-4 c =
     let p = c .before .before .before .before .before .before .before .before .before .before .pre in
     let g = c .before .before .before .before .before .before .seen .ensures in
-    side-put (p .0) g Grammar.If (kind-as Grammar.If _ (c .before .before .before .before .match .keys4)) refl refl (c .before .before .put-if .ensures)
+    side-tried (p .0) g Grammar.If (kind-as Grammar.If _ (c .before .before .before .before .match .keys4)) refl refl _ (c .before .before .put-if .result) (c .before .before .put-if .ensures)
 
 same-length-5 : tie.Need-same-length-5
 same-length-5 c = search needs
@@ -108,16 +111,16 @@ unfolding isClaim
 returns-5 c =
     let p = c .before .before .before .before .before .before .before .before .before .before .pre in
     let g = c .before .before .before .before .before .before .seen .ensures in
-    claim-put (p .0) g (claim-at 17 _ refl (c .before .before .before .before .match .keys5)) (c .before .before .put-claim3 .ensures)
+    claim-tried (p .0) g (claim-at 17 _ refl (c .before .before .before .before .match .keys5)) _ (c .before .before .put-claim3 .result) (c .before .before .put-claim3 .ensures)
 
 same-length-6 : tie.Need-same-length-6
 same-length-6 c = search needs
 
 returns-6 : tie.Need-returns-6
 returns-6 c =
-    let p = c .before .before .before .before .before .before .before .before .before .before .pre in
-    let g = c .before .before .before .before .before .before .seen .ensures in
-    plain-put (p .0) g (p .1 .0) (p .1 .1) (c .before .before .before .before .match .rest .1) (c .before .before .put-plain .ensures)
+    let p = c .before .before .before .before .before .before .before .before .before .before .before .pre in
+    let g = c .before .before .before .before .before .before .before .seen .ensures in
+    plain-tried (p .0) g (p .1 .0) (p .1 .1) (c .before .before .before .before .before .match .rest .1) _ (c .before .before .before .put-plain .result) (c .done-if .result) (c .done-if .ensures) (c .before .before .before .put-plain .ensures)
 
 pub put-row-spec : {M : Type 1} → statement M
 put-row-spec =
@@ -131,6 +134,7 @@ put-row-spec =
     put-if-requires
     put-claim-requires-3
     put-plain-requires
+    done-if-requires
     same-length
     returns
     same-length-2

@@ -1,85 +1,95 @@
 -- `reader::read_line` meets its contract. Assumes nothing.
-use mathlib.Core.Path.{refl, sym, subst}
+use mathlib.Core.Path.{sym, _∙_}
+use Rattle.reader.specs.Readings.{StepIs}
+use Rattle.reader.proofs.Judged.{word-bounds, kind-is, word-line, good-resolved, bad-resolved, refusal-kept, good-kept}
+use Rattle.reader.proofs.Lines.{follows, begins-after, tried-on, tried-bad, line-taken, between}
 use borrow.Author.Needs.{needs}
-use Rattle.declared.specs.Meanings.{Fits}
-use Rattle.judge.specs.declared.Judged.{Judged}
-use Rattle.judge.specs.Refusals as Judges
-use Rattle.reader.specs.declared.Refusal.{Refusal}
-use Rattle.pass.specs.Passes.{Tested, Room}
-use Rattle.reader.specs.Readings.{refusalOf, StepIs}
-use Rattle.reader.proofs.Judged.{word-bounds, word-line, word-formed, seen-fits, good-tested, good-resolved, bad-resolved}
-use Rattle.reader.proofs.Lines.{line-as}
 use Rattle.reader.proofs.read_line.Statement.{statement}
 use Rattle.reader.proofs.read_line.Tie as tie
 
 word-at-requires : tie.Need-word-at-requires
-word-at-requires c κs = c .before .before .pre .1
+word-at-requires c κs = search needs
 
-seen-requires : tie.Need-seen-requires
-seen-requires c κs = word-bounds (c .before .before .word-at .ensures) (c .before .before .before .before .before .pre .2)
+is-declaration-requires : tie.Need-is-declaration-requires
+is-declaration-requires c κs = search needs
 
-judge-requires : tie.Need-judge-requires
-judge-requires c κs =
-    (record { whole = c .before .before .before .before .before .before .before .pre .0 .whole; names = subst Fits (sym (c .before .seen .ensures)) (seen-fits _ _ (c .before .before .before .before .before .before .before .pre .0 .names)); above = c .before .before .before .before .before .before .before .pre .0 .above }, c .before .before .before .before .before .before .before .pre .1, word-formed (c .before .before .before .before .word-at .ensures) (c .before .before .before .before .before .before .before .pre .2))
+declare-line-requires : tie.Need-declare-line-requires
+declare-line-requires c κs =
+    let x = c .before .before .before .before .before .before .pre in
+    (record { ready = x .0; low = x .1; formed = x .2; word = c .before .before .before .word-at .ensures }, sym (c .before .before .is-declaration .ensures) ∙ c .before .if1 .taken, x .3, x .4)
+
+same-length : tie.Need-same-length
+same-length c = search needs
+
+returns : tie.Need-returns
+returns c = search needs
+
+try-line-requires : tie.Need-try-line-requires
+try-line-requires c κs =
+    let x = c .before .before .before .before .before .before .pre in
+    let y = c .before .before .before .word-at .ensures in
+    (follows (record { ready = x .0; low = x .1; formed = x .2; word = y }) (x .3), word-bounds y (x .2), sym (c .before .before .is-declaration .ensures) ∙ c .before .if1 .left)
 
 enum-told : tie.Need-enum-told
 enum-told c = search needs
 
-enum-told-2 : tie.Need-enum-told-2
-enum-told-2 c = search needs
+why-refused-requires : tie.Need-why-refused-requires
+why-refused-requires c κs =
+    let x = c .before .before .before .before .before .before .before .before .before .before .before .before .pre in
+    let y = c .before .before .before .before .before .before .before .before .before .word-at .ensures in
+    let z = tried-bad (word-line y (x .2)) (c .before .before .before .before .before .try-line .ensures) (c .before .enum-told .given .1) in
+    (begins-after (record { ready = x .0; low = x .1; formed = x .2; word = y }) (z .size), good-kept _ _ (x .0) (z .names) ∙ z .bad)
 
-enum-told-3 : tie.Need-enum-told-3
-enum-told-3 c = search needs
-
-enum-told-4 : tie.Need-enum-told-4
-enum-told-4 c = search needs
+enum-known-t : tie.Need-enum-known-t
+enum-known-t c = search needs
 
 take-line-requires : tie.Need-take-line-requires
 take-line-requires c κs =
-    let e = sym (word-line (c .before .before .before .before .before .before .before .before .word-at .ensures) (c .before .before .before .before .before .before .before .before .before .before .before .pre .2)) in (
-      record {
-        ready = c .before .before .before .before .before .before .before .before .before .before .before .pre .0;
-        high = c .before .before .before .before .before .before .before .before .word-at .ensures .high;
-        tested = subst (Tested _ _ _) e (good-tested _ _ (c .before .before .before .before .before .before .before .before .before .before .before .args .p) _ (c .before .before .before .before .before .before .before .before .word-at .ensures) (c .before .before .before .before .before .before .before .before .before .before .before .pre .2) _ (c .before .before .before .before .before .seen .ensures) (c .before .before .before .judge .result) (c .before .before .before .judge .ensures) (sym (c .before .enum-told4 .given .1)));
-        room = subst (Room _ _ _) e (c .before .before .before .before .before .before .before .before .before .before .before .pre .3);
-      },
-      word-bounds (c .before .before .before .before .before .before .before .before .word-at .ensures) (c .before .before .before .before .before .before .before .before .before .before .before .pre .2),
-      c .before .before .before .before .before .before .before .before .before .before .before .pre .4,
-    )
-
-same-length : tie.Need-same-length
-same-length c = refl
-
-returns : tie.Need-returns
-unfolding StepIs Judges.refusalOf refusalOf
-returns c = (bad-resolved _ _ (c .before .before .before .before .before .before .before .before .before .before .args .p) _ (c .before .before .before .before .before .before .before .word-at .ensures) (c .before .before .before .before .before .before .before .before .before .before .pre .2) _ (c .before .before .before .before .seen .ensures) (c .before .before .judge .result) (c .before .before .judge .ensures) Judged.Undeclared Refusal.Undeclared (sym (c .enum-told .given .1)) refl, refl)
+    let x = c .before .before .before .before .before .before .before .before .before .before .before .before .before .pre in
+    let y = c .before .before .before .before .before .before .before .before .before .before .word-at .ensures in
+    let z = tried-on (word-line y (x .2)) (c .before .before .before .before .before .before .try-line .ensures) _ (c .before .before .t .given .1) in
+    (between (z .1 .0) (x .4 .flat) (x .4 .stands) (x .0) (x .3), word-bounds y (x .2))
 
 same-length-2 : tie.Need-same-length-2
-same-length-2 c = refl
+same-length-2 c = search needs
 
 returns-2 : tie.Need-returns-2
-unfolding StepIs Judges.refusalOf refusalOf
-returns-2 c = (bad-resolved _ _ (c .before .before .before .before .before .before .before .before .before .before .args .p) _ (c .before .before .before .before .before .before .before .word-at .ensures) (c .before .before .before .before .before .before .before .before .before .before .pre .2) _ (c .before .before .before .before .seen .ensures) (c .before .before .judge .result) (c .before .before .judge .ensures) Judged.WrongType Refusal.WrongType (sym (c .enum-told2 .given .1)) refl, refl)
+unfolding StepIs
+returns-2 c =
+    let x = c .before .before .before .before .before .before .before .before .before .before .before .before .before .pre in
+    let y = c .before .before .before .before .before .before .before .before .before .before .word-at .ensures in
+    let z = tried-bad (word-line y (x .2)) (c .before .before .before .before .before .before .try-line .ensures) (c .before .before .enum-told .given .1) in
+    (bad-resolved _ _ (c .before .before .before .before .before .before .before .before .before .before .before .before .before .args .p) _ (c .why-refused .result) (sym (refusal-kept _ _ (x .0) (z .names)) ∙ c .why-refused .ensures), z .size)
 
 same-length-3 : tie.Need-same-length-3
-same-length-3 c = refl
+same-length-3 c = search needs
 
 returns-3 : tie.Need-returns-3
-unfolding StepIs Judges.refusalOf refusalOf
-returns-3 c = (bad-resolved _ _ (c .before .before .before .before .before .before .before .before .before .before .args .p) _ (c .before .before .before .before .before .before .before .word-at .ensures) (c .before .before .before .before .before .before .before .before .before .before .pre .2) _ (c .before .before .before .before .seen .ensures) (c .before .before .judge .result) (c .before .before .judge .ensures) Judged.WrongTarget Refusal.WrongTarget (sym (c .enum-told3 .given .1)) refl, refl)
-
-same-length-4 : tie.Need-same-length-4
-same-length-4 c = c .before .before .take-line .ensures .put .size
-
-returns-4 : tie.Need-returns-4
 unfolding StepIs
-returns-4 c =
+returns-3 c =
+    let x = c .before .before .before .before .before .before .before .before .before .before .before .before .before .before .pre in
+    let y = c .before .before .before .before .before .before .before .before .before .before .before .word-at .ensures in
+    let z = tried-on (word-line y (x .2)) (c .before .before .before .before .before .before .before .try-line .ensures) _ (c .before .before .before .t .given .1) in
     record {
-      taken = line-as (word-line (c .before .before .before .before .before .before .before .before .before .before .before .word-at .ensures) (c .before .before .before .before .before .before .before .before .before .before .before .before .before .before .pre .2)) (c .before .before .take-line .ensures);
-      resolved = good-resolved _ _ (c .before .before .before .before .before .before .before .before .before .before .before .before .before .before .args .p) _ (c .before .before .before .before .before .before .before .before .before .before .before .word-at .ensures) (c .before .before .before .before .before .before .before .before .before .before .before .before .before .before .pre .2) _ (c .before .before .before .before .before .before .before .before .seen .ensures) (c .before .before .before .before .before .before .judge .result) (c .before .before .before .before .before .before .judge .ensures) (sym (c .before .before .before .before .enum-told4 .given .1));
+      taken = line-taken (z .1 .0) (x .4) (kind-is y (x .2)) _ (c .take-line .ensures);
+      resolved = good-resolved _ _ (c .before .before .before .before .before .before .before .before .before .before .before .before .before .before .args .p) _ (z .0);
     }
 
 pub read-line-spec : {M : Type 1} → statement M
 read-line-spec =
     tie.close
-    (tie.spec word-at-requires seen-requires judge-requires enum-told enum-told-2 enum-told-3 enum-told-4 take-line-requires same-length returns same-length-2 returns-2 same-length-3 returns-3 same-length-4 returns-4)
+    (tie.spec
+    word-at-requires
+    is-declaration-requires
+    declare-line-requires
+    same-length
+    returns
+    try-line-requires
+    enum-told
+    why-refused-requires
+    enum-known-t
+    take-line-requires
+    same-length-2
+    returns-2
+    same-length-3
+    returns-3)

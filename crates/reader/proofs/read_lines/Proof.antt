@@ -41,14 +41,14 @@ add-t15 : tie.Need-add-t15 Inv-loop μ-loop
 add-t15 c = omega (arith, c .before .before .before .before .before .before .before .before .before .before .loop .inv .1 .early, c .before .before .before .before .before .before .before .before .before .loop-test .taken, c .before .before .before .before .before .before .before .before .before .before .before .before .before .before .pre .0)
 
 same-length : tie.Need-same-length Inv-loop μ-loop
-same-length c = ap length (step-refused _ _ _ _ _ _ (c .before .before .before .before .before .before .read-line .ensures) (c .before .before .s .given .0 .0) (c .before .before .s .given .1) .1) ∙ (c .before .before .before .before .before .before .before .before .before .before .loop .inv .1 .whole ∙ sym (c .before .before .before .before .before .before .before .before .before .before .before .before .before .before .pre .1))
+same-length c = step-refused _ _ _ _ _ _ (c .before .before .before .before .before .before .read-line .ensures) (c .before .before .s .given .0 .0) (c .before .before .s .given .1) .1 ∙ (c .before .before .before .before .before .before .before .before .before .before .loop .inv .1 .whole ∙ sym (c .before .before .before .before .before .before .before .before .before .before .before .before .before .before .pre .1))
 
 returns : tie.Need-returns Inv-loop μ-loop
 unfolding ResolvedIs
 returns c =
     let x = c .before .before .before .before .before .before .before .before .before .before .loop .inv .1 in
     let y = step-refused _ _ _ _ _ _ (c .before .before .before .before .before .before .read-line .ensures) (c .before .before .s .given .0 .0) (c .before .before .s .given .1) in
-    (resolving-refused x (c .before .before .before .before .before .before .before .before .before .before .before .before .before .before .pre .0) (c .before .before .before .before .before .before .before .before .before .loop-test .taken) (c .before .before .before .before .before .before .before .before .find .ensures) (refusalOf (c .before .before .s .given .0 .0)) (y .0) ∙ ap (refused (refusalOf (c .before .before .s .given .0 .0))) (sym (add-one _)), ap length (y .1) ∙ x .whole)
+    (resolving-refused x (c .before .before .before .before .before .before .before .before .before .before .before .before .before .before .pre .0) (c .before .before .before .before .before .before .before .before .before .loop-test .taken) (c .before .before .before .before .before .before .before .before .find .ensures) (refusalOf (c .before .before .s .given .0 .0)) (y .0) ∙ ap (refused (refusalOf (c .before .before .s .given .0 .0))) (sym (add-one _)), y .1 ∙ x .whole)
 
 enum-known-s-2 : tie.Need-enum-known-s-2 Inv-loop μ-loop
 enum-known-s-2 c = search needs
