@@ -10,7 +10,7 @@ use lib.Dec.{eqb}
 use lib.ListN.{length, drop}
 use borrow.Author.Tests.{eqb-true, eq-eqb, ne-eqb, le-leb, lt-leb}
 use Rattle.rules.specs.Base.{Name}
-use Rattle.rules.specs.Limits.{most-methods, most-statements, most-atoms}
+use Rattle.rules.specs.Limits.{work-bytes, most-methods, most-statements, most-atoms}
 use Rattle.rules.specs.Syntax.{Formula}
 use Rattle.rules.specs.Text.{isFormula, formulaOf}
 use Rattle.rules.specs.Grammar as Grammar
@@ -22,7 +22,7 @@ use Rattle.leaves.proofs.Search.{true-false}
 use Rattle.lines.specs.Cuts.{more}
 use Rattle.lines.specs.Rows.{kindNumbered}
 use Rattle.lines.proofs.Rows.{number-of-kind, kind-of-number}
-use Rattle.tables.specs.Layout.{names-at, values-at, most-atom-rows}
+use Rattle.tables.specs.Layout.{names-at, most-atom-rows}
 use Rattle.tables.specs.Decode.{atomsFrom}
 use Rattle.tables.specs.Stores.{Kept}
 use Rattle.declared.specs.declared.Names.{Names}
@@ -299,7 +299,7 @@ module _ {t w : List ℕ} {p : Pass} {k r : ℕ} (x : Follows t w p k r) {c : Na
   pub formula-put :
       {K : Kind} {z : Formula ℕ → Item} → Formulaic K z → (e : kindNumbered k ≡ K) → {v : List ℕ} {m : ℕ} → m ≡ p .atoms + length φ →
       ((F : Flat) → Stands t w p F → Holds (counts (p .names)) v (flatWith F (p .line + 1) (z φ)) m) →
-      ((F : Flat) → Stands t w p F → atomsFrom v (p .atoms) (m - p .atoms) ≡ φ) → Kept names-at values-at w v → length v ≡ length w →
+      ((F : Flat) → Stands t w p F → atomsFrom v (p .atoms) (m - p .atoms) ≡ φ) → Kept names-at work-bytes w v → length v ≡ length w →
       ItemPut t w p (lineAfter t r k) v m
   unfolding formulaAfter
   formula-put {K} {z} y e count built formula names size =
@@ -344,7 +344,7 @@ module _ {t w : List ℕ} {p : Pass} {k r : ℕ} (x : Follows t w p k r) {c : Na
       subst (ItemTried t w p (lineAfter t r k) v) (sym i)
       (record {
         bad = good-as x g (kindNumbered k) refl ∙ y .0 (S x);
-        names = subst (Kept names-at values-at w) (sym (y .1)) (λ j a b. refl);
+        names = subst (Kept names-at work-bytes w) (sym (y .1)) (λ j a b. refl);
         size = ap length (y .1);
       })
 

@@ -6,13 +6,14 @@ use Prim.Native.Nat.{ℕ, suc, pred, _≤_}
 use native.Mathlib.Omega.{arith}
 use lib.ListN.{length, getD}
 use borrow.Author.Tests.{ne-eqb}
+use Rattle.rules.specs.Limits.{work-bytes}
 use Rattle.rules.specs.Syntax.{Field, Stmt}
 use Rattle.rules.specs.Grammar as Grammar
 use Rattle.rules.specs.Grammar.{Kind, Line, isKind, kindNumber}
 use Rattle.rules.specs.Scope.{Declarations, Variable, Scope, noBlock, classesAfter, membersAfter, blockAfter, scopeAfter}
 use Rattle.rules.specs.Names.{fieldNumber}
 use Rattle.rules.specs.Items.{itemOf, aStatement}
-use Rattle.tables.specs.Layout.{names-at, values-at}
+use Rattle.tables.specs.Layout.{names-at}
 use Rattle.tables.specs.Stores.{Kept}
 use Rattle.declared.specs.declared.Names.{Names}
 use Rattle.declared.specs.declared.Above.{Above}
@@ -115,7 +116,7 @@ ensures-grown Γ vs F n l = record { classes = refl; methods = last-length _ (F 
 closed : Bool → Scope → Scope
 closed e s = record { classes = s .classes; members = s .members; block = cond e noBlock (s .block) }
 
-module _ (t w w′ : List ℕ) (p : Pass) (l : Line) (o : Quiet (l .kind)) (ready : Ready t w p) (kept : Kept names-at values-at w w′) where
+module _ (t w w′ : List ℕ) (p : Pass) (l : Line) (o : Quiet (l .kind)) (ready : Ready t w p) (kept : Kept names-at work-bytes w w′) where
   abbrev next : Names
   next = namesAfter (l .kind) (p .names)
 

@@ -4,11 +4,11 @@ use mathlib.Core.Bool.{Bool, true, cond}
 use mathlib.Core.List.{List}
 use Prim.Native.Nat.{ℕ, suc, _+_, _-_, _≤_}
 use lib.ListN.{length, drop}
-use Rattle.rules.specs.Limits.{most-atoms}
+use Rattle.rules.specs.Limits.{work-bytes, most-atoms}
 use Rattle.rules.specs.Grammar.{Line, form, isFormed}
 use Rattle.lines.specs.Cuts.{more}
 use Rattle.lines.specs.Rows.{kindNumbered}
-use Rattle.tables.specs.Layout.{names-at, values-at}
+use Rattle.tables.specs.Layout.{names-at}
 use Rattle.tables.specs.Decode.{atomsFrom}
 use Rattle.tables.specs.Stores.{Kept}
 use Rattle.assembly.specs.Flat.{Flat, flatWith}
@@ -31,7 +31,7 @@ pub record ItemPut (t w : List ℕ) (p : Pass) (l : Line) (w′ : List ℕ) (m :
   pub built : (F : Flat) → Stands t w p F → Holds (counts (p .names)) w′ (flatWith F (suc (p .line)) (item t w p l)) m
   pub formula :
       isFramed (l .kind) ≡ true → (F : Flat) → Stands t w p F → atomsFrom w′ (p .atoms) (m - p .atoms) ≡ framedFormula (item t w p l)
-  pub names : Kept names-at values-at w w′
+  pub names : Kept names-at work-bytes w w′
   pub size : length w′ ≡ length w
 
 -- it is written just if it is good

@@ -6,6 +6,7 @@ use mathlib.Core.Option.{Option, none, some}
 use Prim.Native.Nat.{ℕ, _≤_}
 use native.Mathlib.Omega.{arith}
 use lib.ListN.{drop}
+use Rattle.rules.specs.Limits.{work-bytes}
 use Rattle.rules.specs.Base.{ok, no}
 use Rattle.rules.specs.Answers as Answers
 use Rattle.rules.specs.Text.{fields}
@@ -17,7 +18,7 @@ use Rattle.lines.specs.Cuts.{more}
 use Rattle.lines.specs.Rows.{kindNumbered}
 use Rattle.lines.proofs.Rows.{kind-of-number, kind-bounds}
 use Rattle.leaves.proofs.Search.{true-false}
-use Rattle.tables.specs.Layout.{names-at, values-at}
+use Rattle.tables.specs.Layout.{names-at}
 use Rattle.tables.specs.Stores.{Kept}
 use Rattle.declared.specs.declared.Names.{Names}
 use Rattle.declared.specs.declared.Above.{Above}
@@ -167,7 +168,7 @@ module _ (t w : List ℕ) (p : Pass) (l : Line) where
     not-good g e = bad-fails _ _ _ _ g (none-here e)
 
 -- They are said of the names alone.
-module _ {t w : List ℕ} {p : Pass} (w′ : List ℕ) (l : Line) (r : Ready t w p) (k : Kept names-at values-at w w′) where
+module _ {t w : List ℕ} {p : Pass} (w′ : List ℕ) (l : Line) (r : Ready t w p) (k : Kept names-at work-bytes w w′) where
   declared-same : declarationsIn t w′ (p .names) ≡ declarationsIn t w (p .names)
   declared-same = names-kept t w w′ (p .names) (r .names) k
 
