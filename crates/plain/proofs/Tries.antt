@@ -8,7 +8,7 @@ use lib.ListN.{getD, drop}
 use Rattle.rules.specs.Base.{Name, bytes, is, eqName, any}
 use Rattle.rules.specs.Text.{reserved}
 use Rattle.rules.specs.Scope.{Declarations, Variable}
-use Rattle.rules.specs.Names.{isLocal, inScope, isInt, isClass, isMethodOf, knownMethod, classNumber, methodNumber, methodOfClass, noDeclaration, variableNumber, variableType}
+use Rattle.rules.specs.Names.{isLocal, isInt, isClass, isMethodOf, knownMethod, classNumber, methodNumber, methodOfClass, noDeclaration, variableNumber, variableType}
 use Rattle.lines.specs.Cuts.{more}
 use Rattle.declared.specs.declared.Names.{Names}
 use Rattle.declared.specs.declared.Span.{Span}
