@@ -200,5 +200,6 @@ module _ (t w w′ : List ℕ) (p : Pass) (l : Line) (o : Quiet (l .kind)) (read
           formula = y .formula;
           declared = declared-after;
           scope = scope-after;
+          lines = λ i a b. kept i (omega (arith, a)) b;
           size = y .size;
         }

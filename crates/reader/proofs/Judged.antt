@@ -5,17 +5,16 @@ use mathlib.Core.List.{List}
 use mathlib.Core.Option.{Option, none, some}
 use Prim.Native.Nat.{ℕ, _≤_}
 use native.Mathlib.Omega.{arith}
-use lib.ListN.{drop}
 use Rattle.rules.specs.Limits.{work-bytes}
 use Rattle.rules.specs.Base.{ok, no}
 use Rattle.rules.specs.Answers as Answers
-use Rattle.rules.specs.Text.{fields}
 use Rattle.rules.specs.Grammar.{Kind, Line, isKind, Requires, form, isFormed}
 use Rattle.rules.specs.Scope.{Declarations, Variable, Scope, visible}
 use Rattle.rules.specs.Names.{allKnown, allTyped, allAssignable}
 use Rattle.rules.specs.Items.{itemOf, resolveLine}
-use Rattle.lines.specs.Cuts.{more}
+use Rattle.lines.specs.declared.Word.{Word}
 use Rattle.lines.specs.Rows.{kindNumbered}
+use Rattle.lines.specs.Table.{WordAt}
 use Rattle.lines.proofs.Rows.{kind-of-number, kind-bounds}
 use Rattle.leaves.proofs.Search.{true-false}
 use Rattle.tables.specs.Layout.{names-at}
@@ -24,8 +23,7 @@ use Rattle.declared.specs.declared.Names.{Names}
 use Rattle.declared.specs.declared.Above.{Above}
 use Rattle.declared.specs.Meanings.{Fits, declarationsIn, variablesIn, scopeIn, blockIn, ownVariables}
 use Rattle.declared.proofs.Scopes.{names-kept, variables-kept, scope-kept}
-use Rattle.declare.specs.declared.Word.{Word}
-use Rattle.declare.specs.Texts.{lineAt, FormedAt, WordAt}
+use Rattle.declare.specs.Texts.{lineAt, FormedAt}
 use Rattle.declare.specs.Declares.{lineWith}
 use Rattle.declare.proofs.Adds.{word-kind}
 use Rattle.judge.specs.declared.Judged.{Judged}
@@ -34,29 +32,36 @@ use Rattle.judge.specs.Refusals as Judges
 use Rattle.judge.specs.Refusals.{refusalIn, unlessRefused}
 use Rattle.judge.proofs.Refusals.{refuses, visible-is}
 use Rattle.pass.specs.declared.Pass.{Pass}
-use Rattle.pass.specs.Passes.{seenBy, isGood, isGoodHere, Ready, Tested, item}
+use Rattle.pass.specs.Passes.{seenBy, isGood, isGoodHere, Ready, Tested, item, lineAfter}
 use Rattle.reader.specs.declared.Refusal.{Refusal}
-use Rattle.reader.specs.Readings.{refusalOf, refusalHere}
+use Rattle.reader.specs.Readings.{refusalOf, Begins, refusalHere}
 
 -- THE LINE BY ITS WORD
 module _ {t : List ℕ} {a : ℕ} {r : Word} (x : WordAt t a r) (f : FormedAt t a) where
   pub word-bounds : (1 ≤ r .kind) × (r .kind ≤ 18)
   word-bounds = let b = kind-bounds (lineAt t a .kind) in (omega (arith, b .0, word-kind f x), omega (arith, b .1, word-kind f x))
 
-  pub kind-is : kindNumbered (r .kind) ≡ lineAt t a .kind
+  kind-is : kindNumbered (r .kind) ≡ lineAt t a .kind
   kind-is = ap kindNumbered (word-kind f x) ∙ kind-of-number (lineAt t a .kind)
 
-  pub word-line : lineWith (kindNumbered (r .kind)) (more (drop (r .end) t)) ≡ lineAt t a
+  pub word-line : lineAfter t (r .end) (r .kind) ≡ lineAt t a
   unfolding lineAt
   word-line = ap₂ lineWith kind-is (x .fields)
 
-  judged-line : Tests.lineAt t a (r .kind) ≡ lineAt t a
-  unfolding lineAt Tests.lineAt
-  judged-line = ap (λ (k : Kind). lineWith k (drop 1 (fields (drop a t)))) kind-is
+  pub word-begins : {w : List ℕ} {p : Pass} → Ready t w p → Begins t w p r
+  word-begins y =
+      record {
+        ready = y;
+        high = x .high;
+        first = word-bounds .0;
+        last = word-bounds .1;
+        formed = subst (λ (l : Line). isFormed (form (l .kind) .operands) (form (l .kind) .tail) (l .fields) ≡ true) (sym word-line) (f .formed);
+      }
 
-  pub word-formed : Tests.Formed (r .kind) (Tests.lineAt t a (r .kind))
-  unfolding Tests.formed
-  word-formed = record { first = word-bounds .0; last = word-bounds .1; is = subst (λ (l : Line). Tests.formed l ≡ true) (sym judged-line) (f .formed) }
+-- as `judge` asks for it
+pub judged-formed : {t w : List ℕ} {p : Pass} {r : Word} → Begins t w p r → Tests.Formed (r .kind) (Tests.lineAfter t (r .end) (r .kind))
+unfolding Tests.formed Tests.lineAfter
+judged-formed x = record { first = x .first; last = x .last; is = x .formed }
 
 -- WHAT IT MAY NAME
 seen-declared : (t w : List ℕ) (k : Kind) (c : Names) → declarationsIn t w (seenBy k c) ≡ declarationsIn t w c
@@ -188,15 +193,13 @@ module _ {t w : List ℕ} {p : Pass} (w′ : List ℕ) (l : Line) (r : Ready t w
 
 -- what `judge` says
 pub judged-here :
-    (t w : List ℕ) (p : Pass) (a : ℕ) {r : Word} (x : WordAt t a r) (f : FormedAt t a) (c : Names) → c ≡ seenBy (kindNumbered (r .kind)) (p .names) →
-    (j : Judged) → Judges.refusalOf j ≡ refusalIn (declarationsIn t w c) (variablesIn t w c) (scopeIn t w c (p .above)) (Tests.lineAt t a (r .kind)) →
-    Judges.refusalOf j ≡ refusalHere t w p (lineAt t a)
-unfolding refusalHere
-judged-here t w p a x f c c-is j h =
-    let l : Line = lineAt t a in
-    let k : Kind = lineAt t a .kind in
-    let seen : c ≡ seenBy k (p .names) = c-is ∙ ap (λ (k : Kind). seenBy k (p .names)) (kind-is x f) in
+    (t w : List ℕ) (p : Pass) (r : Word) (c : Names) → c ≡ seenBy (kindNumbered (r .kind)) (p .names) → (j : Judged) →
+    Judges.refusalOf j ≡ refusalIn (declarationsIn t w c) (variablesIn t w c) (scopeIn t w c (p .above)) (Tests.lineAfter t (r .end) (r .kind)) →
+    Judges.refusalOf j ≡ refusalHere t w p (lineAfter t (r .end) (r .kind))
+unfolding refusalHere Tests.lineAfter
+judged-here t w p r c seen j h =
+    let l : Line = lineAfter t (r .end) (r .kind) in
+    let k : Kind = kindNumbered (r .kind) in
     h
-    ∙ (ap (refusalIn (declarationsIn t w c) (variablesIn t w c) (scopeIn t w c (p .above))) (judged-line x f)
     ∙ (ap (λ (c : Names). refusalIn (declarationsIn t w c) (variablesIn t w c) (scopeIn t w c (p .above)) l) seen
-    ∙ ap₂ (λ (Γ : Declarations) (s : Scope). refusalIn Γ (variablesIn t w (seenBy k (p .names))) s l) (seen-declared t w k (p .names)) (seen-scope t w k (p .names) (p .above))))
+    ∙ ap₂ (λ (Γ : Declarations) (s : Scope). refusalIn Γ (variablesIn t w (seenBy k (p .names))) s l) (seen-declared t w k (p .names)) (seen-scope t w k (p .names) (p .above)))

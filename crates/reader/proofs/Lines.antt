@@ -16,8 +16,7 @@ use Rattle.lines.specs.Rows.{kindNumbered}
 use Rattle.lines.proofs.Rows.{kind-of-number, number-of-kind}
 use Rattle.tables.specs.Decode.{atomsFrom}
 use Rattle.assembly.specs.Flat.{Flat}
-use Rattle.declare.specs.declared.Word.{Word}
-use Rattle.declare.specs.Texts.{lineAt}
+use Rattle.lines.specs.declared.Word.{Word}
 use Rattle.pass.specs.declared.Pass.{Pass}
 use Rattle.pass.specs.declared.Tried.{Tried}
 use Rattle.pass.specs.Passes.{isFramed, Ready, Stands, Room, LinePut, item, unframedAfter, lineAfter, isGoodHere, BadLine, LineTried}
@@ -25,7 +24,6 @@ use Rattle.headers.specs.Headers.{isDeclaration}
 use Rattle.pass.proofs.Unframed.{framed-formula, framed-other}
 use Rattle.reader.specs.Readings.{Between, Written, Begins, LineTaken, unframedBy, withUnframed}
 use Rattle.bodies.specs.Bodies.{Follows}
-use Rattle.reader.proofs.Judged.{word-line}
 
 -- the kinds that number 10 is about, by their numbers
 pub framed-number : (n : ℕ) → 1 ≤ n → n ≤ 18 → isFramed (kindNumbered n) ≡ (eqb 4 n || (eqb 5 n || eqb 17 n))
@@ -100,6 +98,7 @@ module _ {t w : List ℕ} {p : Pass} {l : Line} {w′ : List ℕ} {q : Pass} (x 
         formula = x .formula;
         declared = x .declared;
         scope = x .scope;
+        lines = x .lines;
         size = x .size;
       }
 
@@ -115,12 +114,11 @@ module _ {t w : List ℕ} {p : Pass} {l : Line} {w′ : List ℕ} {q : Pass} (x 
 
   -- number 10 has its line
   pub line-taken :
-      Written t w p → {k : Kind} → k ≡ l .kind → (r : Pass) →
-      r ≡ withUnframed q (unframedBy (isFramed k) (atomsFrom w′ (p .atoms) (q .atoms - p .atoms)) p) → LineTaken t w p l w′ r
+      Written t w p → (r : Pass) →
+      r ≡ withUnframed q (unframedBy (isFramed (l .kind)) (atomsFrom w′ (p .atoms) (q .atoms - p .atoms)) p) → LineTaken t w p l w′ r
   unfolding withUnframed
-  line-taken s e r i =
-      let f = i ∙ ap (λ (k : Kind). withUnframed q (unframedBy (isFramed k) (atomsFrom w′ (p .atoms) (q .atoms - p .atoms)) p)) e in
-      subst (LineTaken t w p l w′) (sym f) (record { put = put-unframed _; unframed = unframed-is (s .flat) (s .stands) })
+  line-taken s r i =
+      subst (LineTaken t w p l w′) (sym i) (record { put = put-unframed _; unframed = unframed-is (s .flat) (s .stands) })
 
   -- it is not about the line
   pub line-declared : isFramed (l .kind) ≡ false → q .unframed ≡ p .unframed → LineTaken t w p l w′ q
@@ -131,22 +129,12 @@ module _ {t w : List ℕ} {p : Pass} {l : Line} {w′ : List ℕ} {q : Pass} (x 
       go zero b i = sym (rw i)
       go (suc u) b i = sym (rw (eqb·suc-zero u))
 
-pub line-as : {t w : List ℕ} {p : Pass} {l l′ : Line} {w′ : List ℕ} {q : Pass} → l ≡ l′ → LineTaken t w p l w′ q → LineTaken t w p l′ w′ q
-line-as {t} {w} {p} {w′ = w′} {q = q} e x = subst (λ (l : Line). LineTaken t w p l w′ q) e x
-
 -- A LINE THAT IS TRIED
-module _ {t w : List ℕ} {p : Pass} {a : ℕ} {r : Word} (x : Begins t w p a r) where
-  pub follows : Room t w p (lineAt t a) → Follows t w p (r .kind) (r .end)
-  follows m =
-      let e = sym (word-line (x .word) (x .formed)) in
-      record {
-        ready = x .ready;
-        high = x .word .high;
-        formed = subst (λ (l : Line). isFormed (form (l .kind) .operands) (form (l .kind) .tail) (l .fields) ≡ true) e (x .formed .formed);
-        room = subst (Room t w p) e m;
-      }
+module _ {t w : List ℕ} {p : Pass} {r : Word} (x : Begins t w p r) where
+  pub follows : Room t w p (lineAfter t (r .end) (r .kind)) → Follows t w p (r .kind) (r .end)
+  follows m = record { ready = x .ready; high = x .high; formed = x .formed; room = m }
 
-  pub begins-after : {w′ : List ℕ} → length w′ ≡ length w → Begins t w′ p a r
+  pub begins-after : {w′ : List ℕ} → length w′ ≡ length w → Begins t w′ p r
   begins-after e =
       record {
         ready =
@@ -157,19 +145,20 @@ module _ {t w : List ℕ} {p : Pass} {a : ℕ} {r : Word} (x : Begins t w p a r)
               above = x .ready .above;
               result = x .ready .result;
             };
-        low = x .low;
+        high = x .high;
+        first = x .first;
+        last = x .last;
         formed = x .formed;
-        word = x .word;
       }
 
-module _ {t w : List ℕ} {p : Pass} {l l′ : Line} {w′ : List ℕ} {y : Tried} (e : l ≡ l′) (x : LineTried t w p l w′ y) where
-  pub tried-on : (q : Pass) → y ≡ Tried.On q → (isGoodHere t w p l′ ≡ true) × (LinePut t w p l′ w′ q × (q .unframed ≡ p .unframed))
+module _ {t w : List ℕ} {p : Pass} {l : Line} {w′ : List ℕ} {y : Tried} (x : LineTried t w p l w′ y) where
+  pub tried-on : (q : Pass) → y ≡ Tried.On q → (isGoodHere t w p l ≡ true) × (LinePut t w p l w′ q × (q .unframed ≡ p .unframed))
   unfolding LineTried
-  tried-on q i = subst (LineTried t w p l′ w′) i (subst (λ (l : Line). LineTried t w p l w′ y) e x)
+  tried-on q i = subst (LineTried t w p l w′) i x
 
-  pub tried-bad : y ≡ Tried.Bad → BadLine t w p l′ w′
+  pub tried-bad : y ≡ Tried.Bad → BadLine t w p l w′
   unfolding LineTried
-  tried-bad i = subst (LineTried t w p l′ w′) i (subst (λ (l : Line). LineTried t w p l w′ y) e x)
+  tried-bad i = subst (LineTried t w p l w′) i x
 
 -- `var`, by its number
 module _ (t w : List ℕ) (p : Pass) {k : ℕ} (r : ℕ) (e : k ≡ 7) where

@@ -17,6 +17,9 @@ use Rattle.rules.specs.Items.{Item, resolveLine, resolveLines}
 use Rattle.rules.specs.Reading.{checkFramed}
 use Rattle.leaves.specs.Sets.{Found}
 use Rattle.leaves.specs.declared.Set.the-variants.{LineEnd}
+use Rattle.lines.specs.declared.Word.{Word}
+use Rattle.lines.specs.Table.{WordAt, LineTable, lineEnd, startOf}
+use Rattle.lines.proofs.Table.{found-end, next-start, table-kept}
 use Rattle.declared.specs.declared.Names.{Names}
 use Rattle.declared.specs.Rows.{rows}
 use Rattle.declared.specs.Meanings.{declarationsIn, namesFrom, blockIn, ownVariables, classAbove, scopeIn}
@@ -27,12 +30,13 @@ use Rattle.declare.proofs.Walks.{Walking, walking-first, walking-done, walking-
 use Rattle.assembly.specs.Flat.{Flat, noFlat, flatFrom, flatWith}
 use Rattle.emit.proofs.Kept.{none-written}
 use Rattle.pass.specs.declared.Pass.{Pass}
-use Rattle.pass.specs.Passes.{counts, firstPass, lastClass, Ready, Stands, Room, item}
+use Rattle.pass.specs.Passes.{counts, firstPass, lastClass, Ready, Stands, Room, item, lineAfter}
 use Rattle.pass.proofs.Places.{At, at-first, at-ready, at-room, at-on}
 use Rattle.pass.proofs.Unframed.{framedAfter, framed-first, framed-on, framed-last}
-use Rattle.reader.specs.Readings.{refusalOf, framedVerdict, Written, LineRead, StepIs, resolvedText, AllRead}
+use Rattle.reader.specs.Readings.{refusalOf, framedVerdict, Written, Begins, LineRead, StepIs, resolvedText, AllRead}
 use Rattle.reader.specs.declared.Refusal as Reasons
 use Rattle.reader.specs.declared.Step.{Step}
+use Rattle.reader.proofs.Judged.{word-line, word-begins}
 
 -- LISTS AND VERDICTS
 flat-more : (F : Flat) (n : ℕ) (xs : List Item) (a : Item) → flatFrom F n (xs ++ (a ∷ [])) ≡ flatWith (flatFrom F n xs) (suc (n + length xs)) a
@@ -85,6 +89,10 @@ module _ (t w : List ℕ) (p : Pass) (l : Line) (w′ : List ℕ) (s : Step) (x 
   pub step-on : (q : Pass) → s ≡ Step.On q → LineRead t w p l w′ q
   unfolding StepIs
   step-on q e = subst (StepIs t w p l w′) e x
+
+-- the table of lines stays
+pub table-on : {t w : List ℕ} {p : Pass} {l : Line} {w′ : List ℕ} {q : Pass} {n : ℕ} → LineTable t w n → LineRead t w p l w′ q → LineTable t w′ n
+table-on {w′ = w′} x y = table-kept {w′ = w′} x (y .taken .put .lines)
 
 -- THE LOOP
 pub record Resolving (t : List ℕ) (a : ℕ) (p : Pass) (w : List ℕ) : Type 0 where
@@ -221,3 +229,30 @@ module _ {t : List ℕ} {a : ℕ} {p : Pass} {w : List ℕ} (x : Resolving t a p
           resolved = resolved-line (y .resolved)
               ∙ ap₂ (λ (k : ℕ) (s : Scope). then (left (linesOf (drop (e + 1) t)) k s) (λ rest. accepted ((x .items ++ (item t w p (lineAt t a) ∷ [])) ++ rest))) (sym n) (sym (z .scope));
         }
+
+  -- the line here by its word
+  module _ (size : length t ≤ most-bytes) (l : a < length t) {r : Word} (y : WordAt t a r) where
+    ends : Found t a LineEnd (lineEnd t a)
+    ends = found-end t a (omega arith)
+
+    same-line : lineAfter t (r .end) (r .kind) ≡ lineAt t a
+    same-line = word-line y (resolving-formed size l ends)
+
+    pub word-ready : Begins t w p r
+    word-ready = word-begins y (resolving-formed size l ends) (resolving-ready size)
+
+    pub word-room : Room t w p (lineAfter t (r .end) (r .kind))
+    word-room = subst (Room t w p) (sym same-line) (resolving-room size l ends)
+
+    pub word-refused :
+        (q : Refusal) → resolveLine (declarationsIn t w (p .names)) here (lineAfter t (r .end) (r .kind)) ≡ no q → resolvedText t ≡ refused q (suc (p .line))
+    word-refused q h = resolving-refused size l ends q (subst (λ (k : Line). resolveLine (declarationsIn t w (p .names)) here k ≡ no q) same-line h)
+
+    word-on : {w′ : List ℕ} {q : Pass} → LineRead t w p (lineAfter t (r .end) (r .kind)) w′ q → Resolving t (lineEnd t a + 1) q w′
+    word-on {w′} {q} z = resolving-on size l ends (subst (λ (k : Line). LineRead t w p k w′ q) same-line z)
+
+-- at the next line of the table
+pub resolving-next :
+    {t : List ℕ} (i : ℕ) {p : Pass} {w : List ℕ} (x : Resolving t (startOf t i) p w) (size : length t ≤ most-bytes) (l : startOf t i < length t) {r : Word}
+    (y : WordAt t (startOf t i) r) {w′ : List ℕ} {q : Pass} → LineRead t w p (lineAfter t (r .end) (r .kind)) w′ q → Resolving t (startOf t (i + 1)) q w′
+resolving-next {t} i x size l y {w′} {q} z = subst (λ (a : ℕ). Resolving t a q w′) (sym (next-start t i)) (word-on x size l y z)

@@ -1,27 +1,29 @@
 -- What the reader's answers mean: the refusal of each case, and the tables of a text that is taken.
 use mathlib.Core.Path.{_≡_}
-use mathlib.Core.Bool.{Bool, cond}
+use mathlib.Core.Bool.{Bool, true, cond}
 use mathlib.Core.List.{List, []}
 use mathlib.Core.Option.{Option}
 use Prim.Native.Nat.{ℕ, suc, _≤_, _<_}
 use lib.Dec.{eqb}
-use lib.ListN.{length}
+use lib.ListN.{length, drop}
 use Rattle.rules.specs.Limits.{work-bytes, most-bytes}
 use Rattle.rules.specs.Syntax.{Formula}
 use Rattle.rules.specs.Base.{ok, no}
 use Rattle.rules.specs.Answers as Answers
 use Rattle.rules.specs.Answers.{Verdict, accepted, refused}
-use Rattle.rules.specs.Grammar.{Line}
+use Rattle.rules.specs.Grammar.{Line, form, isFormed}
 use Rattle.rules.specs.Scope.{declarations, firstScope}
 use Rattle.rules.specs.Items.{Item, resolveLine, resolveLines}
 use Rattle.rules.specs.Reading.{readText, framed, checkFramed, program}
+use Rattle.lines.specs.declared.Word.{Word}
+use Rattle.lines.specs.Cuts.{more}
+use Rattle.lines.specs.Rows.{kindNumbered}
 use Rattle.tables.specs.Layout.{most-atom-rows}
 use Rattle.tables.specs.Decode.{programIn}
 use Rattle.tables.specs.Tables.{Tables}
 use Rattle.declared.specs.Meanings.{declarationsIn, variablesIn, scopeIn}
 use Rattle.assembly.specs.Flat.{Flat, noFlat, flatFrom}
-use Rattle.declare.specs.declared.Word.{Word}
-use Rattle.declare.specs.Texts.{linesOf, FormedAt, WordAt}
+use Rattle.declare.specs.Texts.{linesOf}
 use Rattle.judge.specs.Refusals.{refusalIn}
 use Rattle.pass.specs.declared.Pass.{Pass}
 use Rattle.pass.specs.Passes.{seenBy, Ready, Stands, LinePut, after, item, unframedAfter}
@@ -52,12 +54,13 @@ pub record Written (t w : List ℕ) (p : Pass) : Type 0 where
   pub flat : Flat
   pub stands : Stands t w p flat
 
--- it begins at a with the word r
-pub record Begins (t w : List ℕ) (p : Pass) (a : ℕ) (r : Word) : Type 0 where
+-- it is of the kind and has the fields that its word r tells
+pub record Begins (t w : List ℕ) (p : Pass) (r : Word) : Type 0 where
   pub ready : Ready t w p
-  pub low : a ≤ length t
-  pub formed : FormedAt t a
-  pub word : WordAt t a r
+  pub high : r .end ≤ length t
+  pub first : 1 ≤ r .kind
+  pub last : r .kind ≤ 18
+  pub formed : isFormed (form (kindNumbered (r .kind)) .operands) (form (kindNumbered (r .kind)) .tail) (more (drop (r .end) t)) ≡ true
 
 -- the number of 6, 7 and 9 that refuses it, or none
 unfoldable pub refusalHere : (t w : List ℕ) → Pass → Line → Option Answers.Refusal

@@ -1,10 +1,9 @@
-use declare::Word;
 use declared::Above;
 use declared::Names;
 use declared::Range;
 use judge::Judged;
-use leaves::Set;
 use lines::Scanned;
+use lines::Word;
 use pass::Pass;
 use pass::Tried;
 use rules::Machine;
@@ -17,8 +16,9 @@ ghost use Rattle.rules.specs.Limits.{work-bytes, most-bytes};
 ghost use Rattle.rules.specs.Reading.{framed};
 ghost use Rattle.lines.specs.Rows.{kindNumbered};
 ghost use Rattle.lines.specs.Scans as Scans;
+ghost use Rattle.lines.specs.Table.{LineTable};
 ghost use Rattle.tables.specs.Decode.{atomsFrom};
-ghost use Rattle.declare.specs.Texts.{Taken, lineAt, FormedAt};
+ghost use Rattle.declare.specs.Texts.{Taken};
 ghost use Rattle.declare.specs.Declares.{Declares};
 ghost use Rattle.judge.specs.Refusals as Judges;
 ghost use Rattle.headers.specs.Headers.{isDeclaration};
@@ -111,23 +111,23 @@ fn take_line(work: &[u8], kind: u8, p: Pass, q: Pass) -> Pass
     with_unframed(q, u)
 }
 
-// What the tests of numbers 6, 7 and 9 say of the line that begins at a place with the word w.
-fn judge_line(text: &[u8], work: &[u8], at: usize, w: Word, p: Pass) -> Judged
-    requires { ⌜ Begins (now text) (now work) p at w ⌝ }
-    ensures { λ j. ⌜ Judges.refusalOf j ≡ refusalHere (now (text .entry)) (now (work .entry)) p (lineAt (now (text .entry)) at) ⌝ }
+// What the tests of numbers 6, 7 and 9 say of the line with the word w.
+fn judge_line(text: &[u8], work: &[u8], w: Word, p: Pass) -> Judged
+    requires { ⌜ Begins (now text) (now work) p w ⌝ }
+    ensures { λ j. ⌜ Judges.refusalOf j ≡ refusalHere (now (text .entry)) (now (work .entry)) p (lineAfter (now (text .entry)) (w .end) (w .kind)) ⌝ }
 {
     let names = p.names;
     let above = p.above;
     let c = bodies::seen(names, w.kind);
-    judge::judge(text, work, at, w.kind, c, above)
+    judge::judge(text, work, w.end, w.kind, c, above)
 }
 
 // Why a line that is not good is refused.
-fn why_refused(text: &[u8], work: &[u8], at: usize, w: Word, p: Pass) -> Refusal
-    requires { ⌜ Begins (now text) (now work) p at w × (isGoodHere (now text) (now work) p (lineAt (now text) at) ≡ false) ⌝ }
-    ensures { λ r. ⌜ refusalHere (now (text .entry)) (now (work .entry)) p (lineAt (now (text .entry)) at) ≡ some (refusalOf r) ⌝ }
+fn why_refused(text: &[u8], work: &[u8], w: Word, p: Pass) -> Refusal
+    requires { ⌜ Begins (now text) (now work) p w × (isGoodHere (now text) (now work) p (lineAfter (now text) (w .end) (w .kind)) ≡ false) ⌝ }
+    ensures { λ r. ⌜ refusalHere (now (text .entry)) (now (work .entry)) p (lineAfter (now (text .entry)) (w .end) (w .kind)) ≡ some (refusalOf r) ⌝ }
 {
-    let j = judge_line(text, work, at, w, p);
+    let j = judge_line(text, work, w, p);
     match j {
         Judged::Undeclared => Refusal::Undeclared,
         Judged::WrongType => Refusal::WrongType,
@@ -156,11 +156,11 @@ fn is_declaration(kind: u8) -> bool
 }
 
 // A line `class`, `field`, `method` or `main` is judged before it is put.
-fn declare_line(text: &[u8], work: &mut [u8], at: usize, w: Word, p: Pass) -> Step
-    requires { ⌜ Begins (now text) (now work) p at w × (isDeclaration (w .kind) ≡ true) × Room (now text) (now work) p (lineAt (now text) at) × Written (now text) (now work) p ⌝ }
-    ensures { λ s. ⌜ StepIs (now (text .entry)) (now (work .entry)) p (lineAt (now (text .entry)) at) (now (work .exit)) s ⌝ }
+fn declare_line(text: &[u8], work: &mut [u8], w: Word, p: Pass) -> Step
+    requires { ⌜ Begins (now text) (now work) p w × (isDeclaration (w .kind) ≡ true) × Room (now text) (now work) p (lineAfter (now text) (w .end) (w .kind)) × Written (now text) (now work) p ⌝ }
+    ensures { λ s. ⌜ StepIs (now (text .entry)) (now (work .entry)) p (lineAfter (now (text .entry)) (w .end) (w .kind)) (now (work .exit)) s ⌝ }
 {
-    let j = judge_line(text, work, at, w, p);
+    let j = judge_line(text, work, w, p);
     match j {
         Judged::Undeclared => Step::Refused(Refusal::Undeclared),
         Judged::WrongType => Step::Refused(Refusal::WrongType),
@@ -169,19 +169,18 @@ fn declare_line(text: &[u8], work: &mut [u8], at: usize, w: Word, p: Pass) -> St
     }
 }
 
-// The line that begins at a place. Unless `declare_line` takes it, its names are looked up once, as it is written, and it is judged
-// only if it is not good.
-fn read_line(text: &[u8], work: &mut [u8], at: usize, p: Pass) -> Step
-    requires { ⌜ Ready (now text) (now work) p × (at ≤ length (now text)) × FormedAt (now text) at × Room (now text) (now work) p (lineAt (now text) at) × Written (now text) (now work) p ⌝ }
-    ensures { λ s. ⌜ StepIs (now (text .entry)) (now (work .entry)) p (lineAt (now (text .entry)) at) (now (work .exit)) s ⌝ }
+// The line with the word w. Unless `declare_line` takes it, its names are looked up once, as it is written, and it is judged only if it
+// is not good.
+fn read_line(text: &[u8], work: &mut [u8], w: Word, p: Pass) -> Step
+    requires { ⌜ Begins (now text) (now work) p w × Room (now text) (now work) p (lineAfter (now text) (w .end) (w .kind)) × Written (now text) (now work) p ⌝ }
+    ensures { λ s. ⌜ StepIs (now (text .entry)) (now (work .entry)) p (lineAfter (now (text .entry)) (w .end) (w .kind)) (now (work .exit)) s ⌝ }
 {
-    let w = declare::word_at(text, at);
     if is_declaration(w.kind) {
-        return declare_line(text, work, at, w, p);
+        return declare_line(text, work, w, p);
     }
     let t = try_line(text, work, p, w.kind, w.end);
     match t {
-        Tried::Bad => Step::Refused(why_refused(text, work, at, w, p)),
+        Tried::Bad => Step::Refused(why_refused(text, work, w, p)),
         Tried::On(q) => Step::On(take_line(work, w.kind, p, q)),
     }
 }
@@ -214,23 +213,23 @@ fn first_pass(names: Names) -> Pass
     }
 }
 
-// Names, types and targets of every line of a text that pass 1 takes and whose declarations stand in the work area.
-fn read_lines(text: &[u8], work: &mut [u8], names: Names) -> Resolved
-    requires { ⌜ (length (now text) ≤ most-bytes) × (length (now work) ≡ work-bytes) × Taken (now text) × Declares (now text) (now work) (now work) names ⌝ }
+// Names, types and targets of the n lines of a text that pass 1 takes, whose table and whose declarations stand in the work area.
+fn read_lines(text: &[u8], work: &mut [u8], names: Names, n: usize) -> Resolved
+    requires { ⌜ (length (now text) ≤ most-bytes) × (length (now work) ≡ work-bytes) × Taken (now text) × LineTable (now text) (now work) n × Declares (now text) (now work) (now work) names ⌝ }
     ensures { λ r. ⌜ ResolvedIs (now (text .entry)) (now (work .exit)) r × (length (now (work .exit)) ≡ work-bytes) ⌝ }
 {
     let mut p = first_pass(names);
-    let mut at = 0;
-    while at < text.len() {
-        let end = leaves::find(text, at, Set::LineEnd);
-        let s = read_line(text, work, at, p);
+    let mut i = 0;
+    while i < n {
+        let w = lines::line_word(work, i);
+        let s = read_line(text, work, w, p);
         match s {
             Step::Refused(why) => {
                 return Resolved::Refused(why, p.line + 1);
             }
             Step::On(q) => {
                 p = q;
-                at = end + 1;
+                i += 1;
             }
         }
     }
@@ -256,13 +255,13 @@ fn scan_refusal(r: lines::Refusal) -> Refusal
     }
 }
 
-// Pass 2 over a text that pass 1 takes.
-fn resolve(text: &[u8], work: &mut [u8]) -> Reading
-    requires { ⌜ (length (now text) ≤ most-bytes) × (length (now work) ≡ work-bytes) × Taken (now text) ⌝ }
+// Pass 2 over a text of n lines that pass 1 takes.
+fn resolve(text: &[u8], work: &mut [u8], n: usize) -> Reading
+    requires { ⌜ (length (now text) ≤ most-bytes) × (length (now work) ≡ work-bytes) × Taken (now text) × LineTable (now text) (now work) n ⌝ }
     ensures { λ r. ⌜ ReadingIs (now (text .entry)) (now (work .exit)) r × (length (now (work .exit)) ≡ work-bytes) ⌝ }
 {
-    let names = declare::declare(text, work);
-    let r = read_lines(text, work, names);
+    let names = declare::declare(text, work, n);
+    let r = read_lines(text, work, names, n);
     match r {
         Resolved::Refused(why, line) => Reading::Refused(why, line),
         Resolved::Done(p) => {
@@ -281,9 +280,9 @@ pub fn read(text: &[u8], work: &mut [u8]) -> Reading
     if Machine::TEXT_BYTES < text.len() {
         return Reading::Refused(Refusal::TextTooLong, 0);
     }
-    let s = lines::scan(text);
+    let s = lines::scan(text, work);
     match s {
         Scanned::Refused(why, line) => Reading::Refused(scan_refusal(why), line),
-        Scanned::Taken(_) => resolve(text, work),
+        Scanned::Taken(n) => resolve(text, work, n),
     }
 }

@@ -1,13 +1,12 @@
 -- `reader::declare_line` meets its contract. Assumes nothing.
-use mathlib.Core.Path.{refl, sym, subst}
+use mathlib.Core.Path.{refl}
 use Rattle.judge.specs.declared.Judged.{Judged}
 use Rattle.judge.specs.Refusals as Judges
-use Rattle.pass.specs.Passes.{Tested, Room}
 use Rattle.headers.proofs.Lines.{stands-held}
 use Rattle.reader.specs.declared.Refusal.{Refusal}
 use Rattle.reader.specs.Readings.{refusalOf, StepIs}
-use Rattle.reader.proofs.Judged.{word-line, bad-resolved, judged-bad, judged-tested, judged-good}
-use Rattle.reader.proofs.Lines.{line-declared, declares-unframed, line-as}
+use Rattle.reader.proofs.Judged.{bad-resolved, judged-bad, judged-tested, judged-good}
+use Rattle.reader.proofs.Lines.{line-declared, declares-unframed}
 use borrow.Author.Needs.{needs}
 use Rattle.reader.proofs.declare_line.Statement.{statement}
 use Rattle.reader.proofs.declare_line.Tie as tie
@@ -31,9 +30,8 @@ put-declaration-requires : tie.Need-put-declaration-requires
 put-declaration-requires c κs =
     let x = c .before .before .before .before .before .before .before .pre in
     let p = c .before .before .before .before .before .before .before .args .p in
-    let e = sym (word-line (x .0 .word) (x .0 .formed)) in
-    let g = judged-tested _ _ p _ (c .before .before .before .judge-line .result) (c .before .before .before .judge-line .ensures) (x .0 .formed .formed) (c .before .enum-told4 .given .1) in
-    (x .0 .ready, x .0 .word .high, x .1, subst (Tested _ _ _) e g, subst (Room _ _ _) e (x .2), stands-held _ _ _ _ (x .3 .stands))
+    let g = judged-tested _ _ p _ (c .before .before .before .judge-line .result) (c .before .before .before .judge-line .ensures) (x .0 .formed) (c .before .enum-told4 .given .1) in
+    (x .0 .ready, x .0 .high, x .1, g, x .2, stands-held _ _ _ _ (x .3 .stands))
 
 same-length : tie.Need-same-length
 same-length c = search needs
@@ -72,7 +70,7 @@ returns-4 c =
     let p = c .before .before .before .before .before .before .before .before .before .before .args .p in
     let y = c .before .before .put-declaration .ensures in
     record {
-      taken = line-as (word-line (x .0 .word) (x .0 .formed)) (line-declared (y .put) (declares-unframed _ (x .1)) (y .unframed));
+      taken = line-declared (y .put) (declares-unframed _ (x .1)) (y .unframed);
       resolved = judged-good _ _ p _ (c .before .before .before .before .before .before .judge-line .result) (c .before .before .before .before .before .before .judge-line .ensures) (c .before .before .before .before .enum-told4 .given .1);
     }
 

@@ -1,7 +1,8 @@
 -- `reader::read` meets its contract. Assumes nothing.
-use mathlib.Core.Path.{sym, ap, _∙_}
+use mathlib.Core.Path.{sym, ap, subst, _∙_}
 use borrow.Author.Needs.{needs}
 use Rattle.lines.specs.Scans.{verdictOf}
+use Rattle.lines.specs.Table.{TableOf}
 use Rattle.reader.specs.Readings.{refusalOf, ReadingIs}
 use Rattle.reader.proofs.Texts.{too-long, scan-refused, scan-taken}
 use Rattle.reader.proofs.read.Statement.{statement}
@@ -12,7 +13,7 @@ unfolding ReadingIs refusalOf
 returns c = (too-long _ (c .if1 .taken), c .before .before .before .pre)
 
 scan-requires : tie.Need-scan-requires
-scan-requires c κs = search needs
+scan-requires c κs = (c .before .if1 .left, c .before .before .before .before .pre)
 
 enum-known-s : tie.Need-enum-known-s
 enum-known-s c = search needs
@@ -20,19 +21,27 @@ enum-known-s c = search needs
 scan-refusal-requires : tie.Need-scan-refusal-requires
 scan-refusal-requires c κs = search needs
 
-enum-told : tie.Need-enum-told
-enum-told c = search needs
+enum-known-s-2 : tie.Need-enum-known-s-2
+enum-known-s-2 c = search needs
 
 resolve-requires : tie.Need-resolve-requires
-resolve-requires c κs = (c .before .before .before .before .if1 .left, c .before .before .before .before .before .before .before .pre, scan-taken _ (c .before .before .before .before .if1 .left) _ (ap verdictOf (sym (c .before .enum-told .given .1)) ∙ c .before .before .before .scan .ensures))
+resolve-requires c κs = (
+  c .before .before .before .before .before .before .before .before .if1 .left,
+  c .before .before .before .before .before .before .scan .ensures .2 ∙ c .before .before .before .before .before .before .before .before .before .before .before .pre,
+  scan-taken _ (c .before .before .before .before .before .before .before .before .if1 .left) _ (ap verdictOf (sym (c .before .before .s2 .given .1)) ∙ c .before .before .before .before .before .before .scan .ensures .0),
+  subst (TableOf _ _) (c .before .before .s2 .given .1) (c .before .before .before .before .before .before .scan .ensures .1),
+)
 
 same-length : tie.Need-same-length
-same-length c = c .before .before .resolve .ensures .1 ∙ sym (c .before .before .before .before .before .before .before .before .before .before .pre)
+same-length c = c .before .before .before .before .before .before .scan .ensures .2
 
 returns-2 : tie.Need-returns-2
 unfolding ReadingIs
 returns-2 c =
-    (scan-refused _ (c .before .before .before .before .before .if1 .left) (c .scan-refusal .ensures) (ap verdictOf (sym (c .before .before .s .given .1)) ∙ c .before .before .before .before .scan .ensures), c .before .before .before .before .before .before .before .before .pre)
+    (scan-refused _ (c .before .before .before .before .before .before .before .before .if1 .left) (c .scan-refusal .ensures) (ap verdictOf (sym (c .before .before .s .given .1)) ∙ c .before .before .before .before .before .before .scan .ensures .0), c .before .before .before .before .before .before .scan .ensures .2 ∙ c .before .before .before .before .before .before .before .before .before .before .before .pre)
+
+same-length-2 : tie.Need-same-length-2
+same-length-2 c = c .before .before .resolve .ensures .1 ∙ sym (c .before .before .before .before .before .before .before .before .before .before .before .before .before .before .pre)
 
 returns-3 : tie.Need-returns-3
 returns-3 c = c .before .before .resolve .ensures
@@ -40,4 +49,14 @@ returns-3 c = c .before .before .resolve .ensures
 pub read-spec : {M : Type 1} → statement M
 read-spec =
     tie.close
-    (tie.spec returns scan-requires enum-known-s scan-refusal-requires enum-told resolve-requires returns-2 same-length returns-3)
+    (tie.spec
+    returns
+    scan-requires
+    enum-known-s
+    scan-refusal-requires
+    enum-known-s-2
+    resolve-requires
+    same-length
+    returns-2
+    same-length-2
+    returns-3)

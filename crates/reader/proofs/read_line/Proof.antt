@@ -1,22 +1,19 @@
 -- `reader::read_line` meets its contract. Assumes nothing.
 use mathlib.Core.Path.{sym, _∙_}
 use Rattle.reader.specs.Readings.{StepIs}
-use Rattle.reader.proofs.Judged.{word-bounds, kind-is, word-line, good-resolved, bad-resolved, refusal-kept, good-kept}
+use Rattle.reader.proofs.Judged.{good-resolved, bad-resolved, refusal-kept, good-kept}
 use Rattle.reader.proofs.Lines.{follows, begins-after, tried-on, tried-bad, line-taken, between}
 use borrow.Author.Needs.{needs}
 use Rattle.reader.proofs.read_line.Statement.{statement}
 use Rattle.reader.proofs.read_line.Tie as tie
-
-word-at-requires : tie.Need-word-at-requires
-word-at-requires c κs = search needs
 
 is-declaration-requires : tie.Need-is-declaration-requires
 is-declaration-requires c κs = search needs
 
 declare-line-requires : tie.Need-declare-line-requires
 declare-line-requires c κs =
-    let x = c .before .before .before .before .before .before .pre in
-    (record { ready = x .0; low = x .1; formed = x .2; word = c .before .before .before .word-at .ensures }, sym (c .before .before .is-declaration .ensures) ∙ c .before .if1 .taken, x .3, x .4)
+    let x = c .before .before .before .before .before .pre in
+    (x .0, sym (c .before .before .is-declaration .ensures) ∙ c .before .if1 .taken, x .1, x .2)
 
 same-length : tie.Need-same-length
 same-length c = search needs
@@ -26,29 +23,26 @@ returns c = search needs
 
 try-line-requires : tie.Need-try-line-requires
 try-line-requires c κs =
-    let x = c .before .before .before .before .before .before .pre in
-    let y = c .before .before .before .word-at .ensures in
-    (follows (record { ready = x .0; low = x .1; formed = x .2; word = y }) (x .3), word-bounds y (x .2), sym (c .before .before .is-declaration .ensures) ∙ c .before .if1 .left)
+    let x = c .before .before .before .before .before .pre in
+    (follows (x .0) (x .1), (x .0 .first, x .0 .last), sym (c .before .before .is-declaration .ensures) ∙ c .before .if1 .left)
 
 enum-told : tie.Need-enum-told
 enum-told c = search needs
 
 why-refused-requires : tie.Need-why-refused-requires
 why-refused-requires c κs =
-    let x = c .before .before .before .before .before .before .before .before .before .before .before .before .pre in
-    let y = c .before .before .before .before .before .before .before .before .before .word-at .ensures in
-    let z = tried-bad (word-line y (x .2)) (c .before .before .before .before .before .try-line .ensures) (c .before .enum-told .given .1) in
-    (begins-after (record { ready = x .0; low = x .1; formed = x .2; word = y }) (z .size), good-kept _ _ (x .0) (z .names) ∙ z .bad)
+    let x = c .before .before .before .before .before .before .before .before .before .before .before .pre in
+    let z = tried-bad (c .before .before .before .before .before .try-line .ensures) (c .before .enum-told .given .1) in
+    (begins-after (x .0) (z .size), good-kept _ _ (x .0 .ready) (z .names) ∙ z .bad)
 
 enum-known-t : tie.Need-enum-known-t
 enum-known-t c = search needs
 
 take-line-requires : tie.Need-take-line-requires
 take-line-requires c κs =
-    let x = c .before .before .before .before .before .before .before .before .before .before .before .before .before .pre in
-    let y = c .before .before .before .before .before .before .before .before .before .before .word-at .ensures in
-    let z = tried-on (word-line y (x .2)) (c .before .before .before .before .before .before .try-line .ensures) _ (c .before .before .t .given .1) in
-    (between (z .1 .0) (x .4 .flat) (x .4 .stands) (x .0) (x .3), word-bounds y (x .2))
+    let x = c .before .before .before .before .before .before .before .before .before .before .before .before .pre in
+    let z = tried-on (c .before .before .before .before .before .before .try-line .ensures) _ (c .before .before .t .given .1) in
+    (between (z .1 .0) (x .2 .flat) (x .2 .stands) (x .0 .ready) (x .1), (x .0 .first, x .0 .last))
 
 same-length-2 : tie.Need-same-length-2
 same-length-2 c = search needs
@@ -56,10 +50,9 @@ same-length-2 c = search needs
 returns-2 : tie.Need-returns-2
 unfolding StepIs
 returns-2 c =
-    let x = c .before .before .before .before .before .before .before .before .before .before .before .before .before .pre in
-    let y = c .before .before .before .before .before .before .before .before .before .before .word-at .ensures in
-    let z = tried-bad (word-line y (x .2)) (c .before .before .before .before .before .before .try-line .ensures) (c .before .before .enum-told .given .1) in
-    (bad-resolved _ _ (c .before .before .before .before .before .before .before .before .before .before .before .before .before .args .p) _ (c .why-refused .result) (sym (refusal-kept _ _ (x .0) (z .names)) ∙ c .why-refused .ensures), z .size)
+    let x = c .before .before .before .before .before .before .before .before .before .before .before .before .pre in
+    let z = tried-bad (c .before .before .before .before .before .before .try-line .ensures) (c .before .before .enum-told .given .1) in
+    (bad-resolved _ _ (c .before .before .before .before .before .before .before .before .before .before .before .before .args .p) _ (c .why-refused .result) (sym (refusal-kept _ _ (x .0 .ready) (z .names)) ∙ c .why-refused .ensures), z .size)
 
 same-length-3 : tie.Need-same-length-3
 same-length-3 c = search needs
@@ -67,19 +60,17 @@ same-length-3 c = search needs
 returns-3 : tie.Need-returns-3
 unfolding StepIs
 returns-3 c =
-    let x = c .before .before .before .before .before .before .before .before .before .before .before .before .before .before .pre in
-    let y = c .before .before .before .before .before .before .before .before .before .before .before .word-at .ensures in
-    let z = tried-on (word-line y (x .2)) (c .before .before .before .before .before .before .before .try-line .ensures) _ (c .before .before .before .t .given .1) in
+    let x = c .before .before .before .before .before .before .before .before .before .before .before .before .before .pre in
+    let z = tried-on (c .before .before .before .before .before .before .before .try-line .ensures) _ (c .before .before .before .t .given .1) in
     record {
-      taken = line-taken (z .1 .0) (x .4) (kind-is y (x .2)) _ (c .take-line .ensures);
-      resolved = good-resolved _ _ (c .before .before .before .before .before .before .before .before .before .before .before .before .before .before .args .p) _ (z .0);
+      taken = line-taken (z .1 .0) (x .2) _ (c .take-line .ensures);
+      resolved = good-resolved _ _ (c .before .before .before .before .before .before .before .before .before .before .before .before .before .args .p) _ (z .0);
     }
 
 pub read-line-spec : {M : Type 1} → statement M
 read-line-spec =
     tie.close
     (tie.spec
-    word-at-requires
     is-declaration-requires
     declare-line-requires
     same-length

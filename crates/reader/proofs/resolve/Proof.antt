@@ -1,6 +1,7 @@
 -- `reader::resolve` meets its contract. Assumes nothing.
 use mathlib.Core.Path.{sym, _∙_}
 use borrow.Author.Needs.{needs}
+use Rattle.lines.proofs.Table.{table-kept}
 use Rattle.reader.specs.Readings.{ReadingIs}
 use Rattle.reader.proofs.Texts.{read-resolved, lines-refused, all-read, declared-here, finish-fits, ended, tabled}
 use Rattle.reader.proofs.resolve.Statement.{statement}
@@ -10,7 +11,8 @@ declare-requires : tie.Need-declare-requires
 declare-requires c κs = search needs
 
 read-lines-requires : tie.Need-read-lines-requires
-read-lines-requires c κs = (c .before .before .before .before .before .before .before .pre .0, c .before .before .before .declare .ensures .tables .size ∙ c .before .before .before .before .before .before .before .pre .1, c .before .before .before .before .before .before .before .pre .2, declared-here (c .before .before .before .declare .ensures))
+read-lines-requires c κs =
+    (c .before .before .before .before .before .before .before .pre .0, c .before .before .before .declare .ensures .0 .tables .size ∙ c .before .before .before .before .before .before .before .pre .1, c .before .before .before .before .before .before .before .pre .2, table-kept {w′ = _} (c .before .before .before .before .before .before .before .pre .3) (c .before .before .before .declare .ensures .1), declared-here (c .before .before .before .declare .ensures .0))
 
 enum-known-r : tie.Need-enum-known-r
 enum-known-r c = search needs
