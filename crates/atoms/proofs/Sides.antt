@@ -8,10 +8,10 @@ use native.Mathlib.Omega.{arith}
 use lib.Dec.{T, eqb, ltb, leb}
 use lib.ListN.{length, drop}
 use borrow.Author.Tests.{ltb-true, leb-true, not-true}
-use Rattle.rules.specs.Base.{Name, any, index, eqName}
+use Rattle.rules.specs.Base.{Name, is, any, index, eqName}
 use Rattle.rules.specs.Syntax as Syntax
 use Rattle.rules.specs.Syntax.{Expr, num, null, var, path, acc, cmp}
-use Rattle.rules.specs.Text.{decimal, isDigits, isNegative, isNumber, number, numeral, hasStop, isName, isExpr, exprOf, beforeStop, afterStop, reserved, relOf, isAtom, atomOf}
+use Rattle.rules.specs.Text.{decimal, isDigits, isNegative, isNumber, number, numeral, hasStop, isName, isExpr, exprOf, beforeStop, afterStop, reserved, isRel, relOf, isAtom, atomOf}
 use Rattle.rules.specs.Base as Base
 use Rattle.rules.specs.Scope.{Declarations, Variable, FieldDeclaration}
 use Rattle.rules.specs.Names as Names
@@ -74,6 +74,16 @@ number-small w e = go (isNegative w) (decimal 0 (drop 1 w)) (decimal 0 w) e
         cond q (4294967296 - d) n < 4294967296
     go true d n i = let b = between-true 1 2147483648 d (both-true (isDigits (drop 1 w)) (Base.between 1 2147483648 d) i .1) in omega (arith, b)
     go false d n i = let b : n ≤ 2147483647 = leb-true n 2147483647 (both-true (isDigits w) (leb n 2147483647) i .1) in omega (arith, b)
+
+-- the word of an atom
+pub atom-word : (w a b : Name) → isAtom w a b ≡ true → (is "acc" w || isRel w) ≡ true
+unfolding isAtom
+atom-word w a b e = go (is "acc" w) (isRel w) e
+  where
+    go : (x y : Bool) → cond x (isName a && isName b) (y && (isExpr a && isExpr b)) ≡ true → (x || y) ≡ true
+    go true y e = refl
+    go false true e = refl
+    go false false e = true-false (sym e)
 
 number-read : (w : Name) (n : ℕ) → isExpr w ≡ true → exprOf w ≡ num n → n < 4294967296
 unfolding isExpr exprOf

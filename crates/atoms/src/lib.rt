@@ -1,11 +1,13 @@
 use declared::Names;
 use tables::Expr;
 ghost use mathlib.Core.Path.{_≡_};
-ghost use mathlib.Core.Bool.{true, cond};
+ghost use mathlib.Core.Bool.{true, cond, _||_};
 ghost use Prim.Native.Nat.{_≤_, _<_};
 ghost use lib.Dec.{eqb};
 ghost use Rattle.rules.specs.Syntax.{acc, cmp};
-ghost use Rattle.rules.specs.Text.{isExpr, exprOf, isAtom, atomOf};
+ghost use Rattle.rules.specs.Base.{is};
+ghost use Rattle.rules.specs.Text.{isExpr, exprOf, isRel, isAtom, atomOf};
+ghost use Rattle.leaves.specs.Words.{wordNumber};
 ghost use Rattle.tables.specs.Layout.{most-atom-rows};
 ghost use Rattle.tables.specs.Decode.{relOf};
 ghost use Rattle.declared.specs.Meanings.{declarationsIn, variablesIn};
@@ -78,12 +80,25 @@ pub fn relation(word: u8) -> usize
     if word == leaves::EQ { 1 } else { 2 }
 }
 
+// The number of the word of an atom, which its first letter tells.
+fn word_of(w: &[u8]) -> u8
+    requires { ⌜ (is "acc" (now w) || isRel (now w)) ≡ true ⌝ }
+    ensures { λ r. ⌜ r ≡ wordNumber (now (w .entry)) ⌝ }
+{
+    let b = leaves::byte_at(w, 0);
+    match b {
+        97 => leaves::ACC,
+        101 => leaves::EQ,
+        _ => leaves::NE,
+    }
+}
+
 // The atom of three fields.
 pub fn resolve_atom(text: &[u8], work: &[u8], c: Names, w: &[u8], a: &[u8], b: &[u8]) -> Tried
     requires { ⌜ Ready (now text) (now work) c × (isAtom (now w) (now a) (now b) ≡ true) ⌝ }
     ensures { λ r. ⌜ AtomTried (declarationsIn (now (text .entry)) (now (work .entry)) c) (variablesIn (now (text .entry)) (now (work .entry)) c) (atomOf (now (w .entry)) (now (a .entry)) (now (b .entry))) r ⌝ }
 {
-    let k = leaves::word(w);
+    let k = word_of(w);
     if k == leaves::ACC {
         return access(text, work, c, a, b);
     }

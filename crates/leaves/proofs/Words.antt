@@ -1,5 +1,5 @@
 -- Laws of words: a word is known by its bytes packed into one number, and the words' numbers stand for what `rules` says of words.
-use mathlib.Core.Path.{_≡_, refl, sym, ap, ap₂, _∙_}
+use mathlib.Core.Path.{_≡_, refl, sym, ap, ap₂, subst, _∙_}
 use mathlib.Core.Bool.{Bool, true, false, cond, _&&_, _||_}
 use mathlib.Core.List.{List, [], _∷_}
 use mathlib.Core.Logic.{_⊎_, inl, inr, ⊎-elim}
@@ -21,7 +21,7 @@ use Rattle.rules.specs.Grammar.{Kind, kinds, kindNumber, kindOf, form}
 use Rattle.rules.specs.Grammar.{Class, Field, Method, Requires, Ensures, Main, Var, Set, Let, New, Call, Return, Assert, Release, If, Else, Join, End}
 use Rattle.leaves.specs.Words as Words
 use Rattle.leaves.specs.Words.{words, placeIn, wordNumber, kindAt, kindOr0, packed, packedIn}
-use Rattle.leaves.proofs.Search.{true-false, both-true, and-false, or-false, between-true, all-at, same-is, same-refl}
+use Rattle.leaves.proofs.Search.{true-false, both-true, and-false, or-false, between-true, all-at, same-is, same-refl, not-same}
 
 -- PACKING
 
@@ -358,3 +358,29 @@ no-kind n (k ∷ ks) e h =
 pub kind-none : (n : ℕ) → 18 < n → kindOr0 (kindAt n) ≡ 0
 unfolding kindAt Base.opened Grammar.opened
 kind-none n h = ap kindOr0 (no-kind n kinds refl h)
+
+-- reserved words have three letters and more
+pub short-reserved : (w : Name) → length w < 3 → reserved w ≡ false
+unfolding reserved Base.is Base.bytes
+short-reserved w h = rw (other "int" (omega arith), other "null" (omega arith), other "this" (omega arith), other "result" (omega arith))
+  where
+    other : (s : String) → 3 ≤ length (bytes s) → eqName (bytes s) w ≡ false
+    other s k = not-same (bytes s) w (λ e. omega (arith, k, ap length e, h))
+
+-- the word of an atom by its first letter
+pub atom-letter :
+    (w : Name) → (is "acc" w || isRel w) ≡ true →
+    ((getD w 0 0 ≡ 97) × (wordNumber w ≡ 19)) ⊎ (((getD w 0 0 ≡ 101) × (wordNumber w ≡ 20)) ⊎ ((getD w 0 0 ≡ 110) × (wordNumber w ≡ 21)))
+unfolding isRel Words.opened Base.opened
+atom-letter w e = go (is "acc" w) (is "eq" w) (is "ne" w) refl refl refl e
+  where
+    told : (s : String) (b k : ℕ) → (getD (bytes s) 0 0 ≡ b) × (wordNumber (bytes s) ≡ k) → is s w ≡ true → (getD w 0 0 ≡ b) × (wordNumber w ≡ k)
+    told s b k x i = subst (λ (w : Name). (getD w 0 0 ≡ b) × (wordNumber w ≡ k)) (same-is (bytes s) w i) x
+
+    go :
+        (x y z : Bool) → is "acc" w ≡ x → is "eq" w ≡ y → is "ne" w ≡ z → (x || (y || z)) ≡ true →
+        ((getD w 0 0 ≡ 97) × (wordNumber w ≡ 19)) ⊎ (((getD w 0 0 ≡ 101) × (wordNumber w ≡ 20)) ⊎ ((getD w 0 0 ≡ 110) × (wordNumber w ≡ 21)))
+    go true y z p q r e = inl (told "acc" 97 19 (refl, refl) p)
+    go false true z p q r e = inr (inl (told "eq" 101 20 (refl, refl) q))
+    go false false true p q r e = inr (inr (told "ne" 110 21 (refl, refl) r))
+    go false false false p q r e = true-false (sym e)

@@ -319,9 +319,13 @@ pub fn kind_of(w: &[u8]) -> u8
     if k <= LAST_KIND { k } else { 0 }
 }
 
+// Many names are shorter than any reserved word.
 pub fn is_reserved(w: &[u8]) -> bool
     ensures { λ r. ⌜ r ≡ reserved (now (w .entry)) ⌝ }
 {
+    if w.len() < 3 {
+        return false;
+    }
     INT <= word(w)
 }
 
