@@ -1,17 +1,20 @@
 -- A line of atoms alone passes the tests of 6, 7 and 9 just if its atoms pass those of 6 and 7.
-use mathlib.Core.Path.{_≡_, refl, ap, _∙_}
+use mathlib.Core.Path.{_≡_, refl, sym, ap, _∙_}
 use mathlib.Core.Bool.{Bool, true, false, not, cond, _&&_}
 use mathlib.Core.List.{List, [], _∷_, _++_}
 use Prim.Native.Nat.{ℕ}
 use native.Mathlib.Omega.{arith}
 use lib.ListN.{length, drop}
+use borrow.Author.Tests.{ne-eqb}
 use Rattle.rules.specs.Base.{Name, all, is}
 use Rattle.rules.specs.Syntax.{acc, cmp}
 use Rattle.rules.specs.Text.{exprOf, relOf, atomOf, formulaOf}
 use Rattle.rules.specs.Grammar.{Kind, Line, Operand, form, statement, stands, isKind, kindNumber, variable, member, expression, read, field}
-use Rattle.rules.specs.Grammar.{Class, Field, Method, Requires, Ensures, Main, Var, Set, Let, New, Call, Return, Assert, Release, If, Else, Join, End}
+use Rattle.rules.specs.Grammar.{Set, Let, New, Call, Return}
 use Rattle.rules.specs.Scope.{Declarations, Variable, Scope, Slot, slotsFrom, atomOperands, atomSlots, atomsOf, slots}
 use Rattle.rules.specs.Names.{agree, exprType, known, ofClass, mayBeAssigned, knownExpr, ofClassIn, knownField, inScope, isInt, sidesAgree, atomAgrees, callApart, allKnown, allTyped, allAssignable}
+use Rattle.lines.specs.Rows.{kindNumbered}
+use Rattle.lines.proofs.Rows.{kind-of-number}
 use Rattle.declared.specs.Answers.{good}
 use Rattle.atoms.specs.Good.{fitsAtom}
 
@@ -97,51 +100,21 @@ module _ (Γ : Declarations) (vs : List Variable) (s : Scope) where
   atoms-assign (u ∷ a ∷ []) = refl
   atoms-assign (u ∷ a ∷ b ∷ ws) = atom-assigns (is "acc" u) a b (atomSlots ws) ∙ atoms-assign ws
 
-  -- a line without operands has no sides, and calls nothing
-  some-operand : {A : Type 0} {o : Operand} {os : List Operand} → (o ∷ os) ≡ [] → A
-  some-operand e = absurd (let z : _≡_ {A = ℕ} 0 1 = cc in omega arith)
+  -- a line without operands is of no kind that has some, so it has no sides, and calls nothing
+  other-kind : (a k : Kind) → (form a .operands ≡ [] → ⊥) → form k .operands ≡ [] → isKind a k ≡ false
+  unfolding isKind
+  other-kind a k n e = ne-eqb (kindNumber a) (kindNumber k) (λ i. n (ap (λ (k : Kind). form k .operands) (sym (kind-of-number a) ∙ (ap kindNumbered i ∙ kind-of-number k)) ∙ e))
+
+  some-operand : {o : Operand} {os : List Operand} → (o ∷ os) ≡ [] → ⊥
+  some-operand e = let z : _≡_ {A = ℕ} 0 1 = cc in omega arith
 
   no-sides : (k : Kind) (ws : List Name) → form k .operands ≡ [] → sidesAgree Γ vs (record { kind = k; fields = ws }) ≡ true
-  unfolding sidesAgree isKind kindNumber form statement stands
-  no-sides Class ws e = some-operand e
-  no-sides Field ws e = some-operand e
-  no-sides Method ws e = some-operand e
-  no-sides Var ws e = some-operand e
-  no-sides Set ws e = some-operand e
-  no-sides Let ws e = some-operand e
-  no-sides New ws e = some-operand e
-  no-sides Call ws e = some-operand e
-  no-sides Return ws e = some-operand e
-  no-sides Requires ws e = refl
-  no-sides Ensures ws e = refl
-  no-sides Main ws e = refl
-  no-sides Assert ws e = refl
-  no-sides Release ws e = refl
-  no-sides If ws e = refl
-  no-sides Else ws e = refl
-  no-sides Join ws e = refl
-  no-sides End ws e = refl
+  unfolding sidesAgree form statement stands
+  no-sides k ws e = rw (other-kind Set k some-operand e, other-kind Let k some-operand e, other-kind New k some-operand e, other-kind Call k some-operand e, other-kind Return k some-operand e)
 
   no-call : (k : Kind) (ws : List Name) → form k .operands ≡ [] → callApart vs (record { kind = k; fields = ws }) ≡ true
-  unfolding callApart isKind kindNumber form statement stands
-  no-call Class ws e = some-operand e
-  no-call Field ws e = some-operand e
-  no-call Method ws e = some-operand e
-  no-call Var ws e = some-operand e
-  no-call Set ws e = some-operand e
-  no-call Let ws e = some-operand e
-  no-call New ws e = some-operand e
-  no-call Call ws e = some-operand e
-  no-call Return ws e = some-operand e
-  no-call Requires ws e = refl
-  no-call Ensures ws e = refl
-  no-call Main ws e = refl
-  no-call Assert ws e = refl
-  no-call Release ws e = refl
-  no-call If ws e = refl
-  no-call Else ws e = refl
-  no-call Join ws e = refl
-  no-call End ws e = refl
+  unfolding callApart form statement stands
+  no-call k ws e = rw (other-kind Call k some-operand e)
 
   -- `requires`, `ensures`, `assert`, `release`, `join`, `if`
   pub formula-good :

@@ -8,7 +8,7 @@ use Rattle.rules.specs.Syntax.{num, null, var, path}
 use Rattle.tables.specs.declared.Expr.{Expr}
 use Rattle.tables.specs.declared.Layout as Declared
 use Rattle.tables.specs.Decode.{byteAt}
-use Rattle.tables.specs.Layout.{rows-at, methods-at, classes-at, places-at, atoms-at, names-at, values-at, holders-at, objects-at, frames-at, row-bytes, atom-bytes, method-bytes, class-bytes, object-bytes, frame-bytes, most-names}
+use Rattle.tables.specs.Layout.{rows-at, methods-at, classes-at, places-at, atoms-at, names-at, lines-at, values-at, holders-at, objects-at, frames-at, row-bytes, atom-bytes, method-bytes, class-bytes, object-bytes, frame-bytes, most-names}
 
 -- the expression that an answer is
 unfoldable pub meaning : Expr → Syntax.Expr ℕ
@@ -38,6 +38,7 @@ offsets =
       places = places-at;
       atoms = atoms-at;
       names = names-at;
+      lines = lines-at;
       values = values-at;
       holders = holders-at;
       objects = objects-at;

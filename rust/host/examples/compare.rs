@@ -9,13 +9,8 @@ mod compare;
 
 fn main() {
     let mut words = std::env::args().skip(1);
-    let mut number = |usual: u64| {
-        words
-            .next()
-            .and_then(|word| word.parse().ok())
-            .unwrap_or(usual)
-    };
-    let (first, seeds) = (number(50_000), number(10_000));
+    let first = compare::number_or(50_000, words.next());
+    let seeds = compare::number_or(10_000, words.next());
     match compare::compare_seeds(first..first.saturating_add(seeds)) {
         Ok((checks, runs)) => {
             println!("{} texts, no difference", checks.iter().sum::<u64>());

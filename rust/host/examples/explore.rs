@@ -49,13 +49,8 @@ fn reached(text: &[u8], check: u32, run: u32) -> Reached {
 
 fn main() {
     let mut words = std::env::args().skip(1);
-    let mut number = |usual: u64| {
-        words
-            .next()
-            .and_then(|word| word.parse().ok())
-            .unwrap_or(usual)
-    };
-    let (texts, seed) = (number(100_000), number(1));
+    let texts = compare::number_or(100_000, words.next());
+    let seed = compare::number_or(1, words.next());
     let folder = words.next();
     let mut rng = Rng::new(seed);
     let mut comparer = Comparer::new(seed);

@@ -7,6 +7,11 @@ use host::limits::{RESULTS_BYTES, WORK_BYTES};
 use model::gen::{self, mutate, rng::Rng};
 use std::fmt;
 
+/// The number that a word of the command line gives, or the usual one.
+pub fn number_or(usual: u64, word: Option<String>) -> u64 {
+    word.and_then(|word| word.parse().ok()).unwrap_or(usual)
+}
+
 /// The bytes that stand before and after a lent area and must stay.
 const CANARY: usize = 64;
 
