@@ -18,7 +18,7 @@ use Rattle.rules.specs.Syntax as Syntax
 use Rattle.rules.specs.Syntax.{num, null, var, path}
 use Rattle.leaves.specs.declared.Set.the-variants.{FieldEnd}
 use Rattle.leaves.specs.Sets.{inSet}
-use Rattle.leaves.specs.Fields.{fieldLength, firstField, NameEnd}
+use Rattle.leaves.specs.Fields.{fieldLength, firstField, FieldIs}
 use Rattle.leaves.specs.Answers.{beginsName, whenTrue, numberIn, exprIn}
 use Rattle.leaves.proofs.Search.{true-false, and-false, or-false, upTo-within, upTo-found, upTo-passed, smaller-end, smaller-here, smaller-later, all-upTo, all-of, not-all, rest-part}
 use Rattle.leaves.proofs.Numbers.{when-some, when-none}
@@ -244,22 +244,32 @@ module _ (l : Name) (at e : ℕ) (h : at ≤ length l) (is : e ≡ at + upTo oth
       let r = or-false (leb (length l) e) (inSet FieldEnd (getD l e 0)) t in
       not-ended (drop at l) (omega (arith, length-drop at l, is, leb-false (length l) e (r .0))) (rw (← byte-there) (r .1))
 
--- what `name_end` tells: a name has a byte, so its end is not its start
-no-bytes : isName [] ≡ false
+-- THE FIELD AT A PLACE, BY A TEST THAT NOTHING FAILS: its end is not its start
+-- what is cut out up to a field's end is that field
+pub field-cut : (p : Name → Bool) (l : Name) (at e : ℕ) → e ≡ at + upTo (inSet FieldEnd) (drop at l) → p (firstField (drop at l)) ≡ p (take (e - at) (drop at l))
+unfolding firstField fieldLength
+field-cut p l at e h = let z : e - at ≡ upTo (inSet FieldEnd) (drop at l) = omega (arith, h) in rw z
+
+pub no-name : isName [] ≡ false
 unfolding isName Text.opened Base.opened
-no-bytes = refl
+no-name = refl
 
-named-case :
-    (q : Bool) (t : Name) (at r : ℕ) → isName (firstField t) ≡ q → r ≡ cond q (at + fieldLength t) at →
-    (r ≡ at → isName (firstField t) ≡ false) × ((r ≡ at → ⊥) → (isName (firstField t) ≡ true) × (r ≡ at + fieldLength t))
-unfolding firstField
-named-case true t at r e h =
-    (λ z. let k : fieldLength t ≡ 0 = omega (arith, h, z) in ap (λ n. isName (take n t)) k ∙ no-bytes, λ z. (e, h))
-named-case false t at r e h = (λ z. e, λ z. absurd (z h))
+pub no-expr : isExpr [] ≡ false
+unfolding isExpr Text.opened Base.opened
+no-expr = refl
 
-module _ (l : Name) (at r : ℕ) (n : NameEnd l at r) where
-  pub unnamed : r ≡ at → isName (firstField (drop at l)) ≡ false
-  unnamed = named-case (isName (firstField (drop at l))) (drop at l) at r refl (n .is) .0
+module _ (p : Name → Bool) (no-bytes : p [] ≡ false) where
+  fits-case :
+      (q : Bool) (t : Name) (at r : ℕ) → p (firstField t) ≡ q → r ≡ cond q (at + fieldLength t) at →
+      (r ≡ at → p (firstField t) ≡ false) × ((r ≡ at → ⊥) → (p (firstField t) ≡ true) × (r ≡ at + fieldLength t))
+  unfolding firstField
+  fits-case true t at r e h =
+      (λ z. let k : fieldLength t ≡ 0 = omega (arith, h, z) in ap (λ n. p (take n t)) k ∙ no-bytes, λ z. (e, h))
+  fits-case false t at r e h = (λ z. e, λ z. absurd (z h))
 
-  pub named : (r ≡ at → ⊥) → (isName (firstField (drop at l)) ≡ true) × (r ≡ at + fieldLength (drop at l))
-  named = named-case (isName (firstField (drop at l))) (drop at l) at r refl (n .is) .1
+  module _ (l : Name) (at r : ℕ) (n : FieldIs p l at r) where
+    pub unfit : r ≡ at → p (firstField (drop at l)) ≡ false
+    unfit = fits-case (p (firstField (drop at l))) (drop at l) at r refl (n .is) .0
+
+    pub fit : (r ≡ at → ⊥) → (p (firstField (drop at l)) ≡ true) × (r ≡ at + fieldLength (drop at l))
+    fit = fits-case (p (firstField (drop at l))) (drop at l) at r refl (n .is) .1

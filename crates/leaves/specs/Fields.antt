@@ -1,12 +1,12 @@
 -- Lines and fields by their lengths.
 use mathlib.Core.Path.{_≡_}
-use mathlib.Core.Bool.{cond}
+use mathlib.Core.Bool.{Bool, cond}
 use mathlib.Core.List.{List}
 use Prim.Native.Nat.{ℕ, suc, _+_, _≤_}
 use lib.Dec.{eqb}
 use lib.ListN.{length, take, drop}
 use Rattle.rules.specs.Base.{Name}
-use Rattle.rules.specs.Text.{line-feed, upTo, isName}
+use Rattle.rules.specs.Text.{line-feed, upTo}
 use Rattle.leaves.specs.declared.Set.the-variants.{FieldEnd}
 use Rattle.leaves.specs.Sets.{inSet}
 
@@ -24,11 +24,11 @@ fieldLength l = upTo (inSet FieldEnd) l
 unfoldable pub firstField : Name → Name
 firstField l = take (fieldLength l) l
 
--- r is the end of the field that starts at a place, if that field is a name; else the place itself
-pub record NameEnd (l : List ℕ) (at r : ℕ) : Type 0 where
+-- r is the end of the field that starts at a place, if that field passes a test; else the place itself
+pub record FieldIs (p : Name → Bool) (l : List ℕ) (at r : ℕ) : Type 0 where
   pub low : at ≤ r
   pub high : r ≤ length l
-  pub is : r ≡ cond (isName (firstField (drop at l))) (at + fieldLength (drop at l)) at
+  pub is : r ≡ cond (p (firstField (drop at l))) (at + fieldLength (drop at l)) at
 
 -- Everything above computes where this unfolds.
 unfoldable pub opened : Unit {0}

@@ -9,7 +9,7 @@ ghost use Rattle.rules.specs.Text.{allowed, letter, digit, letterOrDigit, upTo,
 ghost use Rattle.rules.specs.Grammar.{kindOf};
 ghost use Rattle.leaves.specs.Sets.{inSet, Found};
 ghost use Rattle.leaves.specs.Marks.{eight, littleEndian, value, lineForm, fieldForm, nameForm, formOf};
-ghost use Rattle.leaves.specs.Fields.{NameEnd};
+ghost use Rattle.leaves.specs.Fields.{FieldIs};
 ghost use Rattle.leaves.specs.Words.{words, wordNumber, kindOr0, packed, packedIn};
 ghost use Rattle.leaves.specs.Answers.{beginsName, leadingZero, capped, decimalIn, bitsOf, naturalIn, negativeIn, numberIn, exprIn, Reads, stopOr};
 
@@ -372,7 +372,7 @@ fn ends_field(l: &[u8], e: usize) -> bool
 // The end of the field that starts at `at`, if that field is a name; else `at`. One scan finds both.
 pub fn name_end(l: &[u8], at: usize) -> usize
     requires { ⌜ at ≤ length (now l) ⌝ }
-    ensures { λ r. ⌜ NameEnd (now (l .entry)) at r ⌝ }
+    ensures { λ r. ⌜ FieldIs isName (now (l .entry)) at r ⌝ }
 {
     let e = find(l, at, Set::NotLetterOrDigit);
     if !ends_field(l, e) {
@@ -602,6 +602,18 @@ pub fn is_expr(w: &[u8]) -> bool
         return true;
     };
     false
+}
+
+// The end of the field that starts at `at`, if that field is an expression; else `at`.
+pub fn expr_end(l: &[u8], at: usize) -> usize
+    requires { ⌜ at ≤ length (now l) ⌝ }
+    ensures { λ r. ⌜ FieldIs isExpr (now (l .entry)) at r ⌝ }
+{
+    let e = find(l, at, Set::FieldEnd);
+    if is_expr(&l[at..e]) {
+        return e;
+    }
+    at
 }
 
 // The place of the full stop of a path; of any other field its length.
