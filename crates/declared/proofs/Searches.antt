@@ -1,5 +1,5 @@
 -- Laws of rows, and of the search for the first that passes a test.
-use mathlib.Core.Path.{_≡_, refl, sym, ap, _∙_}
+use mathlib.Core.Path.{_≡_, refl, sym, ap, subst, _∙_}
 use mathlib.Core.Bool.{Bool, true, false, cond, _&&_, _||_}
 use mathlib.Core.List.{List, [], _∷_, _++_}
 use mathlib.Core.Option.{some}
@@ -78,6 +78,16 @@ module _ {A : Type 0} (p : A → Bool) (f : ℕ → A) (from n : ℕ) where
       let s : from + (i + 1) ≡ suc (from + i) = omega arith in
       let q : index p (rows f (from + i) (n - i)) ≡ suc (index p (rows f (from + (i + 1)) (n - (i + 1)))) = rw (z, e, s) in
       omega (arith, h, q)
+
+  on-all :
+      (d i j : ℕ) → i + d ≡ j → j ≤ n → ((k : ℕ) → i ≤ k → k < j → p (f (from + k)) ≡ false) → At i → At j
+  on-all zero i j e l h a = let z : i ≡ j = omega arith in subst At z a
+  on-all (suc d) i j e l h a =
+      on-all d (i + 1) j (omega arith) l (λ k b c. h k (omega arith) c) (on i a (omega arith) (h i (omega arith) (omega arith)))
+
+  -- over several rows at once
+  pub past : (i j : ℕ) → i ≤ j → j ≤ n → ((k : ℕ) → i ≤ k → k < j → p (f (from + k)) ≡ false) → At i → At j
+  past i j m = on-all (j - i) i j (omega arith)
 
   pub over : (i : ℕ) → At i → n ≤ i → i ≡ index p (rows f from n)
   unfolding rows index
