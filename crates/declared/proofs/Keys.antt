@@ -1,7 +1,7 @@
 -- Laws of keys: a row that has another key is not named x, and one that has the key of x is named as it is written.
 use mathlib.Core.Path.{_≡_, refl, sym, ap, _∙_}
-use mathlib.Core.Bool.{Bool, true, false, _&&_, _||_}
-use mathlib.Core.List.{List, [], _∷_}
+use mathlib.Core.Bool.{Bool, true, false, _||_, and-false}
+use mathlib.Core.List.{List, []}
 use Prim.Native.Nat.{ℕ, _+_, _≤_, _<_}
 use native.Mathlib.Omega.{arith}
 use lib.Dec.{eqb}
@@ -11,10 +11,6 @@ use Rattle.rules.specs.Base.{Name, eqName}
 use Rattle.leaves.proofs.Search.{not-same}
 use Rattle.declared.specs.Rows.{nameIn, noSpan, ownerAt, writtenAt, keyOf, keyAt, nameAt, entryAt, isEntry, NextKey, any-owner}
 use Rattle.declared.proofs.Searches.{At, begin, on, past}
-
-and-false : (b : Bool) → (b && false) ≡ false
-and-false true = refl
-and-false false = refl
 
 module _ (t w : List ℕ) (i : ℕ) where
   -- the name as it is written
@@ -29,17 +25,17 @@ module _ (t w : List ℕ) (i : ℕ) where
   unfolding nameAt
   nameless n = rw (ne-eqb (keyAt w i) (keyOf written) n)
 
+  -- the name by its two cases
+  by-key : (P : Name → Type 0) → (keyAt w i ≡ keyOf written → P written) → ((keyAt w i ≡ keyOf written → ⊥) → P []) → P (nameIn t (nameAt t w i))
+  by-key P y n = go (eqb (keyAt w i) (keyOf written)) refl
+    where
+      go : (b : Bool) → eqb (keyAt w i) (keyOf written) ≡ b → P (nameIn t (nameAt t w i))
+      go true e = let k = eqb-true _ _ e in rw (named k) (y k)
+      go false e = let k = eqb-false _ _ e in rw (nameless k) (n k)
+
   module _ (x : Name) (some : 0 < length x) where
     no-name : eqName [] x ≡ false
     no-name = not-same [] x (λ e. omega (arith, ap length e))
-
-    -- a test of the key of what is written, by its two cases
-    by-key : (P : Name → Type 0) → (keyAt w i ≡ keyOf written → P written) → ((keyAt w i ≡ keyOf written → ⊥) → P []) → P (nameIn t (nameAt t w i))
-    by-key P y n = go (eqb (keyAt w i) (keyOf written)) refl
-      where
-        go : (b : Bool) → eqb (keyAt w i) (keyOf written) ≡ b → P (nameIn t (nameAt t w i))
-        go true e = let k = eqb-true _ _ e in rw (named k) (y k)
-        go false e = let k = eqb-false _ _ e in rw (nameless k) (n k)
 
     other-name : (keyAt w i ≡ keyOf x → ⊥) → eqName (nameIn t (nameAt t w i)) x ≡ false
     other-name o =

@@ -1,6 +1,6 @@
 -- Laws of rows, and of the search for the first that passes a test.
 use mathlib.Core.Path.{_≡_, refl, sym, ap, subst, _∙_}
-use mathlib.Core.Bool.{Bool, true, false, cond, _&&_, _||_}
+use mathlib.Core.Bool.{Bool, true, false, cond, _&&_, _||_, and-false}
 use mathlib.Core.List.{List, [], _∷_, _++_}
 use mathlib.Core.Option.{some}
 use Prim.Native.Nat.{ℕ, zero, suc, _+_, _-_, _≤_, _<_}
@@ -162,11 +162,7 @@ index-both o q f i (suc n) k e h = go (q (f i)) (o (f i)) refl k e h (λ j m b. 
         e ∙ sym (ap (λ r. cond (r && true) 0 (suc (index (λ a. o a && q a) (rows f (suc i) n)))) (sym c ∙ (ap (λ j. o (f j)) (sym z) ∙ h)))
     go false d c k e h g =
         let z : suc i + index q (rows f (suc i) n) ≡ i + k = omega (arith, e) in
-        e ∙ (ap suc (g (index q (rows f (suc i) n)) refl (ap (λ j. o (f j)) z ∙ h)) ∙ sym (ap (λ r. cond r 0 (suc (index (λ a. o a && q a) (rows f (suc i) n)))) (none d)))
-      where
-        none : (d : Bool) → (d && false) ≡ false
-        none true = refl
-        none false = refl
+        e ∙ (ap suc (g (index q (rows f (suc i) n)) refl (ap (λ j. o (f j)) z ∙ h)) ∙ sym (ap (λ r. cond r 0 (suc (index (λ a. o a && q a) (rows f (suc i) n)))) (and-false d)))
 
 pub any-rows : {A : Type 0} (p : A → Bool) (f : ℕ → A) (i n : ℕ) → any p (rows f i n) ≡ ltb (index p (rows f i n)) n
 any-rows p f i n = any-index p (rows f i n) ∙ ap (ltb (index p (rows f i n))) (rows-length f i n)

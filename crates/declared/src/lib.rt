@@ -419,7 +419,7 @@ fn is_keyed_row(text: &[u8], work: &[u8], i: usize, owner: usize, x: &[u8]) -> b
     leaves::same(name_in(text, s), x)
 }
 
-// Rows that have the key of x are compared.
+// Rows that have the key of x are compared. x is not empty, so that no row without a name is named x.
 fn find_keyed(text: &[u8], work: &[u8], first: usize, count: usize, owner: usize, x: &[u8]) -> usize
     requires { ⌜ (length (now work) ≡ work-bytes) × (first + count ≤ most-rows) × (0 < length (now x)) ⌝ }
     ensures { λ r. ⌜ (r ≡ index (isEntry owner (now (x .entry))) (rows (entryAt (now (text .entry)) (now (work .entry))) first count)) × (r ≤ count) ⌝ }

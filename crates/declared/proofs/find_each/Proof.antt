@@ -2,7 +2,7 @@
 use Prim.Native.Nat.{_-_, _≤_}
 use Rattle.declared.proofs.Searches.{At, begin, here, on, over}
 use Rattle.declared.proofs.find_each.Statement.{statement}
-use Rattle.declared.specs.Rows.{rows, entryAt, isEntry}
+use Rattle.declared.specs.Rows.{entryAt, isEntry}
 use mathlib.Core.Path.{sym, _∙_}
 use native.Mathlib.Omega.{arith}
 use Rattle.declared.proofs.find_each.Tie as tie
