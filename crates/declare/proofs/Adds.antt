@@ -37,13 +37,13 @@ pub field-fits : {o : ℕ} {s g : Span} → o < 256 → SpanFits s → SpanFits 
 field-fits l f g = record { owner = l; name = f; gives = g; takes = none-fits }
 
 -- the table of lines stands above the rows
-row-lines : (w : List ℕ) {u : List ℕ} (i : ℕ) (r : Row) → i < most-rows → u ≡ putRow w i r → Kept lines-at work-bytes w u
-row-lines w {u} i r l e = subst (Kept lines-at work-bytes w) (sym e) (λ j a b. row-other w i r j (inr (omega arith)))
+row-lines : (t w : List ℕ) {u : List ℕ} (i : ℕ) (r : Row) → i < most-rows → u ≡ putRow t w i r → Kept lines-at work-bytes w u
+row-lines t w {u} i r l e = subst (Kept lines-at work-bytes w) (sym e) (λ j a b. row-other t w i r j (inr (omega arith)))
 
 module _ {t w : List ℕ} {c : Names} (x : Ready t w c) (ws : List Name) {u : List ℕ} {d : Names} where
   pub class-adds :
       (s : Span) → nameIn t s ≡ getD ws 0 [] → SpanFits s → c .classes < most-classes → d ≡ moreClasses c →
-      u ≡ putRow w (classes-first + c .classes) (classRow s) → Adds t w c (lineWith Class ws) u d
+      u ≡ putRow t w (classes-first + c .classes) (classRow s) → Adds t w c (lineWith Class ws) u d
   unfolding namesAfter joined Scope.opened Grammar.opened
   class-adds s n f l e i =
       let a = class-put t w c (x .fits) (classRow s) (x .whole) (class-fits f) l in
@@ -53,14 +53,14 @@ module _ {t w : List ℕ} {c : Names} (x : Ready t w c) (ws : List Name) {u : Li
         declared =
             (λ j. declarationsIn t (i j) (e j))
             ∙ (a ∙ (λ j. record { classes = D .classes ++ (n j ∷ []); fields = sym (append-nil (D .fields)) j; methods = sym (append-nil (D .methods)) j }));
-        tables = subst (SameTables w) (sym i) (row-tables w _ _);
-        lines = row-lines w _ _ (omega (arith, x .fits .classes, x .fits .fields, x .fits .methods)) i;
+        tables = subst (SameTables w) (sym i) (row-tables t w _ _);
+        lines = row-lines t w _ _ (omega (arith, x .fits .classes, x .fits .fields, x .fits .methods)) i;
       }
 
   pub field-adds :
       (o : ℕ) (s g : Span) → o ≡ pred (c .classes) → nameIn t s ≡ getD ws 1 [] → nameIn t g ≡ getD ws 0 [] → RowFits (fieldRow o s g) →
       c .fields < most-names → d ≡ moreFields c →
-      u ≡ putRow w (fields-first + c .fields) (fieldRow o s g) → Adds t w c (lineWith Field ws) u d
+      u ≡ putRow t w (fields-first + c .fields) (fieldRow o s g) → Adds t w c (lineWith Field ws) u d
   unfolding namesAfter joined Scope.opened Grammar.opened asField entryOf
   field-adds o s g q n m f l e i =
       let a = field-put t w c (x .fits) (fieldRow o s g) (x .whole) f l in
@@ -74,13 +74,13 @@ module _ {t w : List ℕ} {c : Names} (x : Ready t w c) (ws : List Name) {u : Li
               fields = D .fields ++ (record { owner = q j; name = n j; type = m j } ∷ []);
               methods = sym (append-nil (D .methods)) j;
             }));
-        tables = subst (SameTables w) (sym i) (row-tables w _ _);
-        lines = row-lines w _ _ (omega (arith, x .fits .classes, x .fits .fields, x .fits .methods)) i;
+        tables = subst (SameTables w) (sym i) (row-tables t w _ _);
+        lines = row-lines t w _ _ (omega (arith, x .fits .classes, x .fits .fields, x .fits .methods)) i;
       }
 
   pub method-adds :
       (o : ℕ) (m : Row) → o ≡ pred (c .classes) → MethodRow t o ws m → c .methods < most-methods → d ≡ moreMethods c →
-      u ≡ putRow w (methods-first + c .methods) m → Adds t w c (lineWith Method ws) u d
+      u ≡ putRow t w (methods-first + c .methods) m → Adds t w c (lineWith Method ws) u d
   unfolding namesAfter joined Scope.opened Grammar.opened asMethod methodEntry
   method-adds o m q r l e i =
       let a = method-put t w c (x .fits) m (x .whole) (r .fits) l in
@@ -95,8 +95,8 @@ module _ {t w : List ℕ} {c : Names} (x : Ready t w c) (ws : List Name) {u : Li
               fields = sym (append-nil (D .fields)) j;
               methods = D .methods ++ (n j ∷ []);
             }));
-        tables = subst (SameTables w) (sym i) (row-tables w _ _);
-        lines = row-lines w _ _ (omega (arith, x .fits .classes, x .fits .fields, x .fits .methods)) i;
+        tables = subst (SameTables w) (sym i) (row-tables t w _ _);
+        lines = row-lines t w _ _ (omega (arith, x .fits .classes, x .fits .fields, x .fits .methods)) i;
       }
 
 -- a line of another kind

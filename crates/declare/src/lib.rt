@@ -107,7 +107,7 @@ fn declare_class(text: &[u8], work: &mut [u8], r: usize, c: Names) -> Names
     ensures { λ d. ⌜ Adds (now (text .entry)) (now (work .entry)) c (lineWith Class (more (drop r (now (text .entry))))) (now (work .exit)) d ⌝ }
 {
     let name = span_after(text, r);
-    declared::put_class(work, c, name)
+    declared::put_class(text, work, c, name)
 }
 
 fn declare_field(text: &[u8], work: &mut [u8], r: usize, c: Names) -> Names
@@ -116,7 +116,7 @@ fn declare_field(text: &[u8], work: &mut [u8], r: usize, c: Names) -> Names
 {
     let gives = span_after(text, r);
     let name = span_after(text, gives.start + gives.len);
-    declared::put_field(work, c, owner(c), name, gives)
+    declared::put_field(text, work, c, owner(c), name, gives)
 }
 
 // The row of a method by its header.
@@ -140,7 +140,7 @@ fn declare_method(text: &[u8], work: &mut [u8], r: usize, c: Names) -> Names
     ensures { λ d. ⌜ Adds (now (text .entry)) (now (work .entry)) c (lineWith Method (more (drop r (now (text .entry))))) (now (work .exit)) d ⌝ }
 {
     let m = method_row(text, r, owner(c));
-    declared::put_method(work, c, m)
+    declared::put_method(text, work, c, m)
 }
 
 // The row of a line of this kind, if it declares something.

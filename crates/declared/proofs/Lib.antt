@@ -1,5 +1,6 @@
 pub mod Searches
 pub mod LookUps
 pub mod Exprs
+pub mod Keys
 pub mod Puts
 pub mod Scopes

@@ -20,8 +20,8 @@ use Rattle.declared.specs.declared.Span.{Span}
 use Rattle.declared.specs.declared.Row.{Row}
 use Rattle.declared.specs.declared.Names.{Names}
 use Rattle.declared.specs.declared.Above.{Above}
-use Rattle.declared.specs.Rows.{rows, rowPlace, most-rows, nameIn, Entry, entryAt, entryOf, SpanFits, RowFits, putRow, classes-first, fields-first, methods-first, variables-first}
-use Rattle.declared.specs.Meanings.{typeAt, Fits, AboveFits, asField, asMethod, namesFrom, declarationsIn, thisIn, resultIn, variableAt, ownVariables, blockIn, variablesIn, classAbove, scopeIn, moreClasses, moreFields, moreMethods, moreLocals, noSpan, variableRow, putBlock}
+use Rattle.declared.specs.Rows.{rows, rowPlace, most-rows, nameIn, noSpan, Entry, entryAt, entryOf, SpanFits, RowFits, putRow, classes-first, fields-first, methods-first, variables-first}
+use Rattle.declared.specs.Meanings.{typeAt, Fits, AboveFits, asField, asMethod, namesFrom, declarationsIn, thisIn, resultIn, variableAt, ownVariables, blockIn, variablesIn, classAbove, scopeIn, moreClasses, moreFields, moreMethods, moreLocals, variableRow, putBlock}
 use Rattle.declared.proofs.Searches.{rows-same, rows-end}
 use Rattle.declared.proofs.Puts.{none-fits, entry-kept, row-length, row-other, row-tables, row-put, other-row, range-kept, range-other, range-more}
 
@@ -102,7 +102,7 @@ module _ (t w w′ : List ℕ) where
 module _ (t w : List ℕ) (c : Names) (f : Fits c) (r : Row) (size : length w ≡ work-bytes) (fits : RowFits r) where
   pub class-put :
       c .classes < most-classes →
-      declarationsIn t (putRow w (classes-first + c .classes) r) (moreClasses c)
+      declarationsIn t (putRow t w (classes-first + c .classes) r) (moreClasses c)
       ≡ record {
         classes = declarationsIn t w c .classes ++ (nameIn t (r .name) ∷ []);
         fields = declarationsIn t w c .fields;
@@ -118,7 +118,7 @@ module _ (t w : List ℕ) (c : Names) (f : Fits c) (r : Row) (size : length w �
 
   pub field-put :
       c .fields < most-names →
-      declarationsIn t (putRow w (fields-first + c .fields) r) (moreFields c)
+      declarationsIn t (putRow t w (fields-first + c .fields) r) (moreFields c)
       ≡ record {
         classes = declarationsIn t w c .classes;
         fields = declarationsIn t w c .fields ++ (asField (entryOf t r) ∷ []);
@@ -134,7 +134,7 @@ module _ (t w : List ℕ) (c : Names) (f : Fits c) (r : Row) (size : length w �
 
   pub method-put :
       c .methods < most-methods →
-      declarationsIn t (putRow w (methods-first + c .methods) r) (moreMethods c)
+      declarationsIn t (putRow t w (methods-first + c .methods) r) (moreMethods c)
       ≡ record {
         classes = declarationsIn t w c .classes;
         fields = declarationsIn t w c .fields;
@@ -150,34 +150,34 @@ module _ (t w : List ℕ) (c : Names) (f : Fits c) (r : Row) (size : length w �
 
 -- rows of variables leave the declarations, and rows of declarations the block
 module _ (t w : List ℕ) (c : Names) (f : Fits c) (i : ℕ) (r : Row) where
-  pub variable-row : variables-first ≤ i → declarationsIn t (putRow w i r) c ≡ declarationsIn t w c
-  variable-row l = declarations-kept t w (putRow w i r) c f (λ j p q. row-other w i r j (inl (omega arith)))
+  pub variable-row : variables-first ≤ i → declarationsIn t (putRow t w i r) c ≡ declarationsIn t w c
+  variable-row l = declarations-kept t w (putRow t w i r) c f (λ j p q. row-other t w i r j (inl (omega arith)))
 
-  pub declared-row : i < variables-first → blockIn t (putRow w i r) c ≡ blockIn t w c
-  declared-row l = block-kept t w (putRow w i r) c f (λ j p q. row-other w i r j (inr (omega arith)))
+  pub declared-row : i < variables-first → blockIn t (putRow t w i r) c ≡ blockIn t w c
+  declared-row l = block-kept t w (putRow t w i r) c f (λ j p q. row-other t w i r j (inr (omega arith)))
 
 -- VARIABLES
 module _ (t w : List ℕ) (i : ℕ) (r : Row) where
   other-variable :
-      (v : ℕ) → (variables-first + v < i) ⊎ (i < variables-first + v) → variableAt t (putRow w i r) v ≡ variableAt t w v
+      (v : ℕ) → (variables-first + v < i) ⊎ (i < variables-first + v) → variableAt t (putRow t w i r) v ≡ variableAt t w v
   unfolding variableAt
-  other-variable v o = let e = other-row w i r t (variables-first + v) o in λ j. record { name = e j .name; number = v; type = e j .gives }
+  other-variable v o = let e = other-row t w i r (variables-first + v) o in λ j. record { name = e j .name; number = v; type = e j .gives }
 
-  own-other : (v n : ℕ) → variables-first + (v + n) ≤ i → rows (variableAt t (putRow w i r)) v n ≡ rows (variableAt t w) v n
+  own-other : (v n : ℕ) → variables-first + (v + n) ≤ i → rows (variableAt t (putRow t w i r)) v n ≡ rows (variableAt t w) v n
   own-other v n l =
-      rows-same (variableAt t (putRow w i r)) (variableAt t w) v v n (λ k m. other-variable (v + k) (inl (omega arith)))
+      rows-same (variableAt t (putRow t w i r)) (variableAt t w) v v n (λ k m. other-variable (v + k) (inl (omega arith)))
 
-  gives-other : (v : ℕ) → (variables-first + v < i) ⊎ (i < variables-first + v) → typeAt t (putRow w i r) v ≡ typeAt t w v
+  gives-other : (v : ℕ) → (variables-first + v < i) ⊎ (i < variables-first + v) → typeAt t (putRow t w i r) v ≡ typeAt t w v
   unfolding entryAt
-  gives-other v o = ap (λ e. e .gives) (other-row w i r t (variables-first + v) o)
+  gives-other v o = ap (λ e. e .gives) (other-row t w i r (variables-first + v) o)
 
 module _ (t w : List ℕ) (v : ℕ) (s g : Span) (size : length w ≡ work-bytes) (small : v < 15) (fs : SpanFits s) (fg : SpanFits g) where
   abbrev put : List ℕ
-  put = putRow w (variables-first + v) (variableRow s g)
+  put = putRow t w (variables-first + v) (variableRow s g)
 
   row-is : entryAt t put (variables-first + v) ≡ entryOf t (variableRow s g)
   row-is =
-      row-put w (variables-first + v) (variableRow s g) t size (omega arith)
+      row-put t w (variables-first + v) (variableRow s g) size (omega arith)
       (record { owner = omega arith; name = fs; gives = fg; takes = none-fits })
 
   variable-put : variableAt t put v ≡ record { name = nameIn t s; number = v; type = nameIn t g }
@@ -198,7 +198,7 @@ one-more false x a b p q r = r
 -- one local more
 module _ (t w : List ℕ) (c : Names) (s g : Span) (size : length w ≡ work-bytes) (l : c .locals < most-locals) (fs : SpanFits s) (fg : SpanFits g) where
   abbrev grown : List ℕ
-  grown = putRow w (variables-first + (2 + c .locals)) (variableRow s g)
+  grown = putRow t w (variables-first + (2 + c .locals)) (variableRow s g)
 
   more-own :
       (v n : ℕ) → v + n ≡ 2 + c .locals →
@@ -230,13 +230,13 @@ module _ (t w : List ℕ) (c : Names) (s g : Span) (size : length w ≡ work-byt
 module _ (t w : List ℕ) (c : Names) (k s : Span) (m : Row) (size : length w ≡ work-bytes) (fk : SpanFits k) (fs : SpanFits s) (fm : RowFits m) where
   pub block-put :
       c .method ≡ true → c .locals ≡ 0 →
-      blockIn t (putBlock w k m s) c ≡ methodBlock (nameIn t k) (nameIn t (m .gives)) (nameIn t (m .takes)) (nameIn t s)
+      blockIn t (putBlock t w k m s) c ≡ methodBlock (nameIn t k) (nameIn t (m .gives)) (nameIn t (m .takes)) (nameIn t s)
   unfolding blockIn ownVariables putBlock methodBlock rows
   block-put e z =
-      let one : List ℕ = putRow w (variables-first + this-variable) (variableRow noSpan k) in
-      let two : List ℕ = putRow one (variables-first + parameter) (variableRow s (m .takes)) in
-      let n1 : length one ≡ work-bytes = row-length w (variables-first + this-variable) (variableRow noSpan k) ∙ size in
-      let n2 : length two ≡ work-bytes = row-length one (variables-first + parameter) (variableRow s (m .takes)) ∙ n1 in
+      let one : List ℕ = putRow t w (variables-first + this-variable) (variableRow noSpan k) in
+      let two : List ℕ = putRow t one (variables-first + parameter) (variableRow s (m .takes)) in
+      let n1 : length one ≡ work-bytes = row-length t w (variables-first + this-variable) (variableRow noSpan k) ∙ size in
+      let n2 : length two ≡ work-bytes = row-length t one (variables-first + parameter) (variableRow s (m .takes)) ∙ n1 in
       let third : Row = variableRow noSpan (m .gives) in
       let this =
       gives-other t two (variables-first + result-variable) third this-variable (inl (omega arith))
@@ -254,15 +254,15 @@ module _ (t w : List ℕ) (c : Names) (k s : Span) (m : Row) (size : length w �
       })
 
   -- it leaves the declarations and the tables
-  pub block-declarations : Fits c → declarationsIn t (putBlock w k m s) c ≡ declarationsIn t w c
+  pub block-declarations : Fits c → declarationsIn t (putBlock t w k m s) c ≡ declarationsIn t w c
   unfolding putBlock
   block-declarations f =
       variable-row t _ c f (variables-first + result-variable) _ (omega arith)
       ∙ (variable-row t _ c f (variables-first + parameter) _ (omega arith) ∙ variable-row t _ c f (variables-first + this-variable) _ (omega arith))
 
-  pub block-tables : SameTables w (putBlock w k m s)
+  pub block-tables : SameTables w (putBlock t w k m s)
   unfolding putBlock
-  block-tables = same-trans (row-tables w _ _) (same-trans (row-tables _ _ _) (row-tables _ _ _))
+  block-tables = same-trans (row-tables t w _ _) (same-trans (row-tables t _ _ _) (row-tables t _ _ _))
 
 -- THE VARIABLES THAT A LINE MAY NAME
 seen : (m q : Bool) (vs rs : List Variable) → cond q vs (vs ++ cond m rs []) ≡ vs ++ cond (m && not q) rs []

@@ -1,6 +1,6 @@
 -- Laws of rows, and of the search for the first that passes a test.
-use mathlib.Core.Path.{_≡_, refl, sym, ap, _∙_}
-use mathlib.Core.Bool.{Bool, true, false, cond, _&&_, _||_}
+use mathlib.Core.Path.{_≡_, refl, sym, ap, subst, _∙_}
+use mathlib.Core.Bool.{Bool, true, false, cond, _&&_, _||_, and-false}
 use mathlib.Core.List.{List, [], _∷_, _++_}
 use mathlib.Core.Option.{some}
 use Prim.Native.Nat.{ℕ, zero, suc, _+_, _-_, _≤_, _<_}
@@ -79,6 +79,16 @@ module _ {A : Type 0} (p : A → Bool) (f : ℕ → A) (from n : ℕ) where
       let q : index p (rows f (from + i) (n - i)) ≡ suc (index p (rows f (from + (i + 1)) (n - (i + 1)))) = rw (z, e, s) in
       omega (arith, h, q)
 
+  on-all :
+      (d i j : ℕ) → i + d ≡ j → j ≤ n → ((k : ℕ) → i ≤ k → k < j → p (f (from + k)) ≡ false) → At i → At j
+  on-all zero i j e l h a = let z : i ≡ j = omega arith in subst At z a
+  on-all (suc d) i j e l h a =
+      on-all d (i + 1) j (omega arith) l (λ k b c. h k (omega arith) c) (on i a (omega arith) (h i (omega arith) (omega arith)))
+
+  -- over several rows at once
+  pub past : (i j : ℕ) → i ≤ j → j ≤ n → ((k : ℕ) → i ≤ k → k < j → p (f (from + k)) ≡ false) → At i → At j
+  past i j m = on-all (j - i) i j (omega arith)
+
   pub over : (i : ℕ) → At i → n ≤ i → i ≡ index p (rows f from n)
   unfolding rows index
   over i h l =
@@ -152,11 +162,7 @@ index-both o q f i (suc n) k e h = go (q (f i)) (o (f i)) refl k e h (λ j m b. 
         e ∙ sym (ap (λ r. cond (r && true) 0 (suc (index (λ a. o a && q a) (rows f (suc i) n)))) (sym c ∙ (ap (λ j. o (f j)) (sym z) ∙ h)))
     go false d c k e h g =
         let z : suc i + index q (rows f (suc i) n) ≡ i + k = omega (arith, e) in
-        e ∙ (ap suc (g (index q (rows f (suc i) n)) refl (ap (λ j. o (f j)) z ∙ h)) ∙ sym (ap (λ r. cond r 0 (suc (index (λ a. o a && q a) (rows f (suc i) n)))) (none d)))
-      where
-        none : (d : Bool) → (d && false) ≡ false
-        none true = refl
-        none false = refl
+        e ∙ (ap suc (g (index q (rows f (suc i) n)) refl (ap (λ j. o (f j)) z ∙ h)) ∙ sym (ap (λ r. cond r 0 (suc (index (λ a. o a && q a) (rows f (suc i) n)))) (and-false d)))
 
 pub any-rows : {A : Type 0} (p : A → Bool) (f : ℕ → A) (i n : ℕ) → any p (rows f i n) ≡ ltb (index p (rows f i n)) n
 any-rows p f i n = any-index p (rows f i n) ∙ ap (ltb (index p (rows f i n))) (rows-length f i n)

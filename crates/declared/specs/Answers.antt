@@ -21,8 +21,8 @@ use Rattle.declared.specs.declared.Operand.{Operand}
 use Rattle.declared.specs.declared.Names.{Names}
 use Rattle.declared.specs.declared.Member.{Member}
 use Rattle.declared.specs.declared.Lookup.{Lookup}
-use Rattle.declared.specs.Rows.{rows, nameIn, givesAt, variables-first}
-use Rattle.declared.specs.Meanings.{variableAt, resultIn, noSpan}
+use Rattle.declared.specs.Rows.{rows, nameIn, givesAt, noSpan, variables-first}
+use Rattle.declared.specs.Meanings.{variableAt, resultIn}
 
 -- the place of the type of the variable v; 15 is none
 unfoldable pub typeOf : List ℕ → ℕ → Span

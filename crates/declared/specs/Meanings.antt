@@ -12,7 +12,7 @@ use Rattle.declared.specs.declared.Span.{Span}
 use Rattle.declared.specs.declared.Row.{Row}
 use Rattle.declared.specs.declared.Names.{Names}
 use Rattle.declared.specs.declared.Above.{Above}
-use Rattle.declared.specs.Rows.{Entry, entryAt, rows, givesAt, nameIn, putRow, classes-first, fields-first, methods-first, variables-first}
+use Rattle.declared.specs.Rows.{Entry, entryAt, rows, givesAt, nameIn, noSpan, putRow, classes-first, fields-first, methods-first, variables-first}
 
 -- THE COUNTS
 
@@ -115,9 +115,6 @@ unfoldable pub moreLocals : Names → Names
 moreLocals c =
     record { classes = c .classes; fields = c .fields; methods = c .methods; method = c .method; locals = c .locals + 1; result = c .result }
 
-abbrev pub noSpan : Span
-noSpan = record { start = 0; len = 0 }
-
 -- rows of a class, of a field, and of a variable
 abbrev pub classRow : Span → Row
 classRow s = record { owner = 0; name = s; gives = noSpan; takes = noSpan }
@@ -129,8 +126,8 @@ abbrev pub variableRow : Span → Span → Row
 variableRow s g = record { owner = 0; name = s; gives = g; takes = noSpan }
 
 -- The block of a method in the class named at k, with the parameter named at s: `this`, the parameter, `result`.
-unfoldable pub putBlock : List ℕ → Span → Row → Span → List ℕ
-putBlock w k m s =
-    let a : List ℕ = putRow w (variables-first + this-variable) (variableRow noSpan k) in
-    let b : List ℕ = putRow a (variables-first + parameter) (variableRow s (m .takes)) in
-    putRow b (variables-first + result-variable) (variableRow noSpan (m .gives))
+unfoldable pub putBlock : List ℕ → List ℕ → Span → Row → Span → List ℕ
+putBlock t w k m s =
+    let a : List ℕ = putRow t w (variables-first + this-variable) (variableRow noSpan k) in
+    let b : List ℕ = putRow t a (variables-first + parameter) (variableRow s (m .takes)) in
+    putRow t b (variables-first + result-variable) (variableRow noSpan (m .gives))

@@ -1,9 +1,10 @@
 -- Rows of names in the work area: where each stands, what it holds, and what is written.
-use mathlib.Core.Bool.{Bool, _&&_, _||_}
+use mathlib.Core.Path.{_≡_}
+use mathlib.Core.Bool.{Bool, cond, _&&_, _||_}
 use mathlib.Core.List.{List, [], _∷_}
-use Prim.Native.Nat.{ℕ, zero, suc, _+_, _*_, _<_}
-use lib.Dec.{eqb}
-use lib.ListN.{take, drop}
+use Prim.Native.Nat.{ℕ, zero, suc, _+_, _-_, _*_, _%_, _≤_, _<_}
+use lib.Dec.{eqb, ltb}
+use lib.ListN.{length, getD, take, drop}
 use Rattle.rules.specs.Base.{Name, eqName}
 use Rattle.tables.specs.Layout.{names-at}
 use Rattle.tables.specs.Decode.{byteAt, halfAt}
@@ -14,7 +15,7 @@ use Rattle.declared.specs.declared.Row.{Row}
 -- WHERE ROWS STAND: 16 of classes, 128 of fields, 64 of methods, and a row for each of the 15 numbers of a block's variables
 
 abbrev pub row-bytes : ℕ
-row-bytes = 10
+row-bytes = 11
 
 abbrev pub classes-first : ℕ
 classes-first = 0
@@ -36,7 +37,8 @@ rowPlace i = names-at + i * row-bytes
 
 -- WHAT A ROW HOLDS: the owner's number (a byte); then the places in the text of its name, of the type that it gives (a field's, a
 -- variable's, that of a method's result) and of the type that it takes (that of a method's parameter). A place is the start of a name
--- (2 bytes) and its length (a byte).
+-- (2 bytes) and its length (a byte). The last byte is the key of the name: names that have different keys are different. A row whose key
+-- is not that of its name has no name.
 
 abbrev pub nameIn : List ℕ → Span → Name
 nameIn t s = take (s .len) (drop (s .start) t)
@@ -44,17 +46,32 @@ nameIn t s = take (s .len) (drop (s .start) t)
 abbrev pub spanAt : List ℕ → ℕ → Span
 spanAt w p = record { start = halfAt w p; len = byteAt w (p + 2) }
 
+abbrev pub noSpan : Span
+noSpan = record { start = 0; len = 0 }
+
+-- of the last two bytes of a name
+unfoldable pub keyOf : Name → ℕ
+keyOf x =
+    cond (ltb (length x) 2) (getD x 0 0) ((getD x (length x - 1) 0 + 10 * getD x (length x - 2) 0) % 256)
+
 abbrev pub ownerAt : List ℕ → ℕ → ℕ
 ownerAt w i = byteAt w (rowPlace i)
 
-abbrev pub nameAt : List ℕ → ℕ → Span
-nameAt w i = spanAt w (rowPlace i + 1)
+abbrev pub writtenAt : List ℕ → ℕ → Span
+writtenAt w i = spanAt w (rowPlace i + 1)
 
 abbrev pub givesAt : List ℕ → ℕ → Span
 givesAt w i = spanAt w (rowPlace i + 4)
 
 abbrev pub takesAt : List ℕ → ℕ → Span
 takesAt w i = spanAt w (rowPlace i + 7)
+
+abbrev pub keyAt : List ℕ → ℕ → ℕ
+keyAt w i = byteAt w (rowPlace i + 10)
+
+-- the name, if the key is its key
+unfoldable pub nameAt : List ℕ → List ℕ → ℕ → Span
+nameAt t w i = cond (eqb (keyAt w i) (keyOf (nameIn t (writtenAt w i)))) (writtenAt w i) noSpan
 
 -- a row with its names
 pub record Entry : Type 0 where
@@ -67,7 +84,7 @@ unfoldable pub entryAt : List ℕ → List ℕ → ℕ → Entry
 entryAt t w i =
     record {
       owner = ownerAt w i;
-      name = nameIn t (nameAt w i);
+      name = nameIn t (nameAt t w i);
       gives = nameIn t (givesAt w i);
       takes = nameIn t (takesAt w i);
     }
@@ -85,6 +102,13 @@ any-owner = 255
 unfoldable pub isEntry : ℕ → Name → Entry → Bool
 isEntry c x e = (eqb c any-owner || eqb (e .owner) c) && eqName (e .name) x
 
+-- of n rows from i on, r is the first from the row `from` on that has the key k; n if there is none
+pub record NextKey (w : List ℕ) (i n from k r : ℕ) : Type 0 where
+  pub low : from ≤ r
+  pub high : r ≤ n
+  pub none : (j : ℕ) → j < r → from ≤ j → keyAt w (i + j) ≡ k → ⊥
+  pub found : r < n → keyAt w (i + r) ≡ k
+
 -- WHAT IS WRITTEN
 
 pub record SpanFits (s : Span) : Type 0 where
@@ -100,12 +124,13 @@ pub record RowFits (r : Row) : Type 0 where
 unfoldable pub putSpan : List ℕ → ℕ → Span → List ℕ
 putSpan w p s = putByte (putHalf w p (s .start)) (p + 2) (s .len)
 
-unfoldable pub putRow : List ℕ → ℕ → Row → List ℕ
-putRow w i r =
+unfoldable pub putRow : List ℕ → List ℕ → ℕ → Row → List ℕ
+putRow t w i r =
     let a : List ℕ = putByte w (rowPlace i) (r .owner) in
     let b : List ℕ = putSpan a (rowPlace i + 1) (r .name) in
     let c : List ℕ = putSpan b (rowPlace i + 4) (r .gives) in
-    putSpan c (rowPlace i + 7) (r .takes)
+    let d : List ℕ = putSpan c (rowPlace i + 7) (r .takes) in
+    putByte d (rowPlace i + 10) (keyOf (nameIn t (r .name)))
 
 -- what a row that is written means
 unfoldable pub entryOf : List ℕ → Row → Entry

@@ -14,8 +14,8 @@ ghost use Rattle.rules.specs.Text.{reserved, isExpr, exprOf};
 ghost use Rattle.rules.specs.Grammar.{isOperand};
 ghost use Rattle.rules.specs.Names.{agree, classNumber, isClass, isType, isFieldOf, fieldType, fieldNumber, methodNumber, noField, noDeclaration, inScope, variableType, isInt, known, knownExpr, ofClass, ofClassIn, exprType, mayBeAssigned};
 ghost use Rattle.tables.specs.Layout.{most-names};
-ghost use Rattle.declared.specs.Rows.{rows, most-rows, nameIn, spanAt, ownerAt, nameAt, givesAt, takesAt, entryAt, isEntry, any-owner, SpanFits, RowFits, putSpan, putRow, classes-first, fields-first, methods-first, variables-first};
-ghost use Rattle.declared.specs.Meanings.{Fits, AboveFits, namesFrom, declarationsIn, variablesIn, blockIn, scopeIn, noSpan, classRow, fieldRow, variableRow, moreClasses, moreFields, moreMethods, moreLocals, putBlock};
+ghost use Rattle.declared.specs.Rows.{rows, most-rows, nameIn, spanAt, noSpan, ownerAt, writtenAt, givesAt, takesAt, keyOf, keyAt, nameAt, entryAt, isEntry, NextKey, any-owner, SpanFits, RowFits, putSpan, putRow, classes-first, fields-first, methods-first, variables-first};
+ghost use Rattle.declared.specs.Meanings.{Fits, AboveFits, namesFrom, declarationsIn, variablesIn, blockIn, scopeIn, classRow, fieldRow, variableRow, moreClasses, moreFields, moreMethods, moreLocals, putBlock};
 ghost use Rattle.declared.specs.Answers.{typeOf, ownIn, isIntType, Looked, isNew, fieldKnown, methodKnown, typeMeant, operandMeant, mayName, MemberIs, LookIs};
 
 // A name by its place in the text.
@@ -93,7 +93,7 @@ pub struct Lookup {
     pub good: bool,
 }
 
-const ROW_BYTES: usize = 10;
+const ROW_BYTES: usize = 11;
 
 // The first row of each kind.
 const CLASSES: usize = 0;
@@ -136,7 +136,7 @@ fn no_span() -> Span
 
 fn span_at(work: &[u8], at: usize) -> Span
     requires { ⌜ at + 3 ≤ length (now work) ⌝ }
-    ensures { λ r. ⌜ r ≡ spanAt (now (work .entry)) at ⌝ }
+    ensures { λ r. ⌜ (r ≡ spanAt (now (work .entry)) at) × SpanFits r ⌝ }
 {
     let start = tables::half_at(work, at);
     let len = tables::byte_at(work, at + 2);
@@ -150,12 +150,41 @@ fn owner_at(work: &[u8], i: usize) -> usize
     tables::byte_at(work, Layout::NAMES + i * ROW_BYTES)
 }
 
-// The name of the row i.
-pub fn name_at(work: &[u8], i: usize) -> Span
+fn written_at(work: &[u8], i: usize) -> Span
     requires { ⌜ (length (now work) ≡ work-bytes) × (i < most-rows) ⌝ }
-    ensures { λ r. ⌜ r ≡ nameAt (now (work .entry)) i ⌝ }
+    ensures { λ r. ⌜ (r ≡ writtenAt (now (work .entry)) i) × SpanFits r ⌝ }
 {
     span_at(work, Layout::NAMES + i * ROW_BYTES + 1)
+}
+
+fn key_at(work: &[u8], i: usize) -> usize
+    requires { ⌜ (length (now work) ≡ work-bytes) × (i < most-rows) ⌝ }
+    ensures { λ r. ⌜ r ≡ keyAt (now (work .entry)) i ⌝ }
+{
+    tables::byte_at(work, Layout::NAMES + i * ROW_BYTES + 10)
+}
+
+// The key of a name.
+fn key(x: &[u8]) -> usize
+    ensures { λ r. ⌜ (r ≡ keyOf (now (x .entry))) × (r < 256) ⌝ }
+{
+    let n = x.len();
+    if n < 2 {
+        return leaves::byte_at(x, 0) as usize;
+    }
+    (x[n - 1] as usize + 10 * (x[n - 2] as usize)) % 256
+}
+
+// The name of the row i, which fits a row.
+pub fn name_at(text: &[u8], work: &[u8], i: usize) -> Span
+    requires { ⌜ (length (now work) ≡ work-bytes) × (i < most-rows) ⌝ }
+    ensures { λ r. ⌜ (r ≡ nameAt (now (text .entry)) (now (work .entry)) i) × SpanFits r ⌝ }
+{
+    let s = written_at(work, i);
+    if key_at(work, i) == key(name_in(text, s)) {
+        return s;
+    }
+    no_span()
 }
 
 // The type that it gives.
@@ -185,9 +214,9 @@ fn put_span(work: &mut [u8], at: usize, s: Span)
 }
 
 // Writes the row i.
-pub fn put_row(work: &mut [u8], i: usize, r: Row)
+pub fn put_row(text: &[u8], work: &mut [u8], i: usize, r: Row)
     requires { ⌜ (length (now work) ≡ work-bytes) × (i < most-rows) × RowFits r ⌝ }
-    ensures { λ _. ⌜ now (work .exit) ≡ putRow (now (work .entry)) i r ⌝ }
+    ensures { λ _. ⌜ now (work .exit) ≡ putRow (now (text .entry)) (now (work .entry)) i r ⌝ }
 {
     let at = Layout::NAMES + i * ROW_BYTES;
     let name = r.name;
@@ -197,15 +226,17 @@ pub fn put_row(work: &mut [u8], i: usize, r: Row)
     put_span(work, at + 1, name);
     put_span(work, at + 4, gives);
     put_span(work, at + 7, takes);
+    tables::put_byte(work, at + 10, key(name_in(text, name)));
 }
 
 // One more class.
-pub fn put_class(work: &mut [u8], c: Names, name: Span) -> Names
+pub fn put_class(text: &[u8], work: &mut [u8], c: Names, name: Span) -> Names
     requires { ⌜ (length (now work) ≡ work-bytes) × (c .classes < most-classes) × SpanFits name ⌝ }
-    ensures { λ r. ⌜ (r ≡ moreClasses c) × (now (work .exit) ≡ putRow (now (work .entry)) (classes-first + c .classes) (classRow name)) ⌝ }
+    ensures { λ r. ⌜ (r ≡ moreClasses c) × (now (work .exit) ≡ putRow (now (text .entry)) (now (work .entry)) (classes-first + c .classes) (classRow name)) ⌝ }
 {
     let none = no_span();
     put_row(
+        text,
         work,
         CLASSES + c.classes,
         Row {
@@ -226,12 +257,20 @@ pub fn put_class(work: &mut [u8], c: Names, name: Span) -> Names
 }
 
 // One more field, of this type, of the class `owner`.
-pub fn put_field(work: &mut [u8], c: Names, owner: usize, name: Span, gives: Span) -> Names
+pub fn put_field(
+    text: &[u8],
+    work: &mut [u8],
+    c: Names,
+    owner: usize,
+    name: Span,
+    gives: Span,
+) -> Names
     requires { ⌜ (length (now work) ≡ work-bytes) × (c .fields < most-names) × RowFits (fieldRow owner name gives) ⌝ }
-    ensures { λ r. ⌜ (r ≡ moreFields c) × (now (work .exit) ≡ putRow (now (work .entry)) (fields-first + c .fields) (fieldRow owner name gives)) ⌝ }
+    ensures { λ r. ⌜ (r ≡ moreFields c) × (now (work .exit) ≡ putRow (now (text .entry)) (now (work .entry)) (fields-first + c .fields) (fieldRow owner name gives)) ⌝ }
 {
     let takes = no_span();
     put_row(
+        text,
         work,
         FIELDS + c.fields,
         Row {
@@ -252,11 +291,11 @@ pub fn put_field(work: &mut [u8], c: Names, owner: usize, name: Span, gives: Spa
 }
 
 // One more method.
-pub fn put_method(work: &mut [u8], c: Names, m: Row) -> Names
+pub fn put_method(text: &[u8], work: &mut [u8], c: Names, m: Row) -> Names
     requires { ⌜ (length (now work) ≡ work-bytes) × (c .methods < most-methods) × RowFits m ⌝ }
-    ensures { λ r. ⌜ (r ≡ moreMethods c) × (now (work .exit) ≡ putRow (now (work .entry)) (methods-first + c .methods) m) ⌝ }
+    ensures { λ r. ⌜ (r ≡ moreMethods c) × (now (work .exit) ≡ putRow (now (text .entry)) (now (work .entry)) (methods-first + c .methods) m) ⌝ }
 {
-    put_row(work, METHODS + c.methods, m);
+    put_row(text, work, METHODS + c.methods, m);
     Names {
         classes: c.classes,
         fields: c.fields,
@@ -267,12 +306,13 @@ pub fn put_method(work: &mut [u8], c: Names, m: Row) -> Names
     }
 }
 
-fn put_variable(work: &mut [u8], v: usize, name: Span, gives: Span)
+fn put_variable(text: &[u8], work: &mut [u8], v: usize, name: Span, gives: Span)
     requires { ⌜ (length (now work) ≡ work-bytes) × (v < 15) × SpanFits name × SpanFits gives ⌝ }
-    ensures { λ _. ⌜ now (work .exit) ≡ putRow (now (work .entry)) (variables-first + v) (variableRow name gives) ⌝ }
+    ensures { λ _. ⌜ now (work .exit) ≡ putRow (now (text .entry)) (now (work .entry)) (variables-first + v) (variableRow name gives) ⌝ }
 {
     let takes = no_span();
     put_row(
+        text,
         work,
         VARIABLES + v,
         Row {
@@ -285,11 +325,11 @@ fn put_variable(work: &mut [u8], v: usize, name: Span, gives: Span)
 }
 
 // One more local.
-pub fn put_local(work: &mut [u8], c: Names, name: Span, gives: Span) -> Names
+pub fn put_local(text: &[u8], work: &mut [u8], c: Names, name: Span, gives: Span) -> Names
     requires { ⌜ (length (now work) ≡ work-bytes) × (c .locals < most-locals) × SpanFits name × SpanFits gives ⌝ }
-    ensures { λ r. ⌜ (r ≡ moreLocals c) × (now (work .exit) ≡ putRow (now (work .entry)) (variables-first + (2 + c .locals)) (variableRow name gives)) ⌝ }
+    ensures { λ r. ⌜ (r ≡ moreLocals c) × (now (work .exit) ≡ putRow (now (text .entry)) (now (work .entry)) (variables-first + (2 + c .locals)) (variableRow name gives)) ⌝ }
 {
-    put_variable(work, 2 + c.locals, name, gives);
+    put_variable(text, work, 2 + c.locals, name, gives);
     Names {
         classes: c.classes,
         fields: c.fields,
@@ -301,16 +341,16 @@ pub fn put_local(work: &mut [u8], c: Names, name: Span, gives: Span) -> Names
 }
 
 // The variables that the block of the method m begins with: `this` is of the class named here, and its parameter has this name.
-pub fn put_block(work: &mut [u8], class: Span, m: Row, parameter: Span)
+pub fn put_block(text: &[u8], work: &mut [u8], class: Span, m: Row, parameter: Span)
     requires { ⌜ (length (now work) ≡ work-bytes) × SpanFits class × RowFits m × SpanFits parameter ⌝ }
-    ensures { λ _. ⌜ now (work .exit) ≡ putBlock (now (work .entry)) class m parameter ⌝ }
+    ensures { λ _. ⌜ now (work .exit) ≡ putBlock (now (text .entry)) (now (work .entry)) class m parameter ⌝ }
 {
     let none = no_span();
     let gives = m.gives;
     let takes = m.takes;
-    put_variable(work, 0, none, class);
-    put_variable(work, 1, parameter, takes);
-    put_variable(work, RESULT, none, gives);
+    put_variable(text, work, 0, none, class);
+    put_variable(text, work, 1, parameter, takes);
+    put_variable(text, work, RESULT, none, gives);
 }
 
 // THE SEARCH
@@ -333,12 +373,12 @@ fn is_row(text: &[u8], work: &[u8], i: usize, owner: usize, x: &[u8]) -> bool
     if !is_owned(work, i, owner) {
         return false;
     }
-    let s = name_at(work, i);
+    let s = name_at(text, work, i);
     leaves::same(name_in(text, s), x)
 }
 
-// Where in a range of rows the first that is named x, and of this owner, stands; the range's length if there is none.
-pub fn find(text: &[u8], work: &[u8], first: usize, count: usize, owner: usize, x: &[u8]) -> usize
+// Each row is compared.
+fn find_each(text: &[u8], work: &[u8], first: usize, count: usize, owner: usize, x: &[u8]) -> usize
     requires { ⌜ (length (now work) ≡ work-bytes) × (first + count ≤ most-rows) ⌝ }
     ensures { λ r. ⌜ (r ≡ index (isEntry owner (now (x .entry))) (rows (entryAt (now (text .entry)) (now (work .entry))) first count)) × (r ≤ count) ⌝ }
 {
@@ -350,6 +390,60 @@ pub fn find(text: &[u8], work: &[u8], first: usize, count: usize, owner: usize, 
         i += 1;
     }
     i
+}
+
+// From the row `from` of a range on, the first that has this key; the range's length if there is none.
+fn next_key(work: &[u8], first: usize, count: usize, from: usize, k: usize) -> usize
+    requires { ⌜ (length (now work) ≡ work-bytes) × (first + count ≤ most-rows) × (from ≤ count) ⌝ }
+    ensures { λ r. ⌜ NextKey (now (work .entry)) first count from k r ⌝ }
+{
+    let mut i = from;
+    while i < count {
+        if key_at(work, first + i) == k {
+            return i;
+        }
+        i += 1;
+    }
+    i
+}
+
+// Is the row i, which has the key of x, named x, and of this owner?
+fn is_keyed_row(text: &[u8], work: &[u8], i: usize, owner: usize, x: &[u8]) -> bool
+    requires { ⌜ (length (now work) ≡ work-bytes) × (i < most-rows) × (0 < length (now x)) × (keyAt (now work) i ≡ keyOf (now x)) ⌝ }
+    ensures { λ r. ⌜ r ≡ isEntry owner (now (x .entry)) (entryAt (now (text .entry)) (now (work .entry)) i) ⌝ }
+{
+    if !is_owned(work, i, owner) {
+        return false;
+    }
+    let s = written_at(work, i);
+    leaves::same(name_in(text, s), x)
+}
+
+// Rows that have the key of x are compared. x is not empty, so that no row without a name is named x.
+fn find_keyed(text: &[u8], work: &[u8], first: usize, count: usize, owner: usize, x: &[u8]) -> usize
+    requires { ⌜ (length (now work) ≡ work-bytes) × (first + count ≤ most-rows) × (0 < length (now x)) ⌝ }
+    ensures { λ r. ⌜ (r ≡ index (isEntry owner (now (x .entry))) (rows (entryAt (now (text .entry)) (now (work .entry))) first count)) × (r ≤ count) ⌝ }
+{
+    let k = key(x);
+    let mut i = next_key(work, first, count, 0, k);
+    while i < count {
+        if is_keyed_row(text, work, first + i, owner, x) {
+            return i;
+        }
+        i = next_key(work, first, count, i + 1, k);
+    }
+    i
+}
+
+// Where in a range of rows the first that is named x, and of this owner, stands; the range's length if there is none.
+pub fn find(text: &[u8], work: &[u8], first: usize, count: usize, owner: usize, x: &[u8]) -> usize
+    requires { ⌜ (length (now work) ≡ work-bytes) × (first + count ≤ most-rows) ⌝ }
+    ensures { λ r. ⌜ (r ≡ index (isEntry owner (now (x .entry))) (rows (entryAt (now (text .entry)) (now (work .entry))) first count)) × (r ≤ count) ⌝ }
+{
+    if x.len() == 0 {
+        return find_each(text, work, first, count, owner, x);
+    }
+    find_keyed(text, work, first, count, owner, x)
 }
 
 // CLASSES AND TYPES

@@ -300,19 +300,19 @@ parameter-name (u ∷ v ∷ x ∷ y ∷ ws) e =
 
 -- `method`
 block-rows :
-    (w : List ℕ) (k s : Span) (m : Row) → Kept (rowPlace classes-first) (rowPlace variables-first) w (putBlock w k m s)
+    (t w : List ℕ) (k s : Span) (m : Row) → Kept (rowPlace classes-first) (rowPlace variables-first) w (putBlock t w k m s)
 unfolding putBlock
-block-rows w k s m j p q =
-    row-other _ _ _ j (inl (omega arith)) ∙ (row-other _ _ _ j (inl (omega arith)) ∙ row-other w _ _ j (inl (omega arith)))
+block-rows t w k s m j p q =
+    row-other t _ _ _ j (inl (omega arith)) ∙ (row-other t _ _ _ j (inl (omega arith)) ∙ row-other t w _ _ j (inl (omega arith)))
 
-block-lines : (w : List ℕ) (k s : Span) (m : Row) → Kept lines-at work-bytes w (putBlock w k m s)
+block-lines : (t w : List ℕ) (k s : Span) (m : Row) → Kept lines-at work-bytes w (putBlock t w k m s)
 unfolding putBlock
-block-lines w k s m j p q =
-    row-other _ _ _ j (inr (omega (arith, p))) ∙ (row-other _ _ _ j (inr (omega (arith, p))) ∙ row-other w _ _ j (inr (omega (arith, p))))
+block-lines t w k s m j p q =
+    row-other t _ _ _ j (inr (omega (arith, p))) ∙ (row-other t _ _ _ j (inr (omega (arith, p))) ∙ row-other t w _ _ j (inr (omega (arith, p))))
 
 module _
     (t w : List ℕ) (p : Pass) (ws : List Name) (i : ℕ) (k s : Span) (n : Row) (r : Ready t w p) (m : Room t w p (lineWith Method ws))
-    (h : Held w p) (last : p .above .classes ≡ suc i) (class : k ≡ nameAt w i) (fk : SpanFits k) (row : MethodRow t i ws n)
+    (h : Held w p) (last : p .above .classes ≡ suc i) (class : k ≡ nameAt t w i) (fk : SpanFits k) (row : MethodRow t i ws n)
     (parameter : nameIn t s ≡ getD ws 3 []) (fs : SpanFits s) where
   abbrev with-row : List ℕ
   with-row = putMethod w (after (p .above .methods)) (p .rows)
@@ -331,19 +331,19 @@ module _
       rw (z, e, zero-add i) (ap (nameIn t) class)
 
   the-block :
-      blockIn t (putBlock with-row k n s) (withBlock true (p .names))
+      blockIn t (putBlock t with-row k n s) (withBlock true (p .names))
       ≡ Scope.methodBlock (classAbove t w (p .above)) (getD ws 0 []) (getD ws 2 []) (getD ws 3 [])
   unfolding withBlock methodEntry entryOf
   the-block =
       block-put t with-row (withBlock true (p .names)) k s n whole fk fs (row .fits) refl refl
       ∙ (λ j. Scope.methodBlock (class-is j) (row .is j .gives) (row .is j .takes) (parameter j))
 
-  kept : Kept (rowPlace classes-first) (rowPlace variables-first) w (putBlock with-row k n s)
+  kept : Kept (rowPlace classes-first) (rowPlace variables-first) w (putBlock t with-row k n s)
   kept j a b =
-      block-rows with-row k s n j a b
+      block-rows t with-row k s n j a b
       ∙ method-names w (after (p .above .methods)) (p .rows) (r .whole) few-methods j (omega arith) (omega arith)
 
-  pub method-line : DeclarationPut t w p (lineWith Method ws) (putBlock with-row k n s) (next Method p)
+  pub method-line : DeclarationPut t w p (lineWith Method ws) (putBlock t with-row k n s) (next Method p)
   unfolding namesAfter aboveAfter oneMore withBlock declarationsIn isFramed itemOf flatWith lastClass Scope.opened Grammar.opened
   method-line =
       let c : Names = withBlock true (p .names) in
@@ -361,14 +361,14 @@ module _
         fields = r .above .fields;
         methods = omega (arith, few-methods);
       } in
-      declaration-put t w p (lineWith Method ws) (putBlock with-row k n s) refl refl refl
+      declaration-put t w p (lineWith Method ws) (putBlock t with-row k n s) refl refl refl
       (λ F x.
       let G : Flat = flatWith F (suc (p .line)) (item t w p (lineWith Method ws)) in
       let e = method-written (counts (p .names)) w F (p .atoms) (suc (p .line)) (omega (arith, few-methods, x .methods)) (x .holds) in
       let f : Holds (counts (p .names)) with-row G (p .atoms) =
       subst (λ u. Holds (counts (p .names)) u G (p .atoms)) (λ j. putMethod w (x .methods j) (x .rows j)) e in
       record {
-        holds = holds-same (counts (p .names)) with-row (putBlock with-row k n s) G (p .atoms) (block-tables t with-row c k s n whole fk fs (row .fits)) f;
+        holds = holds-same (counts (p .names)) with-row (putBlock t with-row k n s) G (p .atoms) (block-tables t with-row c k s n whole fk fs (row .fits)) f;
         rows = x .rows;
         classes = x .classes;
         methods = omega (arith, end-length (F .methods) (record { requires = []; ensures = []; first = length (F .rows) }), x .methods);
@@ -377,9 +377,9 @@ module _
       })
       (block-declarations t with-row c k s n whole fk fs (row .fits) fits
       ∙ names-kept t w with-row c fits (method-names w (after (p .above .methods)) (p .rows) (r .whole) few-methods))
-      (block-alone t w (putBlock with-row k n s) (p .names) c (aboveAfter Method (p .above)) above kept
+      (block-alone t w (putBlock t with-row k n s) (p .names) c (aboveAfter Method (p .above)) above kept
       ∙ method-scope t w (p .names) (p .above) ws (room .1 .1) _ the-block)
-      (λ j a b. block-lines with-row k s n j a b ∙ method-names w (after (p .above .methods)) (p .rows) (r .whole) few-methods j (omega (arith, a)) b)
+      (λ j a b. block-lines t with-row k s n j a b ∙ method-names w (after (p .above .methods)) (p .rows) (r .whole) few-methods j (omega (arith, a)) b)
       (block-tables t with-row c k s n whole fk fs (row .fits) .size
       ∙ method-length w (after (p .above .methods)) (p .rows) (r .whole) few-methods)
 
@@ -387,11 +387,11 @@ module _
 pub var-line :
     (t w : List ℕ) (p : Pass) (ws : List Name) (s g : Span) → Ready t w p → Room t w p (lineWith Var ws) →
     nameIn t g ≡ getD ws 0 [] → nameIn t s ≡ getD ws 1 [] → SpanFits s → SpanFits g →
-    DeclarationPut t w p (lineWith Var ws) (putRow w (variables-first + (2 + p .names .locals)) (variableRow s g)) (next Var p)
+    DeclarationPut t w p (lineWith Var ws) (putRow t w (variables-first + (2 + p .names .locals)) (variableRow s g)) (next Var p)
 unfolding namesAfter aboveAfter moreLocals declarationsIn scopeIn isFramed itemOf flatWith lastClass Scope.opened Grammar.opened
 var-line t w p ws s g r m type name fs fg =
     let i : ℕ = variables-first + (2 + p .names .locals) in
-    let u : List ℕ = putRow w i (variableRow s g) in
+    let u : List ℕ = putRow t w i (variableRow s g) in
     let few = m .local refl in
     let c : Names = moreLocals (p .names) in
     let fits : Fits c =
@@ -409,7 +409,7 @@ var-line t w p ws s g r m type name fs fg =
     record {
       holds =
           local-written (counts (p .names)) u F (p .atoms) (suc (p .line)) (getD ws 1 [])
-          (holds-same (counts (p .names)) w u F (p .atoms) (row-tables w i (variableRow s g)) (x .holds));
+          (holds-same (counts (p .names)) w u F (p .atoms) (row-tables t w i (variableRow s g)) (x .holds));
       rows = x .rows;
       classes = x .classes;
       methods = x .methods;
@@ -417,10 +417,10 @@ var-line t w p ws s g r m type name fs fg =
       fields = x .fields;
     })
     (variable-row t w c fits i (variableRow s g) (omega arith))
-    (block-alone t w u (p .names) c (p .above) (r .above) (λ j a b. row-other w i (variableRow s g) j (inl (omega arith)))
+    (block-alone t w u (p .names) c (p .above) (r .above) (λ j a b. row-other t w i (variableRow s g) j (inl (omega arith)))
     ∙ (λ j. record { classes = scopeIn t w (p .names) (p .above) .classes; members = scopeIn t w (p .names) (p .above) .members; block = block j }))
-    (λ j a b. row-other w i (variableRow s g) j (inr (omega (arith, a, few))))
-    (row-length w i (variableRow s g))
+    (λ j a b. row-other t w i (variableRow s g) j (inr (omega (arith, a, few))))
+    (row-length t w i (variableRow s g))
 
 -- BY THE NUMBER OF THE KIND
 

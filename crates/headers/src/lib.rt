@@ -4,7 +4,6 @@ use declared::Range;
 use declared::Span;
 use pass::Pass;
 use pass::Tried;
-use tables::Layout;
 ghost use mathlib.Core.Path.{_≡_};
 ghost use mathlib.Core.Bool.{true};
 ghost use mathlib.Core.List.{[]};
@@ -13,14 +12,12 @@ ghost use lib.ListN.{length, getD, drop};
 ghost use Rattle.rules.specs.Limits.{work-bytes, most-bytes, most-classes};
 ghost use Rattle.rules.specs.Grammar.{Class, Field, Method, Var, form, isFormed};
 ghost use Rattle.lines.specs.Cuts.{more};
-ghost use Rattle.declared.specs.Rows.{nameIn, nameAt, most-rows, SpanFits};
+ghost use Rattle.declared.specs.Rows.{nameIn};
 ghost use Rattle.declared.specs.Meanings.{AboveFits};
 ghost use Rattle.declare.specs.Declares.{lineWith};
 ghost use Rattle.emit.specs.Puts.{putClass};
 ghost use Rattle.pass.specs.Passes.{Ready, Tested, Room, oneMore, withBlock, aboveAfter, lineAfter, LineTried};
 ghost use Rattle.headers.specs.Headers.{isDeclaration, Held, moved, DeclarationPut};
-
-const ROW_BYTES: usize = 10;
 
 // THE COUNTS
 
@@ -116,17 +113,6 @@ fn in_method(c: Names) -> Names
 
 // PLACES OF NAMES
 
-// The name of the row i, which fits a row.
-fn name_at(work: &[u8], i: usize) -> Span
-    requires { ⌜ (length (now work) ≡ work-bytes) × (i < most-rows) ⌝ }
-    ensures { λ r. ⌜ (r ≡ nameAt (now (work .entry)) i) × SpanFits r ⌝ }
-{
-    let at = Layout::NAMES + i * ROW_BYTES + 1;
-    let start = tables::half_at(work, at);
-    let len = tables::byte_at(work, at + 2);
-    Span { start, len }
-}
-
 // The fourth field after the word that ends at r.
 fn fourth(text: &[u8], r: usize) -> Span
     requires { ⌜ r ≤ length (now text) ⌝ }
@@ -175,11 +161,11 @@ fn put_method(text: &[u8], work: &mut [u8], p: Pass, r: usize) -> Pass
     let above = p.above;
     let methods = above.methods;
     let owner = above.classes - 1;
-    let class = name_at(work, owner);
+    let class = declared::name_at(text, work, owner);
     let m = declare::method_row(text, r, owner);
     let parameter = fourth(text, r);
     emit::put_method(work, after(methods), p.rows);
-    declared::put_block(work, class, m, parameter);
+    declared::put_block(text, work, class, m, parameter);
     moved(p, in_method(names), with_method(above), p.main)
 }
 
@@ -218,6 +204,6 @@ pub fn put_var(text: &[u8], work: &mut [u8], p: Pass, r: usize) -> Tried
     if !declared::may_declare(text, work, names, name, gives) {
         return Tried::Bad;
     }
-    let grown = declared::put_local(work, names, name, gives);
+    let grown = declared::put_local(text, work, names, name, gives);
     Tried::On(moved(p, grown, above, p.main))
 }

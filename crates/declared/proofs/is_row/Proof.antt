@@ -23,7 +23,7 @@ same-requires c κs = search needs
 
 returns-2 : tie.Need-returns-2
 unfolding isEntry entryAt
-returns-2 c = rw (sym (c .before .before .before .before .is-owned .ensures) ∙ not-false _ (c .before .before .before .if1 .left)) (c .same .ensures ∙ rw (c .before .name-in .ensures, c .before .before .name-at .ensures))
+returns-2 c = rw (sym (c .before .before .before .before .is-owned .ensures) ∙ not-false _ (c .before .before .before .if1 .left)) (c .same .ensures ∙ rw (c .before .name-in .ensures, c .before .before .name-at .ensures .0))
 
 pub is-row-spec : {M : Type 1} → statement M
 is-row-spec =

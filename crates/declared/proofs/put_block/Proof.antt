@@ -11,13 +11,13 @@ no-span-requires : tie.Need-no-span-requires
 no-span-requires c κs = search needs
 
 put-variable-requires : tie.Need-put-variable-requires
-put-variable-requires c κs = (c .before .before .before .before .before .pre .0, omega arith, subst SpanFits (sym (c .before .before .before .no-span .ensures)) none-fits, c .before .before .before .before .before .pre .1)
+put-variable-requires c κs = (c .before .before .before .before .before .before .pre .0, omega arith, subst SpanFits (sym (c .before .before .before .no-span .ensures)) none-fits, c .before .before .before .before .before .before .pre .1)
 
 put-variable-requires-2 : tie.Need-put-variable-requires-2
 put-variable-requires-2 c κs = search needs
 
 put-variable-requires-3 : tie.Need-put-variable-requires-3
-put-variable-requires-3 c κs = (search needs, omega arith, subst SpanFits (sym (c .before .before .before .before .before .before .before .before .before .before .before .no-span .ensures)) none-fits, c .before .before .before .before .before .before .before .before .before .before .before .before .before .pre .2 .gives)
+put-variable-requires-3 c κs = (search needs, omega arith, subst SpanFits (sym (c .before .before .before .before .before .before .before .before .before .before .before .no-span .ensures)) none-fits, c .before .before .before .before .before .before .before .before .before .before .before .before .before .before .pre .2 .gives)
 
 same-length : tie.Need-same-length
 same-length c = search needs

@@ -14,10 +14,10 @@ add-put-row : tie.Need-add-put-row
 add-put-row c = search needs
 
 put-row-requires : tie.Need-put-row-requires
-put-row-requires c κs = (c .before .before .before .before .pre .0, omega (arith, c .before .before .before .before .pre .1), record { owner = omega arith; name = c .before .before .before .before .pre .2; gives = subst SpanFits (sym (c .before .before .no-span .ensures)) none-fits; takes = subst SpanFits (sym (c .before .before .no-span .ensures)) none-fits })
+put-row-requires c κs = (c .before .before .before .before .before .pre .0, omega (arith, c .before .before .before .before .before .pre .1), record { owner = omega arith; name = c .before .before .before .before .before .pre .2; gives = subst SpanFits (sym (c .before .before .no-span .ensures)) none-fits; takes = subst SpanFits (sym (c .before .before .no-span .ensures)) none-fits })
 
-add-t8 : tie.Need-add-t8
-add-t8 c = search needs
+add-t9 : tie.Need-add-t9
+add-t9 c = search needs
 
 same-length : tie.Need-same-length
 same-length c = search needs
@@ -28,4 +28,4 @@ returns c = (refl, c .before .before .before .put-row .ensures ∙ rw (c .before
 
 pub put-class-spec : {M : Type 1} → statement M
 put-class-spec =
-    tie.close (tie.spec no-span-requires add-put-row put-row-requires add-t8 same-length returns)
+    tie.close (tie.spec no-span-requires add-put-row put-row-requires add-t9 same-length returns)

@@ -14,10 +14,10 @@ add-put-row : tie.Need-add-put-row
 add-put-row c = search needs
 
 put-row-requires : tie.Need-put-row-requires
-put-row-requires c κs = (c .before .before .before .before .pre .0, omega (arith, c .before .before .before .before .pre .1), record { owner = c .before .before .before .before .pre .2 .owner; name = c .before .before .before .before .pre .2 .name; gives = c .before .before .before .before .pre .2 .gives; takes = subst SpanFits (sym (c .before .before .no-span .ensures)) none-fits })
+put-row-requires c κs = (c .before .before .before .before .before .pre .0, omega (arith, c .before .before .before .before .before .pre .1), record { owner = c .before .before .before .before .before .pre .2 .owner; name = c .before .before .before .before .before .pre .2 .name; gives = c .before .before .before .before .before .pre .2 .gives; takes = subst SpanFits (sym (c .before .before .no-span .ensures)) none-fits })
 
-add-t10 : tie.Need-add-t10
-add-t10 c = search needs
+add-t11 : tie.Need-add-t11
+add-t11 c = search needs
 
 same-length : tie.Need-same-length
 same-length c = search needs
@@ -28,4 +28,4 @@ returns c = (refl, c .before .before .before .put-row .ensures ∙ rw (c .before
 
 pub put-field-spec : {M : Type 1} → statement M
 put-field-spec =
-    tie.close (tie.spec no-span-requires add-put-row put-row-requires add-t10 same-length returns)
+    tie.close (tie.spec no-span-requires add-put-row put-row-requires add-t11 same-length returns)

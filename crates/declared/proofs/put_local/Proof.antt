@@ -10,8 +10,8 @@ add-put-variable c = search needs
 put-variable-requires : tie.Need-put-variable-requires
 put-variable-requires c κs = search needs
 
-add-t8 : tie.Need-add-t8
-add-t8 c = search needs
+add-t9 : tie.Need-add-t9
+add-t9 c = search needs
 
 same-length : tie.Need-same-length
 same-length c = search needs
@@ -22,4 +22,4 @@ returns c = (refl, c .before .before .before .put-variable .ensures)
 
 pub put-local-spec : {M : Type 1} → statement M
 put-local-spec =
-    tie.close (tie.spec add-put-variable put-variable-requires add-t8 same-length returns)
+    tie.close (tie.spec add-put-variable put-variable-requires add-t9 same-length returns)

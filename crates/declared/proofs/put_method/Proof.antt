@@ -10,8 +10,8 @@ add-put-row c = search needs
 put-row-requires : tie.Need-put-row-requires
 put-row-requires c κs = search needs
 
-add-t7 : tie.Need-add-t7
-add-t7 c = search needs
+add-t8 : tie.Need-add-t8
+add-t8 c = search needs
 
 same-length : tie.Need-same-length
 same-length c = search needs
@@ -21,4 +21,4 @@ unfolding moreMethods
 returns c = (refl, c .before .before .before .put-row .ensures)
 
 pub put-method-spec : {M : Type 1} → statement M
-put-method-spec = tie.close (tie.spec add-put-row put-row-requires add-t7 same-length returns)
+put-method-spec = tie.close (tie.spec add-put-row put-row-requires add-t8 same-length returns)

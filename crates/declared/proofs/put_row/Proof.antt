@@ -31,12 +31,24 @@ add-put-span-3 c = search needs
 put-span-requires-3 : tie.Need-put-span-requires-3
 put-span-requires-3 c κs = search needs
 
+add-put-byte : tie.Need-add-put-byte
+add-put-byte c = search needs
+
+name-in-requires : tie.Need-name-in-requires
+name-in-requires c κs = search needs
+
+key-requires : tie.Need-key-requires
+key-requires c κs = search needs
+
+put-byte-requires-2 : tie.Need-put-byte-requires-2
+put-byte-requires-2 c κs = search needs
+
 same-length : tie.Need-same-length
 same-length c = search needs
 
 returns : tie.Need-returns
 unfolding putRow
-returns c = c .before .before .put-span3 .ensures ∙ rw (c .before .before .before .before .before .before .put-span2 .ensures, c .before .before .before .before .before .before .before .before .before .before .put-span .ensures, c .before .before .before .before .before .before .before .before .before .before .before .before .before .before .put-byte .ensures)
+returns c = c .before .before .put-byte2 .ensures ∙ rw (c .before .before .before .before .before .before .before .before .put-span3 .ensures, c .before .before .before .before .before .before .before .before .before .before .before .before .put-span2 .ensures, c .before .before .before .before .before .before .before .before .before .before .before .before .before .before .before .before .put-span .ensures, c .before .before .before .before .before .before .before .before .before .before .before .before .before .before .before .before .before .before .before .before .put-byte .ensures, c .before .before .before .key .ensures .0, c .before .before .before .before .name-in .ensures)
 
 pub put-row-spec : {M : Type 1} → statement M
 put-row-spec =
@@ -51,5 +63,9 @@ put-row-spec =
     put-span-requires-2
     add-put-span-3
     put-span-requires-3
+    add-put-byte
+    name-in-requires
+    key-requires
+    put-byte-requires-2
     same-length
     returns)

@@ -13,7 +13,7 @@ add-put-row : tie.Need-add-put-row
 add-put-row c = search needs
 
 put-row-requires : tie.Need-put-row-requires
-put-row-requires c κs = (c .before .before .before .pre .0, omega (arith, c .before .before .before .pre .1), record { owner = omega arith; name = c .before .before .before .pre .2; gives = c .before .before .before .pre .3; takes = subst SpanFits (sym (c .before .no-span .ensures)) none-fits })
+put-row-requires c κs = (c .before .before .before .before .pre .0, omega (arith, c .before .before .before .before .pre .1), record { owner = omega arith; name = c .before .before .before .before .pre .2; gives = c .before .before .before .before .pre .3; takes = subst SpanFits (sym (c .before .no-span .ensures)) none-fits })
 
 same-length : tie.Need-same-length
 same-length c = search needs

@@ -12,7 +12,7 @@ byte-at-requires : tie.Need-byte-at-requires
 byte-at-requires c κs = search needs
 
 returns : tie.Need-returns
-returns c = rw (c .before .half-at .ensures .0, c .byte-at .ensures .0)
+returns c = (rw (c .before .half-at .ensures .0, c .byte-at .ensures .0), record { start = c .before .half-at .ensures .1; len = c .byte-at .ensures .1 })
 
 pub span-at-spec : {M : Type 1} → statement M
 span-at-spec = tie.close (tie.spec half-at-requires add-byte-at byte-at-requires returns)

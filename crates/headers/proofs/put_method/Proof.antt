@@ -80,7 +80,7 @@ returns c =
     let last : v .p .above .classes ≡ suc (v .p .above .classes - 1) = omega (arith, one) in
     at-end
     (c .before .before .before .before .before .put-block .ensures
-    ∙ ap (λ u. putBlock u (c .before .before .before .before .before .before .before .before .before .before .before .before .before .before .name-at .result) (c .before .before .before .before .before .before .before .before .before .before .before .before .before .method-row .result) (c .before .before .before .before .before .before .before .before .before .before .before .before .fourth .result))
+    ∙ ap (λ u. putBlock t u (c .before .before .before .before .before .before .before .before .before .before .before .before .before .before .name-at .result) (c .before .before .before .before .before .before .before .before .before .before .before .before .before .method-row .result) (c .before .before .before .before .before .before .before .before .before .before .before .before .fourth .result))
     (c .before .before .before .before .before .before .before .before .before .put-method .ensures ∙ (λ j. putMethod w (c .before .before .before .before .before .before .before .before .before .before .after .ensures j) (v .p .rows))))
     (c .moved .ensures ∙ (λ j. moved (v .p) (c .before .before .in-method .ensures j) (c .before .with-method .ensures j) (v .p .main)))
     (method-line t w (v .p) ws (v .p .above .classes - 1) (c .before .before .before .before .before .before .before .before .before .before .before .before .before .before .name-at .result) (c .before .before .before .before .before .before .before .before .before .before .before .before .fourth .result) (c .before .before .before .before .before .before .before .before .before .before .before .before .before .method-row .result) (p .0) (p .3) (p .4)

@@ -1,11 +1,11 @@
 -- The invariant: among the rows from i on the first stands where it stands among all.
 use Prim.Native.Nat.{_-_, _≤_}
 use Rattle.declared.proofs.Searches.{At, begin, here, on, over}
-use Rattle.declared.proofs.find.Statement.{statement}
-use Rattle.declared.specs.Rows.{rows, entryAt, isEntry}
+use Rattle.declared.proofs.find_each.Statement.{statement}
+use Rattle.declared.specs.Rows.{entryAt, isEntry}
 use mathlib.Core.Path.{sym, _∙_}
 use native.Mathlib.Omega.{arith}
-use Rattle.declared.proofs.find.Tie as tie
+use Rattle.declared.proofs.find_each.Tie as tie
 
 abbrev Inv-loop : tie.InvT-loop
 Inv-loop text work first count owner x i₀ i = (i ≤ count) × At (isEntry owner x) (entryAt text work) first count i
@@ -37,8 +37,8 @@ loop-again c = (omega arith, on _ _ _ _ _ (c .before .before .before .loop .inv 
 returns-2 : tie.Need-returns-2 Inv-loop μ-loop
 returns-2 c = (over _ _ _ _ _ (c .before .loop .inv .1) (c .loop-test .left), omega arith)
 
-pub find-spec : {M : Type 1} → statement M
-find-spec =
+pub find-each-spec : {M : Type 1} → statement M
+find-each-spec =
     tie.close
     (tie.spec
     Inv-loop
