@@ -832,7 +832,15 @@ fn is_new_member(text: &[u8], work: &[u8], from: usize, r: Range, x: &[u8]) -> b
 }
 
 // May a class have a member of this name and of this type, if these are the rows of those that it has?
-fn may_add(text: &[u8], work: &[u8], c: Names, from: usize, r: Range, name: Span, gives: Span) -> bool
+fn may_add(
+    text: &[u8],
+    work: &[u8],
+    c: Names,
+    from: usize,
+    r: Range,
+    name: Span,
+    gives: Span,
+) -> bool
     requires { ⌜ (length (now work) ≡ work-bytes) × Fits c × (from + r .first + r .count ≤ most-rows) ⌝ }
     ensures { λ b. ⌜ b ≡ (isType (declarationsIn (now (text .entry)) (now (work .entry)) c) (nameIn (now (text .entry)) gives) && isNew (nameIn (now (text .entry)) name) (namesFrom (now (text .entry)) (now (work .entry)) (from + r .first) (r .count))) ⌝ }
 {
