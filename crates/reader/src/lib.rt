@@ -23,7 +23,7 @@ ghost use Rattle.declare.specs.Declares.{Declares};
 ghost use Rattle.judge.specs.Refusals as Judges;
 ghost use Rattle.headers.specs.Headers.{isDeclaration, Held};
 ghost use Rattle.bodies.specs.Bodies.{Follows};
-ghost use Rattle.pass.specs.Passes.{firstPass, Ready, Room, isFramed, lineAfter, isGoodHere, LineTried};
+ghost use Rattle.pass.specs.Passes.{firstPass, Room, isFramed, lineAfter, isGoodHere, LineTried};
 ghost use Rattle.reader.specs.Readings.{unframedBy, withUnframed, Between, Written, Begins, refusalHere, StepIs, ResolvedIs, ReadingIs, refusalOf};
 
 // Why a text is refused.
