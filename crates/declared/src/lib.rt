@@ -831,7 +831,7 @@ fn is_new_member(text: &[u8], work: &[u8], from: usize, r: Range, x: &[u8]) -> b
     is_new(text, work, from + r.first, r.count, x)
 }
 
-// May a class have a member of this name and of this type, if these are the rows of those that it has?
+// May a class with the members of this range have one more, of this name and of this type?
 fn may_add(
     text: &[u8],
     work: &[u8],

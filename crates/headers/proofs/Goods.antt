@@ -26,7 +26,7 @@ use Rattle.pass.specs.declared.Pass.{Pass}
 use Rattle.pass.specs.declared.Tried.{Tried}
 use Rattle.pass.specs.Passes.{seenBy, lineAfter, isGood, isGoodHere, LinePut, LineTried}
 use Rattle.headers.specs.Headers.{DeclarationPut}
-use Rattle.headers.proofs.Lines.{line-is}
+use Rattle.headers.proofs.Lines.{Formed, line-is}
 
 -- THE FIELDS OF A LINE WITHOUT A TAIL
 after-first : (u : Name) (ws : List Name) (i n : ℕ) → rows (λ i. getD (u ∷ ws) i []) (suc i) n ≡ rows (λ i. getD ws i []) i n
@@ -56,7 +56,7 @@ four false b c d = refl
 module _ (Γ : Declarations) (vs : List Variable) (s : Scope) (ws : List Name) where
   -- T is a type, and x is new among the variables of the block
   var-good :
-      isFormed (form Var .operands) (form Var .tail) ws ≡ true →
+      Formed Var ws →
       isGood Γ vs s (lineWith Var ws) ≡ (isType Γ (getD ws 0 []) && isNew (getD ws 1 []) (map (λ v. v .name) (s .block .variables)))
   unfolding isGood isNew rows Grammar.opened Scopes.opened Known.allKnown Known.known Known.allTyped Known.ofClass Known.sidesAgree Known.allAssignable Known.mayBeAssigned Known.callApart Base.all Text.formulaOf
   var-good e =
@@ -65,7 +65,7 @@ module _ (Γ : Declarations) (vs : List Variable) (s : Scope) (ws : List Name) w
 
   -- T is a type, and f is new among the fields of the class
   field-good :
-      isFormed (form Field .operands) (form Field .tail) ws ≡ true →
+      Formed Field ws →
       isGood Γ vs s (lineWith Field ws) ≡ (isType Γ (getD ws 0 []) && isNew (getD ws 1 []) (s .members .fields))
   unfolding isGood isNew rows Grammar.opened Scopes.opened Known.allKnown Known.known Known.allTyped Known.ofClass Known.sidesAgree Known.allAssignable Known.mayBeAssigned Known.callApart Base.all Text.formulaOf
   field-good e =
@@ -74,7 +74,7 @@ module _ (Γ : Declarations) (vs : List Variable) (s : Scope) (ws : List Name) w
 
   -- both types are, m is new among the methods of the class, and w among the variables
   method-good :
-      isFormed (form Method .operands) (form Method .tail) ws ≡ true →
+      Formed Method ws →
       isGood Γ vs s (lineWith Method ws)
       ≡ ((isType Γ (getD ws 0 []) && isNew (getD ws 1 []) (s .members .methods))
       && (isType Γ (getD ws 2 []) && isNew (getD ws 3 []) (map (λ v. v .name) (s .block .variables))))
@@ -86,53 +86,47 @@ module _ (Γ : Declarations) (vs : List Variable) (s : Scope) (ws : List Name) w
 
 -- AS THE LINE STANDS IN THE TEXT: ws are its fields, and b is what is found of their places
 module _ (t w : List ℕ) (p : Pass) (ws : List Name) (b : Bool) where
+  abbrev Γ : Declarations
+  Γ = declarationsIn t w (p .names)
+
+  abbrev above : Scope
+  above = scopeIn t w (p .names) (p .above)
+
+  -- names of the variables of the block
+  abbrev variables : List Name
+  variables = map (λ v. v .name) (blockIn t w (p .names) .variables)
+
   abbrev pub IsGood : Kind → Type 0
-  IsGood k =
-      b ≡ isGood (declarationsIn t w (p .names)) (variablesIn t w (seenBy k (p .names))) (scopeIn t w (p .names) (p .above)) (lineWith k ws)
+  IsGood k = b ≡ isGood Γ (variablesIn t w (seenBy k (p .names))) above (lineWith k ws)
 
   module _ (g s : Span) (type : nameIn t g ≡ getD ws 0 []) (name : nameIn t s ≡ getD ws 1 []) where
-    pub var-test :
-        isFormed (form Var .operands) (form Var .tail) ws ≡ true →
-        b ≡ (isType (declarationsIn t w (p .names)) (nameIn t g) && isNew (nameIn t s) (map (λ v. v .name) (blockIn t w (p .names) .variables))) →
-        IsGood Var
+    pub var-test : Formed Var ws → b ≡ (isType Γ (nameIn t g) && isNew (nameIn t s) variables) → IsGood Var
     unfolding scopeIn
-    var-test f e =
-        e
-        ∙ ((λ j. isType (declarationsIn t w (p .names)) (type j) && isNew (name j) (map (λ v. v .name) (blockIn t w (p .names) .variables)))
-        ∙ sym (var-good _ _ _ ws f))
+    var-test f e = e ∙ ((λ j. isType Γ (type j) && isNew (name j) variables) ∙ sym (var-good _ _ _ ws f))
 
-    pub field-test :
-        isFormed (form Field .operands) (form Field .tail) ws ≡ true →
-        b
-        ≡ (isType (declarationsIn t w (p .names)) (nameIn t g) && isNew (nameIn t s) (scopeIn t w (p .names) (p .above) .members .fields)) →
-        IsGood Field
-    field-test f e =
-        e
-        ∙ ((λ j. isType (declarationsIn t w (p .names)) (type j) && isNew (name j) (scopeIn t w (p .names) (p .above) .members .fields))
-        ∙ sym (field-good _ _ _ ws f))
+    pub field-test : Formed Field ws → b ≡ (isType Γ (nameIn t g) && isNew (nameIn t s) (above .members .fields)) → IsGood Field
+    field-test f e = e ∙ ((λ j. isType Γ (type j) && isNew (name j) (above .members .fields)) ∙ sym (field-good _ _ _ ws f))
 
     -- the name of a field that passes
     pub new-field :
-        b
-        ≡ (isType (declarationsIn t w (p .names)) (nameIn t g) && isNew (nameIn t s) (scopeIn t w (p .names) (p .above) .members .fields)) →
-        b ≡ true → isNew (getD ws 1 []) (scopeIn t w (p .names) (p .above) .members .fields) ≡ true
+        b ≡ (isType Γ (nameIn t g) && isNew (nameIn t s) (above .members .fields)) → b ≡ true →
+        isNew (getD ws 1 []) (above .members .fields) ≡ true
     new-field e f =
-        ap (λ x. isNew x (scopeIn t w (p .names) (p .above) .members .fields)) (sym name)
-        ∙ both-true (isType (declarationsIn t w (p .names)) (nameIn t g)) (isNew (nameIn t s) (scopeIn t w (p .names) (p .above) .members .fields)) (sym e ∙ f) .1
+        ap (λ x. isNew x (above .members .fields)) (sym name)
+        ∙ both-true (isType Γ (nameIn t g)) (isNew (nameIn t s) (above .members .fields)) (sym e ∙ f) .1
 
   pub method-test :
-      {o : ℕ} {m : Row} (s : Span) → MethodRow t o ws m → nameIn t s ≡ getD ws 3 [] →
-      isFormed (form Method .operands) (form Method .tail) ws ≡ true →
+      {o : ℕ} {m : Row} (s : Span) → MethodRow t o ws m → nameIn t s ≡ getD ws 3 [] → Formed Method ws →
       b
-      ≡ ((isType (declarationsIn t w (p .names)) (nameIn t (m .gives)) && isNew (nameIn t (m .name)) (scopeIn t w (p .names) (p .above) .members .methods))
-      && (isType (declarationsIn t w (p .names)) (nameIn t (m .takes)) && isNew (nameIn t s) (map (λ v. v .name) (blockIn t w (p .names) .variables)))) →
+      ≡ ((isType Γ (nameIn t (m .gives)) && isNew (nameIn t (m .name)) (above .members .methods))
+      && (isType Γ (nameIn t (m .takes)) && isNew (nameIn t s) variables)) →
       IsGood Method
   unfolding scopeIn entryOf methodEntry
   method-test s x name f e =
       e
       ∙ ((λ j.
-      (isType (declarationsIn t w (p .names)) (x .is j .gives) && isNew (x .is j .name) (scopeIn t w (p .names) (p .above) .members .methods))
-      && (isType (declarationsIn t w (p .names)) (x .is j .takes) && isNew (name j) (map (λ v. v .name) (blockIn t w (p .names) .variables))))
+      (isType Γ (x .is j .gives) && isNew (x .is j .name) (above .members .methods))
+      && (isType Γ (x .is j .takes) && isNew (name j) variables))
       ∙ sym (method-good _ _ _ ws f))
 
 -- The line of the kind k, which has the number n, is tried.

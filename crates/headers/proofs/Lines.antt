@@ -250,7 +250,7 @@ module _ (t w : List ℕ) (p : Pass) (ws : List Name) (k : ℕ) (r : Ready t w p
       (field-length w k j name int (r .whole) (few .0) (few .1 .1) (few .1 .0))
 
 -- NAMES OF VARIABLES
-abbrev Formed : Kind → List Name → Type 0
+abbrev pub Formed : Kind → List Name → Type 0
 Formed k ws = Grammar.isFormed (Grammar.form k .operands) (Grammar.form k .tail) ws ≡ true
 
 pub var-names : (ws : List Name) → Formed Var ws → (isName (getD ws 0 []) ≡ true) × (isName (getD ws 1 []) ≡ true)
