@@ -40,6 +40,13 @@ module _ {t : List ℕ} {r : ℕ} {a b : Span} (x : SpanAfter t r a) (y : SpanAf
       ∙ (ap (λ ws. getD ws 0 []) (y .rest ∙ ap (drop 1) (x .rest))
       ∙ (getD-drop 1 (drop 1 (more (drop r t))) 0 [] ∙ getD-drop 1 (more (drop r t)) 1 []))
 
+  -- the field after the third
+  pub fourth : {c : Span} → SpanAfter t (b .start + b .len) c → getD (more (drop (c .start + c .len) t)) 0 [] ≡ getD (more (drop r t)) 3 []
+  fourth z =
+      ap (λ ws. getD ws 0 []) (z .rest ∙ ap (drop 1) (y .rest ∙ ap (drop 1) (x .rest)))
+      ∙ (getD-drop 1 (drop 1 (drop 1 (more (drop r t)))) 0 []
+      ∙ (getD-drop 1 (drop 1 (more (drop r t))) 1 [] ∙ getD-drop 1 (more (drop r t)) 2 []))
+
 -- FORM
 abbrev Formed : Grammar.Kind → List Name → Type 0
 Formed k ws = isFormed (form k .operands) (form k .tail) ws ≡ true

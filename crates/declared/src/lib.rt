@@ -925,6 +925,49 @@ fn is_new_member(text: &[u8], work: &[u8], from: usize, r: Range, x: &[u8]) -> b
     is_new(text, work, from + r.first, r.count, x)
 }
 
+// May a class with the members of this range have one more, of this name and of this type?
+fn may_add(
+    text: &[u8],
+    work: &[u8],
+    c: Names,
+    from: usize,
+    r: Range,
+    name: Span,
+    gives: Span,
+) -> bool
+    requires { ⌜ (length (now work) ≡ work-bytes) × Fits c × (from + r .first + r .count ≤ most-rows) ⌝ }
+    ensures { λ b. ⌜ b ≡ (isType (declarationsIn (now (text .entry)) (now (work .entry)) c) (nameIn (now (text .entry)) gives) && isNew (nameIn (now (text .entry)) name) (namesFrom (now (text .entry)) (now (work .entry)) (from + r .first) (r .count))) ⌝ }
+{
+    if is_type(text, work, c, name_in(text, gives)) {
+        return is_new_member(text, work, from, r, name_in(text, name));
+    }
+    false
+}
+
+// May the present class have a field of this name and of this type?
+pub fn may_add_field(text: &[u8], work: &[u8], c: Names, a: Above, name: Span, gives: Span) -> bool
+    requires { ⌜ (length (now work) ≡ work-bytes) × Fits c × AboveFits a ⌝ }
+    ensures { λ b. ⌜ b ≡ (isType (declarationsIn (now (text .entry)) (now (work .entry)) c) (nameIn (now (text .entry)) gives) && isNew (nameIn (now (text .entry)) name) (scopeIn (now (text .entry)) (now (work .entry)) c a .members .fields)) ⌝ }
+{
+    let r = a.fields;
+    may_add(text, work, c, FIELDS, r, name, gives)
+}
+
+// May it have the method m, with a parameter of this name?
+pub fn may_add_method(text: &[u8], work: &[u8], c: Names, a: Above, m: Row, parameter: Span) -> bool
+    requires { ⌜ (length (now work) ≡ work-bytes) × Fits c × AboveFits a ⌝ }
+    ensures { λ b. ⌜ b ≡ ((isType (declarationsIn (now (text .entry)) (now (work .entry)) c) (nameIn (now (text .entry)) (m .gives)) && isNew (nameIn (now (text .entry)) (m .name)) (scopeIn (now (text .entry)) (now (work .entry)) c a .members .methods)) && (isType (declarationsIn (now (text .entry)) (now (work .entry)) c) (nameIn (now (text .entry)) (m .takes)) && isNew (nameIn (now (text .entry)) parameter) (map (λ v. v .name) (blockIn (now (text .entry)) (now (work .entry)) c .variables)))) ⌝ }
+{
+    let r = a.methods;
+    let name = m.name;
+    let gives = m.gives;
+    let takes = m.takes;
+    if may_add(text, work, c, METHODS, r, name, gives) {
+        return may_declare(text, work, c, parameter, takes);
+    }
+    false
+}
+
 // 6: is the field w of a line, with v before it, a name that may stand there?
 pub fn known(text: &[u8], work: &[u8], c: Names, a: Above, o: Operand, v: &[u8], w: &[u8]) -> bool
     requires { ⌜ (length (now work) ≡ work-bytes) × Fits c × AboveFits a × (isOperand (operandMeant o) (now w) ≡ true) ⌝ }

@@ -7,10 +7,8 @@ use Prim.Native.Nat.{ℕ, suc, pred, _+_, _-_, _<_}
 use native.Mathlib.Omega.{arith}
 use native.Mathlib.Nat.{zero-add}
 use lib.Dec.{eqb}
-use lib.ListN.{length, getD, drop}
-use lib.Seq.{getD-drop}
+use lib.ListN.{length, getD}
 use borrow.Author.Tests.{not-true, ne-eqb, eqb-true}
-use Rattle.rules.specs.Base as Base
 use Rattle.rules.specs.Base.{Name, is, any, eqName}
 use Rattle.rules.specs.Limits.{most-classes, most-fields, most-methods, work-bytes}
 use Rattle.rules.specs.Syntax as Syntax
@@ -19,12 +17,10 @@ use Rattle.rules.specs.Grammar as Grammar
 use Rattle.rules.specs.Grammar.{Kind, Line, Class, Field, Method, Main, Var, kindNumber, isKind, isStatement}
 use Rattle.rules.specs.Scope as Scope
 use Rattle.rules.specs.Scope.{scopeAfter}
-use Rattle.rules.specs.Names as Known
 use Rattle.rules.specs.Names.{fieldNumber}
 use Rattle.rules.specs.Items.{itemOf, resolveField}
 use Rattle.rules.specs.Places.{oneMoreIf}
 use Rattle.leaves.proofs.Search.{both-true, true-false}
-use Rattle.lines.specs.Cuts.{more}
 use Rattle.lines.specs.Rows.{kindNumbered}
 use Rattle.lines.proofs.Rows.{kind-of-number}
 use Rattle.tables.specs.Layout.{most-names, lines-at}
@@ -35,10 +31,10 @@ use Rattle.declared.specs.declared.Row.{Row}
 use Rattle.declared.specs.declared.Names.{Names}
 use Rattle.declared.specs.Rows.{nameIn, entryAt, entryOf, SpanFits, nameAt, classes-first, fields-first, rowPlace, variables-first, putRow}
 use Rattle.declared.specs.Meanings.{Fits, AboveFits, namesFrom, declarationsIn, classAbove, scopeIn, blockIn, moreLocals, variableRow, putBlock}
+use Rattle.declared.specs.Answers.{isNew}
 use Rattle.declared.proofs.Searches.{rows-length}
 use Rattle.declared.proofs.Puts.{row-length, row-other, row-tables}
 use Rattle.declared.proofs.Scopes.{names-kept, scope-kept, block-put, block-declarations, block-tables, local-put, variable-row}
-use Rattle.declare.specs.Texts.{SpanAfter}
 use Rattle.declare.specs.Declares.{lineWith, MethodRow, methodEntry}
 use Rattle.assembly.specs.Flat.{Flat, flatWith, onLast}
 use Rattle.emit.specs.Puts.{putClass, putField, putMethod}
@@ -49,20 +45,10 @@ use Rattle.emit.proofs.Classes.{class-written, class-names, class-length, class
 use Rattle.emit.proofs.Methods.{method-written, method-names, method-length}
 use Rattle.emit.proofs.Header.{main-written, local-written}
 use Rattle.pass.specs.declared.Pass.{Pass}
-use Rattle.pass.specs.Passes.{counts, after, oneMore, nextRange, aboveAfter, withBlock, namesAfter, isFramed, Ready, lastClass, Stands, Tested, Room, item}
+use Rattle.pass.specs.Passes.{counts, after, oneMore, nextRange, aboveAfter, withBlock, namesAfter, isFramed, Ready, lastClass, Stands, Room, item}
 use Rattle.headers.specs.Headers.{isDeclaration, moved, Held, DeclarationPut}
 use Rattle.headers.proofs.Scopes.{block-alone, class-scope, field-scope, method-scope}
 use Rattle.headers.proofs.Fields.{last-of, last-changed, name-declared, number-new}
-
--- the fourth field of a line
-pub fourth-name :
-    {t : List ℕ} {r : ℕ} {a b c d : Span} → SpanAfter t r a → SpanAfter t (a .start + a .len) b → SpanAfter t (b .start + b .len) c →
-    SpanAfter t (c .start + c .len) d → nameIn t d ≡ getD (more (drop r t)) 3 []
-fourth-name {t} {r} x y z u =
-    u .name
-    ∙ (ap (λ ws. getD ws 0 []) (z .rest ∙ ap (drop 1) (y .rest ∙ ap (drop 1) (x .rest)))
-    ∙ (getD-drop 1 (drop 1 (drop 1 (more (drop r t)))) 0 []
-    ∙ (getD-drop 1 (drop 1 (more (drop r t))) 1 [] ∙ getD-drop 1 (more (drop r t)) 2 [])))
 
 -- ANY OF THEM
 
@@ -197,20 +183,11 @@ module _ (t w : List ℕ) (p : Pass) (F : Flat) (s : Stands t w p F) where
       }
 
 -- `field`
-new-name :
-    (t w : List ℕ) (p : Pass) (ws : List Name) → Tested t w p (lineWith Field ws) →
-    any (eqName (getD ws 1 [])) (scopeIn t w (p .names) (p .above) .members .fields) ≡ false
-unfolding Grammar.opened Scope.opened Known.allKnown Known.known Base.all
-new-name t w p [] x = true-false (sym (x .formed))
-new-name t w p (u ∷ []) x = true-false (sym (both-true (isName u) false (x .formed) .1))
-new-name t w p (u ∷ v ∷ ws) x =
-    let Γ = declarationsIn t w (p .names) in
-    let fs = scopeIn t w (p .names) (p .above) .members .fields in
-    let a = both-true (Known.isType Γ u) _ (x .known) in
-    let b = both-true (not (reserved v) && not (any (eqName v) fs)) _ (a .1) in
-    not-true _ (both-true (not (reserved v)) (not (any (eqName v) fs)) (b .0) .1)
+new-name : (x : Name) (l : List Name) → isNew x l ≡ true → any (eqName x) l ≡ false
+unfolding isNew
+new-name x l e = not-true _ (both-true (not (reserved x)) (not (any (eqName x) l)) e .1)
 
-module _ (t w : List ℕ) (p : Pass) (ws : List Name) (k : ℕ) (r : Ready t w p) (x : Tested t w p (lineWith Field ws)) (m : Room t w p (lineWith Field ws)) (h : Held w p) (last : p .above .classes ≡ suc k) where
+module _ (t w : List ℕ) (p : Pass) (ws : List Name) (k : ℕ) (r : Ready t w p) (m : Room t w p (lineWith Field ws)) (h : Held w p) (last : p .above .classes ≡ suc k) where
   abbrev name : ℕ
   name = fieldNumber (declarationsIn t w (p .names)) (getD ws 1 [])
 
@@ -227,9 +204,10 @@ module _ (t w : List ℕ) (p : Pass) (ws : List Name) (k : ℕ) (r : Ready t w p
       let c : fieldCountAt w k ≡ p .above .fields .count = ap (fieldCountAt w) (sym e) ∙ h .fields (omega (arith, last)) in
       (omega (arith, r .above .classes, last), (omega (arith, name-small, r .names .fields), omega (arith, c, m .field refl .0 .1)))
 
-  pub field-line : DeclarationPut t w p (lineWith Field ws) put (next Field p)
+  pub field-line :
+      isNew (getD ws 1 []) (scopeIn t w (p .names) (p .above) .members .fields) ≡ true → DeclarationPut t w p (lineWith Field ws) put (next Field p)
   unfolding namesAfter aboveAfter oneMore isFramed itemOf resolveField flatWith lastClass Scope.opened Grammar.opened
-  field-line =
+  field-line new =
       let j : ℕ = fieldCountAt w k in
       let few = field-fits in
       let int : Bool = is "int" (getD ws 0 []) in
@@ -254,7 +232,7 @@ module _ (t w : List ℕ) (p : Pass) (ws : List Name) (k : ℕ) (r : Ready t w p
         holds =
             field-written (counts (p .names)) w F (p .atoms) k name (suc (p .line)) int f e
             (omega (arith, ap length here, last-count t w p F s, room .0 .1)) (few .1 .0)
-            (λ q. number-new t w (p .names) (getD (F .classes) k []) _ (getD ws 1 []) same (new-name t w p ws x) name-small q f)
+            (λ q. number-new t w (p .names) (getD (F .classes) k []) _ (getD ws 1 []) same (new-name _ _ new) name-small q f)
             (s .holds);
         rows = s .rows;
         classes = n ∙ s .classes;
@@ -272,7 +250,7 @@ module _ (t w : List ℕ) (p : Pass) (ws : List Name) (k : ℕ) (r : Ready t w p
       (field-length w k j name int (r .whole) (few .0) (few .1 .1) (few .1 .0))
 
 -- NAMES OF VARIABLES
-abbrev Formed : Kind → List Name → Type 0
+abbrev pub Formed : Kind → List Name → Type 0
 Formed k ws = Grammar.isFormed (Grammar.form k .operands) (Grammar.form k .tail) ws ≡ true
 
 pub var-names : (ws : List Name) → Formed Var ws → (isName (getD ws 0 []) ≡ true) × (isName (getD ws 1 []) ≡ true)
@@ -433,15 +411,12 @@ pub line-is : {ws : List Name} {n : ℕ} (k : Kind) → n ≡ kindNumber k → l
 line-is {ws} k e = ap (λ k. lineWith k ws) (ap kindNumbered e ∙ kind-of-number k)
 
 module _ {t w : List ℕ} {p : Pass} {ws : List Name} {n : ℕ} (k : Kind) (e : n ≡ kindNumber k) where
-  pub tested-as : Tested t w p (lineWith (kindNumbered n) ws) → Tested t w p (lineWith k ws)
-  tested-as x = subst (Tested t w p) (line-is k e) x
-
   pub room-as : Room t w p (lineWith (kindNumbered n) ws) → Room t w p (lineWith k ws)
   room-as x = subst (Room t w p) (line-is k e) x
 
   pub put-as : {u : List ℕ} {q : Pass} → DeclarationPut t w p (lineWith k ws) u q → DeclarationPut t w p (lineWith (kindNumbered n) ws) u q
   put-as {u} {q} x = subst (λ l. DeclarationPut t w p l u q) (sym (line-is k e)) x
 
-pub last-kind : (n : ℕ) → isDeclaration n ≡ true → (n ≡ 1 → ⊥) → (n ≡ 2 → ⊥) → (n ≡ 3 → ⊥) → n ≡ 6
+pub last-kind : (n : ℕ) → isDeclaration n ≡ true → (n ≡ 1 → ⊥) → n ≡ 6
 unfolding isDeclaration
-last-kind n e a b c = eqb-true n 6 (rw (ne-eqb n 1 a, ne-eqb n 2 b, ne-eqb n 3 c) at e)
+last-kind n e a = eqb-true n 6 (rw (ne-eqb n 1 a) at e)

@@ -1,4 +1,4 @@
--- Lines that declare and add no statement row: `class`, `field`, `method`, `main`; and `var`, which is tried.
+-- Lines that declare and add no statement row: `class` and `main`; and `field`, `method` and `var`, which are tried.
 use mathlib.Core.Path.{_≡_}
 use mathlib.Core.Bool.{Bool, _||_}
 use mathlib.Core.List.{List}
@@ -12,9 +12,9 @@ use Rattle.declared.specs.declared.Above.{Above}
 use Rattle.pass.specs.declared.Pass.{Pass}
 use Rattle.pass.specs.Passes.{LinePut}
 
--- by the number of the kind
+-- `class` or `main`, by the number of the kind
 unfoldable pub isDeclaration : ℕ → Bool
-isDeclaration k = eqb k 1 || (eqb k 2 || (eqb k 3 || eqb k 6))
+isDeclaration k = eqb k 1 || eqb k 6
 
 -- The rows that are written fit, and the last class has as many fields as are counted. Where the tables stand, they do.
 pub record Held (w : List ℕ) (p : Pass) : Type 0 where

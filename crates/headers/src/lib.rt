@@ -6,17 +6,14 @@ use pass::Pass;
 use pass::Tried;
 ghost use mathlib.Core.Path.{_≡_};
 ghost use mathlib.Core.Bool.{true};
-ghost use mathlib.Core.List.{[]};
 ghost use Prim.Native.Nat.{_+_, _≤_, _<_};
-ghost use lib.ListN.{length, getD, drop};
+ghost use lib.ListN.{length, drop};
 ghost use Rattle.rules.specs.Limits.{work-bytes, most-bytes, most-classes};
 ghost use Rattle.rules.specs.Grammar.{Class, Field, Method, Var, form, isFormed};
 ghost use Rattle.lines.specs.Cuts.{more};
-ghost use Rattle.declared.specs.Rows.{nameIn};
 ghost use Rattle.declared.specs.Meanings.{AboveFits};
-ghost use Rattle.declare.specs.Declares.{lineWith};
 ghost use Rattle.emit.specs.Puts.{putClass};
-ghost use Rattle.pass.specs.Passes.{Ready, Tested, Room, oneMore, withBlock, aboveAfter, lineAfter, LineTried};
+ghost use Rattle.pass.specs.Passes.{Ready, Room, oneMore, withBlock, aboveAfter, lineAfter, LineTried};
 ghost use Rattle.headers.specs.Headers.{isDeclaration, Held, moved, DeclarationPut};
 
 // THE COUNTS
@@ -111,19 +108,6 @@ fn in_method(c: Names) -> Names
     }
 }
 
-// PLACES OF NAMES
-
-// The fourth field after the word that ends at r.
-fn fourth(text: &[u8], r: usize) -> Span
-    requires { ⌜ r ≤ length (now text) ⌝ }
-    ensures { λ s. ⌜ (nameIn (now (text .entry)) s ≡ getD (more (drop r (now (text .entry)))) 3 []) × (s .start + s .len ≤ length (now (text .entry))) ⌝ }
-{
-    let a = declare::span_after(text, r);
-    let b = declare::span_after(text, a.start + a.len);
-    let c = declare::span_after(text, b.start + b.len);
-    declare::span_after(text, c.start + c.len)
-}
-
 // ONE LINE: its word ends at r
 
 // `class C`: the next class. Its name stands in its row.
@@ -137,38 +121,6 @@ fn put_class(work: &mut [u8], p: Pass) -> Pass
     moved(p, names, with_class(above), p.main)
 }
 
-// `field T f`: one more field of the last class.
-fn put_field(text: &[u8], work: &mut [u8], p: Pass, r: usize) -> Pass
-    requires { ⌜ Ready (now text) (now work) p × (r ≤ length (now text)) × Tested (now text) (now work) p (lineWith Field (more (drop r (now text)))) × Room (now text) (now work) p (lineWith Field (more (drop r (now text)))) × Held (now work) p ⌝ }
-    ensures { λ q. ⌜ DeclarationPut (now (text .entry)) (now (work .entry)) p (lineWith Field (more (drop r (now (text .entry))))) (now (work .exit)) q ⌝ }
-{
-    let names = p.names;
-    let above = p.above;
-    let gives = declare::span_after(text, r);
-    let name = declare::span_after(text, gives.start + gives.len);
-    let int = declared::is_int(text, gives);
-    let f = declared::field_number(text, work, names, declared::name_in(text, name));
-    emit::put_field(work, above.classes - 1, f, int);
-    moved(p, names, with_field(above), p.main)
-}
-
-// `method T m T w`: the next method, from the next row on, and its block.
-fn put_method(text: &[u8], work: &mut [u8], p: Pass, r: usize) -> Pass
-    requires { ⌜ Ready (now text) (now work) p × (r ≤ length (now text)) × Tested (now text) (now work) p (lineWith Method (more (drop r (now text)))) × Room (now text) (now work) p (lineWith Method (more (drop r (now text)))) × Held (now work) p ⌝ }
-    ensures { λ q. ⌜ DeclarationPut (now (text .entry)) (now (work .entry)) p (lineWith Method (more (drop r (now (text .entry))))) (now (work .exit)) q ⌝ }
-{
-    let names = p.names;
-    let above = p.above;
-    let methods = above.methods;
-    let owner = above.classes - 1;
-    let class = declared::name_at(text, work, owner);
-    let m = declare::method_row(text, r, owner);
-    let parameter = fourth(text, r);
-    emit::put_method(work, after(methods), p.rows);
-    declared::put_block(text, work, class, m, parameter);
-    moved(p, in_method(names), with_method(above), p.main)
-}
-
 // `main`: its first row is the next.
 fn put_main(p: Pass) -> Pass
     requires { ⌜ p .line < most-bytes ⌝ }
@@ -179,17 +131,55 @@ fn put_main(p: Pass) -> Pass
     moved(p, names, above, p.rows)
 }
 
-// Puts the line of this kind (1 `class`, 2 `field`, 3 `method`, 6 `main`) whose word ends at r.
+// Puts the line of this kind (1 `class`, 6 `main`) whose word ends at r.
 pub fn put_declaration(text: &[u8], work: &mut [u8], p: Pass, kind: u8, r: usize) -> Pass
-    requires { ⌜ Ready (now text) (now work) p × (r ≤ length (now text)) × (isDeclaration kind ≡ true) × Tested (now text) (now work) p (lineAfter (now text) r kind) × Room (now text) (now work) p (lineAfter (now text) r kind) × Held (now work) p ⌝ }
+    requires { ⌜ Ready (now text) (now work) p × (isDeclaration kind ≡ true) × Room (now text) (now work) p (lineAfter (now text) r kind) ⌝ }
     ensures { λ q. ⌜ DeclarationPut (now (text .entry)) (now (work .entry)) p (lineAfter (now (text .entry)) r kind) (now (work .exit)) q ⌝ }
 {
     match kind {
         1 => put_class(work, p),
-        2 => put_field(text, work, p, r),
-        3 => put_method(text, work, p, r),
         _ => put_main(p),
     }
+}
+
+// `field T f` (kind 2), whose word ends at r: one more field of the last class, if T is a type and f a new name.
+pub fn put_field(text: &[u8], work: &mut [u8], p: Pass, r: usize) -> Tried
+    requires { ⌜ Ready (now text) (now work) p × (r ≤ length (now text)) × (isFormed (form Field .operands) (form Field .tail) (more (drop r (now text))) ≡ true) × Room (now text) (now work) p (lineAfter (now text) r 2) × Held (now work) p ⌝ }
+    ensures { λ q. ⌜ LineTried (now (text .entry)) (now (work .entry)) p (lineAfter (now (text .entry)) r 2) (now (work .exit)) q ⌝ }
+{
+    let names = p.names;
+    let above = p.above;
+    let gives = declare::span_after(text, r);
+    let name = declare::span_after(text, gives.start + gives.len);
+    if !declared::may_add_field(text, work, names, above, name, gives) {
+        return Tried::Bad;
+    }
+    let int = declared::is_int(text, gives);
+    let f = declared::field_number(text, work, names, declared::name_in(text, name));
+    emit::put_field(work, above.classes - 1, f, int);
+    Tried::On(moved(p, names, with_field(above), p.main))
+}
+
+// `method T m U w` (kind 3), whose word ends at r: the next method, from the next row on, and its block, if T and U are types and m and
+// w new names.
+pub fn put_method(text: &[u8], work: &mut [u8], p: Pass, r: usize) -> Tried
+    requires { ⌜ Ready (now text) (now work) p × (r ≤ length (now text)) × (isFormed (form Method .operands) (form Method .tail) (more (drop r (now text))) ≡ true) × Room (now text) (now work) p (lineAfter (now text) r 3) × Held (now work) p ⌝ }
+    ensures { λ q. ⌜ LineTried (now (text .entry)) (now (work .entry)) p (lineAfter (now (text .entry)) r 3) (now (work .exit)) q ⌝ }
+{
+    let names = p.names;
+    let above = p.above;
+    let methods = above.methods;
+    let owner = above.classes - 1;
+    let m = declare::method_row(text, r, owner);
+    let takes = m.takes;
+    let parameter = declare::span_after(text, takes.start + takes.len);
+    if !declared::may_add_method(text, work, names, above, m, parameter) {
+        return Tried::Bad;
+    }
+    let class = declared::name_at(text, work, owner);
+    emit::put_method(work, after(methods), p.rows);
+    declared::put_block(text, work, class, m, parameter);
+    Tried::On(moved(p, in_method(names), with_method(above), p.main))
 }
 
 // `var T x` (kind 7), whose word ends at r: one more local, if T is a type and x a new name.

@@ -7,7 +7,7 @@ use lib.Dec.{eqb}
 use lib.ListN.{length, getD, drop}
 use Rattle.rules.specs.Limits.{work-bytes, most-bytes, most-fields, most-locals, most-statements, most-atoms}
 use Rattle.rules.specs.Syntax.{Field, Formula, Stmt, simple, if, else, join, end}
-use Rattle.rules.specs.Grammar.{Kind, Line, form, isFormed, isKind, isStatement}
+use Rattle.rules.specs.Grammar.{Kind, Line, isKind, isStatement}
 use Rattle.rules.specs.Grammar as Grammar
 use Rattle.rules.specs.Places.{oneMoreIf}
 use Rattle.rules.specs.Scope.{Declarations, Variable, Scope, operand, scopeAfter}
@@ -160,14 +160,6 @@ module _ (t w : List ℕ) (p : Pass) (l : Line) where
   unfoldable pub isGoodHere : Bool
   isGoodHere =
       isGood (declarationsIn t w (p .names)) (variablesIn t w (seenBy (l .kind) (p .names))) (scopeIn t w (p .names) (p .above)) l
-
-  -- it has its form and passes the tests of numbers 6 and 7
-  pub record Tested : Type 0 where
-    pub formed : isFormed (form (l .kind) .operands) (form (l .kind) .tail) (l .fields) ≡ true
-    pub known :
-        allKnown (declarationsIn t w (p .names)) (variablesIn t w (seenBy (l .kind) (p .names))) (scopeIn t w (p .names) (p .above)) l
-        ≡ true
-    pub typed : allTyped (declarationsIn t w (p .names)) (variablesIn t w (seenBy (l .kind) (p .names))) l ≡ true
 
   -- there is room for what it adds, and what it declares is the next row of its kind
   pub record Room : Type 0 where

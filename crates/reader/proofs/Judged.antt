@@ -32,7 +32,7 @@ use Rattle.judge.specs.Refusals as Judges
 use Rattle.judge.specs.Refusals.{refusalIn, unlessRefused}
 use Rattle.judge.proofs.Refusals.{refuses, visible-is}
 use Rattle.pass.specs.declared.Pass.{Pass}
-use Rattle.pass.specs.Passes.{seenBy, isGood, isGoodHere, Ready, Tested, item, lineAfter}
+use Rattle.pass.specs.Passes.{seenBy, isGood, isGoodHere, Ready, item, lineAfter}
 use Rattle.reader.specs.declared.Refusal.{Refusal}
 use Rattle.reader.specs.Readings.{refusalOf, Begins, refusalHere}
 
@@ -85,15 +85,6 @@ module _ (Γ : Declarations) (vs : List Variable) (s : Scope) (l : Line) where
   -- the first of three tests that fails
   refused : Bool → Bool → Bool → Option Answers.Refusal
   refused x y z = cond x (cond y (cond z none (some Answers.wrongTarget)) (some Answers.wrongType)) (some Answers.undeclared)
-
-  good-tests : refusalIn Γ vs s l ≡ none → (allKnown Γ vs s l ≡ true) × (allTyped Γ vs l ≡ true)
-  unfolding refusalIn isNone refused
-  good-tests e = go (allKnown Γ vs s l) (allTyped Γ vs l) e
-    where
-      go : (x y : Bool) → refused x y (allAssignable vs l) ≡ none → (x ≡ true) × (y ≡ true)
-      go true true e = (refl, refl)
-      go true false e = absurd (true-false (sym (ap isNone e)))
-      go false y e = absurd (true-false (sym (ap isNone e)))
 
   good-passes : isGood Γ vs s l ≡ true → refusalIn Γ vs s l ≡ none
   unfolding refusalIn isGood refused
@@ -155,10 +146,6 @@ module _ (t w : List ℕ) (p : Pass) (l : Line) where
     none-here : j ≡ Judged.Good → refusalHere t w p l ≡ none
     unfolding Judges.refusalOf
     none-here e = sym h ∙ ap Judges.refusalOf e
-
-    pub judged-tested : isFormed (form (l .kind) .operands) (form (l .kind) .tail) (l .fields) ≡ true → j ≡ Judged.Good → Tested t w p l
-    unfolding refusalHere
-    judged-tested f e = let g = good-tests _ _ _ _ (none-here e) in record { formed = f; known = g .0; typed = g .1 }
 
     pub judged-good :
         j ≡ Judged.Good → resolveLine (declarationsIn t w (p .names)) (scopeIn t w (p .names) (p .above)) l ≡ ok (item t w p l)

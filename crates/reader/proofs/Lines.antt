@@ -8,7 +8,7 @@ use lib.Dec.{eqb, eqb·suc-zero}
 use lib.ListN.{length, drop}
 use borrow.Author.Tests.{eqb-true, eqb-false}
 use Rattle.rules.specs.Syntax.{Formula}
-use Rattle.rules.specs.Grammar.{Kind, Line, Class, Field, Method, Main, Var, kindNumber, isKind, form, isFormed}
+use Rattle.rules.specs.Grammar.{Kind, Line, Class, Main, kindNumber, isKind, form, isFormed}
 use Rattle.rules.specs.Reading.{framed, framedItem}
 use Rattle.leaves.proofs.Search.{true-false, or-false}
 use Rattle.lines.specs.Cuts.{more}
@@ -33,33 +33,28 @@ framed-number n a b = rw (number-of-kind n a b)
 -- the kinds that it is not about, by theirs
 pub declares-unframed : (k : ℕ) → isDeclaration k ≡ true → isFramed (kindNumbered k) ≡ false
 unfolding isDeclaration isFramed isKind kindNumber
-declares-unframed k e = go (eqb k 1) (eqb k 2) (eqb k 3) (eqb k 6) refl refl refl refl e
+declares-unframed k e = go (eqb k 1) (eqb k 6) refl refl e
   where
     is : (K : Kind) → k ≡ kindNumber K → isFramed K ≡ false → isFramed (kindNumbered k) ≡ false
     is K i f = ap isFramed (ap kindNumbered i ∙ kind-of-number K) ∙ f
 
-    go :
-        (x y z u : Bool) → eqb k 1 ≡ x → eqb k 2 ≡ y → eqb k 3 ≡ z → eqb k 6 ≡ u → (x || (y || (z || u))) ≡ true →
-        isFramed (kindNumbered k) ≡ false
-    go true y z u p q r s e = is Class (eqb-true k 1 p) refl
-    go false true z u p q r s e = is Field (eqb-true k 2 q) refl
-    go false false true u p q r s e = is Method (eqb-true k 3 r) refl
-    go false false false true p q r s e = is Main (eqb-true k 6 s) refl
-    go false false false false p q r s e = true-false (sym e)
+    go : (x y : Bool) → eqb k 1 ≡ x → eqb k 6 ≡ y → (x || y) ≡ true → isFramed (kindNumbered k) ≡ false
+    go true y p q e = is Class (eqb-true k 1 p) refl
+    go false true p q e = is Main (eqb-true k 6 q) refl
+    go false false p q e = true-false (sym e)
 
--- of the kinds that are no statements and no formulas of a method, one does not declare
-pub last-kind : (k : ℕ) → 1 ≤ k → k < 8 → (k ≡ 4 → ⊥) → (k ≡ 5 → ⊥) → isDeclaration k ≡ false → k ≡ 7
+-- of the kinds that are no statements, the last that is tried
+pub last-kind :
+    (k : ℕ) → 1 ≤ k → k < 8 → (k ≡ 2 → ⊥) → (k ≡ 3 → ⊥) → (k ≡ 4 → ⊥) → (k ≡ 5 → ⊥) → isDeclaration k ≡ false → k ≡ 7
 unfolding isDeclaration
-last-kind k a l m n e =
-    let x = or-false (eqb k 1) _ e in
-    let y = or-false (eqb k 2) _ (x .1) in
-    let z = or-false (eqb k 3) (eqb k 6) (y .1) in
+last-kind k a l m n o q e =
+    let x = or-false (eqb k 1) (eqb k 6) e in
     let b : 2 ≤ k = omega (arith, a, eqb-false k 1 (x .0)) in
-    let d : 3 ≤ k = omega (arith, b, eqb-false k 2 (y .0)) in
-    let f : 4 ≤ k = omega (arith, d, eqb-false k 3 (z .0)) in
-    let g : 5 ≤ k = omega (arith, f, m) in
-    let h : 6 ≤ k = omega (arith, g, n) in
-    omega (arith, h, l, eqb-false k 6 (z .1))
+    let d : 3 ≤ k = omega (arith, b, m) in
+    let f : 4 ≤ k = omega (arith, d, n) in
+    let g : 5 ≤ k = omega (arith, f, o) in
+    let h : 6 ≤ k = omega (arith, g, q) in
+    omega (arith, h, l, eqb-false k 6 (x .1))
 
 module _ {t w : List ℕ} {p : Pass} {l : Line} {w′ : List ℕ} {q : Pass} (x : LinePut t w p l w′ q) where
   -- the line's formula was tested
@@ -160,17 +155,16 @@ module _ {t w : List ℕ} {p : Pass} {l : Line} {w′ : List ℕ} {y : Tried} (x
   unfolding LineTried
   tried-bad i = subst (LineTried t w p l w′) i x
 
--- `var`, by its number
-module _ (t w : List ℕ) (p : Pass) {k : ℕ} (r : ℕ) (e : k ≡ 7) where
-  pub var-formed :
+-- a line of the kind K, by its number
+module _ (t w : List ℕ) (p : Pass) {k : ℕ} (r : ℕ) (K : Kind) (e : k ≡ kindNumber K) where
+  pub kind-formed :
       isFormed (form (lineAfter t r k .kind) .operands) (form (lineAfter t r k .kind) .tail) (lineAfter t r k .fields) ≡ true →
-      isFormed (form Var .operands) (form Var .tail) (more (drop r t)) ≡ true
-  unfolding kindNumber
-  var-formed f =
-      subst (λ (K : Kind). isFormed (form K .operands) (form K .tail) (more (drop r t)) ≡ true) (ap kindNumbered e ∙ kind-of-number Var) f
+      isFormed (form K .operands) (form K .tail) (more (drop r t)) ≡ true
+  kind-formed f =
+      subst (λ (K : Kind). isFormed (form K .operands) (form K .tail) (more (drop r t)) ≡ true) (ap kindNumbered e ∙ kind-of-number K) f
 
-  pub var-room : Room t w p (lineAfter t r k) → Room t w p (lineAfter t r 7)
-  var-room m = subst (λ (k : ℕ). Room t w p (lineAfter t r k)) e m
+  pub kind-room : Room t w p (lineAfter t r k) → Room t w p (lineAfter t r (kindNumber K))
+  kind-room m = subst (λ (k : ℕ). Room t w p (lineAfter t r k)) e m
 
 -- THE TEST, STEP BY STEP
 module _ (p : Pass) (φ : Formula ℕ) (none : p .unframed ≡ 0) (b r : Bool) (is : r ≡ b) where

@@ -21,9 +21,9 @@ ghost use Rattle.tables.specs.Decode.{atomsFrom};
 ghost use Rattle.declare.specs.Texts.{Taken};
 ghost use Rattle.declare.specs.Declares.{Declares};
 ghost use Rattle.judge.specs.Refusals as Judges;
-ghost use Rattle.headers.specs.Headers.{isDeclaration};
+ghost use Rattle.headers.specs.Headers.{isDeclaration, Held};
 ghost use Rattle.bodies.specs.Bodies.{Follows};
-ghost use Rattle.pass.specs.Passes.{firstPass, Ready, Room, isFramed, lineAfter, isGoodHere, LineTried};
+ghost use Rattle.pass.specs.Passes.{firstPass, Room, isFramed, lineAfter, isGoodHere, LineTried};
 ghost use Rattle.reader.specs.Readings.{unframedBy, withUnframed, Between, Written, Begins, refusalHere, StepIs, ResolvedIs, ReadingIs, refusalOf};
 
 // Why a text is refused.
@@ -40,16 +40,17 @@ pub enum Refusal {
 
 // ONE LINE
 
-// Puts a line of this kind, the word of which ends at r, into the tables if it is good. The kind is not `class`, `field`, `method` or
-// `main`.
+// Puts a line of this kind, the word of which ends at r, into the tables if it is good. The kind is not `class` or `main`.
 fn try_line(text: &[u8], work: &mut [u8], p: Pass, kind: u8, r: usize) -> Tried
-    requires { ⌜ Follows (now text) (now work) p kind r × ((1 ≤ kind) × (kind ≤ 18)) × (isDeclaration kind ≡ false) ⌝ }
+    requires { ⌜ Follows (now text) (now work) p kind r × ((1 ≤ kind) × (kind ≤ 18)) × (isDeclaration kind ≡ false) × Held (now work) p ⌝ }
     ensures { λ q. ⌜ LineTried (now (text .entry)) (now (work .entry)) p (lineAfter (now (text .entry)) r kind) (now (work .exit)) q ⌝ }
 {
     if 8 <= kind {
         return bodies::put_statement(text, work, p, kind, r);
     }
     match kind {
+        2 => headers::put_field(text, work, p, r),
+        3 => headers::put_method(text, work, p, r),
         4 => bodies::put_header(text, work, p, kind, r),
         5 => bodies::put_header(text, work, p, kind, r),
         _ => headers::put_var(text, work, p, r),
@@ -148,14 +149,12 @@ fn is_declaration(kind: u8) -> bool
 {
     match kind {
         1 => true,
-        2 => true,
-        3 => true,
         6 => true,
         _ => false,
     }
 }
 
-// A line `class`, `field`, `method` or `main` is judged before it is put.
+// A line `class` or `main` is judged before it is put.
 fn declare_line(text: &[u8], work: &mut [u8], w: Word, p: Pass) -> Step
     requires { ⌜ Begins (now text) (now work) p w × (isDeclaration (w .kind) ≡ true) × Room (now text) (now work) p (lineAfter (now text) (w .end) (w .kind)) × Written (now text) (now work) p ⌝ }
     ensures { λ s. ⌜ StepIs (now (text .entry)) (now (work .entry)) p (lineAfter (now (text .entry)) (w .end) (w .kind)) (now (work .exit)) s ⌝ }

@@ -3,7 +3,7 @@ use mathlib.Core.Path.{ap, _∙_}
 use Rattle.rules.specs.Text.{isName}
 use Rattle.declared.specs.Rows.{entryOf}
 use Rattle.declare.specs.Declares.{methodEntry}
-use Rattle.declare.proofs.Lines.{span-fits, second, third}
+use Rattle.declare.proofs.Lines.{span-fits, second, third, fourth}
 use borrow.Author.Needs.{needs}
 use Rattle.declare.proofs.method_row.Statement.{statement}
 use Rattle.declare.proofs.method_row.Tie as tie
@@ -39,6 +39,8 @@ returns c =
     record {
       is = λ j. record { owner = c .before .before .before .before .before .before .args .owner; name = n j; gives = x .name j; takes = m j };
       fits = record { owner = p .2; name = g; gives = f; takes = h };
+      high = z .high;
+      parameter = fourth x y z;
     }
 
 pub method-row-spec : {M : Type 1} → statement M

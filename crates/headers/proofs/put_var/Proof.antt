@@ -9,7 +9,7 @@ use Rattle.declare.proofs.Lines.{span-fits, second}
 use Rattle.pass.specs.Passes.{namesAfter, aboveAfter}
 use Rattle.headers.specs.Headers.{moved}
 use Rattle.headers.proofs.Lines.{var-names, var-line, at-end, room-as}
-use Rattle.headers.proofs.Goods.{var-on, var-bad}
+use Rattle.headers.proofs.Goods.{var-test, put-on, put-bad}
 use borrow.Author.Needs.{needs}
 use Rattle.headers.proofs.put_var.Statement.{statement}
 use Rattle.headers.proofs.put_var.Tie as tie
@@ -30,13 +30,16 @@ same-length : tie.Need-same-length
 same-length c = search needs
 
 returns : tie.Need-returns
+unfolding kindNumber
 returns c =
     let p = c .before .before .before .before .before .before .before .before .before .before .pre in
     let v = c .before .before .before .before .before .before .before .before .before .before .args in
     let x = c .before .before .before .before .before .span-after .ensures in
     let y = c .before .before .before .span-after2 .ensures in
-    var-bad (v .text .now) (v .work .now) (v .p) (v .r) (p .2) (c .before .before .before .before .before .span-after .result) (c .before .before .before .span-after2 .result) (x .name) (second x y) (c .before .may-declare .result)
-    (c .before .may-declare .ensures) (not-true _ (c .if1 .taken))
+    let is =
+    var-test (v .text .now) (v .work .now) (v .p) (more (drop (v .r) (v .text .now))) _ (c .before .before .before .before .before .span-after .result) (c .before .before .before .span-after2 .result)
+    (x .name) (second x y) (p .2) (c .before .may-declare .ensures) in
+    put-bad (v .text .now) (v .work .now) (v .p) (v .r) Var refl is (not-true _ (c .if1 .taken))
 
 put-local-requires : tie.Need-put-local-requires
 unfolding kindNumber
@@ -70,8 +73,10 @@ returns-2 c =
     let m = var-names (more (drop (v .r) t)) (p .2) in
     let g = span-fits t (c .before .before .before .before .before .before .before .before .before .before .span-after .result) (p .0 .text) (x .high) (ap isName (x .name) ∙ m .0) in
     let s = span-fits t (c .before .before .before .before .before .before .before .before .span-after2 .result) (p .0 .text) (y .high) (ap isName n ∙ m .1) in
-    var-on t (v .work .now) (v .p) (v .r) (p .2) (c .before .before .before .before .before .before .before .before .before .before .span-after .result) (c .before .before .before .before .before .before .before .before .span-after2 .result) (x .name) n (c .before .before .before .before .before .before .may-declare .result)
-    (c .before .before .before .before .before .before .may-declare .ensures) (not-false _ (c .before .before .before .before .before .if1 .left))
+    let is =
+    var-test t (v .work .now) (v .p) (more (drop (v .r) t)) _ (c .before .before .before .before .before .before .before .before .before .before .span-after .result) (c .before .before .before .before .before .before .before .before .span-after2 .result)
+    (x .name) n (p .2) (c .before .before .before .before .before .before .may-declare .ensures) in
+    put-on t (v .work .now) (v .p) (v .r) Var refl is (not-false _ (c .before .before .before .before .before .if1 .left))
     (at-end (c .before .before .before .put-local .ensures .1)
     (c .moved .ensures ∙ (λ j. moved (v .p) (c .before .before .before .put-local .ensures .0 j) (v .p .above) (v .p .main)))
     (var-line t (v .work .now) (v .p) (more (drop (v .r) t)) (c .before .before .before .before .before .before .before .before .span-after2 .result) (c .before .before .before .before .before .before .before .before .before .before .span-after .result) (p .0) (room-as Var refl (p .3)) (x .name) n s g))

@@ -2,10 +2,9 @@
 use mathlib.Core.Path.{refl}
 use Rattle.judge.specs.declared.Judged.{Judged}
 use Rattle.judge.specs.Refusals as Judges
-use Rattle.headers.proofs.Lines.{stands-held}
 use Rattle.reader.specs.declared.Refusal.{Refusal}
 use Rattle.reader.specs.Readings.{refusalOf, StepIs}
-use Rattle.reader.proofs.Judged.{bad-resolved, judged-bad, judged-tested, judged-good}
+use Rattle.reader.proofs.Judged.{bad-resolved, judged-bad, judged-good}
 use Rattle.reader.proofs.Lines.{line-declared, declares-unframed}
 use borrow.Author.Needs.{needs}
 use Rattle.reader.proofs.declare_line.Statement.{statement}
@@ -29,9 +28,7 @@ enum-told-4 c = search needs
 put-declaration-requires : tie.Need-put-declaration-requires
 put-declaration-requires c κs =
     let x = c .before .before .before .before .before .before .before .pre in
-    let p = c .before .before .before .before .before .before .before .args .p in
-    let g = judged-tested _ _ p _ (c .before .before .before .judge-line .result) (c .before .before .before .judge-line .ensures) (x .0 .formed) (c .before .enum-told4 .given .1) in
-    (x .0 .ready, x .0 .high, x .1, g, x .2, stands-held _ _ _ _ (x .3 .stands))
+    (x .0 .ready, x .1, x .2)
 
 same-length : tie.Need-same-length
 same-length c = search needs

@@ -15,15 +15,7 @@ returns-2 c = sym (rw (c .match .keys2))
 
 returns-3 : tie.Need-returns-3
 unfolding isDeclaration
-returns-3 c = sym (rw (c .match .keys3))
-
-returns-4 : tie.Need-returns-4
-unfolding isDeclaration
-returns-4 c = sym (rw (c .match .keys4))
-
-returns-5 : tie.Need-returns-5
-unfolding isDeclaration
-returns-5 c = let o = c .match .rest in sym (rw (ne-eqb _ 1 (o .0 .0 .0 .1), ne-eqb _ 2 (o .0 .0 .1), ne-eqb _ 3 (o .0 .1), ne-eqb _ 6 (o .1)))
+returns-3 c = let o = c .match .rest in sym (rw (ne-eqb _ 1 (o .0 .1), ne-eqb _ 6 (o .1)))
 
 pub is-declaration-spec : {M : Type 1} → statement M
-is-declaration-spec = tie.close (tie.spec returns returns-2 returns-3 returns-4 returns-5)
+is-declaration-spec = tie.close (tie.spec returns returns-2 returns-3)

@@ -1,5 +1,6 @@
 -- `reader::read_line` meets its contract. Assumes nothing.
 use mathlib.Core.Path.{sym, _∙_}
+use Rattle.headers.proofs.Lines.{stands-held}
 use Rattle.reader.specs.Readings.{StepIs}
 use Rattle.reader.proofs.Judged.{good-resolved, bad-resolved, refusal-kept, good-kept}
 use Rattle.reader.proofs.Lines.{follows, begins-after, tried-on, tried-bad, line-taken, between}
@@ -24,7 +25,7 @@ returns c = search needs
 try-line-requires : tie.Need-try-line-requires
 try-line-requires c κs =
     let x = c .before .before .before .before .before .pre in
-    (follows (x .0) (x .1), (x .0 .first, x .0 .last), sym (c .before .before .is-declaration .ensures) ∙ c .before .if1 .left)
+    (follows (x .0) (x .1), (x .0 .first, x .0 .last), sym (c .before .before .is-declaration .ensures) ∙ c .before .if1 .left, stands-held _ _ _ _ (x .2 .stands))
 
 enum-told : tie.Need-enum-told
 enum-told c = search needs

@@ -1,5 +1,6 @@
 -- `reader::try_line` meets its contract. Assumes nothing.
-use Rattle.reader.proofs.Lines.{last-kind, var-room, var-formed}
+use Rattle.rules.specs.Grammar.{Field, Method, Var, kindNumber}
+use Rattle.reader.proofs.Lines.{last-kind, kind-room, kind-formed}
 use borrow.Author.Needs.{needs}
 use Rattle.reader.proofs.try_line.Statement.{statement}
 use Rattle.reader.proofs.try_line.Tie as tie
@@ -13,6 +14,22 @@ same-length c = search needs
 returns : tie.Need-returns
 returns c = search needs
 
+put-field-requires : tie.Need-put-field-requires
+unfolding kindNumber
+put-field-requires c κs =
+    let x = c .before .before .before .before .before .pre in
+    let v = c .before .before .before .before .before .args in
+    let e = c .before .match .keys1 in
+    (x .0 .ready, x .0 .high, kind-formed (v .text .now) (v .work .now) (v .p) (v .r) Field e (x .0 .formed), kind-room (v .text .now) (v .work .now) (v .p) (v .r) Field e (x .0 .room), x .3)
+
+put-method-requires : tie.Need-put-method-requires
+unfolding kindNumber
+put-method-requires c κs =
+    let x = c .before .before .before .before .before .pre in
+    let v = c .before .before .before .before .before .args in
+    let e = c .before .match .keys2 in
+    (x .0 .ready, x .0 .high, kind-formed (v .text .now) (v .work .now) (v .p) (v .r) Method e (x .0 .formed), kind-room (v .text .now) (v .work .now) (v .p) (v .r) Method e (x .0 .room), x .3)
+
 put-header-requires : tie.Need-put-header-requires
 put-header-requires c κs = search needs
 
@@ -20,33 +37,46 @@ put-header-requires-2 : tie.Need-put-header-requires-2
 put-header-requires-2 c κs = search needs
 
 put-var-requires : tie.Need-put-var-requires
+unfolding kindNumber
 put-var-requires c κs =
     let x = c .before .before .before .before .before .pre in
     let v = c .before .before .before .before .before .args in
     let o = c .before .match .rest in
-    let e = last-kind _ (x .1 .0) (c .before .before .if1 .left) (o .0 .1) (o .1) (x .2) in
-    (x .0 .ready, x .0 .high, var-formed (v .text .now) (v .work .now) (v .p) (v .r) e (x .0 .formed), var-room (v .text .now) (v .work .now) (v .p) (v .r) e (x .0 .room))
+    let e = last-kind _ (x .1 .0) (c .before .before .if1 .left) (o .0 .0 .0 .1) (o .0 .0 .1) (o .0 .1) (o .1) (x .2) in
+    (x .0 .ready, x .0 .high, kind-formed (v .text .now) (v .work .now) (v .p) (v .r) Var e (x .0 .formed), kind-room (v .text .now) (v .work .now) (v .p) (v .r) Var e (x .0 .room))
 
 same-length-2 : tie.Need-same-length-2
 same-length-2 c = search needs
 
 returns-2 : tie.Need-returns-2
-returns-2 c = search needs
+returns-2 c = rw (c .before .before .before .before .match .keys1) (c .before .before .put-field .ensures)
 
 same-length-3 : tie.Need-same-length-3
 same-length-3 c = search needs
 
 returns-3 : tie.Need-returns-3
-returns-3 c = search needs
+returns-3 c = rw (c .before .before .before .before .match .keys2) (c .before .before .put-method .ensures)
 
 same-length-4 : tie.Need-same-length-4
 same-length-4 c = search needs
 
 returns-4 : tie.Need-returns-4
-returns-4 c =
+returns-4 c = search needs
+
+same-length-5 : tie.Need-same-length-5
+same-length-5 c = search needs
+
+returns-5 : tie.Need-returns-5
+returns-5 c = search needs
+
+same-length-6 : tie.Need-same-length-6
+same-length-6 c = search needs
+
+returns-6 : tie.Need-returns-6
+returns-6 c =
     let x = c .before .before .before .before .before .before .before .before .pre in
     let o = c .before .before .before .before .match .rest in
-    let e = last-kind _ (x .1 .0) (c .before .before .before .before .before .if1 .left) (o .0 .1) (o .1) (x .2) in
+    let e = last-kind _ (x .1 .0) (c .before .before .before .before .before .if1 .left) (o .0 .0 .0 .1) (o .0 .0 .1) (o .0 .1) (o .1) (x .2) in
     rw e (c .before .before .put-var .ensures)
 
 pub try-line-spec : {M : Type 1} → statement M
@@ -56,6 +86,8 @@ try-line-spec =
     put-statement-requires
     same-length
     returns
+    put-field-requires
+    put-method-requires
     put-header-requires
     put-header-requires-2
     put-var-requires
@@ -64,4 +96,8 @@ try-line-spec =
     same-length-3
     returns-3
     same-length-4
-    returns-4)
+    returns-4
+    same-length-5
+    returns-5
+    same-length-6
+    returns-6)
