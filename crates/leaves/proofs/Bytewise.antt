@@ -13,15 +13,16 @@ use lib.Dec.{eqb, ltb}
 use lib.ListN.{length, getD, drop}
 use lib.Pow.{pow-add}
 use lib.Seq.{drop-cons, drop-drop}
-use borrow.Author.Tests.{ltb-true, not-true, eq-eqb}
+use borrow.Author.Tests.{ltb-true, not-true, eq-eqb, eqb-true, eqb-false}
 use Rattle.rules.specs.Base as Base
+use Rattle.rules.specs.Base.{eqName}
 use Rattle.rules.specs.Text as Text
 use Rattle.rules.specs.Text.{upTo}
 use Rattle.leaves.specs.declared.Set.{Set}
 use Rattle.leaves.specs.declared.Set.the-variants.{LineEnd, FieldEnd, FullStop, NotLetterOrDigit}
 use Rattle.leaves.specs.Sets.{inSet}
 use Rattle.leaves.specs.Marks.{Form, it, each, and, or, xor, plus, value, formOf, littleEndian, eight}
-use Rattle.leaves.proofs.Search.{both-true, true-false, upTo-jump, upTo-more}
+use Rattle.leaves.proofs.Search.{both-true, true-false, upTo-jump, upTo-more, rest-end, same-refl, not-same}
 
 -- BYTE BY BYTE
 
@@ -165,6 +166,9 @@ no-marks j z e = subst (Zeros j) (sym e) (zero-zeros j)
 
 -- EIGHT BYTES OF A LIST
 
+eight-bytes : (l : List ℕ) (i : ℕ) → ((k : ℕ) → getD l k 0 < 256) → Bytes (eight l i)
+eight-bytes l i b = (b i, (b (i + 1), (b (i + 2), (b (i + 3), (b (i + 4), (b (i + 5), (b (i + 6), (b (i + 7), tt))))))))
+
 module _ (l : List ℕ) (i : ℕ) (h : i + 8 ≤ length l) where
   next : (j k : ℕ) → k ≡ j + 1 → j < i + 8 → drop j l ≡ getD l j 0 ∷ drop k l
   next j k e g = drop-cons l j 0 (omega arith) ∙ ap (λ n. getD l j 0 ∷ drop n l) (sym (e ∙ add-one j))
@@ -189,8 +193,52 @@ module _ (l : List ℕ) (i : ℕ) (h : i + 8 ≤ length l) where
       i + j + upTo (inSet s) (drop (i + j) l) ≡ i + upTo (inSet s) (drop i l)
   skipped b s j x z w e g m =
       let q : z ≡ value (ones 8) (littleEndian (eight l i)) (formOf s) = e ∙ ap (λ n. value 0x0101010101010101 n (formOf s)) w in
-      let c = clear s (eight l i) j (b i, (b (i + 1), (b (i + 2), (b (i + 3), (b (i + 4), (b (i + 5), (b (i + 6), (b (i + 7), tt)))))))) (omega arith) (subst (Zeros j) q m) in
+      let c = clear s (eight l i) j (eight-bytes l i b) (omega arith) (subst (Zeros j) q m) in
       let u = upTo-more (inSet s) (eight l i) (drop (i + 8) l) in
       let v : upTo (inSet s) (drop i l) ≡ upTo (inSet s) (eight l i ++ drop (i + 8) l) = ap (upTo (inSet s)) eight-is in
       let n = upTo-jump (inSet s) (drop i l) j (omega (arith, c, u, v)) in
       omega (arith, n, ap (upTo (inSet s)) (drop-drop j i l))
+
+-- WORDS OF TWO LISTS
+
+-- equal words have equal bytes
+word-bytes : (s t : List ℕ) → length s ≡ length t → Bytes s → Bytes t → littleEndian s ≡ littleEndian t → s ≡ t
+unfolding littleEndian
+word-bytes [] [] n p q e = refl
+word-bytes [] (c ∷ t) n p q e = absurd (omega arith)
+word-bytes (b ∷ s) [] n p q e = absurd (omega arith)
+word-bytes (b ∷ s) (c ∷ t) n p q e =
+    let h = p .0 in
+    let k = q .0 in
+    ap₂ _∷_ (let z : b ≡ c = omega arith in z) (word-bytes s t (omega arith) (p .1) (q .1) (omega arith))
+
+module _ (a b : List ℕ) (p : (k : ℕ) → getD a k 0 < 256) (q : (k : ℕ) → getD b k 0 < 256) (n : length a ≡ length b) where
+  -- the same eight bytes before the same rest
+  same-eight :
+      (i : ℕ) → i + 8 ≤ length a → littleEndian (eight a i) ≡ littleEndian (eight b i) → drop (i + 8) a ≡ drop (i + 8) b → drop i a ≡ drop i b
+  same-eight i h e r =
+      let w = word-bytes (eight a i) (eight b i) refl (eight-bytes a i p) (eight-bytes b i q) e in
+      eight-is a i h ∙ (ap₂ _++_ w r ∙ sym (eight-is b i (omega arith)))
+
+  -- the last eight bytes and the first eight are all the bytes of a name of 8 to 16
+  pub two-words :
+      8 ≤ length a → length a ≤ 16 → (let i = length a - 8 in littleEndian (eight a i) ≡ littleEndian (eight b i)) →
+      eqb (littleEndian (eight a 0)) (littleEndian (eight b 0)) ≡ eqName a b
+  two-words l m e = go (eqb (littleEndian (eight a 0)) (littleEndian (eight b 0))) refl
+    where
+      i : ℕ
+      i = length a - 8
+
+      last : drop i a ≡ drop i b
+      last = same-eight i (omega arith) e (rest-end a b (i + 8) (omega arith) (omega arith))
+
+      beyond : drop 8 a ≡ drop 8 b
+      beyond =
+          let z : i + (8 - i) ≡ 8 = omega arith in
+          ap (λ k. drop k a) (sym z) ∙ (sym (drop-drop (8 - i) i a) ∙ (ap (drop (8 - i)) last ∙ (drop-drop (8 - i) i b ∙ ap (λ k. drop k b) z)))
+
+      go : (x : Bool) → eqb (littleEndian (eight a 0)) (littleEndian (eight b 0)) ≡ x → x ≡ eqName a b
+      go true d =
+          let f : a ≡ b = same-eight 0 l (eqb-true _ _ d) beyond in
+          sym (ap (eqName a) (sym f) ∙ same-refl a)
+      go false d = sym (not-same a b (λ f. eqb-false _ _ d (ap (λ s. littleEndian (eight s 0)) f)))

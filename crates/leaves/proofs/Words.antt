@@ -359,13 +359,19 @@ pub kind-none : (n : ℕ) → 18 < n → kindOr0 (kindAt n) ≡ 0
 unfolding kindAt Base.opened Grammar.opened
 kind-none n h = ap kindOr0 (no-kind n kinds refl h)
 
--- reserved words have three letters and more
-pub short-reserved : (w : Name) → length w < 3 → reserved w ≡ false
+-- reserved words have three to six letters
+pub not-reserved : (w : Name) → ((3 ≤ length w) × (length w ≤ 6) → ⊥) → reserved w ≡ false
 unfolding reserved Base.is Base.bytes
-short-reserved w h = rw (other "int" (omega arith), other "null" (omega arith), other "this" (omega arith), other "result" (omega arith))
+not-reserved w h =
+    rw (
+      other "int" (omega arith, omega arith),
+      other "null" (omega arith, omega arith),
+      other "this" (omega arith, omega arith),
+      other "result" (omega arith, omega arith),
+    )
   where
-    other : (s : String) → 3 ≤ length (bytes s) → eqName (bytes s) w ≡ false
-    other s k = not-same (bytes s) w (λ e. omega (arith, k, ap length e, h))
+    other : (s : String) → (3 ≤ length (bytes s)) × (length (bytes s) ≤ 6) → eqName (bytes s) w ≡ false
+    other s k = not-same (bytes s) w (λ e. h (omega (arith, k .0, ap length e), omega (arith, k .1, ap length e)))
 
 -- the word of an atom by its first letter
 pub atom-letter :

@@ -215,12 +215,10 @@ pub fn byte_at(w: &[u8], i: usize) -> u8
 }
 
 // From the last byte to the first: names of one length differ more often in their last bytes.
-pub fn same(a: &[u8], b: &[u8]) -> bool
+fn same_bytes(a: &[u8], b: &[u8]) -> bool
+    requires { ⌜ length (now a) ≡ length (now b) ⌝ }
     ensures { λ r. ⌜ r ≡ eqName (now (a .entry)) (now (b .entry)) ⌝ }
 {
-    if a.len() != b.len() {
-        return false;
-    }
     let mut i = a.len();
     while i != 0 {
         i -= 1;
@@ -229,6 +227,34 @@ pub fn same(a: &[u8], b: &[u8]) -> bool
         }
     }
     true
+}
+
+// Names of 8 to 16 bytes: the last eight bytes, then the first eight.
+fn same_wide(a: &[u8], b: &[u8]) -> bool
+    requires { ⌜ (length (now a) ≡ length (now b)) × (8 ≤ length (now a)) × (length (now a) ≤ 16) ⌝ }
+    ensures { λ r. ⌜ r ≡ eqName (now (a .entry)) (now (b .entry)) ⌝ }
+{
+    let i = a.len() - 8;
+    if word8(a, i) != word8(b, i) {
+        return false;
+    }
+    word8(a, 0) == word8(b, 0)
+}
+
+pub fn same(a: &[u8], b: &[u8]) -> bool
+    ensures { λ r. ⌜ r ≡ eqName (now (a .entry)) (now (b .entry)) ⌝ }
+{
+    let n = a.len();
+    if n != b.len() {
+        return false;
+    }
+    if n < 8 {
+        return same_bytes(a, b);
+    }
+    if 16 < n {
+        return same_bytes(a, b);
+    }
+    same_wide(a, b)
 }
 
 // WORDS
@@ -319,11 +345,14 @@ pub fn kind_of(w: &[u8]) -> u8
     if k <= LAST_KIND { k } else { 0 }
 }
 
-// Many names are shorter than any reserved word.
+// Many names are shorter or longer than any reserved word.
 pub fn is_reserved(w: &[u8]) -> bool
     ensures { λ r. ⌜ r ≡ reserved (now (w .entry)) ⌝ }
 {
     if w.len() < 3 {
+        return false;
+    }
+    if 6 < w.len() {
         return false;
     }
     INT <= word(w)
