@@ -398,20 +398,35 @@ fn ends_field(l: &[u8], e: usize) -> bool
     true
 }
 
+// Where the letters and digits from a place on end. A mark of `name_marks` is no letter or digit, and is not tested again.
+fn name_stop(l: &[u8], at: usize) -> usize
+    requires { ⌜ at ≤ length (now l) ⌝ }
+    ensures { λ r. ⌜ Found (now (l .entry)) at Set.NotLetterOrDigit r ⌝ }
+{
+    let mut i = at;
+    while 8 <= l.len() - i {
+        let z = name_marks(word8(l, i));
+        if z != 0 {
+            return i + (u64::trailing_zeros(z) / 8) as usize;
+        }
+        i += 8;
+    }
+    find_from(l, i, Set::NotLetterOrDigit)
+}
+
 // The end of the field that starts at `at`, if that field is a name; else `at`. One scan finds both.
 pub fn name_end(l: &[u8], at: usize) -> usize
     requires { ⌜ at ≤ length (now l) ⌝ }
     ensures { λ r. ⌜ FieldIs isName (now (l .entry)) at r ⌝ }
 {
-    let e = find(l, at, Set::NotLetterOrDigit);
-    if !ends_field(l, e) {
+    if !is_letter(byte_at(l, at)) {
         return at;
     }
-    let n = e - at;
-    if begins_name(&l[at..], n) {
-        return e;
+    let e = name_stop(l, at);
+    if Machine::NAME_BYTES < e - at {
+        return at;
     }
-    at
+    if ends_field(l, e) { e } else { at }
 }
 
 // NUMBERS
