@@ -403,15 +403,15 @@ fn name_stop(l: &[u8], at: usize) -> usize
     requires { ⌜ at ≤ length (now l) ⌝ }
     ensures { λ r. ⌜ Found (now (l .entry)) at Set.NotLetterOrDigit r ⌝ }
 {
-    let mut i = at;
-    while 8 <= l.len() - i {
-        let z = name_marks(word8(l, i));
+    let mut stop = at;
+    while 8 <= l.len() - stop {
+        let z = name_marks(word8(l, stop));
         if z != 0 {
-            return i + (u64::trailing_zeros(z) / 8) as usize;
+            return stop + (u64::trailing_zeros(z) / 8) as usize;
         }
-        i += 8;
+        stop += 8;
     }
-    find_from(l, i, Set::NotLetterOrDigit)
+    find_from(l, stop, Set::NotLetterOrDigit)
 }
 
 // The end of the field that starts at `at`, if that field is a name; else `at`. One scan finds both.

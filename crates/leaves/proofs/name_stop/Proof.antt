@@ -1,4 +1,4 @@
--- The invariant: the search from i on ends where the search from `at` on does.
+-- The invariant: the search from `stop` on ends where the search from `at` on does.
 use Prim.Native.Nat.{_+_, _-_, _≤_}
 use Rattle.leaves.proofs.Bytewise.{skipped, stopped, no-marks}
 use Rattle.leaves.specs.Sets.{inSet}
@@ -12,11 +12,11 @@ use Rattle.leaves.proofs.name_stop.Statement.{statement}
 use Rattle.leaves.proofs.name_stop.Tie as tie
 
 abbrev Inv-loop : tie.InvT-loop
-Inv-loop l at i₀ i =
-    (at ≤ i) × (i ≤ length l) × (i + upTo (inSet NotLetterOrDigit) (drop i l) ≡ at + upTo (inSet NotLetterOrDigit) (drop at l))
+Inv-loop l at stop₀ stop =
+    (at ≤ stop) × (stop ≤ length l) × (stop + upTo (inSet NotLetterOrDigit) (drop stop l) ≡ at + upTo (inSet NotLetterOrDigit) (drop at l))
 
 abbrev μ-loop : tie.MeasureT-loop
-μ-loop l at i₀ i = length l - i
+μ-loop l at stop₀ stop = length l - stop
 
 loop-holds : tie.Need-loop-holds Inv-loop μ-loop
 loop-holds c = (omega arith, omega arith, refl)
@@ -40,13 +40,13 @@ returns : tie.Need-returns Inv-loop μ-loop
 returns c =
     let z = c .before .name-marks .result in
     let e =
-    stopped (c .before .before .before .before .before .before .args .l .now) (c .before .before .before .before .loop .i) (omega arith) (λ k. omega (arith, c .before .before .before .before .before .shared-slice-known .given k))
+    stopped (c .before .before .before .before .before .before .args .l .now) (c .before .before .before .before .loop .stop) (omega arith) (λ k. omega (arith, c .before .before .before .before .before .shared-slice-known .given k))
     (c .before .before .word8 .result) z (c .before .before .word8 .ensures) (c .before .name-marks .ensures) (c .if1 .taken) (omega arith) in
     let h = trailing-le 64 z in
     record { low = omega arith; high = omega arith; is = omega (arith, e, c .before .before .before .before .loop .inv .2) }
 
-add-i : tie.Need-add-i Inv-loop μ-loop
-add-i c = omega arith
+add-stop : tie.Need-add-stop Inv-loop μ-loop
+add-stop c = omega arith
 
 loop-less : tie.Need-loop-less Inv-loop μ-loop
 loop-less c = omega arith
@@ -54,7 +54,7 @@ loop-less c = omega arith
 loop-again : tie.Need-loop-again Inv-loop μ-loop
 loop-again c =
     let e =
-    skipped (c .before .before .before .before .before .before .args .l .now) (c .before .before .before .before .loop .i) (omega arith) (λ k. omega (arith, c .before .before .before .before .before .shared-slice-known .given k)) NotLetterOrDigit 8
+    skipped (c .before .before .before .before .before .before .args .l .now) (c .before .before .before .before .loop .stop) (omega arith) (λ k. omega (arith, c .before .before .before .before .before .shared-slice-known .given k)) NotLetterOrDigit 8
     (c .before .before .word8 .result) (c .before .name-marks .result) (c .before .before .word8 .ensures) (c .before .name-marks .ensures) (omega arith)
     (no-marks 8 (c .before .name-marks .result) (c .if1 .left)) in
     (omega arith, omega arith, e ∙ c .before .before .before .before .loop .inv .2)
@@ -78,7 +78,7 @@ name-stop-spec =
     cast-result
     add-result
     returns
-    add-i
+    add-stop
     loop-less
     loop-again
     find-from-requires
