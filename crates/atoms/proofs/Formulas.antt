@@ -1,19 +1,25 @@
 -- A formula as the cursor passes it: three fields are an atom, and what is written grows with it.
 use mathlib.Core.Path.{_≡_, refl, sym, ap, ap₂, subst, _∙_}
-use mathlib.Core.Bool.{Bool, true, false, _&&_}
+use mathlib.Core.Bool.{Bool, true, false, cond, _&&_, _||_}
 use mathlib.Core.List.{List, [], _∷_, _++_, map, append-nil, append-assoc}
-use Prim.Native.Nat.{ℕ, zero, suc, _+_, _≤_, _<_}
+use Prim.Native.Nat.{ℕ, zero, suc, _+_, _-_, _≤_, _<_}
+use native.Mathlib.Nat.{add-zero}
 use native.Mathlib.Omega.{arith}
-use lib.ListN.{length, getD, drop, length-append}
-use Rattle.rules.specs.Base.{Name, all}
+use lib.Dec.{eqb}
+use lib.ListN.{length, getD, take, drop, length-append, length-drop}
+use lib.Seq.{getD-take, getD-drop, length-take-le}
+use Rattle.rules.specs.Base.{Name, all, is}
 use Rattle.rules.specs.Limits.{work-bytes, most-atoms}
 use Rattle.rules.specs.Syntax.{Atom, Formula}
-use Rattle.rules.specs.Text.{isAtom, atomOf, isFormula, formulaOf}
+use Rattle.rules.specs.Text.{upTo, isRel, isAtom, atomOf, isFormula, formulaOf}
 use Rattle.rules.specs.Scope.{Declarations, Variable}
 use Rattle.rules.specs.Items.{resolveAtom}
-use Rattle.leaves.proofs.Search.{true-false}
+use Rattle.leaves.specs.Sets.{inSet, Found}
+use Rattle.leaves.specs.declared.Set.the-variants.{FieldEnd}
+use Rattle.leaves.proofs.Search.{true-false, both-true, upTo-within}
+use Rattle.leaves.proofs.Words.{atom-word-length}
 use Rattle.lines.specs.Cuts.{part, more, NextField, NextAtom}
-use Rattle.lines.proofs.Cuts.{no-more}
+use Rattle.lines.proofs.Cuts.{byte-in, no-more, some-more, fields-from}
 use Rattle.lines.proofs.Formulas.{more-on, not-none, formula-full, atom-0, atom-1, atom-2, atom-3, atom-here}
 use Rattle.tables.specs.Layout.{names-at, most-atom-rows}
 use Rattle.tables.specs.Stores.{Kept}
@@ -29,7 +35,60 @@ use Rattle.atoms.specs.declared.AtomRow.{AtomRow}
 use Rattle.atoms.specs.declared.Tried.{Tried}
 use Rattle.atoms.specs.declared.Put.{Put}
 use Rattle.atoms.specs.Good.{fitsAtom}
+use Rattle.atoms.proofs.Sides.{atom-word}
 use Rattle.atoms.specs.Written.{Resolved, AtomTried, formulaAfter, fitsAfter, Ready, AtomFollows, AtomPut, NextTried, FormulaFollows, FormulaTried}
+
+-- THE WORD OF AN ATOM
+
+-- the first field of a formula that is not empty
+first-word : (n : ℕ) (w : Name) (ws : List Name) → isFormula (suc n) (w ∷ ws) ≡ true → (is "acc" w || isRel w) ≡ true
+unfolding isFormula
+first-word n w [] e = true-false (sym e)
+first-word n w (a ∷ []) e = true-false (sym e)
+first-word n w (a ∷ b ∷ ws) e = atom-word w a b (both-true (isAtom w a b) (isFormula n ws) e .0)
+
+module _ {t : List ℕ} {r : ℕ} (f : AtomFollows t r) where
+  abbrev word-length : ℕ
+  word-length = upTo (inSet FieldEnd) (drop (r + 1) t)
+
+  in-text : r < length t
+  in-text = byte-in t r 9 (omega arith) (f .byte)
+
+  -- where the search for its end stops
+  word-found : Found t (r + 1) FieldEnd (r + 1 + word-length)
+  word-found =
+      record {
+        low = omega arith;
+        high = omega (arith, in-text, upTo-within (inSet FieldEnd) (drop (r + 1) t), length-drop (r + 1) t);
+        is = refl;
+      }
+
+  word-next : NextField t r (r + 1 + word-length)
+  word-next =
+      record {
+        low = omega arith;
+        high = word-found .high;
+        none = λ e. absurd (omega arith);
+        some = λ l. some-more t r (f .byte) ∙ fields-from t (r + 1) (r + 1 + word-length) word-found;
+      }
+
+  -- its first letter tells its length
+  word-letter : word-length ≡ cond (eqb (getD t (r + 1) 0) 97) 3 2
+  word-letter =
+      let d = drop (r + 1) t in
+      let z : r + 1 + word-length - (r + 1) ≡ word-length = omega arith in
+      let e = atom-word-length (take word-length d) (first-word (f .most) (take word-length d) _ (rw (word-next .some (omega arith), z) at (f .form))) in
+      let n : length (take word-length d) ≡ word-length = length-take-le word-length d (upTo-within (inSet FieldEnd) d) in
+      let p : 0 < word-length = omega (arith, e, n, some (eqb (getD (take word-length d) 0 0) 97)) in
+      let b : getD (take word-length d) 0 0 ≡ getD t (r + 1) 0 = getD-take word-length d 0 0 p ∙ (getD-drop (r + 1) t 0 0 ∙ ap (λ k. getD t k 0) (add-zero (r + 1))) in
+      sym n ∙ (e ∙ rw b)
+    where
+      some : (q : Bool) → 0 < cond q 3 2
+      some true = omega arith
+      some false = omega arith
+
+  pub word-ends : (e : ℕ) → e ≡ r + 1 + cond (eqb (getD t (r + 1) 0) 97) 3 2 → NextField t r e
+  word-ends e h = subst (NextField t r) (sym (h ∙ ap (λ n. r + 1 + n) (sym word-letter))) word-next
 
 -- THREE FIELDS
 module _

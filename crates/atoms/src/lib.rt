@@ -8,6 +8,7 @@ ghost use Rattle.rules.specs.Syntax.{acc, cmp};
 ghost use Rattle.rules.specs.Base.{is};
 ghost use Rattle.rules.specs.Text.{isExpr, exprOf, isRel, isAtom, atomOf};
 ghost use Rattle.leaves.specs.Words.{wordNumber};
+ghost use Rattle.lines.specs.Cuts.{NextField};
 ghost use Rattle.tables.specs.Layout.{most-atom-rows};
 ghost use Rattle.tables.specs.Decode.{relOf};
 ghost use Rattle.declared.specs.Meanings.{declarationsIn, variablesIn};
@@ -107,12 +108,24 @@ pub fn resolve_atom(text: &[u8], work: &[u8], c: Names, w: &[u8], a: &[u8], b: &
 
 // THE FORMULA OF A LINE
 
+// The end of the word of the atom after the field that ends at r, which its first letter tells.
+fn word_end(text: &[u8], r: usize) -> usize
+    requires { ⌜ AtomFollows (now text) r ⌝ }
+    ensures { λ e. ⌜ NextField (now (text .entry)) r e ⌝ }
+{
+    if leaves::byte_at(text, r + 1) == 97 {
+        r + 4
+    } else {
+        r + 3
+    }
+}
+
 // Writes the atom after the field that ends at r as the atom n, and gives its end.
 fn put_next_atom(text: &[u8], work: &mut [u8], r: usize, n: usize, c: Names) -> Put
     requires { ⌜ Ready (now text) (now work) c × AtomFollows (now text) r × (n < most-atom-rows) ⌝ }
     ensures { λ e. ⌜ NextTried (now (text .entry)) (now (work .entry)) c r n (now (work .exit)) e ⌝ }
 {
-    let x = lines::next_field(text, r);
+    let x = word_end(text, r);
     let y = lines::next_field(text, x);
     let z = lines::next_field(text, y);
     let i = r + 1;

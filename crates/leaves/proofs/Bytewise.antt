@@ -8,20 +8,21 @@ use native.Mathlib.Omega.{arith}
 use native.Mathlib.Numerals.{add-one}
 use native.Mathlib.Decide.{decLt}
 use lib.Bits.{bitAnd, bitOr, bitXor, and-block, or-block, xor-block, and-lt, or-lt, xor-lt}
-use lib.Count.{trailingZeros, under}
+use lib.Count.{trailingZeros, under, trailing-le}
 use lib.Dec.{eqb, ltb}
 use lib.ListN.{length, getD, drop}
 use lib.Pow.{pow-add}
 use lib.Seq.{drop-cons, drop-drop}
-use borrow.Author.Tests.{ltb-true, not-true, eq-eqb}
+use borrow.Author.Tests.{ltb-true, not-true, eq-eqb, ne-eqb, eqb-true, eqb-false}
 use Rattle.rules.specs.Base as Base
+use Rattle.rules.specs.Base.{eqName}
 use Rattle.rules.specs.Text as Text
 use Rattle.rules.specs.Text.{upTo}
 use Rattle.leaves.specs.declared.Set.{Set}
 use Rattle.leaves.specs.declared.Set.the-variants.{LineEnd, FieldEnd, FullStop, NotLetterOrDigit}
 use Rattle.leaves.specs.Sets.{inSet}
 use Rattle.leaves.specs.Marks.{Form, it, each, and, or, xor, plus, value, formOf, littleEndian, eight}
-use Rattle.leaves.proofs.Search.{both-true, true-false, upTo-jump, upTo-more}
+use Rattle.leaves.proofs.Search.{both-true, true-false, upTo-jump, upTo-more, rest-end, same-refl, not-same}
 
 -- BYTE BY BYTE
 
@@ -91,10 +92,11 @@ or-not : (p q : Bool) → p ≡ true → (not p || not q) ≡ true → q ≡ fal
 or-not true q d e = not-true q e
 or-not false q d e = true-false (sym d)
 
-unmarked : (s : Set) (b : ℕ) → sound s b ≡ true → value 1 b (formOf s) ≡ 0 → inSet s b ≡ false
-unmarked s b e z =
-    let q = both-true (fits b (formOf s)) (not (eqb (value 1 b (formOf s)) 0) || not (inSet s b)) e in
-    or-not (eqb (value 1 b (formOf s)) 0) (inSet s b) (eq-eqb (value 1 b (formOf s)) 0 z) (q .1)
+sound-at : (s : Set) (b : ℕ) → b < 256 → (fits b (formOf s) ≡ true) × ((not (eqb (value 1 b (formOf s)) 0) || not (inSet s b)) ≡ true)
+sound-at s b h = both-true _ _ (below-all (sound s) 256 b (sound-all s) h)
+
+unmarked : (s : Set) (b : ℕ) → b < 256 → value 1 b (formOf s) ≡ 0 → inSet s b ≡ false
+unmarked s b h z = or-not (eqb (value 1 b (formOf s)) 0) (inSet s b) (eq-eqb (value 1 b (formOf s)) 0 z) (sound-at s b h .1)
 
 -- MARKS OF A WORD
 
@@ -113,6 +115,12 @@ abbrev ones : ℕ → ℕ
 ones zero = 0
 ones (suc n) = ones n * 256 + 1
 
+-- the marks of a word are those of its first byte, below those of the rest
+word-apart : (s : Set) (b : ℕ) (t : List ℕ) → b < 256 →
+    Apart (value (ones (length (b ∷ t))) (littleEndian (b ∷ t)) (formOf s)) (value (ones (length t)) (littleEndian t) (formOf s)) (value 1 b (formOf s))
+unfolding littleEndian
+word-apart s b t h = value-apart (ones (length t)) (littleEndian t) b (formOf s) (sound-at s b h .0)
+
 -- bytes whose marks are 0 are not in the set
 clear : (s : Set) (l : List ℕ) (j : ℕ) → Bytes l → j ≤ length l →
     Zeros j (value (ones (length l)) (littleEndian l) (formOf s)) → j ≤ upTo (inSet s) l
@@ -120,13 +128,38 @@ unfolding littleEndian upTo
 clear s l zero h k z = omega arith
 clear s [] (suc j) h k z = absurd (omega arith)
 clear s (b ∷ t) (suc j) h k z =
-    let e = below-all (sound s) 256 b (sound-all s) (h .0) in
-    let f = both-true (fits b (formOf s)) (not (eqb (value 1 b (formOf s)) 0) || not (inSet s b)) e in
-    let a = value-apart (ones (length t)) (littleEndian t) b (formOf s) (f .0) in
+    let a = word-apart s b t (h .0) in
     let q : z .0 ≡ value (ones (length t)) (littleEndian t) (formOf s) = omega (arith, a .0, a .1, z .1) in
     let m : value 1 b (formOf s) ≡ 0 = omega (arith, a .0, a .1, z .1) in
     let r = clear s t j (h .1) (omega arith) (subst (Zeros j) q (z .2)) in
-    rw (unmarked s b e m) (omega arith)
+    rw (unmarked s b (h .0) m) (omega arith)
+
+-- marks of letters and digits are exact: a byte that is marked is none
+
+abbrev exact : ℕ → Bool
+exact b = eqb (value 1 b (formOf NotLetterOrDigit)) 0 || inSet NotLetterOrDigit b
+
+exact-all : allBelow exact 256 ≡ true
+unfolding Base.opened Text.opened
+exact-all = refl
+
+marked : (b : ℕ) → b < 256 → (value 1 b (formOf NotLetterOrDigit) ≡ 0 → ⊥) → inSet NotLetterOrDigit b ≡ true
+marked b h n = rw (ne-eqb (value 1 b (formOf NotLetterOrDigit)) 0 n) at (below-all exact 256 b exact-all h)
+
+-- the search ends at the first mark
+first-mark : (l t : List ℕ) (j : ℕ) → Bytes l → j < length l →
+    (let z = value (ones (length l)) (littleEndian l) (formOf NotLetterOrDigit) in Zeros j z → (Zeros (suc j) z → ⊥) → upTo (inSet NotLetterOrDigit) (l ++ t) ≡ j)
+unfolding littleEndian upTo
+first-mark [] t j h k z n = absurd (omega arith)
+first-mark (b ∷ l) t zero h k z n =
+    let a = word-apart NotLetterOrDigit b l (h .0) in
+    rw (marked b (h .0) (λ m. n (value (ones (length l)) (littleEndian l) (formOf NotLetterOrDigit), omega (arith, a .0, m), tt)))
+first-mark (b ∷ l) t (suc j) h k z n =
+    let a = word-apart NotLetterOrDigit b l (h .0) in
+    let q : z .0 ≡ value (ones (length l)) (littleEndian l) (formOf NotLetterOrDigit) = omega (arith, a .0, a .1, z .1) in
+    let m : value 1 b (formOf NotLetterOrDigit) ≡ 0 = omega (arith, a .0, a .1, z .1) in
+    let r = first-mark l t j (h .1) (omega arith) (subst (Zeros j) q (z .2)) (λ y. n (value (ones (length l)) (littleEndian l) (formOf NotLetterOrDigit), omega (arith, a .0, m), y)) in
+    rw (unmarked NotLetterOrDigit b (h .0) m) (ap suc r)
 
 -- ZEROS OF A NUMBER
 
@@ -156,6 +189,44 @@ zeros-of (suc j) t q z h e = (q * 2 ^ (t - 8), over (t - 8) (omega arith), zeros
 pub trailing-zeros : (z : ℕ) → Zeros (trailingZeros 64 z / 8) z
 trailing-zeros z = let p = trailing 64 z in zeros-of (trailingZeros 64 z / 8) (trailingZeros 64 z) (p .0) z (omega arith) (p .1)
 
+zeros-power : (j z : ℕ) → Zeros j z → (q : ℕ) × (z ≡ q * 2 ^ (j * 8))
+zeros-power zero z h = (z, sym (mul-one z))
+zeros-power (suc j) z h =
+    let r = zeros-power j (h .0) (h .2) in
+    let d : suc j * 8 ≡ j * 8 + 8 = omega arith in
+    (r .0, h .1 ∙ (ap (λ m. m * 256) (r .1) ∙ (mul-assoc (r .0) (2 ^ (j * 8)) 256 ∙ ap (λ m. r .0 * m) (sym (ap (λ m. 2 ^ m) d ∙ pow-add 2 (j * 8) 8)))))
+
+-- no more can be divided out of a number of d digits that is not 0
+most-zeros : (d m q n : ℕ) → n ≡ q * 2 ^ m → (n ≡ 0 → ⊥) → n < 2 ^ d → m ≤ trailingZeros d n
+unfolding trailingZeros
+most-zeros d zero q n e p h = omega arith
+most-zeros zero (suc m) q n e p h = absurd (p (omega arith))
+most-zeros (suc d) (suc m) q n e p h = go (q * 2 ^ m) (2 ^ d) (e ∙ (ap (λ k. q * k) (pow-suc 2 m) ∙ sym (mul-assoc q (2 ^ m) 2))) (rw pow-suc at h) (most-zeros d m q (n / 2))
+  where
+    go : (x y : ℕ) → n ≡ x * 2 → n < y * 2 → (n / 2 ≡ x → (n / 2 ≡ 0 → ⊥) → n / 2 < y → m ≤ trailingZeros d (n / 2)) →
+        suc m ≤ under (n % 2) (trailingZeros d (n / 2))
+    go x y f g r =
+        let z : n % 2 ≡ 0 = omega arith in
+        let k = r (omega arith) (λ u. p (omega arith)) (omega arith) in
+        rw z (omega arith)
+
+module _ (z : ℕ) (p : z ≡ 0 → ⊥) (h : z < 18446744073709551616) where
+  no-more-zeros : Zeros (suc (trailingZeros 64 z / 8)) z → ⊥
+  no-more-zeros y =
+      let t = trailingZeros 64 z in
+      let r = zeros-power (suc (t / 8)) z y in
+      let m = most-zeros 64 (suc (t / 8) * 8) (r .0) z (r .1) p h in
+      omega arith
+
+  few-zeros : trailingZeros 64 z < 64
+  few-zeros =
+      let t = trailingZeros 64 z in
+      let r = trailing 64 z in
+      elim (decLt t 64) [
+        | yes l ↦ l
+        | no l ↦ absurd (let e : t ≡ 64 = omega (arith, trailing-le 64 z) in let f : z ≡ r .0 * 18446744073709551616 = r .1 ∙ ap (λ m. r .0 * 2 ^ m) e in p (omega arith))
+      ]
+
 zero-zeros : (j : ℕ) → Zeros j 0
 zero-zeros zero = tt
 zero-zeros (suc j) = (0, refl, zero-zeros j)
@@ -164,6 +235,9 @@ pub no-marks : (j z : ℕ) → z ≡ 0 → Zeros j z
 no-marks j z e = subst (Zeros j) (sym e) (zero-zeros j)
 
 -- EIGHT BYTES OF A LIST
+
+eight-bytes : (l : List ℕ) (i : ℕ) → ((k : ℕ) → getD l k 0 < 256) → Bytes (eight l i)
+eight-bytes l i b = (b i, (b (i + 1), (b (i + 2), (b (i + 3), (b (i + 4), (b (i + 5), (b (i + 6), (b (i + 7), tt))))))))
 
 module _ (l : List ℕ) (i : ℕ) (h : i + 8 ≤ length l) where
   next : (j k : ℕ) → k ≡ j + 1 → j < i + 8 → drop j l ≡ getD l j 0 ∷ drop k l
@@ -189,8 +263,62 @@ module _ (l : List ℕ) (i : ℕ) (h : i + 8 ≤ length l) where
       i + j + upTo (inSet s) (drop (i + j) l) ≡ i + upTo (inSet s) (drop i l)
   skipped b s j x z w e g m =
       let q : z ≡ value (ones 8) (littleEndian (eight l i)) (formOf s) = e ∙ ap (λ n. value 0x0101010101010101 n (formOf s)) w in
-      let c = clear s (eight l i) j (b i, (b (i + 1), (b (i + 2), (b (i + 3), (b (i + 4), (b (i + 5), (b (i + 6), (b (i + 7), tt)))))))) (omega arith) (subst (Zeros j) q m) in
+      let c = clear s (eight l i) j (eight-bytes l i b) (omega arith) (subst (Zeros j) q m) in
       let u = upTo-more (inSet s) (eight l i) (drop (i + 8) l) in
       let v : upTo (inSet s) (drop i l) ≡ upTo (inSet s) (eight l i ++ drop (i + 8) l) = ap (upTo (inSet s)) eight-is in
       let n = upTo-jump (inSet s) (drop i l) j (omega (arith, c, u, v)) in
       omega (arith, n, ap (upTo (inSet s)) (drop-drop j i l))
+
+  -- the search from i on ends at the first mark
+  pub stopped : ((k : ℕ) → getD l k 0 < 256) → (x z : ℕ) → x ≡ littleEndian (eight l i) → z ≡ value 0x0101010101010101 x (formOf NotLetterOrDigit) →
+      (z ≡ 0 → ⊥) → z < 18446744073709551616 → upTo (inSet NotLetterOrDigit) (drop i l) ≡ trailingZeros 64 z / 8
+  stopped b x z w e p f =
+      let q : z ≡ value (ones 8) (littleEndian (eight l i)) (formOf NotLetterOrDigit) = e ∙ ap (λ n. value 0x0101010101010101 n (formOf NotLetterOrDigit)) w in
+      let j = trailingZeros 64 z / 8 in
+      ap (upTo (inSet NotLetterOrDigit)) eight-is
+      ∙ first-mark (eight l i) (drop (i + 8) l) j (eight-bytes l i b) (omega (arith, few-zeros z p f))
+      (subst (Zeros j) q (trailing-zeros z)) (λ y. no-more-zeros z p f (subst (Zeros (suc j)) (sym q) y))
+
+-- WORDS OF TWO LISTS
+
+-- equal words have equal bytes
+word-bytes : (s t : List ℕ) → length s ≡ length t → Bytes s → Bytes t → littleEndian s ≡ littleEndian t → s ≡ t
+unfolding littleEndian
+word-bytes [] [] n p q e = refl
+word-bytes [] (c ∷ t) n p q e = absurd (omega arith)
+word-bytes (b ∷ s) [] n p q e = absurd (omega arith)
+word-bytes (b ∷ s) (c ∷ t) n p q e =
+    let h = p .0 in
+    let k = q .0 in
+    ap₂ _∷_ (let z : b ≡ c = omega arith in z) (word-bytes s t (omega arith) (p .1) (q .1) (omega arith))
+
+module _ (a b : List ℕ) (p : (k : ℕ) → getD a k 0 < 256) (q : (k : ℕ) → getD b k 0 < 256) (n : length a ≡ length b) where
+  -- the same eight bytes before the same rest
+  same-eight :
+      (i : ℕ) → i + 8 ≤ length a → littleEndian (eight a i) ≡ littleEndian (eight b i) → drop (i + 8) a ≡ drop (i + 8) b → drop i a ≡ drop i b
+  same-eight i h e r =
+      let w = word-bytes (eight a i) (eight b i) refl (eight-bytes a i p) (eight-bytes b i q) e in
+      eight-is a i h ∙ (ap₂ _++_ w r ∙ sym (eight-is b i (omega arith)))
+
+  -- the last eight bytes and the first eight are all the bytes of a name of 8 to 16
+  pub two-words :
+      8 ≤ length a → length a ≤ 16 → (let i = length a - 8 in littleEndian (eight a i) ≡ littleEndian (eight b i)) →
+      eqb (littleEndian (eight a 0)) (littleEndian (eight b 0)) ≡ eqName a b
+  two-words l m e = go (eqb (littleEndian (eight a 0)) (littleEndian (eight b 0))) refl
+    where
+      i : ℕ
+      i = length a - 8
+
+      last : drop i a ≡ drop i b
+      last = same-eight i (omega arith) e (rest-end a b (i + 8) (omega arith) (omega arith))
+
+      beyond : drop 8 a ≡ drop 8 b
+      beyond =
+          let z : i + (8 - i) ≡ 8 = omega arith in
+          ap (λ k. drop k a) (sym z) ∙ (sym (drop-drop (8 - i) i a) ∙ (ap (drop (8 - i)) last ∙ (drop-drop (8 - i) i b ∙ ap (λ k. drop k b) z)))
+
+      go : (x : Bool) → eqb (littleEndian (eight a 0)) (littleEndian (eight b 0)) ≡ x → x ≡ eqName a b
+      go true d =
+          let f : a ≡ b = same-eight 0 l (eqb-true _ _ d) beyond in
+          sym (ap (eqName a) (sym f) ∙ same-refl a)
+      go false d = sym (not-same a b (λ f. eqb-false _ _ d (ap (λ s. littleEndian (eight s 0)) f)))

@@ -4,12 +4,13 @@ use mathlib.Core.Bool.{Bool, true, false, not, cond, _&&_, _||_}
 use mathlib.Core.List.{[], _∷_}
 use mathlib.Core.Option.{none, some}
 use Prim.Native.Nat.{ℕ, zero, suc, _+_, _-_, _≤_, _<_}
+use native.Mathlib.Nat.{add-zero}
 use native.Mathlib.Omega.{arith}
 use native.Mathlib.Decide.{decLt}
 use lib.Dec.{eqb, leb, ltb}
 use lib.ListN.{length, getD, take, drop, length-drop}
 use lib.Seq.{getD-take, getD-drop, length-take-le}
-use borrow.Author.Tests.{eqb-true, leb-false, lt-leb, lt-ltb, le-ltb, ltb-true, eq-eqb, ne-eqb, not-true, not-false}
+use borrow.Author.Tests.{eqb-true, leb-false, le-leb, lt-leb, lt-ltb, le-ltb, ltb-true, eq-eqb, ne-eqb, not-true, not-false}
 use Rattle.rules.specs.Base as Base
 use Rattle.rules.specs.Base.{Name, all, is}
 use Rattle.rules.specs.Text as Text
@@ -20,7 +21,7 @@ use Rattle.leaves.specs.declared.Set.the-variants.{FieldEnd}
 use Rattle.leaves.specs.Sets.{inSet}
 use Rattle.leaves.specs.Fields.{fieldLength, firstField, FieldIs}
 use Rattle.leaves.specs.Answers.{beginsName, whenTrue, numberIn, exprIn}
-use Rattle.leaves.proofs.Search.{true-false, and-false, or-false, upTo-within, upTo-found, upTo-passed, smaller-end, smaller-here, smaller-later, all-upTo, all-of, not-all, rest-part}
+use Rattle.leaves.proofs.Search.{true-false, and-false, or-false, upTo-within, upTo-found, upTo-passed, smaller-end, smaller-here, smaller-later, all-upTo, all-of, not-all}
 use Rattle.leaves.proofs.Numbers.{when-some, when-none}
 
 -- NAMES
@@ -225,7 +226,7 @@ module _ (l : Name) (at e : ℕ) (h : at ≤ length l) (is : e ≡ at + upTo oth
   byte-there : getD l e 0 ≡ getD (drop at l) (upTo other (drop at l)) 0
   byte-there = rw is (sym (getD-drop at l (upTo other (drop at l)) 0))
 
-  pub ended-at : (leb (length l) e || inSet FieldEnd (getD l e 0)) ≡ true → fieldLength (drop at l) ≡ upTo other (drop at l)
+  ended-at : (leb (length l) e || inSet FieldEnd (getD l e 0)) ≡ true → fieldLength (drop at l) ≡ upTo other (drop at l)
   ended-at t =
       let n = length-drop at l in
       elim (decLt e (length l)) [
@@ -233,16 +234,40 @@ module _ (l : Name) (at e : ℕ) (h : at ≤ length l) (is : e ≡ at + upTo oth
         | no q ↦ rest-length (drop at l) (omega (arith, n, is, upTo-within other (drop at l)))
       ]
 
-  pub name-at :
-      (leb (length l) e || inSet FieldEnd (getD l e 0)) ≡ true → isName (firstField (drop at l)) ≡ beginsName (e - at) (take (length l - at) (drop at l))
-  name-at t =
+  -- it is a name where it is short enough and begins with a letter
+  begins-at : beginsName (upTo other (drop at l)) (drop at l) ≡ (leb (e - at) 12 && letter (getD l at 0))
+  unfolding beginsName
+  begins-at =
       let z : e - at ≡ upTo other (drop at l) = omega (arith, is) in
-      ended-name (drop at l) (ended-at t) ∙ rw (z, rest-part l at)
+      let f : getD (drop at l) 0 0 ≡ getD l at 0 = getD-drop at l 0 0 ∙ ap (λ n. getD l n 0) (add-zero at) in rw (z, f)
+
+  name-at :
+      (leb (length l) e || inSet FieldEnd (getD l e 0)) ≡ true → isName (firstField (drop at l)) ≡ (leb (e - at) 12 && letter (getD l at 0))
+  name-at t = ended-name (drop at l) (ended-at t) ∙ begins-at
 
   pub no-name-at : (leb (length l) e || inSet FieldEnd (getD l e 0)) ≡ false → isName (firstField (drop at l)) ≡ false
   no-name-at t =
       let r = or-false (leb (length l) e) (inSet FieldEnd (getD l e 0)) t in
       not-ended (drop at l) (omega (arith, length-drop at l, is, leb-false (length l) e (r .0))) (rw (← byte-there) (r .1))
+
+  pub not-begun : (leb (e - at) 12 && letter (getD l at 0)) ≡ false → isName (firstField (drop at l)) ≡ false
+  not-begun b = go (leb (length l) e || inSet FieldEnd (getD l e 0)) refl
+    where
+      go : (q : Bool) → (leb (length l) e || inSet FieldEnd (getD l e 0)) ≡ q → isName (firstField (drop at l)) ≡ false
+      go true t = name-at t ∙ b
+      go false t = no-name-at t
+
+  pub ends-name : (leb (length l) e || inSet FieldEnd (getD l e 0)) ≡ true → e - at ≤ 12 → letter (getD l at 0) ≡ true → FieldIs isName l at e
+  ends-name t n f =
+      let i : isName (firstField (drop at l)) ≡ true = name-at t ∙ rw (le-leb (e - at) 12 n, f) in
+      record {
+        low = omega (arith, is);
+        high = omega (arith, is, length-drop at l, upTo-within other (drop at l));
+        is = rw i (is ∙ ap (λ m. at + m) (sym (ended-at t)));
+      }
+
+pub no-letter-at : (l : Name) (at : ℕ) → at ≤ length l → letter (getD l at 0) ≡ false → isName (firstField (drop at l)) ≡ false
+no-letter-at l at h e = let s = at + upTo other (drop at l) in not-begun l at s h refl (rw e (and-false (leb (s - at) 12)))
 
 -- THE FIELD AT A PLACE, BY A TEST THAT NOTHING FAILS: its end is not its start
 -- what is cut out up to a field's end is that field
@@ -257,6 +282,9 @@ no-name = refl
 pub no-expr : isExpr [] ≡ false
 unfolding isExpr Text.opened Base.opened
 no-expr = refl
+
+pub no-field : (p : Name → Bool) (l : Name) (at : ℕ) → at ≤ length l → p (firstField (drop at l)) ≡ false → FieldIs p l at at
+no-field p l at h e = record { low = omega arith; high = h; is = rw e }
 
 module _ (p : Name → Bool) (no-bytes : p [] ≡ false) where
   fits-case :

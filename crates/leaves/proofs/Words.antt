@@ -359,28 +359,44 @@ pub kind-none : (n : ℕ) → 18 < n → kindOr0 (kindAt n) ≡ 0
 unfolding kindAt Base.opened Grammar.opened
 kind-none n h = ap kindOr0 (no-kind n kinds refl h)
 
--- reserved words have three letters and more
-pub short-reserved : (w : Name) → length w < 3 → reserved w ≡ false
+-- reserved words have three to six letters
+pub not-reserved : (w : Name) → ((3 ≤ length w) × (length w ≤ 6) → ⊥) → reserved w ≡ false
 unfolding reserved Base.is Base.bytes
-short-reserved w h = rw (other "int" (omega arith), other "null" (omega arith), other "this" (omega arith), other "result" (omega arith))
+not-reserved w h =
+    rw (
+      other "int" (omega arith, omega arith),
+      other "null" (omega arith, omega arith),
+      other "this" (omega arith, omega arith),
+      other "result" (omega arith, omega arith),
+    )
   where
-    other : (s : String) → 3 ≤ length (bytes s) → eqName (bytes s) w ≡ false
-    other s k = not-same (bytes s) w (λ e. omega (arith, k, ap length e, h))
+    other : (s : String) → (3 ≤ length (bytes s)) × (length (bytes s) ≤ 6) → eqName (bytes s) w ≡ false
+    other s k = not-same (bytes s) w (λ e. h (omega (arith, k .0, ap length e), omega (arith, k .1, ap length e)))
 
--- the word of an atom by its first letter
+-- what holds of `acc`, `eq` and `ne` holds of the word of an atom
+of-atom-word : (P : Name → Type 0) → P (bytes "acc") → P (bytes "eq") → P (bytes "ne") → (w : Name) → (is "acc" w || isRel w) ≡ true → P w
+unfolding isRel is
+of-atom-word P a b c w e = go (is "acc" w) (is "eq" w) (is "ne" w) refl refl refl e
+  where
+    told : (s : String) → P (bytes s) → is s w ≡ true → P w
+    told s x i = subst P (same-is (bytes s) w i) x
+
+    go : (x y z : Bool) → is "acc" w ≡ x → is "eq" w ≡ y → is "ne" w ≡ z → (x || (y || z)) ≡ true → P w
+    go true y z p q r e = told "acc" a p
+    go false true z p q r e = told "eq" b q
+    go false false true p q r e = told "ne" c r
+    go false false false p q r e = true-false (sym e)
+
+-- its number and its length by its first letter
 pub atom-letter :
     (w : Name) → (is "acc" w || isRel w) ≡ true →
     ((getD w 0 0 ≡ 97) × (wordNumber w ≡ 19)) ⊎ (((getD w 0 0 ≡ 101) × (wordNumber w ≡ 20)) ⊎ ((getD w 0 0 ≡ 110) × (wordNumber w ≡ 21)))
-unfolding isRel Words.opened Base.opened
-atom-letter w e = go (is "acc" w) (is "eq" w) (is "ne" w) refl refl refl e
-  where
-    told : (s : String) (b k : ℕ) → (getD (bytes s) 0 0 ≡ b) × (wordNumber (bytes s) ≡ k) → is s w ≡ true → (getD w 0 0 ≡ b) × (wordNumber w ≡ k)
-    told s b k x i = subst (λ (w : Name). (getD w 0 0 ≡ b) × (wordNumber w ≡ k)) (same-is (bytes s) w i) x
+unfolding Words.opened Base.opened
+atom-letter =
+    of-atom-word
+    (λ w. ((getD w 0 0 ≡ 97) × (wordNumber w ≡ 19)) ⊎ (((getD w 0 0 ≡ 101) × (wordNumber w ≡ 20)) ⊎ ((getD w 0 0 ≡ 110) × (wordNumber w ≡ 21))))
+    (inl (refl, refl)) (inr (inl (refl, refl))) (inr (inr (refl, refl)))
 
-    go :
-        (x y z : Bool) → is "acc" w ≡ x → is "eq" w ≡ y → is "ne" w ≡ z → (x || (y || z)) ≡ true →
-        ((getD w 0 0 ≡ 97) × (wordNumber w ≡ 19)) ⊎ (((getD w 0 0 ≡ 101) × (wordNumber w ≡ 20)) ⊎ ((getD w 0 0 ≡ 110) × (wordNumber w ≡ 21)))
-    go true y z p q r e = inl (told "acc" 97 19 (refl, refl) p)
-    go false true z p q r e = inr (inl (told "eq" 101 20 (refl, refl) q))
-    go false false true p q r e = inr (inr (told "ne" 110 21 (refl, refl) r))
-    go false false false p q r e = true-false (sym e)
+pub atom-word-length : (w : Name) → (is "acc" w || isRel w) ≡ true → length w ≡ cond (eqb (getD w 0 0) 97) 3 2
+unfolding Base.opened
+atom-word-length = of-atom-word (λ w. length w ≡ cond (eqb (getD w 0 0) 97) 3 2) refl refl refl

@@ -215,12 +215,10 @@ pub fn byte_at(w: &[u8], i: usize) -> u8
 }
 
 // From the last byte to the first: names of one length differ more often in their last bytes.
-pub fn same(a: &[u8], b: &[u8]) -> bool
+fn same_bytes(a: &[u8], b: &[u8]) -> bool
+    requires { ⌜ length (now a) ≡ length (now b) ⌝ }
     ensures { λ r. ⌜ r ≡ eqName (now (a .entry)) (now (b .entry)) ⌝ }
 {
-    if a.len() != b.len() {
-        return false;
-    }
     let mut i = a.len();
     while i != 0 {
         i -= 1;
@@ -229,6 +227,34 @@ pub fn same(a: &[u8], b: &[u8]) -> bool
         }
     }
     true
+}
+
+// Names of 8 to 16 bytes: the last eight bytes, then the first eight.
+fn same_wide(a: &[u8], b: &[u8]) -> bool
+    requires { ⌜ (length (now a) ≡ length (now b)) × (8 ≤ length (now a)) × (length (now a) ≤ 16) ⌝ }
+    ensures { λ r. ⌜ r ≡ eqName (now (a .entry)) (now (b .entry)) ⌝ }
+{
+    let i = a.len() - 8;
+    if word8(a, i) != word8(b, i) {
+        return false;
+    }
+    word8(a, 0) == word8(b, 0)
+}
+
+pub fn same(a: &[u8], b: &[u8]) -> bool
+    ensures { λ r. ⌜ r ≡ eqName (now (a .entry)) (now (b .entry)) ⌝ }
+{
+    let n = a.len();
+    if n != b.len() {
+        return false;
+    }
+    if n < 8 {
+        return same_bytes(a, b);
+    }
+    if 16 < n {
+        return same_bytes(a, b);
+    }
+    same_wide(a, b)
 }
 
 // WORDS
@@ -319,11 +345,14 @@ pub fn kind_of(w: &[u8]) -> u8
     if k <= LAST_KIND { k } else { 0 }
 }
 
-// Many names are shorter than any reserved word.
+// Many names are shorter or longer than any reserved word.
 pub fn is_reserved(w: &[u8]) -> bool
     ensures { λ r. ⌜ r ≡ reserved (now (w .entry)) ⌝ }
 {
     if w.len() < 3 {
+        return false;
+    }
+    if 6 < w.len() {
         return false;
     }
     INT <= word(w)
@@ -369,20 +398,35 @@ fn ends_field(l: &[u8], e: usize) -> bool
     true
 }
 
+// Where the letters and digits from a place on end. A mark of `name_marks` is no letter or digit, and is not tested again.
+fn name_stop(l: &[u8], at: usize) -> usize
+    requires { ⌜ at ≤ length (now l) ⌝ }
+    ensures { λ r. ⌜ Found (now (l .entry)) at Set.NotLetterOrDigit r ⌝ }
+{
+    let mut stop = at;
+    while 8 <= l.len() - stop {
+        let z = name_marks(word8(l, stop));
+        if z != 0 {
+            return stop + (u64::trailing_zeros(z) / 8) as usize;
+        }
+        stop += 8;
+    }
+    find_from(l, stop, Set::NotLetterOrDigit)
+}
+
 // The end of the field that starts at `at`, if that field is a name; else `at`. One scan finds both.
 pub fn name_end(l: &[u8], at: usize) -> usize
     requires { ⌜ at ≤ length (now l) ⌝ }
     ensures { λ r. ⌜ FieldIs isName (now (l .entry)) at r ⌝ }
 {
-    let e = find(l, at, Set::NotLetterOrDigit);
-    if !ends_field(l, e) {
+    if !is_letter(byte_at(l, at)) {
         return at;
     }
-    let n = e - at;
-    if begins_name(&l[at..], n) {
-        return e;
+    let e = name_stop(l, at);
+    if Machine::NAME_BYTES < e - at {
+        return at;
     }
-    at
+    if ends_field(l, e) { e } else { at }
 }
 
 // NUMBERS

@@ -1,21 +1,21 @@
 -- Laws of places: the numbers of a place stand for what the rules say of it.
 use mathlib.Core.Path.{_≡_, refl, sym, _∙_}
-use mathlib.Core.Bool.{Bool, true, false, cond}
+use mathlib.Core.Bool.{Bool, true, false, cond, _&&_, and-true}
 use mathlib.Core.List.{List, [], _∷_}
-use Prim.Native.Nat.{ℕ, _+_, _*_, _/_, _%_, _≤_, _<_}
+use Prim.Native.Nat.{ℕ, zero, suc, _+_, _*_, _/_, _%_, _≤_, _<_}
 use native.Mathlib.Omega.{arith}
 use lib.Dec.{eqb, leb, ltb}
 use lib.ListN.{length}
-use borrow.Author.Tests.{eq-eqb, ne-eqb, eqb-true, eqb-false, lt-ltb, le-ltb, lt-leb, leb-true, ltb-true}
+use borrow.Author.Tests.{eq-eqb, ne-eqb, eqb-true, eqb-false, lt-ltb, le-ltb, le-leb, lt-leb, leb-true, ltb-true}
 use Rattle.rules.specs.Grammar.{Kind, form, kindNumber, isKind, isStatement, afterMain, afterMethod}
 use Rattle.rules.specs.Grammar.{Class, Field, Method, Main, Var, Return, If, Else, Join, End}
 use Rattle.rules.specs.Places as Places
-use Rattle.rules.specs.Places.{Branch, beforeElse, afterElse, stageNumber, mayElse, mayJoin, mayEnd, outer}
+use Rattle.rules.specs.Places.{Branch, beforeElse, afterElse, stageNumber, oneMoreIf, mayElse, mayJoin, mayEnd, outer}
 use Rattle.leaves.proofs.Search.{both-true}
 use Rattle.lines.specs.declared.Place.{Place}
 use Rattle.lines.specs.Rows.{kindNumbered}
 use Rattle.lines.specs.Coded.{branchNumber, branchesNumber, coded, fits, inPlace}
-use Rattle.lines.specs.Coded.{stageAfter, branchesAfter, placeAfter, withinLimits}
+use Rattle.lines.specs.Coded.{stageAfter, branchesAfter, placeAfter, withinLimits, AfterWithin}
 use Rattle.lines.proofs.Rows.{number-of-kind}
 
 eqb-sym : (a b : ℕ) → eqb a b ≡ eqb b a
@@ -143,3 +143,68 @@ low s e0 =
       statements = leb-true _ _ (e5 .0);
       branches = ltb-true _ _ (e5 .1);
     }
+
+-- Is what a line of kind k, no statement, counts within its limit?
+unfoldable pub counted : ℕ → Place → Bool
+counted k q =
+    cond (eqb k 1) (leb (q .classes) 16)
+    (cond (eqb k 2) (leb (q .fields) 8)
+    (cond (eqb k 3) (leb (q .methods) 64)
+    (cond (eqb k 7) (leb (q .locals) 12)
+    true)))
+
+-- the limits are kept after a line if what it counts is within its limit
+module _ (s : Place) (b : Low s) where
+  classes-kept : leb (s .classes) 16 ≡ true
+  classes-kept = le-leb (s .classes) 16 (b .classes)
+
+  fields-kept : leb (s .fields) 8 ≡ true
+  fields-kept = le-leb (s .fields) 8 (b .fields)
+
+  methods-kept : leb (s .methods) 64 ≡ true
+  methods-kept = le-leb (s .methods) 64 (b .methods)
+
+  locals-kept : leb (s .locals) 12 ≡ true
+  locals-kept = le-leb (s .locals) 12 (b .locals)
+
+  statements-kept : leb (s .statements) 256 ≡ true
+  statements-kept = le-leb (s .statements) 256 (b .statements)
+
+  branches-kept : ltb (s .branches) 256 ≡ true
+  branches-kept = lt-ltb (s .branches) 256 (b .branches)
+
+  ruleset kept = (classes-kept, fields-kept, methods-kept, locals-kept, statements-kept, branches-kept, and-true)
+
+  early : (k : ℕ) → k < 8 → withinLimits (placeAfter k s) ≡ counted k (placeAfter k s)
+  unfolding withinLimits placeAfter branchesAfter counted oneMoreIf
+  early zero h = simp kept
+  early (suc zero) h = simp kept
+  early (suc (suc zero)) h = simp kept
+  early (suc (suc (suc zero))) h = simp kept
+  early (suc (suc (suc (suc zero)))) h = simp kept
+  early (suc (suc (suc (suc (suc zero))))) h = simp kept
+  early (suc (suc (suc (suc (suc (suc zero)))))) h = simp kept
+  early (suc (suc (suc (suc (suc (suc (suc zero))))))) h = simp kept
+  early (suc (suc (suc (suc (suc (suc (suc (suc n)))))))) h = absurd (omega arith)
+
+  statement : (k : ℕ) → 8 ≤ k → let q = placeAfter k s in withinLimits q ≡ (leb (q .statements) 256 && ltb (q .branches) 256)
+  unfolding withinLimits placeAfter oneMoreIf
+  statement k h =
+      rw (
+        ne-eqb k 1 (λ e. omega arith),
+        ne-eqb k 2 (λ e. omega arith),
+        ne-eqb k 3 (λ e. omega arith),
+        ne-eqb k 6 (λ e. omega arith),
+        ne-eqb k 7 (λ e. omega arith),
+        classes-kept,
+        fields-kept,
+        methods-kept,
+        locals-kept,
+      )
+
+module _ (k : ℕ) (q : Place) (a : AfterWithin k q) where
+  pub counts : k < 8 → withinLimits q ≡ counted k q
+  counts h = rw (a .after) (early (a .place) (low (a .place) (a .within)) k h)
+
+  pub counts-statement : 8 ≤ k → withinLimits q ≡ (leb (q .statements) 256 && ltb (q .branches) 256)
+  counts-statement h = rw (a .after) (statement (a .place) (low (a .place) (a .within)) k h)

@@ -1,4 +1,5 @@
 -- Places as the code has them. Each definition is that of the rules' `Places`, over numbers.
+use mathlib.Core.Path.{_≡_}
 use mathlib.Core.Bool.{Bool, true, not, cond, _&&_, _||_}
 use mathlib.Core.List.{List, [], _∷_}
 use Prim.Native.Nat.{ℕ, _+_, _*_, _/_, _%_}
@@ -50,6 +51,20 @@ stageAfter k main next = cond (eqb k 18) (cond main 7 2) next
 unfoldable pub branchesAfter : ℕ → ℕ → ℕ
 branchesAfter k n = cond (eqb k 15) (1 + 4 * n) (cond (eqb k 16) (2 + 4 * (n / 4)) (cond (eqb k 17) (n / 4) n))
 
+-- the same place at another stage
+unfoldable pub atStage : ℕ → Place → Place
+atStage n s =
+    record {
+      stage = n;
+      main = s .main;
+      branches = s .branches;
+      classes = s .classes;
+      fields = s .fields;
+      methods = s .methods;
+      locals = s .locals;
+      statements = s .statements;
+    }
+
 unfoldable pub placeAfter : ℕ → Place → Place
 placeAfter k s =
     record {
@@ -71,7 +86,13 @@ withinLimits s =
     && (leb (s .locals) most-locals
     && (leb (s .statements) most-statements && ltb (s .branches) 256))))
 
+-- q is the place after a line of kind k, at a place that is within the limits
+pub record AfterWithin (k : ℕ) (q : Place) : Type 0 where
+  pub place : Place
+  pub after : q ≡ placeAfter k place
+  pub within : withinLimits place ≡ true
+
 -- Everything above computes where this unfolds.
 unfoldable pub opened : Unit {0}
-unfolding branchNumber branchesNumber coded fits inPlace stageAfter branchesAfter placeAfter withinLimits
+unfolding branchNumber branchesNumber coded fits inPlace stageAfter branchesAfter atStage placeAfter withinLimits
 opened = tt

@@ -2,17 +2,17 @@ use leaves::Set;
 use rules::Machine;
 use tables::Layout;
 ghost use mathlib.Core.Path.{_≡_};
-ghost use mathlib.Core.Bool.{Bool, true, cond, _||_};
+ghost use mathlib.Core.Bool.{Bool, true};
 ghost use Prim.Native.Nat.{_*_, _≤_, _<_};
 ghost use lib.ListN.{length, drop};
-ghost use Rattle.rules.specs.Limits.{most-bytes, work-bytes};
+ghost use Rattle.rules.specs.Limits.{most-bytes, work-bytes, most-classes, most-fields, most-methods, most-locals};
 ghost use Rattle.rules.specs.Text.{isFormula, isCondition};
 ghost use Rattle.rules.specs.Grammar.{form, isFormed};
-ghost use Rattle.rules.specs.Places.{firstPlace, oneMoreIf};
+ghost use Rattle.rules.specs.Places.{firstPlace, stageNumber};
 ghost use Rattle.leaves.specs.Sets.{Found};
 ghost use Rattle.lines.specs.Cuts.{more, NextField, NextAtom};
 ghost use Rattle.lines.specs.Rows.{kindNumbered, rowOf, rowNumber, fitsOperand, fitsTail};
-ghost use Rattle.lines.specs.Coded.{coded, fits, inPlace, stageAfter, branchesAfter, placeAfter, withinLimits};
+ghost use Rattle.lines.specs.Coded.{coded, fits, inPlace, stageAfter, branchesAfter, atStage, placeAfter, withinLimits, AfterWithin};
 ghost use Rattle.lines.specs.Scans.{answerOf, nextPlace, PlacesLine, ScansLine, verdictOf, scanText};
 ghost use Rattle.lines.specs.Table.{FormedWord, most-lines, wordIn, putLine, NotesLine, TableOf};
 
@@ -310,23 +310,123 @@ fn branches_after(kind: u8, n: usize) -> usize
     }
 }
 
-fn one_more_if(b: bool, n: usize) -> usize
-    requires { ⌜ n ≤ 256 ⌝ }
-    ensures { λ r. ⌜ r ≡ oneMoreIf b n ⌝ }
+// One class more, with no field yet.
+fn with_class(p: Place, stage: u32) -> Place
+    requires { ⌜ p .classes ≤ most-classes ⌝ }
+    ensures { λ r. ⌜ r ≡ atStage stage (placeAfter 1 p) ⌝ }
 {
-    if b { n + 1 } else { n }
+    Place {
+        stage,
+        main: p.main,
+        branches: p.branches,
+        classes: p.classes + 1,
+        fields: 0,
+        methods: p.methods,
+        locals: p.locals,
+        statements: p.statements,
+    }
 }
 
-fn zero_if(b: bool, n: usize) -> usize
-    ensures { λ r. ⌜ r ≡ cond b 0 n ⌝ }
+// One field more.
+fn with_field(p: Place, stage: u32) -> Place
+    requires { ⌜ p .fields ≤ most-fields ⌝ }
+    ensures { λ r. ⌜ r ≡ atStage stage (placeAfter 2 p) ⌝ }
 {
-    if b { 0 } else { n }
+    Place {
+        stage,
+        main: p.main,
+        branches: p.branches,
+        classes: p.classes,
+        fields: p.fields + 1,
+        methods: p.methods,
+        locals: p.locals,
+        statements: p.statements,
+    }
 }
 
-fn or(a: bool, b: bool) -> bool
-    ensures { λ r. ⌜ r ≡ (a || b) ⌝ }
+// One method more, with no local yet.
+fn with_method(p: Place, stage: u32) -> Place
+    requires { ⌜ p .methods ≤ most-methods ⌝ }
+    ensures { λ r. ⌜ r ≡ atStage stage (placeAfter 3 p) ⌝ }
 {
-    if a { true } else { b }
+    Place {
+        stage,
+        main: p.main,
+        branches: p.branches,
+        classes: p.classes,
+        fields: p.fields,
+        methods: p.methods + 1,
+        locals: 0,
+        statements: p.statements,
+    }
+}
+
+// The same place at another stage.
+fn with_stage(p: Place, stage: u32) -> Place
+    ensures { λ r. ⌜ r ≡ atStage stage p ⌝ }
+{
+    Place {
+        stage,
+        main: p.main,
+        branches: p.branches,
+        classes: p.classes,
+        fields: p.fields,
+        methods: p.methods,
+        locals: p.locals,
+        statements: p.statements,
+    }
+}
+
+// `main`, with no local yet.
+fn with_main(p: Place, stage: u32) -> Place
+    ensures { λ r. ⌜ r ≡ atStage stage (placeAfter 6 p) ⌝ }
+{
+    Place {
+        stage,
+        main: true,
+        branches: p.branches,
+        classes: p.classes,
+        fields: p.fields,
+        methods: p.methods,
+        locals: 0,
+        statements: p.statements,
+    }
+}
+
+// One local more.
+fn with_local(p: Place, stage: u32) -> Place
+    requires { ⌜ p .locals ≤ most-locals ⌝ }
+    ensures { λ r. ⌜ r ≡ atStage stage (placeAfter 7 p) ⌝ }
+{
+    Place {
+        stage,
+        main: p.main,
+        branches: p.branches,
+        classes: p.classes,
+        fields: p.fields,
+        methods: p.methods,
+        locals: p.locals + 1,
+        statements: p.statements,
+    }
+}
+
+// One statement more, which may open or close a branch or end the body.
+fn with_statement(p: Place, kind: u8, next: u32) -> Place
+    requires { ⌜ (8 ≤ kind) × (next ≡ stageNumber (form (kindNumbered kind) .next)) × (withinLimits p ≡ true) ⌝ }
+    ensures { λ r. ⌜ r ≡ placeAfter kind p ⌝ }
+{
+    let stage = stage_after(kind, p.main, next);
+    let branches = branches_after(kind, p.branches);
+    Place {
+        stage,
+        main: p.main,
+        branches,
+        classes: p.classes,
+        fields: p.fields,
+        methods: p.methods,
+        locals: p.locals,
+        statements: p.statements + 1,
+    }
 }
 
 pub fn place_after(kind: u8, p: Place) -> Place
@@ -334,47 +434,38 @@ pub fn place_after(kind: u8, p: Place) -> Place
     ensures { λ r. ⌜ r ≡ placeAfter kind p ⌝ }
 {
     let row = row_of(kind);
-    let stage = stage_after(kind, p.main, row.next);
-    let main = or(kind == 6, p.main);
-    let branches = branches_after(kind, p.branches);
-    let classes = one_more_if(kind == 1, p.classes);
-    let more_fields = one_more_if(kind == 2, p.fields);
-    let fields = zero_if(kind == 1, more_fields);
-    let methods = one_more_if(kind == 3, p.methods);
-    let more_locals = one_more_if(kind == 7, p.locals);
-    let locals = zero_if(or(kind == 3, kind == 6), more_locals);
-    let statements = one_more_if(8 <= kind, p.statements);
-    Place {
-        stage,
-        main,
-        branches,
-        classes,
-        fields,
-        methods,
-        locals,
-        statements,
+    match kind {
+        1 => with_class(p, row.next),
+        2 => with_field(p, row.next),
+        3 => with_method(p, row.next),
+        4 => with_stage(p, row.next),
+        5 => with_stage(p, row.next),
+        6 => with_main(p, row.next),
+        7 => with_local(p, row.next),
+        _ => with_statement(p, kind, row.next),
     }
 }
 
-fn is_within_limits(p: Place) -> bool
-    ensures { λ r. ⌜ r ≡ withinLimits p ⌝ }
+// Is the place after a line of this kind within the limits? Only what the line counts can have passed its limit.
+fn is_within(q: Place, kind: u8) -> bool
+    requires { ⌜ (1 ≤ kind) × AfterWithin kind q ⌝ }
+    ensures { λ r. ⌜ r ≡ withinLimits q ⌝ }
 {
-    if Machine::CLASSES < p.classes {
-        return false;
+    match kind {
+        1 => q.classes <= Machine::CLASSES,
+        2 => q.fields <= Machine::CLASS_FIELDS,
+        3 => q.methods <= Machine::METHODS,
+        4 => true,
+        5 => true,
+        6 => true,
+        7 => q.locals <= Machine::LOCALS,
+        _ => {
+            if Machine::STATEMENTS < q.statements {
+                return false;
+            }
+            q.branches < 256
+        }
     }
-    if Machine::CLASS_FIELDS < p.fields {
-        return false;
-    }
-    if Machine::METHODS < p.methods {
-        return false;
-    }
-    if Machine::LOCALS < p.locals {
-        return false;
-    }
-    if Machine::STATEMENTS < p.statements {
-        return false;
-    }
-    p.branches < 256
 }
 
 // 4, "line out of place", is tested before 5, "a limit of the text passed".
@@ -396,7 +487,7 @@ pub fn place_line(p: Place, kind: u8) -> Placing
     ensures { λ r. ⌜ PlacesLine p kind r ⌝ }
 {
     let q = place_after(kind, p);
-    next_place(is_in_place(kind, p), is_within_limits(q), q)
+    next_place(is_in_place(kind, p), is_within(q, kind), q)
 }
 
 // THE TABLE OF LINES: 3 bytes a line, the end of its word (2 bytes) and the number of its kind

@@ -6,14 +6,14 @@ use borrow.Author.Needs.{needs}
 use Rattle.atoms.proofs.put_next_atom.Statement.{statement}
 use Rattle.atoms.proofs.put_next_atom.Tie as tie
 
+word-end-requires : tie.Need-word-end-requires
+word-end-requires c κs = search needs
+
 next-field-requires : tie.Need-next-field-requires
 next-field-requires c κs = search needs
 
 next-field-requires-2 : tie.Need-next-field-requires-2
 next-field-requires-2 c κs = search needs
-
-next-field-requires-3 : tie.Need-next-field-requires-3
-next-field-requires-3 c κs = search needs
 
 add-i : tie.Need-add-i
 add-i c = search needs
@@ -26,40 +26,40 @@ add-k c = search needs
 
 sub-resolve-atom : tie.Need-sub-resolve-atom
 sub-resolve-atom c =
-    omega (arith, c .before .before .before .next-field .ensures .low, some-1 (c .before .before .before .next-field .ensures) (c .before .before .next-field2 .ensures) (c .before .next-field3 .ensures) (c .before .before .before .before .before .before .pre .1 .byte) _ (c .before .before .before .before .before .before .pre .1 .form))
+    omega (arith, c .before .before .before .word-end .ensures .low, some-1 (c .before .before .before .word-end .ensures) (c .before .before .next-field .ensures) (c .before .next-field2 .ensures) (c .before .before .before .before .before .before .pre .1 .byte) _ (c .before .before .before .before .before .before .pre .1 .form))
 
 part-resolve-atom-start : tie.Need-part-resolve-atom-start
 part-resolve-atom-start c =
-    omega (arith, c .before .before .before .next-field .ensures .low, some-1 (c .before .before .before .next-field .ensures) (c .before .before .next-field2 .ensures) (c .before .next-field3 .ensures) (c .before .before .before .before .before .before .pre .1 .byte) _ (c .before .before .before .before .before .before .pre .1 .form))
+    omega (arith, c .before .before .before .word-end .ensures .low, some-1 (c .before .before .before .word-end .ensures) (c .before .before .next-field .ensures) (c .before .next-field2 .ensures) (c .before .before .before .before .before .before .pre .1 .byte) _ (c .before .before .before .before .before .before .pre .1 .form))
 
 part-resolve-atom-end : tie.Need-part-resolve-atom-end
 part-resolve-atom-end c = search needs
 
 sub-resolve-atom-2 : tie.Need-sub-resolve-atom-2
 sub-resolve-atom-2 c =
-    omega (arith, c .before .before .before .next-field2 .ensures .low, some-2 (c .before .before .before .before .next-field .ensures) (c .before .before .before .next-field2 .ensures) (c .before .before .next-field3 .ensures) (c .before .before .before .before .before .before .before .pre .1 .byte) _ (c .before .before .before .before .before .before .before .pre .1 .form))
+    omega (arith, c .before .before .before .next-field .ensures .low, some-2 (c .before .before .before .before .word-end .ensures) (c .before .before .before .next-field .ensures) (c .before .before .next-field2 .ensures) (c .before .before .before .before .before .before .before .pre .1 .byte) _ (c .before .before .before .before .before .before .before .pre .1 .form))
 
 part-resolve-atom-start-2 : tie.Need-part-resolve-atom-start-2
 part-resolve-atom-start-2 c =
-    omega (arith, c .before .before .before .next-field2 .ensures .low, some-2 (c .before .before .before .before .next-field .ensures) (c .before .before .before .next-field2 .ensures) (c .before .before .next-field3 .ensures) (c .before .before .before .before .before .before .before .pre .1 .byte) _ (c .before .before .before .before .before .before .before .pre .1 .form))
+    omega (arith, c .before .before .before .next-field .ensures .low, some-2 (c .before .before .before .before .word-end .ensures) (c .before .before .before .next-field .ensures) (c .before .before .next-field2 .ensures) (c .before .before .before .before .before .before .before .pre .1 .byte) _ (c .before .before .before .before .before .before .before .pre .1 .form))
 
 part-resolve-atom-end-2 : tie.Need-part-resolve-atom-end-2
 part-resolve-atom-end-2 c = search needs
 
 sub-resolve-atom-3 : tie.Need-sub-resolve-atom-3
 sub-resolve-atom-3 c =
-    omega (arith, c .before .before .before .next-field3 .ensures .low, some-3 (c .before .before .before .before .before .next-field .ensures) (c .before .before .before .before .next-field2 .ensures) (c .before .before .before .next-field3 .ensures) (c .before .before .before .before .before .before .before .before .pre .1 .byte) _ (c .before .before .before .before .before .before .before .before .pre .1 .form))
+    omega (arith, c .before .before .before .next-field2 .ensures .low, some-3 (c .before .before .before .before .before .word-end .ensures) (c .before .before .before .before .next-field .ensures) (c .before .before .before .next-field2 .ensures) (c .before .before .before .before .before .before .before .before .pre .1 .byte) _ (c .before .before .before .before .before .before .before .before .pre .1 .form))
 
 part-resolve-atom-start-3 : tie.Need-part-resolve-atom-start-3
 part-resolve-atom-start-3 c =
-    omega (arith, c .before .before .before .next-field3 .ensures .low, some-3 (c .before .before .before .before .before .next-field .ensures) (c .before .before .before .before .next-field2 .ensures) (c .before .before .before .next-field3 .ensures) (c .before .before .before .before .before .before .before .before .pre .1 .byte) _ (c .before .before .before .before .before .before .before .before .pre .1 .form))
+    omega (arith, c .before .before .before .next-field2 .ensures .low, some-3 (c .before .before .before .before .before .word-end .ensures) (c .before .before .before .before .next-field .ensures) (c .before .before .before .next-field2 .ensures) (c .before .before .before .before .before .before .before .before .pre .1 .byte) _ (c .before .before .before .before .before .before .before .before .pre .1 .form))
 
 part-resolve-atom-end-3 : tie.Need-part-resolve-atom-end-3
 part-resolve-atom-end-3 c = search needs
 
 resolve-atom-requires : tie.Need-resolve-atom-requires
 resolve-atom-requires c κs =
-    (c .before .before .before .before .before .before .before .before .before .pre .0, is-atom (c .before .before .before .before .before .before .next-field .ensures) (c .before .before .before .before .before .next-field2 .ensures) (c .before .before .before .before .next-field3 .ensures) (c .before .before .before .before .before .before .before .before .before .pre .1 .byte) _ (c .before .before .before .before .before .before .before .before .before .pre .1 .form))
+    (c .before .before .before .before .before .before .before .before .before .pre .0, is-atom (c .before .before .before .before .before .before .word-end .ensures) (c .before .before .before .before .before .next-field .ensures) (c .before .before .before .before .next-field2 .ensures) (c .before .before .before .before .before .before .before .before .before .pre .1 .byte) _ (c .before .before .before .before .before .before .before .before .before .pre .1 .form))
 
 enum-known-t : tie.Need-enum-known-t
 enum-known-t c =
@@ -75,7 +75,7 @@ same-length c =
 
 returns : tie.Need-returns
 returns c =
-    next-bad (c .before .before .before .before .before .before .before .before .before .next-field .ensures) (c .before .before .before .before .before .before .before .before .next-field2 .ensures) (c .before .before .before .before .before .before .before .next-field3 .ensures) (c .before .before .before .before .before .before .before .before .before .before .before .before .pre .1 .byte) _ (c .before .before .before .before .before .before .before .before .before .before .before .before .pre .1 .form) _ _ _ _ (c .before .before .resolve-atom .ensures) (c .enum-told .given .1)
+    next-bad (c .before .before .before .before .before .before .before .before .before .word-end .ensures) (c .before .before .before .before .before .before .before .before .next-field .ensures) (c .before .before .before .before .before .before .before .next-field2 .ensures) (c .before .before .before .before .before .before .before .before .before .before .before .before .pre .1 .byte) _ (c .before .before .before .before .before .before .before .before .before .before .before .before .pre .1 .form) _ _ _ _ (c .before .before .resolve-atom .ensures) (c .enum-told .given .1)
 
 put-atom-requires : tie.Need-put-atom-requires
 put-atom-requires c κs =
@@ -88,15 +88,15 @@ same-length-2 c =
 
 returns-2 : tie.Need-returns-2
 returns-2 c =
-    next-put (c .before .before .before .before .before .before .before .before .before .before .before .before .before .before .next-field .ensures) (c .before .before .before .before .before .before .before .before .before .before .before .before .before .next-field2 .ensures) (c .before .before .before .before .before .before .before .before .before .before .before .before .next-field3 .ensures) (c .before .before .before .before .before .before .before .before .before .before .before .before .before .before .before .before .before .pre .1 .byte) _ (c .before .before .before .before .before .before .before .before .before .before .before .before .before .before .before .before .before .pre .1 .form) _ _ (c .before .before .before .before .before .before .before .before .before .before .before .before .before .before .before .before .before .pre .0) _ _ _ _ (c .before .before .before .before .before .before .before .before .before .before .before .before .before .before .before .before .before .pre .2) (c .before .before .before .before .before .before .before .resolve-atom .ensures) (c .before .before .before .before .before .t .given .1) (c .before .before .put-atom .ensures)
+    next-put (c .before .before .before .before .before .before .before .before .before .before .before .before .before .before .word-end .ensures) (c .before .before .before .before .before .before .before .before .before .before .before .before .before .next-field .ensures) (c .before .before .before .before .before .before .before .before .before .before .before .before .next-field2 .ensures) (c .before .before .before .before .before .before .before .before .before .before .before .before .before .before .before .before .before .pre .1 .byte) _ (c .before .before .before .before .before .before .before .before .before .before .before .before .before .before .before .before .before .pre .1 .form) _ _ (c .before .before .before .before .before .before .before .before .before .before .before .before .before .before .before .before .before .pre .0) _ _ _ _ (c .before .before .before .before .before .before .before .before .before .before .before .before .before .before .before .before .before .pre .2) (c .before .before .before .before .before .before .before .resolve-atom .ensures) (c .before .before .before .before .before .t .given .1) (c .before .before .put-atom .ensures)
 
 pub put-next-atom-spec : {M : Type 1} → statement M
 put-next-atom-spec =
     tie.close
     (tie.spec
+    word-end-requires
     next-field-requires
     next-field-requires-2
-    next-field-requires-3
     add-i
     add-j
     add-k

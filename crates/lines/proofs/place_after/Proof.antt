@@ -1,104 +1,93 @@
--- `lines::place_after` meets its contract, field by field. Assumes nothing.
-use native.Mathlib.Omega.{arith}
+-- `lines::place_after` meets its contract, kind by kind. Assumes nothing.
 use borrow.Author.Needs.{needs}
 use mathlib.Core.Path.{ap}
+use Rattle.rules.specs.Places.{oneMoreIf}
 use Rattle.lines.specs.declared.Row.{Row}
 use Rattle.lines.specs.Rows.{rowOf}
-use Rattle.lines.specs.Coded.{placeAfter}
+use Rattle.lines.specs.Coded.{atStage, placeAfter, stageAfter, branchesAfter}
+use Rattle.lines.proofs.Rows.{passed}
 use Rattle.lines.proofs.Coded.{low}
 use Rattle.lines.proofs.place_after.Statement.{statement}
 use Rattle.lines.proofs.place_after.Tie as tie
 
 row-of-requires : tie.Need-row-of-requires
-row-of-requires c κs = c .pre .0
+row-of-requires c κs = search needs
 
-stage-after-requires : tie.Need-stage-after-requires
-stage-after-requires c κs = search needs
+with-class-requires : tie.Need-with-class-requires
+with-class-requires c κs = low (c .before .before .args .p) (c .before .before .pre .1) .classes
 
-or-requires : tie.Need-or-requires
-or-requires c κs = search needs
+with-field-requires : tie.Need-with-field-requires
+with-field-requires c κs = low (c .before .before .args .p) (c .before .before .pre .1) .fields
 
-branches-after-requires : tie.Need-branches-after-requires
-branches-after-requires c κs =
-    let start = c .before .before .before in
-    low (start .args .p) (start .pre .1) .branches
+with-method-requires : tie.Need-with-method-requires
+with-method-requires c κs = low (c .before .before .args .p) (c .before .before .pre .1) .methods
 
-one-more-if-requires : tie.Need-one-more-if-requires
-one-more-if-requires c κs =
-    let start = c .before .before .before .before in
-    let b = low (start .args .p) (start .pre .1) in omega (arith, b .classes)
+with-stage-requires : tie.Need-with-stage-requires
+with-stage-requires c κs = search needs
 
-one-more-if-requires-2 : tie.Need-one-more-if-requires-2
-one-more-if-requires-2 c κs =
-    let start = c .before .before .before .before .before in
-    let b = low (start .args .p) (start .pre .1) in omega (arith, b .fields)
+with-stage-requires-2 : tie.Need-with-stage-requires-2
+with-stage-requires-2 c κs = search needs
 
-zero-if-requires : tie.Need-zero-if-requires
-zero-if-requires c κs = search needs
+with-main-requires : tie.Need-with-main-requires
+with-main-requires c κs = search needs
 
-one-more-if-requires-3 : tie.Need-one-more-if-requires-3
-one-more-if-requires-3 c κs =
-    let start = c .before .before .before .before .before .before .before in
-    let b = low (start .args .p) (start .pre .1) in omega (arith, b .methods)
+with-local-requires : tie.Need-with-local-requires
+with-local-requires c κs = low (c .before .before .args .p) (c .before .before .pre .1) .locals
 
-one-more-if-requires-4 : tie.Need-one-more-if-requires-4
-one-more-if-requires-4 c κs =
-    let start = c .before .before .before .before .before .before .before .before in
-    let b = low (start .args .p) (start .pre .1) in omega (arith, b .locals)
-
-or-requires-2 : tie.Need-or-requires-2
-or-requires-2 c κs = search needs
-
-zero-if-requires-2 : tie.Need-zero-if-requires-2
-zero-if-requires-2 c κs = search needs
-
-one-more-if-requires-5 : tie.Need-one-more-if-requires-5
-one-more-if-requires-5 c κs =
-    let start = c .before .before .before .before .before .before .before .before .before .before .before in
-    let b = low (start .args .p) (start .pre .1) in omega (arith, b .statements)
+with-statement-requires : tie.Need-with-statement-requires
+unfolding rowOf
+with-statement-requires c κs =
+    (passed 7 (c .before .before .args .kind) (c .before .before .pre .0 .0) (c .match .rest), ap (λ (r : Row). r .next) (c .before .row-of .ensures), c .before .before .pre .1)
 
 returns : tie.Need-returns
-unfolding placeAfter rowOf
-returns c =
-    let row-of = c .before .before .before .before .before .before .before .before .before .before .before .row-of in
-    let stage-after = c .before .before .before .before .before .before .before .before .before .before .stage-after in
-    let or = c .before .before .before .before .before .before .before .before .before .or in
-    let branches-after = c .before .before .before .before .before .before .before .before .branches-after in
-    let one-more-if = c .before .before .before .before .before .before .before .one-more-if in
-    let one-more-if2 = c .before .before .before .before .before .before .one-more-if2 in
-    let zero-if = c .before .before .before .before .before .zero-if in
-    let one-more-if3 = c .before .before .before .before .one-more-if3 in
-    let one-more-if4 = c .before .before .before .one-more-if4 in
-    let e = ap (λ (r : Row). r .next) (row-of .ensures) in
-    rw (
-      stage-after .ensures,
-      e,
-      or .ensures,
-      branches-after .ensures,
-      one-more-if .ensures,
-      zero-if .ensures,
-      one-more-if2 .ensures,
-      one-more-if3 .ensures,
-      c .before .zero-if2 .ensures,
-      c .before .before .or2 .ensures,
-      one-more-if4 .ensures,
-      c .one-more-if5 .ensures,
-    )
+unfolding rowOf atStage placeAfter stageAfter branchesAfter oneMoreIf
+returns c = rw (c .with-class .ensures, c .before .before .row-of .ensures, c .before .match .keys1)
+
+returns-2 : tie.Need-returns-2
+unfolding rowOf atStage placeAfter stageAfter branchesAfter oneMoreIf
+returns-2 c = rw (c .with-field .ensures, c .before .before .row-of .ensures, c .before .match .keys2)
+
+returns-3 : tie.Need-returns-3
+unfolding rowOf atStage placeAfter stageAfter branchesAfter oneMoreIf
+returns-3 c = rw (c .with-method .ensures, c .before .before .row-of .ensures, c .before .match .keys3)
+
+returns-4 : tie.Need-returns-4
+unfolding rowOf atStage placeAfter stageAfter branchesAfter oneMoreIf
+returns-4 c = rw (c .with-stage .ensures, c .before .before .row-of .ensures, c .before .match .keys4)
+
+returns-5 : tie.Need-returns-5
+unfolding rowOf atStage placeAfter stageAfter branchesAfter oneMoreIf
+returns-5 c = rw (c .with-stage2 .ensures, c .before .before .row-of .ensures, c .before .match .keys5)
+
+returns-6 : tie.Need-returns-6
+unfolding rowOf atStage placeAfter stageAfter branchesAfter oneMoreIf
+returns-6 c = rw (c .with-main .ensures, c .before .before .row-of .ensures, c .before .match .keys6)
+
+returns-7 : tie.Need-returns-7
+unfolding rowOf atStage placeAfter stageAfter branchesAfter oneMoreIf
+returns-7 c = rw (c .with-local .ensures, c .before .before .row-of .ensures, c .before .match .keys7)
+
+returns-8 : tie.Need-returns-8
+returns-8 c = search needs
 
 pub place-after-spec : {M : Type 1} → statement M
 place-after-spec =
     tie.close
     (tie.spec
     row-of-requires
-    stage-after-requires
-    or-requires
-    branches-after-requires
-    one-more-if-requires
-    one-more-if-requires-2
-    zero-if-requires
-    one-more-if-requires-3
-    one-more-if-requires-4
-    or-requires-2
-    zero-if-requires-2
-    one-more-if-requires-5
-    returns)
+    with-class-requires
+    with-field-requires
+    with-method-requires
+    with-stage-requires
+    with-stage-requires-2
+    with-main-requires
+    with-local-requires
+    with-statement-requires
+    returns
+    returns-2
+    returns-3
+    returns-4
+    returns-5
+    returns-6
+    returns-7
+    returns-8)

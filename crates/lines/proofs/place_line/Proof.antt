@@ -10,8 +10,8 @@ place-after-requires c κs = c .pre
 is-in-place-requires : tie.Need-is-in-place-requires
 is-in-place-requires c κs = c .before .pre .0
 
-is-within-limits-requires : tie.Need-is-within-limits-requires
-is-within-limits-requires c κs = search needs
+is-within-requires : tie.Need-is-within-requires
+is-within-requires c κs = search needs
 
 next-place-requires : tie.Need-next-place-requires
 next-place-requires c κs = search needs
@@ -22,7 +22,7 @@ returns c =
     let place-after = c .before .before .before .place-after in
     λ p e.
     let f = place-line-is (start .args .p) (start .args .kind) (start .pre .0 .0) (start .pre .0 .1) p e in
-    rw (c .next-place .ensures, c .before .before .is-in-place .ensures, c .before .is-within-limits .ensures, place-after .ensures) f
+    rw (c .next-place .ensures, c .before .before .is-in-place .ensures, c .before .is-within .ensures, place-after .ensures) f
 
 pub place-line-spec : {M : Type 1} → statement M
 place-line-spec =
@@ -30,6 +30,6 @@ place-line-spec =
     (tie.spec
     place-after-requires
     is-in-place-requires
-    is-within-limits-requires
+    is-within-requires
     next-place-requires
     returns)
