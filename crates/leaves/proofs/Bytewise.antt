@@ -1,4 +1,4 @@
--- Laws of words and marks: a formula works on each byte of a word apart, and what it does not mark is not in the set.
+-- Laws of words and marks: a formula works on each byte of a word apart, and what it does not mark is not in the set. Words tell their bytes.
 use mathlib.Core.Path.{_≡_, refl, sym, ap, ap₂, _∙_, subst}
 use mathlib.Core.Bool.{Bool, true, false, not, _&&_, _||_}
 use mathlib.Core.List.{List, [], _∷_, _++_}
@@ -134,8 +134,7 @@ clear s (b ∷ t) (suc j) h k z =
     let r = clear s t j (h .1) (omega arith) (subst (Zeros j) q (z .2)) in
     rw (unmarked s b (h .0) m) (omega arith)
 
--- marks of letters and digits are exact: a byte that is marked is none
-
+-- the name's marks are exact: a byte that is marked is no letter or digit
 abbrev exact : ℕ → Bool
 exact b = eqb (value 1 b (formOf NotLetterOrDigit)) 0 || inSet NotLetterOrDigit b
 
@@ -189,6 +188,7 @@ zeros-of (suc j) t q z h e = (q * 2 ^ (t - 8), over (t - 8) (omega arith), zeros
 pub trailing-zeros : (z : ℕ) → Zeros (trailingZeros 64 z / 8) z
 trailing-zeros z = let p = trailing 64 z in zeros-of (trailingZeros 64 z / 8) (trailingZeros 64 z) (p .0) z (omega arith) (p .1)
 
+-- they are a power of 2 that can be divided out
 zeros-power : (j z : ℕ) → Zeros j z → (q : ℕ) × (z ≡ q * 2 ^ (j * 8))
 zeros-power zero z h = (z, sym (mul-one z))
 zeros-power (suc j) z h =
@@ -210,6 +210,7 @@ most-zeros (suc d) (suc m) q n e p h = go (q * 2 ^ m) (2 ^ d) (e ∙ (ap (λ k. 
         let k = r (omega arith) (λ u. p (omega arith)) (omega arith) in
         rw z (omega arith)
 
+-- a word that is not 0 has a byte that is not 0 after its zeros
 module _ (z : ℕ) (p : z ≡ 0 → ⊥) (h : z < 18446744073709551616) where
   no-more-zeros : Zeros (suc (trailingZeros 64 z / 8)) z → ⊥
   no-more-zeros y =
@@ -236,6 +237,7 @@ no-marks j z e = subst (Zeros j) (sym e) (zero-zeros j)
 
 -- EIGHT BYTES OF A LIST
 
+-- they are bytes
 eight-bytes : (l : List ℕ) (i : ℕ) → ((k : ℕ) → getD l k 0 < 256) → Bytes (eight l i)
 eight-bytes l i b = (b i, (b (i + 1), (b (i + 2), (b (i + 3), (b (i + 4), (b (i + 5), (b (i + 6), (b (i + 7), tt))))))))
 
