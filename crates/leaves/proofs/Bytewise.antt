@@ -173,7 +173,7 @@ module _ (l : List ℕ) (i : ℕ) (h : i + 8 ≤ length l) where
   more j k t e g q = next j k e g ∙ ap (λ n. getD l j 0 ∷ n) q
 
   -- they come before the rest
-  eight-is : drop i l ≡ eight l i ++ drop (i + 8) l
+  pub eight-is : drop i l ≡ eight l i ++ drop (i + 8) l
   eight-is =
       more i (i + 1) _ (omega arith) (omega arith)
       (more (i + 1) (i + 2) _ (omega arith) (omega arith)

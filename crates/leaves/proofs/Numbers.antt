@@ -1,20 +1,22 @@
 -- Laws of digits and numbers.
-use mathlib.Core.Path.{_≡_, refl, sym}
+use mathlib.Core.Path.{_≡_, refl, sym, ap, subst, _∙_}
 use mathlib.Core.Bool.{Bool, true, false, not, cond, _&&_, _||_}
-use mathlib.Core.List.{[], _∷_}
+use mathlib.Core.List.{[], _∷_, _++_}
 use mathlib.Core.Option.{none, some}
 use Prim.Native.Nat.{ℕ, suc, _+_, _*_, _-_, _≤_, _<_}
 use native.Mathlib.Omega.{arith}
 use native.Mathlib.Numerals.{add-one}
 use native.Mathlib.Decide.{decLt}
 use lib.Dec.{eqb, leb}
-use lib.ListN.{length, getD, drop, drop-of-length-le}
+use lib.ListN.{length, getD, take, drop, drop-of-length-le, List·getD-eq-default}
 use lib.Seq.{drop-cons}
-use borrow.Author.Tests.{le-leb, lt-leb, leb-true, ne-eqb}
+use borrow.Author.Tests.{le-leb, lt-leb, leb-true, eqb-true, ne-eqb}
 use Rattle.rules.specs.Base.{Name, all, between}
 use Rattle.rules.specs.Text.{digit, isDigits, isNegative, isNumber, number, decimal}
+use Rattle.leaves.specs.Marks.{eight}
 use Rattle.leaves.specs.Answers.{leadingZero, capped, decimalIn, whenTrue, numberIn, naturalIn, negativeIn}
-use Rattle.leaves.proofs.Search.{true-false, and-false, both-true, between-true}
+use Rattle.leaves.proofs.Search.{true-false, and-false, both-true, between-true, all-at, all-front, rest-part}
+use Rattle.leaves.proofs.Bytewise.{eight-is}
 
 -- DIGITS
 
@@ -90,6 +92,44 @@ last-false : (p q r : Bool) → (p && r) ≡ false → (p && (q && r)) ≡ false
 last-false true q r e = rw e (and-false q)
 last-false false q r e = refl
 
+-- EIGHT DIGITS
+
+pub decimal-append : (a b : Name) (n : ℕ) → decimal n (a ++ b) ≡ decimal (decimal n a) b
+unfolding decimal
+decimal-append [] b n = refl
+decimal-append (x ∷ a) b n = decimal-append a b (n * 10 + (x - 48))
+
+pub decimal-eight : (n : ℕ) (l : Name) (i : ℕ) → i + 8 ≤ length l → decimal n (drop i l) ≡ decimal (decimal n (eight l i)) (drop (i + 8) l)
+decimal-eight n l i h = ap (decimal n) (eight-is l i h) ∙ decimal-append (eight l i) (drop (i + 8) l) n
+
+pub digits-eight : (l : Name) (i : ℕ) → i + 8 ≤ length l → all digit (drop i l) ≡ true → all digit (eight l i) ≡ true
+digits-eight l i h e = all-front digit (eight l i) (drop (i + 8) l) (ap (all digit) (sym (eight-is l i h)) ∙ e)
+
+-- the sum of eight bytes, each times its power of ten
+abbrev pub byteSum : ℕ → ℕ → ℕ → ℕ → ℕ → ℕ → ℕ → ℕ → ℕ
+byteSum a b c d e f g h = (a * 1000 + b * 100 + c * 10 + d) * 10000 + (e * 1000 + f * 100 + g * 10 + h)
+
+-- x, y, .. are what the digits a, b, .. stand for
+sum-less :
+    (a b c d e f g h x y z u v w s t : ℕ) →
+    a ≡ x + 48 → b ≡ y + 48 → c ≡ z + 48 → d ≡ u + 48 → e ≡ v + 48 → f ≡ w + 48 → g ≡ s + 48 → h ≡ t + 48 →
+    (533333328 ≤ byteSum a b c d e f g h)
+    × (byteSum a b c d e f g h - 533333328 ≡ (((((((0 * 10 + x) * 10 + y) * 10 + z) * 10 + u) * 10 + v) * 10 + w) * 10 + s) * 10 + t)
+sum-less a b c d e f g h x y z u v w s t i j k l m n o p = (omega arith, omega arith)
+
+-- with 48 for each digit taken off it is what they write
+pub eight-sum :
+    (a b c d e f g h : ℕ) → all digit (a ∷ b ∷ c ∷ d ∷ e ∷ f ∷ g ∷ h ∷ []) ≡ true →
+    (533333328 ≤ byteSum a b c d e f g h) × (byteSum a b c d e f g h - 533333328 ≡ decimal 0 (a ∷ b ∷ c ∷ d ∷ e ∷ f ∷ g ∷ h ∷ []))
+unfolding decimal
+eight-sum a b c d e f g h q = sum-less a b c d e f g h _ _ _ _ _ _ _ _ (less 0 (omega arith)) (less 1 (omega arith)) (less 2 (omega arith)) (less 3 (omega arith)) (less 4 (omega arith)) (less 5 (omega arith)) (less 6 (omega arith)) (less 7 (omega arith))
+  where
+    l : Name
+    l = a ∷ b ∷ c ∷ d ∷ e ∷ f ∷ g ∷ h ∷ []
+
+    less : (k : ℕ) → k < 8 → getD l k 0 ≡ getD l k 0 - 48 + 48
+    less k m = let r = digit-is (getD l k 0) (all-at digit l k q m) in omega arith
+
 -- NUMBERS
 pub when-some : {A : Type 0} (q : Bool) (a b : A) → some b ≡ whenTrue q a → (q ≡ true) × (a ≡ b)
 when-some true a b e = (refl, cc)
@@ -163,27 +203,57 @@ unfolding isDigits
 digits-all w e =
     both-true (eqb (length w) 1 || not (eqb (getD w 0 0) 48)) (all digit w) (both-true (leb 1 (length w)) ((eqb (length w) 1 || not (eqb (getD w 0 0) 48)) && all digit w) e .1) .1
 
-pub negative-digits : (w : Name) → isNumber w ≡ true → getD w 0 0 ≡ 45 → (all digit (drop 1 w) ≡ true) × (1 ≤ decimal 0 (drop 1 w)) × (decimal 0 (drop 1 w) ≤ 2147483648)
+negative-digits : (w : Name) → isNumber w ≡ true → eqb (getD w 0 0) 45 ≡ true → (all digit (drop 1 w) ≡ true) × (1 ≤ decimal 0 (drop 1 w)) × (decimal 0 (drop 1 w) ≤ 2147483648)
 unfolding isNumber isNegative
 negative-digits w e m =
     let h = both-true (isDigits (drop 1 w)) (between 1 2147483648 (decimal 0 (drop 1 w))) (rw m at e) in
     let b = between-true 1 2147483648 (decimal 0 (drop 1 w)) (h .1) in
     (digits-all (drop 1 w) (h .0), b .0, b .1)
 
-pub natural-digits : (w : Name) → isNumber w ≡ true → (getD w 0 0 ≡ 45 → ⊥) → (all digit w ≡ true) × (decimal 0 w ≤ 2147483647)
+natural-digits : (w : Name) → isNumber w ≡ true → eqb (getD w 0 0) 45 ≡ false → (all digit w ≡ true) × (decimal 0 w ≤ 2147483647)
 unfolding isNumber isNegative
 natural-digits w e n =
-    let h = both-true (isDigits w) (leb (decimal 0 w) 2147483647) (rw (ne-eqb (getD w 0 0) 45 n) at e) in
+    let h = both-true (isDigits w) (leb (decimal 0 w) 2147483647) (rw n at e) in
     (digits-all w (h .0), leb-true (decimal 0 w) 2147483647 (h .1))
 
-pub bits-negative : (w : Name) → getD w 0 0 ≡ 45 → number w ≡ 4294967296 - decimal 0 (drop 1 w)
+bits-negative : (w : Name) → eqb (getD w 0 0) 45 ≡ true → number w ≡ 4294967296 - decimal 0 (drop 1 w)
 unfolding number isNegative
 bits-negative w e = rw e
 
-pub bits-natural : (w : Name) → (getD w 0 0 ≡ 45 → ⊥) → number w ≡ decimal 0 w
+bits-natural : (w : Name) → eqb (getD w 0 0) 45 ≡ false → number w ≡ decimal 0 w
 unfolding number isNegative
-bits-natural w n = rw (ne-eqb (getD w 0 0) 45 n)
+bits-natural w e = rw e
 
 pub has-first : (w : Name) (b : ℕ) → getD w 0 0 ≡ suc b → 1 ≤ length w
 has-first [] b e = absurd (omega arith)
 has-first (x ∷ w) b e = omega arith
+
+-- what is known of the digits d after the sign
+pub record Known (w d : Name) (from : ℕ) : Type 0 where
+  pub digits : all digit d ≡ true
+  pub small : decimal 0 d ≤ 2147483648
+  pub natural : from ≡ 0 → (decimal 0 d ≤ 2147483647) × (number w ≡ decimal 0 d)
+  pub negative : (from ≡ 0 → ⊥) → (1 ≤ decimal 0 d) × (number w ≡ 4294967296 - decimal 0 d)
+
+-- they start at `from`
+module _ (w : Name) (x : isNumber w ≡ true) where
+  known-case : (q : Bool) (from : ℕ) → eqb (getD w 0 0) 45 ≡ q → from ≡ cond q (0 + 1) 0 → Known w (drop from w) from
+  known-case true from e h =
+      let d = negative-digits w x e in
+      subst (λ k. Known w (drop k w) k) (sym h) (record { digits = d .0; small = d .2; natural = λ z. absurd (omega arith); negative = λ z. (d .1, bits-negative w e) })
+  known-case false from e h =
+      let d = natural-digits w x e in
+      subst (λ k. Known w (drop k w) k) (sym h) (record { digits = d .0; small = omega (arith, d .1); natural = λ z. (d .1, bits-natural w e); negative = λ z. absurd (z refl) })
+
+  pub known-digits : (from : ℕ) → from ≡ cond (eqb (getD w 0 0) 45) (0 + 1) 0 → Known w (take (length w - from) (drop from w)) from
+  known-digits from h = rw (rest-part w from) (known-case (eqb (getD w 0 0) 45) from refl h)
+
+pub sign-within : (l : Name) (at r : ℕ) → at ≤ length l → r ≡ cond (eqb (getD l at 0) 45) (at + 1) at → r ≤ length l
+sign-within l at r h e = go (eqb (getD l at 0) 45) refl e
+  where
+    go : (q : Bool) → eqb (getD l at 0) 45 ≡ q → r ≡ cond q (at + 1) at → r ≤ length l
+    go true z k = elim (decLt at (length l)) [
+      | yes m ↦ omega arith
+      | no m ↦ absurd (omega (arith, eqb-true (getD l at 0) 45 z, List·getD-eq-default l 0 {n = at} (omega arith)))
+    ]
+    go false z k = omega arith

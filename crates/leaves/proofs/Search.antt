@@ -152,6 +152,11 @@ module _ (p : ℕ → Bool) where
   all-of [] h = refl
   all-of (b ∷ t) h = rw (h 0 (omega arith), all-of t (λ i k. h (suc i) (omega arith)))
 
+  pub all-front : (l t : List ℕ) → all p (l ++ t) ≡ true → all p l ≡ true
+  unfolding all
+  all-front [] t e = refl
+  all-front (b ∷ l) t e = let q = both-true (p b) (all p (l ++ t)) e in rw (q .0, all-front l t (q .1))
+
   -- one step, and the end
   pub all-on : (l : List ℕ) (i : ℕ) → i < length l → p (getD l i 0) ≡ true → all p (drop i l) ≡ all p (drop (i + 1) l)
   unfolding all

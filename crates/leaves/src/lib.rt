@@ -1,11 +1,11 @@
 use rules::Machine;
 ghost use mathlib.Core.Path.{_≡_};
 ghost use mathlib.Core.Bool.{true, false, cond, _&&_, _||_};
-ghost use lib.Dec.{leb};
+ghost use lib.Dec.{eqb, leb};
 ghost use Prim.Native.Nat.{_+_, _≤_, _<_};
 ghost use lib.ListN.{length, getD, drop};
 ghost use Rattle.rules.specs.Base.{between, eqName, is, all};
-ghost use Rattle.rules.specs.Text.{allowed, letter, digit, letterOrDigit, upTo, isName, reserved, isNumber, number, decimal, numeral, isExpr, isAtom};
+ghost use Rattle.rules.specs.Text.{minus, allowed, letter, digit, letterOrDigit, upTo, isName, reserved, isNumber, number, decimal, numeral, isExpr, isAtom};
 ghost use Rattle.rules.specs.Grammar.{kindOf};
 ghost use Rattle.leaves.specs.Sets.{inSet, Found};
 ghost use Rattle.leaves.specs.Marks.{eight, littleEndian, value, lineForm, fieldForm, nameForm, formOf};
@@ -478,13 +478,57 @@ pub fn is_number(w: &[u8]) -> bool
     }
 }
 
+// Where a number's digits start: after the sign at a place, if one stands there.
+fn sign_end(l: &[u8], at: usize) -> usize
+    ensures { λ r. ⌜ r ≡ cond (eqb (getD (now (l .entry)) at 0) minus) (at + 1) at ⌝ }
+{
+    if byte_at(l, at) == 45 { at + 1 } else { at }
+}
+
+// The number that eight digits from i on write: the sum of their bytes, each times its power of ten, and 48 for each digit taken off.
+fn eight_digits(l: &[u8], i: usize) -> u64
+    requires { ⌜ (i + 8 ≤ length (now l)) × (all digit (eight (now l) i) ≡ true) ⌝ }
+    ensures { λ r. ⌜ r ≡ decimal 0 (eight (now (l .entry)) i) ⌝ }
+{
+    let a = (l[i] as u64) * 1000
+        + (l[i + 1] as u64) * 100
+        + (l[i + 2] as u64) * 10
+        + l[i + 3] as u64;
+    let b = (l[i + 4] as u64) * 1000
+        + (l[i + 5] as u64) * 100
+        + (l[i + 6] as u64) * 10
+        + l[i + 7] as u64;
+    a * 10000 + b - 533333328
+}
+
+// The number that some digits write, and where they end.
+pub struct Digits {
+    pub value: u64,
+    pub end: usize,
+}
+
+// The first eight digits, if there are so many.
+fn first_value(w: &[u8]) -> Digits
+    requires { ⌜ all digit (now w) ≡ true ⌝ }
+    ensures { λ r. ⌜ (r .end ≤ length (now (w .entry))) × (decimal (r .value) (drop (r .end) (now (w .entry))) ≡ decimal 0 (now (w .entry))) ⌝ }
+{
+    if w.len() < 8 {
+        return Digits { value: 0, end: 0 };
+    }
+    Digits {
+        value: eight_digits(w, 0),
+        end: 8,
+    }
+}
+
 // The number that digits write, if it is no larger than a number can be.
 fn value_of(w: &[u8]) -> u64
     requires { ⌜ (all digit (now w) ≡ true) × (decimal 0 (now w) ≤ 2147483648) ⌝ }
     ensures { λ r. ⌜ r ≡ decimal 0 (now (w .entry)) ⌝ }
 {
-    let mut n: u64 = 0;
-    let mut i = 0;
+    let first = first_value(w);
+    let mut n = first.value;
+    let mut i = first.end;
     while i < w.len() {
         n = n * 10 + (w[i] - 48) as u64;
         i += 1;
@@ -497,11 +541,13 @@ fn known_number(w: &[u8]) -> u32
     requires { ⌜ isNumber (now w) ≡ true ⌝ }
     ensures { λ r. ⌜ r ≡ number (now (w .entry)) ⌝ }
 {
-    if byte_at(w, 0) == 45 {
-        let d = &w[1..];
-        return (4294967296 - value_of(d)) as u32;
+    let from = sign_end(w, 0);
+    let n = value_of(&w[from..]);
+    if from == 0 {
+        n as u32
+    } else {
+        (4294967296 - n) as u32
     }
-    value_of(w) as u32
 }
 
 // EXPRESSIONS
