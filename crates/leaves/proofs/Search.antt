@@ -107,8 +107,28 @@ module _ (p : ℕ → Bool) where
       go true k r = absurd (omega arith)
       go false k r = omega (arith, r (omega arith))
 
+  -- what comes after its end does not matter to a search
+  pub upTo-take : (l : List ℕ) (n : ℕ) → upTo p l ≤ n → upTo p (take n l) ≡ upTo p l
+  unfolding upTo
+  upTo-take [] zero h = refl
+  upTo-take [] (suc n) h = refl
+  upTo-take (b ∷ l) zero h = omega arith
+  upTo-take (b ∷ l) (suc n) h = go (p b) h (λ k. upTo-take l n k)
+    where
+      go : (q : Bool) → cond q 0 (suc (upTo p l)) ≤ suc n → (upTo p l ≤ n → upTo p (take n l) ≡ upTo p l) →
+          cond q 0 (suc (upTo p (take n l))) ≡ cond q 0 (suc (upTo p l))
+      go true k r = refl
+      go false k r = ap suc (r (omega arith))
+
 -- a search for a smaller set goes at least as far
 module _ (p q : ℕ → Bool) (part : (b : ℕ) → p b ≡ false → q b ≡ false) (l : List ℕ) where
+  pub smaller-within : upTo p l ≤ upTo q l
+  smaller-within =
+      elim (decLt (upTo q l) (upTo p l)) [
+        | yes m ↦ (let f : q (getD l (upTo q l) 0) ≡ true = upTo-found q l (omega (arith, upTo-within p l)) in true-false (sym f ∙ part (getD l (upTo q l) 0) (upTo-passed p l (upTo q l) m)))
+        | no m ↦ omega arith
+      ]
+
   pub smaller-end : upTo p l ≡ length l → upTo q l ≡ length l
   smaller-end e =
       upTo-is q l (length l) (omega arith) (λ k h. part (getD l k 0) (upTo-passed p l k (omega (arith, e)))) (λ h. absurd (omega arith))

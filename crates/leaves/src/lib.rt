@@ -536,6 +536,18 @@ fn value_of(w: &[u8]) -> u64
     n
 }
 
+// The end of the field that starts at `at`, if that field is a number; else `at`.
+fn number_end(l: &[u8], at: usize) -> usize
+    requires { ⌜ at ≤ length (now l) ⌝ }
+    ensures { λ r. ⌜ FieldIs isNumber (now (l .entry)) at r ⌝ }
+{
+    let e = find(l, at, Set::FieldEnd);
+    if is_number(&l[at..e]) {
+        return e;
+    }
+    at
+}
+
 // The 32 bits of a field that is known to be a number.
 fn known_number(w: &[u8]) -> u32
     requires { ⌜ isNumber (now w) ≡ true ⌝ }
@@ -561,15 +573,21 @@ pub enum Expr {
     NoExpr,
 }
 
-// Does it begin as a number?
-pub fn is_numeral(w: &[u8]) -> bool
-    ensures { λ r. ⌜ r ≡ numeral (now (w .entry)) ⌝ }
+// Does a number begin with it?
+fn begins_number(b: u8) -> bool
+    ensures { λ r. ⌜ r ≡ (digit b || eqb b minus) ⌝ }
 {
-    let b = byte_at(w, 0);
     if is_digit(b) {
         return true;
     }
     b == 45
+}
+
+// Does it begin as a number?
+pub fn is_numeral(w: &[u8]) -> bool
+    ensures { λ r. ⌜ r ≡ numeral (now (w .entry)) ⌝ }
+{
+    begins_number(byte_at(w, 0))
 }
 
 // A field of letters and digits.
@@ -650,16 +668,36 @@ pub fn is_expr(w: &[u8]) -> bool
     false
 }
 
+// The same for a variable, `null` or a path, where d is the first place from `at` on that has no letter or digit: the field ends there, or goes on after a full stop.
+fn path_end(l: &[u8], at: usize, d: usize) -> usize
+    requires { ⌜ (at ≤ length (now l)) × Found (now l) at Set.NotLetterOrDigit d × (numeral (drop at (now l)) ≡ false) ⌝ }
+    ensures { λ r. ⌜ FieldIs isExpr (now (l .entry)) at r ⌝ }
+{
+    let n = d - at;
+    if !begins_name(&l[at..], n) {
+        return at;
+    }
+    if ends_field(l, d) {
+        return d;
+    }
+    if l[d] != 46 {
+        return at;
+    }
+    let f = d + 1;
+    let e = find(l, f, Set::FieldEnd);
+    if is_name(&l[f..e]) { e } else { at }
+}
+
 // The end of the field that starts at `at`, if that field is an expression; else `at`.
 pub fn expr_end(l: &[u8], at: usize) -> usize
     requires { ⌜ at ≤ length (now l) ⌝ }
     ensures { λ r. ⌜ FieldIs isExpr (now (l .entry)) at r ⌝ }
 {
-    let e = find(l, at, Set::FieldEnd);
-    if is_expr(&l[at..e]) {
-        return e;
+    if begins_number(byte_at(l, at)) {
+        return number_end(l, at);
     }
-    at
+    let d = find(l, at, Set::NotLetterOrDigit);
+    path_end(l, at, d)
 }
 
 // The place of the full stop of a path; of any other field its length.
