@@ -19,20 +19,12 @@ use Rattle.rules.specs.Syntax as Syntax
 use Rattle.rules.specs.Syntax.{num, null, var, path}
 use Rattle.leaves.specs.declared.Set.the-variants.{FieldEnd}
 use Rattle.leaves.specs.Sets.{inSet}
-use Rattle.leaves.specs.Fields.{fieldLength, firstField, FieldIs}
-use Rattle.leaves.specs.Answers.{beginsName, whenTrue, numberIn, exprIn}
-use Rattle.leaves.proofs.Search.{true-false, and-false, or-false, upTo-within, upTo-found, upTo-passed, upTo-take, upTo-jump, smaller-within, smaller-end, smaller-here, smaller-later, all-upTo, all-of, not-all, rest-part}
+use Rattle.leaves.specs.Fields.{fieldLength, firstField, endsField, FieldIs}
+use Rattle.leaves.specs.Answers.{beginsName, numberIn, exprIn}
+use Rattle.leaves.proofs.Search.{true-false, and-both, and-true, and-false, or-false, upTo-within, upTo-found, upTo-passed, upTo-take, upTo-jump, smaller-within, smaller-end, smaller-here, smaller-later, all-upTo, all-of, not-all, rest-part}
 use Rattle.leaves.proofs.Numbers.{when-some, when-none}
 
 -- NAMES
-and-both : (a b c : Bool) → (a && (b && c)) ≡ ((a && b) && c)
-and-both true b c = refl
-and-both false b c = refl
-
-and-true : (q : Bool) → (q && true) ≡ q
-and-true true = refl
-and-true false = refl
-
 pub name-begins : (w : Name) → isName w ≡ (beginsName (length w) w && all letterOrDigit w)
 unfolding isName beginsName
 name-begins w = and-both (leb (length w) 12) (letter (getD w 0 0)) (all letterOrDigit w)
@@ -231,7 +223,7 @@ module _ (l : Name) (at e : ℕ) (h : at ≤ length l) (is : e ≡ at + upTo oth
   byte-there : getD l e 0 ≡ getD (drop at l) (upTo other (drop at l)) 0
   byte-there = rw is (sym (getD-drop at l (upTo other (drop at l)) 0))
 
-  pub ended-at : (leb (length l) e || inSet FieldEnd (getD l e 0)) ≡ true → fieldLength (drop at l) ≡ upTo other (drop at l)
+  pub ended-at : endsField l e ≡ true → fieldLength (drop at l) ≡ upTo other (drop at l)
   ended-at t =
       let n = length-drop at l in
       elim (decLt e (length l)) [
@@ -240,17 +232,17 @@ module _ (l : Name) (at e : ℕ) (h : at ≤ length l) (is : e ≡ at + upTo oth
       ]
 
   pub name-at :
-      (leb (length l) e || inSet FieldEnd (getD l e 0)) ≡ true → isName (firstField (drop at l)) ≡ beginsName (e - at) (take (length l - at) (drop at l))
+      endsField l e ≡ true → isName (firstField (drop at l)) ≡ beginsName (e - at) (take (length l - at) (drop at l))
   name-at t =
       let z : e - at ≡ upTo other (drop at l) = omega (arith, is) in
       ended-name (drop at l) (ended-at t) ∙ rw (z, rest-part l at)
 
-  pub no-name-at : (leb (length l) e || inSet FieldEnd (getD l e 0)) ≡ false → isName (firstField (drop at l)) ≡ false
+  pub no-name-at : endsField l e ≡ false → isName (firstField (drop at l)) ≡ false
   no-name-at t =
       let r = or-false (leb (length l) e) (inSet FieldEnd (getD l e 0)) t in
       not-ended (drop at l) (omega (arith, length-drop at l, is, leb-false (length l) e (r .0))) (rw (← byte-there) (r .1))
 
-pub goes-beyond : (l : Name) (e : ℕ) → (leb (length l) e || inSet FieldEnd (getD l e 0)) ≡ false → e < length l
+pub goes-beyond : (l : Name) (e : ℕ) → endsField l e ≡ false → e < length l
 goes-beyond l e f = leb-false (length l) e (or-false (leb (length l) e) (inSet FieldEnd (getD l e 0)) f .0)
 
 -- the end of a field that passes a test, and the place of one that does not
@@ -279,18 +271,28 @@ end-numeral b e = go (eqb b 9) (eqb b 10) refl refl e
     go false true d f z = ap (λ n. digit n || eqb n 45) (eqb-true b 10 f)
     go false false d f z = true-false (sym z)
 
-pub field-numeral : (t : Name) → numeral (firstField t) ≡ numeral t
-unfolding numeral isNegative digit between firstField fieldLength upTo
-field-numeral [] = refl
-field-numeral (b ∷ t) = go (inSet FieldEnd b) refl
+-- a test of a field's first byte is one of the text's, if neither an end nor nothing passes it
+pub field-first :
+    (p : ℕ → Bool) → p 0 ≡ false → ((b : ℕ) → inSet FieldEnd b ≡ true → p b ≡ false) → (t : Name) → p (getD (firstField t) 0 0) ≡ p (getD t 0 0)
+unfolding firstField fieldLength upTo
+field-first p z f [] = refl
+field-first p z f (b ∷ t) = go (inSet FieldEnd b) refl
   where
-    go : (q : Bool) → inSet FieldEnd b ≡ q → numeral (take (cond q 0 (suc (upTo (inSet FieldEnd) t))) (b ∷ t)) ≡ numeral (b ∷ t)
-    go true e = sym (end-numeral b e)
+    go : (q : Bool) → inSet FieldEnd b ≡ q → p (getD (take (cond q 0 (suc (upTo (inSet FieldEnd) t))) (b ∷ t)) 0 0) ≡ p b
+    go true e = z ∙ sym (f b e)
     go false e = refl
+
+field-numeral : (t : Name) → numeral (firstField t) ≡ numeral t
+unfolding numeral isNegative digit between
+field-numeral t = field-first (λ b. digit b || eqb b 45) refl end-numeral t
 
 pub number-field : (t : Name) → numeral t ≡ true → isExpr (firstField t) ≡ isNumber (firstField t)
 unfolding isExpr
 number-field t n = rw (field-numeral t, n)
+
+pub field-long : (t : Name) → length (firstField t) ≡ fieldLength t
+unfolding firstField fieldLength
+field-long t = length-take-le (fieldLength t) t (upTo-within (inSet FieldEnd) t)
 
 -- u: the place of the first byte that is no letter or digit
 module _ (t : Name) (n : numeral t ≡ false) where
@@ -300,10 +302,6 @@ module _ (t : Name) (n : numeral t ≡ false) where
   field-reaches : u ≤ fieldLength t
   unfolding fieldLength
   field-reaches = smaller-within other (inSet FieldEnd) end-other t
-
-  field-long : length (firstField t) ≡ fieldLength t
-  unfolding firstField fieldLength
-  field-long = length-take-le (fieldLength t) t (upTo-within (inSet FieldEnd) t)
 
   field-other : u ≡ 0 + upTo other (firstField t)
   unfolding firstField
@@ -323,16 +321,16 @@ module _ (t : Name) (n : numeral t ≡ false) where
   -- the field ends there
   whole-field : fieldLength t ≡ u → isExpr (firstField t) ≡ beginsName u t
   whole-field e =
-      let k : length (firstField t) ≡ u = field-long ∙ e in
+      let k : length (firstField t) ≡ u = field-long t ∙ e in
       let a : all letterOrDigit (firstField t) ≡ true = all-upTo letterOrDigit (firstField t) ∙ eq-eqb (upTo other (firstField t)) (length (firstField t)) (omega (arith, field-other)) in
       whole-form (firstField t) a field-no ∙ rw k field-begins
 
   -- it does not, and has no full stop there, or one
   sign-field : u < fieldLength t → (getD t u 0 ≡ 46 → ⊥) → isExpr (firstField t) ≡ false
-  sign-field h s = sign-form (firstField t) u (omega (arith, field-long)) field-other field-no (λ z. s (sym (field-there h) ∙ z))
+  sign-field h s = sign-form (firstField t) u (omega (arith, field-long t)) field-other field-no (λ z. s (sym (field-there h) ∙ z))
 
   path-field : u < fieldLength t → getD t u 0 ≡ 46 → isExpr (firstField t) ≡ (beginsName u t && isName (drop (suc u) (firstField t)))
-  path-field h s = path-form (firstField t) u (omega (arith, field-long)) field-other (field-there h ∙ s) field-no ∙ rw field-begins
+  path-field h s = path-form (firstField t) u (omega (arith, field-long t)) field-other (field-there h ∙ s) field-no ∙ rw field-begins
 
   begins-bad : beginsName u t ≡ false → isExpr (firstField t) ≡ false
   begins-bad b =
@@ -353,7 +351,7 @@ module _ (t : Name) (n : numeral t ≡ false) where
   after-field : u < fieldLength t → drop (suc u) (firstField t) ≡ firstField (drop (suc u) t)
   unfolding firstField
   after-field h =
-      let k : length (take (suc u) t) ≡ suc u = length-take-le (suc u) t (omega (arith, field-long, length-take (fieldLength t) t)) in
+      let k : length (take (suc u) t) ≡ suc u = length-take-le (suc u) t (omega (arith, field-long t, length-take (fieldLength t) t)) in
       rw (after-length h, take-add (suc u) (fieldLength (drop (suc u) t)) t) (drop-at (take (suc u) t) _ (suc u) k)
 
 -- the same of the field that starts at a place, where d is the place of the first byte that is no letter or digit
@@ -369,10 +367,10 @@ module _ (l : Name) (at d : ℕ) (h : at ≤ length l) (is : d ≡ at + upTo oth
   no-begin-at b = begins-bad (drop at l) n (sym begins-at ∙ b)
 
   module _ (b : beginsName (d - at) (take (length l - at) (drop at l)) ≡ true) where
-    pub whole-at : (leb (length l) d || inSet FieldEnd (getD l d 0)) ≡ true → isExpr (firstField (drop at l)) ≡ true
+    pub whole-at : endsField l d ≡ true → isExpr (firstField (drop at l)) ≡ true
     whole-at t = whole-field (drop at l) n (ended-at l at d h is t) ∙ (sym begins-at ∙ b)
 
-    module _ (f : (leb (length l) d || inSet FieldEnd (getD l d 0)) ≡ false) where
+    module _ (f : endsField l d ≡ false) where
       goes-on : upTo other (drop at l) < fieldLength (drop at l)
       unfolding fieldLength
       goes-on =

@@ -3,19 +3,19 @@ use mathlib.Core.Path.{_≡_, refl, sym, ap, subst, _∙_}
 use mathlib.Core.Bool.{Bool, true, false, not, cond, _&&_, _||_}
 use mathlib.Core.List.{[], _∷_, _++_}
 use mathlib.Core.Option.{none, some}
-use Prim.Native.Nat.{ℕ, suc, _+_, _*_, _-_, _≤_, _<_}
+use Prim.Native.Nat.{ℕ, zero, suc, _+_, _*_, _-_, _≤_, _<_}
 use native.Mathlib.Omega.{arith}
 use native.Mathlib.Numerals.{add-one}
 use native.Mathlib.Decide.{decLt}
 use lib.Dec.{eqb, leb}
-use lib.ListN.{length, getD, take, drop, drop-of-length-le, List·getD-eq-default}
-use lib.Seq.{drop-cons}
-use borrow.Author.Tests.{le-leb, lt-leb, leb-true, eqb-true, ne-eqb}
+use lib.ListN.{length, getD, take, drop, drop-of-length-le, length-take, List·getD-eq-default}
+use lib.Seq.{drop-cons, take-suc, getD-take, getD-drop, length-take-le}
+use borrow.Author.Tests.{le-leb, lt-leb, leb-true, eqb-true, eqb-false, eq-eqb, ne-eqb, not-true, not-false}
 use Rattle.rules.specs.Base.{Name, all, between}
-use Rattle.rules.specs.Text.{digit, isDigits, isNegative, isNumber, number, decimal}
+use Rattle.rules.specs.Text.{digit, upTo, isDigits, isNegative, isNumber, number, decimal}
 use Rattle.leaves.specs.Marks.{eight}
-use Rattle.leaves.specs.Answers.{leadingZero, capped, decimalIn, whenTrue, numberIn, naturalIn, negativeIn}
-use Rattle.leaves.proofs.Search.{true-false, and-false, both-true, between-true, all-at, all-front, rest-part}
+use Rattle.leaves.specs.Answers.{digitsIn, Begun, TenDigits, led, inRange, leadingZero, capped, decimalIn, whenTrue, numberIn, naturalIn, negativeIn}
+use Rattle.leaves.proofs.Search.{true-false, or-true, and-false, both-true, and-both, and-true, between-true, upTo-within, upTo-passed, upTo-next, upTo-ends, all-of, all-at, all-front, rest-part}
 use Rattle.leaves.proofs.Bytewise.{eight-is}
 
 -- DIGITS
@@ -129,6 +129,149 @@ eight-sum a b c d e f g h q = sum-less a b c d e f g h _ _ _ _ _ _ _ _ (less 0 (
 
     less : (k : ℕ) → k < 8 → getD l k 0 ≡ getD l k 0 - 48 + 48
     less k m = let r = digit-is (getD l k 0) (all-at digit l k q m) in omega arith
+
+-- TEN DIGITS
+
+-- at most what k nines write after a number that is no smaller
+most : ℕ → ℕ → ℕ
+most n zero = n
+most n (suc k) = most (n * 10 + 9) k
+
+most-grows : (k n : ℕ) → n ≤ most n k
+unfolding most
+most-grows zero n = omega arith
+most-grows (suc k) n = let h = most-grows k (n * 10 + 9) in omega arith
+
+decimal-most : (w : Name) (k m n : ℕ) → length w ≤ k → m ≤ n → all digit w ≡ true → decimal m w ≤ most n k
+unfolding decimal most all
+decimal-most [] k m n h l e = let g = most-grows k n in omega arith
+decimal-most (b ∷ w) zero m n h l e = absurd (omega arith)
+decimal-most (b ∷ w) (suc k) m n h l e =
+    let q = both-true (digit b) (all digit w) e in
+    let d = digit-is b (q .0) in
+    decimal-most w k (m * 10 + (b - 48)) (n * 10 + 9) (omega arith) (omega arith) (q .1)
+
+-- at least what k zeros write after a number that is no larger
+least : ℕ → ℕ → ℕ
+least n zero = n
+least n (suc k) = least (n * 10) k
+
+decimal-least : (w : Name) (k m n : ℕ) → k ≤ length w → n ≤ m → least n k ≤ decimal m w
+unfolding decimal least
+decimal-least w zero m n h l = let g = decimal-grows w m in omega arith
+decimal-least [] (suc k) m n h l = absurd (omega arith)
+decimal-least (b ∷ w) (suc k) m n h l = decimal-least w k (m * 10 + (b - 48)) (n * 10) (omega arith) (omega arith)
+
+pub digits-form : (w : Name) → isDigits w ≡ (led (length w) (getD w 0 0) && all digit w)
+unfolding isDigits led
+digits-form w = and-both (leb 1 (length w)) (eqb (length w) 1 || not (eqb (getD w 0 0) 48)) (all digit w)
+
+led-first : (n b : ℕ) → 1 < n → led n b ≡ true → b ≡ 48 → ⊥
+unfolding led
+led-first n b h e = eqb-false b 48 (not-true (eqb b 48) (let z : not (eqb b 48) ≡ true = rw (le-leb 1 n (omega arith), ne-eqb n 1 (λ z. omega arith)) at e in z))
+
+-- more than ten write more than a number can be
+large-digits : (b : ℕ) (w : Name) → 10 ≤ length w → isDigits (b ∷ w) ≡ true → 10000000000 ≤ decimal 0 (b ∷ w)
+unfolding decimal least
+large-digits b w h e =
+    let r = both-true (led (length (b ∷ w)) b) (all digit (b ∷ w)) (sym (digits-form (b ∷ w)) ∙ e) in
+    let d = digit-is b (all-at digit (b ∷ w) 0 (r .1) (omega arith)) in
+    let n = led-first (length (b ∷ w)) b (omega arith) (r .0) in
+    let z : 1 ≤ b - 48 = elim (decLt 48 b) [ yes l ↦ omega arith | no l ↦ absurd (n (omega arith)) ] in
+    decimal-least w 10 (0 * 10 + (b - 48)) 1 h (omega arith)
+
+out-of-range : (q : Bool) (n : ℕ) → 10000000000 ≤ n → inRange q n ≡ false
+unfolding inRange between
+out-of-range true n l = rw (lt-leb n 2147483648 (omega arith)) (and-false (leb 1 n))
+out-of-range false n l = lt-leb n 2147483647 (omega arith)
+
+pub more-digits : (w : Name) (q : Bool) → 10 < length w → (isDigits w && inRange q (decimal 0 w)) ≡ false
+more-digits [] q h = absurd (omega arith)
+more-digits (b ∷ w) q h = go (isDigits (b ∷ w)) refl
+  where
+    go : (p : Bool) → isDigits (b ∷ w) ≡ p → (p && inRange q (decimal 0 (b ∷ w))) ≡ false
+    go true e = out-of-range q (decimal 0 (b ∷ w)) (large-digits b w (omega arith) e)
+    go false e = refl
+
+led-same : (t : Name) (n : ℕ) → led n (getD (take n t) 0 0) ≡ led n (getD t 0 0)
+unfolding led
+led-same t zero = refl
+led-same t (suc n) = rw (getD-take (suc n) t 0 0 (omega arith))
+
+abbrev pub noDigit : ℕ → Bool
+noDigit b = not (digit b)
+
+module _ (t : Name) (k : ℕ) (h : k ≤ digitsIn t) where
+  few : k ≤ length t
+  unfolding digitsIn
+  few = omega (arith, upTo-within noDigit (take 10 t), length-take 10 t)
+
+  pub begin-digits : all digit (take k t) ≡ true
+  unfolding digitsIn
+  begin-digits = all-of digit (take k t) (λ i l. let g : i < k = omega (arith, length-take-le k t few) in rw (getD-take k t i 0 g) (rw (getD-take 10 t i 0 (omega (arith, upTo-within noDigit (take 10 t), length-take 10 t))) at (not-false (digit (getD (take 10 t) i 0)) (upTo-passed noDigit (take 10 t) i (omega arith)))))
+
+  pub begin-led : isDigits (take k t) ≡ led k (getD t 0 0)
+  begin-led = digits-form (take k t) ∙ rw (begin-digits, length-take-le k t few) (and-true (led k (getD (take k t) 0 0)) ∙ led-same t k)
+
+-- digits from a place on, read one by one
+pub begun-none : (l : Name) (at : ℕ) → Begun l at 0 at
+unfolding decimal
+begun-none l at = let z : at - at ≡ 0 = omega arith in record { low = omega arith; high = omega arith; is = rw z }
+
+module _ (l : Name) (at value end : ℕ) (g : Begun l at value end) where
+  abbrev t : Name
+  t = drop at l
+
+  abbrev k : ℕ
+  k = end - at
+
+  there : end < at + length (take 10 t) → getD (take 10 t) k 0 ≡ getD l end 0
+  there h = getD-take 10 t k 0 (omega (arith, length-take 10 t, g .low)) ∙ (getD-drop at l k 0 ∙ ap (λ n. getD l n 0) (let z : at + k ≡ end = omega (arith, g .low) in z))
+
+  pub begun-small : end < at + length (take 10 t) → value ≤ 999999999
+  unfolding most
+  begun-small h =
+      let m = decimal-most (take k t) 9 0 0 (omega (arith, length-take k t, length-take 10 t, g .low)) (omega arith) (begin-digits t k (omega (arith, g .low, g .high))) in
+      omega (arith, g .is, m)
+
+  pub begun-on : end < at + length (take 10 t) → digit (getD l end 0) ≡ true → Begun l at (value * 10 + (getD l end 0 - 48)) (end + 1)
+  unfolding digitsIn decimal
+  begun-on h d =
+      let n : k < upTo noDigit (take 10 t) = upTo-next noDigit (take 10 t) k (omega (arith, g .low, g .high)) (omega (arith, g .low)) (rw (there h, d)) in
+      let m : k < length t = omega (arith, g .low, length-take 10 t) in
+      let z : end + 1 - at ≡ suc k = omega (arith, g .low) in
+      let b : getD t k 0 ≡ getD l end 0 = sym (getD-take 10 t k 0 (omega (arith, length-take 10 t, g .low))) ∙ there h in
+      record { low = omega (arith, g .low); high = omega (arith, n, g .low); is = rw (z, take-suc t k 0 m, decimal-append (take k t) (getD t k 0 ∷ []) 0, ← g .is, b) }
+
+  pub begun-ends : (end < at + length (take 10 t) → digit (getD l end 0) ≡ false) → TenDigits l at value end
+  unfolding digitsIn
+  begun-ends d =
+      let z : digitsIn t ≡ k = upTo-ends noDigit (take 10 t) k (omega (arith, g .low, g .high)) (λ h. let m : end < at + length (take 10 t) = omega (arith, g .low) in rw (there m, d m)) in
+      record { end-is = omega (arith, z, g .low); value-is = rw z (g .is) }
+
+-- the tests of a number, one by one
+pub no-led : (n b : ℕ) → n ≡ 0 → led n b ≡ false
+unfolding led
+no-led n b e = rw e
+
+pub led-well : (n b : ℕ) → 1 ≤ n → (b ≡ 48 → ⊥) → led n b ≡ true
+unfolding led
+led-well n b h e = rw (le-leb 1 n h, ne-eqb b 48 e) (or-true (eqb n 1))
+
+pub led-zero : (n b : ℕ) → 1 ≤ n → b ≡ 48 → led n b ≡ eqb n 1
+unfolding led
+led-zero n b h e = rw (le-leb 1 n h, e) (or-none (eqb n 1))
+  where
+    or-none : (q : Bool) → (q || false) ≡ q
+    or-none true = refl
+    or-none false = refl
+
+pub less-is : (from end : ℕ) → eqb end (from + 1) ≡ eqb (end - from) 1
+less-is from end = go (eqb end (from + 1)) refl
+  where
+    go : (q : Bool) → eqb end (from + 1) ≡ q → q ≡ eqb (end - from) 1
+    go true e = sym (eq-eqb (end - from) 1 (omega (arith, eqb-true end (from + 1) e)))
+    go false e = sym (ne-eqb (end - from) 1 (λ z. eqb-false end (from + 1) e (omega arith)))
 
 -- NUMBERS
 pub when-some : {A : Type 0} (q : Bool) (a b : A) → some b ≡ whenTrue q a → (q ≡ true) × (a ≡ b)

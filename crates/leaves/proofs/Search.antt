@@ -21,6 +21,14 @@ pub both-true : (a b : Bool) → (a && b) ≡ true → (a ≡ true) × (b ≡ tr
 both-true true b e = (refl, e)
 both-true false b e = true-false (sym e)
 
+pub and-both : (a b c : Bool) → (a && (b && c)) ≡ ((a && b) && c)
+and-both true b c = refl
+and-both false b c = refl
+
+pub and-true : (q : Bool) → (q && true) ≡ q
+and-true true = refl
+and-true false = refl
+
 pub and-false : (a : Bool) → (a && false) ≡ false
 and-false true = refl
 and-false false = refl
@@ -106,6 +114,21 @@ module _ (p : ℕ → Bool) where
           cond q 0 (suc (upTo p l)) ≡ suc j + upTo p (drop j l)
       go true k r = absurd (omega arith)
       go false k r = omega (arith, r (omega arith))
+
+  -- a search that came to k goes on, or ends there
+  pub upTo-next : (l : List ℕ) (k : ℕ) → k ≤ upTo p l → k < length l → p (getD l k 0) ≡ false → k < upTo p l
+  upTo-next l k h g e =
+      elim (decLt k (upTo p l)) [
+        | yes m ↦ m
+        | no m ↦ (let z : upTo p l ≡ k = omega arith in true-false (sym (upTo-found l (omega arith)) ∙ (ap (λ n. p (getD l n 0)) z ∙ e)))
+      ]
+
+  pub upTo-ends : (l : List ℕ) (k : ℕ) → k ≤ upTo p l → (k < length l → p (getD l k 0) ≡ true) → upTo p l ≡ k
+  upTo-ends l k h t =
+      elim (decLt k (upTo p l)) [
+        | yes m ↦ true-false (sym (t (omega (arith, upTo-within l))) ∙ upTo-passed l k m)
+        | no m ↦ omega arith
+      ]
 
   -- what comes after its end does not matter to a search
   pub upTo-take : (l : List ℕ) (n : ℕ) → upTo p l ≤ n → upTo p (take n l) ≡ upTo p l

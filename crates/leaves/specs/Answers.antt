@@ -2,14 +2,14 @@
 use mathlib.Core.Path.{_≡_}
 use mathlib.Core.Bool.{Bool, true, false, not, cond, _&&_, _||_}
 use mathlib.Core.Option.{Option, none, some}
-use Prim.Native.Nat.{ℕ, suc, _-_, _<_}
+use Prim.Native.Nat.{ℕ, suc, _+_, _-_, _≤_, _<_}
 use lib.Dec.{eqb, leb}
 use lib.ListN.{length, getD, take, drop}
 use Rattle.rules.specs.Base.{Name, between}
 use Rattle.rules.specs.Limits.{most-letters}
 use Rattle.rules.specs.Syntax as Syntax
 use Rattle.rules.specs.Syntax.{num, null, var, path}
-use Rattle.rules.specs.Text.{digit-zero, letter, isDigits, decimal, isNumber, number, isExpr, exprOf, stopIn}
+use Rattle.rules.specs.Text.{digit-zero, digit, letter, upTo, isDigits, decimal, isNumber, number, isExpr, exprOf, stopIn}
 use Rattle.leaves.specs.declared.Value.{Value}
 use Rattle.leaves.specs.declared.Value.the-variants.{Bits, NoNumber}
 use Rattle.leaves.specs.declared.Expr.{Expr}
@@ -54,6 +54,29 @@ naturalIn d = whenTrue (isDigits d && leb (decimal 0 d) 2147483647) (decimal 0 d
 unfoldable pub negativeIn : Name → Option ℕ
 negativeIn d = whenTrue (isDigits d && between 1 2147483648 (decimal 0 d)) (4294967296 - decimal 0 d)
 
+-- how many digits a text begins with, among its first ten bytes
+unfoldable pub digitsIn : Name → ℕ
+digitsIn t = upTo (λ b. not (digit b)) (take 10 t)
+
+-- digits from a place on to an end, some of the first ten at most, and the number that they write
+pub record Begun (l : Name) (at value end : ℕ) : Type 0 where
+  pub low : at ≤ end
+  pub high : end ≤ at + digitsIn (drop at l)
+  pub is : value ≡ decimal 0 (take (end - at) (drop at l))
+
+-- the same of all of them
+pub record TenDigits (l : Name) (at value end : ℕ) : Type 0 where
+  pub end-is : end ≡ at + digitsIn (drop at l)
+  pub value-is : value ≡ decimal 0 (take (digitsIn (drop at l)) (drop at l))
+
+-- n digits, b the first of them: some, with no leading zero
+unfoldable pub led : ℕ → ℕ → Bool
+led n b = leb 1 n && (eqb n 1 || not (eqb b digit-zero))
+
+-- what digits may write, after `-` or without
+unfoldable pub inRange : Bool → ℕ → Bool
+inRange q n = cond q (between 1 2147483648 n) (leb n 2147483647)
+
 -- EXPRESSIONS
 
 -- the expression that an answer stands for, of the field w: a variable is the whole field, a path has its full stop at a place of it
@@ -89,5 +112,5 @@ stopOr n (some (path x f)) = length x
 
 -- Everything above computes where this unfolds.
 unfoldable pub opened : Unit {0}
-unfolding beginsName leadingZero capped decimalIn numberIn naturalIn negativeIn exprIn
+unfolding beginsName digitsIn led inRange leadingZero capped decimalIn numberIn naturalIn negativeIn exprIn
 opened = tt

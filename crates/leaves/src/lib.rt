@@ -2,16 +2,16 @@ use rules::Machine;
 ghost use mathlib.Core.Path.{_≡_};
 ghost use mathlib.Core.Bool.{true, false, cond, _&&_, _||_};
 ghost use lib.Dec.{eqb, leb};
-ghost use Prim.Native.Nat.{_+_, _≤_, _<_};
-ghost use lib.ListN.{length, getD, drop};
+ghost use Prim.Native.Nat.{_+_, _-_, _≤_, _<_};
+ghost use lib.ListN.{length, getD, take, drop};
 ghost use Rattle.rules.specs.Base.{between, eqName, is, all};
 ghost use Rattle.rules.specs.Text.{minus, allowed, letter, digit, letterOrDigit, upTo, isName, reserved, isNumber, number, decimal, numeral, isExpr, isAtom};
 ghost use Rattle.rules.specs.Grammar.{kindOf};
 ghost use Rattle.leaves.specs.Sets.{inSet, Found};
 ghost use Rattle.leaves.specs.Marks.{eight, littleEndian, value, lineForm, fieldForm, nameForm, formOf};
-ghost use Rattle.leaves.specs.Fields.{FieldIs};
+ghost use Rattle.leaves.specs.Fields.{endsField, FieldIs};
 ghost use Rattle.leaves.specs.Words.{words, wordNumber, kindOr0, packed, packedIn};
-ghost use Rattle.leaves.specs.Answers.{beginsName, leadingZero, capped, decimalIn, bitsOf, naturalIn, negativeIn, numberIn, exprIn, Reads, stopOr};
+ghost use Rattle.leaves.specs.Answers.{beginsName, TenDigits, led, inRange, leadingZero, capped, decimalIn, bitsOf, naturalIn, negativeIn, numberIn, exprIn, Reads, stopOr};
 
 // BYTES
 
@@ -361,7 +361,7 @@ pub fn is_name(w: &[u8]) -> bool
 
 // Does a field end at e: at the end, or at tab or LF?
 fn ends_field(l: &[u8], e: usize) -> bool
-    ensures { λ r. ⌜ r ≡ (leb (length (now (l .entry))) e || inSet Set.FieldEnd (getD (now (l .entry)) e 0)) ⌝ }
+    ensures { λ r. ⌜ r ≡ endsField (now (l .entry)) e ⌝ }
 {
     if e < l.len() {
         return in_set(l[e], Set::FieldEnd);
@@ -536,16 +536,86 @@ fn value_of(w: &[u8]) -> u64
     n
 }
 
+// Ten bytes from a place on, or the end.
+fn digits_stop(l: &[u8], at: usize) -> usize
+    requires { ⌜ at ≤ length (now l) ⌝ }
+    ensures { λ r. ⌜ r ≡ at + length (take 10 (drop at (now (l .entry)))) ⌝ }
+{
+    if l.len() - at < 10 { l.len() } else { at + 10 }
+}
+
+// The digits from a place on, at most ten: a number has no more.
+fn digits_from(l: &[u8], at: usize) -> Digits
+    requires { ⌜ at ≤ length (now l) ⌝ }
+    ensures { λ r. ⌜ TenDigits (now (l .entry)) at (r .value) (r .end) ⌝ }
+{
+    let stop = digits_stop(l, at);
+    let mut value: u64 = 0;
+    let mut end = at;
+    while end < stop {
+        let b = l[end];
+        if !is_digit(b) {
+            return Digits { value, end };
+        }
+        value = value * 10 + (b - 48) as u64;
+        end += 1;
+    }
+    Digits { value, end }
+}
+
+// Are there digits from a place on to an end, with no leading zero?
+fn is_led(l: &[u8], from: usize, end: usize) -> bool
+    requires { ⌜ (from ≤ end) × (end ≤ length (now l)) ⌝ }
+    ensures { λ r. ⌜ r ≡ led (end - from) (getD (now (l .entry)) from 0) ⌝ }
+{
+    if end == from {
+        return false;
+    }
+    if l[from] != 48 {
+        return true;
+    }
+    end == from + 1
+}
+
+// May digits write it, after `-` or without?
+fn in_range(value: u64, signed: bool) -> bool
+    ensures { λ r. ⌜ r ≡ inRange signed value ⌝ }
+{
+    if !signed {
+        return value <= 2147483647;
+    }
+    if value < 1 {
+        return false;
+    }
+    value <= 2147483648
+}
+
+// Do the digits that stand from a place on write a number, and end the field?
+fn is_written(l: &[u8], from: usize, d: Digits, signed: bool) -> bool
+    requires { ⌜ (from ≤ d .end) × (d .end ≤ length (now l)) ⌝ }
+    ensures { λ r. ⌜ r ≡ (led (d .end - from) (getD (now (l .entry)) from 0) && (inRange signed (d .value) && endsField (now (l .entry)) (d .end))) ⌝ }
+{
+    if !is_led(l, from, d.end) {
+        return false;
+    }
+    if !in_range(d.value, signed) {
+        return false;
+    }
+    ends_field(l, d.end)
+}
+
 // The end of the field that starts at `at`, if that field is a number; else `at`.
 fn number_end(l: &[u8], at: usize) -> usize
     requires { ⌜ at ≤ length (now l) ⌝ }
     ensures { λ r. ⌜ FieldIs isNumber (now (l .entry)) at r ⌝ }
 {
-    let e = find(l, at, Set::FieldEnd);
-    if is_number(&l[at..e]) {
-        return e;
+    let from = sign_end(l, at);
+    let d = digits_from(l, from);
+    if is_written(l, from, d, at < from) {
+        d.end
+    } else {
+        at
     }
-    at
 }
 
 // The 32 bits of a field that is known to be a number.

@@ -1,5 +1,5 @@
 -- The invariant: what is left writes, after the number so far, the whole number.
-use Prim.Native.Nat.{_-_, _≤_, _<_}
+use Prim.Native.Nat.{_-_, _≤_}
 use Rattle.leaves.proofs.Numbers.{decimal-on, decimal-end, decimal-grows, digit-is}
 use Rattle.leaves.proofs.Search.{all-at}
 use Rattle.rules.specs.Text.{digit, decimal}
