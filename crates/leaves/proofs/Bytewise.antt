@@ -15,13 +15,14 @@ use lib.Pow.{pow-add}
 use lib.Seq.{drop-cons, drop-drop}
 use borrow.Author.Tests.{ltb-true, not-true, eq-eqb}
 use Rattle.rules.specs.Base as Base
+use Rattle.rules.specs.Base.{all}
 use Rattle.rules.specs.Text as Text
-use Rattle.rules.specs.Text.{upTo}
+use Rattle.rules.specs.Text.{digit, upTo}
 use Rattle.leaves.specs.declared.Set.{Set}
 use Rattle.leaves.specs.declared.Set.the-variants.{LineEnd, FieldEnd, FullStop, NotLetterOrDigit}
-use Rattle.leaves.specs.Sets.{inSet}
-use Rattle.leaves.specs.Marks.{Form, it, each, and, or, xor, plus, value, formOf, littleEndian, eight}
-use Rattle.leaves.proofs.Search.{both-true, true-false, upTo-jump, upTo-more}
+use Rattle.leaves.specs.Sets.{inSet, noDigit}
+use Rattle.leaves.specs.Marks.{Form, it, each, and, or, xor, plus, value, digitForm, formOf, littleEndian, eight}
+use Rattle.leaves.proofs.Search.{both-true, true-false, upTo-within, upTo-jump, upTo-more, all-upTo}
 
 -- BYTE BY BYTE
 
@@ -76,11 +77,15 @@ below-all p (suc n) b e h =
     let q = both-true (p n) (allBelow p n) e in
     elim (decLt b n) [ yes l ↦ below-all p n b (q .1) l | no l ↦ subst (λ m. p m ≡ true) (let z : n ≡ b = omega arith in z) (q .0) ]
 
--- its sums do not carry, and the byte is marked or is not in the set
-abbrev sound : Set → ℕ → Bool
-sound s b = fits b (formOf s) && (not (eqb (value 1 b (formOf s)) 0) || not (inSet s b))
+-- its sums do not carry, and the byte is marked or does not pass the test
+abbrev sound : Form → (ℕ → Bool) → ℕ → Bool
+sound f p b = fits b f && (not (eqb (value 1 b f) 0) || not (p b))
 
-sound-all : (s : Set) → allBelow (sound s) 256 ≡ true
+sound-digit : allBelow (sound digitForm noDigit) 256 ≡ true
+unfolding Base.opened Text.opened
+sound-digit = refl
+
+sound-all : (s : Set) → allBelow (sound (formOf s) (inSet s)) 256 ≡ true
 unfolding Base.opened Text.opened
 sound-all LineEnd = refl
 sound-all FieldEnd = refl
@@ -91,10 +96,10 @@ or-not : (p q : Bool) → p ≡ true → (not p || not q) ≡ true → q ≡ fal
 or-not true q d e = not-true q e
 or-not false q d e = true-false (sym d)
 
-unmarked : (s : Set) (b : ℕ) → sound s b ≡ true → value 1 b (formOf s) ≡ 0 → inSet s b ≡ false
-unmarked s b e z =
-    let q = both-true (fits b (formOf s)) (not (eqb (value 1 b (formOf s)) 0) || not (inSet s b)) e in
-    or-not (eqb (value 1 b (formOf s)) 0) (inSet s b) (eq-eqb (value 1 b (formOf s)) 0 z) (q .1)
+unmarked : (f : Form) (p : ℕ → Bool) (b : ℕ) → sound f p b ≡ true → value 1 b f ≡ 0 → p b ≡ false
+unmarked f p b e z =
+    let q = both-true (fits b f) (not (eqb (value 1 b f) 0) || not (p b)) e in
+    or-not (eqb (value 1 b f) 0) (p b) (eq-eqb (value 1 b f) 0 z) (q .1)
 
 -- MARKS OF A WORD
 
@@ -113,20 +118,20 @@ abbrev ones : ℕ → ℕ
 ones zero = 0
 ones (suc n) = ones n * 256 + 1
 
--- bytes whose marks are 0 are not in the set
-clear : (s : Set) (l : List ℕ) (j : ℕ) → Bytes l → j ≤ length l →
-    Zeros j (value (ones (length l)) (littleEndian l) (formOf s)) → j ≤ upTo (inSet s) l
-unfolding littleEndian upTo
-clear s l zero h k z = omega arith
-clear s [] (suc j) h k z = absurd (omega arith)
-clear s (b ∷ t) (suc j) h k z =
-    let e = below-all (sound s) 256 b (sound-all s) (h .0) in
-    let f = both-true (fits b (formOf s)) (not (eqb (value 1 b (formOf s)) 0) || not (inSet s b)) e in
-    let a = value-apart (ones (length t)) (littleEndian t) b (formOf s) (f .0) in
-    let q : z .0 ≡ value (ones (length t)) (littleEndian t) (formOf s) = omega (arith, a .0, a .1, z .1) in
-    let m : value 1 b (formOf s) ≡ 0 = omega (arith, a .0, a .1, z .1) in
-    let r = clear s t j (h .1) (omega arith) (subst (Zeros j) q (z .2)) in
-    rw (unmarked s b e m) (omega arith)
+-- bytes whose marks are 0 do not pass the test
+module _ (f : Form) (p : ℕ → Bool) (s : allBelow (sound f p) 256 ≡ true) where
+  clear : (l : List ℕ) (j : ℕ) → Bytes l → j ≤ length l → Zeros j (value (ones (length l)) (littleEndian l) f) → j ≤ upTo p l
+  unfolding littleEndian upTo
+  clear l zero h k z = omega arith
+  clear [] (suc j) h k z = absurd (omega arith)
+  clear (b ∷ t) (suc j) h k z =
+      let e = below-all (sound f p) 256 b s (h .0) in
+      let g = both-true (fits b f) (not (eqb (value 1 b f) 0) || not (p b)) e in
+      let a = value-apart (ones (length t)) (littleEndian t) b f (g .0) in
+      let q : z .0 ≡ value (ones (length t)) (littleEndian t) f = omega (arith, a .0, a .1, z .1) in
+      let m : value 1 b f ≡ 0 = omega (arith, a .0, a .1, z .1) in
+      let r = clear t j (h .1) (omega arith) (subst (Zeros j) q (z .2)) in
+      rw (unmarked f p b e m) (omega arith)
 
 -- ZEROS OF A NUMBER
 
@@ -184,12 +189,22 @@ module _ (l : List ℕ) (i : ℕ) (h : i + 8 ≤ length l) where
       (more (i + 6) (i + 7) _ (omega arith) (omega arith)
       (more (i + 7) (i + 8) _ (omega arith) (omega arith) refl)))))))
 
+  eight-bytes : ((k : ℕ) → getD l k 0 < 256) → Bytes (eight l i)
+  eight-bytes b = (b i, (b (i + 1), (b (i + 2), (b (i + 3), (b (i + 4), (b (i + 5), (b (i + 6), (b (i + 7), tt))))))))
+
+  -- if none has a mark, all are digits
+  pub eight-clear : ((k : ℕ) → getD l k 0 < 256) → (x z : ℕ) → x ≡ littleEndian (eight l i) → z ≡ value 0x0101010101010101 x digitForm → z ≡ 0 → all digit (eight l i) ≡ true
+  eight-clear b x z w e n =
+      let q : value (ones 8) (littleEndian (eight l i)) digitForm ≡ 0 = ap (λ m. value 0x0101010101010101 m digitForm) (sym w) ∙ (sym e ∙ n) in
+      let c = clear digitForm noDigit sound-digit (eight l i) 8 (eight-bytes b) (omega arith) (no-marks 8 _ q) in
+      all-upTo digit (eight l i) ∙ eq-eqb (upTo noDigit (eight l i)) 8 (omega (arith, c, upTo-within noDigit (eight l i)))
+
   -- the bytes below the first mark are not in the set
   pub skipped : ((k : ℕ) → getD l k 0 < 256) → (s : Set) (j x z : ℕ) → x ≡ littleEndian (eight l i) → z ≡ value 0x0101010101010101 x (formOf s) → j ≤ 8 → Zeros j z →
       i + j + upTo (inSet s) (drop (i + j) l) ≡ i + upTo (inSet s) (drop i l)
   skipped b s j x z w e g m =
       let q : z ≡ value (ones 8) (littleEndian (eight l i)) (formOf s) = e ∙ ap (λ n. value 0x0101010101010101 n (formOf s)) w in
-      let c = clear s (eight l i) j (b i, (b (i + 1), (b (i + 2), (b (i + 3), (b (i + 4), (b (i + 5), (b (i + 6), (b (i + 7), tt)))))))) (omega arith) (subst (Zeros j) q m) in
+      let c = clear (formOf s) (inSet s) (sound-all s) (eight l i) j (eight-bytes b) (omega arith) (subst (Zeros j) q m) in
       let u = upTo-more (inSet s) (eight l i) (drop (i + 8) l) in
       let v : upTo (inSet s) (drop i l) ≡ upTo (inSet s) (eight l i ++ drop (i + 8) l) = ap (upTo (inSet s)) eight-is in
       let n = upTo-jump (inSet s) (drop i l) j (omega (arith, c, u, v)) in

@@ -13,9 +13,10 @@ use lib.Seq.{drop-cons, take-suc, getD-take, getD-drop, length-take-le}
 use borrow.Author.Tests.{le-leb, lt-leb, leb-true, eqb-true, eqb-false, eq-eqb, ne-eqb, not-true, not-false}
 use Rattle.rules.specs.Base.{Name, all, between}
 use Rattle.rules.specs.Text.{digit, upTo, isDigits, isNegative, isNumber, number, decimal}
+use Rattle.leaves.specs.Sets.{noDigit}
 use Rattle.leaves.specs.Marks.{eight}
 use Rattle.leaves.specs.Answers.{digitsIn, Begun, TenDigits, led, inRange, leadingZero, capped, decimalIn, whenTrue, numberIn, naturalIn, negativeIn}
-use Rattle.leaves.proofs.Search.{true-false, or-true, and-false, both-true, and-both, and-true, between-true, upTo-within, upTo-passed, upTo-next, upTo-ends, all-of, all-at, all-front, rest-part}
+use Rattle.leaves.proofs.Search.{true-false, or-true, and-false, both-true, and-both, and-true, between-true, upTo-within, upTo-passed, upTo-next, upTo-ends, upTo-more, all-upTo, all-of, all-at, all-front, rest-part}
 use Rattle.leaves.proofs.Bytewise.{eight-is}
 
 -- DIGITS
@@ -198,9 +199,6 @@ unfolding led
 led-same t zero = refl
 led-same t (suc n) = rw (getD-take (suc n) t 0 0 (omega arith))
 
-abbrev pub noDigit : ℕ → Bool
-noDigit b = not (digit b)
-
 module _ (t : Name) (k : ℕ) (h : k ≤ digitsIn t) where
   few : k ≤ length t
   unfolding digitsIn
@@ -217,6 +215,15 @@ module _ (t : Name) (k : ℕ) (h : k ≤ digitsIn t) where
 pub begun-none : (l : Name) (at : ℕ) → Begun l at 0 at
 unfolding decimal
 begun-none l at = let z : at - at ≡ 0 = omega arith in record { low = omega arith; high = omega arith; is = rw z }
+
+pub begun-eight : (l : Name) (at value : ℕ) → at + 8 ≤ length l → all digit (eight l at) ≡ true → value ≡ decimal 0 (eight l at) → Begun l at value (at + 8)
+unfolding digitsIn
+begun-eight l at value h d e =
+    let t = eight-is l at h in
+    let n : upTo noDigit (eight l at) ≡ 8 = eqb-true _ 8 (sym (all-upTo digit (eight l at)) ∙ d) in
+    let m = upTo-more noDigit (eight l at) (take 2 (drop (at + 8) l)) in
+    let z : at + 8 - at ≡ 8 = omega arith in
+    record { low = omega arith; high = omega (arith, n, m, ap (λ s. upTo noDigit (take 10 s)) t); is = rw z (e ∙ ap (decimal 0) (sym (ap (take 8) t))) }
 
 module _ (l : Name) (at value end : ℕ) (g : Begun l at value end) where
   abbrev t : Name

@@ -9,7 +9,8 @@ use Rattle.rules.specs.Base.{Name, between}
 use Rattle.rules.specs.Limits.{most-letters}
 use Rattle.rules.specs.Syntax as Syntax
 use Rattle.rules.specs.Syntax.{num, null, var, path}
-use Rattle.rules.specs.Text.{digit-zero, digit, letter, upTo, isDigits, decimal, isNumber, number, isExpr, exprOf, stopIn}
+use Rattle.rules.specs.Text.{digit-zero, letter, upTo, isDigits, decimal, isNumber, number, isExpr, exprOf, stopIn}
+use Rattle.leaves.specs.Sets.{noDigit}
 use Rattle.leaves.specs.declared.Value.{Value}
 use Rattle.leaves.specs.declared.Value.the-variants.{Bits, NoNumber}
 use Rattle.leaves.specs.declared.Expr.{Expr}
@@ -56,7 +57,7 @@ negativeIn d = whenTrue (isDigits d && between 1 2147483648 (decimal 0 d)) (4294
 
 -- how many digits a text begins with, among its first ten bytes
 unfoldable pub digitsIn : Name → ℕ
-digitsIn t = upTo (λ b. not (digit b)) (take 10 t)
+digitsIn t = upTo noDigit (take 10 t)
 
 -- digits from a place on to an end, some of the first ten at most, and the number that they write
 pub record Begun (l : Name) (at value end : ℕ) : Type 0 where

@@ -8,10 +8,10 @@ ghost use Rattle.rules.specs.Base.{between, eqName, is, all};
 ghost use Rattle.rules.specs.Text.{minus, allowed, letter, digit, letterOrDigit, upTo, isName, reserved, isNumber, number, decimal, numeral, isExpr, isAtom};
 ghost use Rattle.rules.specs.Grammar.{kindOf};
 ghost use Rattle.leaves.specs.Sets.{inSet, Found};
-ghost use Rattle.leaves.specs.Marks.{eight, littleEndian, value, lineForm, fieldForm, nameForm, formOf};
+ghost use Rattle.leaves.specs.Marks.{eight, littleEndian, value, lineForm, fieldForm, nameForm, digitForm, formOf};
 ghost use Rattle.leaves.specs.Fields.{endsField, FieldIs};
 ghost use Rattle.leaves.specs.Words.{words, wordNumber, kindOr0, packed, packedIn};
-ghost use Rattle.leaves.specs.Answers.{beginsName, TenDigits, led, inRange, leadingZero, capped, decimalIn, bitsOf, naturalIn, negativeIn, numberIn, exprIn, Reads, stopOr};
+ghost use Rattle.leaves.specs.Answers.{beginsName, Begun, TenDigits, led, inRange, leadingZero, capped, decimalIn, bitsOf, naturalIn, negativeIn, numberIn, exprIn, Reads, stopOr};
 
 // BYTES
 
@@ -154,6 +154,15 @@ fn name_marks(x: u64) -> u64
     let letter = (u + 0x1f1f1f1f1f1f1f1f) & ((u + 0x0505050505050505) ^ 0x8080808080808080);
     let digit = (y + 0x5050505050505050) & ((y + 0x4646464646464646) ^ 0x8080808080808080);
     (((letter | digit) ^ 0x8080808080808080) | x) & 0x8080808080808080
+}
+
+// Bit 7 of each byte that is no digit.
+fn digit_marks(x: u64) -> u64
+    ensures { λ r. ⌜ r ≡ value 0x0101010101010101 x digitForm ⌝ }
+{
+    let y = x & 0x7f7f7f7f7f7f7f7f;
+    (((y + 0x5050505050505050) ^ 0x8080808080808080) | (y + 0x4646464646464646) | x)
+        & 0x8080808080808080
 }
 
 // Bit 7 of each byte that may be in the set.
@@ -544,14 +553,43 @@ fn digits_stop(l: &[u8], at: usize) -> usize
     if l.len() - at < 10 { l.len() } else { at + 10 }
 }
 
+// Are the next eight bytes digits? Most are not, as the last of them tells.
+fn has_eight(l: &[u8], at: usize) -> bool
+    requires { ⌜ at ≤ length (now l) ⌝ }
+    ensures { λ r. ⌜ (r ≡ true → (at + 8 ≤ length (now (l .entry))) × (all digit (eight (now (l .entry)) at) ≡ true)) ⌝ }
+{
+    if l.len() - at < 8 {
+        return false;
+    }
+    if !is_digit(l[at + 7]) {
+        return false;
+    }
+    digit_marks(word8(l, at)) == 0
+}
+
+// The first eight of the digits from a place on, or none.
+fn first_digits(l: &[u8], at: usize) -> Digits
+    requires { ⌜ at ≤ length (now l) ⌝ }
+    ensures { λ r. ⌜ Begun (now (l .entry)) at (r .value) (r .end) ⌝ }
+{
+    if has_eight(l, at) {
+        return Digits {
+            value: eight_digits(l, at),
+            end: at + 8,
+        };
+    }
+    Digits { value: 0, end: at }
+}
+
 // The digits from a place on, at most ten: a number has no more.
 fn digits_from(l: &[u8], at: usize) -> Digits
     requires { ⌜ at ≤ length (now l) ⌝ }
     ensures { λ r. ⌜ TenDigits (now (l .entry)) at (r .value) (r .end) ⌝ }
 {
     let stop = digits_stop(l, at);
-    let mut value: u64 = 0;
-    let mut end = at;
+    let first = first_digits(l, at);
+    let mut value = first.value;
+    let mut end = first.end;
     while end < stop {
         let b = l[end];
         if !is_digit(b) {
