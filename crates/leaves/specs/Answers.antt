@@ -74,7 +74,7 @@ pub record TenDigits (l : Name) (at value end : ℕ) : Type 0 where
 unfoldable pub led : ℕ → ℕ → Bool
 led n b = leb 1 n && (eqb n 1 || not (eqb b digit-zero))
 
--- what digits may write, after `-` or without
+-- the range of what digits write, after `-` or without
 unfoldable pub inRange : Bool → ℕ → Bool
 inRange q n = cond q (between 1 2147483648 n) (leb n 2147483647)
 

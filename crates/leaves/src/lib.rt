@@ -1,7 +1,7 @@
 use rules::Machine;
 ghost use mathlib.Core.Path.{_≡_};
 ghost use mathlib.Core.Bool.{true, false, cond, _&&_, _||_};
-ghost use lib.Dec.{eqb, leb};
+ghost use lib.Dec.{eqb};
 ghost use Prim.Native.Nat.{_+_, _-_, _≤_, _<_};
 ghost use lib.ListN.{length, getD, take, drop};
 ghost use Rattle.rules.specs.Base.{between, eqName, is, all};
@@ -511,9 +511,9 @@ fn eight_digits(l: &[u8], i: usize) -> u64
 }
 
 // The number that some digits write, and where they end.
-pub struct Digits {
-    pub value: u64,
-    pub end: usize,
+struct Digits {
+    value: u64,
+    end: usize,
 }
 
 // The first eight digits, if there are so many.
@@ -545,6 +545,20 @@ fn value_of(w: &[u8]) -> u64
     n
 }
 
+// The 32 bits of a field that is known to be a number.
+fn known_number(w: &[u8]) -> u32
+    requires { ⌜ isNumber (now w) ≡ true ⌝ }
+    ensures { λ r. ⌜ r ≡ number (now (w .entry)) ⌝ }
+{
+    let from = sign_end(w, 0);
+    let n = value_of(&w[from..]);
+    if from == 0 {
+        n as u32
+    } else {
+        (4294967296 - n) as u32
+    }
+}
+
 // Ten bytes from a place on, or the end.
 fn digits_stop(l: &[u8], at: usize) -> usize
     requires { ⌜ at ≤ length (now l) ⌝ }
@@ -553,7 +567,7 @@ fn digits_stop(l: &[u8], at: usize) -> usize
     if l.len() - at < 10 { l.len() } else { at + 10 }
 }
 
-// Are the next eight bytes digits? Most are not, as the last of them tells.
+// Are the next eight bytes digits? The last of them is asked first.
 fn has_eight(l: &[u8], at: usize) -> bool
     requires { ⌜ at ≤ length (now l) ⌝ }
     ensures { λ r. ⌜ (r ≡ true → (at + 8 ≤ length (now (l .entry))) × (all digit (eight (now (l .entry)) at) ≡ true)) ⌝ }
@@ -615,7 +629,7 @@ fn is_led(l: &[u8], from: usize, end: usize) -> bool
     end == from + 1
 }
 
-// May digits write it, after `-` or without?
+// Is it in the range of a number, after `-` or without?
 fn in_range(value: u64, signed: bool) -> bool
     ensures { λ r. ⌜ r ≡ inRange signed value ⌝ }
 {
@@ -653,20 +667,6 @@ fn number_end(l: &[u8], at: usize) -> usize
         d.end
     } else {
         at
-    }
-}
-
-// The 32 bits of a field that is known to be a number.
-fn known_number(w: &[u8]) -> u32
-    requires { ⌜ isNumber (now w) ≡ true ⌝ }
-    ensures { λ r. ⌜ r ≡ number (now (w .entry)) ⌝ }
-{
-    let from = sign_end(w, 0);
-    let n = value_of(&w[from..]);
-    if from == 0 {
-        n as u32
-    } else {
-        (4294967296 - n) as u32
     }
 }
 
@@ -776,7 +776,7 @@ pub fn is_expr(w: &[u8]) -> bool
     false
 }
 
-// The same for a variable, `null` or a path, where d is the first place from `at` on that has no letter or digit: the field ends there, or goes on after a full stop.
+// The end of the field that starts at `at`, if that field is a variable, `null` or a path; else `at`. Its first byte that is no letter or digit stands at d, where it ends or goes on after a full stop.
 fn path_end(l: &[u8], at: usize, d: usize) -> usize
     requires { ⌜ (at ≤ length (now l)) × Found (now l) at Set.NotLetterOrDigit d × (numeral (drop at (now l)) ≡ false) ⌝ }
     ensures { λ r. ⌜ FieldIs isExpr (now (l .entry)) at r ⌝ }
