@@ -2,7 +2,7 @@
 use mathlib.Core.Path.{_≡_, refl, sym, ap, _∙_}
 use mathlib.Core.Bool.{Bool, true, false, not, cond, _&&_, _||_}
 use mathlib.Core.List.{[], _∷_}
-use mathlib.Core.Option.{none, some}
+use mathlib.Core.Option.{some}
 use Prim.Native.Nat.{ℕ, zero, suc, _+_, _-_, _≤_, _<_}
 use native.Mathlib.Omega.{arith}
 use native.Mathlib.Decide.{decLt}
@@ -15,14 +15,12 @@ use Rattle.rules.specs.Base as Base
 use Rattle.rules.specs.Base.{Name, all, is, between}
 use Rattle.rules.specs.Text as Text
 use Rattle.rules.specs.Text.{letter, digit, letterOrDigit, upTo, isName, stopIn, hasStop, beforeStop, afterStop, numeral, isNegative, isNumber, number, isExpr, exprOf}
-use Rattle.rules.specs.Syntax as Syntax
 use Rattle.rules.specs.Syntax.{num, null, var, path}
 use Rattle.leaves.specs.declared.Set.the-variants.{FieldEnd}
 use Rattle.leaves.specs.Sets.{inSet}
 use Rattle.leaves.specs.Fields.{fieldLength, firstField, endsField, FieldIs}
-use Rattle.leaves.specs.Answers.{beginsName, numberIn, exprIn}
+use Rattle.leaves.specs.Answers.{beginsName, exprIn}
 use Rattle.leaves.proofs.Search.{true-false, and-both, and-true, and-false, or-false, upTo-within, upTo-found, upTo-passed, upTo-take, upTo-jump, smaller-within, smaller-end, smaller-here, smaller-later, all-upTo, all-of, not-all, rest-part}
-use Rattle.leaves.proofs.Numbers.{when-some, when-none}
 
 -- NAMES
 pub name-begins : (w : Name) → isName w ≡ (beginsName (length w) w && all letterOrDigit w)
@@ -33,23 +31,6 @@ name-fails : (w : Name) (k : ℕ) → k < length w → letterOrDigit (getD w k 0
 name-fails w k h e = name-begins w ∙ rw (not-all letterOrDigit w k h e) (and-false (beginsName (length w) w))
 
 -- EXPRESSIONS
-
-pub expr-number : (w : Name) (n : ℕ) → numeral w ≡ true → some n ≡ numberIn w → some (num n) ≡ exprIn w
-unfolding exprIn isExpr exprOf numberIn
-expr-number w n h e = let q = when-some (isNumber w) (number w) n e in rw (h, q .0, q .1)
-
-pub expr-no-number : (w : Name) → numeral w ≡ true → none ≡ numberIn w → none ≡ exprIn w
-unfolding exprIn isExpr numberIn
-expr-no-number w h e = rw (h, when-none (isNumber w) (number w) e)
-
--- the form and the content that an answer tells
-pub expr-some : (w : Name) (e : Syntax.Expr Name) → some e ≡ exprIn w → (isExpr w ≡ true) × (exprOf w ≡ e)
-unfolding exprIn
-expr-some w e h = when-some (isExpr w) (exprOf w) e h
-
-pub expr-none : (w : Name) → none ≡ exprIn w → isExpr w ≡ false
-unfolding exprIn
-expr-none w h = when-none (isExpr w) (exprOf w) h
 
 abbrev other : ℕ → Bool
 other b = not (letterOrDigit b)
@@ -86,26 +67,13 @@ stop-other b e = ne-eqb b 46 (λ z. true-false (sym (ap other z) ∙ e))
 
 -- a field of letters and digits has no full stop
 module _ (w : Name) (a : all letterOrDigit w ≡ true) where
-  pub no-stop : stopIn w ≡ length w
+  no-stop : stopIn w ≡ length w
   unfolding stopIn
   no-stop = smaller-end other (λ b. eqb b 46) stop-other w (eqb-true _ _ (sym (all-upTo letterOrDigit w) ∙ a))
 
   whole-form : numeral w ≡ false → isExpr w ≡ beginsName (length w) w
   unfolding isExpr hasStop
   whole-form n = rw (n, no-stop, le-ltb (length w) (length w) (omega arith)) (name-begins w ∙ rw a (and-true (beginsName (length w) w)))
-
-  pub whole-bad : numeral w ≡ false → beginsName (length w) w ≡ false → none ≡ exprIn w
-  unfolding exprIn
-  whole-bad n b = rw (whole-form n, b)
-
-  module _ (n : numeral w ≡ false) (b : beginsName (length w) w ≡ true) where
-    pub whole-null : is "null" w ≡ true → some null ≡ exprIn w
-    unfolding exprIn exprOf hasStop
-    whole-null e = rw (whole-form n, b, n, no-stop, le-ltb (length w) (length w) (omega arith), e)
-
-    pub whole-var : is "null" w ≡ false → some (var w) ≡ exprIn w
-    unfolding exprIn exprOf hasStop
-    whole-var e = rw (whole-form n, b, n, no-stop, le-ltb (length w) (length w) (omega arith), e)
 
 -- d: the place of the first byte that is no letter or digit
 module _ (w : Name) (d : ℕ) (h : d < length w) (e : d ≡ 0 + upTo other w) where
@@ -134,13 +102,9 @@ module _ (w : Name) (d : ℕ) (h : d < length w) (e : d ≡ 0 + upTo other w) wh
       go true z = rw (before (omega (arith, ltb-true (stopIn w) (length w) z)))
       go false z = rw (name-fails w d h here)
 
-  pub sign-bad : numeral w ≡ false → (getD w d 0 ≡ 46 → ⊥) → none ≡ exprIn w
-  unfolding exprIn
-  sign-bad n s = rw (sign-form n s)
-
   -- a full stop there
   module _ (s : getD w d 0 ≡ 46) where
-    pub stop-here : stopIn w ≡ d
+    stop-here : stopIn w ≡ d
     unfolding stopIn
     stop-here =
         let z : eqb (getD w (upTo other w) 0) 46 ≡ true = rw (← at-d) (eq-eqb (getD w d 0) 46 s) in
@@ -149,18 +113,6 @@ module _ (w : Name) (d : ℕ) (h : d < length w) (e : d ≡ 0 + upTo other w) wh
     path-form : numeral w ≡ false → isExpr w ≡ (beginsName d w && isName (drop (suc d) w))
     unfolding isExpr hasStop beforeStop afterStop
     path-form n = rw (n, stop-here, lt-ltb d (length w) h, name-upTo w d at-d)
-
-    pub path-no-variable : numeral w ≡ false → beginsName d w ≡ false → none ≡ exprIn w
-    unfolding exprIn
-    path-no-variable n b = rw (path-form n, b)
-
-    pub path-no-field : numeral w ≡ false → isName (drop (suc d) w) ≡ false → none ≡ exprIn w
-    unfolding exprIn
-    path-no-field n b = rw (path-form n, b, and-false (beginsName d w))
-
-    pub path-is : numeral w ≡ false → beginsName d w ≡ true → isName (drop (suc d) w) ≡ true → some (path (take d w) (drop (suc d) w)) ≡ exprIn w
-    unfolding exprIn exprOf hasStop beforeStop afterStop
-    path-is n a b = rw (path-form n, a, b, n, stop-here, lt-ltb d (length w) h)
 
 -- a field that is known to be an expression: its first byte, its full stop and `null` tell which
 module _ (w : Name) (x : isExpr w ≡ true) where

@@ -2,7 +2,6 @@
 use mathlib.Core.Path.{_≡_, refl, sym, ap, subst, _∙_}
 use mathlib.Core.Bool.{Bool, true, false, not, cond, _&&_, _||_}
 use mathlib.Core.List.{[], _∷_, _++_}
-use mathlib.Core.Option.{none, some}
 use Prim.Native.Nat.{ℕ, zero, suc, _+_, _*_, _-_, _≤_, _<_}
 use native.Mathlib.Omega.{arith}
 use native.Mathlib.Numerals.{add-one}
@@ -15,8 +14,8 @@ use Rattle.rules.specs.Base.{Name, all, between}
 use Rattle.rules.specs.Text.{digit, upTo, isDigits, isNegative, isNumber, number, decimal}
 use Rattle.leaves.specs.Sets.{noDigit}
 use Rattle.leaves.specs.Marks.{eight}
-use Rattle.leaves.specs.Answers.{digitsIn, Begun, TenDigits, led, inRange, leadingZero, capped, decimalIn, whenTrue, numberIn, naturalIn, negativeIn}
-use Rattle.leaves.proofs.Search.{true-false, or-true, and-false, both-true, and-both, and-true, between-true, upTo-within, upTo-passed, upTo-next, upTo-ends, upTo-more, all-upTo, all-of, all-at, all-front, rest-part}
+use Rattle.leaves.specs.Answers.{digitsIn, Begun, TenDigits, led, inRange}
+use Rattle.leaves.proofs.Search.{or-true, and-false, both-true, and-both, and-true, between-true, upTo-within, upTo-passed, upTo-next, upTo-ends, upTo-more, all-upTo, all-of, all-at, all-front, rest-part}
 use Rattle.leaves.proofs.Bytewise.{eight-is}
 
 -- DIGITS
@@ -37,61 +36,6 @@ decimal-grows (b ∷ t) n = let h = decimal-grows t (n * 10 + (b - 48)) in omega
 pub digit-is : (b : ℕ) → digit b ≡ true → (48 ≤ b) × (b ≤ 57)
 unfolding digit
 digit-is b e = between-true 48 57 b e
-
-pub digits-are : (w : Name) → 1 ≤ length w → leadingZero w ≡ false → isDigits w ≡ all digit w
-unfolding isDigits leadingZero
-digits-are w h e = rw (le-leb 1 (length w) h, cleared (eqb (length w) 1 || not (eqb (getD w 0 0) 48)) e)
-  where
-    cleared : (q : Bool) → not q ≡ false → q ≡ true
-    cleared true z = refl
-    cleared false z = true-false z
-
-pub no-digits : (w : Name) → length w ≡ 0 → isDigits w ≡ false
-unfolding isDigits
-no-digits w h = rw h
-
-pub zero-led : (w : Name) → leadingZero w ≡ true → isDigits w ≡ false
-unfolding isDigits leadingZero
-zero-led w e = rw (cleared (eqb (length w) 1 || not (eqb (getD w 0 0) 48)) e) (and-false (leb 1 (length w)))
-  where
-    cleared : (q : Bool) → not q ≡ true → q ≡ false
-    cleared true z = true-false (sym z)
-    cleared false z = refl
-
--- what bytes write, whether or not they are digits
-pub not-decimal : (w : Name) → isDigits w ≡ false → 2147483649 ≡ decimalIn w
-unfolding decimalIn
-not-decimal w e = rw e
-
-pub are-decimal :
-    (w : Name) (r : ℕ) → isDigits w ≡ all digit w → r ≡ cond (all digit w) (capped (decimal 0 w)) 2147483649 → r ≡ decimalIn w
-unfolding decimalIn
-are-decimal w r d e = rw d e
-
--- the capped number, and what it says of the number
-pub capped-over : (n : ℕ) → 2147483648 < n → capped n ≡ 2147483649
-unfolding capped
-capped-over n h = rw (lt-leb n 2147483648 h)
-
-pub either-large : (q : Bool) (n : ℕ) → 2147483648 < n → 2147483649 ≡ cond q (capped n) 2147483649
-either-large true n h = sym (capped-over n h)
-either-large false n h = refl
-
-pub capped-within : (n : ℕ) → n ≤ 2147483648 → capped n ≡ n
-unfolding capped
-capped-within n h = rw (le-leb n 2147483648 h)
-
-pub capped-is : (n c : ℕ) → c ≡ capped n → c ≤ 2147483648 → n ≡ c
-capped-is n c e h =
-    elim (decLt 2147483648 n) [ yes q ↦ absurd (omega (arith, e, capped-over n q)) | no q ↦ omega (arith, e, capped-within n (omega arith)) ]
-
-pub capped-above : (n c k : ℕ) → c ≡ capped n → k ≤ 2147483648 → k < c → k < n
-capped-above n c k e h l =
-    elim (decLt 2147483648 n) [ yes q ↦ omega arith | no q ↦ omega (arith, e, capped-within n (omega arith)) ]
-
-last-false : (p q r : Bool) → (p && r) ≡ false → (p && (q && r)) ≡ false
-last-false true q r e = rw e (and-false q)
-last-false false q r e = refl
 
 -- EIGHT DIGITS
 
@@ -281,77 +225,10 @@ less-is from end = go (eqb end (from + 1)) refl
     go false e = sym (ne-eqb (end - from) 1 (λ z. eqb-false end (from + 1) e (omega arith)))
 
 -- NUMBERS
-pub when-some : {A : Type 0} (q : Bool) (a b : A) → some b ≡ whenTrue q a → (q ≡ true) × (a ≡ b)
-when-some true a b e = (refl, cc)
-when-some false a b e = absurd (let z : _≡_ {A = ℕ} 0 1 = cc in omega arith)
-
-pub when-none : {A : Type 0} (q : Bool) (a : A) → none ≡ whenTrue q a → q ≡ false
-when-none true a e = absurd (let z : _≡_ {A = ℕ} 0 1 = cc in omega arith)
-when-none false a e = refl
-
--- d: digits or not; c: what they write, capped
-module _ (d : Name) (c : ℕ) (h : c ≡ decimalIn d) where
-  -- where c is no larger than a number can be, it is what the digits write
-  within : c ≤ 2147483648 → (isDigits d ≡ true) × (decimal 0 d ≡ c)
-  unfolding decimalIn
-  within l = go (isDigits d) h
-    where
-      go : (q : Bool) → c ≡ cond q (capped (decimal 0 d)) 2147483649 → (q ≡ true) × (decimal 0 d ≡ c)
-      go true e = (refl, capped-is (decimal 0 d) c e l)
-      go false e = absurd (omega arith)
-
-  -- where c is larger than k, the digits write more than k, if there are any
-  beyond : (k : ℕ) → k ≤ 2147483648 → k < c → (isDigits d && leb (decimal 0 d) k) ≡ false
-  unfolding decimalIn
-  beyond k m l = go (isDigits d) h
-    where
-      go : (q : Bool) → c ≡ cond q (capped (decimal 0 d)) 2147483649 → (q && leb (decimal 0 d) k) ≡ false
-      go true e = lt-leb (decimal 0 d) k (capped-above (decimal 0 d) c k e m l)
-      go false e = refl
-
-  pub natural-large : 2147483647 < c → none ≡ naturalIn d
-  unfolding naturalIn
-  natural-large l = rw (beyond 2147483647 (omega arith) l)
-
-  pub natural-is : c ≤ 2147483647 → some c ≡ naturalIn d
-  unfolding naturalIn
-  natural-is l = let z = within (omega arith) in rw (z .0, z .1, le-leb c 2147483647 l)
-
-  pub negative-zero : c < 1 → none ≡ negativeIn d
-  unfolding negativeIn between
-  negative-zero l = let z = within (omega arith) in rw (z .0, z .1, lt-leb 1 c l)
-
-  pub negative-large : 2147483648 < c → none ≡ negativeIn d
-  unfolding negativeIn between
-  negative-large l =
-      rw (last-false (isDigits d) (leb 1 (decimal 0 d)) (leb (decimal 0 d) 2147483648) (beyond 2147483648 (omega arith) l))
-
-  pub negative-is : 1 ≤ c → c ≤ 2147483648 → some (4294967296 - c) ≡ negativeIn d
-  unfolding negativeIn between
-  negative-is m l = let z = within l in rw (z .0, z .1, le-leb 1 c m, le-leb c 2147483648 l)
-
-pub number-negative : (w : Name) → getD w 0 0 ≡ 45 → numberIn w ≡ negativeIn (drop 1 w)
-unfolding numberIn negativeIn isNumber number isNegative
-number-negative w e = rw e
-
-pub number-natural : (w : Name) → (getD w 0 0 ≡ 45 → ⊥) → numberIn w ≡ naturalIn w
-unfolding numberIn naturalIn isNumber number isNegative
-number-natural w n = rw (ne-eqb (getD w 0 0) 45 n)
-
--- the form and the content that an answer tells
-pub number-some : (w : Name) (n : ℕ) → some n ≡ numberIn w → (isNumber w ≡ true) × (number w ≡ n)
-unfolding numberIn
-number-some w n e = when-some (isNumber w) (number w) n e
-
-pub number-none : (w : Name) → none ≡ numberIn w → isNumber w ≡ false
-unfolding numberIn
-number-none w e = when-none (isNumber w) (number w) e
 
 -- of a number: its digits, and what they write
 digits-all : (w : Name) → isDigits w ≡ true → all digit w ≡ true
-unfolding isDigits
-digits-all w e =
-    both-true (eqb (length w) 1 || not (eqb (getD w 0 0) 48)) (all digit w) (both-true (leb 1 (length w)) ((eqb (length w) 1 || not (eqb (getD w 0 0) 48)) && all digit w) e .1) .1
+digits-all w e = both-true (led (length w) (getD w 0 0)) (all digit w) (sym (digits-form w) ∙ e) .1
 
 negative-digits : (w : Name) → isNumber w ≡ true → eqb (getD w 0 0) 45 ≡ true → (all digit (drop 1 w) ≡ true) × (1 ≤ decimal 0 (drop 1 w)) × (decimal 0 (drop 1 w) ≤ 2147483648)
 unfolding isNumber isNegative
@@ -373,10 +250,6 @@ bits-negative w e = rw e
 bits-natural : (w : Name) → eqb (getD w 0 0) 45 ≡ false → number w ≡ decimal 0 w
 unfolding number isNegative
 bits-natural w e = rw e
-
-pub has-first : (w : Name) (b : ℕ) → getD w 0 0 ≡ suc b → 1 ≤ length w
-has-first [] b e = absurd (omega arith)
-has-first (x ∷ w) b e = omega arith
 
 -- what is known of the digits d after the sign
 pub record Known (w d : Name) (from : ℕ) : Type 0 where

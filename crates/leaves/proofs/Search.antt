@@ -200,15 +200,6 @@ module _ (p : ℕ → Bool) where
   all-front [] t e = refl
   all-front (b ∷ l) t e = let q = both-true (p b) (all p (l ++ t)) e in rw (q .0, all-front l t (q .1))
 
-  -- one step, and the end
-  pub all-on : (l : List ℕ) (i : ℕ) → i < length l → p (getD l i 0) ≡ true → all p (drop i l) ≡ all p (drop (i + 1) l)
-  unfolding all
-  all-on l i h e = rw (add-one, drop-cons l i 0 h, e)
-
-  pub all-end : (l : List ℕ) (i : ℕ) → length l ≤ i → all p (drop i l) ≡ true
-  unfolding all
-  all-end l i h = rw (drop-of-length-le l {i = i} h)
-
   pub not-all : (l : List ℕ) (i : ℕ) → i < length l → p (getD l i 0) ≡ false → all p l ≡ false
   not-all l i h e = go (all p l) refl
     where

@@ -2,16 +2,16 @@ use rules::Machine;
 ghost use mathlib.Core.Path.{_≡_};
 ghost use mathlib.Core.Bool.{true, false, cond, _&&_, _||_};
 ghost use lib.Dec.{eqb};
-ghost use Prim.Native.Nat.{_+_, _-_, _≤_, _<_};
+ghost use Prim.Native.Nat.{_+_, _-_, _≤_};
 ghost use lib.ListN.{length, getD, take, drop};
 ghost use Rattle.rules.specs.Base.{between, eqName, is, all};
-ghost use Rattle.rules.specs.Text.{minus, allowed, letter, digit, letterOrDigit, upTo, isName, reserved, isNumber, number, decimal, numeral, isExpr, isAtom};
+ghost use Rattle.rules.specs.Text.{minus, allowed, letter, digit, letterOrDigit, upTo, isName, reserved, isNumber, number, decimal, numeral, isExpr};
 ghost use Rattle.rules.specs.Grammar.{kindOf};
 ghost use Rattle.leaves.specs.Sets.{inSet, Found};
 ghost use Rattle.leaves.specs.Marks.{eight, littleEndian, value, lineForm, fieldForm, nameForm, digitForm, formOf};
 ghost use Rattle.leaves.specs.Fields.{endsField, FieldIs};
 ghost use Rattle.leaves.specs.Words.{words, wordNumber, kindOr0, packed, packedIn};
-ghost use Rattle.leaves.specs.Answers.{beginsName, Begun, TenDigits, led, inRange, leadingZero, capped, decimalIn, bitsOf, naturalIn, negativeIn, numberIn, exprIn, Reads, stopOr};
+ghost use Rattle.leaves.specs.Answers.{beginsName, Begun, TenDigits, led, inRange, Reads};
 
 // BYTES
 
@@ -396,97 +396,6 @@ pub fn name_end(l: &[u8], at: usize) -> usize
 
 // NUMBERS
 
-fn has_leading_zero(w: &[u8]) -> bool
-    ensures { λ r. ⌜ r ≡ leadingZero (now (w .entry)) ⌝ }
-{
-    if w.len() == 1 {
-        return false;
-    }
-    byte_at(w, 0) == 48
-}
-
-// The number that bytes write; 2147483649 where it is larger, or where one is no digit.
-fn decimal_digits(w: &[u8]) -> u64
-    ensures { λ r. ⌜ r ≡ cond (all digit (now (w .entry))) (capped (decimal 0 (now (w .entry)))) 2147483649 ⌝ }
-{
-    let mut n: u64 = 0;
-    let mut i = 0;
-    while i < w.len() {
-        if !is_digit(w[i]) {
-            return 2147483649;
-        }
-        n = n * 10 + (w[i] - 48) as u64;
-        if 2147483648 < n {
-            return 2147483649;
-        }
-        i += 1;
-    }
-    n
-}
-
-// The number that digits write; 2147483649 where it is larger, or where there is none.
-fn decimal(w: &[u8]) -> u64
-    ensures { λ r. ⌜ r ≡ decimalIn (now (w .entry)) ⌝ }
-{
-    if w.len() == 0 {
-        return 2147483649;
-    }
-    if has_leading_zero(w) {
-        return 2147483649;
-    }
-    decimal_digits(w)
-}
-
-// A number by its 32 bits.
-pub enum Value {
-    Bits(u32),
-    NoNumber,
-}
-
-fn natural(d: &[u8]) -> Value
-    ensures { λ r. ⌜ bitsOf r ≡ naturalIn (now (d .entry)) ⌝ }
-{
-    let n = decimal(d);
-    if 2147483647 < n {
-        return Value::NoNumber;
-    }
-    Value::Bits(n as u32)
-}
-
-// What `-` before these digits writes.
-fn negative(d: &[u8]) -> Value
-    ensures { λ r. ⌜ bitsOf r ≡ negativeIn (now (d .entry)) ⌝ }
-{
-    let n = decimal(d);
-    if n < 1 {
-        return Value::NoNumber;
-    }
-    if 2147483648 < n {
-        return Value::NoNumber;
-    }
-    Value::Bits((4294967296 - n) as u32)
-}
-
-pub fn number_of(w: &[u8]) -> Value
-    ensures { λ r. ⌜ bitsOf r ≡ numberIn (now (w .entry)) ⌝ }
-{
-    if byte_at(w, 0) == 45 {
-        let d = &w[1..];
-        return negative(d);
-    }
-    natural(w)
-}
-
-pub fn is_number(w: &[u8]) -> bool
-    ensures { λ r. ⌜ r ≡ isNumber (now (w .entry)) ⌝ }
-{
-    let v = number_of(w);
-    match v {
-        Value::Bits(_) => true,
-        Value::NoNumber => false,
-    }
-}
-
 // Where a number's digits start: after the sign at a place, if one stands there.
 fn sign_end(l: &[u8], at: usize) -> usize
     ensures { λ r. ⌜ r ≡ cond (eqb (getD (now (l .entry)) at 0) minus) (at + 1) at ⌝ }
@@ -698,56 +607,7 @@ pub fn is_numeral(w: &[u8]) -> bool
     begins_number(byte_at(w, 0))
 }
 
-// A field of letters and digits.
-fn whole_expr(w: &[u8]) -> Expr
-    requires { ⌜ (numeral (now w) ≡ false) × (all letterOrDigit (now w) ≡ true) ⌝ }
-    ensures { λ r. ⌜ Reads (now (w .entry)) r ⌝ }
-{
-    if !begins_name(w, w.len()) {
-        return Expr::NoExpr;
-    }
-    if is_null(w) {
-        return Expr::Null;
-    }
-    Expr::Var
-}
-
-// A field whose first byte that is no letter or digit stands at d.
-fn path_expr(w: &[u8], d: usize) -> Expr
-    requires { ⌜ (numeral (now w) ≡ false) × ((d < length (now w)) × Found (now w) 0 Set.NotLetterOrDigit d) ⌝ }
-    ensures { λ r. ⌜ Reads (now (w .entry)) r ⌝ }
-{
-    if w[d] != 46 {
-        return Expr::NoExpr;
-    }
-    if !begins_name(w, d) {
-        return Expr::NoExpr;
-    }
-    let f = d + 1;
-    if is_name(&w[f..]) {
-        return Expr::Path(d);
-    }
-    Expr::NoExpr
-}
-
-pub fn expr_of(w: &[u8]) -> Expr
-    ensures { λ r. ⌜ Reads (now (w .entry)) r ⌝ }
-{
-    if is_numeral(w) {
-        let v = number_of(w);
-        let Value::Bits(n) = v else {
-            return Expr::NoExpr;
-        };
-        return Expr::Num(n);
-    }
-    let d = find(w, 0, Set::NotLetterOrDigit);
-    if d < w.len() {
-        return path_expr(w, d);
-    }
-    whole_expr(w)
-}
-
-// The same of a field that is known to be an expression: fewer tests.
+// The expression of a field that is known to be one.
 pub fn known_expr(w: &[u8]) -> Expr
     requires { ⌜ isExpr (now w) ≡ true ⌝ }
     ensures { λ r. ⌜ Reads (now (w .entry)) r ⌝ }
@@ -764,16 +624,6 @@ pub fn known_expr(w: &[u8]) -> Expr
         return Expr::Null;
     }
     Expr::Var
-}
-
-pub fn is_expr(w: &[u8]) -> bool
-    ensures { λ r. ⌜ r ≡ isExpr (now (w .entry)) ⌝ }
-{
-    let e = expr_of(w);
-    let Expr::NoExpr = e else {
-        return true;
-    };
-    false
 }
 
 // The end of the field that starts at `at`, if that field is a variable, `null` or a path; else `at`. Its first byte that is no letter or digit stands at d, where it ends or goes on after a full stop.
@@ -806,46 +656,4 @@ pub fn expr_end(l: &[u8], at: usize) -> usize
     }
     let d = find(l, at, Set::NotLetterOrDigit);
     path_end(l, at, d)
-}
-
-// The place of the full stop of a path; of any other field its length.
-pub fn path_stop(w: &[u8]) -> usize
-    ensures { λ r. ⌜ r ≡ stopOr (length (now (w .entry))) (exprIn (now (w .entry))) ⌝ }
-{
-    let e = expr_of(w);
-    let Expr::Path(d) = e else {
-        return w.len();
-    };
-    d
-}
-
-// ATOMS
-
-fn are_names(a: &[u8], b: &[u8]) -> bool
-    ensures { λ r. ⌜ r ≡ (isName (now (a .entry)) && isName (now (b .entry))) ⌝ }
-{
-    if is_name(a) {
-        return is_name(b);
-    }
-    false
-}
-
-fn are_exprs(a: &[u8], b: &[u8]) -> bool
-    ensures { λ r. ⌜ r ≡ (isExpr (now (a .entry)) && isExpr (now (b .entry))) ⌝ }
-{
-    if is_expr(a) {
-        return is_expr(b);
-    }
-    false
-}
-
-pub fn is_atom(w: &[u8], a: &[u8], b: &[u8]) -> bool
-    ensures { λ r. ⌜ r ≡ isAtom (now (w .entry)) (now (a .entry)) (now (b .entry)) ⌝ }
-{
-    let k = word(w);
-    match k {
-        ACC => are_names(a, b),
-        EQ | NE => are_exprs(a, b),
-        _ => false,
-    }
 }
