@@ -15,14 +15,14 @@ use lib.Pow.{pow-add}
 use lib.Seq.{drop-cons, drop-drop}
 use borrow.Author.Tests.{ltb-true, not-true, eq-eqb, ne-eqb, eqb-true, eqb-false}
 use Rattle.rules.specs.Base as Base
-use Rattle.rules.specs.Base.{eqName}
+use Rattle.rules.specs.Base.{all, eqName}
 use Rattle.rules.specs.Text as Text
-use Rattle.rules.specs.Text.{upTo}
+use Rattle.rules.specs.Text.{digit, upTo}
 use Rattle.leaves.specs.declared.Set.{Set}
 use Rattle.leaves.specs.declared.Set.the-variants.{LineEnd, FieldEnd, FullStop, NotLetterOrDigit}
-use Rattle.leaves.specs.Sets.{inSet}
-use Rattle.leaves.specs.Marks.{Form, it, each, and, or, xor, plus, value, formOf, littleEndian, eight}
-use Rattle.leaves.proofs.Search.{both-true, true-false, upTo-jump, upTo-more, rest-end, same-refl, not-same}
+use Rattle.leaves.specs.Sets.{inSet, noDigit}
+use Rattle.leaves.specs.Marks.{Form, it, each, and, or, xor, plus, value, digitForm, formOf, littleEndian, eight}
+use Rattle.leaves.proofs.Search.{both-true, true-false, upTo-within, upTo-jump, upTo-more, all-upTo, rest-end, same-refl, not-same}
 
 -- BYTE BY BYTE
 
@@ -77,11 +77,15 @@ below-all p (suc n) b e h =
     let q = both-true (p n) (allBelow p n) e in
     elim (decLt b n) [ yes l ↦ below-all p n b (q .1) l | no l ↦ subst (λ m. p m ≡ true) (let z : n ≡ b = omega arith in z) (q .0) ]
 
--- its sums do not carry, and the byte is marked or is not in the set
-abbrev sound : Set → ℕ → Bool
-sound s b = fits b (formOf s) && (not (eqb (value 1 b (formOf s)) 0) || not (inSet s b))
+-- its sums do not carry, and the byte is marked or does not pass the test
+abbrev sound : Form → (ℕ → Bool) → ℕ → Bool
+sound f p b = fits b f && (not (eqb (value 1 b f) 0) || not (p b))
 
-sound-all : (s : Set) → allBelow (sound s) 256 ≡ true
+sound-digit : allBelow (sound digitForm noDigit) 256 ≡ true
+unfolding Base.opened Text.opened
+sound-digit = refl
+
+sound-all : (s : Set) → allBelow (sound (formOf s) (inSet s)) 256 ≡ true
 unfolding Base.opened Text.opened
 sound-all LineEnd = refl
 sound-all FieldEnd = refl
@@ -91,12 +95,6 @@ sound-all NotLetterOrDigit = refl
 or-not : (p q : Bool) → p ≡ true → (not p || not q) ≡ true → q ≡ false
 or-not true q d e = not-true q e
 or-not false q d e = true-false (sym d)
-
-sound-at : (s : Set) (b : ℕ) → b < 256 → (fits b (formOf s) ≡ true) × ((not (eqb (value 1 b (formOf s)) 0) || not (inSet s b)) ≡ true)
-sound-at s b h = both-true _ _ (below-all (sound s) 256 b (sound-all s) h)
-
-unmarked : (s : Set) (b : ℕ) → b < 256 → value 1 b (formOf s) ≡ 0 → inSet s b ≡ false
-unmarked s b h z = or-not (eqb (value 1 b (formOf s)) 0) (inSet s b) (eq-eqb (value 1 b (formOf s)) 0 z) (sound-at s b h .1)
 
 -- MARKS OF A WORD
 
@@ -115,50 +113,68 @@ abbrev ones : ℕ → ℕ
 ones zero = 0
 ones (suc n) = ones n * 256 + 1
 
--- the marks of a word are those of its first byte, below those of the rest
-word-apart : (s : Set) (b : ℕ) (t : List ℕ) → b < 256 →
-    Apart (value (ones (length (b ∷ t))) (littleEndian (b ∷ t)) (formOf s)) (value (ones (length t)) (littleEndian t) (formOf s)) (value 1 b (formOf s))
-unfolding littleEndian
-word-apart s b t h = value-apart (ones (length t)) (littleEndian t) b (formOf s) (sound-at s b h .0)
+-- a formula that marks each byte that passes a test
+module _ (f : Form) (p : ℕ → Bool) (s : allBelow (sound f p) 256 ≡ true) where
+  sound-at : (b : ℕ) → b < 256 → (fits b f ≡ true) × ((not (eqb (value 1 b f) 0) || not (p b)) ≡ true)
+  sound-at b h = both-true _ _ (below-all (sound f p) 256 b s h)
 
--- bytes whose marks are 0 are not in the set
-clear : (s : Set) (l : List ℕ) (j : ℕ) → Bytes l → j ≤ length l →
-    Zeros j (value (ones (length l)) (littleEndian l) (formOf s)) → j ≤ upTo (inSet s) l
-unfolding littleEndian upTo
-clear s l zero h k z = omega arith
-clear s [] (suc j) h k z = absurd (omega arith)
-clear s (b ∷ t) (suc j) h k z =
-    let a = word-apart s b t (h .0) in
-    let q : z .0 ≡ value (ones (length t)) (littleEndian t) (formOf s) = omega (arith, a .0, a .1, z .1) in
-    let m : value 1 b (formOf s) ≡ 0 = omega (arith, a .0, a .1, z .1) in
-    let r = clear s t j (h .1) (omega arith) (subst (Zeros j) q (z .2)) in
-    rw (unmarked s b (h .0) m) (omega arith)
+  unmarked : (b : ℕ) → b < 256 → value 1 b f ≡ 0 → p b ≡ false
+  unmarked b h z = or-not (eqb (value 1 b f) 0) (p b) (eq-eqb (value 1 b f) 0 z) (sound-at b h .1)
 
--- the name's marks are exact: a byte that is marked is no letter or digit
+  -- the marks of a word are those of its first byte, below those of the rest
+  word-apart :
+      (b : ℕ) (t : List ℕ) → b < 256 →
+      Apart (value (ones (length (b ∷ t))) (littleEndian (b ∷ t)) f) (value (ones (length t)) (littleEndian t) f) (value 1 b f)
+  unfolding littleEndian
+  word-apart b t h = value-apart (ones (length t)) (littleEndian t) b f (sound-at b h .0)
+
+  -- bytes whose marks are 0 do not pass the test
+  clear : (l : List ℕ) (j : ℕ) → Bytes l → j ≤ length l → Zeros j (value (ones (length l)) (littleEndian l) f) → j ≤ upTo p l
+  unfolding littleEndian upTo
+  clear l zero h k z = omega arith
+  clear [] (suc j) h k z = absurd (omega arith)
+  clear (b ∷ t) (suc j) h k z =
+      let a = word-apart b t (h .0) in
+      let q : z .0 ≡ value (ones (length t)) (littleEndian t) f = omega (arith, a .0, a .1, z .1) in
+      let m : value 1 b f ≡ 0 = omega (arith, a .0, a .1, z .1) in
+      let r = clear t j (h .1) (omega arith) (subst (Zeros j) q (z .2)) in
+      rw (unmarked b (h .0) m) (omega arith)
+
+-- MARKS OF LETTERS AND DIGITS are exact: a byte that is marked is none
+
+abbrev name-marks : Form
+name-marks = formOf NotLetterOrDigit
+
 abbrev exact : ℕ → Bool
-exact b = eqb (value 1 b (formOf NotLetterOrDigit)) 0 || inSet NotLetterOrDigit b
+exact b = eqb (value 1 b name-marks) 0 || inSet NotLetterOrDigit b
 
 exact-all : allBelow exact 256 ≡ true
 unfolding Base.opened Text.opened
 exact-all = refl
 
-marked : (b : ℕ) → b < 256 → (value 1 b (formOf NotLetterOrDigit) ≡ 0 → ⊥) → inSet NotLetterOrDigit b ≡ true
-marked b h n = rw (ne-eqb (value 1 b (formOf NotLetterOrDigit)) 0 n) at (below-all exact 256 b exact-all h)
+marked : (b : ℕ) → b < 256 → (value 1 b name-marks ≡ 0 → ⊥) → inSet NotLetterOrDigit b ≡ true
+marked b h n = rw (ne-eqb (value 1 b name-marks) 0 n) at (below-all exact 256 b exact-all h)
+
+name-apart :
+    (b : ℕ) (t : List ℕ) → b < 256 →
+    Apart (value (ones (length (b ∷ t))) (littleEndian (b ∷ t)) name-marks) (value (ones (length t)) (littleEndian t) name-marks) (value 1 b name-marks)
+name-apart = word-apart name-marks (inSet NotLetterOrDigit) (sound-all NotLetterOrDigit)
 
 -- the search ends at the first mark
-first-mark : (l t : List ℕ) (j : ℕ) → Bytes l → j < length l →
-    (let z = value (ones (length l)) (littleEndian l) (formOf NotLetterOrDigit) in Zeros j z → (Zeros (suc j) z → ⊥) → upTo (inSet NotLetterOrDigit) (l ++ t) ≡ j)
+first-mark :
+    (l t : List ℕ) (j : ℕ) → Bytes l → j < length l →
+    (let z = value (ones (length l)) (littleEndian l) name-marks in Zeros j z → (Zeros (suc j) z → ⊥) → upTo (inSet NotLetterOrDigit) (l ++ t) ≡ j)
 unfolding littleEndian upTo
 first-mark [] t j h k z n = absurd (omega arith)
 first-mark (b ∷ l) t zero h k z n =
-    let a = word-apart NotLetterOrDigit b l (h .0) in
-    rw (marked b (h .0) (λ m. n (value (ones (length l)) (littleEndian l) (formOf NotLetterOrDigit), omega (arith, a .0, m), tt)))
+    let a = name-apart b l (h .0) in
+    rw (marked b (h .0) (λ m. n (value (ones (length l)) (littleEndian l) name-marks, omega (arith, a .0, m), tt)))
 first-mark (b ∷ l) t (suc j) h k z n =
-    let a = word-apart NotLetterOrDigit b l (h .0) in
-    let q : z .0 ≡ value (ones (length l)) (littleEndian l) (formOf NotLetterOrDigit) = omega (arith, a .0, a .1, z .1) in
-    let m : value 1 b (formOf NotLetterOrDigit) ≡ 0 = omega (arith, a .0, a .1, z .1) in
-    let r = first-mark l t j (h .1) (omega arith) (subst (Zeros j) q (z .2)) (λ y. n (value (ones (length l)) (littleEndian l) (formOf NotLetterOrDigit), omega (arith, a .0, m), y)) in
-    rw (unmarked NotLetterOrDigit b (h .0) m) (ap suc r)
+    let a = name-apart b l (h .0) in
+    let q : z .0 ≡ value (ones (length l)) (littleEndian l) name-marks = omega (arith, a .0, a .1, z .1) in
+    let m : value 1 b name-marks ≡ 0 = omega (arith, a .0, a .1, z .1) in
+    let r = first-mark l t j (h .1) (omega arith) (subst (Zeros j) q (z .2)) (λ y. n (value (ones (length l)) (littleEndian l) name-marks, omega (arith, a .0, m), y)) in
+    rw (unmarked name-marks (inSet NotLetterOrDigit) (sound-all NotLetterOrDigit) b (h .0) m) (ap suc r)
 
 -- ZEROS OF A NUMBER
 
@@ -249,7 +265,7 @@ module _ (l : List ℕ) (i : ℕ) (h : i + 8 ≤ length l) where
   more j k t e g q = next j k e g ∙ ap (λ n. getD l j 0 ∷ n) q
 
   -- they come before the rest
-  eight-is : drop i l ≡ eight l i ++ drop (i + 8) l
+  pub eight-is : drop i l ≡ eight l i ++ drop (i + 8) l
   eight-is =
       more i (i + 1) _ (omega arith) (omega arith)
       (more (i + 1) (i + 2) _ (omega arith) (omega arith)
@@ -260,12 +276,19 @@ module _ (l : List ℕ) (i : ℕ) (h : i + 8 ≤ length l) where
       (more (i + 6) (i + 7) _ (omega arith) (omega arith)
       (more (i + 7) (i + 8) _ (omega arith) (omega arith) refl)))))))
 
+  -- if none has a mark, all are digits
+  pub eight-clear : ((k : ℕ) → getD l k 0 < 256) → (x z : ℕ) → x ≡ littleEndian (eight l i) → z ≡ value 0x0101010101010101 x digitForm → z ≡ 0 → all digit (eight l i) ≡ true
+  eight-clear b x z w e n =
+      let q : value (ones 8) (littleEndian (eight l i)) digitForm ≡ 0 = ap (λ m. value 0x0101010101010101 m digitForm) (sym w) ∙ (sym e ∙ n) in
+      let c = clear digitForm noDigit sound-digit (eight l i) 8 (eight-bytes l i b) (omega arith) (no-marks 8 _ q) in
+      all-upTo digit (eight l i) ∙ eq-eqb (upTo noDigit (eight l i)) 8 (omega (arith, c, upTo-within noDigit (eight l i)))
+
   -- the bytes below the first mark are not in the set
   pub skipped : ((k : ℕ) → getD l k 0 < 256) → (s : Set) (j x z : ℕ) → x ≡ littleEndian (eight l i) → z ≡ value 0x0101010101010101 x (formOf s) → j ≤ 8 → Zeros j z →
       i + j + upTo (inSet s) (drop (i + j) l) ≡ i + upTo (inSet s) (drop i l)
   skipped b s j x z w e g m =
       let q : z ≡ value (ones 8) (littleEndian (eight l i)) (formOf s) = e ∙ ap (λ n. value 0x0101010101010101 n (formOf s)) w in
-      let c = clear s (eight l i) j (eight-bytes l i b) (omega arith) (subst (Zeros j) q m) in
+      let c = clear (formOf s) (inSet s) (sound-all s) (eight l i) j (eight-bytes l i b) (omega arith) (subst (Zeros j) q m) in
       let u = upTo-more (inSet s) (eight l i) (drop (i + 8) l) in
       let v : upTo (inSet s) (drop i l) ≡ upTo (inSet s) (eight l i ++ drop (i + 8) l) = ap (upTo (inSet s)) eight-is in
       let n = upTo-jump (inSet s) (drop i l) j (omega (arith, c, u, v)) in

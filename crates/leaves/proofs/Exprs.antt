@@ -2,37 +2,27 @@
 use mathlib.Core.Path.{_≡_, refl, sym, ap, _∙_}
 use mathlib.Core.Bool.{Bool, true, false, not, cond, _&&_, _||_}
 use mathlib.Core.List.{[], _∷_}
-use mathlib.Core.Option.{none, some}
+use mathlib.Core.Option.{some}
 use Prim.Native.Nat.{ℕ, zero, suc, _+_, _-_, _≤_, _<_}
 use native.Mathlib.Nat.{add-zero}
 use native.Mathlib.Omega.{arith}
 use native.Mathlib.Decide.{decLt}
 use lib.Dec.{eqb, leb, ltb}
-use lib.ListN.{length, getD, take, drop, length-drop}
-use lib.Seq.{getD-take, getD-drop, length-take-le}
-use borrow.Author.Tests.{eqb-true, leb-false, le-leb, lt-leb, lt-ltb, le-ltb, ltb-true, eq-eqb, ne-eqb, not-true, not-false}
+use lib.ListN.{length, getD, take, drop, length-take, length-drop}
+use lib.Seq.{getD-take, getD-drop, length-take-le, take-add, drop-at, drop-drop}
+use borrow.Author.Tests.{eqb-true, eqb-false, leb-false, le-leb, lt-leb, lt-ltb, le-ltb, ltb-true, eq-eqb, ne-eqb, not-true, not-false}
 use Rattle.rules.specs.Base as Base
-use Rattle.rules.specs.Base.{Name, all, is}
+use Rattle.rules.specs.Base.{Name, all, is, between}
 use Rattle.rules.specs.Text as Text
-use Rattle.rules.specs.Text.{letter, digit, letterOrDigit, upTo, isName, stopIn, hasStop, beforeStop, afterStop, numeral, isNumber, number, isExpr, exprOf}
-use Rattle.rules.specs.Syntax as Syntax
+use Rattle.rules.specs.Text.{letter, digit, letterOrDigit, upTo, isName, stopIn, hasStop, beforeStop, afterStop, numeral, isNegative, isNumber, number, isExpr, exprOf}
 use Rattle.rules.specs.Syntax.{num, null, var, path}
 use Rattle.leaves.specs.declared.Set.the-variants.{FieldEnd}
 use Rattle.leaves.specs.Sets.{inSet}
-use Rattle.leaves.specs.Fields.{fieldLength, firstField, FieldIs}
-use Rattle.leaves.specs.Answers.{beginsName, whenTrue, numberIn, exprIn}
-use Rattle.leaves.proofs.Search.{true-false, and-false, or-false, upTo-within, upTo-found, upTo-passed, smaller-end, smaller-here, smaller-later, all-upTo, all-of, not-all}
-use Rattle.leaves.proofs.Numbers.{when-some, when-none}
+use Rattle.leaves.specs.Fields.{fieldLength, firstField, endsField, FieldIs}
+use Rattle.leaves.specs.Answers.{beginsName, exprIn}
+use Rattle.leaves.proofs.Search.{true-false, and-both, and-true, and-false, or-false, upTo-within, upTo-found, upTo-passed, upTo-take, upTo-jump, smaller-within, smaller-end, smaller-here, smaller-later, all-upTo, all-of, not-all, rest-part}
 
 -- NAMES
-and-both : (a b c : Bool) → (a && (b && c)) ≡ ((a && b) && c)
-and-both true b c = refl
-and-both false b c = refl
-
-and-true : (q : Bool) → (q && true) ≡ q
-and-true true = refl
-and-true false = refl
-
 pub name-begins : (w : Name) → isName w ≡ (beginsName (length w) w && all letterOrDigit w)
 unfolding isName beginsName
 name-begins w = and-both (leb (length w) 12) (letter (getD w 0 0)) (all letterOrDigit w)
@@ -41,23 +31,6 @@ name-fails : (w : Name) (k : ℕ) → k < length w → letterOrDigit (getD w k 0
 name-fails w k h e = name-begins w ∙ rw (not-all letterOrDigit w k h e) (and-false (beginsName (length w) w))
 
 -- EXPRESSIONS
-
-pub expr-number : (w : Name) (n : ℕ) → numeral w ≡ true → some n ≡ numberIn w → some (num n) ≡ exprIn w
-unfolding exprIn isExpr exprOf numberIn
-expr-number w n h e = let q = when-some (isNumber w) (number w) n e in rw (h, q .0, q .1)
-
-pub expr-no-number : (w : Name) → numeral w ≡ true → none ≡ numberIn w → none ≡ exprIn w
-unfolding exprIn isExpr numberIn
-expr-no-number w h e = rw (h, when-none (isNumber w) (number w) e)
-
--- the form and the content that an answer tells
-pub expr-some : (w : Name) (e : Syntax.Expr Name) → some e ≡ exprIn w → (isExpr w ≡ true) × (exprOf w ≡ e)
-unfolding exprIn
-expr-some w e h = when-some (isExpr w) (exprOf w) e h
-
-pub expr-none : (w : Name) → none ≡ exprIn w → isExpr w ≡ false
-unfolding exprIn
-expr-none w h = when-none (isExpr w) (exprOf w) h
 
 abbrev other : ℕ → Bool
 other b = not (letterOrDigit b)
@@ -74,17 +47,18 @@ no-letter : letter 0 ≡ false
 unfolding Text.opened Base.opened
 no-letter = refl
 
-begins-same : (w : Name) (d : ℕ) → d ≡ upTo other w → beginsName d (take d w) ≡ beginsName d w
+begins-same : (w : Name) (d n : ℕ) → d ≡ upTo other w → d ≤ n → beginsName d (take n w) ≡ beginsName d w
 unfolding beginsName
-begins-same w zero e = rw (other-first w (sym e)) no-letter
-begins-same w (suc d) e = rw (getD-take (suc d) w 0 0 (omega arith))
+begins-same w zero zero e h = rw (other-first w (sym e)) no-letter
+begins-same w d (suc n) e h = rw (getD-take (suc n) w 0 0 (omega arith))
+begins-same w (suc d) zero e h = absurd (omega arith)
 
 -- the letters and digits that a field begins with are a name where they begin as one
 pub name-upTo : (w : Name) (d : ℕ) → d ≡ upTo other w → isName (take d w) ≡ beginsName d w
 name-upTo w d e =
     let l : length (take d w) ≡ d = length-take-le d w (omega (arith, e, upTo-within other w)) in
     let a : all letterOrDigit (take d w) ≡ true = all-of letterOrDigit (take d w) (λ k m. let q : k < d = omega arith in rw (getD-take d w k 0 q) (not-false (letterOrDigit (getD w k 0)) (upTo-passed other w k (omega (arith, e))))) in
-    name-begins (take d w) ∙ rw (a, l) (and-true (beginsName d (take d w)) ∙ begins-same w d e)
+    name-begins (take d w) ∙ rw (a, l) (and-true (beginsName d (take d w)) ∙ begins-same w d d e (omega arith))
 
 -- a full stop is no letter or digit
 stop-other : (b : ℕ) → other b ≡ false → eqb b 46 ≡ false
@@ -93,26 +67,13 @@ stop-other b e = ne-eqb b 46 (λ z. true-false (sym (ap other z) ∙ e))
 
 -- a field of letters and digits has no full stop
 module _ (w : Name) (a : all letterOrDigit w ≡ true) where
-  pub no-stop : stopIn w ≡ length w
+  no-stop : stopIn w ≡ length w
   unfolding stopIn
   no-stop = smaller-end other (λ b. eqb b 46) stop-other w (eqb-true _ _ (sym (all-upTo letterOrDigit w) ∙ a))
 
   whole-form : numeral w ≡ false → isExpr w ≡ beginsName (length w) w
   unfolding isExpr hasStop
   whole-form n = rw (n, no-stop, le-ltb (length w) (length w) (omega arith)) (name-begins w ∙ rw a (and-true (beginsName (length w) w)))
-
-  pub whole-bad : numeral w ≡ false → beginsName (length w) w ≡ false → none ≡ exprIn w
-  unfolding exprIn
-  whole-bad n b = rw (whole-form n, b)
-
-  module _ (n : numeral w ≡ false) (b : beginsName (length w) w ≡ true) where
-    pub whole-null : is "null" w ≡ true → some null ≡ exprIn w
-    unfolding exprIn exprOf hasStop
-    whole-null e = rw (whole-form n, b, n, no-stop, le-ltb (length w) (length w) (omega arith), e)
-
-    pub whole-var : is "null" w ≡ false → some (var w) ≡ exprIn w
-    unfolding exprIn exprOf hasStop
-    whole-var e = rw (whole-form n, b, n, no-stop, le-ltb (length w) (length w) (omega arith), e)
 
 -- d: the place of the first byte that is no letter or digit
 module _ (w : Name) (d : ℕ) (h : d < length w) (e : d ≡ 0 + upTo other w) where
@@ -129,21 +90,21 @@ module _ (w : Name) (d : ℕ) (h : d < length w) (e : d ≡ 0 + upTo other w) wh
       let z : eqb (getD w (upTo other w) 0) 46 ≡ false = rw (← at-d) (ne-eqb (getD w d 0) 46 s) in
       omega (arith, at-d, smaller-later other (λ b. eqb b 46) stop-other w (omega (arith, at-d)) z)
 
-  pub sign-bad : numeral w ≡ false → (getD w d 0 ≡ 46 → ⊥) → none ≡ exprIn w
-  unfolding exprIn isExpr hasStop beforeStop
-  sign-bad n s = rw n (go (ltb (stopIn w) (length w)) refl)
+  sign-form : numeral w ≡ false → (getD w d 0 ≡ 46 → ⊥) → isExpr w ≡ false
+  unfolding isExpr hasStop beforeStop
+  sign-form n s = rw n (go (ltb (stopIn w) (length w)) refl)
     where
       before : stopIn w ≤ length w → isName (take (stopIn w) w) ≡ false
       before l =
           name-fails (take (stopIn w) w) d (rw (length-take-le (stopIn w) w l) (later s)) (rw (getD-take (stopIn w) w d 0 (later s)) here)
 
-      go : (q : Bool) → ltb (stopIn w) (length w) ≡ q → none ≡ whenTrue (cond q (isName (take (stopIn w) w) && isName (afterStop w)) (isName w)) (exprOf w)
+      go : (q : Bool) → ltb (stopIn w) (length w) ≡ q → cond q (isName (take (stopIn w) w) && isName (afterStop w)) (isName w) ≡ false
       go true z = rw (before (omega (arith, ltb-true (stopIn w) (length w) z)))
       go false z = rw (name-fails w d h here)
 
   -- a full stop there
   module _ (s : getD w d 0 ≡ 46) where
-    pub stop-here : stopIn w ≡ d
+    stop-here : stopIn w ≡ d
     unfolding stopIn
     stop-here =
         let z : eqb (getD w (upTo other w) 0) 46 ≡ true = rw (← at-d) (eq-eqb (getD w d 0) 46 s) in
@@ -152,18 +113,6 @@ module _ (w : Name) (d : ℕ) (h : d < length w) (e : d ≡ 0 + upTo other w) wh
     path-form : numeral w ≡ false → isExpr w ≡ (beginsName d w && isName (drop (suc d) w))
     unfolding isExpr hasStop beforeStop afterStop
     path-form n = rw (n, stop-here, lt-ltb d (length w) h, name-upTo w d at-d)
-
-    pub path-no-variable : numeral w ≡ false → beginsName d w ≡ false → none ≡ exprIn w
-    unfolding exprIn
-    path-no-variable n b = rw (path-form n, b)
-
-    pub path-no-field : numeral w ≡ false → isName (drop (suc d) w) ≡ false → none ≡ exprIn w
-    unfolding exprIn
-    path-no-field n b = rw (path-form n, b, and-false (beginsName d w))
-
-    pub path-is : numeral w ≡ false → beginsName d w ≡ true → isName (drop (suc d) w) ≡ true → some (path (take d w) (drop (suc d) w)) ≡ exprIn w
-    unfolding exprIn exprOf hasStop beforeStop afterStop
-    path-is n a b = rw (path-form n, a, b, n, stop-here, lt-ltb d (length w) h)
 
 -- a field that is known to be an expression: its first byte, its full stop and `null` tell which
 module _ (w : Name) (x : isExpr w ≡ true) where
@@ -226,7 +175,7 @@ module _ (l : Name) (at e : ℕ) (h : at ≤ length l) (is : e ≡ at + upTo oth
   byte-there : getD l e 0 ≡ getD (drop at l) (upTo other (drop at l)) 0
   byte-there = rw is (sym (getD-drop at l (upTo other (drop at l)) 0))
 
-  ended-at : (leb (length l) e || inSet FieldEnd (getD l e 0)) ≡ true → fieldLength (drop at l) ≡ upTo other (drop at l)
+  pub ended-at : endsField l e ≡ true → fieldLength (drop at l) ≡ upTo other (drop at l)
   ended-at t =
       let n = length-drop at l in
       elim (decLt e (length l)) [
@@ -235,29 +184,28 @@ module _ (l : Name) (at e : ℕ) (h : at ≤ length l) (is : e ≡ at + upTo oth
       ]
 
   -- it is a name where it is short enough and begins with a letter
-  begins-at : beginsName (upTo other (drop at l)) (drop at l) ≡ (leb (e - at) 12 && letter (getD l at 0))
+  short-at : beginsName (upTo other (drop at l)) (drop at l) ≡ (leb (e - at) 12 && letter (getD l at 0))
   unfolding beginsName
-  begins-at =
+  short-at =
       let z : e - at ≡ upTo other (drop at l) = omega (arith, is) in
       let f : getD (drop at l) 0 0 ≡ getD l at 0 = getD-drop at l 0 0 ∙ ap (λ n. getD l n 0) (add-zero at) in rw (z, f)
 
-  name-at :
-      (leb (length l) e || inSet FieldEnd (getD l e 0)) ≡ true → isName (firstField (drop at l)) ≡ (leb (e - at) 12 && letter (getD l at 0))
-  name-at t = ended-name (drop at l) (ended-at t) ∙ begins-at
+  name-at : endsField l e ≡ true → isName (firstField (drop at l)) ≡ (leb (e - at) 12 && letter (getD l at 0))
+  name-at t = ended-name (drop at l) (ended-at t) ∙ short-at
 
-  pub no-name-at : (leb (length l) e || inSet FieldEnd (getD l e 0)) ≡ false → isName (firstField (drop at l)) ≡ false
+  pub no-name-at : endsField l e ≡ false → isName (firstField (drop at l)) ≡ false
   no-name-at t =
       let r = or-false (leb (length l) e) (inSet FieldEnd (getD l e 0)) t in
       not-ended (drop at l) (omega (arith, length-drop at l, is, leb-false (length l) e (r .0))) (rw (← byte-there) (r .1))
 
   pub not-begun : (leb (e - at) 12 && letter (getD l at 0)) ≡ false → isName (firstField (drop at l)) ≡ false
-  not-begun b = go (leb (length l) e || inSet FieldEnd (getD l e 0)) refl
+  not-begun b = go (endsField l e) refl
     where
-      go : (q : Bool) → (leb (length l) e || inSet FieldEnd (getD l e 0)) ≡ q → isName (firstField (drop at l)) ≡ false
+      go : (q : Bool) → endsField l e ≡ q → isName (firstField (drop at l)) ≡ false
       go true t = name-at t ∙ b
       go false t = no-name-at t
 
-  pub ends-name : (leb (length l) e || inSet FieldEnd (getD l e 0)) ≡ true → e - at ≤ 12 → letter (getD l at 0) ≡ true → FieldIs isName l at e
+  pub ends-name : endsField l e ≡ true → e - at ≤ 12 → letter (getD l at 0) ≡ true → FieldIs isName l at e
   ends-name t n f =
       let i : isName (firstField (drop at l)) ≡ true = name-at t ∙ rw (le-leb (e - at) 12 n, f) in
       record {
@@ -269,12 +217,159 @@ module _ (l : Name) (at e : ℕ) (h : at ≤ length l) (is : e ≡ at + upTo oth
 pub no-letter-at : (l : Name) (at : ℕ) → at ≤ length l → letter (getD l at 0) ≡ false → isName (firstField (drop at l)) ≡ false
 no-letter-at l at h e = let s = at + upTo other (drop at l) in not-begun l at s h refl (rw e (and-false (leb (s - at) 12)))
 
--- THE FIELD AT A PLACE, BY A TEST THAT NOTHING FAILS: its end is not its start
+pub goes-beyond : (l : Name) (e : ℕ) → endsField l e ≡ false → e < length l
+goes-beyond l e f = leb-false (length l) e (or-false (leb (length l) e) (inSet FieldEnd (getD l e 0)) f .0)
+
+-- the end of a field that passes a test, and the place of one that does not
+module _ (p : Name → Bool) (l : Name) (at : ℕ) (h : at ≤ length l) where
+  pub field-passes : (r : ℕ) → p (firstField (drop at l)) ≡ true → r ≡ at + fieldLength (drop at l) → FieldIs p l at r
+  unfolding fieldLength
+  field-passes r e z = record { low = omega arith; high = omega (arith, upTo-within (inSet FieldEnd) (drop at l), length-drop at l); is = rw e z }
+
+  pub field-fails : p (firstField (drop at l)) ≡ false → FieldIs p l at at
+  field-fails e = record { low = omega arith; high = h; is = rw e }
+
 -- what is cut out up to a field's end is that field
 pub field-cut : (p : Name → Bool) (l : Name) (at e : ℕ) → e ≡ at + upTo (inSet FieldEnd) (drop at l) → p (firstField (drop at l)) ≡ p (take (e - at) (drop at l))
 unfolding firstField fieldLength
 field-cut p l at e h = let z : e - at ≡ upTo (inSet FieldEnd) (drop at l) = omega (arith, h) in rw z
 
+-- AN EXPRESSION AS A FIELD OF A LINE
+
+-- tab and LF do not begin a number
+end-numeral : (b : ℕ) → inSet FieldEnd b ≡ true → (digit b || eqb b 45) ≡ false
+unfolding Text.opened Base.opened
+end-numeral b e = go (eqb b 9) (eqb b 10) refl refl e
+  where
+    go : (p q : Bool) → eqb b 9 ≡ p → eqb b 10 ≡ q → (p || q) ≡ true → (digit b || eqb b 45) ≡ false
+    go true q d f z = ap (λ n. digit n || eqb n 45) (eqb-true b 9 d)
+    go false true d f z = ap (λ n. digit n || eqb n 45) (eqb-true b 10 f)
+    go false false d f z = true-false (sym z)
+
+-- a test of a field's first byte is one of the text's, if neither an end nor nothing passes it
+pub field-first :
+    (p : ℕ → Bool) → p 0 ≡ false → ((b : ℕ) → inSet FieldEnd b ≡ true → p b ≡ false) → (t : Name) → p (getD (firstField t) 0 0) ≡ p (getD t 0 0)
+unfolding firstField fieldLength upTo
+field-first p z f [] = refl
+field-first p z f (b ∷ t) = go (inSet FieldEnd b) refl
+  where
+    go : (q : Bool) → inSet FieldEnd b ≡ q → p (getD (take (cond q 0 (suc (upTo (inSet FieldEnd) t))) (b ∷ t)) 0 0) ≡ p b
+    go true e = z ∙ sym (f b e)
+    go false e = refl
+
+field-numeral : (t : Name) → numeral (firstField t) ≡ numeral t
+unfolding numeral isNegative digit between
+field-numeral t = field-first (λ b. digit b || eqb b 45) refl end-numeral t
+
+pub number-field : (t : Name) → numeral t ≡ true → isExpr (firstField t) ≡ isNumber (firstField t)
+unfolding isExpr
+number-field t n = rw (field-numeral t, n)
+
+pub field-long : (t : Name) → length (firstField t) ≡ fieldLength t
+unfolding firstField fieldLength
+field-long t = length-take-le (fieldLength t) t (upTo-within (inSet FieldEnd) t)
+
+-- u: the place of the first byte that is no letter or digit
+module _ (t : Name) (n : numeral t ≡ false) where
+  abbrev u : ℕ
+  u = upTo other t
+
+  field-reaches : u ≤ fieldLength t
+  unfolding fieldLength
+  field-reaches = smaller-within other (inSet FieldEnd) end-other t
+
+  field-other : u ≡ 0 + upTo other (firstField t)
+  unfolding firstField
+  field-other = omega (arith, upTo-take other t (fieldLength t) field-reaches)
+
+  field-begins : beginsName u (firstField t) ≡ beginsName u t
+  unfolding firstField
+  field-begins = begins-same t u (fieldLength t) refl field-reaches
+
+  field-there : u < fieldLength t → getD (firstField t) u 0 ≡ getD t u 0
+  unfolding firstField
+  field-there h = getD-take (fieldLength t) t u 0 h
+
+  field-no : numeral (firstField t) ≡ false
+  field-no = field-numeral t ∙ n
+
+  -- the field ends there
+  whole-field : fieldLength t ≡ u → isExpr (firstField t) ≡ beginsName u t
+  whole-field e =
+      let k : length (firstField t) ≡ u = field-long t ∙ e in
+      let a : all letterOrDigit (firstField t) ≡ true = all-upTo letterOrDigit (firstField t) ∙ eq-eqb (upTo other (firstField t)) (length (firstField t)) (omega (arith, field-other)) in
+      whole-form (firstField t) a field-no ∙ rw k field-begins
+
+  -- it does not, and has no full stop there, or one
+  sign-field : u < fieldLength t → (getD t u 0 ≡ 46 → ⊥) → isExpr (firstField t) ≡ false
+  sign-field h s = sign-form (firstField t) u (omega (arith, field-long t)) field-other field-no (λ z. s (sym (field-there h) ∙ z))
+
+  path-field : u < fieldLength t → getD t u 0 ≡ 46 → isExpr (firstField t) ≡ (beginsName u t && isName (drop (suc u) (firstField t)))
+  path-field h s = path-form (firstField t) u (omega (arith, field-long t)) field-other (field-there h ∙ s) field-no ∙ rw field-begins
+
+  begins-bad : beginsName u t ≡ false → isExpr (firstField t) ≡ false
+  begins-bad b =
+      elim (decLt u (fieldLength t)) [
+        | yes h ↦ go h (eqb (getD t u 0) 46) refl
+        | no h ↦ whole-field (omega (arith, field-reaches)) ∙ b
+      ]
+    where
+      go : u < fieldLength t → (q : Bool) → eqb (getD t u 0) 46 ≡ q → isExpr (firstField t) ≡ false
+      go h true e = path-field h (eqb-true _ _ e) ∙ rw b
+      go h false e = sign-field h (eqb-false _ _ e)
+
+  -- what follows a full stop is a field
+  after-length : u < fieldLength t → fieldLength t ≡ suc u + fieldLength (drop (suc u) t)
+  unfolding fieldLength
+  after-length h = upTo-jump (inSet FieldEnd) t (suc u) h
+
+  after-field : u < fieldLength t → drop (suc u) (firstField t) ≡ firstField (drop (suc u) t)
+  unfolding firstField
+  after-field h =
+      let k : length (take (suc u) t) ≡ suc u = length-take-le (suc u) t (omega (arith, field-long t, length-take (fieldLength t) t)) in
+      rw (after-length h, take-add (suc u) (fieldLength (drop (suc u) t)) t) (drop-at (take (suc u) t) _ (suc u) k)
+
+-- the same of the field that starts at a place, where d is the place of the first byte that is no letter or digit
+pub numeral-at : (l : Name) (at : ℕ) → numeral (drop at l) ≡ (digit (getD l at 0) || eqb (getD l at 0) 45)
+unfolding numeral isNegative
+numeral-at l at = let z : getD (drop at l) 0 0 ≡ getD l at 0 = getD-drop at l 0 0 ∙ ap (λ k. getD l k 0) (add-zero at) in rw z
+
+module _ (l : Name) (at d : ℕ) (h : at ≤ length l) (is : d ≡ at + upTo other (drop at l)) (n : numeral (drop at l) ≡ false) where
+  begins-at : beginsName (d - at) (take (length l - at) (drop at l)) ≡ beginsName (upTo other (drop at l)) (drop at l)
+  begins-at = let z : d - at ≡ upTo other (drop at l) = omega (arith, is) in rw (z, rest-part l at)
+
+  pub no-begin-at : beginsName (d - at) (take (length l - at) (drop at l)) ≡ false → isExpr (firstField (drop at l)) ≡ false
+  no-begin-at b = begins-bad (drop at l) n (sym begins-at ∙ b)
+
+  module _ (b : beginsName (d - at) (take (length l - at) (drop at l)) ≡ true) where
+    pub whole-at : endsField l d ≡ true → isExpr (firstField (drop at l)) ≡ true
+    whole-at t = whole-field (drop at l) n (ended-at l at d h is t) ∙ (sym begins-at ∙ b)
+
+    module _ (f : endsField l d ≡ false) where
+      goes-on : upTo other (drop at l) < fieldLength (drop at l)
+      unfolding fieldLength
+      goes-on =
+          let r = or-false (leb (length l) d) (inSet FieldEnd (getD l d 0)) f in
+          smaller-later other (inSet FieldEnd) end-other (drop at l) (omega (arith, length-drop at l, is, leb-false (length l) d (r .0))) (rw (← byte-there l at d h is) (r .1))
+
+      pub sign-at : (getD l d 0 ≡ 46 → ⊥) → isExpr (firstField (drop at l)) ≡ false
+      sign-at s = sign-field (drop at l) n goes-on (λ z. s (byte-there l at d h is ∙ z))
+
+      -- e: the end of the field after the full stop
+      module _ (s : getD l d 0 ≡ 46) (e : ℕ) (ends : e ≡ d + 1 + upTo (inSet FieldEnd) (drop (d + 1) l)) where
+        after-at : drop (suc (upTo other (drop at l))) (drop at l) ≡ drop (d + 1) l
+        after-at = drop-drop (suc (upTo other (drop at l))) at l ∙ ap (λ k. drop k l) (let z : at + suc (upTo other (drop at l)) ≡ d + 1 = omega (arith, is) in z)
+
+        pub path-at : isExpr (firstField (drop at l)) ≡ isName (take (e - (d + 1)) (drop (d + 1) l))
+        path-at =
+            path-field (drop at l) n goes-on (sym (byte-there l at d h is) ∙ s)
+            ∙ rw (sym begins-at ∙ b, after-field (drop at l) n goes-on, after-at) (field-cut isName l (d + 1) e ends)
+
+        pub path-ends : e ≡ at + fieldLength (drop at l)
+        unfolding fieldLength
+        path-ends = omega (arith, is, ends, after-length (drop at l) n goes-on, ap fieldLength after-at)
+
+-- THE FIELD AT A PLACE, BY A TEST THAT NOTHING FAILS: its end is not its start
 pub no-name : isName [] ≡ false
 unfolding isName Text.opened Base.opened
 no-name = refl
@@ -282,9 +377,6 @@ no-name = refl
 pub no-expr : isExpr [] ≡ false
 unfolding isExpr Text.opened Base.opened
 no-expr = refl
-
-pub no-field : (p : Name → Bool) (l : Name) (at : ℕ) → at ≤ length l → p (firstField (drop at l)) ≡ false → FieldIs p l at at
-no-field p l at h e = record { low = omega arith; high = h; is = rw e }
 
 module _ (p : Name → Bool) (no-bytes : p [] ≡ false) where
   fits-case :

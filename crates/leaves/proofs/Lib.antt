@@ -5,3 +5,4 @@ pub mod Lines
 pub mod Words
 pub mod Numbers
 pub mod Exprs
+pub mod NumberFields

@@ -21,6 +21,14 @@ pub both-true : (a b : Bool) → (a && b) ≡ true → (a ≡ true) × (b ≡ tr
 both-true true b e = (refl, e)
 both-true false b e = true-false (sym e)
 
+pub and-both : (a b c : Bool) → (a && (b && c)) ≡ ((a && b) && c)
+and-both true b c = refl
+and-both false b c = refl
+
+pub and-true : (q : Bool) → (q && true) ≡ q
+and-true true = refl
+and-true false = refl
+
 pub and-false : (a : Bool) → (a && false) ≡ false
 and-false true = refl
 and-false false = refl
@@ -107,8 +115,43 @@ module _ (p : ℕ → Bool) where
       go true k r = absurd (omega arith)
       go false k r = omega (arith, r (omega arith))
 
+  -- a search that came to k goes on, or ends there
+  pub upTo-next : (l : List ℕ) (k : ℕ) → k ≤ upTo p l → k < length l → p (getD l k 0) ≡ false → k < upTo p l
+  upTo-next l k h g e =
+      elim (decLt k (upTo p l)) [
+        | yes m ↦ m
+        | no m ↦ (let z : upTo p l ≡ k = omega arith in true-false (sym (upTo-found l (omega arith)) ∙ (ap (λ n. p (getD l n 0)) z ∙ e)))
+      ]
+
+  pub upTo-ends : (l : List ℕ) (k : ℕ) → k ≤ upTo p l → (k < length l → p (getD l k 0) ≡ true) → upTo p l ≡ k
+  upTo-ends l k h t =
+      elim (decLt k (upTo p l)) [
+        | yes m ↦ true-false (sym (t (omega (arith, upTo-within l))) ∙ upTo-passed l k m)
+        | no m ↦ omega arith
+      ]
+
+  -- what comes after its end does not matter to a search
+  pub upTo-take : (l : List ℕ) (n : ℕ) → upTo p l ≤ n → upTo p (take n l) ≡ upTo p l
+  unfolding upTo
+  upTo-take [] zero h = refl
+  upTo-take [] (suc n) h = refl
+  upTo-take (b ∷ l) zero h = omega arith
+  upTo-take (b ∷ l) (suc n) h = go (p b) h (λ k. upTo-take l n k)
+    where
+      go : (q : Bool) → cond q 0 (suc (upTo p l)) ≤ suc n → (upTo p l ≤ n → upTo p (take n l) ≡ upTo p l) →
+          cond q 0 (suc (upTo p (take n l))) ≡ cond q 0 (suc (upTo p l))
+      go true k r = refl
+      go false k r = ap suc (r (omega arith))
+
 -- a search for a smaller set goes at least as far
 module _ (p q : ℕ → Bool) (part : (b : ℕ) → p b ≡ false → q b ≡ false) (l : List ℕ) where
+  pub smaller-within : upTo p l ≤ upTo q l
+  smaller-within =
+      elim (decLt (upTo q l) (upTo p l)) [
+        | yes m ↦ (let f : q (getD l (upTo q l) 0) ≡ true = upTo-found q l (omega (arith, upTo-within p l)) in true-false (sym f ∙ part (getD l (upTo q l) 0) (upTo-passed p l (upTo q l) m)))
+        | no m ↦ omega arith
+      ]
+
   pub smaller-end : upTo p l ≡ length l → upTo q l ≡ length l
   smaller-end e =
       upTo-is q l (length l) (omega arith) (λ k h. part (getD l k 0) (upTo-passed p l k (omega (arith, e)))) (λ h. absurd (omega arith))
@@ -152,14 +195,10 @@ module _ (p : ℕ → Bool) where
   all-of [] h = refl
   all-of (b ∷ t) h = rw (h 0 (omega arith), all-of t (λ i k. h (suc i) (omega arith)))
 
-  -- one step, and the end
-  pub all-on : (l : List ℕ) (i : ℕ) → i < length l → p (getD l i 0) ≡ true → all p (drop i l) ≡ all p (drop (i + 1) l)
+  pub all-front : (l t : List ℕ) → all p (l ++ t) ≡ true → all p l ≡ true
   unfolding all
-  all-on l i h e = rw (add-one, drop-cons l i 0 h, e)
-
-  pub all-end : (l : List ℕ) (i : ℕ) → length l ≤ i → all p (drop i l) ≡ true
-  unfolding all
-  all-end l i h = rw (drop-of-length-le l {i = i} h)
+  all-front [] t e = refl
+  all-front (b ∷ l) t e = let q = both-true (p b) (all p (l ++ t)) e in rw (q .0, all-front l t (q .1))
 
   pub not-all : (l : List ℕ) (i : ℕ) → i < length l → p (getD l i 0) ≡ false → all p l ≡ false
   not-all l i h e = go (all p l) refl

@@ -2,16 +2,15 @@
 use mathlib.Core.Path.{_≡_}
 use mathlib.Core.Bool.{Bool, true, false, not, cond, _&&_, _||_}
 use mathlib.Core.Option.{Option, none, some}
-use Prim.Native.Nat.{ℕ, suc, _-_, _<_}
+use Prim.Native.Nat.{ℕ, suc, _+_, _-_, _≤_, _<_}
 use lib.Dec.{eqb, leb}
 use lib.ListN.{length, getD, take, drop}
 use Rattle.rules.specs.Base.{Name, between}
 use Rattle.rules.specs.Limits.{most-letters}
 use Rattle.rules.specs.Syntax as Syntax
 use Rattle.rules.specs.Syntax.{num, null, var, path}
-use Rattle.rules.specs.Text.{digit-zero, letter, isDigits, decimal, isNumber, number, isExpr, exprOf, stopIn}
-use Rattle.leaves.specs.declared.Value.{Value}
-use Rattle.leaves.specs.declared.Value.the-variants.{Bits, NoNumber}
+use Rattle.rules.specs.Text.{digit-zero, letter, upTo, decimal, isExpr, exprOf, stopIn}
+use Rattle.leaves.specs.Sets.{noDigit}
 use Rattle.leaves.specs.declared.Expr.{Expr}
 use Rattle.leaves.specs.declared.Expr.the-variants.{Num, Null, Var, Path, NoExpr}
 
@@ -23,36 +22,28 @@ beginsName n w = leb n most-letters && letter (getD w 0 0)
 
 -- NUMBERS
 
-unfoldable pub leadingZero : Name → Bool
-leadingZero w = not (eqb (length w) 1 || not (eqb (getD w 0 0) digit-zero))
+-- how many digits a text begins with, among its first ten bytes
+unfoldable pub digitsIn : Name → ℕ
+digitsIn t = upTo noDigit (take 10 t)
 
--- n, or 2147483649 where it is larger
-unfoldable pub capped : ℕ → ℕ
-capped n = cond (leb n 2147483648) n 2147483649
+-- digits from a place on to an end, some of the first ten at most, and the number that they write
+pub record Begun (l : Name) (at value end : ℕ) : Type 0 where
+  pub low : at ≤ end
+  pub high : end ≤ at + digitsIn (drop at l)
+  pub is : value ≡ decimal 0 (take (end - at) (drop at l))
 
--- what digits write; 2147483649 where it is larger, or where there are no digits
-unfoldable pub decimalIn : Name → ℕ
-decimalIn w = cond (isDigits w) (capped (decimal 0 w)) 2147483649
+-- the same of all of them
+pub record TenDigits (l : Name) (at value end : ℕ) : Type 0 where
+  pub end-is : end ≡ at + digitsIn (drop at l)
+  pub value-is : value ≡ decimal 0 (take (digitsIn (drop at l)) (drop at l))
 
--- a, if the test passes
-abbrev pub whenTrue : {A : Type 0} → Bool → A → Option A
-whenTrue true a = some a
-whenTrue false a = none
+-- n digits, b the first of them: some, with no leading zero
+unfoldable pub led : ℕ → ℕ → Bool
+led n b = leb 1 n && (eqb n 1 || not (eqb b digit-zero))
 
--- the 32 bits of a number
-abbrev pub bitsOf : Value → Option ℕ
-bitsOf (Bits n) = some n
-bitsOf NoNumber = none
-
-unfoldable pub numberIn : Name → Option ℕ
-numberIn w = whenTrue (isNumber w) (number w)
-
--- what digits write, and what they write after `-`
-unfoldable pub naturalIn : Name → Option ℕ
-naturalIn d = whenTrue (isDigits d && leb (decimal 0 d) 2147483647) (decimal 0 d)
-
-unfoldable pub negativeIn : Name → Option ℕ
-negativeIn d = whenTrue (isDigits d && between 1 2147483648 (decimal 0 d)) (4294967296 - decimal 0 d)
+-- the range of what digits write, after `-` or without
+unfoldable pub inRange : Bool → ℕ → Bool
+inRange q n = cond q (between 1 2147483648 n) (leb n 2147483647)
 
 -- EXPRESSIONS
 
@@ -63,6 +54,11 @@ meant w Null = some null
 meant w Var = some (var w)
 meant w (Path d) = some (path (take d w) (drop (suc d) w))
 meant w NoExpr = none
+
+-- a, if the test passes
+abbrev pub whenTrue : {A : Type 0} → Bool → A → Option A
+whenTrue true a = some a
+whenTrue false a = none
 
 unfoldable pub exprIn : Name → Option (Syntax.Expr Name)
 exprIn w = whenTrue (isExpr w) (exprOf w)
@@ -79,15 +75,7 @@ pub record Reads (w : Name) (e : Expr) : Type 0 where
   pub means : meant w e ≡ exprIn w
   pub place : stands w e
 
--- the place of a path's full stop; of any other field of n bytes, n
-abbrev pub stopOr : ℕ → Option (Syntax.Expr Name) → ℕ
-stopOr n none = n
-stopOr n (some (num k)) = n
-stopOr n (some null) = n
-stopOr n (some (var x)) = n
-stopOr n (some (path x f)) = length x
-
 -- Everything above computes where this unfolds.
 unfoldable pub opened : Unit {0}
-unfolding beginsName leadingZero capped decimalIn numberIn naturalIn negativeIn exprIn
+unfolding beginsName digitsIn led inRange exprIn
 opened = tt

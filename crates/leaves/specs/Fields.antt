@@ -1,10 +1,10 @@
 -- Lines and fields by their lengths.
 use mathlib.Core.Path.{_≡_}
-use mathlib.Core.Bool.{Bool, cond}
+use mathlib.Core.Bool.{Bool, cond, _||_}
 use mathlib.Core.List.{List}
 use Prim.Native.Nat.{ℕ, suc, _+_, _≤_}
-use lib.Dec.{eqb}
-use lib.ListN.{length, take, drop}
+use lib.Dec.{eqb, leb}
+use lib.ListN.{length, getD, take, drop}
 use Rattle.rules.specs.Base.{Name}
 use Rattle.rules.specs.Text.{line-feed, upTo}
 use Rattle.leaves.specs.declared.Set.the-variants.{FieldEnd}
@@ -23,6 +23,10 @@ fieldLength l = upTo (inSet FieldEnd) l
 
 unfoldable pub firstField : Name → Name
 firstField l = take (fieldLength l) l
+
+-- a field ends at e: at the end, or at tab or LF
+abbrev pub endsField : Name → ℕ → Bool
+endsField l e = leb (length l) e || inSet FieldEnd (getD l e 0)
 
 -- r is the end of the field that starts at a place, if that field passes a test; else the place itself
 pub record FieldIs (p : Name → Bool) (l : List ℕ) (at r : ℕ) : Type 0 where

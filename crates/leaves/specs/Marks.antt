@@ -63,6 +63,12 @@ nameForm =
     it)
     (each 0x80)
 
+-- 0 for digits, else 0x80
+abbrev pub digitForm : Form
+digitForm =
+    let y : Form = and it (each 0x7f) in
+    and (or (or (xor (plus y (each 0x50)) (each 0x80)) (plus y (each 0x46))) it) (each 0x80)
+
 -- the formula of a set: 0x80 for each byte of it; of the full stop, which is searched byte by byte, for every byte
 abbrev pub formOf : Set → Form
 formOf LineEnd = lineForm

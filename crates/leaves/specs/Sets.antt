@@ -5,7 +5,7 @@ use mathlib.Core.List.{List}
 use Prim.Native.Nat.{ℕ, _+_, _≤_}
 use lib.Dec.{eqb}
 use lib.ListN.{length, drop}
-use Rattle.rules.specs.Text.{tab, line-feed, full-stop, allowed, letterOrDigit, upTo}
+use Rattle.rules.specs.Text.{tab, line-feed, full-stop, allowed, digit, letterOrDigit, upTo}
 use Rattle.leaves.specs.declared.Set.{Set}
 use Rattle.leaves.specs.declared.Set.the-variants.{LineEnd, FieldEnd, FullStop, NotLetterOrDigit}
 
@@ -15,6 +15,9 @@ inSet LineEnd b = eqb b line-feed || not (allowed b)
 inSet FieldEnd b = eqb b tab || eqb b line-feed
 inSet FullStop b = eqb b full-stop
 inSet NotLetterOrDigit b = not (letterOrDigit b)
+
+abbrev pub noDigit : ℕ → Bool
+noDigit b = not (digit b)
 
 -- r is the first place from at on whose byte is in the set, or the end.
 pub record Found (l : List ℕ) (at : ℕ) (s : Set) (r : ℕ) : Type 0 where

@@ -1,17 +1,17 @@
 use rules::Machine;
 ghost use mathlib.Core.Path.{_≡_};
 ghost use mathlib.Core.Bool.{true, false, cond, _&&_, _||_};
-ghost use lib.Dec.{leb};
-ghost use Prim.Native.Nat.{_+_, _≤_, _<_};
-ghost use lib.ListN.{length, getD, drop};
+ghost use lib.Dec.{eqb};
+ghost use Prim.Native.Nat.{_+_, _-_, _≤_};
+ghost use lib.ListN.{length, getD, take, drop};
 ghost use Rattle.rules.specs.Base.{between, eqName, is, all};
-ghost use Rattle.rules.specs.Text.{allowed, letter, digit, letterOrDigit, upTo, isName, reserved, isNumber, number, decimal, numeral, isExpr, isAtom};
+ghost use Rattle.rules.specs.Text.{minus, allowed, letter, digit, letterOrDigit, upTo, isName, reserved, isNumber, number, decimal, numeral, isExpr};
 ghost use Rattle.rules.specs.Grammar.{kindOf};
 ghost use Rattle.leaves.specs.Sets.{inSet, Found};
-ghost use Rattle.leaves.specs.Marks.{eight, littleEndian, value, lineForm, fieldForm, nameForm, formOf};
-ghost use Rattle.leaves.specs.Fields.{FieldIs};
+ghost use Rattle.leaves.specs.Marks.{eight, littleEndian, value, lineForm, fieldForm, nameForm, digitForm, formOf};
+ghost use Rattle.leaves.specs.Fields.{endsField, FieldIs};
 ghost use Rattle.leaves.specs.Words.{words, wordNumber, kindOr0, packed, packedIn};
-ghost use Rattle.leaves.specs.Answers.{beginsName, leadingZero, capped, decimalIn, bitsOf, naturalIn, negativeIn, numberIn, exprIn, Reads, stopOr};
+ghost use Rattle.leaves.specs.Answers.{beginsName, Begun, TenDigits, led, inRange, Reads};
 
 // BYTES
 
@@ -154,6 +154,15 @@ fn name_marks(x: u64) -> u64
     let letter = (u + 0x1f1f1f1f1f1f1f1f) & ((u + 0x0505050505050505) ^ 0x8080808080808080);
     let digit = (y + 0x5050505050505050) & ((y + 0x4646464646464646) ^ 0x8080808080808080);
     (((letter | digit) ^ 0x8080808080808080) | x) & 0x8080808080808080
+}
+
+// Bit 7 of each byte that is no digit.
+fn digit_marks(x: u64) -> u64
+    ensures { λ r. ⌜ r ≡ value 0x0101010101010101 x digitForm ⌝ }
+{
+    let y = x & 0x7f7f7f7f7f7f7f7f;
+    (((y + 0x5050505050505050) ^ 0x8080808080808080) | (y + 0x4646464646464646) | x)
+        & 0x8080808080808080
 }
 
 // Bit 7 of each byte that may be in the set.
@@ -390,7 +399,7 @@ pub fn is_name(w: &[u8]) -> bool
 
 // Does a field end at e: at the end, or at tab or LF?
 fn ends_field(l: &[u8], e: usize) -> bool
-    ensures { λ r. ⌜ r ≡ (leb (length (now (l .entry))) e || inSet Set.FieldEnd (getD (now (l .entry)) e 0)) ⌝ }
+    ensures { λ r. ⌜ r ≡ endsField (now (l .entry)) e ⌝ }
 {
     if e < l.len() {
         return in_set(l[e], Set::FieldEnd);
@@ -431,94 +440,46 @@ pub fn name_end(l: &[u8], at: usize) -> usize
 
 // NUMBERS
 
-fn has_leading_zero(w: &[u8]) -> bool
-    ensures { λ r. ⌜ r ≡ leadingZero (now (w .entry)) ⌝ }
+// Where a number's digits start: after the sign at a place, if one stands there.
+fn sign_end(l: &[u8], at: usize) -> usize
+    ensures { λ r. ⌜ r ≡ cond (eqb (getD (now (l .entry)) at 0) minus) (at + 1) at ⌝ }
 {
-    if w.len() == 1 {
-        return false;
-    }
-    byte_at(w, 0) == 48
+    if byte_at(l, at) == 45 { at + 1 } else { at }
 }
 
-// The number that bytes write; 2147483649 where it is larger, or where one is no digit.
-fn decimal_digits(w: &[u8]) -> u64
-    ensures { λ r. ⌜ r ≡ cond (all digit (now (w .entry))) (capped (decimal 0 (now (w .entry)))) 2147483649 ⌝ }
+// The number that eight digits from i on write: the sum of their bytes, each times its power of ten, and 48 for each digit taken off.
+fn eight_digits(l: &[u8], i: usize) -> u64
+    requires { ⌜ (i + 8 ≤ length (now l)) × (all digit (eight (now l) i) ≡ true) ⌝ }
+    ensures { λ r. ⌜ r ≡ decimal 0 (eight (now (l .entry)) i) ⌝ }
 {
-    let mut n: u64 = 0;
-    let mut i = 0;
-    while i < w.len() {
-        if !is_digit(w[i]) {
-            return 2147483649;
-        }
-        n = n * 10 + (w[i] - 48) as u64;
-        if 2147483648 < n {
-            return 2147483649;
-        }
-        i += 1;
-    }
-    n
+    let a = (l[i] as u64) * 1000
+        + (l[i + 1] as u64) * 100
+        + (l[i + 2] as u64) * 10
+        + l[i + 3] as u64;
+    let b = (l[i + 4] as u64) * 1000
+        + (l[i + 5] as u64) * 100
+        + (l[i + 6] as u64) * 10
+        + l[i + 7] as u64;
+    a * 10000 + b - 533333328
 }
 
-// The number that digits write; 2147483649 where it is larger, or where there is none.
-fn decimal(w: &[u8]) -> u64
-    ensures { λ r. ⌜ r ≡ decimalIn (now (w .entry)) ⌝ }
-{
-    if w.len() == 0 {
-        return 2147483649;
-    }
-    if has_leading_zero(w) {
-        return 2147483649;
-    }
-    decimal_digits(w)
+// The number that some digits write, and where they end.
+struct Digits {
+    value: u64,
+    end: usize,
 }
 
-// A number by its 32 bits.
-pub enum Value {
-    Bits(u32),
-    NoNumber,
-}
-
-fn natural(d: &[u8]) -> Value
-    ensures { λ r. ⌜ bitsOf r ≡ naturalIn (now (d .entry)) ⌝ }
+// The first eight digits, if there are so many.
+fn first_value(w: &[u8]) -> Digits
+    requires { ⌜ all digit (now w) ≡ true ⌝ }
+    ensures { λ r. ⌜ (r .end ≤ length (now (w .entry))) × (decimal (r .value) (drop (r .end) (now (w .entry))) ≡ decimal 0 (now (w .entry))) ⌝ }
 {
-    let n = decimal(d);
-    if 2147483647 < n {
-        return Value::NoNumber;
+    if w.len() < 8 {
+        return Digits { value: 0, end: 0 };
     }
-    Value::Bits(n as u32)
-}
-
-// What `-` before these digits writes.
-fn negative(d: &[u8]) -> Value
-    ensures { λ r. ⌜ bitsOf r ≡ negativeIn (now (d .entry)) ⌝ }
-{
-    let n = decimal(d);
-    if n < 1 {
-        return Value::NoNumber;
-    }
-    if 2147483648 < n {
-        return Value::NoNumber;
-    }
-    Value::Bits((4294967296 - n) as u32)
-}
-
-pub fn number_of(w: &[u8]) -> Value
-    ensures { λ r. ⌜ bitsOf r ≡ numberIn (now (w .entry)) ⌝ }
-{
-    if byte_at(w, 0) == 45 {
-        let d = &w[1..];
-        return negative(d);
-    }
-    natural(w)
-}
-
-pub fn is_number(w: &[u8]) -> bool
-    ensures { λ r. ⌜ r ≡ isNumber (now (w .entry)) ⌝ }
-{
-    let v = number_of(w);
-    match v {
-        Value::Bits(_) => true,
-        Value::NoNumber => false,
+    Digits {
+        value: eight_digits(w, 0),
+        end: 8,
     }
 }
 
@@ -527,8 +488,9 @@ fn value_of(w: &[u8]) -> u64
     requires { ⌜ (all digit (now w) ≡ true) × (decimal 0 (now w) ≤ 2147483648) ⌝ }
     ensures { λ r. ⌜ r ≡ decimal 0 (now (w .entry)) ⌝ }
 {
-    let mut n: u64 = 0;
-    let mut i = 0;
+    let first = first_value(w);
+    let mut n = first.value;
+    let mut i = first.end;
     while i < w.len() {
         n = n * 10 + (w[i] - 48) as u64;
         i += 1;
@@ -541,11 +503,124 @@ fn known_number(w: &[u8]) -> u32
     requires { ⌜ isNumber (now w) ≡ true ⌝ }
     ensures { λ r. ⌜ r ≡ number (now (w .entry)) ⌝ }
 {
-    if byte_at(w, 0) == 45 {
-        let d = &w[1..];
-        return (4294967296 - value_of(d)) as u32;
+    let from = sign_end(w, 0);
+    let n = value_of(&w[from..]);
+    if from == 0 {
+        n as u32
+    } else {
+        (4294967296 - n) as u32
     }
-    value_of(w) as u32
+}
+
+// Ten bytes from a place on, or the end.
+fn digits_stop(l: &[u8], at: usize) -> usize
+    requires { ⌜ at ≤ length (now l) ⌝ }
+    ensures { λ r. ⌜ r ≡ at + length (take 10 (drop at (now (l .entry)))) ⌝ }
+{
+    if l.len() - at < 10 { l.len() } else { at + 10 }
+}
+
+// Are the next eight bytes digits? The last of them is asked first.
+fn has_eight(l: &[u8], at: usize) -> bool
+    requires { ⌜ at ≤ length (now l) ⌝ }
+    ensures { λ r. ⌜ (r ≡ true → (at + 8 ≤ length (now (l .entry))) × (all digit (eight (now (l .entry)) at) ≡ true)) ⌝ }
+{
+    if l.len() - at < 8 {
+        return false;
+    }
+    if !is_digit(l[at + 7]) {
+        return false;
+    }
+    digit_marks(word8(l, at)) == 0
+}
+
+// The first eight of the digits from a place on, or none.
+fn first_digits(l: &[u8], at: usize) -> Digits
+    requires { ⌜ at ≤ length (now l) ⌝ }
+    ensures { λ r. ⌜ Begun (now (l .entry)) at (r .value) (r .end) ⌝ }
+{
+    if has_eight(l, at) {
+        return Digits {
+            value: eight_digits(l, at),
+            end: at + 8,
+        };
+    }
+    Digits { value: 0, end: at }
+}
+
+// The digits from a place on, at most ten: a number has no more.
+fn digits_from(l: &[u8], at: usize) -> Digits
+    requires { ⌜ at ≤ length (now l) ⌝ }
+    ensures { λ r. ⌜ TenDigits (now (l .entry)) at (r .value) (r .end) ⌝ }
+{
+    let stop = digits_stop(l, at);
+    let first = first_digits(l, at);
+    let mut value = first.value;
+    let mut end = first.end;
+    while end < stop {
+        let b = l[end];
+        if !is_digit(b) {
+            return Digits { value, end };
+        }
+        value = value * 10 + (b - 48) as u64;
+        end += 1;
+    }
+    Digits { value, end }
+}
+
+// Are there digits from a place on to an end, with no leading zero?
+fn is_led(l: &[u8], from: usize, end: usize) -> bool
+    requires { ⌜ (from ≤ end) × (end ≤ length (now l)) ⌝ }
+    ensures { λ r. ⌜ r ≡ led (end - from) (getD (now (l .entry)) from 0) ⌝ }
+{
+    if end == from {
+        return false;
+    }
+    if l[from] != 48 {
+        return true;
+    }
+    end == from + 1
+}
+
+// Is it in the range of a number, after `-` or without?
+fn in_range(value: u64, signed: bool) -> bool
+    ensures { λ r. ⌜ r ≡ inRange signed value ⌝ }
+{
+    if !signed {
+        return value <= 2147483647;
+    }
+    if value < 1 {
+        return false;
+    }
+    value <= 2147483648
+}
+
+// Do the digits that stand from a place on write a number, and end the field?
+fn is_written(l: &[u8], from: usize, d: Digits, signed: bool) -> bool
+    requires { ⌜ (from ≤ d .end) × (d .end ≤ length (now l)) ⌝ }
+    ensures { λ r. ⌜ r ≡ (led (d .end - from) (getD (now (l .entry)) from 0) && (inRange signed (d .value) && endsField (now (l .entry)) (d .end))) ⌝ }
+{
+    if !is_led(l, from, d.end) {
+        return false;
+    }
+    if !in_range(d.value, signed) {
+        return false;
+    }
+    ends_field(l, d.end)
+}
+
+// The end of the field that starts at `at`, if that field is a number; else `at`.
+fn number_end(l: &[u8], at: usize) -> usize
+    requires { ⌜ at ≤ length (now l) ⌝ }
+    ensures { λ r. ⌜ FieldIs isNumber (now (l .entry)) at r ⌝ }
+{
+    let from = sign_end(l, at);
+    let d = digits_from(l, from);
+    if is_written(l, from, d, at < from) {
+        d.end
+    } else {
+        at
+    }
 }
 
 // EXPRESSIONS
@@ -559,67 +634,24 @@ pub enum Expr {
     NoExpr,
 }
 
-// Does it begin as a number?
-pub fn is_numeral(w: &[u8]) -> bool
-    ensures { λ r. ⌜ r ≡ numeral (now (w .entry)) ⌝ }
+// Does a number begin with it?
+fn begins_number(b: u8) -> bool
+    ensures { λ r. ⌜ r ≡ (digit b || eqb b minus) ⌝ }
 {
-    let b = byte_at(w, 0);
     if is_digit(b) {
         return true;
     }
     b == 45
 }
 
-// A field of letters and digits.
-fn whole_expr(w: &[u8]) -> Expr
-    requires { ⌜ (numeral (now w) ≡ false) × (all letterOrDigit (now w) ≡ true) ⌝ }
-    ensures { λ r. ⌜ Reads (now (w .entry)) r ⌝ }
+// Does it begin as a number?
+pub fn is_numeral(w: &[u8]) -> bool
+    ensures { λ r. ⌜ r ≡ numeral (now (w .entry)) ⌝ }
 {
-    if !begins_name(w, w.len()) {
-        return Expr::NoExpr;
-    }
-    if is_null(w) {
-        return Expr::Null;
-    }
-    Expr::Var
+    begins_number(byte_at(w, 0))
 }
 
-// A field whose first byte that is no letter or digit stands at d.
-fn path_expr(w: &[u8], d: usize) -> Expr
-    requires { ⌜ (numeral (now w) ≡ false) × ((d < length (now w)) × Found (now w) 0 Set.NotLetterOrDigit d) ⌝ }
-    ensures { λ r. ⌜ Reads (now (w .entry)) r ⌝ }
-{
-    if w[d] != 46 {
-        return Expr::NoExpr;
-    }
-    if !begins_name(w, d) {
-        return Expr::NoExpr;
-    }
-    let f = d + 1;
-    if is_name(&w[f..]) {
-        return Expr::Path(d);
-    }
-    Expr::NoExpr
-}
-
-pub fn expr_of(w: &[u8]) -> Expr
-    ensures { λ r. ⌜ Reads (now (w .entry)) r ⌝ }
-{
-    if is_numeral(w) {
-        let v = number_of(w);
-        let Value::Bits(n) = v else {
-            return Expr::NoExpr;
-        };
-        return Expr::Num(n);
-    }
-    let d = find(w, 0, Set::NotLetterOrDigit);
-    if d < w.len() {
-        return path_expr(w, d);
-    }
-    whole_expr(w)
-}
-
-// The same of a field that is known to be an expression: fewer tests.
+// The expression of a field that is known to be one.
 pub fn known_expr(w: &[u8]) -> Expr
     requires { ⌜ isExpr (now w) ≡ true ⌝ }
     ensures { λ r. ⌜ Reads (now (w .entry)) r ⌝ }
@@ -638,14 +670,24 @@ pub fn known_expr(w: &[u8]) -> Expr
     Expr::Var
 }
 
-pub fn is_expr(w: &[u8]) -> bool
-    ensures { λ r. ⌜ r ≡ isExpr (now (w .entry)) ⌝ }
+// The end of the field that starts at `at`, if that field is a variable, `null` or a path; else `at`. Its first byte that is no letter or digit stands at d, where it ends or goes on after a full stop.
+fn path_end(l: &[u8], at: usize, d: usize) -> usize
+    requires { ⌜ (at ≤ length (now l)) × Found (now l) at Set.NotLetterOrDigit d × (numeral (drop at (now l)) ≡ false) ⌝ }
+    ensures { λ r. ⌜ FieldIs isExpr (now (l .entry)) at r ⌝ }
 {
-    let e = expr_of(w);
-    let Expr::NoExpr = e else {
-        return true;
-    };
-    false
+    let n = d - at;
+    if !begins_name(&l[at..], n) {
+        return at;
+    }
+    if ends_field(l, d) {
+        return d;
+    }
+    if l[d] != 46 {
+        return at;
+    }
+    let f = d + 1;
+    let e = find(l, f, Set::FieldEnd);
+    if is_name(&l[f..e]) { e } else { at }
 }
 
 // The end of the field that starts at `at`, if that field is an expression; else `at`.
@@ -653,51 +695,9 @@ pub fn expr_end(l: &[u8], at: usize) -> usize
     requires { ⌜ at ≤ length (now l) ⌝ }
     ensures { λ r. ⌜ FieldIs isExpr (now (l .entry)) at r ⌝ }
 {
-    let e = find(l, at, Set::FieldEnd);
-    if is_expr(&l[at..e]) {
-        return e;
+    if begins_number(byte_at(l, at)) {
+        return number_end(l, at);
     }
-    at
-}
-
-// The place of the full stop of a path; of any other field its length.
-pub fn path_stop(w: &[u8]) -> usize
-    ensures { λ r. ⌜ r ≡ stopOr (length (now (w .entry))) (exprIn (now (w .entry))) ⌝ }
-{
-    let e = expr_of(w);
-    let Expr::Path(d) = e else {
-        return w.len();
-    };
-    d
-}
-
-// ATOMS
-
-fn are_names(a: &[u8], b: &[u8]) -> bool
-    ensures { λ r. ⌜ r ≡ (isName (now (a .entry)) && isName (now (b .entry))) ⌝ }
-{
-    if is_name(a) {
-        return is_name(b);
-    }
-    false
-}
-
-fn are_exprs(a: &[u8], b: &[u8]) -> bool
-    ensures { λ r. ⌜ r ≡ (isExpr (now (a .entry)) && isExpr (now (b .entry))) ⌝ }
-{
-    if is_expr(a) {
-        return is_expr(b);
-    }
-    false
-}
-
-pub fn is_atom(w: &[u8], a: &[u8], b: &[u8]) -> bool
-    ensures { λ r. ⌜ r ≡ isAtom (now (w .entry)) (now (a .entry)) (now (b .entry)) ⌝ }
-{
-    let k = word(w);
-    match k {
-        ACC => are_names(a, b),
-        EQ | NE => are_exprs(a, b),
-        _ => false,
-    }
+    let d = find(l, at, Set::NotLetterOrDigit);
+    path_end(l, at, d)
 }

@@ -1,43 +1,41 @@
+use Rattle.leaves.proofs.Exprs.{numeral-at, number-field}
+use Rattle.rules.specs.Text.{numeral}
 use borrow.Author.Needs.{needs}
+use lib.ListN.{drop}
+use mathlib.Core.Bool.{true}
+use mathlib.Core.Path.{_≡_, sym, _∙_}
 use Rattle.leaves.proofs.expr_end.Statement.{statement}
 use Rattle.leaves.proofs.expr_end.Tie as tie
-use Rattle.leaves.proofs.Exprs.{field-cut}
-use Rattle.leaves.specs.Fields.{fieldLength}
-use Rattle.rules.specs.Text.{isExpr}
-use mathlib.Core.Path.{sym, _∙_}
-use native.Mathlib.Omega.{arith}
+
+byte-at-requires : tie.Need-byte-at-requires
+byte-at-requires c κs = search needs
+
+begins-number-requires : tie.Need-begins-number-requires
+begins-number-requires c κs = search needs
+
+number-end-requires : tie.Need-number-end-requires
+number-end-requires c κs = search needs
+
+returns : tie.Need-returns
+returns c = let n : numeral (drop (c .before .before .before .before .before .args .at) (c .before .before .before .before .before .args .l .now)) ≡ true = numeral-at (c .before .before .before .before .before .args .l .now) (c .before .before .before .before .before .args .at) ∙ rw (← c .before .before .before .byte-at .ensures) (sym (c .before .before .begins-number .ensures) ∙ c .before .if1 .taken) in record { low = c .number-end .ensures .low; high = c .number-end .ensures .high; is = rw (number-field _ n) (c .number-end .ensures .is) }
 
 find-requires : tie.Need-find-requires
 find-requires c κs = search needs
 
-sub-is-expr : tie.Need-sub-is-expr
-sub-is-expr c = search needs
-
-part-is-expr-start : tie.Need-part-is-expr-start
-part-is-expr-start c = search needs
-
-part-is-expr-end : tie.Need-part-is-expr-end
-part-is-expr-end c = search needs
-
-is-expr-requires : tie.Need-is-expr-requires
-is-expr-requires c κs = search needs
-
-returns : tie.Need-returns
-unfolding fieldLength
-returns c = record { low = omega arith; high = omega arith; is = rw (field-cut isExpr (c .before .before .before .before .before .args .l .now) (c .before .before .before .before .before .args .at) (c .before .before .before .find .result) (c .before .before .before .find .ensures .is) ∙ (sym (c .before .is-expr .ensures) ∙ c .if1 .taken)) (c .before .before .before .find .ensures .is) }
+path-end-requires : tie.Need-path-end-requires
+path-end-requires c κs = (c .before .before .before .before .before .pre, c .find .ensures, numeral-at (c .before .before .before .before .before .args .l .now) (c .before .before .before .before .before .args .at) ∙ rw (← c .before .before .before .byte-at .ensures) (sym (c .before .before .begins-number .ensures) ∙ c .before .if1 .left))
 
 returns-2 : tie.Need-returns-2
-unfolding fieldLength
-returns-2 c = record { low = omega arith; high = omega arith; is = rw (field-cut isExpr (c .before .before .before .before .before .args .l .now) (c .before .before .before .before .before .args .at) (c .before .before .before .find .result) (c .before .before .before .find .ensures .is) ∙ (sym (c .before .is-expr .ensures) ∙ c .if1 .left)) }
+returns-2 c = c .path-end .ensures
 
 pub expr-end-spec : {M : Type 1} → statement M
 expr-end-spec =
     tie.close
     (tie.spec
-    find-requires
-    sub-is-expr
-    part-is-expr-start
-    part-is-expr-end
-    is-expr-requires
+    byte-at-requires
+    begins-number-requires
+    number-end-requires
     returns
+    find-requires
+    path-end-requires
     returns-2)

@@ -2,7 +2,7 @@ use borrow.Author.Needs.{needs}
 use borrow.Author.Tests.{lt-leb, not-true, not-false}
 use mathlib.Core.Path.{sym, ap, _∙_}
 use Rattle.rules.specs.Text.{letter, isName}
-use Rattle.leaves.proofs.Exprs.{no-field, no-letter-at, not-begun, ends-name, no-name-at}
+use Rattle.leaves.proofs.Exprs.{field-fails, no-letter-at, not-begun, ends-name, no-name-at}
 use Rattle.leaves.proofs.name_end.Statement.{statement}
 use Rattle.leaves.proofs.name_end.Tie as tie
 
@@ -17,7 +17,7 @@ returns c =
     let l = c .before .before .before .before .args .l .now in
     let at = c .before .before .before .before .args .at in
     let e = ap letter (sym (c .before .before .byte-at .ensures)) ∙ (sym (c .before .is-letter .ensures) ∙ not-true _ (c .if1 .taken)) in
-    no-field isName l at (c .before .before .before .before .pre) (no-letter-at l at (c .before .before .before .before .pre) e)
+    field-fails isName l at (c .before .before .before .before .pre) (no-letter-at l at (c .before .before .before .before .pre) e)
 
 name-stop-requires : tie.Need-name-stop-requires
 name-stop-requires c κs = search needs
@@ -29,7 +29,7 @@ returns-2 : tie.Need-returns-2
 returns-2 c =
     let l = c .before .before .before .before .before .before .args .l .now in
     let at = c .before .before .before .before .before .before .args .at in
-    no-field isName l at (c .before .before .before .before .before .before .pre) (not-begun l at (c .before .name-stop .result) (c .before .before .before .before .before .before .pre) (c .before .name-stop .ensures .is) (rw (lt-leb _ 12 (c .if2 .taken))))
+    field-fails isName l at (c .before .before .before .before .before .before .pre) (not-begun l at (c .before .name-stop .result) (c .before .before .before .before .before .before .pre) (c .before .name-stop .ensures .is) (rw (lt-leb _ 12 (c .if2 .taken))))
 
 ends-field-requires : tie.Need-ends-field-requires
 ends-field-requires c κs = search needs
@@ -44,7 +44,7 @@ returns-4 : tie.Need-returns-4
 returns-4 c =
     let l = c .before .before .before .before .before .before .before .before .args .l .now in
     let at = c .before .before .before .before .before .before .before .before .args .at in
-    no-field isName l at (c .before .before .before .before .before .before .before .before .pre) (no-name-at l at (c .before .before .before .name-stop .result) (c .before .before .before .before .before .before .before .before .pre) (c .before .before .before .name-stop .ensures .is) (sym (c .before .ends-field .ensures) ∙ c .if3 .left))
+    field-fails isName l at (c .before .before .before .before .before .before .before .before .pre) (no-name-at l at (c .before .before .before .name-stop .result) (c .before .before .before .before .before .before .before .before .pre) (c .before .before .before .name-stop .ensures .is) (sym (c .before .ends-field .ensures) ∙ c .if3 .left))
 
 pub name-end-spec : {M : Type 1} → statement M
 name-end-spec =

@@ -1,0 +1,29 @@
+use Rattle.leaves.proofs.Exprs.{field-passes, field-fails}
+use Rattle.leaves.proofs.NumberFields.{digits-within, written, written-end}
+use Rattle.leaves.proofs.Numbers.{sign-within}
+use Rattle.rules.specs.Text.{isNumber}
+use borrow.Author.Needs.{needs}
+use mathlib.Core.Path.{sym, _∙_}
+use native.Mathlib.Omega.{arith}
+use Rattle.leaves.proofs.number_end.Statement.{statement}
+use Rattle.leaves.proofs.number_end.Tie as tie
+
+sign-end-requires : tie.Need-sign-end-requires
+sign-end-requires c κs = search needs
+
+digits-from-requires : tie.Need-digits-from-requires
+digits-from-requires c κs = sign-within (c .before .before .args .l .now) (c .before .before .args .at) (c .sign-end .result) (c .before .before .pre) (c .sign-end .ensures)
+
+is-written-requires : tie.Need-is-written-requires
+is-written-requires c κs = let l = c .before .before .before .args .l .now in let at = c .before .before .before .args .at in let from = c .before .sign-end .result in let h = sign-within l at from (c .before .before .before .pre) (c .before .sign-end .ensures) in (omega (arith, c .digits-from .ensures .end-is), digits-within l at from (c .digits-from .result .value) (c .digits-from .result .end) h (c .before .sign-end .ensures) (c .digits-from .ensures))
+
+returns : tie.Need-returns
+returns c = let l = c .before .before .before .before .before .args .l .now in let at = c .before .before .before .before .before .args .at in let from = c .before .before .before .sign-end .result in let h = sign-within l at from (c .before .before .before .before .before .pre) (c .before .before .before .sign-end .ensures) in field-passes isNumber l at (c .before .before .before .before .before .pre) (c .before .before .digits-from .result .end) (sym (written l at from (c .before .before .digits-from .result .value) (c .before .before .digits-from .result .end) h (c .before .before .before .sign-end .ensures) (c .before .before .digits-from .ensures)) ∙ (sym (c .before .is-written .ensures) ∙ c .if1 .taken)) (written-end l at from (c .before .before .digits-from .result .value) (c .before .before .digits-from .result .end) h (c .before .before .before .sign-end .ensures) (c .before .before .digits-from .ensures) (sym (c .before .is-written .ensures) ∙ c .if1 .taken))
+
+returns-2 : tie.Need-returns-2
+returns-2 c = let l = c .before .before .before .before .before .args .l .now in let at = c .before .before .before .before .before .args .at in let from = c .before .before .before .sign-end .result in let h = sign-within l at from (c .before .before .before .before .before .pre) (c .before .before .before .sign-end .ensures) in field-fails isNumber l at (c .before .before .before .before .before .pre) (sym (written l at from (c .before .before .digits-from .result .value) (c .before .before .digits-from .result .end) h (c .before .before .before .sign-end .ensures) (c .before .before .digits-from .ensures)) ∙ (sym (c .before .is-written .ensures) ∙ c .if1 .left))
+
+pub number-end-spec : {M : Type 1} → statement M
+number-end-spec =
+    tie.close
+    (tie.spec sign-end-requires digits-from-requires is-written-requires returns returns-2)
