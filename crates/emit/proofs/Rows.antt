@@ -1,7 +1,7 @@
 -- One more statement row.
 use mathlib.Core.Path.{_≡_, refl, sym, ap, _∙_}
 use mathlib.Core.List.{List, [], _∷_, _++_}
-use mathlib.Core.Logic.{_⊎_, inl, inr, ⊎-elim}
+use mathlib.Core.Logic.{inl, inr, ⊎-elim}
 use Prim.Native.Nat.{ℕ, suc, _+_, _/_, _%_, _≤_, _<_}
 use native.Mathlib.Omega.{arith}
 use lib.Dec.{ltb}
@@ -13,9 +13,8 @@ use Rattle.rules.specs.Syntax.{set, assign, new, call, return, assert, release,
 use Rattle.rules.specs.Items.{aStatement}
 use Rattle.assembly.specs.Flat.{Flat, flatWith}
 use Rattle.tables.specs.Layout.{names-at, most-atom-rows}
-use Rattle.tables.specs.Decode.{byteAt, halfAt, rightAt, ifAt, rowPlace, rowAt, targetAt}
+use Rattle.tables.specs.Decode.{byteAt, halfAt, rightAt, ifAt, rowPlace, rowAt}
 use Rattle.tables.specs.Stores.{Kept}
-use Rattle.tables.proofs.Bytes.{half-kept}
 use Rattle.emit.specs.declared.Operands.{Operands}
 use Rattle.emit.specs.Puts.{rowBytes, putRow, putTarget, RowBytes}
 use Rattle.emit.specs.Holds.{Declared, operandsAt, RowOk, formulaOf, stmtOf, Holds, Building}
@@ -200,23 +199,10 @@ module _
 
 -- A TARGET
 module _ (w : List ℕ) (i t : ℕ) (size : length w ≡ work-bytes) (room : i < most-statements) where
-  pub target-read : targetAt (putTarget w i t) i ≡ t
-  unfolding putTarget
-  target-read = put-same-half w (rowPlace i + 10) _ 0 (rowPlace i + 10) t (omega arith) (omega arith) (omega arith) refl refl
-
   -- other bytes
   pub target-kept : (a b : ℕ) → Clear (rowPlace i + 10) 2 a b → Kept a b w (putTarget w i t)
   unfolding putTarget
   target-kept a b o = put-kept w (rowPlace i + 10) _ a b o
-
-  pub target-other : (j : ℕ) → (j < i) ⊎ (i < j) → targetAt (putTarget w i t) j ≡ targetAt w j
-  target-other j (inl l) =
-      half-kept (rowPlace j) (rowPlace j + 12) w (putTarget w i t) (target-kept _ _ (inl (omega arith))) (rowPlace j + 10) (omega arith) (omega arith)
-  target-other j (inr l) =
-      half-kept (rowPlace j) (rowPlace j + 12) w (putTarget w i t) (target-kept _ _ (inr (omega arith))) (rowPlace j + 10) (omega arith) (omega arith)
-
-  pub target-names : Kept names-at work-bytes w (putTarget w i t)
-  target-names = target-kept names-at work-bytes (inr (omega arith))
 
   pub target-length : length (putTarget w i t) ≡ length w
   unfolding putTarget

@@ -8,7 +8,7 @@ ghost use lib.ListN.{length};
 ghost use Rattle.rules.specs.Limits.{most-statements, most-methods, most-classes, most-fields, work-bytes};
 ghost use Rattle.tables.specs.Layout.{most-atom-rows, most-names};
 ghost use Rattle.tables.specs.Decode.{fieldCountAt};
-ghost use Rattle.emit.specs.Puts.{putBytes, tagOf, wordOf, putAtom, putRow, putTarget, putMethod, putRequires, putEnsures, blank, putClass, putField, putHeader, RowBytes, SideBytes};
+ghost use Rattle.emit.specs.Puts.{putBytes, tagOf, wordOf, putAtom, putRow, putMethod, putRequires, putEnsures, blank, putClass, putField, putHeader, RowBytes, SideBytes};
 
 // A statement row but for its target: the number of its kind, its variables, its field, class or method, how many atoms
 // it has and the first of them, its line.
@@ -91,14 +91,6 @@ pub fn put_row(work: &mut [u8], i: usize, r: Operands)
     put_four(work, at, r.kind, r.x, r.y, r.z);
     put_four(work, at + 4, r.member, r.atoms, first % 256, first / 256);
     put_four(work, at + 8, line % 256, line / 256, 0, 0);
-}
-
-// The target of the row i is t.
-pub fn put_target(work: &mut [u8], i: usize, t: usize)
-    requires { ⌜ (length (now work) ≡ work-bytes) × ((i < most-statements) × (t < 65536)) ⌝ }
-    ensures { λ _. ⌜ now (work .exit) ≡ putTarget (now (work .entry)) i t ⌝ }
-{
-    tables::put_half(work, Layout::ROWS + i * Layout::ROW_BYTES + 10, t);
 }
 
 // METHODS

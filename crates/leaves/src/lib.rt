@@ -5,7 +5,7 @@ ghost use lib.Dec.{eqb};
 ghost use Prim.Native.Nat.{_+_, _-_, _≤_};
 ghost use lib.ListN.{length, getD, take, drop};
 ghost use Rattle.rules.specs.Base.{between, eqName, is, all};
-ghost use Rattle.rules.specs.Text.{minus, allowed, letter, digit, letterOrDigit, upTo, isName, reserved, isNumber, number, decimal, numeral, isExpr};
+ghost use Rattle.rules.specs.Text.{minus, letter, digit, letterOrDigit, upTo, isName, reserved, isNumber, number, decimal, numeral, isExpr};
 ghost use Rattle.rules.specs.Grammar.{kindOf};
 ghost use Rattle.leaves.specs.Sets.{inSet, Found};
 ghost use Rattle.leaves.specs.Marks.{eight, littleEndian, value, lineForm, fieldForm, nameForm, digitForm, formOf};
@@ -49,19 +49,6 @@ pub fn is_letter_or_digit(b: u8) -> bool
         return b <= 90;
     }
     is_digit(b)
-}
-
-// "tab, LF, 33 to 126"
-pub fn is_allowed(b: u8) -> bool
-    ensures { λ r. ⌜ r ≡ allowed b ⌝ }
-{
-    if b == 9 {
-        return true;
-    }
-    if b == 10 {
-        return true;
-    }
-    between(b, 33, 126)
 }
 
 // What a search stops at.

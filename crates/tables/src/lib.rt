@@ -3,7 +3,7 @@ ghost use Prim.Native.Nat.{ℕ, _+_, _*_, _%_, _≤_, _<_};
 ghost use lib.ListN.{length};
 ghost use Rattle.rules.specs.Limits.{most-statements, most-methods, most-classes, most-fields, work-bytes};
 ghost use Rattle.tables.specs.Layout.{most-atom-rows, most-names};
-ghost use Rattle.tables.specs.Decode.{byteAt, halfAt, wordAt, atomPlace, exprAt, leftAt, rightAt, kindAt, xAt, yAt, zAt, memberAt, atomCountAt, firstAtomAt, lineAt, targetAt, rowCount, atomCount, classCount, methodCount, mainFirst, methodPlace, firstRowAt, classPlace, fieldCountAt, fieldNameAt};
+ghost use Rattle.tables.specs.Decode.{byteAt, halfAt, wordAt, atomPlace, exprAt, leftAt, rightAt, kindAt, xAt, yAt, zAt, memberAt, atomCountAt, firstAtomAt, lineAt, targetAt, methodCount, mainFirst, methodPlace, firstRowAt, classPlace, fieldCountAt, fieldNameAt};
 ghost use Rattle.tables.specs.Tables.{placeAt};
 ghost use Rattle.tables.specs.Stores.{meaning, putByte, putHalf, putWord, offsets};
 
@@ -176,30 +176,6 @@ pub fn right_at(w: &[u8], a: usize) -> Expr
 }
 
 // THE HEADER
-
-// How many statement rows there are.
-pub fn row_count(w: &[u8]) -> usize
-    requires { ⌜ length (now w) ≡ work-bytes ⌝ }
-    ensures { λ r. ⌜ (r ≡ rowCount (now (w .entry))) × (r < 65536) ⌝ }
-{
-    half_at(w, 0)
-}
-
-// How many atoms there are.
-pub fn atom_count(w: &[u8]) -> usize
-    requires { ⌜ length (now w) ≡ work-bytes ⌝ }
-    ensures { λ r. ⌜ (r ≡ atomCount (now (w .entry))) × (r < 65536) ⌝ }
-{
-    half_at(w, 2)
-}
-
-// How many classes there are.
-pub fn class_count(w: &[u8]) -> usize
-    requires { ⌜ length (now w) ≡ work-bytes ⌝ }
-    ensures { λ r. ⌜ (r ≡ classCount (now (w .entry))) × (r < 256) ⌝ }
-{
-    byte_at(w, 4)
-}
 
 // How many methods there are.
 pub fn method_count(w: &[u8]) -> usize
