@@ -6,7 +6,7 @@ ghost use mathlib.Core.Bool.{Bool, true, cond, _||_};
 ghost use Prim.Native.Nat.{_*_, _≤_, _<_};
 ghost use lib.ListN.{length, drop};
 ghost use Rattle.rules.specs.Limits.{most-bytes, work-bytes};
-ghost use Rattle.rules.specs.Text.{isFormula, isCondition};
+ghost use Rattle.rules.specs.Text.{isName, isExpr, isFormula, isCondition};
 ghost use Rattle.rules.specs.Grammar.{form, isFormed};
 ghost use Rattle.rules.specs.Places.{firstPlace, oneMoreIf};
 ghost use Rattle.leaves.specs.Sets.{Found};
@@ -14,6 +14,7 @@ ghost use Rattle.lines.specs.Cuts.{more, NextField, NextAtom};
 ghost use Rattle.lines.specs.Rows.{kindNumbered, rowOf, rowNumber, fitsOperand, fitsTail};
 ghost use Rattle.lines.specs.Coded.{coded, fits, inPlace, stageAfter, branchesAfter, placeAfter, withinLimits};
 ghost use Rattle.lines.specs.Scans.{answerOf, nextPlace, PlacesLine, ScansLine, verdictOf, scanText};
+ghost use Rattle.lines.specs.Spans.{NextFit, OperandsEnd};
 ghost use Rattle.lines.specs.Table.{FormedWord, most-lines, wordIn, putLine, NotesLine, TableOf};
 
 // FIELDS
@@ -27,6 +28,67 @@ pub fn next_field(t: &[u8], r: usize) -> usize
         return r;
     }
     leaves::find(t, r + 1, Set::FieldEnd)
+}
+
+// The end of the field after the one that ends at r, if that field is a name; else r.
+fn next_name(t: &[u8], r: usize) -> usize
+    requires { ⌜ r ≤ length (now t) ⌝ }
+    ensures { λ e. ⌜ NextFit isName (now (t .entry)) r e ⌝ }
+{
+    if leaves::byte_at(t, r) != 9 {
+        return r;
+    }
+    let a = r + 1;
+    let e = leaves::name_end(t, a);
+    if e == a { r } else { e }
+}
+
+// The same of an expression.
+fn next_expr(t: &[u8], r: usize) -> usize
+    requires { ⌜ r ≤ length (now t) ⌝ }
+    ensures { λ e. ⌜ NextFit isExpr (now (t .entry)) r e ⌝ }
+{
+    if leaves::byte_at(t, r) != 9 {
+        return r;
+    }
+    let a = r + 1;
+    let e = leaves::expr_end(t, a);
+    if e == a { r } else { e }
+}
+
+// The same of the operand with this number.
+fn next_operand(operand: u32, t: &[u8], r: usize) -> usize
+    requires { ⌜ r ≤ length (now t) ⌝ }
+    ensures { λ e. ⌜ NextFit (fitsOperand operand) (now (t .entry)) r e ⌝ }
+{
+    if operand == 11 {
+        return next_expr(t, r);
+    }
+    next_name(t, r)
+}
+
+// Where fields that have their form end.
+pub enum Fields {
+    Upto(usize),
+    Bad,
+}
+
+// The operands after the field that ends at `from`, by their number.
+fn operands_end(t: &[u8], from: usize, operands: u32) -> Fields
+    requires { ⌜ from ≤ length (now t) ⌝ }
+    ensures { λ f. ⌜ OperandsEnd operands (now (t .entry)) from f ⌝ }
+{
+    let mut left = operands;
+    let mut r = from;
+    while left != 0 {
+        let e = next_operand(left % 16, t, r);
+        if e == r {
+            return Fields::Bad;
+        }
+        r = e;
+        left = left / 16;
+    }
+    Fields::Upto(r)
 }
 
 // The end of the atom after the field that ends at r, or r where the next three fields are none.
