@@ -3,6 +3,7 @@ pub mod Cuts
 pub mod Formulas
 pub mod Rows
 pub mod Spans
+pub mod Heads
 pub mod Coded
 pub mod Scans
 pub mod Table

@@ -1,6 +1,6 @@
 -- Laws of fields read one after the other.
 use mathlib.Core.Path.{_≡_, refl, sym, ap, _∙_}
-use mathlib.Core.Bool.{Bool, true, false, cond}
+use mathlib.Core.Bool.{Bool, true, false, cond, _&&_}
 use mathlib.Core.List.{List, [], _∷_}
 use Prim.Native.Nat.{ℕ, _+_, _-_, _/_, _%_, _≤_, _<_}
 use native.Mathlib.Omega.{arith}
@@ -11,18 +11,19 @@ use lib.Seq.{getD-drop, getD-take, length-take-le}
 use borrow.Author.Tests.{eq-eqb, ne-eqb, not-true}
 use Rattle.rules.specs.Base.{Name, all}
 use Rattle.rules.specs.Text.{upTo, allowed, isName, isExpr}
-use Rattle.rules.specs.Grammar.{Operand}
+use Rattle.rules.specs.Grammar.{Operand, Tail, form, isOperand, isTail, isFormed}
 use Rattle.leaves.specs.Sets.{inSet, Found}
 use Rattle.leaves.specs.Fields.{firstField, fieldLength, FieldIs}
 use Rattle.leaves.specs.declared.Set.the-variants.{LineEnd, FieldEnd}
 use Rattle.leaves.proofs.Search.{all-at, upTo-found}
 use Rattle.leaves.proofs.Exprs.{unfit, fit, field-cut}
 use Rattle.lines.specs.Cuts.{part, more}
-use Rattle.lines.specs.Rows.{operandNumber, operandsNumber, fitsOperand}
-use Rattle.lines.specs.Spans.{EndsField, Span, firstFits, Fits, NextFit, operandsThen, OperandsRead}
+use Rattle.lines.specs.Rows.{kindNumbered, operandNumber, operandsNumber, tailNumber, fitsOperand, fitsTail}
+use Rattle.lines.specs.Spans.{EndsField, Span, firstFits, Fits, NextFit, operandsThen, OperandsRead, FieldsRead, formedAs}
+use Rattle.lines.specs.declared.Fields.{Fields}
 use Rattle.lines.specs.declared.Fields.the-variants.{Upto, Bad}
-use Rattle.lines.proofs.Cuts.{fields-first, fields-from, no-more, some-more}
-use Rattle.lines.proofs.Rows.{operand-bounds, operand-is}
+use Rattle.lines.proofs.Cuts.{fields-first, fields-from, no-more, some-more, more-tab}
+use Rattle.lines.proofs.Rows.{operand-bounds, operand-is, tail-is}
 use Rattle.lines.proofs.Clean.{inLine, name-clean, expr-clean}
 
 -- SPANS
@@ -183,3 +184,48 @@ module _ {os : List Operand} {t : List ℕ} {from n r : ℕ} (x : Walk os t from
               span = span-on (x .span) (fits-span f (operand-clean (n % 16)));
               is = λ k. i k ∙ rw (more-fits f, operand-is o (part (r + 1) e t), j, f .fits);
             }
+
+-- ALL FIELDS
+
+-- tests that say the same of the fields after r
+pub read-as :
+    (p q : List Name → Bool) (t : List ℕ) (r : ℕ) (f : Fields) → q (more (drop r t)) ≡ p (more (drop r t)) → FieldsRead p t r f → FieldsRead q t r f
+read-as p q t r (Upto e) h x = (x .0, h ∙ x .1, x .2)
+read-as p q t r Bad h x = h ∙ x
+
+module _ (t : List ℕ) (r : ℕ) where
+  pub none-read : r ≤ length t → (getD t r 0 ≡ 9 → ⊥) → FieldsRead (λ ws. eqb (length ws) 0) t r (Upto r)
+  none-read h n = (span-none h, rw (no-more t r n), n)
+
+  pub some-read : getD t r 0 ≡ 9 → FieldsRead (λ ws. eqb (length ws) 0) t r Bad
+  some-read g = more-tab t r ∙ rw (eq-eqb _ 9 g)
+
+formed-then : (os : List Operand) (l : Tail) (ws : List Name) → isFormed os l ws ≡ operandsThen os (isTail l) ws
+unfolding isFormed operandsThen
+formed-then [] l ws = refl
+formed-then (o ∷ os) l [] = refl
+formed-then (o ∷ os) l (w ∷ ws) = ap (isOperand o w &&_) (formed-then os l ws)
+
+pub formed-as : (k : ℕ) (ws : List Name) → (k ≡ 0 → ⊥) → formedAs k ws ≡ isFormed (form (kindNumbered k) .operands) (form (kindNumbered k) .tail) ws
+unfolding formedAs
+formed-as k ws n = rw (ne-eqb k 0 n)
+
+pub formed-none : (k : ℕ) (ws : List Name) → k ≡ 0 → formedAs k ws ≡ false
+unfolding formedAs
+formed-none k ws e = rw e
+
+-- the operands of a line's kind, and then its tail
+module _ (k : ℕ) (n : k ≡ 0 → ⊥) (t : List ℕ) (r : ℕ) where
+  formed-by : formedAs k (more (drop r t)) ≡ operandsThen (form (kindNumbered k) .operands) (isTail (form (kindNumbered k) .tail)) (more (drop r t))
+  formed-by = formed-as k _ n ∙ formed-then (form (kindNumbered k) .operands) (form (kindNumbered k) .tail) (more (drop r t))
+
+  pub fields-bad : OperandsRead (form (kindNumbered k) .operands) t r Bad → FieldsRead (formedAs k) t r Bad
+  fields-bad x = formed-by ∙ x (isTail (form (kindNumbered k) .tail))
+
+  module _ (m : ℕ) (x : OperandsRead (form (kindNumbered k) .operands) t r (Upto m)) (l : ℕ) (e : l ≡ tailNumber (form (kindNumbered k) .tail)) where
+    then : formedAs k (more (drop r t)) ≡ fitsTail l (more (drop m t))
+    then = formed-by ∙ (x .1 (isTail (form (kindNumbered k) .tail)) ∙ (tail-is (form (kindNumbered k) .tail) _ ∙ rw e))
+
+    pub fields-upto : (f : Fields) → FieldsRead (fitsTail l) t m f → FieldsRead (formedAs k) t r f
+    fields-upto (Upto z) y = (span-on (x .0) (y .0), then ∙ y .1, y .2)
+    fields-upto Bad y = then ∙ y

@@ -1,16 +1,18 @@
 -- Fields read one after the other: what is read, and where it ends.
 use mathlib.Core.Path.{_≡_}
-use mathlib.Core.Bool.{Bool, true, false, _&&_}
+use mathlib.Core.Bool.{Bool, true, false, not, _&&_}
 use mathlib.Core.List.{List, [], _∷_}
-use Prim.Native.Nat.{ℕ, _+_, _≤_, _<_}
+use Prim.Native.Nat.{ℕ, suc, _+_, _≤_, _<_}
+use lib.Dec.{eqb}
 use lib.ListN.{length, getD, drop}
 use Rattle.rules.specs.Base.{Name}
-use Rattle.rules.specs.Text.{tab}
-use Rattle.rules.specs.Grammar.{Operand, isOperand}
+use Rattle.rules.specs.Text.{tab, isFormula}
+use Rattle.rules.specs.Grammar.{Operand, form, isOperand, isFormed}
 use Rattle.leaves.specs.Sets.{inSet, Found}
 use Rattle.leaves.specs.declared.Set.the-variants.{LineEnd, FieldEnd}
 use Rattle.lines.specs.Cuts.{part, more}
-use Rattle.lines.specs.Rows.{operandsNumber}
+use Rattle.lines.specs.Rows.{kindNumbered, operandsNumber}
+use Rattle.lines.specs.declared.Head.{Head}
 use Rattle.lines.specs.declared.Fields.{Fields}
 use Rattle.lines.specs.declared.Fields.the-variants.{Upto, Bad}
 
@@ -60,3 +62,35 @@ OperandsRead os t r Bad = (k : List Name → Bool) → operandsThen os k (more (
 -- The same of the operands with a number.
 abbrev pub OperandsEnd : ℕ → List ℕ → ℕ → Fields → Type 0
 OperandsEnd n t r f = (os : List Operand) → n ≡ operandsNumber os → OperandsRead os t r f
+
+-- ATOMS
+
+-- An atom's word follows the tab at r; the operands after it, and what follows them, decide.
+pub record HeadIs (t : List ℕ) (r : ℕ) (h : Head) (os : List Operand) : Type 0 where
+  pub number : h .operands ≡ operandsNumber os
+  pub needs : operandsThen os (λ vs. true) [] ≡ false
+  pub high : h .end ≤ length t
+  pub later : r < h .end
+  pub span : getD t (h .end) 0 ≡ tab → Span t r (h .end)
+  pub is : (n : ℕ) → isFormula (suc n) (more (drop r t)) ≡ operandsThen os (isFormula n) (more (drop (h .end) t))
+
+-- how the atom begins whose word follows the tab at r; it is none where its operands' number is 0
+pub record AtomHead (t : List ℕ) (r : ℕ) (h : Head) : Type 0 where
+  pub none : h .operands ≡ 0 → (n : ℕ) → isFormula (suc n) (more (drop r t)) ≡ false
+  pub some : (h .operands ≡ 0 → ⊥) → (os : List Operand) × HeadIs t r h os
+
+-- After the tab at r, an atom ends at e; e is r where there is none.
+pub record NextAtom (t : List ℕ) (r e : ℕ) : Type 0 where
+  pub none : e ≡ r → (n : ℕ) → isFormula (suc n) (more (drop r t)) ≡ false
+  pub some : (e ≡ r → ⊥) → Span t r e × ((n : ℕ) → isFormula (suc n) (more (drop r t)) ≡ isFormula n (more (drop e t)))
+
+-- ALL FIELDS OF A LINE
+
+-- The fields after r pass a test, and the last ends at a place that has no tab; or they do not pass.
+abbrev pub FieldsRead : (List Name → Bool) → List ℕ → ℕ → Fields → Type 0
+FieldsRead q t r (Upto e) = Span t r e × (q (more (drop r t)) ≡ true) × (getD t e 0 ≡ tab → ⊥)
+FieldsRead q t r Bad = q (more (drop r t)) ≡ false
+
+-- these fields are those of a line of the kind with this number; 0 is no kind's
+unfoldable pub formedAs : ℕ → List Name → Bool
+formedAs k ws = not (eqb k 0) && isFormed (form (kindNumbered k) .operands) (form (kindNumbered k) .tail) ws

@@ -2,11 +2,13 @@ use leaves::Set;
 use rules::Machine;
 use tables::Layout;
 ghost use mathlib.Core.Path.{_≡_};
+ghost use mathlib.Core.List.{[], _∷_};
 ghost use mathlib.Core.Bool.{Bool, true, cond, _||_};
-ghost use Prim.Native.Nat.{_*_, _≤_, _<_};
-ghost use lib.ListN.{length, drop};
+ghost use Prim.Native.Nat.{_+_, _*_, _≤_, _<_};
+ghost use lib.Dec.{eqb};
+ghost use lib.ListN.{length, getD, drop};
 ghost use Rattle.rules.specs.Limits.{most-bytes, work-bytes};
-ghost use Rattle.rules.specs.Text.{isName, isExpr, isFormula, isCondition};
+ghost use Rattle.rules.specs.Text.{isName, isExpr, isRel, isFormula, isCondition};
 ghost use Rattle.rules.specs.Grammar.{form, isFormed};
 ghost use Rattle.rules.specs.Places.{firstPlace, oneMoreIf};
 ghost use Rattle.leaves.specs.Sets.{Found};
@@ -14,7 +16,8 @@ ghost use Rattle.lines.specs.Cuts.{more, NextField, NextAtom};
 ghost use Rattle.lines.specs.Rows.{kindNumbered, rowOf, rowNumber, fitsOperand, fitsTail};
 ghost use Rattle.lines.specs.Coded.{coded, fits, inPlace, stageAfter, branchesAfter, placeAfter, withinLimits};
 ghost use Rattle.lines.specs.Scans.{answerOf, nextPlace, PlacesLine, ScansLine, verdictOf, scanText};
-ghost use Rattle.lines.specs.Spans.{NextFit, OperandsEnd};
+ghost use Rattle.lines.specs.Spans as Spans;
+ghost use Rattle.lines.specs.Spans.{NextFit, OperandsEnd, AtomHead, FieldsRead, formedAs};
 ghost use Rattle.lines.specs.Table.{FormedWord, most-lines, wordIn, putLine, NotesLine, TableOf};
 
 // FIELDS
@@ -89,6 +92,115 @@ fn operands_end(t: &[u8], from: usize, operands: u32) -> Fields
         left = left / 16;
     }
     Fields::Upto(r)
+}
+
+// No field after r.
+fn no_fields(t: &[u8], r: usize) -> Fields
+    requires { ⌜ r ≤ length (now t) ⌝ }
+    ensures { λ f. ⌜ FieldsRead (λ ws. eqb (length ws) 0) (now (t .entry)) r f ⌝ }
+{
+    if leaves::byte_at(t, r) != 9 {
+        return Fields::Upto(r);
+    }
+    Fields::Bad
+}
+
+// ATOMS
+
+// How an atom begins: the number of the operands after its word, or 0 where the word is none of an atom; and the word's end.
+pub struct Head {
+    pub operands: u32,
+    pub end: usize,
+}
+
+// `acc`, of which the first letter is there.
+fn acc_head(t: &[u8], r: usize) -> Head
+    requires { ⌜ (getD (now t) r 0 ≡ 9) × (getD (now t) (r + 1) 0 ≡ 97) ⌝ }
+    ensures { λ h. ⌜ AtomHead (now (t .entry)) r h ⌝ }
+{
+    if leaves::byte_at(t, r + 2) != 99 {
+        return Head { operands: 0, end: r };
+    }
+    if leaves::byte_at(t, r + 3) != 99 {
+        return Head { operands: 0, end: r };
+    }
+    Head { operands: 0x77, end: r + 4 }
+}
+
+// `eq` or `ne`, of which the first letter is there, and the second is b.
+fn rel_head(t: &[u8], r: usize, b: u8) -> Head
+    requires { ⌜ (getD (now t) r 0 ≡ 9) × (isRel (getD (now t) (r + 1) 0 ∷ b ∷ []) ≡ true) ⌝ }
+    ensures { λ h. ⌜ AtomHead (now (t .entry)) r h ⌝ }
+{
+    if leaves::byte_at(t, r + 2) != b {
+        return Head { operands: 0, end: r };
+    }
+    Head { operands: 0xbb, end: r + 3 }
+}
+
+// The word after the tab at r. Whether its field ends there shows where the next begins.
+fn atom_head(t: &[u8], r: usize) -> Head
+    requires { ⌜ getD (now t) r 0 ≡ 9 ⌝ }
+    ensures { λ h. ⌜ AtomHead (now (t .entry)) r h ⌝ }
+{
+    let b = leaves::byte_at(t, r + 1);
+    match b {
+        97 => acc_head(t, r),
+        101 => rel_head(t, r, 113),
+        110 => rel_head(t, r, 101),
+        _ => Head { operands: 0, end: r },
+    }
+}
+
+// The end of the atom after the tab at r, or r where there is none.
+fn atom_end(t: &[u8], r: usize) -> usize
+    requires { ⌜ getD (now t) r 0 ≡ 9 ⌝ }
+    ensures { λ e. ⌜ Spans.NextAtom (now (t .entry)) r e ⌝ }
+{
+    let h = atom_head(t, r);
+    if h.operands == 0 {
+        return r;
+    }
+    let f = operands_end(t, h.end, h.operands);
+    match f {
+        Fields::Upto(e) => e,
+        Fields::Bad => r,
+    }
+}
+
+// The fields after `from`, if they are at most n atoms.
+fn formula_end(t: &[u8], from: usize, most: usize) -> Fields
+    requires { ⌜ from ≤ length (now t) ⌝ }
+    ensures { λ f. ⌜ FieldsRead (isFormula most) (now (t .entry)) from f ⌝ }
+{
+    let mut r = from;
+    let mut n = most;
+    while leaves::byte_at(t, r) == 9 {
+        if n == 0 {
+            return Fields::Bad;
+        }
+        let e = atom_end(t, r);
+        if e == r {
+            return Fields::Bad;
+        }
+        r = e;
+        n -= 1;
+    }
+    Fields::Upto(r)
+}
+
+// The fields after r, if they are one `eq` or `ne`: an atom that does not begin as `acc`.
+fn condition_end(t: &[u8], r: usize) -> Fields
+    requires { ⌜ r ≤ length (now t) ⌝ }
+    ensures { λ f. ⌜ FieldsRead isCondition (now (t .entry)) r f ⌝ }
+{
+    if leaves::byte_at(t, r) != 9 {
+        return Fields::Bad;
+    }
+    if leaves::byte_at(t, r + 1) == 97 {
+        return Fields::Bad;
+    }
+    formula_end(t, r, 1)
 }
 
 // The end of the atom after the field that ends at r, or r where the next three fields are none.
@@ -258,10 +370,46 @@ pub fn is_formed(t: &[u8], from: usize, kind: u8) -> bool
     is_tail(row.tail, t, r)
 }
 
+// The fields after r, if they are the tail with this number.
+fn tail_end(tail: u32, t: &[u8], r: usize) -> Fields
+    requires { ⌜ r ≤ length (now t) ⌝ }
+    ensures { λ f. ⌜ FieldsRead (fitsTail tail) (now (t .entry)) r f ⌝ }
+{
+    match tail {
+        0 => no_fields(t, r),
+        1 => condition_end(t, r),
+        _ => formula_end(t, r, Machine::ATOMS),
+    }
+}
+
+// The fields after the word, which ends at `from`, if they are those of a line of this kind.
+fn fields_end(t: &[u8], from: usize, kind: u8) -> Fields
+    requires { ⌜ (from ≤ length (now t)) × ((1 ≤ kind) × (kind ≤ 18)) ⌝ }
+    ensures { λ f. ⌜ FieldsRead (formedAs kind) (now (t .entry)) from f ⌝ }
+{
+    let row = row_of(kind);
+    let f = operands_end(t, from, row.operands);
+    match f {
+        Fields::Bad => Fields::Bad,
+        Fields::Upto(r) => tail_end(row.tail, t, r),
+    }
+}
+
 // The word that a line begins with: the number of its kind, or 0, and the word's end.
 pub struct Word {
     pub kind: u8,
     pub end: usize,
+}
+
+// Where the fields of a line with this word end; a word of kind 0 begins none.
+fn line_fields(t: &[u8], w: Word) -> Fields
+    requires { ⌜ (w .end ≤ length (now t)) × (w .kind ≤ 18) ⌝ }
+    ensures { λ f. ⌜ FieldsRead (formedAs (w .kind)) (now (t .entry)) (w .end) f ⌝ }
+{
+    if w.kind == 0 {
+        return Fields::Bad;
+    }
+    fields_end(t, w.end, w.kind)
 }
 
 // The word of the line that begins at a place; its kind is 0 where the line's fields are of no kind's form.
