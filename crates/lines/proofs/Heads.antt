@@ -22,7 +22,7 @@ use Rattle.leaves.proofs.Search.{true-false, both-true, and-false, or-true, or-
 use Rattle.lines.specs.Cuts.{part, more}
 use Rattle.lines.specs.Rows as Rows
 use Rattle.lines.specs.Rows.{operandsNumber}
-use Rattle.lines.specs.Spans.{Span, Fits, operandsThen, HeadIs, AtomHead, NextAtom, OperandsRead}
+use Rattle.lines.specs.Spans.{Span, Fits, operandsThen, HeadIs, AtomHead, AtomEnd, OperandsRead}
 use Rattle.lines.specs.declared.Head.{Head}
 use Rattle.lines.specs.declared.Fields.the-variants.{Upto, Bad}
 use Rattle.lines.proofs.Clean.{inLine}
@@ -319,14 +319,14 @@ ne-letters b e = rw e
 
 -- AN ATOM
 module _ {t : List ℕ} {r : ℕ} where
-  pub atom-none : ((n : ℕ) → isFormula (suc n) (more (drop r t)) ≡ false) → NextAtom t r r
+  pub atom-none : ((n : ℕ) → isFormula (suc n) (more (drop r t)) ≡ false) → AtomEnd t r r
   atom-none f = record { none = λ e. f; some = λ e. absurd (e refl) }
 
   module _ {h : Head} {os : List Operand} (x : HeadIs t r h os) where
-    pub atom-bad : OperandsRead os t (h .end) Bad → NextAtom t r r
+    pub atom-bad : OperandsRead os t (h .end) Bad → AtomEnd t r r
     atom-bad f = atom-none (λ n. x .is n ∙ f (isFormula n))
 
-    pub atom-some : (e : ℕ) → OperandsRead os t (h .end) (Upto e) → NextAtom t r e
+    pub atom-some : (e : ℕ) → OperandsRead os t (h .end) (Upto e) → AtomEnd t r e
     atom-some e f =
         record {
           none = λ z. absurd (omega (arith, x .later, f .0 .low));
@@ -347,6 +347,10 @@ condition-is w (a ∷ []) = sym (and-false (isRel w))
 condition-is w (a ∷ b ∷ []) = refl
 condition-is w (a ∷ b ∷ d ∷ ws) =
     rw (ne-eqb (length (w ∷ a ∷ b ∷ d ∷ ws)) 3 (λ e. omega arith), and-false (isAtom w a b)) (sym (and-false (isRel w)))
+
+pub no-condition : (ws : List Name) → ws ≡ [] → isCondition ws ≡ false
+unfolding isCondition
+no-condition ws e = rw e
 
 -- a word that does not begin as `acc` is `eq` or `ne`
 rel-letter : (s : Name) → isWord s ≡ true → isRel s ≡ not (eqb (getD s 0 0) 97)

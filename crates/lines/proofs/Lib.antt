@@ -7,3 +7,4 @@ pub mod Heads
 pub mod Coded
 pub mod Scans
 pub mod Table
+pub mod Formed

@@ -15,7 +15,7 @@ use Rattle.rules.specs.Grammar.{Operand, Tail, form, isOperand, isTail, isForme
 use Rattle.leaves.specs.Sets.{inSet, Found}
 use Rattle.leaves.specs.Fields.{firstField, fieldLength, FieldIs}
 use Rattle.leaves.specs.declared.Set.the-variants.{LineEnd, FieldEnd}
-use Rattle.leaves.proofs.Search.{all-at, upTo-found}
+use Rattle.leaves.proofs.Search.{all-at, upTo-found, upTo-is}
 use Rattle.leaves.proofs.Exprs.{unfit, fit, field-cut}
 use Rattle.lines.specs.Cuts.{part, more}
 use Rattle.lines.specs.Rows.{kindNumbered, operandNumber, operandsNumber, tailNumber, fitsOperand, fitsTail}
@@ -60,6 +60,19 @@ field-span {t} {a} {e} f c =
           not-true _ (ap inLine (sym b) ∙ k);
       ends = λ x. field-ends f;
     }
+
+-- a line ends there, if no tab follows
+pub line-found : {t : List ℕ} {a e : ℕ} → Span t a e → EndsField t e → (getD t e 0 ≡ 9 → ⊥) → Found t a LineEnd e
+line-found {t} {a} {e} x f n =
+    let m = length-drop a t in
+    let z : a + (e - a) ≡ e = omega (arith, x .low) in
+    let d = upTo-is (inSet LineEnd) (drop a t) (e - a) (omega (arith, x .high))
+    (λ k h. ap (inSet LineEnd) (getD-drop a t k 0) ∙ x .inside (a + k) (omega arith) (omega arith))
+    (λ h. ap (inSet LineEnd) (getD-drop a t (e - a) 0) ∙ rw z (feed (f (omega (arith, x .low))))) in
+    record { low = x .low; high = x .high; is = omega (arith, d, x .low) }
+  where
+    feed : inSet FieldEnd (getD t e 0) ≡ true → inSet LineEnd (getD t e 0) ≡ true
+    feed h = let g : eqb (getD t e 0) 10 ≡ true = rw (ne-eqb _ 9 n) at h in rw g
 
 -- ONE FIELD
 module _ {p : Name → Bool} {t : List ℕ} {r e : ℕ} (x : Fits p t r e) where

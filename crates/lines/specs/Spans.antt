@@ -80,7 +80,7 @@ pub record AtomHead (t : List ℕ) (r : ℕ) (h : Head) : Type 0 where
   pub some : (h .operands ≡ 0 → ⊥) → (os : List Operand) × HeadIs t r h os
 
 -- After the tab at r, an atom ends at e; e is r where there is none.
-pub record NextAtom (t : List ℕ) (r e : ℕ) : Type 0 where
+pub record AtomEnd (t : List ℕ) (r e : ℕ) : Type 0 where
   pub none : e ≡ r → (n : ℕ) → isFormula (suc n) (more (drop r t)) ≡ false
   pub some : (e ≡ r → ⊥) → Span t r e × ((n : ℕ) → isFormula (suc n) (more (drop r t)) ≡ isFormula n (more (drop e t)))
 

@@ -4,8 +4,7 @@ use borrow.Author.Needs.{needs}
 use mathlib.Core.Path.{sym, _∙_}
 use Rattle.rules.specs.Text.{isFormula, isCondition}
 use Rattle.lines.proofs.Cuts.{byte-in, no-more}
-use Rattle.lines.proofs.Formulas.{no-condition}
-use Rattle.lines.proofs.Heads.{condition-acc, condition-rel}
+use Rattle.lines.proofs.Heads.{no-condition, condition-acc, condition-rel}
 use Rattle.lines.proofs.Spans.{read-as}
 use Rattle.lines.proofs.condition_end.Statement.{statement}
 use Rattle.lines.proofs.condition_end.Tie as tie
