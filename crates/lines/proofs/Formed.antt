@@ -22,7 +22,7 @@ use Rattle.lines.specs.Cuts.{part, more}
 use Rattle.lines.specs.Rows.{formedKind}
 use Rattle.lines.specs.Spans.{FieldsRead, formedAs}
 use Rattle.lines.specs.Scans.{WhenTaken, PlacesLineTo, Unformed, RefusesLine, ScansLine}
-use Rattle.lines.specs.Table.{FirstWord}
+use Rattle.lines.specs.Table.{FirstWord, Noted, NotesLine}
 use Rattle.lines.proofs.Clean.{kind-clean}
 use Rattle.lines.proofs.Cuts.{fields-from, clean-line, bad-line, first-clean, first-bad}
 use Rattle.lines.proofs.Rows.{most-kind, word-bounds, no-kind, formed, unformed}
@@ -95,3 +95,12 @@ module _ {t : List ℕ} {a e : ℕ} (f : Found t a LineEnd e) where
 
 pub refuses-line : {t : List ℕ} {a : ℕ} {s : Place} {r : Refusal} → RefusesLine t a r → ScansLine t a s (Refused r)
 refuses-line x = record { is = λ p e. x p; ends = tt }
+
+-- a line that is taken: its LF, and its word in the table
+pub taken-ends :
+    {t : List ℕ} {a : ℕ} {s q : Place} {r : ScannedLine} {e : ℕ} → ScansLine t a s r → r ≡ Next e q → Found t a LineEnd e × (getD t e 0 ≡ 10)
+taken-ends {t} {a} x z = subst (WhenTaken (λ i. Found t a LineEnd i × (getD t i 0 ≡ 10))) z (x .ends)
+
+pub taken-noted :
+    {t w w′ : List ℕ} {a n : ℕ} {q : Place} {r : ScannedLine} {e : ℕ} → NotesLine t w a n r w′ → r ≡ Next e q → Noted t w a e n w′
+taken-noted {t} {w} {w′} {a} {n} x z = subst (WhenTaken (λ i. Noted t w a i n w′)) z (x .noted)

@@ -2,12 +2,13 @@
 -- it stand in the table. Assumes nothing.
 use native.Mathlib.Omega.{arith}
 use borrow.Author.Needs.{needs}
-use mathlib.Core.Path.{_≡_, refl, sym, ap, subst, _∙_}
+use mathlib.Core.Path.{_≡_, refl, sym, ap, _∙_}
 use Prim.Native.Nat.{_≤_, _-_}
 use lib.ListN.{length}
-use Rattle.lines.specs.Scans.{lineAnswer, WhenTaken}
+use Rattle.lines.specs.Scans.{lineAnswer}
 use Rattle.lines.proofs.Cuts.{byte-in, clean-line}
 use Rattle.lines.proofs.Scans.{Passed, pass-start, pass-on, pass-stop, pass-done, pass-ends}
+use Rattle.lines.proofs.Formed.{taken-ends, taken-noted}
 use Rattle.lines.proofs.Table.{Tabled, tabled-first, tabled-on, tabled-all}
 use Rattle.lines.proofs.scan.Statement.{statement}
 use Rattle.lines.proofs.scan.Tie as tie
@@ -56,12 +57,12 @@ enum-known-a-2 c = search needs
 
 add-at : tie.Need-add-at Inv-loop μ-loop
 add-at c =
-    let f = subst (WhenTaken _) (c .before .a2 .given .1) (c .before .before .before .before .before .scan-line .ensures .0 .ends) in
+    let f = taken-ends (c .before .before .before .before .before .scan-line .ensures .0) (c .before .a2 .given .1) in
     omega (arith, byte-in (c .before .before .before .before .before .before .before .before .before .before .before .before .args .text .now) (c .before .a2 .given .0 .0) 10 (omega arith) (f .1))
 
 loop-less : tie.Need-loop-less Inv-loop μ-loop
 loop-less c =
-    let f = subst (WhenTaken _) (c .before .a2 .given .1) (c .before .before .before .before .before .scan-line .ensures .0 .ends) in
+    let f = taken-ends (c .before .before .before .before .before .scan-line .ensures .0) (c .before .a2 .given .1) in
     omega (arith, byte-in (c .before .before .before .before .before .before .before .before .before .before .before .before .args .text .now) (c .before .a2 .given .0 .0) 10 (omega arith) (f .1), f .0 .low)
 
 loop-again : tie.Need-loop-again Inv-loop μ-loop
@@ -70,12 +71,12 @@ loop-again c =
     let scan-line = c .before .before .before .before .before .scan-line in
     let a2 = c .before .a2 in
     let t = c .before .before .before .before .before .before .before .before .before .before .before .before .args .text .now in
-    let f = subst (WhenTaken _) (a2 .given .1) (scan-line .ensures .0 .ends) in
+    let f = taken-ends (scan-line .ensures .0) (a2 .given .1) in
     let l = clean-line t (loop .at) (a2 .given .0 .0) (f .0) (f .1) in (
       omega (arith, l .high),
       pass-on (loop .inv .1) (a2 .given .0 .0) (a2 .given .0 .1 .0) l
           (ap lineAnswer (sym (a2 .given .1)) ∙ scan-line .ensures .0 .is (loop .inv .1 .place) (loop .inv .1 .is)),
-      tabled-on (loop .inv .2) (c .before .before .before .before .before .before .before .loop-test .taken) (f .0) (subst (WhenTaken _) (a2 .given .1) (scan-line .ensures .1 .noted)),
+      tabled-on (loop .inv .2) (c .before .before .before .before .before .before .before .loop-test .taken) (f .0) (taken-noted (scan-line .ensures .1) (a2 .given .1)),
       scan-line .ensures .1 .size ∙ loop .inv .3,
     )
 
