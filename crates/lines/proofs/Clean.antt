@@ -1,21 +1,21 @@
 -- The bytes of names, expressions and words stand within a line: they are allowed, and none is LF.
-use mathlib.Core.Path.{_≡_, refl, sym, ap, _∙_}
+use mathlib.Core.Path.{_≡_, refl, ap, _∙_}
 use mathlib.Core.Bool.{Bool, true, false, not, cond, _&&_, _||_}
-use mathlib.Core.List.{List, [], _∷_}
+use mathlib.Core.List.{[], _∷_}
 use mathlib.Core.Logic.{_⊎_, inl, inr, ⊎-elim}
 use Prim.Native.Nat.{ℕ, zero, suc, _≤_}
 use native.Mathlib.Omega.{arith}
-use lib.Dec.{eqb, leb, ltb}
+use lib.Dec.{eqb, leb}
 use lib.ListN.{length, getD, take, drop}
 use borrow.Author.Tests.{eqb-true, le-ltb, ltb-true}
 use Rattle.rules.specs.Base as Base
-use Rattle.rules.specs.Base.{Name, bytes, all, between}
+use Rattle.rules.specs.Base.{Name, all, between}
 use Rattle.rules.specs.Limits.{most-letters}
 use Rattle.rules.specs.Text as Text
-use Rattle.rules.specs.Text.{letter, digit, letterOrDigit, upTo, isName, isDigits, isNegative, isNumber, numeral, hasStop, stopIn, beforeStop, afterStop, isExpr, decimal}
+use Rattle.rules.specs.Text.{letter, digit, letterOrDigit, isName, isDigits, isNegative, isNumber, numeral, hasStop, stopIn, beforeStop, afterStop, isExpr, decimal}
 use Rattle.rules.specs.Grammar.{kindOf}
 use Rattle.leaves.specs.Sets.{inSet}
-use Rattle.leaves.specs.Words.{kindAt, kindOr0, words}
+use Rattle.leaves.specs.Words.{kindAt, kindOr0}
 use Rattle.leaves.specs.declared.Set.the-variants.{LineEnd}
 use Rattle.leaves.proofs.Bytes.{line-end-high}
 use Rattle.leaves.proofs.Search.{both-true, between-true, upTo-found}

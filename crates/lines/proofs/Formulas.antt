@@ -1,17 +1,15 @@
--- Laws of atoms, formulas and conditions at a cursor.
-use mathlib.Core.Path.{_≡_, refl, sym, _∙_}
+-- Laws of atoms and formulas at a cursor.
+use mathlib.Core.Path.{_≡_, refl, _∙_}
 use mathlib.Core.Bool.{true, false, not, _&&_}
 use mathlib.Core.List.{List, [], _∷_}
-use Prim.Native.Nat.{ℕ, zero, suc, _+_, _-_, _≤_, _<_}
+use Prim.Native.Nat.{ℕ, zero, suc, _+_, _-_, _≤_}
 use native.Mathlib.Omega.{arith}
-use lib.Dec.{eqb, leb}
+use lib.Dec.{eqb}
 use lib.ListN.{length, getD, drop}
-use borrow.Author.Tests.{eq-eqb, ne-eqb, le-leb, lt-leb}
-use Rattle.rules.specs.Base.{Name, between}
-use Rattle.rules.specs.Text.{isAtom, isFormula, isCondition, isRel}
-use Rattle.leaves.specs.Words.{wordNumber}
-use Rattle.leaves.proofs.Search.{true-false, and-false}
-use Rattle.leaves.proofs.Words.{rel-is}
+use borrow.Author.Tests.{eq-eqb}
+use Rattle.rules.specs.Base.{Name}
+use Rattle.rules.specs.Text.{isAtom, isFormula}
+use Rattle.leaves.proofs.Search.{true-false}
 use Rattle.lines.specs.Cuts.{part, more, NextField, NextAtom}
 use Rattle.lines.proofs.Cuts.{more-tab}
 

@@ -5,7 +5,6 @@ use mathlib.Core.List.{List, [], _∷_}
 use mathlib.Core.Logic.{_⊎_, inl, inr, ⊎-elim}
 use Prim.Native.Nat.{ℕ, zero, suc, _+_, _-_, _≤_, _<_}
 use native.Mathlib.Omega.{arith}
-use native.Mathlib.Decide.{decLt}
 use lib.Dec.{T, eqb}
 use lib.ListN.{length, getD, drop, take, length-drop}
 use lib.Seq.{getD-drop, getD-take, length-take-le}
@@ -32,10 +31,10 @@ use Rattle.lines.proofs.Spans.{span-on, more-fits, fits-span}
 -- WORDS
 
 -- a word that begins an atom
-abbrev pub isWord : Name → Bool
+abbrev isWord : Name → Bool
 isWord s = is "acc" s || isRel s
 
-pub rel-word : (s : Name) → isRel s ≡ true → isWord s ≡ true
+rel-word : (s : Name) → isRel s ≡ true → isWord s ≡ true
 rel-word s e = rw e (or-true (is "acc" s))
 
 -- it is one of the three
@@ -58,7 +57,7 @@ word-letter : (s : Name) → isWord s ≡ true → s ≡ wordOf (getD s 0 0)
 unfolding bytes
 word-letter = word-case (λ s. s ≡ wordOf (getD s 0 0)) refl refl refl
 
-pub some-letter : (s : Name) → isWord s ≡ true → (getD s 0 0 ≡ 97) ⊎ ((getD s 0 0 ≡ 101) ⊎ (getD s 0 0 ≡ 110))
+some-letter : (s : Name) → isWord s ≡ true → (getD s 0 0 ≡ 97) ⊎ ((getD s 0 0 ≡ 101) ⊎ (getD s 0 0 ≡ 110))
 unfolding bytes
 some-letter = word-case (λ s. (getD s 0 0 ≡ 97) ⊎ ((getD s 0 0 ≡ 101) ⊎ (getD s 0 0 ≡ 110))) (inl refl) (inr (inl refl)) (inr (inr refl))
 
@@ -84,9 +83,9 @@ within-clean (b ∷ s) e =
 -- A WORD SPELLED BY BYTES
 
 -- After the tab at r, bytes spell s, and a tab follows.
-pub record Spelled (t : List ℕ) (r : ℕ) (s : Name) : Type 0 where
-  pub letters : (i : ℕ) → i < length s → getD t (r + 1 + i) 0 ≡ getD s i 0
-  pub after : getD t (r + 1 + length s) 0 ≡ 9
+record Spelled (t : List ℕ) (r : ℕ) (s : Name) : Type 0 where
+  letters : (i : ℕ) → i < length s → getD t (r + 1 + i) 0 ≡ getD s i 0
+  after : getD t (r + 1 + length s) 0 ≡ 9
 
 take-same : (s l : List ℕ) → length s ≤ length l → ((i : ℕ) → i < length s → getD l i 0 ≡ getD s i 0) → take (length s) l ≡ s
 take-same [] [] h f = refl
@@ -111,8 +110,8 @@ module _ (t : List ℕ) (r : ℕ) (g : getD t r 0 ≡ 9) where
           low = omega arith;
           high = omega arith;
           is = ap (λ n. r + 1 + n) (sym (upTo-is (inSet FieldEnd) (drop (r + 1) t) (length s) (omega arith)
-          (λ k j. rw (from k, x .letters k j) (or-false (inSet LineEnd (getD s k 0)) (inSet FieldEnd (getD s k 0)) (not-true _ (all-at within s k (word-within s w) j)) .1))
-          (λ j. rw (from (length s), x .after))));
+              (λ k j. rw (from k, x .letters k j) (or-false (inSet LineEnd (getD s k 0)) (inSet FieldEnd (getD s k 0)) (not-true _ (all-at within s k (word-within s w) j)) .1))
+              (λ j. rw (from (length s), x .after))));
         }
 
     cut : part (r + 1) (r + 1 + length s) t ≡ s
@@ -125,10 +124,10 @@ module _ (t : List ℕ) (r : ℕ) (g : getD t r 0 ≡ 9) where
     fits : Fits (all within) t r (r + 1 + length s)
     fits = record { tab = g; end = found; fits = rw cut (word-within s w) }
 
-    pub word-more : more (drop r t) ≡ s ∷ more (drop (r + 1 + length s) t)
+    word-more : more (drop r t) ≡ s ∷ more (drop (r + 1 + length s) t)
     word-more = more-fits fits ∙ rw cut
 
-    pub word-span : Span t r (r + 1 + length s)
+    word-span : Span t r (r + 1 + length s)
     word-span = fits-span fits within-clean
 
 -- OPERANDS OF AN ATOM
@@ -136,19 +135,19 @@ both-and : (a b c : Bool) → ((a && b) && c) ≡ (a && (b && c))
 both-and true b c = refl
 both-and false b c = refl
 
-abbrev pub accOperands : List Operand
+abbrev accOperands : List Operand
 accOperands = variable read ∷ variable read ∷ []
 
-abbrev pub relOperands : List Operand
+abbrev relOperands : List Operand
 relOperands = expression ∷ expression ∷ []
 
-pub acc-then : (vs : List Name) (n : ℕ) → isFormula (suc n) (bytes "acc" ∷ vs) ≡ operandsThen accOperands (isFormula n) vs
+acc-then : (vs : List Name) (n : ℕ) → isFormula (suc n) (bytes "acc" ∷ vs) ≡ operandsThen accOperands (isFormula n) vs
 unfolding isFormula isAtom operandsThen isOperand is Base.eqName bytes
 acc-then [] n = refl
 acc-then (a ∷ []) n = sym (and-false (isName a))
 acc-then (a ∷ b ∷ vs) n = both-and (isName a) (isName b) (isFormula n vs)
 
-pub rel-then :
+rel-then :
     (s : Name) → is "acc" s ≡ false → isRel s ≡ true → (vs : List Name) (n : ℕ) →
     isFormula (suc n) (s ∷ vs) ≡ operandsThen relOperands (isFormula n) vs
 unfolding isFormula isAtom operandsThen isOperand
@@ -179,7 +178,7 @@ module _ (t : List ℕ) (r : ℕ) (g : getD t r 0 ≡ 9) where
       record { low = omega arith; high = omega (arith, upTo-within (inSet FieldEnd) (drop (r + 1) t), length-drop (r + 1) t); is = refl }
 
   -- the word of its first atom is spelled
-  pub heads : (n : ℕ) → isFormula (suc n) (more (drop r t)) ≡ true → (s : Name) × (isWord s ≡ true) × Spelled t r s
+  heads : (n : ℕ) → isFormula (suc n) (more (drop r t)) ≡ true → (s : Name) × (isWord s ≡ true) × Spelled t r s
   heads n e = go (r + 1 + upTo (inSet FieldEnd) (drop (r + 1) t)) field-end
     where
       go : (z : ℕ) → Found t (r + 1) FieldEnd z → (s : Name) × (isWord s ≡ true) × Spelled t r s
@@ -210,17 +209,17 @@ module _ (t : List ℕ) (r : ℕ) (g : getD t r 0 ≡ 9) where
 
   -- the first byte leaves one word
   module _ (s : Name) (w : isWord s ≡ true) (b : getD t (r + 1) 0 ≡ getD s 0 0) where
-    pub only : (Spelled t r s → ⊥) → (n : ℕ) → isFormula (suc n) (more (drop r t)) ≡ false
+    only : (Spelled t r s → ⊥) → (n : ℕ) → isFormula (suc n) (more (drop r t)) ≡ false
     only f =
         no-formula (λ s' w' x.
         let z : getD s' 0 0 ≡ getD s 0 0 = sym (first-byte s' w' x) ∙ b in
         let y : s' ≡ s = word-letter s' w' ∙ (ap wordOf z ∙ sym (word-letter s w)) in
         f (subst (Spelled t r) y x))
 
-    pub head-none : (Spelled t r s → ⊥) → (h : Head) → h .operands ≡ 0 → AtomHead t r h
+    head-none : (Spelled t r s → ⊥) → (h : Head) → h .operands ≡ 0 → AtomHead t r h
     head-none f h z = record { none = λ e. only f; some = λ e. absurd (e z) }
 
-    pub head-some :
+    head-some :
         (o : Operand) (os : List Operand) → ((vs : List Name) (n : ℕ) → isFormula (suc n) (s ∷ vs) ≡ operandsThen (o ∷ os) (isFormula n) vs) →
         ((i : ℕ) → i < length s → getD t (r + 1 + i) 0 ≡ getD s i 0) →
         (h : Head) → h .end ≡ r + 1 + length s → h .end ≤ length t → h .operands ≡ operandsNumber (o ∷ os) → (h .operands ≡ 0 → ⊥) → AtomHead t r h
@@ -252,8 +251,8 @@ module _ (t : List ℕ) (r : ℕ) (g : getD t r 0 ≡ 9) where
   no-letter a e n h z =
       record {
         none = λ i. no-formula (λ s w x.
-        let y = first-byte s w x in
-        ⊎-elim (λ j. a (y ∙ j)) (⊎-elim (λ j. e (y ∙ j)) (λ j. n (y ∙ j))) (some-letter s w));
+            let y = first-byte s w x in
+            ⊎-elim (λ j. a (y ∙ j)) (⊎-elim (λ j. e (y ∙ j)) (λ j. n (y ∙ j))) (some-letter s w));
         some = λ i. absurd (i z);
       }
 
@@ -265,6 +264,7 @@ two-bytes a b = rw (and-false (eqb 99 b)) (and-false (eqb 97 a))
 later-byte : (a b : ℕ) → isRel (a ∷ b ∷ []) ≡ true → 0 < b
 unfolding bytes
 later-byte a b w = word-case (λ s. 0 < getD s 1 0) (omega arith) (omega arith) (omega arith) (a ∷ b ∷ []) (rel-word (a ∷ b ∷ []) w)
+
 letters-two : (t : List ℕ) (a b c : ℕ) → getD t a 0 ≡ b → getD t (a + 1) 0 ≡ c → (i : ℕ) → i < 2 → getD t (a + i) 0 ≡ getD (b ∷ c ∷ []) i 0
 letters-two t a b c e f zero h = let z : a + 0 ≡ a = omega arith in ap (λ j. getD t j 0) z ∙ e
 letters-two t a b c e f (suc zero) h = f

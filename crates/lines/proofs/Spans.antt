@@ -2,7 +2,7 @@
 use mathlib.Core.Path.{_≡_, refl, sym, ap, _∙_}
 use mathlib.Core.Bool.{Bool, true, false, cond, _&&_}
 use mathlib.Core.List.{List, [], _∷_}
-use Prim.Native.Nat.{ℕ, _+_, _-_, _/_, _%_, _≤_, _<_}
+use Prim.Native.Nat.{ℕ, _+_, _-_, _/_, _%_, _≤_}
 use native.Mathlib.Omega.{arith}
 use native.Mathlib.Decide.{decLt}
 use lib.Dec.{eqb}
@@ -94,7 +94,7 @@ module _ {p : Name → Bool} {t : List ℕ} {r e : ℕ} (x : Fits p t r e) where
       }
 
 module _ (p : Name → Bool) (t : List ℕ) (r : ℕ) (h : r ≤ length t) where
-  pub no-fit : firstFits p (more (drop r t)) ≡ false → NextFit p t r r
+  no-fit : firstFits p (more (drop r t)) ≡ false → NextFit p t r r
   no-fit e = record { high = h; none = λ z. e; some = λ z. absurd (z refl) }
 
   pub no-tab : (getD t r 0 ≡ 9 → ⊥) → NextFit p t r r
@@ -142,7 +142,7 @@ module _ {t : List ℕ} {r e n : ℕ} where
   unfolding fitsOperand
   operand-name h = next-as (λ w. rw (ne-eqb n 11 h))
 
-pub operand-clean : (n : ℕ) (w : Name) → fitsOperand n w ≡ true → all inLine w ≡ true
+operand-clean : (n : ℕ) (w : Name) → fitsOperand n w ≡ true → all inLine w ≡ true
 unfolding fitsOperand
 operand-clean n w e = go (eqb n 11) e
   where

@@ -30,7 +30,7 @@ use Rattle.tables.specs.Decode.{byteAt, halfAt}
 use Rattle.tables.specs.Stores.{putByte, putHalf, Kept}
 use Rattle.tables.proofs.Bytes.{put-half-length, put-half-byte, half-put, half-kept}
 use Rattle.lines.specs.declared.Word.{Word}
-use Rattle.lines.specs.Cuts.{part, more}
+use Rattle.lines.specs.Cuts.{part}
 use Rattle.lines.specs.Rows.{formedKind}
 use Rattle.lines.specs.Table.{WordAt, lineEnd, startOf, most-lines, linePlace, wordIn, putLine, LineTable, Noted}
 use Rattle.lines.proofs.Cuts.{fields-from, no-more}

@@ -69,7 +69,7 @@ fn next_operand(operand: u32, t: &[u8], r: usize) -> usize
 }
 
 // Where fields that have their form end.
-pub enum Fields {
+enum Fields {
     Upto(usize),
     Bad,
 }
@@ -106,7 +106,7 @@ fn no_fields(t: &[u8], r: usize) -> Fields
 // ATOMS
 
 // How an atom begins: the number of the operands after its word, or 0 where the word is none of an atom; and the word's end.
-pub struct Head {
+struct Head {
     pub operands: u32,
     pub end: usize,
 }
@@ -117,12 +117,21 @@ fn acc_head(t: &[u8], r: usize) -> Head
     ensures { λ h. ⌜ AtomHead (now (t .entry)) r h ⌝ }
 {
     if leaves::byte_at(t, r + 2) != 99 {
-        return Head { operands: 0, end: r };
+        return Head {
+            operands: 0,
+            end: r,
+        };
     }
     if leaves::byte_at(t, r + 3) != 99 {
-        return Head { operands: 0, end: r };
+        return Head {
+            operands: 0,
+            end: r,
+        };
     }
-    Head { operands: 0x77, end: r + 4 }
+    Head {
+        operands: 0x77,
+        end: r + 4,
+    }
 }
 
 // `eq` or `ne`, of which the first letter is there, and the second is b.
@@ -131,9 +140,15 @@ fn rel_head(t: &[u8], r: usize, b: u8) -> Head
     ensures { λ h. ⌜ AtomHead (now (t .entry)) r h ⌝ }
 {
     if leaves::byte_at(t, r + 2) != b {
-        return Head { operands: 0, end: r };
+        return Head {
+            operands: 0,
+            end: r,
+        };
     }
-    Head { operands: 0xbb, end: r + 3 }
+    Head {
+        operands: 0xbb,
+        end: r + 3,
+    }
 }
 
 // The word after the tab at r. Whether its field ends there shows where the next begins.
@@ -146,7 +161,10 @@ fn atom_head(t: &[u8], r: usize) -> Head
         97 => acc_head(t, r),
         101 => rel_head(t, r, 113),
         110 => rel_head(t, r, 101),
-        _ => Head { operands: 0, end: r },
+        _ => Head {
+            operands: 0,
+            end: r,
+        },
     }
 }
 
@@ -514,7 +532,7 @@ pub fn line_word(work: &[u8], i: usize) -> Word
 // THE PASS
 
 // The place after a line, and where its LF is; or why the line is refused.
-pub enum ScannedLine {
+enum ScannedLine {
     Next(usize, Place),
     Refused(Refusal),
 }

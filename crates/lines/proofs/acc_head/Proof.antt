@@ -2,7 +2,6 @@
 use native.Mathlib.Omega.{arith}
 use borrow.Author.Needs.{needs}
 use mathlib.Core.Path.{refl, sym, _∙_}
-use Rattle.rules.specs.Base.{bytes}
 use Rattle.lines.proofs.Cuts.{byte-in}
 use Rattle.lines.proofs.Heads.{acc-none, acc-some}
 use Rattle.lines.proofs.acc_head.Statement.{statement}

@@ -1,6 +1,5 @@
 -- `lines::condition_end` meets its contract. Assumes nothing.
 use native.Mathlib.Omega.{arith}
-use borrow.Author.Needs.{needs}
 use mathlib.Core.Path.{sym, _∙_}
 use Rattle.rules.specs.Text.{isFormula, isCondition}
 use Rattle.lines.proofs.Cuts.{byte-in, no-more}

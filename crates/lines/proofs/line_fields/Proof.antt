@@ -1,5 +1,4 @@
 -- `lines::line_fields` meets its contract. Assumes nothing.
-use native.Mathlib.Omega.{arith}
 use borrow.Author.Needs.{needs}
 use Rattle.lines.proofs.Spans.{formed-none}
 use Rattle.lines.proofs.line_fields.Statement.{statement}

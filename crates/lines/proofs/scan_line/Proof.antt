@@ -14,7 +14,7 @@ first-word-requires : tie.Need-first-word-requires
 first-word-requires c κs = search needs
 
 line-fields-requires : tie.Need-line-fields-requires
-line-fields-requires c κs = (c .first-word .ensures .end .high, kind-most (c .first-word .ensures ))
+line-fields-requires c κs = (c .first-word .ensures .end .high, kind-most (c .first-word .ensures))
 
 enum-told : tie.Need-enum-told
 enum-told c = search needs
