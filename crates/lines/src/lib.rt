@@ -111,22 +111,25 @@ struct Head {
     pub end: usize,
 }
 
+fn no_head(r: usize) -> Head
+    ensures { λ h. ⌜ h .operands ≡ 0 ⌝ }
+{
+    Head {
+        operands: 0,
+        end: r,
+    }
+}
+
 // `acc`, of which the first letter is there.
 fn acc_head(t: &[u8], r: usize) -> Head
     requires { ⌜ (getD (now t) r 0 ≡ 9) × (getD (now t) (r + 1) 0 ≡ 97) ⌝ }
     ensures { λ h. ⌜ AtomHead (now (t .entry)) r h ⌝ }
 {
     if leaves::byte_at(t, r + 2) != 99 {
-        return Head {
-            operands: 0,
-            end: r,
-        };
+        return no_head(r);
     }
     if leaves::byte_at(t, r + 3) != 99 {
-        return Head {
-            operands: 0,
-            end: r,
-        };
+        return no_head(r);
     }
     Head {
         operands: 0x77,
@@ -140,10 +143,7 @@ fn rel_head(t: &[u8], r: usize, b: u8) -> Head
     ensures { λ h. ⌜ AtomHead (now (t .entry)) r h ⌝ }
 {
     if leaves::byte_at(t, r + 2) != b {
-        return Head {
-            operands: 0,
-            end: r,
-        };
+        return no_head(r);
     }
     Head {
         operands: 0xbb,
@@ -161,10 +161,7 @@ fn atom_head(t: &[u8], r: usize) -> Head
         97 => acc_head(t, r),
         101 => rel_head(t, r, 113),
         110 => rel_head(t, r, 101),
-        _ => Head {
-            operands: 0,
-            end: r,
-        },
+        _ => no_head(r),
     }
 }
 

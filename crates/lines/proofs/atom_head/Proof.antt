@@ -1,7 +1,7 @@
 -- `lines::atom_head` meets its contract. Assumes nothing.
 use native.Mathlib.Omega.{arith}
 use borrow.Author.Needs.{needs}
-use mathlib.Core.Path.{refl, sym, _∙_}
+use mathlib.Core.Path.{sym, _∙_}
 use Rattle.lines.proofs.Cuts.{byte-in}
 use Rattle.lines.proofs.Heads.{eq-letters, ne-letters, no-letter}
 use Rattle.lines.proofs.atom_head.Statement.{statement}
@@ -22,6 +22,9 @@ rel-head-requires c κs = (c .before .before .before .pre, eq-letters _ (sym (c 
 rel-head-requires-2 : tie.Need-rel-head-requires-2
 rel-head-requires-2 c κs = (c .before .before .before .pre, ne-letters _ (sym (c .before .byte-at .ensures) ∙ c .match .keys3))
 
+no-head-requires : tie.Need-no-head-requires
+no-head-requires c κs = search needs
+
 returns : tie.Need-returns
 returns c = search needs
 
@@ -33,8 +36,8 @@ returns-3 c = search needs
 
 returns-4 : tie.Need-returns-4
 returns-4 c =
-    let b = c .before .byte-at .ensures in
-    no-letter _ _ (c .before .before .before .pre) (λ e. c .match .rest .0 .0 .1 (b ∙ e)) (λ e. c .match .rest .0 .1 (b ∙ e)) (λ e. c .match .rest .1 (b ∙ e)) _ refl
+    let b = c .before .before .byte-at .ensures in
+    no-letter _ _ (c .before .before .before .before .pre) (λ e. c .before .match .rest .0 .0 .1 (b ∙ e)) (λ e. c .before .match .rest .0 .1 (b ∙ e)) (λ e. c .before .match .rest .1 (b ∙ e)) _ (c .no-head .ensures)
 
 pub atom-head-spec : {M : Type 1} → statement M
 atom-head-spec =
@@ -45,6 +48,7 @@ atom-head-spec =
     acc-head-requires
     rel-head-requires
     rel-head-requires-2
+    no-head-requires
     returns
     returns-2
     returns-3

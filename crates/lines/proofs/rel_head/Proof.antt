@@ -13,8 +13,11 @@ add-byte-at c = omega (arith, byte-in (c .before .args .t .now) (c .before .args
 byte-at-requires : tie.Need-byte-at-requires
 byte-at-requires c κs = search needs
 
+no-head-requires : tie.Need-no-head-requires
+no-head-requires c κs = search needs
+
 returns : tie.Need-returns
-returns c = rel-none _ _ (c .before .before .before .pre .0) _ (c .before .before .before .pre .1) (λ e. c .if1 .taken (c .before .byte-at .ensures ∙ e)) _ refl
+returns c = rel-none _ _ (c .before .before .before .before .pre .0) _ (c .before .before .before .before .pre .1) (λ e. c .before .if1 .taken (c .before .before .byte-at .ensures ∙ e)) _ (c .no-head .ensures)
 
 add-t5 : tie.Need-add-t5
 add-t5 c = omega (arith, byte-in (c .before .before .before .args .t .now) (c .before .before .before .args .r) 9 (omega arith) (c .before .before .before .pre .0))
@@ -23,4 +26,4 @@ returns-2 : tie.Need-returns-2
 returns-2 c = rel-some _ _ (c .before .before .before .pre .0) _ (c .before .before .before .pre .1) (sym (c .before .byte-at .ensures) ∙ c .if1 .left) _ refl refl
 
 pub rel-head-spec : {M : Type 1} → statement M
-rel-head-spec = tie.close (tie.spec add-byte-at byte-at-requires returns add-t5 returns-2)
+rel-head-spec = tie.close (tie.spec add-byte-at byte-at-requires no-head-requires returns add-t5 returns-2)
