@@ -231,7 +231,6 @@ module _ (t : List ℕ) (r : ℕ) (g : getD t r 0 ≡ 9) where
             o ∷ os,
             record {
               number = m;
-              needs = refl;
               high = high;
               later = omega (arith, z);
               span = λ i. subst (Span t r) (sym z) (word-span t r g s w (spelled i));
@@ -318,6 +317,11 @@ unfolding isRel is Base.eqName bytes
 ne-letters b e = rw e
 
 -- AN ATOM
+some-operands : (os : List Operand) → (operandsNumber os ≡ 0 → ⊥) → (k : List Name → Bool) → operandsThen os k [] ≡ false
+unfolding operandsNumber operandsThen
+some-operands [] n k = absurd (n refl)
+some-operands (o ∷ os) n k = refl
+
 module _ {t : List ℕ} {r : ℕ} where
   pub atom-none : ((n : ℕ) → isFormula (suc n) (more (drop r t)) ≡ false) → AtomEnd t r r
   atom-none f = record { none = λ e. f; some = λ e. absurd (e refl) }
@@ -326,8 +330,8 @@ module _ {t : List ℕ} {r : ℕ} where
     pub atom-bad : OperandsRead os t (h .end) Bad → AtomEnd t r r
     atom-bad f = atom-none (λ n. x .is n ∙ f (isFormula n))
 
-    pub atom-some : (e : ℕ) → OperandsRead os t (h .end) (Upto e) → AtomEnd t r e
-    atom-some e f =
+    pub atom-some : (h .operands ≡ 0 → ⊥) → (e : ℕ) → OperandsRead os t (h .end) (Upto e) → AtomEnd t r e
+    atom-some n e f =
         record {
           none = λ z. absurd (omega (arith, x .later, f .0 .low));
           some = λ z. (span-on (x .span tab) (f .0), λ n. x .is n ∙ f .1 (isFormula n));
@@ -336,7 +340,7 @@ module _ {t : List ℕ} {r : ℕ} where
         tab : getD t (h .end) 0 ≡ 9
         tab =
             ⊎-elim (λ i. i)
-            (λ i. true-false (sym (f .1 (λ vs. true)) ∙ (ap (operandsThen os (λ vs. true)) (no-more t (h .end) i) ∙ x .needs)))
+            (λ i. true-false (sym (f .1 (λ vs. true)) ∙ (ap (operandsThen os (λ vs. true)) (no-more t (h .end) i) ∙ some-operands os (λ z. n (x .number ∙ z)) _)))
             (decide-eq (getD t (h .end) 0) 9)
 
 -- CONDITIONS

@@ -68,7 +68,6 @@ OperandsEnd n t r f = (os : List Operand) → n ≡ operandsNumber os → Operan
 -- An atom's word follows the tab at r; the operands after it, and what follows them, decide.
 pub record HeadIs (t : List ℕ) (r : ℕ) (h : Head) (os : List Operand) : Type 0 where
   pub number : h .operands ≡ operandsNumber os
-  pub needs : operandsThen os (λ vs. true) [] ≡ false
   pub high : h .end ≤ length t
   pub later : r < h .end
   pub span : getD t (h .end) 0 ≡ tab → Span t r (h .end)

@@ -24,7 +24,7 @@ enum-told c = search needs
 returns-2 : tie.Need-returns-2
 returns-2 c =
     let x = c .before .before .before .before .before .before .atom-head .ensures .some (c .before .before .before .before .if1 .left) in
-    atom-some (x .1) _ (subst (OperandsRead (x .0) _ _) (c .before .f .given .1) (c .before .before .before .operands-end .ensures (x .0) (x .1 .number)))
+    atom-some (x .1) (c .before .before .before .before .if1 .left) _ (subst (OperandsRead (x .0) _ _) (c .before .f .given .1) (c .before .before .before .operands-end .ensures (x .0) (x .1 .number)))
 
 returns-3 : tie.Need-returns-3
 returns-3 c =
