@@ -160,7 +160,7 @@ field-case b t n false true e f u i = rw (eqb-true b 10 f)
 field-case b t n false false e f u i = rw (e, f, u, i)
 
 -- the first field, and those after it
-fields-first : (t : List ℕ) → fields t ≡ take (upTo (inSet FieldEnd) t) t ∷ more (drop (upTo (inSet FieldEnd) t) t)
+pub fields-first : (t : List ℕ) → fields t ≡ take (upTo (inSet FieldEnd) t) t ∷ more (drop (upTo (inSet FieldEnd) t) t)
 unfolding fields more upTo
 fields-first [] = refl
 fields-first (b ∷ t) = field-case b t (upTo (inSet FieldEnd) t) (eqb b 9) (eqb b 10) refl refl refl (fields-first t)

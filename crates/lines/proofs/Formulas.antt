@@ -1,17 +1,15 @@
--- Laws of atoms, formulas and conditions at a cursor.
-use mathlib.Core.Path.{_≡_, refl, sym, _∙_}
+-- Laws of atoms and formulas at a cursor.
+use mathlib.Core.Path.{_≡_, refl, _∙_}
 use mathlib.Core.Bool.{true, false, not, _&&_}
 use mathlib.Core.List.{List, [], _∷_}
-use Prim.Native.Nat.{ℕ, zero, suc, _+_, _-_, _≤_, _<_}
+use Prim.Native.Nat.{ℕ, zero, suc, _+_, _-_, _≤_}
 use native.Mathlib.Omega.{arith}
-use lib.Dec.{eqb, leb}
+use lib.Dec.{eqb}
 use lib.ListN.{length, getD, drop}
-use borrow.Author.Tests.{eq-eqb, ne-eqb, le-leb, lt-leb}
-use Rattle.rules.specs.Base.{Name, between}
-use Rattle.rules.specs.Text.{isAtom, isFormula, isCondition, isRel}
-use Rattle.leaves.specs.Words.{wordNumber}
-use Rattle.leaves.proofs.Search.{true-false, and-false}
-use Rattle.leaves.proofs.Words.{rel-is}
+use borrow.Author.Tests.{eq-eqb}
+use Rattle.rules.specs.Base.{Name}
+use Rattle.rules.specs.Text.{isAtom, isFormula}
+use Rattle.leaves.proofs.Search.{true-false}
 use Rattle.lines.specs.Cuts.{part, more, NextField, NextAtom}
 use Rattle.lines.proofs.Cuts.{more-tab}
 
@@ -87,35 +85,3 @@ module _ {t : List ℕ} {r x : ℕ} (f : NextField t r x) where
               none = λ q. absurd (omega (arith, f .low, g .low, h .low, d));
               some = λ l n. three n ∙ rw e;
             }
-
--- CONDITIONS
-condition-is : (w : Name) (ws : List Name) → isCondition (w ∷ ws) ≡ (isRel w && isFormula 1 (w ∷ ws))
-unfolding isCondition isFormula
-condition-is w [] = sym (and-false (isRel w))
-condition-is w (a ∷ []) = sym (and-false (isRel w))
-condition-is w (a ∷ b ∷ []) = refl
-condition-is w (a ∷ b ∷ d ∷ ws) =
-    rw (ne-eqb (length (w ∷ a ∷ b ∷ d ∷ ws)) 3 (λ e. omega arith), and-false (isAtom w a b)) (sym (and-false (isRel w)))
-
-pub no-condition : (ws : List Name) → ws ≡ [] → isCondition ws ≡ false
-unfolding isCondition
-no-condition ws e = rw e
-
-module _ {t : List ℕ} {r x : ℕ} (f : NextField t r x) (a : x ≡ r → ⊥) (k : ℕ) (h : k ≡ wordNumber (part (r + 1) x t)) where
-  rel : isRel (part (r + 1) x t) ≡ between 20 21 k
-  rel = rw (← h) at (rel-is (part (r + 1) x t))
-
-  from : isCondition (more (drop r t)) ≡ (between 20 21 k && isFormula 1 (more (drop r t)))
-  from = rw (more-on f a) (condition-is _ _ ∙ rw rel)
-
-  pub condition-before : k < 20 → isCondition (more (drop r t)) ≡ false
-  unfolding between
-  condition-before l = from ∙ rw (lt-leb 20 k l)
-
-  pub condition-after : 21 < k → isCondition (more (drop r t)) ≡ false
-  unfolding between
-  condition-after l = from ∙ rw (lt-leb k 21 l, and-false (leb 20 k))
-
-  pub condition-here : 20 ≤ k → k ≤ 21 → isCondition (more (drop r t)) ≡ isFormula 1 (more (drop r t))
-  unfolding between
-  condition-here l m = from ∙ rw (le-leb 20 k l, le-leb k 21 m)

@@ -1,6 +1,10 @@
+pub mod Clean
 pub mod Cuts
 pub mod Formulas
 pub mod Rows
+pub mod Spans
+pub mod Heads
 pub mod Coded
 pub mod Scans
 pub mod Table
+pub mod Formed

@@ -3,9 +3,8 @@ use mathlib.Core.Path.{_≡_, refl, sym, ap, _∙_}
 use mathlib.Core.Bool.{Bool, true, false}
 use mathlib.Core.List.{List, [], _∷_}
 use mathlib.Core.Option.{Option, none, some}
-use Prim.Native.Nat.{ℕ, zero, suc, _+_, _-_, _/_, _%_, _≤_, _<_}
+use Prim.Native.Nat.{ℕ, zero, suc, _-_, _/_, _%_, _≤_, _<_}
 use native.Mathlib.Omega.{arith}
-use lib.ListN.{length, drop}
 use Rattle.rules.specs.Base.{Name, bindOption, withDefault}
 use Rattle.rules.specs.Base as Base
 use Rattle.rules.specs.Grammar as Grammar
@@ -20,11 +19,9 @@ use Rattle.leaves.specs.Words as Words
 use Rattle.leaves.specs.Words.{kindAt, kindOr0}
 use Rattle.leaves.proofs.Words.{kind-number}
 use Rattle.lines.specs.declared.Row.{Row}
-use Rattle.lines.specs.Cuts.{part, more, NextField}
 use Rattle.lines.specs.Rows as Rows
 use Rattle.lines.specs.Rows.{kindNumbered, operandNumber, operandsNumber, tailNumber, rowOf, rowNumber}
 use Rattle.lines.specs.Rows.{fitsOperand, fitsTail, formedKind}
-use Rattle.lines.proofs.Formulas.{more-on}
 
 -- KINDS
 pub number-of-kind : (n : ℕ) → 1 ≤ n → n ≤ 18 → kindNumber (kindNumbered n) ≡ n
@@ -165,60 +162,6 @@ pub first-operand :
 unfolding operandsNumber
 first-operand o os = omega (arith, operand-bounds o)
 
--- THE WALK OVER A LINE'S OPERANDS
-
--- at the cursor r, operands with the number n are left of a line whose form is b
-pub record Walk (t : List ℕ) (tail : Tail) (b : Bool) (n r : ℕ) : Type 0 where
-  pub left : List Operand
-  pub number : n ≡ operandsNumber left
-  pub high : r ≤ length t
-  pub is : isFormed left tail (more (drop r t)) ≡ b
-
-module _ {t : List ℕ} {tail : Tail} {b : Bool} {n r : ℕ} (x : Walk t tail b n r) where
-  pub walk-done : n ≡ 0 → b ≡ fitsTail (tailNumber tail) (more (drop r t))
-  unfolding isFormed operandsNumber
-  walk-done e = go (x .left) (x .number) (x .is)
-    where
-      go :
-          (os : List Operand) → n ≡ operandsNumber os → isFormed os tail (more (drop r t)) ≡ b →
-          b ≡ fitsTail (tailNumber tail) (more (drop r t))
-      go [] h i = sym i ∙ tail-is tail _
-      go (o ∷ os) h i = absurd (omega (arith, operand-bounds o))
-
-  pub walk-short : (n ≡ 0 → ⊥) → more (drop r t) ≡ [] → b ≡ false
-  unfolding isFormed operandsNumber
-  walk-short l e = go (x .left) (x .number) (x .is)
-    where
-      go : (os : List Operand) → n ≡ operandsNumber os → isFormed os tail (more (drop r t)) ≡ b → b ≡ false
-      go [] h i = absurd (l h)
-      go (o ∷ os) h i = sym i ∙ rw e
-
-  module _ (l : n ≡ 0 → ⊥) {e : ℕ} (f : NextField t r e) (d : e ≡ r → ⊥) where
-    pub walk-wrong : fitsOperand (n % 16) (part (r + 1) e t) ≡ false → b ≡ false
-    unfolding isFormed operandsNumber
-    walk-wrong q = go (x .left) (x .number) (x .is)
-      where
-        go : (os : List Operand) → n ≡ operandsNumber os → isFormed os tail (more (drop r t)) ≡ b → b ≡ false
-        go [] h i = absurd (l h)
-        go (o ∷ os) h i =
-            let k : operandNumber o ≡ n % 16 = omega (arith, operand-bounds o) in
-            sym i ∙ rw (more-on f d, operand-is o _, k, q)
-
-    pub walk-on : fitsOperand (n % 16) (part (r + 1) e t) ≡ true → Walk t tail b (n / 16) e
-    unfolding isFormed operandsNumber
-    walk-on q = go (x .left) (x .number) (x .is)
-      where
-        go : (os : List Operand) → n ≡ operandsNumber os → isFormed os tail (more (drop r t)) ≡ b → Walk t tail b (n / 16) e
-        go [] h i = absurd (l h)
-        go (o ∷ os) h i =
-            let k : operandNumber o ≡ n % 16 = omega (arith, operand-bounds o) in
-            record {
-              left = os;
-              number = omega (arith, operand-bounds o);
-              high = f .high;
-              is = rw (more-on f d, operand-is o _, k, q) at i;
-            }
-
 -- THE KIND OF A LINE
 pub kind-known : (o : Option Kind) (n : ℕ) → n ≡ kindOr0 o → (n ≡ 0 → ⊥) → (k : Kind) × (o ≡ some k) × (n ≡ kindNumber k)
 kind-known none n e z = absurd (z e)
@@ -227,8 +170,9 @@ kind-known (some k) n e z = (k, refl, e)
 known-bounds : (o : Option Kind) (n : ℕ) → n ≡ kindOr0 o → (n ≡ 0 → ⊥) → (1 ≤ n) × (n ≤ 18)
 known-bounds o n e z = let (k, f, h) = kind-known o n e z in let b = kind-bounds k in omega (arith, h, b)
 
-pub formed-bounds : (ws : List Name) (n : ℕ) → n ≡ kindOr0 (formedKind ws) → (n ≡ 0 → ⊥) → (1 ≤ n) × (n ≤ 18)
-formed-bounds ws = known-bounds (formedKind ws)
+pub most-kind : (o : Option Kind) (n : ℕ) → n ≡ kindOr0 o → n ≤ 18
+most-kind none n e = omega (arith, e)
+most-kind (some k) n e = omega (arith, e, kind-bounds k)
 
 pub kind-none : (o : Option Kind) → kindOr0 o ≡ 0 → o ≡ none
 kind-none none e = refl

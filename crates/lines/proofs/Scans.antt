@@ -27,7 +27,6 @@ use Rattle.leaves.proofs.Search.{true-false}
 use Rattle.leaves.specs.Words.{kindOr0}
 use Rattle.lines.specs.declared.Place.{Place}
 use Rattle.lines.specs.declared.Refusal.{Refusal}
-use Rattle.lines.specs.declared.Placing.the-variants as Placing
 use Rattle.lines.specs.Cuts.{part, firstLine, CleanLine, BadLine}
 use Rattle.lines.specs.Rows.{kindNumbered, formedKind}
 use Rattle.lines.specs.Coded.{coded, inPlace, placeAfter, withinLimits}
@@ -51,10 +50,6 @@ place-line-is s k l h p e =
     go true true q = refl
     go true false q = refl
     go false y q = refl
-
--- a line that is refused has no next place
-pub refused-next : {r : Refusal} {q : Place} {A : Type 0} → Placing.Refused r ≡ Placing.Next q → A
-refused-next e = absurd (let z : _≡_ {A = ℕ} 0 1 = cc in omega arith)
 
 -- ONE LINE
 abbrev lineWith : Name → Kind → Try Answers.Refusal Line

@@ -30,9 +30,9 @@ use Rattle.tables.specs.Decode.{byteAt, halfAt}
 use Rattle.tables.specs.Stores.{putByte, putHalf, Kept}
 use Rattle.tables.proofs.Bytes.{put-half-length, put-half-byte, half-put, half-kept}
 use Rattle.lines.specs.declared.Word.{Word}
-use Rattle.lines.specs.Cuts.{part, more}
+use Rattle.lines.specs.Cuts.{part}
 use Rattle.lines.specs.Rows.{formedKind}
-use Rattle.lines.specs.Table.{WordAt, FormedWord, lineEnd, startOf, most-lines, linePlace, wordIn, putLine, LineTable, Noted}
+use Rattle.lines.specs.Table.{WordAt, lineEnd, startOf, most-lines, linePlace, wordIn, putLine, LineTable, Noted}
 use Rattle.lines.proofs.Cuts.{fields-from, no-more}
 use Rattle.lines.proofs.Rows.{kind-known}
 
@@ -100,6 +100,11 @@ word-before t a r e f l g = elim (decLt e r) [
       let q : getD (drop a t) (e - a) 0 ≡ 10 = getD-drop a t (e - a) 0 ∙ rw z g in
       true-false (sym (ap (inSet FieldEnd) q) ∙ p))
 ]
+
+-- the kind and the word's end of a line that has its form
+pub record FormedWord (t : List ℕ) (a : ℕ) (r : Word) : Type 0 where
+  pub kind : r .kind ≡ kindOr0 (formedKind (fields (drop a t)))
+  pub end : Found t a FieldEnd (r .end)
 
 module _ {t : List ℕ} {a : ℕ} {r : Word} (x : FormedWord t a r) (z : r .kind ≡ 0 → ⊥) where
   pub formed-word : WordAt t a r

@@ -12,14 +12,19 @@ use Rattle.rules.specs.Text.{line-feed, lines}
 use Rattle.rules.specs.Grammar.{Line, Class, kindOf}
 use Rattle.rules.specs.Places as Places
 use Rattle.rules.specs.Places.{placeLine, scanLine, scanLines, firstPlace}
+use Rattle.leaves.specs.Sets.{Found}
+use Rattle.leaves.specs.Words.{kindOr0}
+use Rattle.leaves.specs.declared.Set.the-variants.{LineEnd}
 use Rattle.lines.specs.Cuts.{firstLine}
-use Rattle.lines.specs.Rows.{kindNumbered}
+use Rattle.lines.specs.Rows.{kindNumbered, formedKind}
 use Rattle.lines.specs.Coded.{coded}
 use Rattle.lines.specs.declared.Refusal.{Refusal}
 use Rattle.lines.specs.declared.Refusal.the-variants.{BadByte, Malformed, LimitPassed, TextEnds}
 use Rattle.lines.specs.declared.Place.{Place}
 use Rattle.lines.specs.declared.Placing.{Placing}
 use Rattle.lines.specs.declared.Placing.the-variants.{Next, Refused}
+use Rattle.lines.specs.declared.ScannedLine.{ScannedLine}
+use Rattle.lines.specs.declared.ScannedLine.the-variants as ScannedLine
 use Rattle.lines.specs.declared.Scanned.{Scanned}
 use Rattle.lines.specs.declared.Scanned.the-variants as Scanned
 
@@ -41,10 +46,32 @@ nextPlace b w q = check b malformed >> (check w limitPassed >> ok q)
 abbrev pub PlacesLine : Place → ℕ → Placing → Type 0
 PlacesLine s k r = (p : Places.Place) → s ≡ coded p → answerOf r ≡ (placeLine p (kindNumbered k) >>= λ q. ok (coded q))
 
--- The answer r is that on the line of t that begins at a, and ends at e.
-pub record ScansLine (t : List ℕ) (a e : ℕ) (s : Place) (r : Placing) : Type 0 where
-  pub is : (p : Places.Place) → s ≡ coded p → answerOf r ≡ (scanLine p (firstLine (drop a t)) >>= λ x. ok (coded (x .next)))
-  pub feed : (q : Place) → r ≡ Next q → getD t e 0 ≡ line-feed
+abbrev pub lineAnswer : ScannedLine → Try Answers.Refusal Place
+lineAnswer (ScannedLine.Next e s) = ok s
+lineAnswer (ScannedLine.Refused r) = no (refusalOf r)
+
+-- What holds of the place of a line's LF, where the line is taken.
+abbrev pub WhenTaken : (ℕ → Type 0) → ScannedLine → Type 0
+WhenTaken P (ScannedLine.Next e s) = P e
+WhenTaken P (ScannedLine.Refused r) = Unit {0}
+
+-- The same as `PlacesLine`, of a line with its LF at e.
+abbrev pub PlacesLineTo : Place → ℕ → ℕ → ScannedLine → Type 0
+PlacesLineTo s k e r =
+    ((p : Places.Place) → s ≡ coded p → lineAnswer r ≡ (placeLine p (kindNumbered k) >>= λ q. ok (coded q))) × WhenTaken (λ i. i ≡ e) r
+
+-- The fields of the line that begins at a have no kind's form.
+abbrev pub Unformed : List ℕ → ℕ → Type 0
+Unformed t a = kindOr0 (formedKind (Text.fields (drop a t))) ≡ 0
+
+-- The line that begins at a is refused so, wherever it stands.
+abbrev pub RefusesLine : List ℕ → ℕ → Refusal → Type 0
+RefusesLine t a r = (p : Places.Place) → no (refusalOf r) ≡ (scanLine p (firstLine (drop a t)) >>= λ x. ok (coded (x .next)))
+
+-- The answer r is that on the line of t that begins at a.
+pub record ScansLine (t : List ℕ) (a : ℕ) (s : Place) (r : ScannedLine) : Type 0 where
+  pub is : (p : Places.Place) → s ≡ coded p → lineAnswer r ≡ (scanLine p (firstLine (drop a t)) >>= λ x. ok (coded (x .next)))
+  pub ends : WhenTaken (λ e. Found t a LineEnd e × (getD t e 0 ≡ line-feed)) r
 
 -- a text that is taken by the count of its lines
 abbrev pub verdictOf : Scanned → Verdict ℕ

@@ -11,12 +11,10 @@ use Rattle.leaves.specs.declared.Set.the-variants.{LineEnd, FieldEnd}
 use Rattle.tables.specs.Layout.{lines-at}
 use Rattle.tables.specs.Decode.{byteAt, halfAt}
 use Rattle.tables.specs.Stores.{putByte, putHalf, Kept}
-use Rattle.lines.specs.Cuts.{more}
-use Rattle.lines.specs.Rows.{formedKind}
+use Rattle.lines.specs.Cuts.{part, more}
+use Rattle.lines.specs.Scans.{WhenTaken}
 use Rattle.lines.specs.declared.Word.{Word}
-use Rattle.lines.specs.declared.Place.{Place}
-use Rattle.lines.specs.declared.Placing.{Placing}
-use Rattle.lines.specs.declared.Placing.the-variants.{Next}
+use Rattle.lines.specs.declared.ScannedLine.{ScannedLine}
 use Rattle.lines.specs.declared.Scanned.{Scanned}
 use Rattle.lines.specs.declared.Scanned.the-variants.{Taken, Refused}
 
@@ -28,9 +26,9 @@ pub record WordAt (t : List ℕ) (a : ℕ) (r : Word) : Type 0 where
   pub high : r .end ≤ length t
   pub fields : more (drop (r .end) t) ≡ drop 1 (fields (drop a t))
 
--- The same, with 0 where the line has not the form of its kind.
-pub record FormedWord (t : List ℕ) (a : ℕ) (r : Word) : Type 0 where
-  pub kind : r .kind ≡ kindOr0 (formedKind (fields (drop a t)))
+-- The same, with the word's end as it is found.
+pub record FirstWord (t : List ℕ) (a : ℕ) (r : Word) : Type 0 where
+  pub kind : r .kind ≡ kindOr0 (kindOf (part a (r .end) t))
   pub end : Found t a FieldEnd (r .end)
 
 -- WHERE LINES BEGIN
@@ -81,6 +79,6 @@ pub record Noted (t w : List ℕ) (a e n : ℕ) (w′ : List ℕ) : Type 0 where
   pub others : Kept lines-at (linePlace n) w w′
 
 -- A line that is taken is noted.
-pub record NotesLine (t w : List ℕ) (a e n : ℕ) (r : Placing) (w′ : List ℕ) : Type 0 where
+pub record NotesLine (t w : List ℕ) (a n : ℕ) (r : ScannedLine) (w′ : List ℕ) : Type 0 where
   pub size : length w′ ≡ length w
-  pub noted : (q : Place) → r ≡ Next q → Noted t w a e n w′
+  pub noted : WhenTaken (λ e. Noted t w a e n w′) r

@@ -2,19 +2,21 @@ use leaves::Set;
 use rules::Machine;
 use tables::Layout;
 ghost use mathlib.Core.Path.{_≡_};
+ghost use mathlib.Core.List.{[], _∷_};
 ghost use mathlib.Core.Bool.{Bool, true};
-ghost use Prim.Native.Nat.{_*_, _≤_, _<_};
-ghost use lib.ListN.{length, drop};
+ghost use Prim.Native.Nat.{_+_, _*_, _≤_, _<_};
+ghost use lib.Dec.{eqb};
+ghost use lib.ListN.{length, getD};
 ghost use Rattle.rules.specs.Limits.{most-bytes, work-bytes, most-classes, most-fields, most-methods, most-locals};
-ghost use Rattle.rules.specs.Text.{isFormula, isCondition};
-ghost use Rattle.rules.specs.Grammar.{form, isFormed};
+ghost use Rattle.rules.specs.Text.{isName, isExpr, isRel, isFormula, isCondition};
+ghost use Rattle.rules.specs.Grammar.{form};
 ghost use Rattle.rules.specs.Places.{firstPlace, stageNumber};
-ghost use Rattle.leaves.specs.Sets.{Found};
-ghost use Rattle.lines.specs.Cuts.{more, NextField, NextAtom};
+ghost use Rattle.lines.specs.Cuts.{NextField};
 ghost use Rattle.lines.specs.Rows.{kindNumbered, rowOf, rowNumber, fitsOperand, fitsTail};
 ghost use Rattle.lines.specs.Coded.{coded, fits, inPlace, stageAfter, branchesAfter, atStage, placeAfter, withinLimits, AfterWithin};
-ghost use Rattle.lines.specs.Scans.{answerOf, nextPlace, PlacesLine, ScansLine, verdictOf, scanText};
-ghost use Rattle.lines.specs.Table.{FormedWord, most-lines, wordIn, putLine, NotesLine, TableOf};
+ghost use Rattle.lines.specs.Scans.{answerOf, nextPlace, PlacesLine, PlacesLineTo, Unformed, RefusesLine, ScansLine, verdictOf, scanText};
+ghost use Rattle.lines.specs.Spans.{NextFit, OperandsEnd, AtomHead, AtomEnd, FieldsRead, formedAs};
+ghost use Rattle.lines.specs.Table.{FirstWord, most-lines, wordIn, putLine, NotesLine, TableOf};
 
 // FIELDS
 
@@ -29,71 +31,189 @@ pub fn next_field(t: &[u8], r: usize) -> usize
     leaves::find(t, r + 1, Set::FieldEnd)
 }
 
-// The end of the atom after the field that ends at r, or r where the next three fields are none.
-pub fn next_atom(t: &[u8], r: usize) -> usize
+// The end of the field after the one that ends at r, if that field is a name; else r.
+fn next_name(t: &[u8], r: usize) -> usize
     requires { ⌜ r ≤ length (now t) ⌝ }
-    ensures { λ e. ⌜ NextAtom (now (t .entry)) r e ⌝ }
+    ensures { λ e. ⌜ NextFit isName (now (t .entry)) r e ⌝ }
 {
-    let x = next_field(t, r);
-    if x == r {
-        return r;
-    }
-    let y = next_field(t, x);
-    if y == x {
-        return r;
-    }
-    let z = next_field(t, y);
-    if z == y {
+    if leaves::byte_at(t, r) != 9 {
         return r;
     }
     let a = r + 1;
-    let b = x + 1;
-    let c = y + 1;
-    if leaves::is_atom(&t[a..x], &t[b..y], &t[c..z]) {
-        return z;
-    }
-    r
+    let e = leaves::name_end(t, a);
+    if e == a { r } else { e }
 }
 
-// Are the fields after r at most n atoms?
-pub fn is_formula(t: &[u8], from: usize, most: usize) -> bool
+// The same of an expression.
+fn next_expr(t: &[u8], r: usize) -> usize
+    requires { ⌜ r ≤ length (now t) ⌝ }
+    ensures { λ e. ⌜ NextFit isExpr (now (t .entry)) r e ⌝ }
+{
+    if leaves::byte_at(t, r) != 9 {
+        return r;
+    }
+    let a = r + 1;
+    let e = leaves::expr_end(t, a);
+    if e == a { r } else { e }
+}
+
+// The same of the operand with this number.
+fn next_operand(operand: u32, t: &[u8], r: usize) -> usize
+    requires { ⌜ r ≤ length (now t) ⌝ }
+    ensures { λ e. ⌜ NextFit (fitsOperand operand) (now (t .entry)) r e ⌝ }
+{
+    if operand == 11 {
+        return next_expr(t, r);
+    }
+    next_name(t, r)
+}
+
+// Where fields that have their form end.
+enum Fields {
+    Upto(usize),
+    Bad,
+}
+
+// The operands after the field that ends at `from`, by their number.
+fn operands_end(t: &[u8], from: usize, operands: u32) -> Fields
     requires { ⌜ from ≤ length (now t) ⌝ }
-    ensures { λ b. ⌜ b ≡ isFormula most (more (drop from (now (t .entry)))) ⌝ }
+    ensures { λ f. ⌜ OperandsEnd operands (now (t .entry)) from f ⌝ }
+{
+    let mut left = operands;
+    let mut r = from;
+    while left != 0 {
+        let e = next_operand(left % 16, t, r);
+        if e == r {
+            return Fields::Bad;
+        }
+        r = e;
+        left = left / 16;
+    }
+    Fields::Upto(r)
+}
+
+// No field after r.
+fn no_fields(t: &[u8], r: usize) -> Fields
+    requires { ⌜ r ≤ length (now t) ⌝ }
+    ensures { λ f. ⌜ FieldsRead (λ ws. eqb (length ws) 0) (now (t .entry)) r f ⌝ }
+{
+    if leaves::byte_at(t, r) != 9 {
+        return Fields::Upto(r);
+    }
+    Fields::Bad
+}
+
+// ATOMS
+
+// How an atom begins: the number of the operands after its word, or 0 where the word is none of an atom; and the word's end.
+struct Head {
+    pub operands: u32,
+    pub end: usize,
+}
+
+fn no_head(r: usize) -> Head
+    ensures { λ h. ⌜ h .operands ≡ 0 ⌝ }
+{
+    Head {
+        operands: 0,
+        end: r,
+    }
+}
+
+// `acc`, of which the first letter is there.
+fn acc_head(t: &[u8], r: usize) -> Head
+    requires { ⌜ (getD (now t) r 0 ≡ 9) × (getD (now t) (r + 1) 0 ≡ 97) ⌝ }
+    ensures { λ h. ⌜ AtomHead (now (t .entry)) r h ⌝ }
+{
+    if leaves::byte_at(t, r + 2) != 99 {
+        return no_head(r);
+    }
+    if leaves::byte_at(t, r + 3) != 99 {
+        return no_head(r);
+    }
+    Head {
+        operands: 0x77,
+        end: r + 4,
+    }
+}
+
+// `eq` or `ne`, of which the first letter is there, and the second is b.
+fn rel_head(t: &[u8], r: usize, b: u8) -> Head
+    requires { ⌜ (getD (now t) r 0 ≡ 9) × (isRel (getD (now t) (r + 1) 0 ∷ b ∷ []) ≡ true) ⌝ }
+    ensures { λ h. ⌜ AtomHead (now (t .entry)) r h ⌝ }
+{
+    if leaves::byte_at(t, r + 2) != b {
+        return no_head(r);
+    }
+    Head {
+        operands: 0xbb,
+        end: r + 3,
+    }
+}
+
+// The word after the tab at r. Whether its field ends there shows where the next begins.
+fn atom_head(t: &[u8], r: usize) -> Head
+    requires { ⌜ getD (now t) r 0 ≡ 9 ⌝ }
+    ensures { λ h. ⌜ AtomHead (now (t .entry)) r h ⌝ }
+{
+    let b = leaves::byte_at(t, r + 1);
+    match b {
+        97 => acc_head(t, r),
+        101 => rel_head(t, r, 113),
+        110 => rel_head(t, r, 101),
+        _ => no_head(r),
+    }
+}
+
+// The end of the atom after the tab at r, or r where there is none.
+fn atom_end(t: &[u8], r: usize) -> usize
+    requires { ⌜ getD (now t) r 0 ≡ 9 ⌝ }
+    ensures { λ e. ⌜ AtomEnd (now (t .entry)) r e ⌝ }
+{
+    let h = atom_head(t, r);
+    if h.operands == 0 {
+        return r;
+    }
+    let f = operands_end(t, h.end, h.operands);
+    match f {
+        Fields::Upto(e) => e,
+        Fields::Bad => r,
+    }
+}
+
+// The fields after `from`, if they are at most n atoms.
+fn formula_end(t: &[u8], from: usize, most: usize) -> Fields
+    requires { ⌜ from ≤ length (now t) ⌝ }
+    ensures { λ f. ⌜ FieldsRead (isFormula most) (now (t .entry)) from f ⌝ }
 {
     let mut r = from;
     let mut n = most;
     while leaves::byte_at(t, r) == 9 {
         if n == 0 {
-            return false;
+            return Fields::Bad;
         }
-        let e = next_atom(t, r);
+        let e = atom_end(t, r);
         if e == r {
-            return false;
+            return Fields::Bad;
         }
         r = e;
         n -= 1;
     }
-    true
+    Fields::Upto(r)
 }
 
-// Are the fields after r one `eq` or `ne`?
-pub fn is_condition(t: &[u8], r: usize) -> bool
+// The fields after r, if they are one `eq` or `ne`: an atom that does not begin as `acc`.
+fn condition_end(t: &[u8], r: usize) -> Fields
     requires { ⌜ r ≤ length (now t) ⌝ }
-    ensures { λ b. ⌜ b ≡ isCondition (more (drop r (now (t .entry)))) ⌝ }
+    ensures { λ f. ⌜ FieldsRead isCondition (now (t .entry)) r f ⌝ }
 {
-    let x = next_field(t, r);
-    if x == r {
-        return false;
+    if leaves::byte_at(t, r) != 9 {
+        return Fields::Bad;
     }
-    let a = r + 1;
-    let k = leaves::word(&t[a..x]);
-    if k < leaves::EQ {
-        return false;
+    if leaves::byte_at(t, r + 1) == 97 {
+        return Fields::Bad;
     }
-    if leaves::NE < k {
-        return false;
-    }
-    is_formula(t, r, 1)
+    formula_end(t, r, 1)
 }
 
 // THE ROW OF A KIND
@@ -151,49 +271,29 @@ pub fn row_of(kind: u8) -> Row
 
 // THE FORM OF A LINE
 
-// Is this the form of the operand with this number?
-fn is_operand(operand: u32, w: &[u8]) -> bool
-    ensures { λ b. ⌜ b ≡ fitsOperand operand (now (w .entry)) ⌝ }
-{
-    if operand == 11 {
-        return leaves::is_expr(w);
-    }
-    leaves::is_name(w)
-}
-
-// Are the fields after r the tail with this number?
-fn is_tail(tail: u32, t: &[u8], r: usize) -> bool
+// The fields after r, if they are the tail with this number.
+fn tail_end(tail: u32, t: &[u8], r: usize) -> Fields
     requires { ⌜ r ≤ length (now t) ⌝ }
-    ensures { λ b. ⌜ b ≡ fitsTail tail (more (drop r (now (t .entry)))) ⌝ }
+    ensures { λ f. ⌜ FieldsRead (fitsTail tail) (now (t .entry)) r f ⌝ }
 {
     match tail {
-        0 => leaves::byte_at(t, r) != 9,
-        1 => is_condition(t, r),
-        _ => is_formula(t, r, Machine::ATOMS),
+        0 => no_fields(t, r),
+        1 => condition_end(t, r),
+        _ => formula_end(t, r, Machine::ATOMS),
     }
 }
 
-// Are the fields after the word, which ends at `from`, those of a line of this kind?
-pub fn is_formed(t: &[u8], from: usize, kind: u8) -> bool
+// The fields after the word, which ends at `from`, if they are those of a line of this kind.
+fn fields_end(t: &[u8], from: usize, kind: u8) -> Fields
     requires { ⌜ (from ≤ length (now t)) × ((1 ≤ kind) × (kind ≤ 18)) ⌝ }
-    ensures { λ b. ⌜ b ≡ isFormed (form (kindNumbered kind) .operands) (form (kindNumbered kind) .tail) (more (drop from (now (t .entry)))) ⌝ }
+    ensures { λ f. ⌜ FieldsRead (formedAs kind) (now (t .entry)) from f ⌝ }
 {
     let row = row_of(kind);
-    let mut left = row.operands;
-    let mut r = from;
-    while left != 0 {
-        let e = next_field(t, r);
-        if e == r {
-            return false;
-        }
-        let a = r + 1;
-        if !is_operand(left % 16, &t[a..e]) {
-            return false;
-        }
-        r = e;
-        left = left / 16;
+    let f = operands_end(t, from, row.operands);
+    match f {
+        Fields::Bad => Fields::Bad,
+        Fields::Upto(r) => tail_end(row.tail, t, r),
     }
-    is_tail(row.tail, t, r)
 }
 
 // The word that a line begins with: the number of its kind, or 0, and the word's end.
@@ -202,20 +302,25 @@ pub struct Word {
     pub end: usize,
 }
 
-// The word of the line that begins at a place; its kind is 0 where the line's fields are of no kind's form.
-pub fn formed_word(t: &[u8], at: usize) -> Word
+// The word of the line that begins at a place.
+fn first_word(t: &[u8], at: usize) -> Word
     requires { ⌜ at ≤ length (now t) ⌝ }
-    ensures { λ w. ⌜ FormedWord (now (t .entry)) at w ⌝ }
+    ensures { λ w. ⌜ FirstWord (now (t .entry)) at w ⌝ }
 {
     let end = leaves::find(t, at, Set::FieldEnd);
     let kind = leaves::kind_of(&t[at..end]);
-    if kind == 0 {
-        return Word { kind: 0, end };
+    Word { kind, end }
+}
+
+// Where the fields of a line with this word end; a word of kind 0 begins none.
+fn line_fields(t: &[u8], w: Word) -> Fields
+    requires { ⌜ (w .end ≤ length (now t)) × (w .kind ≤ 18) ⌝ }
+    ensures { λ f. ⌜ FieldsRead (formedAs (w .kind)) (now (t .entry)) (w .end) f ⌝ }
+{
+    if w.kind == 0 {
+        return Fields::Bad;
     }
-    if is_formed(t, end, kind) {
-        return Word { kind, end };
-    }
-    Word { kind: 0, end }
+    fields_end(t, w.end, w.kind)
 }
 
 // THE PLACE OF A LINE
@@ -514,20 +619,53 @@ pub fn line_word(work: &[u8], i: usize) -> Word
 
 // THE PASS
 
-// One line, from `at` to its LF at `end`, with n lines above it.
-pub fn scan_line(t: &[u8], work: &mut [u8], at: usize, end: usize, n: usize, p: Place) -> Placing
-    requires { ⌜ ((at < length (now t)) × Found (now t) at Set.LineEnd end) × (withinLimits p ≡ true) × (length (now t) ≤ most-bytes) × (length (now work) ≡ work-bytes) × (4 * n ≤ at) ⌝ }
-    ensures { λ r. ⌜ ScansLine (now (t .entry)) at end p r × NotesLine (now (t .entry)) (now (work .entry)) at end n r (now (work .exit)) ⌝ }
+// The place after a line, and where its LF is; or why the line is refused.
+enum ScannedLine {
+    Next(usize, Place),
+    Refused(Refusal),
+}
+
+// The answer on a line of this kind with its LF at e.
+fn placed_line(p: Place, kind: u8, e: usize) -> ScannedLine
+    requires { ⌜ ((1 ≤ kind) × (kind ≤ 18)) × (withinLimits p ≡ true) ⌝ }
+    ensures { λ r. ⌜ PlacesLineTo p kind e r ⌝ }
 {
+    let a = place_line(p, kind);
+    match a {
+        Placing::Refused(why) => ScannedLine::Refused(why),
+        Placing::Next(q) => ScannedLine::Next(e, q),
+    }
+}
+
+// Why a line that has not its form is refused: the first byte that ends it is its LF, or no byte of a line.
+fn refused_line(t: &[u8], at: usize) -> Refusal
+    requires { ⌜ (at < length (now t)) × Unformed (now t) at ⌝ }
+    ensures { λ r. ⌜ RefusesLine (now (t .entry)) at r ⌝ }
+{
+    let end = leaves::find(t, at, Set::LineEnd);
     if leaves::byte_at(t, end) != 10 {
-        return Placing::Refused(Refusal::BadByte);
+        return Refusal::BadByte;
     }
-    let w = formed_word(t, at);
-    if w.kind == 0 {
-        return Placing::Refused(Refusal::Malformed);
+    Refusal::Malformed
+}
+
+// The line that begins at `at`, with n lines above it. A line that has its form ends with its last field.
+fn scan_line(t: &[u8], work: &mut [u8], at: usize, n: usize, p: Place) -> ScannedLine
+    requires { ⌜ (at < length (now t)) × (withinLimits p ≡ true) × (length (now t) ≤ most-bytes) × (length (now work) ≡ work-bytes) × (4 * n ≤ at) ⌝ }
+    ensures { λ r. ⌜ ScansLine (now (t .entry)) at p r × NotesLine (now (t .entry)) (now (work .entry)) at n r (now (work .exit)) ⌝ }
+{
+    let w = first_word(t, at);
+    let f = line_fields(t, w);
+    match f {
+        Fields::Bad => ScannedLine::Refused(refused_line(t, at)),
+        Fields::Upto(e) => {
+            if leaves::byte_at(t, e) != 10 {
+                return ScannedLine::Refused(Refusal::BadByte);
+            }
+            put_line(work, n, w);
+            placed_line(p, w.kind, e)
+        }
     }
-    put_line(work, n, w);
-    place_line(p, w.kind)
 }
 
 // A text that is taken, with the count of its lines; or why it is refused, and at which line.
@@ -545,14 +683,13 @@ pub fn scan(text: &[u8], work: &mut [u8]) -> Scanned
     let mut at = 0;
     let mut n = 0;
     while at < text.len() {
-        let end = leaves::find(text, at, Set::LineEnd);
-        let a = scan_line(text, work, at, end, n, p);
+        let a = scan_line(text, work, at, n, p);
         n += 1;
         match a {
-            Placing::Refused(why) => {
+            ScannedLine::Refused(why) => {
                 return Scanned::Refused(why, n);
             }
-            Placing::Next(q) => {
+            ScannedLine::Next(end, q) => {
                 p = q;
                 at = end + 1;
             }

@@ -5,9 +5,10 @@ use borrow.Author.Needs.{needs}
 use mathlib.Core.Path.{_≡_, refl, sym, ap, _∙_}
 use Prim.Native.Nat.{_≤_, _-_}
 use lib.ListN.{length}
-use Rattle.lines.specs.Scans.{answerOf}
+use Rattle.lines.specs.Scans.{lineAnswer}
 use Rattle.lines.proofs.Cuts.{byte-in, clean-line}
 use Rattle.lines.proofs.Scans.{Passed, pass-start, pass-on, pass-stop, pass-done, pass-ends}
+use Rattle.lines.proofs.Formed.{taken-ends, taken-noted}
 use Rattle.lines.proofs.Table.{Tabled, tabled-first, tabled-on, tabled-all}
 use Rattle.lines.proofs.scan.Statement.{statement}
 use Rattle.lines.proofs.scan.Tie as tie
@@ -26,30 +27,27 @@ loop-holds c =
     let t = c .before .before .before .args .text .now in
     (omega arith, pass-start t (c .first-place .result) (c .first-place .ensures), tabled-first t (c .before .before .before .args .work .now), refl)
 
-find-requires : tie.Need-find-requires Inv-loop μ-loop
-find-requires c κs = omega arith
-
 scan-line-requires : tie.Need-scan-line-requires Inv-loop μ-loop
 scan-line-requires c κs =
-    let inv = c .before .before .before .loop .inv in
-    let pre = c .before .before .before .before .before .before .before .pre in
-    ((c .before .before .loop-test .taken, c .before .find .ensures), inv .1 .within, pre .0, inv .3 ∙ pre .1, inv .2 .short)
+    let inv = c .before .before .loop .inv in
+    let pre = c .before .before .before .before .before .before .pre in
+    (c .before .loop-test .taken, inv .1 .within, pre .0, inv .3 ∙ pre .1, inv .2 .short)
 
 add-n : tie.Need-add-n Inv-loop μ-loop
-add-n c = omega (arith, c .before .before .before .before .before .before .loop .inv .0, c .before .before .before .before .before .before .loop .inv .2 .short)
+add-n c = omega (arith, c .before .before .before .before .before .loop .inv .0, c .before .before .before .before .before .loop .inv .2 .short)
 
 enum-known-a : tie.Need-enum-known-a Inv-loop μ-loop
 enum-known-a c = search needs
 
 same-length : tie.Need-same-length Inv-loop μ-loop
-same-length c = c .before .before .before .before .before .scan-line .ensures .1 .size ∙ c .before .before .before .before .before .before .before .before .before .loop .inv .3
+same-length c = c .before .before .before .before .before .scan-line .ensures .1 .size ∙ c .before .before .before .before .before .before .before .before .loop .inv .3
 
 returns : tie.Need-returns Inv-loop μ-loop
 returns c =
-    let inv = c .before .before .before .before .before .before .before .before .before .loop .inv in
+    let inv = c .before .before .before .before .before .before .before .before .loop .inv in
     let scan-line = c .before .before .before .before .before .scan-line in (
-      pass-stop (inv .1) (c .before .a .given .0 .0) (c .before .before .before .before .before .before .before .before .loop-test .taken)
-          (ap answerOf (sym (c .before .a .given .1)) ∙ scan-line .ensures .0 .is (inv .1 .place) (inv .1 .is)),
+      pass-stop (inv .1) (c .before .a .given .0 .0) (c .before .before .before .before .before .before .before .loop-test .taken)
+          (ap lineAnswer (sym (c .before .a .given .1)) ∙ scan-line .ensures .0 .is (inv .1 .place) (inv .1 .is)),
       tt,
       scan-line .ensures .1 .size ∙ inv .3,
     )
@@ -59,27 +57,26 @@ enum-known-a-2 c = search needs
 
 add-at : tie.Need-add-at Inv-loop μ-loop
 add-at c =
-    let l = c .before .before .before .before .before .scan-line .ensures .0 .feed (c .before .a2 .given .0 .0) (c .before .a2 .given .1) in
-    omega (arith, byte-in (c .before .before .before .before .before .before .before .before .before .before .before .before .before .args .text .now) (c .before .before .before .before .before .before .before .find .result) 10 (omega arith) l)
+    let f = taken-ends (c .before .before .before .before .before .scan-line .ensures .0) (c .before .a2 .given .1) in
+    omega (arith, byte-in (c .before .before .before .before .before .before .before .before .before .before .before .before .args .text .now) (c .before .a2 .given .0 .0) 10 (omega arith) (f .1))
 
 loop-less : tie.Need-loop-less Inv-loop μ-loop
 loop-less c =
-    let l = c .before .before .before .before .before .scan-line .ensures .0 .feed (c .before .a2 .given .0 .0) (c .before .a2 .given .1) in
-    omega (arith, byte-in (c .before .before .before .before .before .before .before .before .before .before .before .before .before .args .text .now) (c .before .before .before .before .before .before .before .find .result) 10 (omega arith) l, c .before .before .before .before .before .before .before .find .ensures .low)
+    let f = taken-ends (c .before .before .before .before .before .scan-line .ensures .0) (c .before .a2 .given .1) in
+    omega (arith, byte-in (c .before .before .before .before .before .before .before .before .before .before .before .before .args .text .now) (c .before .a2 .given .0 .0) 10 (omega arith) (f .1), f .0 .low)
 
 loop-again : tie.Need-loop-again Inv-loop μ-loop
 loop-again c =
-    let loop = c .before .before .before .before .before .before .before .before .before .loop in
-    let find = c .before .before .before .before .before .before .before .find in
+    let loop = c .before .before .before .before .before .before .before .before .loop in
     let scan-line = c .before .before .before .before .before .scan-line in
     let a2 = c .before .a2 in
-    let t = c .before .before .before .before .before .before .before .before .before .before .before .before .before .args .text .now in
-    let g = scan-line .ensures .0 .feed (a2 .given .0 .0) (a2 .given .1) in
-    let l = clean-line t (loop .at) (find .result) (find .ensures) g in (
+    let t = c .before .before .before .before .before .before .before .before .before .before .before .before .args .text .now in
+    let f = taken-ends (scan-line .ensures .0) (a2 .given .1) in
+    let l = clean-line t (loop .at) (a2 .given .0 .0) (f .0) (f .1) in (
       omega (arith, l .high),
-      pass-on (loop .inv .1) (find .result) (a2 .given .0 .0) l
-          (ap answerOf (sym (a2 .given .1)) ∙ scan-line .ensures .0 .is (loop .inv .1 .place) (loop .inv .1 .is)),
-      tabled-on (loop .inv .2) (c .before .before .before .before .before .before .before .before .loop-test .taken) (find .ensures) (scan-line .ensures .1 .noted (a2 .given .0 .0) (a2 .given .1)),
+      pass-on (loop .inv .1) (a2 .given .0 .0) (a2 .given .0 .1 .0) l
+          (ap lineAnswer (sym (a2 .given .1)) ∙ scan-line .ensures .0 .is (loop .inv .1 .place) (loop .inv .1 .is)),
+      tabled-on (loop .inv .2) (c .before .before .before .before .before .before .before .loop-test .taken) (f .0) (taken-noted (scan-line .ensures .1) (a2 .given .1)),
       scan-line .ensures .1 .size ∙ loop .inv .3,
     )
 
@@ -108,7 +105,6 @@ scan-spec =
     μ-loop
     first-place-requires
     loop-holds
-    find-requires
     scan-line-requires
     add-n
     enum-known-a

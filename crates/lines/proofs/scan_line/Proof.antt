@@ -1,76 +1,69 @@
 -- `lines::scan_line` meets its contract. Assumes nothing.
 use native.Mathlib.Omega.{arith}
 use borrow.Author.Needs.{needs}
-use mathlib.Core.Path.{refl, sym, ap, _∙_}
+use mathlib.Core.Path.{refl, sym, ap, subst, _∙_}
 use lib.ListN.{length}
-use Rattle.lines.proofs.Cuts.{clean-line, bad-line, first-clean, first-bad}
-use Rattle.lines.proofs.Rows.{formed-bounds}
-use Rattle.lines.proofs.Scans.{refused-next, bad-scan, unformed-scan, formed-scan}
+use Rattle.lines.specs.Spans.{FieldsRead, formedAs}
+use Rattle.lines.specs.Table.{Noted}
+use Rattle.lines.proofs.Formed.{kind-most, unformed-line, has-kind, kind-in, formed-first, formed-end, when-at, refuses-byte, refuses-line, places-line}
 use Rattle.lines.proofs.Table.{line-length, line-noted}
 use Rattle.lines.proofs.scan_line.Statement.{statement}
 use Rattle.lines.proofs.scan_line.Tie as tie
+
+first-word-requires : tie.Need-first-word-requires
+first-word-requires c κs = search needs
+
+line-fields-requires : tie.Need-line-fields-requires
+line-fields-requires c κs = (c .first-word .ensures .end .high, kind-most (c .first-word .ensures))
+
+enum-told : tie.Need-enum-told
+enum-told c = search needs
+
+refused-line-requires : tie.Need-refused-line-requires
+refused-line-requires c κs =
+    let w = c .before .before .before .first-word .result in
+    (c .before .before .before .before .before .before .pre .0, unformed-line (c .before .before .before .first-word .ensures) (subst (FieldsRead (formedAs (w .kind)) (c .before .before .before .before .before .before .args .t .now) (w .end)) (c .enum-told .given .1) (c .before .before .line-fields .ensures)))
+
+enum-known-f : tie.Need-enum-known-f
+enum-known-f c = search needs
 
 byte-at-requires : tie.Need-byte-at-requires
 byte-at-requires c κs = search needs
 
 returns : tie.Need-returns
 returns c =
-    let start = c .before .before .before .before in
-    let v = start .args in
-    let f = start .pre .0 in
-    let b = bad-line (v .t .now) (v .at) (v .end) (f .1) (f .0) (λ e. c .if1 .taken (c .before .byte-at .ensures ∙ e)) in (
-      record {
-        is = λ p e. rw (first-bad _ b) (sym (bad-scan p (b .line) (b .bad)));
-        feed = λ q e. refused-next e;
-      },
-      record { size = refl; noted = λ q e. refused-next e },
-    )
-
-formed-word-requires : tie.Need-formed-word-requires
-formed-word-requires c κs = search needs
-
-returns-2 : tie.Need-returns-2
-returns-2 c =
-    let start = c .before .before .before .before .before .before .before in
-    let v = start .args in
-    let g = sym (c .before .before .before .before .byte-at .ensures) ∙ c .before .before .before .if1 .left in
-    let l = clean-line (v .t .now) (v .at) (v .end) (start .pre .0 .1) g in
-    let k = rw (← l .fields, c .if2 .taken) at (c .before .before .formed-word .ensures .kind) in (
-      record {
-        is = λ p e. rw (first-clean _ _ _ l) (sym (unformed-scan p _ (l .clean) (sym k)));
-        feed = λ q e. refused-next e;
-      },
-      record { size = refl; noted = λ q e. refused-next e },
-    )
+    let w = c .before .before .before .before .before .before .first-word .result in
+    let f = subst (FieldsRead (formedAs (w .kind)) (c .before .before .before .before .before .before .before .before .before .args .t .now) (w .end)) (c .before .before .before .f .given .1) (c .before .before .before .before .before .line-fields .ensures) in
+    (refuses-line (refuses-byte (formed-end (c .before .before .before .before .before .before .first-word .ensures) f) (c .before .before .before .before .before .before .before .before .before .pre .0) (λ e. c .if1 .taken (c .before .byte-at .ensures ∙ e))), record { size = refl; noted = tt })
 
 put-line-requires : tie.Need-put-line-requires
 put-line-requires c κs = search needs
 
-place-line-requires : tie.Need-place-line-requires
-place-line-requires c κs =
-    (formed-bounds _ (c .before .before .before .before .before .before .formed-word .result .kind) (c .before .before .before .before .before .before .formed-word .ensures .kind) (c .before .before .before .before .if2 .left), c .before .before .before .before .before .before .before .before .before .before .before .pre .1)
+placed-line-requires : tie.Need-placed-line-requires
+placed-line-requires c κs =
+    let w = c .before .before .before .before .before .before .before .before .before .before .first-word .result in
+    let f = subst (FieldsRead (formedAs (w .kind)) (c .before .before .before .before .before .before .before .before .before .before .before .before .before .args .t .now) (w .end)) (c .before .before .before .before .before .before .before .f .given .1) (c .before .before .before .before .before .before .before .before .before .line-fields .ensures) in
+    (kind-in (c .before .before .before .before .before .before .before .before .before .before .first-word .ensures) f, c .before .before .before .before .before .before .before .before .before .before .before .before .before .pre .1)
+
+returns-2 : tie.Need-returns-2
+returns-2 c = (refuses-line (c .refused-line .ensures), record { size = refl; noted = tt })
 
 same-length : tie.Need-same-length
 same-length c = search needs
 
 returns-3 : tie.Need-returns-3
 returns-3 c =
-    let start = c .before .before .before .before .before .before .before .before .before .before .before .before in
-    let word = c .before .before .before .before .before .before .before .formed-word in
-    let put = c .before .before .before .put-line in
-    let v = start .args in
-    let g = sym (c .before .before .before .before .before .before .before .before .before .byte-at .ensures) ∙ c .before .before .before .before .before .before .before .before .if1 .left in
-    let l = clean-line (v .t .now) (v .at) (v .end) (start .pre .0 .1) g in
-    let k = rw (← l .fields) at (word .ensures .kind) in (
+    let v = c .before .before .before .before .before .before .before .before .before .before .before .before .before .before .args in
+    let w = c .before .before .before .before .before .before .before .before .before .before .before .first-word .result in
+    let f = subst (FieldsRead (formedAs (w .kind)) (v .t .now) (w .end)) (c .before .before .before .before .before .before .before .before .f .given .1) (c .before .before .before .before .before .before .before .before .before .before .line-fields .ensures) in
+    let g = sym (c .before .before .before .before .before .before .byte-at .ensures) ∙ c .before .before .before .before .before .if1 .left in
+    let d = formed-end (c .before .before .before .before .before .before .before .before .before .before .before .first-word .ensures) f in
+    let k = has-kind (c .before .before .before .before .before .before .before .before .before .before .before .first-word .ensures) f in
+    let x = formed-first (c .before .before .before .before .before .before .before .before .before .before .before .first-word .ensures) f in (
+      places-line d g (w .kind) (x .kind) k (c .placed-line .ensures),
       record {
-        is = λ p e.
-            rw (first-clean _ _ _ l)
-            (c .place-line .ensures p e ∙ sym (formed-scan p _ (word .result .kind) (l .clean) k (c .before .before .before .before .before .if2 .left)));
-        feed = λ q e. g;
-      },
-      record {
-        size = ap length (put .ensures) ∙ line-length (v .work .now) (v .n) (word .result);
-        noted = λ q e. line-noted (word .ensures) (c .before .before .before .before .before .if2 .left) (l .low) g (start .pre .2) (start .pre .3) (omega arith) (put .ensures);
+        size = ap length (c .before .before .before .put-line .ensures) ∙ line-length (v .work .now) (v .n) w;
+        noted = when-at (λ i. Noted (v .t .now) (v .work .now) (v .at) i (v .n) _) _ (c .placed-line .result) (line-noted x k (d .low) g (c .before .before .before .before .before .before .before .before .before .before .before .before .before .before .pre .2) (c .before .before .before .before .before .before .before .before .before .before .before .before .before .before .pre .3) (omega arith) (c .before .before .before .put-line .ensures)) (c .placed-line .ensures .1);
       },
     )
 
@@ -78,11 +71,15 @@ pub scan-line-spec : {M : Type 1} → statement M
 scan-line-spec =
     tie.close
     (tie.spec
+    first-word-requires
+    line-fields-requires
+    enum-told
+    refused-line-requires
+    enum-known-f
     byte-at-requires
     returns
-    formed-word-requires
-    returns-2
     put-line-requires
-    place-line-requires
+    placed-line-requires
+    returns-2
     same-length
     returns-3)
