@@ -962,8 +962,11 @@ pub fn may_add_method(text: &[u8], work: &[u8], c: Names, a: Above, m: Row, para
     let name = m.name;
     let gives = m.gives;
     let takes = m.takes;
-    if may_add(text, work, c, METHODS, r, name, gives) {
-        return may_declare(text, work, c, parameter, takes);
+    if !may_add(text, work, c, METHODS, r, name, gives) {
+        return false;
+    }
+    if is_type(text, work, c, name_in(text, takes)) {
+        return is_new_variable(text, work, c, name_in(text, parameter));
     }
     false
 }
