@@ -1,42 +1,33 @@
 -- The expression of a field, by what the field was read as.
 use mathlib.Core.Path.{_≡_, sym, ap, _∙_, subst}
 use mathlib.Core.Bool.{true}
-use mathlib.Core.Option.{some}
 use Prim.Native.Nat.{ℕ, _+_, _-_, _<_}
 use native.Mathlib.Numerals.{add-one}
 use lib.ListN.{length, take, drop}
 use Rattle.rules.specs.Base.{Name}
 use Rattle.rules.specs.Syntax as Syntax
 use Rattle.rules.specs.Syntax.{num, null, var, path}
-use Rattle.rules.specs.Text.{numeral, number, isExpr, exprOf}
-use Rattle.rules.proofs.Lists.{some-inj, none-some}
+use Rattle.rules.specs.Text.{numeral, number, exprOf}
 use Rattle.leaves.specs.declared.Expr.{Expr}
-use Rattle.leaves.specs.declared.Expr.the-variants.{Num, Null, Var, Path, NoExpr}
-use Rattle.leaves.specs.Answers.{whenTrue, meant, exprIn, stands, Reads}
+use Rattle.leaves.specs.declared.Expr.the-variants.{Num, Null, Var, Path}
+use Rattle.leaves.specs.Answers.{meant, stands, Reads}
 use Rattle.leaves.proofs.Search.{rest-part}
 
-module _ (w : Name) (e : Expr) (form : isExpr w ≡ true) (r : Reads w e) where
-  meant-is : meant w e ≡ some (exprOf w)
-  unfolding exprIn
-  meant-is = r .means ∙ ap (λ b. whenTrue b (exprOf w)) form
-
+module _ (w : Name) (e : Expr) (r : Reads w e) where
   pub read-num : (n : ℕ) → e ≡ Num n → exprOf w ≡ num n
-  read-num n k = some-inj (sym meant-is ∙ ap (meant w) k)
+  read-num n k = sym (r .means) ∙ ap (meant w) k
 
   pub read-null : e ≡ Null → exprOf w ≡ null
-  read-null k = some-inj (sym meant-is ∙ ap (meant w) k)
+  read-null k = sym (r .means) ∙ ap (meant w) k
 
   pub read-var : e ≡ Var → exprOf w ≡ var w
-  read-var k = some-inj (sym meant-is ∙ ap (meant w) k)
+  read-var k = sym (r .means) ∙ ap (meant w) k
 
   -- the second name as the rest of the field after its full stop
   pub read-path : (d : ℕ) → e ≡ Path d → exprOf w ≡ path (take d w) (take (length w - (d + 1)) (drop (d + 1) w))
   read-path d k =
-      some-inj (sym meant-is ∙ ap (meant w) k)
+      sym (r .means) ∙ ap (meant w) k
       ∙ ap (path (take d w)) (ap (λ n. drop n w) (sym (add-one d)) ∙ sym (rest-part w (d + 1)))
-
-  pub read-none : {A : Type 0} → e ≡ NoExpr → A
-  read-none k = none-some (sym (ap (meant w) k) ∙ meant-is)
 
 -- a field that begins as a number is one
 pub numeral-num : (w : Name) → numeral w ≡ true → exprOf w ≡ num (number w)

@@ -745,7 +745,6 @@ pub fn known_expr(text: &[u8], work: &[u8], c: Names, w: &[u8]) -> bool
             let f = d + 1;
             known_path(text, work, c, &w[..d], &w[f..])
         }
-        leaves::Expr::NoExpr => false,
     }
 }
 
@@ -793,7 +792,6 @@ pub fn expr_type(text: &[u8], work: &[u8], c: Names, w: &[u8]) -> ExprType
             let f = d + 1;
             path_type(text, work, c, &w[..d], &w[f..])
         }
-        leaves::Expr::NoExpr => ExprType::Null,
     }
 }
 
@@ -875,7 +873,7 @@ pub fn look(text: &[u8], work: &[u8], c: Names, w: &[u8]) -> Lookup
             let f = d + 1;
             path_look(text, work, c, &w[..d], &w[f..])
         }
-        _ => Lookup {
+        leaves::Expr::Null => Lookup {
             expr: Expr::Null,
             is: ExprType::Null,
             good: true,

@@ -2,7 +2,6 @@
 use mathlib.Core.Path.{_≡_, refl, sym, ap, _∙_}
 use mathlib.Core.Bool.{Bool, true, false, not, cond, _&&_, _||_}
 use mathlib.Core.List.{[], _∷_}
-use mathlib.Core.Option.{some}
 use Prim.Native.Nat.{ℕ, zero, suc, _+_, _-_, _≤_, _<_}
 use native.Mathlib.Nat.{add-zero}
 use native.Mathlib.Omega.{arith}
@@ -19,7 +18,7 @@ use Rattle.rules.specs.Syntax.{num, null, var, path}
 use Rattle.leaves.specs.declared.Set.the-variants.{FieldEnd}
 use Rattle.leaves.specs.Sets.{inSet}
 use Rattle.leaves.specs.Fields.{fieldLength, firstField, endsField, FieldIs}
-use Rattle.leaves.specs.Answers.{beginsName, exprIn}
+use Rattle.leaves.specs.Answers.{beginsName}
 use Rattle.leaves.proofs.Search.{true-false, and-both, and-true, and-false, or-false, upTo-within, upTo-found, upTo-passed, upTo-take, upTo-jump, smaller-within, smaller-end, smaller-here, smaller-later, all-upTo, all-of, not-all, rest-part}
 
 -- NAMES
@@ -115,31 +114,31 @@ module _ (w : Name) (d : ℕ) (h : d < length w) (e : d ≡ 0 + upTo other w) wh
     path-form n = rw (n, stop-here, lt-ltb d (length w) h, name-upTo w d at-d)
 
 -- a field that is known to be an expression: its first byte, its full stop and `null` tell which
-module _ (w : Name) (x : isExpr w ≡ true) where
-  pub numeral-number : numeral w ≡ true → isNumber w ≡ true
+module _ (w : Name) where
+  pub numeral-number : isExpr w ≡ true → numeral w ≡ true → isNumber w ≡ true
   unfolding isExpr
-  numeral-number h = rw h at x
+  numeral-number x h = rw h at x
 
-  pub known-number : (n : ℕ) → numeral w ≡ true → n ≡ number w → some (num n) ≡ exprIn w
-  unfolding exprIn exprOf
-  known-number n h e = rw (h, x, e)
+  pub known-number : (n : ℕ) → numeral w ≡ true → n ≡ number w → num n ≡ exprOf w
+  unfolding exprOf
+  known-number n h e = rw (h, e)
 
   module _ (n : numeral w ≡ false) (d : ℕ) (e : d ≡ 0 + upTo (λ b. eqb b 46) w) where
     pub known-stop : d ≡ stopIn w
     unfolding stopIn
     known-stop = omega (arith, e)
 
-    pub known-path : d < length w → some (path (take d w) (drop (suc d) w)) ≡ exprIn w
-    unfolding exprIn exprOf hasStop beforeStop afterStop
-    known-path h = rw (x, n, ← known-stop, lt-ltb d (length w) h)
+    pub known-path : d < length w → path (take d w) (drop (suc d) w) ≡ exprOf w
+    unfolding exprOf hasStop beforeStop afterStop
+    known-path h = rw (n, ← known-stop, lt-ltb d (length w) h)
 
-    pub known-null : length w ≤ d → is "null" w ≡ true → some null ≡ exprIn w
-    unfolding exprIn exprOf hasStop
-    known-null h z = rw (x, n, ← known-stop, le-ltb d (length w) h, z)
+    pub known-null : length w ≤ d → is "null" w ≡ true → null ≡ exprOf w
+    unfolding exprOf hasStop
+    known-null h z = rw (n, ← known-stop, le-ltb d (length w) h, z)
 
-    pub known-var : length w ≤ d → is "null" w ≡ false → some (var w) ≡ exprIn w
-    unfolding exprIn exprOf hasStop
-    known-var h z = rw (x, n, ← known-stop, le-ltb d (length w) h, z)
+    pub known-var : length w ≤ d → is "null" w ≡ false → var w ≡ exprOf w
+    unfolding exprOf hasStop
+    known-var h z = rw (n, ← known-stop, le-ltb d (length w) h, z)
 
 -- A NAME AS A FIELD OF A LINE
 

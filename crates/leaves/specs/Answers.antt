@@ -9,10 +9,10 @@ use Rattle.rules.specs.Base.{Name, between}
 use Rattle.rules.specs.Limits.{most-letters}
 use Rattle.rules.specs.Syntax as Syntax
 use Rattle.rules.specs.Syntax.{num, null, var, path}
-use Rattle.rules.specs.Text.{digit-zero, letter, upTo, decimal, isExpr, exprOf, stopIn}
+use Rattle.rules.specs.Text.{digit-zero, letter, upTo, decimal, exprOf, stopIn}
 use Rattle.leaves.specs.Sets.{noDigit}
 use Rattle.leaves.specs.declared.Expr.{Expr}
-use Rattle.leaves.specs.declared.Expr.the-variants.{Num, Null, Var, Path, NoExpr}
+use Rattle.leaves.specs.declared.Expr.the-variants.{Num, Null, Var, Path}
 
 -- NAMES
 
@@ -48,20 +48,11 @@ inRange q n = cond q (between 1 2147483648 n) (leb n 2147483647)
 -- EXPRESSIONS
 
 -- the expression that an answer stands for, of the field w: a variable is the whole field, a path has its full stop at a place of it
-abbrev pub meant : Name → Expr → Option (Syntax.Expr Name)
-meant w (Num n) = some (num n)
-meant w Null = some null
-meant w Var = some (var w)
-meant w (Path d) = some (path (take d w) (drop (suc d) w))
-meant w NoExpr = none
-
--- a, if the test passes
-abbrev pub whenTrue : {A : Type 0} → Bool → A → Option A
-whenTrue true a = some a
-whenTrue false a = none
-
-unfoldable pub exprIn : Name → Option (Syntax.Expr Name)
-exprIn w = whenTrue (isExpr w) (exprOf w)
+abbrev pub meant : Name → Expr → Syntax.Expr Name
+meant w (Num n) = num n
+meant w Null = null
+meant w Var = var w
+meant w (Path d) = path (take d w) (drop (suc d) w)
 
 -- the place of a path's full stop
 abbrev pub stands : Name → Expr → Type 0
@@ -69,13 +60,17 @@ stands w (Num n) = Unit {0}
 stands w Null = Unit {0}
 stands w Var = Unit {0}
 stands w (Path d) = (d ≡ stopIn w) × (d < length w)
-stands w NoExpr = Unit {0}
 
 pub record Reads (w : Name) (e : Expr) : Type 0 where
-  pub means : meant w e ≡ exprIn w
+  pub means : meant w e ≡ exprOf w
   pub place : stands w e
+
+-- a, if the test passes
+abbrev pub whenTrue : {A : Type 0} → Bool → A → Option A
+whenTrue true a = some a
+whenTrue false a = none
 
 -- Everything above computes where this unfolds.
 unfoldable pub opened : Unit {0}
-unfolding beginsName digitsIn led inRange exprIn
+unfolding beginsName digitsIn led inRange
 opened = tt

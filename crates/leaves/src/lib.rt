@@ -618,7 +618,6 @@ pub enum Expr {
     Null,
     Var,
     Path(usize),
-    NoExpr,
 }
 
 // Does a number begin with it?

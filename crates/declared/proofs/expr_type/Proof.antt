@@ -1,4 +1,4 @@
-use Rattle.declared.proofs.Exprs.{read-num, read-null, read-var, read-path, read-none, numeral-num, stop-within}
+use Rattle.declared.proofs.Exprs.{read-num, read-null, read-var, read-path, numeral-num, stop-within}
 use Rattle.declared.proofs.expr_type.Statement.{statement}
 use Rattle.declared.specs.Answers.{typeMeant}
 use Rattle.rules.specs.Names.{exprType}
@@ -52,26 +52,20 @@ part-path-type-end c = search needs
 path-type-requires : tie.Need-path-type-requires
 path-type-requires c κs = search needs
 
-enum-told-4 : tie.Need-enum-told-4
-enum-told-4 c = search needs
-
 returns-2 : tie.Need-returns-2
 unfolding exprType typeMeant
-returns-2 c = rw (read-num _ _ (c .before .before .before .before .before .before .before .before .pre .2) (c .before .before .known-expr .ensures) _ (c .enum-told .given .1))
+returns-2 c = rw (read-num _ _ (c .before .before .known-expr .ensures) _ (c .enum-told .given .1))
 
 returns-3 : tie.Need-returns-3
 unfolding exprType typeMeant
-returns-3 c = rw (read-null _ _ (c .before .before .before .before .before .before .before .before .pre .2) (c .before .before .known-expr .ensures) (c .enum-told2 .given .1))
+returns-3 c = rw (read-null _ _ (c .before .before .known-expr .ensures) (c .enum-told2 .given .1))
 
 returns-4 : tie.Need-returns-4
 unfolding exprType typeMeant
-returns-4 c = rw (read-var _ _ (c .before .before .before .before .before .before .before .before .before .pre .2) (c .before .before .before .known-expr .ensures) (c .before .enum-told3 .given .1)) (ap some (c .variable-type .ensures))
+returns-4 c = rw (read-var _ _ (c .before .before .before .known-expr .ensures) (c .before .enum-told3 .given .1)) (ap some (c .variable-type .ensures))
 
 returns-5 : tie.Need-returns-5
-returns-5 c = rw (read-path _ _ (c .before .before .before .before .before .before .before .before .before .before .before .before .pre .2) (c .before .before .before .before .before .before .known-expr .ensures) _ (c .before .before .before .before .e .given .1)) (c .path-type .ensures)
-
-returns-6 : tie.Need-returns-6
-returns-6 c = read-none _ _ (c .before .before .before .before .before .before .before .before .pre .2) (c .before .before .known-expr .ensures) (c .enum-told4 .given .1)
+returns-5 c = rw (read-path _ _ (c .before .before .before .before .before .before .known-expr .ensures) _ (c .before .before .before .before .e .given .1)) (c .path-type .ensures)
 
 pub expr-type-spec : {M : Type 1} → statement M
 expr-type-spec =
@@ -91,9 +85,7 @@ expr-type-spec =
     part-path-type-start
     part-path-type-end
     path-type-requires
-    enum-told-4
     returns-2
     returns-3
     returns-4
-    returns-5
-    returns-6)
+    returns-5)

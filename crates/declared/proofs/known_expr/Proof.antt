@@ -1,4 +1,4 @@
-use Rattle.declared.proofs.Exprs.{read-num, read-null, read-var, read-path, read-none, numeral-num, stop-within}
+use Rattle.declared.proofs.Exprs.{read-num, read-null, read-var, read-path, numeral-num, stop-within}
 use Rattle.declared.proofs.known_expr.Statement.{statement}
 use Rattle.rules.specs.Names.{knownExpr}
 use borrow.Author.Needs.{needs}
@@ -50,26 +50,20 @@ part-known-path-end c = search needs
 known-path-requires : tie.Need-known-path-requires
 known-path-requires c κs = search needs
 
-enum-told-4 : tie.Need-enum-told-4
-enum-told-4 c = search needs
-
 returns-2 : tie.Need-returns-2
 unfolding knownExpr
-returns-2 c = rw (read-num _ _ (c .before .before .before .before .before .before .before .before .pre .2) (c .before .before .known-expr .ensures) _ (c .enum-told .given .1))
+returns-2 c = rw (read-num _ _ (c .before .before .known-expr .ensures) _ (c .enum-told .given .1))
 
 returns-3 : tie.Need-returns-3
 unfolding knownExpr
-returns-3 c = rw (read-null _ _ (c .before .before .before .before .before .before .before .before .pre .2) (c .before .before .known-expr .ensures) (c .enum-told2 .given .1))
+returns-3 c = rw (read-null _ _ (c .before .before .known-expr .ensures) (c .enum-told2 .given .1))
 
 returns-4 : tie.Need-returns-4
 unfolding knownExpr
-returns-4 c = rw (read-var _ _ (c .before .before .before .before .before .before .before .before .before .pre .2) (c .before .before .before .known-expr .ensures) (c .before .enum-told3 .given .1)) (c .in-scope .ensures)
+returns-4 c = rw (read-var _ _ (c .before .before .before .known-expr .ensures) (c .before .enum-told3 .given .1)) (c .in-scope .ensures)
 
 returns-5 : tie.Need-returns-5
-returns-5 c = rw (read-path _ _ (c .before .before .before .before .before .before .before .before .before .before .before .before .pre .2) (c .before .before .before .before .before .before .known-expr .ensures) _ (c .before .before .before .before .e .given .1)) (c .known-path .ensures)
-
-returns-6 : tie.Need-returns-6
-returns-6 c = read-none _ _ (c .before .before .before .before .before .before .before .before .pre .2) (c .before .before .known-expr .ensures) (c .enum-told4 .given .1)
+returns-5 c = rw (read-path _ _ (c .before .before .before .before .before .before .known-expr .ensures) _ (c .before .before .before .before .e .given .1)) (c .known-path .ensures)
 
 pub known-expr-spec : {M : Type 1} → statement M
 known-expr-spec =
@@ -89,9 +83,7 @@ known-expr-spec =
     part-known-path-start
     part-known-path-end
     known-path-requires
-    enum-told-4
     returns-2
     returns-3
     returns-4
-    returns-5
-    returns-6)
+    returns-5)

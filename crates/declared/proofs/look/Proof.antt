@@ -1,33 +1,14 @@
-use mathlib.Core.Path.{_≡_, refl, sym}
-use mathlib.Core.Bool.{true}
-use mathlib.Core.List.{[], _∷_}
+use mathlib.Core.Path.{refl, sym}
 use native.Mathlib.Omega.{arith}
 use lib.Seq.{length-take-le}
-use types.Run.{OneOf, miss}
-use denote.Enum.Declared.{tagOf}
-use Rattle.rules.specs.Base.{Name}
-use Rattle.rules.specs.Syntax as Syntax
-use Rattle.rules.specs.Text.{isExpr, exprOf}
 use Rattle.rules.specs.Names.{exprType, knownExpr, ofClassIn}
 use Rattle.rules.specs.Items.{resolveExpr}
-use Rattle.leaves.specs.declared.Expr.{Expr}
-use Rattle.leaves.specs.declared.Expr.the-variants.{Num, Null, Var, Path, NoExpr}
-use Rattle.leaves.specs.Answers.{Reads}
-use Rattle.leaves.proofs.Expr.{the-type}
 use Rattle.tables.specs.Stores.{meaning}
 use Rattle.declared.specs.Answers.{typeMeant, good}
-use Rattle.declared.proofs.Exprs.{read-num, read-null, read-var, read-path, read-none, stop-within}
+use Rattle.declared.proofs.Exprs.{read-num, read-null, read-var, read-path, stop-within}
 use borrow.Author.Needs.{needs}
 use Rattle.declared.proofs.look.Statement.{statement}
 use Rattle.declared.proofs.look.Tie as tie
-
--- no number, variable or path
-others : (w : Name) (e : Expr) → isExpr w ≡ true → Reads w e → OneOf (1 ∷ 4 ∷ []) (tagOf the-type e) → exprOf w ≡ Syntax.null
-others w (Num n) x r k = absurd (miss (1 ∷ 4 ∷ []) 0 tt k)
-others w Null x r k = read-null w Null x r refl
-others w Var x r k = absurd (miss (1 ∷ 4 ∷ []) 2 tt k)
-others w (Path d) x r k = absurd (miss (1 ∷ 4 ∷ []) 3 tt k)
-others w NoExpr x r k = read-none w NoExpr x r refl
 
 known-expr-requires : tie.Need-known-expr-requires
 known-expr-requires c κs = search needs
@@ -66,23 +47,26 @@ part-path-look-end c = search needs
 path-look-requires : tie.Need-path-look-requires
 path-look-requires c κs = search needs
 
+enum-told-2 : tie.Need-enum-told-2
+enum-told-2 c = search needs
+
 returns : tie.Need-returns
 unfolding meaning resolveExpr typeMeant exprType good knownExpr ofClassIn
 returns c =
-    rw (read-num _ _ (c .before .before .before .before .before .before .before .pre .2) (c .before .before .before .known-expr .ensures) _ (c .before .e .given .1)) (record { expr = refl; is = refl; good = refl })
+    rw (read-num _ _ (c .before .before .before .known-expr .ensures) _ (c .before .e .given .1)) (record { expr = refl; is = refl; good = refl })
 
 returns-2 : tie.Need-returns-2
 returns-2 c =
-    rw (read-var _ _ (c .before .before .before .before .before .before .before .pre .2) (c .before .before .before .known-expr .ensures) (c .before .enum-told .given .1)) (c .var-look .ensures)
+    rw (read-var _ _ (c .before .before .before .known-expr .ensures) (c .before .enum-told .given .1)) (c .var-look .ensures)
 
 returns-3 : tie.Need-returns-3
 returns-3 c =
-    rw (read-path _ _ (c .before .before .before .before .before .before .before .before .before .before .pre .2) (c .before .before .before .before .before .before .known-expr .ensures) _ (c .before .before .before .before .e2 .given .1)) (c .path-look .ensures)
+    rw (read-path _ _ (c .before .before .before .before .before .before .known-expr .ensures) _ (c .before .before .before .before .e2 .given .1)) (c .path-look .ensures)
 
 returns-4 : tie.Need-returns-4
 unfolding meaning resolveExpr typeMeant exprType good knownExpr ofClassIn
 returns-4 c =
-    rw (others _ _ (c .before .before .before .before .before .pre .2) (c .before .known-expr .ensures) (c .match .keys4)) (record { expr = refl; is = refl; good = refl })
+    rw (read-null _ _ (c .before .before .known-expr .ensures) (c .enum-told2 .given .1)) (record { expr = refl; is = refl; good = refl })
 
 pub look-spec : {M : Type 1} → statement M
 look-spec =
@@ -99,6 +83,7 @@ look-spec =
     part-path-look-start
     part-path-look-end
     path-look-requires
+    enum-told-2
     returns
     returns-2
     returns-3

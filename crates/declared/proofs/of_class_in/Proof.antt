@@ -1,13 +1,13 @@
-use Rattle.declared.proofs.Exprs.{read-num, read-null, read-var, read-path, read-none, numeral-num, stop-within}
+use Rattle.declared.proofs.Exprs.{read-num, read-null, read-var, read-path, numeral-num, stop-within}
 use Rattle.declared.proofs.of_class_in.Statement.{statement}
 use Rattle.leaves.proofs.Expr.{the-type}
 use Rattle.leaves.specs.Answers.{Reads}
 use Rattle.leaves.specs.declared.Expr.{Expr}
-use Rattle.leaves.specs.declared.Expr.the-variants.{Num, Null, Var, Path, NoExpr}
+use Rattle.leaves.specs.declared.Expr.the-variants.{Num, Null, Var, Path}
 use Rattle.rules.specs.Base.{Name}
 use Rattle.rules.specs.Names.{ofClassIn, isInt}
 use Rattle.rules.specs.Scope.{Variable, Declarations}
-use Rattle.rules.specs.Text.{isExpr, exprOf}
+use Rattle.rules.specs.Text.{exprOf}
 use borrow.Author.Needs.{needs}
 use denote.Enum.Declared.{tagOf}
 use lib.Seq.{length-take-le}
@@ -20,14 +20,13 @@ use Rattle.declared.proofs.of_class_in.Tie as tie
 
 -- an expression that is no path
 others :
-    (Γ : Declarations) (vs : List Variable) (w : Name) (e : Expr) → isExpr w ≡ true → Reads w e → OneOf (0 ∷ 1 ∷ 2 ∷ 4 ∷ []) (tagOf the-type e) →
+    (Γ : Declarations) (vs : List Variable) (w : Name) (e : Expr) → Reads w e → OneOf (0 ∷ 1 ∷ 2 ∷ []) (tagOf the-type e) →
     true ≡ ofClassIn Γ vs (exprOf w)
 unfolding ofClassIn
-others Γ vs w (Num n) x r k = ap (ofClassIn Γ vs) (sym (read-num w (Num n) x r n refl))
-others Γ vs w Null x r k = ap (ofClassIn Γ vs) (sym (read-null w Null x r refl))
-others Γ vs w Var x r k = ap (ofClassIn Γ vs) (sym (read-var w Var x r refl))
-others Γ vs w (Path d) x r k = absurd (miss (0 ∷ 1 ∷ 2 ∷ 4 ∷ []) 3 tt k)
-others Γ vs w NoExpr x r k = read-none w NoExpr x r refl
+others Γ vs w (Num n) r k = ap (ofClassIn Γ vs) (sym (read-num w (Num n) r n refl))
+others Γ vs w Null r k = ap (ofClassIn Γ vs) (sym (read-null w Null r refl))
+others Γ vs w Var r k = ap (ofClassIn Γ vs) (sym (read-var w Var r refl))
+others Γ vs w (Path d) r k = absurd (miss (0 ∷ 1 ∷ 2 ∷ []) 3 tt k)
 
 is-numeral-requires : tie.Need-is-numeral-requires
 is-numeral-requires c κs = search needs
@@ -43,7 +42,7 @@ enum-known-e : tie.Need-enum-known-e
 enum-known-e c = search needs
 
 returns-2 : tie.Need-returns-2
-returns-2 c = others _ _ _ _ (c .before .before .before .before .before .before .before .pre .2) (c .before .known-expr .ensures) (c .match .keys2)
+returns-2 c = others _ _ _ _ (c .before .known-expr .ensures) (c .match .keys2)
 
 slice-aggregate-variable-type : tie.Need-slice-aggregate-variable-type
 slice-aggregate-variable-type c = sym (length-take-le _ _ (omega (arith, stop-within _ _ _ (c .before .before .before .before .known-expr .ensures) (c .before .before .e .given .1))))
@@ -56,7 +55,7 @@ is-int-requires c κs = search needs
 
 returns-3 : tie.Need-returns-3
 unfolding ofClassIn isInt
-returns-3 c = rw (read-path _ _ (c .before .before .before .before .before .before .before .before .before .before .before .before .pre .2) (c .before .before .before .before .before .before .known-expr .ensures) _ (c .before .before .before .before .e .given .1), c .is-int .ensures, c .before .variable-type .ensures)
+returns-3 c = rw (read-path _ _ (c .before .before .before .before .before .before .known-expr .ensures) _ (c .before .before .before .before .e .given .1), c .is-int .ensures, c .before .variable-type .ensures)
 
 pub of-class-in-spec : {M : Type 1} → statement M
 of-class-in-spec =
