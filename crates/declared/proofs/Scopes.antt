@@ -148,13 +148,10 @@ module _ (t w : List ℕ) (c : Names) (f : Fits c) (r : Row) (size : length w �
       let d = range-more asMethod t w i r methods-first (c .methods) refl size (omega arith) fits in
       λ j. record { classes = a j; fields = b j; methods = d j }
 
--- rows of variables leave the declarations, and rows of declarations the block
+-- rows of variables leave the declarations
 module _ (t w : List ℕ) (c : Names) (f : Fits c) (i : ℕ) (r : Row) where
   pub variable-row : variables-first ≤ i → declarationsIn t (putRow t w i r) c ≡ declarationsIn t w c
   variable-row l = declarations-kept t w (putRow t w i r) c f (λ j p q. row-other t w i r j (inl (omega arith)))
-
-  pub declared-row : i < variables-first → blockIn t (putRow t w i r) c ≡ blockIn t w c
-  declared-row l = block-kept t w (putRow t w i r) c f (λ j p q. row-other t w i r j (inr (omega arith)))
 
 -- VARIABLES
 module _ (t w : List ℕ) (i : ℕ) (r : Row) where

@@ -15,7 +15,7 @@ use lib.Seq.{drop-cons, getD-drop}
 use borrow.Author.Tests.{eqb-true, eqb-false, leb-true, eq-eqb, ne-eqb, le-leb, lt-leb}
 use Rattle.rules.specs.Base as Base
 use Rattle.rules.specs.Base.{Name, all, any, first, eqName, bytes, is, between}
-use Rattle.rules.specs.Text.{isName, isExpr, isRel, isAtom, reserved}
+use Rattle.rules.specs.Text.{isExpr, isRel, isAtom, reserved}
 use Rattle.rules.specs.Grammar as Grammar
 use Rattle.rules.specs.Grammar.{Kind, kinds, kindNumber, kindOf, form}
 use Rattle.rules.specs.Grammar.{Class, Field, Method, Requires, Ensures, Main, Var, Set, Let, New, Call, Return, Assert, Release, If, Else, Join, End}
@@ -266,10 +266,6 @@ rel-is w = rw (eq-is w, ne-is w) (two (wordNumber w))
 
 -- the form of an atom by its word's number
 module _ (w a b : Name) (k : ℕ) (h : k ≡ wordNumber w) where
-  pub atom-acc : k ≡ 19 → isAtom w a b ≡ (isName a && isName b)
-  unfolding isAtom
-  atom-acc e = rw (acc-is w, ← h, e)
-
   pub atom-rel : (k ≡ 19 → ⊥) → 20 ≤ k → k ≤ 21 → isAtom w a b ≡ (isExpr a && isExpr b)
   unfolding isAtom between
   atom-rel n l m = rw (acc-is w, rel-is w, ← h, ne-eqb k 19 n, le-leb 20 k l, le-leb k 21 m)

@@ -155,13 +155,6 @@ tail-is nothing ws = refl
 tail-is condition ws = refl
 tail-is formula ws = refl
 
--- the first of the operands, and those after it
-pub first-operand :
-    (o : Operand) (os : List Operand) →
-    (operandsNumber (o ∷ os) % 16 ≡ operandNumber o) × (operandsNumber (o ∷ os) / 16 ≡ operandsNumber os)
-unfolding operandsNumber
-first-operand o os = omega (arith, operand-bounds o)
-
 -- THE KIND OF A LINE
 pub kind-known : (o : Option Kind) (n : ℕ) → n ≡ kindOr0 o → (n ≡ 0 → ⊥) → (k : Kind) × (o ≡ some k) × (n ≡ kindNumber k)
 kind-known none n e z = absurd (z e)

@@ -2,7 +2,6 @@
 use mathlib.Core.Path.{_≡_, refl, sym, ap, _∙_}
 use mathlib.Core.Bool.{Bool, true, false, cond}
 use mathlib.Core.List.{List, [], _∷_, map}
-use mathlib.Core.Logic.{⊎-elim}
 use mathlib.Core.Option.{Option, none, some}
 use Prim.Native.Nat.{ℕ, suc, _+_, _≤_, _<_}
 use native.Mathlib.Omega.{arith}
@@ -15,23 +14,20 @@ use Rattle.rules.specs.Answers.{Verdict, accepted, refused, atLine, then, badBy
 use Rattle.rules.specs.Answers as Answers
 use Rattle.rules.specs.Text as Text
 use Rattle.rules.specs.Text.{lines, onto, clean}
-use Rattle.rules.specs.Grammar.{Kind, Line, form, kindOf, kindNumber, isFormed, readLine}
+use Rattle.rules.specs.Grammar.{Kind, Line, form, kindOf, isFormed, readLine}
 use Rattle.rules.specs.Places as Places
 use Rattle.rules.specs.Places.{Placed, stageNumber, placeLine, scanLine, scanLines, ended, firstPlace}
-use Rattle.rules.proofs.Lists.{T-true, decide-eq}
+use Rattle.rules.proofs.Lists.{T-true}
 use Rattle.rules.proofs.Tries.{no-ok, ok-inj, bind-ok, check-ok, orElse-ok, atLine-accepted, then-accepted, accepted-inj, refused-accepted}
 use Rattle.leaves.specs.Answers.{whenTrue}
-use Rattle.leaves.specs.Sets.{Found}
-use Rattle.leaves.specs.declared.Set.the-variants.{LineEnd}
-use Rattle.leaves.proofs.Search.{true-false}
 use Rattle.leaves.specs.Words.{kindOr0}
 use Rattle.lines.specs.declared.Place.{Place}
 use Rattle.lines.specs.declared.Refusal.{Refusal}
-use Rattle.lines.specs.Cuts.{part, firstLine, CleanLine, BadLine}
+use Rattle.lines.specs.Cuts.{part, firstLine, CleanLine}
 use Rattle.lines.specs.Rows.{kindNumbered, formedKind}
 use Rattle.lines.specs.Coded.{coded, inPlace, placeAfter, withinLimits}
 use Rattle.lines.specs.Scans.{refusalOf, nextPlace, scanText, lineOf}
-use Rattle.lines.proofs.Cuts.{clean-line, bad-line, first-clean, first-bad, no-lines}
+use Rattle.lines.proofs.Cuts.{first-clean, no-lines}
 use Rattle.lines.proofs.Rows.{kind-known, kind-none, kind-of-number}
 use Rattle.lines.proofs.Coded.{within-is, in-place-is, place-after-is}
 
@@ -261,23 +257,3 @@ text-taken t n e =
     let (ls, f, g) = then-accepted (scanLines (lines t) 0 firstPlace) _ n e in
     let h = lines-taken (lines t) 0 firstPlace ls f in
     (f ∙ ap accepted h, sym (accepted-inj g) ∙ (ap length h ∙ length-map (lines t) lineOf))
-
--- a line of it is clean, so that the search for its end finds its LF
-read-clean : (l : Name) (a : Line) → readLine l ≡ ok a → clean l ≡ true
-unfolding readLine
-read-clean l a e = T-true _ (check-ok (clean l) badByte e .0)
-
-pub taken-clean :
-    (t : List ℕ) (a e : ℕ) → Found t a LineEnd e → a < length t → (x : Line) → readLine (firstLine (drop a t)) ≡ ok x → CleanLine t a e
-taken-clean t a e f h x r = ⊎-elim (clean-line t a e f) (λ n. bad (bad-line t a e f h n)) (decide-eq (getD t e 0) 10)
-  where
-    bad : BadLine (drop a t) → CleanLine t a e
-    bad b = true-false (sym (read-clean _ x r) ∙ (ap clean (first-bad (drop a t) b) ∙ b .bad))
-
--- the number of its kind is that of its word
-pub kind-of-line : (l : Name) (a : Line) → readLine l ≡ ok a → kindOr0 (kindOf (getD (Text.fields l) 0 [])) ≡ kindNumber (lineOf l .kind)
-unfolding readLine lineOf withDefault
-kind-of-line l a e =
-    let (c, f) = check-ok (clean l) badByte e in
-    let (k, g, h) = bind-ok (orElse (kindOf (getD (Text.fields l) 0 [])) malformed) f in
-    rw (orElse-ok (kindOf (getD (Text.fields l) 0 [])) malformed k g)
