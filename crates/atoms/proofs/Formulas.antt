@@ -18,9 +18,9 @@ use Rattle.leaves.specs.Sets.{inSet, Found}
 use Rattle.leaves.specs.declared.Set.the-variants.{FieldEnd}
 use Rattle.leaves.proofs.Search.{true-false, both-true, upTo-within}
 use Rattle.leaves.proofs.Words.{atom-word-length}
-use Rattle.lines.specs.Cuts.{part, more, NextField, NextAtom}
+use Rattle.lines.specs.Cuts.{part, more, NextField}
 use Rattle.lines.proofs.Cuts.{byte-in, no-more, some-more, fields-from}
-use Rattle.lines.proofs.Formulas.{more-on, not-none, formula-full, atom-0, atom-1, atom-2, atom-3, atom-here}
+use Rattle.lines.proofs.Formulas.{NextAtom, more-on, not-none, formula-full, atom-0, atom-1, atom-2, atom-3, atom-here}
 use Rattle.tables.specs.Layout.{names-at, most-atom-rows}
 use Rattle.tables.specs.Stores.{Kept}
 use Rattle.declared.specs.declared.Names.{Names}

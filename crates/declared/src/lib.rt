@@ -951,7 +951,7 @@ pub fn may_add_field(text: &[u8], work: &[u8], c: Names, a: Above, name: Span, g
     may_add(text, work, c, FIELDS, r, name, gives)
 }
 
-// May it have the method m, with a parameter of this name?
+// May it have the method m, with a parameter of this name? The parameter passes the tests of `may_declare`.
 pub fn may_add_method(text: &[u8], work: &[u8], c: Names, a: Above, m: Row, parameter: Span) -> bool
     requires { ⌜ (length (now work) ≡ work-bytes) × Fits c × AboveFits a ⌝ }
     ensures { λ b. ⌜ b ≡ ((isType (declarationsIn (now (text .entry)) (now (work .entry)) c) (nameIn (now (text .entry)) (m .gives)) && isNew (nameIn (now (text .entry)) (m .name)) (scopeIn (now (text .entry)) (now (work .entry)) c a .members .methods)) && (isType (declarationsIn (now (text .entry)) (now (work .entry)) c) (nameIn (now (text .entry)) (m .takes)) && isNew (nameIn (now (text .entry)) parameter) (map (λ v. v .name) (blockIn (now (text .entry)) (now (work .entry)) c .variables)))) ⌝ }

@@ -1,7 +1,6 @@
 pub mod Bytes
 pub mod Search
 pub mod Bytewise
-pub mod Lines
 pub mod Words
 pub mod Numbers
 pub mod Exprs

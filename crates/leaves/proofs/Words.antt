@@ -370,7 +370,7 @@ not-reserved w h =
     other s k = not-same (bytes s) w (λ e. h (omega (arith, k .0, ap length e), omega (arith, k .1, ap length e)))
 
 -- what holds of `acc`, `eq` and `ne` holds of the word of an atom
-of-atom-word : (P : Name → Type 0) → P (bytes "acc") → P (bytes "eq") → P (bytes "ne") → (w : Name) → (is "acc" w || isRel w) ≡ true → P w
+pub of-atom-word : (P : Name → Type 0) → P (bytes "acc") → P (bytes "eq") → P (bytes "ne") → (w : Name) → (is "acc" w || isRel w) ≡ true → P w
 unfolding isRel is
 of-atom-word P a b c w e = go (is "acc" w) (is "eq" w) (is "ne" w) refl refl refl e
   where

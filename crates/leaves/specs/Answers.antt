@@ -26,13 +26,13 @@ beginsName n w = leb n most-letters && letter (getD w 0 0)
 unfoldable pub digitsIn : Name → ℕ
 digitsIn t = upTo noDigit (take 10 t)
 
--- digits from a place on to an end, some of the first ten at most, and the number that they write
+-- the bytes from `at` up to `end` are digits, at most ten, and `value` is the number that they write
 pub record Begun (l : Name) (at value end : ℕ) : Type 0 where
   pub low : at ≤ end
   pub high : end ≤ at + digitsIn (drop at l)
   pub is : value ≡ decimal 0 (take (end - at) (drop at l))
 
--- the same of all of them
+-- the same, and no digit follows unless they are ten
 pub record TenDigits (l : Name) (at value end : ℕ) : Type 0 where
   pub end-is : end ≡ at + digitsIn (drop at l)
   pub value-is : value ≡ decimal 0 (take (digitsIn (drop at l)) (drop at l))

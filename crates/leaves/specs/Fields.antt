@@ -1,21 +1,14 @@
--- Lines and fields by their lengths.
+-- Fields by their lengths.
 use mathlib.Core.Path.{_≡_}
 use mathlib.Core.Bool.{Bool, cond, _||_}
 use mathlib.Core.List.{List}
-use Prim.Native.Nat.{ℕ, suc, _+_, _≤_}
-use lib.Dec.{eqb, leb}
+use Prim.Native.Nat.{ℕ, _+_, _≤_}
+use lib.Dec.{leb}
 use lib.ListN.{length, getD, take, drop}
 use Rattle.rules.specs.Base.{Name}
-use Rattle.rules.specs.Text.{line-feed, upTo}
+use Rattle.rules.specs.Text.{upTo}
 use Rattle.leaves.specs.declared.Set.the-variants.{FieldEnd}
 use Rattle.leaves.specs.Sets.{inSet}
-
--- the bytes of a text's first line, LF not counted; that line
-unfoldable pub lineLength : Name → ℕ
-lineLength t = upTo (λ b. eqb b line-feed) t
-
-unfoldable pub firstLine : Name → Name
-firstLine t = take (suc (lineLength t)) t
 
 -- the bytes of a line's first field; that field
 unfoldable pub fieldLength : Name → ℕ
@@ -36,5 +29,5 @@ pub record FieldIs (p : Name → Bool) (l : List ℕ) (at r : ℕ) : Type 0 wher
 
 -- Everything above computes where this unfolds.
 unfoldable pub opened : Unit {0}
-unfolding lineLength firstLine fieldLength firstField
+unfolding fieldLength firstField
 opened = tt

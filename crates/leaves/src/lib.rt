@@ -656,7 +656,8 @@ pub fn known_expr(w: &[u8]) -> Expr
     Expr::Var
 }
 
-// The end of the field that starts at `at`, if that field is a variable, `null` or a path; else `at`. Its first byte that is no letter or digit stands at d, where it ends or goes on after a full stop.
+// The end of the field that starts at `at`, if that field is a variable, `null` or a path; else `at`. Its first byte that is no letter or
+// digit stands at d.
 fn path_end(l: &[u8], at: usize, d: usize) -> usize
     requires { ⌜ (at ≤ length (now l)) × Found (now l) at Set.NotLetterOrDigit d × (numeral (drop at (now l)) ≡ false) ⌝ }
     ensures { λ r. ⌜ FieldIs isExpr (now (l .entry)) at r ⌝ }

@@ -2,7 +2,7 @@
 use mathlib.Core.Path.{_≡_, refl, _∙_}
 use mathlib.Core.Bool.{true, false, not, _&&_}
 use mathlib.Core.List.{List, [], _∷_}
-use Prim.Native.Nat.{ℕ, zero, suc, _+_, _-_, _≤_}
+use Prim.Native.Nat.{ℕ, zero, suc, _+_, _-_, _≤_, _<_}
 use native.Mathlib.Omega.{arith}
 use lib.Dec.{eqb}
 use lib.ListN.{length, getD, drop}
@@ -10,7 +10,7 @@ use borrow.Author.Tests.{eq-eqb}
 use Rattle.rules.specs.Base.{Name}
 use Rattle.rules.specs.Text.{isAtom, isFormula}
 use Rattle.leaves.proofs.Search.{true-false}
-use Rattle.lines.specs.Cuts.{part, more, NextField, NextAtom}
+use Rattle.lines.specs.Cuts.{part, more, NextField}
 use Rattle.lines.proofs.Cuts.{more-tab}
 
 -- FORMULAS
@@ -48,6 +48,14 @@ pub formula-full : (t : List ℕ) (r : ℕ) → getD t r 0 ≡ 9 → isFormula 0
 formula-full t r e = full (more (drop r t)) (not-none t r e)
 
 -- AN ATOM, FIELD BY FIELD
+
+-- After a field that ends at r, the next three are an atom and end at e; e is r where they are none.
+pub record NextAtom (t : List ℕ) (r e : ℕ) : Type 0 where
+  pub low : r ≤ e
+  pub high : e ≤ length t
+  pub none : e ≡ r → (n : ℕ) → (more (drop r t) ≡ [] → ⊥) → isFormula (suc n) (more (drop r t)) ≡ false
+  pub some : r < e → (n : ℕ) → isFormula (suc n) (more (drop r t)) ≡ isFormula n (more (drop e t))
+
 pub more-on : {t : List ℕ} {r e : ℕ} → NextField t r e → (e ≡ r → ⊥) → more (drop r t) ≡ part (r + 1) e t ∷ more (drop e t)
 more-on f n = f .some (omega (arith, f .low, n))
 

@@ -5,7 +5,7 @@ use mathlib.Core.List.{List, [], _∷_}
 use mathlib.Core.Logic.{_⊎_, inl, inr, ⊎-elim}
 use Prim.Native.Nat.{ℕ, zero, suc, _+_, _-_, _≤_, _<_}
 use native.Mathlib.Omega.{arith}
-use lib.Dec.{T, eqb}
+use lib.Dec.{eqb}
 use lib.ListN.{length, getD, drop, take, length-drop}
 use lib.Seq.{getD-drop, getD-take, length-take-le}
 use borrow.Author.Tests.{eq-eqb, ne-eqb, not-true}
@@ -14,10 +14,11 @@ use Rattle.rules.specs.Base.{Name, bytes, all, is}
 use Rattle.rules.specs.Text as Text
 use Rattle.rules.specs.Text.{upTo, isName, isExpr, isRel, isAtom, isFormula, isCondition}
 use Rattle.rules.specs.Grammar.{Operand, variable, expression, read, isOperand}
-use Rattle.rules.proofs.Lists.{same-name, decide-eq}
+use Rattle.rules.proofs.Lists.{decide-eq}
 use Rattle.leaves.specs.Sets.{inSet, Found}
 use Rattle.leaves.specs.declared.Set.the-variants.{LineEnd, FieldEnd}
 use Rattle.leaves.proofs.Search.{true-false, both-true, and-false, or-true, or-false, all-at, upTo-within, upTo-is}
+use Rattle.leaves.proofs.Words.{of-atom-word}
 use Rattle.lines.specs.Cuts.{part, more}
 use Rattle.lines.specs.Rows as Rows
 use Rattle.lines.specs.Rows.{operandsNumber}
@@ -37,33 +38,21 @@ isWord s = is "acc" s || isRel s
 rel-word : (s : Name) → isRel s ≡ true → isWord s ≡ true
 rel-word s e = rw e (or-true (is "acc" s))
 
--- it is one of the three
-word-case :
-    (P : Name → Type 0) → P (bytes "acc") → P (bytes "eq") → P (bytes "ne") → (s : Name) → isWord s ≡ true → P s
-unfolding is isRel
-word-case P a e n s h = go (is "acc" s) (is "eq" s) (is "ne" s) refl refl refl h
-  where
-    go : (x y z : Bool) → is "acc" s ≡ x → is "eq" s ≡ y → is "ne" s ≡ z → (x || (y || z)) ≡ true → P s
-    go true y z i j k q = subst P (same-name _ _ (subst T (sym i) tt)) a
-    go false true z i j k q = subst P (same-name _ _ (subst T (sym j) tt)) e
-    go false false true i j k q = subst P (same-name _ _ (subst T (sym k) tt)) n
-    go false false false i j k q = true-false (sym q)
-
 -- told by its first letter
 abbrev wordOf : ℕ → Name
 wordOf b = cond (eqb b 97) (bytes "acc") (cond (eqb b 101) (bytes "eq") (bytes "ne"))
 
 word-letter : (s : Name) → isWord s ≡ true → s ≡ wordOf (getD s 0 0)
 unfolding bytes
-word-letter = word-case (λ s. s ≡ wordOf (getD s 0 0)) refl refl refl
+word-letter = of-atom-word (λ s. s ≡ wordOf (getD s 0 0)) refl refl refl
 
 some-letter : (s : Name) → isWord s ≡ true → (getD s 0 0 ≡ 97) ⊎ ((getD s 0 0 ≡ 101) ⊎ (getD s 0 0 ≡ 110))
 unfolding bytes
-some-letter = word-case (λ s. (getD s 0 0 ≡ 97) ⊎ ((getD s 0 0 ≡ 101) ⊎ (getD s 0 0 ≡ 110))) (inl refl) (inr (inl refl)) (inr (inr refl))
+some-letter = of-atom-word (λ s. (getD s 0 0 ≡ 97) ⊎ ((getD s 0 0 ≡ 101) ⊎ (getD s 0 0 ≡ 110))) (inl refl) (inr (inl refl)) (inr (inr refl))
 
 some-bytes : (s : Name) → isWord s ≡ true → 0 < length s
 unfolding bytes
-some-bytes = word-case (λ s. 0 < length s) (omega arith) (omega arith) (omega arith)
+some-bytes = of-atom-word (λ s. 0 < length s) (omega arith) (omega arith) (omega arith)
 
 -- of bytes that end neither a line nor a field
 abbrev within : ℕ → Bool
@@ -71,7 +60,7 @@ within b = not (inSet LineEnd b || inSet FieldEnd b)
 
 word-within : (s : Name) → isWord s ≡ true → all within s ≡ true
 unfolding Text.opened Base.opened
-word-within = word-case (λ s. all within s ≡ true) refl refl refl
+word-within = of-atom-word (λ s. all within s ≡ true) refl refl refl
 
 within-clean : (s : Name) → all within s ≡ true → all inLine s ≡ true
 unfolding all
@@ -262,7 +251,7 @@ two-bytes a b = rw (and-false (eqb 99 b)) (and-false (eqb 97 a))
 
 later-byte : (a b : ℕ) → isRel (a ∷ b ∷ []) ≡ true → 0 < b
 unfolding bytes
-later-byte a b w = word-case (λ s. 0 < getD s 1 0) (omega arith) (omega arith) (omega arith) (a ∷ b ∷ []) (rel-word (a ∷ b ∷ []) w)
+later-byte a b w = of-atom-word (λ s. 0 < getD s 1 0) (omega arith) (omega arith) (omega arith) (a ∷ b ∷ []) (rel-word (a ∷ b ∷ []) w)
 
 letters-two : (t : List ℕ) (a b c : ℕ) → getD t a 0 ≡ b → getD t (a + 1) 0 ≡ c → (i : ℕ) → i < 2 → getD t (a + i) 0 ≡ getD (b ∷ c ∷ []) i 0
 letters-two t a b c e f zero h = let z : a + 0 ≡ a = omega arith in ap (λ j. getD t j 0) z ∙ e
@@ -359,7 +348,7 @@ no-condition ws e = rw e
 -- a word that does not begin as `acc` is `eq` or `ne`
 rel-letter : (s : Name) → isWord s ≡ true → isRel s ≡ not (eqb (getD s 0 0) 97)
 unfolding bytes isRel is Base.eqName
-rel-letter = word-case (λ s. isRel s ≡ not (eqb (getD s 0 0) 97)) refl refl refl
+rel-letter = of-atom-word (λ s. isRel s ≡ not (eqb (getD s 0 0) 97)) refl refl refl
 
 module _ (t : List ℕ) (r : ℕ) (g : getD t r 0 ≡ 9) where
   condition-case : (q : Bool) → not (eqb (getD t (r + 1) 0) 97) ≡ q → isCondition (more (drop r t)) ≡ (q && isFormula 1 (more (drop r t)))

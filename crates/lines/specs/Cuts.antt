@@ -2,11 +2,11 @@
 use mathlib.Core.Path.{_≡_}
 use mathlib.Core.Bool.{Bool, cond}
 use mathlib.Core.List.{List, [], _∷_}
-use Prim.Native.Nat.{ℕ, suc, _+_, _-_, _≤_, _<_}
+use Prim.Native.Nat.{ℕ, _+_, _-_, _≤_, _<_}
 use lib.Dec.{eqb}
 use lib.ListN.{length, drop, take, getD}
 use Rattle.rules.specs.Base.{Name}
-use Rattle.rules.specs.Text.{tab, line-feed, lines, fields, clean, isFormula}
+use Rattle.rules.specs.Text.{tab, line-feed, lines, fields, clean}
 
 -- the bytes from a up to e
 abbrev pub part : ℕ → ℕ → List ℕ → List ℕ
@@ -43,10 +43,3 @@ pub record NextField (t : List ℕ) (r e : ℕ) : Type 0 where
   pub high : e ≤ length t
   pub none : e ≡ r → more (drop r t) ≡ []
   pub some : r < e → more (drop r t) ≡ part (r + 1) e t ∷ more (drop e t)
-
--- After a field that ends at r, the next three are an atom and end at e; e is r where they are none.
-pub record NextAtom (t : List ℕ) (r e : ℕ) : Type 0 where
-  pub low : r ≤ e
-  pub high : e ≤ length t
-  pub none : e ≡ r → (n : ℕ) → (more (drop r t) ≡ [] → ⊥) → isFormula (suc n) (more (drop r t)) ≡ Bool.false
-  pub some : r < e → (n : ℕ) → isFormula (suc n) (more (drop r t)) ≡ isFormula n (more (drop e t))
