@@ -1,112 +1,62 @@
--- The items of a read text come in order, and its statement rows nest.
-use mathlib.Core.Path.{_≡_, refl, sym, ap, subst}
+-- The statement rows of a read text nest, and each block is some of them.
+use mathlib.Core.Path.{_≡_, refl, sym, ap, _∙_, subst}
 use mathlib.Core.Bool.{Bool, true, false, not, cond, _&&_}
-use mathlib.Core.List.{List, [], _∷_}
+use mathlib.Core.List.{List, [], _∷_, _++_, append-assoc, append-nil}
 use Prim.Native.Nat.{ℕ, suc}
 use native.Mathlib.Omega.{arith}
 use lib.Dec.{T, not-T, leb, ltb, eqb, eqb→eq, leb→le, le→leb}
-use lib.ListN.{length}
+use lib.ListN.{length, drop}
 use Rattle.rules.specs.Base.{between}
 use Rattle.rules.specs.Answers.{accepted}
 use Rattle.rules.specs.Syntax as Syntax
-use Rattle.rules.specs.Syntax.{Formula, Stmt, Row, else, join, end}
+use Rattle.rules.specs.Syntax.{Formula, Stmt, Row, Program, else, join, end}
 use Rattle.rules.specs.Grammar as Grammar
 use Rattle.rules.specs.Grammar.{Kind, Stage, Line, Class, Field, Method, Requires, Ensures, Main, Var, Set, Let, New, Call, Return, Assert, Release, If, Else, Join, End}
 use Rattle.rules.specs.Grammar.{beginning, inClass, afterHeader, inLocals, inBody, afterMain, form, stands, statement, isKind, kindNumber}
 use Rattle.rules.specs.Places as Places
 use Rattle.rules.specs.Places.{Place, Branch, beforeElse, firstPlace, stageNumber, mayElse, mayJoin, mayEnd, outer, fits, inPlace, stageAfter, branchesAfter, placeAfter, withinLimits, ended}
 use Rattle.rules.specs.Scope.{Scope, Variable, Declarations, declarations, firstScope}
-use Rattle.rules.specs.Items.{Item, aClass, aMethod, aMain, aLocal, aStatement, itemOf, resolveFormula, resolveSet, resolveCall, resolveIf}
-use Rattle.rules.specs.Reading.{Parts, readText, partsFrom, withItem, parts, methodOf, program}
+use Rattle.rules.specs.Items.{Item, aClass, aField, aMethod, aRequires, anEnsures, aMain, aLocal, aStatement, itemOf, resolveFormula, resolveSet, resolveCall, resolveIf}
+use Rattle.rules.specs.Reading.{readText, noProgram, onLast, withRequires, withEnsures, withItem, withItems, program}
 use Rattle.rules.proofs.Lists.{and-both, and-intro}
 use Rattle.rules.proofs.LinesTaken.{TakenLines, none, line, seen, read-taken}
-use Rattle.assembly.specs.Flat.{Stand, free, afterMethod, afterRequires, inMain, standAfter, endsAt, inOrder}
 use Rattle.assembly.specs.Nests.{Wait, forElse, forJoin, rowNests, rowsNest}
 
--- THE ORDER OF ITEMS
+-- THE ROWS OF ITEMS
 
--- what a place leaves open; `main` is known from its line on
-byStage : Stage → Stand
-byStage beginning = free
-byStage inClass = free
-byStage Grammar.afterMethod = free
-byStage afterHeader = afterMethod
-byStage Grammar.afterRequires = afterRequires
-byStage inLocals = free
-byStage inBody = free
-byStage afterMain = free
+-- the statements among the items after n lines
+rowsOf : ℕ → List Item → List Row
+rowsOf n [] = []
+rowsOf n (aClass ∷ items) = rowsOf (suc n) items
+rowsOf n (aField f ∷ items) = rowsOf (suc n) items
+rowsOf n (aMethod ∷ items) = rowsOf (suc n) items
+rowsOf n (aRequires φ ∷ items) = rowsOf (suc n) items
+rowsOf n (anEnsures φ ∷ items) = rowsOf (suc n) items
+rowsOf n (aMain ∷ items) = rowsOf (suc n) items
+rowsOf n (aLocal x ∷ items) = rowsOf (suc n) items
+rowsOf n (aStatement s ∷ items) = record { line = suc n; stmt = s } ∷ rowsOf (suc n) items
 
-standAt : Place → Stand
-standAt p = cond (p .main) inMain (byStage (p .stage))
+with-row :
+    (P : Program) (n : ℕ) (a : Item) (items : List Item) →
+    withItem P (suc n) a .rows ++ rowsOf (suc n) items ≡ P .rows ++ rowsOf n (a ∷ items)
+unfolding withItem rowsOf
+with-row P n aClass items = refl
+with-row P n (aField f) items = refl
+with-row P n aMethod items = refl
+with-row P n (aRequires φ) items = refl
+with-row P n (anEnsures φ) items = refl
+with-row P n aMain items = refl
+with-row P n (aLocal x) items = refl
+with-row P n (aStatement s) items = append-assoc (P .rows) _ (rowsOf (suc n) items)
 
--- main's lines stand in its block or after it, and after it only main's
-abbrev MainInside : Place → Type 0
-MainInside p = (T (p .main) → T (leb 5 (stageNumber (p .stage)))) × (T (eqb (stageNumber (p .stage)) 7) → T (p .main))
+with-rows : (P : Program) (n : ℕ) (items : List Item) → withItems P n items .rows ≡ P .rows ++ rowsOf n items
+unfolding withItems rowsOf
+with-rows P n [] = sym (append-nil _)
+with-rows P n (a ∷ items) = with-rows (withItem P (suc n) a) (suc n) items ∙ with-row P n a items
 
--- in a block: locals and statements leave the stand as it is
-data OfBlock : Item → Type 0 where
-  a-local : {x : List ℕ} → OfBlock (aLocal x)
-  a-statement : {s : Stmt} → OfBlock (aStatement s)
-
-block-stand : (m : Bool) (a : Item) (κ : Stand → Bool) → OfBlock a → T (κ (cond m inMain free)) → T (standAfter (cond m inMain free) a κ)
-unfolding standAfter
-block-stand true a κ a-local t = t
-block-stand true a κ a-statement t = t
-block-stand false a κ a-local t = t
-block-stand false a κ a-statement t = t
-
--- the stages of a block
-in-block : (s : Stage) (m : Bool) → T (leb 5 (stageNumber s)) → T (leb (stageNumber s) 6) → cond m inMain (byStage s) ≡ cond m inMain free
-unfolding stageNumber byStage
-in-block beginning m a b = absurd a
-in-block inClass m a b = absurd a
-in-block Grammar.afterMethod m a b = absurd a
-in-block afterHeader m a b = absurd a
-in-block Grammar.afterRequires m a b = absurd a
-in-block inLocals m a b = refl
-in-block inBody m a b = refl
-in-block afterMain m a b = absurd b
-
--- and those between blocks, where main is not yet reached
-before-block :
-    (s : Stage) (m : Bool) → (T m → T (leb 5 (stageNumber s))) → T (leb (stageNumber s) 2) →
-    (cond m inMain (byStage s) ≡ free) × (m ≡ false)
-unfolding stageNumber byStage
-before-block beginning true h b = absurd (h tt)
-before-block beginning false h b = (refl, refl)
-before-block inClass true h b = absurd (h tt)
-before-block inClass false h b = (refl, refl)
-before-block Grammar.afterMethod true h b = absurd (h tt)
-before-block Grammar.afterMethod false h b = (refl, refl)
-before-block afterHeader m h b = absurd b
-before-block Grammar.afterRequires m h b = absurd b
-before-block inLocals m h b = absurd b
-before-block inBody m h b = absurd b
-before-block afterMain m h b = absurd b
-
-at-header : (s : Stage) (m : Bool) → (T m → T (leb 5 (stageNumber s))) → T (leb 3 (stageNumber s)) → T (leb (stageNumber s) 3) → (cond m inMain (byStage s) ≡ afterMethod) × (m ≡ false)
-unfolding stageNumber byStage
-at-header beginning m h a b = absurd a
-at-header inClass m h a b = absurd a
-at-header Grammar.afterMethod m h a b = absurd a
-at-header afterHeader true h a b = absurd (h tt)
-at-header afterHeader false h a b = (refl, refl)
-at-header Grammar.afterRequires m h a b = absurd b
-at-header inLocals m h a b = absurd b
-at-header inBody m h a b = absurd b
-at-header afterMain m h a b = absurd b
-
-at-requires : (s : Stage) (m : Bool) → (T m → T (leb 5 (stageNumber s))) → T (leb 4 (stageNumber s)) → T (leb (stageNumber s) 4) → (cond m inMain (byStage s) ≡ afterRequires) × (m ≡ false)
-unfolding stageNumber byStage
-at-requires beginning m h a b = absurd a
-at-requires inClass m h a b = absurd a
-at-requires Grammar.afterMethod m h a b = absurd a
-at-requires afterHeader m h a b = absurd a
-at-requires Grammar.afterRequires true h a b = absurd (h tt)
-at-requires Grammar.afterRequires false h a b = (refl, refl)
-at-requires inLocals m h a b = absurd b
-at-requires inBody m h a b = absurd b
-at-requires afterMain m h a b = absurd b
+drop-length : (l k : List Row) → drop (length l) (l ++ k) ≡ k
+drop-length [] k = refl
+drop-length (a ∷ l) k = drop-length l k
 
 -- a line stands between its first and its last stage
 bounds :
@@ -117,101 +67,6 @@ bounds k p i =
     let a : Bool = leb (stageNumber (form k .first)) (stageNumber (p .stage)) in
     let z : Bool = leb (stageNumber (p .stage)) (stageNumber (form k .last)) in
     and-both a z (and-both (a && z) (fits k p) i .0)
-
-up-to : (n m : ℕ) → T (leb n m) → T (leb n (suc m))
-up-to n m t = le→leb n (suc m) (omega (arith, leb→le n m t))
-
-module _ (Γ : Declarations) (vs : List Variable) (l : Line) (p : Place) (κ : Stand → Bool) (inside : MainInside p) where
-  in-block-order :
-      (a : Item) → OfBlock a → T (leb 5 (stageNumber (p .stage))) → T (leb (stageNumber (p .stage)) 6) →
-      T (κ (cond (p .main) inMain free)) → T (standAfter (standAt p) a κ)
-  unfolding standAt
-  in-block-order a o x y t =
-      subst (λ (s : Stand). T (standAfter s a κ)) (sym (in-block (p .stage) (p .main) x y)) (block-stand (p .main) a κ o t)
-
-  -- the line's item is in order, and main's lines stay inside
-  Ordered : Kind → Type 0
-  Ordered k =
-      T (inPlace k p) →
-      (T (κ (standAt (placeAfter k p))) → T (standAfter (standAt p) (itemOf Γ vs k l) κ)) × MainInside (placeAfter k p)
-
-  end-stand : (m : Bool) → cond m inMain (byStage (cond m afterMain Grammar.afterMethod)) ≡ cond m inMain free
-  unfolding byStage
-  end-stand true = refl
-  end-stand false = refl
-
-  end-inside : (m : Bool) → T m → T (leb 5 (stageNumber (cond m afterMain Grammar.afterMethod)))
-  unfolding stageNumber
-  end-inside true t = tt
-  end-inside false t = absurd t
-
-  end-main : (m : Bool) → T (eqb (stageNumber (cond m afterMain Grammar.afterMethod)) 7) → T m
-  unfolding stageNumber
-  end-main true t = tt
-  end-main false t = t
-
-  -- a line outside of main, at the stand s, that leads to the stand s′
-  outside-order :
-      (a : Item) (s s′ : Stand) → (cond (p .main) inMain (byStage (p .stage)) ≡ s) × (p .main ≡ false) →
-      (T (κ s′) → T (standAfter s a κ)) → T (κ (cond (p .main) inMain s′)) → T (standAfter (standAt p) a κ)
-  unfolding standAt
-  outside-order a s s′ (e, m) h t =
-      subst (λ (s : Stand). T (standAfter s a κ)) (sym e) (h (subst (λ (m : Bool). T (κ (cond m inMain s′))) m t))
-
-  line-order : (k : Kind) → Ordered k
-  unfolding Ordered inPlace between form stands statement stageNumber itemOf placeAfter stageAfter isKind kindNumber standAt byStage standAfter
-  line-order Class i =
-      let o = before-block (p .stage) (p .main) (inside .0) (bounds Class p i .1) in
-      (outside-order aClass free free o (λ t. t), (λ u. absurd (subst T (o .1) u), λ v. absurd v))
-  line-order Field i =
-      let o = before-block (p .stage) (p .main) (inside .0) (up-to (stageNumber (p .stage)) 1 (bounds Field p i .1)) in
-      (outside-order _ free free o (λ t. t), (λ u. absurd (subst T (o .1) u), λ v. absurd v))
-  line-order Method i =
-      let o = before-block (p .stage) (p .main) (inside .0) (bounds Method p i .1) in
-      (outside-order aMethod free afterMethod o (λ t. t), (λ u. absurd (subst T (o .1) u), λ v. absurd v))
-  line-order Requires i =
-      let o = at-header (p .stage) (p .main) (inside .0) (bounds Requires p i .0) (bounds Requires p i .1) in
-      (outside-order _ afterMethod afterRequires o (λ t. t), (λ u. absurd (subst T (o .1) u), λ v. absurd v))
-  line-order Ensures i =
-      let o = at-requires (p .stage) (p .main) (inside .0) (bounds Ensures p i .0) (bounds Ensures p i .1) in
-      (outside-order _ afterRequires free o (λ t. t), (λ u. tt, λ v. absurd v))
-  line-order Main i =
-      let o = before-block (p .stage) (p .main) (inside .0) (bounds Main p i .1) in
-      (λ t. subst (λ (s : Stand). T (standAfter s aMain κ)) (sym (o .0)) t, (λ u. tt, λ v. absurd v))
-  line-order Var i = (in-block-order _ a-local (bounds Var p i .0) (up-to (stageNumber (p .stage)) 5 (bounds Var p i .1)), (λ u. tt, λ v. absurd v))
-  line-order Set i = (in-block-order _ a-statement (bounds Set p i .0) (bounds Set p i .1), (λ u. tt, λ v. absurd v))
-  line-order Let i = (in-block-order _ a-statement (bounds Let p i .0) (bounds Let p i .1), (λ u. tt, λ v. absurd v))
-  line-order New i = (in-block-order _ a-statement (bounds New p i .0) (bounds New p i .1), (λ u. tt, λ v. absurd v))
-  line-order Call i = (in-block-order _ a-statement (bounds Call p i .0) (bounds Call p i .1), (λ u. tt, λ v. absurd v))
-  line-order Return i = (in-block-order _ a-statement (bounds Return p i .0) (bounds Return p i .1), (λ u. tt, λ v. absurd v))
-  line-order Assert i = (in-block-order _ a-statement (bounds Assert p i .0) (bounds Assert p i .1), (λ u. tt, λ v. absurd v))
-  line-order Release i = (in-block-order _ a-statement (bounds Release p i .0) (bounds Release p i .1), (λ u. tt, λ v. absurd v))
-  line-order If i = (in-block-order _ a-statement (bounds If p i .0) (bounds If p i .1), (λ u. tt, λ v. absurd v))
-  line-order Else i = (in-block-order _ a-statement (bounds Else p i .0) (bounds Else p i .1), (λ u. tt, λ v. absurd v))
-  line-order Join i = (in-block-order _ a-statement (bounds Join p i .0) (bounds Join p i .1), (λ u. tt, λ v. absurd v))
-  line-order End i = (
-    λ t. in-block-order _ a-statement (bounds End p i .0) (bounds End p i .1) (subst (λ (s : Stand). T (κ s)) (end-stand (p .main)) t),
-    (end-inside (p .main), end-main (p .main)),
-  )
-
--- the items of lines that are taken
-lines-order :
-    (text : List Line) (p : Place) (s : Scope) (ls : List Line) (items : List Item) → TakenLines text p s ls items →
-    MainInside p → T (inOrder (standAt p) items)
-unfolding inOrder Ordered standAt endsAt ended stageNumber
-lines-order text p s ls items (none e) h = last (p .main) (h .1 e)
-  where
-    last : (m : Bool) → T m → T (endsAt (cond m inMain (byStage (p .stage))))
-    last true t = tt
-    last false t = absurd t
-lines-order text p s ls items (line {l = l} {items = rest} L R) h =
-    let (o, i) = line-order _ _ l p (λ q. inOrder q rest) h (l .kind) (L .in-place) in
-    o (lines-order text _ _ _ rest R i)
-
-pub read-in-order : (t : List ℕ) (items : List Item) → readText t ≡ accepted items → T (inOrder free items)
-unfolding standAt byStage stageNumber
-read-in-order t items e =
-    let (text, K) = read-taken t items e in lines-order text firstPlace firstScope text items K (λ u. absurd u, λ v. absurd v)
 
 -- THE NESTING OF ROWS
 
@@ -283,13 +138,13 @@ few-branches q t =
 
 module _ (Γ : Declarations) (vs : List Variable) (l : Line) (p : Place) (closed : Closed p) (n : ℕ) (rest : List Item) where
   rows : List Row
-  rows = partsFrom (suc n) rest .rows
+  rows = rowsOf (suc n) rest
 
   Nests : Kind → Type 0
   Nests k =
       T (inPlace k p) → T (withinLimits (placeAfter k p)) →
       (T (rowsNest (ended (placeAfter k p)) (waits (placeAfter k p .branches)) rows) →
-      T (rowsNest (ended p) (waits (p .branches)) (partsFrom n (itemOf Γ vs k l ∷ rest) .rows)))
+      T (rowsNest (ended p) (waits (p .branches)) (rowsOf n (itemOf Γ vs k l ∷ rest))))
       × Closed (placeAfter k p)
 
   -- a line that stands before bodies only
@@ -304,7 +159,7 @@ module _ (Γ : Declarations) (vs : List Variable) (l : Line) (p : Place) (closed
   fit k i = and-both (between (stageNumber (form k .first)) (stageNumber (form k .last)) (stageNumber (p .stage))) (fits k p) i .1
 
   line-nests : (k : Kind) → Nests k
-  unfolding Nests rows partsFrom withItem parts itemOf placeAfter stageAfter branchesAfter ended stageNumber form stands statement isKind kindNumber rowsNest rowNests resolveSet resolveCall resolveIf fits
+  unfolding Nests rows rowsOf itemOf placeAfter stageAfter branchesAfter ended stageNumber form stands statement isKind kindNumber rowsNest rowNests resolveSet resolveCall resolveIf fits
   line-nests Class i w = (some-nests (ended p) (waits (p .branches)) rows, λ e. closed (not-body Class tt i))
   line-nests Field i w = (some-nests (ended p) (waits (p .branches)) rows, λ e. closed (not-body Field tt i))
   line-nests Method i w = (some-nests (ended p) (waits (p .branches)) rows, λ e. closed (not-body Method tt i))
@@ -329,8 +184,8 @@ module _ (Γ : Declarations) (vs : List Variable) (l : Line) (p : Place) (closed
 
 lines-nest :
     (text : List Line) (p : Place) (s : Scope) (ls : List Line) (items : List Item) (n : ℕ) → TakenLines text p s ls items →
-    Closed p → T (rowsNest (ended p) (waits (p .branches)) (partsFrom n items .rows))
-unfolding Nests rows partsFrom parts waits rowsNest ended stageNumber
+    Closed p → T (rowsNest (ended p) (waits (p .branches)) (rowsOf n items))
+unfolding Nests rows rowsOf waits rowsNest ended stageNumber
 lines-nest text p s ls items n (none e) h =
     subst (λ (bs : List Branch). T (rowsNest (ended p) (waits bs) [])) (sym (h (not-six (stageNumber (p .stage)) e))) e
   where
@@ -340,77 +195,109 @@ lines-nest text p s ls items n (line {l = l} {items = rest} L R) h =
     let (o, c) = line-nests _ _ l p h n rest (l .kind) (L .in-place) (L .within) in
     o (lines-nest text _ _ _ rest (suc n) R c)
 
-pub read-nests : (t : List ℕ) (items : List Item) → readText t ≡ accepted items → T (rowsNest true [] (partsFrom 0 items .rows))
-unfolding ended stageNumber waits
+pub read-nests : (t : List ℕ) (items : List Item) → readText t ≡ accepted items → T (rowsNest true [] (program items .rows))
+unfolding ended stageNumber waits program
 read-nests t items e =
     let (text, K) = read-taken t items e in
-    begin-nests (ended firstPlace) [] (partsFrom 0 items .rows) (lines-nest text firstPlace firstScope text items 0 K (λ e. refl))
+    subst (λ (rs : List Row). T (rowsNest true [] rs)) (sym (with-rows noProgram 0 items))
+    (begin-nests (ended firstPlace) [] (rowsOf 0 items) (lines-nest text firstPlace firstScope text items 0 K (λ e. refl)))
 
 -- BLOCKS
 
--- each of these bodies is a block whose branches nest
-abbrev pub BodiesNest : List Syntax.Method → Type 0
-BodiesNest [] = Unit {0}
-BodiesNest (M ∷ Ms) = T (rowsNest false [] (M .body)) × BodiesNest Ms
+-- of the rows rs, each of these methods has a block whose branches nest
+abbrev pub BodiesNest : List Row → List Syntax.Method → Type 0
+BodiesNest rs [] = Unit {0}
+BodiesNest rs (M ∷ Ms) = T (rowsNest false [] (drop (M .first) rs)) × BodiesNest rs Ms
 
-module _ (Γ : Declarations) (vs : List Variable) (l : Line) (p : Place) (closed : Closed p) (n : ℕ) (rest : List Item) where
-  later : Parts
-  later = partsFrom (suc n) rest
+module _ (rs : List Row) where
+  bodies-more :
+      (Ms : List Syntax.Method) (M : Syntax.Method) → BodiesNest rs Ms → T (rowsNest false [] (drop (M .first) rs)) →
+      BodiesNest rs (Ms ++ (M ∷ []))
+  bodies-more [] M B t = (t, tt)
+  bodies-more (N ∷ Ms) M B t = (B .0, bodies-more Ms M (B .1) t)
 
-  -- methods from here on, and main where its line is still to come
-  Blocks : Kind → Type 0
-  Blocks k =
-      T (inPlace k p) → T (rowsNest (ended (placeAfter k p)) (waits (placeAfter k p .branches)) (later .rows)) →
-      BodiesNest (later .methods) → (placeAfter k p .main ≡ false → T (rowsNest false [] (later .main))) →
-      BodiesNest (partsFrom n (itemOf Γ vs k l ∷ rest) .methods)
-      × (p .main ≡ false → T (rowsNest false [] (partsFrom n (itemOf Γ vs k l ∷ rest) .main)))
+  bodies-last :
+      (f : Syntax.Method → Syntax.Method) → ((M : Syntax.Method) → f M .first ≡ M .first) → (Ms : List Syntax.Method) →
+      BodiesNest rs Ms → BodiesNest rs (onLast f Ms)
+  unfolding onLast
+  bodies-last f e [] B = tt
+  bodies-last f e (M ∷ []) B = (rw e (B .0), tt)
+  bodies-last f e (M ∷ N ∷ Ms) B = (B .0, bodies-last f e (N ∷ Ms) (B .1))
 
-  -- a block that begins after this line
-  begins : (k : Kind) → T (leb (stageNumber (form k .last)) 5) → T (inPlace k p) → T (rowsNest false (waits (p .branches)) (later .rows)) → T (rowsNest false [] (later .rows))
-  unfolding waits
-  begins k u i t =
-      subst (λ (bs : List Branch). T (rowsNest false (waits bs) (later .rows))) (closed (not-body Γ vs l p closed n rest k u i)) t
+  -- what is put together of the lines above a place
+  record Blocks (p : Place) (P : Program) : Type 0 where
+    methods : BodiesNest rs (P .methods)
+    main : T (p .main) → T (rowsNest false [] (drop (P .main) rs))
+    last : T (eqb (stageNumber (p .stage)) 7) → T (p .main)
 
-  line-blocks : (k : Kind) → Blocks k
-  unfolding Blocks later partsFrom withItem parts methodOf itemOf placeAfter stageAfter branchesAfter ended stageNumber form stands statement isKind kindNumber
-  line-blocks Class i t ms m = (ms, m)
-  line-blocks Field i t ms m = (ms, m)
-  line-blocks Method i t ms m = ((begins Method tt i t, ms), m)
-  line-blocks Requires i t ms m = (ms, m)
-  line-blocks Ensures i t ms m = (ms, m)
-  line-blocks Main i t ms m = (ms, λ e. begins Main tt i t)
-  line-blocks Var i t ms m = (ms, m)
-  line-blocks Set i t ms m = (ms, m)
-  line-blocks Let i t ms m = (ms, m)
-  line-blocks New i t ms m = (ms, m)
-  line-blocks Call i t ms m = (ms, m)
-  line-blocks Return i t ms m = (ms, m)
-  line-blocks Assert i t ms m = (ms, m)
-  line-blocks Release i t ms m = (ms, m)
-  line-blocks If i t ms m = (ms, m)
-  line-blocks Else i t ms m = (ms, m)
-  line-blocks Join i t ms m = (ms, m)
-  line-blocks End i t ms m = (ms, m)
+  module _ (Γ : Declarations) (vs : List Variable) (l : Line) (p : Place) (closed : Closed p) (n : ℕ) (rest : List Item) (P : Program)
+      (is : rs ≡ P .rows ++ rowsOf (suc n) rest) where
+    -- a block that begins after this line
+    begins :
+        (k : Kind) → T (leb (stageNumber (form k .last)) 5) → T (inPlace k p) →
+        T (rowsNest false (waits (p .branches)) (rowsOf (suc n) rest)) → T (rowsNest false [] (drop (length (P .rows)) rs))
+    unfolding waits
+    begins k u i t =
+        rw (is, drop-length (P .rows) (rowsOf (suc n) rest))
+        (subst (λ (bs : List Branch). T (rowsNest false (waits bs) (rowsOf (suc n) rest))) (closed (not-body Γ vs l p closed n rest k u i)) t)
 
-lines-blocks :
-    (text : List Line) (p : Place) (s : Scope) (ls : List Line) (items : List Item) (n : ℕ) → TakenLines text p s ls items →
-    Closed p → MainInside p →
-    BodiesNest (partsFrom n items .methods) × (p .main ≡ false → T (rowsNest false [] (partsFrom n items .main)))
-unfolding Nests rows Ordered Blocks later partsFrom parts ended stageNumber
-lines-blocks text p s ls items n (none e) h g = (tt, λ f. absurd (subst T f (g .1 e)))
-lines-blocks text p s ls items n (line {p = q} {s = r} {l = l} {items = rest} L R) h g =
-    let Γ : Declarations = declarations text in
-    let vs : List Variable = seen r l in
-    let (o, c) = line-nests Γ vs l q h n rest (l .kind) (L .in-place) (L .within) in
-    let (_, i) = line-order Γ vs l q (λ z. true) g (l .kind) (L .in-place) in
-    let (ms, m) = lines-blocks text _ _ _ rest (suc n) R c i in
-    line-blocks Γ vs l q h n rest (l .kind) (L .in-place) (lines-nest text _ _ _ rest (suc n) R c) ms m
+  end-main : (m : Bool) → T (eqb (stageNumber (cond m afterMain Grammar.afterMethod)) 7) → T m
+  unfolding stageNumber
+  end-main true t = tt
+  end-main false t = t
+
+  line-blocks :
+      (Γ : Declarations) (vs : List Variable) (l : Line) (p : Place) (closed : Closed p) (n : ℕ) (rest : List Item) (P : Program)
+      (k : Kind) → rs ≡ P .rows ++ rowsOf n (itemOf Γ vs k l ∷ rest) → T (inPlace k p) →
+      T (rowsNest (ended (placeAfter k p)) (waits (placeAfter k p .branches)) (rowsOf (suc n) rest)) → Blocks p P →
+      Blocks (placeAfter k p) (withItem P (suc n) (itemOf Γ vs k l))
+  unfolding withItem withRequires withEnsures rowsOf itemOf placeAfter stageAfter branchesAfter ended stageNumber form stands statement isKind kindNumber
+  line-blocks Γ vs l p c n rest P Class is i t B = record { methods = B .methods; main = B .main; last = absurd }
+  line-blocks Γ vs l p c n rest P Field is i t B = record { methods = B .methods; main = B .main; last = absurd }
+  line-blocks Γ vs l p c n rest P Method is i t B =
+      record {
+        methods = bodies-more (P .methods) _ (B .methods) (begins Γ vs l p c n rest P is Method tt i t);
+        main = B .main;
+        last = absurd;
+      }
+  line-blocks Γ vs l p c n rest P Requires is i t B =
+      record { methods = bodies-last (withRequires _) (λ M. refl) (P .methods) (B .methods); main = B .main; last = absurd }
+  line-blocks Γ vs l p c n rest P Ensures is i t B =
+      record { methods = bodies-last (withEnsures _) (λ M. refl) (P .methods) (B .methods); main = B .main; last = absurd }
+  line-blocks Γ vs l p c n rest P Main is i t B =
+      record { methods = B .methods; main = λ u. begins Γ vs l p c n rest P is Main tt i t; last = absurd }
+  line-blocks Γ vs l p c n rest P Var is i t B = record { methods = B .methods; main = B .main; last = absurd }
+  line-blocks Γ vs l p c n rest P Set is i t B = record { methods = B .methods; main = B .main; last = absurd }
+  line-blocks Γ vs l p c n rest P Let is i t B = record { methods = B .methods; main = B .main; last = absurd }
+  line-blocks Γ vs l p c n rest P New is i t B = record { methods = B .methods; main = B .main; last = absurd }
+  line-blocks Γ vs l p c n rest P Call is i t B = record { methods = B .methods; main = B .main; last = absurd }
+  line-blocks Γ vs l p c n rest P Return is i t B = record { methods = B .methods; main = B .main; last = absurd }
+  line-blocks Γ vs l p c n rest P Assert is i t B = record { methods = B .methods; main = B .main; last = absurd }
+  line-blocks Γ vs l p c n rest P Release is i t B = record { methods = B .methods; main = B .main; last = absurd }
+  line-blocks Γ vs l p c n rest P If is i t B = record { methods = B .methods; main = B .main; last = absurd }
+  line-blocks Γ vs l p c n rest P Else is i t B = record { methods = B .methods; main = B .main; last = absurd }
+  line-blocks Γ vs l p c n rest P Join is i t B = record { methods = B .methods; main = B .main; last = absurd }
+  line-blocks Γ vs l p c n rest P End is i t B = record { methods = B .methods; main = B .main; last = end-main (p .main) }
+
+  lines-blocks :
+      (text : List Line) (p : Place) (s : Scope) (ls : List Line) (items : List Item) (n : ℕ) → TakenLines text p s ls items →
+      Closed p → (P : Program) → rs ≡ P .rows ++ rowsOf n items → Blocks p P →
+      BodiesNest rs (withItems P n items .methods) × T (rowsNest false [] (drop (withItems P n items .main) rs))
+  unfolding Nests rows withItems ended stageNumber
+  lines-blocks text p s ls items n (none e) h P is B = (B .methods, B .main (B .last e))
+  lines-blocks text p s ls items n (line {p = q} {s = r} {l = l} {items = rest} L R) h P is B =
+      let Γ : Declarations = declarations text in
+      let vs : List Variable = seen r l in
+      let (_, c) = line-nests Γ vs l q h n rest (l .kind) (L .in-place) (L .within) in
+      lines-blocks text _ _ _ rest (suc n) R c _ (is ∙ sym (with-row P n _ rest))
+      (line-blocks Γ vs l q h n rest P (l .kind) is (L .in-place) (lines-nest text _ _ _ rest (suc n) R c) B)
 
 pub read-blocks :
     (t : List ℕ) (items : List Item) → readText t ≡ accepted items →
-    BodiesNest (program items .methods) × T (rowsNest false [] (program items .main))
+    BodiesNest (program items .rows) (program items .methods)
+    × T (rowsNest false [] (drop (program items .main) (program items .rows)))
 unfolding program stageNumber
 read-blocks t items e =
     let (text, K) = read-taken t items e in
-    let (ms, m) = lines-blocks text firstPlace firstScope text items 0 K (λ e. refl) (λ u. absurd u, λ v. absurd v) in
-    (ms, m refl)
+    lines-blocks (withItems noProgram 0 items .rows) text firstPlace firstScope text items 0 K (λ e. refl) noProgram
+    (with-rows noProgram 0 items) (record { methods = tt; main = λ u. absurd u; last = λ v. absurd v })

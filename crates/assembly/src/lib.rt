@@ -1,1 +1,1 @@
-// Proofs only: a program put together line by line (proofs/Assembled).
+// Proofs only: the rows of a read text nest (proofs/ReadOrder).

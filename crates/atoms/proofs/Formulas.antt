@@ -26,7 +26,7 @@ use Rattle.tables.specs.Stores.{Kept}
 use Rattle.declared.specs.declared.Names.{Names}
 use Rattle.declared.specs.Meanings.{declarationsIn, variablesIn}
 use Rattle.declared.proofs.Scopes.{names-kept, variables-kept}
-use Rattle.assembly.specs.Flat.{Flat}
+use Rattle.rules.specs.Syntax.{Program}
 use Rattle.emit.specs.Puts.{putAtom}
 use Rattle.emit.specs.Holds as Holds
 use Rattle.emit.specs.Holds.{Declared, AtomOk, Building}
@@ -178,7 +178,7 @@ pub record Writing (t v : List ℕ) (c : Names) (from first : ℕ) (w : List ℕ
   pub done : Formula ℕ
   pub all : formulaAfter t v c from ≡ done ++ formulaAfter t v c r
   pub count : n ≡ first + length done
-  pub built : (D : Declared) (F : Flat) → Holds.Holds D v F first → Building D w F first n done
+  pub built : (D : Declared) (F : Program) → Holds.Holds D v F first → Building D w F first n done
   pub names : Kept names-at work-bytes v w
   pub size : length w ≡ length v
 

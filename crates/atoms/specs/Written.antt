@@ -15,7 +15,7 @@ use Rattle.tables.specs.Layout.{names-at, most-atom-rows}
 use Rattle.tables.specs.Stores.{Kept}
 use Rattle.declared.specs.declared.Names.{Names}
 use Rattle.declared.specs.Meanings.{Fits, declarationsIn, variablesIn}
-use Rattle.assembly.specs.Flat.{Flat}
+use Rattle.rules.specs.Syntax.{Program}
 use Rattle.emit.specs.Holds.{Declared, AtomOk, atomOf, Holds, Building}
 use Rattle.atoms.specs.declared.AtomRow.{AtomRow}
 use Rattle.atoms.specs.declared.Tried.{Tried}
@@ -61,7 +61,7 @@ module _ (t w : List ℕ) (c : Names) where
     pub fits : fitsAfter r ≡ fitsAfter e
     pub is : formulaAfter r ≡ atom ∷ formulaAfter e
     pub built :
-        (D : Declared) (F : Flat) (a : ℕ) (φ : Formula ℕ) → Building D w F a n φ → Building D w′ F a (n + 1) (φ ++ (atom ∷ []))
+        (D : Declared) (F : Program) (a : ℕ) (φ : Formula ℕ) → Building D w F a n φ → Building D w′ F a (n + 1) (φ ++ (atom ∷ []))
     pub names : Kept names-at work-bytes w w′
     pub size : length w′ ≡ length w
 
@@ -79,7 +79,7 @@ module _ (t w : List ℕ) (c : Names) where
   -- it is written as the atoms from n up to m
   pub record FormulaPut (r n : ℕ) (w′ : List ℕ) (m : ℕ) : Type 0 where
     pub count : m ≡ n + length (formulaAfter r)
-    pub built : (D : Declared) (F : Flat) → Holds D w F n → Building D w′ F n m (formulaAfter r)
+    pub built : (D : Declared) (F : Program) → Holds D w F n → Building D w′ F n m (formulaAfter r)
     pub names : Kept names-at work-bytes w w′
     pub size : length w′ ≡ length w
 

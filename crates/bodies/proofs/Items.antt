@@ -27,7 +27,8 @@ use Rattle.tables.specs.Decode.{atomsFrom}
 use Rattle.tables.specs.Stores.{Kept}
 use Rattle.declared.specs.declared.Names.{Names}
 use Rattle.declared.specs.Meanings.{Fits, declarationsIn, variablesIn, scopeIn}
-use Rattle.assembly.specs.Flat.{Flat, flatWith}
+use Rattle.rules.specs.Syntax.{Program}
+use Rattle.rules.specs.Reading.{withItem}
 use Rattle.emit.specs.Holds.{Holds}
 use Rattle.pass.specs.declared.Pass.{Pass}
 use Rattle.pass.specs.Passes.{counts, after, withBlock, namesAfter, seenBy, hasAtoms, isFramed, joinFormula, framedFormula, item, Stands, lineAfter, isGood, isGoodHere, BadLine}
@@ -247,11 +248,11 @@ module _ {t w : List ℕ} {p : Pass} {k r : ℕ} (x : Follows t w p k r) where
 module _ {t w : List ℕ} {p : Pass} {k r : ℕ} (x : Follows t w p k r) {c : Names} (g : c ≡ seenBy (kindNumbered k) (p .names)) where
   -- the tables with the item z of the next line, which is the line's
   placed :
-      (K : Kind) (e : kindNumbered k ≡ K) {z : Item} {v : List ℕ} {m : ℕ} (F : Flat) →
+      (K : Kind) (e : kindNumbered k ≡ K) {z : Item} {v : List ℕ} {m : ℕ} (F : Program) →
       z ≡ itemOf (declarationsIn t w c) (variablesIn t w c) K (lineWith K (more (drop r t))) →
-      Holds (counts (p .names)) v (flatWith F (p .line + 1) z) m → Holds (counts (p .names)) v (flatWith F (suc (p .line)) (item t w p (lineAfter t r k))) m
+      Holds (counts (p .names)) v (withItem F (p .line + 1) z) m → Holds (counts (p .names)) v (withItem F (suc (p .line)) (item t w p (lineAfter t r k))) m
   placed K e {z} {v} {m} F i h =
-      subst (λ G. Holds (counts (p .names)) v G m) (λ j. flatWith F (add-one (p .line) j) ((i ∙ sym (item-as x g K e)) j)) h
+      subst (λ G. Holds (counts (p .names)) v G m) (λ j. withItem F (add-one (p .line) j) ((i ∙ sym (item-as x g K e)) j)) h
 
   seen-counts : counts c ≡ counts (p .names)
   unfolding seenBy
@@ -281,7 +282,7 @@ module _ {t w : List ℕ} {p : Pass} {k r : ℕ} (x : Follows t w p k r) {c : Na
             (subst
             (λ d.
             Holds d v
-            (flatWith F (p .line + 1) (itemOf (declarationsIn t w c) (variablesIn t w c) (kindNumbered k) (lineAfter t r k))) (p .atoms))
+            (withItem F (p .line + 1) (itemOf (declarationsIn t w c) (variablesIn t w c) (kindNumbered k) (lineAfter t r k))) (p .atoms))
             seen-counts (y .built F (p .atoms) (s .rows) (subst (λ d. Holds d w F (p .atoms)) (sym seen-counts) (s .holds))));
         formula = λ f F s. true-false (sym (sym (not-framed k a b n) ∙ f));
         names = y .names;
@@ -298,8 +299,8 @@ module _ {t w : List ℕ} {p : Pass} {k r : ℕ} (x : Follows t w p k r) {c : Na
   -- the formula φ is written, and the item with it
   pub formula-put :
       {K : Kind} {z : Formula ℕ → Item} → Formulaic K z → (e : kindNumbered k ≡ K) → {v : List ℕ} {m : ℕ} → m ≡ p .atoms + length φ →
-      ((F : Flat) → Stands t w p F → Holds (counts (p .names)) v (flatWith F (p .line + 1) (z φ)) m) →
-      ((F : Flat) → Stands t w p F → atomsFrom v (p .atoms) (m - p .atoms) ≡ φ) → Kept names-at work-bytes w v → length v ≡ length w →
+      ((F : Program) → Stands t w p F → Holds (counts (p .names)) v (withItem F (p .line + 1) (z φ)) m) →
+      ((F : Program) → Stands t w p F → atomsFrom v (p .atoms) (m - p .atoms) ≡ φ) → Kept names-at work-bytes w v → length v ≡ length w →
       ItemPut t w p (lineAfter t r k) v m
   unfolding formulaAfter
   formula-put {K} {z} y e count built formula names size =

@@ -20,7 +20,8 @@ use Rattle.declared.specs.declared.Above.{Above}
 use Rattle.declared.specs.Rows.{rows}
 use Rattle.declared.specs.Meanings.{declarationsIn, ownVariables, blockIn, scopeIn}
 use Rattle.declared.proofs.Scopes.{names-kept, scope-kept}
-use Rattle.assembly.specs.Flat.{Flat, flatWith}
+use Rattle.rules.specs.Syntax.{Program}
+use Rattle.rules.specs.Reading.{withItem}
 use Rattle.emit.specs.Holds.{Holds}
 use Rattle.emit.proofs.Runs.{end-length, last-length}
 use Rattle.pass.specs.declared.Pass.{Pass}
@@ -69,19 +70,19 @@ module _ (k : Kind) (o : Quiet k) where
   names-is c = rw (o .method, o .var)
 
 -- WHAT GROWS: the rows, or the last method
-pub record Grown (F G : Flat) (n : ℕ) : Type 0 where
+pub record Grown (F G : Program) (n : ℕ) : Type 0 where
   pub classes : G .classes ≡ F .classes
   pub methods : length (G .methods) ≡ length (F .methods)
   pub rows : length (G .rows) ≡ n
   pub main : G .main ≡ F .main
 
-row-grown : (F : Flat) (l : ℕ) (s : Stmt) → Grown F (flatWith F l (aStatement s)) (suc (length (F .rows)))
-unfolding flatWith
+row-grown : (F : Program) (l : ℕ) (s : Stmt) → Grown F (withItem F l (aStatement s)) (suc (length (F .rows)))
+unfolding withItem
 row-grown F l s = record { classes = refl; methods = refl; rows = end-length (F .rows) _; main = refl }
 
 pub statement-grown :
-    (Γ : Declarations) (vs : List Variable) (k : Kind) → 8 ≤ kindNumber k → (F : Flat) (n : ℕ) (l : Line) →
-    Grown F (flatWith F n (itemOf Γ vs k l)) (suc (length (F .rows)))
+    (Γ : Declarations) (vs : List Variable) (k : Kind) → 8 ≤ kindNumber k → (F : Program) (n : ℕ) (l : Line) →
+    Grown F (withItem F n (itemOf Γ vs k l)) (suc (length (F .rows)))
 unfolding kindNumber itemOf
 statement-grown Γ vs Grammar.Class e F n l = absurd (omega (arith, e))
 statement-grown Γ vs Grammar.Field e F n l = absurd (omega (arith, e))
@@ -102,12 +103,12 @@ statement-grown Γ vs Grammar.Else e F n l = row-grown F n _
 statement-grown Γ vs Grammar.Join e F n l = row-grown F n _
 statement-grown Γ vs Grammar.End e F n l = row-grown F n _
 
-pub requires-grown : (Γ : Declarations) (vs : List Variable) (F : Flat) (n : ℕ) (l : Line) → Grown F (flatWith F n (itemOf Γ vs Grammar.Requires l)) (length (F .rows))
-unfolding flatWith itemOf
+pub requires-grown : (Γ : Declarations) (vs : List Variable) (F : Program) (n : ℕ) (l : Line) → Grown F (withItem F n (itemOf Γ vs Grammar.Requires l)) (length (F .rows))
+unfolding withItem itemOf
 requires-grown Γ vs F n l = record { classes = refl; methods = last-length _ (F .methods); rows = refl; main = refl }
 
-pub ensures-grown : (Γ : Declarations) (vs : List Variable) (F : Flat) (n : ℕ) (l : Line) → Grown F (flatWith F n (itemOf Γ vs Grammar.Ensures l)) (length (F .rows))
-unfolding flatWith itemOf
+pub ensures-grown : (Γ : Declarations) (vs : List Variable) (F : Program) (n : ℕ) (l : Line) → Grown F (withItem F n (itemOf Γ vs Grammar.Ensures l)) (length (F .rows))
+unfolding withItem itemOf
 ensures-grown Γ vs F n l = record { classes = refl; methods = last-length _ (F .methods); rows = refl; main = refl }
 
 -- WHAT STANDS
@@ -175,11 +176,11 @@ module _ (t w w′ : List ℕ) (p : Pass) (l : Line) (o : Quiet (l .kind)) (read
     fields-after = ap (λ m. m .fields) ((λ j. scopeIn t w′ (counted .names j) (counted .above j) .members) ∙ same-members)
 
     stands-after :
-        (F : Flat) → Stands t w p F → Grown F (flatWith F (suc (p .line)) (item t w p l)) (q .rows) →
-        Stands t w′ q (flatWith F (suc (p .line)) (item t w p l))
+        (F : Program) → Stands t w p F → Grown F (withItem F (suc (p .line)) (item t w p l)) (q .rows) →
+        Stands t w′ q (withItem F (suc (p .line)) (item t w p l))
     unfolding lastClass
     stands-after F s g =
-        let G : Flat = flatWith F (suc (p .line)) (item t w p l) in
+        let G : Program = withItem F (suc (p .line)) (item t w p l) in
         record {
           holds = subst (λ d. Holds d w′ G (q .atoms)) (sym (ap counts (counted .names) ∙ same-counts)) (y .built F s);
           rows = g .rows;
@@ -192,7 +193,7 @@ module _ (t w w′ : List ℕ) (p : Pass) (l : Line) (o : Quiet (l .kind)) (read
         }
 
     pub line-put :
-        ((F : Flat) → Stands t w p F → Grown F (flatWith F (suc (p .line)) (item t w p l)) (q .rows)) → LinePut t w p l w′ q
+        ((F : Program) → Stands t w p F → Grown F (withItem F (suc (p .line)) (item t w p l)) (q .rows)) → LinePut t w p l w′ q
     line-put grown =
         record {
           counted = counted;

@@ -15,7 +15,8 @@ use Rattle.rules.specs.Items.{itemOf}
 use Rattle.lines.specs.Rows.{kindNumbered}
 use Rattle.lines.proofs.Rows.{number-of-kind}
 use Rattle.declared.specs.Meanings.{declarationsIn, variablesIn}
-use Rattle.assembly.specs.Flat.{Flat, flatWith}
+use Rattle.rules.specs.Syntax.{Program}
+use Rattle.rules.specs.Reading.{withItem}
 use Rattle.pass.specs.declared.Pass.{Pass}
 use Rattle.pass.specs.Passes.{withBlock, namesAfter, seenBy, item, Counts, LinePut, lineAfter}
 use Rattle.bodies.specs.Bodies.{Follows, ItemPut}
@@ -51,7 +52,7 @@ module _ {t w : List ℕ} {p : Pass} {k r : ℕ} (x : Follows t w p k r) {v : Li
       line-put t w v p (lineAfter t r k) o (x .ready) (y .names) q y
       (counted o n u (rows-are true (q .rows) (is-statement k a b) (rows ∙ add-one (p .rows))) m l)
       (λ F s.
-      subst (Grown F (flatWith F (suc (p .line)) (item t w p (lineAfter t r k)))) (let e : suc (length (F .rows)) ≡ q .rows = omega (arith, s .rows, rows) in e)
+      subst (Grown F (withItem F (suc (p .line)) (item t w p (lineAfter t r k)))) (let e : suc (length (F .rows)) ≡ q .rows = omega (arith, s .rows, rows) in e)
       (statement-grown (declarationsIn t w (p .names)) (variablesIn t w (seenBy (kindNumbered k) (p .names))) (kindNumbered k) big F (suc (p .line)) (lineAfter t r k)))
 
   stays : 4 ≤ k → k ≤ 5 → (o : Quiet (kindNumbered k)) → namesAfter (kindNumbered k) (p .names) ≡ p .names
@@ -62,11 +63,11 @@ module _ {t w : List ℕ} {p : Pass} {k r : ℕ} (x : Follows t w p k r) {v : Li
       (⊎-elim (λ e. ap (isKind Grammar.End) (kind-as Grammar.Requires k e)) (λ e. ap (isKind Grammar.End) (kind-as Grammar.Ensures k e)) (header-kind k a b))
 
   header-grown :
-      4 ≤ k → k ≤ 5 → (Γ : Declarations) (vs : List Variable) (F : Flat) (n : ℕ) →
-      Grown F (flatWith F n (itemOf Γ vs (kindNumbered k) (lineAfter t r k))) (length (F .rows))
+      4 ≤ k → k ≤ 5 → (Γ : Declarations) (vs : List Variable) (F : Program) (n : ℕ) →
+      Grown F (withItem F n (itemOf Γ vs (kindNumbered k) (lineAfter t r k))) (length (F .rows))
   unfolding kindNumber
   header-grown a b Γ vs F n =
-      let P : Kind → Type 0 = λ K. Grown F (flatWith F n (itemOf Γ vs K (lineAfter t r k))) (length (F .rows)) in
+      let P : Kind → Type 0 = λ K. Grown F (withItem F n (itemOf Γ vs K (lineAfter t r k))) (length (F .rows)) in
       ⊎-elim (λ e. subst P (sym (kind-as Grammar.Requires k e)) (requires-grown Γ vs F n (lineAfter t r k)))
       (λ e. subst P (sym (kind-as Grammar.Ensures k e)) (ensures-grown Γ vs F n (lineAfter t r k))) (header-kind k a b)
 
@@ -79,5 +80,5 @@ module _ {t w : List ℕ} {p : Pass} {k r : ℕ} (x : Follows t w p k r) {v : Li
       line-put t w v p (lineAfter t r k) o (x .ready) (y .names) q y
       (counted o (n ∙ sym (stays a b o)) u (rows-are false (q .rows) (no-statement k (omega arith) (omega arith)) rows) m l)
       (λ F s.
-      subst (Grown F (flatWith F (suc (p .line)) (item t w p (lineAfter t r k)))) (s .rows ∙ sym rows)
+      subst (Grown F (withItem F (suc (p .line)) (item t w p (lineAfter t r k)))) (s .rows ∙ sym rows)
       (header-grown a b (declarationsIn t w (p .names)) (variablesIn t w (seenBy (kindNumbered k) (p .names))) F (suc (p .line))))

@@ -11,7 +11,8 @@ use Rattle.lines.specs.Rows.{kindNumbered}
 use Rattle.tables.specs.Layout.{names-at}
 use Rattle.tables.specs.Decode.{atomsFrom}
 use Rattle.tables.specs.Stores.{Kept}
-use Rattle.assembly.specs.Flat.{Flat, flatWith}
+use Rattle.rules.specs.Syntax.{Program}
+use Rattle.rules.specs.Reading.{withItem}
 use Rattle.emit.specs.Holds.{Holds}
 use Rattle.pass.specs.declared.Pass.{Pass}
 use Rattle.pass.specs.Passes.{counts, hasAtoms, isFramed, framedFormula, item, Ready, Stands, Room, lineAfter, isGoodHere, BadLine}
@@ -28,9 +29,9 @@ pub record Follows (t w : List ℕ) (p : Pass) (k r : ℕ) : Type 0 where
 pub record ItemPut (t w : List ℕ) (p : Pass) (l : Line) (w′ : List ℕ) (m : ℕ) : Type 0 where
   pub grown : p .atoms ≤ m
   pub count : m ≤ p .atoms + cond (hasAtoms (l .kind)) most-atoms 0
-  pub built : (F : Flat) → Stands t w p F → Holds (counts (p .names)) w′ (flatWith F (suc (p .line)) (item t w p l)) m
+  pub built : (F : Program) → Stands t w p F → Holds (counts (p .names)) w′ (withItem F (suc (p .line)) (item t w p l)) m
   pub formula :
-      isFramed (l .kind) ≡ true → (F : Flat) → Stands t w p F → atomsFrom w′ (p .atoms) (m - p .atoms) ≡ framedFormula (item t w p l)
+      isFramed (l .kind) ≡ true → (F : Program) → Stands t w p F → atomsFrom w′ (p .atoms) (m - p .atoms) ≡ framedFormula (item t w p l)
   pub names : Kept names-at work-bytes w w′
   pub size : length w′ ≡ length w
 

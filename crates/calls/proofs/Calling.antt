@@ -88,7 +88,7 @@ pub record Prepared (w : List ℕ) (c : Machine) (m : Config) (method : ℕ) (G 
   pub is-method : methodOf w (suc (length (m .callers))) ≡ method
   pub size : length (G .values) ≡ frame-variables
   pub values : (x : ℕ) → x < frame-variables → valueOf G x ≡ variableAt w (frameAt (suc (length (m .callers)))) x
-  pub rows : G .rows ≡ drop (firstRowAt w method) (allRows w)
+  pub first : G .row ≡ firstRowAt w method
   pub ensures : G .ensures ≡ ensuresAt w method
   pub held : G .held ≡ m .frame .held
 
@@ -154,7 +154,7 @@ module _ {w : List ℕ} {c : Machine} {m : Config} {method : ℕ} {G : Frame} (R
         record {
           frame =
               rw (h, r)
-              (frame-holding (without A (m .frame .held)) (kept-frame i .variables) (all-same w w′ new-tables (R .tables))
+              (frame-holding (without A (m .frame .held)) (kept-frame i .variables)
               (rows-count-same w w′ new-tables) lost (R .frame));
           below = rw h (omega (arith, R .last));
           at-call = rw r (kind-same w w′ new-tables (c .row) (omega (arith, R .frame .row-fits, R .tables .rows)) ∙ k);
@@ -169,7 +169,7 @@ module _ {w : List ℕ} {c : Machine} {m : Config} {method : ℕ} {G : Frame} (R
         record {
           size = N .size;
           values = λ x l. N .values x l ∙ sym (kept-frame (suc (length (m .callers))) .variables x l);
-          rows = N .rows ∙ ap (drop (firstRowAt w method)) (sym (all-same w w′ new-tables (R .tables)));
+          row-is = N .first;
           row-fits = omega (arith, R .tables .method-fits method (N .exists) .block .0, rows-count-same w w′ new-tables);
           held = gained;
           numbered = omega arith;
@@ -276,7 +276,7 @@ module _ {w : List ℕ} {c : Machine} {m : Config} (R : Represents w c m) (y z m
             ap (λ (n : ℕ). getD (entryValues n (valueOf (m .frame) z)) x 0) this-is
             ∙ (ap (λ (n : ℕ). getD (entryValues o n) x 0) parameter-is
             ∙ (framed-values w A B (c .holder) (c .row) method o p next room-left lo lp x l ∙ ap (λ (n : ℕ). variableAt u n x) b-is));
-        rows = sym (rw (first-row-same w u call-tables method lm, all-same w u call-tables (R .tables)));
+        first = sym (first-row-same w u call-tables method lm);
         ensures = sym (ensures-same w u call-tables (R .tables) method exists);
         held = refl;
       }

@@ -36,7 +36,7 @@ use Rattle.stores.proofs.Reading.{Placed, cell-placed, cell-small, cell-beyond,
 use Rattle.steps.proofs.Seeing.{bool-iff, at}
 use Rattle.stores.proofs.Regions.{Only, only-tables, only-word}
 use Rattle.steps.proofs.Keeping.{SameObjects, same-frame, cell-kept, fits-kept, ensures-kept, callers-kept}
-use Rattle.steps.proofs.Moves.{moved-to, tail-is, next-fits, follow-stop, follow-on}
+use Rattle.steps.proofs.Moves.{moved-to, next-is, next-fits, follow-stop, follow-on}
 use Rattle.steps.proofs.Changes.{put-variable}
 use Rattle.steps.proofs.Steps.{frame-holding}
 use Rattle.calls.proofs.Returning.{among-append}
@@ -375,7 +375,7 @@ module _ {w : List ℕ} {c : Machine} {m : Config} (R : Represents w c m) (class
         most = R .most;
         frame =
             frame-holding (m .frame .held ++ gained) (same-frame values-at frames-at w w′ (length (m .callers)) s (inr (omega arith)) .variables)
-            (all-same w w′ t (R .tables)) (rows-count-same w w′ t) more-held (R .frame);
+            (rows-count-same w w′ t) more-held (R .frame);
         ensures =
             ensures-kept w w′ t (R .tables) _ (m .frame) (same-frame values-at frames-at w w′ (length (m .callers)) s (inr (omega arith)) .method)
             (R .ensures);
@@ -408,7 +408,7 @@ module _ {w : List ℕ} {c : Machine} {m : Config} (R : Represents w c m) (class
       le-leb (fieldsOf (m .heap) + length (classAt w class)) mf (omega (arith, R .heap .fields-count, class-length w class)) in
       let o : suc (length (m .heap)) ≡ c .objects + 1 = omega (arith, R .heap .count) in
       follow-on R _ _ _ (rw (a, b) (ap (λ (i : ℕ). ok (record { heap = m .heap ++ (cells ∷ []); frame = advance (bind x i (holding (m .frame .held ++ gained) (m .frame))); callers = m .callers })) o)) refl
-      (moved-to R2 (c .row + 1) (c .steps + 1) _ (next-fits R2 (λ z. k (sym k2 ∙ z))) (tail-is R2) (omega arith))
+      (moved-to R2 (c .row + 1) (c .steps + 1) _ (next-fits R2 (λ z. k (sym k2 ∙ z))) (next-is R2) (omega arith))
 
 -- the heap is full
 pub new-stop :

@@ -9,16 +9,16 @@ use lib.Dec.{T, eqb}
 use lib.ListN.{length}
 use borrow.Author.Tests.{eq-eqb}
 use Rattle.rules.specs.Base.{Try, ok, no, _>>=_}
-use Rattle.rules.specs.Syntax.{Row, result-variable}
+use Rattle.rules.specs.Syntax.{Row, rowNumbered, result-variable}
 use Rattle.rules.specs.Answers.{Stop}
-use Rattle.rules.specs.Machine.{Heap, Frame, Location, holds, among, valueOf, footprint, advance, bind, holding, withFrame, rowOf, targetOf, returned, endStep}
+use Rattle.rules.specs.Machine.{Heap, Frame, Location, holds, among, valueOf, footprint, advance, bind, holding, withFrame, statementOf, targetOf, returned, endStep}
 use Rattle.rules.specs.declared.Machine.{Machine}
 use Rattle.rules.proofs.Lists.{T-true}
 use Rattle.rules.proofs.Sets.{Holds, footprint-held, in-append, in-left, in-right}
 use Rattle.tables.specs.Layout.{frame-variables, holders-at, seconds-at, frames-at}
-use Rattle.tables.specs.Decode.{byteAt, halfAt, methodPlace, rowAt, kindAt, xAt, rowCount, methodCount, atomsFrom, atomCount, ensuresAt}
+use Rattle.tables.specs.Decode.{programIn, byteAt, halfAt, methodPlace, rowAt, kindAt, xAt, rowCount, methodCount, atomsFrom, atomCount, ensuresAt}
 use Rattle.tables.specs.Stores.{SameTables, putWord}
-use Rattle.tables.proofs.Rows.{row-cons}
+use Rattle.tables.proofs.Rows.{row-in}
 use Rattle.tables.proofs.Bytes.{same-trans, same-refl}
 use Rattle.tables.proofs.Decoding.{tables-same, all-same, rows-count-same, kind-same}
 use Rattle.stores.specs.declared.Fault.{Fault}
@@ -30,7 +30,7 @@ use Rattle.calls.specs.Calls.{back}
 use Rattle.steps.proofs.Seeing.{Matches, FormulaOk, no-footprint, ok-footprint, atoms-ok, bool-iff}
 use Rattle.stores.proofs.Regions.{Only, only-tables, only-word, only-marked}
 use Rattle.steps.proofs.Keeping.{same-frame, ensures-kept, callers-kept}
-use Rattle.steps.proofs.Moves.{sees, moved-to, tail-is, next-fits, follow-stop, follow-on}
+use Rattle.steps.proofs.Moves.{sees, moved-to, next-is, next-fits, follow-stop, follow-on}
 use Rattle.steps.proofs.Changes.{put-variable, marks-only, holder-marked, taken-held, others-kept, heap-marked}
 use Rattle.steps.proofs.Steps.{frame-holding}
 use Rattle.steps.proofs.Doing.{does-on, frames-fit}
@@ -47,9 +47,8 @@ among-append p A B = go (among p B) refl
         (λ t. ⊎-elim (λ a. a) (λ b. absurd (subst T e b)) (in-append p A B t)) (λ t. in-left p A B t)
 
 -- the row of a frame
-pub row-of : {w : List ℕ} {n b number row : ℕ} {F : Frame} → FrameIs w n b number row F → rowOf F ≡ rowAt w row
-unfolding rowOf
-row-of {w} {row = row} I = rw (I .rows, row-cons w row (I .row-fits))
+pub row-of : {w : List ℕ} {n b number row : ℕ} {F : Frame} → FrameIs w n b number row F → rowNumbered (programIn w) (F .row) ≡ rowAt w row
+row-of {w} {row = row} I = rw (I .row-is) (row-in w row (I .row-fits))
 
 module _ {w : List ℕ} {c : Machine} {h : _} {F C : Frame} {Cs : List Frame}
     (R : Represents w c (record { heap = h; frame = F; callers = C ∷ Cs })) where
@@ -81,7 +80,7 @@ module _ {w : List ℕ} {c : Machine} {h : _} {F C : Frame} {Cs : List Frame}
         most = omega (arith, R .most);
         frame =
             frame-holding (C .held ++ A) (same-frame holders-at seconds-at w w′ (length Cs) s (inr (omega arith)) .variables)
-            (all-same w w′ t (R .tables)) (rows-count-same w w′ t) (λ p. more p) (caller .frame);
+            (rows-count-same w w′ t) (λ p. more p) (caller .frame);
         ensures =
             ensures-kept w w′ t (R .tables) _ C (same-frame holders-at seconds-at w w′ (length Cs) s (inr (omega arith)) .method)
             (caller .ensures);
@@ -126,8 +125,8 @@ module _ {w : List ℕ} {c : Machine} {h : _} {F C : Frame} {Cs : List Frame}
       Follows (putWord (marked w ks (savedHolder w (length Cs))) (frameAt (length Cs) + xAt w (savedRow w (length Cs)) * 4) v) c
       (Turn.On (back c (savedHolder w (length Cs)) (savedRow w (length Cs) + 1)))
       (record { heap = h; frame = F; callers = C ∷ Cs })
-      (endStep (record { heap = h; frame = F; callers = C ∷ Cs }) (C ∷ Cs))
-  unfolding endStep returned withFrame advance bind holding _>>=_ rowAt
+      (endStep (programIn w) (record { heap = h; frame = F; callers = C ∷ Cs }) (C ∷ Cs))
+  unfolding endStep returned withFrame advance bind holding _>>=_ rowAt statementOf
   returns-on ks v l lv ev lx e =
       let n : ℕ = savedHolder w (length Cs) in
       let x : ℕ = xAt w (savedRow w (length Cs)) in
@@ -139,9 +138,9 @@ module _ {w : List ℕ} {c : Machine} {h : _} {F C : Frame} {Cs : List Frame}
       let t2 : SameTables (marked w ks n) (putWord (marked w ks n) (frameAt (length Cs) + x * 4) v) =
       only-tables (only-word frames-at (frames-at + 8192) (marked w ks n) (frameAt (length Cs) + x * 4) v (omega arith) (omega (arith, R .most, R .frames))) (omega arith) in
       let k : kindAt (putWord (marked w ks n) (frameAt (length Cs) + x * 4) v) (savedRow w (length Cs)) ≡ 11 = row-stays _ (same-trans t1 t2) in
-      let target : targetOf (rowOf C .stmt) ≡ x = ap (λ (r : Row). targetOf (r .stmt)) (row-of (caller .frame)) ∙ target-is in
+      let target : targetOf (statementOf (programIn w) C) ≡ x = ap (λ (r : Row). targetOf (r .stmt)) (row-of (caller .frame)) ∙ target-is in
       follow-on R (back c n (savedRow w (length Cs) + 1)) _ _ (rw (a′, target, ← ev)) refl
-      (moved-to R2 (savedRow w (length Cs) + 1) (c .steps + 1) _ (next-fits R2 (λ z. omega (arith, z, k))) (tail-is R2) (omega arith))
+      (moved-to R2 (savedRow w (length Cs) + 1) (c .steps + 1) _ (next-fits R2 (λ z. omega (arith, z, k))) (next-is R2) (omega arith))
     where
       target-is : targetOf (rowAt w (savedRow w (length Cs)) .stmt) ≡ xAt w (savedRow w (length Cs))
       target-is = call-target w (savedRow w (length Cs)) (caller .at-call)
@@ -149,23 +148,23 @@ module _ {w : List ℕ} {c : Machine} {h : _} {F C : Frame} {Cs : List Frame}
   returns-stop :
       (s : Fault) → takeIn w (viewOf c) (ensuresAt w (methodOf w (suc (length Cs)))) [] ≡ no (stopOf s) →
       Follows w c (Turn.Stopped s) (record { heap = h; frame = F; callers = C ∷ Cs })
-      (endStep (record { heap = h; frame = F; callers = C ∷ Cs }) (C ∷ Cs))
+      (endStep (programIn w) (record { heap = h; frame = F; callers = C ∷ Cs }) (C ∷ Cs))
   unfolding endStep _>>=_
   returns-stop s e =
-      follow-stop R s _ (ap (λ (t : Try Stop (List Location)). t >>= λ A. ok (returned (record { heap = h; frame = F; callers = C ∷ Cs }) C Cs A)) (ap (footprint h F) ensures-is ∙ no-footprint (sees R) _ (stopOf s) ensures-ok e))
+      follow-stop R s _ (ap (λ (t : Try Stop (List Location)). t >>= λ A. ok (returned (programIn w) (record { heap = h; frame = F; callers = C ∷ Cs }) C Cs A)) (ap (footprint h F) ensures-is ∙ no-footprint (sees R) _ (stopOf s) ensures-ok e))
 
   pub saved-fits : (savedRow w (length Cs) < rowCount w) × (methodOf w (suc (length Cs)) < methodCount w)
   saved-fits = (caller .frame .row-fits, method-fits)
 
 -- THE CODE
 module _ {w : List ℕ} {c : Machine} (ready : Ready w c) where
-  pub end-done : c .frames ≡ 1 → Does w c w Turn.Done (λ m. endStep m (m .callers))
+  pub end-done : c .frames ≡ 1 → Does w c w Turn.Done (λ m. endStep (programIn w) m (m .callers))
   unfolding endStep
   end-done e = record { tables = same-refl w; follows = λ m R. go (m .heap) (m .frame) (m .callers) R }
     where
       go :
           (h : Heap) (F : Frame) (Fs : List Frame) → Represents w c (record { heap = h; frame = F; callers = Fs }) →
-          Follows w c Turn.Done (record { heap = h; frame = F; callers = Fs }) (endStep (record { heap = h; frame = F; callers = Fs }) Fs)
+          Follows w c Turn.Done (record { heap = h; frame = F; callers = Fs }) (endStep (programIn w) (record { heap = h; frame = F; callers = Fs }) Fs)
       go h F [] R = (refl, R)
       go h F (C ∷ Cs) R = absurd (omega (arith, R .frames))
 
@@ -184,12 +183,12 @@ module _ {w : List ℕ} {c : Machine} (ready : Ready w c) where
 
     pub end-stops :
         (s : Fault) → takeIn w (viewOf c) (ensuresAt w (methodOf w (c .frames - 1))) [] ≡ no (stopOf s) →
-        Does w c w (Turn.Stopped s) (λ m. endStep m (m .callers))
+        Does w c w (Turn.Stopped s) (λ m. endStep (programIn w) m (m .callers))
     end-stops s e = record { tables = same-refl w; follows = λ m R. go (m .heap) (m .frame) (m .callers) R }
       where
         go :
             (h : Heap) (F : Frame) (Fs : List Frame) → Represents w c (record { heap = h; frame = F; callers = Fs }) →
-            Follows w c (Turn.Stopped s) (record { heap = h; frame = F; callers = Fs }) (endStep (record { heap = h; frame = F; callers = Fs }) Fs)
+            Follows w c (Turn.Stopped s) (record { heap = h; frame = F; callers = Fs }) (endStep (programIn w) (record { heap = h; frame = F; callers = Fs }) Fs)
         go h F [] R = absurd (many (R .frames))
         go h F (C ∷ Cs) R =
             let j : suc (length Cs) ≡ c .frames - 1 = omega (arith, R .frames) in
@@ -212,7 +211,7 @@ module _ {w : List ℕ} {c : Machine} (ready : Ready w c) where
         takeIn w (viewOf c) (ensuresAt w (methodOf w (c .frames - 1))) [] ≡ ok ks → n ≡ savedHolder w (c .frames - 2) → n < 4294967296 →
         r ≡ savedRow w (c .frames - 2) → x ≡ xAt w r → v ≡ variableAt w (frameAt (c .frames - 1)) result-variable → v < 4294967296 →
         w′ ≡ putWord (marked w ks n) (frameAt (c .frames - 2) + x * 4) v → d ≡ back c n (r + 1) →
-        Does w c w′ (Turn.On d) (λ m. endStep m (m .callers))
+        Does w c w′ (Turn.On d) (λ m. endStep (programIn w) m (m .callers))
     leave-does ks n r x v {w′} {d} e en ln er ex ev lv p q =
         does-on p q
         (same-trans (only-tables (only-marked w ks n (end-small ks e)) (omega arith))
@@ -228,7 +227,7 @@ module _ {w : List ℕ} {c : Machine} (ready : Ready w c) where
         go :
             (h : Heap) (F : Frame) (Fs : List Frame) → Represents w c (record { heap = h; frame = F; callers = Fs }) →
             Follows (putWord (marked w ks n) (frameAt (c .frames - 2) + x * 4) v) c (Turn.On (back c n (r + 1)))
-            (record { heap = h; frame = F; callers = Fs }) (endStep (record { heap = h; frame = F; callers = Fs }) Fs)
+            (record { heap = h; frame = F; callers = Fs }) (endStep (programIn w) (record { heap = h; frame = F; callers = Fs }) Fs)
         go h F [] R = absurd (many (R .frames))
         go h F (C ∷ Cs) R =
             let i : c .frames - 2 ≡ length Cs = omega (arith, R .frames) in

@@ -9,7 +9,7 @@ ghost use Prim.Native.Nat.{_+_, _*_, _-_, _≤_, _<_};
 ghost use lib.ListN.{take};
 ghost use Rattle.rules.specs.Limits.{most-statements, most-frames, heap-objects, heap-fields};
 ghost use Rattle.rules.specs.Machine.{took, on, newStep, callStep, endStep};
-ghost use Rattle.tables.specs.Decode.{xAt, yAt, zAt, memberAt, methodAt, classAt};
+ghost use Rattle.tables.specs.Decode.{programIn, xAt, yAt, zAt, memberAt, methodAt, classAt};
 ghost use Rattle.steps.specs.States.{Ready, AtKind, Does, atRow};
 ghost use Rattle.calls.specs.Calls.{Leaving, Entering, Enters, Calling, Admits, back, called, larger};
 
@@ -32,7 +32,7 @@ fn back_in(c: Machine, holder: u32, row: u32) -> Machine
 // The caller goes on with the cells that ensures took, and its x is the result.
 fn leave(work: &mut [u8], c: Machine, cells: &[usize; 8], n: usize) -> Turn
     requires { ⌜ Leaving (now work) c (now cells) n ⌝ }
-    ensures { λ r. ⌜ Does (now (work .entry)) c (now (work .exit)) r (λ m. endStep m (m .callers)) ⌝ }
+    ensures { λ r. ⌜ Does (now (work .entry)) c (now (work .exit)) r (λ m. endStep (programIn (now (work .entry))) m (m .callers)) ⌝ }
 {
     let i = (c.frames - 2) as usize;
     let at = Layout::FRAMES + i * Layout::FRAME_BYTES;
@@ -48,7 +48,7 @@ fn leave(work: &mut [u8], c: Machine, cells: &[usize; 8], n: usize) -> Turn
 // `end`: "ensures, then the caller gains its footprint, and x the result; the rest of that A is lost".
 pub fn end_step(work: &mut [u8], c: Machine) -> Turn
     requires { ⌜ Ready (now work) c ⌝ }
-    ensures { λ r. ⌜ Does (now (work .entry)) c (now (work .exit)) r (λ m. endStep m (m .callers)) ⌝ }
+    ensures { λ r. ⌜ Does (now (work .entry)) c (now (work .exit)) r (λ m. endStep (programIn (now (work .entry))) m (m .callers)) ⌝ }
 {
     if c.frames == 1 {
         return Turn::Done;

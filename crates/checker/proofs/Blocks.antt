@@ -13,7 +13,7 @@ use Rattle.rules.specs.Answers as Answers
 use Rattle.rules.specs.Answers.{Refusal, accepted, refused, atLine, then, malformed}
 use Rattle.rules.specs.Syntax.{Formula, Rel, if}
 use Rattle.rules.specs.State as Rules
-use Rattle.rules.specs.Rules.{Open, inFirst, inSecond, ifRule, joinRule, checkRows, checkMethod, checkBlocks, checkProgram}
+use Rattle.rules.specs.Rules.{Open, inFirst, inSecond, ifRule, joinRule, checkRows, checkFrom, checkMethod, checkBlocks, checkProgram}
 use Rattle.rules.proofs.Lists.{decide-eq}
 use Rattle.tables.specs.Decode.{kindAt, lineAt, stmtAt, formulaAt, rowCount, allRows, programIn, methodAt, methodsFrom, methodCount, mainFirst, atomsFrom, requiresAt, ensuresAt, firstRowAt, byteAt, halfAt, methodPlace}
 use Rattle.formulas.specs.Formulas.{formula}
@@ -294,7 +294,7 @@ module _ (w : List ℕ) (m a n c o f : ℕ) (ea : a ≡ halfAt w (methodPlace m)
   start-added = adds-same _ _ k key b (empty-add w a n s es ∙ rw (ea, en)) A
 
   method-verdict : checkMethod (programIn w) (methodAt w m) ≡ outcome k 0 (verdictFrom w (firstRowAt w m) (stateOf key b) (ensuresAt w m) [])
-  unfolding checkMethod methodAt
+  unfolding checkMethod methodAt checkFrom programIn
   method-verdict = at-line 0 (Rules.add (requiresAt w m) Rules.empty) k key b start-added (λ s. checkRows (programIn w) (ensuresAt w m) (drop (firstRowAt w m) (allRows w)) s [])
 
   pub method-refused : Refused k → verdictOf (Verdict.Refused k 0) ≡ checkMethod (programIn w) (methodAt w m)
@@ -337,5 +337,5 @@ module _ (w : List ℕ) where
       stays v o = refusal-stays v o (λ u. checkBlocks (programIn w) (methodsFrom w (m + 1) (n - (m + 1))))
 
   pub main-last : (n m f : ℕ) → n ≤ m → f ≡ mainFirst w → (t : Rules.State) → t ≡ Rules.empty → verdictFrom w f t (atomsFrom w 0 0) [] ≡ checkBlocks (programIn w) (methodsFrom w m (n - m))
-  unfolding checkBlocks methodsFrom atomsFrom programIn
+  unfolding checkBlocks checkFrom methodsFrom atomsFrom programIn
   main-last n m f h e t d = let z : n - m ≡ 0 = omega arith in rw (z, e, d)

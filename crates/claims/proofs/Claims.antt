@@ -20,7 +20,8 @@ use Rattle.tables.specs.Decode.{byteAt, atomPlace, methodPlace, atomsFrom}
 use Rattle.tables.specs.Stores.{Kept}
 use Rattle.declared.specs.declared.Names.{Names}
 use Rattle.declared.specs.Meanings.{declarationsIn, variablesIn}
-use Rattle.assembly.specs.Flat.{Flat, flatWith}
+use Rattle.rules.specs.Syntax.{Program}
+use Rattle.rules.specs.Reading.{withItem}
 use Rattle.emit.specs.Puts.{putRow, putRequires, putEnsures, RowBytes}
 use Rattle.emit.proofs.Puts.{put-length, put-kept}
 use Rattle.emit.proofs.Kept.{atoms-kept}
@@ -68,7 +69,7 @@ formula-short {t} {w} {c} {r} x = formula-few t w c r (x .form)
 
 -- a store outside the atoms leaves the formula that was built last
 formula-stays :
-    (u v : List ℕ) {D : Declared} {F : Flat} {n m : ℕ} {φ : Formula ℕ} → Building D u F n m φ → Kept atoms-at (atomPlace m) u v →
+    (u v : List ℕ) {D : Declared} {F : Program} {n m : ℕ} {φ : Formula ℕ} → Building D u F n m φ → Kept atoms-at (atomPlace m) u v →
     atomsFrom v n (m - n) ≡ φ
 formula-stays u v {D} {F} {n} {m} {φ} b k =
     let e : m - n ≡ length φ = omega (arith, b .place) in
@@ -104,7 +105,7 @@ module _ {t w : List ℕ} {c : Names} {r n : ℕ} (k i l : ℕ) (ready : Ready t
         row-bytes (record { classes = 0; methods = 0 }) m (claimRow k n m l) (omega (arith, y .count, x .room)) (omega arith) line (claim-ok _)
 
     means :
-        (D : Declared) (F : Flat) → Building D u F n m (formulaAfter t w c r) →
+        (D : Declared) (F : Program) → Building D u F n m (formulaAfter t w c r) →
         stmtOf u (claimRow k n m l) ≡ claimOf k (formulaAfter t w c r)
     unfolding claimOf
     means D F b =
@@ -121,7 +122,7 @@ module _ {t w : List ℕ} {c : Names} {r n : ℕ} (k i l : ℕ) (ready : Ready t
           built = λ D F j h.
               let b = y .built D F h in
               let q = row-written D u F m (claimRow k n m l) (claimOf k (formulaAfter t w c r)) (omega (arith, j, room)) (claim-ok D) (means D F b) (b .holds) in
-              subst (λ z. Holds D z (flatWith F l (aStatement (claimOf k (formulaAfter t w c r)))) m) (sym (e ∙ ap (λ p. putRow u p (claimRow k n m l)) (sym j))) q;
+              subst (λ z. Holds D z (withItem F l (aStatement (claimOf k (formulaAfter t w c r)))) m) (sym (e ∙ ap (λ p. putRow u p (claimRow k n m l)) (sym j))) q;
           count = y .count;
           formula = λ D F h.
               formula-stays u _ (y .built D F h)
@@ -143,7 +144,7 @@ module _ {t w : List ℕ} {c : Names} {r n m : ℕ} (x : FormulaFollows t w c r 
   requires-put i =
       record {
         built = λ D F l k h.
-            subst (λ z. Holds D z (flatWith F l (aRequires (formulaAfter t w c r))) e) (sym (i ∙ ap (putRequires u m n) count-is))
+            subst (λ z. Holds D z (withItem F l (aRequires (formulaAfter t w c r))) e) (sym (i ∙ ap (putRequires u m n) count-is))
             (requires-written D u F n e (formulaAfter t w c r) m l k (formula-short x) (y .built D F h));
         count = y .count;
         formula = λ D F h.
@@ -158,7 +159,7 @@ module _ {t w : List ℕ} {c : Names} {r n m : ℕ} (x : FormulaFollows t w c r 
   ensures-put i =
       record {
         built = λ D F l k h.
-            subst (λ z. Holds D z (flatWith F l (anEnsures (formulaAfter t w c r))) e) (sym (i ∙ ap (putEnsures u m n) count-is))
+            subst (λ z. Holds D z (withItem F l (anEnsures (formulaAfter t w c r))) e) (sym (i ∙ ap (putEnsures u m n) count-is))
             (ensures-written D u F n e (formulaAfter t w c r) m l k (formula-short x) (y .built D F h));
         count = y .count;
         formula = λ D F h.

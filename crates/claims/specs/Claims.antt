@@ -12,7 +12,8 @@ use Rattle.tables.specs.Layout.{names-at}
 use Rattle.tables.specs.Decode.{atomsFrom}
 use Rattle.tables.specs.Stores.{Kept}
 use Rattle.declared.specs.declared.Names.{Names}
-use Rattle.assembly.specs.Flat.{Flat, flatWith}
+use Rattle.rules.specs.Syntax.{Program}
+use Rattle.rules.specs.Reading.{withItem}
 use Rattle.emit.specs.declared.Operands.{Operands}
 use Rattle.emit.specs.Holds.{Declared, Holds}
 use Rattle.atoms.specs.declared.Put.{Put}
@@ -32,20 +33,20 @@ claimRow k n m l = record { kind = k; x = 0; y = 0; z = 0; member = 0; atoms = m
 -- The formula after r is written as the atoms from n up to m, and the statement with it as the row i.
 pub record ClaimPut (t w : List ℕ) (c : Names) (k r i n l : ℕ) (w′ : List ℕ) (m : ℕ) : Type 0 where
   pub built :
-      (D : Declared) (F : Flat) → length (F .rows) ≡ i → Holds D w F n →
-      Holds D w′ (flatWith F l (aStatement (claimOf k (formulaAfter t w c r)))) m
+      (D : Declared) (F : Program) → length (F .rows) ≡ i → Holds D w F n →
+      Holds D w′ (withItem F l (aStatement (claimOf k (formulaAfter t w c r)))) m
   pub count : m ≡ n + length (formulaAfter t w c r)
-  pub formula : (D : Declared) (F : Flat) → Holds D w F n → atomsFrom w′ n (m - n) ≡ formulaAfter t w c r
+  pub formula : (D : Declared) (F : Program) → Holds D w F n → atomsFrom w′ n (m - n) ≡ formulaAfter t w c r
   pub names : Kept names-at work-bytes w w′
   pub size : length w′ ≡ length w
 
 -- The formula after r is written as the atoms from n up to e, and is what `item` makes of it in the last method, m.
 pub record HeaderPut (item : Formula ℕ → Item) (t w : List ℕ) (c : Names) (r m n : ℕ) (w′ : List ℕ) (e : ℕ) : Type 0 where
   pub built :
-      (D : Declared) (F : Flat) (l : ℕ) → length (F .methods) ≡ suc m → Holds D w F n →
-      Holds D w′ (flatWith F l (item (formulaAfter t w c r))) e
+      (D : Declared) (F : Program) (l : ℕ) → length (F .methods) ≡ suc m → Holds D w F n →
+      Holds D w′ (withItem F l (item (formulaAfter t w c r))) e
   pub count : e ≡ n + length (formulaAfter t w c r)
-  pub formula : (D : Declared) (F : Flat) → Holds D w F n → atomsFrom w′ n (e - n) ≡ formulaAfter t w c r
+  pub formula : (D : Declared) (F : Program) → Holds D w F n → atomsFrom w′ n (e - n) ≡ formulaAfter t w c r
   pub names : Kept names-at work-bytes w w′
   pub size : length w′ ≡ length w
 

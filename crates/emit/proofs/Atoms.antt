@@ -9,7 +9,7 @@ use lib.ListN.{length, getD}
 use borrow.Author.Count.{below-more}
 use Rattle.rules.specs.Limits.{work-bytes}
 use Rattle.rules.specs.Syntax.{Atom, Formula, Expr, num, var, path, acc, if}
-use Rattle.assembly.specs.Flat.{Flat}
+use Rattle.rules.specs.Syntax.{Program}
 use Rattle.tables.specs.declared.Expr as Tables
 use Rattle.tables.specs.Layout.{names-at, most-atom-rows}
 use Rattle.tables.specs.Decode.{byteAt, wordAt, exprAt, leftAt, rightAt, relOf, atomAt, atomsFrom, atomPlace, ifAt}
@@ -168,12 +168,12 @@ module _
 -- A FORMULA
 
 -- nothing of it yet
-pub building : (D : Declared) (w : List ℕ) (F : Flat) (n : ℕ) → Holds D w F n → Building D w F n n []
+pub building : (D : Declared) (w : List ℕ) (F : Program) (n : ℕ) → Holds D w F n → Building D w F n n []
 unfolding atomsFrom
 building D w F n h = record { holds = h; place = omega arith; mean = refl }
 
 module _
-    (D : Declared) (w : List ℕ) (F : Flat) (n : ℕ) (k : ℕ) (l r : Tables.Expr) (room : n < most-atom-rows) (ok : AtomOk k l r)
+    (D : Declared) (w : List ℕ) (F : Program) (n : ℕ) (k : ℕ) (l r : Tables.Expr) (room : n < most-atom-rows) (ok : AtomOk k l r)
     (h : Holds D w F n) where
   same-rows : SameRows w (putAtom w n k l r) F n
   same-rows =
@@ -215,7 +215,7 @@ module _
 
 -- one more atom of it
 pub atom-written :
-    (D : Declared) (w : List ℕ) (F : Flat) (a n : ℕ) (φ : Formula ℕ) (k : ℕ) (l r : Tables.Expr) → n < most-atom-rows →
+    (D : Declared) (w : List ℕ) (F : Program) (a n : ℕ) (φ : Formula ℕ) (k : ℕ) (l r : Tables.Expr) → n < most-atom-rows →
     AtomOk k l r → Building D w F a n φ → Building D (putAtom w n k l r) F a (n + 1) (φ ++ (atomOf k l r ∷ []))
 atom-written D w F a n φ k l r room ok b =
     let w′ : List ℕ = putAtom w n k l r in

@@ -11,7 +11,8 @@ use borrow.Author.Count.{below-more}
 use Rattle.rules.specs.Limits.{most-classes, most-fields, work-bytes}
 use Rattle.rules.specs.Syntax.{Field}
 use Rattle.rules.specs.Items.{aClass, aField}
-use Rattle.assembly.specs.Flat.{Flat, flatWith, onLast}
+use Rattle.rules.specs.Syntax.{Program}
+use Rattle.rules.specs.Reading.{withItem, onLast}
 use Rattle.tables.specs.Layout.{classes-at, places-at, atoms-at, names-at, most-names}
 use Rattle.tables.specs.Decode.{byteAt, atomPlace, classPlace, fieldCountAt, fieldNameAt, fieldAt, fieldsFrom, classAt}
 use Rattle.tables.specs.Tables.{ClassFits, placeAt}
@@ -75,7 +76,7 @@ module _ (w : List ℕ) (c : ℕ) (size : length w ≡ work-bytes) (room : c < m
   unfolding putClass counted
   class-length = put-length counted (placesPlace c) (blank most-names) ∙ put-length w (classPlace c) (0 ∷ [])
 
-module _ (D : Declared) (w : List ℕ) (F : Flat) (n : ℕ) (room : length (F .classes) < most-classes) (h : Holds D w F n) where
+module _ (D : Declared) (w : List ℕ) (F : Program) (n : ℕ) (room : length (F .classes) < most-classes) (h : Holds D w F n) where
   after : List ℕ
   after = putClass w (length (F .classes))
 
@@ -94,8 +95,8 @@ module _ (D : Declared) (w : List ℕ) (F : Flat) (n : ℕ) (room : length (F .c
         places = K _ _ (inr (omega arith)) (inl (omega arith));
       }
 
-  class-more : (l : ℕ) → Holds D after (flatWith F l aClass) n
-  unfolding flatWith after
+  class-more : (l : ℕ) → Holds D after (withItem F l aClass) n
+  unfolding withItem after
   class-more l =
       let h′ : Holds D after F n = holds-kept D w after F n same-rows h in
       let one : length (F .classes ++ ([] ∷ [])) ≡ suc (length (F .classes)) = end-length (F .classes) [] in
@@ -120,13 +121,13 @@ module _ (D : Declared) (w : List ℕ) (F : Flat) (n : ℕ) (room : length (F .c
 
 -- the next class
 pub class-written :
-    (D : Declared) (w : List ℕ) (F : Flat) (n l : ℕ) → length (F .classes) < most-classes → Holds D w F n →
-    Holds D (putClass w (length (F .classes))) (flatWith F l aClass) n
+    (D : Declared) (w : List ℕ) (F : Program) (n l : ℕ) → length (F .classes) < most-classes → Holds D w F n →
+    Holds D (putClass w (length (F .classes))) (withItem F l aClass) n
 unfolding after
 class-written D w F n l room h = class-more D w F n room h l
 
 -- a class that is written, as its fields
-module _ (D : Declared) (w : List ℕ) (F : Flat) (n c : ℕ) (here : c < length (F .classes)) (h : Holds D w F n) where
+module _ (D : Declared) (w : List ℕ) (F : Program) (n c : ℕ) (here : c < length (F .classes)) (h : Holds D w F n) where
   pub class-fields : classAt w c ≡ getD (F .classes) c []
   class-fields =
       let z : 0 + c ≡ c = omega arith in
@@ -288,14 +289,14 @@ module _
         }
 
 module _
-    (D : Declared) (w : List ℕ) (F : Flat) (n c name : ℕ) (int : Bool) (last : length (F .classes) ≡ suc c)
+    (D : Declared) (w : List ℕ) (F : Program) (n c name : ℕ) (int : Bool) (last : length (F .classes) ≡ suc c)
     (few : fieldCountAt w c < most-fields) (known : name < most-names)
     (new : (k : ℕ) → k < fieldCountAt w c → fieldNameAt w c k ≡ name → ⊥) (h : Holds D w F n) where
   room : c < most-classes
   room = omega (arith, h .classes .few)
 
-  field-more : (l : ℕ) → Holds D (putField w c name int) (flatWith F l (aField (record { name = name; int = int }))) n
-  unfolding flatWith
+  field-more : (l : ℕ) → Holds D (putField w c name int) (withItem F l (aField (record { name = name; int = int }))) n
+  unfolding withItem
   field-more l =
       let j : ℕ = fieldCountAt w c in
       let f : Field = record { name = name; int = int } in
@@ -335,10 +336,10 @@ module _
 
 -- one more field of the last class, under a name that it has not
 pub field-written :
-    (D : Declared) (w : List ℕ) (F : Flat) (n c name l : ℕ) (int : Bool) (d : Field) → length (F .classes) ≡ suc c →
+    (D : Declared) (w : List ℕ) (F : Program) (n c name l : ℕ) (int : Bool) (d : Field) → length (F .classes) ≡ suc c →
     length (getD (F .classes) c []) < most-fields → name < most-names →
     ((k : ℕ) → k < length (getD (F .classes) c []) → getD (getD (F .classes) c []) k d .name ≡ name → ⊥) →
-    Holds D w F n → Holds D (putField w c name int) (flatWith F l (aField (record { name = name; int = int }))) n
+    Holds D w F n → Holds D (putField w c name int) (withItem F l (aField (record { name = name; int = int }))) n
 field-written D w F n c name l int d last few known new h =
     let here : c < length (F .classes) = omega arith in
     let count : fieldCountAt w c ≡ length (getD (F .classes) c []) = class-count D w F n c here h in

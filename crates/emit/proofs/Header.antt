@@ -9,25 +9,26 @@ use Rattle.rules.specs.Base.{Name}
 use Rattle.rules.specs.Limits.{work-bytes}
 use Rattle.rules.specs.Syntax.{Method}
 use Rattle.rules.specs.Items.{aMain, aLocal}
-use Rattle.assembly.specs.Flat.{Flat, flatWith, methodIn, assembled}
+use Rattle.rules.specs.Syntax.{Program}
+use Rattle.rules.specs.Reading.{withItem}
 use Rattle.tables.specs.Layout.{names-at}
 use Rattle.tables.specs.Decode.{byteAt, halfAt, rowsFrom, allRows, rowCount, atomCount, classCount, methodCount, mainFirst, methodAt, methodsFrom, classesFrom, programIn}
 use Rattle.tables.specs.Tables.{Tables}
 use Rattle.tables.specs.Stores.{Kept}
 use Rattle.emit.specs.Puts.{headerBytes, putHeader}
-use Rattle.emit.specs.Holds.{Declared, flatMethodAt, flatMethodsFrom, operandsAt, RowOk, MethodOk, Holds, Finished, TargetFits, Linked}
+use Rattle.emit.specs.Holds.{Declared, operandsAt, RowOk, MethodOk, Holds, Finished, TargetFits, Linked}
 use Rattle.emit.proofs.Puts.{put-length, put-same, put-same-half, put-kept}
 use Rattle.emit.proofs.Kept.{all-rows, holds-kept}
 
 -- LINES THAT WRITE NOTHING
-pub main-written : (D : Declared) (w : List ℕ) (F : Flat) (n l : ℕ) → Holds D w F n → Holds D w (flatWith F l aMain) n
-unfolding flatWith
+pub main-written : (D : Declared) (w : List ℕ) (F : Program) (n l : ℕ) → Holds D w F n → Holds D w (withItem F l aMain) n
+unfolding withItem
 main-written D w F n l h =
     record { size = h .size; main = omega arith; atoms = h .atoms; rows = h .rows; methods = h .methods; classes = h .classes }
 
 pub local-written :
-    (D : Declared) (w : List ℕ) (F : Flat) (n l : ℕ) (x : Name) → Holds D w F n → Holds D w (flatWith F l (aLocal x)) n
-unfolding flatWith
+    (D : Declared) (w : List ℕ) (F : Program) (n l : ℕ) (x : Name) → Holds D w F n → Holds D w (withItem F l (aLocal x)) n
+unfolding withItem
 local-written D w F n l x h = h
 
 -- THE HEADER
@@ -77,10 +78,10 @@ module _ (w : List ℕ) (rows atoms classes methods main : ℕ) (size : length w
   header-length = put-length w 0 (headerBytes rows atoms classes methods main)
 
 -- the tables with their header, as the writer leaves it
-abbrev pub withHeader : List ℕ → Flat → ℕ → List ℕ
+abbrev pub withHeader : List ℕ → Program → ℕ → List ℕ
 withHeader w F n = putHeader w (length (F .rows)) n (length (F .classes)) (length (F .methods)) (F .main)
 
-pub header-written : (D : Declared) (w : List ℕ) (F : Flat) (n : ℕ) → Holds D w F n → Finished D (withHeader w F n) F n
+pub header-written : (D : Declared) (w : List ℕ) (F : Program) (n : ℕ) → Holds D w F n → Finished D (withHeader w F n) F n
 header-written D w F n h =
     let w′ : List ℕ = withHeader w F n in
     let R : ℕ = length (F .rows) in
@@ -107,29 +108,22 @@ header-written D w F n h =
     }
 
 -- THE PROGRAM
-methods-in : (w : List ℕ) (m k : ℕ) → methodsFrom w m k ≡ map (methodIn (allRows w)) (flatMethodsFrom w m k)
-unfolding methodsFrom flatMethodsFrom methodAt methodIn flatMethodAt
-methods-in w m zero = refl
-methods-in w m (suc k) = ap (λ (l : List Method). methodAt w m ∷ l) (methods-in w (suc m) k)
-
-pub finished-program : (D : Declared) (w : List ℕ) (F : Flat) (n : ℕ) → Finished D w F n → programIn w ≡ assembled F
-unfolding programIn assembled allRows
+pub finished-program : (D : Declared) (w : List ℕ) (F : Program) (n : ℕ) → Finished D w F n → programIn w ≡ F
+unfolding programIn allRows
 finished-program D w F n f =
     let h : Holds D w F n = f .holds in
     let rs : allRows w ≡ F .rows = ap (rowsFrom w 0) (f .rows) ∙ h .rows .mean in
     let cs : classesFrom w 0 (classCount w) ≡ F .classes = ap (classesFrom w 0) (f .classes) ∙ h .classes .mean in
-    let ms : methodsFrom w 0 (methodCount w) ≡ map (methodIn (F .rows)) (F .methods) =
-    methods-in w 0 (methodCount w)
-    ∙ ((λ j. map (methodIn (rs j)) (flatMethodsFrom w 0 (f .methods j))) ∙ ap (map (methodIn (F .rows))) (h .methods .mean)) in
-    λ j. record { classes = cs j; methods = ms j; main = drop (f .main j) (rs j) }
+    let ms : methodsFrom w 0 (methodCount w) ≡ F .methods = ap (methodsFrom w 0) (f .methods) ∙ h .methods .mean in
+    λ j. record { classes = cs j; methods = ms j; rows = rs j; main = f .main j }
 
 -- the header is all that was left to write
-pub program-written : (D : Declared) (w : List ℕ) (F : Flat) (n : ℕ) → Holds D w F n → programIn (withHeader w F n) ≡ assembled F
+pub program-written : (D : Declared) (w : List ℕ) (F : Program) (n : ℕ) → Holds D w F n → programIn (withHeader w F n) ≡ F
 program-written D w F n h = finished-program D (withHeader w F n) F n (header-written D w F n h)
 
 -- with targets and blocks that fit, they are tables for the checker and the machine
 pub finished-tables :
-    (D : Declared) (w : List ℕ) (F : Flat) (n : ℕ) → D .classes ≡ length (F .classes) → D .methods ≡ length (F .methods) →
+    (D : Declared) (w : List ℕ) (F : Program) (n : ℕ) → D .classes ≡ length (F .classes) → D .methods ≡ length (F .methods) →
     Finished D w F n → Linked w → Tables w
 finished-tables D w F n dc dm f k =
     let h : Holds D w F n = f .holds in

@@ -10,15 +10,16 @@ use lib.ListN.{length}
 use Rattle.rules.specs.Limits.{most-fields, work-bytes}
 use Rattle.rules.specs.Syntax.{Formula, Row, Field}
 use Rattle.rules.specs.Syntax.{assign, assert, release, simple, join}
-use Rattle.assembly.specs.Flat.{Flat, FlatMethod, noFlat}
+use Rattle.rules.specs.Syntax.{Program, Method}
+use Rattle.rules.specs.Reading.{noProgram}
 use Rattle.tables.specs.Layout.{rows-at, methods-at, classes-at, places-at, atoms-at, names-at, most-names}
-use Rattle.tables.specs.Decode.{byteAt, halfAt, exprAt, leftAt, rightAt, atomAt, atomsFrom, atomPlace, ifAt, rowPlace, kindAt, lineAt, formulaAt, stmtAt, rowAt, rowsFrom, requiresAt, ensuresAt, methodPlace, firstRowAt, classPlace, fieldCountAt, fieldNameAt, fieldAt, classAt, classesFrom}
+use Rattle.tables.specs.Decode.{byteAt, halfAt, exprAt, leftAt, rightAt, atomAt, atomsFrom, atomPlace, ifAt, rowPlace, kindAt, lineAt, formulaAt, stmtAt, rowAt, rowsFrom, requiresAt, ensuresAt, methodPlace, firstRowAt, classPlace, fieldCountAt, fieldNameAt, fieldAt, classAt, classesFrom, methodAt, methodsFrom}
 use Rattle.tables.specs.Tables.{SideFits, AtomFits, ClassFits, placeAt}
 use Rattle.tables.specs.Stores.{Kept, SameTables}
 use Rattle.tables.proofs.Bytes.{half-kept}
 use Rattle.emit.specs.declared.Operands.{Operands}
 use Rattle.emit.specs.Puts.{placesPlace}
-use Rattle.emit.specs.Holds.{Declared, Range, AtomsHold, operandsAt, RowOk, formulaOf, stmtOf, RowsHold, flatMethodAt, flatMethodsFrom, MethodOk, MethodsHold, ClassesHold, Holds, Building}
+use Rattle.emit.specs.Holds.{Declared, Range, AtomsHold, operandsAt, RowOk, formulaOf, stmtOf, RowsHold, MethodOk, MethodsHold, ClassesHold, Holds, Building}
 use Rattle.emit.proofs.Runs.{run-kept, run-same, atoms-run, rows-run, fields-run, classes-run, methods-run}
 
 -- both branches, each where it is taken
@@ -194,7 +195,7 @@ module _ (D : Declared) (w w′ : List ℕ) (n : ℕ) (KA : Kept atoms-at (atomP
 
 -- METHODS
 module _ (w w′ : List ℕ) (n : ℕ) (KA : Kept atoms-at (atomPlace n) w w′) where
-  module _ (R : ℕ) (ms : List FlatMethod) (M : ℕ) (KM : Kept methods-at (methodPlace M) w w′) (few : M ≤ length ms) (h : MethodsHold w n R ms) where
+  module _ (R : ℕ) (ms : List Method) (M : ℕ) (KM : Kept methods-at (methodPlace M) w w′) (few : M ≤ length ms) (h : MethodsHold w n R ms) where
     module _ (m : ℕ) (l : m < M) where
       method-byte : (k : ℕ) → k < 8 → byteAt w′ (methodPlace m + k) ≡ byteAt w (methodPlace m + k)
       method-byte k p = KM (methodPlace m + k) (omega arith) (omega arith)
@@ -217,8 +218,8 @@ module _ (w w′ : List ℕ) (n : ℕ) (KA : Kept atoms-at (atomPlace n) w w′)
           rw (method-half (methodPlace m + 4) (omega arith) (omega arith), method-byte 3 (omega arith))
           (atoms-kept w w′ n KA _ _ (ok .ensures .1))
 
-      pub method-same : flatMethodAt w′ m ≡ flatMethodAt w m
-      unfolding flatMethodAt
+      pub method-same : methodAt w′ m ≡ methodAt w m
+      unfolding methodAt
       method-same =
           let f : firstRowAt w′ m ≡ firstRowAt w m = method-half (methodPlace m + 6) (omega arith) (omega arith) in
           λ j. record { requires = requires-same j; ensures = ensures-same j; first = f j }
@@ -232,13 +233,13 @@ module _ (w w′ : List ℕ) (n : ℕ) (KA : Kept atoms-at (atomPlace n) w w′)
           }
 
   pub methods-kept :
-      (R : ℕ) (ms : List FlatMethod) → Kept methods-at (methodPlace (length ms)) w w′ → MethodsHold w n R ms → MethodsHold w′ n R ms
+      (R : ℕ) (ms : List Method) → Kept methods-at (methodPlace (length ms)) w w′ → MethodsHold w n R ms → MethodsHold w′ n R ms
   methods-kept R ms KM h =
       record {
         few = h .few;
         mean =
             methods-run w′ 0 _
-            ∙ run-kept (flatMethodAt w) (flatMethodAt w′) ms (sym (methods-run w 0 _) ∙ h .mean)
+            ∙ run-kept (methodAt w) (methodAt w′) ms (sym (methods-run w 0 _) ∙ h .mean)
             (method-same R ms (length ms) KM (omega arith) h);
         fit = method-ok-kept R ms (length ms) KM (omega arith) h;
       }
@@ -312,7 +313,7 @@ classes-kept w w′ cs KC KP h =
 -- ALL OF THEM
 
 -- the bytes of all rows that are written are the same
-pub record SameRows (w w′ : List ℕ) (F : Flat) (n : ℕ) : Type 0 where
+pub record SameRows (w w′ : List ℕ) (F : Program) (n : ℕ) : Type 0 where
   pub size : length w′ ≡ length w
   pub atoms : Kept atoms-at (atomPlace n) w w′
   pub rows : RowsKept (length (F .rows)) w w′
@@ -320,7 +321,7 @@ pub record SameRows (w w′ : List ℕ) (F : Flat) (n : ℕ) : Type 0 where
   pub classes : Kept classes-at (classPlace (length (F .classes))) w w′
   pub places : Kept places-at (placesPlace (length (F .classes))) w w′
 
-pub holds-kept : (D : Declared) (w w′ : List ℕ) (F : Flat) (n : ℕ) → SameRows w w′ F n → Holds D w F n → Holds D w′ F n
+pub holds-kept : (D : Declared) (w w′ : List ℕ) (F : Program) (n : ℕ) → SameRows w w′ F n → Holds D w F n → Holds D w′ F n
 holds-kept D w w′ F n s h =
     record {
       size = s .size ∙ h .size;
@@ -332,7 +333,7 @@ holds-kept D w w′ F n s h =
     }
 
 -- what lies past the tables is free
-pub holds-same : (D : Declared) (w w′ : List ℕ) (F : Flat) (n : ℕ) → SameTables w w′ → Holds D w F n → Holds D w′ F n
+pub holds-same : (D : Declared) (w w′ : List ℕ) (F : Program) (n : ℕ) → SameTables w w′ → Holds D w F n → Holds D w′ F n
 holds-same D w w′ F n s h =
     let K : (a b : ℕ) → b ≤ names-at → Kept a b w w′ = λ a b l i p q. s .bytes i (omega arith) (omega arith) in
     holds-kept D w w′ F n
@@ -347,7 +348,7 @@ holds-same D w w′ F n s h =
     h
 
 pub building-same :
-    (D : Declared) (w w′ : List ℕ) (F : Flat) (a n : ℕ) (φ : Formula ℕ) → SameTables w w′ → Building D w F a n φ →
+    (D : Declared) (w w′ : List ℕ) (F : Program) (a n : ℕ) (φ : Formula ℕ) → SameTables w w′ → Building D w F a n φ →
     Building D w′ F a n φ
 building-same D w w′ F a n φ s b =
     record {
@@ -360,8 +361,8 @@ building-same D w w′ F a n φ s b =
     }
 
 -- nothing is written yet
-pub none-written : (D : Declared) (w : List ℕ) → length w ≡ work-bytes → Holds D w noFlat 0
-unfolding rowsFrom flatMethodsFrom classesFrom
+pub none-written : (D : Declared) (w : List ℕ) → length w ≡ work-bytes → Holds D w noProgram 0
+unfolding rowsFrom methodsFrom classesFrom
 none-written D w size =
     record {
       size = size;

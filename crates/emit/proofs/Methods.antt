@@ -9,12 +9,13 @@ use borrow.Author.Count.{below-more}
 use Rattle.rules.specs.Limits.{most-methods, most-atoms, work-bytes}
 use Rattle.rules.specs.Syntax.{Formula}
 use Rattle.rules.specs.Items.{aMethod, aRequires, anEnsures}
-use Rattle.assembly.specs.Flat.{Flat, FlatMethod, flatWith, onLast, withRequires, withEnsures}
+use Rattle.rules.specs.Syntax.{Program, Method}
+use Rattle.rules.specs.Reading.{withItem, onLast, withRequires, withEnsures}
 use Rattle.tables.specs.Layout.{methods-at, atoms-at, names-at}
-use Rattle.tables.specs.Decode.{byteAt, halfAt, atomsFrom, atomPlace, methodPlace, requiresAt, ensuresAt, firstRowAt}
+use Rattle.tables.specs.Decode.{byteAt, halfAt, atomsFrom, atomPlace, methodPlace, requiresAt, ensuresAt, firstRowAt, methodAt}
 use Rattle.tables.specs.Stores.{Kept}
 use Rattle.emit.specs.Puts.{putBytes, methodBytes, putMethod, putRequires, putEnsures}
-use Rattle.emit.specs.Holds.{Declared, Range, flatMethodAt, MethodOk, Holds, Building}
+use Rattle.emit.specs.Holds.{Declared, Range, MethodOk, Holds, Building}
 use Rattle.emit.proofs.Puts.{put-length, put-same, put-same-half, put-other, Clear, put-kept}
 use Rattle.emit.proofs.Runs.{run-grown, run-last, last-length, end-length, methods-run}
 use Rattle.emit.proofs.Kept.{all-rows, atoms-kept, atoms-hold-kept, rows-kept, method-same, method-ok-kept, classes-kept, SameRows, holds-kept}
@@ -51,8 +52,8 @@ module _ (w : List ℕ) (m first : ℕ) (size : length w ≡ work-bytes) (room :
   unfolding methodBytes
   first-row = method-half 6 (methodPlace m + 6) first refl (omega arith) refl refl
 
-  new-method : flatMethodAt (putMethod w m first) m ≡ record { requires = []; ensures = []; first = first }
-  unfolding flatMethodAt requiresAt ensuresAt atomsFrom
+  new-method : methodAt (putMethod w m first) m ≡ record { requires = []; ensures = []; first = first }
+  unfolding methodAt requiresAt ensuresAt atomsFrom
   new-method = simp (requires-none, ensures-none, first-row)
 
   new-ok : (n R : ℕ) → first ≤ R → MethodOk (putMethod w m first) n R m
@@ -75,7 +76,7 @@ module _ (w : List ℕ) (m first : ℕ) (size : length w ≡ work-bytes) (room :
   unfolding putMethod
   method-length = put-length w (methodPlace m) (methodBytes first)
 
-module _ (D : Declared) (w : List ℕ) (F : Flat) (n : ℕ) (room : length (F .methods) < most-methods) (h : Holds D w F n) where
+module _ (D : Declared) (w : List ℕ) (F : Program) (n : ℕ) (room : length (F .methods) < most-methods) (h : Holds D w F n) where
   after : List ℕ
   after = putMethod w (length (F .methods)) (length (F .rows))
 
@@ -95,11 +96,11 @@ module _ (D : Declared) (w : List ℕ) (F : Flat) (n : ℕ) (room : length (F .m
         places = K _ _ (inr (omega arith));
       }
 
-  method-more : (l : ℕ) → Holds D after (flatWith F l aMethod) n
-  unfolding flatWith after
+  method-more : (l : ℕ) → Holds D after (withItem F l aMethod) n
+  unfolding withItem after
   method-more l =
       let h′ : Holds D after F n = holds-kept D w after F n same-rows h in
-      let new : FlatMethod = record { requires = []; ensures = []; first = length (F .rows) } in
+      let new : Method = record { requires = []; ensures = []; first = length (F .rows) } in
       let one : length (F .methods ++ (new ∷ [])) ≡ suc (length (F .methods)) = end-length (F .methods) new in
       record {
         size = h′ .size;
@@ -111,7 +112,7 @@ module _ (D : Declared) (w : List ℕ) (F : Flat) (n : ℕ) (room : length (F .m
               few = omega (arith, one);
               mean =
                   methods-run after 0 _
-                  ∙ run-grown (flatMethodAt after) (flatMethodAt after) (F .methods)
+                  ∙ run-grown (methodAt after) (methodAt after) (F .methods)
                   (sym (methods-run after 0 _) ∙ h′ .methods .mean) new (λ k l. refl)
                   (new-method w (length (F .methods)) (length (F .rows)) (h .size) room);
               fit = λ i l.
@@ -124,8 +125,8 @@ module _ (D : Declared) (w : List ℕ) (F : Flat) (n : ℕ) (room : length (F .m
 
 -- the next method, which starts at the next row
 pub method-written :
-    (D : Declared) (w : List ℕ) (F : Flat) (n l : ℕ) → length (F .methods) < most-methods → Holds D w F n →
-    Holds D (putMethod w (length (F .methods)) (length (F .rows))) (flatWith F l aMethod) n
+    (D : Declared) (w : List ℕ) (F : Program) (n l : ℕ) → length (F .methods) < most-methods → Holds D w F n →
+    Holds D (putMethod w (length (F .methods)) (length (F .rows))) (withItem F l aMethod) n
 unfolding after
 method-written D w F n l room h = method-more D w F n room h l
 
@@ -133,9 +134,9 @@ method-written D w F n l room h = method-more D w F n room h l
 
 -- the last method m becomes f of what it was; the other rows stay
 last-changed :
-    (D : Declared) (w w′ : List ℕ) (F : Flat) (n m : ℕ) (f : FlatMethod → FlatMethod) → length (F .methods) ≡ suc m →
+    (D : Declared) (w w′ : List ℕ) (F : Program) (n m : ℕ) (f : Method → Method) → length (F .methods) ≡ suc m →
     ((a b : ℕ) → Clear (methodPlace m) 8 a b → Kept a b w w′) → length w′ ≡ length w →
-    flatMethodAt w′ m ≡ f (flatMethodAt w m) → MethodOk w′ n (length (F .rows)) m → Holds D w F n →
+    methodAt w′ m ≡ f (methodAt w m) → MethodOk w′ n (length (F .rows)) m → Holds D w F n →
     Holds D w′ (record { classes = F .classes; methods = onLast f (F .methods); rows = F .rows; main = F .main }) n
 last-changed D w w′ F n m f last K size new ok h =
     let few : m < most-methods = omega (arith, h .methods .few) in
@@ -153,7 +154,7 @@ last-changed D w w′ F n m f last K size new ok h =
             few = omega (arith, same);
             mean =
                 methods-run w′ 0 _
-                ∙ run-last (flatMethodAt w) (flatMethodAt w′) (F .methods) (sym (methods-run w 0 _) ∙ h .methods .mean) f m last
+                ∙ run-last (methodAt w) (methodAt w′) (F .methods) (sym (methods-run w 0 _) ∙ h .methods .mean) f m last
                 (method-same w w′ n KA (length (F .rows)) (F .methods) m KM below (h .methods)) new;
             fit = λ i l.
                 below-more (λ (k : ℕ). MethodOk w′ n (length (F .rows)) k) m
@@ -177,7 +178,7 @@ module _ (w : List ℕ) (m i : ℕ) (bs : List ℕ) (few : m < most-methods) (th
   half-stays j (inr l) = omega (arith, byte-stays j (inr (omega arith)), byte-stays (j + 1) (inr (omega arith)))
 
 module _
-    (D : Declared) (w : List ℕ) (F : Flat) (a n : ℕ) (φ : Formula ℕ) (m : ℕ) (last : length (F .methods) ≡ suc m)
+    (D : Declared) (w : List ℕ) (F : Program) (a n : ℕ) (φ : Formula ℕ) (m : ℕ) (last : length (F .methods) ≡ suc m)
     (short : length φ ≤ most-atoms) (b : Building D w F a n φ) where
   few-methods : m < most-methods
   few-methods = omega (arith, b .holds .methods .few)
@@ -207,13 +208,13 @@ module _
   -- f changes the last method, whose row has these bytes at i
   module _ (i : ℕ) (bs : List ℕ) (three : length bs ≡ 3) (from : methodPlace m ≤ i) (to : i + 3 ≤ methodPlace m + 6) where
     row-changed :
-        (f : FlatMethod → FlatMethod) → (f (flatMethodAt w m) .first ≡ firstRowAt w m) →
+        (f : Method → Method) → (f (methodAt w m) .first ≡ firstRowAt w m) →
         ((KA : Kept atoms-at (atomPlace n) w (putBytes w i bs)) →
-        Given (putBytes w i bs) KA (methodPlace m) (methodPlace m + 2) (f (flatMethodAt w m) .requires)
-        × Given (putBytes w i bs) KA (methodPlace m + 4) (methodPlace m + 3) (f (flatMethodAt w m) .ensures)) →
+        Given (putBytes w i bs) KA (methodPlace m) (methodPlace m + 2) (f (methodAt w m) .requires)
+        × Given (putBytes w i bs) KA (methodPlace m + 4) (methodPlace m + 3) (f (methodAt w m) .ensures)) →
         Holds D (putBytes w i bs)
         (record { classes = F .classes; methods = onLast f (F .methods); rows = F .rows; main = F .main }) n
-    unfolding Given flatMethodAt requiresAt ensuresAt
+    unfolding Given methodAt requiresAt ensuresAt
     row-changed f e g =
         let w′ : List ℕ = putBytes w i bs in
         let K : (p q : ℕ) → Clear (methodPlace m) 8 p q → Kept p q w w′ = clear-kept w m i bs few-methods three from (omega arith) in
@@ -225,8 +226,8 @@ module _
         (record { requires = both .0 .1; ensures = both .1 .1; first = rw first (was .first) })
         (b .holds)
 
-  with-requires : (l : ℕ) → Holds D (putRequires w m a (length φ)) (flatWith F l (aRequires φ)) n
-  unfolding flatWith withRequires flatMethodAt ensuresAt putRequires
+  with-requires : (l : ℕ) → Holds D (putRequires w m a (length φ)) (withItem F l (aRequires φ)) n
+  unfolding withItem withRequires methodAt ensuresAt putRequires
   with-requires l =
       let i : ℕ = methodPlace m in
       let bs : List ℕ = a % 256 ∷ a / 256 ∷ length φ ∷ [] in
@@ -238,8 +239,8 @@ module _
             (byte-stays w m i bs few-methods refl (omega arith) (omega arith) _ (inr (omega arith))) (was .ensures),
       ))
 
-  with-ensures : (l : ℕ) → Holds D (putEnsures w m a (length φ)) (flatWith F l (anEnsures φ)) n
-  unfolding flatWith withEnsures flatMethodAt requiresAt putEnsures
+  with-ensures : (l : ℕ) → Holds D (putEnsures w m a (length φ)) (withItem F l (anEnsures φ)) n
+  unfolding withItem withEnsures methodAt requiresAt putEnsures
   with-ensures l =
       let i : ℕ = methodPlace m + 3 in
       let bs : List ℕ = length φ ∷ a % 256 ∷ a / 256 ∷ [] in
@@ -254,13 +255,13 @@ module _
 
 -- the formula that was built last becomes the requires, or the ensures, of the last method
 pub requires-written :
-    (D : Declared) (w : List ℕ) (F : Flat) (a n : ℕ) (φ : Formula ℕ) (m l : ℕ) → length (F .methods) ≡ suc m →
-    length φ ≤ most-atoms → Building D w F a n φ → Holds D (putRequires w m a (length φ)) (flatWith F l (aRequires φ)) n
+    (D : Declared) (w : List ℕ) (F : Program) (a n : ℕ) (φ : Formula ℕ) (m l : ℕ) → length (F .methods) ≡ suc m →
+    length φ ≤ most-atoms → Building D w F a n φ → Holds D (putRequires w m a (length φ)) (withItem F l (aRequires φ)) n
 requires-written D w F a n φ m l last short b = with-requires D w F a n φ m last short b l
 
 pub ensures-written :
-    (D : Declared) (w : List ℕ) (F : Flat) (a n : ℕ) (φ : Formula ℕ) (m l : ℕ) → length (F .methods) ≡ suc m →
-    length φ ≤ most-atoms → Building D w F a n φ → Holds D (putEnsures w m a (length φ)) (flatWith F l (anEnsures φ)) n
+    (D : Declared) (w : List ℕ) (F : Program) (a n : ℕ) (φ : Formula ℕ) (m l : ℕ) → length (F .methods) ≡ suc m →
+    length φ ≤ most-atoms → Building D w F a n φ → Holds D (putEnsures w m a (length φ)) (withItem F l (anEnsures φ)) n
 ensures-written D w F a n φ m l last short b = with-ensures D w F a n φ m last short b l
 
 pub requires-names : (w : List ℕ) (m a n : ℕ) → m < most-methods → Kept names-at work-bytes w (putRequires w m a n)

@@ -11,7 +11,8 @@ use Rattle.rules.specs.Limits.{most-statements, work-bytes}
 use Rattle.rules.specs.Syntax.{Formula, Expr, Stmt, Row}
 use Rattle.rules.specs.Syntax.{set, assign, new, call, return, assert, release, simple, else, join, end}
 use Rattle.rules.specs.Items.{aStatement}
-use Rattle.assembly.specs.Flat.{Flat, flatWith}
+use Rattle.rules.specs.Syntax.{Program}
+use Rattle.rules.specs.Reading.{withItem}
 use Rattle.tables.specs.Layout.{names-at, most-atom-rows}
 use Rattle.tables.specs.Decode.{byteAt, halfAt, rightAt, ifAt, rowPlace, rowAt}
 use Rattle.tables.specs.Stores.{Kept}
@@ -60,7 +61,7 @@ module _ (w : List ℕ) (i : ℕ) (r : Operands) (size : length w ≡ work-bytes
   row-length = put-length w (rowPlace i) (rowBytes r)
 
 module _
-    (D : Declared) (w : List ℕ) (F : Flat) (n : ℕ) (r : Operands) (room : length (F .rows) < most-statements) (ok : RowOk D n r)
+    (D : Declared) (w : List ℕ) (F : Program) (n : ℕ) (r : Operands) (room : length (F .rows) < most-statements) (ok : RowOk D n r)
     (h : Holds D w F n) where
   after : List ℕ
   after = putRow w (length (F .rows)) r
@@ -90,8 +91,8 @@ module _
       ∙ (ap (rowOf after) here
       ∙ (λ j. record { line = r .line; stmt = stmt-of-kept w after n (same-rows .atoms) D r ok j }))
 
-  row-more : Holds D after (flatWith F (r .line) (aStatement (stmtOf w r))) n
-  unfolding flatWith
+  row-more : Holds D after (withItem F (r .line) (aStatement (stmtOf w r))) n
+  unfolding withItem
   row-more =
       let h′ : Holds D after F n = holds-kept D w _ F n same-rows h in
       let new : Row = record { line = r .line; stmt = stmtOf w r } in
@@ -122,9 +123,9 @@ module _
 
 -- the next row, with operands that fit, which means s
 pub row-written :
-    (D : Declared) (w : List ℕ) (F : Flat) (n : ℕ) (r : Operands) (s : Stmt) → length (F .rows) < most-statements →
+    (D : Declared) (w : List ℕ) (F : Program) (n : ℕ) (r : Operands) (s : Stmt) → length (F .rows) < most-statements →
     RowOk D n r → stmtOf w r ≡ s → Holds D w F n →
-    Holds D (putRow w (length (F .rows)) r) (flatWith F (r .line) (aStatement s)) n
+    Holds D (putRow w (length (F .rows)) r) (withItem F (r .line) (aStatement s)) n
 unfolding after
 row-written D w F n r s room ok means h = rw (← means) (row-more D w F n r room ok h)
 
@@ -179,7 +180,7 @@ module _ (w : List ℕ) (r : Operands) where
 
 -- a row with the formula that was built last
 module _
-    (D : Declared) (w : List ℕ) (F : Flat) (a n : ℕ) (φ : Formula ℕ) (b : Building D w F a n φ) (r : Operands)
+    (D : Declared) (w : List ℕ) (F : Program) (a n : ℕ) (φ : Formula ℕ) (b : Building D w F a n φ) (r : Operands)
     (first : r .first ≡ a) (count : r .atoms ≡ length φ) where
   formula-built : formulaOf w r ≡ φ
   unfolding formulaOf
@@ -216,7 +217,7 @@ module _ (w : List ℕ) (i t : ℕ) (size : length w ≡ work-bytes) (room : i <
 
 -- a target may be written at any time
 pub target-written :
-    (D : Declared) (w : List ℕ) (F : Flat) (n i t : ℕ) → i < most-statements → Holds D w F n → Holds D (putTarget w i t) F n
+    (D : Declared) (w : List ℕ) (F : Program) (n i t : ℕ) → i < most-statements → Holds D w F n → Holds D (putTarget w i t) F n
 target-written D w F n i t room h =
     let K : (a b : ℕ) → Clear (rowPlace i + 10) 2 a b → Kept a b w (putTarget w i t) = target-kept w i t (h .size) room in
     holds-kept D w (putTarget w i t) F n

@@ -10,9 +10,9 @@ use lib.Dec.{ltb}
 use lib.ListN.{length, getD, length-append}
 use borrow.Author.Tests.{ltb-true, ltb-false}
 use Rattle.rules.specs.Syntax.{Atom, Row, Field}
-use Rattle.assembly.specs.Flat.{FlatMethod, onLast}
-use Rattle.tables.specs.Decode.{atomAt, atomsFrom, rowAt, rowsFrom, fieldAt, fieldsFrom, classAt, classesFrom}
-use Rattle.emit.specs.Holds.{flatMethodAt, flatMethodsFrom}
+use Rattle.rules.specs.Syntax.{Method}
+use Rattle.rules.specs.Reading.{onLast}
+use Rattle.tables.specs.Decode.{atomAt, atomsFrom, rowAt, rowsFrom, fieldAt, fieldsFrom, classAt, classesFrom, methodAt, methodsFrom}
 
 pub less-or-not : (m n : ℕ) (b : Bool) → ltb m n ≡ b → (m < n) ⊎ (n ≤ m)
 less-or-not m n true e = inl (ltb-true m n e)
@@ -120,7 +120,7 @@ unfolding classesFrom run
 classes-run w i zero = refl
 classes-run w i (suc n) = ap (λ (l : List (List Field)). classAt w i ∷ l) (classes-run w (suc i) n)
 
-pub methods-run : (w : List ℕ) (i n : ℕ) → flatMethodsFrom w i n ≡ run (flatMethodAt w) i n
-unfolding flatMethodsFrom run
+pub methods-run : (w : List ℕ) (i n : ℕ) → methodsFrom w i n ≡ run (methodAt w) i n
+unfolding methodsFrom run
 methods-run w i zero = refl
-methods-run w i (suc n) = ap (λ (l : List FlatMethod). flatMethodAt w i ∷ l) (methods-run w (suc i) n)
+methods-run w i (suc n) = ap (λ (l : List Method). methodAt w i ∷ l) (methods-run w (suc i) n)

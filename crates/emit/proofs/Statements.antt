@@ -6,7 +6,8 @@ use lib.ListN.{length}
 use Rattle.rules.specs.Limits.{most-statements}
 use Rattle.rules.specs.Syntax.{assign, simple, if}
 use Rattle.rules.specs.Items.{aStatement}
-use Rattle.assembly.specs.Flat.{Flat, flatWith}
+use Rattle.rules.specs.Syntax.{Program}
+use Rattle.rules.specs.Reading.{withItem}
 use Rattle.tables.specs.declared.Expr as Tables
 use Rattle.tables.specs.Layout.{most-atom-rows}
 use Rattle.tables.specs.Decode.{relOf}
@@ -18,7 +19,7 @@ use Rattle.emit.proofs.Atoms.{building, atom-written, right-written, co
 use Rattle.emit.proofs.Rows.{row-written, let-means, if-means}
 
 module _
-    (D : Declared) (w : List ℕ) (F : Flat) (n k : ℕ) (a b : Tables.Expr) (r : Operands) (room : n < most-atom-rows)
+    (D : Declared) (w : List ℕ) (F : Program) (n k : ℕ) (a b : Tables.Expr) (r : Operands) (room : n < most-atom-rows)
     (few : length (F .rows) < most-statements) (atom : AtomOk k a b) (row : RowOk D (n + 1) r) (first : r .first ≡ n)
     (h : Holds D w F n) where
   with-atom : Holds D (putAtom w n k a b) F (n + 1)
@@ -28,14 +29,14 @@ module _
   pub let-written :
       r .kind ≡ 9 →
       Holds D (putRow (putAtom w n k a b) (length (F .rows)) r)
-      (flatWith F (r .line) (aStatement (simple (assign (r .x) (meaning b))))) (n + 1)
+      (withItem F (r .line) (aStatement (simple (assign (r .x) (meaning b))))) (n + 1)
   let-written e =
       row-written D _ F (n + 1) r _ few row (let-means _ r _ e (rw first (right-written w n k a b (h .size) room atom))) with-atom
 
   pub if-written :
       r .kind ≡ 15 →
       Holds D (putRow (putAtom w n k a b) (length (F .rows)) r)
-      (flatWith F (r .line) (aStatement (if (relOf k) (meaning a) (meaning b)))) (n + 1)
+      (withItem F (r .line) (aStatement (if (relOf k) (meaning a) (meaning b)))) (n + 1)
   if-written e =
       row-written D _ F (n + 1) r _ few row (if-means _ r _ e (rw first (condition-written w n k a b (h .size) room atom)))
       with-atom

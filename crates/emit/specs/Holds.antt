@@ -9,11 +9,11 @@ use lib.ListN.{length, drop}
 use Rattle.rules.specs.Limits.{most-classes, most-methods, most-statements, most-atoms, work-bytes}
 use Rattle.rules.specs.Syntax.{Atom, Formula, Stmt, Row, Field}
 use Rattle.rules.specs.Syntax.{acc, cmp, set, assign, new, call, return, assert, release, simple, else, join, end}
-use Rattle.rules.specs.Machine.{afterElse, toJoin}
-use Rattle.assembly.specs.Flat.{Flat, FlatMethod}
+use Rattle.rules.specs.Machine.{closing}
+use Rattle.rules.specs.Syntax.{Program, Method}
 use Rattle.tables.specs.declared.Expr as Tables
 use Rattle.tables.specs.Layout.{most-atom-rows, most-names, frame-variables}
-use Rattle.tables.specs.Decode.{byteAt, halfAt, relOf, rightAt, ifAt, atomsFrom, kindAt, xAt, yAt, zAt, memberAt, atomCountAt, firstAtomAt, lineAt, targetAt, rowsFrom, allRows, rowCount, atomCount, classCount, methodCount, mainFirst, requiresAt, ensuresAt, methodPlace, firstRowAt, classesFrom}
+use Rattle.tables.specs.Decode.{byteAt, halfAt, relOf, rightAt, ifAt, atomsFrom, kindAt, xAt, yAt, zAt, memberAt, atomCountAt, firstAtomAt, lineAt, targetAt, rowsFrom, allRows, rowCount, atomCount, classCount, methodCount, mainFirst, requiresAt, ensuresAt, methodPlace, firstRowAt, classesFrom, methodsFrom}
 use Rattle.tables.specs.Tables.{AtomFits, ClassFits, BlockFits}
 use Rattle.tables.specs.Stores.{meaning}
 use Rattle.emit.specs.declared.Operands.{Operands}
@@ -111,22 +111,15 @@ pub record RowsHold (D : Declared) (w : List ℕ) (n : ℕ) (rs : List Row) : Ty
 
 -- METHODS
 
-unfoldable pub flatMethodAt : List ℕ → ℕ → FlatMethod
-flatMethodAt w m = record { requires = requiresAt w m; ensures = ensuresAt w m; first = firstRowAt w m }
-
-unfoldable pub flatMethodsFrom : List ℕ → ℕ → ℕ → List FlatMethod
-flatMethodsFrom w m zero = []
-flatMethodsFrom w m (suc n) = flatMethodAt w m ∷ flatMethodsFrom w (suc m) n
-
 -- where n atoms and R rows are written
 pub record MethodOk (w : List ℕ) (n R m : ℕ) : Type 0 where
   pub requires : Range n (halfAt w (methodPlace m)) (byteAt w (methodPlace m + 2))
   pub ensures : Range n (halfAt w (methodPlace m + 4)) (byteAt w (methodPlace m + 3))
   pub first : firstRowAt w m ≤ R
 
-pub record MethodsHold (w : List ℕ) (n R : ℕ) (ms : List FlatMethod) : Type 0 where
+pub record MethodsHold (w : List ℕ) (n R : ℕ) (ms : List Method) : Type 0 where
   pub few : length ms ≤ most-methods
-  pub mean : flatMethodsFrom w 0 (length ms) ≡ ms
+  pub mean : methodsFrom w 0 (length ms) ≡ ms
   pub fit : (m : ℕ) → m < length ms → MethodOk w n R m
 
 -- CLASSES
@@ -138,7 +131,7 @@ pub record ClassesHold (w : List ℕ) (cs : List (List Field)) : Type 0 where
 -- ALL OF THEM
 
 -- the tables in w mean F; n atoms are written
-pub record Holds (D : Declared) (w : List ℕ) (F : Flat) (n : ℕ) : Type 0 where
+pub record Holds (D : Declared) (w : List ℕ) (F : Program) (n : ℕ) : Type 0 where
   pub size : length w ≡ work-bytes
   pub main : F .main ≤ length (F .rows)
   pub atoms : AtomsHold w n
@@ -147,7 +140,7 @@ pub record Holds (D : Declared) (w : List ℕ) (F : Flat) (n : ℕ) : Type 0 whe
   pub classes : ClassesHold w (F .classes)
 
 -- and the last of them, from a on, are the formula φ
-pub record Building (D : Declared) (w : List ℕ) (F : Flat) (a n : ℕ) (φ : Formula ℕ) : Type 0 where
+pub record Building (D : Declared) (w : List ℕ) (F : Program) (a n : ℕ) (φ : Formula ℕ) : Type 0 where
   pub holds : Holds D w F n
   pub place : n ≡ a + length φ
   pub mean : atomsFrom w a (length φ) ≡ φ
@@ -155,7 +148,7 @@ pub record Building (D : Declared) (w : List ℕ) (F : Flat) (a n : ℕ) (φ : F
 -- THE END OF THE TEXT
 
 -- the header has the counts
-pub record Finished (D : Declared) (w : List ℕ) (F : Flat) (n : ℕ) : Type 0 where
+pub record Finished (D : Declared) (w : List ℕ) (F : Program) (n : ℕ) : Type 0 where
   pub holds : Holds D w F n
   pub rows : rowCount w ≡ length (F .rows)
   pub atoms : atomCount w ≡ n
@@ -166,8 +159,8 @@ pub record Finished (D : Declared) (w : List ℕ) (F : Flat) (n : ℕ) : Type 0 
 -- what `RowFits` says of the rows that follow a row
 pub record TargetFits (w : List ℕ) (i : ℕ) : Type 0 where
   pub target : (kindAt w i ≡ 15) ⊎ (kindAt w i ≡ 16) → targetAt w i < rowCount w
-  pub after-else : kindAt w i ≡ 15 → drop (targetAt w i) (allRows w) ≡ afterElse (drop i (allRows w))
-  pub to-join : kindAt w i ≡ 16 → drop (targetAt w i) (allRows w) ≡ toJoin (drop i (allRows w))
+  pub after-else : kindAt w i ≡ 15 → targetAt w i ≡ suc (closing (allRows w) i)
+  pub to-join : kindAt w i ≡ 16 → targetAt w i ≡ closing (allRows w) i
   pub next : (kindAt w i ≡ 18) ⊎ (suc i < rowCount w)
 
 -- what `Tables` says beside what each row was given

@@ -9,24 +9,23 @@ use native.Mathlib.Omega.{arith}
 use native.Mathlib.Decide.{decLt}
 use lib.Dec.{T, eqb, ltb}
 use lib.ListN.{length, getD, drop, set, drop-of-length-le}
-use Rattle.rules.specs.Syntax.{Row, Program, end}
+use Rattle.rules.specs.Syntax.{Row, Program, end, noRow}
 use Rattle.rules.proofs.Lists.{decide-eq}
-use Rattle.rules.specs.Machine.{noRow}
 use Rattle.rules.specs.Answers.{accepted}
 use Rattle.rules.specs.Items.{Item}
 use Rattle.rules.specs.Reading.{readText, program}
-use Rattle.assembly.specs.Flat.{Flat, FlatMethod, noFlat, flatFrom, methodIn, assembled}
-use Rattle.assembly.proofs.Assembled.{flat-rows, flat-program}
+use Rattle.rules.specs.Syntax.{Method}
+use Rattle.rules.specs.Reading.{noProgram, withItems}
 use Rattle.assembly.specs.Nests.{rowsNest}
-use Rattle.assembly.proofs.ReadOrder.{BodiesNest, read-in-order, read-nests, read-blocks}
-use Rattle.tables.specs.Decode.{rowPlace, kindAt, stmtAt, ifAt, rowAt, rowsFrom, firstRowAt, allRows, targetAt, rowCount, methodCount, mainFirst, programIn}
+use Rattle.assembly.proofs.ReadOrder.{BodiesNest, read-nests, read-blocks}
+use Rattle.tables.specs.Decode.{rowPlace, kindAt, stmtAt, ifAt, rowAt, rowsFrom, firstRowAt, allRows, targetAt, rowCount, methodCount, mainFirst, programIn, methodAt, methodsFrom}
 use Rattle.tables.specs.Tables.{Tables, BlockFits, nested}
 use Rattle.tables.specs.Stores.{putHalf, Kept}
 use Rattle.tables.proofs.Bytes.{half-kept}
 use Rattle.targets.specs.Targets.{pushed, popped, replaced, openAfter, putTarget, workAfter, targetsFrom}
 use Rattle.emit.specs.Puts as Puts
 use Rattle.emit.specs.Puts.{putBytes}
-use Rattle.emit.specs.Holds.{Declared, Holds, Finished, TargetFits, flatMethodAt, flatMethodsFrom}
+use Rattle.emit.specs.Holds.{Declared, Holds, Finished, TargetFits}
 use Rattle.emit.proofs.Rows.{target-written}
 use Rattle.emit.proofs.Header.{withHeader, header-written, header-kept, finished-program, finished-tables}
 use Rattle.targets.specs.Right.{TargetRight}
@@ -44,7 +43,7 @@ same-put : (w : List ℕ) (t v : ℕ) → Puts.putTarget w t v ≡ putHalf w (ro
 unfolding Puts.putTarget putBytes putHalf
 same-put w t v = ap (λ (j : ℕ). set (set w (rowPlace t + 10) (v % 256)) j (v / 256)) (sym (add-one (rowPlace t + 10)))
 
-module _ (D : Declared) (F : Flat) (n : ℕ) where
+module _ (D : Declared) (F : Program) (n : ℕ) where
   put-holds : (w : List ℕ) (st : List ℕ) (v : ℕ) → Small st → Holds D w F n → Holds D (putTarget w st v) F n
   unfolding putTarget
   put-holds w [] v s h = h
@@ -108,11 +107,11 @@ rows-at w i (suc n) zero l = let e : i + 0 ≡ i = omega arith in rw e
 rows-at w i (suc n) (suc j) l =
     let e : suc i + j ≡ i + suc j = omega arith in rows-at w (suc i) n j (omega (arith, l)) ∙ ap (rowAt w) e
 
-noFlatMethod : FlatMethod
-noFlatMethod = record { requires = []; ensures = []; first = 0 }
+noneMethod : Method
+noneMethod = record { requires = []; ensures = []; first = 0 }
 
-methods-at : (w : List ℕ) (m n j : ℕ) → j < n → getD (flatMethodsFrom w m n) j noFlatMethod .first ≡ firstRowAt w (m + j)
-unfolding flatMethodsFrom flatMethodAt
+methods-at : (w : List ℕ) (m n j : ℕ) → j < n → getD (methodsFrom w m n) j noneMethod .first ≡ firstRowAt w (m + j)
+unfolding methodsFrom methodAt
 methods-at w m zero j l = absurd (omega (arith, l))
 methods-at w m (suc n) zero l = let e : m + 0 ≡ m = omega arith in ap (firstRowAt w) (sym e)
 methods-at w m (suc n) (suc j) l =
@@ -120,9 +119,8 @@ methods-at w m (suc n) (suc j) l =
 
 -- the block of the j-th method
 body-at :
-    (rs : List Row) (ms : List FlatMethod) → BodiesNest (map (methodIn rs) ms) → (j : ℕ) → j < length ms →
-    T (rowsNest false [] (drop (getD ms j noFlatMethod .first) rs))
-unfolding methodIn
+    (rs : List Row) (ms : List Method) → BodiesNest rs ms → (j : ℕ) → j < length ms →
+    T (rowsNest false [] (drop (getD ms j noneMethod .first) rs))
 body-at rs [] b j l = absurd (omega (arith, l))
 body-at rs (m ∷ ms) b zero l = b .0
 body-at rs (m ∷ ms) b (suc j) l = body-at rs ms (b .1) j (omega (arith, l))
@@ -138,8 +136,8 @@ block-begins rs i t = (go (decLt i (length rs)), rows-nested (drop i rs) [] t)
 
 -- THE CLAIM
 module _ (t : List ℕ) (items : List Item) (read : readText t ≡ accepted items) (D : Declared) (w : List ℕ) (n : ℕ) where
-  F : Flat
-  F = flatFrom noFlat 0 items
+  F : Program
+  F = program items
 
   R : ℕ
   R = length (F .rows)
@@ -152,13 +150,9 @@ module _ (t : List ℕ) (items : List Item) (read : readText t ≡ accepted item
   ended = withHeader linked F n
 
   module _ (h : Holds D w F n) where
-    whole : assembled F ≡ program items
-    unfolding F
-    whole = flat-program items (read-in-order t items read)
-
     nests : T (rowsNest true [] (F .rows))
     unfolding F
-    nests = subst (λ (r : List Row). T (rowsNest true [] r)) (sym (flat-rows noFlat 0 items)) (read-nests t items read)
+    nests = read-nests t items read
 
     few : R ≤ 256
     unfolding R
@@ -231,40 +225,41 @@ module _ (t : List ℕ) (items : List Item) (read : readText t ≡ accepted item
             inr (omega (arith, s, counted))
 
     blocks : (m : ℕ) → m < methodCount ended → BlockFits ended (firstRowAt ended m)
-    unfolding assembled
+    unfolding F
     blocks m u =
         let l : m < length (F .methods) = omega (arith, u, finished .methods) in
-        let b : BodiesNest (map (methodIn (F .rows)) (F .methods)) = subst (λ (P : Program). BodiesNest (P .methods)) (sym whole) (read-blocks t items read .0) in
+        let b : BodiesNest (F .rows) (F .methods) = read-blocks t items read .0 in
         let z : 0 + m ≡ m = omega arith in
-        let e : getD (F .methods) m noFlatMethod .first ≡ firstRowAt ended m =
-        ap (λ (ms : List FlatMethod). getD ms m noFlatMethod .first) (sym (finished .holds .methods .mean))
+        let e : getD (F .methods) m noneMethod .first ≡ firstRowAt ended m =
+        ap (λ (ms : List Method). getD ms m noneMethod .first) (sym (finished .holds .methods .mean))
         ∙ (methods-at ended 0 (length (F .methods)) m l ∙ ap (firstRowAt ended) z) in
-        let (x, y) = block-begins (F .rows) (getD (F .methods) m noFlatMethod .first) (body-at (F .rows) (F .methods) b m l) in
+        let (x, y) = block-begins (F .rows) (getD (F .methods) m noneMethod .first) (body-at (F .rows) (F .methods) b m l) in
         (omega (arith, x, e, counted-all), rw (all-are, ← e) y)
 
     main-fits : BlockFits ended (mainFirst ended)
-    unfolding assembled
+    unfolding F
     main-fits =
-        let b : T (rowsNest false [] (drop (F .main) (F .rows))) = subst (λ (P : Program). T (rowsNest false [] (P .main))) (sym whole) (read-blocks t items read .1) in
+        let b : T (rowsNest false [] (drop (F .main) (F .rows))) = read-blocks t items read .1 in
         let (x, y) = block-begins (F .rows) (F .main) b in
         (omega (arith, x, finished .main, counted-all), rw (all-are, finished .main) y)
 
     tables : D .classes ≡ length (F .classes) → D .methods ≡ length (F .methods) → Tables ended × (programIn ended ≡ program items)
+    unfolding F
     tables c m = (
       finished-tables D ended F n c m finished (record { targets = target-fits; blocks = blocks; main = main-fits }),
-      finished-program D ended F n finished ∙ whole,
+      finished-program D ended F n finished,
     )
 
 -- what `finish` leaves of tables in which n atoms are written
-abbrev pub endedTables : List ℕ → Flat → ℕ → List ℕ
+abbrev pub endedTables : List ℕ → Program → ℕ → List ℕ
 endedTables w F n = withHeader (targetsFrom w 0 (length (F .rows)) []) F n
 
 -- Tables that hold what the items of a read text say, line by line, are, once they are ended, tables for the checker and the
 -- machine, and mean the text's program.
 pub read-tables :
     (t : List ℕ) (items : List Item) → readText t ≡ accepted items → (D : Declared) (w : List ℕ) (n : ℕ) →
-    Holds D w (flatFrom noFlat 0 items) n → D .classes ≡ length (flatFrom noFlat 0 items .classes) →
-    D .methods ≡ length (flatFrom noFlat 0 items .methods) →
-    Tables (endedTables w (flatFrom noFlat 0 items) n) × (programIn (endedTables w (flatFrom noFlat 0 items) n) ≡ program items)
+    Holds D w (program items) n → D .classes ≡ length (program items .classes) →
+    D .methods ≡ length (program items .methods) →
+    Tables (endedTables w (program items) n) × (programIn (endedTables w (program items) n) ≡ program items)
 unfolding F R linked ended
 read-tables t items e D w n h c m = tables t items e D w n h c m

@@ -18,7 +18,7 @@ use Rattle.declared.specs.declared.Names.{Names}
 use Rattle.declared.specs.Rows.{rows, entryAt, fields-first}
 use Rattle.declared.specs.Meanings.{asField, declarationsIn}
 use Rattle.declared.proofs.Searches.{rows-length, rows-at, any-index}
-use Rattle.assembly.specs.Flat.{onLast}
+use Rattle.rules.specs.Reading.{onLast}
 
 -- THE LAST OF A LIST
 module _ {A : Type 0} (d : A) where

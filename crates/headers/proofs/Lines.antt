@@ -36,7 +36,8 @@ use Rattle.declared.proofs.Searches.{rows-length}
 use Rattle.declared.proofs.Puts.{row-length, row-other, row-tables}
 use Rattle.declared.proofs.Scopes.{names-kept, scope-kept, block-put, block-declarations, block-tables, local-put, variable-row}
 use Rattle.declare.specs.Declares.{lineWith, MethodRow, methodEntry}
-use Rattle.assembly.specs.Flat.{Flat, flatWith, onLast}
+use Rattle.rules.specs.Syntax.{Program}
+use Rattle.rules.specs.Reading.{withItem, onLast}
 use Rattle.emit.specs.Puts.{putClass, putField, putMethod}
 use Rattle.emit.specs.Holds.{Holds}
 use Rattle.emit.proofs.Kept.{holds-same}
@@ -58,7 +59,7 @@ next k p = moved p (namesAfter k (p .names)) (aboveAfter k (p .above)) (cond (is
 
 module _ (t w : List ℕ) (p : Pass) (l : Line) (w′ : List ℕ) where
   -- what the tables mean with the line, its class's fields by the scope after it
-  pub record Grown (F : Flat) : Type 0 where
+  pub record Grown (F : Program) : Type 0 where
     pub holds : Holds (counts (p .names)) w′ F (p .atoms)
     pub rows : length (F .rows) ≡ p .rows
     pub classes : length (F .classes) ≡ aboveAfter (l .kind) (p .above) .classes
@@ -70,7 +71,7 @@ module _ (t w : List ℕ) (p : Pass) (l : Line) (w′ : List ℕ) where
 
   pub declaration-put :
       isStatement (l .kind) ≡ false → isFramed (l .kind) ≡ false → counts (namesAfter (l .kind) (p .names)) ≡ counts (p .names) →
-      ((F : Flat) → Stands t w p F → Grown (flatWith F (suc (p .line)) (item t w p l))) →
+      ((F : Program) → Stands t w p F → Grown (withItem F (suc (p .line)) (item t w p l))) →
       declarationsIn t w′ (namesAfter (l .kind) (p .names)) ≡ declarationsIn t w (p .names) →
       scopeIn t w′ (namesAfter (l .kind) (p .names)) (aboveAfter (l .kind) (p .above)) ≡ scopeAfter (scopeIn t w (p .names) (p .above)) l →
       Kept lines-at work-bytes w w′ → length w′ ≡ length w → DeclarationPut t w p l w′ (next (l .kind) p)
@@ -84,7 +85,7 @@ module _ (t w : List ℕ) (p : Pass) (l : Line) (w′ : List ℕ) where
               built = λ F h.
                   let x = g F h in
                   record {
-                    holds = subst (λ D. Holds D w′ (flatWith F (suc (p .line)) (item t w p l)) (p .atoms)) (sym n) (x .holds);
+                    holds = subst (λ D. Holds D w′ (withItem F (suc (p .line)) (item t w p l)) (p .atoms)) (sym n) (x .holds);
                     rows = x .rows;
                     classes = x .classes;
                     methods = x .methods;
@@ -104,7 +105,7 @@ module _ (t w : List ℕ) (p : Pass) (l : Line) (w′ : List ℕ) where
 pub class-line :
     (t w : List ℕ) (p : Pass) (ws : List Name) → Ready t w p → Room t w p (lineWith Class ws) →
     DeclarationPut t w p (lineWith Class ws) (putClass w (p .above .classes)) (next Class p)
-unfolding namesAfter aboveAfter nextRange isFramed itemOf flatWith lastClass Scope.opened Grammar.opened
+unfolding namesAfter aboveAfter nextRange isFramed itemOf withItem lastClass Scope.opened Grammar.opened
 class-line t w p ws r m =
     let x = m .class refl in
     let c : ℕ = p .above .classes in
@@ -121,7 +122,7 @@ class-line t w p ws r m =
     let n = end-length (F .classes) [] in
     record {
       holds =
-          subst (λ k. Holds (counts (p .names)) (putClass w k) (flatWith F (suc (p .line)) (item t w p (lineWith Class ws))) (p .atoms)) (s .classes)
+          subst (λ k. Holds (counts (p .names)) (putClass w k) (withItem F (suc (p .line)) (item t w p (lineWith Class ws))) (p .atoms)) (s .classes)
           (class-written (counts (p .names)) w F (p .atoms) (suc (p .line)) (omega (arith, few, s .classes)) (s .holds));
       rows = s .rows;
       classes = omega (arith, n, s .classes);
@@ -138,7 +139,7 @@ class-line t w p ws r m =
 -- `main`
 pub main-line :
     (t w : List ℕ) (p : Pass) (ws : List Name) → DeclarationPut t w p (lineWith Main ws) w (next Main p)
-unfolding namesAfter aboveAfter isFramed itemOf flatWith lastClass Scope.opened Grammar.opened
+unfolding namesAfter aboveAfter isFramed itemOf withItem lastClass Scope.opened Grammar.opened
 main-line t w p ws =
     declaration-put t w p (lineWith Main ws) w refl refl refl
     (λ F s.
@@ -161,7 +162,7 @@ map-end : {A B : Type 0} (f : A → B) (l : List A) (a : A) → map f (l ++ (a �
 map-end f [] a = refl
 map-end f (b ∷ l) a = ap (_∷_ (f b)) (map-end f l a)
 
-module _ (t w : List ℕ) (p : Pass) (F : Flat) (s : Stands t w p F) where
+module _ (t w : List ℕ) (p : Pass) (F : Program) (s : Stands t w p F) where
   last-count : length (lastClass F) ≡ p .above .fields .count
   unfolding scopeIn namesFrom
   last-count =
@@ -206,7 +207,7 @@ module _ (t w : List ℕ) (p : Pass) (ws : List Name) (k : ℕ) (r : Ready t w p
 
   pub field-line :
       isNew (getD ws 1 []) (scopeIn t w (p .names) (p .above) .members .fields) ≡ true → DeclarationPut t w p (lineWith Field ws) put (next Field p)
-  unfolding namesAfter aboveAfter oneMore isFramed itemOf resolveField flatWith lastClass Scope.opened Grammar.opened
+  unfolding namesAfter aboveAfter oneMore isFramed itemOf resolveField withItem lastClass Scope.opened Grammar.opened
   field-line new =
       let j : ℕ = fieldCountAt w k in
       let few = field-fits in
@@ -322,7 +323,7 @@ module _
       ∙ method-names w (after (p .above .methods)) (p .rows) (r .whole) few-methods j (omega arith) (omega arith)
 
   pub method-line : DeclarationPut t w p (lineWith Method ws) (putBlock t with-row k n s) (next Method p)
-  unfolding namesAfter aboveAfter oneMore withBlock declarationsIn isFramed itemOf flatWith lastClass Scope.opened Grammar.opened
+  unfolding namesAfter aboveAfter oneMore withBlock declarationsIn isFramed itemOf withItem lastClass Scope.opened Grammar.opened
   method-line =
       let c : Names = withBlock true (p .names) in
       let room = m .method refl in
@@ -341,7 +342,7 @@ module _
       } in
       declaration-put t w p (lineWith Method ws) (putBlock t with-row k n s) refl refl refl
       (λ F x.
-      let G : Flat = flatWith F (suc (p .line)) (item t w p (lineWith Method ws)) in
+      let G : Program = withItem F (suc (p .line)) (item t w p (lineWith Method ws)) in
       let e = method-written (counts (p .names)) w F (p .atoms) (suc (p .line)) (omega (arith, few-methods, x .methods)) (x .holds) in
       let f : Holds (counts (p .names)) with-row G (p .atoms) =
       subst (λ u. Holds (counts (p .names)) u G (p .atoms)) (λ j. putMethod w (x .methods j) (x .rows j)) e in
@@ -366,7 +367,7 @@ pub var-line :
     (t w : List ℕ) (p : Pass) (ws : List Name) (s g : Span) → Ready t w p → Room t w p (lineWith Var ws) →
     nameIn t g ≡ getD ws 0 [] → nameIn t s ≡ getD ws 1 [] → SpanFits s → SpanFits g →
     DeclarationPut t w p (lineWith Var ws) (putRow t w (variables-first + (2 + p .names .locals)) (variableRow s g)) (next Var p)
-unfolding namesAfter aboveAfter moreLocals declarationsIn scopeIn isFramed itemOf flatWith lastClass Scope.opened Grammar.opened
+unfolding namesAfter aboveAfter moreLocals declarationsIn scopeIn isFramed itemOf withItem lastClass Scope.opened Grammar.opened
 var-line t w p ws s g r m type name fs fg =
     let i : ℕ = variables-first + (2 + p .names .locals) in
     let u : List ℕ = putRow t w i (variableRow s g) in

@@ -87,7 +87,7 @@ module _ (w : List ℕ) (tables : Tables w) where
             record {
               size = entry-size;
               values = λ x l. zero-values x l ∙ sym (fill-word w frames-at 15 0 x (omega (arith, tables .size)) (omega arith) l);
-              rows = sym (ap (drop (mainFirst w)) (all-same w w′ begin-tables tables));
+              row-is = refl;
               row-fits = omega (arith, tables .main-fits .0, rows-count-same w w′ begin-tables);
               held = λ p. sym (ap (λ (i : ℕ). eqb i 1) (nobody w′ p));
               numbered = omega arith;
@@ -137,7 +137,7 @@ main-values w n bound number row F (G ∷ Fs) I C = main-values w n _ _ _ G Fs (
 -- THE END
 ends-are :
     {w : List ℕ} {c : Machine} {m : Config} (R : Represents w c m) (e : Answers.Ending) (n : ℕ) →
-    ends e n m ≡ record { ending = e; line = lineAt w (c .row); steps = n; values = mainValues w }
+    ends (programIn w) e n m ≡ record { ending = e; line = lineAt w (c .row); steps = n; values = mainValues w }
 unfolding ends rowAt
 ends-are {w} {c} {m} R e n =
     λ i.
@@ -201,7 +201,7 @@ module _ {w₀ w : List ℕ} {k : ℕ} {c : Machine} (G : Going w₀ w k c) wher
 
   -- one step of the run
   one : (l : c .steps < k) → run wholeHeap (programIn w₀) (k - c .steps) (c .steps) (G .state)
-      ≡ goOn (step wholeHeap (programIn w) (G .state)) (c .steps) (G .state) (λ m′. run wholeHeap (programIn w₀) (k - (c .steps + 1)) (suc (c .steps)) m′)
+      ≡ goOn (programIn w₀) (step wholeHeap (programIn w) (G .state)) (c .steps) (G .state) (λ m′. run wholeHeap (programIn w₀) (k - (c .steps + 1)) (suc (c .steps)) m′)
   unfolding run
   one l = let e : k - c .steps ≡ suc (k - (c .steps + 1)) = omega arith in rw (e, program-is)
 
@@ -220,7 +220,7 @@ module _ {w₀ w : List ℕ} {k : ℕ} {c : Machine} (G : Going w₀ w k c) wher
             rw (N .counted)
             (let e : c .steps + 1 ≡ suc (c .steps) = add-one (c .steps) in
             ap (λ (i : ℕ). run wholeHeap (programIn w₀) (k - (c .steps + 1)) i (N .next)) e
-            ∙ (sym (ap (λ (s : Step). goOn s (c .steps) (G .state) (λ m′. run wholeHeap (programIn w₀) (k - (c .steps + 1)) (suc (c .steps)) m′)) (N .is-next))
+            ∙ (sym (ap (λ (s : Step). goOn (programIn w₀) s (c .steps) (G .state) (λ m′. run wholeHeap (programIn w₀) (k - (c .steps + 1)) (suc (c .steps)) m′)) (N .is-next))
             ∙ (sym (one l) ∙ G .is-run)));
       }
 
@@ -232,14 +232,14 @@ module _ {w₀ w : List ℕ} {k : ℕ} {c : Machine} (G : Going w₀ w k c) wher
 
   ended-as :
       {w′ : List ℕ} (e : Ending) (n : ℕ) (r : Ran) → SameTables w w′ → Represents w′ c (G .state) →
-      run wholeHeap (programIn w₀) (k - c .steps) (c .steps) (G .state) ≡ ends (endingOf e) n (G .state) → r .ending ≡ e →
+      run wholeHeap (programIn w₀) (k - c .steps) (c .steps) (G .state) ≡ ends (programIn w₀) (endingOf e) n (G .state) → r .ending ≡ e →
       r .line ≡ lineAt w′ (c .row) → r .steps ≡ n → RanAs w₀ k w′ r
   ended-as {w′} e n r t R q re rl rs =
       record {
         tables = same-trans (G .same) t;
         outcome =
-            sym (G .is-run) ∙ (q ∙ (ends-are R (endingOf e) n
-            ∙ λ i. record { ending = endingOf (sym re i); line = sym rl i; steps = sym rs i; values = mainValues w′ }));
+            sym (G .is-run) ∙ (q ∙ (ap (λ (P : Program). ends P (endingOf e) n (G .state)) (sym (program-same w₀ w′ (same-trans (G .same) t) (G .tables))) ∙ (ends-are R (endingOf e) n
+            ∙ λ i. record { ending = endingOf (sym re i); line = sym rl i; steps = sym rs i; values = mainValues w′ })));
       }
 
   pub ends-taken :
@@ -256,7 +256,7 @@ module _ {w₀ w : List ℕ} {k : ℕ} {c : Machine} (G : Going w₀ w k c) wher
   ends-stopped {w′} f r l D =
       let (s, R) = D .follows (G .state) (G .represents) in
       ended-as (Ending.Stopped f) (c .steps) r (D .tables) R
-      (one l ∙ ap (λ (t : Step). goOn t (c .steps) (G .state) (λ m′. run wholeHeap (programIn w₀) (k - (c .steps + 1)) (suc (c .steps)) m′)) s)
+      (one l ∙ ap (λ (t : Step). goOn (programIn w₀) t (c .steps) (G .state) (λ m′. run wholeHeap (programIn w₀) (k - (c .steps + 1)) (suc (c .steps)) m′)) s)
 
   pub ends-finished :
       {w′ : List ℕ} (r : Ran) → c .steps < k → Does w c w′ Turn.Done (step wholeHeap (programIn w)) →
@@ -266,4 +266,4 @@ module _ {w₀ w : List ℕ} {k : ℕ} {c : Machine} (G : Going w₀ w k c) wher
       let (s, R) = D .follows (G .state) (G .represents) in
       ended-as Ending.Finished (c .steps + 1) r (D .tables) R
       (rw add-one
-      (one l ∙ ap (λ (t : Step). goOn t (c .steps) (G .state) (λ m′. run wholeHeap (programIn w₀) (k - (c .steps + 1)) (suc (c .steps)) m′)) s))
+      (one l ∙ ap (λ (t : Step). goOn (programIn w₀) t (c .steps) (G .state) (λ m′. run wholeHeap (programIn w₀) (k - (c .steps + 1)) (suc (c .steps)) m′)) s))

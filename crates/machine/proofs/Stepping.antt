@@ -5,9 +5,9 @@ use mathlib.Core.Logic.{_⊎_, inl, inr}
 use Prim.Native.Nat.{ℕ, _+_, _≤_}
 use native.Mathlib.Omega.{arith}
 use Rattle.rules.specs.Syntax.{Row, Stmt, result-variable, var}
-use Rattle.rules.specs.Machine.{Config, Step, Room, took, on, rowOf, step, stepAt, simpleStep, withFrame, jump, toJoin, setStep, assignStep, newStep, callStep, ifStep, assertStep, releaseStep, endStep}
+use Rattle.rules.specs.Machine.{Config, Step, Room, took, on, statementOf, step, stepAt, simpleStep, elseStep, setStep, assignStep, newStep, callStep, ifStep, assertStep, releaseStep, endStep}
 use Rattle.rules.specs.declared.Machine.{Machine}
-use Rattle.tables.specs.Decode.{byteAt, atomPlace, relOf, rowAt, stmtAt, ifAt, kindAt, xAt, yAt, zAt, memberAt, firstAtomAt, formulaAt, leftAt, rightAt, methodAt, classAt, programIn}
+use Rattle.tables.specs.Decode.{allRows, byteAt, atomPlace, relOf, rowAt, stmtAt, ifAt, kindAt, xAt, yAt, zAt, memberAt, firstAtomAt, formulaAt, leftAt, rightAt, methodAt, classAt, programIn}
 use Rattle.tables.proofs.Rows.{method-get, class-get}
 use Rattle.steps.specs.declared.Turn.{Turn}
 use Rattle.steps.specs.States.{Represents, Follows, Does, Ready, AtKind}
@@ -16,8 +16,8 @@ use Rattle.steps.proofs.Doing.{fits}
 use Rattle.steps.proofs.Statements.{at-set, at-let, at-new, at-call, at-return, at-assert, at-release, at-if, at-else, at-join, at-end}
 
 -- the statement that is done
-statement : {w : List ℕ} {c : Machine} (m : Config) → Represents w c m → rowOf (m .frame) .stmt ≡ stmtAt w (c .row)
-unfolding rowAt
+statement : {w : List ℕ} {c : Machine} (m : Config) → Represents w c m → statementOf (programIn w) (m .frame) ≡ stmtAt w (c .row)
+unfolding rowAt statementOf
 statement m R = ap (λ (r : Row). r .stmt) (row-of (R .frame))
 
 up : (a k : ℕ) → a ≤ k → (k ≡ a → ⊥) → a + 1 ≤ k
@@ -89,16 +89,16 @@ module _ {w w′ : List ℕ} {c : Machine} {r : Turn} (ready : Ready w c) (room 
   pub ifs :
       AtKind w c 15 →
       Does w c w′ r
-      (λ m. took (ifStep (relOf (byteAt w (atomPlace (firstAtomAt w (c .row))))) (leftAt w (firstAtomAt w (c .row))) (rightAt w (firstAtomAt w (c .row))) m)) →
+      (λ m. took (ifStep (allRows w) (relOf (byteAt w (atomPlace (firstAtomAt w (c .row))))) (leftAt w (firstAtomAt w (c .row))) (rightAt w (firstAtomAt w (c .row))) m)) →
       Does w c w′ r (step room (programIn w))
-  unfolding stepAt ifAt
+  unfolding stepAt ifAt programIn
   ifs k = does-as _ (λ m. rw (at-if w (c .row) k))
 
   pub elses :
-      AtKind w c 16 → Does w c w′ r (λ m. on (withFrame m (jump (toJoin (m .frame .rows)) (m .frame)))) → Does w c w′ r (step room (programIn w))
-  unfolding stepAt
+      AtKind w c 16 → Does w c w′ r (λ m. on (elseStep (allRows w) m)) → Does w c w′ r (step room (programIn w))
+  unfolding stepAt programIn
   elses k = does-as _ (λ m. rw (at-else w (c .row) k))
 
-  pub ends : AtKind w c 18 → Does w c w′ r (λ m. endStep m (m .callers)) → Does w c w′ r (step room (programIn w))
+  pub ends : AtKind w c 18 → Does w c w′ r (λ m. endStep (programIn w) m (m .callers)) → Does w c w′ r (step room (programIn w))
   unfolding stepAt
   ends k = does-as _ (λ m. rw (at-end w (c .row) k))

@@ -25,7 +25,8 @@ use Rattle.declared.specs.declared.Range.{Range}
 use Rattle.declared.specs.Rows.{entryAt, classes-first, fields-first, methods-first}
 use Rattle.declared.specs.Meanings.{Fits, AboveFits, declarationsIn, variablesIn, scopeIn, moreLocals}
 use Rattle.declare.specs.Declares.{lineWith}
-use Rattle.assembly.specs.Flat.{Flat, flatWith}
+use Rattle.rules.specs.Syntax.{Program}
+use Rattle.rules.specs.Reading.{withItem}
 use Rattle.emit.specs.Holds.{Declared, Holds}
 use Rattle.pass.specs.declared.Pass.{Pass}
 use Rattle.pass.specs.declared.Tried.{Tried}
@@ -131,11 +132,11 @@ pub record Ready (t w : List ℕ) (p : Pass) : Type 0 where
   pub above : AboveFits (p .above)
   pub result : p .names .result ≡ p .names .method
 
-unfoldable pub lastClass : Flat → List Field
+unfoldable pub lastClass : Program → List Field
 lastClass F = getD (F .classes) (pred (length (F .classes))) []
 
 -- the tables mean F so far
-pub record Stands (t w : List ℕ) (p : Pass) (F : Flat) : Type 0 where
+pub record Stands (t w : List ℕ) (p : Pass) (F : Program) : Type 0 where
   pub holds : Holds (counts (p .names)) w F (p .atoms)
   pub rows : length (F .rows) ≡ p .rows
   pub classes : length (F .classes) ≡ p .above .classes
@@ -198,9 +199,9 @@ pub record Counts (p : Pass) (k : Kind) (q : Pass) : Type 0 where
 -- the line is in the tables
 pub record LinePut (t w : List ℕ) (p : Pass) (l : Line) (w′ : List ℕ) (q : Pass) : Type 0 where
   pub counted : Counts p (l .kind) q
-  pub built : (F : Flat) → Stands t w p F → Stands t w′ q (flatWith F (suc (p .line)) (item t w p l))
+  pub built : (F : Program) → Stands t w p F → Stands t w′ q (withItem F (suc (p .line)) (item t w p l))
   pub formula :
-      isFramed (l .kind) ≡ true → (F : Flat) → Stands t w p F →
+      isFramed (l .kind) ≡ true → (F : Program) → Stands t w p F →
       atomsFrom w′ (p .atoms) (q .atoms - p .atoms) ≡ framedFormula (item t w p l)
   pub declared : declarationsIn t w′ (q .names) ≡ declarationsIn t w (p .names)
   pub scope : scopeIn t w′ (q .names) (q .above) ≡ scopeAfter (scopeIn t w (p .names) (p .above)) l

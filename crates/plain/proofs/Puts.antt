@@ -20,7 +20,8 @@ use Rattle.lines.specs.Rows.{kindNumbered}
 use Rattle.tables.specs.Decode.{byteAt}
 use Rattle.declared.specs.declared.Names as Counts
 use Rattle.declared.specs.Meanings.{Fits, declarationsIn, variablesIn}
-use Rattle.assembly.specs.Flat.{Flat, flatWith}
+use Rattle.rules.specs.Syntax.{Program}
+use Rattle.rules.specs.Reading.{withItem}
 use Rattle.emit.specs.declared.Operands.{Operands}
 use Rattle.emit.specs.Puts.{putRow, RowBytes}
 use Rattle.emit.specs.Holds.{RowOk, Holds}
@@ -93,16 +94,16 @@ module _ (t w : List ℕ) (c : Counts.Names) (fits : Fits c) (l : ℕ) (ws : Lis
       (λ x. small (rowOf 18) (omega arith) line (empty-ok t w c fits 0 l 18 (omega arith) (omega arith) (omega arith)))
 
   plain-written :
-      (F : Flat) (n : ℕ) → length (F .rows) < most-statements → Holds (counts c) w F n → (k : ℕ) → isPlain k ≡ true → GoodOf k →
+      (F : Program) (n : ℕ) → length (F .rows) < most-statements → Holds (counts c) w F n → (k : ℕ) → isPlain k ≡ true → GoodOf k →
       Holds (counts c) (putRow w (length (F .rows)) (rowOf k))
-      (flatWith F l (itemOf Γ vs (kindNumbered k) (lineWith (kindNumbered k) ws))) n
+      (withItem F l (itemOf Γ vs (kindNumbered k) (lineWith (kindNumbered k) ws))) n
   unfolding kindNumbered kindAt Base.withDefault Base.first Grammar.kindNumber plainRow plainGood
   plain-written F n room h k e =
       plain-kinds
       (λ k.
       GoodOf k →
       Holds (counts c) (putRow w (length (F .rows)) (rowOf k))
-      (flatWith F l (itemOf Γ vs (kindNumbered k) (lineWith (kindNumbered k) ws))) n)
+      (withItem F l (itemOf Γ vs (kindNumbered k) (lineWith (kindNumbered k) ws))) n)
       k e
       (set-written t w c fits n l F room h ws)
       (new-written t w c fits n l F room h ws)
@@ -134,7 +135,7 @@ module _ (t w : List ℕ) (c : Counts.Names) (k r i l : ℕ) (v : List ℕ) (rea
             subst
             (λ z.
             Holds (counts c) z
-            (flatWith F l (itemOf (declarationsIn t w c) (variablesIn t w c) (kindNumbered k) (lineWith (kindNumbered k) fields))) n)
+            (withItem F l (itemOf (declarationsIn t w c) (variablesIn t w c) (kindNumbered k) (lineWith (kindNumbered k) fields))) n)
             (sym (e ∙ ap (λ p. putRow w p o) (sym j)))
             (plain-written t w c (ready .fits) l fields F n (omega (arith, j)) h k (x .kind) good);
         names = λ p a d. ap (λ z. byteAt z p) e ∙ row-names w i o (ready .whole) room p a d;

@@ -26,7 +26,8 @@ use Rattle.declared.specs.Rows.{nameIn}
 use Rattle.declared.specs.Meanings.{Fits, declarationsIn, variablesIn}
 use Rattle.declared.proofs.LookUps.{class-any, method-any}
 use Rattle.tables.specs.Layout.{most-names, frame-variables}
-use Rattle.assembly.specs.Flat.{Flat, flatWith}
+use Rattle.rules.specs.Syntax.{Program}
+use Rattle.rules.specs.Reading.{withItem}
 use Rattle.emit.specs.declared.Operands.{Operands}
 use Rattle.emit.specs.Puts.{putRow}
 use Rattle.emit.specs.Holds.{RowOk, Holds}
@@ -147,10 +148,10 @@ module _ (t w : List ℕ) (c : Counts.Names) (fits : Fits c) (n l : ℕ) where
       (λ i. absurd (omega arith)) (λ i. absurd (omega arith))
 
   -- WHAT IS WRITTEN: the row of a good line is the line's item
-  module _ (F : Flat) (room : length (F .rows) < most-statements) (h : Holds (counts c) w F n) where
+  module _ (F : Program) (room : length (F .rows) < most-statements) (h : Holds (counts c) w F n) where
     -- the row r is written
     abbrev Written : Operands → Kind → List Name → Type 0
-    Written r k ws = Holds (counts c) (putRow w (length (F .rows)) r) (flatWith F l (itemOf Γ vs k (lineWith k ws))) n
+    Written r k ws = Holds (counts c) (putRow w (length (F .rows)) r) (withItem F l (itemOf Γ vs k (lineWith k ws))) n
 
     pub set-written : (ws : List Name) → setGood Γ vs ws ≡ true → Written (setRow Γ vs ws l) Set ws
     unfolding itemOf Items.resolveSet Scopes.operand setRow

@@ -19,7 +19,8 @@ use Rattle.tables.specs.Stores.{Kept}
 use Rattle.declared.specs.declared.Names.{Names}
 use Rattle.declared.specs.Meanings.{Fits, declarationsIn, variablesIn}
 use Rattle.declared.specs.Answers.{good}
-use Rattle.assembly.specs.Flat.{Flat, flatWith}
+use Rattle.rules.specs.Syntax.{Program}
+use Rattle.rules.specs.Reading.{withItem}
 use Rattle.emit.specs.declared.Operands.{Operands}
 use Rattle.emit.specs.Holds.{Holds}
 use Rattle.pass.specs.Passes.{counts, lineAfter, isGood}
@@ -121,8 +122,8 @@ pub record PlainFollows (t : List ℕ) (k r : ℕ) : Type 0 where
 -- it is written as the row i, and is the line l
 pub record PlainPut (t w : List ℕ) (c : Names) (k r i l : ℕ) (w′ : List ℕ) : Type 0 where
   pub built :
-      (F : Flat) (n : ℕ) → length (F .rows) ≡ i → Holds (counts c) w F n →
-      Holds (counts c) w′ (flatWith F l (itemOf (declarationsIn t w c) (variablesIn t w c) (kindNumbered k) (lineAfter t r k))) n
+      (F : Program) (n : ℕ) → length (F .rows) ≡ i → Holds (counts c) w F n →
+      Holds (counts c) w′ (withItem F l (itemOf (declarationsIn t w c) (variablesIn t w c) (kindNumbered k) (lineAfter t r k))) n
   pub names : Kept names-at work-bytes w w′
   pub size : length w′ ≡ length w
 

@@ -1,7 +1,7 @@
 -- Bounds of what is read and checked: the line of a refusal is one of the text, and each number of the program fits 32 bits.
 use mathlib.Core.Path.{_≡_, refl, sym, ap, _∙_}
 use mathlib.Core.Bool.{Bool, true, false, cond, _&&_}
-use mathlib.Core.List.{List, [], _∷_}
+use mathlib.Core.List.{List, [], _∷_, _++_}
 use Prim.Native.Nat.{ℕ, zero, suc, _+_, _-_, _≤_, _<_}
 use native.Mathlib.Omega.{arith}
 use lib.Dec.{T, eqb, ltb, leb, leb→le}
@@ -22,9 +22,9 @@ use Rattle.rules.specs.Places.{Place, firstPlace, scanLine, scanLines, ended}
 use Rattle.rules.specs.Scope.{Declarations, Variable, Scope, operand, declarations, firstScope, scopeAfter}
 use Rattle.rules.specs.Items.{Item, aClass, aField, aMethod, aRequires, anEnsures, aMain, aLocal, aStatement}
 use Rattle.rules.specs.Items.{resolveExpr, itemOf, resolveLine, resolveLines}
-use Rattle.rules.specs.Reading.{readText, framedItem, checkFramed, Parts, parts, methodOf, withItem, partsFrom, program}
+use Rattle.rules.specs.Reading.{readText, framedItem, checkFramed, noProgram, withItem, withItems, program}
 use Rattle.rules.specs.State.{State}
-use Rattle.rules.specs.Rules.{Open, inFirst, inSecond, checkRow, checkRows, elseRow, joinRow, endRow, checkMethod, checkBlocks, checkProgram}
+use Rattle.rules.specs.Rules.{Open, inFirst, inSecond, checkRow, checkRows, checkFrom, elseRow, joinRow, endRow, checkMethod, checkBlocks, checkProgram}
 use Rattle.rules.specs.Calls.{checkItems}
 use Rattle.rules.proofs.Lists.{and-both}
 use Rattle.rules.proofs.Tries.{refused-accepted, accepted-inj, atLine-accepted, then-accepted}
@@ -186,12 +186,8 @@ pub record RowFits (n : ℕ) (r : Row) : Type 0 where
   pub line : r .line ≤ n
   pub stmt : SmallStmt (r .stmt)
 
-abbrev pub MethodFits : ℕ → Method → Type 0
-MethodFits n M = All (RowFits n) (M .body)
-
-pub record ProgramFits (n : ℕ) (P : Program) : Type 0 where
-  pub methods : All (MethodFits n) (P .methods)
-  pub main : All (RowFits n) (P .main)
+abbrev pub ProgramFits : ℕ → Program → Type 0
+ProgramFits n P = All (RowFits n) (P .rows)
 
 number-small : (w : Name) → T (isNumber w) → Small (number w)
 unfolding isNumber number between
@@ -258,32 +254,38 @@ items-small text (none h) = tt
 items-small text (line {l = l} x xs) = (item-small (declarations text) _ (l .kind) (l .fields) (x .formed), items-small text xs)
 
 -- ROWS
-record PartsFit (n : ℕ) (p : Parts) : Type 0 where
-  methods : All (MethodFits n) (p .methods)
-  rows : All (RowFits n) (p .rows)
-  main : All (RowFits n) (p .main)
-
 module _ (n : ℕ) where
-  item-fits : (l : ℕ) (a : Item) (p : Parts) → l ≤ n → SmallItem a → PartsFit n p → PartsFit n (withItem l a p)
-  unfolding withItem parts methodOf
-  item-fits l aClass p h s x = record { methods = x .methods; rows = x .rows; main = x .main }
-  item-fits l (aField f) p h s x = record { methods = x .methods; rows = x .rows; main = x .main }
-  item-fits l aMethod p h s x = record { methods = (x .rows, x .methods); rows = x .rows; main = x .main }
-  item-fits l (aRequires φ) p h s x = record { methods = x .methods; rows = x .rows; main = x .main }
-  item-fits l (anEnsures φ) p h s x = record { methods = x .methods; rows = x .rows; main = x .main }
-  item-fits l aMain p h s x = record { methods = x .methods; rows = x .rows; main = x .rows }
-  item-fits l (aLocal y) p h s x = x
-  item-fits l (aStatement y) p h s x = record { methods = x .methods; rows = (record { line = h; stmt = s }, x .rows); main = x .main }
+  more-fits : (rs : List Row) (r : Row) → All (RowFits n) rs → RowFits n r → All (RowFits n) (rs ++ (r ∷ []))
+  more-fits [] r x y = (y, tt)
+  more-fits (q ∷ rs) r x y = (x .0, more-fits rs r (x .1) y)
 
-  parts-fit : (m : ℕ) (items : List Item) → m + length items ≤ n → All SmallItem items → PartsFit n (partsFrom m items)
-  unfolding partsFrom parts
-  parts-fit m [] h s = record { methods = tt; rows = tt; main = tt }
-  parts-fit m (a ∷ items) h s =
-      item-fits (suc m) a (partsFrom (suc m) items) (omega arith) (s .0) (parts-fit (suc m) items (omega arith) (s .1))
+  item-fits : (P : Program) (l : ℕ) (a : Item) → l ≤ n → SmallItem a → ProgramFits n P → ProgramFits n (withItem P l a)
+  unfolding withItem
+  item-fits P l aClass h s x = x
+  item-fits P l (aField f) h s x = x
+  item-fits P l aMethod h s x = x
+  item-fits P l (aRequires φ) h s x = x
+  item-fits P l (anEnsures φ) h s x = x
+  item-fits P l aMain h s x = x
+  item-fits P l (aLocal y) h s x = x
+  item-fits P l (aStatement y) h s x = more-fits (P .rows) _ x (record { line = h; stmt = s })
+
+  items-fit :
+      (P : Program) (m : ℕ) (items : List Item) → m + length items ≤ n → All SmallItem items → ProgramFits n P →
+      ProgramFits n (withItems P m items)
+  unfolding withItems
+  items-fit P m [] h s x = x
+  items-fit P m (a ∷ items) h s x =
+      items-fit _ (suc m) items (omega arith) (s .1) (item-fits P (suc m) a (omega arith) (s .0) x)
 
   pub program-fits : (items : List Item) → length items ≤ n → All SmallItem items → ProgramFits n (program items)
   unfolding program
-  program-fits items h s = let x = parts-fit 0 items (omega arith) s in record { methods = x .methods; main = x .main }
+  program-fits items h s = items-fit noProgram 0 items (omega arith) s tt
+
+  drop-fits : (i : ℕ) (rs : List Row) → All (RowFits n) rs → All (RowFits n) (drop i rs)
+  drop-fits zero rs x = x
+  drop-fits (suc i) [] x = tt
+  drop-fits (suc i) (r ∷ rs) x = drop-fits i rs (x .1)
 
   module _ (P : Program) (φ : Formula ℕ) where
     row-within :
@@ -307,16 +309,17 @@ module _ (n : ℕ) where
     rows-within (r ∷ rs) s os x =
         row-within (r .stmt) (r .line) _ s os (x .0 .line) (λ s′ os′. rows-within rs s′ os′ (x .1))
 
-  blocks-within : (P : Program) (Ms : List Method) → All (MethodFits n) Ms → All (RowFits n) (P .main) → Within n (checkBlocks P Ms)
-  unfolding checkBlocks checkMethod
-  blocks-within P [] x y = rows-within P [] (P .main) _ [] y
-  blocks-within P (M ∷ Ms) x y =
-      then-within n (checkMethod P M) _ (at-within n 0 _ _ (omega arith) (λ s. rows-within P (M .ensures) (M .body) s [] (x .0)))
-      (λ u e. blocks-within P Ms (x .1) y)
+  blocks-within : (P : Program) (Ms : List Method) → ProgramFits n P → Within n (checkBlocks P Ms)
+  unfolding checkBlocks checkMethod checkFrom
+  blocks-within P [] x = rows-within P [] _ _ [] (drop-fits (P .main) (P .rows) x)
+  blocks-within P (M ∷ Ms) x =
+      then-within n (checkMethod P M) _
+      (at-within n 0 _ _ (omega arith) (λ s. rows-within P (M .ensures) _ s [] (drop-fits (M .first) (P .rows) x)))
+      (λ u e. blocks-within P Ms x)
 
   pub check-within : (items : List Item) → length items ≤ n → All SmallItem items → Within n (checkItems items)
   unfolding checkItems checkProgram
   check-within items h s =
       let x = program-fits items h s in
       then-within n (checkFramed items 0) _ (framed-within n items 0 (omega arith))
-      (λ u e. blocks-within (program items) (program items .methods) (x .methods) (x .main))
+      (λ u e. blocks-within (program items) (program items .methods) x)

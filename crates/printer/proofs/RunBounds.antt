@@ -12,15 +12,15 @@ use Rattle.rules.specs.Limits.{most-frames}
 use Rattle.rules.specs.Answers.{Ending, finished, stepsTaken, stopped, heapFull, framesFull, nullFollowed}
 use Rattle.rules.specs.Syntax.{Expr, Formula, Stmt, Simple, Row, Field, Method, Program, num, null, var, path}
 use Rattle.rules.specs.Syntax.{set, assign, new, call, return, assert, release, simple, if, else, join, end}
-use Rattle.rules.specs.Syntax.{noMethod, result-variable}
+use Rattle.rules.specs.Syntax.{noRow, rowNumbered, methodNumbered, result-variable}
 use Rattle.rules.specs.Machine as Machine
 use Rattle.rules.specs.Machine.{Cell, Heap, Location, Frame, Config, Room, Step, Outcome, on, stop, done}
-use Rattle.rules.specs.Machine.{valueIn, object, valueAt, storeIn, store, valueOf, locate, value, footprint, tail, jump, advance, bind, holding, withFrame, seek, afterElse, toJoin}
-use Rattle.rules.specs.Machine.{compared, ifStep, stored, setStep, assignStep, newCell, grown, newStep, entryValues, callFrame, entered, callStep, targetOf, noRow, rowOf, returned, assertStep, releaseStep, endStep, mainFrame, ends, goOn, simpleStep, stepAt, step, run, start, runProgram}
+use Rattle.rules.specs.Machine.{valueIn, object, valueAt, storeIn, store, valueOf, locate, value, footprint, jump, advance, bind, holding, withFrame, choose, elseStep}
+use Rattle.rules.specs.Machine.{compared, ifStep, stored, setStep, assignStep, newCell, grown, newStep, entryValues, callFrame, entered, callStep, statementOf, returned, assertStep, releaseStep, endStep, mainFrame, ends, goOn, simpleStep, stepAt, step, run, start, runProgram}
 use Rattle.rules.proofs.Lists.{update-length, and-both}
 use Rattle.rules.proofs.Tries.{ok-inj, bind-ok, check-ok}
 use Rattle.rules.proofs.States.{on-inj, took-on}
-use Rattle.printer.proofs.Bounds.{All, all-get, all-update, Small, SmallExpr, SmallSimple, SmallStmt, RowFits, MethodFits, ProgramFits}
+use Rattle.printer.proofs.Bounds.{All, all-get, all-update, Small, SmallExpr, SmallSimple, SmallStmt, RowFits, ProgramFits}
 
 -- VALUES OF A HEAP
 abbrev SmallCell : Cell → Type 0
@@ -79,7 +79,6 @@ entry-long a b = omega arith
 module _ (n : ℕ) where
   record FrameFits (F : Frame) : Type 0 where
     values : All Small (F .values)
-    rows : All (RowFits n) (F .rows)
     size : 15 ≤ length (F .values)
 
   record Fit (m : Config) : Type 0 where
@@ -87,48 +86,29 @@ module _ (n : ℕ) where
     frame : FrameFits (m .frame)
     callers : All FrameFits (m .callers)
 
-  tail-fits : (rs : List Row) → All (RowFits n) rs → All (RowFits n) (tail rs)
-  unfolding tail
-  tail-fits [] x = tt
-  tail-fits (r ∷ rs) x = x .1
-
-  seek-fits : (p : Stmt → Bool) (d : ℕ) (rs : List Row) → All (RowFits n) rs → All (RowFits n) (seek p d rs)
-  unfolding seek
-  seek-fits p d [] x = tt
-  seek-fits p d (r ∷ rs) x = go (p (r .stmt) && eqb d 0) _ (seek-fits p (Machine.depthAfter (r .stmt) d) rs (x .1))
-    where
-      go : (b : Bool) (k : List Row) → All (RowFits n) k → All (RowFits n) (cond b (r ∷ rs) k)
-      go true k y = x
-      go false k y = y
-
-  row-fits : (F : Frame) → FrameFits F → RowFits n (rowOf F)
-  unfolding rowOf
-  row-fits F x = all-get (RowFits n) (F .rows) noRow 0 (record { line = omega arith; stmt = tt }) (x .rows)
-
   value-of : (F : Frame) (x : ℕ) → FrameFits F → Small (valueOf F x)
   unfolding valueOf
   value-of F x y = all-get Small (F .values) 0 x (omega arith) (y .values)
 
-  jump-fits : (F : Frame) (rs : List Row) → FrameFits F → All (RowFits n) rs → FrameFits (jump rs F)
+  jump-fits : (F : Frame) (i : ℕ) → FrameFits F → FrameFits (jump i F)
   unfolding jump
-  jump-fits F rs x y = record { values = x .values; rows = y; size = x .size }
+  jump-fits F i x = record { values = x .values; size = x .size }
 
   advance-fits : (F : Frame) → FrameFits F → FrameFits (advance F)
   unfolding advance
-  advance-fits F x = jump-fits F (tail (F .rows)) x (tail-fits (F .rows) (x .rows))
+  advance-fits F x = jump-fits F (suc (F .row)) x
 
   bind-fits : (F : Frame) (x v : ℕ) → FrameFits F → Small v → FrameFits (bind x v F)
   unfolding bind
   bind-fits F x v y s =
       record {
         values = all-update Small (F .values) 0 x v (omega arith) s (y .values);
-        rows = y .rows;
         size = omega (arith, y .size, update-length 0 (F .values) x v);
       }
 
   holding-fits : (F : Frame) (A : List Location) → FrameFits F → FrameFits (holding A F)
   unfolding holding
-  holding-fits F A x = record { values = x .values; rows = x .rows; size = x .size }
+  holding-fits F A x = record { values = x .values; size = x .size }
 
   entry-fits : (a b : ℕ) → Small a → Small b → All Small (entryValues a b)
   unfolding entryValues
@@ -188,9 +168,9 @@ module _ (n : ℕ) where
         callers = z .callers;
       })
 
-  call-fits : (m m′ : Config) (y : ℕ) (M : Method) (k : ℕ) → MethodFits n M → Fit m → callStep y M k m ≡ ok m′ → Fit m′
+  call-fits : (m m′ : Config) (y : ℕ) (M : Method) (k : ℕ) → Fit m → callStep y M k m ≡ ok m′ → Fit m′
   unfolding callStep entered callFrame
-  call-fits m m′ y M k w z i =
+  call-fits m m′ y M k z i =
       let (_, i₁) = check-ok (not (eqb (valueOf (m .frame) y) 0)) nullFollowed i in
       let (A, _, i₂) = bind-ok (footprint (m .heap) (callFrame m M y k) (M .requires)) i₁ in
       let (_, i₃) = check-ok (ltb (suc (length (m .callers))) most-frames) framesFull i₂ in
@@ -199,7 +179,7 @@ module _ (n : ℕ) where
       subst Fit (ok-inj i₃)
       (record {
         heap = z .heap;
-        frame = holding-fits (callFrame m M y k) A (record { values = entry-fits _ _ a b; rows = w; size = entry-long _ _ });
+        frame = holding-fits (callFrame m M y k) A (record { values = entry-fits _ _ a b; size = entry-long _ _ });
         callers = (holding-fits (m .frame) _ (z .frame), z .callers);
       })
 
@@ -215,59 +195,57 @@ module _ (n : ℕ) where
       let (A, _, k) = bind-ok (footprint (m .heap) (m .frame) φ) i in
       subst Fit (ok-inj k) (with-frame m _ z (advance-fits _ (holding-fits (m .frame) _ (z .frame))))
 
-  if-fits : (m m′ : Config) (r : Rattle.rules.specs.Syntax.Rel) (a b : Expr ℕ) → Fit m → ifStep r a b m ≡ ok m′ → Fit m′
-  unfolding ifStep afterElse
-  if-fits m m′ r a b z i =
+  if-fits : (m m′ : Config) (rs : List Row) (r : Rattle.rules.specs.Syntax.Rel) (a b : Expr ℕ) → Fit m → ifStep rs r a b m ≡ ok m′ → Fit m′
+  unfolding ifStep choose
+  if-fits m m′ rs r a b z i =
       let (v, _, j) = bind-ok (value (m .heap) (m .frame) a) i in
       let (w, _, k) = bind-ok (value (m .heap) (m .frame) b) j in
-      subst Fit (ok-inj k) (with-frame m _ z (go (compared r v w)))
-    where
-      go : (c : Bool) → FrameFits (cond c (advance (m .frame)) (jump (tail (seek Machine.isElse 0 (tail (m .frame .rows)))) (m .frame)))
-      go true = advance-fits (m .frame) (z .frame)
-      go false =
-          jump-fits (m .frame) _ (z .frame)
-          (tail-fits _ (seek-fits Machine.isElse 0 (tail (m .frame .rows)) (tail-fits (m .frame .rows) (z .frame .rows))))
+      subst Fit (ok-inj k) (with-frame m _ z (jump-fits (m .frame) _ (z .frame)))
 
-  end-fits : (m m′ : Config) (Cs : List Frame) → All FrameFits Cs → Fit m → endStep m Cs ≡ on m′ → Fit m′
+  end-fits : (P : Program) (m m′ : Config) (Cs : List Frame) → All FrameFits Cs → Fit m → endStep P m Cs ≡ on m′ → Fit m′
   unfolding endStep returned
-  end-fits m m′ [] c z i = done-on i
+  end-fits P m m′ [] c z i = done-on i
     where
       done-on : {A : Type 0} → _≡_ {A = Step} done (on m′) → A
       done-on e = let q : _≡_ {A = ℕ} 0 1 = cc in absurd (omega arith)
-  end-fits m m′ (C ∷ Cs) c z i =
+  end-fits P m m′ (C ∷ Cs) c z i =
       let (A, _, k) = bind-ok (footprint (m .heap) (m .frame) (m .frame .ensures)) (took-on _ m′ i) in
       subst Fit (ok-inj k)
       (record {
         heap = z .heap;
-        frame = advance-fits _ (bind-fits _ (targetOf (rowOf C .stmt)) _ (holding-fits C _ (c .0)) (value-of (m .frame) result-variable (z .frame)));
+        frame = advance-fits _ (bind-fits _ _ _ (holding-fits C _ (c .0)) (value-of (m .frame) result-variable (z .frame)));
         callers = c .1;
       })
 
   module _ (room : Room) (P : Program) (h : room .objects ≤ 256) (w : ProgramFits n P) where
+    row-fits : (i : ℕ) → RowFits n (rowNumbered P i)
+    unfolding rowNumbered
+    row-fits i = all-get (RowFits n) (P .rows) noRow i (record { line = omega arith; stmt = tt }) w
+
     simple-fits : (p : Simple) (m m′ : Config) → SmallSimple p → Fit m → simpleStep room P p m ≡ ok m′ → Fit m′
     unfolding simpleStep
     simple-fits (set x f y) m m′ s z i = set-fits m m′ x f y z i
     simple-fits (assign x e) m m′ s z i = assign-fits m m′ x e z s i
     simple-fits (new x c) m m′ s z i = new-fits room m m′ x (getD (P .classes) c []) h z i
     simple-fits (call x y k v) m m′ s z i =
-        call-fits m m′ y (getD (P .methods) k noMethod) v (all-get (MethodFits n) (P .methods) noMethod k tt (w .methods)) z i
+        call-fits m m′ y (methodNumbered P k) v z i
     simple-fits (return x) m m′ s z i = assign-fits m m′ result-variable (var x) z tt i
     simple-fits (assert φ) m m′ s z i = assert-fits m m′ φ z i
     simple-fits (release φ) m m′ s z i = release-fits m m′ φ z i
 
     at-fits : (st : Stmt) (m m′ : Config) → SmallStmt st → Fit m → stepAt room P st m ≡ on m′ → Fit m′
-    unfolding stepAt toJoin
+    unfolding stepAt elseStep
     at-fits (simple p) m m′ s z i = simple-fits p m m′ s z (took-on _ m′ i)
-    at-fits (if r a b) m m′ s z i = if-fits m m′ r a b z (took-on _ m′ i)
+    at-fits (if r a b) m m′ s z i = if-fits m m′ (P .rows) r a b z (took-on _ m′ i)
     at-fits else m m′ s z i =
         subst Fit (on-inj i)
-        (with-frame m _ z (jump-fits (m .frame) _ (z .frame) (seek-fits Machine.isJoin 0 _ (tail-fits (m .frame .rows) (z .frame .rows)))))
+        (with-frame m _ z (jump-fits (m .frame) _ (z .frame)))
     at-fits (join φ) m m′ s z i = assert-fits m m′ φ z (took-on _ m′ i)
-    at-fits end m m′ s z i = end-fits m m′ (m .callers) (z .callers) z i
+    at-fits end m m′ s z i = end-fits P m m′ (m .callers) (z .callers) z i
 
     step-fits : (m m′ : Config) → Fit m → step room P m ≡ on m′ → Fit m′
-    unfolding step
-    step-fits m m′ z i = at-fits (rowOf (m .frame) .stmt) m m′ (row-fits (m .frame) (z .frame) .stmt) z i
+    unfolding step statementOf
+    step-fits m m′ z i = at-fits _ m m′ (row-fits (m .frame .row) .stmt) z i
 
     -- THE OUTCOME
     main-fits : (F : Frame) (Cs : List Frame) → FrameFits F → All FrameFits Cs → FrameFits (mainFrame F Cs)
@@ -281,13 +259,13 @@ module _ (n : ℕ) where
       pub shown : length (o .values) ≡ 12
       pub values : All Small (o .values)
 
-    ends-fit : (e : Ending) (j k : ℕ) (m : Config) → j ≤ k → Fit m → OutcomeFits k (ends e j m)
+    ends-fit : (e : Ending) (j k : ℕ) (m : Config) → j ≤ k → Fit m → OutcomeFits k (ends P e j m)
     unfolding ends
     ends-fit e j k m l z =
         let M = main-fits (m .frame) (m .callers) (z .frame) (z .callers) in
         let vs : List ℕ = mainFrame (m .frame) (m .callers) .values in
         record {
-          line = row-fits (m .frame) (z .frame) .line;
+          line = row-fits (m .frame .row) .line;
           steps = l;
           shown = length-take-le 12 (drop 2 vs) (omega (arith, length-drop 2 vs, M .size));
           values = all-take 12 (drop 2 vs) (all-drop 2 vs (M .values));
@@ -300,7 +278,7 @@ module _ (n : ℕ) where
       where
         go :
             (s : Step) → step room P m ≡ s → ((m′ : Config) → Fit m′ → OutcomeFits (suc j + k) (run room P k (suc j) m′)) →
-            OutcomeFits (j + suc k) (goOn s j m (λ m′. run room P k (suc j) m′))
+            OutcomeFits (j + suc k) (goOn P s j m (λ m′. run room P k (suc j) m′))
         go (on m′) e ih = let q : suc j + k ≡ j + suc k = omega arith in subst (λ c. OutcomeFits c (run room P k (suc j) m′)) q (ih m′ (step-fits m m′ z e))
         go (stop s) e ih = ends-fit (stopped s) j (j + suc k) m (omega arith) z
         go done e ih = ends-fit finished (suc j) (j + suc k) m (omega arith) z
@@ -313,6 +291,6 @@ module _ (n : ℕ) where
         (run-fits k 0 (start P)
         (record {
           heap = tt;
-          frame = record { values = entry-fits 0 0 (omega arith) (omega arith); rows = w .main; size = entry-long 0 0 };
+          frame = record { values = entry-fits 0 0 (omega arith) (omega arith); size = entry-long 0 0 };
           callers = tt;
         }))

@@ -15,7 +15,7 @@ use Rattle.lines.specs.Cuts.{more}
 use Rattle.lines.specs.Rows.{kindNumbered}
 use Rattle.lines.proofs.Rows.{kind-of-number, number-of-kind}
 use Rattle.tables.specs.Decode.{atomsFrom}
-use Rattle.assembly.specs.Flat.{Flat}
+use Rattle.rules.specs.Syntax.{Program}
 use Rattle.lines.specs.declared.Word.{Word}
 use Rattle.pass.specs.declared.Pass.{Pass}
 use Rattle.pass.specs.declared.Tried.{Tried}
@@ -59,7 +59,7 @@ last-kind k a l m n o q e =
 module _ {t w : List ℕ} {p : Pass} {l : Line} {w′ : List ℕ} {q : Pass} (x : LinePut t w p l w′ q) where
   -- the line's formula was tested
   pub unframed-is :
-      (F : Flat) → Stands t w p F →
+      (F : Program) → Stands t w p F →
       unframedBy (isFramed (l .kind)) (atomsFrom w′ (p .atoms) (q .atoms - p .atoms)) p
       ≡ unframedAfter (p .unframed) (p .line) (item t w p l)
   unfolding unframedBy unframedAfter framed
@@ -98,7 +98,7 @@ module _ {t w : List ℕ} {p : Pass} {l : Line} {w′ : List ℕ} {q : Pass} (x 
       }
 
   -- its atoms are written
-  pub between : (F : Flat) → Stands t w p F → Ready t w p → Room t w p l → Between w′ p q
+  pub between : (F : Program) → Stands t w p F → Ready t w p → Room t w p l → Between w′ p q
   between F s r m =
       record {
         whole = x .size ∙ r .whole;

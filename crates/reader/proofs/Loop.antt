@@ -27,7 +27,8 @@ use Rattle.declared.proofs.Searches.{rows-length}
 use Rattle.declare.specs.Texts.{linesOf, Taken, lineAt, FormedAt}
 use Rattle.declare.specs.Declares.{Declares}
 use Rattle.declare.proofs.Walks.{Walking, walking-first, walking-done, walking-clean, walking-formed, walking-placed, walking-lines, walking-on}
-use Rattle.assembly.specs.Flat.{Flat, noFlat, flatFrom, flatWith}
+use Rattle.rules.specs.Syntax.{Program}
+use Rattle.rules.specs.Reading.{noProgram, withItems, withItem}
 use Rattle.emit.proofs.Kept.{none-written}
 use Rattle.pass.specs.declared.Pass.{Pass}
 use Rattle.pass.specs.Passes.{counts, firstPass, lastClass, Ready, Stands, Room, item, lineAfter}
@@ -39,12 +40,12 @@ use Rattle.reader.specs.declared.Step.{Step}
 use Rattle.reader.proofs.Judged.{word-line, word-begins}
 
 -- LISTS AND VERDICTS
-flat-more : (F : Flat) (n : ℕ) (xs : List Item) (a : Item) → flatFrom F n (xs ++ (a ∷ [])) ≡ flatWith (flatFrom F n xs) (suc (n + length xs)) a
-unfolding flatFrom
-flat-more F n [] a = let e : n + 0 ≡ n = omega arith in ap (λ (m : ℕ). flatWith F (suc m) a) (sym e)
+flat-more : (F : Program) (n : ℕ) (xs : List Item) (a : Item) → withItems F n (xs ++ (a ∷ [])) ≡ withItem (withItems F n xs) (suc (n + length xs)) a
+unfolding withItems
+flat-more F n [] a = let e : n + 0 ≡ n = omega arith in ap (λ (m : ℕ). withItem F (suc m) a) (sym e)
 flat-more F n (x ∷ xs) a =
     let e : suc n + length xs ≡ n + suc (length xs) = omega arith in
-    flat-more (flatWith F (suc n) x) (suc n) xs a ∙ ap (λ (m : ℕ). flatWith (flatFrom (flatWith F (suc n) x) (suc n) xs) (suc m) a) e
+    flat-more (withItem F (suc n) x) (suc n) xs a ∙ ap (λ (m : ℕ). withItem (withItems (withItem F (suc n) x) (suc n) xs) (suc m) a) e
 
 zero-add : (n : ℕ) → 0 + n ≡ n
 zero-add n = omega arith
@@ -104,15 +105,15 @@ pub record Resolving (t : List ℕ) (a : ℕ) (p : Pass) (w : List ℕ) : Type 0
   pub declared : declarationsIn t w (p .names) ≡ declarations (linesOf t)
   pub items : List Item
   pub count : length items ≡ p .line
-  pub stands : Stands t w p (flatFrom noFlat 0 items)
+  pub stands : Stands t w p (withItems noProgram 0 items)
   pub framed : (rest : List Item) → checkFramed (items ++ rest) 0 ≡ framedAfter (p .unframed) (p .line) rest
   pub resolved :
       resolvedText t
       ≡ then (resolveLines (declarations (linesOf t)) (linesOf (drop a t)) (p .line) (scopeIn t w (p .names) (p .above)))
       (λ rest. accepted (items ++ rest))
 
-first-stands : (t w : List ℕ) (c : Names) → length w ≡ work-bytes → Stands t w (firstPass c) (flatFrom noFlat 0 [])
-unfolding flatFrom lastClass scopeIn namesFrom rows
+first-stands : (t w : List ℕ) (c : Names) → length w ≡ work-bytes → Stands t w (firstPass c) (withItems noProgram 0 [])
+unfolding withItems lastClass scopeIn namesFrom rows
 first-stands t w c n =
     record { holds = none-written (counts c) w n; rows = refl; classes = refl; methods = refl; main = refl; fields = refl }
 
@@ -220,7 +221,7 @@ module _ {t : List ℕ} {a : ℕ} {p : Pass} {w : List ℕ} (x : Resolving t a p
           declared = z .declared ∙ x .declared;
           items = x .items ++ (item t w p (lineAt t a) ∷ []);
           count = end-length (x .items) _ ∙ (ap suc (x .count) ∙ sym n);
-          stands = subst (Stands t w′ q) (sym (flat-more noFlat 0 (x .items) _ ∙ ap (λ (k : ℕ). flatWith (flatFrom noFlat 0 (x .items)) (suc k) (item t w p (lineAt t a))) (zero-add (length (x .items)) ∙ x .count))) (z .built _ (x .stands));
+          stands = subst (Stands t w′ q) (sym (flat-more noProgram 0 (x .items) _ ∙ ap (λ (k : ℕ). withItem (withItems noProgram 0 (x .items)) (suc k) (item t w p (lineAt t a))) (zero-add (length (x .items)) ∙ x .count))) (z .built _ (x .stands));
           framed = λ rest.
               ap (λ (xs : List Item). checkFramed xs 0) (append-assoc (x .items) (item t w p (lineAt t a) ∷ []) rest)
               ∙ (x .framed (item t w p (lineAt t a) ∷ rest)

@@ -20,7 +20,8 @@ use Rattle.tables.specs.Tables.{Tables}
 use Rattle.declared.specs.declared.Names.{Names}
 use Rattle.declare.specs.Texts.{linesOf, Taken}
 use Rattle.declare.specs.Declares.{Declares}
-use Rattle.assembly.specs.Flat.{Flat, noFlat, flatFrom}
+use Rattle.rules.specs.Syntax.{Program}
+use Rattle.rules.specs.Reading.{noProgram, withItems}
 use Rattle.emit.specs.Puts.{putHeader}
 use Rattle.targets.specs.Targets.{targetsFrom}
 use Rattle.finish.proofs.Finished.{endedTables, read-tables}
@@ -83,8 +84,8 @@ declared-here x =
 
 -- THE END
 module _ {t w : List ℕ} {p : Pass} (x : AllRead t w p) where
-  F : Flat
-  F = flatFrom noFlat 0 (x .items)
+  F : Program
+  F = withItems noProgram 0 (x .items)
 
   pub finish-fits :
       ((length w ≡ 65536) × ((p .rows ≤ 256) × (p .atoms < 65536)))
@@ -107,7 +108,7 @@ module _ {t w : List ℕ} {p : Pass} (x : AllRead t w p) where
       rw (← s .rows, ← s .main, ← x .classes, ← x .methods, ← s .classes, ← s .methods)
 
   pub tabled : Taken t → length t ≤ most-bytes → {w′ : List ℕ} → w′ ≡ ended → Tabled t w′ (p .unframed)
-  unfolding F
+  unfolding F program
   tabled k h {w′} i =
       let s = x .stands in
       let r = read-resolved t h k ∙ x .resolved in

@@ -22,7 +22,8 @@ use Rattle.tables.specs.Layout.{most-atom-rows}
 use Rattle.tables.specs.Decode.{programIn}
 use Rattle.tables.specs.Tables.{Tables}
 use Rattle.declared.specs.Meanings.{declarationsIn, variablesIn, scopeIn}
-use Rattle.assembly.specs.Flat.{Flat, noFlat, flatFrom}
+use Rattle.rules.specs.Syntax.{Program}
+use Rattle.rules.specs.Reading.{noProgram, withItems}
 use Rattle.declare.specs.Texts.{linesOf}
 use Rattle.judge.specs.Refusals.{refusalIn}
 use Rattle.pass.specs.declared.Pass.{Pass}
@@ -51,7 +52,7 @@ framedVerdict u = cond (eqb u 0) (accepted tt) (refused Answers.unframed u)
 
 -- the tables mean something so far
 pub record Written (t w : List ℕ) (p : Pass) : Type 0 where
-  pub flat : Flat
+  pub flat : Program
   pub stands : Stands t w p flat
 
 -- it is of the kind and has the fields that its word r tells
@@ -105,7 +106,7 @@ resolvedText t = resolveLines (declarations (linesOf t)) (linesOf t) 0 firstScop
 pub record AllRead (t w : List ℕ) (p : Pass) : Type 0 where
   pub items : List Item
   pub resolved : resolvedText t ≡ accepted items
-  pub stands : Stands t w p (flatFrom noFlat 0 items)
+  pub stands : Stands t w p (withItems noProgram 0 items)
   pub classes : p .above .classes ≡ p .names .classes
   pub methods : after (p .above .methods) ≡ p .names .methods
   pub unframed : checkFramed items 0 ≡ framedVerdict (p .unframed)

@@ -1,7 +1,7 @@
 -- What one step does to the heap and to the frames' sets, whatever the statement: it stays in its frame, enters a call or returns
 -- from one.
 use mathlib.Core.Path.{_≡_, refl, sym, ap, _∙_, subst}
-use mathlib.Core.Bool.{Bool, true, false, cond}
+use mathlib.Core.Bool.{cond}
 use mathlib.Core.List.{List, [], _∷_, map}
 use mathlib.Core.Logic.{_⊎_, inl, inr, ⊎-elim}
 use Prim.Native.Nat.{ℕ, suc, _≤_, _<_}
@@ -9,9 +9,9 @@ use native.Mathlib.Omega.{arith}
 use native.Mathlib.Nat.{le-refl}
 use lib.ListN.{length, getD, length-append}
 use Rattle.rules.specs.Base.{ok}
-use Rattle.rules.specs.Syntax.{Rel, Expr, Simple, Stmt, Row, Field, Method, Formula, Program, noMethod, result-variable}
+use Rattle.rules.specs.Syntax.{Rel, Expr, Simple, Stmt, Field, Method, Formula, Program, methodNumbered, result-variable}
 use Rattle.rules.specs.Syntax.{var, set, assign, new, call, return, assert, release, simple, if, else, join, end}
-use Rattle.rules.specs.Machine.{Config, Frame, Location, Cell, Room, on, holds, without, valueAt, valueOf, locate, value, compared, footprint, jump, advance, bind, holding, withFrame, afterElse, ifStep, stored, setStep, assignStep, newCell, grown, newStep, callFrame, entered, callStep, returned, assertStep, releaseStep, endStep, simpleStep, stepAt, step, rowOf}
+use Rattle.rules.specs.Machine.{Config, Frame, Location, Cell, Room, on, holds, without, valueAt, valueOf, locate, value, compared, footprint, jump, advance, bind, holding, withFrame, choose, ifStep, elseStep, stored, setStep, assignStep, newCell, grown, newStep, callFrame, entered, callStep, returned, assertStep, releaseStep, endStep, simpleStep, stepAt, step, statementOf}
 use Rattle.rules.proofs.Tries.{bind-ok, check-ok, ok-inj}
 use Rattle.rules.proofs.Sets.{Holds, location-eq, in-append, in-new, without-in, without-out, locate-holds, locate-is, footprint-held}
 use Rattle.rules.proofs.Heaps.{store-other, store-length, grown-other}
@@ -152,22 +152,22 @@ release-within φ m m′ e =
     subst (Within m) (ok-inj q)
     (same-heap m (advance (holding (without A (m .frame .held)) (m .frame))) (λ p i. without-in p A (m .frame .held) i))
 
-if-within : (n : Rel) (a b : Expr ℕ) (m m′ : Config) → ifStep n a b m ≡ ok m′ → Within m m′
-unfolding ifStep holds advance jump
-if-within n a b m m′ e =
+jump-within : (m : Config) (i : ℕ) → Within m (withFrame m (jump i (m .frame)))
+unfolding jump holds
+jump-within m i = same-heap m (jump i (m .frame)) (λ p i. i)
+
+choose-within : (n : Rel) (a b : Expr ℕ) (i j : ℕ) (m m′ : Config) → choose n a b i j m ≡ ok m′ → Within m m′
+unfolding choose
+choose-within n a b i j m m′ e =
     let (v, _, q) = bind-ok (value (m .heap) (m .frame) a) e in
     let (w, _, r) = bind-ok (value (m .heap) (m .frame) b) q in
-    subst (Within m) (ok-inj r) (go (compared n v w) (afterElse (m .frame .rows)))
-  where
-    go : (c : Bool) (rs : List Row) → Within m (withFrame m (cond c (advance (m .frame)) (jump rs (m .frame))))
-    go true rs = same-heap m _ (λ p i. i)
-    go false rs = same-heap m _ (λ p i. i)
+    subst (Within m) (ok-inj r) (jump-within m (cond (compared n v w) i j))
 
 returned-returning :
-    (m : Config) (C : Frame) (Cs : List Frame) (A : List Location) → m .callers ≡ C ∷ Cs →
-    footprint (m .heap) (m .frame) (m .frame .ensures) ≡ ok A → Returning m (returned m C Cs A)
+    (P : Program) (m : Config) (C : Frame) (Cs : List Frame) (A : List Location) → m .callers ≡ C ∷ Cs →
+    footprint (m .heap) (m .frame) (m .frame .ensures) ≡ ok A → Returning m (returned P m C Cs A)
 unfolding returned holds advance jump bind holding
-returned-returning m C Cs A c e =
+returned-returning P m C Cs A c e =
     record {
       caller = C;
       callers = c;
@@ -178,12 +178,12 @@ returned-returning m C Cs A c e =
           (in-append p (C .held) A i);
     }
 
-end-returning : (m m′ : Config) (Cs : List Frame) → m .callers ≡ Cs → endStep m Cs ≡ on m′ → Returning m m′
+end-returning : (P : Program) (m m′ : Config) (Cs : List Frame) → m .callers ≡ Cs → endStep P m Cs ≡ on m′ → Returning m m′
 unfolding endStep
-end-returning m m′ [] c e = absurd (let z : _≡_ {A = ℕ} 0 1 = cc in omega arith)
-end-returning m m′ (C ∷ Cs) c e =
+end-returning P m m′ [] c e = absurd (let z : _≡_ {A = ℕ} 0 1 = cc in omega arith)
+end-returning P m m′ (C ∷ Cs) c e =
     let (A, f, q) = bind-ok (footprint (m .heap) (m .frame) (m .frame .ensures)) (took-on _ m′ e) in
-    subst (Returning m) (ok-inj q) (returned-returning m C Cs A c f)
+    subst (Returning m) (ok-inj q) (returned-returning P m C Cs A c f)
 
 -- A STEP
 module _ (room : Room) (P : Program) where
@@ -192,32 +192,32 @@ module _ (room : Room) (P : Program) where
   simple-changes (set x f y) m m′ e = within (set-within x f y m m′ e)
   simple-changes (assign x a) m m′ e = within (assign-within x a m m′ e)
   simple-changes (new x c) m m′ e = within (new-within room x (getD (P .classes) c []) m m′ e)
-  simple-changes (call x y n z) m m′ e = entering (call-entering y (getD (P .methods) n noMethod) z m m′ e)
+  simple-changes (call x y n z) m m′ e = entering (call-entering y (methodNumbered P n) z m m′ e)
   simple-changes (return x) m m′ e = within (assign-within result-variable (var x) m m′ e)
   simple-changes (assert φ) m m′ e = within (assert-within φ m m′ e)
   simple-changes (release φ) m m′ e = within (release-within φ m m′ e)
 
   stepAt-changes : (s : Stmt) (m m′ : Config) → stepAt room P s m ≡ on m′ → Change m m′
-  unfolding stepAt jump holds
+  unfolding stepAt ifStep elseStep
   stepAt-changes (simple p) m m′ e = simple-changes p m m′ (took-on _ m′ e)
-  stepAt-changes (if n a b) m m′ e = within (if-within n a b m m′ (took-on _ m′ e))
-  stepAt-changes else m m′ e = within (subst (Within m) (on-inj e) (same-heap m _ (λ p i. i)))
+  stepAt-changes (if n a b) m m′ e = within (choose-within n a b _ _ m m′ (took-on _ m′ e))
+  stepAt-changes else m m′ e = within (subst (Within m) (on-inj e) (jump-within m _))
   stepAt-changes (join φ) m m′ e = within (assert-within φ m m′ (took-on _ m′ e))
-  stepAt-changes end m m′ e = returning (end-returning m m′ (m .callers) refl e)
+  stepAt-changes end m m′ e = returning (end-returning P m m′ (m .callers) refl e)
 
   pub step-changes : (m m′ : Config) → step room P m ≡ on m′ → Change m m′
   unfolding step
-  step-changes m m′ e = stepAt-changes (rowOf (m .frame) .stmt) m m′ e
+  step-changes m m′ e = stepAt-changes (statementOf P (m .frame)) m m′ e
 
   -- a `call` step that is done
   call-done :
       (x y n z : ℕ) (m m′ : Config) → stepAt room P (simple (call x y n z)) m ≡ on m′ →
-      callStep y (getD (P .methods) n noMethod) z m ≡ ok m′
+      callStep y (methodNumbered P n) z m ≡ ok m′
   unfolding stepAt simpleStep
   call-done x y n z m m′ e = took-on _ m′ e
 
   pub step-enters :
-      (x y n z : ℕ) (m m′ : Config) → rowOf (m .frame) .stmt ≡ simple (call x y n z) → step room P m ≡ on m′ →
-      callStep y (getD (P .methods) n noMethod) z m ≡ ok m′
+      (x y n z : ℕ) (m m′ : Config) → statementOf P (m .frame) ≡ simple (call x y n z) → step room P m ≡ on m′ →
+      callStep y (methodNumbered P n) z m ≡ ok m′
   unfolding step
   step-enters x y n z m m′ r e = call-done x y n z m m′ (subst (λ (s : Stmt). stepAt room P s m ≡ on m′) r e)

@@ -199,10 +199,10 @@ right-at [] d i l t = absurd (not-suc-le-zero l)
 right-at (r ∷ rs) d zero l t = and-both (right r) (all right rs) t .0
 right-at (r ∷ rs) d (suc i) l t = right-at rs d i (le-of-suc-le-suc l) (and-both (right r) (all right rs) t .1)
 
-abbrev pub rowAt : ℕ → Row
-rowAt i = getD rows i (row [] check [])
+abbrev pub rowNumbered : ℕ → Row
+rowNumbered i = getD rows i (row [] check [])
 
 -- The common theorem: what each row says is so.
-pub examples : (i : ℕ) → i < length rows → answer (text (rowAt i .text)) (rowAt i .call) ≡ rowAt i .answer
+pub examples : (i : ℕ) → i < length rows → answer (text (rowNumbered i .text)) (rowNumbered i .call) ≡ rowNumbered i .answer
 unfolding right
 examples i l = same-name _ _ (right-at rows (row [] check []) i l all-right)

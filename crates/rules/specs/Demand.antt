@@ -27,4 +27,4 @@ abbrev pub RunIsItsSteps : Type 0
 RunIsItsSteps =
     (t : List ℕ) (items : List Item) → readText t ≡ accepted items → (k : ℕ) →
     (R : Reached wholeHeap (program items) k)
-    × (runText t k ≡ outcomeResult (ends (R .ending) (R .steps + lastStep (R .ending)) (R .state)))
+    × (runText t k ≡ outcomeResult (ends (program items) (R .ending) (R .steps + lastStep (R .ending)) (R .state)))

@@ -7,7 +7,7 @@ use lib.ListN.{length, getD, replicate, take, drop}
 use Rattle.rules.specs.Base.{Try, ok, no, _>>=_, _>>_, check, any, keep, update}
 use Rattle.rules.specs.Limits.{most-locals, most-frames, values-shown}
 use Rattle.rules.specs.Answers.{Stop, Ending, finished, stepsTaken, stopped, heapFull, framesFull, permissionMissing, nullFollowed, formulaFalse}
-use Rattle.rules.specs.Syntax.{Rel, Expr, Formula, Simple, Stmt, Row, Field, Method, Program, noMethod, first-local, result-variable}
+use Rattle.rules.specs.Syntax.{Rel, Expr, Formula, Simple, Stmt, Row, Field, Method, Program, rowNumbered, methodNumbered, first-local, result-variable}
 use Rattle.rules.specs.Syntax.{eq, ne, num, null, var, path, acc, cmp, set, assign, new, call, return, assert, release, simple, if, else, join, end}
 
 -- HEAP AND FRAMES
@@ -26,11 +26,11 @@ pub record Location : Type 0 where
   pub object : ℕ
   pub field : ℕ
 
--- "A frame has values and a set A of locations". rows: what is still to do, the next line first
+-- "A frame has values and a set A of locations". row: the number of the row that it does next
 pub record Frame : Type 0 where
   pub values : List ℕ
   pub held : List Location
-  pub rows : List Row
+  pub row : ℕ
   pub ensures : Formula ℕ
 
 -- the frame that runs and its callers, the nearest first, each at its `call` line; main's is the last
@@ -122,29 +122,25 @@ footprint h F φ = takeFrom h F φ []
 
 -- FRAMES THAT CHANGE
 
-unfoldable pub tail : List Row → List Row
-tail [] = []
-tail (r ∷ rs) = rs
-
-unfoldable pub jump : List Row → Frame → Frame
-jump rs F = record { values = F .values; held = F .held; rows = rs; ensures = F .ensures }
+unfoldable pub jump : ℕ → Frame → Frame
+jump i F = record { values = F .values; held = F .held; row = i; ensures = F .ensures }
 
 -- on to the next line
 unfoldable pub advance : Frame → Frame
-advance F = jump (tail (F .rows)) F
+advance F = jump (suc (F .row)) F
 
 unfoldable pub bind : ℕ → ℕ → Frame → Frame
-bind x v F = record { values = update 0 (F .values) x v; held = F .held; rows = F .rows; ensures = F .ensures }
+bind x v F = record { values = update 0 (F .values) x v; held = F .held; row = F .row; ensures = F .ensures }
 
 unfoldable pub holding : List Location → Frame → Frame
-holding A F = record { values = F .values; held = A; rows = F .rows; ensures = F .ensures }
+holding A F = record { values = F .values; held = A; row = F .row; ensures = F .ensures }
 
 unfoldable pub withFrame : Config → Frame → Config
 withFrame m F = record { heap = m .heap; frame = F; callers = m .callers }
 
 -- BRANCHES
 
--- the depth of the next row, counted in further branches
+-- the depth after a row, counted in further branches
 unfoldable pub depthAfter : Stmt → ℕ → ℕ
 depthAfter (simple p) d = d
 depthAfter (if n a b) d = suc d
@@ -152,38 +148,36 @@ depthAfter else d = d
 depthAfter (join φ) d = pred d
 depthAfter end d = d
 
-unfoldable pub isElse : Stmt → Bool
-isElse (simple p) = false
-isElse (if n a b) = false
-isElse else = true
-isElse (join φ) = false
-isElse end = false
+unfoldable pub closes : Stmt → Bool
+closes (simple p) = false
+closes (if n a b) = false
+closes else = true
+closes (join φ) = true
+closes end = false
 
-unfoldable pub isJoin : Stmt → Bool
-isJoin (simple p) = false
-isJoin (if n a b) = false
-isJoin else = false
-isJoin (join φ) = true
-isJoin end = false
+-- of the rows from number j on, the first that closes a part and is not in a further branch
+unfoldable pub seek : ℕ → ℕ → List Row → ℕ
+seek d j [] = j
+seek d j (r ∷ rs) = let k : ℕ = seek (depthAfter (r .stmt) d) (suc j) rs in cond (closes (r .stmt) && eqb d 0) j k
 
--- the rows from the first that passes and is not in a further branch
-unfoldable pub seek : (Stmt → Bool) → ℕ → List Row → List Row
-seek p d [] = []
-seek p d (r ∷ rs) = let k : List Row = seek p (depthAfter (r .stmt) d) rs in cond (p (r .stmt) && eqb d 0) (r ∷ rs) k
+-- the row that closes what row i opens: of an `if` "its `else`", of an `else` "its `join`"
+unfoldable pub closing : List Row → ℕ → ℕ
+closing rs i = seek 0 (suc i) (drop (suc i) rs)
 
--- "a false `if` goes to the line after its `else`"
-unfoldable pub afterElse : List Row → List Row
-afterElse rs = tail (seek isElse 0 (tail rs))
-
--- "`else` (on to its `join`)"
-unfoldable pub toJoin : List Row → List Row
-toJoin rs = seek isJoin 0 (tail rs)
-
-unfoldable pub ifStep : Rel → Expr ℕ → Expr ℕ → Config → Try Stop Config
-ifStep n a b m = do
+-- one of two rows, by the condition
+unfoldable pub choose : Rel → Expr ℕ → Expr ℕ → ℕ → ℕ → Config → Try Stop Config
+choose n a b i j m = do
   v ← value (m .heap) (m .frame) a
   w ← value (m .heap) (m .frame) b
-  ok (withFrame m (cond (compared n v w) (advance (m .frame)) (jump (afterElse (m .frame .rows)) (m .frame))))
+  ok (withFrame m (jump (cond (compared n v w) i j) (m .frame)))
+
+-- "a false `if` goes to the line after its `else`"
+unfoldable pub ifStep : List Row → Rel → Expr ℕ → Expr ℕ → Config → Try Stop Config
+ifStep rs n a b m = choose n a b (suc (m .frame .row)) (suc (closing rs (m .frame .row))) m
+
+-- "`else` (on to its `join`)"
+unfoldable pub elseStep : List Row → Config → Config
+elseStep rs m = withFrame m (jump (closing rs (m .frame .row)) (m .frame))
 
 -- STATEMENTS
 
@@ -232,7 +226,7 @@ callFrame m M y z =
     record {
       values = entryValues (valueOf (m .frame) y) (valueOf (m .frame) z);
       held = m .frame .held;
-      rows = M .body;
+      row = M .first;
       ensures = M .ensures;
     }
 
@@ -258,19 +252,16 @@ targetOf else = 0
 targetOf (join φ) = 0
 targetOf end = 0
 
-abbrev pub noRow : Row
-noRow = record { line = 0; stmt = end }
-
--- the row that a frame does next
-unfoldable pub rowOf : Frame → Row
-rowOf F = getD (F .rows) 0 noRow
+-- the statement that a frame does next
+unfoldable pub statementOf : Program → Frame → Stmt
+statementOf P F = rowNumbered P (F .row) .stmt
 
 -- "`end`: ensures, then the caller gains its footprint, and x the result; the rest of that A is lost."
-unfoldable pub returned : Config → Frame → List Frame → List Location → Config
-returned m C Cs A =
+unfoldable pub returned : Program → Config → Frame → List Frame → List Location → Config
+returned P m C Cs A =
     record {
       heap = m .heap;
-      frame = advance (bind (targetOf (rowOf C .stmt)) (valueOf (m .frame) result-variable) (holding (C .held ++ A) C));
+      frame = advance (bind (targetOf (statementOf P C)) (valueOf (m .frame) result-variable) (holding (C .held ++ A) C));
       callers = Cs;
     }
 
@@ -295,9 +286,9 @@ unfoldable pub took : Try Stop Config → Step
 took (ok m) = on m
 took (no s) = stop s
 
-unfoldable pub endStep : Config → List Frame → Step
-endStep m [] = done
-endStep m (C ∷ Cs) = took (footprint (m .heap) (m .frame) (m .frame .ensures) >>= λ A. ok (returned m C Cs A))
+unfoldable pub endStep : Program → Config → List Frame → Step
+endStep P m [] = done
+endStep P m (C ∷ Cs) = took (footprint (m .heap) (m .frame) (m .frame .ensures) >>= λ A. ok (returned P m C Cs A))
 
 -- what a run ends with: how, the line of the row that is next (done last, where main's `end` is done), the steps taken, and
 -- main's variables
@@ -311,55 +302,55 @@ unfoldable pub mainFrame : Frame → List Frame → Frame
 mainFrame F [] = F
 mainFrame F (C ∷ Cs) = mainFrame C Cs
 
-unfoldable pub ends : Ending → ℕ → Config → Outcome
-ends e n m =
+unfoldable pub ends : Program → Ending → ℕ → Config → Outcome
+ends P e n m =
     record {
       ending = e;
-      line = rowOf (m .frame) .line;
+      line = rowNumbered P (m .frame .row) .line;
       steps = n;
       values = take values-shown (drop first-local (mainFrame (m .frame) (m .callers) .values));
     }
 
 -- "A stopped step is not counted."
-unfoldable pub goOn : Step → ℕ → Config → (Config → Outcome) → Outcome
-goOn (on m′) n m k = k m′
-goOn (stop s) n m k = ends (stopped s) n m
-goOn done n m k = ends finished (suc n) m
+unfoldable pub goOn : Program → Step → ℕ → Config → (Config → Outcome) → Outcome
+goOn P (on m′) n m k = k m′
+goOn P (stop s) n m k = ends P (stopped s) n m
+goOn P done n m k = ends P finished (suc n) m
 
 module _ (room : Room) (P : Program) where
   unfoldable pub simpleStep : Simple → Config → Try Stop Config
   simpleStep (set x f y) m = setStep x f y m
   simpleStep (assign x e) m = assignStep x e m
   simpleStep (new x c) m = newStep room x (getD (P .classes) c []) m
-  simpleStep (call x y n z) m = callStep y (getD (P .methods) n noMethod) z m
+  simpleStep (call x y n z) m = callStep y (methodNumbered P n) z m
   simpleStep (return x) m = assignStep result-variable (var x) m
   simpleStep (assert φ) m = assertStep φ m
   simpleStep (release φ) m = releaseStep φ m
 
   unfoldable pub stepAt : Stmt → Config → Step
   stepAt (simple p) m = took (simpleStep p m)
-  stepAt (if n a b) m = took (ifStep n a b m)
-  stepAt else m = on (withFrame m (jump (toJoin (m .frame .rows)) (m .frame)))
+  stepAt (if n a b) m = took (ifStep (P .rows) n a b m)
+  stepAt else m = on (elseStep (P .rows) m)
   stepAt (join φ) m = took (assertStep φ m)
-  stepAt end m = endStep m (m .callers)
+  stepAt end m = endStep P m (m .callers)
 
   -- "Each statement line is one step"
   unfoldable pub step : Config → Step
-  step m = stepAt (rowOf (m .frame) .stmt) m
+  step m = stepAt (statementOf P (m .frame)) m
 
   -- at most k steps more, after n: "A run tests 21 before each step."
   unfoldable pub run : ℕ → ℕ → Config → Outcome
-  run zero n m = ends stepsTaken n m
-  run (suc k) n m = goOn (step m) n m (λ m′. run k (suc n) m′)
+  run zero n m = ends P stepsTaken n m
+  run (suc k) n m = goOn P (step m) n m (λ m′. run k (suc n) m′)
 
 -- "from the empty heap and main's frame"
 unfoldable pub start : Program → Config
-start P = record { heap = []; frame = record { values = entryValues 0 0; held = []; rows = P .main; ensures = [] }; callers = [] }
+start P = record { heap = []; frame = record { values = entryValues 0 0; held = []; row = P .main; ensures = [] }; callers = [] }
 
 unfoldable pub runProgram : Room → Program → ℕ → Outcome
 runProgram room P k = run room P k 0 (start P)
 
 -- Everything above computes where this unfolds.
 unfoldable pub opened : Unit {0}
-unfolding eqLocation among holds without valueIn object valueAt storeIn store fieldsOf valueOf locate value compared takeFrom footprint tail jump advance bind holding withFrame depthAfter isElse isJoin seek afterElse toJoin ifStep stored setStep assignStep newCell grown newStep entryValues callFrame entered callStep targetOf rowOf returned assertStep releaseStep took endStep mainFrame ends goOn simpleStep stepAt step run start runProgram
+unfolding eqLocation among holds without valueIn object valueAt storeIn store fieldsOf valueOf locate value compared takeFrom footprint jump advance bind holding withFrame depthAfter closes seek closing choose ifStep elseStep stored setStep assignStep newCell grown newStep entryValues callFrame entered callStep targetOf statementOf returned assertStep releaseStep took endStep mainFrame ends goOn simpleStep stepAt step run start runProgram
 opened = tt

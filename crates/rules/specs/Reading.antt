@@ -1,13 +1,13 @@
 -- What a text is read as: numbers 2 to 9 in the order told; number 10; the program.
 use mathlib.Core.Bool.{Bool, true, cond, _&&_}
-use mathlib.Core.List.{List, [], _∷_}
+use mathlib.Core.List.{List, [], _∷_, _++_}
 use Prim.Native.Nat.{ℕ, suc}
 use lib.Dec.{eqb, ltb}
 use lib.ListN.{length}
 use Rattle.rules.specs.Base.{any}
 use Rattle.rules.specs.Limits.{most-bytes}
 use Rattle.rules.specs.Answers.{Verdict, accepted, refused, then, textTooLong, unframed}
-use Rattle.rules.specs.Syntax.{Expr, Formula, Stmt, Row, Field, Method, Program}
+use Rattle.rules.specs.Syntax.{Expr, Formula, Stmt, Method, Program}
 use Rattle.rules.specs.Syntax.{num, null, var, path, acc, cmp, simple, if, else, join, end}
 use Rattle.rules.specs.Text.{lines}
 use Rattle.rules.specs.Places.{firstPlace, scanLines}
@@ -61,47 +61,53 @@ checkFramed [] n = accepted tt
 checkFramed (a ∷ items) n =
     let r : Verdict (Unit {0}) = checkFramed items (suc n) in cond (framedItem a) r (refused unframed (suc n))
 
--- THE PROGRAM
+-- THE PROGRAM, put together line by line
 
--- What the items from a line on say: whole classes; fields before the next `class`; whole methods; requires and ensures before the
--- next `method`; all statement lines; those of main.
-pub record Parts : Type 0 where
-  pub classes : List (List Field)
-  pub fields : List Field
-  pub methods : List Method
-  pub requires : Formula ℕ
-  pub ensures : Formula ℕ
-  pub rows : List Row
-  pub main : List Row
+abbrev pub noProgram : Program
+noProgram = record { classes = []; methods = []; rows = []; main = 0 }
 
-unfoldable pub parts : List (List Field) → List Field → List Method → Formula ℕ → Formula ℕ → List Row → List Row → Parts
-parts cs fs ms φ ψ rs main =
-    record { classes = cs; fields = fs; methods = ms; requires = φ; ensures = ψ; rows = rs; main = main }
+-- the list with its last element changed
+unfoldable pub onLast : {A : Type 0} → (A → A) → List A → List A
+onLast f [] = []
+onLast f (a ∷ []) = f a ∷ []
+onLast f (a ∷ b ∷ l) = a ∷ onLast f (b ∷ l)
 
-unfoldable pub methodOf : Parts → Method
-methodOf p = record { requires = p .requires; ensures = p .ensures; body = p .rows }
+unfoldable pub withRequires : Formula ℕ → Method → Method
+withRequires φ M = record { requires = φ; ensures = M .ensures; first = M .first }
 
--- with the item of line l before them
-unfoldable pub withItem : ℕ → Item → Parts → Parts
-withItem l aClass p = parts (p .fields ∷ p .classes) [] (p .methods) [] [] (p .rows) (p .main)
-withItem l (aField f) p = parts (p .classes) (f ∷ p .fields) (p .methods) [] [] (p .rows) (p .main)
-withItem l aMethod p = parts (p .classes) (p .fields) (methodOf p ∷ p .methods) [] [] (p .rows) (p .main)
-withItem l (aRequires φ) p = parts (p .classes) (p .fields) (p .methods) φ (p .ensures) (p .rows) (p .main)
-withItem l (anEnsures ψ) p = parts (p .classes) (p .fields) (p .methods) [] ψ (p .rows) (p .main)
-withItem l aMain p = parts (p .classes) (p .fields) (p .methods) [] [] (p .rows) (p .rows)
-withItem l (aLocal x) p = p
-withItem l (aStatement s) p =
-    parts (p .classes) (p .fields) (p .methods) [] [] (record { line = l; stmt = s } ∷ p .rows) (p .main)
+unfoldable pub withEnsures : Formula ℕ → Method → Method
+withEnsures φ M = record { requires = M .requires; ensures = φ; first = M .first }
 
--- the items after n lines above
-unfoldable pub partsFrom : ℕ → List Item → Parts
-partsFrom n [] = parts [] [] [] [] [] [] []
-partsFrom n (a ∷ items) = withItem (suc n) a (partsFrom (suc n) items)
+-- with the item of line l
+unfoldable pub withItem : Program → ℕ → Item → Program
+withItem P l aClass = record { classes = P .classes ++ ([] ∷ []); methods = P .methods; rows = P .rows; main = P .main }
+withItem P l (aField f) =
+    record { classes = onLast (λ fs. fs ++ (f ∷ [])) (P .classes); methods = P .methods; rows = P .rows; main = P .main }
+withItem P l aMethod =
+    record {
+      classes = P .classes;
+      methods = P .methods ++ (record { requires = []; ensures = []; first = length (P .rows) } ∷ []);
+      rows = P .rows;
+      main = P .main;
+    }
+withItem P l (aRequires φ) =
+    record { classes = P .classes; methods = onLast (withRequires φ) (P .methods); rows = P .rows; main = P .main }
+withItem P l (anEnsures φ) =
+    record { classes = P .classes; methods = onLast (withEnsures φ) (P .methods); rows = P .rows; main = P .main }
+withItem P l aMain = record { classes = P .classes; methods = P .methods; rows = P .rows; main = length (P .rows) }
+withItem P l (aLocal x) = P
+withItem P l (aStatement s) =
+    record { classes = P .classes; methods = P .methods; rows = P .rows ++ (record { line = l; stmt = s } ∷ []); main = P .main }
+
+-- with the items after n lines
+unfoldable pub withItems : Program → ℕ → List Item → Program
+withItems P n [] = P
+withItems P n (a ∷ items) = withItems (withItem P (suc n) a) (suc n) items
 
 unfoldable pub program : List Item → Program
-program items = let p : Parts = partsFrom 0 items in record { classes = p .classes; methods = p .methods; main = p .main }
+program items = withItems noProgram 0 items
 
 -- Everything above computes where this unfolds.
 unfoldable pub opened : Unit {0}
-unfolding readText framedExpr framed framedStmt framedItem checkFramed parts methodOf withItem partsFrom program
+unfolding readText framedExpr framed framedStmt framedItem checkFramed onLast withRequires withEnsures withItem withItems program
 opened = tt

@@ -4,10 +4,10 @@ use mathlib.Core.List.{List, [], _∷_, map}
 use mathlib.Core.Option.{Option, none, some}
 use Prim.Native.Nat.{ℕ}
 use lib.Dec.{eqb}
-use lib.ListN.{getD}
+use lib.ListN.{getD, drop}
 use Rattle.rules.specs.Base.{Try, ok, _>>=_, _>>_, check, orElse}
 use Rattle.rules.specs.Answers.{Refusal, Verdict, accepted, refused, atLine, then, malformed, textEnds, noPermission, notShown}
-use Rattle.rules.specs.Syntax.{Rel, Atom, Formula, Simple, Stmt, Row, Field, Method, Program, noMethod, same, this-variable, parameter, result-variable}
+use Rattle.rules.specs.Syntax.{Rel, Atom, Formula, Simple, Stmt, Row, Field, Method, Program, methodNumbered, same, this-variable, parameter, result-variable}
 use Rattle.rules.specs.Syntax.{eq, ne, num, null, var, path, acc, cmp, set, assign, new, call, return, assert, release, simple, if, else, join, end}
 use Rattle.rules.specs.State.{Term, State, empty, pathOf, equalIn, names, resolve, holdsIn, split, show, remainder, withoutPaths, renameTerm, successor, removeTo, remove, addPermission, addFact, add}
 
@@ -109,7 +109,7 @@ module _ (P : Program) where
   rule (set x f y) s = setRule x f y s
   rule (assign x e) s = assignRule x e s
   rule (new x c) s = newRule x (getD (P .classes) c []) s
-  rule (call x y m z) s = callRule x y (getD (P .methods) m noMethod) z s
+  rule (call x y m z) s = callRule x y (methodNumbered P m) z s
   rule (return x) s = assignRule result-variable (var x) s
   rule (assert φ) s = show s φ >>= λ r. ok s
   rule (release φ) s = show s φ >>= λ r. ok (remainder s r)
@@ -126,13 +126,17 @@ module _ (P : Program) where
   checkRows φ [] s os = refused textEnds 0
   checkRows φ (r ∷ rs) s os = checkRow (r .stmt) (r .line) φ (λ s os. checkRows φ rs s os) s os
 
+  -- from row i on
+  unfoldable pub checkFrom : Formula ℕ → ℕ → State → List Open → Verdict (Unit {0})
+  checkFrom φ i s os = checkRows φ (drop i (P .rows)) s os
+
   -- "A method starts with its requires": after number 10, and with 8 atoms at most, adding it to nothing is never refused
   unfoldable pub checkMethod : Method → Verdict (Unit {0})
-  checkMethod M = atLine 0 (add (M .requires) empty) (λ s. checkRows (M .ensures) (M .body) s [])
+  checkMethod M = atLine 0 (add (M .requires) empty) (λ s. checkFrom (M .ensures) (M .first) s [])
 
   -- "Main starts empty."
   unfoldable pub checkBlocks : List Method → Verdict (Unit {0})
-  checkBlocks [] = checkRows [] (P .main) empty []
+  checkBlocks [] = checkFrom [] (P .main) empty []
   checkBlocks (M ∷ Ms) = then (checkMethod M) λ u. checkBlocks Ms
 
   unfoldable pub checkProgram : Verdict (Unit {0})
@@ -140,5 +144,5 @@ module _ (P : Program) where
 
 -- Everything above computes where this unfolds.
 unfoldable pub opened : Unit {0}
-unfolding actual substTerm substAtom addEqual assignRule addFields initial addInitial newRule setRule callRule opposite ifRule joinRule elseRow joinRow endRow rule checkRow checkRows checkMethod checkBlocks checkProgram
+unfolding actual substTerm substAtom addEqual assignRule addFields initial addInitial newRule setRule callRule opposite ifRule joinRule elseRow joinRow endRow rule checkRow checkRows checkFrom checkMethod checkBlocks checkProgram
 opened = tt

@@ -3,6 +3,7 @@ use mathlib.Core.Bool.{Bool, true, false, _&&_}
 use mathlib.Core.List.{List, []}
 use Prim.Native.Nat.{ℕ}
 use lib.Dec.{eqb}
+use lib.ListN.{length, getD}
 
 -- `eq` or `ne`
 pub data Rel : Type 0 where
@@ -65,21 +66,32 @@ pub record Field : Type 0 where
   pub name : ℕ
   pub int : Bool
 
--- body: the statement lines of the text from the method's first on; its own end with the first `end`
+-- first: the number of its first row; its own rows end with the first `end`
 pub record Method : Type 0 where
   pub requires : Formula ℕ
   pub ensures : Formula ℕ
-  pub body : List Row
+  pub first : ℕ
 
--- classes: the fields of each; main: the statement lines from its first on
+-- classes: the fields of each; rows: the statement lines of the text, numbered from 0; main: the number of main's first row
 pub record Program : Type 0 where
   pub classes : List (List Field)
   pub methods : List Method
-  pub main : List Row
+  pub rows : List Row
+  pub main : ℕ
 
--- what stands for a method that is not there
-abbrev pub noMethod : Method
-noMethod = record { requires = []; ensures = []; body = [] }
+-- what stands for a row that is not there, and for a method
+abbrev pub noRow : Row
+noRow = record { line = 0; stmt = end }
+
+abbrev pub noMethod : Program → Method
+noMethod P = record { requires = []; ensures = []; first = length (P .rows) }
+
+-- by number
+unfoldable pub rowNumbered : Program → ℕ → Row
+rowNumbered P i = getD (P .rows) i noRow
+
+unfoldable pub methodNumbered : Program → ℕ → Method
+methodNumbered P n = getD (P .methods) n (noMethod P)
 
 -- the same expression, as written
 unfoldable pub same : Expr ℕ → Expr ℕ → Bool
@@ -102,5 +114,5 @@ same (path x f) (path y g) = eqb x y && eqb f g
 
 -- Everything above computes where this unfolds.
 unfoldable pub opened : Unit {0}
-unfolding same
+unfolding rowNumbered methodNumbered same
 opened = tt

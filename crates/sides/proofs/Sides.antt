@@ -37,7 +37,8 @@ use Rattle.declared.specs.declared.Lookup.{Lookup}
 use Rattle.declared.specs.Rows.{nameIn}
 use Rattle.declared.specs.Meanings.{declarationsIn, variablesIn}
 use Rattle.declared.specs.Answers.{good, Looked, LookIs, typeOf, typeMeant}
-use Rattle.assembly.specs.Flat.{Flat, flatWith}
+use Rattle.rules.specs.Syntax.{Program}
+use Rattle.rules.specs.Reading.{withItem}
 use Rattle.emit.specs.Puts.{putAtom, putRow, RowBytes}
 use Rattle.emit.specs.Holds as Holds
 use Rattle.emit.specs.Holds.{Declared, SideOk, AtomOk, accessOf, RowOk, Holds}
@@ -205,7 +206,7 @@ module _ (t w : List ℕ) (c : Counts.Names) (r i n l : ℕ) (ready : Ready t w 
     size-kept : length v ≡ length w
     size-kept = ap length f ∙ (row-length u i (oneRow k x n l) (size-first ∙ ready .whole) few ∙ size-first)
 
-    stored : (F : Flat) → length (F .rows) ≡ i → putRow (putAtom w n a p q) (length (F .rows)) (oneRow k x n l) ≡ v
+    stored : (F : Program) → length (F .rows) ≡ i → putRow (putAtom w n a p q) (length (F .rows)) (oneRow k x n l) ≡ v
     stored F j = sym (f ∙ (λ z. putRow (e z) (sym j z) (oneRow k x n l)))
 
   -- LET
@@ -252,9 +253,9 @@ module _ (t w : List ℕ) (c : Counts.Names) (r i n l : ℕ) (ready : Ready t w 
             record {
               count = refl;
               built = λ D F j h.
-                  subst (λ z. Holds D z (flatWith F l (itemOf Γ vs Let (lineWith Let ws))) (n + 1))
+                  subst (λ z. Holds D z (withItem F l (itemOf Γ vs Let (lineWith Let ws))) (n + 1))
                   (stored (y .room) 9 x 1 Tables.Expr.Null (e .expr) let-atom d f F j)
-                  (subst (λ z. Holds D (putRow (putAtom w n 1 Tables.Expr.Null (e .expr)) (length (F .rows)) (oneRow 9 x n l)) (flatWith F l z) (n + 1))
+                  (subst (λ z. Holds D (putRow (putAtom w n 1 Tables.Expr.Null (e .expr)) (length (F .rows)) (oneRow 9 x n l)) (withItem F l z) (n + 1))
                   (λ z. aStatement (simple (assign (X .number z) (E .expr z))))
                   (let-written D w F n 1 Tables.Expr.Null (e .expr) (oneRow 9 x n l) (y .room) (omega (arith, j, few)) let-atom
                   (one-ok D 9 x n l (inl refl) let-variable) refl h refl));
@@ -286,9 +287,9 @@ module _ (t w : List ℕ) (c : Counts.Names) (r i n l : ℕ) (ready : Ready t w 
         record {
           count = refl;
           built = λ D F j h.
-              subst (λ z. Holds D z (flatWith F l (itemOf Γ vs If (lineWith If ws))) (n + 1))
+              subst (λ z. Holds D z (withItem F l (itemOf Γ vs If (lineWith If ws))) (n + 1))
               (stored (y .room) 15 0 (s .kind) (s .left) (s .right) (o .ok) e f F j)
-              (subst (λ z. Holds D (putRow (putAtom w n (s .kind) (s .left) (s .right)) (length (F .rows)) (oneRow 15 0 n l)) (flatWith F l (aStatement z)) (n + 1))
+              (subst (λ z. Holds D (putRow (putAtom w n (s .kind) (s .left) (s .right)) (length (F .rows)) (oneRow 15 0 n l)) (withItem F l (aStatement z)) (n + 1))
               means
               (if-written D w F n (s .kind) (s .left) (s .right) (oneRow 15 0 n l) (y .room) (omega (arith, j, few)) (o .ok)
               (one-ok D 15 0 n l (inr refl) (omega arith)) refl h refl));

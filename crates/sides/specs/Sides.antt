@@ -18,7 +18,8 @@ use Rattle.tables.specs.Stores.{Kept}
 use Rattle.declared.specs.declared.Names.{Names}
 use Rattle.declared.specs.Meanings.{declarationsIn, variablesIn}
 use Rattle.declared.specs.Answers.{good}
-use Rattle.assembly.specs.Flat.{Flat, flatWith}
+use Rattle.rules.specs.Syntax.{Program}
+use Rattle.rules.specs.Reading.{withItem}
 use Rattle.emit.specs.declared.Operands.{Operands}
 use Rattle.emit.specs.Holds.{Declared, Holds}
 use Rattle.declare.specs.Declares.{lineWith}
@@ -47,8 +48,8 @@ module _ (k : Kind) (t w : List ℕ) (c : Names) (r : ℕ) where
   pub record SidePut (i n l : ℕ) (w′ : List ℕ) (m : ℕ) : Type 0 where
     pub count : m ≡ n + 1
     pub built :
-        (D : Declared) (F : Flat) → length (F .rows) ≡ i → Holds D w F n →
-        Holds D w′ (flatWith F l (itemOf (declarationsIn t w c) (variablesIn t w c) k (lineWith k (more (drop r t))))) m
+        (D : Declared) (F : Program) → length (F .rows) ≡ i → Holds D w F n →
+        Holds D w′ (withItem F l (itemOf (declarationsIn t w c) (variablesIn t w c) k (lineWith k (more (drop r t))))) m
     pub names : Kept names-at work-bytes w w′
     pub size : length w′ ≡ length w
 

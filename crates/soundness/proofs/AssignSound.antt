@@ -93,7 +93,7 @@ assign-sound m s s′ x e S l a =
     (record {
       satisfied =
           satisfied-frame (m .heap) (bind x (A .read) F) (advance (bind x (A .read) F)) s′ (λ v. refl) (λ p i. i) (A .satisfied);
-      rows = refl;
+      row = refl;
       same-call = bound-call F x (A .read) l;
       callers = refl;
     })

@@ -1,20 +1,19 @@
 -- `if` and `else`: each goes on where the checker's state is satisfied.
-use mathlib.Core.Path.{_≡_, refl, sym, ap, _∙_, subst}
+use mathlib.Core.Path.{_≡_, refl, sym, _∙_, subst}
 use mathlib.Core.Bool.{Bool, true, false, not, cond}
 use mathlib.Core.List.{List, _∷_}
-use Prim.Native.Nat.{ℕ}
+use Prim.Native.Nat.{ℕ, suc}
 use lib.Dec.{T, eqb, eqb→eq, eqb-refl}
 use Rattle.rules.specs.Base.{ok}
-use Rattle.rules.specs.Syntax.{Rel, Row, Program, eq, ne}
+use Rattle.rules.specs.Syntax.{Rel, Program, eq, ne}
 use Rattle.rules.specs.State.{Term, State, equalIn, resolve, show, addFact}
 use Rattle.rules.specs.Rules.{Open, inFirst, inSecond, opposite, ifRule, joinRule}
-use Rattle.rules.specs.Machine.{Config, Frame, Heap, valueOf, value, compared, tail, seek, isElse, isJoin, afterElse, toJoin, jump, advance, holds, withFrame, took, ifStep}
+use Rattle.rules.specs.Machine.{Config, Frame, Heap, valueOf, value, compared, closing, jump, holds, withFrame, took, choose}
 use Rattle.rules.proofs.Tries.{bind-ok, ok-inj, bind-of-ok}
-use Rattle.soundness.specs.WellFormed.{RowsFormed}
 use Rattle.soundness.proofs.Satisfied.{termValue, Related, Satisfied, satisfied-frame}
 use Rattle.soundness.proofs.ShowSound.{resolve-listed, resolve-reads}
 use Rattle.soundness.proofs.AddSound.{fact-added, compared-related}
-use Rattle.soundness.proofs.Branches.{Accepts, Else, to-else, Join, to-join, seek-formed}
+use Rattle.soundness.proofs.Branches.{Accepts, Else, to-else, Join, to-join}
 use Rattle.soundness.proofs.Stack.{at-row, at-join, Moved, same-frame, Kept}
 
 opposite-related : (n : Rel) (v w : ℕ) → (T (compared n v w) → ⊥) → Related (opposite n) v w
@@ -62,74 +61,56 @@ chosen h F s S n a b c e =
           (fact-added h F (opposite n) t u s s₂ j reads-t reads-u (opposite-related n _ _ k) S);
     }
 
-module _ (P : Program) (m : Config) (r : Row) (rs : List Row) (is-rows : m .frame .rows ≡ r ∷ rs)
-    (formed : RowsFormed (m .frame .rows)) (s : State) (S : Satisfied (m .heap) (m .frame) s) where
-  rows-formed : RowsFormed rs
-  rows-formed = subst RowsFormed is-rows formed .1
-
-  tail-is : tail (m .frame .rows) ≡ rs
-  unfolding tail
-  tail-is = ap tail is-rows
-
-  -- the frame goes on at other rows, with nothing else changed
-  jump-moved :
-      (l ks : List Row) (s′ : State) (os : List Open) → l ≡ ks → RowsFormed ks → Satisfied (m .heap) (m .frame) s′ →
-      Accepts P (m .frame .ensures) ks s′ os → Moved P m (withFrame m (jump l (m .frame)))
+module _ (P : Program) (m : Config) where
+  -- the frame goes on at another row, with nothing else changed
+  pub jump-moved :
+      (i : ℕ) (s : State) (os : List Open) → Satisfied (m .heap) (m .frame) s → Accepts P (m .frame .ensures) i s os →
+      Moved P m (withFrame m (jump i (m .frame)))
   unfolding withFrame jump holds valueOf
-  jump-moved l ks s′ os e f S′ k =
+  jump-moved i s os S k =
       same-frame
-      (record {
-        ready =
-            at-row s′ os (satisfied-frame (m .heap) (m .frame) (jump l (m .frame)) s′ (λ v. refl) (λ p i. i) S′)
-            (subst (λ rs. Accepts P (m .frame .ensures) rs s′ os) (sym e) k);
-        formed = subst RowsFormed (sym e) f;
-      })
+      (at-row s os (satisfied-frame (m .heap) (m .frame) (jump i (m .frame)) s (λ v. refl) (λ p i. i) S) k)
       (record { ensures = refl; this = refl; w = refl }) refl
 
-  -- the lemma on `if`
-  pub if-sound :
-      (n : Rel) (a b : Term) (c : State × State) (os : List Open) → ifRule n a b s ≡ ok c →
-      Accepts P (m .frame .ensures) rs (c .0) (inFirst (c .1) ∷ os) → Kept P m (took (ifStep n a b m))
-  unfolding ifStep took advance afterElse tail
-  if-sound n a b c os e k =
-      let F : Frame = m .frame in
-      let C : Chosen (m .heap) F n a b c = chosen (m .heap) F s S n a b c e in
+  -- a condition chooses between two rows
+  pub choose-kept :
+      (s : State) → Satisfied (m .heap) (m .frame) s → (n : Rel) (a b : Term) (c : State × State) → ifRule n a b s ≡ ok c →
+      (i j : ℕ) (os os′ : List Open) → Accepts P (m .frame .ensures) i (c .0) os → Accepts P (m .frame .ensures) j (c .1) os′ →
+      Kept P m (took (choose n a b i j m))
+  unfolding choose took
+  choose-kept s S n a b c e i j os os′ k l =
+      let C : Chosen (m .heap) (m .frame) n a b c = chosen (m .heap) (m .frame) s S n a b c e in
       subst (λ t. Kept P m (took t))
-      (sym (bind-of-ok (value (m .heap) F a) _ _ (C .is-left) ∙ bind-of-ok (value (m .heap) F b) _ _ (C .is-right)))
+      (sym
+      (bind-of-ok (value (m .heap) (m .frame) a) _ _ (C .is-left) ∙ bind-of-ok (value (m .heap) (m .frame) b) _ _ (C .is-right)))
       (go (compared n (C .left) (C .right)) (C .if-true) (C .if-false))
     where
-      E : Else P (m .frame .ensures) (c .1) os (seek isElse 0 rs)
-      E = to-else P (m .frame .ensures) rs (c .0) (c .1) os k
-
-      else-is : tail (seek isElse 0 (tail (m .frame .rows))) ≡ E .rest
-      else-is = ap (λ (l : List Row). tail (seek isElse 0 l)) tail-is ∙ ap tail (E .is-found)
-
-      else-formed : RowsFormed (E .rest)
-      else-formed = subst RowsFormed (E .is-found) (seek-formed isElse 0 rs rows-formed) .1
-
       go :
           (b : Bool) → (T b → Satisfied (m .heap) (m .frame) (c .0)) → ((T b → ⊥) → Satisfied (m .heap) (m .frame) (c .1)) →
-          Moved P m (withFrame m (cond b (advance (m .frame)) (jump (afterElse (m .frame .rows)) (m .frame))))
-      go true t f = jump-moved (tail (m .frame .rows)) rs (c .0) (inFirst (c .1) ∷ os) tail-is rows-formed (t tt) k
-      go false t f =
-          jump-moved (afterElse (m .frame .rows)) (E .rest) (c .1) (inSecond (E .first-end) ∷ os) else-is else-formed (f (λ z. z))
-          (E .goes-on)
+          Moved P m (withFrame m (jump (cond b i j) (m .frame)))
+      go true t f = jump-moved i (c .0) os (t tt) k
+      go false t f = jump-moved j (c .1) os′ (f (λ z. z)) l
 
-  -- the lemma on `else`: the first branch's end goes on to the `join`, which showed its formula from there
-  pub else-sound :
-      (s₂ : State) (os : List Open) → Accepts P (m .frame .ensures) rs s₂ (inSecond s ∷ os) →
-      Moved P m (withFrame m (jump (toJoin (m .frame .rows)) (m .frame)))
-  unfolding withFrame joinRule jump holds valueOf toJoin
-  else-sound s₂ os k =
-      let J : Join P (m .frame .ensures) s os (seek isJoin 0 rs) = to-join P (m .frame .ensures) rs s₂ s os k in
-      let (u, a, b) = bind-ok (show s (J .formula)) (J .joins) in
-      let (_, _, c) = bind-ok (show (J .second-end) (J .formula)) b in
-      let is : seek isJoin 0 (tail (m .frame .rows)) ≡ J .row ∷ J .rest = ap (seek isJoin 0) tail-is ∙ J .is-found in
-      same-frame
-      (record {
-        ready =
-            at-join (J .row) (J .rest) (J .formula) s (J .after) u os is (J .is-join)
-            (satisfied-frame (m .heap) (m .frame) _ s (λ v. refl) (λ p i. i) S) a c (J .goes-on);
-        formed = subst RowsFormed (sym is) (subst RowsFormed (J .is-found) (seek-formed isJoin 0 rs rows-formed));
-      })
-      (record { ensures = refl; this = refl; w = refl }) refl
+  module _ (s : State) (S : Satisfied (m .heap) (m .frame) s) where
+    -- the lemma on `if`
+    pub if-sound :
+        (n : Rel) (a b : Term) (c : State × State) (os : List Open) → ifRule n a b s ≡ ok c →
+        Accepts P (m .frame .ensures) (suc (m .frame .row)) (c .0) (inFirst (c .1) ∷ os) →
+        Kept P m (took (choose n a b (suc (m .frame .row)) (suc (closing (P .rows) (m .frame .row))) m))
+    if-sound n a b c os e k =
+        let E : Else P (m .frame .ensures) (c .1) os (closing (P .rows) (m .frame .row)) = to-else P _ (m .frame .row) (c .0) (c .1) os k in
+        choose-kept s S n a b c e _ _ (inFirst (c .1) ∷ os) (inSecond (E .first-end) ∷ os) k (E .goes-on)
+
+    -- the lemma on `else`: the first branch's end goes on to the `join`, which showed its formula from there
+    pub else-sound :
+        (s₂ : State) (os : List Open) → Accepts P (m .frame .ensures) (suc (m .frame .row)) s₂ (inSecond s ∷ os) →
+        Moved P m (withFrame m (jump (closing (P .rows) (m .frame .row)) (m .frame)))
+    unfolding withFrame joinRule jump holds valueOf
+    else-sound s₂ os k =
+        let J : Join P (m .frame .ensures) s os (closing (P .rows) (m .frame .row)) = to-join P _ (m .frame .row) s₂ s os k in
+        let (u, a, b) = bind-ok (show s (J .formula)) (J .joins) in
+        let (_, _, c) = bind-ok (show (J .second-end) (J .formula)) b in
+        same-frame
+        (at-join (J .formula) s (J .after) u os (J .is-join)
+        (satisfied-frame (m .heap) (m .frame) _ s (λ v. refl) (λ p i. i) S) a c (J .goes-on))
+        (record { ensures = refl; this = refl; w = refl }) refl

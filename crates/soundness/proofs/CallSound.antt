@@ -5,20 +5,21 @@ use mathlib.Core.List.{List, [], _∷_, _++_, map}
 use mathlib.Core.Logic.{_⊎_, inl, inr}
 use Prim.Native.Nat.{ℕ, suc}
 use native.Mathlib.Omega.{arith}
+use native.Mathlib.Nat.{le-refl}
 use lib.Dec.{eqb, eqb→eq, ltb, not-T}
-use lib.ListN.{length, getD}
+use lib.ListN.{length, List·getD-eq-default}
 use Rattle.rules.specs.Base.{ok, _>>_, check}
 use Rattle.rules.specs.Limits.{most-frames}
 use Rattle.rules.specs.Answers.{accepted, nullFollowed, framesFull, notShown}
-use Rattle.rules.specs.Syntax.{Method, Row, Program, noMethod, this-variable, parameter, result-variable, ne, var, null, call, simple}
+use Rattle.rules.specs.Syntax.{Method, Row, Program, noRow, noMethod, rowNumbered, methodNumbered, this-variable, parameter, result-variable, ne, var, null, call, simple, end}
 use Rattle.rules.specs.State.{State, Shown, empty, equalIn, holdsIn, show, remainder, add, remove}
 use Rattle.rules.specs.Rules.{Open, actual, substAtom, callRule, checkMethod}
-use Rattle.rules.specs.Machine.{Config, Frame, Location, valueOf, footprint, tail, advance, jump, bind, holding, holds, took, callFrame, entered, entryValues, callStep, endStep, returned, targetOf, rowOf}
+use Rattle.rules.specs.Machine.{Config, Frame, Location, valueOf, footprint, advance, jump, bind, holding, holds, took, callFrame, entered, entryValues, callStep, endStep, returned, targetOf, statementOf}
 use Rattle.rules.proofs.Lists.{at-head}
 use Rattle.rules.proofs.Tries.{bind-ok, check-ok, pass, bind-of-ok, atLine-accepted}
 use Rattle.rules.proofs.Sets.{In, in-left, in-right, Holds, location-eq, footprint-held}
 use Rattle.rules.proofs.Disjoint.{HeldOnce, shares, callers-none, shares-none}
-use Rattle.soundness.specs.WellFormed.{AtCall, AtEnd, SimpleFormed, RowsFormed, WellFormed}
+use Rattle.soundness.specs.WellFormed.{AtCall, AtEnd, SimpleFormed, WellFormed}
 use Rattle.soundness.proofs.Satisfied.{termValue, locationOf, Satisfied, satisfied-frame}
 use Rattle.soundness.proofs.ShowSound.{holds-related, show-sound}
 use Rattle.soundness.proofs.RemainderSound.{remainder-sound}
@@ -30,10 +31,15 @@ use Rattle.soundness.proofs.Stack.{Ready, at-row, at-nothing, Suspended
 
 -- a method is accepted, or not there
 abbrev pub MethodAccepted : Program → Method → Type 0
-MethodAccepted P M = (checkMethod P M ≡ accepted tt) ⊎ (M ≡ noMethod)
+MethodAccepted P M = (checkMethod P M ≡ accepted tt) ⊎ (M ≡ noMethod P)
 
 abbrev pub MethodsAccepted : Program → Type 0
-MethodsAccepted P = (n : ℕ) → MethodAccepted P (getD (P .methods) n noMethod)
+MethodsAccepted P = (n : ℕ) → MethodAccepted P (methodNumbered P n)
+
+-- past the last row stands `end`
+no-row : (P : Program) → rowNumbered P (length (P .rows)) .stmt ≡ end
+unfolding rowNumbered
+no-row P = ap (λ (r : Row). r .stmt) (List·getD-eq-default (P .rows) noRow (le-refl _))
 
 -- CALL
 -- the frame that is entered has the actual values for `this` and w
@@ -47,11 +53,10 @@ unfolding callFrame
 call-held m M y z = refl
 
 module _ (P : Program) (W : WellFormed P) (all : MethodsAccepted P) (m : Config)
-    (B : BelowFrame P (m .heap) (m .frame) (m .callers)) (r : Row) (rs : List Row) (is-rows : m .frame .rows ≡ r ∷ rs)
-    (formed : RowsFormed (m .frame .rows)) (s : State) (S : Satisfied (m .heap) (m .frame) s) where
+    (B : BelowFrame P (m .heap) (m .frame) (m .callers)) (s : State) (S : Satisfied (m .heap) (m .frame) s) where
   module _ (x y n z : ℕ) where
     abbrev M : Method
-    M = getD (P .methods) n noMethod
+    M = methodNumbered P n
 
     abbrev G : Frame
     G = callFrame m M y z
@@ -63,30 +68,26 @@ module _ (P : Program) (W : WellFormed P) (all : MethodsAccepted P) (m : Config)
     entry-ready A f (inl a) =
         let (s₀, d, k) = atLine-accepted 0 (add (M .requires) empty) _ _ a in
         at-row s₀ [] (add-empty (m .heap) (holding A G) G (λ v. refl) A (λ p i. i) (M .requires) s₀ f d) k
-    entry-ready A f (inr e) = at-nothing (ap (λ (M : Method). M .body) e) (ap (λ (M : Method). M .ensures) e)
+    entry-ready A f (inr e) = at-nothing (ap (λ (M : Method). rowNumbered P (M .first) .stmt) e ∙ no-row P) (ap (λ (M : Method). M .ensures) e)
 
     entered-moved :
-        (u : Shown) (s′ : State) (os : List Open) → r .stmt ≡ simple (call x y n z) → SimpleFormed (call x y n z) →
+        (u : Shown) (s′ : State) (os : List Open) → rowNumbered P (m .frame .row) .stmt ≡ simple (call x y n z) → SimpleFormed (call x y n z) →
         show s (map (substAtom (actual y z x)) (M .requires)) ≡ ok u →
         add (map (substAtom (actual y z x)) (M .ensures)) (remove x (remainder s u)) ≡ ok s′ →
-        Accepts P (m .frame .ensures) rs s′ os →
+        Accepts P (m .frame .ensures) (suc (m .frame .row)) s′ os →
         footprint (m .heap) G (M .requires) ≡ ok (map (locationOf (m .frame)) (u .consumed)) →
         Moved P m (entered m G (map (locationOf (m .frame)) (u .consumed)))
     unfolding entered holding callFrame entryValues valueOf
     entered-moved u s′ os c fits a b k f =
         other-frame
-        (record { ready = entry-ready (map (locationOf (m .frame)) (u .consumed)) f (all n); formed = W .bodies n }) (
+        (entry-ready (map (locationOf (m .frame)) (u .consumed)) f (all n)) (
           record {
-            row = r;
-            rows = rs;
             x = x;
             y = y;
             method = n;
             z = z;
-            is-rows = is-rows;
             is-call = c;
             call-formed = fits;
-            formed = subst RowsFormed is-rows formed .1;
             is-this = refl;
             is-w = refl;
             over = W .ensures n;
@@ -102,8 +103,8 @@ module _ (P : Program) (W : WellFormed P) (all : MethodsAccepted P) (m : Config)
 
     -- the lemma on `call`
     pub call-sound :
-        (s′ : State) (os : List Open) → r .stmt ≡ simple (call x y n z) → SimpleFormed (call x y n z) →
-        callRule x y M z s ≡ ok s′ → Accepts P (m .frame .ensures) rs s′ os → Kept P m (took (callStep y M z m))
+        (s′ : State) (os : List Open) → rowNumbered P (m .frame .row) .stmt ≡ simple (call x y n z) → SimpleFormed (call x y n z) →
+        callRule x y M z s ≡ ok s′ → Accepts P (m .frame .ensures) (suc (m .frame .row)) s′ os → Kept P m (took (callStep y M z m))
     unfolding callStep took callRule _>>_ check termValue
     call-sound s′ os c fits a k =
         let F : Frame = m .frame in
@@ -128,11 +129,9 @@ module _ (P : Program) (W : WellFormed P) (all : MethodsAccepted P) (m : Config)
         go A false i = tt
 
 -- END
-target-is :
-    (C : Frame) (r : Row) (rs : List Row) (x y n z : ℕ) → C .rows ≡ r ∷ rs → r .stmt ≡ simple (call x y n z) →
-    targetOf (rowOf C .stmt) ≡ x
-unfolding targetOf rowOf
-target-is C r rs x y n z e c = rw (e, c)
+target-is : (P : Program) (C : Frame) (x y n z : ℕ) → rowNumbered P (C .row) .stmt ≡ simple (call x y n z) → targetOf (statementOf P C) ≡ x
+unfolding targetOf statementOf
+target-is P C x y n z c = rw c
 
 -- the frame that ends has the footprint A of ensures; its caller C is suspended, and holds nothing that the frame holds
 module _ (P : Program) (m : Config) (C : Frame) (Cs : List Frame) (A : List Location)
@@ -202,18 +201,12 @@ module _ (P : Program) (m : Config) (C : Frame) (Cs : List Frame) (A : List Loca
       (D .adds)
 
   returned-moved : BelowFrame P (m .heap) C Cs → Moved P m (record { heap = m .heap; frame = advance gained; callers = Cs })
-  unfolding advance jump bind holding holds valueOf tail
+  unfolding advance jump bind holding holds valueOf
   returned-moved B =
-      let is : tail (C .rows) ≡ D .rows = ap tail (D .is-rows) in
       let value-kept : (v : ℕ) → (D .x ≡ v → ⊥) → valueOf gained v ≡ valueOf C v = λ v n. bound-other C (D .x) result v n in
       other-frame
-      (record {
-        ready =
-            at-row (D .after) (D .opens)
-            (satisfied-frame (m .heap) gained (advance gained) (D .after) (λ v. refl) (λ p i. i) gained-satisfied)
-            (subst (λ rs. Accepts P (C .ensures) rs (D .after) (D .opens)) (sym is) (D .goes-on));
-        formed = subst RowsFormed (sym is) (D .formed);
-      })
+      (at-row (D .after) (D .opens)
+      (satisfied-frame (m .heap) gained (advance gained) (D .after) (λ v. refl) (λ p i. i) gained-satisfied) (D .goes-on))
       (below-same P (m .heap) C (advance gained) Cs
       (record {
         ensures = refl;
@@ -225,7 +218,7 @@ module _ (P : Program) (m : Config) (C : Frame) (Cs : List Frame) (A : List Loca
 -- the lemma on `end`
 pub end-sound :
     (P : Program) (m : Config) (A : List Location) → footprint (m .heap) (m .frame) (m .frame .ensures) ≡ ok A → HeldOnce m →
-    (Cs : List Frame) → m .callers ≡ Cs → BelowFrame P (m .heap) (m .frame) Cs → Kept P m (endStep m Cs)
+    (Cs : List Frame) → m .callers ≡ Cs → BelowFrame P (m .heap) (m .frame) Cs → Kept P m (endStep P m Cs)
 unfolding endStep took returned
 end-sound P m A f H [] e B = tt
 end-sound P m A f H (C ∷ Cs) e B =
@@ -234,7 +227,7 @@ end-sound P m A f H (C ∷ Cs) e B =
     λ p i. shares-none (C ∷ Cs) p (subst (λ Fs. shares Fs p ≡ 0) e (callers-none m H p i)) C at-head in
     subst (λ t. Kept P m (took t)) (sym (bind-of-ok (footprint (m .heap) (m .frame) (m .frame .ensures)) A _ f))
     (subst (λ x. Moved P m (back x))
-    (sym (target-is C (D .row) (D .rows) (D .x) (D .y) (D .method) (D .z) (D .is-rows) (D .is-call)))
+    (sym (target-is P C (D .x) (D .y) (D .method) (D .z) (D .is-call)))
     (returned-moved P m C Cs A f D apart (B .1)))
   where
     back : ℕ → Config

@@ -9,6 +9,7 @@ use lib.Dec.{T, lit<}
 use lib.ListN.{getD}
 use Rattle.rules.specs.Base.{Name, eqName, any}
 use Rattle.rules.specs.Syntax as Syntax
+use Rattle.rules.specs.Syntax.{Program}
 use Rattle.rules.specs.Grammar.{Kind, Line, isKind, fields}
 use Rattle.rules.specs.Grammar.{Class, Field, Method, Requires, Ensures, Main, Var, Set, Let, New, Call, Return, Assert, Release, If, Else, Join, End}
 use Rattle.rules.specs.Grammar as Grammar
@@ -18,7 +19,7 @@ use Rattle.rules.specs.Scope as Scope
 use Rattle.rules.specs.Names.{fieldNumber}
 use Rattle.rules.specs.Items.{Item, itemOf}
 use Rattle.rules.specs.Items as Items
-use Rattle.rules.specs.Reading.{Parts, parts, withItem, partsFrom}
+use Rattle.rules.specs.Reading.{noProgram, onLast, withItem, withItems, program}
 use Rattle.rules.proofs.Lists.{Member, at-head, head-or, member-left, member-right, or-left, or-right, same-name, name-same, index-same}
 use Rattle.soundness.specs.WellFormed.{NoneNamed, NamesDiffer}
 use Rattle.rules.proofs.LinesTaken.{lineOf, Taken, TakenLines, TakenText, none, line}
@@ -57,15 +58,6 @@ field-declared c (m ∷ ls) l t i =
     (head-or i)
 
 -- CLASSES
-abbrev AllDiffer : List (List Syntax.Field) → Type 0
-AllDiffer [] = Unit {0}
-AllDiffer (fs ∷ cs) = NamesDiffer fs × AllDiffer cs
-
-class-differs : (cs : List (List Syntax.Field)) → AllDiffer cs → (c : ℕ) → NamesDiffer (getD cs c [])
-class-differs [] D c = tt
-class-differs (fs ∷ cs) D zero = D .0
-class-differs (fs ∷ cs) D (suc c) = class-differs cs (D .1) c
-
 module _ (text : List Line) where
   -- a declared name shares its number with no other
   same-number :
@@ -76,75 +68,100 @@ module _ (text : List Line) where
       let (d, x, y) = index-same (named f) (named g) (declarations text .fields) t e in
       sym (same-name (d .name) f x) ∙ same-name (d .name) g y
 
-  -- these fields have none of these names
-  abbrev Apart : List Name → List Syntax.Field → Type 0
-  Apart above fs = (g : Name) → Member g above → NoneNamed (fieldNumber (declarations text) g) fs
+  -- each of these fields has one of these names
+  abbrev Among : List Name → List Syntax.Field → Type 0
+  Among names [] = Unit {0}
+  Among names (f ∷ fs) = ((g : Name) × Member g names × (f .name ≡ fieldNumber (declarations text) g)) × Among names fs
 
-  -- what the lines from one on declare, whole classes and fields before the next `class`, where their class has the fields
-  -- `above` above them
-  record Differ (above : List Name) (cs : List (List Syntax.Field)) (fs : List Syntax.Field) : Type 0 where
-    classes : AllDiffer cs
-    fields : NamesDiffer fs
-    apart : Apart above fs
+  -- the fields of each class differ; those of the last have these names
+  abbrev Differ : List Name → List (List Syntax.Field) → Type 0
+  Differ names [] = Unit {0}
+  Differ names (fs ∷ []) = NamesDiffer fs × Among names fs
+  Differ names (fs ∷ gs ∷ cs) = NamesDiffer fs × Differ names (gs ∷ cs)
 
-  abbrev PartsDiffer : List Name → Parts → Type 0
-  PartsDiffer above q = Differ above (q .classes) (q .fields)
+  class-differs : (names : List Name) (cs : List (List Syntax.Field)) → Differ names cs → (c : ℕ) → NamesDiffer (getD cs c [])
+  class-differs names [] D c = tt
+  class-differs names (fs ∷ []) D zero = D .0
+  class-differs names (fs ∷ []) D (suc c) = tt
+  class-differs names (fs ∷ gs ∷ cs) D zero = D .0
+  class-differs names (fs ∷ gs ∷ cs) D (suc c) = class-differs names (gs ∷ cs) (D .1) c
 
-  with-class :
-      (above : List Name) (cs : List (List Syntax.Field)) (fs : List Syntax.Field) → Differ [] cs fs → Differ above (fs ∷ cs) []
-  with-class above cs fs D = record { classes = (D .fields, D .classes); fields = tt; apart = λ g i. tt }
+  with-class : (names : List Name) (cs : List (List Syntax.Field)) → Differ names cs → Differ [] (cs ++ ([] ∷ []))
+  with-class names [] D = (tt, tt)
+  with-class names (fs ∷ []) D = (D .0, (tt, tt))
+  with-class names (fs ∷ gs ∷ cs) D = (D .0, with-class names (gs ∷ cs) (D .1))
 
-  with-field :
-      (above : List Name) (cs : List (List Syntax.Field)) (fs : List Syntax.Field) (w : Name) (int : Bool) →
-      T (any (named w) (declarations text .fields)) → ((g : Name) → Member g above → w ≡ g → ⊥) → Differ (above ++ (w ∷ [])) cs fs →
-      Differ above cs (record { name = fieldNumber (declarations text) w; int = int } ∷ fs)
-  with-field above cs fs w int d n D =
-      record {
-        classes = D .classes;
-        fields = (D .apart w (member-right above (w ∷ []) w at-head), D .fields);
-        apart = λ g i. (λ z. n g i (same-number w g d (sym z)), D .apart g (member-left above (w ∷ []) g i));
-      }
+  none-more : (n : ℕ) (fs : List Syntax.Field) (f : Syntax.Field) → NoneNamed n fs → (n ≡ f .name → ⊥) → NoneNamed n (fs ++ (f ∷ []))
+  none-more n [] f N k = (k, tt)
+  none-more n (g ∷ fs) f N k = (N .0, none-more n fs f (N .1) k)
+
+  -- a field whose name w is new
+  module _ (names : List Name) (w : Name) (int : Bool) (d : T (any (named w) (declarations text .fields)))
+      (new : (g : Name) → Member g names → w ≡ g → ⊥) where
+    abbrev field : Syntax.Field
+    field = record { name = fieldNumber (declarations text) w; int = int }
+
+    more-differ : (fs : List Syntax.Field) → NamesDiffer fs → Among names fs → NamesDiffer (fs ++ (field ∷ []))
+    more-differ [] D A = (tt, tt)
+    more-differ (f ∷ fs) D ((g, i, e), A) =
+        (none-more (f .name) fs field (D .0) (λ z. new g i (same-number w g d (sym z ∙ e))), more-differ fs (D .1) A)
+
+    more-among : (fs : List Syntax.Field) → Among names fs → Among (names ++ (w ∷ [])) (fs ++ (field ∷ []))
+    more-among [] A = ((w, member-right names (w ∷ []) w at-head, refl), tt)
+    more-among (f ∷ fs) ((g, i, e), A) = ((g, member-left names (w ∷ []) g i, e), more-among fs A)
+
+    with-field : (cs : List (List Syntax.Field)) → Differ names cs → Differ (names ++ (w ∷ [])) (onLast (λ fs. fs ++ (field ∷ [])) cs)
+    unfolding onLast
+    with-field [] D = tt
+    with-field (fs ∷ []) D = (more-differ fs (D .0) (D .1), more-among fs (D .1))
+    with-field (fs ∷ gs ∷ cs) D = with-next gs cs (D .0) (with-field (gs ∷ cs) (D .1))
+      where
+        with-next :
+            (gs : List Syntax.Field) (cs : List (List Syntax.Field)) → NamesDiffer fs →
+            Differ (names ++ (w ∷ [])) (onLast (λ fs. fs ++ (field ∷ [])) (gs ∷ cs)) →
+            Differ (names ++ (w ∷ [])) (fs ∷ onLast (λ fs. fs ++ (field ∷ [])) (gs ∷ cs))
+        with-next gs [] D E = (D, E)
+        with-next gs (hs ∷ cs) D E = (D, E)
 
   module _ (p : Place) (s : Scope) where
     -- only `class` and `field` matter
     line-differs :
-        (k : Kind) (ws : List Name) → Taken text p s (lineOf k ws) → (n : ℕ) (q : Parts) →
-        PartsDiffer (scopeAfter s (lineOf k ws) .members .fields) q →
-        PartsDiffer (s .members .fields)
-        (withItem n (itemOf (declarations text) (visible (s .block) k) k (lineOf k ws)) q)
-    unfolding Grammar.opened Scope.opened Items.opened parts withItem
-    line-differs Class ws t n q D = with-class (s .members .fields) (q .classes) (q .fields) D
-    line-differs Field ws t n q D =
-        with-field (s .members .fields) (q .classes) (q .fields) (getD ws 1 []) _ (field-declared 0 text _ tt (t .of-text))
-        (new-apart _ _ s _ 1 fields (lit< tt) refl (t .formed) (t .known)) D
-    line-differs Method ws t n q D = D
-    line-differs Requires ws t n q D = D
-    line-differs Ensures ws t n q D = D
-    line-differs Main ws t n q D = D
-    line-differs Var ws t n q D = D
-    line-differs Set ws t n q D = D
-    line-differs Let ws t n q D = D
-    line-differs New ws t n q D = D
-    line-differs Call ws t n q D = D
-    line-differs Return ws t n q D = D
-    line-differs Assert ws t n q D = D
-    line-differs Release ws t n q D = D
-    line-differs If ws t n q D = D
-    line-differs Else ws t n q D = D
-    line-differs Join ws t n q D = D
-    line-differs End ws t n q D = D
+        (k : Kind) (ws : List Name) → Taken text p s (lineOf k ws) → (n : ℕ) (P : Program) →
+        Differ (s .members .fields) (P .classes) →
+        Differ (scopeAfter s (lineOf k ws) .members .fields)
+        (withItem P n (itemOf (declarations text) (visible (s .block) k) k (lineOf k ws)) .classes)
+    unfolding Grammar.opened Scope.opened Items.opened withItem
+    line-differs Class ws t n P D = with-class (s .members .fields) (P .classes) D
+    line-differs Field ws t n P D =
+        with-field (s .members .fields) (getD ws 1 []) _ (field-declared 0 text _ tt (t .of-text))
+        (new-apart _ _ s _ 1 fields (lit< tt) refl (t .formed) (t .known)) (P .classes) D
+    line-differs Method ws t n P D = D
+    line-differs Requires ws t n P D = D
+    line-differs Ensures ws t n P D = D
+    line-differs Main ws t n P D = D
+    line-differs Var ws t n P D = D
+    line-differs Set ws t n P D = D
+    line-differs Let ws t n P D = D
+    line-differs New ws t n P D = D
+    line-differs Call ws t n P D = D
+    line-differs Return ws t n P D = D
+    line-differs Assert ws t n P D = D
+    line-differs Release ws t n P D = D
+    line-differs If ws t n P D = D
+    line-differs Else ws t n P D = D
+    line-differs Join ws t n P D = D
+    line-differs End ws t n P D = D
 
   lines-differ :
-      (p : Place) (s : Scope) (ls : List Line) (items : List Item) → TakenLines text p s ls items → (n : ℕ) →
-      PartsDiffer (s .members .fields) (partsFrom n items)
-  unfolding parts partsFrom
-  lines-differ p s ls items (none e) n = record { classes = tt; fields = tt; apart = λ g i. tt }
-  lines-differ p s ls items (line {l = l} {ls = ls′} {items = items′} t ts) n =
-      line-differs p s (l .kind) (l .fields) t (suc n) (partsFrom (suc n) items′) (lines-differ _ _ ls′ items′ ts (suc n))
+      (p : Place) (s : Scope) (ls : List Line) (items : List Item) → TakenLines text p s ls items → (n : ℕ) (P : Program) →
+      Differ (s .members .fields) (P .classes) → (c : ℕ) → NamesDiffer (getD (withItems P n items .classes) c [])
+  unfolding withItems
+  lines-differ p s ls items (none e) n P D = class-differs (s .members .fields) (P .classes) D
+  lines-differ p s ls items (line {l = l} {ls = ls′} {items = items′} t ts) n P D =
+      lines-differ _ _ ls′ items′ ts (suc n) _ (line-differs p s (l .kind) (l .fields) t (suc n) P D)
 
 -- THE CLAIM
 pub fields-differ :
-    (text : List Line) (items : List Item) → TakenText text items → (c : ℕ) →
-    NamesDiffer (getD (partsFrom 0 items .classes) c [])
-fields-differ text items ts =
-    class-differs (partsFrom 0 items .classes) (lines-differ text firstPlace firstScope text items ts 0 .classes)
+    (text : List Line) (items : List Item) → TakenText text items → (c : ℕ) → NamesDiffer (getD (program items .classes) c [])
+unfolding program
+fields-differ text items ts = lines-differ text firstPlace firstScope text items ts 0 noProgram tt

@@ -6,7 +6,7 @@ use Prim.Native.Nat.{ℕ, zero, suc}
 use native.Mathlib.Omega.{arith}
 use lib.ListN.{getD}
 use Rattle.rules.specs.Answers.{Ending, accepted, finished, stepsTaken, stopped, heapFull, framesFull, permissionMissing, nullFollowed, formulaFalse, stopNumber, endingNumber}
-use Rattle.rules.specs.Syntax.{Method, Program, noMethod}
+use Rattle.rules.specs.Syntax.{Method, Program, noMethod, methodNumbered}
 use Rattle.rules.specs.State.{empty}
 use Rattle.rules.specs.Rules.{checkMethod, checkBlocks, checkProgram}
 use Rattle.rules.specs.Machine.{Config, Room, Step, Outcome, on, stop, done, step, run, goOn, ends, start, runProgram}
@@ -23,7 +23,7 @@ use Rattle.soundness.proofs.StepKeeps.{Fine, step-keeps}
 
 -- AN ACCEPTED PROGRAM: each method and main are accepted
 methods-accepted :
-    (P : Program) (Ms : List Method) → checkBlocks P Ms ≡ accepted tt → (n : ℕ) → MethodAccepted P (getD Ms n noMethod)
+    (P : Program) (Ms : List Method) → checkBlocks P Ms ≡ accepted tt → (n : ℕ) → MethodAccepted P (getD Ms n (noMethod P))
 unfolding checkBlocks
 methods-accepted P [] e n = inr refl
 methods-accepted P (M ∷ Ms) e zero = let (u, a, b) = then-accepted (checkMethod P M) (λ u. checkBlocks P Ms) tt e in inl a
@@ -40,7 +40,7 @@ main-accepted P (M ∷ Ms) e =
 module _ (room : Room) (P : Program) (W : WellFormed P) (all : MethodsAccepted P) where
   goes-on :
       (t : Step) (n : ℕ) (m : Config) (k : Config → Outcome) → Fine P t →
-      ((m′ : Config) → Invariant P m′ → EndsUnstuck (k m′ .ending)) → EndsUnstuck (goOn t n m k .ending)
+      ((m′ : Config) → Invariant P m′ → EndsUnstuck (k m′ .ending)) → EndsUnstuck (goOn P t n m k .ending)
   unfolding goOn ends
   goes-on (on m′) n m k f h = h m′ f
   goes-on (stop r) n m k f h = f
@@ -53,13 +53,13 @@ module _ (room : Room) (P : Program) (W : WellFormed P) (all : MethodsAccepted P
       goes-on (step room P m) n m (λ m′. run room P k (suc n) m′) (step-keeps room P W all m I)
       (λ m′ J. run-not-stuck k (suc n) m′ J)
 
-start-invariant : (P : Program) → WellFormed P → Accepts P [] (P .main) empty [] → Invariant P (start P)
+start-invariant : (P : Program) → Accepts P [] (P .main) empty [] → Invariant P (start P)
 unfolding start
-start-invariant P W k =
+start-invariant P k =
     record {
       once = λ p. omega (arith, start-none P p);
       exist = λ p l. absurd (omega (arith, start-none P p, l));
-      running = record { ready = at-row empty [] (satisfied-empty _ _) k; formed = W .main };
+      ready = at-row empty [] (satisfied-empty _ _) k;
       below = tt;
     }
 
@@ -67,9 +67,9 @@ start-invariant P W k =
 pub accepted-ends-unstuck :
     (P :
     Program) → WellFormed P → checkProgram P ≡ accepted tt → (room : Room) (k : ℕ) → EndsUnstuck (runProgram room P k .ending)
-unfolding checkProgram runProgram
+unfolding checkProgram runProgram methodNumbered
 accepted-ends-unstuck P W e room k =
-    run-not-stuck room P W (methods-accepted P (P .methods) e) k 0 (start P) (start-invariant P W (main-accepted P (P .methods) e))
+    run-not-stuck room P W (methods-accepted P (P .methods) e) k 0 (start P) (start-invariant P (main-accepted P (P .methods) e))
 
 -- in numbers
 pub unstuck-number : (e : Ending) → EndsUnstuck e → NotStuck (endingNumber e)

@@ -90,7 +90,7 @@ set-sound m s s′ x f y S a =
     subst (Goes m s′) (sym (bind-of-ok (locate F x f) _ _ l))
     (record {
       satisfied = satisfied-frame _ F (advance F) s′ (λ v. refl) (λ p i. i) S′;
-      rows = refl;
+      row = refl;
       same-call = record { ensures = refl; this = refl; w = refl };
       callers = refl;
     })

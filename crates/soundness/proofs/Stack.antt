@@ -1,51 +1,43 @@
 -- The invariant of a run of an accepted program: what holds of the frame that runs and of each caller.
-use mathlib.Core.Path.{_≡_, sym, ap, _∙_, subst}
+use mathlib.Core.Path.{_≡_, sym, subst}
 use mathlib.Core.List.{List, [], _∷_, map}
-use Prim.Native.Nat.{ℕ, _≤_}
+use Prim.Native.Nat.{ℕ, suc, _≤_}
 use native.Mathlib.Omega.{arith}
 use Rattle.rules.specs.Base.{Try, ok, no}
 use Rattle.rules.specs.Answers.{Stop}
-use Rattle.rules.specs.Syntax.{Formula, Row, Program, this-variable, parameter, call, simple, join}
+use Rattle.rules.specs.Syntax.{Formula, Program, rowNumbered, this-variable, parameter, call, simple, join, end}
 use Rattle.rules.specs.State.{State, Shown, empty, show, add, remove}
 use Rattle.rules.specs.Rules.{Open, actual, substAtom}
-use Rattle.rules.specs.Machine.{Config, Frame, Heap, Location, Room, Step, on, stop, done, step, took, tail, valueOf}
+use Rattle.rules.specs.Machine.{Config, Frame, Heap, Location, Room, Step, on, stop, done, step, took, valueOf}
 use Rattle.rules.proofs.Changes.{Within, change-within, step-changes}
 use Rattle.rules.proofs.Disjoint.{shares, HeldOnce, HeldExists, share-held, shares-cons, change-keeps}
 use Rattle.rules.proofs.Sets.{Holds}
-use Rattle.soundness.specs.WellFormed.{SimpleFormed, RowsFormed, AtEnd, Over}
+use Rattle.soundness.specs.WellFormed.{SimpleFormed, AtEnd, Over}
 use Rattle.soundness.specs.Endings.{Full}
 use Rattle.soundness.proofs.Satisfied.{Satisfied, AgreeAt, satisfied-heap}
 use Rattle.soundness.proofs.Branches.{Accepts}
 
 -- THE FRAME THAT RUNS
--- its rows are accepted from a state that it satisfies; or they start with the `join` to which its first branch goes on; or it
--- is the frame of a method that is not there
+-- from its next row on it is accepted in a state that it satisfies; or that row is the `join` to which its first branch goes on; or
+-- it is the frame of a method that is not there
 pub data Ready (P : Program) (h : Heap) (F : Frame) : Type 0 where
-  at-row : (s : State) (os : List Open) → Satisfied h F s → Accepts P (F .ensures) (F .rows) s os → Ready P h F
+  at-row : (s : State) (os : List Open) → Satisfied h F s → Accepts P (F .ensures) (F .row) s os → Ready P h F
   at-join :
-      (r : Row) (rs : List Row) (φ : Formula ℕ) (s s′ : State) (u : Shown) (os : List Open) →
-      F .rows ≡ r ∷ rs → r .stmt ≡ join φ → Satisfied h F s → show s φ ≡ ok u → add φ empty ≡ ok s′ →
-      Accepts P (F .ensures) rs s′ os → Ready P h F
-  at-nothing : F .rows ≡ [] → F .ensures ≡ [] → Ready P h F
-
-pub record Running (P : Program) (h : Heap) (F : Frame) : Type 0 where
-  pub ready : Ready P h F
-  pub formed : RowsFormed (F .rows)
+      (φ : Formula ℕ) (s s′ : State) (u : Shown) (os : List Open) →
+      rowNumbered P (F .row) .stmt ≡ join φ → Satisfied h F s → show s φ ≡ ok u → add φ empty ≡ ok s′ →
+      Accepts P (F .ensures) (suc (F .row)) s′ os → Ready P h F
+  at-nothing : rowNumbered P (F .row) .stmt ≡ end → F .ensures ≡ [] → Ready P h F
 
 -- A CALLER
 -- at its `call` line, below a frame with the values `this` and w and the ensures φ: it satisfies what the call left it, and goes
 -- on from there with x removed and ensures added
 pub record Suspended (P : Program) (h : Heap) (this w : ℕ) (φ : Formula ℕ) (C : Frame) : Type 0 where
-  pub row : Row
-  pub rows : List Row
   pub x : ℕ
   pub y : ℕ
   pub method : ℕ
   pub z : ℕ
-  pub is-rows : C .rows ≡ row ∷ rows
-  pub is-call : row .stmt ≡ simple (call x y method z)
+  pub is-call : rowNumbered P (C .row) .stmt ≡ simple (call x y method z)
   pub call-formed : SimpleFormed (call x y method z)
-  pub formed : RowsFormed rows
   pub is-this : this ≡ valueOf C y
   pub is-w : w ≡ valueOf C z
   pub over : Over AtEnd φ
@@ -54,7 +46,7 @@ pub record Suspended (P : Program) (h : Heap) (this w : ℕ) (φ : Formula ℕ) 
   pub after : State
   pub opens : List Open
   pub adds : add (map (substAtom (actual y z x)) φ) (remove x left) ≡ ok after
-  pub goes-on : Accepts P (C .ensures) rows after opens
+  pub goes-on : Accepts P (C .ensures) (suc (C .row)) after opens
 
 -- all callers, the nearest first
 abbrev pub Below : Program → Heap → ℕ → ℕ → Formula ℕ → List Frame → Type 0
@@ -69,7 +61,7 @@ BelowFrame P h F Cs = Below P h (valueOf F this-variable) (valueOf F parameter) 
 pub record Invariant (P : Program) (m : Config) : Type 0 where
   pub once : HeldOnce m
   pub exist : HeldExists m
-  pub running : Running P (m .heap) (m .frame)
+  pub ready : Ready P (m .heap) (m .frame)
   pub below : BelowFrame P (m .heap) (m .frame) (m .callers)
 
 -- ONE STEP
@@ -81,8 +73,8 @@ pub record SameCall (F G : Frame) : Type 0 where
 
 -- what each statement shows of its step: the frame goes on in its call, or another runs
 pub data Moved (P : Program) (m m′ : Config) : Type 0 where
-  same-frame : Running P (m′ .heap) (m′ .frame) → SameCall (m .frame) (m′ .frame) → m′ .callers ≡ m .callers → Moved P m m′
-  other-frame : Running P (m′ .heap) (m′ .frame) → BelowFrame P (m′ .heap) (m′ .frame) (m′ .callers) → Moved P m m′
+  same-frame : Ready P (m′ .heap) (m′ .frame) → SameCall (m .frame) (m′ .frame) → m′ .callers ≡ m .callers → Moved P m m′
+  other-frame : Ready P (m′ .heap) (m′ .frame) → BelowFrame P (m′ .heap) (m′ .frame) (m′ .callers) → Moved P m m′
 
 abbrev pub Kept : Program → Config → Step → Type 0
 Kept P m (on m′) = Moved P m m′
@@ -92,7 +84,7 @@ Kept P m done = Unit {0}
 -- a statement that goes on to the next line, from a state to s′
 pub record Onward (m : Config) (s′ : State) (m′ : Config) : Type 0 where
   pub satisfied : Satisfied (m′ .heap) (m′ .frame) s′
-  pub rows : m′ .frame .rows ≡ tail (m .frame .rows)
+  pub row : m′ .frame .row ≡ suc (m .frame .row)
   pub same-call : SameCall (m .frame) (m′ .frame)
   pub callers : m′ .callers ≡ m .callers
 
@@ -100,27 +92,17 @@ abbrev pub Goes : Config → State → Try Stop Config → Type 0
 Goes m s′ (ok m′) = Onward m s′ m′
 Goes m s′ (no r) = Full r
 
-tail-of : (l : List Row) (r : Row) (rs : List Row) → l ≡ r ∷ rs → tail l ≡ rs
-unfolding tail
-tail-of l r rs e = ap tail e
-
 -- such a statement, where the rows after it are accepted from s′
 pub goes-kept :
-    (P : Program) (m : Config) (r : Row) (rs : List Row) (s′ : State) (os : List Open) (t : Try Stop Config) →
-    m .frame .rows ≡ r ∷ rs → RowsFormed (m .frame .rows) → Accepts P (m .frame .ensures) rs s′ os → Goes m s′ t →
-    Kept P m (took t)
+    (P : Program) (m : Config) (s′ : State) (os : List Open) (t : Try Stop Config) →
+    Accepts P (m .frame .ensures) (suc (m .frame .row)) s′ os → Goes m s′ t → Kept P m (took t)
 unfolding took
-goes-kept P m r rs s′ os (no c) e f k g = g
-goes-kept P m r rs s′ os (ok m′) e f k g =
-    let is : m′ .frame .rows ≡ rs = g .rows ∙ tail-of (m .frame .rows) r rs e in
+goes-kept P m s′ os (no c) k g = g
+goes-kept P m s′ os (ok m′) k g =
     same-frame
-    (record {
-      ready =
-          at-row s′ os (g .satisfied)
-          (subst (λ φ. Accepts P φ (m′ .frame .rows) s′ os) (sym (g .same-call .ensures))
-          (subst (λ rs. Accepts P (m .frame .ensures) rs s′ os) (sym is) k));
-      formed = subst RowsFormed (sym is) (subst RowsFormed e f .1);
-    })
+    (at-row s′ os (g .satisfied)
+    (subst (λ φ. Accepts P φ (m′ .frame .row) s′ os) (sym (g .same-call .ensures))
+    (subst (λ i. Accepts P (m .frame .ensures) i s′ os) (sym (g .row)) k)))
     (g .same-call) (g .callers)
 
 -- A HEAP THAT CHANGES
@@ -129,16 +111,12 @@ suspended-heap :
     Suspended P h t w φ C → Suspended P h′ t w φ C
 suspended-heap P h h′ t w φ C A S =
     record {
-      row = S .row;
-      rows = S .rows;
       x = S .x;
       y = S .y;
       method = S .method;
       z = S .z;
-      is-rows = S .is-rows;
       is-call = S .is-call;
       call-formed = S .call-formed;
-      formed = S .formed;
       is-this = S .is-this;
       is-w = S .is-w;
       over = S .over;
@@ -185,10 +163,10 @@ moved-invariant room P m m′ I e M =
         record {
           once = H;
           exist = E;
-          running = R;
+          ready = R;
           below =
               subst (BelowFrame P (m′ .heap) (m′ .frame)) (sym c)
               (below-same P (m′ .heap) (m .frame) (m′ .frame) (m .callers) S
               (below-heap P (m .heap) (m′ .heap) _ _ _ (m .callers) (callers-agree m m′ (I .once) (I .exist) W) (I .below)));
         }
-    go H E (other-frame R B) = record { once = H; exist = E; running = R; below = B }
+    go H E (other-frame R B) = record { once = H; exist = E; ready = R; below = B }

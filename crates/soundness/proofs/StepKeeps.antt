@@ -1,23 +1,23 @@
 -- Each step of an accepted program keeps the invariant, or finds the machine full, or is main's `end`.
-use mathlib.Core.Path.{_≡_, refl, sym, ap, _∙_, subst}
+use mathlib.Core.Path.{_≡_, refl, sym, ap, subst}
 use mathlib.Core.List.{List, [], _∷_}
-use Prim.Native.Nat.{ℕ, _≤_}
+use Prim.Native.Nat.{ℕ, suc, _≤_}
 use native.Mathlib.Omega.{arith}
 use lib.ListN.{length, getD}
 use Rattle.rules.specs.Base.{Try, ok}
 use Rattle.rules.specs.Answers.{Stop, accepted}
-use Rattle.rules.specs.Syntax.{Formula, Simple, Stmt, Row, Program, result-variable, var, set, assign, new, call, return, assert, release, simple, if, else, join, end}
+use Rattle.rules.specs.Syntax.{Formula, Simple, Stmt, Program, rowNumbered, result-variable, var, set, assign, new, call, return, assert, release, simple, if, else, join, end}
 use Rattle.rules.specs.State.{State, show}
-use Rattle.rules.specs.Rules.{Open, inFirst, inSecond, rule, ifRule, joinRule, checkRow, checkRows, elseRow, joinRow, endRow}
-use Rattle.rules.specs.Machine.{Config, Location, Room, Step, on, stop, done, noRow, rowOf, footprint, takeFrom, took, simpleStep, stepAt, step, assertStep, releaseStep}
+use Rattle.rules.specs.Rules.{Open, inFirst, inSecond, rule, ifRule, joinRule, checkRow, elseRow, joinRow, endRow}
+use Rattle.rules.specs.Machine.{ifStep, elseStep, Config, Location, Room, Step, on, stop, done, statementOf, footprint, takeFrom, took, simpleStep, stepAt, step, assertStep, releaseStep}
 use Rattle.rules.proofs.Tries.{bind-ok, ok-inj, atLine-accepted, refused-accepted}
 use Rattle.rules.proofs.Sets.{Holds}
 use Rattle.rules.proofs.Disjoint.{share-held}
-use Rattle.soundness.specs.WellFormed.{SimpleFormed, StmtFormed, RowsFormed, WellFormed}
+use Rattle.soundness.specs.WellFormed.{SimpleFormed, StmtFormed, WellFormed}
 use Rattle.soundness.specs.Endings.{Full}
 use Rattle.soundness.proofs.Satisfied.{Satisfied}
 use Rattle.soundness.proofs.ShowSound.{show-sound}
-use Rattle.soundness.proofs.Branches.{Accepts}
+use Rattle.soundness.proofs.Branches.{Accepts, AcceptsAt, accepts-row}
 use Rattle.soundness.proofs.Stack.{Ready, at-row, at-join, at-nothing, Invariant, Goes, Kept, goes-kept, moved-invariant}
 use Rattle.soundness.proofs.AssignSound.{assign-sound}
 use Rattle.soundness.proofs.SetSound.{set-sound}
@@ -36,23 +36,24 @@ module _ (room : Room) (P : Program) (W : WellFormed P) (all : MethodsAccepted P
   frame-exists : (p : Location) → Holds (m .frame) p → p .object ≤ length (m .heap)
   frame-exists p i = I .exist p (omega (arith, share-held (m .frame) p i))
 
-  -- at the row r, with the rows rs after it, in a state that the frame satisfies
-  module _ (r : Row) (rs : List Row) (e : m .frame .rows ≡ r ∷ rs) (s : State) (S : Satisfied (m .heap) (m .frame) s) where
+  -- in a state that the frame satisfies
+  module _ (s : State) (S : Satisfied (m .heap) (m .frame) s) where
     onward :
-        (s′ : State) (os : List Open) (t : Try Stop Config) → Accepts P (m .frame .ensures) rs s′ os → Goes m s′ t →
-        Kept P m (took t)
-    onward s′ os t k g = goes-kept P m r rs s′ os t e (I .running .formed) k g
+        (s′ : State) (os : List Open) (t : Try Stop Config) → Accepts P (m .frame .ensures) (suc (m .frame .row)) s′ os →
+        Goes m s′ t → Kept P m (took t)
+    onward s′ os t k g = goes-kept P m s′ os t k g
 
     simple-kept :
-        (p : Simple) → r .stmt ≡ simple p → SimpleFormed p → (s′ : State) (os : List Open) → rule P p s ≡ ok s′ →
-        Accepts P (m .frame .ensures) rs s′ os → Kept P m (took (simpleStep room P p m))
+        (p : Simple) → rowNumbered P (m .frame .row) .stmt ≡ simple p → SimpleFormed p → (s′ : State) (os : List Open) →
+        rule P p s ≡ ok s′ → Accepts P (m .frame .ensures) (suc (m .frame .row)) s′ os →
+        Kept P m (took (simpleStep room P p m))
     unfolding rule simpleStep
     simple-kept (set x f y) c l s′ os a k = onward s′ os _ k (set-sound m s s′ x f y S a)
     simple-kept (assign x v) c l s′ os a k = onward s′ os _ k (assign-sound m s s′ x v S l a)
     simple-kept (new x d) c l s′ os a k =
         onward s′ os _ k (new-sound room m s s′ x (getD (P .classes) d []) S frame-exists (W .classes d) l a)
     simple-kept (call x y n z) c l s′ os a k =
-        call-sound P W all m (I .below) r rs e (I .running .formed) s S x y n z s′ os c l a k
+        call-sound P W all m (I .below) s S x y n z s′ os c l a k
     simple-kept (return x) c l s′ os a k =
         onward s′ os _ k (assign-sound m s s′ result-variable (var x) S (omega arith) a)
     simple-kept (assert φ) c l s′ os a k =
@@ -63,51 +64,42 @@ module _ (room : Room) (P : Program) (W : WellFormed P) (all : MethodsAccepted P
         onward s′ os _ k (subst (λ w. Goes m w (releaseStep φ m)) (ok-inj q) (release-sound m s S φ u b))
 
     row-kept :
-        (os : List Open) (t : Stmt) → r .stmt ≡ t →
-        checkRow P t (r .line) (m .frame .ensures) (λ s os. checkRows P (m .frame .ensures) rs s os) s os ≡ accepted tt →
-        Kept P m (stepAt room P t m)
-    unfolding checkRow elseRow joinRow endRow stepAt joinRule
+        (os : List Open) (t : Stmt) → rowNumbered P (m .frame .row) .stmt ≡ t →
+        AcceptsAt P (m .frame .ensures) t (m .frame .row) s os → Kept P m (stepAt room P t m)
+    unfolding checkRow elseRow joinRow endRow stepAt ifStep elseStep joinRule
     row-kept os (simple p) c k =
-        let (s′, a, b) = atLine-accepted (r .line) (rule P p s) _ _ k in
-        simple-kept p c (subst StmtFormed c (subst RowsFormed e (I .running .formed) .0)) s′ os a b
+        let (s′, a, b) = atLine-accepted _ (rule P p s) _ _ k in
+        simple-kept p c (subst StmtFormed c (W .rows (m .frame .row))) s′ os a b
     row-kept os (if n a b) c k =
-        let (d, i, j) = atLine-accepted (r .line) (ifRule n a b s) _ _ k in
-        if-sound P m r rs e (I .running .formed) s S n a b d os i j
+        let (d, i, j) = atLine-accepted _ (ifRule n a b s) _ _ k in
+        if-sound P m s S n a b d os i j
     row-kept [] else c k = refused-accepted k
-    row-kept (inFirst s₂ ∷ os) else c k = else-sound P m r rs e (I .running .formed) s S s₂ os k
+    row-kept (inFirst s₂ ∷ os) else c k = else-sound P m s S s₂ os k
     row-kept (inSecond s₁ ∷ os) else c k = refused-accepted k
     row-kept [] (join φ) c k = refused-accepted k
     row-kept (inFirst s₂ ∷ os) (join φ) c k = refused-accepted k
     row-kept (inSecond s₁ ∷ os) (join φ) c k =
-        let (s′, a, b) = atLine-accepted (r .line) (joinRule φ s₁ s) _ _ k in
+        let (s′, a, b) = atLine-accepted _ (joinRule φ s₁ s) _ _ k in
         let (_, _, a₁) = bind-ok (show s₁ φ) a in
         let (u, i, j) = bind-ok (show s φ) a₁ in
         onward s′ os _ b (join-sound m s S φ u i s′ j)
     row-kept [] end c k =
-        let (u, a, b) = atLine-accepted (r .line) (show s (m .frame .ensures)) _ _ k in
+        let (u, a, b) = atLine-accepted _ (show s (m .frame .ensures)) _ _ k in
         end-sound P m _ (show-sound (m .heap) (m .frame) s S (m .frame .ensures) u a) (I .once) (m .callers) refl (I .below)
     row-kept (o ∷ os) end c k = refused-accepted k
 
-  rows-kept :
-      (l : List Row) → m .frame .rows ≡ l → (s : State) → Satisfied (m .heap) (m .frame) s → (os : List Open) →
-      Accepts P (m .frame .ensures) l s os → Kept P m (stepAt room P (getD l 0 noRow .stmt) m)
-  unfolding checkRows
-  rows-kept [] e s S os k = refused-accepted k
-  rows-kept (r ∷ rs) e s S os k = row-kept r rs e s S os (r .stmt) refl k
-
-  ready-kept : Ready P (m .heap) (m .frame) → Kept P m (stepAt room P (getD (m .frame .rows) 0 noRow .stmt) m)
+  ready-kept : Ready P (m .heap) (m .frame) → Kept P m (stepAt room P (rowNumbered P (m .frame .row) .stmt) m)
   unfolding stepAt footprint takeFrom
-  ready-kept (at-row s os S k) = rows-kept (m .frame .rows) refl s S os k
-  ready-kept (at-join r rs φ s s′ u os e j S a b k) =
-      subst (λ t. Kept P m (stepAt room P t m)) (sym (ap (λ (l : List Row). getD l 0 noRow .stmt) e ∙ j))
-      (onward r rs e s S s′ os _ k (join-sound m s S φ u a s′ b))
+  ready-kept (at-row s os S k) = row-kept s S os _ refl (accepts-row P _ (m .frame .row) s os k)
+  ready-kept (at-join φ s s′ u os j S a b k) =
+      subst (λ t. Kept P m (stepAt room P t m)) (sym j) (onward s S s′ os _ k (join-sound m s S φ u a s′ b))
   ready-kept (at-nothing e f) =
-      subst (λ (l : List Row). Kept P m (stepAt room P (getD l 0 noRow .stmt) m)) (sym e)
+      subst (λ t. Kept P m (stepAt room P t m)) (sym e)
       (end-sound P m [] (ap (λ (φ : Formula ℕ). footprint (m .heap) (m .frame) φ) f) (I .once) (m .callers) refl (I .below))
 
   pub step-keeps : Fine P (step room P m)
-  unfolding step rowOf
-  step-keeps = go (step room P m) refl (ready-kept (I .running .ready))
+  unfolding step statementOf
+  step-keeps = go (step room P m) refl (ready-kept (I .ready))
     where
       go : (t : Step) → step room P m ≡ t → Kept P m t → Fine P t
       go (on m′) e M = moved-invariant room P m m′ I e M

@@ -4,7 +4,7 @@ use mathlib.Core.List.{List, [], _∷_}
 use mathlib.Core.Logic.{_⊎_}
 use Prim.Native.Nat.{ℕ, _≤_}
 use lib.ListN.{getD}
-use Rattle.rules.specs.Syntax.{Expr, Formula, Simple, Stmt, Row, Field, Program, noMethod, this-variable, parameter, first-local, result-variable}
+use Rattle.rules.specs.Syntax.{Expr, Formula, Simple, Stmt, Field, Program, rowNumbered, methodNumbered, this-variable, parameter, first-local, result-variable}
 use Rattle.rules.specs.Syntax.{num, null, var, path, acc, cmp, set, assign, new, call, return, assert, release, simple, if, else, join, end}
 
 -- every variable of a term, or of a formula, has the property Q
@@ -43,10 +43,6 @@ StmtFormed else = Unit {0}
 StmtFormed (join φ) = Unit {0}
 StmtFormed end = Unit {0}
 
-abbrev pub RowsFormed : List Row → Type 0
-RowsFormed [] = Unit {0}
-RowsFormed (r ∷ rs) = StmtFormed (r .stmt) × RowsFormed rs
-
 -- the fields of a class have different names
 abbrev pub NoneNamed : ℕ → List Field → Type 0
 NoneNamed n [] = Unit {0}
@@ -58,7 +54,6 @@ NamesDiffer (f ∷ fs) = NoneNamed (f .name) fs × NamesDiffer fs
 
 pub record WellFormed (P : Program) : Type 0 where
   pub classes : (c : ℕ) → NamesDiffer (getD (P .classes) c [])
-  pub requires : (n : ℕ) → Over AtCall (getD (P .methods) n noMethod .requires)
-  pub ensures : (n : ℕ) → Over AtEnd (getD (P .methods) n noMethod .ensures)
-  pub bodies : (n : ℕ) → RowsFormed (getD (P .methods) n noMethod .body)
-  pub main : RowsFormed (P .main)
+  pub requires : (n : ℕ) → Over AtCall (methodNumbered P n .requires)
+  pub ensures : (n : ℕ) → Over AtEnd (methodNumbered P n .ensures)
+  pub rows : (i : ℕ) → StmtFormed (rowNumbered P i .stmt)

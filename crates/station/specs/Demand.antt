@@ -34,7 +34,7 @@ ReturnsNotStuck =
 pub record Returns (l : Lent) (t : List ℕ) (items : List Item) : Type 0 where
   pub reached : Reached wholeHeap (program items) (l .steps)
   pub result : Result
-  pub is : result ≡ outcomeResult (ends (reached .ending) (reached .steps + lastStep (reached .ending)) (reached .state))
+  pub is : result ≡ outcomeResult (ends (program items) (reached .ending) (reached .steps + lastStep (reached .ending)) (reached .state))
   pub returned : runCall t (l .work) (l .steps) (l .results) .returned ≡ packed (result .number) (result .line)
   pub results : runCall t (l .work) (l .steps) (l .results) .results ≡ resultBytes result
   pub kept : FrameKept wholeHeap (program items)

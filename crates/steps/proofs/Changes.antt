@@ -119,7 +119,7 @@ module _ {w : List ℕ} {c : Machine} {m : Config} (R : Represents w c m) where
           most = R .most;
           frame =
               frame-bind x v lx (this-variable w b x v (omega (arith, R .tables .size)) lv)
-              (λ y _ d. other-variable w b x y v d) H (all-same w w′ t (R .tables)) (rows-count-same w w′ t) (R .frame);
+              (λ y _ d. other-variable w b x y v d) H (rows-count-same w w′ t) (R .frame);
           ensures = ensures-kept w w′ t (R .tables) i (m .frame) (s .bytes (b + 66) (inr (omega arith))) (R .ensures);
           callers =
               callers-kept w w′ t (R .tables) (c .objects) (c .objects) (c .holder) (m .callers)

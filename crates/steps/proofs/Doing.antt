@@ -9,10 +9,10 @@ use lib.ListN.{length}
 use Rattle.rules.specs.Limits.{heap-fields, most-statements, most-frames}
 use Rattle.rules.specs.Base.{ok, no}
 use Rattle.rules.specs.Syntax.{var, result-variable}
-use Rattle.rules.specs.Machine.{Config, Step, took, on, withFrame, jump, toJoin, setStep, assignStep, ifStep, assertStep, releaseStep}
+use Rattle.rules.specs.Machine.{Config, Step, took, on, elseStep, setStep, assignStep, ifStep, assertStep, releaseStep}
 use Rattle.rules.specs.declared.Machine.{Machine}
 use Rattle.tables.specs.Layout.{frame-variables, values-at, holders-at, frames-at, most-names}
-use Rattle.tables.specs.Decode.{byteAt, atomPlace, relOf, xAt, yAt, memberAt, targetAt, firstAtomAt, atomCountAt, atomsFrom, atomCount, formulaAt, leftAt, rightAt}
+use Rattle.tables.specs.Decode.{allRows, byteAt, atomPlace, relOf, xAt, yAt, memberAt, targetAt, firstAtomAt, atomCountAt, atomsFrom, atomCount, formulaAt, leftAt, rightAt}
 use Rattle.tables.specs.Tables.{RowFits}
 use Rattle.tables.specs.Stores.{SameTables, putWord}
 use Rattle.tables.proofs.Bytes.{same-refl}
@@ -108,7 +108,7 @@ module _ {w : List ℕ} {c : Machine} (ready : Ready w c) where
   -- BRANCHES
   pub else-does :
       {d : Machine} → AtKind w c 16 → d ≡ stepped c (targetAt w (c .row)) →
-      Does w c w (Turn.On d) (λ m. on (withFrame m (jump (toJoin (m .frame .rows)) (m .frame))))
+      Does w c w (Turn.On d) (λ m. on (elseStep (allRows w) m))
   else-does k q = does-on refl q (same-refl w) (λ m R. Moves.else-on R k)
 
   pub if-atom : AtKind w c 15 → firstAtomAt w (c .row) < atomCount w
@@ -118,19 +118,19 @@ module _ {w : List ℕ} {c : Machine} (ready : Ready w c) where
     pub if-holds :
         {d : Machine} → testIn w v a ≡ ok true → d ≡ stepped c (c .row + 1) →
         Does w c w (Turn.On d)
-        (λ m. took (ifStep (relOf (byteAt w (atomPlace (firstAtomAt w (c .row))))) (leftAt w (firstAtomAt w (c .row))) (rightAt w (firstAtomAt w (c .row))) m))
+        (λ m. took (ifStep (allRows w) (relOf (byteAt w (atomPlace (firstAtomAt w (c .row))))) (leftAt w (firstAtomAt w (c .row))) (rightAt w (firstAtomAt w (c .row))) m))
     if-holds e q = does-on refl q (same-refl w) (λ m R. Moves.if-true R (firstAtomAt w (c .row)) (if-atom k) k (rw (← ev, ← ea) e))
 
     pub if-fails :
         {d : Machine} → testIn w v a ≡ ok false → d ≡ stepped c (targetAt w (c .row)) →
         Does w c w (Turn.On d)
-        (λ m. took (ifStep (relOf (byteAt w (atomPlace (firstAtomAt w (c .row))))) (leftAt w (firstAtomAt w (c .row))) (rightAt w (firstAtomAt w (c .row))) m))
+        (λ m. took (ifStep (allRows w) (relOf (byteAt w (atomPlace (firstAtomAt w (c .row))))) (leftAt w (firstAtomAt w (c .row))) (rightAt w (firstAtomAt w (c .row))) m))
     if-fails e q = does-on refl q (same-refl w) (λ m R. Moves.if-false R (firstAtomAt w (c .row)) (if-atom k) k (rw (← ev, ← ea) e))
 
     pub if-stops :
         (s : Fault) → testIn w v a ≡ no (stopOf s) →
         Does w c w (Turn.Stopped s)
-        (λ m. took (ifStep (relOf (byteAt w (atomPlace (firstAtomAt w (c .row))))) (leftAt w (firstAtomAt w (c .row))) (rightAt w (firstAtomAt w (c .row))) m))
+        (λ m. took (ifStep (allRows w) (relOf (byteAt w (atomPlace (firstAtomAt w (c .row))))) (leftAt w (firstAtomAt w (c .row))) (rightAt w (firstAtomAt w (c .row))) m))
     if-stops s e = does-stop s (λ m R. Moves.if-stop R (firstAtomAt w (c .row)) (if-atom k) s (rw (← ev, ← ea) e))
 
   -- VARIABLES

@@ -89,7 +89,7 @@ module _ (w w′ : List ℕ) (same : SameTables w w′) (tables : Tables w) wher
       record {
         size = I .size;
         values = λ x l. I .values x l ∙ sym (v x l);
-        rows = I .rows ∙ ap (drop row) (sym (all-same w w′ same tables));
+        row-is = I .row-is;
         row-fits = omega (arith, I .row-fits, rows-count-same w w′ same);
         held = λ p. I .held p ∙ sym (h p);
         numbered = I .numbered;

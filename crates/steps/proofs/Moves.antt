@@ -4,21 +4,19 @@ use mathlib.Core.Bool.{true, false, cond}
 use mathlib.Core.List.{List, [], _∷_}
 use mathlib.Core.Logic.{inl, inr, ⊎-elim}
 use Prim.Native.Nat.{ℕ, zero, suc, _+_, _-_, _≤_, _<_}
-use native.Mathlib.Numerals.{add-one}
 use native.Mathlib.Omega.{arith}
 use lib.Dec.{eqb}
-use lib.ListN.{length, drop}
+use lib.ListN.{length}
 use Rattle.rules.specs.Limits.{heap-fields}
 use Rattle.rules.specs.Base.{Try, ok, no, _>>=_, update}
 use Rattle.rules.specs.Answers.{Stop}
-use Rattle.rules.specs.Syntax.{Row, Formula}
-use Rattle.rules.specs.Machine.{Frame, Location, Config, on, took, holds, valueOf, value, compared, tail, jump, advance, bind, withFrame, afterElse, toJoin, ifStep, assertStep}
+use Rattle.rules.specs.Syntax.{Formula}
+use Rattle.rules.specs.Machine.{Frame, Location, Config, on, took, holds, valueOf, value, compared, closing, jump, advance, bind, withFrame, choose, ifStep, elseStep, assertStep}
 use Rattle.rules.specs.declared.Machine.{Machine}
 use Rattle.rules.proofs.Lists.{update-same, update-other, decide-eq}
 use Rattle.tables.specs.Layout.{frame-variables}
-use Rattle.tables.specs.Decode.{byteAt, allRows, rowAt, rowCount, kindAt, targetAt, formulaAt, atomCount, leftAt, rightAt, relOf, atomPlace}
+use Rattle.tables.specs.Decode.{byteAt, allRows, rowCount, kindAt, targetAt, formulaAt, atomCount, leftAt, rightAt, relOf, atomPlace}
 use Rattle.tables.specs.Tables.{RowFits}
-use Rattle.tables.proofs.Rows.{row-cons}
 use Rattle.stores.specs.declared.Fault.{Fault}
 use Rattle.steps.specs.declared.Turn.{Turn}
 use Rattle.stores.specs.Views.{frameAt, variableAt, holderOf, viewOf, readIn, rightTest, testIn, takeIn, stopOf, ObjectFits, Readable}
@@ -28,14 +26,14 @@ use Rattle.steps.proofs.Seeing.{Sees, FormulaOk, cells-apart, value-is,
 
 -- FRAMES
 pub frame-jump :
-    {w : List ℕ} {n b number row : ℕ} {F : Frame} (row′ : ℕ) (rs : List Row) → row′ < rowCount w → rs ≡ drop row′ (allRows w) →
-    FrameIs w n b number row F → FrameIs w n b number row′ (jump rs F)
+    {w : List ℕ} {n b number row : ℕ} {F : Frame} (row′ i : ℕ) → row′ < rowCount w → i ≡ row′ →
+    FrameIs w n b number row F → FrameIs w n b number row′ (jump i F)
 unfolding jump holds valueOf
-frame-jump row′ rs l e I =
+frame-jump row′ i l e I =
     record {
       size = I .size;
       values = I .values;
-      rows = e;
+      row-is = e;
       row-fits = l;
       held = I .held;
       numbered = I .numbered;
@@ -51,10 +49,10 @@ update-size (x ∷ l) (suc i) a h = ap suc (update-size l i a (omega arith))
 pub frame-bind :
     {w w′ : List ℕ} {n b number row : ℕ} {F : Frame} (x v : ℕ) → x < frame-variables → variableAt w′ b x ≡ v →
     ((y : ℕ) → y < frame-variables → (y ≡ x → ⊥) → variableAt w′ b y ≡ variableAt w b y) →
-    ((p : Location) → holderOf w′ n p ≡ holderOf w n p) → allRows w′ ≡ allRows w → rowCount w′ ≡ rowCount w →
+    ((p : Location) → holderOf w′ n p ≡ holderOf w n p) → rowCount w′ ≡ rowCount w →
     FrameIs w n b number row F → FrameIs w′ n b number row (bind x v F)
 unfolding bind holds valueOf
-frame-bind {w} {w′} {n} {b} {number} {row} {F} x v l e o h r k I =
+frame-bind {w} {w′} {n} {b} {number} {row} {F} x v l e o h k I =
     record {
       size = update-size (F .values) x v (omega (arith, I .size)) ∙ I .size;
       values = λ y j.
@@ -62,7 +60,7 @@ frame-bind {w} {w′} {n} {b} {number} {row} {F} x v l e o h r k I =
           (λ (q : y ≡ x). rw q (update-same 0 (F .values) x v ∙ sym e))
           (λ (q : y ≡ x → ⊥). update-other 0 (F .values) x y v (λ z. q (sym z)) ∙ (I .values y j ∙ sym (o y j q)))
           (decide-eq y x);
-      rows = I .rows ∙ ap (drop row) (sym r);
+      row-is = I .row-is;
       row-fits = omega (arith, I .row-fits, k);
       held = λ p. I .held p ∙ ap (λ (i : ℕ). eqb i number) (sym (h p));
       numbered = I .numbered;
@@ -104,22 +102,18 @@ module _ {w : List ℕ} {c : Machine} {m : Config} (R : Represents w c m) where
       }
 
   -- THE ROW
-  pub rows-are : m .frame .rows ≡ rowAt w (c .row) ∷ drop (suc (c .row)) (allRows w)
-  rows-are = R .frame .rows ∙ row-cons w (c .row) (R .frame .row-fits)
-
-  pub tail-is : tail (m .frame .rows) ≡ drop (c .row + 1) (allRows w)
-  unfolding tail
-  tail-is = rw (rows-are, add-one)
+  pub next-is : suc (m .frame .row) ≡ c .row + 1
+  next-is = omega (arith, R .frame .row-is)
 
   pub next-fits : (kindAt w (c .row) ≡ 18 → ⊥) → c .row + 1 < rowCount w
   next-fits n = ⊎-elim (λ e. absurd (n e)) (λ l. omega arith) (row-fits .next)
 
   -- the same state, at another row and after as many steps or more
   pub moved-to :
-      (row steps : ℕ) (rs : List Row) → row < rowCount w → rs ≡ drop row (allRows w) → c .steps ≤ steps →
-      Represents w (atRow c row steps) (withFrame m (jump rs (m .frame)))
+      (row steps i : ℕ) → row < rowCount w → i ≡ row → c .steps ≤ steps →
+      Represents w (atRow c row steps) (withFrame m (jump i (m .frame)))
   unfolding withFrame jump
-  moved-to row steps rs l e h =
+  moved-to row steps i l e h =
       record {
         tables = R .tables;
         heap = R .heap;
@@ -132,18 +126,17 @@ module _ {w : List ℕ} {c : Machine} {m : Config} (R : Represents w c m) where
         given = omega (arith, R .given);
       }
     where
-      at-row : FrameIs w (c .objects) (frameAt (length (m .callers))) (c .holder) row (jump rs (m .frame))
-      at-row = frame-jump row rs l e (R .frame)
+      at-row : FrameIs w (c .objects) (frameAt (length (m .callers))) (c .holder) row (jump i (m .frame))
+      at-row = frame-jump row i l e (R .frame)
 
   pub moved :
-      (row : ℕ) (rs : List Row) → row < rowCount w → rs ≡ drop row (allRows w) →
-      Represents w (stepped c row) (withFrame m (jump rs (m .frame)))
-  moved row rs l e = moved-to row (c .steps + 1) rs l e (omega arith)
+      (row i : ℕ) → row < rowCount w → i ≡ row → Represents w (stepped c row) (withFrame m (jump i (m .frame)))
+  moved row i l e = moved-to row (c .steps + 1) i l e (omega arith)
 
   pub moved-on :
       (kindAt w (c .row) ≡ 18 → ⊥) → Represents w (stepped c (c .row + 1)) (withFrame m (advance (m .frame)))
   unfolding advance
-  moved-on n = moved (c .row + 1) (tail (m .frame .rows)) (next-fits n) tail-is
+  moved-on n = moved (c .row + 1) (suc (m .frame .row)) (next-fits n) next-is
 
   -- ANSWERS
   pub follow-stop :
@@ -183,22 +176,23 @@ module _ {w : List ℕ} {c : Machine} {m : Config} (R : Represents w c m) where
 
   -- BRANCHES
   pub else-on :
-      kindAt w (c .row) ≡ 16 → Follows w c (Turn.On (stepped c (targetAt w (c .row)))) m (on (withFrame m (jump (toJoin (m .frame .rows)) (m .frame))))
+      kindAt w (c .row) ≡ 16 → Follows w c (Turn.On (stepped c (targetAt w (c .row)))) m (on (elseStep (allRows w) m))
+  unfolding elseStep
   else-on e =
       record {
-        next = withFrame m (jump (toJoin (m .frame .rows)) (m .frame));
+        next = withFrame m (jump (closing (allRows w) (m .frame .row)) (m .frame));
         is-next = refl;
         represents =
-            moved (targetAt w (c .row)) (toJoin (m .frame .rows)) (row-fits .target (inr e))
-            (ap toJoin (R .frame .rows) ∙ sym (row-fits .to-join e));
+            moved (targetAt w (c .row)) _ (row-fits .target (inr e))
+            (ap (closing (allRows w)) (R .frame .row-is) ∙ sym (row-fits .to-join e));
         counted = refl;
       }
 
   module _ (a : ℕ) (fits : a < atomCount w) where
     if-is :
-        ifStep (relOf (byteAt w (atomPlace a))) (leftAt w a) (rightAt w a) m
-        ≡ testIn w (viewOf c) a >>= λ b. ok (withFrame m (cond b (advance (m .frame)) (jump (afterElse (m .frame .rows)) (m .frame))))
-    unfolding ifStep testIn rightTest _>>=_
+        ifStep (allRows w) (relOf (byteAt w (atomPlace a))) (leftAt w a) (rightAt w a) m
+        ≡ testIn w (viewOf c) a >>= λ b. ok (withFrame m (jump (cond b (suc (m .frame .row)) (suc (closing (allRows w) (m .frame .row)))) (m .frame)))
+    unfolding ifStep choose testIn rightTest _>>=_
     if-is =
         let F = R .tables .atom-fits a fits in
         rw (value-is sees (leftAt w a) (left-ok w a F), value-is sees (rightAt w a) (right-ok w a F))
@@ -206,29 +200,29 @@ module _ {w : List ℕ} {c : Machine} {m : Config} (R : Represents w c m) where
       where
         go :
             (s t : Try Stop ℕ) →
-            s >>= (λ v. t >>= λ u. ok (withFrame m (cond (compared (relOf (byteAt w (atomPlace a))) v u) (advance (m .frame)) (jump (afterElse (m .frame .rows)) (m .frame)))))
-            ≡ (s >>= λ v. t >>= λ u. ok (compared (relOf (byteAt w (atomPlace a))) v u)) >>= λ b. ok (withFrame m (cond b (advance (m .frame)) (jump (afterElse (m .frame .rows)) (m .frame))))
+            s >>= (λ v. t >>= λ u. ok (withFrame m (jump (cond (compared (relOf (byteAt w (atomPlace a))) v u) (suc (m .frame .row)) (suc (closing (allRows w) (m .frame .row)))) (m .frame))))
+            ≡ (s >>= λ v. t >>= λ u. ok (compared (relOf (byteAt w (atomPlace a))) v u)) >>= λ b. ok (withFrame m (jump (cond b (suc (m .frame .row)) (suc (closing (allRows w) (m .frame .row)))) (m .frame)))
         go (ok v) (ok u) = refl
         go (ok v) (no z) = refl
         go (no z) t = refl
 
     pub if-stop :
         (f : Fault) → testIn w (viewOf c) a ≡ no (stopOf f) →
-        Follows w c (Turn.Stopped f) m (took (ifStep (relOf (byteAt w (atomPlace a))) (leftAt w a) (rightAt w a) m))
+        Follows w c (Turn.Stopped f) m (took (ifStep (allRows w) (relOf (byteAt w (atomPlace a))) (leftAt w a) (rightAt w a) m))
     unfolding _>>=_
     if-stop f e = follow-stop f _ (if-is ∙ rw e)
 
     pub if-true :
         kindAt w (c .row) ≡ 15 → testIn w (viewOf c) a ≡ ok true →
-        Follows w c (Turn.On (stepped c (c .row + 1))) m (took (ifStep (relOf (byteAt w (atomPlace a))) (leftAt w a) (rightAt w a) m))
+        Follows w c (Turn.On (stepped c (c .row + 1))) m (took (ifStep (allRows w) (relOf (byteAt w (atomPlace a))) (leftAt w a) (rightAt w a) m))
     unfolding _>>=_
-    if-true k e = follow-on _ _ _ (if-is ∙ rw e) refl (moved-on (λ z. omega (arith, k, z)))
+    if-true k e = follow-on _ _ _ (if-is ∙ rw e) refl (moved (c .row + 1) _ (next-fits (λ z. omega (arith, k, z))) next-is)
 
     pub if-false :
         kindAt w (c .row) ≡ 15 → testIn w (viewOf c) a ≡ ok false →
-        Follows w c (Turn.On (stepped c (targetAt w (c .row)))) m (took (ifStep (relOf (byteAt w (atomPlace a))) (leftAt w a) (rightAt w a) m))
+        Follows w c (Turn.On (stepped c (targetAt w (c .row)))) m (took (ifStep (allRows w) (relOf (byteAt w (atomPlace a))) (leftAt w a) (rightAt w a) m))
     unfolding _>>=_
     if-false k e =
         follow-on _ _ _ (if-is ∙ rw e) refl
-        (moved (targetAt w (c .row)) (afterElse (m .frame .rows)) (row-fits .target (inl k))
-        (ap afterElse (R .frame .rows) ∙ sym (row-fits .after-else k)))
+        (moved (targetAt w (c .row)) _ (row-fits .target (inl k))
+        (ap (λ (i : ℕ). suc (closing (allRows w) i)) (R .frame .row-is) ∙ sym (row-fits .after-else k)))

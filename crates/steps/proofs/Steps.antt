@@ -31,15 +31,15 @@ use Rattle.steps.proofs.Changes.{put-variable, put-value, holds-without
 -- the same frame with another set
 pub frame-holding :
     {w w′ : List ℕ} {n n′ b number row : ℕ} {F : Frame} (A : List Location) →
-    ((x : ℕ) → x < frame-variables → variableAt w′ b x ≡ variableAt w b x) → allRows w′ ≡ allRows w → rowCount w′ ≡ rowCount w →
+    ((x : ℕ) → x < frame-variables → variableAt w′ b x ≡ variableAt w b x) → rowCount w′ ≡ rowCount w →
     ((p : Location) → among p A ≡ eqb (holderOf w′ n′ p) number) → FrameIs w n b number row F →
     FrameIs w′ n′ b number row (holding A F)
 unfolding holding holds valueOf
-frame-holding {row = row} A v r k h I =
+frame-holding A v k h I =
     record {
       size = I .size;
       values = λ x l. I .values x l ∙ sym (v x l);
-      rows = I .rows ∙ ap (drop row) (sym r);
+      row-is = I .row-is;
       row-fits = omega (arith, I .row-fits, k);
       held = h;
       numbered = I .numbered;
@@ -112,7 +112,7 @@ module _ {w : List ℕ} {c : Machine} {m : Config} (R : Represents w c m) where
         most = R .most;
         frame =
             frame-holding (without A (m .frame .held)) (same-frame holders-at seconds-at w w′ (length (m .callers)) s (inr (omega arith)) .variables)
-            (all-same w w′ t (R .tables)) (rows-count-same w w′ t) (λ p. less p) (R .frame);
+            (rows-count-same w w′ t) (λ p. less p) (R .frame);
         ensures =
             ensures-kept w w′ t (R .tables) _ (m .frame)
             (same-frame holders-at seconds-at w w′ (length (m .callers)) s (inr (omega arith)) .method) (R .ensures);

@@ -5,13 +5,13 @@ use mathlib.Core.Logic.{_⊎_}
 use mathlib.Core.Option.{some}
 use Prim.Native.Nat.{ℕ, suc, _+_, _*_, _≤_, _<_}
 use lib.Dec.{T, eqb}
-use lib.ListN.{length, drop}
+use lib.ListN.{length}
 use Rattle.rules.specs.Limits.{heap-objects, heap-fields, most-frames}
 use Rattle.rules.specs.Base.{any, no}
 use Rattle.rules.specs.Machine.{Heap, Frame, Location, Config, Step, fieldsOf, valueAt, object, valueOf, holds, on, stop, done}
 use Rattle.rules.specs.declared.Machine.{Machine}
 use Rattle.tables.specs.Layout.{frame-variables}
-use Rattle.tables.specs.Decode.{allRows, rowCount, kindAt, methodCount, ensuresAt, fieldCountAt}
+use Rattle.tables.specs.Decode.{rowCount, kindAt, methodCount, ensuresAt, fieldCountAt}
 use Rattle.tables.specs.Tables.{Tables}
 use Rattle.tables.specs.Stores.{SameTables}
 use Rattle.steps.specs.declared.Turn.{Turn}
@@ -33,7 +33,7 @@ pub record HeapIs (w : List ℕ) (objects fields holders : ℕ) (h : Heap) : Typ
 pub record FrameIs (w : List ℕ) (objects b number row : ℕ) (F : Frame) : Type 0 where
   pub size : length (F .values) ≡ frame-variables
   pub values : (x : ℕ) → x < frame-variables → valueOf F x ≡ variableAt w b x
-  pub rows : F .rows ≡ drop row (allRows w)
+  pub row-is : F .row ≡ row
   pub row-fits : row < rowCount w
   pub held : (p : Location) → holds F p ≡ eqb (holderOf w objects p) number
   pub numbered : 1 ≤ number

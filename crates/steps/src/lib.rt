@@ -9,8 +9,8 @@ ghost use mathlib.Core.Path.{_≡_};
 ghost use mathlib.Core.List.{[]};
 ghost use Prim.Native.Nat.{_+_, _*_, _<_};
 ghost use lib.ListN.{length};
-ghost use Rattle.tables.specs.Decode.{leftAt, rightAt, relOf, byteAt, atomPlace, xAt, yAt, memberAt, firstAtomAt, formulaAt};
-ghost use Rattle.rules.specs.Machine.{took, on, withFrame, jump, toJoin, setStep, assignStep, ifStep, assertStep, releaseStep};
+ghost use Rattle.tables.specs.Decode.{allRows, leftAt, rightAt, relOf, byteAt, atomPlace, xAt, yAt, memberAt, firstAtomAt, formulaAt};
+ghost use Rattle.rules.specs.Machine.{took, on, elseStep, setStep, assignStep, ifStep, assertStep, releaseStep};
 ghost use Rattle.rules.specs.Syntax.{var, result-variable};
 ghost use Rattle.steps.specs.States.{Ready, NotEnd, AtKind, Does, stepped};
 ghost use Rattle.stores.specs.Views.{takeIn, TookUpTo, viewOf};
@@ -80,7 +80,7 @@ pub fn release_step(work: &mut [u8], c: Machine) -> Turn
 // `if`: "a false `if` goes to the line after its `else`".
 pub fn if_step(work: &[u8], c: Machine) -> Turn
     requires { ⌜ Ready (now work) c × AtKind (now work) c 15 ⌝ }
-    ensures { λ r. ⌜ Does (now (work .entry)) c (now (work .entry)) r (λ m. took (ifStep (relOf (byteAt (now (work .entry)) (atomPlace (firstAtomAt (now (work .entry)) (c .row))))) (leftAt (now (work .entry)) (firstAtomAt (now (work .entry)) (c .row))) (rightAt (now (work .entry)) (firstAtomAt (now (work .entry)) (c .row))) m)) ⌝ }
+    ensures { λ r. ⌜ Does (now (work .entry)) c (now (work .entry)) r (λ m. took (ifStep (allRows (now (work .entry))) (relOf (byteAt (now (work .entry)) (atomPlace (firstAtomAt (now (work .entry)) (c .row))))) (leftAt (now (work .entry)) (firstAtomAt (now (work .entry)) (c .row))) (rightAt (now (work .entry)) (firstAtomAt (now (work .entry)) (c .row))) m)) ⌝ }
 {
     let row = c.row as usize;
     let a = tables::first_atom_at(work, row);
@@ -94,7 +94,7 @@ pub fn if_step(work: &[u8], c: Machine) -> Turn
 // `else`: "on to its `join`".
 pub fn else_step(work: &[u8], c: Machine) -> Turn
     requires { ⌜ Ready (now work) c × AtKind (now work) c 16 ⌝ }
-    ensures { λ r. ⌜ Does (now (work .entry)) c (now (work .entry)) r (λ m. on (withFrame m (jump (toJoin (m .frame .rows)) (m .frame)))) ⌝ }
+    ensures { λ r. ⌜ Does (now (work .entry)) c (now (work .entry)) r (λ m. on (elseStep (allRows (now (work .entry))) m)) ⌝ }
 {
     let row = c.row as usize;
     Turn::On(next(c, tables::target_at(work, row) as u32))

@@ -10,7 +10,7 @@ use lib.ListN.{length, getD, drop}
 use Rattle.rules.specs.Limits.{most-statements, most-methods, most-classes, most-fields}
 use Rattle.rules.specs.Syntax.{Row, Stmt, Method, Field, Program}
 use Rattle.rules.specs.Syntax.{if, simple, set, assign, new, call, return, assert, release, else, join, end}
-use Rattle.rules.specs.Machine.{afterElse, toJoin}
+use Rattle.rules.specs.Machine.{closing}
 use Rattle.tables.specs.Layout.{most-atom-rows, most-names, frame-variables, names-at}
 use Rattle.tables.specs.Decode.{byteAt, halfAt, wordAt, exprAt, leftAt, rightAt, atomAt, atomsFrom, atomPlace, relOf, rowPlace, kindAt, xAt, yAt, zAt, memberAt, atomCountAt, firstAtomAt, lineAt, targetAt, formulaAt, ifAt, stmtAt, rowAt, rowsFrom, allRows, rowCount, atomCount, classCount, methodCount, mainFirst, requiresAt, ensuresAt, methodAt, methodsFrom, methodPlace, firstRowAt, classPlace, fieldCountAt, fieldNameAt, fieldAt, fieldsFrom, classAt, classesFrom, programIn}
 use Rattle.tables.specs.Tables.{SideFits, AtomFits, RowFits, MethodFits, ClassFits, Tables, AtomsFit, BlockFits, nested, placeAt}
@@ -246,7 +246,7 @@ module _ (w w′ : List ℕ) (same : SameTables w w′) where
 
       method-same : methodAt w′ m ≡ methodAt w m
       unfolding methodAt
-      method-same = simp (requires-same, ensures-same, first-row-same m small-method, all-same)
+      method-same = simp (requires-same, ensures-same, first-row-same m small-method)
 
     methods-same : (m n : ℕ) → m + n ≤ methodCount w → methodsFrom w′ m n ≡ methodsFrom w m n
     unfolding methodsFrom
@@ -267,8 +267,7 @@ module _ (w w′ : List ℕ) (same : SameTables w w′) where
         rw classes-count-same (classes-same 0 (classCount w) (omega arith)) in
         let m : methodsFrom w′ 0 (methodCount w′) ≡ methodsFrom w 0 (methodCount w) =
         rw methods-count-same (methods-same 0 (methodCount w) (omega arith)) in
-        let r : drop (mainFirst w′) (allRows w′) ≡ drop (mainFirst w) (allRows w) = rw (main-first-same, all-same) in
-        λ j. record { classes = c j; methods = m j; main = r j }
+        λ j. record { classes = c j; methods = m j; rows = all-same j; main = main-first-same j }
 
     -- THE TABLES
     side-kept : (t i : ℕ) → i + 2 ≤ names-at → SideFits w t i → SideFits w′ t i

@@ -6,8 +6,7 @@ use native.Mathlib.Nat.{add-zero, add-suc, zero-add}
 use native.Mathlib.Omega.{arith}
 use lib.ListN.{length, getD, drop}
 use lib.Seq.{drop-cons, getD-drop}
-use Rattle.rules.specs.Syntax.{Row, Method, Field, noMethod}
-use Rattle.rules.specs.Machine.{noRow}
+use Rattle.rules.specs.Syntax.{Row, Method, Field, noRow, rowNumbered, methodNumbered}
 use Rattle.tables.specs.Decode.{rowAt, rowsFrom, allRows, rowCount, methodAt, methodsFrom, classAt, classesFrom, fieldAt, fieldsFrom, programIn, methodCount, classCount, fieldCountAt}
 
 -- ROWS
@@ -35,17 +34,21 @@ pub row-cons : (w : List ℕ) (i : ℕ) → i < rowCount w → drop i (allRows w
 row-cons w i l =
     drop-cons (allRows w) i noRow (rw all-length l) ∙ ap (λ (r : Row). r ∷ drop (suc i) (allRows w)) (row-get w i l)
 
--- METHODS
-methods-get : (w : List ℕ) (m n j : ℕ) → j < n → getD (methodsFrom w m n) j noMethod ≡ methodAt w (m + j)
-unfolding methodsFrom
-methods-get w m zero j l = absurd (omega arith)
-methods-get w m (suc n) zero l = rw add-zero
-methods-get w m (suc n) (suc j) l =
-    methods-get w (suc m) n j (omega arith) ∙ ap (methodAt w) (let e : suc m + j ≡ m + suc j = omega arith in e)
+pub row-in : (w : List ℕ) (i : ℕ) → i < rowCount w → rowNumbered (programIn w) i ≡ rowAt w i
+unfolding programIn rowNumbered
+row-in w i l = row-get w i l
 
-pub method-get : (w : List ℕ) (m : ℕ) → m < methodCount w → getD (programIn w .methods) m noMethod ≡ methodAt w m
-unfolding programIn
-method-get w m l = methods-get w 0 (methodCount w) m l ∙ ap (methodAt w) (zero-add m)
+-- METHODS
+methods-get : (w : List ℕ) (d : Method) (m n j : ℕ) → j < n → getD (methodsFrom w m n) j d ≡ methodAt w (m + j)
+unfolding methodsFrom
+methods-get w d m zero j l = absurd (omega arith)
+methods-get w d m (suc n) zero l = rw add-zero
+methods-get w d m (suc n) (suc j) l =
+    methods-get w d (suc m) n j (omega arith) ∙ ap (methodAt w) (let e : suc m + j ≡ m + suc j = omega arith in e)
+
+pub method-get : (w : List ℕ) (m : ℕ) → m < methodCount w → methodNumbered (programIn w) m ≡ methodAt w m
+unfolding programIn methodNumbered
+method-get w m l = methods-get w _ 0 (methodCount w) m l ∙ ap (methodAt w) (zero-add m)
 
 -- CLASSES
 classes-get : (w : List ℕ) (c n j : ℕ) → j < n → getD (classesFrom w c n) j [] ≡ classAt w (c + j)

@@ -3,7 +3,7 @@ use mathlib.Core.Bool.{Bool, cond, not}
 use mathlib.Core.List.{List, [], _∷_}
 use Prim.Native.Nat.{ℕ, zero, suc, _+_, _*_}
 use lib.Dec.{eqb}
-use lib.ListN.{getD, drop}
+use lib.ListN.{getD}
 use Rattle.rules.specs.Syntax.{Rel, Expr, Atom, Formula, Stmt, Row, Field, Method, Program}
 use Rattle.rules.specs.Syntax.{eq, ne, num, null, var, path, acc, cmp, set, assign, new, call, return, assert, release, simple, if, else, join, end}
 use Rattle.tables.specs.Layout.{rows-at, methods-at, classes-at, atoms-at, row-bytes, atom-bytes, method-bytes, class-bytes}
@@ -151,7 +151,7 @@ abbrev pub firstRowAt : List ℕ → ℕ → ℕ
 firstRowAt w m = halfAt w (methodPlace m + 6)
 
 unfoldable pub methodAt : List ℕ → ℕ → Method
-methodAt w m = record { requires = requiresAt w m; ensures = ensuresAt w m; body = drop (firstRowAt w m) (allRows w) }
+methodAt w m = record { requires = requiresAt w m; ensures = ensuresAt w m; first = firstRowAt w m }
 
 unfoldable pub methodsFrom : List ℕ → ℕ → ℕ → List Method
 methodsFrom w m zero = []
@@ -190,5 +190,6 @@ programIn w =
     record {
       classes = classesFrom w 0 (classCount w);
       methods = methodsFrom w 0 (methodCount w);
-      main = drop (mainFirst w) (allRows w);
+      rows = allRows w;
+      main = mainFirst w;
     }

@@ -8,7 +8,7 @@ use lib.Dec.{T, leb}
 use lib.ListN.{length, drop}
 use Rattle.rules.specs.Limits.{most-classes, most-fields, most-methods, most-statements, most-branches, most-atoms, work-bytes}
 use Rattle.rules.specs.Syntax.{Stmt, Row, simple, if, else, join, end}
-use Rattle.rules.specs.Machine.{afterElse, toJoin}
+use Rattle.rules.specs.Machine.{closing}
 use Rattle.tables.specs.Layout.{most-atom-rows, most-names, frame-variables, places-at}
 use Rattle.tables.specs.Decode.{byteAt, halfAt, kindAt, xAt, yAt, zAt, memberAt, atomCountAt, firstAtomAt, targetAt, rowCount, atomCount, classCount, methodCount, mainFirst, allRows, atomPlace, methodPlace, firstRowAt, fieldCountAt, fieldNameAt}
 
@@ -45,8 +45,8 @@ pub record RowFits (w : List ℕ) (i : ℕ) : Type 0 where
   pub atoms : AtomsFit w (firstAtomAt w i) (atomCountAt w i)
   pub one-atom : (kindAt w i ≡ 9) ⊎ (kindAt w i ≡ 15) → atomCountAt w i ≡ 1
   pub target : (kindAt w i ≡ 15) ⊎ (kindAt w i ≡ 16) → targetAt w i < rowCount w
-  pub after-else : kindAt w i ≡ 15 → drop (targetAt w i) (allRows w) ≡ afterElse (drop i (allRows w))
-  pub to-join : kindAt w i ≡ 16 → drop (targetAt w i) (allRows w) ≡ toJoin (drop i (allRows w))
+  pub after-else : kindAt w i ≡ 15 → targetAt w i ≡ suc (closing (allRows w) i)
+  pub to-join : kindAt w i ≡ 16 → targetAt w i ≡ closing (allRows w) i
   pub next : (kindAt w i ≡ 18) ⊎ (suc i < rowCount w)
 
 -- METHODS, CLASSES

@@ -6,8 +6,7 @@ use Prim.Native.Nat.{ℕ, zero, suc, _<_}
 use native.Mathlib.Omega.{arith}
 use lib.Dec.{T, ltb, leb, le→leb}
 use lib.ListN.{length, drop, getD}
-use Rattle.rules.specs.Syntax.{Stmt, Row, simple, if, else, join, end}
-use Rattle.rules.specs.Machine.{noRow}
+use Rattle.rules.specs.Syntax.{Stmt, Row, simple, if, else, join, end, noRow}
 use Rattle.rules.proofs.Lists.{and-both, and-intro}
 use Rattle.tables.specs.Tables.{nestedRow, nested}
 use Rattle.assembly.specs.Nests.{Wait, forElse, forJoin, rowNests, rowsNest}

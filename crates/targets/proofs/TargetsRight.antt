@@ -11,7 +11,7 @@ use lib.ListN.{length, drop, drop-of-length-le}
 use native.Mathlib.Decide.{decLt}
 use borrow.Author.Tests.{ne-eqb}
 use Rattle.rules.specs.Syntax.{Simple, Stmt, Row, simple, else, join, end}
-use Rattle.rules.specs.Machine.{tail, depthAfter, isElse, isJoin, seek, afterElse, toJoin}
+use Rattle.rules.specs.Machine.{depthAfter, closes, seek, closing}
 use Rattle.rules.proofs.Lists.{Member, at-head, further, head-or, decide-eq, and-both, T-true}
 use Rattle.tables.proofs.Bytes.{Outside, put-half-byte, half-put, put-half-length}
 use Rattle.tables.specs.Stores.{putHalf}
@@ -44,74 +44,67 @@ rows-cons w n i l =
 
 -- a row that is not what is sought here
 pub seek-past :
-    (p : Stmt → Bool) (j : ℕ) (r : Row) (rs : List Row) → (T (p (r .stmt)) → j ≡ 0 → ⊥) →
-    seek p j (r ∷ rs) ≡ seek p (depthAfter (r .stmt) j) rs
+    (d j : ℕ) (r : Row) (rs : List Row) → (T (closes (r .stmt)) → d ≡ 0 → ⊥) →
+    seek d j (r ∷ rs) ≡ seek (depthAfter (r .stmt) d) (suc j) rs
 unfolding seek
-seek-past p j r rs n = go (p (r .stmt)) (eqb j 0) refl refl
+seek-past d j r rs n = go (closes (r .stmt)) (eqb d 0) refl refl
   where
     go :
-        (a b : Bool) → a ≡ p (r .stmt) → b ≡ eqb j 0 →
-        cond (a && b) (r ∷ rs) (seek p (depthAfter (r .stmt) j) rs) ≡ seek p (depthAfter (r .stmt) j) rs
-    go true true x y = absurd (n (subst T x tt) (eqb→eq j 0 (subst T y tt)))
+        (a b : Bool) → a ≡ closes (r .stmt) → b ≡ eqb d 0 →
+        cond (a && b) j (seek (depthAfter (r .stmt) d) (suc j) rs) ≡ seek (depthAfter (r .stmt) d) (suc j) rs
+    go true true x y = absurd (n (subst T x tt) (eqb→eq d 0 (subst T y tt)))
     go true false x y = refl
     go false b x y = refl
 
-seek-here : (p : Stmt → Bool) (r : Row) (rs : List Row) → T (p (r .stmt)) → seek p 0 (r ∷ rs) ≡ r ∷ rs
+seek-here : (j : ℕ) (r : Row) (rs : List Row) → T (closes (r .stmt)) → seek 0 j (r ∷ rs) ≡ j
 unfolding seek
-seek-here p r rs t = go (p (r .stmt)) t
+seek-here j r rs t = go (closes (r .stmt)) t
   where
-    go : (a : Bool) → T a → cond (a && true) (r ∷ rs) (seek p (depthAfter (r .stmt) 0) rs) ≡ r ∷ rs
+    go : (a : Bool) → T a → cond (a && true) j (seek (depthAfter (r .stmt) 0) (suc j) rs) ≡ j
     go true t = refl
     go false t = absurd t
 
 -- WHAT AN OPEN BRANCH WAITS FOR
 
--- Of the rows rs, rest is still to come. An open `if`, j branches inside it, waits for its `else`; an open `else` for its `join`.
+-- Of the rows rs, rest is still to come, from number n on. An open `if`, j branches inside it, waits for its `else`; an open `else`
+-- for its `join`.
 module _ (w : List ℕ) (rs : List Row) where
-  abbrev Waiting : List Row → ℕ → List Wait → List ℕ → Type 0
-  Waiting rest j [] [] = Unit {0}
-  Waiting rest j [] (i ∷ st) = ⊥
-  Waiting rest j (v ∷ ws) [] = ⊥
-  Waiting rest j (forElse ∷ ws) (i ∷ st) =
-      (i < length rs) × (kindAt w i ≡ 15) × (afterElse (drop i rs) ≡ tail (seek isElse j rest)) × Waiting rest (suc j) ws st
-  Waiting rest j (forJoin ∷ ws) (i ∷ st) =
-      (i < length rs) × (kindAt w i ≡ 16) × (toJoin (drop i rs) ≡ seek isJoin j rest) × Waiting rest (suc j) ws st
+  kindOf : Wait → ℕ
+  kindOf forElse = 15
+  kindOf forJoin = 16
 
-  waiting-length : (rest : List Row) (j : ℕ) (ws : List Wait) (st : List ℕ) → Waiting rest j ws st → length st ≡ length ws
-  waiting-length rest j [] [] W = refl
-  waiting-length rest j [] (i ∷ st) W = absurd W
-  waiting-length rest j (v ∷ ws) [] W = absurd W
-  waiting-length rest j (forElse ∷ ws) (i ∷ st) W = ap suc (waiting-length rest (suc j) ws st (W .3))
-  waiting-length rest j (forJoin ∷ ws) (i ∷ st) W = ap suc (waiting-length rest (suc j) ws st (W .3))
+  abbrev Waiting : ℕ → List Row → ℕ → List Wait → List ℕ → Type 0
+  Waiting n rest j [] [] = Unit {0}
+  Waiting n rest j [] (i ∷ st) = ⊥
+  Waiting n rest j (v ∷ ws) [] = ⊥
+  Waiting n rest j (v ∷ ws) (i ∷ st) =
+      (i < length rs) × (kindAt w i ≡ kindOf v) × (closing rs i ≡ seek j n rest) × Waiting n rest (suc j) ws st
+
+  waiting-length : (n : ℕ) (rest : List Row) (j : ℕ) (ws : List Wait) (st : List ℕ) → Waiting n rest j ws st → length st ≡ length ws
+  waiting-length n rest j [] [] W = refl
+  waiting-length n rest j [] (i ∷ st) W = absurd W
+  waiting-length n rest j (v ∷ ws) [] W = absurd W
+  waiting-length n rest j (v ∷ ws) (i ∷ st) W = ap suc (waiting-length n rest (suc j) ws st (W .3))
 
   -- a row r is passed at depth l, after which the depth is d l
   pub record Passes (s : Stmt) (d : ℕ → ℕ) (l : ℕ) : Type 0 where
     pub depth : depthAfter s l ≡ d l
-    pub no-else : T (isElse s) → l ≡ 0 → ⊥
-    pub no-join : T (isJoin s) → l ≡ 0 → ⊥
+    pub no-close : T (closes s) → l ≡ 0 → ⊥
     pub deeper : d (suc l) ≡ suc (d l)
 
   waiting-past :
-      (r : Row) (rest : List Row) (d : ℕ → ℕ) (j : ℕ) (ws : List Wait) (st : List ℕ) →
-      ((l : ℕ) → j ≤ l → Passes (r .stmt) d l) → Waiting (r ∷ rest) j ws st → Waiting rest (d j) ws st
-  waiting-past r rest d j [] [] H W = tt
-  waiting-past r rest d j [] (i ∷ st) H W = W
-  waiting-past r rest d j (v ∷ ws) [] H W = absurd W
-  waiting-past r rest d j (forElse ∷ ws) (i ∷ st) H W =
+      (n : ℕ) (r : Row) (rest : List Row) (d : ℕ → ℕ) (j : ℕ) (ws : List Wait) (st : List ℕ) →
+      ((l : ℕ) → j ≤ l → Passes (r .stmt) d l) → Waiting n (r ∷ rest) j ws st → Waiting (suc n) rest (d j) ws st
+  waiting-past n r rest d j [] [] H W = tt
+  waiting-past n r rest d j [] (i ∷ st) H W = W
+  waiting-past n r rest d j (v ∷ ws) [] H W = absurd W
+  waiting-past n r rest d j (v ∷ ws) (i ∷ st) H W =
       let h = H j (omega arith) in (
         W .0,
         W .1,
-        W .2 ∙ ap tail (seek-past isElse j r rest (h .no-else) ∙ ap (λ (l : ℕ). seek isElse l rest) (h .depth)),
-        subst (λ l. Waiting rest l ws st) (h .deeper)
-            (waiting-past r rest d (suc j) ws st (λ l g. H l (omega (arith, g))) (W .3)),
-      )
-  waiting-past r rest d j (forJoin ∷ ws) (i ∷ st) H W =
-      let h = H j (omega arith) in (
-        W .0,
-        W .1,
-        W .2 ∙ (seek-past isJoin j r rest (h .no-join) ∙ ap (λ (l : ℕ). seek isJoin l rest) (h .depth)),
-        subst (λ l. Waiting rest l ws st) (h .deeper)
-            (waiting-past r rest d (suc j) ws st (λ l g. H l (omega (arith, g))) (W .3)),
+        W .2 ∙ (seek-past j n r rest (h .no-close) ∙ ap (λ (l : ℕ). seek l (suc n) rest) (h .depth)),
+        subst (λ l. Waiting (suc n) rest l ws st) (h .deeper)
+            (waiting-past n r rest d (suc j) ws st (λ l g. H l (omega (arith, g))) (W .3)),
       )
 
 -- ROWS BY THEIR KIND
@@ -196,15 +189,15 @@ module _ (w₀ : List ℕ) (rs : List Row) (few : length rs ≤ 256) (row : (i :
     size : length w ≡ 65536
     kinds : (i : ℕ) → kindAt w i ≡ kindAt w₀ i
     nests : T (rowsNest b ws (drop k rs))
-    waits : Waiting w₀ rs (drop k rs) 0 ws st
+    waits : Waiting w₀ rs k (drop k rs) 0 ws st
     right : (i : ℕ) → i < k → Member i st ⊎ TargetRight w rs i
 
   nests-row : (k : ℕ) (b : Bool) (ws : List Wait) → k < length rs → T (rowsNest b ws (drop k rs)) → T (rowNests (stmtAt w₀ k) ws (λ b ws. rowsNest b ws (drop (suc k) rs)))
   unfolding rowsNest rowAt
   nests-row k b ws l t = subst (λ (r : List Row). T (rowsNest b ws r)) (row k l) t
 
-  waits-row : (k : ℕ) (ws : List Wait) (st : List ℕ) → k < length rs → Waiting w₀ rs (drop k rs) 0 ws st → Waiting w₀ rs (rowAt w₀ k ∷ drop (suc k) rs) 0 ws st
-  waits-row k ws st l W = subst (λ (r : List Row). Waiting w₀ rs r 0 ws st) (row k l) W
+  waits-row : (k : ℕ) (ws : List Wait) (st : List ℕ) → k < length rs → Waiting w₀ rs k (drop k rs) 0 ws st → Waiting w₀ rs k (rowAt w₀ k ∷ drop (suc k) rs) 0 ws st
+  waits-row k ws st l W = subst (λ (r : List Row). Waiting w₀ rs k r 0 ws st) (row k l) W
 
   -- more rows follow one that does not end a block
   more-rows : (k : ℕ) (ws : List Wait) → T (rowsNest false ws (drop (suc k) rs)) → suc k < length rs
@@ -222,16 +215,16 @@ module _ (w₀ : List ℕ) (rs : List Row) (few : length rs ≤ 256) (row : (i :
   -- the open branches below row k, once it is passed
   waits-past :
       (k : ℕ) (d : ℕ → ℕ) (j : ℕ) (ws : List Wait) (st : List ℕ) → ((l : ℕ) → j ≤ l → Passes w₀ rs (stmtAt w₀ k) d l) →
-      Waiting w₀ rs (rowAt w₀ k ∷ drop (suc k) rs) j ws st → Waiting w₀ rs (drop (suc k) rs) (d j) ws st
+      Waiting w₀ rs k (rowAt w₀ k ∷ drop (suc k) rs) j ws st → Waiting w₀ rs (suc k) (drop (suc k) rs) (d j) ws st
   unfolding rowAt
-  waits-past k d j ws st H W = waiting-past w₀ rs (rowAt w₀ k) (drop (suc k) rs) d j ws st H W
+  waits-past k d j ws st H W = waiting-past w₀ rs k (rowAt w₀ k) (drop (suc k) rs) d j ws st H W
 
   -- `if`
   if-passes : (k : ℕ) → kindAt w₀ k ≡ 15 → (l : ℕ) → Passes w₀ rs (stmtAt w₀ k) suc l
-  unfolding depthAfter isElse isJoin ifAt
+  unfolding depthAfter closes ifAt
   if-passes k e l =
       subst (λ (s : Stmt). Passes w₀ rs s suc l) (sym (at-if w₀ k e))
-      (record { depth = refl; no-else = λ t. absurd t; no-join = λ t. absurd t; deeper = refl })
+      (record { depth = refl; no-close = λ t. absurd t; deeper = refl })
 
   if-nests :
       (k : ℕ) (b : Bool) (ws : List Wait) → k < length rs → kindAt w₀ k ≡ 15 → T (rowsNest b ws (drop k rs)) →
@@ -244,7 +237,7 @@ module _ (w₀ : List ℕ) (rs : List Row) (few : length rs ≤ 256) (row : (i :
   after-if :
       (w : List ℕ) (k : ℕ) (b : Bool) (ws : List Wait) (st : List ℕ) → k < length rs → kindAt w₀ k ≡ 15 → Walked w k b ws st →
       Walked w (suc k) false (forElse ∷ ws) (k ∷ st)
-  unfolding afterElse tail
+  unfolding closing kindOf
   after-if w k b ws st l e X =
       record {
         size = X .size;
@@ -253,7 +246,7 @@ module _ (w₀ : List ℕ) (rs : List Row) (few : length rs ≤ 256) (row : (i :
         waits = (
           l,
           e,
-          ap (λ (r : List Row). tail (seek isElse 0 (tail r))) (row k l),
+          refl,
           waits-past k suc 0 ws st (λ l g. if-passes k e l) (waits-row k ws st l (X .waits)),
         );
         right = λ i g. new i g (decide-eq i k);
@@ -265,9 +258,9 @@ module _ (w₀ : List ℕ) (rs : List Row) (few : length rs ≤ 256) (row : (i :
 
   -- a quiet row
   quiet-passes : (s : Stmt) → Quiet s → (l : ℕ) → Passes w₀ rs s (λ l. l) l
-  unfolding depthAfter isElse isJoin
-  quiet-passes s is-simple l = record { depth = refl; no-else = λ t. absurd t; no-join = λ t. absurd t; deeper = refl }
-  quiet-passes s is-end l = record { depth = refl; no-else = λ t. absurd t; no-join = λ t. absurd t; deeper = refl }
+  unfolding depthAfter closes
+  quiet-passes s is-simple l = record { depth = refl; no-close = λ t. absurd t; deeper = refl }
+  quiet-passes s is-end l = record { depth = refl; no-close = λ t. absurd t; deeper = refl }
 
   quiet-nests :
       (s : Stmt) (ws : List Wait) (k : Bool → List Wait → Bool) → Quiet s → T (rowNests s ws k) → (b : Bool) × T (k b ws)
@@ -327,25 +320,25 @@ module _ (w₀ : List ℕ) (rs : List Row) (few : length rs ≤ 256) (row : (i :
           after-else =
               λ e.
               let (a, b) = R .after-else (sym k ∙ e) in
-              (omega (arith, a, g), ap (λ (j : ℕ). drop j rs) g ∙ b);
+              (omega (arith, a, g), g ∙ b);
           to-join =
               λ e.
               let (a, b) = R .to-join (sym k ∙ e) in
-              (omega (arith, a, g), ap (λ (j : ℕ). drop j rs) g ∙ b);
+              (omega (arith, a, g), g ∙ b);
         }
 
-    if-right : ((i : ℕ) → kindAt w i ≡ kindAt w₀ i) → kindAt w₀ t ≡ 15 → drop v rs ≡ afterElse (drop t rs) → TargetRight stored rs t
+    if-right : ((i : ℕ) → kindAt w i ≡ kindAt w₀ i) → kindAt w₀ t ≡ 15 → v ≡ suc (closing rs t) → TargetRight stored rs t
     if-right h e d =
         record {
-          after-else = λ f. (omega (arith, inside, stored-target), ap (λ (j : ℕ). drop j rs) stored-target ∙ d);
+          after-else = λ f. (omega (arith, inside, stored-target), stored-target ∙ d);
           to-join = λ f. absurd (omega (arith, f, e, stored-kinds h t));
         }
 
-    else-right : ((i : ℕ) → kindAt w i ≡ kindAt w₀ i) → kindAt w₀ t ≡ 16 → drop v rs ≡ toJoin (drop t rs) → TargetRight stored rs t
+    else-right : ((i : ℕ) → kindAt w i ≡ kindAt w₀ i) → kindAt w₀ t ≡ 16 → v ≡ closing rs t → TargetRight stored rs t
     else-right h e d =
         record {
           after-else = λ f. absurd (omega (arith, f, e, stored-kinds h t));
-          to-join = λ f. (omega (arith, inside, stored-target), ap (λ (j : ℕ). drop j rs) stored-target ∙ d);
+          to-join = λ f. (omega (arith, inside, stored-target), stored-target ∙ d);
         }
 
     -- what was open or right before, once row t is right
@@ -361,10 +354,10 @@ module _ (w₀ : List ℕ) (rs : List Row) (few : length rs ≤ 256) (row : (i :
 
   -- `else`
   else-passes : (k : ℕ) → kindAt w₀ k ≡ 16 → (l : ℕ) → 1 ≤ l → Passes w₀ rs (stmtAt w₀ k) (λ l. l) l
-  unfolding depthAfter isElse isJoin
+  unfolding depthAfter closes
   else-passes k e l g =
       subst (λ (s : Stmt). Passes w₀ rs s (λ l. l) l) (sym (at-else w₀ k e))
-      (record { depth = refl; no-else = λ t z. omega (arith, g, z); no-join = λ t. absurd t; deeper = refl })
+      (record { depth = refl; no-close = λ t z. omega (arith, g, z); deeper = refl })
 
   else-nests :
       (k : ℕ) (b : Bool) (ws : List Wait) → k < length rs → kindAt w₀ k ≡ 16 → T (rowsNest b ws (drop k rs)) →
@@ -372,21 +365,19 @@ module _ (w₀ : List ℕ) (rs : List Row) (few : length rs ≤ 256) (row : (i :
   else-nests k b ws l e t =
       subst (λ (s : Stmt). T (rowNests s ws (λ b ws. rowsNest b ws (drop (suc k) rs)))) (at-else w₀ k e) (nests-row k b ws l t)
 
-  else-found : (k : ℕ) → k < length rs → kindAt w₀ k ≡ 16 → tail (seek isElse 0 (rowAt w₀ k ∷ drop (suc k) rs)) ≡ drop (suc k) rs
-  unfolding tail rowAt isElse
-  else-found k l e =
-      ap tail
-      (seek-here isElse (rowAt w₀ k) (drop (suc k) rs) (subst (λ (s : Stmt). T (isElse s)) (sym (at-else w₀ k e)) tt))
+  else-found : (k : ℕ) → kindAt w₀ k ≡ 16 → seek 0 k (rowAt w₀ k ∷ drop (suc k) rs) ≡ k
+  unfolding rowAt closes
+  else-found k e = seek-here k (rowAt w₀ k) (drop (suc k) rs) (subst (λ (s : Stmt). T (closes s)) (sym (at-else w₀ k e)) tt)
 
   after-else :
       (w : List ℕ) (k : ℕ) (b : Bool) (ws : List Wait) (st : List ℕ) → k < length rs → kindAt w₀ k ≡ 16 → Walked w k b ws st →
       (ws′ : List Wait) × Walked (putTarget w st (suc k)) (suc k) false ws′ (replaced k st)
-  unfolding rowNests putTarget replaced toJoin stored tail
+  unfolding rowNests putTarget replaced closing stored kindOf
   after-else w k b ws st l e X = go ws st (else-nests k b ws l e (X .nests)) (waits-row k ws st l (X .waits)) (X .right)
     where
       go :
           (ws : List Wait) (st : List ℕ) → T (rowNests else ws (λ b ws. rowsNest b ws (drop (suc k) rs))) →
-          Waiting w₀ rs (rowAt w₀ k ∷ drop (suc k) rs) 0 ws st → ((i : ℕ) → i < k → Member i st ⊎ TargetRight w rs i) →
+          Waiting w₀ rs k (rowAt w₀ k ∷ drop (suc k) rs) 0 ws st → ((i : ℕ) → i < k → Member i st ⊎ TargetRight w rs i) →
           (ws′ : List Wait) × Walked (putTarget w st (suc k)) (suc k) false ws′ (replaced k st)
       go [] st t W h = absurd t
       go (forJoin ∷ ws) st t W h = absurd t
@@ -394,7 +385,7 @@ module _ (w₀ : List ℕ) (rs : List Row) (few : length rs ≤ 256) (row : (i :
       go (forElse ∷ ws) (i ∷ st) t W h =
           let more : suc k < length rs = more-rows k (forJoin ∷ ws) t in
           let small : i < 256 = omega (arith, few, W .0) in
-          let R = if-right w i (suc k) (X .size) small more (X .kinds) (W .1) (sym (W .2 ∙ else-found k l e)) in
+          let R = if-right w i (suc k) (X .size) small more (X .kinds) (W .1) (ap suc (sym (W .2 ∙ else-found k e))) in
           let before = all-right w i (suc k) (X .size) small more st k R h in (
             forJoin ∷ ws,
             record {
@@ -404,7 +395,7 @@ module _ (w₀ : List ℕ) (rs : List Row) (few : length rs ≤ 256) (row : (i :
               waits = (
                 l,
                 e,
-                ap (λ (r : List Row). seek isJoin 0 (tail r)) (row k l),
+                refl,
                 waits-past k (λ l. l) 1 ws st (else-passes k e) (W .3),
               );
               right = λ j g. ⊎-elim (λ z. inl (subst (λ (a : ℕ). Member j (a ∷ st)) z at-head)) (λ z. ⊎-elim (λ m. inl (further m)) inr (before j (omega (arith, g, z)))) (decide-eq j k);
@@ -413,11 +404,11 @@ module _ (w₀ : List ℕ) (rs : List Row) (few : length rs ≤ 256) (row : (i :
 
   -- `join`
   join-passes : (k : ℕ) → kindAt w₀ k ≡ 17 → (l : ℕ) → 1 ≤ l → Passes w₀ rs (stmtAt w₀ k) pred l
-  unfolding depthAfter isElse isJoin
+  unfolding depthAfter closes
   join-passes k e zero g = absurd (omega (arith, g))
   join-passes k e (suc l) g =
       subst (λ (s : Stmt). Passes w₀ rs s pred (suc l)) (sym (at-join w₀ k e))
-      (record { depth = refl; no-else = λ t. absurd t; no-join = λ t z. omega (arith, z); deeper = refl })
+      (record { depth = refl; no-close = λ t z. omega (arith, z); deeper = refl })
 
   join-nests :
       (k : ℕ) (b : Bool) (ws : List Wait) → k < length rs → kindAt w₀ k ≡ 17 → T (rowsNest b ws (drop k rs)) →
@@ -425,29 +416,27 @@ module _ (w₀ : List ℕ) (rs : List Row) (few : length rs ≤ 256) (row : (i :
   join-nests k b ws l e t =
       subst (λ (s : Stmt). T (rowNests s ws (λ b ws. rowsNest b ws (drop (suc k) rs)))) (at-join w₀ k e) (nests-row k b ws l t)
 
-  join-found : (k : ℕ) → k < length rs → kindAt w₀ k ≡ 17 → seek isJoin 0 (rowAt w₀ k ∷ drop (suc k) rs) ≡ drop k rs
-  unfolding rowAt isJoin
-  join-found k l e =
-      seek-here isJoin (rowAt w₀ k) (drop (suc k) rs) (subst (λ (s : Stmt). T (isJoin s)) (sym (at-join w₀ k e)) tt)
-      ∙ sym (row k l)
+  join-found : (k : ℕ) → kindAt w₀ k ≡ 17 → seek 0 k (rowAt w₀ k ∷ drop (suc k) rs) ≡ k
+  unfolding rowAt closes
+  join-found k e = seek-here k (rowAt w₀ k) (drop (suc k) rs) (subst (λ (s : Stmt). T (closes s)) (sym (at-join w₀ k e)) tt)
 
   after-join :
       (w : List ℕ) (k : ℕ) (b : Bool) (ws : List Wait) (st : List ℕ) → k < length rs → kindAt w₀ k ≡ 17 → Walked w k b ws st →
       (ws′ : List Wait) × Walked (putTarget w st k) (suc k) false ws′ (popped st)
-  unfolding rowNests putTarget popped stored
+  unfolding rowNests putTarget popped stored kindOf
   after-join w k b ws st l e X = go ws st (join-nests k b ws l e (X .nests)) (waits-row k ws st l (X .waits)) (X .right)
     where
       go :
           (ws : List Wait) (st : List ℕ) →
           T (rowNests (join (formulaAt w₀ k)) ws (λ b ws. rowsNest b ws (drop (suc k) rs))) →
-          Waiting w₀ rs (rowAt w₀ k ∷ drop (suc k) rs) 0 ws st → ((i : ℕ) → i < k → Member i st ⊎ TargetRight w rs i) →
+          Waiting w₀ rs k (rowAt w₀ k ∷ drop (suc k) rs) 0 ws st → ((i : ℕ) → i < k → Member i st ⊎ TargetRight w rs i) →
           (ws′ : List Wait) × Walked (putTarget w st k) (suc k) false ws′ (popped st)
       go [] st t W h = absurd t
       go (forElse ∷ ws) st t W h = absurd t
       go (forJoin ∷ ws) [] t W h = absurd W
       go (forJoin ∷ ws) (i ∷ st) t W h =
           let small : i < 256 = omega (arith, few, W .0) in
-          let R = else-right w i k (X .size) small l (X .kinds) (W .1) (sym (W .2 ∙ join-found k l e)) in
+          let R = else-right w i k (X .size) small l (X .kinds) (W .1) (sym (W .2 ∙ join-found k e)) in
           let before = all-right w i k (X .size) small l st k R h in
           let kinds = stored-kinds w i k (X .size) small l (X .kinds) in (
             ws,
@@ -494,7 +483,7 @@ module _ (w₀ : List ℕ) (rs : List Row) (few : length rs ≤ 256) (row : (i :
 
       room : T (ltb (length ws) 4) → k ∷ st ≡ cond (ltb (length st) 4) (k ∷ st) st
       room t =
-          let e = waiting-length w₀ rs (drop k rs) 0 ws st (X .waits) in
+          let e = waiting-length w₀ rs k (drop k rs) 0 ws st (X .waits) in
           rw (T-true (ltb (length st) 4) (subst (λ (n : ℕ). T (ltb n 4)) (sym e) t))
 
       go : (c ≡ 15) ⊎ (c ≡ 15 → ⊥) → (c ≡ 16) ⊎ (c ≡ 16 → ⊥) → (c ≡ 17) ⊎ (c ≡ 17 → ⊥) → Out (workAfter w q k st) (openAfter q k st)
@@ -525,7 +514,7 @@ module _ (w₀ : List ℕ) (rs : List Row) (few : length rs ≤ 256) (row : (i :
       none = drop-of-length-le rs {i = k} (omega (arith, e))
 
       done :
-          (ws : List Wait) (st : List ℕ) → T (rowsNest b ws []) → Waiting w₀ rs (drop k rs) 0 ws st →
+          (ws : List Wait) (st : List ℕ) → T (rowsNest b ws []) → Waiting w₀ rs k (drop k rs) 0 ws st →
           Member i st ⊎ TargetRight w rs i → TargetRight w rs i
       done [] [] t W (inl m) = elim m [ ]
       done [] [] t W (inr r) = r
