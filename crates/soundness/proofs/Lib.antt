@@ -1,3 +1,4 @@
+pub mod Counting
 pub mod Satisfied
 pub mod ShowSound
 pub mod RemainderSound
@@ -15,8 +16,12 @@ pub mod CallSound
 pub mod StepKeeps
 pub mod NeverStuck
 pub mod FrameKept
+pub mod ProgramParts
 pub mod NamesInScope
 pub mod ItemsFormed
 pub mod FieldsDiffer
 pub mod ReadFormed
+pub mod RulesRefuse
+pub mod RequiresAdded
+pub mod RefusedAtALine
 pub mod Demand3

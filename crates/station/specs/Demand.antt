@@ -1,17 +1,12 @@
--- Demand 3 of document 01 for what the two calls return, as statements. proofs/Demand3 proves them.
+-- Demand 3 of document 01 for what the two calls return, as a statement. proofs/Demand3 proves it.
 use mathlib.Core.Path.{_≡_}
 use mathlib.Core.List.{List}
-use Prim.Native.Nat.{ℕ, _+_, _/_, _<_}
+use Prim.Native.Nat.{ℕ, _/_, _<_}
 use lib.ListN.{length}
 use Rattle.rules.specs.Limits.{work-bytes, results-bytes}
-use Rattle.rules.specs.Answers.{accepted}
-use Rattle.rules.specs.Items.{Item}
-use Rattle.rules.specs.Reading.{readText, program}
-use Rattle.rules.specs.Machine.{ends}
-use Rattle.rules.specs.Calls.{Result, wholeHeap, outcomeResult}
+use Rattle.rules.specs.Calls.{runText}
 use Rattle.rules.specs.Areas.{packed, resultBytes, checkCall, runCall}
-use Rattle.rules.specs.Runs.{FrameKept, Reached, lastStep}
-use Rattle.rules.specs.Demand.{NotStuck}
+use Rattle.soundness.specs.Demand.{NotStuck, Claim}
 
 -- areas of the right length, whatever they hold, and a number of steps
 pub record Lent : Type 0 where
@@ -22,22 +17,18 @@ pub record Lent : Type 0 where
   pub wide : length results ≡ results-bytes
   pub small : steps < 4294967296
 
--- "For every text for which check returns 0, and every number of allowed steps, run .. returns number 0, 21, 22 or 23": whatever
--- area check was lent, and whatever areas run is.
-abbrev pub ReturnsNotStuck : Type 0
-ReturnsNotStuck =
-    (t area : List ℕ) → length area ≡ work-bytes → checkCall t area .returned ≡ 0 → (l : Lent) →
-    NotStuck (runCall t (l .work) (l .steps) (l .results) .returned / 65536)
+-- what run then returns and leaves in the results area is number, line, steps and values of `runText`
+pub record Returns (t : List ℕ) (l : Lent) : Type 0 where
+  pub returned : runCall t (l .work) (l .steps) (l .results) .returned ≡ packed (runText t (l .steps) .number) (runText t (l .steps) .line)
+  pub results : runCall t (l .work) (l .steps) (l .results) .results ≡ resultBytes (runText t (l .steps))
 
--- "For each `call` step done in it, at any depth": what run returns and leaves in the results area is that of a state which the
--- steps of the text's program lead to, and these steps keep what a call was not handed.
-pub record Returns (l : Lent) (t : List ℕ) (items : List Item) : Type 0 where
-  pub reached : Reached wholeHeap (program items) (l .steps)
-  pub result : Result
-  pub is : result ≡ outcomeResult (ends (program items) (reached .ending) (reached .steps + lastStep (reached .ending)) (reached .state))
-  pub returned : runCall t (l .work) (l .steps) (l .results) .returned ≡ packed (result .number) (result .line)
-  pub results : runCall t (l .work) (l .steps) (l .results) .results ≡ resultBytes result
-  pub kept : FrameKept wholeHeap (program items)
+-- "For every text for which check returns 0, and every number of allowed steps, run with areas of the right length returns number
+-- 0, 21, 22 or 23": whatever area check was lent, and whatever areas run is. And the run that it answers with, its number, line,
+-- count of steps and values, keeps in each of its calls what that call was not handed.
+pub record ReturnsClaim (t : List ℕ) (l : Lent) : Type 0 where
+  pub number : NotStuck (runCall t (l .work) (l .steps) (l .results) .returned / 65536)
+  pub claim : Claim t (l .steps)
+  pub returns : Returns t l
 
-abbrev pub ReturnedCallsKeepFrame : Type 0
-ReturnedCallsKeepFrame = (t : List ℕ) (items : List Item) → readText t ≡ accepted items → (l : Lent) → Returns l t items
+abbrev pub OneClaimReturned : Type 0
+OneClaimReturned = (t area : List ℕ) → length area ≡ work-bytes → checkCall t area .returned ≡ 0 → (l : Lent) → ReturnsClaim t l

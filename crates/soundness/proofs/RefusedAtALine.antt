@@ -1,0 +1,259 @@
+-- Of a text that is read, check refuses with 10 to 14 only, and at a line of the text: what the rules refuse as out of place, and
+-- what they refuse at line 0, does not come from a text.
+use mathlib.Core.Path.{_≡_, refl, sym, ap, _∙_}
+use mathlib.Core.Bool.{Bool, true, false, cond}
+use mathlib.Core.List.{List, [], _∷_}
+use mathlib.Core.Logic.{_⊎_, inl, inr}
+use Prim.Native.Nat.{ℕ, suc, _+_, _≤_}
+use native.Mathlib.Omega.{arith}
+use lib.Dec.{T, ltb}
+use lib.ListN.{length, drop, length-map}
+use Rattle.rules.specs.Base as Base
+use Rattle.rules.specs.Base.{Name, Try}
+use Rattle.rules.specs.Limits.{most-bytes, most-branches, most-atoms}
+use Rattle.rules.specs.Answers.{Refusal, Verdict, accepted, refused, atLine, then, textTooLong, textEnds, unframed}
+use Rattle.rules.specs.Syntax as Syntax
+use Rattle.rules.specs.Syntax.{Formula, Stmt, Row, Program, simple, if, else, join, end}
+use Rattle.rules.specs.Text.{lines}
+use Rattle.rules.specs.Grammar as Grammar
+use Rattle.rules.specs.Grammar.{Kind, Line, Class, Field, Method, Requires, Ensures, Main, Var, Set, Let, New, Call, Return, Assert, Release, If, Else, Join, End}
+use Rattle.rules.specs.Places.{Place, firstPlace, scanLine, ended, scanLines}
+use Rattle.rules.specs.Scope as Scope
+use Rattle.rules.specs.Scope.{Scope, Declarations, Variable, declarations, firstScope, scopeAfter}
+use Rattle.rules.specs.Items.{Item, aClass, aField, aMethod, aRequires, anEnsures, aMain, aLocal, aStatement, itemOf, resolveFormula, resolveLine, resolveLines}
+use Rattle.rules.specs.Reading.{readText, framed, framedItem, checkFramed, withRequires, withEnsures, program}
+use Rattle.rules.specs.State.{State, empty}
+use Rattle.rules.specs.Rules.{Open, inFirst, inSecond, elseRow, joinRow, endRow, checkRow, checkRows, checkFrom, checkMethod, checkBlocks, checkProgram}
+use Rattle.rules.specs.Calls.{checkItems, verdictNumbers, checkText}
+use Rattle.rules.proofs.Lists.{and-both}
+use Rattle.rules.proofs.Tries.{refused-accepted, accepted-inj, atLine-accepted, then-accepted}
+use Rattle.rules.proofs.LinesTaken.{HasForm, TakenLines, none, line, lineOf, read-taken}
+use Rattle.assembly.specs.Nests.{Wait, forElse, forJoin, rowNests, rowsNest}
+use Rattle.assembly.proofs.ReadOrder.{BodiesNest, read-blocks}
+use Rattle.soundness.specs.Refusals.{FromRules, LineOf, RefusedAtALine}
+use Rattle.soundness.proofs.RulesRefuse.{OfRules, ten, row-number, Ruled, yes, for, rule-ruled, if-ruled, join-ruled, show-ruled}
+use Rattle.soundness.proofs.RequiresAdded.{Addable, requires-added, few-atoms}
+use Rattle.soundness.proofs.ProgramParts.{All, all-drop, ItemsHold, Kept, Parts, parts}
+
+-- AS MANY ITEMS AS LINES
+scan-count : (ws : List Name) (n : ℕ) (p : Place) (ls : List Line) → scanLines ws n p ≡ accepted ls → length ls ≡ length ws
+unfolding scanLines
+scan-count [] n p ls e = go (ended p) e
+  where
+    go : (b : Bool) → cond b (accepted []) (refused textEnds n) ≡ accepted ls → length ls ≡ 0
+    go true e = ap (λ l. length l) (sym (accepted-inj e))
+    go false e = refused-accepted e
+scan-count (w ∷ ws) n p ls e =
+    let (a, _, e₁) = atLine-accepted (suc n) (scanLine p w) _ ls e in
+    let (rest, j, e₂) = then-accepted (scanLines ws (suc n) (a .next)) _ ls e₁ in
+    ap (λ l. length l) (sym (accepted-inj e₂)) ∙ ap suc (scan-count ws (suc n) (a .next) rest j)
+
+resolve-count :
+    (Γ : Declarations) (ls : List Line) (n : ℕ) (s : Scope) (items : List Item) → resolveLines Γ ls n s ≡ accepted items →
+    length items ≡ length ls
+unfolding resolveLines
+resolve-count Γ [] n s items e = ap (λ l. length l) (sym (accepted-inj e))
+resolve-count Γ (l ∷ ls) n s items e =
+    let (a, _, e₁) = atLine-accepted (suc n) (resolveLine Γ s l) _ items e in
+    let (rest, j, e₂) = then-accepted (resolveLines Γ ls (suc n) (scopeAfter s l)) _ items e₁ in
+    ap (λ l. length l) (sym (accepted-inj e₂)) ∙ ap suc (resolve-count Γ ls (suc n) (scopeAfter s l) rest j)
+
+read-count : (t : List ℕ) (items : List Item) → readText t ≡ accepted items → length items ≡ length (lines t)
+unfolding readText
+read-count t items e = go (ltb most-bytes (length t)) e
+  where
+    go :
+        (b : Bool) →
+        cond b (refused textTooLong 0) (then (scanLines (lines t) 0 firstPlace) λ ls. resolveLines (declarations ls) ls 0 firstScope)
+        ≡ accepted items →
+        length items ≡ length (lines t)
+    go true e = refused-accepted e
+    go false e =
+        let (ls, i, j) = then-accepted (scanLines (lines t) 0 firstPlace) _ items e in
+        resolve-count (declarations ls) ls 0 firstScope items j ∙ scan-count (lines t) 0 firstPlace ls i
+
+-- REQUIRES HAS FEW ATOMS
+abbrev Few : Item → Type 0
+Few aClass = Unit {0}
+Few (aField f) = Unit {0}
+Few aMethod = Unit {0}
+Few (aRequires φ) = length φ ≤ most-atoms
+Few (anEnsures φ) = Unit {0}
+Few aMain = Unit {0}
+Few (aLocal x) = Unit {0}
+Few (aStatement s) = Unit {0}
+
+module _ (Γ : Declarations) (vs : List Variable) (ws : List Name) where
+  requires-few : HasForm (lineOf Requires ws) → length (resolveFormula Γ vs (lineOf Requires ws)) ≤ most-atoms
+  unfolding Base.opened Grammar.opened Scope.opened resolveFormula
+  requires-few h = rw length-map (few-atoms most-atoms ws h)
+
+  line-few : (k : Kind) → HasForm (lineOf k ws) → Few (itemOf Γ vs k (lineOf k ws))
+  unfolding itemOf
+  line-few Class h = tt
+  line-few Field h = tt
+  line-few Method h = tt
+  line-few Requires h = requires-few h
+  line-few Ensures h = tt
+  line-few Main h = tt
+  line-few Var h = tt
+  line-few Set h = tt
+  line-few Let h = tt
+  line-few New h = tt
+  line-few Call h = tt
+  line-few Return h = tt
+  line-few Assert h = tt
+  line-few Release h = tt
+  line-few If h = tt
+  line-few Else h = tt
+  line-few Join h = tt
+  line-few End h = tt
+
+-- what it takes for a line to pass number 10
+framed-both :
+    (a : Item) (items : List Item) (n : ℕ) (u : Unit {0}) → checkFramed (a ∷ items) n ≡ accepted u →
+    T (framedItem a) × (checkFramed items (suc n) ≡ accepted u)
+unfolding checkFramed
+framed-both a items n u e = go (framedItem a) e
+  where
+    go :
+        (b : Bool) → cond b (checkFramed items (suc n)) (refused unframed (suc n)) ≡ accepted u →
+        T b × (checkFramed items (suc n) ≡ accepted u)
+    go true e = (tt, e)
+    go false e = refused-accepted e
+
+-- THE PROGRAM OF A TEXT, with lines of which L holds: what is known of its items once number 10 has refused none
+module _ (L : ℕ → Type 0) where
+  abbrev Good : ℕ → Item → Type 0
+  Good l a = L l × T (framedItem a) × Few a
+
+  abbrev Startable : Syntax.Method → Type 0
+  Startable M = Addable (M .requires)
+
+  abbrev AtLine : Row → Type 0
+  AtLine r = L (r .line)
+
+  good-kept : Kept Good Startable AtLine
+  unfolding withRequires withEnsures framedItem framed
+  good-kept =
+      record {
+        method = λ n. (tt, omega arith);
+        requires = λ l φ N i G. (i .1, i .2);
+        ensures = λ l φ N i G. G;
+        row = λ l s i. i .0;
+      }
+
+  items-good :
+      (text : List Line) (p : Place) (s : Scope) (ls : List Line) (items : List Item) (n : ℕ) (u : Unit {0}) →
+      TakenLines text p s ls items → ((l : ℕ) → n + 1 ≤ l → l ≤ n + length items → L l) → checkFramed items n ≡ accepted u →
+      ItemsHold Good n items
+  items-good text p s ls items n u (none e) h c = tt
+  items-good text p s ls items n u (line {l = l} {ls = ls′} {items = rest} t ts) h c =
+      let (f, c′) = framed-both _ rest n u c in (
+        (h (suc n) (omega arith) (omega arith), f, line-few _ _ (l .fields) (l .kind) (t .formed)),
+        items-good text _ _ ls′ rest (suc n) u ts (λ k a b. h k (omega (arith, a)) (omega (arith, b))) c′,
+      )
+
+  -- VERDICTS: refused, if at all, by the rules and at such a line
+  data Fair {A : Type 0} : Verdict A → Type 0 where
+    passes : {a : A} → Fair (accepted a)
+    at : {r : Refusal} {l : ℕ} → OfRules r → L l → Fair (refused r l)
+
+  at-line : {A B : Type 0} {x : Try Refusal A} {k : A → Verdict B} {l : ℕ} → L l → Ruled x → ((a : A) → Fair (k a)) → Fair (atLine l x k)
+  unfolding atLine
+  at-line i yes h = h _
+  at-line i (for r) h = at r i
+
+  fair-then : {A B : Type 0} {v : Verdict A} {k : A → Verdict B} → Fair v → ((a : A) → v ≡ accepted a → Fair (k a)) → Fair (then v k)
+  unfolding then
+  fair-then passes h = h _ refl
+  fair-then (at r i) h = at r i
+
+  -- what the open branches of the check wait for
+  waits : List Open → List Wait
+  waits [] = []
+  waits (inFirst s ∷ os) = forElse ∷ waits os
+  waits (inSecond s ∷ os) = forJoin ∷ waits os
+
+  module _ (P : Program) (φ : Formula ℕ) where
+    row-fair :
+        (x : Stmt) (l : ℕ) (k : State → List Open → Verdict (Unit {0})) (s : State) (os : List Open) (n : Bool → List Wait → Bool) →
+        L l → T (rowNests x (waits os) n) → ((s : State) (os : List Open) → T (n false (waits os)) → Fair (k s os)) →
+        Fair (checkRow P x l φ k s os)
+    unfolding checkRow rowNests elseRow joinRow endRow waits
+    row-fair (simple p) l k s os n i t h = at-line i (rule-ruled P p s) (λ s′. h s′ os t)
+    row-fair (if r a b) l k s os n i t h =
+        at-line i (if-ruled r a b s)
+        (λ c. h (c .0) (inFirst (c .1) ∷ os) (and-both (ltb (length (waits os)) most-branches) (n false (forElse ∷ waits os)) t .1))
+    row-fair else l k s [] n i t h = absurd t
+    row-fair else l k s (inFirst s₂ ∷ os) n i t h = h s₂ (inSecond s ∷ os) t
+    row-fair else l k s (inSecond s₁ ∷ os) n i t h = absurd t
+    row-fair (join ψ) l k s [] n i t h = absurd t
+    row-fair (join ψ) l k s (inFirst s₂ ∷ os) n i t h = absurd t
+    row-fair (join ψ) l k s (inSecond s₁ ∷ os) n i t h = at-line i (join-ruled ψ s₁ s) (λ s′. h s′ os t)
+    row-fair end l k s [] n i t h = at-line i (show-ruled s φ) (λ r. passes)
+    row-fair end l k s (inFirst s₂ ∷ os) n i t h = absurd t
+    row-fair end l k s (inSecond s₁ ∷ os) n i t h = absurd t
+
+    rows-fair :
+        (rs : List Row) (s : State) (os : List Open) → All AtLine rs → T (rowsNest false (waits os) rs) → Fair (checkRows P φ rs s os)
+    unfolding checkRows rowsNest waits
+    rows-fair [] s [] a t = absurd t
+    rows-fair [] s (inFirst s₂ ∷ os) a t = absurd t
+    rows-fair [] s (inSecond s₁ ∷ os) a t = absurd t
+    rows-fair (r ∷ rs) s os a t =
+        row-fair (r .stmt) (r .line) _ s os (λ b ws. rowsNest b ws rs) (a .0) t (λ s os t. rows-fair rs s os (a .1) t)
+
+    from-fair : (i : ℕ) (s : State) → All AtLine (P .rows) → T (rowsNest false [] (drop i (P .rows))) → Fair (checkFrom P φ i s [])
+    unfolding checkFrom waits
+    from-fair i s a t = rows-fair (drop i (P .rows)) s [] (all-drop AtLine i (P .rows) a) t
+
+  module _ (P : Program) (rows : All AtLine (P .rows)) where
+    method-fair : (M : Syntax.Method) → Startable M → T (rowsNest false [] (drop (M .first) (P .rows))) → Fair (checkMethod P M)
+    unfolding checkMethod atLine
+    method-fair M g t = let (s, e) = requires-added (M .requires) g in rw e (from-fair P (M .ensures) (M .first) s rows t)
+
+    blocks-fair :
+        (Ms : List Syntax.Method) → All Startable Ms → BodiesNest (P .rows) Ms →
+        T (rowsNest false [] (drop (P .main) (P .rows))) → Fair (checkBlocks P Ms)
+    unfolding checkBlocks
+    blocks-fair [] g b t = from-fair P [] (P .main) empty rows t
+    blocks-fair (M ∷ Ms) g b t = fair-then (method-fair M (g .0) (b .0)) (λ u e. blocks-fair Ms (g .1) (b .1) t)
+
+  framed-fair : (items : List Item) (n : ℕ) → ((l : ℕ) → n + 1 ≤ l → l ≤ n + length items → L l) → Fair (checkFramed items n)
+  unfolding checkFramed
+  framed-fair [] n h = passes
+  framed-fair (a ∷ items) n h =
+      go (framedItem a) (framed-fair items (suc n) (λ k a b. h k (omega (arith, a)) (omega (arith, b))))
+    where
+      go : (b : Bool) → Fair (checkFramed items (suc n)) → Fair (cond b (checkFramed items (suc n)) (refused unframed (suc n)))
+      go true f = f
+      go false f = at ten (h (suc n) (omega arith) (omega arith))
+
+  items-fair :
+      (t : List ℕ) (items : List Item) → readText t ≡ accepted items → ((l : ℕ) → 1 ≤ l → l ≤ length items → L l) →
+      Fair (checkItems items)
+  unfolding checkItems checkProgram
+  items-fair t items e h =
+      let within : (l : ℕ) → 0 + 1 ≤ l → l ≤ 0 + length items → L l = λ l a b. h l (omega (arith, a)) (omega (arith, b)) in
+      let (text, K) = read-taken t items e in
+      let (b, m) = read-blocks t items e in
+      fair-then (framed-fair items 0 within)
+      (λ u c.
+      let G : Parts Good Startable AtLine (program items) =
+      parts Good Startable AtLine good-kept items (items-good text _ _ text items 0 u K within c) in
+      blocks-fair (program items) (G .rows) (program items .methods) (G .methods) b m)
+
+-- in numbers
+verdict-at :
+    (t : List ℕ) (v : Verdict (Unit {0})) → Fair (LineOf t) v →
+    (verdictNumbers v ≡ (0, 0)) ⊎ (FromRules (verdictNumbers v .0) × LineOf t (verdictNumbers v .1))
+unfolding verdictNumbers
+verdict-at t v passes = inl refl
+verdict-at t v (at r i) = inr (row-number r, i)
+
+-- THE CLAIM
+pub refused-at-a-line : RefusedAtALine
+unfolding checkText then
+refused-at-a-line t items e =
+    rw e (verdict-at t (checkItems items) (items-fair (LineOf t) t items e (λ l a b. (a, rw (← read-count t items e) b))))

@@ -1,0 +1,127 @@
+-- The rules refuse with 11 to 14 only: each operation on states, each statement's rule, `if` and `join`.
+use mathlib.Core.Bool.{Bool, true, false, cond}
+use mathlib.Core.List.{List, [], _∷_}
+use mathlib.Core.Option.{Option, none, some}
+use Prim.Native.Nat.{ℕ}
+use native.Mathlib.Omega.{arith}
+use Rattle.rules.specs.Base.{Try, ok, no, _>>=_, _>>_, check, orElse}
+use Rattle.rules.specs.Answers.{Refusal, refusalNumber, unframed, unresolved, noPermission, notShown, stateFull}
+use Rattle.rules.specs.Syntax.{Rel, Formula, Simple, Field, Program, same, eq, num, null, var, path, acc, cmp, set, assign, new, call, return, assert, release, result-variable}
+use Rattle.rules.specs.State.{Term, State, Permission, Equality, Shown, empty, resolve, showFrom, show, addPermission, addFact, add}
+use Rattle.rules.specs.Rules.{addEqual, assignRule, addFields, addInitial, newRule, setRule, callRule, ifRule, joinRule, rule}
+use Rattle.soundness.specs.Refusals.{FromRules}
+
+-- the refusals of the rows 10 to 14
+pub data OfRules : Refusal → Type 0 where
+  ten : OfRules unframed
+  eleven : OfRules unresolved
+  twelve : OfRules noPermission
+  thirteen : OfRules notShown
+  fourteen : OfRules stateFull
+
+pub row-number : {r : Refusal} → OfRules r → FromRules (refusalNumber r)
+unfolding refusalNumber
+row-number ten = (omega arith, omega arith)
+row-number eleven = (omega arith, omega arith)
+row-number twelve = (omega arith, omega arith)
+row-number thirteen = (omega arith, omega arith)
+row-number fourteen = (omega arith, omega arith)
+
+-- refused, if at all, with one of them
+pub data Ruled {A : Type 0} : Try Refusal A → Type 0 where
+  yes : {a : A} → Ruled (ok a)
+  for : {r : Refusal} → OfRules r → Ruled (no r)
+
+bind : {A B : Type 0} {x : Try Refusal A} {f : A → Try Refusal B} → Ruled x → ((a : A) → Ruled (f a)) → Ruled (x >>= f)
+unfolding _>>=_
+bind yes h = h _
+bind (for r) h = for r
+
+tested : {B : Type 0} (b : Bool) {r : Refusal} {x : Try Refusal B} → OfRules r → Ruled x → Ruled (check b r >> x)
+unfolding check _>>_
+tested true r h = h
+tested false r h = for r
+
+or-else : {A : Type 0} (o : Option A) {r : Refusal} → OfRules r → Ruled (orElse o r)
+unfolding orElse
+or-else none r = for r
+or-else (some a) r = yes
+
+either : {A : Type 0} (b : Bool) {x y : Try Refusal A} → Ruled x → Ruled y → Ruled (cond b x y)
+either true h k = h
+either false h k = k
+
+-- STATES
+resolve-ruled : (q : Equality) (ps : List Permission) (t : Term) → Ruled (resolve q ps t)
+unfolding resolve
+resolve-ruled q ps (num n) = yes
+resolve-ruled q ps null = yes
+resolve-ruled q ps (var x) = yes
+resolve-ruled q ps (path y f) = bind (or-else _ eleven) (λ p. yes)
+
+show-from-ruled : (q : Equality) (s : State) (φ : Formula ℕ) (r : Shown) → Ruled (showFrom q s φ r)
+unfolding showFrom
+show-from-ruled q s [] r = yes
+show-from-ruled q s (acc y f ∷ φ) r =
+    bind (or-else _ twelve) (λ c. show-from-ruled q s φ (record { kept = c .others; consumed = c .taken ∷ r .consumed }))
+show-from-ruled q s (cmp n a b ∷ φ) r =
+    bind (resolve-ruled q _ a) (λ t. bind (resolve-ruled q _ b) (λ u. tested _ thirteen (show-from-ruled q s φ r)))
+
+pub show-ruled : (s : State) (φ : Formula ℕ) → Ruled (show s φ)
+unfolding show
+show-ruled s φ = show-from-ruled _ s φ _
+
+permission-ruled : (p : Permission) (s : State) → Ruled (addPermission p s)
+unfolding addPermission
+permission-ruled p s = tested _ fourteen yes
+
+fact-ruled : (n : Rel) (t u : Term) (s : State) → Ruled (addFact n t u s)
+unfolding addFact
+fact-ruled n t u s = tested _ fourteen yes
+
+add-ruled : (φ : Formula ℕ) (s : State) → Ruled (add φ s)
+unfolding add
+add-ruled [] s = yes
+add-ruled (acc x f ∷ φ) s = bind (permission-ruled _ s) (add-ruled φ)
+add-ruled (cmp n a b ∷ φ) s =
+    bind (resolve-ruled _ _ a) (λ t. bind (resolve-ruled _ _ b) (λ u. bind (fact-ruled n t u s) (add-ruled φ)))
+
+-- STATEMENTS
+equal-ruled : (x : ℕ) (o : Option Term) (s : State) → Ruled (addEqual x o s)
+unfolding addEqual
+equal-ruled x none s = yes
+equal-ruled x (some r) s = fact-ruled eq (var x) r s
+
+assign-ruled : (x : ℕ) (e : Term) (s : State) → Ruled (assignRule x e s)
+unfolding assignRule
+assign-ruled x e s = bind (resolve-ruled _ _ e) (λ r. either (same r (var x)) yes (equal-ruled x _ _))
+
+fields-ruled : (x : ℕ) (fs : List Field) (s : State) → Ruled (addFields x fs s)
+unfolding addFields
+fields-ruled x [] s = yes
+fields-ruled x (f ∷ fs) s = bind (permission-ruled _ s) (fields-ruled x fs)
+
+initial-ruled : (x : ℕ) (fs : List Field) (s : State) → Ruled (addInitial x fs s)
+unfolding addInitial
+initial-ruled x [] s = yes
+initial-ruled x (f ∷ fs) s = bind (fact-ruled _ _ _ s) (initial-ruled x fs)
+
+pub rule-ruled : (P : Program) (p : Simple) (s : State) → Ruled (rule P p s)
+unfolding rule setRule newRule callRule
+rule-ruled P (set x f y) s = bind (or-else _ twelve) (λ c. fact-ruled _ _ _ _)
+rule-ruled P (assign x e) s = assign-ruled x e s
+rule-ruled P (new x c) s = bind (fields-ruled x _ _) (λ s. bind (fact-ruled _ _ _ s) (initial-ruled x _))
+rule-ruled P (call x y m z) s = tested _ thirteen (bind (show-ruled s _) (λ r. add-ruled _ _))
+rule-ruled P (return x) s = assign-ruled result-variable (var x) s
+rule-ruled P (assert φ) s = bind (show-ruled s φ) (λ r. yes)
+rule-ruled P (release φ) s = bind (show-ruled s φ) (λ r. yes)
+
+pub if-ruled : (n : Rel) (a b : Term) (s : State) → Ruled (ifRule n a b s)
+unfolding ifRule
+if-ruled n a b s =
+    bind (resolve-ruled _ _ a) (λ t.
+    bind (resolve-ruled _ _ b) (λ u. bind (fact-ruled _ _ _ s) (λ s₁. bind (fact-ruled _ _ _ s) (λ s₂. yes))))
+
+pub join-ruled : (φ : Formula ℕ) (s t : State) → Ruled (joinRule φ s t)
+unfolding joinRule
+join-ruled φ s t = bind (show-ruled s φ) (λ r. bind (show-ruled t φ) (λ r. add-ruled φ empty))
