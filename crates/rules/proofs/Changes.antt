@@ -4,7 +4,7 @@ use mathlib.Core.Path.{_≡_, refl, sym, ap, _∙_, subst}
 use mathlib.Core.Bool.{cond}
 use mathlib.Core.List.{List, [], _∷_, map}
 use mathlib.Core.Logic.{_⊎_, inl, inr, ⊎-elim}
-use Prim.Native.Nat.{ℕ, suc, _≤_, _<_}
+use Prim.Native.Nat.{ℕ, suc, _≤_}
 use native.Mathlib.Omega.{arith}
 use native.Mathlib.Nat.{le-refl}
 use lib.ListN.{length, getD, length-append}
@@ -12,14 +12,11 @@ use Rattle.rules.specs.Base.{ok}
 use Rattle.rules.specs.Syntax.{Rel, Expr, Simple, Stmt, Field, Method, Formula, Program, methodNumbered, result-variable}
 use Rattle.rules.specs.Syntax.{var, set, assign, new, call, return, assert, release, simple, if, else, join, end}
 use Rattle.rules.specs.Machine.{Config, Frame, Location, Cell, Room, on, holds, without, valueAt, valueOf, locate, value, compared, footprint, jump, advance, bind, holding, withFrame, choose, ifStep, elseStep, stored, setStep, assignStep, newCell, grown, newStep, callFrame, entered, callStep, returned, assertStep, releaseStep, endStep, simpleStep, stepAt, step, statementOf}
+use Rattle.rules.specs.Runs.{Made}
 use Rattle.rules.proofs.Tries.{bind-ok, check-ok, ok-inj}
 use Rattle.rules.proofs.Sets.{Holds, location-eq, in-append, in-new, without-in, without-out, locate-holds, locate-is, footprint-held}
 use Rattle.rules.proofs.Heaps.{store-other, store-length, grown-other}
 use Rattle.rules.proofs.States.{on-inj, took-on}
-
--- an object that the step made
-abbrev pub Made : Config → Config → ℕ → Type 0
-Made m m′ o = (length (m .heap) < o) × (o ≤ length (m′ .heap))
 
 -- the frame goes on: it gains only locations of new objects, and what it does not hold keeps its value
 pub record Within (m m′ : Config) : Type 0 where

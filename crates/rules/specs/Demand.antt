@@ -1,14 +1,13 @@
--- Demand 3 of document 01 over texts, both halves, as statements. The crate `soundness` proves them.
+-- Demand 3 of document 01 over texts: one claim about the whole run, and its two halves. The crate `soundness` proves them.
 use mathlib.Core.Path.{_≡_}
 use mathlib.Core.List.{List}
 use mathlib.Core.Logic.{_⊎_}
-use Prim.Native.Nat.{ℕ, _+_}
+use Prim.Native.Nat.{ℕ}
 use Rattle.rules.specs.Answers.{accepted}
 use Rattle.rules.specs.Items.{Item}
 use Rattle.rules.specs.Reading.{readText, program}
 use Rattle.rules.specs.Calls.{checkText, runText, wholeHeap, outcomeResult}
-use Rattle.rules.specs.Machine.{ends}
-use Rattle.rules.specs.Runs.{FrameKept, Reached, lastStep}
+use Rattle.rules.specs.Runs.{Run, FrameKept, outcome}
 
 -- "run .. returns number 0, 21, 22 or 23"
 abbrev pub NotStuck : ℕ → Type 0
@@ -18,13 +17,25 @@ NotStuck n = (n ≡ 0) ⊎ (n ≡ 21) ⊎ (n ≡ 22) ⊎ (n ≡ 23)
 abbrev pub AcceptedNeverStuck : Type 0
 AcceptedNeverStuck = (t : List ℕ) → checkText t ≡ (0, 0) → (k : ℕ) → NotStuck (runText t k .number)
 
--- Second half: "For each `call` step done in it, at any depth": of each text that the reader takes
-abbrev pub CallsKeepFrame : Type 0
-CallsKeepFrame = (t : List ℕ) (items : List Item) → readText t ≡ accepted items → FrameKept wholeHeap (program items)
+-- a text that was read as these items: its run with k allowed steps. `runText` answers what this run does (number, line, count of
+-- steps, values), and "each `call` step done in it" keeps what it was not handed.
+pub record KeepsFrame (t : List ℕ) (items : List Item) (k : ℕ) : Type 0 where
+  pub run : Run wholeHeap (program items) k
+  pub answered : runText t k ≡ outcomeResult (outcome wholeHeap (program items) run)
+  pub kept : FrameKept wholeHeap (program items) run
 
--- Both speak of one run: runText gives the state, of the list of steps, in which the run with k allowed steps ends, and its count.
-abbrev pub RunIsItsSteps : Type 0
-RunIsItsSteps =
-    (t : List ℕ) (items : List Item) → readText t ≡ accepted items → (k : ℕ) →
-    (R : Reached wholeHeap (program items) k)
-    × (runText t k ≡ outcomeResult (ends (program items) (R .ending) (R .steps + lastStep (R .ending)) (R .state)))
+-- Second half, of each text that the reader takes, accepted or not
+abbrev pub CallsKeepFrame : Type 0
+CallsKeepFrame = (t : List ℕ) (items : List Item) → readText t ≡ accepted items → (k : ℕ) → KeepsFrame t items k
+
+-- "This is one claim about the whole run": the text was read, its run is one list of steps, that run answers 0, 21, 22 or 23, and
+-- each call in it keeps what it was not handed.
+pub record Claim (t : List ℕ) (k : ℕ) : Type 0 where
+  pub items : List Item
+  pub is-read : readText t ≡ accepted items
+  pub whole-run : KeepsFrame t items k
+  pub number : NotStuck (runText t k .number)
+
+-- "For every text for which check returns 0, and every number of allowed steps"
+abbrev pub OneClaim : Type 0
+OneClaim = (t : List ℕ) → checkText t ≡ (0, 0) → (k : ℕ) → Claim t k

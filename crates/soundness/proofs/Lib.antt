@@ -1,4 +1,3 @@
-pub mod Counting
 pub mod Satisfied
 pub mod ShowSound
 pub mod RemainderSound

@@ -10,7 +10,7 @@ use Rattle.rules.specs.Syntax.{Method, Program, noMethod, methodNumbered}
 use Rattle.rules.specs.State.{empty}
 use Rattle.rules.specs.Rules.{checkMethod, checkBlocks, checkProgram}
 use Rattle.rules.specs.Machine.{Config, Room, Step, Outcome, on, stop, done, step, run, goOn, ends, start, runProgram}
-use Rattle.soundness.specs.Demand.{NotStuck}
+use Rattle.rules.specs.Demand.{NotStuck}
 use Rattle.rules.proofs.Tries.{then-accepted}
 use Rattle.rules.proofs.Disjoint.{start-none}
 use Rattle.soundness.specs.WellFormed.{WellFormed}

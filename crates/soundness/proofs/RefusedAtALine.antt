@@ -30,7 +30,7 @@ use Rattle.rules.proofs.Tries.{refused-accepted, accepted-inj, atLine-accepted,
 use Rattle.rules.proofs.LinesTaken.{HasForm, TakenLines, none, line, lineOf, read-taken}
 use Rattle.assembly.specs.Nests.{Wait, forElse, forJoin, rowNests, rowsNest}
 use Rattle.assembly.proofs.ReadOrder.{BodiesNest, read-blocks}
-use Rattle.soundness.specs.Refusals.{FromRules, LineOf, RefusedAtALine}
+use Rattle.rules.specs.Refusals.{FromRules, LineOf, RefusedAtALine}
 use Rattle.soundness.proofs.RulesRefuse.{OfRules, ten, row-number, Ruled, yes, for, rule-ruled, if-ruled, join-ruled, show-ruled}
 use Rattle.soundness.proofs.RequiresAdded.{Addable, requires-added, few-atoms}
 use Rattle.soundness.proofs.ProgramParts.{All, all-drop, ItemsHold, Kept, Parts, parts}

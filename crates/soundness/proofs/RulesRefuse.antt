@@ -9,7 +9,7 @@ use Rattle.rules.specs.Answers.{Refusal, refusalNumber, unframed, unresolved, n
 use Rattle.rules.specs.Syntax.{Rel, Formula, Simple, Field, Program, same, eq, num, null, var, path, acc, cmp, set, assign, new, call, return, assert, release, result-variable}
 use Rattle.rules.specs.State.{Term, State, Permission, Equality, Shown, empty, resolve, showFrom, show, addPermission, addFact, add}
 use Rattle.rules.specs.Rules.{addEqual, assignRule, addFields, addInitial, newRule, setRule, callRule, ifRule, joinRule, rule}
-use Rattle.soundness.specs.Refusals.{FromRules}
+use Rattle.rules.specs.Refusals.{FromRules}
 
 -- the refusals of the rows 10 to 14
 pub data OfRules : Refusal → Type 0 where

@@ -9,7 +9,7 @@ use borrow.Author.Tests.{eq-eqb}
 use Rattle.rules.specs.Limits.{work-bytes, results-bytes}
 use Rattle.rules.specs.Calls.{checkText}
 use Rattle.rules.specs.Areas.{packed, checkCall, runCall}
-use Rattle.soundness.specs.Demand.{NotStuck}
+use Rattle.rules.specs.Demand.{NotStuck}
 use Rattle.soundness.proofs.Demand3.{one-claim}
 use Rattle.printer.proofs.Called.{number-packed}
 use Rattle.printer.proofs.Calls.{fits}

@@ -5,7 +5,7 @@ use Prim.Native.Nat.{ℕ, _/_, _%_}
 use native.Mathlib.Omega.{arith}
 use Rattle.rules.specs.Calls.{checkText}
 use Rattle.rules.specs.Areas.{packed}
-use Rattle.soundness.specs.Refusals.{FromRules, LineOf}
+use Rattle.rules.specs.Refusals.{FromRules, LineOf}
 use Rattle.soundness.proofs.RefusedAtALine.{refused-at-a-line}
 use Rattle.printer.proofs.Called.{number-packed, line-packed}
 use Rattle.printer.proofs.Calls.{fits}

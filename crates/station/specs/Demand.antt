@@ -6,7 +6,7 @@ use lib.ListN.{length}
 use Rattle.rules.specs.Limits.{work-bytes, results-bytes}
 use Rattle.rules.specs.Calls.{runText}
 use Rattle.rules.specs.Areas.{packed, resultBytes, checkCall, runCall}
-use Rattle.soundness.specs.Demand.{NotStuck, Claim}
+use Rattle.rules.specs.Demand.{NotStuck, Claim}
 
 -- areas of the right length, whatever they hold, and a number of steps
 pub record Lent : Type 0 where
