@@ -10,8 +10,8 @@ use lib.Dec.{T, ltb}
 use lib.ListN.{length, drop, length-map}
 use Rattle.rules.specs.Base as Base
 use Rattle.rules.specs.Base.{Name, Try}
-use Rattle.rules.specs.Limits.{most-bytes, most-branches, most-atoms}
-use Rattle.rules.specs.Answers.{Refusal, Verdict, accepted, refused, atLine, then, textTooLong, textEnds, unframed}
+use Rattle.rules.specs.Limits.{most-branches, most-atoms}
+use Rattle.rules.specs.Answers.{Refusal, Verdict, accepted, refused, atLine, then, textEnds, unframed}
 use Rattle.rules.specs.Syntax as Syntax
 use Rattle.rules.specs.Syntax.{Formula, Stmt, Row, Program, simple, if, else, join, end}
 use Rattle.rules.specs.Text.{lines}
@@ -27,7 +27,7 @@ use Rattle.rules.specs.Rules.{Open, inFirst, inSecond, elseRow, joinRow, endRow
 use Rattle.rules.specs.Calls.{checkItems, verdictNumbers, checkText}
 use Rattle.rules.proofs.Lists.{and-both}
 use Rattle.rules.proofs.Tries.{refused-accepted, accepted-inj, atLine-accepted, then-accepted}
-use Rattle.rules.proofs.LinesTaken.{HasForm, TakenLines, none, line, lineOf, read-taken}
+use Rattle.rules.proofs.LinesTaken.{HasForm, TakenLines, none, line, lineOf, read-passes, read-taken}
 use Rattle.assembly.specs.Nests.{Wait, forElse, forJoin, rowNests, rowsNest}
 use Rattle.assembly.proofs.ReadOrder.{BodiesNest, read-blocks}
 use Rattle.rules.specs.Refusals.{FromRules, LineOf, RefusedAtALine}
@@ -59,18 +59,9 @@ resolve-count Γ (l ∷ ls) n s items e =
     ap (λ l. length l) (sym (accepted-inj e₂)) ∙ ap suc (resolve-count Γ ls (suc n) (scopeAfter s l) rest j)
 
 read-count : (t : List ℕ) (items : List Item) → readText t ≡ accepted items → length items ≡ length (lines t)
-unfolding readText
-read-count t items e = go (ltb most-bytes (length t)) e
-  where
-    go :
-        (b : Bool) →
-        cond b (refused textTooLong 0) (then (scanLines (lines t) 0 firstPlace) λ ls. resolveLines (declarations ls) ls 0 firstScope)
-        ≡ accepted items →
-        length items ≡ length (lines t)
-    go true e = refused-accepted e
-    go false e =
-        let (ls, i, j) = then-accepted (scanLines (lines t) 0 firstPlace) _ items e in
-        resolve-count (declarations ls) ls 0 firstScope items j ∙ scan-count (lines t) 0 firstPlace ls i
+read-count t items e =
+    let (ls, i, j) = read-passes t items e in
+    resolve-count (declarations ls) ls 0 firstScope items j ∙ scan-count (lines t) 0 firstPlace ls i
 
 -- REQUIRES HAS FEW ATOMS
 abbrev Few : Item → Type 0
