@@ -5,7 +5,7 @@ use Prim.Native.Nat.{ℕ, suc, _≤_}
 use native.Mathlib.Omega.{arith}
 use lib.ListN.{length, getD}
 use Rattle.rules.specs.Base.{Try, ok}
-use Rattle.rules.specs.Answers.{Stop, accepted}
+use Rattle.rules.specs.Answers.{Stop}
 use Rattle.rules.specs.Syntax.{Formula, Simple, Stmt, Program, rowNumbered, result-variable, var, set, assign, new, call, return, assert, release, simple, if, else, join, end}
 use Rattle.rules.specs.State.{State, show}
 use Rattle.rules.specs.Rules.{Open, inFirst, inSecond, rule, ifRule, joinRule, checkRow, elseRow, joinRow, endRow}
