@@ -19,8 +19,8 @@ abbrev pub LineOf : List ℕ → ℕ → Type 0
 LineOf t l = (1 ≤ l) × (l ≤ length (lines t))
 
 -- "A number is returned if its row holds in that order, and never else": for a text that passes 2 to 9, check returns 0 at line 0,
--- or 10 to 14 at a line of the text. So a line that the rules refuse as out of place (4, 8), or requires refused at line 0, comes from no
--- text.
+-- or 10 to 14 at a line of the text. So what the rules refuse as out of place (4, 8), and requires refused at line 0, comes from
+-- no text.
 abbrev pub RefusedAtALine : Type 0
 RefusedAtALine =
     (t : List ℕ) (items : List Item) → readText t ≡ accepted items →
