@@ -1,6 +1,6 @@
 -- The expression that an answer about a field stands for.
 use mathlib.Core.Path.{_≡_}
-use Prim.Native.Nat.{ℕ, suc, _<_}
+use Prim.Native.Nat.{suc, _<_}
 use lib.ListN.{length, take, drop}
 use Rattle.rules.specs.Base.{Name}
 use Rattle.rules.specs.Syntax as Syntax
