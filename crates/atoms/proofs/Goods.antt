@@ -15,7 +15,7 @@ use Rattle.rules.specs.Scope.{Declarations, Variable, Scope, Slot, slotsFrom, a
 use Rattle.rules.specs.Names.{agree, exprType, known, ofClass, mayBeAssigned, knownExpr, ofClassIn, knownField, inScope, isInt, sidesAgree, atomAgrees, callApart, allKnown, allTyped, allAssignable}
 use Rattle.lines.specs.Rows.{kindNumbered}
 use Rattle.lines.proofs.Rows.{kind-of-number}
-use Rattle.declared.specs.Answers.{good}
+use Rattle.declared.specs.Types.{good}
 use Rattle.atoms.specs.Good.{fitsAtom}
 
 -- TESTS IN ANOTHER ORDER

@@ -28,7 +28,7 @@ use Rattle.tables.specs.Stores.{meaning}
 use Rattle.declared.specs.declared.Names as Declared
 use Rattle.declared.specs.declared.Member as Member
 use Rattle.declared.specs.declared.Lookup as Lookup
-use Rattle.declared.specs.Answers.{good, typeMeant, MemberIs, LookIs}
+use Rattle.declared.specs.Types.{good, typeMeant, MemberIs, LookIs}
 use Rattle.declared.specs.Rows.{rows, entryAt, fields-first}
 use Rattle.declared.specs.Meanings.{Fits, asField, declarationsIn, blockIn, ownVariables, variablesIn, variableAt, thisIn, resultIn}
 use Rattle.declared.proofs.Searches.{rows-length, any-index}

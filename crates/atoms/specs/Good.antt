@@ -5,7 +5,7 @@ use Rattle.rules.specs.Base.{Name}
 use Rattle.rules.specs.Syntax.{Atom, acc, cmp, path}
 use Rattle.rules.specs.Scope.{Declarations, Variable}
 use Rattle.rules.specs.Names.{agree, exprType}
-use Rattle.declared.specs.Answers.{good}
+use Rattle.declared.specs.Types.{good}
 
 module _ (Γ : Declarations) (vs : List Variable) where
   -- `acc x f` names what x.f names

@@ -10,7 +10,7 @@ use Rattle.rules.specs.Syntax.{num, null, var, path}
 use Rattle.rules.specs.Text.{numeral, number, exprOf}
 use Rattle.leaves.specs.declared.Expr.{Expr}
 use Rattle.leaves.specs.declared.Expr.the-variants.{Num, Null, Var, Path}
-use Rattle.leaves.specs.Answers.{meant, stands, Reads}
+use Rattle.leaves.specs.Expressions.{meant, stands, Reads}
 use Rattle.leaves.proofs.Search.{rest-part}
 
 module _ (w : Name) (e : Expr) (r : Reads w e) where

@@ -1,5 +1,6 @@
 pub mod Searches
 pub mod LookUps
+pub mod Types
 pub mod Exprs
 pub mod Keys
 pub mod Puts

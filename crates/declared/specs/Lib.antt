@@ -1,3 +1,5 @@
 pub mod Rows
 pub mod Meanings
-pub mod Answers
+pub mod LookUps
+pub mod Types
+pub mod Tests

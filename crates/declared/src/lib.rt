@@ -16,7 +16,9 @@ ghost use Rattle.rules.specs.Names.{agree, classNumber, isClass, isType, isFiel
 ghost use Rattle.tables.specs.Layout.{most-names};
 ghost use Rattle.declared.specs.Rows.{rows, most-rows, nameIn, spanAt, noSpan, ownerAt, writtenAt, givesAt, takesAt, keyOf, keyAt, nameAt, entryAt, isEntry, NextKey, any-owner, SpanFits, RowFits, putSpan, putRow, classes-first, fields-first, methods-first, variables-first};
 ghost use Rattle.declared.specs.Meanings.{Fits, AboveFits, namesFrom, declarationsIn, variablesIn, blockIn, scopeIn, classRow, fieldRow, variableRow, moreClasses, moreFields, moreMethods, moreLocals, putBlock};
-ghost use Rattle.declared.specs.Answers.{typeOf, ownIn, isIntType, Looked, isNew, fieldKnown, methodKnown, typeMeant, operandMeant, mayName, MemberIs, LookIs};
+ghost use Rattle.declared.specs.LookUps.{typeOf, ownIn, Looked, isNew};
+ghost use Rattle.declared.specs.Types.{isIntType, typeMeant, mayName, MemberIs, LookIs};
+ghost use Rattle.declared.specs.Tests.{fieldKnown, methodKnown, operandMeant};
 
 // A name by its place in the text.
 pub struct Span {

@@ -20,7 +20,7 @@ use Rattle.declared.specs.declared.Span.{Span}
 use Rattle.declared.specs.declared.Row.{Row}
 use Rattle.declared.specs.Rows.{nameIn, rows, entryOf}
 use Rattle.declared.specs.Meanings.{declarationsIn, blockIn, variablesIn, scopeIn}
-use Rattle.declared.specs.Answers.{isNew}
+use Rattle.declared.specs.LookUps.{isNew}
 use Rattle.declare.specs.Declares.{lineWith, MethodRow, methodEntry}
 use Rattle.pass.specs.declared.Pass.{Pass}
 use Rattle.pass.specs.declared.Tried.{Tried}

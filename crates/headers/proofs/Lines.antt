@@ -31,7 +31,7 @@ use Rattle.declared.specs.declared.Row.{Row}
 use Rattle.declared.specs.declared.Names.{Names}
 use Rattle.declared.specs.Rows.{nameIn, entryAt, entryOf, SpanFits, nameAt, classes-first, fields-first, rowPlace, variables-first, putRow}
 use Rattle.declared.specs.Meanings.{Fits, AboveFits, namesFrom, declarationsIn, classAbove, scopeIn, blockIn, moreLocals, variableRow, putBlock}
-use Rattle.declared.specs.Answers.{isNew}
+use Rattle.declared.specs.LookUps.{isNew}
 use Rattle.declared.proofs.Searches.{rows-length}
 use Rattle.declared.proofs.Puts.{row-length, row-other, row-tables}
 use Rattle.declared.proofs.Scopes.{names-kept, scope-kept, block-put, block-declarations, block-tables, local-put, variable-row}

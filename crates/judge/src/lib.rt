@@ -15,7 +15,7 @@ ghost use Rattle.rules.specs.Scope.{slotsFrom, atomOperands, atomSlots};
 ghost use Rattle.lines.specs.Cuts.{more};
 ghost use Rattle.lines.specs.Rows.{operandNumber};
 ghost use Rattle.declared.specs.Meanings.{Fits, declarationsIn, variablesIn, scopeIn};
-ghost use Rattle.declared.specs.Answers.{operandMeant};
+ghost use Rattle.declared.specs.Tests.{operandMeant};
 ghost use Rattle.judge.specs.Tests.{lineAfter, Formed, Ready, bothTests, slotTests, exprTests, cmpTests, tested, lineTests, sidesIn, apartIn};
 ghost use Rattle.judge.specs.Refusals.{refusalOf, refusalIn};
 

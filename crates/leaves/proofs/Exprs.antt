@@ -18,7 +18,8 @@ use Rattle.rules.specs.Syntax.{num, null, var, path}
 use Rattle.leaves.specs.declared.Set.the-variants.{FieldEnd}
 use Rattle.leaves.specs.Sets.{inSet}
 use Rattle.leaves.specs.Fields.{fieldLength, firstField, endsField, FieldIs}
-use Rattle.leaves.specs.Answers.{beginsName}
+use Rattle.leaves.specs.Names.{beginsName}
+use Rattle.leaves.proofs.Fields.{field-cut, field-first, field-long}
 use Rattle.leaves.proofs.Search.{true-false, and-both, and-true, and-false, or-false, upTo-within, upTo-found, upTo-passed, upTo-take, upTo-jump, smaller-within, smaller-end, smaller-here, smaller-later, all-upTo, all-of, not-all, rest-part}
 
 -- NAMES
@@ -216,23 +217,6 @@ module _ (l : Name) (at e : ℕ) (h : at ≤ length l) (is : e ≡ at + upTo oth
 pub no-letter-at : (l : Name) (at : ℕ) → at ≤ length l → letter (getD l at 0) ≡ false → isName (firstField (drop at l)) ≡ false
 no-letter-at l at h e = let s = at + upTo other (drop at l) in not-begun l at s h refl (rw e (and-false (leb (s - at) 12)))
 
-pub goes-beyond : (l : Name) (e : ℕ) → endsField l e ≡ false → e < length l
-goes-beyond l e f = leb-false (length l) e (or-false (leb (length l) e) (inSet FieldEnd (getD l e 0)) f .0)
-
--- the end of a field that passes a test, and the place of one that does not
-module _ (p : Name → Bool) (l : Name) (at : ℕ) (h : at ≤ length l) where
-  pub field-passes : (r : ℕ) → p (firstField (drop at l)) ≡ true → r ≡ at + fieldLength (drop at l) → FieldIs p l at r
-  unfolding fieldLength
-  field-passes r e z = record { low = omega arith; high = omega (arith, upTo-within (inSet FieldEnd) (drop at l), length-drop at l); is = rw e z }
-
-  pub field-fails : p (firstField (drop at l)) ≡ false → FieldIs p l at at
-  field-fails e = record { low = omega arith; high = h; is = rw e }
-
--- what is cut out up to a field's end is that field
-pub field-cut : (p : Name → Bool) (l : Name) (at e : ℕ) → e ≡ at + upTo (inSet FieldEnd) (drop at l) → p (firstField (drop at l)) ≡ p (take (e - at) (drop at l))
-unfolding firstField fieldLength
-field-cut p l at e h = let z : e - at ≡ upTo (inSet FieldEnd) (drop at l) = omega (arith, h) in rw z
-
 -- AN EXPRESSION AS A FIELD OF A LINE
 
 -- tab and LF do not begin a number
@@ -245,17 +229,6 @@ end-numeral b e = go (eqb b 9) (eqb b 10) refl refl e
     go false true d f z = ap (λ n. digit n || eqb n 45) (eqb-true b 10 f)
     go false false d f z = true-false (sym z)
 
--- a test of a field's first byte is one of the text's, if neither an end nor nothing passes it
-pub field-first :
-    (p : ℕ → Bool) → p 0 ≡ false → ((b : ℕ) → inSet FieldEnd b ≡ true → p b ≡ false) → (t : Name) → p (getD (firstField t) 0 0) ≡ p (getD t 0 0)
-unfolding firstField fieldLength upTo
-field-first p z f [] = refl
-field-first p z f (b ∷ t) = go (inSet FieldEnd b) refl
-  where
-    go : (q : Bool) → inSet FieldEnd b ≡ q → p (getD (take (cond q 0 (suc (upTo (inSet FieldEnd) t))) (b ∷ t)) 0 0) ≡ p b
-    go true e = z ∙ sym (f b e)
-    go false e = refl
-
 field-numeral : (t : Name) → numeral (firstField t) ≡ numeral t
 unfolding numeral isNegative digit between
 field-numeral t = field-first (λ b. digit b || eqb b 45) refl end-numeral t
@@ -263,10 +236,6 @@ field-numeral t = field-first (λ b. digit b || eqb b 45) refl end-numeral t
 pub number-field : (t : Name) → numeral t ≡ true → isExpr (firstField t) ≡ isNumber (firstField t)
 unfolding isExpr
 number-field t n = rw (field-numeral t, n)
-
-pub field-long : (t : Name) → length (firstField t) ≡ fieldLength t
-unfolding firstField fieldLength
-field-long t = length-take-le (fieldLength t) t (upTo-within (inSet FieldEnd) t)
 
 -- u: the place of the first byte that is no letter or digit
 module _ (t : Name) (n : numeral t ≡ false) where
@@ -368,7 +337,7 @@ module _ (l : Name) (at d : ℕ) (h : at ≤ length l) (is : d ≡ at + upTo oth
         unfolding fieldLength
         path-ends = omega (arith, is, ends, after-length (drop at l) n goes-on, ap fieldLength after-at)
 
--- THE FIELD AT A PLACE, BY A TEST THAT NOTHING FAILS: its end is not its start
+-- NO BYTES
 pub no-name : isName [] ≡ false
 unfolding isName Text.opened Base.opened
 no-name = refl
@@ -376,19 +345,3 @@ no-name = refl
 pub no-expr : isExpr [] ≡ false
 unfolding isExpr Text.opened Base.opened
 no-expr = refl
-
-module _ (p : Name → Bool) (no-bytes : p [] ≡ false) where
-  fits-case :
-      (q : Bool) (t : Name) (at r : ℕ) → p (firstField t) ≡ q → r ≡ cond q (at + fieldLength t) at →
-      (r ≡ at → p (firstField t) ≡ false) × ((r ≡ at → ⊥) → (p (firstField t) ≡ true) × (r ≡ at + fieldLength t))
-  unfolding firstField
-  fits-case true t at r e h =
-      (λ z. let k : fieldLength t ≡ 0 = omega (arith, h, z) in ap (λ n. p (take n t)) k ∙ no-bytes, λ z. (e, h))
-  fits-case false t at r e h = (λ z. e, λ z. absurd (z h))
-
-  module _ (l : Name) (at r : ℕ) (n : FieldIs p l at r) where
-    pub unfit : r ≡ at → p (firstField (drop at l)) ≡ false
-    unfit = fits-case (p (firstField (drop at l))) (drop at l) at r refl (n .is) .0
-
-    pub fit : (r ≡ at → ⊥) → (p (firstField (drop at l)) ≡ true) × (r ≡ at + fieldLength (drop at l))
-    fit = fits-case (p (firstField (drop at l))) (drop at l) at r refl (n .is) .1

@@ -17,10 +17,10 @@ use Rattle.rules.specs.Text.{digit, upTo, isDigits, isNegative, isNumber, decim
 use Rattle.leaves.specs.declared.Set.the-variants.{FieldEnd}
 use Rattle.leaves.specs.Sets.{inSet, noDigit}
 use Rattle.leaves.specs.Fields.{fieldLength, firstField, endsField}
-use Rattle.leaves.specs.Answers.{digitsIn, TenDigits, led, inRange}
+use Rattle.leaves.specs.Numbers.{digitsIn, TenDigits, led, inRange}
 use Rattle.leaves.proofs.Search.{true-false, and-true, and-false, both-true, or-false, upTo-within, upTo-found, upTo-more, upTo-next, upTo-ends, smaller-within, not-all}
 use Rattle.leaves.proofs.Numbers.{digits-form, more-digits, begin-led}
-use Rattle.leaves.proofs.Exprs.{field-first, field-long, goes-beyond}
+use Rattle.leaves.proofs.Fields.{field-first, field-long, goes-beyond}
 
 -- ITS SIGN
 

@@ -14,7 +14,7 @@ use Rattle.rules.specs.Base.{Name, all, between}
 use Rattle.rules.specs.Text.{digit, upTo, isDigits, isNegative, isNumber, number, decimal}
 use Rattle.leaves.specs.Sets.{noDigit}
 use Rattle.leaves.specs.Marks.{eight}
-use Rattle.leaves.specs.Answers.{digitsIn, Begun, TenDigits, led, inRange}
+use Rattle.leaves.specs.Numbers.{digitsIn, Begun, TenDigits, led, inRange}
 use Rattle.leaves.proofs.Search.{or-true, and-false, both-true, and-both, and-true, between-true, upTo-within, upTo-passed, upTo-next, upTo-ends, upTo-more, all-upTo, all-of, all-at, all-front, rest-part}
 use Rattle.leaves.proofs.Bytewise.{eight-is}
 

@@ -2,4 +2,6 @@ pub mod Sets
 pub mod Marks
 pub mod Fields
 pub mod Words
-pub mod Answers
+pub mod Names
+pub mod Numbers
+pub mod Expressions

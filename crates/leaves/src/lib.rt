@@ -11,7 +11,9 @@ ghost use Rattle.leaves.specs.Sets.{inSet, Found};
 ghost use Rattle.leaves.specs.Marks.{eight, littleEndian, value, lineForm, fieldForm, nameForm, digitForm, formOf};
 ghost use Rattle.leaves.specs.Fields.{endsField, FieldIs};
 ghost use Rattle.leaves.specs.Words.{words, wordNumber, kindOr0, packed, packedIn};
-ghost use Rattle.leaves.specs.Answers.{beginsName, Begun, TenDigits, led, inRange, Reads};
+ghost use Rattle.leaves.specs.Names.{beginsName};
+ghost use Rattle.leaves.specs.Numbers.{Begun, TenDigits, led, inRange};
+ghost use Rattle.leaves.specs.Expressions.{Reads};
 
 // BYTES
 

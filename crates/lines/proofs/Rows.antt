@@ -3,7 +3,7 @@ use mathlib.Core.Path.{_≡_, refl, sym, ap, _∙_}
 use mathlib.Core.Bool.{Bool, true, false}
 use mathlib.Core.List.{List, [], _∷_}
 use mathlib.Core.Option.{Option, none, some}
-use Prim.Native.Nat.{ℕ, zero, suc, _-_, _/_, _%_, _≤_, _<_}
+use Prim.Native.Nat.{ℕ, zero, suc, _/_, _%_, _≤_, _<_}
 use native.Mathlib.Omega.{arith}
 use Rattle.rules.specs.Base.{Name, bindOption, withDefault}
 use Rattle.rules.specs.Base as Base
@@ -14,13 +14,12 @@ use Rattle.rules.specs.Grammar.{classes, fields, methods, variables, read, assi
 use Rattle.rules.specs.Grammar.{Class, Field, Method, Requires, Ensures, Main, Var}
 use Rattle.rules.specs.Grammar.{Set, Let, New, Call, Return, Assert, Release, If, Else, Join, End}
 use Rattle.rules.specs.Places.{stageNumber}
-use Rattle.leaves.specs.Answers.{whenTrue}
 use Rattle.leaves.specs.Words as Words
 use Rattle.leaves.specs.Words.{kindAt, kindOr0}
 use Rattle.leaves.proofs.Words.{kind-number}
 use Rattle.lines.specs.declared.Row.{Row}
 use Rattle.lines.specs.Rows as Rows
-use Rattle.lines.specs.Rows.{kindNumbered, operandNumber, operandsNumber, tailNumber, rowOf, rowNumber}
+use Rattle.lines.specs.Rows.{whenTrue, kindNumbered, operandNumber, tailNumber, rowOf, rowNumber}
 use Rattle.lines.specs.Rows.{fitsOperand, fitsTail, formedKind}
 
 -- KINDS

@@ -19,12 +19,11 @@ use Rattle.rules.specs.Places as Places
 use Rattle.rules.specs.Places.{Placed, stageNumber, placeLine, scanLine, scanLines, ended, firstPlace}
 use Rattle.rules.proofs.Lists.{T-true}
 use Rattle.rules.proofs.Tries.{no-ok, ok-inj, bind-ok, check-ok, orElse-ok, atLine-accepted, then-accepted, accepted-inj, refused-accepted}
-use Rattle.leaves.specs.Answers.{whenTrue}
 use Rattle.leaves.specs.Words.{kindOr0}
 use Rattle.lines.specs.declared.Place.{Place}
 use Rattle.lines.specs.declared.Refusal.{Refusal}
 use Rattle.lines.specs.Cuts.{part, firstLine, CleanLine}
-use Rattle.lines.specs.Rows.{kindNumbered, formedKind}
+use Rattle.lines.specs.Rows.{whenTrue, kindNumbered, formedKind}
 use Rattle.lines.specs.Coded.{coded, inPlace, placeAfter, withinLimits}
 use Rattle.lines.specs.Scans.{refusalOf, nextPlace, scanText, lineOf}
 use Rattle.lines.proofs.Cuts.{first-clean, no-lines}

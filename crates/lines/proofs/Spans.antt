@@ -16,7 +16,7 @@ use Rattle.leaves.specs.Sets.{inSet, Found}
 use Rattle.leaves.specs.Fields.{firstField, fieldLength, FieldIs}
 use Rattle.leaves.specs.declared.Set.the-variants.{LineEnd, FieldEnd}
 use Rattle.leaves.proofs.Search.{all-at, upTo-found, upTo-is}
-use Rattle.leaves.proofs.Exprs.{unfit, fit, field-cut}
+use Rattle.leaves.proofs.Fields.{unfit, fit, field-cut}
 use Rattle.lines.specs.Cuts.{part, more}
 use Rattle.lines.specs.Rows.{kindNumbered, operandNumber, operandsNumber, tailNumber, fitsOperand, fitsTail}
 use Rattle.lines.specs.Spans.{EndsField, Span, firstFits, Fits, NextFit, operandsThen, OperandsRead, FieldsRead, formedAs}

@@ -20,7 +20,6 @@ use Rattle.rules.specs.Grammar.{Kind, form, kinds, kindOf, isFormed}
 use Rattle.rules.specs.Grammar.{Class, Field, Method, Requires, Ensures, Main, Var}
 use Rattle.rules.specs.Grammar.{Set, Let, New, Call, Return, Assert, Release, If, Else, Join, End}
 use Rattle.rules.proofs.Lists.{first-in, same-name}
-use Rattle.leaves.specs.Answers.{whenTrue}
 use Rattle.leaves.specs.Sets.{inSet, Found}
 use Rattle.leaves.specs.Words.{kindOr0}
 use Rattle.leaves.specs.declared.Set.the-variants.{LineEnd, FieldEnd}
@@ -31,7 +30,7 @@ use Rattle.tables.specs.Stores.{putByte, putHalf, Kept}
 use Rattle.tables.proofs.Bytes.{put-half-length, put-half-byte, half-put, half-kept}
 use Rattle.lines.specs.declared.Word.{Word}
 use Rattle.lines.specs.Cuts.{part}
-use Rattle.lines.specs.Rows.{formedKind}
+use Rattle.lines.specs.Rows.{whenTrue, formedKind}
 use Rattle.lines.specs.Table.{WordAt, lineEnd, startOf, most-lines, linePlace, wordIn, putLine, LineTable, Noted}
 use Rattle.lines.proofs.Cuts.{fields-from, no-more}
 use Rattle.lines.proofs.Rows.{kind-known}

@@ -1,7 +1,7 @@
 -- The rows of the grammar as numbers: kinds, operands, tails and stages.
-use mathlib.Core.Bool.{Bool, cond}
+use mathlib.Core.Bool.{Bool, true, false, cond}
 use mathlib.Core.List.{List, [], _∷_}
-use mathlib.Core.Option.{Option}
+use mathlib.Core.Option.{Option, none, some}
 use Prim.Native.Nat.{ℕ, _+_, _*_}
 use lib.Dec.{eqb}
 use lib.ListN.{getD, drop, length}
@@ -13,7 +13,6 @@ use Rattle.rules.specs.Grammar.{new, typeName, className, variable, member, exp
 use Rattle.rules.specs.Grammar.{classes, fields, methods, variables, read, assigned, field, method, nothing, condition, formula}
 use Rattle.rules.specs.Places.{stageNumber}
 use Rattle.leaves.specs.Words.{kindAt}
-use Rattle.leaves.specs.Answers.{whenTrue}
 use Rattle.lines.specs.declared.Row.{Row}
 
 -- the kind with a number; `end` where there is none
@@ -63,6 +62,11 @@ fitsOperand n w = cond (eqb n 11) (isExpr w) (isName w)
 
 unfoldable pub fitsTail : ℕ → List Name → Bool
 fitsTail n ws = cond (eqb n 0) (eqb (length ws) 0) (cond (eqb n 1) (isCondition ws) (isFormula most-atoms ws))
+
+-- a, if the test passes
+abbrev pub whenTrue : {A : Type 0} → Bool → A → Option A
+whenTrue true a = some a
+whenTrue false a = none
 
 -- the kind of a line with these fields, if they have its form
 unfoldable pub formedKind : List Name → Option Kind

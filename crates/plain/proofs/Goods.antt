@@ -20,7 +20,7 @@ use Rattle.rules.specs.Names.{isLocal, inScope, isInt, isClass, knownField, kno
 use Rattle.leaves.proofs.Search.{both-true, true-false}
 use Rattle.declare.specs.Declares.{lineWith}
 use Rattle.pass.specs.Passes.{isGood}
-use Rattle.declared.specs.Answers.{good}
+use Rattle.declared.specs.Types.{good}
 use Rattle.plain.specs.Plain.{setGood, newGood, callApart, callKnown, callAgrees, callGood, returnGood}
 
 -- FORM: a line of operands alone has as many fields

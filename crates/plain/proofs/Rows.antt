@@ -35,7 +35,7 @@ use Rattle.emit.proofs.Rows.{row-written, set-means, new-means, call-means, ret
 use Rattle.pass.specs.Passes.{counts}
 use Rattle.declare.specs.Texts.{SpanAfter}
 use Rattle.declare.specs.Declares.{lineWith}
-use Rattle.declared.specs.Answers.{good}
+use Rattle.declared.specs.Types.{good}
 use Rattle.atoms.proofs.Sides.{variable-small, field-small}
 use Rattle.plain.specs.Plain.{bare, setRow, newRow, callRow, returnRow, setGood, newGood, callApart, callKnown, callGood, returnGood}
 use Rattle.plain.proofs.Goods.{local-known}

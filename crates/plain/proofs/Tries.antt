@@ -15,7 +15,8 @@ use Rattle.declared.specs.declared.Span.{Span}
 use Rattle.declared.specs.declared.Member.{Member}
 use Rattle.declared.specs.Rows.{nameIn}
 use Rattle.declared.specs.Meanings.{declarationsIn, variablesIn}
-use Rattle.declared.specs.Answers.{Looked, MemberIs, typeOf}
+use Rattle.declared.specs.LookUps.{Looked, typeOf}
+use Rattle.declared.specs.Types.{MemberIs}
 use Rattle.declared.proofs.LookUps.{class-any, method-any}
 use Rattle.emit.specs.declared.Operands.{Operands}
 use Rattle.declare.specs.Texts.{SpanAfter}

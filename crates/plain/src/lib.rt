@@ -14,7 +14,7 @@ ghost use Rattle.rules.specs.Names.{isLocal, noDeclaration};
 ghost use Rattle.lines.specs.Cuts.{more};
 ghost use Rattle.declared.specs.Rows.{nameIn};
 ghost use Rattle.declared.specs.Meanings.{declarationsIn, variablesIn};
-ghost use Rattle.declared.specs.Answers.{Looked, typeOf};
+ghost use Rattle.declared.specs.LookUps.{Looked, typeOf};
 ghost use Rattle.plain.specs.Plain.{bare, setRow, newRow, callRow, returnRow, plainRow, setGood, newGood, callGood, returnGood, plainGood, RowTried, Ready, PlainFollows, PlainTried};
 
 // The row of a line, if the line is good.

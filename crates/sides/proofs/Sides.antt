@@ -36,7 +36,8 @@ use Rattle.declared.specs.declared.Span.{Span}
 use Rattle.declared.specs.declared.Lookup.{Lookup}
 use Rattle.declared.specs.Rows.{nameIn}
 use Rattle.declared.specs.Meanings.{declarationsIn, variablesIn}
-use Rattle.declared.specs.Answers.{good, Looked, LookIs, typeOf, typeMeant}
+use Rattle.declared.specs.LookUps.{Looked, typeOf}
+use Rattle.declared.specs.Types.{good, LookIs, typeMeant}
 use Rattle.rules.specs.Syntax.{Program}
 use Rattle.rules.specs.Reading.{withItem}
 use Rattle.emit.specs.Puts.{putAtom, putRow, RowBytes}

@@ -14,7 +14,8 @@ ghost use Rattle.rules.specs.Limits.{work-bytes, most-statements};
 ghost use Rattle.rules.specs.Grammar.{Let, If};
 ghost use Rattle.rules.specs.Names.{isLocal, agree};
 ghost use Rattle.declared.specs.Rows.{nameIn};
-ghost use Rattle.declared.specs.Answers.{typeOf, typeMeant};
+ghost use Rattle.declared.specs.LookUps.{typeOf};
+ghost use Rattle.declared.specs.Types.{typeMeant};
 ghost use Rattle.atoms.specs.Written.{Ready};
 ghost use Rattle.sides.specs.Sides.{oneRow, SideFollows, SideTried};
 

@@ -1,6 +1,6 @@
-use Rattle.declared.proofs.LookUps.{null-agrees, int-agrees}
+use Rattle.declared.proofs.Types.{null-agrees, int-agrees}
 use Rattle.declared.proofs.agree.Statement.{statement}
-use Rattle.declared.specs.Answers.{typeMeant}
+use Rattle.declared.specs.Types.{typeMeant}
 use borrow.Author.Needs.{needs}
 use Rattle.declared.proofs.agree.Tie as tie
 

@@ -1,6 +1,6 @@
 use Rattle.declared.proofs.Searches.{name-comm}
 use Rattle.declared.proofs.agree_named.Statement.{statement}
-use Rattle.declared.specs.Answers.{typeMeant}
+use Rattle.declared.specs.Types.{typeMeant}
 use Rattle.rules.specs.Base.{is}
 use Rattle.rules.specs.Names.{agree}
 use borrow.Author.Needs.{needs}

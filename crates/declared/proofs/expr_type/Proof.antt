@@ -1,6 +1,6 @@
 use Rattle.declared.proofs.Exprs.{read-num, read-null, read-var, read-path, numeral-num, stop-within}
 use Rattle.declared.proofs.expr_type.Statement.{statement}
-use Rattle.declared.specs.Answers.{typeMeant}
+use Rattle.declared.specs.Types.{typeMeant}
 use Rattle.rules.specs.Names.{exprType}
 use borrow.Author.Needs.{needs}
 use lib.Seq.{length-take-le}

@@ -1,5 +1,5 @@
 use Rattle.declared.proofs.is_int_type.Statement.{statement}
-use Rattle.declared.specs.Answers.{isIntType}
+use Rattle.declared.specs.Types.{isIntType}
 use borrow.Author.Needs.{needs}
 use Rattle.declared.proofs.is_int_type.Tie as tie
 

@@ -1,6 +1,6 @@
 use mathlib.Core.Path.{sym, _∙_}
 use borrow.Author.Tests.{lt-ltb, le-ltb}
-use Rattle.declared.specs.Answers.{mayName}
+use Rattle.declared.specs.Types.{mayName}
 use borrow.Author.Needs.{needs}
 use Rattle.declared.proofs.is_member.Statement.{statement}
 use Rattle.declared.proofs.is_member.Tie as tie

@@ -1,6 +1,6 @@
 use Rattle.declared.proofs.LookUps.{new-among}
 use Rattle.declared.proofs.is_new.Statement.{statement}
-use Rattle.declared.specs.Answers.{isNew}
+use Rattle.declared.specs.LookUps.{isNew}
 use borrow.Author.Needs.{needs}
 use mathlib.Core.Path.{sym, _∙_}
 use Rattle.declared.proofs.is_new.Tie as tie

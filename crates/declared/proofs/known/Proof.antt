@@ -1,5 +1,6 @@
 use Rattle.declared.proofs.known.Statement.{statement}
-use Rattle.declared.specs.Answers.{operandMeant, isNew, fieldKnown, methodKnown}
+use Rattle.declared.specs.LookUps.{isNew}
+use Rattle.declared.specs.Tests.{operandMeant, fieldKnown, methodKnown}
 use Rattle.declared.specs.Meanings.{scopeIn}
 use Rattle.rules.specs.Grammar.{isOperand}
 use Rattle.rules.specs.Names.{known, knownField, knownMethod, isInt}

@@ -1,6 +1,6 @@
 use Rattle.declared.proofs.LookUps.{field-any}
 use Rattle.declared.proofs.known_field.Statement.{statement}
-use Rattle.declared.specs.Answers.{fieldKnown}
+use Rattle.declared.specs.Tests.{fieldKnown}
 use borrow.Author.Needs.{needs}
 use mathlib.Core.Path.{sym, _∙_}
 use Rattle.declared.proofs.known_field.Tie as tie

@@ -1,6 +1,6 @@
 use Rattle.declared.proofs.LookUps.{method-any}
 use Rattle.declared.proofs.known_method.Statement.{statement}
-use Rattle.declared.specs.Answers.{methodKnown}
+use Rattle.declared.specs.Tests.{methodKnown}
 use borrow.Author.Needs.{needs}
 use mathlib.Core.Path.{sym, _∙_}
 use Rattle.declared.proofs.known_method.Tie as tie

@@ -1,5 +1,5 @@
 use Rattle.declared.proofs.known_path.Statement.{statement}
-use Rattle.declared.specs.Answers.{fieldKnown}
+use Rattle.declared.specs.Tests.{fieldKnown}
 use Rattle.rules.specs.Names.{knownExpr, knownField, isInt}
 use borrow.Author.Needs.{needs}
 use borrow.Author.Tests.{lt-ltb, le-ltb}

@@ -4,7 +4,7 @@ use lib.Seq.{length-take-le}
 use Rattle.rules.specs.Names.{exprType, knownExpr, ofClassIn}
 use Rattle.rules.specs.Items.{resolveExpr}
 use Rattle.tables.specs.Stores.{meaning}
-use Rattle.declared.specs.Answers.{typeMeant, good}
+use Rattle.declared.specs.Types.{typeMeant, good}
 use Rattle.declared.proofs.Exprs.{read-num, read-null, read-var, read-path, stop-within}
 use borrow.Author.Needs.{needs}
 use Rattle.declared.proofs.look.Statement.{statement}

@@ -1,5 +1,5 @@
 use mathlib.Core.Path.{_∙_}
-use Rattle.declared.proofs.LookUps.{path-type, path-good}
+use Rattle.declared.proofs.Types.{path-type, path-good}
 use borrow.Author.Needs.{needs}
 use Rattle.declared.proofs.look_path.Statement.{statement}
 use Rattle.declared.proofs.look_path.Tie as tie

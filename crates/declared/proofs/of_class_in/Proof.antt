@@ -1,7 +1,7 @@
 use Rattle.declared.proofs.Exprs.{read-num, read-null, read-var, read-path, numeral-num, stop-within}
 use Rattle.declared.proofs.of_class_in.Statement.{statement}
 use Rattle.leaves.proofs.Expr.{the-type}
-use Rattle.leaves.specs.Answers.{Reads}
+use Rattle.leaves.specs.Expressions.{Reads}
 use Rattle.leaves.specs.declared.Expr.{Expr}
 use Rattle.leaves.specs.declared.Expr.the-variants.{Num, Null, Var, Path}
 use Rattle.rules.specs.Base.{Name}

@@ -4,7 +4,7 @@ use Rattle.rules.specs.Syntax.{path}
 use Rattle.rules.specs.Names.{exprType}
 use Rattle.rules.specs.Items.{resolveExpr}
 use Rattle.tables.specs.Stores.{meaning}
-use Rattle.declared.specs.Answers.{typeMeant}
+use Rattle.declared.specs.Types.{typeMeant}
 use borrow.Author.Needs.{needs}
 use Rattle.declared.proofs.path_look.Statement.{statement}
 use Rattle.declared.proofs.path_look.Tie as tie

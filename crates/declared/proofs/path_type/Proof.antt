@@ -1,5 +1,5 @@
 use Rattle.declared.proofs.path_type.Statement.{statement}
-use Rattle.declared.specs.Answers.{typeMeant}
+use Rattle.declared.specs.Types.{typeMeant}
 use Rattle.rules.specs.Names.{exprType}
 use borrow.Author.Needs.{needs}
 use mathlib.Core.Option.{some}

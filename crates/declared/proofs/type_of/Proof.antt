@@ -1,5 +1,5 @@
 use Rattle.declared.proofs.type_of.Statement.{statement}
-use Rattle.declared.specs.Answers.{typeOf}
+use Rattle.declared.specs.LookUps.{typeOf}
 use borrow.Author.Needs.{needs}
 use borrow.Author.Tests.{eq-eqb, ne-eqb}
 use mathlib.Core.Path.{_∙_}

@@ -4,7 +4,7 @@ use Rattle.rules.specs.Syntax.{var}
 use Rattle.rules.specs.Names.{exprType, knownExpr, ofClassIn}
 use Rattle.rules.specs.Items.{resolveExpr}
 use Rattle.tables.specs.Stores.{meaning}
-use Rattle.declared.specs.Answers.{typeMeant, good}
+use Rattle.declared.specs.Types.{typeMeant, good}
 use Rattle.declared.proofs.LookUps.{and-true, looked-type}
 use borrow.Author.Needs.{needs}
 use Rattle.declared.proofs.var_look.Statement.{statement}

@@ -1,6 +1,6 @@
 use Rattle.declared.proofs.LookUps.{looked-this, looked-on}
 use Rattle.declared.proofs.variable.Statement.{statement}
-use Rattle.declared.specs.Answers.{ownIn}
+use Rattle.declared.specs.LookUps.{ownIn}
 use Rattle.declared.specs.Meanings.{variablesIn, blockIn, ownVariables}
 use Rattle.rules.specs.Base.{bytes}
 use borrow.Author.Needs.{needs}

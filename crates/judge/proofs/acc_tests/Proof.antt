@@ -1,6 +1,6 @@
 -- `judge::acc_tests` meets its contract: the two fields of `acc`. Assumes nothing.
 use Rattle.rules.specs.Grammar.{isOperand}
-use Rattle.declared.specs.Answers.{operandMeant}
+use Rattle.declared.specs.Tests.{operandMeant}
 use mathlib.Core.Path.{_∙_}
 use borrow.Author.Needs.{needs}
 use Rattle.judge.proofs.acc_tests.Statement.{statement}

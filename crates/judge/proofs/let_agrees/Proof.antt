@@ -5,7 +5,7 @@ use Rattle.rules.specs.Scope.{operand}
 use Rattle.rules.specs.Names as Rules
 use Rattle.judge.specs.Tests.{sidesIn}
 use Rattle.judge.proofs.Sides.{sides-of}
-use Rattle.declared.specs.Answers.{typeMeant}
+use Rattle.declared.specs.Types.{typeMeant}
 use borrow.Author.Needs.{needs}
 use Rattle.judge.proofs.let_agrees.Statement.{statement}
 use Rattle.judge.proofs.let_agrees.Tie as tie

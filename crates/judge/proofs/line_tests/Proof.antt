@@ -4,7 +4,7 @@ use borrow.Author.Needs.{needs}
 use mathlib.Core.Path.{_∙_, sym, refl}
 use Rattle.rules.specs.Grammar.{form}
 use Rattle.lines.specs.Rows.{kindNumbered, rowOf}
-use Rattle.declared.specs.Answers.{operandMeant}
+use Rattle.declared.specs.Tests.{operandMeant}
 use Rattle.judge.specs.Tests.{lineAfter, lineTests}
 use Rattle.judge.proofs.Laws.{Rest, operand-bounds, same-operand, operands-start, operand-at, operands-done}
 use Rattle.judge.proofs.line_tests.Statement.{statement}

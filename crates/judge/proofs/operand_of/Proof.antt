@@ -1,6 +1,6 @@
 -- `judge::operand_of` meets its contract: number by number. Assumes nothing.
 use Rattle.lines.specs.Rows.{operandNumber}
-use Rattle.declared.specs.Answers.{operandMeant}
+use Rattle.declared.specs.Tests.{operandMeant}
 use mathlib.Core.Path.{sym}
 use native.Mathlib.Omega.{arith}
 use Rattle.lines.proofs.Rows.{passed}

@@ -1,4 +1,4 @@
-use Rattle.leaves.specs.Answers.{beginsName}
+use Rattle.leaves.specs.Names.{beginsName}
 use borrow.Author.Needs.{needs}
 use borrow.Author.Tests.{le-leb, lt-leb}
 use Rattle.leaves.proofs.begins_name.Statement.{statement}

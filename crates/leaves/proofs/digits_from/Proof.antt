@@ -1,7 +1,7 @@
 -- The invariant: the digits read so far.
 use Prim.Native.Nat.{_+_, _-_, _<_}
 use Rattle.leaves.proofs.Numbers.{begun-small, begun-on, begun-ends, digit-is}
-use Rattle.leaves.specs.Answers.{Begun}
+use Rattle.leaves.specs.Numbers.{Begun}
 use borrow.Author.Tests.{not-true, not-false}
 use lib.ListN.{length, take, drop, length-take, length-drop}
 use mathlib.Core.Path.{sym, _∙_}

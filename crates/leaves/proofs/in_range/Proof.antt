@@ -1,4 +1,4 @@
-use Rattle.leaves.specs.Answers.{inRange}
+use Rattle.leaves.specs.Numbers.{inRange}
 use Rattle.rules.specs.Base.{between}
 use borrow.Author.Tests.{le-leb, lt-leb, not-true, not-false}
 use Rattle.leaves.proofs.in_range.Statement.{statement}

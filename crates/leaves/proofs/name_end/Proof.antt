@@ -2,7 +2,8 @@ use borrow.Author.Needs.{needs}
 use borrow.Author.Tests.{lt-leb, not-true, not-false}
 use mathlib.Core.Path.{sym, ap, _∙_}
 use Rattle.rules.specs.Text.{letter, isName}
-use Rattle.leaves.proofs.Exprs.{field-fails, no-letter-at, not-begun, ends-name, no-name-at}
+use Rattle.leaves.proofs.Fields.{field-fails}
+use Rattle.leaves.proofs.Exprs.{no-letter-at, not-begun, ends-name, no-name-at}
 use Rattle.leaves.proofs.name_end.Statement.{statement}
 use Rattle.leaves.proofs.name_end.Tie as tie
 

@@ -1,4 +1,4 @@
-use Rattle.leaves.proofs.Exprs.{field-passes, field-fails}
+use Rattle.leaves.proofs.Fields.{field-passes, field-fails}
 use Rattle.leaves.proofs.NumberFields.{digits-within, written, written-end}
 use Rattle.leaves.proofs.Numbers.{sign-within}
 use Rattle.rules.specs.Text.{isNumber}

@@ -1,4 +1,5 @@
-use Rattle.leaves.proofs.Exprs.{ended-at, goes-beyond, no-begin-at, whole-at, sign-at, path-at, path-ends, field-passes, field-fails}
+use Rattle.leaves.proofs.Fields.{goes-beyond, field-passes, field-fails}
+use Rattle.leaves.proofs.Exprs.{ended-at, no-begin-at, whole-at, sign-at, path-at, path-ends}
 use Rattle.rules.specs.Text.{isExpr}
 use borrow.Author.Needs.{needs}
 use borrow.Author.Tests.{not-true, not-false}

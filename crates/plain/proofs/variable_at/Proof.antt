@@ -1,7 +1,7 @@
 -- `plain::variable_at` meets its contract. Assumes nothing.
 use mathlib.Core.Path.{subst}
 use Rattle.declared.specs.Meanings.{variablesIn}
-use Rattle.declared.specs.Answers.{Looked}
+use Rattle.declared.specs.LookUps.{Looked}
 use borrow.Author.Needs.{needs}
 use Rattle.plain.proofs.variable_at.Statement.{statement}
 use Rattle.plain.proofs.variable_at.Tie as tie

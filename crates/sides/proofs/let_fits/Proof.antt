@@ -2,7 +2,7 @@
 use native.Mathlib.Omega.{arith}
 use borrow.Author.Tests.{not-true, not-false, le-leb, lt-leb, le-ltb, lt-ltb}
 use Rattle.rules.specs.Names.{isLocal}
-use Rattle.declared.specs.Answers.{typeMeant}
+use Rattle.declared.specs.Types.{typeMeant}
 use borrow.Author.Needs.{needs}
 use Rattle.sides.proofs.let_fits.Statement.{statement}
 use Rattle.sides.proofs.let_fits.Tie as tie

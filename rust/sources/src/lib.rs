@@ -1,0 +1,166 @@
+//! The sources of the proved crates as text: what each file declares, imports and names.
+//!
+//! The tests of this crate hold the sources to what no prover asks: nothing stands there that nobody uses, and every line can
+//! be read. Names go by module: a name counts as used by another file only if that file imports it.
+
+use std::collections::{BTreeMap, BTreeSet};
+use std::fs;
+use std::path::{Path, PathBuf};
+
+mod declared;
+mod imports;
+
+pub use declared::{declarations, Declaration};
+pub use imports::{imports, Import};
+
+/// Names that open all others of their file, so that standing there is no use.
+const UMBRELLAS: [&str; 2] = ["opened", "computing"];
+
+/// One file below `crates/`.
+pub struct Source {
+    pub path: PathBuf,
+    pub crate_name: String,
+    /// The path within the crate, as `specs/Base.antt`.
+    pub place: String,
+    pub text: String,
+}
+
+impl Source {
+    /// The module that other files import: `specs.Base`, `proofs.Lists`.
+    pub fn module(&self) -> Option<String> {
+        let stem = self.place.strip_suffix(".antt")?;
+        Some(stem.replace('/', "."))
+    }
+
+    pub fn is_answer(&self) -> bool {
+        self.place.ends_with("/Proof.antt")
+    }
+
+    pub fn is_code(&self) -> bool {
+        self.place.ends_with(".rt")
+    }
+}
+
+/// The repository's root.
+pub fn root() -> PathBuf {
+    Path::new(env!("CARGO_MANIFEST_DIR")).join("../..")
+}
+
+fn files(folder: &Path, found: &mut Vec<PathBuf>) {
+    let mut entries: Vec<_> = fs::read_dir(folder)
+        .unwrap_or_else(|error| panic!("{}: {error}", folder.display()))
+        .map(|entry| entry.expect("an entry").path())
+        .collect();
+    entries.sort();
+    for path in entries {
+        if path.is_dir() {
+            files(&path, found);
+        } else {
+            found.push(path);
+        }
+    }
+}
+
+/// Every source below `crates/`.
+pub fn sources() -> Vec<Source> {
+    let top = root().join("crates");
+    let mut found = Vec::new();
+    files(&top, &mut found);
+    found
+        .into_iter()
+        .filter(|path| {
+            path.extension()
+                .is_some_and(|end| end == "antt" || end == "rt")
+        })
+        .map(|path| {
+            let inner = path.strip_prefix(&top).expect("below crates/");
+            let inner = inner.to_str().expect("a plain name").to_string();
+            let (crate_name, place) = inner.split_once('/').expect("a crate's file");
+            let text = fs::read_to_string(&path).expect("a readable file");
+            Source {
+                crate_name: crate_name.to_string(),
+                place: place.to_string(),
+                text,
+                path,
+            }
+        })
+        .collect()
+}
+
+/// A line without its comment.
+pub fn code(line: &str, is_code: bool) -> &str {
+    let mark = if is_code { "//" } else { "--" };
+    match line.find(mark) {
+        Some(at) if at == 0 || line[..at].ends_with([' ', '(']) => &line[..at],
+        _ => line,
+    }
+}
+
+/// The words of a line: what stands between blanks, brackets and points.
+pub fn words(line: &str) -> impl Iterator<Item = &str> {
+    line.split(|c: char| c.is_whitespace() || "()[]{},;:.!\"`⌜⌝⟦⟧«»⟨⟩".contains(c))
+        .map(|word| match word.trim_start_matches('&') {
+            "" => word,
+            lent => lent,
+        })
+        .filter(|word| !word.is_empty())
+}
+
+/// The words by which a declared name is used: of an infix one, its signs.
+pub fn signs(name: &str) -> Vec<&str> {
+    let parts: Vec<_> = name.split('_').filter(|part| !part.is_empty()).collect();
+    let infix = name.starts_with('_') || name.ends_with('_');
+    if infix && !parts.is_empty() {
+        parts
+    } else {
+        vec![name]
+    }
+}
+
+/// The words of a file, each with the declarations in whose text it stands.
+pub struct Uses {
+    by_word: BTreeMap<String, BTreeSet<usize>>,
+}
+
+/// The place in the text that belongs to no declaration.
+const NOWHERE: usize = usize::MAX;
+
+impl Uses {
+    pub fn of(source: &Source, declared: &[Declaration]) -> Uses {
+        let mut by_word: BTreeMap<String, BTreeSet<usize>> = BTreeMap::new();
+        let imported = imports(&source.text);
+        for (number, line) in source.text.lines().enumerate() {
+            if imported.iter().any(|import| import.covers(number)) {
+                continue;
+            }
+            let owner = declared
+                .iter()
+                .rposition(|one| one.first <= number && number < one.end)
+                .unwrap_or(NOWHERE);
+            for word in words(code(line, source.is_code())) {
+                by_word.entry(word.to_string()).or_default().insert(owner);
+            }
+        }
+        Uses { by_word }
+    }
+
+    /// Does the word stand outside the text of the declaration with this number and of umbrellas?
+    fn has(&self, word: &str, declared: &[Declaration], but: Option<usize>) -> bool {
+        let umbrella = |owner: &usize| {
+            declared
+                .get(*owner)
+                .is_some_and(|one| UMBRELLAS.contains(&one.name.as_str()))
+        };
+        self.by_word.get(word).is_some_and(|owners| {
+            owners
+                .iter()
+                .any(|owner| Some(*owner) != but && !umbrella(owner))
+        })
+    }
+
+    /// Does the file use the name there, whole or by its signs?
+    pub fn names(&self, name: &str, declared: &[Declaration], but: Option<usize>) -> bool {
+        let by_signs = signs(name);
+        self.has(name, declared, but) || by_signs.iter().all(|sign| self.has(sign, declared, but))
+    }
+}

@@ -1,0 +1,47 @@
+//! Every file says what it is for, and every line can be read.
+
+use sources::sources;
+
+/// The most characters of a line.
+const MOST: usize = 400;
+
+#[test]
+fn no_line_is_too_long() {
+    let long: Vec<_> = sources()
+        .iter()
+        .flat_map(|source| {
+            source
+                .text
+                .lines()
+                .enumerate()
+                .filter_map(|(number, line)| {
+                    let length = line.chars().count();
+                    (length > MOST)
+                        .then(|| format!("{}:{}: {length}", source.path.display(), number + 1))
+                })
+        })
+        .collect();
+    assert!(
+        long.is_empty(),
+        "over {MOST} characters\n{}",
+        long.join("\n")
+    );
+}
+
+#[test]
+fn every_file_says_what_it_is_for() {
+    let silent: Vec<_> = sources()
+        .iter()
+        .filter(|source| source.place != "specs/Lib.antt" && source.place != "proofs/Lib.antt")
+        .filter(|source| {
+            let mark = if source.is_code() { "//" } else { "--" };
+            !source.text.trim().is_empty() && !source.text.starts_with(mark)
+        })
+        .map(|source| source.path.display().to_string())
+        .collect();
+    assert!(
+        silent.is_empty(),
+        "no comment at the head of\n{}",
+        silent.join("\n")
+    );
+}
