@@ -10,7 +10,7 @@ use Rattle.rules.specs.declared.Machine.{Machine}
 use Rattle.tables.specs.Decode.{methodCount, requiresAt, ensuresAt, firstRowAt}
 use Rattle.stores.specs.declared.Fault.{Fault}
 use Rattle.steps.specs.declared.Turn.{Turn}
-use Rattle.stores.specs.Views.{methodOf, marked, takeIn, viewOf, nextView, SmallCells, Readable, stopOf}
+use Rattle.stores.specs.Views.{footprint-cells, methodOf, marked, takeIn, viewOf, nextView, SmallCells, Readable, stopOf}
 use Rattle.steps.specs.States.{Ready}
 
 -- back in the caller, which holds by this number
@@ -63,8 +63,8 @@ larger c n steps =
 pub record Leaving (w : List ℕ) (c : Machine) (cells : List ℕ) (n : ℕ) : Type 0 where
   pub ready : Ready w c
   pub inner : c .frames ≡ 1 → ⊥
-  pub size : length cells ≡ 8
-  pub count : n ≤ 8
+  pub size : length cells ≡ footprint-cells
+  pub count : n ≤ footprint-cells
   pub took : takeIn w (viewOf c) (ensuresAt w (methodOf w (c .frames - 1))) [] ≡ ok (take n cells)
 
 -- `call`: requires took these cells
@@ -73,8 +73,8 @@ pub record Entering (w : List ℕ) (c : Machine) (method : ℕ) (cells : List �
   pub method-fits : method < most-methods
   pub more : c .steps < 4294967295
   pub numbers : c .holders < 4294967295
-  pub size : length cells ≡ 8
-  pub count : n ≤ 8
+  pub size : length cells ≡ footprint-cells
+  pub count : n ≤ footprint-cells
   pub small : SmallCells (take n cells)
 
 -- requires takes cells, and the call is entered; or it does not, and nothing is changed

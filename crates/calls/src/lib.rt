@@ -1,5 +1,6 @@
 use rules::Machine;
 use steps::Turn;
+use stores::Cells;
 use stores::Fault;
 use stores::Took;
 use stores::View;
@@ -30,7 +31,7 @@ fn back_in(c: Machine, holder: u32, row: u32) -> Machine
 }
 
 // The caller goes on with the cells that ensures took, and its x is the result.
-fn leave(work: &mut [u8], c: Machine, cells: &[usize; 8], n: usize) -> Turn
+fn leave(work: &mut [u8], c: Machine, cells: &Cells, n: usize) -> Turn
     requires { ⌜ Leaving (now work) c (now cells) n ⌝ }
     ensures { λ r. ⌜ Does (now (work .entry)) c (now (work .exit)) r (λ m. endStep (programIn (now (work .entry))) m (m .callers)) ⌝ }
 {
@@ -38,7 +39,7 @@ fn leave(work: &mut [u8], c: Machine, cells: &[usize; 8], n: usize) -> Turn
     let at = Layout::FRAMES + i * Layout::FRAME_BYTES;
     let holder = stores::saved_holder(work, i);
     let row = stores::saved_row(work, i);
-    let result = stores::variable(work, at + Layout::FRAME_BYTES, 14);
+    let result = stores::variable(work, at + Layout::FRAME_BYTES, stores::RESULT);
     let x = tables::x_at(work, row);
     stores::mark(work, cells, n, holder);
     tables::put_word(work, at + x * 4, result);
@@ -58,7 +59,7 @@ pub fn end_step(work: &mut [u8], c: Machine) -> Turn
     let m = stores::method_of(work, i);
     let first = tables::ensures_first(work, m);
     let n = tables::ensures_count(work, m);
-    let mut cells = [0usize; 8];
+    let mut cells = [0usize; stores::CELLS];
     match stores::footprint(work, v, first, n, &mut cells) {
         Took::Cells(k) => leave(work, c, &cells, k),
         Took::Lacking(s) => Turn::Stopped(s),
@@ -82,11 +83,11 @@ fn call_in(c: Machine, row: u32) -> Machine
 }
 
 // "the new frame's A is the footprint of requires": after it frames full.
-fn enter(work: &mut [u8], c: Machine, m: usize, cells: &[usize; 8], n: usize) -> Turn
+fn enter(work: &mut [u8], c: Machine, m: usize, cells: &Cells, n: usize) -> Turn
     requires { ⌜ Entering (now work) c m (now cells) n ⌝ }
     ensures { λ r. ⌜ Enters (now (work .entry)) c m (take n (now (cells .entry))) (now (work .exit)) r ⌝ }
 {
-    if 64 <= c.frames {
+    if Machine::FRAMES as u32 <= c.frames {
         return Turn::Stopped(Fault::FramesFull);
     }
     let row = tables::first_row_at(work, m);
@@ -107,7 +108,7 @@ fn admit(work: &mut [u8], c: Machine, m: usize) -> Turn
     };
     let first = tables::requires_first(work, m);
     let n = tables::requires_count(work, m);
-    let mut cells = [0usize; 8];
+    let mut cells = [0usize; stores::CELLS];
     match stores::footprint(work, v, first, n, &mut cells) {
         Took::Cells(k) => enter(work, c, m, &cells, k),
         Took::Lacking(s) => Turn::Stopped(s),

@@ -13,8 +13,7 @@ use Rattle.rules.specs.Limits.{most-statements, values-shown}
 use Rattle.rules.specs.Base.{any}
 use Rattle.rules.specs.Answers as Answers
 use Rattle.rules.specs.Syntax.{Row, Program}
-use Rattle.rules.specs.Machine.{Frame, Location, Config, Step, on, holds, among, fieldsOf, object, valueOf, entryValues, mainFrame, ends, goOn, step, run, start, runProgram}
-use Rattle.rules.specs.Calls.{wholeHeap}
+use Rattle.rules.specs.Machine.{Frame, Location, Config, Step, Room, on, holds, among, fieldsOf, object, valueOf, entryValues, mainFrame, ends, goOn, step, run, start, runProgram}
 use Rattle.rules.specs.Counters.{freshMachine}
 use Rattle.rules.specs.declared.Machine.{Machine}
 use Rattle.tables.specs.Layout.{frame-variables, frames-at}
@@ -58,15 +57,15 @@ entry-size = refl
 
 module _ (w : List ℕ) (tables : Tables w) where
   begun : List ℕ
-  begun = fill w frames-at 15 0
+  begun = fill w frames-at frame-variables 0
 
-  pub begin-tables : SameTables w (fill w frames-at 15 0)
-  begin-tables = only-tables (only-fill frames-at (frames-at + 60) w frames-at 15 0 (omega arith) (omega arith)) (omega arith)
+  pub begin-tables : SameTables w (fill w frames-at frame-variables 0)
+  begin-tables = only-tables (only-fill frames-at (frames-at + 60) w frames-at frame-variables 0 (omega arith) (omega arith)) (omega arith)
 
-  pub begins : Represents (fill w frames-at 15 0) (freshMachine (mainFirst w)) (start (programIn w))
+  pub begins : Represents (fill w frames-at frame-variables 0) (freshMachine (mainFirst w)) (start (programIn w))
   unfolding start programIn CallersAre fieldsOf holds among any valueOf variableAt
   begins =
-      let w′ : List ℕ = fill w frames-at 15 0 in
+      let w′ : List ℕ = fill w frames-at frame-variables 0 in
       record {
         tables = tables-same w w′ begin-tables tables;
         heap =
@@ -86,7 +85,7 @@ module _ (w : List ℕ) (tables : Tables w) where
         frame =
             record {
               size = entry-size;
-              values = λ x l. zero-values x l ∙ sym (fill-word w frames-at 15 0 x (omega (arith, tables .size)) (omega arith) l);
+              values = λ x l. zero-values x l ∙ sym (fill-word w frames-at frame-variables 0 x (omega (arith, tables .size)) (omega arith) l);
               row-is = refl;
               row-fits = omega (arith, tables .main-fits .0, rows-count-same w w′ begin-tables);
               held = λ p. sym (ap (λ (i : ℕ). eqb i 1) (nobody w′ p));
@@ -149,39 +148,39 @@ ends-are {w} {c} {m} R e n =
     }
 
 -- THE LOOP
-pub record Going (w₀ w : List ℕ) (k : ℕ) (c : Machine) : Type 0 where
+pub record Going (room : Room) (w₀ w : List ℕ) (k : ℕ) (c : Machine) : Type 0 where
   pub tables : Tables w₀
   pub same : SameTables w₀ w
   pub state : Config
   pub represents : Represents w c state
   pub within : c .steps ≤ k
-  pub is-run : run wholeHeap (programIn w₀) (k - c .steps) (c .steps) state ≡ runProgram wholeHeap (programIn w₀) k
+  pub is-run : run room (programIn w₀) (k - c .steps) (c .steps) state ≡ runProgram room (programIn w₀) k
 
-pub going : (w w′ : List ℕ) (k : ℕ) (c : Machine) → Tables w → c ≡ freshMachine (mainFirst w) → w′ ≡ fill w frames-at 15 0 → Going w′ w′ k c
+pub going : (room : Room) (w w′ : List ℕ) (k : ℕ) (c : Machine) → Tables w → c ≡ freshMachine (mainFirst w) → w′ ≡ fill w frames-at frame-variables 0 → Going room w′ w′ k c
 unfolding runProgram
-going w w′ k c t q p =
-    subst (λ (u : List ℕ). Going u u k c) (sym p)
-    (subst (λ (d : Machine). Going (fill w frames-at 15 0) (fill w frames-at 15 0) k d) (sym q)
+going room w w′ k c t q p =
+    subst (λ (u : List ℕ). Going room u u k c) (sym p)
+    (subst (λ (d : Machine). Going room (fill w frames-at frame-variables 0) (fill w frames-at frame-variables 0) k d) (sym q)
     (record {
       tables = begins w t .tables;
-      same = same-refl (fill w frames-at 15 0);
-      state = start (programIn (fill w frames-at 15 0));
+      same = same-refl (fill w frames-at frame-variables 0);
+      state = start (programIn (fill w frames-at frame-variables 0));
       represents =
-          subst (λ (P : Program). Represents (fill w frames-at 15 0) (freshMachine (mainFirst w)) (start P))
-          (sym (program-same w (fill w frames-at 15 0) (begin-tables w t) t)) (begins w t);
+          subst (λ (P : Program). Represents (fill w frames-at frame-variables 0) (freshMachine (mainFirst w)) (start P))
+          (sym (program-same w (fill w frames-at frame-variables 0) (begin-tables w t) t)) (begins w t);
       within = omega arith;
       is-run = let e : k - 0 ≡ k = omega arith in rw e;
     }))
 
 -- what holds from the first state on holds from the tables on
 pub from-tables :
-    {w w₀ w′ : List ℕ} {k : ℕ} {r : Ran} → Tables w → w₀ ≡ fill w frames-at 15 0 → RanAs w₀ k w′ r → RanAs w k w′ r
-from-tables {w} {w₀} {w′} {k} {r} t p A =
-    let B : RanAs (fill w frames-at 15 0) k w′ r = subst (λ (u : List ℕ). RanAs u k w′ r) p A in
+    {room : Room} {w w₀ w′ : List ℕ} {k : ℕ} {r : Ran} → Tables w → w₀ ≡ fill w frames-at frame-variables 0 → RanAs room w₀ k w′ r → RanAs room w k w′ r
+from-tables {room} {w} {w₀} {w′} {k} {r} t p A =
+    let B : RanAs room (fill w frames-at frame-variables 0) k w′ r = subst (λ (u : List ℕ). RanAs room u k w′ r) p A in
     record {
       tables = same-trans (begin-tables w t) (B .tables);
       outcome =
-          ap (λ (P : Program). runProgram wholeHeap P k) (sym (program-same w (fill w frames-at 15 0) (begin-tables w t) t)) ∙ B .outcome;
+          ap (λ (P : Program). runProgram room P k) (sym (program-same w (fill w frames-at frame-variables 0) (begin-tables w t) t)) ∙ B .outcome;
     }
 
 -- a step's answer, known
@@ -189,7 +188,7 @@ pub does-answer :
     {w w′ : List ℕ} {c : Machine} {r t : Turn} {f : Config → Step} → r ≡ t → Does w c w′ r f → Does w c w′ t f
 does-answer {w} {w′} {c} {r} {t} {f} e D = subst (λ (u : Turn). Does w c w′ u f) e D
 
-module _ {w₀ w : List ℕ} {k : ℕ} {c : Machine} (G : Going w₀ w k c) where
+module _ {room : Room} {w₀ w : List ℕ} {k : ℕ} {c : Machine} (G : Going room w₀ w k c) where
   program-is : programIn w ≡ programIn w₀
   program-is = program-same w₀ w (G .same) (G .tables)
 
@@ -200,16 +199,16 @@ module _ {w₀ w : List ℕ} {k : ℕ} {c : Machine} (G : Going w₀ w k c) wher
   at-row = (G .represents .tables .size, omega (arith, G .represents .frame .row-fits, G .represents .tables .rows))
 
   -- one step of the run
-  one : (l : c .steps < k) → run wholeHeap (programIn w₀) (k - c .steps) (c .steps) (G .state)
-      ≡ goOn (programIn w₀) (step wholeHeap (programIn w) (G .state)) (c .steps) (G .state) (λ m′. run wholeHeap (programIn w₀) (k - (c .steps + 1)) (suc (c .steps)) m′)
+  one : (l : c .steps < k) → run room (programIn w₀) (k - c .steps) (c .steps) (G .state)
+      ≡ goOn (programIn w₀) (step room (programIn w) (G .state)) (c .steps) (G .state) (λ m′. run room (programIn w₀) (k - (c .steps + 1)) (suc (c .steps)) m′)
   unfolding run
   one l = let e : k - c .steps ≡ suc (k - (c .steps + 1)) = omega arith in rw (e, program-is)
 
   pub goes-on :
-      {w′ : List ℕ} {d : Machine} → c .steps < k → Does w c w′ (Turn.On d) (step wholeHeap (programIn w)) → Going w₀ w′ k d
+      {w′ : List ℕ} {d : Machine} → c .steps < k → Does w c w′ (Turn.On d) (step room (programIn w)) → Going room w₀ w′ k d
   unfolding goOn
   goes-on {w′} {d} l D =
-      let N : Goes w′ c d (step wholeHeap (programIn w) (G .state)) = D .follows (G .state) (G .represents) in
+      let N : Goes w′ c d (step room (programIn w) (G .state)) = D .follows (G .state) (G .represents) in
       record {
         tables = G .tables;
         same = same-trans (G .same) (D .tables);
@@ -219,21 +218,21 @@ module _ {w₀ w : List ℕ} {k : ℕ} {c : Machine} (G : Going w₀ w k c) wher
         is-run =
             rw (N .counted)
             (let e : c .steps + 1 ≡ suc (c .steps) = add-one (c .steps) in
-            ap (λ (i : ℕ). run wholeHeap (programIn w₀) (k - (c .steps + 1)) i (N .next)) e
-            ∙ (sym (ap (λ (s : Step). goOn (programIn w₀) s (c .steps) (G .state) (λ m′. run wholeHeap (programIn w₀) (k - (c .steps + 1)) (suc (c .steps)) m′)) (N .is-next))
+            ap (λ (i : ℕ). run room (programIn w₀) (k - (c .steps + 1)) i (N .next)) e
+            ∙ (sym (ap (λ (s : Step). goOn (programIn w₀) s (c .steps) (G .state) (λ m′. run room (programIn w₀) (k - (c .steps + 1)) (suc (c .steps)) m′)) (N .is-next))
             ∙ (sym (one l) ∙ G .is-run)));
       }
 
   pub goes-less :
-      {w′ : List ℕ} {d : Machine} → c .steps < k → Does w c w′ (Turn.On d) (step wholeHeap (programIn w)) → k - d .steps < k - c .steps
+      {w′ : List ℕ} {d : Machine} → c .steps < k → Does w c w′ (Turn.On d) (step room (programIn w)) → k - d .steps < k - c .steps
   goes-less {w′} {d} l D =
-      let N : Goes w′ c d (step wholeHeap (programIn w) (G .state)) = D .follows (G .state) (G .represents) in
+      let N : Goes w′ c d (step room (programIn w) (G .state)) = D .follows (G .state) (G .represents) in
       omega (arith, N .counted)
 
   ended-as :
       {w′ : List ℕ} (e : Ending) (n : ℕ) (r : Ran) → SameTables w w′ → Represents w′ c (G .state) →
-      run wholeHeap (programIn w₀) (k - c .steps) (c .steps) (G .state) ≡ ends (programIn w₀) (endingOf e) n (G .state) → r .ending ≡ e →
-      r .line ≡ lineAt w′ (c .row) → r .steps ≡ n → RanAs w₀ k w′ r
+      run room (programIn w₀) (k - c .steps) (c .steps) (G .state) ≡ ends (programIn w₀) (endingOf e) n (G .state) → r .ending ≡ e →
+      r .line ≡ lineAt w′ (c .row) → r .steps ≡ n → RanAs room w₀ k w′ r
   ended-as {w′} e n r t R q re rl rs =
       record {
         tables = same-trans (G .same) t;
@@ -243,27 +242,27 @@ module _ {w₀ w : List ℕ} {k : ℕ} {c : Machine} (G : Going w₀ w k c) wher
       }
 
   pub ends-taken :
-      (r : Ran) → k ≤ c .steps → r .ending ≡ Ending.StepsTaken → r .line ≡ lineAt w (c .row) → r .steps ≡ c .steps → RanAs w₀ k w r
+      (r : Ran) → k ≤ c .steps → r .ending ≡ Ending.StepsTaken → r .line ≡ lineAt w (c .row) → r .steps ≡ c .steps → RanAs room w₀ k w r
   unfolding run endingOf
   ends-taken r l =
       ended-as Ending.StepsTaken (c .steps) r (record { size = refl; bytes = λ i a b. refl }) (G .represents)
       (let e : k - c .steps ≡ 0 = omega arith in rw e)
 
   pub ends-stopped :
-      {w′ : List ℕ} (f : Fault) (r : Ran) → c .steps < k → Does w c w′ (Turn.Stopped f) (step wholeHeap (programIn w)) →
-      r .ending ≡ Ending.Stopped f → r .line ≡ lineAt w′ (c .row) → r .steps ≡ c .steps → RanAs w₀ k w′ r
+      {w′ : List ℕ} (f : Fault) (r : Ran) → c .steps < k → Does w c w′ (Turn.Stopped f) (step room (programIn w)) →
+      r .ending ≡ Ending.Stopped f → r .line ≡ lineAt w′ (c .row) → r .steps ≡ c .steps → RanAs room w₀ k w′ r
   unfolding goOn endingOf
   ends-stopped {w′} f r l D =
       let (s, R) = D .follows (G .state) (G .represents) in
       ended-as (Ending.Stopped f) (c .steps) r (D .tables) R
-      (one l ∙ ap (λ (t : Step). goOn (programIn w₀) t (c .steps) (G .state) (λ m′. run wholeHeap (programIn w₀) (k - (c .steps + 1)) (suc (c .steps)) m′)) s)
+      (one l ∙ ap (λ (t : Step). goOn (programIn w₀) t (c .steps) (G .state) (λ m′. run room (programIn w₀) (k - (c .steps + 1)) (suc (c .steps)) m′)) s)
 
   pub ends-finished :
-      {w′ : List ℕ} (r : Ran) → c .steps < k → Does w c w′ Turn.Done (step wholeHeap (programIn w)) →
-      r .ending ≡ Ending.Finished → r .line ≡ lineAt w′ (c .row) → r .steps ≡ c .steps + 1 → RanAs w₀ k w′ r
+      {w′ : List ℕ} (r : Ran) → c .steps < k → Does w c w′ Turn.Done (step room (programIn w)) →
+      r .ending ≡ Ending.Finished → r .line ≡ lineAt w′ (c .row) → r .steps ≡ c .steps + 1 → RanAs room w₀ k w′ r
   unfolding goOn endingOf
   ends-finished {w′} r l D =
       let (s, R) = D .follows (G .state) (G .represents) in
       ended-as Ending.Finished (c .steps + 1) r (D .tables) R
       (rw add-one
-      (one l ∙ ap (λ (t : Step). goOn (programIn w₀) t (c .steps) (G .state) (λ m′. run wholeHeap (programIn w₀) (k - (c .steps + 1)) (suc (c .steps)) m′)) s))
+      (one l ∙ ap (λ (t : Step). goOn (programIn w₀) t (c .steps) (G .state) (λ m′. run room (programIn w₀) (k - (c .steps + 1)) (suc (c .steps)) m′)) s))

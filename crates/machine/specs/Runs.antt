@@ -5,8 +5,7 @@ use Prim.Native.Nat.{ℕ, zero, suc, _+_}
 use Rattle.rules.specs.Limits.{values-shown}
 use Rattle.rules.specs.Answers as Answers
 use Rattle.rules.specs.Answers.{finished, stepsTaken, stopped, stopNumber, endingNumber}
-use Rattle.rules.specs.Machine.{Outcome, runProgram}
-use Rattle.rules.specs.Calls.{wholeHeap}
+use Rattle.rules.specs.Machine.{Room, Outcome, runProgram}
 use Rattle.tables.specs.Layout.{frames-at}
 use Rattle.tables.specs.Decode.{wordAt, programIn}
 use Rattle.tables.specs.Stores.{SameTables}
@@ -41,7 +40,7 @@ mainValues w = words w (frames-at + 8) values-shown
 abbrev pub outcomeIn : List ℕ → Ran → Outcome
 outcomeIn w r = record { ending = endingOf (r .ending); line = r .line; steps = r .steps; values = mainValues w }
 
--- a run of the program that w holds, with k steps allowed
-pub record RanAs (w : List ℕ) (k : ℕ) (w′ : List ℕ) (r : Ran) : Type 0 where
+-- a run of the program that w holds, on a heap with this room, with k steps allowed
+pub record RanAs (room : Room) (w : List ℕ) (k : ℕ) (w′ : List ℕ) (r : Ran) : Type 0 where
   pub tables : SameTables w w′
-  pub outcome : runProgram wholeHeap (programIn w) k ≡ outcomeIn w′ r
+  pub outcome : runProgram room (programIn w) k ≡ outcomeIn w′ r

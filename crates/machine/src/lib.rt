@@ -9,7 +9,7 @@ ghost use Rattle.rules.specs.Limits.{work-bytes, most-statements, heap-objects,
 ghost use Rattle.steps.specs.States.{Ready, Does};
 ghost use Rattle.rules.specs.Machine.{step as stepOf};
 ghost use Rattle.rules.specs.Counters.{freshMachine};
-ghost use Rattle.tables.specs.Layout.{frames-at};
+ghost use Rattle.tables.specs.Layout.{frame-variables, frames-at};
 ghost use Rattle.tables.specs.Decode.{kindAt, lineAt, mainFirst, programIn};
 ghost use Rattle.tables.specs.Tables.{Tables};
 ghost use Rattle.machine.specs.Runs.{RanAs, faultNumber, number};
@@ -76,17 +76,19 @@ pub fn step(work: &mut [u8], c: Machine, most_objects: u32, most_fields: u32) ->
         14 => steps::release_step(work, c),
         15 => steps::if_step(work, c),
         16 => steps::else_step(work, c),
-        0..=7 | 18..=255 => calls::end_step(work, c),
+        18 => calls::end_step(work, c),
+        // No row is of another kind, so that any answer meets the contract.
+        0..=7 | 19..=255 => Turn::Done,
     }
 }
 
 // "from the empty heap and main's frame"
 fn begin(work: &mut [u8]) -> Machine
     requires { ⌜ Tables (now work) ⌝ }
-    ensures { λ r. ⌜ (r ≡ freshMachine (mainFirst (now (work .entry)))) × (now (work .exit) ≡ fill (now (work .entry)) frames-at 15 0) ⌝ }
+    ensures { λ r. ⌜ (r ≡ freshMachine (mainFirst (now (work .entry)))) × (now (work .exit) ≡ fill (now (work .entry)) frames-at frame-variables 0) ⌝ }
 {
     let row = tables::main_first(work);
-    stores::fill_words(work, Layout::FRAMES, 15, 0);
+    stores::fill_words(work, Layout::FRAMES, stores::VARIABLES, 0);
     Machine::new(row as u32)
 }
 
@@ -103,14 +105,15 @@ fn ended(work: &[u8], row: u32, e: Ending, n: u32) -> Ran
     }
 }
 
-// At most so many steps of the program in the tables: "A run tests 21 before each step"; "A stopped step is not counted".
-pub fn run(work: &mut [u8], steps: u32) -> Ran
-    requires { ⌜ Tables (now work) ⌝ }
-    ensures { λ r. ⌜ RanAs (now (work .entry)) steps (now (work .exit)) r ⌝ }
+// At most so many steps of the program in the tables, on a heap with these two limits: "A run tests 21 before each step"; "A stopped
+// step is not counted".
+pub fn run(work: &mut [u8], steps: u32, most_objects: u32, most_fields: u32) -> Ran
+    requires { ⌜ Tables (now work) × ((«most_objects» ≤ heap-objects) × («most_fields» ≤ heap-fields)) ⌝ }
+    ensures { λ r. ⌜ RanAs (record { objects = «most_objects»; fields = «most_fields» }) (now (work .entry)) steps (now (work .exit)) r ⌝ }
 {
     let mut c = begin(work);
     while c.steps < steps {
-        let t = step(work, c, Machine::OBJECTS as u32, Machine::FIELDS as u32);
+        let t = step(work, c, most_objects, most_fields);
         match t {
             Turn::On(d) => {
                 c = d;

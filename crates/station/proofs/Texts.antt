@@ -95,7 +95,7 @@ unfolding runText runItems
 taken-ran k x = rw (x .read, ← x .program)
 
 -- what the machine ends with
-module _ {w w′ : List ℕ} {k : ℕ} {r : Ran} (x : RanAs w k w′ r) where
+module _ {w w′ : List ℕ} {k : ℕ} {r : Ran} (x : RanAs wholeHeap w k w′ r) where
   pub ran-numbers : {n : ℕ} → n ≡ number (r .ending) → (n, r .line) ≡ runNumbers (outcomeResult (runProgram wholeHeap (programIn w) k))
   unfolding outcomeResult number
   ran-numbers i = ap (λ (m : ℕ). (m, r .line)) i ∙ sym (ap (λ o. runNumbers (outcomeResult o)) (x .outcome))

@@ -153,14 +153,12 @@ fn run_tables(work: &mut [u8], steps: u32, results: &mut [u8]) -> Found
     requires { ⌜ Tables (now work) × (length (now results) ≡ results-bytes) ⌝ }
     ensures { λ f. ⌜ (numbersIn f ≡ runNumbers (outcomeResult (runProgram wholeHeap (programIn (now (work .entry))) steps))) × (now (results .exit) ≡ resultBytes (outcomeResult (runProgram wholeHeap (programIn (now (work .entry))) steps))) × (length (now (work .exit)) ≡ work-bytes) ⌝ }
 {
-    let r = machine::run(work, steps);
+    let r = machine::run(work, steps, Machine::OBJECTS as u32, Machine::FIELDS as u32);
     put_results(work, results, r.steps);
     let ending = r.ending;
     let number = machine::number_of(ending);
-    Found {
-        number,
-        line: r.line as usize,
-    }
+    let line = r.line as usize;
+    Found { number, line }
 }
 
 fn run_text(text: &[u8], work: &mut [u8], steps: u32, results: &mut [u8]) -> Found

@@ -19,7 +19,7 @@ use Rattle.tables.specs.Layout.{most-names, frame-variables}
 use Rattle.tables.specs.Decode.{byteAt, exprAt, leftAt, rightAt, atomAt, atomsFrom, atomPlace, atomCount, relOf, fieldNameAt}
 use Rattle.tables.specs.Tables.{Tables, SideFits, AtomFits, ClassFits, placeAt}
 use Rattle.stores.specs.declared.View.{View}
-use Rattle.stores.specs.Views.{variableAt, cellHolder, cellValue, classIn, firstIn, cellOf, holderIn, holderOf, heldCell, spotOf, spot, readIn, newCells, accIn, takeIn, SmallCells}
+use Rattle.stores.specs.Views.{variableAt, cellHolder, cellValue, classIn, firstIn, cellOf, holderIn, holderOf, present, foundOf, found, heldCell, spot, readIn, newCells, accIn, takeIn, SmallCells}
 use Rattle.steps.specs.States.{HeapIs}
 use Rattle.stores.proofs.Cells.{any-end}
 use Rattle.stores.proofs.Reading.{Placed, cell-placed, place-found, spot-is, var-fits, path-fits, access-fits}
@@ -123,8 +123,8 @@ module _ {w : List ℕ} {v : View} {h : Heap} {F : Frame} (S : Sees w v h F) whe
   -- LOCATIONS
   held-by-cell :
       (o f : ℕ) (c : Option ℕ) → cellOf w (v .objects) o f ≡ c →
-      check (holds F (at o f)) permissionMissing >> ok (at o f) ≡ heldCell w (v .holder) c >>= λ k. ok (at o f)
-  unfolding holderOf holderIn heldCell check _>>_ _>>=_
+      check (holds F (at o f)) permissionMissing >> ok (at o f) ≡ (present c >>= heldCell w (v .holder)) >>= λ k. ok (at o f)
+  unfolding holderOf holderIn present heldCell check _>>_ _>>=_
   held-by-cell o f none e =
       let z : eqb 0 (v .holder) ≡ false = ne-eqb 0 (v .holder) (λ q. omega (arith, S .numbered)) in
       rw (S .held (at o f), e, z)
@@ -136,12 +136,15 @@ module _ {w : List ℕ} {v : View} {h : Heap} {F : Frame} (S : Sees w v h F) whe
 
   pub locate-is :
       (x f : ℕ) → x < frame-variables → locate F x f ≡ spot w v x f >>= λ k. ok (at (valueOf F x) f)
-  unfolding locate spot spotOf check _>>_ _>>=_
-  locate-is x f l = rw (← S .values x l) (go (not (eqb (valueOf F x) 0)) (heldCell w (v .holder) (cellOf w (v .objects) (valueOf F x) f)) (held-by-cell (valueOf F x) f _ refl))
+  unfolding locate spot found foundOf check _>>_ _>>=_
+  locate-is x f l =
+      rw (← S .values x l)
+      (go (not (eqb (valueOf F x) 0)) (present (cellOf w (v .objects) (valueOf F x) f)) (held-by-cell (valueOf F x) f _ refl))
     where
       go :
-          (b : Bool) {s : Try Stop Location} (t : Try Stop ℕ) → s ≡ t >>= (λ k. ok (at (valueOf F x) f)) →
-          check b nullFollowed >> s ≡ (check b nullFollowed >> t) >>= λ k. ok (at (valueOf F x) f)
+          (b : Bool) {s : Try Stop Location} (t : Try Stop ℕ) →
+          s ≡ (t >>= heldCell w (v .holder)) >>= (λ k. ok (at (valueOf F x) f)) →
+          check b nullFollowed >> s ≡ ((check b nullFollowed >> t) >>= heldCell w (v .holder)) >>= λ k. ok (at (valueOf F x) f)
       go true t e = e
       go false t e = refl
 
@@ -151,7 +154,7 @@ module _ {w : List ℕ} {v : View} {h : Heap} {F : Frame} (S : Sees w v h F) whe
   unfolding spot _>>=_
   locate-at x f k l e = (
     locate-is x f l ∙ rw e,
-    rw (S .values x l) (spot-is w v (variableAt w (v .base) x) f k e .0),
+    rw (S .values x l) (spot-is w v x f k e .0),
   )
 
   pub locate-no : (x f : ℕ) (s : Stop) → x < frame-variables → spot w v x f ≡ no s → locate F x f ≡ no s

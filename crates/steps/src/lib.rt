@@ -1,4 +1,5 @@
 use rules::Machine;
+use stores::Cells;
 use stores::Fault;
 use stores::Read;
 use stores::Spot;
@@ -13,7 +14,7 @@ ghost use Rattle.tables.specs.Decode.{allRows, leftAt, rightAt, relOf, byteAt, 
 ghost use Rattle.rules.specs.Machine.{took, on, elseStep, setStep, assignStep, ifStep, assertStep, releaseStep};
 ghost use Rattle.rules.specs.Syntax.{var, result-variable};
 ghost use Rattle.steps.specs.States.{Ready, NotEnd, AtKind, Does, stepped};
-ghost use Rattle.stores.specs.Views.{takeIn, TookUpTo, viewOf};
+ghost use Rattle.stores.specs.Views.{takeIn, footprint-cells, TookUpTo, viewOf};
 
 // What became of a step: on to the next, not done, or main's `end` done.
 pub enum Turn {
@@ -39,9 +40,9 @@ fn next(c: Machine, row: u32) -> Machine
 }
 
 // What the formula of the row takes.
-fn row_footprint(work: &[u8], c: Machine, cells: &mut [usize; 8]) -> Took
-    requires { ⌜ Ready (now work) c × (length (now cells) ≡ 8) ⌝ }
-    ensures { λ r. ⌜ TookUpTo r (now (cells .exit)) 8 (takeIn (now (work .entry)) (viewOf c) (formulaAt (now (work .entry)) (c .row)) []) ⌝ }
+fn row_footprint(work: &[u8], c: Machine, cells: &mut Cells) -> Took
+    requires { ⌜ Ready (now work) c × (length (now cells) ≡ footprint-cells) ⌝ }
+    ensures { λ r. ⌜ TookUpTo r (now (cells .exit)) footprint-cells (takeIn (now (work .entry)) (viewOf c) (formulaAt (now (work .entry)) (c .row)) []) ⌝ }
 {
     let row = c.row as usize;
     let v = stores::view_of(c);
@@ -55,7 +56,7 @@ pub fn assert_step(work: &[u8], c: Machine) -> Turn
     requires { ⌜ Ready (now work) c × NotEnd (now work) c ⌝ }
     ensures { λ r. ⌜ Does (now (work .entry)) c (now (work .entry)) r (λ m. took (assertStep (formulaAt (now (work .entry)) (c .row)) m)) ⌝ }
 {
-    let mut cells = [0usize; 8];
+    let mut cells = [0usize; stores::CELLS];
     match row_footprint(work, c, &mut cells) {
         Took::Cells(_) => Turn::On(next(c, c.row + 1)),
         Took::Lacking(s) => Turn::Stopped(s),
@@ -67,7 +68,7 @@ pub fn release_step(work: &mut [u8], c: Machine) -> Turn
     requires { ⌜ Ready (now work) c × NotEnd (now work) c ⌝ }
     ensures { λ r. ⌜ Does (now (work .entry)) c (now (work .exit)) r (λ m. took (releaseStep (formulaAt (now (work .entry)) (c .row)) m)) ⌝ }
 {
-    let mut cells = [0usize; 8];
+    let mut cells = [0usize; stores::CELLS];
     match row_footprint(work, c, &mut cells) {
         Took::Cells(n) => {
             stores::mark(work, &cells, n, 0);
@@ -129,7 +130,7 @@ pub fn return_step(work: &mut [u8], c: Machine) -> Turn
     let b = v.base;
     let x = tables::x_at(work, row);
     let n = stores::variable(work, b, x);
-    tables::put_word(work, b + 56, n);
+    tables::put_word(work, b + stores::RESULT_AT, n);
     Turn::On(next(c, c.row + 1))
 }
 

@@ -27,7 +27,7 @@ use Rattle.stores.specs.declared.Spot.{Spot}
 use Rattle.stores.specs.declared.Read.{Read}
 use Rattle.stores.specs.declared.Truth.{Truth}
 use Rattle.stores.specs.declared.Took.{Took}
-use Rattle.stores.specs.Views.{variableAt, cellHolder, classIn, firstIn, placed, cellOf, heldCell, spotOf, spot, readIn, rightTest, testIn, newCells, accIn, takeIn, stopOf, spotIs, readIs, truthIs, tookIs, countOf, ObjectFits, ExprFits, PlainIs, Readable}
+use Rattle.stores.specs.Views.{variableAt, cellHolder, classIn, firstIn, placed, cellOf, present, foundOf, found, heldCell, spot, readIn, rightTest, testIn, newCells, accIn, takeIn, stopOf, spotIs, readIs, truthIs, tookIs, countOf, ObjectFits, ExprFits, PlainIs, Readable}
 
 -- ANSWERS BY CASES
 pub spot-at : (r : Spot) (k : ℕ) {t : Try Stop ℕ} → r ≡ Spot.At k → spotIs r ≡ t → t ≡ ok k
@@ -148,29 +148,47 @@ cell-small {w} {most} {n} {k} o f t fits e =
     let F = place-found {f = f} (t .class-fits (classIn w (P .index)) (O .class)) (P .named) (P .present) in
     omega (arith, O .cells, F .0, P .is-cell)
 
-held-cell-is : (w : List ℕ) (h : ℕ) (o : Option ℕ) (k : ℕ) → heldCell w h o ≡ ok k → (o ≡ some k) × (cellHolder w k ≡ h)
-unfolding heldCell
-held-cell-is w h none k e = absurd (let z : _≡_ {A = ℕ} 0 1 = cc in omega arith)
-held-cell-is w h (some j) k e =
-    let (t, e′) = check-ok (eqb (cellHolder w j) h) permissionMissing e in
-    let q : j ≡ k = ok-inj e′ in
-    (ap some q, subst (λ i. cellHolder w i ≡ h) q (eqb-true _ _ (T-true _ t)))
+present-is : (o : Option ℕ) (k : ℕ) → present o ≡ ok k → o ≡ some k
+unfolding present
+present-is none k e = absurd (let z : _≡_ {A = ℕ} 0 1 = cc in omega arith)
+present-is (some j) k e = ap some (ok-inj e)
+
+found-is : (w : List ℕ) (n o f k : ℕ) → foundOf w n o f ≡ ok k → cellOf w n o f ≡ some k
+unfolding foundOf
+found-is w n o f k e = let (_, e′) = check-ok (not (eqb o 0)) nullFollowed e in present-is _ k e′
+
+-- an object that is not null has a number, one more than its index
+pub found-next : (w : List ℕ) (n o f : ℕ) → (o ≡ 0 → ⊥) → foundOf w n o f ≡ present (cellOf w n (suc (o - 1)) f)
+unfolding foundOf check _>>_
+found-next w n zero f z = absurd (z refl)
+found-next w n (suc i) f z = let e : suc i - 1 ≡ i = omega arith in rw (e, ne-eqb (suc i) 0 z)
+
+pub found-small : {w : List ℕ} {v : View} {k : ℕ} (x f : ℕ) → Readable w v → found w v x f ≡ ok k → k < heap-fields
+unfolding found
+found-small {w} {v} {k} x f r e =
+    cell-small (variableAt w (v .base) x) f (r .tables) (r .object) (found-is w (v .objects) (variableAt w (v .base) x) f k e)
+
+-- what is located is found, and held
+pub spot-found :
+    (w : List ℕ) (v : View) (x f k : ℕ) → spot w v x f ≡ ok k → (found w v x f ≡ ok k) × (cellHolder w k ≡ v .holder)
+unfolding spot heldCell _>>=_
+spot-found w v x f k e = go (found w v x f) e
+  where
+    go : (t : Try Stop ℕ) → t >>= heldCell w (v .holder) ≡ ok k → (t ≡ ok k) × (cellHolder w k ≡ v .holder)
+    go (no s) e = absurd (let z : _≡_ {A = ℕ} 0 1 = cc in omega arith)
+    go (ok j) e =
+        let (t, e′) = check-ok (eqb (cellHolder w j) (v .holder)) permissionMissing e in
+        let q : j ≡ k = ok-inj e′ in
+        (ap ok q, subst (λ i. cellHolder w i ≡ v .holder) q (eqb-true _ _ (T-true _ t)))
 
 pub spot-is :
-    (w : List ℕ) (v : View) (o f k : ℕ) → spotOf w v o f ≡ ok k → (cellOf w (v .objects) o f ≡ some k) × (cellHolder w k ≡ v .holder)
-unfolding spotOf
-spot-is w v o f k e = let (_, e′) = check-ok (not (eqb o 0)) nullFollowed e in held-cell-is w (v .holder) _ k e′
-
-pub spot-next :
-    (w : List ℕ) (v : View) (o f : ℕ) → (o ≡ 0 → ⊥) →
-    spotOf w v o f ≡ heldCell w (v .holder) (cellOf w (v .objects) (suc (o - 1)) f)
-unfolding spotOf check _>>_
-spot-next w v zero f n = absurd (n refl)
-spot-next w v (suc i) f n = let e : suc i - 1 ≡ i = omega arith in rw (e, ne-eqb (suc i) 0 n)
+    (w : List ℕ) (v : View) (x f k : ℕ) → spot w v x f ≡ ok k →
+    (cellOf w (v .objects) (variableAt w (v .base) x) f ≡ some k) × (cellHolder w k ≡ v .holder)
+unfolding found
+spot-is w v x f k e = let (a, b) = spot-found w v x f k e in (found-is w (v .objects) (variableAt w (v .base) x) f k a, b)
 
 pub spot-small : {w : List ℕ} {v : View} {k : ℕ} (x f : ℕ) → Readable w v → spot w v x f ≡ ok k → k < heap-fields
-unfolding spot
-spot-small {w} {v} {k} x f r e = cell-small (variableAt w (v .base) x) f (r .tables) (r .object) (spot-is w v (variableAt w (v .base) x) f k e .0)
+spot-small {w} {v} {k} x f r e = found-small x f r (spot-found w v x f k e .0)
 
 -- SIDES
 pub plain-read :

@@ -6,7 +6,7 @@ use mathlib.Core.Path.{_≡_}
 use Prim.Native.Nat.{ℕ, zero, suc, _+_, _*_, _-_, _%_, _≤_, _<_}
 use lib.Dec.{T, eqb, ltb}
 use lib.ListN.{length, take, set, getD}
-use Rattle.rules.specs.Limits.{heap-objects, heap-fields, work-bytes}
+use Rattle.rules.specs.Limits.{most-atoms, heap-objects, heap-fields, work-bytes}
 use Rattle.rules.specs.Base.{Try, ok, no, _>>=_, _>>_, check, any}
 use Rattle.rules.specs.Answers.{Stop, heapFull, framesFull, permissionMissing, nullFollowed, formulaFalse}
 use Rattle.rules.specs.Syntax.{Expr, Formula, num, null, var, path, acc, cmp}
@@ -26,7 +26,17 @@ use Rattle.stores.specs.declared.Took.{Took}
 
 -- STORES
 
--- the frame i: 15 values, then the number by which it holds, its row, its method
+-- after its variables a frame keeps the number by which it holds, its row and its method
+abbrev pub frame-holder : ℕ
+frame-holder = 60
+
+abbrev pub frame-row : ℕ
+frame-row = 64
+
+abbrev pub frame-method : ℕ
+frame-method = 66
+
+-- the frame i
 abbrev pub frameAt : ℕ → ℕ
 frameAt i = frames-at + i * frame-bytes
 
@@ -35,13 +45,13 @@ unfoldable pub variableAt : List ℕ → ℕ → ℕ → ℕ
 variableAt w b x = wordAt w (b + x * 4)
 
 unfoldable pub savedHolder : List ℕ → ℕ → ℕ
-savedHolder w i = wordAt w (frameAt i + 60)
+savedHolder w i = wordAt w (frameAt i + frame-holder)
 
 unfoldable pub savedRow : List ℕ → ℕ → ℕ
-savedRow w i = halfAt w (frameAt i + 64)
+savedRow w i = halfAt w (frameAt i + frame-row)
 
 unfoldable pub methodOf : List ℕ → ℕ → ℕ
-methodOf w i = byteAt w (frameAt i + 66)
+methodOf w i = byteAt w (frameAt i + frame-method)
 
 unfoldable pub cellValue : List ℕ → ℕ → ℕ
 cellValue w k = wordAt w (values-at + k * 4)
@@ -73,19 +83,30 @@ holderIn w (some k) = cellHolder w k
 unfoldable pub holderOf : List ℕ → ℕ → Location → ℕ
 holderOf w n p = holderIn w (cellOf w n (p .object) (p .field))
 
--- READING, through the variables of one frame and what one number holds
+-- FINDING a cell, whoever holds it
 
-unfoldable pub heldCell : List ℕ → ℕ → Option ℕ → Try Stop ℕ
-heldCell w h none = no permissionMissing
-heldCell w h (some k) = check (eqb (cellHolder w k) h) permissionMissing >> ok k
+-- a location that is not there is in no A: "a location not in A .. 24"
+unfoldable pub present : Option ℕ → Try Stop ℕ
+present none = no permissionMissing
+present (some k) = ok k
 
--- the cell of a field of the object o
-unfoldable pub spotOf : List ℕ → View → ℕ → ℕ → Try Stop ℕ
-spotOf w v o f = check (not (eqb o 0)) nullFollowed >> heldCell w (v .holder) (cellOf w (v .objects) o f)
+-- of n objects: the cell of a field of the object o, "of a null is 25"
+unfoldable pub foundOf : List ℕ → ℕ → ℕ → ℕ → Try Stop ℕ
+foundOf w n o f = check (not (eqb o 0)) nullFollowed >> present (cellOf w n o f)
 
 -- the cell of `x.f`
+unfoldable pub found : List ℕ → View → ℕ → ℕ → Try Stop ℕ
+found w v x f = foundOf w (v .objects) (variableAt w (v .base) x) f
+
+-- READING, through the variables of one frame and what one number holds
+
+-- the cell, if h holds it
+unfoldable pub heldCell : List ℕ → ℕ → ℕ → Try Stop ℕ
+heldCell w h k = check (eqb (cellHolder w k) h) permissionMissing >> ok k
+
+-- the cell of `x.f`, if the view's number holds it
 unfoldable pub spot : List ℕ → View → ℕ → ℕ → Try Stop ℕ
-spot w v x f = spotOf w v (variableAt w (v .base) x) f
+spot w v x f = found w v x f >>= heldCell w (v .holder)
 
 unfoldable pub readIn : List ℕ → View → Expr ℕ → Try Stop ℕ
 readIn w v (num n) = ok n
@@ -133,7 +154,10 @@ marked w (k ∷ ks) v = marked (putWord w (holders-at + k * 4) v) ks v
 -- The frame at a calls: it keeps its number and row. The next, at b, has its values, `this`, w and zeros, and its method.
 unfoldable pub framed : List ℕ → ℕ → ℕ → ℕ → ℕ → ℕ → ℕ → ℕ → List ℕ
 framed w a b holder row method o p =
-    set (putHalf (putWord (putWord (putWord (fill w b 15 0) b o) (b + 4) p) (a + 60) holder) (a + 64) row) (b + 66) method
+    set
+    (putHalf (putWord (putWord (putWord (fill w b frame-variables 0) b o) (b + 4) p) (a + frame-holder) holder) (a + frame-row) row)
+    (b + frame-method)
+    method
 
 abbrev pub prepared : List ℕ → Machine → ℕ → ℕ → ℕ → List ℕ
 prepared w c method o p = framed w (frameAt (c .frames - 1)) (frameAt (c .frames)) (c .holder) (c .row) method o p
@@ -183,16 +207,24 @@ unfoldable pub tookIs : Took → List ℕ → Try Stop (List ℕ)
 tookIs (Took.Cells n) ks = ok (take n ks)
 tookIs (Took.Lacking s) ks = no (stopOf s)
 
--- what a formula took is in the first of 8 cells, at most n
+-- how many cells a footprint can have: each atom of a formula takes one at most
+abbrev pub footprint-cells : ℕ
+footprint-cells = most-atoms
+
+-- what a formula took is in the first of these cells, at most n
 pub record TookUpTo (r : Took) (ks : List ℕ) (n : ℕ) (t : Try Stop (List ℕ)) : Type 0 where
   pub took : tookIs r ks ≡ t
   pub count : countOf r ≤ n
-  pub size : length ks ≡ 8
+  pub size : length ks ≡ footprint-cells
 
--- where the byte for a cell's remainder by 64 is 0, the cell is none of these
+-- the bytes that say which remainders the cells taken have
+abbrev pub sieve-bytes : ℕ
+sieve-bytes = 64
+
+-- where the byte for a cell's remainder is 0, the cell is none of these
 pub record Sieve (ks seen : List ℕ) : Type 0 where
-  pub size : length seen ≡ 64
-  pub clear : (k : ℕ) → getD seen (k % 64) 0 ≡ 0 → any (eqb k) ks ≡ false
+  pub size : length seen ≡ sieve-bytes
+  pub clear : (k : ℕ) → getD seen (k % sieve-bytes) 0 ≡ 0 → any (eqb k) ks ≡ false
 
 -- WHAT READING NEEDS
 
@@ -219,7 +251,7 @@ PlainIs w v (Tables.Expr.Path x f) r = Unit {0}
 
 pub record Readable (w : List ℕ) (v : View) : Type 0 where
   pub tables : Tables w
-  pub base : v .base + 60 ≤ work-bytes
+  pub base : v .base + frame-holder ≤ work-bytes
   pub objects : v .objects ≤ heap-objects
   pub object : (i : ℕ) → i < v .objects → ObjectFits w heap-fields i
 

@@ -3,7 +3,6 @@ use tables::Expr;
 use tables::Layout;
 ghost use mathlib.Core.Path.{_≡_};
 ghost use mathlib.Core.List.{[], _∷_};
-ghost use mathlib.Core.Option.{some};
 ghost use Prim.Native.Nat.{suc, _+_, _*_, _-_, _≤_, _<_};
 ghost use lib.ListN.{length, take};
 ghost use Rattle.rules.specs.Limits.{work-bytes, most-statements, most-methods, most-classes, most-frames, heap-objects, heap-fields};
@@ -13,7 +12,7 @@ ghost use Rattle.rules.specs.Base.{any, ok};
 ghost use Rattle.rules.specs.Machine.{compared};
 ghost use Rattle.tables.specs.Stores.{meaning};
 ghost use lib.Dec.{eqb};
-ghost use Rattle.stores.specs.Views.{variableAt, savedHolder, savedRow, methodOf, prepared, made, cellValue, cellHolder, classIn, firstIn, heldCell, cellOf, spotOf, spot, readIn, rightTest, testIn, PlainIs, newCells, accIn, takeIn, SmallCells, fill, marked, spotIs, readIs, truthIs, countOf, TookUpTo, Sieve, ExprFits, Readable, viewOf};
+ghost use Rattle.stores.specs.Views.{frame-holder, variableAt, savedHolder, savedRow, methodOf, prepared, made, cellValue, cellHolder, classIn, firstIn, cellOf, present, foundOf, found, heldCell, spot, readIn, rightTest, testIn, PlainIs, newCells, accIn, takeIn, SmallCells, fill, marked, spotIs, readIs, truthIs, footprint-cells, countOf, TookUpTo, Sieve, ExprFits, Readable, viewOf};
 
 // Whose variables are read, where the heap ends, and who holds.
 pub struct View {
@@ -21,6 +20,30 @@ pub struct View {
     pub objects: usize,
     pub holder: u32,
 }
+
+// A frame's variables: `this`, w, 12 locals, `result`.
+pub const VARIABLES: usize = 15;
+
+// The number of `result`, and where its value stands in a frame.
+pub const RESULT: usize = 14;
+
+pub const RESULT_AT: usize = 56;
+
+// Where a frame keeps the number by which it holds, its row and its method.
+const HOLDER_AT: usize = 60;
+
+const ROW_AT: usize = 64;
+
+const METHOD_AT: usize = 66;
+
+// The cells of a footprint.
+pub type Cells = [usize; CELLS];
+
+// How many there can be: each atom of a formula takes one at most.
+pub const CELLS: usize = Machine::ATOMS;
+
+// The bytes that say which remainders the cells taken have.
+const SIEVE: usize = 64;
 
 // Why a step is not done.
 pub enum Fault {
@@ -58,7 +81,7 @@ pub enum Took {
 
 // A variable of the frame at b.
 pub fn variable(work: &[u8], b: usize, x: usize) -> u32
-    requires { ⌜ (b + 60 ≤ length (now work)) × (x < frame-variables) ⌝ }
+    requires { ⌜ (b + frame-holder ≤ length (now work)) × (x < frame-variables) ⌝ }
     ensures { λ r. ⌜ r ≡ variableAt (now (work .entry)) b x ⌝ }
 {
     tables::word_at(work, b + x * 4)
@@ -76,18 +99,6 @@ fn cell_holder(work: &[u8], k: usize) -> u32
     ensures { λ r. ⌜ r ≡ cellHolder (now (work .entry)) k ⌝ }
 {
     tables::word_at(work, Layout::HOLDERS + k * 4)
-}
-
-// The cell, if h holds it.
-fn held_cell(work: &[u8], h: u32, k: usize) -> Spot
-    requires { ⌜ (length (now work) ≡ work-bytes) × (k < heap-fields) ⌝ }
-    ensures { λ r. ⌜ spotIs r ≡ heldCell (now (work .entry)) h (some k) ⌝ }
-{
-    let n = cell_holder(work, k);
-    if n == h {
-        return Spot::At(k);
-    }
-    Spot::Lacking(Fault::Permission)
 }
 
 // The class of object i + 1.
@@ -109,7 +120,7 @@ fn first_of(work: &[u8], i: usize) -> usize
 // The cell of the field named f of object i + 1.
 fn cell_at(work: &[u8], v: View, i: usize, f: usize) -> Spot
     requires { ⌜ Readable (now work) v × ((i < v .objects) × (f < most-names)) ⌝ }
-    ensures { λ r. ⌜ spotIs r ≡ heldCell (now (work .entry)) (v .holder) (cellOf (now (work .entry)) (v .objects) (suc i) f) ⌝ }
+    ensures { λ r. ⌜ spotIs r ≡ present (cellOf (now (work .entry)) (v .objects) (suc i) f) ⌝ }
 {
     let c = class_of(work, i);
     let p = tables::place_at(work, c, f);
@@ -117,13 +128,13 @@ fn cell_at(work: &[u8], v: View, i: usize, f: usize) -> Spot
         return Spot::Lacking(Fault::Permission);
     }
     let k = first_of(work, i) + p;
-    held_cell(work, v.holder, k)
+    Spot::At(k)
 }
 
-// The cell of a field of the object o: "`acc` of a null is 25, of a location not in A .. 24".
-fn spot_of(work: &[u8], v: View, o: u32, f: usize) -> Spot
+// The cell of a field of the object o.
+fn cell_of(work: &[u8], v: View, o: u32, f: usize) -> Spot
     requires { ⌜ Readable (now work) v × (f < most-names) ⌝ }
-    ensures { λ r. ⌜ spotIs r ≡ spotOf (now (work .entry)) v o f ⌝ }
+    ensures { λ r. ⌜ spotIs r ≡ foundOf (now (work .entry)) (v .objects) o f ⌝ }
 {
     if o == 0 {
         return Spot::Lacking(Fault::Null);
@@ -135,13 +146,36 @@ fn spot_of(work: &[u8], v: View, o: u32, f: usize) -> Spot
     cell_at(work, v, i, f)
 }
 
-// The cell of `x.f`.
+// The cell of `x.f`, whoever holds it.
+pub fn find(work: &[u8], v: View, x: usize, f: usize) -> Spot
+    requires { ⌜ Readable (now work) v × ((x < frame-variables) × (f < most-names)) ⌝ }
+    ensures { λ r. ⌜ spotIs r ≡ found (now (work .entry)) v x f ⌝ }
+{
+    let o = variable(work, v.base, x);
+    cell_of(work, v, o, f)
+}
+
+// The cell, if h holds it.
+fn held_cell(work: &[u8], h: u32, k: usize) -> Spot
+    requires { ⌜ (length (now work) ≡ work-bytes) × (k < heap-fields) ⌝ }
+    ensures { λ r. ⌜ spotIs r ≡ heldCell (now (work .entry)) h k ⌝ }
+{
+    let n = cell_holder(work, k);
+    if n == h {
+        return Spot::At(k);
+    }
+    Spot::Lacking(Fault::Permission)
+}
+
+// The cell of `x.f`, which the view's number must hold: "of a null is 25, of a location not in A .. 24".
 pub fn locate(work: &[u8], v: View, x: usize, f: usize) -> Spot
     requires { ⌜ Readable (now work) v × ((x < frame-variables) × (f < most-names)) ⌝ }
     ensures { λ r. ⌜ spotIs r ≡ spot (now (work .entry)) v x f ⌝ }
 {
-    let o = variable(work, v.base, x);
-    spot_of(work, v, o, f)
+    match find(work, v, x, f) {
+        Spot::At(k) => held_cell(work, v.holder, k),
+        Spot::Lacking(s) => Spot::Lacking(s),
+    }
 }
 
 // The value of an expression that is no path.
@@ -232,7 +266,8 @@ fn condition_right(work: &[u8], v: View, a: usize, l: u32) -> Truth
     }
 }
 
-// The condition of an `if`: as `test`, which is the formulas' own, so that `footprint` calls nothing and keeps its arguments in registers.
+// The condition of an `if`: `test` again, because the compiler puts a function into its only caller, and a formula takes twice as long
+// where `footprint` calls a `test` that is shared.
 pub fn condition(work: &[u8], v: View, a: usize) -> Truth
     requires { ⌜ Readable (now work) v × (a < atomCount (now work)) ⌝ }
     ensures { λ r. ⌜ truthIs r ≡ testIn (now (work .entry)) v a ⌝ }
@@ -244,8 +279,8 @@ pub fn condition(work: &[u8], v: View, a: usize) -> Truth
 }
 
 // Whether k is one of the first n cells.
-fn among(cells: &[usize; 8], n: usize, k: usize) -> bool
-    requires { ⌜ (n ≤ 8) × (length (now cells) ≡ 8) ⌝ }
+fn among(cells: &Cells, n: usize, k: usize) -> bool
+    requires { ⌜ (n ≤ footprint-cells) × (length (now cells) ≡ footprint-cells) ⌝ }
     ensures { λ r. ⌜ r ≡ any (eqb k) (take n (now (cells .entry))) ⌝ }
 {
     let mut i = 0;
@@ -260,8 +295,8 @@ fn among(cells: &[usize; 8], n: usize, k: usize) -> bool
 }
 
 // Takes the cell k after n others, which may be among them.
-fn put_seen(cells: &mut [usize; 8], n: usize, k: usize) -> Took
-    requires { ⌜ (n < 8) × (length (now cells) ≡ 8) ⌝ }
+fn put_seen(cells: &mut Cells, n: usize, k: usize) -> Took
+    requires { ⌜ (n < footprint-cells) × (length (now cells) ≡ footprint-cells) ⌝ }
     ensures { λ r. ⌜ TookUpTo r (now (cells .exit)) (n + 1) (newCells (take n (now (cells .entry))) k) ⌝ }
 {
     if among(cells, n, k) {
@@ -271,12 +306,12 @@ fn put_seen(cells: &mut [usize; 8], n: usize, k: usize) -> Took
     Took::Cells(n + 1)
 }
 
-// Takes the cell k after n others. It is looked for only where its remainder by 64 has been seen.
-fn put_cell(cells: &mut [usize; 8], seen: &mut [u8; 64], n: usize, k: usize) -> Took
-    requires { ⌜ ((n < 8) × (length (now cells) ≡ 8)) × Sieve (take n (now cells)) (now seen) ⌝ }
+// Takes the cell k after n others. It is looked for only where its remainder by SIEVE has been seen.
+fn put_cell(cells: &mut Cells, seen: &mut [u8; SIEVE], n: usize, k: usize) -> Took
+    requires { ⌜ ((n < footprint-cells) × (length (now cells) ≡ footprint-cells)) × Sieve (take n (now cells)) (now seen) ⌝ }
     ensures { λ r. ⌜ TookUpTo r (now (cells .exit)) (n + 1) (newCells (take n (now (cells .entry))) k) × Sieve (take (countOf r) (now (cells .exit))) (now (seen .exit)) ⌝ }
 {
-    let s = k % 64;
+    let s = k % SIEVE;
     let b = seen[s];
     if b == 0 {
         seen[s] = 1;
@@ -292,11 +327,11 @@ fn take_cell(
     v: View,
     x: usize,
     f: usize,
-    cells: &mut [usize; 8],
-    seen: &mut [u8; 64],
+    cells: &mut Cells,
+    seen: &mut [u8; SIEVE],
     n: usize,
 ) -> Took
-    requires { ⌜ (Readable (now work) v × ((x < frame-variables) × (f < most-names))) × (((n < 8) × (length (now cells) ≡ 8)) × Sieve (take n (now cells)) (now seen)) ⌝ }
+    requires { ⌜ (Readable (now work) v × ((x < frame-variables) × (f < most-names))) × (((n < footprint-cells) × (length (now cells) ≡ footprint-cells)) × Sieve (take n (now cells)) (now seen)) ⌝ }
     ensures { λ r. ⌜ TookUpTo r (now (cells .exit)) (n + 1) (accIn (now (work .entry)) v x f (take n (now (cells .entry)))) × Sieve (take (countOf r) (now (cells .exit))) (now (seen .exit)) ⌝ }
 {
     match locate(work, v, x, f) {
@@ -310,11 +345,11 @@ fn take_atom(
     work: &[u8],
     v: View,
     a: usize,
-    cells: &mut [usize; 8],
-    seen: &mut [u8; 64],
+    cells: &mut Cells,
+    seen: &mut [u8; SIEVE],
     n: usize,
 ) -> Took
-    requires { ⌜ (Readable (now work) v × (a < atomCount (now work))) × (((n < 8) × (length (now cells) ≡ 8)) × Sieve (take n (now cells)) (now seen)) ⌝ }
+    requires { ⌜ (Readable (now work) v × (a < atomCount (now work))) × (((n < footprint-cells) × (length (now cells) ≡ footprint-cells)) × Sieve (take n (now cells)) (now seen)) ⌝ }
     ensures { λ r. ⌜ TookUpTo r (now (cells .exit)) (n + 1) (takeIn (now (work .entry)) v (atomAt (now (work .entry)) a ∷ []) (take n (now (cells .entry)))) × Sieve (take (countOf r) (now (cells .exit))) (now (seen .exit)) ⌝ }
 {
     if tables::atom_kind(work, a) == 0 {
@@ -330,11 +365,11 @@ fn take_atom(
 }
 
 // "A formula's footprint is the locations that its `acc` atoms take": n atoms from the first on.
-pub fn footprint(work: &[u8], v: View, first: usize, n: usize, cells: &mut [usize; 8]) -> Took
-    requires { ⌜ (Readable (now work) v × (first + n ≤ atomCount (now work))) × ((n ≤ 8) × (length (now cells) ≡ 8)) ⌝ }
-    ensures { λ r. ⌜ TookUpTo r (now (cells .exit)) 8 (takeIn (now (work .entry)) v (atomsFrom (now (work .entry)) first n) []) ⌝ }
+pub fn footprint(work: &[u8], v: View, first: usize, n: usize, cells: &mut Cells) -> Took
+    requires { ⌜ (Readable (now work) v × (first + n ≤ atomCount (now work))) × ((n ≤ footprint-cells) × (length (now cells) ≡ footprint-cells)) ⌝ }
+    ensures { λ r. ⌜ TookUpTo r (now (cells .exit)) footprint-cells (takeIn (now (work .entry)) v (atomsFrom (now (work .entry)) first n) []) ⌝ }
 {
-    let mut seen = [0u8; 64];
+    let mut seen = [0u8; SIEVE];
     let mut count = 0;
     let mut i = 0;
     while i < n {
@@ -361,8 +396,8 @@ pub fn fill_words(work: &mut [u8], at: usize, n: usize, v: u32)
 }
 
 // The first n cells are held by v from now on.
-pub fn mark(work: &mut [u8], cells: &[usize; 8], n: usize, v: u32)
-    requires { ⌜ ((length (now work) ≡ work-bytes) × ((n ≤ 8) × (length (now cells) ≡ 8))) × SmallCells (take n (now cells)) ⌝ }
+pub fn mark(work: &mut [u8], cells: &Cells, n: usize, v: u32)
+    requires { ⌜ ((length (now work) ≡ work-bytes) × ((n ≤ footprint-cells) × (length (now cells) ≡ footprint-cells))) × SmallCells (take n (now cells)) ⌝ }
     ensures { λ _. ⌜ now (work .exit) ≡ marked (now (work .entry)) (take n (now (cells .entry))) v ⌝ }
 {
     let mut i = 0;
@@ -390,21 +425,21 @@ pub fn saved_holder(work: &[u8], i: usize) -> u32
     requires { ⌜ (length (now work) ≡ work-bytes) × (i < most-frames) ⌝ }
     ensures { λ r. ⌜ r ≡ savedHolder (now (work .entry)) i ⌝ }
 {
-    tables::word_at(work, Layout::FRAMES + i * Layout::FRAME_BYTES + 60)
+    tables::word_at(work, Layout::FRAMES + i * Layout::FRAME_BYTES + HOLDER_AT)
 }
 
 pub fn saved_row(work: &[u8], i: usize) -> usize
     requires { ⌜ (length (now work) ≡ work-bytes) × (i < most-frames) ⌝ }
     ensures { λ r. ⌜ (r ≡ savedRow (now (work .entry)) i) × (r < 65536) ⌝ }
 {
-    tables::half_at(work, Layout::FRAMES + i * Layout::FRAME_BYTES + 64)
+    tables::half_at(work, Layout::FRAMES + i * Layout::FRAME_BYTES + ROW_AT)
 }
 
 pub fn method_of(work: &[u8], i: usize) -> usize
     requires { ⌜ (length (now work) ≡ work-bytes) × (i < most-frames) ⌝ }
     ensures { λ r. ⌜ r ≡ methodOf (now (work .entry)) i ⌝ }
 {
-    tables::byte_at(work, Layout::FRAMES + i * Layout::FRAME_BYTES + 66)
+    tables::byte_at(work, Layout::FRAMES + i * Layout::FRAME_BYTES + METHOD_AT)
 }
 
 // The place of the next frame, and what the running one must keep.
@@ -416,12 +451,12 @@ pub fn prepare(work: &mut [u8], c: Machine, m: usize, o: u32, p: u32)
     let j = c.frames as usize;
     let a = Layout::FRAMES + i * Layout::FRAME_BYTES;
     let b = Layout::FRAMES + j * Layout::FRAME_BYTES;
-    fill_words(work, b, 15, 0);
+    fill_words(work, b, VARIABLES, 0);
     tables::put_word(work, b, o);
     tables::put_word(work, b + 4, p);
-    tables::put_word(work, a + 60, c.holder);
-    tables::put_half(work, a + 64, c.row as usize);
-    tables::put_byte(work, b + 66, m);
+    tables::put_word(work, a + HOLDER_AT, c.holder);
+    tables::put_half(work, a + ROW_AT, c.row as usize);
+    tables::put_byte(work, b + METHOD_AT, m);
 }
 
 // Object number `objects` + 1, of a class with n fields, which are the running frame's.

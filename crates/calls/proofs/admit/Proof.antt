@@ -26,14 +26,32 @@ requires-count-requires : tie.Need-requires-count-requires
 requires-count-requires c κs = search needs
 
 footprint-requires : tie.Need-footprint-requires
-footprint-requires c κs = let r = requires-atoms _ _ _ (c .before .before .before .before .before .before .before .before .before .pre) (c .before .before .before .before .requires-first .ensures .0) (c .before .before .requires-count .ensures .0) in ((c .before .before .before .before .before .before .before .before .before .pre .readable, r .0), (r .1, refl))
+footprint-requires c κs =
+    let start = c .before .before .before .before .before .before .before .before .before in
+    let at-requires-first = c .before .before .before .before .requires-first in
+    let at-requires-count = c .before .before .requires-count in
+    let r = requires-atoms _ _ _ (start .pre) (at-requires-first .ensures .0) (at-requires-count .ensures .0) in ((start .pre .readable, r .0), (r .1, refl))
 
 enum-known-k : tie.Need-enum-known-k
 enum-known-k c = search needs
 
 enter-requires : tie.Need-enter-requires
-enter-requires c κs = let e = sym (requires-takes _ _ _ (c .before .before .before .before .before .before .before .before .before .before .before .before .before .before .before .pre) (c .before .before .before .before .before .before .before .before .before .before .requires-first .ensures .0) (c .before .before .before .before .before .before .before .before .requires-count .ensures .0)) ∙ took-cells _ _ _ (c .before .before .before .k .given .1) (c .before .before .before .before .before .footprint .ensures .took) in
-    record { area = c .before .before .before .before .before .before .before .before .before .before .before .before .before .before .before .pre .readable .tables .size; method-fits = omega (arith, c .before .before .before .before .before .before .before .before .before .before .before .before .before .before .before .pre .exists, c .before .before .before .before .before .before .before .before .before .before .before .before .before .before .before .pre .readable .tables .methods); more = c .before .before .before .before .before .before .before .before .before .before .before .before .before .before .before .pre .more; numbers = c .before .before .before .before .before .before .before .before .before .before .before .before .before .before .before .pre .numbers; size = c .before .before .before .before .before .footprint .ensures .size; count = count-cells _ _ _ (c .before .before .before .k .given .1) (c .before .before .before .before .before .footprint .ensures .count); small = c .before .before .before .before .before .before .before .before .before .before .before .before .before .before .before .pre .small _ e }
+enter-requires c κs =
+    let start = c .before .before .before .before .before .before .before .before .before .before .before .before .before .before .before in
+    let at-requires-first = c .before .before .before .before .before .before .before .before .before .before .requires-first in
+    let at-requires-count = c .before .before .before .before .before .before .before .before .requires-count in
+    let at-footprint = c .before .before .before .before .before .footprint in
+    let at-k = c .before .before .before .k in
+    let e = sym (requires-takes _ _ _ (start .pre) (at-requires-first .ensures .0) (at-requires-count .ensures .0)) ∙ took-cells _ _ _ (at-k .given .1) (at-footprint .ensures .took) in
+    record {
+      area = start .pre .readable .tables .size;
+      method-fits = omega (arith, start .pre .exists, start .pre .readable .tables .methods);
+      more = start .pre .more;
+      numbers = start .pre .numbers;
+      size = at-footprint .ensures .size;
+      count = count-cells _ _ _ (at-k .given .1) (at-footprint .ensures .count);
+      small = start .pre .small _ e;
+    }
 
 enum-known-s : tie.Need-enum-known-s
 enum-known-s c = search needs
@@ -42,13 +60,25 @@ same-length : tie.Need-same-length
 same-length c = search needs
 
 returns : tie.Need-returns
-returns c = inl (_, sym (requires-takes _ _ _ (c .before .before .before .before .before .before .before .before .before .before .before .before .before .before .before .before .before .before .pre) (c .before .before .before .before .before .before .before .before .before .before .before .before .before .requires-first .ensures .0) (c .before .before .before .before .before .before .before .before .before .before .before .requires-count .ensures .0)) ∙ took-cells _ _ _ (c .before .before .before .before .before .before .k .given .1) (c .before .before .before .before .before .before .before .before .footprint .ensures .took), c .before .before .enter .ensures)
+returns c =
+    let start = c .before .before .before .before .before .before .before .before .before .before .before .before .before .before .before .before .before .before in
+    let at-requires-first = c .before .before .before .before .before .before .before .before .before .before .before .before .before .requires-first in
+    let at-requires-count = c .before .before .before .before .before .before .before .before .before .before .before .requires-count in
+    let at-footprint = c .before .before .before .before .before .before .before .before .footprint in
+    let at-k = c .before .before .before .before .before .before .k in
+    let at-enter = c .before .before .enter in
+    inl (_, sym (requires-takes _ _ _ (start .pre) (at-requires-first .ensures .0) (at-requires-count .ensures .0)) ∙ took-cells _ _ _ (at-k .given .1) (at-footprint .ensures .took), at-enter .ensures)
 
 same-length-2 : tie.Need-same-length-2
 same-length-2 c = search needs
 
 returns-2 : tie.Need-returns-2
-returns-2 c = inr (_, sym (requires-takes _ _ _ (c .before .before .before .before .before .before .before .before .before .before .before .before .before .pre) (c .before .before .before .before .before .before .before .before .requires-first .ensures .0) (c .before .before .before .before .before .before .requires-count .ensures .0)) ∙ took-lacking _ _ _ (c .before .s .given .1) (c .before .before .before .footprint .ensures .took), refl, refl)
+returns-2 c =
+    let start = c .before .before .before .before .before .before .before .before .before .before .before .before .before in
+    let at-requires-first = c .before .before .before .before .before .before .before .before .requires-first in
+    let at-requires-count = c .before .before .before .before .before .before .requires-count in
+    let at-footprint = c .before .before .before .footprint in
+    inr (_, sym (requires-takes _ _ _ (start .pre) (at-requires-first .ensures .0) (at-requires-count .ensures .0)) ∙ took-lacking _ _ _ (c .before .s .given .1) (at-footprint .ensures .took), refl, refl)
 
 pub admit-spec : {M : Type 1} → statement M
 admit-spec =

@@ -3,6 +3,9 @@ use borrow.Author.Needs.{needs}
 use Rattle.calls.proofs.enter.Statement.{statement}
 use Rattle.calls.proofs.enter.Tie as tie
 
+cast-if1 : tie.Need-cast-if1
+cast-if1 c = search needs
+
 returns : tie.Need-returns
 returns c = search needs
 
@@ -31,6 +34,7 @@ pub enter-spec : {M : Type 1} → statement M
 enter-spec =
     tie.close
     (tie.spec
+    cast-if1
     returns
     first-row-at-requires
     add-mark

@@ -34,10 +34,15 @@ variable-requires : tie.Need-variable-requires
 variable-requires c κs = search needs
 
 x-at-requires : tie.Need-x-at-requires
-x-at-requires c κs = (size (c .before .before .before .before .before .before .before .before .before .pre .ready), omega (arith, c .before .before .before .saved-row .ensures .0, last-saved (c .before .before .before .before .before .before .before .before .before .pre .ready) (c .before .before .before .before .before .before .before .before .before .pre .inner) .0, c .before .before .before .before .before .before .before .before .before .pre .ready .represents .tables .rows))
+x-at-requires c κs =
+    let start = c .before .before .before .before .before .before .before .before .before in
+    let at-saved-row = c .before .before .before .saved-row in
+    (size (start .pre .ready), omega (arith, at-saved-row .ensures .0, last-saved (start .pre .ready) (start .pre .inner) .0, start .pre .ready .represents .tables .rows))
 
 mark-requires : tie.Need-mark-requires
-mark-requires c κs = ((size (c .before .before .before .before .before .before .before .before .before .before .before .pre .ready), (c .before .before .before .before .before .before .before .before .before .before .before .pre .count, c .before .before .before .before .before .before .before .before .before .before .before .pre .size)), end-small (c .before .before .before .before .before .before .before .before .before .before .before .pre .ready) (c .before .before .before .before .before .before .before .before .before .before .before .pre .inner) _ (c .before .before .before .before .before .before .before .before .before .before .before .pre .took))
+mark-requires c κs =
+    let start = c .before .before .before .before .before .before .before .before .before .before .before in
+    ((size (start .pre .ready), (start .pre .count, start .pre .size)), end-small (start .pre .ready) (start .pre .inner) _ (start .pre .took))
 
 mul-put-word : tie.Need-mul-put-word
 mul-put-word c = search needs
@@ -61,8 +66,16 @@ same-length : tie.Need-same-length
 same-length c = search needs
 
 returns : tie.Need-returns
-returns c = let at : frameAt (c .before .before .before .before .before .before .before .before .before .before .before .before .before .before .before .before .before .before .before .args .c .frames - 2) + 72 ≡ frameAt (c .before .before .before .before .before .before .before .before .before .before .before .before .before .before .before .before .before .before .before .args .c .frames - 1) = omega (arith, frames-fit (c .before .before .before .before .before .before .before .before .before .before .before .before .before .before .before .before .before .before .before .pre .ready), c .before .before .before .before .before .before .before .before .before .before .before .before .before .before .before .before .before .before .before .pre .inner) in
-    leave-does (c .before .before .before .before .before .before .before .before .before .before .before .before .before .before .before .before .before .before .before .pre .ready) (c .before .before .before .before .before .before .before .before .before .before .before .before .before .before .before .before .before .before .before .pre .inner) _ _ _ _ _ (c .before .before .before .before .before .before .before .before .before .before .before .before .before .before .before .before .before .before .before .pre .took) (c .before .before .before .before .before .before .before .before .before .before .before .before .before .before .before .saved-holder .ensures) (search needs) (c .before .before .before .before .before .before .before .before .before .before .before .before .before .saved-row .ensures .0) (c .before .before .before .before .before .before .before .before .before .x-at .ensures .0) (c .before .before .before .before .before .before .before .before .before .before .before .variable .ensures ∙ rw at) (search needs) (c .before .before .before .put-word .ensures ∙ rw (c .before .before .before .before .before .before .before .mark .ensures)) (c .back-in .ensures)
+returns c =
+    let start = c .before .before .before .before .before .before .before .before .before .before .before .before .before .before .before .before .before .before .before in
+    let at-saved-holder = c .before .before .before .before .before .before .before .before .before .before .before .before .before .before .before .saved-holder in
+    let at-saved-row = c .before .before .before .before .before .before .before .before .before .before .before .before .before .saved-row in
+    let at-variable = c .before .before .before .before .before .before .before .before .before .before .before .variable in
+    let at-x-at = c .before .before .before .before .before .before .before .before .before .x-at in
+    let at-mark = c .before .before .before .before .before .before .before .mark in
+    let at-put-word = c .before .before .before .put-word in
+    let at : frameAt (start .args .c .frames - 2) + 72 ≡ frameAt (start .args .c .frames - 1) = omega (arith, frames-fit (start .pre .ready), start .pre .inner) in
+    leave-does (start .pre .ready) (start .pre .inner) _ _ _ _ _ (start .pre .took) (at-saved-holder .ensures) (search needs) (at-saved-row .ensures .0) (at-x-at .ensures .0) (at-variable .ensures ∙ rw at) (search needs) (at-put-word .ensures ∙ rw (at-mark .ensures)) (c .back-in .ensures)
 
 pub leave-spec : {M : Type 1} → statement M
 leave-spec =

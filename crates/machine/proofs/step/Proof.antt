@@ -29,7 +29,10 @@ return-step-requires : tie.Need-return-step-requires
 return-step-requires c κs = search needs
 
 assert-step-requires : tie.Need-assert-step-requires
-assert-step-requires c κs = (c .before .before .before .before .before .before .pre .0, ⊎-elim (λ e z. omega (arith, e, z, c .before .before .kind-of .ensures)) (λ e z. omega (arith, e, z, c .before .before .kind-of .ensures)) (c .before .match .keys6))
+assert-step-requires c κs =
+    let start = c .before .before .before .before .before .before in
+    let at-kind-of = c .before .before .kind-of in
+    (start .pre .0, ⊎-elim (λ e z. omega (arith, e, z, at-kind-of .ensures)) (λ e z. omega (arith, e, z, at-kind-of .ensures)) (c .before .match .keys6))
 
 release-step-requires : tie.Need-release-step-requires
 release-step-requires c κs = search needs
@@ -47,61 +50,117 @@ same-length : tie.Need-same-length
 same-length c = search needs
 
 returns : tie.Need-returns
-returns c = Stepping.sets (c .before .before .before .before .before .before .before .before .before .pre .0) _ (sym (c .before .before .before .before .before .kind-of .ensures) ∙ c .before .before .before .before .match .keys1) (c .before .before .set-step .ensures)
+returns c =
+    let start = c .before .before .before .before .before .before .before .before .before in
+    let at-kind-of = c .before .before .before .before .before .kind-of in
+    let at-match = c .before .before .before .before .match in
+    let at-set-step = c .before .before .set-step in
+    Stepping.sets (start .pre .0) _ (sym (at-kind-of .ensures) ∙ at-match .keys1) (at-set-step .ensures)
 
 same-length-2 : tie.Need-same-length-2
 same-length-2 c = search needs
 
 returns-2 : tie.Need-returns-2
-returns-2 c = Stepping.lets (c .before .before .before .before .before .before .before .before .before .pre .0) _ (sym (c .before .before .before .before .before .kind-of .ensures) ∙ c .before .before .before .before .match .keys2) (c .before .before .let-step .ensures)
+returns-2 c =
+    let start = c .before .before .before .before .before .before .before .before .before in
+    let at-kind-of = c .before .before .before .before .before .kind-of in
+    let at-match = c .before .before .before .before .match in
+    let at-let-step = c .before .before .let-step in
+    Stepping.lets (start .pre .0) _ (sym (at-kind-of .ensures) ∙ at-match .keys2) (at-let-step .ensures)
 
 same-length-3 : tie.Need-same-length-3
 same-length-3 c = search needs
 
 returns-3 : tie.Need-returns-3
-returns-3 c = Stepping.news (c .before .before .before .before .before .before .before .before .before .pre .0) _ (sym (c .before .before .before .before .before .kind-of .ensures) ∙ c .before .before .before .before .match .keys3) (c .before .before .new-step .ensures)
+returns-3 c =
+    let start = c .before .before .before .before .before .before .before .before .before in
+    let at-kind-of = c .before .before .before .before .before .kind-of in
+    let at-match = c .before .before .before .before .match in
+    let at-new-step = c .before .before .new-step in
+    Stepping.news (start .pre .0) _ (sym (at-kind-of .ensures) ∙ at-match .keys3) (at-new-step .ensures)
 
 same-length-4 : tie.Need-same-length-4
 same-length-4 c = search needs
 
 returns-4 : tie.Need-returns-4
-returns-4 c = Stepping.calls (c .before .before .before .before .before .before .before .before .before .pre .0) _ (sym (c .before .before .before .before .before .kind-of .ensures) ∙ c .before .before .before .before .match .keys4) (c .before .before .call-step .ensures)
+returns-4 c =
+    let start = c .before .before .before .before .before .before .before .before .before in
+    let at-kind-of = c .before .before .before .before .before .kind-of in
+    let at-match = c .before .before .before .before .match in
+    let at-call-step = c .before .before .call-step in
+    Stepping.calls (start .pre .0) _ (sym (at-kind-of .ensures) ∙ at-match .keys4) (at-call-step .ensures)
 
 same-length-5 : tie.Need-same-length-5
 same-length-5 c = search needs
 
 returns-5 : tie.Need-returns-5
-returns-5 c = Stepping.returns (c .before .before .before .before .before .before .before .before .before .pre .0) _ (sym (c .before .before .before .before .before .kind-of .ensures) ∙ c .before .before .before .before .match .keys5) (c .before .before .return-step .ensures)
+returns-5 c =
+    let start = c .before .before .before .before .before .before .before .before .before in
+    let at-kind-of = c .before .before .before .before .before .kind-of in
+    let at-match = c .before .before .before .before .match in
+    let at-return-step = c .before .before .return-step in
+    Stepping.returns (start .pre .0) _ (sym (at-kind-of .ensures) ∙ at-match .keys5) (at-return-step .ensures)
 
 same-length-6 : tie.Need-same-length-6
 same-length-6 c = search needs
 
 returns-6 : tie.Need-returns-6
-returns-6 c = Stepping.asserts (c .before .before .before .before .before .before .before .pre .0) _ (⊎-elim (λ e. inl (sym (c .before .before .before .kind-of .ensures) ∙ e)) (λ e. inr (sym (c .before .before .before .kind-of .ensures) ∙ e)) (c .before .before .match .keys6)) (c .assert-step .ensures)
+returns-6 c =
+    let start = c .before .before .before .before .before .before .before in
+    let at-kind-of = c .before .before .before .kind-of in
+    let at-match = c .before .before .match in
+    Stepping.asserts (start .pre .0) _ (⊎-elim (λ e. inl (sym (at-kind-of .ensures) ∙ e)) (λ e. inr (sym (at-kind-of .ensures) ∙ e)) (at-match .keys6)) (c .assert-step .ensures)
 
 same-length-7 : tie.Need-same-length-7
 same-length-7 c = search needs
 
 returns-7 : tie.Need-returns-7
-returns-7 c = Stepping.releases (c .before .before .before .before .before .before .before .before .before .pre .0) _ (sym (c .before .before .before .before .before .kind-of .ensures) ∙ c .before .before .before .before .match .keys7) (c .before .before .release-step .ensures)
+returns-7 c =
+    let start = c .before .before .before .before .before .before .before .before .before in
+    let at-kind-of = c .before .before .before .before .before .kind-of in
+    let at-match = c .before .before .before .before .match in
+    let at-release-step = c .before .before .release-step in
+    Stepping.releases (start .pre .0) _ (sym (at-kind-of .ensures) ∙ at-match .keys7) (at-release-step .ensures)
 
 same-length-8 : tie.Need-same-length-8
 same-length-8 c = search needs
 
 returns-8 : tie.Need-returns-8
-returns-8 c = Stepping.ifs (c .before .before .before .before .before .before .before .pre .0) _ (sym (c .before .before .before .kind-of .ensures) ∙ c .before .before .match .keys8) (c .if-step .ensures)
+returns-8 c =
+    let start = c .before .before .before .before .before .before .before in
+    let at-kind-of = c .before .before .before .kind-of in
+    let at-match = c .before .before .match in
+    Stepping.ifs (start .pre .0) _ (sym (at-kind-of .ensures) ∙ at-match .keys8) (c .if-step .ensures)
 
 same-length-9 : tie.Need-same-length-9
 same-length-9 c = search needs
 
 returns-9 : tie.Need-returns-9
-returns-9 c = Stepping.elses (c .before .before .before .before .before .before .before .pre .0) _ (sym (c .before .before .before .kind-of .ensures) ∙ c .before .before .match .keys9) (c .else-step .ensures)
+returns-9 c =
+    let start = c .before .before .before .before .before .before .before in
+    let at-kind-of = c .before .before .before .kind-of in
+    let at-match = c .before .before .match in
+    Stepping.elses (start .pre .0) _ (sym (at-kind-of .ensures) ∙ at-match .keys9) (c .else-step .ensures)
 
 same-length-10 : tie.Need-same-length-10
 same-length-10 c = search needs
 
 returns-10 : tie.Need-returns-10
-returns-10 c = Stepping.ends (c .before .before .before .before .before .before .before .before .before .pre .0) _ (Stepping.only-end _ (fits (c .before .before .before .before .before .before .before .before .before .pre .0) .kind .0) (fits (c .before .before .before .before .before .before .before .before .before .pre .0) .kind .1) (λ z. c .before .before .before .before .match .rest .0 .0 .0 .0 .0 .0 .0 .0 .1 (c .before .before .before .before .before .kind-of .ensures ∙ z)) (λ z. c .before .before .before .before .match .rest .0 .0 .0 .0 .0 .0 .0 .1 (c .before .before .before .before .before .kind-of .ensures ∙ z)) (λ z. c .before .before .before .before .match .rest .0 .0 .0 .0 .0 .0 .1 (c .before .before .before .before .before .kind-of .ensures ∙ z)) (λ z. c .before .before .before .before .match .rest .0 .0 .0 .0 .0 .1 (c .before .before .before .before .before .kind-of .ensures ∙ z)) (λ z. c .before .before .before .before .match .rest .0 .0 .0 .0 .1 (c .before .before .before .before .before .kind-of .ensures ∙ z)) (λ o. c .before .before .before .before .match .rest .0 .0 .0 .1 (⊎-elim (λ z. inl (c .before .before .before .before .before .kind-of .ensures ∙ z)) (λ z. inr (c .before .before .before .before .before .kind-of .ensures ∙ z)) o)) (λ z. c .before .before .before .before .match .rest .0 .0 .1 (c .before .before .before .before .before .kind-of .ensures ∙ z)) (λ z. c .before .before .before .before .match .rest .0 .1 (c .before .before .before .before .before .kind-of .ensures ∙ z)) (λ z. c .before .before .before .before .match .rest .1 (c .before .before .before .before .before .kind-of .ensures ∙ z))) (c .before .before .end-step .ensures)
+returns-10 c = Stepping.ends (c .before .before .before .before .before .before .before .before .before .pre .0) _ (sym (c .before .before .before .before .before .kind-of .ensures) ∙ c .before .before .before .before .match .keys10) (c .before .before .end-step .ensures)
+
+same-length-11 : tie.Need-same-length-11
+same-length-11 c = search needs
+
+returns-11 : tie.Need-returns-11
+returns-11 c =
+    let is = c .before .kind-of .ensures in
+    let other = c .match .rest in
+    let fit = fits (c .before .before .before .before .before .pre .0) .kind in
+    absurd (other .1
+    (is ∙ Stepping.only-end _ (fit .0) (fit .1) (λ z. other .0 .0 .0 .0 .0 .0 .0 .0 .0 .1 (is ∙ z)) (λ z. other .0 .0 .0 .0 .0 .0 .0 .0 .1 (is ∙ z))
+    (λ z. other .0 .0 .0 .0 .0 .0 .0 .1 (is ∙ z)) (λ z. other .0 .0 .0 .0 .0 .0 .1 (is ∙ z)) (λ z. other .0 .0 .0 .0 .0 .1 (is ∙ z))
+    (λ o. other .0 .0 .0 .0 .1 (⊎-elim (λ z. inl (is ∙ z)) (λ z. inr (is ∙ z)) o)) (λ z. other .0 .0 .0 .1 (is ∙ z))
+    (λ z. other .0 .0 .1 (is ∙ z)) (λ z. other .0 .1 (is ∙ z))))
 
 pub step-spec : {M : Type 1} → statement M
 step-spec =
@@ -138,4 +197,6 @@ step-spec =
     same-length-9
     returns-9
     same-length-10
-    returns-10)
+    returns-10
+    same-length-11
+    returns-11)

@@ -21,7 +21,10 @@ put-word-requires : tie.Need-put-word-requires Inv-loop μ-loop
 put-word-requires c κs = omega (arith, c .before .before .before .pre .1)
 
 loop-holds : tie.Need-loop-holds Inv-loop μ-loop
-loop-holds c = ((omega arith, omega arith), (refl, word-first (c .before .before .before .before .before .before .args .results .now) _ _ (mainValues (c .before .before .before .before .before .before .args .work .now)) (c .before .before .put-word .ensures) (omega (arith, c .before .before .before .before .before .before .pre .1))))
+loop-holds c =
+    let start = c .before .before .before .before .before .before in
+    let at-put-word = c .before .before .put-word in
+    ((omega arith, omega arith), (refl, word-first (start .args .results .now) _ _ (mainValues (start .args .work .now)) (at-put-word .ensures) (omega (arith, start .pre .1))))
 
 add-word-at : tie.Need-add-word-at Inv-loop μ-loop
 add-word-at c = omega arith
@@ -39,7 +42,11 @@ mul-put-word : tie.Need-mul-put-word Inv-loop μ-loop
 mul-put-word c = omega arith
 
 put-word-requires-2 : tie.Need-put-word-requires-2 Inv-loop μ-loop
-put-word-requires-2 c κs = omega (arith, c .before .before .before .before .before .before .before .before .before .before .pre .1, c .before .before .before .loop .inv .1 .0, c .before .before .before .before .before .before .put-word .kept .0, c .before .before .before .loop .inv .0)
+put-word-requires-2 c κs =
+    let start = c .before .before .before .before .before .before .before .before .before .before in
+    let at-put-word = c .before .before .before .before .before .before .put-word in
+    let at-loop = c .before .before .before .loop in
+    omega (arith, start .pre .1, at-loop .inv .1 .0, at-put-word .kept .0, at-loop .inv .0)
 
 add-i : tie.Need-add-i Inv-loop μ-loop
 add-i c = omega arith
@@ -49,13 +56,17 @@ loop-less c = omega arith
 
 loop-again : tie.Need-loop-again Inv-loop μ-loop
 loop-again c =
-    let n = values-length (c .before .before .before .before .before .before .before .before .before .before .before .before .before .args .work .now) (c .before .before .before .before .before .before .before .before .before .before .before .before .before .args .steps) in (
+    let start = c .before .before .before .before .before .before .before .before .before .before .before .before .before in
+    let at-put-word = c .before .before .before .before .before .before .before .before .before .put-word in
+    let at-loop = c .before .before .before .before .before .before .loop in
+    let at-word-at = c .before .before .before .before .word-at in
+    let at-put-word2 = c .before .before .put-word2 in
+    let n = values-length (start .args .work .now) (start .args .steps) in (
       (omega arith, omega arith),
       (
-        c .before .before .put-word2 .kept .0 ∙ c .before .before .before .before .before .before .loop .inv .1 .0,
-        c .before .before .put-word2 .ensures
-            ∙ rw (c .before .before .before .before .before .before .loop .inv .1 .1)
-            (word-more _ _ (c .before .before .before .before .before .before .loop .i) _ (omega (arith, n)) (value-is (c .before .before .before .before .before .before .before .before .before .before .before .before .before .args .work .now) (c .before .before .before .before .before .before .before .before .before .before .before .before .before .args .steps) (c .before .before .before .before .before .before .loop .i) (c .before .before .before .before .before .before .loop .inv .0 .0) (omega arith) ∙ sym (c .before .before .before .before .word-at .ensures)) (c .before .before .before .before .before .before .before .before .before .put-word .kept .0 ∙ (c .before .before .before .before .before .before .before .before .before .before .before .before .before .pre .1 ∙ ap (λ m. m * 4) (sym n)))),
+        at-put-word2 .kept .0 ∙ at-loop .inv .1 .0,
+        at-put-word2 .ensures ∙ rw (at-loop .inv .1 .1) (word-more _ _ (at-loop .i) _ (omega (arith, n)) (value-is (start .args .work .now) (start .args .steps) (at-loop .i) (at-loop .inv .0 .0) (omega arith) ∙ sym (at-word-at .ensures))
+            (at-put-word .kept .0 ∙ (start .pre .1 ∙ ap (λ m. m * 4) (sym n)))),
       ),
     )
 
@@ -64,8 +75,10 @@ same-length c = c .before .loop .inv .1 .0 ∙ c .before .before .before .before
 
 returns : tie.Need-returns Inv-loop μ-loop
 returns c =
-    let n = values-length (c .before .before .before .before .before .before .before .before .args .work .now) (c .before .before .before .before .before .before .before .before .args .steps) in
-    c .before .loop .inv .1 .1 ∙ words-all _ _ (c .before .loop .i) (omega (arith, n, c .loop-test .left)) (c .before .before .before .before .put-word .kept .0 ∙ (c .before .before .before .before .before .before .before .before .pre .1 ∙ ap (λ m. m * 4) (sym n)))
+    let start = c .before .before .before .before .before .before .before .before in
+    let at-put-word = c .before .before .before .before .put-word in
+    let n = values-length (start .args .work .now) (start .args .steps) in c .before .loop .inv .1 .1 ∙ words-all _ _ (c .before .loop .i) (omega (arith, n, c .loop-test .left))
+    (at-put-word .kept .0 ∙ (start .pre .1 ∙ ap (λ m. m * 4) (sym n)))
 
 pub put-results-spec : {M : Type 1} → statement M
 put-results-spec =

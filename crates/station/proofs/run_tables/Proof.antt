@@ -5,17 +5,26 @@ use Rattle.station.proofs.Texts.{ran-numbers, ran-bytes}
 use Rattle.station.proofs.run_tables.Statement.{statement}
 use Rattle.station.proofs.run_tables.Tie as tie
 
+cast-run : tie.Need-cast-run
+cast-run c = search needs
+
+cast-run-2 : tie.Need-cast-run-2
+cast-run-2 c = search needs
+
 run-requires : tie.Need-run-requires
 run-requires c κs = search needs
 
 put-results-requires : tie.Need-put-results-requires
-put-results-requires c κs = (c .before .before .before .before .run .ensures .tables .size ∙ c .before .before .before .before .before .before .before .before .pre .0 .size, c .before .before .before .before .before .before .before .before .pre .1)
+put-results-requires c κs =
+    let start = c .before .before .before .before .before .before .before .before in
+    let at-run = c .before .before .before .before .run in
+    (at-run .ensures .tables .size ∙ start .pre .0 .size, start .pre .1)
 
 number-of-requires : tie.Need-number-of-requires
 number-of-requires c κs = search needs
 
-cast-t14 : tie.Need-cast-t14
-cast-t14 c = search needs
+cast-line : tie.Need-cast-line
+cast-line c = search needs
 
 same-length : tie.Need-same-length
 same-length c = c .before .before .before .before .before .before .before .before .before .run .ensures .tables .size
@@ -24,7 +33,11 @@ same-length-2 : tie.Need-same-length-2
 same-length-2 c = c .before .before .before .before .put-results .kept .1 .0
 
 returns : tie.Need-returns
-returns c = (ran-numbers (c .before .before .before .before .before .before .before .before .before .run .ensures) (c .before .number-of .ensures), c .before .before .before .before .put-results .ensures ∙ ran-bytes (c .before .before .before .before .before .before .before .before .before .run .ensures), c .before .before .before .before .before .before .before .before .before .run .ensures .tables .size ∙ c .before .before .before .before .before .before .before .before .before .before .before .before .before .pre .0 .size)
+returns c =
+    let start = c .before .before .before .before .before .before .before .before .before .before .before .before .before in
+    let at-run = c .before .before .before .before .before .before .before .before .before .run in
+    let at-put-results = c .before .before .before .before .put-results in
+    (ran-numbers (at-run .ensures) (c .before .number-of .ensures), at-put-results .ensures ∙ ran-bytes (at-run .ensures), at-run .ensures .tables .size ∙ start .pre .0 .size)
 
 pub run-tables-spec : {M : Type 1} → statement M
-run-tables-spec = tie.close (tie.spec run-requires put-results-requires number-of-requires cast-t14 same-length same-length-2 returns)
+run-tables-spec = tie.close (tie.spec cast-run cast-run-2 run-requires put-results-requires number-of-requires cast-line same-length same-length-2 returns)

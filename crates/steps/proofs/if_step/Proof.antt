@@ -15,7 +15,9 @@ view-of-requires : tie.Need-view-of-requires
 view-of-requires c κs = search needs
 
 condition-requires : tie.Need-condition-requires
-condition-requires c κs = (view-readable (c .before .before .before .before .pre .0) (c .view-of .ensures), rw (c .before .first-atom-at .ensures .0) (if-atom (c .before .before .before .before .pre .0) (c .before .before .before .before .pre .1)))
+condition-requires c κs =
+    let start = c .before .before .before .before in
+    (view-readable (start .pre .0) (c .view-of .ensures), rw (c .before .first-atom-at .ensures .0) (if-atom (start .pre .0) (start .pre .1)))
 
 enum-told : tie.Need-enum-told
 enum-told c = search needs
@@ -42,13 +44,30 @@ enum-known-s : tie.Need-enum-known-s
 enum-known-s c = search needs
 
 returns : tie.Need-returns
-returns c = if-holds (c .before .before .before .before .before .before .before .before .before .pre .0) (c .before .before .before .before .before .before .before .before .before .pre .1) _ _ (c .before .before .before .before .before .view-of .ensures) (c .before .before .before .before .before .before .first-atom-at .ensures .0) (truth-holds _ (c .before .before .enum-told .given .1) (c .before .before .before .before .condition .ensures)) (c .next .ensures)
+returns c =
+    let start = c .before .before .before .before .before .before .before .before .before in
+    let at-first-atom-at = c .before .before .before .before .before .before .first-atom-at in
+    let at-view-of = c .before .before .before .before .before .view-of in
+    let at-condition = c .before .before .before .before .condition in
+    let at-enum-told = c .before .before .enum-told in
+    if-holds (start .pre .0) (start .pre .1) _ _ (at-view-of .ensures) (at-first-atom-at .ensures .0) (truth-holds _ (at-enum-told .given .1) (at-condition .ensures)) (c .next .ensures)
 
 returns-2 : tie.Need-returns-2
-returns-2 c = if-fails (c .before .before .before .before .before .before .before .before .before .pre .0) (c .before .before .before .before .before .before .before .before .before .pre .1) _ _ (c .before .before .before .before .before .view-of .ensures) (c .before .before .before .before .before .before .first-atom-at .ensures .0) (truth-fails _ (c .before .before .enum-told2 .given .1) (c .before .before .before .before .condition .ensures)) (c .next2 .ensures ∙ rw (c .before .target-at .ensures .0))
+returns-2 c =
+    let start = c .before .before .before .before .before .before .before .before .before in
+    let at-first-atom-at = c .before .before .before .before .before .before .first-atom-at in
+    let at-view-of = c .before .before .before .before .before .view-of in
+    let at-condition = c .before .before .before .before .condition in
+    let at-enum-told2 = c .before .before .enum-told2 in
+    if-fails (start .pre .0) (start .pre .1) _ _ (at-view-of .ensures) (at-first-atom-at .ensures .0) (truth-fails _ (at-enum-told2 .given .1) (at-condition .ensures)) (c .next2 .ensures ∙ rw (c .before .target-at .ensures .0))
 
 returns-3 : tie.Need-returns-3
-returns-3 c = if-stops (c .before .before .before .before .before .before .before .before .pre .0) (c .before .before .before .before .before .before .before .before .pre .1) _ _ (c .before .before .before .before .view-of .ensures) (c .before .before .before .before .before .first-atom-at .ensures .0) _ (truth-lacking _ _ (c .before .s .given .1) (c .before .before .before .condition .ensures))
+returns-3 c =
+    let start = c .before .before .before .before .before .before .before .before in
+    let at-first-atom-at = c .before .before .before .before .before .first-atom-at in
+    let at-view-of = c .before .before .before .before .view-of in
+    let at-condition = c .before .before .before .condition in
+    if-stops (start .pre .0) (start .pre .1) _ _ (at-view-of .ensures) (at-first-atom-at .ensures .0) _ (truth-lacking _ _ (c .before .s .given .1) (at-condition .ensures))
 
 pub if-step-spec : {M : Type 1} → statement M
 if-step-spec =

@@ -11,7 +11,11 @@ enum-known-n : tie.Need-enum-known-n
 enum-known-n c = search needs
 
 mark-requires : tie.Need-mark-requires
-mark-requires c κs = ((size (c .before .before .before .before .before .before .before .before .before .pre .0), (count-cells _ _ _ (c .before .before .before .n .given .1) (c .before .before .before .before .before .row-footprint .ensures .count), c .before .before .before .before .before .row-footprint .ensures .size)), taken-small (c .before .before .before .before .before .before .before .before .before .pre .0) _ (took-cells _ _ _ (c .before .before .before .n .given .1) (c .before .before .before .before .before .row-footprint .ensures .took)))
+mark-requires c κs =
+    let start = c .before .before .before .before .before .before .before .before .before in
+    let at-row-footprint = c .before .before .before .before .before .row-footprint in
+    let at-n = c .before .before .before .n in
+    ((size (start .pre .0), (count-cells _ _ _ (at-n .given .1) (at-row-footprint .ensures .count), at-row-footprint .ensures .size)), taken-small (start .pre .0) _ (took-cells _ _ _ (at-n .given .1) (at-row-footprint .ensures .took)))
 
 add-next : tie.Need-add-next
 add-next c = search needs
@@ -26,13 +30,21 @@ same-length : tie.Need-same-length
 same-length c = search needs
 
 returns : tie.Need-returns
-returns c = release-does (c .before .before .before .before .before .before .before .before .before .before .before .before .before .before .pre .0) _ (c .before .before .before .before .before .before .before .before .before .before .before .before .before .before .pre .1) (took-cells _ _ _ (c .before .before .before .before .before .before .before .before .n .given .1) (c .before .before .before .before .before .before .before .before .before .before .row-footprint .ensures .took)) (c .before .before .before .before .mark .ensures) (c .next .ensures)
+returns c =
+    let start = c .before .before .before .before .before .before .before .before .before .before .before .before .before .before in
+    let at-row-footprint = c .before .before .before .before .before .before .before .before .before .before .row-footprint in
+    let at-n = c .before .before .before .before .before .before .before .before .n in
+    let at-mark = c .before .before .before .before .mark in
+    release-does (start .pre .0) _ (start .pre .1) (took-cells _ _ _ (at-n .given .1) (at-row-footprint .ensures .took)) (at-mark .ensures) (c .next .ensures)
 
 same-length-2 : tie.Need-same-length-2
 same-length-2 c = search needs
 
 returns-2 : tie.Need-returns-2
-returns-2 c = release-stops (c .before .before .before .before .before .before .before .pre .0) _ (took-lacking _ _ _ (c .before .s .given .1) (c .before .before .before .row-footprint .ensures .took))
+returns-2 c =
+    let start = c .before .before .before .before .before .before .before in
+    let at-row-footprint = c .before .before .before .row-footprint in
+    release-stops (start .pre .0) _ (took-lacking _ _ _ (c .before .s .given .1) (at-row-footprint .ensures .took))
 
 pub release-step-spec : {M : Type 1} → statement M
 release-step-spec =

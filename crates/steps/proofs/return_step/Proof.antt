@@ -14,13 +14,22 @@ x-at-requires : tie.Need-x-at-requires
 x-at-requires c κs = search needs
 
 variable-requires : tie.Need-variable-requires
-variable-requires c κs = (omega (arith, base-fits (c .before .before .before .before .before .before .pre .0) (c .before .before .before .view-of .ensures), size (c .before .before .before .before .before .before .pre .0)), omega (arith, c .before .x-at .ensures .0, fits (c .before .before .before .before .before .before .pre .0) .x))
+variable-requires c κs =
+    let start = c .before .before .before .before .before .before in
+    let at-view-of = c .before .before .before .view-of in
+    (omega (arith, base-fits (start .pre .0) (at-view-of .ensures), size (start .pre .0)), omega (arith, c .before .x-at .ensures .0, fits (start .pre .0) .x))
 
 add-put-word : tie.Need-add-put-word
-add-put-word c = omega (arith, base-fits (c .before .before .before .before .before .before .before .before .pre .0) (c .before .before .before .before .before .view-of .ensures), size (c .before .before .before .before .before .before .before .before .pre .0))
+add-put-word c =
+    let start = c .before .before .before .before .before .before .before .before in
+    let at-view-of = c .before .before .before .before .before .view-of in
+    omega (arith, base-fits (start .pre .0) (at-view-of .ensures), size (start .pre .0))
 
 put-word-requires : tie.Need-put-word-requires
-put-word-requires c κs = omega (arith, base-fits (c .before .before .before .before .before .before .before .before .pre .0) (c .before .before .before .before .before .view-of .ensures), size (c .before .before .before .before .before .before .before .before .pre .0))
+put-word-requires c κs =
+    let start = c .before .before .before .before .before .before .before .before in
+    let at-view-of = c .before .before .before .before .before .view-of in
+    omega (arith, base-fits (start .pre .0) (at-view-of .ensures), size (start .pre .0))
 
 add-next : tie.Need-add-next
 add-next c = search needs
@@ -32,7 +41,13 @@ same-length : tie.Need-same-length
 same-length c = search needs
 
 returns : tie.Need-returns
-returns c = return-does (c .before .before .before .before .before .before .before .before .before .before .before .before .before .pre .0) _ _ _ (c .before .before .before .before .before .before .before .before .before .before .before .before .before .pre .1) (c .before .before .before .before .before .before .before .before .before .before .view-of .ensures) (c .before .before .before .before .before .before .before .before .x-at .ensures .0) (search needs) (c .before .before .before .before .before .before .variable .ensures) (c .before .before .before .before .put-word .ensures) (c .next .ensures)
+returns c =
+    let start = c .before .before .before .before .before .before .before .before .before .before .before .before .before in
+    let at-view-of = c .before .before .before .before .before .before .before .before .before .before .view-of in
+    let at-x-at = c .before .before .before .before .before .before .before .before .x-at in
+    let at-variable = c .before .before .before .before .before .before .variable in
+    let at-put-word = c .before .before .before .before .put-word in
+    return-does (start .pre .0) _ _ _ (start .pre .1) (at-view-of .ensures) (at-x-at .ensures .0) (search needs) (at-variable .ensures) (at-put-word .ensures) (c .next .ensures)
 
 pub return-step-spec : {M : Type 1} → statement M
 return-step-spec =

@@ -17,10 +17,19 @@ atom-count-at-requires : tie.Need-atom-count-at-requires
 atom-count-at-requires c κs = search needs
 
 footprint-requires : tie.Need-footprint-requires
-footprint-requires c κs = let r = row-atoms (c .before .before .before .before .before .before .pre .0) _ _ _ (c .before .before .before .view-of .ensures) (c .before .before .first-atom-at .ensures .0) (c .before .atom-count-at .ensures .0) in ((view-readable (c .before .before .before .before .before .before .pre .0) (c .before .before .before .view-of .ensures), r .0), (r .1, c .before .before .before .before .before .before .pre .1))
+footprint-requires c κs =
+    let start = c .before .before .before .before .before .before in
+    let at-view-of = c .before .before .before .view-of in
+    let at-first-atom-at = c .before .before .first-atom-at in
+    let r = row-atoms (start .pre .0) _ _ _ (at-view-of .ensures) (at-first-atom-at .ensures .0) (c .before .atom-count-at .ensures .0) in ((view-readable (start .pre .0) (at-view-of .ensures), r .0), (r .1, start .pre .1))
 
 returns : tie.Need-returns
-returns c = record { took = c .footprint .ensures .took ∙ row-takes (c .before .before .before .before .before .before .before .pre .0) _ _ _ (c .before .before .before .before .view-of .ensures) (c .before .before .before .first-atom-at .ensures .0) (c .before .before .atom-count-at .ensures .0); count = c .footprint .ensures .count; size = c .footprint .ensures .size }
+returns c =
+    let start = c .before .before .before .before .before .before .before in
+    let at-view-of = c .before .before .before .before .view-of in
+    let at-first-atom-at = c .before .before .before .first-atom-at in
+    let at-atom-count-at = c .before .before .atom-count-at in
+    record { took = c .footprint .ensures .took ∙ row-takes (start .pre .0) _ _ _ (at-view-of .ensures) (at-first-atom-at .ensures .0) (at-atom-count-at .ensures .0); count = c .footprint .ensures .count; size = c .footprint .ensures .size }
 
 pub row-footprint-spec : {M : Type 1} → statement M
 row-footprint-spec =

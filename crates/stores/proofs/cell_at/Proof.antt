@@ -1,9 +1,7 @@
-use Rattle.stores.proofs.Reading.{cell-is}
-use Rattle.stores.specs.Views.{spotIs, heldCell, stopOf, classIn, firstIn}
-use Rattle.stores.proofs.Reading.{cell-absent, cell-some, cell-small}
+use Rattle.stores.specs.Views.{spotIs, present, stopOf, classIn}
+use Rattle.stores.proofs.Reading.{cell-absent, cell-is}
 use native.Mathlib.Omega.{arith}
-use mathlib.Core.Path.{_≡_, refl, sym, ap, _∙_}
-use Prim.Native.Nat.{suc}
+use mathlib.Core.Path.{_≡_, sym, _∙_}
 use Rattle.tables.specs.Tables.{placeAt}
 use denote.Ref.{now}
 use borrow.Author.Needs.{needs}
@@ -14,23 +12,32 @@ class-of-requires : tie.Need-class-of-requires
 class-of-requires c κs = (c .before .pre .0 .tables .size, omega (arith, c .before .pre .0 .objects, c .before .pre .1 .0))
 
 place-at-requires : tie.Need-place-at-requires
-place-at-requires c κs = (c .before .before .pre .0 .tables .size, (omega (arith, c .class-of .ensures, c .before .before .pre .0 .object (c .before .before .args .i) (c .before .before .pre .1 .0) .class, c .before .before .pre .0 .tables .classes), c .before .before .pre .1 .1))
+place-at-requires c κs =
+    let start = c .before .before in
+    (start .pre .0 .tables .size, (omega (arith, c .class-of .ensures, start .pre .0 .object (start .args .i) (start .pre .1 .0) .class, start .pre .0 .tables .classes), start .pre .1 .1))
 
 returns : tie.Need-returns
-unfolding spotIs heldCell stopOf
-returns c = let e : placeAt (now (c .before .before .before .before .args .work)) (classIn (now (c .before .before .before .before .args .work)) (c .before .before .before .before .args .i)) (c .before .before .before .before .args .f) ≡ 255 = rw (← c .before .before .class-of .ensures) (sym (c .before .place-at .ensures .0) ∙ c .if1 .taken) in rw (cell-absent (now (c .before .before .before .before .args .work)) (c .before .before .before .before .args .v .objects) (c .before .before .before .before .args .i) (c .before .before .before .before .args .f) e)
+unfolding spotIs present stopOf
+returns c =
+    let start = c .before .before .before .before in
+    let at-class-of = c .before .before .class-of in
+    let e : placeAt (now (start .args .work)) (classIn (now (start .args .work)) (start .args .i)) (start .args .f) ≡ 255 = rw (← at-class-of .ensures) (sym (c .before .place-at .ensures .0) ∙ c .if1 .taken) in rw (cell-absent (now (start .args .work)) (start .args .v .objects) (start .args .i) (start .args .f) e)
 
 first-of-requires : tie.Need-first-of-requires
-first-of-requires c κs = (c .before .before .before .before .pre .0 .tables .size, omega (arith, c .before .before .before .before .pre .0 .objects, c .before .before .before .before .pre .1 .0))
+first-of-requires c κs =
+    let start = c .before .before .before .before in
+    (start .pre .0 .tables .size, omega (arith, start .pre .0 .objects, start .pre .1 .0))
 
 add-k : tie.Need-add-k
 add-k c = search needs
 
-held-cell-requires : tie.Need-held-cell-requires
-held-cell-requires c κs = (c .before .before .before .before .before .pre .0 .tables .size, cell-small (suc (c .before .before .before .before .before .args .i)) (c .before .before .before .before .before .args .f) (c .before .before .before .before .before .pre .0 .tables) (c .before .before .before .before .before .pre .0 .object) (cell-is _ _ _ _ _ _ _ (c .before .before .before .class-of .ensures) (c .before .before .place-at .ensures .0) (c .before .if1 .left) (c .first-of .ensures .0) (c .before .before .before .before .before .pre .1 .0) (c .before .before .before .before .before .pre .1 .1)))
-
 returns-2 : tie.Need-returns-2
-returns-2 c = c .held-cell .ensures ∙ ap (heldCell (now (c .before .before .before .before .before .before .args .work)) (c .before .before .before .before .before .before .args .v .holder)) (sym (cell-is _ _ _ _ _ _ _ (c .before .before .before .before .class-of .ensures) (c .before .before .before .place-at .ensures .0) (c .before .before .if1 .left) (c .before .first-of .ensures .0) (c .before .before .before .before .before .before .pre .1 .0) (c .before .before .before .before .before .before .pre .1 .1)))
+unfolding spotIs present
+returns-2 c =
+    let start = c .before .before .before .before .before in
+    let at-class-of = c .before .before .before .class-of in
+    let at-place-at = c .before .before .place-at in
+    rw (cell-is _ _ _ _ _ _ _ (at-class-of .ensures) (at-place-at .ensures .0) (c .before .if1 .left) (c .first-of .ensures .0) (start .pre .1 .0) (start .pre .1 .1))
 
 pub cell-at-spec : {M : Type 1} → statement M
 cell-at-spec =
@@ -41,5 +48,4 @@ cell-at-spec =
     returns
     first-of-requires
     add-k
-    held-cell-requires
     returns-2)

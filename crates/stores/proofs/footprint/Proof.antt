@@ -19,13 +19,17 @@ abbrev μ-loop : tie.MeasureT-loop
 μ-loop work v first n cells₀ seen₀ count₀ i₀ cells seen count i = n - i
 
 loop-holds : tie.Need-loop-holds Inv-loop μ-loop
-loop-holds c = (omega arith, omega arith, c .before .pre .1 .1, let e : c .before .args .first + 0 ≡ c .before .args .first = omega arith in let f : c .before .args .n - 0 ≡ c .before .args .n = omega arith in rw (e, f), sieve-none (c .before .args .cells .now) _ (length-replicate {A = ℕ} 64 0))
+loop-holds c =
+    (omega arith, omega arith, c .before .pre .1 .1, let e : c .before .args .first + 0 ≡ c .before .args .first = omega arith in let f : c .before .args .n - 0 ≡ c .before .args .n = omega arith in rw (e, f), sieve-none (c .before .args .cells .now) _ (length-replicate {A = ℕ} 64 0))
 
 add-take-atom : tie.Need-add-take-atom Inv-loop μ-loop
 add-take-atom c = omega arith
 
 take-atom-requires : tie.Need-take-atom-requires Inv-loop μ-loop
-take-atom-requires c κs = ((c .before .before .before .before .before .pre .0 .0, omega (arith, c .before .before .before .before .before .pre .0 .1)), ((omega arith, c .before .before .before .loop .inv .2), c .before .before .before .loop .inv .4))
+take-atom-requires c κs =
+    let start = c .before .before .before .before .before in
+    let at-loop = c .before .before .before .loop in
+    ((start .pre .0 .0, omega (arith, start .pre .0 .1)), ((omega arith, at-loop .inv .2), at-loop .inv .4))
 
 enum-known-t : tie.Need-enum-known-t Inv-loop μ-loop
 enum-known-t c = search needs
@@ -35,7 +39,11 @@ enum-told c = search needs
 
 returns : tie.Need-returns Inv-loop μ-loop
 unfolding tookIs countOf stopOf
-returns c = record { took = rw (c .enum-told .given .1) (sym (foot-stop _ _ _ _ _ _ _ (c .before .before .before .before .before .loop-test .taken) (took-lacking _ _ _ (c .enum-told .given .1) (c .before .before .take-atom .ensures .0 .took))) ∙ c .before .before .before .before .before .before .loop .inv .3); count = rw (c .enum-told .given .1) (omega arith); size = c .before .before .take-atom .ensures .0 .size }
+returns c =
+    let at-loop = c .before .before .before .before .before .before .loop in
+    let at-loop-test = c .before .before .before .before .before .loop-test in
+    let at-take-atom = c .before .before .take-atom in
+    record { took = rw (c .enum-told .given .1) (sym (foot-stop _ _ _ _ _ _ _ (at-loop-test .taken) (took-lacking _ _ _ (c .enum-told .given .1) (at-take-atom .ensures .0 .took))) ∙ at-loop .inv .3); count = rw (c .enum-told .given .1) (omega arith); size = at-take-atom .ensures .0 .size }
 
 add-i : tie.Need-add-i Inv-loop μ-loop
 add-i c = omega arith
@@ -44,7 +52,11 @@ loop-less : tie.Need-loop-less Inv-loop μ-loop
 loop-less c = omega arith
 
 loop-again : tie.Need-loop-again Inv-loop μ-loop
-loop-again c = (omega (arith, count-cells _ _ _ (c .before .t .given .1) (c .before .before .before .take-atom .ensures .0 .count)), omega arith, c .before .before .before .take-atom .ensures .0 .size, foot-next _ _ _ _ _ _ _ (c .before .before .before .before .before .before .loop-test .taken) (took-cells _ _ _ (c .before .t .given .1) (c .before .before .before .take-atom .ensures .0 .took)) ∙ c .before .before .before .before .before .before .before .loop .inv .3, sieve-cells _ _ _ _ (c .before .t .given .1) (c .before .before .before .take-atom .ensures .1))
+loop-again c =
+    let at-loop = c .before .before .before .before .before .before .before .loop in
+    let at-loop-test = c .before .before .before .before .before .before .loop-test in
+    let at-take-atom = c .before .before .before .take-atom in
+    (omega (arith, count-cells _ _ _ (c .before .t .given .1) (at-take-atom .ensures .0 .count)), omega arith, at-take-atom .ensures .0 .size, foot-next _ _ _ _ _ _ _ (at-loop-test .taken) (took-cells _ _ _ (c .before .t .given .1) (at-take-atom .ensures .0 .took)) ∙ at-loop .inv .3, sieve-cells _ _ _ _ (c .before .t .given .1) (at-take-atom .ensures .1))
 
 returns-2 : tie.Need-returns-2 Inv-loop μ-loop
 unfolding tookIs countOf

@@ -26,13 +26,25 @@ element-copy-out-k : tie.Need-element-copy-out-k Inv-loop μ-loop
 element-copy-out-k c = omega arith
 
 mul-put-word : tie.Need-mul-put-word Inv-loop μ-loop
-mul-put-word c = let g : length (c .before .before .before .before .before .args .cells .now) ≡ 8 = c .before .before .before .before .before .pre .0 .1 .1 in omega (arith, c .before .before .before .before .before .pre .1 (getD (c .before .before .before .before .before .args .cells .now) (c .before .before .before .loop .i) 0) (nth-among (c .before .before .before .before .before .args .cells .now) _ _ (omega arith) (c .before .before .loop-test .taken)))
+mul-put-word c =
+    let start = c .before .before .before .before .before in
+    let at-loop = c .before .before .before .loop in
+    let at-loop-test = c .before .before .loop-test in
+    let g : length (start .args .cells .now) ≡ 8 = start .pre .0 .1 .1 in omega (arith, start .pre .1 (getD (start .args .cells .now) (at-loop .i) 0) (nth-among (start .args .cells .now) _ _ (omega arith) (at-loop-test .taken)))
 
 add-put-word : tie.Need-add-put-word Inv-loop μ-loop
-add-put-word c = let g : length (c .before .before .before .before .before .args .cells .now) ≡ 8 = c .before .before .before .before .before .pre .0 .1 .1 in omega (arith, c .before .before .before .before .before .pre .1 (getD (c .before .before .before .before .before .args .cells .now) (c .before .before .before .loop .i) 0) (nth-among (c .before .before .before .before .before .args .cells .now) _ _ (omega arith) (c .before .before .loop-test .taken)))
+add-put-word c =
+    let start = c .before .before .before .before .before in
+    let at-loop = c .before .before .before .loop in
+    let at-loop-test = c .before .before .loop-test in
+    let g : length (start .args .cells .now) ≡ 8 = start .pre .0 .1 .1 in omega (arith, start .pre .1 (getD (start .args .cells .now) (at-loop .i) 0) (nth-among (start .args .cells .now) _ _ (omega arith) (at-loop-test .taken)))
 
 put-word-requires : tie.Need-put-word-requires Inv-loop μ-loop
-put-word-requires c κs = let g : length (c .before .before .before .before .before .args .cells .now) ≡ 8 = c .before .before .before .before .before .pre .0 .1 .1 in omega (arith, c .before .before .before .before .before .pre .1 (getD (c .before .before .before .before .before .args .cells .now) (c .before .before .before .loop .i) 0) (nth-among (c .before .before .before .before .before .args .cells .now) _ _ (omega arith) (c .before .before .loop-test .taken)))
+put-word-requires c κs =
+    let start = c .before .before .before .before .before in
+    let at-loop = c .before .before .before .loop in
+    let at-loop-test = c .before .before .loop-test in
+    let g : length (start .args .cells .now) ≡ 8 = start .pre .0 .1 .1 in omega (arith, start .pre .1 (getD (start .args .cells .now) (at-loop .i) 0) (nth-among (start .args .cells .now) _ _ (omega arith) (at-loop-test .taken)))
 
 add-i : tie.Need-add-i Inv-loop μ-loop
 add-i c = omega arith
@@ -41,7 +53,12 @@ loop-less : tie.Need-loop-less Inv-loop μ-loop
 loop-less c = omega arith
 
 loop-again : tie.Need-loop-again Inv-loop μ-loop
-loop-again c = let g : length (c .before .before .before .before .before .before .before .before .args .cells .now) ≡ 8 = c .before .before .before .before .before .before .before .before .pre .0 .1 .1 in (omega arith, c .before .before .put-word .kept .0 ∙ c .before .before .before .before .before .before .loop .inv .1, rw (c .before .before .put-word .ensures) (mark-next _ (c .before .before .before .before .before .before .before .before .args .cells .now) _ _ _ (omega arith) (c .before .before .before .before .before .loop-test .taken) ∙ c .before .before .before .before .before .before .loop .inv .2))
+loop-again c =
+    let start = c .before .before .before .before .before .before .before .before in
+    let at-loop = c .before .before .before .before .before .before .loop in
+    let at-loop-test = c .before .before .before .before .before .loop-test in
+    let at-put-word = c .before .before .put-word in
+    let g : length (start .args .cells .now) ≡ 8 = start .pre .0 .1 .1 in (omega arith, at-put-word .kept .0 ∙ at-loop .inv .1, rw (at-put-word .ensures) (mark-next _ (start .args .cells .now) _ _ _ (omega arith) (at-loop-test .taken) ∙ at-loop .inv .2))
 
 same-length : tie.Need-same-length Inv-loop μ-loop
 same-length c = c .before .loop .inv .1

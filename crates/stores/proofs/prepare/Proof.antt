@@ -57,14 +57,28 @@ add-put-byte : tie.Need-add-put-byte
 add-put-byte c = search needs
 
 put-byte-requires : tie.Need-put-byte-requires
-put-byte-requires c κs = omega (arith, c .before .before .before .put-half .kept .0, c .before .before .before .before .before .before .before .before .put-word3 .kept .0, c .before .before .before .before .before .before .before .before .before .before .before .before .put-word2 .kept .0, c .before .before .before .before .before .before .before .before .before .before .before .before .before .before .before .before .put-word .kept .0, c .before .before .before .before .before .before .before .before .before .before .before .before .before .before .before .before .before .before .before .before .fill-words .kept .0, c .before .before .before .before .before .before .before .before .before .before .before .before .before .before .before .before .before .before .before .before .before .before .before .before .before .pre)
+put-byte-requires c κs =
+    let start = c .before .before .before .before .before .before .before .before .before .before .before .before .before .before .before .before .before .before .before .before .before .before .before .before .before in
+    let at-fill-words = c .before .before .before .before .before .before .before .before .before .before .before .before .before .before .before .before .before .before .before .before .fill-words in
+    let at-put-word = c .before .before .before .before .before .before .before .before .before .before .before .before .before .before .before .before .put-word in
+    let at-put-word2 = c .before .before .before .before .before .before .before .before .before .before .before .before .put-word2 in
+    let at-put-word3 = c .before .before .before .before .before .before .before .before .put-word3 in
+    let at-put-half = c .before .before .before .put-half in
+    omega (arith, at-put-half .kept .0, at-put-word3 .kept .0, at-put-word2 .kept .0, at-put-word .kept .0, at-fill-words .kept .0, start .pre)
 
 same-length : tie.Need-same-length
 same-length c = search needs
 
 returns : tie.Need-returns
 unfolding framed
-returns c = c .before .before .put-byte .ensures ∙ rw (c .before .before .before .before .before .before .put-half .ensures, c .before .before .before .before .before .before .before .before .before .before .before .put-word3 .ensures, c .before .before .before .before .before .before .before .before .before .before .before .before .before .before .before .put-word2 .ensures, c .before .before .before .before .before .before .before .before .before .before .before .before .before .before .before .before .before .before .before .put-word .ensures, c .before .before .before .before .before .before .before .before .before .before .before .before .before .before .before .before .before .before .before .before .before .before .before .fill-words .ensures)
+returns c =
+    let at-fill-words = c .before .before .before .before .before .before .before .before .before .before .before .before .before .before .before .before .before .before .before .before .before .before .before .fill-words in
+    let at-put-word = c .before .before .before .before .before .before .before .before .before .before .before .before .before .before .before .before .before .before .before .put-word in
+    let at-put-word2 = c .before .before .before .before .before .before .before .before .before .before .before .before .before .before .before .put-word2 in
+    let at-put-word3 = c .before .before .before .before .before .before .before .before .before .before .before .put-word3 in
+    let at-put-half = c .before .before .before .before .before .before .put-half in
+    let at-put-byte = c .before .before .put-byte in
+    at-put-byte .ensures ∙ rw (at-put-half .ensures, at-put-word3 .ensures, at-put-word2 .ensures, at-put-word .ensures, at-fill-words .ensures)
 
 pub prepare-spec : {M : Type 1} → statement M
 prepare-spec =
