@@ -1,6 +1,6 @@
 -- Lists of which some elements are out.
 use mathlib.Core.Path.{_≡_, refl, sym, ap, ap₂, _∙_, subst}
-use mathlib.Core.Bool.{Bool, true, false, cond, not, _&&_, _||_}
+use mathlib.Core.Bool.{Bool, true, false, cond, _&&_, _||_}
 use mathlib.Core.List.{List, [], _∷_, _++_, append-nil}
 use mathlib.Core.Option.{Option, none, some}
 use mathlib.Core.Logic.{_⊎_, inl, inr, ⊎-elim}
@@ -10,15 +10,15 @@ use native.Mathlib.Numerals.{add-one}
 use lib.Dec.{eqb}
 use lib.ListN.{length, getD, set, length-set}
 use lib.Seq.{getD-set-same, getD-set-other}
-use Rattle.rules.specs.Base.{any, keep, mapOption}
+use Rattle.rules.specs.Base.{any, mapOption}
 use Rattle.rules.specs.State.{Fact, Permission}
 use Rattle.rules.proofs.Lists.{decide-eq}
 use Rattle.links.specs.Listing.{listed}
 use Rattle.links.specs.Links.{Header, Decides, Pushed, factOf}
-use Rattle.links.proofs.Listing.{listed-more, listed-same, any-append, keep-append, map-append}
+use Rattle.links.proofs.Listing.{listed-more, listed-same, any-append, map-append}
 use Rattle.links.proofs.Labels.{header-set}
 use Rattle.known.specs.States.{factAt, factsIn, factsOf, facts, entries, permissionAt, permissionsIn, Linked, Wf}
-use Rattle.removal.specs.Changes.{kept, gone, KeepsFact, KeepsEntry, Fresh, Rebuilt, Packed, renamedFact, renamedPermission}
+use Rattle.removal.specs.Changes.{kept, gone, KeepsFact, KeepsEntry, Packed, renamedPermission}
 
 module _ {A : Type 0} where
   pub kept-none : (out : List Bool) (f : ℕ → A) → kept out f 0 ≡ []
@@ -38,27 +38,6 @@ module _ {A : Type 0} where
   kept-same out out′ f g (suc n) h e =
       ap₂ (λ (a b : List A). a ++ b) (kept-same out out′ f g n (λ i k. h i (omega arith)) (λ i k. e i (omega arith)))
       (ap₂ (λ (c : Bool) (a : A). cond c [] (a ∷ [])) (h n (omega arith)) (e n (omega arith)))
-
-  -- none is out
-  pub kept-all : (out : List Bool) (f : ℕ → A) (n : ℕ) → ((i : ℕ) → i < n → getD out i false ≡ false) → kept out f n ≡ listed f n
-  unfolding kept listed
-  kept-all out f zero h = refl
-  kept-all out f (suc n) h =
-      ap₂ (λ (l : List A) (c : Bool). l ++ cond c [] (f n ∷ [])) (kept-all out f n (λ i k. h i (omega arith))) (h n (omega arith))
-
-  pub kept-keep :
-      (p : A → Bool) (out : List Bool) (f : ℕ → A) (n : ℕ) → ((i : ℕ) → i < n → p (f i) ≡ not (getD out i false)) →
-      keep p (listed f n) ≡ kept out f n
-  unfolding kept listed keep
-  kept-keep p out f zero h = refl
-  kept-keep p out f (suc n) h =
-      keep-append p (listed f n) (f n ∷ [])
-      ∙ ap₂ (λ (l : List A) (c : Bool). l ++ cond c (f n ∷ []) []) (kept-keep p out f n (λ i k. h i (omega arith))) (h n (omega arith))
-      ∙ ap (λ (r : List A). kept out f n ++ r) (flip (getD out n false))
-    where
-      flip : (c : Bool) → cond (not c) (f n ∷ []) [] ≡ cond c [] (f n ∷ [])
-      flip true = refl
-      flip false = refl
 
   -- some element that is out
   pub gone-any : (q : A → Bool) (out : List Bool) (f : ℕ → A) (n : ℕ) → any q (gone out f n) ≡ any (λ i. getD out i false && q (f i)) (listed (λ i. i) n)
@@ -269,23 +248,3 @@ packed-at b₀ b out x to n l h e rest =
 
     last : entries (set b 337 n) ≡ n
     last = getD-set-same b 337 n 0 (omega arith)
-
--- the count of facts is written
-rebuilt-at :
-    (key₀ b₀ key b : List ℕ) (out : List Bool) (x to n : ℕ) → entries b₀ ≤ 64 → Linked key b n → factsIn key b n ≡ kept out (renamedFact key₀ b₀ x to) (facts b₀) →
-    ((j : ℕ) → 208 ≤ j → getD b j 0 ≡ getD b₀ j 0) → Rebuilt key₀ b₀ out x to key (set b 336 n)
-rebuilt-at key₀ b₀ key b out x to n h L e rest =
-    record {
-      wf = record { linked = counted-linked b n (L .size) key L; fit = omega (arith, counted-other b n (L .size) 337 (omega arith), rest 337 (omega arith)) };
-      facts = counted-facts b n (L .size) key (L .fit) ∙ e;
-      rest = λ i g s. counted-other b n (L .size) i s ∙ rest i g;
-    }
-
--- b₁ is b with fresh labels
-pub rebuilt-fresh :
-    (key₀ b b₁ key b₂ : List ℕ) (out : List Bool) (x to n : ℕ) → Wf key₀ b → Fresh b b₁ → Linked key b₂ n → factsIn key b₂ n ≡ kept out (renamedFact key₀ b₁ x to) (facts b) →
-    ((j : ℕ) → 208 ≤ j → getD b₂ j 0 ≡ getD b₁ j 0) → Rebuilt key₀ b out x to key (set b₂ 336 n)
-rebuilt-fresh key₀ b b₁ key b₂ out x to n w F L e rest =
-    rebuilt-at key₀ b key b₂ out x to n (w .fit) L
-    (e ∙ kept-same out out _ _ (facts b) (λ i h. refl) (λ i h. rw (F .rest (144 + i) (omega arith))))
-    (λ j h. rest j h ∙ F .rest j (omega arith))

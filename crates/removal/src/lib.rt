@@ -1,6 +1,6 @@
 use known::Resolved;
 ghost use mathlib.Core.Path.{_≡_};
-ghost use mathlib.Core.Bool.{Bool, false};
+ghost use mathlib.Core.Bool.{false};
 ghost use mathlib.Core.Option.{none, some};
 ghost use mathlib.Core.List.{List};
 ghost use Prim.Native.Nat.{ℕ, _+_, _*_, _≤_, _<_};
@@ -12,9 +12,9 @@ ghost use Rattle.rules.specs.State as Rules;
 ghost use Rattle.rules.specs.State.{renameTerm};
 ghost use Rattle.links.specs.Keys.{termOf};
 ghost use Rattle.links.specs.Links.{Header, Marked};
-ghost use Rattle.known.specs.States.{Wf, Linked, stateOf, facts, entries};
+ghost use Rattle.known.specs.States.{Wf, Linked, stateOf, entries};
 ghost use Rattle.known.specs.Questions.{places, variableOr};
-ghost use Rattle.removal.specs.Changes.{Becomes, Fresh, renamedKey, mentionsKey, renamedVariable, KeepsFact, KeepsEntry, Rebuilt, Packed, Flags, factMentions, factHas, pathOut, pathOutAt, factNames, flagged, Marks, MarksOut, Taken, withoutPath, leftOver};
+ghost use Rattle.removal.specs.Changes.{Becomes, Fresh, renamedKey, mentionsKey, renamedVariable, Dropped, RenamedKeys, KeepsFact, KeepsEntry, Sized, Unchanged, Rebuilt, Packed, Flags, pathOut, pathOutAt, keyOut, Marks, MarksOut, Taken, withoutPath, leftOver};
 
 // The keys of a state that knows nothing: in the first 16 slots the variables and null.
 pub fn header() -> [u64; 144]
@@ -111,10 +111,86 @@ fn keep_fact(
     n + 1
 }
 
-// The facts that are not out, with the variable `to` for x.
-fn rebuild(key: &mut [u64; 144], b: &mut [u8; 338], out: &[bool; 64], x: u8, to: u8)
-    requires { ⌜ Wf (now key) (now b) ⌝ }
-    ensures { λ _. ⌜ Rebuilt (now (key .entry)) (now (b .entry)) (now (out .entry)) x to (now (key .exit)) (now (b .exit)) ⌝ }
+// FORGETTING. What becomes of the sides of the facts, in the slots from 16 to m: of the side in slot i the key that stands there, or
+// nothing where `gone` has the flag i. For each way of forgetting one function stores that and tells whether it changes anything.
+
+// The path of the key k is dropped.
+fn drop_path<'a>(key: &'a [u64; 144], m: usize, k: u64, gone: &mut [bool; 144]) -> bool
+    requires { ⌜ (m ≤ 144) × (length (now gone) ≡ 144) ⌝ }
+    ensures { λ r. ⌜ Dropped (λ l. eqb l k) (now (key .entry)) m (now (gone .exit)) r ⌝ }
+{
+    let mut changed = false;
+    let mut i = 16;
+    while i < m {
+        let out = key[i] == k;
+        gone[i] = out;
+        changed = changed | out;
+        i += 1;
+    }
+    changed
+}
+
+// All that names x is dropped.
+fn drop_variable<'a>(key: &'a [u64; 144], m: usize, x: u8, gone: &mut [bool; 144]) -> bool
+    requires { ⌜ (m ≤ 144) × (length (now gone) ≡ 144) ⌝ }
+    ensures { λ r. ⌜ Dropped (mentionsKey x) (now (key .entry)) m (now (gone .exit)) r ⌝ }
+{
+    let mut changed = false;
+    let mut i = 16;
+    while i < m {
+        let out = mentions(key[i], x);
+        gone[i] = out;
+        changed = changed | out;
+        i += 1;
+    }
+    changed
+}
+
+// The paths of the entries that are out are dropped.
+fn drop_paths<'a>(
+    key: &'a [u64; 144],
+    b: &'a [u8; 338],
+    out: &'a [bool; 64],
+    m: usize,
+    gone: &mut [bool; 144],
+) -> bool
+    requires { ⌜ (m ≤ 144) × (entries (now b) ≤ 64) × (length (now gone) ≡ 144) ⌝ }
+    ensures { λ r. ⌜ Dropped (keyOut (now (b .entry)) (now (out .entry))) (now (key .entry)) m (now (gone .exit)) r ⌝ }
+{
+    let n = b[337] as usize;
+    let marks = marks_out(b, out, n);
+    let mut changed = false;
+    let mut i = 16;
+    while i < m {
+        let named = names_marked(b, out, &marks, n, key[i]);
+        gone[i] = named;
+        changed = changed | named;
+        i += 1;
+    }
+    changed
+}
+
+// x is renamed to the variable `to`.
+fn rename_keys(key: &mut [u64; 144], m: usize, x: u8, to: u8) -> bool
+    requires { ⌜ (m ≤ 144) × Header (now key) ⌝ }
+    ensures { λ r. ⌜ RenamedKeys x to (now (key .entry)) m (now (key .exit)) r ⌝ }
+{
+    let mut changed = false;
+    let mut i = 16;
+    while i < m {
+        let k = key[i];
+        let l = rename(k, x, to);
+        key[i] = l;
+        changed = changed | (l != k);
+        i += 1;
+    }
+    changed
+}
+
+// The facts of which no side is gone, with labels made anew.
+fn rebuild(key: &mut [u64; 144], b: &mut [u8; 338], gone: &[bool; 144])
+    requires { ⌜ Sized (now key) (now b) ⌝ }
+    ensures { λ _. ⌜ Rebuilt (now (key .entry)) (now (b .entry)) (now (gone .entry)) (now (key .exit)) (now (b .exit)) ⌝ }
 {
     let all = b[336] as usize;
     let mut marks = [false; 512];
@@ -122,37 +198,25 @@ fn rebuild(key: &mut [u64; 144], b: &mut [u8; 338], out: &[bool; 64], x: u8, to:
     let mut n = 0;
     let mut i = 0;
     while i < all {
-        let l = rename(key[16 + 2 * i], x, to);
-        let r = rename(key[17 + 2 * i], x, to);
+        let l = 16 + 2 * i;
+        let r = 17 + 2 * i;
+        let out = gone[l] | gone[r];
         let c = b[144 + i];
-        n = keep_fact(key, b, &mut marks, n, out[i], c, l, r);
+        let left = key[l];
+        let right = key[r];
+        n = keep_fact(key, b, &mut marks, n, out, c, left, right);
         i += 1;
     }
     b[336] = n as u8;
 }
 
-// Is one of the first n flags set?
-fn some_flag(out: &[bool; 64], n: usize) -> bool
-    requires { ⌜ n ≤ 64 ⌝ }
-    ensures { λ r. ⌜ r ≡ flagged (now (out .entry)) n ⌝ }
+// As `rebuild`; nothing is done where nothing changes.
+fn forget(key: &mut [u64; 144], b: &mut [u8; 338], gone: &[bool; 144], changed: bool)
+    requires { ⌜ Sized (now key) (now b) × (changed ≡ false → Unchanged (now key) (now b) (now gone)) ⌝ }
+    ensures { λ _. ⌜ Rebuilt (now (key .entry)) (now (b .entry)) (now (gone .entry)) (now (key .exit)) (now (b .exit)) ⌝ }
 {
-    let mut i = 0;
-    while i < n {
-        if out[i] {
-            return true;
-        }
-        i += 1;
-    }
-    false
-}
-
-// The facts that are not out.
-fn drop_facts(key: &mut [u64; 144], b: &mut [u8; 338], out: &[bool; 64])
-    requires { ⌜ Wf (now key) (now b) ⌝ }
-    ensures { λ _. ⌜ Rebuilt (now (key .entry)) (now (b .entry)) (now (out .entry)) 0 0 (now (key .exit)) (now (b .exit)) ⌝ }
-{
-    if some_flag(out, b[336] as usize) {
-        rebuild(key, b, out, 0, 0);
+    if changed {
+        rebuild(key, b, gone);
     }
 }
 
@@ -184,34 +248,6 @@ fn pack(b: &mut [u8; 338], out: &[bool; 64], x: u8, to: u8)
         i += 1;
     }
     b[337] = n as u8;
-}
-
-// Which facts name x.
-fn facts_of<'a>(key: &'a [u64; 144], n: usize, x: u8) -> [bool; 64]
-    requires { ⌜ n ≤ 64 ⌝ }
-    ensures { λ r. ⌜ Flags (factMentions (now (key .entry)) x) n r ⌝ }
-{
-    let mut out = [false; 64];
-    let mut i = 0;
-    while i < n {
-        out[i] = mentions(key[16 + 2 * i], x) | mentions(key[17 + 2 * i], x);
-        i += 1;
-    }
-    out
-}
-
-// Which facts have the term of k as a side.
-fn facts_with<'a>(key: &'a [u64; 144], n: usize, k: u64) -> [bool; 64]
-    requires { ⌜ n ≤ 64 ⌝ }
-    ensures { λ r. ⌜ Flags (factHas (now (key .entry)) k) n r ⌝ }
-{
-    let mut out = [false; 64];
-    let mut i = 0;
-    while i < n {
-        out[i] = (key[16 + 2 * i] == k) | (key[17 + 2 * i] == k);
-        i += 1;
-    }
-    out
 }
 
 // Which entries are x's.
@@ -296,32 +332,15 @@ fn names_marked<'a>(
     false
 }
 
-// Which facts name the path of an entry that is out.
-fn facts_naming<'a>(key: &'a [u64; 144], b: &'a [u8; 338], out: &'a [bool; 64]) -> [bool; 64]
-    requires { ⌜ Wf (now key) (now b) ⌝ }
-    ensures { λ r. ⌜ Flags (factNames (now (key .entry)) (now (b .entry)) (now (out .entry))) (facts (now (b .entry))) r ⌝ }
-{
-    let all = b[336] as usize;
-    let n = b[337] as usize;
-    let marks = marks_out(b, out, n);
-    let mut dead = [false; 64];
-    let mut i = 0;
-    while i < all {
-        let l = names_marked(b, out, &marks, n, key[16 + 2 * i]);
-        let r = names_marked(b, out, &marks, n, key[17 + 2 * i]);
-        dead[i] = l | r;
-        i += 1;
-    }
-    dead
-}
-
 // The state without the entries that are out, and without the facts that name their paths.
 pub fn remainder(key: &mut [u64; 144], b: &mut [u8; 338], out: &[bool; 64])
     requires { ⌜ Wf (now key) (now b) ⌝ }
     ensures { λ _. ⌜ ((c : Rules.Shown) → Taken (now (b .entry)) (now (out .entry)) c → Becomes (Rules.remainder (stateOf (now (key .entry)) (now (b .entry))) c) (now (key .exit)) (now (b .exit))) ⌝ }
 {
-    let dead = facts_naming(key, b, out);
-    drop_facts(key, b, &dead);
+    let m = 16 + 2 * (b[336] as usize);
+    let mut gone = [false; 144];
+    let changed = drop_paths(key, b, out, m, &mut gone);
+    forget(key, b, &gone, changed);
     pack(b, out, 0, 0);
 }
 
@@ -330,33 +349,24 @@ pub fn without_path(key: &mut [u64; 144], b: &mut [u8; 338], i: usize, k: u64)
     requires { ⌜ Wf (now key) (now b) × (i < entries (now b)) × (termOf k ≡ Syntax.path (getD (now b) (208 + i) 0) (getD (now b) (272 + i) 0)) ⌝ }
     ensures { λ _. ⌜ Becomes (withoutPath (now (key .entry)) (now (b .entry)) i) (now (key .exit)) (now (b .exit)) ⌝ }
 {
-    let dead = facts_with(key, b[336] as usize, k);
-    drop_facts(key, b, &dead);
+    let m = 16 + 2 * (b[336] as usize);
+    let mut gone = [false; 144];
+    let changed = drop_path(key, m, k, &mut gone);
+    forget(key, b, &gone, changed);
 }
 
 // All that names x goes.
-fn forget(key: &mut [u64; 144], b: &mut [u8; 338], x: u8)
+fn erase(key: &mut [u64; 144], b: &mut [u8; 338], x: u8)
     requires { ⌜ Wf (now key) (now b) ⌝ }
     ensures { λ _. ⌜ Becomes (Rules.removeTo x none (stateOf (now (key .entry)) (now (b .entry)))) (now (key .exit)) (now (b .exit)) ⌝ }
 {
-    let dead = facts_of(key, b[336] as usize, x);
+    let m = 16 + 2 * (b[336] as usize);
+    let mut gone = [false; 144];
+    let changed = drop_variable(key, m, x, &mut gone);
     let p = b[337] as usize;
     let out = entries_of(b, p, x);
-    drop_facts(key, b, &dead);
+    forget(key, b, &gone, changed);
     pack(b, &out, 0, 0);
-}
-
-// The facts, with the variable `to` for x.
-fn rename_facts(key: &mut [u64; 144], b: &mut [u8; 338], x: u8, to: u8)
-    requires { ⌜ Wf (now key) (now b) ⌝ }
-    ensures { λ _. ⌜ ((out : List Bool) → ((i : ℕ) → getD out i false ≡ false) → Rebuilt (now (key .entry)) (now (b .entry)) out x to (now (key .exit)) (now (b .exit))) ⌝ }
-{
-    let n = b[336] as usize;
-    let named = facts_of(key, n, x);
-    if some_flag(&named, n) {
-        let out = [false; 64];
-        rebuild(key, b, &out, x, to);
-    }
 }
 
 // The variable `to` takes the place of x.
@@ -364,7 +374,10 @@ fn replace(key: &mut [u64; 144], b: &mut [u8; 338], x: u8, to: u8)
     requires { ⌜ Wf (now key) (now b) ⌝ }
     ensures { λ _. ⌜ Becomes (Rules.removeTo x (some to) (stateOf (now (key .entry)) (now (b .entry)))) (now (key .exit)) (now (b .exit)) ⌝ }
 {
-    rename_facts(key, b, x, to);
+    let m = 16 + 2 * (b[336] as usize);
+    let gone = [false; 144];
+    let changed = rename_keys(key, m, x, to);
+    forget(key, b, &gone, changed);
     let out = [false; 64];
     pack(b, &out, x, to);
 }
@@ -375,7 +388,7 @@ pub fn remove_to(key: &mut [u64; 144], b: &mut [u8; 338], x: u8, to: u8)
     ensures { λ _. ⌜ Becomes (Rules.removeTo x (variableOr to) (stateOf (now (key .entry)) (now (b .entry)))) (now (key .exit)) (now (b .exit)) ⌝ }
 {
     if to == 255 {
-        forget(key, b, x);
+        erase(key, b, x);
     } else {
         replace(key, b, x, to);
     }
