@@ -17,6 +17,7 @@ use Rattle.links.specs.Keys.{termOf}
 use Rattle.links.specs.Listing.{listed}
 use Rattle.links.proofs.Keys.{same-key}
 use Rattle.links.proofs.Listing.{listed-same, or-false}
+use Rattle.links.specs.Layout.{slots, left-sides, entry-count}
 use Rattle.known.specs.States.{Wf, stateOf, facts, entries, factsOf, variableAt, fieldAt, permissionAt, permissionsOf}
 use Rattle.known.proofs.Entries.{no-flags}
 use Rattle.removal.specs.Changes.{Becomes, Taken, Dropped, RenamedKeys, Rebuilt, Packed, Flags, renamedVariable, renamedPermission, mentionsKey, pathOut, keyOut, withoutPath, kept, gone}
@@ -39,7 +40,7 @@ kept-entries b out = kept-same out out _ _ (entries b) (λ i h. refl) (λ i h. s
 -- FACTS AND ENTRIES, one after the other; of the facts' sides key₀ has what becomes of them
 module _ (key b key₀ key₁ b₁ b₂ : List ℕ) (dead out : List Bool) (x to : ℕ) (w : Wf key b) (R : Rebuilt key₀ b dead key₁ b₁) (P : Packed b₁ out x to b₂) where
   count : entries b₁ ≡ entries b
-  count = R .rest 337 (omega arith) (omega arith)
+  count = R .rest entry-count (omega arith) (omega arith)
 
   as-before : (i : ℕ) → i < entries b → permissionAt b₁ i ≡ permissionAt b i
   as-before = entries-same b b₁ (entries b) (w .fit) (λ i g h. R .rest i g (omega arith))
@@ -67,7 +68,7 @@ module _ (b : List ℕ) (out : List Bool) (ps : List Permission) (used : (q : Pe
   paths-term k = rw (key-listed k)
 
 pub remainder-law :
-    (key b key₁ b₁ b₂ : List ℕ) (dead out : List Bool) (changed : Bool) → Wf key b → Dropped (keyOut b out) key (16 + 2 * facts b) dead changed →
+    (key b key₁ b₁ b₂ : List ℕ) (dead out : List Bool) (changed : Bool) → Wf key b → Dropped (keyOut b out) key (left-sides + 2 * facts b) dead changed →
     Rebuilt key b dead key₁ b₁ → Packed b₁ out 0 0 b₂ → (c : Rules.Shown) → Taken b out c → Becomes (Rules.remainder (stateOf key b) c) key₁ b₂
 unfolding Rules.remainder Rules.dropPaths
 remainder-law key b key₁ b₁ b₂ dead out changed w D R P c T =
@@ -97,19 +98,19 @@ path-term b i k e l = ap (λ (c : Bool). cond c none (some (termOf l))) (or-fals
 
 pub path-law :
     (key b key′ b′ : List ℕ) (dead : List Bool) (changed : Bool) (i k : ℕ) → Wf key b → termOf k ≡ path (variableAt b i) (fieldAt b i) →
-    Dropped (λ l. eqb l k) key (16 + 2 * facts b) dead changed → Rebuilt key b dead key′ b′ → Becomes (withoutPath key b i) key′ b′
+    Dropped (λ l. eqb l k) key (left-sides + 2 * facts b) dead changed → Rebuilt key b dead key′ b′ → Becomes (withoutPath key b i) key′ b′
 unfolding Rules.dropPaths
 path-law key b key′ b′ dead changed i k w e D R =
     record {
       wf = R .wf;
       same = ap₂ (λ (ps : List Permission) (fs : List Fact). record { permissions = ps; facts = fs })
-          (ap (λ (n : ℕ). listed (permissionAt b′) n) (R .rest 337 (omega arith) (omega arith)) ∙ listed-same _ _ (entries b) (entries-same b b′ (entries b) (w .fit) (λ i g h. R .rest i g (omega arith))))
+          (ap (λ (n : ℕ). listed (permissionAt b′) n) (R .rest entry-count (omega arith) (omega arith)) ∙ listed-same _ _ (entries b) (entries-same b b′ (entries b) (w .fit) (λ i g h. R .rest i g (omega arith))))
           (R .facts (withoutPaths (permissionAt b i ∷ [])) key (dropped-stands (withoutPaths (permissionAt b i ∷ [])) (λ l. eqb l k) key (facts b) dead changed (path-term b i k e) D));
     }
 
 -- REMOVED
 module _ (key b : List ℕ) (x : ℕ) (h : x < 256) (w : Wf key b) (key₁ b₁ b₂ : List ℕ) where
-  module _ (dead out : List Bool) (changed : Bool) (D : Dropped (mentionsKey x) key (16 + 2 * facts b) dead changed) (R : Rebuilt key b dead key₁ b₁)
+  module _ (dead out : List Bool) (changed : Bool) (D : Dropped (mentionsKey x) key (left-sides + 2 * facts b) dead changed) (R : Rebuilt key b dead key₁ b₁)
       (G : Flags (λ i. eqb (variableAt b i) x) (entries b) out) (P : Packed b₁ out 0 0 b₂) where
     entry-gone : (i : ℕ) → renamePermission x none (permissionAt b i) ≡ cond (eqb (variableAt b i) x) none (some (permissionAt b i))
     unfolding renamePermission renameVariable bindOption
@@ -131,8 +132,8 @@ module _ (key b : List ℕ) (x : ℕ) (h : x < 256) (w : Wf key b) (key₁ b₁ 
               ∙ R .facts (renameTerm x none) key (dropped-stands (renameTerm x none) (mentionsKey x) key (facts b) dead changed (gone-term x h) D));
         }
 
-  module _ (to : ℕ) (g : to < 256) (key₀ : List ℕ) (changed : Bool) (K : RenamedKeys x to key (16 + 2 * facts b) key₀ changed)
-      (R : Rebuilt key₀ b (replicate 144 false) key₁ b₁) (P : Packed b₁ (replicate 64 false) x to b₂) where
+  module _ (to : ℕ) (g : to < 256) (key₀ : List ℕ) (changed : Bool) (K : RenamedKeys x to key (left-sides + 2 * facts b) key₀ changed)
+      (R : Rebuilt key₀ b (replicate slots false) key₁ b₁) (P : Packed b₁ (replicate 64 false) x to b₂) where
     entry-new : (i : ℕ) → renamePermission x (some to) (permissionAt b i) ≡ some (renamedPermission b x to i)
     unfolding renamePermission renameVariable renamedVariable bindOption
     entry-new i = go (eqb (variableAt b i) x)
@@ -147,8 +148,8 @@ module _ (key b : List ℕ) (x : ℕ) (h : x < 256) (w : Wf key b) (key₁ b₁ 
         record {
           wf = both-wf key b key₀ key₁ b₁ b₂ _ _ x to w R P;
           same = ap₂ (λ (ps : List Permission) (fs : List Fact). record { permissions = ps; facts = fs })
-              (both-entries key b key₀ key₁ b₁ b₂ (replicate 144 false) (replicate 64 false) x to w R P
+              (both-entries key b key₀ key₁ b₁ b₂ (replicate slots false) (replicate 64 false) x to w R P
               ∙ sym (kept-map (renamePermission x (some to)) (replicate 64 false) (permissionAt b) (renamedPermission b x to) (entries b) (λ i k. entry-new i ∙ ap (λ (c : Bool). cond c none (some (renamedPermission b x to i))) (sym (no-flags 64 i)))))
-              (both-facts key b key₀ key₁ b₁ b₂ (replicate 144 false) (replicate 64 false) x to w R P
+              (both-facts key b key₀ key₁ b₁ b₂ (replicate slots false) (replicate 64 false) x to w R P
               ∙ R .facts (renameTerm x (some to)) key (renamed-stands x to h g key key₀ (facts b) changed K));
         }

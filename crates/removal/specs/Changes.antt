@@ -8,10 +8,12 @@ use Prim.Native.Nat.{ℕ, zero, suc, _+_, _*_, _-_, _≤_, _<_}
 use lib.Dec.{eqb, ltb, leb}
 use lib.ListN.{length, getD}
 use Rattle.rules.specs.Base.{any}
+use Rattle.rules.specs.Limits.{most-permissions, most-facts}
 use Rattle.rules.specs.Syntax as Syntax
 use Rattle.rules.specs.State as Rules
 use Rattle.rules.specs.State.{Permission, Renaming, renameFacts}
-use Rattle.links.specs.Keys.{termOf, keyOf, first-path}
+use Rattle.links.specs.Layout.{left-sides, relations-at, variables-at, fact-count, bytes}
+use Rattle.links.specs.Keys.{termOf, keyOf, first-path, paths}
 use Rattle.links.specs.Links.{Header, termAt, factOf, placeOf}
 use Rattle.known.specs.declared.Resolved.{Resolved}
 use Rattle.known.specs.States.{Wf, Linked, stateOf, facts, entries, factsIn, factsOf, variableAt, fieldAt, permissionsIn, permissionsOf, permissionAt}
@@ -50,21 +52,21 @@ pub record Taken (b : List ℕ) (out : List Bool) (c : Rules.Shown) : Type 0 whe
   pub used : (q : Permission → Bool) → any q (c .consumed) ≡ any q (gone out (permissionAt b) (entries b))
 
 -- CHANGES
--- the labels of the first 16 slots are their own numbers
+-- the labels of the slots before the facts' are their own numbers
 pub record Fresh (b b′ : List ℕ) : Type 0 where
   pub size : length b′ ≡ length b
-  pub own : (i : ℕ) → i < 16 → getD b′ i 0 ≡ i
-  pub rest : (i : ℕ) → 16 ≤ i → getD b′ i 0 ≡ getD b i 0
+  pub own : (i : ℕ) → i < left-sides → getD b′ i 0 ≡ i
+  pub rest : (i : ℕ) → left-sides ≤ i → getD b′ i 0 ≡ getD b i 0
 
 -- a key, with the variable `to` for x
 unfoldable pub renamedKey : ℕ → ℕ → ℕ → ℕ
 renamedKey x to k =
     cond (eqb k x) to
-    (cond (leb (first-path + x * 256) k && ltb (k - (first-path + x * 256)) 256) (first-path + to * 256 + (k - (first-path + x * 256))) k)
+    (cond (leb (first-path + x * paths) k && ltb (k - (first-path + x * paths)) paths) (first-path + to * paths + (k - (first-path + x * paths))) k)
 
 -- it names x
 unfoldable pub mentionsKey : ℕ → ℕ → Bool
-mentionsKey x k = eqb k x || (leb (first-path + x * 256) k && ltb (k - (first-path + x * 256)) 256)
+mentionsKey x k = eqb k x || (leb (first-path + x * paths) k && ltb (k - (first-path + x * paths)) paths)
 
 unfoldable pub renamedVariable : ℕ → ℕ → ℕ → ℕ
 renamedVariable x to v = cond (eqb v x) to v
@@ -78,18 +80,18 @@ pub record KeepsFact (key b : List ℕ) (n : ℕ) (out : Bool) (c l r : ℕ) (ke
   pub linked : Linked key′ b′ n′
   pub facts : factsIn key′ b′ n′ ≡ factsIn key b n ++ cond out [] (factOf (eqb c 1) l r ∷ [])
   pub keys : (j : ℕ) → 18 + 2 * n ≤ j → getD key′ j 0 ≡ getD key j 0
-  pub rest : (j : ℕ) → 144 + n < j → getD b′ j 0 ≡ getD b j 0
+  pub rest : (j : ℕ) → relations-at + n < j → getD b′ j 0 ≡ getD b j 0
 
 -- FORGETTING
--- the sides dropped: the flags of the slots from 16 to m, and whether one is set
+-- the sides dropped: the flags of the facts' slots up to m, and whether one is set
 pub record Dropped (test : ℕ → Bool) (key : List ℕ) (m : ℕ) (gone : List Bool) (changed : Bool) : Type 0 where
-  pub at : (j : ℕ) → 16 ≤ j → j < m → getD gone j false ≡ test (getD key j 0)
-  pub none : changed ≡ false → (j : ℕ) → 16 ≤ j → j < m → getD gone j false ≡ false
+  pub at : (j : ℕ) → left-sides ≤ j → j < m → getD gone j false ≡ test (getD key j 0)
+  pub none : changed ≡ false → (j : ℕ) → left-sides ≤ j → j < m → getD gone j false ≡ false
 
 -- the sides renamed
 pub record RenamedKeys (x to : ℕ) (key : List ℕ) (m : ℕ) (key′ : List ℕ) (changed : Bool) : Type 0 where
   pub header : Header key′
-  pub at : (j : ℕ) → 16 ≤ j → j < m → getD key′ j 0 ≡ renamedKey x to (getD key j 0)
+  pub at : (j : ℕ) → left-sides ≤ j → j < m → getD key′ j 0 ≡ renamedKey x to (getD key j 0)
   pub same : changed ≡ false → key′ ≡ key
 
 -- what becomes of the side in slot j
@@ -98,41 +100,41 @@ becomeOf key gone j = cond (getD gone j false) none (some (termAt key j))
 
 -- it is what ρ says of the term that stood there, for the sides of n facts
 abbrev pub Stands : Renaming → List ℕ → List ℕ → List Bool → ℕ → Type 0
-Stands ρ old key gone n = (j : ℕ) → 16 ≤ j → j < 16 + 2 * n → ρ (termAt old j) ≡ becomeOf key gone j
+Stands ρ old key gone n = (j : ℕ) → left-sides ≤ j → j < left-sides + 2 * n → ρ (termAt old j) ≡ becomeOf key gone j
 
 -- a state whose labels need not decide ~
 pub record Sized (key b : List ℕ) : Type 0 where
   pub header : Header key
-  pub size : length b ≡ 338
-  pub fit : facts b ≤ 64
-  pub entries-fit : entries b ≤ 64
+  pub size : length b ≡ bytes
+  pub fit : facts b ≤ most-facts
+  pub entries-fit : entries b ≤ most-permissions
 
 -- nothing changes
 pub record Unchanged (key b : List ℕ) (gone : List Bool) : Type 0 where
   pub wf : Wf key b
-  pub none : (j : ℕ) → 16 ≤ j → j < 16 + 2 * facts b → getD gone j false ≡ false
+  pub none : (j : ℕ) → left-sides ≤ j → j < left-sides + 2 * facts b → getD gone j false ≡ false
 
 -- the facts by what becomes of their sides; the entries stay
 pub record Rebuilt (key b : List ℕ) (gone : List Bool) (key′ b′ : List ℕ) : Type 0 where
   pub wf : Wf key′ b′
   pub facts : (ρ : Renaming) (old : List ℕ) → Stands ρ old key gone (facts b) → factsOf key′ b′ ≡ renameFacts ρ (factsOf old b)
-  pub rest : (i : ℕ) → 208 ≤ i → (i ≡ 336 → ⊥) → getD b′ i 0 ≡ getD b i 0
+  pub rest : (i : ℕ) → variables-at ≤ i → (i ≡ fact-count → ⊥) → getD b′ i 0 ≡ getD b i 0
 
 -- ENTRIES
 -- one more entry, unless it is out
 pub record KeepsEntry (b : List ℕ) (n : ℕ) (out : Bool) (x f : ℕ) (b′ : List ℕ) (n′ : ℕ) : Type 0 where
   pub few : n′ ≤ n + 1
-  pub size : length b′ ≡ 338
+  pub size : length b′ ≡ bytes
   pub entries : permissionsIn b′ n′ ≡ permissionsIn b n ++ cond out [] (record { variable = x; field = f } ∷ [])
   pub later : (j : ℕ) → n < j → j < 64 → permissionAt b′ j ≡ permissionAt b j
-  pub rest : (j : ℕ) → (j < 208) ⊎ (336 ≤ j) → getD b′ j 0 ≡ getD b j 0
+  pub rest : (j : ℕ) → (j < variables-at) ⊎ (fact-count ≤ j) → getD b′ j 0 ≡ getD b j 0
 
 -- the entries that are not out, renamed; the facts stay
 pub record Packed (b : List ℕ) (out : List Bool) (x to : ℕ) (b′ : List ℕ) : Type 0 where
-  pub size : length b′ ≡ 338
-  pub few : entries b′ ≤ 64
+  pub size : length b′ ≡ bytes
+  pub few : entries b′ ≤ most-permissions
   pub entries : permissionsOf b′ ≡ kept out (renamedPermission b x to) (entries b)
-  pub rest : (i : ℕ) → (i < 208) ⊎ (i ≡ 336) → getD b′ i 0 ≡ getD b i 0
+  pub rest : (i : ℕ) → (i < variables-at) ⊎ (i ≡ fact-count) → getD b′ i 0 ≡ getD b i 0
 
 -- PATHS THAT ARE OUT
 -- the entry `x.f` is out, and its path is the term of k

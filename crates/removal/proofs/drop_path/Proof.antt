@@ -3,6 +3,7 @@ use Prim.Native.Nat.{_-_, _≤_}
 use lib.ListN.{length, length-set}
 use mathlib.Core.Path.{_≡_, refl, _∙_}
 use native.Mathlib.Omega.{arith}
+use Rattle.links.specs.Layout.{slots, left-sides}
 use Rattle.removal.specs.Changes.{Dropped}
 use Rattle.removal.proofs.Forgetting.{dropped-first, dropped-more, dropped-all}
 use Rattle.removal.proofs.drop_path.Statement.{statement}
@@ -11,7 +12,7 @@ use Rattle.removal.proofs.drop_path.Reads as reads
 use Rattle.removal.proofs.drop_path.Lts as lts
 
 abbrev Inv-loop : tie.InvT-loop
-Inv-loop key m k gone₀ changed₀ i₀ gone changed i = (16 ≤ i) × (length gone ≡ 144) × Dropped (λ l. eqb l k) key i gone changed
+Inv-loop key m k gone₀ changed₀ i₀ gone changed i = (left-sides ≤ i) × (length gone ≡ slots) × Dropped (λ l. eqb l k) key i gone changed
 
 abbrev μ-loop : tie.MeasureT-loop
 μ-loop key m k gone₀ changed₀ i₀ gone changed i = m - i

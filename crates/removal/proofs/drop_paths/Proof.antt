@@ -2,6 +2,7 @@ use Prim.Native.Nat.{_-_, _≤_}
 use lib.ListN.{length, length-set}
 use mathlib.Core.Path.{_≡_, _∙_}
 use native.Mathlib.Omega.{arith}
+use Rattle.links.specs.Layout.{slots, left-sides}
 use Rattle.removal.specs.Changes.{Dropped, keyOut}
 use Rattle.removal.proofs.Forgetting.{dropped-first, dropped-more, dropped-all}
 use Rattle.removal.proofs.drop_paths.Statement.{statement}
@@ -12,7 +13,7 @@ use Rattle.removal.proofs.marks_out.Reads as marks-out-reads
 use Rattle.removal.proofs.names_marked.Reads as names-marked-reads
 
 abbrev Inv-loop : tie.InvT-loop
-Inv-loop key b out m gone₀ n marks changed₀ i₀ gone changed i = (16 ≤ i) × (length gone ≡ 144) × Dropped (keyOut b out) key i gone changed
+Inv-loop key b out m gone₀ n marks changed₀ i₀ gone changed i = (left-sides ≤ i) × (length gone ≡ slots) × Dropped (keyOut b out) key i gone changed
 
 abbrev μ-loop : tie.MeasureT-loop
 μ-loop key b out m gone₀ n marks changed₀ i₀ gone changed i = m - i

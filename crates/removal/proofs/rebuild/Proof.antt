@@ -6,6 +6,7 @@ use Rattle.known.specs.States.{Linked, facts, factsIn}
 use Rattle.links.specs.Links.{Marked}
 use Rattle.links.proofs.Listing.{listed-none}
 use Rattle.rules.specs.State.{Renaming, renameFacts}
+use Rattle.links.specs.Layout.{left-sides, right-sides, relations-at}
 use mathlib.Core.List.{List}
 use mathlib.Core.Path.{_≡_, refl, sym, _∙_, subst}
 use lib.ListN.{getD}
@@ -18,10 +19,10 @@ use Rattle.removal.proofs.fresh.Reads as fresh-reads
 use Rattle.removal.proofs.keep_fact.Reads as keep-fact-reads
 
 abbrev Inv-loop : tie.InvT-loop
-Inv-loop key₀ b₀ gone all marks₀ n₀ i₀ key b marks n i = 
-    (n ≤ i) × (i ≤ all) × Linked key b n × Marked key marks (16 + 2 * n)
+Inv-loop key₀ b₀ gone all marks₀ n₀ i₀ key b marks n i =
+    (n ≤ i) × (i ≤ all) × Linked key b n × Marked key marks (left-sides + 2 * n)
     × ((ρ : Renaming) (old : List ℕ) → Stands ρ old key₀ gone all → factsIn key b n ≡ renameFacts ρ (factsIn old b₀ i))
-    × ((j : ℕ) → 16 + 2 * i ≤ j → getD key j 0 ≡ getD key₀ j 0) × ((j : ℕ) → 144 + i ≤ j → getD b j 0 ≡ getD b₀ j 0)
+    × ((j : ℕ) → left-sides + 2 * i ≤ j → getD key j 0 ≡ getD key₀ j 0) × ((j : ℕ) → relations-at + i ≤ j → getD b j 0 ≡ getD b₀ j 0)
 
 abbrev μ-loop : tie.MeasureT-loop
 μ-loop key₀ b₀ gone all marks₀ n₀ i₀ key b marks n i = all - i
@@ -89,7 +90,7 @@ loop-again c = (
   omega arith,
   c .keep-fact .ensures .0 .linked,
   c .keep-fact .ensures .1,
-  λ ρ old S. facts-next ρ old (c .before .before .before .before .before .before .before .before .before .before .before .before .before .before .args .key .now) (c .before .before .before .before .before .before .before .before .before .before .before .fresh .last .0) (c .before .before .before .before .before .before .before .before .before .before .before .before .before .before .args .gone .now) _ (c .before .before .before .before .before .before .before .before .before .before .loop .i) S (omega arith) _ _ _ _ _ (c .keep-fact .ensures .0 .facts) (c .before .before .before .before .before .before .before .before .before .before .loop .inv .5 (16 + 2 * c .before .before .before .before .before .before .before .before .before .before .loop .i) (omega arith)) (c .before .before .before .before .before .before .before .before .before .before .loop .inv .5 (17 + 2 * c .before .before .before .before .before .before .before .before .before .before .loop .i) (omega arith)) (c .before .before .before .before .before .before .before .before .before .before .loop .inv .6 (144 + c .before .before .before .before .before .before .before .before .before .before .loop .i) (omega arith)) (c .before .before .before .before .before .before .before .before .before .before .loop .inv .4 ρ old S),
+  λ ρ old S. facts-next ρ old (c .before .before .before .before .before .before .before .before .before .before .before .before .before .before .args .key .now) (c .before .before .before .before .before .before .before .before .before .before .before .fresh .last .0) (c .before .before .before .before .before .before .before .before .before .before .before .before .before .before .args .gone .now) _ (c .before .before .before .before .before .before .before .before .before .before .loop .i) S (omega arith) _ _ _ _ _ (c .keep-fact .ensures .0 .facts) (c .before .before .before .before .before .before .before .before .before .before .loop .inv .5 (left-sides + 2 * c .before .before .before .before .before .before .before .before .before .before .loop .i) (omega arith)) (c .before .before .before .before .before .before .before .before .before .before .loop .inv .5 (right-sides + 2 * c .before .before .before .before .before .before .before .before .before .before .loop .i) (omega arith)) (c .before .before .before .before .before .before .before .before .before .before .loop .inv .6 (relations-at + c .before .before .before .before .before .before .before .before .before .before .loop .i) (omega arith)) (c .before .before .before .before .before .before .before .before .before .before .loop .inv .4 ρ old S),
   λ j h. c .keep-fact .ensures .0 .keys j (omega arith) ∙ c .before .before .before .before .before .before .before .before .before .before .loop .inv .5 j (omega arith),
   λ j h. c .keep-fact .ensures .0 .rest j (omega arith) ∙ c .before .before .before .before .before .before .before .before .before .before .loop .inv .6 j (omega arith),
 )
@@ -101,7 +102,7 @@ element-write-b : tie.Need-element-write-b Inv-loop μ-loop
 element-write-b c = omega (arith, c .before .before .before .before .before .pre .fit, c .before .loop .inv .2 .header .size, c .before .loop .inv .2 .size)
 
 returns : tie.Need-returns Inv-loop μ-loop
-returns c = 
+returns c =
     let e : c .before .loop .i ≡ facts (c .before .before .before .before .before .args .b .now) = omega arith in
     rebuilt-fresh (c .before .before .before .before .before .args .key .now) (c .before .before .before .before .before .args .b .now) (c .before .before .fresh .last .0) (c .before .loop .key) (c .before .loop .b) (c .before .before .before .before .before .args .gone .now) (c .before .loop .n) (c .before .before .before .before .before .pre) (c .before .before .fresh .ensures) (c .before .loop .inv .2) (λ ρ old S. subst (λ (i : ℕ). factsIn (c .before .loop .key) (c .before .loop .b) (c .before .loop .n) ≡ renameFacts ρ (factsIn old (c .before .before .fresh .last .0) i)) e (c .before .loop .inv .4 ρ old S)) (λ j h. c .before .loop .inv .6 j (omega (arith, c .before .before .before .before .before .pre .fit)))
 

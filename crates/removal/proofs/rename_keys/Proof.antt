@@ -1,5 +1,6 @@
 use Prim.Native.Nat.{_-_, _≤_}
 use native.Mathlib.Omega.{arith}
+use Rattle.links.specs.Layout.{left-sides}
 use Rattle.removal.proofs.Forgetting.{RenamedTo, renamed-first, renamed-more, renamed-all}
 use Rattle.removal.proofs.rename_keys.Statement.{statement}
 use Rattle.removal.proofs.rename_keys.Tie as tie
@@ -8,7 +9,7 @@ use Rattle.removal.proofs.rename_keys.Lts as lts
 use Rattle.removal.proofs.rename.Reads as rename-reads
 
 abbrev Inv-loop : tie.InvT-loop
-Inv-loop key₀ m x to changed₀ i₀ key changed i = (16 ≤ i) × RenamedTo x to key₀ i key changed
+Inv-loop key₀ m x to changed₀ i₀ key changed i = (left-sides ≤ i) × RenamedTo x to key₀ i key changed
 
 abbrev μ-loop : tie.MeasureT-loop
 μ-loop key₀ m x to changed₀ i₀ key changed i = m - i
