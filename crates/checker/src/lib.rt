@@ -1,4 +1,5 @@
 use knowledge::Answer;
+use links::State;
 use links::Term;
 ghost use mathlib.Core.Path.{_≡_};
 ghost use mathlib.Core.List.{[]};
@@ -27,7 +28,7 @@ pub enum Verdict {
 }
 
 // `set x f y`
-fn set_at(w: &[u8], i: usize, key: &mut [u64; 144], b: &mut [u8; 338]) -> Answer
+fn set_at(w: &[u8], i: usize, key: &mut [u64; State::SLOTS], b: &mut [u8; State::BYTES]) -> Answer
     requires { ⌜ Tables (now w) × (i < rowCount (now w)) × Wf (now key) (now b) ⌝ }
     ensures { λ r. ⌜ Adds (rule (programIn (now (w .entry))) (Syntax.set (xAt (now (w .entry)) i) (memberAt (now (w .entry)) i) (yAt (now (w .entry)) i)) (stateOf (now (key .entry)) (now (b .entry)))) r (now (key .exit)) (now (b .exit)) ⌝ }
 {
@@ -38,7 +39,7 @@ fn set_at(w: &[u8], i: usize, key: &mut [u64; 144], b: &mut [u8; 338]) -> Answer
 }
 
 // `let x e`
-fn let_at(w: &[u8], i: usize, key: &mut [u64; 144], b: &mut [u8; 338]) -> Answer
+fn let_at(w: &[u8], i: usize, key: &mut [u64; State::SLOTS], b: &mut [u8; State::BYTES]) -> Answer
     requires { ⌜ Tables (now w) × (i < rowCount (now w)) × (kindAt (now w) i ≡ 9) × Wf (now key) (now b) ⌝ }
     ensures { λ r. ⌜ Adds (rule (programIn (now (w .entry))) (Syntax.assign (xAt (now (w .entry)) i) (rightAt (now (w .entry)) (firstAtomAt (now (w .entry)) i))) (stateOf (now (key .entry)) (now (b .entry)))) r (now (key .exit)) (now (b .exit)) ⌝ }
 {
@@ -48,7 +49,7 @@ fn let_at(w: &[u8], i: usize, key: &mut [u64; 144], b: &mut [u8; 338]) -> Answer
 }
 
 // `new x C`
-fn new_at(w: &[u8], i: usize, key: &mut [u64; 144], b: &mut [u8; 338]) -> Answer
+fn new_at(w: &[u8], i: usize, key: &mut [u64; State::SLOTS], b: &mut [u8; State::BYTES]) -> Answer
     requires { ⌜ Tables (now w) × (i < rowCount (now w)) × (kindAt (now w) i ≡ 10) × Wf (now key) (now b) ⌝ }
     ensures { λ r. ⌜ Adds (rule (programIn (now (w .entry))) (Syntax.new (xAt (now (w .entry)) i) (memberAt (now (w .entry)) i)) (stateOf (now (key .entry)) (now (b .entry)))) r (now (key .exit)) (now (b .exit)) ⌝ }
 {
@@ -57,7 +58,7 @@ fn new_at(w: &[u8], i: usize, key: &mut [u64; 144], b: &mut [u8; 338]) -> Answer
 }
 
 // `call x y m z`
-fn call_at(w: &[u8], i: usize, key: &mut [u64; 144], b: &mut [u8; 338]) -> Answer
+fn call_at(w: &[u8], i: usize, key: &mut [u64; State::SLOTS], b: &mut [u8; State::BYTES]) -> Answer
     requires { ⌜ Tables (now w) × (i < rowCount (now w)) × (kindAt (now w) i ≡ 11) × Wf (now key) (now b) ⌝ }
     ensures { λ r. ⌜ Adds (rule (programIn (now (w .entry))) (Syntax.call (xAt (now (w .entry)) i) (yAt (now (w .entry)) i) (memberAt (now (w .entry)) i) (zAt (now (w .entry)) i)) (stateOf (now (key .entry)) (now (b .entry)))) r (now (key .exit)) (now (b .exit)) ⌝ }
 {
@@ -68,7 +69,12 @@ fn call_at(w: &[u8], i: usize, key: &mut [u64; 144], b: &mut [u8; 338]) -> Answe
 }
 
 // `return x`
-fn return_at(w: &[u8], i: usize, key: &mut [u64; 144], b: &mut [u8; 338]) -> Answer
+fn return_at(
+    w: &[u8],
+    i: usize,
+    key: &mut [u64; State::SLOTS],
+    b: &mut [u8; State::BYTES],
+) -> Answer
     requires { ⌜ Tables (now w) × (i < rowCount (now w)) × Wf (now key) (now b) ⌝ }
     ensures { λ r. ⌜ Adds (rule (programIn (now (w .entry))) (Syntax.return (xAt (now (w .entry)) i)) (stateOf (now (key .entry)) (now (b .entry)))) r (now (key .exit)) (now (b .exit)) ⌝ }
 {
@@ -77,7 +83,12 @@ fn return_at(w: &[u8], i: usize, key: &mut [u64; 144], b: &mut [u8; 338]) -> Ans
 }
 
 // `assert` formula
-fn assert_at(w: &[u8], i: usize, key: &mut [u64; 144], b: &mut [u8; 338]) -> Answer
+fn assert_at(
+    w: &[u8],
+    i: usize,
+    key: &mut [u64; State::SLOTS],
+    b: &mut [u8; State::BYTES],
+) -> Answer
     requires { ⌜ Tables (now w) × (i < rowCount (now w)) × Wf (now key) (now b) ⌝ }
     ensures { λ r. ⌜ Adds (rule (programIn (now (w .entry))) (Syntax.assert (formulaAt (now (w .entry)) i)) (stateOf (now (key .entry)) (now (b .entry)))) r (now (key .exit)) (now (b .exit)) ⌝ }
 {
@@ -86,7 +97,12 @@ fn assert_at(w: &[u8], i: usize, key: &mut [u64; 144], b: &mut [u8; 338]) -> Ans
 }
 
 // `release` formula
-fn release_at(w: &[u8], i: usize, key: &mut [u64; 144], b: &mut [u8; 338]) -> Answer
+fn release_at(
+    w: &[u8],
+    i: usize,
+    key: &mut [u64; State::SLOTS],
+    b: &mut [u8; State::BYTES],
+) -> Answer
     requires { ⌜ Tables (now w) × (i < rowCount (now w)) × Wf (now key) (now b) ⌝ }
     ensures { λ r. ⌜ Adds (rule (programIn (now (w .entry))) (Syntax.release (formulaAt (now (w .entry)) i)) (stateOf (now (key .entry)) (now (b .entry)))) r (now (key .exit)) (now (b .exit)) ⌝ }
 {
@@ -98,10 +114,10 @@ fn release_at(w: &[u8], i: usize, key: &mut [u64; 144], b: &mut [u8; 338]) -> An
 fn if_at(
     w: &[u8],
     i: usize,
-    key: &mut [u64; 144],
-    b: &mut [u8; 338],
-    key2: &mut [u64; 144],
-    b2: &mut [u8; 338],
+    key: &mut [u64; State::SLOTS],
+    b: &mut [u8; State::BYTES],
+    key2: &mut [u64; State::SLOTS],
+    b2: &mut [u8; State::BYTES],
 ) -> Answer
     requires { ⌜ Tables (now w) × (i < rowCount (now w)) × (kindAt (now w) i ≡ 15) × Wf (now key) (now b) × (now key2 ≡ now key) × (now b2 ≡ now b) ⌝ }
     ensures { λ r. ⌜ Parts (ifRule (relOf (byteAt (now (w .entry)) (atomPlace (firstAtomAt (now (w .entry)) i)))) (leftAt (now (w .entry)) (firstAtomAt (now (w .entry)) i)) (rightAt (now (w .entry)) (firstAtomAt (now (w .entry)) i)) (stateOf (now (key .entry)) (now (b .entry)))) r (now (key .exit)) (now (b .exit)) (now (key2 .exit)) (now (b2 .exit)) ⌝ }
@@ -117,10 +133,10 @@ fn if_at(
 fn join_at<'a>(
     w: &'a [u8],
     i: usize,
-    key: &mut [u64; 144],
-    b: &mut [u8; 338],
-    key2: &'a [u64; 144],
-    b2: &'a [u8; 338],
+    key: &mut [u64; State::SLOTS],
+    b: &mut [u8; State::BYTES],
+    key2: &'a [u64; State::SLOTS],
+    b2: &'a [u8; State::BYTES],
 ) -> Answer
     requires { ⌜ Tables (now w) × (i < rowCount (now w)) × Wf (now key) (now b) × Wf (now key2) (now b2) ⌝ }
     ensures { λ r. ⌜ Adds (joinRule (formulaAt (now (w .entry)) i) (stateOf (now (key .entry)) (now (b .entry))) (stateOf (now (key2 .entry)) (now (b2 .entry)))) r (now (key .exit)) (now (b .exit)) ⌝ }
@@ -130,7 +146,12 @@ fn join_at<'a>(
 }
 
 // A statement that goes on to the next line, by its kind.
-fn statement(w: &[u8], i: usize, key: &mut [u64; 144], b: &mut [u8; 338]) -> Answer
+fn statement(
+    w: &[u8],
+    i: usize,
+    key: &mut [u64; State::SLOTS],
+    b: &mut [u8; State::BYTES],
+) -> Answer
     requires { ⌜ Tables (now w) × (i < rowCount (now w)) × (kindAt (now w) i < 15) × Wf (now key) (now b) ⌝ }
     ensures { λ r. ⌜ Stepped (now (w .entry)) i (stateOf (now (key .entry)) (now (b .entry))) r (now (key .exit)) (now (b .exit)) ⌝ }
 {
@@ -170,10 +191,10 @@ fn turned(w: &[u8], one: Out) -> Out
 fn joined<'a>(
     w: &'a [u8],
     two: Out,
-    key: &mut [u64; 144],
-    b: &mut [u8; 338],
-    key2: &'a [u64; 144],
-    b2: &'a [u8; 338],
+    key: &mut [u64; State::SLOTS],
+    b: &mut [u8; State::BYTES],
+    key2: &'a [u64; State::SLOTS],
+    b2: &'a [u8; State::BYTES],
 ) -> Out
     requires { ⌜ Tables (now w) × Ended (now w) two × Wf (now key) (now b) × Wf (now key2) (now b2) ⌝ }
     ensures { λ r. ⌜ Joined (now (w .entry)) two (stateOf (now (key .entry)) (now (b .entry))) (stateOf (now (key2 .entry)) (now (b2 .entry))) r (now (key .exit)) (now (b .exit)) ⌝ }
@@ -195,7 +216,13 @@ fn joined<'a>(
 
 // The rows from `from` on, up to the one that closes them. Each part of a branch is checked by this function, with one branch less
 // to open.
-pub fn block(w: &[u8], depth: usize, from: usize, key: &mut [u64; 144], b: &mut [u8; 338]) -> Out
+pub fn block(
+    w: &[u8],
+    depth: usize,
+    from: usize,
+    key: &mut [u64; State::SLOTS],
+    b: &mut [u8; State::BYTES],
+) -> Out
     requires { ⌜ Tables (now w) × (depth ≤ most-branches) × (from < rowCount (now w)) × Nests (now w) from (most-branches - depth) × Wf (now key) (now b) ⌝ }
     ensures { λ r. ⌜ Ran (now (w .entry)) depth from (stateOf (now (key .entry)) (now (b .entry))) r (now (key .exit)) (now (b .exit)) ⌝ }
 {
@@ -250,8 +277,8 @@ fn check_block(
     from: usize,
     a: usize,
     n: usize,
-    key: &mut [u64; 144],
-    b: &mut [u8; 338],
+    key: &mut [u64; State::SLOTS],
+    b: &mut [u8; State::BYTES],
 ) -> Verdict
     requires { ⌜ Tables (now w) × (from < rowCount (now w)) × Nests (now w) from 0 × (a + n ≤ most-atom-rows) × Wf (now key) (now b) ⌝ }
     ensures { λ r. ⌜ (verdictOf r ≡ verdictFrom (now (w .entry)) from (stateOf (now (key .entry)) (now (b .entry))) (atomsFrom (now (w .entry)) a n) []) × Wf (now (key .exit)) (now (b .exit)) ⌝ }
@@ -271,7 +298,12 @@ fn check_block(
 }
 
 // The method m. What the arrays held before does not matter.
-fn check_method(w: &[u8], m: usize, key: &mut [u64; 144], b: &mut [u8; 338]) -> Verdict
+fn check_method(
+    w: &[u8],
+    m: usize,
+    key: &mut [u64; State::SLOTS],
+    b: &mut [u8; State::BYTES],
+) -> Verdict
     requires { ⌜ Tables (now w) × (m < methodCount (now w)) × Wf (now key) (now b) ⌝ }
     ensures { λ r. ⌜ (verdictOf r ≡ checkMethod (programIn (now (w .entry))) (methodAt (now (w .entry)) m)) × Wf (now (key .exit)) (now (b .exit)) ⌝ }
 {
@@ -293,7 +325,7 @@ pub fn check(w: &[u8]) -> Verdict
     ensures { λ r. ⌜ verdictOf r ≡ checkProgram (programIn (now (w .entry))) ⌝ }
 {
     let mut key = removal::header();
-    let mut b = [0u8; 338];
+    let mut b = [0u8; State::BYTES];
     removal::clear(&mut b);
     let n = tables::method_count(w);
     let mut m = 0;

@@ -1,6 +1,7 @@
 use knowledge::Answer;
 use knowledge::Atom;
 use knowledge::Shown;
+use links::State;
 use links::Term;
 ghost use mathlib.Core.Path.{_≡_};
 ghost use Prim.Native.Nat.{_+_, _≤_, _<_};
@@ -90,8 +91,8 @@ pub fn show<'a>(
     y: u8,
     z: u8,
     x: u8,
-    key: &'a [u64; 144],
-    b: &'a [u8; 338],
+    key: &'a [u64; State::SLOTS],
+    b: &'a [u8; State::BYTES],
 ) -> Shown
     requires { ⌜ (length (now w) ≡ work-bytes) × (a + n ≤ most-atom-rows) × Wf (now key) (now b) ⌝ }
     ensures { λ r. ⌜ Shows (now (key .entry)) (now (b .entry)) (formula (now (w .entry)) y z x a n) (r .answer) (r .out) ⌝ }
@@ -121,8 +122,8 @@ pub fn add(
     y: u8,
     z: u8,
     x: u8,
-    key: &mut [u64; 144],
-    b: &mut [u8; 338],
+    key: &mut [u64; State::SLOTS],
+    b: &mut [u8; State::BYTES],
 ) -> Answer
     requires { ⌜ (length (now w) ≡ work-bytes) × (a + n ≤ most-atom-rows) × Wf (now key) (now b) ⌝ }
     ensures { λ r. ⌜ Adds (Rules.add (formula (now (w .entry)) y z x a n) (stateOf (now (key .entry)) (now (b .entry)))) r (now (key .exit)) (now (b .exit)) ⌝ }

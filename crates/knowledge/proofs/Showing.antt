@@ -25,6 +25,7 @@ use Rattle.knowledge.specs.Answers.{answered, ShowsAtom, ShowsRelation, 
 use Rattle.known.specs.States.{factsIn, permissionsIn, Linked}
 use Rattle.links.specs.Links.{Pushed, factOf}
 use Rattle.links.proofs.Listing.{listed-same}
+use Rattle.links.specs.Layout.{left-sides, relations-at, variables-at, fact-count, entry-count, bytes}
 use Rattle.removal.proofs.Keeping.{with-entry, entry-size, entry-other, entries-more, entries-same, linked-same, facts-same, pushed-facts, pushed-linked, pushed-rest, counted-linked, counted-facts, counted-other}
 use Rattle.knowledge.proofs.Splits.{split-none, split-first, gone-set}
 
@@ -141,32 +142,32 @@ module _ (key b : List ℕ) (x f : ℕ) (w : Wf key b) (h : entries b < 64) wher
   one = with-entry b (entries b) x f (w .linked .size) h
 
   abbrev counted-one : List ℕ
-  counted-one = set one 337 (entries b + 1)
+  counted-one = set one entry-count (entries b + 1)
 
-  sized : length one ≡ 338
+  sized : length one ≡ bytes
   sized = entry-size b (entries b) x f (w .linked .size) h
 
-  at-one : (i : ℕ) → (i ≡ 337 → ⊥) → getD counted-one i 0 ≡ getD one i 0
-  at-one i g = getD-set-other one 337 i (entries b + 1) 0 g
+  at-one : (i : ℕ) → (i ≡ entry-count → ⊥) → getD counted-one i 0 ≡ getD one i 0
+  at-one i g = getD-set-other one entry-count i (entries b + 1) 0 g
 
   last-one : entries counted-one ≡ entries b + 1
-  last-one = getD-set-same one 337 (entries b + 1) 0 (omega (arith, sized))
+  last-one = getD-set-same one entry-count (entries b + 1) 0 (omega (arith, sized))
 
   more-entries : permissionsIn counted-one (entries b + 1) ≡ permissionsOf b ++ (record { variable = x; field = f } ∷ [])
   more-entries =
       listed-same _ _ (entries b + 1) (entries-same one counted-one (entries b + 1) (omega arith) (λ i g s. at-one i (omega arith)))
       ∙ entries-more b (entries b) x f (w .linked .size) h
 
-  low-one : (i : ℕ) → i < 208 → getD counted-one i 0 ≡ getD b i 0
+  low-one : (i : ℕ) → i < variables-at → getD counted-one i 0 ≡ getD b i 0
   low-one i g = at-one i (omega arith) ∙ entry-other b (entries b) x f (w .linked .size) h i (omega arith) (omega arith)
 
   count-one : facts counted-one ≡ facts b
-  count-one = at-one 336 (omega arith) ∙ entry-other b (entries b) x f (w .linked .size) h 336 (omega arith) (omega arith)
+  count-one = at-one fact-count (omega arith) ∙ entry-other b (entries b) x f (w .linked .size) h fact-count (omega arith) (omega arith)
 
   wf-one : Wf key counted-one
   wf-one =
       record {
-        linked = subst (λ (n : ℕ). Linked key counted-one n) (sym count-one) (linked-same key b counted-one (facts b) (length-set one 337 (entries b + 1) ∙ sized) low-one (w .linked));
+        linked = subst (λ (n : ℕ). Linked key counted-one n) (sym count-one) (linked-same key b counted-one (facts b) (length-set one entry-count (entries b + 1) ∙ sized) low-one (w .linked));
         fit = omega (arith, last-one);
       }
 
@@ -176,21 +177,21 @@ module _ (key b : List ℕ) (x f : ℕ) (w : Wf key b) (h : entries b < 64) wher
       (ap (factsIn key counted-one) count-one ∙ facts-same key b counted-one (facts b) (w .linked .fit) low-one)
 
 -- one more fact, its flag and the count
-module _ (key b : List ℕ) (c l r : ℕ) (apart : Bool) (w : Wf key b) (h : facts b < 64) (key′ b₁ : List ℕ) (e : eqb c 1 ≡ apart) (P : Pushed key b (16 + 2 * facts b) apart l r key′ b₁) where
+module _ (key b : List ℕ) (c l r : ℕ) (apart : Bool) (w : Wf key b) (h : facts b < 64) (key′ b₁ : List ℕ) (e : eqb c 1 ≡ apart) (P : Pushed key b (left-sides + 2 * facts b) apart l r key′ b₁) where
   abbrev two : List ℕ
-  two = set b₁ (144 + facts b) c
+  two = set b₁ (relations-at + facts b) c
 
   abbrev counted-two : List ℕ
-  counted-two = set two 336 (facts b + 1)
+  counted-two = set two fact-count (facts b + 1)
 
   more-facts : Linked key′ two (facts b + 1)
   more-facts = pushed-linked key b (facts b) c l r (w .linked) h key′ b₁ apart e P
 
-  at-two : (i : ℕ) → 208 ≤ i → (i ≡ 336 → ⊥) → getD counted-two i 0 ≡ getD b i 0
+  at-two : (i : ℕ) → variables-at ≤ i → (i ≡ fact-count → ⊥) → getD counted-two i 0 ≡ getD b i 0
   at-two i g s = counted-other two (facts b + 1) (more-facts .size) i s ∙ pushed-rest key b (facts b) c l r (w .linked) h key′ b₁ apart e P i (omega arith)
 
   last-two : entries counted-two ≡ entries b
-  last-two = at-two 337 (omega arith) (omega arith)
+  last-two = at-two entry-count (omega arith) (omega arith)
 
   pub one-fact : Adds (Rules.addFact (relOf apart) (termOf l) (termOf r) (stateOf key b)) Answer.Done key′ counted-two
   one-fact =

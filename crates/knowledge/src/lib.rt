@@ -1,4 +1,5 @@
 use known::Resolved;
+use links::State;
 use links::Term;
 ghost use mathlib.Core.Path.{_≡_};
 ghost use mathlib.Core.List.{List};
@@ -7,6 +8,7 @@ ghost use lib.ListN.{length};
 ghost use lib.Dec.{eqb};
 ghost use Rattle.rules.specs.Syntax as Syntax;
 ghost use Rattle.rules.specs.State as Rules;
+ghost use Rattle.links.specs.Layout.{bytes};
 ghost use Rattle.links.specs.Keys.{termOf, meaning};
 ghost use Rattle.links.specs.Links.{relOf};
 ghost use Rattle.known.specs.States.{Wf, stateOf, entries};
@@ -33,17 +35,17 @@ pub struct Shown {
 }
 
 // One more permission.
-pub fn add_permission(b: &mut [u8; 338], x: u8, f: u8) -> Answer
-    requires { ⌜ (entries (now b) ≤ 64) × (length (now b) ≡ 338) ⌝ }
+pub fn add_permission(b: &mut [u8; State::BYTES], x: u8, f: u8) -> Answer
+    requires { ⌜ (entries (now b) ≤ 64) × (length (now b) ≡ bytes) ⌝ }
     ensures { λ r. ⌜ ((key : List ℕ) → Wf key (now (b .entry)) → Adds (Rules.addPermission (record { variable = x; field = f }) (stateOf key (now (b .entry)))) r key (now (b .exit))) ⌝ }
 {
-    let n = b[337] as usize;
+    let n = b[State::ENTRIES] as usize;
     if 64 <= n {
         return Answer::Full;
     }
-    b[208 + n] = x;
-    b[272 + n] = f;
-    b[337] = (n + 1) as u8;
+    b[State::VARIABLES + n] = x;
+    b[State::FIELDS + n] = f;
+    b[State::ENTRIES] = (n + 1) as u8;
     Answer::Done
 }
 
@@ -54,27 +56,39 @@ fn flag(apart: bool) -> u8
 }
 
 // One more fact, of terms by their keys.
-pub fn add_fact(key: &mut [u64; 144], b: &mut [u8; 338], apart: bool, t: u64, u: u64) -> Answer
+pub fn add_fact(
+    key: &mut [u64; State::SLOTS],
+    b: &mut [u8; State::BYTES],
+    apart: bool,
+    t: u64,
+    u: u64,
+) -> Answer
     requires { ⌜ Wf (now key) (now b) ⌝ }
     ensures { λ r. ⌜ Adds (Rules.addFact (relOf apart) (termOf t) (termOf u) (stateOf (now (key .entry)) (now (b .entry)))) r (now (key .exit)) (now (b .exit)) ⌝ }
 {
-    let count = b[336] as usize;
+    let count = b[State::FACTS] as usize;
     if 64 <= count {
         return Answer::Full;
     }
-    links::push(key, b, 16 + 2 * count, apart, t, u);
-    b[144 + count] = flag(apart);
-    b[336] = (count + 1) as u8;
+    links::push(key, b, State::LEFT + 2 * count, apart, t, u);
+    b[State::RELATIONS + count] = flag(apart);
+    b[State::FACTS] = (count + 1) as u8;
     Answer::Done
 }
 
 // `acc y f`: the entry that shows it is out then.
-fn show_access<'a>(key: &'a [u64; 144], b: &'a [u8; 338], out: [bool; 64], y: u8, f: u8) -> Shown
+fn show_access<'a>(
+    key: &'a [u64; State::SLOTS],
+    b: &'a [u8; State::BYTES],
+    out: [bool; 64],
+    y: u8,
+    f: u8,
+) -> Shown
     requires { ⌜ Wf (now key) (now b) × (length out ≡ 64) ⌝ }
     ensures { λ r. ⌜ ShowsAtom (now (key .entry)) (now (b .entry)) out (Syntax.acc y f) (r .answer) (r .out) ⌝ }
 {
     let i = known::entry(key, b, &out, y, f);
-    if i < (b[337] as usize) {
+    if i < (b[State::ENTRIES] as usize) {
         let mut after = out;
         after[i] = true;
         return Shown {
@@ -89,7 +103,13 @@ fn show_access<'a>(key: &'a [u64; 144], b: &'a [u8; 338], out: [bool; 64], y: u8
 }
 
 // `eq`, or where `apart` `ne`.
-fn show_relation<'a>(key: &'a [u64; 144], b: &'a [u8; 338], apart: bool, l: Term, r: Term) -> Answer
+fn show_relation<'a>(
+    key: &'a [u64; State::SLOTS],
+    b: &'a [u8; State::BYTES],
+    apart: bool,
+    l: Term,
+    r: Term,
+) -> Answer
     requires { ⌜ Wf (now key) (now b) ⌝ }
     ensures { λ a. ⌜ ShowsRelation (now (key .entry)) (now (b .entry)) apart (meaning l) (meaning r) a ⌝ }
 {
@@ -106,7 +126,12 @@ fn show_relation<'a>(key: &'a [u64; 144], b: &'a [u8; 338], apart: bool, l: Term
 }
 
 // An atom, where some entries are out already.
-pub fn show_atom<'a>(key: &'a [u64; 144], b: &'a [u8; 338], out: [bool; 64], a: Atom) -> Shown
+pub fn show_atom<'a>(
+    key: &'a [u64; State::SLOTS],
+    b: &'a [u8; State::BYTES],
+    out: [bool; 64],
+    a: Atom,
+) -> Shown
     requires { ⌜ Wf (now key) (now b) × (length out ≡ 64) ⌝ }
     ensures { λ r. ⌜ ShowsAtom (now (key .entry)) (now (b .entry)) out (atomOf a) (r .answer) (r .out) ⌝ }
 {
@@ -123,7 +148,13 @@ pub fn show_atom<'a>(key: &'a [u64; 144], b: &'a [u8; 338], out: [bool; 64], a: 
     }
 }
 
-fn add_relation(key: &mut [u64; 144], b: &mut [u8; 338], apart: bool, l: Term, r: Term) -> Answer
+fn add_relation(
+    key: &mut [u64; State::SLOTS],
+    b: &mut [u8; State::BYTES],
+    apart: bool,
+    l: Term,
+    r: Term,
+) -> Answer
     requires { ⌜ Wf (now key) (now b) ⌝ }
     ensures { λ a. ⌜ AddsAtom (now (key .entry)) (now (b .entry)) (Syntax.cmp (relOf apart) (meaning l) (meaning r)) a (now (key .exit)) (now (b .exit)) ⌝ }
 {
@@ -137,7 +168,7 @@ fn add_relation(key: &mut [u64; 144], b: &mut [u8; 338], apart: bool, l: Term, r
 }
 
 // One more atom of a formula: its permission, or its fact resolved.
-pub fn add_atom(key: &mut [u64; 144], b: &mut [u8; 338], a: Atom) -> Answer
+pub fn add_atom(key: &mut [u64; State::SLOTS], b: &mut [u8; State::BYTES], a: Atom) -> Answer
     requires { ⌜ Wf (now key) (now b) ⌝ }
     ensures { λ r. ⌜ AddsAtom (now (key .entry)) (now (b .entry)) (atomOf a) r (now (key .exit)) (now (b .exit)) ⌝ }
 {

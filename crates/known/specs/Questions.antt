@@ -12,6 +12,7 @@ use Rattle.rules.specs.Syntax as Syntax
 use Rattle.rules.specs.Syntax.{var}
 use Rattle.rules.specs.State as Rules
 use Rattle.rules.specs.State.{Fact, Equality, representative, equalBy, Permission, names, links, pathOf}
+use Rattle.links.specs.Layout.{slots, left-sides, right-sides, relations-at}
 use Rattle.links.specs.Keys.{termOf, first-number}
 use Rattle.links.specs.Listing.{listed}
 use Rattle.links.specs.Links.{Header, Decides, alikeBy}
@@ -20,8 +21,8 @@ use Rattle.known.specs.States.{variableAt, fieldAt, permissionAt, entrie
 
 pub record Slots (key b : List ℕ) (m : ℕ) : Type 0 where
   pub header : Header key
-  pub some : 16 ≤ m
-  pub most : m ≤ 144
+  pub some : left-sides ≤ m
+  pub most : m ≤ slots
 
 -- P of ~, whatever facts the labels decide
 abbrev pub Told : List ℕ → List ℕ → ℕ → (Equality → Type 0) → Type 0
@@ -49,7 +50,7 @@ unfoldable pub unequalAt : ℕ → ℕ → ℕ → ℕ → ℕ → Bool
 unequalAt c x y a b = eqb c 1 && eitherWay x y a b
 
 abbrev pub unequalIn : List ℕ → ℕ → ℕ → ℕ → Bool
-unequalIn b x y i = unequalAt (getD b (144 + i) 0) (getD b (16 + 2 * i) 0) (getD b (17 + 2 * i) 0) x y
+unequalIn b x y i = unequalAt (getD b (relations-at + i) 0) (getD b (left-sides + 2 * i) 0) (getD b (right-sides + 2 * i) 0) x y
 
 abbrev pub places : ℕ → List ℕ
 places n = listed (λ i. i) n

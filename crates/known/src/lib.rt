@@ -1,3 +1,4 @@
+use links::State;
 use links::Term;
 ghost use mathlib.Core.Path.{_≡_};
 ghost use mathlib.Core.Bool.{true};
@@ -8,17 +9,23 @@ ghost use Rattle.rules.specs.Syntax as Syntax;
 ghost use Rattle.rules.specs.Syntax.{var};
 ghost use Rattle.rules.specs.State as Rules;
 ghost use Rattle.rules.specs.State.{nullAndObject, twoEntries, differentNumbers, equalBy, equalIn, representative, holdsIn};
+ghost use Rattle.links.specs.Layout.{slots, bytes, left-sides};
 ghost use Rattle.links.specs.Keys.{termOf, meaning, first-number};
 ghost use Rattle.links.specs.Links.{Labelled, Decides, relOf};
 ghost use Rattle.known.specs.States.{Wf, stateOf, factsIn, permissionsIn, permissionsOf, variableAt, entries};
 ghost use Rattle.known.specs.Questions.{Slots, Told, FirstPlace, entryTest, passes, eitherWay, unequalAt, unequalIn, places, numberLike, otherLike, otherNumber, twoNumbers, pairAt, resolvedAs, pathAt, standsFor, variableOr};
 
-// What the checker knows stands in two arrays, `key` and `b`. The sides of fact i are the terms of the keys in the slots 16 + 2 i and
-// 17 + 2 i. Of b, byte i is the label of slot i: two slots have one label where their terms are ~. Byte 144 + i is 1 where fact i is
-// an inequality; entry i is the permission x.f with x in byte 208 + i and f in byte 272 + i. Bytes 336 and 337 count facts and entries.
+// What the checker knows stands in two arrays, `key` and `b` (`State` in links). Two slots have one label where their terms are ~.
 
 // Is x ~ the term of the key k, whose label is a?
-fn variable_is<'a>(key: &'a [u64; 144], b: &'a [u8; 338], m: usize, x: u8, k: u64, a: u8) -> bool
+fn variable_is<'a>(
+    key: &'a [u64; State::SLOTS],
+    b: &'a [u8; State::BYTES],
+    m: usize,
+    x: u8,
+    k: u64,
+    a: u8,
+) -> bool
     requires { ⌜ Slots (now key) (now b) m × Labelled (now key) (now b) m k a ⌝ }
     ensures { λ r. ⌜ Told (now (key .entry)) (now (b .entry)) m (λ same. r ≡ same (var x) (termOf k)) ⌝ }
 {
@@ -29,8 +36,8 @@ fn variable_is<'a>(key: &'a [u64; 144], b: &'a [u8; 338], m: usize, x: u8, k: u6
 
 // Is the entry x.f not out, and a y.g with x ~ y? k and a are y's key and label.
 fn names<'a>(
-    key: &'a [u64; 144],
-    b: &'a [u8; 338],
+    key: &'a [u64; State::SLOTS],
+    b: &'a [u8; State::BYTES],
     m: usize,
     out: bool,
     x: u8,
@@ -53,8 +60,8 @@ fn names<'a>(
 
 // The place of the first entry that is not out and a y.f up to ~, or n.
 fn find<'a>(
-    key: &'a [u64; 144],
-    b: &'a [u8; 338],
+    key: &'a [u64; State::SLOTS],
+    b: &'a [u8; State::BYTES],
     m: usize,
     out: &'a [bool; 64],
     n: usize,
@@ -68,7 +75,17 @@ fn find<'a>(
     let a = links::label_of(key, b, m, k);
     let mut i = 0;
     while i < n {
-        if names(key, b, m, out[i], b[208 + i], b[272 + i], k, a, f) {
+        if names(
+            key,
+            b,
+            m,
+            out[i],
+            b[State::VARIABLES + i],
+            b[State::FIELDS + i],
+            k,
+            a,
+            f,
+        ) {
             return i;
         }
         i += 1;
@@ -93,13 +110,19 @@ fn unequal_at(c: u8, x: u8, y: u8, a: u8, b: u8) -> bool
 }
 
 // (a) Is an inequality listed whose sides have the labels x and y?
-fn listed_unequal(b: &[u8; 338], n: usize, x: u8, y: u8) -> bool
+fn listed_unequal(b: &[u8; State::BYTES], n: usize, x: u8, y: u8) -> bool
     requires { ⌜ n ≤ 64 ⌝ }
     ensures { λ r. ⌜ r ≡ any (unequalIn (now (b .entry)) x y) (places n) ⌝ }
 {
     let mut i = 0;
     while i < n {
-        if unequal_at(b[144 + i], b[16 + 2 * i], b[17 + 2 * i], x, y) {
+        if unequal_at(
+            b[State::RELATIONS + i],
+            b[State::LEFT + 2 * i],
+            b[State::RIGHT + 2 * i],
+            x,
+            y,
+        ) {
             return true;
         }
         i += 1;
@@ -111,7 +134,7 @@ fn listed_unequal(b: &[u8; 338], n: usize, x: u8, y: u8) -> bool
 fn number_like(k: u64, c: u8, l: u64, b: u8) -> bool
     ensures { λ r. ⌜ r ≡ numberLike k c l b ⌝ }
 {
-    if k < 65793 {
+    if k < State::FIRST_NUMBER {
         return false;
     }
     links::alike(k, c, l, b)
@@ -128,8 +151,8 @@ fn other_like(j: u64, l: u64, b: u8, k: u64, c: u8) -> bool
 
 // Is a number other than that of j ~ the term of l?
 fn other_number<'a>(
-    key: &'a [u64; 144],
-    label: &'a [u8; 338],
+    key: &'a [u64; State::SLOTS],
+    label: &'a [u8; State::BYTES],
     n: usize,
     l: u64,
     b: u8,
@@ -140,7 +163,7 @@ fn other_number<'a>(
 {
     let mut i = 0;
     while i < n {
-        if other_like(j, l, b, key[14 + i], label[14 + i]) {
+        if other_like(j, l, b, key[State::TERMS + i], label[State::TERMS + i]) {
             return true;
         }
         i += 1;
@@ -148,10 +171,10 @@ fn other_number<'a>(
     false
 }
 
-// Is the term in slot 14 + i a number ~ the term of t, and another one ~ that of u?
+// Is the term in slot TERMS + i a number ~ the term of t, and another one ~ that of u?
 fn two_numbers<'a>(
-    key: &'a [u64; 144],
-    label: &'a [u8; 338],
+    key: &'a [u64; State::SLOTS],
+    label: &'a [u8; State::BYTES],
     n: usize,
     t: u64,
     a: u8,
@@ -162,8 +185,8 @@ fn two_numbers<'a>(
     requires { ⌜ (n ≤ 130) × (i < n) ⌝ }
     ensures { λ r. ⌜ r ≡ twoNumbers (now (key .entry)) (now (label .entry)) n t a u b i ⌝ }
 {
-    let k = key[14 + i];
-    if number_like(k, label[14 + i], t, a) {
+    let k = key[State::TERMS + i];
+    if number_like(k, label[State::TERMS + i], t, a) {
         return other_number(key, label, n, u, b, k);
     }
     false
@@ -171,8 +194,8 @@ fn two_numbers<'a>(
 
 // (b) Are two numbers ~ the terms of t and u?
 fn different_numbers<'a>(
-    key: &'a [u64; 144],
-    label: &'a [u8; 338],
+    key: &'a [u64; State::SLOTS],
+    label: &'a [u8; State::BYTES],
     n: usize,
     t: u64,
     a: u8,
@@ -194,34 +217,41 @@ fn different_numbers<'a>(
 
 // (b) with the two terms in the slots before the facts.
 fn numbers_apart<'a>(
-    key: &'a [u64; 144],
-    label: &'a [u8; 338],
+    key: &'a [u64; State::SLOTS],
+    label: &'a [u8; State::BYTES],
     n: usize,
     t: u64,
     a: u8,
     u: u64,
     b: u8,
 ) -> bool
-    requires { ⌜ (n ≤ 64) × (length (now key) ≡ 144) × (length (now label) ≡ 338) × Labelled (now key) (now label) (16 + 2 * n) t a × Labelled (now key) (now label) (16 + 2 * n) u b ⌝ }
-    ensures { λ r. ⌜ (Decides (factsIn (now (key .entry)) (now (label .entry)) n) (now (key .entry)) (now (label .entry)) (16 + 2 * n) → r ≡ differentNumbers (equalBy (representative (factsIn (now (key .entry)) (now (label .entry)) n))) (factsIn (now (key .entry)) (now (label .entry)) n) (termOf t) (termOf u)) ⌝ }
+    requires { ⌜ (n ≤ 64) × (length (now key) ≡ slots) × (length (now label) ≡ bytes) × Labelled (now key) (now label) (left-sides + 2 * n) t a × Labelled (now key) (now label) (left-sides + 2 * n) u b ⌝ }
+    ensures { λ r. ⌜ (Decides (factsIn (now (key .entry)) (now (label .entry)) n) (now (key .entry)) (now (label .entry)) (left-sides + 2 * n) → r ≡ differentNumbers (equalBy (representative (factsIn (now (key .entry)) (now (label .entry)) n))) (factsIn (now (key .entry)) (now (label .entry)) n) (termOf t) (termOf u)) ⌝ }
 {
     let mut k = *key;
-    k[14] = t;
-    k[15] = u;
+    k[State::TERMS] = t;
+    k[State::NULL] = u;
     let mut l = *label;
-    l[14] = a;
-    l[15] = b;
+    l[State::TERMS] = a;
+    l[State::NULL] = b;
     different_numbers(&k, &l, 2 + 2 * n, t, a, u, b)
 }
 
 // Is the variable of some entry ~ the term of k?
-fn some_object<'a>(key: &'a [u64; 144], b: &'a [u8; 338], m: usize, n: usize, k: u64, a: u8) -> bool
+fn some_object<'a>(
+    key: &'a [u64; State::SLOTS],
+    b: &'a [u8; State::BYTES],
+    m: usize,
+    n: usize,
+    k: u64,
+    a: u8,
+) -> bool
     requires { ⌜ Slots (now key) (now b) m × Labelled (now key) (now b) m k a × (n ≤ 64) ⌝ }
     ensures { λ r. ⌜ Told (now (key .entry)) (now (b .entry)) m (λ same. r ≡ any (λ p. same (var (p .variable)) (termOf k)) (permissionsIn (now (b .entry)) n)) ⌝ }
 {
     let mut i = 0;
     while i < n {
-        if variable_is(key, b, m, b[208 + i], k, a) {
+        if variable_is(key, b, m, b[State::VARIABLES + i], k, a) {
             return true;
         }
         i += 1;
@@ -231,8 +261,8 @@ fn some_object<'a>(key: &'a [u64; 144], b: &'a [u8; 338], m: usize, n: usize, k:
 
 // (c) Is the term of t ~ null, and that of u ~ the variable of some entry?
 fn null_and_object<'a>(
-    key: &'a [u64; 144],
-    b: &'a [u8; 338],
+    key: &'a [u64; State::SLOTS],
+    b: &'a [u8; State::BYTES],
     m: usize,
     n: usize,
     t: u64,
@@ -243,7 +273,7 @@ fn null_and_object<'a>(
     requires { ⌜ Slots (now key) (now b) m × Labelled (now key) (now b) m t x × Labelled (now key) (now b) m u y × (n ≤ 64) ⌝ }
     ensures { λ r. ⌜ Told (now (key .entry)) (now (b .entry)) m (λ same. r ≡ nullAndObject same (permissionsIn (now (b .entry)) n) (termOf t) (termOf u)) ⌝ }
 {
-    if links::alike(256, b[15], t, x) {
+    if links::alike(State::NULL_KEY, b[State::NULL], t, x) {
         return some_object(key, b, m, n, u, y);
     }
     false
@@ -251,8 +281,8 @@ fn null_and_object<'a>(
 
 // The entries j and i, where p and q say whether the variable of i is ~ the terms of t and u.
 fn pair<'a>(
-    key: &'a [u64; 144],
-    b: &'a [u8; 338],
+    key: &'a [u64; State::SLOTS],
+    b: &'a [u8; State::BYTES],
     m: usize,
     j: usize,
     i: usize,
@@ -266,19 +296,19 @@ fn pair<'a>(
     requires { ⌜ Slots (now key) (now b) m × Labelled (now key) (now b) m t x × Labelled (now key) (now b) m u y × (j < 64) × (i < 64) ⌝ }
     ensures { λ r. ⌜ Told (now (key .entry)) (now (b .entry)) m (λ same. p ≡ same (var (variableAt (now (b .entry)) i)) (termOf t) → q ≡ same (var (variableAt (now (b .entry)) i)) (termOf u) → r ≡ pairAt same t u (now (b .entry)) j i) ⌝ }
 {
-    if b[272 + j] != b[272 + i] {
+    if b[State::FIELDS + j] != b[State::FIELDS + i] {
         return false;
     }
-    let c = variable_is(key, b, m, b[208 + j], t, x);
-    let d = variable_is(key, b, m, b[208 + j], u, y);
+    let c = variable_is(key, b, m, b[State::VARIABLES + j], t, x);
+    let d = variable_is(key, b, m, b[State::VARIABLES + j], u, y);
     (c & q) | (d & p)
 }
 
 // (d) Are the terms of t and u ~ the variables of two entries for one field? Only an entry whose variable is ~ to one of them is
 // tried with those before it.
 fn two_entries<'a>(
-    key: &'a [u64; 144],
-    b: &'a [u8; 338],
+    key: &'a [u64; State::SLOTS],
+    b: &'a [u8; State::BYTES],
     m: usize,
     n: usize,
     t: u64,
@@ -292,8 +322,8 @@ fn two_entries<'a>(
     let mut found = false;
     let mut i = 0;
     'entries: while i < n {
-        let p = variable_is(key, b, m, b[208 + i], t, x);
-        let q = variable_is(key, b, m, b[208 + i], u, y);
+        let p = variable_is(key, b, m, b[State::VARIABLES + i], t, x);
+        let q = variable_is(key, b, m, b[State::VARIABLES + i], u, y);
         if p | q {
             let mut j = 0;
             while j < i {
@@ -310,13 +340,13 @@ fn two_entries<'a>(
 }
 
 // Is the inequality of two terms shown? The ways (a), (c), (d) and then (b).
-fn unequal<'a>(key: &'a [u64; 144], b: &'a [u8; 338], t: u64, u: u64) -> bool
+fn unequal<'a>(key: &'a [u64; State::SLOTS], b: &'a [u8; State::BYTES], t: u64, u: u64) -> bool
     requires { ⌜ Wf (now key) (now b) ⌝ }
     ensures { λ r. ⌜ r ≡ holdsIn (equalIn (stateOf (now (key .entry)) (now (b .entry)))) (stateOf (now (key .entry)) (now (b .entry))) Syntax.ne (termOf t) (termOf u) ⌝ }
 {
-    let n = b[336] as usize;
-    let m = 16 + 2 * n;
-    let p = b[337] as usize;
+    let n = b[State::FACTS] as usize;
+    let m = State::LEFT + 2 * n;
+    let p = b[State::ENTRIES] as usize;
     let x = links::label_of(key, b, m, t);
     let y = links::label_of(key, b, m, u);
     if listed_unequal(b, n, x, y) {
@@ -338,17 +368,17 @@ fn unequal<'a>(key: &'a [u64; 144], b: &'a [u8; 338], t: u64, u: u64) -> bool
 fn are_two_numbers(t: u64, u: u64) -> bool
     ensures { λ r. ⌜ (r ≡ true → (first-number ≤ t) × (first-number ≤ u) × (t ≡ u → ⊥)) ⌝ }
 {
-    if t < 65793 {
+    if t < State::FIRST_NUMBER {
         return false;
     }
-    if u < 65793 {
+    if u < State::FIRST_NUMBER {
         return false;
     }
     t != u
 }
 
 // The same, but two numbers are unequal at once, by (b).
-fn differ<'a>(key: &'a [u64; 144], b: &'a [u8; 338], t: u64, u: u64) -> bool
+fn differ<'a>(key: &'a [u64; State::SLOTS], b: &'a [u8; State::BYTES], t: u64, u: u64) -> bool
     requires { ⌜ Wf (now key) (now b) ⌝ }
     ensures { λ r. ⌜ r ≡ holdsIn (equalIn (stateOf (now (key .entry)) (now (b .entry)))) (stateOf (now (key .entry)) (now (b .entry))) Syntax.ne (termOf t) (termOf u) ⌝ }
 {
@@ -359,18 +389,24 @@ fn differ<'a>(key: &'a [u64; 144], b: &'a [u8; 338], t: u64, u: u64) -> bool
 }
 
 // Are two terms ~?
-fn equal<'a>(key: &'a [u64; 144], b: &'a [u8; 338], t: u64, u: u64) -> bool
+fn equal<'a>(key: &'a [u64; State::SLOTS], b: &'a [u8; State::BYTES], t: u64, u: u64) -> bool
     requires { ⌜ Wf (now key) (now b) ⌝ }
     ensures { λ r. ⌜ r ≡ equalIn (stateOf (now (key .entry)) (now (b .entry))) (termOf t) (termOf u) ⌝ }
 {
-    let m = 16 + 2 * (b[336] as usize);
+    let m = State::LEFT + 2 * (b[State::FACTS] as usize);
     let x = links::label_of(key, b, m, t);
     let y = links::label_of(key, b, m, u);
     links::alike(t, x, u, y)
 }
 
 // Is the equality, or where `apart` the inequality, of two terms shown?
-pub fn holds<'a>(key: &'a [u64; 144], b: &'a [u8; 338], apart: bool, t: u64, u: u64) -> bool
+pub fn holds<'a>(
+    key: &'a [u64; State::SLOTS],
+    b: &'a [u8; State::BYTES],
+    apart: bool,
+    t: u64,
+    u: u64,
+) -> bool
     requires { ⌜ Wf (now key) (now b) ⌝ }
     ensures { λ r. ⌜ r ≡ holdsIn (equalIn (stateOf (now (key .entry)) (now (b .entry)))) (stateOf (now (key .entry)) (now (b .entry))) (relOf apart) (termOf t) (termOf u) ⌝ }
 {
@@ -388,26 +424,32 @@ pub enum Resolved {
 }
 
 // The place of the first entry that is not out and a y.f up to ~, or the count of entries.
-pub fn entry<'a>(key: &'a [u64; 144], b: &'a [u8; 338], out: &'a [bool; 64], y: u8, f: u8) -> usize
+pub fn entry<'a>(
+    key: &'a [u64; State::SLOTS],
+    b: &'a [u8; State::BYTES],
+    out: &'a [bool; 64],
+    y: u8,
+    f: u8,
+) -> usize
     requires { ⌜ Wf (now key) (now b) ⌝ }
     ensures { λ r. ⌜ FirstPlace (entryTest (now (b .entry)) (now (out .entry)) y f (equalIn (stateOf (now (key .entry)) (now (b .entry))))) (entries (now (b .entry))) r ⌝ }
 {
-    let m = 16 + 2 * (b[336] as usize);
-    find(key, b, m, out, b[337] as usize, y, f)
+    let m = State::LEFT + 2 * (b[State::FACTS] as usize);
+    find(key, b, m, out, b[State::ENTRIES] as usize, y, f)
 }
 
-fn path_at(b: &[u8; 338], i: usize) -> Resolved
+fn path_at(b: &[u8; State::BYTES], i: usize) -> Resolved
     requires { ⌜ entries (now b) ≤ 64 ⌝ }
     ensures { λ r. ⌜ resolvedAs r ≡ pathAt (now (b .entry)) i ⌝ }
 {
-    if i < (b[337] as usize) {
-        return Resolved::Key(links::path_key(b[208 + i], b[272 + i]));
+    if i < (b[State::ENTRIES] as usize) {
+        return Resolved::Key(links::path_key(b[State::VARIABLES + i], b[State::FIELDS + i]));
     }
     Resolved::Nothing
 }
 
 // What an expression resolves to.
-pub fn resolve<'a>(key: &'a [u64; 144], b: &'a [u8; 338], e: Term) -> Resolved
+pub fn resolve<'a>(key: &'a [u64; State::SLOTS], b: &'a [u8; State::BYTES], e: Term) -> Resolved
     requires { ⌜ Wf (now key) (now b) ⌝ }
     ensures { λ r. ⌜ resolvedAs r ≡ Rules.resolve (equalIn (stateOf (now (key .entry)) (now (b .entry)))) (permissionsOf (now (b .entry))) (meaning e) ⌝ }
 {
@@ -420,8 +462,8 @@ pub fn resolve<'a>(key: &'a [u64; 144], b: &'a [u8; 338], e: Term) -> Resolved
 
 // Is v a variable other than x and ~ x? k and a are x's key and label.
 fn stands_for<'a>(
-    key: &'a [u64; 144],
-    b: &'a [u8; 338],
+    key: &'a [u64; State::SLOTS],
+    b: &'a [u8; State::BYTES],
     m: usize,
     v: u8,
     x: u8,
@@ -437,20 +479,20 @@ fn stands_for<'a>(
     variable_is(key, b, m, v, k, a)
 }
 
-// The first other variable ~ x, or 255.
-pub fn successor<'a>(key: &'a [u64; 144], b: &'a [u8; 338], x: u8) -> u8
+// The first other variable ~ x, or NO_VARIABLE.
+pub fn successor<'a>(key: &'a [u64; State::SLOTS], b: &'a [u8; State::BYTES], x: u8) -> u8
     requires { ⌜ Wf (now key) (now b) ⌝ }
     ensures { λ r. ⌜ variableOr r ≡ Rules.successor (stateOf (now (key .entry)) (now (b .entry))) x ⌝ }
 {
-    let m = 16 + 2 * (b[336] as usize);
+    let m = State::LEFT + 2 * (b[State::FACTS] as usize);
     let k = links::variable_key(x);
     let a = links::label_of(key, b, m, k);
     let mut v = 0;
-    while v < 15 {
+    while v < State::VARIABLE_COUNT {
         if stands_for(key, b, m, v, x, k, a) {
             return v;
         }
         v += 1;
     }
-    255
+    State::NO_VARIABLE
 }

@@ -12,15 +12,19 @@ null-key = 256
 abbrev pub first-path : ℕ
 first-path = 257
 
+-- so many for each variable
+abbrev pub paths : ℕ
+paths = 256
+
 abbrev pub first-number : ℕ
 first-number = 65793
 
--- below 256 a variable; null; paths; numbers
+-- below null's a variable; null; paths; numbers
 unfoldable pub termOf : ℕ → Syntax.Expr ℕ
 termOf k =
     cond (ltb k null-key) (var k)
     (cond (eqb k null-key) null
-    (cond (ltb k first-number) (path ((k - first-path) / 256) ((k - first-path) % 256))
+    (cond (ltb k first-number) (path ((k - first-path) / paths) ((k - first-path) % paths))
     (num (k - first-number))))
 
 -- the way back
@@ -28,7 +32,7 @@ unfoldable pub keyOf : Syntax.Expr ℕ → ℕ
 keyOf (num n) = first-number + n
 keyOf null = null-key
 keyOf (var x) = x
-keyOf (path x f) = first-path + x * 256 + f
+keyOf (path x f) = first-path + x * paths + f
 
 -- the term that a value of the code is
 unfoldable pub meaning : Term → Syntax.Expr ℕ

@@ -1,3 +1,4 @@
+pub mod Layout
 pub mod Keys
 pub mod Listing
 pub mod Links

@@ -9,18 +9,19 @@ use lib.Dec.{eqb}
 use lib.ListN.{length, getD, set}
 use Rattle.rules.specs.Syntax.{Rel, eq, ne}
 use Rattle.rules.specs.State.{Term, Fact, representative}
+use Rattle.links.specs.Layout.{slots, null-slot, left-sides}
 use Rattle.links.specs.Keys.{termOf, null-key}
 
 abbrev pub termAt : List ℕ → ℕ → Term
 termAt key i = termOf (getD key i 0)
 
--- the first 16 slots
+-- the slots before the facts'
 pub record Header (key : List ℕ) : Type 0 where
-  pub size : length key ≡ 144
-  pub variables : (i : ℕ) → i < 15 → getD key i 0 ≡ i
-  pub null : getD key 15 0 ≡ null-key
+  pub size : length key ≡ slots
+  pub variables : (i : ℕ) → i < null-slot → getD key i 0 ≡ i
+  pub null : getD key null-slot 0 ≡ null-key
 
--- the label of a term's slot, 255 where it has none
+-- the label of a term's slot, or that it has none
 abbrev pub no-label : ℕ
 no-label = 255
 
@@ -65,8 +66,8 @@ picked from to l = cond (eqb l from) to l
 -- the label `to` for each label `from`; what stands after the labels stays
 pub record Merged (from to : ℕ) (label label′ : List ℕ) : Type 0 where
   pub size : length label′ ≡ length label
-  pub labels : (i : ℕ) → i < 144 → getD label′ i 0 ≡ picked from to (getD label i 0)
-  pub rest : (i : ℕ) → 144 ≤ i → getD label′ i 0 ≡ getD label i 0
+  pub labels : (i : ℕ) → i < slots → getD label′ i 0 ≡ picked from to (getD label i 0)
+  pub rest : (i : ℕ) → slots ≤ i → getD label′ i 0 ≡ getD label i 0
 
 -- the terms in the slots m and m + 1 are made equal: a new term, which has its slot's number, takes the other's label
 pub data Joined (m : ℕ) (label label′ : List ℕ) : Type 0 where
@@ -96,17 +97,17 @@ pub record Slotted (key label : List ℕ) (m k : ℕ) (key′ label′ : List �
 pub record Pushed (key label : List ℕ) (m : ℕ) (b : Bool) (l r : ℕ) (key′ label′ : List ℕ) : Type 0 where
   pub keys : key′ ≡ set (set key m l) (m + 1) r
   pub size : length label′ ≡ length label
-  pub rest : (i : ℕ) → 144 ≤ i → getD label′ i 0 ≡ getD label i 0
+  pub rest : (i : ℕ) → slots ≤ i → getD label′ i 0 ≡ getD label i 0
   pub labels : (fs : List Fact) → Decides fs key label m → Decides (fs ++ (factOf b l r ∷ [])) key′ label′ (m + 2)
 
 -- a place below 512 for each key
 unfoldable pub placeOf : ℕ → ℕ
 placeOf k = (k / 8 + k % 512) % 512
 
--- the places of the keys in the slots from 16 to m are marked
+-- the places of the sides in the slots up to m are marked
 pub record Marked (key : List ℕ) (marks : List Bool) (m : ℕ) : Type 0 where
   pub size : length marks ≡ 512
-  pub at : (i : ℕ) → 16 ≤ i → i < m → getD marks (placeOf (getD key i 0)) false ≡ true
+  pub at : (i : ℕ) → left-sides ≤ i → i < m → getD marks (placeOf (getD key i 0)) false ≡ true
 
 -- are the terms of two keys with their labels ~?
 unfoldable pub alikeBy : ℕ → ℕ → ℕ → ℕ → Bool

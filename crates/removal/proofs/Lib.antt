@@ -1,5 +1,6 @@
 pub mod Starts
 pub mod Renaming
 pub mod Keeping
+pub mod Forgetting
 pub mod Changes
 pub mod Marking

@@ -1,5 +1,5 @@
 -- Renaming a variable in a key.
-use mathlib.Core.Path.{_≡_, refl, sym, _∙_}
+use mathlib.Core.Path.{_≡_, refl, _∙_}
 use mathlib.Core.Bool.{Bool, true, false, cond, _&&_, _||_}
 use mathlib.Core.Option.{none, some}
 use mathlib.Core.Logic.{_⊎_, inl, inr, ⊎-elim}
@@ -66,32 +66,6 @@ module _ (x to k : ℕ) where
   pub mentions-past : (k ≡ x → ⊥) → 257 + x * 256 ≤ k → mentionsKey x k ≡ ltb (k - (257 + x * 256)) 256
   unfolding mentionsKey
   mentions-past n h = rw (ne-eqb k x n, le-leb (257 + x * 256) k h)
-
--- the same variable
--- a key that does not name x stays
-pub renamed-silent : (x to k : ℕ) → mentionsKey x k ≡ false → renamedKey x to k ≡ k
-unfolding mentionsKey renamedKey
-renamed-silent x to k e = go (eqb k x) (leb (257 + x * 256) k && ltb (k - (257 + x * 256)) 256) e
-  where
-    go : (a b : Bool) → (a || b) ≡ false → cond a to (cond b (257 + to * 256 + (k - (257 + x * 256))) k) ≡ k
-    go true b d = absurd (let z : _≡_ {A = ℕ} 0 1 = cc in omega arith)
-    go false true d = absurd (let z : _≡_ {A = ℕ} 0 1 = cc in omega arith)
-    go false false d = refl
-
-pub renamed-same : (x k : ℕ) → renamedKey x x k ≡ k
-unfolding renamedKey
-renamed-same x k = ⊎-elim (λ e. renamed-variable x x k e ∙ sym e) other (decide-eq k x)
-  where
-    past : (c : Bool) → ltb (k - (257 + x * 256)) 256 ≡ c → (k ≡ x → ⊥) → 257 + x * 256 ≤ k → renamedKey x x k ≡ k
-    past true e n h = renamed-path x x k n h (ltb-true _ 256 e) ∙ omega arith
-    past false e n h = renamed-above x x k n h (ltb-false _ 256 e)
-
-    at : (c : Bool) → leb (257 + x * 256) k ≡ c → (k ≡ x → ⊥) → renamedKey x x k ≡ k
-    at true e n = past (ltb (k - (257 + x * 256)) 256) refl n (leb-true (257 + x * 256) k e)
-    at false e n = renamed-below x x k n (leb-false (257 + x * 256) k e)
-
-    other : (k ≡ x → ⊥) → renamedKey x x k ≡ k
-    other n = at (leb (257 + x * 256) k) refl n
 
 -- THE TERM RENAMED
 module _ (x : ℕ) (h : x < 256) where

@@ -12,10 +12,11 @@ use Rattle.links.specs.Listing.{listed}
 use Rattle.links.specs.Links.{Header, Decides, termAt}
 use Rattle.links.proofs.Keys.{one-key}
 use Rattle.rules.specs.State as Rules
+use Rattle.links.specs.Layout.{slots, left-sides, fact-count, entry-count, bytes}
 use Rattle.known.specs.States.{factsIn, permissionsIn, facts, entries, Linked}
 use Rattle.removal.specs.Changes.{Becomes, Fresh}
 
-header-place : (key : List ℕ) → Header key → (i j : ℕ) → i < 16 → j < 16 → getD key i 0 ≡ getD key j 0 → i ≡ j
+header-place : (key : List ℕ) → Header key → (i j : ℕ) → i < left-sides → j < left-sides → getD key i 0 ≡ getD key j 0 → i ≡ j
 header-place key H i j h g e = go (decide-eq i 15) (decide-eq j 15)
   where
     go : (i ≡ 15) ⊎ (i ≡ 15 → ⊥) → (j ≡ 15) ⊎ (j ≡ 15 → ⊥) → i ≡ j
@@ -24,7 +25,7 @@ header-place key H i j h g e = go (decide-eq i 15) (decide-eq j 15)
     go (inr a) (inl b) = let p : getD key j 0 ≡ 256 = rw b (H .null) in omega (arith, H .variables i (omega arith))
     go (inr a) (inr b) = omega (arith, H .variables i (omega arith), H .variables j (omega arith))
 
-pub fresh-decides : (key label : List ℕ) → Header key → ((i : ℕ) → i < 16 → getD label i 0 ≡ i) → Decides [] key label 16
+pub fresh-decides : (key label : List ℕ) → Header key → ((i : ℕ) → i < left-sides → getD label i 0 ≡ i) → Decides [] key label 16
 unfolding representative
 fresh-decides key label H own =
     record {
@@ -34,26 +35,26 @@ fresh-decides key label H own =
       linked = λ t u e. inl e;
     }
 
-pub fresh-linked : (key b : List ℕ) → Header key → length b ≡ 338 → ((i : ℕ) → i < 16 → getD b i 0 ≡ i) → Linked key b 0
+pub fresh-linked : (key b : List ℕ) → Header key → length b ≡ bytes → ((i : ℕ) → i < left-sides → getD b i 0 ≡ i) → Linked key b 0
 unfolding listed
 fresh-linked key b H l own = record { header = H; size = l; fit = omega arith; decides = fresh-decides key b H own }
 
 -- no facts, no entries
-module _ (key b b′ : List ℕ) (H : Header key) (l : length b ≡ 338) (F : Fresh b b′) where
+module _ (key b b′ : List ℕ) (H : Header key) (l : length b ≡ bytes) (F : Fresh b b′) where
   abbrev done : List ℕ
-  done = set (set b′ 336 0) 337 0
+  done = set (set b′ fact-count 0) entry-count 0
 
-  size : length done ≡ 338
-  size = length-set (set b′ 336 0) 337 0 ∙ length-set b′ 336 0 ∙ F .size ∙ l
+  size : length done ≡ bytes
+  size = length-set (set b′ fact-count 0) entry-count 0 ∙ length-set b′ fact-count 0 ∙ F .size ∙ l
 
-  at : (i : ℕ) → (i ≡ 336 → ⊥) → (i ≡ 337 → ⊥) → getD done i 0 ≡ getD b′ i 0
-  at i p q = getD-set-other (set b′ 336 0) 337 i 0 0 q ∙ getD-set-other b′ 336 i 0 0 p
+  at : (i : ℕ) → (i ≡ fact-count → ⊥) → (i ≡ entry-count → ⊥) → getD done i 0 ≡ getD b′ i 0
+  at i p q = getD-set-other (set b′ fact-count 0) entry-count i 0 0 q ∙ getD-set-other b′ fact-count i 0 0 p
 
   none : facts done ≡ 0
-  none = getD-set-other (set b′ 336 0) 337 336 0 0 (omega arith) ∙ getD-set-same b′ 336 0 0 (omega (arith, F .size))
+  none = getD-set-other (set b′ fact-count 0) entry-count fact-count 0 0 (omega arith) ∙ getD-set-same b′ fact-count 0 0 (omega (arith, F .size))
 
   last : entries done ≡ 0
-  last = getD-set-same (set b′ 336 0) 337 0 0 (rw (length-set b′ 336 0) (omega (arith, F .size)))
+  last = getD-set-same (set b′ fact-count 0) entry-count 0 0 (rw (length-set b′ fact-count 0) (omega (arith, F .size)))
 
   pub cleared : Becomes Rules.empty key done
   unfolding listed
@@ -73,7 +74,7 @@ own-more l i h before j g = ⊎-elim here there (decide-eq j i)
     there : (j ≡ i → ⊥) → getD (set l i i) j 0 ≡ j
     there d = getD-set-other l i j i 0 d ∙ before j (omega arith)
 
-pub header-from : (key : List ℕ) → length key ≡ 144 → ((i : ℕ) → i < 15 → getD key i 0 ≡ i) → Header (set key 15 256)
+pub header-from : (key : List ℕ) → length key ≡ slots → ((i : ℕ) → i < 15 → getD key i 0 ≡ i) → Header (set key 15 256)
 header-from key l own =
     record {
       size = length-set key 15 256 ∙ l;

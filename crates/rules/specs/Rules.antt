@@ -9,7 +9,7 @@ use Rattle.rules.specs.Base.{Try, ok, _>>=_, _>>_, check, orElse}
 use Rattle.rules.specs.Answers.{Refusal, Verdict, accepted, refused, atLine, then, malformed, textEnds, noPermission, notShown}
 use Rattle.rules.specs.Syntax.{Rel, Atom, Formula, Simple, Stmt, Row, Field, Method, Program, methodNumbered, same, this-variable, parameter, result-variable}
 use Rattle.rules.specs.Syntax.{eq, ne, num, null, var, path, acc, cmp, set, assign, new, call, return, assert, release, simple, if, else, join, end}
-use Rattle.rules.specs.State.{Term, State, empty, pathOf, equalIn, names, resolve, holdsIn, split, show, remainder, withoutPaths, renameTerm, successor, removeTo, remove, addPermission, addFact, add}
+use Rattle.rules.specs.State.{Term, State, empty, pathOf, equalIn, names, resolve, holdsIn, split, show, dropPaths, remainder, renameTerm, successor, removeTo, remove, addPermission, addFact, add}
 
 -- y, z and x for `this`, w and `result`
 unfoldable pub actual : ℕ → ℕ → ℕ → ℕ → ℕ
@@ -55,8 +55,7 @@ newRule x fs s = addFields x fs (remove x s) >>= λ s. addFact ne (var x) null s
 unfoldable pub setRule : ℕ → ℕ → ℕ → State → Try Refusal State
 setRule x f y s = do
   c ← orElse (split (names (equalIn s) x f) (s .permissions)) noPermission
-  addFact eq (pathOf (c .taken)) (var y)
-      (record { permissions = s .permissions; facts = withoutPaths (c .taken ∷ []) (s .facts) })
+  addFact eq (pathOf (c .taken)) (var y) (dropPaths (c .taken ∷ []) (s .permissions) s)
 
 -- "`call`: show y ≠ null, then requires with y, z for `this`, w. Take the remainder, remove x, add ensures with x for `result`."
 unfoldable pub callRule : ℕ → ℕ → Method → ℕ → State → Try Refusal State

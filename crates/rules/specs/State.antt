@@ -5,7 +5,7 @@ use mathlib.Core.Option.{Option, none, some}
 use Prim.Native.Nat.{ℕ}
 use lib.Dec.{eqb, ltb}
 use lib.ListN.{length}
-use Rattle.rules.specs.Base.{Try, ok, _>>=_, _>>_, check, orElse, bindOption, any, keep, first, mapOption}
+use Rattle.rules.specs.Base.{Try, ok, _>>=_, _>>_, check, orElse, bindOption, any, first, mapOption}
 use Rattle.rules.specs.Limits.{most-permissions, most-facts}
 use Rattle.rules.specs.Answers.{Refusal, unresolved, noPermission, notShown, stateFull}
 use Rattle.rules.specs.Syntax.{Rel, Expr, Formula, same, eq, ne, num, null, var, path, acc, cmp}
@@ -155,21 +155,41 @@ showFrom _~_ s (cmp n a b ∷ φ) r = do
 unfoldable pub show : State → Formula ℕ → Try Refusal Shown
 show s φ = showFrom (equalIn s) s φ (record { kept = s .permissions; consumed = [] })
 
-unfoldable pub namesPath : List Permission → Fact → Bool
-namesPath ps f = any (λ p. same (pathOf p) (f .left) || same (pathOf p) (f .right)) ps
+-- DROPPING
+-- What is dropped is told by a function on terms: a term that is left to itself, a renamed one to its new name, a dropped one to none.
+abbrev pub Renaming : Type 0
+Renaming = Term → Option Term
 
-unfoldable pub withoutPaths : List Permission → List Fact → List Fact
-withoutPaths ps fs = keep (λ f. not (namesPath ps f)) fs
+-- a fact with a dropped term goes
+unfoldable pub renameFact : Renaming → Fact → Option Fact
+renameFact ρ f =
+    bindOption (ρ (f .left)) λ a.
+    bindOption (ρ (f .right)) λ b.
+    some (record { rel = f .rel; left = a; right = b })
+
+unfoldable pub renameFacts : Renaming → List Fact → List Fact
+renameFacts ρ fs = mapOption (renameFact ρ) fs
+
+unfoldable pub lists : List Permission → Term → Bool
+lists ps t = any (λ p. same (pathOf p) t) ps
+
+unfoldable pub withoutPaths : List Permission → Renaming
+withoutPaths gone t = cond (lists gone t) none (some t)
+
+-- the paths of the entries `gone` dropped; ps: the permissions that are left
+unfoldable pub dropPaths : List Permission → List Permission → State → State
+dropPaths gone ps s = record { permissions = ps; facts = renameFacts (withoutPaths gone) (s .facts) }
 
 -- "The remainder is the state without consumed paths and without facts that name them."
 unfoldable pub remainder : State → Shown → State
-remainder s r = record { permissions = r .kept; facts = withoutPaths (r .consumed) (s .facts) }
+remainder s r = dropPaths (r .consumed) (r .kept) s
 
+-- REMOVING
 -- x renamed to the variable `to`, or nothing where that is none
 unfoldable pub renameVariable : ℕ → Option ℕ → ℕ → Option ℕ
 renameVariable x to v = cond (eqb v x) to (some v)
 
-unfoldable pub renameTerm : ℕ → Option ℕ → Term → Option Term
+unfoldable pub renameTerm : ℕ → Option ℕ → Renaming
 renameTerm x to (num n) = some (num n)
 renameTerm x to null = some null
 renameTerm x to (var v) = bindOption (renameVariable x to v) (λ w. some (var w))
@@ -179,11 +199,8 @@ unfoldable pub renamePermission : ℕ → Option ℕ → Permission → Option P
 renamePermission x to p =
     bindOption (renameVariable x to (p .variable)) (λ w. some (record { variable = w; field = p .field }))
 
-unfoldable pub renameFact : ℕ → Option ℕ → Fact → Option Fact
-renameFact x to f =
-    bindOption (renameTerm x to (f .left)) λ a.
-    bindOption (renameTerm x to (f .right)) λ b.
-    some (record { rel = f .rel; left = a; right = b })
+unfoldable pub renamePermissions : ℕ → Option ℕ → List Permission → List Permission
+renamePermissions x to ps = mapOption (renamePermission x to) ps
 
 -- "(order: `this`, w, locals, `result`)"
 abbrev pub variables : List ℕ
@@ -196,7 +213,7 @@ successor s x = first (λ v. not (eqb v x) && equalIn s (var v) (var x)) variabl
 -- "Removing x: .. takes its place everywhere; otherwise all that names x goes."
 unfoldable pub removeTo : ℕ → Option ℕ → State → State
 removeTo x to s =
-    record { permissions = mapOption (renamePermission x to) (s .permissions); facts = mapOption (renameFact x to) (s .facts) }
+    record { permissions = renamePermissions x to (s .permissions); facts = renameFacts (renameTerm x to) (s .facts) }
 
 unfoldable pub remove : ℕ → State → State
 remove x s = removeTo x (successor s x) s
@@ -223,5 +240,5 @@ add (cmp n a b ∷ φ) s = do
 
 -- Everything above computes where this unfolds.
 unfoldable pub opened : Unit {0}
-unfolding pathOf linkedBy representative equalBy equalIn numbers termsOf isNe names resolve links listedUnequal differentNumbers nullAndObject twoEntries holdsIn split showFrom show namesPath withoutPaths remainder renameVariable renameTerm renamePermission renameFact successor removeTo remove addPermission addFact add
+unfolding pathOf linkedBy representative equalBy equalIn numbers termsOf isNe names resolve links listedUnequal differentNumbers nullAndObject twoEntries holdsIn split showFrom show renameFact renameFacts lists withoutPaths dropPaths remainder renameVariable renameTerm renamePermission renamePermissions successor removeTo remove addPermission addFact add
 opened = tt

@@ -1,5 +1,6 @@
 pub mod Satisfied
 pub mod ShowSound
+pub mod DropSound
 pub mod RemainderSound
 pub mod RemoveSound
 pub mod AddSound

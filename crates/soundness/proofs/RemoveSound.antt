@@ -8,12 +8,13 @@ use Prim.Native.Nat.{ℕ}
 use lib.Dec.{T, eqb, eqb→eq, eqb-refl, T-not}
 use Rattle.rules.specs.Base.{mapOption, bindOption}
 use Rattle.rules.specs.Syntax.{num, null, var, path}
-use Rattle.rules.specs.State.{Term, Permission, Fact, State, equalIn, renameVariable, renameTerm, renamePermission, renameFact, successor, removeTo, remove, variables}
+use Rattle.rules.specs.State.{Term, Permission, State, equalIn, renameVariable, renameTerm, renamePermission, renamePermissions, successor, removeTo, remove, variables}
 use Rattle.rules.specs.Machine.{Frame, Heap, Location, valueAt, valueOf, bind, holds}
 use Rattle.rules.proofs.Lists.{and-both, first-in, some-inj, bind-some, option-cases, mapOption-none, mapOption-some, came-from, went-to, update-same, update-other}
 use Rattle.rules.proofs.Sets.{Holds, location-eq}
-use Rattle.soundness.proofs.Satisfied.{termValue, locationOf, Owned, Apart, Reads, FactTrue, Satisfied, related-by}
+use Rattle.soundness.proofs.Satisfied.{termValue, locationOf, Owned, Apart, Reads, Satisfied}
 use Rattle.soundness.proofs.ShowSound.{equal-variable}
+use Rattle.soundness.proofs.DropSound.{facts-renamed}
 
 -- A FRAME WITH A NEW VALUE OF x
 pub bound-same : (F : Frame) (x v : ℕ) → valueOf (bind x v F) x ≡ v
@@ -60,8 +61,8 @@ module _ (h : Heap) (F G : Frame) (x : ℕ) (to : Option ℕ)
         held = L _ (subst (Holds F) (sym (renamed-location p q e)) (O .held));
       }
 
-  renamed-apart : (ps : List Permission) → Apart F ps → Apart G (mapOption (renamePermission x to) ps)
-  unfolding mapOption
+  renamed-apart : (ps : List Permission) → Apart F ps → Apart G (renamePermissions x to ps)
+  unfolding renamePermissions mapOption
   renamed-apart [] A = tt
   renamed-apart (p ∷ ps) A =
       ⊎-elim
@@ -77,8 +78,8 @@ module _ (h : Heap) (F G : Frame) (x : ℕ) (to : Option ℕ)
 
   renamed-reads :
       (ps : List Permission) (t u : Term) → renameTerm x to t ≡ some u → Reads ps t →
-      Reads (mapOption (renamePermission x to) ps) u
-  unfolding renameTerm renamePermission bindOption
+      Reads (renamePermissions x to ps) u
+  unfolding renameTerm renamePermission renamePermissions bindOption
   renamed-reads ps (num n) u e r = subst (Reads _) (some-inj e) tt
   renamed-reads ps null u e r = subst (Reads _) (some-inj e) tt
   renamed-reads ps (var v) u e r =
@@ -89,22 +90,8 @@ module _ (h : Heap) (F G : Frame) (x : ℕ) (to : Option ℕ)
       (went-to (renamePermission x to) ps (record { variable = v; field = f }) (record { variable = w; field = f })
       (ap (λ (o : Option ℕ). bindOption o (λ w. some (record { variable = w; field = f }))) m) r)
 
-  renamed-true :
-      (ps : List Permission) (f g : Fact) → renameFact x to f ≡ some g → FactTrue h F ps f →
-      FactTrue h G (mapOption (renamePermission x to) ps) g
-  unfolding renameFact
-  renamed-true ps f g e t =
-      let (a, i, e₁) = bind-some (renameTerm x to (f .left)) _ g e in
-      let (b, j, e₂) = bind-some (renameTerm x to (f .right)) _ g e₁ in
-      subst (FactTrue h G (mapOption (renamePermission x to) ps)) (some-inj e₂)
-      (record {
-        related = related-by (f .rel) (renamed-value (f .left) a i) (renamed-value (f .right) b j) (t .related);
-        reads-left = renamed-reads ps (f .left) a i (t .reads-left);
-        reads-right = renamed-reads ps (f .right) b j (t .reads-right);
-      })
-
   renamed-satisfied : (s : State) → ((l : Location) → Holds F l → Holds G l) → Satisfied h F s → Satisfied h G (removeTo x to s)
-  unfolding removeTo
+  unfolding removeTo renamePermissions
   renamed-satisfied s L S =
       record {
         owned =
@@ -112,8 +99,8 @@ module _ (h : Heap) (F G : Frame) (x : ℕ) (to : Option ℕ)
             let (p, b, c) = came-from (renamePermission x to) (s .permissions) q i in renamed-owned p q L c (S .owned p b);
         apart = renamed-apart (s .permissions) (S .apart);
         facts =
-            λ g i.
-            let (f, b, c) = came-from (renameFact x to) (s .facts) g i in renamed-true (s .permissions) f g c (S .facts f b);
+            facts-renamed h h F G s S (renameTerm x to) (renamePermissions x to (s .permissions))
+            (λ t u e r. (renamed-reads (s .permissions) t u e r, renamed-value t u e));
       }
 
 -- REMOVING x: its successor has the value that x had

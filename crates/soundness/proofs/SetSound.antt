@@ -1,21 +1,22 @@
 -- `set`: the checker's state after it is satisfied after the machine's step.
 use mathlib.Core.Path.{_≡_, refl, sym, ap, _∙_, subst}
 use mathlib.Core.List.{[], _∷_}
-use mathlib.Core.Logic.{inl, inr, ⊎-elim}
+use mathlib.Core.Logic.{inl, ⊎-elim}
 use Prim.Native.Nat.{ℕ}
+use lib.Dec.{T}
 use Rattle.rules.specs.Base.{ok, orElse}
 use Rattle.rules.specs.Answers.{noPermission}
-use Rattle.rules.specs.Syntax.{eq, var}
-use Rattle.rules.specs.State.{Permission, State, Split, equalIn, names, split, pathOf, withoutPaths}
+use Rattle.rules.specs.Syntax.{eq, num, null, var, path}
+use Rattle.rules.specs.State.{Term, Permission, State, Split, equalIn, names, split, pathOf, lists, dropPaths}
 use Rattle.rules.specs.Rules.{setRule}
 use Rattle.rules.specs.Machine.{Config, Frame, Heap, Location, valueAt, valueOf, locate, store, advance, jump, holds, stored, setStep}
 use Rattle.rules.proofs.Lists.{is-head}
 use Rattle.rules.proofs.Tries.{bind-ok, orElse-ok, bind-of-ok}
 use Rattle.rules.proofs.Sets.{location-eq}
 use Rattle.rules.proofs.Heaps.{store-same, store-other}
-use Rattle.soundness.proofs.Satisfied.{termValue, locationOf, Satisfied, path-reads, true-more, satisfied-by, satisfied-frame}
+use Rattle.soundness.proofs.Satisfied.{termValue, locationOf, Reads, Satisfied, path-reads, satisfied-frame}
 use Rattle.soundness.proofs.ShowSound.{names-location, owned-located, Parted, split-parted}
-use Rattle.soundness.proofs.RemainderSound.{facts-kept}
+use Rattle.soundness.proofs.DropSound.{member-lists, paths-dropped}
 use Rattle.soundness.proofs.AddSound.{fact-added}
 use Rattle.soundness.proofs.Stack.{Goes}
 
@@ -27,32 +28,34 @@ module _ (h : Heap) (F : Frame) (s : State) (S : Satisfied h F s) (x f y : ℕ) 
   abbrev Taken : Split → Type 0
   Taken c = Parted F (names (equalIn s) x f) (s .permissions) c
 
-  -- the state without the facts that name the path that is set
+  -- the state in which the path that is set is dropped
   abbrev forgotten : Permission → State
-  forgotten p = record { permissions = s .permissions; facts = withoutPaths (p ∷ []) (s .facts) }
+  forgotten p = dropPaths (p ∷ []) (s .permissions) s
 
-  -- the other entries, of which nothing is written
-  others-satisfied :
-      (c : Split) → Taken c →
-      Satisfied written F (record { permissions = c .others; facts = withoutPaths (c .taken ∷ []) (s .facts) })
-  others-satisfied c D =
-      satisfied-by h written F F _ (λ v. refl) (λ p i. S .owned p (D .others-were p i) .held)
-      (λ p i. store-other h (valueOf F x) f (valueOf F y) (valueOf F (p .variable)) (p .field)
-      (λ w. D .taken-apart p i (location-eq (sym (w .0)) (w .1) ∙ sym (names-location h F s S x f (c .taken) (D .passes)))))
-      (record {
-        owned = λ p i. S .owned p (D .others-were p i);
-        apart = D .others-apart;
-        facts =
-            facts-kept (s .permissions) (c .others) (c .taken ∷ [])
-            (λ p i. ⊎-elim (λ j. inl j) (λ e. inr (is-head e)) (D .all-were p i)) h F (s .facts) (S .facts);
-      })
+  -- no other path's value is written
+  unwritten :
+      (c : Split) → Taken c → (u : Term) → (T (lists (c .taken ∷ []) u) → ⊥) → Reads (s .permissions) u →
+      termValue written F u ≡ termValue h F u
+  unfolding termValue pathOf
+  unwritten c D (num n) out r = refl
+  unwritten c D null out r = refl
+  unwritten c D (var v) out r = refl
+  unwritten c D (path v g) out r =
+      let p : Permission = record { variable = v; field = g } in
+      store-other h (valueOf F x) f (valueOf F y) (valueOf F v) g
+      (λ w.
+      ⊎-elim
+      (λ i. D .taken-apart p i (location-eq (sym (w .0)) (w .1) ∙ sym (names-location h F s S x f (c .taken) (D .passes))))
+      (λ e. out (member-lists (c .taken ∷ []) p (is-head e)))
+      (D .all-were p r))
 
   forgotten-satisfied : (c : Split) → Taken c → Satisfied written F (forgotten (c .taken))
+  unfolding dropPaths
   forgotten-satisfied c D =
       record {
         owned = λ p i. S .owned p i;
         apart = S .apart;
-        facts = λ g i. true-more (D .others-were) (others-satisfied c D .facts g i);
+        facts = paths-dropped h written F s S (s .permissions) (c .taken ∷ []) (λ p i. inl i) (unwritten c D);
       }
 
   written-value :
@@ -66,7 +69,7 @@ module _ (h : Heap) (F : Frame) (s : State) (S : Satisfied h F s) (x f y : ℕ) 
   set-rule :
       (s′ : State) → setRule x f y s ≡ ok s′ →
       (locate F x f ≡ ok (record { object = valueOf F x; field = f })) × Satisfied written F s′
-  unfolding setRule
+  unfolding setRule dropPaths
   set-rule s′ a =
       let (c, o, b) = bind-ok (orElse (split (names (equalIn s) x f) (s .permissions)) noPermission) a in
       let D : Taken c = split-parted F _ (s .permissions) c (S .apart) (orElse-ok _ noPermission c o) in

@@ -1,5 +1,6 @@
 use knowledge::Answer;
 use known::Resolved;
+use links::State;
 use links::Term;
 ghost use mathlib.Core.Path.{_≡_};
 ghost use Prim.Native.Nat.{_+_, _≤_, _<_};
@@ -17,14 +18,20 @@ ghost use Rattle.knowledge.specs.Answers.{Adds};
 ghost use Rattle.statements.specs.Statements.{Parts, assignTerm, callShown, partRule, initialOf, Asserts, releaseRule};
 
 // `set x f y`: the facts that name the path that shows `acc x f` go, and the path is y.
-pub fn set_rule(key: &mut [u64; 144], b: &mut [u8; 338], x: u8, f: u8, y: u8) -> Answer
+pub fn set_rule(
+    key: &mut [u64; State::SLOTS],
+    b: &mut [u8; State::BYTES],
+    x: u8,
+    f: u8,
+    y: u8,
+) -> Answer
     requires { ⌜ Wf (now key) (now b) ⌝ }
     ensures { λ r. ⌜ Adds (setRule x f y (stateOf (now (key .entry)) (now (b .entry)))) r (now (key .exit)) (now (b .exit)) ⌝ }
 {
     let out = [false; 64];
     let i = known::entry(key, b, &out, x, f);
-    if i < (b[337] as usize) {
-        let path = links::path_key(b[208 + i], b[272 + i]);
+    if i < (b[State::ENTRIES] as usize) {
+        let path = links::path_key(b[State::VARIABLES + i], b[State::FIELDS + i]);
         removal::without_path(key, b, i, path);
         return knowledge::add_fact(key, b, false, path, links::variable_key(y));
     }
@@ -32,7 +39,12 @@ pub fn set_rule(key: &mut [u64; 144], b: &mut [u8; 338], x: u8, f: u8, y: u8) ->
 }
 
 // x = k, where the term is left.
-fn add_equal(key: &mut [u64; 144], b: &mut [u8; 338], x: u8, k: Resolved) -> Answer
+fn add_equal(
+    key: &mut [u64; State::SLOTS],
+    b: &mut [u8; State::BYTES],
+    x: u8,
+    k: Resolved,
+) -> Answer
     requires { ⌜ Wf (now key) (now b) ⌝ }
     ensures { λ r. ⌜ Adds (addEqual x (leftOver k) (stateOf (now (key .entry)) (now (b .entry)))) r (now (key .exit)) (now (b .exit)) ⌝ }
 {
@@ -43,7 +55,7 @@ fn add_equal(key: &mut [u64; 144], b: &mut [u8; 338], x: u8, k: Resolved) -> Ans
 }
 
 // `let x e`, where e resolves to the term of k.
-fn assign_key(key: &mut [u64; 144], b: &mut [u8; 338], x: u8, k: u64) -> Answer
+fn assign_key(key: &mut [u64; State::SLOTS], b: &mut [u8; State::BYTES], x: u8, k: u64) -> Answer
     requires { ⌜ Wf (now key) (now b) ⌝ }
     ensures { λ r. ⌜ Adds (assignTerm x (termOf k) (stateOf (now (key .entry)) (now (b .entry)))) r (now (key .exit)) (now (b .exit)) ⌝ }
 {
@@ -56,7 +68,12 @@ fn assign_key(key: &mut [u64; 144], b: &mut [u8; 338], x: u8, k: u64) -> Answer
 }
 
 // `let x e`
-pub fn assign_rule(key: &mut [u64; 144], b: &mut [u8; 338], x: u8, e: Term) -> Answer
+pub fn assign_rule(
+    key: &mut [u64; State::SLOTS],
+    b: &mut [u8; State::BYTES],
+    x: u8,
+    e: Term,
+) -> Answer
     requires { ⌜ Wf (now key) (now b) ⌝ }
     ensures { λ r. ⌜ Adds (assignRule x (meaning e) (stateOf (now (key .entry)) (now (b .entry)))) r (now (key .exit)) (now (b .exit)) ⌝ }
 {
@@ -69,8 +86,8 @@ pub fn assign_rule(key: &mut [u64; 144], b: &mut [u8; 338], x: u8, e: Term) -> A
 // The permissions of a new x of the class c.
 fn add_fields(
     w: &[u8],
-    key: &mut [u64; 144],
-    b: &mut [u8; 338],
+    key: &mut [u64; State::SLOTS],
+    b: &mut [u8; State::BYTES],
     x: u8,
     c: usize,
     n: usize,
@@ -93,14 +110,18 @@ fn add_fields(
 fn initial(kind: usize) -> u64
     ensures { λ r. ⌜ termOf r ≡ initialOf kind ⌝ }
 {
-    if kind == 0 { 256 } else { 65793 }
+    if kind == 0 {
+        State::NULL_KEY
+    } else {
+        State::FIRST_NUMBER
+    }
 }
 
 // What the fields of a new x are.
 fn add_initial(
     w: &[u8],
-    key: &mut [u64; 144],
-    b: &mut [u8; 338],
+    key: &mut [u64; State::SLOTS],
+    b: &mut [u8; State::BYTES],
     x: u8,
     c: usize,
     n: usize,
@@ -121,7 +142,13 @@ fn add_initial(
 }
 
 // `new x C`
-pub fn new_rule(w: &[u8], key: &mut [u64; 144], b: &mut [u8; 338], x: u8, c: usize) -> Answer
+pub fn new_rule(
+    w: &[u8],
+    key: &mut [u64; State::SLOTS],
+    b: &mut [u8; State::BYTES],
+    x: u8,
+    c: usize,
+) -> Answer
     requires { ⌜ (length (now w) ≡ work-bytes) × (c < most-classes) × (fieldCountAt (now w) c ≤ most-fields) × Wf (now key) (now b) ⌝ }
     ensures { λ r. ⌜ Adds (newRule x (classAt (now (w .entry)) c) (stateOf (now (key .entry)) (now (b .entry)))) r (now (key .exit)) (now (b .exit)) ⌝ }
 {
@@ -131,7 +158,7 @@ pub fn new_rule(w: &[u8], key: &mut [u64; 144], b: &mut [u8; 338], x: u8, c: usi
     let Answer::Done = k else {
         return k;
     };
-    let l = knowledge::add_fact(key, b, true, links::variable_key(x), 256);
+    let l = knowledge::add_fact(key, b, true, links::variable_key(x), State::NULL_KEY);
     let Answer::Done = l else {
         return l;
     };
@@ -141,8 +168,8 @@ pub fn new_rule(w: &[u8], key: &mut [u64; 144], b: &mut [u8; 338], x: u8, c: usi
 // `assert`: the formula is shown, and the state stays.
 pub fn assert_rule<'a>(
     w: &'a [u8],
-    key: &'a [u64; 144],
-    b: &'a [u8; 338],
+    key: &'a [u64; State::SLOTS],
+    b: &'a [u8; State::BYTES],
     a: usize,
     n: usize,
 ) -> Answer
@@ -155,7 +182,13 @@ pub fn assert_rule<'a>(
 }
 
 // `release`: the formula is shown, and the remainder is left.
-pub fn release_rule(w: &[u8], key: &mut [u64; 144], b: &mut [u8; 338], a: usize, n: usize) -> Answer
+pub fn release_rule(
+    w: &[u8],
+    key: &mut [u64; State::SLOTS],
+    b: &mut [u8; State::BYTES],
+    a: usize,
+    n: usize,
+) -> Answer
     requires { ⌜ (length (now w) ≡ work-bytes) × (a + n ≤ most-atom-rows) × Wf (now key) (now b) ⌝ }
     ensures { λ r. ⌜ Adds (releaseRule (atomsFrom (now (w .entry)) a n) (stateOf (now (key .entry)) (now (b .entry)))) r (now (key .exit)) (now (b .exit)) ⌝ }
 {
@@ -169,8 +202,8 @@ pub fn release_rule(w: &[u8], key: &mut [u64; 144], b: &mut [u8; 338], a: usize,
 // `call x y m z`, where y ≠ null is shown.
 fn call_shown(
     w: &[u8],
-    key: &mut [u64; 144],
-    b: &mut [u8; 338],
+    key: &mut [u64; State::SLOTS],
+    b: &mut [u8; State::BYTES],
     x: u8,
     y: u8,
     m: usize,
@@ -197,8 +230,8 @@ fn call_shown(
 // `call x y m z`
 pub fn call_rule(
     w: &[u8],
-    key: &mut [u64; 144],
-    b: &mut [u8; 338],
+    key: &mut [u64; State::SLOTS],
+    b: &mut [u8; State::BYTES],
     x: u8,
     y: u8,
     m: usize,
@@ -207,7 +240,7 @@ pub fn call_rule(
     requires { ⌜ Tables (now w) × (m < methodCount (now w)) × Wf (now key) (now b) ⌝ }
     ensures { λ r. ⌜ Adds (callRule x y (methodAt (now (w .entry)) m) z (stateOf (now (key .entry)) (now (b .entry)))) r (now (key .exit)) (now (b .exit)) ⌝ }
 {
-    if known::holds(key, b, true, links::variable_key(y), 256) {
+    if known::holds(key, b, true, links::variable_key(y), State::NULL_KEY) {
         return call_shown(w, key, b, x, y, m, z);
     }
     Answer::NotShown
@@ -215,10 +248,10 @@ pub fn call_rule(
 
 // The condition, or where `apart` its opposite, in the first state, and the other in the second, which is a copy of the first.
 fn part(
-    key: &mut [u64; 144],
-    b: &mut [u8; 338],
-    key2: &mut [u64; 144],
-    b2: &mut [u8; 338],
+    key: &mut [u64; State::SLOTS],
+    b: &mut [u8; State::BYTES],
+    key2: &mut [u64; State::SLOTS],
+    b2: &mut [u8; State::BYTES],
     apart: bool,
     t: u64,
     u: u64,
@@ -235,10 +268,10 @@ fn part(
 
 // `if eq l r`, or where `apart` `if ne l r`
 pub fn if_rule(
-    key: &mut [u64; 144],
-    b: &mut [u8; 338],
-    key2: &mut [u64; 144],
-    b2: &mut [u8; 338],
+    key: &mut [u64; State::SLOTS],
+    b: &mut [u8; State::BYTES],
+    key2: &mut [u64; State::SLOTS],
+    b2: &mut [u8; State::BYTES],
     apart: bool,
     l: Term,
     r: Term,
@@ -260,10 +293,10 @@ pub fn join_rule<'a>(
     w: &'a [u8],
     a: usize,
     n: usize,
-    key: &mut [u64; 144],
-    b: &mut [u8; 338],
-    key2: &'a [u64; 144],
-    b2: &'a [u8; 338],
+    key: &mut [u64; State::SLOTS],
+    b: &mut [u8; State::BYTES],
+    key2: &'a [u64; State::SLOTS],
+    b2: &'a [u8; State::BYTES],
 ) -> Answer
     requires { ⌜ (length (now w) ≡ work-bytes) × (a + n ≤ most-atom-rows) × Wf (now key) (now b) × Wf (now key2) (now b2) ⌝ }
     ensures { λ r. ⌜ Adds (joinRule (atomsFrom (now (w .entry)) a n) (stateOf (now (key .entry)) (now (b .entry))) (stateOf (now (key2 .entry)) (now (b2 .entry)))) r (now (key .exit)) (now (b .exit)) ⌝ }

@@ -5,6 +5,7 @@ use lib.ListN.{length, getD, length-set}
 use mathlib.Core.Bool.{false}
 use mathlib.Core.Path.{_≡_, refl, _∙_}
 use native.Mathlib.Omega.{arith}
+use Rattle.links.specs.Layout.{variables-at}
 use Rattle.removal.proofs.entries_of.Statement.{statement}
 use Rattle.removal.proofs.entries_of.Tie as tie
 use Rattle.removal.proofs.entries_of.Reads as reads
@@ -12,7 +13,7 @@ use Rattle.removal.proofs.entries_of.Lts as lts
 
 abbrev Inv-loop : tie.InvT-loop
 Inv-loop b n x out₀ i₀ out i =
-    (i ≤ n) × (length out ≡ 64) × ((j : ℕ) → j < i → getD out j false ≡ eqb (getD b (208 + j) 0) x)
+    (i ≤ n) × (length out ≡ 64) × ((j : ℕ) → j < i → getD out j false ≡ eqb (getD b (variables-at + j) 0) x)
 
 abbrev μ-loop : tie.MeasureT-loop
 μ-loop b n x out₀ i₀ out i = n - i

@@ -4,6 +4,7 @@ use lib.ListN.{length, getD, length-set}
 use lib.Seq.{getD-set-other}
 use mathlib.Core.Path.{_≡_, refl, _∙_}
 use native.Mathlib.Omega.{arith}
+use Rattle.links.specs.Layout.{bytes}
 use Rattle.removal.proofs.fresh.Statement.{statement}
 use Rattle.removal.proofs.fresh.Tie as tie
 use Rattle.removal.proofs.fresh.Reads as reads
@@ -11,7 +12,7 @@ use Rattle.removal.proofs.fresh.Lts as lts
 
 abbrev Inv-loop : tie.InvT-loop
 Inv-loop b₀ i₀ b i =
-    (i ≤ 16) × (length b ≡ 338) × (length b₀ ≡ 338) × ((j : ℕ) → j < i → getD b j 0 ≡ j) × ((j : ℕ) → i ≤ j → getD b j 0 ≡ getD b₀ j 0)
+    (i ≤ 16) × (length b ≡ bytes) × (length b₀ ≡ bytes) × ((j : ℕ) → j < i → getD b j 0 ≡ j) × ((j : ℕ) → i ≤ j → getD b j 0 ≡ getD b₀ j 0)
 
 abbrev μ-loop : tie.MeasureT-loop
 μ-loop b₀ i₀ b i = 16 - i

@@ -3,6 +3,7 @@ use Rattle.removal.proofs.Starts.{own-more, header-from}
 use lib.ListN.{length, getD, length-set}
 use mathlib.Core.Path.{_≡_, refl, _∙_}
 use native.Mathlib.Omega.{arith}
+use Rattle.links.specs.Layout.{slots}
 use Rattle.removal.proofs.header.Statement.{statement}
 use Rattle.removal.proofs.header.Tie as tie
 use Rattle.removal.proofs.header.Reads as reads
@@ -10,7 +11,7 @@ use Rattle.removal.proofs.header.Lts as lts
 
 abbrev Inv-loop : tie.InvT-loop
 Inv-loop key₀ i₀ key i =
-    (i ≤ 15) × (length key ≡ 144) × ((j : ℕ) → j < i → getD key j 0 ≡ j)
+    (i ≤ 15) × (length key ≡ slots) × ((j : ℕ) → j < i → getD key j 0 ≡ j)
 
 abbrev μ-loop : tie.MeasureT-loop
 μ-loop key₀ i₀ key i = 15 - i

@@ -11,9 +11,10 @@ use Rattle.removal.proofs.keep_fact.Tie as tie
 use Rattle.removal.proofs.keep_fact.Reads as reads
 use Rattle.removal.proofs.keep_fact.Lts as lts
 use Rattle.links.proofs.push_marked.Reads as push-marked-reads
+use Rattle.links.specs.Layout.{left-sides}
 
-marks-on : (n : ℕ) (key : List ℕ) (marks : List Bool) → Marked key marks (16 + 2 * n + 2) → Marked key marks (16 + 2 * (n + 1))
-marks-on n key marks M = let e : 16 + 2 * n + 2 ≡ 16 + 2 * (n + 1) = omega arith in subst (λ (m : ℕ). Marked key marks m) e M
+marks-on : (n : ℕ) (key : List ℕ) (marks : List Bool) → Marked key marks (left-sides + 2 * n + 2) → Marked key marks (left-sides + 2 * (n + 1))
+marks-on n key marks M = let e : left-sides + 2 * n + 2 ≡ left-sides + 2 * (n + 1) = omega arith in subst (λ (m : ℕ). Marked key marks m) e M
 
 returns : tie.Need-returns
 returns c =

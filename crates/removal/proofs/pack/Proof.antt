@@ -4,6 +4,7 @@ use Rattle.removal.specs.Changes.{kept, renamedPermission, renamedVariab
 use Rattle.known.specs.States.{entries, fieldAt, permissionAt, permissionsIn}
 use Rattle.links.proofs.Listing.{listed-none}
 use Rattle.rules.specs.State.{Permission}
+use Rattle.links.specs.Layout.{variables-at, fact-count, bytes}
 use lib.ListN.{length, getD}
 use mathlib.Core.Bool.{false, cond}
 use mathlib.Core.Logic.{_⊎_}
@@ -19,7 +20,7 @@ use Rattle.removal.proofs.rename_variable.Reads as rename-variable-read
 
 abbrev Inv-loop : tie.InvT-loop
 Inv-loop b₀ out x to all n₀ i₀ b n i =
-    (n ≤ i) × (i ≤ all) × (length b ≡ 338) × (permissionsIn b n ≡ kept out (renamedPermission b₀ x to) i) × ((j : ℕ) → i ≤ j → j < 64 → permissionAt b j ≡ permissionAt b₀ j) × ((j : ℕ) → (j < 208) ⊎ (336 ≤ j) → getD b j 0 ≡ getD b₀ j 0)
+    (n ≤ i) × (i ≤ all) × (length b ≡ bytes) × (permissionsIn b n ≡ kept out (renamedPermission b₀ x to) i) × ((j : ℕ) → i ≤ j → j < 64 → permissionAt b j ≡ permissionAt b₀ j) × ((j : ℕ) → (j < variables-at) ⊎ (fact-count ≤ j) → getD b j 0 ≡ getD b₀ j 0)
 
 abbrev μ-loop : tie.MeasureT-loop
 μ-loop b₀ out x to all n₀ i₀ b n i = all - i

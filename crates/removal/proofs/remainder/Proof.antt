@@ -1,28 +1,47 @@
+use Rattle.removal.proofs.Forgetting.{wf-sized, dropped-unchanged}
 use Rattle.removal.proofs.Changes.{remainder-law}
+use borrow.Author.Needs.{needs}
 use Rattle.removal.proofs.remainder.Statement.{statement}
 use Rattle.removal.proofs.remainder.Tie as tie
 use Rattle.removal.proofs.remainder.Reads as reads
 use Rattle.removal.proofs.remainder.Lts as lts
-use Rattle.removal.proofs.drop_facts.Reads as drop-facts-reads
-use Rattle.removal.proofs.facts_naming.Reads as facts-naming-reads
+use Rattle.removal.proofs.drop_paths.Reads as drop-paths-reads
+use Rattle.removal.proofs.forget.Reads as forget-reads
 use Rattle.removal.proofs.pack.Reads as pack-reads
 
-facts-naming-requires : tie.Need-facts-naming-requires
-facts-naming-requires c κs =
-    c .before .before .pre
+element-copy-out-m : tie.Need-element-copy-out-m
+element-copy-out-m c = search needs
 
-drop-facts-requires : tie.Need-drop-facts-requires
-drop-facts-requires c κs =
-    c .before .before .before .before .before .before .pre
+cast-m : tie.Need-cast-m
+cast-m c = search needs
+
+mul-m : tie.Need-mul-m
+mul-m c = search needs
+
+add-m : tie.Need-add-m
+add-m c = search needs
+
+drop-paths-requires : tie.Need-drop-paths-requires
+drop-paths-requires c κs = search needs
+
+forget-requires : tie.Need-forget-requires
+forget-requires c κs = (wf-sized _ _ _ (c .before .before .before .before .before .before .before .before .pre .linked .header) (c .before .before .before .before .before .before .before .before .pre), dropped-unchanged _ _ _ _ _ (c .before .before .before .before .before .before .before .before .pre) (c .before .before .before .drop-paths .ensures))
 
 pack-requires : tie.Need-pack-requires
-pack-requires c κs =
-    (c .before .drop-facts .ensures .wf .fit, c .before .drop-facts .ensures .wf .linked .size)
+pack-requires c κs = (c .before .forget .ensures .wf .fit, c .before .forget .ensures .wf .linked .size)
 
 returns : tie.Need-returns
-returns c =
-    remainder-law _ _ _ _ _ _ _ (c .before .before .before .before .before .before .before .before .before .pre) (c .before .before .before .before .before .before .facts-naming .ensures) (c .before .before .drop-facts .ensures) (c .pack .ensures)
+returns c = remainder-law _ _ _ _ _ _ _ _ (c .before .before .before .before .before .before .before .before .before .before .before .pre) (c .before .before .before .before .before .before .drop-paths .ensures) (c .before .before .forget .ensures) (c .pack .ensures)
 
 pub remainder-spec : {M : Type 1} → statement M
 remainder-spec =
-    tie.close (tie.spec facts-naming-requires drop-facts-requires pack-requires returns)
+    tie.close
+    (tie.spec
+    element-copy-out-m
+    cast-m
+    mul-m
+    add-m
+    drop-paths-requires
+    forget-requires
+    pack-requires
+    returns)

@@ -1,26 +1,48 @@
-use Rattle.known.proofs.Entries.{no-flags}
-use lib.ListN.{replicate}
-use mathlib.Core.Bool.{false}
-use Rattle.removal.proofs.Changes.{replace-law}
 use native.Mathlib.Omega.{arith}
+use Rattle.removal.proofs.Forgetting.{wf-sized, renamed-unchanged}
+use Rattle.removal.proofs.Changes.{replace-law}
+use borrow.Author.Needs.{needs}
 use Rattle.removal.proofs.replace.Statement.{statement}
 use Rattle.removal.proofs.replace.Tie as tie
 use Rattle.removal.proofs.replace.Reads as reads
 use Rattle.removal.proofs.replace.Lts as lts
+use Rattle.removal.proofs.forget.Reads as forget-reads
 use Rattle.removal.proofs.pack.Reads as pack-reads
-use Rattle.removal.proofs.rename_facts.Reads as rename-facts-reads
+use Rattle.removal.proofs.rename_keys.Reads as rename-keys-reads
 
-rename-facts-requires : tie.Need-rename-facts-requires
-rename-facts-requires c κs =
-    c .before .before .pre
+element-copy-out-m : tie.Need-element-copy-out-m
+element-copy-out-m c = search needs
+
+cast-m : tie.Need-cast-m
+cast-m c = search needs
+
+mul-m : tie.Need-mul-m
+mul-m c = search needs
+
+add-m : tie.Need-add-m
+add-m c = search needs
+
+rename-keys-requires : tie.Need-rename-keys-requires
+rename-keys-requires c κs = search needs
+
+forget-requires : tie.Need-forget-requires
+forget-requires c κs = (wf-sized _ _ _ (c .before .before .before .rename-keys .ensures .header) (c .before .before .before .before .before .before .pre), renamed-unchanged _ _ _ _ _ _ _ (c .before .before .before .before .before .before .pre) (c .before .before .before .rename-keys .ensures))
 
 pack-requires : tie.Need-pack-requires
-pack-requires c κs =
-    let R = c .before .before .rename-facts .ensures (replicate 64 false) (no-flags 64) in (R .wf .fit, R .wf .linked .size)
+pack-requires c κs = (c .before .before .forget .ensures .wf .fit, c .before .before .forget .ensures .wf .linked .size)
 
 returns : tie.Need-returns
-returns c =
-    replace-law _ _ _ _ _ _ (omega arith) (c .before .before .before .before .before .before .pre) _ (omega arith) (c .before .before .before .rename-facts .ensures (replicate 64 false) (no-flags 64)) (c .pack .ensures)
+returns c = replace-law _ _ _ (omega arith) (c .before .before .before .before .before .before .before .before .before .before .pre) _ _ _ _ (omega arith) _ _ (c .before .before .before .before .before .before .before .rename-keys .ensures) (c .before .before .before .forget .ensures) (c .pack .ensures)
 
 pub replace-spec : {M : Type 1} → statement M
-replace-spec = tie.close (tie.spec rename-facts-requires pack-requires returns)
+replace-spec =
+    tie.close
+    (tie.spec
+    element-copy-out-m
+    cast-m
+    mul-m
+    add-m
+    rename-keys-requires
+    forget-requires
+    pack-requires
+    returns)

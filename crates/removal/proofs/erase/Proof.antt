@@ -1,0 +1,61 @@
+use native.Mathlib.Omega.{arith}
+use Rattle.removal.proofs.Forgetting.{wf-sized, dropped-unchanged}
+use Rattle.removal.proofs.Changes.{erase-law}
+use borrow.Author.Needs.{needs}
+use Rattle.removal.proofs.erase.Statement.{statement}
+use Rattle.removal.proofs.erase.Tie as tie
+use Rattle.removal.proofs.erase.Reads as reads
+use Rattle.removal.proofs.erase.Lts as lts
+use Rattle.removal.proofs.drop_variable.Reads as drop-variable-reads
+use Rattle.removal.proofs.entries_of.Reads as entries-of-reads
+use Rattle.removal.proofs.forget.Reads as forget-reads
+use Rattle.removal.proofs.pack.Reads as pack-reads
+
+element-copy-out-m : tie.Need-element-copy-out-m
+element-copy-out-m c = search needs
+
+cast-m : tie.Need-cast-m
+cast-m c = search needs
+
+mul-m : tie.Need-mul-m
+mul-m c = search needs
+
+add-m : tie.Need-add-m
+add-m c = search needs
+
+drop-variable-requires : tie.Need-drop-variable-requires
+drop-variable-requires c κs = search needs
+
+element-copy-out-p : tie.Need-element-copy-out-p
+element-copy-out-p c = search needs
+
+cast-p : tie.Need-cast-p
+cast-p c = search needs
+
+entries-of-requires : tie.Need-entries-of-requires
+entries-of-requires c κs = search needs
+
+forget-requires : tie.Need-forget-requires
+forget-requires c κs = (wf-sized _ _ _ (c .before .before .before .before .before .before .before .before .before .before .pre .linked .header) (c .before .before .before .before .before .before .before .before .before .before .pre), dropped-unchanged _ _ _ _ _ (c .before .before .before .before .before .before .before .before .before .before .pre) (c .before .before .before .before .before .before .drop-variable .ensures))
+
+pack-requires : tie.Need-pack-requires
+pack-requires c κs = (c .before .before .forget .ensures .wf .fit, c .before .before .forget .ensures .wf .linked .size)
+
+returns : tie.Need-returns
+returns c = erase-law _ _ _ (omega arith) (c .before .before .before .before .before .before .before .before .before .before .before .before .before .before .pre) _ _ _ _ _ _ (c .before .before .before .before .before .before .before .before .before .before .drop-variable .ensures) (c .before .before .before .forget .ensures) (c .before .before .before .before .before .before .before .entries-of .ensures) (c .pack .ensures)
+
+pub erase-spec : {M : Type 1} → statement M
+erase-spec =
+    tie.close
+    (tie.spec
+    element-copy-out-m
+    cast-m
+    mul-m
+    add-m
+    drop-variable-requires
+    element-copy-out-p
+    cast-p
+    entries-of-requires
+    forget-requires
+    pack-requires
+    returns)
