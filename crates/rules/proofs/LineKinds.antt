@@ -2,7 +2,7 @@
 use mathlib.Core.Path.{_≡_, refl, sym, ap, subst, _∙_}
 use mathlib.Core.Bool.{Bool, true, false, _&&_, Bool·beq}
 use mathlib.Core.List.{List, [], _∷_}
-use Prim.Native.Nat.{ℕ, zero, suc, _-_, _≤_}
+use Prim.Native.Nat.{ℕ, zero, suc, _-_}
 use native.Mathlib.Omega.{arith}
 use lib.Dec.{T, eqb, leb, eqb→eq, leb→le}
 use lib.ListN.{getD}
@@ -10,7 +10,7 @@ use Rattle.rules.specs.Base.{all, between}
 use Rattle.rules.specs.Grammar as Grammar
 use Rattle.rules.specs.Grammar.{Kind, Class, Field, Method, Requires, Ensures, Main, Var, statement}
 use Rattle.rules.specs.Grammar.{Set, Let, New, Call, Return, Assert, Release, If, Else, Join, End}
-use Rattle.rules.specs.Grammar.{kinds, first-statement, last-kind, kindNumber, isStatement, isKind}
+use Rattle.rules.specs.Grammar.{kinds, first-statement, last-kind, IsKindNumber, kindNumber, isStatement, isKind}
 use Rattle.rules.proofs.Lists.{and-both}
 
 -- THE TABLE
@@ -50,7 +50,7 @@ every-kind t h k = subst (λ a. T (t a)) (kind-at k) (all-at t Class kinds (kind
 
 -- NUMBERS
 
-pub kind-bounds : (k : Kind) → (1 ≤ kindNumber k) × (kindNumber k ≤ last-kind)
+pub kind-bounds : (k : Kind) → IsKindNumber (kindNumber k)
 unfolding Grammar.opened all between
 kind-bounds k =
     let (a, b) = and-both (leb 1 (kindNumber k)) (leb (kindNumber k) last-kind) (every-kind (λ k. between 1 last-kind (kindNumber k)) tt k) in
@@ -84,3 +84,6 @@ kind-is a k = go (Bool·beq (isStatement a) (isStatement k)) (eqb (kindNumber a)
     go false true i j =
         let z = same-kind a k (eqb→eq (kindNumber a) (kindNumber k) (subst T (sym j) tt)) in
         sym i ∙ same-beq (isStatement a) (isStatement k) (ap isStatement z)
+
+pub is-same : (a k : Kind) → T (isKind a k) → a ≡ k
+is-same a k h = same-kind a k (eqb→eq (kindNumber a) (kindNumber k) (subst T (kind-is a k) h))

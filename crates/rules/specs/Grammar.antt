@@ -2,7 +2,7 @@
 use mathlib.Core.Bool.{Bool, true, false, _&&_, Bool·beq}
 use mathlib.Core.List.{List, [], _∷_, map}
 use mathlib.Core.Option.{Option}
-use Prim.Native.Nat.{ℕ}
+use Prim.Native.Nat.{ℕ, _≤_}
 use Prim.Native.String.{String}
 use lib.Dec.{eqb}
 use lib.ListN.{length, drop, getD}
@@ -59,23 +59,29 @@ pub record Form : Type 0 where
 unfoldable pub stands : Stage → Stage → Stage → String → List Operand → Tail → Form
 stands a z n w os t = record { word = w; operands = os; tail = t; first = a; last = z; next = n }
 
-unfoldable pub inBlock : String → List Operand → Tail → Form
-inBlock = stands inLocals inBody inBody
+-- a statement by its word and the fields after it
+pub record Shape : Type 0 where
+  pub word : String
+  pub operands : List Operand
+  pub tail : Tail
+
+unfoldable pub shaped : String → List Operand → Tail → Shape
+shaped w os t = record { word = w; operands = os; tail = t }
 
 -- "Statements: `set x f y`, `let x e`, `new x C`, `call x y m z`, `return x` .., `assert` formula, `release` formula, and `if eq e e`
 -- or `if ne e e` .. `else` .. `join` formula." After `end`, see `Places`.
-unfoldable pub statementForm : Statement → Form
-statementForm Set = inBlock "set" (variable read ∷ member field ∷ variable read ∷ []) nothing
-statementForm Let = inBlock "let" (variable assigned ∷ expression ∷ []) nothing
-statementForm New = inBlock "new" (variable assigned ∷ className ∷ []) nothing
-statementForm Call = inBlock "call" (variable assigned ∷ variable read ∷ member method ∷ variable read ∷ []) nothing
-statementForm Return = inBlock "return" (variable read ∷ []) nothing
-statementForm Assert = inBlock "assert" [] formula
-statementForm Release = inBlock "release" [] formula
-statementForm If = inBlock "if" [] condition
-statementForm Else = inBlock "else" [] nothing
-statementForm Join = inBlock "join" [] formula
-statementForm End = inBlock "end" [] nothing
+unfoldable pub shape : Statement → Shape
+shape Set = shaped "set" (variable read ∷ member field ∷ variable read ∷ []) nothing
+shape Let = shaped "let" (variable assigned ∷ expression ∷ []) nothing
+shape New = shaped "new" (variable assigned ∷ className ∷ []) nothing
+shape Call = shaped "call" (variable assigned ∷ variable read ∷ member method ∷ variable read ∷ []) nothing
+shape Return = shaped "return" (variable read ∷ []) nothing
+shape Assert = shaped "assert" [] formula
+shape Release = shaped "release" [] formula
+shape If = shaped "if" [] condition
+shape Else = shaped "else" [] nothing
+shape Join = shaped "join" [] formula
+shape End = shaped "end" [] nothing
 
 -- "`class C`, then `field T f` lines, then methods."
 -- "`method T m T w`, `requires` formula, `ensures` formula, `var T x` lines, statements, `end`."
@@ -88,7 +94,7 @@ form Requires = stands afterHeader afterHeader afterRequires "requires" [] formu
 form Ensures = stands afterRequires afterRequires inLocals "ensures" [] formula
 form Main = stands beginning afterMethod inLocals "main" [] nothing
 form Var = stands inLocals inLocals inLocals "var" (typeName ∷ new variables ∷ []) nothing
-form (statement s) = statementForm s
+form (statement s) = stands inLocals inBody inBody (shape s .word) (shape s .operands) (shape s .tail)
 
 abbrev pub statements : List Statement
 statements = Set ∷ Let ∷ New ∷ Call ∷ Return ∷ Assert ∷ Release ∷ If ∷ Else ∷ Join ∷ End ∷ []
@@ -96,15 +102,21 @@ statements = Set ∷ Let ∷ New ∷ Call ∷ Return ∷ Assert ∷ Release ∷ 
 abbrev pub kinds : List Kind
 kinds = Class ∷ Field ∷ Method ∷ Requires ∷ Ensures ∷ Main ∷ Var ∷ map statement statements
 
--- Kinds are numbered in this order from 1 on: `statements` from the first of these numbers to the last.
+-- Kinds are numbered in this order, from 1 on.
 abbrev pub first-statement : ℕ
 first-statement = 8
 
 abbrev pub last-kind : ℕ
 last-kind = 18
 
+abbrev pub IsKindNumber : ℕ → Type 0
+IsKindNumber n = (1 ≤ n) × (n ≤ last-kind)
+
+abbrev pub IsStatementNumber : ℕ → Type 0
+IsStatementNumber n = (first-statement ≤ n) × (n ≤ last-kind)
+
 unfoldable pub statementNumber : Statement → ℕ
-statementNumber Set = first-statement
+statementNumber Set = 8
 statementNumber Let = 9
 statementNumber New = 10
 statementNumber Call = 11
@@ -114,7 +126,7 @@ statementNumber Release = 14
 statementNumber If = 15
 statementNumber Else = 16
 statementNumber Join = 17
-statementNumber End = last-kind
+statementNumber End = 18
 
 unfoldable pub kindNumber : Kind → ℕ
 kindNumber Class = 1
@@ -180,5 +192,5 @@ readLine l = do
 
 -- Everything above computes where this unfolds.
 unfoldable pub opened : Unit {0}
-unfolding stands inBlock statementForm form statementNumber kindNumber isStatement isKind kindOf isOperand isTail isFormed readLine
+unfolding stands shaped shape form statementNumber kindNumber isStatement isKind kindOf isOperand isTail isFormed readLine
 opened = tt
