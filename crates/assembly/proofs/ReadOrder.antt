@@ -11,12 +11,13 @@ use Rattle.rules.specs.Answers.{accepted}
 use Rattle.rules.specs.Syntax as Syntax
 use Rattle.rules.specs.Syntax.{Formula, Stmt, Row, Program, else, join, end}
 use Rattle.rules.specs.Grammar as Grammar
-use Rattle.rules.specs.Grammar.{Kind, Stage, Line, Class, Field, Method, Requires, Ensures, Main, Var, Set, Let, New, Call, Return, Assert, Release, If, Else, Join, End}
-use Rattle.rules.specs.Grammar.{beginning, inClass, afterHeader, inLocals, inBody, afterMain, form, stands, statement, isKind, kindNumber}
+use Rattle.rules.specs.Grammar.{Kind, Statement, Stage, Line, Class, Field, Method, Requires, Ensures, Main, Var, statement}
+use Rattle.rules.specs.Grammar.{Set, Let, New, Call, Return, Assert, Release, If, Else, Join, End}
+use Rattle.rules.specs.Grammar.{beginning, inClass, afterHeader, inLocals, inBody, afterMain, form, stands, isStatement, isKind, kindNumber, statementNumber}
 use Rattle.rules.specs.Places as Places
 use Rattle.rules.specs.Places.{Place, Branch, beforeElse, firstPlace, stageNumber, mayElse, mayJoin, mayEnd, outer, fits, inPlace, stageAfter, branchesAfter, placeAfter, withinLimits, ended}
 use Rattle.rules.specs.Scope.{Scope, Variable, Declarations, declarations, firstScope}
-use Rattle.rules.specs.Items.{Item, aClass, aField, aMethod, aRequires, anEnsures, aMain, aLocal, aStatement, itemOf, resolveFormula, resolveSet, resolveCall, resolveIf}
+use Rattle.rules.specs.Items.{Item, aClass, aField, aMethod, aRequires, anEnsures, aMain, aLocal, aStatement, itemOf, resolveStatement, resolveFormula, resolveSet, resolveCall, resolveIf}
 use Rattle.rules.specs.Reading.{readText, noProgram, onLast, withRequires, withEnsures, withItem, withItems, program}
 use Rattle.rules.proofs.Lists.{and-both, and-intro}
 use Rattle.rules.proofs.LinesTaken.{TakenLines, none, line, seen, read-taken}
@@ -158,29 +159,39 @@ module _ (Γ : Declarations) (vs : List Variable) (l : Line) (p : Place) (closed
   unfolding inPlace
   fit k i = and-both (between (stageNumber (form k .first)) (stageNumber (form k .last)) (stageNumber (p .stage))) (fits k p) i .1
 
-  line-nests : (k : Kind) → Nests k
-  unfolding Nests rows rowsOf itemOf placeAfter stageAfter branchesAfter ended stageNumber form stands statement isKind kindNumber rowsNest rowNests resolveSet resolveCall resolveIf fits
-  line-nests Class i w = (some-nests (ended p) (waits (p .branches)) rows, λ e. closed (not-body Class tt i))
-  line-nests Field i w = (some-nests (ended p) (waits (p .branches)) rows, λ e. closed (not-body Field tt i))
-  line-nests Method i w = (some-nests (ended p) (waits (p .branches)) rows, λ e. closed (not-body Method tt i))
-  line-nests Requires i w = (some-nests (ended p) (waits (p .branches)) rows, λ e. closed (not-body Requires tt i))
-  line-nests Ensures i w = (some-nests (ended p) (waits (p .branches)) rows, λ e. closed (not-body Ensures tt i))
-  line-nests Main i w = (some-nests (ended p) (waits (p .branches)) rows, λ e. closed (not-body Main tt i))
-  line-nests Var i w = (some-nests (ended p) (waits (p .branches)) rows, λ e. closed (not-body Var tt i))
-  line-nests Set i w = (λ t. t, λ e. absurd e)
-  line-nests Let i w = (λ t. t, λ e. absurd e)
-  line-nests New i w = (λ t. t, λ e. absurd e)
-  line-nests Call i w = (λ t. t, λ e. absurd e)
-  line-nests Return i w = (λ t. t, λ e. absurd e)
-  line-nests Assert i w = (λ t. t, λ e. absurd e)
-  line-nests Release i w = (λ t. t, λ e. absurd e)
-  line-nests If i w = (λ t. if-row (p .branches) rows (few-branches (placeAfter If p) w) t, λ e. absurd e)
-  line-nests Else i w = (λ t. else-row (p .branches) (λ b ws. rowsNest b ws rows) (fit Else i) t, λ e. absurd e)
-  line-nests Join i w = (λ t. join-row (p .branches) (resolveFormula Γ vs l) (λ b ws. rowsNest b ws rows) (fit Join i) t, λ e. absurd e)
-  line-nests End i w = (
-    λ t. end-row (p .branches) (λ b ws. rowsNest b ws rows) (fit End i) (begin-nests (ended (placeAfter End p)) (waits (p .branches)) rows t),
-    λ e. ends-closed (p .branches) (fit End i),
+  statement-nests : (a : Statement) → Nests (statement a)
+  unfolding Nests rows rowsOf itemOf resolveStatement placeAfter stageAfter branchesAfter ended stageNumber form stands isStatement isKind kindNumber statementNumber rowsNest rowNests resolveSet resolveCall resolveIf fits
+  statement-nests Set i w = (λ t. t, absurd)
+  statement-nests Let i w = (λ t. t, absurd)
+  statement-nests New i w = (λ t. t, absurd)
+  statement-nests Call i w = (λ t. t, absurd)
+  statement-nests Return i w = (λ t. t, absurd)
+  statement-nests Assert i w = (λ t. t, absurd)
+  statement-nests Release i w = (λ t. t, absurd)
+  statement-nests If i w = (λ t. if-row (p .branches) rows (few-branches (placeAfter (statement If) p) w) t, absurd)
+  statement-nests Else i w = (λ t. else-row (p .branches) (λ b ws. rowsNest b ws rows) (fit (statement Else) i) t, absurd)
+  statement-nests Join i w = (λ t. join-row (p .branches) (resolveFormula Γ vs l) (λ b ws. rowsNest b ws rows) (fit (statement Join) i) t, absurd)
+  statement-nests End i w = (
+    λ t.
+        end-row (p .branches) (λ b ws. rowsNest b ws rows) (fit (statement End) i)
+        (begin-nests (ended (placeAfter (statement End) p)) (waits (p .branches)) rows t),
+    λ e. ends-closed (p .branches) (fit (statement End) i),
   )
+
+  -- a line that adds no row, and stands before bodies only
+  no-row : (k : Kind) → T (leb (stageNumber (form k .last)) 5) → T (inPlace k p) → (T (rowsNest false (waits (p .branches)) rows) → T (rowsNest (ended p) (waits (p .branches)) rows)) × (T true → p .branches ≡ [])
+  no-row k u i = (some-nests (ended p) (waits (p .branches)) rows, λ e. closed (not-body k u i))
+
+  line-nests : (k : Kind) → Nests k
+  unfolding Nests rows rowsOf itemOf placeAfter stageAfter branchesAfter ended stageNumber form stands isStatement isKind kindNumber
+  line-nests Class i w = no-row Class tt i
+  line-nests Field i w = no-row Field tt i
+  line-nests Method i w = no-row Method tt i
+  line-nests Requires i w = no-row Requires tt i
+  line-nests Ensures i w = no-row Ensures tt i
+  line-nests Main i w = no-row Main tt i
+  line-nests Var i w = no-row Var tt i
+  line-nests (statement a) i w = statement-nests a i w
 
 lines-nest :
     (text : List Line) (p : Place) (s : Scope) (ls : List Line) (items : List Item) (n : ℕ) → TakenLines text p s ls items →
@@ -241,17 +252,19 @@ module _ (rs : List Row) where
         rw (is, drop-length (P .rows) (rowsOf (suc n) rest))
         (subst (λ (bs : List Branch). T (rowsNest false (waits bs) (rowsOf (suc n) rest))) (closed (not-body Γ vs l p closed n rest k u i)) t)
 
-  end-main : (m : Bool) → T (eqb (stageNumber (cond m afterMain Grammar.afterMethod)) 7) → T m
+  -- of the statements, main's `end` comes last
+  last-end : (e m : Bool) → T (eqb (stageNumber (cond e (cond m afterMain Grammar.afterMethod) inBody)) 7) → T m
   unfolding stageNumber
-  end-main true t = tt
-  end-main false t = t
+  last-end true true t = tt
+  last-end true false t = t
+  last-end false m t = absurd t
 
   line-blocks :
       (Γ : Declarations) (vs : List Variable) (l : Line) (p : Place) (closed : Closed p) (n : ℕ) (rest : List Item) (P : Program)
       (k : Kind) → rs ≡ P .rows ++ rowsOf n (itemOf Γ vs k l ∷ rest) → T (inPlace k p) →
       T (rowsNest (ended (placeAfter k p)) (waits (placeAfter k p .branches)) (rowsOf (suc n) rest)) → Blocks p P →
       Blocks (placeAfter k p) (withItem P (suc n) (itemOf Γ vs k l))
-  unfolding withItem withRequires withEnsures rowsOf itemOf placeAfter stageAfter branchesAfter ended stageNumber form stands statement isKind kindNumber
+  unfolding withItem withRequires withEnsures rowsOf itemOf placeAfter stageAfter branchesAfter ended stageNumber form stands isStatement isKind kindNumber
   line-blocks Γ vs l p c n rest P Class is i t B = record { methods = B .methods; main = B .main; last = absurd }
   line-blocks Γ vs l p c n rest P Field is i t B = record { methods = B .methods; main = B .main; last = absurd }
   line-blocks Γ vs l p c n rest P Method is i t B =
@@ -267,17 +280,8 @@ module _ (rs : List Row) where
   line-blocks Γ vs l p c n rest P Main is i t B =
       record { methods = B .methods; main = λ u. begins Γ vs l p c n rest P is Main tt i t; last = absurd }
   line-blocks Γ vs l p c n rest P Var is i t B = record { methods = B .methods; main = B .main; last = absurd }
-  line-blocks Γ vs l p c n rest P Set is i t B = record { methods = B .methods; main = B .main; last = absurd }
-  line-blocks Γ vs l p c n rest P Let is i t B = record { methods = B .methods; main = B .main; last = absurd }
-  line-blocks Γ vs l p c n rest P New is i t B = record { methods = B .methods; main = B .main; last = absurd }
-  line-blocks Γ vs l p c n rest P Call is i t B = record { methods = B .methods; main = B .main; last = absurd }
-  line-blocks Γ vs l p c n rest P Return is i t B = record { methods = B .methods; main = B .main; last = absurd }
-  line-blocks Γ vs l p c n rest P Assert is i t B = record { methods = B .methods; main = B .main; last = absurd }
-  line-blocks Γ vs l p c n rest P Release is i t B = record { methods = B .methods; main = B .main; last = absurd }
-  line-blocks Γ vs l p c n rest P If is i t B = record { methods = B .methods; main = B .main; last = absurd }
-  line-blocks Γ vs l p c n rest P Else is i t B = record { methods = B .methods; main = B .main; last = absurd }
-  line-blocks Γ vs l p c n rest P Join is i t B = record { methods = B .methods; main = B .main; last = absurd }
-  line-blocks Γ vs l p c n rest P End is i t B = record { methods = B .methods; main = B .main; last = end-main (p .main) }
+  line-blocks Γ vs l p c n rest P (statement a) is i t B =
+      record { methods = B .methods; main = B .main; last = last-end (isKind (statement End) (statement a)) (p .main) }
 
   lines-blocks :
       (text : List Line) (p : Place) (s : Scope) (ls : List Line) (items : List Item) (n : ℕ) → TakenLines text p s ls items →

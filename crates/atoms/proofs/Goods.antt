@@ -9,12 +9,11 @@ use borrow.Author.Tests.{ne-eqb}
 use Rattle.rules.specs.Base.{Name, all, is}
 use Rattle.rules.specs.Syntax.{acc, cmp}
 use Rattle.rules.specs.Text.{exprOf, relOf, atomOf, formulaOf}
-use Rattle.rules.specs.Grammar.{Kind, Line, Operand, form, statement, stands, isKind, kindNumber, variable, member, expression, read, field}
+use Rattle.rules.specs.Grammar.{Kind, Line, Operand, form, statement, stands, shape, shaped, isKind, kindNumber, variable, member, expression, read, field}
 use Rattle.rules.specs.Grammar.{Set, Let, New, Call, Return}
 use Rattle.rules.specs.Scope.{Declarations, Variable, Scope, Slot, slotsFrom, atomOperands, atomSlots, atomsOf, slots}
 use Rattle.rules.specs.Names.{agree, exprType, known, ofClass, mayBeAssigned, knownExpr, ofClassIn, knownField, inScope, isInt, sidesAgree, atomAgrees, callApart, allKnown, allTyped, allAssignable}
-use Rattle.lines.specs.Rows.{kindNumbered}
-use Rattle.lines.proofs.Rows.{kind-of-number}
+use Rattle.rules.proofs.LineKinds.{same-kind, kind-is}
 use Rattle.declared.specs.Types.{good}
 use Rattle.atoms.specs.Good.{fitsAtom}
 
@@ -102,19 +101,18 @@ module _ (Γ : Declarations) (vs : List Variable) (s : Scope) where
 
   -- a line without operands is of no kind that has some, so it has no sides, and calls nothing
   other-kind : (a k : Kind) → (form a .operands ≡ [] → ⊥) → form k .operands ≡ [] → isKind a k ≡ false
-  unfolding isKind
-  other-kind a k n e = ne-eqb (kindNumber a) (kindNumber k) (λ i. n (ap (λ (k : Kind). form k .operands) (sym (kind-of-number a) ∙ (ap kindNumbered i ∙ kind-of-number k)) ∙ e))
+  other-kind a k n e = kind-is a k ∙ ne-eqb (kindNumber a) (kindNumber k) (λ i. n (ap (λ (k : Kind). form k .operands) (same-kind a k i) ∙ e))
 
   some-operand : {o : Operand} {os : List Operand} → (o ∷ os) ≡ [] → ⊥
   some-operand e = let z : _≡_ {A = ℕ} 0 1 = cc in omega arith
 
   no-sides : (k : Kind) (ws : List Name) → form k .operands ≡ [] → sidesAgree Γ vs (record { kind = k; fields = ws }) ≡ true
-  unfolding sidesAgree form statement stands
-  no-sides k ws e = rw (other-kind Set k some-operand e, other-kind Let k some-operand e, other-kind New k some-operand e, other-kind Call k some-operand e, other-kind Return k some-operand e)
+  unfolding sidesAgree form stands shape shaped
+  no-sides k ws e = rw (other-kind (statement Set) k some-operand e, other-kind (statement Let) k some-operand e, other-kind (statement New) k some-operand e, other-kind (statement Call) k some-operand e, other-kind (statement Return) k some-operand e)
 
   no-call : (k : Kind) (ws : List Name) → form k .operands ≡ [] → callApart vs (record { kind = k; fields = ws }) ≡ true
-  unfolding callApart form statement stands
-  no-call k ws e = rw (other-kind Call k some-operand e)
+  unfolding callApart form stands shape shaped
+  no-call k ws e = rw (other-kind (statement Call) k some-operand e)
 
   -- `requires`, `ensures`, `assert`, `release`, `join`, `if`
   pub formula-good :

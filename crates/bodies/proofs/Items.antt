@@ -14,14 +14,15 @@ use Rattle.rules.specs.Limits.{work-bytes, most-methods, most-statements, most-
 use Rattle.rules.specs.Syntax.{Formula}
 use Rattle.rules.specs.Text.{isFormula, formulaOf}
 use Rattle.rules.specs.Grammar as Grammar
-use Rattle.rules.specs.Grammar.{Kind, Line, form, isFormed, isTail, isKind, isStatement, kindNumber}
+use Rattle.rules.specs.Grammar.{Kind, Statement, Line, statement, form, first-statement, last-kind, IsKindNumber, IsStatementNumber, isFormed, isTail}
+use Rattle.rules.specs.Grammar.{isKind, isStatement, kindNumber, statementNumber}
 use Rattle.rules.specs.Scope.{Declarations, Variable, Scope, atomsOf}
 use Rattle.rules.specs.Items as Items
 use Rattle.rules.specs.Items.{Item, itemOf, aStatement, aRequires, anEnsures}
 use Rattle.leaves.proofs.Search.{true-false}
 use Rattle.lines.specs.Cuts.{more}
 use Rattle.lines.specs.Rows.{kindNumbered}
-use Rattle.lines.proofs.Rows.{number-of-kind, kind-of-number}
+use Rattle.lines.proofs.Rows.{number-of-kind, kind-of-number, kind-numbered, statement-numbered}
 use Rattle.tables.specs.Layout.{names-at, most-atom-rows}
 use Rattle.tables.specs.Decode.{atomsFrom}
 use Rattle.tables.specs.Stores.{Kept}
@@ -56,27 +57,28 @@ eqb-flip m n = go (eqb n m) refl
     go true e = eq-eqb m n (sym (eqb-true n m e))
     go false e = ne-eqb m n (λ z. true-false (sym (eq-eqb n m (sym z)) ∙ e))
 
-pub seen-result : (k : ℕ) → 1 ≤ k → k ≤ 18 → isKind Grammar.Requires (kindNumbered k) ≡ eqb k 4
-unfolding isKind kindNumber
-seen-result k a b = ap (eqb 4) (number-of-kind k a b) ∙ eqb-flip 4 k
+pub statement-kind : {k : ℕ} → IsStatementNumber k → IsKindNumber k
+statement-kind h = (omega arith, h .1)
 
-pub is-statement : (k : ℕ) → 8 ≤ k → k ≤ 18 → isStatement (kindNumbered k) ≡ true
-unfolding isStatement kindNumber
-is-statement k a b = le-leb 8 (kindNumber (kindNumbered k)) (omega (arith, number-of-kind k (omega arith) b))
+pub seen-result : (k : ℕ) → IsKindNumber k → isKind Grammar.Requires (kindNumbered k) ≡ eqb k 4
+unfolding kindNumber
+seen-result k h = kind-numbered k h Grammar.Requires ∙ eqb-flip 4 k
 
-pub no-statement : (k : ℕ) → 1 ≤ k → k ≤ 7 → isStatement (kindNumbered k) ≡ false
-unfolding isStatement kindNumber
-no-statement k a b = lt-leb 8 (kindNumber (kindNumbered k)) (omega (arith, number-of-kind k a (omega arith)))
+pub is-statement : (k : ℕ) → IsStatementNumber k → isStatement (kindNumbered k) ≡ true
+is-statement k h = statement-numbered k (statement-kind h) ∙ le-leb first-statement k (h .0)
+
+pub no-statement : (k : ℕ) → 1 ≤ k → k < first-statement → isStatement (kindNumbered k) ≡ false
+no-statement k a b = statement-numbered k (a, omega arith) ∙ lt-leb first-statement k b
 
 -- `end`, and other statements
-module _ (k : ℕ) (a : 8 ≤ k) (b : k ≤ 18) where
-  ends : isKind Grammar.End (kindNumbered k) ≡ eqb 18 k
-  unfolding isKind kindNumber
-  ends = ap (eqb 18) (number-of-kind k (omega arith) b)
+module _ (k : ℕ) (h : IsStatementNumber k) where
+  ends : isKind (statement Grammar.End) (kindNumbered k) ≡ eqb 18 k
+  unfolding kindNumber statementNumber
+  ends = kind-numbered k (statement-kind h) (statement Grammar.End)
 
   names-end : (c : Names) → namesAfter (kindNumbered k) c ≡ cond (eqb 18 k) (withBlock false c) c
   names-end c =
-      names-is (kindNumbered k) (statement-quiet (kindNumbered k) (omega (arith, number-of-kind k (omega arith) b))) c
+      names-is (kindNumbered k) (statement-quiet (kindNumbered k) (omega (arith, number-of-kind k (statement-kind h)))) c
       ∙ ap (λ e. cond e (withBlock false c) c) ends
 
   pub stays-open : (k ≡ 18 → ⊥) → (c : Names) → c ≡ namesAfter (kindNumbered k) c
@@ -85,12 +87,14 @@ module _ (k : ℕ) (a : 8 ≤ k) (b : k ≤ 18) where
   pub closes : k ≡ 18 → (c : Names) → withBlock false c ≡ namesAfter (kindNumbered k) c
   closes z c = sym (names-end c ∙ ap (λ e. cond e (withBlock false c) c) (eq-eqb 18 k (sym z)))
 
-not-framed : (k : ℕ) → 8 ≤ k → k ≤ 18 → (k ≡ 17 → ⊥) → isFramed (kindNumbered k) ≡ false
-unfolding isFramed isKind kindNumber
-not-framed k a b n =
-    let e = number-of-kind k (omega arith) b in
+not-framed : (k : ℕ) → IsStatementNumber k → (k ≡ 17 → ⊥) → isFramed (kindNumbered k) ≡ false
+unfolding isFramed kindNumber statementNumber
+not-framed k h n =
+    let is = kind-numbered k (statement-kind h) in
     rw (
-      e,
+      is Grammar.Requires,
+      is Grammar.Ensures,
+      is (statement Grammar.Join),
       ne-eqb 4 k (λ z. omega arith),
       ne-eqb 5 k (λ z. omega arith),
       ne-eqb 17 k (λ z. n (sym z)),
@@ -107,20 +111,20 @@ or-else k m b f = go (eqb k m) refl
 above : (k m : ℕ) → m ≤ k → (k ≡ m → ⊥) → suc m ≤ k
 above k m l n = omega (arith, l, n)
 
-last : (k : ℕ) → k ≤ 18 → 18 ≤ k → k ≡ 18
+last : (k : ℕ) → k ≤ last-kind → 18 ≤ k → k ≡ 18
 last k l m = omega (arith, l, m)
 
 pub plain-left :
-    (k : ℕ) → 8 ≤ k → k ≤ 18 → (k ≡ 9 → ⊥) → (k ≡ 13 → ⊥) → (k ≡ 14 → ⊥) → (k ≡ 15 → ⊥) → (k ≡ 17 → ⊥) → isPlain k ≡ true
+    (k : ℕ) → IsStatementNumber k → (k ≡ 9 → ⊥) → (k ≡ 13 → ⊥) → (k ≡ 14 → ⊥) → (k ≡ 15 → ⊥) → (k ≡ 17 → ⊥) → isPlain k ≡ true
 unfolding isPlain
-plain-left k a b n9 n13 n14 n15 n17 =
+plain-left k h n9 n13 n14 n15 n17 =
     or-else k 8 _
-    (λ x8. let b10 = above k 9 (above k 8 a x8) n9 in
+    (λ x8. let b10 = above k 9 (above k 8 (h .0) x8) n9 in
     or-else k 10 _
     (λ x10. or-else k 11 _
     (λ x11. or-else k 12 _
     (λ x12. let b16 = above k 15 (above k 14 (above k 13 (above k 12 (above k 11 (above k 10 b10 x10) x11) x12) n13) n14) n15 in
-    or-else k 16 _ (λ x16. let b18 = above k 17 (above k 16 b16 x16) n17 in eq-eqb k 18 (last k b b18))))))
+    or-else k 16 _ (λ x16. let b18 = above k 17 (above k 16 b16 x16) n17 in eq-eqb k 18 (last k (h .1) b18))))))
 
 -- KINDS WHOSE LINE IS A FORMULA
 
@@ -134,33 +138,33 @@ pub record Formulaic (K : Kind) (z : Formula ℕ → Item) : Type 0 where
   pub tail : form K .tail ≡ Grammar.formula
 
 pub requires-is : Formulaic Grammar.Requires aRequires
-unfolding Grammar.opened itemOf Items.resolveFormula atomsOf framedFormula hasAtoms
+unfolding Grammar.opened itemOf Items.resolveStatement Items.resolveFormula atomsOf framedFormula hasAtoms
 requires-is = record { item = λ Γ vs ws. refl; framed = λ φ e. refl; atoms = refl; operands = refl; tail = refl }
 
 pub ensures-is : Formulaic Grammar.Ensures anEnsures
-unfolding Grammar.opened itemOf Items.resolveFormula atomsOf framedFormula hasAtoms
+unfolding Grammar.opened itemOf Items.resolveStatement Items.resolveFormula atomsOf framedFormula hasAtoms
 ensures-is = record { item = λ Γ vs ws. refl; framed = λ φ e. refl; atoms = refl; operands = refl; tail = refl }
 
-assert-is : Formulaic Grammar.Assert (λ φ. aStatement (claimOf 13 φ))
-unfolding Grammar.opened itemOf Items.resolveFormula atomsOf hasAtoms isFramed claimOf
+assert-is : Formulaic (statement Grammar.Assert) (λ φ. aStatement (claimOf 13 φ))
+unfolding Grammar.opened itemOf Items.resolveStatement Items.resolveFormula atomsOf hasAtoms isFramed claimOf
 assert-is = record { item = λ Γ vs ws. refl; framed = λ φ e. true-false (sym e); atoms = refl; operands = refl; tail = refl }
 
-release-is : Formulaic Grammar.Release (λ φ. aStatement (claimOf 14 φ))
-unfolding Grammar.opened itemOf Items.resolveFormula atomsOf hasAtoms isFramed claimOf
+release-is : Formulaic (statement Grammar.Release) (λ φ. aStatement (claimOf 14 φ))
+unfolding Grammar.opened itemOf Items.resolveStatement Items.resolveFormula atomsOf hasAtoms isFramed claimOf
 release-is = record { item = λ Γ vs ws. refl; framed = λ φ e. true-false (sym e); atoms = refl; operands = refl; tail = refl }
 
-join-is : Formulaic Grammar.Join (λ φ. aStatement (claimOf 17 φ))
-unfolding Grammar.opened itemOf Items.resolveFormula atomsOf framedFormula joinFormula hasAtoms claimOf
+join-is : Formulaic (statement Grammar.Join) (λ φ. aStatement (claimOf 17 φ))
+unfolding Grammar.opened itemOf Items.resolveStatement Items.resolveFormula atomsOf framedFormula joinFormula hasAtoms claimOf
 join-is = record { item = λ Γ vs ws. refl; framed = λ φ e. refl; atoms = refl; operands = refl; tail = refl }
 
 pub claim-is : (k : ℕ) → isClaim k ≡ true → Formulaic (kindNumbered k) (λ φ. aStatement (claimOf k φ))
-unfolding kindNumber
+unfolding kindNumber statementNumber
 claim-is k i =
     let P : ℕ → Type 0 = λ k. Formulaic (kindNumbered k) (λ φ. aStatement (claimOf k φ)) in
-    ⊎-elim (λ e. subst P (sym e) (subst (λ K. Formulaic K (λ φ. aStatement (claimOf 13 φ))) (sym (kind-of-number Grammar.Assert)) assert-is))
+    ⊎-elim (λ e. subst P (sym e) (subst (λ K. Formulaic K (λ φ. aStatement (claimOf 13 φ))) (sym (kind-of-number (statement Grammar.Assert))) assert-is))
     (λ o.
-    ⊎-elim (λ e. subst P (sym e) (subst (λ K. Formulaic K (λ φ. aStatement (claimOf 14 φ))) (sym (kind-of-number Grammar.Release)) release-is))
-    (λ e. subst P (sym e) (subst (λ K. Formulaic K (λ φ. aStatement (claimOf 17 φ))) (sym (kind-of-number Grammar.Join)) join-is)) o)
+    ⊎-elim (λ e. subst P (sym e) (subst (λ K. Formulaic K (λ φ. aStatement (claimOf 14 φ))) (sym (kind-of-number (statement Grammar.Release))) release-is))
+    (λ e. subst P (sym e) (subst (λ K. Formulaic K (λ φ. aStatement (claimOf 17 φ))) (sym (kind-of-number (statement Grammar.Join))) join-is)) o)
     (claim-cases k i)
 
 pub claim-at : (m k : ℕ) → isClaim m ≡ true → k ≡ m → isClaim k ≡ true
@@ -184,11 +188,11 @@ module _ {t w : List ℕ} {p : Pass} {k r : ℕ} (x : Follows t w p k r) where
   pub line-small : p .line + 1 < 65536
   line-small = omega (arith, x .room .line)
 
-  pub row-room : 8 ≤ k → k ≤ 18 → p .rows < most-statements
-  row-room a b = x .room .rows (is-statement k a b)
+  pub row-room : IsStatementNumber k → p .rows < most-statements
+  row-room h = x .room .rows (is-statement k h)
 
   pub method-room : 4 ≤ k → k ≤ 5 → (1 ≤ after (p .above .methods)) × (after (p .above .methods) ≤ most-methods)
-  unfolding isKind kindNumber
+  unfolding isKind isStatement kindNumber
   method-room a b =
       let is : Kind → Bool = λ K. isKind Grammar.Requires K || isKind Grammar.Ensures K in
       let i : is (kindNumbered k) ≡ true =
@@ -227,9 +231,6 @@ module _ {t w : List ℕ} {p : Pass} {k r : ℕ} (x : Follows t w p k r) where
         atoms-most : cond (hasAtoms (kindNumbered k)) most-atoms 0 ≡ most-atoms
         atoms-most = ap (λ b. cond b most-atoms 0) (ap hasAtoms e ∙ h)
 
-        pub side-follows : SideFollows K t r (p .atoms)
-        side-follows = record { high = x .high; formed = formed-as; room = omega (arith, atoms-room) }
-
         pub formula-follows : form K .operands ≡ [] → form K .tail ≡ Grammar.formula → FormulaFollows t w c r (p .atoms)
         unfolding isFormed isTail
         formula-follows o f =
@@ -240,6 +241,9 @@ module _ {t w : List ℕ} {p : Pass} {k r : ℕ} (x : Follows t w p k r) where
       pub formula-here : form K .operands ≡ [] → isGoodHere t w p (lineAfter t r k) ≡ fitsAfter t w c r
       unfolding isGood fitsAfter
       formula-here o = good-as ∙ formula-good (declarationsIn t w c) (variablesIn t w c) S (lineWith K ws) o
+
+    pub side-follows : (a : Statement) (e : kindNumbered k ≡ statement a) → hasAtoms (statement a) ≡ true → SideFollows a t r (p .atoms)
+    side-follows a e h = record { high = x .high; formed = formed-as (statement a) e; room = omega (arith, atoms-room (statement a) e h) }
 
     pub plain-follows : isPlain k ≡ true → PlainFollows t k r
     plain-follows i = record { kind = i; high = x .high; formed = x .formed }
@@ -259,21 +263,21 @@ module _ {t w : List ℕ} {p : Pass} {k r : ℕ} (x : Follows t w p k r) {c : Na
   seen-counts = ap counts g
 
   pub side-put :
-      (K : Kind) (e : kindNumbered k ≡ K) → hasAtoms K ≡ true → isFramed K ≡ false → {v : List ℕ} {m : ℕ} →
-      SidePut K t w c r (p .rows) (p .atoms) (p .line + 1) v m → ItemPut t w p (lineAfter t r k) v m
-  side-put K e h n y =
+      (a : Statement) (e : kindNumbered k ≡ statement a) → hasAtoms (statement a) ≡ true → isFramed (statement a) ≡ false → {v : List ℕ} {m : ℕ} →
+      SidePut a t w c r (p .rows) (p .atoms) (p .line + 1) v m → ItemPut t w p (lineAfter t r k) v m
+  side-put a e h n y =
       record {
         grown = omega (arith, y .count);
-        count = omega (arith, y .count, atoms-most x g K e h);
-        built = λ F s. placed K e F refl (y .built (counts (p .names)) F (s .rows) (s .holds));
+        count = omega (arith, y .count, atoms-most x g (statement a) e h);
+        built = λ F s. placed (statement a) e F refl (y .built (counts (p .names)) F (s .rows) (s .holds));
         formula = λ f F s. true-false (sym (sym (ap isFramed e ∙ n) ∙ f));
         names = y .names;
         size = y .size;
       }
 
   pub plain-put :
-      8 ≤ k → k ≤ 18 → (k ≡ 17 → ⊥) → {v : List ℕ} → PlainPut t w c k r (p .rows) (p .line + 1) v → ItemPut t w p (lineAfter t r k) v (p .atoms)
-  plain-put a b n {v} y =
+      IsStatementNumber k → (k ≡ 17 → ⊥) → {v : List ℕ} → PlainPut t w c k r (p .rows) (p .line + 1) v → ItemPut t w p (lineAfter t r k) v (p .atoms)
+  plain-put h n {v} y =
       record {
         grown = omega arith;
         count = omega arith;
@@ -284,7 +288,7 @@ module _ {t w : List ℕ} {p : Pass} {k r : ℕ} (x : Follows t w p k r) {c : Na
             Holds d v
             (withItem F (p .line + 1) (itemOf (declarationsIn t w c) (variablesIn t w c) (kindNumbered k) (lineAfter t r k))) (p .atoms))
             seen-counts (y .built F (p .atoms) (s .rows) (subst (λ d. Holds d w F (p .atoms)) (sym seen-counts) (s .holds))));
-        formula = λ f F s. true-false (sym (sym (not-framed k a b n) ∙ f));
+        formula = λ f F s. true-false (sym (sym (not-framed k h n) ∙ f));
         names = y .names;
         size = y .size;
       }
@@ -329,19 +333,19 @@ module _ {t w : List ℕ} {p : Pass} {k r : ℕ} (x : Follows t w p k r) {c : Na
 
   -- AS IT IS TRIED
   pub side-tried :
-      (K : Kind) (e : kindNumbered k ≡ K) → hasAtoms K ≡ true → isFramed K ≡ false → (v : List ℕ) (y : Put) →
-      SideTried K t w c r (p .rows) (p .atoms) (p .line + 1) v y → ItemTried t w p (lineAfter t r k) v y
+      (a : Statement) (e : kindNumbered k ≡ statement a) → hasAtoms (statement a) ≡ true → isFramed (statement a) ≡ false → (v : List ℕ) (y : Put) →
+      SideTried a t w c r (p .rows) (p .atoms) (p .line + 1) v y → ItemTried t w p (lineAfter t r k) v y
   unfolding SideTried ItemTried
-  side-tried K e h n v (Put.Done m) y = (good-as x g K e ∙ y .0 (S x), side-put K e h n (y .1))
-  side-tried K e h n v Put.Bad y = record { bad = good-as x g K e ∙ y .0 (S x); names = y .1; size = y .2 }
+  side-tried a e h n v (Put.Done m) y = (good-as x g (statement a) e ∙ y .0 (S x), side-put a e h n (y .1))
+  side-tried a e h n v Put.Bad y = record { bad = good-as x g (statement a) e ∙ y .0 (S x); names = y .1; size = y .2 }
 
   pub plain-tried :
-      8 ≤ k → k ≤ 18 → (k ≡ 17 → ⊥) → (v : List ℕ) (b : Bool) (z : Put) → z ≡ doneIf b (p .atoms) →
+      IsStatementNumber k → (k ≡ 17 → ⊥) → (v : List ℕ) (b : Bool) (z : Put) → z ≡ doneIf b (p .atoms) →
       PlainTried t w c k r (p .rows) (p .line + 1) v b → ItemTried t w p (lineAfter t r k) v z
   unfolding PlainTried ItemTried doneIf
-  plain-tried l h n v true z i y =
-      subst (ItemTried t w p (lineAfter t r k) v) (sym i) (good-as x g (kindNumbered k) refl ∙ y .0 (S x), plain-put l h n (y .1))
-  plain-tried l h n v false z i y =
+  plain-tried h n v true z i y =
+      subst (ItemTried t w p (lineAfter t r k) v) (sym i) (good-as x g (kindNumbered k) refl ∙ y .0 (S x), plain-put h n (y .1))
+  plain-tried h n v false z i y =
       subst (ItemTried t w p (lineAfter t r k) v) (sym i)
       (record {
         bad = good-as x g (kindNumbered k) refl ∙ y .0 (S x);

@@ -9,7 +9,8 @@ use borrow.Author.Tests.{ne-eqb}
 use Rattle.rules.specs.Limits.{work-bytes}
 use Rattle.rules.specs.Syntax.{Field, Stmt}
 use Rattle.rules.specs.Grammar as Grammar
-use Rattle.rules.specs.Grammar.{Kind, Line, isKind, kindNumber}
+use Rattle.rules.specs.Grammar.{Kind, Line, statement, first-statement, isKind, kindNumber}
+use Rattle.rules.proofs.LineKinds.{kind-is as is-by-number}
 use Rattle.rules.specs.Scope.{Declarations, Variable, Scope, noBlock, classesAfter, membersAfter, blockAfter, scopeAfter}
 use Rattle.rules.specs.Names.{fieldNumber}
 use Rattle.rules.specs.Items.{itemOf, aStatement}
@@ -38,34 +39,29 @@ pub record Quiet (k : Kind) : Type 0 where
   pub main : isKind Grammar.Main k ≡ false
   pub var : isKind Grammar.Var k ≡ false
 
-pub statement-quiet : (k : Kind) → 8 ≤ kindNumber k → Quiet k
-unfolding isKind kindNumber
-statement-quiet k l =
+quiet : (k : Kind) → 4 ≤ kindNumber k → (kindNumber k ≡ 6 → ⊥) → (kindNumber k ≡ 7 → ⊥) → Quiet k
+unfolding kindNumber
+quiet k l m v =
     record {
-      class = ne-eqb 1 (kindNumber k) (λ e. omega (arith, l));
-      field = ne-eqb 2 (kindNumber k) (λ e. omega (arith, l));
-      method = ne-eqb 3 (kindNumber k) (λ e. omega (arith, l));
-      main = ne-eqb 6 (kindNumber k) (λ e. omega (arith, l));
-      var = ne-eqb 7 (kindNumber k) (λ e. omega (arith, l));
+      class = is-by-number Grammar.Class k ∙ ne-eqb 1 (kindNumber k) (λ e. omega (arith, l));
+      field = is-by-number Grammar.Field k ∙ ne-eqb 2 (kindNumber k) (λ e. omega (arith, l));
+      method = is-by-number Grammar.Method k ∙ ne-eqb 3 (kindNumber k) (λ e. omega (arith, l));
+      main = is-by-number Grammar.Main k ∙ ne-eqb 6 (kindNumber k) (λ e. m (sym e));
+      var = is-by-number Grammar.Var k ∙ ne-eqb 7 (kindNumber k) (λ e. v (sym e));
     }
 
+pub statement-quiet : (k : Kind) → first-statement ≤ kindNumber k → Quiet k
+statement-quiet k l = quiet k (omega arith) (λ e. omega arith) (λ e. omega arith)
+
 pub header-quiet : (k : Kind) → 4 ≤ kindNumber k → kindNumber k ≤ 5 → Quiet k
-unfolding isKind kindNumber
-header-quiet k l m =
-    record {
-      class = ne-eqb 1 (kindNumber k) (λ e. omega (arith, l));
-      field = ne-eqb 2 (kindNumber k) (λ e. omega (arith, l));
-      method = ne-eqb 3 (kindNumber k) (λ e. omega (arith, l));
-      main = ne-eqb 6 (kindNumber k) (λ e. omega (arith, m));
-      var = ne-eqb 7 (kindNumber k) (λ e. omega (arith, m));
-    }
+header-quiet k l m = quiet k l (λ e. omega arith) (λ e. omega arith)
 
 module _ (k : Kind) (o : Quiet k) where
   pub above-is : (a : Above) → aboveAfter k a ≡ a
   unfolding aboveAfter
   above-is a = rw (o .class, o .field, o .method)
 
-  pub names-is : (c : Names) → namesAfter k c ≡ cond (isKind Grammar.End k) (withBlock false c) c
+  pub names-is : (c : Names) → namesAfter k c ≡ cond (isKind (statement Grammar.End) k) (withBlock false c) c
   unfolding namesAfter
   names-is c = rw (o .method, o .var)
 
@@ -81,7 +77,7 @@ unfolding withItem
 row-grown F l s = record { classes = refl; methods = refl; rows = end-length (F .rows) _; main = refl }
 
 pub statement-grown :
-    (Γ : Declarations) (vs : List Variable) (k : Kind) → 8 ≤ kindNumber k → (F : Program) (n : ℕ) (l : Line) →
+    (Γ : Declarations) (vs : List Variable) (k : Kind) → first-statement ≤ kindNumber k → (F : Program) (n : ℕ) (l : Line) →
     Grown F (withItem F n (itemOf Γ vs k l)) (suc (length (F .rows)))
 unfolding kindNumber itemOf
 statement-grown Γ vs Grammar.Class e F n l = absurd (omega (arith, e))
@@ -91,17 +87,7 @@ statement-grown Γ vs Grammar.Requires e F n l = absurd (omega (arith, e))
 statement-grown Γ vs Grammar.Ensures e F n l = absurd (omega (arith, e))
 statement-grown Γ vs Grammar.Main e F n l = absurd (omega (arith, e))
 statement-grown Γ vs Grammar.Var e F n l = absurd (omega (arith, e))
-statement-grown Γ vs Grammar.Set e F n l = row-grown F n _
-statement-grown Γ vs Grammar.Let e F n l = row-grown F n _
-statement-grown Γ vs Grammar.New e F n l = row-grown F n _
-statement-grown Γ vs Grammar.Call e F n l = row-grown F n _
-statement-grown Γ vs Grammar.Return e F n l = row-grown F n _
-statement-grown Γ vs Grammar.Assert e F n l = row-grown F n _
-statement-grown Γ vs Grammar.Release e F n l = row-grown F n _
-statement-grown Γ vs Grammar.If e F n l = row-grown F n _
-statement-grown Γ vs Grammar.Else e F n l = row-grown F n _
-statement-grown Γ vs Grammar.Join e F n l = row-grown F n _
-statement-grown Γ vs Grammar.End e F n l = row-grown F n _
+statement-grown Γ vs (statement s) e F n l = row-grown F n _
 
 pub requires-grown : (Γ : Declarations) (vs : List Variable) (F : Program) (n : ℕ) (l : Line) → Grown F (withItem F n (itemOf Γ vs Grammar.Requires l)) (length (F .rows))
 unfolding withItem itemOf
@@ -123,7 +109,7 @@ module _ (t w w′ : List ℕ) (p : Pass) (l : Line) (o : Quiet (l .kind)) (read
 
   same-counts : counts next ≡ counts (p .names)
   unfolding withBlock
-  same-counts = ap counts (names-is (l .kind) o (p .names)) ∙ go (isKind Grammar.End (l .kind))
+  same-counts = ap counts (names-is (l .kind) o (p .names)) ∙ go (isKind (statement Grammar.End) (l .kind))
     where
       go : (e : Bool) → counts (cond e (withBlock false (p .names)) (p .names)) ≡ counts (p .names)
       go true = refl
@@ -133,13 +119,13 @@ module _ (t w w′ : List ℕ) (p : Pass) (l : Line) (o : Quiet (l .kind)) (read
   unfolding withBlock declarationsIn
   same-declared =
       ap (declarationsIn t w′) (names-is (l .kind) o (p .names))
-      ∙ (go (isKind Grammar.End (l .kind)) ∙ names-kept t w w′ (p .names) (ready .names) kept)
+      ∙ (go (isKind (statement Grammar.End) (l .kind)) ∙ names-kept t w w′ (p .names) (ready .names) kept)
     where
       go : (e : Bool) → declarationsIn t w′ (cond e (withBlock false (p .names)) (p .names)) ≡ declarationsIn t w′ (p .names)
       go true = refl
       go false = refl
 
-  scope-is : (s : Scope) → scopeAfter s l ≡ closed (isKind Grammar.End (l .kind)) s
+  scope-is : (s : Scope) → scopeAfter s l ≡ closed (isKind (statement Grammar.End) (l .kind)) s
   unfolding scopeAfter classesAfter membersAfter blockAfter closed
   scope-is s = rw (o .class, o .field, o .method, o .var)
 
@@ -151,8 +137,8 @@ module _ (t w w′ : List ℕ) (p : Pass) (l : Line) (o : Quiet (l .kind)) (read
   same-scope : scopeIn t w′ next (aboveAfter (l .kind) (p .above)) ≡ scopeAfter (scopeIn t w (p .names) (p .above)) l
   same-scope =
       (λ j. scopeIn t w′ (names-is (l .kind) o (p .names) j) (above-is (l .kind) o (p .above) j))
-      ∙ (closed-in (isKind Grammar.End (l .kind))
-      ∙ (ap (closed (isKind Grammar.End (l .kind))) (scope-kept t w w′ (p .names) (ready .names) kept (p .above) (ready .above))
+      ∙ (closed-in (isKind (statement Grammar.End) (l .kind))
+      ∙ (ap (closed (isKind (statement Grammar.End) (l .kind))) (scope-kept t w w′ (p .names) (ready .names) kept (p .above) (ready .above))
       ∙ sym (scope-is (scopeIn t w (p .names) (p .above)))))
 
   same-members : scopeIn t w′ next (aboveAfter (l .kind) (p .above)) .members ≡ scopeIn t w (p .names) (p .above) .members

@@ -8,7 +8,7 @@ use native.Mathlib.Omega.{arith}
 use native.Mathlib.Numerals.{add-one}
 use lib.ListN.{length}
 use Rattle.rules.specs.Grammar as Grammar
-use Rattle.rules.specs.Grammar.{Kind, isKind, isStatement, kindNumber}
+use Rattle.rules.specs.Grammar.{Kind, statement, first-statement, IsStatementNumber, isKind, isStatement, kindNumber}
 use Rattle.rules.specs.Places.{oneMoreIf}
 use Rattle.rules.specs.Scope.{Declarations, Variable}
 use Rattle.rules.specs.Items.{itemOf}
@@ -21,7 +21,7 @@ use Rattle.pass.specs.declared.Pass.{Pass}
 use Rattle.pass.specs.Passes.{withBlock, namesAfter, seenBy, item, Counts, LinePut, lineAfter}
 use Rattle.bodies.specs.Bodies.{Follows, ItemPut}
 use Rattle.bodies.proofs.Lines.{Quiet, statement-quiet, header-quiet, above-is, names-is, Grown, statement-grown, requires-grown, ensures-grown, line-put}
-use Rattle.bodies.proofs.Items.{kind-as, is-statement, no-statement, header-kind}
+use Rattle.bodies.proofs.Items.{kind-as, statement-kind, is-statement, no-statement, header-kind}
 
 module _ {t w : List ℕ} {p : Pass} {k r : ℕ} (x : Follows t w p k r) {v : List ℕ} (q : Pass) (y : ItemPut t w p (lineAfter t r k) v (q .atoms)) where
   -- the counts, where the kind declares nothing
@@ -44,23 +44,23 @@ module _ {t w : List ℕ} {p : Pass} {k r : ℕ} (x : Follows t w p k r) {v : Li
   rows-are b n e i = i ∙ sym (ap (λ b. cond b (suc (p .rows)) (p .rows)) e)
 
   pub statement-line :
-      8 ≤ k → k ≤ 18 → q .names ≡ namesAfter (kindNumbered k) (p .names) → q .above ≡ p .above → q .rows ≡ p .rows + 1 →
+      IsStatementNumber k → q .names ≡ namesAfter (kindNumbered k) (p .names) → q .above ≡ p .above → q .rows ≡ p .rows + 1 →
       q .main ≡ p .main → q .line ≡ p .line + 1 → LinePut t w p (lineAfter t r k) v q
-  statement-line a b n u rows m l =
-      let big : 8 ≤ kindNumber (kindNumbered k) = omega (arith, number-of-kind k (omega arith) b) in
+  statement-line h n u rows m l =
+      let big : first-statement ≤ kindNumber (kindNumbered k) = omega (arith, number-of-kind k (statement-kind h)) in
       let o = statement-quiet (kindNumbered k) big in
       line-put t w v p (lineAfter t r k) o (x .ready) (y .names) q y
-      (counted o n u (rows-are true (q .rows) (is-statement k a b) (rows ∙ add-one (p .rows))) m l)
+      (counted o n u (rows-are true (q .rows) (is-statement k h) (rows ∙ add-one (p .rows))) m l)
       (λ F s.
       subst (Grown F (withItem F (suc (p .line)) (item t w p (lineAfter t r k)))) (let e : suc (length (F .rows)) ≡ q .rows = omega (arith, s .rows, rows) in e)
       (statement-grown (declarationsIn t w (p .names)) (variablesIn t w (seenBy (kindNumbered k) (p .names))) (kindNumbered k) big F (suc (p .line)) (lineAfter t r k)))
 
   stays : 4 ≤ k → k ≤ 5 → (o : Quiet (kindNumbered k)) → namesAfter (kindNumbered k) (p .names) ≡ p .names
-  unfolding isKind kindNumber
+  unfolding isKind isStatement kindNumber
   stays a b o =
       names-is (kindNumbered k) o (p .names)
       ∙ ap (λ e. cond e (withBlock false (p .names)) (p .names))
-      (⊎-elim (λ e. ap (isKind Grammar.End) (kind-as Grammar.Requires k e)) (λ e. ap (isKind Grammar.End) (kind-as Grammar.Ensures k e)) (header-kind k a b))
+      (⊎-elim (λ e. ap (isKind (statement Grammar.End)) (kind-as Grammar.Requires k e)) (λ e. ap (isKind (statement Grammar.End)) (kind-as Grammar.Ensures k e)) (header-kind k a b))
 
   header-grown :
       4 ≤ k → k ≤ 5 → (Γ : Declarations) (vs : List Variable) (F : Program) (n : ℕ) →
@@ -75,7 +75,7 @@ module _ {t w : List ℕ} {p : Pass} {k r : ℕ} (x : Follows t w p k r) {v : Li
       4 ≤ k → k ≤ 5 → q .names ≡ p .names → q .above ≡ p .above → q .rows ≡ p .rows → q .main ≡ p .main → q .line ≡ p .line + 1 →
       LinePut t w p (lineAfter t r k) v q
   header-line a b n u rows m l =
-      let e = number-of-kind k (omega arith) (omega arith) in
+      let e = number-of-kind k (omega arith, omega arith) in
       let o = header-quiet (kindNumbered k) (omega (arith, e)) (omega (arith, e)) in
       line-put t w v p (lineAfter t r k) o (x .ready) (y .names) q y
       (counted o (n ∙ sym (stays a b o)) u (rows-are false (q .rows) (no-statement k (omega arith) (omega arith)) rows) m l)

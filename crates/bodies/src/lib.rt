@@ -5,6 +5,7 @@ use pass::Tried;
 ghost use mathlib.Core.Path.{_≡_};
 ghost use mathlib.Core.Bool.{not, _&&_};
 ghost use Prim.Native.Nat.{_≤_};
+ghost use Rattle.rules.specs.Grammar.{IsKindNumber, IsStatementNumber};
 ghost use Rattle.lines.specs.Rows.{kindNumbered};
 ghost use Rattle.pass.specs.Passes.{seenBy, namesAfter, lineAfter, LineTried};
 ghost use Rattle.bodies.specs.Bodies.{Follows, ItemTried, doneIf};
@@ -17,7 +18,7 @@ fn unless(a: bool, b: bool) -> bool
 
 // What a line of this kind may name.
 pub fn seen(c: Names, kind: u8) -> Names
-    requires { ⌜ (1 ≤ kind) × (kind ≤ 18) ⌝ }
+    requires { ⌜ IsKindNumber kind ⌝ }
     ensures { λ r. ⌜ r ≡ seenBy (kindNumbered kind) c ⌝ }
 {
     let result = unless(c.method, kind == 4);
@@ -33,7 +34,7 @@ pub fn seen(c: Names, kind: u8) -> Names
 
 // The names after a statement: `end` closes the block.
 fn names_after(c: Names, kind: u8) -> Names
-    requires { ⌜ (8 ≤ kind) × (kind ≤ 18) ⌝ }
+    requires { ⌜ IsStatementNumber kind ⌝ }
     ensures { λ r. ⌜ r ≡ namesAfter (kindNumbered kind) c ⌝ }
 {
     if kind != 18 {
@@ -57,7 +58,7 @@ fn done_if(b: bool, n: usize) -> Put
 
 // Writes the atoms and the row of a statement, if it is good; gives the number after its last atom.
 fn put_row(text: &[u8], work: &mut [u8], p: Pass, kind: u8, r: usize) -> Put
-    requires { ⌜ Follows (now text) (now work) p kind r × ((8 ≤ kind) × (kind ≤ 18)) ⌝ }
+    requires { ⌜ Follows (now text) (now work) p kind r × IsStatementNumber kind ⌝ }
     ensures { λ m. ⌜ ItemTried (now (text .entry)) (now (work .entry)) p (lineAfter (now (text .entry)) r kind) (now (work .exit)) m ⌝ }
 {
     let names = p.names;
@@ -76,9 +77,9 @@ fn put_row(text: &[u8], work: &mut [u8], p: Pass, kind: u8, r: usize) -> Put
     }
 }
 
-// Writes the line of a statement (kinds 8 to 18), the word of which ends at r, if it is good.
+// Writes the line of a statement, the word of which ends at r, if it is good.
 pub fn put_statement(text: &[u8], work: &mut [u8], p: Pass, kind: u8, r: usize) -> Tried
-    requires { ⌜ Follows (now text) (now work) p kind r × ((8 ≤ kind) × (kind ≤ 18)) ⌝ }
+    requires { ⌜ Follows (now text) (now work) p kind r × IsStatementNumber kind ⌝ }
     ensures { λ q. ⌜ LineTried (now (text .entry)) (now (work .entry)) p (lineAfter (now (text .entry)) r kind) (now (work .exit)) q ⌝ }
 {
     let t = put_row(text, work, p, kind, r);

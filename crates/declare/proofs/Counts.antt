@@ -8,8 +8,7 @@ use lib.Dec.{leb}
 use borrow.Author.Tests.{leb-true}
 use Rattle.rules.specs.Grammar as Grammar
 use Rattle.rules.specs.Grammar.{Kind}
-use Rattle.rules.specs.Grammar.{Class, Field, Method, Requires, Ensures, Main, Var}
-use Rattle.rules.specs.Grammar.{Set, Let, New, Call, Return, Assert, Release, If, Else, Join, End}
+use Rattle.rules.specs.Grammar.{Class, Field, Method, Requires, Ensures, Main, Var, statement, End, isKind}
 use Rattle.rules.specs.Places as Places
 use Rattle.rules.specs.Places.{Place, firstPlace, stageNumber, inPlace, placeAfter, withinLimits}
 use Rattle.rules.specs.Base as Base
@@ -99,10 +98,12 @@ module _ {p : Place} {c : Names} (x : Counted p c) (w : withinLimits p ≡ true)
         result = x .result;
       })
 
-  end-stage : (b : Bool) → stageNumber (cond b Grammar.afterMain Grammar.afterMethod) ≡ 1 → ⊥
+  -- no class begins after a statement, be it an `end` or not
+  statement-stage : (e m : Bool) → stageNumber (cond e (cond m Grammar.afterMain Grammar.afterMethod) Grammar.inBody) ≡ 1 → ⊥
   unfolding stageNumber
-  end-stage true e = omega arith
-  end-stage false e = omega arith
+  statement-stage true true i = omega arith
+  statement-stage true false i = omega arith
+  statement-stage false m i = omega arith
 
   counted-class : Counted (placeAfter Class p) (namesAfter Class c)
   unfolding Places.opened Grammar.opened namesAfter moreClasses
@@ -162,14 +163,4 @@ module _ {p : Place} {c : Names} (x : Counted p c) (w : withinLimits p ≡ true)
   counted-on Ensures i v = other _ _ refl refl refl refl (λ e. omega arith)
   counted-on Main i v = other _ _ refl refl refl refl (λ e. omega arith)
   counted-on Var i v = other _ _ refl refl refl refl (λ e. omega arith)
-  counted-on Set i v = other _ _ refl refl refl refl (λ e. omega arith)
-  counted-on Let i v = other _ _ refl refl refl refl (λ e. omega arith)
-  counted-on New i v = other _ _ refl refl refl refl (λ e. omega arith)
-  counted-on Call i v = other _ _ refl refl refl refl (λ e. omega arith)
-  counted-on Return i v = other _ _ refl refl refl refl (λ e. omega arith)
-  counted-on Assert i v = other _ _ refl refl refl refl (λ e. omega arith)
-  counted-on Release i v = other _ _ refl refl refl refl (λ e. omega arith)
-  counted-on If i v = other _ _ refl refl refl refl (λ e. omega arith)
-  counted-on Else i v = other _ _ refl refl refl refl (λ e. omega arith)
-  counted-on Join i v = other _ _ refl refl refl refl (λ e. omega arith)
-  counted-on End i v = other _ _ refl refl refl refl (end-stage (p .main))
+  counted-on (statement a) i v = other _ _ refl refl refl refl (statement-stage (isKind (statement End) (statement a)) (p .main))

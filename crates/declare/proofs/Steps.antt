@@ -8,7 +8,8 @@ use native.Mathlib.Numerals.{add-one}
 use lib.ListN.{length, drop}
 use Rattle.rules.specs.Limits.{work-bytes}
 use Rattle.rules.specs.Text.{lines}
-use Rattle.rules.specs.Grammar.{Kind, Line, Class, Field, Method, kindNumber, isKind}
+use Rattle.rules.specs.Grammar.{Kind, Line, Class, Field, Method, IsKindNumber, kindNumber, isKind}
+use Rattle.rules.proofs.LineKinds.{kind-bounds}
 use Rattle.rules.specs.Places.{Place, firstPlace, placeAfter}
 use Rattle.rules.specs.Scope.{Declarations, classesOf, classesAbove, fieldsOf, methodsOf, declarations}
 use Rattle.leaves.specs.Sets.{Found}
@@ -20,7 +21,7 @@ use Rattle.lines.specs.declared.Word.{Word}
 use Rattle.lines.specs.Cuts.{more}
 use Rattle.lines.specs.Rows.{kindNumbered}
 use Rattle.lines.specs.Table.{WordAt, lineEnd}
-use Rattle.lines.proofs.Rows.{kind-bounds, number-of-kind}
+use Rattle.lines.proofs.Rows.{number-of-kind}
 use Rattle.lines.proofs.Table.{found-end}
 use Rattle.declared.specs.declared.Names.{Names}
 use Rattle.declared.specs.Rows.{rows}
@@ -132,18 +133,17 @@ module _ {t v : List ℕ} {a : ℕ} {c : Names} {w : List ℕ} (x : Declaring t 
     formed : FormedAt t a
     formed = walking-formed (x .walk) l ends
 
-    bounds : (1 ≤ r .kind) × (r .kind ≤ 18)
+    bounds : IsKindNumber (r .kind)
     bounds = omega (arith, word-kind formed y, kind-bounds (lineAt t a .kind))
 
     numbered : r .kind ≡ kindNumber (kindNumbered (r .kind))
-    numbered = sym (number-of-kind (r .kind) (bounds .0) (bounds .1))
+    numbered = sym (number-of-kind (r .kind) bounds)
 
     pub declaring-ready : LineReady t (r .end) (r .kind) c
     declaring-ready =
         record {
           high = y .high;
-          first = bounds .0;
-          last = bounds .1;
+          kind = bounds;
           formed = form-is formed y (kindNumbered (r .kind)) numbered;
           room = subst (λ k. Room k c) (kind-is formed y {k = kindNumbered (r .kind)} numbered) (declaring-room l ends);
         }

@@ -6,7 +6,7 @@ use Prim.Native.Nat.{ℕ, _+_, _<_, _≤_}
 use lib.ListN.{length, getD, drop}
 use Rattle.rules.specs.Base.{Name}
 use Rattle.rules.specs.Limits.{work-bytes, most-bytes, most-classes, most-methods}
-use Rattle.rules.specs.Grammar.{Kind, Line, Class, Field, Method, form, isFormed, isKind}
+use Rattle.rules.specs.Grammar.{Kind, Line, Class, Field, Method, form, IsKindNumber, isFormed, isKind}
 use Rattle.rules.specs.Scope.{Declarations, classesOf, fieldsOf, methodsOf, declarations}
 use Rattle.tables.specs.Layout.{most-names, lines-at}
 use Rattle.tables.specs.Stores.{Kept, SameTables}
@@ -49,8 +49,7 @@ pub record Room (k : Kind) (c : Names) : Type 0 where
 -- the line of kind k whose word ends at r has its form, and there is room for its row
 pub record LineReady (t : List ℕ) (r k : ℕ) (c : Names) : Type 0 where
   pub high : r ≤ length t
-  pub first : 1 ≤ k
-  pub last : k ≤ 18
+  pub kind : IsKindNumber k
   pub formed : isFormed (form (kindNumbered k) .operands) (form (kindNumbered k) .tail) (more (drop r t)) ≡ true
   pub room : Room (kindNumbered k) c
 

@@ -9,6 +9,7 @@ use lib.ListN.{length, drop}
 use Rattle.rules.specs.Limits.{most-classes, most-methods, most-statements, most-atoms, work-bytes}
 use Rattle.rules.specs.Syntax.{Atom, Formula, Stmt, Row, Field}
 use Rattle.rules.specs.Syntax.{acc, cmp, set, assign, new, call, return, assert, release, simple, else, join, end}
+use Rattle.rules.specs.Grammar.{IsStatementNumber}
 use Rattle.rules.specs.Machine.{closing}
 use Rattle.rules.specs.Syntax.{Program, Method}
 use Rattle.tables.specs.declared.Expr as Tables
@@ -76,7 +77,7 @@ operandsAt w i =
 
 -- operands that a row may have where n atoms are written
 pub record RowOk (D : Declared) (n : ℕ) (r : Operands) : Type 0 where
-  pub kind : (8 ≤ r .kind) × (r .kind ≤ 18)
+  pub kind : IsStatementNumber (r .kind)
   pub x : r .x < frame-variables
   pub y : r .y < frame-variables
   pub z : r .z < frame-variables

@@ -8,7 +8,7 @@ use Rattle.rules.specs.Base.{Name, all}
 use Rattle.rules.specs.Limits.{work-bytes}
 use Rattle.rules.specs.Syntax.{Formula}
 use Rattle.rules.specs.Text.{exprOf, formulaOf}
-use Rattle.rules.specs.Grammar.{Operand, Line, form, isFormed, expression}
+use Rattle.rules.specs.Grammar.{Operand, Line, form, IsKindNumber, isFormed, expression}
 use Rattle.rules.specs.Scope.{Slot, slots, atomsOf}
 use Rattle.rules.specs.Names as Rules
 use Rattle.lines.specs.Cuts.{more}
@@ -29,8 +29,7 @@ formed l = isFormed (form (l .kind) .operands) (form (l .kind) .tail) (l .fields
 
 -- the kind's number, and the line's form
 pub record Formed (k : ℕ) (l : Line) : Type 0 where
-  pub first : 1 ≤ k
-  pub last : k ≤ 18
+  pub kind : IsKindNumber k
   pub is : formed l ≡ true
 
 -- the work area, and counts of its rows

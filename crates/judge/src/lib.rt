@@ -9,7 +9,7 @@ ghost use Prim.Native.Nat.{_≤_};
 ghost use lib.ListN.{length, drop, getD};
 ghost use Rattle.rules.specs.Limits.{work-bytes, most-atoms};
 ghost use Rattle.rules.specs.Text.{isName, isExpr, exprOf, isAtom, isFormula, atomOf, formulaOf};
-ghost use Rattle.rules.specs.Grammar.{isOperand, variable, member, read, field};
+ghost use Rattle.rules.specs.Grammar.{IsKindNumber, isOperand, variable, member, read, field};
 ghost use Rattle.rules.specs.Names.{agree, exprType};
 ghost use Rattle.rules.specs.Scope.{slotsFrom, atomOperands, atomSlots};
 ghost use Rattle.lines.specs.Cuts.{more};
@@ -313,7 +313,7 @@ fn sides_agree(text: &[u8], work: &[u8], from: usize, kind: u8, c: Names) -> boo
 
 // 9: "`call x` with x the same name as y or z"
 fn call_apart(text: &[u8], work: &[u8], from: usize, kind: u8, c: Names) -> bool
-    requires { ⌜ (length (now work) ≡ work-bytes) × Fits c × (from ≤ length (now text)) × ((1 ≤ kind) × (kind ≤ 18)) ⌝ }
+    requires { ⌜ (length (now work) ≡ work-bytes) × Fits c × (from ≤ length (now text)) × IsKindNumber kind ⌝ }
     ensures { λ r. ⌜ r ≡ apartIn (now (text .entry)) (now (work .entry)) c (lineAfter (now (text .entry)) from kind) ⌝ }
 {
     if kind != 11 {

@@ -9,7 +9,7 @@ use Prim.Native.String.{String}
 use native.Mathlib.Omega.{arith}
 use native.Mathlib.Numerals.{add-one}
 use native.Mathlib.Decide.{decLt}
-use lib.Dec.{eqb, leb}
+use lib.Dec.{eqb, leb, eqb→eq}
 use lib.ListN.{length, getD, drop, take, drop-of-length-le, length-drop, List·getD-eq-default}
 use lib.Seq.{drop-cons, getD-drop}
 use borrow.Author.Tests.{eqb-true, eqb-false, leb-true, eq-eqb, ne-eqb, le-leb, lt-leb}
@@ -17,8 +17,8 @@ use Rattle.rules.specs.Base as Base
 use Rattle.rules.specs.Base.{Name, all, any, first, eqName, bytes, is, between}
 use Rattle.rules.specs.Text.{isExpr, isRel, isAtom, reserved}
 use Rattle.rules.specs.Grammar as Grammar
-use Rattle.rules.specs.Grammar.{Kind, kinds, kindNumber, kindOf, form}
-use Rattle.rules.specs.Grammar.{Class, Field, Method, Requires, Ensures, Main, Var, Set, Let, New, Call, Return, Assert, Release, If, Else, Join, End}
+use Rattle.rules.specs.Grammar.{Kind, kinds, last-kind, kindNumber, kindOf, form}
+use Rattle.rules.proofs.LineKinds.{every-kind, kind-bounds}
 use Rattle.leaves.specs.Words as Words
 use Rattle.leaves.specs.Words.{words, placeIn, wordNumber, kindAt, kindOr0, packed, packedIn}
 use Rattle.leaves.proofs.Search.{true-false, both-true, and-false, or-false, between-true, all-at, same-is, same-refl, not-same}
@@ -302,24 +302,10 @@ first-same p q (a ∷ l) h = rw (h a, first-same p q l h)
 
 kind-word : (k : Kind) → (leb 1 (wordNumber (bytes (form k .word))) ≡ true) × (wordNumber (bytes (form k .word)) ≡ kindNumber k)
 unfolding Words.opened Base.opened Grammar.opened
-kind-word Class = (refl, refl)
-kind-word Field = (refl, refl)
-kind-word Method = (refl, refl)
-kind-word Requires = (refl, refl)
-kind-word Ensures = (refl, refl)
-kind-word Main = (refl, refl)
-kind-word Var = (refl, refl)
-kind-word Set = (refl, refl)
-kind-word Let = (refl, refl)
-kind-word New = (refl, refl)
-kind-word Call = (refl, refl)
-kind-word Return = (refl, refl)
-kind-word Assert = (refl, refl)
-kind-word Release = (refl, refl)
-kind-word If = (refl, refl)
-kind-word Else = (refl, refl)
-kind-word Join = (refl, refl)
-kind-word End = (refl, refl)
+kind-word k =
+    let n : ℕ = wordNumber (bytes (form k .word)) in
+    let e : n ≡ kindNumber k = eqb→eq n (kindNumber k) (every-kind (λ k. eqb (wordNumber (bytes (form k .word))) (kindNumber k)) tt k) in
+    (ap (leb 1) e ∙ le-leb 1 (kindNumber k) (kind-bounds k .0), e)
 
 -- the kind of a word is that of its number
 pub kind-is : (w : Name) → kindOf w ≡ kindAt (wordNumber w)
@@ -339,21 +325,18 @@ below-at p (suc k) n e h =
     let q = both-true (p k) (below p k) e in
     elim (decLt n k) [ yes a ↦ below-at p k n (q .1) a | no a ↦ (let z : n ≡ k = omega arith in ap p z ∙ q .0) ]
 
-pub kind-number : (n : ℕ) → n ≤ 18 → kindOr0 (kindAt n) ≡ n
+pub kind-number : (n : ℕ) → n ≤ last-kind → kindOr0 (kindAt n) ≡ n
 unfolding kindAt Base.opened Grammar.opened
-kind-number n h = eqb-true _ _ (below-at (λ n. eqb (kindOr0 (kindAt n)) n) 19 n refl (omega arith))
+kind-number n h = eqb-true _ _ (below-at (λ n. eqb (kindOr0 (kindAt n)) n) (suc last-kind) n refl (omega arith))
 
-no-kind : (n : ℕ) (ks : List Kind) → all (λ k. leb (kindNumber k) 18) ks ≡ true → 18 < n → first (λ k. eqb n (kindNumber k)) ks ≡ none
-unfolding first all
-no-kind n [] e h = refl
-no-kind n (k ∷ ks) e h =
-    let q = both-true (leb (kindNumber k) 18) (all (λ k. leb (kindNumber k) 18) ks) e in
-    let z = leb-true (kindNumber k) 18 (q .0) in
-    rw (ne-eqb n (kindNumber k) (λ a. omega (arith, a, z))) (no-kind n ks (q .1) h)
+no-kind : (n : ℕ) (ks : List Kind) → last-kind < n → first (λ k. eqb n (kindNumber k)) ks ≡ none
+unfolding first
+no-kind n [] h = refl
+no-kind n (k ∷ ks) h = rw (ne-eqb n (kindNumber k) (λ a. omega (arith, a, kind-bounds k))) (no-kind n ks h)
 
-pub kind-none : (n : ℕ) → 18 < n → kindOr0 (kindAt n) ≡ 0
-unfolding kindAt Base.opened Grammar.opened
-kind-none n h = ap kindOr0 (no-kind n kinds refl h)
+pub kind-none : (n : ℕ) → last-kind < n → kindOr0 (kindAt n) ≡ 0
+unfolding kindAt
+kind-none n h = ap kindOr0 (no-kind n kinds h)
 
 -- reserved words have three to six letters
 pub not-reserved : (w : Name) → ((3 ≤ length w) × (length w ≤ 6) → ⊥) → reserved w ≡ false

@@ -7,8 +7,8 @@ use native.Mathlib.Omega.{arith}
 use lib.Dec.{eqb, leb, ltb}
 use lib.ListN.{length}
 use borrow.Author.Tests.{eq-eqb, ne-eqb, eqb-true, eqb-false, lt-ltb, le-ltb, le-leb, lt-leb, leb-true, ltb-true}
-use Rattle.rules.specs.Grammar.{Kind, form, kindNumber, isKind, isStatement, afterMain, afterMethod}
-use Rattle.rules.specs.Grammar.{Class, Field, Method, Main, Var, Return, If, Else, Join, End}
+use Rattle.rules.specs.Grammar.{Kind, form, first-statement, IsKindNumber, statementNumber, kindNumber, isKind, afterMain, afterMethod}
+use Rattle.rules.specs.Grammar.{Class, Field, Method, Main, Var, statement, Return, If, Else, Join, End}
 use Rattle.rules.specs.Places as Places
 use Rattle.rules.specs.Places.{Branch, beforeElse, afterElse, stageNumber, oneMoreIf, mayElse, mayJoin, mayEnd, outer}
 use Rattle.leaves.proofs.Search.{both-true}
@@ -16,7 +16,7 @@ use Rattle.lines.specs.declared.Place.{Place}
 use Rattle.lines.specs.Rows.{kindNumbered}
 use Rattle.lines.specs.Coded.{branchNumber, branchesNumber, coded, fits, inPlace}
 use Rattle.lines.specs.Coded.{stageAfter, branchesAfter, placeAfter, withinLimits, AfterWithin}
-use Rattle.lines.proofs.Rows.{number-of-kind}
+use Rattle.lines.proofs.Rows.{kind-numbered, statement-numbered}
 
 eqb-sym : (a b : ℕ) → eqb a b ≡ eqb b a
 eqb-sym a b = go (eqb a b) refl
@@ -73,25 +73,21 @@ module _ (p : Places.Place) where
   unfolding withinLimits coded Places.withinLimits
   within-is = rw (few (p .branches))
 
-  module _ (k : ℕ) (l : 1 ≤ k) (h : k ≤ 18) where
-    same : kindNumber (kindNumbered k) ≡ k
-    same = number-of-kind k l h
-
+  module _ (k : ℕ) (h : IsKindNumber k) where
     kind-is : (a : Kind) → isKind a (kindNumbered k) ≡ eqb k (kindNumber a)
-    unfolding isKind
-    kind-is a = rw same (eqb-sym (kindNumber a) k)
+    kind-is a = kind-numbered k h a ∙ eqb-sym (kindNumber a) k
 
     fits-is : fits k (coded p) ≡ Places.fits (kindNumbered k) p
-    unfolding fits coded Places.fits kindNumber
-    fits-is = rw (kind-is Return, kind-is Else, kind-is Join, kind-is End, may-else (p .branches), may-join (p .branches), may-end (p .branches))
+    unfolding fits coded Places.fits kindNumber statementNumber
+    fits-is = rw (kind-is (statement Return), kind-is (statement Else), kind-is (statement Join), kind-is (statement End), may-else (p .branches), may-join (p .branches), may-end (p .branches))
 
     pub in-place-is : inPlace k (coded p) ≡ Places.inPlace (kindNumbered k) p
     unfolding inPlace coded Places.inPlace
     in-place-is = rw fits-is
 
     branches-is : branchesAfter k (branchesNumber (p .branches)) ≡ branchesNumber (Places.branchesAfter (kindNumbered k) (p .branches))
-    unfolding branchesAfter Places.branchesAfter kindNumber branchesNumber branchNumber
-    branches-is = rw (kind-is If, kind-is Else, kind-is Join) (go (p .branches) (eqb k 15) (eqb k 16) (eqb k 17))
+    unfolding branchesAfter Places.branchesAfter kindNumber statementNumber branchesNumber branchNumber
+    branches-is = rw (kind-is (statement If), kind-is (statement Else), kind-is (statement Join)) (go (p .branches) (eqb k 15) (eqb k 16) (eqb k 17))
       where
         go :
             (bs : List Branch) (x y z : Bool) → let n = branchesNumber bs in
@@ -103,8 +99,8 @@ module _ (p : Places.Place) where
         go bs false false false = refl
 
     stage-is : stageAfter k (p .main) (stageNumber (form (kindNumbered k) .next)) ≡ stageNumber (Places.stageAfter (kindNumbered k) p)
-    unfolding stageAfter Places.stageAfter kindNumber stageNumber
-    stage-is = rw (kind-is End) (go (eqb k 18) (p .main))
+    unfolding stageAfter Places.stageAfter kindNumber statementNumber stageNumber
+    stage-is = rw (kind-is (statement End)) (go (eqb k 18) (p .main))
       where
         go :
             (x y : Bool) → let n = form (kindNumbered k) .next in
@@ -114,9 +110,9 @@ module _ (p : Places.Place) where
         go false y = refl
 
     pub place-after-is : placeAfter k (coded p) ≡ coded (Places.placeAfter (kindNumbered k) p)
-    unfolding placeAfter coded Places.placeAfter isStatement kindNumber
+    unfolding placeAfter coded Places.placeAfter kindNumber
     place-after-is =
-        rw (same, kind-is Main, kind-is Class, kind-is Field, kind-is Method, kind-is Var, stage-is, branches-is)
+        rw (statement-numbered k h, kind-is Main, kind-is Class, kind-is Field, kind-is Method, kind-is Var, stage-is, branches-is)
 
 -- what the limits leave room for
 pub record Low (s : Place) : Type 0 where
@@ -175,7 +171,7 @@ module _ (s : Place) (b : Low s) where
 
   ruleset kept = (classes-kept, fields-kept, methods-kept, locals-kept, statements-kept, branches-kept, and-true)
 
-  early : (k : ℕ) → k < 8 → withinLimits (placeAfter k s) ≡ counted k (placeAfter k s)
+  early : (k : ℕ) → k < first-statement → withinLimits (placeAfter k s) ≡ counted k (placeAfter k s)
   unfolding withinLimits placeAfter branchesAfter counted oneMoreIf
   early zero h = simp kept
   early (suc zero) h = simp kept
@@ -187,9 +183,9 @@ module _ (s : Place) (b : Low s) where
   early (suc (suc (suc (suc (suc (suc (suc zero))))))) h = simp kept
   early (suc (suc (suc (suc (suc (suc (suc (suc n)))))))) h = absurd (omega arith)
 
-  statement : (k : ℕ) → 8 ≤ k → let q = placeAfter k s in withinLimits q ≡ (leb (q .statements) 256 && ltb (q .branches) 256)
+  late : (k : ℕ) → first-statement ≤ k → let q = placeAfter k s in withinLimits q ≡ (leb (q .statements) 256 && ltb (q .branches) 256)
   unfolding withinLimits placeAfter oneMoreIf
-  statement k h =
+  late k h =
       rw (
         ne-eqb k 1 (λ e. omega arith),
         ne-eqb k 2 (λ e. omega arith),
@@ -203,8 +199,8 @@ module _ (s : Place) (b : Low s) where
       )
 
 module _ (k : ℕ) (q : Place) (a : AfterWithin k q) where
-  pub counts : k < 8 → withinLimits q ≡ counted k q
+  pub counts : k < first-statement → withinLimits q ≡ counted k q
   counts h = rw (a .after) (early (a .place) (low (a .place) (a .within)) k h)
 
-  pub counts-statement : 8 ≤ k → withinLimits q ≡ (leb (q .statements) 256 && ltb (q .branches) 256)
-  counts-statement h = rw (a .after) (statement (a .place) (low (a .place) (a .within)) k h)
+  pub counts-statement : first-statement ≤ k → withinLimits q ≡ (leb (q .statements) 256 && ltb (q .branches) 256)
+  counts-statement h = rw (a .after) (late (a .place) (low (a .place) (a .within)) k h)

@@ -5,7 +5,7 @@ use mathlib.Core.Logic.{⊎-elim}
 use Prim.Native.Nat.{ℕ, _≤_, _<_}
 use lib.ListN.{length, getD, drop}
 use Rattle.rules.specs.Text.{fields}
-use Rattle.rules.specs.Grammar.{kindOf}
+use Rattle.rules.specs.Grammar.{last-kind, IsKindNumber, kindOf}
 use Rattle.rules.proofs.Lists.{decide-eq}
 use Rattle.leaves.specs.Sets.{Found}
 use Rattle.leaves.specs.Words.{kindOr0}
@@ -35,7 +35,7 @@ module _ {t : List ℕ} {a : ℕ} {w : Word} (x : FirstWord t a w) where
   cut : fields (drop a t) ≡ part a (w .end) t ∷ more (drop (w .end) t)
   cut = fields-from t a (w .end) (x .end)
 
-  pub kind-most : w .kind ≤ 18
+  pub kind-most : w .kind ≤ last-kind
   kind-most = most-kind (kindOf (part a (w .end) t)) (w .kind) (x .kind)
 
   pub unformed-line : FieldsRead (formedAs (w .kind)) t (w .end) Bad → Unformed t a
@@ -49,7 +49,7 @@ module _ {t : List ℕ} {a : ℕ} {w : Word} (x : FirstWord t a w) where
     pub has-kind : w .kind ≡ 0 → ⊥
     has-kind z = true-false (sym (f .1) ∙ formed-none (w .kind) _ z)
 
-    pub kind-in : (1 ≤ w .kind) × (w .kind ≤ 18)
+    pub kind-in : IsKindNumber (w .kind)
     kind-in = word-bounds _ _ _ cut (w .kind) (x .kind) has-kind
 
     pub formed-first : FormedWord t a w

@@ -1,19 +1,20 @@
 -- Laws of the grammar's rows: numbers stand for what the rules say of kinds, operands and tails.
 use mathlib.Core.Path.{_≡_, refl, sym, ap, _∙_}
-use mathlib.Core.Bool.{Bool, true, false}
+use mathlib.Core.Bool.{Bool, true, false, _&&_}
 use mathlib.Core.List.{List, [], _∷_}
 use mathlib.Core.Option.{Option, none, some}
 use Prim.Native.Nat.{ℕ, zero, suc, _/_, _%_, _≤_, _<_}
 use native.Mathlib.Omega.{arith}
-use Rattle.rules.specs.Base.{Name, bindOption, withDefault}
-use Rattle.rules.specs.Base as Base
+use lib.Dec.{T, eqb, leb, eqb→eq}
+use Rattle.rules.specs.Base.{Name, bindOption, withDefault, all}
 use Rattle.rules.specs.Grammar as Grammar
-use Rattle.rules.specs.Grammar.{Kind, Operand, Tail, form, kindOf, kindNumber, isOperand, isTail, isFormed}
+use Rattle.rules.specs.Grammar.{Kind, Operand, Tail, statement, End, form, first-statement, last-kind, IsKindNumber, kindOf, kindNumber, isStatement, isKind}
+use Rattle.rules.specs.Grammar.{isOperand, isTail, isFormed}
 use Rattle.rules.specs.Grammar.{new, typeName, className, variable, member, expression, nothing, condition, formula}
 use Rattle.rules.specs.Grammar.{classes, fields, methods, variables, read, assigned, field, method}
-use Rattle.rules.specs.Grammar.{Class, Field, Method, Requires, Ensures, Main, Var}
-use Rattle.rules.specs.Grammar.{Set, Let, New, Call, Return, Assert, Release, If, Else, Join, End}
 use Rattle.rules.specs.Places.{stageNumber}
+use Rattle.rules.proofs.Lists.{and-both}
+use Rattle.rules.proofs.LineKinds.{every-kind, kind-bounds, same-kind, statement-is, kind-is as is-by-number}
 use Rattle.leaves.specs.Words as Words
 use Rattle.leaves.specs.Words.{kindAt, kindOr0}
 use Rattle.leaves.proofs.Words.{kind-number}
@@ -23,55 +24,24 @@ use Rattle.lines.specs.Rows.{whenTrue, kindNumbered, operandNumber, tail
 use Rattle.lines.specs.Rows.{fitsOperand, fitsTail, formedKind}
 
 -- KINDS
-pub number-of-kind : (n : ℕ) → 1 ≤ n → n ≤ 18 → kindNumber (kindNumbered n) ≡ n
+pub number-of-kind : (n : ℕ) → IsKindNumber n → kindNumber (kindNumbered n) ≡ n
 unfolding kindNumbered withDefault
-number-of-kind n l h = go (kindAt n) (kind-number n h)
+number-of-kind n h = go (kindAt n) (kind-number n (h .1))
   where
-    go : (o : Option Kind) → kindOr0 o ≡ n → kindNumber (withDefault End o) ≡ n
+    go : (o : Option Kind) → kindOr0 o ≡ n → kindNumber (withDefault (statement End) o) ≡ n
     go none e = absurd (omega arith)
     go (some k) e = e
 
 pub kind-of-number : (k : Kind) → kindNumbered (kindNumber k) ≡ k
-unfolding Rows.opened Words.opened Grammar.opened Base.opened
-kind-of-number Class = refl
-kind-of-number Field = refl
-kind-of-number Method = refl
-kind-of-number Requires = refl
-kind-of-number Ensures = refl
-kind-of-number Main = refl
-kind-of-number Var = refl
-kind-of-number Set = refl
-kind-of-number Let = refl
-kind-of-number New = refl
-kind-of-number Call = refl
-kind-of-number Return = refl
-kind-of-number Assert = refl
-kind-of-number Release = refl
-kind-of-number If = refl
-kind-of-number Else = refl
-kind-of-number Join = refl
-kind-of-number End = refl
+kind-of-number k = same-kind _ k (number-of-kind (kindNumber k) (kind-bounds k))
 
-pub kind-bounds : (k : Kind) → (1 ≤ kindNumber k) × (kindNumber k ≤ 18)
-unfolding kindNumber
-kind-bounds Class = omega arith
-kind-bounds Field = omega arith
-kind-bounds Method = omega arith
-kind-bounds Requires = omega arith
-kind-bounds Ensures = omega arith
-kind-bounds Main = omega arith
-kind-bounds Var = omega arith
-kind-bounds Set = omega arith
-kind-bounds Let = omega arith
-kind-bounds New = omega arith
-kind-bounds Call = omega arith
-kind-bounds Return = omega arith
-kind-bounds Assert = omega arith
-kind-bounds Release = omega arith
-kind-bounds If = omega arith
-kind-bounds Else = omega arith
-kind-bounds Join = omega arith
-kind-bounds End = omega arith
+module _ (n : ℕ) (h : IsKindNumber n) where
+  -- tests of a kind, by its number
+  pub kind-numbered : (a : Kind) → isKind a (kindNumbered n) ≡ eqb (kindNumber a) n
+  kind-numbered a = is-by-number a (kindNumbered n) ∙ ap (eqb (kindNumber a)) (number-of-kind n h)
+
+  pub statement-numbered : isStatement (kindNumbered n) ≡ leb first-statement n
+  statement-numbered = statement-is (kindNumbered n) ∙ ap (leb first-statement) (number-of-kind n h)
 
 -- ROWS
 abbrev pub down : ℕ → List ℕ
@@ -98,26 +68,30 @@ unpacked n =
       next = n / 268435456;
     }
 
+sameRow : Row → Row → Bool
+sameRow a b =
+    eqb (a .operands) (b .operands)
+    && (eqb (a .tail) (b .tail) && (eqb (a .first) (b .first) && (eqb (a .last) (b .last) && eqb (a .next) (b .next))))
+
+row-same : (a b : Row) → T (sameRow a b) → a ≡ b
+unfolding sameRow
+row-same a b h =
+    let (o, h₁) = and-both (eqb (a .operands) (b .operands)) _ h in
+    let (t, h₂) = and-both (eqb (a .tail) (b .tail)) _ h₁ in
+    let (f, h₃) = and-both (eqb (a .first) (b .first)) _ h₂ in
+    let (l, n) = and-both (eqb (a .last) (b .last)) (eqb (a .next) (b .next)) h₃ in
+    λ i.
+    record {
+      operands = eqb→eq (a .operands) (b .operands) o i;
+      tail = eqb→eq (a .tail) (b .tail) t i;
+      first = eqb→eq (a .first) (b .first) f i;
+      last = eqb→eq (a .last) (b .last) l i;
+      next = eqb→eq (a .next) (b .next) n i;
+    }
+
 pub row-back : (k : Kind) → unpacked (rowNumber (rowOf (form k))) ≡ rowOf (form k)
-unfolding Rows.opened Grammar.opened stageNumber
-row-back Class = refl
-row-back Field = refl
-row-back Method = refl
-row-back Requires = refl
-row-back Ensures = refl
-row-back Main = refl
-row-back Var = refl
-row-back Set = refl
-row-back Let = refl
-row-back New = refl
-row-back Call = refl
-row-back Return = refl
-row-back Assert = refl
-row-back Release = refl
-row-back If = refl
-row-back Else = refl
-row-back Join = refl
-row-back End = refl
+unfolding Rows.opened Grammar.opened all stageNumber sameRow
+row-back k = row-same _ _ (every-kind (λ k. sameRow (unpacked (rowNumber (rowOf (form k)))) (rowOf (form k))) tt k)
 
 -- OPERANDS
 pub operand-bounds : (o : Operand) → (1 ≤ operandNumber o) × (operandNumber o < 16)
@@ -159,10 +133,10 @@ pub kind-known : (o : Option Kind) (n : ℕ) → n ≡ kindOr0 o → (n ≡ 0 �
 kind-known none n e z = absurd (z e)
 kind-known (some k) n e z = (k, refl, e)
 
-known-bounds : (o : Option Kind) (n : ℕ) → n ≡ kindOr0 o → (n ≡ 0 → ⊥) → (1 ≤ n) × (n ≤ 18)
+known-bounds : (o : Option Kind) (n : ℕ) → n ≡ kindOr0 o → (n ≡ 0 → ⊥) → IsKindNumber n
 known-bounds o n e z = let (k, f, h) = kind-known o n e z in let b = kind-bounds k in omega (arith, h, b)
 
-pub most-kind : (o : Option Kind) (n : ℕ) → n ≡ kindOr0 o → n ≤ 18
+pub most-kind : (o : Option Kind) (n : ℕ) → n ≡ kindOr0 o → n ≤ last-kind
 most-kind none n e = omega (arith, e)
 most-kind (some k) n e = omega (arith, e, kind-bounds k)
 
@@ -177,7 +151,7 @@ module _ (w : Name) (vs ws : List Name) (c : ws ≡ w ∷ vs) (n : ℕ) (e : n �
   no-kind z = rw (c, kind-none (kindOf w) (sym e ∙ z))
 
   module _ (z : n ≡ 0 → ⊥) where
-    pub word-bounds : (1 ≤ n) × (n ≤ 18)
+    pub word-bounds : IsKindNumber n
     word-bounds = known-bounds (kindOf w) n e z
 
     kind-is :
@@ -190,7 +164,7 @@ module _ (w : Name) (vs ws : List Name) (c : ws ≡ w ∷ vs) (n : ℕ) (e : n �
         rw (c, g, ← m, f)
 
     pub formed : isFormed (form (kindNumbered n) .operands) (form (kindNumbered n) .tail) vs ≡ true → kindOr0 (formedKind ws) ≡ n
-    formed f = rw (kind-is true f) (number-of-kind n (word-bounds .0) (word-bounds .1))
+    formed f = rw (kind-is true f) (number-of-kind n word-bounds)
 
     pub unformed : isFormed (form (kindNumbered n) .operands) (form (kindNumbered n) .tail) vs ≡ false → kindOr0 (formedKind ws) ≡ 0
     unformed f = rw (kind-is false f)

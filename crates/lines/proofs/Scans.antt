@@ -14,7 +14,7 @@ use Rattle.rules.specs.Answers.{Verdict, accepted, refused, atLine, then, badBy
 use Rattle.rules.specs.Answers as Answers
 use Rattle.rules.specs.Text as Text
 use Rattle.rules.specs.Text.{lines, onto, clean}
-use Rattle.rules.specs.Grammar.{Kind, Line, form, kindOf, isFormed, readLine}
+use Rattle.rules.specs.Grammar.{Kind, Line, form, IsKindNumber, kindOf, isFormed, readLine}
 use Rattle.rules.specs.Places as Places
 use Rattle.rules.specs.Places.{Placed, stageNumber, placeLine, scanLine, scanLines, ended, firstPlace}
 use Rattle.rules.proofs.Lists.{T-true}
@@ -32,11 +32,11 @@ use Rattle.lines.proofs.Coded.{within-is, in-place-is, place-after-is}
 
 -- THE PLACE OF A LINE
 pub place-line-is :
-    (s : Place) (k : ℕ) → 1 ≤ k → k ≤ 18 → (p : Places.Place) → s ≡ coded p →
+    (s : Place) (k : ℕ) → IsKindNumber k → (p : Places.Place) → s ≡ coded p →
     nextPlace (inPlace k s) (withinLimits (placeAfter k s)) (placeAfter k s) ≡ (placeLine p (kindNumbered k) >>= λ q. ok (coded q))
 unfolding placeLine nextPlace check _>>_ _>>=_
-place-line-is s k l h p e =
-    rw (e, in-place-is p k l h, place-after-is p k l h, within-is)
+place-line-is s k h p e =
+    rw (e, in-place-is p k h, place-after-is p k h, within-is)
     (go (Places.inPlace (kindNumbered k) p) (Places.withinLimits (Places.placeAfter (kindNumbered k) p)) _)
   where
     go :

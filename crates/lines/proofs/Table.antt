@@ -1,6 +1,6 @@
 -- Laws of the table of lines: a line that is taken has at least 4 bytes, its word is put and read back, and the table grows line by line.
 use mathlib.Core.Path.{_≡_, refl, sym, ap, subst, _∙_}
-use mathlib.Core.Bool.{Bool, true, false}
+use mathlib.Core.Bool.{Bool, true, false, _||_}
 use mathlib.Core.List.{List, [], _∷_}
 use mathlib.Core.Logic.{_⊎_, inl, inr, ⊎-elim}
 use mathlib.Core.Option.{Option, none, some}
@@ -8,18 +8,19 @@ use Prim.Native.Nat.{ℕ, _+_, _-_, _*_, _≤_, _<_}
 use native.Mathlib.Omega.{arith}
 use native.Mathlib.Numerals.{add-one}
 use native.Mathlib.Decide.{decLt}
+use lib.Dec.{leb, leb→le}
 use lib.ListN.{length, getD, drop, length-drop, length-set}
 use lib.Seq.{getD-drop, getD-set-same, getD-set-other, length-take-le}
-use Rattle.rules.specs.Base.{Name, bytes, bindOption}
+use Rattle.rules.specs.Base.{Name, bytes, bindOption, all}
 use Rattle.rules.specs.Base as Base
 use Rattle.rules.specs.Limits.{most-bytes, work-bytes}
 use Rattle.rules.specs.Text as Text
 use Rattle.rules.specs.Text.{upTo, fields}
 use Rattle.rules.specs.Grammar as Grammar
 use Rattle.rules.specs.Grammar.{Kind, form, kinds, kindOf, isFormed}
-use Rattle.rules.specs.Grammar.{Class, Field, Method, Requires, Ensures, Main, Var}
-use Rattle.rules.specs.Grammar.{Set, Let, New, Call, Return, Assert, Release, If, Else, Join, End}
-use Rattle.rules.proofs.Lists.{first-in, same-name}
+use Rattle.rules.specs.Grammar.{statement, If, condition, isKind}
+use Rattle.rules.proofs.Lists.{or-cases, first-in, same-name}
+use Rattle.rules.proofs.LineKinds.{every-kind, is-same}
 use Rattle.leaves.specs.Sets.{inSet, Found}
 use Rattle.leaves.specs.Words.{kindOr0}
 use Rattle.leaves.specs.declared.Set.the-variants.{LineEnd, FieldEnd}
@@ -66,27 +67,23 @@ word-is w k e = same-name _ _ (first-in _ kinds k e .1)
 abbrev Long : ℕ → List Name → Type 0
 Long n vs = (3 ≤ n) ⊎ ((2 ≤ n) × (vs ≡ [] → ⊥))
 
+if-long : (vs : List Name) → isFormed [] condition vs ≡ true → vs ≡ [] → ⊥
+unfolding Grammar.opened Text.isCondition
+if-long [] e = true-false (sym e)
+if-long (v ∷ vs) e = λ z. absurd (let y : _≡_ {A = ℕ} 0 1 = cc in omega arith)
+
+-- of 3 letters or more, or `if`
+long : Kind → Bool
+long k = leb 3 (length (bytes (form k .word))) || isKind (statement If) k
+
 long-word : (k : Kind) (vs : List Name) → isFormed (form k .operands) (form k .tail) vs ≡ true → Long (length (bytes (form k .word))) vs
-unfolding Grammar.opened bytes Text.isCondition
-long-word Class vs e = inl (omega arith)
-long-word Field vs e = inl (omega arith)
-long-word Method vs e = inl (omega arith)
-long-word Requires vs e = inl (omega arith)
-long-word Ensures vs e = inl (omega arith)
-long-word Main vs e = inl (omega arith)
-long-word Var vs e = inl (omega arith)
-long-word Set vs e = inl (omega arith)
-long-word Let vs e = inl (omega arith)
-long-word New vs e = inl (omega arith)
-long-word Call vs e = inl (omega arith)
-long-word Return vs e = inl (omega arith)
-long-word Assert vs e = inl (omega arith)
-long-word Release vs e = inl (omega arith)
-long-word If [] e = true-false (sym e)
-long-word If (v ∷ vs) e = inr (omega arith, λ z. absurd (let y : _≡_ {A = ℕ} 0 1 = cc in omega arith))
-long-word Else vs e = inl (omega arith)
-long-word Join vs e = inl (omega arith)
-long-word End vs e = inl (omega arith)
+unfolding Grammar.opened bytes all long
+long-word k vs e =
+    ⊎-elim (λ h. inl (leb→le 3 _ h))
+    (λ h. let z : statement If ≡ k = is-same (statement If) k h in
+    subst (λ k. isFormed (form k .operands) (form k .tail) vs ≡ true → Long (length (bytes (form k .word))) vs) z
+    (λ e. inr (omega arith, if-long vs e)) e)
+    (or-cases (leb 3 (length (bytes (form k .word)))) (isKind (statement If) k) (every-kind long tt k))
 
 -- the word of a line ends at its LF or before it
 word-before : (t : List ℕ) (a r e : ℕ) → Found t a FieldEnd r → a ≤ e → getD t e 0 ≡ 10 → r ≤ e

@@ -6,7 +6,7 @@ use Prim.Native.Nat.{ℕ, _+_, _*_, _/_, _%_}
 use lib.Dec.{eqb, leb, ltb}
 use Rattle.rules.specs.Base.{between}
 use Rattle.rules.specs.Limits.{most-classes, most-fields, most-methods, most-locals, most-statements}
-use Rattle.rules.specs.Grammar.{form}
+use Rattle.rules.specs.Grammar.{form, first-statement}
 use Rattle.rules.specs.Places as Places
 use Rattle.rules.specs.Places.{Branch, beforeElse, afterElse, stageNumber, oneMoreIf}
 use Rattle.lines.specs.Rows.{kindNumbered}
@@ -75,7 +75,7 @@ placeAfter k s =
       fields = cond (eqb k 1) 0 (oneMoreIf (eqb k 2) (s .fields));
       methods = oneMoreIf (eqb k 3) (s .methods);
       locals = cond (eqb k 3 || eqb k 6) 0 (oneMoreIf (eqb k 7) (s .locals));
-      statements = oneMoreIf (leb 8 k) (s .statements);
+      statements = oneMoreIf (leb first-statement k) (s .statements);
     }
 
 unfoldable pub withinLimits : Place → Bool

@@ -8,7 +8,7 @@ use lib.ListN.{getD, drop, length}
 use Rattle.rules.specs.Base.{Name, bindOption, withDefault}
 use Rattle.rules.specs.Limits.{most-atoms}
 use Rattle.rules.specs.Text.{isName, isExpr, isFormula, isCondition}
-use Rattle.rules.specs.Grammar.{Kind, Operand, Tail, Form, End, form, kindOf, isFormed}
+use Rattle.rules.specs.Grammar.{Kind, Operand, Tail, Form, statement, End, form, kindOf, isFormed}
 use Rattle.rules.specs.Grammar.{new, typeName, className, variable, member, expression}
 use Rattle.rules.specs.Grammar.{classes, fields, methods, variables, read, assigned, field, method, nothing, condition, formula}
 use Rattle.rules.specs.Places.{stageNumber}
@@ -17,7 +17,7 @@ use Rattle.lines.specs.declared.Row.{Row}
 
 -- the kind with a number; `end` where there is none
 unfoldable pub kindNumbered : ℕ → Kind
-kindNumbered n = withDefault End (kindAt n)
+kindNumbered n = withDefault (statement End) (kindAt n)
 
 unfoldable pub operandNumber : Operand → ℕ
 operandNumber (new classes) = 1

@@ -9,7 +9,7 @@ ghost use lib.Dec.{eqb};
 ghost use lib.ListN.{length, getD};
 ghost use Rattle.rules.specs.Limits.{most-bytes, work-bytes, most-classes, most-fields, most-methods, most-locals};
 ghost use Rattle.rules.specs.Text.{isName, isExpr, isRel, isFormula, isCondition};
-ghost use Rattle.rules.specs.Grammar.{form};
+ghost use Rattle.rules.specs.Grammar.{form, first-statement, last-kind, IsKindNumber};
 ghost use Rattle.rules.specs.Places.{firstPlace, stageNumber};
 ghost use Rattle.lines.specs.Cuts.{NextField};
 ghost use Rattle.lines.specs.Rows.{kindNumbered, rowOf, rowNumber, fitsOperand, fitsTail};
@@ -230,7 +230,7 @@ pub struct Row {
 
 // From the right: four operands, tail, first stage, last stage, next stage.
 fn row_number(kind: u8) -> u32
-    requires { ⌜ (1 ≤ kind) × (kind ≤ 18) ⌝ }
+    requires { ⌜ IsKindNumber kind ⌝ }
     ensures { λ r. ⌜ r ≡ rowNumber (rowOf (form (kindNumbered kind))) ⌝ }
 {
     match kind {
@@ -256,7 +256,7 @@ fn row_number(kind: u8) -> u32
 }
 
 pub fn row_of(kind: u8) -> Row
-    requires { ⌜ (1 ≤ kind) × (kind ≤ 18) ⌝ }
+    requires { ⌜ IsKindNumber kind ⌝ }
     ensures { λ r. ⌜ r ≡ rowOf (form (kindNumbered kind)) ⌝ }
 {
     let n = row_number(kind);
@@ -285,7 +285,7 @@ fn tail_end(tail: u32, t: &[u8], r: usize) -> Fields
 
 // The fields after the word, which ends at `from`, if they are those of a line of this kind.
 fn fields_end(t: &[u8], from: usize, kind: u8) -> Fields
-    requires { ⌜ (from ≤ length (now t)) × ((1 ≤ kind) × (kind ≤ 18)) ⌝ }
+    requires { ⌜ (from ≤ length (now t)) × IsKindNumber kind ⌝ }
     ensures { λ f. ⌜ FieldsRead (formedAs kind) (now (t .entry)) from f ⌝ }
 {
     let row = row_of(kind);
@@ -314,7 +314,7 @@ fn first_word(t: &[u8], at: usize) -> Word
 
 // Where the fields of a line with this word end; a word of kind 0 begins none.
 fn line_fields(t: &[u8], w: Word) -> Fields
-    requires { ⌜ (w .end ≤ length (now t)) × (w .kind ≤ 18) ⌝ }
+    requires { ⌜ (w .end ≤ length (now t)) × (w .kind ≤ last-kind) ⌝ }
     ensures { λ f. ⌜ FieldsRead (formedAs (w .kind)) (now (t .entry)) (w .end) f ⌝ }
 {
     if w.kind == 0 {
@@ -381,7 +381,7 @@ fn fits(kind: u8, p: Place) -> bool
 }
 
 fn is_in_place(kind: u8, p: Place) -> bool
-    requires { ⌜ (1 ≤ kind) × (kind ≤ 18) ⌝ }
+    requires { ⌜ IsKindNumber kind ⌝ }
     ensures { λ r. ⌜ r ≡ inPlace kind p ⌝ }
 {
     let row = row_of(kind);
@@ -517,7 +517,7 @@ fn with_local(p: Place, stage: u32) -> Place
 
 // One statement more, which may open or close a branch or end the body.
 fn with_statement(p: Place, kind: u8, next: u32) -> Place
-    requires { ⌜ (8 ≤ kind) × (next ≡ stageNumber (form (kindNumbered kind) .next)) × (withinLimits p ≡ true) ⌝ }
+    requires { ⌜ (first-statement ≤ kind) × (next ≡ stageNumber (form (kindNumbered kind) .next)) × (withinLimits p ≡ true) ⌝ }
     ensures { λ r. ⌜ r ≡ placeAfter kind p ⌝ }
 {
     let stage = stage_after(kind, p.main, next);
@@ -535,7 +535,7 @@ fn with_statement(p: Place, kind: u8, next: u32) -> Place
 }
 
 pub fn place_after(kind: u8, p: Place) -> Place
-    requires { ⌜ ((1 ≤ kind) × (kind ≤ 18)) × (withinLimits p ≡ true) ⌝ }
+    requires { ⌜ IsKindNumber kind × (withinLimits p ≡ true) ⌝ }
     ensures { λ r. ⌜ r ≡ placeAfter kind p ⌝ }
 {
     let row = row_of(kind);
@@ -588,7 +588,7 @@ fn next_place(in_place: bool, within: bool, next: Place) -> Placing
 
 // The place after a line of this kind.
 pub fn place_line(p: Place, kind: u8) -> Placing
-    requires { ⌜ ((1 ≤ kind) × (kind ≤ 18)) × (withinLimits p ≡ true) ⌝ }
+    requires { ⌜ IsKindNumber kind × (withinLimits p ≡ true) ⌝ }
     ensures { λ r. ⌜ PlacesLine p kind r ⌝ }
 {
     let q = place_after(kind, p);
@@ -627,7 +627,7 @@ enum ScannedLine {
 
 // The answer on a line of this kind with its LF at e.
 fn placed_line(p: Place, kind: u8, e: usize) -> ScannedLine
-    requires { ⌜ ((1 ≤ kind) × (kind ≤ 18)) × (withinLimits p ≡ true) ⌝ }
+    requires { ⌜ IsKindNumber kind × (withinLimits p ≡ true) ⌝ }
     ensures { λ r. ⌜ PlacesLineTo p kind e r ⌝ }
 {
     let a = place_line(p, kind);

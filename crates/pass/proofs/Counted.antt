@@ -4,11 +4,12 @@ use mathlib.Core.Bool.{Bool, true, false, cond, _||_}
 use Prim.Native.Nat.{ℕ, suc, _+_, _*_, _≤_, _<_}
 use native.Mathlib.Omega.{arith}
 use native.Mathlib.Numerals.{add-one}
+use lib.Dec.{T}
 use Rattle.rules.specs.Grammar as Grammar
-use Rattle.rules.specs.Grammar.{Kind, isKind, isStatement}
-use Rattle.rules.specs.Grammar.{Class, Field, Method, Requires, Ensures, Main, Var}
-use Rattle.rules.specs.Grammar.{Set, Let, New, Call, Return, Assert, Release, If, Else, Join, End}
-use Rattle.rules.specs.Grammar.{inClass, inBody}
+use Rattle.rules.specs.Grammar.{Kind, Statement, isKind, isStatement}
+use Rattle.rules.specs.Grammar.{Class, Field, Method, Requires, Ensures, Main, Var, statement, End}
+use Rattle.rules.specs.Grammar.{inClass, afterMethod, inBody, afterMain}
+use Rattle.rules.proofs.LineKinds.{is-same}
 use Rattle.rules.specs.Limits.{most-fields, most-locals, most-statements, most-atoms}
 use Rattle.rules.specs.Places as Places
 use Rattle.rules.specs.Places.{Place, firstPlace, stageNumber, inPlace, placeAfter, withinLimits, oneMoreIf}
@@ -68,21 +69,11 @@ above-on Requires a = record { classes = refl; count = refl; fields = refl; meth
 above-on Ensures a = record { classes = refl; count = refl; fields = refl; methods = refl }
 above-on Main a = record { classes = refl; count = refl; fields = refl; methods = refl }
 above-on Var a = record { classes = refl; count = refl; fields = refl; methods = refl }
-above-on Set a = record { classes = refl; count = refl; fields = refl; methods = refl }
-above-on Let a = record { classes = refl; count = refl; fields = refl; methods = refl }
-above-on New a = record { classes = refl; count = refl; fields = refl; methods = refl }
-above-on Call a = record { classes = refl; count = refl; fields = refl; methods = refl }
-above-on Return a = record { classes = refl; count = refl; fields = refl; methods = refl }
-above-on Assert a = record { classes = refl; count = refl; fields = refl; methods = refl }
-above-on Release a = record { classes = refl; count = refl; fields = refl; methods = refl }
-above-on If a = record { classes = refl; count = refl; fields = refl; methods = refl }
-above-on Else a = record { classes = refl; count = refl; fields = refl; methods = refl }
-above-on Join a = record { classes = refl; count = refl; fields = refl; methods = refl }
-above-on End a = record { classes = refl; count = refl; fields = refl; methods = refl }
+above-on (statement s) a = record { classes = refl; count = refl; fields = refl; methods = refl }
 
 result-on : (k : Kind) (c : Names) → c .result ≡ c .method → namesAfter k c .result ≡ namesAfter k c .method
 unfolding namesAfter withBlock moreLocals
-result-on k c e = go (isKind Method k) (isKind Var k) (isKind End k)
+result-on k c e = go (isKind Method k) (isKind Var k) (isKind (statement End) k)
   where
     go :
         (x y z : Bool) → let n : Names = cond x (withBlock true c) (cond y (moreLocals c) (cond z (withBlock false c) c)) in
@@ -183,11 +174,11 @@ module _ {p : Place} {v a : ℕ} (x : Staged p v a) (b : ℕ) where
         atoms = omega (arith, g, x .atoms, y .spare (p .main));
       }
 
-  staged-end : 5 ≤ stageNumber (p .stage) → stageNumber (p .stage) ≤ 6 → b ≤ a → Staged (placeAfter End p) 0 b
+  staged-end : 5 ≤ stageNumber (p .stage) → stageNumber (p .stage) ≤ 6 → b ≤ a → Staged (placeAfter (statement End) p) 0 b
   unfolding Places.opened Grammar.opened
   staged-end l h g = go (p .main) refl
     where
-      go : (m : Bool) → p .main ≡ m → Staged (placeAfter End p) 0 b
+      go : (m : Bool) → p .main ≡ m → Staged (placeAfter (statement End) p) 0 b
       go true e =
           record {
             locals = rw e;
@@ -206,6 +197,31 @@ module _ {p : Place} {v a : ℕ} (x : Staged p v a) (b : ℕ) where
             atoms = rw e (omega (arith, g, rw e at (x .atoms), rw e at (y .spare (p .main))));
           }
 
+staged-statement :
+    {p : Place} {a : ℕ} (c : Names) → Staged p (c .locals) a → (b : ℕ) (s : Statement) → inPlace (statement s) p ≡ true →
+    b ≤ a + cond (hasAtoms (statement s)) 8 0 → Staged (placeAfter (statement s) p) (namesAfter (statement s) c .locals) b
+unfolding Places.opened Grammar.opened namesAfter withBlock hasAtoms
+staged-statement {p} {a} c x b s i g = go (isKind (statement End) (statement s)) refl
+  where
+    few : (y : Bool) → cond y 8 0 ≤ 8
+    few true = omega arith
+    few false = omega arith
+
+    ends :
+        inPlace (statement End) p ≡ true → b ≤ a + cond (hasAtoms (statement End)) 8 0 →
+        Staged (placeAfter (statement End) p) (namesAfter (statement End) c .locals) b
+    ends i g = staged-end x b (stage-from (statement End) p i) (stage-to (statement End) p i) (omega arith)
+
+    go : (e : Bool) → isKind (statement End) (statement s) ≡ e → Staged (placeAfter (statement s) p) (namesAfter (statement s) c .locals) b
+    go true e =
+        subst
+        (λ k. inPlace k p ≡ true → b ≤ a + cond (hasAtoms k) 8 0 → Staged (placeAfter k p) (namesAfter k c .locals) b)
+        (is-same (statement End) (statement s) (subst T (sym e) tt)) ends i g
+    go false e =
+        staged-body x b (placeAfter (statement s) p) _ (stage-from (statement s) p i) (stage-to (statement s) p i)
+        (ap (λ y. cond y (cond (p .main) afterMain afterMethod) inBody) e) refl refl refl refl refl
+        (ap (λ y. cond y (withBlock false c) c .locals) e) (omega (arith, g, few (hasAtoms (statement s))))
+
 staged-on :
     {p : Place} {a : ℕ} (c : Names) → Staged p (c .locals) a → (b : ℕ) (k : Kind) → inPlace k p ≡ true →
     b ≤ a + cond (hasAtoms k) 8 0 → Staged (placeAfter k p) (namesAfter k c .locals) b
@@ -219,17 +235,7 @@ staged-on {p} c x b Requires i g = staged-requires x b (omega (arith, stage-from
 staged-on {p} c x b Ensures i g = staged-ensures x b (omega (arith, stage-from Ensures p i, stage-to Ensures p i)) g
 staged-on {p} c x b Main i g = staged-main x b (stage-to Main p i) (omega arith)
 staged-on {p} c x b Var i g = staged-var x b (omega (arith, stage-from Var p i, stage-to Var p i)) (omega arith)
-staged-on {p} c x b Set i g = staged-body x b (placeAfter Set p) (c .locals) (stage-from Set p i) (stage-to Set p i) refl refl refl refl refl refl refl (omega arith)
-staged-on {p} c x b Let i g = staged-body x b (placeAfter Let p) (c .locals) (stage-from Let p i) (stage-to Let p i) refl refl refl refl refl refl refl (omega arith)
-staged-on {p} c x b New i g = staged-body x b (placeAfter New p) (c .locals) (stage-from New p i) (stage-to New p i) refl refl refl refl refl refl refl (omega arith)
-staged-on {p} c x b Call i g = staged-body x b (placeAfter Call p) (c .locals) (stage-from Call p i) (stage-to Call p i) refl refl refl refl refl refl refl (omega arith)
-staged-on {p} c x b Return i g = staged-body x b (placeAfter Return p) (c .locals) (stage-from Return p i) (stage-to Return p i) refl refl refl refl refl refl refl (omega arith)
-staged-on {p} c x b Assert i g = staged-body x b (placeAfter Assert p) (c .locals) (stage-from Assert p i) (stage-to Assert p i) refl refl refl refl refl refl refl (omega arith)
-staged-on {p} c x b Release i g = staged-body x b (placeAfter Release p) (c .locals) (stage-from Release p i) (stage-to Release p i) refl refl refl refl refl refl refl (omega arith)
-staged-on {p} c x b If i g = staged-body x b (placeAfter If p) (c .locals) (stage-from If p i) (stage-to If p i) refl refl refl refl refl refl refl (omega arith)
-staged-on {p} c x b Else i g = staged-body x b (placeAfter Else p) (c .locals) (stage-from Else p i) (stage-to Else p i) refl refl refl refl refl refl refl (omega arith)
-staged-on {p} c x b Join i g = staged-body x b (placeAfter Join p) (c .locals) (stage-from Join p i) (stage-to Join p i) refl refl refl refl refl refl refl (omega arith)
-staged-on {p} c x b End i g = staged-end x b (stage-from End p i) (stage-to End p i) (omega arith)
+staged-on {p} c x b (statement s) i g = staged-statement c x b s i g
 
 module _ {place : Place} {p : Pass} (x : Counted place p) (k : Kind) (i : inPlace k place ≡ true) where
   pub counted-on : {q : Pass} → Counts p k q → Counted (placeAfter k place) q
@@ -287,17 +293,7 @@ module _ {place : Place} {p : Pass} (x : Counted place p) where
   header-room Ensures i e = omega (arith, x .methods, x .staged .methods, at-requires (place .stage) (omega (arith, stage-from Ensures place i, stage-to Ensures place i)) .methods)
   header-room Main i e = true-false (sym e)
   header-room Var i e = true-false (sym e)
-  header-room Set i e = true-false (sym e)
-  header-room Let i e = true-false (sym e)
-  header-room New i e = true-false (sym e)
-  header-room Call i e = true-false (sym e)
-  header-room Return i e = true-false (sym e)
-  header-room Assert i e = true-false (sym e)
-  header-room Release i e = true-false (sym e)
-  header-room If i e = true-false (sym e)
-  header-room Else i e = true-false (sym e)
-  header-room Join i e = true-false (sym e)
-  header-room End i e = true-false (sym e)
+  header-room (statement s) i e = true-false (sym e)
 
   body-atoms :
       (q : Place) → 5 ≤ stageNumber (place .stage) → stageNumber (place .stage) ≤ 6 → q .statements ≡ suc (place .statements) →
@@ -321,6 +317,20 @@ module _ {place : Place} {p : Pass} (x : Counted place p) where
   ensures-atoms h w r =
       omega (arith, x .staged .atoms, at-requires (place .stage) h .spare (place .main), limits (placeAfter Ensures place) w .methods, rw (x .staged .late (omega arith)) at r)
 
+  -- `end` has no atoms
+  statement-atoms :
+      (s : Statement) → let k = statement s in
+      inPlace k place ≡ true → withinLimits (placeAfter k place) ≡ true → atLeast (placeAfter k place) ≤ 256 → hasAtoms k ≡ true →
+      p .atoms + 8 ≤ 2552
+  unfolding Places.opened Grammar.opened hasAtoms
+  statement-atoms s i w r e = go (isKind (statement End) (statement s)) refl
+    where
+      go : (y : Bool) → isKind (statement End) (statement s) ≡ y → p .atoms + 8 ≤ 2552
+      go true z = true-false (sym (ap hasAtoms (is-same (statement End) (statement s) (subst T (sym z) tt)) ∙ e))
+      go false z =
+          body-atoms (placeAfter (statement s) place) (stage-from (statement s) place i) (stage-to (statement s) place i) refl refl
+          (ap (λ y. neededAt (cond y (cond (place .main) afterMain afterMethod) inBody) (place .main)) z) w r
+
   pub atoms-room :
       (k : Kind) → inPlace k place ≡ true → withinLimits (placeAfter k place) ≡ true → atLeast (placeAfter k place) ≤ 256 → hasAtoms k ≡ true →
       p .atoms + most-atoms ≤ most-atom-rows
@@ -332,14 +342,4 @@ module _ {place : Place} {p : Pass} (x : Counted place p) where
   atoms-room Ensures i w r e = ensures-atoms (omega (arith, stage-from Ensures place i, stage-to Ensures place i)) w r
   atoms-room Main i w r e = true-false (sym e)
   atoms-room Var i w r e = true-false (sym e)
-  atoms-room Set i w r e = true-false (sym e)
-  atoms-room Let i w r e = body-atoms (placeAfter Let place) (stage-from Let place i) (stage-to Let place i) refl refl refl w r
-  atoms-room New i w r e = true-false (sym e)
-  atoms-room Call i w r e = true-false (sym e)
-  atoms-room Return i w r e = true-false (sym e)
-  atoms-room Assert i w r e = body-atoms (placeAfter Assert place) (stage-from Assert place i) (stage-to Assert place i) refl refl refl w r
-  atoms-room Release i w r e = body-atoms (placeAfter Release place) (stage-from Release place i) (stage-to Release place i) refl refl refl w r
-  atoms-room If i w r e = body-atoms (placeAfter If place) (stage-from If place i) (stage-to If place i) refl refl refl w r
-  atoms-room Else i w r e = true-false (sym e)
-  atoms-room Join i w r e = body-atoms (placeAfter Join place) (stage-from Join place i) (stage-to Join place i) refl refl refl w r
-  atoms-room End i w r e = true-false (sym e)
+  atoms-room (statement s) i w r e = statement-atoms s i w r e

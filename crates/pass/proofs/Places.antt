@@ -8,7 +8,7 @@ use lib.ListN.{length}
 use Rattle.rules.specs.Base.{Name}
 use Rattle.rules.specs.Limits.{most-bytes, most-classes, most-methods, work-bytes}
 use Rattle.rules.specs.Answers.{accepted}
-use Rattle.rules.specs.Grammar.{Kind, Line, Stage, Method, Var, End, isKind}
+use Rattle.rules.specs.Grammar.{Kind, Line, Stage, Method, Var, statement, End, isKind}
 use Rattle.rules.specs.Grammar.{beginning, inClass, afterMethod, afterHeader, afterRequires, inLocals, inBody, afterMain}
 use Rattle.rules.specs.Places as Places
 use Rattle.rules.specs.Places.{Place, firstPlace, inPlace, placeAfter, withinLimits, scanLines}
@@ -33,7 +33,7 @@ pub record Sized (c : Names) : Type 0 where
 
 sized-on : (k : Kind) (c : Names) → Sized c → Sized (namesAfter k c)
 unfolding namesAfter withBlock moreLocals
-sized-on k c x = go (isKind Method k) (isKind Var k) (isKind End k)
+sized-on k c x = go (isKind Method k) (isKind Var k) (isKind (statement End) k)
   where
     same : (d : Names) → d .classes ≡ c .classes → d .fields ≡ c .fields → d .methods ≡ c .methods → Sized d
     same d e f m = record { classes = omega (arith, x .classes); fields = omega (arith, x .fields); methods = omega (arith, x .methods) }

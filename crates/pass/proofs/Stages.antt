@@ -9,9 +9,8 @@ use borrow.Author.Tests.{eqb-true}
 use Rattle.rules.specs.Base.{Name, ok, between}
 use Rattle.rules.specs.Answers.{accepted, refused, malformed, limitPassed, textEnds}
 use Rattle.rules.specs.Grammar as Grammar
-use Rattle.rules.specs.Grammar.{Kind, Stage, Line, form}
-use Rattle.rules.specs.Grammar.{Class, Field, Method, Requires, Ensures, Main, Var}
-use Rattle.rules.specs.Grammar.{Set, Let, New, Call, Return, Assert, Release, If, Else, Join, End}
+use Rattle.rules.specs.Grammar.{Kind, Stage, Line, form, isKind}
+use Rattle.rules.specs.Grammar.{Class, Field, Method, Requires, Ensures, Main, Var, statement, End}
 use Rattle.rules.specs.Grammar.{beginning, inClass, afterMethod, afterHeader, afterRequires, inLocals, inBody, afterMain}
 use Rattle.rules.specs.Places as Places
 use Rattle.rules.specs.Places.{Place, stageNumber, fits, inPlace, placeAfter, placeLine, withinLimits, ended, scanLines}
@@ -207,15 +206,19 @@ module _ (p : Place) where
       neededAt (q .stage) (q .main) ≡ cond (p .main) 1 2 → atLeast p ≤ atLeast q
   body-on q l h s n = omega (arith, at-body (p .stage) l h .needed (p .main))
 
-  end-on : 5 ≤ stageNumber (p .stage) → stageNumber (p .stage) ≤ 6 → atLeast p ≤ atLeast (placeAfter End p)
-  unfolding Places.opened Grammar.opened
-  end-on l h = go (p .main) (at-body (p .stage) l h .needed (p .main))
+  -- e: the statement is `end`
+  statement-on :
+      (e : Bool) → 5 ≤ stageNumber (p .stage) → stageNumber (p .stage) ≤ 6 →
+      atLeast p ≤ suc (p .statements) + neededAt (cond e (cond (p .main) afterMain afterMethod) inBody) (p .main)
+  statement-on e l h = go e (p .main) (at-body (p .stage) l h .needed (p .main))
     where
       go :
-          (m : Bool) → neededAt (p .stage) (p .main) ≡ cond m 1 2 →
-          p .statements + neededAt (p .stage) (p .main) ≤ suc (p .statements) + neededAt (cond m afterMain afterMethod) (p .main)
-      go true e = omega arith
-      go false e = omega arith
+          (e m : Bool) → neededAt (p .stage) (p .main) ≡ cond m 1 2 →
+          atLeast p ≤ suc (p .statements) + neededAt (cond e (cond m afterMain afterMethod) inBody) (p .main)
+      go true true i = omega arith
+      go true false i = omega arith
+      go false true i = omega (arith, one-or-two (p .main))
+      go false false i = omega (arith, one-or-two (p .main))
 
   pub at-least-on : (k : Kind) → inPlace k p ≡ true → atLeast p ≤ atLeast (placeAfter k p)
   unfolding Places.opened Grammar.opened
@@ -226,17 +229,7 @@ module _ (p : Place) where
   at-least-on Ensures i = omega (arith, at-requires (p .stage) (omega (arith, stage-from Ensures p i, stage-to Ensures p i)) .needed (p .main))
   at-least-on Main i = outer-on (placeAfter Main p) (stage-to Main p i) refl (omega arith)
   at-least-on Var i = body-on (placeAfter Var p) (stage-from Var p i) (omega (arith, stage-to Var p i)) (omega arith) refl
-  at-least-on Set i = body-on (placeAfter Set p) (stage-from Set p i) (stage-to Set p i) (omega arith) refl
-  at-least-on Let i = body-on (placeAfter Let p) (stage-from Let p i) (stage-to Let p i) (omega arith) refl
-  at-least-on New i = body-on (placeAfter New p) (stage-from New p i) (stage-to New p i) (omega arith) refl
-  at-least-on Call i = body-on (placeAfter Call p) (stage-from Call p i) (stage-to Call p i) (omega arith) refl
-  at-least-on Return i = body-on (placeAfter Return p) (stage-from Return p i) (stage-to Return p i) (omega arith) refl
-  at-least-on Assert i = body-on (placeAfter Assert p) (stage-from Assert p i) (stage-to Assert p i) (omega arith) refl
-  at-least-on Release i = body-on (placeAfter Release p) (stage-from Release p i) (stage-to Release p i) (omega arith) refl
-  at-least-on If i = body-on (placeAfter If p) (stage-from If p i) (stage-to If p i) (omega arith) refl
-  at-least-on Else i = body-on (placeAfter Else p) (stage-from Else p i) (stage-to Else p i) (omega arith) refl
-  at-least-on Join i = body-on (placeAfter Join p) (stage-from Join p i) (stage-to Join p i) (omega arith) refl
-  at-least-on End i = end-on (stage-from End p i) (stage-to End p i)
+  at-least-on (statement s) i = statement-on (isKind (statement End) (statement s)) (stage-from (statement s) p i) (stage-to (statement s) p i)
 
   no-lines : (n : ℕ) (out : List Line) → withinLimits p ≡ true → scanLines [] n p ≡ accepted out → atLeast p ≤ 256
   unfolding scanLines ended coded stageNumber

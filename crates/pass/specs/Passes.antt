@@ -7,7 +7,7 @@ use lib.Dec.{eqb}
 use lib.ListN.{length, getD, drop}
 use Rattle.rules.specs.Limits.{work-bytes, most-bytes, most-fields, most-locals, most-statements, most-atoms}
 use Rattle.rules.specs.Syntax.{Field, Formula, Stmt, simple, if, else, join, end}
-use Rattle.rules.specs.Grammar.{Kind, Line, isKind, isStatement}
+use Rattle.rules.specs.Grammar.{Kind, Line, statement, isKind, isStatement}
 use Rattle.rules.specs.Grammar as Grammar
 use Rattle.rules.specs.Places.{oneMoreIf}
 use Rattle.rules.specs.Scope.{Declarations, Variable, Scope, operand, scopeAfter}
@@ -65,7 +65,7 @@ unfoldable pub namesAfter : Kind → Names → Names
 namesAfter k c =
     cond (isKind Grammar.Method k) (withBlock true c)
     (cond (isKind Grammar.Var k) (moreLocals c)
-    (cond (isKind Grammar.End k) (withBlock false c)
+    (cond (isKind (statement Grammar.End) k) (withBlock false c)
     c))
 
 -- what a line of this kind may name of it: "`requires` names only `this` and w"
@@ -84,8 +84,8 @@ seenBy k c =
 unfoldable pub hasAtoms : Kind → Bool
 hasAtoms k =
     (isKind Grammar.Requires k || isKind Grammar.Ensures k)
-    || ((isKind Grammar.Let k || isKind Grammar.If k)
-    || (isKind Grammar.Assert k || (isKind Grammar.Release k || isKind Grammar.Join k)))
+    || ((isKind (statement Grammar.Let) k || isKind (statement Grammar.If) k)
+    || (isKind (statement Grammar.Assert) k || (isKind (statement Grammar.Release) k || isKind (statement Grammar.Join) k)))
 
 -- before the first line
 abbrev pub firstPass : Names → Pass
@@ -102,7 +102,7 @@ firstPass r =
 
 -- number 10 is about these
 unfoldable pub isFramed : Kind → Bool
-isFramed k = isKind Grammar.Requires k || (isKind Grammar.Ensures k || isKind Grammar.Join k)
+isFramed k = isKind Grammar.Requires k || (isKind Grammar.Ensures k || isKind (statement Grammar.Join) k)
 
 unfoldable pub joinFormula : Stmt → Formula ℕ
 joinFormula (simple s) = []

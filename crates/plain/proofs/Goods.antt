@@ -1,5 +1,5 @@
 -- The tests of numbers 6, 7 and 9 of a line that has its form, by the kind of the line.
-use mathlib.Core.Path.{_≡_, refl, sym, ap, subst}
+use mathlib.Core.Path.{_≡_, refl, sym, ap, ap₂, subst, _∙_}
 use mathlib.Core.Bool.{Bool, true, false, not, cond, _&&_, _||_}
 use mathlib.Core.List.{List, [], _∷_}
 use mathlib.Core.Option.{some}
@@ -12,7 +12,7 @@ use Rattle.rules.specs.Base as Base
 use Rattle.rules.specs.Base.{Name, bytes, eqName, any, first, withDefault}
 use Rattle.rules.specs.Text.{formulaOf}
 use Rattle.rules.specs.Grammar as Grammar
-use Rattle.rules.specs.Grammar.{Kind, Operand, nothing, form, isOperand, isFormed, Set, New, Call, Return, Else, End}
+use Rattle.rules.specs.Grammar.{Kind, Operand, nothing, form, isOperand, isFormed, statement, Set, New, Call, Return, Else, End}
 use Rattle.rules.specs.Scope as Scopes
 use Rattle.rules.specs.Scope.{Declarations, Variable, Scope}
 use Rattle.rules.specs.Names as Names
@@ -21,6 +21,8 @@ use Rattle.leaves.proofs.Search.{both-true, true-false}
 use Rattle.declare.specs.Declares.{lineWith}
 use Rattle.pass.specs.Passes.{isGood}
 use Rattle.declared.specs.Types.{good}
+use Rattle.atoms.specs.Good.{fitsAtom}
+use Rattle.atoms.proofs.Goods.{formula-good}
 use Rattle.plain.specs.Plain.{setGood, newGood, callApart, callKnown, callAgrees, callGood, returnGood}
 
 -- FORM: a line of operands alone has as many fields
@@ -64,7 +66,7 @@ module _ (Γ : Declarations) (vs : List Variable) (s : Scope) where
   set-shuffle true true true true false = refl
   set-shuffle true true true true true = refl
 
-  set-three : (ws : List Name) → length ws ≡ 3 → isGood Γ vs s (lineWith Set ws) ≡ setGood Γ vs ws
+  set-three : (ws : List Name) → length ws ≡ 3 → isGood Γ vs s (lineWith (statement Set) ws) ≡ setGood Γ vs ws
   unfolding Base.all Grammar.opened Scopes.opened Names.opened formulaOf isGood setGood good
   set-three [] e = absurd (omega arith)
   set-three (x ∷ []) e = absurd (omega arith)
@@ -85,7 +87,7 @@ module _ (Γ : Declarations) (vs : List Variable) (s : Scope) where
   new-shuffle false k e true h = true-false (sym (h refl))
   new-shuffle false k e false h = refl
 
-  new-two : (ws : List Name) → length ws ≡ 2 → isGood Γ vs s (lineWith New ws) ≡ newGood Γ vs ws
+  new-two : (ws : List Name) → length ws ≡ 2 → isGood Γ vs s (lineWith (statement New) ws) ≡ newGood Γ vs ws
   unfolding Base.all Grammar.opened Scopes.opened Names.allKnown Names.known Names.allTyped Names.ofClass Names.sidesAgree Names.allAssignable Names.mayBeAssigned Names.callApart formulaOf isGood newGood
   new-two [] e = absurd (omega arith)
   new-two (x ∷ []) e = absurd (omega arith)
@@ -117,7 +119,7 @@ module _ (Γ : Declarations) (vs : List Variable) (s : Scope) where
   call-shuffle true true true true true true true false h = refl
   call-shuffle true true true true true true true true h = refl
 
-  call-four : (ws : List Name) → length ws ≡ 4 → isGood Γ vs s (lineWith Call ws) ≡ callGood Γ vs ws
+  call-four : (ws : List Name) → length ws ≡ 4 → isGood Γ vs s (lineWith (statement Call) ws) ≡ callGood Γ vs ws
   unfolding Base.all Grammar.opened Scopes.opened Names.allKnown Names.known Names.allTyped Names.ofClass Names.sidesAgree Names.callAgrees Names.allAssignable Names.mayBeAssigned Names.callApart formulaOf isGood callGood callApart callKnown callAgrees
   call-four [] e = absurd (omega arith)
   call-four (x ∷ []) e = absurd (omega arith)
@@ -135,46 +137,45 @@ module _ (Γ : Declarations) (vs : List Variable) (s : Scope) where
   return-shuffle true false = refl
   return-shuffle false e = refl
 
-  return-one : (ws : List Name) → length ws ≡ 1 → isGood Γ vs s (lineWith Return ws) ≡ returnGood Γ vs ws
+  return-one : (ws : List Name) → length ws ≡ 1 → isGood Γ vs s (lineWith (statement Return) ws) ≡ returnGood Γ vs ws
   unfolding Base.all Grammar.opened Scopes.opened Names.allKnown Names.known Names.allTyped Names.ofClass Names.sidesAgree Names.allAssignable Names.mayBeAssigned Names.callApart formulaOf isGood returnGood
   return-one [] e = absurd (omega arith)
   return-one (x ∷ []) e = return-shuffle (inScope vs x) (eqName (variableType vs x) (variableType vs (bytes "result")))
   return-one (x ∷ y ∷ ws) e = absurd (omega arith)
 
-  else-none : (ws : List Name) → length ws ≡ 0 → isGood Γ vs s (lineWith Else ws) ≡ true
-  unfolding Base.all Grammar.opened Scopes.opened Names.allKnown Names.allTyped Names.sidesAgree Names.allAssignable Names.callApart formulaOf isGood
-  else-none [] e = refl
-  else-none (x ∷ ws) e = absurd (omega arith)
-
-  end-none : (ws : List Name) → length ws ≡ 0 → isGood Γ vs s (lineWith End ws) ≡ true
-  unfolding Base.all Grammar.opened Scopes.opened Names.allKnown Names.allTyped Names.sidesAgree Names.allAssignable Names.callApart formulaOf isGood
-  end-none [] e = refl
-  end-none (x ∷ ws) e = absurd (omega arith)
-
   -- WITH ITS FORM
   abbrev Formed : Kind → List Name → Type 0
   Formed k ws = isFormed (form k .operands) (form k .tail) ws ≡ true
 
-  pub set-good : (ws : List Name) → Formed Set ws → isGood Γ vs s (lineWith Set ws) ≡ setGood Γ vs ws
+  pub set-good : (ws : List Name) → Formed (statement Set) ws → isGood Γ vs s (lineWith (statement Set) ws) ≡ setGood Γ vs ws
   unfolding Grammar.opened
-  set-good ws e = set-three ws (formed-length (form Set .operands) ws e)
+  set-good ws e = set-three ws (formed-length (form (statement Set) .operands) ws e)
 
-  pub new-good : (ws : List Name) → Formed New ws → isGood Γ vs s (lineWith New ws) ≡ newGood Γ vs ws
+  pub new-good : (ws : List Name) → Formed (statement New) ws → isGood Γ vs s (lineWith (statement New) ws) ≡ newGood Γ vs ws
   unfolding Grammar.opened
-  new-good ws e = new-two ws (formed-length (form New .operands) ws e)
+  new-good ws e = new-two ws (formed-length (form (statement New) .operands) ws e)
 
-  pub call-good : (ws : List Name) → Formed Call ws → isGood Γ vs s (lineWith Call ws) ≡ callGood Γ vs ws
+  pub call-good : (ws : List Name) → Formed (statement Call) ws → isGood Γ vs s (lineWith (statement Call) ws) ≡ callGood Γ vs ws
   unfolding Grammar.opened
-  call-good ws e = call-four ws (formed-length (form Call .operands) ws e)
+  call-good ws e = call-four ws (formed-length (form (statement Call) .operands) ws e)
 
-  pub return-good : (ws : List Name) → Formed Return ws → isGood Γ vs s (lineWith Return ws) ≡ returnGood Γ vs ws
+  pub return-good : (ws : List Name) → Formed (statement Return) ws → isGood Γ vs s (lineWith (statement Return) ws) ≡ returnGood Γ vs ws
   unfolding Grammar.opened
-  return-good ws e = return-one ws (formed-length (form Return .operands) ws e)
+  return-good ws e = return-one ws (formed-length (form (statement Return) .operands) ws e)
 
-  pub else-good : (ws : List Name) → Formed Else ws → isGood Γ vs s (lineWith Else ws) ≡ true
-  unfolding Grammar.opened
-  else-good ws e = else-none ws (formed-length [] ws e)
+  -- a line that is its word alone
+  bare-good : (k : Kind) → form k .operands ≡ [] → form k .tail ≡ nothing → (ws : List Name) → Formed k ws → isGood Γ vs s (lineWith k ws) ≡ true
+  unfolding isGood formulaOf Base.all
+  bare-good k o t ws e = formula-good Γ vs s (lineWith k ws) o ∙ none ws (formed-length [] ws (sym (ap₂ (λ os u. isFormed os u ws) o t) ∙ e))
+    where
+      none : (ws : List Name) → length ws ≡ 0 → Base.all (fitsAtom Γ vs) (formulaOf ws) ≡ true
+      none [] e = refl
+      none (w ∷ ws) e = absurd (omega arith)
 
-  pub end-good : (ws : List Name) → Formed End ws → isGood Γ vs s (lineWith End ws) ≡ true
+  pub else-good : (ws : List Name) → Formed (statement Else) ws → isGood Γ vs s (lineWith (statement Else) ws) ≡ true
   unfolding Grammar.opened
-  end-good ws e = end-none ws (formed-length [] ws e)
+  else-good = bare-good (statement Else) refl refl
+
+  pub end-good : (ws : List Name) → Formed (statement End) ws → isGood Γ vs s (lineWith (statement End) ws) ≡ true
+  unfolding Grammar.opened
+  end-good = bare-good (statement End) refl refl

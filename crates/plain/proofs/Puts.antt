@@ -66,7 +66,7 @@ module _ (t w : List ℕ) (c : Counts.Names) (fits : Fits c) (l : ℕ) (ws : Lis
   pub plain-good :
       (s : Scope) (k : ℕ) → isPlain k ≡ true → isFormed (form (kindNumbered k) .operands) (form (kindNumbered k) .tail) ws ≡ true →
       isGood Γ vs s (lineWith (kindNumbered k) ws) ≡ plainGood Γ vs ws k
-  unfolding kindNumbered kindAt Base.withDefault Base.first Grammar.kindNumber plainGood
+  unfolding kindNumbered kindAt Base.withDefault Base.first Grammar.kindNumber Grammar.statementNumber plainGood
   plain-good s k e =
       plain-kinds
       (λ k.
@@ -90,14 +90,14 @@ module _ (t w : List ℕ) (c : Counts.Names) (fits : Fits c) (l : ℕ) (ws : Lis
       (λ x. let o = new-ok t w c fits 0 l ws x in small (rowOf 10) (omega (arith, o .class refl, fits .classes)) line o)
       (λ x. let o = call-ok t w c fits 0 l ws x in small (rowOf 11) (omega (arith, o .method refl, fits .methods)) line o)
       (λ x. small (rowOf 12) (omega arith) line (return-ok t w c fits 0 l ws x))
-      (λ x. small (rowOf 16) (omega arith) line (empty-ok t w c fits 0 l 16 (omega arith) (omega arith) (omega arith)))
-      (λ x. small (rowOf 18) (omega arith) line (empty-ok t w c fits 0 l 18 (omega arith) (omega arith) (omega arith)))
+      (λ x. small (rowOf 16) (omega arith) line (empty-ok t w c fits 0 l 16 (omega arith, omega arith) (omega arith)))
+      (λ x. small (rowOf 18) (omega arith) line (empty-ok t w c fits 0 l 18 (omega arith, omega arith) (omega arith)))
 
   plain-written :
       (F : Program) (n : ℕ) → length (F .rows) < most-statements → Holds (counts c) w F n → (k : ℕ) → isPlain k ≡ true → GoodOf k →
       Holds (counts c) (putRow w (length (F .rows)) (rowOf k))
       (withItem F l (itemOf Γ vs (kindNumbered k) (lineWith (kindNumbered k) ws))) n
-  unfolding kindNumbered kindAt Base.withDefault Base.first Grammar.kindNumber plainRow plainGood
+  unfolding kindNumbered kindAt Base.withDefault Base.first Grammar.kindNumber Grammar.statementNumber plainRow plainGood
   plain-written F n room h k e =
       plain-kinds
       (λ k.

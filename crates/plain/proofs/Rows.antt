@@ -11,7 +11,7 @@ use borrow.Author.Tests.{ltb-true, not-true}
 use Rattle.rules.specs.Base.{Name, any, eqName}
 use Rattle.rules.specs.Limits.{most-statements}
 use Rattle.rules.specs.Text.{reserved}
-use Rattle.rules.specs.Grammar.{Kind, Set, New, Call, Return, Else, End}
+use Rattle.rules.specs.Grammar.{Kind, IsStatementNumber, statement, Set, New, Call, Return, Else, End}
 use Rattle.rules.specs.Scope as Scopes
 use Rattle.rules.specs.Scope.{Declarations, Variable}
 use Rattle.rules.specs.Names as Names
@@ -59,11 +59,11 @@ module _ (t w : List ℕ) (c : Counts.Names) (fits : Fits c) (n l : ℕ) where
 
   -- a row of this kind without atoms
   bare-ok :
-      (k x y z m : ℕ) → 8 ≤ k → k ≤ 18 → (k ≡ 9 → ⊥) → (k ≡ 15 → ⊥) → x < frame-variables → y < frame-variables → z < frame-variables →
+      (k x y z m : ℕ) → IsStatementNumber k → (k ≡ 9 → ⊥) → (k ≡ 15 → ⊥) → x < frame-variables → y < frame-variables → z < frame-variables →
       (k ≡ 8 → m < most-names) → (k ≡ 10 → m < c .classes) → (k ≡ 11 → m < c .methods) → RowOk (counts c) n (bare k x y z m l)
-  bare-ok k x y z m a b no-let no-if p q r f g h =
+  bare-ok k x y z m is no-let no-if p q r f g h =
       record {
-        kind = (a, b);
+        kind = is;
         x = p;
         y = q;
         z = r;
@@ -109,7 +109,7 @@ module _ (t w : List ℕ) (c : Counts.Names) (fits : Fits c) (n l : ℕ) where
       let p = both-true (inScope vs u && knownField Γ vs u v) (not (isInt vs u)) (a .0) in
       let b = both-true (inScope vs u) (knownField Γ vs u v) (p .0) in
       let d = both-true (inScope vs (getD ws 2 [])) _ (a .1) in
-      bare-ok 8 _ _ _ _ (omega arith) (omega arith) (λ e. omega arith) (λ e. omega arith) (variable-small t w c fits u (b .0))
+      bare-ok 8 _ _ _ _ (omega arith, omega arith) (λ e. omega arith) (λ e. omega arith) (variable-small t w c fits u (b .0))
       (variable-small t w c fits (getD ws 2 []) (d .0)) (omega arith) (λ i. field-known u v (b .1) (p .1)) (λ i. absurd (omega arith)) (λ i. absurd (omega arith))
 
   pub new-ok : (ws : List Name) → newGood Γ vs ws ≡ true → RowOk (counts c) n (newRow Γ vs ws l)
@@ -117,7 +117,7 @@ module _ (t w : List ℕ) (c : Counts.Names) (fits : Fits c) (n l : ℕ) where
   new-ok ws e =
       let a = both-true (isLocal (variableNumber vs (getD ws 0 []))) _ e in
       let b = both-true (isClass Γ (getD ws 1 [])) _ (a .1) in
-      bare-ok 10 _ _ _ _ (omega arith) (omega arith) (λ e. omega arith) (λ e. omega arith)
+      bare-ok 10 _ _ _ _ (omega arith, omega arith) (λ e. omega arith) (λ e. omega arith)
       (variable-small t w c fits (getD ws 0 []) (local-known vs (getD ws 0 []) (a .0)))
       (omega arith) (omega arith) (λ i. absurd (omega arith)) (λ i. class-known (getD ws 1 []) (b .0)) (λ i. absurd (omega arith))
 
@@ -125,7 +125,7 @@ module _ (t w : List ℕ) (c : Counts.Names) (fits : Fits c) (n l : ℕ) where
   unfolding returnGood returnRow
   return-ok ws e =
       let a = both-true (inScope vs (getD ws 0 [])) _ e in
-      bare-ok 12 _ _ _ _ (omega arith) (omega arith) (λ e. omega arith) (λ e. omega arith) (variable-small t w c fits (getD ws 0 []) (a .0))
+      bare-ok 12 _ _ _ _ (omega arith, omega arith) (λ e. omega arith) (λ e. omega arith) (variable-small t w c fits (getD ws 0 []) (a .0))
       (omega arith) (omega arith) (λ i. absurd (omega arith)) (λ i. absurd (omega arith)) (λ i. absurd (omega arith))
 
   pub call-ok : (ws : List Name) → callGood Γ vs ws ≡ true → RowOk (counts c) n (callRow Γ vs ws l)
@@ -137,14 +137,14 @@ module _ (t w : List ℕ) (c : Counts.Names) (fits : Fits c) (n l : ℕ) where
       let d = both-true (inScope vs (getD ws 3 [])) _ (b .1) in
       let k = both-true (callKnown Γ vs ws) _ (g .1) in
       let m = both-true (not (isInt vs (getD ws 1 []))) _ (k .0) in
-      bare-ok 11 _ _ _ _ (omega arith) (omega arith) (λ e. omega arith) (λ e. omega arith)
+      bare-ok 11 _ _ _ _ (omega arith, omega arith) (λ e. omega arith) (λ e. omega arith)
       (variable-small t w c fits (getD ws 0 []) (local-known vs (getD ws 0 []) (a .0)))
       (variable-small t w c fits (getD ws 1 []) (b .0)) (variable-small t w c fits (getD ws 3 []) (d .0)) (λ i. absurd (omega arith)) (λ i. absurd (omega arith))
       (λ j. method-known (getD ws 1 []) (getD ws 2 []) (m .1) (m .0))
 
-  pub empty-ok : (k : ℕ) → 8 ≤ k → k ≤ 18 → 15 < k → RowOk (counts c) n (bare k 0 0 0 0 l)
-  empty-ok k a b d =
-      bare-ok k 0 0 0 0 a b (λ e. omega arith) (λ e. omega arith) (omega arith) (omega arith) (omega arith) (λ i. absurd (omega arith))
+  pub empty-ok : (k : ℕ) → IsStatementNumber k → 15 < k → RowOk (counts c) n (bare k 0 0 0 0 l)
+  empty-ok k h d =
+      bare-ok k 0 0 0 0 h (λ e. omega arith) (λ e. omega arith) (omega arith) (omega arith) (omega arith) (λ i. absurd (omega arith))
       (λ i. absurd (omega arith)) (λ i. absurd (omega arith))
 
   -- WHAT IS WRITTEN: the row of a good line is the line's item
@@ -153,31 +153,31 @@ module _ (t w : List ℕ) (c : Counts.Names) (fits : Fits c) (n l : ℕ) where
     abbrev Written : Operands → Kind → List Name → Type 0
     Written r k ws = Holds (counts c) (putRow w (length (F .rows)) r) (withItem F l (itemOf Γ vs k (lineWith k ws))) n
 
-    pub set-written : (ws : List Name) → setGood Γ vs ws ≡ true → Written (setRow Γ vs ws l) Set ws
-    unfolding itemOf Items.resolveSet Scopes.operand setRow
+    pub set-written : (ws : List Name) → setGood Γ vs ws ≡ true → Written (setRow Γ vs ws l) (statement Set) ws
+    unfolding itemOf Items.resolveStatement Items.resolveSet Scopes.operand setRow
     set-written ws x = row-written (counts c) w F n (setRow Γ vs ws l) _ room (set-ok ws x) (set-means w (setRow Γ vs ws l) refl) h
 
-    pub new-written : (ws : List Name) → newGood Γ vs ws ≡ true → Written (newRow Γ vs ws l) New ws
-    unfolding itemOf Scopes.operand newRow
+    pub new-written : (ws : List Name) → newGood Γ vs ws ≡ true → Written (newRow Γ vs ws l) (statement New) ws
+    unfolding itemOf Items.resolveStatement Scopes.operand newRow
     new-written ws x = row-written (counts c) w F n (newRow Γ vs ws l) _ room (new-ok ws x) (new-means w (newRow Γ vs ws l) refl) h
 
-    pub call-written : (ws : List Name) → callGood Γ vs ws ≡ true → Written (callRow Γ vs ws l) Call ws
-    unfolding itemOf Items.resolveCall Scopes.operand callRow
+    pub call-written : (ws : List Name) → callGood Γ vs ws ≡ true → Written (callRow Γ vs ws l) (statement Call) ws
+    unfolding itemOf Items.resolveStatement Items.resolveCall Scopes.operand callRow
     call-written ws x = row-written (counts c) w F n (callRow Γ vs ws l) _ room (call-ok ws x) (call-means w (callRow Γ vs ws l) refl) h
 
-    pub return-written : (ws : List Name) → returnGood Γ vs ws ≡ true → Written (returnRow Γ vs ws l) Return ws
-    unfolding itemOf Scopes.operand returnRow
+    pub return-written : (ws : List Name) → returnGood Γ vs ws ≡ true → Written (returnRow Γ vs ws l) (statement Return) ws
+    unfolding itemOf Items.resolveStatement Scopes.operand returnRow
     return-written ws x =
         row-written (counts c) w F n (returnRow Γ vs ws l) _ room (return-ok ws x) (return-means w (returnRow Γ vs ws l) refl) h
 
-    pub else-written : (ws : List Name) → Written (bare 16 0 0 0 0 l) Else ws
-    unfolding itemOf
+    pub else-written : (ws : List Name) → Written (bare 16 0 0 0 0 l) (statement Else) ws
+    unfolding itemOf Items.resolveStatement
     else-written ws =
-        row-written (counts c) w F n (bare 16 0 0 0 0 l) _ room (empty-ok 16 (omega arith) (omega arith) (omega arith))
+        row-written (counts c) w F n (bare 16 0 0 0 0 l) _ room (empty-ok 16 (omega arith, omega arith) (omega arith))
         (else-means w (bare 16 0 0 0 0 l) refl) h
 
-    pub end-written : (ws : List Name) → Written (bare 18 0 0 0 0 l) End ws
-    unfolding itemOf
+    pub end-written : (ws : List Name) → Written (bare 18 0 0 0 0 l) (statement End) ws
+    unfolding itemOf Items.resolveStatement
     end-written ws =
-        row-written (counts c) w F n (bare 18 0 0 0 0 l) _ room (empty-ok 18 (omega arith) (omega arith) (omega arith))
+        row-written (counts c) w F n (bare 18 0 0 0 0 l) _ room (empty-ok 18 (omega arith, omega arith) (omega arith))
         (end-means w (bare 18 0 0 0 0 l) refl) h

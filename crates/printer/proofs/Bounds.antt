@@ -15,13 +15,13 @@ use Rattle.rules.specs.Syntax.{Expr, Formula, Stmt, Simple, Row, Method, Progra
 use Rattle.rules.specs.Syntax.{set, assign, new, call, return, assert, release, simple, if, else, join, end}
 use Rattle.rules.specs.Text.{lines, onto, isExpr, exprOf, numeral, hasStop, beforeStop, afterStop, isNumber, number, isNegative, isDigits, decimal}
 use Rattle.rules.specs.Grammar as Grammar
-use Rattle.rules.specs.Grammar.{Kind, Line}
-use Rattle.rules.specs.Grammar.{Class, Field, Requires, Ensures, Main, Var}
+use Rattle.rules.specs.Grammar.{Kind, Statement, Line}
+use Rattle.rules.specs.Grammar.{Class, Field, Requires, Ensures, Main, Var, statement}
 use Rattle.rules.specs.Grammar.{Set, Let, New, Call, Return, Assert, Release, If, Else, Join, End}
 use Rattle.rules.specs.Places.{Place, firstPlace, scanLine, scanLines, ended}
 use Rattle.rules.specs.Scope.{Declarations, Variable, Scope, operand, declarations, firstScope, scopeAfter}
 use Rattle.rules.specs.Items.{Item, aClass, aField, aMethod, aRequires, anEnsures, aMain, aLocal, aStatement}
-use Rattle.rules.specs.Items.{resolveExpr, itemOf, resolveLine, resolveLines}
+use Rattle.rules.specs.Items.{resolveExpr, resolveStatement, itemOf, resolveLine, resolveLines}
 use Rattle.rules.specs.Reading.{readText, framedItem, checkFramed, noProgram, withItem, withItems, program}
 use Rattle.rules.specs.State.{State}
 use Rattle.rules.specs.Rules.{Open, inFirst, inSecond, checkRow, checkRows, checkFrom, elseRow, joinRow, endRow, checkMethod, checkBlocks, checkProgram}
@@ -221,15 +221,31 @@ module _ (Γ : Declarations) (vs : List Variable) where
       go true x h = number-small w h
       go false x h = other (hasStop w) (Base.is "null" w)
 
-  let-small : (ws : List Name) → HasForm (lineOf Let ws) → SmallExpr (resolveExpr Γ vs (exprOf (operand (lineOf Let ws) 1)))
+  let-small : (ws : List Name) → HasForm (lineOf (statement Let) ws) → SmallExpr (resolveExpr Γ vs (exprOf (operand (lineOf (statement Let) ws) 1)))
   unfolding Grammar.opened operand
   let-small [] h = absurd h
   let-small (u ∷ []) h = absurd (and-both (Rattle.rules.specs.Text.isName u) false h .1)
   let-small (u ∷ w ∷ ws) h =
       expr-small w (and-both (isExpr w) (eqb (length ws) 0) (and-both (Rattle.rules.specs.Text.isName u) _ h .1) .0)
 
+  statement-small :
+      (a : Statement) (ws : List Name) → HasForm (lineOf (statement a) ws) →
+      SmallItem (aStatement (resolveStatement Γ vs a (lineOf (statement a) ws)))
+  unfolding resolveStatement Rattle.rules.specs.Items.resolveSet Rattle.rules.specs.Items.resolveCall Rattle.rules.specs.Items.resolveIf
+  statement-small Set ws h = tt
+  statement-small Let ws h = let-small ws h
+  statement-small New ws h = tt
+  statement-small Call ws h = tt
+  statement-small Return ws h = tt
+  statement-small Assert ws h = tt
+  statement-small Release ws h = tt
+  statement-small If ws h = tt
+  statement-small Else ws h = tt
+  statement-small Join ws h = tt
+  statement-small End ws h = tt
+
   item-small : (k : Kind) (ws : List Name) → HasForm (lineOf k ws) → SmallItem (itemOf Γ vs k (lineOf k ws))
-  unfolding itemOf Rattle.rules.specs.Items.resolveSet Rattle.rules.specs.Items.resolveCall Rattle.rules.specs.Items.resolveIf
+  unfolding itemOf
   item-small Class ws h = tt
   item-small Field ws h = tt
   item-small Grammar.Method ws h = tt
@@ -237,17 +253,7 @@ module _ (Γ : Declarations) (vs : List Variable) where
   item-small Ensures ws h = tt
   item-small Main ws h = tt
   item-small Var ws h = tt
-  item-small Set ws h = tt
-  item-small Let ws h = let-small ws h
-  item-small New ws h = tt
-  item-small Call ws h = tt
-  item-small Return ws h = tt
-  item-small Assert ws h = tt
-  item-small Release ws h = tt
-  item-small If ws h = tt
-  item-small Else ws h = tt
-  item-small Join ws h = tt
-  item-small End ws h = tt
+  item-small (statement a) ws h = statement-small a ws h
 
 pub items-small : (text : List Line) {p : Place} {s : Scope} {ls : List Line} {items : List Item} → TakenLines text p s ls items → All SmallItem items
 items-small text (none h) = tt

@@ -9,9 +9,8 @@ use Rattle.rules.specs.Base.{Name}
 use Rattle.rules.specs.Limits.{most-bytes}
 use Rattle.rules.specs.Answers.{accepted, refused, then, textTooLong, undeclared, wrongType, wrongTarget}
 use Rattle.rules.specs.Text.{lines}
-use Rattle.rules.specs.Grammar.{Kind, Line, kindNumber, isKind}
-use Rattle.rules.specs.Grammar.{Class, Field, Method, Requires, Ensures, Main, Var}
-use Rattle.rules.specs.Grammar.{Set, Let, New, Call, Return, Assert, Release, If, Else, Join, End}
+use Rattle.rules.specs.Grammar.{Kind, Line, kindNumber, isStatement, isKind}
+use Rattle.rules.specs.Grammar.{Class, Field, Method, Requires, Ensures, Main, Var, statement}
 use Rattle.rules.specs.Places.{firstPlace, scanLines}
 use Rattle.rules.specs.Scope.{Declarations, Variable, Scope, declarations, firstScope, scopeAfter, visible}
 use Rattle.rules.specs.Names.{allKnown, allTyped, allAssignable}
@@ -52,7 +51,7 @@ read-parts t items e = go (ltb most-bytes (length t)) e
 item-locals :
     (Γ : Declarations) (vs : List Variable) (xs : List Name) (k : Kind) (ws : List Name) →
     localsAfter xs (itemOf Γ vs k (lineWith k ws)) ≡ localsBy xs (lineWith k ws)
-unfolding localsAfter itemOf localsBy isKind kindNumber
+unfolding localsAfter itemOf localsBy isKind isStatement kindNumber
 item-locals Γ vs xs Class ws = refl
 item-locals Γ vs xs Field ws = refl
 item-locals Γ vs xs Method ws = refl
@@ -60,17 +59,7 @@ item-locals Γ vs xs Requires ws = refl
 item-locals Γ vs xs Ensures ws = refl
 item-locals Γ vs xs Main ws = refl
 item-locals Γ vs xs Var ws = refl
-item-locals Γ vs xs Set ws = refl
-item-locals Γ vs xs Let ws = refl
-item-locals Γ vs xs New ws = refl
-item-locals Γ vs xs Call ws = refl
-item-locals Γ vs xs Return ws = refl
-item-locals Γ vs xs Assert ws = refl
-item-locals Γ vs xs Release ws = refl
-item-locals Γ vs xs If ws = refl
-item-locals Γ vs xs Else ws = refl
-item-locals Γ vs xs Join ws = refl
-item-locals Γ vs xs End ws = refl
+item-locals Γ vs xs (statement a) ws = refl
 
 resolved-locals :
     (Γ : Declarations) (ls : List Line) (n : ℕ) (s : Scope) (items : List Item) (xs : List Name) →

@@ -11,7 +11,7 @@ use borrow.Author.Tests.{leb-true}
 use Rattle.rules.specs.Base.{Name, bytes}
 use Rattle.rules.specs.Text.{isName}
 use Rattle.rules.specs.Grammar as Grammar
-use Rattle.rules.specs.Grammar.{Line, Method, Main, Var, kindNumber, isKind, isFormed, form}
+use Rattle.rules.specs.Grammar.{Line, Method, Main, Var, kindNumber, isStatement, isKind, isFormed, form}
 use Rattle.rules.specs.Scope.{operand}
 use Rattle.rules.specs.Places.{firstPlace, Place, placeAfter, withinLimits, oneMoreIf}
 use Rattle.rules.specs.Printed.{printedLine, signed, printedVariables}
@@ -109,11 +109,11 @@ module _ (a : ℕ) (b : List ℕ) (l : Line) (o : List ℕ) (s : Shown) where
       }
 
   pub goes-method : l .kind ≡ Method → Goes a b l o s o (fresh a)
-  unfolding localsBy isKind kindNumber
+  unfolding localsBy isKind isStatement kindNumber
   goes-method e = goes-empty (λ xs. rw e)
 
   pub goes-main : l .kind ≡ Main → Goes a b l o s o (fresh a)
-  unfolding localsBy isKind kindNumber
+  unfolding localsBy isKind isStatement kindNumber
   goes-main e = goes-empty (λ xs. rw e)
 
   pub goes-none :
@@ -125,7 +125,7 @@ module _ (a : ℕ) (b : List ℕ) (l : Line) (o : List ℕ) (s : Shown) where
 pub goes-local :
     (a : ℕ) (b : List ℕ) (ws : List Name) (o : List ℕ) (s : Shown) (o′ : List ℕ) (r : Shown) → s .count < 12 →
     ShowsLocal b (getD ws 1 []) o s o′ r → Goes a b (lineWith Var ws) o s o′ r
-unfolding localsBy isKind kindNumber operand
+unfolding localsBy isKind isStatement kindNumber operand
 goes-local a b ws o s o′ r h y =
     record {
       size = y .bytes .size;
@@ -181,7 +181,7 @@ locals-counted xs l p e = go (isKind Method (l .kind) || isKind Main (l .kind)) 
     go false false = e
 
 one-local : (xs : List Name) (l : Line) → l .kind ≡ Var → length (localsBy xs l) ≡ length xs + 1
-unfolding localsBy isKind kindNumber
+unfolding localsBy isKind isStatement kindNumber
 one-local xs l e =
     ap (λ k. length (cond (isKind Method k || isKind Main k) [] (cond (isKind Var k) (xs ++ (operand l 1 ∷ [])) xs))) e
     ∙ length-append xs (operand l 1 ∷ [])

@@ -8,14 +8,15 @@ use native.Mathlib.Omega.{arith}
 use Rattle.rules.specs.Limits.{work-bytes}
 use Rattle.rules.specs.Base.{ok, no}
 use Rattle.rules.specs.Answers as Answers
-use Rattle.rules.specs.Grammar.{Kind, Line, isKind, Requires, form, isFormed}
+use Rattle.rules.specs.Grammar.{Kind, Line, IsKindNumber, isKind, Requires, form, isFormed}
+use Rattle.rules.proofs.LineKinds.{kind-bounds}
 use Rattle.rules.specs.Scope.{Declarations, Variable, Scope, visible}
 use Rattle.rules.specs.Names.{allKnown, allTyped, allAssignable}
 use Rattle.rules.specs.Items.{itemOf, resolveLine}
 use Rattle.lines.specs.declared.Word.{Word}
 use Rattle.lines.specs.Rows.{kindNumbered}
 use Rattle.lines.specs.Table.{WordAt}
-use Rattle.lines.proofs.Rows.{kind-of-number, kind-bounds}
+use Rattle.lines.proofs.Rows.{kind-of-number}
 use Rattle.leaves.proofs.Search.{true-false}
 use Rattle.tables.specs.Layout.{names-at}
 use Rattle.tables.specs.Stores.{Kept}
@@ -38,7 +39,7 @@ use Rattle.reader.specs.Readings.{refusalOf, Begins, refusalHere}
 
 -- THE LINE BY ITS WORD
 module _ {t : List ℕ} {a : ℕ} {r : Word} (x : WordAt t a r) (f : FormedAt t a) where
-  pub word-bounds : (1 ≤ r .kind) × (r .kind ≤ 18)
+  pub word-bounds : IsKindNumber (r .kind)
   word-bounds = let b = kind-bounds (lineAt t a .kind) in (omega (arith, b .0, word-kind f x), omega (arith, b .1, word-kind f x))
 
   kind-is : kindNumbered (r .kind) ≡ lineAt t a .kind
@@ -53,15 +54,14 @@ module _ {t : List ℕ} {a : ℕ} {r : Word} (x : WordAt t a r) (f : FormedAt t 
       record {
         ready = y;
         high = x .high;
-        first = word-bounds .0;
-        last = word-bounds .1;
+        kind = word-bounds;
         formed = subst (λ (l : Line). isFormed (form (l .kind) .operands) (form (l .kind) .tail) (l .fields) ≡ true) (sym word-line) (f .formed);
       }
 
 -- as `judge` asks for it
 pub judged-formed : {t w : List ℕ} {p : Pass} {r : Word} → Begins t w p r → Tests.Formed (r .kind) (Tests.lineAfter t (r .end) (r .kind))
 unfolding Tests.formed Tests.lineAfter
-judged-formed x = record { first = x .first; last = x .last; is = x .formed }
+judged-formed x = record { kind = x .kind; is = x .formed }
 
 -- WHAT IT MAY NAME
 seen-declared : (t w : List ℕ) (k : Kind) (c : Names) → declarationsIn t w (seenBy k c) ≡ declarationsIn t w c

@@ -8,12 +8,13 @@ use lib.Dec.{eqb, eqb·suc-zero}
 use lib.ListN.{length, drop}
 use borrow.Author.Tests.{eqb-true, eqb-false}
 use Rattle.rules.specs.Syntax.{Formula}
-use Rattle.rules.specs.Grammar.{Kind, Line, Class, Main, kindNumber, isKind, form, isFormed}
+use Rattle.rules.specs.Grammar.{Kind, Line, Class, Requires, Ensures, Main, statement, Join, form, isFormed}
+use Rattle.rules.specs.Grammar.{first-statement, IsKindNumber, kindNumber, statementNumber, isStatement, isKind}
 use Rattle.rules.specs.Reading.{framed, framedItem}
 use Rattle.leaves.proofs.Search.{true-false, or-false}
 use Rattle.lines.specs.Cuts.{more}
 use Rattle.lines.specs.Rows.{kindNumbered}
-use Rattle.lines.proofs.Rows.{kind-of-number, number-of-kind}
+use Rattle.lines.proofs.Rows.{kind-of-number, kind-numbered}
 use Rattle.tables.specs.Decode.{atomsFrom}
 use Rattle.rules.specs.Syntax.{Program}
 use Rattle.lines.specs.declared.Word.{Word}
@@ -26,13 +27,13 @@ use Rattle.reader.specs.Readings.{Between, Written, Begins, LineTaken, u
 use Rattle.bodies.specs.Bodies.{Follows}
 
 -- the kinds that number 10 is about, by their numbers
-pub framed-number : (n : ℕ) → 1 ≤ n → n ≤ 18 → isFramed (kindNumbered n) ≡ (eqb 4 n || (eqb 5 n || eqb 17 n))
-unfolding isFramed isKind kindNumber
-framed-number n a b = rw (number-of-kind n a b)
+pub framed-number : (n : ℕ) → IsKindNumber n → isFramed (kindNumbered n) ≡ (eqb 4 n || (eqb 5 n || eqb 17 n))
+unfolding isFramed kindNumber statementNumber
+framed-number n h = let is = kind-numbered n h in rw (is Requires, is Ensures, is (statement Join))
 
 -- the kinds that it is not about, by theirs
 pub declares-unframed : (k : ℕ) → isDeclaration k ≡ true → isFramed (kindNumbered k) ≡ false
-unfolding isDeclaration isFramed isKind kindNumber
+unfolding isDeclaration isFramed isKind isStatement kindNumber
 declares-unframed k e = go (eqb k 1) (eqb k 6) refl refl e
   where
     is : (K : Kind) → k ≡ kindNumber K → isFramed K ≡ false → isFramed (kindNumbered k) ≡ false
@@ -44,10 +45,10 @@ declares-unframed k e = go (eqb k 1) (eqb k 6) refl refl e
     go false false p q e = true-false (sym e)
 
 -- of the kinds that are no statements, the last that is tried
-pub last-kind :
-    (k : ℕ) → 1 ≤ k → k < 8 → (k ≡ 2 → ⊥) → (k ≡ 3 → ⊥) → (k ≡ 4 → ⊥) → (k ≡ 5 → ⊥) → isDeclaration k ≡ false → k ≡ 7
+pub var-left :
+    (k : ℕ) → 1 ≤ k → k < first-statement → (k ≡ 2 → ⊥) → (k ≡ 3 → ⊥) → (k ≡ 4 → ⊥) → (k ≡ 5 → ⊥) → isDeclaration k ≡ false → k ≡ 7
 unfolding isDeclaration
-last-kind k a l m n o q e =
+var-left k a l m n o q e =
     let x = or-false (eqb k 1) (eqb k 6) e in
     let b : 2 ≤ k = omega (arith, a, eqb-false k 1 (x .0)) in
     let d : 3 ≤ k = omega (arith, b, m) in
@@ -141,8 +142,7 @@ module _ {t w : List ℕ} {p : Pass} {r : Word} (x : Begins t w p r) where
               result = x .ready .result;
             };
         high = x .high;
-        first = x .first;
-        last = x .last;
+        kind = x .kind;
         formed = x .formed;
       }
 

@@ -11,7 +11,7 @@ use Rattle.rules.specs.Syntax.{Formula}
 use Rattle.rules.specs.Base.{ok, no}
 use Rattle.rules.specs.Answers as Answers
 use Rattle.rules.specs.Answers.{Verdict, accepted, refused}
-use Rattle.rules.specs.Grammar.{Line, form, isFormed}
+use Rattle.rules.specs.Grammar.{Line, form, IsKindNumber, isFormed}
 use Rattle.rules.specs.Scope.{declarations, firstScope}
 use Rattle.rules.specs.Items.{Item, resolveLine, resolveLines}
 use Rattle.rules.specs.Reading.{readText, framed, checkFramed, program}
@@ -59,8 +59,7 @@ pub record Written (t w : List ℕ) (p : Pass) : Type 0 where
 pub record Begins (t w : List ℕ) (p : Pass) (r : Word) : Type 0 where
   pub ready : Ready t w p
   pub high : r .end ≤ length t
-  pub first : 1 ≤ r .kind
-  pub last : r .kind ≤ 18
+  pub kind : IsKindNumber (r .kind)
   pub formed : isFormed (form (kindNumbered (r .kind)) .operands) (form (kindNumbered (r .kind)) .tail) (more (drop (r .end) t)) ≡ true
 
 -- the number of 6, 7 and 9 that refuses it, or none

@@ -13,6 +13,7 @@ ghost use mathlib.Core.Option.{some};
 ghost use Prim.Native.Nat.{_+_, _-_, _≤_, _<_};
 ghost use lib.ListN.{length};
 ghost use Rattle.rules.specs.Limits.{work-bytes, most-bytes};
+ghost use Rattle.rules.specs.Grammar.{IsKindNumber};
 ghost use Rattle.rules.specs.Reading.{framed};
 ghost use Rattle.lines.specs.Rows.{kindNumbered};
 ghost use Rattle.lines.specs.Scans as Scans;
@@ -42,7 +43,7 @@ pub enum Refusal {
 
 // Puts a line of this kind, the word of which ends at r, into the tables if it is good. The kind is not `class` or `main`.
 fn try_line(text: &[u8], work: &mut [u8], p: Pass, kind: u8, r: usize) -> Tried
-    requires { ⌜ Follows (now text) (now work) p kind r × ((1 ≤ kind) × (kind ≤ 18)) × (isDeclaration kind ≡ false) × Held (now work) p ⌝ }
+    requires { ⌜ Follows (now text) (now work) p kind r × IsKindNumber kind × (isDeclaration kind ≡ false) × Held (now work) p ⌝ }
     ensures { λ q. ⌜ LineTried (now (text .entry)) (now (work .entry)) p (lineAfter (now (text .entry)) r kind) (now (work .exit)) q ⌝ }
 {
     if 8 <= kind {
@@ -59,7 +60,7 @@ fn try_line(text: &[u8], work: &mut [u8], p: Pass, kind: u8, r: usize) -> Tried
 
 // Is number 10 about lines of this kind?
 fn is_framed(kind: u8) -> bool
-    requires { ⌜ (1 ≤ kind) × (kind ≤ 18) ⌝ }
+    requires { ⌜ IsKindNumber kind ⌝ }
     ensures { λ r. ⌜ r ≡ isFramed (kindNumbered kind) ⌝ }
 {
     match kind {
@@ -72,7 +73,7 @@ fn is_framed(kind: u8) -> bool
 
 // The first line that number 10 refuses, or 0, after a line of this kind between p and q.
 fn first_unframed(work: &[u8], kind: u8, p: Pass, q: Pass) -> usize
-    requires { ⌜ Between (now work) p q × ((1 ≤ kind) × (kind ≤ 18)) ⌝ }
+    requires { ⌜ Between (now work) p q × IsKindNumber kind ⌝ }
     ensures { λ u. ⌜ u ≡ unframedBy (isFramed (kindNumbered kind)) (atomsFrom (now (work .entry)) (p .atoms) (q .atoms - p .atoms)) p ⌝ }
 {
     if p.unframed != 0 {
@@ -105,7 +106,7 @@ fn with_unframed(p: Pass, unframed: usize) -> Pass
 
 // The pass q after a line of this kind, with the first line that number 10 refuses; p is the pass before it.
 fn take_line(work: &[u8], kind: u8, p: Pass, q: Pass) -> Pass
-    requires { ⌜ Between (now work) p q × ((1 ≤ kind) × (kind ≤ 18)) ⌝ }
+    requires { ⌜ Between (now work) p q × IsKindNumber kind ⌝ }
     ensures { λ r. ⌜ r ≡ withUnframed q (unframedBy (isFramed (kindNumbered kind)) (atomsFrom (now (work .entry)) (p .atoms) (q .atoms - p .atoms)) p) ⌝ }
 {
     let u = first_unframed(work, kind, p, q);

@@ -9,3 +9,4 @@ pub mod Changes
 pub mod Disjoint
 pub mod Examples
 pub mod LinesTaken
+pub mod LineKinds

@@ -1,10 +1,10 @@
 -- The eighteen kinds of line: word, operands, and where each may stand. A kind of line is a row of this table.
-use mathlib.Core.Bool.{Bool, false, _&&_}
-use mathlib.Core.List.{List, [], _∷_}
+use mathlib.Core.Bool.{Bool, true, false, _&&_, Bool·beq}
+use mathlib.Core.List.{List, [], _∷_, map}
 use mathlib.Core.Option.{Option}
-use Prim.Native.Nat.{ℕ}
+use Prim.Native.Nat.{ℕ, _≤_}
 use Prim.Native.String.{String}
-use lib.Dec.{eqb, leb}
+use lib.Dec.{eqb}
 use lib.ListN.{length, drop, getD}
 use Rattle.rules.specs.Base.{Name, Try, ok, _>>=_, _>>_, check, orElse, first, is}
 use Rattle.rules.specs.Limits.{most-atoms}
@@ -12,9 +12,13 @@ use Rattle.rules.specs.Answers.{Refusal, badByte, malformed}
 use Rattle.rules.specs.Text as Text
 use Rattle.rules.specs.Text.{clean, isName, isExpr, isFormula, isCondition}
 
+-- the lines of a block after its `var` lines
+pub data Statement : Type 0 where
+  Set Let New Call Return Assert Release If Else Join End : Statement
+
 pub data Kind : Type 0 where
   Class Field Method Requires Ensures Main Var : Kind
-  Set Let New Call Return Assert Release If Else Join End : Kind
+  statement : Statement → Kind
 
 -- what a new name is declared among
 pub data Space : Type 0 where
@@ -55,14 +59,33 @@ pub record Form : Type 0 where
 unfoldable pub stands : Stage → Stage → Stage → String → List Operand → Tail → Form
 stands a z n w os t = record { word = w; operands = os; tail = t; first = a; last = z; next = n }
 
-unfoldable pub statement : String → List Operand → Tail → Form
-statement = stands inLocals inBody inBody
+-- a statement by its word and the fields after it
+pub record Shape : Type 0 where
+  pub word : String
+  pub operands : List Operand
+  pub tail : Tail
+
+unfoldable pub shaped : String → List Operand → Tail → Shape
+shaped w os t = record { word = w; operands = os; tail = t }
+
+-- "Statements: `set x f y`, `let x e`, `new x C`, `call x y m z`, `return x` .., `assert` formula, `release` formula, and `if eq e e`
+-- or `if ne e e` .. `else` .. `join` formula." After `end`, see `Places`.
+unfoldable pub shape : Statement → Shape
+shape Set = shaped "set" (variable read ∷ member field ∷ variable read ∷ []) nothing
+shape Let = shaped "let" (variable assigned ∷ expression ∷ []) nothing
+shape New = shaped "new" (variable assigned ∷ className ∷ []) nothing
+shape Call = shaped "call" (variable assigned ∷ variable read ∷ member method ∷ variable read ∷ []) nothing
+shape Return = shaped "return" (variable read ∷ []) nothing
+shape Assert = shaped "assert" [] formula
+shape Release = shaped "release" [] formula
+shape If = shaped "if" [] condition
+shape Else = shaped "else" [] nothing
+shape Join = shaped "join" [] formula
+shape End = shaped "end" [] nothing
 
 -- "`class C`, then `field T f` lines, then methods."
 -- "`method T m T w`, `requires` formula, `ensures` formula, `var T x` lines, statements, `end`."
 -- "Last `main`, `var` lines, statements, `end`. Nothing follows."
--- "Statements: `set x f y`, `let x e`, `new x C`, `call x y m z`, `return x` .., `assert` formula, `release` formula, and `if eq e e`
--- or `if ne e e` .. `else` .. `join` formula." After `end`, see `Places`.
 unfoldable pub form : Kind → Form
 form Class = stands beginning afterMethod inClass "class" (new classes ∷ []) nothing
 form Field = stands inClass inClass inClass "field" (typeName ∷ new fields ∷ []) nothing
@@ -71,22 +94,39 @@ form Requires = stands afterHeader afterHeader afterRequires "requires" [] formu
 form Ensures = stands afterRequires afterRequires inLocals "ensures" [] formula
 form Main = stands beginning afterMethod inLocals "main" [] nothing
 form Var = stands inLocals inLocals inLocals "var" (typeName ∷ new variables ∷ []) nothing
-form Set = statement "set" (variable read ∷ member field ∷ variable read ∷ []) nothing
-form Let = statement "let" (variable assigned ∷ expression ∷ []) nothing
-form New = statement "new" (variable assigned ∷ className ∷ []) nothing
-form Call = statement "call" (variable assigned ∷ variable read ∷ member method ∷ variable read ∷ []) nothing
-form Return = statement "return" (variable read ∷ []) nothing
-form Assert = statement "assert" [] formula
-form Release = statement "release" [] formula
-form If = statement "if" [] condition
-form Else = statement "else" [] nothing
-form Join = statement "join" [] formula
-form End = statement "end" [] nothing
+form (statement s) = stands inLocals inBody inBody (shape s .word) (shape s .operands) (shape s .tail)
+
+abbrev pub statements : List Statement
+statements = Set ∷ Let ∷ New ∷ Call ∷ Return ∷ Assert ∷ Release ∷ If ∷ Else ∷ Join ∷ End ∷ []
 
 abbrev pub kinds : List Kind
-kinds =
-    Class ∷ Field ∷ Method ∷ Requires ∷ Ensures ∷ Main ∷ Var ∷
-    Set ∷ Let ∷ New ∷ Call ∷ Return ∷ Assert ∷ Release ∷ If ∷ Else ∷ Join ∷ End ∷ []
+kinds = Class ∷ Field ∷ Method ∷ Requires ∷ Ensures ∷ Main ∷ Var ∷ map statement statements
+
+-- Kinds are numbered in this order, from 1 on.
+abbrev pub first-statement : ℕ
+first-statement = 8
+
+abbrev pub last-kind : ℕ
+last-kind = 18
+
+abbrev pub IsKindNumber : ℕ → Type 0
+IsKindNumber n = (1 ≤ n) × (n ≤ last-kind)
+
+abbrev pub IsStatementNumber : ℕ → Type 0
+IsStatementNumber n = (first-statement ≤ n) × (n ≤ last-kind)
+
+unfoldable pub statementNumber : Statement → ℕ
+statementNumber Set = 8
+statementNumber Let = 9
+statementNumber New = 10
+statementNumber Call = 11
+statementNumber Return = 12
+statementNumber Assert = 13
+statementNumber Release = 14
+statementNumber If = 15
+statementNumber Else = 16
+statementNumber Join = 17
+statementNumber End = 18
 
 unfoldable pub kindNumber : Kind → ℕ
 kindNumber Class = 1
@@ -96,24 +136,22 @@ kindNumber Requires = 4
 kindNumber Ensures = 5
 kindNumber Main = 6
 kindNumber Var = 7
-kindNumber Set = 8
-kindNumber Let = 9
-kindNumber New = 10
-kindNumber Call = 11
-kindNumber Return = 12
-kindNumber Assert = 13
-kindNumber Release = 14
-kindNumber If = 15
-kindNumber Else = 16
-kindNumber Join = 17
-kindNumber End = 18
+kindNumber (statement s) = statementNumber s
 
-unfoldable pub isKind : Kind → Kind → Bool
-isKind a k = eqb (kindNumber a) (kindNumber k)
-
--- statement lines come last: "with `else`, `join` and `end` counted"
+-- "statement lines .., with `else`, `join` and `end` counted"
 unfoldable pub isStatement : Kind → Bool
-isStatement k = leb (kindNumber Set) (kindNumber k)
+isStatement Class = false
+isStatement Field = false
+isStatement Method = false
+isStatement Requires = false
+isStatement Ensures = false
+isStatement Main = false
+isStatement Var = false
+isStatement (statement s) = true
+
+-- Have both one number? That a kind is no statement tells it from all of them at once.
+unfoldable pub isKind : Kind → Kind → Bool
+isKind a k = Bool·beq (isStatement a) (isStatement k) && eqb (kindNumber a) (kindNumber k)
 
 unfoldable pub kindOf : Name → Option Kind
 kindOf w = first (λ k. is (form k .word) w) kinds
@@ -154,5 +192,5 @@ readLine l = do
 
 -- Everything above computes where this unfolds.
 unfoldable pub opened : Unit {0}
-unfolding stands statement form kindNumber isKind isStatement kindOf isOperand isTail isFormed readLine
+unfolding stands shaped shape form statementNumber kindNumber isStatement isKind kindOf isOperand isTail isFormed readLine
 opened = tt

@@ -7,7 +7,7 @@ use Rattle.rules.specs.Syntax as Syntax
 use Rattle.rules.specs.Syntax.{Expr, Atom, Formula, Stmt, num, null, var, path, acc, cmp}
 use Rattle.rules.specs.Syntax.{set, assign, new, call, return, assert, release, simple, if, else, join, end}
 use Rattle.rules.specs.Text.{exprOf, relOf, formulaOf}
-use Rattle.rules.specs.Grammar.{Kind, Line}
+use Rattle.rules.specs.Grammar.{Kind, Statement, Line, statement}
 use Rattle.rules.specs.Grammar.{Class, Field, Method, Requires, Ensures, Main, Var, Set, Let, New, Call, Return, Assert, Release, If, Else, Join, End}
 use Rattle.rules.specs.Scope.{Declarations, Variable, Scope, operand, atomsOf, visible, scopeAfter}
 use Rattle.rules.specs.Names.{variableNumber, variableType, fieldNumber, classNumber, methodNumber, allKnown, allTyped, allAssignable}
@@ -56,6 +56,19 @@ module _ (Γ : Declarations) (vs : List Variable) where
   unfoldable pub resolveIf : Line → Stmt
   resolveIf l = if (relOf (operand l 0)) (resolveExpr (exprOf (operand l 1))) (resolveExpr (exprOf (operand l 2)))
 
+  unfoldable pub resolveStatement : Statement → Line → Stmt
+  resolveStatement Set l = resolveSet l
+  resolveStatement Let l = simple (assign (variableNumber vs (operand l 0)) (resolveExpr (exprOf (operand l 1))))
+  resolveStatement New l = simple (new (variableNumber vs (operand l 0)) (classNumber Γ (operand l 1)))
+  resolveStatement Call l = resolveCall l
+  resolveStatement Return l = simple (return (variableNumber vs (operand l 0)))
+  resolveStatement Assert l = simple (assert (resolveFormula l))
+  resolveStatement Release l = simple (release (resolveFormula l))
+  resolveStatement If l = resolveIf l
+  resolveStatement Else l = else
+  resolveStatement Join l = join (resolveFormula l)
+  resolveStatement End l = end
+
   unfoldable pub itemOf : Kind → Line → Item
   itemOf Class l = aClass
   itemOf Field l = aField (resolveField l)
@@ -64,17 +77,7 @@ module _ (Γ : Declarations) (vs : List Variable) where
   itemOf Ensures l = anEnsures (resolveFormula l)
   itemOf Main l = aMain
   itemOf Var l = aLocal (operand l 1)
-  itemOf Set l = aStatement (resolveSet l)
-  itemOf Let l = aStatement (simple (assign (variableNumber vs (operand l 0)) (resolveExpr (exprOf (operand l 1)))))
-  itemOf New l = aStatement (simple (new (variableNumber vs (operand l 0)) (classNumber Γ (operand l 1))))
-  itemOf Call l = aStatement (resolveCall l)
-  itemOf Return l = aStatement (simple (return (variableNumber vs (operand l 0))))
-  itemOf Assert l = aStatement (simple (assert (resolveFormula l)))
-  itemOf Release l = aStatement (simple (release (resolveFormula l)))
-  itemOf If l = aStatement (resolveIf l)
-  itemOf Else l = aStatement else
-  itemOf Join l = aStatement (join (resolveFormula l))
-  itemOf End l = aStatement end
+  itemOf (statement s) l = aStatement (resolveStatement s l)
 
 module _ (Γ : Declarations) where
   -- 6, 7, 9: "(for two on one line the lower)"
@@ -94,5 +97,5 @@ module _ (Γ : Declarations) where
 
 -- Everything above computes where this unfolds.
 unfoldable pub opened : Unit {0}
-unfolding resolveExpr resolveAtom resolveFormula resolveField resolveSet resolveCall resolveIf itemOf resolveLine resolveLines
+unfolding resolveExpr resolveAtom resolveFormula resolveField resolveSet resolveCall resolveIf resolveStatement itemOf resolveLine resolveLines
 opened = tt

@@ -9,7 +9,7 @@ use Rattle.rules.specs.Base.{Name, withDefault, bytes, is, eqName, any, 
 use Rattle.rules.specs.Limits.{most-locals}
 use Rattle.rules.specs.Syntax.{Expr, Atom, first-local, num, null, var, path, acc, cmp}
 use Rattle.rules.specs.Text.{reserved, exprOf, formulaOf}
-use Rattle.rules.specs.Grammar.{Operand, Line, isKind, Set, Let, New, Call, Return}
+use Rattle.rules.specs.Grammar.{Operand, Line, isKind, statement, Set, Let, New, Call, Return}
 use Rattle.rules.specs.Grammar.{read, assigned, field, method, new, typeName, className, variable, member, expression}
 use Rattle.rules.specs.Scope.{FieldDeclaration, MethodDeclaration, Declarations, Variable, Scope, operand, declaredIn, slots, atomsOf}
 
@@ -147,11 +147,11 @@ module _ (Γ : Declarations) (vs : List Variable) where
   unfoldable pub sidesAgree : Line → Bool
   sidesAgree l =
       let x : Name = variableType vs (operand l 0) in
-      cond (isKind Set (l .kind)) (eqName (fieldType Γ x (operand l 1)) (variableType vs (operand l 2)))
-      (cond (isKind Let (l .kind)) (agree (some x) (exprType (exprOf (operand l 1))))
-      (cond (isKind New (l .kind)) (eqName x (operand l 1))
-      (cond (isKind Call (l .kind)) (callAgrees l (methodOfClass Γ (variableType vs (operand l 1)) (operand l 2)))
-      (cond (isKind Return (l .kind)) (eqName x (variableType vs (bytes "result")))
+      cond (isKind (statement Set) (l .kind)) (eqName (fieldType Γ x (operand l 1)) (variableType vs (operand l 2)))
+      (cond (isKind (statement Let) (l .kind)) (agree (some x) (exprType (exprOf (operand l 1))))
+      (cond (isKind (statement New) (l .kind)) (eqName x (operand l 1))
+      (cond (isKind (statement Call) (l .kind)) (callAgrees l (methodOfClass Γ (variableType vs (operand l 1)) (operand l 2)))
+      (cond (isKind (statement Return) (l .kind)) (eqName x (variableType vs (bytes "result")))
       true))))
 
   unfoldable pub allTyped : Line → Bool
@@ -174,7 +174,7 @@ module _ (vs : List Variable) where
   unfoldable pub callApart : Line → Bool
   callApart l =
       let x : ℕ = variableNumber vs (operand l 0) in
-      not (isKind Call (l .kind))
+      not (isKind (statement Call) (l .kind))
       || (not (eqb x (variableNumber vs (operand l 1))) && not (eqb x (variableNumber vs (operand l 3))))
 
   unfoldable pub allAssignable : Line → Bool

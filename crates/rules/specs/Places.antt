@@ -8,7 +8,7 @@ use Rattle.rules.specs.Base.{Name, Try, ok, _>>=_, _>>_, check, between}
 use Rattle.rules.specs.Limits.{most-classes, most-fields, most-methods, most-locals, most-statements, most-branches}
 use Rattle.rules.specs.Answers.{Refusal, Verdict, accepted, refused, atLine, then, malformed, limitPassed, textEnds}
 use Rattle.rules.specs.Grammar.{Kind, Stage, Line, form, readLine, isKind, isStatement}
-use Rattle.rules.specs.Grammar.{Class, Field, Method, Main, Var, Return, If, Else, Join, End}
+use Rattle.rules.specs.Grammar.{Class, Field, Method, Main, Var, statement, Return, If, Else, Join, End}
 use Rattle.rules.specs.Grammar.{beginning, inClass, afterMethod, afterHeader, afterRequires, inLocals, inBody, afterMain}
 
 -- the stages in the order of a text
@@ -73,23 +73,23 @@ outer (b ∷ bs) = bs
 -- "`return x` (methods only)"; "`if` .. `else` .. `join`", and then `end`
 unfoldable pub fits : Kind → Place → Bool
 fits k p =
-    cond (isKind Return k) (not (p .main))
-    (cond (isKind Else k) (mayElse (p .branches))
-    (cond (isKind Join k) (mayJoin (p .branches))
-    (cond (isKind End k) (mayEnd (p .branches))
+    cond (isKind (statement Return) k) (not (p .main))
+    (cond (isKind (statement Else) k) (mayElse (p .branches))
+    (cond (isKind (statement Join) k) (mayJoin (p .branches))
+    (cond (isKind (statement End) k) (mayEnd (p .branches))
     true)))
 
 unfoldable pub inPlace : Kind → Place → Bool
 inPlace k p = between (stageNumber (form k .first)) (stageNumber (form k .last)) (stageNumber (p .stage)) && fits k p
 
 unfoldable pub stageAfter : Kind → Place → Stage
-stageAfter k p = cond (isKind End k) (cond (p .main) afterMain afterMethod) (form k .next)
+stageAfter k p = cond (isKind (statement End) k) (cond (p .main) afterMain afterMethod) (form k .next)
 
 unfoldable pub branchesAfter : Kind → List Branch → List Branch
 branchesAfter k bs =
-    cond (isKind If k) (beforeElse ∷ bs)
-    (cond (isKind Else k) (afterElse ∷ outer bs)
-    (cond (isKind Join k) (outer bs)
+    cond (isKind (statement If) k) (beforeElse ∷ bs)
+    (cond (isKind (statement Else) k) (afterElse ∷ outer bs)
+    (cond (isKind (statement Join) k) (outer bs)
     bs))
 
 unfoldable pub oneMoreIf : Bool → ℕ → ℕ

@@ -15,7 +15,7 @@ use Rattle.rules.specs.Limits.{work-bytes, most-statements}
 use Rattle.rules.specs.Syntax.{Rel, Expr, Atom, Stmt, acc, cmp, simple, assign, if, end}
 use Rattle.rules.specs.Text.{isName, isExpr, exprOf, relOf, isRel, isAtom, atomOf, isFormula, isCondition, formulaOf}
 use Rattle.rules.specs.Grammar as Grammar
-use Rattle.rules.specs.Grammar.{Kind, Let, If, form, isFormed}
+use Rattle.rules.specs.Grammar.{Statement, statement, Let, If, form, isFormed}
 use Rattle.rules.specs.Scope as Scopes
 use Rattle.rules.specs.Scope.{Declarations, Variable, Scope}
 use Rattle.rules.specs.Names as Names
@@ -67,8 +67,8 @@ no-access u a b e =
     rw (acc-is u, ne-eqb (wordNumber u) 19 (λ z. omega (arith, r)))
 
 -- THE TESTS OF A LINE THAT HAS ITS FORM
-abbrev Formed : Kind → List Name → Type 0
-Formed k ws = isFormed (form k .operands) (form k .tail) ws ≡ true
+abbrev Formed : Statement → List Name → Type 0
+Formed a ws = isFormed (form (statement a) .operands) (form (statement a) .tail) ws ≡ true
 
 let-form : (ws : List Name) → Formed Let ws → isExpr (getD ws 1 []) ≡ true
 unfolding Grammar.opened
@@ -109,7 +109,7 @@ module _ (Γ : Declarations) (vs : List Variable) (s : Scope) where
   let-shuffle true true true true true h = refl
   let-shuffle true true true true false h = refl
 
-  let-two : (ws : List Name) → length ws ≡ 2 → isGood Γ vs s (lineWith Let ws) ≡ letGood Γ vs ws
+  let-two : (ws : List Name) → length ws ≡ 2 → isGood Γ vs s (lineWith (statement Let) ws) ≡ letGood Γ vs ws
   unfolding Base.all Grammar.opened Scopes.opened Names.allKnown Names.known Names.allTyped Names.ofClass Names.sidesAgree Names.allAssignable Names.mayBeAssigned Names.callApart formulaOf isGood letGood good
   let-two [] e = absurd (omega arith)
   let-two (u ∷ []) e = absurd (omega arith)
@@ -118,18 +118,18 @@ module _ (Γ : Declarations) (vs : List Variable) (s : Scope) where
       (agree (some (variableType vs u)) (exprType Γ vs (exprOf v))) (isLocal (variableNumber vs u)) (local-known vs u)
   let-two (u ∷ v ∷ x ∷ ws) e = absurd (omega arith)
 
-  let-good : (ws : List Name) → Formed Let ws → isGood Γ vs s (lineWith Let ws) ≡ letGood Γ vs ws
+  let-good : (ws : List Name) → Formed Let ws → isGood Γ vs s (lineWith (statement Let) ws) ≡ letGood Γ vs ws
   unfolding Grammar.opened
-  let-good ws e = let-two ws (formed-length (form Let .operands) ws e)
+  let-good ws e = let-two ws (formed-length (form (statement Let) .operands) ws e)
 
   if-good :
       (ws : List Name) → Formed If ws →
-      isGood Γ vs s (lineWith If ws) ≡ fitsAtom Γ vs (atomOf (getD ws 0 []) (getD ws 1 []) (getD ws 2 []))
+      isGood Γ vs s (lineWith (statement If) ws) ≡ fitsAtom Γ vs (atomOf (getD ws 0 []) (getD ws 1 []) (getD ws 2 []))
   unfolding Grammar.opened isCondition formulaOf Base.all isGood
   if-good [] x = true-false (sym x)
   if-good (u ∷ []) x = true-false (sym x)
   if-good (u ∷ a ∷ []) x = true-false (sym x)
-  if-good (u ∷ a ∷ b ∷ []) x = formula-good Γ vs s (lineWith If (u ∷ a ∷ b ∷ [])) refl ∙ and-true (fitsAtom Γ vs (atomOf u a b))
+  if-good (u ∷ a ∷ b ∷ []) x = formula-good Γ vs s (lineWith (statement If) (u ∷ a ∷ b ∷ [])) refl ∙ and-true (fitsAtom Γ vs (atomOf u a b))
   if-good (u ∷ a ∷ b ∷ d ∷ ws) x =
       let z : length (u ∷ a ∷ b ∷ d ∷ ws) ≡ 3 = eqb-true _ 3 (both-true (eqb (length (u ∷ a ∷ b ∷ d ∷ ws)) 3) _ x .0) in
       absurd (omega (arith, z))
@@ -249,12 +249,12 @@ module _ (t w : List ℕ) (c : Counts.Names) (r i n l : ℕ) (ready : Ready t w 
 
         let-put :
             {q z : List ℕ} → q ≡ putAtom w n 1 Tables.Expr.Null (e .expr) → z ≡ putRow q i (oneRow 9 x n l) → SidePut Let t w c r i n l z (n + 1)
-        unfolding itemOf Scopes.operand
+        unfolding itemOf Items.resolveStatement Scopes.operand
         let-put d f =
             record {
               count = refl;
               built = λ D F j h.
-                  subst (λ z. Holds D z (withItem F l (itemOf Γ vs Let (lineWith Let ws))) (n + 1))
+                  subst (λ z. Holds D z (withItem F l (itemOf Γ vs (statement Let) (lineWith (statement Let) ws))) (n + 1))
                   (stored (y .room) 9 x 1 Tables.Expr.Null (e .expr) let-atom d f F j)
                   (subst (λ z. Holds D (putRow (putAtom w n 1 Tables.Expr.Null (e .expr)) (length (F .rows)) (oneRow 9 x n l)) (withItem F l z) (n + 1))
                   (λ z. aStatement (simple (assign (X .number z) (E .expr z))))
@@ -281,14 +281,14 @@ module _ (t w : List ℕ) (c : Counts.Names) (r i n l : ℕ) (ready : Ready t w 
     if-put :
         (s : AtomRow) {u v : List ℕ} → Resolved Γ vs atom s → u ≡ putAtom w n (s .kind) (s .left) (s .right) →
         v ≡ putRow u i (oneRow 15 0 n l) → SidePut If t w c r i n l v (n + 1)
-    unfolding itemOf Items.resolveIf Scopes.operand resolveAtom
+    unfolding itemOf Items.resolveStatement Items.resolveIf Scopes.operand resolveAtom
     if-put s o e f =
         let means =
         condition-is (s .kind) (s .left) (s .right) _ _ _ (o .is ∙ ap (resolveAtom Γ vs) (if-formed .compared)) in
         record {
           count = refl;
           built = λ D F j h.
-              subst (λ z. Holds D z (withItem F l (itemOf Γ vs If (lineWith If ws))) (n + 1))
+              subst (λ z. Holds D z (withItem F l (itemOf Γ vs (statement If) (lineWith (statement If) ws))) (n + 1))
               (stored (y .room) 15 0 (s .kind) (s .left) (s .right) (o .ok) e f F j)
               (subst (λ z. Holds D (putRow (putAtom w n (s .kind) (s .left) (s .right)) (length (F .rows)) (oneRow 15 0 n l)) (withItem F l (aStatement z)) (n + 1))
               means

@@ -8,7 +8,7 @@ use lib.ListN.{length, getD, drop}
 use Rattle.rules.specs.Limits.{work-bytes}
 use Rattle.rules.specs.Base.{Name}
 use Rattle.rules.specs.Text.{exprOf}
-use Rattle.rules.specs.Grammar.{Kind, form, isFormed}
+use Rattle.rules.specs.Grammar.{Statement, statement, form, isFormed}
 use Rattle.rules.specs.Scope.{Declarations, Variable, Scope}
 use Rattle.rules.specs.Names.{isLocal, agree, variableNumber, variableType, exprType}
 use Rattle.rules.specs.Items.{itemOf}
@@ -37,26 +37,26 @@ letGood Γ vs ws =
     isLocal (variableNumber vs x)
     && (good Γ vs (exprOf (getD ws 1 [])) && agree (some (variableType vs x)) (exprType Γ vs (exprOf (getD ws 1 []))))
 
--- the line of this kind whose word ends at r has its form, and there is room for the atom n
-pub record SideFollows (k : Kind) (t : List ℕ) (r n : ℕ) : Type 0 where
+-- the statement whose word ends at r has its form, and there is room for the atom n
+pub record SideFollows (a : Statement) (t : List ℕ) (r n : ℕ) : Type 0 where
   pub high : r ≤ length t
-  pub formed : isFormed (form k .operands) (form k .tail) (more (drop r t)) ≡ true
+  pub formed : isFormed (form (statement a) .operands) (form (statement a) .tail) (more (drop r t)) ≡ true
   pub room : n < most-atom-rows
 
-module _ (k : Kind) (t w : List ℕ) (c : Names) (r : ℕ) where
+module _ (a : Statement) (t w : List ℕ) (c : Names) (r : ℕ) where
   -- it is written with the atom n as the row i, and is the line l
   pub record SidePut (i n l : ℕ) (w′ : List ℕ) (m : ℕ) : Type 0 where
     pub count : m ≡ n + 1
     pub built :
         (D : Declared) (F : Program) → length (F .rows) ≡ i → Holds D w F n →
-        Holds D w′ (withItem F l (itemOf (declarationsIn t w c) (variablesIn t w c) k (lineWith k (more (drop r t))))) m
+        Holds D w′ (withItem F l (itemOf (declarationsIn t w c) (variablesIn t w c) (statement a) (lineWith (statement a) (more (drop r t))))) m
     pub names : Kept names-at work-bytes w w′
     pub size : length w′ ≡ length w
 
   -- it is written just if it is good, whatever the scope
   unfoldable pub SideTried : (i n l : ℕ) (w′ : List ℕ) → Put → Type 0
   SideTried i n l w′ (Put.Done m) =
-      ((s : Scope) → isGood (declarationsIn t w c) (variablesIn t w c) s (lineWith k (more (drop r t))) ≡ true) × SidePut i n l w′ m
+      ((s : Scope) → isGood (declarationsIn t w c) (variablesIn t w c) s (lineWith (statement a) (more (drop r t))) ≡ true) × SidePut i n l w′ m
   SideTried i n l w′ Put.Bad =
-      ((s : Scope) → isGood (declarationsIn t w c) (variablesIn t w c) s (lineWith k (more (drop r t))) ≡ false)
+      ((s : Scope) → isGood (declarationsIn t w c) (variablesIn t w c) s (lineWith (statement a) (more (drop r t))) ≡ false)
       × (Kept names-at work-bytes w w′) × (length w′ ≡ length w)

@@ -11,7 +11,7 @@ use Rattle.rules.specs.Base.{Name, eqName, any}
 use Rattle.rules.specs.Syntax as Syntax
 use Rattle.rules.specs.Syntax.{Program}
 use Rattle.rules.specs.Grammar.{Kind, Line, isKind, fields}
-use Rattle.rules.specs.Grammar.{Class, Field, Method, Requires, Ensures, Main, Var, Set, Let, New, Call, Return, Assert, Release, If, Else, Join, End}
+use Rattle.rules.specs.Grammar.{Class, Field, Method, Requires, Ensures, Main, Var, statement}
 use Rattle.rules.specs.Grammar as Grammar
 use Rattle.rules.specs.Places.{Place, firstPlace}
 use Rattle.rules.specs.Scope.{FieldDeclaration, Scope, declarations, operand, classesAbove, fieldsOf, scopeAfter, visible, firstScope}
@@ -140,17 +140,7 @@ module _ (text : List Line) where
     line-differs Ensures ws t n P D = D
     line-differs Main ws t n P D = D
     line-differs Var ws t n P D = D
-    line-differs Set ws t n P D = D
-    line-differs Let ws t n P D = D
-    line-differs New ws t n P D = D
-    line-differs Call ws t n P D = D
-    line-differs Return ws t n P D = D
-    line-differs Assert ws t n P D = D
-    line-differs Release ws t n P D = D
-    line-differs If ws t n P D = D
-    line-differs Else ws t n P D = D
-    line-differs Join ws t n P D = D
-    line-differs End ws t n P D = D
+    line-differs (statement a) ws t n P D = D
 
   lines-differ :
       (p : Place) (s : Scope) (ls : List Line) (items : List Item) → TakenLines text p s ls items → (n : ℕ) (P : Program) →

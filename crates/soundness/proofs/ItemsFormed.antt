@@ -11,13 +11,13 @@ use Rattle.rules.specs.Base.{Name, between}
 use Rattle.rules.specs.Base as Base
 use Rattle.rules.specs.Syntax.{result-variable}
 use Rattle.rules.specs.Grammar.{Kind, Stage, Line, form, afterHeader, afterRequires, afterMethod, afterMain}
-use Rattle.rules.specs.Grammar.{Class, Field, Method, Requires, Ensures, Main, Var, Set, Let, New, Call, Return, Assert, Release, If, Else, Join, End}
+use Rattle.rules.specs.Grammar.{Class, Field, Method, Requires, Ensures, Main, Var, Statement, statement, Set, Let, New, Call, Return, Assert, Release, If, Else, Join, End}
 use Rattle.rules.specs.Grammar as Grammar
 use Rattle.rules.specs.Places.{Place, firstPlace, stageNumber, inPlace, placeAfter, stageAfter}
 use Rattle.rules.specs.Places as Places
 use Rattle.rules.specs.Scope.{Variable, Block, Scope, declarations, methodBlock, blockAfter, scopeAfter, visible, firstScope}
 use Rattle.rules.specs.Scope as Scope
-use Rattle.rules.specs.Items.{Item, itemOf, aClass, aField, aMethod, aRequires, anEnsures, aMain, aLocal, aStatement}
+use Rattle.rules.specs.Items.{Item, itemOf, resolveStatement, aClass, aField, aMethod, aRequires, anEnsures, aMain, aLocal, aStatement}
 use Rattle.rules.specs.Items as Items
 use Rattle.rules.proofs.Lists.{Member, head-or, append-member, and-both, and-intro}
 use Rattle.soundness.specs.WellFormed.{Over, AtCall, AtEnd, StmtFormed}
@@ -88,6 +88,25 @@ after-end false h = h
 
 -- LINES: kind by kind, the item is formed; and if the next line stands in a header, the block is one
 module _ (text : List Line) (p : Place) (s : Scope) where
+  statement-formed :
+      (a : Statement) (ws : List Name) → Taken text p s (lineOf (statement a) ws) →
+      StmtFormed (resolveStatement (declarations text) (visible (s .block) (statement a)) a (lineOf (statement a) ws))
+      × HeaderAt (stageAfter (statement a) p) (blockAfter (s .members .class) (s .block) (lineOf (statement a) ws))
+  unfolding Base.opened Grammar.opened Places.opened Scope.opened Items.opened
+  statement-formed Set ws t = (tt, absurd)
+  statement-formed Let ws t = (assigned-local _ _ 0 (lit< tt) refl (t .formed) (t .assignable), absurd)
+  statement-formed New ws t = (assigned-local _ _ 0 (lit< tt) refl (t .formed) (t .assignable), absurd)
+  statement-formed Call ws t =
+      let (y, z) = target-apart _ _ tt (t .assignable) in
+      ((assigned-local _ _ 0 (lit< tt) refl (t .formed) (t .assignable), y, z), absurd)
+  statement-formed Return ws t = (tt, absurd)
+  statement-formed Assert ws t = (tt, absurd)
+  statement-formed Release ws t = (tt, absurd)
+  statement-formed If ws t = (tt, absurd)
+  statement-formed Else ws t = (tt, absurd)
+  statement-formed Join ws t = (tt, absurd)
+  statement-formed End ws t = (tt, λ i. absurd (after-end (p .main) i))
+
   line-formed :
       (k : Kind) (ws : List Name) → Taken text p s (lineOf k ws) → HeaderAt (p .stage) (s .block) →
       ItemFormed (itemOf (declarations text) (visible (s .block) k) k (lineOf k ws))
@@ -105,19 +124,7 @@ module _ (text : List Line) (p : Place) (s : Scope) where
       (formula-over (declarations text) vs AtEnd (header-ends (s .block) H) s _ (t .known), absurd)
   line-formed Main ws t h = (tt, absurd)
   line-formed Var ws t h = (tt, absurd)
-  line-formed Set ws t h = (tt, absurd)
-  line-formed Let ws t h = (assigned-local _ _ 0 (lit< tt) refl (t .formed) (t .assignable), absurd)
-  line-formed New ws t h = (assigned-local _ _ 0 (lit< tt) refl (t .formed) (t .assignable), absurd)
-  line-formed Call ws t h =
-      let (y, z) = target-apart _ _ tt (t .assignable) in
-      ((assigned-local _ _ 0 (lit< tt) refl (t .formed) (t .assignable), y, z), absurd)
-  line-formed Return ws t h = (tt, absurd)
-  line-formed Assert ws t h = (tt, absurd)
-  line-formed Release ws t h = (tt, absurd)
-  line-formed If ws t h = (tt, absurd)
-  line-formed Else ws t h = (tt, absurd)
-  line-formed Join ws t h = (tt, absurd)
-  line-formed End ws t h = (tt, λ i. absurd (after-end (p .main) i))
+  line-formed (statement s) ws t h = statement-formed s ws t
 
 module _ (text : List Line) where
   lines-formed :

@@ -10,7 +10,7 @@ use lib.ListN.{length, getD}
 use Rattle.rules.specs.Base.{Name, is, eqName, any, all}
 use Rattle.rules.specs.Syntax.{Expr, Formula, first-local, num, null, var, path, acc, cmp}
 use Rattle.rules.specs.Text.{reserved, relOf, exprOf, atomOf, formulaOf}
-use Rattle.rules.specs.Grammar.{Space, Operand, Tail, Line, Call, form, isKind, isOperand, isFormed}
+use Rattle.rules.specs.Grammar.{Space, Operand, Tail, Line, statement, Call, form, isKind, isOperand, isFormed}
 use Rattle.rules.specs.Grammar.{read, assigned, field, new, typeName, variable, member, expression}
 use Rattle.rules.specs.Scope.{Declarations, Variable, Scope, Slot, operand, declaredIn, slotsFrom, atomOperands, atomSlots, atomsOf, slots}
 use Rattle.rules.specs.Names.{noVariable, isLocal, inScope, lookUp, variableNumber, knownExpr, known, allKnown, mayBeAssigned, callApart, allAssignable}
@@ -81,15 +81,15 @@ module _ (vs : List Variable) (l : Line) where
 
   -- a call's x is neither its y nor its z
   pub target-apart :
-      T (isKind Call (l .kind)) → T (allAssignable vs l) →
+      T (isKind (statement Call) (l .kind)) → T (allAssignable vs l) →
       (variableNumber vs (operand l 0) ≡ variableNumber vs (operand l 1) → ⊥)
       × (variableNumber vs (operand l 0) ≡ variableNumber vs (operand l 3) → ⊥)
   unfolding callApart
   target-apart c t =
       let x : ℕ = variableNumber vs (operand l 0) in
-      ⊎-elim (λ n. absurd (T-not (isKind Call (l .kind)) n c))
+      ⊎-elim (λ n. absurd (T-not (isKind (statement Call) (l .kind)) n c))
       (λ d. let (y, z) = and-both (not (eqb x (variableNumber vs (operand l 1)))) _ d in (unequal x _ y, unequal x _ z))
-      (or-cases (not (isKind Call (l .kind))) _ (assignable-both t .1))
+      (or-cases (not (isKind (statement Call) (l .kind))) _ (assignable-both t .1))
 
 -- FORMULAS: where each variable in scope has a number with the property Q, so have those of a formula whose names are known
 module _ (Γ : Declarations) (vs : List Variable) (Q : ℕ → Type 0) (has : (v : Variable) → Member v vs → Q (v .number)) where

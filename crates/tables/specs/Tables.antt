@@ -8,6 +8,7 @@ use lib.Dec.{T, leb}
 use lib.ListN.{length, drop}
 use Rattle.rules.specs.Limits.{most-classes, most-fields, most-methods, most-statements, most-branches, most-atoms, work-bytes}
 use Rattle.rules.specs.Syntax.{Stmt, Row, simple, if, else, join, end}
+use Rattle.rules.specs.Grammar.{IsStatementNumber}
 use Rattle.rules.specs.Machine.{closing}
 use Rattle.tables.specs.Layout.{most-atom-rows, most-names, frame-variables, places-at}
 use Rattle.tables.specs.Decode.{byteAt, halfAt, kindAt, xAt, yAt, zAt, memberAt, atomCountAt, firstAtomAt, targetAt, rowCount, atomCount, classCount, methodCount, mainFirst, allRows, atomPlace, methodPlace, firstRowAt, fieldCountAt, fieldNameAt}
@@ -35,7 +36,7 @@ AtomsFit w a n = (n ≤ most-atoms) × (a + n ≤ atomCount w)
 
 -- what the operand `member` of a kind is, and which kinds have one atom
 pub record RowFits (w : List ℕ) (i : ℕ) : Type 0 where
-  pub kind : (8 ≤ kindAt w i) × (kindAt w i ≤ 18)
+  pub kind : IsStatementNumber (kindAt w i)
   pub x : xAt w i < frame-variables
   pub y : yAt w i < frame-variables
   pub z : zAt w i < frame-variables

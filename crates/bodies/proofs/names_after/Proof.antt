@@ -8,14 +8,14 @@ returns : tie.Need-returns
 returns c =
     let v = c .before .args in
     let p = c .before .pre in
-    stays-open (v .kind) (p .0) (p .1) (c .if1 .taken) (v .c)
+    stays-open (v .kind) p (c .if1 .taken) (v .c)
 
 returns-2 : tie.Need-returns-2
 unfolding withBlock
 returns-2 c =
     let v = c .before .args in
     let p = c .before .pre in
-    closes (v .kind) (p .0) (p .1) (c .if1 .left) (v .c)
+    closes (v .kind) p (c .if1 .left) (v .c)
 
 pub names-after-spec : {M : Type 1} → statement M
 names-after-spec = tie.close (tie.spec returns returns-2)

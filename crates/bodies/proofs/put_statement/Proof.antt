@@ -30,7 +30,7 @@ names-after-requires c κs = search needs
 add-t13 : tie.Need-add-t13
 add-t13 c =
     let p = c .before .before .before .before .before .before .before .before .before .before .before .before .before .pre in
-    omega (arith, row-room (p .0) (p .1 .0) (p .1 .1))
+    omega (arith, row-room (p .0) (p .1))
 
 add-t14 : tie.Need-add-t14
 add-t14 c = omega (arith, line-small (c .before .before .before .before .before .before .before .before .before .before .before .before .before .before .pre .0))
@@ -43,7 +43,7 @@ unfolding LineTried
 returns-2 c =
     let p = c .before .before .before .before .before .before .before .before .before .before .before .before .before .before .pre in
     let y = item-done (c .before .before .before .before .before .before .before .before .before .before .put-row .ensures) _ (c .before .before .before .before .before .before .t .given .1) in
-    (y .0, (statement-line (p .0) _ (y .1) (p .1 .0) (p .1 .1) (c .before .before .before .names-after .ensures) refl refl refl refl, refl))
+    (y .0, (statement-line (p .0) _ (y .1) (p .1) (c .before .before .before .names-after .ensures) refl refl refl refl, refl))
 
 pub put-statement-spec : {M : Type 1} → statement M
 put-statement-spec =

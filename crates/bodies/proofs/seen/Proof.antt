@@ -15,7 +15,7 @@ unfolding seenBy
 returns c =
     let v = c .before .args in
     let p = c .before .pre in
-    let e = c .unless .ensures ∙ ap (λ b. v .c .method && not b) (sym (seen-result (v .kind) (p .0) (p .1))) in
+    let e = c .unless .ensures ∙ ap (λ b. v .c .method && not b) (sym (seen-result (v .kind) p)) in
     λ j. record {
       classes = v .c .classes;
       fields = v .c .fields;

@@ -1,7 +1,7 @@
 -- `declare::declare_line` meets its contract. Assumes nothing.
 use mathlib.Core.Path.{refl, sym, _∙_}
-use Rattle.rules.specs.Grammar.{Class, Field, Method, kindNumber, isKind}
-use Rattle.lines.proofs.Rows.{number-of-kind}
+use Rattle.rules.specs.Grammar.{Class, Field, Method, kindNumber}
+use Rattle.lines.proofs.Rows.{kind-numbered}
 use Rattle.declare.proofs.Lines.{class-names, field-names, method-names}
 use Rattle.declare.proofs.Adds.{none-adds, ready-room, ready-formed, adds-numbered}
 use borrow.Author.Tests.{ne-eqb}
@@ -55,12 +55,15 @@ unfolding kindNumber
 returns-3 c = adds-numbered (c .before .before .before .before .before .before .before .pre .1) Method (c .before .before .before .before .match .keys3) (c .before .before .declare-method .ensures)
 
 returns-4 : tie.Need-returns-4
-unfolding isKind kindNumber
+unfolding kindNumber
 returns-4 c =
     let p = c .before .before .before .pre .1 in
-    let n = sym (number-of-kind (c .before .before .before .args .kind) (p .first) (p .last)) in
+    let is = kind-numbered (c .before .before .before .args .kind) (p .kind) in
     let r = c .match .rest in
-    none-adds _ _ _ _ (ne-eqb 1 _ (λ e. r .0 .0 .1 (n ∙ sym e))) (ne-eqb 2 _ (λ e. r .0 .1 (n ∙ sym e))) (ne-eqb 3 _ (λ e. r .1 (n ∙ sym e)))
+    none-adds _ _ _ _
+    (is Class ∙ ne-eqb 1 _ (λ e. r .0 .0 .1 (sym e)))
+    (is Field ∙ ne-eqb 2 _ (λ e. r .0 .1 (sym e)))
+    (is Method ∙ ne-eqb 3 _ (λ e. r .1 (sym e)))
 
 pub declare-line-spec : {M : Type 1} → statement M
 declare-line-spec =

@@ -2,7 +2,7 @@
 use mathlib.Core.Path.{refl}
 use native.Mathlib.Omega.{arith}
 use lib.ListN.{drop}
-use Rattle.rules.specs.Grammar.{Class, Main, kindNumber, isKind}
+use Rattle.rules.specs.Grammar.{Class, Main, kindNumber, isStatement, isKind}
 use Rattle.lines.specs.Cuts.{more}
 use Rattle.pass.specs.Passes.{namesAfter, aboveAfter}
 use Rattle.headers.proofs.Lines.{class-line, main-line, at-end, room-as, put-as, last-kind}
@@ -24,7 +24,7 @@ same-length : tie.Need-same-length
 same-length c = search needs
 
 returns : tie.Need-returns
-unfolding kindNumber isKind namesAfter
+unfolding kindNumber isKind isStatement namesAfter
 returns c =
     let p = c .before .before .before .before .before .before .before .pre in
     let v = c .before .before .before .before .before .before .before .args in
@@ -34,7 +34,7 @@ returns c =
     (class-line (v .text .now) (v .work .now) (v .p) (more (drop (v .r) (v .text .now))) (p .0) (room-as Class e (p .2))))
 
 returns-2 : tie.Need-returns-2
-unfolding kindNumber isKind namesAfter aboveAfter
+unfolding kindNumber isKind isStatement namesAfter aboveAfter
 returns-2 c =
     let p = c .before .before .before .before .pre in
     let v = c .before .before .before .before .args in

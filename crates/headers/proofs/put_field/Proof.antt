@@ -6,7 +6,7 @@ use native.Mathlib.Omega.{arith}
 use lib.ListN.{getD, drop}
 use borrow.Author.Tests.{not-true, not-false}
 use Rattle.rules.specs.Base.{is}
-use Rattle.rules.specs.Grammar.{Field, kindNumber, isKind}
+use Rattle.rules.specs.Grammar.{Field, kindNumber, isStatement, isKind}
 use Rattle.rules.specs.Names.{fieldNumber}
 use Rattle.lines.specs.Cuts.{more}
 use Rattle.declared.specs.Meanings.{declarationsIn}
@@ -86,7 +86,7 @@ same-length-2 : tie.Need-same-length-2
 same-length-2 c = search needs
 
 returns-2 : tie.Need-returns-2
-unfolding namesAfter isKind kindNumber
+unfolding namesAfter isKind isStatement kindNumber
 returns-2 c =
     let p = c .before .before .before .before .before .before .before .before .before .before .before .before .before .before .before .before .before .before .before .before .before .pre in
     let v = c .before .before .before .before .before .before .before .before .before .before .before .before .before .before .before .before .before .before .before .before .before .args in

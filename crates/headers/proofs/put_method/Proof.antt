@@ -6,7 +6,7 @@ use lib.ListN.{length, drop}
 use borrow.Author.Tests.{not-true, not-false}
 use Rattle.rules.specs.Limits.{most-methods}
 use Rattle.rules.specs.Text.{isName}
-use Rattle.rules.specs.Grammar.{Method, kindNumber, isKind}
+use Rattle.rules.specs.Grammar.{Method, kindNumber, isStatement, isKind}
 use Rattle.lines.specs.Cuts.{more}
 use Rattle.declared.specs.Meanings.{putBlock}
 use Rattle.declare.proofs.Lines.{span-fits, method-names}
@@ -95,7 +95,7 @@ same-length-2 : tie.Need-same-length-2
 same-length-2 c = search needs
 
 returns-2 : tie.Need-returns-2
-unfolding namesAfter isKind kindNumber
+unfolding namesAfter isKind isStatement kindNumber
 returns-2 c =
     let p = c .before .before .before .before .before .before .before .before .before .before .before .before .before .before .before .before .before .before .before .before .before .before .before .before .before .before .before .pre in
     let v = c .before .before .before .before .before .before .before .before .before .before .before .before .before .before .before .before .before .before .before .before .before .before .before .before .before .before .before .args in

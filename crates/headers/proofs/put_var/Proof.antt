@@ -3,7 +3,7 @@ use mathlib.Core.Path.{refl, ap, _∙_}
 use lib.ListN.{drop}
 use borrow.Author.Tests.{not-true, not-false}
 use Rattle.rules.specs.Text.{isName}
-use Rattle.rules.specs.Grammar.{Var, kindNumber, isKind}
+use Rattle.rules.specs.Grammar.{Var, kindNumber, isStatement, isKind}
 use Rattle.lines.specs.Cuts.{more}
 use Rattle.declare.proofs.Lines.{span-fits, second}
 use Rattle.pass.specs.Passes.{namesAfter, aboveAfter}
@@ -62,7 +62,7 @@ same-length-2 : tie.Need-same-length-2
 same-length-2 c = search needs
 
 returns-2 : tie.Need-returns-2
-unfolding namesAfter aboveAfter isKind kindNumber
+unfolding namesAfter aboveAfter isKind isStatement kindNumber
 returns-2 c =
     let p = c .before .before .before .before .before .before .before .before .before .before .before .before .before .before .before .pre in
     let v = c .before .before .before .before .before .before .before .before .before .before .before .before .before .before .before .args in

@@ -1,6 +1,7 @@
 -- `judge::call_agrees` meets its contract: `sidesAgree` at `call`. Assumes nothing.
 use mathlib.Core.Path.{refl, sym, _∙_}
-use Rattle.rules.specs.Grammar.{Call, isKind, kindNumber}
+use Rattle.rules.specs.Grammar as Grammar
+use Rattle.rules.specs.Grammar.{Call, isStatement, isKind, kindNumber, statementNumber}
 use Rattle.rules.specs.Scope.{operand}
 use Rattle.rules.specs.Names as Rules
 use Rattle.judge.specs.Tests.{sidesIn}
@@ -49,8 +50,8 @@ and-requires : tie.Need-and-requires
 and-requires c κs = search needs
 
 returns : tie.Need-returns
-unfolding sidesIn Rules.sidesAgree operand isKind kindNumber Rules.callAgrees Rules.methodOfClass
-returns c = c .and .ensures ∙ simp (c .before .before .before .same-name .ensures, c .before .same-name2 .ensures, c .before .before .before .before .result-type .ensures (c .before .before .before .before .before .before .before .before .before .before .before .before .before .before .before .args .text .now), c .before .before .parameter-type .ensures (c .before .before .before .before .before .before .before .before .before .before .before .before .before .before .before .args .text .now), c .before .before .before .before .before .before .before .method-number .ensures .0, c .before .before .before .before .before .before .before .before .before .before .before .variable-type .ensures, c .before .before .before .before .before .before .before .before .before .variable-type2 .ensures, c .before .before .before .before .before .variable-type3 .ensures, c .before .before .before .before .before .before .before .before .before .before .before .before .nth-field .ensures, c .before .before .before .before .before .before .before .before .before .before .nth-field2 .ensures, c .before .before .before .before .before .before .before .before .nth-field3 .ensures, c .before .before .before .before .before .before .nth-field4 .ensures) (sym (sides-of (c .before .before .before .before .before .before .before .before .before .before .before .before .before .before .before .args .text .now) (c .before .before .before .before .before .before .before .before .before .before .before .before .before .before .before .args .work .now) (c .before .before .before .before .before .before .before .before .before .before .before .before .before .before .before .args .c) (c .before .before .before .before .before .before .before .before .before .before .before .before .before .before .before .args .from) 11 Call refl))
+unfolding sidesIn Rules.sidesAgree operand isKind isStatement kindNumber statementNumber Rules.callAgrees Rules.methodOfClass
+returns c = c .and .ensures ∙ simp (c .before .before .before .same-name .ensures, c .before .same-name2 .ensures, c .before .before .before .before .result-type .ensures (c .before .before .before .before .before .before .before .before .before .before .before .before .before .before .before .args .text .now), c .before .before .parameter-type .ensures (c .before .before .before .before .before .before .before .before .before .before .before .before .before .before .before .args .text .now), c .before .before .before .before .before .before .before .method-number .ensures .0, c .before .before .before .before .before .before .before .before .before .before .before .variable-type .ensures, c .before .before .before .before .before .before .before .before .before .variable-type2 .ensures, c .before .before .before .before .before .variable-type3 .ensures, c .before .before .before .before .before .before .before .before .before .before .before .before .nth-field .ensures, c .before .before .before .before .before .before .before .before .before .before .nth-field2 .ensures, c .before .before .before .before .before .before .before .before .nth-field3 .ensures, c .before .before .before .before .before .before .nth-field4 .ensures) (sym (sides-of (c .before .before .before .before .before .before .before .before .before .before .before .before .before .before .before .args .text .now) (c .before .before .before .before .before .before .before .before .before .before .before .before .before .before .before .args .work .now) (c .before .before .before .before .before .before .before .before .before .before .before .before .before .before .before .args .c) (c .before .before .before .before .before .before .before .before .before .before .before .before .before .before .before .args .from) 11 (Grammar.statement Call) refl))
 
 pub call-agrees-spec : {M : Type 1} → statement M
 call-agrees-spec =

@@ -6,7 +6,7 @@ use Rattle.judge.proofs.call_apart.Statement.{statement}
 use Rattle.judge.proofs.call_apart.Tie as tie
 
 returns : tie.Need-returns
-returns c = apart-other (c .before .before .before .args .text .now) (c .before .before .before .args .work .now) (c .before .before .before .args .c) (c .before .before .before .args .from) (c .before .before .before .args .kind) (c .before .before .before .pre .3 .0) (c .before .before .before .pre .3 .1) (c .if1 .taken)
+returns c = apart-other (c .before .before .before .args .text .now) (c .before .before .before .args .work .now) (c .before .before .before .args .c) (c .before .before .before .args .from) (c .before .before .before .args .kind) (c .before .before .before .pre .3) (c .if1 .taken)
 
 nth-field-requires : tie.Need-nth-field-requires
 nth-field-requires c κs = search needs

@@ -1,6 +1,7 @@
 -- `judge::let_agrees` meets its contract: `sidesAgree` at `let`. Assumes nothing.
 use mathlib.Core.Path.{refl, sym, _∙_}
-use Rattle.rules.specs.Grammar.{Let, isKind, kindNumber}
+use Rattle.rules.specs.Grammar as Grammar
+use Rattle.rules.specs.Grammar.{Let, isStatement, isKind, kindNumber, statementNumber}
 use Rattle.rules.specs.Scope.{operand}
 use Rattle.rules.specs.Names as Rules
 use Rattle.judge.specs.Tests.{sidesIn}
@@ -26,8 +27,8 @@ agree-requires : tie.Need-agree-requires
 agree-requires c κs = search needs
 
 returns : tie.Need-returns
-unfolding sidesIn Rules.sidesAgree operand isKind kindNumber typeMeant
-returns c = c .agree .ensures ∙ rw (c .before .expr-type .ensures, c .before .before .before .variable-type .ensures, c .before .before .before .before .nth-field .ensures, c .before .before .nth-field2 .ensures) (sym (sides-of (c .before .before .before .before .before .before .before .args .text .now) (c .before .before .before .before .before .before .before .args .work .now) (c .before .before .before .before .before .before .before .args .c) (c .before .before .before .before .before .before .before .args .from) 9 Let refl))
+unfolding sidesIn Rules.sidesAgree operand isKind isStatement kindNumber statementNumber typeMeant
+returns c = c .agree .ensures ∙ rw (c .before .expr-type .ensures, c .before .before .before .variable-type .ensures, c .before .before .before .before .nth-field .ensures, c .before .before .nth-field2 .ensures) (sym (sides-of (c .before .before .before .before .before .before .before .args .text .now) (c .before .before .before .before .before .before .before .args .work .now) (c .before .before .before .before .before .before .before .args .c) (c .before .before .before .before .before .before .before .args .from) 9 (Grammar.statement Let) refl))
 
 pub let-agrees-spec : {M : Type 1} → statement M
 let-agrees-spec =

@@ -18,7 +18,7 @@ abbrev μ-loop : tie.MeasureT-loop
 μ-loop text work from kind c a left₀ t₀ b₀ r₀ left t b r = left
 
 row-of-requires : tie.Need-row-of-requires Inv-loop μ-loop
-row-of-requires c κs = (c .before .before .pre .2 .first, c .before .before .pre .2 .last)
+row-of-requires c κs = c .before .before .pre .2 .kind
 
 loop-holds : tie.Need-loop-holds Inv-loop μ-loop
 unfolding rowOf

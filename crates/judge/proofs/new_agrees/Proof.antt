@@ -1,6 +1,7 @@
 -- `judge::new_agrees` meets its contract: `sidesAgree` at `new`. Assumes nothing.
 use mathlib.Core.Path.{refl, sym, _∙_}
-use Rattle.rules.specs.Grammar.{New, isKind, kindNumber}
+use Rattle.rules.specs.Grammar as Grammar
+use Rattle.rules.specs.Grammar.{New, isStatement, isKind, kindNumber, statementNumber}
 use Rattle.rules.specs.Scope.{operand}
 use Rattle.rules.specs.Names as Rules
 use Rattle.judge.specs.Tests.{sidesIn}
@@ -25,8 +26,8 @@ same-requires : tie.Need-same-requires
 same-requires c κs = search needs
 
 returns : tie.Need-returns
-unfolding sidesIn Rules.sidesAgree operand isKind kindNumber
-returns c = c .same .ensures ∙ rw (c .before .before .name-in .ensures, c .before .before .before .variable-type .ensures, c .before .before .before .before .nth-field .ensures, c .before .nth-field2 .ensures) (sym (sides-of (c .before .before .before .before .before .before .before .args .text .now) (c .before .before .before .before .before .before .before .args .work .now) (c .before .before .before .before .before .before .before .args .c) (c .before .before .before .before .before .before .before .args .from) 10 New refl))
+unfolding sidesIn Rules.sidesAgree operand isKind isStatement kindNumber statementNumber
+returns c = c .same .ensures ∙ rw (c .before .before .name-in .ensures, c .before .before .before .variable-type .ensures, c .before .before .before .before .nth-field .ensures, c .before .nth-field2 .ensures) (sym (sides-of (c .before .before .before .before .before .before .before .args .text .now) (c .before .before .before .before .before .before .before .args .work .now) (c .before .before .before .before .before .before .before .args .c) (c .before .before .before .before .before .before .before .args .from) 10 (Grammar.statement New) refl))
 
 pub new-agrees-spec : {M : Type 1} → statement M
 new-agrees-spec =

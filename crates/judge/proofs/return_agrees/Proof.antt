@@ -1,6 +1,7 @@
 -- `judge::return_agrees` meets its contract: `sidesAgree` at `return`. Assumes nothing.
 use mathlib.Core.Path.{refl, sym, _∙_}
-use Rattle.rules.specs.Grammar.{Return, isKind, kindNumber}
+use Rattle.rules.specs.Grammar as Grammar
+use Rattle.rules.specs.Grammar.{Return, isStatement, isKind, kindNumber, statementNumber}
 use Rattle.rules.specs.Scope.{operand}
 use Rattle.rules.specs.Names as Rules
 use Rattle.judge.specs.Tests.{sidesIn}
@@ -26,8 +27,8 @@ same-name-requires : tie.Need-same-name-requires
 same-name-requires c κs = search needs
 
 returns : tie.Need-returns
-unfolding sidesIn Rules.sidesAgree operand isKind kindNumber bytes
-returns c = c .same-name .ensures ∙ rw (c .before .before .before .variable-type .ensures, c .before .variable-type2 .ensures, c .before .before .before .before .nth-field .ensures) (sym (sides-of (c .before .before .before .before .before .before .before .args .text .now) (c .before .before .before .before .before .before .before .args .work .now) (c .before .before .before .before .before .before .before .args .c) (c .before .before .before .before .before .before .before .args .from) 12 Return refl))
+unfolding sidesIn Rules.sidesAgree operand isKind isStatement kindNumber statementNumber bytes
+returns c = c .same-name .ensures ∙ rw (c .before .before .before .variable-type .ensures, c .before .variable-type2 .ensures, c .before .before .before .before .nth-field .ensures) (sym (sides-of (c .before .before .before .before .before .before .before .args .text .now) (c .before .before .before .before .before .before .before .args .work .now) (c .before .before .before .before .before .before .before .args .c) (c .before .before .before .before .before .before .before .args .from) 12 (Grammar.statement Return) refl))
 
 pub return-agrees-spec : {M : Type 1} → statement M
 return-agrees-spec =

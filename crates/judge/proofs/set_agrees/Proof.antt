@@ -1,6 +1,7 @@
 -- `judge::set_agrees` meets its contract: `sidesAgree` at `set`. Assumes nothing.
 use mathlib.Core.Path.{refl, sym, _∙_}
-use Rattle.rules.specs.Grammar.{Set, isKind, kindNumber}
+use Rattle.rules.specs.Grammar as Grammar
+use Rattle.rules.specs.Grammar.{Set, isStatement, isKind, kindNumber, statementNumber}
 use Rattle.rules.specs.Scope.{operand}
 use Rattle.rules.specs.Names as Rules
 use Rattle.judge.specs.Tests.{sidesIn}
@@ -31,8 +32,8 @@ same-name-requires : tie.Need-same-name-requires
 same-name-requires c κs = search needs
 
 returns : tie.Need-returns
-unfolding sidesIn Rules.sidesAgree operand isKind kindNumber
-returns c = c .same-name .ensures ∙ rw (c .before .before .before .field-type .ensures, c .before .before .before .before .before .variable-type .ensures, c .before .variable-type2 .ensures, c .before .before .before .before .before .before .nth-field .ensures, c .before .before .before .before .nth-field2 .ensures, c .before .before .nth-field3 .ensures) (sym (sides-of (c .before .before .before .before .before .before .before .before .before .args .text .now) (c .before .before .before .before .before .before .before .before .before .args .work .now) (c .before .before .before .before .before .before .before .before .before .args .c) (c .before .before .before .before .before .before .before .before .before .args .from) 8 Set refl))
+unfolding sidesIn Rules.sidesAgree operand isKind isStatement kindNumber statementNumber
+returns c = c .same-name .ensures ∙ rw (c .before .before .before .field-type .ensures, c .before .before .before .before .before .variable-type .ensures, c .before .variable-type2 .ensures, c .before .before .before .before .before .before .nth-field .ensures, c .before .before .before .before .nth-field2 .ensures, c .before .before .nth-field3 .ensures) (sym (sides-of (c .before .before .before .before .before .before .before .before .before .args .text .now) (c .before .before .before .before .before .before .before .before .before .args .work .now) (c .before .before .before .before .before .before .before .before .before .args .c) (c .before .before .before .before .before .before .before .before .before .args .from) 8 (Grammar.statement Set) refl))
 
 pub set-agrees-spec : {M : Type 1} → statement M
 set-agrees-spec =

@@ -35,7 +35,7 @@ returns-5 : tie.Need-returns-5
 returns-5 c = rw (c .before .match .keys5) (c .return-agrees .ensures)
 
 returns-6 : tie.Need-returns-6
-returns-6 c = sides-other (c .before .before .before .args .text .now) (c .before .before .before .args .work .now) (c .before .before .before .args .c) (c .before .before .before .args .from) (c .before .before .before .args .kind) (c .before .before .before .pre .3 .first) (c .before .before .before .pre .3 .last) (c .match .rest)
+returns-6 c = sides-other (c .before .before .before .args .text .now) (c .before .before .before .args .work .now) (c .before .before .before .args .c) (c .before .before .before .args .from) (c .before .before .before .args .kind) (c .before .before .before .pre .3 .kind) (c .match .rest)
 
 pub sides-agree-spec : {M : Type 1} → statement M
 sides-agree-spec =

@@ -21,7 +21,7 @@ returns c =
     let start = c .before .before .before .before in
     let place-after = c .before .before .before .place-after in
     λ p e.
-    let f = place-line-is (start .args .p) (start .args .kind) (start .pre .0 .0) (start .pre .0 .1) p e in
+    let f = place-line-is (start .args .p) (start .args .kind) (start .pre .0) p e in
     rw (c .next-place .ensures, c .before .before .is-in-place .ensures, c .before .is-within .ensures, place-after .ensures) f
 
 pub place-line-spec : {M : Type 1} → statement M

@@ -2,7 +2,8 @@
 use mathlib.Core.Path.{sym, _∙_}
 use mathlib.Core.Logic.{⊎-elim, inl, inr}
 use borrow.Author.Tests.{ne-eqb}
-use Rattle.rules.specs.Grammar.{Method, Main, Var, kindNumber, isKind}
+use Rattle.rules.specs.Grammar.{Method, Main, Var, kindNumber}
+use Rattle.rules.proofs.LineKinds.{kind-is as is-by-number}
 use Rattle.declare.proofs.Adds.{word-kind, kind-is, line-is, form-is}
 use Rattle.printer.proofs.Variables.{var-named, goes-method, goes-main, goes-none, goes-local, goes-line}
 use borrow.Author.Needs.{needs}
@@ -40,12 +41,15 @@ returns-2 c =
     goes-line (line-is (p .2) w {k = Var} (c .before .before .before .before .match .keys2)) (goes-local _ _ _ _ _ _ _ (p .3 .value e) (c .before .before .show-local .ensures))
 
 returns-3 : tie.Need-returns-3
-unfolding isKind kindNumber
+unfolding kindNumber
 returns-3 c =
     let p = c .before .before .before .before .before .pre in
     let w = word-kind (p .2) (c .before .word-at .ensures) in
     let r = c .match .rest in
-    goes-none _ _ _ _ _ (ne-eqb 3 _ (λ e. r .0 .1 (inl (w ∙ sym e)))) (ne-eqb 6 _ (λ e. r .0 .1 (inr (w ∙ sym e)))) (ne-eqb 7 _ (λ e. r .1 (w ∙ sym e)))
+    goes-none _ _ _ _ _
+    (is-by-number Method _ ∙ ne-eqb 3 _ (λ e. r .0 .1 (inl (w ∙ sym e))))
+    (is-by-number Main _ ∙ ne-eqb 6 _ (λ e. r .0 .1 (inr (w ∙ sym e))))
+    (is-by-number Var _ ∙ ne-eqb 7 _ (λ e. r .1 (w ∙ sym e)))
 
 pub show-line-spec : {M : Type 1} → statement M
 show-line-spec =

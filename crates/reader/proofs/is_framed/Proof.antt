@@ -6,18 +6,18 @@ use Rattle.reader.proofs.is_framed.Statement.{statement}
 use Rattle.reader.proofs.is_framed.Tie as tie
 
 returns : tie.Need-returns
-returns c = sym (framed-number _ (c .before .pre .0) (c .before .pre .1) ∙ rw (c .match .keys1))
+returns c = sym (framed-number _ (c .before .pre) ∙ rw (c .match .keys1))
 
 returns-2 : tie.Need-returns-2
-returns-2 c = sym (framed-number _ (c .before .pre .0) (c .before .pre .1) ∙ rw (c .match .keys2))
+returns-2 c = sym (framed-number _ (c .before .pre) ∙ rw (c .match .keys2))
 
 returns-3 : tie.Need-returns-3
-returns-3 c = sym (framed-number _ (c .before .pre .0) (c .before .pre .1) ∙ rw (c .match .keys3))
+returns-3 c = sym (framed-number _ (c .before .pre) ∙ rw (c .match .keys3))
 
 returns-4 : tie.Need-returns-4
 returns-4 c =
     let r = c .match .rest in
-    sym (framed-number _ (c .before .pre .0) (c .before .pre .1) ∙ rw (ne-eqb 4 _ (λ e. r .0 .0 .1 (sym e)), ne-eqb 5 _ (λ e. r .0 .1 (sym e)), ne-eqb 17 _ (λ e. r .1 (sym e))))
+    sym (framed-number _ (c .before .pre) ∙ rw (ne-eqb 4 _ (λ e. r .0 .0 .1 (sym e)), ne-eqb 5 _ (λ e. r .0 .1 (sym e)), ne-eqb 17 _ (λ e. r .1 (sym e))))
 
 pub is-framed-spec : {M : Type 1} → statement M
 is-framed-spec = tie.close (tie.spec returns returns-2 returns-3 returns-4)

@@ -6,7 +6,7 @@ use Rattle.reader.proofs.judge_line.Statement.{statement}
 use Rattle.reader.proofs.judge_line.Tie as tie
 
 seen-requires : tie.Need-seen-requires
-seen-requires c κs = let x = c .before .before .before .before .pre in (x .first, x .last)
+seen-requires c κs = let x = c .before .before .before .before .pre in x .kind
 
 judge-requires : tie.Need-judge-requires
 judge-requires c κs =

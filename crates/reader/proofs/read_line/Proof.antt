@@ -25,7 +25,7 @@ returns c = search needs
 try-line-requires : tie.Need-try-line-requires
 try-line-requires c κs =
     let x = c .before .before .before .before .before .pre in
-    (follows (x .0) (x .1), (x .0 .first, x .0 .last), sym (c .before .before .is-declaration .ensures) ∙ c .before .if1 .left, stands-held _ _ _ _ (x .2 .stands))
+    (follows (x .0) (x .1), x .0 .kind, sym (c .before .before .is-declaration .ensures) ∙ c .before .if1 .left, stands-held _ _ _ _ (x .2 .stands))
 
 enum-told : tie.Need-enum-told
 enum-told c = search needs
@@ -43,7 +43,7 @@ take-line-requires : tie.Need-take-line-requires
 take-line-requires c κs =
     let x = c .before .before .before .before .before .before .before .before .before .before .before .before .pre in
     let z = tried-on (c .before .before .before .before .before .before .try-line .ensures) _ (c .before .before .t .given .1) in
-    (between (z .1 .0) (x .2 .flat) (x .2 .stands) (x .0 .ready) (x .1), (x .0 .first, x .0 .last))
+    (between (z .1 .0) (x .2 .flat) (x .2 .stands) (x .0 .ready) (x .1), x .0 .kind)
 
 same-length-2 : tie.Need-same-length-2
 same-length-2 c = search needs

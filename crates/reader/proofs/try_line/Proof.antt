@@ -1,6 +1,6 @@
 -- `reader::try_line` meets its contract. Assumes nothing.
 use Rattle.rules.specs.Grammar.{Field, Method, Var, kindNumber}
-use Rattle.reader.proofs.Lines.{last-kind, kind-room, kind-formed}
+use Rattle.reader.proofs.Lines.{var-left, kind-room, kind-formed}
 use borrow.Author.Needs.{needs}
 use Rattle.reader.proofs.try_line.Statement.{statement}
 use Rattle.reader.proofs.try_line.Tie as tie
@@ -42,7 +42,7 @@ put-var-requires c κs =
     let x = c .before .before .before .before .before .pre in
     let v = c .before .before .before .before .before .args in
     let o = c .before .match .rest in
-    let e = last-kind _ (x .1 .0) (c .before .before .if1 .left) (o .0 .0 .0 .1) (o .0 .0 .1) (o .0 .1) (o .1) (x .2) in
+    let e = var-left _ (x .1 .0) (c .before .before .if1 .left) (o .0 .0 .0 .1) (o .0 .0 .1) (o .0 .1) (o .1) (x .2) in
     (x .0 .ready, x .0 .high, kind-formed (v .text .now) (v .work .now) (v .p) (v .r) Var e (x .0 .formed), kind-room (v .text .now) (v .work .now) (v .p) (v .r) Var e (x .0 .room))
 
 same-length-2 : tie.Need-same-length-2
@@ -76,7 +76,7 @@ returns-6 : tie.Need-returns-6
 returns-6 c =
     let x = c .before .before .before .before .before .before .before .before .pre in
     let o = c .before .before .before .before .match .rest in
-    let e = last-kind _ (x .1 .0) (c .before .before .before .before .before .if1 .left) (o .0 .0 .0 .1) (o .0 .0 .1) (o .0 .1) (o .1) (x .2) in
+    let e = var-left _ (x .1 .0) (c .before .before .before .before .before .if1 .left) (o .0 .0 .0 .1) (o .0 .0 .1) (o .0 .1) (o .1) (x .2) in
     rw e (c .before .before .put-var .ensures)
 
 pub try-line-spec : {M : Type 1} → statement M
