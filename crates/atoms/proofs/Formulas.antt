@@ -29,7 +29,8 @@ use Rattle.declared.proofs.Scopes.{names-kept, variables-kept}
 use Rattle.rules.specs.Syntax.{Program}
 use Rattle.emit.specs.Puts.{putAtom}
 use Rattle.emit.specs.Holds as Holds
-use Rattle.emit.specs.Holds.{Declared, AtomOk, Building}
+use Rattle.tables.specs.Tables.{Declared}
+use Rattle.emit.specs.Holds.{AtomOk, Building}
 use Rattle.emit.proofs.Atoms.{atom-names, atom-length, building, atom-written}
 use Rattle.atoms.specs.declared.AtomRow.{AtomRow}
 use Rattle.atoms.specs.declared.Tried.{Tried}

@@ -29,31 +29,20 @@ use Rattle.declared.specs.declared.Names as Declared
 use Rattle.declared.specs.declared.Member as Member
 use Rattle.declared.specs.declared.Lookup as Lookup
 use Rattle.declared.specs.Types.{good, typeMeant, MemberIs, LookIs}
-use Rattle.declared.specs.Rows.{rows, entryAt, fields-first}
+use Rattle.tables.specs.Decode.{run}
+use Rattle.declared.specs.Rows.{entryAt, fields-first}
 use Rattle.declared.specs.Meanings.{Fits, asField, declarationsIn, blockIn, ownVariables, variablesIn, variableAt, thisIn, resultIn}
-use Rattle.declared.proofs.Searches.{rows-length, any-index}
+use Rattle.tables.proofs.Runs.{run-length}
+use Rattle.declared.proofs.Searches.{any-index}
 use Rattle.emit.specs.Puts.{tagOf}
+use Rattle.tables.specs.Tables.{SideFits}
 use Rattle.emit.specs.Holds as Holds
-use Rattle.emit.specs.Holds.{SideOk, accessOf}
+use Rattle.emit.specs.Holds.{accessOf}
 use Rattle.atoms.specs.declared.Tried.{Tried}
 use Rattle.atoms.specs.Good.{fitsAtom}
 use Rattle.atoms.specs.Written.{Resolved, AtomTried}
 
 -- SIDES
-
--- numbers of an expression that fit a row
-unfoldable Fine : Expr ℕ → Type 0
-Fine (num n) = n < 4294967296
-Fine null = Unit {0}
-Fine (var x) = x < frame-variables
-Fine (path x f) = (x < frame-variables) × (f < most-names)
-
-fine-side : (e : Tables.Expr) (x : Expr ℕ) → meaning e ≡ x → Fine x → SideOk e
-unfolding meaning SideOk Fine
-fine-side (Tables.Expr.Num n) x m f = subst Fine (sym m) f
-fine-side Tables.Expr.Null x m f = tt
-fine-side (Tables.Expr.Var v) x m f = subst Fine (sym m) f
-fine-side (Tables.Expr.Path v n) x m f = subst Fine (sym m) f
 
 -- a path is an access
 path-access : (e : Tables.Expr) (v n : ℕ) → meaning e ≡ path v n → (tagOf e ≡ 3) × (accessOf e ≡ acc v n)
@@ -102,8 +91,8 @@ module _ (t w : List ℕ) (c : Declared.Names) (fits : Fits c) where
   Small : List Variable → Type 0
   Small vs = (v : Variable) → Member v vs → v .number < frame-variables
 
-  small-rows : (i n : ℕ) → i + n ≤ 15 → Small (rows (variableAt t w) i n)
-  unfolding Small rows variableAt
+  small-rows : (i n : ℕ) → i + n ≤ 15 → Small (run (variableAt t w) i n)
+  unfolding Small run variableAt
   small-rows i zero l v m = elim m [ ]
   small-rows i (suc n) l v m =
       ⊎-elim (λ k. small-rows (suc i) n (omega arith) v k) (λ e. let z : v .number ≡ i = ap (λ v. v .number) e in omega (arith, z)) (head-or m)
@@ -127,15 +116,15 @@ module _ (t w : List ℕ) (c : Declared.Names) (fits : Fits c) where
   unfolding variablesIn blockIn ownVariables
   small-all = small-append _ _ (block (c .method)) (result (c .result))
     where
-      own : (b : Bool) → Small (cond b (rows (variableAt t w) 1 (suc (c .locals))) (rows (variableAt t w) 2 (c .locals)))
+      own : (b : Bool) → Small (cond b (run (variableAt t w) 1 (suc (c .locals))) (run (variableAt t w) 2 (c .locals)))
       own true = small-rows 1 (suc (c .locals)) (omega (arith, fits .locals))
       own false = small-rows 2 (c .locals) (omega (arith, fits .locals))
 
       block :
           (b : Bool) →
           Small
-          (cond b (thisIn t w ∷ cond b (rows (variableAt t w) 1 (suc (c .locals))) (rows (variableAt t w) 2 (c .locals)))
-          (cond b (rows (variableAt t w) 1 (suc (c .locals))) (rows (variableAt t w) 2 (c .locals))))
+          (cond b (thisIn t w ∷ cond b (run (variableAt t w) 1 (suc (c .locals))) (run (variableAt t w) 2 (c .locals)))
+          (cond b (run (variableAt t w) 1 (suc (c .locals))) (run (variableAt t w) 2 (c .locals))))
       block true = small-cons (thisIn t w) _ (omega arith) (own true)
       block false = own false
 
@@ -159,7 +148,7 @@ module _ (t w : List ℕ) (c : Declared.Names) (fits : Fits c) where
       let a : T (any p l) =
       in-any (isFieldOf (declarationsIn t w c) C f) l (subst T (sym e) tt) (λ d i h. any-in p l d i (and-both (eqb (d .owner) (Names.classNumber (declarationsIn t w c) C)) (eqName (d .name) f) h .1)) in
       let b : index p l < length l = ltb-true _ _ (sym (any-index p l) ∙ T-true _ a) in
-      let n : length l ≡ c .fields = rows-length (λ j. asField (entryAt t w j)) fields-first (c .fields) in
+      let n : length l ≡ c .fields = run-length (λ j. asField (entryAt t w j)) fields-first (c .fields) in
       omega (arith, b, n, fits .fields)
 
   abbrev Γ : Declarations
@@ -168,9 +157,9 @@ module _ (t w : List ℕ) (c : Declared.Names) (fits : Fits c) where
   abbrev vs : List Variable
   vs = variablesIn t w c
 
-  path-fine : (x f : Name) → good Γ vs (path x f) ≡ true → Fine (resolveExpr Γ vs (path x f))
-  unfolding good knownExpr ofClassIn knownField Fine resolveExpr
-  path-fine x f g =
+  path-fits : (x f : Name) → good Γ vs (path x f) ≡ true → SideFits (resolveExpr Γ vs (path x f))
+  unfolding good knownExpr ofClassIn knownField SideFits resolveExpr
+  path-fits x f g =
       let a = both-true (inScope vs x && knownField Γ vs x f) (not (isInt vs x)) g in
       let b = both-true (inScope vs x) (knownField Γ vs x f) (a .0) in
       let k = both-true (not (reserved f)) (isInt vs x || any (isFieldOf Γ (variableType vs x) f) (Γ .fields)) (b .1) in
@@ -179,26 +168,26 @@ module _ (t w : List ℕ) (c : Declared.Names) (fits : Fits c) where
       subst (λ q. (q || any (isFieldOf Γ (variableType vs x) f) (Γ .fields)) ≡ true) i (k .1) in
       (variable-small x (b .0), field-small (variableType vs x) f m)
 
-  expr-fine : (w : Name) → isExpr w ≡ true → good Γ vs (exprOf w) ≡ true → Fine (resolveExpr Γ vs (exprOf w))
-  unfolding resolveExpr Fine good knownExpr ofClassIn
-  expr-fine w f g = go (exprOf w) refl g
+  expr-fits : (w : Name) → isExpr w ≡ true → good Γ vs (exprOf w) ≡ true → SideFits (resolveExpr Γ vs (exprOf w))
+  unfolding resolveExpr SideFits good knownExpr ofClassIn
+  expr-fits w f g = go (exprOf w) refl g
     where
-      go : (e : Expr Name) → exprOf w ≡ e → good Γ vs e ≡ true → Fine (resolveExpr Γ vs e)
+      go : (e : Expr Name) → exprOf w ≡ e → good Γ vs e ≡ true → SideFits (resolveExpr Γ vs e)
       go (num n) i h = number-read w n f i
       go null i h = tt
       go (var x) i h = variable-small x (both-true (inScope vs x) true h .0)
-      go (path x f) i h = path-fine x f h
+      go (path x f) i h = path-fits x f h
 
   -- ATOMS
   access-is :
       (x f : Name) (l : Tables.Expr) → good Γ vs (path x f) ≡ true → meaning l ≡ resolveExpr Γ vs (path x f) →
       Resolved Γ vs (acc x f) (record { kind = 0; left = l; right = Tables.Expr.Null })
-  unfolding resolveExpr resolveAtom Holds.atomOf SideOk
+  unfolding resolveExpr resolveAtom Holds.atomOf meaning SideFits
   access-is x f l g m =
       let p = path-access l _ _ m in
       record {
         is = p .1;
-        ok = record { kind = omega arith; left = fine-side l _ m (path-fine x f g); right = tt; access = λ e. p .0 };
+        ok = record { kind = omega arith; left = rw m (path-fits x f g); right = tt; access = λ e. p .0 };
       }
 
   pub access-row :
@@ -226,8 +215,8 @@ module _ (t w : List ℕ) (c : Declared.Names) (fits : Fits c) where
         ok =
             record {
               kind = k₂;
-              left = fine-side l _ m (expr-fine a f p);
-              right = fine-side r _ n (expr-fine b g q);
+              left = rw m (expr-fits a f p);
+              right = rw n (expr-fits b g q);
               access = λ e. absurd (omega arith);
             };
       }
@@ -292,7 +281,7 @@ module _ (u a b : Name) (k : ℕ) (h : k ≡ wordNumber u) where
         (below k 20)
       where
         below : (i j : ℕ) → (i < j) ⊎ (j ≤ i)
-        below i j = Rattle.emit.proofs.Runs.less-or-not i j (ltb i j) refl
+        below i j = Rattle.tables.proofs.Runs.less-or-not i j (ltb i j) refl
 
     pub compared-tried :
         (Γ : Declarations) (vs : List Variable) (r : Tried) (i : ℕ) → i ≡ cond (eqb k 20) 1 2 →

@@ -16,7 +16,8 @@ use Rattle.tables.specs.Stores.{Kept}
 use Rattle.declared.specs.declared.Names.{Names}
 use Rattle.declared.specs.Meanings.{Fits, declarationsIn, variablesIn}
 use Rattle.rules.specs.Syntax.{Program}
-use Rattle.emit.specs.Holds.{Declared, AtomOk, atomOf, Holds, Building}
+use Rattle.tables.specs.Tables.{Declared}
+use Rattle.emit.specs.Holds.{AtomOk, atomOf, Holds, Building}
 use Rattle.atoms.specs.declared.AtomRow.{AtomRow}
 use Rattle.atoms.specs.declared.Tried.{Tried}
 use Rattle.atoms.specs.declared.Put.{Put}

@@ -18,13 +18,13 @@ use Rattle.tables.specs.Layout.{names-at}
 use Rattle.tables.specs.Stores.{Kept}
 use Rattle.declared.specs.declared.Names.{Names}
 use Rattle.declared.specs.declared.Above.{Above}
-use Rattle.declared.specs.Rows.{rows}
+use Rattle.tables.specs.Decode.{run}
 use Rattle.declared.specs.Meanings.{declarationsIn, ownVariables, blockIn, scopeIn}
 use Rattle.declared.proofs.Scopes.{names-kept, scope-kept}
 use Rattle.rules.specs.Syntax.{Program}
 use Rattle.rules.specs.Reading.{withItem}
 use Rattle.emit.specs.Holds.{Holds}
-use Rattle.emit.proofs.Runs.{end-length, last-length}
+use Rattle.tables.proofs.Runs.{end-length, last-length}
 use Rattle.pass.specs.declared.Pass.{Pass}
 use Rattle.pass.specs.Passes.{counts, after, aboveAfter, withBlock, namesAfter, item, Ready, lastClass, Stands, Counts, LinePut}
 use Rattle.bodies.specs.Bodies.{ItemPut}
@@ -130,7 +130,7 @@ module _ (t w w′ : List ℕ) (p : Pass) (l : Line) (o : Quiet (l .kind)) (read
   scope-is s = rw (o .class, o .field, o .method, o .var)
 
   closed-in : (e : Bool) → scopeIn t w′ (cond e (withBlock false (p .names)) (p .names)) (p .above) ≡ closed e (scopeIn t w′ (p .names) (p .above))
-  unfolding scopeIn blockIn ownVariables rows withBlock closed
+  unfolding scopeIn blockIn ownVariables run withBlock closed
   closed-in true = refl
   closed-in false = refl
 

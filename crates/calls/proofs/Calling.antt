@@ -7,7 +7,7 @@ use mathlib.Core.Option.{Option, none, some}
 use Prim.Native.Nat.{ℕ, suc, _+_, _-_, _≤_, _<_}
 use native.Mathlib.Omega.{arith}
 use lib.Dec.{T, eqb}
-use lib.ListN.{length, drop, getD, set}
+use lib.ListN.{length, getD}
 use borrow.Author.Tests.{ne-eqb, eq-eqb, lt-ltb, le-ltb}
 use Rattle.rules.specs.Limits.{most-frames, most-methods}
 use Rattle.rules.specs.Base.{Try, ok, no, _>>=_, _>>_, check}
@@ -16,10 +16,10 @@ use Rattle.rules.specs.Machine.{Frame, Location, Config, took, holds, among, wi
 use Rattle.rules.specs.declared.Machine.{Machine}
 use Rattle.rules.proofs.Sets.{Holds, footprint-held}
 use Rattle.tables.specs.Layout.{frame-variables, holders-at, seconds-at, frames-at}
-use Rattle.tables.specs.Decode.{byteAt, halfAt, wordAt, yAt, zAt, memberAt, methodPlace, atomsFrom, atomCount, allRows, kindAt, methodCount, methodAt, requiresAt, ensuresAt, firstRowAt}
+use Rattle.tables.specs.Decode.{byteAt, halfAt, wordAt, yAt, zAt, memberAt, methodPlace, atomsFrom, atomCount, kindAt, methodCount, methodAt, requiresAt, ensuresAt, firstRowAt}
 use Rattle.tables.specs.Stores.{SameTables}
 use Rattle.tables.proofs.Bytes.{same-trans}
-use Rattle.tables.proofs.Decoding.{tables-same, all-same, rows-count-same, kind-same, methods-count-same, first-row-same, ensures-same, requires-same}
+use Rattle.tables.proofs.Decoding.{tables-same, rows-count-same, kind-same, methods-count-same, first-row-same, ensures-same, requires-same}
 use Rattle.stores.specs.declared.Fault.{Fault}
 use Rattle.steps.specs.declared.Turn.{Turn}
 use Rattle.stores.specs.Views.{frameAt, variableAt, savedHolder, savedRow, methodOf, cellHolder, cellOf, holderIn, holderOf, marked, prepared, nextView, takeIn, stopOf, SmallCells}
@@ -289,7 +289,7 @@ module _ {w : List ℕ} {c : Machine} {m : Config} (R : Represents w c m) (y z m
   requires-ok : FormulaOk (requiresAt (prepared w c method o p) method)
   unfolding requiresAt
   requires-ok =
-      atoms-ok (prepared w c method o p) (call-kept .tables) _ _ (call-kept .tables .method-fits method (call-prepared .exists) .requires .1)
+      atoms-ok (prepared w c method o p) (call-kept .tables) _ _ (call-kept .tables .method-fits method (call-prepared .exists) .formulas .requires .1)
 
   G : Frame
   G = callFrame m (methodAt w method) y z
@@ -423,7 +423,7 @@ module _ {w : List ℕ} {c : Machine} (ready : Ready w c) (k : AtKind w c 11) (y
 module _ {w : List ℕ} {c : Machine} (method a n : ℕ) (C : Calling w c method) (ea : a ≡ halfAt w (methodPlace method)) (en : n ≡ byteAt w (methodPlace method + 2)) where
   pub requires-atoms : (a + n ≤ atomCount w) × (n ≤ 8)
   requires-atoms =
-      let f = C .readable .tables .method-fits method (C .exists) .requires in
+      let f = C .readable .tables .method-fits method (C .exists) .formulas .requires in
       (omega (arith, f .1, ea, en), omega (arith, f .0, en))
 
   pub requires-takes : takeIn w (nextView c) (atomsFrom w a n) [] ≡ takeIn w (nextView c) (requiresAt w method) []

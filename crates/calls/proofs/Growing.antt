@@ -20,12 +20,12 @@ use Rattle.rules.proofs.Lists.{T-true, F-false, or-left, or-right, or-cases, no
 use Rattle.rules.proofs.Heaps.{grown-other, grown-new}
 use Rattle.rules.proofs.Sets.{in-new}
 use Rattle.tables.specs.Layout.{frame-variables, most-names, values-at, frames-at}
-use Rattle.tables.specs.Decode.{kindAt, xAt, memberAt, classCount, classAt, fieldsFrom, fieldAt, fieldCountAt, fieldNameAt}
+use Rattle.tables.specs.Decode.{run, kindAt, xAt, memberAt, classCount, classAt, fieldsFrom, fieldAt, fieldCountAt, fieldNameAt}
 use Rattle.tables.specs.Tables.{ClassFits, placeAt}
 use Rattle.tables.specs.Stores.{SameTables, putWord}
 use Rattle.tables.proofs.Rows.{class-length}
 use Rattle.tables.proofs.Bytes.{same-trans}
-use Rattle.tables.proofs.Decoding.{tables-same, all-same, rows-count-same, kind-same, classes-count-same, field-count-same, place-same}
+use Rattle.tables.proofs.Decoding.{tables-same, rows-count-same, kind-same, classes-count-same, field-count-same, place-same}
 use Rattle.stores.specs.declared.Fault.{Fault}
 use Rattle.steps.specs.declared.Turn.{Turn}
 use Rattle.stores.specs.declared.View.{View}
@@ -47,7 +47,7 @@ use Rattle.calls.proofs.Making.{made-only, made-class, made-first, made
 -- FIELDS OF A CLASS
 class-has :
     (w : List ℕ) (c j n p : ℕ) → p < n → Has (map newCell (fieldsFrom w c j n)) (fieldNameAt w c (j + p))
-unfolding fieldsFrom any newCell fieldAt
+unfolding run any newCell fieldAt
 class-has w c j zero p l = absurd (omega arith)
 class-has w c j (suc n) zero l =
     or-left (eqb (fieldNameAt w c j) (fieldNameAt w c (j + 0))) _ (rw add-zero (eqb-refl (fieldNameAt w c j)))
@@ -57,7 +57,7 @@ class-has w c j (suc n) (suc p) l =
 
 has-name :
     (w : List ℕ) (c j n f : ℕ) → Has (map newCell (fieldsFrom w c j n)) f → (p : ℕ) × (p < n) × (fieldNameAt w c (j + p) ≡ f)
-unfolding fieldsFrom any newCell fieldAt
+unfolding run any newCell fieldAt
 has-name w c j zero f t = absurd t
 has-name w c j (suc n) f t =
     ⊎-elim

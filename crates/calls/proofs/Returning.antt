@@ -16,11 +16,12 @@ use Rattle.rules.specs.declared.Machine.{Machine}
 use Rattle.rules.proofs.Lists.{T-true}
 use Rattle.rules.proofs.Sets.{Holds, footprint-held, in-append, in-left, in-right}
 use Rattle.tables.specs.Layout.{frame-variables, holders-at, seconds-at, frames-at}
-use Rattle.tables.specs.Decode.{programIn, byteAt, halfAt, methodPlace, rowAt, kindAt, xAt, rowCount, methodCount, atomsFrom, atomCount, ensuresAt}
+use Rattle.tables.specs.Decode.{programIn, byteAt, halfAt, methodPlace, operandsAt, stmtAt, rowAt, kindAt, xAt, rowCount, methodCount, atomsFrom, atomCount, ensuresAt}
 use Rattle.tables.specs.Stores.{SameTables, putWord}
 use Rattle.tables.proofs.Rows.{row-in}
+use Rattle.tables.proofs.Statements.{call-means}
 use Rattle.tables.proofs.Bytes.{same-trans, same-refl}
-use Rattle.tables.proofs.Decoding.{tables-same, all-same, rows-count-same, kind-same}
+use Rattle.tables.proofs.Decoding.{tables-same, rows-count-same, kind-same}
 use Rattle.stores.specs.declared.Fault.{Fault}
 use Rattle.steps.specs.declared.Turn.{Turn}
 use Rattle.stores.specs.declared.View.{View}
@@ -34,7 +35,6 @@ use Rattle.steps.proofs.Moves.{sees, moved-to, next-is, next-fits, follow-stop,
 use Rattle.steps.proofs.Changes.{put-variable, marks-only, holder-marked, taken-held, others-kept, heap-marked}
 use Rattle.steps.proofs.Steps.{frame-holding}
 use Rattle.steps.proofs.Doing.{does-on, frames-fit}
-use Rattle.steps.proofs.Statements.{call-target}
 
 -- a set and another
 pub among-append : (p : Location) (A B : List Location) → among p (A ++ B) ≡ cond (among p B) true (among p A)
@@ -45,6 +45,11 @@ among-append p A B = go (among p B) refl
     go false e =
         bool-iff (among p (A ++ B)) (among p A)
         (λ t. ⊎-elim (λ a. a) (λ b. absurd (subst T e b)) (in-append p A B t)) (λ t. in-left p A B t)
+
+-- the variable that a call sets
+call-target : (w : List ℕ) (i : ℕ) → kindAt w i ≡ 11 → targetOf (stmtAt w i) ≡ xAt w i
+unfolding targetOf
+call-target w i e = rw (call-means w (operandsAt w i) e)
 
 -- the row of a frame
 pub row-of : {w : List ℕ} {n b number row : ℕ} {F : Frame} → FrameIs w n b number row F → rowNumbered (programIn w) (F .row) ≡ rowAt w row
@@ -112,7 +117,7 @@ module _ {w : List ℕ} {c : Machine} {h : _} {F C : Frame} {Cs : List Frame}
 
   ensures-ok : FormulaOk (ensuresAt w (methodOf w (suc (length Cs))))
   unfolding ensuresAt
-  ensures-ok = atoms-ok w (R .tables) _ _ (R .tables .method-fits _ method-fits .ensures .1)
+  ensures-ok = atoms-ok w (R .tables) _ _ (R .tables .method-fits _ method-fits .formulas .ensures .1)
 
   row-stays : (w′ : List ℕ) → SameTables w w′ → kindAt w′ (savedRow w (length Cs)) ≡ 11
   row-stays w′ t =
@@ -222,7 +227,7 @@ module _ {w : List ℕ} {c : Machine} (ready : Ready w c) where
         rl = omega (arith, er, last-saved .0)
 
         xl : x < frame-variables
-        xl = omega (arith, ex, ready .represents .tables .row-fits r rl .x)
+        xl = omega (arith, ex, ready .represents .tables .row-fits r rl .operands .x)
 
         go :
             (h : Heap) (F : Frame) (Fs : List Frame) → Represents w c (record { heap = h; frame = F; callers = Fs }) →
@@ -246,7 +251,7 @@ module _ {w : List ℕ} {c : Machine} (ready : Ready w c) where
 
       pub end-atoms : (a + n ≤ atomCount w) × (n ≤ 8)
       end-atoms =
-          let f = ready .represents .tables .method-fits mt end-method .ensures in
+          let f = ready .represents .tables .method-fits mt end-method .formulas .ensures in
           (omega (arith, f .1, ea, en), omega (arith, f .0, en))
 
       pub end-takes : (v : View) → v ≡ viewOf c → takeIn w v (atomsFrom w a n) [] ≡ takeIn w (viewOf c) (ensuresAt w (methodOf w (c .frames - 1))) []

@@ -15,7 +15,7 @@ use Rattle.rules.specs.Syntax.{Formula, Rel, if}
 use Rattle.rules.specs.State as Rules
 use Rattle.rules.specs.Rules.{Open, inFirst, inSecond, ifRule, joinRule, checkRows, checkFrom, checkMethod, checkBlocks, checkProgram}
 use Rattle.rules.proofs.Lists.{decide-eq}
-use Rattle.tables.specs.Decode.{kindAt, lineAt, stmtAt, formulaAt, rowCount, allRows, programIn, methodAt, methodsFrom, methodCount, mainFirst, atomsFrom, requiresAt, ensuresAt, firstRowAt, byteAt, halfAt, methodPlace}
+use Rattle.tables.specs.Decode.{operandsAt, run, kindAt, lineAt, stmtAt, formulaAt, rowCount, allRows, programIn, methodAt, methodsFrom, methodCount, mainFirst, atomsFrom, requiresAt, ensuresAt, firstRowAt, byteAt, halfAt, methodPlace}
 use Rattle.formulas.specs.Formulas.{formula}
 use Rattle.tables.specs.Tables.{Tables}
 use Rattle.knowledge.specs.declared.Answer.{Answer}
@@ -27,7 +27,8 @@ use Rattle.checker.proofs.Verdict.{the-type as verdict-type}
 use Rattle.checker.specs.declared.Out.{Out}
 use Rattle.checker.specs.declared.Verdict.{Verdict}
 use Rattle.checker.specs.Checked.{outcome, verdictOf, refusalOf, Nests, verdictFrom, Stepped, Ran, Ended, Turned, Joined}
-use Rattle.checker.proofs.Stepping.{is-else, is-join, is-end, step-verdict, step-nests, if-verdict, if-nests, else-verdict, else-twice, else-alone, else-nests, join-verdict, join-early, join-alone, join-nests, end-inside, end-verdict, at-line}
+use Rattle.tables.proofs.Statements.{else-means, join-means, end-means}
+use Rattle.checker.proofs.Stepping.{step-verdict, step-nests, if-verdict, if-nests, else-verdict, else-twice, else-alone, else-nests, join-verdict, join-early, join-alone, join-nests, end-inside, end-verdict, at-line}
 
 abbrev Result : Type 0
 Result = Answers.Verdict (Unit {0})
@@ -73,13 +74,13 @@ module _ (w : List ℕ) (T : Tables w) where
   -- a row that closes is one of three
   pub closing : {A : Type 0} (i : ℕ) → i < rowCount w → 16 ≤ kindAt w i → (kindAt w i ≡ 16 → A) → (kindAt w i ≡ 17 → A) → (kindAt w i ≡ 18 → A) → A
   closing i h g a b c =
-      ⊎-elim a (λ n. ⊎-elim b (λ m. c (last (kindAt w i) g (T .row-fits i h .kind .1) n m)) (decide-eq (kindAt w i) 17)) (decide-eq (kindAt w i) 16)
+      ⊎-elim a (λ n. ⊎-elim b (λ m. c (last (kindAt w i) g (T .row-fits i h .operands .kind .1) n m)) (decide-eq (kindAt w i) 17)) (decide-eq (kindAt w i) 16)
     where
       last : (k : ℕ) → 16 ≤ k → k ≤ 18 → (k ≡ 16 → ⊥) → (k ≡ 17 → ⊥) → k ≡ 18
       last k p q n m = omega arith
 
   pub goes-on : (i : ℕ) → i < rowCount w → kindAt w i < 18 → i + 1 < rowCount w
-  goes-on i h g = ⊎-elim (λ e. absurd (omega arith)) (λ n. omega arith) (T .row-fits i h .next)
+  goes-on i h g = ⊎-elim (λ e. absurd (omega arith)) (λ n. omega arith) (T .row-fits i h .follows .next)
 
   -- THE FIRST PART'S END
   module _ (one : Out) (E : Ended w one) where
@@ -100,8 +101,8 @@ module _ (w : List ℕ) (T : Tables w) where
             place = refl;
             was = λ e. e;
             next = λ _. goes-on (one .at) (E .within) (omega arith);
-            nests = λ _ d t. else-nests w (one .at) (E .within) (is-else w (one .at) k) d t;
-            same = λ s s₂ φ os. ap (outcome (one .answer) (lineAt w (one .at))) (else-verdict w (one .at) (E .within) (is-else w (one .at) k) s s₂ φ os);
+            nests = λ _ d t. else-nests w (one .at) (E .within) (else-means w (operandsAt w (one .at)) k) d t;
+            same = λ s s₂ φ os. ap (outcome (one .answer) (lineAt w (one .at))) (else-verdict w (one .at) (E .within) (else-means w (operandsAt w (one .at)) k) s s₂ φ os);
           }
 
       pub turned-wrong : (kindAt w (one .at) ≡ 16 → ⊥) → Turned w one (record { answer = Answer.Malformed; at = one .at })
@@ -111,7 +112,7 @@ module _ (w : List ℕ) (T : Tables w) where
             was = λ d. wrong d;
             next = λ d. wrong d;
             nests = λ d. wrong d;
-            same = λ s s₂ φ os. done-outcome (one .answer) e _ _ ∙ closing (one .at) (E .within) (E .closes e) (λ k. absurd (n k)) (λ k. join-early w (one .at) (E .within) (formulaAt w (one .at)) (is-join w (one .at) k) s s₂ φ os) (λ k. end-inside w (one .at) (E .within) (is-end w (one .at) k) s (inFirst s₂) φ os) ∙ sym (malformed-outcome _ _);
+            same = λ s s₂ φ os. done-outcome (one .answer) e _ _ ∙ closing (one .at) (E .within) (E .closes e) (λ k. absurd (n k)) (λ k. join-early w (one .at) (E .within) (formulaAt w (one .at)) (join-means w (operandsAt w (one .at)) k) s s₂ φ os) (λ k. end-inside w (one .at) (E .within) (end-means w (operandsAt w (one .at)) k) s (inFirst s₂) φ os) ∙ sym (malformed-outcome _ _);
           }
 
   -- THE SECOND PART'S END
@@ -137,8 +138,8 @@ module _ (w : List ℕ) (T : Tables w) where
             wf = A .wf;
             was = λ d. e;
             next = λ _. goes-on (two .at) (E .within) (omega arith);
-            nests = λ _ d t. join-nests w (two .at) (E .within) (formulaAt w (two .at)) (is-join w (two .at) k) d t;
-            same = λ φ os. done-outcome (two .answer) e _ _ ∙ join-verdict w (two .at) (E .within) (formulaAt w (two .at)) (is-join w (two .at) k) t s a key b A φ os;
+            nests = λ _ d t. join-nests w (two .at) (E .within) (formulaAt w (two .at)) (join-means w (operandsAt w (two .at)) k) d t;
+            same = λ φ os. done-outcome (two .answer) e _ _ ∙ join-verdict w (two .at) (E .within) (formulaAt w (two .at)) (join-means w (operandsAt w (two .at)) k) t s a key b A φ os;
           }
 
       pub joined-wrong : (kindAt w (two .at) ≡ 17 → ⊥) → (key b : List ℕ) → Wf key b → Joined w two s t (record { answer = Answer.Malformed; at = two .at }) key b
@@ -149,7 +150,7 @@ module _ (w : List ℕ) (T : Tables w) where
             was = λ d. wrong d;
             next = λ d. wrong d;
             nests = λ d. wrong d;
-            same = λ φ os. done-outcome (two .answer) e _ _ ∙ closing (two .at) (E .within) (E .closes e) (λ k. else-twice w (two .at) (E .within) (is-else w (two .at) k) t s φ os) (λ k. absurd (n k)) (λ k. end-inside w (two .at) (E .within) (is-end w (two .at) k) t (inSecond s) φ os) ∙ sym (malformed-outcome _ _);
+            same = λ φ os. done-outcome (two .answer) e _ _ ∙ closing (two .at) (E .within) (E .closes e) (λ k. else-twice w (two .at) (E .within) (else-means w (operandsAt w (two .at)) k) t s φ os) (λ k. absurd (n k)) (λ k. end-inside w (two .at) (E .within) (end-means w (operandsAt w (two .at)) k) t (inSecond s) φ os) ∙ sym (malformed-outcome _ _);
           }
 
 -- A BLOCK
@@ -279,13 +280,13 @@ module _ (w : List ℕ) (T : Tables w) (from : ℕ) (s : Rules.State) (r : Out) 
     pub block-ended : kindAt w (r .at) ≡ 18 → (a : Answer) → Asserts φ (stateOf key b) a → outcome a line (accepted tt) ≡ verdictFrom w from s φ []
     block-ended k a A =
         ap (λ (l : ℕ). outcome a l (accepted tt)) el
-        ∙ sym (reached ∙ end-verdict w (r .at) (R .within) (is-end w (r .at) k) (stateOf key b) φ ∙ assert-end (lineAt w (r .at)) φ (stateOf key b)
+        ∙ sym (reached ∙ end-verdict w (r .at) (R .within) (end-means w (operandsAt w (r .at)) k) (stateOf key b) φ ∙ assert-end (lineAt w (r .at)) φ (stateOf key b)
         ∙ at-line (lineAt w (r .at)) _ a key b (asserted φ key b a (R .wf) A) (λ t. accepted tt))
 
     pub block-open : (kindAt w (r .at) ≡ 18 → ⊥) → verdictOf (Verdict.Refused Answer.Malformed line) ≡ verdictFrom w from s φ []
     block-open n =
         malformed-verdict line ∙ ap (λ (l : ℕ). refused malformed l) el
-        ∙ sym (reached ∙ closing w T (r .at) (R .within) (R .closes e) (λ k. else-alone w (r .at) (R .within) (is-else w (r .at) k) (stateOf key b) φ) (λ k. join-alone w (r .at) (R .within) (formulaAt w (r .at)) (is-join w (r .at) k) (stateOf key b) φ) (λ k. absurd (n k)))
+        ∙ sym (reached ∙ closing w T (r .at) (R .within) (R .closes e) (λ k. else-alone w (r .at) (R .within) (else-means w (operandsAt w (r .at)) k) (stateOf key b) φ) (λ k. join-alone w (r .at) (R .within) (formulaAt w (r .at)) (join-means w (operandsAt w (r .at)) k) (stateOf key b) φ) (λ k. absurd (n k)))
 
 -- A METHOD
 module _ (w : List ℕ) (m a n c o f : ℕ) (ea : a ≡ halfAt w (methodPlace m)) (en : n ≡ byteAt w (methodPlace m + 2)) (s : Rules.State) (es : s ≡ Rules.empty) (k : Answer) (key b : List ℕ) (A : Adds (Rules.add (formula w 0 1 14 a n) s) k key b) where
@@ -316,7 +317,7 @@ module _ (w : List ℕ) where
   methods-all n e = let d : methodCount w ≡ n - 0 = omega arith in ap (λ (k : ℕ). checkBlocks (programIn w) (methodsFrom w 0 k)) d
 
   methods-more : (n m : ℕ) → m < n → methodsFrom w m (n - m) ≡ methodAt w m ∷ methodsFrom w (m + 1) (n - (m + 1))
-  unfolding methodsFrom
+  unfolding run
   methods-more n m h =
       let e : n - m ≡ suc (n - (m + 1)) = omega arith in
       let d : suc m ≡ m + 1 = omega arith in
@@ -337,5 +338,5 @@ module _ (w : List ℕ) where
       stays v o = refusal-stays v o (λ u. checkBlocks (programIn w) (methodsFrom w (m + 1) (n - (m + 1))))
 
   pub main-last : (n m f : ℕ) → n ≤ m → f ≡ mainFirst w → (t : Rules.State) → t ≡ Rules.empty → verdictFrom w f t (atomsFrom w 0 0) [] ≡ checkBlocks (programIn w) (methodsFrom w m (n - m))
-  unfolding checkBlocks checkFrom methodsFrom atomsFrom programIn
+  unfolding checkBlocks checkFrom run programIn
   main-last n m f h e t d = let z : n - m ≡ 0 = omega arith in rw (z, e, d)

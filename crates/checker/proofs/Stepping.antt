@@ -6,7 +6,6 @@ use Prim.Native.Nat.{ℕ, suc, _+_, _≤_, _<_}
 use native.Mathlib.Omega.{arith}
 use lib.Dec.{T, eqb, leb, leb→le}
 use lib.ListN.{drop}
-use borrow.Author.Tests.{ne-eqb}
 use Rattle.rules.specs.Base.{Try}
 use Rattle.rules.specs.Answers as Answers
 use Rattle.rules.specs.Answers.{Refusal, accepted, refused, atLine, malformed}
@@ -15,7 +14,7 @@ use Rattle.rules.specs.Syntax as Syntax
 use Rattle.rules.specs.State as Rules
 use Rattle.rules.specs.Rules.{Open, inFirst, inSecond, rule, newRule, callRule, ifRule, joinRule, elseRow, joinRow, endRow, checkRow, checkRows}
 use Rattle.rules.proofs.Lists.{and-both}
-use Rattle.tables.specs.Decode.{kindAt, xAt, yAt, zAt, memberAt, lineAt, stmtAt, rowAt, ifAt, formulaAt, firstAtomAt, relOf, leftAt, rightAt, byteAt, atomPlace, rowCount, classCount, methodCount, classAt, methodAt, allRows, programIn}
+use Rattle.tables.specs.Decode.{lineAt, stmtAt, rowAt, relOf, rowCount, classCount, methodCount, classAt, methodAt, allRows, programIn}
 use Rattle.tables.specs.Tables.{nested, nestedRow}
 use Rattle.tables.proofs.Rows.{row-cons, class-get, method-get}
 use Rattle.links.specs.Links as Links
@@ -33,55 +32,6 @@ relation k = go (eqb k 1)
     go : (c : Bool) → cond (not c) ne eq ≡ cond c eq ne
     go true = refl
     go false = refl
-
--- STATEMENTS BY THEIR KINDS
-module _ (w : List ℕ) (i : ℕ) where
-  not-kind : (k n : ℕ) → k ≡ n → (m : ℕ) → (n ≡ m → ⊥) → eqb k m ≡ false
-  not-kind k n e m d = ne-eqb k m (λ f. d (sym e ∙ f))
-
-  pub is-set : kindAt w i ≡ 8 → stmtAt w i ≡ simple (Syntax.set (xAt w i) (memberAt w i) (yAt w i))
-  unfolding stmtAt
-  is-set e = rw e
-
-  pub is-let : kindAt w i ≡ 9 → stmtAt w i ≡ simple (Syntax.assign (xAt w i) (rightAt w (firstAtomAt w i)))
-  unfolding stmtAt
-  is-let e = rw e
-
-  pub is-new : kindAt w i ≡ 10 → stmtAt w i ≡ simple (Syntax.new (xAt w i) (memberAt w i))
-  unfolding stmtAt
-  is-new e = rw e
-
-  pub is-call : kindAt w i ≡ 11 → stmtAt w i ≡ simple (Syntax.call (xAt w i) (yAt w i) (memberAt w i) (zAt w i))
-  unfolding stmtAt
-  is-call e = rw e
-
-  pub is-return : kindAt w i ≡ 12 → stmtAt w i ≡ simple (Syntax.return (xAt w i))
-  unfolding stmtAt
-  is-return e = rw e
-
-  pub is-assert : kindAt w i ≡ 13 → stmtAt w i ≡ simple (Syntax.assert (formulaAt w i))
-  unfolding stmtAt
-  is-assert e = rw e
-
-  pub is-release : kindAt w i ≡ 14 → stmtAt w i ≡ simple (Syntax.release (formulaAt w i))
-  unfolding stmtAt
-  is-release e = rw e
-
-  pub is-if : kindAt w i ≡ 15 → stmtAt w i ≡ if (relOf (byteAt w (atomPlace (firstAtomAt w i)))) (leftAt w (firstAtomAt w i)) (rightAt w (firstAtomAt w i))
-  unfolding stmtAt ifAt
-  is-if e = rw e
-
-  pub is-else : kindAt w i ≡ 16 → stmtAt w i ≡ else
-  unfolding stmtAt
-  is-else e = rw e
-
-  pub is-join : kindAt w i ≡ 17 → stmtAt w i ≡ join (formulaAt w i)
-  unfolding stmtAt
-  is-join e = rw e
-
-  pub is-end : kindAt w i ≡ 18 → stmtAt w i ≡ end
-  unfolding stmtAt
-  is-end e = rw e
 
 -- A VERDICT AT A LINE
 line-answered :

@@ -16,7 +16,8 @@ use Rattle.rules.specs.Items.{Item, resolveAtom, aStatement, aRequires, anEnsur
 use Rattle.leaves.proofs.Search.{both-true, true-false}
 use Rattle.lines.specs.Cuts.{more}
 use Rattle.tables.specs.Layout.{atoms-at}
-use Rattle.tables.specs.Decode.{byteAt, atomPlace, methodPlace, atomsFrom}
+use Rattle.tables.specs.Decode as Decode
+use Rattle.tables.specs.Decode.{byteAt, atomPlace, methodPlace, atomsFrom, stmtOf}
 use Rattle.tables.specs.Stores.{Kept}
 use Rattle.declared.specs.declared.Names.{Names}
 use Rattle.declared.specs.Meanings.{declarationsIn, variablesIn}
@@ -24,10 +25,12 @@ use Rattle.rules.specs.Syntax.{Program}
 use Rattle.rules.specs.Reading.{withItem}
 use Rattle.emit.specs.Puts.{putRow, putRequires, putEnsures, RowBytes}
 use Rattle.emit.proofs.Puts.{put-length, put-kept}
-use Rattle.emit.proofs.Kept.{atoms-kept}
+use Rattle.tables.specs.Tables.{Declared, OperandsFit}
+use Rattle.tables.proofs.Kept.{atoms-kept}
+use Rattle.tables.proofs.Statements.{assert-means, release-means, join-means}
 use Rattle.emit.proofs.Methods.{requires-written, ensures-written, requires-names, ensures-names}
-use Rattle.emit.specs.Holds.{Declared, RowOk, stmtOf, Holds, Building}
-use Rattle.emit.proofs.Rows.{row-written, row-kept, row-names, row-length, row-bytes, assert-means, release-means, join-means}
+use Rattle.emit.specs.Holds.{Holds, Building}
+use Rattle.emit.proofs.Rows.{row-written, row-kept, row-names, row-length, row-bytes}
 use Rattle.atoms.specs.declared.Put.{Put}
 use Rattle.atoms.specs.Written.{formulaAfter, fitsAfter, Ready, FormulaFollows, FormulaPut, FormulaTried, Unfit}
 use Rattle.claims.specs.Claims.{isClaim, claimOf, claimRow, ClaimPut, HeaderPut, ClaimTried, HeaderTried}
@@ -86,7 +89,7 @@ module _ {t w : List ℕ} {c : Names} {r n : ℕ} (k i l : ℕ) (ready : Ready t
   no-if z = ⊎-elim (λ e. omega arith) (λ o. ⊎-elim (λ e. omega arith) (λ e. omega arith) o) (claim-cases k claim)
 
   module _ {u : List ℕ} {m : ℕ} (y : FormulaPut t w c r n u m) (line : l < 65536) where
-    claim-ok : (D : Declared) → RowOk D m (claimRow k n m l)
+    claim-ok : (D : Declared) → OperandsFit D m (claimRow k n m l)
     claim-ok D =
         record {
           kind = omega (arith, bounds);
@@ -110,10 +113,11 @@ module _ {t w : List ℕ} {c : Names} {r n : ℕ} (k i l : ℕ) (ready : Ready t
     unfolding claimOf
     means D F b =
         let e : m - n ≡ length (formulaAfter t w c r) = omega (arith, y .count) in
-        ⊎-elim (λ q. assert-means D u F n m _ b (claimRow k n m l) refl e q ∙ sym (rw q))
+        let f : Decode.formulaOf u (claimRow k n m l) ≡ formulaAfter t w c r = rw e (b .mean) in
+        ⊎-elim (λ q. assert-means u (claimRow k n m l) q ∙ rw f (sym (rw q)))
         (λ o.
-        ⊎-elim (λ q. release-means D u F n m _ b (claimRow k n m l) refl e q ∙ sym (rw q))
-        (λ q. join-means D u F n m _ b (claimRow k n m l) refl e q ∙ sym (rw q)) o)
+        ⊎-elim (λ q. release-means u (claimRow k n m l) q ∙ rw f (sym (rw q)))
+        (λ q. join-means u (claimRow k n m l) q ∙ rw f (sym (rw q))) o)
         (claim-cases k claim)
 
     pub claim-put : (i < most-statements) → (v : List ℕ) → v ≡ putRow u i (claimRow k n m l) → ClaimPut t w c k r i n l v m

@@ -14,8 +14,9 @@ use Rattle.tables.specs.Stores.{Kept}
 use Rattle.declared.specs.declared.Names.{Names}
 use Rattle.rules.specs.Syntax.{Program}
 use Rattle.rules.specs.Reading.{withItem}
-use Rattle.emit.specs.declared.Operands.{Operands}
-use Rattle.emit.specs.Holds.{Declared, Holds}
+use Rattle.tables.specs.declared.Operands.{Operands}
+use Rattle.tables.specs.Tables.{Declared}
+use Rattle.emit.specs.Holds.{Holds}
 use Rattle.atoms.specs.declared.Put.{Put}
 use Rattle.atoms.specs.Written.{formulaAfter, fitsAfter, Unfit}
 

@@ -1,6 +1,6 @@
 use atoms::Put;
 use declared::Names;
-use emit::Operands;
+use tables::Operands;
 ghost use mathlib.Core.Path.{_≡_};
 ghost use mathlib.Core.Bool.{true};
 ghost use Prim.Native.Nat.{_<_};

@@ -24,7 +24,7 @@ use Rattle.lines.specs.Table.{WordAt, lineEnd}
 use Rattle.lines.proofs.Rows.{number-of-kind}
 use Rattle.lines.proofs.Table.{found-end}
 use Rattle.declared.specs.declared.Names.{Names}
-use Rattle.declared.specs.Rows.{rows}
+use Rattle.tables.specs.Decode.{run}
 use Rattle.declared.specs.Meanings.{Fits, declarationsIn, namesFrom, moreClasses, moreFields, moreMethods}
 use Rattle.declare.specs.Texts.{linesOf, Taken, lineAt, FormedAt}
 use Rattle.declare.specs.Declares.{joined, lineWith, namesAfter, noNames, Room, LineReady, Adds, Declares}
@@ -75,7 +75,7 @@ pub record Declaring (t v : List ℕ) (a : ℕ) (c : Names) (w : List ℕ) : Typ
   pub lines : Kept lines-at work-bytes v w
 
 pub declaring-first : (t w : List ℕ) (c : Names) → c ≡ noNames → Taken t → Declaring t w 0 c w
-unfolding joined declarationsIn namesFrom rows declarations Rattle.rules.specs.Places.opened
+unfolding joined declarationsIn namesFrom run declarations Rattle.rules.specs.Places.opened
 declaring-first t w c e k =
     subst (λ d. Declaring t w 0 d w) (sym e)
     (record {

@@ -17,10 +17,14 @@ use Rattle.rules.specs.Names.{noVariable, noField, noDeclaration, classNumber, 
 use Rattle.leaves.proofs.Search.{both-true}
 use Rattle.declared.specs.declared.Span.{Span}
 use Rattle.declared.specs.declared.Names.{Names}
-use Rattle.declared.specs.Rows.{Entry, entryAt, rows, isEntry, any-owner, nameIn, ownerAt, givesAt, classes-first, fields-first, methods-first, variables-first}
+use Rattle.tables.specs.Decode.{run}
+use Rattle.declared.specs.Rows.{Entry, entryAt, isEntry, any-owner, nameIn, ownerAt, givesAt, classes-first, fields-first, methods-first, variables-first}
 use Rattle.declared.specs.Meanings.{asField, asMethod, namesFrom, declarationsIn, variableAt, thisIn, resultIn, blockIn, ownVariables}
+use Rattle.declared.specs.declared.ExprType.{ExprType}
 use Rattle.declared.specs.LookUps.{typeOf, Looked, ownIn, isNew}
-use Rattle.declared.proofs.Searches.{rows-at, rows-past, index-same, index-both, any-rows, first-index, first-found, first-none, name-comm}
+use Rattle.declared.specs.Types.{typeMeant, isIntType, good, mayName}
+use Rattle.tables.proofs.Runs.{run-get, run-past}
+use Rattle.declared.proofs.Searches.{index-same, index-both, any-rows, first-index, first-found, first-none, name-comm}
 
 -- the tests of a search: by name alone, and of an owner
 entry-any : (x : Name) (e : Entry) → isEntry any-owner x e ≡ eqName (e .name) x
@@ -33,7 +37,7 @@ entry-of k x e l = rw (ne-eqb k any-owner (λ z. omega arith))
 
 -- DECLARATIONS
 module _ (t w : List ℕ) (c : Names) where
-  pub class-index : (x : Name) → index (isEntry any-owner x) (rows (entryAt t w) classes-first (c .classes)) ≡ classNumber (declarationsIn t w c) x
+  pub class-index : (x : Name) → index (isEntry any-owner x) (run (entryAt t w) classes-first (c .classes)) ≡ classNumber (declarationsIn t w c) x
   unfolding declarationsIn namesFrom classNumber
   class-index x =
       index-same (isEntry any-owner x) (eqName x) (entryAt t w) (λ j. entryAt t w j .name) classes-first classes-first (c .classes)
@@ -43,7 +47,7 @@ module _ (t w : List ℕ) (c : Names) where
   unfolding declarationsIn namesFrom classNumber
   class-any x = any-rows (eqName x) (λ j. entryAt t w j .name) classes-first (c .classes)
 
-  pub name-index : (f : Name) → index (isEntry any-owner f) (rows (entryAt t w) fields-first (c .fields)) ≡ fieldNumber (declarationsIn t w c) f
+  pub name-index : (f : Name) → index (isEntry any-owner f) (run (entryAt t w) fields-first (c .fields)) ≡ fieldNumber (declarationsIn t w c) f
   unfolding declarationsIn fieldNumber asField
   name-index f =
       index-same (isEntry any-owner f) (λ d. eqName (d .name) f) (entryAt t w) (λ j. asField (entryAt t w j)) fields-first fields-first
@@ -51,7 +55,7 @@ module _ (t w : List ℕ) (c : Names) where
 
   module _ (C : Name) (k : ℕ) (own : k ≡ classNumber (declarationsIn t w c) C) (small : k < any-owner) where
     pub field-index :
-        (f : Name) → index (isEntry k f) (rows (entryAt t w) fields-first (c .fields))
+        (f : Name) → index (isEntry k f) (run (entryAt t w) fields-first (c .fields))
         ≡ index (isFieldOf (declarationsIn t w c) C f) (declarationsIn t w c .fields)
     unfolding declarationsIn isFieldOf asField
     field-index f =
@@ -72,7 +76,7 @@ module _ (t w : List ℕ) (c : Names) where
         ∙ field-index f
 
     pub method-index :
-        (m : Name) → index (isEntry k m) (rows (entryAt t w) methods-first (c .methods)) ≡ methodNumber (declarationsIn t w c) C m
+        (m : Name) → index (isEntry k m) (run (entryAt t w) methods-first (c .methods)) ≡ methodNumber (declarationsIn t w c) C m
     unfolding declarationsIn methodNumber isMethodOf asMethod
     method-index m =
         index-same (isEntry k m) (isMethodOf (declarationsIn t w c) C m) (entryAt t w) (λ j. asMethod (entryAt t w j)) methods-first
@@ -98,11 +102,11 @@ module _ (t w : List ℕ) (c : Names) where
   pub field-at :
       (i : ℕ) → i < c .fields → getD (declarationsIn t w c .fields) i noField .type ≡ nameIn t (givesAt w (fields-first + i))
   unfolding declarationsIn asField entryAt
-  field-at i l = ap (λ d. d .type) (rows-at (λ j. asField (entryAt t w j)) fields-first (c .fields) i noField l)
+  field-at i l = ap (λ d. d .type) (run-get (λ j. asField (entryAt t w j)) fields-first (c .fields) i noField l)
 
   pub field-past : (i : ℕ) → c .fields ≤ i → getD (declarationsIn t w c .fields) i noField .type ≡ []
   unfolding declarationsIn
-  field-past i l = ap (λ d. d .type) (rows-past (λ j. asField (entryAt t w j)) fields-first (c .fields) i noField l)
+  field-past i l = ap (λ d. d .type) (run-past (λ j. asField (entryAt t w j)) fields-first (c .fields) i noField l)
 
   pub method-any :
       (C m : Name) → any (isMethodOf (declarationsIn t w c) C m) (declarationsIn t w c .methods)
@@ -114,11 +118,11 @@ module _ (t w : List ℕ) (c : Names) where
       (i : ℕ) → i < c .methods →
       getD (declarationsIn t w c .methods) i noDeclaration ≡ asMethod (entryAt t w (methods-first + i))
   unfolding declarationsIn
-  method-at i l = rows-at (λ j. asMethod (entryAt t w j)) methods-first (c .methods) i noDeclaration l
+  method-at i l = run-get (λ j. asMethod (entryAt t w j)) methods-first (c .methods) i noDeclaration l
 
   pub method-past : (i : ℕ) → c .methods ≤ i → getD (declarationsIn t w c .methods) i noDeclaration ≡ noDeclaration
   unfolding declarationsIn
-  method-past i l = rows-past (λ j. asMethod (entryAt t w j)) methods-first (c .methods) i noDeclaration l
+  method-past i l = run-past (λ j. asMethod (entryAt t w j)) methods-first (c .methods) i noDeclaration l
 
 -- VARIABLES
 isSome : {A : Type 0} → Option A → Bool
@@ -179,7 +183,7 @@ looked-this t w vs x e = looked-some t w (thisIn t w ∷ vs) x (thisIn t w) this
 
 module _ (t w : List ℕ) (from n : ℕ) (b : Bool) (x : Name) where
   own-index :
-      index (isEntry any-owner x) (rows (entryAt t w) (variables-first + from) n) ≡ index (λ v. eqName (v .name) x) (rows (variableAt t w) from n)
+      index (isEntry any-owner x) (run (entryAt t w) (variables-first + from) n) ≡ index (λ v. eqName (v .name) x) (run (variableAt t w) from n)
   unfolding variableAt
   own-index =
       index-same (isEntry any-owner x) (λ v. eqName (v .name) x) (entryAt t w) (variableAt t w) (variables-first + from) from n
@@ -188,7 +192,7 @@ module _ (t w : List ℕ) (from n : ℕ) (b : Bool) (x : Name) where
       entry-any x _ ∙ ap (λ i. eqName (entryAt t w i .name) x) z)
 
   pub own-found :
-      (i : ℕ) → i ≡ index (isEntry any-owner x) (rows (entryAt t w) (variables-first + from) n) → i < n → from + n ≤ 14 →
+      (i : ℕ) → i ≡ index (isEntry any-owner x) (run (entryAt t w) (variables-first + from) n) → i < n → from + n ≤ 14 →
       Looked t w (ownIn t w from n b) x (from + i)
   unfolding ownIn variableAt entryAt
   own-found i e l f =
@@ -197,27 +201,27 @@ module _ (t w : List ℕ) (from n : ℕ) (b : Bool) (x : Name) where
       refl (omega arith) refl
 
   own-past :
-      n ≤ index (isEntry any-owner x) (rows (entryAt t w) (variables-first + from) n) →
+      n ≤ index (isEntry any-owner x) (run (entryAt t w) (variables-first + from) n) →
       first (λ v. eqName (v .name) x) (ownIn t w from n b) ≡ first (λ v. eqName (v .name) x) (cond b (resultIn t w ∷ []) [])
   unfolding ownIn
   own-past l =
       first-none (λ v. eqName (v .name) x) (variableAt t w) (cond b (resultIn t w ∷ []) []) from n (omega (arith, own-index))
 
   pub own-result :
-      n ≤ index (isEntry any-owner x) (rows (entryAt t w) (variables-first + from) n) → b ≡ true → eqName (bytes "result") x ≡ true →
+      n ≤ index (isEntry any-owner x) (run (entryAt t w) (variables-first + from) n) → b ≡ true → eqName (bytes "result") x ≡ true →
       Looked t w (ownIn t w from n b) x result-variable
   unfolding first
   own-result l s e =
       looked-some t w (ownIn t w from n b) x (resultIn t w) result-variable (own-past l ∙ rw (s, e)) refl (omega arith) refl
 
   pub own-other :
-      n ≤ index (isEntry any-owner x) (rows (entryAt t w) (variables-first + from) n) → b ≡ true → eqName (bytes "result") x ≡ false →
+      n ≤ index (isEntry any-owner x) (run (entryAt t w) (variables-first + from) n) → b ≡ true → eqName (bytes "result") x ≡ false →
       Looked t w (ownIn t w from n b) x 15
   unfolding first
   own-other l s e = looked-none t w (ownIn t w from n b) x (own-past l ∙ rw (s, e))
 
   pub own-none :
-      n ≤ index (isEntry any-owner x) (rows (entryAt t w) (variables-first + from) n) → b ≡ false →
+      n ≤ index (isEntry any-owner x) (run (entryAt t w) (variables-first + from) n) → b ≡ false →
       Looked t w (ownIn t w from n b) x 15
   unfolding first
   own-none l s = looked-none t w (ownIn t w from n b) x (own-past l ∙ rw s)
@@ -240,7 +244,7 @@ not-below i n l = go (ltb i n) refl
 
 module _ (t w : List ℕ) where
   pub new-among :
-      (from n : ℕ) (x : Name) (i : ℕ) → i ≡ index (isEntry any-owner x) (rows (entryAt t w) from n) → i ≤ n →
+      (from n : ℕ) (x : Name) (i : ℕ) → i ≡ index (isEntry any-owner x) (run (entryAt t w) from n) → i ≤ n →
       eqb i n ≡ not (any (eqName x) (namesFrom t w from n))
   unfolding namesFrom
   new-among from n x i e l =
@@ -250,12 +254,12 @@ module _ (t w : List ℕ) where
       (e ∙ index-same (isEntry any-owner x) (eqName x) (entryAt t w) (λ j. entryAt t w j .name) from from n (λ k l. entry-any x _ ∙ name-comm _ x))
       ∙ sym (any-rows (eqName x) (λ j. entryAt t w j .name) from n))
 
-  own-names : (v n : ℕ) → map (λ v. v .name) (rows (variableAt t w) v n) ≡ namesFrom t w (variables-first + v) n
-  unfolding namesFrom rows variableAt
+  own-names : (v n : ℕ) → map (λ v. v .name) (run (variableAt t w) v n) ≡ namesFrom t w (variables-first + v) n
+  unfolding namesFrom run variableAt
   own-names v zero = refl
   own-names v (suc n) =
       ap (_∷_ (entryAt t w (variables-first + v) .name))
-      (own-names (suc v) n ∙ ap (λ i. rows (λ j. entryAt t w j .name) i n) (let e : variables-first + suc v ≡ suc (variables-first + v) = omega arith in e))
+      (own-names (suc v) n ∙ ap (λ i. run (λ j. entryAt t w j .name) i n) (let e : variables-first + suc v ≡ suc (variables-first + v) = omega arith in e))
 
   -- a reserved name is none; another is not `this`
   with-this : (x : Name) (l : List Name) → isNew x l ≡ isNew x (bytes "this" ∷ l)

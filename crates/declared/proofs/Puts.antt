@@ -15,8 +15,9 @@ use Rattle.tables.specs.Stores.{putByte, putHalf, Kept, SameTables}
 use Rattle.tables.proofs.Bytes.{Outside, put-half-length, put-half-byte, half-put, half-kept}
 use Rattle.declared.specs.declared.Span.{Span}
 use Rattle.declared.specs.declared.Row.{Row}
-use Rattle.declared.specs.Rows.{rows, row-bytes, rowPlace, most-rows, nameIn, spanAt, noSpan, ownerAt, writtenAt, givesAt, takesAt, keyOf, keyAt, nameAt, Entry, entryAt, entryOf, SpanFits, RowFits, putSpan, putRow}
-use Rattle.declared.proofs.Searches.{rows-same, rows-end}
+use Rattle.tables.specs.Decode.{run}
+use Rattle.declared.specs.Rows.{row-bytes, rowPlace, most-rows, nameIn, spanAt, noSpan, ownerAt, writtenAt, givesAt, takesAt, keyOf, keyAt, nameAt, Entry, entryAt, entryOf, SpanFits, RowFits, putSpan, putRow}
+use Rattle.tables.proofs.Runs.{run-moved, run-more}
 use Rattle.declared.proofs.Keys.{named}
 
 pub none-fits : SpanFits noSpan
@@ -151,21 +152,21 @@ module _ {A : Type 0} (f : Entry → A) (t : List ℕ) where
   -- n rows from `from` on that have the same bytes
   pub range-kept :
       (w w′ : List ℕ) (from n : ℕ) → Kept (rowPlace from) (rowPlace (from + n)) w w′ →
-      rows (λ j. f (entryAt t w′ j)) from n ≡ rows (λ j. f (entryAt t w j)) from n
+      run (λ j. f (entryAt t w′ j)) from n ≡ run (λ j. f (entryAt t w j)) from n
   range-kept w w′ from n k =
-      rows-same (λ j. f (entryAt t w′ j)) (λ j. f (entryAt t w j)) from from n
+      run-moved (λ j. f (entryAt t w′ j)) (λ j. f (entryAt t w j)) from from n
       (λ i l. ap f (entry-kept t w w′ (from + i) (λ j a b. k j (omega arith) (omega arith))))
 
   module _ (w : List ℕ) (i : ℕ) (r : Row) where
     pub range-other :
         (from n : ℕ) → (i < from) ⊎ (from + n ≤ i) →
-        rows (λ j. f (entryAt t (putRow t w i r) j)) from n ≡ rows (λ j. f (entryAt t w j)) from n
+        run (λ j. f (entryAt t (putRow t w i r) j)) from n ≡ run (λ j. f (entryAt t w j)) from n
     range-other from n (inl o) = range-kept w (putRow t w i r) from n (λ j a b. row-other t w i r j (inr (omega arith)))
     range-other from n (inr o) = range-kept w (putRow t w i r) from n (λ j a b. row-other t w i r j (inl (omega arith)))
 
     -- one row more, at the end
     pub range-more :
         (from n : ℕ) → from + n ≡ i → length w ≡ work-bytes → i < most-rows → RowFits r →
-        rows (λ j. f (entryAt t (putRow t w i r) j)) from (n + 1) ≡ rows (λ j. f (entryAt t w j)) from n ++ (f (entryOf t r) ∷ [])
+        run (λ j. f (entryAt t (putRow t w i r) j)) from (n + 1) ≡ run (λ j. f (entryAt t w j)) from n ++ (f (entryOf t r) ∷ [])
     range-more from n e size l fits =
-        rw (add-one, rows-end (λ j. f (entryAt t (putRow t w i r) j)) from n, range-other from n (inr (omega arith)), e, row-put t w i r size l fits)
+        rw (add-one, run-more (λ j. f (entryAt t (putRow t w i r) j)) from n, range-other from n (inr (omega arith)), e, row-put t w i r size l fits)

@@ -20,9 +20,10 @@ use Rattle.declared.specs.declared.Span.{Span}
 use Rattle.declared.specs.declared.Row.{Row}
 use Rattle.declared.specs.declared.Names.{Names}
 use Rattle.declared.specs.declared.Above.{Above}
-use Rattle.declared.specs.Rows.{rows, rowPlace, most-rows, nameIn, noSpan, Entry, entryAt, entryOf, SpanFits, RowFits, putRow, classes-first, fields-first, methods-first, variables-first}
+use Rattle.tables.specs.Decode.{run}
+use Rattle.declared.specs.Rows.{rowPlace, most-rows, nameIn, noSpan, Entry, entryAt, entryOf, SpanFits, RowFits, putRow, classes-first, fields-first, methods-first, variables-first}
 use Rattle.declared.specs.Meanings.{typeAt, Fits, AboveFits, asField, asMethod, namesFrom, declarationsIn, thisIn, resultIn, variableAt, ownVariables, blockIn, variablesIn, classAbove, scopeIn, moreClasses, moreFields, moreMethods, moreLocals, variableRow, putBlock}
-use Rattle.declared.proofs.Searches.{rows-same, rows-end}
+use Rattle.tables.proofs.Runs.{run-moved, run-more}
 use Rattle.declared.proofs.Puts.{none-fits, entry-kept, row-length, row-other, row-tables, row-put, other-row, range-kept, range-other, range-more}
 
 nameOf : Entry → Name
@@ -58,8 +59,8 @@ module _ (t w w′ : List ℕ) where
       λ j. record { name = bytes "this"; number = this-variable; type = type this-variable (omega arith) j } in
       let result : resultIn t w′ ≡ resultIn t w =
       λ j. record { name = bytes "result"; number = result-variable; type = type result-variable (omega arith) j } in
-      let own : (v n : ℕ) → v + n ≤ 14 → rows (variableAt t w′) v n ≡ rows (variableAt t w) v n =
-      λ v n l. rows-same (variableAt t w′) (variableAt t w) v v n (λ i m. variable-kept (v + i) (omega arith) k) in
+      let own : (v n : ℕ) → v + n ≤ 14 → run (variableAt t w′) v n ≡ run (variableAt t w) v n =
+      λ v n l. run-moved (variableAt t w′) (variableAt t w) v v n (λ i m. variable-kept (v + i) (omega arith) k) in
       let a = own parameter (suc (c .locals)) (omega (arith, f .locals)) in
       let b = own first-local (c .locals) (omega (arith, f .locals)) in
       λ j. record {
@@ -160,9 +161,9 @@ module _ (t w : List ℕ) (i : ℕ) (r : Row) where
   unfolding variableAt
   other-variable v o = let e = other-row t w i r (variables-first + v) o in λ j. record { name = e j .name; number = v; type = e j .gives }
 
-  own-other : (v n : ℕ) → variables-first + (v + n) ≤ i → rows (variableAt t (putRow t w i r)) v n ≡ rows (variableAt t w) v n
+  own-other : (v n : ℕ) → variables-first + (v + n) ≤ i → run (variableAt t (putRow t w i r)) v n ≡ run (variableAt t w) v n
   own-other v n l =
-      rows-same (variableAt t (putRow t w i r)) (variableAt t w) v v n (λ k m. other-variable (v + k) (inl (omega arith)))
+      run-moved (variableAt t (putRow t w i r)) (variableAt t w) v v n (λ k m. other-variable (v + k) (inl (omega arith)))
 
   gives-other : (v : ℕ) → (variables-first + v < i) ⊎ (i < variables-first + v) → typeAt t (putRow t w i r) v ≡ typeAt t w v
   unfolding entryAt
@@ -199,10 +200,10 @@ module _ (t w : List ℕ) (c : Names) (s g : Span) (size : length w ≡ work-byt
 
   more-own :
       (v n : ℕ) → v + n ≡ 2 + c .locals →
-      rows (variableAt t grown) v (suc n)
-      ≡ rows (variableAt t w) v n ++ (record { name = nameIn t s; number = 2 + c .locals; type = nameIn t g } ∷ [])
+      run (variableAt t grown) v (suc n)
+      ≡ run (variableAt t w) v n ++ (record { name = nameIn t s; number = 2 + c .locals; type = nameIn t g } ∷ [])
   more-own v n e =
-      rows-end (variableAt t grown) v n
+      run-more (variableAt t grown) v n
       ∙ ap₂ (λ a b. a ++ (b ∷ [])) (own-other t w (variables-first + (2 + c .locals)) (variableRow s g) v n (omega arith))
       (ap (variableAt t grown) e ∙ variable-put t w (2 + c .locals) s g size (omega arith) fs fg)
 
@@ -214,8 +215,8 @@ module _ (t w : List ℕ) (c : Names) (s g : Span) (size : length w ≡ work-byt
       λ v o. gives-other t w (variables-first + (2 + c .locals)) (variableRow s g) v (⊎-elim (λ p. inl (omega arith)) (λ p. inr (omega arith)) o) in
       let this = type this-variable (inl (omega arith)) in
       let result = type result-variable (inr (omega arith)) in
-      let a = ap (λ k. rows (variableAt t grown) parameter (suc k)) n ∙ more-own parameter (suc (c .locals)) (omega arith) in
-      let b = ap (λ k. rows (variableAt t grown) first-local k) n ∙ more-own first-local (c .locals) refl in
+      let a = ap (λ k. run (variableAt t grown) parameter (suc k)) n ∙ more-own parameter (suc (c .locals)) (omega arith) in
+      let b = ap (λ k. run (variableAt t grown) first-local k) n ∙ more-own first-local (c .locals) refl in
       let own = one-more (c .method) _ _ _ (λ j. record { name = bytes "this"; number = this-variable; type = this j }) a b in
       λ j. record {
         variables = own j;
@@ -228,7 +229,7 @@ module _ (t w : List ℕ) (c : Names) (k s : Span) (m : Row) (size : length w �
   pub block-put :
       c .method ≡ true → c .locals ≡ 0 →
       blockIn t (putBlock t w k m s) c ≡ methodBlock (nameIn t k) (nameIn t (m .gives)) (nameIn t (m .takes)) (nameIn t s)
-  unfolding blockIn ownVariables putBlock methodBlock rows
+  unfolding blockIn ownVariables putBlock methodBlock run
   block-put e z =
       let one : List ℕ = putRow t w (variables-first + this-variable) (variableRow noSpan k) in
       let two : List ℕ = putRow t one (variables-first + parameter) (variableRow s (m .takes)) in
@@ -278,4 +279,4 @@ visible-in t w c k e =
 -- one name more of what the lines above declare
 pub names-more : (t w : List ℕ) (i n : ℕ) → namesFrom t w i (n + 1) ≡ namesFrom t w i n ++ (entryAt t w (i + n) .name ∷ [])
 unfolding namesFrom
-names-more t w i n = rw add-one (rows-end (λ j. entryAt t w j .name) i n)
+names-more t w i n = rw add-one (run-more (λ j. entryAt t w j .name) i n)

@@ -1,4 +1,4 @@
--- Laws of rows, and of the search for the first that passes a test.
+-- Laws of the search for the first row that passes a test.
 use mathlib.Core.Path.{_≡_, refl, sym, ap, subst, _∙_}
 use mathlib.Core.Bool.{Bool, true, false, cond, _&&_, _||_, and-false}
 use mathlib.Core.List.{List, [], _∷_, _++_}
@@ -10,53 +10,13 @@ use lib.Dec.{eqb, ltb, eqb·zero-suc, eqb·suc-zero, eqb·suc-suc, leb·suc-suc}
 use lib.ListN.{length, getD}
 use borrow.Author.Tests.{lt-ltb}
 use Rattle.rules.specs.Base.{Name, eqName, any, first, index, withDefault}
-use Rattle.declared.specs.Rows.{rows}
-
--- ROWS
-module _ {A : Type 0} (f : ℕ → A) where
-  pub rows-length : (i n : ℕ) → length (rows f i n) ≡ n
-  unfolding rows
-  rows-length i zero = refl
-  rows-length i (suc n) = ap suc (rows-length (suc i) n)
-
-  pub rows-at : (i n k : ℕ) (d : A) → k < n → getD (rows f i n) k d ≡ f (i + k)
-  unfolding rows
-  rows-at i zero k d l = absurd (omega arith)
-  rows-at i (suc n) zero d l = rw add-zero
-  rows-at i (suc n) (suc k) d l =
-      rows-at (suc i) n k d (omega arith) ∙ ap f (let e : suc i + k ≡ i + suc k = omega arith in e)
-
-  pub rows-past : (i n k : ℕ) (d : A) → n ≤ k → getD (rows f i n) k d ≡ d
-  unfolding rows
-  rows-past i zero k d l = refl
-  rows-past i (suc n) zero d l = absurd (omega arith)
-  rows-past i (suc n) (suc k) d l = rows-past (suc i) n k d (omega arith)
-
-  -- one row more
-  pub rows-end : (i n : ℕ) → rows f i (suc n) ≡ rows f i n ++ (f (i + n) ∷ [])
-  unfolding rows
-  rows-end i zero = rw add-zero
-  rows-end i (suc n) =
-      ap (_∷_ (f i)) (rows-end (suc i) n ∙ ap (λ j. rows f (suc i) n ++ (f j ∷ [])) (let e : suc i + n ≡ i + suc n = omega arith in e))
-
-pub rows-same :
-    {A : Type 0} (f g : ℕ → A) (i j n : ℕ) → ((k : ℕ) → k < n → f (i + k) ≡ g (j + k)) → rows f i n ≡ rows g j n
-unfolding rows
-rows-same f g i j zero h = refl
-rows-same f g i j (suc n) h =
-    let e : f i ≡ g j = rw (add-zero, add-zero) at (h 0 (omega arith)) in
-    let r : rows f (suc i) n ≡ rows g (suc j) n =
-    rows-same f g (suc i) (suc j) n
-    (λ k l.
-    let a : suc i + k ≡ i + suc k = omega arith in
-    let b : suc j + k ≡ j + suc k = omega arith in
-    rw (a, b) (h (suc k) (omega arith))) in
-    rw (e, r)
+use Rattle.tables.specs.Decode.{run}
+use Rattle.tables.proofs.Runs.{run-length}
 
 -- THE SEARCH, ONE STEP: the first of n rows from `from` on that passes p stands i after, plus where it stands among those from i on
 module _ {A : Type 0} (p : A → Bool) (f : ℕ → A) (from n : ℕ) where
   abbrev pub At : ℕ → Type 0
-  At i = i + index p (rows f (from + i) (n - i)) ≡ index p (rows f from n)
+  At i = i + index p (run f (from + i) (n - i)) ≡ index p (run f from n)
 
   pub begin : At 0
   begin =
@@ -64,19 +24,19 @@ module _ {A : Type 0} (p : A → Bool) (f : ℕ → A) (from n : ℕ) where
       let m : n - 0 ≡ n = omega arith in
       zero-add _ ∙ rw (z, m)
 
-  pub here : (i : ℕ) → At i → i < n → p (f (from + i)) ≡ true → i ≡ index p (rows f from n)
-  unfolding rows index
+  pub here : (i : ℕ) → At i → i < n → p (f (from + i)) ≡ true → i ≡ index p (run f from n)
+  unfolding run index
   here i h l e =
       let z : n - i ≡ suc (n - suc i) = omega arith in
-      let q : index p (rows f (from + i) (n - i)) ≡ 0 = rw (z, e) in
+      let q : index p (run f (from + i) (n - i)) ≡ 0 = rw (z, e) in
       omega (arith, h, q)
 
   pub on : (i : ℕ) → At i → i < n → p (f (from + i)) ≡ false → At (i + 1)
-  unfolding rows index
+  unfolding run index
   on i h l e =
       let z : n - i ≡ suc (n - (i + 1)) = omega arith in
       let s : from + (i + 1) ≡ suc (from + i) = omega arith in
-      let q : index p (rows f (from + i) (n - i)) ≡ suc (index p (rows f (from + (i + 1)) (n - (i + 1)))) = rw (z, e, s) in
+      let q : index p (run f (from + i) (n - i)) ≡ suc (index p (run f (from + (i + 1)) (n - (i + 1)))) = rw (z, e, s) in
       omega (arith, h, q)
 
   on-all :
@@ -89,11 +49,11 @@ module _ {A : Type 0} (p : A → Bool) (f : ℕ → A) (from n : ℕ) where
   pub past : (i j : ℕ) → i ≤ j → j ≤ n → ((k : ℕ) → i ≤ k → k < j → p (f (from + k)) ≡ false) → At i → At j
   past i j m = on-all (j - i) i j (omega arith)
 
-  pub over : (i : ℕ) → At i → n ≤ i → i ≡ index p (rows f from n)
-  unfolding rows index
+  pub over : (i : ℕ) → At i → n ≤ i → i ≡ index p (run f from n)
+  unfolding run index
   over i h l =
       let z : n - i ≡ 0 = omega arith in
-      let q : index p (rows f (from + i) (n - i)) ≡ 0 = rw z in
+      let q : index p (run f (from + i) (n - i)) ≡ 0 = rw z in
       omega (arith, h, q)
 
 -- THE SEARCH AS A WHOLE
@@ -132,12 +92,12 @@ module _ {A : Type 0} (p : A → Bool) where
 pub index-same :
     {A B : Type 0} (p : A → Bool) (q : B → Bool) (f : ℕ → A) (g : ℕ → B) (i j n : ℕ) →
     ((k : ℕ) → k < n → p (f (i + k)) ≡ q (g (j + k))) →
-    index p (rows f i n) ≡ index q (rows g j n)
-unfolding rows index
+    index p (run f i n) ≡ index q (run g j n)
+unfolding run index
 index-same p q f g i j zero h = refl
 index-same p q f g i j (suc n) h =
     let e : p (f i) ≡ q (g j) = rw (add-zero, add-zero) at (h 0 (omega arith)) in
-    let r : index p (rows f (suc i) n) ≡ index q (rows g (suc j) n) =
+    let r : index p (run f (suc i) n) ≡ index q (run g (suc j) n) =
     index-same p q f g (suc i) (suc j) n
     (λ k l.
     let a : suc i + k ≡ i + suc k = omega arith in
@@ -147,52 +107,52 @@ index-same p q f g i j (suc n) h =
 
 -- where the first that passes q is one of o too, it is the first that is both
 pub index-both :
-    {A : Type 0} (o q : A → Bool) (f : ℕ → A) (i n k : ℕ) → k ≡ index q (rows f i n) → o (f (i + k)) ≡ true →
-    k ≡ index (λ a. o a && q a) (rows f i n)
-unfolding rows index
+    {A : Type 0} (o q : A → Bool) (f : ℕ → A) (i n k : ℕ) → k ≡ index q (run f i n) → o (f (i + k)) ≡ true →
+    k ≡ index (λ a. o a && q a) (run f i n)
+unfolding run index
 index-both o q f i zero k e h = e
 index-both o q f i (suc n) k e h = go (q (f i)) (o (f i)) refl k e h (λ j m b. index-both o q f (suc i) n j m b)
   where
     go :
-        (b d : Bool) → o (f i) ≡ d → (k : ℕ) → k ≡ cond b 0 (suc (index q (rows f (suc i) n))) → o (f (i + k)) ≡ true →
-        ((j : ℕ) → j ≡ index q (rows f (suc i) n) → o (f (suc i + j)) ≡ true → j ≡ index (λ a. o a && q a) (rows f (suc i) n)) →
-        k ≡ cond (d && b) 0 (suc (index (λ a. o a && q a) (rows f (suc i) n)))
+        (b d : Bool) → o (f i) ≡ d → (k : ℕ) → k ≡ cond b 0 (suc (index q (run f (suc i) n))) → o (f (i + k)) ≡ true →
+        ((j : ℕ) → j ≡ index q (run f (suc i) n) → o (f (suc i + j)) ≡ true → j ≡ index (λ a. o a && q a) (run f (suc i) n)) →
+        k ≡ cond (d && b) 0 (suc (index (λ a. o a && q a) (run f (suc i) n)))
     go true d c k e h g =
         let z : i + k ≡ i = omega (arith, e) in
-        e ∙ sym (ap (λ r. cond (r && true) 0 (suc (index (λ a. o a && q a) (rows f (suc i) n)))) (sym c ∙ (ap (λ j. o (f j)) (sym z) ∙ h)))
+        e ∙ sym (ap (λ r. cond (r && true) 0 (suc (index (λ a. o a && q a) (run f (suc i) n)))) (sym c ∙ (ap (λ j. o (f j)) (sym z) ∙ h)))
     go false d c k e h g =
-        let z : suc i + index q (rows f (suc i) n) ≡ i + k = omega (arith, e) in
-        e ∙ (ap suc (g (index q (rows f (suc i) n)) refl (ap (λ j. o (f j)) z ∙ h)) ∙ sym (ap (λ r. cond r 0 (suc (index (λ a. o a && q a) (rows f (suc i) n)))) (and-false d)))
+        let z : suc i + index q (run f (suc i) n) ≡ i + k = omega (arith, e) in
+        e ∙ (ap suc (g (index q (run f (suc i) n)) refl (ap (λ j. o (f j)) z ∙ h)) ∙ sym (ap (λ r. cond r 0 (suc (index (λ a. o a && q a) (run f (suc i) n)))) (and-false d)))
 
-pub any-rows : {A : Type 0} (p : A → Bool) (f : ℕ → A) (i n : ℕ) → any p (rows f i n) ≡ ltb (index p (rows f i n)) n
-any-rows p f i n = any-index p (rows f i n) ∙ ap (ltb (index p (rows f i n))) (rows-length f i n)
+pub any-rows : {A : Type 0} (p : A → Bool) (f : ℕ → A) (i n : ℕ) → any p (run f i n) ≡ ltb (index p (run f i n)) n
+any-rows p f i n = any-index p (run f i n) ∙ ap (ltb (index p (run f i n))) (run-length f i n)
 
 -- FIRST, with a list after the rows
 module _ {A : Type 0} (p : A → Bool) (f : ℕ → A) (rest : List A) where
   pub first-found :
-      (i n k : ℕ) → k ≡ index p (rows f i n) → k < n → first p (rows f i n ++ rest) ≡ some (f (i + k))
-  unfolding rows index first
+      (i n k : ℕ) → k ≡ index p (run f i n) → k < n → first p (run f i n ++ rest) ≡ some (f (i + k))
+  unfolding run index first
   first-found i zero k e l = absurd (omega arith)
   first-found i (suc n) k e l = go (p (f i)) k e l (λ j m. first-found (suc i) n j m)
     where
       go :
-          (q : Bool) (k : ℕ) → k ≡ cond q 0 (suc (index p (rows f (suc i) n))) → k < suc n →
-          ((j : ℕ) → j ≡ index p (rows f (suc i) n) → j < n → first p (rows f (suc i) n ++ rest) ≡ some (f (suc i + j))) →
-          cond q (some (f i)) (first p (rows f (suc i) n ++ rest)) ≡ some (f (i + k))
+          (q : Bool) (k : ℕ) → k ≡ cond q 0 (suc (index p (run f (suc i) n))) → k < suc n →
+          ((j : ℕ) → j ≡ index p (run f (suc i) n) → j < n → first p (run f (suc i) n ++ rest) ≡ some (f (suc i + j))) →
+          cond q (some (f i)) (first p (run f (suc i) n ++ rest)) ≡ some (f (i + k))
       go true k e l h = let z : i + k ≡ i = omega (arith, e) in rw z
       go false k e l h =
-          let z : suc i + index p (rows f (suc i) n) ≡ i + k = omega (arith, e) in
-          h (index p (rows f (suc i) n)) refl (omega (arith, e)) ∙ ap (λ j. some (f j)) z
+          let z : suc i + index p (run f (suc i) n) ≡ i + k = omega (arith, e) in
+          h (index p (run f (suc i) n)) refl (omega (arith, e)) ∙ ap (λ j. some (f j)) z
 
-  pub first-none : (i n : ℕ) → n ≤ index p (rows f i n) → first p (rows f i n ++ rest) ≡ first p rest
-  unfolding rows index first
+  pub first-none : (i n : ℕ) → n ≤ index p (run f i n) → first p (run f i n ++ rest) ≡ first p rest
+  unfolding run index first
   first-none i zero l = refl
   first-none i (suc n) l = go (p (f i)) l (λ m. first-none (suc i) n m)
     where
       go :
-          (q : Bool) → suc n ≤ cond q 0 (suc (index p (rows f (suc i) n))) →
-          (n ≤ index p (rows f (suc i) n) → first p (rows f (suc i) n ++ rest) ≡ first p rest) →
-          cond q (some (f i)) (first p (rows f (suc i) n ++ rest)) ≡ first p rest
+          (q : Bool) → suc n ≤ cond q 0 (suc (index p (run f (suc i) n))) →
+          (n ≤ index p (run f (suc i) n) → first p (run f (suc i) n ++ rest) ≡ first p rest) →
+          cond q (some (f i)) (first p (run f (suc i) n ++ rest)) ≡ first p rest
       go true l h = absurd (omega arith)
       go false l h = h (omega arith)
 

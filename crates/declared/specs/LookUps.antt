@@ -12,7 +12,8 @@ use Rattle.rules.specs.Names as Rules
 use Rattle.rules.specs.Names.{variableNumber, variableType, inScope}
 use Rattle.declared.specs.declared.Span.{Span}
 use Rattle.declared.specs.declared.Names.{Names}
-use Rattle.declared.specs.Rows.{rows, nameIn, givesAt, noSpan, variables-first}
+use Rattle.tables.specs.Decode.{run}
+use Rattle.declared.specs.Rows.{nameIn, givesAt, noSpan, variables-first}
 use Rattle.declared.specs.Meanings.{variableAt, resultIn}
 
 -- the place of the type of the variable v; 15 is none
@@ -28,7 +29,7 @@ pub record Looked (t w : List ℕ) (vs : List Variable) (x : Name) (r : ℕ) : T
 
 -- n variables from the number v on, and `result` if a line may name it
 unfoldable pub ownIn : List ℕ → List ℕ → ℕ → ℕ → Bool → List Variable
-ownIn t w v n b = rows (variableAt t w) v n ++ cond b (resultIn t w ∷ []) []
+ownIn t w v n b = run (variableAt t w) v n ++ cond b (resultIn t w ∷ []) []
 
 -- 6, of a new name: "reserved or declared twice"
 unfoldable pub isNew : Name → List Name → Bool

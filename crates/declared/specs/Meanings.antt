@@ -12,7 +12,8 @@ use Rattle.declared.specs.declared.Span.{Span}
 use Rattle.declared.specs.declared.Row.{Row}
 use Rattle.declared.specs.declared.Names.{Names}
 use Rattle.declared.specs.declared.Above.{Above}
-use Rattle.declared.specs.Rows.{Entry, entryAt, rows, givesAt, nameIn, noSpan, putRow, classes-first, fields-first, methods-first, variables-first}
+use Rattle.tables.specs.Decode.{run}
+use Rattle.declared.specs.Rows.{Entry, entryAt, givesAt, nameIn, noSpan, putRow, classes-first, fields-first, methods-first, variables-first}
 
 -- THE COUNTS
 
@@ -38,14 +39,14 @@ asMethod e = record { owner = e .owner; name = e .name; result = e .gives; param
 module _ (t w : List ℕ) where
   -- names of n rows from i on
   unfoldable pub namesFrom : ℕ → ℕ → List Name
-  namesFrom i n = rows (λ j. entryAt t w j .name) i n
+  namesFrom i n = run (λ j. entryAt t w j .name) i n
 
   unfoldable pub declarationsIn : Names → Declarations
   declarationsIn c =
       record {
         classes = namesFrom classes-first (c .classes);
-        fields = rows (λ j. asField (entryAt t w j)) fields-first (c .fields);
-        methods = rows (λ j. asMethod (entryAt t w j)) methods-first (c .methods);
+        fields = run (λ j. asField (entryAt t w j)) fields-first (c .fields);
+        methods = run (λ j. asMethod (entryAt t w j)) methods-first (c .methods);
       }
 
   -- VARIABLES: the row of the variable v is that of its number. `this` and `result` are known by their words.
@@ -65,7 +66,7 @@ module _ (t w : List ℕ) where
 
   -- of a method: the parameter and the locals; of main: the locals
   unfoldable pub ownVariables : Names → List Variable
-  ownVariables c = cond (c .method) (rows variableAt parameter (suc (c .locals))) (rows variableAt first-local (c .locals))
+  ownVariables c = cond (c .method) (run variableAt parameter (suc (c .locals))) (run variableAt first-local (c .locals))
 
   unfoldable pub blockIn : Names → Block
   blockIn c =

@@ -1,8 +1,8 @@
 -- Rows of names in the work area: where each stands, what it holds, and what is written.
 use mathlib.Core.Path.{_≡_}
 use mathlib.Core.Bool.{Bool, cond, _&&_, _||_}
-use mathlib.Core.List.{List, [], _∷_}
-use Prim.Native.Nat.{ℕ, zero, suc, _+_, _-_, _*_, _%_, _≤_, _<_}
+use mathlib.Core.List.{List}
+use Prim.Native.Nat.{ℕ, _+_, _-_, _*_, _%_, _≤_, _<_}
 use lib.Dec.{eqb, ltb}
 use lib.ListN.{length, getD, take, drop}
 use Rattle.rules.specs.Base.{Name, eqName}
@@ -88,11 +88,6 @@ entryAt t w i =
       gives = nameIn t (givesAt w i);
       takes = nameIn t (takesAt w i);
     }
-
--- f at n numbers from i on
-unfoldable pub rows : {A : Type 0} → (ℕ → A) → ℕ → ℕ → List A
-rows f i zero = []
-rows f i (suc n) = f i ∷ rows f (suc i) n
 
 -- A SEARCH: the first row of a name, among those of an owner or among all
 

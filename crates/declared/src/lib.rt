@@ -14,7 +14,8 @@ ghost use Rattle.rules.specs.Text.{reserved, isExpr, exprOf};
 ghost use Rattle.rules.specs.Grammar.{isOperand};
 ghost use Rattle.rules.specs.Names.{agree, classNumber, isClass, isType, isFieldOf, fieldType, fieldNumber, methodNumber, noField, noDeclaration, inScope, variableType, isInt, known, knownExpr, ofClass, ofClassIn, exprType, mayBeAssigned};
 ghost use Rattle.tables.specs.Layout.{most-names};
-ghost use Rattle.declared.specs.Rows.{rows, most-rows, nameIn, spanAt, noSpan, ownerAt, writtenAt, givesAt, takesAt, keyOf, keyAt, nameAt, entryAt, isEntry, NextKey, any-owner, SpanFits, RowFits, putSpan, putRow, classes-first, fields-first, methods-first, variables-first};
+ghost use Rattle.tables.specs.Decode.{run};
+ghost use Rattle.declared.specs.Rows.{most-rows, nameIn, spanAt, noSpan, ownerAt, writtenAt, givesAt, takesAt, keyOf, keyAt, nameAt, entryAt, isEntry, NextKey, any-owner, SpanFits, RowFits, putSpan, putRow, classes-first, fields-first, methods-first, variables-first};
 ghost use Rattle.declared.specs.Meanings.{Fits, AboveFits, namesFrom, declarationsIn, variablesIn, blockIn, scopeIn, classRow, fieldRow, variableRow, moreClasses, moreFields, moreMethods, moreLocals, putBlock};
 ghost use Rattle.declared.specs.LookUps.{typeOf, ownIn, Looked, isNew};
 ghost use Rattle.declared.specs.Types.{isIntType, typeMeant, mayName, MemberIs, LookIs};
@@ -382,7 +383,7 @@ fn is_row(text: &[u8], work: &[u8], i: usize, owner: usize, x: &[u8]) -> bool
 // Each row is compared.
 fn find_each(text: &[u8], work: &[u8], first: usize, count: usize, owner: usize, x: &[u8]) -> usize
     requires { ⌜ (length (now work) ≡ work-bytes) × (first + count ≤ most-rows) ⌝ }
-    ensures { λ r. ⌜ (r ≡ index (isEntry owner (now (x .entry))) (rows (entryAt (now (text .entry)) (now (work .entry))) first count)) × (r ≤ count) ⌝ }
+    ensures { λ r. ⌜ (r ≡ index (isEntry owner (now (x .entry))) (run (entryAt (now (text .entry)) (now (work .entry))) first count)) × (r ≤ count) ⌝ }
 {
     let mut i = 0;
     while i < count {
@@ -424,7 +425,7 @@ fn is_keyed_row(text: &[u8], work: &[u8], i: usize, owner: usize, x: &[u8]) -> b
 // Rows that have the key of x are compared. x is not empty, so that no row without a name is named x.
 fn find_keyed(text: &[u8], work: &[u8], first: usize, count: usize, owner: usize, x: &[u8]) -> usize
     requires { ⌜ (length (now work) ≡ work-bytes) × (first + count ≤ most-rows) × (0 < length (now x)) ⌝ }
-    ensures { λ r. ⌜ (r ≡ index (isEntry owner (now (x .entry))) (rows (entryAt (now (text .entry)) (now (work .entry))) first count)) × (r ≤ count) ⌝ }
+    ensures { λ r. ⌜ (r ≡ index (isEntry owner (now (x .entry))) (run (entryAt (now (text .entry)) (now (work .entry))) first count)) × (r ≤ count) ⌝ }
 {
     let k = key(x);
     let mut i = next_key(work, first, count, 0, k);
@@ -440,7 +441,7 @@ fn find_keyed(text: &[u8], work: &[u8], first: usize, count: usize, owner: usize
 // Where in a range of rows the first that is named x, and of this owner, stands; the range's length if there is none.
 pub fn find(text: &[u8], work: &[u8], first: usize, count: usize, owner: usize, x: &[u8]) -> usize
     requires { ⌜ (length (now work) ≡ work-bytes) × (first + count ≤ most-rows) ⌝ }
-    ensures { λ r. ⌜ (r ≡ index (isEntry owner (now (x .entry))) (rows (entryAt (now (text .entry)) (now (work .entry))) first count)) × (r ≤ count) ⌝ }
+    ensures { λ r. ⌜ (r ≡ index (isEntry owner (now (x .entry))) (run (entryAt (now (text .entry)) (now (work .entry))) first count)) × (r ≤ count) ⌝ }
 {
     if x.len() == 0 {
         return find_each(text, work, first, count, owner, x);

@@ -2,7 +2,7 @@
 use mathlib.Core.Path.{_≡_, refl, sym, ap, _∙_}
 use mathlib.Core.List.{List, [], _∷_, _++_}
 use mathlib.Core.Logic.{inl, inr}
-use Prim.Native.Nat.{ℕ, suc, _+_, _*_, _/_, _%_, _<_}
+use Prim.Native.Nat.{ℕ, _+_, _*_, _/_, _%_, _<_}
 use native.Mathlib.Omega.{arith}
 use lib.Dec.{T, eqb, eqb→eq}
 use lib.ListN.{length, getD}
@@ -12,15 +12,16 @@ use Rattle.rules.specs.Syntax.{Atom, Formula, Expr, num, var, path, acc, if}
 use Rattle.rules.specs.Syntax.{Program}
 use Rattle.tables.specs.declared.Expr as Tables
 use Rattle.tables.specs.Layout.{names-at, most-atom-rows}
-use Rattle.tables.specs.Decode.{byteAt, wordAt, exprAt, leftAt, rightAt, relOf, atomAt, atomsFrom, atomPlace, ifAt}
-use Rattle.tables.specs.Tables.{SideFits, AtomFits}
+use Rattle.tables.specs.Decode.{byteAt, wordAt, exprAt, leftAt, rightAt, relOf, run, atomAt, atomsFrom, atomPlace, ifAt}
+use Rattle.tables.specs.Tables.{SideFits, AtomFitsAt, Declared}
 use Rattle.tables.specs.Stores.{meaning, putWord, Kept}
 use Rattle.tables.proofs.Bytes.{word-put}
 use Rattle.emit.specs.Puts.{tagOf, wordOf, atomBytes, putAtom, SideBytes}
-use Rattle.emit.specs.Holds.{Declared, SideOk, AtomOk, accessOf, atomOf, Holds, Building}
+use Rattle.emit.specs.Holds.{AtomOk, accessOf, atomOf, Holds, Building}
 use Rattle.emit.proofs.Puts.{put-length, put-same, Clear, put-kept}
-use Rattle.emit.proofs.Runs.{run-more, end-length, atoms-run}
-use Rattle.emit.proofs.Kept.{all-rows, cond-same, atoms-kept, row-ok-more, method-ok-more, SameRows, holds-kept}
+use Rattle.tables.proofs.Runs.{run-more, end-length}
+use Rattle.tables.proofs.Kept.{all-rows, cond-same, atoms-kept}
+use Rattle.emit.proofs.Kept.{operands-more, method-more, SameRows, holds-kept}
 
 -- SIDES
 
@@ -41,8 +42,8 @@ pub record SideAt (w : List ℕ) (i v : ℕ) : Type 0 where
   pub b2 : byteAt w (i + 2) ≡ v / 65536 % 256
   pub b3 : byteAt w (i + 3) ≡ v / 16777216 % 256
 
-side-read : (w : List ℕ) (i : ℕ) (e : Tables.Expr) → SideOk e → SideAt w i (wordOf e) → exprAt w (tagOf e) i ≡ meaning e
-unfolding exprAt tagOf wordOf meaning SideOk
+side-read : (w : List ℕ) (i : ℕ) (e : Tables.Expr) → SideFits (meaning e) → SideAt w i (wordOf e) → exprAt w (tagOf e) i ≡ meaning e
+unfolding exprAt tagOf wordOf meaning SideFits
 side-read w i (Tables.Expr.Num n) ok s =
     ap num (let z : wordAt w i ≡ n = omega (arith, s .b0, s .b1, s .b2, s .b3, digits n ok) in z)
 side-read w i Tables.Expr.Null ok s = refl
@@ -52,19 +53,10 @@ side-read w i (Tables.Expr.Path x f) ok s =
     let y : byteAt w (i + 1) ≡ f = s .b1 ∙ second x f (omega arith) (omega arith) in
     λ j. path (z j) (y j)
 
-side-fits : (w : List ℕ) (i : ℕ) (e : Tables.Expr) → SideOk e → SideAt w i (wordOf e) → SideFits w (tagOf e) i
-unfolding tagOf wordOf SideOk
-side-fits w i (Tables.Expr.Num n) ok s = record { tag-known = omega arith; variable = inl (omega arith); field = inl (omega arith) }
-side-fits w i Tables.Expr.Null ok s = record { tag-known = omega arith; variable = inl (omega arith); field = inl (omega arith) }
-side-fits w i (Tables.Expr.Var x) ok s =
-    record { tag-known = omega arith; variable = inr (omega (arith, s .b0)); field = inl (omega arith) }
-side-fits w i (Tables.Expr.Path x f) ok s =
-    record { tag-known = omega arith; variable = inr (omega (arith, s .b0)); field = inr (omega (arith, s .b1, second x f (omega arith) (omega arith))) }
-
 access-read :
-    (w : List ℕ) (i : ℕ) (e : Tables.Expr) → tagOf e ≡ 3 → SideOk e → SideAt w i (wordOf e) →
+    (w : List ℕ) (i : ℕ) (e : Tables.Expr) → tagOf e ≡ 3 → SideFits (meaning e) → SideAt w i (wordOf e) →
     acc (byteAt w i) (byteAt w (i + 1)) ≡ accessOf e
-unfolding tagOf wordOf SideOk accessOf
+unfolding tagOf wordOf meaning SideFits accessOf
 access-read w i (Tables.Expr.Num n) t ok s = absurd (omega arith)
 access-read w i Tables.Expr.Null t ok s = absurd (omega arith)
 access-read w i (Tables.Expr.Var x) t ok s = absurd (omega arith)
@@ -74,8 +66,8 @@ access-read w i (Tables.Expr.Path x f) t ok s =
     λ j. acc (z j) (y j)
 
 -- what the writer asks
-pub side-bytes : (e : Tables.Expr) → SideOk e → SideBytes e
-unfolding SideOk SideBytes
+pub side-bytes : (e : Tables.Expr) → SideFits (meaning e) → SideBytes e
+unfolding meaning SideFits SideBytes
 side-bytes (Tables.Expr.Num n) ok = ok
 side-bytes Tables.Expr.Null ok = tt
 side-bytes (Tables.Expr.Var x) ok = omega arith
@@ -132,7 +124,6 @@ module _
 
   -- the condition of an `if`
   pub condition-written : ifAt (putAtom w a k l r) a ≡ if (relOf k) (meaning l) (meaning r)
-  unfolding ifAt
   condition-written = simp (kind-read, left-written, right-written)
 
   pub atom-read : atomAt (putAtom w a k l r) a ≡ atomOf k l r
@@ -144,14 +135,8 @@ module _
       λ t. rw e at (access-read _ (atomPlace a + 4) l (ok .access (eqb→eq k 0 t)) (ok .left) left-side) in
       rw (kind-read, left-written, right-written) (cond-same (eqb k 0) to-acc (λ _. refl))
 
-  atom-fits : AtomFits (putAtom w a k l r) a
-  atom-fits =
-      record {
-        kind = rw kind-read (ok .kind);
-        left = rw left-tag (side-fits _ _ l (ok .left) left-side);
-        right = rw right-tag (side-fits _ _ r (ok .right) right-side);
-        access = λ e. left-tag ∙ ok .access (sym kind-read ∙ e);
-      }
+  atom-fits : AtomFitsAt (putAtom w a k l r) a
+  atom-fits = rw (kind-read, left-tag, left-written, right-written) ok
 
   -- other bytes
   pub atom-kept : (b c : ℕ) → Clear (atomPlace a) 12 b c → Kept b c w (putAtom w a k l r)
@@ -169,7 +154,7 @@ module _
 
 -- nothing of it yet
 pub building : (D : Declared) (w : List ℕ) (F : Program) (n : ℕ) → Holds D w F n → Building D w F n n []
-unfolding atomsFrom
+unfolding run
 building D w F n h = record { holds = h; place = omega arith; mean = refl }
 
 module _
@@ -202,13 +187,13 @@ module _
             record {
               few = h′ .rows .few;
               mean = h′ .rows .mean;
-              fit = λ i m. row-ok-more (omega arith) (h′ .rows .fit i m);
+              fit = λ i m. operands-more (omega arith) (h′ .rows .fit i m);
             };
         methods =
             record {
               few = h′ .methods .few;
               mean = h′ .methods .mean;
-              fit = λ i m. method-ok-more (omega arith) (omega arith) (h′ .methods .fit i m);
+              fit = λ i m. method-more (omega arith) (omega arith) (h′ .methods .fit i m);
             };
         classes = h′ .classes;
       }
@@ -226,9 +211,8 @@ atom-written D w F a n φ k l r room ok b =
       place = omega (arith, b .place, end-length φ (atomOf k l r));
       mean =
           ap (atomsFrom w′ a) (end-length φ (atomOf k l r))
-          ∙ (atoms-run w′ a (suc (length φ))
           ∙ (run-more (atomAt w′) a (length φ)
-          ∙ (ap (λ (ψ : Formula ℕ). ψ ++ (atomAt w′ (a + length φ) ∷ [])) (sym (atoms-run w′ a (length φ)) ∙ kept)
+          ∙ (ap (λ (ψ : Formula ℕ). ψ ++ (atomAt w′ (a + length φ) ∷ [])) kept
           ∙ ap (λ (x : Atom ℕ). φ ++ (x ∷ []))
-          (ap (atomAt w′) (sym (b .place)) ∙ atom-read w n k l r (b .holds .size) room ok))));
+          (ap (atomAt w′) (sym (b .place)) ∙ atom-read w n k l r (b .holds .size) room ok)));
     }

@@ -14,16 +14,17 @@ use Rattle.rules.specs.Items.{aClass, aField}
 use Rattle.rules.specs.Syntax.{Program}
 use Rattle.rules.specs.Reading.{withItem, onLast}
 use Rattle.tables.specs.Layout.{classes-at, places-at, atoms-at, names-at, most-names}
-use Rattle.tables.specs.Decode.{byteAt, atomPlace, classPlace, fieldCountAt, fieldNameAt, fieldAt, fieldsFrom, classAt}
-use Rattle.tables.specs.Tables.{ClassFits, placeAt}
+use Rattle.tables.specs.Decode.{byteAt, atomPlace, classPlace, placesPlace, fieldCountAt, fieldNameAt, fieldAt, fieldsFrom, classAt, run}
+use Rattle.tables.specs.Tables.{Declared, ClassFits, placeAt}
 use Rattle.tables.specs.Stores.{Kept}
 use Rattle.tables.proofs.Bytes.{Outside, kept-trans}
 use Rattle.tables.proofs.Rows.{class-length as class-length-of}
-use Rattle.emit.specs.Puts.{putBytes, blank, putClass, putFieldAt, putField, placesPlace}
-use Rattle.emit.specs.Holds.{Declared, Holds}
+use Rattle.emit.specs.Puts.{putBytes, blank, putClass, putFieldAt, putField}
+use Rattle.emit.specs.Holds.{Holds}
 use Rattle.emit.proofs.Puts.{put-length, put-same, put-other, Clear, put-kept, blank-length, blank-get}
-use Rattle.emit.proofs.Runs.{three-ways, run-get, run-more, run-same, run-grown, run-last, last-length, end-length, fields-run, classes-run}
-use Rattle.emit.proofs.Kept.{all-rows, atoms-hold-kept, rows-kept, methods-kept, class-same, class-fits-kept, SameRows, holds-kept}
+use Rattle.tables.proofs.Runs.{three-ways, run-get, run-more, run-same, run-grown, run-last, last-length, end-length}
+use Rattle.tables.proofs.Kept.{all-rows, class-same, class-fits-kept}
+use Rattle.emit.proofs.Kept.{atoms-hold-kept, rows-kept, methods-kept, SameRows, holds-kept}
 
 -- A CLASS
 module _ (w : List ℕ) (c : ℕ) (size : length w ≡ work-bytes) (room : c < most-classes) where
@@ -49,7 +50,7 @@ module _ (w : List ℕ) (c : ℕ) (size : length w ≡ work-bytes) (room : c < m
       ∙ blank-get most-names n l
 
   new-class : classAt (putClass w c) c ≡ []
-  unfolding classAt fieldsFrom
+  unfolding classAt run
   new-class = rw no-fields
 
   new-class-fits : ClassFits (putClass w c) c
@@ -110,8 +111,7 @@ module _ (D : Declared) (w : List ℕ) (F : Program) (n : ℕ) (room : length (F
             record {
               few = omega (arith, one);
               mean =
-                  classes-run after 0 _
-                  ∙ run-grown (classAt after) (classAt after) (F .classes) (sym (classes-run after 0 _) ∙ h′ .classes .mean) []
+                  run-grown (classAt after) (classAt after) (F .classes) (h′ .classes .mean) []
                   (λ k l. refl) (new-class w (length (F .classes)) (h .size) room);
               fit = λ i l.
                   below-more (λ (k : ℕ). ClassFits after k) (length (F .classes)) (h′ .classes .fit)
@@ -132,7 +132,7 @@ module _ (D : Declared) (w : List ℕ) (F : Program) (n c : ℕ) (here : c < len
   class-fields =
       let z : 0 + c ≡ c = omega arith in
       sym
-      (ap (λ (l : List (List Field)). getD l c []) (sym (h .classes .mean) ∙ classes-run w 0 _)
+      (ap (λ (l : List (List Field)). getD l c []) (sym (h .classes .mean))
       ∙ (run-get (classAt w) 0 _ c [] here ∙ ap (classAt w) z))
 
   pub class-count : fieldCountAt w c ≡ length (getD (F .classes) c [])
@@ -144,7 +144,7 @@ module _ (D : Declared) (w : List ℕ) (F : Program) (n c : ℕ) (here : c < len
   class-name k d l =
       let z : 0 + k ≡ k = omega arith in
       sym
-      (ap (λ (fs : List Field). getD fs k d .name) (sym class-fields ∙ fields-run w c 0 _)
+      (ap (λ (fs : List Field). getD fs k d .name) (sym class-fields)
       ∙ (ap (λ (f : Field). f .name) (run-get (fieldAt w c) 0 _ k d (omega (arith, class-count)) ∙ ap (fieldAt w c) z)))
 
 -- A FIELD
@@ -248,12 +248,11 @@ module _
         let z : 0 + j ≡ j = omega arith in
         let s : fieldCountAt w′ c ≡ suc j = omega (arith, count-read) in
         ap (fieldsFrom w′ c 0) s
-        ∙ (fields-run w′ c 0 (suc j)
         ∙ (run-more (fieldAt w′ c) 0 j
         ∙ (ap (λ (l : List Field). l ++ (fieldAt w′ c (0 + j) ∷ []))
         (run-same (fieldAt w c) (fieldAt w′ c) 0 j (λ k _ l. field-old k (omega arith))
-        ∙ (sym (fields-run w c 0 j) ∙ ap (fieldsFrom w c 0) (sym so-far)))
-        ∙ ap (λ (g : Field). fieldsFrom w c 0 (fieldCountAt w c) ++ (g ∷ [])) (ap (fieldAt w′ c) z ∙ field-new))))
+        ∙ ap (fieldsFrom w c 0) (sym so-far))
+        ∙ ap (λ (g : Field). fieldsFrom w c 0 (fieldCountAt w c) ++ (g ∷ [])) (ap (fieldAt w′ c) z ∙ field-new)))
 
     place-of-old : (k : ℕ) → k < j → placeAt (putFieldAt w c j name int) c (fieldNameAt w c k) ≡ k
     place-of-old k l =
@@ -313,7 +312,7 @@ module _
         main = h .main;
         atoms = atoms-hold-kept w w′ n KA (h .atoms);
         rows =
-            rows-kept D w w′ n KA (F .rows)
+            rows-kept w w′ n KA D (F .rows)
             (all-rows (length (F .rows)) w w′ (K _ _ (inl (omega (arith, h .rows .few))) (inl (omega (arith, h .rows .few))))) (h .rows);
         methods =
             methods-kept w w′ n KA (length (F .rows)) (F .methods)
@@ -322,8 +321,7 @@ module _
             record {
               few = omega (arith, same, room);
               mean =
-                  classes-run w′ 0 _
-                  ∙ run-last (classAt w) (classAt w′) (F .classes) (sym (classes-run w 0 _) ∙ h .classes .mean)
+                  run-last (classAt w) (classAt w′) (F .classes) (h .classes .mean)
                   (λ fs. fs ++ (f ∷ [])) c last
                   (λ k l. class-same w w′ c KC KP k l (h .classes .fit k (omega arith)))
                   (fields-more w c j name int (h .size) room few known refl new old);

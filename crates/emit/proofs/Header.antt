@@ -1,24 +1,24 @@
 -- The header, and the program that the finished tables mean.
 use mathlib.Core.Path.{_≡_, refl, ap, _∙_}
-use mathlib.Core.List.{List, _∷_, map}
+use mathlib.Core.List.{List}
 use mathlib.Core.Logic.{inr}
-use Prim.Native.Nat.{ℕ, zero, suc, _+_, _/_, _%_, _≤_, _<_}
+use Prim.Native.Nat.{ℕ, _+_, _/_, _%_, _≤_, _<_}
 use native.Mathlib.Omega.{arith}
-use lib.ListN.{length, getD, drop}
+use lib.ListN.{length, getD}
 use Rattle.rules.specs.Base.{Name}
 use Rattle.rules.specs.Limits.{work-bytes}
-use Rattle.rules.specs.Syntax.{Method}
 use Rattle.rules.specs.Items.{aMain, aLocal}
 use Rattle.rules.specs.Syntax.{Program}
 use Rattle.rules.specs.Reading.{withItem}
 use Rattle.tables.specs.Layout.{names-at}
-use Rattle.tables.specs.Decode.{byteAt, halfAt, rowsFrom, allRows, rowCount, atomCount, classCount, methodCount, mainFirst, methodAt, methodsFrom, classesFrom, programIn}
-use Rattle.tables.specs.Tables.{Tables}
+use Rattle.tables.specs.Decode.{byteAt, halfAt, rowsFrom, allRows, rowCount, atomCount, classCount, methodCount, mainFirst, methodsFrom, classesFrom, programIn}
+use Rattle.tables.specs.Tables.{Declared, Tables}
 use Rattle.tables.specs.Stores.{Kept}
+use Rattle.tables.proofs.Kept.{all-rows}
 use Rattle.emit.specs.Puts.{headerBytes, putHeader}
-use Rattle.emit.specs.Holds.{Declared, operandsAt, RowOk, MethodOk, Holds, Finished, TargetFits, Linked}
+use Rattle.emit.specs.Holds.{Holds, Finished, Linked}
 use Rattle.emit.proofs.Puts.{put-length, put-same, put-same-half, put-kept}
-use Rattle.emit.proofs.Kept.{all-rows, holds-kept}
+use Rattle.emit.proofs.Kept.{holds-kept}
 
 -- LINES THAT WRITE NOTHING
 pub main-written : (D : Declared) (w : List ℕ) (F : Program) (n l : ℕ) → Holds D w F n → Holds D w (withItem F l aMain) n
@@ -134,29 +134,14 @@ finished-tables D w F n dc dm f k =
       classes = omega (arith, f .classes, h .classes .few);
       methods = omega (arith, f .methods, h .methods .few);
       row-fits = λ i l.
-          let o : RowOk D n (operandsAt w i) = h .rows .fit i (omega (arith, f .rows)) in
-          let t : TargetFits w i = k .targets i l in
           record {
-            kind = o .kind;
-            x = o .x;
-            y = o .y;
-            z = o .z;
-            field = o .field;
-            class = λ e. omega (arith, o .class e, f .classes, dc);
-            method = λ e. omega (arith, o .method e, f .methods, dm);
-            atoms = omega (arith, o .atoms, f .atoms);
-            one-atom = o .one-atom;
-            target = t .target;
-            after-else = t .after-else;
-            to-join = t .to-join;
-            next = t .next;
+            operands = rw (f .atoms, f .classes, f .methods, ← dc, ← dm) (h .rows .fit i (omega (arith, f .rows)));
+            follows = k .targets i l;
           };
       atom-fits = λ a l. h .atoms .fit a (omega (arith, f .atoms));
       method-fits = λ m l.
-          let o : MethodOk w n (length (F .rows)) m = h .methods .fit m (omega (arith, f .methods)) in
           record {
-            requires = omega (arith, o .requires, f .atoms);
-            ensures = omega (arith, o .ensures, f .atoms);
+            formulas = rw (f .atoms) (h .methods .fit m (omega (arith, f .methods)) .formulas);
             block = k .blocks m l;
           };
       class-fits = λ c l. h .classes .fit c (omega (arith, f .classes));

@@ -1,5 +1,4 @@
 pub mod Puts
-pub mod Runs
 pub mod Kept
 pub mod Atoms
 pub mod Rows

@@ -12,13 +12,15 @@ use Rattle.rules.specs.Items.{aMethod, aRequires, anEnsures}
 use Rattle.rules.specs.Syntax.{Program, Method}
 use Rattle.rules.specs.Reading.{withItem, onLast, withRequires, withEnsures}
 use Rattle.tables.specs.Layout.{methods-at, atoms-at, names-at}
-use Rattle.tables.specs.Decode.{byteAt, halfAt, atomsFrom, atomPlace, methodPlace, requiresAt, ensuresAt, firstRowAt, methodAt}
+use Rattle.tables.specs.Decode.{byteAt, halfAt, atomsFrom, atomPlace, methodPlace, requiresAt, ensuresAt, firstRowAt, methodAt, run}
+use Rattle.tables.specs.Tables.{AtomsFit, Declared}
 use Rattle.tables.specs.Stores.{Kept}
+use Rattle.tables.proofs.Runs.{run-grown, run-last, last-length, end-length}
+use Rattle.tables.proofs.Kept.{all-rows, atoms-kept, method-same}
 use Rattle.emit.specs.Puts.{putBytes, methodBytes, putMethod, putRequires, putEnsures}
-use Rattle.emit.specs.Holds.{Declared, Range, MethodOk, Holds, Building}
+use Rattle.emit.specs.Holds.{MethodOk, Holds, Building}
 use Rattle.emit.proofs.Puts.{put-length, put-same, put-same-half, put-other, Clear, put-kept}
-use Rattle.emit.proofs.Runs.{run-grown, run-last, last-length, end-length, methods-run}
-use Rattle.emit.proofs.Kept.{all-rows, atoms-kept, atoms-hold-kept, rows-kept, method-same, method-ok-kept, classes-kept, SameRows, holds-kept}
+use Rattle.emit.proofs.Kept.{atoms-hold-kept, rows-kept, method-ok-kept, classes-kept, SameRows, holds-kept}
 
 -- A METHOD
 module _ (w : List ℕ) (m first : ℕ) (size : length w ≡ work-bytes) (room : m < most-methods) where
@@ -53,14 +55,14 @@ module _ (w : List ℕ) (m first : ℕ) (size : length w ≡ work-bytes) (room :
   first-row = method-half 6 (methodPlace m + 6) first refl (omega arith) refl refl
 
   new-method : methodAt (putMethod w m first) m ≡ record { requires = []; ensures = []; first = first }
-  unfolding methodAt requiresAt ensuresAt atomsFrom
+  unfolding methodAt requiresAt ensuresAt run
   new-method = simp (requires-none, ensures-none, first-row)
 
   new-ok : (n R : ℕ) → first ≤ R → MethodOk (putMethod w m first) n R m
   new-ok n R l =
       record {
-        requires = rw (requires-start, requires-none) (omega arith);
-        ensures = rw (ensures-start, ensures-none) (omega arith);
+        formulas =
+            record { requires = rw (requires-start, requires-none) (omega arith); ensures = rw (ensures-start, ensures-none) (omega arith) };
         first = rw first-row l;
       }
 
@@ -111,9 +113,8 @@ module _ (D : Declared) (w : List ℕ) (F : Program) (n : ℕ) (room : length (F
             record {
               few = omega (arith, one);
               mean =
-                  methods-run after 0 _
-                  ∙ run-grown (methodAt after) (methodAt after) (F .methods)
-                  (sym (methods-run after 0 _) ∙ h′ .methods .mean) new (λ k l. refl)
+                  run-grown (methodAt after) (methodAt after) (F .methods)
+                  (h′ .methods .mean) new (λ k l. refl)
                   (new-method w (length (F .methods)) (length (F .rows)) (h .size) room);
               fit = λ i l.
                   below-more (λ (k : ℕ). MethodOk after n (length (F .rows)) k) (length (F .methods)) (h′ .methods .fit)
@@ -143,22 +144,20 @@ last-changed D w w′ F n m f last K size new ok h =
     let KA : Kept atoms-at (atomPlace n) w w′ = K _ _ (inr (omega arith)) in
     let KM : Kept methods-at (methodPlace m) w w′ = K _ _ (inl (omega arith)) in
     let same : length (onLast f (F .methods)) ≡ suc m = last-length f (F .methods) ∙ last in
-    let below : m ≤ length (F .methods) = omega arith in
     record {
       size = size ∙ h .size;
       main = h .main;
       atoms = atoms-hold-kept w w′ n KA (h .atoms);
-      rows = rows-kept D w w′ n KA (F .rows) (all-rows (length (F .rows)) w w′ (K _ _ (inl (omega (arith, h .rows .few))))) (h .rows);
+      rows = rows-kept w w′ n KA D (F .rows) (all-rows (length (F .rows)) w w′ (K _ _ (inl (omega (arith, h .rows .few))))) (h .rows);
       methods =
           record {
             few = omega (arith, same);
             mean =
-                methods-run w′ 0 _
-                ∙ run-last (methodAt w) (methodAt w′) (F .methods) (sym (methods-run w 0 _) ∙ h .methods .mean) f m last
-                (method-same w w′ n KA (length (F .rows)) (F .methods) m KM below (h .methods)) new;
+                run-last (methodAt w) (methodAt w′) (F .methods) (h .methods .mean) f m last
+                (λ k l. method-same w w′ m KM k l n (h .methods .fit k (omega arith) .formulas) KA) new;
             fit = λ i l.
                 below-more (λ (k : ℕ). MethodOk w′ n (length (F .rows)) k) m
-                (method-ok-kept w w′ n KA (length (F .rows)) (F .methods) m KM below (h .methods)) ok i (omega (arith, same));
+                (λ k l. method-ok-kept w w′ n KA (length (F .rows)) m KM k l (h .methods .fit k (omega arith))) ok i (omega (arith, same));
           };
       classes = classes-kept w w′ (F .classes) (K _ _ (inr (omega arith))) (K _ _ (inr (omega arith))) (h .classes);
     }
@@ -192,7 +191,7 @@ module _
   -- the formula that a count at c and a first atom at s give
   module _ (w′ : List ℕ) (KA : Kept atoms-at (atomPlace n) w w′) (s c : ℕ) where
     pub Given : Formula ℕ → Type 0
-    Given ψ = (atomsFrom w′ (halfAt w′ s) (byteAt w′ c) ≡ ψ) × Range n (halfAt w′ s) (byteAt w′ c)
+    Given ψ = (atomsFrom w′ (halfAt w′ s) (byteAt w′ c) ≡ ψ) × AtomsFit n (halfAt w′ s) (byteAt w′ c)
 
     new-range : halfAt w′ s ≡ a → byteAt w′ c ≡ length φ → Given φ
     unfolding Given
@@ -200,7 +199,7 @@ module _
         (rw (e, f) (atoms-kept w w′ n KA a (length φ) (omega (arith, b .place)) ∙ b .mean), omega (arith, e, f, b .place))
 
     old-range :
-        halfAt w′ s ≡ halfAt w s → byteAt w′ c ≡ byteAt w c → Range n (halfAt w s) (byteAt w c) →
+        halfAt w′ s ≡ halfAt w s → byteAt w′ c ≡ byteAt w c → AtomsFit n (halfAt w s) (byteAt w c) →
         Given (atomsFrom w (halfAt w s) (byteAt w c))
     unfolding Given
     old-range e f r = (rw (e, f) (atoms-kept w w′ n KA _ _ (r .1)), rw (e, f) r)
@@ -223,7 +222,7 @@ module _
         let both = g (K _ _ (inr (omega (arith, few-methods)))) in
         last-changed D w w′ F n m f last K (put-length w i bs)
         (λ j. record { requires = both .0 .0 j; ensures = both .1 .0 j; first = (first ∙ sym e) j })
-        (record { requires = both .0 .1; ensures = both .1 .1; first = rw first (was .first) })
+        (record { formulas = record { requires = both .0 .1; ensures = both .1 .1 }; first = rw first (was .first) })
         (b .holds)
 
   with-requires : (l : ℕ) → Holds D (putRequires w m a (length φ)) (withItem F l (aRequires φ)) n
@@ -236,7 +235,7 @@ module _
         new-range _ KA _ _ (put-same-half w i bs 0 i a (omega arith) (omega arith) (omega (arith, room)) refl refl)
             (put-same w i bs 2 (i + 2) refl (omega arith) (omega (arith, room))),
         old-range _ KA _ _ (half-stays w m i bs few-methods refl (omega arith) (omega arith) _ (inr (omega arith)))
-            (byte-stays w m i bs few-methods refl (omega arith) (omega arith) _ (inr (omega arith))) (was .ensures),
+            (byte-stays w m i bs few-methods refl (omega arith) (omega arith) _ (inr (omega arith))) (was .formulas .ensures),
       ))
 
   with-ensures : (l : ℕ) → Holds D (putEnsures w m a (length φ)) (withItem F l (anEnsures φ)) n
@@ -247,7 +246,7 @@ module _
       row-changed i bs refl (omega arith) (omega arith) (withEnsures φ) refl
       (λ KA. (
         old-range _ KA _ _ (half-stays w m i bs few-methods refl (omega arith) (omega arith) _ (inl (omega arith)))
-            (byte-stays w m i bs few-methods refl (omega arith) (omega arith) _ (inl (omega arith))) (was .requires),
+            (byte-stays w m i bs few-methods refl (omega arith) (omega arith) _ (inl (omega arith))) (was .formulas .requires),
         new-range _ KA _ _
             (put-same-half w i bs 1 (methodPlace m + 4) a (omega arith) (omega arith) (omega (arith, room)) refl refl)
             (put-same w i bs 0 i (omega arith) (omega arith) (omega (arith, room))),

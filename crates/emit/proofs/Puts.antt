@@ -8,10 +8,10 @@ use native.Mathlib.Omega.{arith}
 use lib.ListN.{length, getD, set, length-set}
 use lib.Seq.{getD-set-same, getD-set-other}
 use Rattle.tables.specs.Layout.{most-names}
-use Rattle.tables.specs.Decode.{byteAt, halfAt, classPlace, fieldCountAt}
+use Rattle.tables.specs.Decode.{byteAt, halfAt, classPlace, placesPlace, fieldCountAt}
 use Rattle.tables.specs.Stores.{putByte, putHalf, putWord, Kept}
 use Rattle.tables.proofs.Bytes.{Outside}
-use Rattle.emit.specs.Puts.{putBytes, halfBytes, wordBytes, blank, placesPlace, putClass, putFieldAt, putField}
+use Rattle.emit.specs.Puts.{putBytes, halfBytes, wordBytes, blank, putClass, putFieldAt, putField}
 
 pub put-length : (w : List ℕ) (i : ℕ) (bs : List ℕ) → length (putBytes w i bs) ≡ length w
 unfolding putBytes

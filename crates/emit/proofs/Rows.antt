@@ -1,5 +1,5 @@
 -- One more statement row.
-use mathlib.Core.Path.{_≡_, refl, sym, ap, _∙_}
+use mathlib.Core.Path.{_≡_, refl, ap, _∙_}
 use mathlib.Core.List.{List, [], _∷_, _++_}
 use mathlib.Core.Logic.{inl, inr, ⊎-elim}
 use Prim.Native.Nat.{ℕ, suc, _+_, _/_, _%_, _≤_, _<_}
@@ -8,20 +8,20 @@ use lib.Dec.{ltb}
 use lib.ListN.{length, getD}
 use borrow.Author.Count.{below-more}
 use Rattle.rules.specs.Limits.{most-statements, work-bytes}
-use Rattle.rules.specs.Syntax.{Formula, Expr, Stmt, Row}
-use Rattle.rules.specs.Syntax.{set, assign, new, call, return, assert, release, simple, else, join, end}
+use Rattle.rules.specs.Syntax.{Stmt, Row, Program}
 use Rattle.rules.specs.Items.{aStatement}
-use Rattle.rules.specs.Syntax.{Program}
 use Rattle.rules.specs.Reading.{withItem}
+use Rattle.tables.specs.declared.Operands.{Operands}
 use Rattle.tables.specs.Layout.{names-at, most-atom-rows}
-use Rattle.tables.specs.Decode.{byteAt, halfAt, rightAt, ifAt, rowPlace, rowAt}
+use Rattle.tables.specs.Decode.{byteAt, halfAt, rowPlace, operandsAt, stmtOf, rowAt}
+use Rattle.tables.specs.Tables.{Declared, OperandsFit}
 use Rattle.tables.specs.Stores.{Kept}
-use Rattle.emit.specs.declared.Operands.{Operands}
+use Rattle.tables.proofs.Runs.{less-or-not, run-grown, end-length}
+use Rattle.tables.proofs.Kept.{RowsKept, all-rows, stmt-kept}
 use Rattle.emit.specs.Puts.{rowBytes, putRow, putTarget, RowBytes}
-use Rattle.emit.specs.Holds.{Declared, operandsAt, RowOk, formulaOf, stmtOf, Holds, Building}
+use Rattle.emit.specs.Holds.{Holds}
 use Rattle.emit.proofs.Puts.{put-length, put-same, put-same-half, put-other, Clear, put-kept}
-use Rattle.emit.proofs.Runs.{less-or-not, run-grown, end-length, rows-run}
-use Rattle.emit.proofs.Kept.{RowsKept, all-rows, rowOf, row-of, stmt-of-kept, method-ok-more, SameRows, holds-kept}
+use Rattle.emit.proofs.Kept.{method-more, SameRows, holds-kept}
 
 module _ (w : List ℕ) (i : ℕ) (r : Operands) (size : length w ≡ work-bytes) (room : i < most-statements) where
   row-byte : (k j : ℕ) → j ≡ rowPlace i + k → k < 12 → byteAt (putRow w i r) j ≡ getD (rowBytes r) k 0
@@ -61,7 +61,7 @@ module _ (w : List ℕ) (i : ℕ) (r : Operands) (size : length w ≡ work-bytes
   row-length = put-length w (rowPlace i) (rowBytes r)
 
 module _
-    (D : Declared) (w : List ℕ) (F : Program) (n : ℕ) (r : Operands) (room : length (F .rows) < most-statements) (ok : RowOk D n r)
+    (D : Declared) (w : List ℕ) (F : Program) (n : ℕ) (r : Operands) (room : length (F .rows) < most-statements) (ok : OperandsFit D n r)
     (h : Holds D w F n) where
   after : List ℕ
   after = putRow w (length (F .rows)) r
@@ -85,11 +85,11 @@ module _
   here = operands-written w (length (F .rows)) r (h .size) room
 
   new-row : rowAt after (length (F .rows)) ≡ record { line = r .line; stmt = stmtOf w r }
-  unfolding rowOf
+  unfolding rowAt
   new-row =
-      row-of after (length (F .rows))
-      ∙ (ap (rowOf after) here
-      ∙ (λ j. record { line = r .line; stmt = stmt-of-kept w after n (same-rows .atoms) D r ok j }))
+      let s : stmtOf after (operandsAt after (length (F .rows))) ≡ stmtOf w r =
+      ap (stmtOf after) here ∙ stmt-kept w after n (same-rows .atoms) D r ok in
+      λ j. record { line = here j .line; stmt = s j }
 
   row-more : Holds D after (withItem F (r .line) (aStatement (stmtOf w r))) n
   unfolding withItem
@@ -105,18 +105,17 @@ module _
             record {
               few = omega (arith, one);
               mean =
-                  rows-run after 0 _
-                  ∙ run-grown (rowAt after) (rowAt after) (F .rows) (sym (rows-run after 0 _) ∙ h′ .rows .mean) new (λ k l. refl)
+                  run-grown (rowAt after) (rowAt after) (F .rows) (h′ .rows .mean) new (λ k l. refl)
                   new-row;
               fit = λ i l.
-                  below-more (λ (k : ℕ). RowOk D n (operandsAt after k)) (length (F .rows)) (h′ .rows .fit) (rw here ok) i
+                  below-more (λ (k : ℕ). OperandsFit D n (operandsAt after k)) (length (F .rows)) (h′ .rows .fit) (rw here ok) i
                   (omega (arith, one));
             };
         methods =
             record {
               few = h′ .methods .few;
               mean = h′ .methods .mean;
-              fit = λ i l. method-ok-more (omega arith) (omega (arith, one)) (h′ .methods .fit i l);
+              fit = λ i l. method-more (omega arith) (omega (arith, one)) (h′ .methods .fit i l);
             };
         classes = h′ .classes;
       }
@@ -124,14 +123,14 @@ module _
 -- the next row, with operands that fit, which means s
 pub row-written :
     (D : Declared) (w : List ℕ) (F : Program) (n : ℕ) (r : Operands) (s : Stmt) → length (F .rows) < most-statements →
-    RowOk D n r → stmtOf w r ≡ s → Holds D w F n →
+    OperandsFit D n r → stmtOf w r ≡ s → Holds D w F n →
     Holds D (putRow w (length (F .rows)) r) (withItem F (r .line) (aStatement s)) n
 unfolding after
 row-written D w F n r s room ok means h = rw (← means) (row-more D w F n r room ok h)
 
 -- what the writer asks
 pub row-bytes :
-    (D : Declared) (n : ℕ) (r : Operands) → n ≤ most-atom-rows → r .member < 256 → r .line < 65536 → RowOk D n r → RowBytes r
+    (D : Declared) (n : ℕ) (r : Operands) → n ≤ most-atom-rows → r .member < 256 → r .line < 65536 → OperandsFit D n r → RowBytes r
 row-bytes D n r few m l o =
     record {
       kind = omega (arith, o .kind);
@@ -143,60 +142,6 @@ row-bytes D n r few m l o =
       first = omega (arith, o .atoms);
       line = l;
     }
-
--- WHAT A ROW MEANS, by its kind
-module _ (w : List ℕ) (r : Operands) where
-  pub set-means : r .kind ≡ 8 → stmtOf w r ≡ simple (set (r .x) (r .member) (r .y))
-  unfolding stmtOf
-  set-means k = rw k
-
-  pub let-means : (e : Expr ℕ) → r .kind ≡ 9 → rightAt w (r .first) ≡ e → stmtOf w r ≡ simple (assign (r .x) e)
-  unfolding stmtOf
-  let-means e k p = rw (k, p)
-
-  pub new-means : r .kind ≡ 10 → stmtOf w r ≡ simple (new (r .x) (r .member))
-  unfolding stmtOf
-  new-means k = rw k
-
-  pub call-means : r .kind ≡ 11 → stmtOf w r ≡ simple (call (r .x) (r .y) (r .member) (r .z))
-  unfolding stmtOf
-  call-means k = rw k
-
-  pub return-means : r .kind ≡ 12 → stmtOf w r ≡ simple (return (r .x))
-  unfolding stmtOf
-  return-means k = rw k
-
-  pub if-means : (s : Stmt) → r .kind ≡ 15 → ifAt w (r .first) ≡ s → stmtOf w r ≡ s
-  unfolding stmtOf
-  if-means s k p = rw (k, p)
-
-  pub else-means : r .kind ≡ 16 → stmtOf w r ≡ else
-  unfolding stmtOf
-  else-means k = rw k
-
-  pub end-means : r .kind ≡ 18 → stmtOf w r ≡ end
-  unfolding stmtOf
-  end-means k = rw k
-
--- a row with the formula that was built last
-module _
-    (D : Declared) (w : List ℕ) (F : Program) (a n : ℕ) (φ : Formula ℕ) (b : Building D w F a n φ) (r : Operands)
-    (first : r .first ≡ a) (count : r .atoms ≡ length φ) where
-  formula-built : formulaOf w r ≡ φ
-  unfolding formulaOf
-  formula-built = rw (first, count) (b .mean)
-
-  pub assert-means : r .kind ≡ 13 → stmtOf w r ≡ simple (assert φ)
-  unfolding stmtOf formulaOf
-  assert-means k = rw (k, formula-built)
-
-  pub release-means : r .kind ≡ 14 → stmtOf w r ≡ simple (release φ)
-  unfolding stmtOf formulaOf
-  release-means k = rw (k, formula-built)
-
-  pub join-means : r .kind ≡ 17 → stmtOf w r ≡ join φ
-  unfolding stmtOf formulaOf
-  join-means k = rw (k, formula-built)
 
 -- A TARGET
 module _ (w : List ℕ) (i t : ℕ) (size : length w ≡ work-bytes) (room : i < most-statements) where

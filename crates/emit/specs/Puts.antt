@@ -4,9 +4,9 @@ use mathlib.Core.List.{List, [], _∷_, _++_}
 use Prim.Native.Nat.{ℕ, zero, suc, _+_, _*_, _/_, _%_, _<_}
 use lib.ListN.{set}
 use Rattle.tables.specs.declared.Expr as Tables
-use Rattle.tables.specs.Layout.{most-names, places-at}
-use Rattle.tables.specs.Decode.{atomPlace, rowPlace, methodPlace, classPlace, fieldCountAt}
-use Rattle.emit.specs.declared.Operands.{Operands}
+use Rattle.tables.specs.declared.Operands.{Operands}
+use Rattle.tables.specs.Layout.{most-names}
+use Rattle.tables.specs.Decode.{atomPlace, rowPlace, methodPlace, classPlace, placesPlace, fieldCountAt}
 
 -- the bytes bs from i on
 unfoldable pub putBytes : List ℕ → ℕ → List ℕ → List ℕ
@@ -77,9 +77,6 @@ putEnsures w m a n = putBytes w (methodPlace m + 3) ((n ∷ []) ++ halfBytes a)
 unfoldable pub blank : ℕ → List ℕ
 blank zero = []
 blank (suc n) = 255 ∷ blank n
-
-abbrev pub placesPlace : ℕ → ℕ
-placesPlace c = places-at + c * most-names
 
 -- without fields: no name has a place
 unfoldable pub putClass : List ℕ → ℕ → List ℕ

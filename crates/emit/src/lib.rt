@@ -1,5 +1,6 @@
 use tables::Expr;
 use tables::Layout;
+use tables::Operands;
 ghost use mathlib.Core.Path.{_≡_};
 ghost use mathlib.Core.Bool.{cond};
 ghost use mathlib.Core.List.{[], _∷_};
@@ -9,19 +10,6 @@ ghost use Rattle.rules.specs.Limits.{most-statements, most-methods, most-classe
 ghost use Rattle.tables.specs.Layout.{most-atom-rows, most-names};
 ghost use Rattle.tables.specs.Decode.{fieldCountAt};
 ghost use Rattle.emit.specs.Puts.{putBytes, tagOf, wordOf, putAtom, putRow, putMethod, putRequires, putEnsures, blank, putClass, putField, putHeader, RowBytes, SideBytes};
-
-// A statement row but for its target: the number of its kind, its variables, its field, class or method, how many atoms
-// it has and the first of them, its line.
-pub struct Operands {
-    pub kind: usize,
-    pub x: usize,
-    pub y: usize,
-    pub z: usize,
-    pub member: usize,
-    pub atoms: usize,
-    pub first: usize,
-    pub line: usize,
-}
 
 fn put_four(work: &mut [u8], i: usize, a: usize, b: usize, c: usize, d: usize)
     requires { ⌜ (i + 4 ≤ length (now work)) × ((a < 256) × ((b < 256) × ((c < 256) × (d < 256)))) ⌝ }

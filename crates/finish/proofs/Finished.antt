@@ -1,7 +1,7 @@
 -- The tables of a read text, once they are ended, are tables for the checker and the machine, and mean its program.
 use mathlib.Core.Path.{_≡_, sym, ap, _∙_, subst}
 use mathlib.Core.Bool.{Bool, true, false, cond}
-use mathlib.Core.List.{List, [], _∷_, map}
+use mathlib.Core.List.{List, [], _∷_}
 use mathlib.Core.Logic.{_⊎_, inl, inr, ⊎-elim}
 use Prim.Native.Nat.{ℕ, zero, suc, _+_, _/_, _%_, _≤_, _<_}
 use native.Mathlib.Numerals.{add-one}
@@ -9,23 +9,24 @@ use native.Mathlib.Omega.{arith}
 use native.Mathlib.Decide.{decLt}
 use lib.Dec.{T, eqb, ltb}
 use lib.ListN.{length, getD, drop, set, drop-of-length-le}
-use Rattle.rules.specs.Syntax.{Row, Program, end, noRow}
+use Rattle.rules.specs.Syntax.{Row, Program, noRow}
 use Rattle.rules.proofs.Lists.{decide-eq}
 use Rattle.rules.specs.Answers.{accepted}
 use Rattle.rules.specs.Items.{Item}
 use Rattle.rules.specs.Reading.{readText, program}
 use Rattle.rules.specs.Syntax.{Method}
-use Rattle.rules.specs.Reading.{noProgram, withItems}
 use Rattle.assembly.specs.Nests.{rowsNest}
 use Rattle.assembly.proofs.ReadOrder.{BodiesNest, read-nests, read-blocks}
-use Rattle.tables.specs.Decode.{rowPlace, kindAt, stmtAt, ifAt, rowAt, rowsFrom, firstRowAt, allRows, targetAt, rowCount, methodCount, mainFirst, programIn, methodAt, methodsFrom}
-use Rattle.tables.specs.Tables.{Tables, BlockFits, nested}
+use Rattle.tables.specs.Decode.{rowPlace, kindAt, operandsAt, stmtAt, rowAt, rowsFrom, firstRowAt, allRows, targetAt, rowCount, methodCount, mainFirst, programIn, methodAt, methodsFrom}
+use Rattle.tables.specs.Tables.{Declared, TargetFits, Tables, BlockFits, nested}
 use Rattle.tables.specs.Stores.{putHalf, Kept}
 use Rattle.tables.proofs.Bytes.{half-kept}
+use Rattle.tables.proofs.Runs.{run-get}
+use Rattle.tables.proofs.Statements.{not-end}
 use Rattle.targets.specs.Targets.{pushed, popped, replaced, openAfter, putTarget, workAfter, targetsFrom}
 use Rattle.emit.specs.Puts as Puts
 use Rattle.emit.specs.Puts.{putBytes}
-use Rattle.emit.specs.Holds.{Declared, Holds, Finished, TargetFits}
+use Rattle.emit.specs.Holds.{Holds, Finished}
 use Rattle.emit.proofs.Rows.{target-written}
 use Rattle.emit.proofs.Header.{withHeader, header-written, header-kept, finished-program, finished-tables}
 use Rattle.targets.specs.Right.{TargetRight}
@@ -79,43 +80,13 @@ module _ (D : Declared) (F : Program) (n : ℕ) where
   targets-hold (suc m) w i st l s h =
       targets-hold m _ (suc i) _ (omega (arith, l)) (open-small (kindAt w i) i st (omega (arith, l)) s) (work-holds w (kindAt w i) i st s h)
 
--- ROWS THAT ARE NO `end`
-not-end : (w : List ℕ) (i : ℕ) → 8 ≤ kindAt w i → kindAt w i ≤ 17 → stmtAt w i ≡ end → ⊥
-unfolding stmtAt ifAt
-not-end w i a b h =
-    step 8 a (λ e. let z : _≡_ {A = ℕ} 0 1 = (let g = rw e at h in cc) in omega arith) λ l8.
-    step 9 l8 (λ e. let z : _≡_ {A = ℕ} 0 1 = (let g = rw e at h in cc) in omega arith) λ l9.
-    step 10 l9 (λ e. let z : _≡_ {A = ℕ} 0 1 = (let g = rw e at h in cc) in omega arith) λ l10.
-    step 11 l10 (λ e. let z : _≡_ {A = ℕ} 0 1 = (let g = rw e at h in cc) in omega arith) λ l11.
-    step 12 l11 (λ e. let z : _≡_ {A = ℕ} 0 1 = (let g = rw e at h in cc) in omega arith) λ l12.
-    step 13 l12 (λ e. let z : _≡_ {A = ℕ} 0 1 = (let g = rw e at h in cc) in omega arith) λ l13.
-    step 14 l13 (λ e. let z : _≡_ {A = ℕ} 0 1 = (let g = rw e at h in cc) in omega arith) λ l14.
-    step 15 l14 (λ e. let z : _≡_ {A = ℕ} 0 1 = (let g = rw e at h in cc) in omega arith) λ l15.
-    step 16 l15 (λ e. let z : _≡_ {A = ℕ} 0 1 = (let g = rw e at h in cc) in omega arith) λ l16.
-    step 17 l16 (λ e. let z : _≡_ {A = ℕ} 0 1 = (let g = rw e at h in cc) in omega arith) λ l17.
-    omega (arith, b, l17)
-  where
-    -- it is not k, so it is more
-    step : (k : ℕ) → k ≤ kindAt w i → (kindAt w i ≡ k → ⊥) → (suc k ≤ kindAt w i → ⊥) → ⊥
-    step k l n g = g (omega (arith, l, n))
-
 -- LISTS READ AT A PLACE
-rows-at : (w : List ℕ) (i n j : ℕ) → j < n → getD (rowsFrom w i n) j noRow ≡ rowAt w (i + j)
-unfolding rowsFrom
-rows-at w i zero j l = absurd (omega (arith, l))
-rows-at w i (suc n) zero l = let e : i + 0 ≡ i = omega arith in rw e
-rows-at w i (suc n) (suc j) l =
-    let e : suc i + j ≡ i + suc j = omega arith in rows-at w (suc i) n j (omega (arith, l)) ∙ ap (rowAt w) e
-
 noneMethod : Method
 noneMethod = record { requires = []; ensures = []; first = 0 }
 
 methods-at : (w : List ℕ) (m n j : ℕ) → j < n → getD (methodsFrom w m n) j noneMethod .first ≡ firstRowAt w (m + j)
-unfolding methodsFrom methodAt
-methods-at w m zero j l = absurd (omega (arith, l))
-methods-at w m (suc n) zero l = let e : m + 0 ≡ m = omega arith in ap (firstRowAt w) (sym e)
-methods-at w m (suc n) (suc j) l =
-    let e : suc m + j ≡ m + suc j = omega arith in methods-at w (suc m) n j (omega (arith, l)) ∙ ap (firstRowAt w) e
+unfolding methodAt
+methods-at w m n j l = ap (λ (x : Method). x .first) (run-get (methodAt w) m n j noneMethod l)
 
 -- the block of the j-th method
 body-at :
@@ -200,7 +171,7 @@ module _ (t : List ℕ) (items : List Item) (read : readText t ≡ accepted item
     stmt-is i l =
         let e : 0 + i ≡ i = omega arith in
         ap (λ (rs : List Row). getD rs i noRow .stmt) (sym (finished .holds .rows .mean))
-        ∙ (ap (λ (r : Row). r .stmt) (rows-at ended 0 R i l) ∙ ap (stmtAt ended) e)
+        ∙ (ap (λ (r : Row). r .stmt) (run-get (rowAt ended) 0 R i noRow l) ∙ ap (stmtAt ended) e)
 
     target-fits : (i : ℕ) → i < rowCount ended → TargetFits ended i
     unfolding R
@@ -221,7 +192,7 @@ module _ (t : List ℕ) (items : List Item) (read : readText t ≡ accepted item
         last (inr m) =
             let l : i < R = omega (arith, u, counted) in
             let o = finished .holds .rows .fit i l in
-            let s = not-last (F .rows) true [] nests i l (λ e. not-end ended i (o .kind .0) (omega (arith, o .kind .1, m)) (sym (stmt-is i l) ∙ e)) in
+            let s = not-last (F .rows) true [] nests i l (λ e. not-end ended (operandsAt ended i) (o .kind .0) (omega (arith, o .kind .1, m)) (sym (stmt-is i l) ∙ e)) in
             inr (omega (arith, s, counted))
 
     blocks : (m : ℕ) → m < methodCount ended → BlockFits ended (firstRowAt ended m)

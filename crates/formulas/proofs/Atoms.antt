@@ -14,7 +14,7 @@ use Rattle.rules.specs.Syntax.{Formula, Atom, eq, ne, cmp}
 use Rattle.rules.specs.State as Rules
 use Rattle.rules.specs.State.{Permission, equalIn, showFrom}
 use Rattle.rules.specs.Rules.{actual, substTerm, substAtom}
-use Rattle.tables.specs.Decode.{byteAt, atomPlace, relOf, leftAt, rightAt, atomAt, atomsFrom}
+use Rattle.tables.specs.Decode.{run, byteAt, atomPlace, relOf, leftAt, rightAt, atomAt, atomsFrom}
 use Rattle.links.specs.Listing.{listed}
 use Rattle.knowledge.specs.declared.Answer.{Answer}
 use Rattle.knowledge.proofs.Answer.{the-type}
@@ -45,12 +45,12 @@ module _ (w : List ℕ) (y z x a : ℕ) where
 
 module _ (w : List ℕ) (y z x : ℕ) where
   pub formula-none : (a : ℕ) → formula w y z x a 0 ≡ []
-  unfolding formula atomsFrom
+  unfolding formula run
   formula-none a = refl
 
   pub formula-more :
       (a n i : ℕ) → i < n → formula w y z x (a + i) (n - i) ≡ substAtom (actual y z x) (atomAt w (a + i)) ∷ formula w y z x (a + (i + 1)) (n - (i + 1))
-  unfolding formula atomsFrom
+  unfolding formula run
   formula-more a n i h =
       let e : n - i ≡ suc (n - (i + 1)) = omega arith in
       let d : suc (a + i) ≡ a + (i + 1) = omega arith in

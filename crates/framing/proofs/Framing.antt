@@ -9,7 +9,7 @@ use native.Mathlib.Numerals.{add-one}
 use Rattle.rules.specs.Base.{any}
 use Rattle.rules.specs.Syntax.{Formula, acc, cmp, path}
 use Rattle.rules.specs.Reading.{Access, framedExpr, framed}
-use Rattle.tables.specs.Decode.{byteAt, atomPlace, relOf, leftAt, rightAt, atomAt, atomsFrom}
+use Rattle.tables.specs.Decode.{run, byteAt, atomPlace, relOf, leftAt, rightAt, atomAt, atomsFrom}
 use Rattle.framing.specs.Framing.{accessAt, isAccess, isOf, accesses}
 
 -- an atom by its sides
@@ -89,14 +89,14 @@ module _ (w : List ℕ) (a : ℕ) where
     passed-none = let e : a + 0 ≡ a = add-zero a in let f : n - 0 ≡ n = omega arith in rw (e, f)
 
     pub passed-all : (i : ℕ) → n ≤ i → Passed i → framed [] (atomsFrom w a n) ≡ true
-    unfolding framed atomsFrom
+    unfolding framed run
     passed-all i l x = let e : n - i ≡ 0 = omega arith in x ∙ rw e
 
     abbrev atom-framed : ℕ → Bool
     atom-framed i = framed (accesses w a i) (atomAt w (a + i) ∷ [])
 
     passed-step : (i : ℕ) → i < n → Passed i → framed [] (atomsFrom w a n) ≡ atom-framed i && framed (accesses w a (suc i)) (atomsFrom w (suc (a + i)) (n - suc i))
-    unfolding atomsFrom
+    unfolding run
     passed-step i l x = let e : n - i ≡ suc (n - suc i) = omega arith in x ∙ rw e (framed-step i (atomsFrom w (suc (a + i)) (n - suc i)))
 
     pub passed-not : (i : ℕ) → i < n → Passed i → atom-framed i ≡ false → framed [] (atomsFrom w a n) ≡ false

@@ -15,9 +15,11 @@ use Rattle.rules.proofs.Lists as Lists
 use Rattle.rules.proofs.Lists.{T-true, cons-head, cons-tail}
 use Rattle.leaves.proofs.Search.{true-false, or-false, same-is, same-refl}
 use Rattle.declared.specs.declared.Names.{Names}
-use Rattle.declared.specs.Rows.{rows, entryAt, fields-first}
+use Rattle.tables.specs.Decode.{run}
+use Rattle.declared.specs.Rows.{entryAt, fields-first}
 use Rattle.declared.specs.Meanings.{asField, declarationsIn}
-use Rattle.declared.proofs.Searches.{rows-length, rows-at, any-index}
+use Rattle.tables.proofs.Runs.{run-length, run-get}
+use Rattle.declared.proofs.Searches.{any-index}
 use Rattle.rules.specs.Reading.{onLast}
 
 -- THE LAST OF A LIST
@@ -54,10 +56,10 @@ module _ (t w : List ℕ) (c : Names) where
   unfolding fieldNumber declarationsIn asField
   name-declared i f l e =
       let g : ℕ → FieldDeclaration = λ j. asField (entryAt t w j) in
-      let n : length (rows g fields-first (c .fields)) ≡ c .fields = rows-length g fields-first (c .fields) in
-      let r = rows-at g fields-first (c .fields) i noField l in
+      let n : length (run g fields-first (c .fields)) ≡ c .fields = run-length g fields-first (c .fields) in
+      let r = run-get g fields-first (c .fields) i noField l in
       let b =
-      index-before (λ d. eqName (d .name) f) noField (rows g fields-first (c .fields)) i (omega (arith, n))
+      index-before (λ d. eqName (d .name) f) noField (run g fields-first (c .fields)) i (omega (arith, n))
       (ap (λ d. eqName (d .name) f) r ∙ (ap (λ x. eqName x f) e ∙ same-refl f)) in
       omega (arith, b)
 
@@ -69,7 +71,7 @@ module _ (t w : List ℕ) (c : Names) where
   number-apart f g l e =
       let p : Name → FieldDeclaration → Bool = λ x d. eqName (d .name) x in
       let ds : List FieldDeclaration = declarationsIn t w c .fields in
-      let n : length ds ≡ c .fields = rows-length (λ j. asField (entryAt t w j)) fields-first (c .fields) in
+      let n : length ds ≡ c .fields = run-length (λ j. asField (entryAt t w j)) fields-first (c .fields) in
       let a : any (p f) ds ≡ true = any-index (p f) ds ∙ lt-ltb (index (p f) ds) (length ds) (omega (arith, n)) in
       let s = Lists.index-same (p f) (p g) ds (subst T (sym a) tt) (sym e) in
       sym (same-is _ g (T-true (eqName (s .0 .name) g) (s .2))) ∙ same-is _ f (T-true (eqName (s .0 .name) f) (s .1))

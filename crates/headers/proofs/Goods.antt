@@ -18,7 +18,8 @@ use Rattle.leaves.proofs.Search.{both-true, true-false}
 use Rattle.lines.specs.Cuts.{more}
 use Rattle.declared.specs.declared.Span.{Span}
 use Rattle.declared.specs.declared.Row.{Row}
-use Rattle.declared.specs.Rows.{nameIn, rows, entryOf}
+use Rattle.tables.specs.Decode.{run}
+use Rattle.declared.specs.Rows.{nameIn, entryOf}
 use Rattle.declared.specs.Meanings.{declarationsIn, blockIn, variablesIn, scopeIn}
 use Rattle.declared.specs.LookUps.{isNew}
 use Rattle.declare.specs.Declares.{lineWith, MethodRow, methodEntry}
@@ -29,14 +30,14 @@ use Rattle.headers.specs.Headers.{DeclarationPut}
 use Rattle.headers.proofs.Lines.{Formed, line-is}
 
 -- THE FIELDS OF A LINE WITHOUT A TAIL
-after-first : (u : Name) (ws : List Name) (i n : ℕ) → rows (λ i. getD (u ∷ ws) i []) (suc i) n ≡ rows (λ i. getD ws i []) i n
-unfolding rows
+after-first : (u : Name) (ws : List Name) (i n : ℕ) → run (λ i. getD (u ∷ ws) i []) (suc i) n ≡ run (λ i. getD ws i []) i n
+unfolding run
 after-first u ws i zero = refl
 after-first u ws i (suc n) = ap (_∷_ (getD ws i [])) (after-first u ws (suc i) n)
 
 -- as many as its operands
-formed-fields : (os : List Operand) (ws : List Name) → isFormed os nothing ws ≡ true → ws ≡ rows (λ i. getD ws i []) 0 (length os)
-unfolding Grammar.opened rows
+formed-fields : (os : List Operand) (ws : List Name) → isFormed os nothing ws ≡ true → ws ≡ run (λ i. getD ws i []) 0 (length os)
+unfolding Grammar.opened run
 formed-fields [] [] e = refl
 formed-fields [] (w ∷ ws) e = true-false (sym e ∙ eqb·suc-zero (length ws))
 formed-fields (o ∷ os) [] e = true-false (sym e)
@@ -58,7 +59,7 @@ module _ (Γ : Declarations) (vs : List Variable) (s : Scope) (ws : List Name) w
   var-good :
       Formed Var ws →
       isGood Γ vs s (lineWith Var ws) ≡ (isType Γ (getD ws 0 []) && isNew (getD ws 1 []) (map (λ v. v .name) (s .block .variables)))
-  unfolding isGood isNew rows Grammar.opened Scopes.opened Known.allKnown Known.known Known.allTyped Known.ofClass Known.sidesAgree Known.allAssignable Known.mayBeAssigned Known.callApart Base.all Text.formulaOf
+  unfolding isGood isNew run Grammar.opened Scopes.opened Known.allKnown Known.known Known.allTyped Known.ofClass Known.sidesAgree Known.allAssignable Known.mayBeAssigned Known.callApart Base.all Text.formulaOf
   var-good e =
       ap (λ ws. isGood Γ vs s (lineWith Var ws)) (formed-fields (form Var .operands) ws e)
       ∙ two (isType Γ (getD ws 0 [])) (isNew (getD ws 1 []) (map (λ v. v .name) (s .block .variables)))
@@ -67,7 +68,7 @@ module _ (Γ : Declarations) (vs : List Variable) (s : Scope) (ws : List Name) w
   field-good :
       Formed Field ws →
       isGood Γ vs s (lineWith Field ws) ≡ (isType Γ (getD ws 0 []) && isNew (getD ws 1 []) (s .members .fields))
-  unfolding isGood isNew rows Grammar.opened Scopes.opened Known.allKnown Known.known Known.allTyped Known.ofClass Known.sidesAgree Known.allAssignable Known.mayBeAssigned Known.callApart Base.all Text.formulaOf
+  unfolding isGood isNew run Grammar.opened Scopes.opened Known.allKnown Known.known Known.allTyped Known.ofClass Known.sidesAgree Known.allAssignable Known.mayBeAssigned Known.callApart Base.all Text.formulaOf
   field-good e =
       ap (λ ws. isGood Γ vs s (lineWith Field ws)) (formed-fields (form Field .operands) ws e)
       ∙ two (isType Γ (getD ws 0 [])) (isNew (getD ws 1 []) (s .members .fields))
@@ -78,7 +79,7 @@ module _ (Γ : Declarations) (vs : List Variable) (s : Scope) (ws : List Name) w
       isGood Γ vs s (lineWith Method ws)
       ≡ ((isType Γ (getD ws 0 []) && isNew (getD ws 1 []) (s .members .methods))
       && (isType Γ (getD ws 2 []) && isNew (getD ws 3 []) (map (λ v. v .name) (s .block .variables))))
-  unfolding isGood isNew rows Grammar.opened Scopes.opened Known.allKnown Known.known Known.allTyped Known.ofClass Known.sidesAgree Known.allAssignable Known.mayBeAssigned Known.callApart Base.all Text.formulaOf
+  unfolding isGood isNew run Grammar.opened Scopes.opened Known.allKnown Known.known Known.allTyped Known.ofClass Known.sidesAgree Known.allAssignable Known.mayBeAssigned Known.callApart Base.all Text.formulaOf
   method-good e =
       ap (λ ws. isGood Γ vs s (lineWith Method ws)) (formed-fields (form Method .operands) ws e)
       ∙ four (isType Γ (getD ws 0 [])) (isNew (getD ws 1 []) (s .members .methods)) (isType Γ (getD ws 2 []))

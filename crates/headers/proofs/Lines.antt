@@ -32,7 +32,7 @@ use Rattle.declared.specs.declared.Names.{Names}
 use Rattle.declared.specs.Rows.{nameIn, entryAt, entryOf, SpanFits, nameAt, classes-first, fields-first, rowPlace, variables-first, putRow}
 use Rattle.declared.specs.Meanings.{Fits, AboveFits, namesFrom, declarationsIn, classAbove, scopeIn, blockIn, moreLocals, variableRow, putBlock}
 use Rattle.declared.specs.LookUps.{isNew}
-use Rattle.declared.proofs.Searches.{rows-length}
+use Rattle.tables.proofs.Runs.{run-length}
 use Rattle.declared.proofs.Puts.{row-length, row-other, row-tables}
 use Rattle.declared.proofs.Scopes.{names-kept, scope-kept, block-put, block-declarations, block-tables, local-put, variable-row}
 use Rattle.declare.specs.Declares.{lineWith, MethodRow, methodEntry}
@@ -41,7 +41,7 @@ use Rattle.rules.specs.Reading.{withItem, onLast}
 use Rattle.emit.specs.Puts.{putClass, putField, putMethod}
 use Rattle.emit.specs.Holds.{Holds}
 use Rattle.emit.proofs.Kept.{holds-same}
-use Rattle.emit.proofs.Runs.{end-length, last-length}
+use Rattle.tables.proofs.Runs.{end-length, last-length}
 use Rattle.emit.proofs.Classes.{class-written, class-names, class-length, class-count, field-written, field-names, field-length}
 use Rattle.emit.proofs.Methods.{method-written, method-names, method-length}
 use Rattle.emit.proofs.Header.{main-written, local-written}
@@ -169,7 +169,7 @@ module _ (t w : List ℕ) (p : Pass) (F : Program) (s : Stands t w p F) where
       sym (map-length (λ f. f .name) (lastClass F))
       ∙ (ap length (s .fields)
       ∙ (map-length (fieldNumber (declarationsIn t w (p .names))) (scopeIn t w (p .names) (p .above) .members .fields)
-      ∙ rows-length (λ j. entryAt t w j .name) (fields-first + p .above .fields .first) (p .above .fields .count)))
+      ∙ run-length (λ j. entryAt t w j .name) (fields-first + p .above .fields .first) (p .above .fields .count)))
 
   pub stands-held : Held w p
   unfolding lastClass

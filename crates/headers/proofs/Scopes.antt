@@ -15,7 +15,8 @@ use Rattle.rules.specs.Scope.{Block, scopeAfter}
 use Rattle.tables.specs.Stores.{Kept}
 use Rattle.declared.specs.declared.Names.{Names}
 use Rattle.declared.specs.declared.Above.{Above}
-use Rattle.declared.specs.Rows.{Entry, rows, rowPlace, entryAt, classes-first, fields-first, methods-first, variables-first}
+use Rattle.tables.specs.Decode.{run}
+use Rattle.declared.specs.Rows.{Entry, rowPlace, entryAt, classes-first, fields-first, methods-first, variables-first}
 use Rattle.declared.specs.Meanings.{AboveFits, namesFrom, blockIn, classAbove, scopeIn}
 use Rattle.declared.proofs.Puts.{entry-kept, range-kept}
 use Rattle.declared.proofs.Scopes.{names-more}
@@ -51,7 +52,7 @@ module _ (t w : List ℕ) (c : Names) (a : Above) (ws : List Name) where
   pub class-scope :
       entryAt t w (classes-first + a .classes) .name ≡ getD ws 0 [] →
       scopeIn t w c (aboveAfter Class a) ≡ scopeAfter (scopeIn t w c a) (lineWith Class ws)
-  unfolding scopeIn aboveAfter nextRange classAbove namesFrom rows Scope.opened Grammar.opened
+  unfolding scopeIn aboveAfter nextRange classAbove namesFrom run Scope.opened Grammar.opened
   class-scope e =
       let n : a .classes + 1 - 1 ≡ a .classes = omega arith in
       let z : eqb (a .classes + 1) 0 ≡ false = ne-eqb (a .classes + 1) 0 (λ z. omega arith) in

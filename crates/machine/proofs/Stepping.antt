@@ -7,13 +7,13 @@ use native.Mathlib.Omega.{arith}
 use Rattle.rules.specs.Syntax.{Row, Stmt, result-variable, var}
 use Rattle.rules.specs.Machine.{Config, Step, Room, took, on, statementOf, step, stepAt, simpleStep, elseStep, setStep, assignStep, newStep, callStep, ifStep, assertStep, releaseStep, endStep}
 use Rattle.rules.specs.declared.Machine.{Machine}
-use Rattle.tables.specs.Decode.{allRows, byteAt, atomPlace, relOf, rowAt, stmtAt, ifAt, kindAt, xAt, yAt, zAt, memberAt, firstAtomAt, formulaAt, leftAt, rightAt, methodAt, classAt, programIn}
+use Rattle.tables.specs.Decode.{allRows, byteAt, atomPlace, relOf, rowAt, operandsAt, stmtAt, kindAt, xAt, yAt, zAt, memberAt, firstAtomAt, formulaAt, leftAt, rightAt, methodAt, classAt, programIn}
 use Rattle.tables.proofs.Rows.{method-get, class-get}
+use Rattle.tables.proofs.Statements.{set-means, let-means, new-means, call-means, return-means, assert-means, release-means, if-means, else-means, join-means, end-means}
 use Rattle.steps.specs.declared.Turn.{Turn}
 use Rattle.steps.specs.States.{Represents, Follows, Does, Ready, AtKind}
 use Rattle.calls.proofs.Returning.{row-of}
 use Rattle.steps.proofs.Doing.{fits}
-use Rattle.steps.proofs.Statements.{at-set, at-let, at-new, at-call, at-return, at-assert, at-release, at-if, at-else, at-join, at-end}
 
 -- the statement that is done
 statement : {w : List ℕ} {c : Machine} (m : Config) → Represents w c m → statementOf (programIn w) (m .frame) ≡ stmtAt w (c .row)
@@ -50,55 +50,55 @@ module _ {w w′ : List ℕ} {c : Machine} {r : Turn} (ready : Ready w c) (room 
 
   pub sets : AtKind w c 8 → Does w c w′ r (λ m. took (setStep (xAt w (c .row)) (memberAt w (c .row)) (yAt w (c .row)) m)) → Does w c w′ r (step room (programIn w))
   unfolding stepAt simpleStep
-  sets k = does-as _ (λ m. rw (at-set w (c .row) k))
+  sets k = does-as _ (λ m. rw (set-means w (operandsAt w (c .row)) k))
 
   pub lets :
       AtKind w c 9 → Does w c w′ r (λ m. took (assignStep (xAt w (c .row)) (rightAt w (firstAtomAt w (c .row))) m)) →
       Does w c w′ r (step room (programIn w))
   unfolding stepAt simpleStep
-  lets k = does-as _ (λ m. rw (at-let w (c .row) k))
+  lets k = does-as _ (λ m. rw (let-means w (operandsAt w (c .row)) k))
 
   pub news :
       AtKind w c 10 → Does w c w′ r (λ m. took (newStep room (xAt w (c .row)) (classAt w (memberAt w (c .row))) m)) →
       Does w c w′ r (step room (programIn w))
   unfolding stepAt simpleStep
-  news k = does-as _ (λ m. rw (at-new w (c .row) k, class-get w (memberAt w (c .row)) (fits ready .class k)))
+  news k = does-as _ (λ m. rw (new-means w (operandsAt w (c .row)) k, class-get w (memberAt w (c .row)) (fits ready .class k)))
 
   pub calls :
       AtKind w c 11 → Does w c w′ r (λ m. took (callStep (yAt w (c .row)) (methodAt w (memberAt w (c .row))) (zAt w (c .row)) m)) →
       Does w c w′ r (step room (programIn w))
   unfolding stepAt simpleStep
-  calls k = does-as _ (λ m. rw (at-call w (c .row) k, method-get w (memberAt w (c .row)) (fits ready .method k)))
+  calls k = does-as _ (λ m. rw (call-means w (operandsAt w (c .row)) k, method-get w (memberAt w (c .row)) (fits ready .method k)))
 
   pub returns :
       AtKind w c 12 → Does w c w′ r (λ m. took (assignStep result-variable (var (xAt w (c .row))) m)) → Does w c w′ r (step room (programIn w))
   unfolding stepAt simpleStep
-  returns k = does-as _ (λ m. rw (at-return w (c .row) k))
+  returns k = does-as _ (λ m. rw (return-means w (operandsAt w (c .row)) k))
 
   pub asserts :
       (kindAt w (c .row) ≡ 13) ⊎ (kindAt w (c .row) ≡ 17) → Does w c w′ r (λ m. took (assertStep (formulaAt w (c .row)) m)) →
       Does w c w′ r (step room (programIn w))
   unfolding stepAt simpleStep
-  asserts (inl k) = does-as _ (λ m. rw (at-assert w (c .row) k))
-  asserts (inr k) = does-as _ (λ m. rw (at-join w (c .row) k))
+  asserts (inl k) = does-as _ (λ m. rw (assert-means w (operandsAt w (c .row)) k))
+  asserts (inr k) = does-as _ (λ m. rw (join-means w (operandsAt w (c .row)) k))
 
   pub releases : AtKind w c 14 → Does w c w′ r (λ m. took (releaseStep (formulaAt w (c .row)) m)) → Does w c w′ r (step room (programIn w))
   unfolding stepAt simpleStep
-  releases k = does-as _ (λ m. rw (at-release w (c .row) k))
+  releases k = does-as _ (λ m. rw (release-means w (operandsAt w (c .row)) k))
 
   pub ifs :
       AtKind w c 15 →
       Does w c w′ r
       (λ m. took (ifStep (allRows w) (relOf (byteAt w (atomPlace (firstAtomAt w (c .row))))) (leftAt w (firstAtomAt w (c .row))) (rightAt w (firstAtomAt w (c .row))) m)) →
       Does w c w′ r (step room (programIn w))
-  unfolding stepAt ifAt programIn
-  ifs k = does-as _ (λ m. rw (at-if w (c .row) k))
+  unfolding stepAt programIn
+  ifs k = does-as _ (λ m. rw (if-means w (operandsAt w (c .row)) k))
 
   pub elses :
       AtKind w c 16 → Does w c w′ r (λ m. on (elseStep (allRows w) m)) → Does w c w′ r (step room (programIn w))
   unfolding stepAt programIn
-  elses k = does-as _ (λ m. rw (at-else w (c .row) k))
+  elses k = does-as _ (λ m. rw (else-means w (operandsAt w (c .row)) k))
 
   pub ends : AtKind w c 18 → Does w c w′ r (λ m. endStep (programIn w) m (m .callers)) → Does w c w′ r (step room (programIn w))
   unfolding stepAt
-  ends k = does-as _ (λ m. rw (at-end w (c .row) k))
+  ends k = does-as _ (λ m. rw (end-means w (operandsAt w (c .row)) k))

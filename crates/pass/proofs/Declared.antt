@@ -11,9 +11,10 @@ use Rattle.rules.specs.Places.{oneMoreIf}
 use Rattle.rules.specs.Scope.{Declarations, operand, classesOf, classesAbove, fieldsOf, methodsOf, declarations}
 use Rattle.declared.specs.declared.Names.{Names}
 use Rattle.declared.specs.declared.Above.{Above}
-use Rattle.declared.specs.Rows.{entryAt, rows, classes-first, fields-first, methods-first}
+use Rattle.tables.specs.Decode.{run}
+use Rattle.declared.specs.Rows.{entryAt, classes-first, fields-first, methods-first}
 use Rattle.declared.specs.Meanings.{Fits, AboveFits, asField, asMethod, namesFrom, declarationsIn}
-use Rattle.declared.proofs.Searches.{rows-length, rows-at}
+use Rattle.tables.proofs.Runs.{run-length, run-get}
 use Rattle.pass.specs.Passes.{after, aboveAfter}
 use Rattle.pass.proofs.Counted.{above-on}
 
@@ -33,11 +34,11 @@ module _ {A : Type 0} where
 
   -- the next element, of the values of f at m numbers from i on
   pub rest-next :
-      (f : ℕ → A) (i m n : ℕ) (b : Bool) (a : A) (r : List A) → b ≡ true → Rest (rows f i m) n (cond b (a ∷ r) r) → (n < m) × (f (i + n) ≡ a)
+      (f : ℕ → A) (i m n : ℕ) (b : Bool) (a : A) (r : List A) → b ≡ true → Rest (run f i m) n (cond b (a ∷ r) r) → (n < m) × (f (i + n) ≡ a)
   rest-next f i m n b a r e x =
-      let (y, z, _) = rest-cons (rows f i m) n a r a (rw e at (x .are)) in
-      let h : n < m = omega (arith, rows-length f i m) in
-      (h, sym (rows-at f i m n a h) ∙ z)
+      let (y, z, _) = rest-cons (run f i m) n a r a (rw e at (x .are)) in
+      let h : n < m = omega (arith, run-length f i m) in
+      (h, sym (run-get f i m n a h) ∙ z)
 
   -- with one element more above, or none
   pub rest-on : {l : List A} {n : ℕ} {r : List A} (b : Bool) (a : A) → Rest l n (cond b (a ∷ r) r) → Rest l (oneMoreIf b n) r
@@ -79,9 +80,9 @@ module _ (t w : List ℕ) (c : Names) {a : Above} where
   unfolding declarationsIn namesFrom
   above-fits f x =
       record {
-        classes = omega (arith, f .classes, x .classes .low, rows-length (λ j. entryAt t w j .name) classes-first (c .classes));
-        fields = omega (arith, f .fields, x .fields .low, rows-length (λ j. asField (entryAt t w j)) fields-first (c .fields));
-        methods = omega (arith, f .methods, x .methods .low, rows-length (λ j. asMethod (entryAt t w j)) methods-first (c .methods));
+        classes = omega (arith, f .classes, x .classes .low, run-length (λ j. entryAt t w j .name) classes-first (c .classes));
+        fields = omega (arith, f .fields, x .fields .low, run-length (λ j. asField (entryAt t w j)) fields-first (c .fields));
+        methods = omega (arith, f .methods, x .methods .low, run-length (λ j. asMethod (entryAt t w j)) methods-first (c .methods));
       }
 
   -- what the next line declares is in the next row of its kind

@@ -27,7 +27,8 @@ use Rattle.declared.specs.Meanings.{Fits, AboveFits, declarationsIn, variablesI
 use Rattle.declare.specs.Declares.{lineWith}
 use Rattle.rules.specs.Syntax.{Program}
 use Rattle.rules.specs.Reading.{withItem}
-use Rattle.emit.specs.Holds.{Declared, Holds}
+use Rattle.tables.specs.Tables.{Declared}
+use Rattle.emit.specs.Holds.{Holds}
 use Rattle.pass.specs.declared.Pass.{Pass}
 use Rattle.pass.specs.declared.Tried.{Tried}
 

@@ -22,9 +22,10 @@ use Rattle.declared.specs.declared.Names as Counts
 use Rattle.declared.specs.Meanings.{Fits, declarationsIn, variablesIn}
 use Rattle.rules.specs.Syntax.{Program}
 use Rattle.rules.specs.Reading.{withItem}
-use Rattle.emit.specs.declared.Operands.{Operands}
+use Rattle.tables.specs.declared.Operands.{Operands}
 use Rattle.emit.specs.Puts.{putRow, RowBytes}
-use Rattle.emit.specs.Holds.{RowOk, Holds}
+use Rattle.tables.specs.Tables.{OperandsFit}
+use Rattle.emit.specs.Holds.{Holds}
 use Rattle.emit.proofs.Rows.{row-bytes, row-names, row-length}
 use Rattle.pass.specs.Passes.{counts, isGood}
 use Rattle.declare.specs.Declares.{lineWith}
@@ -83,7 +84,7 @@ module _ (t w : List ℕ) (c : Counts.Names) (fits : Fits c) (l : ℕ) (ws : Lis
   pub plain-bytes : (k : ℕ) → isPlain k ≡ true → l < 65536 → GoodOf k → RowBytes (rowOf k)
   unfolding plainRow plainGood setRow newRow callRow returnRow
   plain-bytes k e line =
-      let small : (r : Operands) → r .member < 256 → r .line < 65536 → RowOk (counts c) 0 r → RowBytes r =
+      let small : (r : Operands) → r .member < 256 → r .line < 65536 → OperandsFit (counts c) 0 r → RowBytes r =
       λ r. row-bytes (counts c) 0 r (omega arith) in
       plain-kinds (λ k. GoodOf k → RowBytes (rowOf k)) k e
       (λ x. let o = set-ok t w c fits 0 l ws x in small (rowOf 8) (omega (arith, o .field refl)) line o)

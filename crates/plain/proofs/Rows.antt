@@ -28,10 +28,12 @@ use Rattle.declared.proofs.LookUps.{class-any, method-any}
 use Rattle.tables.specs.Layout.{most-names, frame-variables}
 use Rattle.rules.specs.Syntax.{Program}
 use Rattle.rules.specs.Reading.{withItem}
-use Rattle.emit.specs.declared.Operands.{Operands}
+use Rattle.tables.specs.declared.Operands.{Operands}
 use Rattle.emit.specs.Puts.{putRow}
-use Rattle.emit.specs.Holds.{RowOk, Holds}
-use Rattle.emit.proofs.Rows.{row-written, set-means, new-means, call-means, return-means, else-means, end-means}
+use Rattle.emit.specs.Holds.{Holds}
+use Rattle.tables.specs.Tables.{OperandsFit}
+use Rattle.tables.proofs.Statements.{set-means, new-means, call-means, return-means, else-means, end-means}
+use Rattle.emit.proofs.Rows.{row-written}
 use Rattle.pass.specs.Passes.{counts}
 use Rattle.declare.specs.Texts.{SpanAfter}
 use Rattle.declare.specs.Declares.{lineWith}
@@ -60,7 +62,7 @@ module _ (t w : List ℕ) (c : Counts.Names) (fits : Fits c) (n l : ℕ) where
   -- a row of this kind without atoms
   bare-ok :
       (k x y z m : ℕ) → IsStatementNumber k → (k ≡ 9 → ⊥) → (k ≡ 15 → ⊥) → x < frame-variables → y < frame-variables → z < frame-variables →
-      (k ≡ 8 → m < most-names) → (k ≡ 10 → m < c .classes) → (k ≡ 11 → m < c .methods) → RowOk (counts c) n (bare k x y z m l)
+      (k ≡ 8 → m < most-names) → (k ≡ 10 → m < c .classes) → (k ≡ 11 → m < c .methods) → OperandsFit (counts c) n (bare k x y z m l)
   bare-ok k x y z m is no-let no-if p q r f g h =
       record {
         kind = is;
@@ -100,7 +102,7 @@ module _ (t w : List ℕ) (c : Counts.Names) (fits : Fits c) (n l : ℕ) where
       ltb-true (classNumber Γ C) (c .classes) (sym (class-any t w c C) ∙ a .1)
 
   -- BY THE KIND OF THE LINE
-  pub set-ok : (ws : List Name) → setGood Γ vs ws ≡ true → RowOk (counts c) n (setRow Γ vs ws l)
+  pub set-ok : (ws : List Name) → setGood Γ vs ws ≡ true → OperandsFit (counts c) n (setRow Γ vs ws l)
   unfolding setGood setRow good Names.knownExpr Names.ofClassIn
   set-ok ws e =
       let u : Name = getD ws 0 [] in
@@ -112,7 +114,7 @@ module _ (t w : List ℕ) (c : Counts.Names) (fits : Fits c) (n l : ℕ) where
       bare-ok 8 _ _ _ _ (omega arith, omega arith) (λ e. omega arith) (λ e. omega arith) (variable-small t w c fits u (b .0))
       (variable-small t w c fits (getD ws 2 []) (d .0)) (omega arith) (λ i. field-known u v (b .1) (p .1)) (λ i. absurd (omega arith)) (λ i. absurd (omega arith))
 
-  pub new-ok : (ws : List Name) → newGood Γ vs ws ≡ true → RowOk (counts c) n (newRow Γ vs ws l)
+  pub new-ok : (ws : List Name) → newGood Γ vs ws ≡ true → OperandsFit (counts c) n (newRow Γ vs ws l)
   unfolding newGood newRow
   new-ok ws e =
       let a = both-true (isLocal (variableNumber vs (getD ws 0 []))) _ e in
@@ -121,14 +123,14 @@ module _ (t w : List ℕ) (c : Counts.Names) (fits : Fits c) (n l : ℕ) where
       (variable-small t w c fits (getD ws 0 []) (local-known vs (getD ws 0 []) (a .0)))
       (omega arith) (omega arith) (λ i. absurd (omega arith)) (λ i. class-known (getD ws 1 []) (b .0)) (λ i. absurd (omega arith))
 
-  pub return-ok : (ws : List Name) → returnGood Γ vs ws ≡ true → RowOk (counts c) n (returnRow Γ vs ws l)
+  pub return-ok : (ws : List Name) → returnGood Γ vs ws ≡ true → OperandsFit (counts c) n (returnRow Γ vs ws l)
   unfolding returnGood returnRow
   return-ok ws e =
       let a = both-true (inScope vs (getD ws 0 [])) _ e in
       bare-ok 12 _ _ _ _ (omega arith, omega arith) (λ e. omega arith) (λ e. omega arith) (variable-small t w c fits (getD ws 0 []) (a .0))
       (omega arith) (omega arith) (λ i. absurd (omega arith)) (λ i. absurd (omega arith)) (λ i. absurd (omega arith))
 
-  pub call-ok : (ws : List Name) → callGood Γ vs ws ≡ true → RowOk (counts c) n (callRow Γ vs ws l)
+  pub call-ok : (ws : List Name) → callGood Γ vs ws ≡ true → OperandsFit (counts c) n (callRow Γ vs ws l)
   unfolding callGood callApart callKnown callRow
   call-ok ws e =
       let g = both-true (callApart Γ vs ws) _ e in
@@ -142,7 +144,7 @@ module _ (t w : List ℕ) (c : Counts.Names) (fits : Fits c) (n l : ℕ) where
       (variable-small t w c fits (getD ws 1 []) (b .0)) (variable-small t w c fits (getD ws 3 []) (d .0)) (λ i. absurd (omega arith)) (λ i. absurd (omega arith))
       (λ j. method-known (getD ws 1 []) (getD ws 2 []) (m .1) (m .0))
 
-  pub empty-ok : (k : ℕ) → IsStatementNumber k → 15 < k → RowOk (counts c) n (bare k 0 0 0 0 l)
+  pub empty-ok : (k : ℕ) → IsStatementNumber k → 15 < k → OperandsFit (counts c) n (bare k 0 0 0 0 l)
   empty-ok k h d =
       bare-ok k 0 0 0 0 h (λ e. omega arith) (λ e. omega arith) (omega arith) (omega arith) (omega arith) (λ i. absurd (omega arith))
       (λ i. absurd (omega arith)) (λ i. absurd (omega arith))

@@ -18,7 +18,7 @@ use Rattle.declared.specs.Meanings.{declarationsIn, variablesIn}
 use Rattle.declared.specs.LookUps.{Looked, typeOf}
 use Rattle.declared.specs.Types.{MemberIs}
 use Rattle.declared.proofs.LookUps.{class-any, method-any}
-use Rattle.emit.specs.declared.Operands.{Operands}
+use Rattle.tables.specs.declared.Operands.{Operands}
 use Rattle.declare.specs.Texts.{SpanAfter}
 use Rattle.declare.proofs.Lines.{second, third}
 use Rattle.plain.specs.declared.Tried.{Tried}

@@ -21,7 +21,7 @@ use Rattle.declared.specs.Meanings.{Fits, declarationsIn, variablesIn}
 use Rattle.declared.specs.Types.{good}
 use Rattle.rules.specs.Syntax.{Program}
 use Rattle.rules.specs.Reading.{withItem}
-use Rattle.emit.specs.declared.Operands.{Operands}
+use Rattle.tables.specs.declared.Operands.{Operands}
 use Rattle.emit.specs.Holds.{Holds}
 use Rattle.pass.specs.Passes.{counts, lineAfter, isGood}
 use Rattle.plain.specs.declared.Tried.{Tried}

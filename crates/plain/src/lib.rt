@@ -1,7 +1,7 @@
 use declared::Member;
 use declared::Names;
 use declared::Span;
-use emit::Operands;
+use tables::Operands;
 ghost use mathlib.Core.Path.{_≡_};
 ghost use mathlib.Core.Bool.{not, _&&_};
 ghost use Prim.Native.Nat.{_≤_, _<_};

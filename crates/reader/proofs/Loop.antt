@@ -3,6 +3,7 @@ use mathlib.Core.Path.{_≡_, refl, sym, ap, ap₂, subst, _∙_}
 use mathlib.Core.Bool.{false}
 use mathlib.Core.List.{List, [], _∷_, _++_, append-nil, append-assoc}
 use Prim.Native.Nat.{ℕ, zero, suc, _+_, _≤_, _<_}
+use native.Mathlib.Nat.{zero-add}
 use native.Mathlib.Omega.{arith}
 use native.Mathlib.Numerals.{add-one}
 use lib.ListN.{length, drop}
@@ -21,9 +22,9 @@ use Rattle.lines.specs.declared.Word.{Word}
 use Rattle.lines.specs.Table.{WordAt, LineTable, lineEnd, startOf}
 use Rattle.lines.proofs.Table.{found-end, next-start, table-kept}
 use Rattle.declared.specs.declared.Names.{Names}
-use Rattle.declared.specs.Rows.{rows}
+use Rattle.tables.specs.Decode.{run}
 use Rattle.declared.specs.Meanings.{declarationsIn, namesFrom, blockIn, ownVariables, classAbove, scopeIn}
-use Rattle.declared.proofs.Searches.{rows-length}
+use Rattle.tables.proofs.Runs.{run-length, end-length}
 use Rattle.declare.specs.Texts.{linesOf, Taken, lineAt, FormedAt}
 use Rattle.declare.specs.Declares.{Declares}
 use Rattle.declare.proofs.Walks.{Walking, walking-first, walking-done, walking-clean, walking-formed, walking-placed, walking-lines, walking-on}
@@ -47,13 +48,6 @@ flat-more F n (x ∷ xs) a =
     let e : suc n + length xs ≡ n + suc (length xs) = omega arith in
     flat-more (withItem F (suc n) x) (suc n) xs a ∙ ap (λ (m : ℕ). withItem (withItems (withItem F (suc n) x) (suc n) xs) (suc m) a) e
 
-zero-add : (n : ℕ) → 0 + n ≡ n
-zero-add n = omega arith
-
-end-length : (xs : List Item) (a : Item) → length (xs ++ (a ∷ [])) ≡ suc (length xs)
-end-length [] a = refl
-end-length (x ∷ xs) a = ap suc (end-length xs a)
-
 then-all : {A : Type 0} (v : Verdict A) → v ≡ then v accepted
 unfolding then
 then-all (accepted a) = refl
@@ -76,7 +70,7 @@ all-above (a ∷ l) (suc n) h e = ap suc (all-above l n (omega (arith, h)) e)
 
 -- before the first line nothing is in scope
 first-scope : (t w : List ℕ) (c : Names) → c .method ≡ false → c .locals ≡ 0 → scopeIn t w c (firstPass c .above) ≡ firstScope
-unfolding scopeIn namesFrom rows classAbove blockIn ownVariables
+unfolding scopeIn namesFrom run classAbove blockIn ownVariables
 first-scope t w c m l = rw (m, l)
 
 -- A STEP BY ITS CASES
@@ -113,7 +107,7 @@ pub record Resolving (t : List ℕ) (a : ℕ) (p : Pass) (w : List ℕ) : Type 0
       (λ rest. accepted (items ++ rest))
 
 first-stands : (t w : List ℕ) (c : Names) → length w ≡ work-bytes → Stands t w (firstPass c) (withItems noProgram 0 [])
-unfolding withItems lastClass scopeIn namesFrom rows
+unfolding withItems lastClass scopeIn namesFrom run
 first-stands t w c n =
     record { holds = none-written (counts c) w n; rows = refl; classes = refl; methods = refl; main = refl; fields = refl }
 
@@ -151,11 +145,11 @@ module _ {t : List ℕ} {a : ℕ} {p : Pass} {w : List ℕ} (x : Resolving t a p
 
   class-count : length (declarationsIn t w (p .names) .classes) ≡ p .names .classes
   unfolding declarationsIn namesFrom
-  class-count = rows-length _ _ _
+  class-count = run-length _ _ _
 
   method-count : length (declarationsIn t w (p .names) .methods) ≡ p .names .methods
   unfolding declarationsIn
-  method-count = rows-length _ _ _
+  method-count = run-length _ _ _
 
   pub resolving-done : length t ≤ a → AllRead t w p
   unfolding framedVerdict resolveLines then classesOf methodsOf

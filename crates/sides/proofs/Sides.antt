@@ -41,8 +41,9 @@ use Rattle.declared.specs.Types.{good, LookIs, typeMeant}
 use Rattle.rules.specs.Syntax.{Program}
 use Rattle.rules.specs.Reading.{withItem}
 use Rattle.emit.specs.Puts.{putAtom, putRow, RowBytes}
+use Rattle.tables.specs.Tables.{SideFits, Declared, OperandsFit}
 use Rattle.emit.specs.Holds as Holds
-use Rattle.emit.specs.Holds.{Declared, SideOk, AtomOk, accessOf, RowOk, Holds}
+use Rattle.emit.specs.Holds.{AtomOk, accessOf, Holds}
 use Rattle.emit.proofs.Atoms.{atom-names, atom-length}
 use Rattle.emit.proofs.Rows.{row-bytes, row-names, row-length}
 use Rattle.emit.proofs.Statements.{let-written, if-written}
@@ -135,7 +136,7 @@ module _ (Γ : Declarations) (vs : List Variable) (s : Scope) where
       absurd (omega (arith, z))
 
 -- THE ROW
-one-ok : (D : Declared) (k x n l : ℕ) → (k ≡ 9) ⊎ (k ≡ 15) → x < frame-variables → RowOk D (n + 1) (oneRow k x n l)
+one-ok : (D : Declared) (k x n l : ℕ) → (k ≡ 9) ⊎ (k ≡ 15) → x < frame-variables → OperandsFit D (n + 1) (oneRow k x n l)
 one-ok D k x n l o s =
     let b : (9 ≤ k) × (k ≤ 15) = ⊎-elim (λ e. omega arith) (λ e. omega arith) o in
     record {
@@ -240,7 +241,7 @@ module _ (t w : List ℕ) (c : Counts.Names) (r i n l : ℕ) (ready : Ready t w 
             omega (arith, X .number, variable-small t w c (ready .fits) (getD ws 0 []) (local-known vs (getD ws 0 []) (k .0)))
 
         pub let-atom : AtomOk 1 Tables.Expr.Null (e .expr)
-        unfolding SideOk letGood
+        unfolding meaning SideFits letGood
         let-atom =
             let k = both-true (isLocal (variableNumber vs (getD ws 0 []))) _ (sym let-is ∙ fits) in
             let g = both-true (good Γ vs (exprOf (getD ws 1 []))) _ (k .1) .0 in

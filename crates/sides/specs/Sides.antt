@@ -20,8 +20,9 @@ use Rattle.declared.specs.Meanings.{declarationsIn, variablesIn}
 use Rattle.declared.specs.Types.{good}
 use Rattle.rules.specs.Syntax.{Program}
 use Rattle.rules.specs.Reading.{withItem}
-use Rattle.emit.specs.declared.Operands.{Operands}
-use Rattle.emit.specs.Holds.{Declared, Holds}
+use Rattle.tables.specs.declared.Operands.{Operands}
+use Rattle.tables.specs.Tables.{Declared}
+use Rattle.emit.specs.Holds.{Holds}
 use Rattle.declare.specs.Declares.{lineWith}
 use Rattle.pass.specs.Passes.{isGood}
 use Rattle.atoms.specs.declared.Put.{Put}

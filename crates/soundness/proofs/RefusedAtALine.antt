@@ -16,7 +16,7 @@ use Rattle.rules.specs.Syntax as Syntax
 use Rattle.rules.specs.Syntax.{Formula, Stmt, Row, Program, simple, if, else, join, end}
 use Rattle.rules.specs.Text.{lines}
 use Rattle.rules.specs.Grammar as Grammar
-use Rattle.rules.specs.Grammar.{Kind, Line, Class, Field, Method, Requires, Ensures, Main, Var, Set, Let, New, Call, Return, Assert, Release, If, Else, Join, End}
+use Rattle.rules.specs.Grammar.{Kind, Line, Class, Field, Method, Requires, Ensures, Main, Var, statement}
 use Rattle.rules.specs.Places.{Place, firstPlace, scanLine, ended, scanLines}
 use Rattle.rules.specs.Scope as Scope
 use Rattle.rules.specs.Scope.{Scope, Declarations, Variable, declarations, firstScope, scopeAfter}
@@ -88,17 +88,7 @@ module _ (Γ : Declarations) (vs : List Variable) (ws : List Name) where
   line-few Ensures h = tt
   line-few Main h = tt
   line-few Var h = tt
-  line-few Set h = tt
-  line-few Let h = tt
-  line-few New h = tt
-  line-few Call h = tt
-  line-few Return h = tt
-  line-few Assert h = tt
-  line-few Release h = tt
-  line-few If h = tt
-  line-few Else h = tt
-  line-few Join h = tt
-  line-few End h = tt
+  line-few (statement s) h = tt
 
 -- what it takes for a line to pass number 10
 framed-both :

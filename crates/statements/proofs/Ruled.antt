@@ -16,7 +16,7 @@ use Rattle.rules.specs.Syntax.{Formula, Atom, Rel, same, eq, ne, num, null, var
 use Rattle.rules.specs.State as Rules
 use Rattle.rules.specs.State.{Permission, equalIn, names, split, pathOf, holdsIn}
 use Rattle.rules.specs.Rules.{actual, substTerm, substAtom, addEqual, setRule, assignRule, addFields, initial, addInitial, newRule, callRule, opposite, ifRule, joinRule}
-use Rattle.tables.specs.Decode.{atomsFrom, fieldsFrom, classAt, fieldCountAt, fieldNameAt, byteAt, classPlace, methodAt, requiresAt, ensuresAt, methodPlace, halfAt}
+use Rattle.tables.specs.Decode.{run, atomsFrom, fieldsFrom, classAt, fieldCountAt, fieldNameAt, byteAt, classPlace, methodAt, requiresAt, ensuresAt, methodPlace, halfAt}
 use Rattle.tables.specs.Decode as Decode
 use Rattle.links.specs.Keys.{termOf}
 use Rattle.links.specs.Links.{relOf}
@@ -134,14 +134,14 @@ assign-lost x e s d = rw d
 -- NEW
 module _ (w : List ℕ) (c : ℕ) where
   pub fields-more : (n j : ℕ) → j < n → fieldsFrom w c j (n - j) ≡ Decode.fieldAt w c j ∷ fieldsFrom w c (j + 1) (n - (j + 1))
-  unfolding fieldsFrom
+  unfolding run
   fields-more n j h =
       let e : n - j ≡ suc (n - (j + 1)) = omega arith in
       let d : suc j ≡ j + 1 = omega arith in
       ap (λ (k : ℕ). fieldsFrom w c j k) e ∙ ap (λ (k : ℕ). Decode.fieldAt w c j ∷ fieldsFrom w c k (n - (j + 1))) d
 
   pub fields-end : (n j : ℕ) → n ≤ j → fieldsFrom w c j (n - j) ≡ []
-  unfolding fieldsFrom
+  unfolding run
   fields-end n j h = let e : n - j ≡ 0 = omega arith in ap (λ (k : ℕ). fieldsFrom w c j k) e
 
   pub fields-all : (n : ℕ) → fieldsFrom w c 0 n ≡ fieldsFrom w c 0 (n - 0)

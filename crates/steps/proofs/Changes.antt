@@ -11,7 +11,7 @@ use lib.ListN.{length}
 use borrow.Author.Tests.{ne-eqb, eqb-true}
 use Rattle.rules.specs.Limits.{heap-objects, heap-fields, most-frames}
 use Rattle.rules.specs.Base.{any}
-use Rattle.rules.specs.Machine.{Location, Config, holds, among, without, valueAt, object, fieldsOf, store, bind, withFrame}
+use Rattle.rules.specs.Machine.{Location, Config, among, without, valueAt, object, fieldsOf, store, bind, withFrame}
 use Rattle.rules.specs.declared.Machine.{Machine}
 use Rattle.rules.proofs.Lists.{decide-eq, some-inj, T-true, F-false}
 use Rattle.rules.proofs.Heaps.{store-same, store-other}
@@ -20,7 +20,7 @@ use Rattle.tables.specs.Layout.{frame-variables, values-at, holders-at, seconds
 use Rattle.tables.specs.Tables.{Tables}
 use Rattle.tables.specs.Stores.{SameTables, putWord}
 use Rattle.tables.proofs.Bytes.{word-put, word-kept}
-use Rattle.tables.proofs.Decoding.{tables-same, all-same, rows-count-same}
+use Rattle.tables.proofs.Decoding.{tables-same, rows-count-same}
 use Rattle.stores.specs.Views.{frameAt, variableAt, cellValue, cellHolder, cellOf, holderIn, holderOf, methodOf, marked, ObjectFits}
 use Rattle.steps.specs.States.{HeapIs, Represents}
 use Rattle.stores.proofs.Reading.{Placed, cell-placed, cell-small}

@@ -12,8 +12,8 @@ use Rattle.rules.specs.Syntax.{var, result-variable}
 use Rattle.rules.specs.Machine.{Config, Step, took, on, elseStep, setStep, assignStep, ifStep, assertStep, releaseStep}
 use Rattle.rules.specs.declared.Machine.{Machine}
 use Rattle.tables.specs.Layout.{frame-variables, values-at, holders-at, frames-at, most-names}
-use Rattle.tables.specs.Decode.{allRows, byteAt, atomPlace, relOf, xAt, yAt, memberAt, targetAt, firstAtomAt, atomCountAt, atomsFrom, atomCount, formulaAt, leftAt, rightAt}
-use Rattle.tables.specs.Tables.{RowFits}
+use Rattle.tables.specs.Decode.{allRows, byteAt, atomPlace, relOf, xAt, yAt, memberAt, targetAt, firstAtomAt, atomCountAt, atomsFrom, atomCount, operandsAt, formulaAt, leftAt, rightAt}
+use Rattle.tables.specs.Tables.{SideFits, declaredIn, OperandsFit}
 use Rattle.tables.specs.Stores.{SameTables, putWord}
 use Rattle.tables.proofs.Bytes.{same-refl}
 use Rattle.stores.specs.declared.View.{View}
@@ -22,7 +22,7 @@ use Rattle.steps.specs.declared.Turn.{Turn}
 use Rattle.stores.specs.Views.{frameAt, variableAt, spot, readIn, testIn, takeIn, marked, viewOf, stopOf, SmallCells, Readable}
 use Rattle.steps.specs.States.{Represents, Follows, Does, Ready, NotEnd, AtKind, stepped}
 use Rattle.stores.proofs.Reading.{spot-small}
-use Rattle.steps.proofs.Seeing.{right-ok, ok-footprint}
+use Rattle.steps.proofs.Seeing.{ok-footprint}
 use Rattle.stores.proofs.Regions.{only-word, only-tables, only-marked}
 use Rattle.steps.proofs.Moves as Moves
 use Rattle.steps.proofs.Steps as Steps
@@ -44,8 +44,8 @@ does-stop {w} s h = record { tables = same-refl w; follows = h }
 
 module _ {w : List ℕ} {c : Machine} (ready : Ready w c) where
   -- WHAT A READY MACHINE HAS
-  pub fits : RowFits w (c .row)
-  fits = Moves.row-fits (ready .represents)
+  pub fits : OperandsFit (declaredIn w) (atomCount w) (operandsAt w (c .row))
+  fits = Moves.row-fits (ready .represents) .operands
 
   pub frames-fit : (1 ≤ c .frames) × (c .frames ≤ most-frames)
   frames-fit = (omega (arith, ready .represents .frames), ready .represents .most)
@@ -70,7 +70,6 @@ module _ {w : List ℕ} {c : Machine} (ready : Ready w c) where
   -- FORMULAS
   module _ (v : View) (a n : ℕ) (ev : v ≡ viewOf c) (ea : a ≡ firstAtomAt w (c .row)) (en : n ≡ atomCountAt w (c .row)) where
     pub row-takes : takeIn w v (atomsFrom w a n) [] ≡ takeIn w (viewOf c) (formulaAt w (c .row)) []
-    unfolding formulaAt
     row-takes = rw (ev, ea, en)
 
     pub row-atoms : (a + n ≤ atomCount w) × (n ≤ 8)
@@ -146,20 +145,20 @@ module _ {w : List ℕ} {c : Machine} (ready : Ready w c) where
         does-on (p ∙ rw (ev, ex)) q (frame-words (xAt w (c .row)) (fits .x) n)
         (λ m R.
         Steps.assign-on R (xAt w (c .row)) (rightAt w (firstAtomAt w (c .row))) n (fits .x) ln
-        (right-ok w _ (R .tables .atom-fits _ (let-atom k))) (λ z. omega (arith, z, k)) (rw (← ev, ← ea) e))
+        (R .tables .atom-fits _ (let-atom k) .right) (λ z. omega (arith, z, k)) (rw (← ev, ← ea) e))
 
     pub let-stops :
         (s : Fault) → readIn w v (rightAt w a) ≡ no (stopOf s) →
         Does w c w (Turn.Stopped s) (λ m. took (assignStep (xAt w (c .row)) (rightAt w (firstAtomAt w (c .row))) m))
     let-stops s e =
         does-stop s
-        (λ m R. Steps.assign-stop R (xAt w (c .row)) _ s (right-ok w _ (R .tables .atom-fits _ (let-atom k))) (rw (← ev, ← ea) e))
+        (λ m R. Steps.assign-stop R (xAt w (c .row)) _ s (R .tables .atom-fits _ (let-atom k) .right) (rw (← ev, ← ea) e))
 
   pub return-does :
       (v : View) (x n : ℕ) {w′ : List ℕ} {d : Machine} → AtKind w c 12 → v ≡ viewOf c → x ≡ xAt w (c .row) → n < 4294967296 →
       n ≡ variableAt w (v .base) x → w′ ≡ putWord w (v .base + 56) n → d ≡ stepped c (c .row + 1) →
       Does w c w′ (Turn.On d) (λ m. took (assignStep result-variable (var (xAt w (c .row))) m))
-  unfolding readIn
+  unfolding readIn SideFits
   return-does v x n k ev ex ln e p q =
       does-on (p ∙ rw ev) q (frame-words result-variable (omega arith) n)
       (λ m R.

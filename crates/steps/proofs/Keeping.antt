@@ -1,5 +1,5 @@
 -- What the stores stand for stays where the stores are changed elsewhere.
-use mathlib.Core.Path.{_≡_, refl, sym, ap, _∙_, subst}
+use mathlib.Core.Path.{_≡_, refl, sym, _∙_, subst}
 use mathlib.Core.Bool.{Bool, true, false, cond, _&&_}
 use mathlib.Core.List.{List, [], _∷_}
 use mathlib.Core.Logic.{_⊎_, inl, inr, ⊎-elim}
@@ -7,7 +7,7 @@ use mathlib.Core.Option.{Option, none, some}
 use Prim.Native.Nat.{ℕ, zero, suc, _+_, _≤_, _<_}
 use native.Mathlib.Omega.{arith}
 use lib.Dec.{T, eqb, ltb}
-use lib.ListN.{length, drop}
+use lib.ListN.{length}
 use borrow.Author.Tests.{ltb-true}
 use Rattle.rules.specs.Limits.{heap-objects, most-classes, most-statements}
 use Rattle.rules.specs.Base.{any}
@@ -17,7 +17,7 @@ use Rattle.tables.specs.Layout.{objects-at, frames-at, frame-variables, most-na
 use Rattle.tables.specs.Decode.{fieldCountAt}
 use Rattle.tables.specs.Tables.{Tables, placeAt}
 use Rattle.tables.specs.Stores.{SameTables}
-use Rattle.tables.proofs.Decoding.{all-same, rows-count-same, kind-same, methods-count-same, classes-count-same, field-count-same, place-same, ensures-same}
+use Rattle.tables.proofs.Decoding.{rows-count-same, kind-same, methods-count-same, classes-count-same, field-count-same, place-same, ensures-same}
 use Rattle.stores.specs.Views.{frameAt, variableAt, savedHolder, savedRow, methodOf, cellValue, cellHolder, classIn, firstIn, placed, cellOf, holderIn, holderOf, ObjectFits}
 use Rattle.steps.specs.States.{HeapIs, FrameIs, EnsuresIs, CallerIs, CallersAre}
 use Rattle.stores.proofs.Reading.{cell-small}

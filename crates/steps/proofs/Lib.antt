@@ -5,4 +5,3 @@ pub mod Heaps
 pub mod Changes
 pub mod Steps
 pub mod Doing
-pub mod Statements

@@ -22,7 +22,7 @@ use Rattle.steps.specs.declared.Turn.{Turn}
 use Rattle.stores.specs.Views.{frameAt, variableAt, holderOf, viewOf, readIn, rightTest, testIn, takeIn, stopOf, ObjectFits, Readable}
 use Rattle.steps.specs.States.{FrameIs, Represents, Follows, atRow, stepped}
 use Rattle.stores.proofs.Reading.{cell-small}
-use Rattle.steps.proofs.Seeing.{Sees, FormulaOk, cells-apart, value-is, no-footprint, ok-footprint, atoms-ok, left-ok, right-ok}
+use Rattle.steps.proofs.Seeing.{Sees, FormulaOk, cells-apart, value-is, no-footprint, ok-footprint, atoms-ok}
 
 -- FRAMES
 pub frame-jump :
@@ -106,7 +106,7 @@ module _ {w : List ℕ} {c : Machine} {m : Config} (R : Represents w c m) where
   next-is = omega (arith, R .frame .row-is)
 
   pub next-fits : (kindAt w (c .row) ≡ 18 → ⊥) → c .row + 1 < rowCount w
-  next-fits n = ⊎-elim (λ e. absurd (n e)) (λ l. omega arith) (row-fits .next)
+  next-fits n = ⊎-elim (λ e. absurd (n e)) (λ l. omega arith) (row-fits .follows .next)
 
   -- the same state, at another row and after as many steps or more
   pub moved-to :
@@ -157,8 +157,7 @@ module _ {w : List ℕ} {c : Machine} {m : Config} (R : Represents w c m) where
 
   -- FORMULAS
   pub row-formula-ok : FormulaOk (formulaAt w (c .row))
-  unfolding formulaAt
-  row-formula-ok = atoms-ok w (R .tables) _ _ (row-fits .atoms .1)
+  row-formula-ok = atoms-ok w (R .tables) _ _ (row-fits .operands .atoms .1)
 
   pub assert-stop :
       (φ : Formula ℕ) (f : Fault) → FormulaOk φ → takeIn w (viewOf c) φ [] ≡ no (stopOf f) →
@@ -183,8 +182,8 @@ module _ {w : List ℕ} {c : Machine} {m : Config} (R : Represents w c m) where
         next = withFrame m (jump (closing (allRows w) (m .frame .row)) (m .frame));
         is-next = refl;
         represents =
-            moved (targetAt w (c .row)) _ (row-fits .target (inr e))
-            (ap (closing (allRows w)) (R .frame .row-is) ∙ sym (row-fits .to-join e));
+            moved (targetAt w (c .row)) _ (row-fits .follows .target (inr e))
+            (ap (closing (allRows w)) (R .frame .row-is) ∙ sym (row-fits .follows .to-join e));
         counted = refl;
       }
 
@@ -195,7 +194,7 @@ module _ {w : List ℕ} {c : Machine} {m : Config} (R : Represents w c m) where
     unfolding ifStep choose testIn rightTest _>>=_
     if-is =
         let F = R .tables .atom-fits a fits in
-        rw (value-is sees (leftAt w a) (left-ok w a F), value-is sees (rightAt w a) (right-ok w a F))
+        rw (value-is sees (leftAt w a) (F .left), value-is sees (rightAt w a) (F .right))
         (go (readIn w (viewOf c) (leftAt w a)) (readIn w (viewOf c) (rightAt w a)))
       where
         go :
@@ -224,5 +223,5 @@ module _ {w : List ℕ} {c : Machine} {m : Config} (R : Represents w c m) where
     unfolding _>>=_
     if-false k e =
         follow-on _ _ _ (if-is ∙ rw e) refl
-        (moved (targetAt w (c .row)) _ (row-fits .target (inl k))
-        (ap (λ (i : ℕ). suc (closing (allRows w) i)) (R .frame .row-is) ∙ sym (row-fits .after-else k)))
+        (moved (targetAt w (c .row)) _ (row-fits .follows .target (inl k))
+        (ap (λ (i : ℕ). suc (closing (allRows w) i)) (R .frame .row-is) ∙ sym (row-fits .follows .after-else k)))

@@ -16,13 +16,13 @@ use Rattle.rules.specs.Machine.{Heap, Frame, Location, holds, valueAt, valueOf,
 use Rattle.rules.proofs.Lists.{some-inj, or-cases, and-both, and-intro, T-true}
 use Rattle.rules.proofs.Tries.{ok-inj}
 use Rattle.tables.specs.Layout.{most-names, frame-variables}
-use Rattle.tables.specs.Decode.{byteAt, exprAt, leftAt, rightAt, atomAt, atomsFrom, atomPlace, atomCount, relOf, fieldNameAt}
-use Rattle.tables.specs.Tables.{Tables, SideFits, AtomFits, ClassFits, placeAt}
+use Rattle.tables.specs.Decode.{run, byteAt, leftAt, rightAt, atomAt, atomsFrom, atomPlace, atomCount, relOf, fieldNameAt}
+use Rattle.tables.specs.Tables.{Tables, SideFits, AtomFitsAt, ClassFits, placeAt}
 use Rattle.stores.specs.declared.View.{View}
 use Rattle.stores.specs.Views.{variableAt, cellHolder, cellValue, classIn, firstIn, cellOf, holderIn, holderOf, present, foundOf, found, heldCell, spot, readIn, newCells, accIn, takeIn, SmallCells}
 use Rattle.steps.specs.States.{HeapIs}
 use Rattle.stores.proofs.Cells.{any-end}
-use Rattle.stores.proofs.Reading.{Placed, cell-placed, place-found, spot-is, var-fits, path-fits, access-fits}
+use Rattle.stores.proofs.Reading.{Placed, cell-placed, place-found, spot-is, access-fits}
 
 -- CELLS OF TWO LOCATIONS DIFFER
 same-place :
@@ -78,16 +78,10 @@ pub record Sees (w : List ℕ) (v : View) (h : Heap) (F : Frame) : Type 0 where
 abbrev pub at : ℕ → ℕ → Location
 at o f = record { object = o; field = f }
 
--- its variable is one of a frame's
-abbrev pub SideOk : Expr ℕ → Type 0
-SideOk (num n) = Unit {0}
-SideOk null = Unit {0}
-SideOk (var x) = x < frame-variables
-SideOk (path x f) = x < frame-variables
-
+-- its sides fit
 abbrev pub AtomOk : Atom ℕ → Type 0
 AtomOk (acc x f) = x < frame-variables
-AtomOk (cmp n a b) = SideOk a × SideOk b
+AtomOk (cmp n a b) = SideFits a × SideFits b
 
 unfoldable pub FormulaOk : Formula ℕ → Type 0
 FormulaOk [] = Unit {0}
@@ -162,16 +156,16 @@ module _ {w : List ℕ} {v : View} {h : Heap} {F : Frame} (S : Sees w v h F) whe
   locate-no x f s l e = locate-is x f l ∙ rw e
 
   -- EXPRESSIONS
-  pub value-is : (e : Expr ℕ) → SideOk e → value h F e ≡ readIn w v e
-  unfolding value readIn _>>=_
+  pub value-is : (e : Expr ℕ) → SideFits e → value h F e ≡ readIn w v e
+  unfolding value readIn SideFits _>>=_
   value-is (num n) l = refl
   value-is null l = refl
   value-is (var x) l = ap ok (S .values x l)
   value-is (path x f) l = go (spot w v x f) refl
     where
       go : (t : Try Stop ℕ) → spot w v x f ≡ t → locate F x f >>= (λ p. ok (valueAt h (p .object) f)) ≡ t >>= λ k. ok (cellValue w k)
-      go (ok k) e = rw (locate-at x f k l e .0) (ap ok (S .cells (valueOf F x) f k (locate-at x f k l e .1)))
-      go (no s) e = rw (locate-no x f s l e)
+      go (ok k) e = rw (locate-at x f k (l .0) e .0) (ap ok (S .cells (valueOf F x) f k (locate-at x f k (l .0) e .1)))
+      go (no s) e = rw (locate-no x f s (l .0) e)
 
   -- FORMULAS
 
@@ -269,21 +263,7 @@ module _ {w : List ℕ} {v : View} {h : Heap} {F : Frame} (S : Sees w v h F) whe
       go (no r) (no s) q neither e = absurd (let z : _≡_ {A = ℕ} 0 1 = cc in omega arith)
 
 -- THE ATOMS OF THE TABLES
-side-ok : (w : List ℕ) (t i : ℕ) → SideFits w t i → (e : Expr ℕ) → e ≡ exprAt w t i → SideOk e
-side-ok w t i f (num n) e = tt
-side-ok w t i f null e = tt
-side-ok w t i f (var x) e = var-fits w t i f x e
-side-ok w t i f (path x g) e = path-fits w t i f x g e .0
-
-pub left-ok : (w : List ℕ) (a : ℕ) → AtomFits w a → SideOk (leftAt w a)
-unfolding leftAt
-left-ok w a F = side-ok w _ _ (F .left) (leftAt w a) refl
-
-pub right-ok : (w : List ℕ) (a : ℕ) → AtomFits w a → SideOk (rightAt w a)
-unfolding rightAt
-right-ok w a F = side-ok w _ _ (F .right) (rightAt w a) refl
-
-atom-ok : (w : List ℕ) (a : ℕ) → AtomFits w a → AtomOk (atomAt w a)
+atom-ok : (w : List ℕ) (a : ℕ) → AtomFitsAt w a → AtomOk (atomAt w a)
 unfolding atomAt
 atom-ok w a F = go (eqb (byteAt w (atomPlace a)) 0) refl
   where
@@ -291,9 +271,9 @@ atom-ok w a F = go (eqb (byteAt w (atomPlace a)) 0) refl
         (b : Bool) → eqb (byteAt w (atomPlace a)) 0 ≡ b →
         AtomOk (cond b (acc (byteAt w (atomPlace a + 4)) (byteAt w (atomPlace a + 5))) (cmp (relOf (byteAt w (atomPlace a))) (leftAt w a) (rightAt w a)))
     go true e = access-fits w a F (eqb-true (byteAt w (atomPlace a)) 0 e) .0
-    go false e = (left-ok w a F, right-ok w a F)
+    go false e = (F .left, F .right)
 
 pub atoms-ok : (w : List ℕ) → Tables w → (a n : ℕ) → a + n ≤ atomCount w → FormulaOk (atomsFrom w a n)
-unfolding atomsFrom FormulaOk
+unfolding run FormulaOk
 atoms-ok w t a zero l = tt
 atoms-ok w t a (suc n) l = (atom-ok w a (t .atom-fits a (omega arith)), atoms-ok w t (suc a) n (omega arith))

@@ -1,12 +1,12 @@
 -- The steps that stay in their frame: `let`, `return`, `set`, `release`.
-use mathlib.Core.Path.{_≡_, refl, sym, ap, _∙_}
+use mathlib.Core.Path.{_≡_, refl, sym, _∙_}
 use mathlib.Core.Bool.{Bool, true, false, cond}
 use mathlib.Core.List.{List, []}
 use mathlib.Core.Logic.{inr}
 use Prim.Native.Nat.{ℕ, _+_, _*_, _-_, _<_}
 use native.Mathlib.Omega.{arith}
 use lib.Dec.{T, eqb}
-use lib.ListN.{length, drop}
+use lib.ListN.{length}
 use borrow.Author.Tests.{ne-eqb}
 use Rattle.rules.specs.Limits.{heap-fields}
 use Rattle.rules.specs.Base.{ok, no, _>>=_}
@@ -15,14 +15,15 @@ use Rattle.rules.specs.Machine.{Frame, Location, Config, took, holds, among, wi
 use Rattle.rules.specs.declared.Machine.{Machine}
 use Rattle.rules.proofs.Sets.{Holds, footprint-held}
 use Rattle.tables.specs.Layout.{frame-variables, values-at, holders-at, seconds-at, frames-at}
-use Rattle.tables.specs.Decode.{allRows, rowCount, kindAt}
+use Rattle.tables.specs.Decode.{rowCount, kindAt}
+use Rattle.tables.specs.Tables.{SideFits}
 use Rattle.tables.specs.Stores.{SameTables, putWord}
-use Rattle.tables.proofs.Decoding.{tables-same, all-same, rows-count-same, kind-same}
+use Rattle.tables.proofs.Decoding.{tables-same, rows-count-same, kind-same}
 use Rattle.stores.specs.declared.Fault.{Fault}
 use Rattle.steps.specs.declared.Turn.{Turn}
 use Rattle.stores.specs.Views.{frameAt, variableAt, holderOf, spot, readIn, takeIn, marked, viewOf, stopOf}
 use Rattle.steps.specs.States.{FrameIs, Represents, Follows, stepped}
-use Rattle.steps.proofs.Seeing.{Matches, SideOk, FormulaOk, locate-at, locate-no, value-is, no-footprint, ok-footprint}
+use Rattle.steps.proofs.Seeing.{Matches, FormulaOk, locate-at, locate-no, value-is, no-footprint, ok-footprint}
 use Rattle.stores.proofs.Regions.{Only, only-word, only-tables}
 use Rattle.steps.proofs.Keeping.{same-frame, ensures-kept, callers-kept}
 use Rattle.steps.proofs.Moves.{sees, moved-on, follow-stop, follow-on}
@@ -55,7 +56,7 @@ module _ {w : List ℕ} {c : Machine} {m : Config} (R : Represents w c m) where
 
   -- `let` AND `return`
   pub assign-on :
-      (x : ℕ) (e : Expr ℕ) (v : ℕ) → x < frame-variables → v < 4294967296 → SideOk e → (kindAt w (c .row) ≡ 18 → ⊥) →
+      (x : ℕ) (e : Expr ℕ) (v : ℕ) → x < frame-variables → v < 4294967296 → SideFits e → (kindAt w (c .row) ≡ 18 → ⊥) →
       readIn w (viewOf c) e ≡ ok v →
       Follows (putWord w (frameAt (c .frames - 1) + x * 4) v) c (Turn.On (stepped c (c .row + 1))) m (took (assignStep x e m))
   unfolding assignStep _>>=_ withFrame advance bind
@@ -69,7 +70,7 @@ module _ {w : List ℕ} {c : Machine} {m : Config} (R : Represents w c m) where
       (moved-on (put-variable R x v lx lv) (λ z. n (sym (kind-kept w′ t) ∙ z))))
 
   pub assign-stop :
-      (x : ℕ) (e : Expr ℕ) (f : Fault) → SideOk e → readIn w (viewOf c) e ≡ no (stopOf f) →
+      (x : ℕ) (e : Expr ℕ) (f : Fault) → SideFits e → readIn w (viewOf c) e ≡ no (stopOf f) →
       Follows w c (Turn.Stopped f) m (took (assignStep x e m))
   unfolding assignStep _>>=_
   assign-stop x e f ok-e r = follow-stop R f _ (rw (value-is (sees R) e ok-e, r))

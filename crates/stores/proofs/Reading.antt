@@ -12,14 +12,14 @@ use borrow.Author.Tests.{ltb-true, ne-eqb, eqb-true, eqb-false, lt-ltb, le-ltb}
 use Rattle.rules.specs.Limits.{heap-fields}
 use Rattle.rules.specs.Base.{Try, ok, no, _>>=_, _>>_, check, any}
 use Rattle.rules.specs.Answers.{Stop, permissionMissing, nullFollowed, formulaFalse}
-use Rattle.rules.specs.Syntax.{Expr, Atom, Formula, num, null, var, path, acc, cmp}
+use Rattle.rules.specs.Syntax.{Expr, Atom, Formula, acc, cmp}
 use Rattle.rules.specs.Machine.{compared}
 use Rattle.rules.proofs.Lists.{some-inj, none-some, T-true, and-both}
 use Rattle.rules.proofs.Tries.{check-ok, ok-inj}
 use Rattle.tables.specs.declared.Expr as Tables
 use Rattle.tables.specs.Layout.{most-names, frame-variables}
-use Rattle.tables.specs.Decode.{byteAt, wordAt, exprAt, leftAt, rightAt, atomAt, atomsFrom, atomPlace, relOf, fieldCountAt, fieldNameAt}
-use Rattle.tables.specs.Tables.{Tables, SideFits, AtomFits, ClassFits, placeAt}
+use Rattle.tables.specs.Decode.{run, byteAt, exprAt, leftAt, rightAt, atomAt, atomsFrom, atomPlace, relOf, fieldCountAt, fieldNameAt}
+use Rattle.tables.specs.Tables.{Tables, SideFits, AtomFitsAt, ClassFits, placeAt}
 use Rattle.tables.specs.Stores.{meaning}
 use Rattle.stores.specs.declared.View.{View}
 use Rattle.stores.specs.declared.Fault.{Fault}
@@ -27,7 +27,7 @@ use Rattle.stores.specs.declared.Spot.{Spot}
 use Rattle.stores.specs.declared.Read.{Read}
 use Rattle.stores.specs.declared.Truth.{Truth}
 use Rattle.stores.specs.declared.Took.{Took}
-use Rattle.stores.specs.Views.{variableAt, cellHolder, classIn, firstIn, placed, cellOf, present, foundOf, found, heldCell, spot, readIn, rightTest, testIn, newCells, accIn, takeIn, stopOf, spotIs, readIs, truthIs, tookIs, countOf, ObjectFits, ExprFits, PlainIs, Readable}
+use Rattle.stores.specs.Views.{variableAt, cellHolder, classIn, firstIn, placed, cellOf, present, foundOf, found, heldCell, spot, readIn, rightTest, testIn, newCells, accIn, takeIn, stopOf, spotIs, readIs, truthIs, tookIs, countOf, ObjectFits, PlainIs, Readable}
 
 -- ANSWERS BY CASES
 pub spot-at : (r : Spot) (k : ℕ) {t : Try Stop ℕ} → r ≡ Spot.At k → spotIs r ≡ t → t ≡ ok k
@@ -200,64 +200,6 @@ plain-read w v Tables.Expr.Null r p k = ap ok p
 plain-read w v (Tables.Expr.Var x) r p k = ap ok p
 plain-read w v (Tables.Expr.Path x f) r p k = absurd (k x f refl)
 
-at-least : (t : ℕ) → (t ≡ 0 → ⊥) → (t ≡ 1 → ⊥) → (t ≡ 2 → ⊥) → 3 ≤ t
-at-least zero a b c = absurd (a refl)
-at-least (suc zero) a b c = absurd (b refl)
-at-least (suc (suc zero)) a b c = absurd (c refl)
-at-least (suc (suc (suc t))) a b c = omega arith
-
-module _ (w : List ℕ) (t i : ℕ) (fits : SideFits w t i) where
-  pub var-fits : (x : ℕ) → var x ≡ exprAt w t i → x < frame-variables
-  unfolding exprAt
-  var-fits x e = go (eqb t 0) (eqb t 1) (eqb t 2) refl e
-    where
-      go :
-          (a b c : Bool) → eqb t 2 ≡ c → var x ≡ cond a (num (wordAt w i)) (cond b null (cond c (var (byteAt w i)) (path (byteAt w i) (byteAt w (i + 1))))) →
-          x < frame-variables
-      go true b c q e = absurd (let z : _≡_ {A = ℕ} 0 1 = cc in omega arith)
-      go false true c q e = absurd (let z : _≡_ {A = ℕ} 0 1 = cc in omega arith)
-      go false false true q e =
-          let y : x ≡ byteAt w i = cc in
-          ⊎-elim (λ l. absurd (omega (arith, eqb-true t 2 q))) (λ l. omega (arith, y, l)) (fits .variable)
-      go false false false q e = absurd (let z : _≡_ {A = ℕ} 0 1 = cc in omega arith)
-
-  pub path-fits : (x f : ℕ) → path x f ≡ exprAt w t i → (x < frame-variables) × (f < most-names)
-  unfolding exprAt
-  path-fits x f e = go (eqb t 0) (eqb t 1) (eqb t 2) refl refl refl e
-    where
-      go :
-          (a b c : Bool) → eqb t 0 ≡ a → eqb t 1 ≡ b → eqb t 2 ≡ c →
-          path x f ≡ cond a (num (wordAt w i)) (cond b null (cond c (var (byteAt w i)) (path (byteAt w i) (byteAt w (i + 1))))) →
-          (x < frame-variables) × (f < most-names)
-      go true b c p q r e = absurd (let z : _≡_ {A = ℕ} 0 1 = cc in omega arith)
-      go false true c p q r e = absurd (let z : _≡_ {A = ℕ} 0 1 = cc in omega arith)
-      go false false true p q r e = absurd (let z : _≡_ {A = ℕ} 0 1 = cc in omega arith)
-      go false false false p q r e =
-          let y : x ≡ byteAt w i = cc in
-          let z : f ≡ byteAt w (i + 1) = cc in
-          let n0 : t ≡ 0 → ⊥ = eqb-false t 0 p in
-          let n1 : t ≡ 1 → ⊥ = eqb-false t 1 q in
-          let n2 : t ≡ 2 → ⊥ = eqb-false t 2 r in
-          let three : 3 ≤ t = at-least t n0 n1 n2 in (
-            ⊎-elim (λ l. absurd (omega (arith, l, three))) (λ l. omega (arith, y, l)) (fits .variable),
-            ⊎-elim (λ l. absurd (omega (arith, l, three))) (λ l. omega (arith, z, l)) (fits .field),
-          )
-
-  expr-fits : (e : Tables.Expr) → meaning e ≡ exprAt w t i → ExprFits e
-  unfolding meaning
-  expr-fits (Tables.Expr.Num n) e = tt
-  expr-fits Tables.Expr.Null e = tt
-  expr-fits (Tables.Expr.Var x) e = var-fits x e
-  expr-fits (Tables.Expr.Path x f) e = path-fits x f e
-
-pub left-fits : (w : List ℕ) (a : ℕ) (e : Tables.Expr) → AtomFits w a → meaning e ≡ leftAt w a → ExprFits e
-unfolding leftAt
-left-fits w a e f m = expr-fits w _ _ (f .left) e m
-
-pub right-fits : (w : List ℕ) (a : ℕ) (e : Tables.Expr) → AtomFits w a → meaning e ≡ rightAt w a → ExprFits e
-unfolding rightAt
-right-fits w a e f m = expr-fits w _ _ (f .right) e m
-
 -- FORMULAS
 pub new-taken : (ks : List ℕ) (k : ℕ) → any (eqb k) ks ≡ true → newCells ks k ≡ no permissionMissing
 unfolding newCells check _>>_
@@ -335,19 +277,15 @@ test-lacking ks s t e = rw e
 
 -- `acc x f` names a variable and a field
 pub access-fits :
-    (w : List ℕ) (a : ℕ) → AtomFits w a → byteAt w (atomPlace a) ≡ 0 →
+    (w : List ℕ) (a : ℕ) → AtomFitsAt w a → byteAt w (atomPlace a) ≡ 0 →
     (byteAt w (atomPlace a + 4) < frame-variables) × (byteAt w (atomPlace a + 5) < most-names)
-access-fits w a F e =
-    let t : byteAt w (atomPlace a + 1) ≡ 3 = F .access e in
-    let s : atomPlace a + 4 + 1 ≡ atomPlace a + 5 = omega arith in (
-      ⊎-elim (λ l. absurd (omega (arith, l, t))) (λ l. l) (F .left .variable),
-      ⊎-elim (λ l. absurd (omega (arith, l, t))) (λ l. rw s at l) (F .left .field),
-    )
+unfolding leftAt exprAt SideFits
+access-fits w a F e = let s : atomPlace a + 4 + 1 ≡ atomPlace a + 5 = omega arith in rw (F .access e, s) at (F .left)
 
 -- n atoms from the first on, i of them done
 module _ (w : List ℕ) (v : View) (first n i : ℕ) (ks : List ℕ) where
   atoms-next : i < n → atomsFrom w (first + i) (n - i) ≡ atomAt w (first + i) ∷ atomsFrom w (first + (i + 1)) (n - (i + 1))
-  unfolding atomsFrom
+  unfolding run
   atoms-next h =
       let e : n - i ≡ suc (n - (i + 1)) = omega arith in
       let f : first + (i + 1) ≡ suc (first + i) = omega arith in
@@ -365,7 +303,7 @@ module _ (w : List ℕ) (v : View) (first n i : ℕ) (ks : List ℕ) where
   foot-stop s h e = rw (atoms-next h) (take-one w v _ _ ks ∙ rw e)
 
   pub foot-end : n ≤ i → takeIn w v (atomsFrom w (first + i) (n - i)) ks ≡ ok ks
-  unfolding atomsFrom takeIn
+  unfolding run takeIn
   foot-end h = let e : n - i ≡ 0 = omega arith in rw e
 
 pub took-cells : (r : Took) (n : ℕ) (ks : List ℕ) {t : Try Stop (List ℕ)} → r ≡ Took.Cells n → tookIs r ks ≡ t → t ≡ ok (take n ks)

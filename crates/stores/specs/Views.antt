@@ -235,13 +235,6 @@ pub record ObjectFits (w : List ℕ) (most i : ℕ) : Type 0 where
   pub class : classIn w i < classCount w
   pub cells : firstIn w i + fieldCountAt w (classIn w i) ≤ most
 
--- a side's variable and field
-abbrev pub ExprFits : Tables.Expr → Type 0
-ExprFits (Tables.Expr.Num n) = Unit {0}
-ExprFits Tables.Expr.Null = Unit {0}
-ExprFits (Tables.Expr.Var x) = x < frame-variables
-ExprFits (Tables.Expr.Path x f) = (x < frame-variables) × (f < most-names)
-
 -- r is the value of e, where that is no path
 abbrev pub PlainIs : List ℕ → View → Tables.Expr → ℕ → Type 0
 PlainIs w v (Tables.Expr.Num n) r = r ≡ n

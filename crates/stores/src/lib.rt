@@ -10,9 +10,10 @@ ghost use Rattle.tables.specs.Layout.{most-names, frame-variables};
 ghost use Rattle.tables.specs.Decode.{leftAt, rightAt, relOf, atomsFrom, atomCount, atomAt};
 ghost use Rattle.rules.specs.Base.{any, ok};
 ghost use Rattle.rules.specs.Machine.{compared};
+ghost use Rattle.tables.specs.Tables.{SideFits};
 ghost use Rattle.tables.specs.Stores.{meaning};
 ghost use lib.Dec.{eqb};
-ghost use Rattle.stores.specs.Views.{frame-holder, variableAt, savedHolder, savedRow, methodOf, prepared, made, cellValue, cellHolder, classIn, firstIn, cellOf, present, foundOf, found, heldCell, spot, readIn, rightTest, testIn, PlainIs, newCells, accIn, takeIn, SmallCells, fill, marked, spotIs, readIs, truthIs, footprint-cells, countOf, TookUpTo, Sieve, ExprFits, Readable, viewOf};
+ghost use Rattle.stores.specs.Views.{frame-holder, variableAt, savedHolder, savedRow, methodOf, prepared, made, cellValue, cellHolder, classIn, firstIn, cellOf, present, foundOf, found, heldCell, spot, readIn, rightTest, testIn, PlainIs, newCells, accIn, takeIn, SmallCells, fill, marked, spotIs, readIs, truthIs, footprint-cells, countOf, TookUpTo, Sieve, Readable, viewOf};
 
 // Whose variables are read, where the heap ends, and who holds.
 pub struct View {
@@ -180,7 +181,7 @@ pub fn locate(work: &[u8], v: View, x: usize, f: usize) -> Spot
 
 // The value of an expression that is no path.
 fn plain(work: &[u8], v: View, e: Expr) -> u32
-    requires { ⌜ Readable (now work) v × ExprFits e ⌝ }
+    requires { ⌜ Readable (now work) v × SideFits (meaning e) ⌝ }
     ensures { λ r. ⌜ PlainIs (now (work .entry)) v e r ⌝ }
 {
     match e {
@@ -193,7 +194,7 @@ fn plain(work: &[u8], v: View, e: Expr) -> u32
 
 // "reading a path needs its location in A"
 fn value(work: &[u8], v: View, e: Expr) -> Read
-    requires { ⌜ Readable (now work) v × ExprFits e ⌝ }
+    requires { ⌜ Readable (now work) v × SideFits (meaning e) ⌝ }
     ensures { λ r. ⌜ readIs r ≡ readIn (now (work .entry)) v (meaning e) ⌝ }
 {
     let Expr::Path(x, f) = e else {

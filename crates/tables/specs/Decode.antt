@@ -1,12 +1,18 @@
 -- What the tables mean: the program that a work area holds.
-use mathlib.Core.Bool.{Bool, cond, not}
+use mathlib.Core.Bool.{cond, not}
 use mathlib.Core.List.{List, [], _∷_}
 use Prim.Native.Nat.{ℕ, zero, suc, _+_, _*_}
 use lib.Dec.{eqb}
 use lib.ListN.{getD}
 use Rattle.rules.specs.Syntax.{Rel, Expr, Atom, Formula, Stmt, Row, Field, Method, Program}
 use Rattle.rules.specs.Syntax.{eq, ne, num, null, var, path, acc, cmp, set, assign, new, call, return, assert, release, simple, if, else, join, end}
-use Rattle.tables.specs.Layout.{rows-at, methods-at, classes-at, atoms-at, row-bytes, atom-bytes, method-bytes, class-bytes}
+use Rattle.tables.specs.declared.Operands.{Operands}
+use Rattle.tables.specs.Layout.{rows-at, methods-at, classes-at, places-at, atoms-at, most-names, row-bytes, atom-bytes, method-bytes, class-bytes}
+
+-- LISTS: n of f i, f (i + 1), ..
+unfoldable pub run : {A : Type 0} → (ℕ → A) → ℕ → ℕ → List A
+run f i zero = []
+run f i (suc n) = f i ∷ run f (suc i) n
 
 -- NUMBERS, low byte first
 
@@ -48,9 +54,8 @@ atomAt w i =
     cond (eqb k 0) (acc (byteAt w (atomPlace i + 4)) (byteAt w (atomPlace i + 5))) (cmp (relOf k) (leftAt w i) (rightAt w i))
 
 -- n atoms from atom i on
-unfoldable pub atomsFrom : List ℕ → ℕ → ℕ → Formula ℕ
-atomsFrom w i zero = []
-atomsFrom w i (suc n) = atomAt w i ∷ atomsFrom w (suc i) n
+abbrev pub atomsFrom : List ℕ → ℕ → ℕ → Formula ℕ
+atomsFrom w i n = run (atomAt w) i n
 
 -- STATEMENT ROWS: kind, x, y, z, member (field, class or method), count of atoms (a byte each); first atom, line, target (2 bytes each).
 -- `let x e` has e as the right side of its atom, `if` its condition as its atom. The target of `if` is the row after its `else`, that
@@ -86,35 +91,55 @@ lineAt w i = halfAt w (rowPlace i + 8)
 abbrev pub targetAt : List ℕ → ℕ → ℕ
 targetAt w i = halfAt w (rowPlace i + 10)
 
-unfoldable pub formulaAt : List ℕ → ℕ → Formula ℕ
-formulaAt w i = atomsFrom w (firstAtomAt w i) (atomCountAt w i)
+-- all of them but the target
+abbrev pub operandsAt : List ℕ → ℕ → Operands
+operandsAt w i =
+    record {
+      kind = kindAt w i;
+      x = xAt w i;
+      y = yAt w i;
+      z = zAt w i;
+      member = memberAt w i;
+      atoms = atomCountAt w i;
+      first = firstAtomAt w i;
+      line = lineAt w i;
+    }
 
-unfoldable pub ifAt : List ℕ → ℕ → Stmt
+-- what a row with these operands means
+
+abbrev pub formulaOf : List ℕ → Operands → Formula ℕ
+formulaOf w r = atomsFrom w (r .first) (r .atoms)
+
+abbrev pub ifAt : List ℕ → ℕ → Stmt
 ifAt w a = if (relOf (byteAt w (atomPlace a))) (leftAt w a) (rightAt w a)
 
 -- by the number of its kind: 8 `set` to 17 `join`, and `end`
-unfoldable pub stmtAt : List ℕ → ℕ → Stmt
-stmtAt w i =
-    let k : ℕ = kindAt w i in
-    cond (eqb k 8) (simple (set (xAt w i) (memberAt w i) (yAt w i)))
-    (cond (eqb k 9) (simple (assign (xAt w i) (rightAt w (firstAtomAt w i))))
-    (cond (eqb k 10) (simple (new (xAt w i) (memberAt w i)))
-    (cond (eqb k 11) (simple (call (xAt w i) (yAt w i) (memberAt w i) (zAt w i)))
-    (cond (eqb k 12) (simple (return (xAt w i)))
-    (cond (eqb k 13) (simple (assert (formulaAt w i)))
-    (cond (eqb k 14) (simple (release (formulaAt w i)))
-    (cond (eqb k 15) (ifAt w (firstAtomAt w i))
-    (cond (eqb k 16) else
-    (cond (eqb k 17) (join (formulaAt w i))
+unfoldable pub stmtOf : List ℕ → Operands → Stmt
+stmtOf w r =
+    cond (eqb (r .kind) 8) (simple (set (r .x) (r .member) (r .y)))
+    (cond (eqb (r .kind) 9) (simple (assign (r .x) (rightAt w (r .first))))
+    (cond (eqb (r .kind) 10) (simple (new (r .x) (r .member)))
+    (cond (eqb (r .kind) 11) (simple (call (r .x) (r .y) (r .member) (r .z)))
+    (cond (eqb (r .kind) 12) (simple (return (r .x)))
+    (cond (eqb (r .kind) 13) (simple (assert (formulaOf w r)))
+    (cond (eqb (r .kind) 14) (simple (release (formulaOf w r)))
+    (cond (eqb (r .kind) 15) (ifAt w (r .first))
+    (cond (eqb (r .kind) 16) else
+    (cond (eqb (r .kind) 17) (join (formulaOf w r))
     end)))))))))
+
+abbrev pub formulaAt : List ℕ → ℕ → Formula ℕ
+formulaAt w i = formulaOf w (operandsAt w i)
+
+abbrev pub stmtAt : List ℕ → ℕ → Stmt
+stmtAt w i = stmtOf w (operandsAt w i)
 
 unfoldable pub rowAt : List ℕ → ℕ → Row
 rowAt w i = record { line = lineAt w i; stmt = stmtAt w i }
 
 -- n rows from row i on
-unfoldable pub rowsFrom : List ℕ → ℕ → ℕ → List Row
-rowsFrom w i zero = []
-rowsFrom w i (suc n) = rowAt w i ∷ rowsFrom w (suc i) n
+abbrev pub rowsFrom : List ℕ → ℕ → ℕ → List Row
+rowsFrom w i n = run (rowAt w) i n
 
 -- THE HEADER
 
@@ -153,14 +178,17 @@ firstRowAt w m = halfAt w (methodPlace m + 6)
 unfoldable pub methodAt : List ℕ → ℕ → Method
 methodAt w m = record { requires = requiresAt w m; ensures = ensuresAt w m; first = firstRowAt w m }
 
-unfoldable pub methodsFrom : List ℕ → ℕ → ℕ → List Method
-methodsFrom w m zero = []
-methodsFrom w m (suc n) = methodAt w m ∷ methodsFrom w (suc m) n
+abbrev pub methodsFrom : List ℕ → ℕ → ℕ → List Method
+methodsFrom w m n = run (methodAt w) m n
 
 -- CLASSES: count of fields, then for each its name's number and 1 for an int, 0 for a reference (a byte each)
 
 abbrev pub classPlace : ℕ → ℕ
 classPlace c = classes-at + c * class-bytes
+
+-- where the places of its fields stand, one for each name
+abbrev pub placesPlace : ℕ → ℕ
+placesPlace c = places-at + c * most-names
 
 abbrev pub fieldCountAt : List ℕ → ℕ → ℕ
 fieldCountAt w c = byteAt w (classPlace c)
@@ -172,16 +200,14 @@ fieldNameAt w c j = byteAt w (classPlace c + 1 + j * 2)
 unfoldable pub fieldAt : List ℕ → ℕ → ℕ → Field
 fieldAt w c j = record { name = fieldNameAt w c j; int = not (eqb (byteAt w (classPlace c + 2 + j * 2)) 0) }
 
-unfoldable pub fieldsFrom : List ℕ → ℕ → ℕ → ℕ → List Field
-fieldsFrom w c j zero = []
-fieldsFrom w c j (suc n) = fieldAt w c j ∷ fieldsFrom w c (suc j) n
+abbrev pub fieldsFrom : List ℕ → ℕ → ℕ → ℕ → List Field
+fieldsFrom w c j n = run (fieldAt w c) j n
 
 unfoldable pub classAt : List ℕ → ℕ → List Field
 classAt w c = fieldsFrom w c 0 (fieldCountAt w c)
 
-unfoldable pub classesFrom : List ℕ → ℕ → ℕ → List (List Field)
-classesFrom w c zero = []
-classesFrom w c (suc n) = classAt w c ∷ classesFrom w (suc c) n
+abbrev pub classesFrom : List ℕ → ℕ → ℕ → List (List Field)
+classesFrom w c n = run (classAt w) c n
 
 -- THE PROGRAM
 

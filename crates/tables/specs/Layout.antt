@@ -1,6 +1,5 @@
 -- Where each table stands in the work area, and how large it can get.
-use Prim.Native.Nat.{ℕ, _+_, _*_}
-use Rattle.rules.specs.Limits.{most-classes, most-fields, most-methods, most-locals, most-statements, most-atoms, heap-objects, heap-fields, most-frames}
+use Prim.Native.Nat.{ℕ}
 
 -- THE LARGEST TABLES
 

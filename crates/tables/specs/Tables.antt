@@ -3,52 +3,72 @@ use mathlib.Core.Path.{_≡_}
 use mathlib.Core.Bool.{Bool, true, false, _&&_}
 use mathlib.Core.List.{List, [], _∷_}
 use mathlib.Core.Logic.{_⊎_}
-use Prim.Native.Nat.{ℕ, zero, suc, _+_, _*_, _≤_, _<_}
+use Prim.Native.Nat.{ℕ, zero, suc, _+_, _≤_, _<_}
 use lib.Dec.{T, leb}
 use lib.ListN.{length, drop}
 use Rattle.rules.specs.Limits.{most-classes, most-fields, most-methods, most-statements, most-branches, most-atoms, work-bytes}
-use Rattle.rules.specs.Syntax.{Stmt, Row, simple, if, else, join, end}
+use Rattle.rules.specs.Syntax.{Expr, num, null, var, path, Stmt, Row, simple, if, else, join, end}
 use Rattle.rules.specs.Grammar.{IsStatementNumber}
 use Rattle.rules.specs.Machine.{closing}
-use Rattle.tables.specs.Layout.{most-atom-rows, most-names, frame-variables, places-at}
-use Rattle.tables.specs.Decode.{byteAt, halfAt, kindAt, xAt, yAt, zAt, memberAt, atomCountAt, firstAtomAt, targetAt, rowCount, atomCount, classCount, methodCount, mainFirst, allRows, atomPlace, methodPlace, firstRowAt, fieldCountAt, fieldNameAt}
+use Rattle.tables.specs.declared.Operands.{Operands}
+use Rattle.tables.specs.Layout.{most-atom-rows, most-names, frame-variables}
+use Rattle.tables.specs.Decode.{byteAt, halfAt, leftAt, rightAt, atomPlace, kindAt, targetAt, operandsAt, rowCount, atomCount, classCount, methodCount, mainFirst, allRows, methodPlace, firstRowAt, placesPlace, fieldCountAt, fieldNameAt}
 
 -- ATOMS
 
--- a side at i: its variable is one of a frame's, its field the number of a name
-pub record SideFits (w : List ℕ) (tag i : ℕ) : Type 0 where
-  pub tag-known : tag ≤ 3
-  pub variable : (tag < 2) ⊎ (byteAt w i < frame-variables)
-  pub field : (tag < 3) ⊎ (byteAt w (i + 1) < most-names)
+-- a side: a number of four bytes, a variable of a frame, the number of a name
+unfoldable pub SideFits : Expr ℕ → Type 0
+SideFits (num n) = n < 4294967296
+SideFits null = Unit {0}
+SideFits (var x) = x < frame-variables
+SideFits (path x f) = (x < frame-variables) × (f < most-names)
 
--- `acc x f` is written as a path on the left
-pub record AtomFits (w : List ℕ) (i : ℕ) : Type 0 where
-  pub kind : byteAt w (atomPlace i) ≤ 2
-  pub left : SideFits w (byteAt w (atomPlace i + 1)) (atomPlace i + 4)
-  pub right : SideFits w (byteAt w (atomPlace i + 2)) (atomPlace i + 8)
-  pub access : byteAt w (atomPlace i) ≡ 0 → byteAt w (atomPlace i + 1) ≡ 3
+-- an atom of the kind k with the sides a, which has this tag, and b: `acc x f` is written as a path on the left
+pub record AtomFits (k tag : ℕ) (a b : Expr ℕ) : Type 0 where
+  pub kind : k ≤ 2
+  pub left : SideFits a
+  pub right : SideFits b
+  pub access : k ≡ 0 → tag ≡ 3
 
--- n atoms from the atom a on
-abbrev pub AtomsFit : List ℕ → ℕ → ℕ → Type 0
-AtomsFit w a n = (n ≤ most-atoms) × (a + n ≤ atomCount w)
+abbrev pub AtomFitsAt : List ℕ → ℕ → Type 0
+AtomFitsAt w i = AtomFits (byteAt w (atomPlace i)) (byteAt w (atomPlace i + 1)) (leftAt w i) (rightAt w i)
+
+-- k of n atoms, from the atom a on
+abbrev pub AtomsFit : ℕ → ℕ → ℕ → Type 0
+AtomsFit n a k = (k ≤ most-atoms) × (a + k ≤ n)
 
 -- ROWS
 
--- what the operand `member` of a kind is, and which kinds have one atom
-pub record RowFits (w : List ℕ) (i : ℕ) : Type 0 where
-  pub kind : IsStatementNumber (kindAt w i)
-  pub x : xAt w i < frame-variables
-  pub y : yAt w i < frame-variables
-  pub z : zAt w i < frame-variables
-  pub field : kindAt w i ≡ 8 → memberAt w i < most-names
-  pub class : kindAt w i ≡ 10 → memberAt w i < classCount w
-  pub method : kindAt w i ≡ 11 → memberAt w i < methodCount w
-  pub atoms : AtomsFit w (firstAtomAt w i) (atomCountAt w i)
-  pub one-atom : (kindAt w i ≡ 9) ⊎ (kindAt w i ≡ 15) → atomCountAt w i ≡ 1
+-- how many classes and methods there are
+pub record Declared : Type 0 where
+  pub classes : ℕ
+  pub methods : ℕ
+
+abbrev pub declaredIn : List ℕ → Declared
+declaredIn w = record { classes = classCount w; methods = methodCount w }
+
+-- operands that a row may have where there are n atoms: what `member` is by the kind, and which kinds have one atom
+pub record OperandsFit (D : Declared) (n : ℕ) (r : Operands) : Type 0 where
+  pub kind : IsStatementNumber (r .kind)
+  pub x : r .x < frame-variables
+  pub y : r .y < frame-variables
+  pub z : r .z < frame-variables
+  pub field : r .kind ≡ 8 → r .member < most-names
+  pub class : r .kind ≡ 10 → r .member < D .classes
+  pub method : r .kind ≡ 11 → r .member < D .methods
+  pub atoms : AtomsFit n (r .first) (r .atoms)
+  pub one-atom : (r .kind ≡ 9) ⊎ (r .kind ≡ 15) → r .atoms ≡ 1
+
+-- the rows that follow a row
+pub record TargetFits (w : List ℕ) (i : ℕ) : Type 0 where
   pub target : (kindAt w i ≡ 15) ⊎ (kindAt w i ≡ 16) → targetAt w i < rowCount w
   pub after-else : kindAt w i ≡ 15 → targetAt w i ≡ suc (closing (allRows w) i)
   pub to-join : kindAt w i ≡ 16 → targetAt w i ≡ closing (allRows w) i
   pub next : (kindAt w i ≡ 18) ⊎ (suc i < rowCount w)
+
+pub record RowFits (w : List ℕ) (i : ℕ) : Type 0 where
+  pub operands : OperandsFit (declaredIn w) (atomCount w) (operandsAt w i)
+  pub follows : TargetFits w i
 
 -- METHODS, CLASSES
 
@@ -70,14 +90,18 @@ nested (r ∷ rs) d = nestedRow (r .stmt) (λ d. nested rs d) d
 abbrev pub BlockFits : List ℕ → ℕ → Type 0
 BlockFits w i = (i < rowCount w) × T (nested (drop i (allRows w)) 0)
 
+-- where there are n atoms
+pub record FormulasFit (w : List ℕ) (n m : ℕ) : Type 0 where
+  pub requires : AtomsFit n (halfAt w (methodPlace m)) (byteAt w (methodPlace m + 2))
+  pub ensures : AtomsFit n (halfAt w (methodPlace m + 4)) (byteAt w (methodPlace m + 3))
+
 pub record MethodFits (w : List ℕ) (m : ℕ) : Type 0 where
-  pub requires : AtomsFit w (halfAt w (methodPlace m)) (byteAt w (methodPlace m + 2))
-  pub ensures : AtomsFit w (halfAt w (methodPlace m + 4)) (byteAt w (methodPlace m + 3))
+  pub formulas : FormulasFit w (atomCount w) m
   pub block : BlockFits w (firstRowAt w m)
 
 -- the place in class c of the field named n, 255 where it has none
 abbrev pub placeAt : List ℕ → ℕ → ℕ → ℕ
-placeAt w c n = byteAt w (places-at + c * most-names + n)
+placeAt w c n = byteAt w (placesPlace c + n)
 
 pub record ClassFits (w : List ℕ) (c : ℕ) : Type 0 where
   pub count : fieldCountAt w c ≤ most-fields
@@ -94,7 +118,7 @@ pub record Tables (w : List ℕ) : Type 0 where
   pub classes : classCount w ≤ most-classes
   pub methods : methodCount w ≤ most-methods
   pub row-fits : (i : ℕ) → i < rowCount w → RowFits w i
-  pub atom-fits : (i : ℕ) → i < atomCount w → AtomFits w i
+  pub atom-fits : (i : ℕ) → i < atomCount w → AtomFitsAt w i
   pub method-fits : (m : ℕ) → m < methodCount w → MethodFits w m
   pub class-fits : (c : ℕ) → c < classCount w → ClassFits w c
   pub main-fits : BlockFits w (mainFirst w)

@@ -135,6 +135,19 @@ pub fn word_at(w: &[u8], i: usize) -> u32
     a + b * 256 + c * 65536 + d * 16777216
 }
 
+// A statement row but for its target: the number of its kind, its variables, its field, class or method, how many atoms
+// it has and the first of them, its line.
+pub struct Operands {
+    pub kind: usize,
+    pub x: usize,
+    pub y: usize,
+    pub z: usize,
+    pub member: usize,
+    pub atoms: usize,
+    pub first: usize,
+    pub line: usize,
+}
+
 // A side of an atom, resolved: a variable by its number, a field by the number of its name.
 pub enum Expr {
     Num(u32),

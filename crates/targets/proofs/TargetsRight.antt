@@ -9,36 +9,19 @@ use native.Mathlib.Omega.{arith}
 use lib.Dec.{T, ltb, eqb, eqb→eq}
 use lib.ListN.{length, drop, drop-of-length-le}
 use native.Mathlib.Decide.{decLt}
-use borrow.Author.Tests.{ne-eqb}
 use Rattle.rules.specs.Syntax.{Simple, Stmt, Row, simple, else, join, end}
 use Rattle.rules.specs.Machine.{depthAfter, closes, seek, closing}
 use Rattle.rules.proofs.Lists.{Member, at-head, further, head-or, decide-eq, and-both, T-true}
 use Rattle.tables.proofs.Bytes.{Outside, put-half-byte, half-put, put-half-length}
+use Rattle.tables.proofs.Runs.{run-length}
+use Rattle.tables.proofs.Rows.{rows-cons}
+use Rattle.tables.proofs.Statements.{if-means, else-means, join-means, simple-or-end}
 use Rattle.tables.specs.Stores.{putHalf}
-use Rattle.tables.specs.Decode.{kindAt, targetAt, firstAtomAt, rowPlace, formulaAt, ifAt, stmtAt, rowAt, rowsFrom}
+use Rattle.tables.specs.Decode.{kindAt, targetAt, rowPlace, operandsAt, formulaAt, stmtAt, rowAt, rowsFrom}
 use Rattle.targets.proofs.Stacks.{open-at-if, open-at-else, open-at-join, open-elsewhere, work-at-else, work-at-join, work-elsewhere}
 use Rattle.targets.specs.Targets.{openAfter, workAfter, targetsFrom, pushed, popped, replaced, putTarget}
 use Rattle.assembly.specs.Nests.{Wait, forElse, forJoin, rowNests, rowsNest}
 use Rattle.targets.specs.Right.{TargetRight}
-
--- ROWS OF AN AREA
-pub rows-length : (w : List ℕ) (i n : ℕ) → length (rowsFrom w i n) ≡ n
-unfolding rowsFrom
-rows-length w i zero = refl
-rows-length w i (suc n) = ap suc (rows-length w (suc i) n)
-
-rows-drop : (w : List ℕ) (i n j : ℕ) → j < n → drop j (rowsFrom w i n) ≡ rowAt w (i + j) ∷ drop (suc j) (rowsFrom w i n)
-unfolding rowsFrom
-rows-drop w i zero j l = absurd (omega (arith, l))
-rows-drop w i (suc n) zero l = let e : i + 0 ≡ i = omega arith in rw e
-rows-drop w i (suc n) (suc j) l =
-    let e : suc i + j ≡ i + suc j = omega arith in
-    rows-drop w (suc i) n j (omega (arith, l)) ∙ ap (λ (k : ℕ). rowAt w k ∷ drop (suc j) (rowsFrom w (suc i) n)) e
-
-rows-cons : (w : List ℕ) (n i : ℕ) → i < n → drop i (rowsFrom w 0 n) ≡ rowAt w i ∷ drop (suc i) (rowsFrom w 0 n)
-rows-cons w n i l =
-    let e : 0 + i ≡ i = omega arith in
-    rows-drop w 0 n i l ∙ ap (λ (k : ℕ). rowAt w k ∷ drop (suc i) (rowsFrom w 0 n)) e
 
 -- SEEKING PAST A ROW
 
@@ -107,20 +90,6 @@ module _ (w : List ℕ) (rs : List Row) where
             (waiting-past n r rest d (suc j) ws st (λ l g. H l (omega (arith, g))) (W .3)),
       )
 
--- ROWS BY THEIR KIND
-module _ (w : List ℕ) (i : ℕ) where
-  at-if : kindAt w i ≡ 15 → stmtAt w i ≡ ifAt w (firstAtomAt w i)
-  unfolding stmtAt
-  at-if e = rw e
-
-  at-else : kindAt w i ≡ 16 → stmtAt w i ≡ else
-  unfolding stmtAt
-  at-else e = rw e
-
-  at-join : kindAt w i ≡ 17 → stmtAt w i ≡ join (formulaAt w i)
-  unfolding stmtAt
-  at-join e = rw e
-
 -- a row that opens and closes no branch
 data Quiet : Stmt → Type 0 where
   is-simple : {p : Simple} → Quiet (simple p)
@@ -128,26 +97,8 @@ data Quiet : Stmt → Type 0 where
 
 quiet-row :
     (w : List ℕ) (i : ℕ) → (kindAt w i ≡ 15 → ⊥) → (kindAt w i ≡ 16 → ⊥) → (kindAt w i ≡ 17 → ⊥) → Quiet (stmtAt w i)
-unfolding stmtAt
 quiet-row w i a b d =
-    rw (ne-eqb (kindAt w i) 15 a, ne-eqb (kindAt w i) 16 b, ne-eqb (kindAt w i) 17 d)
-    (go (eqb (kindAt w i) 8) (eqb (kindAt w i) 9) (eqb (kindAt w i) 10) (eqb (kindAt w i) 11) (eqb (kindAt w i) 12) (eqb (kindAt w i) 13) (eqb (kindAt w i) 14)
-    _ _ _ _ _ _ _)
-  where
-    go :
-        (a b c d e f g : Bool) (p q r s t u v : Simple) →
-        Quiet
-        (cond a (simple p)
-        (cond b (simple q)
-        (cond c (simple r) (cond d (simple s) (cond e (simple t) (cond f (simple u) (cond g (simple v) end)))))))
-    go true b c d e f g p q r s t u v = is-simple
-    go false true c d e f g p q r s t u v = is-simple
-    go false false true d e f g p q r s t u v = is-simple
-    go false false false true e f g p q r s t u v = is-simple
-    go false false false false true f g p q r s t u v = is-simple
-    go false false false false false true g p q r s t u v = is-simple
-    go false false false false false false true p q r s t u v = is-simple
-    go false false false false false false false p q r s t u v = is-end
+    ⊎-elim (λ z. rw (z .1) is-simple) (λ e. rw e is-end) (simple-or-end w (operandsAt w i) a b d)
 
 -- STORES OF A TARGET
 module _ (w : List ℕ) (t v : ℕ) where
@@ -221,18 +172,18 @@ module _ (w₀ : List ℕ) (rs : List Row) (few : length rs ≤ 256) (row : (i :
 
   -- `if`
   if-passes : (k : ℕ) → kindAt w₀ k ≡ 15 → (l : ℕ) → Passes w₀ rs (stmtAt w₀ k) suc l
-  unfolding depthAfter closes ifAt
+  unfolding depthAfter closes
   if-passes k e l =
-      subst (λ (s : Stmt). Passes w₀ rs s suc l) (sym (at-if w₀ k e))
+      subst (λ (s : Stmt). Passes w₀ rs s suc l) (sym (if-means w₀ (operandsAt w₀ k) e))
       (record { depth = refl; no-close = λ t. absurd t; deeper = refl })
 
   if-nests :
       (k : ℕ) (b : Bool) (ws : List Wait) → k < length rs → kindAt w₀ k ≡ 15 → T (rowsNest b ws (drop k rs)) →
       T (ltb (length ws) 4) × T (rowsNest false (forElse ∷ ws) (drop (suc k) rs))
-  unfolding rowNests ifAt
+  unfolding rowNests
   if-nests k b ws l e t =
       and-both (ltb (length ws) 4) _
-      (subst (λ (s : Stmt). T (rowNests s ws (λ b ws. rowsNest b ws (drop (suc k) rs)))) (at-if w₀ k e) (nests-row k b ws l t))
+      (subst (λ (s : Stmt). T (rowNests s ws (λ b ws. rowsNest b ws (drop (suc k) rs)))) (if-means w₀ (operandsAt w₀ k) e) (nests-row k b ws l t))
 
   after-if :
       (w : List ℕ) (k : ℕ) (b : Bool) (ws : List Wait) (st : List ℕ) → k < length rs → kindAt w₀ k ≡ 15 → Walked w k b ws st →
@@ -356,18 +307,18 @@ module _ (w₀ : List ℕ) (rs : List Row) (few : length rs ≤ 256) (row : (i :
   else-passes : (k : ℕ) → kindAt w₀ k ≡ 16 → (l : ℕ) → 1 ≤ l → Passes w₀ rs (stmtAt w₀ k) (λ l. l) l
   unfolding depthAfter closes
   else-passes k e l g =
-      subst (λ (s : Stmt). Passes w₀ rs s (λ l. l) l) (sym (at-else w₀ k e))
+      subst (λ (s : Stmt). Passes w₀ rs s (λ l. l) l) (sym (else-means w₀ (operandsAt w₀ k) e))
       (record { depth = refl; no-close = λ t z. omega (arith, g, z); deeper = refl })
 
   else-nests :
       (k : ℕ) (b : Bool) (ws : List Wait) → k < length rs → kindAt w₀ k ≡ 16 → T (rowsNest b ws (drop k rs)) →
       T (rowNests else ws (λ b ws. rowsNest b ws (drop (suc k) rs)))
   else-nests k b ws l e t =
-      subst (λ (s : Stmt). T (rowNests s ws (λ b ws. rowsNest b ws (drop (suc k) rs)))) (at-else w₀ k e) (nests-row k b ws l t)
+      subst (λ (s : Stmt). T (rowNests s ws (λ b ws. rowsNest b ws (drop (suc k) rs)))) (else-means w₀ (operandsAt w₀ k) e) (nests-row k b ws l t)
 
   else-found : (k : ℕ) → kindAt w₀ k ≡ 16 → seek 0 k (rowAt w₀ k ∷ drop (suc k) rs) ≡ k
   unfolding rowAt closes
-  else-found k e = seek-here k (rowAt w₀ k) (drop (suc k) rs) (subst (λ (s : Stmt). T (closes s)) (sym (at-else w₀ k e)) tt)
+  else-found k e = seek-here k (rowAt w₀ k) (drop (suc k) rs) (subst (λ (s : Stmt). T (closes s)) (sym (else-means w₀ (operandsAt w₀ k) e)) tt)
 
   after-else :
       (w : List ℕ) (k : ℕ) (b : Bool) (ws : List Wait) (st : List ℕ) → k < length rs → kindAt w₀ k ≡ 16 → Walked w k b ws st →
@@ -407,18 +358,18 @@ module _ (w₀ : List ℕ) (rs : List Row) (few : length rs ≤ 256) (row : (i :
   unfolding depthAfter closes
   join-passes k e zero g = absurd (omega (arith, g))
   join-passes k e (suc l) g =
-      subst (λ (s : Stmt). Passes w₀ rs s pred (suc l)) (sym (at-join w₀ k e))
+      subst (λ (s : Stmt). Passes w₀ rs s pred (suc l)) (sym (join-means w₀ (operandsAt w₀ k) e))
       (record { depth = refl; no-close = λ t z. omega (arith, z); deeper = refl })
 
   join-nests :
       (k : ℕ) (b : Bool) (ws : List Wait) → k < length rs → kindAt w₀ k ≡ 17 → T (rowsNest b ws (drop k rs)) →
       T (rowNests (join (formulaAt w₀ k)) ws (λ b ws. rowsNest b ws (drop (suc k) rs)))
   join-nests k b ws l e t =
-      subst (λ (s : Stmt). T (rowNests s ws (λ b ws. rowsNest b ws (drop (suc k) rs)))) (at-join w₀ k e) (nests-row k b ws l t)
+      subst (λ (s : Stmt). T (rowNests s ws (λ b ws. rowsNest b ws (drop (suc k) rs)))) (join-means w₀ (operandsAt w₀ k) e) (nests-row k b ws l t)
 
   join-found : (k : ℕ) → kindAt w₀ k ≡ 17 → seek 0 k (rowAt w₀ k ∷ drop (suc k) rs) ≡ k
   unfolding rowAt closes
-  join-found k e = seek-here k (rowAt w₀ k) (drop (suc k) rs) (subst (λ (s : Stmt). T (closes s)) (sym (at-join w₀ k e)) tt)
+  join-found k e = seek-here k (rowAt w₀ k) (drop (suc k) rs) (subst (λ (s : Stmt). T (closes s)) (sym (join-means w₀ (operandsAt w₀ k) e)) tt)
 
   after-join :
       (w : List ℕ) (k : ℕ) (b : Bool) (ws : List Wait) (st : List ℕ) → k < length rs → kindAt w₀ k ≡ 17 → Walked w k b ws st →
@@ -529,7 +480,7 @@ pub targets-right :
     (w : List ℕ) (n : ℕ) → length w ≡ 65536 → n ≤ 256 → T (rowsNest true [] (rowsFrom w 0 n)) → (i : ℕ) → i < n →
     TargetRight (targetsFrom w 0 n []) (rowsFrom w 0 n) i
 targets-right w n size few t i l =
-    let e : length (rowsFrom w 0 n) ≡ n = rows-length w 0 n in
+    let e : length (rowsFrom w 0 n) ≡ n = run-length (rowAt w) 0 n in
     walk w (rowsFrom w 0 n) (omega (arith, e, few)) (λ i l. rows-cons w n i (omega (arith, e, l))) n w 0 true [] [] (omega (arith, e))
     (record { size = size; kinds = λ i. refl; nests = t; waits = tt; right = λ i l. absurd (omega (arith, l)) })
     i (omega (arith, e, l))

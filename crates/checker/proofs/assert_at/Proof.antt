@@ -3,7 +3,6 @@ use Rattle.knowledge.specs.Answers.{Adds}
 use Rattle.rules.specs.Answers.{Refusal}
 use Rattle.rules.specs.Base.{Try}
 use Rattle.statements.specs.Statements.{assertRule}
-use Rattle.tables.specs.Decode.{formulaAt}
 use mathlib.Core.Path.{subst}
 use native.Mathlib.Omega.{arith}
 use Rattle.rules.specs.State as Rules
@@ -25,10 +24,10 @@ atom-count-at-requires c κs =
 
 assert-rule-requires : tie.Need-assert-rule-requires
 assert-rule-requires c κs =
-    (c .before .before .before .before .before .pre .0 .size, omega (arith, c .before .before .before .before .before .pre .0 .row-fits (c .before .before .before .before .before .args .i) (c .before .before .before .before .before .pre .1) .atoms .1, c .before .before .before .before .before .pre .0 .atoms, c .before .before .before .first-atom-at .ensures .0, c .atom-count-at .ensures .0), c .before .before .before .before .before .pre .2)
+    (c .before .before .before .before .before .pre .0 .size, omega (arith, c .before .before .before .before .before .pre .0 .row-fits (c .before .before .before .before .before .args .i) (c .before .before .before .before .before .pre .1) .operands .atoms .1, c .before .before .before .before .before .pre .0 .atoms, c .before .before .before .first-atom-at .ensures .0, c .atom-count-at .ensures .0), c .before .before .before .before .before .pre .2)
 
 returns : tie.Need-returns
-unfolding rule formulaAt assertRule
+unfolding rule assertRule
 returns c =
     subst (λ (t : Try Refusal Rules.State). Adds t (c .assert-rule .result) (c .before .before .before .before .before .before .args .key .now) (c .before .before .before .before .before .before .args .b .now)) (rw (c .before .before .before .before .first-atom-at .ensures .0, c .before .atom-count-at .ensures .0)) (asserted _ _ _ _ (c .before .before .before .before .before .before .pre .2) (c .assert-rule .ensures))
 

@@ -41,11 +41,11 @@ member-at-requires c κs =
 
 call-rule-requires : tie.Need-call-rule-requires
 call-rule-requires c κs =
-    (c .before .before .before .before .before .before .before .pre .0, omega (arith, c .before .before .before .before .before .before .before .pre .0 .row-fits (c .before .before .before .before .before .before .before .args .i) (c .before .before .before .before .before .before .before .pre .1) .method (c .before .before .before .before .before .before .before .pre .2), c .member-at .ensures .0), c .before .before .before .before .before .before .before .pre .3)
+    (c .before .before .before .before .before .before .before .pre .0, omega (arith, c .before .before .before .before .before .before .before .pre .0 .row-fits (c .before .before .before .before .before .before .before .args .i) (c .before .before .before .before .before .before .before .pre .1) .operands .method (c .before .before .before .before .before .before .before .pre .2), c .member-at .ensures .0), c .before .before .before .before .before .before .before .pre .3)
 
 returns : tie.Need-returns
 returns c =
-    subst (λ (t : Try Refusal Rules.State). Adds t (c .call-rule .result) (c .call-rule .last .1 .0) (c .call-rule .last .1 .1 .0)) (call-at _ _ _ _ _ _ _ _ _ _ (c .before .before .before .before .before .before .x-at .ensures .0) (c .before .before .before .before .before .y-at .ensures .0) (c .before .member-at .ensures .0) (c .before .before .before .before .z-at .ensures .0) (c .before .before .before .before .before .before .before .before .pre .0 .row-fits (c .before .before .before .before .before .before .before .before .args .i) (c .before .before .before .before .before .before .before .before .pre .1) .method (c .before .before .before .before .before .before .before .before .pre .2))) (c .call-rule .ensures)
+    subst (λ (t : Try Refusal Rules.State). Adds t (c .call-rule .result) (c .call-rule .last .1 .0) (c .call-rule .last .1 .1 .0)) (call-at _ _ _ _ _ _ _ _ _ _ (c .before .before .before .before .before .before .x-at .ensures .0) (c .before .before .before .before .before .y-at .ensures .0) (c .before .member-at .ensures .0) (c .before .before .before .before .z-at .ensures .0) (c .before .before .before .before .before .before .before .before .pre .0 .row-fits (c .before .before .before .before .before .before .before .before .args .i) (c .before .before .before .before .before .before .before .before .pre .1) .operands .method (c .before .before .before .before .before .before .before .before .pre .2))) (c .call-rule .ensures)
 
 pub call-at-spec : {M : Type 1} → statement M
 call-at-spec =

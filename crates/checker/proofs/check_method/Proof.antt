@@ -29,7 +29,7 @@ requires-count-requires c κs = search needs
 
 add-requires : tie.Need-add-requires
 add-requires c κs =
-    (c .before .before .before .before .before .before .before .pre .0 .size, omega (arith, c .before .before .before .before .before .before .before .pre .0 .method-fits (c .before .before .before .before .before .before .before .args .m) (c .before .before .before .before .before .before .before .pre .1) .requires .1, c .before .before .before .before .before .before .before .pre .0 .atoms, c .before .before .before .requires-first .ensures .0, c .before .before .requires-count .ensures .0), c .before .before .before .before .clear .ensures _ (c .before .before .before .before .before .before .before .pre .2 .linked .header) .wf)
+    (c .before .before .before .before .before .before .before .pre .0 .size, omega (arith, c .before .before .before .before .before .before .before .pre .0 .method-fits (c .before .before .before .before .before .before .before .args .m) (c .before .before .before .before .before .before .before .pre .1) .formulas .requires .1, c .before .before .before .before .before .before .before .pre .0 .atoms, c .before .before .before .requires-first .ensures .0, c .before .before .requires-count .ensures .0), c .before .before .before .before .clear .ensures _ (c .before .before .before .before .before .before .before .pre .2 .linked .header) .wf)
 
 enum-told : tie.Need-enum-told
 enum-told c = search needs
@@ -49,7 +49,7 @@ first-row-at-requires c κs = search needs
 
 check-block-requires : tie.Need-check-block-requires
 check-block-requires c κs =
-    (c .before .before .before .before .before .before .before .before .before .before .before .before .before .before .before .pre .0, omega (arith, c .before .before .before .before .before .before .before .before .before .before .before .before .before .before .before .pre .0 .method-fits (c .before .before .before .before .before .before .before .before .before .before .before .before .before .before .before .args .m) (c .before .before .before .before .before .before .before .before .before .before .before .before .before .before .before .pre .1) .block .0, c .before .before .first-row-at .ensures .0), subst (λ (k : ℕ). Nests (c .before .before .before .before .before .before .before .before .before .before .before .before .before .before .before .args .w .now) k 0) (sym (c .before .before .first-row-at .ensures .0)) (c .before .before .before .before .before .before .before .before .before .before .before .before .before .before .before .pre .0 .method-fits (c .before .before .before .before .before .before .before .before .before .before .before .before .before .before .before .args .m) (c .before .before .before .before .before .before .before .before .before .before .before .before .before .before .before .pre .1) .block .1), omega (arith, c .before .before .before .before .before .before .before .before .before .before .before .before .before .before .before .pre .0 .method-fits (c .before .before .before .before .before .before .before .before .before .before .before .before .before .before .before .args .m) (c .before .before .before .before .before .before .before .before .before .before .before .before .before .before .before .pre .1) .ensures .1, c .before .before .before .before .before .before .before .before .before .before .before .before .before .before .before .pre .0 .atoms, c .before .before .before .before .ensures-first .ensures .0, c .before .before .before .ensures-count .ensures .0), c .before .before .before .before .before .before .before .add .ensures .wf)
+    (c .before .before .before .before .before .before .before .before .before .before .before .before .before .before .before .pre .0, omega (arith, c .before .before .before .before .before .before .before .before .before .before .before .before .before .before .before .pre .0 .method-fits (c .before .before .before .before .before .before .before .before .before .before .before .before .before .before .before .args .m) (c .before .before .before .before .before .before .before .before .before .before .before .before .before .before .before .pre .1) .block .0, c .before .before .first-row-at .ensures .0), subst (λ (k : ℕ). Nests (c .before .before .before .before .before .before .before .before .before .before .before .before .before .before .before .args .w .now) k 0) (sym (c .before .before .first-row-at .ensures .0)) (c .before .before .before .before .before .before .before .before .before .before .before .before .before .before .before .pre .0 .method-fits (c .before .before .before .before .before .before .before .before .before .before .before .before .before .before .before .args .m) (c .before .before .before .before .before .before .before .before .before .before .before .before .before .before .before .pre .1) .block .1), omega (arith, c .before .before .before .before .before .before .before .before .before .before .before .before .before .before .before .pre .0 .method-fits (c .before .before .before .before .before .before .before .before .before .before .before .before .before .before .before .args .m) (c .before .before .before .before .before .before .before .before .before .before .before .before .before .before .before .pre .1) .formulas .ensures .1, c .before .before .before .before .before .before .before .before .before .before .before .before .before .before .before .pre .0 .atoms, c .before .before .before .before .ensures-first .ensures .0, c .before .before .before .ensures-count .ensures .0), c .before .before .before .before .before .before .before .add .ensures .wf)
 
 returns-2 : tie.Need-returns-2
 returns-2 c =

@@ -22,15 +22,15 @@ first-atom-at-requires c κs = (c .before .pre .0 .size, omega (arith, c .before
 
 atom-kind-requires : tie.Need-atom-kind-requires
 atom-kind-requires c κs =
-    (c .before .before .pre .0 .size, omega (arith, c .before .before .pre .0 .row-fits (c .before .before .args .i) (c .before .before .pre .1) .atoms .1, c .before .before .pre .0 .row-fits (c .before .before .args .i) (c .before .before .pre .1) .one-atom (inr (c .before .before .pre .2)), c .before .before .pre .0 .atoms, c .first-atom-at .ensures .0))
+    (c .before .before .pre .0 .size, omega (arith, c .before .before .pre .0 .row-fits (c .before .before .args .i) (c .before .before .pre .1) .operands .atoms .1, c .before .before .pre .0 .row-fits (c .before .before .args .i) (c .before .before .pre .1) .operands .one-atom (inr (c .before .before .pre .2)), c .before .before .pre .0 .atoms, c .first-atom-at .ensures .0))
 
 left-requires : tie.Need-left-requires
 left-requires c κs =
-    (c .before .before .before .pre .0 .size, omega (arith, c .before .before .before .pre .0 .row-fits (c .before .before .before .args .i) (c .before .before .before .pre .1) .atoms .1, c .before .before .before .pre .0 .row-fits (c .before .before .before .args .i) (c .before .before .before .pre .1) .one-atom (inr (c .before .before .before .pre .2)), c .before .before .before .pre .0 .atoms, c .before .first-atom-at .ensures .0))
+    (c .before .before .before .pre .0 .size, omega (arith, c .before .before .before .pre .0 .row-fits (c .before .before .before .args .i) (c .before .before .before .pre .1) .operands .atoms .1, c .before .before .before .pre .0 .row-fits (c .before .before .before .args .i) (c .before .before .before .pre .1) .operands .one-atom (inr (c .before .before .before .pre .2)), c .before .before .before .pre .0 .atoms, c .before .first-atom-at .ensures .0))
 
 right-requires : tie.Need-right-requires
 right-requires c κs =
-    (c .before .before .before .before .pre .0 .size, omega (arith, c .before .before .before .before .pre .0 .row-fits (c .before .before .before .before .args .i) (c .before .before .before .before .pre .1) .atoms .1, c .before .before .before .before .pre .0 .row-fits (c .before .before .before .before .args .i) (c .before .before .before .before .pre .1) .one-atom (inr (c .before .before .before .before .pre .2)), c .before .before .before .before .pre .0 .atoms, c .before .before .first-atom-at .ensures .0))
+    (c .before .before .before .before .pre .0 .size, omega (arith, c .before .before .before .before .pre .0 .row-fits (c .before .before .before .before .args .i) (c .before .before .before .before .pre .1) .operands .atoms .1, c .before .before .before .before .pre .0 .row-fits (c .before .before .before .before .args .i) (c .before .before .before .before .pre .1) .operands .one-atom (inr (c .before .before .before .before .pre .2)), c .before .before .before .before .pre .0 .atoms, c .before .before .first-atom-at .ensures .0))
 
 if-rule-requires : tie.Need-if-rule-requires
 if-rule-requires c κs =

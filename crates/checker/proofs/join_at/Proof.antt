@@ -1,7 +1,6 @@
 use Rattle.knowledge.specs.Answers.{Adds}
 use Rattle.rules.specs.Answers.{Refusal}
 use Rattle.rules.specs.Base.{Try}
-use Rattle.tables.specs.Decode.{formulaAt}
 use mathlib.Core.Path.{subst}
 use native.Mathlib.Omega.{arith}
 use Rattle.rules.specs.State as Rules
@@ -22,10 +21,9 @@ atom-count-at-requires c κs =
 
 join-rule-requires : tie.Need-join-rule-requires
 join-rule-requires c κs =
-    (c .before .before .before .before .before .pre .0 .size, omega (arith, c .before .before .before .before .before .pre .0 .row-fits (c .before .before .before .before .before .args .i) (c .before .before .before .before .before .pre .1) .atoms .1, c .before .before .before .before .before .pre .0 .atoms, c .before .before .before .first-atom-at .ensures .0, c .before .before .atom-count-at .ensures .0), c .before .before .before .before .before .pre .2, c .before .before .before .before .before .pre .3)
+    (c .before .before .before .before .before .pre .0 .size, omega (arith, c .before .before .before .before .before .pre .0 .row-fits (c .before .before .before .before .before .args .i) (c .before .before .before .before .before .pre .1) .operands .atoms .1, c .before .before .before .before .before .pre .0 .atoms, c .before .before .before .first-atom-at .ensures .0, c .before .before .atom-count-at .ensures .0), c .before .before .before .before .before .pre .2, c .before .before .before .before .before .pre .3)
 
 returns : tie.Need-returns
-unfolding formulaAt
 returns c =
     subst (λ (t : Try Refusal Rules.State). Adds t (c .join-rule .result) (c .join-rule .last .1 .1 .1 .0) (c .join-rule .last .1 .1 .1 .1 .0)) (rw (c .before .before .before .before .first-atom-at .ensures .0, c .before .before .before .atom-count-at .ensures .0)) (c .join-rule .ensures)
 

@@ -28,7 +28,7 @@ first-atom-at-requires c κs =
 
 right-requires : tie.Need-right-requires
 right-requires c κs =
-    (c .before .before .before .before .before .pre .0 .size, omega (arith, c .before .before .before .before .before .pre .0 .row-fits (c .before .before .before .before .before .args .i) (c .before .before .before .before .before .pre .1) .atoms .1, c .before .before .before .before .before .pre .0 .row-fits (c .before .before .before .before .before .args .i) (c .before .before .before .before .before .pre .1) .one-atom (inl (c .before .before .before .before .before .pre .2)), c .before .before .before .before .before .pre .0 .atoms, c .before .before .first-atom-at .ensures .0))
+    (c .before .before .before .before .before .pre .0 .size, omega (arith, c .before .before .before .before .before .pre .0 .row-fits (c .before .before .before .before .before .args .i) (c .before .before .before .before .before .pre .1) .operands .atoms .1, c .before .before .before .before .before .pre .0 .row-fits (c .before .before .before .before .before .args .i) (c .before .before .before .before .before .pre .1) .operands .one-atom (inl (c .before .before .before .before .before .pre .2)), c .before .before .before .before .before .pre .0 .atoms, c .before .before .first-atom-at .ensures .0))
 
 assign-rule-requires : tie.Need-assign-rule-requires
 assign-rule-requires c κs = c .before .before .before .before .before .before .pre .3

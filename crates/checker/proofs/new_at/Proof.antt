@@ -25,11 +25,11 @@ member-at-requires c κs =
 
 new-rule-requires : tie.Need-new-rule-requires
 new-rule-requires c κs =
-    let m = c .before .before .before .before .before .pre .0 .row-fits (c .before .before .before .before .before .args .i) (c .before .before .before .before .before .pre .1) .class (c .before .before .before .before .before .pre .2) in (c .before .before .before .before .before .pre .0 .size, omega (arith, m, c .member-at .ensures .0, c .before .before .before .before .before .pre .0 .classes), rw (c .member-at .ensures .0) (c .before .before .before .before .before .pre .0 .class-fits _ m .count), c .before .before .before .before .before .pre .3)
+    let m = c .before .before .before .before .before .pre .0 .row-fits (c .before .before .before .before .before .args .i) (c .before .before .before .before .before .pre .1) .operands .class (c .before .before .before .before .before .pre .2) in (c .before .before .before .before .before .pre .0 .size, omega (arith, m, c .member-at .ensures .0, c .before .before .before .before .before .pre .0 .classes), rw (c .member-at .ensures .0) (c .before .before .before .before .before .pre .0 .class-fits _ m .count), c .before .before .before .before .before .pre .3)
 
 returns : tie.Need-returns
 returns c =
-    subst (λ (t : Try Refusal Rules.State). Adds t (c .new-rule .result) (c .new-rule .last .1 .0) (c .new-rule .last .1 .1 .0)) (new-at _ _ _ _ _ _ (c .before .before .before .before .x-at .ensures .0) (c .before .member-at .ensures .0) (c .before .before .before .before .before .before .pre .0 .row-fits (c .before .before .before .before .before .before .args .i) (c .before .before .before .before .before .before .pre .1) .class (c .before .before .before .before .before .before .pre .2))) (c .new-rule .ensures)
+    subst (λ (t : Try Refusal Rules.State). Adds t (c .new-rule .result) (c .new-rule .last .1 .0) (c .new-rule .last .1 .1 .0)) (new-at _ _ _ _ _ _ (c .before .before .before .before .x-at .ensures .0) (c .before .member-at .ensures .0) (c .before .before .before .before .before .before .pre .0 .row-fits (c .before .before .before .before .before .before .args .i) (c .before .before .before .before .before .before .pre .1) .operands .class (c .before .before .before .before .before .before .pre .2))) (c .new-rule .ensures)
 
 pub new-at-spec : {M : Type 1} → statement M
 new-at-spec =

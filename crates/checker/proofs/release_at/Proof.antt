@@ -2,7 +2,6 @@ use Rattle.knowledge.specs.Answers.{Adds}
 use Rattle.rules.specs.Answers.{Refusal}
 use Rattle.rules.specs.Base.{Try}
 use Rattle.statements.specs.Statements.{releaseRule}
-use Rattle.tables.specs.Decode.{formulaAt}
 use mathlib.Core.Path.{subst}
 use native.Mathlib.Omega.{arith}
 use Rattle.rules.specs.State as Rules
@@ -24,10 +23,10 @@ atom-count-at-requires c κs =
 
 release-rule-requires : tie.Need-release-rule-requires
 release-rule-requires c κs =
-    (c .before .before .before .before .before .pre .0 .size, omega (arith, c .before .before .before .before .before .pre .0 .row-fits (c .before .before .before .before .before .args .i) (c .before .before .before .before .before .pre .1) .atoms .1, c .before .before .before .before .before .pre .0 .atoms, c .before .before .before .first-atom-at .ensures .0, c .atom-count-at .ensures .0), c .before .before .before .before .before .pre .2)
+    (c .before .before .before .before .before .pre .0 .size, omega (arith, c .before .before .before .before .before .pre .0 .row-fits (c .before .before .before .before .before .args .i) (c .before .before .before .before .before .pre .1) .operands .atoms .1, c .before .before .before .before .before .pre .0 .atoms, c .before .before .before .first-atom-at .ensures .0, c .atom-count-at .ensures .0), c .before .before .before .before .before .pre .2)
 
 returns : tie.Need-returns
-unfolding rule formulaAt releaseRule
+unfolding rule releaseRule
 returns c =
     subst (λ (t : Try Refusal Rules.State). Adds t (c .release-rule .result) (c .release-rule .last .1 .0) (c .release-rule .last .1 .1 .0)) (rw (c .before .before .before .before .first-atom-at .ensures .0, c .before .atom-count-at .ensures .0)) (c .release-rule .ensures)
 

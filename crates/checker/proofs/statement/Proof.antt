@@ -1,4 +1,5 @@
-use Rattle.checker.proofs.Stepping.{is-set, is-let, is-new, is-call, is-return, is-assert, is-release, no-kind}
+use Rattle.checker.proofs.Stepping.{no-kind}
+use Rattle.tables.proofs.Statements.{set-means, let-means, new-means, call-means, return-means, assert-means, release-means}
 use Rattle.rules.specs.Base.{is}
 use mathlib.Core.Path.{sym, _∙_}
 use native.Mathlib.Omega.{arith}
@@ -49,35 +50,35 @@ release-at-requires c κs =
 
 returns : tie.Need-returns
 returns c =
-    record { statement = _; is = is-set _ _ (sym (c .before .before .before .before .kind-at .ensures .0) ∙ c .before .before .before .match .keys1); adds = c .set-at .ensures }
+    record { statement = _; is = set-means _ _ (sym (c .before .before .before .before .kind-at .ensures .0) ∙ c .before .before .before .match .keys1); adds = c .set-at .ensures }
 
 returns-2 : tie.Need-returns-2
 returns-2 c =
-    record { statement = _; is = is-let _ _ (sym (c .before .before .before .before .kind-at .ensures .0) ∙ c .before .before .before .match .keys2); adds = c .let-at .ensures }
+    record { statement = _; is = let-means _ _ (sym (c .before .before .before .before .kind-at .ensures .0) ∙ c .before .before .before .match .keys2); adds = c .let-at .ensures }
 
 returns-3 : tie.Need-returns-3
 returns-3 c =
-    record { statement = _; is = is-new _ _ (sym (c .before .before .before .before .kind-at .ensures .0) ∙ c .before .before .before .match .keys3); adds = c .new-at .ensures }
+    record { statement = _; is = new-means _ _ (sym (c .before .before .before .before .kind-at .ensures .0) ∙ c .before .before .before .match .keys3); adds = c .new-at .ensures }
 
 returns-4 : tie.Need-returns-4
 returns-4 c =
-    record { statement = _; is = is-call _ _ (sym (c .before .before .before .before .kind-at .ensures .0) ∙ c .before .before .before .match .keys4); adds = c .call-at .ensures }
+    record { statement = _; is = call-means _ _ (sym (c .before .before .before .before .kind-at .ensures .0) ∙ c .before .before .before .match .keys4); adds = c .call-at .ensures }
 
 returns-5 : tie.Need-returns-5
 returns-5 c =
-    record { statement = _; is = is-return _ _ (sym (c .before .before .before .before .kind-at .ensures .0) ∙ c .before .before .before .match .keys5); adds = c .return-at .ensures }
+    record { statement = _; is = return-means _ _ (sym (c .before .before .before .before .kind-at .ensures .0) ∙ c .before .before .before .match .keys5); adds = c .return-at .ensures }
 
 returns-6 : tie.Need-returns-6
 returns-6 c =
-    record { statement = _; is = is-assert _ _ (sym (c .before .before .before .before .kind-at .ensures .0) ∙ c .before .before .before .match .keys6); adds = c .assert-at .ensures }
+    record { statement = _; is = assert-means _ _ (sym (c .before .before .before .before .kind-at .ensures .0) ∙ c .before .before .before .match .keys6); adds = c .assert-at .ensures }
 
 returns-7 : tie.Need-returns-7
 returns-7 c =
-    record { statement = _; is = is-release _ _ (sym (c .before .before .before .before .kind-at .ensures .0) ∙ c .before .before .before .match .keys7); adds = c .release-at .ensures }
+    record { statement = _; is = release-means _ _ (sym (c .before .before .before .before .kind-at .ensures .0) ∙ c .before .before .before .match .keys7); adds = c .release-at .ensures }
 
 returns-8 : tie.Need-returns-8
 returns-8 c =
-    absurd (omega (arith, c .before .before .before .before .pre .0 .row-fits (c .before .before .before .before .args .i) (c .before .before .before .before .pre .1) .kind .0, c .before .before .kind-at .ensures .0, c .if1 .taken))
+    absurd (omega (arith, c .before .before .before .before .pre .0 .row-fits (c .before .before .before .before .args .i) (c .before .before .before .before .pre .1) .operands .kind .0, c .before .before .kind-at .ensures .0, c .if1 .taken))
 
 returns-9 : tie.Need-returns-9
 returns-9 c =

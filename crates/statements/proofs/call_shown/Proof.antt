@@ -24,7 +24,7 @@ requires-count-requires c κs =
 
 show-requires : tie.Need-show-requires
 show-requires c κs =
-    (c .before .before .before .before .before .pre .0 .size, omega (arith, c .before .before .before .before .before .pre .0 .method-fits (c .before .before .before .before .before .args .m) (c .before .before .before .before .before .pre .1) .requires .1, c .before .before .before .before .before .pre .0 .atoms, c .before .before .before .requires-first .ensures .0, c .before .before .requires-count .ensures .0), c .before .before .before .before .before .pre .2)
+    (c .before .before .before .before .before .pre .0 .size, omega (arith, c .before .before .before .before .before .pre .0 .method-fits (c .before .before .before .before .before .args .m) (c .before .before .before .before .before .pre .1) .formulas .requires .1, c .before .before .before .before .before .pre .0 .atoms, c .before .before .before .requires-first .ensures .0, c .before .before .requires-count .ensures .0), c .before .before .before .before .before .pre .2)
 
 enum-told : tie.Need-enum-told
 enum-told c = search needs
@@ -50,7 +50,7 @@ ensures-count-requires c κs =
 
 add-requires : tie.Need-add-requires
 add-requires c κs =
-    (c .before .before .before .before .before .before .before .before .before .before .before .before .before .before .before .before .before .before .before .before .pre .0 .size, omega (arith, c .before .before .before .before .before .before .before .before .before .before .before .before .before .before .before .before .before .before .before .before .pre .0 .method-fits (c .before .before .before .before .before .before .before .before .before .before .before .before .before .before .before .before .before .before .before .before .args .m) (c .before .before .before .before .before .before .before .before .before .before .before .before .before .before .before .before .before .before .before .before .pre .1) .ensures .1, c .before .before .before .before .before .before .before .before .before .before .before .before .before .before .before .before .before .before .before .before .pre .0 .atoms, c .before .before .before .ensures-first .ensures .0, c .before .before .ensures-count .ensures .0), c .before .before .before .before .remove .ensures .wf)
+    (c .before .before .before .before .before .before .before .before .before .before .before .before .before .before .before .before .before .before .before .before .pre .0 .size, omega (arith, c .before .before .before .before .before .before .before .before .before .before .before .before .before .before .before .before .before .before .before .before .pre .0 .method-fits (c .before .before .before .before .before .before .before .before .before .before .before .before .before .before .before .before .before .before .before .before .args .m) (c .before .before .before .before .before .before .before .before .before .before .before .before .before .before .before .before .before .before .before .before .pre .1) .formulas .ensures .1, c .before .before .before .before .before .before .before .before .before .before .before .before .before .before .before .before .before .before .before .before .pre .0 .atoms, c .before .before .before .ensures-first .ensures .0, c .before .before .ensures-count .ensures .0), c .before .before .before .before .remove .ensures .wf)
 
 returns-2 : tie.Need-returns-2
 returns-2 c =

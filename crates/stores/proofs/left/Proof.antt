@@ -1,4 +1,3 @@
-use Rattle.stores.proofs.Reading.{left-fits}
 use mathlib.Core.Path.{refl, sym, ap, _∙_}
 use borrow.Author.Needs.{needs}
 use Rattle.stores.proofs.left.Statement.{statement}
@@ -8,7 +7,7 @@ left-at-requires : tie.Need-left-at-requires
 left-at-requires c κs = search needs
 
 value-requires : tie.Need-value-requires
-value-requires c κs = (c .before .before .pre .0, left-fits _ _ _ (c .before .before .pre .0 .tables .atom-fits (c .before .before .args .a) (c .before .before .pre .1)) (c .left-at .ensures))
+value-requires c κs = (c .before .before .pre .0, rw (c .left-at .ensures) (c .before .before .pre .0 .tables .atom-fits (c .before .before .args .a) (c .before .before .pre .1) .left))
 
 returns : tie.Need-returns
 returns c = c .value .ensures ∙ rw (c .before .left-at .ensures)

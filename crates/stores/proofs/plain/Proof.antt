@@ -1,5 +1,7 @@
 use native.Mathlib.Omega.{arith}
 use mathlib.Core.Path.{refl, sym, ap, _∙_}
+use Rattle.tables.specs.Tables.{SideFits}
+use Rattle.tables.specs.Stores.{meaning}
 use borrow.Author.Needs.{needs}
 use Rattle.stores.proofs.plain.Statement.{statement}
 use Rattle.stores.proofs.plain.Tie as tie
@@ -14,6 +16,7 @@ enum-known-e-2 : tie.Need-enum-known-e-2
 enum-known-e-2 c = search needs
 
 variable-requires : tie.Need-variable-requires
+unfolding SideFits meaning
 variable-requires c κs = (omega (arith, c .before .before .before .before .pre .0 .base, c .before .before .before .before .pre .0 .tables .size), rw (c .before .e2 .given .1) at (c .before .before .before .before .pre .1))
 
 enum-told-2 : tie.Need-enum-told-2

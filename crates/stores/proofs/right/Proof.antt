@@ -1,4 +1,3 @@
-use Rattle.stores.proofs.Reading.{right-fits}
 use mathlib.Core.Path.{refl, sym, ap, _∙_}
 use borrow.Author.Needs.{needs}
 use Rattle.stores.proofs.right.Statement.{statement}
@@ -8,7 +7,7 @@ right-at-requires : tie.Need-right-at-requires
 right-at-requires c κs = search needs
 
 value-requires : tie.Need-value-requires
-value-requires c κs = (c .before .before .pre .0, right-fits _ _ _ (c .before .before .pre .0 .tables .atom-fits (c .before .before .args .a) (c .before .before .pre .1)) (c .right-at .ensures))
+value-requires c κs = (c .before .before .pre .0, rw (c .right-at .ensures) (c .before .before .pre .0 .tables .atom-fits (c .before .before .args .a) (c .before .before .pre .1) .right))
 
 returns : tie.Need-returns
 returns c = c .value .ensures ∙ rw (c .before .right-at .ensures)

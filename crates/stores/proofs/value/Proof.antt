@@ -1,4 +1,5 @@
 use Rattle.stores.specs.Views.{readIs, readIn}
+use Rattle.tables.specs.Tables.{SideFits}
 use Rattle.tables.specs.Stores.{meaning}
 use Rattle.rules.specs.Base.{_>>=_, _>>_, check}
 use native.Mathlib.Omega.{arith}
@@ -21,6 +22,7 @@ returns c = plain-read _ _ _ _ (c .plain .ensures)
     (λ x f p. let k = rw p at (c .before .match .keys2) in ⊎-elim (λ z. omega arith) (⊎-elim (λ z. omega arith) (λ z. omega arith)) k)
 
 locate-requires : tie.Need-locate-requires
+unfolding SideFits meaning
 locate-requires c κs = (c .before .before .before .before .pre .0, rw (c .before .e .given .1) at (c .before .before .before .before .pre .1))
 
 enum-known-k : tie.Need-enum-known-k

@@ -1,4 +1,4 @@
--- Laws of a list that is made place by place, and the lists of the tables as such.
+-- Laws of a list that is made place by place.
 use mathlib.Core.Path.{_≡_, refl, sym, ap, _∙_}
 use mathlib.Core.Bool.{Bool, true, false}
 use mathlib.Core.List.{List, [], _∷_, _++_}
@@ -9,10 +9,8 @@ use native.Mathlib.Omega.{arith}
 use lib.Dec.{ltb}
 use lib.ListN.{length, getD, length-append}
 use borrow.Author.Tests.{ltb-true, ltb-false}
-use Rattle.rules.specs.Syntax.{Atom, Row, Field}
-use Rattle.rules.specs.Syntax.{Method}
 use Rattle.rules.specs.Reading.{onLast}
-use Rattle.tables.specs.Decode.{atomAt, atomsFrom, rowAt, rowsFrom, fieldAt, fieldsFrom, classAt, classesFrom, methodAt, methodsFrom}
+use Rattle.tables.specs.Decode.{run}
 
 pub less-or-not : (m n : ℕ) (b : Bool) → ltb m n ≡ b → (m < n) ⊎ (n ≤ m)
 less-or-not m n true e = inl (ltb-true m n e)
@@ -25,11 +23,6 @@ three-ways m n =
     (less-or-not m n (ltb m n) refl)
 
 module _ {A : Type 0} where
-  -- f i, f (i + 1), .. : n of them
-  pub run : (ℕ → A) → ℕ → ℕ → List A
-  run f i zero = []
-  run f i (suc n) = f i ∷ run f (suc i) n
-
   pub run-length : (f : ℕ → A) (i n : ℕ) → length (run f i n) ≡ n
   unfolding run
   run-length f i zero = refl
@@ -42,12 +35,24 @@ module _ {A : Type 0} where
       ap (λ (l : List A). f i ∷ l)
       (run-more f (suc i) n ∙ ap (λ (k : ℕ). run f (suc i) n ++ (f k ∷ [])) (let e : suc i + n ≡ i + suc n = omega arith in e))
 
+  -- the same elements, also from another place
+  pub run-moved :
+      (f g : ℕ → A) (i j n : ℕ) → ((k : ℕ) → k < n → f (i + k) ≡ g (j + k)) → run f i n ≡ run g j n
+  unfolding run
+  run-moved f g i j zero h = refl
+  run-moved f g i j (suc n) h =
+      let e : f i ≡ g j = rw (add-zero, add-zero) at (h 0 (omega arith)) in
+      let r : run f (suc i) n ≡ run g (suc j) n =
+      run-moved f g (suc i) (suc j) n
+      (λ k l.
+      let a : suc i + k ≡ i + suc k = omega arith in
+      let b : suc j + k ≡ j + suc k = omega arith in
+      rw (a, b) (h (suc k) (omega arith))) in
+      rw (e, r)
+
   pub run-same :
       (f g : ℕ → A) (i n : ℕ) → ((k : ℕ) → i ≤ k → k < i + n → g k ≡ f k) → run g i n ≡ run f i n
-  unfolding run
-  run-same f g i zero h = refl
-  run-same f g i (suc n) h =
-      rw (h i (omega arith) (omega arith), run-same f g (suc i) n (λ k l m. h k (omega arith) (omega arith)))
+  run-same f g i n h = run-moved g f i i n (λ k l. h (i + k) (omega arith) (omega arith))
 
   pub run-get : (f : ℕ → A) (i n k : ℕ) (d : A) → k < n → getD (run f i n) k d ≡ f (i + k)
   unfolding run
@@ -55,6 +60,12 @@ module _ {A : Type 0} where
   run-get f i (suc n) zero d l = ap f (sym (add-zero i))
   run-get f i (suc n) (suc k) d l =
       run-get f (suc i) n k d (omega arith) ∙ ap f (let e : suc i + k ≡ i + suc k = omega arith in e)
+
+  pub run-past : (f : ℕ → A) (i n k : ℕ) (d : A) → n ≤ k → getD (run f i n) k d ≡ d
+  unfolding run
+  run-past f i zero k d l = refl
+  run-past f i (suc n) zero d l = absurd (omega arith)
+  run-past f i (suc n) (suc k) d l = run-past f (suc i) n k d (omega arith)
 
   last-end : (φ : A → A) (l : List A) (a : A) → onLast φ (l ++ (a ∷ [])) ≡ l ++ (φ a ∷ [])
   unfolding onLast
@@ -98,29 +109,3 @@ module _ {A : Type 0} where
         ∙ (ap (λ (r : List A). r ++ (g (0 + m) ∷ [])) (run-same f g 0 m (λ k _ p. h k (omega arith)))
         ∙ (ap (λ (b : A). run f 0 m ++ (b ∷ [])) (ap g z ∙ c)
         ∙ (sym (last-end φ (run f 0 m) (f m)) ∙ ap (onLast φ) whole))))
-
--- THE LISTS OF THE TABLES
-pub atoms-run : (w : List ℕ) (i n : ℕ) → atomsFrom w i n ≡ run (atomAt w) i n
-unfolding atomsFrom run
-atoms-run w i zero = refl
-atoms-run w i (suc n) = ap (λ (l : List (Atom ℕ)). atomAt w i ∷ l) (atoms-run w (suc i) n)
-
-pub rows-run : (w : List ℕ) (i n : ℕ) → rowsFrom w i n ≡ run (rowAt w) i n
-unfolding rowsFrom run
-rows-run w i zero = refl
-rows-run w i (suc n) = ap (λ (l : List Row). rowAt w i ∷ l) (rows-run w (suc i) n)
-
-pub fields-run : (w : List ℕ) (c i n : ℕ) → fieldsFrom w c i n ≡ run (fieldAt w c) i n
-unfolding fieldsFrom run
-fields-run w c i zero = refl
-fields-run w c i (suc n) = ap (λ (l : List Field). fieldAt w c i ∷ l) (fields-run w c (suc i) n)
-
-pub classes-run : (w : List ℕ) (i n : ℕ) → classesFrom w i n ≡ run (classAt w) i n
-unfolding classesFrom run
-classes-run w i zero = refl
-classes-run w i (suc n) = ap (λ (l : List (List Field)). classAt w i ∷ l) (classes-run w (suc i) n)
-
-pub methods-run : (w : List ℕ) (i n : ℕ) → methodsFrom w i n ≡ run (methodAt w) i n
-unfolding methodsFrom run
-methods-run w i zero = refl
-methods-run w i (suc n) = ap (λ (l : List Method). methodAt w i ∷ l) (methods-run w (suc i) n)

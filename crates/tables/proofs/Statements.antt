@@ -1,0 +1,95 @@
+-- What a row means, by its kind.
+use mathlib.Core.Path.{_≡_, refl}
+use mathlib.Core.Bool.{Bool, true, false, cond}
+use mathlib.Core.List.{List}
+use mathlib.Core.Logic.{_⊎_, inl, inr}
+use Prim.Native.Nat.{ℕ, suc, _≤_}
+use native.Mathlib.Omega.{arith}
+use lib.Dec.{eqb}
+use borrow.Author.Tests.{ne-eqb}
+use Rattle.rules.specs.Syntax.{Simple, Stmt, set, assign, new, call, return, assert, release, simple, else, join, end}
+use Rattle.tables.specs.declared.Operands.{Operands}
+use Rattle.tables.specs.Decode.{rightAt, ifAt, formulaOf, stmtOf}
+
+module _ (w : List ℕ) (r : Operands) where
+  pub set-means : r .kind ≡ 8 → stmtOf w r ≡ simple (set (r .x) (r .member) (r .y))
+  unfolding stmtOf
+  set-means k = rw k
+
+  pub let-means : r .kind ≡ 9 → stmtOf w r ≡ simple (assign (r .x) (rightAt w (r .first)))
+  unfolding stmtOf
+  let-means k = rw k
+
+  pub new-means : r .kind ≡ 10 → stmtOf w r ≡ simple (new (r .x) (r .member))
+  unfolding stmtOf
+  new-means k = rw k
+
+  pub call-means : r .kind ≡ 11 → stmtOf w r ≡ simple (call (r .x) (r .y) (r .member) (r .z))
+  unfolding stmtOf
+  call-means k = rw k
+
+  pub return-means : r .kind ≡ 12 → stmtOf w r ≡ simple (return (r .x))
+  unfolding stmtOf
+  return-means k = rw k
+
+  pub assert-means : r .kind ≡ 13 → stmtOf w r ≡ simple (assert (formulaOf w r))
+  unfolding stmtOf
+  assert-means k = rw k
+
+  pub release-means : r .kind ≡ 14 → stmtOf w r ≡ simple (release (formulaOf w r))
+  unfolding stmtOf
+  release-means k = rw k
+
+  pub if-means : r .kind ≡ 15 → stmtOf w r ≡ ifAt w (r .first)
+  unfolding stmtOf
+  if-means k = rw k
+
+  pub else-means : r .kind ≡ 16 → stmtOf w r ≡ else
+  unfolding stmtOf
+  else-means k = rw k
+
+  pub join-means : r .kind ≡ 17 → stmtOf w r ≡ join (formulaOf w r)
+  unfolding stmtOf
+  join-means k = rw k
+
+  pub end-means : r .kind ≡ 18 → stmtOf w r ≡ end
+  unfolding stmtOf
+  end-means k = rw k
+
+  -- a row that opens and closes no branch
+  pub simple-or-end :
+      (r .kind ≡ 15 → ⊥) → (r .kind ≡ 16 → ⊥) → (r .kind ≡ 17 → ⊥) →
+      ((p : Simple) × (stmtOf w r ≡ simple p)) ⊎ (stmtOf w r ≡ end)
+  unfolding stmtOf
+  simple-or-end a b d =
+      rw (ne-eqb (r .kind) 15 a, ne-eqb (r .kind) 16 b, ne-eqb (r .kind) 17 d)
+      (either (eqb (r .kind) 8) _
+      (either (eqb (r .kind) 9) _
+      (either (eqb (r .kind) 10) _
+      (either (eqb (r .kind) 11) _
+      (either (eqb (r .kind) 12) _ (either (eqb (r .kind) 13) _ (either (eqb (r .kind) 14) _ (inr refl))))))))
+    where
+      either :
+          (b : Bool) (p : Simple) {s : Stmt} → ((q : Simple) × (s ≡ simple q)) ⊎ (s ≡ end) →
+          ((q : Simple) × (cond b (simple p) s ≡ simple q)) ⊎ (cond b (simple p) s ≡ end)
+      either true p h = inl (p, refl)
+      either false p h = h
+
+  pub not-end : 8 ≤ r .kind → r .kind ≤ 17 → stmtOf w r ≡ end → ⊥
+  unfolding stmtOf
+  not-end a b h =
+      step 8 a (λ e. let z : _≡_ {A = ℕ} 0 1 = (let g = rw e at h in cc) in omega arith) λ l8.
+      step 9 l8 (λ e. let z : _≡_ {A = ℕ} 0 1 = (let g = rw e at h in cc) in omega arith) λ l9.
+      step 10 l9 (λ e. let z : _≡_ {A = ℕ} 0 1 = (let g = rw e at h in cc) in omega arith) λ l10.
+      step 11 l10 (λ e. let z : _≡_ {A = ℕ} 0 1 = (let g = rw e at h in cc) in omega arith) λ l11.
+      step 12 l11 (λ e. let z : _≡_ {A = ℕ} 0 1 = (let g = rw e at h in cc) in omega arith) λ l12.
+      step 13 l12 (λ e. let z : _≡_ {A = ℕ} 0 1 = (let g = rw e at h in cc) in omega arith) λ l13.
+      step 14 l13 (λ e. let z : _≡_ {A = ℕ} 0 1 = (let g = rw e at h in cc) in omega arith) λ l14.
+      step 15 l14 (λ e. let z : _≡_ {A = ℕ} 0 1 = (let g = rw e at h in cc) in omega arith) λ l15.
+      step 16 l15 (λ e. let z : _≡_ {A = ℕ} 0 1 = (let g = rw e at h in cc) in omega arith) λ l16.
+      step 17 l16 (λ e. let z : _≡_ {A = ℕ} 0 1 = (let g = rw e at h in cc) in omega arith) λ l17.
+      omega (arith, b, l17)
+    where
+      -- it is not k, so it is more
+      step : (k : ℕ) → k ≤ r .kind → (r .kind ≡ k → ⊥) → (suc k ≤ r .kind → ⊥) → ⊥
+      step k l n g = g (omega (arith, l, n))
