@@ -1,28 +1,30 @@
 -- A line by its kind: what the writer of its row or formula asks, and that what it leaves is the line's item.
 use mathlib.Core.Path.{_≡_, refl, sym, ap, ap₂, subst, _∙_}
-use mathlib.Core.Bool.{Bool, true, false, cond, _||_}
-use mathlib.Core.List.{List, [], map}
+use mathlib.Core.Bool.{Bool, true, false, not, cond, _||_}
+use mathlib.Core.List.{List, [], _∷_, map}
 use mathlib.Core.Logic.{_⊎_, inl, inr, ⊎-elim}
 use Prim.Native.Nat.{ℕ, suc, _+_, _-_, _≤_, _<_}
 use native.Mathlib.Omega.{arith}
 use native.Mathlib.Numerals.{add-one}
-use lib.Dec.{eqb}
+use lib.Dec.{T, T-not, eqb}
 use lib.ListN.{length, drop}
 use borrow.Author.Tests.{eqb-true, eq-eqb, ne-eqb, le-leb, lt-leb}
-use Rattle.rules.specs.Base.{Name}
+use Rattle.rules.specs.Base.{Name, any, all}
 use Rattle.rules.specs.Limits.{work-bytes, most-methods, most-statements, most-atoms}
 use Rattle.rules.specs.Syntax.{Formula}
 use Rattle.rules.specs.Text.{isFormula, formulaOf}
 use Rattle.rules.specs.Grammar as Grammar
-use Rattle.rules.specs.Grammar.{Kind, Statement, Line, statement, form, first-statement, last-kind, IsKindNumber, IsStatementNumber, isFormed, isTail}
+use Rattle.rules.specs.Grammar.{Kind, Statement, Line, statement, form, first-statement, IsKindNumber, IsStatementNumber, isFormed, isTail}
 use Rattle.rules.specs.Grammar.{isKind, isStatement, kindNumber, statementNumber}
 use Rattle.rules.specs.Scope.{Declarations, Variable, Scope, atomsOf}
 use Rattle.rules.specs.Items as Items
 use Rattle.rules.specs.Items.{Item, itemOf, aStatement, aRequires, anEnsures}
+use Rattle.rules.proofs.Lists.{T-true, or-cases, decide-eq}
+use Rattle.rules.proofs.LineKinds.{every-kind}
 use Rattle.leaves.proofs.Search.{true-false}
 use Rattle.lines.specs.Cuts.{more}
 use Rattle.lines.specs.Rows.{kindNumbered}
-use Rattle.lines.proofs.Rows.{number-of-kind, kind-of-number, kind-numbered, statement-numbered}
+use Rattle.lines.proofs.Rows.{NoneOf, number-of-kind, kind-of-number, kind-numbered, statement-numbered}
 use Rattle.tables.specs.Layout.{names-at, most-atom-rows}
 use Rattle.tables.specs.Decode.{atomsFrom}
 use Rattle.tables.specs.Stores.{Kept}
@@ -100,31 +102,29 @@ not-framed k h n =
       ne-eqb 17 k (λ z. n (sym z)),
     )
 
-or-else : (k m : ℕ) (b : Bool) → ((k ≡ m → ⊥) → b ≡ true) → (eqb k m || b) ≡ true
-or-else k m b f = go (eqb k m) refl
-  where
-    go : (q : Bool) → eqb k m ≡ q → (q || b) ≡ true
-    go true i = refl
-    go false i = f (λ z. true-false (sym (eq-eqb k m z) ∙ i))
+none-any : (n : ℕ) (ks : List ℕ) → NoneOf n ks → any (eqb n) ks ≡ false
+unfolding any
+none-any n [] r = refl
+none-any n (k ∷ ks) r = rw (ne-eqb n k (r .1)) (none-any n ks (r .0))
 
--- the numbers that are left
-above : (k m : ℕ) → m ≤ k → (k ≡ m → ⊥) → suc m ≤ k
-above k m l n = omega (arith, l, n)
+-- `join`, `if`, `release`, `assert` and `let` have writers of their own: every other statement is plain
+abbrev others : List ℕ
+others = 17 ∷ 15 ∷ 14 ∷ 13 ∷ 9 ∷ []
 
-last : (k : ℕ) → k ≤ last-kind → 18 ≤ k → k ≡ 18
-last k l m = omega (arith, l, m)
+hasWriter : Kind → Bool
+hasWriter k = not (isStatement k) || (isPlain (kindNumber k) || any (eqb (kindNumber k)) others)
 
-pub plain-left :
-    (k : ℕ) → IsStatementNumber k → (k ≡ 9 → ⊥) → (k ≡ 13 → ⊥) → (k ≡ 14 → ⊥) → (k ≡ 15 → ⊥) → (k ≡ 17 → ⊥) → isPlain k ≡ true
-unfolding isPlain
-plain-left k h n9 n13 n14 n15 n17 =
-    or-else k 8 _
-    (λ x8. let b10 = above k 9 (above k 8 (h .0) x8) n9 in
-    or-else k 10 _
-    (λ x10. or-else k 11 _
-    (λ x11. or-else k 12 _
-    (λ x12. let b16 = above k 15 (above k 14 (above k 13 (above k 12 (above k 11 (above k 10 b10 x10) x11) x12) n13) n14) n15 in
-    or-else k 16 _ (λ x16. let b18 = above k 17 (above k 16 b16 x16) n17 in eq-eqb k 18 (last k (h .1) b18))))))
+pub plain-left : (k : ℕ) → IsStatementNumber k → NoneOf k others → isPlain k ≡ true
+unfolding Grammar.opened isPlain any all hasWriter
+plain-left k h r =
+    let K : Kind = kindNumbered k in
+    let e = number-of-kind k (statement-kind h) in
+    ⊎-elim (λ t. absurd (T-not (isStatement K) t (subst T (sym (is-statement k h)) tt)))
+    (λ t.
+    ⊎-elim (λ t. sym (ap isPlain e) ∙ T-true (isPlain (kindNumber K)) t)
+    (λ t. true-false (sym (T-true (any (eqb (kindNumber K)) others) t) ∙ (ap (λ n. any (eqb n) others) e ∙ none-any k others r)))
+    (or-cases (isPlain (kindNumber K)) _ t))
+    (or-cases (not (isStatement K)) _ (every-kind hasWriter tt K))
 
 -- KINDS WHOSE LINE IS A FORMULA
 
@@ -171,11 +171,7 @@ pub claim-at : (m k : ℕ) → isClaim m ≡ true → k ≡ m → isClaim k ≡ 
 claim-at m k i e = ap isClaim e ∙ i
 
 pub header-kind : (k : ℕ) → 4 ≤ k → k ≤ 5 → (k ≡ 4) ⊎ (k ≡ 5)
-header-kind k a b = go (eqb k 4) refl
-  where
-    go : (q : Bool) → eqb k 4 ≡ q → (k ≡ 4) ⊎ (k ≡ 5)
-    go true e = inl (eqb-true k 4 e)
-    go false e = inr (omega (arith, a, b, above k 4 a (λ z. true-false (sym (eq-eqb k 4 z) ∙ e))))
+header-kind k a b = ⊎-elim inl (λ n. inr (omega arith)) (decide-eq k 4)
 
 -- WHAT IS ASKED
 module _ {t w : List ℕ} {p : Pass} {k r : ℕ} (x : Follows t w p k r) where

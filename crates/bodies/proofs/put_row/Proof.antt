@@ -58,7 +58,7 @@ put-plain-requires c κs =
     let p = c .before .before .before .before .before .before .before .pre in
     let g = c .before .before .before .seen .ensures in
     let r = c .before .match .rest in
-    (plain-ready (p .0) g, plain-follows (p .0) g (plain-left _ (p .1) (r .0 .0 .0 .0 .1) (r .0 .0 .0 .1) (r .0 .0 .1) (r .0 .1) (r .1)), row-room (p .0) (p .1), line-small (p .0))
+    (plain-ready (p .0) g, plain-follows (p .0) g (plain-left _ (p .1) r), row-room (p .0) (p .1), line-small (p .0))
 
 done-if-requires : tie.Need-done-if-requires
 done-if-requires c κs = search needs
