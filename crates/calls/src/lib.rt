@@ -39,7 +39,7 @@ fn leave(work: &mut [u8], c: Machine, cells: &Cells, n: usize) -> Turn
     let at = Layout::FRAMES + i * Layout::FRAME_BYTES;
     let holder = stores::saved_holder(work, i);
     let row = stores::saved_row(work, i);
-    let result = stores::variable(work, at + Layout::FRAME_BYTES, 14);
+    let result = stores::variable(work, at + Layout::FRAME_BYTES, stores::RESULT);
     let x = tables::x_at(work, row);
     stores::mark(work, cells, n, holder);
     tables::put_word(work, at + x * 4, result);

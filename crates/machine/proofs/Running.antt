@@ -57,15 +57,15 @@ entry-size = refl
 
 module _ (w : List ℕ) (tables : Tables w) where
   begun : List ℕ
-  begun = fill w frames-at 15 0
+  begun = fill w frames-at frame-variables 0
 
-  pub begin-tables : SameTables w (fill w frames-at 15 0)
-  begin-tables = only-tables (only-fill frames-at (frames-at + 60) w frames-at 15 0 (omega arith) (omega arith)) (omega arith)
+  pub begin-tables : SameTables w (fill w frames-at frame-variables 0)
+  begin-tables = only-tables (only-fill frames-at (frames-at + 60) w frames-at frame-variables 0 (omega arith) (omega arith)) (omega arith)
 
-  pub begins : Represents (fill w frames-at 15 0) (freshMachine (mainFirst w)) (start (programIn w))
+  pub begins : Represents (fill w frames-at frame-variables 0) (freshMachine (mainFirst w)) (start (programIn w))
   unfolding start programIn CallersAre fieldsOf holds among any valueOf variableAt
   begins =
-      let w′ : List ℕ = fill w frames-at 15 0 in
+      let w′ : List ℕ = fill w frames-at frame-variables 0 in
       record {
         tables = tables-same w w′ begin-tables tables;
         heap =
@@ -85,7 +85,7 @@ module _ (w : List ℕ) (tables : Tables w) where
         frame =
             record {
               size = entry-size;
-              values = λ x l. zero-values x l ∙ sym (fill-word w frames-at 15 0 x (omega (arith, tables .size)) (omega arith) l);
+              values = λ x l. zero-values x l ∙ sym (fill-word w frames-at frame-variables 0 x (omega (arith, tables .size)) (omega arith) l);
               row-is = refl;
               row-fits = omega (arith, tables .main-fits .0, rows-count-same w w′ begin-tables);
               held = λ p. sym (ap (λ (i : ℕ). eqb i 1) (nobody w′ p));
@@ -156,31 +156,31 @@ pub record Going (room : Room) (w₀ w : List ℕ) (k : ℕ) (c : Machine) : Typ
   pub within : c .steps ≤ k
   pub is-run : run room (programIn w₀) (k - c .steps) (c .steps) state ≡ runProgram room (programIn w₀) k
 
-pub going : (room : Room) (w w′ : List ℕ) (k : ℕ) (c : Machine) → Tables w → c ≡ freshMachine (mainFirst w) → w′ ≡ fill w frames-at 15 0 → Going room w′ w′ k c
+pub going : (room : Room) (w w′ : List ℕ) (k : ℕ) (c : Machine) → Tables w → c ≡ freshMachine (mainFirst w) → w′ ≡ fill w frames-at frame-variables 0 → Going room w′ w′ k c
 unfolding runProgram
 going room w w′ k c t q p =
     subst (λ (u : List ℕ). Going room u u k c) (sym p)
-    (subst (λ (d : Machine). Going room (fill w frames-at 15 0) (fill w frames-at 15 0) k d) (sym q)
+    (subst (λ (d : Machine). Going room (fill w frames-at frame-variables 0) (fill w frames-at frame-variables 0) k d) (sym q)
     (record {
       tables = begins w t .tables;
-      same = same-refl (fill w frames-at 15 0);
-      state = start (programIn (fill w frames-at 15 0));
+      same = same-refl (fill w frames-at frame-variables 0);
+      state = start (programIn (fill w frames-at frame-variables 0));
       represents =
-          subst (λ (P : Program). Represents (fill w frames-at 15 0) (freshMachine (mainFirst w)) (start P))
-          (sym (program-same w (fill w frames-at 15 0) (begin-tables w t) t)) (begins w t);
+          subst (λ (P : Program). Represents (fill w frames-at frame-variables 0) (freshMachine (mainFirst w)) (start P))
+          (sym (program-same w (fill w frames-at frame-variables 0) (begin-tables w t) t)) (begins w t);
       within = omega arith;
       is-run = let e : k - 0 ≡ k = omega arith in rw e;
     }))
 
 -- what holds from the first state on holds from the tables on
 pub from-tables :
-    {room : Room} {w w₀ w′ : List ℕ} {k : ℕ} {r : Ran} → Tables w → w₀ ≡ fill w frames-at 15 0 → RanAs room w₀ k w′ r → RanAs room w k w′ r
+    {room : Room} {w w₀ w′ : List ℕ} {k : ℕ} {r : Ran} → Tables w → w₀ ≡ fill w frames-at frame-variables 0 → RanAs room w₀ k w′ r → RanAs room w k w′ r
 from-tables {room} {w} {w₀} {w′} {k} {r} t p A =
-    let B : RanAs room (fill w frames-at 15 0) k w′ r = subst (λ (u : List ℕ). RanAs room u k w′ r) p A in
+    let B : RanAs room (fill w frames-at frame-variables 0) k w′ r = subst (λ (u : List ℕ). RanAs room u k w′ r) p A in
     record {
       tables = same-trans (begin-tables w t) (B .tables);
       outcome =
-          ap (λ (P : Program). runProgram room P k) (sym (program-same w (fill w frames-at 15 0) (begin-tables w t) t)) ∙ B .outcome;
+          ap (λ (P : Program). runProgram room P k) (sym (program-same w (fill w frames-at frame-variables 0) (begin-tables w t) t)) ∙ B .outcome;
     }
 
 -- a step's answer, known

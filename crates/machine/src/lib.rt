@@ -9,7 +9,7 @@ ghost use Rattle.rules.specs.Limits.{work-bytes, most-statements, heap-objects,
 ghost use Rattle.steps.specs.States.{Ready, Does};
 ghost use Rattle.rules.specs.Machine.{step as stepOf};
 ghost use Rattle.rules.specs.Counters.{freshMachine};
-ghost use Rattle.tables.specs.Layout.{frames-at};
+ghost use Rattle.tables.specs.Layout.{frame-variables, frames-at};
 ghost use Rattle.tables.specs.Decode.{kindAt, lineAt, mainFirst, programIn};
 ghost use Rattle.tables.specs.Tables.{Tables};
 ghost use Rattle.machine.specs.Runs.{RanAs, faultNumber, number};
@@ -85,10 +85,10 @@ pub fn step(work: &mut [u8], c: Machine, most_objects: u32, most_fields: u32) ->
 // "from the empty heap and main's frame"
 fn begin(work: &mut [u8]) -> Machine
     requires { ⌜ Tables (now work) ⌝ }
-    ensures { λ r. ⌜ (r ≡ freshMachine (mainFirst (now (work .entry)))) × (now (work .exit) ≡ fill (now (work .entry)) frames-at 15 0) ⌝ }
+    ensures { λ r. ⌜ (r ≡ freshMachine (mainFirst (now (work .entry)))) × (now (work .exit) ≡ fill (now (work .entry)) frames-at frame-variables 0) ⌝ }
 {
     let row = tables::main_first(work);
-    stores::fill_words(work, Layout::FRAMES, 15, 0);
+    stores::fill_words(work, Layout::FRAMES, stores::VARIABLES, 0);
     Machine::new(row as u32)
 }
 

@@ -130,7 +130,7 @@ pub fn return_step(work: &mut [u8], c: Machine) -> Turn
     let b = v.base;
     let x = tables::x_at(work, row);
     let n = stores::variable(work, b, x);
-    tables::put_word(work, b + 56, n);
+    tables::put_word(work, b + stores::RESULT_AT, n);
     Turn::On(next(c, c.row + 1))
 }
 

@@ -26,7 +26,17 @@ use Rattle.stores.specs.declared.Took.{Took}
 
 -- STORES
 
--- the frame i: 15 values, then the number by which it holds, its row, its method
+-- after its variables a frame keeps the number by which it holds, its row and its method
+abbrev pub frame-holder : ℕ
+frame-holder = 60
+
+abbrev pub frame-row : ℕ
+frame-row = 64
+
+abbrev pub frame-method : ℕ
+frame-method = 66
+
+-- the frame i
 abbrev pub frameAt : ℕ → ℕ
 frameAt i = frames-at + i * frame-bytes
 
@@ -35,13 +45,13 @@ unfoldable pub variableAt : List ℕ → ℕ → ℕ → ℕ
 variableAt w b x = wordAt w (b + x * 4)
 
 unfoldable pub savedHolder : List ℕ → ℕ → ℕ
-savedHolder w i = wordAt w (frameAt i + 60)
+savedHolder w i = wordAt w (frameAt i + frame-holder)
 
 unfoldable pub savedRow : List ℕ → ℕ → ℕ
-savedRow w i = halfAt w (frameAt i + 64)
+savedRow w i = halfAt w (frameAt i + frame-row)
 
 unfoldable pub methodOf : List ℕ → ℕ → ℕ
-methodOf w i = byteAt w (frameAt i + 66)
+methodOf w i = byteAt w (frameAt i + frame-method)
 
 unfoldable pub cellValue : List ℕ → ℕ → ℕ
 cellValue w k = wordAt w (values-at + k * 4)
@@ -144,7 +154,10 @@ marked w (k ∷ ks) v = marked (putWord w (holders-at + k * 4) v) ks v
 -- The frame at a calls: it keeps its number and row. The next, at b, has its values, `this`, w and zeros, and its method.
 unfoldable pub framed : List ℕ → ℕ → ℕ → ℕ → ℕ → ℕ → ℕ → ℕ → List ℕ
 framed w a b holder row method o p =
-    set (putHalf (putWord (putWord (putWord (fill w b 15 0) b o) (b + 4) p) (a + 60) holder) (a + 64) row) (b + 66) method
+    set
+    (putHalf (putWord (putWord (putWord (fill w b frame-variables 0) b o) (b + 4) p) (a + frame-holder) holder) (a + frame-row) row)
+    (b + frame-method)
+    method
 
 abbrev pub prepared : List ℕ → Machine → ℕ → ℕ → ℕ → List ℕ
 prepared w c method o p = framed w (frameAt (c .frames - 1)) (frameAt (c .frames)) (c .holder) (c .row) method o p
@@ -238,7 +251,7 @@ PlainIs w v (Tables.Expr.Path x f) r = Unit {0}
 
 pub record Readable (w : List ℕ) (v : View) : Type 0 where
   pub tables : Tables w
-  pub base : v .base + 60 ≤ work-bytes
+  pub base : v .base + frame-holder ≤ work-bytes
   pub objects : v .objects ≤ heap-objects
   pub object : (i : ℕ) → i < v .objects → ObjectFits w heap-fields i
 

@@ -12,7 +12,7 @@ ghost use Rattle.rules.specs.Base.{any, ok};
 ghost use Rattle.rules.specs.Machine.{compared};
 ghost use Rattle.tables.specs.Stores.{meaning};
 ghost use lib.Dec.{eqb};
-ghost use Rattle.stores.specs.Views.{variableAt, savedHolder, savedRow, methodOf, prepared, made, cellValue, cellHolder, classIn, firstIn, cellOf, present, foundOf, found, heldCell, spot, readIn, rightTest, testIn, PlainIs, newCells, accIn, takeIn, SmallCells, fill, marked, spotIs, readIs, truthIs, footprint-cells, countOf, TookUpTo, Sieve, ExprFits, Readable, viewOf};
+ghost use Rattle.stores.specs.Views.{frame-holder, variableAt, savedHolder, savedRow, methodOf, prepared, made, cellValue, cellHolder, classIn, firstIn, cellOf, present, foundOf, found, heldCell, spot, readIn, rightTest, testIn, PlainIs, newCells, accIn, takeIn, SmallCells, fill, marked, spotIs, readIs, truthIs, footprint-cells, countOf, TookUpTo, Sieve, ExprFits, Readable, viewOf};
 
 // Whose variables are read, where the heap ends, and who holds.
 pub struct View {
@@ -20,6 +20,21 @@ pub struct View {
     pub objects: usize,
     pub holder: u32,
 }
+
+// A frame's variables: `this`, w, 12 locals, `result`.
+pub const VARIABLES: usize = 15;
+
+// The number of `result`, and where its value stands in a frame.
+pub const RESULT: usize = 14;
+
+pub const RESULT_AT: usize = 56;
+
+// Where a frame keeps the number by which it holds, its row and its method.
+const HOLDER_AT: usize = 60;
+
+const ROW_AT: usize = 64;
+
+const METHOD_AT: usize = 66;
 
 // The cells of a footprint.
 pub type Cells = [usize; CELLS];
@@ -66,7 +81,7 @@ pub enum Took {
 
 // A variable of the frame at b.
 pub fn variable(work: &[u8], b: usize, x: usize) -> u32
-    requires { ⌜ (b + 60 ≤ length (now work)) × (x < frame-variables) ⌝ }
+    requires { ⌜ (b + frame-holder ≤ length (now work)) × (x < frame-variables) ⌝ }
     ensures { λ r. ⌜ r ≡ variableAt (now (work .entry)) b x ⌝ }
 {
     tables::word_at(work, b + x * 4)
@@ -251,7 +266,8 @@ fn condition_right(work: &[u8], v: View, a: usize, l: u32) -> Truth
     }
 }
 
-// The condition of an `if`: as `test`, which is the formulas' own, so that `footprint` calls nothing and keeps its arguments in registers.
+// The condition of an `if`: `test` again, because the compiler puts a function into its only caller, and a formula takes twice as long
+// where `footprint` calls a `test` that is shared.
 pub fn condition(work: &[u8], v: View, a: usize) -> Truth
     requires { ⌜ Readable (now work) v × (a < atomCount (now work)) ⌝ }
     ensures { λ r. ⌜ truthIs r ≡ testIn (now (work .entry)) v a ⌝ }
@@ -409,21 +425,21 @@ pub fn saved_holder(work: &[u8], i: usize) -> u32
     requires { ⌜ (length (now work) ≡ work-bytes) × (i < most-frames) ⌝ }
     ensures { λ r. ⌜ r ≡ savedHolder (now (work .entry)) i ⌝ }
 {
-    tables::word_at(work, Layout::FRAMES + i * Layout::FRAME_BYTES + 60)
+    tables::word_at(work, Layout::FRAMES + i * Layout::FRAME_BYTES + HOLDER_AT)
 }
 
 pub fn saved_row(work: &[u8], i: usize) -> usize
     requires { ⌜ (length (now work) ≡ work-bytes) × (i < most-frames) ⌝ }
     ensures { λ r. ⌜ (r ≡ savedRow (now (work .entry)) i) × (r < 65536) ⌝ }
 {
-    tables::half_at(work, Layout::FRAMES + i * Layout::FRAME_BYTES + 64)
+    tables::half_at(work, Layout::FRAMES + i * Layout::FRAME_BYTES + ROW_AT)
 }
 
 pub fn method_of(work: &[u8], i: usize) -> usize
     requires { ⌜ (length (now work) ≡ work-bytes) × (i < most-frames) ⌝ }
     ensures { λ r. ⌜ r ≡ methodOf (now (work .entry)) i ⌝ }
 {
-    tables::byte_at(work, Layout::FRAMES + i * Layout::FRAME_BYTES + 66)
+    tables::byte_at(work, Layout::FRAMES + i * Layout::FRAME_BYTES + METHOD_AT)
 }
 
 // The place of the next frame, and what the running one must keep.
@@ -435,12 +451,12 @@ pub fn prepare(work: &mut [u8], c: Machine, m: usize, o: u32, p: u32)
     let j = c.frames as usize;
     let a = Layout::FRAMES + i * Layout::FRAME_BYTES;
     let b = Layout::FRAMES + j * Layout::FRAME_BYTES;
-    fill_words(work, b, 15, 0);
+    fill_words(work, b, VARIABLES, 0);
     tables::put_word(work, b, o);
     tables::put_word(work, b + 4, p);
-    tables::put_word(work, a + 60, c.holder);
-    tables::put_half(work, a + 64, c.row as usize);
-    tables::put_byte(work, b + 66, m);
+    tables::put_word(work, a + HOLDER_AT, c.holder);
+    tables::put_half(work, a + ROW_AT, c.row as usize);
+    tables::put_byte(work, b + METHOD_AT, m);
 }
 
 // Object number `objects` + 1, of a class with n fields, which are the running frame's.

@@ -42,7 +42,16 @@ enter-requires c κs =
     let at-requires-count = c .before .before .before .before .before .before .before .before .requires-count in
     let at-footprint = c .before .before .before .before .before .footprint in
     let at-k = c .before .before .before .k in
-    let e = sym (requires-takes _ _ _ (start .pre) (at-requires-first .ensures .0) (at-requires-count .ensures .0)) ∙ took-cells _ _ _ (at-k .given .1) (at-footprint .ensures .took) in record { area = start .pre .readable .tables .size; method-fits = omega (arith, start .pre .exists, start .pre .readable .tables .methods); more = start .pre .more; numbers = start .pre .numbers; size = at-footprint .ensures .size; count = count-cells _ _ _ (at-k .given .1) (at-footprint .ensures .count); small = start .pre .small _ e }
+    let e = sym (requires-takes _ _ _ (start .pre) (at-requires-first .ensures .0) (at-requires-count .ensures .0)) ∙ took-cells _ _ _ (at-k .given .1) (at-footprint .ensures .took) in
+    record {
+      area = start .pre .readable .tables .size;
+      method-fits = omega (arith, start .pre .exists, start .pre .readable .tables .methods);
+      more = start .pre .more;
+      numbers = start .pre .numbers;
+      size = at-footprint .ensures .size;
+      count = count-cells _ _ _ (at-k .given .1) (at-footprint .ensures .count);
+      small = start .pre .small _ e;
+    }
 
 enum-known-s : tie.Need-enum-known-s
 enum-known-s c = search needs

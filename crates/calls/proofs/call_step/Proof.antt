@@ -62,7 +62,10 @@ admit-requires c κs =
     let at-variable2 = c .before .before .before .before .before .before .before .variable2 in
     let at-member-at = c .before .before .before .before .before .member-at in
     let at-prepare = c .before .before .before .prepare in
-    rw (at-prepare .ensures) (calling (start .pre .0) (start .pre .1) _ _ _ _ _ (at-y-at .ensures .0) (at-z-at .ensures .0) (at-member-at .ensures .0) (at-variable .ensures ∙ ap (λ u. variableAt (now (start .args .work)) (u .base) (at-y-at .result)) (at-view-of .ensures)) (at-variable2 .ensures ∙ ap (λ u. variableAt (now (start .args .work)) (u .base) (at-z-at .result)) (at-view-of .ensures)) (search needs) (search needs))
+    rw (at-prepare .ensures) (calling (start .pre .0) (start .pre .1) _ _ _ _ _ (at-y-at .ensures .0) (at-z-at .ensures .0) (at-member-at .ensures .0)
+    (at-variable .ensures ∙ ap (λ u. variableAt (now (start .args .work)) (u .base) (at-y-at .result)) (at-view-of .ensures))
+    (at-variable2 .ensures ∙ ap (λ u. variableAt (now (start .args .work)) (u .base) (at-z-at .result)) (at-view-of .ensures))
+    (search needs) (search needs))
 
 same-length-2 : tie.Need-same-length-2
 same-length-2 c = search needs
@@ -79,7 +82,11 @@ returns-2 c =
     let at-member-at = c .before .before .before .before .before .before .before .before .member-at in
     let at-prepare = c .before .before .before .before .before .before .prepare in
     let at-admit = c .before .before .admit in
-    calls (start .pre .0) (start .pre .1) _ _ _ _ _ (at-y-at .ensures .0) (at-z-at .ensures .0) (at-member-at .ensures .0) (at-variable .ensures ∙ ap (λ u. variableAt (now (start .args .work)) (u .base) (at-y-at .result)) (at-view-of .ensures)) (at-variable2 .ensures ∙ ap (λ u. variableAt (now (start .args .work)) (u .base) (at-z-at .result)) (at-view-of .ensures)) (search needs) (search needs) (at-admit .last .0) (at-admit .result) (at-if1 .left) (subst (λ u. Admits u (start .args .c) (at-member-at .result) (at-admit .last .0) (at-admit .result)) (at-prepare .ensures) (at-admit .ensures))
+    calls (start .pre .0) (start .pre .1) _ _ _ _ _ (at-y-at .ensures .0) (at-z-at .ensures .0) (at-member-at .ensures .0)
+    (at-variable .ensures ∙ ap (λ u. variableAt (now (start .args .work)) (u .base) (at-y-at .result)) (at-view-of .ensures))
+    (at-variable2 .ensures ∙ ap (λ u. variableAt (now (start .args .work)) (u .base) (at-z-at .result)) (at-view-of .ensures))
+    (search needs) (search needs) (at-admit .last .0) (at-admit .result) (at-if1 .left)
+    (subst (λ u. Admits u (start .args .c) (at-member-at .result) (at-admit .last .0) (at-admit .result)) (at-prepare .ensures) (at-admit .ensures))
 
 pub call-step-spec : {M : Type 1} → statement M
 call-step-spec =

@@ -74,7 +74,8 @@ returns c =
     let at-x-at = c .before .before .before .before .before .before .before .before .before .x-at in
     let at-mark = c .before .before .before .before .before .before .before .mark in
     let at-put-word = c .before .before .before .put-word in
-    let at : frameAt (start .args .c .frames - 2) + 72 ≡ frameAt (start .args .c .frames - 1) = omega (arith, frames-fit (start .pre .ready), start .pre .inner) in leave-does (start .pre .ready) (start .pre .inner) _ _ _ _ _ (start .pre .took) (at-saved-holder .ensures) (search needs) (at-saved-row .ensures .0) (at-x-at .ensures .0) (at-variable .ensures ∙ rw at) (search needs) (at-put-word .ensures ∙ rw (at-mark .ensures)) (c .back-in .ensures)
+    let at : frameAt (start .args .c .frames - 2) + 72 ≡ frameAt (start .args .c .frames - 1) = omega (arith, frames-fit (start .pre .ready), start .pre .inner) in
+    leave-does (start .pre .ready) (start .pre .inner) _ _ _ _ _ (start .pre .took) (at-saved-holder .ensures) (search needs) (at-saved-row .ensures .0) (at-x-at .ensures .0) (at-variable .ensures ∙ rw at) (search needs) (at-put-word .ensures ∙ rw (at-mark .ensures)) (c .back-in .ensures)
 
 pub leave-spec : {M : Type 1} → statement M
 leave-spec =

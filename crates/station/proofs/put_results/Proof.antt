@@ -61,7 +61,14 @@ loop-again c =
     let at-loop = c .before .before .before .before .before .before .loop in
     let at-word-at = c .before .before .before .before .word-at in
     let at-put-word2 = c .before .before .put-word2 in
-    let n = values-length (start .args .work .now) (start .args .steps) in ((omega arith, omega arith), (at-put-word2 .kept .0 ∙ at-loop .inv .1 .0, at-put-word2 .ensures ∙ rw (at-loop .inv .1 .1) (word-more _ _ (at-loop .i) _ (omega (arith, n)) (value-is (start .args .work .now) (start .args .steps) (at-loop .i) (at-loop .inv .0 .0) (omega arith) ∙ sym (at-word-at .ensures)) (at-put-word .kept .0 ∙ (start .pre .1 ∙ ap (λ m. m * 4) (sym n))))))
+    let n = values-length (start .args .work .now) (start .args .steps) in (
+      (omega arith, omega arith),
+      (
+        at-put-word2 .kept .0 ∙ at-loop .inv .1 .0,
+        at-put-word2 .ensures ∙ rw (at-loop .inv .1 .1) (word-more _ _ (at-loop .i) _ (omega (arith, n)) (value-is (start .args .work .now) (start .args .steps) (at-loop .i) (at-loop .inv .0 .0) (omega arith) ∙ sym (at-word-at .ensures))
+            (at-put-word .kept .0 ∙ (start .pre .1 ∙ ap (λ m. m * 4) (sym n)))),
+      ),
+    )
 
 same-length : tie.Need-same-length Inv-loop μ-loop
 same-length c = c .before .loop .inv .1 .0 ∙ c .before .before .before .before .put-word .kept .0
@@ -70,7 +77,8 @@ returns : tie.Need-returns Inv-loop μ-loop
 returns c =
     let start = c .before .before .before .before .before .before .before .before in
     let at-put-word = c .before .before .before .before .put-word in
-    let n = values-length (start .args .work .now) (start .args .steps) in c .before .loop .inv .1 .1 ∙ words-all _ _ (c .before .loop .i) (omega (arith, n, c .loop-test .left)) (at-put-word .kept .0 ∙ (start .pre .1 ∙ ap (λ m. m * 4) (sym n)))
+    let n = values-length (start .args .work .now) (start .args .steps) in c .before .loop .inv .1 .1 ∙ words-all _ _ (c .before .loop .i) (omega (arith, n, c .loop-test .left))
+    (at-put-word .kept .0 ∙ (start .pre .1 ∙ ap (λ m. m * 4) (sym n)))
 
 pub put-results-spec : {M : Type 1} → statement M
 put-results-spec =
