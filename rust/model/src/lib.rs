@@ -6,6 +6,7 @@
 
 pub mod call;
 pub mod checker;
+pub mod form;
 pub mod framing;
 pub mod gen;
 pub mod limits;
@@ -14,6 +15,7 @@ pub mod names;
 pub mod number;
 pub mod print;
 pub mod text;
+pub mod watch;
 
 pub use call::{check_call, run_call};
 pub use machine::Run;

@@ -53,11 +53,13 @@ pub struct Frame {
     pub held: Locations,
 }
 
-/// An object: the place of its first field in the heap, and how many it has.
+/// An object: the place of its first field in the heap, how many it has, and
+/// its class, a place in the program's list.
 #[derive(Clone, Copy, Debug, PartialEq, Eq)]
 pub struct Object {
     pub first: Location,
     pub fields: usize,
+    pub class: usize,
 }
 
 /// What a step that was done leads to.
@@ -69,8 +71,35 @@ pub enum Step {
     Done,
 }
 
+/// What stopped a step.
+#[derive(Clone, Copy, Debug, PartialEq, Eq)]
+pub struct Halt<'a> {
+    pub number: u32,
+    /// The atom of the formula that was tested: its place from 0.
+    pub atom: Option<usize>,
+    /// The path that was followed.
+    pub path: Option<Path<'a>>,
+}
+
+impl<'a> Halt<'a> {
+    fn of(number: u32) -> Halt<'a> {
+        Halt {
+            number,
+            atom: None,
+            path: None,
+        }
+    }
+
+    fn at(number: u32, path: Path<'a>) -> Halt<'a> {
+        Halt {
+            path: Some(path),
+            ..Halt::of(number)
+        }
+    }
+}
+
 /// A step that cannot be done stops with a number.
-type Outcome<T> = Result<T, u32>;
+type Outcome<'a, T> = Result<T, Halt<'a>>;
 
 /// The state of a run. "A run is the list of steps from the empty heap and
 /// main's frame."
@@ -84,6 +113,8 @@ pub struct Machine<'p, 'a> {
     pub frames: Vec<Frame>,
     /// The steps done.
     pub steps: u32,
+    /// What stopped the last step, if one was stopped.
+    pub halt: Option<Halt<'a>>,
 }
 
 /// A formula's reader: the values it sees and the locations it may read.
@@ -96,17 +127,18 @@ struct Reader<'m> {
 
 impl Reader<'_> {
     /// The location of `x.f`: null followed is 25, one not held 24.
-    fn location(&self, path: Path) -> Outcome<Location> {
-        let location = location(self.objects, self.values, path).ok_or(number::NULL_FOLLOWED)?;
+    fn location<'a>(&self, path: Path<'a>) -> Outcome<'a, Location> {
+        let location = location(self.objects, self.values, path)
+            .ok_or_else(|| Halt::at(number::NULL_FOLLOWED, path))?;
         if self.held.contains(location) {
             Ok(location)
         } else {
-            Err(number::PERMISSION_MISSING)
+            Err(Halt::at(number::PERMISSION_MISSING, path))
         }
     }
 
     /// "reading a path needs its location in A", over the whole A.
-    fn value(&self, expr: Expr) -> Outcome<i32> {
+    fn value<'a>(&self, expr: Expr<'a>) -> Outcome<'a, i32> {
         Ok(match expr {
             Expr::Number(value) => value,
             Expr::Null => 0,
@@ -116,7 +148,7 @@ impl Reader<'_> {
     }
 
     /// "of two sides the left first".
-    fn equal(&self, left: Expr, right: Expr) -> Outcome<bool> {
+    fn equal<'a>(&self, left: Expr<'a>, right: Expr<'a>) -> Outcome<'a, bool> {
         let left = self.value(left)?;
         let right = self.value(right)?;
         Ok(left == right)
@@ -124,26 +156,35 @@ impl Reader<'_> {
 
     /// "Formula atoms go in order". Gives the footprint, "the locations that
     /// its `acc` atoms take"; one already taken in this formula is 24.
-    fn formula(&self, formula: &[Atom]) -> Outcome<Locations> {
+    fn formula<'a>(&self, formula: &[Atom<'a>]) -> Outcome<'a, Locations> {
         let mut taken = Locations::default();
-        for &atom in formula {
-            let holds = match atom {
-                Atom::Acc(path) => {
-                    let location = self.location(path)?;
-                    if taken.contains(location) {
-                        return Err(number::PERMISSION_MISSING);
-                    }
-                    taken.insert(location);
-                    true
-                }
-                Atom::Eq(left, right) => self.equal(left, right)?,
-                Atom::Ne(left, right) => !self.equal(left, right)?,
-            };
-            if !holds {
-                return Err(number::FORMULA_FALSE);
-            }
+        for (place, &atom) in formula.iter().enumerate() {
+            self.atom(atom, &mut taken).map_err(|halt| Halt {
+                atom: Some(place),
+                ..halt
+            })?;
         }
         Ok(taken)
+    }
+
+    fn atom<'a>(&self, atom: Atom<'a>, taken: &mut Locations) -> Outcome<'a, ()> {
+        let holds = match atom {
+            Atom::Acc(path) => {
+                let location = self.location(path)?;
+                if taken.contains(location) {
+                    return Err(Halt::at(number::PERMISSION_MISSING, path));
+                }
+                taken.insert(location);
+                true
+            }
+            Atom::Eq(left, right) => self.equal(left, right)?,
+            Atom::Ne(left, right) => !self.equal(left, right)?,
+        };
+        if holds {
+            Ok(())
+        } else {
+            Err(Halt::of(number::FORMULA_FALSE))
+        }
     }
 }
 
@@ -177,6 +218,7 @@ impl<'p, 'a> Machine<'p, 'a> {
             heap: Vec::new(),
             frames: vec![main],
             steps: 0,
+            halt: None,
         }
     }
 
@@ -210,7 +252,14 @@ impl<'p, 'a> Machine<'p, 'a> {
 
     /// "Each statement line is one step". "A stopped step is not counted", and
     /// it changes nothing.
-    pub fn step(&mut self) -> Outcome<Step> {
+    pub fn step(&mut self) -> Result<Step, u32> {
+        self.tried().map_err(|halt| {
+            self.halt = Some(halt);
+            halt.number
+        })
+    }
+
+    fn tried(&mut self) -> Outcome<'a, Step> {
         let here = self.frame().next;
         let step = match &self.statement().action {
             Action::End => self.end()?,
@@ -229,7 +278,7 @@ impl<'p, 'a> Machine<'p, 'a> {
     }
 
     /// A step inside one frame; gives the place of the next statement.
-    fn simple(&mut self, here: usize, action: &Action) -> Outcome<usize> {
+    fn simple(&mut self, here: usize, action: &Action<'a>) -> Outcome<'a, usize> {
         match action {
             Action::Set(path, y) => {
                 let location = self.reader().location(*path)?;
@@ -265,7 +314,7 @@ impl<'p, 'a> Machine<'p, 'a> {
         self.frame_mut().values[x] = value;
     }
 
-    fn condition(&self, condition: Atom) -> Outcome<bool> {
+    fn condition(&self, condition: Atom<'a>) -> Outcome<'a, bool> {
         match condition {
             Atom::Eq(left, right) => self.reader().equal(left, right),
             Atom::Ne(left, right) => self.reader().equal(left, right).map(|equal| !equal),
@@ -274,13 +323,17 @@ impl<'p, 'a> Machine<'p, 'a> {
     }
 
     /// "22 only where `new` would pass 256 objects or 1,024 fields."
-    fn create(&mut self, x: Var, class: usize) -> Outcome<()> {
+    fn create(&mut self, x: Var, class: usize) -> Outcome<'a, ()> {
         let fields = self.program.classes[class].fields.len();
         let first = self.heap.len();
         if self.objects.len() == limits::OBJECTS || first + fields > limits::HEAP_FIELDS {
-            return Err(number::HEAP_FULL);
+            return Err(Halt::of(number::HEAP_FULL));
         }
-        self.objects.push(Object { first, fields });
+        self.objects.push(Object {
+            first,
+            fields,
+            class,
+        });
         self.heap.resize(first + fields, 0);
         for location in first..first + fields {
             self.frame_mut().held.insert(location);
@@ -291,10 +344,10 @@ impl<'p, 'a> Machine<'p, 'a> {
 
     /// "`call`: null receiver, then requires, then frames full; the new frame's
     /// A is the footprint of requires, which the caller loses."
-    fn call(&mut self, call: Call) -> Outcome<()> {
+    fn call(&mut self, call: Call) -> Outcome<'a, ()> {
         let caller = self.frame();
         if caller.values[call.y] == 0 {
-            return Err(number::NULL_FOLLOWED);
+            return Err(Halt::of(number::NULL_FOLLOWED));
         }
         let method = &self.program.blocks[call.method];
         let values = callee_values(&caller.values, call);
@@ -304,7 +357,7 @@ impl<'p, 'a> Machine<'p, 'a> {
         };
         let footprint = reader.formula(&method.requires)?;
         if self.frames.len() == limits::FRAMES {
-            return Err(number::FRAMES_FULL);
+            return Err(Halt::of(number::FRAMES_FULL));
         }
         self.frame_mut().held.remove_all(&footprint);
         self.frames.push(Frame {
@@ -318,7 +371,7 @@ impl<'p, 'a> Machine<'p, 'a> {
 
     /// "`end`: ensures, then the caller gains its footprint, and x the result;
     /// the rest of that A is lost."
-    fn end(&mut self) -> Outcome<Step> {
+    fn end(&mut self) -> Outcome<'a, Step> {
         let footprint = self.reader().formula(&self.block().ensures)?;
         if self.frames.len() == 1 {
             return Ok(Step::Done);
