@@ -1,96 +1,422 @@
-//! The words of the command line.
+//! The words of the command line, by one table of commands and options: the
+//! parser, the help, the man page and the shells' completions go by it.
 
+use crate::nearest::did_you_mean;
+use crate::show::file_name;
 use std::ffi::OsString;
 
-pub const USAGE: &str = "\
-station: check and run catalogue scripts
-
-  station check [--json] FILE..            is each script accepted?
-  station run [--steps N] [--json] FILE    run it, for at most N steps (1,000)
-  station explain [--json] NUMBER          what a number means, and its mend
-  station tabs FILE                        print the text with one tab between
-                                           fields and every line ended
-  station help | --help
-  station --version
-
-FILE may be - for standard input. run also runs a text that check refuses with
-one of the numbers 10 to 14, after saying so. Colour only on a terminal.
-
-Exit status: 0 accepted or finished; 1 refused or stopped; 2 wrong use, or a
-file that can't be read (the other files are still done).
-";
-
-pub enum Command {
-    Check(Vec<OsString>),
-    Run(Vec<OsString>),
-    Tabs(Vec<OsString>),
-    Explain(u32),
-    Help,
-    Version,
+/// A command of `station`.
+pub struct CommandSpec {
+    pub name: &'static str,
+    /// Its operands, as the help shows them.
+    pub operands: &'static str,
+    pub about: &'static str,
+    /// How many operands it takes.
+    pub least: usize,
+    pub most: usize,
+    /// Left out of the help.
+    pub hidden: bool,
 }
 
-pub struct Options {
-    pub json: bool,
+/// An option: `--name`, or `--name VALUE`.
+pub struct OptionSpec {
+    pub name: &'static str,
+    pub short: Option<char>,
+    pub value: Option<&'static str>,
+    pub about: &'static str,
+    /// The commands that take it; none for all.
+    pub commands: &'static [&'static str],
+}
+
+const MANY: usize = usize::MAX;
+
+const fn command(
+    name: &'static str,
+    operands: &'static str,
+    about: &'static str,
+    least: usize,
+    most: usize,
+) -> CommandSpec {
+    CommandSpec {
+        name,
+        operands,
+        about,
+        least,
+        most,
+        hidden: false,
+    }
+}
+
+pub const COMMANDS: &[CommandSpec] = &[
+    command(
+        "check",
+        "FILE..",
+        "is each script accepted? a folder stands for its scripts",
+        1,
+        MANY,
+    ),
+    command("run", "FILE", "run a script", 1, 1),
+    command(
+        "trace",
+        "FILE",
+        "run a script, and show each step with what it changed",
+        1,
+        1,
+    ),
+    command(
+        "known",
+        "FILE[:LINE]",
+        "what the checker knows before and after a line",
+        1,
+        1,
+    ),
+    command(
+        "draw",
+        "FILE",
+        "the cards and their links after a run, as an SVG picture",
+        1,
+        1,
+    ),
+    command(
+        "fmt",
+        "FILE..",
+        "print a text with its blanks, line ends and signs mended",
+        1,
+        MANY,
+    ),
+    command(
+        "explain",
+        "NUMBER",
+        "what a number means, and what usually mends it",
+        1,
+        1,
+    ),
+    command(
+        "lsp",
+        "",
+        "serve an editor over standard input and output",
+        0,
+        0,
+    ),
+    command(
+        "completions",
+        "SHELL",
+        "completions for bash, zsh or fish",
+        1,
+        1,
+    ),
+    command("man", "", "this help as a man page", 0, 0),
+    command("help", "[COMMAND]", "this help, or that of a command", 0, 1),
+    CommandSpec {
+        hidden: true,
+        ..command("tabs", "FILE", "as fmt", 1, 1)
+    },
+];
+
+const fn option(
+    name: &'static str,
+    value: Option<&'static str>,
+    about: &'static str,
+    commands: &'static [&'static str],
+) -> OptionSpec {
+    OptionSpec {
+        name,
+        short: None,
+        value,
+        about,
+        commands,
+    }
+}
+
+pub const OPTIONS: &[OptionSpec] = &[
+    option(
+        "steps",
+        Some("N"),
+        "allow N steps in place of 1,000",
+        &["run", "trace", "draw"],
+    ),
+    option(
+        "cards",
+        None,
+        "show the cards at the end, or at a stop",
+        &["run", "trace"],
+    ),
+    option(
+        "short",
+        None,
+        "one line for each file: FILE:LINE:COLUMN: what is wrong",
+        &["check"],
+    ),
+    OptionSpec {
+        short: Some('q'),
+        ..option("quiet", None, "say nothing of accepted files", &["check"])
+    },
+    option(
+        "check",
+        None,
+        "change nothing; status 1 if a file has not its form",
+        &["fmt"],
+    ),
+    option(
+        "write",
+        None,
+        "write the files anew, each whole or not at all",
+        &["fmt"],
+    ),
+    option(
+        "json",
+        None,
+        "JSON, an object for each file",
+        &["check", "run", "trace", "known", "draw", "fmt", "explain"],
+    ),
+    option(
+        "color",
+        Some("WHEN"),
+        "auto, always or never; NO_COLOR is heeded",
+        &[],
+    ),
+    OptionSpec {
+        short: Some('h'),
+        ..option("help", None, "the help", &[])
+    },
+    OptionSpec {
+        short: Some('V'),
+        ..option("version", None, "the version", &[])
+    },
+];
+
+/// When to use colour.
+#[derive(Clone, Copy, Debug, PartialEq, Eq)]
+pub enum Colour {
+    Auto,
+    Always,
+    Never,
+}
+
+/// A command line that is understood.
+#[derive(Debug)]
+pub struct Parsed {
+    pub command: &'static str,
+    pub operands: Vec<OsString>,
     pub steps: u32,
+    pub colour: Colour,
+    flags: Vec<&'static str>,
 }
 
-/// The word after an option.
-fn steps(word: Option<OsString>) -> Result<u32, String> {
-    let word = word.ok_or("--steps needs a number")?;
-    let number = word.to_str().and_then(|word| word.parse().ok());
-    number.ok_or(format!("--steps takes 0 to {}, not {word:?}", u32::MAX))
+impl Parsed {
+    pub fn has(&self, flag: &str) -> bool {
+        self.flags.contains(&flag)
+    }
 }
 
-pub fn parse(words: impl Iterator<Item = OsString>) -> Result<(Command, Options), String> {
-    let mut options = Options {
-        json: false,
-        steps: host::limits::PROGRAM_STEPS as u32,
+/// An option as it was given: its row, and its value.
+struct Given {
+    spec: &'static OptionSpec,
+    value: Option<OsString>,
+}
+
+/// What stands after `--name=`, or the next word.
+fn value(
+    spec: &OptionSpec,
+    joined: Option<&str>,
+    words: &mut impl Iterator<Item = OsString>,
+) -> Result<Option<OsString>, String> {
+    let Some(letter) = spec.value else {
+        return match joined {
+            Some(_) => Err(format!("--{} takes no value", spec.name)),
+            None => Ok(None),
+        };
     };
-    let mut words = words;
-    let mut names = Vec::new();
-    let (mut allowed, mut only_names, mut help) = (None, false, false);
-    while let Some(word) = words.next() {
-        let text = word.to_str().filter(|_| !only_names).unwrap_or("");
-        match text {
-            "--" => only_names = true,
-            "--json" => options.json = true,
-            "--help" | "-h" => help = true,
-            "--version" | "-V" if names.is_empty() => return Ok((Command::Version, options)),
-            "--steps" => allowed = Some(steps(words.next())?),
-            _ if text.starts_with("--steps=") => allowed = Some(steps(Some(text[8..].into()))?),
-            _ if text.starts_with('-') && text != "-" => return Err(format!("no option {text}")),
-            _ => names.push(word),
+    let value = joined.map(OsString::from).or_else(|| words.next());
+    let missing = || format!("--{} needs {letter}", spec.name);
+    value.map(Some).ok_or_else(missing)
+}
+
+fn option_named(word: &str) -> Result<&'static OptionSpec, String> {
+    let found = OPTIONS.iter().find(|spec| match word.strip_prefix("--") {
+        Some(name) => spec.name == name,
+        None => spec.short.is_some_and(|short| word == format!("-{short}")),
+    });
+    found.ok_or_else(|| {
+        let name = word.trim_start_matches('-');
+        let near = did_you_mean(name, OPTIONS.iter().map(|spec| spec.name));
+        let near = near.replace("`", "`--").replacen("`--?", "`?", 1);
+        format!("no option {}{near}", file_name(word.as_ref()))
+    })
+}
+
+fn command_named(word: &OsString) -> Result<&'static CommandSpec, String> {
+    let name = word.to_str().unwrap_or("");
+    let found = COMMANDS.iter().find(|spec| spec.name == name);
+    found.ok_or_else(|| {
+        let shown = COMMANDS.iter().filter(|spec| !spec.hidden);
+        let near = did_you_mean(name, shown.map(|spec| spec.name));
+        format!("no command {}{near}", file_name(word))
+    })
+}
+
+fn parsed_values(given: &[Given]) -> Result<(u32, Colour), String> {
+    let mut steps = host::limits::PROGRAM_STEPS as u32;
+    let mut colour = Colour::Auto;
+    for Given { spec, value } in given {
+        let value = value.as_deref().unwrap_or_default();
+        let word = value.to_str().unwrap_or("");
+        match spec.name {
+            "steps" => {
+                let wrong = || format!("--steps takes 0 to {}, not {value:?}", u32::MAX);
+                let digits = word.bytes().all(|byte| byte.is_ascii_digit());
+                steps = word.parse().ok().filter(|_| digits).ok_or_else(wrong)?;
+            }
+            "color" => {
+                colour = match word {
+                    "auto" => Colour::Auto,
+                    "always" => Colour::Always,
+                    "never" => Colour::Never,
+                    _ => {
+                        return Err(format!(
+                            "--color takes auto, always or never, not {value:?}"
+                        ))
+                    }
+                }
+            }
+            _ => {}
         }
     }
-    if help {
-        return Ok((Command::Help, options));
+    Ok((steps, colour))
+}
+
+fn split(words: impl Iterator<Item = OsString>) -> Result<(Vec<OsString>, Vec<Given>), String> {
+    let mut words = words;
+    let (mut names, mut given) = (Vec::new(), Vec::new());
+    let mut only_names = false;
+    while let Some(word) = words.next() {
+        let text = word.to_str().filter(|_| !only_names).unwrap_or("");
+        if text == "--" {
+            only_names = true;
+        } else if text.len() > 1 && text.starts_with('-') {
+            let (name, joined) = match text.split_once('=') {
+                Some((name, value)) => (name, Some(value)),
+                None => (text, None),
+            };
+            let spec = option_named(name)?;
+            let value = value(spec, joined, &mut words)?;
+            given.push(Given { spec, value });
+        } else {
+            names.push(word);
+        }
+    }
+    Ok((names, given))
+}
+
+/// Reads the command line; an error is one line.
+pub fn parse(words: impl Iterator<Item = OsString>) -> Result<Parsed, String> {
+    let (mut names, given) = split(words)?;
+    let (steps, colour) = parsed_values(&given)?;
+    let flags: Vec<&'static str> = given.iter().map(|given| given.spec.name).collect();
+    let parsed = |command, operands| Parsed {
+        command,
+        operands,
+        steps,
+        colour,
+        flags: flags.clone(),
+    };
+    if flags.contains(&"version") {
+        return Ok(parsed("version", Vec::new()));
+    }
+    if flags.contains(&"help") {
+        names.truncate(1);
+        let known = names.iter().all(|name| command_named(name).is_ok());
+        return Ok(parsed("help", if known { names } else { Vec::new() }));
     }
     if names.is_empty() {
         return Err("no command".to_string());
     }
-    let command = names.remove(0);
-    let command = match command.to_str() {
-        Some("check") if !names.is_empty() => Command::Check(names),
-        Some("check") => return Err("check needs a file, or - for standard input".to_string()),
-        Some("run") if names.len() == 1 => Command::Run(names),
-        Some("run") => return Err("run needs one file, or - for standard input".to_string()),
-        Some("tabs") if names.len() == 1 => Command::Tabs(names),
-        Some("tabs") => return Err("tabs needs one file, or - for standard input".to_string()),
-        Some("explain") => match (
-            names.len(),
-            names.first().and_then(|name| name.to_str()?.parse().ok()),
-        ) {
-            (1, Some(number)) => Command::Explain(number),
-            _ => return Err("explain needs one number".to_string()),
-        },
-        Some("help") => Command::Help,
-        _ => return Err(format!("no command {}", crate::show::file_name(&command))),
-    };
-    if let Some(allowed) = allowed {
-        if !matches!(command, Command::Run(_)) {
-            return Err("--steps goes with run".to_string());
+    let command = command_named(&names.remove(0))?;
+    for Given { spec, .. } in &given {
+        if !spec.commands.is_empty() && !spec.commands.contains(&command.name) {
+            let (name, with) = (spec.name, spec.commands.join(", "));
+            return Err(format!(
+                "--{name} goes with {with}, not with {}",
+                command.name
+            ));
         }
-        options.steps = allowed;
     }
-    Ok((command, options))
+    let count = names.len();
+    if count < command.least || count > command.most {
+        return Err(match (command.operands, command.most) {
+            ("", _) => format!("{} takes no operand", command.name),
+            (operands, _) => format!("{} takes {operands}, and {count} were given", command.name),
+        });
+    }
+    if flags.contains(&"check") && flags.contains(&"write") {
+        return Err("--check and --write do not go together".to_string());
+    }
+    Ok(parsed(command.name, names))
+}
+
+#[cfg(test)]
+mod tests {
+    use super::*;
+
+    fn tried(line: &str) -> Result<Parsed, String> {
+        parse(line.split_whitespace().map(OsString::from))
+    }
+
+    #[test]
+    fn understood() {
+        let run = tried("run --steps=7 a --cards --color never").unwrap();
+        assert_eq!(
+            (run.command, run.steps, run.colour),
+            ("run", 7, Colour::Never)
+        );
+        assert!(run.has("cards") && !run.has("json"));
+        assert_eq!(tried("check -- --json").unwrap().operands, ["--json"]);
+        assert_eq!(tried("check - -q").unwrap().operands, ["-"]);
+        assert_eq!(tried("run --help").unwrap().command, "help");
+        assert_eq!(tried("-V").unwrap().command, "version");
+    }
+
+    #[test]
+    fn not_understood() {
+        for (line, said) in [
+            ("", "no command"),
+            ("chek a", "no command chek; did you mean `check`?"),
+            ("check --jsn a", "no option --jsn; did you mean `--json`?"),
+            ("run", "run takes FILE, and 0 were given"),
+            ("run a b", "run takes FILE, and 2 were given"),
+            ("run --steps", "--steps needs N"),
+            (
+                "run --steps +5 a",
+                "--steps takes 0 to 4294967295, not \"+5\"",
+            ),
+            (
+                "check --steps 5 a",
+                "--steps goes with run, trace, draw, not with check",
+            ),
+            ("check --json=yes a", "--json takes no value"),
+            (
+                "check --color=red a",
+                "--color takes auto, always or never, not \"red\"",
+            ),
+            ("lsp x", "lsp takes no operand"),
+            (
+                "fmt --check --write a",
+                "--check and --write do not go together",
+            ),
+        ] {
+            assert_eq!(tried(line).unwrap_err(), said, "{line}");
+        }
+    }
+
+    /// Every option is taken by a command that there is, and names are unlike.
+    #[test]
+    fn the_table() {
+        let known = |name: &&str| COMMANDS.iter().any(|spec| spec.name == *name);
+        assert!(OPTIONS
+            .iter()
+            .all(|spec| spec.commands.iter().all(|name| known(name))));
+        for (at, spec) in OPTIONS.iter().enumerate() {
+            assert!(OPTIONS[..at].iter().all(|other| other.name != spec.name));
+        }
+    }
 }

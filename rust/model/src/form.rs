@@ -149,6 +149,14 @@ pub fn shape_of(word: &[u8]) -> Option<&'static Shape> {
     SHAPES.iter().find(|shape| shape.word.as_bytes() == word)
 }
 
+/// The line, or one of its kind where only its first word has its form.
+pub fn line_or_kind(bytes: &[u8]) -> Option<Line<'_>> {
+    crate::text::line(bytes).or_else(|| {
+        let word = bytes.split(|&byte| byte == b'\t').next()?;
+        crate::text::line(shape_of(word)?.sample.as_bytes())
+    })
+}
+
 /// The words of the lines that may stand next.
 pub fn next_words(reader: &Reader) -> Vec<&'static str> {
     let fits = |shape: &&Shape| {

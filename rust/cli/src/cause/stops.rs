@@ -1,0 +1,184 @@
+//! Why a run stopped, and the calls that are open then.
+
+use super::Cause;
+use crate::script::{field_range, line, quoted, shown, Names, Script};
+use model::machine::{Machine, Step, Values};
+use model::names::{Action, Atom, Expr, Path, Type};
+use model::number;
+
+/// Longer runs are not done again to say more about them.
+const AGAIN: u32 = 5_000_000;
+
+/// The machine after so many steps, at the step that stopped.
+pub fn machine_at<'p, 'a>(script: &'p Script<'a>, steps: u32) -> Machine<'p, 'a> {
+    let mut machine = Machine::new(&script.program);
+    while machine.steps < steps && machine.step() == Ok(Step::On) {}
+    machine
+}
+
+/// A value as messages show it.
+pub fn value_shown(kind: Option<Type>, value: i32) -> String {
+    match (kind, value) {
+        (Some(Type::Int) | None, value) => value.to_string(),
+        (_, 0) => "null".to_string(),
+        (_, object) => format!("object {object}"),
+    }
+}
+
+/// The formula that a stopped step tested, and the names and values it read.
+struct Tested<'p, 'a> {
+    atoms: &'p [Atom<'a>],
+    names: Names<'p, 'a>,
+    values: Values,
+    of: String,
+}
+
+fn tested<'p, 'a>(script: &'p Script<'a>, machine: &Machine<'p, 'a>) -> Option<Tested<'p, 'a>> {
+    let frame = machine.frame();
+    let block = &script.program.blocks[frame.block];
+    let own = |atoms, of: String| Tested {
+        atoms,
+        names: script.names(frame.block),
+        values: frame.values,
+        of,
+    };
+    Some(match &machine.statement().action {
+        Action::Assert(formula) | Action::Release(formula) | Action::Join(formula) => {
+            own(formula, String::new())
+        }
+        Action::End => {
+            let (_, line) = script.contract_lines(frame.block);
+            own(&block.ensures, format!(" of `ensures` (line {line})"))
+        }
+        Action::Call(call) => {
+            let (line, _) = script.contract_lines(call.method);
+            Tested {
+                atoms: &script.program.blocks[call.method].requires,
+                names: script.names(call.method),
+                values: model::machine::callee_values(&frame.values, *call),
+                of: format!(" of `requires` (line {line})"),
+            }
+        }
+        _ => return None,
+    })
+}
+
+/// The value of one side, with the name of what has it.
+fn side(machine: &Machine, tested: &Tested, expr: Expr) -> Option<String> {
+    let name = tested.names.expr(expr);
+    match expr {
+        Expr::Number(_) | Expr::Null => None,
+        Expr::Var(var) => {
+            let value = value_shown(tested.names.kind(var), tested.values[var]);
+            Some(format!("`{name}` is {value}"))
+        }
+        Expr::Path(path) => {
+            let location = model::machine::location(&machine.objects, &tested.values, path)?;
+            let value = value_shown(
+                path_kind(machine, &tested.values, path),
+                machine.heap[location],
+            );
+            Some(format!("`{name}` is {value}"))
+        }
+    }
+}
+
+fn path_kind<'a>(machine: &Machine<'_, 'a>, values: &Values, path: Path) -> Option<Type<'a>> {
+    let object = (values[path.var] as usize).checked_sub(1)?;
+    let class = &machine.program.classes[machine.objects.get(object)?.class];
+    class.fields.get(path.slot).map(|field| field.kind)
+}
+
+/// Why the step after so many steps stopped with the number; none if the model
+/// does not stop so.
+pub fn stop_cause(text: &[u8], steps: u32, stop: u32) -> Option<Cause> {
+    let script = Script::of(text).filter(|_| steps <= AGAIN)?;
+    let mut machine = machine_at(&script, steps);
+    if machine.steps != steps || machine.step() != Err(stop) {
+        return None;
+    }
+    let statement = machine.statement();
+    let bytes = line(text, statement.line)?;
+    let halt = machine.halt?;
+    let names = script.names(machine.frame().block);
+    let tested = tested(&script, &machine);
+    let atom = halt.atom.zip(tested.as_ref());
+    let atom = atom.and_then(|(at, tested)| Some((at, tested, *tested.atoms.get(at)?)));
+    let own = !matches!(statement.action, Action::Call(_) | Action::End);
+    let mark = match atom {
+        Some((at, ..)) if own => field_range(bytes, 1 + 3 * at..4 + 3 * at),
+        _ => None,
+    };
+    let said = match (stop, atom) {
+        (number::FORMULA_FALSE, Some((_, tested, atom))) => {
+            let sides = match atom {
+                Atom::Eq(left, right) | Atom::Ne(left, right) => [left, right],
+                Atom::Acc(_) => return None,
+            };
+            let sides = sides
+                .into_iter()
+                .filter_map(|expr| side(&machine, tested, expr));
+            let sides: Vec<String> = sides.collect();
+            format!(
+                "`{}`{} is false: {}",
+                tested.names.atom(atom),
+                tested.of,
+                sides.join(", ")
+            )
+        }
+        (number::PERMISSION_MISSING, Some((_, tested, atom))) => format!(
+            "`{}`{}: {} does not hold the field, or an earlier atom took it",
+            tested.names.atom(atom),
+            tested.of,
+            names.title()
+        ),
+        (number::NULL_FOLLOWED, Some((_, tested, atom))) => {
+            let of = halt.path.map(|path| tested.names.var(path.var));
+            let of = of.unwrap_or_default();
+            format!("`{}`{}: `{of}` is null", tested.names.atom(atom), tested.of)
+        }
+        (number::PERMISSION_MISSING | number::NULL_FOLLOWED, None) => {
+            followed(&names, &statement.action, halt.path, stop)?
+        }
+        _ => return None,
+    };
+    Some(Cause::new(said).mark(mark))
+}
+
+fn followed(names: &Names, action: &Action, path: Option<Path>, stop: u32) -> Option<String> {
+    let missing = stop == number::PERMISSION_MISSING;
+    Some(match (path, action) {
+        (Some(path), _) if missing => format!(
+            "{} does not hold `{}`",
+            names.title(),
+            names.expr(Expr::Path(path))
+        ),
+        (Some(path), _) => {
+            let followed = names.expr(Expr::Path(path));
+            format!(
+                "`{followed}` follows `{}`, which is null",
+                names.var(path.var)
+            )
+        }
+        (None, Action::Call(call)) => format!("the receiver `{}` is null", names.var(call.y)),
+        _ => return None,
+    })
+}
+
+/// The calls that are open after so many steps: a line for each frame, main's
+/// first. None if only main is open.
+pub fn open_calls(text: &[u8], steps: u32) -> Option<Vec<String>> {
+    let script = Script::of(text).filter(|_| steps <= AGAIN)?;
+    let machine = machine_at(&script, steps);
+    let waiting = machine.frames.split_last()?.1;
+    let rows = waiting.iter().map(|frame| {
+        let at = script.program.statements[frame.next].line;
+        let title = match script.program.blocks[frame.block].header {
+            Some(header) => shown(header.name),
+            None => "main".to_string(),
+        };
+        format!("{title}, line {at}: `{}`", quoted(text, at))
+    });
+    let rows: Vec<String> = rows.collect();
+    (!rows.is_empty()).then_some(rows)
+}

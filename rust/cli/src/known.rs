@@ -1,0 +1,181 @@
+//! `station known`: what the checker knows before and after a line.
+
+use crate::json::Json;
+use crate::script::{quoted, Script};
+use crate::show::{file_name, rows, wrapped, Paint};
+use crate::{file_and_line, Session, DONE, FAILED, REFUSED};
+use model::watch::Record;
+use std::fmt::Write;
+
+/// What is known around one statement line.
+#[derive(Clone, Debug, Default, PartialEq, Eq)]
+pub struct Known {
+    pub line: u32,
+    pub before: Option<Vec<String>>,
+    pub after: Option<Vec<String>>,
+    pub added: Vec<String>,
+    pub dropped: Vec<String>,
+}
+
+/// The items of one list that are not in the other; of two alike each counts.
+fn without(items: &[String], other: &[String]) -> Vec<String> {
+    let mut other = other.to_vec();
+    let mut left = Vec::new();
+    for item in items {
+        match other.iter().position(|one| one == item) {
+            Some(at) => {
+                other.swap_remove(at);
+            }
+            None => left.push(item.clone()),
+        }
+    }
+    left
+}
+
+/// What is known around each statement line, in order; lines that the check
+/// did not come to know nothing.
+pub fn all(script: &Script) -> Vec<Known> {
+    let record = Record::of(&script.program);
+    let statements = script.program.statements.iter().zip(&record.seen);
+    let rows = statements.enumerate().map(|(place, (statement, seen))| {
+        let names = script.names_at(place);
+        let before = seen.before.as_ref().map(|state| names.state(state));
+        let after = seen.after.as_ref().map(|state| names.state(state));
+        let (added, dropped) = match (&before, &after) {
+            (Some(before), Some(after)) => (without(after, before), without(before, after)),
+            _ => Default::default(),
+        };
+        Known {
+            line: statement.line,
+            before,
+            after,
+            added,
+            dropped,
+        }
+    });
+    rows.collect()
+}
+
+/// The statement line at a line, or the next one in the text.
+pub fn at(script: &Script, line: u32) -> Option<Known> {
+    all(script).into_iter().find(|known| known.line >= line)
+}
+
+fn list(out: &mut String, heading: &str, atoms: Option<&Vec<String>>) {
+    match atoms {
+        None => wrapped(out, heading, "the check did not come here"),
+        Some(atoms) if atoms.is_empty() => wrapped(out, heading, "nothing"),
+        Some(atoms) => rows(out, heading, &joined(atoms)),
+    }
+}
+
+/// Each atom but the last with a comma.
+fn joined(atoms: &[String]) -> Vec<String> {
+    let last = atoms.len().saturating_sub(1);
+    let comma = |at| if at < last { "," } else { "" };
+    let atoms = atoms.iter().enumerate();
+    atoms
+        .map(|(at, atom)| format!("{atom}{}", comma(at)))
+        .collect()
+}
+
+/// One line in full.
+pub fn full(script: &Script, known: &Known) -> String {
+    let mut out = String::new();
+    list(&mut out, "  before: ", known.before.as_ref());
+    if !known.dropped.is_empty() {
+        list(&mut out, "  drops:  ", Some(&known.dropped));
+    }
+    if !known.added.is_empty() {
+        list(&mut out, "  adds:   ", Some(&known.added));
+    }
+    let ends = script.statement_at(known.line).is_some_and(|place| {
+        matches!(
+            script.program.statements[place].action,
+            model::names::Action::End
+        )
+    });
+    if !ends {
+        list(&mut out, "  after:  ", known.after.as_ref());
+    }
+    out
+}
+
+/// Every line with what it drops and adds.
+fn changes(script: &Script, all: &[Known], paint: Paint) -> String {
+    let mut out = String::new();
+    for known in all {
+        let line = quoted(script.text, known.line);
+        let number = paint.side(&format!("{:>4}", known.line));
+        let _ = writeln!(out, "{number} {line}");
+        if known.before.is_none() {
+            wrapped(&mut out, "       ", "the check did not come here");
+        }
+        for (sign, atoms) in [("-", &known.dropped), ("+", &known.added)] {
+            if !atoms.is_empty() {
+                rows(&mut out, &format!("     {sign} "), &joined(atoms));
+            }
+        }
+    }
+    out
+}
+
+fn json_of(script: &Script, known: &Known) -> Json {
+    Json::object()
+        .with("line", known.line)
+        .with("text", quoted(script.text, known.line))
+        .with("before", known.before.clone())
+        .with("after", known.after.clone())
+        .with("added", known.added.clone())
+        .with("dropped", known.dropped.clone())
+}
+
+/// The command.
+pub fn known(session: &mut Session) -> u8 {
+    let Some(word) = session.words.operands.first().cloned() else {
+        return FAILED;
+    };
+    let (name, line) = file_and_line(&word);
+    let Some(text) = session.text(&name) else {
+        return FAILED;
+    };
+    let shown = file_name(&name);
+    let report = crate::report::Report::of(&shown, &text, None);
+    let Some(script) = Script::of(&text) else {
+        let printed = match session.json() {
+            true => format!("{}\n", crate::objects::report(&report)),
+            false => crate::show::report(&report, session.paint),
+        };
+        session.print(&printed);
+        return REFUSED;
+    };
+    let found = match line {
+        Some(line) => at(&script, line).into_iter().collect(),
+        None => all(&script),
+    };
+    if session.json() {
+        let lines: Vec<Json> = found.iter().map(|known| json_of(&script, known)).collect();
+        let object = Json::object()
+            .with("file", shown.as_str())
+            .with("call", "known")
+            .with("lines", lines);
+        session.print_json(&object);
+    } else if let (Some(_), [known]) = (line, &found[..]) {
+        let head = format!("{shown}:{}: {}\n", known.line, quoted(&text, known.line));
+        session.print(&(head + &full(&script, known)));
+    } else {
+        session.print(&changes(&script, &found, session.paint));
+    }
+    if found.is_empty() {
+        crate::complain(&format!(
+            "{shown} has no statement at line {} or after it",
+            line.unwrap_or(0)
+        ));
+        return FAILED;
+    }
+    if report.good() {
+        DONE
+    } else {
+        REFUSED
+    }
+}

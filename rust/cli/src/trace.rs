@@ -1,0 +1,196 @@
+//! `station trace`: each step of a run with its line and what it changed.
+
+use crate::cards;
+use crate::cause::value_shown;
+use crate::json::Json;
+use crate::report::Report;
+use crate::script::{quoted, shown, Script};
+use crate::show::file_name;
+use crate::{Session, DONE, REFUSED};
+use model::machine::{Machine, Step};
+use std::ffi::OsStr;
+use std::io::{IsTerminal, Write};
+use std::sync::mpsc;
+use std::time::{Duration, Instant};
+
+/// One step, or the line at which the run stopped.
+struct Row {
+    step: u32,
+    line: u32,
+    depth: usize,
+    text: String,
+    changes: Vec<String>,
+}
+
+/// What a step did: values of the block it was in, fields, new cards, who
+/// holds what.
+fn changes(script: &Script, before: &Before, machine: &Machine) -> Vec<String> {
+    let mut said = Vec::new();
+    for at in before.objects..machine.objects.len() {
+        let class = &script.program.classes[machine.objects[at].class];
+        said.push(format!(
+            "object {} is made, a {}",
+            at + 1,
+            shown(class.name)
+        ));
+    }
+    for (at, object) in machine.objects.iter().enumerate().take(before.objects) {
+        let class = &script.program.classes[object.class];
+        for (slot, field) in class.fields.iter().enumerate() {
+            let (old, new) = (
+                before.heap[object.first + slot],
+                machine.heap[object.first + slot],
+            );
+            if old != new {
+                let value = value_shown(Some(field.kind), new);
+                said.push(format!("object {}.{} = {value}", at + 1, shown(field.name)));
+            }
+        }
+    }
+    let depth = machine.frames.len();
+    let frame = machine.frame();
+    let names = script.names(frame.block);
+    let values = match depth.cmp(&before.depth) {
+        std::cmp::Ordering::Equal => Some(before.values),
+        std::cmp::Ordering::Less => before.caller,
+        std::cmp::Ordering::Greater => None,
+    };
+    for var in 0..frame.values.len() {
+        let Some(kind) = names.kind(var) else {
+            continue;
+        };
+        let new = frame.values[var];
+        let entered = values.is_none() && new != 0;
+        if entered || values.is_some_and(|values| values[var] != new) {
+            said.push(format!(
+                "{} = {}",
+                names.var(var),
+                value_shown(Some(kind), new)
+            ));
+        }
+    }
+    said
+}
+
+/// What is compared after a step.
+struct Before {
+    objects: usize,
+    heap: Vec<i32>,
+    depth: usize,
+    values: model::machine::Values,
+    caller: Option<model::machine::Values>,
+}
+
+impl Before {
+    fn of(machine: &Machine) -> Before {
+        let depth = machine.frames.len();
+        Before {
+            objects: machine.objects.len(),
+            heap: machine.heap.clone(),
+            depth,
+            values: machine.frame().values,
+            caller: depth.checked_sub(2).map(|at| machine.frames[at].values),
+        }
+    }
+}
+
+/// One step of the machine; none at the end.
+fn row(script: &Script, machine: &mut Machine) -> Option<Row> {
+    let before = Before::of(machine);
+    let line = machine.statement().line;
+    let done = machine.step();
+    done.ok().map(|step| Row {
+        step: machine.steps,
+        line,
+        depth: before.depth - 1,
+        text: quoted(script.text, line),
+        changes: match step {
+            Step::On => changes(script, &before, machine),
+            Step::Done => Vec::new(),
+        },
+    })
+}
+
+fn shown_row(row: &Row) -> String {
+    let text = format!("{}{}", "  ".repeat(row.depth), row.text);
+    let changes = row.changes.join(", ");
+    let printed = format!("{:>6} {:>4}  {text:<32} {changes}", row.step, row.line);
+    format!("{}\n", printed.trim_end())
+}
+
+fn json_row(row: &Row) -> Json {
+    Json::object()
+        .with("step", row.step)
+        .with("line", row.line)
+        .with("depth", row.depth)
+        .with("text", row.text.as_str())
+        .with("changes", row.changes.clone())
+}
+
+/// The command, for one file.
+pub fn trace(session: &mut Session, name: &OsStr, text: &[u8]) -> u8 {
+    let shown_name = file_name(name);
+    let allowed = session.words.steps;
+    let report = Report::of(&shown_name, text, Some(allowed));
+    let mut rows = Vec::new();
+    if let (Some(script), Some(ran)) = (Script::of(text), report.ran()) {
+        let mut machine = Machine::new(&script.program);
+        while machine.steps < ran.outcome.steps() {
+            let Some(row) = row(&script, &mut machine) else {
+                break;
+            };
+            match session.json() {
+                true => rows.push(json_row(&row)),
+                false => session.print(&shown_row(&row)),
+            }
+        }
+    }
+    let cards = report.ran().filter(|_| session.words.has("cards"));
+    let cards = cards.and_then(|ran| cards::after(text, ran.outcome.steps()));
+    if session.json() {
+        let object = crate::objects::report(&report).with("trace", Json::List(rows));
+        session.print_json(&object.with_some("cards", cards.map(|cards| cards.json())));
+    } else {
+        session.print(&crate::show::report(&report, session.paint));
+        session.print(&cards.map_or(String::new(), |cards| cards.table()));
+    }
+    if report.good() {
+        DONE
+    } else {
+        REFUSED
+    }
+}
+
+/// A sign of life on a terminal while a long run is done: dropped, it is gone.
+pub struct Progress(Option<(mpsc::Sender<()>, std::thread::JoinHandle<()>)>);
+
+impl Progress {
+    /// Shorter runs than this many steps show none.
+    const LONG: u32 = 1_000_000;
+
+    pub fn start(steps: u32) -> Progress {
+        if steps < Progress::LONG || !std::io::stderr().is_terminal() {
+            return Progress(None);
+        }
+        let (end, ended) = mpsc::channel();
+        let begun = Instant::now();
+        let shows = move || {
+            let wait = Duration::from_millis(500);
+            while ended.recv_timeout(wait) == Err(mpsc::RecvTimeoutError::Timeout) {
+                let seconds = begun.elapsed().as_secs();
+                let _ = write!(std::io::stderr(), "\rrunning, {seconds} s");
+            }
+            let _ = write!(std::io::stderr(), "\r\x1b[K");
+        };
+        Progress(Some((end, std::thread::spawn(shows))))
+    }
+}
+
+impl Drop for Progress {
+    fn drop(&mut self) {
+        if let Some((end, thread)) = self.0.take() {
+            drop(end);
+            let _ = thread.join();
+        }
+    }
+}
