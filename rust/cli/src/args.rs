@@ -1,189 +1,9 @@
-//! The words of the command line, by one table of commands and options: the
-//! parser, the help, the man page and the shells' completions go by it.
+//! The words of the command line, by the table of commands and options.
 
 use crate::nearest::did_you_mean;
 use crate::show::file_name;
+use crate::table::{CommandSpec, OptionSpec, COMMANDS, OPTIONS};
 use std::ffi::OsString;
-
-/// A command of `station`.
-pub struct CommandSpec {
-    pub name: &'static str,
-    /// Its operands, as the help shows them.
-    pub operands: &'static str,
-    pub about: &'static str,
-    /// How many operands it takes.
-    pub least: usize,
-    pub most: usize,
-    /// Left out of the help.
-    pub hidden: bool,
-}
-
-/// An option: `--name`, or `--name VALUE`.
-pub struct OptionSpec {
-    pub name: &'static str,
-    pub short: Option<char>,
-    pub value: Option<&'static str>,
-    pub about: &'static str,
-    /// The commands that take it; none for all.
-    pub commands: &'static [&'static str],
-}
-
-const MANY: usize = usize::MAX;
-
-const fn command(
-    name: &'static str,
-    operands: &'static str,
-    about: &'static str,
-    least: usize,
-    most: usize,
-) -> CommandSpec {
-    CommandSpec {
-        name,
-        operands,
-        about,
-        least,
-        most,
-        hidden: false,
-    }
-}
-
-pub const COMMANDS: &[CommandSpec] = &[
-    command(
-        "check",
-        "FILE..",
-        "is each script accepted? a folder stands for its scripts",
-        1,
-        MANY,
-    ),
-    command("run", "FILE", "run a script", 1, 1),
-    command(
-        "trace",
-        "FILE",
-        "run a script, and show each step with what it changed",
-        1,
-        1,
-    ),
-    command(
-        "known",
-        "FILE[:LINE]",
-        "what the checker knows before and after a line",
-        1,
-        1,
-    ),
-    command(
-        "draw",
-        "FILE",
-        "the cards and their links after a run, as an SVG picture",
-        1,
-        1,
-    ),
-    command(
-        "fmt",
-        "FILE..",
-        "print a text with its blanks, line ends and signs mended",
-        1,
-        MANY,
-    ),
-    command(
-        "explain",
-        "NUMBER",
-        "what a number means, and what usually mends it",
-        1,
-        1,
-    ),
-    command(
-        "lsp",
-        "",
-        "serve an editor over standard input and output",
-        0,
-        0,
-    ),
-    command(
-        "completions",
-        "SHELL",
-        "completions for bash, zsh or fish",
-        1,
-        1,
-    ),
-    command("man", "", "this help as a man page", 0, 0),
-    command("help", "[COMMAND]", "this help, or that of a command", 0, 1),
-    CommandSpec {
-        hidden: true,
-        ..command("tabs", "FILE", "as fmt", 1, 1)
-    },
-];
-
-const fn option(
-    name: &'static str,
-    value: Option<&'static str>,
-    about: &'static str,
-    commands: &'static [&'static str],
-) -> OptionSpec {
-    OptionSpec {
-        name,
-        short: None,
-        value,
-        about,
-        commands,
-    }
-}
-
-pub const OPTIONS: &[OptionSpec] = &[
-    option(
-        "steps",
-        Some("N"),
-        "allow N steps in place of 1,000",
-        &["run", "trace", "draw"],
-    ),
-    option(
-        "cards",
-        None,
-        "show the cards at the end, or at a stop",
-        &["run", "trace"],
-    ),
-    option(
-        "short",
-        None,
-        "one line for each file: FILE:LINE:COLUMN: what is wrong",
-        &["check"],
-    ),
-    OptionSpec {
-        short: Some('q'),
-        ..option("quiet", None, "say nothing of accepted files", &["check"])
-    },
-    option(
-        "check",
-        None,
-        "change nothing; status 1 if a file has not its form",
-        &["fmt"],
-    ),
-    option(
-        "write",
-        None,
-        "write the files anew, each whole or not at all",
-        &["fmt"],
-    ),
-    option(
-        "json",
-        None,
-        "JSON, an object for each file",
-        &["check", "run", "trace", "known", "draw", "fmt", "explain"],
-    ),
-    option(
-        "color",
-        Some("WHEN"),
-        "auto, always or never; NO_COLOR is heeded",
-        &[],
-    ),
-    OptionSpec {
-        short: Some('h'),
-        ..option("help", None, "the help", &[])
-    },
-    OptionSpec {
-        short: Some('V'),
-        ..option("version", None, "the version", &[])
-    },
-];
 
 /// When to use colour.
 #[derive(Clone, Copy, Debug, PartialEq, Eq)]
@@ -308,6 +128,26 @@ fn split(words: impl Iterator<Item = OsString>) -> Result<(Vec<OsString>, Vec<Gi
     Ok((names, given))
 }
 
+/// Are the options those of the command, and its operands as many as it takes?
+fn fits(command: &CommandSpec, given: &[Given], count: usize) -> Result<(), String> {
+    for Given { spec, .. } in given {
+        if !spec.commands.is_empty() && !spec.commands.contains(&command.name) {
+            let (name, with) = (spec.name, spec.commands.join(", "));
+            return Err(format!(
+                "--{name} goes with {with}, not with {}",
+                command.name
+            ));
+        }
+    }
+    if (command.least..=command.most).contains(&count) {
+        return Ok(());
+    }
+    Err(match command.operands {
+        "" => format!("{} takes no operand", command.name),
+        operands => format!("{} takes {operands}, and {count} were given", command.name),
+    })
+}
+
 /// Reads the command line; an error is one line.
 pub fn parse(words: impl Iterator<Item = OsString>) -> Result<Parsed, String> {
     let (mut names, given) = split(words)?;
@@ -332,22 +172,7 @@ pub fn parse(words: impl Iterator<Item = OsString>) -> Result<Parsed, String> {
         return Err("no command".to_string());
     }
     let command = command_named(&names.remove(0))?;
-    for Given { spec, .. } in &given {
-        if !spec.commands.is_empty() && !spec.commands.contains(&command.name) {
-            let (name, with) = (spec.name, spec.commands.join(", "));
-            return Err(format!(
-                "--{name} goes with {with}, not with {}",
-                command.name
-            ));
-        }
-    }
-    let count = names.len();
-    if count < command.least || count > command.most {
-        return Err(match (command.operands, command.most) {
-            ("", _) => format!("{} takes no operand", command.name),
-            (operands, _) => format!("{} takes {operands}, and {count} were given", command.name),
-        });
-    }
+    fits(command, &given, names.len())?;
     if flags.contains(&"check") && flags.contains(&"write") {
         return Err("--check and --write do not go together".to_string());
     }
@@ -412,9 +237,7 @@ mod tests {
     #[test]
     fn the_table() {
         let known = |name: &&str| COMMANDS.iter().any(|spec| spec.name == *name);
-        assert!(OPTIONS
-            .iter()
-            .all(|spec| spec.commands.iter().all(|name| known(name))));
+        assert!(OPTIONS.iter().all(|spec| spec.commands.iter().all(&known)));
         for (at, spec) in OPTIONS.iter().enumerate() {
             assert!(OPTIONS[..at].iter().all(|other| other.name != spec.name));
         }

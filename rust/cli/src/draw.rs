@@ -2,7 +2,7 @@
 //! Cards stand in columns by how far they are from main's variables; links are
 //! arrows; a field's colour says which open block holds it.
 
-use crate::cards::{self, Card, Cards};
+use crate::cards::{self, Card, Cards, Field};
 use crate::report::Report;
 use crate::show::file_name;
 use crate::{Session, DONE, REFUSED};
@@ -62,8 +62,8 @@ fn labels(cards: &Cards) -> HashMap<usize, Vec<String>> {
     labels
 }
 
-/// How far each card is from a variable, by links; cards that nothing leads to
-/// come first in a column of their own at the end.
+/// How far each card is from a start, by links. Starts are cards with a name to
+/// which no link leads, then other cards with a name, then what is left.
 fn distances(cards: &Cards, labels: &HashMap<usize, Vec<String>>) -> Vec<usize> {
     let count = cards.cards.len();
     let mut far = vec![usize::MAX; count];
@@ -155,25 +155,24 @@ fn draw_card(
     );
     text(out, x, y - 6, "name", names);
     for (slot, field) in card.fields.iter().enumerate() {
-        let top = y + ROW * (slot as i32 + 1);
-        let fill = colour(field.holder);
-        let _ = writeln!(
-            out,
-            r#"<rect x="{x}" y="{top}" width="6" height="{ROW}" fill="{fill}"/>"#
-        );
-        let value = match (field.link, field.value) {
-            (true, 0) => "null".to_string(),
-            (true, object) => format!("-> {object}"),
-            (false, value) => value.to_string(),
-        };
-        text(
-            out,
-            x + 14,
-            top + 15,
-            "field",
-            &format!("{} = {value}", field.name),
-        );
+        draw_field(out, field, (x, y + ROW * (slot as i32 + 1)));
     }
+}
+
+/// A field, with the colour of its holder before it.
+fn draw_field(out: &mut String, field: &Field, (x, top): (i32, i32)) {
+    let fill = colour(field.holder);
+    let _ = writeln!(
+        out,
+        r#"<rect x="{x}" y="{top}" width="6" height="{ROW}" fill="{fill}"/>"#
+    );
+    let value = match (field.link, field.value) {
+        (true, 0) => "null".to_string(),
+        (true, object) => format!("-> {object}"),
+        (false, value) => value.to_string(),
+    };
+    let said = format!("{} = {value}", field.name);
+    text(out, x + 18, top + 15, "field", &said);
 }
 
 /// An arrow from a field to the head of a card. It leaves on the right and comes

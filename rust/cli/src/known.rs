@@ -130,11 +130,27 @@ fn json_of(script: &Script, known: &Known) -> Json {
         .with("dropped", known.dropped.clone())
 }
 
+/// What is found, printed.
+fn print(session: &mut Session, script: &Script, shown: &str, found: &[Known], one: bool) {
+    if session.json() {
+        let lines: Vec<Json> = found.iter().map(|known| json_of(script, known)).collect();
+        let object = Json::object()
+            .with("file", shown)
+            .with("call", "known")
+            .with("lines", lines);
+        session.print_json(&object);
+    } else if let (true, [known]) = (one, found) {
+        let line = quoted(script.text, known.line);
+        let head = format!("{shown}:{}: {line}\n", known.line);
+        session.print(&(head + &full(script, known)));
+    } else {
+        session.print(&changes(script, found, session.paint));
+    }
+}
+
 /// The command.
 pub fn known(session: &mut Session) -> u8 {
-    let Some(word) = session.words.operands.first().cloned() else {
-        return FAILED;
-    };
+    let word = session.words.operands.first().cloned().unwrap_or_default();
     let (name, line) = file_and_line(&word);
     let Some(text) = session.text(&name) else {
         return FAILED;
@@ -142,37 +158,21 @@ pub fn known(session: &mut Session) -> u8 {
     let shown = file_name(&name);
     let report = crate::report::Report::of(&shown, &text, None);
     let Some(script) = Script::of(&text) else {
-        let printed = match session.json() {
-            true => format!("{}\n", crate::objects::report(&report)),
-            false => crate::show::report(&report, session.paint),
-        };
-        session.print(&printed);
+        session.print_report(&report);
         return REFUSED;
     };
     let found = match line {
         Some(line) => at(&script, line).into_iter().collect(),
         None => all(&script),
     };
-    if session.json() {
-        let lines: Vec<Json> = found.iter().map(|known| json_of(&script, known)).collect();
-        let object = Json::object()
-            .with("file", shown.as_str())
-            .with("call", "known")
-            .with("lines", lines);
-        session.print_json(&object);
-    } else if let (Some(_), [known]) = (line, &found[..]) {
-        let head = format!("{shown}:{}: {}\n", known.line, quoted(&text, known.line));
-        session.print(&(head + &full(&script, known)));
-    } else {
-        session.print(&changes(&script, &found, session.paint));
-    }
     if found.is_empty() {
+        let line = line.unwrap_or(0);
         crate::complain(&format!(
-            "{shown} has no statement at line {} or after it",
-            line.unwrap_or(0)
+            "{shown} has no statement at line {line} or after it"
         ));
         return FAILED;
     }
+    print(session, &script, &shown, &found, line.is_some());
     if report.good() {
         DONE
     } else {

@@ -14,6 +14,7 @@ mod objects;
 mod report;
 mod script;
 mod show;
+mod table;
 mod trace;
 mod usage;
 
@@ -50,6 +51,14 @@ impl Session {
 
     fn print_json(&mut self, value: &Json) {
         self.print(&format!("{value}\n"));
+    }
+
+    /// Check's answer, or that of check and run.
+    fn print_report(&mut self, report: &Report) {
+        match self.json() {
+            true => self.print_json(&objects::report(report)),
+            false => self.print(&show::report(report, self.paint)),
+        }
     }
 
     /// The text of a file; none, and a complaint, if it can't be read.

@@ -159,6 +159,10 @@ fn number_in_words(out: &mut String, known: &Explanation) {
     wrapped(out, "   mend: ", known.mend);
 }
 
+/// The least number of a stopped run: what usually mends it is said with its
+/// cause.
+const FIRST_STOP: u32 = 21;
+
 /// The cause, or the number in words where none is seen.
 fn reasons(out: &mut String, number: u32, cause: Option<&Cause>) {
     match (cause, explain(number)) {
@@ -167,7 +171,9 @@ fn reasons(out: &mut String, number: u32, cause: Option<&Cause>) {
             for note in &cause.notes {
                 wrapped(out, "   note: ", note);
             }
-            if let Some(mend) = &cause.mend {
+            let usual = explain(number).filter(|_| number >= FIRST_STOP);
+            let mend = cause.mend.as_deref().or(usual.map(|known| known.mend));
+            if let Some(mend) = mend {
                 wrapped(out, "   mend: ", mend);
             }
         }

@@ -7,7 +7,8 @@ use crate::report::Report;
 use crate::script::{quoted, shown, Script};
 use crate::show::file_name;
 use crate::{Session, DONE, REFUSED};
-use model::machine::{Machine, Step};
+use model::machine::{Machine, Step, Values};
+use std::cmp::Ordering;
 use std::ffi::OsStr;
 use std::io::{IsTerminal, Write};
 use std::sync::mpsc;
@@ -22,51 +23,44 @@ struct Row {
     changes: Vec<String>,
 }
 
-/// What a step did: values of the block it was in, fields, new cards, who
-/// holds what.
-fn changes(script: &Script, before: &Before, machine: &Machine) -> Vec<String> {
+/// The cards that a step made, and the fields that it changed.
+fn card_changes(script: &Script, before: &Before, machine: &Machine) -> Vec<String> {
     let mut said = Vec::new();
-    for at in before.objects..machine.objects.len() {
-        let class = &script.program.classes[machine.objects[at].class];
-        said.push(format!(
-            "object {} is made, a {}",
-            at + 1,
-            shown(class.name)
-        ));
-    }
-    for (at, object) in machine.objects.iter().enumerate().take(before.objects) {
+    for (at, object) in machine.objects.iter().enumerate() {
         let class = &script.program.classes[object.class];
+        if at >= before.objects {
+            said.push(format!(
+                "object {} is made, a {}",
+                at + 1,
+                shown(class.name)
+            ));
+            continue;
+        }
         for (slot, field) in class.fields.iter().enumerate() {
-            let (old, new) = (
-                before.heap[object.first + slot],
-                machine.heap[object.first + slot],
-            );
-            if old != new {
+            let new = machine.heap[object.first + slot];
+            if new != before.heap[object.first + slot] {
                 let value = value_shown(Some(field.kind), new);
                 said.push(format!("object {}.{} = {value}", at + 1, shown(field.name)));
             }
         }
     }
-    let depth = machine.frames.len();
+    said
+}
+
+/// What a step did: cards, fields, and values of the block that runs after it.
+fn changes(script: &Script, before: &Before, machine: &Machine) -> Vec<String> {
+    let mut said = card_changes(script, before, machine);
     let frame = machine.frame();
     let names = script.names(frame.block);
-    let values = match depth.cmp(&before.depth) {
-        std::cmp::Ordering::Equal => Some(before.values),
-        std::cmp::Ordering::Less => before.caller,
-        std::cmp::Ordering::Greater => None,
+    let old = match machine.frames.len().cmp(&before.depth) {
+        Ordering::Equal => before.values,
+        Ordering::Less => before.caller.unwrap_or_default(),
+        Ordering::Greater => Values::default(),
     };
-    for var in 0..frame.values.len() {
-        let Some(kind) = names.kind(var) else {
-            continue;
-        };
-        let new = frame.values[var];
-        let entered = values.is_none() && new != 0;
-        if entered || values.is_some_and(|values| values[var] != new) {
-            said.push(format!(
-                "{} = {}",
-                names.var(var),
-                value_shown(Some(kind), new)
-            ));
+    for (var, (&old, &new)) in old.iter().zip(&frame.values).enumerate() {
+        if let Some(kind) = names.kind(var).filter(|_| old != new) {
+            let value = value_shown(Some(kind), new);
+            said.push(format!("{} = {value}", names.var(var)));
         }
     }
     said
@@ -77,8 +71,8 @@ struct Before {
     objects: usize,
     heap: Vec<i32>,
     depth: usize,
-    values: model::machine::Values,
-    caller: Option<model::machine::Values>,
+    values: Values,
+    caller: Option<Values>,
 }
 
 impl Before {

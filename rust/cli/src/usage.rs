@@ -1,7 +1,7 @@
 //! The help, the man page and the shells' completions, from the table of
 //! commands and options.
 
-use crate::args::{CommandSpec, OptionSpec, COMMANDS, OPTIONS};
+use crate::table::{CommandSpec, OptionSpec, COMMANDS, OPTIONS};
 use std::fmt::Write;
 
 const HEAD: &str = "station: check and run catalogue scripts";

@@ -237,53 +237,50 @@ fn completion_of_names_in_scope() {
     client.end();
 }
 
-/// What is no message, no request or out of range is answered or passed over.
+const ASKED: [&str; 3] = [
+    "textDocument/hover",
+    "textDocument/completion",
+    "textDocument/definition",
+];
+
+/// What is no message or no request is answered or passed over.
 #[test]
-fn hostile() {
+fn hostile_messages() {
     let mut client = Client::start();
+    let code = |answer: Json| answer.at(&["error", "code"]).and_then(Json::int);
     client.send("{");
-    assert_eq!(
-        client.hear().at(&["error", "code"]),
-        Some(&Json::Int(-32_700))
-    );
+    assert_eq!(code(client.hear()), Some(-32_700));
     client.send("\"no object\"");
     client.send("{\"method\":\"textDocument/didOpen\"}");
     client.send("{\"id\":7,\"method\":\"no/such\"}");
-    assert_eq!(
-        client.hear().at(&["error", "code"]),
-        Some(&Json::Int(-32_601))
-    );
-    for method in [
-        "textDocument/hover",
-        "textDocument/completion",
-        "textDocument/definition",
-    ] {
+    assert_eq!(code(client.hear()), Some(-32_601));
+    for method in ASKED {
         assert_eq!(client.at(method, 0, 0), Json::Null, "no document is open");
-    }
-    let mut texts: Vec<String> = vec![
-        String::new(),
-        "\n\n".into(),
-        "main".into(),
-        "\t\t.\t\n".into(),
-    ];
-    texts.extend((0..40).map(|seed| String::from_utf8_lossy(&model::gen::text(seed)).into_owned()));
-    for text in texts {
-        client.open(&text);
-        for line in [0, 1, 7, 4_000_000_000] {
-            for column in [0, 3, 9, 4_000_000_000] {
-                for method in [
-                    "textDocument/hover",
-                    "textDocument/completion",
-                    "textDocument/definition",
-                ] {
-                    client.at(method, line, column);
-                }
-            }
-        }
     }
     client.end();
     // Without `shutdown` the status says so; input that ends is an end.
     let mut child = command(&["lsp"]).spawn().expect("station starts");
     drop(child.stdin.take());
     assert_eq!(child.wait().expect("it ends").code(), Some(1));
+}
+
+/// Any text, and any place in it or beyond it.
+#[test]
+fn hostile_texts() {
+    let mut client = Client::start();
+    let mut texts: Vec<String> = ["", "\n\n", "main", "\t\t.\t\n"]
+        .map(str::to_string)
+        .to_vec();
+    texts.extend((0..40).map(|seed| String::from_utf8_lossy(&model::gen::text(seed)).into_owned()));
+    for text in texts {
+        client.open(&text);
+        for line in [0, 1, 7, 4_000_000_000] {
+            for column in [0, 3, 9, 4_000_000_000] {
+                for method in ASKED {
+                    client.at(method, line, column);
+                }
+            }
+        }
+    }
+    client.end();
 }

@@ -6,6 +6,7 @@
 
 pub mod call;
 pub mod checker;
+pub mod faults;
 pub mod form;
 pub mod framing;
 pub mod gen;

@@ -6,6 +6,7 @@ use crate::names::{
     THIS, VARS,
 };
 use crate::number;
+use crate::watch::Halt;
 
 /// A location (object, field), as the place of the field in the heap.
 pub type Location = usize;
@@ -69,33 +70,6 @@ pub enum Step {
     On,
     /// Main's `end` is done.
     Done,
-}
-
-/// What stopped a step.
-#[derive(Clone, Copy, Debug, PartialEq, Eq)]
-pub struct Halt<'a> {
-    pub number: u32,
-    /// The atom of the formula that was tested: its place from 0.
-    pub atom: Option<usize>,
-    /// The path that was followed.
-    pub path: Option<Path<'a>>,
-}
-
-impl<'a> Halt<'a> {
-    fn of(number: u32) -> Halt<'a> {
-        Halt {
-            number,
-            atom: None,
-            path: None,
-        }
-    }
-
-    fn at(number: u32, path: Path<'a>) -> Halt<'a> {
-        Halt {
-            path: Some(path),
-            ..Halt::of(number)
-        }
-    }
 }
 
 /// A step that cannot be done stops with a number.

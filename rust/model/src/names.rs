@@ -1,6 +1,7 @@
 //! Names and types: the numbers 6, 7 and 9, and the program with its names
 //! resolved.
 
+use crate::faults::{Fault, Faults, Noted, Role, Sides};
 use crate::limits;
 use crate::number::{self, Refusal};
 use crate::text::{self, reserved, Line, Name};
@@ -237,98 +238,6 @@ fn declare<'a>(program: &mut Program<'a>, line: &Line<'a>) {
             block.locals.push(declared(kind, name));
         }
         _ => {}
-    }
-}
-
-/// What a name stands for, where the line looks it up.
-#[derive(Clone, Copy, Debug, PartialEq, Eq)]
-#[non_exhaustive]
-pub enum Role<'a> {
-    Variable,
-    Class,
-    /// A field of this class.
-    Field(Name<'a>),
-    /// A method of this class.
-    Method(Name<'a>),
-}
-
-/// Which two types must agree.
-#[derive(Clone, Copy, Debug, PartialEq, Eq)]
-#[non_exhaustive]
-pub enum Sides {
-    /// The sides of an `eq` or `ne`.
-    Atom,
-    /// A variable and its new value.
-    Let,
-    /// A field and its new value.
-    Set,
-    /// A method's parameter and the argument.
-    Argument,
-    /// The variable that takes a call's result, and the method's result.
-    Result,
-    /// A method's result and what is returned.
-    Return,
-    /// A variable and the class of its new object.
-    New,
-}
-
-/// Why a line has number 6, 7 or 9.
-#[derive(Clone, Copy, Debug, PartialEq, Eq)]
-#[non_exhaustive]
-pub enum Fault<'a> {
-    Undeclared(Name<'a>, Role<'a>),
-    Reserved(Name<'a>),
-    Twice(Name<'a>),
-    /// Two types that do not fit; the sides as they stand in the line.
-    Mismatch {
-        sides: Sides,
-        left: (text::Expr<'a>, Kind<'a>),
-        right: (text::Expr<'a>, Kind<'a>),
-    },
-    /// An int variable before a field or method.
-    NoObject(Name<'a>),
-    /// `this`, w or `result` assigned.
-    Assigned(Name<'a>),
-    /// The x of a call is also its y or z.
-    Same(Name<'a>),
-}
-
-/// A fault, and the place of its atom in the line's formula from 0.
-#[derive(Clone, Copy, Debug, PartialEq, Eq)]
-pub struct Noted<'a> {
-    pub fault: Fault<'a>,
-    pub atom: usize,
-}
-
-/// The lowest number noted on a line: "for two on one line the lower".
-#[derive(Debug, Default)]
-pub struct Faults<'a> {
-    pub lowest: Option<u32>,
-    /// The first fault of that number.
-    pub noted: Option<Noted<'a>>,
-    /// The atom that is looked at.
-    atom: usize,
-}
-
-impl<'a> Faults<'a> {
-    fn note(&mut self, number: u32, fault: Fault<'a>) {
-        if self.lowest.is_none_or(|lowest| number < lowest) {
-            let atom = self.atom;
-            self.lowest = Some(number);
-            self.noted = Some(Noted { fault, atom });
-        }
-    }
-
-    fn note_if(&mut self, holds: bool, number: u32, fault: Fault<'a>) {
-        if holds {
-            self.note(number, fault);
-        }
-    }
-
-    /// A name declared here is not reserved and not declared before.
-    fn declared(&mut self, name: Name<'a>, twice: bool) {
-        self.note_if(reserved(name), number::NAME, Fault::Reserved(name));
-        self.note_if(twice, number::NAME, Fault::Twice(name));
     }
 }
 
@@ -744,11 +653,11 @@ impl<'a> Resolver<'a> {
 
 /// "then line by line 6, 7, 9 (for two on one line the lower)".
 pub fn resolve<'a>(lines: &[Line<'a>]) -> Result<Program<'a>, Refusal> {
-    resolve_noted(lines).map_err(|(refusal, _)| refusal)
+    resolve_noted(lines).map_err(|noted| noted.refusal)
 }
 
 /// The same; a refusal comes with its fault.
-pub fn resolve_noted<'a>(lines: &[Line<'a>]) -> Result<Program<'a>, (Refusal, Option<Noted<'a>>)> {
+pub fn resolve_noted<'a>(lines: &[Line<'a>]) -> Result<Program<'a>, Box<Noted<'a>>> {
     let mut resolver = Resolver {
         program: declarations(lines),
         class: 0,
@@ -762,8 +671,13 @@ pub fn resolve_noted<'a>(lines: &[Line<'a>]) -> Result<Program<'a>, (Refusal, Op
     for (index, line) in lines.iter().enumerate() {
         let at = index as u32 + 1;
         let faults = resolver.line(at, line);
-        if let Some(number) = faults.lowest {
-            return Err((Refusal { number, line: at }, faults.noted));
+        if let Some((number, fault, atom)) = faults.lowest {
+            let refusal = Refusal { number, line: at };
+            return Err(Box::new(Noted {
+                refusal,
+                fault,
+                atom,
+            }));
         }
     }
     Ok(resolver.program)

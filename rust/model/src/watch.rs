@@ -1,9 +1,9 @@
-//! Observation points of the check: who wants to know why a text gets its
+//! Observation points of the check and the machine: who wants to know why a text gets its
 //! answer looks on while the rules are applied. A watch changes no answer, and
 //! one that does nothing costs nothing.
 
 use crate::checker::{check_watched, State};
-use crate::names::{Atom, Expr, Program};
+use crate::names::{Atom, Expr, Path, Program};
 use crate::number::Refusal;
 
 /// What a rule asks of the state.
@@ -155,5 +155,32 @@ impl<'a> Watch<'a> for Record<'a> {
 
     fn after(&mut self, place: usize, state: &State<'a>) {
         self.seen[place].after = Some(state.clone());
+    }
+}
+
+/// What stopped a step.
+#[derive(Clone, Copy, Debug, PartialEq, Eq)]
+pub struct Halt<'a> {
+    pub number: u32,
+    /// The atom of the formula that was tested: its place from 0.
+    pub atom: Option<usize>,
+    /// The path that was followed.
+    pub path: Option<Path<'a>>,
+}
+
+impl<'a> Halt<'a> {
+    pub(crate) fn of(number: u32) -> Halt<'a> {
+        Halt {
+            number,
+            atom: None,
+            path: None,
+        }
+    }
+
+    pub(crate) fn at(number: u32, path: Path<'a>) -> Halt<'a> {
+        Halt {
+            path: Some(path),
+            ..Halt::of(number)
+        }
     }
 }

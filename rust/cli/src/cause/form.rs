@@ -38,50 +38,59 @@ pub fn malformed(text: &[u8], number: u32) -> Option<Cause> {
     let Some((at, found)) = fault(bytes) else {
         return Some(misplaced(text, number, &reader));
     };
-    let field = fields(bytes).get(at).map_or(&b""[..], |field| field.1);
-    let form = model::form::shape_of(fields(bytes)[0].1).map(form_of);
+    let all = fields(bytes);
+    let end = match found {
+        Fault::ShortAtom | Fault::Extra => all.len(),
+        Fault::NinthAtom => at + 3,
+        _ => at + 1,
+    };
+    let after = Some(bytes.len()..bytes.len());
+    let mark = field_range(bytes, at..end).or(after);
+    let field = all.get(at).map_or(&b""[..], |field| field.1);
     let cause = match found {
+        Fault::UnknownWord => unknown_word(field, &reader),
         Fault::EmptyLine if reader.place == Place::Done => {
-            Cause::new("the line is empty, and nothing follows main's `end`")
-                .mend("delete the line")
+            Cause::new("the line is empty, and nothing follows main's `end`").mend(DELETE)
         }
         Fault::EmptyLine => {
-            Cause::new("the line is empty; a script has no empty lines").mend("delete the line")
+            Cause::new("the line is empty; a script has no empty lines").mend(DELETE)
         }
-        Fault::UnknownWord => unknown_word(field, &reader),
+        Fault::Field(operand, why) => field_cause(operand, why, field),
+        Fault::UnknownAtom => unknown_atom(field),
+        Fault::ShortAtom => Cause::new(format!(
+            "the atom `{}` has not its three fields: `acc x f`, `eq e e` or `ne e e`",
+            shown(&bytes[all[at].0..]).replace('\t', " ")
+        )),
+        _ => count_cause(found, all[0].1, field),
+    };
+    Some(cause.mark(mark))
+}
+
+const DELETE: &str = "delete the line";
+
+/// Too few or too many fields or atoms.
+fn count_cause(found: Fault, word: &[u8], field: &[u8]) -> Cause {
+    let form = model::form::shape_of(word).map(form_of);
+    let form = form.unwrap_or_default();
+    match found {
         Fault::Missing(letter, operand) => Cause::new(format!(
-            "the field for {letter} is missing, {}: the form is `{}`",
-            means(operand),
-            form.unwrap_or_default()
+            "the field for {letter} is missing, {}: the form is `{form}`",
+            means(operand)
         )),
         Fault::Extra if field.is_empty() => {
             Cause::new("the line has a tab too many, and so an empty field").mend(FORMAT)
         }
         Fault::Extra => Cause::new(format!(
-            "`{}` is a field too many: the form is `{}`",
-            shown(field),
-            form.unwrap_or_default()
-        )),
-        Fault::Field(operand, why) => field_cause(operand, why, field),
-        Fault::UnknownAtom => unknown_atom(field),
-        Fault::ShortAtom => Cause::new(format!(
-            "the atom `{}` has not its three fields: `acc x f`, `eq e e` or `ne e e`",
-            shown(&bytes[fields(bytes)[at].0..]).replace('\t', " ")
+            "`{}` is a field too many: the form is `{form}`",
+            shown(field)
         )),
         Fault::NinthAtom => Cause::new(format!(
             "a formula has at most {} atoms, and this is the ninth",
             limits::ATOMS
         ))
         .mend("`assert` can be split over two lines; a contract wants less in one line"),
-        _ => Cause::new("`if` takes one condition: `if eq e e` or `if ne e e`"),
-    };
-    let end = match found {
-        Fault::ShortAtom | Fault::Extra => fields(bytes).len(),
-        Fault::NinthAtom => at + 3,
-        _ => at + 1,
-    };
-    let after = Some(bytes.len()..bytes.len());
-    Some(cause.mark(field_range(bytes, at..end).or(after)))
+        _ => Cause::new(format!("`{}` takes one condition: `{form}`", shown(word))),
+    }
 }
 
 const FORMAT: &str = "`station fmt --write FILE` mends it";
@@ -94,7 +103,7 @@ fn unknown_word(word: &[u8], reader: &Reader) -> Cause {
         return Cause::new("the line begins with a tab; there is no indentation").mend(FORMAT);
     }
     if name.starts_with(['#', ';']) || name.starts_with("//") || name.starts_with("--") {
-        return Cause::new("a script has no comments").mend("delete the line");
+        return Cause::new("a script has no comments").mend(DELETE);
     }
     if let Some(shape) = SHAPES
         .iter()
@@ -127,48 +136,50 @@ fn unknown_atom(word: &[u8]) -> Cause {
 fn field_cause(operand: Operand, why: Malformed, field: &[u8]) -> Cause {
     let name = shown(field);
     let must = means(operand);
+    let stands = |what: &str| Cause::new(format!("{what} `{name}` stands where {must} must stand"));
     match why {
         Malformed::Empty => Cause::new(format!(
             "the field is empty where {must} must stand: two tabs, or one at the end"
         ))
         .mend(FORMAT),
-        Malformed::TooLong => Cause::new(format!(
-            "a name has at most {} letters and digits; `{name}` has too many ({})",
-            limits::NAME_BYTES,
-            field
-                .split(|&byte| byte == b'.')
-                .map(<[u8]>::len)
-                .max()
-                .unwrap_or(0)
-        )),
-        Malformed::NumberForName if operand == Operand::Variable => Cause::new(format!(
-            "the number `{name}` stands where a variable must stand"
-        ))
-        .mend(format!("`let k {name}` first, then name k here")),
-        Malformed::NumberForName => Cause::new(format!(
-            "the number `{name}` stands where {must} must stand"
-        )),
-        Malformed::PathForName if operand == Operand::Variable => Cause::new(format!(
-            "the path `{name}` stands where a variable must stand"
-        ))
-        .mend(format!("`let v {name}` first, then name v here")),
-        Malformed::PathForName => {
-            Cause::new(format!("the path `{name}` stands where {must} must stand"))
+        Malformed::NumberForName if operand == Operand::Variable => {
+            stands("the number").mend(format!("`let k {name}` first, then name k here"))
         }
+        Malformed::NumberForName => stands("the number"),
+        Malformed::PathForName if operand == Operand::Variable => {
+            stands("the path").mend(format!("`let v {name}` first, then name v here"))
+        }
+        Malformed::PathForName => stands("the path"),
         Malformed::LongPath => {
-            let mut parts = name.splitn(3, '.');
-            let (x, f) = (parts.next().unwrap_or(""), parts.next().unwrap_or(""));
-            let rest = parts.next().unwrap_or("");
+            let mut parts = name.splitn(3, '.').map(str::to_string);
+            let mut part = || parts.next().unwrap_or_default();
+            let (x, f, rest) = (part(), part(), part());
             Cause::new(format!("a path has one field, and `{name}` has more"))
                 .mend(format!("`let v {x}.{f}` first, then read `v.{rest}`"))
         }
+        Malformed::Character(at) => {
+            let letter = field.get(at).map_or('?', |&byte| char::from(byte));
+            match letter {
+                '"' | '\'' => Cause::new("a script has numbers and links, no texts"),
+                _ => Cause::new(format!("`{letter}` stands in no name, number or path")),
+            }
+            .note(format!("here must stand {must}"))
+        }
+        other => word_cause(other, &name),
+    }
+}
+
+/// Names and numbers that are not written as they are.
+fn word_cause(why: Malformed, name: &str) -> Cause {
+    match why {
+        Malformed::TooLong => Cause::new(format!(
+            "a name has at most {} letters and digits; `{name}` has too many ({})",
+            limits::NAME_BYTES,
+            name.split('.').map(str::len).max().unwrap_or(0)
+        )),
         Malformed::LeadingZero => {
-            let (sign, digits) = match name.strip_prefix('-') {
-                Some(digits) => ("-", digits),
-                None => ("", name.as_str()),
-            };
-            let digits = digits.trim_start_matches('0');
-            let number = match digits {
+            let sign = if name.starts_with('-') { "-" } else { "" };
+            let number = match name.trim_start_matches(['-', '0']) {
                 "" => "0".to_string(),
                 digits => format!("{sign}{digits}"),
             };
@@ -183,15 +194,7 @@ fn field_cause(operand: Operand, why: Malformed, field: &[u8]) -> Cause {
         Malformed::PlusSign => Cause::new("a number has no `+`")
             .mend(format!("write `{}`", name.trim_start_matches('+'))),
         Malformed::FirstDigit => Cause::new("a name begins with a letter"),
-        Malformed::Character(at) => {
-            let letter = field.get(at).map_or('?', |&byte| char::from(byte));
-            match letter {
-                '"' | '\'' => Cause::new("a script has numbers and links, no texts"),
-                _ => Cause::new(format!("`{letter}` stands in no name, number or path")),
-            }
-            .note(format!("here must stand {must}"))
-        }
-        _ => Cause::new(format!("`{name}` stands where {must} must stand")),
+        _ => Cause::new(format!("`{name}` has no form of the language")),
     }
 }
 
@@ -237,11 +240,22 @@ fn last_with(text: &[u8], before: u32, words: &[&str]) -> Option<u32> {
 fn misplaced(text: &[u8], number: u32, reader: &Reader) -> Cause {
     let bytes = line(text, number).unwrap_or_default();
     let word = shown(fields(bytes)[0].1);
+    let cause =
+        Cause::new(out_of_place(text, number, reader, &word)).mark(field_range(bytes, 0..1));
+    let cause = match reader.place {
+        Place::Done => cause.mend("delete the lines after it"),
+        _ => cause.note(format!("here may stand {}", words(&next_words(reader)))),
+    };
+    match missing_before(bytes, reader) {
+        Some(lines) => cause.mend(format!("write {} before it", listed(&lines, "and"))),
+        None => cause,
+    }
+}
+
+fn out_of_place(text: &[u8], number: u32, reader: &Reader, word: &str) -> String {
     let open = open_ifs(text, number).last().copied().unwrap_or(0);
     let block = last_with(text, number, &["method", "main"]).unwrap_or(0);
-    let here = format!("here may stand {}", words(&next_words(reader)));
-    let mark = field_range(bytes, 0..1);
-    let said = match (reader.place, word.as_str()) {
+    match (reader.place, word) {
         (Place::Done, _) => "nothing follows main's `end`".to_string(),
         (Place::Requires, _) => format!("`{word}` stands where the method's `requires` must stand"),
         (Place::Ensures, _) => format!("`{word}` stands where the method's `ensures` must stand"),
@@ -264,15 +278,6 @@ fn misplaced(text: &[u8], number: u32, reader: &Reader) -> Cause {
             format!("the block of line {block} is not ended")
         }
         _ => format!("`{word}` may not stand here"),
-    };
-    let cause = Cause::new(said).mark(mark);
-    let cause = match reader.place {
-        Place::Done => cause.mend("delete the lines after it"),
-        _ => cause.note(here),
-    };
-    match missing_before(bytes, reader) {
-        Some(lines) => cause.mend(format!("write {} before it", listed(&lines, "and"))),
-        None => cause,
     }
 }
 

@@ -4,6 +4,7 @@
 
 mod bytes;
 mod form;
+mod mends;
 mod names;
 mod route;
 mod rules;

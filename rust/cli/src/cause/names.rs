@@ -4,10 +4,8 @@
 use super::Cause;
 use crate::nearest::did_you_mean;
 use crate::script::{field_range, line, listed, place_in, shown};
-use model::names::{
-    declarations, resolve_noted, Block, Class, Declared, Fault, Kind, Noted, Program, Role, Sides,
-    Type,
-};
+use model::faults::{Fault, Role, Sides};
+use model::names::{declarations, resolve_noted, Block, Class, Declared, Kind, Program, Type};
 use model::text::{self, Expr, Line, Name};
 use std::ops::Range;
 
@@ -80,8 +78,8 @@ impl<'a> Look<'a> {
 /// Numbers 6, 7 and 9.
 pub fn fault(text: &[u8], number: u32) -> Option<Cause> {
     let look = Look::at(text, number)?;
-    let (_, noted) = resolve_noted(&look.lines).err()?;
-    let Noted { fault, atom } = noted?;
+    let noted = resolve_noted(&look.lines).err()?;
+    let (fault, atom) = (noted.fault, noted.atom);
     let bytes = look.bytes();
     let name_mark = |name: Name| place_in(bytes, name);
     Some(match fault {
@@ -175,38 +173,37 @@ fn member(
     }
 }
 
+/// A name that is no variable here, though it means something elsewhere.
+fn elsewhere(look: &Look, name: Name, names: &[String]) -> Option<Cause> {
+    let block = look.block()?;
+    let here = block.locals.iter().any(|local| local.name == name);
+    let shown_name = shown(name);
+    Some(match (shown_name.as_str(), look.line()?) {
+        ("null", _) => Cause::new("`null` stands where a variable must stand")
+            .mend("`let p null` first, with a variable p of the class, then name p here"),
+        ("int", _) => Cause::new("`int` is a type, no variable"),
+        ("this" | "result", _) if block.header.is_none() => Cause::new(format!(
+            "`{shown_name}` stands in methods only, and this is main"
+        )),
+        ("result", Line::Requires(_)) => {
+            Cause::new("`requires` is about the time before the call, which has no `result`")
+                .mend("write it in `ensures`")
+        }
+        (_, Line::Requires(_) | Line::Ensures(_)) if here => Cause::new(format!(
+            "`{shown_name}` is a variable of the body; a contract names only {}",
+            listed(names, "and")
+        )),
+        _ => return None,
+    })
+}
+
 fn unknown_variable(look: &Look, name: Name) -> Cause {
     let shown_name = shown(name);
     let names = look.variables();
-    let block = look.block();
-    let method = block.and_then(|block| block.header);
-    let local = |declared: &Declared| declared.name == name;
-    let here = block.is_some_and(|block| block.locals.iter().any(local));
-    match (shown_name.as_str(), look.line()) {
-        ("null", _) => {
-            return Cause::new("`null` stands where a variable must stand")
-                .mend("`let p null` first, with a variable p of the class, then name p here")
-        }
-        ("int", _) => return Cause::new("`int` is a type, no variable"),
-        ("this" | "result", _) if method.is_none() => {
-            return Cause::new(format!(
-                "`{shown_name}` stands in methods only, and this is main"
-            ))
-        }
-        ("result", Some(Line::Requires(_))) => {
-            return Cause::new(
-                "`requires` is about the time before the call, which has no `result`",
-            )
-            .mend("write it in `ensures`")
-        }
-        (_, Some(Line::Requires(_) | Line::Ensures(_))) if here => {
-            return Cause::new(format!(
-                "`{shown_name}` is a variable of the body; a contract names only {}",
-                listed(&names, "and")
-            ))
-        }
-        _ => {}
+    if let Some(cause) = elsewhere(look, name, &names) {
+        return cause;
     }
+    let local = |declared: &Declared| declared.name == name;
     let near = did_you_mean(&shown_name, names.iter().map(String::as_str));
     let cause = Cause::new(format!(
         "no variable `{shown_name}` is declared in this block{near}"

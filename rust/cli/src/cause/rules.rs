@@ -1,12 +1,13 @@
 //! Numbers 11 to 14: which atom is not shown, for what, where it went, and what
 //! comes nearest to it.
 
-use super::route::{assigned, dropped, lost, route, told, told_fact, Step};
+use super::mends::mend;
+use super::route::{dropped, lost, route, told, told_fact, Step};
 use super::Cause;
 use crate::script::{field_range, line, listed, shown, Names, Script};
 use model::checker::{State, Term};
 use model::limits;
-use model::names::{Action, Atom, Block, Call, Expr, Path, Type, Var, PARAM, RESULT, THIS};
+use model::names::{Action, Atom, Expr, Path};
 use model::number::STATE_FULL;
 use model::watch::{Asked, Purpose, Record};
 use std::ops::Range;
@@ -16,12 +17,12 @@ const LISTED: usize = 6;
 
 /// What is not shown: the atom as asked, and what has to be shown for it, a
 /// permission where a path does not resolve.
-struct Unshown<'s, 'a> {
-    script: &'s Script<'a>,
-    asked: &'s Asked<'a>,
+pub struct Unshown<'s, 'a> {
+    pub script: &'s Script<'a>,
+    pub asked: &'s Asked<'a>,
     /// The place of the atom in the formula.
     place: Option<usize>,
-    wanted: Atom<'a>,
+    pub wanted: Atom<'a>,
     /// The path that is read and does not resolve.
     read: Option<Path<'a>>,
 }
@@ -59,16 +60,12 @@ impl<'s, 'a> Unshown<'s, 'a> {
         })
     }
 
-    fn names(&self) -> Names<'s, 'a> {
+    pub fn names(&self) -> Names<'s, 'a> {
         self.script.names_at(self.asked.place)
     }
 
     fn action(&self) -> &'s Action<'a> {
         &self.script.program.statements[self.asked.place].action
-    }
-
-    fn block(&self) -> &'s Block<'a> {
-        &self.script.program.blocks[self.script.block_of(self.asked.place)]
     }
 
     /// Where the states that led here end: at a `join` with the branch.
@@ -208,17 +205,6 @@ impl<'s, 'a> Unshown<'s, 'a> {
     }
 }
 
-/// Names of a contract for a variable of its caller.
-fn in_contract(call: Call, method: &Names, var: Var) -> Option<String> {
-    let of = |place| Some(method.var(place));
-    match var {
-        _ if var == call.x => of(RESULT),
-        _ if var == call.y => of(THIS),
-        _ if var == call.z => of(PARAM),
-        _ => None,
-    }
-}
-
 /// What comes nearest to the atom in the state.
 fn nearest<'a>(names: &Names, state: &State<'a>, wanted: Atom<'a>) -> Option<String> {
     match wanted {
@@ -284,74 +270,12 @@ fn went(unshown: &Unshown, steps: &[Step]) -> Option<String> {
     let terms = [left, right].map(|side| unshown.asked.state.resolve(side).ok());
     let named = |term: &Term| matches!(term, Term::Var(_) | Term::Path(..));
     let terms: Vec<Term> = terms.into_iter().flatten().filter(named).collect();
-    let (place, fact) = dropped(steps, &terms)?;
+    // A side of which nothing is known any more comes first.
+    let bare = |term: &&Term| unshown.asked.state.equals(**term).len() == 1;
+    let bare: Vec<Term> = terms.iter().filter(bare).copied().collect();
+    let found = dropped(steps, &bare).or_else(|| dropped(steps, &terms));
+    let (place, fact) = found?;
     Some(told_fact(unshown.script, place, fact))
-}
-
-/// A mend that fits, where one is to be seen.
-fn mend(unshown: &Unshown, steps: &[Step], lost_at: Option<usize>) -> Option<String> {
-    let names = unshown.names();
-    let wanted = names.atom(unshown.wanted);
-    let statements = &unshown.script.program.statements;
-    match (lost_at.map(|at| &statements[at].action), unshown.wanted) {
-        (Some(Action::Call(call)), atom) => return mend_of_call(unshown, *call, atom),
-        (Some(Action::Join(_)), _) => {
-            let line = statements[lost_at?].line;
-            return Some(format!("add `{wanted}` to the `join` of line {line}"));
-        }
-        (Some(_), _) => return None,
-        _ => {}
-    }
-    let in_method = unshown.block().header.is_some();
-    let (requires, _) = unshown
-        .script
-        .contract_lines(unshown.script.block_of(unshown.asked.place));
-    match unshown.wanted {
-        Atom::Acc(Path {
-            var: THIS | PARAM, ..
-        }) if in_method => Some(format!("add `{wanted}` to `requires` (line {requires})")),
-        Atom::Acc(path) if !assigned(unshown.script, steps, path.var) => {
-            let Some(Type::Class(class)) = names.kind(path.var) else {
-                return None;
-            };
-            let (var, class) = (names.var(path.var), shown(class));
-            Some(format!(
-                "`new {var} {class}` first: `{var}` is null until a line assigns it"
-            ))
-        }
-        Atom::Ne(Expr::Var(THIS | PARAM), Expr::Null) if in_method => Some(format!(
-            "add `{wanted}`, or an `acc` of it, to `requires` (line {requires})"
-        )),
-        Atom::Ne(Expr::Var(_), Expr::Null) => Some(format!(
-            "test it: `if {wanted}`, and do this in the first branch"
-        )),
-        Atom::Eq(Expr::Var(RESULT), Expr::Var(var))
-        | Atom::Eq(Expr::Var(var), Expr::Var(RESULT)) => {
-            Some(format!("`return {}` sets `result`", names.var(var)))
-        }
-        _ => None,
-    }
-}
-
-fn mend_of_call(unshown: &Unshown, call: Call, atom: Atom) -> Option<String> {
-    let method = unshown.script.names(call.method);
-    let (_, ensures) = unshown.script.contract_lines(call.method);
-    let var = |var| in_contract(call, &method, var);
-    let side = |expr: Expr| match expr {
-        Expr::Var(x) => var(x),
-        Expr::Path(path) => Some(format!("{}.{}", var(path.var)?, shown(path.field))),
-        constant => Some(unshown.names().expr(constant)),
-    };
-    let said = match atom {
-        Atom::Acc(path) => format!("acc {} {}", var(path.var)?, shown(path.field)),
-        Atom::Eq(left, right) => format!("eq {} {}", side(left)?, side(right)?),
-        Atom::Ne(left, right) => format!("ne {} {}", side(left)?, side(right)?),
-    };
-    let name = method.block.header.map_or(&b""[..], |header| header.name);
-    Some(format!(
-        "add `{said}` to the `ensures` of `{}` (line {ensures})",
-        shown(name)
-    ))
 }
 
 /// Number 14: what is full.

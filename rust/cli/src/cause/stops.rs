@@ -5,6 +5,7 @@ use crate::script::{field_range, line, quoted, shown, Names, Script};
 use model::machine::{Machine, Step, Values};
 use model::names::{Action, Atom, Expr, Path, Type};
 use model::number;
+use model::watch::Halt;
 
 /// Longer runs are not done again to say more about them.
 const AGAIN: u32 = 5_000_000;
@@ -97,52 +98,69 @@ pub fn stop_cause(text: &[u8], steps: u32, stop: u32) -> Option<Cause> {
     if machine.steps != steps || machine.step() != Err(stop) {
         return None;
     }
-    let statement = machine.statement();
-    let bytes = line(text, statement.line)?;
     let halt = machine.halt?;
     let names = script.names(machine.frame().block);
+    let statement = machine.statement();
     let tested = tested(&script, &machine);
-    let atom = halt.atom.zip(tested.as_ref());
-    let atom = atom.and_then(|(at, tested)| Some((at, tested, *tested.atoms.get(at)?)));
-    let own = !matches!(statement.action, Action::Call(_) | Action::End);
-    let mark = match atom {
-        Some((at, ..)) if own => field_range(bytes, 1 + 3 * at..4 + 3 * at),
-        _ => None,
+    let Some((at, tested)) = halt.atom.zip(tested) else {
+        let said = full(&script, &machine, stop);
+        let said = said.or_else(|| followed(&names, &statement.action, halt.path, stop));
+        return said.map(Cause::new);
     };
-    let said = match (stop, atom) {
-        (number::FORMULA_FALSE, Some((_, tested, atom))) => {
-            let sides = match atom {
-                Atom::Eq(left, right) | Atom::Ne(left, right) => [left, right],
-                Atom::Acc(_) => return None,
-            };
-            let sides = sides
-                .into_iter()
-                .filter_map(|expr| side(&machine, tested, expr));
-            let sides: Vec<String> = sides.collect();
-            format!(
-                "`{}`{} is false: {}",
-                tested.names.atom(atom),
-                tested.of,
-                sides.join(", ")
-            )
+    let said = false_atom(&machine, &names, &tested, *tested.atoms.get(at)?, halt)?;
+    let own = !matches!(statement.action, Action::Call(_) | Action::End);
+    let bytes = line(text, statement.line)?;
+    let mark = field_range(bytes, 1 + 3 * at..4 + 3 * at).filter(|_| own);
+    Some(Cause::new(said).mark(mark))
+}
+
+/// Why an atom of a formula stopped the step.
+fn false_atom(
+    machine: &Machine,
+    names: &Names,
+    tested: &Tested,
+    atom: Atom,
+    halt: Halt,
+) -> Option<String> {
+    let shown = format!("`{}`{}", tested.names.atom(atom), tested.of);
+    Some(match (halt.number, atom) {
+        (number::FORMULA_FALSE, Atom::Eq(left, right) | Atom::Ne(left, right)) => {
+            let sides = [left, right].into_iter();
+            let sides: Vec<String> = sides
+                .filter_map(|expr| side(machine, tested, expr))
+                .collect();
+            format!("{shown} is false: {}", sides.join(", "))
         }
-        (number::PERMISSION_MISSING, Some((_, tested, atom))) => format!(
-            "`{}`{}: {} does not hold the field, or an earlier atom took it",
-            tested.names.atom(atom),
-            tested.of,
+        (number::PERMISSION_MISSING, _) => format!(
+            "{shown}: {} does not hold the field, or an earlier atom took it",
             names.title()
         ),
-        (number::NULL_FOLLOWED, Some((_, tested, atom))) => {
-            let of = halt.path.map(|path| tested.names.var(path.var));
-            let of = of.unwrap_or_default();
-            format!("`{}`{}: `{of}` is null", tested.names.atom(atom), tested.of)
-        }
-        (number::PERMISSION_MISSING | number::NULL_FOLLOWED, None) => {
-            followed(&names, &statement.action, halt.path, stop)?
+        (number::NULL_FOLLOWED, _) => {
+            format!("{shown}: `{}` is null", tested.names.var(halt.path?.var))
         }
         _ => return None,
-    };
-    Some(Cause::new(said).mark(mark))
+    })
+}
+
+/// What is full: the heap, or the frames and what they are of.
+fn full(script: &Script, machine: &Machine, stop: u32) -> Option<String> {
+    match stop {
+        number::HEAP_FULL => Some(format!(
+            "{} objects with {} fields are made already",
+            machine.objects.len(),
+            machine.heap.len()
+        )),
+        number::FRAMES_FULL => {
+            let block = machine.frame().block;
+            let same = machine.frames.iter().filter(|frame| frame.block == block);
+            let (count, of) = (same.count(), script.names(block).title());
+            Some(format!(
+                "{} blocks are open already, {count} of them {of}",
+                machine.frames.len()
+            ))
+        }
+        _ => None,
+    }
 }
 
 fn followed(names: &Names, action: &Action, path: Option<Path>, stop: u32) -> Option<String> {
@@ -160,7 +178,9 @@ fn followed(names: &Names, action: &Action, path: Option<Path>, stop: u32) -> Op
                 names.var(path.var)
             )
         }
-        (None, Action::Call(call)) => format!("the receiver `{}` is null", names.var(call.y)),
+        (None, Action::Call(call)) if stop == number::NULL_FOLLOWED => {
+            format!("the receiver `{}` is null", names.var(call.y))
+        }
         _ => return None,
     })
 }

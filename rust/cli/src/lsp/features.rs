@@ -184,48 +184,55 @@ pub fn completion(text: &str, line: u32, column: usize) -> Json {
     let before = shown.get(..byte(shown, column)).unwrap_or("");
     let fields: Vec<&str> = before.split('\t').collect();
     let at = fields.len() - 1;
-    let outline = Outline::of(text.as_bytes());
-    let names = |names: &[Name]| names.iter().map(|name| name.name.clone()).collect();
-    let variables = || {
-        outline
-            .block(line + 1)
-            .map_or(Vec::new(), |block| names(&block.names))
-    };
-    let classes = || outline.classes.iter().map(|class| class.name.clone());
-    let of = |variable: &str| outline.class_of(line + 1, variable);
-    let mut words: Vec<String> = match (role(&fields, at), fields[at].split_once('.')) {
-        (Role::Expression, Some((variable, _))) => {
-            let fields = of(variable).map_or(Vec::new(), |class| names(&class.fields));
-            fields
-                .into_iter()
-                .map(|field| format!("{variable}.{field}"))
-                .collect()
-        }
-        (Role::Word, _) => {
+    let words = match role(&fields, at) {
+        Role::Word => {
             let next = next_words(&reader_before(text, line));
             next.into_iter().map(str::to_string).collect()
         }
-        (Role::AtomWord, _) => ATOM_SHAPES
+        Role::AtomWord => ATOM_SHAPES
             .iter()
             .map(|atom| atom.word.to_string())
             .collect(),
-        (Role::Type, _) => ["int".to_string()].into_iter().chain(classes()).collect(),
-        (Role::Class, _) => classes().collect(),
-        (Role::Variable, _) => variables(),
-        (Role::Expression, None) => {
-            let mut words = variables();
-            words.push("null".to_string());
-            words
-        }
-        (Role::Field(of_var), _) => of(&of_var).map_or(Vec::new(), |class| names(&class.fields)),
-        (Role::Method(of_var), _) => of(&of_var).map_or(Vec::new(), |class| names(&class.methods)),
-        (Role::Free, _) => Vec::new(),
+        role => names_for(&Outline::of(text.as_bytes()), line + 1, role, fields[at]),
     };
-    words.dedup();
     let items = words
         .into_iter()
         .map(|word| Json::object().with("label", word));
     Json::List(items.collect())
+}
+
+/// The declared names that a field may be, at a line from 1.
+fn names_for(outline: &Outline, line: u32, role: Role, typed: &str) -> Vec<String> {
+    let names = |names: &[Name]| -> Vec<String> {
+        let names = names.iter().map(|name| name.name.clone());
+        names.collect()
+    };
+    let variables = || {
+        outline
+            .block(line)
+            .map_or(Vec::new(), |block| names(&block.names))
+    };
+    let classes = outline.classes.iter().map(|class| class.name.clone());
+    let fields = |variable: &str| match outline.class_of(line, variable) {
+        Some(class) => names(&class.fields),
+        None => Vec::new(),
+    };
+    match (role, typed.split_once('.')) {
+        (Role::Expression, Some((variable, _))) => {
+            let fields = fields(variable).into_iter();
+            fields.map(|field| format!("{variable}.{field}")).collect()
+        }
+        (Role::Expression, None) => [variables(), vec!["null".to_string()]].concat(),
+        (Role::Variable, _) => variables(),
+        (Role::Type, _) => ["int".to_string()].into_iter().chain(classes).collect(),
+        (Role::Class, _) => classes.collect(),
+        (Role::Field(variable), _) => fields(&variable),
+        (Role::Method(variable), _) => match outline.class_of(line, &variable) {
+            Some(class) => names(&class.methods),
+            None => Vec::new(),
+        },
+        _ => Vec::new(),
+    }
 }
 
 /// The line on which the name at a place is declared.

@@ -67,24 +67,10 @@ impl Outline {
                 name,
                 kind,
                 param,
-            } => {
-                let class = self.classes.last_mut().map(|class| {
-                    class.methods.push(named(name, result));
-                    class.name.clone()
-                });
-                let this = class.unwrap_or_default();
-                self.blocks.push(Block {
-                    from: number,
-                    names: vec![
-                        named(b"this", this.as_bytes()),
-                        named(param, kind),
-                        named(b"result", result),
-                    ],
-                });
-            }
+            } => self.method(named(name, result), named(param, kind)),
             Line::Main => self.blocks.push(Block {
                 from: number,
-                ..Block::default()
+                names: Vec::new(),
             }),
             Line::Var { kind, name } => {
                 if let Some(block) = self.blocks.last_mut() {
@@ -92,6 +78,24 @@ impl Outline {
                 }
             }
             _ => {}
+        }
+    }
+
+    fn method(&mut self, method: Name, param: Name) {
+        let own = |name: &str, kind: String| Name {
+            name: name.to_string(),
+            kind,
+            line: method.line,
+        };
+        let class = self.classes.last().map(|class| class.name.clone());
+        let this = own("this", class.unwrap_or_default());
+        let result = own("result", method.kind.clone());
+        self.blocks.push(Block {
+            from: method.line,
+            names: vec![this, param, result],
+        });
+        if let Some(class) = self.classes.last_mut() {
+            class.methods.push(method);
         }
     }
 
