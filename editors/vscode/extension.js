@@ -87,7 +87,12 @@ function providers(client) {
     vscode.languages.registerCompletionItemProvider('station', {
       async provideCompletionItems(document, position) {
         const items = (await ask('completion', document, position)) || [];
-        return items.map((item) => new vscode.CompletionItem(item.label));
+        return items.map(({ label, textEdit }) => {
+          const item = new vscode.CompletionItem(label);
+          item.insertText = textEdit.newText;
+          item.range = range(textEdit.range);
+          return item;
+        });
       },
     }, '\t', '.'),
     vscode.languages.registerDocumentFormattingEditProvider('station', {

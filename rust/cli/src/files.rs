@@ -17,6 +17,9 @@ pub fn read(name: &OsStr) -> std::io::Result<Vec<u8>> {
             .lock()
             .take(READ_BYTES)
             .read_to_end(&mut text)?;
+    } else if Path::new(name).is_dir() {
+        let said = "a folder with no file that ends in .script, or not one file";
+        return Err(std::io::Error::new(ErrorKind::IsADirectory, said));
     } else {
         std::fs::File::open(name)?
             .take(READ_BYTES)
@@ -53,7 +56,8 @@ pub fn expanded(names: &[OsString]) -> Vec<OsString> {
     for name in names {
         let mut found = Vec::new();
         let path = Path::new(name);
-        if name != "-" && path.is_dir() && scripts(path, DEPTH, &mut found).is_ok() {
+        let folder = name != "-" && path.is_dir();
+        if folder && scripts(path, DEPTH, &mut found).is_ok() && !found.is_empty() {
             all.extend(found.into_iter().map(PathBuf::into_os_string));
         } else {
             all.push(name.clone());

@@ -33,9 +33,11 @@ fn without(items: &[String], other: &[String]) -> Vec<String> {
 }
 
 /// What is known around each statement line, in order; lines that the check
-/// did not come to know nothing.
+/// did not come to know nothing. None at all for a text with number 10.
 pub fn all(script: &Script) -> Vec<Known> {
-    let record = Record::of(&script.program);
+    let Some(record) = Record::of(&script.lines, &script.program) else {
+        return Vec::new();
+    };
     let statements = script.program.statements.iter().zip(&record.seen);
     let rows = statements.enumerate().map(|(place, (statement, seen))| {
         let names = script.names_at(place);
@@ -165,6 +167,10 @@ pub fn known(session: &mut Session) -> u8 {
         Some(line) => at(&script, line).into_iter().collect(),
         None => all(&script),
     };
+    if found.is_empty() && all(&script).is_empty() {
+        session.print_report(&report);
+        return REFUSED;
+    }
     if found.is_empty() {
         let line = line.unwrap_or(0);
         crate::complain(&format!(

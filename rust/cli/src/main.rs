@@ -6,11 +6,14 @@ mod cause;
 mod draw;
 mod files;
 mod fmt;
+#[cfg(test)]
+mod hostile;
 mod json;
 mod known;
 mod lsp;
 mod nearest;
 mod objects;
+mod progress;
 mod report;
 mod script;
 mod show;
@@ -132,9 +135,7 @@ fn run(session: &mut Session) -> u8 {
     let steps = session.words.steps;
     session.each(|session, name, text| {
         let shown = show::file_name(name);
-        let progress = trace::Progress::start(steps);
         let report = Report::of(&shown, text, Some(steps));
-        drop(progress);
         let cards = report.ran().filter(|_| session.words.has("cards"));
         let cards = cards.and_then(|ran| cards::after(text, ran.outcome.steps()));
         if session.json() {

@@ -3,6 +3,7 @@
 
 use crate::cause::{cause, open_calls, stop_cause, Cause};
 use crate::fmt::formatted;
+use crate::progress::Progress;
 use host::{Ending, Kind, Outcome, Refusal};
 
 pub struct Report<'a> {
@@ -25,7 +26,9 @@ pub struct Ran {
 
 impl Ran {
     pub fn of(station: &mut host::Station, text: &[u8], allowed: u32) -> Ran {
+        let progress = Progress::start(allowed);
         let outcome = station.run(text, allowed);
+        drop(progress);
         let stopped = matches!(outcome.ending(), Ending::Stopped(_));
         let (number, steps) = (outcome.number(), outcome.steps());
         let open = open_calls(text, steps).filter(|_| stopped);

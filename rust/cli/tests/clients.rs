@@ -157,7 +157,11 @@ fn the_extension_for_vs_code() {
         answer.at(&["place", "range", "from"]),
         Some(&Json::from(vec![1, 0]))
     );
-    let n = Json::List(vec![Json::object().with("label", "n")]);
-    assert_eq!(answer.get("items"), Some(&n));
+    let Some(Json::List(items)) = answer.get("items") else {
+        panic!("no items: {answer}");
+    };
+    assert_eq!(items[0].get("insertText").and_then(Json::text), Some("n"));
+    let typed = items[0].at(&["range", "from"]);
+    assert_eq!((items.len(), typed), (1, Some(&Json::from(vec![5, 9]))));
     assert_eq!(answer.get("edits"), Some(&Json::List(Vec::new())));
 }

@@ -20,6 +20,7 @@ fn statuses() {
         (&["trace", "examples/stopped-26.script"], 1),
         (&["known", "examples/tag.script"], 0),
         (&["known", "examples/refused-12.script"], 1),
+        (&["known", "examples/refused-10.script"], 1),
         (&["known", "examples/tag.script:99"], 2),
         (&["draw", "examples/tag.script"], 0),
         (&["draw", "examples/refused-04.script"], 1),
@@ -246,18 +247,31 @@ fn fmt_writes() {
     assert_eq!(status(&["check", path], b""), 0);
 }
 
-/// A file that can't be written stays as it is.
+/// `fmt --write` follows a link and keeps the file's permissions; what can't be
+/// written is told.
+#[cfg(unix)]
 #[test]
-fn fmt_never_loses_a_file() {
+fn fmt_keeps_links_and_permissions() {
+    use std::os::unix::fs::{symlink, PermissionsExt};
     let folder = folder("fmt-kept");
-    let file = folder.join("a.script");
+    let (file, link) = (folder.join("a.script"), folder.join("link.script"));
     std::fs::write(&file, "main \nend\n").expect("written");
-    let name = file.to_str().expect("a name");
-    let beside = folder.join("a.script.station-1");
-    std::fs::create_dir(&beside).expect("a folder in the way of nothing");
+    let mode = std::fs::Permissions::from_mode(0o640);
+    std::fs::set_permissions(&file, mode).expect("a mode");
+    symlink(&file, &link).expect("a link");
+    let name = link.to_str().expect("a name");
     assert_eq!(status(&["fmt", "--write", name], b""), 0);
     assert_eq!(std::fs::read(&file).expect("the file"), b"main\nend\n");
+    assert!(std::fs::symlink_metadata(&link)
+        .expect("the link")
+        .is_symlink());
+    let mode = std::fs::metadata(&file).expect("the file").permissions();
+    assert_eq!(mode.mode() & 0o777, 0o640);
     assert_eq!(status(&["fmt", "--write", "no-such-file"], b""), 2);
+    let empty = folder.join("empty");
+    std::fs::create_dir(&empty).expect("a folder");
+    let name = empty.to_str().expect("a name");
+    assert_eq!(status(&["check", name], b""), 2);
 }
 
 /// A reader that goes away changes neither what is said nor the status.

@@ -6,7 +6,7 @@ use crate::names::{
     THIS, VARS,
 };
 use crate::number;
-use crate::watch::Halt;
+use crate::watch::{Halt, Tested};
 
 /// A location (object, field), as the place of the field in the heap.
 pub type Location = usize;
@@ -130,11 +130,12 @@ impl Reader<'_> {
 
     /// "Formula atoms go in order". Gives the footprint, "the locations that
     /// its `acc` atoms take"; one already taken in this formula is 24.
-    fn formula<'a>(&self, formula: &[Atom<'a>]) -> Outcome<'a, Locations> {
+    fn formula<'a>(&self, formula: &[Atom<'a>], tested: Tested) -> Outcome<'a, Locations> {
         let mut taken = Locations::default();
         for (place, &atom) in formula.iter().enumerate() {
             self.atom(atom, &mut taken).map_err(|halt| Halt {
                 atom: Some(place),
+                tested,
                 ..halt
             })?;
         }
@@ -265,10 +266,10 @@ impl<'p, 'a> Machine<'p, 'a> {
             Action::New(x, class) => self.create(*x, *class)?,
             Action::Return(x) => self.assign(RESULT, self.frame().values[*x]),
             Action::Assert(formula) | Action::Join(formula) => {
-                self.reader().formula(formula)?;
+                self.reader().formula(formula, Tested::Line)?;
             }
             Action::Release(formula) => {
-                let footprint = self.reader().formula(formula)?;
+                let footprint = self.reader().formula(formula, Tested::Line)?;
                 self.frame_mut().held.remove_all(&footprint);
             }
             // "a false `if` goes to the line after its `else`"
@@ -329,7 +330,7 @@ impl<'p, 'a> Machine<'p, 'a> {
             values: &values,
             ..self.reader()
         };
-        let footprint = reader.formula(&method.requires)?;
+        let footprint = reader.formula(&method.requires, Tested::Requires)?;
         if self.frames.len() == limits::FRAMES {
             return Err(Halt::of(number::FRAMES_FULL));
         }
@@ -346,7 +347,8 @@ impl<'p, 'a> Machine<'p, 'a> {
     /// "`end`: ensures, then the caller gains its footprint, and x the result;
     /// the rest of that A is lost."
     fn end(&mut self) -> Outcome<'a, Step> {
-        let footprint = self.reader().formula(&self.block().ensures)?;
+        let ensures = &self.block().ensures;
+        let footprint = self.reader().formula(ensures, Tested::Ensures)?;
         if self.frames.len() == 1 {
             return Ok(Step::Done);
         }

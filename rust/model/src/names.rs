@@ -75,6 +75,18 @@ pub enum Action<'a> {
     End,
 }
 
+impl<'a> Action<'a> {
+    /// The line's own formula, if it has one.
+    pub fn formula(&self) -> Option<&[Atom<'a>]> {
+        match self {
+            Action::Assert(formula) | Action::Release(formula) | Action::Join(formula) => {
+                Some(formula)
+            }
+            _ => None,
+        }
+    }
+}
+
 /// `call x y m z`; the method is a place in the program's list of blocks.
 #[derive(Clone, Copy, Debug, PartialEq, Eq)]
 pub struct Call {

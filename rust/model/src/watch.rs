@@ -3,8 +3,10 @@
 //! one that does nothing costs nothing.
 
 use crate::checker::{check_watched, State};
+use crate::framing::frame;
 use crate::names::{Atom, Expr, Path, Program};
 use crate::number::Refusal;
+use crate::text::Line;
 
 /// What a rule asks of the state.
 #[derive(Clone, Copy, Debug, PartialEq, Eq)]
@@ -117,15 +119,17 @@ pub struct Record<'a> {
 }
 
 impl<'a> Record<'a> {
-    /// Checks the program and writes down what is known at each line.
-    pub fn of(program: &Program<'a>) -> Record<'a> {
+    /// Checks the program of these lines and writes down what is known at each
+    /// line; none for a text with number 10, to which no rule is applied.
+    pub fn of(lines: &[Line<'a>], program: &Program<'a>) -> Option<Record<'a>> {
+        frame(lines).ok()?;
         let mut record = Record {
             seen: vec![Seen::default(); program.statements.len()],
             asked: None,
             refusal: None,
         };
         record.refusal = check_watched(program, &mut record).err();
-        record
+        Some(record)
     }
 }
 
@@ -158,10 +162,25 @@ impl<'a> Watch<'a> for Record<'a> {
     }
 }
 
+/// Which formula a step tested when it was stopped.
+#[derive(Clone, Copy, Debug, PartialEq, Eq)]
+#[non_exhaustive]
+pub enum Tested {
+    /// None.
+    Nothing,
+    /// That of the line itself.
+    Line,
+    /// What the called method requires, in its own names.
+    Requires,
+    /// What the running method ensures.
+    Ensures,
+}
+
 /// What stopped a step.
 #[derive(Clone, Copy, Debug, PartialEq, Eq)]
 pub struct Halt<'a> {
     pub number: u32,
+    pub tested: Tested,
     /// The atom of the formula that was tested: its place from 0.
     pub atom: Option<usize>,
     /// The path that was followed.
@@ -172,6 +191,7 @@ impl<'a> Halt<'a> {
     pub(crate) fn of(number: u32) -> Halt<'a> {
         Halt {
             number,
+            tested: Tested::Nothing,
             atom: None,
             path: None,
         }

@@ -296,7 +296,7 @@ fn full(script: &Script, record: &Record, number: u32) -> Option<Cause> {
 /// The cause of a refusal by the rules.
 pub fn cause(text: &[u8], number: u32) -> Option<Cause> {
     let script = Script::of(text)?;
-    let record = Record::of(&script.program);
+    let record = Record::of(&script.lines, &script.program)?;
     if record.refusal?.number == STATE_FULL {
         return full(&script, &record, number);
     }

@@ -5,7 +5,7 @@ use crate::script::{field_range, line, quoted, shown, Names, Script};
 use model::machine::{Machine, Step, Values};
 use model::names::{Action, Atom, Expr, Path, Type};
 use model::number;
-use model::watch::Halt;
+use model::watch::{Halt, Tested};
 
 /// Longer runs are not done again to say more about them.
 const AGAIN: u32 = 5_000_000;
@@ -27,33 +27,35 @@ pub fn value_shown(kind: Option<Type>, value: i32) -> String {
 }
 
 /// The formula that a stopped step tested, and the names and values it read.
-struct Tested<'p, 'a> {
+struct Formula<'p, 'a> {
     atoms: &'p [Atom<'a>],
     names: Names<'p, 'a>,
     values: Values,
     of: String,
 }
 
-fn tested<'p, 'a>(script: &'p Script<'a>, machine: &Machine<'p, 'a>) -> Option<Tested<'p, 'a>> {
+fn formula<'p, 'a>(
+    script: &'p Script<'a>,
+    machine: &Machine<'p, 'a>,
+    tested: Tested,
+) -> Option<Formula<'p, 'a>> {
     let frame = machine.frame();
-    let block = &script.program.blocks[frame.block];
-    let own = |atoms, of: String| Tested {
+    let own = |atoms, of: String| Formula {
         atoms,
         names: script.names(frame.block),
         values: frame.values,
         of,
     };
-    Some(match &machine.statement().action {
-        Action::Assert(formula) | Action::Release(formula) | Action::Join(formula) => {
-            own(formula, String::new())
-        }
-        Action::End => {
+    Some(match (tested, &machine.statement().action) {
+        (Tested::Line, action) => own(action.formula()?, String::new()),
+        (Tested::Ensures, _) => {
             let (_, line) = script.contract_lines(frame.block);
-            own(&block.ensures, format!(" of `ensures` (line {line})"))
+            let ensures = &script.program.blocks[frame.block].ensures;
+            own(ensures, format!(" of `ensures` (line {line})"))
         }
-        Action::Call(call) => {
+        (Tested::Requires, Action::Call(call)) => {
             let (line, _) = script.contract_lines(call.method);
-            Tested {
+            Formula {
                 atoms: &script.program.blocks[call.method].requires,
                 names: script.names(call.method),
                 values: model::machine::callee_values(&frame.values, *call),
@@ -65,7 +67,7 @@ fn tested<'p, 'a>(script: &'p Script<'a>, machine: &Machine<'p, 'a>) -> Option<T
 }
 
 /// The value of one side, with the name of what has it.
-fn side(machine: &Machine, tested: &Tested, expr: Expr) -> Option<String> {
+fn side(machine: &Machine, tested: &Formula, expr: Expr) -> Option<String> {
     let name = tested.names.expr(expr);
     match expr {
         Expr::Number(_) | Expr::Null => None,
@@ -101,14 +103,14 @@ pub fn stop_cause(text: &[u8], steps: u32, stop: u32) -> Option<Cause> {
     let halt = machine.halt?;
     let names = script.names(machine.frame().block);
     let statement = machine.statement();
-    let tested = tested(&script, &machine);
+    let tested = formula(&script, &machine, halt.tested);
     let Some((at, tested)) = halt.atom.zip(tested) else {
         let said = full(&script, &machine, stop);
         let said = said.or_else(|| followed(&names, &statement.action, halt.path, stop));
         return said.map(Cause::new);
     };
     let said = false_atom(&machine, &names, &tested, *tested.atoms.get(at)?, halt)?;
-    let own = !matches!(statement.action, Action::Call(_) | Action::End);
+    let own = halt.tested == Tested::Line;
     let bytes = line(text, statement.line)?;
     let mark = field_range(bytes, 1 + 3 * at..4 + 3 * at).filter(|_| own);
     Some(Cause::new(said).mark(mark))
@@ -118,7 +120,7 @@ pub fn stop_cause(text: &[u8], steps: u32, stop: u32) -> Option<Cause> {
 fn false_atom(
     machine: &Machine,
     names: &Names,
-    tested: &Tested,
+    tested: &Formula,
     atom: Atom,
     halt: Halt,
 ) -> Option<String> {

@@ -195,9 +195,14 @@ pub fn completion(text: &str, line: u32, column: usize) -> Json {
             .collect(),
         role => names_for(&Outline::of(text.as_bytes()), line + 1, role, fields[at]),
     };
-    let items = words
-        .into_iter()
-        .map(|word| Json::object().with("label", word));
+    let start = before.len() - fields[at].len();
+    let typed = range(line, self::column(before, start), column);
+    let items = words.into_iter().map(|word| {
+        let edit = Json::object()
+            .with("range", typed.clone())
+            .with("newText", word.as_str());
+        Json::object().with("label", word).with("textEdit", edit)
+    });
     Json::List(items.collect())
 }
 
