@@ -1,7 +1,7 @@
 //! The cards of a run: their fields and links, who holds them, and the calls
 //! that are open, as the model's machine has them.
 
-use crate::cause::{machine_at, value_shown};
+use crate::cause::{machine_at, value_shown, AGAIN};
 use crate::json::Json;
 use crate::script::{shown, Script};
 use model::machine::Machine;
@@ -35,9 +35,6 @@ pub struct Cards {
     pub cards: Vec<Card>,
     pub open: Vec<Open>,
 }
-
-/// Longer runs are not done again.
-const AGAIN: u32 = 5_000_000;
 
 /// The cards after so many steps; none if the model does not come there.
 pub fn after(text: &[u8], steps: u32) -> Option<Cards> {

@@ -80,3 +80,15 @@ fn near_misses_have_causes() {
         }
     }
 }
+
+/// Where the model answers otherwise than the library, no cause is given.
+#[test]
+fn no_cause_of_another_answer() {
+    let refusal = |text: &[u8]| host::check(text).err();
+    let (one, other) = (&b"main\nlet\ta\t7\nend\n"[..], &b"main\nlet\ta\nend\n"[..]);
+    let found = refusal(one).expect("it is refused");
+    assert!(crate::cause::cause(one, found).is_some());
+    assert_eq!(crate::cause::cause(other, found), None);
+    assert_eq!(crate::cause::cause(b"main\nend\n", found), None);
+    assert_eq!(crate::cause::stop_cause(b"main\nend\n", 0, 26), None);
+}

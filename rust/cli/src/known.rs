@@ -4,6 +4,8 @@ use crate::json::Json;
 use crate::script::{quoted, Script};
 use crate::show::{file_name, rows, wrapped, Paint};
 use crate::{file_and_line, Session, DONE, FAILED, REFUSED};
+use model::checker::State;
+use model::names::{Action, Statement};
 use model::watch::Record;
 use std::fmt::Write;
 
@@ -13,6 +15,7 @@ pub struct Known {
     pub line: u32,
     pub before: Option<Vec<String>>,
     pub after: Option<Vec<String>>,
+    /// Since before the line; of `else` since before its `if`.
     pub added: Vec<String>,
     pub dropped: Vec<String>,
 }
@@ -32,6 +35,20 @@ fn without(items: &[String], other: &[String]) -> Vec<String> {
     left
 }
 
+/// The state before the `if` of an `else`, from which its branch starts.
+fn opened<'r, 'a>(
+    script: &Script<'a>,
+    record: &'r Record<'a>,
+    place: usize,
+) -> Option<&'r State<'a>> {
+    let opens = |statement: &Statement| match statement.action {
+        Action::If(branch) => branch.other == place,
+        _ => false,
+    };
+    let at = script.program.statements.iter().position(opens)?;
+    record.seen[at].before.as_ref()
+}
+
 /// What is known around each statement line, in order; lines that the check
 /// did not come to know nothing. None at all for a text with number 10.
 pub fn all(script: &Script) -> Vec<Known> {
@@ -43,8 +60,12 @@ pub fn all(script: &Script) -> Vec<Known> {
         let names = script.names_at(place);
         let before = seen.before.as_ref().map(|state| names.state(state));
         let after = seen.after.as_ref().map(|state| names.state(state));
-        let (added, dropped) = match (&before, &after) {
-            (Some(before), Some(after)) => (without(after, before), without(before, after)),
+        let since = match statement.action {
+            Action::Else(_) => opened(script, &record, place).map(|state| names.state(state)),
+            _ => before.clone(),
+        };
+        let (added, dropped) = match (&since, &after) {
+            (Some(since), Some(after)) => (without(after, since), without(since, after)),
             _ => Default::default(),
         };
         Known {
@@ -91,33 +112,41 @@ pub fn full(script: &Script, known: &Known) -> String {
     if !known.added.is_empty() {
         list(&mut out, "  adds:   ", Some(&known.added));
     }
-    let ends = script.statement_at(known.line).is_some_and(|place| {
-        matches!(
-            script.program.statements[place].action,
-            model::names::Action::End
-        )
-    });
+    let ends = script
+        .statement_at(known.line)
+        .is_some_and(|place| matches!(script.program.statements[place].action, Action::End));
     if !ends {
         list(&mut out, "  after:  ", known.after.as_ref());
     }
     out
 }
 
-/// Every line with what it drops and adds.
+fn signed(out: &mut String, sign: &str, atoms: &[String]) {
+    if !atoms.is_empty() {
+        rows(out, &format!("     {sign} "), &joined(atoms));
+    }
+}
+
+/// Every block with what it starts from, and every line with what it drops and
+/// adds.
 fn changes(script: &Script, all: &[Known], paint: Paint) -> String {
     let mut out = String::new();
-    for known in all {
-        let line = quoted(script.text, known.line);
-        let number = paint.side(&format!("{:>4}", known.line));
-        let _ = writeln!(out, "{number} {line}");
+    let row = |out: &mut String, line: u32| {
+        let number = paint.side(&format!("{line:>4}"));
+        let _ = writeln!(out, "{number} {}", quoted(script.text, line));
+    };
+    for (place, known) in all.iter().enumerate() {
+        let block = script.block_of(place);
+        if script.program.blocks[block].start == place {
+            row(&mut out, script.block_line(block));
+            signed(&mut out, "+", known.before.as_deref().unwrap_or_default());
+        }
+        row(&mut out, known.line);
         if known.before.is_none() {
             wrapped(&mut out, "       ", "the check did not come here");
         }
-        for (sign, atoms) in [("-", &known.dropped), ("+", &known.added)] {
-            if !atoms.is_empty() {
-                rows(&mut out, &format!("     {sign} "), &joined(atoms));
-            }
-        }
+        signed(&mut out, "-", &known.dropped);
+        signed(&mut out, "+", &known.added);
     }
     out
 }

@@ -138,6 +138,10 @@ fn run(session: &mut Session) -> u8 {
         let report = Report::of(&shown, text, Some(steps));
         let cards = report.ran().filter(|_| session.words.has("cards"));
         let cards = cards.and_then(|ran| cards::after(text, ran.outcome.steps()));
+        if cards.is_none() && session.words.has("cards") && report.ran().is_some() {
+            let most = cause::AGAIN;
+            complain(&format!("cards are shown after at most {most} steps"));
+        }
         if session.json() {
             let object = objects::report(&report);
             let object = object.with_some("cards", cards.map(|cards| cards.json()));

@@ -11,6 +11,9 @@ use model::machine::{Machine, Step, Values};
 use std::cmp::Ordering;
 use std::ffi::OsStr;
 
+/// At most so many steps stand in one JSON object.
+const JSON_ROWS: usize = 100_000;
+
 /// One step, or the line at which the run stopped.
 struct Row {
     step: u32,
@@ -131,7 +134,8 @@ pub fn trace(session: &mut Session, name: &OsStr, text: &[u8]) -> u8 {
                 break;
             };
             match session.json() {
-                true => rows.push(json_row(&row)),
+                true if rows.len() < JSON_ROWS => rows.push(json_row(&row)),
+                true => break,
                 false => session.print(&shown_row(&row)),
             }
         }

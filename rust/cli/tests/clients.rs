@@ -118,11 +118,8 @@ const next = () => new Promise((answer) => { made.found = answer; });
 })();
 "#;
 
-#[test]
-fn the_extension_for_vs_code() {
-    if !is_here("node") {
-        return;
-    }
+/// What the person sees of a text that is opened in the editor.
+fn seen_in_the_editor(script: &str) -> Json {
     let folder = folder("vscode");
     std::fs::create_dir(folder.join("vscode")).expect("a folder");
     std::fs::write(folder.join("vscode/index.js"), EDITOR).expect("a file");
@@ -130,13 +127,21 @@ fn the_extension_for_vs_code() {
     let output = Command::new("node")
         .arg(folder.join("person.js"))
         .arg(root().join("editors/vscode/extension.js"))
-        .arg(root().join("examples/refused-12.script"))
+        .arg(root().join(script))
         .env("NODE_PATH", &folder)
         .env("PATH", path())
         .output()
         .expect("node");
     let (said, error) = (&output.stdout, String::from_utf8_lossy(&output.stderr));
-    let answer = parse(&String::from_utf8_lossy(said)).unwrap_or_else(|| panic!("{error}"));
+    parse(&String::from_utf8_lossy(said)).unwrap_or_else(|| panic!("{error}"))
+}
+
+#[test]
+fn the_extension_for_vs_code() {
+    if !is_here("node") {
+        return;
+    }
+    let answer = seen_in_the_editor("examples/refused-12.script");
     let Some(Json::List(opened)) = answer.get("opened") else {
         panic!("no diagnostics: {answer}");
     };

@@ -89,7 +89,8 @@ pub const EXPLANATIONS: &[Explanation] = &[
         meaning: "A text has at most 16 classes, 8 fields a class, 64 methods, 12 `var` lines a \
                   block, 256 statement lines (`else`, `join` and `end` counted), and branches that \
                   nest 4 deep.",
-        mend: "move statements into methods that are called more than once, or split the script",
+        mend: "lines that recur go into a method, where they count once, and so do the inner branches; \
+               fields go into a second class with a link to it; or split the script",
         example: example!("refused-05"),
     },
     Explanation {

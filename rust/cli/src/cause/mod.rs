@@ -11,7 +11,7 @@ mod rules;
 mod stops;
 
 pub use form::form_of;
-pub use stops::{machine_at, open_calls, stop_cause, value_shown};
+pub use stops::{machine_at, open_calls, stop_cause, value_shown, AGAIN};
 
 use host::{Kind, Refusal};
 use std::ops::Range;

@@ -8,7 +8,7 @@ use model::number;
 use model::watch::{Halt, Tested};
 
 /// Longer runs are not done again to say more about them.
-const AGAIN: u32 = 5_000_000;
+pub const AGAIN: u32 = 5_000_000;
 
 /// The machine after so many steps, at the step that stopped.
 pub fn machine_at<'p, 'a>(script: &'p Script<'a>, steps: u32) -> Machine<'p, 'a> {
