@@ -1,6 +1,7 @@
 //! `station known`: what the checker knows before and after a line.
 
 use crate::json::Json;
+use crate::report::Report;
 use crate::script::{quoted, Script};
 use crate::show::{file_name, rows, wrapped, Paint};
 use crate::{file_and_line, Session, DONE, FAILED, REFUSED};
@@ -128,8 +129,8 @@ fn signed(out: &mut String, sign: &str, atoms: &[String]) {
 }
 
 /// Every block with what it starts from, and every line with what it drops and
-/// adds.
-fn changes(script: &Script, all: &[Known], paint: Paint) -> String {
+/// adds, or why it is refused.
+fn changes(script: &Script, all: &[Known], report: &Report, paint: Paint) -> String {
     let mut out = String::new();
     let row = |out: &mut String, line: u32| {
         let number = paint.side(&format!("{line:>4}"));
@@ -147,6 +148,12 @@ fn changes(script: &Script, all: &[Known], paint: Paint) -> String {
         }
         signed(&mut out, "-", &known.dropped);
         signed(&mut out, "+", &known.added);
+        let refusal = report.refusal.filter(|found| found.line() == known.line);
+        if let Some(refusal) = refusal {
+            let why = report.cause.as_ref().map_or("", |cause| &cause.text);
+            let said = format!("number {}: {why}", refusal.number());
+            wrapped(&mut out, "     ! ", &said);
+        }
     }
     out
 }
@@ -162,20 +169,19 @@ fn json_of(script: &Script, known: &Known) -> Json {
 }
 
 /// What is found, printed.
-fn print(session: &mut Session, script: &Script, shown: &str, found: &[Known], one: bool) {
+fn print(session: &mut Session, script: &Script, report: &Report, found: &[Known], one: bool) {
+    let shown = report.file;
     if session.json() {
         let lines: Vec<Json> = found.iter().map(|known| json_of(script, known)).collect();
-        let object = Json::object()
-            .with("file", shown)
-            .with("call", "known")
-            .with("lines", lines);
-        session.print_json(&object);
+        let object = Json::object().with("file", shown).with("call", "known");
+        let object = crate::objects::check(object, report);
+        session.print_json(&object.with("lines", lines));
     } else if let (true, [known]) = (one, found) {
         let line = quoted(script.text, known.line);
         let head = format!("{shown}:{}: {line}\n", known.line);
         session.print(&(head + &full(script, known)));
     } else {
-        session.print(&changes(script, found, session.paint));
+        session.print(&changes(script, found, report, session.paint));
     }
 }
 
@@ -187,7 +193,7 @@ pub fn known(session: &mut Session) -> u8 {
         return FAILED;
     };
     let shown = file_name(&name);
-    let report = crate::report::Report::of(&shown, &text, None);
+    let report = Report::of(&shown, &text, None);
     let Some(script) = Script::of(&text) else {
         session.print_report(&report);
         return REFUSED;
@@ -207,7 +213,7 @@ pub fn known(session: &mut Session) -> u8 {
         ));
         return FAILED;
     }
-    print(session, &script, &shown, &found, line.is_some());
+    print(session, &script, &report, &found, line.is_some());
     if report.good() {
         DONE
     } else {

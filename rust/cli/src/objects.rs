@@ -47,7 +47,8 @@ fn value(value: Value) -> Json {
     }
 }
 
-fn check(object: Json, report: &Report) -> Json {
+/// Check's answer and its cause.
+pub fn check(object: Json, report: &Report) -> Json {
     let refusal = report
         .refusal
         .map(|refusal| (refusal.number(), refusal.line()));

@@ -135,10 +135,11 @@ fn bash() -> String {
 }
 
 fn zsh() -> String {
-    let quoted = |text: &str| text.replace('\'', "'\\''").replace(':', "\\:");
+    let quoted = |text: &str| text.replace('\'', "'\\''");
     let mut out = String::from("#compdef station\nlocal -a commands\ncommands=(\n");
     for spec in shown() {
-        let _ = writeln!(out, "  '{}:{}'", spec.name, quoted(spec.about));
+        let about = quoted(spec.about).replace(':', "\\:");
+        let _ = writeln!(out, "  '{}:{about}'", spec.name);
     }
     out.push_str(")\nif (( CURRENT == 2 )); then\n  _describe command commands\n  return\nfi\ncase $words[2] in\n");
     for spec in shown() {

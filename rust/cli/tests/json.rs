@@ -95,6 +95,7 @@ fn looking_inside() {
         lines[0].get("dropped"),
         Some(&Json::List(vec![text("eq c.tag 0")]))
     );
+    assert_eq!(known.get("accepted"), Some(&Json::Bool(true)));
     let trace = object(&["trace", "--json", "--cards", "examples/tag.script"], b"");
     assert!(matches!(trace.get("trace"), Some(Json::List(rows)) if rows.len() == 8));
     let Some(Json::List(cards)) = trace.get("cards") else {

@@ -11,6 +11,7 @@ pub mod form;
 pub mod framing;
 pub mod gen;
 pub mod limits;
+pub mod locations;
 pub mod machine;
 pub mod names;
 pub mod number;

@@ -8,39 +8,10 @@ use crate::names::{
 use crate::number;
 use crate::watch::{Halt, Tested};
 
-/// A location (object, field), as the place of the field in the heap.
-pub type Location = usize;
+pub use crate::locations::{Location, Locations};
 
 /// The values of a frame's variables; null is 0.
 pub type Values = [i32; VARS];
-
-const WORDS: usize = limits::HEAP_FIELDS / 64;
-
-/// A set of locations.
-#[derive(Clone, Copy, Debug, Default, PartialEq, Eq)]
-pub struct Locations([u64; WORDS]);
-
-impl Locations {
-    pub fn contains(&self, location: Location) -> bool {
-        self.0[location / 64] >> (location % 64) & 1 == 1
-    }
-
-    pub fn insert(&mut self, location: Location) {
-        self.0[location / 64] |= 1 << (location % 64);
-    }
-
-    fn add_all(&mut self, other: &Locations) {
-        for (word, more) in self.0.iter_mut().zip(other.0) {
-            *word |= more;
-        }
-    }
-
-    fn remove_all(&mut self, other: &Locations) {
-        for (word, gone) in self.0.iter_mut().zip(other.0) {
-            *word &= !gone;
-        }
-    }
-}
 
 /// "A frame has values and a set A of locations". A frame that waits for a call
 /// stands at the `call`.

@@ -300,10 +300,16 @@ fn closing(reader: &Reader, suits: impl Fn(&Reader) -> bool) -> Option<Vec<Strin
     None
 }
 
-/// What is missing before a line, so that it may stand.
+/// What is missing before a line, so that it may stand. From inside a block no
+/// way leads through `main`.
 fn missing_before(bytes: &[u8], reader: &Reader) -> Option<Vec<String>> {
     let line = text::line(bytes)?;
-    closing(reader, |reader| reader.clone().step(&line)).filter(|lines| !lines.is_empty())
+    let inside = matches!(reader.place, Place::Vars(_) | Place::Body(_));
+    let fits = |lines: &Vec<String>| {
+        let through = lines.iter().any(|line| line == "main");
+        !lines.is_empty() && !(inside && through)
+    };
+    closing(reader, |reader| reader.clone().step(&line)).filter(fits)
 }
 
 /// Number 5.
