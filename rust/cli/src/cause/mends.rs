@@ -33,18 +33,20 @@ fn never_shown(unshown: &Unshown, steps: &[Step]) -> Option<String> {
         Atom::Acc(Path {
             var: THIS | PARAM, ..
         }) if in_method => Some(format!("add `{wanted}` to `requires` (line {requires})")),
-        Atom::Acc(path) if !assigned(unshown.script, steps, path.var) => {
-            let Some(Type::Class(class)) = names.kind(path.var) else {
+        Atom::Ne(Expr::Var(THIS | PARAM), Expr::Null) if in_method => Some(format!(
+            "add `{wanted}`, or an `acc` of it, to `requires` (line {requires})"
+        )),
+        Atom::Acc(Path { var, .. }) | Atom::Ne(Expr::Var(var), Expr::Null)
+            if !assigned(unshown.script, steps, var) =>
+        {
+            let Some(Type::Class(class)) = names.kind(var) else {
                 return None;
             };
-            let (var, class) = (names.var(path.var), shown(class));
+            let (var, class) = (names.var(var), shown(class));
             Some(format!(
                 "`new {var} {class}` first: `{var}` is null until a line assigns it"
             ))
         }
-        Atom::Ne(Expr::Var(THIS | PARAM), Expr::Null) if in_method => Some(format!(
-            "add `{wanted}`, or an `acc` of it, to `requires` (line {requires})"
-        )),
         Atom::Ne(Expr::Var(_), Expr::Null) => Some(format!(
             "test it: `if {wanted}`, and do this in the first branch"
         )),

@@ -6,6 +6,7 @@ mod bytes;
 mod form;
 mod mends;
 mod names;
+mod places;
 mod route;
 mod rules;
 mod stops;
@@ -44,6 +45,12 @@ impl Cause {
         self
     }
 
+    /// The mend, if there is one.
+    fn or_mend(mut self, mend: Option<String>) -> Cause {
+        self.mend = mend.or(self.mend);
+        self
+    }
+
     fn mend(mut self, mend: impl Into<String>) -> Cause {
         self.mend = Some(mend.into());
         self
@@ -60,8 +67,8 @@ pub fn cause(text: &[u8], refusal: Refusal) -> Option<Cause> {
         Kind::TextTooLong => Some(bytes::too_long(text)),
         Kind::Byte => bytes::bad_byte(text, line),
         Kind::Form => form::malformed(text, line),
-        Kind::Limit => form::limit(text, line),
-        Kind::Unfinished => Some(form::unfinished(text)),
+        Kind::Limit => places::limit(text, line),
+        Kind::Unfinished => Some(places::unfinished(text)),
         Kind::Name | Kind::Type | Kind::Assigned => names::fault(text, line),
         Kind::Unframed => names::unframed(text, line),
         Kind::Unresolved | Kind::NoPermission | Kind::NotShown | Kind::StateFull => {

@@ -121,6 +121,7 @@ fn undeclared(look: &Look, name: Name, role: Role) -> Cause {
             let classes: Vec<String> = look.program.classes.iter().map(|c| shown(c.name)).collect();
             let near = did_you_mean(&shown(name), classes.iter().map(String::as_str));
             let cause = Cause::new(format!("no class `{}` is declared{near}", shown(name)));
+            let cause = cause.or_mend(turned(look));
             match classes.is_empty() {
                 true => cause.note("a type is `int` or a class, and there is no class"),
                 false => cause.note(format!("a type is `int` or {}", listed(&classes, "or"))),
@@ -142,6 +143,23 @@ fn undeclared(look: &Look, name: Name, role: Role) -> Cause {
         }
         _ => Cause::new(format!("`{}` is not declared", shown(name))),
     }
+}
+
+/// The line with type and name in their order, where they were turned.
+fn turned(look: &Look) -> Option<String> {
+    let (word, kind, name) = match look.line()? {
+        Line::Var { kind, name } => ("var", kind, name),
+        Line::Field { kind, name } => ("field", kind, name),
+        _ => return None,
+    };
+    let is_type = *name == b"int" || look.class(name).is_some();
+    is_type.then(|| {
+        format!(
+            "the type comes first: `{word} {} {}`",
+            shown(name),
+            shown(kind)
+        )
+    })
 }
 
 fn member(
@@ -211,6 +229,13 @@ fn unknown_variable(look: &Look, name: Name) -> Cause {
     let cause = match names.is_empty() {
         true => cause.note("the block has no `var` line"),
         false => cause.note(format!("its variables: {}", listed(&names, "and"))),
+    };
+    let cause = match look.class(name) {
+        Some(_) if matches!(look.line(), Some(Line::New(..))) => {
+            cause.note("the variable comes first, then the class: `new x C`")
+        }
+        Some(_) => cause.note(format!("`{shown_name}` is a class")),
+        None => cause,
     };
     let field = |class: &&Class| class.fields.iter().any(local);
     match look.program.classes.iter().find(field) {

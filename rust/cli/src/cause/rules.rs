@@ -208,6 +208,9 @@ impl<'s, 'a> Unshown<'s, 'a> {
 /// What comes nearest to the atom in the state.
 fn nearest<'a>(names: &Names, state: &State<'a>, wanted: Atom<'a>) -> Option<String> {
     match wanted {
+        Atom::Acc(path) if state.equals(Term::Var(path.var)).contains(&Term::Null) => {
+            Some(format!("`{}` is known to be null", names.var(path.var)))
+        }
         Atom::Acc(path) => {
             let held = state.permissions.iter();
             let held: Vec<String> = held
