@@ -12,19 +12,24 @@ class Client {
     this.waiting = new Map();
     this.input = Buffer.alloc(0);
     this.process = spawn(program, ['lsp']);
-    this.process.on('error', () => this.close());
+    this.process.on('error', (error) => {
+      vscode.window.showErrorMessage(`station: ${error.message}; see the setting station.program`);
+      this.close();
+    });
     this.process.on('exit', () => this.close());
     this.process.stdin.on('error', () => {});
     this.process.stdout.on('data', (bytes) => this.take(bytes));
   }
 
-  /** Nothing more is answered. */
+  /** The server is gone: what is asked has no answer. */
   close() {
+    this.closed = true;
     for (const answer of this.waiting.values()) answer(null);
     this.waiting.clear();
   }
 
   send(message) {
+    if (this.closed) return;
     const body = Buffer.from(JSON.stringify({ jsonrpc: '2.0', ...message }));
     this.process.stdin.write(`Content-Length: ${body.length}\r\n\r\n`);
     this.process.stdin.write(body);
@@ -35,6 +40,7 @@ class Client {
   }
 
   ask(method, params) {
+    if (this.closed) return Promise.resolve(null);
     const id = this.next++;
     return new Promise((answer) => {
       this.waiting.set(id, answer);

@@ -9,6 +9,8 @@ mod json;
 
 use common::{folder, root};
 use json::{parse, Json};
+use std::ffi::OsStr;
+use std::path::PathBuf;
 use std::process::{Command, Stdio};
 
 fn is_here(program: &str) -> bool {
@@ -21,6 +23,13 @@ fn is_here(program: &str) -> bool {
         println!("no {program} here");
     }
     tried.is_ok()
+}
+
+/// Where node is.
+fn node() -> Option<PathBuf> {
+    let path = std::env::var_os("PATH")?;
+    let mut folders = std::env::split_paths(&path);
+    folders.find_map(|folder| Some(folder.join("node")).filter(|file| file.is_file()))
 }
 
 /// The path with the command's folder first.
@@ -80,6 +89,7 @@ const document = {
 module.exports = {
   Range, Diagnostic, Hover, MarkdownString, Location, CompletionItem, TextEdit, made, document,
   Uri: { parse: (uri) => uri },
+  window: { showErrorMessage: (said) => console.log(JSON.stringify({ said })) },
   languages: {
     createDiagnosticCollection: () => ({ set: (uri, list) => made.found(list), dispose() {} }),
     registerHoverProvider: keep('hover'), registerDefinitionProvider: keep('definition'),
@@ -119,17 +129,17 @@ const next = () => new Promise((answer) => { made.found = answer; });
 "#;
 
 /// What the person sees of a text that is opened in the editor.
-fn seen_in_the_editor(script: &str) -> Json {
-    let folder = folder("vscode");
+fn seen_in_the_editor(test: &str, script: &str, path: &OsStr) -> Json {
+    let folder = folder(test);
     std::fs::create_dir(folder.join("vscode")).expect("a folder");
     std::fs::write(folder.join("vscode/index.js"), EDITOR).expect("a file");
     std::fs::write(folder.join("person.js"), PERSON).expect("a file");
-    let output = Command::new("node")
+    let output = Command::new(node().expect("node is here"))
         .arg(folder.join("person.js"))
         .arg(root().join("editors/vscode/extension.js"))
         .arg(root().join(script))
         .env("NODE_PATH", &folder)
-        .env("PATH", path())
+        .env("PATH", path)
         .output()
         .expect("node");
     let (said, error) = (&output.stdout, String::from_utf8_lossy(&output.stderr));
@@ -141,7 +151,7 @@ fn the_extension_for_vs_code() {
     if !is_here("node") {
         return;
     }
-    let answer = seen_in_the_editor("examples/refused-12.script");
+    let answer = seen_in_the_editor("vscode", "examples/refused-12.script", &path());
     let Some(Json::List(opened)) = answer.get("opened") else {
         panic!("no diagnostics: {answer}");
     };
@@ -169,4 +179,19 @@ fn the_extension_for_vs_code() {
     let typed = items[0].at(&["range", "from"]);
     assert_eq!((items.len(), typed), (1, Some(&Json::from(vec![5, 9]))));
     assert_eq!(answer.get("edits"), Some(&Json::List(Vec::new())));
+}
+
+/// Without the command the person is told so, and the editor goes on.
+#[test]
+fn the_extension_without_the_command() {
+    if !is_here("node") {
+        return;
+    }
+    let nowhere = folder("nowhere");
+    let answer = seen_in_the_editor("vscode-alone", "examples/tag.script", nowhere.as_os_str());
+    let said = answer.get("said").and_then(Json::text);
+    assert!(
+        said.is_some_and(|said| said.contains("station.program")),
+        "{answer}"
+    );
 }

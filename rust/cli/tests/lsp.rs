@@ -274,8 +274,8 @@ fn hostile_texts() {
     texts.extend((0..40).map(|seed| String::from_utf8_lossy(&model::gen::text(seed)).into_owned()));
     for text in texts {
         client.open(&text);
-        for line in [0, 1, 7, 4_000_000_000] {
-            for column in [0, 3, 9, 4_000_000_000] {
+        for line in [0, 1, 7, u32::MAX] {
+            for column in [0, 3, 9, u32::MAX] {
                 for method in ASKED {
                     client.at(method, line, column);
                 }

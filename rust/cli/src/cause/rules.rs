@@ -98,6 +98,7 @@ impl<'s, 'a> Unshown<'s, 'a> {
             None => format!("asks for `{wanted}`"),
         };
         let missing = match self.wanted {
+            Atom::Acc(_) if self.taken().is_some() => "not held a second time",
             Atom::Acc(_) => "not held",
             _ => "not known",
         };
@@ -105,7 +106,10 @@ impl<'s, 'a> Unshown<'s, 'a> {
             Purpose::Value => format!("`let` {needs}, and it is {missing} here"),
             Purpose::Condition => format!("`if` {needs}, and it is {missing} here"),
             Purpose::Write => {
-                let path = wanted.trim_start_matches("acc ").replace(' ', ".");
+                let path = match self.wanted {
+                    Atom::Acc(path) => names.expr(Expr::Path(path)),
+                    _ => wanted.clone(),
+                };
                 format!("`set` writes `{path}`, which needs `{wanted}`, and it is {missing} here")
             }
             Purpose::Receiver => {

@@ -50,13 +50,14 @@ fn uri(params: &Json) -> Option<&str> {
     params.at(&["textDocument", "uri"])?.text()
 }
 
+/// No text has so many lines: one that is far out stands for all beyond it.
+const FAR: i64 = 1 << 30;
+
 /// The line and column that a request is about.
 fn place(params: &Json) -> Option<(u32, usize)> {
-    let of = |name| params.at(&["position", name])?.int();
-    Some((
-        u32::try_from(of("line")?).ok()?,
-        usize::try_from(of("character")?).ok()?,
-    ))
+    let of = |name| Some(params.at(&["position", name])?.int()?.clamp(0, FAR));
+    let (line, column) = (of("line")?, of("character")?);
+    Some((u32::try_from(line).ok()?, usize::try_from(column).ok()?))
 }
 
 impl Server {
