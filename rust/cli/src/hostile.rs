@@ -8,6 +8,7 @@ use crate::objects;
 use crate::report::Report;
 use crate::script::{line, Script};
 use crate::show::{self, Paint};
+use crate::trace;
 
 fn looked_into(text: &[u8], steps: u32) {
     let report = Report::of("a", text, Some(steps));
@@ -36,6 +37,14 @@ fn looked_into(text: &[u8], steps: u32) {
         }
     }
     let ran = report.ran().map_or(0, |ran| ran.outcome.steps());
+    if let Some(script) = Script::of(text) {
+        let mut last = 0;
+        trace::each(&script, ran, |row| {
+            last += 1;
+            trace::shown_row(row).ends_with('\n')
+        });
+        assert_eq!(last, ran);
+    }
     if let Some(cards) = cards::after(text, ran) {
         let picture = draw::svg(&cards, "a");
         assert!(picture.ends_with("</svg>\n"));

@@ -15,7 +15,7 @@ use std::ffi::OsStr;
 const JSON_ROWS: usize = 100_000;
 
 /// One step, or the line at which the run stopped.
-struct Row {
+pub struct Row {
     step: u32,
     line: u32,
     depth: usize,
@@ -23,9 +23,11 @@ struct Row {
     changes: Vec<String>,
 }
 
-/// The cards that a step made, and the fields that it changed.
+/// The cards that a step made, the fields that it changed, and those that went
+/// to another holder.
 fn card_changes(script: &Script, before: &Before, machine: &Machine) -> Vec<String> {
     let mut said = Vec::new();
+    let now = holders(machine);
     for (at, object) in machine.objects.iter().enumerate() {
         let class = &script.program.classes[object.class];
         if at >= before.objects {
@@ -37,14 +39,35 @@ fn card_changes(script: &Script, before: &Before, machine: &Machine) -> Vec<Stri
             continue;
         }
         for (slot, field) in class.fields.iter().enumerate() {
-            let new = machine.heap[object.first + slot];
-            if new != before.heap[object.first + slot] {
-                let value = value_shown(Some(field.kind), new);
-                said.push(format!("object {}.{} = {value}", at + 1, shown(field.name)));
+            let place = object.first + slot;
+            let name = format!("object {}.{}", at + 1, shown(field.name));
+            let new = machine.heap[place];
+            if new != before.heap[place] {
+                said.push(format!("{name} = {}", value_shown(Some(field.kind), new)));
+            }
+            if now[place] != before.holders[place] {
+                said.push(format!("{name} to {}", holder(script, machine, now[place])));
             }
         }
     }
     said
+}
+
+/// The frame that holds each location, from main's 0.
+fn holders(machine: &Machine) -> Vec<Option<usize>> {
+    let of = |place| {
+        let mut frames = machine.frames.iter();
+        frames.position(|frame| frame.held.contains(place))
+    };
+    (0..machine.heap.len()).map(of).collect()
+}
+
+fn holder(script: &Script, machine: &Machine, holder: Option<usize>) -> String {
+    let frame = holder.and_then(|at| machine.frames.get(at));
+    frame.map_or("nobody".to_string(), |frame| {
+        let header = script.program.blocks[frame.block].header;
+        header.map_or("main".to_string(), |header| shown(header.name))
+    })
 }
 
 /// What a step did: cards, fields, and values of the block that runs after it.
@@ -70,6 +93,7 @@ fn changes(script: &Script, before: &Before, machine: &Machine) -> Vec<String> {
 struct Before {
     objects: usize,
     heap: Vec<i32>,
+    holders: Vec<Option<usize>>,
     depth: usize,
     values: Values,
     caller: Option<Values>,
@@ -81,6 +105,7 @@ impl Before {
         Before {
             objects: machine.objects.len(),
             heap: machine.heap.clone(),
+            holders: holders(machine),
             depth,
             values: machine.frame().values,
             caller: depth.checked_sub(2).map(|at| machine.frames[at].values),
@@ -105,10 +130,10 @@ fn row(script: &Script, machine: &mut Machine) -> Option<Row> {
     })
 }
 
-fn shown_row(row: &Row) -> String {
+pub fn shown_row(row: &Row) -> String {
     let text = format!("{}{}", "  ".repeat(row.depth), row.text);
     let changes = row.changes.join(", ");
-    let printed = format!("{:>6} {:>4}  {text:<32} {changes}", row.step, row.line);
+    let printed = format!("{:>6} {:>4}  {text:<32}  {changes}", row.step, row.line);
     format!("{}\n", printed.trim_end())
 }
 
@@ -121,6 +146,17 @@ fn json_row(row: &Row) -> Json {
         .with("changes", row.changes.clone())
 }
 
+/// Each of so many steps, until the first that is not wanted.
+pub fn each(script: &Script, steps: u32, mut wanted: impl FnMut(&Row) -> bool) {
+    let mut machine = Machine::new(&script.program);
+    while machine.steps < steps {
+        match row(script, &mut machine) {
+            Some(row) if wanted(&row) => {}
+            _ => return,
+        }
+    }
+}
+
 /// The command, for one file.
 pub fn trace(session: &mut Session, name: &OsStr, text: &[u8]) -> u8 {
     let shown_name = file_name(name);
@@ -128,17 +164,13 @@ pub fn trace(session: &mut Session, name: &OsStr, text: &[u8]) -> u8 {
     let report = Report::of(&shown_name, text, Some(allowed));
     let mut rows = Vec::new();
     if let (Some(script), Some(ran)) = (Script::of(text), report.ran()) {
-        let mut machine = Machine::new(&script.program);
-        while machine.steps < ran.outcome.steps() {
-            let Some(row) = row(&script, &mut machine) else {
-                break;
-            };
+        each(&script, ran.outcome.steps(), |row| {
             match session.json() {
-                true if rows.len() < JSON_ROWS => rows.push(json_row(&row)),
-                true => break,
-                false => session.print(&shown_row(&row)),
+                true => rows.push(json_row(row)),
+                false => session.print(&shown_row(row)),
             }
-        }
+            rows.len() < JSON_ROWS
+        });
     }
     let cards = report.ran().filter(|_| session.words.has("cards"));
     let cards = cards.and_then(|ran| cards::after(text, ran.outcome.steps()));
