@@ -1,146 +1,316 @@
-//! `station`: check, run and explain catalogue scripts.
+//! `station`: check, run, explain and look into catalogue scripts.
 
 mod args;
+mod cards;
+mod cause;
+mod draw;
+mod files;
+mod fmt;
+#[cfg(test)]
+mod hostile;
 mod json;
+mod known;
+mod lsp;
+mod nearest;
+mod objects;
+mod progress;
 mod report;
+mod script;
 mod show;
-mod tabs;
+mod table;
+mod trace;
+mod usage;
 
-use args::{Command, Options};
+use args::{Colour, Parsed};
+use files::{complain, complain_of, Out};
+use json::Json;
 use report::Report;
-use std::ffi::OsString;
-use std::io::{IsTerminal, Read, Write};
+use show::Paint;
+use std::ffi::{OsStr, OsString};
 use std::process::ExitCode;
 
 /// Accepted or finished.
-const DONE: u8 = 0;
+pub const DONE: u8 = 0;
 /// Refused or stopped.
-const REFUSED: u8 = 1;
+pub const REFUSED: u8 = 1;
 /// Wrong use, or a file that can't be read.
-const FAILED: u8 = 2;
+pub const FAILED: u8 = 2;
 
-/// A text, or one byte more than a text may have.
-const READ_BYTES: u64 = host::limits::TEXT_BYTES as u64 + 1;
-
-/// The bytes of a file, or of standard input for `-`.
-fn read(name: &OsString) -> std::io::Result<Vec<u8>> {
-    let mut text = Vec::new();
-    if name == "-" {
-        std::io::stdin()
-            .lock()
-            .take(READ_BYTES)
-            .read_to_end(&mut text)?;
-    } else {
-        std::fs::File::open(name)?
-            .take(READ_BYTES)
-            .read_to_end(&mut text)?;
-    }
-    Ok(text)
+/// One call of the command: its words, and where it writes.
+pub struct Session {
+    words: Parsed,
+    out: Out,
+    paint: Paint,
 }
 
-/// Writes and flushes; a reader that has gone away ends the program quietly.
-fn write(bytes: &[u8]) -> Result<(), ExitCode> {
-    let mut out = std::io::stdout().lock();
-    match out.write_all(bytes).and_then(|()| out.flush()) {
-        Ok(()) => Ok(()),
-        Err(error) if error.kind() == std::io::ErrorKind::BrokenPipe => Err(DONE.into()),
-        Err(error) => {
-            complain(&format!("standard output: {error}"));
-            Err(FAILED.into())
+impl Session {
+    fn json(&self) -> bool {
+        self.words.has("json")
+    }
+
+    fn print(&mut self, text: &str) {
+        self.out.write(text.as_bytes());
+    }
+
+    fn print_json(&mut self, value: &Json) {
+        self.print(&format!("{value}\n"));
+    }
+
+    /// Check's answer, or that of check and run.
+    fn print_report(&mut self, report: &Report) {
+        match self.json() {
+            true => self.print_json(&objects::report(report)),
+            false => self.print(&show::report(report, self.paint)),
         }
     }
+
+    /// The text of a file; none, and a complaint, if it can't be read.
+    fn text(&mut self, name: &OsStr) -> Option<Vec<u8>> {
+        match files::read(name) {
+            Ok(text) => Some(text),
+            Err(error) => {
+                self.unread(name, &error);
+                None
+            }
+        }
+    }
+
+    fn unread(&mut self, name: &OsStr, error: &std::io::Error) {
+        if self.json() {
+            let object = objects::unread(&show::file_name(name), &error.to_string());
+            self.print_json(&object);
+        }
+        complain_of(name, error);
+    }
+
+    /// Each file by one function; the worst status.
+    fn each(&mut self, one: impl Fn(&mut Session, &OsStr, &[u8]) -> u8) -> u8 {
+        let names = std::mem::take(&mut self.words.operands);
+        let mut worst = DONE;
+        for name in names {
+            let status = match self.text(&name) {
+                Some(text) => one(self, &name, &text),
+                None => FAILED,
+            };
+            worst = worst.max(status);
+        }
+        worst
+    }
 }
 
-/// A message for the person on standard error; nothing is done if that fails.
-fn complain(message: &str) {
-    let _ = writeln!(std::io::stderr(), "station: {message}");
+/// `station check`: each file, then a count where there are many.
+fn check(session: &mut Session) -> u8 {
+    session.words.operands = files::expanded(&session.words.operands);
+    let many = session.words.operands.len() > 1;
+    let (mut accepted, mut refused) = (0, 0);
+    let mut worst = DONE;
+    for name in std::mem::take(&mut session.words.operands) {
+        let Some(text) = session.text(&name) else {
+            worst = FAILED;
+            continue;
+        };
+        let shown = show::file_name(&name);
+        let report = Report::of(&shown, &text, None);
+        match report.good() {
+            true => accepted += 1,
+            false => refused += 1,
+        }
+        worst = worst.max(if report.good() { DONE } else { REFUSED });
+        if session.json() {
+            session.print_json(&objects::report(&report));
+        } else if session.words.has("short") {
+            session.print(&show::short(&report));
+        } else if !(report.good() && session.words.has("quiet")) {
+            session.print(&show::report(&report, session.paint));
+        }
+    }
+    if many && !session.json() && !session.words.has("short") && !session.words.has("quiet") {
+        session.print(&format!("{accepted} accepted, {refused} refused\n"));
+    }
+    worst
 }
 
-fn colour() -> bool {
-    std::io::stdout().is_terminal()
-        && std::env::var_os("NO_COLOR").is_none_or(|value| value.is_empty())
-        && std::env::var_os("TERM").is_none_or(|value| value != "dumb")
+/// `station run`.
+fn run(session: &mut Session) -> u8 {
+    let steps = session.words.steps;
+    session.each(|session, name, text| {
+        let shown = show::file_name(name);
+        let report = Report::of(&shown, text, Some(steps));
+        let cards = report.ran().filter(|_| session.words.has("cards"));
+        let cards = cards.and_then(|ran| cards::after(text, ran.outcome.steps()));
+        if cards.is_none() && session.words.has("cards") && report.ran().is_some() {
+            let most = cause::AGAIN;
+            complain(&format!("cards are shown after at most {most} steps"));
+        }
+        if session.json() {
+            let object = objects::report(&report);
+            let object = object.with_some("cards", cards.map(|cards| cards.json()));
+            session.print_json(&object);
+        } else {
+            session.print(&show::report(&report, session.paint));
+            if let Some(cards) = cards {
+                session.print(&cards.table());
+            }
+        }
+        if report.good() {
+            DONE
+        } else {
+            REFUSED
+        }
+    })
 }
 
-/// One file by one of the commands that take files: its status.
-fn file(command: &Command, options: &Options, name: &OsString) -> Result<u8, ExitCode> {
+/// `station fmt`, one file.
+fn fmt_one(session: &mut Session, name: &OsStr, text: &[u8]) -> u8 {
     let shown = show::file_name(name);
-    let text = match read(name) {
-        Ok(text) => text,
-        Err(error) => {
-            if options.json && !matches!(command, Command::Tabs(_)) {
-                write(json::unread(&shown, &error.to_string()).as_bytes())?;
-            }
-            complain(&format!("{shown}: {error}"));
-            return Ok(FAILED);
-        }
-    };
-    if let Command::Tabs(_) = command {
-        if text.len() > host::limits::TEXT_BYTES {
-            complain(&format!(
-                "{shown}: more than {} bytes; nothing is printed",
-                host::limits::TEXT_BYTES
-            ));
-            return Ok(REFUSED);
-        }
-        write(&tabs::tabbed(&text))?;
-        return Ok(DONE);
+    if text.len() > host::limits::TEXT_BYTES {
+        let most = host::limits::TEXT_BYTES;
+        let error = std::io::Error::other(format!("more than {most} bytes; nothing is changed"));
+        session.unread(name, &error);
+        return REFUSED;
     }
-    let steps = match command {
-        Command::Run(_) => Some(options.steps),
-        _ => None,
-    };
-    let report = Report::of(&shown, &text, steps);
-    let printed = match options.json {
-        true => json::report(&report),
-        false => show::report(&report, colour()),
-    };
-    write(printed.as_bytes())?;
-    Ok(if report.good() { DONE } else { REFUSED })
+    let better = fmt::formatted(text);
+    let same = better == text;
+    let (checks, writes) = (session.words.has("check"), session.words.has("write"));
+    if writes && !same && name != "-" {
+        if let Err(error) = fmt::replace(name.as_ref(), &better) {
+            session.unread(name, &error);
+            return FAILED;
+        }
+    }
+    if session.json() {
+        let text = String::from_utf8_lossy(&better).into_owned();
+        let object = Json::object()
+            .with("file", shown)
+            .with("call", "fmt")
+            .with("changed", !same)
+            .with_some("output", (!checks && !writes).then_some(text));
+        session.print_json(&object);
+    } else if checks && !same {
+        session.print(&format!("{shown}: not in its form\n"));
+    } else if !checks && (!writes || name == "-") {
+        session.out.write(&better);
+    }
+    if checks && !same {
+        REFUSED
+    } else {
+        DONE
+    }
 }
 
-fn run() -> Result<u8, ExitCode> {
-    let (command, options) = match args::parse(std::env::args_os().skip(1)) {
-        Ok(parsed) => parsed,
-        Err(message) => {
-            complain(&format!("{message}\n\n{}", args::USAGE.trim_end()));
-            return Ok(FAILED);
-        }
+fn explain(session: &mut Session) -> u8 {
+    let word = session
+        .words
+        .operands
+        .first()
+        .and_then(|word| word.to_str());
+    let number = word.and_then(|word| word.parse().ok());
+    let Some(known) = number.and_then(host::explain) else {
+        let numbers: Vec<String> = host::EXPLANATIONS
+            .iter()
+            .map(|known| known.number.to_string())
+            .collect();
+        complain(&format!(
+            "explain takes one of the numbers {}",
+            numbers.join(", ")
+        ));
+        return FAILED;
     };
-    match &command {
-        Command::Help => write(args::USAGE.as_bytes()).map(|()| DONE),
-        Command::Version => {
-            let version = concat!("station ", env!("CARGO_PKG_VERSION"), "\n");
-            write(version.as_bytes()).map(|()| DONE)
+    match session.json() {
+        true => session.print_json(&objects::explanation(known)),
+        false => session.print(&show::explanation(known, session.paint)),
+    }
+    DONE
+}
+
+fn completions(session: &mut Session) -> u8 {
+    let shell = session
+        .words
+        .operands
+        .first()
+        .and_then(|word| word.to_str());
+    match usage::completions(shell.unwrap_or("")) {
+        Some(text) => {
+            session.print(&text);
+            DONE
         }
-        Command::Explain(number) => match host::explain(*number) {
-            Some(known) => {
-                let printed = match options.json {
-                    true => json::explanation(known),
-                    false => show::explanation(known, colour()),
-                };
-                write(printed.as_bytes()).map(|()| DONE)
-            }
-            None => {
-                complain(&format!(
-                    "no call returns {number}; the numbers are 0 to 14 and 21 to 26"
-                ));
-                Ok(FAILED)
-            }
-        },
-        Command::Check(names) | Command::Run(names) | Command::Tabs(names) => {
-            let mut worst = DONE;
-            for name in names {
-                worst = worst.max(file(&command, &options, name)?);
-            }
-            Ok(worst)
+        None => {
+            complain("completions takes bash, zsh or fish");
+            FAILED
+        }
+    }
+}
+
+fn dispatch(session: &mut Session) -> u8 {
+    match session.words.command {
+        "check" => check(session),
+        "run" => run(session),
+        "trace" => session.each(trace::trace),
+        "known" => known::known(session),
+        "draw" => session.each(draw::draw),
+        "fmt" | "tabs" => {
+            session.words.operands = files::expanded(&session.words.operands);
+            session.each(fmt_one)
+        }
+        "explain" => explain(session),
+        "completions" => completions(session),
+        "lsp" => lsp::serve(),
+        command => {
+            let text = match command {
+                "man" => usage::man(),
+                "version" => concat!("station ", env!("CARGO_PKG_VERSION"), "\n").to_string(),
+                _ => {
+                    let of = session
+                        .words
+                        .operands
+                        .first()
+                        .and_then(|word| word.to_str());
+                    usage::help(of)
+                }
+            };
+            session.print(&text);
+            DONE
         }
     }
 }
 
 fn main() -> ExitCode {
-    match run() {
-        Ok(status) => status.into(),
-        Err(status) => status,
+    let words = std::env::args_os().skip(1);
+    let words = match args::parse(words) {
+        Ok(words) => words,
+        Err(message) => {
+            complain(&format!("{message}\nstation help shows every command"));
+            return FAILED.into();
+        }
+    };
+    let colour = match words.colour {
+        Colour::Auto => files::colour_wanted(),
+        Colour::Always => true,
+        Colour::Never => false,
+    };
+    let mut session = Session {
+        words,
+        out: Out::default(),
+        paint: Paint(colour),
+    };
+    let status = dispatch(&mut session);
+    match session.out.failed {
+        true => FAILED.into(),
+        false => status.into(),
+    }
+}
+
+/// The name and line of `FILE:LINE`; a file of the whole name comes first.
+pub fn file_and_line(word: &OsStr) -> (OsString, Option<u32>) {
+    let whole = (word.to_os_string(), None);
+    if std::path::Path::new(word).exists() {
+        return whole;
+    }
+    let Some((name, line)) = word.to_str().and_then(|word| word.rsplit_once(':')) else {
+        return whole;
+    };
+    match line.parse() {
+        Ok(line) => (name.into(), Some(line)),
+        Err(_) => whole,
     }
 }

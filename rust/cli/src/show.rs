@@ -1,9 +1,12 @@
 //! What a person reads.
 
-use crate::report::{bad_byte, line, note, Report};
+use crate::cause::Cause;
+use crate::report::{columns, Ran, Report};
+use crate::script::line;
 use host::{explain, Ending, Explanation};
 use std::ffi::OsStr;
 use std::fmt::Write;
+use std::ops::Range;
 
 /// A name for messages: control characters escaped.
 pub fn file_name(name: &OsStr) -> String {
@@ -28,32 +31,34 @@ pub fn escaped(byte: u8) -> String {
 }
 
 /// In a shown line a tab is a blank; a blank of the text is escaped.
-fn shown(byte: u8) -> String {
+pub fn shown(byte: u8) -> String {
     match byte {
         b'\t' => " ".to_string(),
         _ => escaped(byte),
     }
 }
 
-struct Paint(bool);
+/// Colours, or none.
+#[derive(Clone, Copy)]
+pub struct Paint(pub bool);
 
 impl Paint {
-    fn with(&self, code: &str, text: &str) -> String {
+    fn with(self, code: &str, text: &str) -> String {
         match self.0 {
             true => format!("\x1b[{code}m{text}\x1b[0m"),
             false => text.to_string(),
         }
     }
 
-    fn bad(&self, text: &str) -> String {
+    pub fn bad(self, text: &str) -> String {
         self.with("1;31", text)
     }
 
-    fn good(&self, text: &str) -> String {
+    pub fn good(self, text: &str) -> String {
         self.with("1;32", text)
     }
 
-    fn side(&self, text: &str) -> String {
+    pub fn side(self, text: &str) -> String {
         self.with("1;34", text)
     }
 }
@@ -61,25 +66,35 @@ impl Paint {
 /// At most so many bytes of a long line are shown.
 const SHOWN_BYTES: usize = 100;
 
-/// The line with its number, and marks below it: below the byte of number 3,
-/// else below the whole line.
-fn snippet(out: &mut String, paint: &Paint, text: &[u8], number: u32, byte: Option<usize>) {
+/// The line with its number, and marks below it: below its marked bytes, else
+/// below the whole line.
+pub fn snippet(
+    out: &mut String,
+    paint: Paint,
+    text: &[u8],
+    number: u32,
+    mark: Option<Range<usize>>,
+) {
     let Some(bytes) = line(text, number) else {
         return;
     };
-    let from = byte.map_or(0, |at| at.saturating_sub(SHOWN_BYTES / 2));
+    let mark = mark.unwrap_or(0..bytes.len());
+    let from = match mark.end > SHOWN_BYTES {
+        true => mark.start.saturating_sub(SHOWN_BYTES / 2),
+        false => 0,
+    };
     let to = bytes.len().min(from + SHOWN_BYTES);
     let (mut before, mut marked, mut after) = (String::new(), String::new(), String::new());
     if from > 0 {
         before.push_str("...");
     }
-    for (at, &shown_byte) in bytes.iter().enumerate().take(to).skip(from) {
-        let place = match byte {
-            Some(bad) if at < bad => &mut before,
-            Some(bad) if at > bad => &mut after,
+    for (at, &byte) in bytes.iter().enumerate().take(to).skip(from) {
+        let place = match at {
+            at if at < mark.start => &mut before,
+            at if at >= mark.end => &mut after,
             _ => &mut marked,
         };
-        place.push_str(&shown(shown_byte));
+        place.push_str(&shown(byte));
     }
     if to < bytes.len() {
         after.push_str("...");
@@ -94,16 +109,39 @@ fn snippet(out: &mut String, paint: &Paint, text: &[u8], number: u32, byte: Opti
     let _ = writeln!(out, "{margin} {bar} {indent}{}", paint.bad(&marks));
 }
 
+/// What stands between blanks; a quoted part is one word.
+fn words(text: &str) -> Vec<String> {
+    let mut words = Vec::new();
+    let mut word = String::new();
+    let mut quoted = false;
+    for letter in text.chars() {
+        quoted ^= letter == '`';
+        if letter.is_whitespace() && !quoted {
+            words.push(std::mem::take(&mut word));
+        } else {
+            word.push(letter);
+        }
+    }
+    words.push(word);
+    words.retain(|word| !word.is_empty());
+    words
+}
+
 /// Words broken into lines of at most 78 letters, the first with a heading.
-fn wrapped(out: &mut String, heading: &str, text: &str) {
+pub fn wrapped(out: &mut String, heading: &str, text: &str) {
+    rows(out, heading, &words(text));
+}
+
+/// The same, for words that may have blanks in them.
+pub fn rows(out: &mut String, heading: &str, words: &[String]) {
+    const WIDTH: usize = 78;
     let mut row = heading.to_string();
-    let indent = " ".repeat(heading.len());
     let mut fresh = true;
-    for word in text.split_whitespace() {
-        if !fresh && row.chars().count() + 1 + word.chars().count() > 78 {
+    for word in words {
+        if !fresh && row.chars().count() + 1 + word.chars().count() > WIDTH {
             out.push_str(&row);
             out.push('\n');
-            row = indent.clone();
+            row = " ".repeat(heading.chars().count());
             fresh = true;
         }
         if !fresh {
@@ -116,12 +154,32 @@ fn wrapped(out: &mut String, heading: &str, text: &str) {
     out.push('\n');
 }
 
-fn number_in_words(out: &mut String, known: &Explanation, note: Option<&str>) {
-    if let Some(note) = note {
-        wrapped(out, "  note: ", note);
+fn number_in_words(out: &mut String, known: &Explanation) {
+    wrapped(out, "   what: ", known.meaning);
+    wrapped(out, "   mend: ", known.mend);
+}
+
+/// The least number of a stopped run: what usually mends it is said with its
+/// cause.
+const FIRST_STOP: u32 = 21;
+
+/// The cause, or the number in words where none is seen.
+fn reasons(out: &mut String, number: u32, cause: Option<&Cause>) {
+    match (cause, explain(number)) {
+        (Some(cause), _) => {
+            wrapped(out, "  cause: ", &cause.text);
+            for note in &cause.notes {
+                wrapped(out, "   note: ", note);
+            }
+            let usual = explain(number).filter(|_| number >= FIRST_STOP);
+            let mend = cause.mend.as_deref().or(usual.map(|known| known.mend));
+            if let Some(mend) = mend {
+                wrapped(out, "   mend: ", mend);
+            }
+        }
+        (None, Some(known)) => number_in_words(out, known),
+        (None, None) => {}
     }
-    wrapped(out, "  what: ", known.meaning);
-    wrapped(out, "  mend: ", known.mend);
 }
 
 fn place(file: &str, line: u32) -> String {
@@ -131,83 +189,112 @@ fn place(file: &str, line: u32) -> String {
     }
 }
 
-/// The answer of check, or of check and run.
-pub fn report(report: &Report, colour: bool) -> String {
-    let paint = Paint(colour);
-    let mut out = String::new();
-    let ran = report.ran();
-    match report.refusal {
-        None if ran.is_none() => {
-            let _ = writeln!(out, "{}: {}", report.file, paint.good("accepted"));
-        }
-        None => {}
-        Some(refusal) => {
-            let (number, line) = (refusal.number(), refusal.line());
-            let known = explain(number);
-            let title = known.map_or("", |known| known.title);
-            let said = if ran.is_some() {
-                "check refuses it"
-            } else {
-                "refused"
-            };
-            let _ = writeln!(
-                out,
-                "{}: {}, number {number}: {title}",
-                place(report.file, line),
-                paint.bad(said)
-            );
-            if let (None, Some(known)) = (ran, known) {
-                let byte = crate::report::line(report.text, line).and_then(bad_byte);
-                let byte = byte.filter(|_| refusal.kind() == host::Kind::Byte);
-                snippet(&mut out, &paint, report.text, line, byte);
-                number_in_words(&mut out, known, note(report.text, refusal).as_deref());
-            }
+fn title(number: u32) -> &'static str {
+    explain(number).map_or("", |known| known.title)
+}
+
+fn refusal(out: &mut String, paint: Paint, report: &Report, only_check: bool) {
+    let Some(refusal) = report.refusal else {
+        return;
+    };
+    let (number, line) = (refusal.number(), refusal.line());
+    let said = if only_check {
+        "refused"
+    } else {
+        "check refuses it"
+    };
+    let _ = writeln!(
+        out,
+        "{}: {}, number {number}: {}",
+        place(report.file, line),
+        paint.bad(said),
+        title(number)
+    );
+    if only_check {
+        let mark = report.cause.as_ref().and_then(|cause| cause.mark.clone());
+        snippet(out, paint, report.text, line, mark);
+        reasons(out, number, report.cause.as_ref());
+        if let Some(mended) = &report.mended {
+            wrapped(out, "   then: ", mended);
         }
     }
-    let Some(ran) = ran else {
-        return out;
-    };
+}
+
+fn ran(out: &mut String, paint: Paint, report: &Report, ran: &Ran) {
     let (number, line) = (ran.outcome.number(), ran.outcome.line());
     let steps = match ran.outcome.steps() {
         1 => "1 step".to_string(),
         steps => format!("{steps} steps"),
     };
+    let place = place(report.file, line);
     if ran.outcome.ending() == Ending::Finished {
         let finished = paint.good("finished");
-        let _ = writeln!(
-            out,
-            "{}: {finished} after {steps}",
-            place(report.file, line)
-        );
+        let _ = writeln!(out, "{place}: {finished} after {steps}");
     } else {
-        let known = explain(number);
-        let title = known.map_or("", |known| known.title);
-        let stopped = paint.bad("stopped");
+        let (stopped, title) = (paint.bad("stopped"), title(number));
         let _ = writeln!(
             out,
-            "{}: {stopped} after {steps}, number {number}: {title}",
-            place(report.file, line)
+            "{place}: {stopped} after {steps}, number {number}: {title}"
         );
-        snippet(&mut out, &paint, report.text, line, None);
-        if let Some(known) = known {
-            number_in_words(&mut out, known, None);
+        let mark = ran.cause.as_ref().and_then(|cause| cause.mark.clone());
+        snippet(out, paint, report.text, line, mark);
+        reasons(out, number, ran.cause.as_ref());
+        for call in shortened(&ran.open) {
+            wrapped(out, "   open: ", &call);
         }
     }
     for variable in ran.outcome.variables() {
         let _ = writeln!(out, "  {} = {}", variable.name, variable.value);
     }
+}
+
+/// Of many open calls the first and the last.
+fn shortened(open: &[String]) -> Vec<String> {
+    const ENDS: usize = 3;
+    if open.len() <= 2 * ENDS {
+        return open.to_vec();
+    }
+    let mut rows = open[..ENDS].to_vec();
+    rows.push(format!("{} more calls", open.len() - 2 * ENDS));
+    rows.extend_from_slice(&open[open.len() - ENDS..]);
+    rows
+}
+
+/// The answer of check, or of check and run.
+pub fn report(report: &Report, paint: Paint) -> String {
+    let mut out = String::new();
+    let run = report.ran();
+    if report.refusal.is_none() && run.is_none() {
+        let _ = writeln!(out, "{}: {}", report.file, paint.good("accepted"));
+    }
+    refusal(&mut out, paint, report, run.is_none());
+    if let Some(run) = run {
+        ran(&mut out, paint, report, run);
+    }
     out
 }
 
+/// One line for a refused file, as editors and compilers want it.
+pub fn short(report: &Report) -> String {
+    let Some(refusal) = report.refusal else {
+        return String::new();
+    };
+    let column = columns(report.cause.as_ref()).map_or(1, |(from, _)| from);
+    let number = refusal.number();
+    let cause = report.cause.as_ref();
+    let said = cause.map_or(title(number), |cause| cause.text.as_str());
+    let line = refusal.line().max(1);
+    format!("{}:{line}:{column}: number {number}: {said}\n", report.file)
+}
+
 /// A number in words, with its example.
-pub fn explanation(known: &Explanation, colour: bool) -> String {
-    let paint = Paint(colour);
+pub fn explanation(known: &Explanation, paint: Paint) -> String {
     let mut out = format!(
         "{}: {}\n",
         paint.side(&known.number.to_string()),
         known.title
     );
-    number_in_words(&mut out, known, None);
+    number_in_words(&mut out, known);
     if let Some(example) = known.example {
         let _ = writeln!(out, "  a script that gets it, its tabs shown as blanks:");
         for (at, line) in example.lines().enumerate() {

@@ -1,66 +1,51 @@
 //! The command as people and programs use it.
 
-use std::io::Write;
-use std::path::{Path, PathBuf};
-use std::process::{Command, Output, Stdio};
+mod common;
 
-fn root() -> PathBuf {
-    Path::new(env!("CARGO_MANIFEST_DIR")).join("../..")
-}
-
-fn station(words: &[&str], input: &[u8]) -> Output {
-    let mut child = Command::new(env!("CARGO_BIN_EXE_station"))
-        .args(words)
-        .current_dir(root())
-        .stdin(Stdio::piped())
-        .stdout(Stdio::piped())
-        .stderr(Stdio::piped())
-        .spawn()
-        .expect("station starts");
-    // A program that reads nothing may be gone before all is written.
-    let _ = child.stdin.take().expect("its input").write_all(input);
-    child.wait_with_output().expect("station ends")
-}
-
-/// Standard output, standard error and status.
-fn said(words: &[&str], input: &[u8]) -> (String, String, i32) {
-    let output = station(words, input);
-    let text = |bytes| String::from_utf8(bytes).expect("UTF-8");
-    let status = output.status.code().expect("a status");
-    (text(output.stdout), text(output.stderr), status)
-}
-
-fn status(words: &[&str], input: &[u8]) -> i32 {
-    said(words, input).2
-}
+use common::{command, folder, root, said, station, status};
 
 #[test]
 fn statuses() {
-    assert_eq!(status(&["check", "examples/tag.script"], b""), 0);
-    assert_eq!(status(&["check", "examples/refused-12.script"], b""), 1);
-    assert_eq!(status(&["check", "no-such-file"], b""), 2);
-    assert_eq!(status(&["check", "examples"], b""), 2);
-    assert_eq!(status(&["run", "examples/tag.script"], b""), 0);
-    assert_eq!(status(&["run", "examples/stopped-23.script"], b""), 1);
-    assert_eq!(status(&["run", "examples/refused-06.script"], b""), 1);
-    assert_eq!(
-        status(&["run", "--steps", "7", "examples/tag.script"], b""),
-        1
-    );
-    assert_eq!(status(&["run", "--steps=8", "examples/tag.script"], b""), 0);
-    assert_eq!(status(&["explain", "12"], b""), 0);
-    assert_eq!(status(&["tabs", "-"], b"a b"), 0);
-    assert_eq!(status(&["help"], b""), 0);
-    assert_eq!(status(&["--version"], b""), 0);
+    for (words, expected) in [
+        (&["check", "examples/tag.script"][..], 0),
+        (&["check", "examples/refused-12.script"], 1),
+        (&["check", "no-such-file"], 2),
+        (&["check", "examples"], 1),
+        (&["run", "examples/tag.script"], 0),
+        (&["run", "examples/stopped-23.script"], 1),
+        (&["run", "examples/refused-06.script"], 1),
+        (&["run", "--steps", "7", "examples/tag.script"], 1),
+        (&["run", "--steps=8", "examples/tag.script"], 0),
+        (&["trace", "examples/tag.script"], 0),
+        (&["trace", "examples/stopped-26.script"], 1),
+        (&["known", "examples/tag.script"], 0),
+        (&["known", "examples/refused-12.script"], 1),
+        (&["known", "examples/refused-10.script"], 1),
+        (&["known", "examples/tag.script:99"], 2),
+        (&["draw", "examples/tag.script"], 0),
+        (&["draw", "examples/refused-04.script"], 1),
+        (&["explain", "12"], 0),
+        (&["fmt", "-"], 0),
+        (&["tabs", "-"], 0),
+        (&["fmt", "--check", "examples/refused-03.script"], 1),
+        (&["fmt", "--check", "examples/tag.script"], 0),
+        (&["help"], 0),
+        (&["man"], 0),
+        (&["completions", "bash"], 0),
+        (&["completions", "csh"], 2),
+        (&["--version"], 0),
+    ] {
+        assert_eq!(status(words, b"a b"), expected, "{words:?}");
+    }
 }
 
 #[test]
 fn wrong_use() {
-    let wrong: [&[&str]; 14] = [
+    let wrong: [&[&str]; 15] = [
         &[],
         &["check"],
         &["run"],
-        &["tabs"],
+        &["fmt"],
         &["explain"],
         &["explain", "15"],
         &["explain", "many"],
@@ -71,12 +56,16 @@ fn wrong_use() {
         &["check", "--steps", "5", "examples/tag.script"],
         &["check", "--yes", "examples/tag.script"],
         &["chek", "examples/tag.script"],
+        &["lsp", "now"],
     ];
     for words in wrong {
         let (out, error, status) = said(words, b"");
         assert_eq!((out.as_str(), status), ("", 2), "{words:?}");
         assert!(error.starts_with("station: "), "{error}");
+        assert!(error.lines().count() <= 2, "{error}");
     }
+    let (_, error, _) = said(&["chek", "a"], b"");
+    assert!(error.contains("did you mean `check`?"), "{error}");
 }
 
 /// A file that can't be read doesn't keep the others from being done.
@@ -91,8 +80,28 @@ fn the_other_files_are_done() {
     let (out, error, status) = said(&words, b"");
     assert_eq!(status, 2);
     assert!(out.starts_with("examples/refused-12.script:6: refused, number 12: "));
-    assert!(out.ends_with("examples/tag.script: accepted\n"));
+    assert!(out.ends_with("examples/tag.script: accepted\n1 accepted, 1 refused\n"));
     assert!(error.starts_with("station: no-such-file: "), "{error}");
+}
+
+/// A folder stands for its scripts, in order.
+#[test]
+fn folders_and_quiet() {
+    let (out, _, status) = said(&["check", "--quiet", "examples"], b"");
+    assert_eq!(status, 1);
+    assert!(!out.contains(": accepted"), "{out}");
+    let (out, _, _) = said(&["check", "--short", "examples"], b"");
+    let starts = |line: &str| {
+        let mut parts = line.split(':').skip(1);
+        parts
+            .by_ref()
+            .take(2)
+            .all(|part| part.parse::<u32>().is_ok())
+            && parts
+                .next()
+                .is_some_and(|part| part.starts_with(" number "))
+    };
+    assert!(out.lines().count() > 12 && out.lines().all(starts), "{out}");
 }
 
 #[test]
@@ -115,10 +124,10 @@ fn long_input() {
         out.starts_with("-: refused, number 2: a text that is too long\n"),
         "{out}"
     );
-    let (out, error, status) = said(&["tabs", "-"], &vec![b'a'; 32_769]);
+    let (out, error, status) = said(&["fmt", "-"], &vec![b'a'; 32_769]);
     assert_eq!((out.as_str(), status), ("", 1));
     assert!(error.contains("32768 bytes"), "{error}");
-    assert_eq!(said(&["tabs", "-"], &vec![b'a'; 32_768]).0.len(), 32_769);
+    assert_eq!(said(&["fmt", "-"], &vec![b'a'; 32_768]).0.len(), 32_769);
 }
 
 /// The line is shown and the byte pointed at; what could confuse a terminal is
@@ -131,23 +140,24 @@ fn escapes() {
         lines[2..4],
         ["2 | var int \\x1b[31m\\xe9", "  |         ^^^^"]
     );
-    assert!(out
-        .bytes()
-        .all(|byte| byte == b'\n' || (32..127).contains(&byte)));
-    let (json, _, _) = said(
+    for words in [
+        &["check", "-"][..],
         &["check", "--json", "-"],
-        b"main\nvar\tint\t\x1b[31m\xe9\"\nend\n",
-    );
-    assert!(
-        json.contains(r#""text":"var\\tint\\t\\x1b[31m\\xe9\"""#),
-        "{json}"
-    );
-    assert!(json
-        .bytes()
-        .all(|byte| byte == b'\n' || (32..127).contains(&byte)));
+        &["check", "--short", "-"],
+        &["run", "-"],
+        &["known", "-"],
+        &["trace", "-"],
+        &["draw", "-"],
+    ] {
+        let text = b"main\nvar\tint\t\x1b[31m\xe9\xe2\x80\xae\"\nend\n";
+        let (out, error, _) = said(words, text);
+        let plain = |byte: u8| byte == b'\n' || (32..127).contains(&byte);
+        assert!(out.bytes().all(plain), "{words:?}: {out}");
+        assert!(error.bytes().all(plain), "{words:?}: {error}");
+    }
 }
 
-/// A long line is cut around the byte that is pointed at.
+/// A long line is cut around what is pointed at.
 #[test]
 fn long_lines() {
     let mut text = vec![b'x'; 20_000];
@@ -155,248 +165,23 @@ fn long_lines() {
     text.push(b'\n');
     let (out, _, _) = said(&["check", "-"], &text);
     let lines: Vec<&str> = out.lines().collect();
-    assert!(lines.iter().all(|line| line.len() < 120), "{out}");
+    assert!(lines[..4].iter().all(|line| line.len() < 120), "{out}");
     let column = lines[3].find('^').expect("a mark");
     assert_eq!(&lines[2][column..column + 4], "\\x20");
 }
 
-/// Without a terminal there is no colour, whatever the environment says.
+/// Without a terminal there is no colour but where it is asked for.
 #[test]
-fn no_colour_in_a_pipe() {
+fn colour() {
     for words in [
         &["check", "examples/refused-12.script"][..],
         &["explain", "4"],
     ] {
         assert!(!said(words, b"").0.contains('\x1b'));
-    }
-}
-
-/// A small reader of JSON: enough to show that what is printed is JSON, and to
-/// find its fields.
-mod json {
-    #[derive(Clone, Debug, PartialEq)]
-    pub enum Json {
-        Null,
-        Bool(bool),
-        Number(i64),
-        String(String),
-        List(Vec<Json>),
-        Object(Vec<(String, Json)>),
-    }
-
-    impl Json {
-        pub fn get(&self, name: &str) -> Option<&Json> {
-            match self {
-                Json::Object(fields) => fields
-                    .iter()
-                    .find(|field| field.0 == name)
-                    .map(|field| &field.1),
-                _ => None,
-            }
-        }
-    }
-
-    pub fn parsed(text: &str) -> Option<Json> {
-        let mut rest = text.trim_end();
-        let value = value(&mut rest)?;
-        rest.is_empty().then_some(value)
-    }
-
-    fn take(rest: &mut &str, start: &str) -> Option<()> {
-        *rest = rest.strip_prefix(start)?;
-        Some(())
-    }
-
-    fn value(rest: &mut &str) -> Option<Json> {
-        for (word, value) in [
-            ("null", Json::Null),
-            ("true", Json::Bool(true)),
-            ("false", Json::Bool(false)),
-        ] {
-            if take(rest, word).is_some() {
-                return Some(value);
-            }
-        }
-        match rest.as_bytes().first()? {
-            b'"' => string(rest).map(Json::String),
-            b'[' => list(rest, "[", "]", value).map(Json::List),
-            b'{' => {
-                let field = |rest: &mut &str| {
-                    let name = string(rest)?;
-                    take(rest, ":")?;
-                    Some((name, value(rest)?))
-                };
-                list(rest, "{", "}", field).map(Json::Object)
-            }
-            _ => {
-                let end = rest.find([',', ']', '}']).unwrap_or(rest.len());
-                let number = rest[..end].parse().ok()?;
-                *rest = &rest[end..];
-                Some(Json::Number(number))
-            }
-        }
-    }
-
-    fn list<T>(
-        rest: &mut &str,
-        open: &str,
-        close: &str,
-        item: impl Fn(&mut &str) -> Option<T>,
-    ) -> Option<Vec<T>> {
-        take(rest, open)?;
-        let mut items = Vec::new();
-        if take(rest, close).is_some() {
-            return Some(items);
-        }
-        loop {
-            items.push(item(rest)?);
-            if take(rest, close).is_some() {
-                return Some(items);
-            }
-            take(rest, ",")?;
-        }
-    }
-
-    fn string(rest: &mut &str) -> Option<String> {
-        take(rest, "\"")?;
-        let mut out = String::new();
-        let mut letters = rest.char_indices();
-        while let Some((at, letter)) = letters.next() {
-            match letter {
-                '"' => {
-                    *rest = &rest[at + 1..];
-                    return Some(out);
-                }
-                '\\' => match letters.next()?.1 {
-                    'u' => {
-                        let code = rest.get(at + 2..at + 6)?;
-                        out.push(char::from_u32(u32::from_str_radix(code, 16).ok()?)?);
-                        letters.nth(3)?;
-                    }
-                    letter @ ('"' | '\\') => out.push(letter),
-                    _ => return None,
-                },
-                letter if letter.is_control() => return None,
-                letter => out.push(letter),
-            }
-        }
-        None
-    }
-}
-
-use json::{parsed, Json};
-
-fn object(words: &[&str], input: &[u8]) -> Json {
-    let (out, _, _) = said(words, input);
-    assert_eq!(out.lines().count(), 1, "one object a file: {out}");
-    parsed(&out).unwrap_or_else(|| panic!("no JSON: {out}"))
-}
-
-#[test]
-fn json_of_check() {
-    let accepted = object(&["check", "--json", "examples/tag.script"], b"");
-    assert_eq!(
-        accepted.get("file"),
-        Some(&Json::String("examples/tag.script".to_string()))
-    );
-    assert_eq!(
-        accepted.get("call"),
-        Some(&Json::String("check".to_string()))
-    );
-    assert_eq!(accepted.get("accepted"), Some(&Json::Bool(true)));
-    assert_eq!(accepted.get("number"), Some(&Json::Number(0)));
-    let refused = object(&["check", "--json", "examples/refused-12.script"], b"");
-    assert_eq!(refused.get("accepted"), Some(&Json::Bool(false)));
-    assert_eq!(refused.get("number"), Some(&Json::Number(12)));
-    assert_eq!(refused.get("line"), Some(&Json::Number(6)));
-    assert_eq!(
-        refused.get("text"),
-        Some(&Json::String("set\\tthis\\tn\\tk".to_string()))
-    );
-    let known = host::explain(12).expect("12 is explained");
-    for (name, text) in [
-        ("title", known.title),
-        ("meaning", known.meaning),
-        ("mend", known.mend),
-    ] {
-        assert_eq!(refused.get(name), Some(&Json::String(text.to_string())));
-    }
-    let noted = object(&["check", "--json", "examples/refused-03.script"], b"");
-    assert!(matches!(noted.get("note"), Some(Json::String(_))));
-}
-
-#[test]
-fn json_of_run() {
-    let run = object(
-        &["run", "--json", "--steps", "5", "examples/tag.script"],
-        b"",
-    );
-    assert_eq!(run.get("call"), Some(&Json::String("run".to_string())));
-    assert_eq!(run.get("finished"), Some(&Json::Bool(false)));
-    assert_eq!(run.get("number"), Some(&Json::Number(21)));
-    assert_eq!(run.get("allowed"), Some(&Json::Number(5)));
-    assert_eq!(run.get("steps"), Some(&Json::Number(5)));
-    assert_eq!(
-        run.get("check").and_then(|check| check.get("accepted")),
-        Some(&Json::Bool(true))
-    );
-    let Some(Json::List(variables)) = run.get("variables") else {
-        panic!("no variables: {run:?}");
-    };
-    let text = |text: &str| Json::String(text.to_string());
-    let expected = [
-        ("c", "Card", Json::Number(1)),
-        ("k", "int", Json::Number(7)),
-        ("r", "int", Json::Number(0)),
-    ];
-    assert_eq!(variables.len(), expected.len());
-    for (variable, (name, kind, value)) in variables.iter().zip(expected) {
-        assert_eq!(variable.get("name"), Some(&text(name)));
-        assert_eq!(variable.get("type"), Some(&text(kind)));
-        assert_eq!(variable.get("value"), Some(&value));
-    }
-    let null = object(&["run", "--json", "examples/stopped-25.script"], b"");
-    let Some(Json::List(variables)) = null.get("variables") else {
-        panic!("no variables: {null:?}");
-    };
-    assert_eq!(variables[0].get("value"), Some(&Json::Null));
-    assert_eq!(
-        null.get("check").and_then(|check| check.get("number")),
-        Some(&Json::Number(11))
-    );
-}
-
-/// Every input gives one JSON object, whatever its bytes, also where a file
-/// can't be read.
-#[test]
-fn json_of_anything() {
-    let unread = object(&["check", "--json", "no-such-file"], b"");
-    assert!(matches!(unread.get("error"), Some(Json::String(_))));
-    let every_byte: Vec<u8> = (0..=255).collect();
-    for text in [
-        &every_byte[..],
-        b"",
-        b"\n",
-        b"main",
-        b"main\nend\nend\n",
-        b"\"\\\n",
-    ] {
-        assert!(matches!(
-            object(&["check", "--json", "-"], text).get("number"),
-            Some(Json::Number(_))
-        ));
-        assert!(matches!(
-            object(&["run", "--json", "-"], text).get("number"),
-            Some(Json::Number(_))
-        ));
-    }
-    for known in host::EXPLANATIONS {
-        let number = known.number.to_string();
-        let shown = object(&["explain", "--json", &number], b"");
-        assert_eq!(
-            shown.get("mend"),
-            Some(&Json::String(known.mend.to_string()))
-        );
+        let asked = [words, &["--color=always"]].concat();
+        assert!(said(&asked, b"").0.contains('\x1b'));
+        let never = [words, &["--color", "never"]].concat();
+        assert!(!said(&never, b"").0.contains('\x1b'));
     }
 }
 
@@ -417,31 +202,109 @@ fn examples_of_explanations() {
     }
 }
 
-/// `tabs` mends what it says: the scripts with blanks for tabs and CR for good
-/// measure come out as they were.
+/// `fmt` mends what it says: the scripts with blanks for tabs and CR for good
+/// measure come out as they were, and `tabs` is the same.
 #[test]
-fn tabs_mends() {
+fn fmt_mends() {
     for entry in std::fs::read_dir(root().join("examples")).expect("examples") {
         let script = std::fs::read(entry.expect("an entry").path()).expect("a script");
         let text = String::from_utf8(script).expect("ASCII").replace(' ', "\t");
         let typed = text.replace('\t', "  ").replace('\n', " \r\n");
         let typed = typed.strip_suffix("\r\n").expect("an end");
-        let output = station(&["tabs", "-"], typed.as_bytes());
-        assert_eq!(output.stdout, text.as_bytes());
+        for word in ["fmt", "tabs"] {
+            let output = station(&[word, "-"], typed.as_bytes());
+            assert_eq!(output.stdout, text.as_bytes());
+        }
     }
 }
 
-/// A reader that goes away does not make the program fail.
+/// `fmt --write` changes only files that have not their form, and leaves
+/// nothing beside them.
+#[test]
+fn fmt_writes() {
+    let folder = folder("fmt");
+    let (good, bad) = (folder.join("good.script"), folder.join("bad.script"));
+    std::fs::write(&good, "main\nend\n").expect("written");
+    std::fs::write(
+        &bad,
+        "\u{feff}main\r\n var int\u{a0}a\r\nlet a \u{2212}5\r\nend",
+    )
+    .expect("written");
+    let before = std::fs::metadata(&good)
+        .and_then(|data| data.modified())
+        .expect("a time");
+    let path = folder.to_str().expect("a name");
+    assert_eq!(status(&["fmt", "--check", path], b""), 1);
+    assert_eq!(status(&["fmt", "--write", path], b""), 0);
+    assert_eq!(status(&["fmt", "--check", path], b""), 0);
+    let mended = std::fs::read_to_string(&bad).expect("the file");
+    assert_eq!(mended, "main\nvar\tint\ta\nlet\ta\t-5\nend\n");
+    let after = std::fs::metadata(&good)
+        .and_then(|data| data.modified())
+        .expect("a time");
+    assert_eq!(before, after);
+    assert_eq!(std::fs::read_dir(&folder).expect("the folder").count(), 2);
+    assert_eq!(status(&["check", path], b""), 0);
+}
+
+/// `fmt --write` follows a link and keeps the file's permissions; what can't be
+/// written is told.
+#[cfg(unix)]
+#[test]
+fn fmt_keeps_links_and_permissions() {
+    use std::os::unix::fs::{symlink, PermissionsExt};
+    let folder = folder("fmt-kept");
+    let (file, link) = (folder.join("a.script"), folder.join("link.script"));
+    std::fs::write(&file, "main \nend\n").expect("written");
+    let mode = std::fs::Permissions::from_mode(0o640);
+    std::fs::set_permissions(&file, mode).expect("a mode");
+    symlink(&file, &link).expect("a link");
+    let name = link.to_str().expect("a name");
+    assert_eq!(status(&["fmt", "--write", name], b""), 0);
+    assert_eq!(std::fs::read(&file).expect("the file"), b"main\nend\n");
+    assert!(std::fs::symlink_metadata(&link)
+        .expect("the link")
+        .is_symlink());
+    let mode = std::fs::metadata(&file).expect("the file").permissions();
+    assert_eq!(mode.mode() & 0o777, 0o640);
+    assert_eq!(status(&["fmt", "--write", "no-such-file"], b""), 2);
+    let empty = folder.join("empty");
+    std::fs::create_dir(&empty).expect("a folder");
+    let name = empty.to_str().expect("a name");
+    assert_eq!(status(&["check", name], b""), 2);
+}
+
+/// A reader that goes away changes neither what is said nor the status.
 #[test]
 fn a_closed_pipe() {
-    let mut child = Command::new(env!("CARGO_BIN_EXE_station"))
-        .args(["explain", "4"])
-        .stdout(Stdio::piped())
-        .stderr(Stdio::piped())
-        .spawn()
-        .expect("station starts");
-    drop(child.stdout.take());
-    let output = child.wait_with_output().expect("station ends");
-    assert_eq!(String::from_utf8_lossy(&output.stderr), "");
-    assert!(matches!(output.status.code(), Some(0)));
+    for (words, expected) in [
+        (&["explain", "4"][..], 0),
+        (&["check", "examples/refused-12.script"], 1),
+    ] {
+        let mut child = command(words).spawn().expect("station starts");
+        drop(child.stdin.take());
+        drop(child.stdout.take());
+        let output = child.wait_with_output().expect("station ends");
+        assert_eq!(String::from_utf8_lossy(&output.stderr), "");
+        assert_eq!(output.status.code(), Some(expected));
+    }
+}
+
+/// The shells take the completions that are made for them, where they are here.
+#[test]
+fn completions_are_scripts() {
+    for shell in ["bash", "zsh", "fish"] {
+        let (text, _, _) = said(&["completions", shell], b"");
+        assert!(text.contains("check") && text.contains("steps"), "{text}");
+        let mut tried = std::process::Command::new(shell);
+        tried.arg("-n").stdin(std::process::Stdio::piped());
+        let Ok(mut child) = tried.spawn() else {
+            println!("no {shell} here");
+            continue;
+        };
+        use std::io::Write;
+        let input = child.stdin.take().expect("its input");
+        let _ = { input }.write_all(text.as_bytes());
+        assert!(child.wait().expect("it ends").success(), "{shell}");
+    }
 }

@@ -135,19 +135,21 @@ fn vim() {
         assert!(status.is_ok());
         let given = std::fs::read_to_string(&out).expect("vim's answer");
         let text = std::fs::read_to_string(&name).expect("an example");
-        compare("vim", &text, &given, |name| {
-            Some(match name {
-                "stationWord" => Colour::Word,
-                "stationAtom" => Colour::Atom,
-                "stationType" => Colour::Type,
-                "stationReserved" => Colour::Reserved,
-                "stationNumber" => Colour::Number,
-                "stationName" | "stationDeclared" => Colour::Name,
-                "stationBad" => Colour::Bad,
-                _ => return None,
-            })
-        });
+        compare("vim", &text, &given, vim_colour);
     }
+}
+
+fn vim_colour(name: &str) -> Option<Colour> {
+    Some(match name {
+        "stationWord" => Colour::Word,
+        "stationAtom" => Colour::Atom,
+        "stationType" => Colour::Type,
+        "stationReserved" => Colour::Reserved,
+        "stationNumber" => Colour::Number,
+        "stationName" | "stationDeclared" => Colour::Name,
+        "stationBad" => Colour::Bad,
+        _ => return None,
+    })
 }
 
 /// A tokenizer for grammars without nesting, as editors have it: the leftmost

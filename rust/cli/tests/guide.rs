@@ -1,5 +1,5 @@
-//! The guide can't go stale: its scripts are the files of `examples/`, its
-//! answers are what the command prints, and its mends mend.
+//! The guide and the README can't go stale: their scripts are the files of
+//! `examples/`, their answers are what the command prints, and the mends mend.
 //!
 //! `UPDATE_GUIDE=1 cargo test -p cli --test guide` writes the blocks anew.
 
@@ -72,18 +72,44 @@ fn fresh(block: &Block) -> String {
     block.lines.iter().map(|line| format!("{line}\n")).collect()
 }
 
+/// The pages whose blocks are tried.
+const PAGES: [&str; 2] = ["docs/LANGUAGE.md", "README.md"];
+
 #[test]
 fn scripts_and_answers() {
+    for page in PAGES {
+        let path = root().join(page);
+        let text = std::fs::read_to_string(&path).expect("the page");
+        let fresh = with_blocks(&text, fresh);
+        if std::env::var_os("UPDATE_GUIDE").is_some() {
+            std::fs::write(path, fresh).expect("the page is written");
+            continue;
+        }
+        for (at, (have, want)) in text.lines().zip(fresh.lines()).enumerate() {
+            assert_eq!(have, want, "line {} of {page}", at + 1);
+        }
+        assert_eq!(text, fresh);
+    }
+}
+
+/// Signs that look like others do not stand in the guide, and its contents lead
+/// to every chapter.
+#[test]
+fn plain_signs_and_contents() {
     let guide = guide();
-    let fresh = with_blocks(&guide, fresh);
-    if std::env::var_os("UPDATE_GUIDE").is_some() {
-        std::fs::write(root().join("docs/LANGUAGE.md"), fresh).expect("the guide is written");
-        return;
+    for sign in ['\u{2212}', '\u{a0}', '\u{2013}'] {
+        assert!(!guide.contains(sign), "{sign:?}");
     }
-    for (at, (have, want)) in guide.lines().zip(fresh.lines()).enumerate() {
-        assert_eq!(have, want, "line {} of the guide", at + 1);
+    for line in guide.lines().filter_map(|line| line.strip_prefix("## ")) {
+        let letters = line
+            .chars()
+            .filter(|letter| letter.is_alphanumeric() || *letter == ' ');
+        let name: String = letters.collect::<String>().to_lowercase().replace(' ', "-");
+        assert!(
+            guide.contains(&format!("(#{name})")),
+            "{name} is not in the contents"
+        );
     }
-    assert_eq!(guide, fresh);
 }
 
 /// Every example stands in the guide, and has an answer there.
@@ -185,7 +211,13 @@ fn json_fields() {
     let guide = guide();
     let commands = [
         "station check --json examples/refused-03.script",
+        "station check --json examples/lost.script",
         "station run --json examples/stopped-24.script",
+        "station run --json --cards examples/ring.script",
+        "station trace --json examples/tag.script",
+        "station known --json examples/tag.script",
+        "station draw --json examples/tag.script",
+        "station fmt --json examples/tag.script",
         "station explain --json 12",
         "station check --json no-such-file",
     ];
@@ -203,7 +235,7 @@ fn json_fields() {
             }
         }
     }
-    assert!(names.len() >= 16, "{names:?}");
+    assert!(names.len() >= 40, "{names:?}");
     for name in names {
         assert!(
             guide.contains(&format!("`{name}`")),

@@ -2,6 +2,7 @@
 
 /// A number in words.
 #[derive(Clone, Copy, Debug, PartialEq, Eq)]
+#[non_exhaustive]
 pub struct Explanation {
     /// The number.
     pub number: u32,
@@ -37,7 +38,7 @@ pub fn explain(number: u32) -> Option<&'static Explanation> {
 }
 
 /// Every number that the calls return, in rising order.
-pub const EXPLANATIONS: [Explanation; 21] = [
+pub const EXPLANATIONS: &[Explanation] = &[
     Explanation {
         number: 0,
         title: "accepted, or finished",
@@ -67,7 +68,7 @@ pub const EXPLANATIONS: [Explanation; 21] = [
         meaning: "A text has tabs, line ends (LF) and the visible ASCII characters, and its last \
                   line is ended too. Blanks, CR, accented letters and control characters are refused.",
         mend: "part fields by tabs, not blanks, end lines with LF alone, end the last line: \
-               `station tabs FILE` does all three",
+               `station fmt --write FILE` does all three",
         example: example!("refused-03"),
     },
     Explanation {
@@ -79,7 +80,7 @@ pub const EXPLANATIONS: [Explanation; 21] = [
                   `else` and `join`, `return` stands in methods only, nothing follows main's `end`. \
                   A formula has at most 8 atoms, a name at most 12 letters and digits.",
         mend: "compare the line with its form in the guide; where fields are parted by two tabs, or \
-               a line ends in one, `station tabs FILE` mends it",
+               a line ends in one, `station fmt --write FILE` mends it",
         example: example!("refused-04"),
     },
     Explanation {
@@ -88,7 +89,8 @@ pub const EXPLANATIONS: [Explanation; 21] = [
         meaning: "A text has at most 16 classes, 8 fields a class, 64 methods, 12 `var` lines a \
                   block, 256 statement lines (`else`, `join` and `end` counted), and branches that \
                   nest 4 deep.",
-        mend: "move statements into methods that are called more than once, or split the script",
+        mend: "lines that recur go into a method, where they count once, and so do the inner branches; \
+               fields go into a second class with a link to it; or split the script",
         example: example!("refused-05"),
     },
     Explanation {
@@ -115,8 +117,8 @@ pub const EXPLANATIONS: [Explanation; 21] = [
         title: "the text ends before main's `end`",
         meaning: "A text ends with a block `main`, and that block with `end`. The line given is the \
                   last one.",
-        mend: "add the missing lines; an `if` without its `join`, or a method without its `end`, \
-               makes main's `end` count for that block",
+        mend: "add what is missing after the last line; an `else`, `join` or `end` that is missing \
+               before other lines is number 4, at the line that comes in its place",
         example: example!("refused-08"),
     },
     Explanation {

@@ -23,6 +23,7 @@ pub enum Stop {
 
 /// How a run ended.
 #[derive(Clone, Copy, Debug, PartialEq, Eq, Hash)]
+#[non_exhaustive]
 pub enum Ending {
     /// Main's `end` is done.
     Finished,
@@ -49,6 +50,7 @@ impl Ending {
 
 /// What a variable holds.
 #[derive(Clone, Copy, Debug, PartialEq, Eq, Hash)]
+#[non_exhaustive]
 pub enum Value {
     /// A number.
     Int(i32),

@@ -120,6 +120,7 @@ fn generated_texts() {
                 };
                 assert!(outcome.to_string().starts_with(&start), "{outcome}");
             }
+            other => panic!("an ending that the model does not know: {other:?}"),
         }
     }
     stops.sort();

@@ -7,6 +7,7 @@ use crate::names::{
 };
 use crate::number::{self, Refusal};
 use crate::text::Name;
+use crate::watch::{At, Purpose, Unwatched, Watch};
 
 /// What facts are over: "variables, constants and listed paths". A path is a
 /// variable and the name of a field.
@@ -277,7 +278,8 @@ impl<'a> State<'a> {
 
     /// `let x e`. "If r is x, no change. Otherwise remove x, with r renamed
     /// likewise; if r is left, add x = r."
-    fn assign(&mut self, x: Var, expr: Expr<'a>) -> Rule<()> {
+    fn assign<W: Watch<'a>>(&mut self, x: Var, expr: Expr<'a>, at: &mut At<W>) -> Rule<()> {
+        at.read(self, Purpose::Value, expr);
         let r = self.resolve(expr)?;
         if r == Term::Var(x) {
             return Ok(());
@@ -307,7 +309,8 @@ impl<'a> State<'a> {
     }
 
     /// `set`: "`acc x f` shown by a path p; drop facts that name p; add p = y".
-    fn set(&mut self, path: Path<'a>, y: Var) -> Rule<()> {
+    fn set<W: Watch<'a>>(&mut self, path: Path<'a>, y: Var, at: &mut At<W>) -> Rule<()> {
+        at.show(self, Purpose::Write, &[Atom::Acc(path)]);
         let place = self
             .first_listed(path, &[false; limits::PERMISSIONS])
             .ok_or(number::NO_PERMISSION)?;
@@ -318,9 +321,13 @@ impl<'a> State<'a> {
 
     /// `call`: "show y ≠ null, then requires with y, z for `this`, w. Take the
     /// remainder, remove x, add ensures with x for `result`."
-    fn call(&mut self, call: Call, method: &Block<'a>) -> Rule<()> {
-        self.show_ne(Expr::Var(call.y), Expr::Null)?;
-        self.take(&instance(&method.requires, call))?;
+    fn call<W: Watch<'a>>(&mut self, call: Call, method: &Block<'a>, at: &mut At<W>) -> Rule<()> {
+        let receiver = [Atom::Ne(Expr::Var(call.y), Expr::Null)];
+        at.show(self, Purpose::Receiver, &receiver);
+        self.show(&receiver)?;
+        let requires = instance(&method.requires, call);
+        at.show(self, Purpose::Requires, &requires);
+        self.take(&requires)?;
         self.remove(call.x, Term::Null);
         self.add(&instance(&method.ensures, call))
     }
@@ -372,14 +379,34 @@ pub fn opposite(condition: Atom) -> Atom {
 
 /// The rule of one statement that is no branch and no `end`.
 pub fn simple<'a>(program: &Program<'a>, state: &mut State<'a>, action: &Action<'a>) -> Rule<()> {
+    let mut at = At {
+        watch: &mut Unwatched,
+        place: 0,
+    };
+    watched(program, state, action, &mut at)
+}
+
+/// The same, with someone who looks on.
+fn watched<'a, W: Watch<'a>>(
+    program: &Program<'a>,
+    state: &mut State<'a>,
+    action: &Action<'a>,
+    at: &mut At<W>,
+) -> Rule<()> {
     match action {
-        Action::Let(x, expr) => state.assign(*x, *expr),
-        Action::Return(x) => state.assign(RESULT, Expr::Var(*x)),
+        Action::Let(x, expr) => state.assign(*x, *expr, at),
+        Action::Return(x) => state.assign(RESULT, Expr::Var(*x), at),
         Action::New(x, class) => state.create(*x, &program.classes[*class]),
-        Action::Set(path, y) => state.set(*path, *y),
-        Action::Call(call) => state.call(*call, &program.blocks[call.method]),
-        Action::Assert(formula) => state.show(formula),
-        Action::Release(formula) => state.take(formula),
+        Action::Set(path, y) => state.set(*path, *y, at),
+        Action::Call(call) => state.call(*call, &program.blocks[call.method], at),
+        Action::Assert(formula) => {
+            at.show(state, Purpose::Claim, formula);
+            state.show(formula)
+        }
+        Action::Release(formula) => {
+            at.show(state, Purpose::Claim, formula);
+            state.take(formula)
+        }
         Action::If(_) | Action::Else(_) | Action::Join(_) | Action::End => {
             unreachable!("branches and ends have rules of their own")
         }
@@ -389,13 +416,22 @@ pub fn simple<'a>(program: &Program<'a>, state: &mut State<'a>, action: &Action<
 /// Who looks on: it is told the place of a statement and the state before it.
 pub type Observer<'o, 'a> = dyn FnMut(usize, &State<'a>) + 'o;
 
-/// The check of the blocks, with someone who looks on.
-struct Checker<'p, 'a, 'o> {
-    program: &'p Program<'a>,
-    observer: &'p mut Observer<'o, 'a>,
+/// A watch that hears of the states before statements alone.
+struct Before<'w, 'o, 'a>(&'w mut Observer<'o, 'a>);
+
+impl<'a> Watch<'a> for Before<'_, '_, 'a> {
+    fn before(&mut self, place: usize, state: &State<'a>) {
+        (self.0)(place, state);
+    }
 }
 
-impl<'p, 'a> Checker<'p, 'a, '_> {
+/// The check of the blocks, with someone who looks on.
+struct Checker<'p, 'a, W> {
+    program: &'p Program<'a>,
+    watch: &'p mut W,
+}
+
+impl<'p, 'a, W: Watch<'a>> Checker<'p, 'a, W> {
     fn statement(&self, place: usize) -> &'p Statement<'a> {
         &self.program.statements[place]
     }
@@ -405,13 +441,20 @@ impl<'p, 'a> Checker<'p, 'a, '_> {
         move |number| Refusal { number, line }
     }
 
+    fn at(&mut self, place: usize) -> At<'_, W> {
+        At {
+            watch: self.watch,
+            place,
+        }
+    }
+
     /// The statements from a place up to the `else`, `join` or `end` that
     /// closes them: its place, and the state that is left there.
     fn branch(&mut self, state: State<'a>, start: usize) -> Result<(State<'a>, usize), Refusal> {
         let mut state = state;
         let mut place = start;
         loop {
-            (self.observer)(place, &state);
+            self.watch.before(place, &state);
             match &self.statement(place).action {
                 Action::Else(_) | Action::Join(_) | Action::End => return Ok((state, place)),
                 Action::If(branch) => {
@@ -419,9 +462,11 @@ impl<'p, 'a> Checker<'p, 'a, '_> {
                     place = branch.join;
                 }
                 action => {
-                    simple(self.program, &mut state, action).map_err(self.refusal(place))?;
+                    watched(self.program, &mut state, action, &mut self.at(place))
+                        .map_err(self.refusal(place))?;
                 }
             }
+            self.watch.after(place, &state);
             place += 1;
         }
     }
@@ -436,17 +481,26 @@ impl<'p, 'a> Checker<'p, 'a, '_> {
         place: usize,
     ) -> Result<State<'a>, Refusal> {
         let (at_if, at_join) = (self.refusal(place), self.refusal(branch.join));
+        if let Atom::Eq(left, right) | Atom::Ne(left, right) = branch.condition {
+            for side in [left, right] {
+                self.at(place).read(&state, Purpose::Condition, side);
+            }
+        }
         let mut other = state.clone();
         let mut first = state;
         first.add_atom(branch.condition).map_err(&at_if)?;
         other.add_atom(opposite(branch.condition)).map_err(&at_if)?;
+        self.watch.after(place, &first);
         let (first, _) = self.branch(first, place + 1)?;
+        self.watch.after(branch.other, &other);
         let (other, _) = self.branch(other, branch.other + 1)?;
         let Action::Join(formula) = &self.statement(branch.join).action else {
             unreachable!("the target of a branch is its join");
         };
-        first.show(formula).map_err(&at_join)?;
-        other.show(formula).map_err(&at_join)?;
+        for (end, purpose) in [(&first, Purpose::FirstEnd), (&other, Purpose::SecondEnd)] {
+            self.at(branch.join).show(end, purpose, formula);
+            end.show(formula).map_err(&at_join)?;
+        }
         let mut after = State::default();
         after.add(formula).map_err(&at_join)?;
         Ok(after)
@@ -460,21 +514,27 @@ impl<'p, 'a> Checker<'p, 'a, '_> {
             .add(&block.requires)
             .expect("eight framed atoms fit an empty state");
         let (state, end) = self.branch(state, block.start)?;
+        self.at(end).show(&state, Purpose::Ensures, &block.ensures);
         state.show(&block.ensures).map_err(self.refusal(end))
     }
 }
 
 /// "then the rules below in order of lines, on a line in the order told".
 pub fn check(program: &Program) -> Result<(), Refusal> {
-    check_observed(program, &mut |_, _| {})
+    check_watched(program, &mut Unwatched)
 }
 
-/// The same, with someone who looks on.
+/// The same, with someone who hears of the states before statements.
 pub fn check_observed<'a>(
     program: &Program<'a>,
     observer: &mut Observer<'_, 'a>,
 ) -> Result<(), Refusal> {
-    let mut checker = Checker { program, observer };
+    check_watched(program, &mut Before(observer))
+}
+
+/// The same, with someone who looks on.
+pub fn check_watched<'a>(program: &Program<'a>, watch: &mut impl Watch<'a>) -> Result<(), Refusal> {
+    let mut checker = Checker { program, watch };
     program
         .blocks
         .iter()

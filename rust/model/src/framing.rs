@@ -2,20 +2,28 @@
 //! it in the line". It goes by the two names as written.
 
 use crate::number::{self, Refusal};
-use crate::text::{Atom, Expr, Line};
+use crate::text::{Atom, Expr, Line, Name};
+
+/// The first path that the formula reads with no `acc` before it, and the place
+/// of its atom.
+pub fn unframed<'a>(formula: &[Atom<'a>]) -> Option<(usize, Name<'a>, Name<'a>)> {
+    formula.iter().enumerate().find_map(|(place, atom)| {
+        let bare = |side: Expr<'a>| match side {
+            Expr::Path(x, field) if !formula[..place].contains(&Atom::Acc(x, field)) => {
+                Some((place, x, field))
+            }
+            _ => None,
+        };
+        match *atom {
+            Atom::Acc(..) => None,
+            Atom::Eq(left, right) | Atom::Ne(left, right) => bare(left).or_else(|| bare(right)),
+        }
+    })
+}
 
 /// True if every path that the formula reads has its `acc` before it.
 pub fn framed(formula: &[Atom]) -> bool {
-    formula.iter().enumerate().all(|(place, atom)| {
-        let held = |side: &Expr| match *side {
-            Expr::Path(x, field) => formula[..place].contains(&Atom::Acc(x, field)),
-            _ => true,
-        };
-        match atom {
-            Atom::Acc(..) => true,
-            Atom::Eq(left, right) | Atom::Ne(left, right) => held(left) && held(right),
-        }
-    })
+    unframed(formula).is_none()
 }
 
 /// "then line by line 10".

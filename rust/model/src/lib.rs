@@ -6,14 +6,18 @@
 
 pub mod call;
 pub mod checker;
+pub mod faults;
+pub mod form;
 pub mod framing;
 pub mod gen;
 pub mod limits;
+pub mod locations;
 pub mod machine;
 pub mod names;
 pub mod number;
 pub mod print;
 pub mod text;
+pub mod watch;
 
 pub use call::{check_call, run_call};
 pub use machine::Run;

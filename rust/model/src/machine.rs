@@ -6,40 +6,12 @@ use crate::names::{
     THIS, VARS,
 };
 use crate::number;
+use crate::watch::{Halt, Tested};
 
-/// A location (object, field), as the place of the field in the heap.
-pub type Location = usize;
+pub use crate::locations::{Location, Locations};
 
 /// The values of a frame's variables; null is 0.
 pub type Values = [i32; VARS];
-
-const WORDS: usize = limits::HEAP_FIELDS / 64;
-
-/// A set of locations.
-#[derive(Clone, Copy, Debug, Default, PartialEq, Eq)]
-pub struct Locations([u64; WORDS]);
-
-impl Locations {
-    pub fn contains(&self, location: Location) -> bool {
-        self.0[location / 64] >> (location % 64) & 1 == 1
-    }
-
-    pub fn insert(&mut self, location: Location) {
-        self.0[location / 64] |= 1 << (location % 64);
-    }
-
-    fn add_all(&mut self, other: &Locations) {
-        for (word, more) in self.0.iter_mut().zip(other.0) {
-            *word |= more;
-        }
-    }
-
-    fn remove_all(&mut self, other: &Locations) {
-        for (word, gone) in self.0.iter_mut().zip(other.0) {
-            *word &= !gone;
-        }
-    }
-}
 
 /// "A frame has values and a set A of locations". A frame that waits for a call
 /// stands at the `call`.
@@ -53,11 +25,13 @@ pub struct Frame {
     pub held: Locations,
 }
 
-/// An object: the place of its first field in the heap, and how many it has.
+/// An object: the place of its first field in the heap, how many it has, and
+/// its class, a place in the program's list.
 #[derive(Clone, Copy, Debug, PartialEq, Eq)]
 pub struct Object {
     pub first: Location,
     pub fields: usize,
+    pub class: usize,
 }
 
 /// What a step that was done leads to.
@@ -70,7 +44,7 @@ pub enum Step {
 }
 
 /// A step that cannot be done stops with a number.
-type Outcome<T> = Result<T, u32>;
+type Outcome<'a, T> = Result<T, Halt<'a>>;
 
 /// The state of a run. "A run is the list of steps from the empty heap and
 /// main's frame."
@@ -84,6 +58,8 @@ pub struct Machine<'p, 'a> {
     pub frames: Vec<Frame>,
     /// The steps done.
     pub steps: u32,
+    /// What stopped the last step, if one was stopped.
+    pub halt: Option<Halt<'a>>,
 }
 
 /// A formula's reader: the values it sees and the locations it may read.
@@ -96,17 +72,18 @@ struct Reader<'m> {
 
 impl Reader<'_> {
     /// The location of `x.f`: null followed is 25, one not held 24.
-    fn location(&self, path: Path) -> Outcome<Location> {
-        let location = location(self.objects, self.values, path).ok_or(number::NULL_FOLLOWED)?;
+    fn location<'a>(&self, path: Path<'a>) -> Outcome<'a, Location> {
+        let location = location(self.objects, self.values, path)
+            .ok_or_else(|| Halt::at(number::NULL_FOLLOWED, path))?;
         if self.held.contains(location) {
             Ok(location)
         } else {
-            Err(number::PERMISSION_MISSING)
+            Err(Halt::at(number::PERMISSION_MISSING, path))
         }
     }
 
     /// "reading a path needs its location in A", over the whole A.
-    fn value(&self, expr: Expr) -> Outcome<i32> {
+    fn value<'a>(&self, expr: Expr<'a>) -> Outcome<'a, i32> {
         Ok(match expr {
             Expr::Number(value) => value,
             Expr::Null => 0,
@@ -116,7 +93,7 @@ impl Reader<'_> {
     }
 
     /// "of two sides the left first".
-    fn equal(&self, left: Expr, right: Expr) -> Outcome<bool> {
+    fn equal<'a>(&self, left: Expr<'a>, right: Expr<'a>) -> Outcome<'a, bool> {
         let left = self.value(left)?;
         let right = self.value(right)?;
         Ok(left == right)
@@ -124,26 +101,36 @@ impl Reader<'_> {
 
     /// "Formula atoms go in order". Gives the footprint, "the locations that
     /// its `acc` atoms take"; one already taken in this formula is 24.
-    fn formula(&self, formula: &[Atom]) -> Outcome<Locations> {
+    fn formula<'a>(&self, formula: &[Atom<'a>], tested: Tested) -> Outcome<'a, Locations> {
         let mut taken = Locations::default();
-        for &atom in formula {
-            let holds = match atom {
-                Atom::Acc(path) => {
-                    let location = self.location(path)?;
-                    if taken.contains(location) {
-                        return Err(number::PERMISSION_MISSING);
-                    }
-                    taken.insert(location);
-                    true
-                }
-                Atom::Eq(left, right) => self.equal(left, right)?,
-                Atom::Ne(left, right) => !self.equal(left, right)?,
-            };
-            if !holds {
-                return Err(number::FORMULA_FALSE);
-            }
+        for (place, &atom) in formula.iter().enumerate() {
+            self.atom(atom, &mut taken).map_err(|halt| Halt {
+                atom: Some(place),
+                tested,
+                ..halt
+            })?;
         }
         Ok(taken)
+    }
+
+    fn atom<'a>(&self, atom: Atom<'a>, taken: &mut Locations) -> Outcome<'a, ()> {
+        let holds = match atom {
+            Atom::Acc(path) => {
+                let location = self.location(path)?;
+                if taken.contains(location) {
+                    return Err(Halt::at(number::PERMISSION_MISSING, path));
+                }
+                taken.insert(location);
+                true
+            }
+            Atom::Eq(left, right) => self.equal(left, right)?,
+            Atom::Ne(left, right) => !self.equal(left, right)?,
+        };
+        if holds {
+            Ok(())
+        } else {
+            Err(Halt::of(number::FORMULA_FALSE))
+        }
     }
 }
 
@@ -177,6 +164,7 @@ impl<'p, 'a> Machine<'p, 'a> {
             heap: Vec::new(),
             frames: vec![main],
             steps: 0,
+            halt: None,
         }
     }
 
@@ -210,7 +198,14 @@ impl<'p, 'a> Machine<'p, 'a> {
 
     /// "Each statement line is one step". "A stopped step is not counted", and
     /// it changes nothing.
-    pub fn step(&mut self) -> Outcome<Step> {
+    pub fn step(&mut self) -> Result<Step, u32> {
+        self.tried().map_err(|halt| {
+            self.halt = Some(halt);
+            halt.number
+        })
+    }
+
+    fn tried(&mut self) -> Outcome<'a, Step> {
         let here = self.frame().next;
         let step = match &self.statement().action {
             Action::End => self.end()?,
@@ -229,7 +224,7 @@ impl<'p, 'a> Machine<'p, 'a> {
     }
 
     /// A step inside one frame; gives the place of the next statement.
-    fn simple(&mut self, here: usize, action: &Action) -> Outcome<usize> {
+    fn simple(&mut self, here: usize, action: &Action<'a>) -> Outcome<'a, usize> {
         match action {
             Action::Set(path, y) => {
                 let location = self.reader().location(*path)?;
@@ -242,10 +237,10 @@ impl<'p, 'a> Machine<'p, 'a> {
             Action::New(x, class) => self.create(*x, *class)?,
             Action::Return(x) => self.assign(RESULT, self.frame().values[*x]),
             Action::Assert(formula) | Action::Join(formula) => {
-                self.reader().formula(formula)?;
+                self.reader().formula(formula, Tested::Line)?;
             }
             Action::Release(formula) => {
-                let footprint = self.reader().formula(formula)?;
+                let footprint = self.reader().formula(formula, Tested::Line)?;
                 self.frame_mut().held.remove_all(&footprint);
             }
             // "a false `if` goes to the line after its `else`"
@@ -265,7 +260,7 @@ impl<'p, 'a> Machine<'p, 'a> {
         self.frame_mut().values[x] = value;
     }
 
-    fn condition(&self, condition: Atom) -> Outcome<bool> {
+    fn condition(&self, condition: Atom<'a>) -> Outcome<'a, bool> {
         match condition {
             Atom::Eq(left, right) => self.reader().equal(left, right),
             Atom::Ne(left, right) => self.reader().equal(left, right).map(|equal| !equal),
@@ -274,13 +269,17 @@ impl<'p, 'a> Machine<'p, 'a> {
     }
 
     /// "22 only where `new` would pass 256 objects or 1,024 fields."
-    fn create(&mut self, x: Var, class: usize) -> Outcome<()> {
+    fn create(&mut self, x: Var, class: usize) -> Outcome<'a, ()> {
         let fields = self.program.classes[class].fields.len();
         let first = self.heap.len();
         if self.objects.len() == limits::OBJECTS || first + fields > limits::HEAP_FIELDS {
-            return Err(number::HEAP_FULL);
+            return Err(Halt::of(number::HEAP_FULL));
         }
-        self.objects.push(Object { first, fields });
+        self.objects.push(Object {
+            first,
+            fields,
+            class,
+        });
         self.heap.resize(first + fields, 0);
         for location in first..first + fields {
             self.frame_mut().held.insert(location);
@@ -291,10 +290,10 @@ impl<'p, 'a> Machine<'p, 'a> {
 
     /// "`call`: null receiver, then requires, then frames full; the new frame's
     /// A is the footprint of requires, which the caller loses."
-    fn call(&mut self, call: Call) -> Outcome<()> {
+    fn call(&mut self, call: Call) -> Outcome<'a, ()> {
         let caller = self.frame();
         if caller.values[call.y] == 0 {
-            return Err(number::NULL_FOLLOWED);
+            return Err(Halt::of(number::NULL_FOLLOWED));
         }
         let method = &self.program.blocks[call.method];
         let values = callee_values(&caller.values, call);
@@ -302,9 +301,9 @@ impl<'p, 'a> Machine<'p, 'a> {
             values: &values,
             ..self.reader()
         };
-        let footprint = reader.formula(&method.requires)?;
+        let footprint = reader.formula(&method.requires, Tested::Requires)?;
         if self.frames.len() == limits::FRAMES {
-            return Err(number::FRAMES_FULL);
+            return Err(Halt::of(number::FRAMES_FULL));
         }
         self.frame_mut().held.remove_all(&footprint);
         self.frames.push(Frame {
@@ -318,8 +317,9 @@ impl<'p, 'a> Machine<'p, 'a> {
 
     /// "`end`: ensures, then the caller gains its footprint, and x the result;
     /// the rest of that A is lost."
-    fn end(&mut self) -> Outcome<Step> {
-        let footprint = self.reader().formula(&self.block().ensures)?;
+    fn end(&mut self) -> Outcome<'a, Step> {
+        let ensures = &self.block().ensures;
+        let footprint = self.reader().formula(ensures, Tested::Ensures)?;
         if self.frames.len() == 1 {
             return Ok(Step::Done);
         }

@@ -1,6 +1,7 @@
 //! Names and types: the numbers 6, 7 and 9, and the program with its names
 //! resolved.
 
+use crate::faults::{Fault, Faults, Noted, Role, Sides};
 use crate::limits;
 use crate::number::{self, Refusal};
 use crate::text::{self, reserved, Line, Name};
@@ -24,7 +25,7 @@ pub enum Type<'a> {
 
 /// The type of an expression: null fits every class.
 #[derive(Clone, Copy, Debug, PartialEq, Eq)]
-enum Kind<'a> {
+pub enum Kind<'a> {
     Null,
     Of(Type<'a>),
 }
@@ -72,6 +73,18 @@ pub enum Action<'a> {
     Else(usize),
     Join(Formula<'a>),
     End,
+}
+
+impl<'a> Action<'a> {
+    /// The line's own formula, if it has one.
+    pub fn formula(&self) -> Option<&[Atom<'a>]> {
+        match self {
+            Action::Assert(formula) | Action::Release(formula) | Action::Join(formula) => {
+                Some(formula)
+            }
+            _ => None,
+        }
+    }
 }
 
 /// `call x y m z`; the method is a place in the program's list of blocks.
@@ -240,24 +253,6 @@ fn declare<'a>(program: &mut Program<'a>, line: &Line<'a>) {
     }
 }
 
-/// The lowest number noted on a line: "for two on one line the lower".
-#[derive(Debug, Default)]
-pub struct Faults {
-    pub lowest: Option<u32>,
-}
-
-impl Faults {
-    fn note(&mut self, number: u32) {
-        self.lowest = Some(self.lowest.map_or(number, |lowest| lowest.min(number)));
-    }
-
-    fn note_if(&mut self, holds: bool, number: u32) {
-        if holds {
-            self.note(number);
-        }
-    }
-}
-
 /// Which names of the block a line may use: "`requires` names only `this` and
 /// w; `ensures` also `result`".
 #[derive(Clone, Copy, Debug, PartialEq, Eq)]
@@ -272,7 +267,7 @@ pub struct Scope<'p, 'a> {
     program: &'p Program<'a>,
     block: &'p Block<'a>,
     view: View,
-    pub faults: Faults,
+    pub faults: Faults<'a>,
 }
 
 impl<'p, 'a> Scope<'p, 'a> {
@@ -308,23 +303,26 @@ impl<'p, 'a> Scope<'p, 'a> {
         Some((FIRST_LOCAL + place, self.block.locals[place].kind))
     }
 
-    fn var(&mut self, name: Name) -> Option<(Var, Type<'a>)> {
+    fn var(&mut self, name: Name<'a>) -> Option<(Var, Type<'a>)> {
         let found = self.find(name);
-        self.faults.note_if(found.is_none(), number::NAME);
+        let fault = Fault::Undeclared(name, Role::Variable);
+        self.faults.note_if(found.is_none(), number::NAME, fault);
         found
     }
 
     /// "A field is looked up in x's class ...: absent there is 6, an int x ...
     /// is 7." A reserved word is 6 whatever x is.
     fn path(&mut self, x: Name<'a>, field: Name<'a>) -> Option<(Path<'a>, Type<'a>)> {
-        self.faults.note_if(reserved(field), number::NAME);
+        self.faults
+            .note_if(reserved(field), number::NAME, Fault::Reserved(field));
         let (var, kind) = self.var(x)?;
         let Type::Class(class) = kind else {
-            self.faults.note(number::TYPE);
+            self.faults.note(number::TYPE, Fault::NoObject(x));
             return None;
         };
         let found = self.program.field(class, field);
-        self.faults.note_if(found.is_none(), number::NAME);
+        let fault = Fault::Undeclared(field, Role::Field(class));
+        self.faults.note_if(found.is_none(), number::NAME, fault);
         let (slot, kind) = found?;
         Some((Path { var, field, slot }, kind))
     }
@@ -345,13 +343,19 @@ impl<'p, 'a> Scope<'p, 'a> {
     }
 
     /// "are int, or are null or of one class", else 7.
-    fn same(&mut self, left: Kind<'a>, right: Kind<'a>) {
-        let fit = match (left, right) {
+    fn same(
+        &mut self,
+        sides: Sides,
+        left: (text::Expr<'a>, Kind<'a>),
+        right: (text::Expr<'a>, Kind<'a>),
+    ) {
+        let fit = match (left.1, right.1) {
             (Kind::Of(left), Kind::Of(right)) => left == right,
             (Kind::Null, Kind::Of(other)) | (Kind::Of(other), Kind::Null) => other != Type::Int,
             (Kind::Null, Kind::Null) => true,
         };
-        self.faults.note_if(!fit, number::TYPE);
+        let fault = Fault::Mismatch { sides, left, right };
+        self.faults.note_if(!fit, number::TYPE, fault);
     }
 
     fn sides(
@@ -359,11 +363,10 @@ impl<'p, 'a> Scope<'p, 'a> {
         left: text::Expr<'a>,
         right: text::Expr<'a>,
     ) -> Option<(Expr<'a>, Expr<'a>)> {
-        let left = self.expression(left);
-        let right = self.expression(right);
-        let ((left, left_kind), (right, right_kind)) = (left?, right?);
-        self.same(left_kind, right_kind);
-        Some((left, right))
+        let resolved = (self.expression(left), self.expression(right));
+        let ((one, one_kind), (other, other_kind)) = (resolved.0?, resolved.1?);
+        self.same(Sides::Atom, (left, one_kind), (right, other_kind));
+        Some((one, other))
     }
 
     fn atom(&mut self, atom: text::Atom<'a>) -> Option<Atom<'a>> {
@@ -383,17 +386,19 @@ impl<'p, 'a> Scope<'p, 'a> {
     /// Every atom is looked at, also after one at fault.
     pub fn formula(&mut self, formula: &[text::Atom<'a>]) -> Option<Formula<'a>> {
         let mut atoms = Vec::with_capacity(formula.len());
-        for &atom in formula {
+        for (place, &atom) in formula.iter().enumerate() {
+            self.faults.atom = place;
             atoms.extend(self.atom(atom));
         }
         (atoms.len() == formula.len()).then_some(atoms)
     }
 
     /// "`this`, w or `result` assigned by `let`, `new` or `call`" is 9.
-    fn assigned(&mut self, name: Name) -> Option<(Var, Type<'a>)> {
+    fn assigned(&mut self, name: Name<'a>) -> Option<(Var, Type<'a>)> {
         let found = self.var(name)?;
         let local = (FIRST_LOCAL..RESULT).contains(&found.0);
-        self.faults.note_if(!local, number::ASSIGNED);
+        self.faults
+            .note_if(!local, number::ASSIGNED, Fault::Assigned(name));
         Some(found)
     }
 
@@ -401,7 +406,9 @@ impl<'p, 'a> Scope<'p, 'a> {
         let path = self.path(x, field);
         let value = self.var(y);
         let ((path, field_kind), (value, value_kind)) = (path?, value?);
-        self.same(Kind::Of(field_kind), Kind::Of(value_kind));
+        let left = (text::Expr::Path(x, field), Kind::Of(field_kind));
+        let right = (text::Expr::Var(y), Kind::Of(value_kind));
+        self.same(Sides::Set, left, right);
         Some(Action::Set(path, value))
     }
 
@@ -409,7 +416,8 @@ impl<'p, 'a> Scope<'p, 'a> {
         let var = self.assigned(x);
         let value = self.expression(expr);
         let ((var, var_kind), (value, value_kind)) = (var?, value?);
-        self.same(Kind::Of(var_kind), value_kind);
+        let left = (text::Expr::Var(x), Kind::Of(var_kind));
+        self.same(Sides::Let, left, (expr, value_kind));
         Some(Action::Let(var, value))
     }
 
@@ -417,22 +425,35 @@ impl<'p, 'a> Scope<'p, 'a> {
     fn create(&mut self, x: Name<'a>, name: Name<'a>) -> Option<Action<'a>> {
         let var = self.assigned(x);
         let class = self.program.class(name).filter(|_| !reserved(name));
-        self.faults.note_if(class.is_none(), number::NAME);
+        let fault = match reserved(name) {
+            true => Fault::Reserved(name),
+            false => Fault::Undeclared(name, Role::Class),
+        };
+        self.faults.note_if(class.is_none(), number::NAME, fault);
         let ((var, kind), class) = (var?, class?);
-        self.faults.note_if(kind != Type::Class(name), number::TYPE);
+        let fault = Fault::Mismatch {
+            sides: Sides::New,
+            left: (text::Expr::Var(x), Kind::Of(kind)),
+            right: (text::Expr::Var(name), Kind::Of(Type::Class(name))),
+        };
+        let fits = kind == Type::Class(name);
+        self.faults.note_if(!fits, number::TYPE, fault);
         Some(Action::New(var, class))
     }
 
     fn call(&mut self, x: Name<'a>, y: Name<'a>, m: Name<'a>, z: Name<'a>) -> Option<Action<'a>> {
-        self.faults.note_if(x == y || x == z, number::ASSIGNED);
+        self.faults
+            .note_if(x == y || x == z, number::ASSIGNED, Fault::Same(x));
         let target = self.assigned(x);
         let method = self.receiver(y, m);
         let argument = self.var(z);
+        let var = |name, kind| (text::Expr::Var(name), Kind::Of(kind));
         if let (Some((_, _, header)), Some((_, kind))) = (method, argument) {
-            self.same(Kind::Of(header.param.kind), Kind::Of(kind));
+            let param = var(header.param.name, header.param.kind);
+            self.same(Sides::Argument, param, var(z, kind));
         }
         if let (Some((_, _, header)), Some((_, kind))) = (method, target) {
-            self.same(Kind::Of(kind), Kind::Of(header.result));
+            self.same(Sides::Result, var(x, kind), var(m, header.result));
         }
         let (y, method, _) = method?;
         Some(Action::Call(Call {
@@ -445,14 +466,16 @@ impl<'p, 'a> Scope<'p, 'a> {
 
     /// "... a method in y's [class]: absent there is 6, an int ... y is 7."
     fn receiver(&mut self, y: Name<'a>, m: Name<'a>) -> Option<(Var, usize, Header<'a>)> {
-        self.faults.note_if(reserved(m), number::NAME);
+        self.faults
+            .note_if(reserved(m), number::NAME, Fault::Reserved(m));
         let (var, kind) = self.var(y)?;
         let Type::Class(class) = kind else {
-            self.faults.note(number::TYPE);
+            self.faults.note(number::TYPE, Fault::NoObject(y));
             return None;
         };
         let found = self.program.method(class, m);
-        self.faults.note_if(found.is_none(), number::NAME);
+        let fault = Fault::Undeclared(m, Role::Method(class));
+        self.faults.note_if(found.is_none(), number::NAME, fault);
         let (block, header) = found?;
         Some((var, block, header))
     }
@@ -460,7 +483,9 @@ impl<'p, 'a> Scope<'p, 'a> {
     fn give_back(&mut self, x: Name<'a>) -> Option<Action<'a>> {
         let (var, kind) = self.var(x)?;
         let header = self.block.header.expect("a return stands in a method");
-        self.same(Kind::Of(header.result), Kind::Of(kind));
+        let result = (text::Expr::Var(b"result"), Kind::Of(header.result));
+        let returned = (text::Expr::Var(x), Kind::Of(kind));
+        self.same(Sides::Return, result, returned);
         Some(Action::Return(var))
     }
 
@@ -504,12 +529,16 @@ struct Resolver<'a> {
 }
 
 impl<'a> Resolver<'a> {
-    fn type_name(&self, name: Name, faults: &mut Faults) {
+    fn type_name(&self, name: Name<'a>, faults: &mut Faults<'a>) {
         let known = name == b"int" || (!reserved(name) && self.program.class(name).is_some());
-        faults.note_if(!known, number::NAME);
+        let fault = match reserved(name) {
+            true => Fault::Reserved(name),
+            false => Fault::Undeclared(name, Role::Class),
+        };
+        faults.note_if(!known, number::NAME, fault);
     }
 
-    fn declaration(&mut self, line: &Line<'a>) -> Faults {
+    fn declaration(&mut self, line: &Line<'a>) -> Faults<'a> {
         let mut faults = Faults::default();
         match *line {
             Line::Class(name) => {
@@ -517,13 +546,13 @@ impl<'a> Resolver<'a> {
                 self.classes_seen += 1;
                 self.fields_seen = 0;
                 let twice = self.program.class(name) != Some(self.class);
-                faults.note_if(twice || reserved(name), number::NAME);
+                faults.declared(name, twice);
             }
             Line::Field { kind, name } => {
                 self.type_name(kind, &mut faults);
                 let earlier = &self.program.classes[self.class].fields[..self.fields_seen];
                 let twice = earlier.iter().any(|field| field.name == name);
-                faults.note_if(twice || reserved(name), number::NAME);
+                faults.declared(name, twice);
                 self.fields_seen += 1;
             }
             Line::Method { .. } => self.method(&mut faults),
@@ -534,7 +563,7 @@ impl<'a> Resolver<'a> {
                 let earlier = &block.locals[..self.locals_seen];
                 let twice = earlier.iter().any(|local| local.name == name)
                     || block.header.is_some_and(|header| header.param.name == name);
-                faults.note_if(twice || reserved(name), number::NAME);
+                faults.declared(name, twice);
                 self.locals_seen += 1;
             }
             _ => unreachable!("a statement is no declaration"),
@@ -549,7 +578,7 @@ impl<'a> Resolver<'a> {
         self.program.blocks[self.block].start = self.program.statements.len();
     }
 
-    fn method(&mut self, faults: &mut Faults) {
+    fn method(&mut self, faults: &mut Faults<'a>) {
         self.start_block();
         let header = self.program.blocks[self.block].header.expect("a method");
         for kind in [header.result, header.param.kind] {
@@ -563,11 +592,11 @@ impl<'a> Resolver<'a> {
             .take_while(|&&block| block < self.block)
             .filter_map(|&block| self.program.blocks[block].header)
             .any(|earlier| earlier.name == header.name);
-        faults.note_if(twice || reserved(header.name), number::NAME);
-        faults.note_if(reserved(header.param.name), number::NAME);
+        faults.declared(header.name, twice);
+        faults.declared(header.param.name, false);
     }
 
-    fn contract(&mut self, view: View, formula: &[text::Atom<'a>]) -> Faults {
+    fn contract(&mut self, view: View, formula: &[text::Atom<'a>]) -> Faults<'a> {
         let block = &self.program.blocks[self.block];
         let mut scope = Scope::new(&self.program, block, view);
         let resolved = scope.formula(formula);
@@ -582,7 +611,7 @@ impl<'a> Resolver<'a> {
         faults
     }
 
-    fn statement(&mut self, at: u32, line: &Line<'a>) -> Faults {
+    fn statement(&mut self, at: u32, line: &Line<'a>) -> Faults<'a> {
         let block = &self.program.blocks[self.block];
         let mut scope = Scope::new(&self.program, block, View::Body);
         let action = scope.statement(line);
@@ -620,7 +649,7 @@ impl<'a> Resolver<'a> {
         self.program.statements.push(statement);
     }
 
-    fn line(&mut self, at: u32, line: &Line<'a>) -> Faults {
+    fn line(&mut self, at: u32, line: &Line<'a>) -> Faults<'a> {
         match line {
             Line::Class(_)
             | Line::Field { .. }
@@ -636,6 +665,11 @@ impl<'a> Resolver<'a> {
 
 /// "then line by line 6, 7, 9 (for two on one line the lower)".
 pub fn resolve<'a>(lines: &[Line<'a>]) -> Result<Program<'a>, Refusal> {
+    resolve_noted(lines).map_err(|noted| noted.refusal)
+}
+
+/// The same; a refusal comes with its fault.
+pub fn resolve_noted<'a>(lines: &[Line<'a>]) -> Result<Program<'a>, Box<Noted<'a>>> {
     let mut resolver = Resolver {
         program: declarations(lines),
         class: 0,
@@ -648,8 +682,14 @@ pub fn resolve<'a>(lines: &[Line<'a>]) -> Result<Program<'a>, Refusal> {
     };
     for (index, line) in lines.iter().enumerate() {
         let at = index as u32 + 1;
-        if let Some(number) = resolver.line(at, line).lowest {
-            return Err(Refusal { number, line: at });
+        let faults = resolver.line(at, line);
+        if let Some((number, fault, atom)) = faults.lowest {
+            let refusal = Refusal { number, line: at };
+            return Err(Box::new(Noted {
+                refusal,
+                fault,
+                atom,
+            }));
         }
     }
     Ok(resolver.program)

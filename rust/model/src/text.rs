@@ -184,14 +184,14 @@ fn named_line<'a>(word: &[u8], names: &[Name<'a>]) -> Option<Line<'a>> {
 
 /// The two kinds of block.
 #[derive(Clone, Copy, Debug, PartialEq, Eq)]
-enum Block {
+pub enum Block {
     Method,
     Main,
 }
 
 /// Where in the text the next line stands.
 #[derive(Clone, Copy, Debug, PartialEq, Eq)]
-enum Place {
+pub enum Place {
     /// Before the first class.
     Start,
     /// After `class` or `field`.
@@ -212,15 +212,29 @@ enum Place {
 
 /// The branch of an open `if` that the next line stands in.
 #[derive(Clone, Copy, Debug, PartialEq, Eq)]
-enum Branch {
+pub enum Branch {
     First,
     Second,
 }
 
+/// A limit of the text.
+#[derive(Clone, Copy, Debug, PartialEq, Eq)]
+#[non_exhaustive]
+pub enum Limit {
+    Classes,
+    Fields,
+    Methods,
+    Locals,
+    Statements,
+    Nesting,
+}
+
 /// The place of the next line, and how much of each limit is used.
-struct Reader {
-    place: Place,
-    branches: Vec<Branch>,
+#[derive(Clone, Debug)]
+pub struct Reader {
+    pub place: Place,
+    /// The open branches, the innermost last.
+    pub branches: Vec<Branch>,
     classes: usize,
     fields: usize,
     methods: usize,
@@ -228,8 +242,15 @@ struct Reader {
     statements: usize,
 }
 
+impl Default for Reader {
+    fn default() -> Reader {
+        Reader::new()
+    }
+}
+
 impl Reader {
-    fn new() -> Reader {
+    /// Before the first line.
+    pub fn new() -> Reader {
         Reader {
             place: Place::Start,
             branches: Vec::new(),
@@ -242,7 +263,7 @@ impl Reader {
     }
 
     /// Takes the line if it may stand here; false is number 4.
-    fn step(&mut self, line: &Line) -> bool {
+    pub fn step(&mut self, line: &Line) -> bool {
         use Place::*;
         self.place = match (self.place, line) {
             (Start | Fields | Methods, Line::Class(_)) => Fields,
@@ -292,7 +313,7 @@ impl Reader {
     }
 
     /// Counts the line; false is number 5, a limit of the text passed.
-    fn count(&mut self, line: &Line) -> bool {
+    pub fn count(&mut self, line: &Line) -> bool {
         match line {
             Line::Class(_) => {
                 self.classes += 1;
@@ -308,23 +329,38 @@ impl Reader {
             Line::Requires(_) | Line::Ensures(_) => {}
             _ => self.statements += 1,
         }
-        self.classes <= limits::CLASSES
-            && self.fields <= limits::FIELDS
-            && self.methods <= limits::METHODS
-            && self.locals <= limits::LOCALS
-            && self.statements <= limits::STATEMENT_LINES
-            && self.branches.len() <= limits::NESTING
+        self.passed().is_none()
+    }
+
+    /// The limit that is passed.
+    pub fn passed(&self) -> Option<Limit> {
+        [
+            (Limit::Classes, self.classes, limits::CLASSES),
+            (Limit::Fields, self.fields, limits::FIELDS),
+            (Limit::Methods, self.methods, limits::METHODS),
+            (Limit::Locals, self.locals, limits::LOCALS),
+            (Limit::Statements, self.statements, limits::STATEMENT_LINES),
+            (Limit::Nesting, self.branches.len(), limits::NESTING),
+        ]
+        .into_iter()
+        .find_map(|(limit, used, most)| (used > most).then_some(limit))
     }
 }
 
 /// "byte other than tab, LF, 33 to 126"
-fn allowed_byte(byte: &u8) -> bool {
+pub fn allowed_byte(byte: &u8) -> bool {
     matches!(byte, b'\t' | b'\n' | 33..=126)
 }
 
 /// Reads the text: 2; then line by line 3, 4, 5; then 8. Line n of the text is
 /// entry n - 1 of the list.
 pub fn lines(text: &[u8]) -> Result<Vec<Line<'_>>, Refusal> {
+    lines_by(&mut Reader::new(), text)
+}
+
+/// The same, with a fresh reader that the caller looks at afterwards: for 4 it
+/// stands before the refused line, for 5 after it, for 8 at the end.
+pub fn lines_by<'a>(reader: &mut Reader, text: &'a [u8]) -> Result<Vec<Line<'a>>, Refusal> {
     let refuse = |number, line: usize| Refusal {
         number,
         line: line as u32,
@@ -332,7 +368,6 @@ pub fn lines(text: &[u8]) -> Result<Vec<Line<'_>>, Refusal> {
     if text.len() > limits::TEXT_BYTES {
         return Err(refuse(number::TOO_LONG, 0));
     }
-    let mut reader = Reader::new();
     let mut lines = Vec::new();
     for bytes in text.split_inclusive(|&byte| byte == b'\n') {
         let at = lines.len() + 1;

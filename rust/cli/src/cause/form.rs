@@ -1,0 +1,230 @@
+//! Number 4: the form of lines.
+
+use super::places::{misplaced, words};
+use super::Cause;
+use crate::nearest::{did_you_mean, nearest};
+use crate::script::{field_range, line, shown};
+use model::form::{fault, fields, next_words, Fault, Malformed, Operand, Shape, Tail, SHAPES};
+use model::limits;
+use model::text::{self, Place, Reader};
+
+/// The form of a kind of line, as the guide writes it.
+pub fn form_of(shape: &Shape) -> String {
+    let letters = shape
+        .operands
+        .iter()
+        .map(|(letter, _)| format!(" {letter}"));
+    let tail = match shape.tail {
+        Tail::Nothing => "",
+        Tail::Formula => " ATOM..",
+        Tail::Condition => " eq e e` or `if ne e e",
+    };
+    format!("{}{}{tail}", shape.word, letters.collect::<String>())
+}
+
+fn means(operand: Operand) -> &'static str {
+    match operand {
+        Operand::Type => "`int` or a class",
+        Operand::Name => "a name",
+        Operand::Variable => "a variable",
+        Operand::Expression => "a number, `null`, a variable or a path",
+    }
+}
+
+/// Number 4: the line has not its form, or stands in the wrong place.
+pub fn malformed(text: &[u8], number: u32) -> Option<Cause> {
+    let bytes = line(text, number)?;
+    let mut reader = Reader::new();
+    let _ = text::lines_by(&mut reader, text);
+    let Some((at, found)) = fault(bytes) else {
+        return Some(misplaced(text, number, &reader));
+    };
+    let all = fields(bytes);
+    let end = match found {
+        Fault::ShortAtom | Fault::Extra => all.len(),
+        Fault::NinthAtom => at + 3,
+        _ => at + 1,
+    };
+    let after = Some(bytes.len()..bytes.len());
+    let mark = field_range(bytes, at..end).or(after);
+    let field = all.get(at).map_or(&b""[..], |field| field.1);
+    let cause = match found {
+        Fault::UnknownWord => unknown_word(field, &reader).or_mend(assignment(&all)),
+        Fault::EmptyLine if reader.place == Place::Done => {
+            Cause::new("the line is empty, and nothing follows main's `end`").mend(DELETE)
+        }
+        Fault::EmptyLine => {
+            Cause::new("the line is empty; a script has no empty lines").mend(DELETE)
+        }
+        Fault::Field(operand, why) => match path_mend(why, &all, at) {
+            Some(mend) => field_cause(operand, why, field).mend(mend),
+            None => field_cause(operand, why, field),
+        },
+        Fault::UnknownAtom => unknown_atom(field),
+        Fault::ShortAtom => Cause::new(format!(
+            "the atom `{}` has not its three fields: `acc x f`, `eq e e` or `ne e e`",
+            shown(&bytes[all[at].0..]).replace('\t', " ")
+        )),
+        _ => count_cause(found, all[0].1, field),
+    };
+    Some(cause.mark(mark))
+}
+
+const DELETE: &str = "delete the line";
+
+/// A path where `let` or `acc` wants a variable: how the line is written.
+fn path_mend(why: Malformed, all: &[(usize, &[u8])], at: usize) -> Option<String> {
+    let path = shown(all.get(at)?.1);
+    let (x, f) = path
+        .split_once('.')
+        .filter(|_| why == Malformed::PathForName)?;
+    match (all[0].1, all[at - 1].1) {
+        (b"let", b"let") => Some(format!(
+            "a field is written by `set {x} {f} k`, with a variable k"
+        )),
+        (_, b"acc") => Some(format!("write `acc {x} {f}`")),
+        _ => None,
+    }
+}
+
+/// `a = 7` as other languages have it.
+fn assignment(all: &[(usize, &[u8])]) -> Option<String> {
+    let [(_, left), (_, b"=" | b":="), (_, right)] = all else {
+        return None;
+    };
+    let (left, right) = (shown(left), shown(right));
+    Some(match left.split_once('.') {
+        Some((x, f)) => format!("`set {x} {f} y`, with a variable y that has the value"),
+        None => format!("`let {left} {right}`"),
+    })
+}
+
+/// Too few or too many fields or atoms.
+fn count_cause(found: Fault, word: &[u8], field: &[u8]) -> Cause {
+    let form = model::form::shape_of(word).map(form_of);
+    let form = form.unwrap_or_default();
+    match found {
+        Fault::Missing(letter, operand) => Cause::new(format!(
+            "the field for {letter} is missing, {}: the form is `{form}`",
+            means(operand)
+        )),
+        Fault::Extra if field.is_empty() => {
+            Cause::new("the line has a tab too many, and so an empty field").mend(FORMAT)
+        }
+        Fault::Extra => Cause::new(format!(
+            "`{}` is a field too many: the form is `{form}`",
+            shown(field)
+        )),
+        Fault::NinthAtom => Cause::new(format!(
+            "a formula has at most {} atoms, and this is the ninth",
+            limits::ATOMS
+        ))
+        .mend("`assert` can be split over two lines; a contract wants less in one line"),
+        _ => Cause::new(format!("`{}` takes one condition: `{form}`", shown(word))),
+    }
+}
+
+const FORMAT: &str = "`station fmt --write FILE` mends it";
+
+fn unknown_word(word: &[u8], reader: &Reader) -> Cause {
+    let name = shown(word);
+    let next = next_words(reader);
+    let here = words(&next);
+    if name.is_empty() {
+        return Cause::new("the line begins with a tab; there is no indentation").mend(FORMAT);
+    }
+    if name.starts_with(['#', ';']) || name.starts_with("//") || name.starts_with("--") {
+        return Cause::new("a script has no comments").mend(DELETE);
+    }
+    if let Some(shape) = SHAPES
+        .iter()
+        .find(|shape| name.eq_ignore_ascii_case(shape.word))
+    {
+        return Cause::new(format!("words are written small: `{}`", shape.word));
+    }
+    let all = || SHAPES.iter().map(|shape| shape.word);
+    let near = nearest(&name, next.iter().copied()).or_else(|| nearest(&name, all()));
+    let near = near.map_or(String::new(), |word| format!("; did you mean `{word}`?"));
+    Cause::new(format!("no line begins with `{name}`{near}")).note(format!("here may stand {here}"))
+}
+
+fn unknown_atom(word: &[u8]) -> Cause {
+    let name = shown(word);
+    let atoms = "an atom is `acc x f`, `eq e e` or `ne e e`";
+    match name.as_str() {
+        "" => Cause::new("an atom begins with an empty field: a tab too many").mend(FORMAT),
+        "and" | "&&" | "*" | "," => Cause::new(format!(
+            "no word stands between atoms, and `{name}` is none; {atoms}"
+        ))
+        .mend(format!("leave `{name}` out")),
+        _ => {
+            let near = did_you_mean(&name, ["acc", "eq", "ne"]);
+            Cause::new(format!("no atom begins with `{name}`{near}")).note(atoms)
+        }
+    }
+}
+
+fn field_cause(operand: Operand, why: Malformed, field: &[u8]) -> Cause {
+    let name = shown(field);
+    let must = means(operand);
+    let stands = |what: &str| Cause::new(format!("{what} `{name}` stands where {must} must stand"));
+    match why {
+        Malformed::Empty => Cause::new(format!(
+            "the field is empty where {must} must stand: two tabs, or one at the end"
+        ))
+        .mend(FORMAT),
+        Malformed::NumberForName if operand == Operand::Variable => {
+            stands("the number").mend(format!("`let k {name}` first, then name k here"))
+        }
+        Malformed::NumberForName => stands("the number"),
+        Malformed::PathForName if operand == Operand::Variable => {
+            stands("the path").mend(format!("`let v {name}` first, then name v here"))
+        }
+        Malformed::PathForName => stands("the path"),
+        Malformed::LongPath => {
+            let mut parts = name.splitn(3, '.').map(str::to_string);
+            let mut part = || parts.next().unwrap_or_default();
+            let (x, f, rest) = (part(), part(), part());
+            Cause::new(format!("a path has one field, and `{name}` has more"))
+                .mend(format!("`let v {x}.{f}` first, then read `v.{rest}`"))
+        }
+        Malformed::Character(at) => {
+            let letter = field.get(at).map_or('?', |&byte| char::from(byte));
+            match letter {
+                '"' | '\'' => Cause::new("a script has numbers and links, no texts"),
+                _ => Cause::new(format!("`{letter}` stands in no name, number or path")),
+            }
+            .note(format!("here must stand {must}"))
+        }
+        other => word_cause(other, &name),
+    }
+}
+
+/// Names and numbers that are not written as they are.
+fn word_cause(why: Malformed, name: &str) -> Cause {
+    match why {
+        Malformed::TooLong => Cause::new(format!(
+            "a name has at most {} letters and digits; `{name}` has too many ({})",
+            limits::NAME_BYTES,
+            name.split('.').map(str::len).max().unwrap_or(0)
+        )),
+        Malformed::LeadingZero => {
+            let sign = if name.starts_with('-') { "-" } else { "" };
+            let number = match name.trim_start_matches(['-', '0']) {
+                "" => "0".to_string(),
+                digits => format!("{sign}{digits}"),
+            };
+            Cause::new("a number has no leading zero").mend(format!("write `{number}`"))
+        }
+        Malformed::MinusZero => Cause::new("`-0` is no number").mend("write `0`"),
+        Malformed::OutOfRange => Cause::new(format!(
+            "a number is at least {} and at most {}",
+            i32::MIN,
+            i32::MAX
+        )),
+        Malformed::PlusSign => Cause::new("a number has no `+`")
+            .mend(format!("write `{}`", name.trim_start_matches('+'))),
+        Malformed::FirstDigit => Cause::new("a name begins with a letter"),
+        _ => Cause::new(format!("`{name}` has no form of the language")),
+    }
+}

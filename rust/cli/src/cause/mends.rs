@@ -1,0 +1,91 @@
+//! Mends that fit what a rule does not show.
+
+use super::route::{assigned, Step};
+use super::rules::Unshown;
+use crate::script::{shown, Names};
+use model::names::{Action, Atom, Call, Expr, Path, Type, Var, PARAM, RESULT, THIS};
+
+/// A mend that fits, where one is to be seen.
+pub fn mend(unshown: &Unshown, steps: &[Step], lost_at: Option<usize>) -> Option<String> {
+    let Some(at) = lost_at else {
+        return never_shown(unshown, steps);
+    };
+    let statement = &unshown.script.program.statements[at];
+    match &statement.action {
+        Action::Call(call) => mend_of_call(unshown, *call, unshown.wanted),
+        Action::Join(_) => {
+            let wanted = unshown.names().atom(unshown.wanted);
+            let line = statement.line;
+            Some(format!("add `{wanted}` to the `join` of line {line}"))
+        }
+        _ => None,
+    }
+}
+
+/// What to do for an atom that was never shown in the block.
+fn never_shown(unshown: &Unshown, steps: &[Step]) -> Option<String> {
+    let names = unshown.names();
+    let wanted = names.atom(unshown.wanted);
+    let in_method = names.block.header.is_some();
+    let block = unshown.script.block_of(unshown.asked.place);
+    let (requires, _) = unshown.script.contract_lines(block);
+    match unshown.wanted {
+        Atom::Acc(Path {
+            var: THIS | PARAM, ..
+        }) if in_method => Some(format!("add `{wanted}` to `requires` (line {requires})")),
+        Atom::Ne(Expr::Var(THIS | PARAM), Expr::Null) if in_method => Some(format!(
+            "add `{wanted}`, or an `acc` of it, to `requires` (line {requires})"
+        )),
+        Atom::Acc(Path { var, .. }) | Atom::Ne(Expr::Var(var), Expr::Null)
+            if !assigned(unshown.script, steps, var) =>
+        {
+            let Some(Type::Class(class)) = names.kind(var) else {
+                return None;
+            };
+            let (var, class) = (names.var(var), shown(class));
+            Some(format!(
+                "`new {var} {class}` first: `{var}` is null until a line assigns it"
+            ))
+        }
+        Atom::Ne(Expr::Var(_), Expr::Null) => Some(format!(
+            "test it: `if {wanted}`, and do this in the first branch"
+        )),
+        Atom::Eq(Expr::Var(RESULT), Expr::Var(var))
+        | Atom::Eq(Expr::Var(var), Expr::Var(RESULT)) => {
+            Some(format!("`return {}` sets `result`", names.var(var)))
+        }
+        _ => None,
+    }
+}
+
+fn mend_of_call(unshown: &Unshown, call: Call, atom: Atom) -> Option<String> {
+    let method = unshown.script.names(call.method);
+    let (_, ensures) = unshown.script.contract_lines(call.method);
+    let var = |var| in_contract(call, &method, var);
+    let side = |expr: Expr| match expr {
+        Expr::Var(x) => var(x),
+        Expr::Path(path) => Some(format!("{}.{}", var(path.var)?, shown(path.field))),
+        constant => Some(unshown.names().expr(constant)),
+    };
+    let said = match atom {
+        Atom::Acc(path) => format!("acc {} {}", var(path.var)?, shown(path.field)),
+        Atom::Eq(left, right) => format!("eq {} {}", side(left)?, side(right)?),
+        Atom::Ne(left, right) => format!("ne {} {}", side(left)?, side(right)?),
+    };
+    let name = method.block.header.map_or(&b""[..], |header| header.name);
+    Some(format!(
+        "add `{said}` to the `ensures` of `{}` (line {ensures})",
+        shown(name)
+    ))
+}
+
+/// Names of a contract for a variable of its caller.
+fn in_contract(call: Call, method: &Names, var: Var) -> Option<String> {
+    let of = |place| Some(method.var(place));
+    match var {
+        _ if var == call.x => of(RESULT),
+        _ if var == call.y => of(THIS),
+        _ if var == call.z => of(PARAM),
+        _ => None,
+    }
+}

@@ -1,0 +1,151 @@
+//! The way that the check took to a statement, and where something that was
+//! shown on it is shown no more.
+
+use crate::script::{quoted, shown, Names, Script};
+use model::checker::{Fact, State, Term};
+use model::names::{Action, Atom, Expr, Var};
+use model::watch::Record;
+
+/// One statement of the way, with the states before and after it.
+pub struct Step<'r, 'a> {
+    pub place: usize,
+    pub before: &'r State<'a>,
+    pub after: &'r State<'a>,
+}
+
+/// The statements from a block's start up to a place. Branches that are closed
+/// before it count as their `join`.
+pub fn route<'r, 'a>(
+    script: &Script<'a>,
+    record: &'r Record<'a>,
+    target: usize,
+) -> Vec<Step<'r, 'a>> {
+    let block = &script.program.blocks[script.block_of(target)];
+    let mut steps = Vec::new();
+    let mut place = block.start;
+    while place < target {
+        let (named, last, next) = match &script.program.statements[place].action {
+            Action::If(branch) if target <= branch.other => (place, place, place + 1),
+            Action::If(branch) if target <= branch.join => (place, branch.other, branch.other + 1),
+            Action::If(branch) => (branch.join, branch.join, branch.join + 1),
+            _ => (place, place, place + 1),
+        };
+        if let (Some(before), Some(after)) = (&record.seen[place].before, &record.seen[last].after)
+        {
+            steps.push(Step {
+                place: named,
+                before,
+                after,
+            });
+        }
+        place = next;
+    }
+    steps
+}
+
+/// The last statement of the way before which the atom is shown, and after
+/// which it is not.
+pub fn lost<'a>(steps: &[Step<'_, 'a>], atom: Atom<'a>) -> Option<usize> {
+    let shows = |state: &State<'a>| state.show(&[atom]).is_ok();
+    let step = steps
+        .iter()
+        .rev()
+        .find(|step| shows(step.before) && !shows(step.after))?;
+    Some(step.place)
+}
+
+/// The last statement of the way that dropped a fact which names one of the
+/// terms, and that fact.
+pub fn dropped<'a>(steps: &[Step<'_, 'a>], terms: &[Term<'a>]) -> Option<(usize, Fact<'a>)> {
+    let names = |fact: &&Fact<'a>| terms.contains(&fact.left) || terms.contains(&fact.right);
+    steps.iter().rev().find_map(|step| {
+        let mut gone = step.before.facts.iter().filter(names);
+        let fact = gone.find(|fact| !step.after.facts.contains(fact))?;
+        Some((step.place, *fact))
+    })
+}
+
+/// "known up to line 28: .." of a fact.
+pub fn told_fact(script: &Script, place: usize, fact: Fact) -> String {
+    let statement = &script.program.statements[place];
+    let names = script.names_at(place);
+    let word = if fact.equal { "eq" } else { "ne" };
+    let (left, right) = (names.term(fact.left), names.term(fact.right));
+    let line = quoted(script.text, statement.line);
+    format!(
+        "`{word} {left} {right}` was known up to line {}: `{line}`",
+        statement.line
+    )
+}
+
+/// "held up to line 14: `call r c lose k`, ..".
+pub fn told(script: &Script, place: usize, atom: Atom) -> String {
+    let statement = &script.program.statements[place];
+    let names = script.names_at(place);
+    let held = if matches!(atom, Atom::Acc(_)) {
+        "held"
+    } else {
+        "known"
+    };
+    let line = quoted(script.text, statement.line);
+    let why = reason(script, &names, &statement.action, atom);
+    format!("{held} up to line {}: `{line}`, {why}", statement.line)
+}
+
+/// How a statement makes what was known go.
+fn reason(script: &Script, names: &Names, action: &Action, atom: Atom) -> String {
+    match action {
+        Action::Call(call) => {
+            let (_, ensures) = script.contract_lines(call.method);
+            let header = script.program.blocks[call.method].header;
+            let method = header.map_or(String::new(), |header| shown(header.name));
+            match (names_var(atom, call.x), atom) {
+                (true, _) => format!("which gives `{}` another value", names.var(call.x)),
+                (_, Atom::Acc(_)) => {
+                    format!(
+                        "and the `ensures` of `{method}` (line {ensures}) does not give it back"
+                    )
+                }
+                _ => format!("and the `ensures` of `{method}` (line {ensures}) does not say it"),
+            }
+        }
+        Action::Let(x, _) | Action::New(x, _) => {
+            format!("which gives `{}` another value", names.var(*x))
+        }
+        Action::Return(_) => "which gives `result` another value".to_string(),
+        Action::Set(path, _) => format!(
+            "which gives `{}` another value",
+            names.expr(Expr::Path(*path))
+        ),
+        Action::Release(_) => "which lets it go".to_string(),
+        Action::Join(_) => "after which only its own formula is known".to_string(),
+        _ => "after which it is not shown".to_string(),
+    }
+}
+
+/// Does a statement of the way give the variable a value?
+pub fn assigned(script: &Script, steps: &[Step], var: Var) -> bool {
+    let gives = |action: &Action| match action {
+        Action::Let(x, _) | Action::New(x, _) => *x == var,
+        Action::Call(call) => call.x == var,
+        Action::Join(_) => true,
+        _ => false,
+    };
+    let statements = &script.program.statements;
+    steps
+        .iter()
+        .any(|step| gives(&statements[step.place].action))
+}
+
+/// Does the atom name the variable?
+fn names_var(atom: Atom, var: Var) -> bool {
+    let side = |expr: Expr| match expr {
+        Expr::Var(x) => x == var,
+        Expr::Path(path) => path.var == var,
+        _ => false,
+    };
+    match atom {
+        Atom::Acc(path) => path.var == var,
+        Atom::Eq(left, right) | Atom::Ne(left, right) => side(left) || side(right),
+    }
+}

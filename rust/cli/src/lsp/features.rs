@@ -1,0 +1,276 @@
+//! What an editor asks of a text: its diagnostics, what is known at a line,
+//! names to complete, and where a name is declared. Lines are from 0 here, as
+//! the protocol has them, columns are units of UTF-16.
+
+use super::outline::{Name, Outline};
+use crate::cause::{cause, form_of};
+use crate::json::Json;
+use crate::known;
+use crate::script::Script;
+use model::form::{line_or_kind, next_words, shape_of, Operand, Tail, ATOM_SHAPES};
+use model::text::Reader;
+
+fn line_of(text: &str, line: u32) -> &str {
+    let bytes = crate::script::line(text.as_bytes(), line + 1).unwrap_or_default();
+    std::str::from_utf8(bytes).unwrap_or("")
+}
+
+/// The column of a byte of the line.
+fn column(line: &str, byte: usize) -> usize {
+    let before = |at: &usize| *at < byte;
+    let letters = line.char_indices().filter(|(at, _)| before(at));
+    letters.map(|(_, letter)| letter.len_utf16()).sum()
+}
+
+/// The byte at a column of the line.
+fn byte(line: &str, column: usize) -> usize {
+    let mut left = column;
+    for (at, letter) in line.char_indices() {
+        if left < letter.len_utf16() {
+            return at;
+        }
+        left -= letter.len_utf16();
+    }
+    line.len()
+}
+
+fn position(line: u32, column: usize) -> Json {
+    Json::object().with("line", line).with("character", column)
+}
+
+fn range(line: u32, from: usize, to: usize) -> Json {
+    Json::object()
+        .with("start", position(line, from))
+        .with("end", position(line, to))
+}
+
+/// The diagnostics of a text: one, or none if it is accepted.
+pub fn diagnostics(text: &str) -> Json {
+    let Err(refusal) = host::check(text.as_bytes()) else {
+        return Json::List(Vec::new());
+    };
+    let why = cause(text.as_bytes(), refusal);
+    let line = refusal.line().saturating_sub(1);
+    let shown = line_of(text, line);
+    let mark = why.as_ref().and_then(|cause| cause.mark.clone());
+    let mark = mark.unwrap_or(0..shown.len());
+    let title = host::explain(refusal.number()).map_or("", |known| known.title);
+    let mut message = why.as_ref().map_or(title, |cause| &cause.text).to_string();
+    for note in why.iter().flat_map(|cause| &cause.notes) {
+        message.push_str(&format!("\nnote: {note}"));
+    }
+    if let Some(mend) = why.as_ref().and_then(|cause| cause.mend.as_ref()) {
+        message.push_str(&format!("\nmend: {mend}"));
+    }
+    let found = Json::object()
+        .with(
+            "range",
+            range(line, column(shown, mark.start), column(shown, mark.end)),
+        )
+        .with("severity", 1u32)
+        .with("code", refusal.number())
+        .with("source", "station")
+        .with("message", message);
+    Json::List(vec![found])
+}
+
+/// What is known at a line, or the form of its kind of line.
+pub fn hover(text: &str, line: u32) -> Option<Json> {
+    let bytes = text.as_bytes();
+    let word = line_of(text, line).split('\t').next().unwrap_or("");
+    let form = shape_of(word.as_bytes()).map(|shape| format!("`{}`", form_of(shape)));
+    let known = Script::of(bytes).and_then(|script| {
+        let place = script.statement_at(line + 1)?;
+        let line = script.program.statements[place].line;
+        let known = known::at(&script, line)?;
+        Some(known::full(&script, &known))
+    });
+    let shown = match (form, known) {
+        (Some(form), Some(known)) => format!("{form}\n\n```\n{}\n```", known.trim_end()),
+        (Some(form), None) => form,
+        _ => return None,
+    };
+    let contents = Json::object().with("kind", "markdown").with("value", shown);
+    Some(Json::object().with("contents", contents))
+}
+
+/// The whole text in its form, as one edit; none if it has it.
+pub fn formatting(text: &str) -> Json {
+    let better = crate::fmt::formatted(text.as_bytes());
+    if better == text.as_bytes() {
+        return Json::List(Vec::new());
+    }
+    let lines = text.split('\n').count() as u32;
+    let all = Json::object()
+        .with("start", position(0, 0))
+        .with("end", position(lines, 0));
+    let edit = Json::object()
+        .with("range", all)
+        .with("newText", String::from_utf8_lossy(&better).into_owned());
+    Json::List(vec![edit])
+}
+
+/// The reader before a line, passing over lines that it does not take.
+fn reader_before(text: &str, line: u32) -> Reader {
+    let mut reader = Reader::new();
+    for bytes in text
+        .as_bytes()
+        .split(|&byte| byte == b'\n')
+        .take(line as usize)
+    {
+        if let Some(line) = line_or_kind(bytes) {
+            reader.step(&line);
+        }
+    }
+    reader
+}
+
+/// What a field is, by the fields before it in its line.
+enum Role {
+    Word,
+    AtomWord,
+    Type,
+    Class,
+    Variable,
+    Expression,
+    /// A field of this variable's class.
+    Field(String),
+    /// A method of this variable's class.
+    Method(String),
+    /// A new name, or nothing.
+    Free,
+}
+
+fn role(fields: &[&str], at: usize) -> Role {
+    let Some(shape) = shape_of(fields.first().unwrap_or(&"").as_bytes()).filter(|_| at > 0) else {
+        return Role::Word;
+    };
+    let before = |back: usize| fields.get(at - back).unwrap_or(&"").to_string();
+    let operands = shape.operands.len();
+    if at > operands {
+        let place = at - operands - 1;
+        let start = at - place % 3;
+        let atom = ATOM_SHAPES
+            .iter()
+            .find(|atom| fields.get(start) == Some(&atom.word));
+        return match (shape.tail, place % 3, atom) {
+            (Tail::Nothing, ..) => Role::Free,
+            (_, 0, _) => Role::AtomWord,
+            (_, part, Some(atom)) => operand(atom.operands[part - 1].1, before(1)),
+            _ => Role::Free,
+        };
+    }
+    match (shape.word, at, shape.operands[at - 1].1) {
+        ("set", 2, _) => Role::Field(before(1)),
+        ("call", 3, _) => Role::Method(before(1)),
+        ("new", 2, _) => Role::Class,
+        (_, _, Operand::Name) => Role::Free,
+        (_, _, other) => operand(other, String::new()),
+    }
+}
+
+fn operand(operand: Operand, before: String) -> Role {
+    match operand {
+        Operand::Type => Role::Type,
+        Operand::Variable => Role::Variable,
+        Operand::Expression => Role::Expression,
+        Operand::Name => Role::Field(before),
+    }
+}
+
+/// The names that may stand at a place.
+pub fn completion(text: &str, line: u32, column: usize) -> Json {
+    let shown = line_of(text, line);
+    let before = shown.get(..byte(shown, column)).unwrap_or("");
+    let fields: Vec<&str> = before.split('\t').collect();
+    let at = fields.len() - 1;
+    let words = match role(&fields, at) {
+        Role::Word => {
+            let next = next_words(&reader_before(text, line));
+            next.into_iter().map(str::to_string).collect()
+        }
+        Role::AtomWord => ATOM_SHAPES
+            .iter()
+            .map(|atom| atom.word.to_string())
+            .collect(),
+        role => names_for(&Outline::of(text.as_bytes()), line + 1, role, fields[at]),
+    };
+    let start = before.len() - fields[at].len();
+    let typed = range(line, self::column(before, start), column);
+    let items = words.into_iter().map(|word| {
+        let edit = Json::object()
+            .with("range", typed.clone())
+            .with("newText", word.as_str());
+        Json::object().with("label", word).with("textEdit", edit)
+    });
+    Json::List(items.collect())
+}
+
+/// The declared names that a field may be, at a line from 1.
+fn names_for(outline: &Outline, line: u32, role: Role, typed: &str) -> Vec<String> {
+    let names = |names: &[Name]| -> Vec<String> {
+        let names = names.iter().map(|name| name.name.clone());
+        names.collect()
+    };
+    let variables = || {
+        outline
+            .block(line)
+            .map_or(Vec::new(), |block| names(&block.names))
+    };
+    let classes = outline.classes.iter().map(|class| class.name.clone());
+    let fields = |variable: &str| match outline.class_of(line, variable) {
+        Some(class) => names(&class.fields),
+        None => Vec::new(),
+    };
+    match (role, typed.split_once('.')) {
+        (Role::Expression, Some((variable, _))) => {
+            let fields = fields(variable).into_iter();
+            fields.map(|field| format!("{variable}.{field}")).collect()
+        }
+        (Role::Expression, None) => [variables(), vec!["null".to_string()]].concat(),
+        (Role::Variable, _) => variables(),
+        (Role::Type, _) => ["int".to_string()].into_iter().chain(classes).collect(),
+        (Role::Class, _) => classes.collect(),
+        (Role::Field(variable), _) => fields(&variable),
+        (Role::Method(variable), _) => match outline.class_of(line, &variable) {
+            Some(class) => names(&class.methods),
+            None => Vec::new(),
+        },
+        _ => Vec::new(),
+    }
+}
+
+/// The line on which the name at a place is declared.
+pub fn declared_at(text: &str, line: u32, column: usize) -> Option<u32> {
+    let shown = line_of(text, line);
+    let cursor = byte(shown, column);
+    let fields: Vec<&str> = shown.split('\t').collect();
+    let starts = model::form::fields(shown.as_bytes());
+    let at = starts.iter().rposition(|(start, _)| *start <= cursor)?;
+    let outline = Outline::of(text.as_bytes());
+    let of = |variable: &str| outline.class_of(line + 1, variable);
+    let find = |names: &[Name], name: &str| {
+        let found = names.iter().find(|known| known.name == name);
+        found.map(|found| found.line)
+    };
+    let field = fields[at];
+    let variable = |name: &str| find(&outline.block(line + 1)?.names, name);
+    match (role(&fields[..=at], at), field.split_once('.')) {
+        (Role::Expression, Some((x, f))) if cursor > starts[at].0 + x.len() => {
+            find(&of(x)?.fields, f)
+        }
+        (Role::Expression, Some((x, _))) => variable(x),
+        (Role::Variable | Role::Expression, _) => variable(field),
+        (Role::Type | Role::Class, _) => outline.class(field).map(|class| class.line),
+        (Role::Field(x), _) => find(&of(&x)?.fields, field),
+        (Role::Method(x), _) => find(&of(&x)?.methods, field),
+        _ => None,
+    }
+}
+
+/// A place in a document, as the protocol wants it.
+pub fn location(uri: &str, line: u32) -> Json {
+    Json::object()
+        .with("uri", uri)
+        .with("range", range(line.saturating_sub(1), 0, 0))
+}

@@ -1,0 +1,190 @@
+//! The help, the man page and the shells' completions, from the table of
+//! commands and options.
+
+use crate::table::{CommandSpec, OptionSpec, COMMANDS, OPTIONS};
+use std::fmt::Write;
+
+const HEAD: &str = "station: check and run catalogue scripts";
+
+const FOOT: &str = "\
+FILE may be - for standard input. run also runs a text that check refuses with
+one of the numbers 10 to 14, after saying so.
+
+Exit status: 0 accepted or finished; 1 refused or stopped; 2 wrong use, or a
+file that can't be read or written (the other files are still done).
+";
+
+fn shown() -> impl Iterator<Item = &'static CommandSpec> {
+    COMMANDS.iter().filter(|spec| !spec.hidden)
+}
+
+fn taken_by(command: &str) -> impl Iterator<Item = &'static OptionSpec> + '_ {
+    let takes =
+        move |spec: &&OptionSpec| spec.commands.is_empty() || spec.commands.contains(&command);
+    OPTIONS.iter().filter(takes)
+}
+
+/// `-q, --quiet` or `--steps N`.
+fn written(spec: &OptionSpec) -> String {
+    let short = spec
+        .short
+        .map_or(String::new(), |short| format!("-{short}, "));
+    let value = spec
+        .value
+        .map_or(String::new(), |value| format!(" {value}"));
+    format!("{short}--{}{value}", spec.name)
+}
+
+fn row(out: &mut String, left: &str, right: &str) {
+    let _ = writeln!(out, "  {left:<22} {right}");
+}
+
+/// The help of a command, or of all.
+pub fn help(command: Option<&str>) -> String {
+    let spec = shown().find(|spec| Some(spec.name) == command);
+    let mut out = String::new();
+    match spec {
+        Some(spec) => {
+            let _ = writeln!(out, "station {} [OPTION..] {}", spec.name, spec.operands);
+            let _ = writeln!(out, "  {}\n", spec.about);
+            for option in taken_by(spec.name) {
+                row(&mut out, &written(option), option.about);
+            }
+        }
+        None => {
+            let _ = writeln!(out, "{HEAD}\n");
+            for spec in shown() {
+                row(
+                    &mut out,
+                    &format!("{} {}", spec.name, spec.operands),
+                    spec.about,
+                );
+            }
+            let _ = writeln!(out);
+            for option in OPTIONS {
+                row(&mut out, &written(option), option.about);
+            }
+            let _ = write!(out, "\n{FOOT}");
+        }
+    }
+    out
+}
+
+/// A man page in roff.
+pub fn man() -> String {
+    let safe = |text: &str| text.replace('\\', "\\e").replace('-', "\\-");
+    let mut out = String::from(".TH STATION 1\n.SH NAME\n");
+    let _ = writeln!(out, "{}", safe(HEAD).replacen(": ", " \\- ", 1));
+    let _ = writeln!(
+        out,
+        ".SH SYNOPSIS\n.B station\nCOMMAND [OPTION..] [OPERAND..]\n.SH COMMANDS"
+    );
+    for spec in shown() {
+        let name = safe(&format!("{} {}", spec.name, spec.operands));
+        let _ = writeln!(out, ".TP\n.B {}\n{}", name.trim_end(), safe(spec.about));
+    }
+    let _ = writeln!(out, ".SH OPTIONS");
+    for option in OPTIONS {
+        let with = match option.commands {
+            [] => String::new(),
+            commands => format!(" ({})", commands.join(", ")),
+        };
+        let about = safe(&format!("{}{with}", option.about));
+        let _ = writeln!(out, ".TP\n.B {}\n{about}", safe(&written(option)));
+    }
+    let _ = writeln!(out, ".SH NOTES");
+    for line in FOOT.lines() {
+        let _ = writeln!(
+            out,
+            "{}",
+            if line.is_empty() {
+                ".PP".into()
+            } else {
+                safe(line)
+            }
+        );
+    }
+    out
+}
+
+fn option_words(command: &str) -> String {
+    let words: Vec<String> = taken_by(command)
+        .map(|spec| format!("--{}", spec.name))
+        .collect();
+    words.join(" ")
+}
+
+fn bash() -> String {
+    let commands: Vec<&str> = shown().map(|spec| spec.name).collect();
+    let mut cases = String::new();
+    for spec in shown() {
+        let _ = writeln!(
+            cases,
+            "    {}) words=\"{}\" ;;",
+            spec.name,
+            option_words(spec.name)
+        );
+    }
+    format!(
+        "_station() {{\n  local word=${{COMP_WORDS[COMP_CWORD]}} words=\n  if [ \"$COMP_CWORD\" -eq 1 ]; then\n    \
+         COMPREPLY=($(compgen -W \"{}\" -- \"$word\"))\n    return\n  fi\n  case ${{COMP_WORDS[1]}} in\n{cases}  \
+         esac\n  case $word in\n    -*) COMPREPLY=($(compgen -W \"$words\" -- \"$word\")) ;;\n    \
+         *) COMPREPLY=($(compgen -f -- \"$word\")) ;;\n  esac\n}}\ncomplete -o filenames -F _station station\n",
+        commands.join(" ")
+    )
+}
+
+fn zsh() -> String {
+    let quoted = |text: &str| text.replace('\'', "'\\''");
+    let mut out = String::from("#compdef station\nlocal -a commands\ncommands=(\n");
+    for spec in shown() {
+        let about = quoted(spec.about).replace(':', "\\:");
+        let _ = writeln!(out, "  '{}:{about}'", spec.name);
+    }
+    out.push_str(")\nif (( CURRENT == 2 )); then\n  _describe command commands\n  return\nfi\ncase $words[2] in\n");
+    for spec in shown() {
+        let _ = write!(out, "  {}) _arguments", spec.name);
+        for option in taken_by(spec.name) {
+            let value = option
+                .value
+                .map_or(String::new(), |value| format!(":{value}:"));
+            let _ = write!(out, " '--{}[{}]{value}'", option.name, quoted(option.about));
+        }
+        out.push_str(" '*:file:_files' ;;\n");
+    }
+    out.push_str("esac\n");
+    out
+}
+
+fn fish() -> String {
+    let quoted = |text: &str| text.replace('\'', "\\'");
+    let mut out = String::from("complete -c station -n __fish_use_subcommand -f\n");
+    for spec in shown() {
+        let about = quoted(spec.about);
+        let _ = writeln!(
+            out,
+            "complete -c station -n __fish_use_subcommand -a {} -d '{about}'",
+            spec.name
+        );
+        for option in taken_by(spec.name) {
+            let (name, about) = (option.name, quoted(option.about));
+            let value = if option.value.is_some() { " -r" } else { "" };
+            let seen = format!("'__fish_seen_subcommand_from {}'", spec.name);
+            let _ = writeln!(
+                out,
+                "complete -c station -n {seen} -l {name}{value} -d '{about}'"
+            );
+        }
+    }
+    out
+}
+
+/// The completions of a shell, if it is one of the three.
+pub fn completions(shell: &str) -> Option<String> {
+    match shell {
+        "bash" => Some(bash()),
+        "zsh" => Some(zsh()),
+        "fish" => Some(fish()),
+        _ => None,
+    }
+}

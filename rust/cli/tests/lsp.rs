@@ -1,0 +1,286 @@
+//! A client that speaks the language server protocol with `station lsp`.
+
+mod common;
+#[allow(dead_code)]
+#[path = "../src/json.rs"]
+mod json;
+
+use common::command;
+use json::{parse, Json};
+use std::io::{BufRead, BufReader, Read, Write};
+use std::process::{Child, ChildStdin, ChildStdout};
+
+struct Client {
+    child: Child,
+    input: ChildStdin,
+    output: BufReader<ChildStdout>,
+    id: u32,
+}
+
+const URI: &str = "file:///a.script";
+
+impl Client {
+    fn start() -> Client {
+        let mut child = command(&["lsp"]).spawn().expect("station starts");
+        let input = child.stdin.take().expect("its input");
+        let output = BufReader::new(child.stdout.take().expect("its output"));
+        let mut client = Client {
+            child,
+            input,
+            output,
+            id: 0,
+        };
+        let found = client.ask("initialize", Json::object());
+        assert!(found.at(&["capabilities", "hoverProvider"]).is_some());
+        client.tell("initialized", Json::object());
+        client
+    }
+
+    fn send(&mut self, body: &str) {
+        let frame = format!("Content-Length: {}\r\n\r\n{body}", body.len());
+        self.input.write_all(frame.as_bytes()).expect("sent");
+    }
+
+    fn hear(&mut self) -> Json {
+        let mut length = 0;
+        loop {
+            let mut line = String::new();
+            self.output.read_line(&mut line).expect("a header");
+            match line.trim_end() {
+                "" => break,
+                line => {
+                    let value = line.strip_prefix("Content-Length: ").expect("a length");
+                    length = value.parse().expect("a number");
+                }
+            }
+        }
+        let mut body = vec![0; length];
+        self.output.read_exact(&mut body).expect("a body");
+        parse(std::str::from_utf8(&body).expect("UTF-8")).expect("JSON")
+    }
+
+    fn tell(&mut self, method: &str, params: Json) {
+        let message = Json::object()
+            .with("jsonrpc", "2.0")
+            .with("method", method)
+            .with("params", params);
+        self.send(&message.to_string());
+    }
+
+    /// The result of a request.
+    fn ask(&mut self, method: &str, params: Json) -> Json {
+        self.id += 1;
+        let message = Json::object()
+            .with("jsonrpc", "2.0")
+            .with("id", self.id)
+            .with("method", method)
+            .with("params", params);
+        self.send(&message.to_string());
+        let answer = self.hear();
+        assert_eq!(answer.get("id"), Some(&Json::Int(self.id.into())));
+        answer
+            .get("result")
+            .cloned()
+            .unwrap_or_else(|| panic!("{answer}"))
+    }
+
+    /// Opens the text: its diagnostics.
+    fn open(&mut self, text: &str) -> Vec<Json> {
+        let document = Json::object().with("uri", URI).with("text", text);
+        self.tell(
+            "textDocument/didOpen",
+            Json::object().with("textDocument", document),
+        );
+        self.diagnostics()
+    }
+
+    fn change(&mut self, text: &str) -> Vec<Json> {
+        let document = Json::object().with("uri", URI);
+        let changes = vec![Json::object().with("text", text)];
+        let params = Json::object()
+            .with("textDocument", document)
+            .with("contentChanges", changes);
+        self.tell("textDocument/didChange", params);
+        self.diagnostics()
+    }
+
+    fn diagnostics(&mut self) -> Vec<Json> {
+        let said = self.hear();
+        let method = said.get("method").and_then(Json::text);
+        assert_eq!(method, Some("textDocument/publishDiagnostics"));
+        match said.at(&["params", "diagnostics"]) {
+            Some(Json::List(found)) => found.clone(),
+            _ => panic!("no diagnostics: {said}"),
+        }
+    }
+
+    fn at(&mut self, method: &str, line: u32, column: u32) -> Json {
+        let position = Json::object().with("line", line).with("character", column);
+        let params = Json::object()
+            .with("textDocument", Json::object().with("uri", URI))
+            .with("position", position);
+        self.ask(method, params)
+    }
+
+    fn labels(&mut self, line: u32, column: u32) -> Vec<String> {
+        let Json::List(items) = self.at("textDocument/completion", line, column) else {
+            panic!("no list");
+        };
+        let label = |item: &Json| item.get("label").and_then(Json::text).map(str::to_string);
+        items.iter().filter_map(label).collect()
+    }
+
+    fn end(mut self) {
+        assert_eq!(self.ask("shutdown", Json::object()), Json::Null);
+        self.tell("exit", Json::object());
+        assert!(self.child.wait().expect("it ends").success());
+    }
+}
+
+fn example(name: &str) -> String {
+    let path = common::root().join("examples").join(name);
+    std::fs::read_to_string(path).expect("an example")
+}
+
+#[test]
+fn diagnostics_as_one_types() {
+    let mut client = Client::start();
+    let found = client.open(&example("refused-12.script"));
+    assert_eq!(found.len(), 1);
+    assert_eq!(found[0].get("code"), Some(&Json::Int(12)));
+    assert_eq!(
+        found[0].at(&["range", "start", "line"]),
+        Some(&Json::Int(5))
+    );
+    assert_eq!(
+        found[0].at(&["range", "start", "character"]),
+        Some(&Json::Int(4))
+    );
+    assert_eq!(
+        found[0].at(&["range", "end", "character"]),
+        Some(&Json::Int(10))
+    );
+    let message = found[0]
+        .get("message")
+        .and_then(Json::text)
+        .expect("a message");
+    assert!(
+        message.contains("`acc this n`") && message.contains("mend: "),
+        "{message}"
+    );
+    let mended = example("refused-12.script").replace("requires", "requires\tacc\tthis\tn");
+    assert_eq!(client.change(&mended), []);
+    // Columns are units of UTF-16: the sign takes two.
+    let found = client.change("main\n\u{1f600} \nend\n");
+    assert_eq!(
+        found[0].at(&["range", "end", "character"]),
+        Some(&Json::Int(2))
+    );
+    client.end();
+}
+
+#[test]
+fn hover_definition_formatting() {
+    let mut client = Client::start();
+    client.open(&example("tag.script"));
+    let hover = client.at("textDocument/hover", 15, 3);
+    let shown = hover
+        .at(&["contents", "value"])
+        .and_then(Json::text)
+        .expect("a hover");
+    assert!(shown.contains("adds:   eq c.tag k"), "{shown}");
+    let line = |answer: &Json| answer.at(&["range", "start", "line"]).and_then(Json::int);
+    // `call r c mark k`: the variable, the method, the class of `new`.
+    let found = client.at("textDocument/definition", 15, 5);
+    assert_eq!(line(&found), Some(12));
+    let found = client.at("textDocument/definition", 15, 10);
+    assert_eq!(line(&found), Some(3));
+    let found = client.at("textDocument/definition", 13, 7);
+    assert_eq!(line(&found), Some(0));
+    // `assert eq c.tag 7`: the variable, and the field.
+    let found = client.at("textDocument/definition", 16, 10);
+    assert_eq!(line(&found), Some(10));
+    let found = client.at("textDocument/definition", 16, 13);
+    assert_eq!(line(&found), Some(2));
+    let format = |client: &mut Client| {
+        let document = Json::object().with("uri", URI);
+        let params = Json::object().with("textDocument", document);
+        client.ask("textDocument/formatting", params)
+    };
+    assert_eq!(format(&mut client), Json::List(Vec::new()));
+    client.change("main \r\n end");
+    let Json::List(edits) = format(&mut client) else {
+        panic!("no edits");
+    };
+    assert_eq!(
+        edits[0].get("newText").and_then(Json::text),
+        Some("main\nend\n")
+    );
+    client.end();
+}
+
+#[test]
+fn completion_of_names_in_scope() {
+    let mut client = Client::start();
+    let text = "class\tCard\nfield\tCard\tprev\nfield\tint\ttag\nmethod\tint\tmark\tint\tk\nrequires\t\nensures\nend\n\
+                main\nvar\tCard\tc\nset\tc\t\ncall\tc\tc\t\nassert\teq\tc.\n\nnew\tc\t\n";
+    client.open(text);
+    assert_eq!(client.labels(4, 9), ["acc", "eq", "ne"]);
+    assert_eq!(client.labels(9, 6), ["prev", "tag"]);
+    assert_eq!(client.labels(10, 9), ["mark"]);
+    assert_eq!(client.labels(11, 12), ["c.prev", "c.tag"]);
+    assert_eq!(client.labels(9, 4), ["c"]);
+    assert_eq!(client.labels(13, 6), ["Card"]);
+    assert_eq!(client.labels(8, 4), ["int", "Card"]);
+    assert!(client.labels(12, 0).contains(&"let".to_string()));
+    assert!(!client.labels(12, 0).contains(&"return".to_string()));
+    client.end();
+}
+
+const ASKED: [&str; 3] = [
+    "textDocument/hover",
+    "textDocument/completion",
+    "textDocument/definition",
+];
+
+/// What is no message or no request is answered or passed over.
+#[test]
+fn hostile_messages() {
+    let mut client = Client::start();
+    let code = |answer: Json| answer.at(&["error", "code"]).and_then(Json::int);
+    client.send("{");
+    assert_eq!(code(client.hear()), Some(-32_700));
+    client.send("\"no object\"");
+    client.send("{\"method\":\"textDocument/didOpen\"}");
+    client.send("{\"id\":7,\"method\":\"no/such\"}");
+    assert_eq!(code(client.hear()), Some(-32_601));
+    for method in ASKED {
+        assert_eq!(client.at(method, 0, 0), Json::Null, "no document is open");
+    }
+    client.end();
+    // Without `shutdown` the status says so; input that ends is an end.
+    let mut child = command(&["lsp"]).spawn().expect("station starts");
+    drop(child.stdin.take());
+    assert_eq!(child.wait().expect("it ends").code(), Some(1));
+}
+
+/// Any text, and any place in it or beyond it.
+#[test]
+fn hostile_texts() {
+    let mut client = Client::start();
+    let mut texts: Vec<String> = ["", "\n\n", "main", "\t\t.\t\n"]
+        .map(str::to_string)
+        .to_vec();
+    texts.extend((0..40).map(|seed| String::from_utf8_lossy(&model::gen::text(seed)).into_owned()));
+    for text in texts {
+        client.open(&text);
+        for line in [0, 1, 7, u32::MAX] {
+            for column in [0, 3, 9, u32::MAX] {
+                for method in ASKED {
+                    client.at(method, line, column);
+                }
+            }
+        }
+    }
+    client.end();
+}
