@@ -22,7 +22,8 @@ use Rattle.tables.proofs.Bytes.{same-trans}
 use Rattle.tables.proofs.Decoding.{tables-same, rows-count-same, kind-same, methods-count-same, first-row-same, ensures-same, requires-same}
 use Rattle.stores.specs.declared.Fault.{Fault}
 use Rattle.steps.specs.declared.Turn.{Turn}
-use Rattle.stores.specs.Views.{frameAt, variableAt, savedHolder, savedRow, methodOf, cellHolder, cellOf, holderIn, holderOf, marked, prepared, nextView, takeIn, stopOf, SmallCells}
+use Rattle.stores.specs.Views.{frameAt, variableAt, savedHolder, savedRow, methodOf, cellHolder, cellOf, holderIn, holderOf, prepared, nextView, stopOf}
+use Rattle.stores.specs.Footprints.{marked, takeIn, SmallCells}
 use Rattle.steps.specs.States.{FrameIs, CallerIs, CallersAre, Represents, Follows, Does, Ready, AtKind}
 use Rattle.calls.specs.Calls.{Calling, Admits, called}
 use Rattle.stores.proofs.Reading.{cell-small}

@@ -25,7 +25,8 @@ use Rattle.tables.proofs.Decoding.{tables-same, rows-count-same, kind-same}
 use Rattle.stores.specs.declared.Fault.{Fault}
 use Rattle.steps.specs.declared.Turn.{Turn}
 use Rattle.stores.specs.declared.View.{View}
-use Rattle.stores.specs.Views.{frameAt, variableAt, savedHolder, savedRow, methodOf, holderOf, takeIn, marked, viewOf, stopOf, SmallCells}
+use Rattle.stores.specs.Views.{frameAt, variableAt, savedHolder, savedRow, methodOf, holderOf, viewOf, stopOf}
+use Rattle.stores.specs.Footprints.{takeIn, marked, SmallCells}
 use Rattle.steps.specs.States.{FrameIs, CallerIs, CallersAre, Represents, Follows, Does, Ready}
 use Rattle.calls.specs.Calls.{back}
 use Rattle.steps.proofs.Seeing.{Matches, FormulaOk, no-footprint, ok-footprint, atoms-ok, bool-iff}

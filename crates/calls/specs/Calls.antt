@@ -10,7 +10,8 @@ use Rattle.rules.specs.declared.Machine.{Machine}
 use Rattle.tables.specs.Decode.{methodCount, requiresAt, ensuresAt, firstRowAt}
 use Rattle.stores.specs.declared.Fault.{Fault}
 use Rattle.steps.specs.declared.Turn.{Turn}
-use Rattle.stores.specs.Views.{footprint-cells, methodOf, marked, takeIn, viewOf, nextView, SmallCells, Readable, stopOf}
+use Rattle.stores.specs.Views.{methodOf, viewOf, nextView, Readable, stopOf}
+use Rattle.stores.specs.Footprints.{footprint-cells, marked, takeIn, SmallCells}
 use Rattle.steps.specs.States.{Ready}
 
 -- back in the caller, which holds by this number

@@ -19,7 +19,8 @@ use Rattle.links.specs.Links.{Labelled, Decides, alikeBy}
 use Rattle.links.proofs.Keys.{of-number}
 use Rattle.links.proofs.Labels.{alike}
 use Rattle.known.specs.States.{factAt, factsIn}
-use Rattle.known.specs.Questions.{numberLike, otherLike, otherNumber, twoNumbers, places}
+use Rattle.known.specs.Questions.{places}
+use Rattle.known.specs.Ways.{numberLike, otherLike, otherNumber, twoNumbers}
 use Rattle.known.proofs.Searches.{any-same}
 
 -- the numbers among terms, one term at a time

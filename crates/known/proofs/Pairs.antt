@@ -14,7 +14,7 @@ use Rattle.rules.proofs.Lists.{decide-eq}
 use Rattle.links.specs.Keys.{termOf}
 use Rattle.links.specs.Listing.{listed}
 use Rattle.links.proofs.Listing.{any-append, listed-more, or-true}
-use Rattle.known.specs.Questions.{pairTest}
+use Rattle.known.specs.Ways.{pairTest}
 use Rattle.known.proofs.Searches.{any-false}
 
 shuffle : (a x b c : Bool) → ((a || (x || false)) || (b || c)) ≡ ((a || b) || (x || c))

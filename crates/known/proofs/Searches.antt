@@ -18,7 +18,8 @@ use Rattle.links.proofs.Keys.{of-null}
 use Rattle.links.proofs.Listing.{any-append}
 use Rattle.links.proofs.Labels.{alike}
 use Rattle.known.specs.States.{apartAt, factAt, factsIn}
-use Rattle.known.specs.Questions.{Slots, eitherWay, unequalAt, unequalIn, places}
+use Rattle.known.specs.Questions.{Slots, places}
+use Rattle.known.specs.Ways.{eitherWay, unequalAt, unequalIn}
 
 module _ {A B : Type 0} where
   -- tests that agree at each place

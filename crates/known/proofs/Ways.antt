@@ -16,7 +16,8 @@ use Rattle.links.specs.Links.{Labelled}
 use Rattle.links.proofs.Keys.{of-number}
 use Rattle.links.proofs.Listing.{or-false}
 use Rattle.known.specs.States.{Wf, stateOf, facts, factsOf, permissionsOf}
-use Rattle.known.specs.Questions.{unequalIn, places}
+use Rattle.known.specs.Questions.{places}
+use Rattle.known.specs.Ways.{unequalIn}
 use Rattle.known.proofs.Searches.{unequal-law}
 
 or-3 : (A B : Bool) → true ≡ (A || (B || true))

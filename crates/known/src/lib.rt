@@ -13,7 +13,8 @@ ghost use Rattle.links.specs.Layout.{slots, bytes, left-sides};
 ghost use Rattle.links.specs.Keys.{termOf, meaning, first-number};
 ghost use Rattle.links.specs.Links.{Labelled, Decides, relOf};
 ghost use Rattle.known.specs.States.{Wf, stateOf, factsIn, permissionsIn, permissionsOf, variableAt, entries};
-ghost use Rattle.known.specs.Questions.{Slots, Told, FirstPlace, entryTest, passes, eitherWay, unequalAt, unequalIn, places, numberLike, otherLike, otherNumber, twoNumbers, pairAt, resolvedAs, pathAt, standsFor, variableOr};
+ghost use Rattle.known.specs.Questions.{Slots, Told, FirstPlace, entryTest, passes, places, resolvedAs, pathAt, standsFor, variableOr};
+ghost use Rattle.known.specs.Ways.{eitherWay, unequalAt, unequalIn, numberLike, otherLike, otherNumber, twoNumbers, pairAt};
 
 // What the checker knows stands in two arrays, `key` and `b` (`State` in links). Two slots have one label where their terms are ~.
 

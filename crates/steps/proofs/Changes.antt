@@ -21,7 +21,8 @@ use Rattle.tables.specs.Tables.{Tables}
 use Rattle.tables.specs.Stores.{SameTables, putWord}
 use Rattle.tables.proofs.Bytes.{word-put, word-kept}
 use Rattle.tables.proofs.Decoding.{tables-same, rows-count-same}
-use Rattle.stores.specs.Views.{frameAt, variableAt, cellValue, cellHolder, cellOf, holderIn, holderOf, methodOf, marked, ObjectFits}
+use Rattle.stores.specs.Views.{frameAt, variableAt, cellValue, cellHolder, cellOf, holderIn, holderOf, methodOf, ObjectFits}
+use Rattle.stores.specs.Footprints.{marked}
 use Rattle.steps.specs.States.{HeapIs, Represents}
 use Rattle.stores.proofs.Reading.{Placed, cell-placed, cell-small}
 use Rattle.steps.proofs.Seeing.{Matches, cells-apart, bool-iff}

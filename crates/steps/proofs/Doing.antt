@@ -19,7 +19,8 @@ use Rattle.tables.proofs.Bytes.{same-refl}
 use Rattle.stores.specs.declared.View.{View}
 use Rattle.stores.specs.declared.Fault.{Fault}
 use Rattle.steps.specs.declared.Turn.{Turn}
-use Rattle.stores.specs.Views.{frameAt, variableAt, spot, readIn, testIn, takeIn, marked, viewOf, stopOf, SmallCells, Readable}
+use Rattle.stores.specs.Views.{frameAt, variableAt, spot, readIn, viewOf, stopOf, Readable}
+use Rattle.stores.specs.Footprints.{testIn, takeIn, marked, SmallCells}
 use Rattle.steps.specs.States.{Represents, Follows, Does, Ready, NotEnd, AtKind, stepped}
 use Rattle.stores.proofs.Reading.{spot-small}
 use Rattle.steps.proofs.Seeing.{ok-footprint}

@@ -19,7 +19,8 @@ use Rattle.tables.specs.Decode.{byteAt, allRows, rowCount, kindAt, targetAt, fo
 use Rattle.tables.specs.Tables.{RowFits}
 use Rattle.stores.specs.declared.Fault.{Fault}
 use Rattle.steps.specs.declared.Turn.{Turn}
-use Rattle.stores.specs.Views.{frameAt, variableAt, holderOf, viewOf, readIn, rightTest, testIn, takeIn, stopOf, ObjectFits, Readable}
+use Rattle.stores.specs.Views.{frameAt, variableAt, holderOf, viewOf, readIn, stopOf, ObjectFits, Readable}
+use Rattle.stores.specs.Footprints.{rightTest, testIn, takeIn}
 use Rattle.steps.specs.States.{FrameIs, Represents, Follows, atRow, stepped}
 use Rattle.stores.proofs.Reading.{cell-small}
 use Rattle.steps.proofs.Seeing.{Sees, FormulaOk, cells-apart, value-is, no-footprint, ok-footprint, atoms-ok}

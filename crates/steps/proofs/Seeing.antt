@@ -19,10 +19,12 @@ use Rattle.tables.specs.Layout.{most-names, frame-variables}
 use Rattle.tables.specs.Decode.{run, byteAt, leftAt, rightAt, atomAt, atomsFrom, atomPlace, atomCount, relOf, fieldNameAt}
 use Rattle.tables.specs.Tables.{Tables, SideFits, AtomFitsAt, ClassFits, placeAt}
 use Rattle.stores.specs.declared.View.{View}
-use Rattle.stores.specs.Views.{variableAt, cellHolder, cellValue, classIn, firstIn, cellOf, holderIn, holderOf, present, foundOf, found, heldCell, spot, readIn, newCells, accIn, takeIn, SmallCells}
+use Rattle.stores.specs.Views.{variableAt, cellHolder, cellValue, classIn, firstIn, cellOf, holderIn, holderOf, present, foundOf, found, heldCell, spot, readIn}
+use Rattle.stores.specs.Footprints.{newCells, accIn, takeIn, SmallCells}
 use Rattle.steps.specs.States.{HeapIs}
 use Rattle.stores.proofs.Cells.{any-end}
-use Rattle.stores.proofs.Reading.{Placed, cell-placed, place-found, spot-is, access-fits}
+use Rattle.stores.proofs.Reading.{Placed, cell-placed, place-found, spot-is}
+use Rattle.stores.proofs.Taking.{access-fits}
 
 -- CELLS OF TWO LOCATIONS DIFFER
 same-place :

@@ -21,7 +21,8 @@ use Rattle.tables.specs.Stores.{SameTables, putWord}
 use Rattle.tables.proofs.Decoding.{tables-same, rows-count-same, kind-same}
 use Rattle.stores.specs.declared.Fault.{Fault}
 use Rattle.steps.specs.declared.Turn.{Turn}
-use Rattle.stores.specs.Views.{frameAt, variableAt, holderOf, spot, readIn, takeIn, marked, viewOf, stopOf}
+use Rattle.stores.specs.Views.{frameAt, variableAt, holderOf, spot, readIn, viewOf, stopOf}
+use Rattle.stores.specs.Footprints.{takeIn, marked}
 use Rattle.steps.specs.States.{FrameIs, Represents, Follows, stepped}
 use Rattle.steps.proofs.Seeing.{Matches, FormulaOk, locate-at, locate-no, value-is, no-footprint, ok-footprint}
 use Rattle.stores.proofs.Regions.{Only, only-word, only-tables}

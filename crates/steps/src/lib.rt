@@ -14,7 +14,8 @@ ghost use Rattle.tables.specs.Decode.{allRows, leftAt, rightAt, relOf, byteAt, 
 ghost use Rattle.rules.specs.Machine.{took, on, elseStep, setStep, assignStep, ifStep, assertStep, releaseStep};
 ghost use Rattle.rules.specs.Syntax.{var, result-variable};
 ghost use Rattle.steps.specs.States.{Ready, NotEnd, AtKind, Does, stepped};
-ghost use Rattle.stores.specs.Views.{takeIn, footprint-cells, TookUpTo, viewOf};
+ghost use Rattle.stores.specs.Views.{viewOf};
+ghost use Rattle.stores.specs.Footprints.{takeIn, footprint-cells, TookUpTo};
 
 // What became of a step: on to the next, not done, or main's `end` done.
 pub enum Turn {

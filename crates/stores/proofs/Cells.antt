@@ -2,7 +2,7 @@
 use mathlib.Core.Path.{_≡_, refl, sym, ap, _∙_}
 use mathlib.Core.Bool.{Bool, true, false, _||_}
 use mathlib.Core.List.{List, [], _∷_, _++_}
-use Prim.Native.Nat.{ℕ, zero, suc, _+_, _*_, _-_, _≤_, _<_}
+use Prim.Native.Nat.{ℕ, zero, suc, _+_, _*_, _≤_, _<_}
 use native.Mathlib.Numerals.{add-one}
 use native.Mathlib.Omega.{arith}
 use lib.Dec.{T, eqb, eqb-refl}
@@ -13,7 +13,7 @@ use Rattle.rules.specs.Base.{any}
 use Rattle.rules.proofs.Lists.{or-right, or-left}
 use Rattle.tables.specs.Layout.{holders-at}
 use Rattle.tables.specs.Stores.{putWord}
-use Rattle.stores.specs.Views.{fill, marked}
+use Rattle.stores.specs.Footprints.{marked}
 
 -- the i-th of the first n
 pub nth : (l : List ℕ) (n i : ℕ) → n ≤ length l → i < n → drop i (take n l) ≡ getD l i 0 ∷ drop (i + 1) (take n l)
@@ -72,15 +72,3 @@ nth-among [] (suc n) i h k = absurd (omega arith)
 nth-among (a ∷ l) (suc n) zero h k = or-left (eqb a a) (any (eqb a) (take n l)) (eqb-refl a)
 nth-among (a ∷ l) (suc n) (suc i) h k =
     or-right (eqb (getD l i 0) a) (any (eqb (getD l i 0)) (take n l)) (nth-among l n i (omega arith) (omega arith))
-
-pub fill-next :
-    (w : List ℕ) (a n i v : ℕ) → i < n → fill (putWord w (a + i * 4) v) (a + (i + 1) * 4) (n - (i + 1)) v ≡ fill w (a + i * 4) (n - i) v
-unfolding fill
-fill-next w a n i v h =
-    let e : n - i ≡ suc (n - (i + 1)) = omega arith in
-    let f : a + (i + 1) * 4 ≡ a + i * 4 + 4 = omega arith in
-    rw (e, f)
-
-pub fill-end : (w : List ℕ) (a n i v : ℕ) → n ≤ i → fill w (a + i * 4) (n - i) v ≡ w
-unfolding fill
-fill-end w a n i v h = let e : n - i ≡ 0 = omega arith in rw e

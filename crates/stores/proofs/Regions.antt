@@ -16,7 +16,8 @@ use Rattle.tables.specs.Layout.{names-at, values-at, holders-at, seconds-at, ob
 use Rattle.tables.specs.Decode.{byteAt, halfAt, wordAt}
 use Rattle.tables.specs.Stores.{putHalf, putWord, Kept, SameTables}
 use Rattle.tables.proofs.Bytes.{put-word-length, put-word-byte, put-half-length, put-half-byte, word-put, word-kept, half-kept}
-use Rattle.stores.specs.Views.{frameAt, variableAt, savedHolder, savedRow, methodOf, cellValue, cellHolder, classIn, firstIn, fill, marked, SmallCells}
+use Rattle.stores.specs.Views.{frameAt, variableAt, savedHolder, savedRow, methodOf, cellValue, cellHolder, classIn, firstIn, fill}
+use Rattle.stores.specs.Footprints.{marked, SmallCells}
 
 -- bytes from a up to b may differ, and no others
 pub record Only (a b : ℕ) (w w′ : List ℕ) : Type 0 where

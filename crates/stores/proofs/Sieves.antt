@@ -12,9 +12,9 @@ use borrow.Author.Tests.{ne-eqb, eqb-true, eqb-false}
 use Rattle.rules.specs.Base.{no, any}
 use Rattle.rules.proofs.Tries.{no-ok, ok-inj}
 use Rattle.stores.specs.declared.Took.{Took}
-use Rattle.stores.specs.Views.{newCells, tookIs, countOf, TookUpTo, Sieve}
+use Rattle.stores.specs.Footprints.{newCells, tookIs, countOf, TookUpTo, Sieve}
 use Rattle.stores.proofs.Cells.{any-end}
-use Rattle.stores.proofs.Reading.{new-taken, new-free}
+use Rattle.stores.proofs.Taking.{new-taken, new-free}
 
 -- no cell is taken
 pub sieve-none : (l seen : List ℕ) → length seen ≡ 64 → Sieve (take 0 l) seen

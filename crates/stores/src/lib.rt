@@ -13,7 +13,8 @@ ghost use Rattle.rules.specs.Machine.{compared};
 ghost use Rattle.tables.specs.Tables.{SideFits};
 ghost use Rattle.tables.specs.Stores.{meaning};
 ghost use lib.Dec.{eqb};
-ghost use Rattle.stores.specs.Views.{frame-holder, variableAt, savedHolder, savedRow, methodOf, prepared, made, cellValue, cellHolder, classIn, firstIn, cellOf, present, foundOf, found, heldCell, spot, readIn, rightTest, testIn, PlainIs, newCells, accIn, takeIn, SmallCells, fill, marked, spotIs, readIs, truthIs, footprint-cells, countOf, TookUpTo, Sieve, Readable, viewOf};
+ghost use Rattle.stores.specs.Views.{frame-holder, variableAt, savedHolder, savedRow, methodOf, prepared, made, cellValue, cellHolder, classIn, firstIn, cellOf, present, foundOf, found, heldCell, spot, readIn, PlainIs, fill, spotIs, readIs, Readable, viewOf};
+ghost use Rattle.stores.specs.Footprints.{rightTest, testIn, newCells, accIn, takeIn, SmallCells, marked, truthIs, footprint-cells, countOf, TookUpTo, Sieve};
 
 // Whose variables are read, where the heap ends, and who holds.
 pub struct View {

@@ -2,7 +2,7 @@ use native.Mathlib.Omega.{arith}
 use mathlib.Core.Path.{refl, sym, _∙_}
 use mathlib.Core.Logic.{inl, inr}
 use Rattle.calls.proofs.Calling.{requires-atoms, requires-takes}
-use Rattle.stores.proofs.Reading.{took-cells, took-lacking, count-cells}
+use Rattle.stores.proofs.Taking.{took-cells, took-lacking, count-cells}
 use borrow.Author.Needs.{needs}
 use Rattle.calls.proofs.admit.Statement.{statement}
 use Rattle.calls.proofs.admit.Tie as tie

@@ -2,7 +2,7 @@ use native.Mathlib.Omega.{arith}
 use mathlib.Core.Path.{refl, sym, _∙_}
 use Rattle.calls.proofs.Returning.{last-saved, end-done, end-stops, end-atoms, end-takes}
 use Rattle.steps.proofs.Doing.{size, view-readable}
-use Rattle.stores.proofs.Reading.{took-cells, took-lacking, count-cells}
+use Rattle.stores.proofs.Taking.{took-cells, took-lacking, count-cells}
 use borrow.Author.Needs.{needs}
 use Rattle.calls.proofs.end_step.Statement.{statement}
 use Rattle.calls.proofs.end_step.Tie as tie

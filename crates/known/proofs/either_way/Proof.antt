@@ -1,4 +1,4 @@
-use Rattle.known.specs.Questions.{eitherWay}
+use Rattle.known.specs.Ways.{eitherWay}
 use mathlib.Core.Path.{refl}
 use Rattle.known.proofs.either_way.Statement.{statement}
 use Rattle.known.proofs.either_way.Tie as tie

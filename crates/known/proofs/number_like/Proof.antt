@@ -1,4 +1,4 @@
-use Rattle.known.specs.Questions.{numberLike}
+use Rattle.known.specs.Ways.{numberLike}
 use borrow.Author.Tests.{le-leb, lt-leb}
 use borrow.Author.Needs.{needs}
 use Rattle.known.proofs.number_like.Statement.{statement}

@@ -1,4 +1,4 @@
-use Rattle.known.specs.Questions.{otherLike}
+use Rattle.known.specs.Ways.{otherLike}
 use borrow.Author.Tests.{eq-eqb, ne-eqb}
 use borrow.Author.Needs.{needs}
 use Rattle.known.proofs.other_like.Statement.{statement}

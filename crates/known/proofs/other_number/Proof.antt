@@ -1,5 +1,6 @@
 use Prim.Native.Nat.{_-_, _≤_}
-use Rattle.known.specs.Questions.{places, otherIn, otherNumber}
+use Rattle.known.specs.Questions.{places}
+use Rattle.known.specs.Ways.{otherIn, otherNumber}
 use Rattle.links.proofs.Listing.{any-none, any-past, any-found}
 use Rattle.rules.specs.Base.{any}
 use mathlib.Core.Bool.{false}

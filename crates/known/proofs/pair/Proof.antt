@@ -1,5 +1,5 @@
 use Rattle.known.proofs.Pairs.{pair-links}
-use Rattle.known.specs.Questions.{pairTest}
+use Rattle.known.specs.Ways.{pairTest}
 use Rattle.known.specs.States.{variableAt, fieldAt}
 use Rattle.rules.specs.State.{representative, equalBy}
 use borrow.Author.Tests.{ne-eqb}

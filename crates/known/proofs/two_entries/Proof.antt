@@ -1,7 +1,8 @@
 use Prim.Native.Nat.{_-_, _≤_}
 use Rattle.known.proofs.Pairs.{two-none, two-past, two-found, two-neither}
 use Rattle.known.proofs.Searches.{or-none-left, or-none-right}
-use Rattle.known.specs.Questions.{Told, pairTest}
+use Rattle.known.specs.Questions.{Told}
+use Rattle.known.specs.Ways.{pairTest}
 use Rattle.known.specs.States.{permissionAt, permissionsIn}
 use Rattle.links.proofs.Listing.{any-none, any-past, any-found}
 use Rattle.links.specs.Keys.{termOf}

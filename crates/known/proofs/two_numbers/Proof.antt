@@ -1,4 +1,4 @@
-use Rattle.known.specs.Questions.{twoNumbers}
+use Rattle.known.specs.Ways.{twoNumbers}
 use mathlib.Core.Path.{sym, _∙_}
 use borrow.Author.Needs.{needs}
 use Rattle.known.proofs.two_numbers.Statement.{statement}

@@ -1,4 +1,4 @@
-use Rattle.known.specs.Questions.{unequalAt}
+use Rattle.known.specs.Ways.{unequalAt}
 use borrow.Author.Tests.{eq-eqb, ne-eqb}
 use borrow.Author.Needs.{needs}
 use Rattle.known.proofs.unequal_at.Statement.{statement}

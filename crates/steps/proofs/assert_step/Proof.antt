@@ -1,5 +1,5 @@
 use Rattle.steps.proofs.Doing.{assert-does, assert-stops}
-use Rattle.stores.proofs.Reading.{took-cells, took-lacking}
+use Rattle.stores.proofs.Taking.{took-cells, took-lacking}
 use borrow.Author.Needs.{needs}
 use Rattle.steps.proofs.assert_step.Statement.{statement}
 use Rattle.steps.proofs.assert_step.Tie as tie

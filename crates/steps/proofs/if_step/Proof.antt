@@ -1,6 +1,6 @@
 use Rattle.steps.proofs.Doing.{view-readable, if-atom, if-holds, if-fails, if-stops}
 use mathlib.Core.Path.{_∙_}
-use Rattle.stores.proofs.Reading.{truth-holds, truth-fails, truth-lacking}
+use Rattle.stores.proofs.Taking.{truth-holds, truth-fails, truth-lacking}
 use borrow.Author.Needs.{needs}
 use Rattle.steps.proofs.if_step.Statement.{statement}
 use Rattle.steps.proofs.if_step.Tie as tie

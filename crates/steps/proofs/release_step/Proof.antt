@@ -1,5 +1,5 @@
 use Rattle.steps.proofs.Doing.{size, taken-small, release-does, release-stops}
-use Rattle.stores.proofs.Reading.{took-cells, took-lacking, count-cells}
+use Rattle.stores.proofs.Taking.{took-cells, took-lacking, count-cells}
 use borrow.Author.Needs.{needs}
 use Rattle.steps.proofs.release_step.Statement.{statement}
 use Rattle.steps.proofs.release_step.Tie as tie

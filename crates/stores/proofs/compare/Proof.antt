@@ -1,4 +1,4 @@
-use Rattle.stores.specs.Views.{truthIs}
+use Rattle.stores.specs.Footprints.{truthIs}
 use Rattle.tables.specs.Decode.{relOf}
 use Rattle.rules.specs.Machine.{compared}
 use borrow.Author.Tests.{eq-eqb, ne-eqb, lt-ltb}

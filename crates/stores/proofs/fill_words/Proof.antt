@@ -5,7 +5,7 @@ use mathlib.Core.Path.{refl, sym, ap, _∙_}
 use mathlib.Core.Path.{_≡_}
 use Rattle.stores.specs.Views.{fill}
 use Prim.Native.Nat.{_≤_, _-_, _+_, _*_}
-use Rattle.stores.proofs.Cells.{fill-next, fill-end}
+use Rattle.stores.proofs.Words.{fill-next, fill-end}
 use Rattle.stores.proofs.fill_words.Statement.{statement}
 use Rattle.stores.proofs.fill_words.Tie as tie
 

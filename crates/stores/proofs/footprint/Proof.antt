@@ -4,10 +4,11 @@ use native.Mathlib.Omega.{arith}
 use mathlib.Core.Path.{sym, _∙_}
 use mathlib.Core.Path.{_≡_}
 use mathlib.Core.List.{[]}
-use Rattle.stores.specs.Views.{tookIs, countOf, stopOf, takeIn, Sieve}
+use Rattle.stores.specs.Views.{stopOf}
+use Rattle.stores.specs.Footprints.{tookIs, countOf, takeIn, Sieve}
 use Rattle.tables.specs.Decode.{atomsFrom}
 use Prim.Native.Nat.{ℕ, _≤_, _-_, _+_}
-use Rattle.stores.proofs.Reading.{foot-next, foot-stop, foot-end, took-cells, took-lacking, count-cells}
+use Rattle.stores.proofs.Taking.{foot-next, foot-stop, foot-end, took-cells, took-lacking, count-cells}
 use Rattle.stores.proofs.Sieves.{sieve-none, sieve-cells}
 use Rattle.stores.proofs.footprint.Statement.{statement}
 use Rattle.stores.proofs.footprint.Tie as tie

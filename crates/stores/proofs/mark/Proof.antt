@@ -3,7 +3,7 @@ use lib.ListN.{length, take, drop, getD}
 use native.Mathlib.Omega.{arith}
 use mathlib.Core.Path.{refl, sym, ap, _∙_}
 use mathlib.Core.Path.{_≡_}
-use Rattle.stores.specs.Views.{marked}
+use Rattle.stores.specs.Footprints.{marked}
 use Prim.Native.Nat.{_≤_, _-_, _+_, _*_}
 use denote.Ref.{now}
 use Rattle.stores.proofs.Cells.{mark-next, mark-end, nth-among}

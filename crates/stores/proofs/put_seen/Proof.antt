@@ -3,8 +3,9 @@ use mathlib.Core.Path.{sym, _∙_}
 use lib.ListN.{length-set}
 use native.Mathlib.Numerals.{add-one}
 use lib.Seq.{take-suc-set}
-use Rattle.stores.specs.Views.{tookIs, stopOf, countOf}
-use Rattle.stores.proofs.Reading.{new-taken, new-free}
+use Rattle.stores.specs.Views.{stopOf}
+use Rattle.stores.specs.Footprints.{tookIs, countOf}
+use Rattle.stores.proofs.Taking.{new-taken, new-free}
 use borrow.Author.Needs.{needs}
 use Rattle.stores.proofs.put_seen.Statement.{statement}
 use Rattle.stores.proofs.put_seen.Tie as tie

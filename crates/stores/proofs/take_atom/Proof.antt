@@ -3,8 +3,9 @@ use mathlib.Core.Path.{sym, _∙_}
 use mathlib.Core.Path.{_≡_}
 use denote.Ref.{now}
 use Rattle.tables.specs.Decode.{byteAt, atomPlace}
-use Rattle.stores.specs.Views.{tookIs, countOf, stopOf}
-use Rattle.stores.proofs.Reading.{access-fits, take-acc, take-cmp, test-true, test-false, test-lacking, truth-holds, truth-fails, truth-lacking}
+use Rattle.stores.specs.Views.{stopOf}
+use Rattle.stores.specs.Footprints.{tookIs, countOf}
+use Rattle.stores.proofs.Taking.{access-fits, take-acc, take-cmp, test-true, test-false, test-lacking, truth-holds, truth-fails, truth-lacking}
 use Rattle.stores.proofs.Sieves.{sieve-none}
 use borrow.Author.Needs.{needs}
 use Rattle.stores.proofs.take_atom.Statement.{statement}

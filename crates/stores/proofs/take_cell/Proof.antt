@@ -1,7 +1,8 @@
 use native.Mathlib.Omega.{arith}
 use mathlib.Core.Path.{sym, _∙_}
-use Rattle.stores.specs.Views.{tookIs, countOf}
-use Rattle.stores.proofs.Reading.{acc-at, acc-lacking, spot-at, spot-lacking}
+use Rattle.stores.specs.Footprints.{tookIs, countOf}
+use Rattle.stores.proofs.Reading.{spot-at, spot-lacking}
+use Rattle.stores.proofs.Taking.{acc-at, acc-lacking}
 use Rattle.stores.proofs.Sieves.{sieve-none}
 use borrow.Author.Needs.{needs}
 use Rattle.stores.proofs.take_cell.Statement.{statement}
