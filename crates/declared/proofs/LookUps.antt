@@ -20,9 +20,7 @@ use Rattle.declared.specs.declared.Names.{Names}
 use Rattle.tables.specs.Decode.{run}
 use Rattle.declared.specs.Rows.{Entry, entryAt, isEntry, any-owner, nameIn, ownerAt, givesAt, classes-first, fields-first, methods-first, variables-first}
 use Rattle.declared.specs.Meanings.{asField, asMethod, namesFrom, declarationsIn, variableAt, thisIn, resultIn, blockIn, ownVariables}
-use Rattle.declared.specs.declared.ExprType.{ExprType}
 use Rattle.declared.specs.LookUps.{typeOf, Looked, ownIn, isNew}
-use Rattle.declared.specs.Types.{typeMeant, isIntType, good, mayName}
 use Rattle.tables.proofs.Runs.{run-get, run-past}
 use Rattle.declared.proofs.Searches.{index-same, index-both, any-rows, first-index, first-found, first-none, name-comm}
 
