@@ -16,6 +16,9 @@ pub use imports::{imports, Import};
 /// Names that open all others of their file, so that standing there is no use.
 const UMBRELLAS: [&str; 2] = ["opened", "computing"];
 
+/// Names that a `do` block uses without saying so.
+const SEQUENCING: [&str; 2] = ["_>>=_", "_>>_"];
+
 /// One file below `crates/`.
 pub struct Source {
     pub path: PathBuf,
@@ -160,7 +163,9 @@ impl Uses {
 
     /// Does the file use the name there, whole or by its signs?
     pub fn names(&self, name: &str, declared: &[Declaration], but: Option<usize>) -> bool {
-        let by_signs = signs(name);
-        self.has(name, declared, but) || by_signs.iter().all(|sign| self.has(sign, declared, but))
+        let whole = self.has(name, declared, but);
+        let by_signs = || signs(name).iter().all(|sign| self.has(sign, declared, but));
+        let in_block = || SEQUENCING.contains(&name) && self.has("do", declared, but);
+        whole || by_signs() || in_block()
     }
 }

@@ -1,6 +1,6 @@
 //! Nothing in the proved crates is there for nobody.
 
-use sources::{declarations, imports, root, sources, Declaration, Import, Source, Uses};
+use sources::{declarations, imports, root, sources, words, Declaration, Import, Source, Uses};
 use std::fs;
 
 struct File {
@@ -89,9 +89,10 @@ fn every_import_is_used() {
     let mut unused = Vec::new();
     for file in files() {
         for import in &file.imported {
-            for (_, name) in import.names.iter().flatten() {
-                let used = name == "[]" && file.source.text.contains("[]")
-                    || file.uses.names(name, &[], None);
+            let taken = import.names.iter().flatten().map(|(_, name)| name);
+            for name in taken.chain(&import.alias) {
+                let brackets = words(name).next().is_none() && file.source.text.contains(name);
+                let used = brackets || file.uses.names(name, &[], None);
                 if !used {
                     unused.push(format!(
                         "{}: {name} of {}",
