@@ -28,6 +28,7 @@ use Rattle.checker.specs.declared.Verdict.{Verdict}
 use Rattle.checker.specs.Checked.{outcome, verdictOf, refusalOf, Nests, verdictFrom, Stepped, Ran, Ended, Turned, Joined}
 use Rattle.tables.proofs.Statements.{else-means, join-means, end-means}
 use Rattle.checker.proofs.Stepping.{step-verdict, step-nests, if-verdict, if-nests, else-verdict, else-twice, else-alone, else-nests, join-verdict, join-early, join-alone, join-nests, end-inside, end-verdict, at-line}
+use Rattle.checker.proofs.Verdict.{the-type as verdict-type}
 
 abbrev Result : Type 0
 Result = Answers.Verdict (Unit {0})

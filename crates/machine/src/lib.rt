@@ -14,6 +14,7 @@ ghost use Rattle.tables.specs.Decode.{kindAt, lineAt, mainFirst, programIn};
 ghost use Rattle.tables.specs.Tables.{Tables};
 ghost use Rattle.machine.specs.Runs.{RanAs, faultNumber, number};
 ghost use Rattle.run_heap.specs.Views.{fill};
+ghost use Rattle.rules.specs.Machine.{step as stepOf};
 
 // How a run ends.
 pub enum Ending {

@@ -163,6 +163,12 @@ module _ (s : Place) (b : Low s) where
   locals-kept : leb (s .locals) 12 ≡ true
   locals-kept = le-leb (s .locals) 12 (b .locals)
 
+  statements-kept : leb (s .statements) 256 ≡ true
+  statements-kept = le-leb (s .statements) 256 (b .statements)
+
+  branches-kept : ltb (s .branches) 256 ≡ true
+  branches-kept = lt-ltb (s .branches) 256 (b .branches)
+
   ruleset kept = (classes-kept, fields-kept, methods-kept, locals-kept, statements-kept, branches-kept, and-true)
 
   early : (k : ℕ) → k < first-statement → withinLimits (placeAfter k s) ≡ counted k (placeAfter k s)

@@ -27,6 +27,7 @@ use Rattle.tables.proofs.Runs.{end-length, last-length}
 use Rattle.resolve_pass.specs.declared.Pass.{Pass}
 use Rattle.resolve_pass.specs.Passes.{counts, after, aboveAfter, withBlock, namesAfter, item, Ready, lastClass, Stands, Counts, LinePut}
 use Rattle.resolve_bodies.specs.Bodies.{ItemPut}
+use Rattle.rules.proofs.LineKinds.{kind-is as is-by-number}
 
 -- THE KIND
 

@@ -24,6 +24,7 @@ use Rattle.write_rows.proofs.Puts.{put-length, put-same, put-other, Cle
 use Rattle.tables.proofs.Runs.{three-ways, run-get, run-more, run-same, run-grown, run-last, last-length, end-length}
 use Rattle.tables.proofs.Kept.{all-rows, class-same, class-fits-kept}
 use Rattle.write_rows.proofs.Kept.{atoms-hold-kept, rows-kept, methods-kept, SameRows, holds-kept}
+use Rattle.tables.proofs.Rows.{class-length as class-length-of}
 
 -- A CLASS
 module _ (w : List ℕ) (c : ℕ) (size : length w ≡ work-bytes) (room : c < most-classes) where

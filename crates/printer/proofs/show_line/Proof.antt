@@ -8,6 +8,7 @@ use Rattle.printer.proofs.Variables.{var-named, goes-method, goes-main,
 use borrow.Author.Needs.{needs}
 use Rattle.printer.proofs.show_line.Statement.{statement}
 use Rattle.printer.proofs.show_line.Tie as tie
+use Rattle.rules.proofs.LineKinds.{kind-is as is-by-number}
 
 word-at-requires : tie.Need-word-at-requires
 word-at-requires c κs = search needs
