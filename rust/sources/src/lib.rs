@@ -9,9 +9,11 @@ use std::path::{Path, PathBuf};
 
 mod declared;
 mod imports;
+mod unused;
 
 pub use declared::{declarations, Declaration};
 pub use imports::{imports, Import};
+pub use unused::{unused_declarations, unused_imports, File};
 
 /// Names that open all others of their file, so that standing there is no use.
 const UMBRELLAS: [&str; 2] = ["opened", "computing"];
