@@ -166,7 +166,13 @@ impl Uses {
     /// Does the file use the name there, whole or by its signs?
     pub fn names(&self, name: &str, declared: &[Declaration], but: Option<usize>) -> bool {
         let whole = self.has(name, declared, but);
-        let by_signs = || signs(name).iter().all(|sign| self.has(sign, declared, but));
+        let by_signs = || {
+            signs(name).iter().all(|sign| {
+                [sign.to_string(), format!("{sign}_"), format!("_{sign}")]
+                    .iter()
+                    .any(|word| self.has(word, declared, but))
+            })
+        };
         let in_block = || SEQUENCING.contains(&name) && self.has("do", declared, but);
         whole || by_signs() || in_block()
     }
