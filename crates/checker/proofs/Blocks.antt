@@ -16,19 +16,19 @@ use Rattle.rules.specs.State as Rules
 use Rattle.rules.specs.Rules.{Open, inFirst, inSecond, ifRule, joinRule, checkRows, checkFrom, checkMethod, checkBlocks, checkProgram}
 use Rattle.rules.proofs.Lists.{decide-eq}
 use Rattle.tables.specs.Decode.{operandsAt, run, kindAt, lineAt, stmtAt, formulaAt, rowCount, allRows, programIn, methodAt, methodsFrom, methodCount, mainFirst, atomsFrom, requiresAt, ensuresAt, firstRowAt, byteAt, halfAt, methodPlace}
-use Rattle.formulas.specs.Formulas.{formula}
+use Rattle.check_formulas.specs.Formulas.{formula}
 use Rattle.tables.specs.Tables.{Tables}
-use Rattle.knowledge.specs.declared.Answer.{Answer}
-use Rattle.known.specs.States.{Wf, stateOf}
-use Rattle.knowledge.specs.Answers.{Adds}
-use Rattle.statements.specs.Statements.{Parts, assertRule, Asserts}
-use Rattle.statements.proofs.Ruled.{Refused, adds-same, empty-add, asserted}
-use Rattle.checker.proofs.Verdict.{the-type as verdict-type}
+use Rattle.check_entailment.specs.declared.Answer.{Answer}
+use Rattle.check_state.specs.States.{Wf, stateOf}
+use Rattle.check_entailment.specs.Answers.{Adds}
+use Rattle.check_statements.specs.Statements.{Parts, assertRule, Asserts}
+use Rattle.check_statements.proofs.Ruled.{Refused, adds-same, empty-add, asserted}
 use Rattle.checker.specs.declared.Out.{Out}
 use Rattle.checker.specs.declared.Verdict.{Verdict}
 use Rattle.checker.specs.Checked.{outcome, verdictOf, refusalOf, Nests, verdictFrom, Stepped, Ran, Ended, Turned, Joined}
 use Rattle.tables.proofs.Statements.{else-means, join-means, end-means}
 use Rattle.checker.proofs.Stepping.{step-verdict, step-nests, if-verdict, if-nests, else-verdict, else-twice, else-alone, else-nests, join-verdict, join-early, join-alone, join-nests, end-inside, end-verdict, at-line}
+use Rattle.checker.proofs.Verdict.{the-type as verdict-type}
 
 abbrev Result : Type 0
 Result = Answers.Verdict (Unit {0})

@@ -17,11 +17,11 @@ use Rattle.rules.proofs.Lists.{and-both}
 use Rattle.tables.specs.Decode.{lineAt, stmtAt, rowAt, relOf, rowCount, classCount, methodCount, classAt, methodAt, allRows, programIn}
 use Rattle.tables.specs.Tables.{nested, nestedRow}
 use Rattle.tables.proofs.Rows.{row-cons, class-get, method-get}
-use Rattle.links.specs.Links as Links
-use Rattle.knowledge.specs.declared.Answer.{Answer}
-use Rattle.known.specs.States.{stateOf}
-use Rattle.knowledge.specs.Answers.{answered, Adds}
-use Rattle.statements.specs.Statements.{Parts}
+use Rattle.check_equality.specs.Links as Links
+use Rattle.check_entailment.specs.declared.Answer.{Answer}
+use Rattle.check_state.specs.States.{stateOf}
+use Rattle.check_entailment.specs.Answers.{answered, Adds}
+use Rattle.check_statements.specs.Statements.{Parts}
 use Rattle.checker.specs.Checked.{outcome, Nests, verdictFrom, Stepped}
 
 -- `eq` by its number

@@ -12,9 +12,9 @@ use Rattle.rules.specs.State as Rules
 use Rattle.rules.specs.Rules.{Open, inFirst, inSecond, rule, checkRows}
 use Rattle.tables.specs.Decode.{kindAt, lineAt, stmtAt, rowCount, allRows, programIn}
 use Rattle.tables.specs.Tables.{nested}
-use Rattle.knowledge.specs.declared.Answer.{Answer}
-use Rattle.known.specs.States.{Wf, stateOf}
-use Rattle.knowledge.specs.Answers.{Adds}
+use Rattle.check_entailment.specs.declared.Answer.{Answer}
+use Rattle.check_state.specs.States.{Wf, stateOf}
+use Rattle.check_entailment.specs.Answers.{Adds}
 use Rattle.checker.specs.declared.Out.{Out}
 use Rattle.checker.specs.declared.Verdict.{Verdict}
 

@@ -1,6 +1,7 @@
-use knowledge::Answer;
-use links::State;
-use links::Term;
+// Blocks, methods and main: the rules walked over the tables. The checker of a block calls itself for each branch, the remaining depth falling.
+use check_entailment::Answer;
+use check_equality::State;
+use check_equality::Term;
 ghost use mathlib.Core.Path.{_≡_};
 ghost use mathlib.Core.List.{[]};
 ghost use Prim.Native.Nat.{_+_, _-_, _≤_, _<_};
@@ -11,9 +12,9 @@ ghost use Rattle.tables.specs.Layout.{most-atom-rows};
 ghost use Rattle.rules.specs.Rules.{rule, ifRule, joinRule, checkProgram, checkMethod};
 ghost use Rattle.tables.specs.Decode.{kindAt, xAt, yAt, zAt, memberAt, firstAtomAt, rowCount, methodCount, relOf, leftAt, rightAt, byteAt, atomPlace, formulaAt, atomsFrom, methodAt, programIn};
 ghost use Rattle.tables.specs.Tables.{Tables};
-ghost use Rattle.known.specs.States.{Wf, stateOf};
-ghost use Rattle.knowledge.specs.Answers.{Adds};
-ghost use Rattle.statements.specs.Statements.{Parts};
+ghost use Rattle.check_state.specs.States.{Wf, stateOf};
+ghost use Rattle.check_entailment.specs.Answers.{Adds};
+ghost use Rattle.check_statements.specs.Statements.{Parts};
 ghost use Rattle.checker.specs.Checked.{Stepped, Nests, Ran, Ended, Turned, Joined, outcome, verdictFrom, verdictOf};
 
 // How far a block was checked, or why no further.
@@ -35,7 +36,7 @@ fn set_at(w: &[u8], i: usize, key: &mut [u64; State::SLOTS], b: &mut [u8; State:
     let x = tables::x_at(w, i) as u8;
     let f = tables::member_at(w, i) as u8;
     let y = tables::y_at(w, i) as u8;
-    statements::set_rule(key, b, x, f, y)
+    check_statements::set_rule(key, b, x, f, y)
 }
 
 // `let x e`
@@ -45,7 +46,7 @@ fn let_at(w: &[u8], i: usize, key: &mut [u64; State::SLOTS], b: &mut [u8; State:
 {
     let x = tables::x_at(w, i) as u8;
     let a = tables::first_atom_at(w, i);
-    statements::assign_rule(key, b, x, formulas::right(w, a, 0, 1, 14))
+    check_statements::assign_rule(key, b, x, check_formulas::right(w, a, 0, 1, 14))
 }
 
 // `new x C`
@@ -54,7 +55,7 @@ fn new_at(w: &[u8], i: usize, key: &mut [u64; State::SLOTS], b: &mut [u8; State:
     ensures { λ r. ⌜ Adds (rule (programIn (now (w .entry))) (Syntax.new (xAt (now (w .entry)) i) (memberAt (now (w .entry)) i)) (stateOf (now (key .entry)) (now (b .entry)))) r (now (key .exit)) (now (b .exit)) ⌝ }
 {
     let x = tables::x_at(w, i) as u8;
-    statements::new_rule(w, key, b, x, tables::member_at(w, i))
+    check_statements::new_rule(w, key, b, x, tables::member_at(w, i))
 }
 
 // `call x y m z`
@@ -65,7 +66,7 @@ fn call_at(w: &[u8], i: usize, key: &mut [u64; State::SLOTS], b: &mut [u8; State
     let x = tables::x_at(w, i) as u8;
     let y = tables::y_at(w, i) as u8;
     let z = tables::z_at(w, i) as u8;
-    statements::call_rule(w, key, b, x, y, tables::member_at(w, i), z)
+    check_statements::call_rule(w, key, b, x, y, tables::member_at(w, i), z)
 }
 
 // `return x`
@@ -79,7 +80,7 @@ fn return_at(
     ensures { λ r. ⌜ Adds (rule (programIn (now (w .entry))) (Syntax.return (xAt (now (w .entry)) i)) (stateOf (now (key .entry)) (now (b .entry)))) r (now (key .exit)) (now (b .exit)) ⌝ }
 {
     let x = tables::x_at(w, i) as u8;
-    statements::assign_rule(key, b, 14, Term::Var(x))
+    check_statements::assign_rule(key, b, 14, Term::Var(x))
 }
 
 // `assert` formula
@@ -93,7 +94,7 @@ fn assert_at(
     ensures { λ r. ⌜ Adds (rule (programIn (now (w .entry))) (Syntax.assert (formulaAt (now (w .entry)) i)) (stateOf (now (key .entry)) (now (b .entry)))) r (now (key .exit)) (now (b .exit)) ⌝ }
 {
     let a = tables::first_atom_at(w, i);
-    statements::assert_rule(w, key, b, a, tables::atom_count_at(w, i))
+    check_statements::assert_rule(w, key, b, a, tables::atom_count_at(w, i))
 }
 
 // `release` formula
@@ -107,7 +108,7 @@ fn release_at(
     ensures { λ r. ⌜ Adds (rule (programIn (now (w .entry))) (Syntax.release (formulaAt (now (w .entry)) i)) (stateOf (now (key .entry)) (now (b .entry)))) r (now (key .exit)) (now (b .exit)) ⌝ }
 {
     let a = tables::first_atom_at(w, i);
-    statements::release_rule(w, key, b, a, tables::atom_count_at(w, i))
+    check_statements::release_rule(w, key, b, a, tables::atom_count_at(w, i))
 }
 
 // `if eq e e` or `if ne e e`, where the second state is a copy of the first
@@ -124,9 +125,9 @@ fn if_at(
 {
     let a = tables::first_atom_at(w, i);
     let apart = tables::atom_kind(w, a) != 1;
-    let l = formulas::left(w, a, 0, 1, 14);
-    let r = formulas::right(w, a, 0, 1, 14);
-    statements::if_rule(key, b, key2, b2, apart, l, r)
+    let l = check_formulas::left(w, a, 0, 1, 14);
+    let r = check_formulas::right(w, a, 0, 1, 14);
+    check_statements::if_rule(key, b, key2, b2, apart, l, r)
 }
 
 // `join` formula, with the states at the ends of the two parts
@@ -142,7 +143,7 @@ fn join_at<'a>(
     ensures { λ r. ⌜ Adds (joinRule (formulaAt (now (w .entry)) i) (stateOf (now (key .entry)) (now (b .entry))) (stateOf (now (key2 .entry)) (now (b2 .entry)))) r (now (key .exit)) (now (b .exit)) ⌝ }
 {
     let a = tables::first_atom_at(w, i);
-    statements::join_rule(w, a, tables::atom_count_at(w, i), key, b, key2, b2)
+    check_statements::join_rule(w, a, tables::atom_count_at(w, i), key, b, key2, b2)
 }
 
 // A statement that goes on to the next line, by its kind.
@@ -291,7 +292,7 @@ fn check_block(
         return Verdict::Refused(k, line);
     };
     if tables::kind_at(w, at) == 18 {
-        let l = statements::assert_rule(w, key, b, a, n);
+        let l = check_statements::assert_rule(w, key, b, a, n);
         return ended(line, l);
     }
     Verdict::Refused(Answer::Malformed, line)
@@ -307,10 +308,10 @@ fn check_method(
     requires { ⌜ Tables (now w) × (m < methodCount (now w)) × Wf (now key) (now b) ⌝ }
     ensures { λ r. ⌜ (verdictOf r ≡ checkMethod (programIn (now (w .entry))) (methodAt (now (w .entry)) m)) × Wf (now (key .exit)) (now (b .exit)) ⌝ }
 {
-    removal::clear(b);
+    check_forgetting::clear(b);
     let a = tables::requires_first(w, m);
     let n = tables::requires_count(w, m);
-    let k = formulas::add(w, a, n, 0, 1, 14, key, b);
+    let k = check_formulas::add(w, a, n, 0, 1, 14, key, b);
     let Answer::Done = k else {
         return Verdict::Refused(k, 0);
     };
@@ -324,9 +325,9 @@ pub fn check(w: &[u8]) -> Verdict
     requires { ⌜ Tables (now w) ⌝ }
     ensures { λ r. ⌜ verdictOf r ≡ checkProgram (programIn (now (w .entry))) ⌝ }
 {
-    let mut key = removal::header();
+    let mut key = check_forgetting::header();
     let mut b = [0u8; State::BYTES];
-    removal::clear(&mut b);
+    check_forgetting::clear(&mut b);
     let n = tables::method_count(w);
     let mut m = 0;
     while m < n {
@@ -336,6 +337,6 @@ pub fn check(w: &[u8]) -> Verdict
         };
         m += 1;
     }
-    removal::clear(&mut b);
+    check_forgetting::clear(&mut b);
     check_block(w, tables::main_first(w), 0, 0, &mut key, &mut b)
 }

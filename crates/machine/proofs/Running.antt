@@ -13,7 +13,7 @@ use Rattle.rules.specs.Limits.{most-statements, values-shown}
 use Rattle.rules.specs.Base.{any}
 use Rattle.rules.specs.Answers as Answers
 use Rattle.rules.specs.Syntax.{Row, Program}
-use Rattle.rules.specs.Machine.{Frame, Location, Config, Step, Room, on, holds, among, fieldsOf, object, valueOf, entryValues, mainFrame, ends, goOn, step, run, start, runProgram}
+use Rattle.rules.specs.Machine.{Frame, Location, Config, Step, Room, holds, among, fieldsOf, object, valueOf, entryValues, mainFrame, ends, goOn, step, run, start, runProgram}
 use Rattle.rules.specs.Counters.{freshMachine}
 use Rattle.rules.specs.declared.Machine.{Machine}
 use Rattle.tables.specs.Layout.{frame-variables, frames-at}
@@ -21,17 +21,17 @@ use Rattle.tables.specs.Decode.{wordAt, rowAt, lineAt, mainFirst, programIn}
 use Rattle.tables.specs.Tables.{Tables}
 use Rattle.tables.specs.Stores.{SameTables}
 use Rattle.tables.proofs.Bytes.{same-trans, same-refl}
-use Rattle.tables.proofs.Decoding.{tables-same, all-same, rows-count-same, program-same}
-use Rattle.stores.specs.declared.Fault.{Fault}
-use Rattle.steps.specs.declared.Turn.{Turn}
+use Rattle.tables.proofs.Decoding.{tables-same, rows-count-same, program-same}
+use Rattle.run_heap.specs.declared.Fault.{Fault}
+use Rattle.run_steps.specs.declared.Turn.{Turn}
 use Rattle.machine.specs.declared.Ending.{Ending}
 use Rattle.machine.specs.declared.Ran.{Ran}
-use Rattle.stores.specs.Views.{frameAt, variableAt, cellOf, holderIn, holderOf, fill}
-use Rattle.steps.specs.States.{FrameIs, CallersAre, Represents, Goes, Does, Ready}
+use Rattle.run_heap.specs.Views.{frameAt, variableAt, cellOf, holderIn, holderOf, fill}
+use Rattle.run_steps.specs.States.{FrameIs, CallersAre, Represents, Goes, Does, Ready}
 use Rattle.machine.specs.Runs.{endingOf, words, mainValues, RanAs}
-use Rattle.stores.proofs.Reading.{cell-null, cell-beyond, cell-placed}
-use Rattle.stores.proofs.Regions.{only-fill, only-tables, fill-word}
-use Rattle.calls.proofs.Returning.{row-of}
+use Rattle.run_heap.proofs.Reading.{cell-null, cell-beyond, cell-placed}
+use Rattle.run_footprint.proofs.Regions.{only-fill, only-tables, fill-word}
+use Rattle.run_calls.proofs.Returning.{row-of}
 
 -- THE FIRST STATE
 no-cells : (w : List ℕ) (o f k : ℕ) → cellOf w 0 o f ≡ some k → ⊥
@@ -56,9 +56,6 @@ unfolding entryValues
 entry-size = refl
 
 module _ (w : List ℕ) (tables : Tables w) where
-  begun : List ℕ
-  begun = fill w frames-at frame-variables 0
-
   pub begin-tables : SameTables w (fill w frames-at frame-variables 0)
   begin-tables = only-tables (only-fill frames-at (frames-at + 60) w frames-at frame-variables 0 (omega arith) (omega arith)) (omega arith)
 

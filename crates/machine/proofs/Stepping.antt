@@ -10,10 +10,10 @@ use Rattle.rules.specs.declared.Machine.{Machine}
 use Rattle.tables.specs.Decode.{allRows, byteAt, atomPlace, relOf, rowAt, operandsAt, stmtAt, kindAt, xAt, yAt, zAt, memberAt, firstAtomAt, formulaAt, leftAt, rightAt, methodAt, classAt, programIn}
 use Rattle.tables.proofs.Rows.{method-get, class-get}
 use Rattle.tables.proofs.Statements.{set-means, let-means, new-means, call-means, return-means, assert-means, release-means, if-means, else-means, join-means, end-means}
-use Rattle.steps.specs.declared.Turn.{Turn}
-use Rattle.steps.specs.States.{Represents, Follows, Does, Ready, AtKind}
-use Rattle.calls.proofs.Returning.{row-of}
-use Rattle.steps.proofs.Doing.{fits}
+use Rattle.run_steps.specs.declared.Turn.{Turn}
+use Rattle.run_steps.specs.States.{Represents, Follows, Does, Ready, AtKind}
+use Rattle.run_calls.proofs.Returning.{row-of}
+use Rattle.run_steps.proofs.Doing.{fits}
 
 -- the statement that is done
 statement : {w : List ℕ} {c : Machine} (m : Config) → Represents w c m → statementOf (programIn w) (m .frame) ≡ stmtAt w (c .row)

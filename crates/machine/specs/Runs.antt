@@ -9,10 +9,10 @@ use Rattle.rules.specs.Machine.{Room, Outcome, runProgram}
 use Rattle.tables.specs.Layout.{frames-at}
 use Rattle.tables.specs.Decode.{wordAt, programIn}
 use Rattle.tables.specs.Stores.{SameTables}
-use Rattle.stores.specs.declared.Fault.{Fault}
+use Rattle.run_heap.specs.declared.Fault.{Fault}
 use Rattle.machine.specs.declared.Ending.{Ending}
 use Rattle.machine.specs.declared.Ran.{Ran}
-use Rattle.stores.specs.Views.{stopOf}
+use Rattle.run_heap.specs.Views.{stopOf}
 
 -- how a run ends
 unfoldable pub endingOf : Ending → Answers.Ending

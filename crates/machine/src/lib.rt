@@ -1,19 +1,20 @@
+// One step by the kind of its row, and a run: at most so many steps from the empty heap and main's frame.
 use rules::Machine;
-use steps::Turn;
-use stores::Fault;
+use run_heap::Fault;
+use run_steps::Turn;
 use tables::Layout;
 ghost use mathlib.Core.Path.{_≡_};
 ghost use Prim.Native.Nat.{_+_, _*_, _≤_, _<_};
 ghost use lib.ListN.{length};
 ghost use Rattle.rules.specs.Limits.{work-bytes, most-statements, heap-objects, heap-fields};
-ghost use Rattle.steps.specs.States.{Ready, Does};
-ghost use Rattle.rules.specs.Machine.{step as stepOf};
+ghost use Rattle.run_steps.specs.States.{Ready, Does};
 ghost use Rattle.rules.specs.Counters.{freshMachine};
 ghost use Rattle.tables.specs.Layout.{frame-variables, frames-at};
 ghost use Rattle.tables.specs.Decode.{kindAt, lineAt, mainFirst, programIn};
 ghost use Rattle.tables.specs.Tables.{Tables};
 ghost use Rattle.machine.specs.Runs.{RanAs, faultNumber, number};
-ghost use Rattle.stores.specs.Views.{fill};
+ghost use Rattle.run_heap.specs.Views.{fill};
+ghost use Rattle.rules.specs.Machine.{step as stepOf};
 
 // How a run ends.
 pub enum Ending {
@@ -67,16 +68,16 @@ pub fn step(work: &mut [u8], c: Machine, most_objects: u32, most_fields: u32) ->
 {
     let row = c.row as usize;
     match kind_of(work, row) {
-        8 => steps::set_step(work, c),
-        9 => steps::let_step(work, c),
-        10 => calls::new_step(work, c, most_objects, most_fields),
-        11 => calls::call_step(work, c),
-        12 => steps::return_step(work, c),
-        13 | 17 => steps::assert_step(work, c),
-        14 => steps::release_step(work, c),
-        15 => steps::if_step(work, c),
-        16 => steps::else_step(work, c),
-        18 => calls::end_step(work, c),
+        8 => run_steps::set_step(work, c),
+        9 => run_steps::let_step(work, c),
+        10 => run_calls::new_step(work, c, most_objects, most_fields),
+        11 => run_calls::call_step(work, c),
+        12 => run_steps::return_step(work, c),
+        13 | 17 => run_steps::assert_step(work, c),
+        14 => run_steps::release_step(work, c),
+        15 => run_steps::if_step(work, c),
+        16 => run_steps::else_step(work, c),
+        18 => run_calls::end_step(work, c),
         // No row is of another kind, so that any answer meets the contract.
         0..=7 | 19..=255 => Turn::Done,
     }
@@ -88,7 +89,7 @@ fn begin(work: &mut [u8]) -> Machine
     ensures { λ r. ⌜ (r ≡ freshMachine (mainFirst (now (work .entry)))) × (now (work .exit) ≡ fill (now (work .entry)) frames-at frame-variables 0) ⌝ }
 {
     let row = tables::main_first(work);
-    stores::fill_words(work, Layout::FRAMES, stores::VARIABLES, 0);
+    run_heap::fill_words(work, Layout::FRAMES, run_heap::VARIABLES, 0);
     Machine::new(row as u32)
 }
 

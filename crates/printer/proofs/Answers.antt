@@ -11,7 +11,7 @@ use Rattle.rules.specs.Items.{Item}
 use Rattle.rules.specs.Answers.{accepted}
 use Rattle.rules.specs.Reading.{readText}
 use Rattle.tables.specs.Decode.{wordAt}
-use Rattle.declare.specs.Texts.{linesOf}
+use Rattle.read_declarations.specs.Texts.{linesOf}
 use Rattle.printer.specs.Writes.{Writes, Prints}
 use Rattle.printer.specs.Answers.{numberIn, lineIn, valuesIn, resultIn, checkLine, runLine, printedAnswers}
 use Rattle.printer.specs.Variables.{locals}

@@ -29,7 +29,7 @@ use Rattle.rules.specs.Calls.{checkItems}
 use Rattle.rules.proofs.Lists.{and-both}
 use Rattle.rules.proofs.Tries.{refused-accepted, accepted-inj, atLine-accepted, then-accepted}
 use Rattle.rules.proofs.LinesTaken.{HasForm, lineOf, TakenLines, none, line}
-use Rattle.lines.proofs.Scans.{lines-taken}
+use Rattle.read_scan.proofs.Scans.{lines-taken}
 
 -- EACH OF A LIST
 abbrev pub All : {A : Type 0} → (A → Type 0) → List A → Type 0
@@ -118,7 +118,7 @@ read-within t = go (ltb most-bytes (length t)) refl
     go false e =
         let few : length (lines t) ≤ 32768 = omega (arith, lines-few t, ltb-false most-bytes (length t) (sym e)) in
         then-within most-bytes (scanLines (lines t) 0 firstPlace) _ (scan-within most-bytes (lines t) 0 firstPlace (omega arith))
-        (λ ls i. resolve-within most-bytes (declarations ls) ls 0 firstScope (omega (arith, few, ap length (lines-taken (lines t) 0 firstPlace ls i), length-map (lines t) Rattle.lines.specs.Scans.lineOf)))
+        (λ ls i. resolve-within most-bytes (declarations ls) ls 0 firstScope (omega (arith, few, ap length (lines-taken (lines t) 0 firstPlace ls i), length-map (lines t) Rattle.read_scan.specs.Scans.lineOf)))
 
 resolved-few :
     (Γ : Declarations) (ls : List Line) (n : ℕ) (s : Scope) (items : List Item) → resolveLines Γ ls n s ≡ accepted items → length items ≡ length ls
@@ -143,7 +143,7 @@ items-few t items e = go (ltb most-bytes (length t)) refl e
     go true i e = refused-accepted e
     go false i e =
         let (ls, j, k) = then-accepted (scanLines (lines t) 0 firstPlace) _ items e in
-        omega (arith, resolved-few (declarations ls) ls 0 firstScope items k, lines-few t, ltb-false most-bytes (length t) (sym i), ap length (lines-taken (lines t) 0 firstPlace ls j), length-map (lines t) Rattle.lines.specs.Scans.lineOf)
+        omega (arith, resolved-few (declarations ls) ls 0 firstScope items k, lines-few t, ltb-false most-bytes (length t) (sym i), ap length (lines-taken (lines t) 0 firstPlace ls j), length-map (lines t) Rattle.read_scan.specs.Scans.lineOf)
 
 -- NUMBERS OF THE PROGRAM
 abbrev pub Small : ℕ → Type 0

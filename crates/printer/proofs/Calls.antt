@@ -25,7 +25,7 @@ use Rattle.rules.specs.Calls.{checkItems, checkText, verdictNumbers, runText, r
 use Rattle.rules.specs.Areas.{packed}
 use Rattle.rules.specs.Printed.{printed}
 use Rattle.rules.proofs.Lists.{T-true}
-use Rattle.leaves.proofs.Search.{true-false}
+use Rattle.read_bytes.proofs.Search.{true-false}
 use Rattle.rules.proofs.LinesTaken.{read-taken}
 use Rattle.printer.specs.Answers.{numberIn, printedAnswers, ReadUnless, Called}
 use Rattle.printer.proofs.Called.{Fits, number-packed, printed-is}

@@ -18,9 +18,9 @@ use Rattle.rules.specs.Items.{Item, itemOf, resolveLine, resolveLines}
 use Rattle.rules.specs.Reading.{readText}
 use Rattle.rules.specs.Printed.{localsAfter, lastLocals, mainVariables}
 use Rattle.rules.proofs.Tries.{ok-inj, check-ok, refused-accepted, accepted-inj, atLine-accepted, then-accepted}
-use Rattle.lines.proofs.Scans.{lines-taken}
-use Rattle.declare.specs.Texts.{linesOf, Taken}
-use Rattle.declare.specs.Declares.{lineWith}
+use Rattle.read_scan.proofs.Scans.{lines-taken}
+use Rattle.read_declarations.specs.Texts.{linesOf, Taken}
+use Rattle.read_declarations.specs.Declares.{lineWith}
 use Rattle.printer.specs.Variables.{localsBy, locals}
 
 -- what it takes for a text to be read

@@ -16,7 +16,7 @@ use Rattle.rules.specs.Syntax.{noRow, rowNumbered, methodNumbered, result-varia
 use Rattle.rules.specs.Machine as Machine
 use Rattle.rules.specs.Machine.{Cell, Heap, Location, Frame, Config, Room, Step, Outcome, on, stop, done}
 use Rattle.rules.specs.Machine.{valueIn, object, valueAt, storeIn, store, valueOf, locate, value, footprint, jump, advance, bind, holding, withFrame, choose, elseStep}
-use Rattle.rules.specs.Machine.{compared, ifStep, stored, setStep, assignStep, newCell, grown, newStep, entryValues, callFrame, entered, callStep, statementOf, returned, assertStep, releaseStep, endStep, mainFrame, ends, goOn, simpleStep, stepAt, step, run, start, runProgram}
+use Rattle.rules.specs.Machine.{ifStep, stored, setStep, assignStep, newCell, grown, newStep, entryValues, callFrame, entered, callStep, statementOf, returned, assertStep, releaseStep, endStep, mainFrame, ends, goOn, simpleStep, stepAt, step, run, start, runProgram}
 use Rattle.rules.proofs.Lists.{update-length, and-both}
 use Rattle.rules.proofs.Tries.{ok-inj, bind-ok, check-ok}
 use Rattle.rules.proofs.States.{on-inj, took-on}

@@ -15,24 +15,24 @@ use Rattle.rules.specs.Grammar.{Line, Method, Main, Var, kindNumber, isStatemen
 use Rattle.rules.specs.Scope.{operand}
 use Rattle.rules.specs.Places.{firstPlace, Place, placeAfter, withinLimits, oneMoreIf}
 use Rattle.rules.specs.Printed.{printedLine, signed, printedVariables}
-use Rattle.leaves.specs.Sets.{Found}
-use Rattle.leaves.specs.declared.Set.the-variants.{LineEnd}
-use Rattle.leaves.proofs.Search.{both-true, true-false}
-use Rattle.lines.specs.Cuts.{part}
-use Rattle.lines.specs.Coded.{coded}
-use Rattle.lines.proofs.Coded.{within-is, low}
-use Rattle.lines.proofs.Cuts.{no-lines}
+use Rattle.read_bytes.specs.Sets.{Found}
+use Rattle.read_bytes.specs.declared.Set.the-variants.{LineEnd}
+use Rattle.read_bytes.proofs.Search.{both-true, true-false}
+use Rattle.read_fields.specs.Cuts.{part}
+use Rattle.read_grammar.specs.Coded.{coded}
+use Rattle.read_grammar.proofs.Coded.{within-is, low}
+use Rattle.read_fields.proofs.Cuts.{no-lines}
 use Rattle.tables.specs.Decode.{wordAt}
-use Rattle.declared.specs.declared.Span.{Span}
-use Rattle.declared.specs.Rows.{nameIn}
-use Rattle.declare.specs.Texts.{linesOf, Taken, lineAt}
-use Rattle.declare.specs.Declares.{lineWith}
+use Rattle.read_names.specs.declared.Span.{Span}
+use Rattle.read_names.specs.Rows.{nameIn}
+use Rattle.read_declarations.specs.Texts.{linesOf, Taken, lineAt}
+use Rattle.read_declarations.specs.Declares.{lineWith}
 use Rattle.printer.specs.declared.Shown.{Shown}
 use Rattle.printer.specs.Writes.{Writes}
 use Rattle.printer.specs.Answers.{wordsFrom, valuesIn, variableLine}
 use Rattle.printer.specs.Variables.{localsBy, locals, Room, Shows, Goes, ShowsLocal}
 use Rattle.printer.proofs.Writes.{writes-none, writes-on, writes-as, signed-few}
-use Rattle.declare.proofs.Walks.{Walking, walking-first, walking-placed, walking-lines, walking-on}
+use Rattle.read_declarations.proofs.Walks.{Walking, walking-first, walking-placed, walking-lines, walking-on}
 
 -- VALUES
 pub words-length : (n i : ℕ) (b : List ℕ) → length (wordsFrom n i b) ≡ n

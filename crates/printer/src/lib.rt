@@ -1,4 +1,5 @@
-use leaves::Set;
+// What the program prints, written to a lent buffer.
+use read_bytes::Set;
 ghost use mathlib.Core.Path.{_≡_};
 ghost use mathlib.Core.Bool.{true};
 ghost use mathlib.Core.List.{[], _∷_};
@@ -8,8 +9,8 @@ ghost use Rattle.rules.specs.Base.{between};
 ghost use Rattle.rules.specs.Limits.{results-bytes, values-shown};
 ghost use Rattle.rules.specs.Text.{tab, isName};
 ghost use Rattle.rules.specs.Printed.{digitsBefore, digits, signed, printedVariables};
-ghost use Rattle.lines.specs.Cuts.{more};
-ghost use Rattle.declare.specs.Texts.{Taken, linesOf, lineAt, FormedAt};
+ghost use Rattle.read_fields.specs.Cuts.{more};
+ghost use Rattle.read_declarations.specs.Texts.{Taken, linesOf, lineAt, FormedAt};
 ghost use Rattle.printer.specs.Writes.{Writes, Prints};
 ghost use Rattle.printer.specs.Answers.{out-bytes, checkLine, runLine, variableLine, valuesIn, printedAnswers, ReadUnless};
 ghost use Rattle.printer.specs.Variables.{locals, most-line, most-lines, Room, ShowsLocal, Goes};
@@ -139,8 +140,8 @@ fn show_local(text: &[u8], out: &mut [u8], r: usize, results: &[u8], s: Shown) -
     requires { ⌜ (r ≤ length (now text)) × (length (now results) ≡ results-bytes) × (s .count < values-shown) × (s .end + most-line ≤ length (now out)) × (isName (getD (more (drop r (now text))) 1 []) ≡ true) ⌝ }
     ensures { λ d. ⌜ ShowsLocal (now (results .entry)) (getD (more (drop r (now (text .entry)))) 1 []) (now (out .entry)) s (now (out .exit)) d ⌝ }
 {
-    let class = declare::span_after(text, r);
-    let name = declare::span_after(text, class.start + class.len);
+    let class = read_declarations::span_after(text, r);
+    let name = read_declarations::span_after(text, class.start + class.len);
     let from = name.start;
     let to = from + name.len;
     let count = s.count;
@@ -164,7 +165,7 @@ fn show_line(
     requires { ⌜ (at ≤ length (now text)) × (length (now results) ≡ results-bytes) × FormedAt (now text) at × Room (lineAt (now text) at .kind) s (now out) ⌝ }
     ensures { λ d. ⌜ Goes first (now (results .entry)) (lineAt (now (text .entry)) at) (now (out .entry)) s (now (out .exit)) d ⌝ }
 {
-    let w = declare::word_at(text, at);
+    let w = read_declarations::word_at(text, at);
     let r = w.end;
     let kind = w.kind;
     match kind {
@@ -188,7 +189,7 @@ fn show_variables(text: &[u8], out: &mut [u8], first: usize, results: &[u8]) -> 
     };
     let mut at = 0;
     while at < text.len() {
-        let end = leaves::find(text, at, Set::LineEnd);
+        let end = read_bytes::find(text, at, Set::LineEnd);
         s = show_line(text, out, at, first, results, s);
         at = end + 1;
     }

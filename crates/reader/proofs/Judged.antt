@@ -13,27 +13,27 @@ use Rattle.rules.proofs.LineKinds.{kind-bounds}
 use Rattle.rules.specs.Scope.{Declarations, Variable, Scope, visible}
 use Rattle.rules.specs.Names.{allKnown, allTyped, allAssignable}
 use Rattle.rules.specs.Items.{itemOf, resolveLine}
-use Rattle.lines.specs.declared.Word.{Word}
-use Rattle.lines.specs.Rows.{kindNumbered}
-use Rattle.lines.specs.Table.{WordAt}
-use Rattle.lines.proofs.Rows.{kind-of-number}
-use Rattle.leaves.proofs.Search.{true-false}
+use Rattle.read_scan.specs.declared.Word.{Word}
+use Rattle.read_grammar.specs.Rows.{kindNumbered}
+use Rattle.read_scan.specs.Table.{WordAt}
+use Rattle.read_grammar.proofs.Rows.{kind-of-number}
+use Rattle.read_bytes.proofs.Search.{true-false}
 use Rattle.tables.specs.Layout.{names-at}
 use Rattle.tables.specs.Stores.{Kept}
-use Rattle.declared.specs.declared.Names.{Names}
-use Rattle.declared.specs.declared.Above.{Above}
-use Rattle.declared.specs.Meanings.{Fits, declarationsIn, variablesIn, scopeIn, blockIn, ownVariables}
-use Rattle.declared.proofs.Scopes.{names-kept, variables-kept, scope-kept}
-use Rattle.declare.specs.Texts.{lineAt, FormedAt}
-use Rattle.declare.specs.Declares.{lineWith}
-use Rattle.declare.proofs.Adds.{word-kind}
-use Rattle.judge.specs.declared.Judged.{Judged}
-use Rattle.judge.specs.Tests as Tests
-use Rattle.judge.specs.Refusals as Judges
-use Rattle.judge.specs.Refusals.{refusalIn, unlessRefused}
-use Rattle.judge.proofs.Refusals.{refuses, visible-is}
-use Rattle.pass.specs.declared.Pass.{Pass}
-use Rattle.pass.specs.Passes.{seenBy, isGood, isGoodHere, Ready, item, lineAfter}
+use Rattle.read_scopes.specs.declared.Names.{Names}
+use Rattle.read_scopes.specs.declared.Above.{Above}
+use Rattle.read_scopes.specs.Meanings.{Fits, declarationsIn, variablesIn, scopeIn, blockIn, ownVariables}
+use Rattle.read_scopes.proofs.Scopes.{names-kept, variables-kept, scope-kept}
+use Rattle.read_declarations.specs.Texts.{lineAt, FormedAt}
+use Rattle.read_declarations.specs.Declares.{lineWith}
+use Rattle.read_declarations.proofs.Adds.{word-kind}
+use Rattle.read_refusals.specs.declared.Judged.{Judged}
+use Rattle.read_refusals.specs.Tests as Tests
+use Rattle.read_refusals.specs.Refusals as Judges
+use Rattle.read_refusals.specs.Refusals.{refusalIn, unlessRefused}
+use Rattle.read_refusals.proofs.Refusals.{refuses, visible-is}
+use Rattle.resolve_pass.specs.declared.Pass.{Pass}
+use Rattle.resolve_pass.specs.Passes.{seenBy, isGood, isGoodHere, Ready, item, lineAfter}
 use Rattle.reader.specs.declared.Refusal.{Refusal}
 use Rattle.reader.specs.Readings.{refusalOf, Begins, refusalHere}
 

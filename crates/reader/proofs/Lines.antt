@@ -11,20 +11,20 @@ use Rattle.rules.specs.Syntax.{Formula}
 use Rattle.rules.specs.Grammar.{Kind, Line, Class, Requires, Ensures, Main, statement, Join, form, isFormed}
 use Rattle.rules.specs.Grammar.{first-statement, IsKindNumber, kindNumber, statementNumber, isStatement, isKind}
 use Rattle.rules.specs.Reading.{framed, framedItem}
-use Rattle.leaves.proofs.Search.{true-false, or-false}
-use Rattle.lines.specs.Cuts.{more}
-use Rattle.lines.specs.Rows.{kindNumbered}
-use Rattle.lines.proofs.Rows.{kind-of-number, kind-numbered}
+use Rattle.read_bytes.proofs.Search.{true-false, or-false}
+use Rattle.read_fields.specs.Cuts.{more}
+use Rattle.read_grammar.specs.Rows.{kindNumbered}
+use Rattle.read_grammar.proofs.Rows.{kind-of-number, kind-numbered}
 use Rattle.tables.specs.Decode.{atomsFrom}
 use Rattle.rules.specs.Syntax.{Program}
-use Rattle.lines.specs.declared.Word.{Word}
-use Rattle.pass.specs.declared.Pass.{Pass}
-use Rattle.pass.specs.declared.Tried.{Tried}
-use Rattle.pass.specs.Passes.{isFramed, Ready, Stands, Room, LinePut, item, unframedAfter, lineAfter, isGoodHere, BadLine, LineTried}
-use Rattle.headers.specs.Headers.{isDeclaration}
-use Rattle.pass.proofs.Unframed.{framed-formula, framed-other}
+use Rattle.read_scan.specs.declared.Word.{Word}
+use Rattle.resolve_pass.specs.declared.Pass.{Pass}
+use Rattle.resolve_pass.specs.declared.Tried.{Tried}
+use Rattle.resolve_pass.specs.Passes.{isFramed, Ready, Stands, Room, LinePut, item, unframedAfter, lineAfter, isGoodHere, BadLine, LineTried}
+use Rattle.resolve_headers.specs.Headers.{isDeclaration}
+use Rattle.resolve_pass.proofs.Unframed.{framed-formula, framed-other}
 use Rattle.reader.specs.Readings.{Between, Written, Begins, LineTaken, unframedBy, withUnframed}
-use Rattle.bodies.specs.Bodies.{Follows}
+use Rattle.resolve_bodies.specs.Bodies.{Follows}
 
 -- the kinds that number 10 is about, by their numbers
 pub framed-number : (n : ℕ) → IsKindNumber n → isFramed (kindNumbered n) ≡ (eqb 4 n || (eqb 5 n || eqb 17 n))

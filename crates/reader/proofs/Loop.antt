@@ -16,25 +16,25 @@ use Rattle.rules.specs.Places.{Place, firstPlace, placeAfter}
 use Rattle.rules.specs.Scope.{Declarations, Scope, declarations, firstScope, scopeAfter, classesOf, methodsOf}
 use Rattle.rules.specs.Items.{Item, resolveLine, resolveLines}
 use Rattle.rules.specs.Reading.{checkFramed}
-use Rattle.leaves.specs.Sets.{Found}
-use Rattle.leaves.specs.declared.Set.the-variants.{LineEnd}
-use Rattle.lines.specs.declared.Word.{Word}
-use Rattle.lines.specs.Table.{WordAt, LineTable, lineEnd, startOf}
-use Rattle.lines.proofs.Table.{found-end, next-start, table-kept}
-use Rattle.declared.specs.declared.Names.{Names}
+use Rattle.read_bytes.specs.Sets.{Found}
+use Rattle.read_bytes.specs.declared.Set.the-variants.{LineEnd}
+use Rattle.read_scan.specs.declared.Word.{Word}
+use Rattle.read_scan.specs.Table.{WordAt, LineTable, lineEnd, startOf}
+use Rattle.read_scan.proofs.Table.{found-end, next-start, table-kept}
+use Rattle.read_scopes.specs.declared.Names.{Names}
 use Rattle.tables.specs.Decode.{run}
-use Rattle.declared.specs.Meanings.{declarationsIn, namesFrom, blockIn, ownVariables, classAbove, scopeIn}
+use Rattle.read_scopes.specs.Meanings.{declarationsIn, namesFrom, blockIn, ownVariables, classAbove, scopeIn}
 use Rattle.tables.proofs.Runs.{run-length, end-length}
-use Rattle.declare.specs.Texts.{linesOf, Taken, lineAt, FormedAt}
-use Rattle.declare.specs.Declares.{Declares}
-use Rattle.declare.proofs.Walks.{Walking, walking-first, walking-done, walking-clean, walking-formed, walking-placed, walking-lines, walking-on}
+use Rattle.read_declarations.specs.Texts.{linesOf, Taken, lineAt, FormedAt}
+use Rattle.read_declarations.specs.Declares.{Declares}
+use Rattle.read_declarations.proofs.Walks.{Walking, walking-first, walking-done, walking-clean, walking-formed, walking-placed, walking-lines, walking-on}
 use Rattle.rules.specs.Syntax.{Program}
 use Rattle.rules.specs.Reading.{noProgram, withItems, withItem}
-use Rattle.emit.proofs.Kept.{none-written}
-use Rattle.pass.specs.declared.Pass.{Pass}
-use Rattle.pass.specs.Passes.{counts, firstPass, lastClass, Ready, Stands, Room, item, lineAfter}
-use Rattle.pass.proofs.Places.{At, at-first, at-ready, at-room, at-on}
-use Rattle.pass.proofs.Unframed.{framedAfter, framed-first, framed-on, framed-last}
+use Rattle.write_rows.proofs.Kept.{none-written}
+use Rattle.resolve_pass.specs.declared.Pass.{Pass}
+use Rattle.resolve_pass.specs.Passes.{counts, firstPass, lastClass, Ready, Stands, Room, item, lineAfter}
+use Rattle.resolve_pass.proofs.Places.{At, at-first, at-ready, at-room, at-on}
+use Rattle.resolve_pass.proofs.Unframed.{framedAfter, framed-first, framed-on, framed-last}
 use Rattle.reader.specs.Readings.{refusalOf, framedVerdict, Written, Begins, LineRead, StepIs, resolvedText, AllRead}
 use Rattle.reader.specs.declared.Refusal as Reasons
 use Rattle.reader.specs.declared.Step.{Step}

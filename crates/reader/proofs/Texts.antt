@@ -13,20 +13,20 @@ use Rattle.rules.specs.Places.{firstPlace, scanLines}
 use Rattle.rules.specs.Scope.{declarations, firstScope}
 use Rattle.rules.specs.Items.{resolveLines}
 use Rattle.rules.specs.Reading.{readText, program}
-use Rattle.lines.specs.Scans.{scanText}
-use Rattle.lines.proofs.Scans.{text-taken}
+use Rattle.read_scan.specs.Scans.{scanText}
+use Rattle.read_scan.proofs.Scans.{text-taken}
 use Rattle.tables.specs.Decode.{programIn}
 use Rattle.tables.specs.Tables.{Tables}
-use Rattle.declared.specs.declared.Names.{Names}
-use Rattle.declare.specs.Texts.{linesOf, Taken}
-use Rattle.declare.specs.Declares.{Declares}
+use Rattle.read_scopes.specs.declared.Names.{Names}
+use Rattle.read_declarations.specs.Texts.{linesOf, Taken}
+use Rattle.read_declarations.specs.Declares.{Declares}
 use Rattle.rules.specs.Syntax.{Program}
 use Rattle.rules.specs.Reading.{noProgram, withItems}
-use Rattle.emit.specs.Puts.{putHeader}
+use Rattle.write_rows.specs.Puts.{putHeader}
 use Rattle.targets.specs.Targets.{targetsFrom}
-use Rattle.finish.proofs.Finished.{endedTables, read-tables}
-use Rattle.pass.specs.declared.Pass.{Pass}
-use Rattle.pass.specs.Passes.{counts}
+use Rattle.targets.proofs.Finished.{endedTables, read-tables}
+use Rattle.resolve_pass.specs.declared.Pass.{Pass}
+use Rattle.resolve_pass.specs.Passes.{counts}
 use Rattle.reader.specs.declared.Refusal.{Refusal}
 use Rattle.reader.specs.declared.Resolved.{Resolved}
 use Rattle.reader.specs.Readings.{refusalOf, resolvedText, AllRead, ResolvedIs, Tabled}

@@ -15,19 +15,19 @@ use Rattle.rules.specs.Grammar.{Line, form, IsKindNumber, isFormed}
 use Rattle.rules.specs.Scope.{declarations, firstScope}
 use Rattle.rules.specs.Items.{Item, resolveLine, resolveLines}
 use Rattle.rules.specs.Reading.{readText, framed, checkFramed, program}
-use Rattle.lines.specs.declared.Word.{Word}
-use Rattle.lines.specs.Cuts.{more}
-use Rattle.lines.specs.Rows.{kindNumbered}
+use Rattle.read_scan.specs.declared.Word.{Word}
+use Rattle.read_fields.specs.Cuts.{more}
+use Rattle.read_grammar.specs.Rows.{kindNumbered}
 use Rattle.tables.specs.Layout.{most-atom-rows}
 use Rattle.tables.specs.Decode.{programIn}
 use Rattle.tables.specs.Tables.{Tables}
-use Rattle.declared.specs.Meanings.{declarationsIn, variablesIn, scopeIn}
+use Rattle.read_scopes.specs.Meanings.{declarationsIn, variablesIn, scopeIn}
 use Rattle.rules.specs.Syntax.{Program}
 use Rattle.rules.specs.Reading.{noProgram, withItems}
-use Rattle.declare.specs.Texts.{linesOf}
-use Rattle.judge.specs.Refusals.{refusalIn}
-use Rattle.pass.specs.declared.Pass.{Pass}
-use Rattle.pass.specs.Passes.{seenBy, Ready, Stands, LinePut, after, item, unframedAfter}
+use Rattle.read_declarations.specs.Texts.{linesOf}
+use Rattle.read_refusals.specs.Refusals.{refusalIn}
+use Rattle.resolve_pass.specs.declared.Pass.{Pass}
+use Rattle.resolve_pass.specs.Passes.{seenBy, Ready, Stands, LinePut, after, item, unframedAfter}
 use Rattle.reader.specs.declared.Refusal.{Refusal}
 use Rattle.reader.specs.declared.Step.{Step}
 use Rattle.reader.specs.declared.Resolved.{Resolved}

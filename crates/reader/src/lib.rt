@@ -1,11 +1,12 @@
-use declared::Above;
-use declared::Names;
-use declared::Range;
-use judge::Judged;
-use lines::Scanned;
-use lines::Word;
-use pass::Pass;
-use pass::Tried;
+// Any bytes to tables, or to the number and line of rows 2 to 10: pass 1, the declarations, and pass 2 line by line.
+use read_refusals::Judged;
+use read_scan::Scanned;
+use read_scan::Word;
+use read_scopes::Above;
+use read_scopes::Names;
+use read_scopes::Range;
+use resolve_pass::Pass;
+use resolve_pass::Tried;
 use rules::Machine;
 ghost use mathlib.Core.Path.{_≡_};
 ghost use mathlib.Core.Bool.{true, false};
@@ -15,16 +16,16 @@ ghost use lib.ListN.{length};
 ghost use Rattle.rules.specs.Limits.{work-bytes, most-bytes};
 ghost use Rattle.rules.specs.Grammar.{IsKindNumber};
 ghost use Rattle.rules.specs.Reading.{framed};
-ghost use Rattle.lines.specs.Rows.{kindNumbered};
-ghost use Rattle.lines.specs.Scans as Scans;
-ghost use Rattle.lines.specs.Table.{LineTable};
+ghost use Rattle.read_grammar.specs.Rows.{kindNumbered};
+ghost use Rattle.read_scan.specs.Scans as Scans;
+ghost use Rattle.read_scan.specs.Table.{LineTable};
 ghost use Rattle.tables.specs.Decode.{atomsFrom};
-ghost use Rattle.declare.specs.Texts.{Taken};
-ghost use Rattle.declare.specs.Declares.{Declares};
-ghost use Rattle.judge.specs.Refusals as Judges;
-ghost use Rattle.headers.specs.Headers.{isDeclaration, Held};
-ghost use Rattle.bodies.specs.Bodies.{Follows};
-ghost use Rattle.pass.specs.Passes.{firstPass, Room, isFramed, lineAfter, isGoodHere, LineTried};
+ghost use Rattle.read_declarations.specs.Texts.{Taken};
+ghost use Rattle.read_declarations.specs.Declares.{Declares};
+ghost use Rattle.read_refusals.specs.Refusals as Judges;
+ghost use Rattle.resolve_headers.specs.Headers.{isDeclaration, Held};
+ghost use Rattle.resolve_bodies.specs.Bodies.{Follows};
+ghost use Rattle.resolve_pass.specs.Passes.{firstPass, Room, isFramed, lineAfter, isGoodHere, LineTried};
 ghost use Rattle.reader.specs.Readings.{unframedBy, withUnframed, Between, Written, Begins, refusalHere, StepIs, ResolvedIs, ReadingIs, refusalOf};
 
 // Why a text is refused.
@@ -47,14 +48,14 @@ fn try_line(text: &[u8], work: &mut [u8], p: Pass, kind: u8, r: usize) -> Tried
     ensures { λ q. ⌜ LineTried (now (text .entry)) (now (work .entry)) p (lineAfter (now (text .entry)) r kind) (now (work .exit)) q ⌝ }
 {
     if 8 <= kind {
-        return bodies::put_statement(text, work, p, kind, r);
+        return resolve_bodies::put_statement(text, work, p, kind, r);
     }
     match kind {
-        2 => headers::put_field(text, work, p, r),
-        3 => headers::put_method(text, work, p, r),
-        4 => bodies::put_header(text, work, p, kind, r),
-        5 => bodies::put_header(text, work, p, kind, r),
-        _ => headers::put_var(text, work, p, r),
+        2 => resolve_headers::put_field(text, work, p, r),
+        3 => resolve_headers::put_method(text, work, p, r),
+        4 => resolve_bodies::put_header(text, work, p, kind, r),
+        5 => resolve_bodies::put_header(text, work, p, kind, r),
+        _ => resolve_headers::put_var(text, work, p, r),
     }
 }
 
@@ -80,7 +81,7 @@ fn first_unframed(work: &[u8], kind: u8, p: Pass, q: Pass) -> usize
         return p.unframed;
     }
     if is_framed(kind) {
-        if framing::framed(work, p.atoms, q.atoms - p.atoms) {
+        if resolve_framing::framed(work, p.atoms, q.atoms - p.atoms) {
             return 0;
         }
         return p.line + 1;
@@ -120,8 +121,8 @@ fn judge_line(text: &[u8], work: &[u8], w: Word, p: Pass) -> Judged
 {
     let names = p.names;
     let above = p.above;
-    let c = bodies::seen(names, w.kind);
-    judge::judge(text, work, w.end, w.kind, c, above)
+    let c = resolve_bodies::seen(names, w.kind);
+    read_refusals::judge(text, work, w.end, w.kind, c, above)
 }
 
 // Why a line that is not good is refused.
@@ -165,7 +166,7 @@ fn declare_line(text: &[u8], work: &mut [u8], w: Word, p: Pass) -> Step
         Judged::Undeclared => Step::Refused(Refusal::Undeclared),
         Judged::WrongType => Step::Refused(Refusal::WrongType),
         Judged::WrongTarget => Step::Refused(Refusal::WrongTarget),
-        Judged::Good => Step::On(headers::put_declaration(text, work, p, w.kind, w.end)),
+        Judged::Good => Step::On(resolve_headers::put_declaration(text, work, p, w.kind, w.end)),
     }
 }
 
@@ -221,7 +222,7 @@ fn read_lines(text: &[u8], work: &mut [u8], names: Names, n: usize) -> Resolved
     let mut p = first_pass(names);
     let mut i = 0;
     while i < n {
-        let w = lines::line_word(work, i);
+        let w = read_scan::line_word(work, i);
         let s = read_line(text, work, w, p);
         match s {
             Step::Refused(why) => {
@@ -244,14 +245,14 @@ pub enum Reading {
     Refused(Refusal, usize),
 }
 
-fn scan_refusal(r: lines::Refusal) -> Refusal
+fn scan_refusal(r: read_scan::Refusal) -> Refusal
     ensures { λ s. ⌜ refusalOf s ≡ Scans.refusalOf r ⌝ }
 {
     match r {
-        lines::Refusal::BadByte => Refusal::BadByte,
-        lines::Refusal::Malformed => Refusal::Malformed,
-        lines::Refusal::LimitPassed => Refusal::LimitPassed,
-        lines::Refusal::TextEnds => Refusal::TextEnds,
+        read_scan::Refusal::BadByte => Refusal::BadByte,
+        read_scan::Refusal::Malformed => Refusal::Malformed,
+        read_scan::Refusal::LimitPassed => Refusal::LimitPassed,
+        read_scan::Refusal::TextEnds => Refusal::TextEnds,
     }
 }
 
@@ -260,13 +261,13 @@ fn resolve(text: &[u8], work: &mut [u8], n: usize) -> Reading
     requires { ⌜ (length (now text) ≤ most-bytes) × (length (now work) ≡ work-bytes) × Taken (now text) × LineTable (now text) (now work) n ⌝ }
     ensures { λ r. ⌜ ReadingIs (now (text .entry)) (now (work .exit)) r × (length (now (work .exit)) ≡ work-bytes) ⌝ }
 {
-    let names = declare::declare(text, work, n);
+    let names = read_declarations::declare(text, work, n);
     let r = read_lines(text, work, names, n);
     match r {
         Resolved::Refused(why, line) => Reading::Refused(why, line),
         Resolved::Done(p) => {
             let names = p.names;
-            finish::finish(work, p.rows, p.atoms, names.classes, names.methods, p.main);
+            targets::finish(work, p.rows, p.atoms, names.classes, names.methods, p.main);
             Reading::Taken(p.unframed)
         }
     }
@@ -280,7 +281,7 @@ pub fn read(text: &[u8], work: &mut [u8]) -> Reading
     if Machine::TEXT_BYTES < text.len() {
         return Reading::Refused(Refusal::TextTooLong, 0);
     }
-    let s = lines::scan(text, work);
+    let s = read_scan::scan(text, work);
     match s {
         Scanned::Refused(why, line) => Reading::Refused(scan_refusal(why), line),
         Scanned::Taken(n) => resolve(text, work, n),

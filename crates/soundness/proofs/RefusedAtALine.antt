@@ -28,8 +28,8 @@ use Rattle.rules.specs.Calls.{checkItems, verdictNumbers, checkText}
 use Rattle.rules.proofs.Lists.{and-both}
 use Rattle.rules.proofs.Tries.{refused-accepted, accepted-inj, atLine-accepted, then-accepted}
 use Rattle.rules.proofs.LinesTaken.{HasForm, TakenLines, none, line, lineOf, read-passes, read-taken}
-use Rattle.assembly.specs.Nests.{Wait, forElse, forJoin, rowNests, rowsNest}
-use Rattle.assembly.proofs.ReadOrder.{BodiesNest, read-blocks}
+use Rattle.nesting.specs.Nests.{Wait, forElse, forJoin, rowNests, rowsNest}
+use Rattle.nesting.proofs.ReadOrder.{BodiesNest, read-blocks}
 use Rattle.rules.specs.Refusals.{FromRules, LineOf, RefusedAtALine}
 use Rattle.soundness.proofs.RulesRefuse.{OfRules, ten, row-number, Ruled, yes, for, rule-ruled, if-ruled, join-ruled, show-ruled}
 use Rattle.soundness.proofs.RequiresAdded.{Addable, requires-added, few-atoms}

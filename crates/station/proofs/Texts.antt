@@ -18,7 +18,7 @@ use Rattle.tables.specs.Decode.{programIn}
 use Rattle.reader.specs.declared.Refusal as Reasons
 use Rattle.reader.specs.declared.Reading.{Reading}
 use Rattle.reader.specs.Readings.{refusalOf, framedVerdict, Tabled, ReadingIs}
-use Rattle.knowledge.specs.declared.Answer.{Answer}
+use Rattle.check_entailment.specs.declared.Answer.{Answer}
 use Rattle.checker.specs.declared.Verdict as Checks
 use Rattle.checker.specs.Checked as Checker
 use Rattle.checker.specs.Checked.{verdictOf}

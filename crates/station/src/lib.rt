@@ -1,5 +1,6 @@
+// The two calls that a host links, `check` and `run`, and what the program prints. Each reads, checks or runs, and clears the work area.
+use check_entailment::Answer;
 use checker::Verdict;
-use knowledge::Answer;
 use machine::Ran;
 use reader::Reading;
 use reader::Refusal;

@@ -5,13 +5,13 @@ use mathlib.Core.Logic.{inl, inr, ⊎-elim}
 use Prim.Native.Nat.{ℕ, _+_, _≤_, _<_, zero-le}
 use native.Mathlib.Omega.{arith}
 use Rattle.rules.specs.Limits.{most-statements, most-methods, most-classes}
-use Rattle.tables.specs.Layout.{classes-at, places-at, methods-at, atoms-at, most-atom-rows, most-names, names-at}
-use Rattle.tables.specs.Decode.{byteAt, halfAt, atomPlace, atomsFrom, rowPlace, kindAt, targetAt, rowAt, allRows, rowCount, atomCount, classCount, methodCount, mainFirst, requiresAt, ensuresAt, methodAt, methodsFrom, methodPlace, firstRowAt, classPlace, placesPlace, fieldCountAt, classAt, classesFrom, programIn}
+use Rattle.tables.specs.Layout.{classes-at, places-at, methods-at, atoms-at, most-names, names-at}
+use Rattle.tables.specs.Decode.{byteAt, halfAt, atomPlace, rowPlace, kindAt, targetAt, rowAt, allRows, rowCount, atomCount, classCount, methodCount, mainFirst, requiresAt, ensuresAt, methodAt, methodsFrom, methodPlace, firstRowAt, classPlace, placesPlace, fieldCountAt, classAt, classesFrom, programIn}
 use Rattle.tables.specs.Tables.{RowFits, TargetFits, MethodFits, Tables, BlockFits, declaredIn, placeAt}
 use Rattle.tables.specs.Stores.{Kept, SameTables}
 use Rattle.tables.proofs.Bytes.{half-kept}
 use Rattle.tables.proofs.Runs.{run-same}
-use Rattle.tables.proofs.Kept.{RowsKept, all-rows, atoms-kept, atom-fits-kept, row-same, operands-fit-kept, first-row-kept, formulas-fit-kept, requires-kept, ensures-kept, method-same, field-count-kept, place-kept, class-same, class-fits-kept}
+use Rattle.tables.proofs.Kept.{RowsKept, all-rows, atom-fits-kept, row-same, operands-fit-kept, first-row-kept, formulas-fit-kept, requires-kept, ensures-kept, method-same, field-count-kept, place-kept, class-same, class-fits-kept}
 
 module _ (w w′ : List ℕ) (same : SameTables w w′) where
   byte : (i : ℕ) → i < names-at → byteAt w′ i ≡ byteAt w i
@@ -52,9 +52,6 @@ module _ (w w′ : List ℕ) (same : SameTables w w′) where
 
     pub place-same : (n : ℕ) → n < most-names → placeAt w′ c n ≡ placeAt w c n
     place-same = place-kept w w′ most-classes (part _ _ (omega arith)) (part _ _ (omega arith)) c l
-
-  pub atoms-same : (a n : ℕ) → a + n ≤ most-atom-rows → atomsFrom w′ a n ≡ atomsFrom w a n
-  atoms-same = atoms-kept w w′ most-atom-rows (part _ _ (omega arith))
 
   module _ (tables : Tables w) where
     atoms-part : Kept atoms-at (atomPlace (atomCount w)) w w′

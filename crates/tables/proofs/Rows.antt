@@ -10,10 +10,6 @@ use Rattle.tables.specs.Decode.{rowAt, rowsFrom, allRows, rowCount, meth
 use Rattle.tables.proofs.Runs.{run-length, run-get}
 
 -- ROWS
-pub all-length : (w : List ℕ) → length (allRows w) ≡ rowCount w
-unfolding allRows
-all-length w = run-length (rowAt w) 0 (rowCount w)
-
 pub row-get : (w : List ℕ) (i : ℕ) → i < rowCount w → getD (allRows w) i noRow ≡ rowAt w i
 unfolding allRows
 row-get w i l = run-get (rowAt w) 0 (rowCount w) i noRow l ∙ ap (rowAt w) (zero-add i)

@@ -36,11 +36,8 @@ object-bytes = 4
 abbrev pub frame-bytes : ℕ
 frame-bytes = 72
 
--- REGIONS: where each begins; the end of one is the begin of the next
-
--- counts: statement rows, atoms (2 bytes each), classes, methods (a byte each), main's first row (2 bytes)
-abbrev pub header-at : ℕ
-header-at = 0
+-- REGIONS: where each begins; the end of one is the begin of the next. From 0 on stand the counts: statement rows, atoms (2 bytes each),
+-- classes, methods (a byte each), main's first row (2 bytes).
 
 abbrev pub rows-at : ℕ
 rows-at = 64
@@ -81,6 +78,3 @@ objects-at = 53248
 
 abbrev pub frames-at : ℕ
 frames-at = 54272
-
-abbrev pub layout-end : ℕ
-layout-end = 58880

@@ -1,5 +1,6 @@
+// The tables in the lent work area: where each stands (`Layout`), and the functions that read and write bytes, words and sides there.
 ghost use mathlib.Core.Path.{_≡_};
-ghost use Prim.Native.Nat.{ℕ, _+_, _*_, _%_, _≤_, _<_};
+ghost use Prim.Native.Nat.{_+_, _*_, _%_, _≤_, _<_};
 ghost use lib.ListN.{length};
 ghost use Rattle.rules.specs.Limits.{most-statements, most-methods, most-classes, most-fields, work-bytes};
 ghost use Rattle.tables.specs.Layout.{most-atom-rows, most-names};

@@ -1,3 +1,4 @@
 pub mod Stacks
 pub mod TargetsRight
 pub mod Nesting
+pub mod Finished

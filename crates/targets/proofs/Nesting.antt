@@ -5,11 +5,11 @@ use mathlib.Core.List.{List, [], _∷_}
 use Prim.Native.Nat.{ℕ, zero, suc, _<_}
 use native.Mathlib.Omega.{arith}
 use lib.Dec.{T, ltb, leb, le→leb}
-use lib.ListN.{length, drop, getD}
+use lib.ListN.{length, getD}
 use Rattle.rules.specs.Syntax.{Stmt, Row, simple, if, else, join, end, noRow}
 use Rattle.rules.proofs.Lists.{and-both, and-intro}
 use Rattle.tables.specs.Tables.{nestedRow, nested}
-use Rattle.assembly.specs.Nests.{Wait, forElse, forJoin, rowNests, rowsNest}
+use Rattle.nesting.specs.Nests.{Wait, forElse, forJoin, rowNests, rowsNest}
 
 -- EACH BLOCK NESTS
 row-nested :
@@ -35,12 +35,6 @@ rows-nested [] (v ∷ ws) t = absurd t
 rows-nested (r ∷ rs) ws t =
     row-nested (r .stmt) ws (λ b ws. rowsNest b ws rs) (λ d. nested rs d) (λ ws u. rows-nested rs ws u) t
 
--- a block that begins here
-pub block-nested : (r : Row) (rs : List Row) → T (rowsNest true [] (r ∷ rs)) → T (nested (r ∷ rs) 0)
-unfolding rowsNest nested
-block-nested r rs t =
-    row-nested (r .stmt) [] (λ b ws. rowsNest b ws rs) (λ d. nested rs d) (λ ws u. rows-nested rs ws u) t
-
 -- FROM ROW TO ROW
 
 -- the state after a row is that of the rows that follow
@@ -59,20 +53,6 @@ row-on (join φ) (forElse ∷ ws) k t = absurd t
 row-on (join φ) (forJoin ∷ ws) k t = (false, ws, t, λ e. absurd (let z : _≡_ {A = ℕ} 0 1 = cc in omega arith), λ n. refl)
 row-on end [] k t = (true, [], t, λ e. (refl, refl), λ n. absurd (n refl))
 row-on end (v ∷ ws) k t = absurd t
-
--- after an `end` a block begins
-pub after-end :
-    (rs : List Row) (b : Bool) (ws : List Wait) → T (rowsNest b ws rs) → (i : ℕ) → i < length rs →
-    getD rs i noRow .stmt ≡ end → T (rowsNest true [] (drop (suc i) rs))
-unfolding rowsNest
-after-end [] b ws t i l e = absurd (omega (arith, l))
-after-end (r ∷ rs) b ws t zero l e =
-    let (b′, ws′, u, h, n) = row-on (r .stmt) ws (λ b ws. rowsNest b ws rs) t in
-    let (p, q) = h e in
-    subst (λ (v : List Wait). T (rowsNest true v rs)) q (subst (λ (c : Bool). T (rowsNest c ws′ rs)) p u)
-after-end (r ∷ rs) b ws t (suc i) l e =
-    let (b′, ws′, u, h, n) = row-on (r .stmt) ws (λ b ws. rowsNest b ws rs) t in
-    after-end rs b′ ws′ u i (omega (arith, l)) e
 
 -- a row that is no `end` is not the last
 pub not-last :

@@ -20,7 +20,7 @@ use Rattle.tables.specs.Stores.{putHalf}
 use Rattle.tables.specs.Decode.{kindAt, targetAt, rowPlace, operandsAt, formulaAt, stmtAt, rowAt, rowsFrom}
 use Rattle.targets.proofs.Stacks.{open-at-if, open-at-else, open-at-join, open-elsewhere, work-at-else, work-at-join, work-elsewhere}
 use Rattle.targets.specs.Targets.{openAfter, workAfter, targetsFrom, pushed, popped, replaced, putTarget}
-use Rattle.assembly.specs.Nests.{Wait, forElse, forJoin, rowNests, rowsNest}
+use Rattle.nesting.specs.Nests.{Wait, forElse, forJoin, rowNests, rowsNest}
 use Rattle.targets.specs.Right.{TargetRight}
 
 -- SEEKING PAST A ROW

@@ -1,13 +1,14 @@
-ghost use mathlib.Core.Path.{_≡_};
-ghost use Prim.Native.Nat.{ℕ, _+_, _≤_, _<_};
-ghost use mathlib.Core.List.{[]};
-ghost use lib.ListN.{length};
-ghost use Rattle.tables.specs.Decode.{kindAt};
-ghost use Rattle.targets.specs.Targets.{Fits, stackOf, pushed, popped, replaced, openAfter, putTarget, workAfter, targetsFrom};
+// Where `if` and `else` go on, by one walk over the rows; the tables ended.
 use rules::Machine;
 use tables::Layout;
 use tables::kind_at;
 use tables::put_half;
+ghost use mathlib.Core.Path.{_≡_};
+ghost use Prim.Native.Nat.{_+_, _≤_, _<_};
+ghost use mathlib.Core.List.{[]};
+ghost use lib.ListN.{length};
+ghost use Rattle.targets.specs.Targets.{Fits, stackOf, pushed, popped, replaced, openAfter, putTarget, workAfter, targetsFrom};
+ghost use Rattle.write_rows.specs.Puts.{putHeader};
 
 // The rows of the open branches: how many, and their numbers in base 256, the innermost lowest.
 pub struct Open {
@@ -106,4 +107,20 @@ pub fn set_targets(work: &mut [u8], n: usize)
         o = open_after(k, i, o);
         i += 1;
     }
+}
+
+// Ends the tables of a text: where `if` and `else` go on, then the counts and main's first row.
+pub fn finish(
+    work: &mut [u8],
+    rows: usize,
+    atoms: usize,
+    classes: usize,
+    methods: usize,
+    main: usize,
+)
+    requires { ⌜ ((length (now work) ≡ 65536) × ((rows ≤ 256) × (atoms < 65536))) × ((classes < 256) × ((methods < 256) × (main < 65536))) ⌝ }
+    ensures { λ _. ⌜ now (work .exit) ≡ putHeader (targetsFrom (now (work .entry)) 0 rows []) rows atoms classes methods main ⌝ }
+{
+    set_targets(work, rows);
+    write_rows::put_header(work, rows, atoms, classes, methods, main);
 }

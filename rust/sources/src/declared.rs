@@ -23,6 +23,7 @@ fn declared(line: &str) -> Option<(String, bool, bool)> {
     loop {
         let (word, after) = rest.split_once(' ')?;
         match word {
+            "ruleset" => return Some((after.split(' ').next()?.to_string(), public, false)),
             "abbrev" | "unfoldable" => {}
             "pub" => public = true,
             "record" | "data" => members = true,

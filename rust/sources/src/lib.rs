@@ -9,12 +9,17 @@ use std::path::{Path, PathBuf};
 
 mod declared;
 mod imports;
+mod unused;
 
 pub use declared::{declarations, Declaration};
 pub use imports::{imports, Import};
+pub use unused::{unused_declarations, unused_imports, File};
 
 /// Names that open all others of their file, so that standing there is no use.
 const UMBRELLAS: [&str; 2] = ["opened", "computing"];
+
+/// Names that a `do` block uses without saying so.
+const SEQUENCING: [&str; 2] = ["_>>=_", "_>>_"];
 
 /// One file below `crates/`.
 pub struct Source {
@@ -99,9 +104,9 @@ pub fn code(line: &str, is_code: bool) -> &str {
 /// The words of a line: what stands between blanks, brackets and points.
 pub fn words(line: &str) -> impl Iterator<Item = &str> {
     line.split(|c: char| c.is_whitespace() || "()[]{},;:.!\"`⌜⌝⟦⟧«»⟨⟩".contains(c))
-        .map(|word| match word.trim_start_matches('&') {
-            "" => word,
-            lent => lent,
+        .map(|word| match word.strip_prefix('&') {
+            Some(lent) if lent.starts_with(char::is_alphabetic) => lent,
+            _ => word,
         })
         .filter(|word| !word.is_empty())
 }
@@ -160,7 +165,15 @@ impl Uses {
 
     /// Does the file use the name there, whole or by its signs?
     pub fn names(&self, name: &str, declared: &[Declaration], but: Option<usize>) -> bool {
-        let by_signs = signs(name);
-        self.has(name, declared, but) || by_signs.iter().all(|sign| self.has(sign, declared, but))
+        let whole = self.has(name, declared, but);
+        let by_signs = || {
+            signs(name).iter().all(|sign| {
+                [sign.to_string(), format!("{sign}_"), format!("_{sign}")]
+                    .iter()
+                    .any(|word| self.has(word, declared, but))
+            })
+        };
+        let in_block = || SEQUENCING.contains(&name) && self.has("do", declared, but);
+        whole || by_signs() || in_block()
     }
 }

@@ -2,7 +2,7 @@
 
 use sources::sources;
 
-/// The most characters of a line.
+/// The most characters of a line; a list of names to unfold stands on one line, however long.
 const MOST: usize = 400;
 
 #[test]
@@ -16,7 +16,8 @@ fn no_line_is_too_long() {
                 .enumerate()
                 .filter_map(|(number, line)| {
                     let length = line.chars().count();
-                    (length > MOST)
+                    let names = line.trim_start().starts_with("unfolding ");
+                    (length > MOST && !names)
                         .then(|| format!("{}:{}: {length}", source.path.display(), number + 1))
                 })
         })
@@ -32,7 +33,7 @@ fn no_line_is_too_long() {
 fn every_file_says_what_it_is_for() {
     let silent: Vec<_> = sources()
         .iter()
-        .filter(|source| source.place != "specs/Lib.antt" && source.place != "proofs/Lib.antt")
+        .filter(|source| !source.place.ends_with("/Lib.antt") && !source.is_answer())
         .filter(|source| {
             let mark = if source.is_code() { "//" } else { "--" };
             !source.text.trim().is_empty() && !source.text.starts_with(mark)

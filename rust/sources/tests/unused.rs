@@ -1,110 +1,82 @@
 //! Nothing in the proved crates is there for nobody.
 
-use sources::{declarations, imports, root, sources, Declaration, Import, Source, Uses};
+use sources::{root, sources, unused_declarations, unused_imports, File, Source};
 use std::fs;
-
-struct File {
-    source: Source,
-    declared: Vec<Declaration>,
-    imported: Vec<Import>,
-    uses: Uses,
-}
+use std::path::PathBuf;
 
 fn files() -> Vec<File> {
-    sources()
-        .into_iter()
-        .map(|source| {
-            let declared = declarations(&source);
-            let imported = imports(&source.text);
-            let uses = Uses::of(&source, &declared);
-            File {
-                source,
-                declared,
-                imported,
-                uses,
-            }
-        })
-        .collect()
+    sources().into_iter().map(File::of).collect()
 }
 
 /// The documents, in which a theorem may be named for its own sake.
 fn documents() -> String {
-    [
-        "docs/ASSURANCE.md",
-        "docs/ARCHITECTURE.md",
-        "docs/DECISIONS.md",
-    ]
-    .iter()
-    .map(|name| fs::read_to_string(root().join(name)).expect("a document"))
-    .collect()
+    ["ASSURANCE.md", "ARCHITECTURE.md", "DECISIONS.md"]
+        .iter()
+        .map(|name| fs::read_to_string(root().join("docs").join(name)).expect("a document"))
+        .collect()
 }
 
-/// Does another file import the name of a module and use it?
-fn used_elsewhere(file: &File, name: &str, others: &[File]) -> bool {
-    let Some(module) = file.source.module() else {
-        return others
-            .iter()
-            .any(|other| other.source.is_code() && other.uses.names(name, &other.declared, None));
-    };
-    others.iter().any(|other| {
-        !std::ptr::eq(other, file)
-            && other.imported.iter().any(|import| {
-                import.crate_name.as_deref() == Some(&file.source.crate_name)
-                    && import.module == module
-                    && import.takes(name)
-            })
-            && other.uses.names(name, &other.declared, None)
+fn made(crate_name: &str, place: &str, text: &str) -> File {
+    File::of(Source {
+        path: PathBuf::from(format!("{crate_name}/{place}")),
+        crate_name: crate_name.to_string(),
+        place: place.to_string(),
+        text: text.to_string(),
     })
 }
 
 #[test]
 fn every_law_definition_and_function_is_used() {
-    let all = files();
-    let said = documents();
-    let mut unused = Vec::new();
-    for file in all.iter().filter(|file| !file.source.is_answer()) {
-        for (number, one) in file.declared.iter().enumerate() {
-            let exported = one.name == "main" || said.contains(&format!("`{}`", one.name));
-            let within = file.uses.names(&one.name, &file.declared, Some(number));
-            if exported
-                || one.name == "opened"
-                || within
-                || (one.public && used_elsewhere(file, &one.name, &all))
-            {
-                continue;
-            }
-            unused.push(format!(
-                "{}:{}: {}",
-                file.source.path.display(),
-                one.first + 1,
-                one.name
-            ));
-        }
-    }
+    let unused = unused_declarations(&files(), &documents());
     assert!(unused.is_empty(), "nobody uses\n{}", unused.join("\n"));
 }
 
 #[test]
 fn every_import_is_used() {
-    let mut unused = Vec::new();
-    for file in files() {
-        for import in &file.imported {
-            for (_, name) in import.names.iter().flatten() {
-                let used = name == "[]" && file.source.text.contains("[]")
-                    || file.uses.names(name, &[], None);
-                if !used {
-                    unused.push(format!(
-                        "{}: {name} of {}",
-                        file.source.path.display(),
-                        import.module
-                    ));
-                }
-            }
-        }
-    }
+    let unused = unused_imports(&files());
     assert!(
         unused.is_empty(),
         "imported and not used\n{}",
         unused.join("\n")
     );
+}
+
+#[test]
+fn a_law_that_only_cites_itself_is_found() {
+    let laws = "-- laws\npub kept : A\nkept = refl\n\npub lost : A → A\nlost (suc n) = lost n\n";
+    let cites = "-- more\nuse Rattle.one.proofs.Laws.{kept, lost}\n\npub done : A\ndone = kept\n";
+    let files = [
+        made("one", "proofs/Laws.antt", laws),
+        made("two", "proofs/More.antt", cites),
+    ];
+    assert_eq!(
+        unused_declarations(&files, "`done`"),
+        ["one/proofs/Laws.antt:5: lost"]
+    );
+    assert_eq!(
+        unused_imports(&files),
+        ["two/proofs/More.antt: lost of proofs.Laws"]
+    );
+}
+
+#[test]
+fn a_name_of_another_module_is_no_use() {
+    let laws = "-- laws\npub same : A\nsame = refl\n";
+    let other = "-- more\nuse lib.Seq.{same}\n\npub done : A\ndone = same\n";
+    let files = [
+        made("one", "proofs/Laws.antt", laws),
+        made("two", "proofs/More.antt", other),
+    ];
+    assert_eq!(
+        unused_declarations(&files, "`done`"),
+        ["one/proofs/Laws.antt:2: same"]
+    );
+}
+
+#[test]
+fn a_function_that_nobody_calls_is_found() {
+    let code =
+        "// code\npub fn used(x: u8) -> u8 {\n    x\n}\n\nfn left(x: u8) -> u8 {\n    used(x)\n}\n";
+    let files = [made("one", "src/lib.rt", code)];
+    assert_eq!(unused_declarations(&files, ""), ["one/src/lib.rt:6: left"]);
 }

@@ -1,7 +1,7 @@
 use Prim.Native.Nat.{_-_}
 use Rattle.checker.proofs.Blocks.{goes-on, Going, begin, ends, step-stops, step-on, if-stops, deep, turn-stops, turn-nests, join-stops, join-on, far-on, below-15}
 use Rattle.tables.proofs.Statements.{if-means}
-use Rattle.known.specs.States.{stateOf}
+use Rattle.check_state.specs.States.{stateOf}
 use Rattle.tables.specs.Decode.{rowCount}
 use borrow.Author.Needs.{needs}
 use mathlib.Core.Path.{refl, sym, _∙_}
@@ -84,7 +84,9 @@ block-kind-at-requires-2 : (t : ℕ) → block-lts.Need-kind-at-requires-2 (
   statement-reads.Learnt,
 ) (block-at t) block.Post block-Inv-loop block-μ-loop
 block-kind-at-requires-2 t c κs =
-    (c .before .before .before .before .pre .1 .0 .size, omega (arith, c .before .before .before .before .pre .1 .0 .rows, c .before .before .loop .inv .within))
+    let start = c .before .before .before .before in
+    let at-loop = c .before .before .loop in
+    (start .pre .1 .0 .size, omega (arith, start .pre .1 .0 .rows, at-loop .inv .within))
 
 block-if-at-requires : (t : ℕ) → block-lts.Need-if-at-requires (
   kind-at-reads.Asked,
@@ -101,7 +103,11 @@ block-if-at-requires : (t : ℕ) → block-lts.Need-if-at-requires (
   statement-reads.Learnt,
 ) (block-at t) block.Post block-Inv-loop block-μ-loop
 block-if-at-requires t c κs =
-    (c .before .before .before .before .before .before .before .before .before .before .before .before .pre .1 .0, c .before .before .before .before .before .before .before .before .before .before .loop .inv .within, (sym (c .before .before .before .before .before .before .before .kind-at2 .ensures .0) ∙ c .before .before .before .before .before .before .if2 .taken), c .before .before .before .before .before .before .before .before .before .before .loop .inv .wf, refl, refl)
+    let start = c .before .before .before .before .before .before .before .before .before .before .before .before in
+    let at-loop = c .before .before .before .before .before .before .before .before .before .before .loop in
+    let at-kind-at2 = c .before .before .before .before .before .before .before .kind-at2 in
+    let at-if2 = c .before .before .before .before .before .before .if2 in
+    (start .pre .1 .0, at-loop .inv .within, (sym (at-kind-at2 .ensures .0) ∙ at-if2 .taken), at-loop .inv .wf, refl, refl)
 
 block-enum-told : (t : ℕ) → block-lts.Need-enum-told (
   kind-at-reads.Asked,
@@ -135,7 +141,13 @@ block-returns : (t : ℕ) → block-lts.Need-returns (
   statement-reads.Learnt,
 ) (block-at t) block.Post block-Inv-loop block-μ-loop
 block-returns t c =
-    if-stops (c .before .before .before .before .before .before .before .before .before .before .before .before .before .before .args .w .now) (c .before .before .before .before .before .before .before .before .before .before .before .before .before .before .pre .1 .0) (c .before .before .before .before .before .before .before .before .before .before .before .before .before .before .args .depth) (c .before .before .before .before .before .before .before .before .before .before .before .before .before .before .args .from) (c .before .before .before .before .before .before .before .before .before .before .before .before .before .before .pre .1 .1) (stateOf (c .before .before .before .before .before .before .before .before .before .before .before .before .before .before .args .key .now) (c .before .before .before .before .before .before .before .before .before .before .before .before .before .before .args .b .now)) (c .before .before .before .before .before .before .before .before .before .before .before .before .loop .at) (c .before .before .before .before .before .before .before .before .before .before .before .before .loop .key) (c .before .before .before .before .before .before .before .before .before .before .before .before .loop .b) (c .before .before .before .before .before .before .before .before .before .before .before .before .loop .inv) _ _ _ (if-means _ _ (sym (c .before .before .before .before .before .before .before .before .before .kind-at2 .ensures .0) ∙ c .before .before .before .before .before .before .before .before .if2 .taken)) (c .before .if-at .result) _ _ _ _ (c .before .if-at .ensures) (c .match .keys2)
+    let start = c .before .before .before .before .before .before .before .before .before .before .before .before .before .before in
+    let at-loop = c .before .before .before .before .before .before .before .before .before .before .before .before .loop in
+    let at-kind-at2 = c .before .before .before .before .before .before .before .before .before .kind-at2 in
+    let at-if2 = c .before .before .before .before .before .before .before .before .if2 in
+    if-stops (start .args .w .now) (start .pre .1 .0) (start .args .depth) (start .args .from) (start .pre .1 .1) (stateOf (start .args .key .now)
+    (start .args .b .now)) (at-loop .at) (at-loop .key) (at-loop .b) (at-loop .inv) _ _ _ (if-means _ _ (sym (at-kind-at2 .ensures .0) ∙ at-if2
+    .taken)) (c .before .if-at .result) _ _ _ _ (c .before .if-at .ensures) (c .match .keys2)
 
 block-sub-block : (t : ℕ) → block-lts.Need-sub-block (
   kind-at-reads.Asked,
@@ -152,7 +164,15 @@ block-sub-block : (t : ℕ) → block-lts.Need-sub-block (
   statement-reads.Learnt,
 ) (block-at t) block.Post block-Inv-loop block-μ-loop
 block-sub-block t c =
-    let d = deep (c .before .before .before .before .before .before .before .before .before .before .before .before .before .before .before .args .w .now) (c .before .before .before .before .before .before .before .before .before .before .before .before .before .before .before .pre .1 .0) (c .before .before .before .before .before .before .before .before .before .before .before .before .before .before .before .args .depth) (c .before .before .before .before .before .before .before .before .before .before .before .before .before .before .before .args .from) (c .before .before .before .before .before .before .before .before .before .before .before .before .before .before .before .pre .1 .1) (stateOf (c .before .before .before .before .before .before .before .before .before .before .before .before .before .before .before .args .key .now) (c .before .before .before .before .before .before .before .before .before .before .before .before .before .before .before .args .b .now)) (c .before .before .before .before .before .before .before .before .before .before .before .before .before .loop .at) (c .before .before .before .before .before .before .before .before .before .before .before .before .before .loop .key) (c .before .before .before .before .before .before .before .before .before .before .before .before .before .loop .b) (c .before .before .before .before .before .before .before .before .before .before .before .before .before .loop .inv) _ _ _ (if-means _ _ (sym (c .before .before .before .before .before .before .before .before .before .before .kind-at2 .ensures .0) ∙ c .before .before .before .before .before .before .before .before .before .if2 .taken)) (c .before .before .if-at .result) _ _ _ _ (c .before .before .if-at .ensures) .0 in omega arith
+    let start = c .before .before .before .before .before .before .before .before .before .before .before .before .before .before .before in
+    let at-loop = c .before .before .before .before .before .before .before .before .before .before .before .before .before .loop in
+    let at-kind-at2 = c .before .before .before .before .before .before .before .before .before .before .kind-at2 in
+    let at-if2 = c .before .before .before .before .before .before .before .before .before .if2 in
+    let at-if-at = c .before .before .if-at in
+    let d = deep (start .args .w .now) (start .pre .1 .0) (start .args .depth) (start .args .from) (start .pre .1 .1) (stateOf (start .args .key .now)
+    (start .args .b .now)) (at-loop .at) (at-loop .key) (at-loop .b) (at-loop .inv) _ _ _ (if-means _ _ (sym (at-kind-at2 .ensures .0) ∙ at-if2
+    .taken)) (at-if-at .result) _ _ _ _ (at-if-at .ensures) .0 in
+    omega arith
 
 block-add-block : (t : ℕ) → block-lts.Need-add-block (
   kind-at-reads.Asked,
@@ -169,7 +189,9 @@ block-add-block : (t : ℕ) → block-lts.Need-add-block (
   statement-reads.Learnt,
 ) (block-at t) block.Post block-Inv-loop block-μ-loop
 block-add-block t c =
-    omega (arith, c .before .before .before .before .before .before .before .before .before .before .before .before .before .loop .inv .within, c .before .before .before .before .before .before .before .before .before .before .before .before .before .before .before .pre .1 .0 .rows)
+    let start = c .before .before .before .before .before .before .before .before .before .before .before .before .before .before .before in
+    let at-loop = c .before .before .before .before .before .before .before .before .before .before .before .before .before .loop in
+    omega (arith, at-loop .inv .within, start .pre .1 .0 .rows)
 
 block-block-requires : (t : ℕ) → block-lts.Need-block-requires (
   kind-at-reads.Asked,
@@ -186,7 +208,26 @@ block-block-requires : (t : ℕ) → block-lts.Need-block-requires (
   statement-reads.Learnt,
 ) (block-at t) block.Post block-Inv-loop block-μ-loop
 block-block-requires t c κs =
-    let d = deep (c .before .before .before .before .before .before .before .before .before .before .before .before .before .before .before .before .before .args .w .now) (c .before .before .before .before .before .before .before .before .before .before .before .before .before .before .before .before .before .pre .1 .0) (c .before .before .before .before .before .before .before .before .before .before .before .before .before .before .before .before .before .args .depth) (c .before .before .before .before .before .before .before .before .before .before .before .before .before .before .before .before .before .args .from) (c .before .before .before .before .before .before .before .before .before .before .before .before .before .before .before .before .before .pre .1 .1) (stateOf (c .before .before .before .before .before .before .before .before .before .before .before .before .before .before .before .before .before .args .key .now) (c .before .before .before .before .before .before .before .before .before .before .before .before .before .before .before .before .before .args .b .now)) (c .before .before .before .before .before .before .before .before .before .before .before .before .before .before .before .loop .at) (c .before .before .before .before .before .before .before .before .before .before .before .before .before .before .before .loop .key) (c .before .before .before .before .before .before .before .before .before .before .before .before .before .before .before .loop .b) (c .before .before .before .before .before .before .before .before .before .before .before .before .before .before .before .loop .inv) _ _ _ (if-means _ _ (sym (c .before .before .before .before .before .before .before .before .before .before .before .before .kind-at2 .ensures .0) ∙ c .before .before .before .before .before .before .before .before .before .before .before .if2 .taken)) (c .before .before .before .before .if-at .result) _ _ _ _ (c .before .before .before .before .if-at .ensures) in let h = d .0 in let k = (sym (c .before .before .before .before .before .before .before .before .before .before .before .before .kind-at2 .ensures .0) ∙ c .before .before .before .before .before .before .before .before .before .before .before .if2 .taken) in (omega (arith, c .before .before .before .before .before .before .before .before .before .before .before .before .before .before .before .before .before .pre .0), (c .before .before .before .before .before .before .before .before .before .before .before .before .before .before .before .before .before .pre .1 .0, omega (arith, c .before .before .before .before .before .before .before .before .before .before .before .before .before .before .before .before .before .pre .1 .1), goes-on _ (c .before .before .before .before .before .before .before .before .before .before .before .before .before .before .before .before .before .pre .1 .0) _ (c .before .before .before .before .before .before .before .before .before .before .before .before .before .before .before .loop .inv .within) (omega arith), d .1, c .before .before .before .before .if-at .ensures .first))
+    let start = c .before .before .before .before .before .before .before .before .before .before .before .before .before .before .before .before .before in
+    let at-loop = c .before .before .before .before .before .before .before .before .before .before .before .before .before .before .before .loop in
+    let at-kind-at2 = c .before .before .before .before .before .before .before .before .before .before .before .before .kind-at2 in
+    let at-if2 = c .before .before .before .before .before .before .before .before .before .before .before .if2 in
+    let at-if-at = c .before .before .before .before .if-at in
+    let d = deep (start .args .w .now) (start .pre .1 .0) (start .args .depth) (start .args .from) (start .pre .1 .1) (stateOf (start .args .key .now)
+    (start .args .b .now)) (at-loop .at) (at-loop .key) (at-loop .b) (at-loop .inv) _ _ _ (if-means _ _ (sym (at-kind-at2 .ensures .0) ∙ at-if2
+    .taken)) (at-if-at .result) _ _ _ _ (at-if-at .ensures) in
+    let h = d .0 in
+    let k = (sym (at-kind-at2 .ensures .0) ∙ at-if2 .taken) in (
+      omega (arith, start .pre .0),
+      (
+        start .pre .1 .0,
+        omega (arith, start .pre .1 .1),
+        goes-on _ (start .pre .1 .0) _ (at-loop .inv .within) (omega
+            arith),
+        d .1,
+        at-if-at .ensures .first,
+      ),
+    )
 
 block-turned-requires : (t : ℕ) → block-lts.Need-turned-requires (
   kind-at-reads.Asked,
@@ -203,7 +244,8 @@ block-turned-requires : (t : ℕ) → block-lts.Need-turned-requires (
   statement-reads.Learnt,
 ) (block-at t) block.Post block-Inv-loop block-μ-loop
 block-turned-requires t c κs =
-    (c .before .before .before .before .before .before .before .before .before .before .before .before .before .before .before .before .before .before .pre .1 .0, record { within = c .block .ensures .within; closes = c .block .ensures .closes })
+    let start = c .before .before .before .before .before .before .before .before .before .before .before .before .before .before .before .before .before .before in
+    (start .pre .1 .0, record { within = c .block .ensures .within; closes = c .block .ensures .closes })
 
 block-enum-told-2 : (t : ℕ) → block-lts.Need-enum-told-2 (
   kind-at-reads.Asked,
@@ -237,7 +279,17 @@ block-returns-2 : (t : ℕ) → block-lts.Need-returns-2 (
   statement-reads.Learnt,
 ) (block-at t) block.Post block-Inv-loop block-μ-loop
 block-returns-2 t c =
-    turn-stops (c .before .before .before .before .before .before .before .before .before .before .before .before .before .before .before .before .before .before .before .before .args .w .now) (c .before .before .before .before .before .before .before .before .before .before .before .before .before .before .before .before .before .before .before .before .pre .1 .0) (c .before .before .before .before .before .before .before .before .before .before .before .before .before .before .before .before .before .before .before .before .args .depth) (c .before .before .before .before .before .before .before .before .before .before .before .before .before .before .before .before .before .before .before .before .args .from) (c .before .before .before .before .before .before .before .before .before .before .before .before .before .before .before .before .before .before .before .before .pre .1 .1) (stateOf (c .before .before .before .before .before .before .before .before .before .before .before .before .before .before .before .before .before .before .before .before .args .key .now) (c .before .before .before .before .before .before .before .before .before .before .before .before .before .before .before .before .before .before .before .before .args .b .now)) (c .before .before .before .before .before .before .before .before .before .before .before .before .before .before .before .before .before .before .loop .at) (c .before .before .before .before .before .before .before .before .before .before .before .before .before .before .before .before .before .before .loop .key) (c .before .before .before .before .before .before .before .before .before .before .before .before .before .before .before .before .before .before .loop .b) (c .before .before .before .before .before .before .before .before .before .before .before .before .before .before .before .before .before .before .loop .inv) _ _ _ (if-means _ _ (sym (c .before .before .before .before .before .before .before .before .before .before .before .before .before .before .before .kind-at2 .ensures .0) ∙ c .before .before .before .before .before .before .before .before .before .before .before .before .before .before .if2 .taken)) (c .before .before .before .before .before .before .before .if-at .result) _ _ _ _ (c .before .before .before .before .before .before .before .if-at .ensures) (sym (c .before .before .before .before .before .before .before .before .before .before .before .before .before .before .before .kind-at2 .ensures .0) ∙ c .before .before .before .before .before .before .before .before .before .before .before .before .before .before .if2 .taken) (c .before .before .before .before .before .enum-told .given .1) (c .before .before .block .result) (c .before .turned .result) _ _ (c .before .before .block .ensures) (c .before .turned .ensures) (c .match2 .keys2)
+    let start = c .before .before .before .before .before .before .before .before .before .before .before .before .before .before .before .before .before .before .before .before in
+    let at-loop = c .before .before .before .before .before .before .before .before .before .before .before .before .before .before .before .before .before .before .loop in
+    let at-kind-at2 = c .before .before .before .before .before .before .before .before .before .before .before .before .before .before .before .kind-at2 in
+    let at-if2 = c .before .before .before .before .before .before .before .before .before .before .before .before .before .before .if2 in
+    let at-if-at = c .before .before .before .before .before .before .before .if-at in
+    let at-enum-told = c .before .before .before .before .before .enum-told in
+    let at-block = c .before .before .block in
+    turn-stops (start .args .w .now) (start .pre .1 .0) (start .args .depth) (start .args .from) (start .pre .1 .1) (stateOf (start .args .key .now)
+    (start .args .b .now)) (at-loop .at) (at-loop .key) (at-loop .b) (at-loop .inv) _ _ _ (if-means _ _ (sym (at-kind-at2 .ensures .0) ∙ at-if2
+    .taken)) (at-if-at .result) _ _ _ _ (at-if-at .ensures) (sym (at-kind-at2 .ensures .0) ∙ at-if2 .taken) (at-enum-told .given .1) (at-block
+    .result) (c .before .turned .result) _ _ (at-block .ensures) (c .before .turned .ensures) (c .match2 .keys2)
 
 block-sub-block-2 : (t : ℕ) → block-lts.Need-sub-block-2 (
   kind-at-reads.Asked,
@@ -254,7 +306,15 @@ block-sub-block-2 : (t : ℕ) → block-lts.Need-sub-block-2 (
   statement-reads.Learnt,
 ) (block-at t) block.Post block-Inv-loop block-μ-loop
 block-sub-block-2 t c =
-    let d = deep (c .before .before .before .before .before .before .before .before .before .before .before .before .before .before .before .before .before .before .before .before .before .args .w .now) (c .before .before .before .before .before .before .before .before .before .before .before .before .before .before .before .before .before .before .before .before .before .pre .1 .0) (c .before .before .before .before .before .before .before .before .before .before .before .before .before .before .before .before .before .before .before .before .before .args .depth) (c .before .before .before .before .before .before .before .before .before .before .before .before .before .before .before .before .before .before .before .before .before .args .from) (c .before .before .before .before .before .before .before .before .before .before .before .before .before .before .before .before .before .before .before .before .before .pre .1 .1) (stateOf (c .before .before .before .before .before .before .before .before .before .before .before .before .before .before .before .before .before .before .before .before .before .args .key .now) (c .before .before .before .before .before .before .before .before .before .before .before .before .before .before .before .before .before .before .before .before .before .args .b .now)) (c .before .before .before .before .before .before .before .before .before .before .before .before .before .before .before .before .before .before .before .loop .at) (c .before .before .before .before .before .before .before .before .before .before .before .before .before .before .before .before .before .before .before .loop .key) (c .before .before .before .before .before .before .before .before .before .before .before .before .before .before .before .before .before .before .before .loop .b) (c .before .before .before .before .before .before .before .before .before .before .before .before .before .before .before .before .before .before .before .loop .inv) _ _ _ (if-means _ _ (sym (c .before .before .before .before .before .before .before .before .before .before .before .before .before .before .before .before .kind-at2 .ensures .0) ∙ c .before .before .before .before .before .before .before .before .before .before .before .before .before .before .before .if2 .taken)) (c .before .before .before .before .before .before .before .before .if-at .result) _ _ _ _ (c .before .before .before .before .before .before .before .before .if-at .ensures) .0 in omega arith
+    let start = c .before .before .before .before .before .before .before .before .before .before .before .before .before .before .before .before .before .before .before .before .before in
+    let at-loop = c .before .before .before .before .before .before .before .before .before .before .before .before .before .before .before .before .before .before .before .loop in
+    let at-kind-at2 = c .before .before .before .before .before .before .before .before .before .before .before .before .before .before .before .before .kind-at2 in
+    let at-if2 = c .before .before .before .before .before .before .before .before .before .before .before .before .before .before .before .if2 in
+    let at-if-at = c .before .before .before .before .before .before .before .before .if-at in
+    let d = deep (start .args .w .now) (start .pre .1 .0) (start .args .depth) (start .args .from) (start .pre .1 .1) (stateOf (start .args .key .now)
+    (start .args .b .now)) (at-loop .at) (at-loop .key) (at-loop .b) (at-loop .inv) _ _ _ (if-means _ _ (sym (at-kind-at2 .ensures .0) ∙ at-if2
+    .taken)) (at-if-at .result) _ _ _ _ (at-if-at .ensures) .0 in
+    omega arith
 
 block-add-block-2 : (t : ℕ) → block-lts.Need-add-block-2 (
   kind-at-reads.Asked,
@@ -271,7 +331,10 @@ block-add-block-2 : (t : ℕ) → block-lts.Need-add-block-2 (
   statement-reads.Learnt,
 ) (block-at t) block.Post block-Inv-loop block-μ-loop
 block-add-block-2 t c =
-    omega (arith, c .before .before .before .turned .ensures .place, c .before .before .before .before .block .ensures .within, c .before .before .before .before .before .before .before .before .before .before .before .before .before .before .before .before .before .before .before .before .before .before .pre .1 .0 .rows)
+    let start = c .before .before .before .before .before .before .before .before .before .before .before .before .before .before .before .before .before .before .before .before .before .before in
+    let at-block = c .before .before .before .before .block in
+    let at-turned = c .before .before .before .turned in
+    omega (arith, at-turned .ensures .place, at-block .ensures .within, start .pre .1 .0 .rows)
 
 block-block-requires-2 : (t : ℕ) → block-lts.Need-block-requires-2 (
   kind-at-reads.Asked,
@@ -288,7 +351,32 @@ block-block-requires-2 : (t : ℕ) → block-lts.Need-block-requires-2 (
   statement-reads.Learnt,
 ) (block-at t) block.Post block-Inv-loop block-μ-loop
 block-block-requires-2 t c κs =
-    let d = deep (c .before .before .before .before .before .before .before .before .before .before .before .before .before .before .before .before .before .before .before .before .before .before .before .before .args .w .now) (c .before .before .before .before .before .before .before .before .before .before .before .before .before .before .before .before .before .before .before .before .before .before .before .before .pre .1 .0) (c .before .before .before .before .before .before .before .before .before .before .before .before .before .before .before .before .before .before .before .before .before .before .before .before .args .depth) (c .before .before .before .before .before .before .before .before .before .before .before .before .before .before .before .before .before .before .before .before .before .before .before .before .args .from) (c .before .before .before .before .before .before .before .before .before .before .before .before .before .before .before .before .before .before .before .before .before .before .before .before .pre .1 .1) (stateOf (c .before .before .before .before .before .before .before .before .before .before .before .before .before .before .before .before .before .before .before .before .before .before .before .before .args .key .now) (c .before .before .before .before .before .before .before .before .before .before .before .before .before .before .before .before .before .before .before .before .before .before .before .before .args .b .now)) (c .before .before .before .before .before .before .before .before .before .before .before .before .before .before .before .before .before .before .before .before .before .before .loop .at) (c .before .before .before .before .before .before .before .before .before .before .before .before .before .before .before .before .before .before .before .before .before .before .loop .key) (c .before .before .before .before .before .before .before .before .before .before .before .before .before .before .before .before .before .before .before .before .before .before .loop .b) (c .before .before .before .before .before .before .before .before .before .before .before .before .before .before .before .before .before .before .before .before .before .before .loop .inv) _ _ _ (if-means _ _ (sym (c .before .before .before .before .before .before .before .before .before .before .before .before .before .before .before .before .before .before .before .kind-at2 .ensures .0) ∙ c .before .before .before .before .before .before .before .before .before .before .before .before .before .before .before .before .before .before .if2 .taken)) (c .before .before .before .before .before .before .before .before .before .before .before .if-at .result) _ _ _ _ (c .before .before .before .before .before .before .before .before .before .before .before .if-at .ensures) in let h = d .0 in (omega (arith, c .before .before .before .before .before .before .before .before .before .before .before .before .before .before .before .before .before .before .before .before .before .before .before .before .pre .0), (c .before .before .before .before .before .before .before .before .before .before .before .before .before .before .before .before .before .before .before .before .before .before .before .before .pre .1 .0, omega (arith, c .before .before .before .before .before .before .before .before .before .before .before .before .before .before .before .before .before .before .before .before .before .before .before .before .pre .1 .1), c .before .before .before .before .before .turned .ensures .next (c .before .before .before .enum-told2 .given .1), turn-nests (c .before .before .before .before .before .before .before .before .before .before .before .before .before .before .before .before .before .before .before .before .before .before .before .before .args .w .now) (c .before .before .before .before .before .before .before .before .before .before .before .before .before .before .before .before .before .before .before .before .before .before .before .before .pre .1 .0) (c .before .before .before .before .before .before .before .before .before .before .before .before .before .before .before .before .before .before .before .before .before .before .before .before .args .depth) (c .before .before .before .before .before .before .before .before .before .before .before .before .before .before .before .before .before .before .before .before .before .before .before .before .args .from) (c .before .before .before .before .before .before .before .before .before .before .before .before .before .before .before .before .before .before .before .before .before .before .before .before .pre .1 .1) (stateOf (c .before .before .before .before .before .before .before .before .before .before .before .before .before .before .before .before .before .before .before .before .before .before .before .before .args .key .now) (c .before .before .before .before .before .before .before .before .before .before .before .before .before .before .before .before .before .before .before .before .before .before .before .before .args .b .now)) (c .before .before .before .before .before .before .before .before .before .before .before .before .before .before .before .before .before .before .before .before .before .before .loop .at) (c .before .before .before .before .before .before .before .before .before .before .before .before .before .before .before .before .before .before .before .before .before .before .loop .key) (c .before .before .before .before .before .before .before .before .before .before .before .before .before .before .before .before .before .before .before .before .before .before .loop .b) (c .before .before .before .before .before .before .before .before .before .before .before .before .before .before .before .before .before .before .before .before .before .before .loop .inv) _ _ _ (if-means _ _ (sym (c .before .before .before .before .before .before .before .before .before .before .before .before .before .before .before .before .before .before .before .kind-at2 .ensures .0) ∙ c .before .before .before .before .before .before .before .before .before .before .before .before .before .before .before .before .before .before .if2 .taken)) (c .before .before .before .before .before .before .before .before .before .before .before .if-at .result) _ _ _ _ (c .before .before .before .before .before .before .before .before .before .before .before .if-at .ensures) (sym (c .before .before .before .before .before .before .before .before .before .before .before .before .before .before .before .before .before .before .before .kind-at2 .ensures .0) ∙ c .before .before .before .before .before .before .before .before .before .before .before .before .before .before .before .before .before .before .if2 .taken) (c .before .before .before .before .before .before .before .before .before .enum-told .given .1) (c .before .before .before .before .before .before .block .result) (c .before .before .before .before .before .turned .result) _ _ (c .before .before .before .before .before .before .block .ensures) (c .before .before .before .before .before .turned .ensures) (c .before .before .before .enum-told2 .given .1), c .before .before .before .before .before .before .before .before .before .before .before .if-at .ensures .second))
+    let start = c .before .before .before .before .before .before .before .before .before .before .before .before .before .before .before .before .before .before .before .before .before .before .before .before in
+    let at-loop = c .before .before .before .before .before .before .before .before .before .before .before .before .before .before .before .before .before .before .before .before .before .before .loop in
+    let at-kind-at2 = c .before .before .before .before .before .before .before .before .before .before .before .before .before .before .before .before .before .before .before .kind-at2 in
+    let at-if2 = c .before .before .before .before .before .before .before .before .before .before .before .before .before .before .before .before .before .before .if2 in
+    let at-if-at = c .before .before .before .before .before .before .before .before .before .before .before .if-at in
+    let at-enum-told = c .before .before .before .before .before .before .before .before .before .enum-told in
+    let at-block = c .before .before .before .before .before .before .block in
+    let at-turned = c .before .before .before .before .before .turned in
+    let at-enum-told2 = c .before .before .before .enum-told2 in
+    let d = deep (start .args .w .now) (start .pre .1 .0) (start .args .depth) (start .args .from) (start .pre .1 .1) (stateOf (start .args .key .now)
+    (start .args .b .now)) (at-loop .at) (at-loop .key) (at-loop .b) (at-loop .inv) _ _ _ (if-means _ _ (sym (at-kind-at2 .ensures .0) ∙ at-if2
+    .taken)) (at-if-at .result) _ _ _ _ (at-if-at .ensures) in
+    let h = d .0 in (
+      omega (arith, start .pre .0),
+      (
+        start .pre .1 .0,
+        omega (arith, start .pre .1 .1),
+        at-turned .ensures .next (at-enum-told2 .given .1),
+        turn-nests
+            (start .args .w .now) (start .pre .1 .0) (start .args .depth) (start .args .from) (start .pre .1 .1) (stateOf (start .args .key .now) (start .args
+            .b .now)) (at-loop .at) (at-loop .key) (at-loop .b) (at-loop .inv) _ _ _ (if-means _ _ (sym (at-kind-at2 .ensures .0) ∙ at-if2 .taken)) (at-if-at
+            .result) _ _ _ _ (at-if-at .ensures) (sym (at-kind-at2 .ensures .0) ∙ at-if2 .taken) (at-enum-told .given .1) (at-block .result) (at-turned
+            .result) _ _ (at-block .ensures) (at-turned .ensures) (at-enum-told2 .given .1),
+        at-if-at .ensures .second,
+      ),
+    )
 
 block-joined-requires : (t : ℕ) → block-lts.Need-joined-requires (
   kind-at-reads.Asked,
@@ -305,7 +393,11 @@ block-joined-requires : (t : ℕ) → block-lts.Need-joined-requires (
   statement-reads.Learnt,
 ) (block-at t) block.Post block-Inv-loop block-μ-loop
 block-joined-requires t c κs =
-    (c .before .before .before .before .before .before .before .before .before .before .before .before .before .before .before .before .before .before .before .before .before .before .before .before .before .before .before .before .before .pre .1 .0, record { within = c .before .before .before .before .block2 .ensures .within; closes = c .before .before .before .before .block2 .ensures .closes }, c .before .before .before .before .before .before .before .before .before .before .before .block .ensures .wf, c .before .before .before .before .block2 .ensures .wf)
+    let start = c .before .before .before .before .before .before .before .before .before .before .before .before .before .before .before .before
+    .before .before .before .before .before .before .before .before .before .before .before .before .before in
+    let at-block = c .before .before .before .before .before .before .before .before .before .before .before .block in
+    let at-block2 = c .before .before .before .before .block2 in
+    (start .pre .1 .0, record { within = at-block2 .ensures .within; closes = at-block2 .ensures .closes }, at-block .ensures .wf, at-block2 .ensures .wf)
 
 block-enum-told-3 : (t : ℕ) → block-lts.Need-enum-told-3 (
   kind-at-reads.Asked,
@@ -339,7 +431,23 @@ block-returns-3 : (t : ℕ) → block-lts.Need-returns-3 (
   statement-reads.Learnt,
 ) (block-at t) block.Post block-Inv-loop block-μ-loop
 block-returns-3 t c =
-    join-stops (c .before .before .before .before .before .before .before .before .before .before .before .before .before .before .before .before .before .before .before .before .before .before .before .before .before .before .before .before .before .before .before .args .w .now) (c .before .before .before .before .before .before .before .before .before .before .before .before .before .before .before .before .before .before .before .before .before .before .before .before .before .before .before .before .before .before .before .pre .1 .0) (c .before .before .before .before .before .before .before .before .before .before .before .before .before .before .before .before .before .before .before .before .before .before .before .before .before .before .before .before .before .before .before .args .depth) (c .before .before .before .before .before .before .before .before .before .before .before .before .before .before .before .before .before .before .before .before .before .before .before .before .before .before .before .before .before .before .before .args .from) (c .before .before .before .before .before .before .before .before .before .before .before .before .before .before .before .before .before .before .before .before .before .before .before .before .before .before .before .before .before .before .before .pre .1 .1) (stateOf (c .before .before .before .before .before .before .before .before .before .before .before .before .before .before .before .before .before .before .before .before .before .before .before .before .before .before .before .before .before .before .before .args .key .now) (c .before .before .before .before .before .before .before .before .before .before .before .before .before .before .before .before .before .before .before .before .before .before .before .before .before .before .before .before .before .before .before .args .b .now)) (c .before .before .before .before .before .before .before .before .before .before .before .before .before .before .before .before .before .before .before .before .before .before .before .before .before .before .before .before .before .loop .at) (c .before .before .before .before .before .before .before .before .before .before .before .before .before .before .before .before .before .before .before .before .before .before .before .before .before .before .before .before .before .loop .key) (c .before .before .before .before .before .before .before .before .before .before .before .before .before .before .before .before .before .before .before .before .before .before .before .before .before .before .before .before .before .loop .b) (c .before .before .before .before .before .before .before .before .before .before .before .before .before .before .before .before .before .before .before .before .before .before .before .before .before .before .before .before .before .loop .inv) _ _ _ (if-means _ _ (sym (c .before .before .before .before .before .before .before .before .before .before .before .before .before .before .before .before .before .before .before .before .before .before .before .before .before .before .kind-at2 .ensures .0) ∙ c .before .before .before .before .before .before .before .before .before .before .before .before .before .before .before .before .before .before .before .before .before .before .before .before .before .if2 .taken)) (c .before .before .before .before .before .before .before .before .before .before .before .before .before .before .before .before .before .before .if-at .result) _ _ _ _ (c .before .before .before .before .before .before .before .before .before .before .before .before .before .before .before .before .before .before .if-at .ensures) (sym (c .before .before .before .before .before .before .before .before .before .before .before .before .before .before .before .before .before .before .before .before .before .before .before .before .before .before .kind-at2 .ensures .0) ∙ c .before .before .before .before .before .before .before .before .before .before .before .before .before .before .before .before .before .before .before .before .before .before .before .before .before .if2 .taken) (c .before .before .before .before .before .before .before .before .before .before .before .before .before .before .before .before .enum-told .given .1) (c .before .before .before .before .before .before .before .before .before .before .before .before .before .block .result) (c .before .before .before .before .before .before .before .before .before .before .before .before .turned .result) _ _ (c .before .before .before .before .before .before .before .before .before .before .before .before .before .block .ensures) (c .before .before .before .before .before .before .before .before .before .before .before .before .turned .ensures) (c .before .before .before .before .before .before .before .before .before .before .enum-told2 .given .1) (c .before .before .before .before .before .before .block2 .result) (c .before .joined .result) _ _ _ _ (c .before .before .before .before .before .before .block2 .ensures) (c .before .joined .ensures) (c .match3 .keys2)
+    let start = c .before .before .before .before .before .before .before .before .before .before .before .before .before .before .before .before
+    .before .before .before .before .before .before .before .before .before .before .before .before .before .before .before in
+    let at-loop = c .before .before .before .before .before .before .before .before .before .before .before .before .before .before .before .before
+    .before .before .before .before .before .before .before .before .before .before .before .before .before .loop in
+    let at-kind-at2 = c .before .before .before .before .before .before .before .before .before .before .before .before .before .before .before .before .before .before .before .before .before .before .before .before .before .before .kind-at2 in
+    let at-if2 = c .before .before .before .before .before .before .before .before .before .before .before .before .before .before .before .before .before .before .before .before .before .before .before .before .before .if2 in
+    let at-if-at = c .before .before .before .before .before .before .before .before .before .before .before .before .before .before .before .before .before .before .if-at in
+    let at-enum-told = c .before .before .before .before .before .before .before .before .before .before .before .before .before .before .before .before .enum-told in
+    let at-block = c .before .before .before .before .before .before .before .before .before .before .before .before .before .block in
+    let at-turned = c .before .before .before .before .before .before .before .before .before .before .before .before .turned in
+    let at-enum-told2 = c .before .before .before .before .before .before .before .before .before .before .enum-told2 in
+    let at-block2 = c .before .before .before .before .before .before .block2 in
+    join-stops (start .args .w .now) (start .pre .1 .0) (start .args .depth) (start .args .from) (start .pre .1 .1) (stateOf (start .args .key .now)
+    (start .args .b .now)) (at-loop .at) (at-loop .key) (at-loop .b) (at-loop .inv) _ _ _ (if-means _ _ (sym (at-kind-at2 .ensures .0) ∙ at-if2
+    .taken)) (at-if-at .result) _ _ _ _ (at-if-at .ensures) (sym (at-kind-at2 .ensures .0) ∙ at-if2 .taken) (at-enum-told .given .1) (at-block
+    .result) (at-turned .result) _ _ (at-block .ensures) (at-turned .ensures) (at-enum-told2 .given .1) (at-block2 .result) (c .before .joined
+    .result) _ _ _ _ (at-block2 .ensures) (c .before .joined .ensures) (c .match3 .keys2)
 
 block-add-at : (t : ℕ) → block-lts.Need-add-at (
   kind-at-reads.Asked,
@@ -356,7 +464,11 @@ block-add-at : (t : ℕ) → block-lts.Need-add-at (
   statement-reads.Learnt,
 ) (block-at t) block.Post block-Inv-loop block-μ-loop
 block-add-at t c =
-    omega (arith, c .before .before .before .joined .ensures .place, c .before .before .before .before .before .before .before .before .block2 .ensures .within, c .before .before .before .before .before .before .before .before .before .before .before .before .before .before .before .before .before .before .before .before .before .before .before .before .before .before .before .before .before .before .before .before .before .pre .1 .0 .rows)
+    let start = c .before .before .before .before .before .before .before .before .before .before .before .before .before .before .before .before
+    .before .before .before .before .before .before .before .before .before .before .before .before .before .before .before .before .before in
+    let at-block2 = c .before .before .before .before .before .before .before .before .block2 in
+    let at-joined = c .before .before .before .joined in
+    omega (arith, at-joined .ensures .place, at-block2 .ensures .within, start .pre .1 .0 .rows)
 
 block-loop-less : (t : ℕ) → block-lts.Need-loop-less (
   kind-at-reads.Asked,
@@ -373,7 +485,26 @@ block-loop-less : (t : ℕ) → block-lts.Need-loop-less (
   statement-reads.Learnt,
 ) (block-at t) block.Post block-Inv-loop block-μ-loop
 block-loop-less t c =
-    let h = far-on (c .before .before .before .before .before .before .before .before .before .before .before .before .before .before .before .before .before .before .before .before .before .before .before .before .before .before .before .before .before .before .before .before .before .args .w .now) (c .before .before .before .before .before .before .before .before .before .before .before .before .before .before .before .before .before .before .before .before .before .before .before .before .before .before .before .before .before .before .before .before .before .pre .1 .0) (c .before .before .before .before .before .before .before .before .before .before .before .before .before .before .before .before .before .before .before .before .before .before .before .before .before .before .before .before .before .before .before .before .before .args .depth) (c .before .before .before .before .before .before .before .before .before .before .before .before .before .before .before .before .before .before .before .before .before .before .before .before .before .before .before .before .before .before .before .before .before .args .from) (c .before .before .before .before .before .before .before .before .before .before .before .before .before .before .before .before .before .before .before .before .before .before .before .before .before .before .before .before .before .before .before .before .before .pre .1 .1) (stateOf (c .before .before .before .before .before .before .before .before .before .before .before .before .before .before .before .before .before .before .before .before .before .before .before .before .before .before .before .before .before .before .before .before .before .args .key .now) (c .before .before .before .before .before .before .before .before .before .before .before .before .before .before .before .before .before .before .before .before .before .before .before .before .before .before .before .before .before .before .before .before .before .args .b .now)) (c .before .before .before .before .before .before .before .before .before .before .before .before .before .before .before .before .before .before .before .before .before .before .before .before .before .before .before .before .before .before .before .loop .at) (c .before .before .before .before .before .before .before .before .before .before .before .before .before .before .before .before .before .before .before .before .before .before .before .before .before .before .before .before .before .before .before .loop .key) (c .before .before .before .before .before .before .before .before .before .before .before .before .before .before .before .before .before .before .before .before .before .before .before .before .before .before .before .before .before .before .before .loop .b) (c .before .before .before .before .before .before .before .before .before .before .before .before .before .before .before .before .before .before .before .before .before .before .before .before .before .before .before .before .before .before .before .loop .inv) _ _ _ (if-means _ _ (sym (c .before .before .before .before .before .before .before .before .before .before .before .before .before .before .before .before .before .before .before .before .before .before .before .before .before .before .before .before .kind-at2 .ensures .0) ∙ c .before .before .before .before .before .before .before .before .before .before .before .before .before .before .before .before .before .before .before .before .before .before .before .before .before .before .before .if2 .taken)) (c .before .before .before .before .before .before .before .before .before .before .before .before .before .before .before .before .before .before .before .before .if-at .result) _ _ _ _ (c .before .before .before .before .before .before .before .before .before .before .before .before .before .before .before .before .before .before .before .before .if-at .ensures) (sym (c .before .before .before .before .before .before .before .before .before .before .before .before .before .before .before .before .before .before .before .before .before .before .before .before .before .before .before .before .kind-at2 .ensures .0) ∙ c .before .before .before .before .before .before .before .before .before .before .before .before .before .before .before .before .before .before .before .before .before .before .before .before .before .before .before .if2 .taken) (c .before .before .before .before .before .before .before .before .before .before .before .before .before .before .before .before .before .before .enum-told .given .1) (c .before .before .before .before .before .before .before .before .before .before .before .before .before .before .before .block .result) (c .before .before .before .before .before .before .before .before .before .before .before .before .before .before .turned .result) _ _ (c .before .before .before .before .before .before .before .before .before .before .before .before .before .before .before .block .ensures) (c .before .before .before .before .before .before .before .before .before .before .before .before .before .before .turned .ensures) (c .before .before .before .before .before .before .before .before .before .before .before .before .enum-told2 .given .1) (c .before .before .before .before .before .before .before .before .block2 .result) (c .before .before .before .joined .result) _ _ _ _ (c .before .before .before .before .before .before .before .before .block2 .ensures) (c .before .before .before .joined .ensures) in omega (arith, c .before .before .before .before .before .before .before .before .before .before .before .before .before .before .before .before .before .before .before .before .before .before .before .before .before .before .before .before .before .before .before .loop .inv .within)
+    let start = c .before .before .before .before .before .before .before .before .before .before .before .before .before .before .before .before
+    .before .before .before .before .before .before .before .before .before .before .before .before .before .before .before .before .before in
+    let at-loop = c .before .before .before .before .before .before .before .before .before .before .before .before .before .before .before .before
+    .before .before .before .before .before .before .before .before .before .before .before .before .before .before .before .loop in
+    let at-kind-at2 = c .before .before .before .before .before .before .before .before .before .before .before .before .before .before .before
+    .before .before .before .before .before .before .before .before .before .before .before .before .before .kind-at2 in
+    let at-if2 = c .before .before .before .before .before .before .before .before .before .before .before .before .before .before .before .before .before .before .before .before .before .before .before .before .before .before .before .if2 in
+    let at-if-at = c .before .before .before .before .before .before .before .before .before .before .before .before .before .before .before .before .before .before .before .before .if-at in
+    let at-enum-told = c .before .before .before .before .before .before .before .before .before .before .before .before .before .before .before .before .before .before .enum-told in
+    let at-block = c .before .before .before .before .before .before .before .before .before .before .before .before .before .before .before .block in
+    let at-turned = c .before .before .before .before .before .before .before .before .before .before .before .before .before .before .turned in
+    let at-enum-told2 = c .before .before .before .before .before .before .before .before .before .before .before .before .enum-told2 in
+    let at-block2 = c .before .before .before .before .before .before .before .before .block2 in
+    let at-joined = c .before .before .before .joined in
+    let h = far-on (start .args .w .now) (start .pre .1 .0) (start .args .depth) (start .args .from) (start .pre .1 .1) (stateOf (start .args .key
+    .now) (start .args .b .now)) (at-loop .at) (at-loop .key) (at-loop .b) (at-loop .inv) _ _ _ (if-means _ _ (sym (at-kind-at2 .ensures .0) ∙ at-if2
+    .taken)) (at-if-at .result) _ _ _ _ (at-if-at .ensures) (sym (at-kind-at2 .ensures .0) ∙ at-if2 .taken) (at-enum-told .given .1) (at-block
+    .result) (at-turned .result) _ _ (at-block .ensures) (at-turned .ensures) (at-enum-told2 .given .1) (at-block2 .result) (at-joined .result) _ _ _
+    _ (at-block2 .ensures) (at-joined .ensures) in
+    omega (arith, at-loop .inv .within)
 
 block-loop-again : (t : ℕ) → block-lts.Need-loop-again (
   kind-at-reads.Asked,
@@ -390,7 +521,25 @@ block-loop-again : (t : ℕ) → block-lts.Need-loop-again (
   statement-reads.Learnt,
 ) (block-at t) block.Post block-Inv-loop block-μ-loop
 block-loop-again t c =
-    join-on (c .before .before .before .before .before .before .before .before .before .before .before .before .before .before .before .before .before .before .before .before .before .before .before .before .before .before .before .before .before .before .before .before .before .args .w .now) (c .before .before .before .before .before .before .before .before .before .before .before .before .before .before .before .before .before .before .before .before .before .before .before .before .before .before .before .before .before .before .before .before .before .pre .1 .0) (c .before .before .before .before .before .before .before .before .before .before .before .before .before .before .before .before .before .before .before .before .before .before .before .before .before .before .before .before .before .before .before .before .before .args .depth) (c .before .before .before .before .before .before .before .before .before .before .before .before .before .before .before .before .before .before .before .before .before .before .before .before .before .before .before .before .before .before .before .before .before .args .from) (c .before .before .before .before .before .before .before .before .before .before .before .before .before .before .before .before .before .before .before .before .before .before .before .before .before .before .before .before .before .before .before .before .before .pre .1 .1) (stateOf (c .before .before .before .before .before .before .before .before .before .before .before .before .before .before .before .before .before .before .before .before .before .before .before .before .before .before .before .before .before .before .before .before .before .args .key .now) (c .before .before .before .before .before .before .before .before .before .before .before .before .before .before .before .before .before .before .before .before .before .before .before .before .before .before .before .before .before .before .before .before .before .args .b .now)) (c .before .before .before .before .before .before .before .before .before .before .before .before .before .before .before .before .before .before .before .before .before .before .before .before .before .before .before .before .before .before .before .loop .at) (c .before .before .before .before .before .before .before .before .before .before .before .before .before .before .before .before .before .before .before .before .before .before .before .before .before .before .before .before .before .before .before .loop .key) (c .before .before .before .before .before .before .before .before .before .before .before .before .before .before .before .before .before .before .before .before .before .before .before .before .before .before .before .before .before .before .before .loop .b) (c .before .before .before .before .before .before .before .before .before .before .before .before .before .before .before .before .before .before .before .before .before .before .before .before .before .before .before .before .before .before .before .loop .inv) _ _ _ (if-means _ _ (sym (c .before .before .before .before .before .before .before .before .before .before .before .before .before .before .before .before .before .before .before .before .before .before .before .before .before .before .before .before .kind-at2 .ensures .0) ∙ c .before .before .before .before .before .before .before .before .before .before .before .before .before .before .before .before .before .before .before .before .before .before .before .before .before .before .before .if2 .taken)) (c .before .before .before .before .before .before .before .before .before .before .before .before .before .before .before .before .before .before .before .before .if-at .result) _ _ _ _ (c .before .before .before .before .before .before .before .before .before .before .before .before .before .before .before .before .before .before .before .before .if-at .ensures) (sym (c .before .before .before .before .before .before .before .before .before .before .before .before .before .before .before .before .before .before .before .before .before .before .before .before .before .before .before .before .kind-at2 .ensures .0) ∙ c .before .before .before .before .before .before .before .before .before .before .before .before .before .before .before .before .before .before .before .before .before .before .before .before .before .before .before .if2 .taken) (c .before .before .before .before .before .before .before .before .before .before .before .before .before .before .before .before .before .before .enum-told .given .1) (c .before .before .before .before .before .before .before .before .before .before .before .before .before .before .before .block .result) (c .before .before .before .before .before .before .before .before .before .before .before .before .before .before .turned .result) _ _ (c .before .before .before .before .before .before .before .before .before .before .before .before .before .before .before .block .ensures) (c .before .before .before .before .before .before .before .before .before .before .before .before .before .before .turned .ensures) (c .before .before .before .before .before .before .before .before .before .before .before .before .enum-told2 .given .1) (c .before .before .before .before .before .before .before .before .block2 .result) (c .before .before .before .joined .result) _ _ _ _ (c .before .before .before .before .before .before .before .before .block2 .ensures) (c .before .before .before .joined .ensures) (c .before .enum-told3 .given .1)
+    let start = c .before .before .before .before .before .before .before .before .before .before .before .before .before .before .before .before
+    .before .before .before .before .before .before .before .before .before .before .before .before .before .before .before .before .before in
+    let at-loop = c .before .before .before .before .before .before .before .before .before .before .before .before .before .before .before .before
+    .before .before .before .before .before .before .before .before .before .before .before .before .before .before .before .loop in
+    let at-kind-at2 = c .before .before .before .before .before .before .before .before .before .before .before .before .before .before .before
+    .before .before .before .before .before .before .before .before .before .before .before .before .before .kind-at2 in
+    let at-if2 = c .before .before .before .before .before .before .before .before .before .before .before .before .before .before .before .before .before .before .before .before .before .before .before .before .before .before .before .if2 in
+    let at-if-at = c .before .before .before .before .before .before .before .before .before .before .before .before .before .before .before .before .before .before .before .before .if-at in
+    let at-enum-told = c .before .before .before .before .before .before .before .before .before .before .before .before .before .before .before .before .before .before .enum-told in
+    let at-block = c .before .before .before .before .before .before .before .before .before .before .before .before .before .before .before .block in
+    let at-turned = c .before .before .before .before .before .before .before .before .before .before .before .before .before .before .turned in
+    let at-enum-told2 = c .before .before .before .before .before .before .before .before .before .before .before .before .enum-told2 in
+    let at-block2 = c .before .before .before .before .before .before .before .before .block2 in
+    let at-joined = c .before .before .before .joined in
+    join-on (start .args .w .now) (start .pre .1 .0) (start .args .depth) (start .args .from) (start .pre .1 .1) (stateOf (start .args .key .now)
+    (start .args .b .now)) (at-loop .at) (at-loop .key) (at-loop .b) (at-loop .inv) _ _ _ (if-means _ _ (sym (at-kind-at2 .ensures .0) ∙ at-if2
+    .taken)) (at-if-at .result) _ _ _ _ (at-if-at .ensures) (sym (at-kind-at2 .ensures .0) ∙ at-if2 .taken) (at-enum-told .given .1) (at-block
+    .result) (at-turned .result) _ _ (at-block .ensures) (at-turned .ensures) (at-enum-told2 .given .1) (at-block2 .result) (at-joined .result) _ _ _
+    _ (at-block2 .ensures) (at-joined .ensures) (c .before .enum-told3 .given .1)
 
 block-statement-requires : (t : ℕ) → block-lts.Need-statement-requires (
   kind-at-reads.Asked,
@@ -407,7 +556,13 @@ block-statement-requires : (t : ℕ) → block-lts.Need-statement-requires (
   statement-reads.Learnt,
 ) (block-at t) block.Post block-Inv-loop block-μ-loop
 block-statement-requires t c κs =
-    (c .before .before .before .before .before .before .before .before .pre .1 .0, c .before .before .before .before .before .before .loop .inv .within, below-15 _ (rw (c .before .before .before .before .before .kind-at .ensures .0) at (c .before .before .before .before .if1 .taken)) (λ e. c .before .before .if2 .left (c .before .before .before .kind-at2 .ensures .0 ∙ e)), c .before .before .before .before .before .before .loop .inv .wf)
+    let start = c .before .before .before .before .before .before .before .before in
+    let at-loop = c .before .before .before .before .before .before .loop in
+    let at-kind-at = c .before .before .before .before .before .kind-at in
+    let at-if1 = c .before .before .before .before .if1 in
+    let at-kind-at2 = c .before .before .before .kind-at2 in
+    let at-if2 = c .before .before .if2 in
+    (start .pre .1 .0, at-loop .inv .within, below-15 _ (rw (at-kind-at .ensures .0) at (at-if1 .taken)) (λ e. at-if2 .left (at-kind-at2 .ensures .0 ∙ e)), at-loop .inv .wf)
 
 block-enum-told-4 : (t : ℕ) → block-lts.Need-enum-told-4 (
   kind-at-reads.Asked,
@@ -441,7 +596,11 @@ block-returns-4 : (t : ℕ) → block-lts.Need-returns-4 (
   statement-reads.Learnt,
 ) (block-at t) block.Post block-Inv-loop block-μ-loop
 block-returns-4 t c =
-    step-stops (c .before .before .before .before .before .before .before .before .before .before .args .w .now) (c .before .before .before .before .before .before .before .before .before .before .pre .1 .0) (c .before .before .before .before .before .before .before .before .before .before .args .depth) (c .before .before .before .before .before .before .before .before .before .before .args .from) (c .before .before .before .before .before .before .before .before .before .before .pre .1 .1) (stateOf (c .before .before .before .before .before .before .before .before .before .before .args .key .now) (c .before .before .before .before .before .before .before .before .before .before .args .b .now)) (c .before .before .before .before .before .before .before .before .loop .at) (c .before .before .before .before .before .before .before .before .loop .key) (c .before .before .before .before .before .before .before .before .loop .b) (c .before .before .before .before .before .before .before .before .loop .inv) (c .before .statement .result) _ _ (c .before .statement .ensures) (c .match4 .keys2)
+    let start = c .before .before .before .before .before .before .before .before .before .before in
+    let at-loop = c .before .before .before .before .before .before .before .before .loop in
+    step-stops (start .args .w .now) (start .pre .1 .0) (start .args .depth) (start .args .from) (start .pre .1 .1) (stateOf (start .args .key .now)
+    (start .args .b .now)) (at-loop .at) (at-loop .key) (at-loop .b) (at-loop .inv) (c .before .statement .result) _ _ (c .before .statement .ensures)
+    (c .match4 .keys2)
 
 block-add-at-2 : (t : ℕ) → block-lts.Need-add-at-2 (
   kind-at-reads.Asked,
@@ -458,7 +617,9 @@ block-add-at-2 : (t : ℕ) → block-lts.Need-add-at-2 (
   statement-reads.Learnt,
 ) (block-at t) block.Post block-Inv-loop block-μ-loop
 block-add-at-2 t c =
-    omega (arith, (c .before .before .before .before .before .before .before .before .before .loop .inv) .within, (c .before .before .before .before .before .before .before .before .before .before .before .pre .1 .0) .rows)
+    let start = c .before .before .before .before .before .before .before .before .before .before .before in
+    let at-loop = c .before .before .before .before .before .before .before .before .before .loop in
+    omega (arith, (at-loop .inv) .within, (start .pre .1 .0) .rows)
 
 block-loop-less-2 : (t : ℕ) → block-lts.Need-loop-less-2 (
   kind-at-reads.Asked,
@@ -492,7 +653,16 @@ block-loop-again-2 : (t : ℕ) → block-lts.Need-loop-again-2 (
   statement-reads.Learnt,
 ) (block-at t) block.Post block-Inv-loop block-μ-loop
 block-loop-again-2 t c =
-    step-on (c .before .before .before .before .before .before .before .before .before .before .before .args .w .now) (c .before .before .before .before .before .before .before .before .before .before .before .pre .1 .0) (c .before .before .before .before .before .before .before .before .before .before .before .args .depth) (c .before .before .before .before .before .before .before .before .before .before .before .args .from) (c .before .before .before .before .before .before .before .before .before .before .before .pre .1 .1) (stateOf (c .before .before .before .before .before .before .before .before .before .before .before .args .key .now) (c .before .before .before .before .before .before .before .before .before .before .before .args .b .now)) (c .before .before .before .before .before .before .before .before .before .loop .at) (c .before .before .before .before .before .before .before .before .before .loop .key) (c .before .before .before .before .before .before .before .before .before .loop .b) (c .before .before .before .before .before .before .before .before .before .loop .inv) (c .before .before .statement .result) _ _ (c .before .before .statement .ensures) (below-15 _ (rw (c .before .before .before .before .before .before .before .before .kind-at .ensures .0) at (c .before .before .before .before .before .before .before .if1 .taken)) (λ e. c .before .before .before .before .before .if2 .left (c .before .before .before .before .before .before .kind-at2 .ensures .0 ∙ e))) (c .enum-told4 .given .1)
+    let start = c .before .before .before .before .before .before .before .before .before .before .before in
+    let at-loop = c .before .before .before .before .before .before .before .before .before .loop in
+    let at-kind-at = c .before .before .before .before .before .before .before .before .kind-at in
+    let at-if1 = c .before .before .before .before .before .before .before .if1 in
+    let at-kind-at2 = c .before .before .before .before .before .before .kind-at2 in
+    let at-if2 = c .before .before .before .before .before .if2 in
+    let at-statement = c .before .before .statement in
+    step-on (start .args .w .now) (start .pre .1 .0) (start .args .depth) (start .args .from) (start .pre .1 .1) (stateOf (start .args .key .now)
+    (start .args .b .now)) (at-loop .at) (at-loop .key) (at-loop .b) (at-loop .inv) (at-statement .result) _ _ (at-statement .ensures) (below-15 _ (rw
+    (at-kind-at .ensures .0) at (at-if1 .taken)) (λ e. at-if2 .left (at-kind-at2 .ensures .0 ∙ e))) (c .enum-told4 .given .1)
 
 block-returns-5 : (t : ℕ) → block-lts.Need-returns-5 (
   kind-at-reads.Asked,
@@ -509,7 +679,10 @@ block-returns-5 : (t : ℕ) → block-lts.Need-returns-5 (
   statement-reads.Learnt,
 ) (block-at t) block.Post block-Inv-loop block-μ-loop
 block-returns-5 t c =
-    ends (c .before .before .before .before .args .w .now) (c .before .before .before .before .pre .1 .0) (c .before .before .before .before .args .depth) (c .before .before .before .before .args .from) (c .before .before .before .before .pre .1 .1) (stateOf (c .before .before .before .before .args .key .now) (c .before .before .before .before .args .b .now)) (c .before .before .loop .at) (c .before .before .loop .key) (c .before .before .loop .b) (c .before .before .loop .inv) (rw (c .before .kind-at .ensures .0) at (c .if1 .left))
+    let start = c .before .before .before .before in
+    let at-loop = c .before .before .loop in
+    ends (start .args .w .now) (start .pre .1 .0) (start .args .depth) (start .args .from) (start .pre .1 .1) (stateOf (start .args .key .now) (start
+    .args .b .now)) (at-loop .at) (at-loop .key) (at-loop .b) (at-loop .inv) (rw (c .before .kind-at .ensures .0) at (c .if1 .left))
 
 pub +block-spec : {M : Type 1} → statement M
 +block-spec = close μ-block λ t. block-lts.spec (

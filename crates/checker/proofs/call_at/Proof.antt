@@ -1,5 +1,5 @@
 use Rattle.checker.proofs.Stepping.{call-at}
-use Rattle.knowledge.specs.Answers.{Adds}
+use Rattle.check_entailment.specs.Answers.{Adds}
 use Rattle.rules.specs.Answers.{Refusal}
 use Rattle.rules.specs.Base.{Try}
 use mathlib.Core.Path.{subst}
@@ -7,13 +7,6 @@ use native.Mathlib.Omega.{arith}
 use Rattle.rules.specs.State as Rules
 use Rattle.checker.proofs.call_at.Statement.{statement}
 use Rattle.checker.proofs.call_at.Tie as tie
-use Rattle.checker.proofs.call_at.Reads as reads
-use Rattle.checker.proofs.call_at.Lts as lts
-use Rattle.statements.proofs.call_rule.Reads as call-rule-reads
-use Rattle.tables.proofs.member_at.Reads as member-at-reads
-use Rattle.tables.proofs.x_at.Reads as x-at-reads
-use Rattle.tables.proofs.y_at.Reads as y-at-reads
-use Rattle.tables.proofs.z_at.Reads as z-at-reads
 
 x-at-requires : tie.Need-x-at-requires
 x-at-requires c κs = (c .before .pre .0 .size, omega (arith, c .before .pre .0 .rows, c .before .pre .1))
@@ -37,15 +30,21 @@ cast-z c = record { fits = c .z-at .ensures .1 }
 
 member-at-requires : tie.Need-member-at-requires
 member-at-requires c κs =
-    (c .before .before .before .before .before .before .pre .0 .size, omega (arith, c .before .before .before .before .before .before .pre .0 .rows, c .before .before .before .before .before .before .pre .1))
+    let start = c .before .before .before .before .before .before in
+    (start .pre .0 .size, omega (arith, start .pre .0 .rows, start .pre .1))
 
 call-rule-requires : tie.Need-call-rule-requires
 call-rule-requires c κs =
-    (c .before .before .before .before .before .before .before .pre .0, omega (arith, c .before .before .before .before .before .before .before .pre .0 .row-fits (c .before .before .before .before .before .before .before .args .i) (c .before .before .before .before .before .before .before .pre .1) .operands .method (c .before .before .before .before .before .before .before .pre .2), c .member-at .ensures .0), c .before .before .before .before .before .before .before .pre .3)
+    let start = c .before .before .before .before .before .before .before in
+    (start .pre .0, omega (arith, start .pre .0 .row-fits (start .args .i) (start .pre .1) .operands .method (start .pre .2), c .member-at .ensures .0), start .pre .3)
 
 returns : tie.Need-returns
 returns c =
-    subst (λ (t : Try Refusal Rules.State). Adds t (c .call-rule .result) (c .call-rule .last .1 .0) (c .call-rule .last .1 .1 .0)) (call-at _ _ _ _ _ _ _ _ _ _ (c .before .before .before .before .before .before .x-at .ensures .0) (c .before .before .before .before .before .y-at .ensures .0) (c .before .member-at .ensures .0) (c .before .before .before .before .z-at .ensures .0) (c .before .before .before .before .before .before .before .before .pre .0 .row-fits (c .before .before .before .before .before .before .before .before .args .i) (c .before .before .before .before .before .before .before .before .pre .1) .operands .method (c .before .before .before .before .before .before .before .before .pre .2))) (c .call-rule .ensures)
+    let start = c .before .before .before .before .before .before .before .before in
+    let at-x-at = c .before .before .before .before .before .before .x-at in
+    let at-y-at = c .before .before .before .before .before .y-at in
+    let at-z-at = c .before .before .before .before .z-at in
+    subst (λ (t : Try Refusal Rules.State). Adds t (c .call-rule .result) (c .call-rule .last .1 .0) (c .call-rule .last .1 .1 .0)) (call-at _ _ _ _ _ _ _ _ _ _ (at-x-at .ensures .0) (at-y-at .ensures .0) (c .before .member-at .ensures .0) (at-z-at .ensures .0) (start .pre .0 .row-fits (start .args .i) (start .pre .1) .operands .method (start .pre .2))) (c .call-rule .ensures)
 
 pub call-at-spec : {M : Type 1} → statement M
 call-at-spec =

@@ -1,4 +1,4 @@
-use Rattle.known.specs.States.{Wf}
+use Rattle.check_state.specs.States.{Wf}
 use Prim.Native.Nat.{ℕ, _-_, _≤_}
 use Rattle.checker.proofs.Blocks.{methods-all, method-accepted, method-stops, main-last}
 use Rattle.rules.specs.Rules.{checkBlocks, checkProgram}
@@ -9,14 +9,6 @@ use native.Mathlib.Omega.{arith}
 use Rattle.checker.specs.Checked.{Nests}
 use Rattle.checker.proofs.check.Statement.{statement}
 use Rattle.checker.proofs.check.Tie as tie
-use Rattle.checker.proofs.check.Reads as reads
-use Rattle.checker.proofs.check.Lts as lts
-use Rattle.checker.proofs.check_block.Reads as check-block-reads
-use Rattle.checker.proofs.check_method.Reads as check-method-reads
-use Rattle.removal.proofs.clear.Reads as clear-reads
-use Rattle.removal.proofs.header.Reads as header-reads
-use Rattle.tables.proofs.main_first.Reads as main-first-reads
-use Rattle.tables.proofs.method_count.Reads as method-count-reads
 
 abbrev Inv-loop : tie.InvT-loop
 Inv-loop w key₀ b₀ n m₀ key b m =
@@ -42,7 +34,11 @@ loop-holds c =
 
 check-method-requires : tie.Need-check-method-requires Inv-loop μ-loop
 check-method-requires c κs =
-    (c .before .before .before .before .before .before .before .before .before .pre, omega (arith, c .before .before .before .before .method-count .ensures .0, c .before .before .loop-test .taken), c .before .before .before .loop .inv .2)
+    let start = c .before .before .before .before .before .before .before .before .before in
+    let at-method-count = c .before .before .before .before .method-count in
+    let at-loop = c .before .before .before .loop in
+    let at-loop-test = c .before .before .loop-test in
+    (start .pre, omega (arith, at-method-count .ensures .0, at-loop-test .taken), at-loop .inv .2)
 
 enum-told : tie.Need-enum-told Inv-loop μ-loop
 enum-told c = search needs
@@ -52,18 +48,26 @@ enum-told-2 c = search needs
 
 returns : tie.Need-returns Inv-loop μ-loop
 returns c =
-    method-stops _ _ _ (c .before .before .before .before .before .loop-test .taken) _ (c .before .before .check-method .ensures .0) (c .before .match .keys2) ∙ sym (c .before .before .before .before .before .before .loop .inv .1)
+    let at-loop = c .before .before .before .before .before .before .loop in
+    let at-loop-test = c .before .before .before .before .before .loop-test in
+    let at-check-method = c .before .before .check-method in
+    method-stops _ _ _ (at-loop-test .taken) _ (at-check-method .ensures .0) (c .before .match .keys2) ∙ sym (at-loop .inv .1)
 
 add-m : tie.Need-add-m Inv-loop μ-loop
 add-m c =
-    omega (arith, c .before .before .before .before .before .loop-test .taken, c .before .before .before .before .before .before .before .method-count .ensures .1)
+    let at-method-count = c .before .before .before .before .before .before .before .method-count in
+    let at-loop-test = c .before .before .before .before .before .loop-test in
+    omega (arith, at-loop-test .taken, at-method-count .ensures .1)
 
 loop-less : tie.Need-loop-less Inv-loop μ-loop
 loop-less c = omega (arith, c .before .before .before .before .before .loop-test .taken)
 
 loop-again : tie.Need-loop-again Inv-loop μ-loop
 loop-again c =
-    (omega (arith, c .before .before .before .before .before .loop-test .taken), c .before .before .before .before .before .before .loop .inv .1 ∙ method-accepted _ _ _ (c .before .before .before .before .before .loop-test .taken) _ (c .before .before .check-method .ensures .0) (c .enum-told .given .1), c .before .before .check-method .ensures .1)
+    let at-loop = c .before .before .before .before .before .before .loop in
+    let at-loop-test = c .before .before .before .before .before .loop-test in
+    let at-check-method = c .before .before .check-method in
+    (omega (arith, at-loop-test .taken), at-loop .inv .1 ∙ method-accepted _ _ _ (at-loop-test .taken) _ (at-check-method .ensures .0) (c .enum-told .given .1), at-check-method .ensures .1)
 
 clear-requires-2 : tie.Need-clear-requires-2 Inv-loop μ-loop
 clear-requires-2 c κs =
@@ -74,11 +78,19 @@ main-first-requires c κs = c .before .before .before .before .before .before .b
 
 check-block-requires : tie.Need-check-block-requires Inv-loop μ-loop
 check-block-requires c κs =
-    (c .before .before .before .before .before .before .before .before .before .before .before .before .pre, omega (arith, c .before .before .before .before .before .before .before .before .before .before .before .before .pre .main-fits .0, c .before .before .main-first .ensures .0), subst (λ (k : ℕ). Nests (c .before .before .before .before .before .before .before .before .before .before .before .before .args .w .now) k 0) (sym (c .before .before .main-first .ensures .0)) (c .before .before .before .before .before .before .before .before .before .before .before .before .pre .main-fits .1), omega arith, c .before .before .before .clear2 .ensures _ (c .before .before .before .before .before .before .loop .inv .2 .linked .header) .wf)
+    let start = c .before .before .before .before .before .before .before .before .before .before .before .before in
+    let at-loop = c .before .before .before .before .before .before .loop in
+    let at-clear2 = c .before .before .before .clear2 in
+    let at-main-first = c .before .before .main-first in
+    (start .pre, omega (arith, start .pre .main-fits .0, at-main-first .ensures .0), subst (λ (k : ℕ). Nests (start .args .w .now) k 0) (sym (at-main-first .ensures .0)) (start .pre .main-fits .1), omega arith, at-clear2 .ensures _ (at-loop .inv .2 .linked .header) .wf)
 
 returns-2 : tie.Need-returns-2 Inv-loop μ-loop
 returns-2 c =
-    c .check-block .ensures .0 ∙ main-last _ _ _ _ (c .before .before .before .before .before .before .loop-test .left) (c .before .before .before .main-first .ensures .0) _ (c .before .before .before .before .clear2 .ensures _ (c .before .before .before .before .before .before .before .loop .inv .2 .linked .header) .same) ∙ sym (c .before .before .before .before .before .before .before .loop .inv .1)
+    let at-loop = c .before .before .before .before .before .before .before .loop in
+    let at-loop-test = c .before .before .before .before .before .before .loop-test in
+    let at-clear2 = c .before .before .before .before .clear2 in
+    let at-main-first = c .before .before .before .main-first in
+    c .check-block .ensures .0 ∙ main-last _ _ _ _ (at-loop-test .left) (at-main-first .ensures .0) _ (at-clear2 .ensures _ (at-loop .inv .2 .linked .header) .same) ∙ sym (at-loop .inv .1)
 
 pub check-spec : {M : Type 1} → statement M
 check-spec =

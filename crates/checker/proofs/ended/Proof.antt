@@ -4,8 +4,6 @@ use mathlib.Core.Path.{sym}
 use borrow.Author.Needs.{needs}
 use Rattle.checker.proofs.ended.Statement.{statement}
 use Rattle.checker.proofs.ended.Tie as tie
-use Rattle.checker.proofs.ended.Reads as reads
-use Rattle.checker.proofs.ended.Lts as lts
 
 enum-told : tie.Need-enum-told
 enum-told c = search needs

@@ -4,10 +4,6 @@ use native.Mathlib.Omega.{arith}
 use borrow.Author.Needs.{needs}
 use Rattle.checker.proofs.joined.Statement.{statement}
 use Rattle.checker.proofs.joined.Tie as tie
-use Rattle.checker.proofs.joined.Reads as reads
-use Rattle.checker.proofs.joined.Lts as lts
-use Rattle.checker.proofs.join_at.Reads as join-at-reads
-use Rattle.tables.proofs.kind_at.Reads as kind-at-reads
 
 enum-told : tie.Need-enum-told
 enum-told c = search needs

@@ -1,7 +1,7 @@
-use Rattle.knowledge.specs.Answers.{Adds}
+use Rattle.check_entailment.specs.Answers.{Adds}
 use Rattle.rules.specs.Answers.{Refusal}
 use Rattle.rules.specs.Base.{Try}
-use Rattle.statements.proofs.Ruled.{plain-term}
+use Rattle.check_statements.proofs.Ruled.{plain-term}
 use mathlib.Core.Logic.{inl}
 use mathlib.Core.Path.{subst}
 use native.Mathlib.Omega.{arith}
@@ -9,12 +9,6 @@ use Rattle.rules.specs.State as Rules
 use Rattle.rules.specs.Rules.{rule}
 use Rattle.checker.proofs.let_at.Statement.{statement}
 use Rattle.checker.proofs.let_at.Tie as tie
-use Rattle.checker.proofs.let_at.Reads as reads
-use Rattle.checker.proofs.let_at.Lts as lts
-use Rattle.formulas.proofs.right.Reads as right-reads
-use Rattle.statements.proofs.assign_rule.Reads as assign-rule-reads
-use Rattle.tables.proofs.first_atom_at.Reads as first-atom-at-reads
-use Rattle.tables.proofs.x_at.Reads as x-at-reads
 
 x-at-requires : tie.Need-x-at-requires
 x-at-requires c κs = (c .before .pre .0 .size, omega (arith, c .before .pre .0 .rows, c .before .pre .1))
@@ -28,7 +22,9 @@ first-atom-at-requires c κs =
 
 right-requires : tie.Need-right-requires
 right-requires c κs =
-    (c .before .before .before .before .before .pre .0 .size, omega (arith, c .before .before .before .before .before .pre .0 .row-fits (c .before .before .before .before .before .args .i) (c .before .before .before .before .before .pre .1) .operands .atoms .1, c .before .before .before .before .before .pre .0 .row-fits (c .before .before .before .before .before .args .i) (c .before .before .before .before .before .pre .1) .operands .one-atom (inl (c .before .before .before .before .before .pre .2)), c .before .before .before .before .before .pre .0 .atoms, c .before .before .first-atom-at .ensures .0))
+    let start = c .before .before .before .before .before in
+    let at-first-atom-at = c .before .before .first-atom-at in
+    (start .pre .0 .size, omega (arith, start .pre .0 .row-fits (start .args .i) (start .pre .1) .operands .atoms .1, start .pre .0 .row-fits (start .args .i) (start .pre .1) .operands .one-atom (inl (start .pre .2)), start .pre .0 .atoms, at-first-atom-at .ensures .0))
 
 assign-rule-requires : tie.Need-assign-rule-requires
 assign-rule-requires c κs = c .before .before .before .before .before .before .pre .3
@@ -36,7 +32,9 @@ assign-rule-requires c κs = c .before .before .before .before .before .before .
 returns : tie.Need-returns
 unfolding rule
 returns c =
-    subst (λ (t : Try Refusal Rules.State). Adds t (c .assign-rule .result) (c .assign-rule .last .0) (c .assign-rule .last .1 .0)) (rw (c .before .before .before .before .before .x-at .ensures .0, c .before .right .ensures, plain-term, c .before .before .before .before .first-atom-at .ensures .0)) (c .assign-rule .ensures)
+    let at-x-at = c .before .before .before .before .before .x-at in
+    let at-first-atom-at = c .before .before .before .before .first-atom-at in
+    subst (λ (t : Try Refusal Rules.State). Adds t (c .assign-rule .result) (c .assign-rule .last .0) (c .assign-rule .last .1 .0)) (rw (at-x-at .ensures .0, c .before .right .ensures, plain-term, at-first-atom-at .ensures .0)) (c .assign-rule .ensures)
 
 pub let-at-spec : {M : Type 1} → statement M
 let-at-spec =

@@ -1,5 +1,5 @@
 use Rattle.checker.proofs.Stepping.{new-at}
-use Rattle.knowledge.specs.Answers.{Adds}
+use Rattle.check_entailment.specs.Answers.{Adds}
 use Rattle.rules.specs.Answers.{Refusal}
 use Rattle.rules.specs.Base.{Try}
 use mathlib.Core.Path.{subst}
@@ -7,11 +7,6 @@ use native.Mathlib.Omega.{arith}
 use Rattle.rules.specs.State as Rules
 use Rattle.checker.proofs.new_at.Statement.{statement}
 use Rattle.checker.proofs.new_at.Tie as tie
-use Rattle.checker.proofs.new_at.Reads as reads
-use Rattle.checker.proofs.new_at.Lts as lts
-use Rattle.statements.proofs.new_rule.Reads as new-rule-reads
-use Rattle.tables.proofs.member_at.Reads as member-at-reads
-use Rattle.tables.proofs.x_at.Reads as x-at-reads
 
 x-at-requires : tie.Need-x-at-requires
 x-at-requires c κs = (c .before .pre .0 .size, omega (arith, c .before .pre .0 .rows, c .before .pre .1))
@@ -25,11 +20,14 @@ member-at-requires c κs =
 
 new-rule-requires : tie.Need-new-rule-requires
 new-rule-requires c κs =
-    let m = c .before .before .before .before .before .pre .0 .row-fits (c .before .before .before .before .before .args .i) (c .before .before .before .before .before .pre .1) .operands .class (c .before .before .before .before .before .pre .2) in (c .before .before .before .before .before .pre .0 .size, omega (arith, m, c .member-at .ensures .0, c .before .before .before .before .before .pre .0 .classes), rw (c .member-at .ensures .0) (c .before .before .before .before .before .pre .0 .class-fits _ m .count), c .before .before .before .before .before .pre .3)
+    let start = c .before .before .before .before .before in
+    let m = start .pre .0 .row-fits (start .args .i) (start .pre .1) .operands .class (start .pre .2) in (start .pre .0 .size, omega (arith, m, c .member-at .ensures .0, start .pre .0 .classes), rw (c .member-at .ensures .0) (start .pre .0 .class-fits _ m .count), start .pre .3)
 
 returns : tie.Need-returns
 returns c =
-    subst (λ (t : Try Refusal Rules.State). Adds t (c .new-rule .result) (c .new-rule .last .1 .0) (c .new-rule .last .1 .1 .0)) (new-at _ _ _ _ _ _ (c .before .before .before .before .x-at .ensures .0) (c .before .member-at .ensures .0) (c .before .before .before .before .before .before .pre .0 .row-fits (c .before .before .before .before .before .before .args .i) (c .before .before .before .before .before .before .pre .1) .operands .class (c .before .before .before .before .before .before .pre .2))) (c .new-rule .ensures)
+    let start = c .before .before .before .before .before .before in
+    let at-x-at = c .before .before .before .before .x-at in
+    subst (λ (t : Try Refusal Rules.State). Adds t (c .new-rule .result) (c .new-rule .last .1 .0) (c .new-rule .last .1 .1 .0)) (new-at _ _ _ _ _ _ (at-x-at .ensures .0) (c .before .member-at .ensures .0) (start .pre .0 .row-fits (start .args .i) (start .pre .1) .operands .class (start .pre .2))) (c .new-rule .ensures)
 
 pub new-at-spec : {M : Type 1} → statement M
 new-at-spec =

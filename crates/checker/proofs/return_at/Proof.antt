@@ -1,18 +1,14 @@
-use Rattle.knowledge.specs.Answers.{Adds}
+use Rattle.check_entailment.specs.Answers.{Adds}
 use Rattle.rules.specs.Answers.{Refusal}
 use Rattle.rules.specs.Base.{Try}
 use mathlib.Core.Path.{subst}
 use native.Mathlib.Omega.{arith}
 use Rattle.rules.specs.State as Rules
 use Rattle.rules.specs.Rules.{rule}
-use Rattle.links.specs.Keys.{meaning}
+use Rattle.check_equality.specs.Keys.{meaning}
 use borrow.Author.Needs.{needs}
 use Rattle.checker.proofs.return_at.Statement.{statement}
 use Rattle.checker.proofs.return_at.Tie as tie
-use Rattle.checker.proofs.return_at.Reads as reads
-use Rattle.checker.proofs.return_at.Lts as lts
-use Rattle.statements.proofs.assign_rule.Reads as assign-rule-reads
-use Rattle.tables.proofs.x_at.Reads as x-at-reads
 
 x-at-requires : tie.Need-x-at-requires
 x-at-requires c κs = (c .before .pre .0 .size, omega (arith, c .before .pre .0 .rows, c .before .pre .1))

@@ -1,4 +1,4 @@
-use Rattle.knowledge.specs.Answers.{Adds}
+use Rattle.check_entailment.specs.Answers.{Adds}
 use Rattle.rules.specs.Answers.{Refusal}
 use Rattle.rules.specs.Base.{Try}
 use mathlib.Core.Path.{subst}
@@ -8,12 +8,6 @@ use Rattle.rules.specs.Rules.{rule}
 use borrow.Author.Needs.{needs}
 use Rattle.checker.proofs.set_at.Statement.{statement}
 use Rattle.checker.proofs.set_at.Tie as tie
-use Rattle.checker.proofs.set_at.Reads as reads
-use Rattle.checker.proofs.set_at.Lts as lts
-use Rattle.statements.proofs.set_rule.Reads as set-rule-reads
-use Rattle.tables.proofs.member_at.Reads as member-at-reads
-use Rattle.tables.proofs.x_at.Reads as x-at-reads
-use Rattle.tables.proofs.y_at.Reads as y-at-reads
 
 x-at-requires : tie.Need-x-at-requires
 x-at-requires c κs = (c .before .pre .0 .size, omega (arith, c .before .pre .0 .rows, c .before .pre .1))

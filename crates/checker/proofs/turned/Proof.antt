@@ -4,9 +4,6 @@ use native.Mathlib.Omega.{arith}
 use borrow.Author.Needs.{needs}
 use Rattle.checker.proofs.turned.Statement.{statement}
 use Rattle.checker.proofs.turned.Tie as tie
-use Rattle.checker.proofs.turned.Reads as reads
-use Rattle.checker.proofs.turned.Lts as lts
-use Rattle.tables.proofs.kind_at.Reads as kind-at-reads
 
 enum-told : tie.Need-enum-told
 enum-told c = search needs

@@ -1,6 +1,6 @@
 use Rattle.rules.specs.Answers.{stopNumber}
 use Rattle.machine.specs.Runs.{faultNumber}
-use Rattle.stores.specs.Views.{stopOf}
+use Rattle.run_heap.specs.Views.{stopOf}
 use borrow.Author.Needs.{needs}
 use Rattle.machine.proofs.fault_number.Statement.{statement}
 use Rattle.machine.proofs.fault_number.Tie as tie

@@ -2,7 +2,7 @@ use native.Mathlib.Omega.{arith}
 use mathlib.Core.Path.{sym, _∙_}
 use Rattle.machine.proofs.Stepping as Stepping
 use mathlib.Core.Logic.{inl, inr, ⊎-elim}
-use Rattle.steps.proofs.Doing.{fits}
+use Rattle.run_steps.proofs.Doing.{fits}
 use borrow.Author.Needs.{needs}
 use Rattle.machine.proofs.step.Statement.{statement}
 use Rattle.machine.proofs.step.Tie as tie

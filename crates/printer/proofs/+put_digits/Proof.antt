@@ -69,8 +69,11 @@ put-digits-returns : (t : ℕ) → put-digits-lts.Need-returns (
   put-digits.Post,
 ) (put-digits-at t) put-digits.Post
 put-digits-returns t c =
-    let v = c .before .before .before .before .before .before .before .args in
-    writes-as (c .before .before .put .ensures) (ap (λ d. d ∷ []) (c .before .before .before .before .before .low-digit .ensures) ∙ digits-last (v .k) (v .n) (c .before .before .before .before .if1 .taken))
+    let start = c .before .before .before .before .before .before .before in
+    let at-low-digit = c .before .before .before .before .before .low-digit in
+    let at-if1 = c .before .before .before .before .if1 in
+    let at-put = c .before .before .put in
+    let v = start .args in writes-as (at-put .ensures) (ap (λ d. d ∷ []) (at-low-digit .ensures) ∙ digits-last (v .k) (v .n) (at-if1 .taken))
 
 put-digits-put-requires-2 : (t : ℕ) → put-digits-lts.Need-put-requires-2 (
   low-digit-reads.Asked,
@@ -103,8 +106,11 @@ put-digits-returns-2 : (t : ℕ) → put-digits-lts.Need-returns-2 (
   put-digits.Post,
 ) (put-digits-at t) put-digits.Post
 put-digits-returns-2 t c =
-    let v = c .before .before .before .before .before .before .before .before .args in
-    writes-as (c .before .before .put2 .ensures) (ap (λ d. d ∷ []) (c .before .before .before .before .before .before .low-digit .ensures) ∙ digits-one (v .k) (v .n) (c .before .before .before .before .if2 .taken))
+    let start = c .before .before .before .before .before .before .before .before in
+    let at-low-digit = c .before .before .before .before .before .before .low-digit in
+    let at-if2 = c .before .before .before .before .if2 in
+    let at-put2 = c .before .before .put2 in
+    let v = start .args in writes-as (at-put2 .ensures) (ap (λ d. d ∷ []) (at-low-digit .ensures) ∙ digits-one (v .k) (v .n) (at-if2 .taken))
 
 put-digits-sub-put-digits : (t : ℕ) → put-digits-lts.Need-sub-put-digits (
   low-digit-reads.Asked,
@@ -126,7 +132,9 @@ put-digits-put-digits-requires : (t : ℕ) → put-digits-lts.Need-put-digits-re
   put-digits.Post,
 ) (put-digits-at t) put-digits.Post
 put-digits-put-digits-requires t c κs =
-    (omega (arith, c .before .before .before .before .before .pre .0, c .before .before .if1 .left), omega (arith, c .before .before .before .before .before .pre .1, c .before .before .if1 .left))
+    let start = c .before .before .before .before .before in
+    let at-if1 = c .before .before .if1 in
+    (omega (arith, start .pre .0, at-if1 .left), omega (arith, start .pre .1, at-if1 .left))
 
 put-digits-put-requires-3 : (t : ℕ) → put-digits-lts.Need-put-requires-3 (
   low-digit-reads.Asked,
@@ -137,9 +145,10 @@ put-digits-put-requires-3 : (t : ℕ) → put-digits-lts.Need-put-requires-3 (
   put-digits.Post,
 ) (put-digits-at t) put-digits.Post
 put-digits-put-requires-3 t c κs =
-    let v = c .before .before .before .before .before .before .before .before .before .args in
-    let x = c .before .before .before .put-digits .ensures in
-    omega (arith, c .before .before .before .before .before .before .before .before .before .pre .1, x .end, x .size, digits-few (v .k - 1) (v .n / 10), c .before .before .before .before .before .before .if1 .left)
+    let start = c .before .before .before .before .before .before .before .before .before in
+    let at-if1 = c .before .before .before .before .before .before .if1 in
+    let at-put-digits = c .before .before .before .put-digits in
+    let v = start .args in let x = at-put-digits .ensures in omega (arith, start .pre .1, x .end, x .size, digits-few (v .k - 1) (v .n / 10), at-if1 .left)
 
 put-digits-same-length-3 : (t : ℕ) → put-digits-lts.Need-same-length-3 (
   low-digit-reads.Asked,
@@ -161,8 +170,13 @@ put-digits-returns-3 : (t : ℕ) → put-digits-lts.Need-returns-3 (
   put-digits.Post,
 ) (put-digits-at t) put-digits.Post
 put-digits-returns-3 t c =
-    let v = c .before .before .before .before .before .before .before .before .before .before .before .before .args in
-    writes-as (writes-on (c .before .before .before .before .before .before .put-digits .ensures) (c .before .before .put3 .ensures)) (ap (λ d. digitsBefore (v .k - 1) (v .n / 10) [] ++ (d ∷ [])) (c .before .before .before .before .before .before .before .before .before .before .low-digit .ensures) ∙ digits-more (v .k) (v .n) (c .before .before .before .before .before .before .before .before .before .if1 .left) (c .before .before .before .before .before .before .before .before .if2 .left))
+    let start = c .before .before .before .before .before .before .before .before .before .before .before .before in
+    let at-low-digit = c .before .before .before .before .before .before .before .before .before .before .low-digit in
+    let at-if1 = c .before .before .before .before .before .before .before .before .before .if1 in
+    let at-if2 = c .before .before .before .before .before .before .before .before .if2 in
+    let at-put-digits = c .before .before .before .before .before .before .put-digits in
+    let at-put3 = c .before .before .put3 in
+    let v = start .args in writes-as (writes-on (at-put-digits .ensures) (at-put3 .ensures)) (ap (λ d. digitsBefore (v .k - 1) (v .n / 10) [] ++ (d ∷ [])) (at-low-digit .ensures) ∙ digits-more (v .k) (v .n) (at-if1 .left) (at-if2 .left))
 
 pub +put-digits-spec : {M : Type 1} → statement M
 +put-digits-spec = close μ-put-digits λ t. put-digits-lts.spec (

@@ -19,12 +19,18 @@ put-field-requires c κs = search needs
 
 put-field-requires-2 : tie.Need-put-field-requires-2
 put-field-requires-2 c κs =
-    omega (arith, c .before .before .before .before .before .before .before .put-word .ensures .end, c .before .before .before .put-field .ensures .end, c .before .before .before .put-field .ensures .size, c .before .before .before .before .before .before .before .put-word .ensures .size, digits-short (c .before .before .before .before .before .before .before .before .before .before .before .args .checked / 65536), c .before .before .before .before .before .before .before .before .before .before .before .pre)
+    let start = c .before .before .before .before .before .before .before .before .before .before .before in
+    let at-put-word = c .before .before .before .before .before .before .before .put-word in
+    let at-put-field = c .before .before .before .put-field in
+    omega (arith, at-put-word .ensures .end, at-put-field .ensures .end, at-put-field .ensures .size, at-put-word .ensures .size, digits-short (start .args .checked / 65536), start .pre)
 
 put-requires : tie.Need-put-requires
 put-requires c κs =
-    let v = c .before .before .before .before .before .before .before .before .before .before .before .before .before .before .before .args .checked in
-    omega (arith, c .before .before .before .before .before .before .before .before .before .before .before .put-word .ensures .end, c .before .before .before .before .before .before .before .put-field .ensures .end, c .before .before .before .put-field2 .ensures .end, c .before .before .before .put-field2 .ensures .size, c .before .before .before .before .before .before .before .put-field .ensures .size, c .before .before .before .before .before .before .before .before .before .before .before .put-word .ensures .size, digits-short (v / 65536), digits-short (v % 65536), c .before .before .before .before .before .before .before .before .before .before .before .before .before .before .before .pre)
+    let start = c .before .before .before .before .before .before .before .before .before .before .before .before .before .before .before in
+    let at-put-word = c .before .before .before .before .before .before .before .before .before .before .before .put-word in
+    let at-put-field = c .before .before .before .before .before .before .before .put-field in
+    let at-put-field2 = c .before .before .before .put-field2 in
+    let v = start .args .checked in omega (arith, at-put-word .ensures .end, at-put-field .ensures .end, at-put-field2 .ensures .end, at-put-field2 .ensures .size, at-put-field .ensures .size, at-put-word .ensures .size, digits-short (v / 65536), digits-short (v % 65536), start .pre)
 
 same-length : tie.Need-same-length
 same-length c = search needs
@@ -32,7 +38,11 @@ same-length c = search needs
 returns : tie.Need-returns
 unfolding bytes printedLine
 returns c =
-    writes-on (c .before .before .before .before .before .before .before .before .before .before .before .before .before .before .put-word .ensures) (writes-on (c .before .before .before .before .before .before .before .before .before .before .put-field .ensures) (writes-on (c .before .before .before .before .before .before .put-field2 .ensures) (c .before .before .put .ensures)))
+    let at-put-word = c .before .before .before .before .before .before .before .before .before .before .before .before .before .before .put-word in
+    let at-put-field = c .before .before .before .before .before .before .before .before .before .before .put-field in
+    let at-put-field2 = c .before .before .before .before .before .before .put-field2 in
+    let at-put = c .before .before .put in
+    writes-on (at-put-word .ensures) (writes-on (at-put-field .ensures) (writes-on (at-put-field2 .ensures) (at-put .ensures)))
 
 pub put-check-spec : {M : Type 1} → statement M
 put-check-spec =

@@ -19,17 +19,27 @@ put-field-requires c κs = search needs
 
 put-field-requires-2 : tie.Need-put-field-requires-2
 put-field-requires-2 c κs =
-    omega (arith, c .before .before .before .before .before .before .before .put-word .ensures .end, c .before .before .before .put-field .ensures .end, c .before .before .before .put-field .ensures .size, c .before .before .before .before .before .before .before .put-word .ensures .size, digits-short (c .before .before .before .before .before .before .before .before .before .before .before .args .ran / 65536), c .before .before .before .before .before .before .before .before .before .before .before .pre)
+    let start = c .before .before .before .before .before .before .before .before .before .before .before in
+    let at-put-word = c .before .before .before .before .before .before .before .put-word in
+    let at-put-field = c .before .before .before .put-field in
+    omega (arith, at-put-word .ensures .end, at-put-field .ensures .end, at-put-field .ensures .size, at-put-word .ensures .size, digits-short (start .args .ran / 65536), start .pre)
 
 put-field-requires-3 : tie.Need-put-field-requires-3
 put-field-requires-3 c κs =
-    let v = c .before .before .before .before .before .before .before .before .before .before .before .before .before .before .before .args .ran in
-    omega (arith, c .before .before .before .before .before .before .before .before .before .before .before .put-word .ensures .end, c .before .before .before .before .before .before .before .put-field .ensures .end, c .before .before .before .put-field2 .ensures .end, c .before .before .before .put-field2 .ensures .size, c .before .before .before .before .before .before .before .put-field .ensures .size, c .before .before .before .before .before .before .before .before .before .before .before .put-word .ensures .size, digits-short (v / 65536), digits-short (v % 65536), c .before .before .before .before .before .before .before .before .before .before .before .before .before .before .before .pre)
+    let start = c .before .before .before .before .before .before .before .before .before .before .before .before .before .before .before in
+    let at-put-word = c .before .before .before .before .before .before .before .before .before .before .before .put-word in
+    let at-put-field = c .before .before .before .before .before .before .before .put-field in
+    let at-put-field2 = c .before .before .before .put-field2 in
+    let v = start .args .ran in omega (arith, at-put-word .ensures .end, at-put-field .ensures .end, at-put-field2 .ensures .end, at-put-field2 .ensures .size, at-put-field .ensures .size, at-put-word .ensures .size, digits-short (v / 65536), digits-short (v % 65536), start .pre)
 
 put-requires : tie.Need-put-requires
 put-requires c κs =
-    let v = c .before .before .before .before .before .before .before .before .before .before .before .before .before .before .before .before .before .before .before .args .ran in
-    omega (arith, c .before .before .before .before .before .before .before .before .before .before .before .before .before .before .before .put-word .ensures .end, c .before .before .before .before .before .before .before .before .before .before .before .put-field .ensures .end, c .before .before .before .before .before .before .before .put-field2 .ensures .end, c .before .before .before .put-field3 .ensures .end, c .before .before .before .put-field3 .ensures .size, c .before .before .before .before .before .before .before .put-field2 .ensures .size, c .before .before .before .before .before .before .before .before .before .before .before .put-field .ensures .size, c .before .before .before .before .before .before .before .before .before .before .before .before .before .before .before .put-word .ensures .size, digits-short (v / 65536), digits-short (v % 65536), digits-short (c .before .before .before .before .before .before .before .before .before .before .before .before .before .before .before .before .before .before .before .args .steps), c .before .before .before .before .before .before .before .before .before .before .before .before .before .before .before .before .before .before .before .pre)
+    let start = c .before .before .before .before .before .before .before .before .before .before .before .before .before .before .before .before .before .before .before in
+    let at-put-word = c .before .before .before .before .before .before .before .before .before .before .before .before .before .before .before .put-word in
+    let at-put-field = c .before .before .before .before .before .before .before .before .before .before .before .put-field in
+    let at-put-field2 = c .before .before .before .before .before .before .before .put-field2 in
+    let at-put-field3 = c .before .before .before .put-field3 in
+    let v = start .args .ran in omega (arith, at-put-word .ensures .end, at-put-field .ensures .end, at-put-field2 .ensures .end, at-put-field3 .ensures .end, at-put-field3 .ensures .size, at-put-field2 .ensures .size, at-put-field .ensures .size, at-put-word .ensures .size, digits-short (v / 65536), digits-short (v % 65536), digits-short (start .args .steps), start .pre)
 
 same-length : tie.Need-same-length
 same-length c = search needs
@@ -37,7 +47,12 @@ same-length c = search needs
 returns : tie.Need-returns
 unfolding bytes printedLine
 returns c =
-    writes-on (c .before .before .before .before .before .before .before .before .before .before .before .before .before .before .before .before .before .before .put-word .ensures) (writes-on (c .before .before .before .before .before .before .before .before .before .before .before .before .before .before .put-field .ensures) (writes-on (c .before .before .before .before .before .before .before .before .before .before .put-field2 .ensures) (writes-on (c .before .before .before .before .before .before .put-field3 .ensures) (c .before .before .put .ensures))))
+    let at-put-word = c .before .before .before .before .before .before .before .before .before .before .before .before .before .before .before .before .before .before .put-word in
+    let at-put-field = c .before .before .before .before .before .before .before .before .before .before .before .before .before .before .put-field in
+    let at-put-field2 = c .before .before .before .before .before .before .before .before .before .before .put-field2 in
+    let at-put-field3 = c .before .before .before .before .before .before .put-field3 in
+    let at-put = c .before .before .put in
+    writes-on (at-put-word .ensures) (writes-on (at-put-field .ensures) (writes-on (at-put-field2 .ensures) (writes-on (at-put-field3 .ensures) (at-put .ensures))))
 
 pub put-run-spec : {M : Type 1} → statement M
 put-run-spec =

@@ -24,7 +24,12 @@ put-signed-requires c κs = search needs
 
 put-requires-2 : tie.Need-put-requires-2
 put-requires-2 c κs =
-    omega (arith, c .before .before .before .before .before .before .before .before .before .before .before .before .before .before .before .put-word .ensures .end, c .before .before .before .before .before .before .before .before .before .before .before .put-word2 .ensures .end, c .before .before .before .before .before .before .before .put .ensures .end, c .before .before .before .put-signed .ensures .end, c .before .before .before .put-signed .ensures .size, c .before .before .before .before .before .before .before .put .ensures .size, c .before .before .before .before .before .before .before .before .before .before .before .put-word2 .ensures .size, c .before .before .before .before .before .before .before .before .before .before .before .before .before .before .before .put-word .ensures .size, signed-few (c .before .before .before .before .before .before .before .before .before .before .before .before .before .before .before .before .before .before .before .before .args .v), c .before .before .before .before .before .before .before .before .before .before .before .before .before .before .before .before .before .before .before .before .pre)
+    let start = c .before .before .before .before .before .before .before .before .before .before .before .before .before .before .before .before .before .before .before .before in
+    let at-put-word = c .before .before .before .before .before .before .before .before .before .before .before .before .before .before .before .put-word in
+    let at-put-word2 = c .before .before .before .before .before .before .before .before .before .before .before .put-word2 in
+    let at-put = c .before .before .before .before .before .before .before .put in
+    let at-put-signed = c .before .before .before .put-signed in
+    omega (arith, at-put-word .ensures .end, at-put-word2 .ensures .end, at-put .ensures .end, at-put-signed .ensures .end, at-put-signed .ensures .size, at-put .ensures .size, at-put-word2 .ensures .size, at-put-word .ensures .size, signed-few (start .args .v), start .pre)
 
 same-length : tie.Need-same-length
 same-length c = search needs
@@ -32,7 +37,12 @@ same-length c = search needs
 returns : tie.Need-returns
 unfolding bytes printedLine
 returns c =
-    writes-on (c .before .before .before .before .before .before .before .before .before .before .before .before .before .before .before .before .before .before .put-word .ensures) (writes-on (c .before .before .before .before .before .before .before .before .before .before .before .before .before .before .put-word2 .ensures) (writes-on (c .before .before .before .before .before .before .before .before .before .before .put .ensures) (writes-on (c .before .before .before .before .before .before .put-signed .ensures) (c .before .before .put2 .ensures))))
+    let at-put-word = c .before .before .before .before .before .before .before .before .before .before .before .before .before .before .before .before .before .before .put-word in
+    let at-put-word2 = c .before .before .before .before .before .before .before .before .before .before .before .before .before .before .put-word2 in
+    let at-put = c .before .before .before .before .before .before .before .before .before .before .put in
+    let at-put-signed = c .before .before .before .before .before .before .put-signed in
+    let at-put2 = c .before .before .put2 in
+    writes-on (at-put-word .ensures) (writes-on (at-put-word2 .ensures) (writes-on (at-put .ensures) (writes-on (at-put-signed .ensures) (at-put2 .ensures))))
 
 pub put-variable-spec : {M : Type 1} → statement M
 put-variable-spec =

@@ -3,12 +3,12 @@ use mathlib.Core.Path.{sym, _∙_}
 use mathlib.Core.Logic.{⊎-elim, inl, inr}
 use borrow.Author.Tests.{ne-eqb}
 use Rattle.rules.specs.Grammar.{Method, Main, Var, kindNumber}
-use Rattle.rules.proofs.LineKinds.{kind-is as is-by-number}
-use Rattle.declare.proofs.Adds.{word-kind, kind-is, line-is, form-is}
+use Rattle.read_declarations.proofs.Adds.{word-kind, kind-is, line-is, form-is}
 use Rattle.printer.proofs.Variables.{var-named, goes-method, goes-main, goes-none, goes-local, goes-line}
 use borrow.Author.Needs.{needs}
 use Rattle.printer.proofs.show_line.Statement.{statement}
 use Rattle.printer.proofs.show_line.Tie as tie
+use Rattle.rules.proofs.LineKinds.{kind-is as is-by-number}
 
 word-at-requires : tie.Need-word-at-requires
 word-at-requires c κs = search needs

@@ -6,8 +6,8 @@ use mathlib.Core.List.{[]}
 use Prim.Native.Nat.{ℕ, _+_}
 use lib.ListN.{length, getD, drop}
 use Rattle.rules.specs.Base.{Name}
-use Rattle.lines.specs.Cuts.{part, more}
-use Rattle.declare.proofs.Lines.{second}
+use Rattle.read_fields.specs.Cuts.{part, more}
+use Rattle.read_declarations.proofs.Lines.{second}
 use native.Mathlib.Omega.{arith}
 use Rattle.printer.proofs.Variables.{word-in, part-name, name-few, line-few}
 use borrow.Author.Needs.{needs}

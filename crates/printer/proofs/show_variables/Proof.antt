@@ -2,7 +2,7 @@
 use Prim.Native.Nat.{_-_, _≤_}
 use native.Mathlib.Omega.{arith}
 use lib.ListN.{length}
-use Rattle.declare.proofs.Walks.{walking-clean, walking-formed}
+use Rattle.read_declarations.proofs.Walks.{walking-clean, walking-formed}
 use Rattle.printer.proofs.Variables.{Showing, showing-first, showing-done, showing-room, showing-on}
 use Rattle.printer.proofs.show_variables.Statement.{statement}
 use Rattle.printer.proofs.show_variables.Tie as tie

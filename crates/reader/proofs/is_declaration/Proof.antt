@@ -1,7 +1,7 @@
 -- `reader::is_declaration` meets its contract. Assumes nothing.
 use mathlib.Core.Path.{sym}
 use borrow.Author.Tests.{ne-eqb}
-use Rattle.headers.specs.Headers.{isDeclaration}
+use Rattle.resolve_headers.specs.Headers.{isDeclaration}
 use Rattle.reader.proofs.is_declaration.Statement.{statement}
 use Rattle.reader.proofs.is_declaration.Tie as tie
 

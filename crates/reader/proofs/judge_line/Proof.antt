@@ -1,6 +1,6 @@
 -- `reader::judge_line` meets its contract. Assumes nothing.
 use mathlib.Core.Path.{sym, subst}
-use Rattle.declared.specs.Meanings.{Fits}
+use Rattle.read_scopes.specs.Meanings.{Fits}
 use Rattle.reader.proofs.Judged.{judged-formed, seen-fits, judged-here}
 use Rattle.reader.proofs.judge_line.Statement.{statement}
 use Rattle.reader.proofs.judge_line.Tie as tie

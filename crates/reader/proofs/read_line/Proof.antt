@@ -1,6 +1,6 @@
 -- `reader::read_line` meets its contract. Assumes nothing.
 use mathlib.Core.Path.{sym, _∙_}
-use Rattle.headers.proofs.Lines.{stands-held}
+use Rattle.resolve_headers.proofs.Lines.{stands-held}
 use Rattle.reader.specs.Readings.{StepIs}
 use Rattle.reader.proofs.Judged.{good-resolved, bad-resolved, refusal-kept, good-kept}
 use Rattle.reader.proofs.Lines.{follows, begins-after, tried-on, tried-bad, line-taken, between}

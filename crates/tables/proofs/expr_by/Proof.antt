@@ -1,6 +1,6 @@
 use borrow.Author.Tests.{ne-eqb}
 use Rattle.tables.specs.Stores.{meaning}
-use Rattle.tables.specs.Decode.{exprAt, leftAt, rightAt}
+use Rattle.tables.specs.Decode.{exprAt}
 use borrow.Author.Needs.{needs}
 use Rattle.tables.proofs.expr_by.Statement.{statement}
 use Rattle.tables.proofs.expr_by.Tie as tie

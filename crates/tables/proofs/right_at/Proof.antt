@@ -1,6 +1,5 @@
-use Rattle.tables.specs.Stores.{meaning}
-use Rattle.tables.specs.Decode.{exprAt, leftAt, rightAt}
-use mathlib.Core.Path.{ap, _∙_}
+use Rattle.tables.specs.Decode.{rightAt}
+use mathlib.Core.Path.{_∙_}
 use borrow.Author.Needs.{needs}
 use Rattle.tables.proofs.right_at.Statement.{statement}
 use Rattle.tables.proofs.right_at.Tie as tie

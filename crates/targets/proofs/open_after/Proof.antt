@@ -1,14 +1,9 @@
-use mathlib.Core.Path.{_≡_, _∙_}
+use mathlib.Core.Path.{_∙_}
 use native.Mathlib.Omega.{arith}
 use Rattle.targets.proofs.Stacks.{open-at-if, open-at-else, open-at-join, open-elsewhere}
 use borrow.Author.Needs.{needs}
 use Rattle.targets.proofs.open_after.Statement.{statement}
 use Rattle.targets.proofs.open_after.Tie as tie
-use Rattle.targets.proofs.open_after.Reads as reads
-use Rattle.targets.proofs.open_after.Lts as lts
-use Rattle.targets.proofs.pop.Reads as pop-reads
-use Rattle.targets.proofs.push.Reads as push-reads
-use Rattle.targets.proofs.replace.Reads as replace-reads
 
 push-requires : tie.Need-push-requires
 push-requires c κs = search needs

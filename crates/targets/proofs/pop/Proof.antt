@@ -1,12 +1,9 @@
-use Prim.Native.Nat.{ℕ, _+_, _*_, _≤_, _<_}
 use mathlib.Core.Path.{_≡_}
 use native.Mathlib.Omega.{arith}
 use Rattle.targets.proofs.Stacks.{pop-stack, pop-fits, no-stack}
 use borrow.Author.Needs.{needs}
 use Rattle.targets.proofs.pop.Statement.{statement}
 use Rattle.targets.proofs.pop.Tie as tie
-use Rattle.targets.proofs.pop.Reads as reads
-use Rattle.targets.proofs.pop.Lts as lts
 
 returns : tie.Need-returns
 returns c = (no-stack _ _ (omega arith), c .before .pre)

@@ -1,11 +1,9 @@
-use Prim.Native.Nat.{ℕ, _+_, _*_, _≤_, _<_}
+use Prim.Native.Nat.{_<_}
 use native.Mathlib.Omega.{arith}
 use Rattle.targets.proofs.Stacks.{power-small, push-stack, push-fits, full-stack}
 use borrow.Author.Needs.{needs}
 use Rattle.targets.proofs.push.Statement.{statement}
 use Rattle.targets.proofs.push.Tie as tie
-use Rattle.targets.proofs.push.Reads as reads
-use Rattle.targets.proofs.push.Lts as lts
 
 add-t5 : tie.Need-add-t5
 add-t5 c = search needs

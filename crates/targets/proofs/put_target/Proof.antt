@@ -1,12 +1,9 @@
-use mathlib.Core.Path.{_≡_, _∙_}
+use mathlib.Core.Path.{_∙_}
 use native.Mathlib.Omega.{arith}
 use Rattle.targets.proofs.Stacks.{target-put, no-target}
 use borrow.Author.Needs.{needs}
 use Rattle.targets.proofs.put_target.Statement.{statement}
 use Rattle.targets.proofs.put_target.Tie as tie
-use Rattle.targets.proofs.put_target.Reads as reads
-use Rattle.targets.proofs.put_target.Lts as lts
-use Rattle.tables.proofs.put_half.Reads as put-half-reads
 
 mul-put-half : tie.Need-mul-put-half
 mul-put-half c = search needs

@@ -1,12 +1,9 @@
-use Prim.Native.Nat.{ℕ, _+_, _*_, _≤_, _<_}
 use mathlib.Core.Path.{_≡_}
 use native.Mathlib.Omega.{arith}
 use Rattle.targets.proofs.Stacks.{replace-stack, replace-fits, none-replaced}
 use borrow.Author.Needs.{needs}
 use Rattle.targets.proofs.replace.Statement.{statement}
 use Rattle.targets.proofs.replace.Tie as tie
-use Rattle.targets.proofs.replace.Reads as reads
-use Rattle.targets.proofs.replace.Lts as lts
 
 returns : tie.Need-returns
 returns c = (none-replaced _ _ _ (omega arith), c .before .pre .0)

@@ -1,4 +1,4 @@
-use mathlib.Core.Path.{_≡_, refl, sym, ap, _∙_}
+use mathlib.Core.Path.{_≡_, sym, ap, _∙_}
 use mathlib.Core.List.{List, []}
 use Prim.Native.Nat.{ℕ, _-_, _≤_}
 use native.Mathlib.Omega.{arith}
@@ -8,11 +8,6 @@ use Rattle.targets.specs.Targets.{Fits, power, stackOf, targetsFrom}
 use Rattle.targets.proofs.Stacks.{targets-on, targets-end, work-after-length}
 use Rattle.targets.proofs.set_targets.Statement.{statement}
 use Rattle.targets.proofs.set_targets.Tie as tie
-use Rattle.targets.proofs.set_targets.Reads as reads
-use Rattle.targets.proofs.set_targets.Lts as lts
-use Rattle.tables.proofs.kind_at.Reads as kind-at-reads
-use Rattle.targets.proofs.open_after.Reads as open-after-reads
-use Rattle.targets.proofs.work_after.Reads as work-after-reads
 
 abbrev Inv-loop : tie.InvT-loop
 Inv-loop work₀ n o₀ i₀ work o i =

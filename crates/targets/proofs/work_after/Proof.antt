@@ -1,12 +1,9 @@
-use mathlib.Core.Path.{_≡_, _∙_}
+use mathlib.Core.Path.{_∙_}
 use native.Mathlib.Omega.{arith}
 use Rattle.targets.proofs.Stacks.{work-at-else, work-at-join, work-elsewhere}
 use borrow.Author.Needs.{needs}
 use Rattle.targets.proofs.work_after.Statement.{statement}
 use Rattle.targets.proofs.work_after.Tie as tie
-use Rattle.targets.proofs.work_after.Reads as reads
-use Rattle.targets.proofs.work_after.Lts as lts
-use Rattle.targets.proofs.put_target.Reads as put-target-reads
 
 add-put-target : tie.Need-add-put-target
 add-put-target c = search needs

@@ -1,1 +1,0 @@
-// Proofs only: the rows of a read text nest (proofs/ReadOrder).

@@ -1,0 +1,17 @@
+use Rattle.check_equality.specs.Links.{placeOf}
+use mathlib.Core.Path.{refl}
+use native.Mathlib.Omega.{arith}
+use Rattle.check_equality.proofs.place.Statement.{statement}
+use Rattle.check_equality.proofs.place.Tie as tie
+
+add-result : tie.Need-add-result
+add-result c =
+    omega arith
+
+returns : tie.Need-returns
+unfolding placeOf
+returns c =
+    (refl, omega arith)
+
+pub place-spec : {M : Type 1} → statement M
+place-spec = tie.close (tie.spec add-result returns)

@@ -1,0 +1,191 @@
+-- Forgetting: what becomes of the sides of the facts, and the facts that are then left.
+use mathlib.Core.Path.{_≡_, refl, sym, ap, ap₂, _∙_, subst}
+use mathlib.Core.Bool.{Bool, true, false, cond, not, _||_}
+use mathlib.Core.List.{List, [], _∷_, _++_}
+use mathlib.Core.Option.{Option, none, some}
+use mathlib.Core.Logic.{⊎-elim}
+use Prim.Native.Nat.{ℕ, zero, suc, _+_, _*_, _≤_, _<_}
+use native.Mathlib.Omega.{arith}
+use native.Mathlib.Numerals.{add-one}
+use lib.Dec.{eqb}
+use lib.ListN.{length, getD, set, replicate}
+use lib.Seq.{getD-set-same, getD-set-other, set-getD}
+use borrow.Author.Tests.{eqb-true}
+use Rattle.rules.specs.Base.{mapOption, bindOption}
+use Rattle.rules.specs.State.{Term, Fact, Renaming, renameFact, renameFacts, renameTerm}
+use Rattle.rules.proofs.Lists.{decide-eq}
+use Rattle.check_equality.specs.Keys.{termOf}
+use Rattle.check_equality.specs.Listing.{listed}
+use Rattle.check_equality.specs.Links.{Header, termAt, factOf}
+use Rattle.check_equality.proofs.Listing.{listed-more, listed-same, map-append}
+use Rattle.check_equality.proofs.Labels.{header-set}
+use Rattle.check_equality.specs.Layout.{slots, left-sides, right-sides, relations-at, variables-at, fact-count, entry-count}
+use Rattle.check_state.specs.States.{Wf, Linked, facts, apartAt, factAt, factsIn}
+use Rattle.check_state.proofs.Entries.{no-flags}
+use Rattle.check_inequality.proofs.Searches.{or-none-left, or-none-right}
+use Rattle.check_forgetting.specs.Changes.{Fresh, Dropped, RenamedKeys, Stands, Sized, Unchanged, Rebuilt, renamedKey}
+use Rattle.check_forgetting.proofs.Keeping.{counted-linked, counted-facts, counted-other}
+use Rattle.check_forgetting.proofs.Renaming.{renamed-term}
+
+-- SIDES DROPPED
+pub dropped-more :
+    (test : ℕ → Bool) (key : List ℕ) (i : ℕ) (gone : List Bool) (changed g : Bool) → i < length gone → Dropped test key i gone changed →
+    g ≡ test (getD key i 0) → Dropped test key (i + 1) (set gone i g) (changed || g)
+dropped-more test key i gone changed g l D e =
+    record {
+      at = λ j a h. ⊎-elim (λ d. rw d (getD-set-same gone i g false l ∙ e)) (λ d. getD-set-other gone i j g false d ∙ D .at j a (omega arith)) (decide-eq j i);
+      none =
+          λ q j a h.
+          ⊎-elim (λ d. rw d (getD-set-same gone i g false l ∙ or-none-right changed g q))
+          (λ d. getD-set-other gone i j g false d ∙ D .none (or-none-left changed g q) j a (omega arith)) (decide-eq j i);
+    }
+
+pub dropped-first : (test : ℕ → Bool) (key : List ℕ) (gone : List Bool) → Dropped test key left-sides gone false
+dropped-first test key gone = record { at = λ j a h. absurd (omega arith); none = λ q j a h. absurd (omega arith) }
+
+pub dropped-all :
+    (test : ℕ → Bool) (key : List ℕ) (i m : ℕ) (gone : List Bool) (changed : Bool) → m ≤ i → Dropped test key i gone changed →
+    Dropped test key m gone changed
+dropped-all test key i m gone changed h D =
+    record { at = λ j a g. D .at j a (omega arith); none = λ q j a g. D .none q j a (omega arith) }
+
+-- SIDES RENAMED: those before slot i are, the others are as they were
+pub record RenamedTo (x to : ℕ) (old : List ℕ) (i : ℕ) (key : List ℕ) (changed : Bool) : Type 0 where
+  pub header : Header key
+  pub done : (j : ℕ) → left-sides ≤ j → j < i → getD key j 0 ≡ renamedKey x to (getD old j 0)
+  pub rest : (j : ℕ) → i ≤ j → getD key j 0 ≡ getD old j 0
+  pub same : changed ≡ false → key ≡ old
+
+pub renamed-first : (x to : ℕ) (key : List ℕ) → Header key → RenamedTo x to key left-sides key false
+renamed-first x to key H =
+    record { header = H; done = λ j a h. absurd (omega arith); rest = λ j h. refl; same = λ q. refl }
+
+pub renamed-more :
+    (x to : ℕ) (old : List ℕ) (i : ℕ) (key : List ℕ) (changed : Bool) (l : ℕ) → left-sides ≤ i → i < slots → RenamedTo x to old i key changed →
+    l ≡ renamedKey x to (getD key i 0) → RenamedTo x to old (i + 1) (set key i l) (changed || not (eqb l (getD key i 0)))
+renamed-more x to old i key changed l a h R e =
+    record {
+      header = header-set key i l (R .header) a;
+      done =
+          λ j b g.
+          ⊎-elim
+          (λ d. rw d (getD-set-same key i l 0 (omega (arith, R .header .size)) ∙ e ∙ ap (renamedKey x to) (R .rest i (omega arith))))
+          (λ d. getD-set-other key i j l 0 d ∙ R .done j b (omega arith)) (decide-eq j i);
+      rest = λ j g. getD-set-other key i j l 0 (omega arith) ∙ R .rest j (omega arith);
+      same =
+          λ q.
+          ap (set key i) (eqb-true l (getD key i 0) (not-not (eqb l (getD key i 0)) (or-none-right changed _ q))) ∙ set-getD key i 0
+          ∙ R .same (or-none-left changed _ q);
+    }
+  where
+    not-not : (c : Bool) → not c ≡ false → c ≡ true
+    not-not true q = refl
+    not-not false q = sym q
+
+pub renamed-all :
+    (x to : ℕ) (old : List ℕ) (i m : ℕ) (key : List ℕ) (changed : Bool) → m ≤ i → RenamedTo x to old i key changed →
+    RenamedKeys x to old m key changed
+renamed-all x to old i m key changed h R =
+    record { header = R .header; at = λ j a g. R .done j a (omega arith); same = R .same }
+
+-- WHAT THE SIDES STAND FOR
+pub dropped-stands :
+    (ρ : Renaming) (test : ℕ → Bool) (key : List ℕ) (n : ℕ) (gone : List Bool) (changed : Bool) →
+    ((k : ℕ) → ρ (termOf k) ≡ cond (test k) none (some (termOf k))) → Dropped test key (left-sides + 2 * n) gone changed → Stands ρ key key gone n
+dropped-stands ρ test key n gone changed w D =
+    λ j a h. w (getD key j 0) ∙ ap (λ (c : Bool). cond c none (some (termAt key j))) (sym (D .at j a h))
+
+pub renamed-stands :
+    (x to : ℕ) → x < 256 → to < 256 → (key key′ : List ℕ) (n : ℕ) (changed : Bool) → RenamedKeys x to key (left-sides + 2 * n) key′ changed →
+    Stands (renameTerm x (some to)) key key′ (replicate slots false) n
+renamed-stands x to p q key key′ n changed R =
+    λ j a h.
+    renamed-term x p to q (getD key j 0) ∙ ap (λ (k : ℕ). some (termOf k)) (sym (R .at j a h))
+    ∙ ap (λ (c : Bool). cond c none (some (termAt key′ j))) (sym (no-flags slots j))
+
+-- nothing is done where nothing changes
+pub dropped-unchanged :
+    (test : ℕ → Bool) (key b : List ℕ) (gone : List Bool) (changed : Bool) → Wf key b → Dropped test key (left-sides + 2 * facts b) gone changed →
+    changed ≡ false → Unchanged key b gone
+dropped-unchanged test key b gone changed w D q = record { wf = w; none = D .none q }
+
+pub renamed-unchanged :
+    (x to : ℕ) (key b key′ : List ℕ) (m : ℕ) (changed : Bool) → Wf key b → RenamedKeys x to key m key′ changed → changed ≡ false →
+    Unchanged key′ b (replicate slots false)
+renamed-unchanged x to key b key′ m changed w R q =
+    record { wf = subst (λ (k : List ℕ). Wf k b) (sym (R .same q)) w; none = λ j a h. no-flags slots j }
+
+pub wf-sized : (key key′ b : List ℕ) → Header key′ → Wf key b → Sized key′ b
+wf-sized key key′ b H w = record { header = H; size = w .linked .size; fit = w .linked .fit; entries-fit = w .fit }
+
+-- ONE MORE FACT RENAMED
+module _ (ρ : Renaming) (old b : List ℕ) (i : ℕ) (g h : Bool) (l r : ℕ) (eg : ρ (termAt old (left-sides + 2 * i)) ≡ cond g none (some (termOf l)))
+    (eh : ρ (termAt old (right-sides + 2 * i)) ≡ cond h none (some (termOf r))) where
+  fact-renamed : renameFact ρ (factAt old b i) ≡ cond (g || h) none (some (factOf (apartAt b i) l r))
+  unfolding renameFact bindOption
+  fact-renamed = rw (eg, eh) (go g h)
+    where
+      go :
+          (a c : Bool) →
+          bindOption (cond a none (some (termOf l))) (λ (t : Term). bindOption (cond c none (some (termOf r))) (λ (u : Term). some (record { rel = factAt old b i .rel; left = t; right = u })))
+          ≡ cond (a || c) none (some (factOf (apartAt b i) l r))
+      go true c = refl
+      go false true = refl
+      go false false = refl
+
+  pub facts-more : renameFacts ρ (factsIn old b (i + 1)) ≡ renameFacts ρ (factsIn old b i) ++ cond (g || h) [] (factOf (apartAt b i) l r ∷ [])
+  unfolding renameFacts mapOption
+  facts-more =
+      ap (mapOption (renameFact ρ)) (listed-more (factAt old b) i) ∙ map-append (renameFact ρ) (factsIn old b i) (factAt old b i ∷ [])
+      ∙ ap (λ (fs : List Fact). mapOption (renameFact ρ) (factsIn old b i) ++ fs) (one (renameFact ρ (factAt old b i)) (g || h) fact-renamed)
+    where
+      one :
+          (o : Option Fact) (c : Bool) → o ≡ cond c none (some (factOf (apartAt b i) l r)) →
+          elim o [ none ↦ [] | some f ↦ f ∷ [] ] ≡ cond c [] (factOf (apartAt b i) l r ∷ [])
+      one o true d = rw d
+      one o false d = rw d
+
+pub facts-none : (ρ : Renaming) (old b : List ℕ) → renameFacts ρ (factsIn old b 0) ≡ []
+unfolding renameFacts mapOption listed
+facts-none ρ old b = refl
+
+-- the fact i of those that are rebuilt, whose sides and flag stand where they stood
+pub facts-next :
+    (ρ : Renaming) (old key₀ b₀ : List ℕ) (gone : List Bool) (all i : ℕ) → Stands ρ old key₀ gone all → i < all → (fs fs′ : List Fact) (c l r : ℕ) →
+    fs′ ≡ fs ++ cond (getD gone (left-sides + 2 * i) false || getD gone (right-sides + 2 * i) false) [] (factOf (eqb c 1) l r ∷ []) → l ≡ getD key₀ (left-sides + 2 * i) 0 →
+    r ≡ getD key₀ (right-sides + 2 * i) 0 → c ≡ getD b₀ (relations-at + i) 0 → fs ≡ renameFacts ρ (factsIn old b₀ i) → fs′ ≡ renameFacts ρ (factsIn old b₀ (i + 1))
+facts-next ρ old key₀ b₀ gone all i S h fs fs′ c l r k el er ec e =
+    k ∙ ap₂ (λ (a b : List Fact). a ++ b) e (rw (el, er, ec))
+    ∙ sym (facts-more ρ old b₀ i (getD gone (left-sides + 2 * i) false) (getD gone (right-sides + 2 * i) false) (getD key₀ (left-sides + 2 * i) 0) (getD key₀ (right-sides + 2 * i) 0) (S (left-sides + 2 * i) (omega arith) (omega arith)) (S (right-sides + 2 * i) (omega arith) (omega arith)))
+
+-- NOTHING CHANGES
+module _ (key b : List ℕ) (gone : List Bool) (U : Unchanged key b gone) (ρ : Renaming) (old : List ℕ) (S : Stands ρ old key gone (facts b)) where
+  side-same : (j : ℕ) → left-sides ≤ j → j < left-sides + 2 * facts b → ρ (termAt old j) ≡ some (termAt key j)
+  side-same j a h = S j a h ∙ ap (λ (c : Bool). cond c none (some (termAt key j))) (U .none j a h)
+
+  facts-as : (n : ℕ) → n ≤ facts b → factsIn key b n ≡ renameFacts ρ (factsIn old b n)
+  unfolding listed
+  facts-as zero h = sym (facts-none ρ old b)
+  facts-as (suc n) h =
+      ap (λ (fs : List Fact). fs ++ (factAt key b n ∷ [])) (facts-as n (omega arith))
+      ∙ sym (facts-more ρ old b n false false (getD key (left-sides + 2 * n) 0) (getD key (right-sides + 2 * n) 0) (side-same (left-sides + 2 * n) (omega arith) (omega arith)) (side-same (right-sides + 2 * n) (omega arith) (omega arith)))
+      ∙ ap (λ (k : ℕ). renameFacts ρ (factsIn old b k)) (add-one n)
+
+pub nothing-changed : (key b : List ℕ) (gone : List Bool) → Unchanged key b gone → Rebuilt key b gone key b
+nothing-changed key b gone U =
+    record { wf = U .wf; facts = λ ρ old S. facts-as key b gone U ρ old S (facts b) (omega arith); rest = λ i g s. refl }
+
+-- REBUILT: the count of facts is written; b₁ is b with fresh labels
+pub rebuilt-fresh :
+    (key₀ b b₁ key b₂ : List ℕ) (gone : List Bool) (n : ℕ) → Sized key₀ b → Fresh b b₁ → Linked key b₂ n →
+    ((ρ : Renaming) (old : List ℕ) → Stands ρ old key₀ gone (facts b) → factsIn key b₂ n ≡ renameFacts ρ (factsIn old b₁ (facts b))) →
+    ((j : ℕ) → variables-at ≤ j → getD b₂ j 0 ≡ getD b₁ j 0) → Rebuilt key₀ b gone key (set b₂ fact-count n)
+rebuilt-fresh key₀ b b₁ key b₂ gone n w F L e rest =
+    record {
+      wf = record {
+        linked = counted-linked b₂ n (L .size) key L;
+        fit = omega (arith, counted-other b₂ n (L .size) entry-count (omega arith), rest entry-count (omega arith), F .rest entry-count (omega arith), w .entries-fit);
+      };
+      facts = λ ρ old S. counted-facts b₂ n (L .size) key (L .fit) ∙ e ρ old S ∙ ap (renameFacts ρ) (listed-same _ _ (facts b) (λ i h. rw (F .rest (relations-at + i) (omega arith))));
+      rest = λ i g s. counted-other b₂ n (L .size) i s ∙ rest i g ∙ F .rest i (omega arith);
+    }

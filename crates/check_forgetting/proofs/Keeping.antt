@@ -1,0 +1,258 @@
+-- Lists of which some elements are out.
+use mathlib.Core.Path.{_≡_, refl, sym, ap, ap₂, _∙_, subst}
+use mathlib.Core.Bool.{Bool, true, false, cond, _&&_, _||_}
+use mathlib.Core.List.{List, [], _∷_, _++_, append-nil}
+use mathlib.Core.Option.{Option, none, some}
+use mathlib.Core.Logic.{_⊎_, inl, inr, ⊎-elim}
+use Prim.Native.Nat.{ℕ, zero, suc, _+_, _*_, _≤_, _<_}
+use native.Mathlib.Omega.{arith}
+use native.Mathlib.Numerals.{add-one}
+use lib.Dec.{eqb}
+use lib.ListN.{length, getD, set, length-set}
+use lib.Seq.{getD-set-same, getD-set-other}
+use Rattle.rules.specs.Base.{any, mapOption}
+use Rattle.rules.specs.State.{Fact, Permission}
+use Rattle.rules.proofs.Lists.{decide-eq}
+use Rattle.check_equality.specs.Listing.{listed}
+use Rattle.check_equality.specs.Links.{Header, Decides, Pushed, factOf}
+use Rattle.check_equality.proofs.Listing.{listed-more, listed-same, any-append, map-append}
+use Rattle.check_equality.proofs.Labels.{header-set}
+use Rattle.check_equality.specs.Layout.{left-sides, right-sides, relations-at, variables-at, fields-at, fact-count, entry-count, bytes}
+use Rattle.check_state.specs.States.{factAt, factsIn, factsOf, facts, entries, permissionAt, permissionsIn, Linked, Wf}
+use Rattle.check_forgetting.specs.Changes.{kept, gone, KeepsFact, KeepsEntry, Packed, renamedPermission}
+
+module _ {A : Type 0} where
+  pub kept-none : (out : List Bool) (f : ℕ → A) → kept out f 0 ≡ []
+  unfolding kept
+  kept-none out f = refl
+
+  pub kept-more : (out : List Bool) (f : ℕ → A) (n : ℕ) → kept out f (n + 1) ≡ kept out f n ++ cond (getD out n false) [] (f n ∷ [])
+  unfolding kept
+  kept-more out f n = rw add-one
+
+  -- the same flags, the same elements
+  pub kept-same :
+      (out out′ : List Bool) (f g : ℕ → A) (n : ℕ) → ((i : ℕ) → i < n → getD out i false ≡ getD out′ i false) →
+      ((i : ℕ) → i < n → f i ≡ g i) → kept out f n ≡ kept out′ g n
+  unfolding kept
+  kept-same out out′ f g zero h e = refl
+  kept-same out out′ f g (suc n) h e =
+      ap₂ (λ (a b : List A). a ++ b) (kept-same out out′ f g n (λ i k. h i (omega arith)) (λ i k. e i (omega arith)))
+      (ap₂ (λ (c : Bool) (a : A). cond c [] (a ∷ [])) (h n (omega arith)) (e n (omega arith)))
+
+  -- none is out
+  pub kept-all : (out : List Bool) (f : ℕ → A) (n : ℕ) → ((i : ℕ) → i < n → getD out i false ≡ false) → kept out f n ≡ listed f n
+  unfolding kept listed
+  kept-all out f zero h = refl
+  kept-all out f (suc n) h =
+      ap₂ (λ (l : List A) (c : Bool). l ++ cond c [] (f n ∷ [])) (kept-all out f n (λ i k. h i (omega arith))) (h n (omega arith))
+
+  -- some element that is out
+  pub gone-any : (q : A → Bool) (out : List Bool) (f : ℕ → A) (n : ℕ) → any q (gone out f n) ≡ any (λ i. getD out i false && q (f i)) (listed (λ i. i) n)
+  unfolding gone listed any
+  gone-any q out f zero = refl
+  gone-any q out f (suc n) =
+      any-append q (gone out f n) (cond (getD out n false) (f n ∷ []) [])
+      ∙ ap₂ (λ (a b : Bool). a || b) (gone-any q out f n) (one (getD out n false))
+      ∙ sym (any-append (λ i. getD out i false && q (f i)) (listed (λ i. i) n) (n ∷ []))
+    where
+      one : (c : Bool) → any q (cond c (f n ∷ []) []) ≡ ((c && q (f n)) || false)
+      one true = refl
+      one false = refl
+
+pub kept-map :
+    {A B : Type 0} (g : A → Option B) (out : List Bool) (f : ℕ → A) (h : ℕ → B) (n : ℕ) →
+    ((i : ℕ) → i < n → g (f i) ≡ cond (getD out i false) none (some (h i))) → mapOption g (listed f n) ≡ kept out h n
+unfolding kept listed mapOption
+kept-map g out f h zero e = refl
+kept-map {B = B} g out f h (suc n) e =
+    map-append g (listed f n) (f n ∷ [])
+    ∙ ap₂ (λ (a b : List B). a ++ b) (kept-map g out f h n (λ i k. e i (omega arith))) (one (g (f n)) (getD out n false) (e n (omega arith)))
+  where
+    one : (o : Option B) (c : Bool) → o ≡ cond c none (some (h n)) → elim o [ none ↦ [] | some b ↦ b ∷ [] ] ≡ cond c [] (h n ∷ [])
+    one o true d = rw d
+    one o false d = rw d
+
+-- FLAGS
+pub flags-more :
+    (out : List Bool) (i : ℕ) (v : Bool) (test : ℕ → Bool) → i < length out → ((j : ℕ) → j < i → getD out j false ≡ test j) → v ≡ test i →
+    (j : ℕ) → j < i + 1 → getD (set out i v) j false ≡ test j
+flags-more out i v test h before e j g = ⊎-elim here there (decide-eq j i)
+  where
+    here : j ≡ i → getD (set out i v) j false ≡ test j
+    here d = rw d (getD-set-same out i v false h ∙ e)
+
+    there : (j ≡ i → ⊥) → getD (set out i v) j false ≡ test j
+    there d = getD-set-other out i j v false d ∙ before j (omega arith)
+
+-- THE SAME BYTES
+-- labels that are the same decide the same
+decides-same : {fs : List Fact} {key : List ℕ} (b b′ : List ℕ) {m : ℕ} → ((i : ℕ) → i < m → getD b′ i 0 ≡ getD b i 0) → Decides fs key b m → Decides fs key b′ m
+decides-same b b′ e D =
+    record {
+      low = λ i h. omega (arith, e i h, D .low i h);
+      unique = λ i j h g d. e i h ∙ D .unique i j h g d ∙ sym (e j g);
+      sound = λ i j h g d. D .sound i j h g (sym (e i h) ∙ d ∙ e j g);
+      linked = λ t u d. ⊎-elim (λ p. inl p) (λ w. inr (record { one = w .one; other = w .other; one-within = w .one-within; other-within = w .other-within; one-is = w .one-is; other-is = w .other-is; agree = e (w .one) (w .one-within) ∙ w .agree ∙ sym (e (w .other) (w .other-within)) })) (D .linked t u d);
+    }
+
+pub facts-same : (key b b′ : List ℕ) (n : ℕ) → n ≤ 64 → ((i : ℕ) → i < variables-at → getD b′ i 0 ≡ getD b i 0) → factsIn key b′ n ≡ factsIn key b n
+facts-same key b b′ n h e = listed-same _ _ n (λ i g. rw (e (relations-at + i) (omega arith)))
+
+pub linked-same : (key b b′ : List ℕ) (n : ℕ) → length b′ ≡ bytes → ((i : ℕ) → i < variables-at → getD b′ i 0 ≡ getD b i 0) → Linked key b n → Linked key b′ n
+linked-same key b b′ n l e L =
+    record {
+      header = L .header;
+      size = l;
+      fit = L .fit;
+      decides = subst (λ (fs : List Fact). Decides fs key b′ (left-sides + 2 * n)) (sym (facts-same key b b′ n (L .fit) e)) (decides-same b b′ (λ i h. e i (omega (arith, L .fit))) (L .decides));
+    }
+
+pub entries-same :
+    (b b′ : List ℕ) (n : ℕ) → n ≤ 64 → ((i : ℕ) → variables-at ≤ i → i < fact-count → getD b′ i 0 ≡ getD b i 0) → (i : ℕ) → i < n → permissionAt b′ i ≡ permissionAt b i
+entries-same b b′ n h e i g = ap₂ (λ (x f : ℕ). record { variable = x; field = f }) (e (variables-at + i) (omega arith) (omega arith)) (e (fields-at + i) (omega arith) (omega arith))
+
+-- a state whose facts are as they were
+pub packed-linked : (key b b′ : List ℕ) (out : List Bool) (x to : ℕ) → Wf key b → Packed b out x to b′ → Linked key b′ (facts b)
+packed-linked key b b′ out x to w P = linked-same key b b′ (facts b) (P .size) (λ i h. P .rest i (inl h)) (w .linked)
+
+pub packed-wf : (key b b′ : List ℕ) (out : List Bool) (x to : ℕ) → Wf key b → Packed b out x to b′ → Wf key b′
+packed-wf key b b′ out x to w P =
+    record { linked = subst (λ (n : ℕ). Linked key b′ n) (sym (P .rest fact-count (inr refl))) (packed-linked key b b′ out x to w P); fit = P .few }
+
+pub packed-facts : (key b b′ : List ℕ) (out : List Bool) (x to : ℕ) → Wf key b → Packed b out x to b′ → factsOf key b′ ≡ factsOf key b
+packed-facts key b b′ out x to w P =
+    ap (λ (n : ℕ). factsIn key b′ n) (P .rest fact-count (inr refl)) ∙ facts-same key b b′ (facts b) (w .linked .fit) (λ i h. P .rest i (inl h))
+
+-- the count of facts is written
+module _ (b : List ℕ) (n : ℕ) (l : length b ≡ bytes) where
+  pub counted : facts (set b fact-count n) ≡ n
+  counted = getD-set-same b fact-count n 0 (omega arith)
+
+  pub counted-other : (i : ℕ) → (i ≡ fact-count → ⊥) → getD (set b fact-count n) i 0 ≡ getD b i 0
+  counted-other i h = getD-set-other b fact-count i n 0 h
+
+  pub counted-linked : (key : List ℕ) → Linked key b n → Linked key (set b fact-count n) (facts (set b fact-count n))
+  counted-linked key L =
+      subst (λ (k : ℕ). Linked key (set b fact-count n) k) (sym counted) (linked-same key b (set b fact-count n) n (length-set b fact-count n ∙ l) (λ i h. counted-other i (omega arith)) L)
+
+  pub counted-facts : (key : List ℕ) → n ≤ 64 → factsOf key (set b fact-count n) ≡ factsIn key b n
+  counted-facts key h = ap (λ (k : ℕ). factsIn key (set b fact-count n) k) counted ∙ facts-same key b (set b fact-count n) n h (λ i g. counted-other i (omega arith))
+
+-- ONE MORE FACT
+module _ (key b : List ℕ) (n c l r : ℕ) (L : Linked key b n) (h : n < 64) (key′ b₁ : List ℕ) (d : Bool) (e : eqb c 1 ≡ d) (P : Pushed key b (left-sides + 2 * n) d l r key′ b₁) where
+  abbrev b₂ : List ℕ
+  b₂ = set b₁ (relations-at + n) c
+
+  sized : length b₁ ≡ bytes
+  sized = P .size ∙ L .size
+
+  keys-at : (j : ℕ) → (j ≡ left-sides + 2 * n → ⊥) → (j ≡ right-sides + 2 * n → ⊥) → getD key′ j 0 ≡ getD key j 0
+  keys-at j p q =
+      ap (λ (k : List ℕ). getD k j 0) (P .keys) ∙ getD-set-other (set key (left-sides + 2 * n) l) (left-sides + 2 * n + 1) j r 0 (omega arith)
+      ∙ getD-set-other key (left-sides + 2 * n) j l 0 p
+
+  left : getD key′ (left-sides + 2 * n) 0 ≡ l
+  left =
+      ap (λ (k : List ℕ). getD k (left-sides + 2 * n) 0) (P .keys) ∙ getD-set-other (set key (left-sides + 2 * n) l) (left-sides + 2 * n + 1) (left-sides + 2 * n) r 0 (omega arith)
+      ∙ getD-set-same key (left-sides + 2 * n) l 0 (omega (arith, L .header .size))
+
+  right : getD key′ (right-sides + 2 * n) 0 ≡ r
+  right =
+      let g : right-sides + 2 * n ≡ left-sides + 2 * n + 1 = omega arith in
+      ap (λ (k : List ℕ). getD k (right-sides + 2 * n) 0) (P .keys) ∙ ap (λ (j : ℕ). getD (set (set key (left-sides + 2 * n) l) (left-sides + 2 * n + 1) r) j 0) g
+      ∙ getD-set-same (set key (left-sides + 2 * n) l) (left-sides + 2 * n + 1) r 0 (rw (length-set key (left-sides + 2 * n) l) (omega (arith, L .header .size)))
+
+  flag-old : (i : ℕ) → i < n → getD b₂ (relations-at + i) 0 ≡ getD b (relations-at + i) 0
+  flag-old i g = getD-set-other b₁ (relations-at + n) (relations-at + i) c 0 (omega arith) ∙ P .rest (relations-at + i) (omega arith)
+
+  flag-new : getD b₂ (relations-at + n) 0 ≡ c
+  flag-new = getD-set-same b₁ (relations-at + n) c 0 (omega (arith, sized))
+
+  pub pushed-facts : factsIn key′ b₂ (n + 1) ≡ factsIn key b n ++ (factOf (eqb c 1) l r ∷ [])
+  pushed-facts =
+      listed-more (factAt key′ b₂) n
+      ∙ ap₂ (λ (fs : List Fact) (f : Fact). fs ++ (f ∷ [])) (listed-same _ _ n (λ i g. rw (keys-at (left-sides + 2 * i) (omega arith) (omega arith), keys-at (right-sides + 2 * i) (omega arith) (omega arith), flag-old i g)))
+      (rw (left, right, flag-new))
+
+  pub pushed-linked : Linked key′ b₂ (n + 1)
+  pushed-linked =
+      record {
+        header = subst Header (sym (P .keys)) (header-set (set key (left-sides + 2 * n) l) (left-sides + 2 * n + 1) r (header-set key (left-sides + 2 * n) l (L .header) (omega arith)) (omega arith));
+        size = length-set b₁ (relations-at + n) c ∙ sized;
+        fit = omega arith;
+        decides =
+            let g : left-sides + 2 * n + 2 ≡ left-sides + 2 * (n + 1) = omega arith in
+            subst (λ (fs : List Fact). Decides fs key′ b₂ (left-sides + 2 * (n + 1))) (ap (λ (x : Bool). factsIn key b n ++ (factOf x l r ∷ [])) (sym e) ∙ sym pushed-facts)
+            (decides-same b₁ b₂ (λ i s. getD-set-other b₁ (relations-at + n) i c 0 (omega arith))
+            (subst (λ (m : ℕ). Decides (factsIn key b n ++ (factOf d l r ∷ [])) key′ b₁ m) g (P .labels (factsIn key b n) (L .decides))));
+      }
+
+  pub pushed-rest : (j : ℕ) → relations-at + n < j → getD b₂ j 0 ≡ getD b j 0
+  pushed-rest j g = getD-set-other b₁ (relations-at + n) j c 0 (omega arith) ∙ P .rest j (omega arith)
+
+  pub keeps-fact : KeepsFact key b n false c l r key′ b₂ (n + 1)
+  keeps-fact =
+      record { few = omega arith; linked = pushed-linked; facts = pushed-facts; keys = λ j g. keys-at j (omega arith) (omega arith); rest = pushed-rest }
+
+pub drops-fact : (key b : List ℕ) (n c l r : ℕ) → Linked key b n → KeepsFact key b n true c l r key b n
+drops-fact key b n c l r L =
+    record { few = omega arith; linked = L; facts = sym (append-nil (factsIn key b n)); keys = λ j g. refl; rest = λ j g. refl }
+
+-- ONE MORE ENTRY
+module _ (b : List ℕ) (n x f : ℕ) (l : length b ≡ bytes) (h : n < 64) where
+  abbrev pub with-entry : List ℕ
+  with-entry = set (set b (variables-at + n) x) (fields-at + n) f
+
+  pub entry-size : length with-entry ≡ bytes
+  entry-size = length-set (set b (variables-at + n) x) (fields-at + n) f ∙ length-set b (variables-at + n) x ∙ l
+
+  pub entry-other : (j : ℕ) → (j ≡ variables-at + n → ⊥) → (j ≡ fields-at + n → ⊥) → getD with-entry j 0 ≡ getD b j 0
+  entry-other j p q = getD-set-other (set b (variables-at + n) x) (fields-at + n) j f 0 q ∙ getD-set-other b (variables-at + n) j x 0 p
+
+  entry-at : (j : ℕ) → j < 64 → (j ≡ n → ⊥) → permissionAt with-entry j ≡ permissionAt b j
+  entry-at j g d =
+      ap₂ (λ (x f : ℕ). record { variable = x; field = f }) (entry-other (variables-at + j) (omega arith) (omega arith)) (entry-other (fields-at + j) (omega arith) (omega arith))
+
+  entry-new : permissionAt with-entry n ≡ record { variable = x; field = f }
+  entry-new =
+      ap₂ (λ (x f : ℕ). record { variable = x; field = f })
+      (getD-set-other (set b (variables-at + n) x) (fields-at + n) (variables-at + n) f 0 (omega arith) ∙ getD-set-same b (variables-at + n) x 0 (omega arith))
+      (getD-set-same (set b (variables-at + n) x) (fields-at + n) f 0 (rw (length-set b (variables-at + n) x) (omega arith)))
+
+  pub entries-more : permissionsIn with-entry (n + 1) ≡ permissionsIn b n ++ (record { variable = x; field = f } ∷ [])
+  entries-more =
+      listed-more (permissionAt with-entry) n
+      ∙ ap₂ (λ (ps : List Permission) (p : Permission). ps ++ (p ∷ [])) (listed-same _ _ n (λ i g. entry-at i (omega arith) (omega arith))) entry-new
+
+  pub keeps-entry : KeepsEntry b n false x f with-entry (n + 1)
+  keeps-entry =
+      record {
+        few = omega arith;
+        size = entry-size;
+        entries = entries-more;
+        later = λ j g s. entry-at j s (omega arith);
+        rest = λ j g. ⊎-elim (λ p. entry-other j (omega arith) (omega arith)) (λ p. entry-other j (omega arith) (omega arith)) g;
+      }
+
+pub drops-entry : (b : List ℕ) (n x f : ℕ) → length b ≡ bytes → KeepsEntry b n true x f b n
+drops-entry b n x f l =
+    record { few = omega arith; size = l; entries = sym (append-nil (permissionsIn b n)); later = λ j g s. refl; rest = λ j g. refl }
+
+-- the count of entries is written
+pub packed-at :
+    (b₀ b : List ℕ) (out : List Bool) (x to n : ℕ) → length b ≡ bytes → n ≤ 64 → permissionsIn b n ≡ kept out (renamedPermission b₀ x to) (entries b₀) →
+    ((j : ℕ) → (j < variables-at) ⊎ (fact-count ≤ j) → getD b j 0 ≡ getD b₀ j 0) → Packed b₀ out x to (set b entry-count n)
+packed-at b₀ b out x to n l h e rest =
+    record {
+      size = length-set b entry-count n ∙ l;
+      few = omega (arith, last);
+      entries = ap (permissionsIn (set b entry-count n)) last ∙ listed-same _ _ n (entries-same b (set b entry-count n) n h (λ i g s. at i (omega arith))) ∙ e;
+      rest = λ i g. ⊎-elim (λ p. at i (omega arith) ∙ rest i (inl p)) (λ p. at i (omega arith) ∙ rest i (inr (omega arith))) g;
+    }
+  where
+    at : (i : ℕ) → (i ≡ entry-count → ⊥) → getD (set b entry-count n) i 0 ≡ getD b i 0
+    at i g = getD-set-other b entry-count i n 0 g
+
+    last : entries (set b entry-count n) ≡ n
+    last = getD-set-same b entry-count n 0 (omega arith)

@@ -1,0 +1,31 @@
+use Rattle.check_forgetting.proofs.Forgetting.{wf-sized, dropped-unchanged}
+use Rattle.check_forgetting.proofs.Changes.{path-law}
+use borrow.Author.Needs.{needs}
+use Rattle.check_forgetting.proofs.without_path.Statement.{statement}
+use Rattle.check_forgetting.proofs.without_path.Tie as tie
+
+element-copy-out-m : tie.Need-element-copy-out-m
+element-copy-out-m c = search needs
+
+cast-m : tie.Need-cast-m
+cast-m c = search needs
+
+mul-m : tie.Need-mul-m
+mul-m c = search needs
+
+add-m : tie.Need-add-m
+add-m c = search needs
+
+drop-path-requires : tie.Need-drop-path-requires
+drop-path-requires c κs = search needs
+
+forget-requires : tie.Need-forget-requires
+forget-requires c κs = (wf-sized _ _ _ (c .before .before .before .before .before .before .before .pre .0 .linked .header) (c .before .before .before .before .before .before .before .pre .0), dropped-unchanged _ _ _ _ _ (c .before .before .before .before .before .before .before .pre .0) (c .before .before .before .drop-path .ensures))
+
+returns : tie.Need-returns
+returns c = path-law _ _ _ _ _ _ (c .before .before .before .before .before .before .before .before .args .i) _ (c .before .before .before .before .before .before .before .before .pre .0) (c .before .before .before .before .before .before .before .before .pre .2) (c .before .before .before .before .drop-path .ensures) (c .forget .ensures)
+
+pub without-path-spec : {M : Type 1} → statement M
+without-path-spec =
+    tie.close
+    (tie.spec element-copy-out-m cast-m mul-m add-m drop-path-requires forget-requires returns)

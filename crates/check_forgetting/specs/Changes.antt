@@ -1,0 +1,166 @@
+-- What goes from a state, and what is renamed in it.
+use mathlib.Core.Path.{_≡_}
+use mathlib.Core.Bool.{Bool, true, false, cond, _&&_, _||_}
+use mathlib.Core.List.{List, [], _∷_, _++_}
+use mathlib.Core.Option.{Option, none, some}
+use mathlib.Core.Logic.{_⊎_}
+use Prim.Native.Nat.{ℕ, zero, suc, _+_, _*_, _-_, _≤_, _<_}
+use lib.Dec.{eqb, ltb, leb}
+use lib.ListN.{length, getD}
+use Rattle.rules.specs.Base.{any}
+use Rattle.rules.specs.Limits.{most-permissions, most-facts}
+use Rattle.rules.specs.Syntax as Syntax
+use Rattle.rules.specs.State as Rules
+use Rattle.rules.specs.State.{Permission, Renaming, renameFacts}
+use Rattle.check_equality.specs.Layout.{left-sides, relations-at, variables-at, fact-count, bytes}
+use Rattle.check_equality.specs.Keys.{termOf, keyOf, first-path, paths}
+use Rattle.check_equality.specs.Links.{Header, termAt, factOf, placeOf}
+use Rattle.check_state.specs.declared.Resolved.{Resolved}
+use Rattle.check_state.specs.States.{Wf, Linked, stateOf, facts, entries, factsIn, factsOf, variableAt, fieldAt, permissionsIn, permissionsOf, permissionAt}
+use Rattle.check_state.specs.Questions.{places}
+
+-- the arrays then hold the state
+pub record Becomes (t : Rules.State) (key b : List ℕ) : Type 0 where
+  pub wf : Wf key b
+  pub same : stateOf key b ≡ t
+
+-- a renamed term, or that it goes
+unfoldable pub leftOver : Resolved → Option Rules.Term
+leftOver (Resolved.Key k) = some (termOf k)
+leftOver Resolved.Nothing = none
+
+-- LISTS OF WHICH SOME ELEMENTS ARE OUT
+-- those of f 0 to f (n - 1) that are not out
+unfoldable pub kept : {A : Type 0} → List Bool → (ℕ → A) → ℕ → List A
+kept out f zero = []
+kept out f (suc n) = kept out f n ++ cond (getD out n false) [] (f n ∷ [])
+
+-- those that are out
+unfoldable pub gone : {A : Type 0} → List Bool → (ℕ → A) → ℕ → List A
+gone out f zero = []
+gone out f (suc n) = gone out f n ++ cond (getD out n false) (f n ∷ []) []
+
+-- flags of the places below n
+pub record Flags (test : ℕ → Bool) (n : ℕ) (r : List Bool) : Type 0 where
+  pub size : length r ≡ 64
+  pub at : (i : ℕ) → i < n → getD r i false ≡ test i
+
+-- WHAT A FORMULA CONSUMES
+-- the entries that are out are those consumed
+pub record Taken (b : List ℕ) (out : List Bool) (c : Rules.Shown) : Type 0 where
+  pub rest : c .kept ≡ kept out (permissionAt b) (entries b)
+  pub used : (q : Permission → Bool) → any q (c .consumed) ≡ any q (gone out (permissionAt b) (entries b))
+
+-- CHANGES
+-- the labels of the slots before the facts' are their own numbers
+pub record Fresh (b b′ : List ℕ) : Type 0 where
+  pub size : length b′ ≡ length b
+  pub own : (i : ℕ) → i < left-sides → getD b′ i 0 ≡ i
+  pub rest : (i : ℕ) → left-sides ≤ i → getD b′ i 0 ≡ getD b i 0
+
+-- a key, with the variable `to` for x
+unfoldable pub renamedKey : ℕ → ℕ → ℕ → ℕ
+renamedKey x to k =
+    cond (eqb k x) to
+    (cond (leb (first-path + x * paths) k && ltb (k - (first-path + x * paths)) paths) (first-path + to * paths + (k - (first-path + x * paths))) k)
+
+-- it names x
+unfoldable pub mentionsKey : ℕ → ℕ → Bool
+mentionsKey x k = eqb k x || (leb (first-path + x * paths) k && ltb (k - (first-path + x * paths)) paths)
+
+unfoldable pub renamedVariable : ℕ → ℕ → ℕ → ℕ
+renamedVariable x to v = cond (eqb v x) to v
+
+abbrev pub renamedPermission : List ℕ → ℕ → ℕ → ℕ → Permission
+renamedPermission b x to i = record { variable = renamedVariable x to (variableAt b i); field = fieldAt b i }
+
+-- one more fact, unless it is out; c is 1 for an inequality
+pub record KeepsFact (key b : List ℕ) (n : ℕ) (out : Bool) (c l r : ℕ) (key′ b′ : List ℕ) (n′ : ℕ) : Type 0 where
+  pub few : n′ ≤ n + 1
+  pub linked : Linked key′ b′ n′
+  pub facts : factsIn key′ b′ n′ ≡ factsIn key b n ++ cond out [] (factOf (eqb c 1) l r ∷ [])
+  pub keys : (j : ℕ) → 18 + 2 * n ≤ j → getD key′ j 0 ≡ getD key j 0
+  pub rest : (j : ℕ) → relations-at + n < j → getD b′ j 0 ≡ getD b j 0
+
+-- FORGETTING
+-- the sides dropped: the flags of the facts' slots up to m, and whether one is set
+pub record Dropped (test : ℕ → Bool) (key : List ℕ) (m : ℕ) (gone : List Bool) (changed : Bool) : Type 0 where
+  pub at : (j : ℕ) → left-sides ≤ j → j < m → getD gone j false ≡ test (getD key j 0)
+  pub none : changed ≡ false → (j : ℕ) → left-sides ≤ j → j < m → getD gone j false ≡ false
+
+-- the sides renamed
+pub record RenamedKeys (x to : ℕ) (key : List ℕ) (m : ℕ) (key′ : List ℕ) (changed : Bool) : Type 0 where
+  pub header : Header key′
+  pub at : (j : ℕ) → left-sides ≤ j → j < m → getD key′ j 0 ≡ renamedKey x to (getD key j 0)
+  pub same : changed ≡ false → key′ ≡ key
+
+-- what becomes of the side in slot j
+abbrev pub becomeOf : List ℕ → List Bool → ℕ → Option Rules.Term
+becomeOf key gone j = cond (getD gone j false) none (some (termAt key j))
+
+-- it is what ρ says of the term that stood there, for the sides of n facts
+abbrev pub Stands : Renaming → List ℕ → List ℕ → List Bool → ℕ → Type 0
+Stands ρ old key gone n = (j : ℕ) → left-sides ≤ j → j < left-sides + 2 * n → ρ (termAt old j) ≡ becomeOf key gone j
+
+-- a state whose labels need not decide ~
+pub record Sized (key b : List ℕ) : Type 0 where
+  pub header : Header key
+  pub size : length b ≡ bytes
+  pub fit : facts b ≤ most-facts
+  pub entries-fit : entries b ≤ most-permissions
+
+-- nothing changes
+pub record Unchanged (key b : List ℕ) (gone : List Bool) : Type 0 where
+  pub wf : Wf key b
+  pub none : (j : ℕ) → left-sides ≤ j → j < left-sides + 2 * facts b → getD gone j false ≡ false
+
+-- the facts by what becomes of their sides; the entries stay
+pub record Rebuilt (key b : List ℕ) (gone : List Bool) (key′ b′ : List ℕ) : Type 0 where
+  pub wf : Wf key′ b′
+  pub facts : (ρ : Renaming) (old : List ℕ) → Stands ρ old key gone (facts b) → factsOf key′ b′ ≡ renameFacts ρ (factsOf old b)
+  pub rest : (i : ℕ) → variables-at ≤ i → (i ≡ fact-count → ⊥) → getD b′ i 0 ≡ getD b i 0
+
+-- ENTRIES
+-- one more entry, unless it is out
+pub record KeepsEntry (b : List ℕ) (n : ℕ) (out : Bool) (x f : ℕ) (b′ : List ℕ) (n′ : ℕ) : Type 0 where
+  pub few : n′ ≤ n + 1
+  pub size : length b′ ≡ bytes
+  pub entries : permissionsIn b′ n′ ≡ permissionsIn b n ++ cond out [] (record { variable = x; field = f } ∷ [])
+  pub later : (j : ℕ) → n < j → j < 64 → permissionAt b′ j ≡ permissionAt b j
+  pub rest : (j : ℕ) → (j < variables-at) ⊎ (fact-count ≤ j) → getD b′ j 0 ≡ getD b j 0
+
+-- the entries that are not out, renamed; the facts stay
+pub record Packed (b : List ℕ) (out : List Bool) (x to : ℕ) (b′ : List ℕ) : Type 0 where
+  pub size : length b′ ≡ bytes
+  pub few : entries b′ ≤ most-permissions
+  pub entries : permissionsOf b′ ≡ kept out (renamedPermission b x to) (entries b)
+  pub rest : (i : ℕ) → (i < variables-at) ⊎ (i ≡ fact-count) → getD b′ i 0 ≡ getD b i 0
+
+-- PATHS THAT ARE OUT
+-- the entry `x.f` is out, and its path is the term of k
+unfoldable pub pathOut : Bool → ℕ → ℕ → ℕ → Bool
+pathOut out x f k = out && Syntax.same (Syntax.path x f) (termOf k)
+
+abbrev pub pathOutAt : List ℕ → List Bool → ℕ → ℕ → Bool
+pathOutAt b out k i = pathOut (getD out i false) (variableAt b i) (fieldAt b i) k
+
+abbrev pub keyOut : List ℕ → List Bool → ℕ → Bool
+keyOut b out k = any (pathOutAt b out k) (places (entries b))
+
+-- the place of a path's key
+abbrev pub placeOfPath : ℕ → ℕ → ℕ
+placeOfPath x f = placeOf (keyOf (Syntax.path x f))
+
+-- the place of `x.f` is marked where it is out
+pub record Marks (out : Bool) (x f : ℕ) (marks marks′ : List Bool) : Type 0 where
+  pub size : length marks′ ≡ length marks
+  pub new : out ≡ true → getD marks′ (placeOfPath x f) false ≡ true
+  pub old : (p : ℕ) → getD marks p false ≡ true → getD marks′ p false ≡ true
+
+-- the places of the paths of the first n entries that are out are marked
+pub record MarksOut (b : List ℕ) (out : List Bool) (n : ℕ) (marks : List Bool) : Type 0 where
+  pub size : length marks ≡ 512
+  pub at : (i : ℕ) → i < n → getD out i false ≡ true → getD marks (placeOfPath (variableAt b i) (fieldAt b i)) false ≡ true
+
+abbrev pub withoutPath : List ℕ → List ℕ → ℕ → Rules.State
+withoutPath key b i = Rules.dropPaths (permissionAt b i ∷ []) (permissionsOf b) (stateOf key b)

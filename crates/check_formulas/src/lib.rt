@@ -1,0 +1,141 @@
+// Formulas of the tables shown and added, also with a call's actual names.
+use check_entailment::Answer;
+use check_entailment::Atom;
+use check_entailment::Shown;
+use check_equality::State;
+use check_equality::Term;
+ghost use mathlib.Core.Path.{_≡_};
+ghost use Prim.Native.Nat.{_+_, _≤_, _<_};
+ghost use lib.ListN.{length};
+ghost use Rattle.rules.specs.Limits.{work-bytes};
+ghost use Rattle.rules.specs.State as Rules;
+ghost use Rattle.rules.specs.Rules.{substTerm, substAtom};
+ghost use Rattle.rules.specs.Rules as Rule;
+ghost use Rattle.tables.specs.Layout.{most-atom-rows};
+ghost use Rattle.tables.specs.Decode.{exprAt, leftAt, rightAt, atomAt};
+ghost use Rattle.check_equality.specs.Keys.{meaning};
+ghost use Rattle.check_state.specs.States.{Wf, stateOf};
+ghost use Rattle.check_entailment.specs.Answers.{atomOf, Adds};
+ghost use Rattle.check_formulas.specs.Formulas.{formula, accessAt, Shows};
+
+// The variable v of a formula, with y, z and x for `this`, w and `result`.
+fn actual(y: u8, z: u8, x: u8, v: u8) -> u8
+    ensures { λ r. ⌜ r ≡ Rule.actual y z x v ⌝ }
+{
+    match v {
+        0 => y,
+        1 => z,
+        14 => x,
+        _ => v,
+    }
+}
+
+// The side of an atom that stands at i.
+fn side(w: &[u8], tag: usize, i: usize, y: u8, z: u8, x: u8) -> Term
+    requires { ⌜ i + 4 ≤ length (now w) ⌝ }
+    ensures { λ r. ⌜ meaning r ≡ substTerm (Rule.actual y z x) (exprAt (now (w .entry)) tag i) ⌝ }
+{
+    match tag {
+        0 => Term::Num(tables::word_at(w, i)),
+        1 => Term::Null,
+        2 => Term::Var(actual(y, z, x, w[i])),
+        _ => Term::Path(actual(y, z, x, w[i]), w[i + 1]),
+    }
+}
+
+// The left side of the atom a.
+pub fn left(w: &[u8], a: usize, y: u8, z: u8, x: u8) -> Term
+    requires { ⌜ (length (now w) ≡ work-bytes) × (a < most-atom-rows) ⌝ }
+    ensures { λ r. ⌜ meaning r ≡ substTerm (Rule.actual y z x) (leftAt (now (w .entry)) a) ⌝ }
+{
+    let i = 6208 + a * 12;
+    let tag = tables::byte_at(w, i + 1);
+    side(w, tag, i + 4, y, z, x)
+}
+
+// The right side of the atom a.
+pub fn right(w: &[u8], a: usize, y: u8, z: u8, x: u8) -> Term
+    requires { ⌜ (length (now w) ≡ work-bytes) × (a < most-atom-rows) ⌝ }
+    ensures { λ r. ⌜ meaning r ≡ substTerm (Rule.actual y z x) (rightAt (now (w .entry)) a) ⌝ }
+{
+    let i = 6208 + a * 12;
+    let tag = tables::byte_at(w, i + 2);
+    side(w, tag, i + 8, y, z, x)
+}
+
+// `acc x f` at the atom a.
+fn access(w: &[u8], a: usize, y: u8, z: u8, x: u8) -> Atom
+    requires { ⌜ (length (now w) ≡ work-bytes) × (a < most-atom-rows) ⌝ }
+    ensures { λ r. ⌜ atomOf r ≡ accessAt (now (w .entry)) y z x a ⌝ }
+{
+    let i = 6208 + a * 12;
+    Atom::Acc(actual(y, z, x, w[i + 4]), w[i + 5])
+}
+
+// The atom a.
+pub fn atom(w: &[u8], a: usize, y: u8, z: u8, x: u8) -> Atom
+    requires { ⌜ (length (now w) ≡ work-bytes) × (a < most-atom-rows) ⌝ }
+    ensures { λ r. ⌜ atomOf r ≡ substAtom (Rule.actual y z x) (atomAt (now (w .entry)) a) ⌝ }
+{
+    match tables::atom_kind(w, a) {
+        0 => access(w, a, y, z, x),
+        1 => Atom::Eq(left(w, a, y, z, x), right(w, a, y, z, x)),
+        _ => Atom::Ne(left(w, a, y, z, x), right(w, a, y, z, x)),
+    }
+}
+
+// Shows n atoms from the atom a on; the entries that they consume are out then.
+pub fn show<'a>(
+    w: &'a [u8],
+    a: usize,
+    n: usize,
+    y: u8,
+    z: u8,
+    x: u8,
+    key: &'a [u64; State::SLOTS],
+    b: &'a [u8; State::BYTES],
+) -> Shown
+    requires { ⌜ (length (now w) ≡ work-bytes) × (a + n ≤ most-atom-rows) × Wf (now key) (now b) ⌝ }
+    ensures { λ r. ⌜ Shows (now (key .entry)) (now (b .entry)) (formula (now (w .entry)) y z x a n) (r .answer) (r .out) ⌝ }
+{
+    let mut out = [false; 64];
+    let mut i = 0;
+    while i < n {
+        let r = check_entailment::show_atom(key, b, out, atom(w, a + i, y, z, x));
+        let k = r.answer;
+        out = r.out;
+        let Answer::Done = k else {
+            return Shown { answer: k, out };
+        };
+        i += 1;
+    }
+    Shown {
+        answer: Answer::Done,
+        out,
+    }
+}
+
+// Adds n atoms from the atom a on.
+pub fn add(
+    w: &[u8],
+    a: usize,
+    n: usize,
+    y: u8,
+    z: u8,
+    x: u8,
+    key: &mut [u64; State::SLOTS],
+    b: &mut [u8; State::BYTES],
+) -> Answer
+    requires { ⌜ (length (now w) ≡ work-bytes) × (a + n ≤ most-atom-rows) × Wf (now key) (now b) ⌝ }
+    ensures { λ r. ⌜ Adds (Rules.add (formula (now (w .entry)) y z x a n) (stateOf (now (key .entry)) (now (b .entry)))) r (now (key .exit)) (now (b .exit)) ⌝ }
+{
+    let mut i = 0;
+    while i < n {
+        let k = check_entailment::add_atom(key, b, atom(w, a + i, y, z, x));
+        let Answer::Done = k else {
+            return k;
+        };
+        i += 1;
+    }
+    Answer::Done
+}

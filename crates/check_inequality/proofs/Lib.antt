@@ -1,0 +1,4 @@
+pub mod Searches
+pub mod Pairs
+pub mod Numbers
+pub mod Ways

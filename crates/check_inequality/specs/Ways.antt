@@ -1,0 +1,52 @@
+-- The ways of showing an inequality, as tests of labels, keys and entries.
+use mathlib.Core.Bool.{Bool, not, _&&_, _||_}
+use mathlib.Core.List.{List}
+use Prim.Native.Nat.{ℕ, _+_, _*_}
+use lib.Dec.{eqb, leb}
+use lib.ListN.{getD}
+use Rattle.rules.specs.Base.{any}
+use Rattle.rules.specs.Syntax.{var}
+use Rattle.rules.specs.State.{Equality, Permission, links}
+use Rattle.check_equality.specs.Layout.{left-sides, right-sides, relations-at}
+use Rattle.check_equality.specs.Keys.{termOf, first-number}
+use Rattle.check_equality.specs.Links.{alikeBy}
+use Rattle.check_state.specs.States.{permissionAt}
+use Rattle.check_state.specs.Questions.{places}
+
+-- labels x and y agree with a and b, either way round
+unfoldable pub eitherWay : ℕ → ℕ → ℕ → ℕ → Bool
+eitherWay x y a b = (eqb x a && eqb y b) || (eqb x b && eqb y a)
+
+-- (a) the fact i is an inequality whose sides have the labels x and y
+unfoldable pub unequalAt : ℕ → ℕ → ℕ → ℕ → ℕ → Bool
+unequalAt c x y a b = eqb c 1 && eitherWay x y a b
+
+abbrev pub unequalIn : List ℕ → ℕ → ℕ → ℕ → Bool
+unequalIn b x y i = unequalAt (getD b (relations-at + i) 0) (getD b (left-sides + 2 * i) 0) (getD b (right-sides + 2 * i) 0) x y
+
+-- (b) a number ~ the term of l
+unfoldable pub numberLike : ℕ → ℕ → ℕ → ℕ → Bool
+numberLike k c l b = leb first-number k && alikeBy k c l b
+
+-- .. and not the number of j
+unfoldable pub otherLike : ℕ → ℕ → ℕ → ℕ → ℕ → Bool
+otherLike j l b k c = not (eqb j k) && numberLike k c l b
+
+-- among n slots from 14 on
+abbrev pub otherIn : List ℕ → List ℕ → ℕ → ℕ → ℕ → ℕ → Bool
+otherIn key label l b j i = otherLike j l b (getD key (14 + i) 0) (getD label (14 + i) 0)
+
+unfoldable pub otherNumber : List ℕ → List ℕ → ℕ → ℕ → ℕ → ℕ → Bool
+otherNumber key label n l b j = any (otherIn key label l b j) (places n)
+
+unfoldable pub twoNumbers : List ℕ → List ℕ → ℕ → ℕ → ℕ → ℕ → ℕ → ℕ → Bool
+twoNumbers key label n t a u b i =
+    numberLike (getD key (14 + i) 0) (getD label (14 + i) 0) t a && otherNumber key label n u b (getD key (14 + i) 0)
+
+-- (d) two entries are for one field, and their variables ~ t and u
+unfoldable pub pairTest : Equality → ℕ → ℕ → Permission → Permission → Bool
+pairTest _~_ t u p q =
+    eqb (p .field) (q .field) && links _~_ (var (p .variable)) (var (q .variable)) (termOf t) (termOf u)
+
+abbrev pub pairAt : Equality → ℕ → ℕ → List ℕ → ℕ → ℕ → Bool
+pairAt _~_ t u b j i = pairTest _~_ t u (permissionAt b j) (permissionAt b i)

@@ -1,0 +1,329 @@
+// The ways (a) to (d) of showing an inequality.
+use check_equality::State;
+ghost use mathlib.Core.Path.{_≡_};
+ghost use mathlib.Core.Bool.{true};
+ghost use Prim.Native.Nat.{_+_, _*_, _≤_, _<_};
+ghost use lib.ListN.{length};
+ghost use Rattle.rules.specs.Base.{any};
+ghost use Rattle.rules.specs.Syntax as Syntax;
+ghost use Rattle.rules.specs.Syntax.{var};
+ghost use Rattle.rules.specs.State.{nullAndObject, twoEntries, differentNumbers, equalBy, equalIn, representative, holdsIn};
+ghost use Rattle.check_equality.specs.Layout.{slots, bytes, left-sides};
+ghost use Rattle.check_equality.specs.Keys.{termOf, first-number};
+ghost use Rattle.check_equality.specs.Links.{Labelled, Decides, relOf};
+ghost use Rattle.check_state.specs.States.{Wf, stateOf, factsIn, permissionsIn, variableAt};
+ghost use Rattle.check_state.specs.Questions.{Slots, Told, places};
+ghost use Rattle.check_inequality.specs.Ways.{eitherWay, unequalAt, unequalIn, numberLike, otherLike, otherNumber, twoNumbers, pairAt};
+
+fn either_way(x: u8, y: u8, a: u8, b: u8) -> bool
+    ensures { λ r. ⌜ r ≡ eitherWay x y a b ⌝ }
+{
+    ((x == a) & (y == b)) | ((x == b) & (y == a))
+}
+
+fn unequal_at(c: u8, x: u8, y: u8, a: u8, b: u8) -> bool
+    ensures { λ r. ⌜ r ≡ unequalAt c x y a b ⌝ }
+{
+    if c == 1 {
+        either_way(x, y, a, b)
+    } else {
+        false
+    }
+}
+
+// (a) Is an inequality listed whose sides have the labels x and y?
+fn listed_unequal(b: &[u8; State::BYTES], n: usize, x: u8, y: u8) -> bool
+    requires { ⌜ n ≤ 64 ⌝ }
+    ensures { λ r. ⌜ r ≡ any (unequalIn (now (b .entry)) x y) (places n) ⌝ }
+{
+    let mut i = 0;
+    while i < n {
+        if unequal_at(
+            b[State::RELATIONS + i],
+            b[State::LEFT + 2 * i],
+            b[State::RIGHT + 2 * i],
+            x,
+            y,
+        ) {
+            return true;
+        }
+        i += 1;
+    }
+    false
+}
+
+// Is k a number's key, and the number ~ the term of l?
+fn number_like(k: u64, c: u8, l: u64, b: u8) -> bool
+    ensures { λ r. ⌜ r ≡ numberLike k c l b ⌝ }
+{
+    if k < State::FIRST_NUMBER {
+        return false;
+    }
+    check_equality::alike(k, c, l, b)
+}
+
+fn other_like(j: u64, l: u64, b: u8, k: u64, c: u8) -> bool
+    ensures { λ r. ⌜ r ≡ otherLike j l b k c ⌝ }
+{
+    if j == k {
+        return false;
+    }
+    number_like(k, c, l, b)
+}
+
+// Is a number other than that of j ~ the term of l?
+fn other_number<'a>(
+    key: &'a [u64; State::SLOTS],
+    label: &'a [u8; State::BYTES],
+    n: usize,
+    l: u64,
+    b: u8,
+    j: u64,
+) -> bool
+    requires { ⌜ n ≤ 130 ⌝ }
+    ensures { λ r. ⌜ r ≡ otherNumber (now (key .entry)) (now (label .entry)) n l b j ⌝ }
+{
+    let mut i = 0;
+    while i < n {
+        if other_like(j, l, b, key[State::TERMS + i], label[State::TERMS + i]) {
+            return true;
+        }
+        i += 1;
+    }
+    false
+}
+
+// Is the term in slot TERMS + i a number ~ the term of t, and another one ~ that of u?
+fn two_numbers<'a>(
+    key: &'a [u64; State::SLOTS],
+    label: &'a [u8; State::BYTES],
+    n: usize,
+    t: u64,
+    a: u8,
+    u: u64,
+    b: u8,
+    i: usize,
+) -> bool
+    requires { ⌜ (n ≤ 130) × (i < n) ⌝ }
+    ensures { λ r. ⌜ r ≡ twoNumbers (now (key .entry)) (now (label .entry)) n t a u b i ⌝ }
+{
+    let k = key[State::TERMS + i];
+    if number_like(k, label[State::TERMS + i], t, a) {
+        return other_number(key, label, n, u, b, k);
+    }
+    false
+}
+
+// (b) Are two numbers ~ the terms of t and u?
+fn different_numbers<'a>(
+    key: &'a [u64; State::SLOTS],
+    label: &'a [u8; State::BYTES],
+    n: usize,
+    t: u64,
+    a: u8,
+    u: u64,
+    b: u8,
+) -> bool
+    requires { ⌜ n ≤ 130 ⌝ }
+    ensures { λ r. ⌜ r ≡ any (twoNumbers (now (key .entry)) (now (label .entry)) n t a u b) (places n) ⌝ }
+{
+    let mut i = 0;
+    while i < n {
+        if two_numbers(key, label, n, t, a, u, b, i) {
+            return true;
+        }
+        i += 1;
+    }
+    false
+}
+
+// (b) with the two terms in the slots before the facts.
+fn numbers_apart<'a>(
+    key: &'a [u64; State::SLOTS],
+    label: &'a [u8; State::BYTES],
+    n: usize,
+    t: u64,
+    a: u8,
+    u: u64,
+    b: u8,
+) -> bool
+    requires { ⌜ (n ≤ 64) × (length (now key) ≡ slots) × (length (now label) ≡ bytes) × Labelled (now key) (now label) (left-sides + 2 * n) t a × Labelled (now key) (now label) (left-sides + 2 * n) u b ⌝ }
+    ensures { λ r. ⌜ (Decides (factsIn (now (key .entry)) (now (label .entry)) n) (now (key .entry)) (now (label .entry)) (left-sides + 2 * n) → r ≡ differentNumbers (equalBy (representative (factsIn (now (key .entry)) (now (label .entry)) n))) (factsIn (now (key .entry)) (now (label .entry)) n) (termOf t) (termOf u)) ⌝ }
+{
+    let mut k = *key;
+    k[State::TERMS] = t;
+    k[State::NULL] = u;
+    let mut l = *label;
+    l[State::TERMS] = a;
+    l[State::NULL] = b;
+    different_numbers(&k, &l, 2 + 2 * n, t, a, u, b)
+}
+
+// Is the variable of some entry ~ the term of k?
+fn some_object<'a>(
+    key: &'a [u64; State::SLOTS],
+    b: &'a [u8; State::BYTES],
+    m: usize,
+    n: usize,
+    k: u64,
+    a: u8,
+) -> bool
+    requires { ⌜ Slots (now key) (now b) m × Labelled (now key) (now b) m k a × (n ≤ 64) ⌝ }
+    ensures { λ r. ⌜ Told (now (key .entry)) (now (b .entry)) m (λ same. r ≡ any (λ p. same (var (p .variable)) (termOf k)) (permissionsIn (now (b .entry)) n)) ⌝ }
+{
+    let mut i = 0;
+    while i < n {
+        if check_state::variable_is(key, b, m, b[State::VARIABLES + i], k, a) {
+            return true;
+        }
+        i += 1;
+    }
+    false
+}
+
+// (c) Is the term of t ~ null, and that of u ~ the variable of some entry?
+fn null_and_object<'a>(
+    key: &'a [u64; State::SLOTS],
+    b: &'a [u8; State::BYTES],
+    m: usize,
+    n: usize,
+    t: u64,
+    x: u8,
+    u: u64,
+    y: u8,
+) -> bool
+    requires { ⌜ Slots (now key) (now b) m × Labelled (now key) (now b) m t x × Labelled (now key) (now b) m u y × (n ≤ 64) ⌝ }
+    ensures { λ r. ⌜ Told (now (key .entry)) (now (b .entry)) m (λ same. r ≡ nullAndObject same (permissionsIn (now (b .entry)) n) (termOf t) (termOf u)) ⌝ }
+{
+    if check_equality::alike(State::NULL_KEY, b[State::NULL], t, x) {
+        return some_object(key, b, m, n, u, y);
+    }
+    false
+}
+
+// The entries j and i, where p and q say whether the variable of i is ~ the terms of t and u.
+fn pair<'a>(
+    key: &'a [u64; State::SLOTS],
+    b: &'a [u8; State::BYTES],
+    m: usize,
+    j: usize,
+    i: usize,
+    t: u64,
+    x: u8,
+    u: u64,
+    y: u8,
+    p: bool,
+    q: bool,
+) -> bool
+    requires { ⌜ Slots (now key) (now b) m × Labelled (now key) (now b) m t x × Labelled (now key) (now b) m u y × (j < 64) × (i < 64) ⌝ }
+    ensures { λ r. ⌜ Told (now (key .entry)) (now (b .entry)) m (λ same. p ≡ same (var (variableAt (now (b .entry)) i)) (termOf t) → q ≡ same (var (variableAt (now (b .entry)) i)) (termOf u) → r ≡ pairAt same t u (now (b .entry)) j i) ⌝ }
+{
+    if b[State::FIELDS + j] != b[State::FIELDS + i] {
+        return false;
+    }
+    let c = check_state::variable_is(key, b, m, b[State::VARIABLES + j], t, x);
+    let d = check_state::variable_is(key, b, m, b[State::VARIABLES + j], u, y);
+    (c & q) | (d & p)
+}
+
+// (d) Are the terms of t and u ~ the variables of two entries for one field? Only an entry whose variable is ~ to one of them is
+// tried with those before it.
+fn two_entries<'a>(
+    key: &'a [u64; State::SLOTS],
+    b: &'a [u8; State::BYTES],
+    m: usize,
+    n: usize,
+    t: u64,
+    x: u8,
+    u: u64,
+    y: u8,
+) -> bool
+    requires { ⌜ Slots (now key) (now b) m × Labelled (now key) (now b) m t x × Labelled (now key) (now b) m u y × (n ≤ 64) ⌝ }
+    ensures { λ r. ⌜ Told (now (key .entry)) (now (b .entry)) m (λ same. r ≡ twoEntries same (permissionsIn (now (b .entry)) n) (termOf t) (termOf u)) ⌝ }
+{
+    let mut found = false;
+    let mut i = 0;
+    'entries: while i < n {
+        let p = check_state::variable_is(key, b, m, b[State::VARIABLES + i], t, x);
+        let q = check_state::variable_is(key, b, m, b[State::VARIABLES + i], u, y);
+        if p | q {
+            let mut j = 0;
+            while j < i {
+                if pair(key, b, m, j, i, t, x, u, y, p, q) {
+                    found = true;
+                    break 'entries;
+                }
+                j += 1;
+            }
+        }
+        i += 1;
+    }
+    found
+}
+
+// Is the inequality of two terms shown? The ways (a), (c), (d) and then (b).
+fn unequal<'a>(key: &'a [u64; State::SLOTS], b: &'a [u8; State::BYTES], t: u64, u: u64) -> bool
+    requires { ⌜ Wf (now key) (now b) ⌝ }
+    ensures { λ r. ⌜ r ≡ holdsIn (equalIn (stateOf (now (key .entry)) (now (b .entry)))) (stateOf (now (key .entry)) (now (b .entry))) Syntax.ne (termOf t) (termOf u) ⌝ }
+{
+    let n = b[State::FACTS] as usize;
+    let m = State::LEFT + 2 * n;
+    let p = b[State::ENTRIES] as usize;
+    let x = check_equality::label_of(key, b, m, t);
+    let y = check_equality::label_of(key, b, m, u);
+    if listed_unequal(b, n, x, y) {
+        return true;
+    }
+    if null_and_object(key, b, m, p, t, x, u, y) {
+        return true;
+    }
+    if null_and_object(key, b, m, p, u, y, t, x) {
+        return true;
+    }
+    if two_entries(key, b, m, p, t, x, u, y) {
+        return true;
+    }
+    numbers_apart(key, b, n, t, x, u, y)
+}
+
+// Are these the keys of two numbers?
+fn are_two_numbers(t: u64, u: u64) -> bool
+    ensures { λ r. ⌜ (r ≡ true → (first-number ≤ t) × (first-number ≤ u) × (t ≡ u → ⊥)) ⌝ }
+{
+    if t < State::FIRST_NUMBER {
+        return false;
+    }
+    if u < State::FIRST_NUMBER {
+        return false;
+    }
+    t != u
+}
+
+// The same, but two numbers are unequal at once, by (b).
+fn differ<'a>(key: &'a [u64; State::SLOTS], b: &'a [u8; State::BYTES], t: u64, u: u64) -> bool
+    requires { ⌜ Wf (now key) (now b) ⌝ }
+    ensures { λ r. ⌜ r ≡ holdsIn (equalIn (stateOf (now (key .entry)) (now (b .entry)))) (stateOf (now (key .entry)) (now (b .entry))) Syntax.ne (termOf t) (termOf u) ⌝ }
+{
+    if are_two_numbers(t, u) {
+        return true;
+    }
+    unequal(key, b, t, u)
+}
+
+// Is the equality, or where `apart` the inequality, of two terms shown?
+pub fn holds<'a>(
+    key: &'a [u64; State::SLOTS],
+    b: &'a [u8; State::BYTES],
+    apart: bool,
+    t: u64,
+    u: u64,
+) -> bool
+    requires { ⌜ Wf (now key) (now b) ⌝ }
+    ensures { λ r. ⌜ r ≡ holdsIn (equalIn (stateOf (now (key .entry)) (now (b .entry)))) (stateOf (now (key .entry)) (now (b .entry))) (relOf apart) (termOf t) (termOf u) ⌝ }
+{
+    if apart {
+        differ(key, b, t, u)
+    } else {
+        check_state::equal(key, b, t, u)
+    }
+}

@@ -1,0 +1,71 @@
+-- The first entry that passes.
+use mathlib.Core.Path.{_≡_, refl, sym, _∙_}
+use mathlib.Core.Bool.{Bool, true, false, cond}
+use mathlib.Core.List.{List, [], _∷_}
+use mathlib.Core.Option.{none, some}
+use mathlib.Core.Logic.{_⊎_, inl, inr, ⊎-elim}
+use Prim.Native.Nat.{ℕ, zero, suc, _<_}
+use native.Mathlib.Omega.{arith}
+use lib.Dec.{ltb}
+use lib.ListN.{getD, replicate, getD-replicate, List·getD-eq-default, length-replicate}
+use borrow.Author.Tests.{ne-eqb, ltb-true, ltb-false}
+use Rattle.rules.specs.Base.{ok, no, _>>=_, orElse, first}
+use Rattle.rules.specs.Answers.{unresolved}
+use Rattle.rules.specs.Syntax.{path}
+use Rattle.rules.specs.State as Rules
+use Rattle.rules.specs.State.{Equality, equalIn, equalBy, representative, names, pathOf}
+use Rattle.check_equality.specs.Listing.{listed}
+use Rattle.check_equality.proofs.Listing.{first-append, first-here, first-found}
+use Rattle.check_state.specs.States.{factsOf, permissionAt, permissionsOf, stateOf, entries}
+use Rattle.check_state.specs.Questions.{FirstPlace, entryTest, passes, pathAt, standsFor, variableOr}
+
+pub no-flags : (n i : ℕ) → getD (replicate n false) i false ≡ false
+no-flags n i = ⊎-elim (λ h. h) (λ h. h) (go (ltb i n) refl)
+  where
+    go : (c : Bool) → ltb i n ≡ c → (getD (replicate n false) i false ≡ false) ⊎ (getD (replicate n false) i false ≡ false)
+    go true e = inl (getD-replicate n i false false (ltb-true i n e))
+    go false e = inr (List·getD-eq-default (replicate n false) false {n = i} (rw (length-replicate n false) (ltb-false i n e)))
+
+pub first-none : {A : Type 0} (p : A → Bool) (f : ℕ → A) (n : ℕ) → ((i : ℕ) → i < n → p (f i) ≡ false) → first p (listed f n) ≡ none
+unfolding first listed
+first-none p f zero h = refl
+first-none p f (suc n) h =
+    first-append p (listed f n) (f n ∷ []) (first-none p f n (λ i k. h i (omega arith))) ∙ rw (h n (omega arith))
+
+module _ (b : List ℕ) (_~_ : Equality) (y g i : ℕ) (F : FirstPlace (entryTest b (replicate 64 false) y g _~_) (entries b) i) where
+  in-order : (j : ℕ) → names _~_ y g (permissionAt b j) ≡ entryTest b (replicate 64 false) y g _~_ j
+  unfolding passes
+  in-order j = rw (no-flags 64 j)
+
+  none-before : first (names _~_ y g) (listed (permissionAt b) i) ≡ none
+  none-before = first-none _ (permissionAt b) i (λ j h. in-order j ∙ F .before j h)
+
+  pub resolve-path : pathAt b i ≡ Rules.resolve _~_ (permissionsOf b) (path y g)
+  unfolding Rules.resolve pathAt orElse _>>=_
+  resolve-path = go (ltb i (entries b)) refl
+    where
+      go : (c : Bool) → ltb i (entries b) ≡ c → cond c (ok (pathOf (permissionAt b i))) (no unresolved) ≡ (orElse (first (names _~_ y g) (permissionsOf b)) unresolved >>= λ p. ok (pathOf p))
+      go true e =
+          let h : i < entries b = ltb-true i (entries b) e in
+          rw (first-found (names _~_ y g) (permissionAt b) (entries b) i h
+          (first-here (names _~_ y g) (permissionAt b) i none-before (in-order i ∙ F .found h)))
+      go false e =
+          let d : i ≡ entries b = omega (arith, ltb-false i (entries b) e, F .within) in
+          rw (rw d at none-before)
+
+-- THE SUCCESSOR
+module _ (key b : List ℕ) (x v : ℕ) (before : (j : ℕ) → j < v → standsFor (equalBy (representative (factsOf key b))) x j ≡ false) where
+  none-yet : first (standsFor (equalBy (representative (factsOf key b))) x) (listed (λ i. i) v) ≡ none
+  none-yet = first-none _ (λ i. i) v before
+
+  pub successor-none : v ≡ 15 → none ≡ Rules.successor (stateOf key b) x
+  unfolding Rules.successor standsFor listed equalIn
+  successor-none e = sym (rw e at none-yet)
+
+  pub successor-found : v < 15 → standsFor (equalBy (representative (factsOf key b))) x v ≡ true → some v ≡ Rules.successor (stateOf key b) x
+  unfolding Rules.successor standsFor listed equalIn
+  successor-found h e = sym (first-found (standsFor (equalBy (representative (factsOf key b))) x) (λ i. i) 15 v h (first-here (standsFor (equalBy (representative (factsOf key b))) x) (λ i. i) v none-yet e))
+
+pub a-variable : (v : ℕ) → v < 15 → variableOr v ≡ some v
+unfolding variableOr
+a-variable v h = rw (ne-eqb v 255 (omega arith))

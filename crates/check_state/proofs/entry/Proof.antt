@@ -1,0 +1,43 @@
+use native.Mathlib.Omega.{arith}
+use Rattle.rules.specs.State.{equalIn}
+use borrow.Author.Needs.{needs}
+use Rattle.check_state.proofs.entry.Statement.{statement}
+use Rattle.check_state.proofs.entry.Tie as tie
+
+element-copy-out-m : tie.Need-element-copy-out-m
+element-copy-out-m c = omega arith
+
+cast-m : tie.Need-cast-m
+cast-m c = omega (arith, c .before .pre .linked .fit, c .before .pre .fit)
+
+mul-m : tie.Need-mul-m
+mul-m c = omega (arith, c .before .pre .linked .fit, c .before .pre .fit)
+
+add-m : tie.Need-add-m
+add-m c = omega (arith, c .before .pre .linked .fit, c .before .pre .fit)
+
+element-copy-out-find : tie.Need-element-copy-out-find
+element-copy-out-find c = omega arith
+
+cast-find : tie.Need-cast-find
+cast-find c = omega (arith, c .before .before .pre .linked .fit, c .before .before .pre .fit)
+
+find-requires : tie.Need-find-requires
+find-requires c κs = search needs
+
+returns : tie.Need-returns
+unfolding equalIn
+returns c = c .find .ensures _ (c .before .before .before .pre .linked .decides)
+
+pub entry-spec : {M : Type 1} → statement M
+entry-spec =
+    tie.close
+    (tie.spec
+    element-copy-out-m
+    cast-m
+    mul-m
+    add-m
+    element-copy-out-find
+    cast-find
+    find-requires
+    returns)

@@ -1,0 +1,64 @@
+-- What the functions that read a state answer.
+use mathlib.Core.Path.{_≡_}
+use mathlib.Core.Bool.{Bool, true, false, not, cond, _&&_}
+use mathlib.Core.List.{List}
+use mathlib.Core.Option.{Option, none, some}
+use Prim.Native.Nat.{ℕ, _≤_, _<_}
+use lib.Dec.{eqb, ltb}
+use lib.ListN.{getD}
+use Rattle.rules.specs.Base.{Try, ok, no}
+use Rattle.rules.specs.Answers.{Refusal, unresolved}
+use Rattle.rules.specs.Syntax as Syntax
+use Rattle.rules.specs.Syntax.{var}
+use Rattle.rules.specs.State as Rules
+use Rattle.rules.specs.State.{Fact, Equality, representative, equalBy, names, pathOf}
+use Rattle.check_equality.specs.Layout.{slots, left-sides}
+use Rattle.check_equality.specs.Keys.{termOf}
+use Rattle.check_equality.specs.Listing.{listed}
+use Rattle.check_equality.specs.Links.{Header, Decides}
+use Rattle.check_state.specs.declared.Resolved.{Resolved}
+use Rattle.check_state.specs.States.{variableAt, fieldAt, permissionAt, entries}
+
+pub record Slots (key b : List ℕ) (m : ℕ) : Type 0 where
+  pub header : Header key
+  pub some : left-sides ≤ m
+  pub most : m ≤ slots
+
+-- P of ~, whatever facts the labels decide
+abbrev pub Told : List ℕ → List ℕ → ℕ → (Equality → Type 0) → Type 0
+Told key b m P = (fs : List Fact) → Decides fs key b m → P (equalBy (representative fs))
+
+-- the first of the places below n that passes, or n
+pub record FirstPlace (test : ℕ → Bool) (n r : ℕ) : Type 0 where
+  pub within : r ≤ n
+  pub before : (i : ℕ) → i < r → test i ≡ false
+  pub found : r < n → test r ≡ true
+
+-- the entry `x.f` is not out, and x ~ y and f is g
+unfoldable pub passes : Equality → ℕ → ℕ → Bool → ℕ → ℕ → Bool
+passes _~_ y g out x f = not out && names _~_ y g (record { variable = x; field = f })
+
+abbrev pub entryTest : List ℕ → List Bool → ℕ → ℕ → Equality → ℕ → Bool
+entryTest b out y g _~_ i = passes _~_ y g (getD out i false) (variableAt b i) (fieldAt b i)
+
+abbrev pub places : ℕ → List ℕ
+places n = listed (λ i. i) n
+
+unfoldable pub resolvedAs : Resolved → Try Refusal Rules.Term
+resolvedAs (Resolved.Key k) = ok (termOf k)
+resolvedAs Resolved.Nothing = no unresolved
+
+-- the path of entry i
+unfoldable pub pathAt : List ℕ → ℕ → Try Refusal Rules.Term
+pathAt b i = cond (ltb i (entries b)) (ok (pathOf (permissionAt b i))) (no unresolved)
+
+-- no variable
+abbrev pub no-variable : ℕ
+no-variable = 255
+
+unfoldable pub variableOr : ℕ → Option ℕ
+variableOr v = cond (eqb v no-variable) none (some v)
+
+-- another variable, and ~ x
+unfoldable pub standsFor : Rules.Equality → ℕ → ℕ → Bool
+standsFor same x v = not (eqb v x) && same (Syntax.var v) (Syntax.var x)

@@ -1,0 +1,184 @@
+// The checker's state in two arrays, and what it answers: ~, resolving, the first entry of a path, the first other variable ~ x.
+use check_equality::State;
+use check_equality::Term;
+ghost use mathlib.Core.Path.{_≡_};
+ghost use Prim.Native.Nat.{ℕ, _+_, _*_, _≤_, _<_};
+ghost use Rattle.rules.specs.Syntax.{var};
+ghost use Rattle.rules.specs.State as Rules;
+ghost use Rattle.rules.specs.State.{equalIn};
+ghost use Rattle.check_equality.specs.Keys.{termOf, meaning};
+ghost use Rattle.check_equality.specs.Links.{Labelled};
+ghost use Rattle.check_state.specs.States.{Wf, stateOf, permissionsOf, entries};
+ghost use Rattle.check_state.specs.Questions.{Slots, Told, FirstPlace, entryTest, passes, resolvedAs, pathAt, standsFor, variableOr};
+
+// What the checker knows stands in two arrays, `key` and `b` (`State` in links). Two slots have one label where their terms are ~.
+
+// Is x ~ the term of the key k, whose label is a?
+pub fn variable_is<'a>(
+    key: &'a [u64; State::SLOTS],
+    b: &'a [u8; State::BYTES],
+    m: usize,
+    x: u8,
+    k: u64,
+    a: u8,
+) -> bool
+    requires { ⌜ Slots (now key) (now b) m × Labelled (now key) (now b) m k a ⌝ }
+    ensures { λ r. ⌜ Told (now (key .entry)) (now (b .entry)) m (λ same. r ≡ same (var x) (termOf k)) ⌝ }
+{
+    let l = check_equality::variable_key(x);
+    let c = check_equality::label_of(key, b, m, l);
+    check_equality::alike(l, c, k, a)
+}
+
+// Is the entry x.f not out, and a y.g with x ~ y? k and a are y's key and label.
+fn names<'a>(
+    key: &'a [u64; State::SLOTS],
+    b: &'a [u8; State::BYTES],
+    m: usize,
+    out: bool,
+    x: u8,
+    f: u8,
+    k: u64,
+    a: u8,
+    g: u8,
+) -> bool
+    requires { ⌜ Slots (now key) (now b) m × Labelled (now key) (now b) m k a ⌝ }
+    ensures { λ r. ⌜ Told (now (key .entry)) (now (b .entry)) m (λ same. (y : ℕ) → termOf k ≡ var y → r ≡ passes same y g out x f) ⌝ }
+{
+    if f != g {
+        return false;
+    }
+    if out {
+        return false;
+    }
+    variable_is(key, b, m, x, k, a)
+}
+
+// The place of the first entry that is not out and a y.f up to ~, or n.
+fn find<'a>(
+    key: &'a [u64; State::SLOTS],
+    b: &'a [u8; State::BYTES],
+    m: usize,
+    out: &'a [bool; 64],
+    n: usize,
+    y: u8,
+    f: u8,
+) -> usize
+    requires { ⌜ Slots (now key) (now b) m × (n ≤ 64) ⌝ }
+    ensures { λ r. ⌜ Told (now (key .entry)) (now (b .entry)) m (λ same. FirstPlace (entryTest (now (b .entry)) (now (out .entry)) y f same) n r) ⌝ }
+{
+    let k = check_equality::variable_key(y);
+    let a = check_equality::label_of(key, b, m, k);
+    let mut i = 0;
+    while i < n {
+        if names(
+            key,
+            b,
+            m,
+            out[i],
+            b[State::VARIABLES + i],
+            b[State::FIELDS + i],
+            k,
+            a,
+            f,
+        ) {
+            return i;
+        }
+        i += 1;
+    }
+    n
+}
+
+// Are two terms ~?
+pub fn equal<'a>(key: &'a [u64; State::SLOTS], b: &'a [u8; State::BYTES], t: u64, u: u64) -> bool
+    requires { ⌜ Wf (now key) (now b) ⌝ }
+    ensures { λ r. ⌜ r ≡ equalIn (stateOf (now (key .entry)) (now (b .entry))) (termOf t) (termOf u) ⌝ }
+{
+    let m = State::LEFT + 2 * (b[State::FACTS] as usize);
+    let x = check_equality::label_of(key, b, m, t);
+    let y = check_equality::label_of(key, b, m, u);
+    check_equality::alike(t, x, u, y)
+}
+
+// A term by its key, or none.
+pub enum Resolved {
+    Key(u64),
+    Nothing,
+}
+
+// The place of the first entry that is not out and a y.f up to ~, or the count of entries.
+pub fn entry<'a>(
+    key: &'a [u64; State::SLOTS],
+    b: &'a [u8; State::BYTES],
+    out: &'a [bool; 64],
+    y: u8,
+    f: u8,
+) -> usize
+    requires { ⌜ Wf (now key) (now b) ⌝ }
+    ensures { λ r. ⌜ FirstPlace (entryTest (now (b .entry)) (now (out .entry)) y f (equalIn (stateOf (now (key .entry)) (now (b .entry))))) (entries (now (b .entry))) r ⌝ }
+{
+    let m = State::LEFT + 2 * (b[State::FACTS] as usize);
+    find(key, b, m, out, b[State::ENTRIES] as usize, y, f)
+}
+
+fn path_at(b: &[u8; State::BYTES], i: usize) -> Resolved
+    requires { ⌜ entries (now b) ≤ 64 ⌝ }
+    ensures { λ r. ⌜ resolvedAs r ≡ pathAt (now (b .entry)) i ⌝ }
+{
+    if i < (b[State::ENTRIES] as usize) {
+        return Resolved::Key(check_equality::path_key(
+            b[State::VARIABLES + i],
+            b[State::FIELDS + i],
+        ));
+    }
+    Resolved::Nothing
+}
+
+// What an expression resolves to.
+pub fn resolve<'a>(key: &'a [u64; State::SLOTS], b: &'a [u8; State::BYTES], e: Term) -> Resolved
+    requires { ⌜ Wf (now key) (now b) ⌝ }
+    ensures { λ r. ⌜ resolvedAs r ≡ Rules.resolve (equalIn (stateOf (now (key .entry)) (now (b .entry)))) (permissionsOf (now (b .entry))) (meaning e) ⌝ }
+{
+    let Term::Path(y, f) = e else {
+        return Resolved::Key(check_equality::key_of(e));
+    };
+    let out = [false; 64];
+    path_at(b, entry(key, b, &out, y, f))
+}
+
+// Is v a variable other than x and ~ x? k and a are x's key and label.
+fn stands_for<'a>(
+    key: &'a [u64; State::SLOTS],
+    b: &'a [u8; State::BYTES],
+    m: usize,
+    v: u8,
+    x: u8,
+    k: u64,
+    a: u8,
+) -> bool
+    requires { ⌜ Slots (now key) (now b) m × Labelled (now key) (now b) m k a × (termOf k ≡ var x) ⌝ }
+    ensures { λ r. ⌜ Told (now (key .entry)) (now (b .entry)) m (λ same. r ≡ standsFor same x v) ⌝ }
+{
+    if v == x {
+        return false;
+    }
+    variable_is(key, b, m, v, k, a)
+}
+
+// The first other variable ~ x, or NO_VARIABLE.
+pub fn successor<'a>(key: &'a [u64; State::SLOTS], b: &'a [u8; State::BYTES], x: u8) -> u8
+    requires { ⌜ Wf (now key) (now b) ⌝ }
+    ensures { λ r. ⌜ variableOr r ≡ Rules.successor (stateOf (now (key .entry)) (now (b .entry))) x ⌝ }
+{
+    let m = State::LEFT + 2 * (b[State::FACTS] as usize);
+    let k = check_equality::variable_key(x);
+    let a = check_equality::label_of(key, b, m, k);
+    let mut v = 0;
+    while v < State::VARIABLE_COUNT {
+        if stands_for(key, b, m, v, x, k, a) {
+            return v;
+        }
+        v += 1;
+    }
+    State::NO_VARIABLE
+}

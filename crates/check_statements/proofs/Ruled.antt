@@ -1,0 +1,333 @@
+-- The rules, one after the other.
+use mathlib.Core.Path.{_≡_, refl, sym, ap, ap₂, _∙_, subst}
+use mathlib.Core.Bool.{Bool, true, false, cond, not, _&&_}
+use mathlib.Core.List.{List, [], _∷_, map}
+use mathlib.Core.Option.{none, some}
+use Prim.Native.Nat.{ℕ, suc, _+_, _*_, _-_, _≤_, _<_}
+use native.Mathlib.Omega.{arith}
+use lib.Dec.{eqb}
+use lib.ListN.{getD, set, replicate}
+use borrow.Author.Tests.{eq-eqb, ne-eqb, eqb-true}
+use types.Run.{OneOf, miss}
+use denote.Enum.Declared.{tagOf}
+use Rattle.rules.specs.Base.{Try, ok, no, _>>=_, _>>_, check, orElse}
+use Rattle.rules.specs.Answers.{Refusal, unresolved, noPermission, notShown}
+use Rattle.rules.specs.Syntax.{Formula, Atom, Rel, same, eq, ne, num, null, var, path, acc, cmp}
+use Rattle.rules.specs.State as Rules
+use Rattle.rules.specs.State.{Permission, equalIn, names, split, pathOf, holdsIn}
+use Rattle.rules.specs.Rules.{actual, substTerm, substAtom, addEqual, setRule, assignRule, addFields, initial, addInitial, newRule, callRule, opposite, ifRule, joinRule}
+use Rattle.tables.specs.Decode.{run, atomsFrom, fieldsFrom, classAt, fieldCountAt, fieldNameAt, byteAt, classPlace, methodAt, requiresAt, ensuresAt, methodPlace, halfAt}
+use Rattle.tables.specs.Decode as Decode
+use Rattle.check_equality.specs.Keys.{termOf}
+use Rattle.check_equality.specs.Links.{relOf}
+use Rattle.check_equality.proofs.Keys.{same-key, of-null}
+use Rattle.check_entailment.specs.declared.Answer.{Answer}
+use Rattle.check_state.specs.declared.Resolved.{Resolved}
+use Rattle.check_entailment.proofs.Answer.{the-type}
+use Rattle.check_state.specs.States.{Wf, stateOf, entries, variableAt, fieldAt, permissionAt, permissionsOf}
+use Rattle.check_state.specs.Questions.{FirstPlace, entryTest, passes}
+use Rattle.check_forgetting.specs.Changes.{kept, leftOver, Becomes, withoutPath, Taken}
+use Rattle.check_entailment.specs.Answers.{answered, Adds}
+use Rattle.check_state.proofs.Entries.{no-flags}
+use Rattle.check_forgetting.proofs.Keeping.{kept-all}
+use Rattle.check_entailment.proofs.Splits.{split-none, split-first}
+use Rattle.check_formulas.specs.Formulas.{formula, Shows}
+use Rattle.check_formulas.proofs.Atoms.{not-done, is-done}
+use Rattle.check_statements.specs.Statements.{Parts, assignTerm, callShown, partRule, initialOf, assertRule, Asserts, releaseRule}
+
+abbrev pub Refused : Answer → Type 0
+Refused k = OneOf (1 ∷ 2 ∷ 3 ∷ 4 ∷ 5 ∷ []) (tagOf the-type k)
+
+-- ONE AFTER THE OTHER
+pub adds-same : (t u : Try Refusal Rules.State) (k : Answer) (key b : List ℕ) → t ≡ u → Adds t k key b → Adds u k key b
+adds-same t u k key b e A = record { wf = A .wf; same = A .same ∙ e }
+
+module _ {B : Type 0} (t : Try Refusal Rules.State) (k : Answer) (key b : List ℕ) (A : Adds t k key b) (f : Rules.State → Try Refusal B) where
+  pub after-done : k ≡ Answer.Done → (t >>= f) ≡ f (stateOf key b)
+  after-done e = ap (λ (u : Try Refusal Rules.State). u >>= f) (sym (A .same)) ∙ is-done k e (stateOf key b) f
+
+  pub after-refused : Refused k → (c : B) → (t >>= f) ≡ answered k c
+  after-refused o c = ap (λ (u : Try Refusal Rules.State). u >>= f) (sym (A .same)) ∙ not-done k o (stateOf key b) f c
+
+pub adds-refused : (t : Try Refusal Rules.State) (k : Answer) (key b : List ℕ) → Adds t k key b → (f : Rules.State → Try Refusal Rules.State) → Refused k → Adds (t >>= f) k key b
+adds-refused t k key b A f o = record { wf = A .wf; same = sym (after-refused t k key b A f o (stateOf key b)) }
+
+pub adds-on :
+    (t : Try Refusal Rules.State) (k : Answer) (key b : List ℕ) → Adds t k key b → (f : Rules.State → Try Refusal Rules.State) → k ≡ Answer.Done →
+    (k′ : Answer) (key′ b′ : List ℕ) → Adds (f (stateOf key b)) k′ key′ b′ → Adds (t >>= f) k′ key′ b′
+adds-on t k key b A f e k′ key′ b′ Q = adds-same _ _ k′ key′ b′ (sym (after-done t k key b A f e)) Q
+
+pub adds-ok : (key b : List ℕ) → Wf key b → Adds (ok (stateOf key b)) Answer.Done key b
+unfolding answered
+adds-ok key b w = record { wf = w; same = refl }
+
+pub adds-no : (k : Answer) (key b : List ℕ) → Wf key b → (t : Try Refusal Rules.State) → t ≡ answered k (stateOf key b) → Adds t k key b
+adds-no k key b w t e = record { wf = w; same = sym e }
+
+refused-same : {A : Type 0} (k : Answer) → Refused k → (x y : A) → answered k x ≡ answered k y
+unfolding answered
+refused-same Answer.Done o x y = absurd (miss (1 ∷ 2 ∷ 3 ∷ 4 ∷ 5 ∷ []) 0 tt o)
+refused-same Answer.Unresolved o x y = refl
+refused-same Answer.NoPermission o x y = refl
+refused-same Answer.NotShown o x y = refl
+refused-same Answer.Full o x y = refl
+refused-same Answer.Malformed o x y = refl
+
+-- a refusal, whatever the arrays hold
+pub adds-elsewhere : (t : Try Refusal Rules.State) (k : Answer) (key b : List ℕ) → Adds t k key b → Refused k → (key′ b′ : List ℕ) → Wf key′ b′ → Adds t k key′ b′
+adds-elsewhere t k key b A o key′ b′ w = record { wf = w; same = refused-same k o (stateOf key′ b′) (stateOf key b) ∙ A .same }
+
+-- SET
+module _ (key b : List ℕ) (w : Wf key b) (x f y i : ℕ) (F : FirstPlace (entryTest b (replicate 64 false) x f (equalIn (stateOf key b))) (entries b) i) where
+  abbrev perm : ℕ → Permission
+  perm = permissionAt b
+
+  all-kept : kept (replicate 64 false) perm (entries b) ≡ permissionsOf b
+  all-kept = kept-all (replicate 64 false) perm (entries b) (λ j h. no-flags 64 j)
+
+  passed : (j : ℕ) → (not (getD (replicate 64 false) j false) && names (equalIn (stateOf key b)) x f (perm j)) ≡ entryTest b (replicate 64 false) x f (equalIn (stateOf key b)) j
+  unfolding passes
+  passed j = refl
+
+  pub set-refused : entries b ≤ i → setRule x f y (stateOf key b) ≡ no noPermission
+  unfolding setRule orElse _>>=_
+  set-refused h =
+      let e : split (names (equalIn (stateOf key b)) x f) (permissionsOf b) ≡ none =
+      subst (λ (l : List Permission). split (names (equalIn (stateOf key b)) x f) l ≡ none) all-kept
+      (split-none (names (equalIn (stateOf key b)) x f) (replicate 64 false) perm (entries b) (λ j g. passed j ∙ F .before j (omega arith))) in
+      rw e
+
+  pub set-found : i < entries b → setRule x f y (stateOf key b) ≡ Rules.addFact eq (path (variableAt b i) (fieldAt b i)) (var y) (withoutPath key b i)
+  unfolding setRule orElse _>>=_ pathOf
+  set-found h =
+      let e = subst (λ (l : List Permission). split (names (equalIn (stateOf key b)) x f) l ≡ some (record { taken = perm i; others = kept (set (replicate 64 false) i true) perm (entries b) })) all-kept
+      (split-first (names (equalIn (stateOf key b)) x f) (replicate 64 false) perm (entries b) i h (omega (arith, w .fit)) (λ j g. passed j ∙ F .before j g) (passed i ∙ F .found h)) in
+      rw e
+
+-- LET
+pub equal-none : (x : ℕ) (k : Resolved) (key b : List ℕ) → Wf key b → k ≡ Resolved.Nothing → Adds (addEqual x (leftOver k) (stateOf key b)) Answer.Done key b
+unfolding addEqual leftOver
+equal-none x k key b w e = rw e (adds-ok key b w)
+
+pub equal-some :
+    (x t v : ℕ) (k : Resolved) (s : Rules.State) (r : Answer) (key b : List ℕ) → termOf v ≡ var x → k ≡ Resolved.Key t →
+    Adds (Rules.addFact (relOf false) (termOf v) (termOf t) s) r key b → Adds (addEqual x (leftOver k) s) r key b
+unfolding addEqual leftOver relOf
+equal-some x t v k s r key b d e A = rw (e, ← d) A
+
+pub assign-same : (x k v : ℕ) (s : Rules.State) → termOf v ≡ var x → k ≡ v → assignTerm x (termOf k) s ≡ ok s
+unfolding assignTerm
+assign-same x k v s d e = rw (← d, same-key k v, eq-eqb k v e)
+
+pub assign-other : (x k v : ℕ) (s : Rules.State) → termOf v ≡ var x → (k ≡ v → ⊥) → assignTerm x (termOf k) s ≡ addEqual x (Rules.renameTerm x (Rules.successor s x) (termOf k)) (Rules.removeTo x (Rules.successor s x) s)
+unfolding assignTerm
+assign-other x k v s d n = let e : same (termOf k) (var x) ≡ false = rw (← d) (same-key k v ∙ ne-eqb k v n) in rw e
+
+pub assign-found : (x : ℕ) (e t : Rules.Term) (s : Rules.State) → Rules.resolve (equalIn s) (s .permissions) e ≡ ok t → assignRule x e s ≡ assignTerm x t s
+unfolding assignRule assignTerm _>>=_
+assign-found x e t s d = rw d
+
+pub assign-lost : (x : ℕ) (e : Rules.Term) (s : Rules.State) → Rules.resolve (equalIn s) (s .permissions) e ≡ no unresolved → assignRule x e s ≡ no unresolved
+unfolding assignRule _>>=_
+assign-lost x e s d = rw d
+
+-- NEW
+module _ (w : List ℕ) (c : ℕ) where
+  pub fields-more : (n j : ℕ) → j < n → fieldsFrom w c j (n - j) ≡ Decode.fieldAt w c j ∷ fieldsFrom w c (j + 1) (n - (j + 1))
+  unfolding run
+  fields-more n j h =
+      let e : n - j ≡ suc (n - (j + 1)) = omega arith in
+      let d : suc j ≡ j + 1 = omega arith in
+      ap (λ (k : ℕ). fieldsFrom w c j k) e ∙ ap (λ (k : ℕ). Decode.fieldAt w c j ∷ fieldsFrom w c k (n - (j + 1))) d
+
+  pub fields-end : (n j : ℕ) → n ≤ j → fieldsFrom w c j (n - j) ≡ []
+  unfolding run
+  fields-end n j h = let e : n - j ≡ 0 = omega arith in ap (λ (k : ℕ). fieldsFrom w c j k) e
+
+  pub fields-all : (n : ℕ) → fieldsFrom w c 0 n ≡ fieldsFrom w c 0 (n - 0)
+  fields-all n = let e : n ≡ n - 0 = omega arith in ap (λ (k : ℕ). fieldsFrom w c 0 k) e
+
+  module _ (x : ℕ) (n j : ℕ) (h : j < n) (s : Rules.State) where
+    pub permission-more : addFields x (fieldsFrom w c j (n - j)) s ≡ (Rules.addPermission (record { variable = x; field = fieldNameAt w c j }) s >>= λ t. addFields x (fieldsFrom w c (j + 1) (n - (j + 1))) t)
+    unfolding addFields Decode.fieldAt
+    permission-more = rw (fields-more n j h)
+
+    pub initial-more : addInitial x (fieldsFrom w c j (n - j)) s ≡ (Rules.addFact eq (path x (fieldNameAt w c j)) (initialOf (byteAt w (classPlace c + 2 + j * 2))) s >>= λ t. addInitial x (fieldsFrom w c (j + 1) (n - (j + 1))) t)
+    unfolding addInitial Decode.fieldAt initial initialOf
+    initial-more = rw (fields-more n j h)
+
+  pub permission-end : (x n j : ℕ) → n ≤ j → (s : Rules.State) → addFields x (fieldsFrom w c j (n - j)) s ≡ ok s
+  unfolding addFields
+  permission-end x n j h s = rw (fields-end n j h)
+
+  pub initial-end : (x n j : ℕ) → n ≤ j → (s : Rules.State) → addInitial x (fieldsFrom w c j (n - j)) s ≡ ok s
+  unfolding addInitial
+  initial-end x n j h s = rw (fields-end n j h)
+
+pub new-by : (w : List ℕ) (x c n : ℕ) (s : Rules.State) → n ≡ fieldCountAt w c → (addFields x (fieldsFrom w c 0 n) (Rules.remove x s) >>= λ s. Rules.addFact ne (var x) null s >>= λ s. addInitial x (fieldsFrom w c 0 n) s) ≡ newRule x (classAt w c) s
+unfolding newRule classAt
+new-by w x c n s e = rw e
+
+-- FORMULAS AS THEY STAND
+itself : (v : ℕ) → actual 0 1 14 v ≡ v
+unfolding actual
+itself v = go (eqb v 0) (eqb v 1) (eqb v 14) refl refl refl
+  where
+    go : (a b c : Bool) → eqb v 0 ≡ a → eqb v 1 ≡ b → eqb v 14 ≡ c → cond a 0 (cond b 1 (cond c 14 v)) ≡ v
+    go true b c e d f = sym (eqb-true v 0 e)
+    go false true c e d f = sym (eqb-true v 1 d)
+    go false false true e d f = sym (eqb-true v 14 f)
+    go false false false e d f = refl
+
+itself-term : (t : Rules.Term) → substTerm (actual 0 1 14) t ≡ t
+unfolding substTerm
+itself-term (num n) = refl
+itself-term null = refl
+itself-term (var v) = ap var (itself v)
+itself-term (path v f) = ap (λ (u : ℕ). path u f) (itself v)
+
+itself-atom : (a : Atom ℕ) → substAtom (actual 0 1 14) a ≡ a
+unfolding substAtom
+itself-atom (acc v f) = ap (λ (u : ℕ). acc u f) (itself v)
+itself-atom (cmp n a b) = ap₂ (λ (t u : Rules.Term). cmp n t u) (itself-term a) (itself-term b)
+
+itself-all : (φ : Formula ℕ) → map (substAtom (actual 0 1 14)) φ ≡ φ
+itself-all [] = refl
+itself-all (a ∷ φ) = ap₂ (λ (b : Atom ℕ) (ψ : Formula ℕ). b ∷ ψ) (itself-atom a) (itself-all φ)
+
+pub plain : (w : List ℕ) (a n : ℕ) → formula w 0 1 14 a n ≡ atomsFrom w a n
+unfolding formula
+plain w a n = itself-all (atomsFrom w a n)
+
+pub plain-term : (t : Rules.Term) → substTerm (actual 0 1 14) t ≡ t
+plain-term t = itself-term t
+
+-- ASSERT, RELEASE
+bind-answered : {A B : Type 0} (k : Answer) (a : A) (f : A → Try Refusal B) (b : B) → f a ≡ ok b → (answered k a >>= f) ≡ answered k b
+unfolding answered _>>=_
+bind-answered Answer.Done a f b e = e
+bind-answered Answer.Unresolved a f b e = refl
+bind-answered Answer.NoPermission a f b e = refl
+bind-answered Answer.NotShown a f b e = refl
+bind-answered Answer.Full a f b e = refl
+bind-answered Answer.Malformed a f b e = refl
+
+pub assert-law : (key b : List ℕ) (φ : Formula ℕ) (k : Answer) (out : List Bool) → Shows key b φ k out → Asserts φ (stateOf key b) k
+unfolding assertRule
+assert-law key b φ k out S = sym (ap (λ (t : Try Refusal Rules.Shown). t >>= λ r. ok (stateOf key b)) (sym (S .same)) ∙ bind-answered k (S .shown) (λ r. ok (stateOf key b)) (stateOf key b) refl)
+
+pub release-law :
+    (key b key′ b′ : List ℕ) (φ : Formula ℕ) (k : Answer) (out : List Bool) → Shows key b φ k out →
+    ((c : Rules.Shown) → Taken b out c → Becomes (Rules.remainder (stateOf key b) c) key′ b′) → Adds (releaseRule φ (stateOf key b)) k key′ b′
+unfolding releaseRule
+release-law key b key′ b′ φ k out S R =
+    let B = R (S .shown) (S .taken) in
+    record { wf = B .wf; same = sym (ap (λ (u : Try Refusal Rules.Shown). u >>= λ r. ok (Rules.remainder (stateOf key b) r)) (sym (S .same)) ∙ bind-answered k (S .shown) (λ r. ok (Rules.remainder (stateOf key b) r)) (stateOf key′ b′) (ap ok (sym (B .same)))) }
+
+-- CALL
+module _ (w : List ℕ) (x y m z : ℕ) (key b : List ℕ) (a n c o : ℕ) (ea : a ≡ halfAt w (methodPlace m)) (en : n ≡ byteAt w (methodPlace m + 2)) (ec : c ≡ halfAt w (methodPlace m + 4)) (eo : o ≡ byteAt w (methodPlace m + 3)) (k : Answer) (out : List Bool) (S : Shows key b (formula w y z x a n) k out) where
+  shown-first : callShown x y (methodAt w m) z (stateOf key b) ≡ (answered k (S .shown) >>= λ r. Rules.add (formula w y z x c o) (Rules.remove x (Rules.remainder (stateOf key b) r)))
+  unfolding callShown methodAt requiresAt ensuresAt formula
+  shown-first = rw (S .same, ea, en, ec, eo)
+
+  pub call-refused : Wf key b → Refused k → Adds (callShown x y (methodAt w m) z (stateOf key b)) k key b
+  call-refused W r = record { wf = W; same = sym (shown-first ∙ not-done k r _ _ (stateOf key b)) }
+
+  pub call-done :
+      k ≡ Answer.Done → (key₁ b₁ key₂ b₂ : List ℕ) → ((c : Rules.Shown) → Taken b out c → Becomes (Rules.remainder (stateOf key b) c) key₁ b₁) →
+      Becomes (Rules.remove x (stateOf key₁ b₁)) key₂ b₂ → (r : Answer) (key₃ b₃ : List ℕ) → Adds (Rules.add (formula w y z x c o) (stateOf key₂ b₂)) r key₃ b₃ →
+      Adds (callShown x y (methodAt w m) z (stateOf key b)) r key₃ b₃
+  call-done e key₁ b₁ key₂ b₂ R Q r key₃ b₃ A =
+      adds-same _ _ r key₃ b₃ (sym (shown-first ∙ is-done k e _ _ ∙ rw (← R (S .shown) (S .taken) .same, ← Q .same))) A
+
+pub call-null :
+    (w : List ℕ) (x y m z v : ℕ) (s : Rules.State) → termOf v ≡ var y → false ≡ holdsIn (equalIn s) s (relOf true) (termOf v) (termOf 256) →
+    callRule x y (methodAt w m) z s ≡ no notShown
+unfolding callRule check _>>_ relOf
+call-null w x y m z v s d e = let h : holdsIn (equalIn s) s ne (var y) null ≡ false = rw (← d, ← of-null) (sym e) in rw h
+
+pub call-object :
+    (w : List ℕ) (x y m z v : ℕ) (s : Rules.State) → termOf v ≡ var y → true ≡ holdsIn (equalIn s) s (relOf true) (termOf v) (termOf 256) →
+    callShown x y (methodAt w m) z s ≡ callRule x y (methodAt w m) z s
+unfolding callRule callShown check _>>_ relOf
+call-object w x y m z v s d e = let h : holdsIn (equalIn s) s ne (var y) null ≡ true = rw (← d, ← of-null) (sym e) in rw h
+
+-- IF
+pub part-refused :
+    (n : Rel) (t u : Rules.Term) (s : Rules.State) (k : Answer) (key b key2 b2 : List ℕ) → Adds (Rules.addFact n t u s) k key b → Wf key2 b2 → Refused k →
+    Parts (partRule n t u s) k key b key2 b2
+unfolding partRule
+part-refused n t u s k key b key2 b2 A w o =
+    record { first = A .wf; second = w; same = sym (after-refused _ k key b A _ o (stateOf key b, stateOf key2 b2)) }
+
+other : (b : Bool) → opposite (relOf b) ≡ relOf (not b)
+unfolding opposite relOf
+other true = refl
+other false = refl
+
+pub part-done :
+    (c : Bool) (t u : Rules.Term) (s : Rules.State) (k : Answer) (key b : List ℕ) → Adds (Rules.addFact (relOf c) t u s) k key b → k ≡ Answer.Done →
+    (s₂ : Rules.State) → s₂ ≡ s → (k2 : Answer) (key2 b2 : List ℕ) → Adds (Rules.addFact (relOf (not c)) t u s₂) k2 key2 b2 → Parts (partRule (relOf c) t u s) k2 key b key2 b2
+unfolding partRule
+part-done c t u s k key b A e s₂ d k2 key2 b2 C =
+    record {
+      first = A .wf;
+      second = C .wf;
+      same = sym (after-done _ k key b A _ e ∙ ap (λ (n : Rel). Rules.addFact n t u s >>= λ q. ok (stateOf key b, q)) (other c) ∙ ap (λ (q : Try Refusal Rules.State). q >>= λ q. ok (stateOf key b, q)) (ap (Rules.addFact (relOf (not c)) t u) (sym d) ∙ sym (C .same)) ∙ bind-answered k2 _ (λ q. ok (stateOf key b, q)) _ refl);
+    }
+
+module _ (key b : List ℕ) (w : Wf key b) (n : Rel) (a c : Rules.Term) (key2 b2 : List ℕ) (w2 : Wf key2 b2) where
+  pub if-left : Rules.resolve (equalIn (stateOf key b)) (permissionsOf b) a ≡ no unresolved → Parts (ifRule n a c (stateOf key b)) Answer.Unresolved key b key2 b2
+  unfolding ifRule _>>=_ answered
+  if-left e = record { first = w; second = w2; same = rw e }
+
+  module _ (t : Rules.Term) (et : Rules.resolve (equalIn (stateOf key b)) (permissionsOf b) a ≡ ok t) where
+    pub if-right : Rules.resolve (equalIn (stateOf key b)) (permissionsOf b) c ≡ no unresolved → Parts (ifRule n a c (stateOf key b)) Answer.Unresolved key b key2 b2
+    unfolding ifRule _>>=_ answered
+    if-right e = record { first = w; second = w2; same = rw (et, e) }
+
+    pub if-both :
+        (u : Rules.Term) → Rules.resolve (equalIn (stateOf key b)) (permissionsOf b) c ≡ ok u → (k : Answer) (key₁ b₁ key₂ b₂ : List ℕ) →
+        Parts (partRule n t u (stateOf key b)) k key₁ b₁ key₂ b₂ → Parts (ifRule n a c (stateOf key b)) k key₁ b₁ key₂ b₂
+    unfolding ifRule partRule _>>=_
+    if-both u eu k key₁ b₁ key₂ b₂ P = record { first = P .first; second = P .second; same = P .same ∙ rw (et, eu) }
+
+pub new-law :
+    (w : List ℕ) (x c n : ℕ) (s t : Rules.State) → n ≡ fieldCountAt w c → t ≡ Rules.remove x s →
+    (addFields x (fieldsFrom w c 0 n) t >>= λ s. Rules.addFact ne (var x) null s >>= λ s. addInitial x (fieldsFrom w c 0 n) s) ≡ newRule x (classAt w c) s
+new-law w x c n s t e d =
+    ap (λ (u : Rules.State). addFields x (fieldsFrom w c 0 n) u >>= λ s. Rules.addFact ne (var x) null s >>= λ s. addInitial x (fieldsFrom w c 0 n) s) d
+    ∙ new-by w x c n s e
+
+pub object-fact : (v x : ℕ) (s : Rules.State) → termOf v ≡ var x → Rules.addFact (relOf true) (termOf v) (termOf 256) s ≡ Rules.addFact ne (var x) null s
+unfolding relOf
+object-fact v x s e = rw (e, of-null)
+
+pub field-fact :
+    (p x f i : ℕ) (t : Rules.Term) (s : Rules.State) → termOf p ≡ path x f → termOf i ≡ t →
+    Rules.addFact (relOf false) (termOf p) (termOf i) s ≡ Rules.addFact eq (path x f) t s
+unfolding relOf
+field-fact p x f i t s e d = rw (e, d)
+
+-- JOIN
+join-cases : (φ : Formula ℕ) (s t : Rules.State) → (assertRule φ s >>= λ a. assertRule φ t >>= λ b. Rules.add φ Rules.empty) ≡ joinRule φ s t
+unfolding assertRule joinRule _>>=_
+join-cases φ s t = go (Rules.show s φ) (Rules.show t φ)
+  where
+    go : (p q : Try Refusal Rules.Shown) → ((p >>= λ r. ok s) >>= λ a. (q >>= λ r. ok t) >>= λ b. Rules.add φ Rules.empty) ≡ (p >>= λ r. q >>= λ r. Rules.add φ Rules.empty)
+    go (ok p) (ok q) = refl
+    go (ok p) (no e) = refl
+    go (no e) q = refl
+
+pub join-law : (φ : Formula ℕ) (s t : Rules.State) → (assertRule φ s >>= λ a. assertRule φ t >>= λ b. Rules.add φ Rules.empty) ≡ joinRule φ s t
+join-law φ s t = join-cases φ s t
+
+pub empty-add : (w : List ℕ) (a n : ℕ) (s : Rules.State) → s ≡ Rules.empty → Rules.add (formula w 0 1 14 a n) s ≡ Rules.add (atomsFrom w a n) Rules.empty
+empty-add w a n s d = ap₂ (λ (φ : Formula ℕ) (s : Rules.State). Rules.add φ s) (plain w a n) d
+
+pub asserted : (φ : Formula ℕ) (key b : List ℕ) (k : Answer) → Wf key b → Asserts φ (stateOf key b) k → Adds (assertRule φ (stateOf key b)) k key b
+asserted φ key b k w e = record { wf = w; same = e }
+
+-- a copy of a state
+pub copied : (key b key2 b2 : List ℕ) → Wf key b → key2 ≡ key → b2 ≡ b → Wf key2 b2
+copied key b key2 b2 w e d = rw (e, d) w

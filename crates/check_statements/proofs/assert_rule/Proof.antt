@@ -1,0 +1,19 @@
+use Prim.Native.Nat.{ℕ}
+use Rattle.check_state.specs.States.{stateOf}
+use Rattle.rules.specs.Syntax.{Formula}
+use Rattle.check_statements.proofs.Ruled.{plain, assert-law}
+use Rattle.check_statements.specs.Statements.{Asserts}
+use mathlib.Core.Path.{subst}
+use borrow.Author.Needs.{needs}
+use Rattle.check_statements.proofs.assert_rule.Statement.{statement}
+use Rattle.check_statements.proofs.assert_rule.Tie as tie
+
+show-requires : tie.Need-show-requires
+show-requires c κs = search needs
+
+returns : tie.Need-returns
+returns c =
+    subst (λ (φ : Formula ℕ). Asserts φ (stateOf (c .before .before .args .key .now) (c .before .before .args .b .now)) (c .show .result .answer)) (plain _ _ _) (assert-law _ _ _ _ _ (c .show .ensures))
+
+pub assert-rule-spec : {M : Type 1} → statement M
+assert-rule-spec = tie.close (tie.spec show-requires returns)

@@ -1,0 +1,81 @@
+use native.Mathlib.Omega.{arith}
+use Rattle.check_entailment.specs.Answers.{answered}
+use Rattle.check_statements.proofs.Ruled.{adds-same, adds-no, set-refused, set-found}
+use mathlib.Core.Path.{sym}
+use Rattle.check_equality.specs.Links.{relOf}
+use Rattle.check_entailment.specs.declared.Answer.{Answer}
+use borrow.Author.Needs.{needs}
+use Rattle.check_statements.proofs.set_rule.Statement.{statement}
+use Rattle.check_statements.proofs.set_rule.Tie as tie
+
+entry-requires : tie.Need-entry-requires
+entry-requires c κs = search needs
+
+element-copy-out-if1 : tie.Need-element-copy-out-if1
+element-copy-out-if1 c = search needs
+
+cast-if1 : tie.Need-cast-if1
+cast-if1 c = omega (arith, c .before .before .before .before .before .pre .fit)
+
+add-path-key : tie.Need-add-path-key
+add-path-key c = search needs
+
+element-copy-out-path-key : tie.Need-element-copy-out-path-key
+element-copy-out-path-key c = search needs
+
+add-path-key-2 : tie.Need-add-path-key-2
+add-path-key-2 c = search needs
+
+element-copy-out-path-key-2 : tie.Need-element-copy-out-path-key-2
+element-copy-out-path-key-2 c = search needs
+
+path-key-requires : tie.Need-path-key-requires
+path-key-requires c κs = search needs
+
+without-path-requires : tie.Need-without-path-requires
+without-path-requires c κs =
+    let start = c .before .before .before .before .before .before .before .before .before .before .before in
+    let at-if1 = c .before .before .before .before .before .if1 in
+    let at-path-key = c .before .before .path-key in
+    (start .pre, at-if1 .taken, at-path-key .ensures .0)
+
+variable-key-requires : tie.Need-variable-key-requires
+variable-key-requires c κs = search needs
+
+add-fact-requires : tie.Need-add-fact-requires
+add-fact-requires c κs = search needs
+
+returns : tie.Need-returns
+unfolding relOf
+returns c =
+    let start = c .before .before .before .before .before .before .before .before .before .before .before .before .before .before .before .before in
+    let at-entry = c .before .before .before .before .before .before .before .before .before .before .before .before .entry in
+    let at-if1 = c .before .before .before .before .before .before .before .before .before .before .if1 in
+    let at-path-key = c .before .before .before .before .before .before .before .path-key in
+    let at-without-path = c .before .before .before .before .without-path in
+    adds-same _ _ _ _ _ (rw (at-path-key .ensures .0, c .before .variable-key .ensures .0, at-without-path .ensures .same) (sym (set-found (start .args .key .now) (start .args .b .now) (start .pre) _ _ _ _ (at-entry .ensures) (at-if1 .taken)))) (c .add-fact .ensures)
+
+returns-2 : tie.Need-returns-2
+unfolding answered
+returns-2 c =
+    let start = c .before .before .before .before .before .before in
+    let at-entry = c .before .before .entry in
+    adds-no Answer.NoPermission _ _ (start .pre) _ (set-refused (start .args .key .now) (start .args .b .now) (start .pre) _ _ _ _ (at-entry .ensures) (c .if1 .left))
+
+pub set-rule-spec : {M : Type 1} → statement M
+set-rule-spec =
+    tie.close
+    (tie.spec
+    entry-requires
+    element-copy-out-if1
+    cast-if1
+    add-path-key
+    element-copy-out-path-key
+    add-path-key-2
+    element-copy-out-path-key-2
+    path-key-requires
+    without-path-requires
+    variable-key-requires
+    add-fact-requires
+    returns
+    returns-2)

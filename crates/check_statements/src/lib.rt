@@ -1,0 +1,333 @@
+// The rule of each statement.
+use check_entailment::Answer;
+use check_equality::State;
+use check_equality::Term;
+use check_state::Resolved;
+ghost use mathlib.Core.Path.{_≡_};
+ghost use Prim.Native.Nat.{_+_, _≤_, _<_};
+ghost use lib.ListN.{length};
+ghost use Rattle.rules.specs.Limits.{work-bytes, most-classes, most-fields};
+ghost use Rattle.rules.specs.Rules.{setRule, addEqual, assignRule, newRule, addFields, addInitial, callRule, ifRule, joinRule};
+ghost use Rattle.tables.specs.Layout.{most-atom-rows};
+ghost use Rattle.tables.specs.Decode.{fieldCountAt, fieldsFrom, classAt, methodAt, methodCount, atomsFrom};
+ghost use Rattle.tables.specs.Tables.{Tables};
+ghost use Rattle.check_equality.specs.Keys.{termOf, meaning};
+ghost use Rattle.check_equality.specs.Links.{relOf};
+ghost use Rattle.check_state.specs.States.{Wf, stateOf};
+ghost use Rattle.check_forgetting.specs.Changes.{leftOver};
+ghost use Rattle.check_entailment.specs.Answers.{Adds};
+ghost use Rattle.check_statements.specs.Statements.{Parts, assignTerm, callShown, partRule, initialOf, Asserts, releaseRule};
+
+// `set x f y`: the facts that name the path that shows `acc x f` go, and the path is y.
+pub fn set_rule(
+    key: &mut [u64; State::SLOTS],
+    b: &mut [u8; State::BYTES],
+    x: u8,
+    f: u8,
+    y: u8,
+) -> Answer
+    requires { ⌜ Wf (now key) (now b) ⌝ }
+    ensures { λ r. ⌜ Adds (setRule x f y (stateOf (now (key .entry)) (now (b .entry)))) r (now (key .exit)) (now (b .exit)) ⌝ }
+{
+    let out = [false; 64];
+    let i = check_state::entry(key, b, &out, x, f);
+    if i < (b[State::ENTRIES] as usize) {
+        let path = check_equality::path_key(b[State::VARIABLES + i], b[State::FIELDS + i]);
+        check_forgetting::without_path(key, b, i, path);
+        return check_entailment::add_fact(key, b, false, path, check_equality::variable_key(y));
+    }
+    Answer::NoPermission
+}
+
+// x = k, where the term is left.
+fn add_equal(
+    key: &mut [u64; State::SLOTS],
+    b: &mut [u8; State::BYTES],
+    x: u8,
+    k: Resolved,
+) -> Answer
+    requires { ⌜ Wf (now key) (now b) ⌝ }
+    ensures { λ r. ⌜ Adds (addEqual x (leftOver k) (stateOf (now (key .entry)) (now (b .entry)))) r (now (key .exit)) (now (b .exit)) ⌝ }
+{
+    let Resolved::Key(t) = k else {
+        return Answer::Done;
+    };
+    check_entailment::add_fact(key, b, false, check_equality::variable_key(x), t)
+}
+
+// `let x e`, where e resolves to the term of k.
+fn assign_key(key: &mut [u64; State::SLOTS], b: &mut [u8; State::BYTES], x: u8, k: u64) -> Answer
+    requires { ⌜ Wf (now key) (now b) ⌝ }
+    ensures { λ r. ⌜ Adds (assignTerm x (termOf k) (stateOf (now (key .entry)) (now (b .entry)))) r (now (key .exit)) (now (b .exit)) ⌝ }
+{
+    if k == check_equality::variable_key(x) {
+        return Answer::Done;
+    }
+    let to = check_state::successor(key, b, x);
+    check_forgetting::remove_to(key, b, x, to);
+    add_equal(key, b, x, check_forgetting::renamed(k, x, to))
+}
+
+// `let x e`
+pub fn assign_rule(
+    key: &mut [u64; State::SLOTS],
+    b: &mut [u8; State::BYTES],
+    x: u8,
+    e: Term,
+) -> Answer
+    requires { ⌜ Wf (now key) (now b) ⌝ }
+    ensures { λ r. ⌜ Adds (assignRule x (meaning e) (stateOf (now (key .entry)) (now (b .entry)))) r (now (key .exit)) (now (b .exit)) ⌝ }
+{
+    let Resolved::Key(k) = check_state::resolve(key, b, e) else {
+        return Answer::Unresolved;
+    };
+    assign_key(key, b, x, k)
+}
+
+// The permissions of a new x of the class c.
+fn add_fields(
+    w: &[u8],
+    key: &mut [u64; State::SLOTS],
+    b: &mut [u8; State::BYTES],
+    x: u8,
+    c: usize,
+    n: usize,
+) -> Answer
+    requires { ⌜ (length (now w) ≡ work-bytes) × (c < most-classes) × (n ≤ most-fields) × Wf (now key) (now b) ⌝ }
+    ensures { λ r. ⌜ Adds (addFields x (fieldsFrom (now (w .entry)) c 0 n) (stateOf (now (key .entry)) (now (b .entry)))) r (now (key .exit)) (now (b .exit)) ⌝ }
+{
+    let mut j = 0;
+    while j < n {
+        let k = check_entailment::add_permission(b, x, tables::field_name_at(w, c, j) as u8);
+        let Answer::Done = k else {
+            return k;
+        };
+        j += 1;
+    }
+    Answer::Done
+}
+
+// The key of a new field's value: 0 for an int, or else null.
+fn initial(kind: usize) -> u64
+    ensures { λ r. ⌜ termOf r ≡ initialOf kind ⌝ }
+{
+    if kind == 0 {
+        State::NULL_KEY
+    } else {
+        State::FIRST_NUMBER
+    }
+}
+
+// What the fields of a new x are.
+fn add_initial(
+    w: &[u8],
+    key: &mut [u64; State::SLOTS],
+    b: &mut [u8; State::BYTES],
+    x: u8,
+    c: usize,
+    n: usize,
+) -> Answer
+    requires { ⌜ (length (now w) ≡ work-bytes) × (c < most-classes) × (n ≤ most-fields) × Wf (now key) (now b) ⌝ }
+    ensures { λ r. ⌜ Adds (addInitial x (fieldsFrom (now (w .entry)) c 0 n) (stateOf (now (key .entry)) (now (b .entry)))) r (now (key .exit)) (now (b .exit)) ⌝ }
+{
+    let mut j = 0;
+    while j < n {
+        let path = check_equality::path_key(x, tables::field_name_at(w, c, j) as u8);
+        let k = check_entailment::add_fact(
+            key,
+            b,
+            false,
+            path,
+            initial(tables::field_kind_at(w, c, j)),
+        );
+        let Answer::Done = k else {
+            return k;
+        };
+        j += 1;
+    }
+    Answer::Done
+}
+
+// `new x C`
+pub fn new_rule(
+    w: &[u8],
+    key: &mut [u64; State::SLOTS],
+    b: &mut [u8; State::BYTES],
+    x: u8,
+    c: usize,
+) -> Answer
+    requires { ⌜ (length (now w) ≡ work-bytes) × (c < most-classes) × (fieldCountAt (now w) c ≤ most-fields) × Wf (now key) (now b) ⌝ }
+    ensures { λ r. ⌜ Adds (newRule x (classAt (now (w .entry)) c) (stateOf (now (key .entry)) (now (b .entry)))) r (now (key .exit)) (now (b .exit)) ⌝ }
+{
+    let n = tables::field_count_at(w, c);
+    check_forgetting::remove(key, b, x);
+    let k = add_fields(w, key, b, x, c, n);
+    let Answer::Done = k else {
+        return k;
+    };
+    let l = check_entailment::add_fact(
+        key,
+        b,
+        true,
+        check_equality::variable_key(x),
+        State::NULL_KEY,
+    );
+    let Answer::Done = l else {
+        return l;
+    };
+    add_initial(w, key, b, x, c, n)
+}
+
+// `assert`: the formula is shown, and the state stays.
+pub fn assert_rule<'a>(
+    w: &'a [u8],
+    key: &'a [u64; State::SLOTS],
+    b: &'a [u8; State::BYTES],
+    a: usize,
+    n: usize,
+) -> Answer
+    requires { ⌜ (length (now w) ≡ work-bytes) × (a + n ≤ most-atom-rows) × Wf (now key) (now b) ⌝ }
+    ensures { λ r. ⌜ Asserts (atomsFrom (now (w .entry)) a n) (stateOf (now (key .entry)) (now (b .entry))) r ⌝ }
+{
+    let r = check_formulas::show(w, a, n, 0, 1, 14, key, b);
+    let k = r.answer;
+    k
+}
+
+// `release`: the formula is shown, and the remainder is left.
+pub fn release_rule(
+    w: &[u8],
+    key: &mut [u64; State::SLOTS],
+    b: &mut [u8; State::BYTES],
+    a: usize,
+    n: usize,
+) -> Answer
+    requires { ⌜ (length (now w) ≡ work-bytes) × (a + n ≤ most-atom-rows) × Wf (now key) (now b) ⌝ }
+    ensures { λ r. ⌜ Adds (releaseRule (atomsFrom (now (w .entry)) a n) (stateOf (now (key .entry)) (now (b .entry)))) r (now (key .exit)) (now (b .exit)) ⌝ }
+{
+    let r = check_formulas::show(w, a, n, 0, 1, 14, key, b);
+    let k = r.answer;
+    let out = r.out;
+    check_forgetting::remainder(key, b, &out);
+    k
+}
+
+// `call x y m z`, where y ≠ null is shown.
+fn call_shown(
+    w: &[u8],
+    key: &mut [u64; State::SLOTS],
+    b: &mut [u8; State::BYTES],
+    x: u8,
+    y: u8,
+    m: usize,
+    z: u8,
+) -> Answer
+    requires { ⌜ Tables (now w) × (m < methodCount (now w)) × Wf (now key) (now b) ⌝ }
+    ensures { λ r. ⌜ Adds (callShown x y (methodAt (now (w .entry)) m) z (stateOf (now (key .entry)) (now (b .entry)))) r (now (key .exit)) (now (b .exit)) ⌝ }
+{
+    let a = tables::requires_first(w, m);
+    let n = tables::requires_count(w, m);
+    let r = check_formulas::show(w, a, n, y, z, x, key, b);
+    let k = r.answer;
+    let Answer::Done = k else {
+        return k;
+    };
+    let out = r.out;
+    check_forgetting::remainder(key, b, &out);
+    check_forgetting::remove(key, b, x);
+    let c = tables::ensures_first(w, m);
+    let o = tables::ensures_count(w, m);
+    check_formulas::add(w, c, o, y, z, x, key, b)
+}
+
+// `call x y m z`
+pub fn call_rule(
+    w: &[u8],
+    key: &mut [u64; State::SLOTS],
+    b: &mut [u8; State::BYTES],
+    x: u8,
+    y: u8,
+    m: usize,
+    z: u8,
+) -> Answer
+    requires { ⌜ Tables (now w) × (m < methodCount (now w)) × Wf (now key) (now b) ⌝ }
+    ensures { λ r. ⌜ Adds (callRule x y (methodAt (now (w .entry)) m) z (stateOf (now (key .entry)) (now (b .entry)))) r (now (key .exit)) (now (b .exit)) ⌝ }
+{
+    if check_inequality::holds(
+        key,
+        b,
+        true,
+        check_equality::variable_key(y),
+        State::NULL_KEY,
+    ) {
+        return call_shown(w, key, b, x, y, m, z);
+    }
+    Answer::NotShown
+}
+
+// The condition, or where `apart` its opposite, in the first state, and the other in the second, which is a copy of the first.
+fn part(
+    key: &mut [u64; State::SLOTS],
+    b: &mut [u8; State::BYTES],
+    key2: &mut [u64; State::SLOTS],
+    b2: &mut [u8; State::BYTES],
+    apart: bool,
+    t: u64,
+    u: u64,
+) -> Answer
+    requires { ⌜ Wf (now key) (now b) × (now key2 ≡ now key) × (now b2 ≡ now b) ⌝ }
+    ensures { λ r. ⌜ Parts (partRule (relOf apart) (termOf t) (termOf u) (stateOf (now (key .entry)) (now (b .entry)))) r (now (key .exit)) (now (b .exit)) (now (key2 .exit)) (now (b2 .exit)) ⌝ }
+{
+    let k = check_entailment::add_fact(key, b, apart, t, u);
+    let Answer::Done = k else {
+        return k;
+    };
+    check_entailment::add_fact(key2, b2, !apart, t, u)
+}
+
+// `if eq l r`, or where `apart` `if ne l r`
+pub fn if_rule(
+    key: &mut [u64; State::SLOTS],
+    b: &mut [u8; State::BYTES],
+    key2: &mut [u64; State::SLOTS],
+    b2: &mut [u8; State::BYTES],
+    apart: bool,
+    l: Term,
+    r: Term,
+) -> Answer
+    requires { ⌜ Wf (now key) (now b) × (now key2 ≡ now key) × (now b2 ≡ now b) ⌝ }
+    ensures { λ a. ⌜ Parts (ifRule (relOf apart) (meaning l) (meaning r) (stateOf (now (key .entry)) (now (b .entry)))) a (now (key .exit)) (now (b .exit)) (now (key2 .exit)) (now (b2 .exit)) ⌝ }
+{
+    let Resolved::Key(t) = check_state::resolve(key, b, l) else {
+        return Answer::Unresolved;
+    };
+    let Resolved::Key(u) = check_state::resolve(key, b, r) else {
+        return Answer::Unresolved;
+    };
+    part(key, b, key2, b2, apart, t, u)
+}
+
+// `join`: the first end, then the second, shows the formula, which is all that is known then.
+pub fn join_rule<'a>(
+    w: &'a [u8],
+    a: usize,
+    n: usize,
+    key: &mut [u64; State::SLOTS],
+    b: &mut [u8; State::BYTES],
+    key2: &'a [u64; State::SLOTS],
+    b2: &'a [u8; State::BYTES],
+) -> Answer
+    requires { ⌜ (length (now w) ≡ work-bytes) × (a + n ≤ most-atom-rows) × Wf (now key) (now b) × Wf (now key2) (now b2) ⌝ }
+    ensures { λ r. ⌜ Adds (joinRule (atomsFrom (now (w .entry)) a n) (stateOf (now (key .entry)) (now (b .entry))) (stateOf (now (key2 .entry)) (now (b2 .entry)))) r (now (key .exit)) (now (b .exit)) ⌝ }
+{
+    let k = assert_rule(w, key, b, a, n);
+    let Answer::Done = k else {
+        return k;
+    };
+    let l = assert_rule(w, key2, b2, a, n);
+    let Answer::Done = l else {
+        return l;
+    };
+    check_forgetting::clear(b);
+    check_formulas::add(w, a, n, 0, 1, 14, key, b)
+}

@@ -1,6 +1,0 @@
-pub mod Cuts
-pub mod Rows
-pub mod Coded
-pub mod Scans
-pub mod Spans
-pub mod Table

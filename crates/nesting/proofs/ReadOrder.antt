@@ -1,0 +1,307 @@
+-- The statement rows of a read text nest, and each block is some of them.
+use mathlib.Core.Path.{_≡_, refl, sym, ap, _∙_, subst}
+use mathlib.Core.Bool.{Bool, true, false, not, cond, _&&_}
+use mathlib.Core.List.{List, [], _∷_, _++_, append-assoc, append-nil}
+use Prim.Native.Nat.{ℕ, suc}
+use native.Mathlib.Omega.{arith}
+use lib.Dec.{T, not-T, leb, ltb, eqb, eqb→eq, leb→le}
+use lib.ListN.{length, drop}
+use Rattle.rules.specs.Base.{between}
+use Rattle.rules.specs.Answers.{accepted}
+use Rattle.rules.specs.Syntax as Syntax
+use Rattle.rules.specs.Syntax.{Formula, Row, Program, else, join, end}
+use Rattle.rules.specs.Grammar as Grammar
+use Rattle.rules.specs.Grammar.{Kind, Statement, Line, Class, Field, Method, Requires, Ensures, Main, Var, statement}
+use Rattle.rules.specs.Grammar.{Set, Let, New, Call, Return, Assert, Release, If, Else, Join, End}
+use Rattle.rules.specs.Grammar.{inBody, afterMain, form, stands, isStatement, isKind, kindNumber, statementNumber}
+use Rattle.rules.specs.Places as Places
+use Rattle.rules.specs.Places.{Place, Branch, beforeElse, firstPlace, stageNumber, mayElse, mayJoin, mayEnd, outer, fits, inPlace, stageAfter, branchesAfter, placeAfter, withinLimits, ended}
+use Rattle.rules.specs.Scope.{Scope, Variable, Declarations, declarations, firstScope}
+use Rattle.rules.specs.Items.{Item, aClass, aField, aMethod, aRequires, anEnsures, aMain, aLocal, aStatement, itemOf, resolveStatement, resolveFormula, resolveSet, resolveCall, resolveIf}
+use Rattle.rules.specs.Reading.{readText, noProgram, onLast, withRequires, withEnsures, withItem, withItems, program}
+use Rattle.rules.proofs.Lists.{and-both, and-intro}
+use Rattle.rules.proofs.LinesTaken.{TakenLines, none, line, seen, read-taken}
+use Rattle.nesting.specs.Nests.{Wait, forElse, forJoin, rowNests, rowsNest}
+
+-- THE ROWS OF ITEMS
+
+-- the statements among the items after n lines
+rowsOf : ℕ → List Item → List Row
+rowsOf n [] = []
+rowsOf n (aClass ∷ items) = rowsOf (suc n) items
+rowsOf n (aField f ∷ items) = rowsOf (suc n) items
+rowsOf n (aMethod ∷ items) = rowsOf (suc n) items
+rowsOf n (aRequires φ ∷ items) = rowsOf (suc n) items
+rowsOf n (anEnsures φ ∷ items) = rowsOf (suc n) items
+rowsOf n (aMain ∷ items) = rowsOf (suc n) items
+rowsOf n (aLocal x ∷ items) = rowsOf (suc n) items
+rowsOf n (aStatement s ∷ items) = record { line = suc n; stmt = s } ∷ rowsOf (suc n) items
+
+with-row :
+    (P : Program) (n : ℕ) (a : Item) (items : List Item) →
+    withItem P (suc n) a .rows ++ rowsOf (suc n) items ≡ P .rows ++ rowsOf n (a ∷ items)
+unfolding withItem rowsOf
+with-row P n aClass items = refl
+with-row P n (aField f) items = refl
+with-row P n aMethod items = refl
+with-row P n (aRequires φ) items = refl
+with-row P n (anEnsures φ) items = refl
+with-row P n aMain items = refl
+with-row P n (aLocal x) items = refl
+with-row P n (aStatement s) items = append-assoc (P .rows) _ (rowsOf (suc n) items)
+
+with-rows : (P : Program) (n : ℕ) (items : List Item) → withItems P n items .rows ≡ P .rows ++ rowsOf n items
+unfolding withItems rowsOf
+with-rows P n [] = sym (append-nil _)
+with-rows P n (a ∷ items) = with-rows (withItem P (suc n) a) (suc n) items ∙ with-row P n a items
+
+drop-length : (l k : List Row) → drop (length l) (l ++ k) ≡ k
+drop-length [] k = refl
+drop-length (a ∷ l) k = drop-length l k
+
+-- a line stands between its first and its last stage
+bounds :
+    (k : Kind) (p : Place) → T (inPlace k p) →
+    T (leb (stageNumber (form k .first)) (stageNumber (p .stage))) × T (leb (stageNumber (p .stage)) (stageNumber (form k .last)))
+unfolding inPlace between
+bounds k p i =
+    let a : Bool = leb (stageNumber (form k .first)) (stageNumber (p .stage)) in
+    let z : Bool = leb (stageNumber (p .stage)) (stageNumber (form k .last)) in
+    and-both a z (and-both (a && z) (fits k p) i .0)
+
+-- THE NESTING OF ROWS
+
+-- what the open branches of a place wait for
+waits : List Branch → List Wait
+waits [] = []
+waits (beforeElse ∷ bs) = forElse ∷ waits bs
+waits (Places.afterElse ∷ bs) = forJoin ∷ waits bs
+
+waits-length : (bs : List Branch) → length (waits bs) ≡ length bs
+unfolding waits
+waits-length [] = refl
+waits-length (beforeElse ∷ bs) = ap suc (waits-length bs)
+waits-length (Places.afterElse ∷ bs) = ap suc (waits-length bs)
+
+-- rows that nest do so also where a block begins
+begin-nests : (b : Bool) (ws : List Wait) (rs : List Row) → T (rowsNest b ws rs) → T (rowsNest true ws rs)
+unfolding rowsNest
+begin-nests b [] [] t = tt
+begin-nests b (v ∷ ws) [] t = t
+begin-nests b ws (r ∷ rs) t = t
+
+-- outside of bodies no branch is open
+abbrev Closed : Place → Type 0
+Closed p = T (not (eqb (stageNumber (p .stage)) 6)) → p .branches ≡ []
+
+-- rows that nest inside a block are some
+some-nests : (b : Bool) (ws : List Wait) (rs : List Row) → T (rowsNest false ws rs) → T (rowsNest b ws rs)
+unfolding rowsNest
+some-nests b [] [] t = absurd t
+some-nests b (v ∷ ws) [] t = t
+some-nests b ws (r ∷ rs) t = t
+
+-- `if`, `else`, `join` and `end`, by the branches that are open
+if-row : (bs : List Branch) (rs : List Row) → T (leb (suc (length bs)) 4) → T (rowsNest false (waits (beforeElse ∷ bs)) rs) → T (ltb (length (waits bs)) 4 && rowsNest false (forElse ∷ waits bs) rs)
+unfolding waits
+if-row bs rs l t = and-intro (ltb (length (waits bs)) 4) _ (subst (λ (n : ℕ). T (leb (suc n) 4)) (sym (waits-length bs)) l) t
+
+else-row : (bs : List Branch) (k : Bool → List Wait → Bool) → T (mayElse bs) → T (k false (waits (Places.afterElse ∷ outer bs))) → T (rowNests else (waits bs) k)
+unfolding mayElse outer waits rowNests
+else-row [] k m t = absurd m
+else-row (beforeElse ∷ bs) k m t = t
+else-row (Places.afterElse ∷ bs) k m t = absurd m
+
+join-row : (bs : List Branch) (φ : Formula ℕ) (k : Bool → List Wait → Bool) → T (mayJoin bs) → T (k false (waits (outer bs))) → T (rowNests (join φ) (waits bs) k)
+unfolding mayJoin outer waits rowNests
+join-row [] φ k m t = absurd m
+join-row (beforeElse ∷ bs) φ k m t = absurd m
+join-row (Places.afterElse ∷ bs) φ k m t = t
+
+end-row : (bs : List Branch) (k : Bool → List Wait → Bool) → T (mayEnd bs) → T (k true (waits bs)) → T (rowNests end (waits bs) k)
+unfolding mayEnd waits rowNests
+end-row [] k m t = t
+end-row (b ∷ bs) k m t = absurd m
+
+ends-closed : (bs : List Branch) → T (mayEnd bs) → bs ≡ []
+unfolding mayEnd
+ends-closed [] m = refl
+ends-closed (b ∷ bs) m = absurd m
+
+few-branches : (q : Place) → T (withinLimits q) → T (leb (length (q .branches)) 4)
+unfolding withinLimits
+few-branches q t =
+    let a = and-both (leb (q .classes) 16) _ t .1 in
+    let b = and-both (leb (q .fields) 8) _ a .1 in
+    let c = and-both (leb (q .methods) 64) _ b .1 in
+    let d = and-both (leb (q .locals) 12) _ c .1 in
+    and-both (leb (q .statements) 256) (leb (length (q .branches)) 4) d .1
+
+module _ (Γ : Declarations) (vs : List Variable) (l : Line) (p : Place) (closed : Closed p) (n : ℕ) (rest : List Item) where
+  rows : List Row
+  rows = rowsOf (suc n) rest
+
+  Nests : Kind → Type 0
+  Nests k =
+      T (inPlace k p) → T (withinLimits (placeAfter k p)) →
+      (T (rowsNest (ended (placeAfter k p)) (waits (placeAfter k p .branches)) rows) →
+      T (rowsNest (ended p) (waits (p .branches)) (rowsOf n (itemOf Γ vs k l ∷ rest))))
+      × Closed (placeAfter k p)
+
+  -- a line that stands before bodies only
+  not-body : (k : Kind) → T (leb (stageNumber (form k .last)) 5) → T (inPlace k p) → T (not (eqb (stageNumber (p .stage)) 6))
+  not-body k l i =
+      let h = leb→le (stageNumber (p .stage)) (stageNumber (form k .last)) (bounds k p i .1) in
+      let g = leb→le (stageNumber (form k .last)) 5 l in
+      not-T (eqb (stageNumber (p .stage)) 6) (λ t. omega (arith, h, g, eqb→eq (stageNumber (p .stage)) 6 t))
+
+  fit : (k : Kind) → T (inPlace k p) → T (fits k p)
+  unfolding inPlace
+  fit k i = and-both (between (stageNumber (form k .first)) (stageNumber (form k .last)) (stageNumber (p .stage))) (fits k p) i .1
+
+  statement-nests : (a : Statement) → Nests (statement a)
+  unfolding Nests rows rowsOf itemOf resolveStatement placeAfter stageAfter branchesAfter ended stageNumber form stands isStatement isKind kindNumber statementNumber rowsNest rowNests resolveSet resolveCall resolveIf fits
+  statement-nests Set i w = (λ t. t, absurd)
+  statement-nests Let i w = (λ t. t, absurd)
+  statement-nests New i w = (λ t. t, absurd)
+  statement-nests Call i w = (λ t. t, absurd)
+  statement-nests Return i w = (λ t. t, absurd)
+  statement-nests Assert i w = (λ t. t, absurd)
+  statement-nests Release i w = (λ t. t, absurd)
+  statement-nests If i w = (λ t. if-row (p .branches) rows (few-branches (placeAfter (statement If) p) w) t, absurd)
+  statement-nests Else i w = (λ t. else-row (p .branches) (λ b ws. rowsNest b ws rows) (fit (statement Else) i) t, absurd)
+  statement-nests Join i w = (λ t. join-row (p .branches) (resolveFormula Γ vs l) (λ b ws. rowsNest b ws rows) (fit (statement Join) i) t, absurd)
+  statement-nests End i w = (
+    λ t.
+        end-row (p .branches) (λ b ws. rowsNest b ws rows) (fit (statement End) i)
+        (begin-nests (ended (placeAfter (statement End) p)) (waits (p .branches)) rows t),
+    λ e. ends-closed (p .branches) (fit (statement End) i),
+  )
+
+  -- a line that adds no row, and stands before bodies only
+  no-row : (k : Kind) → T (leb (stageNumber (form k .last)) 5) → T (inPlace k p) → (T (rowsNest false (waits (p .branches)) rows) → T (rowsNest (ended p) (waits (p .branches)) rows)) × (T true → p .branches ≡ [])
+  no-row k u i = (some-nests (ended p) (waits (p .branches)) rows, λ e. closed (not-body k u i))
+
+  line-nests : (k : Kind) → Nests k
+  unfolding Nests rows rowsOf itemOf placeAfter stageAfter branchesAfter ended stageNumber form stands isStatement isKind kindNumber
+  line-nests Class i w = no-row Class tt i
+  line-nests Field i w = no-row Field tt i
+  line-nests Method i w = no-row Method tt i
+  line-nests Requires i w = no-row Requires tt i
+  line-nests Ensures i w = no-row Ensures tt i
+  line-nests Main i w = no-row Main tt i
+  line-nests Var i w = no-row Var tt i
+  line-nests (statement a) i w = statement-nests a i w
+
+lines-nest :
+    (text : List Line) (p : Place) (s : Scope) (ls : List Line) (items : List Item) (n : ℕ) → TakenLines text p s ls items →
+    Closed p → T (rowsNest (ended p) (waits (p .branches)) (rowsOf n items))
+unfolding Nests rows rowsOf waits rowsNest ended stageNumber
+lines-nest text p s ls items n (none e) h =
+    subst (λ (bs : List Branch). T (rowsNest (ended p) (waits bs) [])) (sym (h (not-six (stageNumber (p .stage)) e))) e
+  where
+    not-six : (k : ℕ) → T (eqb k 7) → T (not (eqb k 6))
+    not-six k t = not-T (eqb k 6) (λ u. omega (arith, eqb→eq k 7 t, eqb→eq k 6 u))
+lines-nest text p s ls items n (line {l = l} {items = rest} L R) h =
+    let (o, c) = line-nests _ _ l p h n rest (l .kind) (L .in-place) (L .within) in
+    o (lines-nest text _ _ _ rest (suc n) R c)
+
+pub read-nests : (t : List ℕ) (items : List Item) → readText t ≡ accepted items → T (rowsNest true [] (program items .rows))
+unfolding ended stageNumber waits program
+read-nests t items e =
+    let (text, K) = read-taken t items e in
+    subst (λ (rs : List Row). T (rowsNest true [] rs)) (sym (with-rows noProgram 0 items))
+    (begin-nests (ended firstPlace) [] (rowsOf 0 items) (lines-nest text firstPlace firstScope text items 0 K (λ e. refl)))
+
+-- BLOCKS
+
+-- of the rows rs, each of these methods has a block whose branches nest
+abbrev pub BodiesNest : List Row → List Syntax.Method → Type 0
+BodiesNest rs [] = Unit {0}
+BodiesNest rs (M ∷ Ms) = T (rowsNest false [] (drop (M .first) rs)) × BodiesNest rs Ms
+
+module _ (rs : List Row) where
+  bodies-more :
+      (Ms : List Syntax.Method) (M : Syntax.Method) → BodiesNest rs Ms → T (rowsNest false [] (drop (M .first) rs)) →
+      BodiesNest rs (Ms ++ (M ∷ []))
+  bodies-more [] M B t = (t, tt)
+  bodies-more (N ∷ Ms) M B t = (B .0, bodies-more Ms M (B .1) t)
+
+  bodies-last :
+      (f : Syntax.Method → Syntax.Method) → ((M : Syntax.Method) → f M .first ≡ M .first) → (Ms : List Syntax.Method) →
+      BodiesNest rs Ms → BodiesNest rs (onLast f Ms)
+  unfolding onLast
+  bodies-last f e [] B = tt
+  bodies-last f e (M ∷ []) B = (rw e (B .0), tt)
+  bodies-last f e (M ∷ N ∷ Ms) B = (B .0, bodies-last f e (N ∷ Ms) (B .1))
+
+  -- what is put together of the lines above a place
+  record Blocks (p : Place) (P : Program) : Type 0 where
+    methods : BodiesNest rs (P .methods)
+    main : T (p .main) → T (rowsNest false [] (drop (P .main) rs))
+    last : T (eqb (stageNumber (p .stage)) 7) → T (p .main)
+
+  module _ (Γ : Declarations) (vs : List Variable) (l : Line) (p : Place) (closed : Closed p) (n : ℕ) (rest : List Item) (P : Program)
+      (is : rs ≡ P .rows ++ rowsOf (suc n) rest) where
+    -- a block that begins after this line
+    begins :
+        (k : Kind) → T (leb (stageNumber (form k .last)) 5) → T (inPlace k p) →
+        T (rowsNest false (waits (p .branches)) (rowsOf (suc n) rest)) → T (rowsNest false [] (drop (length (P .rows)) rs))
+    unfolding waits
+    begins k u i t =
+        rw (is, drop-length (P .rows) (rowsOf (suc n) rest))
+        (subst (λ (bs : List Branch). T (rowsNest false (waits bs) (rowsOf (suc n) rest))) (closed (not-body Γ vs l p closed n rest k u i)) t)
+
+  -- of the statements, main's `end` comes last
+  last-end : (e m : Bool) → T (eqb (stageNumber (cond e (cond m afterMain Grammar.afterMethod) inBody)) 7) → T m
+  unfolding stageNumber
+  last-end true true t = tt
+  last-end true false t = t
+  last-end false m t = absurd t
+
+  line-blocks :
+      (Γ : Declarations) (vs : List Variable) (l : Line) (p : Place) (closed : Closed p) (n : ℕ) (rest : List Item) (P : Program)
+      (k : Kind) → rs ≡ P .rows ++ rowsOf n (itemOf Γ vs k l ∷ rest) → T (inPlace k p) →
+      T (rowsNest (ended (placeAfter k p)) (waits (placeAfter k p .branches)) (rowsOf (suc n) rest)) → Blocks p P →
+      Blocks (placeAfter k p) (withItem P (suc n) (itemOf Γ vs k l))
+  unfolding withItem withRequires withEnsures rowsOf itemOf placeAfter stageAfter branchesAfter ended stageNumber form stands isStatement isKind kindNumber
+  line-blocks Γ vs l p c n rest P Class is i t B = record { methods = B .methods; main = B .main; last = absurd }
+  line-blocks Γ vs l p c n rest P Field is i t B = record { methods = B .methods; main = B .main; last = absurd }
+  line-blocks Γ vs l p c n rest P Method is i t B =
+      record {
+        methods = bodies-more (P .methods) _ (B .methods) (begins Γ vs l p c n rest P is Method tt i t);
+        main = B .main;
+        last = absurd;
+      }
+  line-blocks Γ vs l p c n rest P Requires is i t B =
+      record { methods = bodies-last (withRequires _) (λ M. refl) (P .methods) (B .methods); main = B .main; last = absurd }
+  line-blocks Γ vs l p c n rest P Ensures is i t B =
+      record { methods = bodies-last (withEnsures _) (λ M. refl) (P .methods) (B .methods); main = B .main; last = absurd }
+  line-blocks Γ vs l p c n rest P Main is i t B =
+      record { methods = B .methods; main = λ u. begins Γ vs l p c n rest P is Main tt i t; last = absurd }
+  line-blocks Γ vs l p c n rest P Var is i t B = record { methods = B .methods; main = B .main; last = absurd }
+  line-blocks Γ vs l p c n rest P (statement a) is i t B =
+      record { methods = B .methods; main = B .main; last = last-end (isKind (statement End) (statement a)) (p .main) }
+
+  lines-blocks :
+      (text : List Line) (p : Place) (s : Scope) (ls : List Line) (items : List Item) (n : ℕ) → TakenLines text p s ls items →
+      Closed p → (P : Program) → rs ≡ P .rows ++ rowsOf n items → Blocks p P →
+      BodiesNest rs (withItems P n items .methods) × T (rowsNest false [] (drop (withItems P n items .main) rs))
+  unfolding Nests rows withItems ended stageNumber
+  lines-blocks text p s ls items n (none e) h P is B = (B .methods, B .main (B .last e))
+  lines-blocks text p s ls items n (line {p = q} {s = r} {l = l} {items = rest} L R) h P is B =
+      let Γ : Declarations = declarations text in
+      let vs : List Variable = seen r l in
+      let (_, c) = line-nests Γ vs l q h n rest (l .kind) (L .in-place) (L .within) in
+      lines-blocks text _ _ _ rest (suc n) R c _ (is ∙ sym (with-row P n _ rest))
+      (line-blocks Γ vs l q h n rest P (l .kind) is (L .in-place) (lines-nest text _ _ _ rest (suc n) R c) B)
+
+pub read-blocks :
+    (t : List ℕ) (items : List Item) → readText t ≡ accepted items →
+    BodiesNest (program items .rows) (program items .methods)
+    × T (rowsNest false [] (drop (program items .main) (program items .rows)))
+unfolding program stageNumber
+read-blocks t items e =
+    let (text, K) = read-taken t items e in
+    lines-blocks (withItems noProgram 0 items .rows) text firstPlace firstScope text items 0 K (λ e. refl) noProgram
+    (with-rows noProgram 0 items) (record { methods = tt; main = λ u. absurd u; last = λ v. absurd v })

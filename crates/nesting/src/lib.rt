@@ -1,0 +1,1 @@
+// The rows of a read text nest; there is no code here.

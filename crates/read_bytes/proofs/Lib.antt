@@ -1,0 +1,4 @@
+pub mod Bytes
+pub mod Search
+pub mod Bytewise
+pub mod Fields

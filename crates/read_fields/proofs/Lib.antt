@@ -1,0 +1,5 @@
+pub mod Clean
+pub mod Cuts
+pub mod Formulas
+pub mod Spans
+pub mod Heads

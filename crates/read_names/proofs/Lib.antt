@@ -1,0 +1,3 @@
+pub mod Searches
+pub mod Keys
+pub mod Puts

@@ -1,0 +1,200 @@
+// Numbers: decimal, 32 bits signed, read once.
+ghost use mathlib.Core.Path.{_≡_};
+ghost use mathlib.Core.Bool.{true, false, cond, _&&_};
+ghost use lib.Dec.{eqb};
+ghost use Prim.Native.Nat.{_+_, _-_, _≤_};
+ghost use lib.ListN.{length, getD, take, drop};
+ghost use Rattle.rules.specs.Base.{all};
+ghost use Rattle.rules.specs.Text.{minus, digit, isNumber, number, decimal};
+ghost use Rattle.read_bytes.specs.Marks.{eight, value};
+ghost use Rattle.read_bytes.specs.Fields.{endsField, FieldIs};
+ghost use Rattle.read_numbers.specs.Numbers.{Begun, TenDigits, led, inRange};
+
+// NUMBERS
+
+// Where a number's digits start: after the sign at a place, if one stands there.
+fn sign_end(l: &[u8], at: usize) -> usize
+    ensures { λ r. ⌜ r ≡ cond (eqb (getD (now (l .entry)) at 0) minus) (at + 1) at ⌝ }
+{
+    if read_bytes::byte_at(l, at) == 45 {
+        at + 1
+    } else {
+        at
+    }
+}
+
+// The number that eight digits from i on write: the sum of their bytes, each times its power of ten, and 48 for each digit taken off.
+fn eight_digits(l: &[u8], i: usize) -> u64
+    requires { ⌜ (i + 8 ≤ length (now l)) × (all digit (eight (now l) i) ≡ true) ⌝ }
+    ensures { λ r. ⌜ r ≡ decimal 0 (eight (now (l .entry)) i) ⌝ }
+{
+    let a = (l[i] as u64) * 1000
+        + (l[i + 1] as u64) * 100
+        + (l[i + 2] as u64) * 10
+        + l[i + 3] as u64;
+    let b = (l[i + 4] as u64) * 1000
+        + (l[i + 5] as u64) * 100
+        + (l[i + 6] as u64) * 10
+        + l[i + 7] as u64;
+    a * 10000 + b - 533333328
+}
+
+// The number that some digits write, and where they end.
+struct Digits {
+    value: u64,
+    end: usize,
+}
+
+// The first eight digits, if there are so many.
+fn first_value(w: &[u8]) -> Digits
+    requires { ⌜ all digit (now w) ≡ true ⌝ }
+    ensures { λ r. ⌜ (r .end ≤ length (now (w .entry))) × (decimal (r .value) (drop (r .end) (now (w .entry))) ≡ decimal 0 (now (w .entry))) ⌝ }
+{
+    if w.len() < 8 {
+        return Digits { value: 0, end: 0 };
+    }
+    Digits {
+        value: eight_digits(w, 0),
+        end: 8,
+    }
+}
+
+// The number that digits write, if it is no larger than a number can be.
+fn value_of(w: &[u8]) -> u64
+    requires { ⌜ (all digit (now w) ≡ true) × (decimal 0 (now w) ≤ 2147483648) ⌝ }
+    ensures { λ r. ⌜ r ≡ decimal 0 (now (w .entry)) ⌝ }
+{
+    let first = first_value(w);
+    let mut n = first.value;
+    let mut i = first.end;
+    while i < w.len() {
+        n = n * 10 + (w[i] - 48) as u64;
+        i += 1;
+    }
+    n
+}
+
+// The 32 bits of a field that is known to be a number.
+pub fn known_number(w: &[u8]) -> u32
+    requires { ⌜ isNumber (now w) ≡ true ⌝ }
+    ensures { λ r. ⌜ r ≡ number (now (w .entry)) ⌝ }
+{
+    let from = sign_end(w, 0);
+    let n = value_of(&w[from..]);
+    if from == 0 {
+        n as u32
+    } else {
+        (4294967296 - n) as u32
+    }
+}
+
+// Ten bytes from a place on, or the end.
+fn digits_stop(l: &[u8], at: usize) -> usize
+    requires { ⌜ at ≤ length (now l) ⌝ }
+    ensures { λ r. ⌜ r ≡ at + length (take 10 (drop at (now (l .entry)))) ⌝ }
+{
+    if l.len() - at < 10 { l.len() } else { at + 10 }
+}
+
+// Are the next eight bytes digits? The last of them is asked first.
+fn has_eight(l: &[u8], at: usize) -> bool
+    requires { ⌜ at ≤ length (now l) ⌝ }
+    ensures { λ r. ⌜ (r ≡ true → (at + 8 ≤ length (now (l .entry))) × (all digit (eight (now (l .entry)) at) ≡ true)) ⌝ }
+{
+    if l.len() - at < 8 {
+        return false;
+    }
+    if !read_bytes::is_digit(l[at + 7]) {
+        return false;
+    }
+    read_bytes::digit_marks(read_bytes::word8(l, at)) == 0
+}
+
+// The first eight of the digits from a place on, or none.
+fn first_digits(l: &[u8], at: usize) -> Digits
+    requires { ⌜ at ≤ length (now l) ⌝ }
+    ensures { λ r. ⌜ Begun (now (l .entry)) at (r .value) (r .end) ⌝ }
+{
+    if has_eight(l, at) {
+        return Digits {
+            value: eight_digits(l, at),
+            end: at + 8,
+        };
+    }
+    Digits { value: 0, end: at }
+}
+
+// The digits from a place on, at most ten: a number has no more.
+fn digits_from(l: &[u8], at: usize) -> Digits
+    requires { ⌜ at ≤ length (now l) ⌝ }
+    ensures { λ r. ⌜ TenDigits (now (l .entry)) at (r .value) (r .end) ⌝ }
+{
+    let stop = digits_stop(l, at);
+    let first = first_digits(l, at);
+    let mut value = first.value;
+    let mut end = first.end;
+    while end < stop {
+        let b = l[end];
+        if !read_bytes::is_digit(b) {
+            return Digits { value, end };
+        }
+        value = value * 10 + (b - 48) as u64;
+        end += 1;
+    }
+    Digits { value, end }
+}
+
+// Are there digits from a place on to an end, with no leading zero?
+fn is_led(l: &[u8], from: usize, end: usize) -> bool
+    requires { ⌜ (from ≤ end) × (end ≤ length (now l)) ⌝ }
+    ensures { λ r. ⌜ r ≡ led (end - from) (getD (now (l .entry)) from 0) ⌝ }
+{
+    if end == from {
+        return false;
+    }
+    if l[from] != 48 {
+        return true;
+    }
+    end == from + 1
+}
+
+// Is it in the range of a number, after `-` or without?
+fn in_range(value: u64, signed: bool) -> bool
+    ensures { λ r. ⌜ r ≡ inRange signed value ⌝ }
+{
+    if !signed {
+        return value <= 2147483647;
+    }
+    if value < 1 {
+        return false;
+    }
+    value <= 2147483648
+}
+
+// Do the digits that stand from a place on write a number, and end the field?
+fn is_written(l: &[u8], from: usize, d: Digits, signed: bool) -> bool
+    requires { ⌜ (from ≤ d .end) × (d .end ≤ length (now l)) ⌝ }
+    ensures { λ r. ⌜ r ≡ (led (d .end - from) (getD (now (l .entry)) from 0) && (inRange signed (d .value) && endsField (now (l .entry)) (d .end))) ⌝ }
+{
+    if !is_led(l, from, d.end) {
+        return false;
+    }
+    if !in_range(d.value, signed) {
+        return false;
+    }
+    read_bytes::ends_field(l, d.end)
+}
+
+// The end of the field that starts at `at`, if that field is a number; else `at`.
+pub fn number_end(l: &[u8], at: usize) -> usize
+    requires { ⌜ at ≤ length (now l) ⌝ }
+    ensures { λ r. ⌜ FieldIs isNumber (now (l .entry)) at r ⌝ }
+{
+    let from = sign_end(l, at);
+    let d = digits_from(l, from);
+    if is_written(l, from, d, at < from) {
+        d.end
+    } else {
+        at
+    }
+}

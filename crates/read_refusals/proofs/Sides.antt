@@ -1,0 +1,66 @@
+-- Laws of the sides of a line, and of the variables of a `call`, by the number of the line's kind.
+use mathlib.Core.Path.{_≡_, sym, _∙_}
+use mathlib.Core.Bool.{true, false, not, _&&_}
+use mathlib.Core.List.{List, [], _∷_}
+use Prim.Native.Nat.{ℕ}
+use lib.Dec.{eqb}
+use lib.ListN.{drop, getD}
+use borrow.Author.Tests.{ne-eqb}
+use Rattle.rules.specs.Base.{Name}
+use Rattle.rules.specs.Text.{isName, isExpr}
+use Rattle.rules.specs.Grammar.{Kind, statement, Set, Let, New, Call, Return, form, stands, shape, shaped, isFormed, isOperand, isTail, nothing}
+use Rattle.rules.specs.Grammar.{IsKindNumber, isStatement, isKind, kindNumber, statementNumber}
+use Rattle.rules.specs.Scope.{operand}
+use Rattle.rules.specs.Names as Rules
+use Rattle.read_bytes.proofs.Search.{true-false, both-true, and-false}
+use Rattle.read_fields.specs.Cuts.{more}
+use Rattle.read_grammar.specs.Rows.{kindNumbered}
+use Rattle.read_grammar.proofs.Rows.{NoneOf, kind-numbered, kind-of-number}
+use Rattle.read_scopes.specs.declared.Names.{Names}
+use Rattle.read_scopes.specs.Meanings.{variablesIn}
+use Rattle.read_refusals.specs.Tests.{lineAfter, formed, sidesIn, apartIn}
+
+let-form :
+    (ws : List Name) → isFormed (form (statement Let) .operands) (form (statement Let) .tail) ws ≡ true → isExpr (getD ws 1 []) ≡ true
+unfolding form stands shape shaped isFormed isOperand
+let-form [] e = true-false (sym e)
+let-form (x ∷ []) e = true-false (sym e ∙ and-false (isName x))
+let-form (x ∷ y ∷ ws) e = both-true (isExpr y) (isTail nothing ws) (both-true (isName x) (isExpr y && isTail nothing ws) e .1) .0
+
+-- the second side of `let` is an expression
+pub let-side : (t : List ℕ) (r k : ℕ) → k ≡ 9 → formed (lineAfter t r k) ≡ true → isExpr (getD (more (drop r t)) 1 []) ≡ true
+unfolding formed lineAfter kindNumber statementNumber
+let-side t r k e f = let-form (more (drop r t)) (rw (e, kind-of-number (statement Let)) at f)
+
+module _ (t w : List ℕ) (c : Names) (r k : ℕ) where
+  -- the kind instead of its number
+  pub sides-of : (K : Kind) → kindNumber K ≡ k → sidesIn t w c (lineAfter t r k) ≡ sidesIn t w c (record { kind = K; fields = more (drop r t) })
+  unfolding lineAfter
+  sides-of K e = rw (← e, kind-of-number K)
+
+  -- k is the number of a kind, and not that of a
+  other : IsKindNumber k → (a : Kind) → (k ≡ kindNumber a → ⊥) → isKind a (kindNumbered k) ≡ false
+  other h a n = kind-numbered k h a ∙ ne-eqb (kindNumber a) k (λ e. n (sym e))
+
+  pub sides-other : IsKindNumber k → NoneOf k (12 ∷ 11 ∷ 10 ∷ 9 ∷ 8 ∷ []) → true ≡ sidesIn t w c (lineAfter t r k)
+  unfolding sidesIn Rules.sidesAgree lineAfter kindNumber statementNumber
+  sides-other h n =
+      rw (
+        other h (statement Set) (n .0 .0 .0 .0 .1),
+        other h (statement Let) (n .0 .0 .0 .1),
+        other h (statement New) (n .0 .0 .1),
+        other h (statement Call) (n .0 .1),
+        other h (statement Return) (n .1),
+      )
+
+  pub apart-other : IsKindNumber k → (k ≡ 11 → ⊥) → true ≡ apartIn t w c (lineAfter t r k)
+  unfolding apartIn Rules.callApart lineAfter kindNumber statementNumber
+  apart-other h n = rw (other h (statement Call) n)
+
+  pub apart-call :
+      k ≡ 11 →
+      apartIn t w c (lineAfter t r k)
+      ≡ (not (eqb (Rules.variableNumber (variablesIn t w c) (getD (more (drop r t)) 0 [])) (Rules.variableNumber (variablesIn t w c) (getD (more (drop r t)) 1 [])))
+      && not (eqb (Rules.variableNumber (variablesIn t w c) (getD (more (drop r t)) 0 [])) (Rules.variableNumber (variablesIn t w c) (getD (more (drop r t)) 3 []))))
+  unfolding apartIn Rules.callApart lineAfter isKind isStatement kindNumber statementNumber operand
+  apart-call e = rw (e, kind-of-number (statement Call))

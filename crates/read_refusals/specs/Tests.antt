@@ -1,0 +1,107 @@
+-- A line at a place of the text, and which of the tests of numbers 6, 7 and 9 its fields pass.
+use mathlib.Core.Path.{_≡_}
+use mathlib.Core.Bool.{Bool, true, _&&_}
+use mathlib.Core.List.{List, []}
+use Prim.Native.Nat.{ℕ}
+use lib.ListN.{length, drop}
+use Rattle.rules.specs.Base.{Name, all}
+use Rattle.rules.specs.Limits.{work-bytes}
+use Rattle.rules.specs.Syntax.{Formula}
+use Rattle.rules.specs.Text.{exprOf, formulaOf}
+use Rattle.rules.specs.Grammar.{Operand, Line, form, IsKindNumber, isFormed, expression}
+use Rattle.rules.specs.Scope.{Slot, slots, atomsOf}
+use Rattle.rules.specs.Names as Rules
+use Rattle.read_fields.specs.Cuts.{more}
+use Rattle.read_grammar.specs.Rows.{kindNumbered}
+use Rattle.read_scopes.specs.declared.Names.{Names}
+use Rattle.read_scopes.specs.declared.Above.{Above}
+use Rattle.read_scopes.specs.Meanings.{Fits, AboveFits, declarationsIn, variablesIn, scopeIn}
+use Rattle.read_refusals.specs.declared.Tests.{Tests}
+
+-- A LINE
+
+-- the line of this kind whose word ends at r
+unfoldable pub lineAfter : List ℕ → ℕ → ℕ → Line
+lineAfter t r k = record { kind = kindNumbered k; fields = more (drop r t) }
+
+unfoldable pub formed : Line → Bool
+formed l = isFormed (form (l .kind) .operands) (form (l .kind) .tail) (l .fields)
+
+-- the kind's number, and the line's form
+pub record Formed (k : ℕ) (l : Line) : Type 0 where
+  pub kind : IsKindNumber k
+  pub is : formed l ≡ true
+
+-- the work area, and counts of its rows
+pub record Ready (w : List ℕ) (c : Names) (a : Above) : Type 0 where
+  pub whole : length w ≡ work-bytes
+  pub names : Fits c
+  pub above : AboveFits a
+
+-- THE TESTS
+
+abbrev pub bothTests : Tests → Tests → Tests
+bothTests a b =
+    record {
+      known = a .known && b .known;
+      typed = a .typed && b .typed;
+      assignable = a .assignable && b .assignable;
+    }
+
+abbrev pub allPassed : Tests
+allPassed = record { known = true; typed = true; assignable = true }
+
+-- of a field that is an expression
+unfoldable pub exprTests : List ℕ → List ℕ → Names → Name → Tests
+exprTests t w c x =
+    record {
+      known = Rules.knownExpr (declarationsIn t w c) (variablesIn t w c) (exprOf x);
+      typed = Rules.ofClassIn (declarationsIn t w c) (variablesIn t w c) (exprOf x);
+      assignable = true;
+    }
+
+module _ (t w : List ℕ) (c : Names) (a : Above) where
+  -- of the field x with v before it
+  unfoldable pub slotTests : Operand → Name → Name → Tests
+  slotTests o v x =
+      record {
+        known = Rules.known (declarationsIn t w c) (variablesIn t w c) (scopeIn t w c a) o v x;
+        typed = Rules.ofClass (declarationsIn t w c) (variablesIn t w c) o v x;
+        assignable = Rules.mayBeAssigned (variablesIn t w c) o x;
+      }
+
+  -- of `eq x y` or `ne x y`
+  unfoldable pub cmpTests : Name → Name → Tests
+  cmpTests x y =
+      bothTests (slotTests expression [] x)
+      (bothTests (slotTests expression x y)
+      (record {
+        known = true;
+        typed =
+            Rules.agree
+            (Rules.exprType (declarationsIn t w c) (variablesIn t w c) (exprOf x))
+            (Rules.exprType (declarationsIn t w c) (variablesIn t w c) (exprOf y));
+        assignable = true;
+      }))
+
+  -- of fields, and of the sides of atoms
+  unfoldable pub tested : List Slot → Formula Name → Tests
+  tested xs φ =
+      record {
+        known = all (λ x. Rules.known (declarationsIn t w c) (variablesIn t w c) (scopeIn t w c a) (x .operand) (x .before) (x .name)) xs;
+        typed =
+            all (λ x. Rules.ofClass (declarationsIn t w c) (variablesIn t w c) (x .operand) (x .before) (x .name)) xs
+            && all (Rules.atomAgrees (declarationsIn t w c) (variablesIn t w c)) φ;
+        assignable = all (λ x. Rules.mayBeAssigned (variablesIn t w c) (x .operand) (x .name)) xs;
+      }
+
+  unfoldable pub lineTests : Line → Tests
+  lineTests l = tested (slots l) (formulaOf (atomsOf l))
+
+-- of the sides of a line that is no formula, and of the variables of a `call`
+module _ (t w : List ℕ) (c : Names) where
+  unfoldable pub sidesIn : Line → Bool
+  sidesIn l = Rules.sidesAgree (declarationsIn t w c) (variablesIn t w c) l
+
+  unfoldable pub apartIn : Line → Bool
+  apartIn l = Rules.callApart (variablesIn t w c) l

@@ -1,0 +1,349 @@
+// Why a line is refused: the tests of its names and types (6, 7, 9).
+use read_scopes::Above;
+use read_scopes::Names;
+use read_tests::Operand;
+use read_types::ExprType;
+ghost use mathlib.Core.Path.{_≡_};
+ghost use mathlib.Core.Bool.{true, _&&_};
+ghost use mathlib.Core.List.{[], _∷_};
+ghost use Prim.Native.Nat.{_≤_};
+ghost use lib.ListN.{length, drop, getD};
+ghost use Rattle.rules.specs.Limits.{work-bytes, most-atoms};
+ghost use Rattle.rules.specs.Text.{isName, isExpr, exprOf, isAtom, isFormula, atomOf, formulaOf};
+ghost use Rattle.rules.specs.Grammar.{IsKindNumber, isOperand, variable, member, read, field};
+ghost use Rattle.rules.specs.Names.{agree, exprType};
+ghost use Rattle.rules.specs.Scope.{slotsFrom, atomOperands, atomSlots};
+ghost use Rattle.read_fields.specs.Cuts.{more};
+ghost use Rattle.read_grammar.specs.Rows.{operandNumber};
+ghost use Rattle.read_scopes.specs.Meanings.{Fits, declarationsIn, variablesIn, scopeIn};
+ghost use Rattle.read_tests.specs.Tests.{operandMeant};
+ghost use Rattle.read_refusals.specs.Tests.{lineAfter, Formed, Ready, bothTests, slotTests, exprTests, cmpTests, tested, lineTests, sidesIn, apartIn};
+ghost use Rattle.read_refusals.specs.Refusals.{refusalOf, refusalIn};
+
+// Which of the tests of numbers 6, 7 and 9 are passed.
+pub struct Tests {
+    pub known: bool,
+    pub typed: bool,
+    pub assignable: bool,
+}
+
+// What a line is: good, or refused by number 6, 7 or 9.
+pub enum Judged {
+    Good,
+    Undeclared,
+    WrongType,
+    WrongTarget,
+}
+
+fn and(a: bool, b: bool) -> bool
+    ensures { λ r. ⌜ r ≡ (a && b) ⌝ }
+{
+    if a { b } else { false }
+}
+
+fn both(a: Tests, b: Tests) -> Tests
+    ensures { λ r. ⌜ r ≡ bothTests a b ⌝ }
+{
+    let known = and(a.known, b.known);
+    let typed = and(a.typed, b.typed);
+    let assignable = and(a.assignable, b.assignable);
+    Tests {
+        known,
+        typed,
+        assignable,
+    }
+}
+
+// FIELDS
+
+// Field i of those after a field that ends at `from`; nothing if there is none.
+fn nth_field(text: &[u8], from: usize, i: usize) -> &[u8]
+    requires { ⌜ from ≤ length (now text) ⌝ }
+    ensures { λ x. ⌜ now x ≡ getD (more (drop from (now (text .entry)))) i [] ⌝ }
+{
+    let mut r = from;
+    let mut left = i;
+    while left != 0 {
+        r = read_fields::next_field(text, r);
+        left -= 1;
+    }
+    let e = read_fields::next_field(text, r);
+    if e == r {
+        return &text[0..0];
+    }
+    let b = r + 1;
+    &text[b..e]
+}
+
+// The operand that has this number in a row of the grammar.
+fn operand_of(n: u32) -> Operand
+    requires { ⌜ (1 ≤ n) × (n ≤ 11) ⌝ }
+    ensures { λ r. ⌜ operandNumber (operandMeant r) ≡ n ⌝ }
+{
+    match n {
+        1 => Operand::NewClass,
+        2 => Operand::NewField,
+        3 => Operand::NewMethod,
+        4 => Operand::NewVariable,
+        5 => Operand::TypeName,
+        6 => Operand::ClassName,
+        7 => Operand::Read,
+        8 => Operand::Assigned,
+        9 => Operand::Field,
+        10 => Operand::Method,
+        _ => Operand::Expression,
+    }
+}
+
+// The tests of the field x, with v before it.
+fn field_tests(
+    text: &[u8],
+    work: &[u8],
+    c: Names,
+    a: Above,
+    o: Operand,
+    v: &[u8],
+    x: &[u8],
+) -> Tests
+    requires { ⌜ Ready (now work) c a × (isOperand (operandMeant o) (now x) ≡ true) ⌝ }
+    ensures { λ r. ⌜ r ≡ slotTests (now (text .entry)) (now (work .entry)) c a (operandMeant o) (now (v .entry)) (now (x .entry)) ⌝ }
+{
+    let known = read_tests::known(text, work, c, a, o, v, x);
+    let typed = read_tests::of_class(text, work, c, o, v, x);
+    let assignable = read_tests::may_be_assigned(text, work, c, o, x);
+    Tests {
+        known,
+        typed,
+        assignable,
+    }
+}
+
+// ATOMS
+
+// Are the types of two expressions those of two sides?
+fn types_agree(text: &[u8], work: &[u8], c: Names, x: &[u8], y: &[u8]) -> bool
+    requires { ⌜ (length (now work) ≡ work-bytes) × Fits c × (isExpr (now x) ≡ true) × (isExpr (now y) ≡ true) ⌝ }
+    ensures { λ r. ⌜ r ≡ agree (exprType (declarationsIn (now (text .entry)) (now (work .entry)) c) (variablesIn (now (text .entry)) (now (work .entry)) c) (exprOf (now (x .entry)))) (exprType (declarationsIn (now (text .entry)) (now (work .entry)) c) (variablesIn (now (text .entry)) (now (work .entry)) c) (exprOf (now (y .entry)))) ⌝ }
+{
+    let s = read_types::expr_type(text, work, c, x);
+    let u = read_types::expr_type(text, work, c, y);
+    read_types::agree(text, s, u)
+}
+
+// `acc x f`
+fn acc_tests(text: &[u8], work: &[u8], c: Names, a: Above, x: &[u8], f: &[u8]) -> Tests
+    requires { ⌜ Ready (now work) c a × (isName (now x) ≡ true) × (isName (now f) ≡ true) ⌝ }
+    ensures { λ r. ⌜ r ≡ bothTests (slotTests (now (text .entry)) (now (work .entry)) c a (variable read) [] (now (x .entry))) (slotTests (now (text .entry)) (now (work .entry)) c a (member field) (now (x .entry)) (now (f .entry))) ⌝ }
+{
+    let first = field_tests(text, work, c, a, Operand::Read, &x[0..0], x);
+    let second = field_tests(text, work, c, a, Operand::Field, x, f);
+    both(first, second)
+}
+
+// The tests of a field that is an expression; a number passes them.
+fn expr_tests(text: &[u8], work: &[u8], c: Names, x: &[u8]) -> Tests
+    requires { ⌜ (length (now work) ≡ work-bytes) × Fits c × (isExpr (now x) ≡ true) ⌝ }
+    ensures { λ r. ⌜ r ≡ exprTests (now (text .entry)) (now (work .entry)) c (now (x .entry)) ⌝ }
+{
+    if read_tokens::is_numeral(x) {
+        return Tests {
+            known: true,
+            typed: true,
+            assignable: true,
+        };
+    }
+    let known = read_tests::known_expr(text, work, c, x);
+    let typed = read_tests::of_class_in(text, work, c, x);
+    Tests {
+        known,
+        typed,
+        assignable: true,
+    }
+}
+
+// `eq x y` or `ne x y`
+fn cmp_tests(text: &[u8], work: &[u8], c: Names, a: Above, x: &[u8], y: &[u8]) -> Tests
+    requires { ⌜ Ready (now work) c a × (isExpr (now x) ≡ true) × (isExpr (now y) ≡ true) ⌝ }
+    ensures { λ r. ⌜ r ≡ cmpTests (now (text .entry)) (now (work .entry)) c a (now (x .entry)) (now (y .entry)) ⌝ }
+{
+    let first = expr_tests(text, work, c, x);
+    let second = expr_tests(text, work, c, y);
+    let typed = types_agree(text, work, c, x, y);
+    let sides = Tests {
+        known: true,
+        typed,
+        assignable: true,
+    };
+    both(first, both(second, sides))
+}
+
+fn one_atom(text: &[u8], work: &[u8], c: Names, a: Above, w: &[u8], x: &[u8], y: &[u8]) -> Tests
+    requires { ⌜ Ready (now work) c a × (isAtom (now w) (now x) (now y) ≡ true) ⌝ }
+    ensures { λ r. ⌜ r ≡ tested (now (text .entry)) (now (work .entry)) c a (slotsFrom [] (atomOperands (now (w .entry))) (now (x .entry) ∷ now (y .entry) ∷ [])) (atomOf (now (w .entry)) (now (x .entry)) (now (y .entry)) ∷ []) ⌝ }
+{
+    if read_words::word(w) == read_words::ACC {
+        return acc_tests(text, work, c, a, x, y);
+    }
+    cmp_tests(text, work, c, a, x, y)
+}
+
+// The atoms after a field that ends at `from`.
+fn atom_tests(text: &[u8], work: &[u8], from: usize, c: Names, a: Above) -> Tests
+    requires { ⌜ Ready (now work) c a × (from ≤ length (now text)) × (isFormula most-atoms (more (drop from (now text))) ≡ true) ⌝ }
+    ensures { λ r. ⌜ r ≡ tested (now (text .entry)) (now (work .entry)) c a (atomSlots (more (drop from (now (text .entry))))) (formulaOf (more (drop from (now (text .entry))))) ⌝ }
+{
+    let mut t = Tests {
+        known: true,
+        typed: true,
+        assignable: true,
+    };
+    let mut r = from;
+    while read_bytes::byte_at(text, r) == 9 {
+        let x = read_fields::next_field(text, r);
+        let y = read_fields::next_field(text, x);
+        let z = read_fields::next_field(text, y);
+        let w = r + 1;
+        let p = x + 1;
+        let q = y + 1;
+        let f = one_atom(text, work, c, a, &text[w..x], &text[p..y], &text[q..z]);
+        t = both(t, f);
+        r = z;
+    }
+    t
+}
+
+// OPERANDS
+
+// The fields of a line of this kind, whose word ends at `from`: its operands, then its atoms.
+fn line_tests(text: &[u8], work: &[u8], from: usize, kind: u8, c: Names, a: Above) -> Tests
+    requires { ⌜ Ready (now work) c a × (from ≤ length (now text)) × Formed kind (lineAfter (now text) from kind) ⌝ }
+    ensures { λ r. ⌜ r ≡ lineTests (now (text .entry)) (now (work .entry)) c a (lineAfter (now (text .entry)) from kind) ⌝ }
+{
+    let row = read_grammar::row_of(kind);
+    let mut left = row.operands;
+    let mut t = Tests {
+        known: true,
+        typed: true,
+        assignable: true,
+    };
+    let mut b = from;
+    let mut r = from;
+    while left != 0 {
+        let e = read_fields::next_field(text, r);
+        let o = operand_of(left % 16);
+        let s = r + 1;
+        let f = field_tests(text, work, c, a, o, &text[b..r], &text[s..e]);
+        t = both(t, f);
+        b = s;
+        r = e;
+        left = left / 16;
+    }
+    let f = atom_tests(text, work, r, c, a);
+    both(t, f)
+}
+
+// SIDES
+
+// `set x f y`
+fn set_agrees(text: &[u8], work: &[u8], from: usize, c: Names) -> bool
+    requires { ⌜ (length (now work) ≡ work-bytes) × Fits c × (from ≤ length (now text)) ⌝ }
+    ensures { λ r. ⌜ r ≡ sidesIn (now (text .entry)) (now (work .entry)) c (lineAfter (now (text .entry)) from 8) ⌝ }
+{
+    let x = read_lookups::variable_type(text, work, c, nth_field(text, from, 0));
+    let f = read_lookups::field_type(text, work, c, x, nth_field(text, from, 1));
+    let y = read_lookups::variable_type(text, work, c, nth_field(text, from, 2));
+    read_lookups::same_name(text, f, y)
+}
+
+// `let x e`
+fn let_agrees(text: &[u8], work: &[u8], from: usize, c: Names) -> bool
+    requires { ⌜ (length (now work) ≡ work-bytes) × Fits c × (from ≤ length (now text)) × (isExpr (getD (more (drop from (now text))) 1 []) ≡ true) ⌝ }
+    ensures { λ r. ⌜ r ≡ sidesIn (now (text .entry)) (now (work .entry)) c (lineAfter (now (text .entry)) from 9) ⌝ }
+{
+    let x = read_lookups::variable_type(text, work, c, nth_field(text, from, 0));
+    let e = read_types::expr_type(text, work, c, nth_field(text, from, 1));
+    read_types::agree(text, ExprType::Named(x), e)
+}
+
+// `new x C`
+fn new_agrees(text: &[u8], work: &[u8], from: usize, c: Names) -> bool
+    requires { ⌜ (length (now work) ≡ work-bytes) × Fits c × (from ≤ length (now text)) ⌝ }
+    ensures { λ r. ⌜ r ≡ sidesIn (now (text .entry)) (now (work .entry)) c (lineAfter (now (text .entry)) from 10) ⌝ }
+{
+    let x = read_lookups::variable_type(text, work, c, nth_field(text, from, 0));
+    read_bytes::same(read_names::name_in(text, x), nth_field(text, from, 1))
+}
+
+// `call x y m z`: the result, and the argument
+fn call_agrees(text: &[u8], work: &[u8], from: usize, c: Names) -> bool
+    requires { ⌜ (length (now work) ≡ work-bytes) × Fits c × (from ≤ length (now text)) ⌝ }
+    ensures { λ r. ⌜ r ≡ sidesIn (now (text .entry)) (now (work .entry)) c (lineAfter (now (text .entry)) from 11) ⌝ }
+{
+    let x = read_lookups::variable_type(text, work, c, nth_field(text, from, 0));
+    let y = read_lookups::variable_type(text, work, c, nth_field(text, from, 1));
+    let m = read_lookups::method_number(text, work, c, y, nth_field(text, from, 2));
+    let z = read_lookups::variable_type(text, work, c, nth_field(text, from, 3));
+    let result = read_lookups::same_name(text, x, read_lookups::result_type(work, c, m));
+    let argument = read_lookups::same_name(text, z, read_lookups::parameter_type(work, c, m));
+    and(result, argument)
+}
+
+// `return x`
+fn return_agrees(text: &[u8], work: &[u8], from: usize, c: Names) -> bool
+    requires { ⌜ (length (now work) ≡ work-bytes) × Fits c × (from ≤ length (now text)) ⌝ }
+    ensures { λ r. ⌜ r ≡ sidesIn (now (text .entry)) (now (work .entry)) c (lineAfter (now (text .entry)) from 12) ⌝ }
+{
+    let x = read_lookups::variable_type(text, work, c, nth_field(text, from, 0));
+    let r = read_lookups::variable_type(text, work, c, b"result");
+    read_lookups::same_name(text, x, r)
+}
+
+fn sides_agree(text: &[u8], work: &[u8], from: usize, kind: u8, c: Names) -> bool
+    requires { ⌜ (length (now work) ≡ work-bytes) × Fits c × (from ≤ length (now text)) × Formed kind (lineAfter (now text) from kind) ⌝ }
+    ensures { λ r. ⌜ r ≡ sidesIn (now (text .entry)) (now (work .entry)) c (lineAfter (now (text .entry)) from kind) ⌝ }
+{
+    match kind {
+        8 => set_agrees(text, work, from, c),
+        9 => let_agrees(text, work, from, c),
+        10 => new_agrees(text, work, from, c),
+        11 => call_agrees(text, work, from, c),
+        12 => return_agrees(text, work, from, c),
+        _ => true,
+    }
+}
+
+// 9: "`call x` with x the same name as y or z"
+fn call_apart(text: &[u8], work: &[u8], from: usize, kind: u8, c: Names) -> bool
+    requires { ⌜ (length (now work) ≡ work-bytes) × Fits c × (from ≤ length (now text)) × IsKindNumber kind ⌝ }
+    ensures { λ r. ⌜ r ≡ apartIn (now (text .entry)) (now (work .entry)) c (lineAfter (now (text .entry)) from kind) ⌝ }
+{
+    if kind != 11 {
+        return true;
+    }
+    let x = read_lookups::variable(text, work, c, nth_field(text, from, 0));
+    let y = read_lookups::variable(text, work, c, nth_field(text, from, 1));
+    let z = read_lookups::variable(text, work, c, nth_field(text, from, 3));
+    and(x != y, x != z)
+}
+
+// THE LINE
+
+// Is the line of this kind whose word ends at `from` good? 6 before 7 before 9.
+pub fn judge(text: &[u8], work: &[u8], from: usize, kind: u8, c: Names, a: Above) -> Judged
+    requires { ⌜ Ready (now work) c a × (from ≤ length (now text)) × Formed kind (lineAfter (now text) from kind) ⌝ }
+    ensures { λ r. ⌜ refusalOf r ≡ refusalIn (declarationsIn (now (text .entry)) (now (work .entry)) c) (variablesIn (now (text .entry)) (now (work .entry)) c) (scopeIn (now (text .entry)) (now (work .entry)) c a) (lineAfter (now (text .entry)) from kind) ⌝ }
+{
+    let t = line_tests(text, work, from, kind, c, a);
+    if !t.known {
+        return Judged::Undeclared;
+    }
+    let sides = sides_agree(text, work, from, kind, c);
+    if !and(t.typed, sides) {
+        return Judged::WrongType;
+    }
+    let apart = call_apart(text, work, from, kind, c);
+    if !and(t.assignable, apart) {
+        return Judged::WrongTarget;
+    }
+    Judged::Good
+}

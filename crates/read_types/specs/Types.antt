@@ -1,0 +1,57 @@
+-- Types of expressions, and what looking up a path or an expression answers.
+use mathlib.Core.Path.{_≡_}
+use mathlib.Core.Bool.{Bool, true, false, not, _&&_}
+use mathlib.Core.List.{List}
+use mathlib.Core.Option.{none, some}
+use Prim.Native.Nat.{ℕ}
+use lib.Dec.{ltb}
+use Rattle.rules.specs.Base.{Name, bytes, is}
+use Rattle.rules.specs.Syntax.{Expr, path}
+use Rattle.rules.specs.Text.{reserved}
+use Rattle.rules.specs.Grammar.{variable, fields}
+use Rattle.rules.specs.Scope.{Declarations, Variable}
+use Rattle.rules.specs.Names as Rules
+use Rattle.rules.specs.Names.{variableNumber, variableType, fieldType, fieldNumber, knownExpr, ofClassIn, exprType}
+use Rattle.rules.specs.Items.{resolveExpr}
+use Rattle.tables.specs.Stores.{meaning}
+use Rattle.read_names.specs.declared.Span.{Span}
+use Rattle.read_types.specs.declared.ExprType.{ExprType}
+use Rattle.read_scopes.specs.declared.Names.{Names}
+use Rattle.read_types.specs.declared.Member.{Member}
+use Rattle.read_types.specs.declared.Lookup.{Lookup}
+use Rattle.read_names.specs.Rows.{nameIn}
+
+-- the type that an answer is
+unfoldable pub typeMeant : List ℕ → ExprType → Rules.ExprType
+typeMeant t ExprType.Null = none
+typeMeant t ExprType.Int = some (bytes "int")
+typeMeant t (ExprType.Named s) = some (nameIn t s)
+
+-- is it int?
+unfoldable pub isIntType : List ℕ → ExprType → Bool
+isIntType t ExprType.Null = false
+isIntType t ExprType.Int = true
+isIntType t (ExprType.Named s) = is "int" (nameIn t s)
+
+-- LOOKING UP
+
+-- an expression that passes the tests of 6 and 7
+unfoldable pub good : Declarations → List Variable → Expr Name → Bool
+good Γ vs e = knownExpr Γ vs e && ofClassIn Γ vs e
+
+-- may a line name f of the variable v, of the class named at s, if i is where the class's field f stands?
+unfoldable pub mayName : List ℕ → Names → ℕ → Span → ℕ → Name → Bool
+mayName t c v s i f = ltb v 15 && (ltb i (c .fields) && (not (is "int" (nameIn t s)) && not (reserved f)))
+
+-- what looking up x.f gives
+pub record MemberIs (t : List ℕ) (Γ : Declarations) (vs : List Variable) (x f : Name) (r : Member) : Type 0 where
+  pub variable : r .variable ≡ variableNumber vs x
+  pub number : r .number ≡ fieldNumber Γ f
+  pub is : nameIn t (r .is) ≡ fieldType Γ (variableType vs x) f
+  pub good : r .good ≡ good Γ vs (path x f)
+
+-- what looking up an expression gives
+pub record LookIs (t : List ℕ) (Γ : Declarations) (vs : List Variable) (e : Expr Name) (r : Lookup) : Type 0 where
+  pub expr : meaning (r .expr) ≡ resolveExpr Γ vs e
+  pub is : typeMeant t (r .is) ≡ exprType Γ vs e
+  pub good : r .good ≡ good Γ vs e

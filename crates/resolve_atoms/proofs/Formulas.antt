@@ -1,0 +1,297 @@
+-- A formula as the cursor passes it: three fields are an atom, and what is written grows with it.
+use mathlib.Core.Path.{_≡_, refl, sym, ap, ap₂, subst, _∙_}
+use mathlib.Core.Bool.{Bool, true, false, cond, _&&_, _||_}
+use mathlib.Core.List.{List, [], _∷_, _++_, map, append-nil, append-assoc}
+use Prim.Native.Nat.{ℕ, zero, suc, _+_, _-_, _≤_, _<_}
+use native.Mathlib.Nat.{add-zero}
+use native.Mathlib.Omega.{arith}
+use lib.Dec.{eqb}
+use lib.ListN.{length, getD, take, drop, length-append, length-drop}
+use lib.Seq.{getD-take, getD-drop, length-take-le}
+use Rattle.rules.specs.Base.{Name, all, is}
+use Rattle.rules.specs.Limits.{work-bytes, most-atoms}
+use Rattle.rules.specs.Syntax.{Atom, Formula}
+use Rattle.rules.specs.Text.{upTo, isRel, isAtom, atomOf, isFormula, formulaOf}
+use Rattle.rules.specs.Scope.{Declarations, Variable}
+use Rattle.rules.specs.Items.{resolveAtom}
+use Rattle.read_bytes.specs.Sets.{inSet, Found}
+use Rattle.read_bytes.specs.declared.Set.the-variants.{FieldEnd}
+use Rattle.read_bytes.proofs.Search.{true-false, both-true, upTo-within}
+use Rattle.read_words.proofs.Words.{atom-word-length}
+use Rattle.read_fields.specs.Cuts.{part, more, NextField}
+use Rattle.read_fields.proofs.Cuts.{byte-in, no-more, some-more, fields-from}
+use Rattle.read_fields.proofs.Formulas.{NextAtom, more-on, not-none, formula-full, atom-0, atom-1, atom-2, atom-3, atom-here}
+use Rattle.tables.specs.Layout.{names-at, most-atom-rows}
+use Rattle.tables.specs.Stores.{Kept}
+use Rattle.read_scopes.specs.declared.Names.{Names}
+use Rattle.read_scopes.specs.Meanings.{declarationsIn, variablesIn}
+use Rattle.read_scopes.proofs.Scopes.{names-kept, variables-kept}
+use Rattle.rules.specs.Syntax.{Program}
+use Rattle.write_rows.specs.Puts.{putAtom}
+use Rattle.write_rows.specs.Holds as Holds
+use Rattle.tables.specs.Tables.{Declared}
+use Rattle.write_rows.specs.Holds.{AtomOk, Building}
+use Rattle.write_rows.proofs.Atoms.{atom-names, atom-length, building, atom-written}
+use Rattle.resolve_atoms.specs.declared.AtomRow.{AtomRow}
+use Rattle.resolve_atoms.specs.declared.Tried.{Tried}
+use Rattle.resolve_atoms.specs.declared.Put.{Put}
+use Rattle.resolve_atoms.specs.Good.{fitsAtom}
+use Rattle.resolve_atoms.proofs.Sides.{atom-word}
+use Rattle.resolve_atoms.specs.Written.{Resolved, AtomTried, formulaAfter, fitsAfter, Ready, AtomFollows, AtomPut, NextTried, FormulaFollows, FormulaTried}
+
+-- THE WORD OF AN ATOM
+
+-- the first field of a formula that is not empty
+first-word : (n : ℕ) (w : Name) (ws : List Name) → isFormula (suc n) (w ∷ ws) ≡ true → (is "acc" w || isRel w) ≡ true
+unfolding isFormula
+first-word n w [] e = true-false (sym e)
+first-word n w (a ∷ []) e = true-false (sym e)
+first-word n w (a ∷ b ∷ ws) e = atom-word w a b (both-true (isAtom w a b) (isFormula n ws) e .0)
+
+module _ {t : List ℕ} {r : ℕ} (f : AtomFollows t r) where
+  abbrev word-length : ℕ
+  word-length = upTo (inSet FieldEnd) (drop (r + 1) t)
+
+  in-text : r < length t
+  in-text = byte-in t r 9 (omega arith) (f .byte)
+
+  -- where the search for its end stops
+  word-found : Found t (r + 1) FieldEnd (r + 1 + word-length)
+  word-found =
+      record {
+        low = omega arith;
+        high = omega (arith, in-text, upTo-within (inSet FieldEnd) (drop (r + 1) t), length-drop (r + 1) t);
+        is = refl;
+      }
+
+  word-next : NextField t r (r + 1 + word-length)
+  word-next =
+      record {
+        low = omega arith;
+        high = word-found .high;
+        none = λ e. absurd (omega arith);
+        some = λ l. some-more t r (f .byte) ∙ fields-from t (r + 1) (r + 1 + word-length) word-found;
+      }
+
+  -- its first letter tells its length
+  word-letter : word-length ≡ cond (eqb (getD t (r + 1) 0) 97) 3 2
+  word-letter =
+      let d = drop (r + 1) t in
+      let z : r + 1 + word-length - (r + 1) ≡ word-length = omega arith in
+      let e = atom-word-length (take word-length d) (first-word (f .most) (take word-length d) _ (rw (word-next .some (omega arith), z) at (f .form))) in
+      let n : length (take word-length d) ≡ word-length = length-take-le word-length d (upTo-within (inSet FieldEnd) d) in
+      let p : 0 < word-length = omega (arith, e, n, some (eqb (getD (take word-length d) 0 0) 97)) in
+      let b : getD (take word-length d) 0 0 ≡ getD t (r + 1) 0 = getD-take word-length d 0 0 p ∙ (getD-drop (r + 1) t 0 0 ∙ ap (λ k. getD t k 0) (add-zero (r + 1))) in
+      sym n ∙ (e ∙ rw b)
+    where
+      some : (q : Bool) → 0 < cond q 3 2
+      some true = omega arith
+      some false = omega arith
+
+  pub word-ends : (e : ℕ) → e ≡ r + 1 + cond (eqb (getD t (r + 1) 0) 97) 3 2 → NextField t r e
+  word-ends e h = subst (NextField t r) (sym (h ∙ ap (λ n. r + 1 + n) (sym word-letter))) word-next
+
+-- THREE FIELDS
+module _
+    {t : List ℕ} {r x y z : ℕ} (f : NextField t r x) (g : NextField t x y) (h : NextField t y z) (tab : getD t r 0 ≡ 9) (m : ℕ)
+    (form : isFormula (suc m) (more (drop r t)) ≡ true) where
+  never : {A : Type 0} → NextAtom t r r → A
+  never n = true-false (sym form ∙ n .none refl m (not-none t r tab))
+
+  pub some-1 : x ≡ r → ⊥
+  some-1 e = never (atom-0 f e)
+
+  pub some-2 : y ≡ x → ⊥
+  some-2 e = never (atom-1 f some-1 g e)
+
+  pub some-3 : z ≡ y → ⊥
+  some-3 e = never (atom-2 f some-1 g some-2 h e)
+
+  pub is-atom : isAtom (part (r + 1) x t) (part (x + 1) y t) (part (y + 1) z t) ≡ true
+  is-atom = go (isAtom (part (r + 1) x t) (part (x + 1) y t) (part (y + 1) z t)) refl
+    where
+      go : (q : Bool) → isAtom (part (r + 1) x t) (part (x + 1) y t) (part (y + 1) z t) ≡ q → q ≡ true
+      go true e = refl
+      go false e = never (atom-3 f some-1 g some-2 h some-3 e)
+
+  abbrev here : Atom Name
+  here = atomOf (part (r + 1) x t) (part (x + 1) y t) (part (y + 1) z t)
+
+  formula-cut : formulaOf (more (drop r t)) ≡ here ∷ formulaOf (more (drop z t))
+  unfolding formulaOf
+  formula-cut = rw (more-on f some-1, more-on g some-2, more-on h some-3)
+
+  pub next-form : (n : ℕ) → isFormula (suc n) (more (drop r t)) ≡ isFormula n (more (drop z t))
+  next-form n = atom-here f some-1 g some-2 h some-3 is-atom .some (omega (arith, f .low, g .low, h .low, some-1)) n
+
+  module _ (w : List ℕ) (c : Names) where
+    fits-cut :
+        fitsAfter t w c r ≡ (fitsAtom (declarationsIn t w c) (variablesIn t w c) here && fitsAfter t w c z)
+    unfolding fitsAfter all
+    fits-cut = ap (all (fitsAtom (declarationsIn t w c) (variablesIn t w c))) formula-cut
+
+    pub next-put :
+        (k : Ready t w c) (n : ℕ) (q : Tried) (a : AtomRow) (u : List ℕ) → n < most-atom-rows →
+        AtomTried (declarationsIn t w c) (variablesIn t w c) here q → q ≡ Tried.Row a → u ≡ putAtom w n (a .kind) (a .left) (a .right) →
+        NextTried t w c r n u (Put.Done z)
+    unfolding formulaAfter NextTried AtomTried
+    next-put k n q a u l y i e =
+        let x : (fitsAtom (declarationsIn t w c) (variablesIn t w c) here ≡ true) × Resolved (declarationsIn t w c) (variablesIn t w c) here a =
+        subst (AtomTried (declarationsIn t w c) (variablesIn t w c) here) i y in
+        record {
+          atom = resolveAtom (declarationsIn t w c) (variablesIn t w c) here;
+          low = omega (arith, f .low, g .low, h .low, some-1);
+          high = h .high;
+          form = next-form;
+          fits = fits-cut ∙ rw (x .0);
+          is = ap (map (resolveAtom (declarationsIn t w c) (variablesIn t w c))) formula-cut;
+          built = λ D F i φ b.
+              subst (λ v. Building D v F i (n + 1) (φ ++ (resolveAtom (declarationsIn t w c) (variablesIn t w c) here ∷ []))) (sym e)
+              (subst (λ y. Building D (putAtom w n (a .kind) (a .left) (a .right)) F i (n + 1) (φ ++ (y ∷ []))) (x .1 .is)
+              (atom-written D w F i n φ (a .kind) (a .left) (a .right) l (x .1 .ok) b));
+          names = subst (Kept names-at work-bytes w) (sym e) (atom-names w n (a .kind) (a .left) (a .right) (k .whole) l (x .1 .ok));
+          size = ap length e ∙ atom-length w n (a .kind) (a .left) (a .right) (k .whole) l (x .1 .ok);
+        }
+
+    pub next-bad :
+        (n : ℕ) (q : Tried) → AtomTried (declarationsIn t w c) (variablesIn t w c) here q → q ≡ Tried.Bad → NextTried t w c r n w Put.Bad
+    unfolding NextTried AtomTried
+    next-bad n q y i =
+        let x : fitsAtom (declarationsIn t w c) (variablesIn t w c) here ≡ false =
+        subst (AtomTried (declarationsIn t w c) (variablesIn t w c) here) i y in
+        (fits-cut ∙ rw x, refl)
+
+-- the row of an atom that was tried
+pub row-ok : (Γ : Declarations) (vs : List Variable) (x : Atom Name) (q : Tried) (a : AtomRow) → AtomTried Γ vs x q → q ≡ Tried.Row a →
+    AtomOk (a .kind) (a .left) (a .right)
+unfolding AtomTried
+row-ok Γ vs x q a y i =
+    let z : (fitsAtom Γ vs x ≡ true) × Resolved Γ vs x a = subst (AtomTried Γ vs x) i y in z .1 .ok
+
+-- THE LOOP
+
+-- the atoms before r are written
+pub record Writing (t v : List ℕ) (c : Names) (from first : ℕ) (w : List ℕ) (r n : ℕ) : Type 0 where
+  pub high : r ≤ length t
+  pub most : ℕ
+  pub form : isFormula most (more (drop r t)) ≡ true
+  pub fits : fitsAfter t v c from ≡ fitsAfter t v c r
+  pub done : Formula ℕ
+  pub all : formulaAfter t v c from ≡ done ++ formulaAfter t v c r
+  pub count : n ≡ first + length done
+  pub built : (D : Declared) (F : Program) → Holds.Holds D v F first → Building D w F first n done
+  pub names : Kept names-at work-bytes v w
+  pub size : length w ≡ length v
+
+pub writing-first : {t v : List ℕ} {c : Names} {from first : ℕ} → FormulaFollows t v c from first → Writing t v c from first v from first
+writing-first {t} {v} {c} {from} {first} x =
+    record {
+      high = x .high;
+      most = most-atoms;
+      form = x .form;
+      fits = refl;
+      done = [];
+      all = refl;
+      count = omega arith;
+      built = λ D F h. building D v F first h;
+      names = λ i a b. refl;
+      size = refl;
+    }
+
+module _ {t v : List ℕ} {c : Names} {from first : ℕ} {w : List ℕ} {r n : ℕ} (x : Writing t v c from first w r n) (k : Ready t v c) where
+  pub still-ready : Ready t w c
+  still-ready = record { whole = x .size ∙ k .whole; fits = k .fits }
+
+  same-fits : (e : ℕ) → fitsAfter t w c e ≡ fitsAfter t v c e
+  unfolding fitsAfter
+  same-fits e =
+      ap₂ (λ Γ vs. Rattle.rules.specs.Base.all (fitsAtom Γ vs) (formulaOf (more (drop e t)))) (names-kept t v w c (k .fits) (x .names))
+      (variables-kept t v w c (k .fits) (x .names))
+
+  same-formula : (e : ℕ) → formulaAfter t w c e ≡ formulaAfter t v c e
+  unfolding formulaAfter
+  same-formula e =
+      ap₂ (λ Γ vs. map (resolveAtom Γ vs) (formulaOf (more (drop e t)))) (names-kept t v w c (k .fits) (x .names))
+      (variables-kept t v w c (k .fits) (x .names))
+
+  pub writing-done : (getD t r 0 ≡ 9 → ⊥) → FormulaTried t v c from first w (Put.Done n)
+  unfolding formulaOf formulaAfter fitsAfter FormulaTried Rattle.rules.specs.Base.all
+  writing-done e =
+      let z : formulaAfter t v c r ≡ [] =
+      ap (λ ws. map (resolveAtom (declarationsIn t v c) (variablesIn t v c)) (formulaOf ws)) (no-more t r e) in
+      let a : formulaAfter t v c from ≡ x .done = x .all ∙ (ap (λ φ. x .done ++ φ) z ∙ append-nil (x .done)) in
+      let f : fitsAfter t v c r ≡ true =
+      ap (λ ws. Rattle.rules.specs.Base.all (fitsAtom (declarationsIn t v c) (variablesIn t v c)) (formulaOf ws)) (no-more t r e) in (
+        x .fits ∙ f,
+        record {
+          count = x .count ∙ ap (λ φ. first + length φ) (sym a);
+          built = λ D F h. subst (Building D w F first n) (sym a) (x .built D F h);
+          names = x .names;
+          size = x .size;
+        },
+      )
+
+  pub bad-size : (u : List ℕ) (q : Put) → NextTried t w c r n u q → q ≡ Put.Bad → length u ≡ length v
+  unfolding NextTried
+  bad-size u q y i =
+      let z : (fitsAfter t w c r ≡ false) × (u ≡ w) = subst (NextTried t w c r n u) i y in ap length (z .1) ∙ x .size
+
+  -- the atom after r fails a test
+  pub writing-bad : (u : List ℕ) (q : Put) → NextTried t w c r n u q → q ≡ Put.Bad → FormulaTried t v c from first u Put.Bad
+  unfolding NextTried FormulaTried
+  writing-bad u q y i =
+      let z : (fitsAfter t w c r ≡ false) × (u ≡ w) = subst (NextTried t w c r n u) i y in
+      (x .fits ∙ (sym (same-fits r) ∙ z .0), subst (Kept names-at work-bytes v) (sym (z .1)) (x .names), ap length (z .1) ∙ x .size)
+
+  module _ (tab : getD t r 0 ≡ 9) where
+    pub writing-follows : AtomFollows t r
+    writing-follows = go (x .most) (x .form)
+      where
+        go : (m : ℕ) → isFormula m (more (drop r t)) ≡ true → AtomFollows t r
+        go zero f = true-false (sym f ∙ formula-full t r tab)
+        go (suc m) f = record { high = x .high; byte = tab; most = m; form = f }
+
+    module _ (u : List ℕ) (e : ℕ) (q : Put) (d : NextTried t w c r n u q) (i : q ≡ Put.Done e) where
+      pub next-is : AtomPut t w c r n u e
+      unfolding NextTried
+      next-is = subst (NextTried t w c r n u) i d
+
+      abbrev y : AtomPut t w c r n u e
+      y = next-is
+
+      pub writing-on : Writing t v c from first u e (n + 1)
+      writing-on =
+          let a : formulaAfter t v c r ≡ y .atom ∷ formulaAfter t v c e =
+          sym (same-formula r) ∙ (y .is ∙ ap (λ φ. y .atom ∷ φ) (same-formula e)) in
+          record {
+            high = y .high;
+            most = writing-follows .most;
+            form = sym (y .form (writing-follows .most)) ∙ writing-follows .form;
+            fits = x .fits ∙ (sym (same-fits r) ∙ (y .fits ∙ same-fits e));
+            done = x .done ++ (y .atom ∷ []);
+            all = x .all ∙ (ap (λ φ. x .done ++ φ) a ∙ sym (append-assoc (x .done) (y .atom ∷ []) (formulaAfter t v c e)));
+            count = omega (arith, x .count, length-append (x .done) (y .atom ∷ []));
+            built = λ D F h. y .built D F first (x .done) (x .built D F h);
+            names = λ i a b. y .names i a b ∙ x .names i a b;
+            size = y .size ∙ x .size;
+          }
+
+    pub writing-room : first + length (formulaAfter t v c from) ≤ most-atom-rows → n < most-atom-rows
+    unfolding formulaAfter formulaOf isFormula
+    writing-room l = some (formulaAfter t v c r) refl (not-empty (x .most) (x .form))
+      where
+        some : (φ : Formula ℕ) → formulaAfter t v c r ≡ φ → (φ ≡ [] → ⊥) → n < most-atom-rows
+        some [] e h = absurd (h refl)
+        some (a ∷ φ) e h = omega (arith, l, x .count, ap length (x .all), length-append (x .done) (formulaAfter t v c r), ap length e)
+
+        not-empty : (m : ℕ) → isFormula m (more (drop r t)) ≡ true → formulaAfter t v c r ≡ [] → ⊥
+        not-empty m f e = cut m (more (drop r t)) f (not-none t r tab) e
+          where
+            cut :
+                (m : ℕ) (ws : List Name) → isFormula m ws ≡ true → (ws ≡ [] → ⊥) →
+                map (resolveAtom (declarationsIn t v c) (variablesIn t v c)) (formulaOf ws) ≡ [] → ⊥
+            cut m [] f h e = h refl
+            cut zero (a ∷ ws) f h e = true-false (sym f)
+            cut (suc m) (a ∷ []) f h e = true-false (sym f)
+            cut (suc m) (a ∷ b ∷ []) f h e = true-false (sym f)
+            cut (suc m) (a ∷ b ∷ d ∷ ws) f h e = let z : _≡_ {A = ℕ} 0 1 = cc in omega arith

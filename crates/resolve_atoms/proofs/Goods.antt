@@ -1,0 +1,128 @@
+-- A line of atoms alone passes the tests of 6, 7 and 9 just if its atoms pass those of 6 and 7.
+use mathlib.Core.Path.{_≡_, refl, ap, _∙_}
+use mathlib.Core.Bool.{Bool, true, false, not, cond, _&&_}
+use mathlib.Core.List.{List, [], _∷_, _++_}
+use Prim.Native.Nat.{ℕ}
+use native.Mathlib.Omega.{arith}
+use lib.ListN.{length, drop}
+use borrow.Author.Tests.{ne-eqb}
+use Rattle.rules.specs.Base.{Name, all, is}
+use Rattle.rules.specs.Syntax.{acc, cmp}
+use Rattle.rules.specs.Text.{exprOf, relOf, atomOf, formulaOf}
+use Rattle.rules.specs.Grammar.{Kind, Line, Operand, form, statement, stands, shape, shaped, isKind, kindNumber, variable, member, expression, read, field}
+use Rattle.rules.specs.Grammar.{Set, Let, New, Call, Return}
+use Rattle.rules.specs.Scope.{Declarations, Variable, Scope, Slot, slotsFrom, atomOperands, atomSlots, atomsOf, slots}
+use Rattle.rules.specs.Names.{agree, exprType, known, ofClass, mayBeAssigned, knownExpr, ofClassIn, knownField, inScope, isInt, sidesAgree, atomAgrees, callApart, allKnown, allTyped, allAssignable}
+use Rattle.rules.proofs.LineKinds.{same-kind, kind-is}
+use Rattle.read_types.specs.Types.{good}
+use Rattle.resolve_atoms.specs.Good.{fitsAtom}
+
+-- TESTS IN ANOTHER ORDER
+access-order :
+    (a b d k t r : Bool) → ((a && (b && k)) && ((d && t) && r)) ≡ (((a && b) && d) && (k && (t && r)))
+access-order false b d k t r = refl
+access-order true false d k t r = refl
+access-order true true true k t r = refl
+access-order true true false true t r = refl
+access-order true true false false t r = refl
+
+compared-order :
+    (a b d e g k t r : Bool) →
+    ((a && (b && k)) && ((d && (e && t)) && (g && r))) ≡ (((a && d) && ((b && e) && g)) && (k && (t && r)))
+compared-order false b d e g k t r = refl
+compared-order true false true e g k t r = refl
+compared-order true false false e g k t r = refl
+compared-order true true false e g true t r = refl
+compared-order true true false e g false t r = refl
+compared-order true true true false g true t r = refl
+compared-order true true true false g false t r = refl
+compared-order true true true true true k t r = refl
+compared-order true true true true false true true r = refl
+compared-order true true true true false true false r = refl
+compared-order true true true true false false t r = refl
+
+line-order : (k t r : Bool) → (k && ((t && (true && r)) && (true && true))) ≡ (k && (t && r))
+line-order false t r = refl
+line-order true false r = refl
+line-order true true false = refl
+line-order true true true = refl
+
+module _ (Γ : Declarations) (vs : List Variable) (s : Scope) where
+  -- tests of 6, 7 and 9 of a field
+  abbrev knownSlot : Slot → Bool
+  knownSlot x = known Γ vs s (x .operand) (x .before) (x .name)
+
+  abbrev typedSlot : Slot → Bool
+  typedSlot x = ofClass Γ vs (x .operand) (x .before) (x .name)
+
+  abbrev assignableSlot : Slot → Bool
+  assignableSlot x = mayBeAssigned vs (x .operand) (x .name)
+
+  atom-fits :
+      (q : Bool) (u a b : Name) (xs : List Slot) (r : Bool) →
+      (all knownSlot (slotsFrom [] (cond q (variable read ∷ member field ∷ []) (expression ∷ expression ∷ [])) (a ∷ b ∷ []) ++ xs)
+      && (all typedSlot (slotsFrom [] (cond q (variable read ∷ member field ∷ []) (expression ∷ expression ∷ [])) (a ∷ b ∷ []) ++ xs)
+      && (atomAgrees Γ vs (cond q (acc a b) (cmp (relOf u) (exprOf a) (exprOf b))) && r)))
+      ≡ (fitsAtom Γ vs (cond q (acc a b) (cmp (relOf u) (exprOf a) (exprOf b))) && (all knownSlot xs && (all typedSlot xs && r)))
+  unfolding slotsFrom all known ofClass atomAgrees fitsAtom good knownExpr ofClassIn
+  atom-fits true u a b xs r =
+      access-order (inScope vs a) (knownField Γ vs a b) (not (isInt vs a)) (all knownSlot xs) (all typedSlot xs) r
+  atom-fits false u a b xs r =
+      compared-order (knownExpr Γ vs (exprOf a)) (knownExpr Γ vs (exprOf b)) (ofClassIn Γ vs (exprOf a)) (ofClassIn Γ vs (exprOf b))
+      (agree (exprType Γ vs (exprOf a)) (exprType Γ vs (exprOf b))) (all knownSlot xs) (all typedSlot xs) r
+
+  atoms-fit :
+      (ws : List Name) →
+      (all knownSlot (atomSlots ws) && (all typedSlot (atomSlots ws) && all (atomAgrees Γ vs) (formulaOf ws)))
+      ≡ all (fitsAtom Γ vs) (formulaOf ws)
+  unfolding atomSlots atomOperands formulaOf atomOf all
+  atoms-fit [] = refl
+  atoms-fit (u ∷ []) = refl
+  atoms-fit (u ∷ a ∷ []) = refl
+  atoms-fit (u ∷ a ∷ b ∷ ws) =
+      atom-fits (is "acc" u) u a b (atomSlots ws) (all (atomAgrees Γ vs) (formulaOf ws))
+      ∙ ap (λ q. fitsAtom Γ vs (atomOf u a b) && q) (atoms-fit ws)
+
+  -- atoms assign nothing
+  atom-assigns :
+      (q : Bool) (a b : Name) (xs : List Slot) →
+      all assignableSlot (slotsFrom [] (cond q (variable read ∷ member field ∷ []) (expression ∷ expression ∷ [])) (a ∷ b ∷ []) ++ xs)
+      ≡ all assignableSlot xs
+  unfolding slotsFrom all mayBeAssigned
+  atom-assigns true a b xs = refl
+  atom-assigns false a b xs = refl
+
+  atoms-assign : (ws : List Name) → all assignableSlot (atomSlots ws) ≡ true
+  unfolding atomSlots atomOperands all
+  atoms-assign [] = refl
+  atoms-assign (u ∷ []) = refl
+  atoms-assign (u ∷ a ∷ []) = refl
+  atoms-assign (u ∷ a ∷ b ∷ ws) = atom-assigns (is "acc" u) a b (atomSlots ws) ∙ atoms-assign ws
+
+  -- a line without operands is of no kind that has some, so it has no sides, and calls nothing
+  other-kind : (a k : Kind) → (form a .operands ≡ [] → ⊥) → form k .operands ≡ [] → isKind a k ≡ false
+  other-kind a k n e = kind-is a k ∙ ne-eqb (kindNumber a) (kindNumber k) (λ i. n (ap (λ (k : Kind). form k .operands) (same-kind a k i) ∙ e))
+
+  some-operand : {o : Operand} {os : List Operand} → (o ∷ os) ≡ [] → ⊥
+  some-operand e = let z : _≡_ {A = ℕ} 0 1 = cc in omega arith
+
+  no-sides : (k : Kind) (ws : List Name) → form k .operands ≡ [] → sidesAgree Γ vs (record { kind = k; fields = ws }) ≡ true
+  unfolding sidesAgree form stands shape shaped
+  no-sides k ws e = rw (other-kind (statement Set) k some-operand e, other-kind (statement Let) k some-operand e, other-kind (statement New) k some-operand e, other-kind (statement Call) k some-operand e, other-kind (statement Return) k some-operand e)
+
+  no-call : (k : Kind) (ws : List Name) → form k .operands ≡ [] → callApart vs (record { kind = k; fields = ws }) ≡ true
+  unfolding callApart form stands shape shaped
+  no-call k ws e = rw (other-kind (statement Call) k some-operand e)
+
+  -- `requires`, `ensures`, `assert`, `release`, `join`, `if`
+  pub formula-good :
+      (l : Line) → form (l .kind) .operands ≡ [] →
+      (allKnown Γ vs s l && (allTyped Γ vs l && allAssignable vs l)) ≡ all (fitsAtom Γ vs) (formulaOf (l .fields))
+  unfolding allKnown allTyped allAssignable slots atomsOf slotsFrom
+  formula-good l e =
+      let y : slots l ≡ atomSlots (l .fields) =
+      ap (λ os. slotsFrom [] os (l .fields) ++ atomSlots (drop (length os) (l .fields))) e in
+      let z : atomsOf l ≡ l .fields = ap (λ os. drop (length os) (l .fields)) e in
+      rw (y, z, no-sides (l .kind) (l .fields) e, no-call (l .kind) (l .fields) e, atoms-assign (l .fields))
+      (line-order (all knownSlot (atomSlots (l .fields))) (all typedSlot (atomSlots (l .fields))) (all (atomAgrees Γ vs) (formulaOf (l .fields)))
+      ∙ atoms-fit (l .fields))

@@ -1,0 +1,94 @@
+-- An atom and a formula of a line, resolved and written.
+use mathlib.Core.Path.{_≡_}
+use mathlib.Core.Bool.{Bool, true, false}
+use mathlib.Core.List.{List, [], _∷_, _++_, map}
+use Prim.Native.Nat.{ℕ, suc, _+_, _≤_, _<_}
+use lib.ListN.{length, getD, drop}
+use Rattle.rules.specs.Base.{Name, all}
+use Rattle.rules.specs.Limits.{work-bytes, most-atoms}
+use Rattle.rules.specs.Syntax.{Atom, Formula}
+use Rattle.rules.specs.Text.{tab, isFormula, formulaOf}
+use Rattle.rules.specs.Scope.{Declarations, Variable}
+use Rattle.rules.specs.Items.{resolveAtom}
+use Rattle.read_fields.specs.Cuts.{more}
+use Rattle.tables.specs.Layout.{names-at, most-atom-rows}
+use Rattle.tables.specs.Stores.{Kept}
+use Rattle.read_scopes.specs.declared.Names.{Names}
+use Rattle.read_scopes.specs.Meanings.{Fits, declarationsIn, variablesIn}
+use Rattle.rules.specs.Syntax.{Program}
+use Rattle.tables.specs.Tables.{Declared}
+use Rattle.write_rows.specs.Holds.{AtomOk, atomOf, Holds, Building}
+use Rattle.resolve_atoms.specs.declared.AtomRow.{AtomRow}
+use Rattle.resolve_atoms.specs.declared.Tried.{Tried}
+use Rattle.resolve_atoms.specs.declared.Put.{Put}
+use Rattle.resolve_atoms.specs.Good.{fitsAtom}
+
+-- the row r is the atom x, resolved
+pub record Resolved (Γ : Declarations) (vs : List Variable) (x : Atom Name) (r : AtomRow) : Type 0 where
+  pub is : atomOf (r .kind) (r .left) (r .right) ≡ resolveAtom Γ vs x
+  pub ok : AtomOk (r .kind) (r .left) (r .right)
+
+-- it has a row just if it passes the tests of 6 and 7
+unfoldable pub AtomTried : Declarations → List Variable → Atom Name → Tried → Type 0
+AtomTried Γ vs x (Tried.Row r) = (fitsAtom Γ vs x ≡ true) × Resolved Γ vs x r
+AtomTried Γ vs x Tried.Bad = fitsAtom Γ vs x ≡ false
+
+-- after the field that ends at r stands an atom of a formula
+pub record AtomFollows (t : List ℕ) (r : ℕ) : Type 0 where
+  pub high : r ≤ length t
+  pub byte : getD t r 0 ≡ tab
+  pub most : ℕ
+  pub form : isFormula (suc most) (more (drop r t)) ≡ true
+
+module _ (t w : List ℕ) (c : Names) where
+  -- the formula of the fields after r, resolved
+  unfoldable pub formulaAfter : ℕ → Formula ℕ
+  formulaAfter r = map (resolveAtom (declarationsIn t w c) (variablesIn t w c)) (formulaOf (more (drop r t)))
+
+  -- all its atoms pass the tests of 6 and 7
+  unfoldable pub fitsAfter : ℕ → Bool
+  fitsAfter r = all (fitsAtom (declarationsIn t w c) (variablesIn t w c)) (formulaOf (more (drop r t)))
+
+  pub record Ready : Type 0 where
+    pub whole : length w ≡ work-bytes
+    pub fits : Fits c
+
+  -- the atom after r ends at e, and is written as the atom n
+  pub record AtomPut (r n : ℕ) (w′ : List ℕ) (e : ℕ) : Type 0 where
+    pub atom : Atom ℕ
+    pub low : r < e
+    pub high : e ≤ length t
+    pub form : (m : ℕ) → isFormula (suc m) (more (drop r t)) ≡ isFormula m (more (drop e t))
+    pub fits : fitsAfter r ≡ fitsAfter e
+    pub is : formulaAfter r ≡ atom ∷ formulaAfter e
+    pub built :
+        (D : Declared) (F : Program) (a : ℕ) (φ : Formula ℕ) → Building D w F a n φ → Building D w′ F a (n + 1) (φ ++ (atom ∷ []))
+    pub names : Kept names-at work-bytes w w′
+    pub size : length w′ ≡ length w
+
+  -- it is written just if it passes the tests
+  unfoldable pub NextTried : (r n : ℕ) (w′ : List ℕ) → Put → Type 0
+  NextTried r n w′ (Put.Done e) = AtomPut r n w′ e
+  NextTried r n w′ Put.Bad = (fitsAfter r ≡ false) × (w′ ≡ w)
+
+  -- the fields after r are a formula, and there is room for its atoms from n on
+  pub record FormulaFollows (r n : ℕ) : Type 0 where
+    pub high : r ≤ length t
+    pub form : isFormula most-atoms (more (drop r t)) ≡ true
+    pub room : n + length (formulaAfter r) ≤ most-atom-rows
+
+  -- it is written as the atoms from n up to m
+  pub record FormulaPut (r n : ℕ) (w′ : List ℕ) (m : ℕ) : Type 0 where
+    pub count : m ≡ n + length (formulaAfter r)
+    pub built : (D : Declared) (F : Program) → Holds D w F n → Building D w′ F n m (formulaAfter r)
+    pub names : Kept names-at work-bytes w w′
+    pub size : length w′ ≡ length w
+
+  -- where some atom fails a test, no name is changed
+  abbrev pub Unfit : (r : ℕ) (w′ : List ℕ) → Type 0
+  Unfit r w′ = (fitsAfter r ≡ false) × (Kept names-at work-bytes w w′) × (length w′ ≡ length w)
+
+  -- it is written just if its atoms pass the tests
+  unfoldable pub FormulaTried : (r n : ℕ) (w′ : List ℕ) → Put → Type 0
+  FormulaTried r n w′ (Put.Done m) = (fitsAfter r ≡ true) × FormulaPut r n w′ m
+  FormulaTried r n w′ Put.Bad = Unfit r w′

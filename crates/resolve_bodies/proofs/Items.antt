@@ -1,0 +1,376 @@
+-- A line by its kind: what the writer of its row or formula asks, and that what it leaves is the line's item.
+use mathlib.Core.Path.{_≡_, refl, sym, ap, ap₂, subst, _∙_}
+use mathlib.Core.Bool.{Bool, true, false, not, cond, _||_}
+use mathlib.Core.List.{List, [], _∷_, map}
+use mathlib.Core.Logic.{_⊎_, inl, inr, ⊎-elim}
+use Prim.Native.Nat.{ℕ, suc, _+_, _-_, _≤_, _<_}
+use native.Mathlib.Omega.{arith}
+use native.Mathlib.Numerals.{add-one}
+use lib.Dec.{T, T-not, eqb}
+use lib.ListN.{length, drop}
+use borrow.Author.Tests.{eqb-true, eq-eqb, ne-eqb, le-leb, lt-leb}
+use Rattle.rules.specs.Base.{Name, any, all}
+use Rattle.rules.specs.Limits.{work-bytes, most-methods, most-statements, most-atoms}
+use Rattle.rules.specs.Syntax.{Formula}
+use Rattle.rules.specs.Text.{isFormula, formulaOf}
+use Rattle.rules.specs.Grammar as Grammar
+use Rattle.rules.specs.Grammar.{Kind, Statement, Line, statement, form, first-statement, IsKindNumber, IsStatementNumber, isFormed, isTail}
+use Rattle.rules.specs.Grammar.{isKind, isStatement, kindNumber, statementNumber}
+use Rattle.rules.specs.Scope.{Declarations, Variable, Scope, atomsOf}
+use Rattle.rules.specs.Items as Items
+use Rattle.rules.specs.Items.{Item, itemOf, aStatement, aRequires, anEnsures}
+use Rattle.rules.proofs.Lists.{T-true, or-cases, decide-eq}
+use Rattle.rules.proofs.LineKinds.{every-kind}
+use Rattle.read_bytes.proofs.Search.{true-false}
+use Rattle.read_fields.specs.Cuts.{more}
+use Rattle.read_grammar.specs.Rows.{kindNumbered}
+use Rattle.read_grammar.proofs.Rows.{NoneOf, number-of-kind, kind-of-number, kind-numbered, statement-numbered}
+use Rattle.tables.specs.Layout.{names-at, most-atom-rows}
+use Rattle.tables.specs.Decode.{atomsFrom}
+use Rattle.tables.specs.Stores.{Kept}
+use Rattle.read_scopes.specs.declared.Names.{Names}
+use Rattle.read_scopes.specs.Meanings.{Fits, declarationsIn, variablesIn, scopeIn}
+use Rattle.rules.specs.Syntax.{Program}
+use Rattle.rules.specs.Reading.{withItem}
+use Rattle.write_rows.specs.Holds.{Holds}
+use Rattle.resolve_pass.specs.declared.Pass.{Pass}
+use Rattle.resolve_pass.specs.Passes.{counts, after, withBlock, namesAfter, seenBy, hasAtoms, isFramed, joinFormula, framedFormula, item, Stands, lineAfter, isGood, isGoodHere, BadLine}
+use Rattle.read_declarations.specs.Declares.{lineWith}
+use Rattle.resolve_atoms.specs.Written as Written
+use Rattle.resolve_atoms.specs.declared.Put.{Put}
+use Rattle.resolve_atoms.specs.Written.{formulaAfter, fitsAfter, FormulaFollows, Unfit}
+use Rattle.resolve_atoms.proofs.Goods.{formula-good}
+use Rattle.write_plain.specs.Plain as Plain
+use Rattle.write_plain.specs.Plain.{isPlain, PlainFollows, PlainPut, PlainTried}
+use Rattle.write_formulas.specs.Claims.{isClaim, claimOf, ClaimPut, HeaderPut, ClaimTried, HeaderTried}
+use Rattle.write_formulas.proofs.Claims.{claim-cases, formula-few}
+use Rattle.write_sides.specs.Sides.{SideFollows, SidePut, SideTried}
+use Rattle.resolve_bodies.specs.Bodies.{Follows, ItemPut, ItemTried, doneIf}
+use Rattle.resolve_bodies.proofs.Lines.{statement-quiet, names-is}
+
+-- KINDS BY THEIR NUMBERS
+pub kind-as : (K : Kind) (k : ℕ) → k ≡ kindNumber K → kindNumbered k ≡ K
+kind-as K k e = ap kindNumbered e ∙ kind-of-number K
+
+eqb-flip : (m n : ℕ) → eqb m n ≡ eqb n m
+eqb-flip m n = go (eqb n m) refl
+  where
+    go : (q : Bool) → eqb n m ≡ q → eqb m n ≡ q
+    go true e = eq-eqb m n (sym (eqb-true n m e))
+    go false e = ne-eqb m n (λ z. true-false (sym (eq-eqb n m (sym z)) ∙ e))
+
+pub statement-kind : {k : ℕ} → IsStatementNumber k → IsKindNumber k
+statement-kind h = (omega arith, h .1)
+
+pub seen-result : (k : ℕ) → IsKindNumber k → isKind Grammar.Requires (kindNumbered k) ≡ eqb k 4
+unfolding kindNumber
+seen-result k h = kind-numbered k h Grammar.Requires ∙ eqb-flip 4 k
+
+pub is-statement : (k : ℕ) → IsStatementNumber k → isStatement (kindNumbered k) ≡ true
+is-statement k h = statement-numbered k (statement-kind h) ∙ le-leb first-statement k (h .0)
+
+pub no-statement : (k : ℕ) → 1 ≤ k → k < first-statement → isStatement (kindNumbered k) ≡ false
+no-statement k a b = statement-numbered k (a, omega arith) ∙ lt-leb first-statement k b
+
+-- `end`, and other statements
+module _ (k : ℕ) (h : IsStatementNumber k) where
+  ends : isKind (statement Grammar.End) (kindNumbered k) ≡ eqb 18 k
+  unfolding kindNumber statementNumber
+  ends = kind-numbered k (statement-kind h) (statement Grammar.End)
+
+  names-end : (c : Names) → namesAfter (kindNumbered k) c ≡ cond (eqb 18 k) (withBlock false c) c
+  names-end c =
+      names-is (kindNumbered k) (statement-quiet (kindNumbered k) (omega (arith, number-of-kind k (statement-kind h)))) c
+      ∙ ap (λ e. cond e (withBlock false c) c) ends
+
+  pub stays-open : (k ≡ 18 → ⊥) → (c : Names) → c ≡ namesAfter (kindNumbered k) c
+  stays-open n c = sym (names-end c ∙ ap (λ e. cond e (withBlock false c) c) (ne-eqb 18 k (λ z. n (sym z))))
+
+  pub closes : k ≡ 18 → (c : Names) → withBlock false c ≡ namesAfter (kindNumbered k) c
+  closes z c = sym (names-end c ∙ ap (λ e. cond e (withBlock false c) c) (eq-eqb 18 k (sym z)))
+
+not-framed : (k : ℕ) → IsStatementNumber k → (k ≡ 17 → ⊥) → isFramed (kindNumbered k) ≡ false
+unfolding isFramed kindNumber statementNumber
+not-framed k h n =
+    let is = kind-numbered k (statement-kind h) in
+    rw (
+      is Grammar.Requires,
+      is Grammar.Ensures,
+      is (statement Grammar.Join),
+      ne-eqb 4 k (λ z. omega arith),
+      ne-eqb 5 k (λ z. omega arith),
+      ne-eqb 17 k (λ z. n (sym z)),
+    )
+
+none-any : (n : ℕ) (ks : List ℕ) → NoneOf n ks → any (eqb n) ks ≡ false
+unfolding any
+none-any n [] r = refl
+none-any n (k ∷ ks) r = rw (ne-eqb n k (r .1)) (none-any n ks (r .0))
+
+-- `join`, `if`, `release`, `assert` and `let` have writers of their own: every other statement is plain
+abbrev others : List ℕ
+others = 17 ∷ 15 ∷ 14 ∷ 13 ∷ 9 ∷ []
+
+hasWriter : Kind → Bool
+hasWriter k = not (isStatement k) || (isPlain (kindNumber k) || any (eqb (kindNumber k)) others)
+
+pub plain-left : (k : ℕ) → IsStatementNumber k → NoneOf k others → isPlain k ≡ true
+unfolding Grammar.opened isPlain any all hasWriter
+plain-left k h r =
+    let K : Kind = kindNumbered k in
+    let e = number-of-kind k (statement-kind h) in
+    ⊎-elim (λ t. absurd (T-not (isStatement K) t (subst T (sym (is-statement k h)) tt)))
+    (λ t.
+    ⊎-elim (λ t. sym (ap isPlain e) ∙ T-true (isPlain (kindNumber K)) t)
+    (λ t. true-false (sym (T-true (any (eqb (kindNumber K)) others) t) ∙ (ap (λ n. any (eqb n) others) e ∙ none-any k others r)))
+    (or-cases (isPlain (kindNumber K)) _ t))
+    (or-cases (not (isStatement K)) _ (every-kind hasWriter tt K))
+
+-- KINDS WHOSE LINE IS A FORMULA
+
+-- z is the item with the formula
+pub record Formulaic (K : Kind) (z : Formula ℕ → Item) : Type 0 where
+  pub item :
+      (Γ : Declarations) (vs : List Variable) (ws : List Name) → itemOf Γ vs K (lineWith K ws) ≡ z (map (Items.resolveAtom Γ vs) (formulaOf ws))
+  pub framed : (φ : Formula ℕ) → isFramed K ≡ true → framedFormula (z φ) ≡ φ
+  pub atoms : hasAtoms K ≡ true
+  pub operands : form K .operands ≡ []
+  pub tail : form K .tail ≡ Grammar.formula
+
+pub requires-is : Formulaic Grammar.Requires aRequires
+unfolding Grammar.opened itemOf Items.resolveStatement Items.resolveFormula atomsOf framedFormula hasAtoms
+requires-is = record { item = λ Γ vs ws. refl; framed = λ φ e. refl; atoms = refl; operands = refl; tail = refl }
+
+pub ensures-is : Formulaic Grammar.Ensures anEnsures
+unfolding Grammar.opened itemOf Items.resolveStatement Items.resolveFormula atomsOf framedFormula hasAtoms
+ensures-is = record { item = λ Γ vs ws. refl; framed = λ φ e. refl; atoms = refl; operands = refl; tail = refl }
+
+assert-is : Formulaic (statement Grammar.Assert) (λ φ. aStatement (claimOf 13 φ))
+unfolding Grammar.opened itemOf Items.resolveStatement Items.resolveFormula atomsOf hasAtoms isFramed claimOf
+assert-is = record { item = λ Γ vs ws. refl; framed = λ φ e. true-false (sym e); atoms = refl; operands = refl; tail = refl }
+
+release-is : Formulaic (statement Grammar.Release) (λ φ. aStatement (claimOf 14 φ))
+unfolding Grammar.opened itemOf Items.resolveStatement Items.resolveFormula atomsOf hasAtoms isFramed claimOf
+release-is = record { item = λ Γ vs ws. refl; framed = λ φ e. true-false (sym e); atoms = refl; operands = refl; tail = refl }
+
+join-is : Formulaic (statement Grammar.Join) (λ φ. aStatement (claimOf 17 φ))
+unfolding Grammar.opened itemOf Items.resolveStatement Items.resolveFormula atomsOf framedFormula joinFormula hasAtoms claimOf
+join-is = record { item = λ Γ vs ws. refl; framed = λ φ e. refl; atoms = refl; operands = refl; tail = refl }
+
+pub claim-is : (k : ℕ) → isClaim k ≡ true → Formulaic (kindNumbered k) (λ φ. aStatement (claimOf k φ))
+unfolding kindNumber statementNumber
+claim-is k i =
+    let P : ℕ → Type 0 = λ k. Formulaic (kindNumbered k) (λ φ. aStatement (claimOf k φ)) in
+    ⊎-elim (λ e. subst P (sym e) (subst (λ K. Formulaic K (λ φ. aStatement (claimOf 13 φ))) (sym (kind-of-number (statement Grammar.Assert))) assert-is))
+    (λ o.
+    ⊎-elim (λ e. subst P (sym e) (subst (λ K. Formulaic K (λ φ. aStatement (claimOf 14 φ))) (sym (kind-of-number (statement Grammar.Release))) release-is))
+    (λ e. subst P (sym e) (subst (λ K. Formulaic K (λ φ. aStatement (claimOf 17 φ))) (sym (kind-of-number (statement Grammar.Join))) join-is)) o)
+    (claim-cases k i)
+
+pub claim-at : (m k : ℕ) → isClaim m ≡ true → k ≡ m → isClaim k ≡ true
+claim-at m k i e = ap isClaim e ∙ i
+
+pub header-kind : (k : ℕ) → 4 ≤ k → k ≤ 5 → (k ≡ 4) ⊎ (k ≡ 5)
+header-kind k a b = ⊎-elim inl (λ n. inr (omega arith)) (decide-eq k 4)
+
+-- WHAT IS ASKED
+module _ {t w : List ℕ} {p : Pass} {k r : ℕ} (x : Follows t w p k r) where
+  abbrev ws : List Name
+  ws = more (drop r t)
+
+  abbrev S : Scope
+  S = scopeIn t w (p .names) (p .above)
+
+  pub line-small : p .line + 1 < 65536
+  line-small = omega (arith, x .room .line)
+
+  pub row-room : IsStatementNumber k → p .rows < most-statements
+  row-room h = x .room .rows (is-statement k h)
+
+  pub method-room : 4 ≤ k → k ≤ 5 → (1 ≤ after (p .above .methods)) × (after (p .above .methods) ≤ most-methods)
+  unfolding isKind isStatement kindNumber
+  method-room a b =
+      let is : Kind → Bool = λ K. isKind Grammar.Requires K || isKind Grammar.Ensures K in
+      let i : is (kindNumbered k) ≡ true =
+      ⊎-elim (λ e. ap is (kind-as Grammar.Requires k e)) (λ e. ap is (kind-as Grammar.Ensures k e)) (header-kind k a b) in
+      (x .room .header i, x .ready .above .methods)
+
+  module _ {c : Names} (g : c ≡ seenBy (kindNumbered k) (p .names)) where
+    seen-fits : Fits c
+    unfolding seenBy
+    seen-fits =
+        let f = x .ready .names in
+        subst Fits (sym g) (record { classes = f .classes; fields = f .fields; methods = f .methods; locals = f .locals })
+
+    pub plain-ready : Plain.Ready w c
+    plain-ready = record { whole = x .ready .whole; fits = seen-fits }
+
+    pub atoms-ready : Written.Ready t w c
+    atoms-ready = record { whole = x .ready .whole; fits = seen-fits }
+
+    module _ (K : Kind) (e : kindNumbered k ≡ K) where
+      formed-as : isFormed (form K .operands) (form K .tail) ws ≡ true
+      formed-as = subst (λ K. isFormed (form K .operands) (form K .tail) ws ≡ true) e (x .formed)
+
+      good-as : isGoodHere t w p (lineAfter t r k) ≡ isGood (declarationsIn t w c) (variablesIn t w c) S (lineWith K ws)
+      unfolding seenBy declarationsIn isGoodHere
+      good-as = λ j. isGood (declarationsIn t w (sym g j)) (variablesIn t w (sym g j)) S (lineWith (e j) ws)
+
+      item-as : item t w p (lineAfter t r k) ≡ itemOf (declarationsIn t w c) (variablesIn t w c) K (lineWith K ws)
+      unfolding seenBy declarationsIn
+      item-as = λ j. itemOf (declarationsIn t w (sym g j)) (variablesIn t w (sym g j)) (e j) (lineWith (e j) ws)
+
+      module _ (h : hasAtoms K ≡ true) where
+        atoms-room : p .atoms + most-atoms ≤ most-atom-rows
+        atoms-room = x .room .atoms (ap hasAtoms e ∙ h)
+
+        atoms-most : cond (hasAtoms (kindNumbered k)) most-atoms 0 ≡ most-atoms
+        atoms-most = ap (λ b. cond b most-atoms 0) (ap hasAtoms e ∙ h)
+
+        pub formula-follows : form K .operands ≡ [] → form K .tail ≡ Grammar.formula → FormulaFollows t w c r (p .atoms)
+        unfolding isFormed isTail
+        formula-follows o f =
+            let i : isFormula most-atoms ws ≡ true = sym (ap₂ (λ os u. isFormed os u ws) o f) ∙ formed-as in
+            record { high = x .high; form = i; room = omega (arith, atoms-room, formula-few t w c r i) }
+
+      -- a formula is good just if its atoms are
+      pub formula-here : form K .operands ≡ [] → isGoodHere t w p (lineAfter t r k) ≡ fitsAfter t w c r
+      unfolding isGood fitsAfter
+      formula-here o = good-as ∙ formula-good (declarationsIn t w c) (variablesIn t w c) S (lineWith K ws) o
+
+    pub side-follows : (a : Statement) (e : kindNumbered k ≡ statement a) → hasAtoms (statement a) ≡ true → SideFollows a t r (p .atoms)
+    side-follows a e h = record { high = x .high; formed = formed-as (statement a) e; room = omega (arith, atoms-room (statement a) e h) }
+
+    pub plain-follows : isPlain k ≡ true → PlainFollows t k r
+    plain-follows i = record { kind = i; high = x .high; formed = x .formed }
+
+-- WHAT IS LEFT
+module _ {t w : List ℕ} {p : Pass} {k r : ℕ} (x : Follows t w p k r) {c : Names} (g : c ≡ seenBy (kindNumbered k) (p .names)) where
+  -- the tables with the item z of the next line, which is the line's
+  placed :
+      (K : Kind) (e : kindNumbered k ≡ K) {z : Item} {v : List ℕ} {m : ℕ} (F : Program) →
+      z ≡ itemOf (declarationsIn t w c) (variablesIn t w c) K (lineWith K (more (drop r t))) →
+      Holds (counts (p .names)) v (withItem F (p .line + 1) z) m → Holds (counts (p .names)) v (withItem F (suc (p .line)) (item t w p (lineAfter t r k))) m
+  placed K e {z} {v} {m} F i h =
+      subst (λ G. Holds (counts (p .names)) v G m) (λ j. withItem F (add-one (p .line) j) ((i ∙ sym (item-as x g K e)) j)) h
+
+  seen-counts : counts c ≡ counts (p .names)
+  unfolding seenBy
+  seen-counts = ap counts g
+
+  pub side-put :
+      (a : Statement) (e : kindNumbered k ≡ statement a) → hasAtoms (statement a) ≡ true → isFramed (statement a) ≡ false → {v : List ℕ} {m : ℕ} →
+      SidePut a t w c r (p .rows) (p .atoms) (p .line + 1) v m → ItemPut t w p (lineAfter t r k) v m
+  side-put a e h n y =
+      record {
+        grown = omega (arith, y .count);
+        count = omega (arith, y .count, atoms-most x g (statement a) e h);
+        built = λ F s. placed (statement a) e F refl (y .built (counts (p .names)) F (s .rows) (s .holds));
+        formula = λ f F s. true-false (sym (sym (ap isFramed e ∙ n) ∙ f));
+        names = y .names;
+        size = y .size;
+      }
+
+  pub plain-put :
+      IsStatementNumber k → (k ≡ 17 → ⊥) → {v : List ℕ} → PlainPut t w c k r (p .rows) (p .line + 1) v → ItemPut t w p (lineAfter t r k) v (p .atoms)
+  plain-put h n {v} y =
+      record {
+        grown = omega arith;
+        count = omega arith;
+        built = λ F s.
+            placed (kindNumbered k) refl F refl
+            (subst
+            (λ d.
+            Holds d v
+            (withItem F (p .line + 1) (itemOf (declarationsIn t w c) (variablesIn t w c) (kindNumbered k) (lineAfter t r k))) (p .atoms))
+            seen-counts (y .built F (p .atoms) (s .rows) (subst (λ d. Holds d w F (p .atoms)) (sym seen-counts) (s .holds))));
+        formula = λ f F s. true-false (sym (sym (not-framed k h n) ∙ f));
+        names = y .names;
+        size = y .size;
+      }
+
+  -- FORMULAS
+  abbrev φ : Formula ℕ
+  φ = formulaAfter t w c r
+
+  pub follows-as : {K : Kind} {z : Formula ℕ → Item} → Formulaic K z → kindNumbered k ≡ K → FormulaFollows t w c r (p .atoms)
+  follows-as {K} y e = formula-follows x g K e (y .atoms) (y .operands) (y .tail)
+
+  -- the formula φ is written, and the item with it
+  pub formula-put :
+      {K : Kind} {z : Formula ℕ → Item} → Formulaic K z → (e : kindNumbered k ≡ K) → {v : List ℕ} {m : ℕ} → m ≡ p .atoms + length φ →
+      ((F : Program) → Stands t w p F → Holds (counts (p .names)) v (withItem F (p .line + 1) (z φ)) m) →
+      ((F : Program) → Stands t w p F → atomsFrom v (p .atoms) (m - p .atoms) ≡ φ) → Kept names-at work-bytes w v → length v ≡ length w →
+      ItemPut t w p (lineAfter t r k) v m
+  unfolding formulaAfter
+  formula-put {K} {z} y e count built formula names size =
+      let i = y .item (declarationsIn t w c) (variablesIn t w c) (more (drop r t)) in
+      record {
+        grown = omega (arith, count);
+        count = omega (arith, count, formula-few t w c r (follows-as y e .form), atoms-most x g K e (y .atoms));
+        built = λ F s. placed K e F (sym i) (built F s);
+        formula = λ f F s. formula F s ∙ sym (ap framedFormula (item-as x g K e ∙ i) ∙ y .framed φ (sym (ap isFramed e) ∙ f));
+        names = names;
+        size = size;
+      }
+
+  pub claim-put : isClaim k ≡ true → {v : List ℕ} {m : ℕ} → ClaimPut t w c k r (p .rows) (p .atoms) (p .line + 1) v m → ItemPut t w p (lineAfter t r k) v m
+  claim-put i y =
+      formula-put (claim-is k i) refl (y .count)
+      (λ F s. y .built (counts (p .names)) F (s .rows) (s .holds)) (λ F s. y .formula (counts (p .names)) F (s .holds)) (y .names) (y .size)
+
+  pub header-put :
+      {K : Kind} {z : Formula ℕ → Item} → Formulaic K z → kindNumbered k ≡ K → (n : ℕ) → suc n ≡ after (p .above .methods) → {v : List ℕ} {m : ℕ} →
+      HeaderPut z t w c r n (p .atoms) v m → ItemPut t w p (lineAfter t r k) v m
+  header-put {K} {z} f e n l y =
+      formula-put f e (y .count)
+      (λ F s. y .built (counts (p .names)) F (p .line + 1) (s .methods ∙ sym l) (s .holds)) (λ F s. y .formula (counts (p .names)) F (s .holds))
+      (y .names) (y .size)
+
+  -- AS IT IS TRIED
+  pub side-tried :
+      (a : Statement) (e : kindNumbered k ≡ statement a) → hasAtoms (statement a) ≡ true → isFramed (statement a) ≡ false → (v : List ℕ) (y : Put) →
+      SideTried a t w c r (p .rows) (p .atoms) (p .line + 1) v y → ItemTried t w p (lineAfter t r k) v y
+  unfolding SideTried ItemTried
+  side-tried a e h n v (Put.Done m) y = (good-as x g (statement a) e ∙ y .0 (S x), side-put a e h n (y .1))
+  side-tried a e h n v Put.Bad y = record { bad = good-as x g (statement a) e ∙ y .0 (S x); names = y .1; size = y .2 }
+
+  pub plain-tried :
+      IsStatementNumber k → (k ≡ 17 → ⊥) → (v : List ℕ) (b : Bool) (z : Put) → z ≡ doneIf b (p .atoms) →
+      PlainTried t w c k r (p .rows) (p .line + 1) v b → ItemTried t w p (lineAfter t r k) v z
+  unfolding PlainTried ItemTried doneIf
+  plain-tried h n v true z i y =
+      subst (ItemTried t w p (lineAfter t r k) v) (sym i) (good-as x g (kindNumbered k) refl ∙ y .0 (S x), plain-put h n (y .1))
+  plain-tried h n v false z i y =
+      subst (ItemTried t w p (lineAfter t r k) v) (sym i)
+      (record {
+        bad = good-as x g (kindNumbered k) refl ∙ y .0 (S x);
+        names = subst (Kept names-at work-bytes w) (sym (y .1)) (λ j a b. refl);
+        size = ap length (y .1);
+      })
+
+  unfit : {K : Kind} {z : Formula ℕ → Item} → Formulaic K z → kindNumbered k ≡ K → {v : List ℕ} → Unfit t w c r v → BadLine t w p (lineAfter t r k) v
+  unfit {K} f e y = record { bad = formula-here x g K e (f .operands) ∙ y .0; names = y .1; size = y .2 }
+
+  pub claim-tried :
+      isClaim k ≡ true → (v : List ℕ) (y : Put) → ClaimTried t w c k r (p .rows) (p .atoms) (p .line + 1) v y → ItemTried t w p (lineAfter t r k) v y
+  unfolding ClaimTried ItemTried
+  claim-tried i v (Put.Done m) y = (formula-here x g (kindNumbered k) refl (claim-is k i .operands) ∙ y .0, claim-put i (y .1))
+  claim-tried i v Put.Bad y = unfit (claim-is k i) refl y
+
+  pub header-tried :
+      {K : Kind} {z : Formula ℕ → Item} → Formulaic K z → kindNumbered k ≡ K → (n : ℕ) → suc n ≡ after (p .above .methods) → (v : List ℕ) (y : Put) →
+      HeaderTried z t w c r n (p .atoms) v y → ItemTried t w p (lineAfter t r k) v y
+  unfolding HeaderTried ItemTried
+  header-tried {K} f e n l v (Put.Done m) y = (formula-here x g K e (f .operands) ∙ y .0, header-put f e n l (y .1))
+  header-tried f e n l v Put.Bad y = unfit f e y
+
+-- BY ITS CASES
+module _ {t w : List ℕ} {p : Pass} {l : Line} {v : List ℕ} {y : Put} (x : ItemTried t w p l v y) where
+  pub item-done : (m : ℕ) → y ≡ Put.Done m → (isGoodHere t w p l ≡ true) × ItemPut t w p l v m
+  unfolding ItemTried
+  item-done m e = subst (ItemTried t w p l v) e x
+
+  pub item-bad : y ≡ Put.Bad → BadLine t w p l v
+  unfolding ItemTried
+  item-bad e = subst (ItemTried t w p l v) e x

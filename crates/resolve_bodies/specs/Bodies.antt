@@ -1,0 +1,45 @@
+-- A line that writes a statement or a formula of a method: what it needs, and what it writes.
+use mathlib.Core.Path.{_≡_}
+use mathlib.Core.Bool.{Bool, true, cond}
+use mathlib.Core.List.{List}
+use Prim.Native.Nat.{ℕ, suc, _+_, _-_, _≤_}
+use lib.ListN.{length, drop}
+use Rattle.rules.specs.Limits.{work-bytes, most-atoms}
+use Rattle.rules.specs.Grammar.{Line, form, isFormed}
+use Rattle.read_fields.specs.Cuts.{more}
+use Rattle.read_grammar.specs.Rows.{kindNumbered}
+use Rattle.tables.specs.Layout.{names-at}
+use Rattle.tables.specs.Decode.{atomsFrom}
+use Rattle.tables.specs.Stores.{Kept}
+use Rattle.rules.specs.Syntax.{Program}
+use Rattle.rules.specs.Reading.{withItem}
+use Rattle.write_rows.specs.Holds.{Holds}
+use Rattle.resolve_pass.specs.declared.Pass.{Pass}
+use Rattle.resolve_pass.specs.Passes.{counts, hasAtoms, isFramed, framedFormula, item, Ready, Stands, Room, lineAfter, isGoodHere, BadLine}
+use Rattle.resolve_atoms.specs.declared.Put.{Put}
+
+-- the line of this kind, whose word ends at r, may be tried
+pub record Follows (t w : List ℕ) (p : Pass) (k r : ℕ) : Type 0 where
+  pub ready : Ready t w p
+  pub high : r ≤ length t
+  pub formed : isFormed (form (kindNumbered k) .operands) (form (kindNumbered k) .tail) (more (drop r t)) ≡ true
+  pub room : Room t w p (lineAfter t r k)
+
+-- its item is in the tables, and m atoms are written
+pub record ItemPut (t w : List ℕ) (p : Pass) (l : Line) (w′ : List ℕ) (m : ℕ) : Type 0 where
+  pub grown : p .atoms ≤ m
+  pub count : m ≤ p .atoms + cond (hasAtoms (l .kind)) most-atoms 0
+  pub built : (F : Program) → Stands t w p F → Holds (counts (p .names)) w′ (withItem F (suc (p .line)) (item t w p l)) m
+  pub formula :
+      isFramed (l .kind) ≡ true → (F : Program) → Stands t w p F → atomsFrom w′ (p .atoms) (m - p .atoms) ≡ framedFormula (item t w p l)
+  pub names : Kept names-at work-bytes w w′
+  pub size : length w′ ≡ length w
+
+-- it is written just if it is good
+unfoldable pub ItemTried : (t w : List ℕ) (p : Pass) (l : Line) (w′ : List ℕ) → Put → Type 0
+ItemTried t w p l w′ (Put.Done m) = (isGoodHere t w p l ≡ true) × ItemPut t w p l w′ m
+ItemTried t w p l w′ Put.Bad = BadLine t w p l w′
+
+-- by whether a row without atoms is
+unfoldable pub doneIf : Bool → ℕ → Put
+doneIf b n = cond b (Put.Done n) Put.Bad

@@ -1,0 +1,106 @@
+-- Laws of the search for an `acc`, and of a formula atom by atom.
+use mathlib.Core.Path.{_≡_, refl, _∙_}
+use mathlib.Core.Bool.{Bool, true, false, cond, _&&_, _||_}
+use mathlib.Core.List.{[], _∷_, List}
+use Prim.Native.Nat.{ℕ, suc, _+_, _-_, _≤_, _<_}
+use native.Mathlib.Omega.{arith}
+use native.Mathlib.Nat.{add-zero}
+use native.Mathlib.Numerals.{add-one}
+use Rattle.rules.specs.Base.{any}
+use Rattle.rules.specs.Syntax.{Formula, acc, cmp, path}
+use Rattle.rules.specs.Reading.{Access, framedExpr, framed}
+use Rattle.tables.specs.Decode.{run, byteAt, atomPlace, relOf, leftAt, rightAt, atomAt, atomsFrom}
+use Rattle.resolve_framing.specs.Framing.{accessAt, isAccess, isOf, accesses}
+
+-- an atom by its sides
+module _ (w : List ℕ) (before : List Access) (i : ℕ) where
+  pub access-framed : isAccess w i ≡ true → framed before (atomAt w i ∷ []) ≡ true
+  unfolding framed atomAt
+  access-framed e = rw e
+
+  pub sides-framed : isAccess w i ≡ false → framed before (atomAt w i ∷ []) ≡ framedExpr before (leftAt w i) && framedExpr before (rightAt w i)
+  unfolding framed atomAt
+  sides-framed e = rw e (and-true (framedExpr before (leftAt w i)) (framedExpr before (rightAt w i)))
+    where
+      and-true : (p q : Bool) → p && (q && true) ≡ p && q
+      and-true true true = refl
+      and-true true false = refl
+      and-true false q = refl
+
+module _ (w : List ℕ) (a : ℕ) where
+  -- THE SEARCH, from the last atom back
+  module _ (x f : ℕ) where
+    abbrev pub Found : ℕ → Bool
+    Found i = framedExpr (accesses w a i) (path x f)
+
+    abbrev test : ℕ → Bool
+    test i = isAccess w (a + i) && isOf x f (accessAt w (a + i))
+
+    found-step : (i : ℕ) → Found (suc i) ≡ test i || Found i
+    unfolding framedExpr accesses any
+    found-step i = go (isAccess w (a + i))
+      where
+        go :
+            (b : Bool) →
+            any (isOf x f) (cond b (accessAt w (a + i) ∷ accesses w a i) (accesses w a i))
+            ≡ b && isOf x f (accessAt w (a + i)) || any (isOf x f) (accesses w a i)
+        go true = refl
+        go false = refl
+
+    pub found-none : (i : ℕ) → i ≤ 0 → Found i ≡ false
+    unfolding framedExpr accesses any
+    found-none i l = let e : i ≡ 0 = omega arith in rw e
+
+    -- the atom i is passed, and j of them are left
+    pub found-here : (i j : ℕ) → i ≡ suc j → test j ≡ true → Found i ≡ true
+    found-here i j l e = rw l (found-step j ∙ rw e)
+
+    pub found-on : (i j : ℕ) → i ≡ suc j → test j ≡ false → Found i ≡ Found j
+    found-on i j l e = rw l (found-step j ∙ rw e)
+
+  -- ONE ATOM
+  framed-step :
+      (i : ℕ) (φ : Formula ℕ) →
+      framed (accesses w a i) (atomAt w (a + i) ∷ φ)
+      ≡ framed (accesses w a i) (atomAt w (a + i) ∷ []) && framed (accesses w a (suc i)) φ
+  unfolding framed accesses atomAt
+  framed-step i φ = go (isAccess w (a + i))
+    where
+      and-on : (p q r : Bool) → p && (q && r) ≡ (p && (q && true)) && r
+      and-on true true r = refl
+      and-on true false r = refl
+      and-on false q r = refl
+
+      go :
+          (b : Bool) → let n = relOf (byteAt w (atomPlace (a + i))) in
+          let t = cond b (acc (byteAt w (atomPlace (a + i) + 4)) (byteAt w (atomPlace (a + i) + 5))) (cmp n (leftAt w (a + i)) (rightAt w (a + i))) in
+          framed (accesses w a i) (t ∷ φ)
+          ≡ framed (accesses w a i) (t ∷ []) && framed (cond b (accessAt w (a + i) ∷ accesses w a i) (accesses w a i)) φ
+      go true = refl
+      go false = and-on (framedExpr (accesses w a i) (leftAt w (a + i))) (framedExpr (accesses w a i) (rightAt w (a + i))) _
+
+  -- ALL ATOMS, of which i are passed
+  module _ (n : ℕ) where
+    abbrev pub Passed : ℕ → Type 0
+    Passed i = framed [] (atomsFrom w a n) ≡ framed (accesses w a i) (atomsFrom w (a + i) (n - i))
+
+    pub passed-none : Passed 0
+    unfolding accesses
+    passed-none = let e : a + 0 ≡ a = add-zero a in let f : n - 0 ≡ n = omega arith in rw (e, f)
+
+    pub passed-all : (i : ℕ) → n ≤ i → Passed i → framed [] (atomsFrom w a n) ≡ true
+    unfolding framed run
+    passed-all i l x = let e : n - i ≡ 0 = omega arith in x ∙ rw e
+
+    abbrev atom-framed : ℕ → Bool
+    atom-framed i = framed (accesses w a i) (atomAt w (a + i) ∷ [])
+
+    passed-step : (i : ℕ) → i < n → Passed i → framed [] (atomsFrom w a n) ≡ atom-framed i && framed (accesses w a (suc i)) (atomsFrom w (suc (a + i)) (n - suc i))
+    unfolding run
+    passed-step i l x = let e : n - i ≡ suc (n - suc i) = omega arith in x ∙ rw e (framed-step i (atomsFrom w (suc (a + i)) (n - suc i)))
+
+    pub passed-not : (i : ℕ) → i < n → Passed i → atom-framed i ≡ false → framed [] (atomsFrom w a n) ≡ false
+    passed-not i l x e = passed-step i l x ∙ rw e
+
+    pub passed-on : (i : ℕ) → i < n → Passed i → atom-framed i ≡ true → Passed (i + 1)
+    passed-on i l x e = let s : a + suc i ≡ suc (a + i) = omega arith in rw (add-one, s) (passed-step i l x ∙ rw e)

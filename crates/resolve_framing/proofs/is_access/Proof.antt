@@ -1,0 +1,12 @@
+use borrow.Author.Needs.{needs}
+use Rattle.resolve_framing.proofs.is_access.Statement.{statement}
+use Rattle.resolve_framing.proofs.is_access.Tie as tie
+
+atom-kind-requires : tie.Need-atom-kind-requires
+atom-kind-requires c κs = search needs
+
+returns : tie.Need-returns
+returns c = rw (c .atom-kind .ensures .0)
+
+pub is-access-spec : {M : Type 1} → statement M
+is-access-spec = tie.close (tie.spec atom-kind-requires returns)

@@ -1,0 +1,26 @@
+-- `headers::put_class` meets its contract. Assumes nothing.
+use mathlib.Core.Path.{_∙_}
+use Rattle.resolve_headers.specs.Headers.{moved}
+use borrow.Author.Needs.{needs}
+use Rattle.resolve_headers.proofs.put_class.Statement.{statement}
+use Rattle.resolve_headers.proofs.put_class.Tie as tie
+
+put-class-requires : tie.Need-put-class-requires
+put-class-requires c κs = search needs
+
+with-class-requires : tie.Need-with-class-requires
+with-class-requires c κs = search needs
+
+moved-requires : tie.Need-moved-requires
+moved-requires c κs = search needs
+
+same-length : tie.Need-same-length
+same-length c = search needs
+
+returns : tie.Need-returns
+returns c =
+    (c .moved .ensures ∙ (λ j. moved (c .before .before .before .before .before .before .before .before .before .args .p) (c .before .before .before .before .before .before .before .before .before .args .p .names) (c .before .with-class .ensures j) (c .before .before .before .before .before .before .before .before .before .args .p .main)), c .before .before .before .before .put-class .ensures)
+
+pub put-class-spec : {M : Type 1} → statement M
+put-class-spec =
+    tie.close (tie.spec put-class-requires with-class-requires moved-requires same-length returns)

@@ -1,0 +1,199 @@
+// `class`, `field`, `method`, `main` and `var` lines of pass 2.
+use read_scopes::Above;
+use read_scopes::Names;
+use read_scopes::Range;
+use resolve_pass::Pass;
+use resolve_pass::Tried;
+ghost use mathlib.Core.Path.{_≡_};
+ghost use mathlib.Core.Bool.{true};
+ghost use Prim.Native.Nat.{_+_, _≤_, _<_};
+ghost use lib.ListN.{length, drop};
+ghost use Rattle.rules.specs.Limits.{work-bytes, most-bytes, most-classes};
+ghost use Rattle.rules.specs.Grammar.{Class, Field, Method, Var, form, isFormed};
+ghost use Rattle.read_fields.specs.Cuts.{more};
+ghost use Rattle.read_scopes.specs.Meanings.{AboveFits};
+ghost use Rattle.write_rows.specs.Puts.{putClass};
+ghost use Rattle.resolve_pass.specs.Passes.{Ready, Room, oneMore, withBlock, aboveAfter, lineAfter, LineTried};
+ghost use Rattle.resolve_headers.specs.Headers.{isDeclaration, Held, moved, DeclarationPut};
+
+// THE COUNTS
+
+fn moved(p: Pass, names: Names, above: Above, main: usize) -> Pass
+    requires { ⌜ p .line < most-bytes ⌝ }
+    ensures { λ q. ⌜ q ≡ moved p names above main ⌝ }
+{
+    Pass {
+        names,
+        above,
+        rows: p.rows,
+        atoms: p.atoms,
+        main,
+        line: p.line + 1,
+        unframed: p.unframed,
+    }
+}
+
+fn after(r: Range) -> usize
+    requires { ⌜ r .first + r .count < 65536 ⌝ }
+    ensures { λ n. ⌜ n ≡ r .first + r .count ⌝ }
+{
+    r.first + r.count
+}
+
+fn with_class(a: Above) -> Above
+    requires { ⌜ AboveFits a ⌝ }
+    ensures { λ b. ⌜ b ≡ aboveAfter Class a ⌝ }
+{
+    let fields = a.fields;
+    let methods = a.methods;
+    Above {
+        classes: a.classes + 1,
+        fields: Range {
+            first: after(fields),
+            count: 0,
+        },
+        methods: Range {
+            first: after(methods),
+            count: 0,
+        },
+    }
+}
+
+fn one_more(r: Range) -> Range
+    requires { ⌜ r .first + r .count < 65536 ⌝ }
+    ensures { λ s. ⌜ s ≡ oneMore r ⌝ }
+{
+    Range {
+        first: r.first,
+        count: r.count + 1,
+    }
+}
+
+fn with_field(a: Above) -> Above
+    requires { ⌜ AboveFits a ⌝ }
+    ensures { λ b. ⌜ b ≡ aboveAfter Field a ⌝ }
+{
+    let fields = a.fields;
+    let methods = a.methods;
+    Above {
+        classes: a.classes,
+        fields: one_more(fields),
+        methods,
+    }
+}
+
+fn with_method(a: Above) -> Above
+    requires { ⌜ AboveFits a ⌝ }
+    ensures { λ b. ⌜ b ≡ aboveAfter Method a ⌝ }
+{
+    let fields = a.fields;
+    let methods = a.methods;
+    Above {
+        classes: a.classes,
+        fields,
+        methods: one_more(methods),
+    }
+}
+
+fn in_method(c: Names) -> Names
+    ensures { λ d. ⌜ d ≡ withBlock true c ⌝ }
+{
+    Names {
+        classes: c.classes,
+        fields: c.fields,
+        methods: c.methods,
+        method: true,
+        locals: 0,
+        result: true,
+    }
+}
+
+// ONE LINE: its word ends at r
+
+// `class C`: the next class. Its name stands in its row.
+fn put_class(work: &mut [u8], p: Pass) -> Pass
+    requires { ⌜ (length (now work) ≡ work-bytes) × AboveFits (p .above) × (p .above .classes < most-classes) × (p .line < most-bytes) ⌝ }
+    ensures { λ q. ⌜ (q ≡ moved p (p .names) (aboveAfter Class (p .above)) (p .main)) × (now (work .exit) ≡ putClass (now (work .entry)) (p .above .classes)) ⌝ }
+{
+    let names = p.names;
+    let above = p.above;
+    write_rows::put_class(work, above.classes);
+    moved(p, names, with_class(above), p.main)
+}
+
+// `main`: its first row is the next.
+fn put_main(p: Pass) -> Pass
+    requires { ⌜ p .line < most-bytes ⌝ }
+    ensures { λ q. ⌜ q ≡ moved p (p .names) (p .above) (p .rows) ⌝ }
+{
+    let names = p.names;
+    let above = p.above;
+    moved(p, names, above, p.rows)
+}
+
+// Puts the line of this kind (1 `class`, 6 `main`) whose word ends at r.
+pub fn put_declaration(text: &[u8], work: &mut [u8], p: Pass, kind: u8, r: usize) -> Pass
+    requires { ⌜ Ready (now text) (now work) p × (isDeclaration kind ≡ true) × Room (now text) (now work) p (lineAfter (now text) r kind) ⌝ }
+    ensures { λ q. ⌜ DeclarationPut (now (text .entry)) (now (work .entry)) p (lineAfter (now (text .entry)) r kind) (now (work .exit)) q ⌝ }
+{
+    match kind {
+        1 => put_class(work, p),
+        _ => put_main(p),
+    }
+}
+
+// `field T f` (kind 2), whose word ends at r: one more field of the last class, if T is a type and f a new name.
+pub fn put_field(text: &[u8], work: &mut [u8], p: Pass, r: usize) -> Tried
+    requires { ⌜ Ready (now text) (now work) p × (r ≤ length (now text)) × (isFormed (form Field .operands) (form Field .tail) (more (drop r (now text))) ≡ true) × Room (now text) (now work) p (lineAfter (now text) r 2) × Held (now work) p ⌝ }
+    ensures { λ q. ⌜ LineTried (now (text .entry)) (now (work .entry)) p (lineAfter (now (text .entry)) r 2) (now (work .exit)) q ⌝ }
+{
+    let names = p.names;
+    let above = p.above;
+    let gives = read_declarations::span_after(text, r);
+    let name = read_declarations::span_after(text, gives.start + gives.len);
+    if !read_lookups::may_add_field(text, work, names, above, name, gives) {
+        return Tried::Bad;
+    }
+    let int = read_lookups::is_int(text, gives);
+    let f = read_lookups::field_number(text, work, names, read_names::name_in(text, name));
+    write_rows::put_field(work, above.classes - 1, f, int);
+    Tried::On(moved(p, names, with_field(above), p.main))
+}
+
+// `method T m U w` (kind 3), whose word ends at r: the next method, from the next row on, and its block, if T and U are types and m and
+// w new names.
+pub fn put_method(text: &[u8], work: &mut [u8], p: Pass, r: usize) -> Tried
+    requires { ⌜ Ready (now text) (now work) p × (r ≤ length (now text)) × (isFormed (form Method .operands) (form Method .tail) (more (drop r (now text))) ≡ true) × Room (now text) (now work) p (lineAfter (now text) r 3) × Held (now work) p ⌝ }
+    ensures { λ q. ⌜ LineTried (now (text .entry)) (now (work .entry)) p (lineAfter (now (text .entry)) r 3) (now (work .exit)) q ⌝ }
+{
+    let names = p.names;
+    let above = p.above;
+    let methods = above.methods;
+    let owner = above.classes - 1;
+    let m = read_declarations::method_row(text, r, owner);
+    let takes = m.takes;
+    let parameter = read_declarations::span_after(text, takes.start + takes.len);
+    if !read_lookups::may_add_method(text, work, names, above, m, parameter) {
+        return Tried::Bad;
+    }
+    let class = read_names::name_at(text, work, owner);
+    write_rows::put_method(work, after(methods), p.rows);
+    read_scopes::put_block(text, work, class, m, parameter);
+    Tried::On(moved(p, in_method(names), with_method(above), p.main))
+}
+
+// `var T x` (kind 7), whose word ends at r: one more local, if T is a type and x a new name.
+pub fn put_var(text: &[u8], work: &mut [u8], p: Pass, r: usize) -> Tried
+    requires { ⌜ Ready (now text) (now work) p × (r ≤ length (now text)) × (isFormed (form Var .operands) (form Var .tail) (more (drop r (now text))) ≡ true) × Room (now text) (now work) p (lineAfter (now text) r 7) ⌝ }
+    ensures { λ q. ⌜ LineTried (now (text .entry)) (now (work .entry)) p (lineAfter (now (text .entry)) r 7) (now (work .exit)) q ⌝ }
+{
+    let names = p.names;
+    let above = p.above;
+    let gives = read_declarations::span_after(text, r);
+    let name = read_declarations::span_after(text, gives.start + gives.len);
+    if !read_lookups::may_declare(text, work, names, name, gives) {
+        return Tried::Bad;
+    }
+    let grown = read_scopes::put_local(text, work, names, name, gives);
+    Tried::On(moved(p, grown, above, p.main))
+}

@@ -1,0 +1,471 @@
+-- `new`: the heap grows by an object, whose locations the running frame holds.
+use mathlib.Core.Path.{_≡_, refl, sym, ap, _∙_, subst}
+use mathlib.Core.Bool.{Bool, true, false, cond, _&&_}
+use mathlib.Core.List.{List, [], _∷_, _++_, map}
+use mathlib.Core.Logic.{_⊎_, inl, inr, ⊎-elim}
+use mathlib.Core.Option.{Option, none, some}
+use Prim.Native.Nat.{ℕ, zero, suc, _+_, _*_, _-_, _≤_, _<_}
+use native.Mathlib.Nat.{add-zero}
+use native.Mathlib.Omega.{arith}
+use lib.Dec.{T, eqb, ltb, leb, eqb→eq, eqb-refl}
+use lib.ListN.{length, getD, length-append, length-map, List·getD-append}
+use lib.Seq.{getD-append-seam}
+use borrow.Author.Tests.{ne-eqb, eq-eqb, lt-ltb, le-ltb, le-leb, lt-leb}
+use Rattle.rules.specs.Limits.{heap-objects, heap-fields, most-fields, most-classes}
+use Rattle.rules.specs.Base.{Try, ok, no, _>>_, check, any}
+use Rattle.rules.specs.Answers.{Stop, heapFull}
+use Rattle.rules.specs.Machine.{Heap, Cell, Location, Config, took, holds, among, eqLocation, fieldsOf, object, valueAt, holding, bind, advance, withFrame, newCell, grown, newStep}
+use Rattle.rules.specs.declared.Machine.{Machine}
+use Rattle.rules.proofs.Lists.{T-true, F-false, or-left, or-right, or-cases, none-some, decide-eq}
+use Rattle.rules.proofs.Heaps.{grown-other, grown-new}
+use Rattle.rules.proofs.Sets.{in-new}
+use Rattle.tables.specs.Layout.{frame-variables, most-names, values-at, frames-at}
+use Rattle.tables.specs.Decode.{run, kindAt, xAt, memberAt, classCount, classAt, fieldsFrom, fieldAt, fieldCountAt, fieldNameAt}
+use Rattle.tables.specs.Tables.{ClassFits, placeAt}
+use Rattle.tables.specs.Stores.{SameTables, putWord}
+use Rattle.tables.proofs.Rows.{class-length}
+use Rattle.tables.proofs.Bytes.{same-trans}
+use Rattle.tables.proofs.Decoding.{tables-same, rows-count-same, kind-same, classes-count-same, field-count-same, place-same}
+use Rattle.run_heap.specs.declared.Fault.{Fault}
+use Rattle.run_steps.specs.declared.Turn.{Turn}
+use Rattle.run_heap.specs.declared.View.{View}
+use Rattle.run_heap.specs.Views.{frameAt, cellValue, cellHolder, classIn, firstIn, cellOf, holderIn, holderOf, made, viewOf, stopOf, ObjectFits}
+use Rattle.run_steps.specs.States.{HeapIs, Represents, Follows, Does, Ready, AtKind, atRow}
+use Rattle.run_calls.specs.Calls.{larger}
+use Rattle.run_heap.proofs.Reading.{Placed, cell-placed, cell-small, cell-beyond, cell-null, cell-some, bound-free, place-found}
+use Rattle.run_steps.proofs.Seeing.{bool-iff, at}
+use Rattle.run_footprint.proofs.Regions.{Only, only-tables, only-word}
+use Rattle.run_steps.proofs.Keeping.{SameObjects, same-frame, cell-kept, fits-kept, ensures-kept, callers-kept}
+use Rattle.run_steps.proofs.Moves.{moved-to, next-is, next-fits, follow-stop, follow-on}
+use Rattle.run_steps.proofs.Changes.{put-variable}
+use Rattle.run_steps.proofs.Steps.{frame-holding}
+use Rattle.run_calls.proofs.Returning.{among-append}
+use Rattle.run_steps.proofs.Heaps.{Has}
+use Rattle.run_steps.proofs.Doing.{does-on, does-stop, fits, frames-fit}
+use Rattle.run_calls.proofs.Making.{made-only, made-class, made-first, made-objects, old-value, old-holder, new-value, new-holder}
+
+-- FIELDS OF A CLASS
+class-has :
+    (w : List ℕ) (c j n p : ℕ) → p < n → Has (map newCell (fieldsFrom w c j n)) (fieldNameAt w c (j + p))
+unfolding run any newCell fieldAt
+class-has w c j zero p l = absurd (omega arith)
+class-has w c j (suc n) zero l =
+    or-left (eqb (fieldNameAt w c j) (fieldNameAt w c (j + 0))) _ (rw add-zero (eqb-refl (fieldNameAt w c j)))
+class-has w c j (suc n) (suc p) l =
+    let e : j + suc p ≡ suc j + p = omega arith in
+    or-right (eqb (fieldNameAt w c j) (fieldNameAt w c (j + suc p))) _ (rw e (class-has w c (suc j) n p (omega arith)))
+
+has-name :
+    (w : List ℕ) (c j n f : ℕ) → Has (map newCell (fieldsFrom w c j n)) f → (p : ℕ) × (p < n) × (fieldNameAt w c (j + p) ≡ f)
+unfolding run any newCell fieldAt
+has-name w c j zero f t = absurd t
+has-name w c j (suc n) f t =
+    ⊎-elim
+    (λ q. (0, omega arith, rw add-zero (eqb→eq (fieldNameAt w c j) f q)))
+    (λ q.
+    let (p, l, e) = has-name w c (suc j) n f q in
+    let s : suc j + p ≡ j + suc p = omega arith in
+    (suc p, omega arith, rw s at e))
+    (or-cases (eqb (fieldNameAt w c j) f) _ t)
+
+eqb-comm : (a b : ℕ) → eqb a b ≡ eqb b a
+eqb-comm a b =
+    bool-iff (eqb a b) (eqb b a) (λ t. subst (λ i. T (eqb i a)) (eqb→eq a b t) (eqb-refl a))
+    (λ t. subst (λ i. T (eqb i b)) (eqb→eq b a t) (eqb-refl b))
+
+-- the locations of a new object
+among-made :
+    (o f : ℕ) (cs : List Cell) →
+    among (at o f) (map (λ c. record { object = o; field = c .name }) cs) ≡ any (λ c. eqb (c .name) f) cs
+unfolding among any eqLocation
+among-made o f [] = refl
+among-made o f (c ∷ cs) = rw (eq-eqb o o refl, eqb-comm f (c .name), among-made o f cs)
+
+other-made :
+    (o : ℕ) (p : Location) (cs : List Cell) → (p .object ≡ o → ⊥) →
+    among p (map (λ c. record { object = o; field = c .name }) cs) ≡ false
+other-made o p cs d = F-false _ (λ t. d (in-new p o cs t))
+
+fields-more : (h : Heap) (o : List Cell) → fieldsOf (h ++ (o ∷ [])) ≡ fieldsOf h + length o
+unfolding fieldsOf
+fields-more [] o = omega arith
+fields-more (x ∷ h) o = rw (fields-more h o) (let e : length x + (fieldsOf h + length o) ≡ length x + fieldsOf h + length o = omega arith in e)
+
+below-or : (i n : ℕ) → (i < n) ⊎ (n ≤ i)
+below-or i zero = inr (omega arith)
+below-or zero (suc n) = inl (omega arith)
+below-or (suc i) (suc n) = ⊎-elim (λ l. inl (omega arith)) (λ l. inr (omega arith)) (below-or i n)
+
+later : {n : ℕ} (i : ℕ) → (i ≡ n → ⊥) → n ≤ i → n + 1 ≤ i
+later i d l = omega arith
+
+module _ {w : List ℕ} {c : Machine} {m : Config} (R : Represents w c m) (class : ℕ) (lc : class < classCount w)
+    (lo : c .objects < heap-objects) (lf : c .fields + fieldCountAt w class ≤ heap-fields) (lh : c .holder < 4294967296) where
+  abbrev n : ℕ
+  n = c .objects
+
+  abbrev count : ℕ
+  count = fieldCountAt w class
+
+  abbrev w′ : List ℕ
+  w′ = made w (c .objects) (c .fields) (fieldCountAt w class) class (c .holder)
+
+  abbrev cells : List Cell
+  cells = map newCell (classAt w class)
+
+  abbrev gained : List Location
+  gained = map (λ c. record { object = suc (length (m .heap)); field = c .name }) (map newCell (classAt w class))
+
+  s : Only values-at frames-at w w′
+  s = made-only w n (c .fields) count class (c .holder) (R .tables .size) lo lf lh
+
+  t : SameTables w w′
+  t = only-tables s (omega arith)
+
+  S : SameObjects n w w′
+  S = made-objects w n (c .fields) count class (c .holder) (R .tables .size) lo lf lh
+
+  class-fits : ClassFits w class
+  class-fits = R .tables .class-fits class lc
+
+  small-class : class < most-classes
+  small-class = omega (arith, lc, R .tables .classes)
+
+  last-class : classIn w′ n ≡ class
+  last-class = made-class w n (c .fields) count class (c .holder) (R .tables .size) lo lf lh
+
+  last-first : firstIn w′ n ≡ c .fields
+  last-first = made-first w n (c .fields) count class (c .holder) (R .tables .size) lo lf lh
+
+  -- CELLS
+  old-cell : (i f : ℕ) → i < n → cellOf w′ (n + 1) (suc i) f ≡ cellOf w n (suc i) f
+  old-cell i f l = same-test ∙ cell-kept w w′ t (R .tables) n (c .fields) (suc i) f (R .heap .fit) S
+    where
+      same-test : cellOf w′ (n + 1) (suc i) f ≡ cellOf w′ n (suc i) f
+      same-test = bound-free w′ (n + 1) n i f (omega arith) l
+
+  place-in : (f : ℕ) → f < most-names → placeAt w′ class f ≡ placeAt w class f
+  place-in f l = place-same w w′ t class small-class f l
+
+  -- a cell of the new object
+  new-cell : (f k : ℕ) → cellOf w′ (n + 1) (suc n) f ≡ some k → (j : ℕ) × (j < count) × (fieldNameAt w class j ≡ f) × (k ≡ c .fields + j)
+  new-cell f k e = go (cell-placed w′ (n + 1) (suc n) f k e)
+    where
+      go : Placed w′ (n + 1) (suc n) f k → (j : ℕ) × (j < count) × (fieldNameAt w class j ≡ f) × (k ≡ c .fields + j)
+      go P =
+          let q : P .index ≡ n = omega (arith, P .is-object) in
+          let cl : classIn w′ (P .index) ≡ class = ap (classIn w′) q ∙ last-class in
+          let pl : placeAt w′ (classIn w′ (P .index)) f ≡ placeAt w class f = ap (λ (i : ℕ). placeAt w′ i f) cl ∙ place-in f (P .named) in
+          let pr : placeAt w class f ≡ 255 → ⊥ = λ z. P .present (pl ∙ z) in
+          let F = place-found {f = f} class-fits (P .named) pr in
+          (placeAt w class f, F .0, F .1, P .is-cell ∙ rw (pl, q, last-first))
+
+  -- WHO HOLDS
+  old-cells-held : (j : ℕ) → j < c .fields → cellHolder w′ j ≡ cellHolder w j
+  old-cells-held j l = old-holder w n (c .fields) count class (c .holder) (R .tables .size) lo lf lh j l
+
+  -- a field of the class has a cell
+  no-cell : (f : ℕ) → cellOf w′ (n + 1) (suc n) f ≡ none → T (any (λ c. eqb (c .name) f) cells) → ⊥
+  unfolding classAt
+  no-cell f e h =
+      let (j, l, q) = has-name w class 0 count f h in
+      let z : 0 + j ≡ j = omega arith in
+      let q′ : fieldNameAt w class j ≡ f = rw z at q in
+      let lf′ : f < most-names = subst (λ (i : ℕ). i < most-names) q′ (class-fits .names j l) in
+      let pl : placeAt w class f ≡ j = subst (λ (i : ℕ). placeAt w class i ≡ j) q′ (class-fits .places j l) in
+      let here : placeAt w′ (classIn w′ n) f ≡ j = ap (λ (i : ℕ). placeAt w′ i f) last-class ∙ (place-in f lf′ ∙ pl) in
+      none-some (sym e ∙ cell-some w′ (n + 1) n f (omega arith) lf′ (λ z. omega (arith, z, here, l, class-fits .count)))
+
+  beyond : (p : Location) → p .object ≡ suc n → holderOf w n p ≡ 0
+  unfolding holderOf holderIn
+  beyond p e = rw (e, cell-beyond w n n (p .field) (omega arith))
+
+  -- an older object's locations are held as before
+  old-held : (p : Location) → (p .object ≡ suc n → ⊥) → holderOf w′ (n + 1) p ≡ holderOf w n p
+  unfolding holderOf holderIn
+  old-held p d = go (p .object) refl
+    where
+      held-same : (o : Option ℕ) → ((k : ℕ) → o ≡ some k → k < c .fields) → holderIn w′ o ≡ holderIn w o
+      held-same none h = refl
+      held-same (some k) h = old-cells-held k (h k refl)
+
+      go : (o : ℕ) → p .object ≡ o → holderIn w′ (cellOf w′ (n + 1) o (p .field)) ≡ holderIn w (cellOf w n o (p .field))
+      go zero e = rw (cell-null w′ (n + 1) (p .field), cell-null w n (p .field))
+      go (suc i) e =
+          ⊎-elim
+          (λ (l : i < n).
+          rw (old-cell i (p .field) l) (held-same (cellOf w n (suc i) (p .field)) (λ k q. cell-small (suc i) (p .field) (R .tables) (R .heap .fit) q)))
+          (λ (l : n ≤ i).
+          let l′ : n + 1 ≤ i = later i (λ z. d (e ∙ ap suc z)) l in
+          rw (cell-beyond w′ (n + 1) i (p .field) l′, cell-beyond w n i (p .field) l))
+          (below-or i n)
+
+  -- the new object's are held by the running frame
+  new-held : (p : Location) → p .object ≡ suc n → holderOf w′ (n + 1) p ≡ cond (any (λ c. eqb (c .name) (p .field)) cells) (c .holder) 0
+  unfolding holderOf holderIn classAt
+  new-held p e = rw e (go (cellOf w′ (n + 1) (suc n) (p .field)) refl)
+    where
+      go :
+          (o : Option ℕ) → cellOf w′ (n + 1) (suc n) (p .field) ≡ o →
+          holderIn w′ o ≡ cond (any (λ c. eqb (c .name) (p .field)) cells) (c .holder) 0
+      go none q = rw (F-false (any (λ c. eqb (c .name) (p .field)) cells) (λ h. no-cell (p .field) q h))
+      go (some k) q =
+          let (j, l, f, g) = new-cell (p .field) k q in
+          let h : Has (map newCell (fieldsFrom w class 0 count)) (fieldNameAt w class (0 + j)) = class-has w class 0 count j l in
+          let z : 0 + j ≡ j = omega arith in
+          let h′ : T (any (λ c. eqb (c .name) (p .field)) cells) =
+          subst (λ i. Has (map newCell (fieldsFrom w class 0 count)) i) (ap (fieldNameAt w class) z ∙ f) h in
+          ap (cellHolder w′) g
+          ∙ (new-holder w n (c .fields) count class (c .holder) (R .tables .size) lo lf lh j l
+          ∙ sym (ap (λ (b : Bool). cond b (c .holder) 0) (T-true (any (λ c. eqb (c .name) (p .field)) cells) h′)))
+
+  -- the set of the running frame
+  heap-next : suc (length (m .heap)) ≡ suc n
+  heap-next = ap suc (R .heap .count)
+
+  more-held : (p : Location) → among p (m .frame .held ++ gained) ≡ eqb (holderOf w′ (n + 1) p) (c .holder)
+  unfolding holds
+  more-held p = among-append p (m .frame .held) gained ∙ ⊎-elim at-new at-old (decide-eq (p .object) (suc n))
+    where
+      at-new : p .object ≡ suc n → cond (among p gained) true (among p (m .frame .held)) ≡ eqb (holderOf w′ (n + 1) p) (c .holder)
+      at-new e =
+          let q : among p gained ≡ any (λ c. eqb (c .name) (p .field)) cells =
+          ap (λ (i : ℕ). among (at i (p .field)) gained) (e ∙ sym heap-next) ∙ among-made (suc (length (m .heap))) (p .field) cells in
+          rw (q, new-held p e) (go (any (λ c. eqb (c .name) (p .field)) cells))
+        where
+          go : (b : Bool) → cond b true (among p (m .frame .held)) ≡ eqb (cond b (c .holder) 0) (c .holder)
+          go true = sym (eq-eqb (c .holder) (c .holder) refl)
+          go false = R .frame .held p ∙ ap (λ (i : ℕ). eqb i (c .holder)) (beyond p e)
+
+      at-old : (p .object ≡ suc n → ⊥) → cond (among p gained) true (among p (m .frame .held)) ≡ eqb (holderOf w′ (n + 1) p) (c .holder)
+      at-old d =
+          rw (other-made (suc (length (m .heap))) p cells (λ e. d (e ∙ heap-next)), old-held p d) (R .frame .held p)
+
+  others-held :
+      (number : ℕ) → 1 ≤ number → number < c .holder → (p : Location) →
+      eqb (holderOf w′ (n + 1) p) number ≡ eqb (holderOf w n p) number
+  others-held number o b p = ⊎-elim at-new (λ d. ap (λ (i : ℕ). eqb i number) (old-held p d)) (decide-eq (p .object) (suc n))
+    where
+      go : (a : Bool) → eqb (cond a (c .holder) 0) number ≡ false
+      go true = ne-eqb (c .holder) number (λ e. omega (arith, e, b))
+      go false = ne-eqb 0 number (λ e. omega (arith, e, o))
+
+      at-new : p .object ≡ suc n → eqb (holderOf w′ (n + 1) p) number ≡ eqb (holderOf w n p) number
+      at-new e =
+          ap (λ (i : ℕ). eqb i number) (new-held p e)
+          ∙ (go (any (λ c. eqb (c .name) (p .field)) cells)
+          ∙ sym (ap (λ (i : ℕ). eqb i number) (beyond p e) ∙ ne-eqb 0 number (λ z. omega (arith, z, o))))
+
+  -- THE HEAP
+  index-cases : (i : ℕ) → i < n + 1 → (i < n) ⊎ (i ≡ n)
+  index-cases i l = ⊎-elim (λ h. inl h) (λ h. inr (omega arith)) (below-or i n)
+
+  old-fits : (i : ℕ) → i < n → ObjectFits w′ (c .fields + count) i
+  old-fits i l =
+      let O = fits-kept w w′ t (R .tables) (c .fields) i (S .class i l) (S .first i l) (R .heap .fit i l) in
+      record { class = O .class; cells = omega (arith, O .cells) }
+
+  count-kept : fieldCountAt w′ class ≡ count
+  count-kept = field-count-same w w′ t class small-class
+
+  grown-fits : (i : ℕ) → i < n + 1 → ObjectFits w′ (c .fields + count) i
+  grown-fits i l =
+      ⊎-elim (old-fits i)
+      (λ (e : i ≡ n).
+      rw e
+      (record {
+        class = rw last-class (omega (arith, lc, classes-count-same w w′ t));
+        cells = rw (last-first, last-class, count-kept) (omega arith);
+      }))
+      (index-cases i l)
+
+  old-count : (i : ℕ) → i < n → firstIn w′ i + fieldCountAt w′ (classIn w′ i) ≤ c .fields
+  old-count i l = fits-kept w w′ t (R .tables) (c .fields) i (S .class i l) (S .first i l) (R .heap .fit i l) .cells
+
+  grown-apart : (i j : ℕ) → i < j → j < n + 1 → firstIn w′ i + fieldCountAt w′ (classIn w′ i) ≤ firstIn w′ j
+  grown-apart i j l h =
+      ⊎-elim
+      (λ (k : j < n).
+      let il : i < n = omega arith in
+      let cf : fieldCountAt w′ (classIn w i) ≡ fieldCountAt w (classIn w i) =
+      field-count-same w w′ t (classIn w i) (omega (arith, R .heap .fit i il .class, R .tables .classes)) in
+      rw (S .class i il, S .first i il, S .first j k, cf) (R .heap .apart i j l k))
+      (λ (e : j ≡ n). rw (e, last-first) (old-count i (omega arith)))
+      (index-cases j h)
+
+  by-object :
+      (B : ℕ → ℕ → ℕ → Type 0) → ((i f k : ℕ) → i < n → cellOf w n (suc i) f ≡ some k → B (suc i) f k) →
+      ((f k : ℕ) → cellOf w′ (n + 1) (suc n) f ≡ some k → B (suc n) f k) → (o f k : ℕ) → cellOf w′ (n + 1) o f ≡ some k → B o f k
+  by-object B old new o f k e =
+      let P = cell-placed w′ (n + 1) o f k e in
+      subst (λ (i : ℕ). B i f k) (sym (P .is-object))
+      (⊎-elim
+      (λ (l : P .index < n).
+      old (P .index) f k l (sym (old-cell (P .index) f l) ∙ (ap (λ (i : ℕ). cellOf w′ (n + 1) i f) (sym (P .is-object)) ∙ e)))
+      (λ (q : P .index ≡ n).
+      subst (λ (i : ℕ). B (suc i) f k) (sym q)
+      (new f k (ap (λ (i : ℕ). cellOf w′ (n + 1) i f) (sym (P .is-object ∙ ap suc q)) ∙ e)))
+      (index-cases (P .index) (P .exists)))
+
+  grown-value : (o f k : ℕ) → cellOf w′ (n + 1) o f ≡ some k → valueAt (m .heap ++ (cells ∷ [])) o f ≡ cellValue w′ k
+  grown-value =
+      by-object (λ o f k. valueAt (m .heap ++ (cells ∷ [])) o f ≡ cellValue w′ k)
+      (λ i f k l e.
+      grown-other (m .heap) cells (suc i) f (omega (arith, l, R .heap .count))
+      ∙ (R .heap .value (suc i) f k e
+      ∙ sym (old-value w n (c .fields) count class (c .holder) (R .tables .size) lo lf lh k (cell-small (suc i) f (R .tables) (R .heap .fit) e))))
+      (λ f k e.
+      let (j, l, q, g) = new-cell f k e in
+      ap (λ (i : ℕ). valueAt (m .heap ++ (cells ∷ [])) i f) (sym heap-next)
+      ∙ (grown-new (m .heap) (classAt w class) f
+      ∙ sym (ap (cellValue w′) g ∙ new-value w n (c .fields) count class (c .holder) (R .tables .size) lo lf lh j l)))
+
+  grown-has : (o f k : ℕ) → cellOf w′ (n + 1) o f ≡ some k → Has (object (m .heap ++ (cells ∷ [])) o) f
+  unfolding object classAt
+  grown-has =
+      by-object (λ o f k. Has (object (m .heap ++ (cells ∷ [])) o) f)
+      (λ i f k l e. rw (List·getD-append (m .heap) (cells ∷ []) [] i (omega (arith, l, R .heap .count))) (R .heap .has (suc i) f k e))
+      (λ f k e.
+      let seam : getD (m .heap ++ (cells ∷ [])) n [] ≡ cells =
+      ap (λ (i : ℕ). getD (m .heap ++ (cells ∷ [])) i []) (sym (R .heap .count)) ∙ getD-append-seam (m .heap) cells [] [] in
+      rw seam (has-cell f k e))
+    where
+      has-cell : (f k : ℕ) → cellOf w′ (n + 1) (suc n) f ≡ some k → Has cells f
+      has-cell f k e =
+          let (j, l, q, g) = new-cell f k e in
+          let z : 0 + j ≡ j = omega arith in
+          subst (λ (i : ℕ). Has (map newCell (fieldsFrom w class 0 count)) i) (ap (fieldNameAt w class) z ∙ q) (class-has w class 0 count j l)
+
+  grown-marks : (k : ℕ) → k < c .fields + count → cellHolder w′ k ≤ c .holders
+  grown-marks k l =
+      ⊎-elim
+      (λ (h : k < c .fields). rw (old-cells-held k h) (R .heap .marks k h))
+      (λ (h : c .fields ≤ k).
+      let j : k ≡ c .fields + (k - c .fields) = omega arith in
+      subst (λ (i : ℕ). cellHolder w′ i ≤ c .holders) (sym j)
+      (rw (new-holder w n (c .fields) count class (c .holder) (R .tables .size) lo lf lh (k - c .fields) (omega arith)) (R .last)))
+      (below-or k (c .fields))
+
+  size-of-cells : length cells ≡ count
+  size-of-cells = length-map (classAt w class) newCell ∙ class-length w class
+
+  pub grown-heap : HeapIs w′ (n + 1) (c .fields + count) (c .holders) (m .heap ++ (cells ∷ []))
+  grown-heap =
+      record {
+        count = length-append (m .heap) (cells ∷ []) ∙ ap (λ (i : ℕ). i + 1) (R .heap .count);
+        fields-count = fields-more (m .heap) cells ∙ rw (R .heap .fields-count, size-of-cells);
+        most-objects = omega arith;
+        most-fields = lf;
+        fit = grown-fits;
+        apart = grown-apart;
+        value = grown-value;
+        has = grown-has;
+        marks = grown-marks;
+      }
+
+  pub grown-state :
+      Represents w′ (larger c count (c .steps))
+      (record { heap = m .heap ++ (cells ∷ []); frame = holding (m .frame .held ++ gained) (m .frame); callers = m .callers })
+  unfolding holding
+  grown-state =
+      record {
+        tables = tables-same w w′ t (R .tables);
+        heap = grown-heap;
+        frames = R .frames;
+        most = R .most;
+        frame =
+            frame-holding (m .frame .held ++ gained) (same-frame values-at frames-at w w′ (length (m .callers)) s (inr (omega arith)) .variables)
+            (rows-count-same w w′ t) more-held (R .frame);
+        ensures =
+            ensures-kept w w′ t (R .tables) _ (m .frame) (same-frame values-at frames-at w w′ (length (m .callers)) s (inr (omega arith)) .method)
+            (R .ensures);
+        callers =
+            callers-kept w w′ t (R .tables) n (n + 1) (c .holder) (m .callers)
+            (λ j l. same-frame values-at frames-at w w′ j s (inr (omega arith))) others-held (R .callers);
+        last = R .last;
+        given = R .given;
+      }
+
+  pub grown-tables : SameTables w w′
+  grown-tables = t
+
+  pub new-on :
+      (x mo mf : ℕ) → x < frame-variables → (kindAt w (c .row) ≡ 18 → ⊥) → c .objects < mo → c .fields + count ≤ mf →
+      Follows (putWord w′ (frameAt (length (m .callers)) + x * 4) (c .objects + 1)) c
+      (Turn.On (atRow (larger c count (c .steps)) (c .row + 1) (c .steps + 1))) m
+      (took (newStep (record { objects = mo; fields = mf }) x (classAt w class) m))
+  unfolding newStep grown withFrame advance bind holding check _>>_
+  new-on x mo mf lx k l h =
+      let R1 = grown-state in
+      let R2 = put-variable R1 x (c .objects + 1) lx (omega (arith, lo)) in
+      let w″ : List ℕ = putWord w′ (frameAt (length (m .callers)) + x * 4) (c .objects + 1) in
+      let t2 : SameTables w w″ =
+      same-trans t
+      (only-tables (only-word frames-at (frames-at + 8192) w′ (frameAt (length (m .callers)) + x * 4) (c .objects + 1) (omega arith) (omega (arith, R .most, R .frames))) (omega arith)) in
+      let k2 : kindAt w″ (c .row) ≡ kindAt w (c .row) = kind-same w w″ t2 (c .row) (omega (arith, R .frame .row-fits, R .tables .rows)) in
+      let a : ltb (length (m .heap)) mo ≡ true = lt-ltb (length (m .heap)) mo (omega (arith, R .heap .count)) in
+      let b : leb (fieldsOf (m .heap) + length (classAt w class)) mf ≡ true =
+      le-leb (fieldsOf (m .heap) + length (classAt w class)) mf (omega (arith, R .heap .fields-count, class-length w class)) in
+      let o : suc (length (m .heap)) ≡ c .objects + 1 = omega (arith, R .heap .count) in
+      follow-on R _ _ _ (rw (a, b) (ap (λ (i : ℕ). ok (record { heap = m .heap ++ (cells ∷ []); frame = advance (bind x i (holding (m .frame .held ++ gained) (m .frame))); callers = m .callers })) o)) refl
+      (moved-to R2 (c .row + 1) (c .steps + 1) _ (next-fits R2 (λ z. k (sym k2 ∙ z))) (next-is R2) (omega arith))
+
+-- the heap is full
+pub new-stop :
+    {w : List ℕ} {c : Machine} {m : Config} (R : Represents w c m) (class x mo mf : ℕ) →
+    (mo ≤ c .objects) ⊎ (mf < c .fields + fieldCountAt w class) →
+    Follows w c (Turn.Stopped Fault.HeapFull) m (took (newStep (record { objects = mo; fields = mf }) x (classAt w class) m))
+unfolding newStep check _>>_ stopOf
+new-stop {w} {c} {m} R class x mo mf (inl l) =
+    let a : ltb (length (m .heap)) mo ≡ false = le-ltb (length (m .heap)) mo (omega (arith, R .heap .count)) in
+    follow-stop R Fault.HeapFull (newStep (record { objects = mo; fields = mf }) x (classAt w class) m) (rw a)
+new-stop {w} {c} {m} R class x mo mf (inr l) =
+    let b : leb (fieldsOf (m .heap) + length (classAt w class)) mf ≡ false =
+    lt-leb (fieldsOf (m .heap) + length (classAt w class)) mf (omega (arith, R .heap .fields-count, class-length w class)) in
+    follow-stop R Fault.HeapFull (newStep (record { objects = mo; fields = mf }) x (classAt w class) m) (rw b (go (ltb (length (m .heap)) mo)))
+  where
+    go : (a : Bool) → _≡_ {A = Try Stop Config} (check (a && false) heapFull >> ok (grown m x (map newCell (classAt w class)))) (no heapFull)
+    go true = refl
+    go false = refl
+
+-- THE CODE
+module _ {w : List ℕ} {c : Machine} (ready : Ready w c) (k : AtKind w c 10) (mo mf : ℕ) (lmo : mo ≤ heap-objects) (lmf : mf ≤ heap-fields)
+    (class n : ℕ) (ec : class ≡ memberAt w (c .row)) (en : n ≡ fieldCountAt w class) where
+  pub new-class : class < classCount w
+  new-class = omega (arith, ec, fits ready .class k)
+
+  pub new-small : (class < most-classes) × (n ≤ 8)
+  new-small = (omega (arith, new-class, ready .represents .tables .classes), omega (arith, en, ready .represents .tables .class-fits class new-class .count))
+
+  pub new-stops :
+      (mo ≤ c .objects) ⊎ (mf < c .fields + n) →
+      Does w c w (Turn.Stopped Fault.HeapFull)
+      (λ m. took (newStep (record { objects = mo; fields = mf }) (xAt w (c .row)) (classAt w (memberAt w (c .row))) m))
+  new-stops o =
+      does-stop Fault.HeapFull
+      (λ m R.
+      subst (λ i. Follows w c (Turn.Stopped Fault.HeapFull) m (took (newStep (record { objects = mo; fields = mf }) (xAt w (c .row)) (classAt w i) m))) ec
+      (new-stop R class (xAt w (c .row)) mo mf (⊎-elim inl (λ l. inr (omega (arith, l, en))) o)))
+
+  pub new-does :
+      (v : View) (x : ℕ) {w′ : List ℕ} {d : Machine} → c .objects < mo → c .fields + n ≤ mf → v ≡ viewOf c → x ≡ xAt w (c .row) →
+      w′ ≡ putWord (made w (c .objects) (c .fields) n class (c .holder)) (v .base + x * 4) (c .objects + 1) →
+      d ≡ atRow (larger c n (c .steps)) (c .row + 1) (c .steps + 1) →
+      Does w c w′ (Turn.On d) (λ m. took (newStep (record { objects = mo; fields = mf }) (xAt w (c .row)) (classAt w (memberAt w (c .row))) m))
+  new-does v x {w′} {d} l h ev ex p q =
+      let p′ : w′ ≡ putWord (made w (c .objects) (c .fields) (fieldCountAt w class) class (c .holder)) (frameAt (c .frames - 1) + xAt w (c .row) * 4) (c .objects + 1) =
+      p ∙ rw (ev, ex, en) in
+      let q′ : d ≡ atRow (larger c (fieldCountAt w class) (c .steps)) (c .row + 1) (c .steps + 1) =
+      q ∙ ap (λ (i : ℕ). atRow (larger c i (c .steps)) (c .row + 1) (c .steps + 1)) en in
+      does-on p′ q′
+      (same-trans (grown-tables (ready .represents) class new-class (omega arith) (omega arith) lh)
+      (only-tables (only-word frames-at (frames-at + 8192) _ (frameAt (c .frames - 1) + xAt w (c .row) * 4) (c .objects + 1) (omega arith) (omega (arith, fits ready .x, frames-fit ready .1))) (omega arith)))
+      (λ m R.
+      let b : frameAt (c .frames - 1) ≡ frameAt (length (m .callers)) = omega (arith, R .frames) in
+      rw b
+      (subst (λ i. Follows (putWord (made w (c .objects) (c .fields) (fieldCountAt w class) class (c .holder)) (frameAt (length (m .callers)) + xAt w (c .row) * 4) (c .objects + 1)) c
+      (Turn.On (atRow (larger c (fieldCountAt w class) (c .steps)) (c .row + 1) (c .steps + 1))) m (took (newStep (record { objects = mo; fields = mf }) (xAt w (c .row)) (classAt w i) m))) ec
+      (new-on R class new-class (omega arith) (omega (arith, en)) lh (xAt w (c .row)) mo mf (fits ready .x) (λ z. omega (arith, z, k)) l (omega (arith, en)))))
+    where
+      lh : c .holder < 4294967296
+      lh = omega (arith, ready .represents .last, ready .represents .given, ready .represents .most, ready .more)

@@ -1,0 +1,93 @@
+-- What `call`, `end` and `new` do with the counters and the stores.
+use mathlib.Core.Path.{_≡_}
+use mathlib.Core.List.{List, []}
+use mathlib.Core.Logic.{_⊎_}
+use Prim.Native.Nat.{ℕ, _+_, _-_, _≤_, _<_}
+use lib.ListN.{length, take}
+use Rattle.rules.specs.Limits.{most-frames, most-methods, work-bytes}
+use Rattle.rules.specs.Base.{ok, no}
+use Rattle.rules.specs.declared.Machine.{Machine}
+use Rattle.tables.specs.Decode.{methodCount, requiresAt, ensuresAt, firstRowAt}
+use Rattle.run_heap.specs.declared.Fault.{Fault}
+use Rattle.run_steps.specs.declared.Turn.{Turn}
+use Rattle.run_heap.specs.Views.{methodOf, viewOf, nextView, Readable, stopOf}
+use Rattle.run_footprint.specs.Footprints.{footprint-cells, marked, takeIn, SmallCells}
+use Rattle.run_steps.specs.States.{Ready}
+
+-- back in the caller, which holds by this number
+abbrev pub back : Machine → ℕ → ℕ → Machine
+back c holder row =
+    record {
+      objects = c .objects;
+      fields = c .fields;
+      frames = c .frames - 1;
+      row = row;
+      holder = holder;
+      holders = c .holders;
+      steps = c .steps + 1;
+    }
+
+-- a call more, which holds by a new number
+abbrev pub called : Machine → ℕ → Machine
+called c row =
+    record {
+      objects = c .objects;
+      fields = c .fields;
+      frames = c .frames + 1;
+      row = row;
+      holder = c .holders + 1;
+      holders = c .holders + 1;
+      steps = c .steps + 1;
+    }
+
+-- a call is entered with these cells, unless frames are full
+abbrev pub Enters : List ℕ → Machine → ℕ → List ℕ → List ℕ → Turn → Type 0
+Enters w c method ks w′ (Turn.On d) =
+    (c .frames < most-frames) × (w′ ≡ marked w ks (c .holders + 1)) × (d ≡ called c (firstRowAt w method))
+Enters w c method ks w′ (Turn.Stopped f) = (most-frames ≤ c .frames) × (w′ ≡ w) × (f ≡ Fault.FramesFull)
+Enters w c method ks w′ Turn.Done = ⊥
+
+-- an object more, with n fields
+abbrev pub larger : Machine → ℕ → ℕ → Machine
+larger c n steps =
+    record {
+      objects = c .objects + 1;
+      fields = c .fields + n;
+      frames = c .frames;
+      row = c .row;
+      holder = c .holder;
+      holders = c .holders;
+      steps = steps;
+    }
+
+-- `end` of a call: ensures took these cells
+pub record Leaving (w : List ℕ) (c : Machine) (cells : List ℕ) (n : ℕ) : Type 0 where
+  pub ready : Ready w c
+  pub inner : c .frames ≡ 1 → ⊥
+  pub size : length cells ≡ footprint-cells
+  pub count : n ≤ footprint-cells
+  pub took : takeIn w (viewOf c) (ensuresAt w (methodOf w (c .frames - 1))) [] ≡ ok (take n cells)
+
+-- `call`: requires took these cells
+pub record Entering (w : List ℕ) (c : Machine) (method : ℕ) (cells : List ℕ) (n : ℕ) : Type 0 where
+  pub area : length w ≡ work-bytes
+  pub method-fits : method < most-methods
+  pub more : c .steps < 4294967295
+  pub numbers : c .holders < 4294967295
+  pub size : length cells ≡ footprint-cells
+  pub count : n ≤ footprint-cells
+  pub small : SmallCells (take n cells)
+
+-- requires takes cells, and the call is entered; or it does not, and nothing is changed
+abbrev pub Admits : List ℕ → Machine → ℕ → List ℕ → Turn → Type 0
+Admits w c method w′ r =
+    ((ks : List ℕ) × (takeIn w (nextView c) (requiresAt w method) [] ≡ ok ks) × Enters w c method ks w′ r)
+    ⊎ ((s : Fault) × (takeIn w (nextView c) (requiresAt w method) [] ≡ no (stopOf s)) × (r ≡ Turn.Stopped s) × (w′ ≡ w))
+
+-- `call` with the next frame in its place
+pub record Calling (w : List ℕ) (c : Machine) (method : ℕ) : Type 0 where
+  pub readable : Readable w (nextView c)
+  pub exists : method < methodCount w
+  pub more : c .steps < 4294967295
+  pub numbers : c .holders < 4294967295
+  pub small : (ks : List ℕ) → takeIn w (nextView c) (requiresAt w method) [] ≡ ok ks → SmallCells ks

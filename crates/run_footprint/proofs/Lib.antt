@@ -1,0 +1,4 @@
+pub mod Cells
+pub mod Taking
+pub mod Regions
+pub mod Sieves

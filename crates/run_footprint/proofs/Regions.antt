@@ -1,0 +1,179 @@
+-- Stores change bytes of one region alone: what each store leaves, and what it puts.
+use mathlib.Core.Path.{_≡_, refl, ap, _∙_}
+use mathlib.Core.Bool.{Bool, true, false, cond, _||_}
+use mathlib.Core.List.{List, [], _∷_}
+use mathlib.Core.Logic.{_⊎_, inl, inr, ⊎-elim}
+use Prim.Native.Nat.{ℕ, zero, suc, _+_, _*_, _≤_, _<_}
+use native.Mathlib.Omega.{arith}
+use lib.Dec.{eqb, eqb-refl}
+use lib.ListN.{length, set, length-set}
+use lib.Seq.{getD-set-other}
+use borrow.Author.Tests.{eqb-true, eqb-false}
+use Rattle.rules.specs.Limits.{work-bytes, heap-objects, heap-fields}
+use Rattle.rules.specs.Base.{any}
+use Rattle.rules.proofs.Lists.{or-left, or-right}
+use Rattle.tables.specs.Layout.{names-at, values-at, holders-at, seconds-at, objects-at, frames-at, frame-variables}
+use Rattle.tables.specs.Decode.{byteAt, wordAt}
+use Rattle.tables.specs.Stores.{putHalf, putWord, Kept, SameTables}
+use Rattle.tables.proofs.Bytes.{put-word-length, put-word-byte, put-half-length, put-half-byte, word-put, word-kept, half-kept}
+use Rattle.run_heap.specs.Views.{frameAt, variableAt, savedHolder, savedRow, methodOf, cellValue, cellHolder, classIn, firstIn, fill}
+use Rattle.run_footprint.specs.Footprints.{marked, SmallCells}
+
+-- bytes from a up to b may differ, and no others
+pub record Only (a b : ℕ) (w w′ : List ℕ) : Type 0 where
+  pub size : length w′ ≡ length w
+  pub bytes : (j : ℕ) → (j < a) ⊎ (b ≤ j) → byteAt w′ j ≡ byteAt w j
+
+pub only-refl : (a b : ℕ) (w : List ℕ) → Only a b w w
+only-refl a b w = record { size = refl; bytes = λ j o. refl }
+
+pub only-trans : {a b : ℕ} {w w′ w″ : List ℕ} → Only a b w w′ → Only a b w′ w″ → Only a b w w″
+only-trans s t = record { size = t .size ∙ s .size; bytes = λ j o. t .bytes j o ∙ s .bytes j o }
+
+pub only-wide : {a b c d : ℕ} {w w′ : List ℕ} → Only a b w w′ → c ≤ a → b ≤ d → Only c d w w′
+only-wide {a} {b} {c} {d} s l h =
+    record { size = s .size; bytes = λ j o. s .bytes j (⊎-elim (λ p. inl (omega arith)) (λ p. inr (omega arith)) o) }
+
+-- ONE STORE
+pub only-word : (a b : ℕ) (w : List ℕ) (i v : ℕ) → a ≤ i → i + 4 ≤ b → Only a b w (putWord w i v)
+only-word a b w i v l h =
+    record {
+      size = put-word-length w i v;
+      bytes = λ j o. put-word-byte w i v j (⊎-elim (λ p. inl (omega arith)) (λ p. inr (omega arith)) o);
+    }
+
+pub only-half : (a b : ℕ) (w : List ℕ) (i v : ℕ) → a ≤ i → i + 2 ≤ b → Only a b w (putHalf w i v)
+only-half a b w i v l h =
+    record {
+      size = put-half-length w i v;
+      bytes = λ j o. put-half-byte w i v j (⊎-elim (λ p. inl (omega arith)) (λ p. inr (omega arith)) o);
+    }
+
+pub only-byte : (a b : ℕ) (w : List ℕ) (i v : ℕ) → a ≤ i → i < b → Only a b w (set w i v)
+only-byte a b w i v l h =
+    record {
+      size = length-set w i v;
+      bytes = λ j o. getD-set-other w i j v 0 (λ e. ⊎-elim (λ p. omega arith) (λ p. omega arith) o);
+    }
+
+-- MANY STORES
+pub only-fill : (a b : ℕ) (w : List ℕ) (i n v : ℕ) → a ≤ i → i + n * 4 ≤ b → Only a b w (fill w i n v)
+unfolding fill
+only-fill a b w i zero v l h = only-refl a b w
+only-fill a b w i (suc n) v l h =
+    only-trans (only-word a b w i v l (omega arith)) (only-fill a b (putWord w i v) (i + 4) n v (omega arith) (omega arith))
+
+fill-before : (w : List ℕ) (i n v j : ℕ) → j + 4 ≤ i → wordAt (fill w i n v) j ≡ wordAt w j
+fill-before w i n v j l =
+    word-kept 0 i w (fill w i n v) (λ k _ h. only-fill i (i + n * 4) w i n v (omega arith) (omega arith) .bytes k (inl h)) j (omega arith) l
+
+pub fill-word :
+    (w : List ℕ) (i n v j : ℕ) → i + n * 4 ≤ length w → v < 4294967296 → j < n → wordAt (fill w i n v) (i + j * 4) ≡ v
+unfolding fill
+fill-word w i zero v j l b h = absurd (omega arith)
+fill-word w i (suc n) v zero l b h =
+    let e : i + 0 * 4 ≡ i = omega arith in
+    rw e (fill-before (putWord w i v) (i + 4) n v i (omega arith) ∙ word-put w i v (omega arith) b)
+fill-word w i (suc n) v (suc j) l b h =
+    let e : i + suc j * 4 ≡ i + 4 + j * 4 = omega arith in
+    rw e (fill-word (putWord w i v) (i + 4) n v j (omega (arith, put-word-length w i v)) b (omega arith))
+
+small-rest : (k : ℕ) (ks : List ℕ) → SmallCells (k ∷ ks) → SmallCells ks
+unfolding any
+small-rest k ks s j t = s j (or-right (eqb j k) (any (eqb j) ks) t)
+
+small-first : (k : ℕ) (ks : List ℕ) → SmallCells (k ∷ ks) → k < heap-fields
+unfolding any
+small-first k ks s = s k (or-left (eqb k k) (any (eqb k) ks) (eqb-refl k))
+
+pub only-marked : (w : List ℕ) (ks : List ℕ) (v : ℕ) → SmallCells ks → Only holders-at seconds-at w (marked w ks v)
+unfolding marked
+only-marked w [] v s = only-refl holders-at seconds-at w
+only-marked w (k ∷ ks) v s =
+    let l : k < heap-fields = small-first k ks s in
+    only-trans (only-word holders-at seconds-at w (holders-at + k * 4) v (omega arith) (omega arith))
+    (only-marked (putWord w (holders-at + k * 4) v) ks v (small-rest k ks s))
+
+-- WHAT STAYS
+pub only-kept : {a b : ℕ} {w w′ : List ℕ} → Only a b w w′ → (c d : ℕ) → (d ≤ a) ⊎ (b ≤ c) → Kept c d w w′
+only-kept s c d o i l h = s .bytes i (⊎-elim (λ p. inl (omega arith)) (λ p. inr (omega arith)) o)
+
+pub only-tables : {a b : ℕ} {w w′ : List ℕ} → Only a b w w′ → names-at ≤ a → SameTables w w′
+only-tables s l = record { size = s .size; bytes = only-kept s 0 names-at (inl l) }
+
+module _ (a b : ℕ) (w w′ : List ℕ) (s : Only a b w w′) where
+  pub variable-kept : (i x : ℕ) → (i + 60 ≤ a) ⊎ (b ≤ i) → x < frame-variables → variableAt w′ i x ≡ variableAt w i x
+  unfolding variableAt
+  variable-kept i x o l = word-kept i (i + 60) w w′ (only-kept s i (i + 60) o) (i + x * 4) (omega arith) (omega arith)
+
+  pub saved-holder-kept : (i : ℕ) → (frameAt i + 72 ≤ a) ⊎ (b ≤ frameAt i) → savedHolder w′ i ≡ savedHolder w i
+  unfolding savedHolder
+  saved-holder-kept i o =
+      word-kept (frameAt i) (frameAt i + 72) w w′ (only-kept s (frameAt i) (frameAt i + 72) o) (frameAt i + 60) (omega arith) (omega arith)
+
+  pub saved-row-kept : (i : ℕ) → (frameAt i + 72 ≤ a) ⊎ (b ≤ frameAt i) → savedRow w′ i ≡ savedRow w i
+  unfolding savedRow
+  saved-row-kept i o =
+      half-kept (frameAt i) (frameAt i + 72) w w′ (only-kept s (frameAt i) (frameAt i + 72) o) (frameAt i + 64) (omega arith) (omega arith)
+
+  pub method-kept : (i : ℕ) → (frameAt i + 72 ≤ a) ⊎ (b ≤ frameAt i) → methodOf w′ i ≡ methodOf w i
+  unfolding methodOf
+  method-kept i o = only-kept s (frameAt i) (frameAt i + 72) o (frameAt i + 66) (omega arith) (omega arith)
+
+  pub value-kept : (holders-at ≤ a) ⊎ (b ≤ values-at) → (k : ℕ) → k < heap-fields → cellValue w′ k ≡ cellValue w k
+  unfolding cellValue
+  value-kept o k l =
+      word-kept values-at holders-at w w′ (only-kept s values-at holders-at o) (values-at + k * 4) (omega arith) (omega arith)
+
+  pub holder-kept : (seconds-at ≤ a) ⊎ (b ≤ holders-at) → (k : ℕ) → k < heap-fields → cellHolder w′ k ≡ cellHolder w k
+  unfolding cellHolder
+  holder-kept o k l =
+      word-kept holders-at seconds-at w w′ (only-kept s holders-at seconds-at o) (holders-at + k * 4) (omega arith) (omega arith)
+
+  pub class-in-kept : (frames-at ≤ a) ⊎ (b ≤ objects-at) → (i : ℕ) → i < heap-objects → classIn w′ i ≡ classIn w i
+  unfolding classIn
+  class-in-kept o i l = only-kept s objects-at frames-at o (objects-at + i * 4) (omega arith) (omega arith)
+
+  pub first-in-kept : (frames-at ≤ a) ⊎ (b ≤ objects-at) → (i : ℕ) → i < heap-objects → firstIn w′ i ≡ firstIn w i
+  unfolding firstIn
+  first-in-kept o i l =
+      half-kept objects-at frames-at w w′ (only-kept s objects-at frames-at o) (objects-at + i * 4 + 2) (omega arith) (omega arith)
+
+-- WHAT IS MARKED
+pub apart : (k j : ℕ) → (k ≡ j → ⊥) → (k < j) ⊎ (j < k)
+apart zero zero d = absurd (d refl)
+apart zero (suc j) d = inl (omega arith)
+apart (suc k) zero d = inr (omega arith)
+apart (suc k) (suc j) d = ⊎-elim (λ l. inl (omega arith)) (λ l. inr (omega arith)) (apart k j (λ e. d (ap suc e)))
+
+put-holder :
+    (w : List ℕ) (j v k : ℕ) → length w ≡ work-bytes → v < 4294967296 → j < heap-fields → k < heap-fields →
+    cellHolder (putWord w (holders-at + j * 4) v) k ≡ cond (eqb k j) v (cellHolder w k)
+unfolding cellHolder
+put-holder w j v k n b l h = go (eqb k j) refl
+  where
+    go : (t : Bool) → eqb k j ≡ t → wordAt (putWord w (holders-at + j * 4) v) (holders-at + k * 4) ≡ cond t v (wordAt w (holders-at + k * 4))
+    go true e =
+        let q : k ≡ j = eqb-true k j e in
+        rw q (word-put w (holders-at + j * 4) v (omega (arith, n)) b)
+    go false e =
+        let d : k ≡ j → ⊥ = eqb-false k j e in
+        word-kept (holders-at + k * 4) (holders-at + k * 4 + 4) w (putWord w (holders-at + j * 4) v)
+        (only-kept (only-word (holders-at + j * 4) (holders-at + j * 4 + 4) w (holders-at + j * 4) v (omega arith) (omega arith))
+        (holders-at + k * 4) (holders-at + k * 4 + 4) (⊎-elim (λ p. inl (omega arith)) (λ p. inr (omega arith)) (apart k j d)))
+        (holders-at + k * 4) (omega arith) (omega arith)
+
+pub marked-holder :
+    (w : List ℕ) (ks : List ℕ) (v k : ℕ) → length w ≡ work-bytes → v < 4294967296 → SmallCells ks → k < heap-fields →
+    cellHolder (marked w ks v) k ≡ cond (any (eqb k) ks) v (cellHolder w k)
+unfolding marked any
+marked-holder w [] v k n b s h = refl
+marked-holder w (j ∷ ks) v k n b s h =
+    marked-holder (putWord w (holders-at + j * 4) v) ks v k (put-word-length w _ v ∙ n) b (small-rest j ks s) h
+    ∙ rw (put-holder w j v k n b (small-first j ks s) h) (go (eqb k j) (any (eqb k) ks) (cellHolder w k))
+  where
+    go : (s t : Bool) (c : ℕ) → cond t v (cond s v c) ≡ cond (s || t) v c
+    go true true c = refl
+    go true false c = refl
+    go false true c = refl
+    go false false c = refl

@@ -1,0 +1,273 @@
+// The machine's stores in the work area: values, holders, objects, frames; a location found, tested and read.
+use rules::Machine;
+use tables::Expr;
+use tables::Layout;
+ghost use mathlib.Core.Path.{_≡_};
+ghost use Prim.Native.Nat.{suc, _+_, _*_, _-_, _≤_, _<_};
+ghost use lib.ListN.{length};
+ghost use Rattle.rules.specs.Limits.{work-bytes, most-statements, most-methods, most-classes, most-frames, heap-objects, heap-fields};
+ghost use Rattle.tables.specs.Layout.{most-names, frame-variables};
+ghost use Rattle.tables.specs.Decode.{leftAt, rightAt, atomCount};
+ghost use Rattle.tables.specs.Tables.{SideFits};
+ghost use Rattle.tables.specs.Stores.{meaning};
+ghost use Rattle.run_heap.specs.Views.{frame-holder, variableAt, savedHolder, savedRow, methodOf, prepared, made, cellValue, cellHolder, classIn, firstIn, cellOf, present, foundOf, found, heldCell, spot, readIn, PlainIs, fill, spotIs, readIs, Readable, viewOf};
+
+// Whose variables are read, where the heap ends, and who holds.
+pub struct View {
+    pub base: usize,
+    pub objects: usize,
+    pub holder: u32,
+}
+
+// A frame's variables: `this`, w, 12 locals, `result`.
+pub const VARIABLES: usize = 15;
+
+// The number of `result`, and where its value stands in a frame.
+pub const RESULT: usize = 14;
+
+pub const RESULT_AT: usize = 56;
+
+// Where a frame keeps the number by which it holds, its row and its method.
+const HOLDER_AT: usize = 60;
+
+const ROW_AT: usize = 64;
+
+const METHOD_AT: usize = 66;
+
+// Why a step is not done.
+pub enum Fault {
+    HeapFull,
+    FramesFull,
+    Permission,
+    Null,
+    False,
+}
+
+// The cell of a location.
+pub enum Spot {
+    At(usize),
+    Lacking(Fault),
+}
+
+// The value of an expression.
+pub enum Read {
+    Got(u32),
+    Lacking(Fault),
+}
+
+// A variable of the frame at b.
+pub fn variable(work: &[u8], b: usize, x: usize) -> u32
+    requires { ⌜ (b + frame-holder ≤ length (now work)) × (x < frame-variables) ⌝ }
+    ensures { λ r. ⌜ r ≡ variableAt (now (work .entry)) b x ⌝ }
+{
+    tables::word_at(work, b + x * 4)
+}
+
+fn cell_value(work: &[u8], k: usize) -> u32
+    requires { ⌜ (length (now work) ≡ work-bytes) × (k < heap-fields) ⌝ }
+    ensures { λ r. ⌜ r ≡ cellValue (now (work .entry)) k ⌝ }
+{
+    tables::word_at(work, Layout::VALUES + k * 4)
+}
+
+fn cell_holder(work: &[u8], k: usize) -> u32
+    requires { ⌜ (length (now work) ≡ work-bytes) × (k < heap-fields) ⌝ }
+    ensures { λ r. ⌜ r ≡ cellHolder (now (work .entry)) k ⌝ }
+{
+    tables::word_at(work, Layout::HOLDERS + k * 4)
+}
+
+// The class of object i + 1.
+fn class_of(work: &[u8], i: usize) -> usize
+    requires { ⌜ (length (now work) ≡ work-bytes) × (i < heap-objects) ⌝ }
+    ensures { λ r. ⌜ r ≡ classIn (now (work .entry)) i ⌝ }
+{
+    tables::byte_at(work, Layout::OBJECTS + i * Layout::OBJECT_BYTES)
+}
+
+// Its first cell.
+fn first_of(work: &[u8], i: usize) -> usize
+    requires { ⌜ (length (now work) ≡ work-bytes) × (i < heap-objects) ⌝ }
+    ensures { λ r. ⌜ (r ≡ firstIn (now (work .entry)) i) × (r < 65536) ⌝ }
+{
+    tables::half_at(work, Layout::OBJECTS + i * Layout::OBJECT_BYTES + 2)
+}
+
+// The cell of the field named f of object i + 1.
+fn cell_at(work: &[u8], v: View, i: usize, f: usize) -> Spot
+    requires { ⌜ Readable (now work) v × ((i < v .objects) × (f < most-names)) ⌝ }
+    ensures { λ r. ⌜ spotIs r ≡ present (cellOf (now (work .entry)) (v .objects) (suc i) f) ⌝ }
+{
+    let c = class_of(work, i);
+    let p = tables::place_at(work, c, f);
+    if p == 255 {
+        return Spot::Lacking(Fault::Permission);
+    }
+    let k = first_of(work, i) + p;
+    Spot::At(k)
+}
+
+// The cell of a field of the object o.
+fn cell_of(work: &[u8], v: View, o: u32, f: usize) -> Spot
+    requires { ⌜ Readable (now work) v × (f < most-names) ⌝ }
+    ensures { λ r. ⌜ spotIs r ≡ foundOf (now (work .entry)) (v .objects) o f ⌝ }
+{
+    if o == 0 {
+        return Spot::Lacking(Fault::Null);
+    }
+    let i = (o - 1) as usize;
+    if v.objects <= i {
+        return Spot::Lacking(Fault::Permission);
+    }
+    cell_at(work, v, i, f)
+}
+
+// The cell of `x.f`, whoever holds it.
+pub fn find(work: &[u8], v: View, x: usize, f: usize) -> Spot
+    requires { ⌜ Readable (now work) v × ((x < frame-variables) × (f < most-names)) ⌝ }
+    ensures { λ r. ⌜ spotIs r ≡ found (now (work .entry)) v x f ⌝ }
+{
+    let o = variable(work, v.base, x);
+    cell_of(work, v, o, f)
+}
+
+// The cell, if h holds it.
+fn held_cell(work: &[u8], h: u32, k: usize) -> Spot
+    requires { ⌜ (length (now work) ≡ work-bytes) × (k < heap-fields) ⌝ }
+    ensures { λ r. ⌜ spotIs r ≡ heldCell (now (work .entry)) h k ⌝ }
+{
+    let n = cell_holder(work, k);
+    if n == h {
+        return Spot::At(k);
+    }
+    Spot::Lacking(Fault::Permission)
+}
+
+// The cell of `x.f`, which the view's number must hold: "of a null is 25, of a location not in A .. 24".
+pub fn locate(work: &[u8], v: View, x: usize, f: usize) -> Spot
+    requires { ⌜ Readable (now work) v × ((x < frame-variables) × (f < most-names)) ⌝ }
+    ensures { λ r. ⌜ spotIs r ≡ spot (now (work .entry)) v x f ⌝ }
+{
+    match find(work, v, x, f) {
+        Spot::At(k) => held_cell(work, v.holder, k),
+        Spot::Lacking(s) => Spot::Lacking(s),
+    }
+}
+
+// The value of an expression that is no path.
+fn plain(work: &[u8], v: View, e: Expr) -> u32
+    requires { ⌜ Readable (now work) v × SideFits (meaning e) ⌝ }
+    ensures { λ r. ⌜ PlainIs (now (work .entry)) v e r ⌝ }
+{
+    match e {
+        Expr::Num(n) => n,
+        Expr::Null => 0,
+        Expr::Var(x) => variable(work, v.base, x),
+        Expr::Path(_, _) => 0,
+    }
+}
+
+// "reading a path needs its location in A"
+fn value(work: &[u8], v: View, e: Expr) -> Read
+    requires { ⌜ Readable (now work) v × SideFits (meaning e) ⌝ }
+    ensures { λ r. ⌜ readIs r ≡ readIn (now (work .entry)) v (meaning e) ⌝ }
+{
+    let Expr::Path(x, f) = e else {
+        return Read::Got(plain(work, v, e));
+    };
+    match locate(work, v, x, f) {
+        Spot::At(k) => Read::Got(cell_value(work, k)),
+        Spot::Lacking(s) => Read::Lacking(s),
+    }
+}
+
+pub fn left(work: &[u8], v: View, a: usize) -> Read
+    requires { ⌜ Readable (now work) v × (a < atomCount (now work)) ⌝ }
+    ensures { λ r. ⌜ readIs r ≡ readIn (now (work .entry)) v (leftAt (now (work .entry)) a) ⌝ }
+{
+    value(work, v, tables::left_at(work, a))
+}
+
+pub fn right(work: &[u8], v: View, a: usize) -> Read
+    requires { ⌜ Readable (now work) v × (a < atomCount (now work)) ⌝ }
+    ensures { λ r. ⌜ readIs r ≡ readIn (now (work .entry)) v (rightAt (now (work .entry)) a) ⌝ }
+{
+    value(work, v, tables::right_at(work, a))
+}
+
+// n words v from i on.
+pub fn fill_words(work: &mut [u8], at: usize, n: usize, v: u32)
+    requires { ⌜ at + n * 4 ≤ length (now work) ⌝ }
+    ensures { λ _. ⌜ now (work .exit) ≡ fill (now (work .entry)) at n v ⌝ }
+{
+    let mut i = 0;
+    while i < n {
+        tables::put_word(work, at + i * 4, v);
+        i += 1;
+    }
+}
+
+// The view of the running frame.
+pub fn view_of(c: Machine) -> View
+    requires { ⌜ (1 ≤ c .frames) × (c .frames ≤ most-frames) ⌝ }
+    ensures { λ r. ⌜ r ≡ viewOf c ⌝ }
+{
+    let i = c.frames - 1;
+    View {
+        base: Layout::FRAMES + i as usize * Layout::FRAME_BYTES,
+        objects: c.objects as usize,
+        holder: c.holder,
+    }
+}
+
+pub fn saved_holder(work: &[u8], i: usize) -> u32
+    requires { ⌜ (length (now work) ≡ work-bytes) × (i < most-frames) ⌝ }
+    ensures { λ r. ⌜ r ≡ savedHolder (now (work .entry)) i ⌝ }
+{
+    tables::word_at(work, Layout::FRAMES + i * Layout::FRAME_BYTES + HOLDER_AT)
+}
+
+pub fn saved_row(work: &[u8], i: usize) -> usize
+    requires { ⌜ (length (now work) ≡ work-bytes) × (i < most-frames) ⌝ }
+    ensures { λ r. ⌜ (r ≡ savedRow (now (work .entry)) i) × (r < 65536) ⌝ }
+{
+    tables::half_at(work, Layout::FRAMES + i * Layout::FRAME_BYTES + ROW_AT)
+}
+
+pub fn method_of(work: &[u8], i: usize) -> usize
+    requires { ⌜ (length (now work) ≡ work-bytes) × (i < most-frames) ⌝ }
+    ensures { λ r. ⌜ r ≡ methodOf (now (work .entry)) i ⌝ }
+{
+    tables::byte_at(work, Layout::FRAMES + i * Layout::FRAME_BYTES + METHOD_AT)
+}
+
+// The place of the next frame, and what the running one must keep.
+pub fn prepare(work: &mut [u8], c: Machine, m: usize, o: u32, p: u32)
+    requires { ⌜ (length (now work) ≡ work-bytes) × (((1 ≤ c .frames) × (c .frames ≤ most-frames)) × ((c .row < most-statements) × (m < most-methods))) ⌝ }
+    ensures { λ _. ⌜ now (work .exit) ≡ prepared (now (work .entry)) c m o p ⌝ }
+{
+    let i = (c.frames - 1) as usize;
+    let j = c.frames as usize;
+    let a = Layout::FRAMES + i * Layout::FRAME_BYTES;
+    let b = Layout::FRAMES + j * Layout::FRAME_BYTES;
+    fill_words(work, b, VARIABLES, 0);
+    tables::put_word(work, b, o);
+    tables::put_word(work, b + 4, p);
+    tables::put_word(work, a + HOLDER_AT, c.holder);
+    tables::put_half(work, a + ROW_AT, c.row as usize);
+    tables::put_byte(work, b + METHOD_AT, m);
+}
+
+// Object number `objects` + 1, of a class with n fields, which are the running frame's.
+pub fn make_object(work: &mut [u8], c: Machine, class: usize, n: usize)
+    requires { ⌜ (length (now work) ≡ work-bytes) × (((c .objects < heap-objects) × (c .fields + n ≤ heap-fields)) × (class < most-classes)) ⌝ }
+    ensures { λ _. ⌜ now (work .exit) ≡ made (now (work .entry)) (c .objects) (c .fields) n class (c .holder) ⌝ }
+{
+    let i = c.objects as usize;
+    let k = c.fields as usize;
+    let at = Layout::OBJECTS + i * Layout::OBJECT_BYTES;
+    tables::put_byte(work, at, class);
+    tables::put_half(work, at + 2, k);
+    fill_words(work, Layout::VALUES + k * 4, n, 0);
+    fill_words(work, Layout::HOLDERS + k * 4, n, c.holder);
+}

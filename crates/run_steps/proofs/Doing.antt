@@ -1,0 +1,191 @@
+-- What the code of a step shows at its returns, from what it read and put.
+use mathlib.Core.Path.{_≡_, refl, sym, ap, _∙_, subst}
+use mathlib.Core.Bool.{true, false}
+use mathlib.Core.List.{List, []}
+use mathlib.Core.Logic.{inl, inr}
+use Prim.Native.Nat.{ℕ, _+_, _*_, _-_, _≤_, _<_}
+use native.Mathlib.Omega.{arith}
+use lib.ListN.{length}
+use Rattle.rules.specs.Limits.{heap-fields, most-statements, most-frames}
+use Rattle.rules.specs.Base.{ok, no}
+use Rattle.rules.specs.Syntax.{var, result-variable}
+use Rattle.rules.specs.Machine.{Config, Step, took, on, elseStep, setStep, assignStep, ifStep, assertStep, releaseStep}
+use Rattle.rules.specs.declared.Machine.{Machine}
+use Rattle.tables.specs.Layout.{frame-variables, values-at, holders-at, frames-at, most-names}
+use Rattle.tables.specs.Decode.{allRows, byteAt, atomPlace, relOf, xAt, yAt, memberAt, targetAt, firstAtomAt, atomCountAt, atomsFrom, atomCount, operandsAt, formulaAt, leftAt, rightAt}
+use Rattle.tables.specs.Tables.{SideFits, declaredIn, OperandsFit}
+use Rattle.tables.specs.Stores.{SameTables, putWord}
+use Rattle.tables.proofs.Bytes.{same-refl}
+use Rattle.run_heap.specs.declared.View.{View}
+use Rattle.run_heap.specs.declared.Fault.{Fault}
+use Rattle.run_steps.specs.declared.Turn.{Turn}
+use Rattle.run_heap.specs.Views.{frameAt, variableAt, spot, readIn, viewOf, stopOf, Readable}
+use Rattle.run_footprint.specs.Footprints.{testIn, takeIn, marked, SmallCells}
+use Rattle.run_steps.specs.States.{Represents, Follows, Does, Ready, NotEnd, AtKind, stepped}
+use Rattle.run_heap.proofs.Reading.{spot-small}
+use Rattle.run_steps.proofs.Seeing.{ok-footprint}
+use Rattle.run_footprint.proofs.Regions.{only-word, only-tables, only-marked}
+use Rattle.run_steps.proofs.Moves as Moves
+use Rattle.run_steps.proofs.Steps as Steps
+
+-- THE TWO ANSWERS
+pub does-on :
+    {w w′ w″ : List ℕ} {c d d′ : Machine} {f : Config → Step} → w′ ≡ w″ → d ≡ d′ → SameTables w w″ →
+    ((m : Config) → Represents w c m → Follows w″ c (Turn.On d′) m (f m)) → Does w c w′ (Turn.On d) f
+does-on {w} {w′} {w″} {c} {d} {d′} {f} e q t h =
+    record {
+      tables = subst (SameTables w) (sym e) t;
+      follows = λ m R. subst (λ u. Follows u c (Turn.On d) m (f m)) (sym e) (subst (λ g. Follows w″ c (Turn.On g) m (f m)) (sym q) (h m R));
+    }
+
+pub does-stop :
+    {w : List ℕ} {c : Machine} {f : Config → Step} (s : Fault) → ((m : Config) → Represents w c m → Follows w c (Turn.Stopped s) m (f m)) →
+    Does w c w (Turn.Stopped s) f
+does-stop {w} s h = record { tables = same-refl w; follows = h }
+
+module _ {w : List ℕ} {c : Machine} (ready : Ready w c) where
+  -- WHAT A READY MACHINE HAS
+  pub fits : OperandsFit (declaredIn w) (atomCount w) (operandsAt w (c .row))
+  fits = Moves.row-fits (ready .represents) .operands
+
+  pub frames-fit : (1 ≤ c .frames) × (c .frames ≤ most-frames)
+  frames-fit = (omega (arith, ready .represents .frames), ready .represents .most)
+
+  pub size : length w ≡ 65536
+  size = ready .represents .tables .size
+
+  pub row-small : c .row < most-statements
+  row-small = omega (arith, ready .represents .frame .row-fits, ready .represents .tables .rows)
+
+  pub view-readable : {v : View} → v ≡ viewOf c → Readable w v
+  view-readable e = subst (Readable w) (sym e) (Moves.readable (ready .represents))
+
+  pub base-fits : {v : View} → v ≡ viewOf c → v .base + 60 ≤ 65536
+  base-fits e = view-readable e .base
+
+  frame-words : (x : ℕ) → x < frame-variables → (n : ℕ) → SameTables w (putWord w (frameAt (c .frames - 1) + x * 4) n)
+  frame-words x l n =
+      only-tables (only-word frames-at (frames-at + 8192) w (frameAt (c .frames - 1) + x * 4) n (omega arith) (omega (arith, frames-fit .1)))
+      (omega arith)
+
+  -- FORMULAS
+  module _ (v : View) (a n : ℕ) (ev : v ≡ viewOf c) (ea : a ≡ firstAtomAt w (c .row)) (en : n ≡ atomCountAt w (c .row)) where
+    pub row-takes : takeIn w v (atomsFrom w a n) [] ≡ takeIn w (viewOf c) (formulaAt w (c .row)) []
+    row-takes = rw (ev, ea, en)
+
+    pub row-atoms : (a + n ≤ atomCount w) × (n ≤ 8)
+    row-atoms = (omega (arith, fits .atoms .1), omega (arith, fits .atoms .0))
+
+  pub assert-does :
+      (ks : List ℕ) {d : Machine} → NotEnd w c → takeIn w (viewOf c) (formulaAt w (c .row)) [] ≡ ok ks → d ≡ stepped c (c .row + 1) →
+      Does w c w (Turn.On d) (λ m. took (assertStep (formulaAt w (c .row)) m))
+  assert-does ks n e q = does-on refl q (same-refl w) (λ m R. Moves.assert-on R _ ks (Moves.row-formula-ok R) n e)
+
+  pub assert-stops :
+      (s : Fault) → takeIn w (viewOf c) (formulaAt w (c .row)) [] ≡ no (stopOf s) →
+      Does w c w (Turn.Stopped s) (λ m. took (assertStep (formulaAt w (c .row)) m))
+  assert-stops s e = does-stop s (λ m R. Moves.assert-stop R _ s (Moves.row-formula-ok R) e)
+
+  -- the cells that a formula took
+  pub taken-small : (ks : List ℕ) → takeIn w (viewOf c) (formulaAt w (c .row)) [] ≡ ok ks → SmallCells ks
+  taken-small ks e =
+      let R = ready .represents in
+      let (A, a, M) = ok-footprint (Moves.sees R) _ ks (Moves.row-formula-ok R) e in
+      M .small
+
+  pub release-does :
+      (ks : List ℕ) {w′ : List ℕ} {d : Machine} → NotEnd w c → takeIn w (viewOf c) (formulaAt w (c .row)) [] ≡ ok ks → w′ ≡ marked w ks 0 →
+      d ≡ stepped c (c .row + 1) → Does w c w′ (Turn.On d) (λ m. took (releaseStep (formulaAt w (c .row)) m))
+  release-does ks n e p q =
+      does-on p q (only-tables (only-marked w ks 0 (taken-small ks e)) (omega arith))
+      (λ m R. Steps.release-on R _ ks (Moves.row-formula-ok R) n e)
+
+  pub release-stops :
+      (s : Fault) → takeIn w (viewOf c) (formulaAt w (c .row)) [] ≡ no (stopOf s) →
+      Does w c w (Turn.Stopped s) (λ m. took (releaseStep (formulaAt w (c .row)) m))
+  release-stops s e = does-stop s (λ m R. Steps.release-stop R _ s (Moves.row-formula-ok R) e)
+
+  -- BRANCHES
+  pub else-does :
+      {d : Machine} → AtKind w c 16 → d ≡ stepped c (targetAt w (c .row)) →
+      Does w c w (Turn.On d) (λ m. on (elseStep (allRows w) m))
+  else-does k q = does-on refl q (same-refl w) (λ m R. Moves.else-on R k)
+
+  pub if-atom : AtKind w c 15 → firstAtomAt w (c .row) < atomCount w
+  if-atom k = omega (arith, fits .atoms .1, fits .one-atom (inr k))
+
+  module _ (k : AtKind w c 15) (v : View) (a : ℕ) (ev : v ≡ viewOf c) (ea : a ≡ firstAtomAt w (c .row)) where
+    pub if-holds :
+        {d : Machine} → testIn w v a ≡ ok true → d ≡ stepped c (c .row + 1) →
+        Does w c w (Turn.On d)
+        (λ m. took (ifStep (allRows w) (relOf (byteAt w (atomPlace (firstAtomAt w (c .row))))) (leftAt w (firstAtomAt w (c .row))) (rightAt w (firstAtomAt w (c .row))) m))
+    if-holds e q = does-on refl q (same-refl w) (λ m R. Moves.if-true R (firstAtomAt w (c .row)) (if-atom k) k (rw (← ev, ← ea) e))
+
+    pub if-fails :
+        {d : Machine} → testIn w v a ≡ ok false → d ≡ stepped c (targetAt w (c .row)) →
+        Does w c w (Turn.On d)
+        (λ m. took (ifStep (allRows w) (relOf (byteAt w (atomPlace (firstAtomAt w (c .row))))) (leftAt w (firstAtomAt w (c .row))) (rightAt w (firstAtomAt w (c .row))) m))
+    if-fails e q = does-on refl q (same-refl w) (λ m R. Moves.if-false R (firstAtomAt w (c .row)) (if-atom k) k (rw (← ev, ← ea) e))
+
+    pub if-stops :
+        (s : Fault) → testIn w v a ≡ no (stopOf s) →
+        Does w c w (Turn.Stopped s)
+        (λ m. took (ifStep (allRows w) (relOf (byteAt w (atomPlace (firstAtomAt w (c .row))))) (leftAt w (firstAtomAt w (c .row))) (rightAt w (firstAtomAt w (c .row))) m))
+    if-stops s e = does-stop s (λ m R. Moves.if-stop R (firstAtomAt w (c .row)) (if-atom k) s (rw (← ev, ← ea) e))
+
+  -- VARIABLES
+  pub let-atom : AtKind w c 9 → firstAtomAt w (c .row) < atomCount w
+  let-atom k = omega (arith, fits .atoms .1, fits .one-atom (inl k))
+
+  module _ (k : AtKind w c 9) (v : View) (a : ℕ) (ev : v ≡ viewOf c) (ea : a ≡ firstAtomAt w (c .row)) where
+    pub let-does :
+        (x n : ℕ) {w′ : List ℕ} {d : Machine} → x ≡ xAt w (c .row) → n < 4294967296 → readIn w v (rightAt w a) ≡ ok n →
+        w′ ≡ putWord w (v .base + x * 4) n → d ≡ stepped c (c .row + 1) →
+        Does w c w′ (Turn.On d) (λ m. took (assignStep (xAt w (c .row)) (rightAt w (firstAtomAt w (c .row))) m))
+    let-does x n ex ln e p q =
+        does-on (p ∙ rw (ev, ex)) q (frame-words (xAt w (c .row)) (fits .x) n)
+        (λ m R.
+        Steps.assign-on R (xAt w (c .row)) (rightAt w (firstAtomAt w (c .row))) n (fits .x) ln
+        (R .tables .atom-fits _ (let-atom k) .right) (λ z. omega (arith, z, k)) (rw (← ev, ← ea) e))
+
+    pub let-stops :
+        (s : Fault) → readIn w v (rightAt w a) ≡ no (stopOf s) →
+        Does w c w (Turn.Stopped s) (λ m. took (assignStep (xAt w (c .row)) (rightAt w (firstAtomAt w (c .row))) m))
+    let-stops s e =
+        does-stop s
+        (λ m R. Steps.assign-stop R (xAt w (c .row)) _ s (R .tables .atom-fits _ (let-atom k) .right) (rw (← ev, ← ea) e))
+
+  pub return-does :
+      (v : View) (x n : ℕ) {w′ : List ℕ} {d : Machine} → AtKind w c 12 → v ≡ viewOf c → x ≡ xAt w (c .row) → n < 4294967296 →
+      n ≡ variableAt w (v .base) x → w′ ≡ putWord w (v .base + 56) n → d ≡ stepped c (c .row + 1) →
+      Does w c w′ (Turn.On d) (λ m. took (assignStep result-variable (var (xAt w (c .row))) m))
+  unfolding readIn SideFits
+  return-does v x n k ev ex ln e p q =
+      does-on (p ∙ rw ev) q (frame-words result-variable (omega arith) n)
+      (λ m R.
+      Steps.assign-on R result-variable (var (xAt w (c .row))) n (omega arith) ln (fits .x) (λ z. omega (arith, z, k))
+      (ap ok (sym (e ∙ rw (ev, ex)))))
+
+  -- `set`
+  module _ (k : AtKind w c 8) (v : View) (x f : ℕ) (ev : v ≡ viewOf c) (ex : x ≡ xAt w (c .row)) (ef : f ≡ memberAt w (c .row)) where
+    pub set-operands : (x < frame-variables) × (f < most-names)
+    set-operands = (omega (arith, fits .x), omega (arith, fits .field k))
+
+    pub set-small : (j : ℕ) → spot w v x f ≡ ok j → j < heap-fields
+    set-small j e = spot-small x f (view-readable ev) e
+
+    pub set-does :
+        (j y n : ℕ) {w′ : List ℕ} {d : Machine} → spot w v x f ≡ ok j → y ≡ yAt w (c .row) → n < 4294967296 →
+        n ≡ variableAt w (v .base) y → w′ ≡ putWord w (values-at + j * 4) n → d ≡ stepped c (c .row + 1) →
+        Does w c w′ (Turn.On d) (λ m. took (setStep (xAt w (c .row)) (memberAt w (c .row)) (yAt w (c .row)) m))
+    set-does j y n e ey ln en p q =
+        let l : j < heap-fields = set-small j e in
+        does-on p q (only-tables (only-word values-at holders-at w (values-at + j * 4) n (omega arith) (omega arith)) (omega arith))
+        (λ m R.
+        Steps.set-on R (xAt w (c .row)) (memberAt w (c .row)) (yAt w (c .row)) j n (fits .x) (fits .y) ln (λ z. omega (arith, z, k))
+        (en ∙ rw (ev, ey)) (rw (← ev, ← ex, ← ef) e) l)
+
+    pub set-stops :
+        (s : Fault) → spot w v x f ≡ no (stopOf s) →
+        Does w c w (Turn.Stopped s) (λ m. took (setStep (xAt w (c .row)) (memberAt w (c .row)) (yAt w (c .row)) m))
+    set-stops s e = does-stop s (λ m R. Steps.set-stop R (xAt w (c .row)) _ _ s (fits .x) (rw (← ev, ← ex, ← ef) e))

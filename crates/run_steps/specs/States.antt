@@ -1,0 +1,117 @@
+-- Which state of the definitions the stores and the counters stand for, and what a step of the code does.
+use mathlib.Core.Path.{_≡_}
+use mathlib.Core.List.{List, [], _∷_}
+use mathlib.Core.Logic.{_⊎_}
+use mathlib.Core.Option.{some}
+use Prim.Native.Nat.{ℕ, suc, _+_, _*_, _≤_, _<_}
+use lib.Dec.{T, eqb}
+use lib.ListN.{length}
+use Rattle.rules.specs.Limits.{heap-objects, heap-fields, most-frames}
+use Rattle.rules.specs.Base.{any}
+use Rattle.rules.specs.Machine.{Heap, Frame, Location, Config, Step, fieldsOf, valueAt, object, valueOf, holds, on, stop, done}
+use Rattle.rules.specs.declared.Machine.{Machine}
+use Rattle.tables.specs.Layout.{frame-variables}
+use Rattle.tables.specs.Decode.{rowCount, kindAt, methodCount, ensuresAt, fieldCountAt}
+use Rattle.tables.specs.Tables.{Tables}
+use Rattle.tables.specs.Stores.{SameTables}
+use Rattle.run_steps.specs.declared.Turn.{Turn}
+use Rattle.run_heap.specs.Views.{frameAt, variableAt, savedHolder, savedRow, methodOf, cellValue, cellHolder, classIn, firstIn, cellOf, holderOf, ObjectFits, stopOf}
+
+-- so many objects with so many fields stand for the heap; no cell is held by a number above `holders`
+pub record HeapIs (w : List ℕ) (objects fields holders : ℕ) (h : Heap) : Type 0 where
+  pub count : length h ≡ objects
+  pub fields-count : fieldsOf h ≡ fields
+  pub most-objects : objects ≤ heap-objects
+  pub most-fields : fields ≤ heap-fields
+  pub fit : (i : ℕ) → i < objects → ObjectFits w fields i
+  pub apart : (i j : ℕ) → i < j → j < objects → firstIn w i + fieldCountAt w (classIn w i) ≤ firstIn w j
+  pub value : (o f k : ℕ) → cellOf w objects o f ≡ some k → valueAt h o f ≡ cellValue w k
+  pub has : (o f k : ℕ) → cellOf w objects o f ≡ some k → T (any (λ c. eqb (c .name) f) (object h o))
+  pub marks : (k : ℕ) → k < fields → cellHolder w k ≤ holders
+
+-- the frame at b, which holds by a number and does a row next
+pub record FrameIs (w : List ℕ) (objects b number row : ℕ) (F : Frame) : Type 0 where
+  pub size : length (F .values) ≡ frame-variables
+  pub values : (x : ℕ) → x < frame-variables → valueOf F x ≡ variableAt w b x
+  pub row-is : F .row ≡ row
+  pub row-fits : row < rowCount w
+  pub held : (p : Location) → holds F p ≡ eqb (holderOf w objects p) number
+  pub numbered : 1 ≤ number
+
+-- the formula that the `end` of frame n tests; main has none
+abbrev pub EnsuresIs : List ℕ → ℕ → Frame → Type 0
+EnsuresIs w n F = (n ≡ 0) ⊎ ((methodOf w n < methodCount w) × (F .ensures ≡ ensuresAt w (methodOf w n)))
+
+-- frame n has called; its number is below that of the frame it called
+pub record CallerIs (w : List ℕ) (objects n bound : ℕ) (F : Frame) : Type 0 where
+  pub frame : FrameIs w objects (frameAt n) (savedHolder w n) (savedRow w n) F
+  pub below : savedHolder w n < bound
+  pub at-call : kindAt w (savedRow w n) ≡ 11
+  pub ensures : EnsuresIs w n F
+
+unfoldable pub CallersAre : List ℕ → ℕ → ℕ → List Frame → Type 0
+CallersAre w objects bound [] = Unit {0}
+CallersAre w objects bound (F ∷ Fs) =
+    CallerIs w objects (length Fs) bound F × CallersAre w objects (savedHolder w (length Fs)) Fs
+
+-- A number is given out at each call, and a call's frame is in use or has ended: so the numbers fit 32 bits.
+pub record Represents (w : List ℕ) (c : Machine) (m : Config) : Type 0 where
+  pub tables : Tables w
+  pub heap : HeapIs w (c .objects) (c .fields) (c .holders) (m .heap)
+  pub frames : c .frames ≡ suc (length (m .callers))
+  pub most : c .frames ≤ most-frames
+  pub frame : FrameIs w (c .objects) (frameAt (length (m .callers))) (c .holder) (c .row) (m .frame)
+  pub ensures : EnsuresIs w (length (m .callers)) (m .frame)
+  pub callers : CallersAre w (c .objects) (c .holder) (m .callers)
+  pub last : c .holder ≤ c .holders
+  pub given : 2 * c .holders ≤ c .steps + c .frames + 1
+
+-- STEPS
+
+-- the state m, in which the definition does s, is left as the code's answer says
+pub record Goes (w : List ℕ) (c d : Machine) (s : Step) : Type 0 where
+  pub next : Config
+  pub is-next : s ≡ on next
+  pub represents : Represents w d next
+  pub counted : d .steps ≡ c .steps + 1
+
+abbrev pub Follows : List ℕ → Machine → Turn → Config → Step → Type 0
+Follows w c (Turn.On d) m s = Goes w c d s
+Follows w c (Turn.Stopped f) m s = (s ≡ stop (stopOf f)) × Represents w c m
+Follows w c Turn.Done m s = (s ≡ done) × Represents w c m
+
+-- a step by the code from w and c, which leaves w′ and answers r, is the definition's in every state that w and c stand for
+pub record Does (w : List ℕ) (c : Machine) (w′ : List ℕ) (r : Turn) (f : Config → Step) : Type 0 where
+  pub tables : SameTables w w′
+  pub follows : (m : Config) → Represents w c m → Follows w′ c r m (f m)
+
+-- at a row, after so many steps
+abbrev pub atRow : Machine → ℕ → ℕ → Machine
+atRow c row steps =
+    record {
+      objects = c .objects;
+      fields = c .fields;
+      frames = c .frames;
+      row = row;
+      holder = c .holder;
+      holders = c .holders;
+      steps = steps;
+    }
+
+-- one step more, on to a row
+abbrev pub stepped : Machine → ℕ → Machine
+stepped c row = atRow c row (c .steps + 1)
+
+-- a state is represented, and a further step can be counted
+pub record Ready (w : List ℕ) (c : Machine) : Type 0 where
+  pub state : Config
+  pub represents : Represents w c state
+  pub more : c .steps < 4294967295
+
+-- the row is no `end`
+abbrev pub NotEnd : List ℕ → Machine → Type 0
+NotEnd w c = kindAt w (c .row) ≡ 18 → ⊥
+
+-- the row is of this kind
+abbrev pub AtKind : List ℕ → Machine → ℕ → Type 0
+AtKind w c k = kindAt w (c .row) ≡ k

@@ -1,0 +1,158 @@
+// Which state the stores stand for; the steps that stay in their frame.
+use rules::Machine;
+use run_footprint::Cells;
+use run_footprint::Took;
+use run_footprint::Truth;
+use run_heap::Fault;
+use run_heap::Read;
+use run_heap::Spot;
+use tables::Layout;
+ghost use mathlib.Core.Path.{_≡_};
+ghost use mathlib.Core.List.{[]};
+ghost use Prim.Native.Nat.{_+_, _*_, _<_};
+ghost use lib.ListN.{length};
+ghost use Rattle.tables.specs.Decode.{allRows, leftAt, rightAt, relOf, byteAt, atomPlace, xAt, yAt, memberAt, firstAtomAt, formulaAt};
+ghost use Rattle.rules.specs.Machine.{took, on, elseStep, setStep, assignStep, ifStep, assertStep, releaseStep};
+ghost use Rattle.rules.specs.Syntax.{var, result-variable};
+ghost use Rattle.run_steps.specs.States.{Ready, NotEnd, AtKind, Does, stepped};
+ghost use Rattle.run_heap.specs.Views.{viewOf};
+ghost use Rattle.run_footprint.specs.Footprints.{takeIn, footprint-cells, TookUpTo};
+
+// What became of a step: on to the next, not done, or main's `end` done.
+pub enum Turn {
+    On(Machine),
+    Stopped(Fault),
+    Done,
+}
+
+// One step more, on to a row.
+fn next(c: Machine, row: u32) -> Machine
+    requires { ⌜ c .steps < 4294967295 ⌝ }
+    ensures { λ r. ⌜ r ≡ stepped c row ⌝ }
+{
+    Machine {
+        objects: c.objects,
+        fields: c.fields,
+        frames: c.frames,
+        row: row,
+        holder: c.holder,
+        holders: c.holders,
+        steps: c.steps + 1,
+    }
+}
+
+// What the formula of the row takes.
+fn row_footprint(work: &[u8], c: Machine, cells: &mut Cells) -> Took
+    requires { ⌜ Ready (now work) c × (length (now cells) ≡ footprint-cells) ⌝ }
+    ensures { λ r. ⌜ TookUpTo r (now (cells .exit)) footprint-cells (takeIn (now (work .entry)) (viewOf c) (formulaAt (now (work .entry)) (c .row)) []) ⌝ }
+{
+    let row = c.row as usize;
+    let v = run_heap::view_of(c);
+    let first = tables::first_atom_at(work, row);
+    let n = tables::atom_count_at(work, row);
+    run_footprint::footprint(work, v, first, n, cells)
+}
+
+// `assert` and `join`.
+pub fn assert_step(work: &[u8], c: Machine) -> Turn
+    requires { ⌜ Ready (now work) c × NotEnd (now work) c ⌝ }
+    ensures { λ r. ⌜ Does (now (work .entry)) c (now (work .entry)) r (λ m. took (assertStep (formulaAt (now (work .entry)) (c .row)) m)) ⌝ }
+{
+    let mut cells = [0usize; run_footprint::CELLS];
+    match row_footprint(work, c, &mut cells) {
+        Took::Cells(_) => Turn::On(next(c, c.row + 1)),
+        Took::Lacking(s) => Turn::Stopped(s),
+    }
+}
+
+// `release`.
+pub fn release_step(work: &mut [u8], c: Machine) -> Turn
+    requires { ⌜ Ready (now work) c × NotEnd (now work) c ⌝ }
+    ensures { λ r. ⌜ Does (now (work .entry)) c (now (work .exit)) r (λ m. took (releaseStep (formulaAt (now (work .entry)) (c .row)) m)) ⌝ }
+{
+    let mut cells = [0usize; run_footprint::CELLS];
+    match row_footprint(work, c, &mut cells) {
+        Took::Cells(n) => {
+            run_footprint::mark(work, &cells, n, 0);
+            Turn::On(next(c, c.row + 1))
+        }
+        Took::Lacking(s) => Turn::Stopped(s),
+    }
+}
+
+// `if`: "a false `if` goes to the line after its `else`".
+pub fn if_step(work: &[u8], c: Machine) -> Turn
+    requires { ⌜ Ready (now work) c × AtKind (now work) c 15 ⌝ }
+    ensures { λ r. ⌜ Does (now (work .entry)) c (now (work .entry)) r (λ m. took (ifStep (allRows (now (work .entry))) (relOf (byteAt (now (work .entry)) (atomPlace (firstAtomAt (now (work .entry)) (c .row))))) (leftAt (now (work .entry)) (firstAtomAt (now (work .entry)) (c .row))) (rightAt (now (work .entry)) (firstAtomAt (now (work .entry)) (c .row))) m)) ⌝ }
+{
+    let row = c.row as usize;
+    let a = tables::first_atom_at(work, row);
+    match run_footprint::condition(work, run_heap::view_of(c), a) {
+        Truth::Holds => Turn::On(next(c, c.row + 1)),
+        Truth::Fails => Turn::On(next(c, tables::target_at(work, row) as u32)),
+        Truth::Lacking(s) => Turn::Stopped(s),
+    }
+}
+
+// `else`: "on to its `join`".
+pub fn else_step(work: &[u8], c: Machine) -> Turn
+    requires { ⌜ Ready (now work) c × AtKind (now work) c 16 ⌝ }
+    ensures { λ r. ⌜ Does (now (work .entry)) c (now (work .entry)) r (λ m. on (elseStep (allRows (now (work .entry))) m)) ⌝ }
+{
+    let row = c.row as usize;
+    Turn::On(next(c, tables::target_at(work, row) as u32))
+}
+
+// `let`.
+pub fn let_step(work: &mut [u8], c: Machine) -> Turn
+    requires { ⌜ Ready (now work) c × AtKind (now work) c 9 ⌝ }
+    ensures { λ r. ⌜ Does (now (work .entry)) c (now (work .exit)) r (λ m. took (assignStep (xAt (now (work .entry)) (c .row)) (rightAt (now (work .entry)) (firstAtomAt (now (work .entry)) (c .row))) m)) ⌝ }
+{
+    let row = c.row as usize;
+    let v = run_heap::view_of(c);
+    let b = v.base;
+    let a = tables::first_atom_at(work, row);
+    match run_heap::right(work, v, a) {
+        Read::Got(n) => {
+            let x = tables::x_at(work, row);
+            tables::put_word(work, b + x * 4, n);
+            Turn::On(next(c, c.row + 1))
+        }
+        Read::Lacking(s) => Turn::Stopped(s),
+    }
+}
+
+// `return`: "does this for `result`; the body goes on".
+pub fn return_step(work: &mut [u8], c: Machine) -> Turn
+    requires { ⌜ Ready (now work) c × AtKind (now work) c 12 ⌝ }
+    ensures { λ r. ⌜ Does (now (work .entry)) c (now (work .exit)) r (λ m. took (assignStep result-variable (var (xAt (now (work .entry)) (c .row))) m)) ⌝ }
+{
+    let row = c.row as usize;
+    let v = run_heap::view_of(c);
+    let b = v.base;
+    let x = tables::x_at(work, row);
+    let n = run_heap::variable(work, b, x);
+    tables::put_word(work, b + run_heap::RESULT_AT, n);
+    Turn::On(next(c, c.row + 1))
+}
+
+// `set`: "first tests `acc x f`".
+pub fn set_step(work: &mut [u8], c: Machine) -> Turn
+    requires { ⌜ Ready (now work) c × AtKind (now work) c 8 ⌝ }
+    ensures { λ r. ⌜ Does (now (work .entry)) c (now (work .exit)) r (λ m. took (setStep (xAt (now (work .entry)) (c .row)) (memberAt (now (work .entry)) (c .row)) (yAt (now (work .entry)) (c .row)) m)) ⌝ }
+{
+    let row = c.row as usize;
+    let v = run_heap::view_of(c);
+    let b = v.base;
+    let x = tables::x_at(work, row);
+    let f = tables::member_at(work, row);
+    match run_heap::locate(work, v, x, f) {
+        Spot::At(k) => {
+            let y = tables::y_at(work, row);
+            let n = run_heap::variable(work, b, y);
+            tables::put_word(work, Layout::VALUES + k * 4, n);
+            Turn::On(next(c, c.row + 1))
+        }
+        Spot::Lacking(s) => Turn::Stopped(s),
+    }
+}

@@ -1,4 +1,0 @@
-pub mod Cells
-pub mod Reading
-pub mod Regions
-pub mod Sieves

@@ -1,0 +1,61 @@
+-- What a formula of a line becomes: the row of `assert`, `release` or `join`; the requires or ensures of a method.
+use mathlib.Core.Path.{_≡_}
+use mathlib.Core.Bool.{Bool, true, cond, _||_}
+use mathlib.Core.List.{List}
+use Prim.Native.Nat.{ℕ, suc, _+_, _-_}
+use lib.Dec.{eqb}
+use lib.ListN.{length}
+use Rattle.rules.specs.Limits.{work-bytes}
+use Rattle.rules.specs.Syntax.{Formula, Stmt, simple, assert, release, join}
+use Rattle.rules.specs.Items.{Item, aStatement}
+use Rattle.tables.specs.Layout.{names-at}
+use Rattle.tables.specs.Decode.{atomsFrom}
+use Rattle.tables.specs.Stores.{Kept}
+use Rattle.read_scopes.specs.declared.Names.{Names}
+use Rattle.rules.specs.Syntax.{Program}
+use Rattle.rules.specs.Reading.{withItem}
+use Rattle.tables.specs.declared.Operands.{Operands}
+use Rattle.tables.specs.Tables.{Declared}
+use Rattle.write_rows.specs.Holds.{Holds}
+use Rattle.resolve_atoms.specs.declared.Put.{Put}
+use Rattle.resolve_atoms.specs.Written.{formulaAfter, fitsAfter, Unfit}
+
+-- by the number of the kind: 13 `assert`, 14 `release`, 17 `join`
+unfoldable pub isClaim : ℕ → Bool
+isClaim k = eqb k 13 || (eqb k 14 || eqb k 17)
+
+unfoldable pub claimOf : ℕ → Formula ℕ → Stmt
+claimOf k φ = cond (eqb k 13) (simple (assert φ)) (cond (eqb k 14) (simple (release φ)) (join φ))
+
+-- its row, with the atoms from n up to m
+abbrev pub claimRow : ℕ → ℕ → ℕ → ℕ → Operands
+claimRow k n m l = record { kind = k; x = 0; y = 0; z = 0; member = 0; atoms = m - n; first = n; line = l }
+
+-- The formula after r is written as the atoms from n up to m, and the statement with it as the row i.
+pub record ClaimPut (t w : List ℕ) (c : Names) (k r i n l : ℕ) (w′ : List ℕ) (m : ℕ) : Type 0 where
+  pub built :
+      (D : Declared) (F : Program) → length (F .rows) ≡ i → Holds D w F n →
+      Holds D w′ (withItem F l (aStatement (claimOf k (formulaAfter t w c r)))) m
+  pub count : m ≡ n + length (formulaAfter t w c r)
+  pub formula : (D : Declared) (F : Program) → Holds D w F n → atomsFrom w′ n (m - n) ≡ formulaAfter t w c r
+  pub names : Kept names-at work-bytes w w′
+  pub size : length w′ ≡ length w
+
+-- The formula after r is written as the atoms from n up to e, and is what `item` makes of it in the last method, m.
+pub record HeaderPut (item : Formula ℕ → Item) (t w : List ℕ) (c : Names) (r m n : ℕ) (w′ : List ℕ) (e : ℕ) : Type 0 where
+  pub built :
+      (D : Declared) (F : Program) (l : ℕ) → length (F .methods) ≡ suc m → Holds D w F n →
+      Holds D w′ (withItem F l (item (formulaAfter t w c r))) e
+  pub count : e ≡ n + length (formulaAfter t w c r)
+  pub formula : (D : Declared) (F : Program) → Holds D w F n → atomsFrom w′ n (e - n) ≡ formulaAfter t w c r
+  pub names : Kept names-at work-bytes w w′
+  pub size : length w′ ≡ length w
+
+-- It is written just if its atoms pass the tests of 6 and 7.
+unfoldable pub ClaimTried : (t w : List ℕ) (c : Names) (k r i n l : ℕ) (w′ : List ℕ) → Put → Type 0
+ClaimTried t w c k r i n l w′ (Put.Done m) = (fitsAfter t w c r ≡ true) × ClaimPut t w c k r i n l w′ m
+ClaimTried t w c k r i n l w′ Put.Bad = Unfit t w c r w′
+
+unfoldable pub HeaderTried : (item : Formula ℕ → Item) (t w : List ℕ) (c : Names) (r m n : ℕ) (w′ : List ℕ) → Put → Type 0
+HeaderTried item t w c r m n w′ (Put.Done e) = (fitsAfter t w c r ≡ true) × HeaderPut item t w c r m n w′ e
+HeaderTried item t w c r m n w′ Put.Bad = Unfit t w c r w′

@@ -1,0 +1,154 @@
+-- The row of a line without atoms, by the number of its kind.
+use mathlib.Core.Path.{_≡_, refl, sym, ap, subst, _∙_}
+use mathlib.Core.Bool.{Bool, true, false, _||_}
+use mathlib.Core.List.{List}
+use Prim.Native.Nat.{ℕ, _<_}
+use native.Mathlib.Omega.{arith}
+use lib.Dec.{eqb}
+use lib.ListN.{length, drop}
+use borrow.Author.Tests.{eqb-true}
+use Rattle.rules.specs.Base as Base
+use Rattle.rules.specs.Base.{Name}
+use Rattle.rules.specs.Limits.{most-statements}
+use Rattle.rules.specs.Grammar as Grammar
+use Rattle.rules.specs.Grammar.{form, isFormed}
+use Rattle.rules.specs.Scope.{Declarations, Variable, Scope}
+use Rattle.rules.specs.Items.{itemOf}
+use Rattle.read_words.specs.Words.{kindAt}
+use Rattle.read_fields.specs.Cuts.{more}
+use Rattle.read_grammar.specs.Rows.{kindNumbered}
+use Rattle.tables.specs.Decode.{byteAt}
+use Rattle.read_scopes.specs.declared.Names as Counts
+use Rattle.read_scopes.specs.Meanings.{Fits, declarationsIn, variablesIn}
+use Rattle.rules.specs.Syntax.{Program}
+use Rattle.rules.specs.Reading.{withItem}
+use Rattle.tables.specs.declared.Operands.{Operands}
+use Rattle.write_rows.specs.Puts.{putRow, RowBytes}
+use Rattle.tables.specs.Tables.{OperandsFit}
+use Rattle.write_rows.specs.Holds.{Holds}
+use Rattle.write_rows.proofs.Rows.{row-bytes, row-names, row-length}
+use Rattle.resolve_pass.specs.Passes.{counts, isGood}
+use Rattle.read_declarations.specs.Declares.{lineWith}
+use Rattle.write_plain.specs.declared.Tried.{Tried}
+use Rattle.write_plain.specs.Plain.{setRow, newRow, callRow, returnRow, plainRow, plainGood, RowTried, Ready, isPlain, PlainFollows, PlainPut, PlainTried}
+use Rattle.write_plain.proofs.Goods.{set-good, new-good, call-good, return-good, else-good, end-good}
+use Rattle.write_plain.proofs.Rows.{set-ok, new-ok, call-ok, return-ok, empty-ok, set-written, new-written, call-written, return-written, else-written, end-written}
+
+either : {A : Type 0} (k m : ℕ) (b : Bool) → (eqb k m || b) ≡ true → (k ≡ m → A) → (b ≡ true → A) → A
+either {A} k m b e f g = go (eqb k m) refl e
+  where
+    go : (q : Bool) → eqb k m ≡ q → (q || b) ≡ true → A
+    go true i h = f (eqb-true k m i)
+    go false i h = g h
+
+plain-kinds : (P : ℕ → Type 0) (k : ℕ) → isPlain k ≡ true → P 8 → P 10 → P 11 → P 12 → P 16 → P 18 → P k
+unfolding isPlain
+plain-kinds P k e a b c d f g =
+    either k 8 _ e (λ q. subst P (sym q) a)
+    (λ e. either k 10 _ e (λ q. subst P (sym q) b)
+    (λ e. either k 11 _ e (λ q. subst P (sym q) c)
+    (λ e. either k 12 _ e (λ q. subst P (sym q) d)
+    (λ e. either k 16 _ e (λ q. subst P (sym q) f) (λ e. subst P (sym (eqb-true k 18 e)) g)))))
+
+module _ (t w : List ℕ) (c : Counts.Names) (fits : Fits c) (l : ℕ) (ws : List Name) where
+  abbrev Γ : Declarations
+  Γ = declarationsIn t w c
+
+  abbrev vs : List Variable
+  vs = variablesIn t w c
+
+  abbrev rowOf : ℕ → Operands
+  rowOf k = plainRow Γ vs ws l k
+
+  abbrev GoodOf : ℕ → Type 0
+  GoodOf k = plainGood Γ vs ws k ≡ true
+
+  -- the tests of a line that has its form
+  pub plain-good :
+      (s : Scope) (k : ℕ) → isPlain k ≡ true → isFormed (form (kindNumbered k) .operands) (form (kindNumbered k) .tail) ws ≡ true →
+      isGood Γ vs s (lineWith (kindNumbered k) ws) ≡ plainGood Γ vs ws k
+  unfolding kindNumbered kindAt Base.withDefault Base.first Grammar.kindNumber Grammar.statementNumber plainGood
+  plain-good s k e =
+      plain-kinds
+      (λ k.
+      isFormed (form (kindNumbered k) .operands) (form (kindNumbered k) .tail) ws ≡ true →
+      isGood Γ vs s (lineWith (kindNumbered k) ws) ≡ plainGood Γ vs ws k)
+      k e
+      (set-good Γ vs s ws)
+      (new-good Γ vs s ws)
+      (call-good Γ vs s ws)
+      (return-good Γ vs s ws)
+      (else-good Γ vs s ws)
+      (end-good Γ vs s ws)
+
+  pub plain-bytes : (k : ℕ) → isPlain k ≡ true → l < 65536 → GoodOf k → RowBytes (rowOf k)
+  unfolding plainRow plainGood setRow newRow callRow returnRow
+  plain-bytes k e line =
+      let small : (r : Operands) → r .member < 256 → r .line < 65536 → OperandsFit (counts c) 0 r → RowBytes r =
+      λ r. row-bytes (counts c) 0 r (omega arith) in
+      plain-kinds (λ k. GoodOf k → RowBytes (rowOf k)) k e
+      (λ x. let o = set-ok t w c fits 0 l ws x in small (rowOf 8) (omega (arith, o .field refl)) line o)
+      (λ x. let o = new-ok t w c fits 0 l ws x in small (rowOf 10) (omega (arith, o .class refl, fits .classes)) line o)
+      (λ x. let o = call-ok t w c fits 0 l ws x in small (rowOf 11) (omega (arith, o .method refl, fits .methods)) line o)
+      (λ x. small (rowOf 12) (omega arith) line (return-ok t w c fits 0 l ws x))
+      (λ x. small (rowOf 16) (omega arith) line (empty-ok t w c fits 0 l 16 (omega arith, omega arith) (omega arith)))
+      (λ x. small (rowOf 18) (omega arith) line (empty-ok t w c fits 0 l 18 (omega arith, omega arith) (omega arith)))
+
+  plain-written :
+      (F : Program) (n : ℕ) → length (F .rows) < most-statements → Holds (counts c) w F n → (k : ℕ) → isPlain k ≡ true → GoodOf k →
+      Holds (counts c) (putRow w (length (F .rows)) (rowOf k))
+      (withItem F l (itemOf Γ vs (kindNumbered k) (lineWith (kindNumbered k) ws))) n
+  unfolding kindNumbered kindAt Base.withDefault Base.first Grammar.kindNumber Grammar.statementNumber plainRow plainGood
+  plain-written F n room h k e =
+      plain-kinds
+      (λ k.
+      GoodOf k →
+      Holds (counts c) (putRow w (length (F .rows)) (rowOf k))
+      (withItem F l (itemOf Γ vs (kindNumbered k) (lineWith (kindNumbered k) ws))) n)
+      k e
+      (set-written t w c fits n l F room h ws)
+      (new-written t w c fits n l F room h ws)
+      (call-written t w c fits n l F room h ws)
+      (return-written t w c fits n l F room h ws)
+      (λ x. else-written t w c fits n l F room h ws)
+      (λ x. end-written t w c fits n l F room h ws)
+
+-- THE ANSWER
+pub row-is : (b : Bool) (o p : Operands) (q : Tried) → q ≡ Tried.Row p → RowTried b o q → (b ≡ true) × (p ≡ o)
+unfolding RowTried
+row-is b o p q e h = subst (RowTried b o) e h
+
+pub row-none : (b : Bool) (o : Operands) (q : Tried) → q ≡ Tried.Bad → RowTried b o q → b ≡ false
+unfolding RowTried
+row-none b o q e h = subst (RowTried b o) e h
+
+module _ (t w : List ℕ) (c : Counts.Names) (k r i l : ℕ) (v : List ℕ) (ready : Ready w c) (x : PlainFollows t k r) where
+  abbrev fields : List Name
+  fields = more (drop r t)
+
+  plain-put :
+      i < most-statements → plainGood (declarationsIn t w c) (variablesIn t w c) fields k ≡ true →
+      v ≡ putRow w i (plainRow (declarationsIn t w c) (variablesIn t w c) fields l k) → PlainPut t w c k r i l v
+  plain-put room good e =
+      let o : Operands = plainRow (declarationsIn t w c) (variablesIn t w c) fields l k in
+      record {
+        built = λ F n j h.
+            subst
+            (λ z.
+            Holds (counts c) z
+            (withItem F l (itemOf (declarationsIn t w c) (variablesIn t w c) (kindNumbered k) (lineWith (kindNumbered k) fields))) n)
+            (sym (e ∙ ap (λ p. putRow w p o) (sym j)))
+            (plain-written t w c (ready .fits) l fields F n (omega (arith, j)) h k (x .kind) good);
+        names = λ p a d. ap (λ z. byteAt z p) e ∙ row-names w i o (ready .whole) room p a d;
+        size = ap length e ∙ row-length w i o (ready .whole) room;
+      }
+
+  pub plain-done :
+      i < most-statements → plainGood (declarationsIn t w c) (variablesIn t w c) fields k ≡ true →
+      v ≡ putRow w i (plainRow (declarationsIn t w c) (variablesIn t w c) fields l k) → PlainTried t w c k r i l v true
+  unfolding PlainTried
+  plain-done room good e = (λ s. plain-good t w c (ready .fits) l fields s k (x .kind) (x .formed) ∙ good, plain-put room good e)
+
+  pub plain-bad : plainGood (declarationsIn t w c) (variablesIn t w c) fields k ≡ false → v ≡ w → PlainTried t w c k r i l v false
+  unfolding PlainTried
+  plain-bad bad e = (λ s. plain-good t w c (ready .fits) l fields s k (x .kind) (x .formed) ∙ bad, e)

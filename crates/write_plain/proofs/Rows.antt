@@ -1,0 +1,185 @@
+-- A line without atoms that is good: its row fits, and means its statement.
+use mathlib.Core.Path.{_≡_, refl, sym, ap, _∙_}
+use mathlib.Core.Bool.{Bool, true, false, not, _&&_, _||_}
+use mathlib.Core.List.{List, []}
+use mathlib.Core.Logic.{⊎-elim}
+use Prim.Native.Nat.{ℕ, _+_, _<_}
+use native.Mathlib.Omega.{arith}
+use lib.ListN.{length, getD, drop}
+use lib.Seq.{getD-drop}
+use borrow.Author.Tests.{ltb-true, not-true}
+use Rattle.rules.specs.Base.{Name, any, eqName}
+use Rattle.rules.specs.Limits.{most-statements}
+use Rattle.rules.specs.Text.{reserved}
+use Rattle.rules.specs.Grammar.{Kind, IsStatementNumber, statement, Set, New, Call, Return, Else, End}
+use Rattle.rules.specs.Scope as Scopes
+use Rattle.rules.specs.Scope.{Declarations, Variable}
+use Rattle.rules.specs.Names as Names
+use Rattle.rules.specs.Names.{inScope, isLocal, isInt, knownField, knownMethod, isClass, isFieldOf, isMethodOf, variableType, variableNumber, fieldNumber, classNumber, methodNumber}
+use Rattle.rules.specs.Items as Items
+use Rattle.rules.specs.Items.{itemOf}
+use Rattle.read_bytes.proofs.Search.{both-true, true-false}
+use Rattle.read_fields.specs.Cuts.{more}
+use Rattle.read_scopes.specs.declared.Names as Counts
+use Rattle.read_names.specs.declared.Span.{Span}
+use Rattle.read_names.specs.Rows.{nameIn}
+use Rattle.read_scopes.specs.Meanings.{Fits, declarationsIn, variablesIn}
+use Rattle.read_lookups.proofs.LookUps.{class-any, method-any}
+use Rattle.tables.specs.Layout.{most-names, frame-variables}
+use Rattle.rules.specs.Syntax.{Program}
+use Rattle.rules.specs.Reading.{withItem}
+use Rattle.tables.specs.declared.Operands.{Operands}
+use Rattle.write_rows.specs.Puts.{putRow}
+use Rattle.write_rows.specs.Holds.{Holds}
+use Rattle.tables.specs.Tables.{OperandsFit}
+use Rattle.tables.proofs.Statements.{set-means, new-means, call-means, return-means, else-means, end-means}
+use Rattle.write_rows.proofs.Rows.{row-written}
+use Rattle.resolve_pass.specs.Passes.{counts}
+use Rattle.read_declarations.specs.Texts.{SpanAfter}
+use Rattle.read_declarations.specs.Declares.{lineWith}
+use Rattle.read_types.specs.Types.{good}
+use Rattle.resolve_atoms.proofs.Sides.{variable-small, field-small}
+use Rattle.write_plain.specs.Plain.{bare, setRow, newRow, callRow, returnRow, setGood, newGood, callApart, callKnown, callGood, returnGood}
+use Rattle.write_plain.proofs.Goods.{local-known}
+
+-- the fourth field of a line
+pub fourth :
+    {t : List ℕ} {r : ℕ} {a b c d : Span} → SpanAfter t r a → SpanAfter t (a .start + a .len) b → SpanAfter t (b .start + b .len) c →
+    SpanAfter t (c .start + c .len) d → nameIn t d ≡ getD (more (drop r t)) 3 []
+fourth {t} {r} x y z u =
+    u .name
+    ∙ (ap (λ ws. getD ws 0 []) (z .rest ∙ ap (drop 1) (y .rest ∙ ap (drop 1) (x .rest)))
+    ∙ (getD-drop 1 (drop 1 (drop 1 (more (drop r t)))) 0 []
+    ∙ (getD-drop 1 (drop 1 (more (drop r t))) 1 [] ∙ getD-drop 1 (more (drop r t)) 2 [])))
+
+module _ (t w : List ℕ) (c : Counts.Names) (fits : Fits c) (n l : ℕ) where
+  abbrev Γ : Declarations
+  Γ = declarationsIn t w c
+
+  abbrev vs : List Variable
+  vs = variablesIn t w c
+
+  -- a row of this kind without atoms
+  bare-ok :
+      (k x y z m : ℕ) → IsStatementNumber k → (k ≡ 9 → ⊥) → (k ≡ 15 → ⊥) → x < frame-variables → y < frame-variables → z < frame-variables →
+      (k ≡ 8 → m < most-names) → (k ≡ 10 → m < c .classes) → (k ≡ 11 → m < c .methods) → OperandsFit (counts c) n (bare k x y z m l)
+  bare-ok k x y z m is no-let no-if p q r f g h =
+      record {
+        kind = is;
+        x = p;
+        y = q;
+        z = r;
+        field = f;
+        class = g;
+        method = h;
+        atoms = (omega arith, omega arith);
+        one-atom = λ o. ⊎-elim (λ e. absurd (no-let e)) (λ e. absurd (no-if e)) o;
+      }
+
+  -- WHAT IS KNOWN
+  or-right : (a b : Bool) → a ≡ false → (a || b) ≡ true → b ≡ true
+  or-right true b e h = true-false e
+  or-right false b e h = h
+
+  field-known : (x f : Name) → knownField Γ vs x f ≡ true → not (isInt vs x) ≡ true → fieldNumber Γ f < most-names
+  unfolding knownField
+  field-known x f k i =
+      let a = both-true (not (reserved f)) (isInt vs x || any (isFieldOf Γ (variableType vs x) f) (Γ .fields)) k in
+      field-small t w c fits (variableType vs x) f (or-right (isInt vs x) _ (not-true _ i) (a .1))
+
+  method-known :
+      (y m : Name) → knownMethod Γ vs y m ≡ true → not (isInt vs y) ≡ true → methodNumber Γ (variableType vs y) m < c .methods
+  unfolding knownMethod
+  method-known y m k i =
+      let a = both-true (not (reserved m)) (isInt vs y || any (isMethodOf Γ (variableType vs y) m) (Γ .methods)) k in
+      let b = or-right (isInt vs y) (any (isMethodOf Γ (variableType vs y) m) (Γ .methods)) (not-true _ i) (a .1) in
+      ltb-true (methodNumber Γ (variableType vs y) m) (c .methods) (sym (method-any t w c (variableType vs y) m) ∙ b)
+
+  class-known : (C : Name) → isClass Γ C ≡ true → classNumber Γ C < c .classes
+  unfolding isClass
+  class-known C k =
+      let a = both-true (not (reserved C)) (any (eqName C) (Γ .classes)) k in
+      ltb-true (classNumber Γ C) (c .classes) (sym (class-any t w c C) ∙ a .1)
+
+  -- BY THE KIND OF THE LINE
+  pub set-ok : (ws : List Name) → setGood Γ vs ws ≡ true → OperandsFit (counts c) n (setRow Γ vs ws l)
+  unfolding setGood setRow good Names.knownExpr Names.ofClassIn
+  set-ok ws e =
+      let u : Name = getD ws 0 [] in
+      let v : Name = getD ws 1 [] in
+      let a = both-true ((inScope vs u && knownField Γ vs u v) && not (isInt vs u)) _ e in
+      let p = both-true (inScope vs u && knownField Γ vs u v) (not (isInt vs u)) (a .0) in
+      let b = both-true (inScope vs u) (knownField Γ vs u v) (p .0) in
+      let d = both-true (inScope vs (getD ws 2 [])) _ (a .1) in
+      bare-ok 8 _ _ _ _ (omega arith, omega arith) (λ e. omega arith) (λ e. omega arith) (variable-small t w c fits u (b .0))
+      (variable-small t w c fits (getD ws 2 []) (d .0)) (omega arith) (λ i. field-known u v (b .1) (p .1)) (λ i. absurd (omega arith)) (λ i. absurd (omega arith))
+
+  pub new-ok : (ws : List Name) → newGood Γ vs ws ≡ true → OperandsFit (counts c) n (newRow Γ vs ws l)
+  unfolding newGood newRow
+  new-ok ws e =
+      let a = both-true (isLocal (variableNumber vs (getD ws 0 []))) _ e in
+      let b = both-true (isClass Γ (getD ws 1 [])) _ (a .1) in
+      bare-ok 10 _ _ _ _ (omega arith, omega arith) (λ e. omega arith) (λ e. omega arith)
+      (variable-small t w c fits (getD ws 0 []) (local-known vs (getD ws 0 []) (a .0)))
+      (omega arith) (omega arith) (λ i. absurd (omega arith)) (λ i. class-known (getD ws 1 []) (b .0)) (λ i. absurd (omega arith))
+
+  pub return-ok : (ws : List Name) → returnGood Γ vs ws ≡ true → OperandsFit (counts c) n (returnRow Γ vs ws l)
+  unfolding returnGood returnRow
+  return-ok ws e =
+      let a = both-true (inScope vs (getD ws 0 [])) _ e in
+      bare-ok 12 _ _ _ _ (omega arith, omega arith) (λ e. omega arith) (λ e. omega arith) (variable-small t w c fits (getD ws 0 []) (a .0))
+      (omega arith) (omega arith) (λ i. absurd (omega arith)) (λ i. absurd (omega arith)) (λ i. absurd (omega arith))
+
+  pub call-ok : (ws : List Name) → callGood Γ vs ws ≡ true → OperandsFit (counts c) n (callRow Γ vs ws l)
+  unfolding callGood callApart callKnown callRow
+  call-ok ws e =
+      let g = both-true (callApart Γ vs ws) _ e in
+      let a = both-true (isLocal (variableNumber vs (getD ws 0 []))) _ (g .0) in
+      let b = both-true (inScope vs (getD ws 1 [])) _ (a .1) in
+      let d = both-true (inScope vs (getD ws 3 [])) _ (b .1) in
+      let k = both-true (callKnown Γ vs ws) _ (g .1) in
+      let m = both-true (not (isInt vs (getD ws 1 []))) _ (k .0) in
+      bare-ok 11 _ _ _ _ (omega arith, omega arith) (λ e. omega arith) (λ e. omega arith)
+      (variable-small t w c fits (getD ws 0 []) (local-known vs (getD ws 0 []) (a .0)))
+      (variable-small t w c fits (getD ws 1 []) (b .0)) (variable-small t w c fits (getD ws 3 []) (d .0)) (λ i. absurd (omega arith)) (λ i. absurd (omega arith))
+      (λ j. method-known (getD ws 1 []) (getD ws 2 []) (m .1) (m .0))
+
+  pub empty-ok : (k : ℕ) → IsStatementNumber k → 15 < k → OperandsFit (counts c) n (bare k 0 0 0 0 l)
+  empty-ok k h d =
+      bare-ok k 0 0 0 0 h (λ e. omega arith) (λ e. omega arith) (omega arith) (omega arith) (omega arith) (λ i. absurd (omega arith))
+      (λ i. absurd (omega arith)) (λ i. absurd (omega arith))
+
+  -- WHAT IS WRITTEN: the row of a good line is the line's item
+  module _ (F : Program) (room : length (F .rows) < most-statements) (h : Holds (counts c) w F n) where
+    -- the row r is written
+    abbrev Written : Operands → Kind → List Name → Type 0
+    Written r k ws = Holds (counts c) (putRow w (length (F .rows)) r) (withItem F l (itemOf Γ vs k (lineWith k ws))) n
+
+    pub set-written : (ws : List Name) → setGood Γ vs ws ≡ true → Written (setRow Γ vs ws l) (statement Set) ws
+    unfolding itemOf Items.resolveStatement Items.resolveSet Scopes.operand setRow
+    set-written ws x = row-written (counts c) w F n (setRow Γ vs ws l) _ room (set-ok ws x) (set-means w (setRow Γ vs ws l) refl) h
+
+    pub new-written : (ws : List Name) → newGood Γ vs ws ≡ true → Written (newRow Γ vs ws l) (statement New) ws
+    unfolding itemOf Items.resolveStatement Scopes.operand newRow
+    new-written ws x = row-written (counts c) w F n (newRow Γ vs ws l) _ room (new-ok ws x) (new-means w (newRow Γ vs ws l) refl) h
+
+    pub call-written : (ws : List Name) → callGood Γ vs ws ≡ true → Written (callRow Γ vs ws l) (statement Call) ws
+    unfolding itemOf Items.resolveStatement Items.resolveCall Scopes.operand callRow
+    call-written ws x = row-written (counts c) w F n (callRow Γ vs ws l) _ room (call-ok ws x) (call-means w (callRow Γ vs ws l) refl) h
+
+    pub return-written : (ws : List Name) → returnGood Γ vs ws ≡ true → Written (returnRow Γ vs ws l) (statement Return) ws
+    unfolding itemOf Items.resolveStatement Scopes.operand returnRow
+    return-written ws x =
+        row-written (counts c) w F n (returnRow Γ vs ws l) _ room (return-ok ws x) (return-means w (returnRow Γ vs ws l) refl) h
+
+    pub else-written : (ws : List Name) → Written (bare 16 0 0 0 0 l) (statement Else) ws
+    unfolding itemOf Items.resolveStatement
+    else-written ws =
+        row-written (counts c) w F n (bare 16 0 0 0 0 l) _ room (empty-ok 16 (omega arith, omega arith) (omega arith))
+        (else-means w (bare 16 0 0 0 0 l) refl) h
+
+    pub end-written : (ws : List Name) → Written (bare 18 0 0 0 0 l) (statement End) ws
+    unfolding itemOf Items.resolveStatement
+    end-written ws =
+        row-written (counts c) w F n (bare 18 0 0 0 0 l) _ room (empty-ok 18 (omega arith, omega arith) (omega arith))
+        (end-means w (bare 18 0 0 0 0 l) refl) h

@@ -1,0 +1,174 @@
+-- What the look-ups of a line say of its tests and of its row.
+use mathlib.Core.Path.{_≡_, sym, ap, subst, _∙_}
+use mathlib.Core.Bool.{Bool, true, false, not, _&&_, _||_}
+use mathlib.Core.List.{List, []}
+use Prim.Native.Nat.{ℕ, _+_}
+use lib.Dec.{eqb, ltb}
+use lib.ListN.{getD, drop}
+use Rattle.rules.specs.Base.{Name, bytes, is, eqName, any}
+use Rattle.rules.specs.Text.{reserved}
+use Rattle.rules.specs.Scope.{Declarations, Variable}
+use Rattle.rules.specs.Names.{isLocal, isInt, isClass, isMethodOf, knownMethod, classNumber, methodNumber, methodOfClass, noDeclaration, variableNumber, variableType}
+use Rattle.read_fields.specs.Cuts.{more}
+use Rattle.read_scopes.specs.declared.Names.{Names}
+use Rattle.read_names.specs.declared.Span.{Span}
+use Rattle.read_types.specs.declared.Member.{Member}
+use Rattle.read_names.specs.Rows.{nameIn}
+use Rattle.read_scopes.specs.Meanings.{declarationsIn, variablesIn}
+use Rattle.read_lookups.specs.LookUps.{Looked, typeOf}
+use Rattle.read_types.specs.Types.{MemberIs}
+use Rattle.read_lookups.proofs.LookUps.{class-any, method-any}
+use Rattle.tables.specs.declared.Operands.{Operands}
+use Rattle.read_declarations.specs.Texts.{SpanAfter}
+use Rattle.read_declarations.proofs.Lines.{second, third}
+use Rattle.write_plain.specs.declared.Tried.{Tried}
+use Rattle.write_plain.specs.Plain.{bare, setRow, newRow, callRow, returnRow, setGood, newGood, callApart, callKnown, callAgrees, callGood, returnGood, RowTried}
+use Rattle.write_plain.proofs.Rows.{fourth}
+
+pub row-as : (a b : Bool) (o p : Operands) (q : Tried) → a ≡ b → o ≡ p → RowTried a o q → RowTried b p q
+row-as a b o p q e f h = subst (λ z. RowTried z p q) e (subst (λ z. RowTried a z q) f h)
+
+and-assoc : (a b c : Bool) → (a && (b && c)) ≡ ((a && b) && c)
+and-assoc true b c = λ j. b && c
+and-assoc false b c = λ j. false
+
+-- a method of a class is none of int's
+no-int : (i r a : Bool) → (not i && (r && a)) ≡ (not i && (r && (i || a)))
+no-int true r a = λ j. false
+no-int false r a = λ j. r && a
+
+module _ (t w : List ℕ) (c : Names) (r l : ℕ) where
+  abbrev Γ : Declarations
+  Γ = declarationsIn t w c
+
+  abbrev vs : List Variable
+  vs = variablesIn t w c
+
+  abbrev ws : List Name
+  ws = more (drop r t)
+
+  -- the variable that is a field of the line
+  looked-as : {u v : Name} (x : ℕ) → u ≡ v → Looked t w vs u x → Looked t w vs v x
+  looked-as x e h = subst (λ u. Looked t w vs u x) e h
+
+  -- SET
+  pub set-tried :
+      {a b d : Span} {x f : Name} {m : Member} {y : ℕ} {g : Bool} {o : Operands} (q : Tried) → SpanAfter t r a →
+      SpanAfter t (a .start + a .len) b → SpanAfter t (b .start + b .len) d → x ≡ nameIn t a → f ≡ nameIn t b → MemberIs t Γ vs x f m →
+      Looked t w vs (nameIn t d) y →
+      g ≡ (m .good && (ltb y 15 && eqName (nameIn t (m .is)) (nameIn t (typeOf w y)))) → o ≡ bare 8 (m .variable) y 0 (m .number) l →
+      RowTried g o q → RowTried (setGood Γ vs ws) (setRow Γ vs ws l) q
+  unfolding setGood setRow
+  set-tried {a} {b} {d} {x} {f} {m} {y} {g} {o} q p p2 p3 X F i h e k n =
+      let M : MemberIs t Γ vs (getD ws 0 []) (getD ws 1 []) m =
+      subst (λ u. MemberIs t Γ vs u (getD ws 1 []) m) (X ∙ p .name) (subst (λ u. MemberIs t Γ vs x u m) (F ∙ second p p2) i) in
+      let Y : Looked t w vs (getD ws 2 []) y = looked-as y (third p p2 p3) h in
+      row-as g _ o _ q (e ∙ (λ j. M .good j && (sym (Y .known) j && eqName (M .is j) (sym (Y .type) j))))
+      (k ∙ (λ j. bare 8 (M .variable j) (Y .number j) 0 (M .number j) l)) n
+
+  -- NEW
+  pub new-tried :
+      {a b : Span} {D : Name} {x k : ℕ} {g : Bool} {o : Operands} (q : Tried) → SpanAfter t r a → SpanAfter t (a .start + a .len) b →
+      Looked t w vs (nameIn t a) x → D ≡ nameIn t b → k ≡ classNumber Γ D →
+      g ≡ (isLocal x && (not (reserved (nameIn t b)) && (ltb k (c .classes) && eqName (nameIn t (typeOf w x)) (nameIn t b)))) →
+      o ≡ bare 10 x 0 0 k l → RowTried g o q → RowTried (newGood Γ vs ws) (newRow Γ vs ws l) q
+  unfolding newGood newRow isClass
+  new-tried {a} {b} {D} {x} {k} {g} {o} q p p2 h d n e f i =
+      let X : Looked t w vs (getD ws 0 []) x = looked-as x (p .name) h in
+      let C : nameIn t b ≡ getD ws 1 [] = second p p2 in
+      let K : k ≡ classNumber Γ (getD ws 1 []) = n ∙ ap (classNumber Γ) (d ∙ C) in
+      let known : ltb k (c .classes) ≡ any (eqName (getD ws 1 [])) (Γ .classes) =
+      ap (λ z. ltb z (c .classes)) K ∙ sym (class-any t w c (getD ws 1 [])) in
+      row-as g _ o _ q
+      (e ∙ ((λ j. isLocal (X .number j) && (not (reserved (C j)) && (known j && eqName (sym (X .type) j) (C j))))
+      ∙ ap (λ z. isLocal (variableNumber vs (getD ws 0 [])) && z)
+      (and-assoc (not (reserved (getD ws 1 []))) (any (eqName (getD ws 1 [])) (Γ .classes)) (eqName (variableType vs (getD ws 0 [])) (getD ws 1 [])))))
+      (f ∙ (λ j. bare 10 (X .number j) 0 0 (K j) l)) i
+
+  -- CALL
+  module _ {a b d e : Span} {x y z : ℕ} (p : SpanAfter t r a) (p2 : SpanAfter t (a .start + a .len) b) (p3 : SpanAfter t (b .start + b .len) d)
+      (p4 : SpanAfter t (d .start + d .len) e) (hx : Looked t w vs (nameIn t a) x) (hy : Looked t w vs (nameIn t b) y)
+      (hz : Looked t w vs (nameIn t e) z) where
+    X : Looked t w vs (getD ws 0 []) x
+    X = looked-as x (p .name) hx
+
+    Y : Looked t w vs (getD ws 1 []) y
+    Y = looked-as y (second p p2) hy
+
+    Z : Looked t w vs (getD ws 3 []) z
+    Z = looked-as z (fourth p p2 p3 p4) hz
+
+    -- g and h are the answers of the code
+    pub call-apart :
+        {g h : Bool} → g ≡ (isLocal x && (ltb y 15 && (ltb z 15 && (not (eqb x y) && not (eqb x z))))) → g ≡ h → callApart Γ vs ws ≡ h
+    unfolding callApart
+    call-apart e f =
+        (λ j.
+        isLocal (sym (X .number) j)
+        && (Y .known j && (Z .known j && (not (eqb (sym (X .number) j) (sym (Y .number) j)) && not (eqb (sym (X .number) j) (sym (Z .number) j))))))
+        ∙ (sym e ∙ f)
+
+    -- the method
+    module _ {k : Span} {M : Name} {i : ℕ} (class : k ≡ typeOf w y) (m : M ≡ nameIn t d) (method : i ≡ methodNumber Γ (nameIn t k) M) where
+      class-is : nameIn t k ≡ variableType vs (getD ws 1 [])
+      class-is = ap (nameIn t) class ∙ sym (Y .type)
+
+      number-is : i ≡ methodNumber Γ (variableType vs (getD ws 1 [])) (getD ws 2 [])
+      number-is = method ∙ (λ j. methodNumber Γ (class-is j) ((m ∙ third p p2 p3) j))
+
+      pub call-known :
+          {g h : Bool} → g ≡ (not (is "int" (nameIn t k)) && (not (reserved (nameIn t d)) && ltb i (c .methods))) → g ≡ h → callKnown Γ vs ws ≡ h
+      unfolding callKnown isInt knownMethod
+      call-known e f =
+          let C : Name = variableType vs (getD ws 1 []) in
+          let known : ltb i (c .methods) ≡ any (isMethodOf Γ C (getD ws 2 [])) (Γ .methods) =
+          ap (λ z. ltb z (c .methods)) number-is ∙ sym (method-any t w c C (getD ws 2 [])) in
+          sym
+          ((λ j. not (is "int" (class-is j)) && (not (reserved (third p p2 p3 j)) && known j))
+          ∙ no-int (is "int" C) (not (reserved (getD ws 2 []))) (any (isMethodOf Γ C (getD ws 2 [])) (Γ .methods)))
+          ∙ (sym e ∙ f)
+
+      call-agrees :
+          (eqName (nameIn t (typeOf w x)) (getD (Γ .methods) i noDeclaration .result)
+          && eqName (nameIn t (typeOf w z)) (getD (Γ .methods) i noDeclaration .parameterType))
+          ≡ callAgrees Γ vs ws
+      unfolding callAgrees methodOfClass
+      call-agrees j =
+          eqName (sym (X .type) j) (getD (Γ .methods) (number-is j) noDeclaration .result)
+          && eqName (sym (Z .type) j) (getD (Γ .methods) (number-is j) noDeclaration .parameterType)
+
+      pub call-tried :
+          {g : Bool} {o : Operands} (q : Tried) → callApart Γ vs ws ≡ true → callKnown Γ vs ws ≡ true →
+          g ≡ (eqName (nameIn t (typeOf w x)) (getD (Γ .methods) i noDeclaration .result)
+          && eqName (nameIn t (typeOf w z)) (getD (Γ .methods) i noDeclaration .parameterType)) →
+          o ≡ bare 11 x y z i l → RowTried g o q → RowTried (callGood Γ vs ws) (callRow Γ vs ws l) q
+      unfolding callGood callRow
+      call-tried {g} {o} q u v e f h =
+          row-as g _ o _ q (e ∙ (call-agrees ∙ (λ j. sym u j && (sym v j && callAgrees Γ vs ws))))
+          (f ∙ (λ j. bare 11 (X .number j) (Y .number j) (Z .number j) (number-is j) l)) h
+
+  pub call-not-apart : callApart Γ vs ws ≡ false → callGood Γ vs ws ≡ false
+  unfolding callGood
+  call-not-apart e j = e j && (callKnown Γ vs ws && callAgrees Γ vs ws)
+
+  pub call-unknown : callApart Γ vs ws ≡ true → callKnown Γ vs ws ≡ false → callGood Γ vs ws ≡ false
+  unfolding callGood
+  call-unknown u e j = u j && (e j && callAgrees Γ vs ws)
+
+  -- RETURN
+  module _ {a : Span} {x : ℕ} (p : SpanAfter t r a) (h : Looked t w vs (nameIn t a) x) where
+    R : Looked t w vs (getD ws 0 []) x
+    R = looked-as x (p .name) h
+
+    pub return-unknown : ltb x 15 ≡ false → returnGood Γ vs ws ≡ false
+    unfolding returnGood
+    return-unknown e j = (R .known ∙ e) j && eqName (variableType vs (getD ws 0 [])) (variableType vs (bytes "result"))
+
+    pub return-tried :
+        {s : Span} (k : Span) {g : Bool} {o : Operands} (q : Tried) → ltb x 15 ≡ true → nameIn t k ≡ variableType vs (bytes "result") →
+        s ≡ typeOf w x → g ≡ eqName (nameIn t s) (nameIn t k) → o ≡ bare 12 x 0 0 0 l → RowTried g o q →
+        RowTried (returnGood Γ vs ws) (returnRow Γ vs ws l) q
+    unfolding returnGood returnRow
+    return-tried {s} k {g} {o} q u n z e f i =
+        row-as g _ o _ q (e ∙ (λ j. sym (R .known ∙ u) j && eqName ((ap (nameIn t) z ∙ sym (R .type)) j) (n j)))
+        (f ∙ (λ j. bare 12 (R .number j) 0 0 0 l)) i

@@ -1,0 +1,62 @@
+-- `plain::plain_row` meets its contract. Assumes nothing.
+use borrow.Author.Tests.{ne-eqb}
+use Rattle.write_plain.specs.Plain.{plainRow, plainGood}
+use borrow.Author.Needs.{needs}
+use Rattle.write_plain.proofs.plain_row.Statement.{statement}
+use Rattle.write_plain.proofs.plain_row.Tie as tie
+
+set-row-requires : tie.Need-set-row-requires
+set-row-requires c κs = search needs
+
+new-row-requires : tie.Need-new-row-requires
+new-row-requires c κs = search needs
+
+call-row-requires : tie.Need-call-row-requires
+call-row-requires c κs = search needs
+
+return-row-requires : tie.Need-return-row-requires
+return-row-requires c κs = search needs
+
+row-requires : tie.Need-row-requires
+row-requires c κs = search needs
+
+row-if-requires : tie.Need-row-if-requires
+row-if-requires c κs = search needs
+
+returns : tie.Need-returns
+unfolding plainRow plainGood
+returns c = rw (c .before .match .keys1) (c .set-row .ensures)
+
+returns-2 : tie.Need-returns-2
+unfolding plainRow plainGood
+returns-2 c = rw (c .before .match .keys2) (c .new-row .ensures)
+
+returns-3 : tie.Need-returns-3
+unfolding plainRow plainGood
+returns-3 c = rw (c .before .match .keys3) (c .call-row .ensures)
+
+returns-4 : tie.Need-returns-4
+unfolding plainRow plainGood
+returns-4 c = rw (c .before .match .keys4) (c .return-row .ensures)
+
+returns-5 : tie.Need-returns-5
+unfolding plainRow plainGood
+returns-5 c =
+    let r = c .before .before .match .rest in
+    rw (ne-eqb _ 8 (r .0 .0 .0 .1), ne-eqb _ 10 (r .0 .0 .1), ne-eqb _ 11 (r .0 .1), ne-eqb _ 12 (r .1), ← c .before .row .ensures) (c .row-if .ensures)
+
+pub plain-row-spec : {M : Type 1} → statement M
+plain-row-spec =
+    tie.close
+    (tie.spec
+    set-row-requires
+    new-row-requires
+    call-row-requires
+    return-row-requires
+    row-requires
+    row-if-requires
+    returns
+    returns-2
+    returns-3
+    returns-4
+    returns-5)

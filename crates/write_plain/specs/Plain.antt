@@ -1,0 +1,135 @@
+-- Rows of the statements that have no atoms: `set`, `new`, `call`, `return`, `else`, `end`.
+use mathlib.Core.Path.{_≡_}
+use mathlib.Core.Bool.{Bool, true, false, not, cond, _&&_, _||_}
+use mathlib.Core.List.{List, []}
+use Prim.Native.Nat.{ℕ, _≤_}
+use lib.Dec.{eqb}
+use lib.ListN.{length, getD, drop}
+use Rattle.rules.specs.Base.{Name, bytes, eqName}
+use Rattle.rules.specs.Limits.{work-bytes}
+use Rattle.rules.specs.Syntax.{path}
+use Rattle.rules.specs.Grammar.{form, isFormed}
+use Rattle.rules.specs.Scope.{MethodDeclaration, Declarations, Variable, Scope}
+use Rattle.rules.specs.Names.{isLocal, inScope, isInt, isClass, knownMethod, variableNumber, variableType, fieldNumber, fieldType, classNumber, methodNumber, methodOfClass}
+use Rattle.rules.specs.Items.{itemOf}
+use Rattle.read_fields.specs.Cuts.{more}
+use Rattle.read_grammar.specs.Rows.{kindNumbered}
+use Rattle.tables.specs.Layout.{names-at}
+use Rattle.tables.specs.Stores.{Kept}
+use Rattle.read_scopes.specs.declared.Names.{Names}
+use Rattle.read_scopes.specs.Meanings.{Fits, declarationsIn, variablesIn}
+use Rattle.read_types.specs.Types.{good}
+use Rattle.rules.specs.Syntax.{Program}
+use Rattle.rules.specs.Reading.{withItem}
+use Rattle.tables.specs.declared.Operands.{Operands}
+use Rattle.write_rows.specs.Holds.{Holds}
+use Rattle.resolve_pass.specs.Passes.{counts, lineAfter, isGood}
+use Rattle.write_plain.specs.declared.Tried.{Tried}
+
+-- a row without atoms, of this line
+abbrev pub bare : ℕ → ℕ → ℕ → ℕ → ℕ → ℕ → Operands
+bare k x y z m l = record { kind = k; x = x; y = y; z = z; member = m; atoms = 0; first = 0; line = l }
+
+module _ (Γ : Declarations) (vs : List Variable) (ws : List Name) (l : ℕ) where
+  unfoldable pub setRow : Operands
+  setRow = bare 8 (variableNumber vs (getD ws 0 [])) (variableNumber vs (getD ws 2 [])) 0 (fieldNumber Γ (getD ws 1 [])) l
+
+  unfoldable pub newRow : Operands
+  newRow = bare 10 (variableNumber vs (getD ws 0 [])) 0 0 (classNumber Γ (getD ws 1 [])) l
+
+  unfoldable pub callRow : Operands
+  callRow =
+      bare 11 (variableNumber vs (getD ws 0 [])) (variableNumber vs (getD ws 1 [])) (variableNumber vs (getD ws 3 []))
+      (methodNumber Γ (variableType vs (getD ws 1 [])) (getD ws 2 [])) l
+
+  unfoldable pub returnRow : Operands
+  returnRow = bare 12 (variableNumber vs (getD ws 0 [])) 0 0 0 l
+
+  -- by the number of its kind
+  unfoldable pub plainRow : ℕ → Operands
+  plainRow k =
+      cond (eqb k 8) setRow (cond (eqb k 10) newRow (cond (eqb k 11) callRow (cond (eqb k 12) returnRow (bare k 0 0 0 0 l))))
+
+-- THE TESTS OF NUMBERS 6, 7 AND 9, by kind, of a line of these fields that has its form
+
+module _ (Γ : Declarations) (vs : List Variable) (ws : List Name) where
+  -- x.f and y are known and of one type
+  unfoldable pub setGood : Bool
+  setGood =
+      let x : Name = getD ws 0 [] in
+      let f : Name = getD ws 1 [] in
+      let y : Name = getD ws 2 [] in
+      good Γ vs (path x f) && (inScope vs y && eqName (fieldType Γ (variableType vs x) f) (variableType vs y))
+
+  -- "the x of `new` is of class C"
+  unfoldable pub newGood : Bool
+  newGood =
+      let x : Name = getD ws 0 [] in
+      let C : Name = getD ws 1 [] in
+      isLocal (variableNumber vs x) && (isClass Γ C && eqName (variableType vs x) C)
+
+  -- y and z are known; "`call x` with x the same name as y or z" is refused
+  unfoldable pub callApart : Bool
+  callApart =
+      let x : ℕ = variableNumber vs (getD ws 0 []) in
+      let y : Name = getD ws 1 [] in
+      let z : Name = getD ws 3 [] in
+      isLocal x
+      && (inScope vs y && (inScope vs z && (not (eqb x (variableNumber vs y)) && not (eqb x (variableNumber vs z)))))
+
+  -- y is of a class that has the method m
+  unfoldable pub callKnown : Bool
+  callKnown = not (isInt vs (getD ws 1 [])) && knownMethod Γ vs (getD ws 1 []) (getD ws 2 [])
+
+  -- its result is of x's type, its parameter of z's
+  unfoldable pub callAgrees : Bool
+  callAgrees =
+      let m : MethodDeclaration = methodOfClass Γ (variableType vs (getD ws 1 [])) (getD ws 2 []) in
+      eqName (variableType vs (getD ws 0 [])) (m .result) && eqName (variableType vs (getD ws 3 [])) (m .parameterType)
+
+  unfoldable pub callGood : Bool
+  callGood = callApart && (callKnown && callAgrees)
+
+  -- x is of the type of `result`
+  unfoldable pub returnGood : Bool
+  returnGood =
+      let x : Name = getD ws 0 [] in
+      inScope vs x && eqName (variableType vs x) (variableType vs (bytes "result"))
+
+  -- by the number of its kind; `else` and `end` name nothing
+  unfoldable pub plainGood : ℕ → Bool
+  plainGood k = cond (eqb k 8) setGood (cond (eqb k 10) newGood (cond (eqb k 11) callGood (cond (eqb k 12) returnGood true)))
+
+-- the row o just if the test is passed
+unfoldable pub RowTried : Bool → Operands → Tried → Type 0
+RowTried b o (Tried.Row r) = (b ≡ true) × (r ≡ o)
+RowTried b o Tried.Bad = b ≡ false
+
+pub record Ready (w : List ℕ) (c : Names) : Type 0 where
+  pub whole : length w ≡ work-bytes
+  pub fits : Fits c
+
+-- by the number of the kind: 8 `set`, 10 `new`, 11 `call`, 12 `return`, 16 `else`, 18 `end`
+unfoldable pub isPlain : ℕ → Bool
+isPlain k = eqb k 8 || (eqb k 10 || (eqb k 11 || (eqb k 12 || (eqb k 16 || eqb k 18))))
+
+-- the line of this kind whose word ends at r has its form
+pub record PlainFollows (t : List ℕ) (k r : ℕ) : Type 0 where
+  pub kind : isPlain k ≡ true
+  pub high : r ≤ length t
+  pub formed : isFormed (form (kindNumbered k) .operands) (form (kindNumbered k) .tail) (more (drop r t)) ≡ true
+
+-- it is written as the row i, and is the line l
+pub record PlainPut (t w : List ℕ) (c : Names) (k r i l : ℕ) (w′ : List ℕ) : Type 0 where
+  pub built :
+      (F : Program) (n : ℕ) → length (F .rows) ≡ i → Holds (counts c) w F n →
+      Holds (counts c) w′ (withItem F l (itemOf (declarationsIn t w c) (variablesIn t w c) (kindNumbered k) (lineAfter t r k))) n
+  pub names : Kept names-at work-bytes w w′
+  pub size : length w′ ≡ length w
+
+-- it is written just if it is good, whatever the scope
+unfoldable pub PlainTried : (t w : List ℕ) (c : Names) (k r i l : ℕ) (w′ : List ℕ) → Bool → Type 0
+PlainTried t w c k r i l w′ true =
+    ((s : Scope) → isGood (declarationsIn t w c) (variablesIn t w c) s (lineAfter t r k) ≡ true) × PlainPut t w c k r i l w′
+PlainTried t w c k r i l w′ false =
+    ((s : Scope) → isGood (declarationsIn t w c) (variablesIn t w c) s (lineAfter t r k) ≡ false) × (w′ ≡ w)

@@ -1,0 +1,259 @@
+// The rows of statements that have no atom.
+use read_names::Span;
+use read_scopes::Names;
+use read_types::Member;
+use tables::Operands;
+ghost use mathlib.Core.Path.{_≡_};
+ghost use mathlib.Core.Bool.{not, _&&_};
+ghost use Prim.Native.Nat.{_≤_, _<_};
+ghost use lib.Dec.{eqb, ltb};
+ghost use lib.ListN.{length, drop, getD};
+ghost use Rattle.rules.specs.Base.{is, eqName};
+ghost use Rattle.rules.specs.Limits.{work-bytes, most-statements};
+ghost use Rattle.rules.specs.Text.{reserved};
+ghost use Rattle.rules.specs.Names.{isLocal, noDeclaration};
+ghost use Rattle.read_fields.specs.Cuts.{more};
+ghost use Rattle.read_names.specs.Rows.{nameIn};
+ghost use Rattle.read_scopes.specs.Meanings.{declarationsIn, variablesIn};
+ghost use Rattle.read_lookups.specs.LookUps.{Looked, typeOf};
+ghost use Rattle.write_plain.specs.Plain.{bare, setRow, newRow, callRow, returnRow, plainRow, setGood, newGood, callGood, returnGood, plainGood, RowTried, Ready, PlainFollows, PlainTried};
+
+// The row of a line, if the line is good.
+pub enum Tried {
+    Row(Operands),
+    Bad,
+}
+
+const NO_VARIABLE: usize = 15;
+
+// The number of the variable named at a place of the text.
+fn variable_at(text: &[u8], work: &[u8], c: Names, s: Span) -> usize
+    requires { ⌜ Ready (now work) c ⌝ }
+    ensures { λ r. ⌜ Looked (now (text .entry)) (now (work .entry)) (variablesIn (now (text .entry)) (now (work .entry)) c) (nameIn (now (text .entry)) s) r ⌝ }
+{
+    read_lookups::variable(text, work, c, read_names::name_in(text, s))
+}
+
+// May a line assign to the variable x?
+fn is_local(x: usize) -> bool
+    ensures { λ r. ⌜ r ≡ isLocal x ⌝ }
+{
+    if x < 2 {
+        return false;
+    }
+    x < 14
+}
+
+fn row_if(good: bool, o: Operands) -> Tried
+    ensures { λ r. ⌜ RowTried good o r ⌝ }
+{
+    if good {
+        return Tried::Row(o);
+    }
+    Tried::Bad
+}
+
+fn row(kind: usize, x: usize, y: usize, z: usize, member: usize, line: usize) -> Operands
+    ensures { λ r. ⌜ r ≡ bare kind x y z member line ⌝ }
+{
+    Operands {
+        kind,
+        x,
+        y,
+        z,
+        member,
+        atoms: 0,
+        first: 0,
+        line,
+    }
+}
+
+// Are x.f and y, if there is such a variable, of one type?
+fn set_fits(text: &[u8], work: &[u8], x: Member, y: usize) -> bool
+    requires { ⌜ (length (now work) ≡ work-bytes) × (y ≤ 15) ⌝ }
+    ensures { λ r. ⌜ r ≡ (x .good && (ltb y 15 && eqName (nameIn (now (text .entry)) (x .is)) (nameIn (now (text .entry)) (typeOf (now (work .entry)) y)))) ⌝ }
+{
+    if !x.good {
+        return false;
+    }
+    if NO_VARIABLE <= y {
+        return false;
+    }
+    let is = x.is;
+    read_lookups::same_name(text, is, read_lookups::type_of(work, y))
+}
+
+// `set x f y`, the word of which ends at r
+fn set_row(text: &[u8], work: &[u8], c: Names, r: usize, line: usize) -> Tried
+    requires { ⌜ Ready (now work) c × (r ≤ length (now text)) ⌝ }
+    ensures { λ o. ⌜ RowTried (setGood (declarationsIn (now (text .entry)) (now (work .entry)) c) (variablesIn (now (text .entry)) (now (work .entry)) c) (more (drop r (now (text .entry))))) (setRow (declarationsIn (now (text .entry)) (now (work .entry)) c) (variablesIn (now (text .entry)) (now (work .entry)) c) (more (drop r (now (text .entry)))) line) o ⌝ }
+{
+    let a = read_declarations::span_after(text, r);
+    let b = read_declarations::span_after(text, a.start + a.len);
+    let d = read_declarations::span_after(text, b.start + b.len);
+    let x = read_types::look_path(
+        text,
+        work,
+        c,
+        read_names::name_in(text, a),
+        read_names::name_in(text, b),
+    );
+    let y = variable_at(text, work, c, d);
+    let good = set_fits(text, work, x, y);
+    row_if(good, row(8, x.variable, y, 0, x.number, line))
+}
+
+// Is x a local of the class that is named at s and has the number k?
+fn new_fits(text: &[u8], work: &[u8], c: Names, x: usize, k: usize, s: Span) -> bool
+    requires { ⌜ (length (now work) ≡ work-bytes) × (x ≤ 15) ⌝ }
+    ensures { λ r. ⌜ r ≡ (isLocal x && (not (reserved (nameIn (now (text .entry)) s)) && (ltb k (c .classes) && eqName (nameIn (now (text .entry)) (typeOf (now (work .entry)) x)) (nameIn (now (text .entry)) s)))) ⌝ }
+{
+    if !is_local(x) {
+        return false;
+    }
+    if read_words::is_reserved(read_names::name_in(text, s)) {
+        return false;
+    }
+    if c.classes <= k {
+        return false;
+    }
+    read_lookups::same_name(text, read_lookups::type_of(work, x), s)
+}
+
+// `new x C`
+fn new_row(text: &[u8], work: &[u8], c: Names, r: usize, line: usize) -> Tried
+    requires { ⌜ Ready (now work) c × (r ≤ length (now text)) ⌝ }
+    ensures { λ o. ⌜ RowTried (newGood (declarationsIn (now (text .entry)) (now (work .entry)) c) (variablesIn (now (text .entry)) (now (work .entry)) c) (more (drop r (now (text .entry))))) (newRow (declarationsIn (now (text .entry)) (now (work .entry)) c) (variablesIn (now (text .entry)) (now (work .entry)) c) (more (drop r (now (text .entry)))) line) o ⌝ }
+{
+    let a = read_declarations::span_after(text, r);
+    let b = read_declarations::span_after(text, a.start + a.len);
+    let x = variable_at(text, work, c, a);
+    let k = read_lookups::class_number(text, work, c, read_names::name_in(text, b));
+    let good = new_fits(text, work, c, x, k, b);
+    row_if(good, row(10, x, 0, 0, k, line))
+}
+
+// Is x a local, and are y and z variables and other ones?
+fn may_call(x: usize, y: usize, z: usize) -> bool
+    ensures { λ r. ⌜ r ≡ (isLocal x && (ltb y 15 && (ltb z 15 && (not (eqb x y) && not (eqb x z))))) ⌝ }
+{
+    if !is_local(x) {
+        return false;
+    }
+    if NO_VARIABLE <= y {
+        return false;
+    }
+    if NO_VARIABLE <= z {
+        return false;
+    }
+    if x == y {
+        return false;
+    }
+    x != z
+}
+
+// Is i, of n methods, the number of a method named at m of a class?
+fn has_method(text: &[u8], class: Span, m: Span, i: usize, n: usize) -> bool
+    ensures { λ r. ⌜ r ≡ (not (is "int" (nameIn (now (text .entry)) class)) && (not (reserved (nameIn (now (text .entry)) m)) && ltb i n)) ⌝ }
+{
+    if read_lookups::is_int(text, class) {
+        return false;
+    }
+    if read_words::is_reserved(read_names::name_in(text, m)) {
+        return false;
+    }
+    i < n
+}
+
+// Are x and z of the types of the result and of the parameter of the method i?
+fn call_agrees(text: &[u8], work: &[u8], c: Names, x: usize, z: usize, i: usize) -> bool
+    requires { ⌜ Ready (now work) c × (x ≤ 15) × (z ≤ 15) ⌝ }
+    ensures { λ r. ⌜ r ≡ (eqName (nameIn (now (text .entry)) (typeOf (now (work .entry)) x)) (getD (declarationsIn (now (text .entry)) (now (work .entry)) c .methods) i noDeclaration .result) && eqName (nameIn (now (text .entry)) (typeOf (now (work .entry)) z)) (getD (declarationsIn (now (text .entry)) (now (work .entry)) c .methods) i noDeclaration .parameterType)) ⌝ }
+{
+    if read_lookups::same_name(
+        text,
+        read_lookups::type_of(work, x),
+        read_lookups::result_type(work, c, i),
+    ) {
+        return read_lookups::same_name(
+            text,
+            read_lookups::type_of(work, z),
+            read_lookups::parameter_type(work, c, i),
+        );
+    }
+    false
+}
+
+// `call x y m z`
+fn call_row(text: &[u8], work: &[u8], c: Names, r: usize, line: usize) -> Tried
+    requires { ⌜ Ready (now work) c × (r ≤ length (now text)) ⌝ }
+    ensures { λ o. ⌜ RowTried (callGood (declarationsIn (now (text .entry)) (now (work .entry)) c) (variablesIn (now (text .entry)) (now (work .entry)) c) (more (drop r (now (text .entry))))) (callRow (declarationsIn (now (text .entry)) (now (work .entry)) c) (variablesIn (now (text .entry)) (now (work .entry)) c) (more (drop r (now (text .entry)))) line) o ⌝ }
+{
+    let a = read_declarations::span_after(text, r);
+    let b = read_declarations::span_after(text, a.start + a.len);
+    let d = read_declarations::span_after(text, b.start + b.len);
+    let e = read_declarations::span_after(text, d.start + d.len);
+    let x = variable_at(text, work, c, a);
+    let y = variable_at(text, work, c, b);
+    let z = variable_at(text, work, c, e);
+    if !may_call(x, y, z) {
+        return Tried::Bad;
+    }
+    let class = read_lookups::type_of(work, y);
+    let m = read_lookups::method_number(text, work, c, class, read_names::name_in(text, d));
+    if !has_method(text, class, d, m, c.methods) {
+        return Tried::Bad;
+    }
+    let good = call_agrees(text, work, c, x, z, m);
+    row_if(good, row(11, x, y, z, m, line))
+}
+
+// `return x`
+fn return_row(text: &[u8], work: &[u8], c: Names, r: usize, line: usize) -> Tried
+    requires { ⌜ Ready (now work) c × (r ≤ length (now text)) ⌝ }
+    ensures { λ o. ⌜ RowTried (returnGood (declarationsIn (now (text .entry)) (now (work .entry)) c) (variablesIn (now (text .entry)) (now (work .entry)) c) (more (drop r (now (text .entry))))) (returnRow (declarationsIn (now (text .entry)) (now (work .entry)) c) (variablesIn (now (text .entry)) (now (work .entry)) c) (more (drop r (now (text .entry)))) line) o ⌝ }
+{
+    let a = read_declarations::span_after(text, r);
+    let x = variable_at(text, work, c, a);
+    if NO_VARIABLE <= x {
+        return Tried::Bad;
+    }
+    let result = read_lookups::variable_type(text, work, c, b"result");
+    let good = read_lookups::same_name(text, read_lookups::type_of(work, x), result);
+    row_if(good, row(12, x, 0, 0, 0, line))
+}
+
+// The row of a line of this kind; `else` and `end` have no operands.
+pub fn plain_row(text: &[u8], work: &[u8], c: Names, kind: usize, r: usize, line: usize) -> Tried
+    requires { ⌜ Ready (now work) c × (r ≤ length (now text)) ⌝ }
+    ensures { λ o. ⌜ RowTried (plainGood (declarationsIn (now (text .entry)) (now (work .entry)) c) (variablesIn (now (text .entry)) (now (work .entry)) c) (more (drop r (now (text .entry)))) kind) (plainRow (declarationsIn (now (text .entry)) (now (work .entry)) c) (variablesIn (now (text .entry)) (now (work .entry)) c) (more (drop r (now (text .entry)))) line kind) o ⌝ }
+{
+    match kind {
+        8 => set_row(text, work, c, r, line),
+        10 => new_row(text, work, c, r, line),
+        11 => call_row(text, work, c, r, line),
+        12 => return_row(text, work, c, r, line),
+        _ => row_if(true, row(kind, 0, 0, 0, 0, line)),
+    }
+}
+
+// Tries a line of this kind, whose word ends at r: writes it as the row i if it is good. Is it?
+pub fn put_plain(
+    text: &[u8],
+    work: &mut [u8],
+    c: Names,
+    kind: usize,
+    r: usize,
+    i: usize,
+    line: usize,
+) -> bool
+    requires { ⌜ Ready (now work) c × PlainFollows (now text) kind r × (i < most-statements) × (line < 65536) ⌝ }
+    ensures { λ b. ⌜ PlainTried (now (text .entry)) (now (work .entry)) c kind r i line (now (work .exit)) b ⌝ }
+{
+    let t = plain_row(text, work, c, kind, r, line);
+    let Tried::Row(o) = t else {
+        return false;
+    };
+    write_rows::put_row(work, i, o);
+    true
+}

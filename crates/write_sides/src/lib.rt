@@ -1,0 +1,114 @@
+// The rows of `let` and `if`, with their one atom.
+use read_scopes::Names;
+use read_types::ExprType;
+use read_types::Lookup;
+use resolve_atoms::Put;
+use resolve_atoms::Tried;
+use tables::Expr;
+use tables::Operands;
+ghost use mathlib.Core.Path.{_≡_};
+ghost use mathlib.Core.Bool.{_&&_};
+ghost use mathlib.Core.Option.{some};
+ghost use Prim.Native.Nat.{_≤_, _<_};
+ghost use lib.ListN.{length};
+ghost use Rattle.rules.specs.Limits.{work-bytes, most-statements};
+ghost use Rattle.rules.specs.Grammar.{Let, If};
+ghost use Rattle.rules.specs.Names.{isLocal, agree};
+ghost use Rattle.read_names.specs.Rows.{nameIn};
+ghost use Rattle.read_lookups.specs.LookUps.{typeOf};
+ghost use Rattle.read_types.specs.Types.{typeMeant};
+ghost use Rattle.resolve_atoms.specs.Written.{Ready};
+ghost use Rattle.write_sides.specs.Sides.{oneRow, SideFollows, SideTried};
+
+fn row(kind: usize, x: usize, n: usize, line: usize) -> Operands
+    ensures { λ r. ⌜ r ≡ oneRow kind x n line ⌝ }
+{
+    Operands {
+        kind,
+        x,
+        y: 0,
+        z: 0,
+        member: 0,
+        atoms: 1,
+        first: n,
+        line,
+    }
+}
+
+// Is x a local of the type of e?
+fn let_fits(text: &[u8], work: &[u8], x: usize, e: Lookup) -> bool
+    requires { ⌜ (length (now work) ≡ work-bytes) × (x ≤ 15) ⌝ }
+    ensures { λ r. ⌜ r ≡ (isLocal x && (e .good && agree (some (nameIn (now (text .entry)) (typeOf (now (work .entry)) x))) (typeMeant (now (text .entry)) (e .is)))) ⌝ }
+{
+    if x < 2 {
+        return false;
+    }
+    if 14 <= x {
+        return false;
+    }
+    if !e.good {
+        return false;
+    }
+    let s = read_lookups::type_of(work, x);
+    let is = e.is;
+    read_types::agree(text, ExprType::Named(s), is)
+}
+
+// Tries `let x e`, the word of which ends at r. If it is good, e is written as the right side of the atom n, and the statement as the
+// row i; then it gives the number after the atom.
+pub fn put_let(
+    text: &[u8],
+    work: &mut [u8],
+    c: Names,
+    r: usize,
+    i: usize,
+    n: usize,
+    line: usize,
+) -> Put
+    requires { ⌜ Ready (now text) (now work) c × SideFollows Let (now text) r n × (i < most-statements) × (line < 65536) ⌝ }
+    ensures { λ p. ⌜ SideTried Let (now (text .entry)) (now (work .entry)) c r i n line (now (work .exit)) p ⌝ }
+{
+    let a = read_declarations::span_after(text, r);
+    let b = read_declarations::span_after(text, a.start + a.len);
+    let x = read_lookups::variable(text, work, c, read_names::name_in(text, a));
+    let l = read_types::look(text, work, c, read_names::name_in(text, b));
+    if !let_fits(text, work, x, l) {
+        return Put::Bad;
+    }
+    let e = l.expr;
+    let o = row(9, x, n, line);
+    write_rows::put_atom(work, n, 1, Expr::Null, e);
+    write_rows::put_row(work, i, o);
+    Put::Done(n + 1)
+}
+
+// Tries `if eq e e` or `if ne e e`: if it is good, its condition is written as the atom n, and the statement as the row i.
+pub fn put_if(
+    text: &[u8],
+    work: &mut [u8],
+    c: Names,
+    r: usize,
+    i: usize,
+    n: usize,
+    line: usize,
+) -> Put
+    requires { ⌜ Ready (now text) (now work) c × SideFollows If (now text) r n × (i < most-statements) × (line < 65536) ⌝ }
+    ensures { λ p. ⌜ SideTried If (now (text .entry)) (now (work .entry)) c r i n line (now (work .exit)) p ⌝ }
+{
+    let a = read_declarations::span_after(text, r);
+    let b = read_declarations::span_after(text, a.start + a.len);
+    let d = read_declarations::span_after(text, b.start + b.len);
+    let word = read_names::name_in(text, a);
+    let x = read_names::name_in(text, b);
+    let y = read_names::name_in(text, d);
+    let q = resolve_atoms::resolve_atom(text, work, c, word, x, y);
+    let Tried::Row(s) = q else {
+        return Put::Bad;
+    };
+    let left = s.left;
+    let right = s.right;
+    let o = row(15, 0, n, line);
+    write_rows::put_atom(work, n, s.kind, left, right);
+    write_rows::put_row(work, i, o);
+    Put::Done(n + 1)
+}
