@@ -82,7 +82,7 @@ impl State {
     // The variables `this`, w and `result`.
     pub const THIS: u8 = 0;
 
-    pub const PARAMETER: u8 = 1;
+    pub const PARAM: u8 = 1;
 
     pub const RESULT: u8 = 14;
 

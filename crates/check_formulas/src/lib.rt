@@ -26,7 +26,7 @@ fn actual(y: u8, z: u8, x: u8, v: u8) -> u8
 {
     match v {
         State::THIS => y,
-        State::PARAMETER => z,
+        State::PARAM => z,
         State::RESULT => x,
         _ => v,
     }

@@ -190,16 +190,7 @@ pub fn assert_rule<'a>(
     requires { ⌜ (length (now w) ≡ work-bytes) × (a + n ≤ most-atom-rows) × Wf (now key) (now b) ⌝ }
     ensures { λ r. ⌜ Asserts (atomsFrom (now (w .entry)) a n) (stateOf (now (key .entry)) (now (b .entry))) r ⌝ }
 {
-    let r = check_formulas::show(
-        w,
-        a,
-        n,
-        State::THIS,
-        State::PARAMETER,
-        State::RESULT,
-        key,
-        b,
-    );
+    let r = check_formulas::show(w, a, n, State::THIS, State::PARAM, State::RESULT, key, b);
     let k = r.answer;
     k
 }
@@ -215,16 +206,7 @@ pub fn release_rule(
     requires { ⌜ (length (now w) ≡ work-bytes) × (a + n ≤ most-atom-rows) × Wf (now key) (now b) ⌝ }
     ensures { λ r. ⌜ Adds (releaseRule (atomsFrom (now (w .entry)) a n) (stateOf (now (key .entry)) (now (b .entry)))) r (now (key .exit)) (now (b .exit)) ⌝ }
 {
-    let r = check_formulas::show(
-        w,
-        a,
-        n,
-        State::THIS,
-        State::PARAMETER,
-        State::RESULT,
-        key,
-        b,
-    );
+    let r = check_formulas::show(w, a, n, State::THIS, State::PARAM, State::RESULT, key, b);
     let k = r.answer;
     let out = r.out;
     check_forgetting::remainder(key, b, &out);
@@ -348,14 +330,5 @@ pub fn join_rule<'a>(
         return l;
     };
     check_forgetting::clear(b);
-    check_formulas::add(
-        w,
-        a,
-        n,
-        State::THIS,
-        State::PARAMETER,
-        State::RESULT,
-        key,
-        b,
-    )
+    check_formulas::add(w, a, n, State::THIS, State::PARAM, State::RESULT, key, b)
 }

@@ -50,7 +50,7 @@ fn let_at(w: &[u8], i: usize, key: &mut [u64; State::SLOTS], b: &mut [u8; State:
         key,
         b,
         x,
-        check_formulas::right(w, a, State::THIS, State::PARAMETER, State::RESULT),
+        check_formulas::right(w, a, State::THIS, State::PARAM, State::RESULT),
     )
 }
 
@@ -130,8 +130,8 @@ fn if_at(
 {
     let a = tables::first_atom_at(w, i);
     let apart = tables::atom_kind(w, a) != 1;
-    let l = check_formulas::left(w, a, State::THIS, State::PARAMETER, State::RESULT);
-    let r = check_formulas::right(w, a, State::THIS, State::PARAMETER, State::RESULT);
+    let l = check_formulas::left(w, a, State::THIS, State::PARAM, State::RESULT);
+    let r = check_formulas::right(w, a, State::THIS, State::PARAM, State::RESULT);
     check_statements::if_rule(key, b, key2, b2, apart, l, r)
 }
 
@@ -316,16 +316,7 @@ fn check_method(
     check_forgetting::clear(b);
     let a = tables::requires_first(w, m);
     let n = tables::requires_count(w, m);
-    let k = check_formulas::add(
-        w,
-        a,
-        n,
-        State::THIS,
-        State::PARAMETER,
-        State::RESULT,
-        key,
-        b,
-    );
+    let k = check_formulas::add(w, a, n, State::THIS, State::PARAM, State::RESULT, key, b);
     let Answer::Done = k else {
         return Verdict::Refused(k, 0);
     };
