@@ -9,6 +9,7 @@ use lib.ListN.{length, getD, set, length-set}
 use lib.Seq.{getD-set-same, getD-set-other}
 use borrow.Author.Tests.{lt-ltb, le-ltb}
 use Rattle.rules.specs.Base.{ok, no, _>>=_, _>>_, check, orElse, any}
+use Rattle.rules.specs.Limits.{most-permissions, most-facts}
 use Rattle.rules.specs.Answers.{unresolved}
 use Rattle.rules.specs.Syntax.{Formula, Rel, acc, cmp}
 use Rattle.rules.specs.State as Rules
@@ -25,12 +26,12 @@ use Rattle.check_entailment.specs.Answers.{answered, ShowsAtom, ShowsRel
 use Rattle.check_state.specs.States.{factsIn, permissionsIn, Linked}
 use Rattle.check_equality.specs.Links.{Pushed, factOf}
 use Rattle.check_equality.proofs.Listing.{listed-same}
-use Rattle.check_equality.specs.Layout.{left-sides, relations-at, variables-at, fact-count, entry-count, bytes}
-use Rattle.check_forgetting.proofs.Keeping.{with-entry, entry-size, entry-other, entries-more, entries-same, linked-same, facts-same, pushed-facts, pushed-linked, pushed-rest, counted-linked, counted-facts, counted-other}
+use Rattle.check_equality.specs.Layout.{left-sides, relations-at, variables-at, fact-count, entry-count, acc-kind, bytes}
+use Rattle.check_forgetting.proofs.Keeping.{with-entry, entry-size, entry-other, entries-more, entries-same, kinds-more, kinds-same, linked-same, facts-same, pushed-facts, pushed-linked, pushed-rest, counted-linked, counted-facts, counted-other}
 use Rattle.check_entailment.proofs.Splits.{split-none, split-first, gone-set}
 
 -- ACCESS
-module _ (key b : List ℕ) (w : Wf key b) (out : List Bool) (l : length out ≡ 64) (y f i : ℕ)
+module _ (key b : List ℕ) (w : Wf key b) (out : List Bool) (l : length out ≡ most-permissions) (y f i : ℕ)
     (F : FirstPlace (entryTest b out y f (equalIn (stateOf key b))) (entries b) i) where
   abbrev perm : ℕ → Permission
   perm = permissionAt b
@@ -99,7 +100,7 @@ module _ (key b : List ℕ) (apart : Bool) (l r : Term) where
       relation-added a key′ b′ A = record { wf = A .wf; adds = λ φ. rw (et, eu, ← A .same) }
 
 pub relation-atom :
-    (key b : List ℕ) (out : List Bool) (apart : Bool) (l r : Term) (a : Answer) → length out ≡ 64 → ShowsRelation key b apart l r a →
+    (key b : List ℕ) (out : List Bool) (apart : Bool) (l r : Term) (a : Answer) → length out ≡ most-permissions → ShowsRelation key b apart l r a →
     ShowsAtom key b out (cmp (relOf apart) l r) a out
 relation-atom key b out apart l r a h R = record { size = h; after = λ c. c; taken = λ c T. T; shows = λ c φ T. R c φ }
 
@@ -116,36 +117,36 @@ unfolding answered _>>=_
 no-atom key b w l r apart h = record { wf = w; adds = h }
 
 -- ROOM
-pub full-permissions : (key b : List ℕ) (p : Permission) → Wf key b → 64 ≤ entries b → Adds (Rules.addPermission p (stateOf key b)) Answer.Full key b
+pub full-permissions : (key b : List ℕ) (p : Permission) → Wf key b → most-permissions ≤ entries b → Adds (Rules.addPermission p (stateOf key b)) Answer.Full key b
 unfolding Rules.addPermission check _>>_ answered
-full-permissions key b p w h = record { wf = w; same = sym (rw (listed-length (permissionAt b) (entries b), le-ltb (entries b) 64 h)) }
+full-permissions key b p w h = record { wf = w; same = sym (rw (listed-length (permissionAt b) (entries b), le-ltb (entries b) most-permissions h)) }
 
 room-permissions :
-    (key b : List ℕ) (p : Permission) (b′ : List ℕ) → entries b < 64 → Wf key b′ → permissionsOf b′ ≡ permissionsOf b ++ (p ∷ []) → factsOf key b′ ≡ factsOf key b →
+    (key b : List ℕ) (p : Permission) (b′ : List ℕ) → entries b < most-permissions → Wf key b′ → permissionsOf b′ ≡ permissionsOf b ++ (p ∷ []) → factsOf key b′ ≡ factsOf key b →
     Adds (Rules.addPermission p (stateOf key b)) Answer.Done key b′
 unfolding Rules.addPermission check _>>_ answered
-room-permissions key b p b′ h w e d = record { wf = w; same = sym (rw (listed-length (permissionAt b) (entries b), lt-ltb (entries b) 64 h, e, d)) }
+room-permissions key b p b′ h w e d = record { wf = w; same = sym (rw (listed-length (permissionAt b) (entries b), lt-ltb (entries b) most-permissions h, e, d)) }
 
-pub full-facts : (key b : List ℕ) (n : Rel) (t u : Term) → Wf key b → 64 ≤ facts b → Adds (Rules.addFact n t u (stateOf key b)) Answer.Full key b
+pub full-facts : (key b : List ℕ) (n : Rel) (t u : Term) → Wf key b → most-facts ≤ facts b → Adds (Rules.addFact n t u (stateOf key b)) Answer.Full key b
 unfolding Rules.addFact check _>>_ answered
-full-facts key b n t u w h = record { wf = w; same = sym (rw (listed-length (factAt key b) (facts b), le-ltb (facts b) 64 h)) }
+full-facts key b n t u w h = record { wf = w; same = sym (rw (listed-length (factAt key b) (facts b), le-ltb (facts b) most-facts h)) }
 
 room-facts :
-    (key b : List ℕ) (n : Rel) (t u : Term) (key′ b′ : List ℕ) → facts b < 64 → Wf key′ b′ → permissionsOf b′ ≡ permissionsOf b →
+    (key b : List ℕ) (n : Rel) (t u : Term) (key′ b′ : List ℕ) → facts b < most-facts → Wf key′ b′ → permissionsOf b′ ≡ permissionsOf b →
     factsOf key′ b′ ≡ factsOf key b ++ (record { rel = n; left = t; right = u } ∷ []) → Adds (Rules.addFact n t u (stateOf key b)) Answer.Done key′ b′
 unfolding Rules.addFact check _>>_ answered
-room-facts key b n t u key′ b′ h w e d = record { wf = w; same = sym (rw (listed-length (factAt key b) (facts b), lt-ltb (facts b) 64 h, e, d)) }
+room-facts key b n t u key′ b′ h w e d = record { wf = w; same = sym (rw (listed-length (factAt key b) (facts b), lt-ltb (facts b) most-facts h, e, d)) }
 
 -- one more entry and its count
-module _ (key b : List ℕ) (x f : ℕ) (w : Wf key b) (h : entries b < 64) where
+module _ (key b : List ℕ) (x f : ℕ) (w : Wf key b) (h : entries b < most-permissions) where
   abbrev one : List ℕ
-  one = with-entry b (entries b) x f (w .linked .size) h
+  one = with-entry b (entries b) x f acc-kind (w .linked .size) h
 
   abbrev counted-one : List ℕ
   counted-one = set one entry-count (entries b + 1)
 
   sized : length one ≡ bytes
-  sized = entry-size b (entries b) x f (w .linked .size) h
+  sized = entry-size b (entries b) x f acc-kind (w .linked .size) h
 
   at-one : (i : ℕ) → (i ≡ entry-count → ⊥) → getD counted-one i 0 ≡ getD one i 0
   at-one i g = getD-set-other one entry-count i (entries b + 1) 0 g
@@ -156,19 +157,20 @@ module _ (key b : List ℕ) (x f : ℕ) (w : Wf key b) (h : entries b < 64) wher
   more-entries : permissionsIn counted-one (entries b + 1) ≡ permissionsOf b ++ (record { variable = x; field = f } ∷ [])
   more-entries =
       listed-same _ _ (entries b + 1) (entries-same one counted-one (entries b + 1) (omega arith) (λ i g s. at-one i (omega arith)))
-      ∙ entries-more b (entries b) x f (w .linked .size) h
+      ∙ entries-more b (entries b) x f acc-kind (w .linked .size) h
 
   low-one : (i : ℕ) → i < variables-at → getD counted-one i 0 ≡ getD b i 0
-  low-one i g = at-one i (omega arith) ∙ entry-other b (entries b) x f (w .linked .size) h i (omega arith) (omega arith)
+  low-one i g = at-one i (omega arith) ∙ entry-other b (entries b) x f acc-kind (w .linked .size) h i (omega arith) (omega arith) (omega arith)
 
   count-one : facts counted-one ≡ facts b
-  count-one = at-one fact-count (omega arith) ∙ entry-other b (entries b) x f (w .linked .size) h fact-count (omega arith) (omega arith)
+  count-one = at-one fact-count (omega arith) ∙ entry-other b (entries b) x f acc-kind (w .linked .size) h fact-count (omega arith) (omega arith) (omega arith)
 
   wf-one : Wf key counted-one
   wf-one =
       record {
         linked = subst (λ (n : ℕ). Linked key counted-one n) (sym count-one) (linked-same key b counted-one (facts b) (length-set one entry-count (entries b + 1) ∙ sized) low-one (w .linked));
         fit = omega (arith, last-one);
+        kinds = kinds-same one counted-one (entries b + 1) (entries counted-one) last-one (λ i g. at-one i (omega arith)) (kinds-more b (entries b) x f acc-kind (w .linked .size) h refl (w .kinds));
       }
 
   pub one-permission : Adds (Rules.addPermission (record { variable = x; field = f }) (stateOf key b)) Answer.Done key counted-one
@@ -177,7 +179,7 @@ module _ (key b : List ℕ) (x f : ℕ) (w : Wf key b) (h : entries b < 64) wher
       (ap (factsIn key counted-one) count-one ∙ facts-same key b counted-one (facts b) (w .linked .fit) low-one)
 
 -- one more fact, its flag and the count
-module _ (key b : List ℕ) (c l r : ℕ) (apart : Bool) (w : Wf key b) (h : facts b < 64) (key′ b₁ : List ℕ) (e : eqb c 1 ≡ apart) (P : Pushed key b (left-sides + 2 * facts b) apart l r key′ b₁) where
+module _ (key b : List ℕ) (c l r : ℕ) (apart : Bool) (w : Wf key b) (h : facts b < most-facts) (key′ b₁ : List ℕ) (e : eqb c 1 ≡ apart) (P : Pushed key b (left-sides + 2 * facts b) apart l r key′ b₁) where
   abbrev two : List ℕ
   two = set b₁ (relations-at + facts b) c
 
@@ -196,7 +198,7 @@ module _ (key b : List ℕ) (c l r : ℕ) (apart : Bool) (w : Wf key b) (h : fac
   pub one-fact : Adds (Rules.addFact (relOf apart) (termOf l) (termOf r) (stateOf key b)) Answer.Done key′ counted-two
   one-fact =
       room-facts key b _ _ _ key′ counted-two h
-      (record { linked = counted-linked two (facts b + 1) (more-facts .size) key′ more-facts; fit = omega (arith, last-two, w .fit) })
+      (record { linked = counted-linked two (facts b + 1) (more-facts .size) key′ more-facts; fit = omega (arith, last-two, w .fit); kinds = kinds-same b counted-two (entries b) (entries counted-two) last-two (λ i g. at-two i (omega arith) (omega arith)) (w .kinds) })
       (ap (permissionsIn counted-two) last-two ∙ listed-same _ _ (entries b) (entries-same b counted-two (entries b) (w .fit) (λ i g s. at-two i g (omega arith))))
       (counted-facts two (facts b + 1) (more-facts .size) key′ (omega arith) ∙ pushed-facts key b (facts b) c l r (w .linked) h key′ b₁ apart e P
       ∙ ap (λ (x : Bool). factsOf key b ++ (factOf x l r ∷ [])) e)

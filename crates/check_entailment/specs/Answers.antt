@@ -5,6 +5,7 @@ use mathlib.Core.List.{List, _∷_}
 use Prim.Native.Nat.{ℕ}
 use lib.ListN.{length}
 use Rattle.rules.specs.Base.{Try, ok, no, _>>=_}
+use Rattle.rules.specs.Limits.{most-permissions}
 use Rattle.rules.specs.Answers.{Refusal, unresolved, noPermission, notShown, stateFull, malformed}
 use Rattle.rules.specs.Syntax as Syntax
 use Rattle.rules.specs.Syntax.{Formula, eq, ne, acc, cmp}
@@ -38,7 +39,7 @@ pub record Adds (t : Try Refusal Rules.State) (answer : Answer) (key b : List �
 
 -- SHOWING
 pub record ShowsAtom (key b : List ℕ) (out : List Bool) (a : Syntax.Atom ℕ) (answer : Answer) (out′ : List Bool) : Type 0 where
-  pub size : length out′ ≡ 64
+  pub size : length out′ ≡ most-permissions
   pub after : Rules.Shown → Rules.Shown
   pub taken : (c : Rules.Shown) → Taken b out c → Taken b out′ (after c)
   pub shows :

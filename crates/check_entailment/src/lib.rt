@@ -2,11 +2,13 @@
 use check_equality::State;
 use check_equality::Term;
 use check_state::Resolved;
+use rules::Machine;
 ghost use mathlib.Core.Path.{_≡_};
 ghost use mathlib.Core.List.{List};
 ghost use Prim.Native.Nat.{ℕ, _≤_};
 ghost use lib.ListN.{length};
 ghost use lib.Dec.{eqb};
+ghost use Rattle.rules.specs.Limits.{most-permissions};
 ghost use Rattle.rules.specs.Syntax as Syntax;
 ghost use Rattle.rules.specs.State as Rules;
 ghost use Rattle.check_equality.specs.Layout.{bytes};
@@ -32,20 +34,21 @@ pub enum Atom {
 
 pub struct Shown {
     pub answer: Answer,
-    pub out: [bool; 64],
+    pub out: [bool; Machine::PERMISSIONS],
 }
 
 // One more permission.
 pub fn add_permission(b: &mut [u8; State::BYTES], x: u8, f: u8) -> Answer
-    requires { ⌜ (entries (now b) ≤ 64) × (length (now b) ≡ bytes) ⌝ }
+    requires { ⌜ (entries (now b) ≤ most-permissions) × (length (now b) ≡ bytes) ⌝ }
     ensures { λ r. ⌜ ((key : List ℕ) → Wf key (now (b .entry)) → Adds (Rules.addPermission (record { variable = x; field = f }) (stateOf key (now (b .entry)))) r key (now (b .exit))) ⌝ }
 {
     let n = b[State::ENTRIES] as usize;
-    if 64 <= n {
+    if Machine::PERMISSIONS <= n {
         return Answer::Full;
     }
     b[State::VARIABLES + n] = x;
     b[State::FIELDS + n] = f;
+    b[State::KINDS + n] = State::ACC;
     b[State::ENTRIES] = (n + 1) as u8;
     Answer::Done
 }
@@ -68,7 +71,7 @@ pub fn add_fact(
     ensures { λ r. ⌜ Adds (Rules.addFact (relOf apart) (termOf t) (termOf u) (stateOf (now (key .entry)) (now (b .entry)))) r (now (key .exit)) (now (b .exit)) ⌝ }
 {
     let count = b[State::FACTS] as usize;
-    if 64 <= count {
+    if Machine::FACTS <= count {
         return Answer::Full;
     }
     check_equality::push(key, b, State::LEFT + 2 * count, apart, t, u);
@@ -81,11 +84,11 @@ pub fn add_fact(
 fn show_access<'a>(
     key: &'a [u64; State::SLOTS],
     b: &'a [u8; State::BYTES],
-    out: [bool; 64],
+    out: [bool; Machine::PERMISSIONS],
     y: u8,
     f: u8,
 ) -> Shown
-    requires { ⌜ Wf (now key) (now b) × (length out ≡ 64) ⌝ }
+    requires { ⌜ Wf (now key) (now b) × (length out ≡ most-permissions) ⌝ }
     ensures { λ r. ⌜ ShowsAtom (now (key .entry)) (now (b .entry)) out (Syntax.acc y f) (r .answer) (r .out) ⌝ }
 {
     let i = check_state::entry(key, b, &out, y, f);
@@ -130,10 +133,10 @@ fn show_relation<'a>(
 pub fn show_atom<'a>(
     key: &'a [u64; State::SLOTS],
     b: &'a [u8; State::BYTES],
-    out: [bool; 64],
+    out: [bool; Machine::PERMISSIONS],
     a: Atom,
 ) -> Shown
-    requires { ⌜ Wf (now key) (now b) × (length out ≡ 64) ⌝ }
+    requires { ⌜ Wf (now key) (now b) × (length out ≡ most-permissions) ⌝ }
     ensures { λ r. ⌜ ShowsAtom (now (key .entry)) (now (b .entry)) out (atomOf a) (r .answer) (r .out) ⌝ }
 {
     match a {

@@ -13,6 +13,7 @@ use Rattle.rules.specs.Syntax.{eq, ne, same}
 use Rattle.rules.specs.State.{Term, Fact, representative, equalBy}
 use Rattle.rules.proofs.Closure.{Listed, Equivalence, linked-least, here, there, listed, linked→representative, representative→linked, same→≡, same-refl}
 use Rattle.rules.proofs.Lists.{decide-eq, T-true, F-false}
+use Rattle.check_equality.specs.Layout.{slots, mark-count}
 use Rattle.check_equality.specs.Keys.{termOf}
 use Rattle.check_equality.specs.Links.{termAt, Header, Found, Missing, Labelled, Alike, Together, Decides, Merged, Joined, LinkedUnless, Slotted, Pushed, Marked, placeOf, picked, relOf, factOf, alikeBy, left-new, right-new, both-known}
 use Rattle.check_equality.proofs.Keys.{one-key}
@@ -280,7 +281,7 @@ module _ {fs : List Fact} {key label : List ℕ} {m : ℕ} (D : Decides fs key l
       go true e = let d = same→≡ _ _ (subst T (sym e) tt) in T-true _ (subst (λ (r : Term). T (same (representative fs t) r)) (sym d) (same-refl _))
       go false e = F-false _ (λ h. let d = same→≡ _ _ h in subst T e (subst (λ (r : Term). T (same (representative fs u) r)) (sym d) (same-refl (representative fs u))))
 
-  module _ (low : m ≤ 144) where
+  module _ (low : m ≤ slots) where
     -- the label of a slot is no 255
     labelled : (i : ℕ) → i < m → getD label i 0 ≡ 255 → ⊥
     labelled i h e = omega (arith, D .low i h)
@@ -309,7 +310,7 @@ pub header-of : (key key′ : List ℕ) (m k : ℕ) → key′ ≡ set key m k �
 header-of key key′ m k e H h = rw e (header-set key m k H h)
 
 pub slotted :
-    (key label : List ℕ) (m k l n : ℕ) → m < 144 → m < length key → m < length label → Labelled key label m k l →
+    (key label : List ℕ) (m k l n : ℕ) → m < slots → m < length key → m < length label → Labelled key label m k l →
     n ≡ cond (eqb l 255) m l → Slotted key label m k (set key m k) (set label m n)
 slotted key label m k l n h hk hl (inl w) e =
     record {
@@ -335,10 +336,10 @@ module _
         let e : m + 1 + 1 ≡ m + 2 = omega arith in
         subst (λ (n : ℕ). Decides fs key₂ label₂ n) e (two .labels fs (one .labels fs D))
 
-    far : m + 2 ≤ 144 → (i : ℕ) → 144 ≤ i → getD label₂ i 0 ≡ getD label i 0
+    far : m + 2 ≤ slots → (i : ℕ) → slots ≤ i → getD label₂ i 0 ≡ getD label i 0
     far h i g = two .rest i (omega arith) ∙ one .rest i (omega arith)
 
-    pushed-ne : m + 2 ≤ 144 → Pushed key label m true l r key₂ label₂
+    pushed-ne : m + 2 ≤ slots → Pushed key label m true l r key₂ label₂
     unfolding relOf
     pushed-ne h = record { keys = keys-set; size = two .size ∙ one .size; rest = far h; labels = λ fs D. one-inequality (both-slots fs D) (factOf true l r) refl }
 
@@ -382,7 +383,7 @@ module _
     abbrev Equal : List ℕ → Type 0
     Equal label₃ = Pushed key label m false l r key₂ label₃
 
-    pushed-left : m + 2 ≤ 144 → 144 ≤ length label₂ → getD label₂ m 0 ≡ m → Equal (set label₂ m (getD label₂ (m + 1) 0))
+    pushed-left : m + 2 ≤ slots → slots ≤ length label₂ → getD label₂ m 0 ≡ m → Equal (set label₂ m (getD label₂ (m + 1) 0))
     pushed-left h s e =
         record {
           keys = keys-set;
@@ -394,7 +395,7 @@ module _
               ⊎-elim (λ q. inr (ap (λ (j : ℕ). getD label₂ j 0) q)) (λ q. inl (λ x. omega (arith, old-low D i (omega arith)))) (decide-eq i (m + 1))));
         }
 
-    pushed-right : m + 2 ≤ 144 → 144 ≤ length label₂ → getD label₂ (m + 1) 0 ≡ m + 1 → Equal (set label₂ (m + 1) (getD label₂ m 0))
+    pushed-right : m + 2 ≤ slots → slots ≤ length label₂ → getD label₂ (m + 1) 0 ≡ m + 1 → Equal (set label₂ (m + 1) (getD label₂ m 0))
     pushed-right h s e =
         record {
           keys = keys-set;
@@ -406,7 +407,7 @@ module _
               ⊎-elim (λ q. inr (ap (λ (j : ℕ). getD label₂ j 0) q)) (λ q. inl (λ x. omega (arith, old-low D i (omega arith)))) (decide-eq i m)));
         }
 
-    pushed-merged : m + 2 ≤ 144 → (label₃ : List ℕ) → Merged (getD label₂ (m + 1) 0) (getD label₂ m 0) label₂ label₃ → Equal label₃
+    pushed-merged : m + 2 ≤ slots → (label₃ : List ℕ) → Merged (getD label₂ (m + 1) 0) (getD label₂ m 0) label₂ label₃ → Equal label₃
     pushed-merged h label₃ M =
         record {
           keys = keys-set;
@@ -417,19 +418,19 @@ module _
               (λ i g. M .labels i (omega arith));
         }
 
-    pushed-eq : m + 2 ≤ 144 → 144 ≤ length label₂ → (label₃ : List ℕ) → Joined m label₂ label₃ → Equal label₃
+    pushed-eq : m + 2 ≤ slots → slots ≤ length label₂ → (label₃ : List ℕ) → Joined m label₂ label₃ → Equal label₃
     pushed-eq h s label₃ (left-new e d) = subst Equal (sym d) (pushed-left h s e)
     pushed-eq h s label₃ (right-new e d) = subst Equal (sym d) (pushed-right h s e)
     pushed-eq h s label₃ (both-known M) = pushed-merged h label₃ M
 
     pub pushed :
-        m + 2 ≤ 144 → 144 ≤ length label₂ → (b : Bool) (label₃ : List ℕ) → LinkedUnless b m label₂ label₃ → Pushed key label m b l r key₂ label₃
+        m + 2 ≤ slots → slots ≤ length label₂ → (b : Bool) (label₃ : List ℕ) → LinkedUnless b m label₂ label₃ → Pushed key label m b l r key₂ label₃
     pushed h s true label₃ T = subst (λ (k : List ℕ). Pushed key label m true l r key₂ k) (sym (T .apart refl)) (pushed-ne h)
     pushed h s false label₃ T = pushed-eq h s label₃ (T .equal refl)
 
 -- MARKS
 pub marked-more :
-    (key key′ : List ℕ) (marks : List Bool) (m k p : ℕ) → key′ ≡ set key m k → m < length key → (p ≡ placeOf k) × (p < 512) →
+    (key key′ : List ℕ) (marks : List Bool) (m k p : ℕ) → key′ ≡ set key m k → m < length key → (p ≡ placeOf k) × (p < mark-count) →
     Marked key marks m → Marked key′ (set marks p true) (m + 1)
 marked-more key key′ marks m k p e h q M =
     record { size = length-set marks p true ∙ M .size; at = λ i g s. rw e (⊎-elim here (there i g s) (decide-eq i m)) }

@@ -1,5 +1,5 @@
 -- Where things stand in the two arrays of the checker's state: the keys of the slots; and bytes, which are the slots' labels, a flag for
--- each fact, the variables and then the fields of the entries, and two counts.
+-- each fact, the variables and then the fields of the entries, two counts, and the kinds of the entries.
 use Prim.Native.Nat.{ℕ}
 use Rattle.check_equality.specs.declared.State as Declared
 
@@ -33,8 +33,19 @@ fact-count = 336
 abbrev pub entry-count : ℕ
 entry-count = 337
 
+abbrev pub kinds-at : ℕ
+kinds-at = 338
+
 abbrev pub bytes : ℕ
-bytes = 338
+bytes = 402
+
+-- KINDS of entries
+abbrev pub acc-kind : ℕ
+acc-kind = 0
+
+-- MARKS: the places of keys
+abbrev pub mark-count : ℕ
+mark-count = 512
 
 -- the constants of the code are these
 abbrev pub offsets : Declared.State
@@ -49,5 +60,8 @@ offsets =
       fields = fields-at;
       facts = fact-count;
       entries = entry-count;
+      kinds = kinds-at;
       bytes = bytes;
+      acc = acc-kind;
+      marks = mark-count;
     }

@@ -9,7 +9,7 @@ use lib.Dec.{eqb}
 use lib.ListN.{length, getD, set}
 use Rattle.rules.specs.Syntax.{Rel, eq, ne}
 use Rattle.rules.specs.State.{Term, Fact, representative}
-use Rattle.check_equality.specs.Layout.{slots, null-slot, left-sides}
+use Rattle.check_equality.specs.Layout.{slots, null-slot, left-sides, mark-count}
 use Rattle.check_equality.specs.Keys.{termOf, null-key}
 
 abbrev pub termAt : List ℕ → ℕ → Term
@@ -100,13 +100,13 @@ pub record Pushed (key label : List ℕ) (m : ℕ) (b : Bool) (l r : ℕ) (key�
   pub rest : (i : ℕ) → slots ≤ i → getD label′ i 0 ≡ getD label i 0
   pub labels : (fs : List Fact) → Decides fs key label m → Decides (fs ++ (factOf b l r ∷ [])) key′ label′ (m + 2)
 
--- a place below 512 for each key
+-- a place among the marks for each key
 unfoldable pub placeOf : ℕ → ℕ
-placeOf k = (k / 8 + k % 512) % 512
+placeOf k = (k / 8 + k % mark-count) % mark-count
 
 -- the places of the sides in the slots up to m are marked
 pub record Marked (key : List ℕ) (marks : List Bool) (m : ℕ) : Type 0 where
-  pub size : length marks ≡ 512
+  pub size : length marks ≡ mark-count
   pub at : (i : ℕ) → left-sides ≤ i → i < m → getD marks (placeOf (getD key i 0)) false ≡ true
 
 -- are the terms of two keys with their labels ~?

@@ -5,7 +5,7 @@ ghost use lib.Dec.{eqb};
 ghost use Prim.Native.Nat.{_+_, _*_, _≤_, _<_};
 ghost use lib.ListN.{length};
 ghost use Rattle.rules.specs.Syntax as Syntax;
-ghost use Rattle.check_equality.specs.Layout.{slots, bytes, left-sides, offsets};
+ghost use Rattle.check_equality.specs.Layout.{slots, bytes, left-sides, mark-count, offsets};
 ghost use Rattle.check_equality.specs.Keys.{termOf, meaning, first-path, first-number, paths};
 ghost use Rattle.check_equality.specs.Links.{Header, Labelled, Missing, Merged, Joined, LinkedUnless, Slotted, Pushed, Marked, placeOf, picked, alikeBy, no-label};
 
@@ -21,7 +21,10 @@ pub struct State {
     pub fields: usize,
     pub facts: usize,
     pub entries: usize,
+    pub kinds: usize,
     pub bytes: usize,
+    pub acc: u8,
+    pub marks: usize,
 }
 
 impl State {
@@ -38,7 +41,8 @@ impl State {
     // Two slots before the facts, which two more terms may take.
     pub const TERMS: usize = 14;
 
-    // Bytes: after the labels 1 for each fact that is an inequality, the variables and the fields of the entries, and two counts.
+    // Bytes: after the labels 1 for each fact that is an inequality, the variables and the fields of the entries, two counts, and the
+    // kinds of the entries.
     pub const RELATIONS: usize = 144;
 
     pub const VARIABLES: usize = 208;
@@ -49,7 +53,15 @@ impl State {
 
     pub const ENTRIES: usize = 337;
 
-    pub const BYTES: usize = 338;
+    pub const KINDS: usize = 338;
+
+    pub const BYTES: usize = 402;
+
+    // The kind of an entry: `acc`.
+    pub const ACC: u8 = 0;
+
+    // Marks: one for each place of a key.
+    pub const MARKS: usize = 512;
 
     // Keys: the variables', null's, the paths', so many for each variable, and the numbers'.
     pub const VARIABLE_KEYS: u64 = 15;
@@ -67,6 +79,13 @@ impl State {
 
     pub const VARIABLE_COUNT: u8 = 15;
 
+    // The variables `this`, w and `result`.
+    pub const THIS: u8 = 0;
+
+    pub const PARAM: u8 = 1;
+
+    pub const RESULT: u8 = 14;
+
     pub const NO_VARIABLE: u8 = 255;
 
     pub fn offsets() -> State
@@ -82,7 +101,10 @@ impl State {
             fields: State::FIELDS,
             facts: State::FACTS,
             entries: State::ENTRIES,
+            kinds: State::KINDS,
             bytes: State::BYTES,
+            acc: State::ACC,
+            marks: State::MARKS,
         }
     }
 }
@@ -266,18 +288,19 @@ pub fn push(
     link_unless(label, m, ne);
 }
 
-// A place below 512 for each key.
+// A place among the marks for each key.
 pub fn place(k: u64) -> usize
-    ensures { λ r. ⌜ (r ≡ placeOf k) × (r < 512) ⌝ }
+    ensures { λ r. ⌜ (r ≡ placeOf k) × (r < mark-count) ⌝ }
 {
-    ((k / 8 + k % 512) % 512) as usize
+    let n = State::MARKS as u64;
+    ((k / 8 + k % n) % n) as usize
 }
 
 // The label of the slot that holds the key, NO_LABEL where none does: none does where the key's place is not marked.
 fn label_marked<'a>(
     key: &'a [u64; State::SLOTS],
     label: &'a [u8; State::BYTES],
-    marks: &'a [bool; 512],
+    marks: &'a [bool; State::MARKS],
     m: usize,
     k: u64,
 ) -> u8
@@ -302,7 +325,7 @@ fn label_marked<'a>(
 pub fn push_marked(
     key: &mut [u64; State::SLOTS],
     label: &mut [u8; State::BYTES],
-    marks: &mut [bool; 512],
+    marks: &mut [bool; State::MARKS],
     m: usize,
     ne: bool,
     left: u64,

@@ -20,11 +20,11 @@ use Rattle.check_equality.specs.Links.{Header, termAt, factOf}
 use Rattle.check_equality.proofs.Listing.{listed-more, listed-same, map-append}
 use Rattle.check_equality.proofs.Labels.{header-set}
 use Rattle.check_equality.specs.Layout.{slots, left-sides, right-sides, relations-at, variables-at, fact-count, entry-count}
-use Rattle.check_state.specs.States.{Wf, Linked, facts, apartAt, factAt, factsIn}
+use Rattle.check_state.specs.States.{Wf, Linked, facts, entries, apartAt, factAt, factsIn}
 use Rattle.check_state.proofs.Entries.{no-flags}
 use Rattle.check_inequality.proofs.Searches.{or-none-left, or-none-right}
 use Rattle.check_forgetting.specs.Changes.{Fresh, Dropped, RenamedKeys, Stands, Sized, Unchanged, Rebuilt, renamedKey}
-use Rattle.check_forgetting.proofs.Keeping.{counted-linked, counted-facts, counted-other}
+use Rattle.check_forgetting.proofs.Keeping.{kinds-same, counted-linked, counted-facts, counted-other}
 use Rattle.check_forgetting.proofs.Renaming.{renamed-term}
 
 -- SIDES DROPPED
@@ -116,7 +116,7 @@ renamed-unchanged x to key b key′ m changed w R q =
     record { wf = subst (λ (k : List ℕ). Wf k b) (sym (R .same q)) w; none = λ j a h. no-flags slots j }
 
 pub wf-sized : (key key′ b : List ℕ) → Header key′ → Wf key b → Sized key′ b
-wf-sized key key′ b H w = record { header = H; size = w .linked .size; fit = w .linked .fit; entries-fit = w .fit }
+wf-sized key key′ b H w = record { header = H; size = w .linked .size; fit = w .linked .fit; entries-fit = w .fit; kinds = w .kinds }
 
 -- ONE MORE FACT RENAMED
 module _ (ρ : Renaming) (old b : List ℕ) (i : ℕ) (g h : Bool) (l r : ℕ) (eg : ρ (termAt old (left-sides + 2 * i)) ≡ cond g none (some (termOf l)))
@@ -184,8 +184,12 @@ rebuilt-fresh key₀ b b₁ key b₂ gone n w F L e rest =
     record {
       wf = record {
         linked = counted-linked b₂ n (L .size) key L;
-        fit = omega (arith, counted-other b₂ n (L .size) entry-count (omega arith), rest entry-count (omega arith), F .rest entry-count (omega arith), w .entries-fit);
+        fit = omega (arith, far entry-count (omega arith) (omega arith), w .entries-fit);
+        kinds = kinds-same b (set b₂ fact-count n) (entries b) (entries (set b₂ fact-count n)) (far entry-count (omega arith) (omega arith)) (λ i g. far i (omega arith) (omega arith)) (w .kinds);
       };
       facts = λ ρ old S. counted-facts b₂ n (L .size) key (L .fit) ∙ e ρ old S ∙ ap (renameFacts ρ) (listed-same _ _ (facts b) (λ i h. rw (F .rest (relations-at + i) (omega arith))));
-      rest = λ i g s. counted-other b₂ n (L .size) i s ∙ rest i g ∙ F .rest i (omega arith);
+      rest = far;
     }
+  where
+    far : (i : ℕ) → variables-at ≤ i → (i ≡ fact-count → ⊥) → getD (set b₂ fact-count n) i 0 ≡ getD b i 0
+    far i g s = counted-other b₂ n (L .size) i s ∙ rest i g ∙ F .rest i (omega arith)

@@ -11,15 +11,16 @@ use lib.Dec.{eqb}
 use lib.ListN.{length, getD, set, length-set}
 use lib.Seq.{getD-set-same, getD-set-other}
 use Rattle.rules.specs.Base.{any, mapOption}
+use Rattle.rules.specs.Limits.{most-permissions, most-facts}
 use Rattle.rules.specs.State.{Fact, Permission}
 use Rattle.rules.proofs.Lists.{decide-eq}
 use Rattle.check_equality.specs.Listing.{listed}
 use Rattle.check_equality.specs.Links.{Header, Decides, Pushed, factOf}
-use Rattle.check_equality.proofs.Listing.{listed-more, listed-same, any-append, map-append}
+use Rattle.check_equality.proofs.Listing.{listed-none, listed-more, listed-same, any-append, map-append}
 use Rattle.check_equality.proofs.Labels.{header-set}
-use Rattle.check_equality.specs.Layout.{left-sides, right-sides, relations-at, variables-at, fields-at, fact-count, entry-count, bytes}
-use Rattle.check_state.specs.States.{factAt, factsIn, factsOf, facts, entries, permissionAt, permissionsIn, Linked, Wf}
-use Rattle.check_forgetting.specs.Changes.{kept, gone, KeepsFact, KeepsEntry, Packed, renamedPermission}
+use Rattle.check_equality.specs.Layout.{left-sides, right-sides, relations-at, variables-at, fields-at, fact-count, entry-count, kinds-at, bytes}
+use Rattle.check_state.specs.States.{factAt, factsIn, factsOf, facts, entries, variableAt, fieldAt, permissionAt, permissionsIn, kindAt, IsKind, KindsIn, Linked, Wf}
+use Rattle.check_forgetting.specs.Changes.{kept, gone, renamedVariable, KeepsFact, RenamedEntries, SameEntry, KeepsEntry, Packed}
 
 module _ {A : Type 0} where
   pub kept-none : (out : List Bool) (f : ℕ → A) → kept out f 0 ≡ []
@@ -96,7 +97,7 @@ decides-same b b′ e D =
       linked = λ t u d. ⊎-elim (λ p. inl p) (λ w. inr (record { one = w .one; other = w .other; one-within = w .one-within; other-within = w .other-within; one-is = w .one-is; other-is = w .other-is; agree = e (w .one) (w .one-within) ∙ w .agree ∙ sym (e (w .other) (w .other-within)) })) (D .linked t u d);
     }
 
-pub facts-same : (key b b′ : List ℕ) (n : ℕ) → n ≤ 64 → ((i : ℕ) → i < variables-at → getD b′ i 0 ≡ getD b i 0) → factsIn key b′ n ≡ factsIn key b n
+pub facts-same : (key b b′ : List ℕ) (n : ℕ) → n ≤ most-facts → ((i : ℕ) → i < variables-at → getD b′ i 0 ≡ getD b i 0) → factsIn key b′ n ≡ factsIn key b n
 facts-same key b b′ n h e = listed-same _ _ n (λ i g. rw (e (relations-at + i) (omega arith)))
 
 pub linked-same : (key b b′ : List ℕ) (n : ℕ) → length b′ ≡ bytes → ((i : ℕ) → i < variables-at → getD b′ i 0 ≡ getD b i 0) → Linked key b n → Linked key b′ n
@@ -109,20 +110,21 @@ linked-same key b b′ n l e L =
     }
 
 pub entries-same :
-    (b b′ : List ℕ) (n : ℕ) → n ≤ 64 → ((i : ℕ) → variables-at ≤ i → i < fact-count → getD b′ i 0 ≡ getD b i 0) → (i : ℕ) → i < n → permissionAt b′ i ≡ permissionAt b i
+    (b b′ : List ℕ) (n : ℕ) → n ≤ most-permissions → ((i : ℕ) → variables-at ≤ i → i < fact-count → getD b′ i 0 ≡ getD b i 0) → (i : ℕ) → i < n → permissionAt b′ i ≡ permissionAt b i
 entries-same b b′ n h e i g = ap₂ (λ (x f : ℕ). record { variable = x; field = f }) (e (variables-at + i) (omega arith) (omega arith)) (e (fields-at + i) (omega arith) (omega arith))
 
+-- the kinds are as they were
+pub kinds-same : (b b′ : List ℕ) (n n′ : ℕ) → n′ ≡ n → ((i : ℕ) → kinds-at ≤ i → getD b′ i 0 ≡ getD b i 0) → KindsIn b n → KindsIn b′ n′
+kinds-same b b′ n n′ d e w i h = subst IsKind (sym (e (kinds-at + i) (omega arith))) (w i (omega arith))
+
 -- a state whose facts are as they were
-pub packed-linked : (key b b′ : List ℕ) (out : List Bool) (x to : ℕ) → Wf key b → Packed b out x to b′ → Linked key b′ (facts b)
-packed-linked key b b′ out x to w P = linked-same key b b′ (facts b) (P .size) (λ i h. P .rest i (inl h)) (w .linked)
+module _ (key b b′ : List ℕ) (w : Wf key b) (l : length b′ ≡ bytes) (rest : (i : ℕ) → (i < variables-at) ⊎ (i ≡ fact-count) → getD b′ i 0 ≡ getD b i 0) where
+  pub same-linked : Linked key b′ (facts b′)
+  same-linked =
+      subst (λ (n : ℕ). Linked key b′ n) (sym (rest fact-count (inr refl))) (linked-same key b b′ (facts b) l (λ i h. rest i (inl h)) (w .linked))
 
-pub packed-wf : (key b b′ : List ℕ) (out : List Bool) (x to : ℕ) → Wf key b → Packed b out x to b′ → Wf key b′
-packed-wf key b b′ out x to w P =
-    record { linked = subst (λ (n : ℕ). Linked key b′ n) (sym (P .rest fact-count (inr refl))) (packed-linked key b b′ out x to w P); fit = P .few }
-
-pub packed-facts : (key b b′ : List ℕ) (out : List Bool) (x to : ℕ) → Wf key b → Packed b out x to b′ → factsOf key b′ ≡ factsOf key b
-packed-facts key b b′ out x to w P =
-    ap (λ (n : ℕ). factsIn key b′ n) (P .rest fact-count (inr refl)) ∙ facts-same key b b′ (facts b) (w .linked .fit) (λ i h. P .rest i (inl h))
+  pub same-facts : factsOf key b′ ≡ factsOf key b
+  same-facts = ap (λ (n : ℕ). factsIn key b′ n) (rest fact-count (inr refl)) ∙ facts-same key b b′ (facts b) (w .linked .fit) (λ i h. rest i (inl h))
 
 -- the count of facts is written
 module _ (b : List ℕ) (n : ℕ) (l : length b ≡ bytes) where
@@ -136,11 +138,11 @@ module _ (b : List ℕ) (n : ℕ) (l : length b ≡ bytes) where
   counted-linked key L =
       subst (λ (k : ℕ). Linked key (set b fact-count n) k) (sym counted) (linked-same key b (set b fact-count n) n (length-set b fact-count n ∙ l) (λ i h. counted-other i (omega arith)) L)
 
-  pub counted-facts : (key : List ℕ) → n ≤ 64 → factsOf key (set b fact-count n) ≡ factsIn key b n
+  pub counted-facts : (key : List ℕ) → n ≤ most-facts → factsOf key (set b fact-count n) ≡ factsIn key b n
   counted-facts key h = ap (λ (k : ℕ). factsIn key (set b fact-count n) k) counted ∙ facts-same key b (set b fact-count n) n h (λ i g. counted-other i (omega arith))
 
 -- ONE MORE FACT
-module _ (key b : List ℕ) (n c l r : ℕ) (L : Linked key b n) (h : n < 64) (key′ b₁ : List ℕ) (d : Bool) (e : eqb c 1 ≡ d) (P : Pushed key b (left-sides + 2 * n) d l r key′ b₁) where
+module _ (key b : List ℕ) (n c l r : ℕ) (L : Linked key b n) (h : n < most-facts) (key′ b₁ : List ℕ) (d : Bool) (e : eqb c 1 ≡ d) (P : Pushed key b (left-sides + 2 * n) d l r key′ b₁) where
   abbrev b₂ : List ℕ
   b₂ = set b₁ (relations-at + n) c
 
@@ -199,60 +201,142 @@ pub drops-fact : (key b : List ℕ) (n c l r : ℕ) → Linked key b n → Keeps
 drops-fact key b n c l r L =
     record { few = omega arith; linked = L; facts = sym (append-nil (factsIn key b n)); keys = λ j g. refl; rest = λ j g. refl }
 
+-- ONE MORE ENTRY RENAMED
+pub renamed-more :
+    (x to : ℕ) (b₀ : List ℕ) (i : ℕ) (b : List ℕ) (v : ℕ) → i < most-permissions → RenamedEntries x to b₀ i b → v ≡ renamedVariable x to (variableAt b i) →
+    RenamedEntries x to b₀ (i + 1) (set b (variables-at + i) v)
+renamed-more x to b₀ i b v h R e =
+    record {
+      size = length-set b (variables-at + i) v ∙ R .size;
+      variables = λ j g. ⊎-elim (λ d. rw d here) (λ d. other (variables-at + j) (omega arith) ∙ R .variables j (omega arith)) (decide-eq j i);
+      rest = λ j g. ⊎-elim (λ p. other j (omega arith) ∙ R .rest j (inl p)) (λ p. other j (omega arith) ∙ R .rest j (inr (omega arith))) g;
+    }
+  where
+    other : (j : ℕ) → (j ≡ variables-at + i → ⊥) → getD (set b (variables-at + i) v) j 0 ≡ getD b j 0
+    other j d = getD-set-other b (variables-at + i) j v 0 d
+
+    here : variableAt (set b (variables-at + i) v) i ≡ renamedVariable x to (variableAt b₀ i)
+    here = getD-set-same b (variables-at + i) v 0 (omega (arith, R .size)) ∙ e ∙ ap (renamedVariable x to) (R .rest (variables-at + i) (inr (omega arith)))
+
 -- ONE MORE ENTRY
-module _ (b : List ℕ) (n x f : ℕ) (l : length b ≡ bytes) (h : n < 64) where
+module _ (b : List ℕ) (n x f k : ℕ) (l : length b ≡ bytes) (h : n < most-permissions) where
+  abbrev with-path : List ℕ
+  with-path = set (set b (variables-at + n) x) (fields-at + n) f
+
   abbrev pub with-entry : List ℕ
-  with-entry = set (set b (variables-at + n) x) (fields-at + n) f
+  with-entry = set with-path (kinds-at + n) k
+
+  path-size : length with-path ≡ bytes
+  path-size = length-set (set b (variables-at + n) x) (fields-at + n) f ∙ length-set b (variables-at + n) x ∙ l
 
   pub entry-size : length with-entry ≡ bytes
-  entry-size = length-set (set b (variables-at + n) x) (fields-at + n) f ∙ length-set b (variables-at + n) x ∙ l
+  entry-size = length-set with-path (kinds-at + n) k ∙ path-size
 
-  pub entry-other : (j : ℕ) → (j ≡ variables-at + n → ⊥) → (j ≡ fields-at + n → ⊥) → getD with-entry j 0 ≡ getD b j 0
-  entry-other j p q = getD-set-other (set b (variables-at + n) x) (fields-at + n) j f 0 q ∙ getD-set-other b (variables-at + n) j x 0 p
+  pub entry-other : (j : ℕ) → (j ≡ variables-at + n → ⊥) → (j ≡ fields-at + n → ⊥) → (j ≡ kinds-at + n → ⊥) → getD with-entry j 0 ≡ getD b j 0
+  entry-other j p q r =
+      getD-set-other with-path (kinds-at + n) j k 0 r ∙ getD-set-other (set b (variables-at + n) x) (fields-at + n) j f 0 q
+      ∙ getD-set-other b (variables-at + n) j x 0 p
 
-  entry-at : (j : ℕ) → j < 64 → (j ≡ n → ⊥) → permissionAt with-entry j ≡ permissionAt b j
+  entry-at : (j : ℕ) → j < most-permissions → (j ≡ n → ⊥) → SameEntry b with-entry j
   entry-at j g d =
-      ap₂ (λ (x f : ℕ). record { variable = x; field = f }) (entry-other (variables-at + j) (omega arith) (omega arith)) (entry-other (fields-at + j) (omega arith) (omega arith))
+      record {
+        permission = ap₂ (λ (x f : ℕ). record { variable = x; field = f }) (entry-other (variables-at + j) (omega arith) (omega arith) (omega arith)) (entry-other (fields-at + j) (omega arith) (omega arith) (omega arith));
+        kind = entry-other (kinds-at + j) (omega arith) (omega arith) (omega arith);
+      }
+
+  path-at : (j : ℕ) → j < kinds-at → getD with-entry j 0 ≡ getD with-path j 0
+  path-at j g = getD-set-other with-path (kinds-at + n) j k 0 (omega arith)
 
   entry-new : permissionAt with-entry n ≡ record { variable = x; field = f }
   entry-new =
       ap₂ (λ (x f : ℕ). record { variable = x; field = f })
-      (getD-set-other (set b (variables-at + n) x) (fields-at + n) (variables-at + n) f 0 (omega arith) ∙ getD-set-same b (variables-at + n) x 0 (omega arith))
-      (getD-set-same (set b (variables-at + n) x) (fields-at + n) f 0 (rw (length-set b (variables-at + n) x) (omega arith)))
+      (path-at (variables-at + n) (omega arith) ∙ getD-set-other (set b (variables-at + n) x) (fields-at + n) (variables-at + n) f 0 (omega arith) ∙ getD-set-same b (variables-at + n) x 0 (omega arith))
+      (path-at (fields-at + n) (omega arith) ∙ getD-set-same (set b (variables-at + n) x) (fields-at + n) f 0 (rw (length-set b (variables-at + n) x) (omega arith)))
+
+  kind-new : kindAt with-entry n ≡ k
+  kind-new = getD-set-same with-path (kinds-at + n) k 0 (omega (arith, path-size))
 
   pub entries-more : permissionsIn with-entry (n + 1) ≡ permissionsIn b n ++ (record { variable = x; field = f } ∷ [])
   entries-more =
       listed-more (permissionAt with-entry) n
-      ∙ ap₂ (λ (ps : List Permission) (p : Permission). ps ++ (p ∷ [])) (listed-same _ _ n (λ i g. entry-at i (omega arith) (omega arith))) entry-new
+      ∙ ap₂ (λ (ps : List Permission) (p : Permission). ps ++ (p ∷ [])) (listed-same _ _ n (λ i g. entry-at i (omega arith) (omega arith) .permission)) entry-new
 
-  pub keeps-entry : KeepsEntry b n false x f with-entry (n + 1)
+  pub kinds-more : IsKind k → KindsIn b n → KindsIn with-entry (n + 1)
+  kinds-more w ws i g =
+      ⊎-elim (λ d. subst IsKind (sym (ap (kindAt with-entry) d ∙ kind-new)) w) (λ d. subst IsKind (sym (entry-at i (omega arith) d .kind)) (ws i (omega arith)))
+      (decide-eq i n)
+
+  pub keeps-entry : KeepsEntry b n false x f k with-entry (n + 1)
   keeps-entry =
       record {
         few = omega arith;
         size = entry-size;
+        kinds = kinds-more;
         entries = entries-more;
         later = λ j g s. entry-at j s (omega arith);
-        rest = λ j g. ⊎-elim (λ p. entry-other j (omega arith) (omega arith)) (λ p. entry-other j (omega arith) (omega arith)) g;
+        rest = λ j g. ⊎-elim (λ p. entry-other j (omega arith) (omega arith) (omega arith)) (λ p. entry-other j (omega arith) (omega arith) (omega arith)) g;
       }
 
-pub drops-entry : (b : List ℕ) (n x f : ℕ) → length b ≡ bytes → KeepsEntry b n true x f b n
-drops-entry b n x f l =
-    record { few = omega arith; size = l; entries = sym (append-nil (permissionsIn b n)); later = λ j g s. refl; rest = λ j g. refl }
+pub drops-entry : (b : List ℕ) (n x f k : ℕ) → length b ≡ bytes → KeepsEntry b n true x f k b n
+drops-entry b n x f k l =
+    record {
+      few = omega arith;
+      size = l;
+      kinds = λ w ws. ws;
+      entries = sym (append-nil (permissionsIn b n));
+      later = λ j g s. record { permission = refl; kind = refl };
+      rest = λ j g. refl;
+    }
+
+-- PACKED: the first i entries are, the others are as they were
+pub record Packing (b₀ : List ℕ) (out : List Bool) (i : ℕ) (b : List ℕ) (n : ℕ) : Type 0 where
+  pub few : n ≤ i
+  pub size : length b ≡ bytes
+  pub kinds : KindsIn b₀ i → KindsIn b n
+  pub entries : permissionsIn b n ≡ kept out (permissionAt b₀) i
+  pub later : (j : ℕ) → i ≤ j → j < most-permissions → SameEntry b₀ b j
+  pub rest : (j : ℕ) → (j < variables-at) ⊎ (j ≡ fact-count) → getD b j 0 ≡ getD b₀ j 0
+
+pub packing-first : (b : List ℕ) (out : List Bool) → length b ≡ bytes → Packing b out 0 b 0
+packing-first b out l =
+    record {
+      few = omega arith;
+      size = l;
+      kinds = λ w i h. absurd (omega arith);
+      entries = listed-none (permissionAt b) ∙ sym (kept-none out (permissionAt b));
+      later = λ j g s. record { permission = refl; kind = refl };
+      rest = λ j g. refl;
+    }
+
+pub packing-more :
+    (b₀ : List ℕ) (out : List Bool) (i : ℕ) (b : List ℕ) (n : ℕ) (b′ : List ℕ) (n′ : ℕ) → i < most-permissions → Packing b₀ out i b n →
+    KeepsEntry b n (getD out i false) (variableAt b i) (fieldAt b i) (kindAt b i) b′ n′ → Packing b₀ out (i + 1) b′ n′
+packing-more b₀ out i b n b′ n′ h P K =
+    record {
+      few = omega (arith, K .few, P .few);
+      size = K .size;
+      kinds = λ w. K .kinds (subst IsKind (sym (P .later i (omega arith) h .kind)) (w i (omega arith))) (P .kinds (λ j g. w j (omega arith)));
+      entries =
+          K .entries
+          ∙ ap₂ (λ (ps : List Permission) (p : Permission). ps ++ cond (getD out i false) [] (p ∷ [])) (P .entries) (P .later i (omega arith) h .permission)
+          ∙ sym (kept-more out (permissionAt b₀) i);
+      later = λ j g s. let k = K .later j (omega (arith, P .few)) s in let p = P .later j (omega arith) s in record { permission = k .permission ∙ p .permission; kind = k .kind ∙ p .kind };
+      rest = λ j g. K .rest j g ∙ P .rest j g;
+    }
 
 -- the count of entries is written
-pub packed-at :
-    (b₀ b : List ℕ) (out : List Bool) (x to n : ℕ) → length b ≡ bytes → n ≤ 64 → permissionsIn b n ≡ kept out (renamedPermission b₀ x to) (entries b₀) →
-    ((j : ℕ) → (j < variables-at) ⊎ (fact-count ≤ j) → getD b j 0 ≡ getD b₀ j 0) → Packed b₀ out x to (set b entry-count n)
-packed-at b₀ b out x to n l h e rest =
+pub packed-at : (b₀ b : List ℕ) (out : List Bool) (n : ℕ) → entries b₀ ≤ most-permissions → Packing b₀ out (entries b₀) b n → Packed b₀ out (set b entry-count n)
+packed-at b₀ b out n h P =
     record {
-      size = length-set b entry-count n ∙ l;
-      few = omega (arith, last);
-      entries = ap (permissionsIn (set b entry-count n)) last ∙ listed-same _ _ n (entries-same b (set b entry-count n) n h (λ i g s. at i (omega arith))) ∙ e;
-      rest = λ i g. ⊎-elim (λ p. at i (omega arith) ∙ rest i (inl p)) (λ p. at i (omega arith) ∙ rest i (inr (omega arith))) g;
+      size = length-set b entry-count n ∙ P .size;
+      few = omega (arith, last, P .few);
+      kinds = λ w i g. subst IsKind (sym (at (kinds-at + i) (omega arith))) (P .kinds w i (omega (arith, last)));
+      entries = ap (permissionsIn (set b entry-count n)) last ∙ listed-same _ _ n (entries-same b (set b entry-count n) n (omega (arith, P .few)) (λ i g s. at i (omega arith))) ∙ P .entries;
+      rest = λ i g. at i (⊎-elim (λ p q. omega arith) (λ p q. omega arith) g) ∙ P .rest i g;
     }
   where
     at : (i : ℕ) → (i ≡ entry-count → ⊥) → getD (set b entry-count n) i 0 ≡ getD b i 0
     at i g = getD-set-other b entry-count i n 0 g
 
     last : entries (set b entry-count n) ≡ n
-    last = getD-set-same b entry-count n 0 (omega arith)
+    last = getD-set-same b entry-count n 0 (omega (arith, P .size))

@@ -12,6 +12,7 @@ use Rattle.rules.specs.Syntax as Syntax
 use Rattle.rules.specs.Syntax.{path}
 use Rattle.rules.proofs.Closure.{same→≡}
 use Rattle.rules.proofs.Lists.{decide-eq}
+use Rattle.check_equality.specs.Layout.{mark-count}
 use Rattle.check_equality.specs.Keys.{termOf, keyOf}
 use Rattle.check_equality.specs.Links.{placeOf}
 use Rattle.check_equality.specs.Listing.{listed}
@@ -21,7 +22,7 @@ use Rattle.check_state.specs.States.{variableAt, fieldAt}
 use Rattle.check_state.specs.Questions.{places}
 use Rattle.check_forgetting.specs.Changes.{pathOut, pathOutAt, placeOfPath, Marks, MarksOut}
 
-pub marked : (marks : List Bool) (x f k p : ℕ) → length marks ≡ 512 → termOf k ≡ path x f → (p ≡ placeOf k) × (p < 512) → Marks true x f marks (set marks p true)
+pub marked : (marks : List Bool) (x f k p : ℕ) → length marks ≡ mark-count → termOf k ≡ path x f → (p ≡ placeOf k) × (p < mark-count) → Marks true x f marks (set marks p true)
 marked marks x f k p l e q = record { size = length-set marks p true; new = λ _. rw (sym here) (set-here); old = on }
   where
     here : p ≡ placeOfPath x f

@@ -60,7 +60,7 @@ module _ (key b b′ : List ℕ) (H : Header key) (l : length b ≡ bytes) (F : 
   unfolding listed
   cleared =
       record {
-        wf = record { linked = subst (λ (n : ℕ). Linked key done n) (sym none) (fresh-linked key done H size (λ i h. at i (omega arith) (omega arith) ∙ F .own i h)); fit = omega (arith, last) };
+        wf = record { linked = subst (λ (n : ℕ). Linked key done n) (sym none) (fresh-linked key done H size (λ i h. at i (omega arith) (omega arith) ∙ F .own i h)); fit = omega (arith, last); kinds = λ i h. absurd (omega (arith, last)) };
         same = ap₂ (λ (n m : ℕ). record { permissions = permissionsIn done n; facts = factsIn key done m }) last none;
       }
 

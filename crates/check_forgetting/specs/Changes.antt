@@ -12,11 +12,11 @@ use Rattle.rules.specs.Limits.{most-permissions, most-facts}
 use Rattle.rules.specs.Syntax as Syntax
 use Rattle.rules.specs.State as Rules
 use Rattle.rules.specs.State.{Permission, Renaming, renameFacts}
-use Rattle.check_equality.specs.Layout.{left-sides, relations-at, variables-at, fact-count, bytes}
+use Rattle.check_equality.specs.Layout.{left-sides, relations-at, variables-at, fact-count, bytes, mark-count}
 use Rattle.check_equality.specs.Keys.{termOf, keyOf, first-path, paths}
 use Rattle.check_equality.specs.Links.{Header, termAt, factOf, placeOf}
 use Rattle.check_state.specs.declared.Resolved.{Resolved}
-use Rattle.check_state.specs.States.{Wf, Linked, stateOf, facts, entries, factsIn, factsOf, variableAt, fieldAt, permissionsIn, permissionsOf, permissionAt}
+use Rattle.check_state.specs.States.{Wf, Linked, stateOf, facts, entries, factsIn, factsOf, variableAt, fieldAt, permissionsIn, permissionsOf, permissionAt, kindAt, IsKind, KindsIn}
 use Rattle.check_state.specs.Questions.{places}
 
 -- the arrays then hold the state
@@ -42,7 +42,7 @@ gone out f (suc n) = gone out f n ++ cond (getD out n false) (f n ∷ []) []
 
 -- flags of the places below n
 pub record Flags (test : ℕ → Bool) (n : ℕ) (r : List Bool) : Type 0 where
-  pub size : length r ≡ 64
+  pub size : length r ≡ most-permissions
   pub at : (i : ℕ) → i < n → getD r i false ≡ test i
 
 -- WHAT A FORMULA CONSUMES
@@ -70,9 +70,6 @@ mentionsKey x k = eqb k x || (leb (first-path + x * paths) k && ltb (k - (first-
 
 unfoldable pub renamedVariable : ℕ → ℕ → ℕ → ℕ
 renamedVariable x to v = cond (eqb v x) to v
-
-abbrev pub renamedPermission : List ℕ → ℕ → ℕ → ℕ → Permission
-renamedPermission b x to i = record { variable = renamedVariable x to (variableAt b i); field = fieldAt b i }
 
 -- one more fact, unless it is out; c is 1 for an inequality
 pub record KeepsFact (key b : List ℕ) (n : ℕ) (out : Bool) (c l r : ℕ) (key′ b′ : List ℕ) (n′ : ℕ) : Type 0 where
@@ -108,6 +105,7 @@ pub record Sized (key b : List ℕ) : Type 0 where
   pub size : length b ≡ bytes
   pub fit : facts b ≤ most-facts
   pub entries-fit : entries b ≤ most-permissions
+  pub kinds : KindsIn b (entries b)
 
 -- nothing changes
 pub record Unchanged (key b : List ℕ) (gone : List Bool) : Type 0 where
@@ -121,19 +119,32 @@ pub record Rebuilt (key b : List ℕ) (gone : List Bool) (key′ b′ : List ℕ
   pub rest : (i : ℕ) → variables-at ≤ i → (i ≡ fact-count → ⊥) → getD b′ i 0 ≡ getD b i 0
 
 -- ENTRIES
+-- the variables of the first n renamed, and nothing else
+pub record RenamedEntries (x to : ℕ) (b : List ℕ) (n : ℕ) (b′ : List ℕ) : Type 0 where
+  pub size : length b′ ≡ bytes
+  pub variables : (i : ℕ) → i < n → variableAt b′ i ≡ renamedVariable x to (variableAt b i)
+  pub rest : (i : ℕ) → (i < variables-at) ⊎ (variables-at + n ≤ i) → getD b′ i 0 ≡ getD b i 0
+
+-- the entry i is what it was
+pub record SameEntry (b b′ : List ℕ) (i : ℕ) : Type 0 where
+  pub permission : permissionAt b′ i ≡ permissionAt b i
+  pub kind : kindAt b′ i ≡ kindAt b i
+
 -- one more entry, unless it is out
-pub record KeepsEntry (b : List ℕ) (n : ℕ) (out : Bool) (x f : ℕ) (b′ : List ℕ) (n′ : ℕ) : Type 0 where
+pub record KeepsEntry (b : List ℕ) (n : ℕ) (out : Bool) (x f k : ℕ) (b′ : List ℕ) (n′ : ℕ) : Type 0 where
   pub few : n′ ≤ n + 1
   pub size : length b′ ≡ bytes
+  pub kinds : IsKind k → KindsIn b n → KindsIn b′ n′
   pub entries : permissionsIn b′ n′ ≡ permissionsIn b n ++ cond out [] (record { variable = x; field = f } ∷ [])
-  pub later : (j : ℕ) → n < j → j < 64 → permissionAt b′ j ≡ permissionAt b j
-  pub rest : (j : ℕ) → (j < variables-at) ⊎ (fact-count ≤ j) → getD b′ j 0 ≡ getD b j 0
+  pub later : (j : ℕ) → n < j → j < most-permissions → SameEntry b b′ j
+  pub rest : (j : ℕ) → (j < variables-at) ⊎ (j ≡ fact-count) → getD b′ j 0 ≡ getD b j 0
 
--- the entries that are not out, renamed; the facts stay
-pub record Packed (b : List ℕ) (out : List Bool) (x to : ℕ) (b′ : List ℕ) : Type 0 where
+-- the entries that are not out; the facts stay
+pub record Packed (b : List ℕ) (out : List Bool) (b′ : List ℕ) : Type 0 where
   pub size : length b′ ≡ bytes
   pub few : entries b′ ≤ most-permissions
-  pub entries : permissionsOf b′ ≡ kept out (renamedPermission b x to) (entries b)
+  pub kinds : KindsIn b (entries b) → KindsIn b′ (entries b′)
+  pub entries : permissionsOf b′ ≡ kept out (permissionAt b) (entries b)
   pub rest : (i : ℕ) → (i < variables-at) ⊎ (i ≡ fact-count) → getD b′ i 0 ≡ getD b i 0
 
 -- PATHS THAT ARE OUT
@@ -159,7 +170,7 @@ pub record Marks (out : Bool) (x f : ℕ) (marks marks′ : List Bool) : Type 0 
 
 -- the places of the paths of the first n entries that are out are marked
 pub record MarksOut (b : List ℕ) (out : List Bool) (n : ℕ) (marks : List Bool) : Type 0 where
-  pub size : length marks ≡ 512
+  pub size : length marks ≡ mark-count
   pub at : (i : ℕ) → i < n → getD out i false ≡ true → getD marks (placeOfPath (variableAt b i) (fieldAt b i)) false ≡ true
 
 abbrev pub withoutPath : List ℕ → List ℕ → ℕ → Rules.State

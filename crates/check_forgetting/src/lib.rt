@@ -1,6 +1,7 @@
 // What becomes of terms when paths or a variable go: the remainder, removing, `set`.
 use check_equality::State;
 use check_state::Resolved;
+use rules::Machine;
 ghost use mathlib.Core.Path.{_≡_};
 ghost use mathlib.Core.Bool.{false};
 ghost use mathlib.Core.Option.{none, some};
@@ -9,15 +10,16 @@ ghost use Prim.Native.Nat.{ℕ, _+_, _*_, _≤_, _<_};
 ghost use lib.ListN.{length, getD};
 ghost use lib.Dec.{eqb};
 ghost use Rattle.rules.specs.Base.{any};
+ghost use Rattle.rules.specs.Limits.{most-permissions, most-facts};
 ghost use Rattle.rules.specs.Syntax as Syntax;
 ghost use Rattle.rules.specs.State as Rules;
 ghost use Rattle.rules.specs.State.{renameTerm};
-ghost use Rattle.check_equality.specs.Layout.{slots, bytes, left-sides, variables-at, fields-at};
+ghost use Rattle.check_equality.specs.Layout.{slots, bytes, left-sides, variables-at, fields-at, mark-count};
 ghost use Rattle.check_equality.specs.Keys.{termOf};
 ghost use Rattle.check_equality.specs.Links.{Header, Marked};
 ghost use Rattle.check_state.specs.States.{Wf, Linked, stateOf, entries};
 ghost use Rattle.check_state.specs.Questions.{places, variableOr};
-ghost use Rattle.check_forgetting.specs.Changes.{Becomes, Fresh, renamedKey, mentionsKey, renamedVariable, Dropped, RenamedKeys, KeepsFact, KeepsEntry, Sized, Unchanged, Rebuilt, Packed, Flags, pathOut, pathOutAt, keyOut, Marks, MarksOut, Taken, withoutPath, leftOver};
+ghost use Rattle.check_forgetting.specs.Changes.{Becomes, Fresh, renamedKey, mentionsKey, renamedVariable, Dropped, RenamedKeys, KeepsFact, KeepsEntry, Sized, Unchanged, Rebuilt, RenamedEntries, Packed, Flags, pathOut, pathOutAt, keyOut, Marks, MarksOut, Taken, withoutPath, leftOver};
 
 // The keys of a state that knows nothing: in the slots before the facts' the variables and null.
 pub fn header() -> [u64; State::SLOTS]
@@ -96,14 +98,14 @@ fn rename_variable(v: u8, x: u8, to: u8) -> u8
 fn keep_fact(
     key: &mut [u64; State::SLOTS],
     b: &mut [u8; State::BYTES],
-    marks: &mut [bool; 512],
+    marks: &mut [bool; State::MARKS],
     n: usize,
     out: bool,
     c: u8,
     l: u64,
     r: u64,
 ) -> usize
-    requires { ⌜ (n < 64) × Linked (now key) (now b) n × Marked (now key) (now marks) (left-sides + 2 * n) ⌝ }
+    requires { ⌜ (n < most-facts) × Linked (now key) (now b) n × Marked (now key) (now marks) (left-sides + 2 * n) ⌝ }
     ensures { λ a. ⌜ KeepsFact (now (key .entry)) (now (b .entry)) n out c l r (now (key .exit)) (now (b .exit)) a × Marked (now (key .exit)) (now (marks .exit)) (left-sides + 2 * a) ⌝ }
 {
     if out {
@@ -163,11 +165,11 @@ fn drop_variable<'a>(
 fn drop_paths<'a>(
     key: &'a [u64; State::SLOTS],
     b: &'a [u8; State::BYTES],
-    out: &'a [bool; 64],
+    out: &'a [bool; Machine::PERMISSIONS],
     m: usize,
     gone: &mut [bool; State::SLOTS],
 ) -> bool
-    requires { ⌜ (m ≤ slots) × (entries (now b) ≤ 64) × (length (now gone) ≡ slots) ⌝ }
+    requires { ⌜ (m ≤ slots) × (entries (now b) ≤ most-permissions) × (length (now gone) ≡ slots) ⌝ }
     ensures { λ r. ⌜ Dropped (keyOut (now (b .entry)) (now (out .entry))) (now (key .entry)) m (now (gone .exit)) r ⌝ }
 {
     let n = b[State::ENTRIES] as usize;
@@ -206,7 +208,7 @@ fn rebuild(key: &mut [u64; State::SLOTS], b: &mut [u8; State::BYTES], gone: &[bo
     ensures { λ _. ⌜ Rebuilt (now (key .entry)) (now (b .entry)) (now (gone .entry)) (now (key .exit)) (now (b .exit)) ⌝ }
 {
     let all = b[State::FACTS] as usize;
-    let mut marks = [false; 512];
+    let mut marks = [false; State::MARKS];
     fresh(b);
     let mut n = 0;
     let mut i = 0;
@@ -238,42 +240,60 @@ fn forget(
     }
 }
 
-// One more entry, unless it is out; the count of entries then.
-fn keep_entry(b: &mut [u8; State::BYTES], n: usize, out: bool, x: u8, f: u8) -> usize
-    requires { ⌜ (n < 64) × (length (now b) ≡ bytes) ⌝ }
-    ensures { λ a. ⌜ KeepsEntry (now (b .entry)) n out x f (now (b .exit)) a ⌝ }
+// ENTRIES. What becomes of them: of the entry i what stands there, or nothing where `out` has the flag i. Renaming stores that first.
+
+// x is renamed to the variable `to`.
+fn rename_entries(b: &mut [u8; State::BYTES], x: u8, to: u8)
+    requires { ⌜ (entries (now b) ≤ most-permissions) × (length (now b) ≡ bytes) ⌝ }
+    ensures { λ _. ⌜ RenamedEntries x to (now (b .entry)) (entries (now (b .entry))) (now (b .exit)) ⌝ }
+{
+    let all = b[State::ENTRIES] as usize;
+    let mut i = 0;
+    while i < all {
+        let v = b[State::VARIABLES + i];
+        b[State::VARIABLES + i] = rename_variable(v, x, to);
+        i += 1;
+    }
+}
+
+// One more entry x.f of the kind k, unless it is out; the count of entries then.
+fn keep_entry(b: &mut [u8; State::BYTES], n: usize, out: bool, x: u8, f: u8, k: u8) -> usize
+    requires { ⌜ (n < most-permissions) × (length (now b) ≡ bytes) ⌝ }
+    ensures { λ a. ⌜ KeepsEntry (now (b .entry)) n out x f k (now (b .exit)) a ⌝ }
 {
     if out {
         return n;
     }
     b[State::VARIABLES + n] = x;
     b[State::FIELDS + n] = f;
+    b[State::KINDS + n] = k;
     n + 1
 }
 
-// The entries that are not out, with the variable `to` for x.
-fn pack(b: &mut [u8; State::BYTES], out: &[bool; 64], x: u8, to: u8)
-    requires { ⌜ (entries (now b) ≤ 64) × (length (now b) ≡ bytes) ⌝ }
-    ensures { λ _. ⌜ Packed (now (b .entry)) (now (out .entry)) x to (now (b .exit)) ⌝ }
+// The entries that are not out.
+fn pack(b: &mut [u8; State::BYTES], out: &[bool; Machine::PERMISSIONS])
+    requires { ⌜ (entries (now b) ≤ most-permissions) × (length (now b) ≡ bytes) ⌝ }
+    ensures { λ _. ⌜ Packed (now (b .entry)) (now (out .entry)) (now (b .exit)) ⌝ }
 {
     let all = b[State::ENTRIES] as usize;
     let mut n = 0;
     let mut i = 0;
     while i < all {
-        let v = rename_variable(b[State::VARIABLES + i], x, to);
+        let x = b[State::VARIABLES + i];
         let f = b[State::FIELDS + i];
-        n = keep_entry(b, n, out[i], v, f);
+        let k = b[State::KINDS + i];
+        n = keep_entry(b, n, out[i], x, f, k);
         i += 1;
     }
     b[State::ENTRIES] = n as u8;
 }
 
 // Which entries are x's.
-fn entries_of(b: &[u8; State::BYTES], n: usize, x: u8) -> [bool; 64]
-    requires { ⌜ n ≤ 64 ⌝ }
+fn entries_of(b: &[u8; State::BYTES], n: usize, x: u8) -> [bool; Machine::PERMISSIONS]
+    requires { ⌜ n ≤ most-permissions ⌝ }
     ensures { λ r. ⌜ Flags (λ i. eqb (getD (now (b .entry)) (variables-at + i) 0) x) n r ⌝ }
 {
-    let mut out = [false; 64];
+    let mut out = [false; Machine::PERMISSIONS];
     let mut i = 0;
     while i < n {
         out[i] = b[State::VARIABLES + i] == x;
@@ -293,8 +313,13 @@ fn path_out(out: bool, x: u8, f: u8, k: u64) -> bool
 }
 
 // Is a key that of an entry that is out?
-fn names_out<'a>(b: &'a [u8; State::BYTES], out: &'a [bool; 64], n: usize, k: u64) -> bool
-    requires { ⌜ n ≤ 64 ⌝ }
+fn names_out<'a>(
+    b: &'a [u8; State::BYTES],
+    out: &'a [bool; Machine::PERMISSIONS],
+    n: usize,
+    k: u64,
+) -> bool
+    requires { ⌜ n ≤ most-permissions ⌝ }
     ensures { λ r. ⌜ r ≡ any (pathOutAt (now (b .entry)) (now (out .entry)) k) (places n) ⌝ }
 {
     let mut i = 0;
@@ -308,8 +333,8 @@ fn names_out<'a>(b: &'a [u8; State::BYTES], out: &'a [bool; 64], n: usize, k: u6
 }
 
 // Marks the place of the key of x.f, where that entry is out.
-fn mark(marks: &mut [bool; 512], out: bool, x: u8, f: u8)
-    requires { ⌜ length (now marks) ≡ 512 ⌝ }
+fn mark(marks: &mut [bool; State::MARKS], out: bool, x: u8, f: u8)
+    requires { ⌜ length (now marks) ≡ mark-count ⌝ }
     ensures { λ _. ⌜ Marks out x f (now (marks .entry)) (now (marks .exit)) ⌝ }
 {
     if out {
@@ -319,11 +344,15 @@ fn mark(marks: &mut [bool; 512], out: bool, x: u8, f: u8)
 }
 
 // The places of the keys of all entries that are out.
-fn marks_out<'a>(b: &'a [u8; State::BYTES], out: &'a [bool; 64], n: usize) -> [bool; 512]
-    requires { ⌜ n ≤ 64 ⌝ }
+fn marks_out<'a>(
+    b: &'a [u8; State::BYTES],
+    out: &'a [bool; Machine::PERMISSIONS],
+    n: usize,
+) -> [bool; State::MARKS]
+    requires { ⌜ n ≤ most-permissions ⌝ }
     ensures { λ r. ⌜ MarksOut (now (b .entry)) (now (out .entry)) n r ⌝ }
 {
-    let mut marks = [false; 512];
+    let mut marks = [false; State::MARKS];
     let mut i = 0;
     while i < n {
         mark(
@@ -340,12 +369,12 @@ fn marks_out<'a>(b: &'a [u8; State::BYTES], out: &'a [bool; 64], n: usize) -> [b
 // As `names_out`, by a look at the marks first.
 fn names_marked<'a>(
     b: &'a [u8; State::BYTES],
-    out: &'a [bool; 64],
-    marks: &'a [bool; 512],
+    out: &'a [bool; Machine::PERMISSIONS],
+    marks: &'a [bool; State::MARKS],
     n: usize,
     k: u64,
 ) -> bool
-    requires { ⌜ (n ≤ 64) × MarksOut (now b) (now out) n (now marks) ⌝ }
+    requires { ⌜ (n ≤ most-permissions) × MarksOut (now b) (now out) n (now marks) ⌝ }
     ensures { λ r. ⌜ r ≡ any (pathOutAt (now (b .entry)) (now (out .entry)) k) (places n) ⌝ }
 {
     let p = check_equality::place(k);
@@ -356,7 +385,11 @@ fn names_marked<'a>(
 }
 
 // The state without the entries that are out, and without the facts that name their paths.
-pub fn remainder(key: &mut [u64; State::SLOTS], b: &mut [u8; State::BYTES], out: &[bool; 64])
+pub fn remainder(
+    key: &mut [u64; State::SLOTS],
+    b: &mut [u8; State::BYTES],
+    out: &[bool; Machine::PERMISSIONS],
+)
     requires { ⌜ Wf (now key) (now b) ⌝ }
     ensures { λ _. ⌜ ((c : Rules.Shown) → Taken (now (b .entry)) (now (out .entry)) c → Becomes (Rules.remainder (stateOf (now (key .entry)) (now (b .entry))) c) (now (key .exit)) (now (b .exit))) ⌝ }
 {
@@ -364,7 +397,7 @@ pub fn remainder(key: &mut [u64; State::SLOTS], b: &mut [u8; State::BYTES], out:
     let mut gone = [false; State::SLOTS];
     let changed = drop_paths(key, b, out, m, &mut gone);
     forget(key, b, &gone, changed);
-    pack(b, out, 0, 0);
+    pack(b, out);
 }
 
 // The state without the facts that name the path of entry i, whose key is k.
@@ -389,7 +422,7 @@ fn erase(key: &mut [u64; State::SLOTS], b: &mut [u8; State::BYTES], x: u8)
     let p = b[State::ENTRIES] as usize;
     let out = entries_of(b, p, x);
     forget(key, b, &gone, changed);
-    pack(b, &out, 0, 0);
+    pack(b, &out);
 }
 
 // The variable `to` takes the place of x.
@@ -401,8 +434,7 @@ fn replace(key: &mut [u64; State::SLOTS], b: &mut [u8; State::BYTES], x: u8, to:
     let gone = [false; State::SLOTS];
     let changed = rename_keys(key, m, x, to);
     forget(key, b, &gone, changed);
-    let out = [false; 64];
-    pack(b, &out, x, to);
+    rename_entries(b, x, to);
 }
 
 // The state with `to` in the place of x, or, where that is NO_VARIABLE, without x.

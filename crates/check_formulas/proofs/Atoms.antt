@@ -9,6 +9,7 @@ use borrow.Author.Tests.{eq-eqb, ne-eqb}
 use types.Run.{OneOf, miss}
 use denote.Enum.Declared.{tagOf}
 use Rattle.rules.specs.Base.{Try, _>>=_, any}
+use Rattle.rules.specs.Limits.{most-permissions}
 use Rattle.rules.specs.Answers.{Refusal}
 use Rattle.rules.specs.Syntax.{Formula, Atom, eq, ne, cmp}
 use Rattle.rules.specs.State as Rules
@@ -79,20 +80,20 @@ unfolding answered _>>=_
 is-done k e a f = rw e
 
 -- SHOWING
-pub show-start : (key b : List ℕ) (φ : Formula ℕ) → Showing key b φ φ (replicate 64 false)
+pub show-start : (key b : List ℕ) (φ : Formula ℕ) → Showing key b φ φ (replicate most-permissions false)
 unfolding Rules.show any
 show-start key b φ =
     record {
       size = refl;
       shown = record { kept = permissionsOf b; consumed = [] };
-      taken = record { rest = sym (kept-all (replicate 64 false) (permissionAt b) (entries b) (λ i h. no-flags 64 i)); used = λ q. sym (none-gone q) };
+      taken = record { rest = sym (kept-all (replicate most-permissions false) (permissionAt b) (entries b) (λ i h. no-flags most-permissions i)); used = λ q. sym (none-gone q) };
       same = refl;
     }
   where
-    none-gone : (q : Permission → Bool) → any q (gone (replicate 64 false) (permissionAt b) (entries b)) ≡ false
+    none-gone : (q : Permission → Bool) → any q (gone (replicate most-permissions false) (permissionAt b) (entries b)) ≡ false
     none-gone q =
-        gone-any q (replicate 64 false) (permissionAt b) (entries b)
-        ∙ any-false (λ j. getD (replicate 64 false) j false && q (permissionAt b j)) (listed (λ i. i) (entries b)) (λ j. ap (λ (d : Bool). d && q (permissionAt b j)) (no-flags 64 j))
+        gone-any q (replicate most-permissions false) (permissionAt b) (entries b)
+        ∙ any-false (λ j. getD (replicate most-permissions false) j false && q (permissionAt b j)) (listed (λ i. i) (entries b)) (λ j. ap (λ (d : Bool). d && q (permissionAt b j)) (no-flags most-permissions j))
 
 module _ (key b : List ℕ) (φ rest : Formula ℕ) (out : List Bool) (S : Showing key b φ rest out) (a : Atom ℕ) (more : Formula ℕ) (e : rest ≡ a ∷ more)
     (k : Answer) (out′ : List Bool) (A : ShowsAtom key b out a k out′) where
@@ -123,6 +124,6 @@ add-end key b rest w e = record { wf = w; same = rw e }
 
 pub show-begin :
     (w : List ℕ) (y z x a n : ℕ) (key b : List ℕ) →
-    Showing key b (formula w y z x a n) (formula w y z x (a + 0) (n - 0)) (replicate 64 false)
+    Showing key b (formula w y z x a n) (formula w y z x (a + 0) (n - 0)) (replicate most-permissions false)
 show-begin w y z x a n key b =
-    subst (λ (φ : Formula ℕ). Showing key b (formula w y z x a n) φ (replicate 64 false)) (sym (formula-all w y z x a n)) (show-start key b (formula w y z x a n))
+    subst (λ (φ : Formula ℕ). Showing key b (formula w y z x a n) φ (replicate most-permissions false)) (sym (formula-all w y z x a n)) (show-start key b (formula w y z x a n))

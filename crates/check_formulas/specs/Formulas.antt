@@ -4,6 +4,7 @@ use mathlib.Core.Bool.{Bool}
 use mathlib.Core.List.{List, map}
 use Prim.Native.Nat.{ℕ, _+_}
 use lib.ListN.{length}
+use Rattle.rules.specs.Limits.{most-permissions}
 use Rattle.rules.specs.Syntax.{Atom, Formula, acc}
 use Rattle.rules.specs.State as Rules
 use Rattle.rules.specs.State.{equalIn, showFrom}
@@ -20,14 +21,14 @@ formula w y z x a n = map (substAtom (actual y z x)) (atomsFrom w a n)
 
 -- the whole formula is shown, or why it is not
 pub record Shows (key b : List ℕ) (φ : Formula ℕ) (answer : Answer) (out : List Bool) : Type 0 where
-  pub size : length out ≡ 64
+  pub size : length out ≡ most-permissions
   pub shown : Rules.Shown
   pub taken : Taken b out shown
   pub same : answered answer shown ≡ Rules.show (stateOf key b) φ
 
 -- what is left to show
 pub record Showing (key b : List ℕ) (φ rest : Formula ℕ) (out : List Bool) : Type 0 where
-  pub size : length out ≡ 64
+  pub size : length out ≡ most-permissions
   pub shown : Rules.Shown
   pub taken : Taken b out shown
   pub same : showFrom (equalIn (stateOf key b)) (stateOf key b) rest shown ≡ Rules.show (stateOf key b) φ

@@ -4,6 +4,8 @@ use check_entailment::Atom;
 use check_entailment::Shown;
 use check_equality::State;
 use check_equality::Term;
+use rules::Machine;
+use tables::Layout;
 ghost use mathlib.Core.Path.{_≡_};
 ghost use Prim.Native.Nat.{_+_, _≤_, _<_};
 ghost use lib.ListN.{length};
@@ -23,9 +25,9 @@ fn actual(y: u8, z: u8, x: u8, v: u8) -> u8
     ensures { λ r. ⌜ r ≡ Rule.actual y z x v ⌝ }
 {
     match v {
-        0 => y,
-        1 => z,
-        14 => x,
+        State::THIS => y,
+        State::PARAM => z,
+        State::RESULT => x,
         _ => v,
     }
 }
@@ -48,7 +50,7 @@ pub fn left(w: &[u8], a: usize, y: u8, z: u8, x: u8) -> Term
     requires { ⌜ (length (now w) ≡ work-bytes) × (a < most-atom-rows) ⌝ }
     ensures { λ r. ⌜ meaning r ≡ substTerm (Rule.actual y z x) (leftAt (now (w .entry)) a) ⌝ }
 {
-    let i = 6208 + a * 12;
+    let i = Layout::ATOMS + a * Layout::ATOM_BYTES;
     let tag = tables::byte_at(w, i + 1);
     side(w, tag, i + 4, y, z, x)
 }
@@ -58,7 +60,7 @@ pub fn right(w: &[u8], a: usize, y: u8, z: u8, x: u8) -> Term
     requires { ⌜ (length (now w) ≡ work-bytes) × (a < most-atom-rows) ⌝ }
     ensures { λ r. ⌜ meaning r ≡ substTerm (Rule.actual y z x) (rightAt (now (w .entry)) a) ⌝ }
 {
-    let i = 6208 + a * 12;
+    let i = Layout::ATOMS + a * Layout::ATOM_BYTES;
     let tag = tables::byte_at(w, i + 2);
     side(w, tag, i + 8, y, z, x)
 }
@@ -68,7 +70,7 @@ fn access(w: &[u8], a: usize, y: u8, z: u8, x: u8) -> Atom
     requires { ⌜ (length (now w) ≡ work-bytes) × (a < most-atom-rows) ⌝ }
     ensures { λ r. ⌜ atomOf r ≡ accessAt (now (w .entry)) y z x a ⌝ }
 {
-    let i = 6208 + a * 12;
+    let i = Layout::ATOMS + a * Layout::ATOM_BYTES;
     Atom::Acc(actual(y, z, x, w[i + 4]), w[i + 5])
 }
 
@@ -98,7 +100,7 @@ pub fn show<'a>(
     requires { ⌜ (length (now w) ≡ work-bytes) × (a + n ≤ most-atom-rows) × Wf (now key) (now b) ⌝ }
     ensures { λ r. ⌜ Shows (now (key .entry)) (now (b .entry)) (formula (now (w .entry)) y z x a n) (r .answer) (r .out) ⌝ }
 {
-    let mut out = [false; 64];
+    let mut out = [false; Machine::PERMISSIONS];
     let mut i = 0;
     while i < n {
         let r = check_entailment::show_atom(key, b, out, atom(w, a + i, y, z, x));

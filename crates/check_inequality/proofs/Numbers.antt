@@ -10,9 +10,11 @@ use lib.ListN.{length, getD, set, length-set}
 use lib.Seq.{getD-set-same, getD-set-other}
 use borrow.Author.Tests.{eq-eqb, ne-eqb, lt-ltb, leb-true, leb-false}
 use Rattle.rules.specs.Base.{any}
+use Rattle.rules.specs.Limits.{most-facts}
 use Rattle.rules.specs.Syntax.{num, null, var, path}
 use Rattle.rules.specs.State.{Fact, Term, Equality, representative, equalBy, numbers, termsOf, differentNumbers}
 use Rattle.rules.proofs.Lists.{decide-eq}
+use Rattle.check_equality.specs.Layout.{slots, bytes}
 use Rattle.check_equality.specs.Keys.{termOf}
 use Rattle.check_equality.specs.Listing.{listed}
 use Rattle.check_equality.specs.Links.{Labelled, Decides, alikeBy}
@@ -93,7 +95,7 @@ and-group true b c = refl
 and-group false b c = refl
 
 module _
-    {fs : List Fact} {key label : List ℕ} {m : ℕ} (D : Decides fs key label m) (low : m ≤ 144) (key′ label′ : List ℕ) (n : ℕ)
+    {fs : List Fact} {key label : List ℕ} {m : ℕ} (D : Decides fs key label m) (low : m ≤ slots) (key′ label′ : List ℕ) (n : ℕ)
     (all : (i : ℕ) → i < n → Labelled key label m (getD key′ (14 + i) 0) (getD label′ (14 + i) 0))
   where
     infixl 40 _~_
@@ -160,13 +162,13 @@ module _
 
 -- the two terms stand in the slots 14 and 15
 module _
-    (key label : List ℕ) (n t a u b : ℕ) (h : n ≤ 64) (hk : length key ≡ 144) (hl : length label ≡ 338)
+    (key label : List ℕ) (n t a u b : ℕ) (h : n ≤ most-facts) (hk : length key ≡ slots) (hl : length label ≡ bytes)
     (wt : Labelled key label (16 + 2 * n) t a) (wu : Labelled key label (16 + 2 * n) u b)
   where
-    at-14 : (l : List ℕ) (x y : ℕ) → 144 ≤ length l → getD (set (set l 14 x) 15 y) 14 0 ≡ x
+    at-14 : (l : List ℕ) (x y : ℕ) → slots ≤ length l → getD (set (set l 14 x) 15 y) 14 0 ≡ x
     at-14 l x y e = getD-set-other (set l 14 x) 15 14 y 0 (omega arith) ∙ getD-set-same l 14 x 0 (omega arith)
 
-    at-15 : (l : List ℕ) (x y : ℕ) → 144 ≤ length l → getD (set (set l 14 x) 15 y) 15 0 ≡ y
+    at-15 : (l : List ℕ) (x y : ℕ) → slots ≤ length l → getD (set (set l 14 x) 15 y) 15 0 ≡ y
     at-15 l x y e = getD-set-same (set l 14 x) 15 y 0 (rw (length-set l 14 x) (omega arith))
 
     past-15 : (l : List ℕ) (x y i : ℕ) → 15 < i → getD (set (set l 14 x) 15 y) i 0 ≡ getD l i 0

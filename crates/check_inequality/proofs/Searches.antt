@@ -9,8 +9,10 @@ use lib.Dec.{eqb}
 use lib.ListN.{getD}
 use borrow.Author.Tests.{ne-eqb}
 use Rattle.rules.specs.Base.{any}
+use Rattle.rules.specs.Limits.{most-facts}
 use Rattle.rules.specs.Syntax.{null}
 use Rattle.rules.specs.State.{Fact, Term, representative, equalBy, links, listedUnequal, isNe}
+use Rattle.check_equality.specs.Layout.{slots}
 use Rattle.check_equality.specs.Keys.{termOf}
 use Rattle.check_equality.specs.Listing.{listed}
 use Rattle.check_equality.specs.Links.{Labelled, Decides, termAt, alikeBy, relOf}
@@ -57,7 +59,7 @@ null-like {fs = fs} {key = key} {label = label} S D t a w =
 -- (a)
 -- a slot and a term with its label
 pub slot-like :
-    {fs : List Fact} {key label : List ℕ} {m : ℕ} → Decides fs key label m → m ≤ 144 → (i t a : ℕ) → i < m →
+    {fs : List Fact} {key label : List ℕ} {m : ℕ} → Decides fs key label m → m ≤ slots → (i t a : ℕ) → i < m →
     Labelled key label m t a → equalBy (representative fs) (termAt key i) (termOf t) ≡ eqb (getD label i 0) a
 unfolding alikeBy
 slot-like {key = key} {label = label} D low i t a h w =
@@ -70,7 +72,7 @@ ne-is true = refl
 ne-is false = refl
 
 pub unequal-law :
-    (key label : List ℕ) (n t a u b : ℕ) → n ≤ 64 → Decides (factsIn key label n) key label (16 + 2 * n) →
+    (key label : List ℕ) (n t a u b : ℕ) → n ≤ most-facts → Decides (factsIn key label n) key label (16 + 2 * n) →
     Labelled key label (16 + 2 * n) t a → Labelled key label (16 + 2 * n) u b →
     any (unequalIn label a b) (places n) ≡ listedUnequal (equalBy (representative (factsIn key label n))) (factsIn key label n) (termOf t) (termOf u)
 unfolding listedUnequal unequalAt links eitherWay

@@ -5,6 +5,7 @@ ghost use mathlib.Core.Bool.{true};
 ghost use Prim.Native.Nat.{_+_, _*_, _≤_, _<_};
 ghost use lib.ListN.{length};
 ghost use Rattle.rules.specs.Base.{any};
+ghost use Rattle.rules.specs.Limits.{most-permissions, most-facts};
 ghost use Rattle.rules.specs.Syntax as Syntax;
 ghost use Rattle.rules.specs.Syntax.{var};
 ghost use Rattle.rules.specs.State.{nullAndObject, twoEntries, differentNumbers, equalBy, equalIn, representative, holdsIn};
@@ -33,7 +34,7 @@ fn unequal_at(c: u8, x: u8, y: u8, a: u8, b: u8) -> bool
 
 // (a) Is an inequality listed whose sides have the labels x and y?
 fn listed_unequal(b: &[u8; State::BYTES], n: usize, x: u8, y: u8) -> bool
-    requires { ⌜ n ≤ 64 ⌝ }
+    requires { ⌜ n ≤ most-facts ⌝ }
     ensures { λ r. ⌜ r ≡ any (unequalIn (now (b .entry)) x y) (places n) ⌝ }
 {
     let mut i = 0;
@@ -147,7 +148,7 @@ fn numbers_apart<'a>(
     u: u64,
     b: u8,
 ) -> bool
-    requires { ⌜ (n ≤ 64) × (length (now key) ≡ slots) × (length (now label) ≡ bytes) × Labelled (now key) (now label) (left-sides + 2 * n) t a × Labelled (now key) (now label) (left-sides + 2 * n) u b ⌝ }
+    requires { ⌜ (n ≤ most-facts) × (length (now key) ≡ slots) × (length (now label) ≡ bytes) × Labelled (now key) (now label) (left-sides + 2 * n) t a × Labelled (now key) (now label) (left-sides + 2 * n) u b ⌝ }
     ensures { λ r. ⌜ (Decides (factsIn (now (key .entry)) (now (label .entry)) n) (now (key .entry)) (now (label .entry)) (left-sides + 2 * n) → r ≡ differentNumbers (equalBy (representative (factsIn (now (key .entry)) (now (label .entry)) n))) (factsIn (now (key .entry)) (now (label .entry)) n) (termOf t) (termOf u)) ⌝ }
 {
     let mut k = *key;
@@ -168,7 +169,7 @@ fn some_object<'a>(
     k: u64,
     a: u8,
 ) -> bool
-    requires { ⌜ Slots (now key) (now b) m × Labelled (now key) (now b) m k a × (n ≤ 64) ⌝ }
+    requires { ⌜ Slots (now key) (now b) m × Labelled (now key) (now b) m k a × (n ≤ most-permissions) ⌝ }
     ensures { λ r. ⌜ Told (now (key .entry)) (now (b .entry)) m (λ same. r ≡ any (λ p. same (var (p .variable)) (termOf k)) (permissionsIn (now (b .entry)) n)) ⌝ }
 {
     let mut i = 0;
@@ -192,7 +193,7 @@ fn null_and_object<'a>(
     u: u64,
     y: u8,
 ) -> bool
-    requires { ⌜ Slots (now key) (now b) m × Labelled (now key) (now b) m t x × Labelled (now key) (now b) m u y × (n ≤ 64) ⌝ }
+    requires { ⌜ Slots (now key) (now b) m × Labelled (now key) (now b) m t x × Labelled (now key) (now b) m u y × (n ≤ most-permissions) ⌝ }
     ensures { λ r. ⌜ Told (now (key .entry)) (now (b .entry)) m (λ same. r ≡ nullAndObject same (permissionsIn (now (b .entry)) n) (termOf t) (termOf u)) ⌝ }
 {
     if check_equality::alike(State::NULL_KEY, b[State::NULL], t, x) {
@@ -215,7 +216,7 @@ fn pair<'a>(
     p: bool,
     q: bool,
 ) -> bool
-    requires { ⌜ Slots (now key) (now b) m × Labelled (now key) (now b) m t x × Labelled (now key) (now b) m u y × (j < 64) × (i < 64) ⌝ }
+    requires { ⌜ Slots (now key) (now b) m × Labelled (now key) (now b) m t x × Labelled (now key) (now b) m u y × (j < most-permissions) × (i < most-permissions) ⌝ }
     ensures { λ r. ⌜ Told (now (key .entry)) (now (b .entry)) m (λ same. p ≡ same (var (variableAt (now (b .entry)) i)) (termOf t) → q ≡ same (var (variableAt (now (b .entry)) i)) (termOf u) → r ≡ pairAt same t u (now (b .entry)) j i) ⌝ }
 {
     if b[State::FIELDS + j] != b[State::FIELDS + i] {
@@ -238,7 +239,7 @@ fn two_entries<'a>(
     u: u64,
     y: u8,
 ) -> bool
-    requires { ⌜ Slots (now key) (now b) m × Labelled (now key) (now b) m t x × Labelled (now key) (now b) m u y × (n ≤ 64) ⌝ }
+    requires { ⌜ Slots (now key) (now b) m × Labelled (now key) (now b) m t x × Labelled (now key) (now b) m u y × (n ≤ most-permissions) ⌝ }
     ensures { λ r. ⌜ Told (now (key .entry)) (now (b .entry)) m (λ same. r ≡ twoEntries same (permissionsIn (now (b .entry)) n) (termOf t) (termOf u)) ⌝ }
 {
     let mut found = false;

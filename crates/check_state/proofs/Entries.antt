@@ -10,6 +10,7 @@ use lib.Dec.{ltb}
 use lib.ListN.{getD, replicate, getD-replicate, List·getD-eq-default, length-replicate}
 use borrow.Author.Tests.{ne-eqb, ltb-true, ltb-false}
 use Rattle.rules.specs.Base.{ok, no, _>>=_, orElse, first}
+use Rattle.rules.specs.Limits.{most-permissions}
 use Rattle.rules.specs.Answers.{unresolved}
 use Rattle.rules.specs.Syntax.{path}
 use Rattle.rules.specs.State as Rules
@@ -32,10 +33,10 @@ first-none p f zero h = refl
 first-none p f (suc n) h =
     first-append p (listed f n) (f n ∷ []) (first-none p f n (λ i k. h i (omega arith))) ∙ rw (h n (omega arith))
 
-module _ (b : List ℕ) (_~_ : Equality) (y g i : ℕ) (F : FirstPlace (entryTest b (replicate 64 false) y g _~_) (entries b) i) where
-  in-order : (j : ℕ) → names _~_ y g (permissionAt b j) ≡ entryTest b (replicate 64 false) y g _~_ j
+module _ (b : List ℕ) (_~_ : Equality) (y g i : ℕ) (F : FirstPlace (entryTest b (replicate most-permissions false) y g _~_) (entries b) i) where
+  in-order : (j : ℕ) → names _~_ y g (permissionAt b j) ≡ entryTest b (replicate most-permissions false) y g _~_ j
   unfolding passes
-  in-order j = rw (no-flags 64 j)
+  in-order j = rw (no-flags most-permissions j)
 
   none-before : first (names _~_ y g) (listed (permissionAt b) i) ≡ none
   none-before = first-none _ (permissionAt b) i (λ j h. in-order j ∙ F .before j h)

@@ -1,15 +1,15 @@
 -- The checker's state in the code, and the state of the definitions that it means. It stands in two arrays, as
--- `Layout` of links says.
+-- `Layout` of check_equality says.
 use mathlib.Core.Path.{_≡_}
 use mathlib.Core.Bool.{Bool}
 use mathlib.Core.List.{List}
-use Prim.Native.Nat.{ℕ, _+_, _*_, _≤_}
+use Prim.Native.Nat.{ℕ, _+_, _*_, _≤_, _<_}
 use lib.Dec.{eqb}
 use lib.ListN.{length, getD}
 use Rattle.rules.specs.Limits.{most-permissions, most-facts}
 use Rattle.rules.specs.State as Rules
 use Rattle.rules.specs.State.{Permission, Fact}
-use Rattle.check_equality.specs.Layout.{left-sides, right-sides, relations-at, variables-at, fields-at, fact-count, entry-count, bytes}
+use Rattle.check_equality.specs.Layout.{left-sides, right-sides, relations-at, variables-at, fields-at, fact-count, entry-count, kinds-at, acc-kind, bytes}
 use Rattle.check_equality.specs.Listing.{listed}
 use Rattle.check_equality.specs.Links.{Header, Decides, factOf}
 
@@ -30,6 +30,10 @@ variableAt b i = getD b (variables-at + i) 0
 
 abbrev pub fieldAt : List ℕ → ℕ → ℕ
 fieldAt b i = getD b (fields-at + i) 0
+
+-- its kind
+abbrev pub kindAt : List ℕ → ℕ → ℕ
+kindAt b i = getD b (kinds-at + i) 0
 
 abbrev pub permissionAt : List ℕ → ℕ → Permission
 permissionAt b i = record { variable = variableAt b i; field = fieldAt b i }
@@ -60,6 +64,15 @@ pub record Linked (key b : List ℕ) (n : ℕ) : Type 0 where
   pub fit : n ≤ most-facts
   pub decides : Decides (factsIn key b n) key b (left-sides + 2 * n)
 
+-- every entry is an `acc`
+abbrev pub IsKind : ℕ → Type 0
+IsKind k = k ≡ acc-kind
+
+-- the kinds of the first n entries
+abbrev pub KindsIn : List ℕ → ℕ → Type 0
+KindsIn b n = (i : ℕ) → i < n → IsKind (kindAt b i)
+
 pub record Wf (key b : List ℕ) : Type 0 where
   pub linked : Linked key b (facts b)
   pub fit : entries b ≤ most-permissions
+  pub kinds : KindsIn b (entries b)

@@ -1,8 +1,10 @@
 // The checker's state in two arrays, and what it answers: ~, resolving, the first entry of a path, the first other variable ~ x.
 use check_equality::State;
 use check_equality::Term;
+use rules::Machine;
 ghost use mathlib.Core.Path.{_≡_};
 ghost use Prim.Native.Nat.{ℕ, _+_, _*_, _≤_, _<_};
+ghost use Rattle.rules.specs.Limits.{most-permissions};
 ghost use Rattle.rules.specs.Syntax.{var};
 ghost use Rattle.rules.specs.State as Rules;
 ghost use Rattle.rules.specs.State.{equalIn};
@@ -11,7 +13,7 @@ ghost use Rattle.check_equality.specs.Links.{Labelled};
 ghost use Rattle.check_state.specs.States.{Wf, stateOf, permissionsOf, entries};
 ghost use Rattle.check_state.specs.Questions.{Slots, Told, FirstPlace, entryTest, passes, resolvedAs, pathAt, standsFor, variableOr};
 
-// What the checker knows stands in two arrays, `key` and `b` (`State` in links). Two slots have one label where their terms are ~.
+// What the checker knows stands in two arrays, `key` and `b` (`State` in check_equality). Two slots have one label where their terms are ~.
 
 // Is x ~ the term of the key k, whose label is a?
 pub fn variable_is<'a>(
@@ -59,12 +61,12 @@ fn find<'a>(
     key: &'a [u64; State::SLOTS],
     b: &'a [u8; State::BYTES],
     m: usize,
-    out: &'a [bool; 64],
+    out: &'a [bool; Machine::PERMISSIONS],
     n: usize,
     y: u8,
     f: u8,
 ) -> usize
-    requires { ⌜ Slots (now key) (now b) m × (n ≤ 64) ⌝ }
+    requires { ⌜ Slots (now key) (now b) m × (n ≤ most-permissions) ⌝ }
     ensures { λ r. ⌜ Told (now (key .entry)) (now (b .entry)) m (λ same. FirstPlace (entryTest (now (b .entry)) (now (out .entry)) y f same) n r) ⌝ }
 {
     let k = check_equality::variable_key(y);
@@ -110,7 +112,7 @@ pub enum Resolved {
 pub fn entry<'a>(
     key: &'a [u64; State::SLOTS],
     b: &'a [u8; State::BYTES],
-    out: &'a [bool; 64],
+    out: &'a [bool; Machine::PERMISSIONS],
     y: u8,
     f: u8,
 ) -> usize
@@ -122,7 +124,7 @@ pub fn entry<'a>(
 }
 
 fn path_at(b: &[u8; State::BYTES], i: usize) -> Resolved
-    requires { ⌜ entries (now b) ≤ 64 ⌝ }
+    requires { ⌜ entries (now b) ≤ most-permissions ⌝ }
     ensures { λ r. ⌜ resolvedAs r ≡ pathAt (now (b .entry)) i ⌝ }
 {
     if i < (b[State::ENTRIES] as usize) {
@@ -142,7 +144,7 @@ pub fn resolve<'a>(key: &'a [u64; State::SLOTS], b: &'a [u8; State::BYTES], e: T
     let Term::Path(y, f) = e else {
         return Resolved::Key(check_equality::key_of(e));
     };
-    let out = [false; 64];
+    let out = [false; Machine::PERMISSIONS];
     path_at(b, entry(key, b, &out, y, f))
 }
 

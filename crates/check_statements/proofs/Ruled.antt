@@ -11,6 +11,7 @@ use borrow.Author.Tests.{eq-eqb, ne-eqb, eqb-true}
 use types.Run.{OneOf, miss}
 use denote.Enum.Declared.{tagOf}
 use Rattle.rules.specs.Base.{Try, ok, no, _>>=_, _>>_, check, orElse}
+use Rattle.rules.specs.Limits.{most-permissions}
 use Rattle.rules.specs.Answers.{Refusal, unresolved, noPermission, notShown}
 use Rattle.rules.specs.Syntax.{Formula, Atom, Rel, same, eq, ne, num, null, var, path, acc, cmp}
 use Rattle.rules.specs.State as Rules
@@ -78,14 +79,14 @@ pub adds-elsewhere : (t : Try Refusal Rules.State) (k : Answer) (key b : List �
 adds-elsewhere t k key b A o key′ b′ w = record { wf = w; same = refused-same k o (stateOf key′ b′) (stateOf key b) ∙ A .same }
 
 -- SET
-module _ (key b : List ℕ) (w : Wf key b) (x f y i : ℕ) (F : FirstPlace (entryTest b (replicate 64 false) x f (equalIn (stateOf key b))) (entries b) i) where
+module _ (key b : List ℕ) (w : Wf key b) (x f y i : ℕ) (F : FirstPlace (entryTest b (replicate most-permissions false) x f (equalIn (stateOf key b))) (entries b) i) where
   abbrev perm : ℕ → Permission
   perm = permissionAt b
 
-  all-kept : kept (replicate 64 false) perm (entries b) ≡ permissionsOf b
-  all-kept = kept-all (replicate 64 false) perm (entries b) (λ j h. no-flags 64 j)
+  all-kept : kept (replicate most-permissions false) perm (entries b) ≡ permissionsOf b
+  all-kept = kept-all (replicate most-permissions false) perm (entries b) (λ j h. no-flags most-permissions j)
 
-  passed : (j : ℕ) → (not (getD (replicate 64 false) j false) && names (equalIn (stateOf key b)) x f (perm j)) ≡ entryTest b (replicate 64 false) x f (equalIn (stateOf key b)) j
+  passed : (j : ℕ) → (not (getD (replicate most-permissions false) j false) && names (equalIn (stateOf key b)) x f (perm j)) ≡ entryTest b (replicate most-permissions false) x f (equalIn (stateOf key b)) j
   unfolding passes
   passed j = refl
 
@@ -94,14 +95,14 @@ module _ (key b : List ℕ) (w : Wf key b) (x f y i : ℕ) (F : FirstPlace (entr
   set-refused h =
       let e : split (names (equalIn (stateOf key b)) x f) (permissionsOf b) ≡ none =
       subst (λ (l : List Permission). split (names (equalIn (stateOf key b)) x f) l ≡ none) all-kept
-      (split-none (names (equalIn (stateOf key b)) x f) (replicate 64 false) perm (entries b) (λ j g. passed j ∙ F .before j (omega arith))) in
+      (split-none (names (equalIn (stateOf key b)) x f) (replicate most-permissions false) perm (entries b) (λ j g. passed j ∙ F .before j (omega arith))) in
       rw e
 
   pub set-found : i < entries b → setRule x f y (stateOf key b) ≡ Rules.addFact eq (path (variableAt b i) (fieldAt b i)) (var y) (withoutPath key b i)
   unfolding setRule orElse _>>=_ pathOf
   set-found h =
-      let e = subst (λ (l : List Permission). split (names (equalIn (stateOf key b)) x f) l ≡ some (record { taken = perm i; others = kept (set (replicate 64 false) i true) perm (entries b) })) all-kept
-      (split-first (names (equalIn (stateOf key b)) x f) (replicate 64 false) perm (entries b) i h (omega (arith, w .fit)) (λ j g. passed j ∙ F .before j g) (passed i ∙ F .found h)) in
+      let e = subst (λ (l : List Permission). split (names (equalIn (stateOf key b)) x f) l ≡ some (record { taken = perm i; others = kept (set (replicate most-permissions false) i true) perm (entries b) })) all-kept
+      (split-first (names (equalIn (stateOf key b)) x f) (replicate most-permissions false) perm (entries b) i h (omega (arith, w .fit)) (λ j g. passed j ∙ F .before j g) (passed i ∙ F .found h)) in
       rw e
 
 -- LET

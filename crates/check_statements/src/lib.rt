@@ -3,6 +3,7 @@ use check_entailment::Answer;
 use check_equality::State;
 use check_equality::Term;
 use check_state::Resolved;
+use rules::Machine;
 ghost use mathlib.Core.Path.{_≡_};
 ghost use Prim.Native.Nat.{_+_, _≤_, _<_};
 ghost use lib.ListN.{length};
@@ -29,7 +30,7 @@ pub fn set_rule(
     requires { ⌜ Wf (now key) (now b) ⌝ }
     ensures { λ r. ⌜ Adds (setRule x f y (stateOf (now (key .entry)) (now (b .entry)))) r (now (key .exit)) (now (b .exit)) ⌝ }
 {
-    let out = [false; 64];
+    let out = [false; Machine::PERMISSIONS];
     let i = check_state::entry(key, b, &out, x, f);
     if i < (b[State::ENTRIES] as usize) {
         let path = check_equality::path_key(b[State::VARIABLES + i], b[State::FIELDS + i]);
@@ -189,7 +190,7 @@ pub fn assert_rule<'a>(
     requires { ⌜ (length (now w) ≡ work-bytes) × (a + n ≤ most-atom-rows) × Wf (now key) (now b) ⌝ }
     ensures { λ r. ⌜ Asserts (atomsFrom (now (w .entry)) a n) (stateOf (now (key .entry)) (now (b .entry))) r ⌝ }
 {
-    let r = check_formulas::show(w, a, n, 0, 1, 14, key, b);
+    let r = check_formulas::show(w, a, n, State::THIS, State::PARAM, State::RESULT, key, b);
     let k = r.answer;
     k
 }
@@ -205,7 +206,7 @@ pub fn release_rule(
     requires { ⌜ (length (now w) ≡ work-bytes) × (a + n ≤ most-atom-rows) × Wf (now key) (now b) ⌝ }
     ensures { λ r. ⌜ Adds (releaseRule (atomsFrom (now (w .entry)) a n) (stateOf (now (key .entry)) (now (b .entry)))) r (now (key .exit)) (now (b .exit)) ⌝ }
 {
-    let r = check_formulas::show(w, a, n, 0, 1, 14, key, b);
+    let r = check_formulas::show(w, a, n, State::THIS, State::PARAM, State::RESULT, key, b);
     let k = r.answer;
     let out = r.out;
     check_forgetting::remainder(key, b, &out);
@@ -329,5 +330,5 @@ pub fn join_rule<'a>(
         return l;
     };
     check_forgetting::clear(b);
-    check_formulas::add(w, a, n, 0, 1, 14, key, b)
+    check_formulas::add(w, a, n, State::THIS, State::PARAM, State::RESULT, key, b)
 }

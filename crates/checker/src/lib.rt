@@ -46,7 +46,12 @@ fn let_at(w: &[u8], i: usize, key: &mut [u64; State::SLOTS], b: &mut [u8; State:
 {
     let x = tables::x_at(w, i) as u8;
     let a = tables::first_atom_at(w, i);
-    check_statements::assign_rule(key, b, x, check_formulas::right(w, a, 0, 1, 14))
+    check_statements::assign_rule(
+        key,
+        b,
+        x,
+        check_formulas::right(w, a, State::THIS, State::PARAM, State::RESULT),
+    )
 }
 
 // `new x C`
@@ -80,7 +85,7 @@ fn return_at(
     ensures { λ r. ⌜ Adds (rule (programIn (now (w .entry))) (Syntax.return (xAt (now (w .entry)) i)) (stateOf (now (key .entry)) (now (b .entry)))) r (now (key .exit)) (now (b .exit)) ⌝ }
 {
     let x = tables::x_at(w, i) as u8;
-    check_statements::assign_rule(key, b, 14, Term::Var(x))
+    check_statements::assign_rule(key, b, State::RESULT, Term::Var(x))
 }
 
 // `assert` formula
@@ -125,8 +130,8 @@ fn if_at(
 {
     let a = tables::first_atom_at(w, i);
     let apart = tables::atom_kind(w, a) != 1;
-    let l = check_formulas::left(w, a, 0, 1, 14);
-    let r = check_formulas::right(w, a, 0, 1, 14);
+    let l = check_formulas::left(w, a, State::THIS, State::PARAM, State::RESULT);
+    let r = check_formulas::right(w, a, State::THIS, State::PARAM, State::RESULT);
     check_statements::if_rule(key, b, key2, b2, apart, l, r)
 }
 
@@ -311,7 +316,7 @@ fn check_method(
     check_forgetting::clear(b);
     let a = tables::requires_first(w, m);
     let n = tables::requires_count(w, m);
-    let k = check_formulas::add(w, a, n, 0, 1, 14, key, b);
+    let k = check_formulas::add(w, a, n, State::THIS, State::PARAM, State::RESULT, key, b);
     let Answer::Done = k else {
         return Verdict::Refused(k, 0);
     };

@@ -30,11 +30,17 @@ element-write-b-2 c = search needs
 add-b-3 : tie.Need-add-b-3
 add-b-3 c = search needs
 
+element-write-b-3 : tie.Need-element-write-b-3
+element-write-b-3 c = search needs
+
+add-b-4 : tie.Need-add-b-4
+add-b-4 c = search needs
+
 cast-b : tie.Need-cast-b
 cast-b c = search needs
 
-element-write-b-3 : tie.Need-element-write-b-3
-element-write-b-3 c = search needs
+element-write-b-4 : tie.Need-element-write-b-4
+element-write-b-4 c = search needs
 
 returns-2 : tie.Need-returns-2
 returns-2 c =
@@ -52,6 +58,8 @@ add-permission-spec =
     add-b-2
     element-write-b-2
     add-b-3
-    cast-b
     element-write-b-3
+    add-b-4
+    cast-b
+    element-write-b-4
     returns-2)

@@ -1,4 +1,5 @@
 use Prim.Native.Nat.{ℕ, _+_, _-_, _≤_, _<_}
+use Rattle.check_equality.specs.Layout.{slots, bytes}
 use Rattle.check_equality.specs.Links.{picked}
 use Rattle.rules.proofs.Lists.{decide-eq}
 use lib.ListN.{length, getD, set, length-set}
@@ -12,10 +13,10 @@ use Rattle.check_equality.proofs.merge.Tie as tie
 
 abbrev Inv-loop : tie.InvT-loop
 Inv-loop label₀ from to i₀ label i =
-    (i ≤ 144) × (length label ≡ 338) × (length label₀ ≡ 338) × ((j : ℕ) → j < i → getD label j 0 ≡ picked from to (getD label₀ j 0)) × ((j : ℕ) → i ≤ j → getD label j 0 ≡ getD label₀ j 0)
+    (i ≤ slots) × (length label ≡ bytes) × (length label₀ ≡ bytes) × ((j : ℕ) → j < i → getD label j 0 ≡ picked from to (getD label₀ j 0)) × ((j : ℕ) → i ≤ j → getD label j 0 ≡ getD label₀ j 0)
 
 abbrev μ-loop : tie.MeasureT-loop
-μ-loop label₀ from to i₀ label i = 144 - i
+μ-loop label₀ from to i₀ label i = slots - i
 
 -- one more label is picked
 picked-more :

@@ -4,8 +4,16 @@ use native.Mathlib.Omega.{arith}
 use Rattle.check_equality.proofs.place.Statement.{statement}
 use Rattle.check_equality.proofs.place.Tie as tie
 
+rem-result : tie.Need-rem-result
+rem-result c =
+    omega arith
+
 add-result : tie.Need-add-result
 add-result c =
+    omega arith
+
+rem-result-2 : tie.Need-rem-result-2
+rem-result-2 c =
     omega arith
 
 returns : tie.Need-returns
@@ -14,4 +22,4 @@ returns c =
     (refl, omega arith)
 
 pub place-spec : {M : Type 1} → statement M
-place-spec = tie.close (tie.spec add-result returns)
+place-spec = tie.close (tie.spec rem-result add-result rem-result-2 returns)

@@ -6,12 +6,13 @@ use mathlib.Core.Bool.{false}
 use mathlib.Core.Path.{_≡_, refl, _∙_}
 use native.Mathlib.Omega.{arith}
 use Rattle.check_equality.specs.Layout.{variables-at}
+use Rattle.rules.specs.Limits.{most-permissions}
 use Rattle.check_forgetting.proofs.entries_of.Statement.{statement}
 use Rattle.check_forgetting.proofs.entries_of.Tie as tie
 
 abbrev Inv-loop : tie.InvT-loop
 Inv-loop b n x out₀ i₀ out i =
-    (i ≤ n) × (length out ≡ 64) × ((j : ℕ) → j < i → getD out j false ≡ eqb (getD b (variables-at + j) 0) x)
+    (i ≤ n) × (length out ≡ most-permissions) × ((j : ℕ) → j < i → getD out j false ≡ eqb (getD b (variables-at + j) 0) x)
 
 abbrev μ-loop : tie.MeasureT-loop
 μ-loop b n x out₀ i₀ out i = n - i

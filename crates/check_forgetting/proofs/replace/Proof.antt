@@ -23,11 +23,11 @@ rename-keys-requires c κs = search needs
 forget-requires : tie.Need-forget-requires
 forget-requires c κs = (wf-sized _ _ _ (c .before .before .before .rename-keys .ensures .header) (c .before .before .before .before .before .before .pre), renamed-unchanged _ _ _ _ _ _ _ (c .before .before .before .before .before .before .pre) (c .before .before .before .rename-keys .ensures))
 
-pack-requires : tie.Need-pack-requires
-pack-requires c κs = (c .before .before .forget .ensures .wf .fit, c .before .before .forget .ensures .wf .linked .size)
+rename-entries-requires : tie.Need-rename-entries-requires
+rename-entries-requires c κs = (c .before .forget .ensures .wf .fit, c .before .forget .ensures .wf .linked .size)
 
 returns : tie.Need-returns
-returns c = replace-law _ _ _ (omega arith) (c .before .before .before .before .before .before .before .before .before .before .pre) _ _ _ _ (omega arith) _ _ (c .before .before .before .before .before .before .before .rename-keys .ensures) (c .before .before .before .forget .ensures) (c .pack .ensures)
+returns c = replace-law _ _ _ (omega arith) (c .before .before .before .before .before .before .before .before .before .pre) _ _ _ _ (omega arith) _ _ (c .before .before .before .before .before .before .rename-keys .ensures) (c .before .before .forget .ensures) (c .rename-entries .ensures)
 
 pub replace-spec : {M : Type 1} → statement M
 replace-spec =
@@ -39,5 +39,5 @@ replace-spec =
     add-m
     rename-keys-requires
     forget-requires
-    pack-requires
+    rename-entries-requires
     returns)
