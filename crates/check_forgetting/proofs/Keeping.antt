@@ -16,17 +16,14 @@ use Rattle.rules.specs.State.{Fact, Permission}
 use Rattle.rules.proofs.Lists.{decide-eq}
 use Rattle.check_equality.specs.Listing.{listed}
 use Rattle.check_equality.specs.Links.{Header, Decides, Pushed, factOf}
-use Rattle.check_equality.proofs.Listing.{listed-none, listed-more, listed-same, any-append, map-append}
+use Rattle.check_equality.proofs.Listing.{listed-more, listed-same, any-append, map-append}
 use Rattle.check_equality.proofs.Labels.{header-set}
 use Rattle.check_equality.specs.Layout.{left-sides, right-sides, relations-at, variables-at, fields-at, fact-count, entry-count, kinds-at, bytes}
 use Rattle.check_state.specs.States.{factAt, factsIn, factsOf, facts, entries, variableAt, fieldAt, permissionAt, permissionsIn, kindAt, IsKind, KindsIn, Linked, Wf}
+use Rattle.check_state.specs.Questions.{FirstPlace}
 use Rattle.check_forgetting.specs.Changes.{kept, gone, renamedVariable, KeepsFact, RenamedEntries, SameEntry, KeepsEntry, Packed}
 
 module _ {A : Type 0} where
-  pub kept-none : (out : List Bool) (f : ℕ → A) → kept out f 0 ≡ []
-  unfolding kept
-  kept-none out f = refl
-
   pub kept-more : (out : List Bool) (f : ℕ → A) (n : ℕ) → kept out f (n + 1) ≡ kept out f n ++ cond (getD out n false) [] (f n ∷ [])
   unfolding kept
   kept-more out f n = rw add-one
@@ -297,13 +294,13 @@ pub record Packing (b₀ : List ℕ) (out : List Bool) (i : ℕ) (b : List ℕ) 
   pub later : (j : ℕ) → i ≤ j → j < most-permissions → SameEntry b₀ b j
   pub rest : (j : ℕ) → (j < variables-at) ⊎ (j ≡ fact-count) → getD b j 0 ≡ getD b₀ j 0
 
-pub packing-first : (b : List ℕ) (out : List Bool) → length b ≡ bytes → Packing b out 0 b 0
-packing-first b out l =
+pub packing-first : (b : List ℕ) (out : List Bool) (n i : ℕ) → length b ≡ bytes → FirstPlace (λ j. getD out j false) n i → Packing b out i b i
+packing-first b out n i l F =
     record {
       few = omega arith;
       size = l;
-      kinds = λ w i h. absurd (omega arith);
-      entries = listed-none (permissionAt b) ∙ sym (kept-none out (permissionAt b));
+      kinds = λ w. w;
+      entries = sym (kept-all out (permissionAt b) i (F .before));
       later = λ j g s. record { permission = refl; kind = refl };
       rest = λ j g. refl;
     }

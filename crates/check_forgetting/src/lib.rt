@@ -18,7 +18,7 @@ ghost use Rattle.check_equality.specs.Layout.{slots, bytes, left-sides, variabl
 ghost use Rattle.check_equality.specs.Keys.{termOf};
 ghost use Rattle.check_equality.specs.Links.{Header, Marked};
 ghost use Rattle.check_state.specs.States.{Wf, Linked, stateOf, entries};
-ghost use Rattle.check_state.specs.Questions.{places, variableOr};
+ghost use Rattle.check_state.specs.Questions.{FirstPlace, places, variableOr};
 ghost use Rattle.check_forgetting.specs.Changes.{Becomes, Fresh, renamedKey, mentionsKey, renamedVariable, Dropped, RenamedKeys, KeepsFact, KeepsEntry, Sized, Unchanged, Rebuilt, RenamedEntries, Packed, Flags, pathOut, pathOutAt, keyOut, Marks, MarksOut, Taken, withoutPath, leftOver};
 
 // The keys of a state that knows nothing: in the slots before the facts' the variables and null.
@@ -270,14 +270,29 @@ fn keep_entry(b: &mut [u8; State::BYTES], n: usize, out: bool, x: u8, f: u8, k: 
     n + 1
 }
 
-// The entries that are not out.
+// The first entry that is out, or n.
+fn first_out(out: &[bool; Machine::PERMISSIONS], n: usize) -> usize
+    requires { ⌜ n ≤ most-permissions ⌝ }
+    ensures { λ r. ⌜ FirstPlace (λ i. getD (now (out .entry)) i false) n r ⌝ }
+{
+    let mut i = 0;
+    while i < n {
+        if out[i] {
+            return i;
+        }
+        i += 1;
+    }
+    n
+}
+
+// The entries that are not out. Those before the first that is out stay where they are.
 fn pack(b: &mut [u8; State::BYTES], out: &[bool; Machine::PERMISSIONS])
     requires { ⌜ (entries (now b) ≤ most-permissions) × (length (now b) ≡ bytes) ⌝ }
     ensures { λ _. ⌜ Packed (now (b .entry)) (now (out .entry)) (now (b .exit)) ⌝ }
 {
     let all = b[State::ENTRIES] as usize;
-    let mut n = 0;
-    let mut i = 0;
+    let mut n = first_out(out, all);
+    let mut i = n;
     while i < all {
         let x = b[State::VARIABLES + i];
         let f = b[State::FIELDS + i];
