@@ -40,7 +40,7 @@ use Rattle.read_declarations.proofs.Reader.Laws as T′
 use Rattle.read_declarations.proofs.reader_at as new
 use Rattle.read_declarations.proofs.reader_at.Statement as stated
 use Rattle.read_declarations.proofs.reader_at.Code as code
-use Rattle.read_declarations.proofs.reader_at.Key.{name as #read_declarations·reader-at}
+use Rattle.read_declarations.proofs.reader_at.Key.{name as #read-declarations·reader-at}
 
 abbrev stayed : Stays (new.ended .signature .params) (new.ended .kept)
 stayed = (stay-none-slice (0 ∷ []) tt (plain (λ _. u8)) yes, (stay-none (λ _. usize) yes, tt))
@@ -94,5 +94,5 @@ pub reader-at-spec : {M : Type 1} → stated.statement M
 unfolding code.routine tablesOf
 reader-at-spec 𝓤 H 𝓜 𝓖 𝓡 =
     entered 𝓤 H (tripleOf 𝓤 H (𝓖 .A) new.signature (new.spec 𝓤 H (𝓖 .A) (𝓜 .mem) (𝓡 .run)))
-    (tables 𝓤 H 𝓜 𝓡 code.env .C) (tables 𝓤 H 𝓜 𝓡 code.env .Λ) #read_declarations·reader-at code.function (code.unfolded 𝓤 H 𝓜 𝓡)
+    (tables 𝓤 H 𝓜 𝓡 code.env .C) (tables 𝓤 H 𝓜 𝓡 code.env .Λ) #read-declarations·reader-at code.function (code.unfolded 𝓤 H 𝓜 𝓡)
     (reader-at-meets 𝓤 H (𝓖 .A) (givenOf 𝓤 H 𝓜 𝓖) (𝓜 .mem) (𝓡 .run) (tablesOf 𝓤 H 𝓜 (tables 𝓤 H 𝓜 𝓡 code.env)))
