@@ -104,9 +104,9 @@ pub fn code(line: &str, is_code: bool) -> &str {
 /// The words of a line: what stands between blanks, brackets and points.
 pub fn words(line: &str) -> impl Iterator<Item = &str> {
     line.split(|c: char| c.is_whitespace() || "()[]{},;:.!\"`⌜⌝⟦⟧«»⟨⟩".contains(c))
-        .map(|word| match word.trim_start_matches('&') {
-            "" => word,
-            lent => lent,
+        .map(|word| match word.strip_prefix('&') {
+            Some(lent) if lent.starts_with(char::is_alphabetic) => lent,
+            _ => word,
         })
         .filter(|word| !word.is_empty())
 }
