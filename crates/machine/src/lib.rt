@@ -5,7 +5,7 @@ use run_heap::Fault;
 use run_steps::Turn;
 use tables::Layout;
 ghost use mathlib.Core.Path.{_≡_};
-ghost use Prim.Native.Nat.{_+_, _*_, _≤_, _<_};
+ghost use Prim.Native.Nat.{_+_, _≤_, _<_};
 ghost use lib.ListN.{length};
 ghost use Rattle.rules.specs.Limits.{work-bytes, most-statements, heap-objects, heap-fields};
 ghost use Rattle.run_steps.specs.States.{Ready, Does};

@@ -99,7 +99,11 @@ returns-9 : tie.Need-returns-9
 returns-9 c =
     let start = c .before .before .before .before in
     let at-kind-at = c .before .before .kind-at in
-    absurd (no-kind _ (rw (at-kind-at .ensures) (start .pre .0 .row-fits (start .args .i) (start .pre .1) .operands .kind)) (rw (at-kind-at .ensures) (start .pre .2)) (c .before .match .rest .0 .0 .0 .0 .0 .0 .1) (c .before .match .rest .0 .0 .0 .0 .0 .1) (c .before .match .rest .0 .0 .0 .0 .1) (c .before .match .rest .0 .0 .0 .1) (c .before .match .rest .0 .0 .1) (c .before .match .rest .0 .1) (c .before .match .rest .1))
+    let other = c .before .match .rest in
+    let fit = start .pre .0 .row-fits (start .args .i) (start .pre .1) .operands .kind in
+    absurd
+    (no-kind _ (rw (at-kind-at .ensures) fit) (rw (at-kind-at .ensures) (start .pre .2)) (other .0 .0 .0 .0 .0 .0 .1) (other .0 .0 .0 .0 .0 .1)
+    (other .0 .0 .0 .0 .1) (other .0 .0 .0 .1) (other .0 .0 .1) (other .0 .1) (other .1))
 
 pub statement-spec : {M : Type 1} → statement M
 statement-spec =
