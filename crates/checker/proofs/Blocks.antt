@@ -1,14 +1,17 @@
 -- The parts of a branch, and a block.
 use mathlib.Core.Path.{_≡_, refl, sym, ap, _∙_, subst}
+use mathlib.Core.Bool.{true, false}
 use mathlib.Core.List.{List, [], _∷_}
 use mathlib.Core.Logic.{⊎-elim}
 use Prim.Native.Nat.{ℕ, suc, _+_, _-_, _≤_, _<_}
 use native.Mathlib.Omega.{arith}
 use lib.ListN.{drop}
+use borrow.Author.Tests.{eqb-true, ne-eqb}
 use types.Run.{OneOf, miss}
 use denote.Enum.Declared.{tagOf}
 use Rattle.rules.specs.Base.{Try, ok, no, _>>=_}
 use Rattle.rules.specs.Limits.{most-branches}
+use Rattle.rules.specs.Grammar.{statementNumber, isClosingNumber, GoesOn}
 use Rattle.rules.specs.Answers as Answers
 use Rattle.rules.specs.Answers.{Refusal, accepted, refused, atLine, then, malformed}
 use Rattle.rules.specs.Syntax.{Formula, Rel, if}
@@ -70,17 +73,23 @@ never {k = k} o e = absurd (miss (1 ∷ 2 ∷ 3 ∷ 4 ∷ 5 ∷ []) 0 tt (subst 
 wrong : {A : Type 0} → Answer.Malformed ≡ Answer.Done → A
 wrong e = absurd (let z : _≡_ {A = ℕ} 0 1 = cc in omega arith)
 
+pub going : (k : ℕ) → isClosingNumber k ≡ false → (k ≡ 15 → ⊥) → GoesOn k
+unfolding statementNumber
+going k a n = (a, n)
+
+no-end : (k : ℕ) → GoesOn k → k ≡ 18 → ⊥
+unfolding isClosingNumber statementNumber
+no-end k (o, i) e = absurd (let p = rw e at o in let z : _≡_ {A = ℕ} 0 1 = cc in omega arith)
+
 module _ (w : List ℕ) (T : Tables w) where
   -- a row that closes is one of three
-  pub closing : {A : Type 0} (i : ℕ) → i < rowCount w → 16 ≤ kindAt w i → (kindAt w i ≡ 16 → A) → (kindAt w i ≡ 17 → A) → (kindAt w i ≡ 18 → A) → A
-  closing i h g a b c =
-      ⊎-elim a (λ n. ⊎-elim b (λ m. c (last (kindAt w i) g (T .row-fits i h .operands .kind .1) n m)) (decide-eq (kindAt w i) 17)) (decide-eq (kindAt w i) 16)
-    where
-      last : (k : ℕ) → 16 ≤ k → k ≤ 18 → (k ≡ 16 → ⊥) → (k ≡ 17 → ⊥) → k ≡ 18
-      last k p q n m = omega arith
+  pub closing : {A : Type 0} (i : ℕ) → isClosingNumber (kindAt w i) ≡ true → (kindAt w i ≡ 16 → A) → (kindAt w i ≡ 17 → A) → (kindAt w i ≡ 18 → A) → A
+  unfolding isClosingNumber statementNumber
+  closing i g a b c =
+      ⊎-elim a (λ n. ⊎-elim b (λ m. c (eqb-true (kindAt w i) 18 (rw (ne-eqb (kindAt w i) 16 n, ne-eqb (kindAt w i) 17 m) at g))) (decide-eq (kindAt w i) 17)) (decide-eq (kindAt w i) 16)
 
-  pub goes-on : (i : ℕ) → i < rowCount w → kindAt w i < 18 → i + 1 < rowCount w
-  goes-on i h g = ⊎-elim (λ e. absurd (omega arith)) (λ n. omega arith) (T .row-fits i h .follows .next)
+  pub goes-on : (i : ℕ) → i < rowCount w → (kindAt w i ≡ 18 → ⊥) → i + 1 < rowCount w
+  goes-on i h g = ⊎-elim (λ e. absurd (g e)) (λ n. omega arith) (T .row-fits i h .follows .next)
 
   -- THE FIRST PART'S END
   module _ (one : Out) (E : Ended w one) where
@@ -100,7 +109,7 @@ module _ (w : List ℕ) (T : Tables w) where
           record {
             place = refl;
             was = λ e. e;
-            next = λ _. goes-on (one .at) (E .within) (omega arith);
+            next = λ _. goes-on (one .at) (E .within) (λ m. omega arith);
             nests = λ _ d t. else-nests w (one .at) (E .within) (else-means w (operandsAt w (one .at)) k) d t;
             same = λ s s₂ φ os. ap (outcome (one .answer) (lineAt w (one .at))) (else-verdict w (one .at) (E .within) (else-means w (operandsAt w (one .at)) k) s s₂ φ os);
           }
@@ -112,7 +121,7 @@ module _ (w : List ℕ) (T : Tables w) where
             was = λ d. wrong d;
             next = λ d. wrong d;
             nests = λ d. wrong d;
-            same = λ s s₂ φ os. done-outcome (one .answer) e _ _ ∙ closing (one .at) (E .within) (E .closes e) (λ k. absurd (n k)) (λ k. join-early w (one .at) (E .within) (formulaAt w (one .at)) (join-means w (operandsAt w (one .at)) k) s s₂ φ os) (λ k. end-inside w (one .at) (E .within) (end-means w (operandsAt w (one .at)) k) s (inFirst s₂) φ os) ∙ sym (malformed-outcome _ _);
+            same = λ s s₂ φ os. done-outcome (one .answer) e _ _ ∙ closing (one .at) (E .closes e) (λ k. absurd (n k)) (λ k. join-early w (one .at) (E .within) (formulaAt w (one .at)) (join-means w (operandsAt w (one .at)) k) s s₂ φ os) (λ k. end-inside w (one .at) (E .within) (end-means w (operandsAt w (one .at)) k) s (inFirst s₂) φ os) ∙ sym (malformed-outcome _ _);
           }
 
   -- THE SECOND PART'S END
@@ -137,7 +146,7 @@ module _ (w : List ℕ) (T : Tables w) where
             place = refl;
             wf = A .wf;
             was = λ d. e;
-            next = λ _. goes-on (two .at) (E .within) (omega arith);
+            next = λ _. goes-on (two .at) (E .within) (λ m. omega arith);
             nests = λ _ d t. join-nests w (two .at) (E .within) (formulaAt w (two .at)) (join-means w (operandsAt w (two .at)) k) d t;
             same = λ φ os. done-outcome (two .answer) e _ _ ∙ join-verdict w (two .at) (E .within) (formulaAt w (two .at)) (join-means w (operandsAt w (two .at)) k) t s a key b A φ os;
           }
@@ -150,7 +159,7 @@ module _ (w : List ℕ) (T : Tables w) where
             was = λ d. wrong d;
             next = λ d. wrong d;
             nests = λ d. wrong d;
-            same = λ φ os. done-outcome (two .answer) e _ _ ∙ closing (two .at) (E .within) (E .closes e) (λ k. else-twice w (two .at) (E .within) (else-means w (operandsAt w (two .at)) k) t s φ os) (λ k. absurd (n k)) (λ k. end-inside w (two .at) (E .within) (end-means w (operandsAt w (two .at)) k) t (inSecond s) φ os) ∙ sym (malformed-outcome _ _);
+            same = λ φ os. done-outcome (two .answer) e _ _ ∙ closing (two .at) (E .closes e) (λ k. else-twice w (two .at) (E .within) (else-means w (operandsAt w (two .at)) k) t s φ os) (λ k. absurd (n k)) (λ k. end-inside w (two .at) (E .within) (end-means w (operandsAt w (two .at)) k) t (inSecond s) φ os) ∙ sym (malformed-outcome _ _);
           }
 
 -- A BLOCK
@@ -169,7 +178,7 @@ module _ (w : List ℕ) (T : Tables w) (depth from : ℕ) (d4 : depth ≤ 4) (st
   abbrev s : Rules.State
   s = stateOf key b
 
-  pub ends : 16 ≤ kindAt w i → Ran w depth from start (record { answer = Answer.Done; at = i }) key b
+  pub ends : isClosingNumber (kindAt w i) ≡ true → Ran w depth from start (record { answer = Answer.Done; at = i }) key b
   ends k =
       record {
         wf = G .wf;
@@ -198,12 +207,12 @@ module _ (w : List ℕ) (T : Tables w) (depth from : ℕ) (d4 : depth ≤ 4) (st
     pub step-stops : Refused k → Ran w depth from start (record { answer = k; at = i }) key′ b′
     step-stops o = stops k i key′ b′ o (S .adds .wf) (omega arith) (G .within) (λ φ os v. step-verdict w i (G .within) s k key′ b′ S φ os ∙ refused-outcome k o _ _ _)
 
-    pub step-on : kindAt w i < 15 → k ≡ Answer.Done → Going w depth from start (i + 1) key′ b′
+    pub step-on : GoesOn (kindAt w i) → k ≡ Answer.Done → Going w depth from start (i + 1) key′ b′
     step-on l e =
         record {
           wf = S .adds .wf;
           on = omega (arith, G .on);
-          within = goes-on w T i (G .within) (omega arith);
+          within = goes-on w T i (G .within) (no-end _ l);
           nests = step-nests w i (G .within) s k key′ b′ S _ (G .nests);
           same = λ φ os. G .same φ os ∙ step-verdict w i (G .within) s k key′ b′ S φ os ∙ done-outcome k e _ _;
         }
@@ -255,9 +264,6 @@ module _ (w : List ℕ) (T : Tables w) (depth from : ℕ) (d4 : depth ≤ 4) (st
         pub far-on : i < fin .at + 1
         far-on = omega (arith, far)
 
-pub below-15 : (k : ℕ) → k < 16 → (k ≡ 15 → ⊥) → k < 15
-below-15 k h n = omega arith
-
 -- A BLOCK TO ITS END
 assert-end : (l : ℕ) (φ : Formula ℕ) (s : Rules.State) → atLine l (Rules.show s φ) (λ r. accepted tt) ≡ atLine {B = Unit {0}} l (assertRule φ s) (λ t. accepted tt)
 unfolding atLine assertRule _>>=_
@@ -286,7 +292,7 @@ module _ (w : List ℕ) (T : Tables w) (from : ℕ) (s : Rules.State) (r : Out) 
     pub block-open : (kindAt w (r .at) ≡ 18 → ⊥) → verdictOf (Verdict.Refused Answer.Malformed line) ≡ verdictFrom w from s φ []
     block-open n =
         malformed-verdict line ∙ ap (λ (l : ℕ). refused malformed l) el
-        ∙ sym (reached ∙ closing w T (r .at) (R .within) (R .closes e) (λ k. else-alone w (r .at) (R .within) (else-means w (operandsAt w (r .at)) k) (stateOf key b) φ) (λ k. join-alone w (r .at) (R .within) (formulaAt w (r .at)) (join-means w (operandsAt w (r .at)) k) (stateOf key b) φ) (λ k. absurd (n k)))
+        ∙ sym (reached ∙ closing w T (r .at) (R .closes e) (λ k. else-alone w (r .at) (R .within) (else-means w (operandsAt w (r .at)) k) (stateOf key b) φ) (λ k. join-alone w (r .at) (R .within) (formulaAt w (r .at)) (join-means w (operandsAt w (r .at)) k) (stateOf key b) φ) (λ k. absurd (n k)))
 
 -- A METHOD
 module _ (w : List ℕ) (m a n c o f : ℕ) (ea : a ≡ halfAt w (methodPlace m)) (en : n ≡ byteAt w (methodPlace m + 2)) (s : Rules.State) (es : s ≡ Rules.empty) (k : Answer) (key b : List ℕ) (A : Adds (Rules.add (formula w 0 1 14 a n) s) k key b) where

@@ -1,12 +1,14 @@
 -- One row at a time.
 use mathlib.Core.Path.{_≡_, refl, sym, ap, ap₂, _∙_, subst}
-use mathlib.Core.Bool.{Bool, true, false, cond, not}
+use mathlib.Core.Bool.{Bool, true, false, cond, not, _||_}
 use mathlib.Core.List.{List, [], _∷_}
 use Prim.Native.Nat.{ℕ, suc, _+_, _≤_, _<_}
 use native.Mathlib.Omega.{arith}
 use lib.Dec.{T, eqb, leb, leb→le}
 use lib.ListN.{drop}
+use borrow.Author.Tests.{eqb-false}
 use Rattle.rules.specs.Base.{Try}
+use Rattle.rules.specs.Grammar.{IsStatementNumber, statementNumber, isClosingNumber, GoesOn}
 use Rattle.rules.specs.Answers as Answers
 use Rattle.rules.specs.Answers.{Refusal, accepted, refused, atLine, malformed}
 use Rattle.rules.specs.Syntax.{Formula, Rel, Stmt, Row, simple, if, else, join, end, eq, ne}
@@ -171,12 +173,20 @@ call-at w x x′ y y′ m m′ z z′ s a b c d h = rw (a, b, c, d, method-get w
 above : (k n : ℕ) → n ≤ k → (k ≡ n → ⊥) → n + 1 ≤ k
 above k n h d = omega arith
 
+neither : (a b : Bool) → (a || b) ≡ false → (a ≡ false) × (b ≡ false)
+neither false b e = (refl, e)
+neither true b e = absurd (let z : _≡_ {A = ℕ} 0 1 = cc in omega arith)
+
+-- each kind that goes on has its rule
 pub no-kind :
-    (k : ℕ) → 8 ≤ k → k < 15 → (k ≡ 8 → ⊥) → (k ≡ 9 → ⊥) → (k ≡ 10 → ⊥) → (k ≡ 11 → ⊥) → (k ≡ 12 → ⊥) → (k ≡ 13 → ⊥) →
+    (k : ℕ) → IsStatementNumber k → GoesOn k → (k ≡ 8 → ⊥) → (k ≡ 9 → ⊥) → (k ≡ 10 → ⊥) → (k ≡ 11 → ⊥) → (k ≡ 12 → ⊥) → (k ≡ 13 → ⊥) →
     (k ≡ 14 → ⊥) → ⊥
-no-kind k h l a b c d e f g =
-    let p = above k 14 (above k 13 (above k 12 (above k 11 (above k 10 (above k 9 (above k 8 h a) b) c) d) e) f) g in
-    last k p l
+unfolding isClosingNumber statementNumber
+no-kind k (low, high) (o, i) a b c d e f g =
+    let (x, others) = neither (eqb k 16) (eqb k 17 || eqb k 18) o in
+    let (y, z) = neither (eqb k 17) (eqb k 18) others in
+    let p = above k 15 (above k 14 (above k 13 (above k 12 (above k 11 (above k 10 (above k 9 (above k 8 low a) b) c) d) e) f) g) i in
+    last k (above k 18 (above k 17 (above k 16 p (eqb-false k 16 x)) (eqb-false k 17 y)) (eqb-false k 18 z)) high
   where
-    last : (k : ℕ) → 15 ≤ k → k < 15 → ⊥
+    last : (k : ℕ) → 19 ≤ k → k ≤ 18 → ⊥
     last k p l = omega arith

@@ -1,10 +1,12 @@
 -- What the checker of a block and of a program answers.
 use mathlib.Core.Path.{_≡_}
+use mathlib.Core.Bool.{true}
 use mathlib.Core.List.{List, _∷_}
 use Prim.Native.Nat.{ℕ, suc, _+_, _-_, _≤_, _<_}
 use lib.Dec.{T}
 use lib.ListN.{drop}
 use Rattle.rules.specs.Limits.{most-branches}
+use Rattle.rules.specs.Grammar.{isClosingNumber}
 use Rattle.rules.specs.Answers as Answers
 use Rattle.rules.specs.Answers.{Refusal, accepted, refused, unresolved, noPermission, notShown, stateFull, malformed}
 use Rattle.rules.specs.Syntax.{Formula, Simple, simple}
@@ -60,7 +62,7 @@ pub record Ran (w : List ℕ) (depth i : ℕ) (s : Rules.State) (r : Out) (key b
   pub wf : Wf key b
   pub on : i ≤ r .at
   pub within : r .at < rowCount w
-  pub closes : r .answer ≡ Answer.Done → 16 ≤ kindAt w (r .at)
+  pub closes : r .answer ≡ Answer.Done → isClosingNumber (kindAt w (r .at)) ≡ true
   pub nests : r .answer ≡ Answer.Done → Nests w (r .at) (most-branches - depth)
   pub same :
       (φ : Formula ℕ) (os : List Open) →
@@ -69,7 +71,7 @@ pub record Ran (w : List ℕ) (depth i : ℕ) (s : Rules.State) (r : Out) (key b
 -- THE PARTS OF A BRANCH
 pub record Ended (w : List ℕ) (r : Out) : Type 0 where
   pub within : r .at < rowCount w
-  pub closes : r .answer ≡ Answer.Done → 16 ≤ kindAt w (r .at)
+  pub closes : r .answer ≡ Answer.Done → isClosingNumber (kindAt w (r .at)) ≡ true
 
 -- the first part ends, with any state s, at its `else`
 pub record Turned (w : List ℕ) (one r : Out) : Type 0 where

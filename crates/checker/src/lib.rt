@@ -2,10 +2,14 @@
 use check_entailment::Answer;
 use check_equality::State;
 use check_equality::Term;
+use rules::Kind;
+use rules::Machine;
+use tables::AtomKind;
 ghost use mathlib.Core.Path.{_≡_};
 ghost use mathlib.Core.List.{[]};
 ghost use Prim.Native.Nat.{_+_, _-_, _≤_, _<_};
 ghost use Rattle.rules.specs.Limits.{most-branches};
+ghost use Rattle.rules.specs.Grammar.{GoesOn};
 ghost use Rattle.rules.specs.Answers as Answers;
 ghost use Rattle.rules.specs.Syntax as Syntax;
 ghost use Rattle.tables.specs.Layout.{most-atom-rows};
@@ -129,7 +133,7 @@ fn if_at(
     ensures { λ r. ⌜ Parts (ifRule (relOf (byteAt (now (w .entry)) (atomPlace (firstAtomAt (now (w .entry)) i)))) (leftAt (now (w .entry)) (firstAtomAt (now (w .entry)) i)) (rightAt (now (w .entry)) (firstAtomAt (now (w .entry)) i)) (stateOf (now (key .entry)) (now (b .entry)))) r (now (key .exit)) (now (b .exit)) (now (key2 .exit)) (now (b2 .exit)) ⌝ }
 {
     let a = tables::first_atom_at(w, i);
-    let apart = tables::atom_kind(w, a) != 1;
+    let apart = tables::atom_kind(w, a) != AtomKind::EQ;
     let l = check_formulas::left(w, a, State::THIS, State::PARAM, State::RESULT);
     let r = check_formulas::right(w, a, State::THIS, State::PARAM, State::RESULT);
     check_statements::if_rule(key, b, key2, b2, apart, l, r)
@@ -158,17 +162,17 @@ fn statement(
     key: &mut [u64; State::SLOTS],
     b: &mut [u8; State::BYTES],
 ) -> Answer
-    requires { ⌜ Tables (now w) × (i < rowCount (now w)) × (kindAt (now w) i < 15) × Wf (now key) (now b) ⌝ }
+    requires { ⌜ Tables (now w) × (i < rowCount (now w)) × GoesOn (kindAt (now w) i) × Wf (now key) (now b) ⌝ }
     ensures { λ r. ⌜ Stepped (now (w .entry)) i (stateOf (now (key .entry)) (now (b .entry))) r (now (key .exit)) (now (b .exit)) ⌝ }
 {
     match tables::kind_at(w, i) {
-        8 => set_at(w, i, key, b),
-        9 => let_at(w, i, key, b),
-        10 => new_at(w, i, key, b),
-        11 => call_at(w, i, key, b),
-        12 => return_at(w, i, key, b),
-        13 => assert_at(w, i, key, b),
-        14 => release_at(w, i, key, b),
+        Kind::SET => set_at(w, i, key, b),
+        Kind::LET => let_at(w, i, key, b),
+        Kind::NEW => new_at(w, i, key, b),
+        Kind::CALL => call_at(w, i, key, b),
+        Kind::RETURN => return_at(w, i, key, b),
+        Kind::ASSERT => assert_at(w, i, key, b),
+        Kind::RELEASE => release_at(w, i, key, b),
         0..=7 => Answer::Malformed,
         _ => Answer::Malformed,
     }
@@ -184,7 +188,7 @@ fn turned(w: &[u8], one: Out) -> Out
         return one;
     };
     let at = one.at;
-    if tables::kind_at(w, at) == 16 {
+    if tables::kind_at(w, at) == Kind::ELSE {
         return one;
     }
     Out {
@@ -210,7 +214,7 @@ fn joined<'a>(
         return two;
     };
     let at = two.at;
-    if tables::kind_at(w, at) == 17 {
+    if tables::kind_at(w, at) == Kind::JOIN {
         let l = join_at(w, at, key, b, key2, b2);
         return Out { answer: l, at };
     }
@@ -233,8 +237,8 @@ pub fn block(
     ensures { λ r. ⌜ Ran (now (w .entry)) depth from (stateOf (now (key .entry)) (now (b .entry))) r (now (key .exit)) (now (b .exit)) ⌝ }
 {
     let mut at = from;
-    while tables::kind_at(w, at) < 16 {
-        if tables::kind_at(w, at) == 15 {
+    while !tables::is_closing_at(w, at) {
+        if tables::kind_at(w, at) == Kind::IF {
             let mut key2 = *key;
             let mut b2 = *b;
             let k = if_at(w, at, key, b, &mut key2, &mut b2);
@@ -289,14 +293,14 @@ fn check_block(
     requires { ⌜ Tables (now w) × (from < rowCount (now w)) × Nests (now w) from 0 × (a + n ≤ most-atom-rows) × Wf (now key) (now b) ⌝ }
     ensures { λ r. ⌜ (verdictOf r ≡ verdictFrom (now (w .entry)) from (stateOf (now (key .entry)) (now (b .entry))) (atomsFrom (now (w .entry)) a n) []) × Wf (now (key .exit)) (now (b .exit)) ⌝ }
 {
-    let r = block(w, 4, from, key, b);
+    let r = block(w, Machine::BRANCHES, from, key, b);
     let k = r.answer;
     let at = r.at;
     let line = tables::line_at(w, at);
     let Answer::Done = k else {
         return Verdict::Refused(k, line);
     };
-    if tables::kind_at(w, at) == 18 {
+    if tables::kind_at(w, at) == Kind::END {
         let l = check_statements::assert_rule(w, key, b, a, n);
         return ended(line, l);
     }

@@ -4,6 +4,7 @@ use mathlib.Core.List.{List}
 use mathlib.Core.Logic.{_⊎_, inl, inr}
 use Prim.Native.Nat.{ℕ, _+_, _≤_}
 use native.Mathlib.Omega.{arith}
+use Rattle.rules.specs.Grammar.{IsStatementNumber}
 use Rattle.rules.specs.Syntax.{Row, Stmt, result-variable, var}
 use Rattle.rules.specs.Machine.{Config, Step, Room, took, on, statementOf, step, stepAt, simpleStep, elseStep, setStep, assignStep, newStep, callStep, ifStep, assertStep, releaseStep, endStep}
 use Rattle.rules.specs.declared.Machine.{Machine}
@@ -23,18 +24,17 @@ statement m R = ap (λ (r : Row). r .stmt) (row-of (R .frame))
 up : (a k : ℕ) → a ≤ k → (k ≡ a → ⊥) → a + 1 ≤ k
 up a k l n = omega arith
 
-is-end : (k : ℕ) → 18 ≤ k → k ≤ 18 → k ≡ 18
-is-end k l h = omega arith
-
--- a kind that is none of the others is that of `end`
-pub only-end :
-    (k : ℕ) → 8 ≤ k → k ≤ 18 → (k ≡ 8 → ⊥) → (k ≡ 9 → ⊥) → (k ≡ 10 → ⊥) → (k ≡ 11 → ⊥) → (k ≡ 12 → ⊥) →
-    ((k ≡ 13) ⊎ (k ≡ 17) → ⊥) → (k ≡ 14 → ⊥) → (k ≡ 15 → ⊥) → (k ≡ 16 → ⊥) → k ≡ 18
-only-end k l h a b c d e f g i j =
-    let l1 : 13 ≤ k = up 12 k (up 11 k (up 10 k (up 9 k (up 8 k l a) b) c) d) e in
+-- each kind of statement has its step
+pub no-other :
+    (k : ℕ) → IsStatementNumber k → (k ≡ 8 → ⊥) → (k ≡ 9 → ⊥) → (k ≡ 10 → ⊥) → (k ≡ 11 → ⊥) → (k ≡ 12 → ⊥) →
+    ((k ≡ 13) ⊎ (k ≡ 17) → ⊥) → (k ≡ 14 → ⊥) → (k ≡ 15 → ⊥) → (k ≡ 16 → ⊥) → (k ≡ 18 → ⊥) → ⊥
+no-other k (low, high) a b c d e f g i j n =
+    let l1 : 13 ≤ k = up 12 k (up 11 k (up 10 k (up 9 k (up 8 k low a) b) c) d) e in
     let l2 : 17 ≤ k = up 16 k (up 15 k (up 14 k (up 13 k l1 (λ z. f (inl z))) g) i) j in
-    let l3 : 18 ≤ k = up 17 k l2 (λ z. f (inr z)) in
-    is-end k l3 h
+    past (up 18 k (up 17 k l2 (λ z. f (inr z))) n) high
+  where
+    past : 19 ≤ k → k ≤ 18 → ⊥
+    past l h = omega arith
 
 module _ {w w′ : List ℕ} {c : Machine} {r : Turn} (ready : Ready w c) (room : Room) where
   does-as :

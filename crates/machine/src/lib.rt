@@ -1,16 +1,17 @@
 // One step by the kind of its row, and a run: at most so many steps from the empty heap and main's frame.
+use rules::Kind;
 use rules::Machine;
 use run_heap::Fault;
 use run_steps::Turn;
 use tables::Layout;
 ghost use mathlib.Core.Path.{_≡_};
-ghost use Prim.Native.Nat.{_+_, _*_, _≤_, _<_};
+ghost use Prim.Native.Nat.{_+_, _≤_, _<_};
 ghost use lib.ListN.{length};
 ghost use Rattle.rules.specs.Limits.{work-bytes, most-statements, heap-objects, heap-fields};
 ghost use Rattle.run_steps.specs.States.{Ready, Does};
 ghost use Rattle.rules.specs.Counters.{freshMachine};
 ghost use Rattle.tables.specs.Layout.{frame-variables, frames-at};
-ghost use Rattle.tables.specs.Decode.{kindAt, lineAt, mainFirst, programIn};
+ghost use Rattle.tables.specs.Decode.{lineAt, mainFirst, programIn};
 ghost use Rattle.tables.specs.Tables.{Tables};
 ghost use Rattle.machine.specs.Runs.{RanAs, faultNumber, number};
 ghost use Rattle.run_heap.specs.Views.{fill};
@@ -54,30 +55,23 @@ pub fn number_of(e: Ending) -> u32
     }
 }
 
-fn kind_of(work: &[u8], row: usize) -> u8
-    requires { ⌜ (length (now work) ≡ work-bytes) × (row < most-statements) ⌝ }
-    ensures { λ r. ⌜ r ≡ kindAt (now (work .entry)) row ⌝ }
-{
-    work[Layout::ROWS + row * Layout::ROW_BYTES]
-}
-
 // "Each statement line is one step": by the kind of the row, on a heap with these two limits.
 pub fn step(work: &mut [u8], c: Machine, most_objects: u32, most_fields: u32) -> Turn
     requires { ⌜ Ready (now work) c × ((«most_objects» ≤ heap-objects) × («most_fields» ≤ heap-fields)) ⌝ }
     ensures { λ r. ⌜ Does (now (work .entry)) c (now (work .exit)) r (stepOf (record { objects = «most_objects»; fields = «most_fields» }) (programIn (now (work .entry)))) ⌝ }
 {
     let row = c.row as usize;
-    match kind_of(work, row) {
-        8 => run_steps::set_step(work, c),
-        9 => run_steps::let_step(work, c),
-        10 => run_calls::new_step(work, c, most_objects, most_fields),
-        11 => run_calls::call_step(work, c),
-        12 => run_steps::return_step(work, c),
-        13 | 17 => run_steps::assert_step(work, c),
-        14 => run_steps::release_step(work, c),
-        15 => run_steps::if_step(work, c),
-        16 => run_steps::else_step(work, c),
-        18 => run_calls::end_step(work, c),
+    match tables::kind_at(work, row) {
+        Kind::SET => run_steps::set_step(work, c),
+        Kind::LET => run_steps::let_step(work, c),
+        Kind::NEW => run_calls::new_step(work, c, most_objects, most_fields),
+        Kind::CALL => run_calls::call_step(work, c),
+        Kind::RETURN => run_steps::return_step(work, c),
+        Kind::ASSERT | Kind::JOIN => run_steps::assert_step(work, c),
+        Kind::RELEASE => run_steps::release_step(work, c),
+        Kind::IF => run_steps::if_step(work, c),
+        Kind::ELSE => run_steps::else_step(work, c),
+        Kind::END => run_calls::end_step(work, c),
         // No row is of another kind, so that any answer meets the contract.
         0..=7 | 19..=255 => Turn::Done,
     }

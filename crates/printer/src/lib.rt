@@ -1,5 +1,6 @@
 // What the program prints, written to a lent buffer.
 use read_bytes::Set;
+use rules::Kind;
 ghost use mathlib.Core.Path.{_≡_};
 ghost use mathlib.Core.Bool.{true};
 ghost use mathlib.Core.List.{[], _∷_};
@@ -169,11 +170,11 @@ fn show_line(
     let r = w.end;
     let kind = w.kind;
     match kind {
-        3 | 6 => Shown {
+        Kind::METHOD | Kind::MAIN => Shown {
             count: 0,
             end: first,
         },
-        7 => show_local(text, out, r, results, s),
+        Kind::VAR => show_local(text, out, r, results, s),
         _ => s,
     }
 }

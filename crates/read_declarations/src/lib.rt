@@ -4,6 +4,7 @@ use read_names::Row;
 use read_names::Span;
 use read_scan::Word;
 use read_scopes::Names;
+use rules::Kind;
 ghost use mathlib.Core.Path.{_≡_};
 ghost use mathlib.Core.Bool.{true};
 ghost use Prim.Native.Nat.{_≤_, _<_, pred};
@@ -150,9 +151,9 @@ fn declare_line(text: &[u8], work: &mut [u8], r: usize, kind: u8, c: Names) -> N
     ensures { λ d. ⌜ Adds (now (text .entry)) (now (work .entry)) c (lineWith (kindNumbered kind) (more (drop r (now (text .entry))))) (now (work .exit)) d ⌝ }
 {
     match kind {
-        1 => declare_class(text, work, r, c),
-        2 => declare_field(text, work, r, c),
-        3 => declare_method(text, work, r, c),
+        Kind::CLASS => declare_class(text, work, r, c),
+        Kind::FIELD => declare_field(text, work, r, c),
+        Kind::METHOD => declare_method(text, work, r, c),
         _ => c,
     }
 }

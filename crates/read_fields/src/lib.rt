@@ -1,5 +1,6 @@
 // The fields of a line, each read once: operands, atoms, what may follow them.
 use read_bytes::Set;
+use read_grammar::OperandNumber;
 use rules::Machine;
 ghost use mathlib.Core.Path.{_≡_};
 ghost use mathlib.Core.List.{[], _∷_};
@@ -57,7 +58,7 @@ fn next_operand(operand: u32, t: &[u8], r: usize) -> usize
     requires { ⌜ r ≤ length (now t) ⌝ }
     ensures { λ e. ⌜ NextFit (fitsOperand operand) (now (t .entry)) r e ⌝ }
 {
-    if operand == 11 {
+    if operand == OperandNumber::EXPRESSION {
         return next_expr(t, r);
     }
     next_name(t, r)

@@ -1,4 +1,5 @@
 // The grammar by numbers: the row of each kind of line, where a line may stand, and the limits of the text (4, 5).
+use rules::Kind;
 use rules::Machine;
 ghost use mathlib.Core.Path.{_≡_};
 ghost use mathlib.Core.Bool.{true};
@@ -10,6 +11,33 @@ ghost use Rattle.read_grammar.specs.Rows.{kindNumbered, rowOf, rowNumber
 ghost use Rattle.read_grammar.specs.Coded.{coded, fits, inPlace, stageAfter, branchesAfter, atStage, placeAfter, withinLimits, AfterWithin};
 
 // THE ROW OF A KIND
+
+// The operands, by their numbers.
+pub struct OperandNumber {}
+
+impl OperandNumber {
+    pub const NEW_CLASS: u32 = 1;
+
+    pub const NEW_FIELD: u32 = 2;
+
+    pub const NEW_METHOD: u32 = 3;
+
+    pub const NEW_VARIABLE: u32 = 4;
+
+    pub const TYPE_NAME: u32 = 5;
+
+    pub const CLASS_NAME: u32 = 6;
+
+    pub const READ: u32 = 7;
+
+    pub const ASSIGNED: u32 = 8;
+
+    pub const FIELD: u32 = 9;
+
+    pub const METHOD: u32 = 10;
+
+    pub const EXPRESSION: u32 = 11;
+}
 
 // What the grammar says of a kind of line: its operands to the base 16, the first lowest; what follows them; the stages at which it may
 // stand; and the stage after it.
@@ -27,23 +55,23 @@ fn row_number(kind: u8) -> u32
     ensures { λ r. ⌜ r ≡ rowNumber (rowOf (form (kindNumbered kind))) ⌝ }
 {
     match kind {
-        1 => 0x1200_0001, // class
-        2 => 0x1110_0025, // field
-        3 => 0x3210_4535, // method
-        4 => 0x4332_0000, // requires
-        5 => 0x5442_0000, // ensures
-        6 => 0x5200_0000, // main
-        7 => 0x5550_0045, // var
-        8 => 0x6650_0797, // set
-        9 => 0x6650_00b8, // let
-        10 => 0x6650_0068, // new
-        11 => 0x6650_7a78, // call
-        12 => 0x6650_0007, // return
-        13 => 0x6652_0000, // assert
-        14 => 0x6652_0000, // release
-        15 => 0x6651_0000, // if
-        16 => 0x6650_0000, // else
-        17 => 0x6652_0000, // join
+        Kind::CLASS => 0x1200_0001,
+        Kind::FIELD => 0x1110_0025,
+        Kind::METHOD => 0x3210_4535,
+        Kind::REQUIRES => 0x4332_0000,
+        Kind::ENSURES => 0x5442_0000,
+        Kind::MAIN => 0x5200_0000,
+        Kind::VAR => 0x5550_0045,
+        Kind::SET => 0x6650_0797,
+        Kind::LET => 0x6650_00b8,
+        Kind::NEW => 0x6650_0068,
+        Kind::CALL => 0x6650_7a78,
+        Kind::RETURN => 0x6650_0007,
+        Kind::ASSERT => 0x6652_0000,
+        Kind::RELEASE => 0x6652_0000,
+        Kind::IF => 0x6651_0000,
+        Kind::ELSE => 0x6650_0000,
+        Kind::JOIN => 0x6652_0000,
         _ => 0x6650_0000, // end
     }
 }
@@ -63,6 +91,9 @@ pub fn row_of(kind: u8) -> Row
 }
 
 // THE PLACE OF A LINE
+
+// Numbers of open branches are below this one: each branch is two bits.
+const OPEN_BRANCHES: usize = 1 << (2 * Machine::BRANCHES);
 
 // Where a line stands: the stage by its number, whether `main` is above, the open branches to the base 4, the innermost lowest (1 before
 // its `else`, 2 after it); and what the lines above have used of each limit.
@@ -97,10 +128,10 @@ fn fits(kind: u8, p: Place) -> bool
     ensures { λ r. ⌜ r ≡ fits kind p ⌝ }
 {
     match kind {
-        12 => !p.main,
-        16 => p.branches % 4 == 1,
-        17 => p.branches % 4 == 2,
-        18 => p.branches == 0,
+        Kind::RETURN => !p.main,
+        Kind::ELSE => p.branches % 4 == 1,
+        Kind::JOIN => p.branches % 4 == 2,
+        Kind::END => p.branches == 0,
         _ => true,
     }
 }
@@ -122,7 +153,7 @@ pub fn is_in_place(kind: u8, p: Place) -> bool
 fn stage_after(kind: u8, main: bool, next: u32) -> u32
     ensures { λ r. ⌜ r ≡ stageAfter kind main next ⌝ }
 {
-    if kind != 18 {
+    if kind != Kind::END {
         return next;
     }
     if main { 7 } else { 2 }
@@ -133,9 +164,9 @@ fn branches_after(kind: u8, n: usize) -> usize
     ensures { λ r. ⌜ r ≡ branchesAfter kind n ⌝ }
 {
     match kind {
-        15 => 1 + 4 * n,
-        16 => 2 + 4 * (n / 4),
-        17 => n / 4,
+        Kind::IF => 1 + 4 * n,
+        Kind::ELSE => 2 + 4 * (n / 4),
+        Kind::JOIN => n / 4,
         _ => n,
     }
 }
@@ -265,13 +296,13 @@ pub fn place_after(kind: u8, p: Place) -> Place
 {
     let row = row_of(kind);
     match kind {
-        1 => with_class(p, row.next),
-        2 => with_field(p, row.next),
-        3 => with_method(p, row.next),
-        4 => with_stage(p, row.next),
-        5 => with_stage(p, row.next),
-        6 => with_main(p, row.next),
-        7 => with_local(p, row.next),
+        Kind::CLASS => with_class(p, row.next),
+        Kind::FIELD => with_field(p, row.next),
+        Kind::METHOD => with_method(p, row.next),
+        Kind::REQUIRES => with_stage(p, row.next),
+        Kind::ENSURES => with_stage(p, row.next),
+        Kind::MAIN => with_main(p, row.next),
+        Kind::VAR => with_local(p, row.next),
         _ => with_statement(p, kind, row.next),
     }
 }
@@ -282,18 +313,18 @@ pub fn is_within(q: Place, kind: u8) -> bool
     ensures { λ r. ⌜ r ≡ withinLimits q ⌝ }
 {
     match kind {
-        1 => q.classes <= Machine::CLASSES,
-        2 => q.fields <= Machine::CLASS_FIELDS,
-        3 => q.methods <= Machine::METHODS,
-        4 => true,
-        5 => true,
-        6 => true,
-        7 => q.locals <= Machine::LOCALS,
+        Kind::CLASS => q.classes <= Machine::CLASSES,
+        Kind::FIELD => q.fields <= Machine::CLASS_FIELDS,
+        Kind::METHOD => q.methods <= Machine::METHODS,
+        Kind::REQUIRES => true,
+        Kind::ENSURES => true,
+        Kind::MAIN => true,
+        Kind::VAR => q.locals <= Machine::LOCALS,
         _ => {
             if Machine::STATEMENTS < q.statements {
                 return false;
             }
-            q.branches < 256
+            q.branches < OPEN_BRANCHES
         }
     }
 }

@@ -1,8 +1,10 @@
 // Why a line is refused: the tests of its names and types (6, 7, 9).
+use read_grammar::OperandNumber;
 use read_scopes::Above;
 use read_scopes::Names;
 use read_tests::Operand;
 use read_types::ExprType;
+use rules::Kind;
 ghost use mathlib.Core.Path.{_≡_};
 ghost use mathlib.Core.Bool.{true, _&&_};
 ghost use mathlib.Core.List.{[], _∷_};
@@ -81,16 +83,16 @@ fn operand_of(n: u32) -> Operand
     ensures { λ r. ⌜ operandNumber (operandMeant r) ≡ n ⌝ }
 {
     match n {
-        1 => Operand::NewClass,
-        2 => Operand::NewField,
-        3 => Operand::NewMethod,
-        4 => Operand::NewVariable,
-        5 => Operand::TypeName,
-        6 => Operand::ClassName,
-        7 => Operand::Read,
-        8 => Operand::Assigned,
-        9 => Operand::Field,
-        10 => Operand::Method,
+        OperandNumber::NEW_CLASS => Operand::NewClass,
+        OperandNumber::NEW_FIELD => Operand::NewField,
+        OperandNumber::NEW_METHOD => Operand::NewMethod,
+        OperandNumber::NEW_VARIABLE => Operand::NewVariable,
+        OperandNumber::TYPE_NAME => Operand::TypeName,
+        OperandNumber::CLASS_NAME => Operand::ClassName,
+        OperandNumber::READ => Operand::Read,
+        OperandNumber::ASSIGNED => Operand::Assigned,
+        OperandNumber::FIELD => Operand::Field,
+        OperandNumber::METHOD => Operand::Method,
         _ => Operand::Expression,
     }
 }
@@ -303,11 +305,11 @@ fn sides_agree(text: &[u8], work: &[u8], from: usize, kind: u8, c: Names) -> boo
     ensures { λ r. ⌜ r ≡ sidesIn (now (text .entry)) (now (work .entry)) c (lineAfter (now (text .entry)) from kind) ⌝ }
 {
     match kind {
-        8 => set_agrees(text, work, from, c),
-        9 => let_agrees(text, work, from, c),
-        10 => new_agrees(text, work, from, c),
-        11 => call_agrees(text, work, from, c),
-        12 => return_agrees(text, work, from, c),
+        Kind::SET => set_agrees(text, work, from, c),
+        Kind::LET => let_agrees(text, work, from, c),
+        Kind::NEW => new_agrees(text, work, from, c),
+        Kind::CALL => call_agrees(text, work, from, c),
+        Kind::RETURN => return_agrees(text, work, from, c),
         _ => true,
     }
 }
@@ -317,7 +319,7 @@ fn call_apart(text: &[u8], work: &[u8], from: usize, kind: u8, c: Names) -> bool
     requires { ⌜ (length (now work) ≡ work-bytes) × Fits c × (from ≤ length (now text)) × IsKindNumber kind ⌝ }
     ensures { λ r. ⌜ r ≡ apartIn (now (text .entry)) (now (work .entry)) c (lineAfter (now (text .entry)) from kind) ⌝ }
 {
-    if kind != 11 {
+    if kind != Kind::CALL {
         return true;
     }
     let x = read_lookups::variable(text, work, c, nth_field(text, from, 0));

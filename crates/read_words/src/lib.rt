@@ -1,4 +1,5 @@
 // Words by number: those that begin lines and atoms, and the reserved ones.
+use rules::Kind;
 ghost use mathlib.Core.Path.{_≡_};
 ghost use mathlib.Core.Bool.{false};
 ghost use Prim.Native.Nat.{_+_, _≤_};
@@ -10,9 +11,7 @@ ghost use Rattle.read_words.specs.Words.{words, wordNumber, kindOr0, pac
 
 // WORDS
 
-// Words by number: those that begin a line to 18, those of atoms, the reserved ones.
-pub const LAST_KIND: u8 = 18;
-
+// Words by number: those that begin a line, by their kinds; then those of atoms, and the reserved ones.
 pub const ACC: u8 = 19;
 
 pub const EQ: u8 = 20;
@@ -46,24 +45,24 @@ fn numbered(k: u64) -> u8
     ensures { λ r. ⌜ r ≡ packedIn words 1 k ⌝ }
 {
     match k {
-        0x636c617373 => 1, // class
-        0x6669656c64 => 2, // field
-        0x6d6574686f64 => 3, // method
-        0x7265717569726573 => 4, // requires
-        0x656e7375726573 => 5, // ensures
-        0x6d61696e => 6, // main
-        0x766172 => 7, // var
-        0x736574 => 8, // set
-        0x6c6574 => 9, // let
-        0x6e6577 => 10, // new
-        0x63616c6c => 11, // call
-        0x72657475726e => 12, // return
-        0x617373657274 => 13, // assert
-        0x72656c65617365 => 14, // release
-        0x6966 => 15, // if
-        0x656c7365 => 16, // else
-        0x6a6f696e => 17, // join
-        0x656e64 => 18, // end
+        0x636c617373 => Kind::CLASS,
+        0x6669656c64 => Kind::FIELD,
+        0x6d6574686f64 => Kind::METHOD,
+        0x7265717569726573 => Kind::REQUIRES,
+        0x656e7375726573 => Kind::ENSURES,
+        0x6d61696e => Kind::MAIN,
+        0x766172 => Kind::VAR,
+        0x736574 => Kind::SET,
+        0x6c6574 => Kind::LET,
+        0x6e6577 => Kind::NEW,
+        0x63616c6c => Kind::CALL,
+        0x72657475726e => Kind::RETURN,
+        0x617373657274 => Kind::ASSERT,
+        0x72656c65617365 => Kind::RELEASE,
+        0x6966 => Kind::IF,
+        0x656c7365 => Kind::ELSE,
+        0x6a6f696e => Kind::JOIN,
+        0x656e64 => Kind::END,
         0x616363 => ACC,
         0x6571 => EQ,
         0x6e65 => NE,
@@ -93,7 +92,7 @@ pub fn kind_of(w: &[u8]) -> u8
     ensures { λ r. ⌜ r ≡ kindOr0 (kindOf (now (w .entry))) ⌝ }
 {
     let k = word(w);
-    if k <= LAST_KIND { k } else { 0 }
+    if k <= Kind::LAST { k } else { 0 }
 }
 
 // Many names are shorter or longer than any reserved word.

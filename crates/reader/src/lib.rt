@@ -7,6 +7,7 @@ use read_scopes::Names;
 use read_scopes::Range;
 use resolve_pass::Pass;
 use resolve_pass::Tried;
+use rules::Kind;
 use rules::Machine;
 ghost use mathlib.Core.Path.{_≡_};
 ghost use mathlib.Core.Bool.{true, false};
@@ -47,14 +48,14 @@ fn try_line(text: &[u8], work: &mut [u8], p: Pass, kind: u8, r: usize) -> Tried
     requires { ⌜ Follows (now text) (now work) p kind r × IsKindNumber kind × (isDeclaration kind ≡ false) × Held (now work) p ⌝ }
     ensures { λ q. ⌜ LineTried (now (text .entry)) (now (work .entry)) p (lineAfter (now (text .entry)) r kind) (now (work .exit)) q ⌝ }
 {
-    if 8 <= kind {
+    if Kind::is_statement(kind) {
         return resolve_bodies::put_statement(text, work, p, kind, r);
     }
     match kind {
-        2 => resolve_headers::put_field(text, work, p, r),
-        3 => resolve_headers::put_method(text, work, p, r),
-        4 => resolve_bodies::put_header(text, work, p, kind, r),
-        5 => resolve_bodies::put_header(text, work, p, kind, r),
+        Kind::FIELD => resolve_headers::put_field(text, work, p, r),
+        Kind::METHOD => resolve_headers::put_method(text, work, p, r),
+        Kind::REQUIRES => resolve_bodies::put_header(text, work, p, kind, r),
+        Kind::ENSURES => resolve_bodies::put_header(text, work, p, kind, r),
         _ => resolve_headers::put_var(text, work, p, r),
     }
 }
@@ -65,9 +66,9 @@ fn is_framed(kind: u8) -> bool
     ensures { λ r. ⌜ r ≡ isFramed (kindNumbered kind) ⌝ }
 {
     match kind {
-        4 => true,
-        5 => true,
-        17 => true,
+        Kind::REQUIRES => true,
+        Kind::ENSURES => true,
+        Kind::JOIN => true,
         _ => false,
     }
 }
@@ -150,8 +151,8 @@ fn is_declaration(kind: u8) -> bool
     ensures { λ r. ⌜ r ≡ isDeclaration kind ⌝ }
 {
     match kind {
-        1 => true,
-        6 => true,
+        Kind::CLASS => true,
+        Kind::MAIN => true,
         _ => false,
     }
 }

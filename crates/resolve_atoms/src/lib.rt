@@ -1,5 +1,6 @@
 // The atoms of a line looked up, tested and written.
 use read_scopes::Names;
+use tables::AtomKind;
 use tables::Expr;
 ghost use mathlib.Core.Path.{_≡_};
 ghost use mathlib.Core.Bool.{true, cond, _||_};
@@ -15,7 +16,7 @@ ghost use Rattle.tables.specs.Decode.{relOf};
 ghost use Rattle.read_scopes.specs.Meanings.{declarationsIn, variablesIn};
 ghost use Rattle.resolve_atoms.specs.Written.{AtomTried, Ready, AtomFollows, NextTried, FormulaFollows, FormulaTried};
 
-// An atom as a row has it: its kind (0 `acc`, 1 `eq`, 2 `ne`) and its sides.
+// An atom as a row has it: its kind (`AtomKind`) and its sides.
 pub struct AtomRow {
     pub kind: usize,
     pub left: Expr,
@@ -46,7 +47,7 @@ fn access(text: &[u8], work: &[u8], c: Names, x: &[u8], f: &[u8]) -> Tried
         return Tried::Bad;
     }
     Tried::Row(AtomRow {
-        kind: 0,
+        kind: AtomKind::ACC,
         left: Expr::Path(m.variable, m.number),
         right: Expr::Null,
     })
@@ -79,7 +80,11 @@ pub fn compared(text: &[u8], work: &[u8], c: Names, kind: usize, a: &[u8], b: &[
 pub fn relation(word: u8) -> usize
     ensures { λ r. ⌜ r ≡ cond (eqb word 20) 1 2 ⌝ }
 {
-    if word == read_words::EQ { 1 } else { 2 }
+    if word == read_words::EQ {
+        AtomKind::EQ
+    } else {
+        AtomKind::NE
+    }
 }
 
 // The number of the word of an atom, which its first letter tells.

@@ -3,6 +3,7 @@ use read_scopes::Names;
 use resolve_atoms::Put;
 use resolve_pass::Pass;
 use resolve_pass::Tried;
+use rules::Kind;
 ghost use mathlib.Core.Path.{_≡_};
 ghost use mathlib.Core.Bool.{not, _&&_};
 ghost use Prim.Native.Nat.{_≤_};
@@ -22,7 +23,7 @@ pub fn seen(c: Names, kind: u8) -> Names
     requires { ⌜ IsKindNumber kind ⌝ }
     ensures { λ r. ⌜ r ≡ seenBy (kindNumbered kind) c ⌝ }
 {
-    let result = unless(c.method, kind == 4);
+    let result = unless(c.method, kind == Kind::REQUIRES);
     Names {
         classes: c.classes,
         fields: c.fields,
@@ -38,7 +39,7 @@ fn names_after(c: Names, kind: u8) -> Names
     requires { ⌜ IsStatementNumber kind ⌝ }
     ensures { λ r. ⌜ r ≡ namesAfter (kindNumbered kind) c ⌝ }
 {
-    if kind != 18 {
+    if kind != Kind::END {
         return c;
     }
     Names {
@@ -67,14 +68,13 @@ fn put_row(text: &[u8], work: &mut [u8], p: Pass, kind: u8, r: usize) -> Put
     let i = p.rows;
     let n = p.atoms;
     let line = p.line + 1;
-    let k = kind as usize;
     match kind {
-        9 => write_sides::put_let(text, work, c, r, i, n, line),
-        13 => write_formulas::put_claim(text, work, c, k, r, i, n, line),
-        14 => write_formulas::put_claim(text, work, c, k, r, i, n, line),
-        15 => write_sides::put_if(text, work, c, r, i, n, line),
-        17 => write_formulas::put_claim(text, work, c, k, r, i, n, line),
-        _ => done_if(write_plain::put_plain(text, work, c, k, r, i, line), n),
+        Kind::LET => write_sides::put_let(text, work, c, r, i, n, line),
+        Kind::ASSERT => write_formulas::put_claim(text, work, c, kind, r, i, n, line),
+        Kind::RELEASE => write_formulas::put_claim(text, work, c, kind, r, i, n, line),
+        Kind::IF => write_sides::put_if(text, work, c, r, i, n, line),
+        Kind::JOIN => write_formulas::put_claim(text, work, c, kind, r, i, n, line),
+        _ => done_if(write_plain::put_plain(text, work, c, kind, r, i, line), n),
     }
 }
 
@@ -113,12 +113,12 @@ fn put_formula(text: &[u8], work: &mut [u8], p: Pass, kind: u8, r: usize) -> Put
     let m = own.first + own.count - 1;
     let n = p.atoms;
     match kind {
-        4 => write_formulas::put_requires(text, work, c, r, m, n),
+        Kind::REQUIRES => write_formulas::put_requires(text, work, c, r, m, n),
         _ => write_formulas::put_ensures(text, work, c, r, m, n),
     }
 }
 
-// Writes the line `requires` (kind 4) or `ensures` (kind 5), the word of which ends at r, if it is good.
+// Writes the line `requires` or `ensures`, the word of which ends at r, if it is good.
 pub fn put_header(text: &[u8], work: &mut [u8], p: Pass, kind: u8, r: usize) -> Tried
     requires { ⌜ Follows (now text) (now work) p kind r × ((4 ≤ kind) × (kind ≤ 5)) ⌝ }
     ensures { λ q. ⌜ LineTried (now (text .entry)) (now (work .entry)) p (lineAfter (now (text .entry)) r kind) (now (work .exit)) q ⌝ }

@@ -1,4 +1,5 @@
 // Number 10 over the atoms of a formula.
+use tables::AtomKind;
 use tables::Expr;
 ghost use mathlib.Core.Path.{_≡_};
 ghost use mathlib.Core.Bool.{_&&_};
@@ -17,7 +18,7 @@ fn is_access(work: &[u8], a: usize) -> bool
     requires { ⌜ (length (now work) ≡ work-bytes) × (a < most-atom-rows) ⌝ }
     ensures { λ r. ⌜ r ≡ isAccess (now (work .entry)) a ⌝ }
 {
-    tables::atom_kind(work, a) == 0
+    tables::atom_kind(work, a) == AtomKind::ACC
 }
 
 fn is_of(work: &[u8], a: usize, x: usize, f: usize) -> bool

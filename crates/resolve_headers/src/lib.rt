@@ -4,6 +4,7 @@ use read_scopes::Names;
 use read_scopes::Range;
 use resolve_pass::Pass;
 use resolve_pass::Tried;
+use rules::Kind;
 ghost use mathlib.Core.Path.{_≡_};
 ghost use mathlib.Core.Bool.{true};
 ghost use Prim.Native.Nat.{_+_, _≤_, _<_};
@@ -131,18 +132,18 @@ fn put_main(p: Pass) -> Pass
     moved(p, names, above, p.rows)
 }
 
-// Puts the line of this kind (1 `class`, 6 `main`) whose word ends at r.
+// Puts the line of this kind (`class` or `main`) whose word ends at r.
 pub fn put_declaration(text: &[u8], work: &mut [u8], p: Pass, kind: u8, r: usize) -> Pass
     requires { ⌜ Ready (now text) (now work) p × (isDeclaration kind ≡ true) × Room (now text) (now work) p (lineAfter (now text) r kind) ⌝ }
     ensures { λ q. ⌜ DeclarationPut (now (text .entry)) (now (work .entry)) p (lineAfter (now (text .entry)) r kind) (now (work .exit)) q ⌝ }
 {
     match kind {
-        1 => put_class(work, p),
+        Kind::CLASS => put_class(work, p),
         _ => put_main(p),
     }
 }
 
-// `field T f` (kind 2), whose word ends at r: one more field of the last class, if T is a type and f a new name.
+// `field T f`, whose word ends at r: one more field of the last class, if T is a type and f a new name.
 pub fn put_field(text: &[u8], work: &mut [u8], p: Pass, r: usize) -> Tried
     requires { ⌜ Ready (now text) (now work) p × (r ≤ length (now text)) × (isFormed (form Field .operands) (form Field .tail) (more (drop r (now text))) ≡ true) × Room (now text) (now work) p (lineAfter (now text) r 2) × Held (now work) p ⌝ }
     ensures { λ q. ⌜ LineTried (now (text .entry)) (now (work .entry)) p (lineAfter (now (text .entry)) r 2) (now (work .exit)) q ⌝ }
@@ -160,7 +161,7 @@ pub fn put_field(text: &[u8], work: &mut [u8], p: Pass, r: usize) -> Tried
     Tried::On(moved(p, names, with_field(above), p.main))
 }
 
-// `method T m U w` (kind 3), whose word ends at r: the next method, from the next row on, and its block, if T and U are types and m and
+// `method T m U w`, whose word ends at r: the next method, from the next row on, and its block, if T and U are types and m and
 // w new names.
 pub fn put_method(text: &[u8], work: &mut [u8], p: Pass, r: usize) -> Tried
     requires { ⌜ Ready (now text) (now work) p × (r ≤ length (now text)) × (isFormed (form Method .operands) (form Method .tail) (more (drop r (now text))) ≡ true) × Room (now text) (now work) p (lineAfter (now text) r 3) × Held (now work) p ⌝ }
@@ -182,7 +183,7 @@ pub fn put_method(text: &[u8], work: &mut [u8], p: Pass, r: usize) -> Tried
     Tried::On(moved(p, in_method(names), with_method(above), p.main))
 }
 
-// `var T x` (kind 7), whose word ends at r: one more local, if T is a type and x a new name.
+// `var T x`, whose word ends at r: one more local, if T is a type and x a new name.
 pub fn put_var(text: &[u8], work: &mut [u8], p: Pass, r: usize) -> Tried
     requires { ⌜ Ready (now text) (now work) p × (r ≤ length (now text)) × (isFormed (form Var .operands) (form Var .tail) (more (drop r (now text))) ≡ true) × Room (now text) (now work) p (lineAfter (now text) r 7) ⌝ }
     ensures { λ q. ⌜ LineTried (now (text .entry)) (now (work .entry)) p (lineAfter (now (text .entry)) r 7) (now (work .exit)) q ⌝ }

@@ -1,10 +1,11 @@
 -- The eighteen kinds of line: word, operands, and where each may stand. A kind of line is a row of this table.
-use mathlib.Core.Bool.{Bool, true, false, _&&_, Bool·beq}
+use mathlib.Core.Path.{_≡_}
+use mathlib.Core.Bool.{Bool, true, false, _&&_, _||_, Bool·beq}
 use mathlib.Core.List.{List, [], _∷_, map}
 use mathlib.Core.Option.{Option}
 use Prim.Native.Nat.{ℕ, _≤_}
 use Prim.Native.String.{String}
-use lib.Dec.{eqb}
+use lib.Dec.{eqb, leb}
 use lib.ListN.{length, drop, getD}
 use Rattle.rules.specs.Base.{Name, Try, ok, _>>=_, _>>_, check, orElse, first, is}
 use Rattle.rules.specs.Limits.{most-atoms}
@@ -149,6 +150,18 @@ isStatement Main = false
 isStatement Var = false
 isStatement (statement s) = true
 
+-- Statements are numbered last.
+abbrev pub isStatementNumber : ℕ → Bool
+isStatementNumber n = leb first-statement n
+
+-- The statements before such a line end there: "`if` .. `else` .. `join` formula"; "statements, `end`".
+unfoldable pub isClosingNumber : ℕ → Bool
+isClosingNumber n = eqb n (statementNumber Else) || (eqb n (statementNumber Join) || eqb n (statementNumber End))
+
+-- after a statement that neither opens nor closes a part of a branch, the next line follows
+abbrev pub GoesOn : ℕ → Type 0
+GoesOn n = (isClosingNumber n ≡ false) × (n ≡ statementNumber If → ⊥)
+
 -- Have both one number? That a kind is no statement tells it from all of them at once.
 unfoldable pub isKind : Kind → Kind → Bool
 isKind a k = Bool·beq (isStatement a) (isStatement k) && eqb (kindNumber a) (kindNumber k)
@@ -192,5 +205,5 @@ readLine l = do
 
 -- Everything above computes where this unfolds.
 unfoldable pub opened : Unit {0}
-unfolding stands shaped shape form statementNumber kindNumber isStatement isKind kindOf isOperand isTail isFormed readLine
+unfolding stands shaped shape form statementNumber kindNumber isStatement isClosingNumber isKind kindOf isOperand isTail isFormed readLine
 opened = tt

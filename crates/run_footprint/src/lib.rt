@@ -4,6 +4,7 @@ use run_heap::Fault;
 use run_heap::Read;
 use run_heap::Spot;
 use run_heap::View;
+use tables::AtomKind;
 use tables::Layout;
 ghost use mathlib.Core.Path.{_≡_};
 ghost use mathlib.Core.List.{[], _∷_};
@@ -40,11 +41,11 @@ pub enum Took {
     Lacking(Fault),
 }
 
-// Whether l and r compare as the kind of an atom says: 1 `eq`, else `ne`.
+// Whether l and r compare as the kind of an atom says: `eq`, else `ne`.
 fn compare(kind: usize, l: u32, r: u32) -> Truth
     ensures { λ t. ⌜ truthIs t ≡ ok (compared (relOf kind) l r) ⌝ }
 {
-    if kind == 1 {
+    if kind == AtomKind::EQ {
         if l == r {
             return Truth::Holds;
         }
@@ -173,7 +174,7 @@ fn take_atom(
     requires { ⌜ (Readable (now work) v × (a < atomCount (now work))) × (((n < footprint-cells) × (length (now cells) ≡ footprint-cells)) × Sieve (take n (now cells)) (now seen)) ⌝ }
     ensures { λ r. ⌜ TookUpTo r (now (cells .exit)) (n + 1) (takeIn (now (work .entry)) v (atomAt (now (work .entry)) a ∷ []) (take n (now (cells .entry)))) × Sieve (take (countOf r) (now (cells .exit))) (now (seen .exit)) ⌝ }
 {
-    if tables::atom_kind(work, a) == 0 {
+    if tables::atom_kind(work, a) == AtomKind::ACC {
         let x = tables::atom_variable(work, a);
         let f = tables::atom_field(work, a);
         return take_cell(work, v, x, f, cells, seen, n);

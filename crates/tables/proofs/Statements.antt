@@ -7,6 +7,7 @@ use Prim.Native.Nat.{ℕ, suc, _≤_}
 use native.Mathlib.Omega.{arith}
 use lib.Dec.{eqb}
 use borrow.Author.Tests.{ne-eqb}
+use Rattle.rules.specs.Grammar.{IsStatementNumber}
 use Rattle.rules.specs.Syntax.{Simple, Stmt, set, assign, new, call, return, assert, release, simple, else, join, end}
 use Rattle.tables.specs.declared.Operands.{Operands}
 use Rattle.tables.specs.Decode.{rightAt, ifAt, formulaOf, stmtOf}
@@ -75,9 +76,9 @@ module _ (w : List ℕ) (r : Operands) where
       either true p h = inl (p, refl)
       either false p h = h
 
-  pub not-end : 8 ≤ r .kind → r .kind ≤ 17 → stmtOf w r ≡ end → ⊥
+  pub not-end : IsStatementNumber (r .kind) → (r .kind ≡ 18 → ⊥) → stmtOf w r ≡ end → ⊥
   unfolding stmtOf
-  not-end a b h =
+  not-end (a, b) n h =
       step 8 a (λ e. let z : _≡_ {A = ℕ} 0 1 = (let g = rw e at h in cc) in omega arith) λ l8.
       step 9 l8 (λ e. let z : _≡_ {A = ℕ} 0 1 = (let g = rw e at h in cc) in omega arith) λ l9.
       step 10 l9 (λ e. let z : _≡_ {A = ℕ} 0 1 = (let g = rw e at h in cc) in omega arith) λ l10.
@@ -88,7 +89,8 @@ module _ (w : List ℕ) (r : Operands) where
       step 15 l14 (λ e. let z : _≡_ {A = ℕ} 0 1 = (let g = rw e at h in cc) in omega arith) λ l15.
       step 16 l15 (λ e. let z : _≡_ {A = ℕ} 0 1 = (let g = rw e at h in cc) in omega arith) λ l16.
       step 17 l16 (λ e. let z : _≡_ {A = ℕ} 0 1 = (let g = rw e at h in cc) in omega arith) λ l17.
-      omega (arith, b, l17)
+      step 18 l17 n λ l18.
+      omega (arith, b, l18)
     where
       -- it is not k, so it is more
       step : (k : ℕ) → k ≤ r .kind → (r .kind ≡ k → ⊥) → (suc k ≤ r .kind → ⊥) → ⊥

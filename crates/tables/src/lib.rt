@@ -1,7 +1,9 @@
 // The tables in the lent work area: where each stands (`Layout`), and the functions that read and write bytes, words and sides there.
+use rules::Kind;
 ghost use mathlib.Core.Path.{_≡_};
 ghost use Prim.Native.Nat.{_+_, _*_, _%_, _≤_, _<_};
 ghost use lib.ListN.{length};
+ghost use Rattle.rules.specs.Grammar.{isClosingNumber};
 ghost use Rattle.rules.specs.Limits.{most-statements, most-methods, most-classes, most-fields, work-bytes};
 ghost use Rattle.tables.specs.Layout.{most-atom-rows, most-names};
 ghost use Rattle.tables.specs.Decode.{byteAt, halfAt, wordAt, atomPlace, exprAt, leftAt, rightAt, kindAt, xAt, yAt, zAt, memberAt, atomCountAt, firstAtomAt, lineAt, targetAt, methodCount, mainFirst, methodPlace, firstRowAt, classPlace, fieldCountAt, fieldNameAt};
@@ -139,7 +141,7 @@ pub fn word_at(w: &[u8], i: usize) -> u32
 // A statement row but for its target: the number of its kind, its variables, its field, class or method, how many atoms
 // it has and the first of them, its line.
 pub struct Operands {
-    pub kind: usize,
+    pub kind: u8,
     pub x: usize,
     pub y: usize,
     pub z: usize,
@@ -209,7 +211,18 @@ pub fn main_first(w: &[u8]) -> usize
 
 // ATOMS
 
-// The kind of the atom a: 0 `acc`, 1 `eq`, 2 `ne`.
+// The kinds of atoms, by their numbers.
+pub struct AtomKind {}
+
+impl AtomKind {
+    pub const ACC: usize = 0;
+
+    pub const EQ: usize = 1;
+
+    pub const NE: usize = 2;
+}
+
+// The kind of the atom a, as `AtomKind` numbers it.
 pub fn atom_kind(w: &[u8], a: usize) -> usize
     requires { ⌜ (length (now w) ≡ work-bytes) × (a < most-atom-rows) ⌝ }
     ensures { λ r. ⌜ (r ≡ byteAt (now (w .entry)) (atomPlace a)) × (r < 256) ⌝ }
@@ -236,11 +249,19 @@ pub fn atom_field(w: &[u8], a: usize) -> usize
 // ROWS
 
 // The kind of the row i.
-pub fn kind_at(w: &[u8], i: usize) -> usize
+pub fn kind_at(w: &[u8], i: usize) -> u8
     requires { ⌜ (length (now w) ≡ work-bytes) × (i < most-statements) ⌝ }
-    ensures { λ r. ⌜ (r ≡ kindAt (now (w .entry)) i) × (r < 256) ⌝ }
+    ensures { λ r. ⌜ r ≡ kindAt (now (w .entry)) i ⌝ }
 {
-    byte_at(w, Layout::ROWS + i * Layout::ROW_BYTES)
+    w[Layout::ROWS + i * Layout::ROW_BYTES]
+}
+
+// Do the rows of a block, or of a part of a branch, end before it?
+pub fn is_closing_at(w: &[u8], i: usize) -> bool
+    requires { ⌜ (length (now w) ≡ work-bytes) × (i < most-statements) ⌝ }
+    ensures { λ r. ⌜ r ≡ isClosingNumber (kindAt (now (w .entry)) i) ⌝ }
+{
+    Kind::is_closing(kind_at(w, i))
 }
 
 // Its first variable.

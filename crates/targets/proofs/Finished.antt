@@ -192,7 +192,7 @@ module _ (t : List ℕ) (items : List Item) (read : readText t ≡ accepted item
         last (inr m) =
             let l : i < R = omega (arith, u, counted) in
             let o = finished .holds .rows .fit i l in
-            let s = not-last (F .rows) true [] nests i l (λ e. not-end ended (operandsAt ended i) (o .kind .0) (omega (arith, o .kind .1, m)) (sym (stmt-is i l) ∙ e)) in
+            let s = not-last (F .rows) true [] nests i l (λ e. not-end ended (operandsAt ended i) (o .kind) m (sym (stmt-is i l) ∙ e)) in
             inr (omega (arith, s, counted))
 
     blocks : (m : ℕ) → m < methodCount ended → BlockFits ended (firstRowAt ended m)

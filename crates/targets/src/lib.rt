@@ -1,4 +1,5 @@
 // Where `if` and `else` go on, by one walk over the rows; the tables ended.
+use rules::Kind;
 use rules::Machine;
 use tables::Layout;
 use tables::kind_at;
@@ -59,14 +60,14 @@ fn replace(o: Open, i: usize) -> Open
 }
 
 // The open rows after row i of kind k.
-fn open_after(k: usize, i: usize, o: Open) -> Open
+fn open_after(k: u8, i: usize, o: Open) -> Open
     requires { ⌜ (Fits (o .depth) (o .rows)) × (i < 256) ⌝ }
     ensures { λ r. ⌜ (stackOf (r .depth) (r .rows) ≡ openAfter k i (stackOf (o .depth) (o .rows))) × (Fits (r .depth) (r .rows)) ⌝ }
 {
     match k {
-        15 => push(o, i),
-        16 => replace(o, i),
-        17 => pop(o),
+        Kind::IF => push(o, i),
+        Kind::ELSE => replace(o, i),
+        Kind::JOIN => pop(o),
         _ => o,
     }
 }
@@ -83,13 +84,13 @@ fn put_target(work: &mut [u8], o: Open, v: usize)
 }
 
 // What row i of kind k says of the innermost open row.
-fn work_after(work: &mut [u8], k: usize, i: usize, o: Open)
+fn work_after(work: &mut [u8], k: u8, i: usize, o: Open)
     requires { ⌜ (length (now work) ≡ 65536) × (i < 256) ⌝ }
     ensures { λ _. ⌜ now (work .exit) ≡ workAfter (now (work .entry)) k i (stackOf (o .depth) (o .rows)) ⌝ }
 {
     match k {
-        16 => put_target(work, o, i + 1),
-        17 => put_target(work, o, i),
+        Kind::ELSE => put_target(work, o, i + 1),
+        Kind::JOIN => put_target(work, o, i),
         _ => {}
     }
 }

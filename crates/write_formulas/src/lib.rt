@@ -16,7 +16,7 @@ pub fn put_claim(
     text: &[u8],
     work: &mut [u8],
     c: Names,
-    kind: usize,
+    kind: u8,
     r: usize,
     i: usize,
     n: usize,

@@ -2,6 +2,7 @@
 use read_names::Span;
 use read_scopes::Names;
 use read_types::Member;
+use rules::Kind;
 use tables::Operands;
 ghost use mathlib.Core.Path.{_≡_};
 ghost use mathlib.Core.Bool.{not, _&&_};
@@ -53,7 +54,7 @@ fn row_if(good: bool, o: Operands) -> Tried
     Tried::Bad
 }
 
-fn row(kind: usize, x: usize, y: usize, z: usize, member: usize, line: usize) -> Operands
+fn row(kind: u8, x: usize, y: usize, z: usize, member: usize, line: usize) -> Operands
     ensures { λ r. ⌜ r ≡ bare kind x y z member line ⌝ }
 {
     Operands {
@@ -100,7 +101,7 @@ fn set_row(text: &[u8], work: &[u8], c: Names, r: usize, line: usize) -> Tried
     );
     let y = variable_at(text, work, c, d);
     let good = set_fits(text, work, x, y);
-    row_if(good, row(8, x.variable, y, 0, x.number, line))
+    row_if(good, row(Kind::SET, x.variable, y, 0, x.number, line))
 }
 
 // Is x a local of the class that is named at s and has the number k?
@@ -130,7 +131,7 @@ fn new_row(text: &[u8], work: &[u8], c: Names, r: usize, line: usize) -> Tried
     let x = variable_at(text, work, c, a);
     let k = read_lookups::class_number(text, work, c, read_names::name_in(text, b));
     let good = new_fits(text, work, c, x, k, b);
-    row_if(good, row(10, x, 0, 0, k, line))
+    row_if(good, row(Kind::NEW, x, 0, 0, k, line))
 }
 
 // Is x a local, and are y and z variables and other ones?
@@ -205,7 +206,7 @@ fn call_row(text: &[u8], work: &[u8], c: Names, r: usize, line: usize) -> Tried
         return Tried::Bad;
     }
     let good = call_agrees(text, work, c, x, z, m);
-    row_if(good, row(11, x, y, z, m, line))
+    row_if(good, row(Kind::CALL, x, y, z, m, line))
 }
 
 // `return x`
@@ -220,19 +221,19 @@ fn return_row(text: &[u8], work: &[u8], c: Names, r: usize, line: usize) -> Trie
     }
     let result = read_lookups::variable_type(text, work, c, b"result");
     let good = read_lookups::same_name(text, read_lookups::type_of(work, x), result);
-    row_if(good, row(12, x, 0, 0, 0, line))
+    row_if(good, row(Kind::RETURN, x, 0, 0, 0, line))
 }
 
 // The row of a line of this kind; `else` and `end` have no operands.
-pub fn plain_row(text: &[u8], work: &[u8], c: Names, kind: usize, r: usize, line: usize) -> Tried
+pub fn plain_row(text: &[u8], work: &[u8], c: Names, kind: u8, r: usize, line: usize) -> Tried
     requires { ⌜ Ready (now work) c × (r ≤ length (now text)) ⌝ }
     ensures { λ o. ⌜ RowTried (plainGood (declarationsIn (now (text .entry)) (now (work .entry)) c) (variablesIn (now (text .entry)) (now (work .entry)) c) (more (drop r (now (text .entry)))) kind) (plainRow (declarationsIn (now (text .entry)) (now (work .entry)) c) (variablesIn (now (text .entry)) (now (work .entry)) c) (more (drop r (now (text .entry)))) line kind) o ⌝ }
 {
     match kind {
-        8 => set_row(text, work, c, r, line),
-        10 => new_row(text, work, c, r, line),
-        11 => call_row(text, work, c, r, line),
-        12 => return_row(text, work, c, r, line),
+        Kind::SET => set_row(text, work, c, r, line),
+        Kind::NEW => new_row(text, work, c, r, line),
+        Kind::CALL => call_row(text, work, c, r, line),
+        Kind::RETURN => return_row(text, work, c, r, line),
         _ => row_if(true, row(kind, 0, 0, 0, 0, line)),
     }
 }
@@ -242,7 +243,7 @@ pub fn put_plain(
     text: &[u8],
     work: &mut [u8],
     c: Names,
-    kind: usize,
+    kind: u8,
     r: usize,
     i: usize,
     line: usize,

@@ -54,7 +54,7 @@ fn word_of(e: Expr) -> u32
     }
 }
 
-// Writes the atom a: its kind (0 `acc`, 1 `eq`, 2 `ne`) and its sides. `acc x f` has the path x.f on the left, null on the right.
+// Writes the atom a: its kind (`AtomKind`) and its sides. `acc x f` has the path x.f on the left, null on the right.
 pub fn put_atom(work: &mut [u8], a: usize, kind: usize, left: Expr, right: Expr)
     requires { ⌜ ((length (now work) ≡ work-bytes) × (a < most-atom-rows)) × ((kind < 256) × (SideBytes left × SideBytes right)) ⌝ }
     ensures { λ _. ⌜ now (work .exit) ≡ putAtom (now (work .entry)) a kind left right ⌝ }
@@ -77,7 +77,7 @@ pub fn put_row(work: &mut [u8], i: usize, r: Operands)
     let at = Layout::ROWS + i * Layout::ROW_BYTES;
     let first = r.first;
     let line = r.line;
-    put_four(work, at, r.kind, r.x, r.y, r.z);
+    put_four(work, at, r.kind as usize, r.x, r.y, r.z);
     put_four(work, at + 4, r.member, r.atoms, first % 256, first / 256);
     put_four(work, at + 8, line % 256, line / 256, 0, 0);
 }

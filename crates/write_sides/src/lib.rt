@@ -4,6 +4,8 @@ use read_types::ExprType;
 use read_types::Lookup;
 use resolve_atoms::Put;
 use resolve_atoms::Tried;
+use rules::Kind;
+use tables::AtomKind;
 use tables::Expr;
 use tables::Operands;
 ghost use mathlib.Core.Path.{_≡_};
@@ -20,7 +22,7 @@ ghost use Rattle.read_types.specs.Types.{typeMeant};
 ghost use Rattle.resolve_atoms.specs.Written.{Ready};
 ghost use Rattle.write_sides.specs.Sides.{oneRow, SideFollows, SideTried};
 
-fn row(kind: usize, x: usize, n: usize, line: usize) -> Operands
+fn row(kind: u8, x: usize, n: usize, line: usize) -> Operands
     ensures { λ r. ⌜ r ≡ oneRow kind x n line ⌝ }
 {
     Operands {
@@ -76,8 +78,8 @@ pub fn put_let(
         return Put::Bad;
     }
     let e = l.expr;
-    let o = row(9, x, n, line);
-    write_rows::put_atom(work, n, 1, Expr::Null, e);
+    let o = row(Kind::LET, x, n, line);
+    write_rows::put_atom(work, n, AtomKind::EQ, Expr::Null, e);
     write_rows::put_row(work, i, o);
     Put::Done(n + 1)
 }
@@ -107,7 +109,7 @@ pub fn put_if(
     };
     let left = s.left;
     let right = s.right;
-    let o = row(15, 0, n, line);
+    let o = row(Kind::IF, 0, n, line);
     write_rows::put_atom(work, n, s.kind, left, right);
     write_rows::put_row(work, i, o);
     Put::Done(n + 1)

@@ -1,9 +1,10 @@
 use Prim.Native.Nat.{_-_}
-use Rattle.checker.proofs.Blocks.{goes-on, Going, begin, ends, step-stops, step-on, if-stops, deep, turn-stops, turn-nests, join-stops, join-on, far-on, below-15}
+use Rattle.checker.proofs.Blocks.{goes-on, Going, begin, ends, step-stops, step-on, if-stops, deep, turn-stops, turn-nests, join-stops, join-on, far-on, going}
 use Rattle.tables.proofs.Statements.{if-means}
 use Rattle.check_state.specs.States.{stateOf}
 use Rattle.tables.specs.Decode.{rowCount}
 use borrow.Author.Needs.{needs}
+use borrow.Author.Tests.{not-true, not-false}
 use mathlib.Core.Path.{refl, sym, _∙_}
 use native.Mathlib.Omega.{arith}
 use Prim.Native.Nat.{ℕ, _<_}
@@ -16,6 +17,7 @@ use Rattle.checker.proofs.if_at.Reads as if-at-reads
 use Rattle.checker.proofs.joined.Reads as joined-reads
 use Rattle.checker.proofs.statement.Reads as statement-reads
 use Rattle.checker.proofs.turned.Reads as turned-reads
+use Rattle.tables.proofs.is_closing_at.Reads as is-closing-at-reads
 use Rattle.tables.proofs.kind_at.Reads as kind-at-reads
 use Rattle.checker.proofs.+block.{statement}
 use Rattle.checker.proofs.+block.Tie.{close}
@@ -36,6 +38,8 @@ abbrev block-μ-loop : block-lts.MeasureT-loop
 block-μ-loop w depth from key₀ b₀ at₀ key b at = rowCount w - at
 
 block-loop-holds : (t : ℕ) → block-lts.Need-loop-holds (
+  is-closing-at-reads.Asked,
+  is-closing-at-reads.Learnt,
   kind-at-reads.Asked,
   kind-at-reads.Learnt,
   if-at-reads.Asked,
@@ -52,7 +56,28 @@ block-loop-holds : (t : ℕ) → block-lts.Need-loop-holds (
 block-loop-holds t c =
     begin _ _ _ _ _ (c .before .pre .1 .4) (c .before .pre .1 .2) (c .before .pre .1 .3)
 
+block-is-closing-at-requires : (t : ℕ) → block-lts.Need-is-closing-at-requires (
+  is-closing-at-reads.Asked,
+  is-closing-at-reads.Learnt,
+  kind-at-reads.Asked,
+  kind-at-reads.Learnt,
+  if-at-reads.Asked,
+  if-at-reads.Learnt,
+  block-below t,
+  block.Post,
+  turned-reads.Asked,
+  turned-reads.Learnt,
+  joined-reads.Asked,
+  joined-reads.Learnt,
+  statement-reads.Asked,
+  statement-reads.Learnt,
+) (block-at t) block.Post block-Inv-loop block-μ-loop
+block-is-closing-at-requires t c κs =
+    (c .before .before .pre .1 .0 .size, omega (arith, c .before .before .pre .1 .0 .rows, c .loop .inv .within))
+
 block-kind-at-requires : (t : ℕ) → block-lts.Need-kind-at-requires (
+  is-closing-at-reads.Asked,
+  is-closing-at-reads.Learnt,
   kind-at-reads.Asked,
   kind-at-reads.Learnt,
   if-at-reads.Asked,
@@ -67,28 +92,13 @@ block-kind-at-requires : (t : ℕ) → block-lts.Need-kind-at-requires (
   statement-reads.Learnt,
 ) (block-at t) block.Post block-Inv-loop block-μ-loop
 block-kind-at-requires t c κs =
-    (c .before .before .pre .1 .0 .size, omega (arith, c .before .before .pre .1 .0 .rows, c .loop .inv .within))
-
-block-kind-at-requires-2 : (t : ℕ) → block-lts.Need-kind-at-requires-2 (
-  kind-at-reads.Asked,
-  kind-at-reads.Learnt,
-  if-at-reads.Asked,
-  if-at-reads.Learnt,
-  block-below t,
-  block.Post,
-  turned-reads.Asked,
-  turned-reads.Learnt,
-  joined-reads.Asked,
-  joined-reads.Learnt,
-  statement-reads.Asked,
-  statement-reads.Learnt,
-) (block-at t) block.Post block-Inv-loop block-μ-loop
-block-kind-at-requires-2 t c κs =
     let start = c .before .before .before .before in
     let at-loop = c .before .before .loop in
     (start .pre .1 .0 .size, omega (arith, start .pre .1 .0 .rows, at-loop .inv .within))
 
 block-if-at-requires : (t : ℕ) → block-lts.Need-if-at-requires (
+  is-closing-at-reads.Asked,
+  is-closing-at-reads.Learnt,
   kind-at-reads.Asked,
   kind-at-reads.Learnt,
   if-at-reads.Asked,
@@ -105,11 +115,13 @@ block-if-at-requires : (t : ℕ) → block-lts.Need-if-at-requires (
 block-if-at-requires t c κs =
     let start = c .before .before .before .before .before .before .before .before .before .before .before .before in
     let at-loop = c .before .before .before .before .before .before .before .before .before .before .loop in
-    let at-kind-at2 = c .before .before .before .before .before .before .before .kind-at2 in
+    let at-kind-at = c .before .before .before .before .before .before .before .kind-at in
     let at-if2 = c .before .before .before .before .before .before .if2 in
-    (start .pre .1 .0, at-loop .inv .within, (sym (at-kind-at2 .ensures .0) ∙ at-if2 .taken), at-loop .inv .wf, refl, refl)
+    (start .pre .1 .0, at-loop .inv .within, (sym (at-kind-at .ensures) ∙ at-if2 .taken), at-loop .inv .wf, refl, refl)
 
 block-enum-told : (t : ℕ) → block-lts.Need-enum-told (
+  is-closing-at-reads.Asked,
+  is-closing-at-reads.Learnt,
   kind-at-reads.Asked,
   kind-at-reads.Learnt,
   if-at-reads.Asked,
@@ -127,6 +139,8 @@ block-enum-told t c =
     search needs
 
 block-returns : (t : ℕ) → block-lts.Need-returns (
+  is-closing-at-reads.Asked,
+  is-closing-at-reads.Learnt,
   kind-at-reads.Asked,
   kind-at-reads.Learnt,
   if-at-reads.Asked,
@@ -143,13 +157,15 @@ block-returns : (t : ℕ) → block-lts.Need-returns (
 block-returns t c =
     let start = c .before .before .before .before .before .before .before .before .before .before .before .before .before .before in
     let at-loop = c .before .before .before .before .before .before .before .before .before .before .before .before .loop in
-    let at-kind-at2 = c .before .before .before .before .before .before .before .before .before .kind-at2 in
+    let at-kind-at = c .before .before .before .before .before .before .before .before .before .kind-at in
     let at-if2 = c .before .before .before .before .before .before .before .before .if2 in
     if-stops (start .args .w .now) (start .pre .1 .0) (start .args .depth) (start .args .from) (start .pre .1 .1) (stateOf (start .args .key .now)
-    (start .args .b .now)) (at-loop .at) (at-loop .key) (at-loop .b) (at-loop .inv) _ _ _ (if-means _ _ (sym (at-kind-at2 .ensures .0) ∙ at-if2
+    (start .args .b .now)) (at-loop .at) (at-loop .key) (at-loop .b) (at-loop .inv) _ _ _ (if-means _ _ (sym (at-kind-at .ensures) ∙ at-if2
     .taken)) (c .before .if-at .result) _ _ _ _ (c .before .if-at .ensures) (c .match .keys2)
 
 block-sub-block : (t : ℕ) → block-lts.Need-sub-block (
+  is-closing-at-reads.Asked,
+  is-closing-at-reads.Learnt,
   kind-at-reads.Asked,
   kind-at-reads.Learnt,
   if-at-reads.Asked,
@@ -166,15 +182,17 @@ block-sub-block : (t : ℕ) → block-lts.Need-sub-block (
 block-sub-block t c =
     let start = c .before .before .before .before .before .before .before .before .before .before .before .before .before .before .before in
     let at-loop = c .before .before .before .before .before .before .before .before .before .before .before .before .before .loop in
-    let at-kind-at2 = c .before .before .before .before .before .before .before .before .before .before .kind-at2 in
+    let at-kind-at = c .before .before .before .before .before .before .before .before .before .before .kind-at in
     let at-if2 = c .before .before .before .before .before .before .before .before .before .if2 in
     let at-if-at = c .before .before .if-at in
     let d = deep (start .args .w .now) (start .pre .1 .0) (start .args .depth) (start .args .from) (start .pre .1 .1) (stateOf (start .args .key .now)
-    (start .args .b .now)) (at-loop .at) (at-loop .key) (at-loop .b) (at-loop .inv) _ _ _ (if-means _ _ (sym (at-kind-at2 .ensures .0) ∙ at-if2
+    (start .args .b .now)) (at-loop .at) (at-loop .key) (at-loop .b) (at-loop .inv) _ _ _ (if-means _ _ (sym (at-kind-at .ensures) ∙ at-if2
     .taken)) (at-if-at .result) _ _ _ _ (at-if-at .ensures) .0 in
     omega arith
 
 block-add-block : (t : ℕ) → block-lts.Need-add-block (
+  is-closing-at-reads.Asked,
+  is-closing-at-reads.Learnt,
   kind-at-reads.Asked,
   kind-at-reads.Learnt,
   if-at-reads.Asked,
@@ -194,6 +212,8 @@ block-add-block t c =
     omega (arith, at-loop .inv .within, start .pre .1 .0 .rows)
 
 block-block-requires : (t : ℕ) → block-lts.Need-block-requires (
+  is-closing-at-reads.Asked,
+  is-closing-at-reads.Learnt,
   kind-at-reads.Asked,
   kind-at-reads.Learnt,
   if-at-reads.Asked,
@@ -210,19 +230,19 @@ block-block-requires : (t : ℕ) → block-lts.Need-block-requires (
 block-block-requires t c κs =
     let start = c .before .before .before .before .before .before .before .before .before .before .before .before .before .before .before .before .before in
     let at-loop = c .before .before .before .before .before .before .before .before .before .before .before .before .before .before .before .loop in
-    let at-kind-at2 = c .before .before .before .before .before .before .before .before .before .before .before .before .kind-at2 in
+    let at-kind-at = c .before .before .before .before .before .before .before .before .before .before .before .before .kind-at in
     let at-if2 = c .before .before .before .before .before .before .before .before .before .before .before .if2 in
     let at-if-at = c .before .before .before .before .if-at in
     let d = deep (start .args .w .now) (start .pre .1 .0) (start .args .depth) (start .args .from) (start .pre .1 .1) (stateOf (start .args .key .now)
-    (start .args .b .now)) (at-loop .at) (at-loop .key) (at-loop .b) (at-loop .inv) _ _ _ (if-means _ _ (sym (at-kind-at2 .ensures .0) ∙ at-if2
+    (start .args .b .now)) (at-loop .at) (at-loop .key) (at-loop .b) (at-loop .inv) _ _ _ (if-means _ _ (sym (at-kind-at .ensures) ∙ at-if2
     .taken)) (at-if-at .result) _ _ _ _ (at-if-at .ensures) in
     let h = d .0 in
-    let k = (sym (at-kind-at2 .ensures .0) ∙ at-if2 .taken) in (
+    let k = (sym (at-kind-at .ensures) ∙ at-if2 .taken) in (
       omega (arith, start .pre .0),
       (
         start .pre .1 .0,
         omega (arith, start .pre .1 .1),
-        goes-on _ (start .pre .1 .0) _ (at-loop .inv .within) (omega
+        goes-on _ (start .pre .1 .0) _ (at-loop .inv .within) (λ e. omega
             arith),
         d .1,
         at-if-at .ensures .first,
@@ -230,6 +250,8 @@ block-block-requires t c κs =
     )
 
 block-turned-requires : (t : ℕ) → block-lts.Need-turned-requires (
+  is-closing-at-reads.Asked,
+  is-closing-at-reads.Learnt,
   kind-at-reads.Asked,
   kind-at-reads.Learnt,
   if-at-reads.Asked,
@@ -248,6 +270,8 @@ block-turned-requires t c κs =
     (start .pre .1 .0, record { within = c .block .ensures .within; closes = c .block .ensures .closes })
 
 block-enum-told-2 : (t : ℕ) → block-lts.Need-enum-told-2 (
+  is-closing-at-reads.Asked,
+  is-closing-at-reads.Learnt,
   kind-at-reads.Asked,
   kind-at-reads.Learnt,
   if-at-reads.Asked,
@@ -265,6 +289,8 @@ block-enum-told-2 t c =
     search needs
 
 block-returns-2 : (t : ℕ) → block-lts.Need-returns-2 (
+  is-closing-at-reads.Asked,
+  is-closing-at-reads.Learnt,
   kind-at-reads.Asked,
   kind-at-reads.Learnt,
   if-at-reads.Asked,
@@ -281,17 +307,19 @@ block-returns-2 : (t : ℕ) → block-lts.Need-returns-2 (
 block-returns-2 t c =
     let start = c .before .before .before .before .before .before .before .before .before .before .before .before .before .before .before .before .before .before .before .before in
     let at-loop = c .before .before .before .before .before .before .before .before .before .before .before .before .before .before .before .before .before .before .loop in
-    let at-kind-at2 = c .before .before .before .before .before .before .before .before .before .before .before .before .before .before .before .kind-at2 in
+    let at-kind-at = c .before .before .before .before .before .before .before .before .before .before .before .before .before .before .before .kind-at in
     let at-if2 = c .before .before .before .before .before .before .before .before .before .before .before .before .before .before .if2 in
     let at-if-at = c .before .before .before .before .before .before .before .if-at in
     let at-enum-told = c .before .before .before .before .before .enum-told in
     let at-block = c .before .before .block in
     turn-stops (start .args .w .now) (start .pre .1 .0) (start .args .depth) (start .args .from) (start .pre .1 .1) (stateOf (start .args .key .now)
-    (start .args .b .now)) (at-loop .at) (at-loop .key) (at-loop .b) (at-loop .inv) _ _ _ (if-means _ _ (sym (at-kind-at2 .ensures .0) ∙ at-if2
-    .taken)) (at-if-at .result) _ _ _ _ (at-if-at .ensures) (sym (at-kind-at2 .ensures .0) ∙ at-if2 .taken) (at-enum-told .given .1) (at-block
+    (start .args .b .now)) (at-loop .at) (at-loop .key) (at-loop .b) (at-loop .inv) _ _ _ (if-means _ _ (sym (at-kind-at .ensures) ∙ at-if2
+    .taken)) (at-if-at .result) _ _ _ _ (at-if-at .ensures) (sym (at-kind-at .ensures) ∙ at-if2 .taken) (at-enum-told .given .1) (at-block
     .result) (c .before .turned .result) _ _ (at-block .ensures) (c .before .turned .ensures) (c .match2 .keys2)
 
 block-sub-block-2 : (t : ℕ) → block-lts.Need-sub-block-2 (
+  is-closing-at-reads.Asked,
+  is-closing-at-reads.Learnt,
   kind-at-reads.Asked,
   kind-at-reads.Learnt,
   if-at-reads.Asked,
@@ -308,15 +336,17 @@ block-sub-block-2 : (t : ℕ) → block-lts.Need-sub-block-2 (
 block-sub-block-2 t c =
     let start = c .before .before .before .before .before .before .before .before .before .before .before .before .before .before .before .before .before .before .before .before .before in
     let at-loop = c .before .before .before .before .before .before .before .before .before .before .before .before .before .before .before .before .before .before .before .loop in
-    let at-kind-at2 = c .before .before .before .before .before .before .before .before .before .before .before .before .before .before .before .before .kind-at2 in
+    let at-kind-at = c .before .before .before .before .before .before .before .before .before .before .before .before .before .before .before .before .kind-at in
     let at-if2 = c .before .before .before .before .before .before .before .before .before .before .before .before .before .before .before .if2 in
     let at-if-at = c .before .before .before .before .before .before .before .before .if-at in
     let d = deep (start .args .w .now) (start .pre .1 .0) (start .args .depth) (start .args .from) (start .pre .1 .1) (stateOf (start .args .key .now)
-    (start .args .b .now)) (at-loop .at) (at-loop .key) (at-loop .b) (at-loop .inv) _ _ _ (if-means _ _ (sym (at-kind-at2 .ensures .0) ∙ at-if2
+    (start .args .b .now)) (at-loop .at) (at-loop .key) (at-loop .b) (at-loop .inv) _ _ _ (if-means _ _ (sym (at-kind-at .ensures) ∙ at-if2
     .taken)) (at-if-at .result) _ _ _ _ (at-if-at .ensures) .0 in
     omega arith
 
 block-add-block-2 : (t : ℕ) → block-lts.Need-add-block-2 (
+  is-closing-at-reads.Asked,
+  is-closing-at-reads.Learnt,
   kind-at-reads.Asked,
   kind-at-reads.Learnt,
   if-at-reads.Asked,
@@ -337,6 +367,8 @@ block-add-block-2 t c =
     omega (arith, at-turned .ensures .place, at-block .ensures .within, start .pre .1 .0 .rows)
 
 block-block-requires-2 : (t : ℕ) → block-lts.Need-block-requires-2 (
+  is-closing-at-reads.Asked,
+  is-closing-at-reads.Learnt,
   kind-at-reads.Asked,
   kind-at-reads.Learnt,
   if-at-reads.Asked,
@@ -353,7 +385,7 @@ block-block-requires-2 : (t : ℕ) → block-lts.Need-block-requires-2 (
 block-block-requires-2 t c κs =
     let start = c .before .before .before .before .before .before .before .before .before .before .before .before .before .before .before .before .before .before .before .before .before .before .before .before in
     let at-loop = c .before .before .before .before .before .before .before .before .before .before .before .before .before .before .before .before .before .before .before .before .before .before .loop in
-    let at-kind-at2 = c .before .before .before .before .before .before .before .before .before .before .before .before .before .before .before .before .before .before .before .kind-at2 in
+    let at-kind-at = c .before .before .before .before .before .before .before .before .before .before .before .before .before .before .before .before .before .before .before .kind-at in
     let at-if2 = c .before .before .before .before .before .before .before .before .before .before .before .before .before .before .before .before .before .before .if2 in
     let at-if-at = c .before .before .before .before .before .before .before .before .before .before .before .if-at in
     let at-enum-told = c .before .before .before .before .before .before .before .before .before .enum-told in
@@ -361,7 +393,7 @@ block-block-requires-2 t c κs =
     let at-turned = c .before .before .before .before .before .turned in
     let at-enum-told2 = c .before .before .before .enum-told2 in
     let d = deep (start .args .w .now) (start .pre .1 .0) (start .args .depth) (start .args .from) (start .pre .1 .1) (stateOf (start .args .key .now)
-    (start .args .b .now)) (at-loop .at) (at-loop .key) (at-loop .b) (at-loop .inv) _ _ _ (if-means _ _ (sym (at-kind-at2 .ensures .0) ∙ at-if2
+    (start .args .b .now)) (at-loop .at) (at-loop .key) (at-loop .b) (at-loop .inv) _ _ _ (if-means _ _ (sym (at-kind-at .ensures) ∙ at-if2
     .taken)) (at-if-at .result) _ _ _ _ (at-if-at .ensures) in
     let h = d .0 in (
       omega (arith, start .pre .0),
@@ -371,14 +403,16 @@ block-block-requires-2 t c κs =
         at-turned .ensures .next (at-enum-told2 .given .1),
         turn-nests
             (start .args .w .now) (start .pre .1 .0) (start .args .depth) (start .args .from) (start .pre .1 .1) (stateOf (start .args .key .now) (start .args
-            .b .now)) (at-loop .at) (at-loop .key) (at-loop .b) (at-loop .inv) _ _ _ (if-means _ _ (sym (at-kind-at2 .ensures .0) ∙ at-if2 .taken)) (at-if-at
-            .result) _ _ _ _ (at-if-at .ensures) (sym (at-kind-at2 .ensures .0) ∙ at-if2 .taken) (at-enum-told .given .1) (at-block .result) (at-turned
+            .b .now)) (at-loop .at) (at-loop .key) (at-loop .b) (at-loop .inv) _ _ _ (if-means _ _ (sym (at-kind-at .ensures) ∙ at-if2 .taken)) (at-if-at
+            .result) _ _ _ _ (at-if-at .ensures) (sym (at-kind-at .ensures) ∙ at-if2 .taken) (at-enum-told .given .1) (at-block .result) (at-turned
             .result) _ _ (at-block .ensures) (at-turned .ensures) (at-enum-told2 .given .1),
         at-if-at .ensures .second,
       ),
     )
 
 block-joined-requires : (t : ℕ) → block-lts.Need-joined-requires (
+  is-closing-at-reads.Asked,
+  is-closing-at-reads.Learnt,
   kind-at-reads.Asked,
   kind-at-reads.Learnt,
   if-at-reads.Asked,
@@ -400,6 +434,8 @@ block-joined-requires t c κs =
     (start .pre .1 .0, record { within = at-block2 .ensures .within; closes = at-block2 .ensures .closes }, at-block .ensures .wf, at-block2 .ensures .wf)
 
 block-enum-told-3 : (t : ℕ) → block-lts.Need-enum-told-3 (
+  is-closing-at-reads.Asked,
+  is-closing-at-reads.Learnt,
   kind-at-reads.Asked,
   kind-at-reads.Learnt,
   if-at-reads.Asked,
@@ -417,6 +453,8 @@ block-enum-told-3 t c =
     search needs
 
 block-returns-3 : (t : ℕ) → block-lts.Need-returns-3 (
+  is-closing-at-reads.Asked,
+  is-closing-at-reads.Learnt,
   kind-at-reads.Asked,
   kind-at-reads.Learnt,
   if-at-reads.Asked,
@@ -435,7 +473,7 @@ block-returns-3 t c =
     .before .before .before .before .before .before .before .before .before .before .before .before .before .before .before in
     let at-loop = c .before .before .before .before .before .before .before .before .before .before .before .before .before .before .before .before
     .before .before .before .before .before .before .before .before .before .before .before .before .before .loop in
-    let at-kind-at2 = c .before .before .before .before .before .before .before .before .before .before .before .before .before .before .before .before .before .before .before .before .before .before .before .before .before .before .kind-at2 in
+    let at-kind-at = c .before .before .before .before .before .before .before .before .before .before .before .before .before .before .before .before .before .before .before .before .before .before .before .before .before .before .kind-at in
     let at-if2 = c .before .before .before .before .before .before .before .before .before .before .before .before .before .before .before .before .before .before .before .before .before .before .before .before .before .if2 in
     let at-if-at = c .before .before .before .before .before .before .before .before .before .before .before .before .before .before .before .before .before .before .if-at in
     let at-enum-told = c .before .before .before .before .before .before .before .before .before .before .before .before .before .before .before .before .enum-told in
@@ -444,12 +482,14 @@ block-returns-3 t c =
     let at-enum-told2 = c .before .before .before .before .before .before .before .before .before .before .enum-told2 in
     let at-block2 = c .before .before .before .before .before .before .block2 in
     join-stops (start .args .w .now) (start .pre .1 .0) (start .args .depth) (start .args .from) (start .pre .1 .1) (stateOf (start .args .key .now)
-    (start .args .b .now)) (at-loop .at) (at-loop .key) (at-loop .b) (at-loop .inv) _ _ _ (if-means _ _ (sym (at-kind-at2 .ensures .0) ∙ at-if2
-    .taken)) (at-if-at .result) _ _ _ _ (at-if-at .ensures) (sym (at-kind-at2 .ensures .0) ∙ at-if2 .taken) (at-enum-told .given .1) (at-block
+    (start .args .b .now)) (at-loop .at) (at-loop .key) (at-loop .b) (at-loop .inv) _ _ _ (if-means _ _ (sym (at-kind-at .ensures) ∙ at-if2
+    .taken)) (at-if-at .result) _ _ _ _ (at-if-at .ensures) (sym (at-kind-at .ensures) ∙ at-if2 .taken) (at-enum-told .given .1) (at-block
     .result) (at-turned .result) _ _ (at-block .ensures) (at-turned .ensures) (at-enum-told2 .given .1) (at-block2 .result) (c .before .joined
     .result) _ _ _ _ (at-block2 .ensures) (c .before .joined .ensures) (c .match3 .keys2)
 
 block-add-at : (t : ℕ) → block-lts.Need-add-at (
+  is-closing-at-reads.Asked,
+  is-closing-at-reads.Learnt,
   kind-at-reads.Asked,
   kind-at-reads.Learnt,
   if-at-reads.Asked,
@@ -471,6 +511,8 @@ block-add-at t c =
     omega (arith, at-joined .ensures .place, at-block2 .ensures .within, start .pre .1 .0 .rows)
 
 block-loop-less : (t : ℕ) → block-lts.Need-loop-less (
+  is-closing-at-reads.Asked,
+  is-closing-at-reads.Learnt,
   kind-at-reads.Asked,
   kind-at-reads.Learnt,
   if-at-reads.Asked,
@@ -489,8 +531,8 @@ block-loop-less t c =
     .before .before .before .before .before .before .before .before .before .before .before .before .before .before .before .before .before in
     let at-loop = c .before .before .before .before .before .before .before .before .before .before .before .before .before .before .before .before
     .before .before .before .before .before .before .before .before .before .before .before .before .before .before .before .loop in
-    let at-kind-at2 = c .before .before .before .before .before .before .before .before .before .before .before .before .before .before .before
-    .before .before .before .before .before .before .before .before .before .before .before .before .before .kind-at2 in
+    let at-kind-at = c .before .before .before .before .before .before .before .before .before .before .before .before .before .before .before
+    .before .before .before .before .before .before .before .before .before .before .before .before .before .kind-at in
     let at-if2 = c .before .before .before .before .before .before .before .before .before .before .before .before .before .before .before .before .before .before .before .before .before .before .before .before .before .before .before .if2 in
     let at-if-at = c .before .before .before .before .before .before .before .before .before .before .before .before .before .before .before .before .before .before .before .before .if-at in
     let at-enum-told = c .before .before .before .before .before .before .before .before .before .before .before .before .before .before .before .before .before .before .enum-told in
@@ -500,13 +542,15 @@ block-loop-less t c =
     let at-block2 = c .before .before .before .before .before .before .before .before .block2 in
     let at-joined = c .before .before .before .joined in
     let h = far-on (start .args .w .now) (start .pre .1 .0) (start .args .depth) (start .args .from) (start .pre .1 .1) (stateOf (start .args .key
-    .now) (start .args .b .now)) (at-loop .at) (at-loop .key) (at-loop .b) (at-loop .inv) _ _ _ (if-means _ _ (sym (at-kind-at2 .ensures .0) ∙ at-if2
-    .taken)) (at-if-at .result) _ _ _ _ (at-if-at .ensures) (sym (at-kind-at2 .ensures .0) ∙ at-if2 .taken) (at-enum-told .given .1) (at-block
+    .now) (start .args .b .now)) (at-loop .at) (at-loop .key) (at-loop .b) (at-loop .inv) _ _ _ (if-means _ _ (sym (at-kind-at .ensures) ∙ at-if2
+    .taken)) (at-if-at .result) _ _ _ _ (at-if-at .ensures) (sym (at-kind-at .ensures) ∙ at-if2 .taken) (at-enum-told .given .1) (at-block
     .result) (at-turned .result) _ _ (at-block .ensures) (at-turned .ensures) (at-enum-told2 .given .1) (at-block2 .result) (at-joined .result) _ _ _
     _ (at-block2 .ensures) (at-joined .ensures) in
     omega (arith, at-loop .inv .within)
 
 block-loop-again : (t : ℕ) → block-lts.Need-loop-again (
+  is-closing-at-reads.Asked,
+  is-closing-at-reads.Learnt,
   kind-at-reads.Asked,
   kind-at-reads.Learnt,
   if-at-reads.Asked,
@@ -525,8 +569,8 @@ block-loop-again t c =
     .before .before .before .before .before .before .before .before .before .before .before .before .before .before .before .before .before in
     let at-loop = c .before .before .before .before .before .before .before .before .before .before .before .before .before .before .before .before
     .before .before .before .before .before .before .before .before .before .before .before .before .before .before .before .loop in
-    let at-kind-at2 = c .before .before .before .before .before .before .before .before .before .before .before .before .before .before .before
-    .before .before .before .before .before .before .before .before .before .before .before .before .before .kind-at2 in
+    let at-kind-at = c .before .before .before .before .before .before .before .before .before .before .before .before .before .before .before
+    .before .before .before .before .before .before .before .before .before .before .before .before .before .kind-at in
     let at-if2 = c .before .before .before .before .before .before .before .before .before .before .before .before .before .before .before .before .before .before .before .before .before .before .before .before .before .before .before .if2 in
     let at-if-at = c .before .before .before .before .before .before .before .before .before .before .before .before .before .before .before .before .before .before .before .before .if-at in
     let at-enum-told = c .before .before .before .before .before .before .before .before .before .before .before .before .before .before .before .before .before .before .enum-told in
@@ -536,12 +580,14 @@ block-loop-again t c =
     let at-block2 = c .before .before .before .before .before .before .before .before .block2 in
     let at-joined = c .before .before .before .joined in
     join-on (start .args .w .now) (start .pre .1 .0) (start .args .depth) (start .args .from) (start .pre .1 .1) (stateOf (start .args .key .now)
-    (start .args .b .now)) (at-loop .at) (at-loop .key) (at-loop .b) (at-loop .inv) _ _ _ (if-means _ _ (sym (at-kind-at2 .ensures .0) ∙ at-if2
-    .taken)) (at-if-at .result) _ _ _ _ (at-if-at .ensures) (sym (at-kind-at2 .ensures .0) ∙ at-if2 .taken) (at-enum-told .given .1) (at-block
+    (start .args .b .now)) (at-loop .at) (at-loop .key) (at-loop .b) (at-loop .inv) _ _ _ (if-means _ _ (sym (at-kind-at .ensures) ∙ at-if2
+    .taken)) (at-if-at .result) _ _ _ _ (at-if-at .ensures) (sym (at-kind-at .ensures) ∙ at-if2 .taken) (at-enum-told .given .1) (at-block
     .result) (at-turned .result) _ _ (at-block .ensures) (at-turned .ensures) (at-enum-told2 .given .1) (at-block2 .result) (at-joined .result) _ _ _
     _ (at-block2 .ensures) (at-joined .ensures) (c .before .enum-told3 .given .1)
 
 block-statement-requires : (t : ℕ) → block-lts.Need-statement-requires (
+  is-closing-at-reads.Asked,
+  is-closing-at-reads.Learnt,
   kind-at-reads.Asked,
   kind-at-reads.Learnt,
   if-at-reads.Asked,
@@ -558,13 +604,15 @@ block-statement-requires : (t : ℕ) → block-lts.Need-statement-requires (
 block-statement-requires t c κs =
     let start = c .before .before .before .before .before .before .before .before in
     let at-loop = c .before .before .before .before .before .before .loop in
-    let at-kind-at = c .before .before .before .before .before .kind-at in
+    let at-is-closing-at = c .before .before .before .before .before .is-closing-at in
     let at-if1 = c .before .before .before .before .if1 in
-    let at-kind-at2 = c .before .before .before .kind-at2 in
+    let at-kind-at = c .before .before .before .kind-at in
     let at-if2 = c .before .before .if2 in
-    (start .pre .1 .0, at-loop .inv .within, below-15 _ (rw (at-kind-at .ensures .0) at (at-if1 .taken)) (λ e. at-if2 .left (at-kind-at2 .ensures .0 ∙ e)), at-loop .inv .wf)
+    (start .pre .1 .0, at-loop .inv .within, going _ (sym (at-is-closing-at .ensures) ∙ not-true _ (at-if1 .taken)) (λ e. at-if2 .left (at-kind-at .ensures ∙ e)), at-loop .inv .wf)
 
 block-enum-told-4 : (t : ℕ) → block-lts.Need-enum-told-4 (
+  is-closing-at-reads.Asked,
+  is-closing-at-reads.Learnt,
   kind-at-reads.Asked,
   kind-at-reads.Learnt,
   if-at-reads.Asked,
@@ -582,6 +630,8 @@ block-enum-told-4 t c =
     search needs
 
 block-returns-4 : (t : ℕ) → block-lts.Need-returns-4 (
+  is-closing-at-reads.Asked,
+  is-closing-at-reads.Learnt,
   kind-at-reads.Asked,
   kind-at-reads.Learnt,
   if-at-reads.Asked,
@@ -603,6 +653,8 @@ block-returns-4 t c =
     (c .match4 .keys2)
 
 block-add-at-2 : (t : ℕ) → block-lts.Need-add-at-2 (
+  is-closing-at-reads.Asked,
+  is-closing-at-reads.Learnt,
   kind-at-reads.Asked,
   kind-at-reads.Learnt,
   if-at-reads.Asked,
@@ -622,6 +674,8 @@ block-add-at-2 t c =
     omega (arith, (at-loop .inv) .within, (start .pre .1 .0) .rows)
 
 block-loop-less-2 : (t : ℕ) → block-lts.Need-loop-less-2 (
+  is-closing-at-reads.Asked,
+  is-closing-at-reads.Learnt,
   kind-at-reads.Asked,
   kind-at-reads.Learnt,
   if-at-reads.Asked,
@@ -639,6 +693,8 @@ block-loop-less-2 t c =
     omega (arith, (c .before .before .before .before .before .before .before .before .before .loop .inv) .within)
 
 block-loop-again-2 : (t : ℕ) → block-lts.Need-loop-again-2 (
+  is-closing-at-reads.Asked,
+  is-closing-at-reads.Learnt,
   kind-at-reads.Asked,
   kind-at-reads.Learnt,
   if-at-reads.Asked,
@@ -655,16 +711,17 @@ block-loop-again-2 : (t : ℕ) → block-lts.Need-loop-again-2 (
 block-loop-again-2 t c =
     let start = c .before .before .before .before .before .before .before .before .before .before .before in
     let at-loop = c .before .before .before .before .before .before .before .before .before .loop in
-    let at-kind-at = c .before .before .before .before .before .before .before .before .kind-at in
+    let at-is-closing-at = c .before .before .before .before .before .before .before .before .is-closing-at in
     let at-if1 = c .before .before .before .before .before .before .before .if1 in
-    let at-kind-at2 = c .before .before .before .before .before .before .kind-at2 in
+    let at-kind-at = c .before .before .before .before .before .before .kind-at in
     let at-if2 = c .before .before .before .before .before .if2 in
     let at-statement = c .before .before .statement in
     step-on (start .args .w .now) (start .pre .1 .0) (start .args .depth) (start .args .from) (start .pre .1 .1) (stateOf (start .args .key .now)
-    (start .args .b .now)) (at-loop .at) (at-loop .key) (at-loop .b) (at-loop .inv) (at-statement .result) _ _ (at-statement .ensures) (below-15 _ (rw
-    (at-kind-at .ensures .0) at (at-if1 .taken)) (λ e. at-if2 .left (at-kind-at2 .ensures .0 ∙ e))) (c .enum-told4 .given .1)
+    (start .args .b .now)) (at-loop .at) (at-loop .key) (at-loop .b) (at-loop .inv) (at-statement .result) _ _ (at-statement .ensures) (going _ (sym (at-is-closing-at .ensures) ∙ not-true _ (at-if1 .taken)) (λ e. at-if2 .left (at-kind-at .ensures ∙ e))) (c .enum-told4 .given .1)
 
 block-returns-5 : (t : ℕ) → block-lts.Need-returns-5 (
+  is-closing-at-reads.Asked,
+  is-closing-at-reads.Learnt,
   kind-at-reads.Asked,
   kind-at-reads.Learnt,
   if-at-reads.Asked,
@@ -682,10 +739,12 @@ block-returns-5 t c =
     let start = c .before .before .before .before in
     let at-loop = c .before .before .loop in
     ends (start .args .w .now) (start .pre .1 .0) (start .args .depth) (start .args .from) (start .pre .1 .1) (stateOf (start .args .key .now) (start
-    .args .b .now)) (at-loop .at) (at-loop .key) (at-loop .b) (at-loop .inv) (rw (c .before .kind-at .ensures .0) at (c .if1 .left))
+    .args .b .now)) (at-loop .at) (at-loop .key) (at-loop .b) (at-loop .inv) (sym (c .before .is-closing-at .ensures) ∙ not-false _ (c .if1 .left))
 
 pub +block-spec : {M : Type 1} → statement M
 +block-spec = close μ-block λ t. block-lts.spec (
+  is-closing-at-reads.Asked,
+  is-closing-at-reads.Learnt,
   kind-at-reads.Asked,
   kind-at-reads.Learnt,
   if-at-reads.Asked,
@@ -704,8 +763,8 @@ pub +block-spec : {M : Type 1} → statement M
     block-Inv-loop
     block-μ-loop
     (block-loop-holds t)
+    (block-is-closing-at-requires t)
     (block-kind-at-requires t)
-    (block-kind-at-requires-2 t)
     (block-if-at-requires t)
     (block-enum-told t)
     (block-returns t)

@@ -39,7 +39,7 @@ returns-2 c =
     let at-enum-told = c .before .before .before .before .before .before .enum-told in
     let at-kind-at = c .before .before .before .before .before .kind-at in
     let at-if1 = c .before .before .before .before .if1 in
-    (c .ended .ensures ∙ block-ended _ (start .pre .0) _ _ _ _ _ (at-block .ensures) _ _ (at-line-at .ensures .0) (at-enum-told .given .1) (sym (at-kind-at .ensures .0) ∙ at-if1 .taken) _ (c .before .assert-rule .ensures), at-block .ensures .wf)
+    (c .ended .ensures ∙ block-ended _ (start .pre .0) _ _ _ _ _ (at-block .ensures) _ _ (at-line-at .ensures .0) (at-enum-told .given .1) (sym (at-kind-at .ensures) ∙ at-if1 .taken) _ (c .before .assert-rule .ensures), at-block .ensures .wf)
 
 returns-3 : tie.Need-returns-3
 returns-3 c =
@@ -47,7 +47,7 @@ returns-3 c =
     let at-block = c .before .before .before .before .before .block in
     let at-line-at = c .before .before .before .before .line-at in
     let at-enum-told = c .before .before .enum-told in
-    (block-open _ (start .pre .0) _ _ _ _ _ (at-block .ensures) _ _ (at-line-at .ensures .0) (at-enum-told .given .1) (λ e. c .if1 .left (c .before .kind-at .ensures .0 ∙ e)), at-block .ensures .wf)
+    (block-open _ (start .pre .0) _ _ _ _ _ (at-block .ensures) _ _ (at-line-at .ensures .0) (at-enum-told .given .1) (λ e. c .if1 .left (c .before .kind-at .ensures ∙ e)), at-block .ensures .wf)
 
 pub check-block-spec : {M : Type 1} → statement M
 check-block-spec =

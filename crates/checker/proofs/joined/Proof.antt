@@ -22,11 +22,11 @@ join-at-requires c κs =
 
 returns-2 : tie.Need-returns-2
 returns-2 c =
-    joined-join _ (c .before .before .before .before .before .before .before .before .pre .0) _ (c .before .before .before .before .before .before .before .before .pre .1) _ _ (c .before .before .before .before .before .enum-told .given .1) (sym (c .before .before .before .before .kind-at .ensures .0) ∙ c .before .before .before .if1 .taken) _ _ _ (c .join-at .ensures)
+    joined-join _ (c .before .before .before .before .before .before .before .before .pre .0) _ (c .before .before .before .before .before .before .before .before .pre .1) _ _ (c .before .before .before .before .before .enum-told .given .1) (sym (c .before .before .before .before .kind-at .ensures) ∙ c .before .before .before .if1 .taken) _ _ _ (c .join-at .ensures)
 
 returns-3 : tie.Need-returns-3
 returns-3 c =
-    joined-wrong _ (c .before .before .before .before .before .pre .0) _ (c .before .before .before .before .before .pre .1) _ _ (c .before .before .enum-told .given .1) (λ e. c .if1 .left (c .before .kind-at .ensures .0 ∙ e)) _ _ (c .before .before .before .before .before .pre .2)
+    joined-wrong _ (c .before .before .before .before .before .pre .0) _ (c .before .before .before .before .before .pre .1) _ _ (c .before .before .enum-told .given .1) (λ e. c .if1 .left (c .before .kind-at .ensures ∙ e)) _ _ (c .before .before .before .before .before .pre .2)
 
 pub joined-spec : {M : Type 1} → statement M
 joined-spec =

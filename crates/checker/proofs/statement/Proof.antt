@@ -19,21 +19,21 @@ let-at-requires c κs =
     let start = c .before .before .before .before .before in
     let at-kind-at = c .before .before .before .kind-at in
     let at-match = c .before .before .match in
-    (start .pre .0, start .pre .1, sym (at-kind-at .ensures .0) ∙ at-match .keys2, start .pre .3)
+    (start .pre .0, start .pre .1, sym (at-kind-at .ensures) ∙ at-match .keys2, start .pre .3)
 
 new-at-requires : tie.Need-new-at-requires
 new-at-requires c κs =
     let start = c .before .before .before .before .before in
     let at-kind-at = c .before .before .before .kind-at in
     let at-match = c .before .before .match in
-    (start .pre .0, start .pre .1, sym (at-kind-at .ensures .0) ∙ at-match .keys3, start .pre .3)
+    (start .pre .0, start .pre .1, sym (at-kind-at .ensures) ∙ at-match .keys3, start .pre .3)
 
 call-at-requires : tie.Need-call-at-requires
 call-at-requires c κs =
     let start = c .before .before .before .before .before in
     let at-kind-at = c .before .before .before .kind-at in
     let at-match = c .before .before .match in
-    (start .pre .0, start .pre .1, sym (at-kind-at .ensures .0) ∙ at-match .keys4, start .pre .3)
+    (start .pre .0, start .pre .1, sym (at-kind-at .ensures) ∙ at-match .keys4, start .pre .3)
 
 return-at-requires : tie.Need-return-at-requires
 return-at-requires c κs =
@@ -51,55 +51,59 @@ returns : tie.Need-returns
 returns c =
     let at-kind-at = c .before .before .before .before .kind-at in
     let at-match = c .before .before .before .match in
-    record { statement = _; is = set-means _ _ (sym (at-kind-at .ensures .0) ∙ at-match .keys1); adds = c .set-at .ensures }
+    record { statement = _; is = set-means _ _ (sym (at-kind-at .ensures) ∙ at-match .keys1); adds = c .set-at .ensures }
 
 returns-2 : tie.Need-returns-2
 returns-2 c =
     let at-kind-at = c .before .before .before .before .kind-at in
     let at-match = c .before .before .before .match in
-    record { statement = _; is = let-means _ _ (sym (at-kind-at .ensures .0) ∙ at-match .keys2); adds = c .let-at .ensures }
+    record { statement = _; is = let-means _ _ (sym (at-kind-at .ensures) ∙ at-match .keys2); adds = c .let-at .ensures }
 
 returns-3 : tie.Need-returns-3
 returns-3 c =
     let at-kind-at = c .before .before .before .before .kind-at in
     let at-match = c .before .before .before .match in
-    record { statement = _; is = new-means _ _ (sym (at-kind-at .ensures .0) ∙ at-match .keys3); adds = c .new-at .ensures }
+    record { statement = _; is = new-means _ _ (sym (at-kind-at .ensures) ∙ at-match .keys3); adds = c .new-at .ensures }
 
 returns-4 : tie.Need-returns-4
 returns-4 c =
     let at-kind-at = c .before .before .before .before .kind-at in
     let at-match = c .before .before .before .match in
-    record { statement = _; is = call-means _ _ (sym (at-kind-at .ensures .0) ∙ at-match .keys4); adds = c .call-at .ensures }
+    record { statement = _; is = call-means _ _ (sym (at-kind-at .ensures) ∙ at-match .keys4); adds = c .call-at .ensures }
 
 returns-5 : tie.Need-returns-5
 returns-5 c =
     let at-kind-at = c .before .before .before .before .kind-at in
     let at-match = c .before .before .before .match in
-    record { statement = _; is = return-means _ _ (sym (at-kind-at .ensures .0) ∙ at-match .keys5); adds = c .return-at .ensures }
+    record { statement = _; is = return-means _ _ (sym (at-kind-at .ensures) ∙ at-match .keys5); adds = c .return-at .ensures }
 
 returns-6 : tie.Need-returns-6
 returns-6 c =
     let at-kind-at = c .before .before .before .before .kind-at in
     let at-match = c .before .before .before .match in
-    record { statement = _; is = assert-means _ _ (sym (at-kind-at .ensures .0) ∙ at-match .keys6); adds = c .assert-at .ensures }
+    record { statement = _; is = assert-means _ _ (sym (at-kind-at .ensures) ∙ at-match .keys6); adds = c .assert-at .ensures }
 
 returns-7 : tie.Need-returns-7
 returns-7 c =
     let at-kind-at = c .before .before .before .before .kind-at in
     let at-match = c .before .before .before .match in
-    record { statement = _; is = release-means _ _ (sym (at-kind-at .ensures .0) ∙ at-match .keys7); adds = c .release-at .ensures }
+    record { statement = _; is = release-means _ _ (sym (at-kind-at .ensures) ∙ at-match .keys7); adds = c .release-at .ensures }
 
 returns-8 : tie.Need-returns-8
 returns-8 c =
     let start = c .before .before .before .before in
     let at-kind-at = c .before .before .kind-at in
-    absurd (omega (arith, start .pre .0 .row-fits (start .args .i) (start .pre .1) .operands .kind .0, at-kind-at .ensures .0, c .if1 .taken))
+    absurd (omega (arith, start .pre .0 .row-fits (start .args .i) (start .pre .1) .operands .kind .0, at-kind-at .ensures, c .if1 .taken))
 
 returns-9 : tie.Need-returns-9
 returns-9 c =
     let start = c .before .before .before .before in
     let at-kind-at = c .before .before .kind-at in
-    absurd (no-kind _ (omega (arith, c .if1 .left)) (rw (at-kind-at .ensures .0) (start .pre .2)) (c .before .match .rest .0 .0 .0 .0 .0 .0 .1) (c .before .match .rest .0 .0 .0 .0 .0 .1) (c .before .match .rest .0 .0 .0 .0 .1) (c .before .match .rest .0 .0 .0 .1) (c .before .match .rest .0 .0 .1) (c .before .match .rest .0 .1) (c .before .match .rest .1))
+    let other = c .before .match .rest in
+    let fit = start .pre .0 .row-fits (start .args .i) (start .pre .1) .operands .kind in
+    absurd
+    (no-kind _ (rw (at-kind-at .ensures) fit) (rw (at-kind-at .ensures) (start .pre .2)) (other .0 .0 .0 .0 .0 .0 .1) (other .0 .0 .0 .0 .0 .1)
+    (other .0 .0 .0 .0 .1) (other .0 .0 .0 .1) (other .0 .0 .1) (other .0 .1) (other .1))
 
 pub statement-spec : {M : Type 1} → statement M
 statement-spec =

@@ -17,11 +17,11 @@ kind-at-requires c κs =
 
 returns-2 : tie.Need-returns-2
 returns-2 c =
-    turned-else _ (c .before .before .before .before .before .pre .0) _ (c .before .before .before .before .before .pre .1) (c .before .before .enum-told .given .1) (sym (c .before .kind-at .ensures .0) ∙ c .if1 .taken)
+    turned-else _ (c .before .before .before .before .before .pre .0) _ (c .before .before .before .before .before .pre .1) (c .before .before .enum-told .given .1) (sym (c .before .kind-at .ensures) ∙ c .if1 .taken)
 
 returns-3 : tie.Need-returns-3
 returns-3 c =
-    turned-wrong _ (c .before .before .before .before .before .pre .0) _ (c .before .before .before .before .before .pre .1) (c .before .before .enum-told .given .1) (λ e. c .if1 .left (c .before .kind-at .ensures .0 ∙ e))
+    turned-wrong _ (c .before .before .before .before .before .pre .0) _ (c .before .before .before .before .before .pre .1) (c .before .before .enum-told .given .1) (λ e. c .if1 .left (c .before .kind-at .ensures ∙ e))
 
 pub turned-spec : {M : Type 1} → statement M
 turned-spec = tie.close (tie.spec enum-told returns kind-at-requires returns-2 returns-3)

@@ -10,8 +10,8 @@ use Rattle.machine.proofs.step.Tie as tie
 cast-row : tie.Need-cast-row
 cast-row c = search needs
 
-kind-of-requires : tie.Need-kind-of-requires
-kind-of-requires c κs = search needs
+kind-at-requires : tie.Need-kind-at-requires
+kind-at-requires c κs = search needs
 
 set-step-requires : tie.Need-set-step-requires
 set-step-requires c κs = search needs
@@ -31,8 +31,8 @@ return-step-requires c κs = search needs
 assert-step-requires : tie.Need-assert-step-requires
 assert-step-requires c κs =
     let start = c .before .before .before .before .before .before in
-    let at-kind-of = c .before .before .kind-of in
-    (start .pre .0, ⊎-elim (λ e z. omega (arith, e, z, at-kind-of .ensures)) (λ e z. omega (arith, e, z, at-kind-of .ensures)) (c .before .match .keys6))
+    let at-kind-at = c .before .before .kind-at in
+    (start .pre .0, ⊎-elim (λ e z. omega (arith, e, z, at-kind-at .ensures)) (λ e z. omega (arith, e, z, at-kind-at .ensures)) (c .before .match .keys6))
 
 release-step-requires : tie.Need-release-step-requires
 release-step-requires c κs = search needs
@@ -52,10 +52,10 @@ same-length c = search needs
 returns : tie.Need-returns
 returns c =
     let start = c .before .before .before .before .before .before .before .before .before in
-    let at-kind-of = c .before .before .before .before .before .kind-of in
+    let at-kind-at = c .before .before .before .before .before .kind-at in
     let at-match = c .before .before .before .before .match in
     let at-set-step = c .before .before .set-step in
-    Stepping.sets (start .pre .0) _ (sym (at-kind-of .ensures) ∙ at-match .keys1) (at-set-step .ensures)
+    Stepping.sets (start .pre .0) _ (sym (at-kind-at .ensures) ∙ at-match .keys1) (at-set-step .ensures)
 
 same-length-2 : tie.Need-same-length-2
 same-length-2 c = search needs
@@ -63,10 +63,10 @@ same-length-2 c = search needs
 returns-2 : tie.Need-returns-2
 returns-2 c =
     let start = c .before .before .before .before .before .before .before .before .before in
-    let at-kind-of = c .before .before .before .before .before .kind-of in
+    let at-kind-at = c .before .before .before .before .before .kind-at in
     let at-match = c .before .before .before .before .match in
     let at-let-step = c .before .before .let-step in
-    Stepping.lets (start .pre .0) _ (sym (at-kind-of .ensures) ∙ at-match .keys2) (at-let-step .ensures)
+    Stepping.lets (start .pre .0) _ (sym (at-kind-at .ensures) ∙ at-match .keys2) (at-let-step .ensures)
 
 same-length-3 : tie.Need-same-length-3
 same-length-3 c = search needs
@@ -74,10 +74,10 @@ same-length-3 c = search needs
 returns-3 : tie.Need-returns-3
 returns-3 c =
     let start = c .before .before .before .before .before .before .before .before .before in
-    let at-kind-of = c .before .before .before .before .before .kind-of in
+    let at-kind-at = c .before .before .before .before .before .kind-at in
     let at-match = c .before .before .before .before .match in
     let at-new-step = c .before .before .new-step in
-    Stepping.news (start .pre .0) _ (sym (at-kind-of .ensures) ∙ at-match .keys3) (at-new-step .ensures)
+    Stepping.news (start .pre .0) _ (sym (at-kind-at .ensures) ∙ at-match .keys3) (at-new-step .ensures)
 
 same-length-4 : tie.Need-same-length-4
 same-length-4 c = search needs
@@ -85,10 +85,10 @@ same-length-4 c = search needs
 returns-4 : tie.Need-returns-4
 returns-4 c =
     let start = c .before .before .before .before .before .before .before .before .before in
-    let at-kind-of = c .before .before .before .before .before .kind-of in
+    let at-kind-at = c .before .before .before .before .before .kind-at in
     let at-match = c .before .before .before .before .match in
     let at-call-step = c .before .before .call-step in
-    Stepping.calls (start .pre .0) _ (sym (at-kind-of .ensures) ∙ at-match .keys4) (at-call-step .ensures)
+    Stepping.calls (start .pre .0) _ (sym (at-kind-at .ensures) ∙ at-match .keys4) (at-call-step .ensures)
 
 same-length-5 : tie.Need-same-length-5
 same-length-5 c = search needs
@@ -96,10 +96,10 @@ same-length-5 c = search needs
 returns-5 : tie.Need-returns-5
 returns-5 c =
     let start = c .before .before .before .before .before .before .before .before .before in
-    let at-kind-of = c .before .before .before .before .before .kind-of in
+    let at-kind-at = c .before .before .before .before .before .kind-at in
     let at-match = c .before .before .before .before .match in
     let at-return-step = c .before .before .return-step in
-    Stepping.returns (start .pre .0) _ (sym (at-kind-of .ensures) ∙ at-match .keys5) (at-return-step .ensures)
+    Stepping.returns (start .pre .0) _ (sym (at-kind-at .ensures) ∙ at-match .keys5) (at-return-step .ensures)
 
 same-length-6 : tie.Need-same-length-6
 same-length-6 c = search needs
@@ -107,9 +107,9 @@ same-length-6 c = search needs
 returns-6 : tie.Need-returns-6
 returns-6 c =
     let start = c .before .before .before .before .before .before .before in
-    let at-kind-of = c .before .before .before .kind-of in
+    let at-kind-at = c .before .before .before .kind-at in
     let at-match = c .before .before .match in
-    Stepping.asserts (start .pre .0) _ (⊎-elim (λ e. inl (sym (at-kind-of .ensures) ∙ e)) (λ e. inr (sym (at-kind-of .ensures) ∙ e)) (at-match .keys6)) (c .assert-step .ensures)
+    Stepping.asserts (start .pre .0) _ (⊎-elim (λ e. inl (sym (at-kind-at .ensures) ∙ e)) (λ e. inr (sym (at-kind-at .ensures) ∙ e)) (at-match .keys6)) (c .assert-step .ensures)
 
 same-length-7 : tie.Need-same-length-7
 same-length-7 c = search needs
@@ -117,10 +117,10 @@ same-length-7 c = search needs
 returns-7 : tie.Need-returns-7
 returns-7 c =
     let start = c .before .before .before .before .before .before .before .before .before in
-    let at-kind-of = c .before .before .before .before .before .kind-of in
+    let at-kind-at = c .before .before .before .before .before .kind-at in
     let at-match = c .before .before .before .before .match in
     let at-release-step = c .before .before .release-step in
-    Stepping.releases (start .pre .0) _ (sym (at-kind-of .ensures) ∙ at-match .keys7) (at-release-step .ensures)
+    Stepping.releases (start .pre .0) _ (sym (at-kind-at .ensures) ∙ at-match .keys7) (at-release-step .ensures)
 
 same-length-8 : tie.Need-same-length-8
 same-length-8 c = search needs
@@ -128,9 +128,9 @@ same-length-8 c = search needs
 returns-8 : tie.Need-returns-8
 returns-8 c =
     let start = c .before .before .before .before .before .before .before in
-    let at-kind-of = c .before .before .before .kind-of in
+    let at-kind-at = c .before .before .before .kind-at in
     let at-match = c .before .before .match in
-    Stepping.ifs (start .pre .0) _ (sym (at-kind-of .ensures) ∙ at-match .keys8) (c .if-step .ensures)
+    Stepping.ifs (start .pre .0) _ (sym (at-kind-at .ensures) ∙ at-match .keys8) (c .if-step .ensures)
 
 same-length-9 : tie.Need-same-length-9
 same-length-9 c = search needs
@@ -138,36 +138,36 @@ same-length-9 c = search needs
 returns-9 : tie.Need-returns-9
 returns-9 c =
     let start = c .before .before .before .before .before .before .before in
-    let at-kind-of = c .before .before .before .kind-of in
+    let at-kind-at = c .before .before .before .kind-at in
     let at-match = c .before .before .match in
-    Stepping.elses (start .pre .0) _ (sym (at-kind-of .ensures) ∙ at-match .keys9) (c .else-step .ensures)
+    Stepping.elses (start .pre .0) _ (sym (at-kind-at .ensures) ∙ at-match .keys9) (c .else-step .ensures)
 
 same-length-10 : tie.Need-same-length-10
 same-length-10 c = search needs
 
 returns-10 : tie.Need-returns-10
-returns-10 c = Stepping.ends (c .before .before .before .before .before .before .before .before .before .pre .0) _ (sym (c .before .before .before .before .before .kind-of .ensures) ∙ c .before .before .before .before .match .keys10) (c .before .before .end-step .ensures)
+returns-10 c = Stepping.ends (c .before .before .before .before .before .before .before .before .before .pre .0) _ (sym (c .before .before .before .before .before .kind-at .ensures) ∙ c .before .before .before .before .match .keys10) (c .before .before .end-step .ensures)
 
 same-length-11 : tie.Need-same-length-11
 same-length-11 c = search needs
 
 returns-11 : tie.Need-returns-11
 returns-11 c =
-    let is = c .before .kind-of .ensures in
+    let is = c .before .kind-at .ensures in
     let other = c .match .rest in
     let fit = fits (c .before .before .before .before .before .pre .0) .kind in
-    absurd (other .1
-    (is ∙ Stepping.only-end _ (fit .0) (fit .1) (λ z. other .0 .0 .0 .0 .0 .0 .0 .0 .0 .1 (is ∙ z)) (λ z. other .0 .0 .0 .0 .0 .0 .0 .0 .1 (is ∙ z))
+    absurd
+    (Stepping.no-other _ fit (λ z. other .0 .0 .0 .0 .0 .0 .0 .0 .0 .1 (is ∙ z)) (λ z. other .0 .0 .0 .0 .0 .0 .0 .0 .1 (is ∙ z))
     (λ z. other .0 .0 .0 .0 .0 .0 .0 .1 (is ∙ z)) (λ z. other .0 .0 .0 .0 .0 .0 .1 (is ∙ z)) (λ z. other .0 .0 .0 .0 .0 .1 (is ∙ z))
     (λ o. other .0 .0 .0 .0 .1 (⊎-elim (λ z. inl (is ∙ z)) (λ z. inr (is ∙ z)) o)) (λ z. other .0 .0 .0 .1 (is ∙ z))
-    (λ z. other .0 .0 .1 (is ∙ z)) (λ z. other .0 .1 (is ∙ z))))
+    (λ z. other .0 .0 .1 (is ∙ z)) (λ z. other .0 .1 (is ∙ z)) (λ z. other .1 (is ∙ z)))
 
 pub step-spec : {M : Type 1} → statement M
 step-spec =
     tie.close
     (tie.spec
     cast-row
-    kind-of-requires
+    kind-at-requires
     set-step-requires
     let-step-requires
     new-step-requires

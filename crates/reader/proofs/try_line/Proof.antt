@@ -1,12 +1,19 @@
 -- `reader::try_line` meets its contract. Assumes nothing.
-use Rattle.rules.specs.Grammar.{Field, Method, Var, kindNumber}
+use mathlib.Core.Path.{sym, _∙_}
+use borrow.Author.Tests.{leb-true, leb-false}
+use Rattle.rules.specs.Grammar.{Field, Method, Var, first-statement, kindNumber}
 use Rattle.reader.proofs.Lines.{var-left, kind-room, kind-formed}
 use borrow.Author.Needs.{needs}
 use Rattle.reader.proofs.try_line.Statement.{statement}
 use Rattle.reader.proofs.try_line.Tie as tie
 
+is-statement-requires : tie.Need-is-statement-requires
+is-statement-requires c κs = search needs
+
 put-statement-requires : tie.Need-put-statement-requires
-put-statement-requires c κs = search needs
+put-statement-requires c κs =
+    let x = c .before .before .before .before .before .pre in
+    (x .0, (leb-true first-statement _ (sym (c .before .before .is-statement .ensures) ∙ c .before .if1 .taken), x .1 .1))
 
 same-length : tie.Need-same-length
 same-length c = search needs
@@ -17,16 +24,16 @@ returns c = search needs
 put-field-requires : tie.Need-put-field-requires
 unfolding kindNumber
 put-field-requires c κs =
-    let x = c .before .before .before .before .before .pre in
-    let v = c .before .before .before .before .before .args in
+    let x = c .before .before .before .before .before .before .pre in
+    let v = c .before .before .before .before .before .before .args in
     let e = c .before .match .keys1 in
     (x .0 .ready, x .0 .high, kind-formed (v .text .now) (v .work .now) (v .p) (v .r) Field e (x .0 .formed), kind-room (v .text .now) (v .work .now) (v .p) (v .r) Field e (x .0 .room), x .3)
 
 put-method-requires : tie.Need-put-method-requires
 unfolding kindNumber
 put-method-requires c κs =
-    let x = c .before .before .before .before .before .pre in
-    let v = c .before .before .before .before .before .args in
+    let x = c .before .before .before .before .before .before .pre in
+    let v = c .before .before .before .before .before .before .args in
     let e = c .before .match .keys2 in
     (x .0 .ready, x .0 .high, kind-formed (v .text .now) (v .work .now) (v .p) (v .r) Method e (x .0 .formed), kind-room (v .text .now) (v .work .now) (v .p) (v .r) Method e (x .0 .room), x .3)
 
@@ -39,10 +46,10 @@ put-header-requires-2 c κs = search needs
 put-var-requires : tie.Need-put-var-requires
 unfolding kindNumber
 put-var-requires c κs =
-    let x = c .before .before .before .before .before .pre in
-    let v = c .before .before .before .before .before .args in
+    let x = c .before .before .before .before .before .before .pre in
+    let v = c .before .before .before .before .before .before .args in
     let o = c .before .match .rest in
-    let e = var-left _ (x .1 .0) (c .before .before .if1 .left) (o .0 .0 .0 .1) (o .0 .0 .1) (o .0 .1) (o .1) (x .2) in
+    let e = var-left _ (x .1 .0) (leb-false first-statement _ (sym (c .before .before .before .is-statement .ensures) ∙ c .before .before .if1 .left)) (o .0 .0 .0 .1) (o .0 .0 .1) (o .0 .1) (o .1) (x .2) in
     (x .0 .ready, x .0 .high, kind-formed (v .text .now) (v .work .now) (v .p) (v .r) Var e (x .0 .formed), kind-room (v .text .now) (v .work .now) (v .p) (v .r) Var e (x .0 .room))
 
 same-length-2 : tie.Need-same-length-2
@@ -74,15 +81,16 @@ same-length-6 c = search needs
 
 returns-6 : tie.Need-returns-6
 returns-6 c =
-    let x = c .before .before .before .before .before .before .before .before .pre in
+    let x = c .before .before .before .before .before .before .before .before .before .pre in
     let o = c .before .before .before .before .match .rest in
-    let e = var-left _ (x .1 .0) (c .before .before .before .before .before .if1 .left) (o .0 .0 .0 .1) (o .0 .0 .1) (o .0 .1) (o .1) (x .2) in
+    let e = var-left _ (x .1 .0) (leb-false first-statement _ (sym (c .before .before .before .before .before .before .is-statement .ensures) ∙ c .before .before .before .before .before .if1 .left)) (o .0 .0 .0 .1) (o .0 .0 .1) (o .0 .1) (o .1) (x .2) in
     rw e (c .before .before .put-var .ensures)
 
 pub try-line-spec : {M : Type 1} → statement M
 try-line-spec =
     tie.close
     (tie.spec
+    is-statement-requires
     put-statement-requires
     same-length
     returns

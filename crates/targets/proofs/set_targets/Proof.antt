@@ -55,7 +55,7 @@ loop-again c =
       ap length e ∙ (work-after-length w (k .result) i st ∙ c .before .before .before .before .before .before .before .before .loop .inv .0),
       omega arith,
       c .open-after .ensures .1,
-      cc (on, e, c .open-after .ensures .0, k .ensures .0, c .before .before .before .before .before .before .before .before .loop .inv .3),
+      cc (on, e, c .open-after .ensures .0, k .ensures, c .before .before .before .before .before .before .before .before .loop .inv .3),
     )
 
 same-length : tie.Need-same-length Inv-loop μ-loop

@@ -11,6 +11,9 @@ mul-at c = search needs
 add-at : tie.Need-add-at
 add-at c = search needs
 
+cast-put-four : tie.Need-cast-put-four
+cast-put-four c = search needs
+
 put-four-requires : tie.Need-put-four-requires
 put-four-requires c κs = search needs
 
@@ -40,6 +43,7 @@ put-row-spec =
     (tie.spec
     mul-at
     add-at
+    cast-put-four
     put-four-requires
     add-put-four
     put-four-requires-2
