@@ -68,7 +68,11 @@ fn limits(root: &Path) -> String {
     let source = fs::read_to_string(&path)
         .unwrap_or_else(|error| fail(format!("{}: {error}", path.display())));
     let mut limits = String::new();
-    for line in source.lines().map(str::trim) {
+    let of_machine = source
+        .lines()
+        .skip_while(|line| *line != "impl Machine {")
+        .take_while(|line| *line != "}");
+    for line in of_machine.map(str::trim) {
         let Some(rest) = line.strip_prefix("pub const ") else {
             continue;
         };
@@ -81,6 +85,9 @@ fn limits(root: &Path) -> String {
         limits.push_str(&format!(
             "/// `Machine::{name}`\npub const {name}: usize = {value};\n"
         ));
+    }
+    if limits.is_empty() {
+        fail(format!("{}: no limits in `impl Machine`", path.display()));
     }
     limits
 }
