@@ -130,7 +130,7 @@ unfolding mayEnd
 ends-closed [] m = refl
 ends-closed (b ∷ bs) m = absurd m
 
--- the other statements open and close nothing
+-- these open and close; the other statements do not
 turns : Kind → Bool
 turns k = any (λ a. isKind (statement a) k) (If ∷ Else ∷ Join ∷ End ∷ [])
 
