@@ -20,7 +20,7 @@ endingOf Ending.Finished = finished
 endingOf Ending.StepsTaken = stepsTaken
 endingOf (Ending.Stopped f) = stopped (stopOf f)
 
--- the numbers of document 01: "heap full; frames full", "permission missing; null followed; formula false"
+-- the number of document 01 for why a step is not done: `stopNumber`
 unfoldable pub faultNumber : Fault → ℕ
 faultNumber f = stopNumber (stopOf f)
 

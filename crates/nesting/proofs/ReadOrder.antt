@@ -1,25 +1,27 @@
 -- The statement rows of a read text nest, and each block is some of them.
 use mathlib.Core.Path.{_≡_, refl, sym, ap, _∙_, subst}
-use mathlib.Core.Bool.{Bool, true, false, not, cond, _&&_}
+use mathlib.Core.Bool.{Bool, true, false, not, cond, _&&_, _||_}
 use mathlib.Core.List.{List, [], _∷_, _++_, append-assoc, append-nil}
 use Prim.Native.Nat.{ℕ, suc}
 use native.Mathlib.Omega.{arith}
 use lib.Dec.{T, not-T, leb, ltb, eqb, eqb→eq, leb→le}
 use lib.ListN.{length, drop}
-use Rattle.rules.specs.Base.{between}
+use Rattle.rules.specs.Base.{all, any, between}
 use Rattle.rules.specs.Answers.{accepted}
 use Rattle.rules.specs.Syntax as Syntax
-use Rattle.rules.specs.Syntax.{Formula, Row, Program, else, join, end}
+use Rattle.rules.specs.Syntax.{Formula, Stmt, Row, Program, simple, if, else, join, end}
 use Rattle.rules.specs.Grammar as Grammar
 use Rattle.rules.specs.Grammar.{Kind, Statement, Line, Class, Field, Method, Requires, Ensures, Main, Var, statement}
-use Rattle.rules.specs.Grammar.{Set, Let, New, Call, Return, Assert, Release, If, Else, Join, End}
+use Rattle.rules.specs.Grammar.{If, Else, Join, End}
 use Rattle.rules.specs.Grammar.{inBody, afterMain, form, stands, isStatement, isKind, kindNumber, statementNumber}
 use Rattle.rules.specs.Places as Places
 use Rattle.rules.specs.Places.{Place, Branch, beforeElse, firstPlace, stageNumber, mayElse, mayJoin, mayEnd, outer, fits, inPlace, stageAfter, branchesAfter, placeAfter, withinLimits, ended}
 use Rattle.rules.specs.Scope.{Scope, Variable, Declarations, declarations, firstScope}
-use Rattle.rules.specs.Items.{Item, aClass, aField, aMethod, aRequires, anEnsures, aMain, aLocal, aStatement, itemOf, resolveStatement, resolveFormula, resolveSet, resolveCall, resolveIf}
+use Rattle.rules.specs.Items as Items
+use Rattle.rules.specs.Items.{Item, aClass, aField, aMethod, aRequires, anEnsures, aMain, aLocal, aStatement, itemOf, resolveStatement, resolveFormula, resolveIf}
 use Rattle.rules.specs.Reading.{readText, noProgram, onLast, withRequires, withEnsures, withItem, withItems, program}
 use Rattle.rules.proofs.Lists.{and-both, and-intro}
+use Rattle.rules.proofs.LineKinds.{every-kind, is-same}
 use Rattle.rules.proofs.LinesTaken.{TakenLines, none, line, seen, read-taken}
 use Rattle.nesting.specs.Nests.{Wait, forElse, forJoin, rowNests, rowsNest}
 
@@ -128,6 +130,36 @@ unfolding mayEnd
 ends-closed [] m = refl
 ends-closed (b ∷ bs) m = absurd m
 
+-- these open and close; the other statements do not
+turns : Kind → Bool
+turns k = any (λ a. isKind (statement a) k) (If ∷ Else ∷ Join ∷ End ∷ [])
+
+isSimple : Stmt → Bool
+isSimple (simple s) = true
+isSimple (if n a b) = false
+isSimple else = false
+isSimple (join φ) = false
+isSimple end = false
+
+simple-row : (s : Stmt) (ws : List Wait) (k : Bool → List Wait → Bool) → T (isSimple s) → T (k false ws) → T (rowNests s ws k)
+unfolding isSimple rowNests
+simple-row (simple s) ws k h t = t
+simple-row (if n a b) ws k h t = absurd h
+simple-row else ws k h t = absurd h
+simple-row (join φ) ws k h t = absurd h
+simple-row end ws k h t = absurd h
+
+-- an item adds no row, or such a one
+isQuiet : Item → Bool
+isQuiet aClass = true
+isQuiet (aField f) = true
+isQuiet aMethod = true
+isQuiet (aRequires φ) = true
+isQuiet (anEnsures φ) = true
+isQuiet aMain = true
+isQuiet (aLocal x) = true
+isQuiet (aStatement s) = isSimple s
+
 few-branches : (q : Place) → T (withinLimits q) → T (leb (length (q .branches)) 4)
 unfolding withinLimits
 few-branches q t =
@@ -159,24 +191,54 @@ module _ (Γ : Declarations) (vs : List Variable) (l : Line) (p : Place) (closed
   unfolding inPlace
   fit k i = and-both (between (stageNumber (form k .first)) (stageNumber (form k .last)) (stageNumber (p .stage))) (fits k p) i .1
 
-  statement-nests : (a : Statement) → Nests (statement a)
-  unfolding Nests rows rowsOf itemOf resolveStatement placeAfter stageAfter branchesAfter ended stageNumber form stands isStatement isKind kindNumber statementNumber rowsNest rowNests resolveSet resolveCall resolveIf fits
-  statement-nests Set i w = (λ t. t, absurd)
-  statement-nests Let i w = (λ t. t, absurd)
-  statement-nests New i w = (λ t. t, absurd)
-  statement-nests Call i w = (λ t. t, absurd)
-  statement-nests Return i w = (λ t. t, absurd)
-  statement-nests Assert i w = (λ t. t, absurd)
-  statement-nests Release i w = (λ t. t, absurd)
-  statement-nests If i w = (λ t. if-row (p .branches) rows (few-branches (placeAfter (statement If) p) w) t, absurd)
-  statement-nests Else i w = (λ t. else-row (p .branches) (λ b ws. rowsNest b ws rows) (fit (statement Else) i) t, absurd)
-  statement-nests Join i w = (λ t. join-row (p .branches) (resolveFormula Γ vs l) (λ b ws. rowsNest b ws rows) (fit (statement Join) i) t, absurd)
-  statement-nests End i w = (
+  quiet-line : (k : Kind) → T (turns k || isQuiet (itemOf Γ vs k l))
+  unfolding Grammar.opened Items.opened all any turns isSimple isQuiet
+  quiet-line = every-kind (λ k. turns k || isQuiet (itemOf Γ vs k l)) tt
+
+  simple-nests :
+      (a : Statement) → isKind (statement If) (statement a) ≡ false → isKind (statement Else) (statement a) ≡ false → isKind (statement Join) (statement a) ≡ false → isKind (statement End) (statement a) ≡ false →
+      Nests (statement a)
+  unfolding Nests rows rowsOf itemOf placeAfter stageAfter branchesAfter ended stageNumber form stands rowsNest any turns isQuiet
+  simple-nests a f e j d i w =
+      let s : T (isSimple (resolveStatement Γ vs a l)) = rw (f, e, j, d) at (quiet-line (statement a)) in
+      rw (f, e, j, d) (λ t. simple-row (resolveStatement Γ vs a l) (waits (p .branches)) (λ b ws. rowsNest b ws rows) s t, absurd)
+
+  if-nests : Nests (statement If)
+  unfolding Nests rows rowsOf itemOf resolveStatement placeAfter stageAfter branchesAfter ended stageNumber form stands isStatement isKind kindNumber statementNumber rowsNest rowNests resolveIf
+  if-nests i w = (λ t. if-row (p .branches) rows (few-branches (placeAfter (statement If) p) w) t, absurd)
+
+  else-nests : Nests (statement Else)
+  unfolding Nests rows rowsOf itemOf resolveStatement placeAfter stageAfter branchesAfter ended stageNumber form stands isStatement isKind kindNumber statementNumber rowsNest fits
+  else-nests i w = (λ t. else-row (p .branches) (λ b ws. rowsNest b ws rows) (fit (statement Else) i) t, absurd)
+
+  join-nests : Nests (statement Join)
+  unfolding Nests rows rowsOf itemOf resolveStatement placeAfter stageAfter branchesAfter ended stageNumber form stands isStatement isKind kindNumber statementNumber rowsNest fits
+  join-nests i w = (λ t. join-row (p .branches) (resolveFormula Γ vs l) (λ b ws. rowsNest b ws rows) (fit (statement Join) i) t, absurd)
+
+  end-nests : Nests (statement End)
+  unfolding Nests rows rowsOf itemOf resolveStatement placeAfter stageAfter branchesAfter ended stageNumber form stands isStatement isKind kindNumber statementNumber rowsNest fits
+  end-nests i w = (
     λ t.
         end-row (p .branches) (λ b ws. rowsNest b ws rows) (fit (statement End) i)
         (begin-nests (ended (placeAfter (statement End) p)) (waits (p .branches)) rows t),
     λ e. ends-closed (p .branches) (fit (statement End) i),
   )
+
+  -- kind b, or another
+  or-else : (b k : Kind) → Nests b → (isKind b k ≡ false → Nests k) → Nests k
+  or-else b k x f = go (isKind b k) refl
+    where
+      go : (q : Bool) → isKind b k ≡ q → Nests k
+      go true e = subst Nests (is-same b k (subst T (sym e) tt)) x
+      go false e = f e
+
+  statement-nests : (a : Statement) → Nests (statement a)
+  statement-nests a =
+      or-else (statement If) (statement a) if-nests λ f.
+      or-else (statement Else) (statement a) else-nests λ e.
+      or-else (statement Join) (statement a) join-nests λ j.
+      or-else (statement End) (statement a) end-nests λ d.
+      simple-nests a f e j d
 
   -- a line that adds no row, and stands before bodies only
   no-row : (k : Kind) → T (leb (stageNumber (form k .last)) 5) → T (inPlace k p) → (T (rowsNest false (waits (p .branches)) rows) → T (rowsNest (ended p) (waits (p .branches)) rows)) × (T true → p .branches ≡ [])

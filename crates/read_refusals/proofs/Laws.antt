@@ -17,7 +17,7 @@ use Rattle.rules.specs.Grammar.{new, typeName, className, variable, member, exp
 use Rattle.rules.specs.Grammar.{classes, fields, methods, variables, read, assigned, field, method}
 use Rattle.rules.specs.Scope.{Slot, slotsFrom, atomOperands, atomSlots, atomsOf, slots}
 use Rattle.rules.specs.Names as Rules
-use Rattle.read_words.specs.Words.{wordNumber}
+use Rattle.read_words.specs.Words.{acc-word, wordNumber}
 use Rattle.read_words.proofs.Words.{acc-is}
 use Rattle.read_bytes.proofs.Search.{true-false, both-true, and-false}
 use Rattle.read_fields.specs.Cuts.{part, more, NextField}
@@ -147,11 +147,11 @@ and-swap true false false = refl
 
 -- `acc` by its number
 module _ (p : Name) (k : ℕ) (e : k ≡ wordNumber p) where
-  pub is-acc : k ≡ 19 → is "acc" p ≡ true
-  is-acc h = acc-is p ∙ eq-eqb _ 19 (sym e ∙ h)
+  pub is-acc : k ≡ acc-word → is "acc" p ≡ true
+  is-acc h = acc-is p ∙ eq-eqb _ acc-word (sym e ∙ h)
 
-  pub not-acc : (k ≡ 19 → ⊥) → is "acc" p ≡ false
-  not-acc h = acc-is p ∙ ne-eqb _ 19 (λ z. h (e ∙ z))
+  pub not-acc : (k ≡ acc-word → ⊥) → is "acc" p ≡ false
+  not-acc h = acc-is p ∙ ne-eqb _ acc-word (λ z. h (e ∙ z))
 
 pub acc-names : (p x y : Name) → is "acc" p ≡ true → isAtom p x y ≡ true → (isName x ≡ true) × (isName y ≡ true)
 unfolding isAtom

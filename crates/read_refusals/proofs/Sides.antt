@@ -1,21 +1,22 @@
 -- Laws of the sides of a line, and of the variables of a `call`, by the number of the line's kind.
-use mathlib.Core.Path.{_≡_, sym, _∙_}
-use mathlib.Core.Bool.{true, false, not, _&&_}
+use mathlib.Core.Path.{_≡_, refl, sym, _∙_}
+use mathlib.Core.Bool.{Bool, true, false, not, _&&_, _||_}
 use mathlib.Core.List.{List, [], _∷_}
 use Prim.Native.Nat.{ℕ}
-use lib.Dec.{eqb}
+use lib.Dec.{T, eqb}
 use lib.ListN.{drop, getD}
 use borrow.Author.Tests.{ne-eqb}
-use Rattle.rules.specs.Base.{Name}
+use Rattle.rules.specs.Base.{Name, all, any}
 use Rattle.rules.specs.Text.{isName, isExpr}
-use Rattle.rules.specs.Grammar.{Kind, statement, Set, Let, New, Call, Return, form, stands, shape, shaped, isFormed, isOperand, isTail, nothing}
+use Rattle.rules.specs.Grammar.{Kind, kinds, statement, Let, Call, form, stands, shape, shaped, isFormed, isOperand, isTail, nothing}
 use Rattle.rules.specs.Grammar.{IsKindNumber, isStatement, isKind, kindNumber, statementNumber}
 use Rattle.rules.specs.Scope.{operand}
 use Rattle.rules.specs.Names as Rules
+use Rattle.rules.proofs.LineKinds.{every-kind}
 use Rattle.read_bytes.proofs.Search.{true-false, both-true, and-false}
 use Rattle.read_fields.specs.Cuts.{more}
 use Rattle.read_grammar.specs.Rows.{kindNumbered}
-use Rattle.read_grammar.proofs.Rows.{NoneOf, kind-numbered, kind-of-number}
+use Rattle.read_grammar.proofs.Rows.{NoneOf, number-of-kind, kind-numbered, kind-of-number}
 use Rattle.read_scopes.specs.declared.Names.{Names}
 use Rattle.read_scopes.specs.Meanings.{variablesIn}
 use Rattle.read_refusals.specs.Tests.{lineAfter, formed, sidesIn, apartIn}
@@ -42,16 +43,22 @@ module _ (t w : List ℕ) (c : Names) (r k : ℕ) where
   other : IsKindNumber k → (a : Kind) → (k ≡ kindNumber a → ⊥) → isKind a (kindNumbered k) ≡ false
   other h a n = kind-numbered k h a ∙ ne-eqb (kindNumber a) k (λ e. n (sym e))
 
-  pub sides-other : IsKindNumber k → NoneOf k (12 ∷ 11 ∷ 10 ∷ 9 ∷ 8 ∷ []) → true ≡ sidesIn t w c (lineAfter t r k)
-  unfolding sidesIn Rules.sidesAgree lineAfter kindNumber statementNumber
-  sides-other h n =
-      rw (
-        other h (statement Set) (n .0 .0 .0 .0 .1),
-        other h (statement Let) (n .0 .0 .0 .1),
-        other h (statement New) (n .0 .0 .1),
-        other h (statement Call) (n .0 .1),
-        other h (statement Return) (n .1),
-      )
+  -- ns: the numbers that the other arms of a `match` are for; each kind is of one of them, or has no sides
+  pub sides-other :
+      (ns : List ℕ) → T (all (λ K. any (eqb (kindNumber K)) ns || sidesIn t w c (record { kind = K; fields = more (drop r t) })) kinds) →
+      IsKindNumber k → NoneOf k ns → true ≡ sidesIn t w c (lineAfter t r k)
+  unfolding lineAfter any
+  sides-other ns a h n =
+      go (sidesIn t w c (lineAfter t r k))
+      (rw (number-of-kind k h, none-any ns n) at (every-kind (λ K. any (eqb (kindNumber K)) ns || sidesIn t w c (record { kind = K; fields = more (drop r t) })) a (kindNumbered k)))
+    where
+      none-any : (ns : List ℕ) → NoneOf k ns → any (eqb k) ns ≡ false
+      none-any [] n = refl
+      none-any (m ∷ ns) n = rw (ne-eqb k m (n .1), none-any ns (n .0))
+
+      go : (b : Bool) → T b → true ≡ b
+      go true z = refl
+      go false z = absurd z
 
   pub apart-other : IsKindNumber k → (k ≡ 11 → ⊥) → true ≡ apartIn t w c (lineAfter t r k)
   unfolding apartIn Rules.callApart lineAfter kindNumber statementNumber

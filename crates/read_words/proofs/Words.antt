@@ -20,7 +20,8 @@ use Rattle.rules.specs.Grammar as Grammar
 use Rattle.rules.specs.Grammar.{Kind, kinds, last-kind, kindNumber, kindOf, form}
 use Rattle.rules.proofs.LineKinds.{every-kind, kind-bounds}
 use Rattle.read_words.specs.Words as Words
-use Rattle.read_words.specs.Words.{words, placeIn, wordNumber, kindAt, kindOr0, packed, packedIn}
+use Rattle.read_words.specs.Words.{words, acc-word, eq-word, ne-word, int-word, null-word, this-word, result-word}
+use Rattle.read_words.specs.Words.{placeIn, wordNumber, kindAt, kindOr0, packed, packedIn}
 use Rattle.read_bytes.proofs.Search.{true-false, both-true, and-false, or-false, between-true, all-at, same-is, same-refl, not-same}
 
 -- PACKING
@@ -187,7 +188,7 @@ place-range (s ∷ ss) n w =
     cond-case (λ k. (k ≡ 0) ⊎ ((n ≤ k) × (k < n + suc (length ss)))) (is s w) n (placeIn ss (suc n) w) (λ e. inr (omega arith, omega arith))
     (λ e. ⊎-elim (λ h. inl h) (λ h. inr (omega arith, omega arith)) (place-range ss (suc n) w))
 
-pub word-most : (w : Name) → wordNumber w ≤ 25
+pub word-most : (w : Name) → wordNumber w ≤ result-word
 unfolding wordNumber
 word-most w = ⊎-elim (λ h. omega arith) (λ h. omega arith) (place-range words 1 w)
 
@@ -219,80 +220,80 @@ is-word s w h = go (eqName (bytes s) w) refl
         (ne-eqb (placeIn words 1 w) (placeIn words 1 (bytes s))
         (λ z. true-false (sym (same-refl (bytes s)) ∙ (ap (eqName (bytes s)) (place-same words 1 (bytes s) w (omega arith) (sym z) (leb-true _ _ h)) ∙ e))))
 
-pub acc-is : (w : Name) → is "acc" w ≡ eqb (wordNumber w) 19
+pub acc-is : (w : Name) → is "acc" w ≡ eqb (wordNumber w) acc-word
 unfolding Words.opened Base.opened
 acc-is w = is-word "acc" w refl
 
-pub eq-is : (w : Name) → is "eq" w ≡ eqb (wordNumber w) 20
+pub eq-is : (w : Name) → is "eq" w ≡ eqb (wordNumber w) eq-word
 unfolding Words.opened Base.opened
 eq-is w = is-word "eq" w refl
 
-pub ne-is : (w : Name) → is "ne" w ≡ eqb (wordNumber w) 21
+pub ne-is : (w : Name) → is "ne" w ≡ eqb (wordNumber w) ne-word
 unfolding Words.opened Base.opened
 ne-is w = is-word "ne" w refl
 
-pub int-is : (w : Name) → is "int" w ≡ eqb (wordNumber w) 22
+pub int-is : (w : Name) → is "int" w ≡ eqb (wordNumber w) int-word
 unfolding Words.opened Base.opened
 int-is w = is-word "int" w refl
 
-pub null-is : (w : Name) → is "null" w ≡ eqb (wordNumber w) 23
+pub null-is : (w : Name) → is "null" w ≡ eqb (wordNumber w) null-word
 unfolding Words.opened Base.opened
 null-is w = is-word "null" w refl
 
-pub this-is : (w : Name) → is "this" w ≡ eqb (wordNumber w) 24
+pub this-is : (w : Name) → is "this" w ≡ eqb (wordNumber w) this-word
 unfolding Words.opened Base.opened
 this-is w = is-word "this" w refl
 
-pub result-is : (w : Name) → is "result" w ≡ eqb (wordNumber w) 25
+pub result-is : (w : Name) → is "result" w ≡ eqb (wordNumber w) result-word
 unfolding Words.opened Base.opened
 result-is w = is-word "result" w refl
 
-two : (k : ℕ) → (eqb k 20 || eqb k 21) ≡ (leb 20 k && leb k 21)
-two k = elim (decLt k 20) [
-  | yes a ↦ rw (ne-eqb k 20 (λ e. omega arith), lt-leb 20 k a) (ne-eqb k 21 (λ e. omega arith))
-  | no a ↦ rw (le-leb 20 k (omega arith)) (go (omega arith) (eqb k 20) refl)
+two : (k : ℕ) → (eqb k eq-word || eqb k ne-word) ≡ (leb eq-word k && leb k ne-word)
+two k = elim (decLt k eq-word) [
+  | yes a ↦ rw (ne-eqb k eq-word (λ e. omega arith), lt-leb eq-word k a) (ne-eqb k ne-word (λ e. omega arith))
+  | no a ↦ rw (le-leb eq-word k (omega arith)) (go (omega arith) (eqb k eq-word) refl)
 ]
   where
-    go : 20 ≤ k → (q : Bool) → eqb k 20 ≡ q → (q || eqb k 21) ≡ leb k 21
-    go m true e = sym (le-leb k 21 (omega (arith, eqb-true k 20 e)))
-    go m false e = elim (decLt 21 k) [
-      | yes l ↦ rw (lt-leb k 21 l) (ne-eqb k 21 (λ z. omega arith))
-      | no l ↦ rw (le-leb k 21 (omega arith)) (eq-eqb k 21 (omega (arith, eqb-false k 20 e)))
+    go : eq-word ≤ k → (q : Bool) → eqb k eq-word ≡ q → (q || eqb k ne-word) ≡ leb k ne-word
+    go m true e = sym (le-leb k ne-word (omega (arith, eqb-true k eq-word e)))
+    go m false e = elim (decLt ne-word k) [
+      | yes l ↦ rw (lt-leb k ne-word l) (ne-eqb k ne-word (λ z. omega arith))
+      | no l ↦ rw (le-leb k ne-word (omega arith)) (eq-eqb k ne-word (omega (arith, eqb-false k eq-word e)))
     ]
 
-pub rel-is : (w : Name) → isRel w ≡ between 20 21 (wordNumber w)
+pub rel-is : (w : Name) → isRel w ≡ between eq-word ne-word (wordNumber w)
 unfolding isRel between
 rel-is w = rw (eq-is w, ne-is w) (two (wordNumber w))
 
 -- the form of an atom by its word's number
 module _ (w a b : Name) (k : ℕ) (h : k ≡ wordNumber w) where
-  pub atom-rel : (k ≡ 19 → ⊥) → 20 ≤ k → k ≤ 21 → isAtom w a b ≡ (isExpr a && isExpr b)
+  pub atom-rel : (k ≡ acc-word → ⊥) → eq-word ≤ k → k ≤ ne-word → isAtom w a b ≡ (isExpr a && isExpr b)
   unfolding isAtom between
-  atom-rel n l m = rw (acc-is w, rel-is w, ← h, ne-eqb k 19 n, le-leb 20 k l, le-leb k 21 m)
+  atom-rel n l m = rw (acc-is w, rel-is w, ← h, ne-eqb k acc-word n, le-leb eq-word k l, le-leb k ne-word m)
 
-  pub atom-before : (k ≡ 19 → ⊥) → k < 20 → isAtom w a b ≡ false
+  pub atom-before : (k ≡ acc-word → ⊥) → k < eq-word → isAtom w a b ≡ false
   unfolding isAtom between
-  atom-before n l = rw (acc-is w, rel-is w, ← h, ne-eqb k 19 n, lt-leb 20 k l)
+  atom-before n l = rw (acc-is w, rel-is w, ← h, ne-eqb k acc-word n, lt-leb eq-word k l)
 
-  pub atom-after : (k ≡ 19 → ⊥) → 21 < k → isAtom w a b ≡ false
+  pub atom-after : (k ≡ acc-word → ⊥) → ne-word < k → isAtom w a b ≡ false
   unfolding isAtom between
-  atom-after n l = rw (acc-is w, rel-is w, ← h, ne-eqb k 19 n, lt-leb k 21 l, and-false (leb 20 k))
+  atom-after n l = rw (acc-is w, rel-is w, ← h, ne-eqb k acc-word n, lt-leb k ne-word l, and-false (leb eq-word k))
 
-from-22 : (k : ℕ) → k ≤ 25 → (eqb k 22 || (eqb k 23 || (eqb k 24 || eqb k 25))) ≡ leb 22 k
-from-22 k h = elim (decLt k 22) [
-  | yes a ↦ rw (ne-eqb k 22 (λ e. omega arith), ne-eqb k 23 (λ e. omega arith), ne-eqb k 24 (λ e. omega arith), lt-leb 22 k (omega arith)) (ne-eqb k 25 (λ e. omega arith))
-  | no a ↦ rw (le-leb 22 k (omega arith)) (go (omega arith) (eqb k 22) (eqb k 23) (eqb k 24) refl refl refl)
+reserved-from : (k : ℕ) → k ≤ result-word → (eqb k int-word || (eqb k null-word || (eqb k this-word || eqb k result-word))) ≡ leb int-word k
+reserved-from k h = elim (decLt k int-word) [
+  | yes a ↦ rw (ne-eqb k int-word (λ e. omega arith), ne-eqb k null-word (λ e. omega arith), ne-eqb k this-word (λ e. omega arith), lt-leb int-word k (omega arith)) (ne-eqb k result-word (λ e. omega arith))
+  | no a ↦ rw (le-leb int-word k (omega arith)) (go (omega arith) (eqb k int-word) (eqb k null-word) (eqb k this-word) refl refl refl)
 ]
   where
-    go : 22 ≤ k → (x y z : Bool) → eqb k 22 ≡ x → eqb k 23 ≡ y → eqb k 24 ≡ z → (x || (y || (z || eqb k 25))) ≡ true
+    go : int-word ≤ k → (x y z : Bool) → eqb k int-word ≡ x → eqb k null-word ≡ y → eqb k this-word ≡ z → (x || (y || (z || eqb k result-word))) ≡ true
     go m true y z a b c = refl
     go m false true z a b c = refl
     go m false false true a b c = refl
-    go m false false false a b c = eq-eqb k 25 (omega (arith, eqb-false k 22 a, eqb-false k 23 b, eqb-false k 24 c))
+    go m false false false a b c = eq-eqb k result-word (omega (arith, eqb-false k int-word a, eqb-false k null-word b, eqb-false k this-word c))
 
-pub reserved-is : (w : Name) → reserved w ≡ leb 22 (wordNumber w)
+pub reserved-is : (w : Name) → reserved w ≡ leb int-word (wordNumber w)
 unfolding reserved
-reserved-is w = rw (int-is w, null-is w, this-is w, result-is w) (from-22 (wordNumber w) (word-most w))
+reserved-is w = rw (int-is w, null-is w, this-is w, result-is w) (reserved-from (wordNumber w) (word-most w))
 
 -- KINDS
 first-same : {A : Type 0} (p q : A → Bool) (l : List A) → ((a : A) → p a ≡ q a) → first p l ≡ first q l
@@ -369,11 +370,11 @@ of-atom-word P a b c w e = go (is "acc" w) (is "eq" w) (is "ne" w) refl refl ref
 -- its number and its length by its first letter
 pub atom-letter :
     (w : Name) → (is "acc" w || isRel w) ≡ true →
-    ((getD w 0 0 ≡ 97) × (wordNumber w ≡ 19)) ⊎ (((getD w 0 0 ≡ 101) × (wordNumber w ≡ 20)) ⊎ ((getD w 0 0 ≡ 110) × (wordNumber w ≡ 21)))
+    ((getD w 0 0 ≡ 97) × (wordNumber w ≡ acc-word)) ⊎ (((getD w 0 0 ≡ 101) × (wordNumber w ≡ eq-word)) ⊎ ((getD w 0 0 ≡ 110) × (wordNumber w ≡ ne-word)))
 unfolding Words.opened Base.opened
 atom-letter =
     of-atom-word
-    (λ w. ((getD w 0 0 ≡ 97) × (wordNumber w ≡ 19)) ⊎ (((getD w 0 0 ≡ 101) × (wordNumber w ≡ 20)) ⊎ ((getD w 0 0 ≡ 110) × (wordNumber w ≡ 21))))
+    (λ w. ((getD w 0 0 ≡ 97) × (wordNumber w ≡ acc-word)) ⊎ (((getD w 0 0 ≡ 101) × (wordNumber w ≡ eq-word)) ⊎ ((getD w 0 0 ≡ 110) × (wordNumber w ≡ ne-word))))
     (inl (refl, refl)) (inr (inl (refl, refl))) (inr (inr (refl, refl)))
 
 pub atom-word-length : (w : Name) → (is "acc" w || isRel w) ≡ true → length w ≡ cond (eqb (getD w 0 0) 97) 3 2

@@ -1,4 +1,4 @@
--- Words by number: 1 to 18 begin lines, 19 to 21 atoms, 22 to 25 are reserved.
+-- Words by number: first those that begin lines, as kinds are numbered, then those that begin atoms, then the reserved ones.
 use mathlib.Core.Bool.{cond}
 use mathlib.Core.List.{List, [], _∷_}
 use mathlib.Core.Option.{Option, none, some}
@@ -6,7 +6,7 @@ use Prim.Native.Nat.{ℕ, suc, _+_, _*_}
 use Prim.Native.String.{String}
 use lib.Dec.{eqb}
 use Rattle.rules.specs.Base.{Name, bytes, is, first}
-use Rattle.rules.specs.Grammar.{Kind, kinds, kindNumber}
+use Rattle.rules.specs.Grammar.{Kind, kinds, last-kind, kindNumber}
 
 -- in the order of `kindNumber`, then `acc`, `eq`, `ne`, then the reserved ones
 abbrev pub words : List String
@@ -15,6 +15,28 @@ words =
     "set" ∷ "let" ∷ "new" ∷ "call" ∷ "return" ∷ "assert" ∷ "release" ∷ "if" ∷ "else" ∷ "join" ∷ "end" ∷
     "acc" ∷ "eq" ∷ "ne" ∷
     "int" ∷ "null" ∷ "this" ∷ "result" ∷ []
+
+-- the numbers of those that begin no line
+abbrev pub acc-word : ℕ
+acc-word = suc last-kind
+
+abbrev pub eq-word : ℕ
+eq-word = suc acc-word
+
+abbrev pub ne-word : ℕ
+ne-word = suc eq-word
+
+abbrev pub int-word : ℕ
+int-word = suc ne-word
+
+abbrev pub null-word : ℕ
+null-word = suc int-word
+
+abbrev pub this-word : ℕ
+this-word = suc null-word
+
+abbrev pub result-word : ℕ
+result-word = suc this-word
 
 -- the number of w in a list that is numbered from n on, or 0
 unfoldable pub placeIn : List String → ℕ → Name → ℕ

@@ -1,19 +1,19 @@
 -- A line of atoms alone passes the tests of 6, 7 and 9 just if its atoms pass those of 6 and 7.
 use mathlib.Core.Path.{_≡_, refl, ap, _∙_}
-use mathlib.Core.Bool.{Bool, true, false, not, cond, _&&_}
+use mathlib.Core.Bool.{Bool, true, false, not, cond, _&&_, _||_}
 use mathlib.Core.List.{List, [], _∷_, _++_}
 use Prim.Native.Nat.{ℕ}
 use native.Mathlib.Omega.{arith}
+use lib.Dec.{T, leb}
 use lib.ListN.{length, drop}
-use borrow.Author.Tests.{ne-eqb}
 use Rattle.rules.specs.Base.{Name, all, is}
 use Rattle.rules.specs.Syntax.{acc, cmp}
 use Rattle.rules.specs.Text.{exprOf, relOf, atomOf, formulaOf}
-use Rattle.rules.specs.Grammar.{Kind, Line, Operand, form, statement, stands, shape, shaped, isKind, kindNumber, variable, member, expression, read, field}
-use Rattle.rules.specs.Grammar.{Set, Let, New, Call, Return}
+use Rattle.rules.specs.Grammar as Grammar
+use Rattle.rules.specs.Grammar.{Kind, Line, Operand, kinds, form, variable, member, expression, read, field}
 use Rattle.rules.specs.Scope.{Declarations, Variable, Scope, Slot, slotsFrom, atomOperands, atomSlots, atomsOf, slots}
 use Rattle.rules.specs.Names.{agree, exprType, known, ofClass, mayBeAssigned, knownExpr, ofClassIn, knownField, inScope, isInt, sidesAgree, atomAgrees, callApart, allKnown, allTyped, allAssignable}
-use Rattle.rules.proofs.LineKinds.{same-kind, kind-is}
+use Rattle.rules.proofs.LineKinds.{every-kind}
 use Rattle.read_types.specs.Types.{good}
 use Rattle.resolve_atoms.specs.Good.{fitsAtom}
 
@@ -99,20 +99,23 @@ module _ (Γ : Declarations) (vs : List Variable) (s : Scope) where
   atoms-assign (u ∷ a ∷ []) = refl
   atoms-assign (u ∷ a ∷ b ∷ ws) = atom-assigns (is "acc" u) a b (atomSlots ws) ∙ atoms-assign ws
 
-  -- a line without operands is of no kind that has some, so it has no sides, and calls nothing
-  other-kind : (a k : Kind) → (form a .operands ≡ [] → ⊥) → form k .operands ≡ [] → isKind a k ≡ false
-  other-kind a k n e = kind-is a k ∙ ne-eqb (kindNumber a) (kindNumber k) (λ i. n (ap (λ (k : Kind). form k .operands) (same-kind a k i) ∙ e))
+  -- a test that finds each kind with operands, or holds of it, holds of a kind without
+  without-operands : (t : Kind → Bool) → T (all (λ k. leb 1 (length (form k .operands)) || t k) kinds) → (k : Kind) → form k .operands ≡ [] → t k ≡ true
+  without-operands t h k e = go (form k .operands) (t k) e (every-kind (λ k. leb 1 (length (form k .operands)) || t k) h k)
+    where
+      go : (os : List Operand) (b : Bool) → os ≡ [] → T (leb 1 (length os) || b) → b ≡ true
+      go [] true e h = refl
+      go [] false e h = absurd h
+      go (o ∷ os) b e h = let z : _≡_ {A = ℕ} 0 1 = cc in absurd (omega arith)
 
-  some-operand : {o : Operand} {os : List Operand} → (o ∷ os) ≡ [] → ⊥
-  some-operand e = let z : _≡_ {A = ℕ} 0 1 = cc in omega arith
-
+  -- so it has no sides, and calls nothing
   no-sides : (k : Kind) (ws : List Name) → form k .operands ≡ [] → sidesAgree Γ vs (record { kind = k; fields = ws }) ≡ true
-  unfolding sidesAgree form stands shape shaped
-  no-sides k ws e = rw (other-kind (statement Set) k some-operand e, other-kind (statement Let) k some-operand e, other-kind (statement New) k some-operand e, other-kind (statement Call) k some-operand e, other-kind (statement Return) k some-operand e)
+  unfolding Grammar.opened all sidesAgree
+  no-sides k ws e = without-operands (λ k. sidesAgree Γ vs (record { kind = k; fields = ws })) tt k e
 
   no-call : (k : Kind) (ws : List Name) → form k .operands ≡ [] → callApart vs (record { kind = k; fields = ws }) ≡ true
-  unfolding callApart form stands shape shaped
-  no-call k ws e = rw (other-kind (statement Call) k some-operand e)
+  unfolding Grammar.opened all callApart
+  no-call k ws e = without-operands (λ k. callApart vs (record { kind = k; fields = ws })) tt k e
 
   -- `requires`, `ensures`, `assert`, `release`, `join`, `if`
   pub formula-good :

@@ -18,7 +18,7 @@ use Rattle.rules.specs.Names as Names
 use Rattle.rules.specs.Names.{knownExpr, ofClassIn, knownField, isInt, isFieldOf, variableType, variableNumber, fieldNumber, inScope, lookUp, noVariable}
 use Rattle.rules.specs.Items.{resolveExpr, resolveAtom}
 use Rattle.rules.proofs.Lists.{T-true, Member, head-or, append-member, and-both, in-any, any-in, first-member}
-use Rattle.read_words.specs.Words.{wordNumber}
+use Rattle.read_words.specs.Words.{acc-word, eq-word, ne-word, wordNumber}
 use Rattle.read_bytes.proofs.Search.{both-true, true-false, between-true}
 use Rattle.read_words.proofs.Words.{acc-is, eq-is, atom-rel, atom-before, atom-after}
 use Rattle.tables.specs.declared.Expr as Tables
@@ -254,12 +254,12 @@ module _ (t w : List ℕ) (c : Declared.Names) (fits : Fits c) where
 
 -- THE ATOM OF THREE FIELDS
 module _ (u a b : Name) (k : ℕ) (h : k ≡ wordNumber u) where
-  pub atom-access : k ≡ 19 → atomOf u a b ≡ acc a b
+  pub atom-access : k ≡ acc-word → atomOf u a b ≡ acc a b
   unfolding atomOf
   atom-access e = rw (acc-is u, ← h, e)
 
   pub access-tried :
-      (Γ : Declarations) (vs : List Variable) (r : Tried) → k ≡ 19 → AtomTried Γ vs (acc a b) r → AtomTried Γ vs (atomOf u a b) r
+      (Γ : Declarations) (vs : List Variable) (r : Tried) → k ≡ acc-word → AtomTried Γ vs (acc a b) r → AtomTried Γ vs (atomOf u a b) r
   access-tried Γ vs r e x = subst (λ y. AtomTried Γ vs y r) (sym (atom-access e)) x
 
   relation-is : (q : Bool) → Decode.relOf (cond q 1 2) ≡ cond q Syntax.eq Syntax.ne
@@ -267,30 +267,30 @@ module _ (u a b : Name) (k : ℕ) (h : k ≡ wordNumber u) where
   relation-is true = refl
   relation-is false = refl
 
-  module _ (n : k ≡ 19 → ⊥) where
-    pub atom-compared : atomOf u a b ≡ cmp (Decode.relOf (cond (eqb k 20) 1 2)) (exprOf a) (exprOf b)
+  module _ (n : k ≡ acc-word → ⊥) where
+    pub atom-compared : atomOf u a b ≡ cmp (Decode.relOf (cond (eqb k eq-word) 1 2)) (exprOf a) (exprOf b)
     unfolding atomOf relOf
-    atom-compared = rw (acc-is u, ← h, borrow.Author.Tests.ne-eqb k 19 n, eq-is u, ← h, relation-is (eqb k 20))
+    atom-compared = rw (acc-is u, ← h, borrow.Author.Tests.ne-eqb k acc-word n, eq-is u, ← h, relation-is (eqb k eq-word))
 
     pub compared-form : isAtom u a b ≡ true → (isExpr a ≡ true) × (isExpr b ≡ true)
     compared-form e =
         ⊎-elim (λ l. true-false (sym e ∙ atom-before u a b k h n l))
         (λ l.
         ⊎-elim (λ m. true-false (sym e ∙ atom-after u a b k h n m)) (λ m. both-true (isExpr a) (isExpr b) (sym (atom-rel u a b k h n l m) ∙ e))
-        (below 21 k))
-        (below k 20)
+        (below ne-word k))
+        (below k eq-word)
       where
         below : (i j : ℕ) → (i < j) ⊎ (j ≤ i)
         below i j = Rattle.tables.proofs.Runs.less-or-not i j (ltb i j) refl
 
     pub compared-tried :
-        (Γ : Declarations) (vs : List Variable) (r : Tried) (i : ℕ) → i ≡ cond (eqb k 20) 1 2 →
+        (Γ : Declarations) (vs : List Variable) (r : Tried) (i : ℕ) → i ≡ cond (eqb k eq-word) 1 2 →
         AtomTried Γ vs (cmp (Decode.relOf i) (exprOf a) (exprOf b)) r → AtomTried Γ vs (atomOf u a b) r
     compared-tried Γ vs r i e x =
         subst (λ y. AtomTried Γ vs y r) (sym (atom-compared ∙ ap (λ j. cmp (Decode.relOf j) (exprOf a) (exprOf b)) (sym e))) x
 
-pub relation-bounds : (k n : ℕ) → n ≡ cond (eqb k 20) 1 2 → (1 ≤ n) × (n ≤ 2)
-relation-bounds k n e = go (eqb k 20) e
+pub relation-bounds : (k n : ℕ) → n ≡ cond (eqb k eq-word) 1 2 → (1 ≤ n) × (n ≤ 2)
+relation-bounds k n e = go (eqb k eq-word) e
   where
     go : (q : Bool) → n ≡ cond q 1 2 → (1 ≤ n) × (n ≤ 2)
     go true i = omega arith

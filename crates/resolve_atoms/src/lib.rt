@@ -9,7 +9,7 @@ ghost use lib.Dec.{eqb};
 ghost use Rattle.rules.specs.Syntax.{acc, cmp};
 ghost use Rattle.rules.specs.Base.{is};
 ghost use Rattle.rules.specs.Text.{isExpr, exprOf, isRel, isAtom, atomOf};
-ghost use Rattle.read_words.specs.Words.{wordNumber};
+ghost use Rattle.read_words.specs.Words.{wordNumber, eq-word};
 ghost use Rattle.read_fields.specs.Cuts.{NextField};
 ghost use Rattle.tables.specs.Layout.{most-atom-rows};
 ghost use Rattle.tables.specs.Decode.{relOf};
@@ -78,7 +78,7 @@ pub fn compared(text: &[u8], work: &[u8], c: Names, kind: usize, a: &[u8], b: &[
 
 // The kind of `eq`, or that of `ne`.
 pub fn relation(word: u8) -> usize
-    ensures { λ r. ⌜ r ≡ cond (eqb word 20) 1 2 ⌝ }
+    ensures { λ r. ⌜ r ≡ cond (eqb word eq-word) 1 2 ⌝ }
 {
     if word == read_words::EQ {
         AtomKind::EQ

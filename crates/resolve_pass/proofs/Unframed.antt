@@ -1,19 +1,19 @@
 -- Number 10 in pass 2: the first line that it refuses, kept from line to line, is that of the rules.
 use mathlib.Core.Path.{_≡_, refl}
-use mathlib.Core.Bool.{Bool, true, false, cond}
+use mathlib.Core.Bool.{Bool, true, false, cond, _||_}
 use mathlib.Core.List.{List, [], _∷_}
 use Prim.Native.Nat.{ℕ, zero, suc}
-use lib.Dec.{eqb, eqb·suc-zero}
+use lib.Dec.{T, eqb, eqb·suc-zero}
+use Rattle.rules.specs.Base.{all}
 use Rattle.rules.specs.Answers.{Verdict, accepted, refused, unframed}
 use Rattle.rules.specs.Syntax.{Stmt, simple, if, else, join, end}
 use Rattle.rules.specs.Grammar as Grammar
-use Rattle.rules.specs.Grammar.{Kind, Statement, Line}
-use Rattle.rules.specs.Grammar.{Class, Field, Method, Requires, Ensures, Main, Var, statement}
-use Rattle.rules.specs.Grammar.{Set, Let, New, Call, Return, Assert, Release, If, Else, Join, End}
+use Rattle.rules.specs.Grammar.{Kind, Line}
 use Rattle.rules.specs.Scope.{Declarations, Variable}
 use Rattle.rules.specs.Items as Items
-use Rattle.rules.specs.Items.{Item, itemOf, resolveStatement, aClass, aField, aMethod, aRequires, anEnsures, aMain, aLocal, aStatement}
+use Rattle.rules.specs.Items.{Item, itemOf, aClass, aField, aMethod, aRequires, anEnsures, aMain, aLocal, aStatement}
 use Rattle.rules.specs.Reading.{framed, framedStmt, framedItem, checkFramed}
+use Rattle.rules.proofs.LineKinds.{every-kind}
 use Rattle.read_bytes.proofs.Search.{true-false}
 use Rattle.resolve_pass.specs.Passes.{isFramed, joinFormula, framedFormula, unframedAfter}
 
@@ -40,31 +40,14 @@ framed-formula (aLocal x) = refl
 framed-formula (aStatement s) = framed-statement s
 
 -- a line of another kind passes
-statement-other :
-    (Γ : Declarations) (vs : List Variable) (a : Statement) (l : Line) → isFramed (statement a) ≡ false → framedStmt (resolveStatement Γ vs a l) ≡ true
-unfolding Grammar.opened Items.opened isFramed framedStmt
-statement-other Γ vs Set l e = refl
-statement-other Γ vs Let l e = refl
-statement-other Γ vs New l e = refl
-statement-other Γ vs Call l e = refl
-statement-other Γ vs Return l e = refl
-statement-other Γ vs Assert l e = refl
-statement-other Γ vs Release l e = refl
-statement-other Γ vs If l e = refl
-statement-other Γ vs Else l e = refl
-statement-other Γ vs Join l e = true-false e
-statement-other Γ vs End l e = refl
-
 pub framed-other : (Γ : Declarations) (vs : List Variable) (k : Kind) (l : Line) → isFramed k ≡ false → framedItem (itemOf Γ vs k l) ≡ true
-unfolding Grammar.opened itemOf isFramed framedItem
-framed-other Γ vs Class l e = refl
-framed-other Γ vs Field l e = refl
-framed-other Γ vs Method l e = refl
-framed-other Γ vs Requires l e = true-false e
-framed-other Γ vs Ensures l e = true-false e
-framed-other Γ vs Main l e = refl
-framed-other Γ vs Var l e = refl
-framed-other Γ vs (statement a) l e = statement-other Γ vs a l e
+unfolding Grammar.opened Items.opened all isFramed framedItem framedStmt
+framed-other Γ vs k l e = second (isFramed k) (framedItem (itemOf Γ vs k l)) e (every-kind (λ k. isFramed k || framedItem (itemOf Γ vs k l)) tt k)
+  where
+    second : (a b : Bool) → a ≡ false → T (a || b) → b ≡ true
+    second true b e h = true-false e
+    second false true e h = refl
+    second false false e h = absurd h
 
 -- ALL LINES: u is the first of n lines that number 10 refuses, or 0, and the items are those of the lines to come
 

@@ -34,8 +34,8 @@ zero-packed (n, l) e =
     let b : l ≡ 0 = omega (arith, e) in
     λ i. (a i, b i)
 
--- If check returned 0 for a text, run returns 0, 21, 22 or 23 for it, never 24, 25 or 26, and answers with a run in which every
--- call keeps what it was not handed.
+-- If check returned 0 for a text, run returns a number for it that is `NotStuck`, and answers with a run in which every call keeps
+-- what it was not handed.
 pub one-claim-returned : OneClaimReturned
 one-claim-returned t w n e l =
     let C = one-claim t (zero-packed (checkText t) (sym (check-returned t w n) ∙ e)) (l .steps) in

@@ -22,8 +22,8 @@ pub record Returns (t : List ℕ) (l : Lent) : Type 0 where
   pub returned : runCall t (l .work) (l .steps) (l .results) .returned ≡ packed (runText t (l .steps) .number) (runText t (l .steps) .line)
   pub results : runCall t (l .work) (l .steps) (l .results) .results ≡ resultBytes (runText t (l .steps))
 
--- "For every text for which check returns 0, and every number of allowed steps, run with areas of the right length returns number
--- 0, 21, 22 or 23": whatever area check was lent, and whatever areas run is. And the run that it answers with, its number, line,
+-- "For every text for which check returns 0, and every number of allowed steps, run with areas of the right length returns number"
+-- one that is `NotStuck`: whatever area check was lent, and whatever areas run is. And the run that it answers with, its number, line,
 -- count of steps and values, keeps in each of its calls what that call was not handed.
 pub record ReturnsClaim (t : List ℕ) (l : Lent) : Type 0 where
   pub number : NotStuck (runCall t (l .work) (l .steps) (l .results) .returned / 65536)

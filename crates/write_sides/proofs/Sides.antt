@@ -22,7 +22,7 @@ use Rattle.rules.specs.Names as Names
 use Rattle.rules.specs.Names.{isLocal, agree, inScope, variableNumber, variableType, exprType}
 use Rattle.rules.specs.Items as Items
 use Rattle.rules.specs.Items.{resolveAtom, itemOf, aStatement}
-use Rattle.read_words.specs.Words.{wordNumber}
+use Rattle.read_words.specs.Words.{acc-word, eq-word, ne-word, wordNumber}
 use Rattle.read_bytes.proofs.Search.{both-true, true-false, between-true}
 use Rattle.read_words.proofs.Words.{acc-is, rel-is}
 use Rattle.read_fields.specs.Cuts.{more}
@@ -64,8 +64,8 @@ use Rattle.write_sides.specs.Sides.{oneRow, letGood, SideFollows, SidePu
 no-access : (u a b : Name) → isRel u ≡ true → atomOf u a b ≡ cmp (relOf u) (exprOf a) (exprOf b)
 unfolding atomOf
 no-access u a b e =
-    let r = between-true 20 21 (wordNumber u) (sym (rel-is u) ∙ e) in
-    rw (acc-is u, ne-eqb (wordNumber u) 19 (λ z. omega (arith, r)))
+    let r = between-true eq-word ne-word (wordNumber u) (sym (rel-is u) ∙ e) in
+    rw (acc-is u, ne-eqb (wordNumber u) acc-word (λ z. omega (arith, r)))
 
 -- THE TESTS OF A LINE THAT HAS ITS FORM
 abbrev Formed : Statement → List Name → Type 0

@@ -6,8 +6,6 @@ use mathlib.Core.Path.{_≡_, refl}
 use native.Mathlib.Omega.{arith}
 use Rattle.check_forgetting.proofs.rename_entries.Statement.{statement}
 use Rattle.check_forgetting.proofs.rename_entries.Tie as tie
-use Rattle.check_forgetting.proofs.rename_entries.Reads as reads
-use Rattle.check_forgetting.proofs.rename_entries.Lts as lts
 
 abbrev Inv-loop : tie.InvT-loop
 Inv-loop b₀ x to all i₀ b i = (i ≤ all) × RenamedEntries x to b₀ i b

@@ -1,4 +1,9 @@
 -- `judge::sides_agree` meets its contract: kind by kind. Assumes nothing.
+use mathlib.Core.List.{[], _∷_}
+use Rattle.rules.specs.Base.{all, any}
+use Rattle.rules.specs.Grammar as Grammar
+use Rattle.rules.specs.Names as Rules
+use Rattle.read_refusals.specs.Tests.{sidesIn}
 use Rattle.read_refusals.proofs.Sides.{let-side, sides-other}
 use borrow.Author.Needs.{needs}
 use Rattle.read_refusals.proofs.sides_agree.Statement.{statement}
@@ -35,7 +40,8 @@ returns-5 : tie.Need-returns-5
 returns-5 c = rw (c .before .match .keys5) (c .return-agrees .ensures)
 
 returns-6 : tie.Need-returns-6
-returns-6 c = sides-other (c .before .before .before .args .text .now) (c .before .before .before .args .work .now) (c .before .before .before .args .c) (c .before .before .before .args .from) (c .before .before .before .args .kind) (c .before .before .before .pre .3 .kind) (c .match .rest)
+unfolding Grammar.opened all any Rules.sidesAgree sidesIn
+returns-6 c = sides-other (c .before .before .before .args .text .now) (c .before .before .before .args .work .now) (c .before .before .before .args .c) (c .before .before .before .args .from) (c .before .before .before .args .kind) (12 ∷ 11 ∷ 10 ∷ 9 ∷ 8 ∷ []) tt (c .before .before .before .pre .3 .kind) (c .match .rest)
 
 pub sides-agree-spec : {M : Type 1} → statement M
 sides-agree-spec =
