@@ -1,0 +1,17 @@
+-- What is computed, by the test that the code does.
+use mathlib.Core.Path.{_≡_}
+use mathlib.Core.Bool.{true, false}
+use Prim.Native.Nat.{ℕ, _%_}
+use Rattle.rules.specs.Base.{ok, no, check, _>>_}
+use Rattle.rules.specs.Answers.{Stop, overflow}
+use Rattle.rules.specs.Syntax.{Operation, words}
+use Rattle.rules.specs.Machine.{raised, inRange, computed}
+
+module _ (o : Operation) (v w n : ℕ) (is : n ≡ raised o v w) where
+  pub computed-value : inRange n ≡ true → ok (n % words) ≡ computed o v w
+  unfolding computed check _>>_
+  computed-value t = rw (← is, t)
+
+  pub computed-stop : inRange n ≡ false → no overflow ≡ computed o v w
+  unfolding computed check _>>_
+  computed-stop t = rw (← is, t)
