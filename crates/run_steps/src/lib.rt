@@ -6,13 +6,16 @@ use run_footprint::Truth;
 use run_heap::Fault;
 use run_heap::Read;
 use run_heap::Spot;
+use run_numbers::Computed;
 use tables::Layout;
 ghost use mathlib.Core.Path.{_≡_};
 ghost use mathlib.Core.List.{[]};
 ghost use Prim.Native.Nat.{_+_, _*_, _<_};
+ghost use lib.Dec.{T};
 ghost use lib.ListN.{length};
-ghost use Rattle.tables.specs.Decode.{allRows, leftAt, rightAt, relOf, byteAt, atomPlace, xAt, yAt, memberAt, firstAtomAt, formulaAt};
-ghost use Rattle.rules.specs.Machine.{took, on, elseStep, setStep, assignStep, ifStep, assertStep, releaseStep};
+ghost use Rattle.rules.specs.Grammar.{isComputing};
+ghost use Rattle.tables.specs.Decode.{allRows, leftAt, rightAt, relOf, byteAt, atomPlace, kindAt, xAt, yAt, zAt, memberAt, firstAtomAt, formulaAt, operationOf};
+ghost use Rattle.rules.specs.Machine.{took, on, elseStep, setStep, assignStep, computeStep, ifStep, assertStep, releaseStep};
 ghost use Rattle.rules.specs.Syntax.{var, result-variable};
 ghost use Rattle.run_steps.specs.States.{Ready, NotEnd, AtKind, Does, stepped};
 ghost use Rattle.run_heap.specs.Views.{viewOf};
@@ -119,6 +122,26 @@ pub fn let_step(work: &mut [u8], c: Machine) -> Turn
             Turn::On(next(c, c.row + 1))
         }
         Read::Lacking(s) => Turn::Stopped(s),
+    }
+}
+
+// `add` and `sub`.
+pub fn compute_step(work: &mut [u8], c: Machine) -> Turn
+    requires { ⌜ Ready (now work) c × T (isComputing (kindAt (now work) (c .row))) ⌝ }
+    ensures { λ r. ⌜ Does (now (work .entry)) c (now (work .exit)) r (λ m. took (computeStep (operationOf (kindAt (now (work .entry)) (c .row))) (xAt (now (work .entry)) (c .row)) (yAt (now (work .entry)) (c .row)) (zAt (now (work .entry)) (c .row)) m)) ⌝ }
+{
+    let row = c.row as usize;
+    let v = run_heap::view_of(c);
+    let b = v.base;
+    let y = run_heap::variable(work, b, tables::y_at(work, row));
+    let z = run_heap::variable(work, b, tables::z_at(work, row));
+    match run_numbers::compute(tables::kind_at(work, row), y, z) {
+        Computed::Value(n) => {
+            let x = tables::x_at(work, row);
+            tables::put_word(work, b + x * 4, n);
+            Turn::On(next(c, c.row + 1))
+        }
+        Computed::Overflow => Turn::Stopped(Fault::Overflow),
     }
 }
 

@@ -93,7 +93,7 @@ module _ (w w′ : List ℕ) (n : ℕ) (K : Kept atoms-at (atomPlace n) w w′) 
         (λ _. cond-same (eqb (r .kind) 13) (λ _. to-assert)
         (λ _. cond-same (eqb (r .kind) 14) (λ _. to-release)
         (λ _. cond-same (eqb (r .kind) 15) to-if
-        (λ _. cond-same (eqb (r .kind) 16) (λ _. refl) 
+        (λ _. cond-same (eqb (r .kind) 16) (λ _. refl)
         (λ _. cond-same (eqb (r .kind) 17) (λ _. to-join) (λ _. cond-same (isComputing (r .kind)) (λ _. refl) (λ _. refl)))))))))))
 
 -- the bytes of the first R rows are the same, but for their targets
