@@ -1,11 +1,11 @@
 use Rattle.read_names.proofs.Puts.{none-fits}
-use Rattle.read_scopes.proofs.put_field.Statement.{statement}
+use Rattle.read_scopes.proofs.add_field.Statement.{statement}
 use Rattle.read_scopes.specs.Meanings.{moreFields}
 use Rattle.read_names.specs.Rows.{SpanFits}
 use borrow.Author.Needs.{needs}
 use mathlib.Core.Path.{refl, sym, _∙_, subst}
 use native.Mathlib.Omega.{arith}
-use Rattle.read_scopes.proofs.put_field.Tie as tie
+use Rattle.read_scopes.proofs.add_field.Tie as tie
 
 no-span-requires : tie.Need-no-span-requires
 no-span-requires c κs = search needs
@@ -29,6 +29,6 @@ returns : tie.Need-returns
 unfolding moreFields
 returns c = (refl, c .before .before .before .put-row .ensures ∙ rw (c .before .before .before .before .before .before .no-span .ensures))
 
-pub put-field-spec : {M : Type 1} → statement M
-put-field-spec =
+pub add-field-spec : {M : Type 1} → statement M
+add-field-spec =
     tie.close (tie.spec no-span-requires add-put-row put-row-requires add-t11 same-length returns)

@@ -1,7 +1,7 @@
 use Rattle.write_rows.proofs.Puts.{field-stores}
 use borrow.Author.Needs.{needs}
-use Rattle.write_rows.proofs.put_field.Statement.{statement}
-use Rattle.write_rows.proofs.put_field.Tie as tie
+use Rattle.write_rows.proofs.put_class_field.Statement.{statement}
+use Rattle.write_rows.proofs.put_class_field.Tie as tie
 
 mul-at : tie.Need-mul-at
 mul-at c = search needs
@@ -70,8 +70,8 @@ returns c =
     let at-put-byte4 = c .before .before .put-byte4 in
     field-stores _ _ _ _ _ _ (at-field-count-at .ensures .0) (at-flag .ensures .0) (at-put-byte .ensures) (at-put-byte2 .ensures) (at-put-byte3 .ensures) (at-put-byte4 .ensures)
 
-pub put-field-spec : {M : Type 1} → statement M
-put-field-spec =
+pub put-class-field-spec : {M : Type 1} → statement M
+put-class-field-spec =
     tie.close
     (tie.spec
     mul-at

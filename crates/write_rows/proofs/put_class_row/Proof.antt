@@ -1,7 +1,7 @@
 use Rattle.write_rows.proofs.Puts.{class-stores}
 use borrow.Author.Needs.{needs}
-use Rattle.write_rows.proofs.put_class.Statement.{statement}
-use Rattle.write_rows.proofs.put_class.Tie as tie
+use Rattle.write_rows.proofs.put_class_row.Statement.{statement}
+use Rattle.write_rows.proofs.put_class_row.Tie as tie
 
 mul-put-byte : tie.Need-mul-put-byte
 mul-put-byte c = search needs
@@ -27,8 +27,8 @@ same-length c = search needs
 returns : tie.Need-returns
 returns c = class-stores _ _ (c .before .before .before .before .before .before .put-byte .ensures) (c .before .before .fill .ensures)
 
-pub put-class-spec : {M : Type 1} → statement M
-put-class-spec =
+pub put-class-row-spec : {M : Type 1} → statement M
+put-class-row-spec =
     tie.close
     (tie.spec
     mul-put-byte

@@ -1,11 +1,11 @@
 use Rattle.read_names.proofs.Puts.{none-fits}
-use Rattle.read_scopes.proofs.put_class.Statement.{statement}
+use Rattle.read_scopes.proofs.add_class.Statement.{statement}
 use Rattle.read_scopes.specs.Meanings.{moreClasses}
 use Rattle.read_names.specs.Rows.{SpanFits}
 use borrow.Author.Needs.{needs}
 use mathlib.Core.Path.{refl, sym, _∙_, subst}
 use native.Mathlib.Omega.{arith}
-use Rattle.read_scopes.proofs.put_class.Tie as tie
+use Rattle.read_scopes.proofs.add_class.Tie as tie
 
 no-span-requires : tie.Need-no-span-requires
 no-span-requires c κs = search needs
@@ -26,6 +26,6 @@ returns : tie.Need-returns
 unfolding moreClasses
 returns c = (refl, c .before .before .before .put-row .ensures ∙ rw (c .before .before .before .before .before .before .no-span .ensures))
 
-pub put-class-spec : {M : Type 1} → statement M
-put-class-spec =
+pub add-class-spec : {M : Type 1} → statement M
+add-class-spec =
     tie.close (tie.spec no-span-requires add-put-row put-row-requires add-t9 same-length returns)

@@ -1,8 +1,8 @@
-use Rattle.read_scopes.proofs.put_method.Statement.{statement}
+use Rattle.read_scopes.proofs.add_method.Statement.{statement}
 use Rattle.read_scopes.specs.Meanings.{moreMethods}
 use borrow.Author.Needs.{needs}
 use mathlib.Core.Path.{refl}
-use Rattle.read_scopes.proofs.put_method.Tie as tie
+use Rattle.read_scopes.proofs.add_method.Tie as tie
 
 add-put-row : tie.Need-add-put-row
 add-put-row c = search needs
@@ -20,5 +20,5 @@ returns : tie.Need-returns
 unfolding moreMethods
 returns c = (refl, c .before .before .before .put-row .ensures)
 
-pub put-method-spec : {M : Type 1} → statement M
-put-method-spec = tie.close (tie.spec add-put-row put-row-requires add-t8 same-length returns)
+pub add-method-spec : {M : Type 1} → statement M
+add-method-spec = tie.close (tie.spec add-put-row put-row-requires add-t8 same-length returns)

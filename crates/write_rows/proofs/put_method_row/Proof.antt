@@ -2,8 +2,8 @@ use Rattle.write_rows.proofs.Puts.{put-then}
 use native.Mathlib.Omega.{arith}
 use Rattle.write_rows.specs.Puts.{putMethod, methodBytes}
 use borrow.Author.Needs.{needs}
-use Rattle.write_rows.proofs.put_method.Statement.{statement}
-use Rattle.write_rows.proofs.put_method.Tie as tie
+use Rattle.write_rows.proofs.put_method_row.Statement.{statement}
+use Rattle.write_rows.proofs.put_method_row.Tie as tie
 
 mul-at : tie.Need-mul-at
 mul-at c = search needs
@@ -27,7 +27,7 @@ returns : tie.Need-returns
 unfolding putMethod methodBytes
 returns c = put-then _ _ _ _ _ (omega arith) (c .before .before .before .before .before .before .put-four .ensures) (c .before .before .put-four2 .ensures)
 
-pub put-method-spec : {M : Type 1} → statement M
-put-method-spec =
+pub put-method-row-spec : {M : Type 1} → statement M
+put-method-row-spec =
     tie.close
     (tie.spec mul-at add-at put-four-requires add-put-four put-four-requires-2 same-length returns)
