@@ -47,7 +47,7 @@ pub record Flags (test : ℕ → Bool) (n : ℕ) (r : List Bool) : Type 0 where
 
 -- WHAT A FORMULA CONSUMES
 -- the entries that are out are those consumed
-pub record Taken (b : List ℕ) (out : List Bool) (c : Rules.Shown) : Type 0 where
+pub record Consumed (b : List ℕ) (out : List Bool) (c : Rules.Shown) : Type 0 where
   pub rest : c .kept ≡ kept out (permissionAt b) (entries b)
   pub used : (q : Permission → Bool) → any q (c .consumed) ≡ any q (gone out (permissionAt b) (entries b))
 

@@ -27,7 +27,7 @@ use Rattle.run_steps.specs.declared.Turn.{Turn}
 use Rattle.machine.specs.declared.Ending.{Ending}
 use Rattle.machine.specs.declared.Ran.{Ran}
 use Rattle.run_heap.specs.Views.{frameAt, variableAt, cellOf, holderIn, holderOf, fill}
-use Rattle.run_steps.specs.States.{FrameIs, CallersAre, Represents, Goes, Does, Ready}
+use Rattle.run_steps.specs.States.{FrameIs, CallersAre, Represents, Goes, Does, CanStep}
 use Rattle.machine.specs.Runs.{endingOf, words, mainValues, RanAs}
 use Rattle.run_heap.proofs.Reading.{cell-null, cell-beyond, cell-placed}
 use Rattle.run_footprint.proofs.Regions.{only-fill, only-tables, fill-word}
@@ -189,7 +189,7 @@ module _ {room : Room} {w₀ w : List ℕ} {k : ℕ} {c : Machine} (G : Going ro
   program-is : programIn w ≡ programIn w₀
   program-is = program-same w₀ w (G .same) (G .tables)
 
-  pub ready : c .steps < k → k < 4294967296 → Ready w c
+  pub ready : c .steps < k → k < 4294967296 → CanStep w c
   ready l h = record { state = G .state; represents = G .represents; more = omega arith }
 
   pub at-row : (length w ≡ 65536) × (c .row < most-statements)

@@ -12,7 +12,7 @@ use Rattle.tables.specs.Decode.{allRows, byteAt, atomPlace, relOf, rowAt, opera
 use Rattle.tables.proofs.Rows.{method-get, class-get}
 use Rattle.tables.proofs.Statements.{set-means, let-means, new-means, call-means, return-means, assert-means, release-means, if-means, else-means, join-means, end-means}
 use Rattle.run_steps.specs.declared.Turn.{Turn}
-use Rattle.run_steps.specs.States.{Represents, Follows, Does, Ready, AtKind}
+use Rattle.run_steps.specs.States.{Represents, Follows, Does, CanStep, AtKind}
 use Rattle.run_calls.proofs.Returning.{row-of}
 use Rattle.run_steps.proofs.Doing.{fits}
 
@@ -36,7 +36,7 @@ no-other k (low, high) a b c d e f g i j n =
     past : 19 ≤ k → k ≤ 18 → ⊥
     past l h = omega arith
 
-module _ {w w′ : List ℕ} {c : Machine} {r : Turn} (ready : Ready w c) (room : Room) where
+module _ {w w′ : List ℕ} {c : Machine} {r : Turn} (ready : CanStep w c) (room : Room) where
   does-as :
       (f : Config → Step) → ((m : Config) → stepAt room (programIn w) (stmtAt w (c .row)) m ≡ f m) → Does w c w′ r f →
       Does w c w′ r (step room (programIn w))

@@ -24,7 +24,7 @@ use Rattle.run_heap.specs.declared.Fault.{Fault}
 use Rattle.run_steps.specs.declared.Turn.{Turn}
 use Rattle.run_heap.specs.Views.{frameAt, variableAt, savedHolder, savedRow, methodOf, cellHolder, cellOf, holderIn, holderOf, prepared, nextView, stopOf}
 use Rattle.run_footprint.specs.Footprints.{marked, takeIn, SmallCells}
-use Rattle.run_steps.specs.States.{FrameIs, CallerIs, CallersAre, Represents, Follows, Does, Ready, AtKind}
+use Rattle.run_steps.specs.States.{FrameIs, CallerIs, CallersAre, Represents, Follows, Does, CanStep, AtKind}
 use Rattle.run_calls.specs.Calls.{Calling, Admits, called}
 use Rattle.run_heap.proofs.Reading.{cell-small}
 use Rattle.run_steps.proofs.Seeing.{Sees, Matches, FormulaOk, no-footprint, ok-footprint, atoms-ok}
@@ -346,7 +346,7 @@ module _ {w : List ℕ} {c : Machine} {m : Config} (R : Represents w c m) (y z m
       (enters call-kept call-prepared A ks M (taken-by A f) (omega (arith, R .given, R .most)) k′ l)
 
 -- THE CODE
-module _ {w : List ℕ} {c : Machine} (ready : Ready w c) (k : AtKind w c 11) (y z method o p : ℕ)
+module _ {w : List ℕ} {c : Machine} (ready : CanStep w c) (k : AtKind w c 11) (y z method o p : ℕ)
     (ey : y ≡ yAt w (c .row)) (ez : z ≡ zAt w (c .row)) (em : method ≡ memberAt w (c .row))
     (eo : o ≡ variableAt w (frameAt (c .frames - 1)) y) (ep : p ≡ variableAt w (frameAt (c .frames - 1)) z)
     (lo : o < 4294967296) (lp : p < 4294967296) where
@@ -432,7 +432,7 @@ module _ {w : List ℕ} {c : Machine} (method a n : ℕ) (C : Calling w c method
   requires-takes = rw (ea, en)
 
 pub call-null-does :
-    {w : List ℕ} {c : Machine} (ready : Ready w c) → AtKind w c 11 → (y o : ℕ) → y ≡ yAt w (c .row) →
+    {w : List ℕ} {c : Machine} (ready : CanStep w c) → AtKind w c 11 → (y o : ℕ) → y ≡ yAt w (c .row) →
     o ≡ variableAt w (frameAt (c .frames - 1)) y → o ≡ 0 →
     Does w c w (Turn.Stopped Fault.Null) (λ m. took (callStep (yAt w (c .row)) (methodAt w (memberAt w (c .row))) (zAt w (c .row)) m))
 unfolding callStep check _>>_ stopOf

@@ -30,7 +30,7 @@ use Rattle.run_heap.specs.declared.Fault.{Fault}
 use Rattle.run_steps.specs.declared.Turn.{Turn}
 use Rattle.run_heap.specs.declared.View.{View}
 use Rattle.run_heap.specs.Views.{frameAt, cellValue, cellHolder, classIn, firstIn, cellOf, holderIn, holderOf, made, viewOf, stopOf, ObjectFits}
-use Rattle.run_steps.specs.States.{HeapIs, Represents, Follows, Does, Ready, AtKind, atRow}
+use Rattle.run_steps.specs.States.{HeapIs, Represents, Follows, Does, CanStep, AtKind, atRow}
 use Rattle.run_calls.specs.Calls.{larger}
 use Rattle.run_heap.proofs.Reading.{Placed, cell-placed, cell-small, cell-beyond, cell-null, cell-some, bound-free, place-found}
 use Rattle.run_steps.proofs.Seeing.{bool-iff, at}
@@ -429,7 +429,7 @@ new-stop {w} {c} {m} R class x mo mf (inr l) =
     go false = refl
 
 -- THE CODE
-module _ {w : List ℕ} {c : Machine} (ready : Ready w c) (k : AtKind w c 10) (mo mf : ℕ) (lmo : mo ≤ heap-objects) (lmf : mf ≤ heap-fields)
+module _ {w : List ℕ} {c : Machine} (ready : CanStep w c) (k : AtKind w c 10) (mo mf : ℕ) (lmo : mo ≤ heap-objects) (lmf : mf ≤ heap-fields)
     (class n : ℕ) (ec : class ≡ memberAt w (c .row)) (en : n ≡ fieldCountAt w class) where
   pub new-class : class < classCount w
   new-class = omega (arith, ec, fits ready .class k)

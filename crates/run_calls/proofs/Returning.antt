@@ -27,7 +27,7 @@ use Rattle.run_steps.specs.declared.Turn.{Turn}
 use Rattle.run_heap.specs.declared.View.{View}
 use Rattle.run_heap.specs.Views.{frameAt, variableAt, savedHolder, savedRow, methodOf, holderOf, viewOf, stopOf}
 use Rattle.run_footprint.specs.Footprints.{takeIn, marked, SmallCells}
-use Rattle.run_steps.specs.States.{FrameIs, CallerIs, CallersAre, Represents, Follows, Does, Ready}
+use Rattle.run_steps.specs.States.{FrameIs, CallerIs, CallersAre, Represents, Follows, Does, CanStep}
 use Rattle.run_calls.specs.Calls.{back}
 use Rattle.run_steps.proofs.Seeing.{Matches, FormulaOk, no-footprint, ok-footprint, atoms-ok, bool-iff}
 use Rattle.run_footprint.proofs.Regions.{Only, only-tables, only-word, only-marked}
@@ -163,7 +163,7 @@ module _ {w : List ℕ} {c : Machine} {h : _} {F C : Frame} {Cs : List Frame}
   saved-fits = (caller .frame .row-fits, method-fits)
 
 -- THE CODE
-module _ {w : List ℕ} {c : Machine} (ready : Ready w c) where
+module _ {w : List ℕ} {c : Machine} (ready : CanStep w c) where
   pub end-done : c .frames ≡ 1 → Does w c w Turn.Done (λ m. endStep (programIn w) m (m .callers))
   unfolding endStep
   end-done e = record { tables = same-refl w; follows = λ m R. go (m .heap) (m .frame) (m .callers) R }

@@ -12,7 +12,7 @@ use Rattle.run_heap.specs.declared.Fault.{Fault}
 use Rattle.run_steps.specs.declared.Turn.{Turn}
 use Rattle.run_heap.specs.Views.{methodOf, viewOf, nextView, Readable, stopOf}
 use Rattle.run_footprint.specs.Footprints.{footprint-cells, marked, takeIn, SmallCells}
-use Rattle.run_steps.specs.States.{Ready}
+use Rattle.run_steps.specs.States.{CanStep}
 
 -- back in the caller, which holds by this number
 abbrev pub back : Machine → ℕ → ℕ → Machine
@@ -62,7 +62,7 @@ larger c n steps =
 
 -- `end` of a call: ensures took these cells
 pub record Leaving (w : List ℕ) (c : Machine) (cells : List ℕ) (n : ℕ) : Type 0 where
-  pub ready : Ready w c
+  pub ready : CanStep w c
   pub inner : c .frames ≡ 1 → ⊥
   pub size : length cells ≡ footprint-cells
   pub count : n ≤ footprint-cells

@@ -12,7 +12,7 @@ ghost use lib.ListN.{take};
 ghost use Rattle.rules.specs.Limits.{most-statements, most-frames, heap-objects, heap-fields};
 ghost use Rattle.rules.specs.Machine.{took, newStep, callStep, endStep};
 ghost use Rattle.tables.specs.Decode.{programIn, xAt, yAt, zAt, memberAt, methodAt, classAt};
-ghost use Rattle.run_steps.specs.States.{Ready, AtKind, Does, atRow};
+ghost use Rattle.run_steps.specs.States.{CanStep, AtKind, Does, atRow};
 ghost use Rattle.run_calls.specs.Calls.{Leaving, Entering, Enters, Calling, Admits, back, called, larger};
 
 // One step more, back in the caller.
@@ -49,7 +49,7 @@ fn leave(work: &mut [u8], c: Machine, cells: &Cells, n: usize) -> Turn
 
 // `end`: "ensures, then the caller gains its footprint, and x the result; the rest of that A is lost".
 pub fn end_step(work: &mut [u8], c: Machine) -> Turn
-    requires { ⌜ Ready (now work) c ⌝ }
+    requires { ⌜ CanStep (now work) c ⌝ }
     ensures { λ r. ⌜ Does (now (work .entry)) c (now (work .exit)) r (λ m. endStep (programIn (now (work .entry))) m (m .callers)) ⌝ }
 {
     if c.frames == 1 {
@@ -118,7 +118,7 @@ fn admit(work: &mut [u8], c: Machine, m: usize) -> Turn
 
 // `call`: "null receiver, then requires, then frames full".
 pub fn call_step(work: &mut [u8], c: Machine) -> Turn
-    requires { ⌜ Ready (now work) c × AtKind (now work) c 11 ⌝ }
+    requires { ⌜ CanStep (now work) c × AtKind (now work) c 11 ⌝ }
     ensures { λ r. ⌜ Does (now (work .entry)) c (now (work .exit)) r (λ m. took (callStep (yAt (now (work .entry)) (c .row)) (methodAt (now (work .entry)) (memberAt (now (work .entry)) (c .row))) (zAt (now (work .entry)) (c .row)) m)) ⌝ }
 {
     let row = c.row as usize;
@@ -154,7 +154,7 @@ fn grow(c: Machine, n: u32) -> Machine
 
 // `new`: "22 only where `new` would pass 256 objects or 1,024 fields", the heap's two limits.
 pub fn new_step(work: &mut [u8], c: Machine, most_objects: u32, most_fields: u32) -> Turn
-    requires { ⌜ (Ready (now work) c × AtKind (now work) c 10) × ((«most_objects» ≤ heap-objects) × («most_fields» ≤ heap-fields)) ⌝ }
+    requires { ⌜ (CanStep (now work) c × AtKind (now work) c 10) × ((«most_objects» ≤ heap-objects) × («most_fields» ≤ heap-fields)) ⌝ }
     ensures { λ r. ⌜ Does (now (work .entry)) c (now (work .exit)) r (λ m. took (newStep (record { objects = «most_objects»; fields = «most_fields» }) (xAt (now (work .entry)) (c .row)) (classAt (now (work .entry)) (memberAt (now (work .entry)) (c .row))) m)) ⌝ }
 {
     let row = c.row as usize;

@@ -21,7 +21,7 @@ use Rattle.run_heap.specs.declared.Fault.{Fault}
 use Rattle.run_steps.specs.declared.Turn.{Turn}
 use Rattle.run_heap.specs.Views.{frameAt, variableAt, spot, readIn, viewOf, stopOf, Readable}
 use Rattle.run_footprint.specs.Footprints.{testIn, takeIn, marked, SmallCells}
-use Rattle.run_steps.specs.States.{Represents, Follows, Does, Ready, NotEnd, AtKind, stepped}
+use Rattle.run_steps.specs.States.{Represents, Follows, Does, CanStep, NotEnd, AtKind, stepped}
 use Rattle.run_heap.proofs.Reading.{spot-small}
 use Rattle.run_steps.proofs.Seeing.{ok-footprint}
 use Rattle.run_footprint.proofs.Regions.{only-word, only-tables, only-marked}
@@ -43,7 +43,7 @@ pub does-stop :
     Does w c w (Turn.Stopped s) f
 does-stop {w} s h = record { tables = same-refl w; follows = h }
 
-module _ {w : List ℕ} {c : Machine} (ready : Ready w c) where
+module _ {w : List ℕ} {c : Machine} (ready : CanStep w c) where
   -- WHAT A READY MACHINE HAS
   pub fits : OperandsFit (declaredIn w) (atomCount w) (operandsAt w (c .row))
   fits = Moves.row-fits (ready .represents) .operands

@@ -103,7 +103,7 @@ abbrev pub stepped : Machine → ℕ → Machine
 stepped c row = atRow c row (c .steps + 1)
 
 -- a state is represented, and a further step can be counted
-pub record Ready (w : List ℕ) (c : Machine) : Type 0 where
+pub record CanStep (w : List ℕ) (c : Machine) : Type 0 where
   pub state : Config
   pub represents : Represents w c state
   pub more : c .steps < 4294967295

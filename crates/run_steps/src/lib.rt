@@ -14,7 +14,7 @@ ghost use lib.ListN.{length};
 ghost use Rattle.tables.specs.Decode.{allRows, leftAt, rightAt, relOf, byteAt, atomPlace, xAt, yAt, memberAt, firstAtomAt, formulaAt};
 ghost use Rattle.rules.specs.Machine.{took, on, elseStep, setStep, assignStep, ifStep, assertStep, releaseStep};
 ghost use Rattle.rules.specs.Syntax.{var, result-variable};
-ghost use Rattle.run_steps.specs.States.{Ready, NotEnd, AtKind, Does, stepped};
+ghost use Rattle.run_steps.specs.States.{CanStep, NotEnd, AtKind, Does, stepped};
 ghost use Rattle.run_heap.specs.Views.{viewOf};
 ghost use Rattle.run_footprint.specs.Footprints.{takeIn, footprint-cells, TookUpTo};
 
@@ -43,7 +43,7 @@ fn next(c: Machine, row: u32) -> Machine
 
 // What the formula of the row takes.
 fn row_footprint(work: &[u8], c: Machine, cells: &mut Cells) -> Took
-    requires { ⌜ Ready (now work) c × (length (now cells) ≡ footprint-cells) ⌝ }
+    requires { ⌜ CanStep (now work) c × (length (now cells) ≡ footprint-cells) ⌝ }
     ensures { λ r. ⌜ TookUpTo r (now (cells .exit)) footprint-cells (takeIn (now (work .entry)) (viewOf c) (formulaAt (now (work .entry)) (c .row)) []) ⌝ }
 {
     let row = c.row as usize;
@@ -55,7 +55,7 @@ fn row_footprint(work: &[u8], c: Machine, cells: &mut Cells) -> Took
 
 // `assert` and `join`.
 pub fn assert_step(work: &[u8], c: Machine) -> Turn
-    requires { ⌜ Ready (now work) c × NotEnd (now work) c ⌝ }
+    requires { ⌜ CanStep (now work) c × NotEnd (now work) c ⌝ }
     ensures { λ r. ⌜ Does (now (work .entry)) c (now (work .entry)) r (λ m. took (assertStep (formulaAt (now (work .entry)) (c .row)) m)) ⌝ }
 {
     let mut cells = [0usize; run_footprint::CELLS];
@@ -67,7 +67,7 @@ pub fn assert_step(work: &[u8], c: Machine) -> Turn
 
 // `release`.
 pub fn release_step(work: &mut [u8], c: Machine) -> Turn
-    requires { ⌜ Ready (now work) c × NotEnd (now work) c ⌝ }
+    requires { ⌜ CanStep (now work) c × NotEnd (now work) c ⌝ }
     ensures { λ r. ⌜ Does (now (work .entry)) c (now (work .exit)) r (λ m. took (releaseStep (formulaAt (now (work .entry)) (c .row)) m)) ⌝ }
 {
     let mut cells = [0usize; run_footprint::CELLS];
@@ -82,7 +82,7 @@ pub fn release_step(work: &mut [u8], c: Machine) -> Turn
 
 // `if`: "a false `if` goes to the line after its `else`".
 pub fn if_step(work: &[u8], c: Machine) -> Turn
-    requires { ⌜ Ready (now work) c × AtKind (now work) c 15 ⌝ }
+    requires { ⌜ CanStep (now work) c × AtKind (now work) c 15 ⌝ }
     ensures { λ r. ⌜ Does (now (work .entry)) c (now (work .entry)) r (λ m. took (ifStep (allRows (now (work .entry))) (relOf (byteAt (now (work .entry)) (atomPlace (firstAtomAt (now (work .entry)) (c .row))))) (leftAt (now (work .entry)) (firstAtomAt (now (work .entry)) (c .row))) (rightAt (now (work .entry)) (firstAtomAt (now (work .entry)) (c .row))) m)) ⌝ }
 {
     let row = c.row as usize;
@@ -96,7 +96,7 @@ pub fn if_step(work: &[u8], c: Machine) -> Turn
 
 // `else`: "on to its `join`".
 pub fn else_step(work: &[u8], c: Machine) -> Turn
-    requires { ⌜ Ready (now work) c × AtKind (now work) c 16 ⌝ }
+    requires { ⌜ CanStep (now work) c × AtKind (now work) c 16 ⌝ }
     ensures { λ r. ⌜ Does (now (work .entry)) c (now (work .entry)) r (λ m. on (elseStep (allRows (now (work .entry))) m)) ⌝ }
 {
     let row = c.row as usize;
@@ -105,7 +105,7 @@ pub fn else_step(work: &[u8], c: Machine) -> Turn
 
 // `let`.
 pub fn let_step(work: &mut [u8], c: Machine) -> Turn
-    requires { ⌜ Ready (now work) c × AtKind (now work) c 9 ⌝ }
+    requires { ⌜ CanStep (now work) c × AtKind (now work) c 9 ⌝ }
     ensures { λ r. ⌜ Does (now (work .entry)) c (now (work .exit)) r (λ m. took (assignStep (xAt (now (work .entry)) (c .row)) (rightAt (now (work .entry)) (firstAtomAt (now (work .entry)) (c .row))) m)) ⌝ }
 {
     let row = c.row as usize;
@@ -124,7 +124,7 @@ pub fn let_step(work: &mut [u8], c: Machine) -> Turn
 
 // `return`: "does this for `result`; the body goes on".
 pub fn return_step(work: &mut [u8], c: Machine) -> Turn
-    requires { ⌜ Ready (now work) c × AtKind (now work) c 12 ⌝ }
+    requires { ⌜ CanStep (now work) c × AtKind (now work) c 12 ⌝ }
     ensures { λ r. ⌜ Does (now (work .entry)) c (now (work .exit)) r (λ m. took (assignStep result-variable (var (xAt (now (work .entry)) (c .row))) m)) ⌝ }
 {
     let row = c.row as usize;
@@ -138,7 +138,7 @@ pub fn return_step(work: &mut [u8], c: Machine) -> Turn
 
 // `set`: "first tests `acc x f`".
 pub fn set_step(work: &mut [u8], c: Machine) -> Turn
-    requires { ⌜ Ready (now work) c × AtKind (now work) c 8 ⌝ }
+    requires { ⌜ CanStep (now work) c × AtKind (now work) c 8 ⌝ }
     ensures { λ r. ⌜ Does (now (work .entry)) c (now (work .exit)) r (λ m. took (setStep (xAt (now (work .entry)) (c .row)) (memberAt (now (work .entry)) (c .row)) (yAt (now (work .entry)) (c .row)) m)) ⌝ }
 {
     let row = c.row as usize;

@@ -28,7 +28,7 @@ ghost use Rattle.printer.specs.Answers.{out-bytes};
 ghost use Rattle.station.specs.Station.{numbersIn, runNumbers};
 
 // A number of document 01's table, and the line that it goes with.
-pub struct Found {
+pub struct Reply {
     pub number: u32,
     pub line: usize,
 }
@@ -64,7 +64,7 @@ fn checking_number(a: Answer) -> u32
 }
 
 // number × 65,536 + line
-fn pack(f: Found) -> u32
+fn pack(f: Reply) -> u32
     requires { ⌜ (f .number < 65536) × (f .line < 65536) ⌝ }
     ensures { λ r. ⌜ r ≡ packed (f .number) (f .line) ⌝ }
 {
@@ -101,27 +101,27 @@ fn put_results(work: &[u8], results: &mut [u8], steps: u32)
 // CHECK
 
 // Number 10, then the rules, over the tables of a text that is taken; `unframed` is the first line that number 10 refuses, or 0.
-fn check_tables(work: &[u8], unframed: usize) -> Found
+fn check_tables(work: &[u8], unframed: usize) -> Reply
     requires { ⌜ Tables (now work) ⌝ }
     ensures { λ f. ⌜ numbersIn f ≡ verdictNumbers (then (framedVerdict unframed) (λ u. checkProgram (programIn (now (work .entry))))) ⌝ }
 {
     if unframed != 0 {
-        return Found {
+        return Reply {
             number: 10,
             line: unframed,
         };
     }
     let v = checker::check(work);
     match v {
-        Verdict::Accepted => Found { number: 0, line: 0 },
+        Verdict::Accepted => Reply { number: 0, line: 0 },
         Verdict::Refused(why, line) => {
             let number = checking_number(why);
-            Found { number, line }
+            Reply { number, line }
         }
     }
 }
 
-fn check_text(text: &[u8], work: &mut [u8]) -> Found
+fn check_text(text: &[u8], work: &mut [u8]) -> Reply
     requires { ⌜ length (now work) ≡ work-bytes ⌝ }
     ensures { λ f. ⌜ (numbersIn f ≡ checkText (now (text .entry))) × (length (now (work .exit)) ≡ work-bytes) ⌝ }
 {
@@ -129,7 +129,7 @@ fn check_text(text: &[u8], work: &mut [u8]) -> Found
     match r {
         Reading::Refused(why, line) => {
             let number = reading_number(why);
-            Found { number, line }
+            Reply { number, line }
         }
         Reading::Taken(unframed) => check_tables(work, unframed),
     }
@@ -150,7 +150,7 @@ pub extern "C" fn check(text: &[u8], work: &mut [u8]) -> u32
 
 // RUN
 
-fn run_tables(work: &mut [u8], steps: u32, results: &mut [u8]) -> Found
+fn run_tables(work: &mut [u8], steps: u32, results: &mut [u8]) -> Reply
     requires { ⌜ Tables (now work) × (length (now results) ≡ results-bytes) ⌝ }
     ensures { λ f. ⌜ (numbersIn f ≡ runNumbers (outcomeResult (runProgram wholeHeap (programIn (now (work .entry))) steps))) × (now (results .exit) ≡ resultBytes (outcomeResult (runProgram wholeHeap (programIn (now (work .entry))) steps))) × (length (now (work .exit)) ≡ work-bytes) ⌝ }
 {
@@ -159,10 +159,10 @@ fn run_tables(work: &mut [u8], steps: u32, results: &mut [u8]) -> Found
     let ending = r.ending;
     let number = machine::number_of(ending);
     let line = r.line as usize;
-    Found { number, line }
+    Reply { number, line }
 }
 
-fn run_text(text: &[u8], work: &mut [u8], steps: u32, results: &mut [u8]) -> Found
+fn run_text(text: &[u8], work: &mut [u8], steps: u32, results: &mut [u8]) -> Reply
     requires { ⌜ (length (now work) ≡ work-bytes) × (length (now results) ≡ results-bytes) ⌝ }
     ensures { λ f. ⌜ (numbersIn f ≡ runNumbers (runText (now (text .entry)) steps)) × (now (results .exit) ≡ resultBytes (runText (now (text .entry)) steps)) × (length (now (work .exit)) ≡ work-bytes) ⌝ }
 {
@@ -171,7 +171,7 @@ fn run_text(text: &[u8], work: &mut [u8], steps: u32, results: &mut [u8]) -> Fou
         Reading::Refused(why, line) => {
             clear(results);
             let number = reading_number(why);
-            Found { number, line }
+            Reply { number, line }
         }
         Reading::Taken(_) => run_tables(work, steps, results),
     }
