@@ -26,7 +26,7 @@ use Rattle.run_heap.specs.declared.Fault.{Fault}
 use Rattle.run_steps.specs.declared.Turn.{Turn}
 use Rattle.machine.specs.declared.Ending.{Ending}
 use Rattle.machine.specs.declared.Ran.{Ran}
-use Rattle.run_heap.specs.Views.{frameAt, variableAt, cellOf, holderIn, holderOf, fill}
+use Rattle.run_heap.specs.Views.{frameAt, variableAt, cellOf, holderIn, holderOf, fill, frame-holder}
 use Rattle.run_steps.specs.States.{FrameIs, CallersAre, Represents, Goes, Does, CanStep}
 use Rattle.machine.specs.Runs.{endingOf, words, mainValues, RanAs}
 use Rattle.run_heap.proofs.Reading.{cell-null, cell-beyond, cell-placed}
@@ -57,7 +57,7 @@ entry-size = refl
 
 module _ (w : List ℕ) (tables : Tables w) where
   pub begin-tables : SameTables w (fill w frames-at frame-variables 0)
-  begin-tables = only-tables (only-fill frames-at (frames-at + 60) w frames-at frame-variables 0 (omega arith) (omega arith)) (omega arith)
+  begin-tables = only-tables (only-fill frames-at (frames-at + frame-holder) w frames-at frame-variables 0 (omega arith) (omega arith)) (omega arith)
 
   pub begins : Represents (fill w frames-at frame-variables 0) (freshMachine (mainFirst w)) (start (programIn w))
   unfolding start programIn CallersAre fieldsOf holds among any valueOf variableAt
