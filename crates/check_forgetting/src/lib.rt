@@ -19,7 +19,7 @@ ghost use Rattle.check_equality.specs.Keys.{termOf};
 ghost use Rattle.check_equality.specs.Links.{Header, Marked};
 ghost use Rattle.check_state.specs.States.{Wf, Linked, stateOf, entries};
 ghost use Rattle.check_state.specs.Questions.{FirstPlace, places, variableOr};
-ghost use Rattle.check_forgetting.specs.Changes.{Becomes, Fresh, renamedKey, mentionsKey, renamedVariable, Dropped, RenamedKeys, KeepsFact, KeepsEntry, Sized, Unchanged, Rebuilt, RenamedEntries, Packed, Flags, pathOut, pathOutAt, keyOut, Marks, MarksOut, Consumed, withoutPath, leftOver};
+ghost use Rattle.check_forgetting.specs.Changes.{Becomes, Fresh, renamedKey, mentionsKey, renamedVariable, Dropped, RenamedKeys, KeepsFact, KeepsEntry, Sized, Unchanged, Rebuilt, RenamedEntries, Packed, Flags, pathOut, pathOutAt, keyOut, Marks, MarksOut, Remains, withoutPath, leftOver};
 
 // The keys of a state that knows nothing: in the slots before the facts' the variables and null.
 pub fn header() -> [u64; State::SLOTS]
@@ -406,7 +406,7 @@ pub fn remainder(
     out: &[bool; Machine::PERMISSIONS],
 )
     requires { ⌜ Wf (now key) (now b) ⌝ }
-    ensures { λ _. ⌜ ((c : Rules.Shown) → Consumed (now (b .entry)) (now (out .entry)) c → Becomes (Rules.remainder (stateOf (now (key .entry)) (now (b .entry))) c) (now (key .exit)) (now (b .exit))) ⌝ }
+    ensures { λ _. ⌜ Remains (now (key .entry)) (now (b .entry)) (now (out .entry)) (now (key .exit)) (now (b .exit)) ⌝ }
 {
     let m = State::LEFT + 2 * (b[State::FACTS] as usize);
     let mut gone = [false; State::SLOTS];
