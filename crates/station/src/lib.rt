@@ -15,7 +15,7 @@ ghost use Rattle.rules.specs.Answers.{refusalNumber, then};
 ghost use Rattle.rules.specs.Rules.{checkProgram};
 ghost use Rattle.rules.specs.Machine.{runProgram};
 ghost use Rattle.rules.specs.Calls.{verdictNumbers, checkText, wholeHeap, outcomeResult, runText};
-ghost use Rattle.rules.specs.Areas.{packed, cleared, wordsBytes, resultBytes, checkCall, runCall};
+ghost use Rattle.rules.specs.Areas.{packed, cleared, wordsBytes};
 ghost use Rattle.rules.specs.Printed.{printed};
 ghost use Rattle.tables.specs.Decode.{programIn};
 ghost use Rattle.tables.specs.Tables.{Tables};
@@ -25,7 +25,7 @@ ghost use Rattle.checker.specs.Checked as Checker;
 ghost use Rattle.machine.specs.Runs.{mainValues};
 ghost use Rattle.printer.specs.Writes.{Prints};
 ghost use Rattle.printer.specs.Answers.{out-bytes};
-ghost use Rattle.station.specs.Station.{numbersIn, runNumbers};
+ghost use Rattle.station.specs.Station.{numbersIn, RunAs, CheckReturns, RunReturns};
 
 // A number of document 01's table, and the line that it goes with.
 pub struct Reply {
@@ -138,7 +138,7 @@ fn check_text(text: &[u8], work: &mut [u8]) -> Reply
 // Is the text a script that keeps to its permissions? The number and line of document 01's table, as number × 65,536 + line.
 #[no_mangle]
 pub extern "C" fn check(text: &[u8], work: &mut [u8]) -> u32
-    ensures { λ r. ⌜ (r ≡ checkCall (now (text .entry)) (now (work .entry)) .returned) × (now (work .exit) ≡ checkCall (now (text .entry)) (now (work .entry)) .work) ⌝ }
+    ensures { λ r. ⌜ CheckReturns (now (text .entry)) (now (work .entry)) r (now (work .exit)) ⌝ }
 {
     if work.len() != Machine::WORK_BYTES {
         return 65536;
@@ -152,7 +152,7 @@ pub extern "C" fn check(text: &[u8], work: &mut [u8]) -> u32
 
 fn run_tables(work: &mut [u8], steps: u32, results: &mut [u8]) -> Reply
     requires { ⌜ Tables (now work) × (length (now results) ≡ results-bytes) ⌝ }
-    ensures { λ f. ⌜ (numbersIn f ≡ runNumbers (outcomeResult (runProgram wholeHeap (programIn (now (work .entry))) steps))) × (now (results .exit) ≡ resultBytes (outcomeResult (runProgram wholeHeap (programIn (now (work .entry))) steps))) × (length (now (work .exit)) ≡ work-bytes) ⌝ }
+    ensures { λ f. ⌜ RunAs (outcomeResult (runProgram wholeHeap (programIn (now (work .entry))) steps)) f (now (results .exit)) (now (work .exit)) ⌝ }
 {
     let r = machine::run(work, steps, Machine::OBJECTS as u32, Machine::FIELDS as u32);
     put_results(work, results, r.steps);
@@ -164,7 +164,7 @@ fn run_tables(work: &mut [u8], steps: u32, results: &mut [u8]) -> Reply
 
 fn run_text(text: &[u8], work: &mut [u8], steps: u32, results: &mut [u8]) -> Reply
     requires { ⌜ (length (now work) ≡ work-bytes) × (length (now results) ≡ results-bytes) ⌝ }
-    ensures { λ f. ⌜ (numbersIn f ≡ runNumbers (runText (now (text .entry)) steps)) × (now (results .exit) ≡ resultBytes (runText (now (text .entry)) steps)) × (length (now (work .exit)) ≡ work-bytes) ⌝ }
+    ensures { λ f. ⌜ RunAs (runText (now (text .entry)) steps) f (now (results .exit)) (now (work .exit)) ⌝ }
 {
     let r = reader::read(text, work);
     match r {
@@ -180,7 +180,7 @@ fn run_text(text: &[u8], work: &mut [u8], steps: u32, results: &mut [u8]) -> Rep
 // Runs main for at most so many steps: the number and line as for check; the steps taken and main's values in `results`.
 #[no_mangle]
 pub extern "C" fn run(text: &[u8], work: &mut [u8], steps: u32, results: &mut [u8]) -> u32
-    ensures { λ r. ⌜ (r ≡ runCall (now (text .entry)) (now (work .entry)) steps (now (results .entry)) .returned) × (now (work .exit) ≡ runCall (now (text .entry)) (now (work .entry)) steps (now (results .entry)) .work) × (now (results .exit) ≡ runCall (now (text .entry)) (now (work .entry)) steps (now (results .entry)) .results) ⌝ }
+    ensures { λ r. ⌜ RunReturns (now (text .entry)) (now (work .entry)) steps (now (results .entry)) r (now (work .exit)) (now (results .exit)) ⌝ }
 {
     if work.len() != Machine::WORK_BYTES {
         return 65536;
