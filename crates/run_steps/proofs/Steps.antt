@@ -24,7 +24,7 @@ use Rattle.run_heap.specs.declared.Fault.{Fault}
 use Rattle.run_steps.specs.declared.Turn.{Turn}
 use Rattle.run_heap.specs.Views.{frameAt, variableAt, holderOf, spot, readIn, viewOf, stopOf}
 use Rattle.run_footprint.specs.Footprints.{takeIn, marked}
-use Rattle.run_steps.specs.States.{FrameIs, Represents, Follows, stepped}
+use Rattle.run_steps.specs.States.{FrameIs, Represents, Follows, stepped, NotEnd}
 use Rattle.run_steps.proofs.Seeing.{Matches, FormulaOk, locate-at, locate-no, value-is, no-footprint, ok-footprint}
 use Rattle.run_footprint.proofs.Regions.{Only, only-word, only-tables}
 use Rattle.run_steps.proofs.Keeping.{same-frame, ensures-kept, callers-kept}
@@ -61,7 +61,7 @@ module _ {w : List ℕ} {c : Machine} {m : Config} (R : Represents w c m) where
   bound x t = took (t >>= λ v. ok (withFrame m (advance (bind x v (m .frame)))))
 
   bound-on :
-      (x : ℕ) (t : Try Stop ℕ) (v : ℕ) → x < frame-variables → v < 4294967296 → (kindAt w (c .row) ≡ 18 → ⊥) → t ≡ ok v →
+      (x : ℕ) (t : Try Stop ℕ) (v : ℕ) → x < frame-variables → v < 4294967296 → NotEnd w c → t ≡ ok v →
       Follows (putWord w (frameAt (c .frames - 1) + x * 4) v) c (Turn.On (stepped c (c .row + 1))) m (bound x t)
   unfolding _>>=_ withFrame advance bind
   bound-on x u v lx lv n r =
@@ -79,7 +79,7 @@ module _ {w : List ℕ} {c : Machine} {m : Config} (R : Represents w c m) where
 
   -- `let` AND `return`
   pub assign-on :
-      (x : ℕ) (e : Expr ℕ) (v : ℕ) → x < frame-variables → v < 4294967296 → SideFits e → (kindAt w (c .row) ≡ 18 → ⊥) →
+      (x : ℕ) (e : Expr ℕ) (v : ℕ) → x < frame-variables → v < 4294967296 → SideFits e → NotEnd w c →
       readIn w (viewOf c) e ≡ ok v →
       Follows (putWord w (frameAt (c .frames - 1) + x * 4) v) c (Turn.On (stepped c (c .row + 1))) m (took (assignStep x e m))
   unfolding assignStep
@@ -102,7 +102,7 @@ module _ {w : List ℕ} {c : Machine} {m : Config} (R : Represents w c m) where
     computed-is = ap₂ (computed o) (variable-is y ly) (variable-is z lz)
 
     pub compute-on :
-        (v : ℕ) → x < frame-variables → v < 4294967296 → (kindAt w (c .row) ≡ 18 → ⊥) →
+        (v : ℕ) → x < frame-variables → v < 4294967296 → NotEnd w c →
         computed o (variableAt w (viewOf c .base) y) (variableAt w (viewOf c .base) z) ≡ ok v →
         Follows (putWord w (frameAt (c .frames - 1) + x * 4) v) c (Turn.On (stepped c (c .row + 1))) m (took (computeStep o x y z m))
     unfolding computeStep
@@ -116,7 +116,7 @@ module _ {w : List ℕ} {c : Machine} {m : Config} (R : Represents w c m) where
 
   -- `set`
   pub set-on :
-      (x f y k v : ℕ) → x < frame-variables → y < frame-variables → v < 4294967296 → (kindAt w (c .row) ≡ 18 → ⊥) →
+      (x f y k v : ℕ) → x < frame-variables → y < frame-variables → v < 4294967296 → NotEnd w c →
       v ≡ variableAt w (frameAt (c .frames - 1)) y → spot w (viewOf c) x f ≡ ok k → k < heap-fields →
       Follows (putWord w (values-at + k * 4) v) c (Turn.On (stepped c (c .row + 1))) m (took (setStep x f y m))
   unfolding setStep stored _>>=_ withFrame advance
@@ -177,7 +177,7 @@ module _ {w : List ℕ} {c : Machine} {m : Config} (R : Represents w c m) where
           go false = R .frame .held p
 
   pub release-on :
-      (φ : Formula ℕ) (ks : List ℕ) → FormulaOk φ → (kindAt w (c .row) ≡ 18 → ⊥) → takeIn w (viewOf c) φ [] ≡ ok ks →
+      (φ : Formula ℕ) (ks : List ℕ) → FormulaOk φ → NotEnd w c → takeIn w (viewOf c) φ [] ≡ ok ks →
       Follows (marked w ks 0) c (Turn.On (stepped c (c .row + 1))) m (took (releaseStep φ m))
   unfolding releaseStep _>>=_ withFrame advance holding
   release-on φ ks l n e =
