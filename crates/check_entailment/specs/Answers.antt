@@ -14,7 +14,7 @@ use Rattle.rules.specs.State.{equalIn, showFrom}
 use Rattle.check_equality.specs.Keys.{meaning}
 use Rattle.check_equality.specs.Links.{relOf}
 use Rattle.check_state.specs.States.{Wf, stateOf}
-use Rattle.check_forgetting.specs.Changes.{Taken}
+use Rattle.check_forgetting.specs.Changes.{Consumed}
 use Rattle.check_entailment.specs.declared.Answer.{Answer}
 use Rattle.check_entailment.specs.declared.Atom.{Atom}
 
@@ -41,9 +41,9 @@ pub record Adds (t : Try Refusal Rules.State) (answer : Answer) (key b : List �
 pub record ShowsAtom (key b : List ℕ) (out : List Bool) (a : Syntax.Atom ℕ) (answer : Answer) (out′ : List Bool) : Type 0 where
   pub size : length out′ ≡ most-permissions
   pub after : Rules.Shown → Rules.Shown
-  pub taken : (c : Rules.Shown) → Taken b out c → Taken b out′ (after c)
+  pub taken : (c : Rules.Shown) → Consumed b out c → Consumed b out′ (after c)
   pub shows :
-      (c : Rules.Shown) (φ : Formula ℕ) → Taken b out c →
+      (c : Rules.Shown) (φ : Formula ℕ) → Consumed b out c →
       showFrom (equalIn (stateOf key b)) (stateOf key b) (a ∷ φ) c ≡ (answered answer (after c) >>= λ d. showFrom (equalIn (stateOf key b)) (stateOf key b) φ d)
 
 -- an `eq` or a `ne`, whatever follows

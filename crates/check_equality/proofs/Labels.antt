@@ -15,7 +15,7 @@ use Rattle.rules.proofs.Closure.{Listed, Equivalence, linked-least, here, there
 use Rattle.rules.proofs.Lists.{decide-eq, T-true, F-false}
 use Rattle.check_equality.specs.Layout.{slots, mark-count}
 use Rattle.check_equality.specs.Keys.{termOf}
-use Rattle.check_equality.specs.Links.{termAt, Header, Found, Missing, Labelled, Alike, Together, Decides, Merged, Joined, LinkedUnless, Slotted, Pushed, Marked, placeOf, picked, relOf, factOf, alikeBy, left-new, right-new, both-known}
+use Rattle.check_equality.specs.Links.{termAt, Header, HasLabel, Missing, Labelled, Alike, Together, Decides, Merged, Joined, LinkedUnless, Slotted, Pushed, Marked, placeOf, picked, relOf, factOf, alikeBy, left-new, right-new, both-known}
 use Rattle.check_equality.proofs.Keys.{one-key}
 
 pub not-in-header : (key : List ℕ) (k : ℕ) → Header key → 15 ≤ k → (k ≡ 256 → ⊥) → (i : ℕ) → i < 16 → getD key i 0 ≡ k → ⊥
@@ -52,7 +52,7 @@ grows fs f t u e =
 
 -- ONE MORE SLOT
 pub data Choice (key label : List ℕ) (m k l : ℕ) : Type 0 where
-  known : Found key label m k l → Choice key label m k l
+  known : HasLabel key label m k l → Choice key label m k l
   fresh : ((i : ℕ) → i < m → getD key i 0 ≡ k → ⊥) → l ≡ m → Choice key label m k l
 
 module _ {fs : List Fact} {key label : List ℕ} {m : ℕ} (D : Decides fs key label m) where
@@ -91,7 +91,7 @@ module _ {fs : List Fact} {key label : List ℕ} {m : ℕ} (D : Decides fs key l
       key-is : getD (set key m k) i 0 ≡ getD key for 0
       label-is : getD (set label m l) i 0 ≡ getD label for 0
 
-    stands : Found key label m k l → (i : ℕ) → i < m + 1 → Stands i
+    stands : HasLabel key label m k l → (i : ℕ) → i < m + 1 → Stands i
     stands w i h = ⊎-elim at-end before (decide-eq i m)
       where
         at-end : i ≡ m → Stands i
@@ -100,7 +100,7 @@ module _ {fs : List Fact} {key label : List ℕ} {m : ℕ} (D : Decides fs key l
         before : (i ≡ m → ⊥) → Stands i
         before n = let g : i < m = omega arith in record { for = i; within = g; key-is = old-key i g; label-is = old-label i g }
 
-    known-slot : Found key label m k l → Decides fs (set key m k) (set label m l) (m + 1)
+    known-slot : HasLabel key label m k l → Decides fs (set key m k) (set label m l) (m + 1)
     known-slot w =
         record {
           low = λ i h. let s = stands w i h in omega (arith, s .label-is, D .low (s .for) (s .within));

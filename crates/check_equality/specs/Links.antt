@@ -25,7 +25,7 @@ pub record Header (key : List ℕ) : Type 0 where
 abbrev pub no-label : ℕ
 no-label = 255
 
-pub record Found (key label : List ℕ) (m k r : ℕ) : Type 0 where
+pub record HasLabel (key label : List ℕ) (m k r : ℕ) : Type 0 where
   pub place : ℕ
   pub within : place < m
   pub is : getD key place 0 ≡ k
@@ -36,7 +36,7 @@ pub record Missing (key : List ℕ) (m k r : ℕ) : Type 0 where
   pub shown : r ≡ no-label
 
 abbrev pub Labelled : List ℕ → List ℕ → ℕ → ℕ → ℕ → Type 0
-Labelled key label m k r = Found key label m k r ⊎ Missing key m k r
+Labelled key label m k r = HasLabel key label m k r ⊎ Missing key m k r
 
 -- the facts link two terms
 abbrev pub Alike : List Fact → Term → Term → Type 0

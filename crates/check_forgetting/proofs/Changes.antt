@@ -20,7 +20,7 @@ use Rattle.check_equality.proofs.Keys.{same-key}
 use Rattle.check_equality.proofs.Listing.{listed-same, or-false}
 use Rattle.check_equality.specs.Layout.{slots, left-sides, variables-at, fields-at, fact-count, entry-count}
 use Rattle.check_state.specs.States.{Wf, stateOf, facts, entries, factsOf, variableAt, fieldAt, permissionAt, permissionsIn, permissionsOf}
-use Rattle.check_forgetting.specs.Changes.{Becomes, Taken, Dropped, RenamedKeys, Rebuilt, RenamedEntries, Packed, Flags, renamedVariable, mentionsKey, pathOut, keyOut, withoutPath, kept, gone}
+use Rattle.check_forgetting.specs.Changes.{Becomes, Dropped, RenamedKeys, Rebuilt, RenamedEntries, Packed, Flags, renamedVariable, mentionsKey, pathOut, keyOut, withoutPath, kept, gone, Remains}
 use Rattle.check_forgetting.proofs.Renaming.{gone-term}
 use Rattle.check_forgetting.proofs.Keeping.{kept-same, kept-all, kept-map, gone-any, entries-same, kinds-same, same-linked, same-facts}
 use Rattle.check_forgetting.proofs.Forgetting.{dropped-stands, renamed-stands}
@@ -89,7 +89,7 @@ module _ (b : List ℕ) (out : List Bool) (ps : List Permission) (used : (q : Pe
 
 pub remainder-law :
     (key b key₁ b₁ b₂ : List ℕ) (dead out : List Bool) (changed : Bool) → Wf key b → Dropped (keyOut b out) key (left-sides + 2 * facts b) dead changed →
-    Rebuilt key b dead key₁ b₁ → Packed b₁ out b₂ → (c : Rules.Shown) → Taken b out c → Becomes (Rules.remainder (stateOf key b) c) key₁ b₂
+    Rebuilt key b dead key₁ b₁ → Packed b₁ out b₂ → Remains key b out key₁ b₂
 unfolding Rules.remainder Rules.dropPaths
 remainder-law key b key₁ b₁ b₂ dead out changed w D R P c T =
     record {

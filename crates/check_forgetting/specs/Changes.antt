@@ -47,9 +47,13 @@ pub record Flags (test : ℕ → Bool) (n : ℕ) (r : List Bool) : Type 0 where
 
 -- WHAT A FORMULA CONSUMES
 -- the entries that are out are those consumed
-pub record Taken (b : List ℕ) (out : List Bool) (c : Rules.Shown) : Type 0 where
+pub record Consumed (b : List ℕ) (out : List Bool) (c : Rules.Shown) : Type 0 where
   pub rest : c .kept ≡ kept out (permissionAt b) (entries b)
   pub used : (q : Permission → Bool) → any q (c .consumed) ≡ any q (gone out (permissionAt b) (entries b))
+
+-- .. and the arrays then hold what remains of the state without them
+abbrev pub Remains : List ℕ → List ℕ → List Bool → List ℕ → List ℕ → Type 0
+Remains key b out key′ b′ = (c : Rules.Shown) → Consumed b out c → Becomes (Rules.remainder (stateOf key b) c) key′ b′
 
 -- CHANGES
 -- the labels of the slots before the facts' are their own numbers

@@ -12,7 +12,7 @@ use Rattle.rules.specs.Rules.{actual, substAtom}
 use Rattle.tables.specs.Decode.{byteAt, atomPlace, atomsFrom}
 use Rattle.check_entailment.specs.declared.Answer.{Answer}
 use Rattle.check_state.specs.States.{stateOf}
-use Rattle.check_forgetting.specs.Changes.{Taken}
+use Rattle.check_forgetting.specs.Changes.{Consumed}
 use Rattle.check_entailment.specs.Answers.{answered}
 
 -- n atoms from the atom a on, with y, z and x for `this`, w and `result`
@@ -23,14 +23,14 @@ formula w y z x a n = map (substAtom (actual y z x)) (atomsFrom w a n)
 pub record Shows (key b : List ℕ) (φ : Formula ℕ) (answer : Answer) (out : List Bool) : Type 0 where
   pub size : length out ≡ most-permissions
   pub shown : Rules.Shown
-  pub taken : Taken b out shown
+  pub taken : Consumed b out shown
   pub same : answered answer shown ≡ Rules.show (stateOf key b) φ
 
 -- what is left to show
 pub record Showing (key b : List ℕ) (φ rest : Formula ℕ) (out : List Bool) : Type 0 where
   pub size : length out ≡ most-permissions
   pub shown : Rules.Shown
-  pub taken : Taken b out shown
+  pub taken : Consumed b out shown
   pub same : showFrom (equalIn (stateOf key b)) (stateOf key b) rest shown ≡ Rules.show (stateOf key b) φ
 
 unfoldable pub accessAt : List ℕ → ℕ → ℕ → ℕ → ℕ → Atom ℕ

@@ -1,4 +1,5 @@
 -- The ways of showing an inequality, as tests of labels, keys and entries.
+use mathlib.Core.Path.{_≡_}
 use mathlib.Core.Bool.{Bool, not, _&&_, _||_}
 use mathlib.Core.List.{List}
 use Prim.Native.Nat.{ℕ, _+_, _*_}
@@ -6,11 +7,11 @@ use lib.Dec.{eqb, leb}
 use lib.ListN.{getD}
 use Rattle.rules.specs.Base.{any}
 use Rattle.rules.specs.Syntax.{var}
-use Rattle.rules.specs.State.{Equality, Permission, links}
+use Rattle.rules.specs.State.{Equality, Permission, links, equalBy, representative, differentNumbers}
 use Rattle.check_equality.specs.Layout.{left-sides, right-sides, relations-at}
 use Rattle.check_equality.specs.Keys.{termOf, first-number}
-use Rattle.check_equality.specs.Links.{alikeBy}
-use Rattle.check_state.specs.States.{permissionAt}
+use Rattle.check_equality.specs.Links.{alikeBy, Labelled, Decides}
+use Rattle.check_state.specs.States.{permissionAt, factsIn, variableAt}
 use Rattle.check_state.specs.Questions.{places}
 
 -- labels x and y agree with a and b, either way round
@@ -39,6 +40,16 @@ otherIn key label l b j i = otherLike j l b (getD key (14 + i) 0) (getD label (1
 unfoldable pub otherNumber : List ℕ → List ℕ → ℕ → ℕ → ℕ → ℕ → Bool
 otherNumber key label n l b j = any (otherIn key label l b j) (places n)
 
+-- the label of a term's slot among those of n facts
+abbrev pub FactLabel : List ℕ → List ℕ → ℕ → ℕ → ℕ → Type 0
+FactLabel key label n t a = Labelled key label (left-sides + 2 * n) t a
+
+-- (b) for the terms of t and u, where labels decide ~ among n facts
+abbrev pub NumbersTold : List ℕ → List ℕ → ℕ → ℕ → ℕ → Bool → Type 0
+NumbersTold key label n t u r =
+    Decides (factsIn key label n) key label (left-sides + 2 * n) →
+    r ≡ differentNumbers (equalBy (representative (factsIn key label n))) (factsIn key label n) (termOf t) (termOf u)
+
 unfoldable pub twoNumbers : List ℕ → List ℕ → ℕ → ℕ → ℕ → ℕ → ℕ → ℕ → Bool
 twoNumbers key label n t a u b i =
     numberLike (getD key (14 + i) 0) (getD label (14 + i) 0) t a && otherNumber key label n u b (getD key (14 + i) 0)
@@ -50,3 +61,8 @@ pairTest _~_ t u p q =
 
 abbrev pub pairAt : Equality → ℕ → ℕ → List ℕ → ℕ → ℕ → Bool
 pairAt _~_ t u b j i = pairTest _~_ t u (permissionAt b j) (permissionAt b i)
+
+-- .. where p and q say whether the variable of i is ~ t and ~ u
+abbrev pub PairTold : List ℕ → ℕ → ℕ → ℕ → ℕ → Bool → Bool → Bool → Equality → Type 0
+PairTold b t u j i p q r same =
+    p ≡ same (var (variableAt b i)) (termOf t) → q ≡ same (var (variableAt b i)) (termOf u) → r ≡ pairAt same t u b j i

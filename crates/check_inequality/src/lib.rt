@@ -8,13 +8,13 @@ ghost use Rattle.rules.specs.Base.{any};
 ghost use Rattle.rules.specs.Limits.{most-permissions, most-facts};
 ghost use Rattle.rules.specs.Syntax as Syntax;
 ghost use Rattle.rules.specs.Syntax.{var};
-ghost use Rattle.rules.specs.State.{nullAndObject, twoEntries, differentNumbers, equalBy, equalIn, representative, holdsIn};
-ghost use Rattle.check_equality.specs.Layout.{slots, bytes, left-sides};
+ghost use Rattle.rules.specs.State.{nullAndObject, twoEntries, equalIn, holdsIn};
+ghost use Rattle.check_equality.specs.Layout.{slots, bytes};
 ghost use Rattle.check_equality.specs.Keys.{termOf, first-number};
-ghost use Rattle.check_equality.specs.Links.{Labelled, Decides, relOf};
-ghost use Rattle.check_state.specs.States.{Wf, stateOf, factsIn, permissionsIn, variableAt};
+ghost use Rattle.check_equality.specs.Links.{Labelled, relOf};
+ghost use Rattle.check_state.specs.States.{Wf, stateOf, permissionsIn};
 ghost use Rattle.check_state.specs.Questions.{Slots, Told, places};
-ghost use Rattle.check_inequality.specs.Ways.{eitherWay, unequalAt, unequalIn, numberLike, otherLike, otherNumber, twoNumbers, pairAt};
+ghost use Rattle.check_inequality.specs.Ways.{eitherWay, unequalAt, unequalIn, numberLike, otherLike, otherNumber, twoNumbers, FactLabel, NumbersTold, PairTold};
 
 fn either_way(x: u8, y: u8, a: u8, b: u8) -> bool
     ensures { λ r. ⌜ r ≡ eitherWay x y a b ⌝ }
@@ -148,8 +148,8 @@ fn numbers_apart<'a>(
     u: u64,
     b: u8,
 ) -> bool
-    requires { ⌜ (n ≤ most-facts) × (length (now key) ≡ slots) × (length (now label) ≡ bytes) × Labelled (now key) (now label) (left-sides + 2 * n) t a × Labelled (now key) (now label) (left-sides + 2 * n) u b ⌝ }
-    ensures { λ r. ⌜ (Decides (factsIn (now (key .entry)) (now (label .entry)) n) (now (key .entry)) (now (label .entry)) (left-sides + 2 * n) → r ≡ differentNumbers (equalBy (representative (factsIn (now (key .entry)) (now (label .entry)) n))) (factsIn (now (key .entry)) (now (label .entry)) n) (termOf t) (termOf u)) ⌝ }
+    requires { ⌜ (n ≤ most-facts) × (length (now key) ≡ slots) × (length (now label) ≡ bytes) × FactLabel (now key) (now label) n t a × FactLabel (now key) (now label) n u b ⌝ }
+    ensures { λ r. ⌜ NumbersTold (now (key .entry)) (now (label .entry)) n t u r ⌝ }
 {
     let mut k = *key;
     k[State::TERMS] = t;
@@ -217,7 +217,7 @@ fn pair<'a>(
     q: bool,
 ) -> bool
     requires { ⌜ Slots (now key) (now b) m × Labelled (now key) (now b) m t x × Labelled (now key) (now b) m u y × (j < most-permissions) × (i < most-permissions) ⌝ }
-    ensures { λ r. ⌜ Told (now (key .entry)) (now (b .entry)) m (λ same. p ≡ same (var (variableAt (now (b .entry)) i)) (termOf t) → q ≡ same (var (variableAt (now (b .entry)) i)) (termOf u) → r ≡ pairAt same t u (now (b .entry)) j i) ⌝ }
+    ensures { λ r. ⌜ Told (now (key .entry)) (now (b .entry)) m (PairTold (now (b .entry)) t u j i p q r) ⌝ }
 {
     if b[State::FIELDS + j] != b[State::FIELDS + i] {
         return false;

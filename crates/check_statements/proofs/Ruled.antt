@@ -27,7 +27,7 @@ use Rattle.check_state.specs.declared.Resolved.{Resolved}
 use Rattle.check_entailment.proofs.Answer.{the-type}
 use Rattle.check_state.specs.States.{Wf, stateOf, entries, variableAt, fieldAt, permissionAt, permissionsOf}
 use Rattle.check_state.specs.Questions.{FirstPlace, entryTest, passes}
-use Rattle.check_forgetting.specs.Changes.{kept, leftOver, Becomes, withoutPath, Taken}
+use Rattle.check_forgetting.specs.Changes.{kept, leftOver, Becomes, withoutPath, Remains}
 use Rattle.check_entailment.specs.Answers.{answered, Adds}
 use Rattle.check_state.proofs.Entries.{no-flags}
 use Rattle.check_forgetting.proofs.Keeping.{kept-all}
@@ -219,7 +219,7 @@ assert-law key b φ k out S = sym (ap (λ (t : Try Refusal Rules.Shown). t >>= �
 
 pub release-law :
     (key b key′ b′ : List ℕ) (φ : Formula ℕ) (k : Answer) (out : List Bool) → Shows key b φ k out →
-    ((c : Rules.Shown) → Taken b out c → Becomes (Rules.remainder (stateOf key b) c) key′ b′) → Adds (releaseRule φ (stateOf key b)) k key′ b′
+    Remains key b out key′ b′ → Adds (releaseRule φ (stateOf key b)) k key′ b′
 unfolding releaseRule
 release-law key b key′ b′ φ k out S R =
     let B = R (S .shown) (S .taken) in
@@ -235,7 +235,7 @@ module _ (w : List ℕ) (x y m z : ℕ) (key b : List ℕ) (a n c o : ℕ) (ea :
   call-refused W r = record { wf = W; same = sym (shown-first ∙ not-done k r _ _ (stateOf key b)) }
 
   pub call-done :
-      k ≡ Answer.Done → (key₁ b₁ key₂ b₂ : List ℕ) → ((c : Rules.Shown) → Taken b out c → Becomes (Rules.remainder (stateOf key b) c) key₁ b₁) →
+      k ≡ Answer.Done → (key₁ b₁ key₂ b₂ : List ℕ) → Remains key b out key₁ b₁ →
       Becomes (Rules.remove x (stateOf key₁ b₁)) key₂ b₂ → (r : Answer) (key₃ b₃ : List ℕ) → Adds (Rules.add (formula w y z x c o) (stateOf key₂ b₂)) r key₃ b₃ →
       Adds (callShown x y (methodAt w m) z (stateOf key b)) r key₃ b₃
   call-done e key₁ b₁ key₂ b₂ R Q r key₃ b₃ A =

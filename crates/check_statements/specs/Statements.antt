@@ -8,17 +8,21 @@ use lib.Dec.{eqb}
 use Rattle.rules.specs.Base.{Try, ok, _>>=_}
 use Rattle.rules.specs.Answers.{Refusal}
 use Rattle.rules.specs.Syntax.{Formula, Rel, Method, same, num, null, var}
-use Rattle.rules.specs.Rules.{addEqual, actual, substAtom, opposite}
+use Rattle.rules.specs.Rules.{addEqual, actual, substAtom, opposite, joinRule}
 use Rattle.rules.specs.State as Rules
 use Rattle.check_entailment.specs.declared.Answer.{Answer}
 use Rattle.check_state.specs.States.{Wf, stateOf}
-use Rattle.check_entailment.specs.Answers.{answered}
+use Rattle.check_entailment.specs.Answers.{answered, Adds}
 
 -- the arrays then hold the states of two branches, or an answer says why there are none
 pub record Parts (t : Try Refusal (Rules.State × Rules.State)) (answer : Answer) (key b key2 b2 : List ℕ) : Type 0 where
   pub first : Wf key b
   pub second : Wf key2 b2
   pub same : answered answer (stateOf key b, stateOf key2 b2) ≡ t
+
+-- `join` of the states that two pairs of arrays hold, the ends of the two parts
+abbrev pub JoinGives : Formula ℕ → List ℕ → List ℕ → List ℕ → List ℕ → Answer → List ℕ → List ℕ → Type 0
+JoinGives φ key b key2 b2 answer key′ b′ = Adds (joinRule φ (stateOf key b) (stateOf key2 b2)) answer key′ b′
 
 -- `let x e`, where e resolves to r
 unfoldable pub assignTerm : ℕ → Rules.Term → Rules.State → Try Refusal Rules.State

@@ -8,7 +8,7 @@ ghost use mathlib.Core.Path.{_≡_};
 ghost use Prim.Native.Nat.{_+_, _≤_, _<_};
 ghost use lib.ListN.{length};
 ghost use Rattle.rules.specs.Limits.{work-bytes, most-classes, most-fields};
-ghost use Rattle.rules.specs.Rules.{setRule, addEqual, assignRule, newRule, addFields, addInitial, callRule, ifRule, joinRule};
+ghost use Rattle.rules.specs.Rules.{setRule, addEqual, assignRule, newRule, addFields, addInitial, callRule, ifRule};
 ghost use Rattle.tables.specs.Layout.{most-atom-rows};
 ghost use Rattle.tables.specs.Decode.{fieldCountAt, fieldsFrom, classAt, methodAt, methodCount, atomsFrom};
 ghost use Rattle.tables.specs.Tables.{Tables};
@@ -17,7 +17,7 @@ ghost use Rattle.check_equality.specs.Links.{relOf};
 ghost use Rattle.check_state.specs.States.{Wf, stateOf};
 ghost use Rattle.check_forgetting.specs.Changes.{leftOver};
 ghost use Rattle.check_entailment.specs.Answers.{Adds};
-ghost use Rattle.check_statements.specs.Statements.{Parts, assignTerm, callShown, partRule, initialOf, Asserts, releaseRule};
+ghost use Rattle.check_statements.specs.Statements.{Parts, assignTerm, callShown, partRule, initialOf, Asserts, releaseRule, JoinGives};
 
 // `set x f y`: the facts that name the path that shows `acc x f` go, and the path is y.
 pub fn set_rule(
@@ -319,7 +319,7 @@ pub fn join_rule<'a>(
     b2: &'a [u8; State::BYTES],
 ) -> Answer
     requires { ⌜ (length (now w) ≡ work-bytes) × (a + n ≤ most-atom-rows) × Wf (now key) (now b) × Wf (now key2) (now b2) ⌝ }
-    ensures { λ r. ⌜ Adds (joinRule (atomsFrom (now (w .entry)) a n) (stateOf (now (key .entry)) (now (b .entry))) (stateOf (now (key2 .entry)) (now (b2 .entry)))) r (now (key .exit)) (now (b .exit)) ⌝ }
+    ensures { λ r. ⌜ JoinGives (atomsFrom (now (w .entry)) a n) (now (key .entry)) (now (b .entry)) (now (key2 .entry)) (now (b2 .entry)) r (now (key .exit)) (now (b .exit)) ⌝ }
 {
     let k = assert_rule(w, key, b, a, n);
     let Answer::Done = k else {

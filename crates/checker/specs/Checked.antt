@@ -9,10 +9,11 @@ use Rattle.rules.specs.Limits.{most-branches}
 use Rattle.rules.specs.Grammar.{isClosingNumber}
 use Rattle.rules.specs.Answers as Answers
 use Rattle.rules.specs.Answers.{Refusal, accepted, refused, unresolved, noPermission, notShown, stateFull, malformed}
-use Rattle.rules.specs.Syntax.{Formula, Simple, simple}
+use Rattle.rules.specs.Base.{Try}
+use Rattle.rules.specs.Syntax.{Formula, Simple, simple, set, assign, new, call}
 use Rattle.rules.specs.State as Rules
-use Rattle.rules.specs.Rules.{Open, inFirst, inSecond, rule, checkRows}
-use Rattle.tables.specs.Decode.{kindAt, lineAt, stmtAt, rowCount, allRows, programIn}
+use Rattle.rules.specs.Rules.{Open, inFirst, inSecond, rule, ifRule, checkRows}
+use Rattle.tables.specs.Decode.{kindAt, xAt, yAt, zAt, memberAt, firstAtomAt, lineAt, stmtAt, rowCount, allRows, programIn, atomPlace, byteAt, relOf, leftAt, rightAt}
 use Rattle.tables.specs.Tables.{nested}
 use Rattle.check_entailment.specs.declared.Answer.{Answer}
 use Rattle.check_state.specs.States.{Wf, stateOf}
@@ -42,6 +43,43 @@ outcome Answer.NoPermission l v = refused noPermission l
 outcome Answer.NotShown l v = refused notShown l
 outcome Answer.Full l v = refused stateFull l
 outcome Answer.Malformed l v = refused malformed l
+
+-- ROWS
+
+-- the kind of a row, by its number in the tables
+abbrev pub IsLet : List ℕ → ℕ → Type 0
+IsLet w i = kindAt w i ≡ 9
+
+abbrev pub IsNew : List ℕ → ℕ → Type 0
+IsNew w i = kindAt w i ≡ 10
+
+abbrev pub IsCall : List ℕ → ℕ → Type 0
+IsCall w i = kindAt w i ≡ 11
+
+abbrev pub IsIf : List ℕ → ℕ → Type 0
+IsIf w i = kindAt w i ≡ 15
+
+-- the statement of a row, by its operands
+abbrev pub setAt : List ℕ → ℕ → Simple
+setAt w i = set (xAt w i) (memberAt w i) (yAt w i)
+
+abbrev pub letAt : List ℕ → ℕ → Simple
+letAt w i = assign (xAt w i) (rightAt w (firstAtomAt w i))
+
+abbrev pub newAt : List ℕ → ℕ → Simple
+newAt w i = new (xAt w i) (memberAt w i)
+
+abbrev pub callAt : List ℕ → ℕ → Simple
+callAt w i = call (xAt w i) (yAt w i) (memberAt w i) (zAt w i)
+
+-- its rule, from the state that key and b hold
+abbrev pub RuleGives : List ℕ → Simple → List ℕ → List ℕ → Answer → List ℕ → List ℕ → Type 0
+RuleGives w s key b answer key′ b′ = Adds (rule (programIn w) s (stateOf key b)) answer key′ b′
+
+-- the two states after an `if`, whose condition is its first atom
+abbrev pub branches : List ℕ → ℕ → Rules.State → Try Refusal (Rules.State × Rules.State)
+branches w i s =
+    ifRule (relOf (byteAt w (atomPlace (firstAtomAt w i)))) (leftAt w (firstAtomAt w i)) (rightAt w (firstAtomAt w i)) s
 
 -- a statement that goes on to the next line
 pub record Stepped (w : List ℕ) (i : ℕ) (s : Rules.State) (answer : Answer) (key b : List ℕ) : Type 0 where

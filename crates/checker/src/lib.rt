@@ -13,13 +13,12 @@ ghost use Rattle.rules.specs.Grammar.{GoesOn};
 ghost use Rattle.rules.specs.Answers as Answers;
 ghost use Rattle.rules.specs.Syntax as Syntax;
 ghost use Rattle.tables.specs.Layout.{most-atom-rows};
-ghost use Rattle.rules.specs.Rules.{rule, ifRule, joinRule, checkProgram, checkMethod};
-ghost use Rattle.tables.specs.Decode.{kindAt, xAt, yAt, zAt, memberAt, firstAtomAt, rowCount, methodCount, relOf, leftAt, rightAt, byteAt, atomPlace, formulaAt, atomsFrom, methodAt, programIn};
+ghost use Rattle.rules.specs.Rules.{checkProgram, checkMethod};
+ghost use Rattle.tables.specs.Decode.{kindAt, xAt, rowCount, methodCount, formulaAt, atomsFrom, methodAt, programIn};
 ghost use Rattle.tables.specs.Tables.{Tables};
 ghost use Rattle.check_state.specs.States.{Wf, stateOf};
-ghost use Rattle.check_entailment.specs.Answers.{Adds};
-ghost use Rattle.check_statements.specs.Statements.{Parts};
-ghost use Rattle.checker.specs.Checked.{Stepped, Nests, Ran, Ended, Turned, Joined, outcome, verdictFrom, verdictOf};
+ghost use Rattle.check_statements.specs.Statements.{Parts, JoinGives};
+ghost use Rattle.checker.specs.Checked.{IsLet, IsNew, IsCall, IsIf, setAt, letAt, newAt, callAt, RuleGives, branches, Stepped, Nests, Ran, Ended, Turned, Joined, outcome, verdictFrom, verdictOf};
 
 // How far a block was checked, or why no further.
 pub struct Out {
@@ -35,7 +34,7 @@ pub enum Verdict {
 // `set x f y`
 fn set_at(w: &[u8], i: usize, key: &mut [u64; State::SLOTS], b: &mut [u8; State::BYTES]) -> Answer
     requires { ⌜ Tables (now w) × (i < rowCount (now w)) × Wf (now key) (now b) ⌝ }
-    ensures { λ r. ⌜ Adds (rule (programIn (now (w .entry))) (Syntax.set (xAt (now (w .entry)) i) (memberAt (now (w .entry)) i) (yAt (now (w .entry)) i)) (stateOf (now (key .entry)) (now (b .entry)))) r (now (key .exit)) (now (b .exit)) ⌝ }
+    ensures { λ r. ⌜ RuleGives (now (w .entry)) (setAt (now (w .entry)) i) (now (key .entry)) (now (b .entry)) r (now (key .exit)) (now (b .exit)) ⌝ }
 {
     let x = tables::x_at(w, i) as u8;
     let f = tables::member_at(w, i) as u8;
@@ -45,8 +44,8 @@ fn set_at(w: &[u8], i: usize, key: &mut [u64; State::SLOTS], b: &mut [u8; State:
 
 // `let x e`
 fn let_at(w: &[u8], i: usize, key: &mut [u64; State::SLOTS], b: &mut [u8; State::BYTES]) -> Answer
-    requires { ⌜ Tables (now w) × (i < rowCount (now w)) × (kindAt (now w) i ≡ 9) × Wf (now key) (now b) ⌝ }
-    ensures { λ r. ⌜ Adds (rule (programIn (now (w .entry))) (Syntax.assign (xAt (now (w .entry)) i) (rightAt (now (w .entry)) (firstAtomAt (now (w .entry)) i))) (stateOf (now (key .entry)) (now (b .entry)))) r (now (key .exit)) (now (b .exit)) ⌝ }
+    requires { ⌜ Tables (now w) × (i < rowCount (now w)) × IsLet (now w) i × Wf (now key) (now b) ⌝ }
+    ensures { λ r. ⌜ RuleGives (now (w .entry)) (letAt (now (w .entry)) i) (now (key .entry)) (now (b .entry)) r (now (key .exit)) (now (b .exit)) ⌝ }
 {
     let x = tables::x_at(w, i) as u8;
     let a = tables::first_atom_at(w, i);
@@ -60,8 +59,8 @@ fn let_at(w: &[u8], i: usize, key: &mut [u64; State::SLOTS], b: &mut [u8; State:
 
 // `new x C`
 fn new_at(w: &[u8], i: usize, key: &mut [u64; State::SLOTS], b: &mut [u8; State::BYTES]) -> Answer
-    requires { ⌜ Tables (now w) × (i < rowCount (now w)) × (kindAt (now w) i ≡ 10) × Wf (now key) (now b) ⌝ }
-    ensures { λ r. ⌜ Adds (rule (programIn (now (w .entry))) (Syntax.new (xAt (now (w .entry)) i) (memberAt (now (w .entry)) i)) (stateOf (now (key .entry)) (now (b .entry)))) r (now (key .exit)) (now (b .exit)) ⌝ }
+    requires { ⌜ Tables (now w) × (i < rowCount (now w)) × IsNew (now w) i × Wf (now key) (now b) ⌝ }
+    ensures { λ r. ⌜ RuleGives (now (w .entry)) (newAt (now (w .entry)) i) (now (key .entry)) (now (b .entry)) r (now (key .exit)) (now (b .exit)) ⌝ }
 {
     let x = tables::x_at(w, i) as u8;
     check_statements::new_rule(w, key, b, x, tables::member_at(w, i))
@@ -69,8 +68,8 @@ fn new_at(w: &[u8], i: usize, key: &mut [u64; State::SLOTS], b: &mut [u8; State:
 
 // `call x y m z`
 fn call_at(w: &[u8], i: usize, key: &mut [u64; State::SLOTS], b: &mut [u8; State::BYTES]) -> Answer
-    requires { ⌜ Tables (now w) × (i < rowCount (now w)) × (kindAt (now w) i ≡ 11) × Wf (now key) (now b) ⌝ }
-    ensures { λ r. ⌜ Adds (rule (programIn (now (w .entry))) (Syntax.call (xAt (now (w .entry)) i) (yAt (now (w .entry)) i) (memberAt (now (w .entry)) i) (zAt (now (w .entry)) i)) (stateOf (now (key .entry)) (now (b .entry)))) r (now (key .exit)) (now (b .exit)) ⌝ }
+    requires { ⌜ Tables (now w) × (i < rowCount (now w)) × IsCall (now w) i × Wf (now key) (now b) ⌝ }
+    ensures { λ r. ⌜ RuleGives (now (w .entry)) (callAt (now (w .entry)) i) (now (key .entry)) (now (b .entry)) r (now (key .exit)) (now (b .exit)) ⌝ }
 {
     let x = tables::x_at(w, i) as u8;
     let y = tables::y_at(w, i) as u8;
@@ -86,7 +85,7 @@ fn return_at(
     b: &mut [u8; State::BYTES],
 ) -> Answer
     requires { ⌜ Tables (now w) × (i < rowCount (now w)) × Wf (now key) (now b) ⌝ }
-    ensures { λ r. ⌜ Adds (rule (programIn (now (w .entry))) (Syntax.return (xAt (now (w .entry)) i)) (stateOf (now (key .entry)) (now (b .entry)))) r (now (key .exit)) (now (b .exit)) ⌝ }
+    ensures { λ r. ⌜ RuleGives (now (w .entry)) (Syntax.return (xAt (now (w .entry)) i)) (now (key .entry)) (now (b .entry)) r (now (key .exit)) (now (b .exit)) ⌝ }
 {
     let x = tables::x_at(w, i) as u8;
     check_statements::assign_rule(key, b, State::RESULT, Term::Var(x))
@@ -100,7 +99,7 @@ fn assert_at(
     b: &mut [u8; State::BYTES],
 ) -> Answer
     requires { ⌜ Tables (now w) × (i < rowCount (now w)) × Wf (now key) (now b) ⌝ }
-    ensures { λ r. ⌜ Adds (rule (programIn (now (w .entry))) (Syntax.assert (formulaAt (now (w .entry)) i)) (stateOf (now (key .entry)) (now (b .entry)))) r (now (key .exit)) (now (b .exit)) ⌝ }
+    ensures { λ r. ⌜ RuleGives (now (w .entry)) (Syntax.assert (formulaAt (now (w .entry)) i)) (now (key .entry)) (now (b .entry)) r (now (key .exit)) (now (b .exit)) ⌝ }
 {
     let a = tables::first_atom_at(w, i);
     check_statements::assert_rule(w, key, b, a, tables::atom_count_at(w, i))
@@ -114,7 +113,7 @@ fn release_at(
     b: &mut [u8; State::BYTES],
 ) -> Answer
     requires { ⌜ Tables (now w) × (i < rowCount (now w)) × Wf (now key) (now b) ⌝ }
-    ensures { λ r. ⌜ Adds (rule (programIn (now (w .entry))) (Syntax.release (formulaAt (now (w .entry)) i)) (stateOf (now (key .entry)) (now (b .entry)))) r (now (key .exit)) (now (b .exit)) ⌝ }
+    ensures { λ r. ⌜ RuleGives (now (w .entry)) (Syntax.release (formulaAt (now (w .entry)) i)) (now (key .entry)) (now (b .entry)) r (now (key .exit)) (now (b .exit)) ⌝ }
 {
     let a = tables::first_atom_at(w, i);
     check_statements::release_rule(w, key, b, a, tables::atom_count_at(w, i))
@@ -129,8 +128,8 @@ fn if_at(
     key2: &mut [u64; State::SLOTS],
     b2: &mut [u8; State::BYTES],
 ) -> Answer
-    requires { ⌜ Tables (now w) × (i < rowCount (now w)) × (kindAt (now w) i ≡ 15) × Wf (now key) (now b) × (now key2 ≡ now key) × (now b2 ≡ now b) ⌝ }
-    ensures { λ r. ⌜ Parts (ifRule (relOf (byteAt (now (w .entry)) (atomPlace (firstAtomAt (now (w .entry)) i)))) (leftAt (now (w .entry)) (firstAtomAt (now (w .entry)) i)) (rightAt (now (w .entry)) (firstAtomAt (now (w .entry)) i)) (stateOf (now (key .entry)) (now (b .entry)))) r (now (key .exit)) (now (b .exit)) (now (key2 .exit)) (now (b2 .exit)) ⌝ }
+    requires { ⌜ Tables (now w) × (i < rowCount (now w)) × IsIf (now w) i × Wf (now key) (now b) × (now key2 ≡ now key) × (now b2 ≡ now b) ⌝ }
+    ensures { λ r. ⌜ Parts (branches (now (w .entry)) i (stateOf (now (key .entry)) (now (b .entry)))) r (now (key .exit)) (now (b .exit)) (now (key2 .exit)) (now (b2 .exit)) ⌝ }
 {
     let a = tables::first_atom_at(w, i);
     let apart = tables::atom_kind(w, a) != AtomKind::EQ;
@@ -149,7 +148,7 @@ fn join_at<'a>(
     b2: &'a [u8; State::BYTES],
 ) -> Answer
     requires { ⌜ Tables (now w) × (i < rowCount (now w)) × Wf (now key) (now b) × Wf (now key2) (now b2) ⌝ }
-    ensures { λ r. ⌜ Adds (joinRule (formulaAt (now (w .entry)) i) (stateOf (now (key .entry)) (now (b .entry))) (stateOf (now (key2 .entry)) (now (b2 .entry)))) r (now (key .exit)) (now (b .exit)) ⌝ }
+    ensures { λ r. ⌜ JoinGives (formulaAt (now (w .entry)) i) (now (key .entry)) (now (b .entry)) (now (key2 .entry)) (now (b2 .entry)) r (now (key .exit)) (now (b .exit)) ⌝ }
 {
     let a = tables::first_atom_at(w, i);
     check_statements::join_rule(w, a, tables::atom_count_at(w, i), key, b, key2, b2)

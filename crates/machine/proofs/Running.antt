@@ -26,8 +26,8 @@ use Rattle.run_heap.specs.declared.Fault.{Fault}
 use Rattle.run_steps.specs.declared.Turn.{Turn}
 use Rattle.machine.specs.declared.Ending.{Ending}
 use Rattle.machine.specs.declared.Ran.{Ran}
-use Rattle.run_heap.specs.Views.{frameAt, variableAt, cellOf, holderIn, holderOf, fill}
-use Rattle.run_steps.specs.States.{FrameIs, CallersAre, Represents, Goes, Does, Ready}
+use Rattle.run_heap.specs.Views.{frameAt, variableAt, cellOf, holderIn, holderOf, fill, frame-holder}
+use Rattle.run_steps.specs.States.{FrameIs, CallersAre, Represents, Goes, Does, CanStep}
 use Rattle.machine.specs.Runs.{endingOf, words, mainValues, RanAs}
 use Rattle.run_heap.proofs.Reading.{cell-null, cell-beyond, cell-placed}
 use Rattle.run_footprint.proofs.Regions.{only-fill, only-tables, fill-word}
@@ -57,7 +57,7 @@ entry-size = refl
 
 module _ (w : List ℕ) (tables : Tables w) where
   pub begin-tables : SameTables w (fill w frames-at frame-variables 0)
-  begin-tables = only-tables (only-fill frames-at (frames-at + 60) w frames-at frame-variables 0 (omega arith) (omega arith)) (omega arith)
+  begin-tables = only-tables (only-fill frames-at (frames-at + frame-holder) w frames-at frame-variables 0 (omega arith) (omega arith)) (omega arith)
 
   pub begins : Represents (fill w frames-at frame-variables 0) (freshMachine (mainFirst w)) (start (programIn w))
   unfolding start programIn CallersAre fieldsOf holds among any valueOf variableAt
@@ -189,7 +189,7 @@ module _ {room : Room} {w₀ w : List ℕ} {k : ℕ} {c : Machine} (G : Going ro
   program-is : programIn w ≡ programIn w₀
   program-is = program-same w₀ w (G .same) (G .tables)
 
-  pub ready : c .steps < k → k < 4294967296 → Ready w c
+  pub ready : c .steps < k → k < 4294967296 → CanStep w c
   ready l h = record { state = G .state; represents = G .represents; more = omega arith }
 
   pub at-row : (length w ≡ 65536) × (c .row < most-statements)

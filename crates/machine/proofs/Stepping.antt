@@ -4,17 +4,20 @@ use mathlib.Core.List.{List}
 use mathlib.Core.Logic.{_⊎_, inl, inr}
 use Prim.Native.Nat.{ℕ, _+_, _≤_}
 use native.Mathlib.Omega.{arith}
-use Rattle.rules.specs.Grammar.{IsStatementNumber}
-use Rattle.rules.specs.Syntax.{Row, Stmt, result-variable, var}
-use Rattle.rules.specs.Machine.{Config, Step, Room, took, on, statementOf, step, stepAt, simpleStep, elseStep, setStep, assignStep, newStep, callStep, ifStep, assertStep, releaseStep, endStep}
+use native.Mathlib.Decide.{decLt}
+use lib.Dec.{T}
+use Rattle.rules.specs.Grammar.{IsStatementNumber, statementNumber, isComputing}
+use Rattle.rules.specs.Syntax.{Row, Stmt}
+use Rattle.rules.specs.Machine.{Config, Step, Room, statementOf, step, stepAt, simpleStep}
 use Rattle.rules.specs.declared.Machine.{Machine}
-use Rattle.tables.specs.Decode.{allRows, byteAt, atomPlace, relOf, rowAt, operandsAt, stmtAt, kindAt, xAt, yAt, zAt, memberAt, firstAtomAt, formulaAt, leftAt, rightAt, methodAt, classAt, programIn}
+use Rattle.tables.specs.Decode.{rowAt, operandsAt, stmtAt, kindAt, memberAt, programIn}
 use Rattle.tables.proofs.Rows.{method-get, class-get}
-use Rattle.tables.proofs.Statements.{set-means, let-means, new-means, call-means, return-means, assert-means, release-means, if-means, else-means, join-means, end-means}
+use Rattle.tables.proofs.Statements.{set-means, let-means, new-means, call-means, return-means, assert-means, release-means, if-means, else-means, join-means, end-means, compute-means}
 use Rattle.run_steps.specs.declared.Turn.{Turn}
-use Rattle.run_steps.specs.States.{Represents, Follows, Does, Ready, AtKind}
+use Rattle.run_steps.specs.States.{Represents, Follows, Does, CanStep, AtKind, set-kind, let-kind, new-kind, call-kind, return-kind, assert-kind, release-kind, if-kind, else-kind, join-kind, end-kind, setHere, letHere, computeHere, returnHere, assertHere, releaseHere, ifHere, elseHere}
 use Rattle.run_calls.proofs.Returning.{row-of}
 use Rattle.run_steps.proofs.Doing.{fits}
+use Rattle.run_calls.specs.Calls.{newHere, callHere, endHere}
 
 -- the statement that is done
 statement : {w : List ℕ} {c : Machine} (m : Config) → Represents w c m → statementOf (programIn w) (m .frame) ≡ stmtAt w (c .row)
@@ -24,19 +27,18 @@ statement m R = ap (λ (r : Row). r .stmt) (row-of (R .frame))
 up : (a k : ℕ) → a ≤ k → (k ≡ a → ⊥) → a + 1 ≤ k
 up a k l n = omega arith
 
--- each kind of statement has its step
-pub no-other :
+-- a statement that is none of the others is `add` or `sub`
+pub is-computing :
     (k : ℕ) → IsStatementNumber k → (k ≡ 8 → ⊥) → (k ≡ 9 → ⊥) → (k ≡ 10 → ⊥) → (k ≡ 11 → ⊥) → (k ≡ 12 → ⊥) →
-    ((k ≡ 13) ⊎ (k ≡ 17) → ⊥) → (k ≡ 14 → ⊥) → (k ≡ 15 → ⊥) → (k ≡ 16 → ⊥) → (k ≡ 18 → ⊥) → ⊥
-no-other k (low, high) a b c d e f g i j n =
+    ((k ≡ 13) ⊎ (k ≡ 17) → ⊥) → (k ≡ 14 → ⊥) → (k ≡ 15 → ⊥) → (k ≡ 16 → ⊥) → (k ≡ 18 → ⊥) → T (isComputing k)
+unfolding isComputing statementNumber
+is-computing k (low, high) a b c d e f g i j n =
     let l1 : 13 ≤ k = up 12 k (up 11 k (up 10 k (up 9 k (up 8 k low a) b) c) d) e in
     let l2 : 17 ≤ k = up 16 k (up 15 k (up 14 k (up 13 k l1 (λ z. f (inl z))) g) i) j in
-    past (up 18 k (up 17 k l2 (λ z. f (inr z))) n) high
-  where
-    past : 19 ≤ k → k ≤ 18 → ⊥
-    past l h = omega arith
+    let l3 : 19 ≤ k = up 18 k (up 17 k l2 (λ z. f (inr z))) n in
+    elim (decLt k 20) [ yes l ↦ (let z : k ≡ 19 = omega arith in rw z tt) | no l ↦ (let z : k ≡ 20 = omega arith in rw z tt) ]
 
-module _ {w w′ : List ℕ} {c : Machine} {r : Turn} (ready : Ready w c) (room : Room) where
+module _ {w w′ : List ℕ} {c : Machine} {r : Turn} (ready : CanStep w c) (room : Room) where
   does-as :
       (f : Config → Step) → ((m : Config) → stepAt room (programIn w) (stmtAt w (c .row)) m ≡ f m) → Does w c w′ r f →
       Does w c w′ r (step room (programIn w))
@@ -48,57 +50,61 @@ module _ {w w′ : List ℕ} {c : Machine} {r : Turn} (ready : Ready w c) (room 
             subst (Follows w′ c r m) (sym (ap (λ (s : Stmt). stepAt room (programIn w) s m) (statement m R) ∙ e m)) (D .follows m R);
       }
 
-  pub sets : AtKind w c 8 → Does w c w′ r (λ m. took (setStep (xAt w (c .row)) (memberAt w (c .row)) (yAt w (c .row)) m)) → Does w c w′ r (step room (programIn w))
+  pub sets : AtKind w c set-kind → Does w c w′ r (setHere w c) → Does w c w′ r (step room (programIn w))
   unfolding stepAt simpleStep
   sets k = does-as _ (λ m. rw (set-means w (operandsAt w (c .row)) k))
 
   pub lets :
-      AtKind w c 9 → Does w c w′ r (λ m. took (assignStep (xAt w (c .row)) (rightAt w (firstAtomAt w (c .row))) m)) →
+      AtKind w c let-kind → Does w c w′ r (letHere w c) →
       Does w c w′ r (step room (programIn w))
   unfolding stepAt simpleStep
   lets k = does-as _ (λ m. rw (let-means w (operandsAt w (c .row)) k))
 
   pub news :
-      AtKind w c 10 → Does w c w′ r (λ m. took (newStep room (xAt w (c .row)) (classAt w (memberAt w (c .row))) m)) →
+      AtKind w c new-kind → Does w c w′ r (newHere w c room) →
       Does w c w′ r (step room (programIn w))
   unfolding stepAt simpleStep
   news k = does-as _ (λ m. rw (new-means w (operandsAt w (c .row)) k, class-get w (memberAt w (c .row)) (fits ready .class k)))
 
   pub calls :
-      AtKind w c 11 → Does w c w′ r (λ m. took (callStep (yAt w (c .row)) (methodAt w (memberAt w (c .row))) (zAt w (c .row)) m)) →
+      AtKind w c call-kind → Does w c w′ r (callHere w c) →
       Does w c w′ r (step room (programIn w))
   unfolding stepAt simpleStep
   calls k = does-as _ (λ m. rw (call-means w (operandsAt w (c .row)) k, method-get w (memberAt w (c .row)) (fits ready .method k)))
 
   pub returns :
-      AtKind w c 12 → Does w c w′ r (λ m. took (assignStep result-variable (var (xAt w (c .row))) m)) → Does w c w′ r (step room (programIn w))
+      AtKind w c return-kind → Does w c w′ r (returnHere w c) → Does w c w′ r (step room (programIn w))
   unfolding stepAt simpleStep
   returns k = does-as _ (λ m. rw (return-means w (operandsAt w (c .row)) k))
 
   pub asserts :
-      (kindAt w (c .row) ≡ 13) ⊎ (kindAt w (c .row) ≡ 17) → Does w c w′ r (λ m. took (assertStep (formulaAt w (c .row)) m)) →
+      (kindAt w (c .row) ≡ assert-kind) ⊎ (kindAt w (c .row) ≡ join-kind) → Does w c w′ r (assertHere w c) →
       Does w c w′ r (step room (programIn w))
   unfolding stepAt simpleStep
   asserts (inl k) = does-as _ (λ m. rw (assert-means w (operandsAt w (c .row)) k))
   asserts (inr k) = does-as _ (λ m. rw (join-means w (operandsAt w (c .row)) k))
 
-  pub releases : AtKind w c 14 → Does w c w′ r (λ m. took (releaseStep (formulaAt w (c .row)) m)) → Does w c w′ r (step room (programIn w))
+  pub releases : AtKind w c release-kind → Does w c w′ r (releaseHere w c) → Does w c w′ r (step room (programIn w))
   unfolding stepAt simpleStep
   releases k = does-as _ (λ m. rw (release-means w (operandsAt w (c .row)) k))
 
   pub ifs :
-      AtKind w c 15 →
+      AtKind w c if-kind →
       Does w c w′ r
-      (λ m. took (ifStep (allRows w) (relOf (byteAt w (atomPlace (firstAtomAt w (c .row))))) (leftAt w (firstAtomAt w (c .row))) (rightAt w (firstAtomAt w (c .row))) m)) →
+      (ifHere w c) →
       Does w c w′ r (step room (programIn w))
   unfolding stepAt programIn
   ifs k = does-as _ (λ m. rw (if-means w (operandsAt w (c .row)) k))
 
   pub elses :
-      AtKind w c 16 → Does w c w′ r (λ m. on (elseStep (allRows w) m)) → Does w c w′ r (step room (programIn w))
+      AtKind w c else-kind → Does w c w′ r (elseHere w) → Does w c w′ r (step room (programIn w))
   unfolding stepAt programIn
   elses k = does-as _ (λ m. rw (else-means w (operandsAt w (c .row)) k))
 
-  pub ends : AtKind w c 18 → Does w c w′ r (λ m. endStep (programIn w) m (m .callers)) → Does w c w′ r (step room (programIn w))
+  pub computes : T (isComputing (kindAt w (c .row))) → Does w c w′ r (computeHere w c) → Does w c w′ r (step room (programIn w))
+  unfolding stepAt simpleStep
+  computes t = does-as _ (λ m. rw (compute-means w (operandsAt w (c .row)) t))
+
+  pub ends : AtKind w c end-kind → Does w c w′ r (endHere w) → Does w c w′ r (step room (programIn w))
   unfolding stepAt
   ends k = does-as _ (λ m. rw (end-means w (operandsAt w (c .row)) k))

@@ -8,7 +8,7 @@ ghost use mathlib.Core.Path.{_≡_};
 ghost use Prim.Native.Nat.{_+_, _≤_, _<_};
 ghost use lib.ListN.{length};
 ghost use Rattle.rules.specs.Limits.{work-bytes, most-statements, heap-objects, heap-fields};
-ghost use Rattle.run_steps.specs.States.{Ready, Does};
+ghost use Rattle.run_steps.specs.States.{CanStep, Does};
 ghost use Rattle.rules.specs.Counters.{freshMachine};
 ghost use Rattle.tables.specs.Layout.{frame-variables, frames-at};
 ghost use Rattle.tables.specs.Decode.{lineAt, mainFirst, programIn};
@@ -41,6 +41,7 @@ fn fault_number(f: Fault) -> u32
         Fault::Permission => 24,
         Fault::Null => 25,
         Fault::False => 26,
+        Fault::Overflow => 27,
     }
 }
 
@@ -57,7 +58,7 @@ pub fn number_of(e: Ending) -> u32
 
 // "Each statement line is one step": by the kind of the row, on a heap with these two limits.
 pub fn step(work: &mut [u8], c: Machine, most_objects: u32, most_fields: u32) -> Turn
-    requires { ⌜ Ready (now work) c × ((«most_objects» ≤ heap-objects) × («most_fields» ≤ heap-fields)) ⌝ }
+    requires { ⌜ CanStep (now work) c × ((«most_objects» ≤ heap-objects) × («most_fields» ≤ heap-fields)) ⌝ }
     ensures { λ r. ⌜ Does (now (work .entry)) c (now (work .exit)) r (stepOf (record { objects = «most_objects»; fields = «most_fields» }) (programIn (now (work .entry)))) ⌝ }
 {
     let row = c.row as usize;
@@ -72,8 +73,9 @@ pub fn step(work: &mut [u8], c: Machine, most_objects: u32, most_fields: u32) ->
         Kind::IF => run_steps::if_step(work, c),
         Kind::ELSE => run_steps::else_step(work, c),
         Kind::END => run_calls::end_step(work, c),
+        Kind::ADD | Kind::SUB => run_steps::compute_step(work, c),
         // No row is of another kind, so that any answer meets the contract.
-        0..=7 | 19..=255 => Turn::Done,
+        0..=7 | 21..=255 => Turn::Done,
     }
 }
 

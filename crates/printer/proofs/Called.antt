@@ -61,14 +61,14 @@ words-of (w ∷ ws) h =
 -- THE LAW
 
 -- with k steps allowed lines fit 16 bits, steps and values 32
-pub record Fits (t : List ℕ) (k : ℕ) : Type 0 where
+pub record AnswersFit (t : List ℕ) (k : ℕ) : Type 0 where
   pub check-line : checkText t .1 < 65536
   pub run-line : runText t k .line < 65536
   pub steps : runText t k .steps < 4294967296
   pub shown : length (runText t k .values) ≡ values-shown
   pub values : (i : ℕ) → getD (runText t k .values) i 0 < 4294967296
 
-module _ (t : List ℕ) (checked ran : ℕ) (b : List ℕ) (f : Fits t program-steps) (c : Called t checked ran b) where
+module _ (t : List ℕ) (checked ran : ℕ) (b : List ℕ) (f : AnswersFit t program-steps) (c : Called t checked ran b) where
   abbrev R : Result
   R = runText t program-steps
 

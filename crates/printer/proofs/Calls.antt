@@ -28,7 +28,7 @@ use Rattle.rules.proofs.Lists.{T-true}
 use Rattle.read_bytes.proofs.Search.{true-false}
 use Rattle.rules.proofs.LinesTaken.{read-taken}
 use Rattle.printer.specs.Answers.{numberIn, printedAnswers, ReadUnless, Called}
-use Rattle.printer.proofs.Called.{Fits, number-packed, printed-is}
+use Rattle.printer.proofs.Called.{AnswersFit, number-packed, printed-is}
 use Rattle.printer.proofs.Bounds.{all-get, Small, Within, read-within, items-small, items-few, program-fits, check-within}
 use Rattle.printer.proofs.RunBounds.{outcome-fits}
 
@@ -38,11 +38,11 @@ unfolding verdictNumbers
 line-within n (accepted u) x = omega arith
 line-within n (refused r l) x = x
 
-pub fits : (t : List ℕ) (k : ℕ) → k < 4294967296 → Fits t k
+pub fits : (t : List ℕ) (k : ℕ) → k < 4294967296 → AnswersFit t k
 unfolding checkText runText runItems outcomeResult then verdictNumbers
 fits t k small = go (readText t) refl (read-within t)
   where
-    go : (v : Verdict (List Item)) → readText t ≡ v → Within most-bytes v → Fits t k
+    go : (v : Verdict (List Item)) → readText t ≡ v → Within most-bytes v → AnswersFit t k
     go (accepted items) e w =
         let few = items-few t items e in
         let (text, x) = read-taken t items e in

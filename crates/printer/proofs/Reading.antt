@@ -19,13 +19,13 @@ use Rattle.rules.specs.Reading.{readText}
 use Rattle.rules.specs.Printed.{localsAfter, lastLocals, mainVariables}
 use Rattle.rules.proofs.Tries.{ok-inj, check-ok, refused-accepted, accepted-inj, atLine-accepted, then-accepted}
 use Rattle.read_scan.proofs.Scans.{lines-taken}
-use Rattle.read_declarations.specs.Texts.{linesOf, Taken}
+use Rattle.read_declarations.specs.Texts.{linesOf, TextTaken}
 use Rattle.read_declarations.specs.Declares.{lineWith}
 use Rattle.printer.specs.Variables.{localsBy, locals}
 
 -- what it takes for a text to be read
 pub record Read (t : List ℕ) (items : List Item) : Type 0 where
-  pub taken : Taken t
+  pub taken : TextTaken t
   pub resolved : resolveLines (declarations (linesOf t)) (linesOf t) 0 firstScope ≡ accepted items
 
 pub read-parts : (t : List ℕ) (items : List Item) → readText t ≡ accepted items → Read t items

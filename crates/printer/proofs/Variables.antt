@@ -15,7 +15,7 @@ use Rattle.rules.specs.Grammar.{Line, Method, Main, Var, kindNumber, isStatemen
 use Rattle.rules.specs.Scope.{operand}
 use Rattle.rules.specs.Places.{firstPlace, Place, placeAfter, withinLimits, oneMoreIf}
 use Rattle.rules.specs.Printed.{printedLine, signed, printedVariables}
-use Rattle.read_bytes.specs.Sets.{Found}
+use Rattle.read_bytes.specs.Sets.{FirstInSet}
 use Rattle.read_bytes.specs.declared.Set.the-variants.{LineEnd}
 use Rattle.read_bytes.proofs.Search.{both-true, true-false}
 use Rattle.read_fields.specs.Cuts.{part}
@@ -25,12 +25,12 @@ use Rattle.read_fields.proofs.Cuts.{no-lines}
 use Rattle.tables.specs.Decode.{wordAt}
 use Rattle.read_names.specs.declared.Span.{Span}
 use Rattle.read_names.specs.Rows.{nameIn}
-use Rattle.read_declarations.specs.Texts.{linesOf, Taken, lineAt}
+use Rattle.read_declarations.specs.Texts.{linesOf, TextTaken, lineAt}
 use Rattle.read_declarations.specs.Declares.{lineWith}
 use Rattle.printer.specs.declared.Shown.{Shown}
 use Rattle.printer.specs.Writes.{Writes}
 use Rattle.printer.specs.Answers.{wordsFrom, valuesIn, variableLine}
-use Rattle.printer.specs.Variables.{localsBy, locals, Room, Shows, Goes, ShowsLocal}
+use Rattle.printer.specs.Variables.{localsBy, locals, ShownRoom, Shows, Goes, ShowsLocal}
 use Rattle.printer.proofs.Writes.{writes-none, writes-on, writes-as, signed-few}
 use Rattle.read_declarations.proofs.Walks.{Walking, walking-first, walking-placed, walking-lines, walking-on}
 
@@ -155,7 +155,7 @@ pub record Showing (t b : List ℕ) (a : ℕ) (o : List ℕ) (p : ℕ) (s : Show
   pub counted : length names ≡ place .locals
   pub rest : locals names (linesOf (drop p t)) ≡ locals [] (linesOf t)
 
-pub showing-first : (t b : List ℕ) (a : ℕ) (o : List ℕ) → a ≤ length o → Taken t → Showing t b a o 0 (fresh a) o
+pub showing-first : (t b : List ℕ) (a : ℕ) (o : List ℕ) → a ≤ length o → TextTaken t → Showing t b a o 0 (fresh a) o
 unfolding printedVariables
 showing-first t b a o h k =
     record {
@@ -196,8 +196,8 @@ module _ {t b : List ℕ} {a : ℕ} {o : List ℕ} {p : ℕ} {s : Shown} {o′ :
   showing-done h =
       writes-as (x .shows .bytes) (ap (λ xs. printedVariables xs (valuesIn b)) (rw (no-lines t p h) at (x .rest)))
 
-  module _ {e : ℕ} (l : p < length t) (f : Found t p LineEnd e) where
-    pub showing-room : a + 348 ≤ length o → Room (lineAt t p .kind) s o′
+  module _ {e : ℕ} (l : p < length t) (f : FirstInSet t p LineEnd e) where
+    pub showing-room : a + 348 ≤ length o → ShownRoom (lineAt t p .kind) s o′
     showing-room h =
         let m = locals-counted (x .names) (lineAt t p) (x .place) (x .counted) in
         let n : length (localsBy (x .names) (lineAt t p)) ≤ 12 =

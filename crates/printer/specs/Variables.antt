@@ -34,7 +34,7 @@ abbrev pub most-lines : ℕ
 most-lines = 348
 
 -- there is room for one more
-pub record Room (k : Kind) (s : Shown) (o : List ℕ) : Type 0 where
+pub record ShownRoom (k : Kind) (s : Shown) (o : List ℕ) : Type 0 where
   pub value : k ≡ Var → s .count < values-shown
   pub line : k ≡ Var → s .end + most-line ≤ length o
 

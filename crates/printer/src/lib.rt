@@ -11,10 +11,10 @@ ghost use Rattle.rules.specs.Limits.{results-bytes, values-shown};
 ghost use Rattle.rules.specs.Text.{tab, isName};
 ghost use Rattle.rules.specs.Printed.{digitsBefore, digits, signed, printedVariables};
 ghost use Rattle.read_fields.specs.Cuts.{more};
-ghost use Rattle.read_declarations.specs.Texts.{Taken, linesOf, lineAt, FormedAt};
+ghost use Rattle.read_declarations.specs.Texts.{TextTaken, linesOf, lineAt, FormedAt};
 ghost use Rattle.printer.specs.Writes.{Writes, Prints};
 ghost use Rattle.printer.specs.Answers.{out-bytes, checkLine, runLine, variableLine, valuesIn, printedAnswers, ReadUnless};
-ghost use Rattle.printer.specs.Variables.{locals, most-line, most-lines, Room, ShowsLocal, Goes};
+ghost use Rattle.printer.specs.Variables.{locals, most-line, most-lines, ShownRoom, ShowsLocal, Goes};
 
 // BYTES: each function writes from a place on and returns the place after
 
@@ -85,7 +85,7 @@ fn put_signed(out: &mut [u8], at: usize, v: u32) -> usize
 // LINES
 
 // A tab and a number.
-fn put_field(out: &mut [u8], at: usize, n: u32) -> usize
+fn put_tab_number(out: &mut [u8], at: usize, n: u32) -> usize
     requires { ⌜ at + 11 ≤ length (now out) ⌝ }
     ensures { λ r. ⌜ Writes (now (out .entry)) at (tab ∷ digits n) (now (out .exit)) r ⌝ }
 {
@@ -99,8 +99,8 @@ fn put_check(out: &mut [u8], checked: u32) -> usize
     ensures { λ r. ⌜ Writes (now (out .entry)) 0 (checkLine checked) (now (out .exit)) r ⌝ }
 {
     let a = put_word(out, 0, b"check");
-    let b = put_field(out, a, checked / 65536);
-    let c = put_field(out, b, checked % 65536);
+    let b = put_tab_number(out, a, checked / 65536);
+    let c = put_tab_number(out, b, checked % 65536);
     put(out, c, 10)
 }
 
@@ -110,9 +110,9 @@ fn put_run(out: &mut [u8], at: usize, ran: u32, steps: u32) -> usize
     ensures { λ r. ⌜ Writes (now (out .entry)) at (runLine ran steps) (now (out .exit)) r ⌝ }
 {
     let a = put_word(out, at, b"run");
-    let b = put_field(out, a, ran / 65536);
-    let c = put_field(out, b, ran % 65536);
-    let d = put_field(out, c, steps);
+    let b = put_tab_number(out, a, ran / 65536);
+    let c = put_tab_number(out, b, ran % 65536);
+    let d = put_tab_number(out, c, steps);
     put(out, d, 10)
 }
 
@@ -163,7 +163,7 @@ fn show_line(
     results: &[u8],
     s: Shown,
 ) -> Shown
-    requires { ⌜ (at ≤ length (now text)) × (length (now results) ≡ results-bytes) × FormedAt (now text) at × Room (lineAt (now text) at .kind) s (now out) ⌝ }
+    requires { ⌜ (at ≤ length (now text)) × (length (now results) ≡ results-bytes) × FormedAt (now text) at × ShownRoom (lineAt (now text) at .kind) s (now out) ⌝ }
     ensures { λ d. ⌜ Goes first (now (results .entry)) (lineAt (now (text .entry)) at) (now (out .entry)) s (now (out .exit)) d ⌝ }
 {
     let w = read_declarations::word_at(text, at);
@@ -181,7 +181,7 @@ fn show_line(
 
 // The locals of main, from a place on. Those of a method are written over.
 fn show_variables(text: &[u8], out: &mut [u8], first: usize, results: &[u8]) -> usize
-    requires { ⌜ (first + most-lines ≤ length (now out)) × (length (now results) ≡ results-bytes) × Taken (now text) ⌝ }
+    requires { ⌜ (first + most-lines ≤ length (now out)) × (length (now results) ≡ results-bytes) × TextTaken (now text) ⌝ }
     ensures { λ r. ⌜ Writes (now (out .entry)) first (printedVariables (locals [] (linesOf (now (text .entry)))) (valuesIn (now (results .entry)))) (now (out .exit)) r ⌝ }
 {
     let mut s = Shown {

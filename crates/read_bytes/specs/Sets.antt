@@ -20,7 +20,7 @@ abbrev pub noDigit : ℕ → Bool
 noDigit b = not (digit b)
 
 -- r is the first place from at on whose byte is in the set, or the end.
-pub record Found (l : List ℕ) (at : ℕ) (s : Set) (r : ℕ) : Type 0 where
+pub record FirstInSet (l : List ℕ) (at : ℕ) (s : Set) (r : ℕ) : Type 0 where
   pub low : at ≤ r
   pub high : r ≤ length l
   pub is : r ≡ at + upTo (inSet s) (drop at l)

@@ -5,7 +5,7 @@ ghost use Prim.Native.Nat.{_+_, _-_, _≤_};
 ghost use lib.ListN.{length, getD, drop};
 ghost use Rattle.rules.specs.Base.{between, eqName};
 ghost use Rattle.rules.specs.Text.{letter, digit, letterOrDigit, upTo};
-ghost use Rattle.read_bytes.specs.Sets.{inSet, Found};
+ghost use Rattle.read_bytes.specs.Sets.{inSet, FirstInSet};
 ghost use Rattle.read_bytes.specs.Marks.{eight, littleEndian, value, lineForm, fieldForm, nameForm, digitForm, formOf};
 ghost use Rattle.read_bytes.specs.Fields.{endsField};
 
@@ -82,7 +82,7 @@ pub fn in_set(b: u8, set: Set) -> bool
 
 pub fn find_from(l: &[u8], at: usize, set: Set) -> usize
     requires { ⌜ at ≤ length (now l) ⌝ }
-    ensures { λ r. ⌜ Found (now (l .entry)) at set r ⌝ }
+    ensures { λ r. ⌜ FirstInSet (now (l .entry)) at set r ⌝ }
 {
     let mut i = at;
     while i < l.len() {
@@ -178,7 +178,7 @@ fn skip_words(l: &[u8], at: usize, set: Set) -> usize
 
 fn find_wide(l: &[u8], at: usize, set: Set) -> usize
     requires { ⌜ at ≤ length (now l) ⌝ }
-    ensures { λ r. ⌜ Found (now (l .entry)) at set r ⌝ }
+    ensures { λ r. ⌜ FirstInSet (now (l .entry)) at set r ⌝ }
 {
     let i = skip_words(l, at, set);
     find_from(l, i, set)
@@ -187,7 +187,7 @@ fn find_wide(l: &[u8], at: usize, set: Set) -> usize
 // The first place from `at` on whose byte is in the set, or the end. Lines, fields and names are searched in steps of eight bytes.
 pub fn find(l: &[u8], at: usize, set: Set) -> usize
     requires { ⌜ at ≤ length (now l) ⌝ }
-    ensures { λ r. ⌜ Found (now (l .entry)) at set r ⌝ }
+    ensures { λ r. ⌜ FirstInSet (now (l .entry)) at set r ⌝ }
 {
     match set {
         Set::LineEnd => find_wide(l, at, Set::LineEnd),

@@ -28,7 +28,7 @@ use Rattle.read_scopes.specs.Meanings.{declarationsIn, asField, asMethod, class
 use Rattle.read_names.proofs.Puts.{none-fits, row-tables, row-other}
 use Rattle.read_scopes.proofs.Scopes.{class-put, field-put, method-put}
 use Rattle.read_declarations.specs.Texts.{lineAt, FormedAt}
-use Rattle.read_declarations.specs.Declares.{joined, lineWith, namesAfter, Ready, Room, LineReady, MethodRow, methodEntry, Adds}
+use Rattle.read_declarations.specs.Declares.{joined, lineWith, namesAfter, TextFits, NameRoom, LineReady, MethodRow, methodEntry, Adds}
 
 pub class-fits : {s : Span} → SpanFits s → RowFits (classRow s)
 class-fits f = record { owner = omega arith; name = f; gives = none-fits; takes = none-fits }
@@ -40,7 +40,7 @@ field-fits l f g = record { owner = l; name = f; gives = g; takes = none-fits }
 row-lines : (t w : List ℕ) {u : List ℕ} (i : ℕ) (r : Row) → i < most-rows → u ≡ putRow t w i r → Kept lines-at work-bytes w u
 row-lines t w {u} i r l e = subst (Kept lines-at work-bytes w) (sym e) (λ j a b. row-other t w i r j (inr (omega arith)))
 
-module _ {t w : List ℕ} {c : Names} (x : Ready t w c) (ws : List Name) {u : List ℕ} {d : Names} where
+module _ {t w : List ℕ} {c : Names} (x : TextFits t w c) (ws : List Name) {u : List ℕ} {d : Names} where
   pub class-adds :
       (s : Span) → nameIn t s ≡ getD ws 0 [] → SpanFits s → c .classes < most-classes → d ≡ moreClasses c →
       u ≡ putRow t w (classes-first + c .classes) (classRow s) → Adds t w c (lineWith Class ws) u d
@@ -123,8 +123,8 @@ module _ {t : List ℕ} {r n : ℕ} {c : Names} (x : LineReady t r n c) (k : Kin
   numbered-is : kindNumbered n ≡ k
   numbered-is = ap kindNumbered e ∙ kind-of-number k
 
-  pub ready-room : Room k c
-  ready-room = subst (λ j. Room j c) numbered-is (x .room)
+  pub ready-room : NameRoom k c
+  ready-room = subst (λ j. NameRoom j c) numbered-is (x .room)
 
   pub ready-formed : Grammar.isFormed (Grammar.form k .operands) (Grammar.form k .tail) (more (drop r t)) ≡ true
   ready-formed = subst (λ j. Grammar.isFormed (Grammar.form j .operands) (Grammar.form j .tail) (more (drop r t)) ≡ true) numbered-is (x .formed)

@@ -16,8 +16,8 @@ use Rattle.read_bytes.proofs.Search.{both-true}
 use Rattle.read_grammar.specs.Coded.{coded}
 use Rattle.read_grammar.proofs.Coded.{within-is, low}
 use Rattle.read_scopes.specs.declared.Names.{Names}
-use Rattle.read_scopes.specs.Meanings.{Fits, moreClasses, moreFields, moreMethods}
-use Rattle.read_declarations.specs.Declares.{namesAfter, noNames, Room}
+use Rattle.read_scopes.specs.Meanings.{NamesFit, moreClasses, moreFields, moreMethods}
+use Rattle.read_declarations.specs.Declares.{namesAfter, noNames, NameRoom}
 
 -- the rows of what stands above a place
 pub record Counted (p : Place) (c : Names) : Type 0 where
@@ -57,7 +57,7 @@ small p e =
     record { classes = l .classes; fields = l .fields; methods = l .methods }
 
 module _ {p : Place} {c : Names} (x : Counted p c) (w : withinLimits p ≡ true) where
-  pub counted-fits : Fits c
+  pub counted-fits : NamesFit c
   counted-fits =
       let s = small p w in
       record {
@@ -68,7 +68,7 @@ module _ {p : Place} {c : Names} (x : Counted p c) (w : withinLimits p ≡ true)
       }
 
   module _ (k : Kind) (v : withinLimits (placeAfter k p) ≡ true) where
-    pub counted-room : Room k c
+    pub counted-room : NameRoom k c
     unfolding Places.opened Grammar.opened
     counted-room =
         let s = small p w in

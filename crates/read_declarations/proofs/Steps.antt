@@ -12,7 +12,7 @@ use Rattle.rules.specs.Grammar.{Kind, Line, Class, Field, Method, IsKindNumber,
 use Rattle.rules.proofs.LineKinds.{kind-bounds}
 use Rattle.rules.specs.Places.{Place, firstPlace, placeAfter}
 use Rattle.rules.specs.Scope.{Declarations, classesOf, classesAbove, fieldsOf, methodsOf, declarations}
-use Rattle.read_bytes.specs.Sets.{Found}
+use Rattle.read_bytes.specs.Sets.{FirstInSet}
 use Rattle.read_bytes.specs.declared.Set.the-variants.{LineEnd}
 use Rattle.tables.specs.Layout.{lines-at}
 use Rattle.tables.specs.Stores.{Kept, SameTables}
@@ -25,9 +25,9 @@ use Rattle.read_grammar.proofs.Rows.{number-of-kind}
 use Rattle.read_scan.proofs.Table.{found-end}
 use Rattle.read_scopes.specs.declared.Names.{Names}
 use Rattle.tables.specs.Decode.{run}
-use Rattle.read_scopes.specs.Meanings.{Fits, declarationsIn, namesFrom, moreClasses, moreFields, moreMethods}
-use Rattle.read_declarations.specs.Texts.{linesOf, Taken, lineAt, FormedAt}
-use Rattle.read_declarations.specs.Declares.{joined, lineWith, namesAfter, noNames, Room, LineReady, Adds, Declares}
+use Rattle.read_scopes.specs.Meanings.{NamesFit, declarationsIn, namesFrom, moreClasses, moreFields, moreMethods}
+use Rattle.read_declarations.specs.Texts.{linesOf, TextTaken, lineAt, FormedAt}
+use Rattle.read_declarations.specs.Declares.{joined, lineWith, namesAfter, noNames, NameRoom, LineReady, Adds, Declares}
 use Rattle.read_declarations.proofs.Walks.{Walking, walking-first, walking-done, walking-placed, walking-formed, walking-lines, walking-on}
 use Rattle.read_declarations.proofs.Adds.{word-kind, kind-is, form-is, adds-line}
 use Rattle.read_declarations.proofs.Counts.{Counted, counted-first, counted-fits, counted-room, counted-on}
@@ -74,7 +74,7 @@ pub record Declaring (t v : List ℕ) (a : ℕ) (c : Names) (w : List ℕ) : Typ
   pub tables : SameTables v w
   pub lines : Kept lines-at work-bytes v w
 
-pub declaring-first : (t w : List ℕ) (c : Names) → c ≡ noNames → Taken t → Declaring t w 0 c w
+pub declaring-first : (t w : List ℕ) (c : Names) → c ≡ noNames → TextTaken t → Declaring t w 0 c w
 unfolding joined declarationsIn namesFrom run declarations Rattle.rules.specs.Places.opened
 declaring-first t w c e k =
     subst (λ d. Declaring t w 0 d w) (sym e)
@@ -89,7 +89,7 @@ declaring-first t w c e k =
     })
 
 module _ {t v : List ℕ} {a : ℕ} {c : Names} {w : List ℕ} (x : Declaring t v a c w) where
-  pub declaring-fits : Fits c
+  pub declaring-fits : NamesFit c
   declaring-fits = counted-fits (x .counted) (x .walk .within)
 
   pub declaring-done : length t ≤ a → Declares t v w c
@@ -103,8 +103,8 @@ module _ {t v : List ℕ} {a : ℕ} {c : Names} {w : List ℕ} (x : Declaring t 
         result = x .counted .result;
       }
 
-  module _ {e : ℕ} (l : a < length t) (f : Found t a LineEnd e) where
-    pub declaring-room : Room (lineAt t a .kind) c
+  module _ {e : ℕ} (l : a < length t) (f : FirstInSet t a LineEnd e) where
+    pub declaring-room : NameRoom (lineAt t a .kind) c
     declaring-room = counted-room (x .counted) (x .walk .within) (lineAt t a .kind) (walking-placed (x .walk) l f .room)
 
     pub declaring-on : {d : Names} {u : List ℕ} → Adds t w c (lineAt t a) u d → Declaring t v (e + 1) d u
@@ -127,7 +127,7 @@ module _ {t v : List ℕ} {a : ℕ} {c : Names} {w : List ℕ} (x : Declaring t 
 
   -- the line here by its word
   module _ (l : a < length t) {r : Word} (y : WordAt t a r) where
-    ends : Found t a LineEnd (lineEnd t a)
+    ends : FirstInSet t a LineEnd (lineEnd t a)
     ends = found-end t a (omega arith)
 
     formed : FormedAt t a
@@ -145,7 +145,7 @@ module _ {t v : List ℕ} {a : ℕ} {c : Names} {w : List ℕ} (x : Declaring t 
           high = y .high;
           kind = bounds;
           formed = form-is formed y (kindNumbered (r .kind)) numbered;
-          room = subst (λ k. Room k c) (kind-is formed y {k = kindNumbered (r .kind)} numbered) (declaring-room l ends);
+          room = subst (λ k. NameRoom k c) (kind-is formed y {k = kindNumbered (r .kind)} numbered) (declaring-room l ends);
         }
 
     pub declaring-next :

@@ -15,13 +15,13 @@ use Rattle.rules.specs.Grammar.{Kind, Line, form, kindOf, isFormed, readLine}
 use Rattle.rules.specs.Places.{Place, firstPlace, inPlace, placeAfter, placeLine, withinLimits, scanLines}
 use Rattle.rules.proofs.Lists.{T-true, decide-eq}
 use Rattle.rules.proofs.Tries.{ok-inj, bind-ok, check-ok, orElse-ok}
-use Rattle.read_bytes.specs.Sets.{Found}
+use Rattle.read_bytes.specs.Sets.{FirstInSet}
 use Rattle.read_bytes.specs.declared.Set.the-variants.{LineEnd}
 use Rattle.read_fields.specs.Cuts.{part, CleanLine}
 use Rattle.read_scan.specs.Scans.{lineOf}
 use Rattle.read_fields.proofs.Cuts.{clean-line, bad-line, no-lines}
 use Rattle.read_scan.proofs.Scans.{first-taken, FirstTaken}
-use Rattle.read_declarations.specs.Texts.{linesOf, Taken, lineAt, FormedAt}
+use Rattle.read_declarations.specs.Texts.{linesOf, TextTaken, lineAt, FormedAt}
 
 -- A LINE THAT IS READ
 line-at : {t : List ℕ} {a e : ℕ} → CleanLine t a e → lineOf (part a (e + 1) t) ≡ lineAt t a
@@ -49,7 +49,7 @@ pub record Walking (t : List ℕ) (a : ℕ) (p : Place) (n : ℕ) : Type 0 where
   pub rest : scanLines (lines (drop a t)) n p ≡ accepted (linesOf (drop a t))
   pub within : withinLimits p ≡ true
 
-pub walking-first : {t : List ℕ} → Taken t → Walking t 0 firstPlace 0
+pub walking-first : {t : List ℕ} → TextTaken t → Walking t 0 firstPlace 0
 unfolding Rattle.rules.specs.Places.opened
 walking-first k = record { rest = k; within = refl }
 
@@ -57,7 +57,7 @@ pub walking-done : (t : List ℕ) (a : ℕ) → length t ≤ a → linesOf (drop
 unfolding linesOf
 walking-done t a h = rw (no-lines t a h)
 
-module _ {t : List ℕ} {a : ℕ} {p : Place} {n : ℕ} (x : Walking t a p n) {e : ℕ} (l : a < length t) (f : Found t a LineEnd e) where
+module _ {t : List ℕ} {a : ℕ} {p : Place} {n : ℕ} (x : Walking t a p n) {e : ℕ} (l : a < length t) (f : FirstInSet t a LineEnd e) where
   pub walking-clean : CleanLine t a e
   unfolding readLine
   walking-clean =

@@ -6,6 +6,7 @@ use Prim.Native.Nat.{ℕ, _+_, _<_, _≤_}
 use lib.ListN.{length, getD, drop}
 use Rattle.rules.specs.Base.{Name}
 use Rattle.rules.specs.Limits.{work-bytes, most-bytes, most-classes, most-methods}
+use Rattle.rules.specs.Text.{isName}
 use Rattle.rules.specs.Grammar.{Kind, Line, Class, Field, Method, form, IsKindNumber, isFormed, isKind}
 use Rattle.rules.specs.Scope.{Declarations, classesOf, fieldsOf, methodsOf, declarations}
 use Rattle.tables.specs.Layout.{most-names, lines-at}
@@ -15,7 +16,7 @@ use Rattle.read_grammar.specs.Rows.{kindNumbered}
 use Rattle.read_scopes.specs.declared.Names.{Names}
 use Rattle.read_names.specs.declared.Row.{Row}
 use Rattle.read_names.specs.Rows.{Entry, entryOf, RowFits}
-use Rattle.read_scopes.specs.Meanings.{Fits, declarationsIn, moreClasses, moreFields, moreMethods}
+use Rattle.read_scopes.specs.Meanings.{NamesFit, declarationsIn, moreClasses, moreFields, moreMethods}
 use Rattle.read_declarations.specs.Texts.{linesOf}
 
 -- the declarations of lines with n classes above them, after others
@@ -26,6 +27,14 @@ joined d n ls =
 abbrev pub lineWith : Kind → List Name → Line
 lineWith k ws = record { kind = k; fields = ws }
 
+-- the fields after r are those of a line of this kind
+abbrev pub FormedAfter : List ℕ → ℕ → Kind → Type 0
+FormedAfter t r k = isFormed (form k .operands) (form k .tail) (more (drop r t)) ≡ true
+
+-- field i of them is a name
+abbrev pub NameAfter : List ℕ → ℕ → ℕ → Type 0
+NameAfter t r i = isName (getD (more (drop r t)) i []) ≡ true
+
 -- the counts after a line
 unfoldable pub namesAfter : Kind → Names → Names
 namesAfter k c =
@@ -35,13 +44,13 @@ abbrev pub noNames : Names
 noNames = record { classes = 0; fields = 0; methods = 0; method = false; locals = 0; result = false }
 
 -- the text fits, the area is whole, and the rows are counted
-pub record Ready (t w : List ℕ) (c : Names) : Type 0 where
+pub record TextFits (t w : List ℕ) (c : Names) : Type 0 where
   pub text : length t ≤ most-bytes
   pub whole : length w ≡ work-bytes
-  pub fits : Fits c
+  pub fits : NamesFit c
 
 -- there is room for the row of a line of this kind
-pub record Room (k : Kind) (c : Names) : Type 0 where
+pub record NameRoom (k : Kind) (c : Names) : Type 0 where
   pub class : k ≡ Class → c .classes < most-classes
   pub field : k ≡ Field → c .fields < most-names
   pub method : k ≡ Method → c .methods < most-methods
@@ -50,8 +59,8 @@ pub record Room (k : Kind) (c : Names) : Type 0 where
 pub record LineReady (t : List ℕ) (r k : ℕ) (c : Names) : Type 0 where
   pub high : r ≤ length t
   pub kind : IsKindNumber k
-  pub formed : isFormed (form (kindNumbered k) .operands) (form (kindNumbered k) .tail) (more (drop r t)) ≡ true
-  pub room : Room (kindNumbered k) c
+  pub formed : FormedAfter t r (kindNumbered k)
+  pub room : NameRoom (kindNumbered k) c
 
 -- the row of a method of this owner whose header has these fields
 unfoldable pub methodEntry : ℕ → List Name → Entry
@@ -74,7 +83,7 @@ pub record Adds (t w : List ℕ) (c : Names) (l : Line) (w′ : List ℕ) (c′ 
 -- All lines of the text have their rows; no block is open.
 pub record Declares (t w w′ : List ℕ) (r : Names) : Type 0 where
   pub are : declarationsIn t w′ r ≡ declarations (linesOf t)
-  pub fits : Fits r
+  pub fits : NamesFit r
   pub tables : SameTables w w′
   pub method : r .method ≡ false
   pub locals : r .locals ≡ 0

@@ -19,8 +19,8 @@ use Rattle.read_names.specs.Rows.{nameIn}
 unfoldable pub linesOf : List ℕ → List Line
 linesOf t = map lineOf (lines t)
 
-abbrev pub Taken : List ℕ → Type 0
-Taken t = scanLines (lines t) 0 firstPlace ≡ accepted (linesOf t)
+abbrev pub TextTaken : List ℕ → Type 0
+TextTaken t = scanLines (lines t) 0 firstPlace ≡ accepted (linesOf t)
 
 -- the line that begins at a
 unfoldable pub lineAt : List ℕ → ℕ → Line

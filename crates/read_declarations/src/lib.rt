@@ -6,20 +6,17 @@ use read_scan::Word;
 use read_scopes::Names;
 use rules::Kind;
 ghost use mathlib.Core.Path.{_≡_};
-ghost use mathlib.Core.Bool.{true};
 ghost use Prim.Native.Nat.{_≤_, _<_, pred};
-ghost use lib.ListN.{length, getD, drop};
-ghost use mathlib.Core.List.{[]};
+ghost use lib.ListN.{length, drop};
 ghost use Rattle.rules.specs.Limits.{work-bytes, most-bytes, most-classes, most-methods};
-ghost use Rattle.rules.specs.Text.{isName};
 ghost use Rattle.rules.specs.Grammar.{Class, Field, Method};
 ghost use Rattle.tables.specs.Layout.{most-names, lines-at};
 ghost use Rattle.tables.specs.Stores.{Kept};
 ghost use Rattle.read_fields.specs.Cuts.{more};
 ghost use Rattle.read_grammar.specs.Rows.{kindNumbered};
 ghost use Rattle.read_scan.specs.Table.{WordAt, LineTable};
-ghost use Rattle.read_declarations.specs.Texts.{Taken, SpanAfter};
-ghost use Rattle.read_declarations.specs.Declares.{lineWith, noNames, Ready, LineReady, MethodRow, Adds, Declares};
+ghost use Rattle.read_declarations.specs.Texts.{TextTaken, SpanAfter};
+ghost use Rattle.read_declarations.specs.Declares.{lineWith, NameAfter, noNames, TextFits, LineReady, MethodRow, Adds, Declares};
 
 // FIELDS OF A LINE
 
@@ -105,25 +102,25 @@ fn owner(c: Names) -> usize
 }
 
 fn declare_class(text: &[u8], work: &mut [u8], r: usize, c: Names) -> Names
-    requires { ⌜ Ready (now text) (now work) c × (r ≤ length (now text)) × (c .classes < most-classes) × (isName (getD (more (drop r (now text))) 0 []) ≡ true) ⌝ }
+    requires { ⌜ TextFits (now text) (now work) c × (r ≤ length (now text)) × (c .classes < most-classes) × NameAfter (now text) r 0 ⌝ }
     ensures { λ d. ⌜ Adds (now (text .entry)) (now (work .entry)) c (lineWith Class (more (drop r (now (text .entry))))) (now (work .exit)) d ⌝ }
 {
     let name = span_after(text, r);
-    read_scopes::put_class(text, work, c, name)
+    read_scopes::add_class(text, work, c, name)
 }
 
 fn declare_field(text: &[u8], work: &mut [u8], r: usize, c: Names) -> Names
-    requires { ⌜ Ready (now text) (now work) c × (r ≤ length (now text)) × (c .fields < most-names) × (isName (getD (more (drop r (now text))) 0 []) ≡ true) × (isName (getD (more (drop r (now text))) 1 []) ≡ true) ⌝ }
+    requires { ⌜ TextFits (now text) (now work) c × (r ≤ length (now text)) × (c .fields < most-names) × NameAfter (now text) r 0 × NameAfter (now text) r 1 ⌝ }
     ensures { λ d. ⌜ Adds (now (text .entry)) (now (work .entry)) c (lineWith Field (more (drop r (now (text .entry))))) (now (work .exit)) d ⌝ }
 {
     let gives = span_after(text, r);
     let name = span_after(text, gives.start + gives.len);
-    read_scopes::put_field(text, work, c, owner(c), name, gives)
+    read_scopes::add_field(text, work, c, owner(c), name, gives)
 }
 
 // The row of a method by its header.
 pub fn method_row(text: &[u8], r: usize, owner: usize) -> Row
-    requires { ⌜ (length (now text) ≤ most-bytes) × (r ≤ length (now text)) × (owner < 256) × (isName (getD (more (drop r (now text))) 0 []) ≡ true) × (isName (getD (more (drop r (now text))) 1 []) ≡ true) × (isName (getD (more (drop r (now text))) 2 []) ≡ true) ⌝ }
+    requires { ⌜ (length (now text) ≤ most-bytes) × (r ≤ length (now text)) × (owner < 256) × NameAfter (now text) r 0 × NameAfter (now text) r 1 × NameAfter (now text) r 2 ⌝ }
     ensures { λ m. ⌜ MethodRow (now (text .entry)) owner (more (drop r (now (text .entry)))) m ⌝ }
 {
     let gives = span_after(text, r);
@@ -138,16 +135,16 @@ pub fn method_row(text: &[u8], r: usize, owner: usize) -> Row
 }
 
 fn declare_method(text: &[u8], work: &mut [u8], r: usize, c: Names) -> Names
-    requires { ⌜ Ready (now text) (now work) c × (r ≤ length (now text)) × (c .methods < most-methods) × (isName (getD (more (drop r (now text))) 0 []) ≡ true) × (isName (getD (more (drop r (now text))) 1 []) ≡ true) × (isName (getD (more (drop r (now text))) 2 []) ≡ true) ⌝ }
+    requires { ⌜ TextFits (now text) (now work) c × (r ≤ length (now text)) × (c .methods < most-methods) × NameAfter (now text) r 0 × NameAfter (now text) r 1 × NameAfter (now text) r 2 ⌝ }
     ensures { λ d. ⌜ Adds (now (text .entry)) (now (work .entry)) c (lineWith Method (more (drop r (now (text .entry))))) (now (work .exit)) d ⌝ }
 {
     let m = method_row(text, r, owner(c));
-    read_scopes::put_method(text, work, c, m)
+    read_scopes::add_method(text, work, c, m)
 }
 
 // The row of a line of this kind, if it declares something.
 fn declare_line(text: &[u8], work: &mut [u8], r: usize, kind: u8, c: Names) -> Names
-    requires { ⌜ Ready (now text) (now work) c × LineReady (now text) r kind c ⌝ }
+    requires { ⌜ TextFits (now text) (now work) c × LineReady (now text) r kind c ⌝ }
     ensures { λ d. ⌜ Adds (now (text .entry)) (now (work .entry)) c (lineWith (kindNumbered kind) (more (drop r (now (text .entry))))) (now (work .exit)) d ⌝ }
 {
     match kind {
@@ -175,7 +172,7 @@ fn no_names() -> Names
 
 // The rows of all classes, fields and methods of a text that pass 1 takes, by its table of n lines.
 pub fn declare(text: &[u8], work: &mut [u8], n: usize) -> Names
-    requires { ⌜ (length (now text) ≤ most-bytes) × (length (now work) ≡ work-bytes) × Taken (now text) × LineTable (now text) (now work) n ⌝ }
+    requires { ⌜ (length (now text) ≤ most-bytes) × (length (now work) ≡ work-bytes) × TextTaken (now text) × LineTable (now text) (now work) n ⌝ }
     ensures { λ r. ⌜ Declares (now (text .entry)) (now (work .entry)) (now (work .exit)) r × Kept lines-at work-bytes (now (work .entry)) (now (work .exit)) ⌝ }
 {
     let mut c = no_names();

@@ -12,7 +12,7 @@ use lib.Seq.{drop-cons, drop-drop, getD-drop}
 use borrow.Author.Tests.{eqb-true, eqb-false, ne-eqb, not-true, not-false}
 use Rattle.rules.specs.Base.{Name, all}
 use Rattle.rules.specs.Text.{lines, onto, fields, clean, allowed, upTo}
-use Rattle.read_bytes.specs.Sets.{inSet, Found}
+use Rattle.read_bytes.specs.Sets.{inSet, FirstInSet}
 use Rattle.read_bytes.specs.declared.Set.the-variants.{LineEnd, FieldEnd}
 use Rattle.read_bytes.proofs.Search.{and-false, or-false}
 use Rattle.read_fields.specs.Cuts.{part, firstLine, more, CleanLine, BadLine}
@@ -111,7 +111,7 @@ bad-first (b ∷ c ∷ t) (suc n) e h g =
     record { line = b ∷ x .line; rest = x .rest; cut = rw (o .0, x .cut); bad = longer-bad b (x .line) (o .0) (x .bad) }
 
 -- LINES AT PLACES
-module _ (t : List ℕ) (a e : ℕ) (f : Found t a LineEnd e) where
+module _ (t : List ℕ) (a e : ℕ) (f : FirstInSet t a LineEnd e) where
   -- how far the line's end is from its beginning, and the byte there
   far : upTo (inSet LineEnd) (drop a t) ≡ e - a
   far = omega (arith, f .is)
@@ -168,7 +168,7 @@ fields-first (b ∷ t) = field-case b t (upTo (inSet FieldEnd) t) (eqb b 9) (eqb
 some-field : (t : List ℕ) → eqb (length (fields t)) 0 ≡ false
 some-field t = ne-eqb (length (fields t)) 0 (λ e. omega (arith, ap length (fields-first t)))
 
-pub fields-from : (t : List ℕ) (a e : ℕ) → Found t a FieldEnd e → fields (drop a t) ≡ part a e t ∷ more (drop e t)
+pub fields-from : (t : List ℕ) (a e : ℕ) → FirstInSet t a FieldEnd e → fields (drop a t) ≡ part a e t ∷ more (drop e t)
 fields-from t a e f =
     let n : upTo (inSet FieldEnd) (drop a t) ≡ e - a = omega (arith, f .is) in
     let m : a + (e - a) ≡ e = omega (arith, f .low) in

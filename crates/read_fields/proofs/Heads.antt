@@ -15,14 +15,14 @@ use Rattle.rules.specs.Text as Text
 use Rattle.rules.specs.Text.{upTo, isName, isExpr, isRel, isAtom, isFormula, isCondition}
 use Rattle.rules.specs.Grammar.{Operand, variable, expression, read, isOperand}
 use Rattle.rules.proofs.Lists.{decide-eq}
-use Rattle.read_bytes.specs.Sets.{inSet, Found}
+use Rattle.read_bytes.specs.Sets.{inSet, FirstInSet}
 use Rattle.read_bytes.specs.declared.Set.the-variants.{LineEnd, FieldEnd}
 use Rattle.read_bytes.proofs.Search.{true-false, both-true, and-false, or-true, or-false, all-at, upTo-within, upTo-is}
 use Rattle.read_words.proofs.Words.{of-atom-word}
 use Rattle.read_fields.specs.Cuts.{part, more}
 use Rattle.read_grammar.specs.Rows as Rows
 use Rattle.read_grammar.specs.Rows.{operandsNumber}
-use Rattle.read_fields.specs.Spans.{Span, Fits, operandsThen, HeadIs, AtomHead, AtomEnd, OperandsRead}
+use Rattle.read_fields.specs.Spans.{Span, FieldFits, operandsThen, HeadIs, AtomHead, AtomEnd, OperandsRead}
 use Rattle.read_fields.specs.declared.Head.{Head}
 use Rattle.read_fields.specs.declared.Fields.the-variants.{Upto, Bad}
 use Rattle.read_fields.proofs.Clean.{inLine}
@@ -91,7 +91,7 @@ module _ (t : List ℕ) (r : ℕ) (g : getD t r 0 ≡ 9) where
     from : (i : ℕ) → getD (drop (r + 1) t) i 0 ≡ getD t (r + 1 + i) 0
     from i = getD-drop (r + 1) t i 0
 
-    found : Found t (r + 1) FieldEnd (r + 1 + length s)
+    found : FirstInSet t (r + 1) FieldEnd (r + 1 + length s)
     found =
         let m = length-drop (r + 1) t in
         let h = byte-in t (r + 1 + length s) 9 (omega arith) (x .after) in
@@ -110,7 +110,7 @@ module _ (t : List ℕ) (r : ℕ) (g : getD t r 0 ≡ 9) where
         let z : r + 1 + length s - (r + 1) ≡ length s = omega arith in
         rw z (take-same s (drop (r + 1) t) (omega arith) (λ i k. from i ∙ x .letters i k))
 
-    fits : Fits (all within) t r (r + 1 + length s)
+    fits : FieldFits (all within) t r (r + 1 + length s)
     fits = record { tab = g; end = found; fits = rw cut (word-within s w) }
 
     word-more : more (drop r t) ≡ s ∷ more (drop (r + 1 + length s) t)
@@ -161,7 +161,7 @@ formula-word n w (a ∷ b ∷ vs) e =
     (atom-word w a b (both-true (isAtom w a b) (isFormula n vs) e .0), λ z. absurd (let y : _≡_ {A = ℕ} 0 1 = cc in omega arith))
 
 module _ (t : List ℕ) (r : ℕ) (g : getD t r 0 ≡ 9) where
-  field-end : Found t (r + 1) FieldEnd (r + 1 + upTo (inSet FieldEnd) (drop (r + 1) t))
+  field-end : FirstInSet t (r + 1) FieldEnd (r + 1 + upTo (inSet FieldEnd) (drop (r + 1) t))
   field-end =
       let h = byte-in t r 9 (omega arith) g in
       record { low = omega arith; high = omega (arith, upTo-within (inSet FieldEnd) (drop (r + 1) t), length-drop (r + 1) t); is = refl }
@@ -170,7 +170,7 @@ module _ (t : List ℕ) (r : ℕ) (g : getD t r 0 ≡ 9) where
   heads : (n : ℕ) → isFormula (suc n) (more (drop r t)) ≡ true → (s : Name) × (isWord s ≡ true) × Spelled t r s
   heads n e = go (r + 1 + upTo (inSet FieldEnd) (drop (r + 1) t)) field-end
     where
-      go : (z : ℕ) → Found t (r + 1) FieldEnd z → (s : Name) × (isWord s ≡ true) × Spelled t r s
+      go : (z : ℕ) → FirstInSet t (r + 1) FieldEnd z → (s : Name) × (isWord s ≡ true) × Spelled t r s
       go z f =
           let w : Name = part (r + 1) z t in
           let c : more (drop r t) ≡ w ∷ more (drop z t) = some-more t r g ∙ fields-from t (r + 1) z f in

@@ -12,14 +12,14 @@ use borrow.Author.Tests.{eq-eqb, ne-eqb, not-true}
 use Rattle.rules.specs.Base.{Name, all}
 use Rattle.rules.specs.Text.{upTo, allowed, isName, isExpr}
 use Rattle.rules.specs.Grammar.{Operand, Tail, form, isOperand, isTail, isFormed}
-use Rattle.read_bytes.specs.Sets.{inSet, Found}
+use Rattle.read_bytes.specs.Sets.{inSet, FirstInSet}
 use Rattle.read_bytes.specs.Fields.{firstField, fieldLength, FieldIs}
 use Rattle.read_bytes.specs.declared.Set.the-variants.{LineEnd, FieldEnd}
 use Rattle.read_bytes.proofs.Search.{all-at, upTo-found, upTo-is}
 use Rattle.read_bytes.proofs.Fields.{unfit, fit, field-cut}
 use Rattle.read_fields.specs.Cuts.{part, more}
 use Rattle.read_grammar.specs.Rows.{kindNumbered, operandNumber, operandsNumber, tailNumber, fitsOperand, fitsTail}
-use Rattle.read_fields.specs.Spans.{EndsField, Span, firstFits, Fits, NextFit, operandsThen, OperandsRead, FieldsRead, formedAs}
+use Rattle.read_fields.specs.Spans.{EndsField, Span, firstFits, FieldFits, NextFit, operandsThen, OperandsRead, FieldsRead, formedAs}
 use Rattle.read_fields.specs.declared.Fields.{Fields}
 use Rattle.read_fields.specs.declared.Fields.the-variants.{Upto, Bad}
 use Rattle.read_fields.proofs.Cuts.{fields-first, fields-from, no-more, some-more, more-tab}
@@ -40,14 +40,14 @@ span-on {t} {r} {m} {e} x y =
     }
 
 -- what ends a field is found there
-pub field-ends : {t : List ℕ} {a e : ℕ} → Found t a FieldEnd e → EndsField t e
+pub field-ends : {t : List ℕ} {a e : ℕ} → FirstInSet t a FieldEnd e → EndsField t e
 field-ends {t} {a} {e} f h =
     let n : upTo (inSet FieldEnd) (drop a t) ≡ e - a = omega (arith, f .is) in
     let z : a + (e - a) ≡ e = omega (arith, f .low) in
     let k = upTo-found (inSet FieldEnd) (drop a t) (omega (arith, n, length-drop a t, f .low)) in
     rw (n, getD-drop a t (e - a) 0, z) at k
 
-pub field-span : {t : List ℕ} {a e : ℕ} → Found t a FieldEnd e → all inLine (part a e t) ≡ true → Span t a e
+pub field-span : {t : List ℕ} {a e : ℕ} → FirstInSet t a FieldEnd e → all inLine (part a e t) ≡ true → Span t a e
 field-span {t} {a} {e} f c =
     record {
       low = f .low;
@@ -62,7 +62,7 @@ field-span {t} {a} {e} f c =
     }
 
 -- a line ends there, if no tab follows
-pub line-found : {t : List ℕ} {a e : ℕ} → Span t a e → EndsField t e → (getD t e 0 ≡ 9 → ⊥) → Found t a LineEnd e
+pub line-found : {t : List ℕ} {a e : ℕ} → Span t a e → EndsField t e → (getD t e 0 ≡ 9 → ⊥) → FirstInSet t a LineEnd e
 line-found {t} {a} {e} x f n =
     let m = length-drop a t in
     let z : a + (e - a) ≡ e = omega (arith, x .low) in
@@ -75,7 +75,7 @@ line-found {t} {a} {e} x f n =
     feed h = let g : eqb (getD t e 0) 10 ≡ true = rw (ne-eqb _ 9 n) at h in rw g
 
 -- ONE FIELD
-module _ {p : Name → Bool} {t : List ℕ} {r e : ℕ} (x : Fits p t r e) where
+module _ {p : Name → Bool} {t : List ℕ} {r e : ℕ} (x : FieldFits p t r e) where
   pub more-fits : more (drop r t) ≡ part (r + 1) e t ∷ more (drop e t)
   more-fits = some-more t r (x .tab) ∙ fields-from t (r + 1) e (x .end)
 
@@ -101,7 +101,7 @@ module _ (p : Name → Bool) (t : List ℕ) (r : ℕ) (h : r ≤ length t) where
   no-tab n = no-fit (rw (no-more t r n))
 
   module _ (no-bytes : p [] ≡ false) (g : getD t r 0 ≡ 9) (e : ℕ) (f : FieldIs p t (r + 1) e) where
-    found : (n : ℕ) → n ≡ r + 1 + fieldLength (drop (r + 1) t) → n ≤ length t → Found t (r + 1) FieldEnd n
+    found : (n : ℕ) → n ≡ r + 1 + fieldLength (drop (r + 1) t) → n ≤ length t → FirstInSet t (r + 1) FieldEnd n
     unfolding fieldLength
     found n i l = record { low = omega (arith, i); high = l; is = i }
 
@@ -181,7 +181,7 @@ module _ {os : List Operand} {t : List ℕ} {from n r : ℕ} (x : Walk os t from
             let j : operandNumber o ≡ n % 16 = omega (arith, operand-bounds o) in
             rw (operand-is o w, j, i)
 
-    pub walk-on : {e : ℕ} → Fits (fitsOperand (n % 16)) t r e → Walk os t from (n / 16) e
+    pub walk-on : {e : ℕ} → FieldFits (fitsOperand (n % 16)) t r e → Walk os t from (n / 16) e
     unfolding operandsThen operandsNumber
     walk-on {e} f = go (x .left) (x .number) (x .is)
       where

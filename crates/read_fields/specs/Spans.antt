@@ -8,7 +8,7 @@ use lib.ListN.{length, getD, drop}
 use Rattle.rules.specs.Base.{Name}
 use Rattle.rules.specs.Text.{tab, isFormula}
 use Rattle.rules.specs.Grammar.{Operand, form, isOperand, isFormed}
-use Rattle.read_bytes.specs.Sets.{inSet, Found}
+use Rattle.read_bytes.specs.Sets.{inSet, FirstInSet}
 use Rattle.read_bytes.specs.declared.Set.the-variants.{LineEnd, FieldEnd}
 use Rattle.read_fields.specs.Cuts.{part, more}
 use Rattle.read_grammar.specs.Rows.{kindNumbered, operandsNumber}
@@ -35,16 +35,16 @@ firstFits p [] = false
 firstFits p (w ∷ ws) = p w
 
 -- A tab stands at r, and the field after it ends at e and passes the test p.
-pub record Fits (p : Name → Bool) (t : List ℕ) (r e : ℕ) : Type 0 where
+pub record FieldFits (p : Name → Bool) (t : List ℕ) (r e : ℕ) : Type 0 where
   pub tab : getD t r 0 ≡ tab
-  pub end : Found t (r + 1) FieldEnd e
+  pub end : FirstInSet t (r + 1) FieldEnd e
   pub fits : p (part (r + 1) e t) ≡ true
 
 -- After a field that ends at r, the next passes the test p and ends at e; e is r where there is none that does.
 pub record NextFit (p : Name → Bool) (t : List ℕ) (r e : ℕ) : Type 0 where
   pub high : e ≤ length t
   pub none : e ≡ r → firstFits p (more (drop r t)) ≡ false
-  pub some : (e ≡ r → ⊥) → Fits p t r e
+  pub some : (e ≡ r → ⊥) → FieldFits p t r e
 
 -- OPERANDS
 

@@ -1,6 +1,7 @@
 // The fields of a line, each read once: operands, atoms, what may follow them.
 use read_bytes::Set;
 use read_grammar::OperandNumber;
+use read_grammar::TailNumber;
 use rules::Machine;
 ghost use mathlib.Core.Path.{_≡_};
 ghost use mathlib.Core.List.{[], _∷_};
@@ -14,6 +15,8 @@ ghost use Rattle.read_fields.specs.Cuts.{NextField};
 ghost use Rattle.read_grammar.specs.Rows.{fitsOperand, fitsTail};
 ghost use Rattle.read_fields.specs.Spans.{NextFit, OperandsEnd, AtomHead, AtomEnd, FieldsRead, formedAs};
 
+const TAB: u8 = 9;
+
 // FIELDS
 
 // The end of the field after the one that ends at r, or r where there is none.
@@ -21,7 +24,7 @@ pub fn next_field(t: &[u8], r: usize) -> usize
     requires { ⌜ r ≤ length (now t) ⌝ }
     ensures { λ e. ⌜ NextField (now (t .entry)) r e ⌝ }
 {
-    if read_bytes::byte_at(t, r) != 9 {
+    if read_bytes::byte_at(t, r) != TAB {
         return r;
     }
     read_bytes::find(t, r + 1, Set::FieldEnd)
@@ -32,7 +35,7 @@ fn next_name(t: &[u8], r: usize) -> usize
     requires { ⌜ r ≤ length (now t) ⌝ }
     ensures { λ e. ⌜ NextFit isName (now (t .entry)) r e ⌝ }
 {
-    if read_bytes::byte_at(t, r) != 9 {
+    if read_bytes::byte_at(t, r) != TAB {
         return r;
     }
     let a = r + 1;
@@ -45,7 +48,7 @@ fn next_expr(t: &[u8], r: usize) -> usize
     requires { ⌜ r ≤ length (now t) ⌝ }
     ensures { λ e. ⌜ NextFit isExpr (now (t .entry)) r e ⌝ }
 {
-    if read_bytes::byte_at(t, r) != 9 {
+    if read_bytes::byte_at(t, r) != TAB {
         return r;
     }
     let a = r + 1;
@@ -93,13 +96,18 @@ fn no_fields(t: &[u8], r: usize) -> Fields
     requires { ⌜ r ≤ length (now t) ⌝ }
     ensures { λ f. ⌜ FieldsRead (λ ws. eqb (length ws) 0) (now (t .entry)) r f ⌝ }
 {
-    if read_bytes::byte_at(t, r) != 9 {
+    if read_bytes::byte_at(t, r) != TAB {
         return Fields::Upto(r);
     }
     Fields::Bad
 }
 
 // ATOMS
+
+// The operands of `acc x f`, and of `eq e e` and `ne e e`: two names, two expressions.
+const ACC_OPERANDS: u32 = 0x77;
+
+const REL_OPERANDS: u32 = 0xbb;
 
 // How an atom begins: the number of the operands after its word, or 0 where the word is none of an atom; and the word's end.
 struct Head {
@@ -121,14 +129,14 @@ fn acc_head(t: &[u8], r: usize) -> Head
     requires { ⌜ (getD (now t) r 0 ≡ 9) × (getD (now t) (r + 1) 0 ≡ 97) ⌝ }
     ensures { λ h. ⌜ AtomHead (now (t .entry)) r h ⌝ }
 {
-    if read_bytes::byte_at(t, r + 2) != 99 {
+    if read_bytes::byte_at(t, r + 2) != b'c' {
         return no_head(r);
     }
-    if read_bytes::byte_at(t, r + 3) != 99 {
+    if read_bytes::byte_at(t, r + 3) != b'c' {
         return no_head(r);
     }
     Head {
-        operands: 0x77,
+        operands: ACC_OPERANDS,
         end: r + 4,
     }
 }
@@ -142,7 +150,7 @@ fn rel_head(t: &[u8], r: usize, b: u8) -> Head
         return no_head(r);
     }
     Head {
-        operands: 0xbb,
+        operands: REL_OPERANDS,
         end: r + 3,
     }
 }
@@ -154,9 +162,9 @@ fn atom_head(t: &[u8], r: usize) -> Head
 {
     let b = read_bytes::byte_at(t, r + 1);
     match b {
-        97 => acc_head(t, r),
-        101 => rel_head(t, r, 113),
-        110 => rel_head(t, r, 101),
+        b'a' => acc_head(t, r),
+        b'e' => rel_head(t, r, b'q'),
+        b'n' => rel_head(t, r, b'e'),
         _ => no_head(r),
     }
 }
@@ -184,7 +192,7 @@ fn formula_end(t: &[u8], from: usize, most: usize) -> Fields
 {
     let mut r = from;
     let mut n = most;
-    while read_bytes::byte_at(t, r) == 9 {
+    while read_bytes::byte_at(t, r) == TAB {
         if n == 0 {
             return Fields::Bad;
         }
@@ -203,10 +211,10 @@ fn condition_end(t: &[u8], r: usize) -> Fields
     requires { ⌜ r ≤ length (now t) ⌝ }
     ensures { λ f. ⌜ FieldsRead isCondition (now (t .entry)) r f ⌝ }
 {
-    if read_bytes::byte_at(t, r) != 9 {
+    if read_bytes::byte_at(t, r) != TAB {
         return Fields::Bad;
     }
-    if read_bytes::byte_at(t, r + 1) == 97 {
+    if read_bytes::byte_at(t, r + 1) == b'a' {
         return Fields::Bad;
     }
     formula_end(t, r, 1)
@@ -220,8 +228,8 @@ fn tail_end(tail: u32, t: &[u8], r: usize) -> Fields
     ensures { λ f. ⌜ FieldsRead (fitsTail tail) (now (t .entry)) r f ⌝ }
 {
     match tail {
-        0 => no_fields(t, r),
-        1 => condition_end(t, r),
+        TailNumber::NONE => no_fields(t, r),
+        TailNumber::CONDITION => condition_end(t, r),
         _ => formula_end(t, r, Machine::ATOMS),
     }
 }

@@ -39,6 +39,26 @@ impl OperandNumber {
     pub const EXPRESSION: u32 = 11;
 }
 
+// What follows the operands, by its number; any other is a formula.
+pub struct TailNumber {}
+
+impl TailNumber {
+    pub const NONE: u32 = 0;
+
+    pub const CONDITION: u32 = 1;
+}
+
+// The stages that no row of a kind leads to, by their numbers.
+pub struct Stage {}
+
+impl Stage {
+    pub const BEGINNING: u32 = 0;
+
+    pub const AFTER_METHOD: u32 = 2;
+
+    pub const AFTER_MAIN: u32 = 7;
+}
+
 // What the grammar says of a kind of line: its operands to the base 16, the first lowest; what follows them; the stages at which it may
 // stand; and the stage after it.
 pub struct Row {
@@ -72,7 +92,9 @@ fn row_number(kind: u8) -> u32
         Kind::IF => 0x6651_0000,
         Kind::ELSE => 0x6650_0000,
         Kind::JOIN => 0x6652_0000,
-        _ => 0x6650_0000, // end
+        Kind::END => 0x6650_0000,
+        Kind::ADD => 0x6650_0778,
+        _ => 0x6650_0778, // sub
     }
 }
 
@@ -112,7 +134,7 @@ pub fn first_place() -> Place
     ensures { λ r. ⌜ r ≡ coded firstPlace ⌝ }
 {
     Place {
-        stage: 0,
+        stage: Stage::BEGINNING,
         main: false,
         branches: 0,
         classes: 0,
@@ -156,7 +178,11 @@ fn stage_after(kind: u8, main: bool, next: u32) -> u32
     if kind != Kind::END {
         return next;
     }
-    if main { 7 } else { 2 }
+    if main {
+        Stage::AFTER_MAIN
+    } else {
+        Stage::AFTER_METHOD
+    }
 }
 
 fn branches_after(kind: u8, n: usize) -> usize

@@ -4,10 +4,10 @@ use mathlib.Core.Bool.{Bool, not, cond, _&&_}
 use mathlib.Core.List.{List, [], _∷_, _++_, map}
 use Prim.Native.Nat.{ℕ, _+_, _≤_}
 use lib.Dec.{eqb, ltb}
-use Rattle.rules.specs.Base.{Name, eqName, any}
+use Rattle.rules.specs.Base.{Name, eqName, any, index}
 use Rattle.rules.specs.Text.{reserved}
 use Rattle.rules.specs.Scope.{Variable}
-use Rattle.rules.specs.Names.{isType, variableNumber, variableType, inScope}
+use Rattle.rules.specs.Names.{isType, isFieldOf, variableNumber, variableType, inScope}
 use Rattle.read_names.specs.declared.Span.{Span}
 use Rattle.read_scopes.specs.declared.Names.{Names}
 use Rattle.read_scopes.specs.declared.Above.{Above}
@@ -30,6 +30,10 @@ pub record Looked (t w : List ℕ) (vs : List Variable) (x : Name) (r : ℕ) : T
 -- n variables from the number v on, and `result` if a line may name it
 unfoldable pub ownIn : List ℕ → List ℕ → ℕ → ℕ → Bool → List Variable
 ownIn t w v n b = run (variableAt t w) v n ++ cond b (resultIn t w ∷ []) []
+
+-- where the first field f of the class named at s stands among the fields; their count if there is none
+abbrev pub fieldIndex : List ℕ → List ℕ → Names → Span → Name → ℕ
+fieldIndex t w c s f = index (isFieldOf (declarationsIn t w c) (nameIn t s) f) (declarationsIn t w c .fields)
 
 -- 6, of a new name: "reserved or declared twice"
 unfoldable pub isNew : Name → List Name → Bool

@@ -10,12 +10,12 @@ ghost use mathlib.Core.List.{List, map};
 ghost use lib.Dec.{eqb, ltb};
 ghost use Prim.Native.Nat.{ℕ, _+_, _≤_, _<_};
 ghost use lib.ListN.{length, getD};
-ghost use Rattle.rules.specs.Base.{is, eqName, index};
+ghost use Rattle.rules.specs.Base.{is, eqName};
 ghost use Rattle.rules.specs.Limits.{work-bytes};
-ghost use Rattle.rules.specs.Names.{classNumber, isClass, isType, isFieldOf, fieldType, fieldNumber, methodNumber, noField, noDeclaration, inScope, variableType};
+ghost use Rattle.rules.specs.Names.{classNumber, isClass, isType, fieldType, fieldNumber, methodNumber, noField, noDeclaration, inScope, variableType};
 ghost use Rattle.read_names.specs.Rows.{most-rows, nameIn, ownerAt, fields-first};
-ghost use Rattle.read_scopes.specs.Meanings.{Fits, AboveFits, namesFrom, declarationsIn, variablesIn, blockIn};
-ghost use Rattle.read_lookups.specs.LookUps.{mayDeclare, mayAddField, mayAddMethod, typeOf, ownIn, Looked, isNew};
+ghost use Rattle.read_scopes.specs.Meanings.{NamesFit, AboveFits, namesFrom, declarationsIn, variablesIn, blockIn};
+ghost use Rattle.read_lookups.specs.LookUps.{mayDeclare, mayAddField, mayAddMethod, typeOf, ownIn, Looked, isNew, fieldIndex};
 
 // read_names::CLASSES AND TYPES
 
@@ -41,7 +41,7 @@ pub fn same_name(text: &[u8], s: Span, u: Span) -> bool
 
 // The number of the first class that is named x; the count of classes if there is none.
 pub fn class_number(text: &[u8], work: &[u8], c: Names, x: &[u8]) -> usize
-    requires { ⌜ (length (now work) ≡ work-bytes) × Fits c ⌝ }
+    requires { ⌜ (length (now work) ≡ work-bytes) × NamesFit c ⌝ }
     ensures { λ r. ⌜ (r ≡ classNumber (declarationsIn (now (text .entry)) (now (work .entry)) c) (now (x .entry))) × (r ≤ c .classes) ⌝ }
 {
     let n = c.classes;
@@ -49,7 +49,7 @@ pub fn class_number(text: &[u8], work: &[u8], c: Names, x: &[u8]) -> usize
 }
 
 pub fn is_class(text: &[u8], work: &[u8], c: Names, x: &[u8]) -> bool
-    requires { ⌜ (length (now work) ≡ work-bytes) × Fits c ⌝ }
+    requires { ⌜ (length (now work) ≡ work-bytes) × NamesFit c ⌝ }
     ensures { λ r. ⌜ r ≡ isClass (declarationsIn (now (text .entry)) (now (work .entry)) c) (now (x .entry)) ⌝ }
 {
     if read_words::is_reserved(x) {
@@ -59,7 +59,7 @@ pub fn is_class(text: &[u8], work: &[u8], c: Names, x: &[u8]) -> bool
 }
 
 pub fn is_type(text: &[u8], work: &[u8], c: Names, x: &[u8]) -> bool
-    requires { ⌜ (length (now work) ≡ work-bytes) × Fits c ⌝ }
+    requires { ⌜ (length (now work) ≡ work-bytes) × NamesFit c ⌝ }
     ensures { λ r. ⌜ r ≡ isType (declarationsIn (now (text .entry)) (now (work .entry)) c) (now (x .entry)) ⌝ }
 {
     if is_int_word(x) {
@@ -97,18 +97,18 @@ fn own_variable(text: &[u8], work: &[u8], from: usize, n: usize, result: bool, x
 
 // The number of the variable that is named x: 0 is `this`, 1 the parameter, 2 to 13 are locals, 14 is `result`, 15 none.
 pub fn variable(text: &[u8], work: &[u8], c: Names, x: &[u8]) -> usize
-    requires { ⌜ (length (now work) ≡ work-bytes) × Fits c ⌝ }
+    requires { ⌜ (length (now work) ≡ work-bytes) × NamesFit c ⌝ }
     ensures { λ r. ⌜ Looked (now (text .entry)) (now (work .entry)) (variablesIn (now (text .entry)) (now (work .entry)) c) (now (x .entry)) r ⌝ }
 {
     let n = c.locals;
     let result = c.result;
     if !c.method {
-        return own_variable(text, work, 2, n, result, x);
+        return own_variable(text, work, read_scopes::FIRST_LOCAL, n, result, x);
     }
     if read_bytes::same(b"this", x) {
-        return 0;
+        return read_scopes::THIS;
     }
-    own_variable(text, work, 1, n + 1, result, x)
+    own_variable(text, work, read_scopes::PARAMETER, n + 1, result, x)
 }
 
 // The type of the variable v.
@@ -123,7 +123,7 @@ pub fn type_of(work: &[u8], v: usize) -> Span
 }
 
 pub fn variable_type(text: &[u8], work: &[u8], c: Names, x: &[u8]) -> Span
-    requires { ⌜ (length (now work) ≡ work-bytes) × Fits c ⌝ }
+    requires { ⌜ (length (now work) ≡ work-bytes) × NamesFit c ⌝ }
     ensures { λ r. ⌜ nameIn (now (text .entry)) r ≡ variableType (variablesIn (now (text .entry)) (now (work .entry)) c) (now (x .entry)) ⌝ }
 {
     let v = variable(text, work, c, x);
@@ -131,7 +131,7 @@ pub fn variable_type(text: &[u8], work: &[u8], c: Names, x: &[u8]) -> Span
 }
 
 pub fn in_scope(text: &[u8], work: &[u8], c: Names, x: &[u8]) -> bool
-    requires { ⌜ (length (now work) ≡ work-bytes) × Fits c ⌝ }
+    requires { ⌜ (length (now work) ≡ work-bytes) × NamesFit c ⌝ }
     ensures { λ r. ⌜ r ≡ inScope (variablesIn (now (text .entry)) (now (work .entry)) c) (now (x .entry)) ⌝ }
 {
     variable(text, work, c, x) < read_names::NO_VARIABLE
@@ -141,8 +141,8 @@ pub fn in_scope(text: &[u8], work: &[u8], c: Names, x: &[u8]) -> bool
 
 // Where the first field f of a class stands among the fields; their count if there is none.
 pub fn field_of(text: &[u8], work: &[u8], c: Names, class: Span, f: &[u8]) -> usize
-    requires { ⌜ (length (now work) ≡ work-bytes) × Fits c ⌝ }
-    ensures { λ r. ⌜ (r ≡ index (isFieldOf (declarationsIn (now (text .entry)) (now (work .entry)) c) (nameIn (now (text .entry)) class) (now (f .entry))) ((declarationsIn (now (text .entry)) (now (work .entry)) c) .fields)) × (r ≤ c .fields) ⌝ }
+    requires { ⌜ (length (now work) ≡ work-bytes) × NamesFit c ⌝ }
+    ensures { λ r. ⌜ (r ≡ fieldIndex (now (text .entry)) (now (work .entry)) c class (now (f .entry))) × (r ≤ c .fields) ⌝ }
 {
     let k = class_number(text, work, c, read_names::name_in(text, class));
     let n = c.fields;
@@ -151,7 +151,7 @@ pub fn field_of(text: &[u8], work: &[u8], c: Names, class: Span, f: &[u8]) -> us
 
 // The type of the field i.
 pub fn field_gives(work: &[u8], c: Names, i: usize) -> Span
-    requires { ⌜ (length (now work) ≡ work-bytes) × Fits c ⌝ }
+    requires { ⌜ (length (now work) ≡ work-bytes) × NamesFit c ⌝ }
     ensures { λ r. ⌜ ((t : List ℕ) → nameIn t r ≡ getD (declarationsIn t (now (work .entry)) c .fields) i noField .type) ⌝ }
 {
     if i < c.fields {
@@ -161,7 +161,7 @@ pub fn field_gives(work: &[u8], c: Names, i: usize) -> Span
 }
 
 pub fn field_type(text: &[u8], work: &[u8], c: Names, class: Span, f: &[u8]) -> Span
-    requires { ⌜ (length (now work) ≡ work-bytes) × Fits c ⌝ }
+    requires { ⌜ (length (now work) ≡ work-bytes) × NamesFit c ⌝ }
     ensures { λ r. ⌜ nameIn (now (text .entry)) r ≡ fieldType (declarationsIn (now (text .entry)) (now (work .entry)) c) (nameIn (now (text .entry)) class) (now (f .entry)) ⌝ }
 {
     let i = field_of(text, work, c, class, f);
@@ -170,7 +170,7 @@ pub fn field_type(text: &[u8], work: &[u8], c: Names, class: Span, f: &[u8]) -> 
 
 // The number of a field's name: where the first field of that name stands, of whatever class.
 pub fn field_number(text: &[u8], work: &[u8], c: Names, f: &[u8]) -> usize
-    requires { ⌜ (length (now work) ≡ work-bytes) × Fits c ⌝ }
+    requires { ⌜ (length (now work) ≡ work-bytes) × NamesFit c ⌝ }
     ensures { λ r. ⌜ (r ≡ fieldNumber (declarationsIn (now (text .entry)) (now (work .entry)) c) (now (f .entry))) × (r ≤ c .fields) ⌝ }
 {
     let n = c.fields;
@@ -179,7 +179,7 @@ pub fn field_number(text: &[u8], work: &[u8], c: Names, f: &[u8]) -> usize
 
 // Is there a field i, and is it of the class k?
 fn is_field_of(work: &[u8], c: Names, k: usize, i: usize) -> bool
-    requires { ⌜ (length (now work) ≡ work-bytes) × Fits c ⌝ }
+    requires { ⌜ (length (now work) ≡ work-bytes) × NamesFit c ⌝ }
     ensures { λ r. ⌜ r ≡ (ltb i (c .fields) && eqb (ownerAt (now (work .entry)) (fields-first + i)) k) ⌝ }
 {
     if i < c.fields {
@@ -197,8 +197,8 @@ pub fn owned_field(
     number: usize,
     f: &[u8],
 ) -> usize
-    requires { ⌜ (length (now work) ≡ work-bytes) × Fits c × (number ≡ fieldNumber (declarationsIn (now text) (now work) c) (now f)) ⌝ }
-    ensures { λ r. ⌜ r ≡ index (isFieldOf (declarationsIn (now (text .entry)) (now (work .entry)) c) (nameIn (now (text .entry)) class) (now (f .entry))) ((declarationsIn (now (text .entry)) (now (work .entry)) c) .fields) ⌝ }
+    requires { ⌜ (length (now work) ≡ work-bytes) × NamesFit c × (number ≡ fieldNumber (declarationsIn (now text) (now work) c) (now f)) ⌝ }
+    ensures { λ r. ⌜ r ≡ fieldIndex (now (text .entry)) (now (work .entry)) c class (now (f .entry)) ⌝ }
 {
     let k = class_number(text, work, c, read_names::name_in(text, class));
     if is_field_of(work, c, k, number) {
@@ -209,7 +209,7 @@ pub fn owned_field(
 
 // The number of the first method m of a class; the count of methods if there is none.
 pub fn method_number(text: &[u8], work: &[u8], c: Names, class: Span, m: &[u8]) -> usize
-    requires { ⌜ (length (now work) ≡ work-bytes) × Fits c ⌝ }
+    requires { ⌜ (length (now work) ≡ work-bytes) × NamesFit c ⌝ }
     ensures { λ r. ⌜ (r ≡ methodNumber (declarationsIn (now (text .entry)) (now (work .entry)) c) (nameIn (now (text .entry)) class) (now (m .entry))) × (r ≤ c .methods) ⌝ }
 {
     let k = class_number(text, work, c, read_names::name_in(text, class));
@@ -219,7 +219,7 @@ pub fn method_number(text: &[u8], work: &[u8], c: Names, class: Span, m: &[u8]) 
 
 // The type of the result of the method i.
 pub fn result_type(work: &[u8], c: Names, i: usize) -> Span
-    requires { ⌜ (length (now work) ≡ work-bytes) × Fits c ⌝ }
+    requires { ⌜ (length (now work) ≡ work-bytes) × NamesFit c ⌝ }
     ensures { λ r. ⌜ ((t : List ℕ) → nameIn t r ≡ getD (declarationsIn t (now (work .entry)) c .methods) i noDeclaration .result) ⌝ }
 {
     if i < c.methods {
@@ -230,7 +230,7 @@ pub fn result_type(work: &[u8], c: Names, i: usize) -> Span
 
 // The type of its parameter.
 pub fn parameter_type(work: &[u8], c: Names, i: usize) -> Span
-    requires { ⌜ (length (now work) ≡ work-bytes) × Fits c ⌝ }
+    requires { ⌜ (length (now work) ≡ work-bytes) × NamesFit c ⌝ }
     ensures { λ r. ⌜ ((t : List ℕ) → nameIn t r ≡ getD (declarationsIn t (now (work .entry)) c .methods) i noDeclaration .parameterType) ⌝ }
 {
     if i < c.methods {
@@ -253,19 +253,31 @@ pub fn is_new(text: &[u8], work: &[u8], from: usize, n: usize, x: &[u8]) -> bool
 }
 
 pub fn is_new_variable(text: &[u8], work: &[u8], c: Names, x: &[u8]) -> bool
-    requires { ⌜ (length (now work) ≡ work-bytes) × Fits c ⌝ }
+    requires { ⌜ (length (now work) ≡ work-bytes) × NamesFit c ⌝ }
     ensures { λ r. ⌜ r ≡ isNew (now (x .entry)) (map (λ v. v .name) (blockIn (now (text .entry)) (now (work .entry)) c .variables)) ⌝ }
 {
     let n = c.locals;
     if c.method {
-        return is_new(text, work, read_names::VARIABLES + 1, n + 1, x);
+        return is_new(
+            text,
+            work,
+            read_names::VARIABLES + read_scopes::PARAMETER,
+            n + 1,
+            x,
+        );
     }
-    is_new(text, work, read_names::VARIABLES + 2, n, x)
+    is_new(
+        text,
+        work,
+        read_names::VARIABLES + read_scopes::FIRST_LOCAL,
+        n,
+        x,
+    )
 }
 
 // May a line declare a variable of this name and of this type?
 pub fn may_declare(text: &[u8], work: &[u8], c: Names, name: Span, gives: Span) -> bool
-    requires { ⌜ (length (now work) ≡ work-bytes) × Fits c ⌝ }
+    requires { ⌜ (length (now work) ≡ work-bytes) × NamesFit c ⌝ }
     ensures { λ r. ⌜ r ≡ mayDeclare (now (text .entry)) (now (work .entry)) c name gives ⌝ }
 {
     if is_type(text, work, c, read_names::name_in(text, gives)) {
@@ -291,7 +303,7 @@ fn may_add(
     name: Span,
     gives: Span,
 ) -> bool
-    requires { ⌜ (length (now work) ≡ work-bytes) × Fits c × (from + r .first + r .count ≤ most-rows) ⌝ }
+    requires { ⌜ (length (now work) ≡ work-bytes) × NamesFit c × (from + r .first + r .count ≤ most-rows) ⌝ }
     ensures { λ b. ⌜ b ≡ (isType (declarationsIn (now (text .entry)) (now (work .entry)) c) (nameIn (now (text .entry)) gives) && isNew (nameIn (now (text .entry)) name) (namesFrom (now (text .entry)) (now (work .entry)) (from + r .first) (r .count))) ⌝ }
 {
     if is_type(text, work, c, read_names::name_in(text, gives)) {
@@ -302,7 +314,7 @@ fn may_add(
 
 // May the present class have a field of this name and of this type?
 pub fn may_add_field(text: &[u8], work: &[u8], c: Names, a: Above, name: Span, gives: Span) -> bool
-    requires { ⌜ (length (now work) ≡ work-bytes) × Fits c × AboveFits a ⌝ }
+    requires { ⌜ (length (now work) ≡ work-bytes) × NamesFit c × AboveFits a ⌝ }
     ensures { λ b. ⌜ b ≡ mayAddField (now (text .entry)) (now (work .entry)) c a name gives ⌝ }
 {
     let r = a.fields;
@@ -311,7 +323,7 @@ pub fn may_add_field(text: &[u8], work: &[u8], c: Names, a: Above, name: Span, g
 
 // May it have the method m, with a parameter of this name? The parameter passes the tests of `may_declare`.
 pub fn may_add_method(text: &[u8], work: &[u8], c: Names, a: Above, m: Row, parameter: Span) -> bool
-    requires { ⌜ (length (now work) ≡ work-bytes) × Fits c × AboveFits a ⌝ }
+    requires { ⌜ (length (now work) ≡ work-bytes) × NamesFit c × AboveFits a ⌝ }
     ensures { λ b. ⌜ b ≡ mayAddMethod (now (text .entry)) (now (work .entry)) c a m parameter ⌝ }
 {
     let r = a.methods;

@@ -1,21 +1,21 @@
 -- A line at a place of the text, and which of the tests of numbers 6, 7 and 9 its fields pass.
 use mathlib.Core.Path.{_≡_}
 use mathlib.Core.Bool.{Bool, true, _&&_}
-use mathlib.Core.List.{List, []}
+use mathlib.Core.List.{List, [], _∷_}
 use Prim.Native.Nat.{ℕ}
 use lib.ListN.{length, drop}
 use Rattle.rules.specs.Base.{Name, all}
 use Rattle.rules.specs.Limits.{work-bytes}
 use Rattle.rules.specs.Syntax.{Formula}
-use Rattle.rules.specs.Text.{exprOf, formulaOf}
-use Rattle.rules.specs.Grammar.{Operand, Line, form, IsKindNumber, isFormed, expression}
-use Rattle.rules.specs.Scope.{Slot, slots, atomsOf}
+use Rattle.rules.specs.Text.{exprOf, atomOf, formulaOf}
+use Rattle.rules.specs.Grammar.{Operand, Line, form, IsKindNumber, isFormed, expression, variable, member, read, field}
+use Rattle.rules.specs.Scope.{Slot, slots, slotsFrom, atomOperands, atomsOf}
 use Rattle.rules.specs.Names as Rules
 use Rattle.read_fields.specs.Cuts.{more}
 use Rattle.read_grammar.specs.Rows.{kindNumbered}
 use Rattle.read_scopes.specs.declared.Names.{Names}
 use Rattle.read_scopes.specs.declared.Above.{Above}
-use Rattle.read_scopes.specs.Meanings.{Fits, AboveFits, declarationsIn, variablesIn, scopeIn}
+use Rattle.read_scopes.specs.Meanings.{NamesFit, AboveFits, declarationsIn, variablesIn, scopeIn}
 use Rattle.read_refusals.specs.declared.Tests.{Tests}
 
 -- A LINE
@@ -33,9 +33,9 @@ pub record Formed (k : ℕ) (l : Line) : Type 0 where
   pub is : formed l ≡ true
 
 -- the work area, and counts of its rows
-pub record Ready (w : List ℕ) (c : Names) (a : Above) : Type 0 where
+pub record CountsFit (w : List ℕ) (c : Names) (a : Above) : Type 0 where
   pub whole : length w ≡ work-bytes
-  pub names : Fits c
+  pub names : NamesFit c
   pub above : AboveFits a
 
 -- THE TESTS
@@ -60,6 +60,13 @@ exprTests t w c x =
       assignable = true;
     }
 
+-- two fields that are expressions have types that agree
+abbrev pub exprsAgree : List ℕ → List ℕ → Names → Name → Name → Bool
+exprsAgree t w c x y =
+    Rules.agree
+    (Rules.exprType (declarationsIn t w c) (variablesIn t w c) (exprOf x))
+    (Rules.exprType (declarationsIn t w c) (variablesIn t w c) (exprOf y))
+
 module _ (t w : List ℕ) (c : Names) (a : Above) where
   -- of the field x with v before it
   unfoldable pub slotTests : Operand → Name → Name → Tests
@@ -70,6 +77,10 @@ module _ (t w : List ℕ) (c : Names) (a : Above) where
         assignable = Rules.mayBeAssigned (variablesIn t w c) o x;
       }
 
+  -- of `acc x f`
+  abbrev pub accTests : Name → Name → Tests
+  accTests x f = bothTests (slotTests (variable read) [] x) (slotTests (member field) x f)
+
   -- of `eq x y` or `ne x y`
   unfoldable pub cmpTests : Name → Name → Tests
   cmpTests x y =
@@ -77,10 +88,7 @@ module _ (t w : List ℕ) (c : Names) (a : Above) where
       (bothTests (slotTests expression x y)
       (record {
         known = true;
-        typed =
-            Rules.agree
-            (Rules.exprType (declarationsIn t w c) (variablesIn t w c) (exprOf x))
-            (Rules.exprType (declarationsIn t w c) (variablesIn t w c) (exprOf y));
+        typed = exprsAgree t w c x y;
         assignable = true;
       }))
 
@@ -94,6 +102,10 @@ module _ (t w : List ℕ) (c : Names) (a : Above) where
             && all (Rules.atomAgrees (declarationsIn t w c) (variablesIn t w c)) φ;
         assignable = all (λ x. Rules.mayBeAssigned (variablesIn t w c) (x .operand) (x .name)) xs;
       }
+
+  -- of an atom of three fields
+  abbrev pub atomTests : Name → Name → Name → Tests
+  atomTests u x y = tested (slotsFrom [] (atomOperands u) (x ∷ y ∷ [])) (atomOf u x y ∷ [])
 
   unfoldable pub lineTests : Line → Tests
   lineTests l = tested (slots l) (formulaOf (atomsOf l))

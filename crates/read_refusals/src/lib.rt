@@ -7,20 +7,19 @@ use read_types::ExprType;
 use rules::Kind;
 ghost use mathlib.Core.Path.{_≡_};
 ghost use mathlib.Core.Bool.{true, _&&_};
-ghost use mathlib.Core.List.{[], _∷_};
+ghost use mathlib.Core.List.{[]};
 ghost use Prim.Native.Nat.{_≤_};
 ghost use lib.ListN.{length, drop, getD};
 ghost use Rattle.rules.specs.Limits.{work-bytes, most-atoms};
-ghost use Rattle.rules.specs.Text.{isName, isExpr, exprOf, isAtom, isFormula, atomOf, formulaOf};
-ghost use Rattle.rules.specs.Grammar.{IsKindNumber, isOperand, variable, member, read, field};
-ghost use Rattle.rules.specs.Names.{agree, exprType};
-ghost use Rattle.rules.specs.Scope.{slotsFrom, atomOperands, atomSlots};
+ghost use Rattle.rules.specs.Text.{isName, isExpr, isAtom, isFormula, formulaOf};
+ghost use Rattle.rules.specs.Grammar.{IsKindNumber, isOperand};
+ghost use Rattle.rules.specs.Scope.{atomSlots};
 ghost use Rattle.read_fields.specs.Cuts.{more};
 ghost use Rattle.read_grammar.specs.Rows.{operandNumber};
-ghost use Rattle.read_scopes.specs.Meanings.{Fits, declarationsIn, variablesIn, scopeIn};
+ghost use Rattle.read_scopes.specs.Meanings.{NamesFit};
 ghost use Rattle.read_tests.specs.Tests.{operandMeant};
-ghost use Rattle.read_refusals.specs.Tests.{lineAfter, Formed, Ready, bothTests, slotTests, exprTests, cmpTests, tested, lineTests, sidesIn, apartIn};
-ghost use Rattle.read_refusals.specs.Refusals.{refusalOf, refusalIn};
+ghost use Rattle.read_refusals.specs.Tests.{lineAfter, Formed, CountsFit, bothTests, slotTests, exprTests, exprsAgree, accTests, cmpTests, tested, atomTests, lineTests, sidesIn, apartIn};
+ghost use Rattle.read_refusals.specs.Refusals.{refusalOf, refusalAfter};
 
 // Which of the tests of numbers 6, 7 and 9 are passed.
 pub struct Tests {
@@ -107,7 +106,7 @@ fn field_tests(
     v: &[u8],
     x: &[u8],
 ) -> Tests
-    requires { ⌜ Ready (now work) c a × (isOperand (operandMeant o) (now x) ≡ true) ⌝ }
+    requires { ⌜ CountsFit (now work) c a × (isOperand (operandMeant o) (now x) ≡ true) ⌝ }
     ensures { λ r. ⌜ r ≡ slotTests (now (text .entry)) (now (work .entry)) c a (operandMeant o) (now (v .entry)) (now (x .entry)) ⌝ }
 {
     let known = read_tests::known(text, work, c, a, o, v, x);
@@ -124,8 +123,8 @@ fn field_tests(
 
 // Are the types of two expressions those of two sides?
 fn types_agree(text: &[u8], work: &[u8], c: Names, x: &[u8], y: &[u8]) -> bool
-    requires { ⌜ (length (now work) ≡ work-bytes) × Fits c × (isExpr (now x) ≡ true) × (isExpr (now y) ≡ true) ⌝ }
-    ensures { λ r. ⌜ r ≡ agree (exprType (declarationsIn (now (text .entry)) (now (work .entry)) c) (variablesIn (now (text .entry)) (now (work .entry)) c) (exprOf (now (x .entry)))) (exprType (declarationsIn (now (text .entry)) (now (work .entry)) c) (variablesIn (now (text .entry)) (now (work .entry)) c) (exprOf (now (y .entry)))) ⌝ }
+    requires { ⌜ (length (now work) ≡ work-bytes) × NamesFit c × (isExpr (now x) ≡ true) × (isExpr (now y) ≡ true) ⌝ }
+    ensures { λ r. ⌜ r ≡ exprsAgree (now (text .entry)) (now (work .entry)) c (now (x .entry)) (now (y .entry)) ⌝ }
 {
     let s = read_types::expr_type(text, work, c, x);
     let u = read_types::expr_type(text, work, c, y);
@@ -134,8 +133,8 @@ fn types_agree(text: &[u8], work: &[u8], c: Names, x: &[u8], y: &[u8]) -> bool
 
 // `acc x f`
 fn acc_tests(text: &[u8], work: &[u8], c: Names, a: Above, x: &[u8], f: &[u8]) -> Tests
-    requires { ⌜ Ready (now work) c a × (isName (now x) ≡ true) × (isName (now f) ≡ true) ⌝ }
-    ensures { λ r. ⌜ r ≡ bothTests (slotTests (now (text .entry)) (now (work .entry)) c a (variable read) [] (now (x .entry))) (slotTests (now (text .entry)) (now (work .entry)) c a (member field) (now (x .entry)) (now (f .entry))) ⌝ }
+    requires { ⌜ CountsFit (now work) c a × (isName (now x) ≡ true) × (isName (now f) ≡ true) ⌝ }
+    ensures { λ r. ⌜ r ≡ accTests (now (text .entry)) (now (work .entry)) c a (now (x .entry)) (now (f .entry)) ⌝ }
 {
     let first = field_tests(text, work, c, a, Operand::Read, &x[0..0], x);
     let second = field_tests(text, work, c, a, Operand::Field, x, f);
@@ -144,7 +143,7 @@ fn acc_tests(text: &[u8], work: &[u8], c: Names, a: Above, x: &[u8], f: &[u8]) -
 
 // The tests of a field that is an expression; a number passes them.
 fn expr_tests(text: &[u8], work: &[u8], c: Names, x: &[u8]) -> Tests
-    requires { ⌜ (length (now work) ≡ work-bytes) × Fits c × (isExpr (now x) ≡ true) ⌝ }
+    requires { ⌜ (length (now work) ≡ work-bytes) × NamesFit c × (isExpr (now x) ≡ true) ⌝ }
     ensures { λ r. ⌜ r ≡ exprTests (now (text .entry)) (now (work .entry)) c (now (x .entry)) ⌝ }
 {
     if read_tokens::is_numeral(x) {
@@ -165,7 +164,7 @@ fn expr_tests(text: &[u8], work: &[u8], c: Names, x: &[u8]) -> Tests
 
 // `eq x y` or `ne x y`
 fn cmp_tests(text: &[u8], work: &[u8], c: Names, a: Above, x: &[u8], y: &[u8]) -> Tests
-    requires { ⌜ Ready (now work) c a × (isExpr (now x) ≡ true) × (isExpr (now y) ≡ true) ⌝ }
+    requires { ⌜ CountsFit (now work) c a × (isExpr (now x) ≡ true) × (isExpr (now y) ≡ true) ⌝ }
     ensures { λ r. ⌜ r ≡ cmpTests (now (text .entry)) (now (work .entry)) c a (now (x .entry)) (now (y .entry)) ⌝ }
 {
     let first = expr_tests(text, work, c, x);
@@ -180,8 +179,8 @@ fn cmp_tests(text: &[u8], work: &[u8], c: Names, a: Above, x: &[u8], y: &[u8]) -
 }
 
 fn one_atom(text: &[u8], work: &[u8], c: Names, a: Above, w: &[u8], x: &[u8], y: &[u8]) -> Tests
-    requires { ⌜ Ready (now work) c a × (isAtom (now w) (now x) (now y) ≡ true) ⌝ }
-    ensures { λ r. ⌜ r ≡ tested (now (text .entry)) (now (work .entry)) c a (slotsFrom [] (atomOperands (now (w .entry))) (now (x .entry) ∷ now (y .entry) ∷ [])) (atomOf (now (w .entry)) (now (x .entry)) (now (y .entry)) ∷ []) ⌝ }
+    requires { ⌜ CountsFit (now work) c a × (isAtom (now w) (now x) (now y) ≡ true) ⌝ }
+    ensures { λ r. ⌜ r ≡ atomTests (now (text .entry)) (now (work .entry)) c a (now (w .entry)) (now (x .entry)) (now (y .entry)) ⌝ }
 {
     if read_words::word(w) == read_words::ACC {
         return acc_tests(text, work, c, a, x, y);
@@ -191,7 +190,7 @@ fn one_atom(text: &[u8], work: &[u8], c: Names, a: Above, w: &[u8], x: &[u8], y:
 
 // The atoms after a field that ends at `from`.
 fn atom_tests(text: &[u8], work: &[u8], from: usize, c: Names, a: Above) -> Tests
-    requires { ⌜ Ready (now work) c a × (from ≤ length (now text)) × (isFormula most-atoms (more (drop from (now text))) ≡ true) ⌝ }
+    requires { ⌜ CountsFit (now work) c a × (from ≤ length (now text)) × (isFormula most-atoms (more (drop from (now text))) ≡ true) ⌝ }
     ensures { λ r. ⌜ r ≡ tested (now (text .entry)) (now (work .entry)) c a (atomSlots (more (drop from (now (text .entry))))) (formulaOf (more (drop from (now (text .entry))))) ⌝ }
 {
     let mut t = Tests {
@@ -218,7 +217,7 @@ fn atom_tests(text: &[u8], work: &[u8], from: usize, c: Names, a: Above) -> Test
 
 // The fields of a line of this kind, whose word ends at `from`: its operands, then its atoms.
 fn line_tests(text: &[u8], work: &[u8], from: usize, kind: u8, c: Names, a: Above) -> Tests
-    requires { ⌜ Ready (now work) c a × (from ≤ length (now text)) × Formed kind (lineAfter (now text) from kind) ⌝ }
+    requires { ⌜ CountsFit (now work) c a × (from ≤ length (now text)) × Formed kind (lineAfter (now text) from kind) ⌝ }
     ensures { λ r. ⌜ r ≡ lineTests (now (text .entry)) (now (work .entry)) c a (lineAfter (now (text .entry)) from kind) ⌝ }
 {
     let row = read_grammar::row_of(kind);
@@ -248,7 +247,7 @@ fn line_tests(text: &[u8], work: &[u8], from: usize, kind: u8, c: Names, a: Abov
 
 // `set x f y`
 fn set_agrees(text: &[u8], work: &[u8], from: usize, c: Names) -> bool
-    requires { ⌜ (length (now work) ≡ work-bytes) × Fits c × (from ≤ length (now text)) ⌝ }
+    requires { ⌜ (length (now work) ≡ work-bytes) × NamesFit c × (from ≤ length (now text)) ⌝ }
     ensures { λ r. ⌜ r ≡ sidesIn (now (text .entry)) (now (work .entry)) c (lineAfter (now (text .entry)) from 8) ⌝ }
 {
     let x = read_lookups::variable_type(text, work, c, nth_field(text, from, 0));
@@ -259,7 +258,7 @@ fn set_agrees(text: &[u8], work: &[u8], from: usize, c: Names) -> bool
 
 // `let x e`
 fn let_agrees(text: &[u8], work: &[u8], from: usize, c: Names) -> bool
-    requires { ⌜ (length (now work) ≡ work-bytes) × Fits c × (from ≤ length (now text)) × (isExpr (getD (more (drop from (now text))) 1 []) ≡ true) ⌝ }
+    requires { ⌜ (length (now work) ≡ work-bytes) × NamesFit c × (from ≤ length (now text)) × (isExpr (getD (more (drop from (now text))) 1 []) ≡ true) ⌝ }
     ensures { λ r. ⌜ r ≡ sidesIn (now (text .entry)) (now (work .entry)) c (lineAfter (now (text .entry)) from 9) ⌝ }
 {
     let x = read_lookups::variable_type(text, work, c, nth_field(text, from, 0));
@@ -269,7 +268,7 @@ fn let_agrees(text: &[u8], work: &[u8], from: usize, c: Names) -> bool
 
 // `new x C`
 fn new_agrees(text: &[u8], work: &[u8], from: usize, c: Names) -> bool
-    requires { ⌜ (length (now work) ≡ work-bytes) × Fits c × (from ≤ length (now text)) ⌝ }
+    requires { ⌜ (length (now work) ≡ work-bytes) × NamesFit c × (from ≤ length (now text)) ⌝ }
     ensures { λ r. ⌜ r ≡ sidesIn (now (text .entry)) (now (work .entry)) c (lineAfter (now (text .entry)) from 10) ⌝ }
 {
     let x = read_lookups::variable_type(text, work, c, nth_field(text, from, 0));
@@ -278,7 +277,7 @@ fn new_agrees(text: &[u8], work: &[u8], from: usize, c: Names) -> bool
 
 // `call x y m z`: the result, and the argument
 fn call_agrees(text: &[u8], work: &[u8], from: usize, c: Names) -> bool
-    requires { ⌜ (length (now work) ≡ work-bytes) × Fits c × (from ≤ length (now text)) ⌝ }
+    requires { ⌜ (length (now work) ≡ work-bytes) × NamesFit c × (from ≤ length (now text)) ⌝ }
     ensures { λ r. ⌜ r ≡ sidesIn (now (text .entry)) (now (work .entry)) c (lineAfter (now (text .entry)) from 11) ⌝ }
 {
     let x = read_lookups::variable_type(text, work, c, nth_field(text, from, 0));
@@ -292,7 +291,7 @@ fn call_agrees(text: &[u8], work: &[u8], from: usize, c: Names) -> bool
 
 // `return x`
 fn return_agrees(text: &[u8], work: &[u8], from: usize, c: Names) -> bool
-    requires { ⌜ (length (now work) ≡ work-bytes) × Fits c × (from ≤ length (now text)) ⌝ }
+    requires { ⌜ (length (now work) ≡ work-bytes) × NamesFit c × (from ≤ length (now text)) ⌝ }
     ensures { λ r. ⌜ r ≡ sidesIn (now (text .entry)) (now (work .entry)) c (lineAfter (now (text .entry)) from 12) ⌝ }
 {
     let x = read_lookups::variable_type(text, work, c, nth_field(text, from, 0));
@@ -301,7 +300,7 @@ fn return_agrees(text: &[u8], work: &[u8], from: usize, c: Names) -> bool
 }
 
 fn sides_agree(text: &[u8], work: &[u8], from: usize, kind: u8, c: Names) -> bool
-    requires { ⌜ (length (now work) ≡ work-bytes) × Fits c × (from ≤ length (now text)) × Formed kind (lineAfter (now text) from kind) ⌝ }
+    requires { ⌜ (length (now work) ≡ work-bytes) × NamesFit c × (from ≤ length (now text)) × Formed kind (lineAfter (now text) from kind) ⌝ }
     ensures { λ r. ⌜ r ≡ sidesIn (now (text .entry)) (now (work .entry)) c (lineAfter (now (text .entry)) from kind) ⌝ }
 {
     match kind {
@@ -316,7 +315,7 @@ fn sides_agree(text: &[u8], work: &[u8], from: usize, kind: u8, c: Names) -> boo
 
 // 9: "`call x` with x the same name as y or z"
 fn call_apart(text: &[u8], work: &[u8], from: usize, kind: u8, c: Names) -> bool
-    requires { ⌜ (length (now work) ≡ work-bytes) × Fits c × (from ≤ length (now text)) × IsKindNumber kind ⌝ }
+    requires { ⌜ (length (now work) ≡ work-bytes) × NamesFit c × (from ≤ length (now text)) × IsKindNumber kind ⌝ }
     ensures { λ r. ⌜ r ≡ apartIn (now (text .entry)) (now (work .entry)) c (lineAfter (now (text .entry)) from kind) ⌝ }
 {
     if kind != Kind::CALL {
@@ -332,8 +331,8 @@ fn call_apart(text: &[u8], work: &[u8], from: usize, kind: u8, c: Names) -> bool
 
 // Is the line of this kind whose word ends at `from` good? 6 before 7 before 9.
 pub fn judge(text: &[u8], work: &[u8], from: usize, kind: u8, c: Names, a: Above) -> Judged
-    requires { ⌜ Ready (now work) c a × (from ≤ length (now text)) × Formed kind (lineAfter (now text) from kind) ⌝ }
-    ensures { λ r. ⌜ refusalOf r ≡ refusalIn (declarationsIn (now (text .entry)) (now (work .entry)) c) (variablesIn (now (text .entry)) (now (work .entry)) c) (scopeIn (now (text .entry)) (now (work .entry)) c a) (lineAfter (now (text .entry)) from kind) ⌝ }
+    requires { ⌜ CountsFit (now work) c a × (from ≤ length (now text)) × Formed kind (lineAfter (now text) from kind) ⌝ }
+    ensures { λ r. ⌜ refusalOf r ≡ refusalAfter (now (text .entry)) (now (work .entry)) c a from kind ⌝ }
 {
     let t = line_tests(text, work, from, kind, c, a);
     if !t.known {

@@ -7,7 +7,7 @@ use lib.ListN.{length, getD, drop}
 use Rattle.rules.specs.Text.{fields}
 use Rattle.rules.specs.Grammar.{last-kind, IsKindNumber, kindOf}
 use Rattle.rules.proofs.Lists.{decide-eq}
-use Rattle.read_bytes.specs.Sets.{Found}
+use Rattle.read_bytes.specs.Sets.{FirstInSet}
 use Rattle.read_words.specs.Words.{kindOr0}
 use Rattle.read_bytes.specs.declared.Set.the-variants.{LineEnd}
 use Rattle.read_bytes.proofs.Search.{true-false}
@@ -60,7 +60,7 @@ module _ {t : List ℕ} {a : ℕ} {w : Word} (x : FirstWord t a w) where
         }
 
     -- its last field ends where the search for the line's end would stop
-    pub formed-end : Found t a LineEnd e
+    pub formed-end : FirstInSet t a LineEnd e
     formed-end =
         line-found
         (span-on (field-span (x .end) (kind-clean _ (λ z. has-kind (x .kind ∙ z)))) (f .0))
@@ -74,7 +74,7 @@ pub when-at : (P : ℕ → Type 0) (e : ℕ) (r : ScannedLine) → P e → WhenT
 when-at P e (Next i s) x z = subst P (sym z) x
 when-at P e (Refused q) x z = tt
 
-module _ {t : List ℕ} {a e : ℕ} (f : Found t a LineEnd e) where
+module _ {t : List ℕ} {a e : ℕ} (f : FirstInSet t a LineEnd e) where
   pub refuses-byte : a < length t → (getD t e 0 ≡ 10 → ⊥) → RefusesLine t a BadByte
   refuses-byte h n p = let b = bad-line t a e f h n in rw (first-bad _ b) (sym (bad-scan p (b .line) (b .bad)))
 
@@ -90,7 +90,7 @@ module _ {t : List ℕ} {a e : ℕ} (f : Found t a LineEnd e) where
         let l = clean-line t a e f g in
         record {
           is = λ p j. rw (first-clean t a e l) (y .0 p j ∙ sym (formed-scan p _ k (l .clean) (i ∙ sym (ap (λ ws. kindOr0 (formedKind ws)) (l .fields))) n));
-          ends = when-at (λ i. Found t a LineEnd i × (getD t i 0 ≡ 10)) e r (f, g) (y .1);
+          ends = when-at (λ i. FirstInSet t a LineEnd i × (getD t i 0 ≡ 10)) e r (f, g) (y .1);
         }
 
 pub refuses-line : {t : List ℕ} {a : ℕ} {s : Place} {r : Refusal} → RefusesLine t a r → ScansLine t a s (Refused r)
@@ -98,8 +98,8 @@ refuses-line x = record { is = λ p e. x p; ends = tt }
 
 -- a line that is taken: its LF, and its word in the table
 pub taken-ends :
-    {t : List ℕ} {a : ℕ} {s q : Place} {r : ScannedLine} {e : ℕ} → ScansLine t a s r → r ≡ Next e q → Found t a LineEnd e × (getD t e 0 ≡ 10)
-taken-ends {t} {a} x z = subst (WhenTaken (λ i. Found t a LineEnd i × (getD t i 0 ≡ 10))) z (x .ends)
+    {t : List ℕ} {a : ℕ} {s q : Place} {r : ScannedLine} {e : ℕ} → ScansLine t a s r → r ≡ Next e q → FirstInSet t a LineEnd e × (getD t e 0 ≡ 10)
+taken-ends {t} {a} x z = subst (WhenTaken (λ i. FirstInSet t a LineEnd i × (getD t i 0 ≡ 10))) z (x .ends)
 
 pub taken-noted :
     {t w w′ : List ℕ} {a n : ℕ} {q : Place} {r : ScannedLine} {e : ℕ} → NotesLine t w a n r w′ → r ≡ Next e q → Noted t w a e n w′

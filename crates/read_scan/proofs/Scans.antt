@@ -110,13 +110,13 @@ read-line-of l a e =
     rw (orElse-ok (kindOf (getD (Text.fields l) 0 [])) malformed k g) (sym (ok-inj i))
 
 -- what a line that is taken shows
-pub record Taken (p : Places.Place) (l : Name) (x : Placed) : Type 0 where
+pub record LinePlaced (p : Places.Place) (l : Name) (x : Placed) : Type 0 where
   pub read : readLine l ≡ ok (lineOf l)
   pub line : x .line ≡ lineOf l
   pub place : placeLine p (lineOf l .kind) ≡ ok (x .next)
   pub within : Places.withinLimits (x .next) ≡ true
 
-pub line-taken : (p : Places.Place) (l : Name) (x : Placed) → scanLine p l ≡ ok x → Taken p l x
+pub line-taken : (p : Places.Place) (l : Name) (x : Placed) → scanLine p l ≡ ok x → LinePlaced p l x
 unfolding scanLine placeLine
 line-taken p l x e =
     let (a, r, f) = bind-ok (readLine l) e in
@@ -219,7 +219,7 @@ module _ {t : List ℕ} {a n : ℕ} {s : Place} (x : Passed t a n s) where
 pub record FirstTaken (l : Name) (ls : List Name) (n : ℕ) (p : Places.Place) (found : List Line) : Type 0 where
   pub placed : Placed
   pub rest : List Line
-  pub taken : Taken p l placed
+  pub taken : LinePlaced p l placed
   pub are : found ≡ lineOf l ∷ rest
   pub others : scanLines ls (suc n) (placed .next) ≡ accepted rest
 

@@ -21,7 +21,7 @@ use Rattle.rules.specs.Grammar.{Kind, form, kinds, kindOf, isFormed}
 use Rattle.rules.specs.Grammar.{statement, If, condition, isKind}
 use Rattle.rules.proofs.Lists.{or-cases, first-in, same-name}
 use Rattle.rules.proofs.LineKinds.{every-kind, is-same}
-use Rattle.read_bytes.specs.Sets.{inSet, Found}
+use Rattle.read_bytes.specs.Sets.{inSet, FirstInSet}
 use Rattle.read_words.specs.Words.{kindOr0}
 use Rattle.read_bytes.specs.declared.Set.the-variants.{LineEnd, FieldEnd}
 use Rattle.read_bytes.proofs.Search.{true-false, upTo-within, upTo-passed}
@@ -86,7 +86,7 @@ long-word k vs e =
     (or-cases (leb 3 (length (bytes (form k .word)))) (isKind (statement If) k) (every-kind long tt k))
 
 -- the word of a line ends at its LF or before it
-word-before : (t : List ℕ) (a r e : ℕ) → Found t a FieldEnd r → a ≤ e → getD t e 0 ≡ 10 → r ≤ e
+word-before : (t : List ℕ) (a r e : ℕ) → FirstInSet t a FieldEnd r → a ≤ e → getD t e 0 ≡ 10 → r ≤ e
 word-before t a r e f l g = elim (decLt e r) [
   | no h ↦ omega arith
   | yes h ↦ (
@@ -100,7 +100,7 @@ word-before t a r e f l g = elim (decLt e r) [
 -- the kind and the word's end of a line that has its form
 pub record FormedWord (t : List ℕ) (a : ℕ) (r : Word) : Type 0 where
   pub kind : r .kind ≡ kindOr0 (formedKind (fields (drop a t)))
-  pub end : Found t a FieldEnd (r .end)
+  pub end : FirstInSet t a FieldEnd (r .end)
 
 module _ {t : List ℕ} {a : ℕ} {r : Word} (x : FormedWord t a r) (z : r .kind ≡ 0 → ⊥) where
   pub formed-word : WordAt t a r
@@ -130,7 +130,7 @@ module _ {t : List ℕ} {a : ℕ} {r : Word} (x : FormedWord t a r) (z : r .kind
       (long-word k (drop 1 (fields (drop a t))) (f .formed))
 
 -- WHERE LINES BEGIN
-pub found-end : (t : List ℕ) (a : ℕ) → a ≤ length t → Found t a LineEnd (lineEnd t a)
+pub found-end : (t : List ℕ) (a : ℕ) → a ≤ length t → FirstInSet t a LineEnd (lineEnd t a)
 unfolding lineEnd
 found-end t a h = record { low = omega arith; high = omega (arith, upTo-within (inSet LineEnd) (drop a t), length-drop a t); is = refl }
 
@@ -198,7 +198,7 @@ tabled-first t w =
     record { words = λ i h. absurd (omega arith); within = λ i h. absurd (omega arith); begins = refl; short = omega arith }
 
 module _ {t w : List ℕ} {a n : ℕ} (x : Tabled t w a n) where
-  pub tabled-on : {e : ℕ} {w′ : List ℕ} → a < length t → Found t a LineEnd e → Noted t w a e n w′ → Tabled t w′ (e + 1) (n + 1)
+  pub tabled-on : {e : ℕ} {w′ : List ℕ} → a < length t → FirstInSet t a LineEnd e → Noted t w a e n w′ → Tabled t w′ (e + 1) (n + 1)
   unfolding lineEnd
   tabled-on {e} {w′} l f y =
       record {

@@ -12,7 +12,7 @@ use Rattle.rules.specs.Text.{line-feed, lines}
 use Rattle.rules.specs.Grammar.{Line, Class, kindOf}
 use Rattle.rules.specs.Places as Places
 use Rattle.rules.specs.Places.{placeLine, scanLine, scanLines, firstPlace}
-use Rattle.read_bytes.specs.Sets.{Found}
+use Rattle.read_bytes.specs.Sets.{FirstInSet}
 use Rattle.read_words.specs.Words.{kindOr0}
 use Rattle.read_bytes.specs.declared.Set.the-variants.{LineEnd}
 use Rattle.read_fields.specs.Cuts.{firstLine}
@@ -71,7 +71,7 @@ RefusesLine t a r = (p : Places.Place) → no (refusalOf r) ≡ (scanLine p (fir
 -- The answer r is that on the line of t that begins at a.
 pub record ScansLine (t : List ℕ) (a : ℕ) (s : Place) (r : ScannedLine) : Type 0 where
   pub is : (p : Places.Place) → s ≡ coded p → lineAnswer r ≡ (scanLine p (firstLine (drop a t)) >>= λ x. ok (coded (x .next)))
-  pub ends : WhenTaken (λ e. Found t a LineEnd e × (getD t e 0 ≡ line-feed)) r
+  pub ends : WhenTaken (λ e. FirstInSet t a LineEnd e × (getD t e 0 ≡ line-feed)) r
 
 -- a text that is taken by the count of its lines
 abbrev pub verdictOf : Scanned → Verdict ℕ

@@ -5,7 +5,7 @@ use Prim.Native.Nat.{ℕ, zero, suc, _+_, _*_, _≤_, _<_}
 use lib.ListN.{length, getD, drop}
 use Rattle.rules.specs.Text.{fields, upTo}
 use Rattle.rules.specs.Grammar.{kindOf}
-use Rattle.read_bytes.specs.Sets.{inSet, Found}
+use Rattle.read_bytes.specs.Sets.{inSet, FirstInSet}
 use Rattle.read_words.specs.Words.{kindOr0}
 use Rattle.read_bytes.specs.declared.Set.the-variants.{LineEnd, FieldEnd}
 use Rattle.tables.specs.Layout.{lines-at}
@@ -29,7 +29,7 @@ pub record WordAt (t : List ℕ) (a : ℕ) (r : Word) : Type 0 where
 -- The same, with the word's end as it is found.
 pub record FirstWord (t : List ℕ) (a : ℕ) (r : Word) : Type 0 where
   pub kind : r .kind ≡ kindOr0 (kindOf (part a (r .end) t))
-  pub end : Found t a FieldEnd (r .end)
+  pub end : FirstInSet t a FieldEnd (r .end)
 
 -- WHERE LINES BEGIN
 

@@ -2,6 +2,7 @@
 use read_bytes::Set;
 use read_fields::Fields;
 use read_grammar::Place;
+use read_grammar::Stage;
 use tables::Layout;
 ghost use mathlib.Core.Path.{_≡_};
 ghost use mathlib.Core.Bool.{true};
@@ -13,6 +14,11 @@ ghost use Rattle.read_grammar.specs.Coded.{withinLimits};
 ghost use Rattle.read_scan.specs.Scans.{answerOf, nextPlace, PlacesLine, PlacesLineTo, Unformed, RefusesLine, ScansLine, verdictOf, scanText};
 ghost use Rattle.read_fields.specs.Spans.{FieldsRead, formedAs};
 ghost use Rattle.read_scan.specs.Table.{FirstWord, most-lines, wordIn, putLine, NotesLine, TableOf};
+
+const LINE_FEED: u8 = 10;
+
+// The bytes of a line's row in the table of lines.
+const LINE_BYTES: usize = 3;
 
 // The word that a line begins with: the number of its kind, or 0, and the word's end.
 pub struct Word {
@@ -87,7 +93,7 @@ fn put_line(work: &mut [u8], i: usize, w: Word)
     requires { ⌜ (length (now work) ≡ work-bytes) × (i < most-lines) × (w .end < 65536) ⌝ }
     ensures { λ _. ⌜ now (work .exit) ≡ putLine (now (work .entry)) i w ⌝ }
 {
-    let at = Layout::LINES + 3 * i;
+    let at = Layout::LINES + LINE_BYTES * i;
     tables::put_half(work, at, w.end);
     work[at + 2] = w.kind;
 }
@@ -97,7 +103,7 @@ pub fn line_word(work: &[u8], i: usize) -> Word
     requires { ⌜ (length (now work) ≡ work-bytes) × (i < most-lines) ⌝ }
     ensures { λ r. ⌜ r ≡ wordIn (now (work .entry)) i ⌝ }
 {
-    let at = Layout::LINES + 3 * i;
+    let at = Layout::LINES + LINE_BYTES * i;
     let end = tables::half_at(work, at);
     let kind = work[at + 2];
     Word { kind, end }
@@ -129,7 +135,7 @@ fn refused_line(t: &[u8], at: usize) -> Refusal
     ensures { λ r. ⌜ RefusesLine (now (t .entry)) at r ⌝ }
 {
     let end = read_bytes::find(t, at, Set::LineEnd);
-    if read_bytes::byte_at(t, end) != 10 {
+    if read_bytes::byte_at(t, end) != LINE_FEED {
         return Refusal::BadByte;
     }
     Refusal::Malformed
@@ -145,7 +151,7 @@ fn scan_line(t: &[u8], work: &mut [u8], at: usize, n: usize, p: Place) -> Scanne
     match f {
         Fields::Bad => ScannedLine::Refused(refused_line(t, at)),
         Fields::Upto(e) => {
-            if read_bytes::byte_at(t, e) != 10 {
+            if read_bytes::byte_at(t, e) != LINE_FEED {
                 return ScannedLine::Refused(Refusal::BadByte);
             }
             put_line(work, n, w);
@@ -181,7 +187,7 @@ pub fn scan(text: &[u8], work: &mut [u8]) -> Scanned
             }
         }
     }
-    if p.stage == 7 {
+    if p.stage == Stage::AFTER_MAIN {
         return Scanned::Taken(n);
     }
     Scanned::Refused(Refusal::TextEnds, n)

@@ -21,7 +21,7 @@ use Rattle.read_scopes.specs.declared.Names.{Names}
 use Rattle.read_scopes.specs.declared.Above.{Above}
 use Rattle.tables.specs.Decode.{run}
 use Rattle.read_names.specs.Rows.{rowPlace, most-rows, nameIn, noSpan, Entry, entryAt, entryOf, SpanFits, RowFits, putRow, classes-first, fields-first, methods-first, variables-first}
-use Rattle.read_scopes.specs.Meanings.{typeAt, Fits, AboveFits, asField, asMethod, namesFrom, declarationsIn, thisIn, resultIn, variableAt, ownVariables, blockIn, variablesIn, classAbove, scopeIn, moreClasses, moreFields, moreMethods, moreLocals, variableRow, putBlock}
+use Rattle.read_scopes.specs.Meanings.{typeAt, NamesFit, AboveFits, asField, asMethod, namesFrom, declarationsIn, thisIn, resultIn, variableAt, ownVariables, blockIn, variablesIn, classAbove, scopeIn, moreClasses, moreFields, moreMethods, moreLocals, variableRow, putBlock}
 use Rattle.tables.proofs.Runs.{run-moved, run-more}
 use Rattle.read_names.proofs.Puts.{none-fits, entry-kept, row-length, row-other, row-tables, row-put, other-row, range-kept, range-other, range-more}
 
@@ -32,7 +32,7 @@ nameOf e = e .name
 module _ (t w w′ : List ℕ) where
   -- they depend on the bytes of their rows alone
   pub declarations-kept :
-      (c : Names) → Fits c → Kept (rowPlace classes-first) (rowPlace variables-first) w w′ → declarationsIn t w′ c ≡ declarationsIn t w c
+      (c : Names) → NamesFit c → Kept (rowPlace classes-first) (rowPlace variables-first) w w′ → declarationsIn t w′ c ≡ declarationsIn t w c
   unfolding declarationsIn namesFrom nameOf
   declarations-kept c f k =
       let a = range-kept nameOf t w w′ classes-first (c .classes) (λ j p q. k j (omega arith) (omega (arith, f .classes))) in
@@ -49,7 +49,7 @@ module _ (t w w′ : List ℕ) where
 
   -- the block depends on the bytes of the variables' rows
   pub block-kept :
-      (c : Names) → Fits c → Kept (rowPlace variables-first) (rowPlace most-rows) w w′ → blockIn t w′ c ≡ blockIn t w c
+      (c : Names) → NamesFit c → Kept (rowPlace variables-first) (rowPlace most-rows) w w′ → blockIn t w′ c ≡ blockIn t w c
   unfolding blockIn ownVariables entryAt
   block-kept c f k =
       let type : (v : ℕ) → v < 15 → entryAt t w′ (variables-first + v) .gives ≡ entryAt t w (variables-first + v) .gives =
@@ -69,7 +69,7 @@ module _ (t w w′ : List ℕ) where
       }
 
   -- A store outside the region of names leaves them all.
-  module _ (c : Names) (f : Fits c) (k : Kept names-at work-bytes w w′) where
+  module _ (c : Names) (f : NamesFit c) (k : Kept names-at work-bytes w w′) where
     pub names-kept : declarationsIn t w′ c ≡ declarationsIn t w c
     names-kept = declarations-kept c f (λ j p q. k j (omega arith) (omega arith))
 
@@ -99,7 +99,7 @@ module _ (t w w′ : List ℕ) where
         }
 
 -- ONE ROW MORE
-module _ (t w : List ℕ) (c : Names) (f : Fits c) (r : Row) (size : length w ≡ work-bytes) (fits : RowFits r) where
+module _ (t w : List ℕ) (c : Names) (f : NamesFit c) (r : Row) (size : length w ≡ work-bytes) (fits : RowFits r) where
   pub class-put :
       c .classes < most-classes →
       declarationsIn t (putRow t w (classes-first + c .classes) r) (moreClasses c)
@@ -149,7 +149,7 @@ module _ (t w : List ℕ) (c : Names) (f : Fits c) (r : Row) (size : length w �
       λ j. record { classes = a j; fields = b j; methods = d j }
 
 -- rows of variables leave the declarations
-module _ (t w : List ℕ) (c : Names) (f : Fits c) (i : ℕ) (r : Row) where
+module _ (t w : List ℕ) (c : Names) (f : NamesFit c) (i : ℕ) (r : Row) where
   pub variable-row : variables-first ≤ i → declarationsIn t (putRow t w i r) c ≡ declarationsIn t w c
   variable-row l = declarations-kept t w (putRow t w i r) c f (λ j p q. row-other t w i r j (inl (omega arith)))
 
@@ -251,7 +251,7 @@ module _ (t w : List ℕ) (c : Names) (k s : Span) (m : Row) (size : length w �
       })
 
   -- it leaves the declarations and the tables
-  pub block-declarations : Fits c → declarationsIn t (putBlock t w k m s) c ≡ declarationsIn t w c
+  pub block-declarations : NamesFit c → declarationsIn t (putBlock t w k m s) c ≡ declarationsIn t w c
   unfolding putBlock
   block-declarations f =
       variable-row t _ c f (variables-first + result-variable) _ (omega arith)

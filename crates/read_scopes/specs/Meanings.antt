@@ -1,10 +1,12 @@
 -- What rows of names mean: the declarations of a text, the scope of a line, and the variables that it may name.
+use mathlib.Core.Path.{_≡_}
 use mathlib.Core.Bool.{cond}
 use mathlib.Core.List.{List, [], _∷_, _++_}
 use Prim.Native.Nat.{ℕ, suc, _+_, _-_, _≤_}
 use lib.Dec.{eqb}
+use lib.ListN.{length}
 use Rattle.rules.specs.Base.{Name, bytes}
-use Rattle.rules.specs.Limits.{most-classes, most-methods, most-locals}
+use Rattle.rules.specs.Limits.{work-bytes, most-classes, most-methods, most-locals}
 use Rattle.rules.specs.Syntax.{this-variable, parameter, first-local, result-variable}
 use Rattle.rules.specs.Scope.{FieldDeclaration, MethodDeclaration, Declarations, Variable, Block, Scope}
 use Rattle.tables.specs.Layout.{most-names}
@@ -17,11 +19,16 @@ use Rattle.read_names.specs.Rows.{Entry, entryAt, givesAt, nameIn, noSpan, putR
 
 -- THE COUNTS
 
-pub record Fits (c : Names) : Type 0 where
+pub record NamesFit (c : Names) : Type 0 where
   pub classes : c .classes ≤ most-classes
   pub fields : c .fields ≤ most-names
   pub methods : c .methods ≤ most-methods
   pub locals : c .locals ≤ most-locals
+
+-- the work area is whole, and the counts of its rows fit
+pub record AreaFits (w : List ℕ) (c : Names) : Type 0 where
+  pub whole : length w ≡ work-bytes
+  pub fits : NamesFit c
 
 pub record AboveFits (a : Above) : Type 0 where
   pub classes : a .classes ≤ most-classes

@@ -20,6 +20,13 @@ pub struct Names {
     pub result: bool,
 }
 
+// The variables of a block by number: `this`, the parameter, the locals; `read_names::RESULT` is `result`.
+pub const THIS: usize = 0;
+
+pub const PARAMETER: usize = 1;
+
+pub const FIRST_LOCAL: usize = 2;
+
 // Rows of one kind that follow each other.
 pub struct Range {
     pub first: usize,
@@ -34,7 +41,7 @@ pub struct Above {
 }
 
 // One more class.
-pub fn put_class(text: &[u8], work: &mut [u8], c: Names, name: Span) -> Names
+pub fn add_class(text: &[u8], work: &mut [u8], c: Names, name: Span) -> Names
     requires { ⌜ (length (now work) ≡ work-bytes) × (c .classes < most-classes) × SpanFits name ⌝ }
     ensures { λ r. ⌜ (r ≡ moreClasses c) × (now (work .exit) ≡ putRow (now (text .entry)) (now (work .entry)) (classes-first + c .classes) (classRow name)) ⌝ }
 {
@@ -61,7 +68,7 @@ pub fn put_class(text: &[u8], work: &mut [u8], c: Names, name: Span) -> Names
 }
 
 // One more field, of this type, of the class `owner`.
-pub fn put_field(
+pub fn add_field(
     text: &[u8],
     work: &mut [u8],
     c: Names,
@@ -95,7 +102,7 @@ pub fn put_field(
 }
 
 // One more method.
-pub fn put_method(text: &[u8], work: &mut [u8], c: Names, m: Row) -> Names
+pub fn add_method(text: &[u8], work: &mut [u8], c: Names, m: Row) -> Names
     requires { ⌜ (length (now work) ≡ work-bytes) × (c .methods < most-methods) × RowFits m ⌝ }
     ensures { λ r. ⌜ (r ≡ moreMethods c) × (now (work .exit) ≡ putRow (now (text .entry)) (now (work .entry)) (methods-first + c .methods) m) ⌝ }
 {
@@ -133,7 +140,7 @@ pub fn put_local(text: &[u8], work: &mut [u8], c: Names, name: Span, gives: Span
     requires { ⌜ (length (now work) ≡ work-bytes) × (c .locals < most-locals) × SpanFits name × SpanFits gives ⌝ }
     ensures { λ r. ⌜ (r ≡ moreLocals c) × (now (work .exit) ≡ putRow (now (text .entry)) (now (work .entry)) (variables-first + (2 + c .locals)) (variableRow name gives)) ⌝ }
 {
-    put_variable(text, work, 2 + c.locals, name, gives);
+    put_variable(text, work, FIRST_LOCAL + c.locals, name, gives);
     Names {
         classes: c.classes,
         fields: c.fields,
@@ -152,7 +159,7 @@ pub fn put_block(text: &[u8], work: &mut [u8], class: Span, m: Row, parameter: S
     let none = read_names::no_span();
     let gives = m.gives;
     let takes = m.takes;
-    put_variable(text, work, 0, none, class);
-    put_variable(text, work, 1, parameter, takes);
+    put_variable(text, work, THIS, none, class);
+    put_variable(text, work, PARAMETER, parameter, takes);
     put_variable(text, work, read_names::RESULT, none, gives);
 }

@@ -13,7 +13,7 @@ ghost use Rattle.rules.specs.Text.{isExpr, exprOf};
 ghost use Rattle.rules.specs.Grammar.{isOperand};
 ghost use Rattle.rules.specs.Names.{isInt, known, knownExpr, ofClass, ofClassIn, mayBeAssigned};
 ghost use Rattle.read_names.specs.Rows.{nameIn};
-ghost use Rattle.read_scopes.specs.Meanings.{Fits, AboveFits, declarationsIn, variablesIn, scopeIn};
+ghost use Rattle.read_scopes.specs.Meanings.{NamesFit, AboveFits, declarationsIn, variablesIn, scopeIn};
 ghost use Rattle.read_tests.specs.Tests.{fieldKnown, methodKnown, operandMeant};
 
 // What a field of a line is.
@@ -33,7 +33,7 @@ pub enum Operand {
 
 // May a line name the field f of a class?
 pub fn known_field(text: &[u8], work: &[u8], c: Names, class: Span, f: &[u8]) -> bool
-    requires { ⌜ (length (now work) ≡ work-bytes) × Fits c ⌝ }
+    requires { ⌜ (length (now work) ≡ work-bytes) × NamesFit c ⌝ }
     ensures { λ r. ⌜ r ≡ fieldKnown (declarationsIn (now (text .entry)) (now (work .entry)) c) (nameIn (now (text .entry)) class) (now (f .entry)) ⌝ }
 {
     if read_words::is_reserved(f) {
@@ -47,7 +47,7 @@ pub fn known_field(text: &[u8], work: &[u8], c: Names, class: Span, f: &[u8]) ->
 
 // May a line name its method m?
 pub fn known_method(text: &[u8], work: &[u8], c: Names, class: Span, m: &[u8]) -> bool
-    requires { ⌜ (length (now work) ≡ work-bytes) × Fits c ⌝ }
+    requires { ⌜ (length (now work) ≡ work-bytes) × NamesFit c ⌝ }
     ensures { λ r. ⌜ r ≡ methodKnown (declarationsIn (now (text .entry)) (now (work .entry)) c) (nameIn (now (text .entry)) class) (now (m .entry)) ⌝ }
 {
     if read_words::is_reserved(m) {
@@ -63,7 +63,7 @@ pub fn known_method(text: &[u8], work: &[u8], c: Names, class: Span, m: &[u8]) -
 
 // May a line name x.f?
 fn known_path(text: &[u8], work: &[u8], c: Names, x: &[u8], f: &[u8]) -> bool
-    requires { ⌜ (length (now work) ≡ work-bytes) × Fits c ⌝ }
+    requires { ⌜ (length (now work) ≡ work-bytes) × NamesFit c ⌝ }
     ensures { λ r. ⌜ r ≡ knownExpr (declarationsIn (now (text .entry)) (now (work .entry)) c) (variablesIn (now (text .entry)) (now (work .entry)) c) (path (now (x .entry)) (now (f .entry))) ⌝ }
 {
     let v = read_lookups::variable(text, work, c, x);
@@ -75,7 +75,7 @@ fn known_path(text: &[u8], work: &[u8], c: Names, x: &[u8], f: &[u8]) -> bool
 }
 
 pub fn known_expr(text: &[u8], work: &[u8], c: Names, w: &[u8]) -> bool
-    requires { ⌜ (length (now work) ≡ work-bytes) × Fits c × (isExpr (now w) ≡ true) ⌝ }
+    requires { ⌜ (length (now work) ≡ work-bytes) × NamesFit c × (isExpr (now w) ≡ true) ⌝ }
     ensures { λ r. ⌜ r ≡ knownExpr (declarationsIn (now (text .entry)) (now (work .entry)) c) (variablesIn (now (text .entry)) (now (work .entry)) c) (exprOf (now (w .entry))) ⌝ }
 {
     if read_tokens::is_numeral(w) {
@@ -95,7 +95,7 @@ pub fn known_expr(text: &[u8], work: &[u8], c: Names, w: &[u8]) -> bool
 
 // Is the x of a path x.f no int?
 pub fn of_class_in(text: &[u8], work: &[u8], c: Names, w: &[u8]) -> bool
-    requires { ⌜ (length (now work) ≡ work-bytes) × Fits c × (isExpr (now w) ≡ true) ⌝ }
+    requires { ⌜ (length (now work) ≡ work-bytes) × NamesFit c × (isExpr (now w) ≡ true) ⌝ }
     ensures { λ r. ⌜ r ≡ ofClassIn (declarationsIn (now (text .entry)) (now (work .entry)) c) (variablesIn (now (text .entry)) (now (work .entry)) c) (exprOf (now (w .entry))) ⌝ }
 {
     if read_tokens::is_numeral(w) {
@@ -111,7 +111,7 @@ pub fn of_class_in(text: &[u8], work: &[u8], c: Names, w: &[u8]) -> bool
 
 // 6: is the field w of a line, with v before it, a name that may stand there?
 pub fn known(text: &[u8], work: &[u8], c: Names, a: Above, o: Operand, v: &[u8], w: &[u8]) -> bool
-    requires { ⌜ (length (now work) ≡ work-bytes) × Fits c × AboveFits a × (isOperand (operandMeant o) (now w) ≡ true) ⌝ }
+    requires { ⌜ (length (now work) ≡ work-bytes) × NamesFit c × AboveFits a × (isOperand (operandMeant o) (now w) ≡ true) ⌝ }
     ensures { λ r. ⌜ r ≡ known (declarationsIn (now (text .entry)) (now (work .entry)) c) (variablesIn (now (text .entry)) (now (work .entry)) c) (scopeIn (now (text .entry)) (now (work .entry)) c a) (operandMeant o) (now (v .entry)) (now (w .entry)) ⌝ }
 {
     match o {
@@ -142,7 +142,7 @@ pub fn known(text: &[u8], work: &[u8], c: Names, a: Above, o: Operand, v: &[u8],
 }
 
 fn is_of_class(text: &[u8], work: &[u8], c: Names, x: &[u8]) -> bool
-    requires { ⌜ (length (now work) ≡ work-bytes) × Fits c ⌝ }
+    requires { ⌜ (length (now work) ≡ work-bytes) × NamesFit c ⌝ }
     ensures { λ r. ⌜ r ≡ not (isInt (variablesIn (now (text .entry)) (now (work .entry)) c) (now (x .entry))) ⌝ }
 {
     let class = read_lookups::variable_type(text, work, c, x);
@@ -151,7 +151,7 @@ fn is_of_class(text: &[u8], work: &[u8], c: Names, x: &[u8]) -> bool
 
 // 7: is a variable whose member the line names no int?
 pub fn of_class(text: &[u8], work: &[u8], c: Names, o: Operand, v: &[u8], w: &[u8]) -> bool
-    requires { ⌜ (length (now work) ≡ work-bytes) × Fits c × (isOperand (operandMeant o) (now w) ≡ true) ⌝ }
+    requires { ⌜ (length (now work) ≡ work-bytes) × NamesFit c × (isOperand (operandMeant o) (now w) ≡ true) ⌝ }
     ensures { λ r. ⌜ r ≡ ofClass (declarationsIn (now (text .entry)) (now (work .entry)) c) (variablesIn (now (text .entry)) (now (work .entry)) c) (operandMeant o) (now (v .entry)) (now (w .entry)) ⌝ }
 {
     match o {
@@ -164,14 +164,14 @@ pub fn of_class(text: &[u8], work: &[u8], c: Names, o: Operand, v: &[u8], w: &[u
 
 // 9: may the line assign to w, if it does?
 pub fn may_be_assigned(text: &[u8], work: &[u8], c: Names, o: Operand, w: &[u8]) -> bool
-    requires { ⌜ (length (now work) ≡ work-bytes) × Fits c ⌝ }
+    requires { ⌜ (length (now work) ≡ work-bytes) × NamesFit c ⌝ }
     ensures { λ r. ⌜ r ≡ mayBeAssigned (variablesIn (now (text .entry)) (now (work .entry)) c) (operandMeant o) (now (w .entry)) ⌝ }
 {
     let Operand::Assigned = o else {
         return true;
     };
     let v = read_lookups::variable(text, work, c, w);
-    if v < 2 {
+    if v < read_scopes::FIRST_LOCAL {
         return false;
     }
     v < read_names::RESULT

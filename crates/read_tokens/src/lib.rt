@@ -7,7 +7,7 @@ ghost use lib.Dec.{eqb};
 ghost use Prim.Native.Nat.{_+_, _-_, _≤_};
 ghost use lib.ListN.{length, drop};
 ghost use Rattle.rules.specs.Text.{minus, digit, isName, numeral, isExpr};
-ghost use Rattle.read_bytes.specs.Sets.{Found};
+ghost use Rattle.read_bytes.specs.Sets.{FirstInSet};
 ghost use Rattle.read_bytes.specs.Fields.{FieldIs};
 ghost use Rattle.read_tokens.specs.Names.{beginsName};
 ghost use Rattle.read_tokens.specs.Expressions.{Reads};
@@ -36,7 +36,7 @@ pub fn is_name(w: &[u8]) -> bool
 // Where the letters and digits from a place on end. A mark of `name_marks` is no letter or digit, and is not tested again.
 fn name_stop(l: &[u8], at: usize) -> usize
     requires { ⌜ at ≤ length (now l) ⌝ }
-    ensures { λ r. ⌜ Found (now (l .entry)) at Set.NotLetterOrDigit r ⌝ }
+    ensures { λ r. ⌜ FirstInSet (now (l .entry)) at Set.NotLetterOrDigit r ⌝ }
 {
     let mut stop = at;
     while 8 <= l.len() - stop {
@@ -113,7 +113,7 @@ pub fn known_expr(w: &[u8]) -> Expr
 // The end of the field that starts at `at`, if that field is a variable, `null` or a path; else `at`. Its first byte that is no letter or
 // digit stands at d.
 fn path_end(l: &[u8], at: usize, d: usize) -> usize
-    requires { ⌜ (at ≤ length (now l)) × Found (now l) at Set.NotLetterOrDigit d × (numeral (drop at (now l)) ≡ false) ⌝ }
+    requires { ⌜ (at ≤ length (now l)) × FirstInSet (now l) at Set.NotLetterOrDigit d × (numeral (drop at (now l)) ≡ false) ⌝ }
     ensures { λ r. ⌜ FieldIs isExpr (now (l .entry)) at r ⌝ }
 {
     let n = d - at;

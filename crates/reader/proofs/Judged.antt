@@ -22,7 +22,7 @@ use Rattle.tables.specs.Layout.{names-at}
 use Rattle.tables.specs.Stores.{Kept}
 use Rattle.read_scopes.specs.declared.Names.{Names}
 use Rattle.read_scopes.specs.declared.Above.{Above}
-use Rattle.read_scopes.specs.Meanings.{Fits, declarationsIn, variablesIn, scopeIn, blockIn, ownVariables}
+use Rattle.read_scopes.specs.Meanings.{NamesFit, declarationsIn, variablesIn, scopeIn, blockIn, ownVariables}
 use Rattle.read_scopes.proofs.Scopes.{names-kept, variables-kept, scope-kept}
 use Rattle.read_declarations.specs.Texts.{lineAt, FormedAt}
 use Rattle.read_declarations.specs.Declares.{lineWith}
@@ -33,7 +33,7 @@ use Rattle.read_refusals.specs.Refusals as Judges
 use Rattle.read_refusals.specs.Refusals.{refusalIn, unlessRefused}
 use Rattle.read_refusals.proofs.Refusals.{refuses, visible-is}
 use Rattle.resolve_pass.specs.declared.Pass.{Pass}
-use Rattle.resolve_pass.specs.Passes.{seenBy, isGood, isGoodHere, Ready, item, lineAfter}
+use Rattle.resolve_pass.specs.Passes.{seenBy, isGood, isGoodHere, PassFits, item, lineAfter}
 use Rattle.reader.specs.declared.Refusal.{Refusal}
 use Rattle.reader.specs.Readings.{refusalOf, Begins, refusalHere}
 
@@ -49,7 +49,7 @@ module _ {t : List ℕ} {a : ℕ} {r : Word} (x : WordAt t a r) (f : FormedAt t 
   unfolding lineAt
   word-line = ap₂ lineWith kind-is (x .fields)
 
-  pub word-begins : {w : List ℕ} {p : Pass} → Ready t w p → Begins t w p r
+  pub word-begins : {w : List ℕ} {p : Pass} → PassFits t w p → Begins t w p r
   word-begins y =
       record {
         ready = y;
@@ -72,7 +72,7 @@ seen-scope : (t w : List ℕ) (k : Kind) (c : Names) (a : Above) → scopeIn t w
 unfolding scopeIn blockIn ownVariables seenBy
 seen-scope t w k c a = refl
 
-pub seen-fits : (k : Kind) (c : Names) → Fits c → Fits (seenBy k c)
+pub seen-fits : (k : Kind) (c : Names) → NamesFit c → NamesFit (seenBy k c)
 unfolding seenBy
 seen-fits k c f = record { classes = f .classes; fields = f .fields; methods = f .methods; locals = f .locals }
 
@@ -160,7 +160,7 @@ module _ (t w : List ℕ) (p : Pass) (l : Line) where
     not-good g e = bad-fails _ _ _ _ g (none-here e)
 
 -- They are said of the names alone.
-module _ {t w : List ℕ} {p : Pass} (w′ : List ℕ) (l : Line) (r : Ready t w p) (k : Kept names-at work-bytes w w′) where
+module _ {t w : List ℕ} {p : Pass} (w′ : List ℕ) (l : Line) (r : PassFits t w p) (k : Kept names-at work-bytes w w′) where
   declared-same : declarationsIn t w′ (p .names) ≡ declarationsIn t w (p .names)
   declared-same = names-kept t w w′ (p .names) (r .names) k
 

@@ -19,8 +19,8 @@ use Rattle.tables.specs.Decode.{atomsFrom}
 use Rattle.rules.specs.Syntax.{Program}
 use Rattle.read_scan.specs.declared.Word.{Word}
 use Rattle.resolve_pass.specs.declared.Pass.{Pass}
-use Rattle.resolve_pass.specs.declared.Tried.{Tried}
-use Rattle.resolve_pass.specs.Passes.{isFramed, Ready, Stands, Room, LinePut, item, unframedAfter, lineAfter, isGoodHere, BadLine, LineTried}
+use Rattle.resolve_pass.specs.declared.TriedLine.{TriedLine}
+use Rattle.resolve_pass.specs.Passes.{isFramed, PassFits, Stands, LineRoom, LinePut, item, unframedAfter, lineAfter, isGoodHere, BadLine, LineTried}
 use Rattle.resolve_headers.specs.Headers.{isDeclaration}
 use Rattle.resolve_pass.proofs.Unframed.{framed-formula, framed-other}
 use Rattle.reader.specs.Readings.{Between, Written, Begins, LineTaken, unframedBy, withUnframed}
@@ -99,7 +99,7 @@ module _ {t w : List ℕ} {p : Pass} {l : Line} {w′ : List ℕ} {q : Pass} (x 
       }
 
   -- its atoms are written
-  pub between : (F : Program) → Stands t w p F → Ready t w p → Room t w p l → Between w′ p q
+  pub between : (F : Program) → Stands t w p F → PassFits t w p → LineRoom t w p l → Between w′ p q
   between F s r m =
       record {
         whole = x .size ∙ r .whole;
@@ -127,7 +127,7 @@ module _ {t w : List ℕ} {p : Pass} {l : Line} {w′ : List ℕ} {q : Pass} (x 
 
 -- A LINE THAT IS TRIED
 module _ {t w : List ℕ} {p : Pass} {r : Word} (x : Begins t w p r) where
-  pub follows : Room t w p (lineAfter t (r .end) (r .kind)) → Follows t w p (r .kind) (r .end)
+  pub follows : LineRoom t w p (lineAfter t (r .end) (r .kind)) → Follows t w p (r .kind) (r .end)
   follows m = record { ready = x .ready; high = x .high; formed = x .formed; room = m }
 
   pub begins-after : {w′ : List ℕ} → length w′ ≡ length w → Begins t w′ p r
@@ -146,12 +146,12 @@ module _ {t w : List ℕ} {p : Pass} {r : Word} (x : Begins t w p r) where
         formed = x .formed;
       }
 
-module _ {t w : List ℕ} {p : Pass} {l : Line} {w′ : List ℕ} {y : Tried} (x : LineTried t w p l w′ y) where
-  pub tried-on : (q : Pass) → y ≡ Tried.On q → (isGoodHere t w p l ≡ true) × (LinePut t w p l w′ q × (q .unframed ≡ p .unframed))
+module _ {t w : List ℕ} {p : Pass} {l : Line} {w′ : List ℕ} {y : TriedLine} (x : LineTried t w p l w′ y) where
+  pub tried-on : (q : Pass) → y ≡ TriedLine.On q → (isGoodHere t w p l ≡ true) × (LinePut t w p l w′ q × (q .unframed ≡ p .unframed))
   unfolding LineTried
   tried-on q i = subst (LineTried t w p l w′) i x
 
-  pub tried-bad : y ≡ Tried.Bad → BadLine t w p l w′
+  pub tried-bad : y ≡ TriedLine.Bad → BadLine t w p l w′
   unfolding LineTried
   tried-bad i = subst (LineTried t w p l w′) i x
 
@@ -163,8 +163,8 @@ module _ (t w : List ℕ) (p : Pass) {k : ℕ} (r : ℕ) (K : Kind) (e : k ≡ k
   kind-formed f =
       subst (λ (K : Kind). isFormed (form K .operands) (form K .tail) (more (drop r t)) ≡ true) (ap kindNumbered e ∙ kind-of-number K) f
 
-  pub kind-room : Room t w p (lineAfter t r k) → Room t w p (lineAfter t r (kindNumber K))
-  kind-room m = subst (λ (k : ℕ). Room t w p (lineAfter t r k)) e m
+  pub kind-room : LineRoom t w p (lineAfter t r k) → LineRoom t w p (lineAfter t r (kindNumber K))
+  kind-room m = subst (λ (k : ℕ). LineRoom t w p (lineAfter t r k)) e m
 
 -- THE TEST, STEP BY STEP
 module _ (p : Pass) (φ : Formula ℕ) (none : p .unframed ≡ 0) (b r : Bool) (is : r ≡ b) where

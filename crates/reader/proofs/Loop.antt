@@ -16,7 +16,7 @@ use Rattle.rules.specs.Places.{Place, firstPlace, placeAfter}
 use Rattle.rules.specs.Scope.{Declarations, Scope, declarations, firstScope, scopeAfter, classesOf, methodsOf}
 use Rattle.rules.specs.Items.{Item, resolveLine, resolveLines}
 use Rattle.rules.specs.Reading.{checkFramed}
-use Rattle.read_bytes.specs.Sets.{Found}
+use Rattle.read_bytes.specs.Sets.{FirstInSet}
 use Rattle.read_bytes.specs.declared.Set.the-variants.{LineEnd}
 use Rattle.read_scan.specs.declared.Word.{Word}
 use Rattle.read_scan.specs.Table.{WordAt, LineTable, lineEnd, startOf}
@@ -25,14 +25,14 @@ use Rattle.read_scopes.specs.declared.Names.{Names}
 use Rattle.tables.specs.Decode.{run}
 use Rattle.read_scopes.specs.Meanings.{declarationsIn, namesFrom, blockIn, ownVariables, classAbove, scopeIn}
 use Rattle.tables.proofs.Runs.{run-length, end-length}
-use Rattle.read_declarations.specs.Texts.{linesOf, Taken, lineAt, FormedAt}
+use Rattle.read_declarations.specs.Texts.{linesOf, TextTaken, lineAt, FormedAt}
 use Rattle.read_declarations.specs.Declares.{Declares}
 use Rattle.read_declarations.proofs.Walks.{Walking, walking-first, walking-done, walking-clean, walking-formed, walking-placed, walking-lines, walking-on}
 use Rattle.rules.specs.Syntax.{Program}
 use Rattle.rules.specs.Reading.{noProgram, withItems, withItem}
 use Rattle.write_rows.proofs.Kept.{none-written}
 use Rattle.resolve_pass.specs.declared.Pass.{Pass}
-use Rattle.resolve_pass.specs.Passes.{counts, firstPass, lastClass, Ready, Stands, Room, item, lineAfter}
+use Rattle.resolve_pass.specs.Passes.{counts, firstPass, lastClass, PassFits, Stands, LineRoom, item, lineAfter}
 use Rattle.resolve_pass.proofs.Places.{At, at-first, at-ready, at-room, at-on}
 use Rattle.resolve_pass.proofs.Unframed.{framedAfter, framed-first, framed-on, framed-last}
 use Rattle.reader.specs.Readings.{refusalOf, framedVerdict, Written, Begins, LineRead, StepIs, resolvedText, AllRead}
@@ -112,7 +112,7 @@ first-stands t w c n =
     record { holds = none-written (counts c) w n; rows = refl; classes = refl; methods = refl; main = refl; fields = refl }
 
 pub resolving-first :
-    (t w : List ℕ) (c : Names) (p : Pass) → p ≡ firstPass c → Taken t → length w ≡ work-bytes → Declares t w w c → Resolving t 0 p w
+    (t w : List ℕ) (c : Names) (p : Pass) → p ≡ firstPass c → TextTaken t → length w ≡ work-bytes → Declares t w w c → Resolving t 0 p w
 resolving-first t w c p e k n d =
     subst (λ (p : Pass). Resolving t 0 p w) (sym e)
     (record {
@@ -137,7 +137,7 @@ module _ {t : List ℕ} {a : ℕ} {p : Pass} {w : List ℕ} (x : Resolving t a p
   abbrev here : Scope
   here = scopeIn t w (p .names) (p .above)
 
-  pub resolving-ready : length t ≤ most-bytes → Ready t w p
+  pub resolving-ready : length t ≤ most-bytes → PassFits t w p
   resolving-ready h = at-ready (x .stand) h (x .whole)
 
   pub resolving-written : Written t w p
@@ -165,14 +165,14 @@ module _ {t : List ℕ} {a : ℕ} {p : Pass} {w : List ℕ} (x : Resolving t a p
         unframed = ap (λ (xs : List Item). checkFramed xs 0) (sym (append-nil (x .items))) ∙ (x .framed [] ∙ framed-last (p .unframed) (p .line));
       }
 
-  module _ (size : length t ≤ most-bytes) {e : ℕ} (l : a < length t) (f : Found t a LineEnd e) where
+  module _ (size : length t ≤ most-bytes) {e : ℕ} (l : a < length t) (f : FirstInSet t a LineEnd e) where
     stand-here : At t w p (x .place) (lineAt t a ∷ linesOf (drop (e + 1) t))
     stand-here = subst (At t w p (x .place)) (walking-lines (x .walk) l f) (x .stand)
 
     pub resolving-formed : FormedAt t a
     resolving-formed = walking-formed (x .walk) l f
 
-    pub resolving-room : Room t w p (lineAt t a)
+    pub resolving-room : LineRoom t w p (lineAt t a)
     resolving-room =
         let m = walking-placed (x .walk) l f in
         at-room stand-here (m .in-place) (m .room) (lines (drop (e + 1) t)) (suc (p .line)) (walking-on (x .walk) l f .rest) (omega (arith, x .early, l, size))
@@ -227,7 +227,7 @@ module _ {t : List ℕ} {a : ℕ} {p : Pass} {w : List ℕ} (x : Resolving t a p
 
   -- the line here by its word
   module _ (size : length t ≤ most-bytes) (l : a < length t) {r : Word} (y : WordAt t a r) where
-    ends : Found t a LineEnd (lineEnd t a)
+    ends : FirstInSet t a LineEnd (lineEnd t a)
     ends = found-end t a (omega arith)
 
     same-line : lineAfter t (r .end) (r .kind) ≡ lineAt t a
@@ -236,8 +236,8 @@ module _ {t : List ℕ} {a : ℕ} {p : Pass} {w : List ℕ} (x : Resolving t a p
     pub word-ready : Begins t w p r
     word-ready = word-begins y (resolving-formed size l ends) (resolving-ready size)
 
-    pub word-room : Room t w p (lineAfter t (r .end) (r .kind))
-    word-room = subst (Room t w p) (sym same-line) (resolving-room size l ends)
+    pub word-room : LineRoom t w p (lineAfter t (r .end) (r .kind))
+    word-room = subst (LineRoom t w p) (sym same-line) (resolving-room size l ends)
 
     pub word-refused :
         (q : Refusal) → resolveLine (declarationsIn t w (p .names)) here (lineAfter t (r .end) (r .kind)) ≡ no q → resolvedText t ≡ refused q (suc (p .line))

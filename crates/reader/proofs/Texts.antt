@@ -18,7 +18,7 @@ use Rattle.read_scan.proofs.Scans.{text-taken}
 use Rattle.tables.specs.Decode.{programIn}
 use Rattle.tables.specs.Tables.{Tables}
 use Rattle.read_scopes.specs.declared.Names.{Names}
-use Rattle.read_declarations.specs.Texts.{linesOf, Taken}
+use Rattle.read_declarations.specs.Texts.{linesOf, TextTaken}
 use Rattle.read_declarations.specs.Declares.{Declares}
 use Rattle.rules.specs.Syntax.{Program}
 use Rattle.rules.specs.Reading.{noProgram, withItems}
@@ -52,11 +52,11 @@ module _ (t : List ℕ) (short : length t ≤ most-bytes) where
       go (accepted ls) e = absurd (let z : _≡_ {A = ℕ} 0 1 = cc in omega arith)
       go (refused q m) e = cc
 
-  pub scan-taken : (n : ℕ) → accepted n ≡ scanText t → Taken t
+  pub scan-taken : (n : ℕ) → accepted n ≡ scanText t → TextTaken t
   unfolding linesOf
   scan-taken n e = text-taken t n (sym e) .0
 
-  pub read-resolved : Taken t → readText t ≡ resolvedText t
+  pub read-resolved : TextTaken t → readText t ≡ resolvedText t
   unfolding then
   read-resolved k = by-passes ∙ rw k
 
@@ -107,7 +107,7 @@ module _ {t w : List ℕ} {p : Pass} (x : AllRead t w p) where
       let s = x .stands in
       rw (← s .rows, ← s .main, ← x .classes, ← x .methods, ← s .classes, ← s .methods)
 
-  pub tabled : Taken t → length t ≤ most-bytes → {w′ : List ℕ} → w′ ≡ ended → Tabled t w′ (p .unframed)
+  pub tabled : TextTaken t → length t ≤ most-bytes → {w′ : List ℕ} → w′ ≡ ended → Tabled t w′ (p .unframed)
   unfolding F program
   tabled k h {w′} i =
       let s = x .stands in

@@ -1,22 +1,21 @@
 -- What the reader's answers mean: the refusal of each case, and the tables of a text that is taken.
 use mathlib.Core.Path.{_≡_}
-use mathlib.Core.Bool.{Bool, true, cond}
+use mathlib.Core.Bool.{Bool, cond}
 use mathlib.Core.List.{List, []}
 use mathlib.Core.Option.{Option}
 use Prim.Native.Nat.{ℕ, suc, _≤_, _<_}
 use lib.Dec.{eqb}
-use lib.ListN.{length, drop}
+use lib.ListN.{length}
 use Rattle.rules.specs.Limits.{work-bytes, most-bytes}
 use Rattle.rules.specs.Syntax.{Formula}
 use Rattle.rules.specs.Base.{ok, no}
 use Rattle.rules.specs.Answers as Answers
 use Rattle.rules.specs.Answers.{Verdict, accepted, refused}
-use Rattle.rules.specs.Grammar.{Line, form, IsKindNumber, isFormed}
+use Rattle.rules.specs.Grammar.{Line, IsKindNumber}
 use Rattle.rules.specs.Scope.{declarations, firstScope}
 use Rattle.rules.specs.Items.{Item, resolveLine, resolveLines}
 use Rattle.rules.specs.Reading.{readText, framed, checkFramed, program}
 use Rattle.read_scan.specs.declared.Word.{Word}
-use Rattle.read_fields.specs.Cuts.{more}
 use Rattle.read_grammar.specs.Rows.{kindNumbered}
 use Rattle.tables.specs.Layout.{most-atom-rows}
 use Rattle.tables.specs.Decode.{programIn}
@@ -25,9 +24,10 @@ use Rattle.read_scopes.specs.Meanings.{declarationsIn, variablesIn, scopeIn}
 use Rattle.rules.specs.Syntax.{Program}
 use Rattle.rules.specs.Reading.{noProgram, withItems}
 use Rattle.read_declarations.specs.Texts.{linesOf}
+use Rattle.read_declarations.specs.Declares.{FormedAfter}
 use Rattle.read_refusals.specs.Refusals.{refusalIn}
 use Rattle.resolve_pass.specs.declared.Pass.{Pass}
-use Rattle.resolve_pass.specs.Passes.{seenBy, Ready, Stands, LinePut, after, item, unframedAfter}
+use Rattle.resolve_pass.specs.Passes.{seenBy, PassFits, Stands, LinePut, after, item, unframedAfter}
 use Rattle.reader.specs.declared.Refusal.{Refusal}
 use Rattle.reader.specs.declared.Step.{Step}
 use Rattle.reader.specs.declared.Resolved.{Resolved}
@@ -57,10 +57,10 @@ pub record Written (t w : List ℕ) (p : Pass) : Type 0 where
 
 -- it is of the kind and has the fields that its word r tells
 pub record Begins (t w : List ℕ) (p : Pass) (r : Word) : Type 0 where
-  pub ready : Ready t w p
+  pub ready : PassFits t w p
   pub high : r .end ≤ length t
   pub kind : IsKindNumber (r .kind)
-  pub formed : isFormed (form (kindNumbered (r .kind)) .operands) (form (kindNumbered (r .kind)) .tail) (more (drop (r .end) t)) ≡ true
+  pub formed : FormedAfter t (r .end) (kindNumbered (r .kind))
 
 -- the number of 6, 7 and 9 that refuses it, or none
 unfoldable pub refusalHere : (t w : List ℕ) → Pass → Line → Option Answers.Refusal

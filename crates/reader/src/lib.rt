@@ -6,7 +6,7 @@ use read_scopes::Above;
 use read_scopes::Names;
 use read_scopes::Range;
 use resolve_pass::Pass;
-use resolve_pass::Tried;
+use resolve_pass::TriedLine;
 use rules::Kind;
 use rules::Machine;
 ghost use mathlib.Core.Path.{_≡_};
@@ -21,12 +21,12 @@ ghost use Rattle.read_grammar.specs.Rows.{kindNumbered};
 ghost use Rattle.read_scan.specs.Scans as Scans;
 ghost use Rattle.read_scan.specs.Table.{LineTable};
 ghost use Rattle.tables.specs.Decode.{atomsFrom};
-ghost use Rattle.read_declarations.specs.Texts.{Taken};
+ghost use Rattle.read_declarations.specs.Texts.{TextTaken};
 ghost use Rattle.read_declarations.specs.Declares.{Declares};
 ghost use Rattle.read_refusals.specs.Refusals as Judges;
 ghost use Rattle.resolve_headers.specs.Headers.{isDeclaration, Held};
 ghost use Rattle.resolve_bodies.specs.Bodies.{Follows};
-ghost use Rattle.resolve_pass.specs.Passes.{firstPass, Room, isFramed, lineAfter, isGoodHere, LineTried};
+ghost use Rattle.resolve_pass.specs.Passes.{firstPass, LineRoom, isFramed, lineAfter, isGoodHere, LineTried};
 ghost use Rattle.reader.specs.Readings.{unframedBy, withUnframed, Between, Written, Begins, refusalHere, StepIs, ResolvedIs, ReadingIs, refusalOf};
 
 // Why a text is refused.
@@ -44,7 +44,7 @@ pub enum Refusal {
 // ONE LINE
 
 // Puts a line of this kind, the word of which ends at r, into the tables if it is good. The kind is not `class` or `main`.
-fn try_line(text: &[u8], work: &mut [u8], p: Pass, kind: u8, r: usize) -> Tried
+fn try_line(text: &[u8], work: &mut [u8], p: Pass, kind: u8, r: usize) -> TriedLine
     requires { ⌜ Follows (now text) (now work) p kind r × IsKindNumber kind × (isDeclaration kind ≡ false) × Held (now work) p ⌝ }
     ensures { λ q. ⌜ LineTried (now (text .entry)) (now (work .entry)) p (lineAfter (now (text .entry)) r kind) (now (work .exit)) q ⌝ }
 {
@@ -159,7 +159,7 @@ fn is_declaration(kind: u8) -> bool
 
 // A line `class` or `main` is judged before it is put.
 fn declare_line(text: &[u8], work: &mut [u8], w: Word, p: Pass) -> Step
-    requires { ⌜ Begins (now text) (now work) p w × (isDeclaration (w .kind) ≡ true) × Room (now text) (now work) p (lineAfter (now text) (w .end) (w .kind)) × Written (now text) (now work) p ⌝ }
+    requires { ⌜ Begins (now text) (now work) p w × (isDeclaration (w .kind) ≡ true) × LineRoom (now text) (now work) p (lineAfter (now text) (w .end) (w .kind)) × Written (now text) (now work) p ⌝ }
     ensures { λ s. ⌜ StepIs (now (text .entry)) (now (work .entry)) p (lineAfter (now (text .entry)) (w .end) (w .kind)) (now (work .exit)) s ⌝ }
 {
     let j = judge_line(text, work, w, p);
@@ -174,7 +174,7 @@ fn declare_line(text: &[u8], work: &mut [u8], w: Word, p: Pass) -> Step
 // The line with the word w. Unless `declare_line` takes it, its names are looked up once, as it is written, and it is judged only if it
 // is not good.
 fn read_line(text: &[u8], work: &mut [u8], w: Word, p: Pass) -> Step
-    requires { ⌜ Begins (now text) (now work) p w × Room (now text) (now work) p (lineAfter (now text) (w .end) (w .kind)) × Written (now text) (now work) p ⌝ }
+    requires { ⌜ Begins (now text) (now work) p w × LineRoom (now text) (now work) p (lineAfter (now text) (w .end) (w .kind)) × Written (now text) (now work) p ⌝ }
     ensures { λ s. ⌜ StepIs (now (text .entry)) (now (work .entry)) p (lineAfter (now (text .entry)) (w .end) (w .kind)) (now (work .exit)) s ⌝ }
 {
     if is_declaration(w.kind) {
@@ -182,8 +182,8 @@ fn read_line(text: &[u8], work: &mut [u8], w: Word, p: Pass) -> Step
     }
     let t = try_line(text, work, p, w.kind, w.end);
     match t {
-        Tried::Bad => Step::Refused(why_refused(text, work, w, p)),
-        Tried::On(q) => Step::On(take_line(work, w.kind, p, q)),
+        TriedLine::Bad => Step::Refused(why_refused(text, work, w, p)),
+        TriedLine::On(q) => Step::On(take_line(work, w.kind, p, q)),
     }
 }
 
@@ -217,7 +217,7 @@ fn first_pass(names: Names) -> Pass
 
 // Names, types and targets of the n lines of a text that pass 1 takes, whose table and whose declarations stand in the work area.
 fn read_lines(text: &[u8], work: &mut [u8], names: Names, n: usize) -> Resolved
-    requires { ⌜ (length (now text) ≤ most-bytes) × (length (now work) ≡ work-bytes) × Taken (now text) × LineTable (now text) (now work) n × Declares (now text) (now work) (now work) names ⌝ }
+    requires { ⌜ (length (now text) ≤ most-bytes) × (length (now work) ≡ work-bytes) × TextTaken (now text) × LineTable (now text) (now work) n × Declares (now text) (now work) (now work) names ⌝ }
     ensures { λ r. ⌜ ResolvedIs (now (text .entry)) (now (work .exit)) r × (length (now (work .exit)) ≡ work-bytes) ⌝ }
 {
     let mut p = first_pass(names);
@@ -259,7 +259,7 @@ fn scan_refusal(r: read_scan::Refusal) -> Refusal
 
 // Pass 2 over a text of n lines that pass 1 takes.
 fn resolve(text: &[u8], work: &mut [u8], n: usize) -> Reading
-    requires { ⌜ (length (now text) ≤ most-bytes) × (length (now work) ≡ work-bytes) × Taken (now text) × LineTable (now text) (now work) n ⌝ }
+    requires { ⌜ (length (now text) ≤ most-bytes) × (length (now work) ≡ work-bytes) × TextTaken (now text) × LineTable (now text) (now work) n ⌝ }
     ensures { λ r. ⌜ ReadingIs (now (text .entry)) (now (work .exit)) r × (length (now (work .exit)) ≡ work-bytes) ⌝ }
 {
     let names = read_declarations::declare(text, work, n);

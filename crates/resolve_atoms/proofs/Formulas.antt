@@ -14,7 +14,7 @@ use Rattle.rules.specs.Syntax.{Atom, Formula}
 use Rattle.rules.specs.Text.{upTo, isRel, isAtom, atomOf, isFormula, formulaOf}
 use Rattle.rules.specs.Scope.{Declarations, Variable}
 use Rattle.rules.specs.Items.{resolveAtom}
-use Rattle.read_bytes.specs.Sets.{inSet, Found}
+use Rattle.read_bytes.specs.Sets.{inSet, FirstInSet}
 use Rattle.read_bytes.specs.declared.Set.the-variants.{FieldEnd}
 use Rattle.read_bytes.proofs.Search.{true-false, both-true, upTo-within}
 use Rattle.read_words.proofs.Words.{atom-word-length}
@@ -24,7 +24,7 @@ use Rattle.read_fields.proofs.Formulas.{NextAtom, more-on, not-none, formula-fu
 use Rattle.tables.specs.Layout.{names-at, most-atom-rows}
 use Rattle.tables.specs.Stores.{Kept}
 use Rattle.read_scopes.specs.declared.Names.{Names}
-use Rattle.read_scopes.specs.Meanings.{declarationsIn, variablesIn}
+use Rattle.read_scopes.specs.Meanings.{AreaFits, declarationsIn, variablesIn}
 use Rattle.read_scopes.proofs.Scopes.{names-kept, variables-kept}
 use Rattle.rules.specs.Syntax.{Program}
 use Rattle.write_rows.specs.Puts.{putAtom}
@@ -33,11 +33,11 @@ use Rattle.tables.specs.Tables.{Declared}
 use Rattle.write_rows.specs.Holds.{AtomOk, Building}
 use Rattle.write_rows.proofs.Atoms.{atom-names, atom-length, building, atom-written}
 use Rattle.resolve_atoms.specs.declared.AtomRow.{AtomRow}
-use Rattle.resolve_atoms.specs.declared.Tried.{Tried}
+use Rattle.resolve_atoms.specs.declared.TriedAtom.{TriedAtom}
 use Rattle.resolve_atoms.specs.declared.Put.{Put}
 use Rattle.resolve_atoms.specs.Good.{fitsAtom}
 use Rattle.resolve_atoms.proofs.Sides.{atom-word}
-use Rattle.resolve_atoms.specs.Written.{Resolved, AtomTried, formulaAfter, fitsAfter, Ready, AtomFollows, AtomPut, NextTried, FormulaFollows, FormulaTried}
+use Rattle.resolve_atoms.specs.Written.{Resolved, AtomTried, formulaAfter, fitsAfter, AtomFollows, AtomPut, NextTried, FormulaFollows, FormulaTried}
 
 -- THE WORD OF AN ATOM
 
@@ -56,7 +56,7 @@ module _ {t : List ℕ} {r : ℕ} (f : AtomFollows t r) where
   in-text = byte-in t r 9 (omega arith) (f .byte)
 
   -- where the search for its end stops
-  word-found : Found t (r + 1) FieldEnd (r + 1 + word-length)
+  word-found : FirstInSet t (r + 1) FieldEnd (r + 1 + word-length)
   word-found =
       record {
         low = omega arith;
@@ -131,8 +131,8 @@ module _
     fits-cut = ap (all (fitsAtom (declarationsIn t w c) (variablesIn t w c))) formula-cut
 
     pub next-put :
-        (k : Ready t w c) (n : ℕ) (q : Tried) (a : AtomRow) (u : List ℕ) → n < most-atom-rows →
-        AtomTried (declarationsIn t w c) (variablesIn t w c) here q → q ≡ Tried.Row a → u ≡ putAtom w n (a .kind) (a .left) (a .right) →
+        (k : AreaFits w c) (n : ℕ) (q : TriedAtom) (a : AtomRow) (u : List ℕ) → n < most-atom-rows →
+        AtomTried (declarationsIn t w c) (variablesIn t w c) here q → q ≡ TriedAtom.Row a → u ≡ putAtom w n (a .kind) (a .left) (a .right) →
         NextTried t w c r n u (Put.Done z)
     unfolding formulaAfter NextTried AtomTried
     next-put k n q a u l y i e =
@@ -154,7 +154,7 @@ module _
         }
 
     pub next-bad :
-        (n : ℕ) (q : Tried) → AtomTried (declarationsIn t w c) (variablesIn t w c) here q → q ≡ Tried.Bad → NextTried t w c r n w Put.Bad
+        (n : ℕ) (q : TriedAtom) → AtomTried (declarationsIn t w c) (variablesIn t w c) here q → q ≡ TriedAtom.Bad → NextTried t w c r n w Put.Bad
     unfolding NextTried AtomTried
     next-bad n q y i =
         let x : fitsAtom (declarationsIn t w c) (variablesIn t w c) here ≡ false =
@@ -162,7 +162,7 @@ module _
         (fits-cut ∙ rw x, refl)
 
 -- the row of an atom that was tried
-pub row-ok : (Γ : Declarations) (vs : List Variable) (x : Atom Name) (q : Tried) (a : AtomRow) → AtomTried Γ vs x q → q ≡ Tried.Row a →
+pub row-ok : (Γ : Declarations) (vs : List Variable) (x : Atom Name) (q : TriedAtom) (a : AtomRow) → AtomTried Γ vs x q → q ≡ TriedAtom.Row a →
     AtomOk (a .kind) (a .left) (a .right)
 unfolding AtomTried
 row-ok Γ vs x q a y i =
@@ -198,8 +198,8 @@ writing-first {t} {v} {c} {from} {first} x =
       size = refl;
     }
 
-module _ {t v : List ℕ} {c : Names} {from first : ℕ} {w : List ℕ} {r n : ℕ} (x : Writing t v c from first w r n) (k : Ready t v c) where
-  pub still-ready : Ready t w c
+module _ {t v : List ℕ} {c : Names} {from first : ℕ} {w : List ℕ} {r n : ℕ} (x : Writing t v c from first w r n) (k : AreaFits v c) where
+  pub still-ready : AreaFits w c
   still-ready = record { whole = x .size ∙ k .whole; fits = k .fits }
 
   same-fits : (e : ℕ) → fitsAfter t w c e ≡ fitsAfter t v c e

@@ -31,14 +31,14 @@ use Rattle.read_types.specs.declared.Lookup as Lookup
 use Rattle.read_types.specs.Types.{good, typeMeant, MemberIs, LookIs}
 use Rattle.tables.specs.Decode.{run}
 use Rattle.read_names.specs.Rows.{entryAt, fields-first}
-use Rattle.read_scopes.specs.Meanings.{Fits, asField, declarationsIn, blockIn, ownVariables, variablesIn, variableAt, thisIn, resultIn}
+use Rattle.read_scopes.specs.Meanings.{NamesFit, asField, declarationsIn, blockIn, ownVariables, variablesIn, variableAt, thisIn, resultIn}
 use Rattle.tables.proofs.Runs.{run-length}
 use Rattle.read_names.proofs.Searches.{any-index}
 use Rattle.write_rows.specs.Puts.{tagOf}
 use Rattle.tables.specs.Tables.{SideFits}
 use Rattle.write_rows.specs.Holds as Holds
 use Rattle.write_rows.specs.Holds.{accessOf}
-use Rattle.resolve_atoms.specs.declared.Tried.{Tried}
+use Rattle.resolve_atoms.specs.declared.TriedAtom.{TriedAtom}
 use Rattle.resolve_atoms.specs.Good.{fitsAtom}
 use Rattle.resolve_atoms.specs.Written.{Resolved, AtomTried}
 
@@ -86,7 +86,7 @@ number-read w n f e = go (numeral w) (hasStop w) (Base.is "null" w) f e
     go false false true i j = absurd (let z : _≡_ {A = ℕ} 0 1 = cc in omega arith)
     go false false false i j = absurd (let z : _≡_ {A = ℕ} 0 1 = cc in omega arith)
 
-module _ (t w : List ℕ) (c : Declared.Names) (fits : Fits c) where
+module _ (t w : List ℕ) (c : Declared.Names) (fits : NamesFit c) where
   -- VARIABLES
   Small : List Variable → Type 0
   Small vs = (v : Variable) → Member v vs → v .number < frame-variables
@@ -192,14 +192,14 @@ module _ (t w : List ℕ) (c : Declared.Names) (fits : Fits c) where
 
   pub access-row :
       (x f : Name) (m : Member.Member) → MemberIs t Γ vs x f m → m .good ≡ true →
-      AtomTried Γ vs (acc x f) (Tried.Row (record { kind = 0; left = Tables.Expr.Path (m .variable) (m .number); right = Tables.Expr.Null }))
+      AtomTried Γ vs (acc x f) (TriedAtom.Row (record { kind = 0; left = Tables.Expr.Path (m .variable) (m .number); right = Tables.Expr.Null }))
   unfolding AtomTried fitsAtom resolveExpr meaning
   access-row x f m h g =
       let e : good Γ vs (path x f) ≡ true = sym (h .good) ∙ g in
       (e, access-is x f (Tables.Expr.Path (m .variable) (m .number)) e (ap₂ path (h .variable) (h .number)))
 
   pub access-bad :
-      (x f : Name) (m : Member.Member) → MemberIs t Γ vs x f m → m .good ≡ false → AtomTried Γ vs (acc x f) Tried.Bad
+      (x f : Name) (m : Member.Member) → MemberIs t Γ vs x f m → m .good ≡ false → AtomTried Γ vs (acc x f) TriedAtom.Bad
   unfolding AtomTried fitsAtom
   access-bad x f m h g = sym (h .good) ∙ g
 
@@ -231,24 +231,24 @@ module _ (t w : List ℕ) (c : Declared.Names) (fits : Fits c) where
     pub compared-row :
         (1 ≤ k) × (k ≤ 2) → isExpr a ≡ true → isExpr b ≡ true → l .good ≡ true → r .good ≡ true →
         Names.agree (typeMeant t (l .is)) (typeMeant t (r .is)) ≡ true →
-        AtomTried Γ vs (cmp (Decode.relOf k) (exprOf a) (exprOf b)) (Tried.Row (record { kind = k; left = l .expr; right = r .expr }))
+        AtomTried Γ vs (cmp (Decode.relOf k) (exprOf a) (exprOf b)) (TriedAtom.Row (record { kind = k; left = l .expr; right = r .expr }))
     unfolding AtomTried
     compared-row i f g u v y = (
       compared-fits ∙ rw (u, v, y),
       compared-is k a b (l .expr) (r .expr) (i .0) (i .1) f g (sym (p .good) ∙ u) (sym (q .good) ∙ v) (p .expr) (q .expr),
     )
 
-    pub left-bad : l .good ≡ false → AtomTried Γ vs (cmp (Decode.relOf k) (exprOf a) (exprOf b)) Tried.Bad
+    pub left-bad : l .good ≡ false → AtomTried Γ vs (cmp (Decode.relOf k) (exprOf a) (exprOf b)) TriedAtom.Bad
     unfolding AtomTried
     left-bad u = compared-fits ∙ rw u
 
-    pub right-bad : l .good ≡ true → r .good ≡ false → AtomTried Γ vs (cmp (Decode.relOf k) (exprOf a) (exprOf b)) Tried.Bad
+    pub right-bad : l .good ≡ true → r .good ≡ false → AtomTried Γ vs (cmp (Decode.relOf k) (exprOf a) (exprOf b)) TriedAtom.Bad
     unfolding AtomTried
     right-bad u v = compared-fits ∙ rw (u, v)
 
     pub apart-bad :
         l .good ≡ true → r .good ≡ true → Names.agree (typeMeant t (l .is)) (typeMeant t (r .is)) ≡ false →
-        AtomTried Γ vs (cmp (Decode.relOf k) (exprOf a) (exprOf b)) Tried.Bad
+        AtomTried Γ vs (cmp (Decode.relOf k) (exprOf a) (exprOf b)) TriedAtom.Bad
     unfolding AtomTried
     apart-bad u v y = compared-fits ∙ rw (u, v, y)
 
@@ -259,7 +259,7 @@ module _ (u a b : Name) (k : ℕ) (h : k ≡ wordNumber u) where
   atom-access e = rw (acc-is u, ← h, e)
 
   pub access-tried :
-      (Γ : Declarations) (vs : List Variable) (r : Tried) → k ≡ acc-word → AtomTried Γ vs (acc a b) r → AtomTried Γ vs (atomOf u a b) r
+      (Γ : Declarations) (vs : List Variable) (r : TriedAtom) → k ≡ acc-word → AtomTried Γ vs (acc a b) r → AtomTried Γ vs (atomOf u a b) r
   access-tried Γ vs r e x = subst (λ y. AtomTried Γ vs y r) (sym (atom-access e)) x
 
   relation-is : (q : Bool) → Decode.relOf (cond q 1 2) ≡ cond q Syntax.eq Syntax.ne
@@ -284,7 +284,7 @@ module _ (u a b : Name) (k : ℕ) (h : k ≡ wordNumber u) where
         below i j = Rattle.tables.proofs.Runs.less-or-not i j (ltb i j) refl
 
     pub compared-tried :
-        (Γ : Declarations) (vs : List Variable) (r : Tried) (i : ℕ) → i ≡ cond (eqb k eq-word) 1 2 →
+        (Γ : Declarations) (vs : List Variable) (r : TriedAtom) (i : ℕ) → i ≡ cond (eqb k eq-word) 1 2 →
         AtomTried Γ vs (cmp (Decode.relOf i) (exprOf a) (exprOf b)) r → AtomTried Γ vs (atomOf u a b) r
     compared-tried Γ vs r i e x =
         subst (λ y. AtomTried Γ vs y r) (sym (atom-compared ∙ ap (λ j. cmp (Decode.relOf j) (exprOf a) (exprOf b)) (sym e))) x

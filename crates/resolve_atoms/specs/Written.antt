@@ -14,12 +14,12 @@ use Rattle.read_fields.specs.Cuts.{more}
 use Rattle.tables.specs.Layout.{names-at, most-atom-rows}
 use Rattle.tables.specs.Stores.{Kept}
 use Rattle.read_scopes.specs.declared.Names.{Names}
-use Rattle.read_scopes.specs.Meanings.{Fits, declarationsIn, variablesIn}
+use Rattle.read_scopes.specs.Meanings.{declarationsIn, variablesIn}
 use Rattle.rules.specs.Syntax.{Program}
 use Rattle.tables.specs.Tables.{Declared}
 use Rattle.write_rows.specs.Holds.{AtomOk, atomOf, Holds, Building}
 use Rattle.resolve_atoms.specs.declared.AtomRow.{AtomRow}
-use Rattle.resolve_atoms.specs.declared.Tried.{Tried}
+use Rattle.resolve_atoms.specs.declared.TriedAtom.{TriedAtom}
 use Rattle.resolve_atoms.specs.declared.Put.{Put}
 use Rattle.resolve_atoms.specs.Good.{fitsAtom}
 
@@ -29,9 +29,13 @@ pub record Resolved (Γ : Declarations) (vs : List Variable) (x : Atom Name) (r 
   pub ok : AtomOk (r .kind) (r .left) (r .right)
 
 -- it has a row just if it passes the tests of 6 and 7
-unfoldable pub AtomTried : Declarations → List Variable → Atom Name → Tried → Type 0
-AtomTried Γ vs x (Tried.Row r) = (fitsAtom Γ vs x ≡ true) × Resolved Γ vs x r
-AtomTried Γ vs x Tried.Bad = fitsAtom Γ vs x ≡ false
+unfoldable pub AtomTried : Declarations → List Variable → Atom Name → TriedAtom → Type 0
+AtomTried Γ vs x (TriedAtom.Row r) = (fitsAtom Γ vs x ≡ true) × Resolved Γ vs x r
+AtomTried Γ vs x TriedAtom.Bad = fitsAtom Γ vs x ≡ false
+
+-- by the rows of names in w
+abbrev pub AtomTriedIn : List ℕ → List ℕ → Names → Atom Name → TriedAtom → Type 0
+AtomTriedIn t w c x q = AtomTried (declarationsIn t w c) (variablesIn t w c) x q
 
 -- after the field that ends at r stands an atom of a formula
 pub record AtomFollows (t : List ℕ) (r : ℕ) : Type 0 where
@@ -48,10 +52,6 @@ module _ (t w : List ℕ) (c : Names) where
   -- all its atoms pass the tests of 6 and 7
   unfoldable pub fitsAfter : ℕ → Bool
   fitsAfter r = all (fitsAtom (declarationsIn t w c) (variablesIn t w c)) (formulaOf (more (drop r t)))
-
-  pub record Ready : Type 0 where
-    pub whole : length w ≡ work-bytes
-    pub fits : Fits c
 
   -- the atom after r ends at e, and is written as the atom n
   pub record AtomPut (r n : ℕ) (w′ : List ℕ) (e : ℕ) : Type 0 where

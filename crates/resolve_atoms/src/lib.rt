@@ -13,8 +13,8 @@ ghost use Rattle.read_words.specs.Words.{wordNumber, eq-word};
 ghost use Rattle.read_fields.specs.Cuts.{NextField};
 ghost use Rattle.tables.specs.Layout.{most-atom-rows};
 ghost use Rattle.tables.specs.Decode.{relOf};
-ghost use Rattle.read_scopes.specs.Meanings.{declarationsIn, variablesIn};
-ghost use Rattle.resolve_atoms.specs.Written.{AtomTried, Ready, AtomFollows, NextTried, FormulaFollows, FormulaTried};
+ghost use Rattle.read_scopes.specs.Meanings.{AreaFits};
+ghost use Rattle.resolve_atoms.specs.Written.{AtomTriedIn, AtomFollows, NextTried, FormulaFollows, FormulaTried};
 
 // An atom as a row has it: its kind (`AtomKind`) and its sides.
 pub struct AtomRow {
@@ -24,7 +24,7 @@ pub struct AtomRow {
 }
 
 // An atom tried: its row, or it fails a test of 6 or 7.
-pub enum Tried {
+pub enum TriedAtom {
     Row(AtomRow),
     Bad,
 }
@@ -38,15 +38,15 @@ pub enum Put {
 // ONE ATOM
 
 // `acc x f`
-fn access(text: &[u8], work: &[u8], c: Names, x: &[u8], f: &[u8]) -> Tried
-    requires { ⌜ Ready (now text) (now work) c ⌝ }
-    ensures { λ r. ⌜ AtomTried (declarationsIn (now (text .entry)) (now (work .entry)) c) (variablesIn (now (text .entry)) (now (work .entry)) c) (acc (now (x .entry)) (now (f .entry))) r ⌝ }
+fn access(text: &[u8], work: &[u8], c: Names, x: &[u8], f: &[u8]) -> TriedAtom
+    requires { ⌜ AreaFits (now work) c ⌝ }
+    ensures { λ r. ⌜ AtomTriedIn (now (text .entry)) (now (work .entry)) c (acc (now (x .entry)) (now (f .entry))) r ⌝ }
 {
     let m = read_types::look_path(text, work, c, x, f);
     if !m.good {
-        return Tried::Bad;
+        return TriedAtom::Bad;
     }
-    Tried::Row(AtomRow {
+    TriedAtom::Row(AtomRow {
         kind: AtomKind::ACC,
         left: Expr::Path(m.variable, m.number),
         right: Expr::Null,
@@ -54,26 +54,26 @@ fn access(text: &[u8], work: &[u8], c: Names, x: &[u8], f: &[u8]) -> Tried
 }
 
 // `eq` or `ne`, by its kind
-pub fn compared(text: &[u8], work: &[u8], c: Names, kind: usize, a: &[u8], b: &[u8]) -> Tried
-    requires { ⌜ Ready (now text) (now work) c × ((1 ≤ kind) × (kind ≤ 2)) × ((isExpr (now a) ≡ true) × (isExpr (now b) ≡ true)) ⌝ }
-    ensures { λ r. ⌜ AtomTried (declarationsIn (now (text .entry)) (now (work .entry)) c) (variablesIn (now (text .entry)) (now (work .entry)) c) (cmp (relOf kind) (exprOf (now (a .entry))) (exprOf (now (b .entry)))) r ⌝ }
+pub fn compared(text: &[u8], work: &[u8], c: Names, kind: usize, a: &[u8], b: &[u8]) -> TriedAtom
+    requires { ⌜ AreaFits (now work) c × ((1 ≤ kind) × (kind ≤ 2)) × ((isExpr (now a) ≡ true) × (isExpr (now b) ≡ true)) ⌝ }
+    ensures { λ r. ⌜ AtomTriedIn (now (text .entry)) (now (work .entry)) c (cmp (relOf kind) (exprOf (now (a .entry))) (exprOf (now (b .entry)))) r ⌝ }
 {
     let x = read_types::look(text, work, c, a);
     let y = read_types::look(text, work, c, b);
     if !x.good {
-        return Tried::Bad;
+        return TriedAtom::Bad;
     }
     if !y.good {
-        return Tried::Bad;
+        return TriedAtom::Bad;
     }
     let s = x.is;
     let u = y.is;
     if !read_types::agree(text, s, u) {
-        return Tried::Bad;
+        return TriedAtom::Bad;
     }
     let left = x.expr;
     let right = y.expr;
-    Tried::Row(AtomRow { kind, left, right })
+    TriedAtom::Row(AtomRow { kind, left, right })
 }
 
 // The kind of `eq`, or that of `ne`.
@@ -94,16 +94,16 @@ fn word_of(w: &[u8]) -> u8
 {
     let b = read_bytes::byte_at(w, 0);
     match b {
-        97 => read_words::ACC,
-        101 => read_words::EQ,
+        b'a' => read_words::ACC,
+        b'e' => read_words::EQ,
         _ => read_words::NE,
     }
 }
 
 // The atom of three fields.
-pub fn resolve_atom(text: &[u8], work: &[u8], c: Names, w: &[u8], a: &[u8], b: &[u8]) -> Tried
-    requires { ⌜ Ready (now text) (now work) c × (isAtom (now w) (now a) (now b) ≡ true) ⌝ }
-    ensures { λ r. ⌜ AtomTried (declarationsIn (now (text .entry)) (now (work .entry)) c) (variablesIn (now (text .entry)) (now (work .entry)) c) (atomOf (now (w .entry)) (now (a .entry)) (now (b .entry))) r ⌝ }
+pub fn resolve_atom(text: &[u8], work: &[u8], c: Names, w: &[u8], a: &[u8], b: &[u8]) -> TriedAtom
+    requires { ⌜ AreaFits (now work) c × (isAtom (now w) (now a) (now b) ≡ true) ⌝ }
+    ensures { λ r. ⌜ AtomTriedIn (now (text .entry)) (now (work .entry)) c (atomOf (now (w .entry)) (now (a .entry)) (now (b .entry))) r ⌝ }
 {
     let k = word_of(w);
     if k == read_words::ACC {
@@ -119,7 +119,7 @@ fn word_end(text: &[u8], r: usize) -> usize
     requires { ⌜ AtomFollows (now text) r ⌝ }
     ensures { λ e. ⌜ NextField (now (text .entry)) r e ⌝ }
 {
-    if read_bytes::byte_at(text, r + 1) == 97 {
+    if read_bytes::byte_at(text, r + 1) == b'a' {
         r + 4
     } else {
         r + 3
@@ -128,7 +128,7 @@ fn word_end(text: &[u8], r: usize) -> usize
 
 // Writes the atom after the field that ends at r as the atom n, and gives its end.
 fn put_next_atom(text: &[u8], work: &mut [u8], r: usize, n: usize, c: Names) -> Put
-    requires { ⌜ Ready (now text) (now work) c × AtomFollows (now text) r × (n < most-atom-rows) ⌝ }
+    requires { ⌜ AreaFits (now work) c × AtomFollows (now text) r × (n < most-atom-rows) ⌝ }
     ensures { λ e. ⌜ NextTried (now (text .entry)) (now (work .entry)) c r n (now (work .exit)) e ⌝ }
 {
     let x = word_end(text, r);
@@ -138,7 +138,7 @@ fn put_next_atom(text: &[u8], work: &mut [u8], r: usize, n: usize, c: Names) -> 
     let j = x + 1;
     let k = y + 1;
     let t = resolve_atom(text, work, c, &text[i..x], &text[j..y], &text[k..z]);
-    let Tried::Row(a) = t else {
+    let TriedAtom::Row(a) = t else {
         return Put::Bad;
     };
     let left = a.left;
@@ -149,7 +149,7 @@ fn put_next_atom(text: &[u8], work: &mut [u8], r: usize, n: usize, c: Names) -> 
 
 // Writes the formula of the fields after r as the atoms from `first` on, and gives the number after its last.
 pub fn put_formula(text: &[u8], work: &mut [u8], from: usize, first: usize, c: Names) -> Put
-    requires { ⌜ Ready (now text) (now work) c × FormulaFollows (now text) (now work) c from first ⌝ }
+    requires { ⌜ AreaFits (now work) c × FormulaFollows (now text) (now work) c from first ⌝ }
     ensures { λ m. ⌜ FormulaTried (now (text .entry)) (now (work .entry)) c from first (now (work .exit)) m ⌝ }
 {
     let mut r = from;

@@ -29,18 +29,16 @@ use Rattle.tables.specs.Layout.{names-at, most-atom-rows}
 use Rattle.tables.specs.Decode.{atomsFrom}
 use Rattle.tables.specs.Stores.{Kept}
 use Rattle.read_scopes.specs.declared.Names.{Names}
-use Rattle.read_scopes.specs.Meanings.{Fits, declarationsIn, variablesIn, scopeIn}
+use Rattle.read_scopes.specs.Meanings.{AreaFits, NamesFit, declarationsIn, variablesIn, scopeIn}
 use Rattle.rules.specs.Syntax.{Program}
 use Rattle.rules.specs.Reading.{withItem}
 use Rattle.write_rows.specs.Holds.{Holds}
 use Rattle.resolve_pass.specs.declared.Pass.{Pass}
 use Rattle.resolve_pass.specs.Passes.{counts, after, withBlock, namesAfter, seenBy, hasAtoms, isFramed, joinFormula, framedFormula, item, Stands, lineAfter, isGood, isGoodHere, BadLine}
 use Rattle.read_declarations.specs.Declares.{lineWith}
-use Rattle.resolve_atoms.specs.Written as Written
 use Rattle.resolve_atoms.specs.declared.Put.{Put}
 use Rattle.resolve_atoms.specs.Written.{formulaAfter, fitsAfter, FormulaFollows, Unfit}
 use Rattle.resolve_atoms.proofs.Goods.{formula-good}
-use Rattle.write_plain.specs.Plain as Plain
 use Rattle.write_plain.specs.Plain.{isPlain, PlainFollows, PlainPut, PlainTried}
 use Rattle.write_formulas.specs.Claims.{isClaim, claimOf, ClaimPut, HeaderPut, ClaimTried, HeaderTried}
 use Rattle.write_formulas.proofs.Claims.{claim-cases, formula-few}
@@ -196,17 +194,14 @@ module _ {t w : List ℕ} {p : Pass} {k r : ℕ} (x : Follows t w p k r) where
       (x .room .header i, x .ready .above .methods)
 
   module _ {c : Names} (g : c ≡ seenBy (kindNumbered k) (p .names)) where
-    seen-fits : Fits c
+    seen-fits : NamesFit c
     unfolding seenBy
     seen-fits =
         let f = x .ready .names in
-        subst Fits (sym g) (record { classes = f .classes; fields = f .fields; methods = f .methods; locals = f .locals })
+        subst NamesFit (sym g) (record { classes = f .classes; fields = f .fields; methods = f .methods; locals = f .locals })
 
-    pub plain-ready : Plain.Ready w c
-    plain-ready = record { whole = x .ready .whole; fits = seen-fits }
-
-    pub atoms-ready : Written.Ready t w c
-    atoms-ready = record { whole = x .ready .whole; fits = seen-fits }
+    pub area-fits : AreaFits w c
+    area-fits = record { whole = x .ready .whole; fits = seen-fits }
 
     module _ (K : Kind) (e : kindNumbered k ≡ K) where
       formed-as : isFormed (form K .operands) (form K .tail) ws ≡ true

@@ -25,7 +25,7 @@ use Rattle.rules.specs.Reading.{withItem}
 use Rattle.write_rows.specs.Holds.{Holds}
 use Rattle.tables.proofs.Runs.{end-length, last-length}
 use Rattle.resolve_pass.specs.declared.Pass.{Pass}
-use Rattle.resolve_pass.specs.Passes.{counts, after, aboveAfter, withBlock, namesAfter, item, Ready, lastClass, Stands, Counts, LinePut}
+use Rattle.resolve_pass.specs.Passes.{counts, after, aboveAfter, withBlock, namesAfter, item, PassFits, lastClass, Stands, Counts, LinePut}
 use Rattle.resolve_bodies.specs.Bodies.{ItemPut}
 use Rattle.rules.proofs.LineKinds.{kind-is as is-by-number}
 
@@ -103,7 +103,7 @@ ensures-grown Γ vs F n l = record { classes = refl; methods = last-length _ (F 
 closed : Bool → Scope → Scope
 closed e s = record { classes = s .classes; members = s .members; block = cond e noBlock (s .block) }
 
-module _ (t w w′ : List ℕ) (p : Pass) (l : Line) (o : Quiet (l .kind)) (ready : Ready t w p) (kept : Kept names-at work-bytes w w′) where
+module _ (t w w′ : List ℕ) (p : Pass) (l : Line) (o : Quiet (l .kind)) (ready : PassFits t w p) (kept : Kept names-at work-bytes w w′) where
   abbrev next : Names
   next = namesAfter (l .kind) (p .names)
 

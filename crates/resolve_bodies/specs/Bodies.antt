@@ -3,27 +3,27 @@ use mathlib.Core.Path.{_≡_}
 use mathlib.Core.Bool.{Bool, true, cond}
 use mathlib.Core.List.{List}
 use Prim.Native.Nat.{ℕ, suc, _+_, _-_, _≤_}
-use lib.ListN.{length, drop}
+use lib.ListN.{length}
 use Rattle.rules.specs.Limits.{work-bytes, most-atoms}
-use Rattle.rules.specs.Grammar.{Line, form, isFormed}
-use Rattle.read_fields.specs.Cuts.{more}
+use Rattle.rules.specs.Grammar.{Line}
 use Rattle.read_grammar.specs.Rows.{kindNumbered}
 use Rattle.tables.specs.Layout.{names-at}
 use Rattle.tables.specs.Decode.{atomsFrom}
 use Rattle.tables.specs.Stores.{Kept}
 use Rattle.rules.specs.Syntax.{Program}
 use Rattle.rules.specs.Reading.{withItem}
+use Rattle.read_declarations.specs.Declares.{FormedAfter}
 use Rattle.write_rows.specs.Holds.{Holds}
 use Rattle.resolve_pass.specs.declared.Pass.{Pass}
-use Rattle.resolve_pass.specs.Passes.{counts, hasAtoms, isFramed, framedFormula, item, Ready, Stands, Room, lineAfter, isGoodHere, BadLine}
+use Rattle.resolve_pass.specs.Passes.{counts, hasAtoms, isFramed, framedFormula, item, PassFits, Stands, LineRoom, lineAfter, isGoodHere, BadLine}
 use Rattle.resolve_atoms.specs.declared.Put.{Put}
 
 -- the line of this kind, whose word ends at r, may be tried
 pub record Follows (t w : List ℕ) (p : Pass) (k r : ℕ) : Type 0 where
-  pub ready : Ready t w p
+  pub ready : PassFits t w p
   pub high : r ≤ length t
-  pub formed : isFormed (form (kindNumbered k) .operands) (form (kindNumbered k) .tail) (more (drop r t)) ≡ true
-  pub room : Room t w p (lineAfter t r k)
+  pub formed : FormedAfter t r (kindNumbered k)
+  pub room : LineRoom t w p (lineAfter t r k)
 
 -- its item is in the tables, and m atoms are written
 pub record ItemPut (t w : List ℕ) (p : Pass) (l : Line) (w′ : List ℕ) (m : ℕ) : Type 0 where

@@ -2,7 +2,7 @@
 use read_scopes::Names;
 use resolve_atoms::Put;
 use resolve_pass::Pass;
-use resolve_pass::Tried;
+use resolve_pass::TriedLine;
 use rules::Kind;
 ghost use mathlib.Core.Path.{_≡_};
 ghost use mathlib.Core.Bool.{not, _&&_};
@@ -79,18 +79,18 @@ fn put_row(text: &[u8], work: &mut [u8], p: Pass, kind: u8, r: usize) -> Put
 }
 
 // Writes the line of a statement, the word of which ends at r, if it is good.
-pub fn put_statement(text: &[u8], work: &mut [u8], p: Pass, kind: u8, r: usize) -> Tried
+pub fn put_statement(text: &[u8], work: &mut [u8], p: Pass, kind: u8, r: usize) -> TriedLine
     requires { ⌜ Follows (now text) (now work) p kind r × IsStatementNumber kind ⌝ }
     ensures { λ q. ⌜ LineTried (now (text .entry)) (now (work .entry)) p (lineAfter (now (text .entry)) r kind) (now (work .exit)) q ⌝ }
 {
     let t = put_row(text, work, p, kind, r);
     let Put::Done(atoms) = t else {
-        return Tried::Bad;
+        return TriedLine::Bad;
     };
     let before = p.names;
     let names = names_after(before, kind);
     let above = p.above;
-    Tried::On(Pass {
+    TriedLine::On(Pass {
         names,
         above,
         rows: p.rows + 1,
@@ -119,17 +119,17 @@ fn put_formula(text: &[u8], work: &mut [u8], p: Pass, kind: u8, r: usize) -> Put
 }
 
 // Writes the line `requires` or `ensures`, the word of which ends at r, if it is good.
-pub fn put_header(text: &[u8], work: &mut [u8], p: Pass, kind: u8, r: usize) -> Tried
+pub fn put_header(text: &[u8], work: &mut [u8], p: Pass, kind: u8, r: usize) -> TriedLine
     requires { ⌜ Follows (now text) (now work) p kind r × ((4 ≤ kind) × (kind ≤ 5)) ⌝ }
     ensures { λ q. ⌜ LineTried (now (text .entry)) (now (work .entry)) p (lineAfter (now (text .entry)) r kind) (now (work .exit)) q ⌝ }
 {
     let t = put_formula(text, work, p, kind, r);
     let Put::Done(atoms) = t else {
-        return Tried::Bad;
+        return TriedLine::Bad;
     };
     let names = p.names;
     let above = p.above;
-    Tried::On(Pass {
+    TriedLine::On(Pass {
         names,
         above,
         rows: p.rows,

@@ -30,13 +30,13 @@ module _ (w : List ℕ) (before : List Access) (i : ℕ) where
 module _ (w : List ℕ) (a : ℕ) where
   -- THE SEARCH, from the last atom back
   module _ (x f : ℕ) where
-    abbrev pub Found : ℕ → Bool
-    Found i = framedExpr (accesses w a i) (path x f)
+    abbrev pub framedBefore : ℕ → Bool
+    framedBefore i = framedExpr (accesses w a i) (path x f)
 
     abbrev test : ℕ → Bool
     test i = isAccess w (a + i) && isOf x f (accessAt w (a + i))
 
-    found-step : (i : ℕ) → Found (suc i) ≡ test i || Found i
+    found-step : (i : ℕ) → framedBefore (suc i) ≡ test i || framedBefore i
     unfolding framedExpr accesses any
     found-step i = go (isAccess w (a + i))
       where
@@ -47,15 +47,15 @@ module _ (w : List ℕ) (a : ℕ) where
         go true = refl
         go false = refl
 
-    pub found-none : (i : ℕ) → i ≤ 0 → Found i ≡ false
+    pub found-none : (i : ℕ) → i ≤ 0 → framedBefore i ≡ false
     unfolding framedExpr accesses any
     found-none i l = let e : i ≡ 0 = omega arith in rw e
 
     -- the atom i is passed, and j of them are left
-    pub found-here : (i j : ℕ) → i ≡ suc j → test j ≡ true → Found i ≡ true
+    pub found-here : (i j : ℕ) → i ≡ suc j → test j ≡ true → framedBefore i ≡ true
     found-here i j l e = rw l (found-step j ∙ rw e)
 
-    pub found-on : (i j : ℕ) → i ≡ suc j → test j ≡ false → Found i ≡ Found j
+    pub found-on : (i j : ℕ) → i ≡ suc j → test j ≡ false → framedBefore i ≡ framedBefore j
     found-on i j l e = rw l (found-step j ∙ rw e)
 
   -- ONE ATOM

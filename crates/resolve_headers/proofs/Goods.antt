@@ -24,7 +24,7 @@ use Rattle.read_scopes.specs.Meanings.{declarationsIn, blockIn, variablesIn, sc
 use Rattle.read_lookups.specs.LookUps.{isNew}
 use Rattle.read_declarations.specs.Declares.{lineWith, MethodRow, methodEntry}
 use Rattle.resolve_pass.specs.declared.Pass.{Pass}
-use Rattle.resolve_pass.specs.declared.Tried.{Tried}
+use Rattle.resolve_pass.specs.declared.TriedLine.{TriedLine}
 use Rattle.resolve_pass.specs.Passes.{seenBy, lineAfter, isGood, isGoodHere, LinePut, LineTried}
 use Rattle.resolve_headers.specs.Headers.{DeclarationPut}
 use Rattle.resolve_headers.proofs.Lines.{Formed, line-is}
@@ -138,10 +138,10 @@ module _ (t w : List ℕ) (p : Pass) (r : ℕ) (k : Kind) {n : ℕ} (e : n ≡ k
 
   pub put-on :
       b ≡ true → {u : List ℕ} {q : Pass} → DeclarationPut t w p (lineWith k (more (drop r t))) u q →
-      LineTried t w p (lineAfter t r n) u (Tried.On q)
+      LineTried t w p (lineAfter t r n) u (TriedLine.On q)
   unfolding LineTried
   put-on f {u} {q} x = (good-here ∙ f, (subst (λ l. LinePut t w p l u q) (sym (line-is k e)) (x .put), x .unframed))
 
-  pub put-bad : b ≡ false → LineTried t w p (lineAfter t r n) w Tried.Bad
+  pub put-bad : b ≡ false → LineTried t w p (lineAfter t r n) w TriedLine.Bad
   unfolding LineTried
   put-bad f = record { bad = good-here ∙ f; names = λ j x y. refl; size = refl }

@@ -30,7 +30,7 @@ use Rattle.read_names.specs.declared.Span.{Span}
 use Rattle.read_names.specs.declared.Row.{Row}
 use Rattle.read_scopes.specs.declared.Names.{Names}
 use Rattle.read_names.specs.Rows.{nameIn, entryAt, entryOf, SpanFits, nameAt, classes-first, fields-first, rowPlace, variables-first, putRow}
-use Rattle.read_scopes.specs.Meanings.{Fits, AboveFits, namesFrom, declarationsIn, classAbove, scopeIn, blockIn, moreLocals, variableRow, putBlock}
+use Rattle.read_scopes.specs.Meanings.{NamesFit, AboveFits, namesFrom, declarationsIn, classAbove, scopeIn, blockIn, moreLocals, variableRow, putBlock}
 use Rattle.read_lookups.specs.LookUps.{isNew}
 use Rattle.tables.proofs.Runs.{run-length}
 use Rattle.read_names.proofs.Puts.{row-length, row-other, row-tables}
@@ -46,7 +46,7 @@ use Rattle.write_rows.proofs.Classes.{class-written, class-names, class-length,
 use Rattle.write_rows.proofs.Methods.{method-written, method-names, method-length}
 use Rattle.write_rows.proofs.Header.{main-written, local-written}
 use Rattle.resolve_pass.specs.declared.Pass.{Pass}
-use Rattle.resolve_pass.specs.Passes.{counts, after, oneMore, nextRange, aboveAfter, withBlock, namesAfter, isFramed, Ready, lastClass, Stands, Room, item}
+use Rattle.resolve_pass.specs.Passes.{counts, after, oneMore, nextRange, aboveAfter, withBlock, namesAfter, isFramed, PassFits, lastClass, Stands, LineRoom, item}
 use Rattle.resolve_headers.specs.Headers.{isDeclaration, moved, Held, DeclarationPut}
 use Rattle.resolve_headers.proofs.Scopes.{block-alone, class-scope, field-scope, method-scope}
 use Rattle.resolve_headers.proofs.Fields.{last-of, last-changed, name-declared, number-new}
@@ -103,7 +103,7 @@ module _ (t w : List ℕ) (p : Pass) (l : Line) (w′ : List ℕ) where
 
 -- `class`
 pub class-line :
-    (t w : List ℕ) (p : Pass) (ws : List Name) → Ready t w p → Room t w p (lineWith Class ws) →
+    (t w : List ℕ) (p : Pass) (ws : List Name) → PassFits t w p → LineRoom t w p (lineWith Class ws) →
     DeclarationPut t w p (lineWith Class ws) (putClass w (p .above .classes)) (next Class p)
 unfolding namesAfter aboveAfter nextRange isFramed itemOf withItem lastClass Scope.opened Grammar.opened
 class-line t w p ws r m =
@@ -188,7 +188,7 @@ new-name : (x : Name) (l : List Name) → isNew x l ≡ true → any (eqName x) 
 unfolding isNew
 new-name x l e = not-true _ (both-true (not (reserved x)) (not (any (eqName x) l)) e .1)
 
-module _ (t w : List ℕ) (p : Pass) (ws : List Name) (k : ℕ) (r : Ready t w p) (m : Room t w p (lineWith Field ws)) (h : Held w p) (last : p .above .classes ≡ suc k) where
+module _ (t w : List ℕ) (p : Pass) (ws : List Name) (k : ℕ) (r : PassFits t w p) (m : LineRoom t w p (lineWith Field ws)) (h : Held w p) (last : p .above .classes ≡ suc k) where
   abbrev name : ℕ
   name = fieldNumber (declarationsIn t w (p .names)) (getD ws 1 [])
 
@@ -290,7 +290,7 @@ block-lines t w k s m j p q =
     row-other t _ _ _ j (inr (omega (arith, p))) ∙ (row-other t _ _ _ j (inr (omega (arith, p))) ∙ row-other t w _ _ j (inr (omega (arith, p))))
 
 module _
-    (t w : List ℕ) (p : Pass) (ws : List Name) (i : ℕ) (k s : Span) (n : Row) (r : Ready t w p) (m : Room t w p (lineWith Method ws))
+    (t w : List ℕ) (p : Pass) (ws : List Name) (i : ℕ) (k s : Span) (n : Row) (r : PassFits t w p) (m : LineRoom t w p (lineWith Method ws))
     (h : Held w p) (last : p .above .classes ≡ suc i) (class : k ≡ nameAt t w i) (fk : SpanFits k) (row : MethodRow t i ws n)
     (parameter : nameIn t s ≡ getD ws 3 []) (fs : SpanFits s) where
   abbrev with-row : List ℕ
@@ -327,7 +327,7 @@ module _
   method-line =
       let c : Names = withBlock true (p .names) in
       let room = m .method refl in
-      let fits : Fits c =
+      let fits : NamesFit c =
       record {
         classes = r .names .classes;
         fields = r .names .fields;
@@ -364,7 +364,7 @@ module _
 
 -- `var`
 pub var-line :
-    (t w : List ℕ) (p : Pass) (ws : List Name) (s g : Span) → Ready t w p → Room t w p (lineWith Var ws) →
+    (t w : List ℕ) (p : Pass) (ws : List Name) (s g : Span) → PassFits t w p → LineRoom t w p (lineWith Var ws) →
     nameIn t g ≡ getD ws 0 [] → nameIn t s ≡ getD ws 1 [] → SpanFits s → SpanFits g →
     DeclarationPut t w p (lineWith Var ws) (putRow t w (variables-first + (2 + p .names .locals)) (variableRow s g)) (next Var p)
 unfolding namesAfter aboveAfter moreLocals declarationsIn scopeIn isFramed itemOf withItem lastClass Scope.opened Grammar.opened
@@ -373,7 +373,7 @@ var-line t w p ws s g r m type name fs fg =
     let u : List ℕ = putRow t w i (variableRow s g) in
     let few = m .local refl in
     let c : Names = moreLocals (p .names) in
-    let fits : Fits c =
+    let fits : NamesFit c =
     record {
       classes = r .names .classes;
       fields = r .names .fields;
@@ -412,8 +412,8 @@ pub line-is : {ws : List Name} {n : ℕ} (k : Kind) → n ≡ kindNumber k → l
 line-is {ws} k e = ap (λ k. lineWith k ws) (ap kindNumbered e ∙ kind-of-number k)
 
 module _ {t w : List ℕ} {p : Pass} {ws : List Name} {n : ℕ} (k : Kind) (e : n ≡ kindNumber k) where
-  pub room-as : Room t w p (lineWith (kindNumbered n) ws) → Room t w p (lineWith k ws)
-  room-as x = subst (Room t w p) (line-is k e) x
+  pub room-as : LineRoom t w p (lineWith (kindNumbered n) ws) → LineRoom t w p (lineWith k ws)
+  room-as x = subst (LineRoom t w p) (line-is k e) x
 
   pub put-as : {u : List ℕ} {q : Pass} → DeclarationPut t w p (lineWith k ws) u q → DeclarationPut t w p (lineWith (kindNumbered n) ws) u q
   put-as {u} {q} x = subst (λ l. DeclarationPut t w p l u q) (sym (line-is k e)) x

@@ -3,18 +3,18 @@ use read_scopes::Above;
 use read_scopes::Names;
 use read_scopes::Range;
 use resolve_pass::Pass;
-use resolve_pass::Tried;
+use resolve_pass::TriedLine;
 use rules::Kind;
 ghost use mathlib.Core.Path.{_≡_};
 ghost use mathlib.Core.Bool.{true};
 ghost use Prim.Native.Nat.{_+_, _≤_, _<_};
-ghost use lib.ListN.{length, drop};
+ghost use lib.ListN.{length};
 ghost use Rattle.rules.specs.Limits.{work-bytes, most-bytes, most-classes};
-ghost use Rattle.rules.specs.Grammar.{Class, Field, Method, Var, form, isFormed};
-ghost use Rattle.read_fields.specs.Cuts.{more};
+ghost use Rattle.rules.specs.Grammar.{Class, Field, Method, Var};
 ghost use Rattle.read_scopes.specs.Meanings.{AboveFits};
+ghost use Rattle.read_declarations.specs.Declares.{FormedAfter};
 ghost use Rattle.write_rows.specs.Puts.{putClass};
-ghost use Rattle.resolve_pass.specs.Passes.{Ready, Room, oneMore, withBlock, aboveAfter, lineAfter, LineTried};
+ghost use Rattle.resolve_pass.specs.Passes.{PassFits, LineRoom, oneMore, withBlock, aboveAfter, lineAfter, LineTried};
 ghost use Rattle.resolve_headers.specs.Headers.{isDeclaration, Held, moved, DeclarationPut};
 
 // THE COUNTS
@@ -118,7 +118,7 @@ fn put_class(work: &mut [u8], p: Pass) -> Pass
 {
     let names = p.names;
     let above = p.above;
-    write_rows::put_class(work, above.classes);
+    write_rows::put_class_row(work, above.classes);
     moved(p, names, with_class(above), p.main)
 }
 
@@ -134,7 +134,7 @@ fn put_main(p: Pass) -> Pass
 
 // Puts the line of this kind (`class` or `main`) whose word ends at r.
 pub fn put_declaration(text: &[u8], work: &mut [u8], p: Pass, kind: u8, r: usize) -> Pass
-    requires { ⌜ Ready (now text) (now work) p × (isDeclaration kind ≡ true) × Room (now text) (now work) p (lineAfter (now text) r kind) ⌝ }
+    requires { ⌜ PassFits (now text) (now work) p × (isDeclaration kind ≡ true) × LineRoom (now text) (now work) p (lineAfter (now text) r kind) ⌝ }
     ensures { λ q. ⌜ DeclarationPut (now (text .entry)) (now (work .entry)) p (lineAfter (now (text .entry)) r kind) (now (work .exit)) q ⌝ }
 {
     match kind {
@@ -144,8 +144,8 @@ pub fn put_declaration(text: &[u8], work: &mut [u8], p: Pass, kind: u8, r: usize
 }
 
 // `field T f`, whose word ends at r: one more field of the last class, if T is a type and f a new name.
-pub fn put_field(text: &[u8], work: &mut [u8], p: Pass, r: usize) -> Tried
-    requires { ⌜ Ready (now text) (now work) p × (r ≤ length (now text)) × (isFormed (form Field .operands) (form Field .tail) (more (drop r (now text))) ≡ true) × Room (now text) (now work) p (lineAfter (now text) r 2) × Held (now work) p ⌝ }
+pub fn put_field(text: &[u8], work: &mut [u8], p: Pass, r: usize) -> TriedLine
+    requires { ⌜ PassFits (now text) (now work) p × (r ≤ length (now text)) × FormedAfter (now text) r Field × LineRoom (now text) (now work) p (lineAfter (now text) r 2) × Held (now work) p ⌝ }
     ensures { λ q. ⌜ LineTried (now (text .entry)) (now (work .entry)) p (lineAfter (now (text .entry)) r 2) (now (work .exit)) q ⌝ }
 {
     let names = p.names;
@@ -153,18 +153,18 @@ pub fn put_field(text: &[u8], work: &mut [u8], p: Pass, r: usize) -> Tried
     let gives = read_declarations::span_after(text, r);
     let name = read_declarations::span_after(text, gives.start + gives.len);
     if !read_lookups::may_add_field(text, work, names, above, name, gives) {
-        return Tried::Bad;
+        return TriedLine::Bad;
     }
     let int = read_lookups::is_int(text, gives);
     let f = read_lookups::field_number(text, work, names, read_names::name_in(text, name));
-    write_rows::put_field(work, above.classes - 1, f, int);
-    Tried::On(moved(p, names, with_field(above), p.main))
+    write_rows::put_class_field(work, above.classes - 1, f, int);
+    TriedLine::On(moved(p, names, with_field(above), p.main))
 }
 
 // `method T m U w`, whose word ends at r: the next method, from the next row on, and its block, if T and U are types and m and
 // w new names.
-pub fn put_method(text: &[u8], work: &mut [u8], p: Pass, r: usize) -> Tried
-    requires { ⌜ Ready (now text) (now work) p × (r ≤ length (now text)) × (isFormed (form Method .operands) (form Method .tail) (more (drop r (now text))) ≡ true) × Room (now text) (now work) p (lineAfter (now text) r 3) × Held (now work) p ⌝ }
+pub fn put_method(text: &[u8], work: &mut [u8], p: Pass, r: usize) -> TriedLine
+    requires { ⌜ PassFits (now text) (now work) p × (r ≤ length (now text)) × FormedAfter (now text) r Method × LineRoom (now text) (now work) p (lineAfter (now text) r 3) × Held (now work) p ⌝ }
     ensures { λ q. ⌜ LineTried (now (text .entry)) (now (work .entry)) p (lineAfter (now (text .entry)) r 3) (now (work .exit)) q ⌝ }
 {
     let names = p.names;
@@ -175,17 +175,17 @@ pub fn put_method(text: &[u8], work: &mut [u8], p: Pass, r: usize) -> Tried
     let takes = m.takes;
     let parameter = read_declarations::span_after(text, takes.start + takes.len);
     if !read_lookups::may_add_method(text, work, names, above, m, parameter) {
-        return Tried::Bad;
+        return TriedLine::Bad;
     }
     let class = read_names::name_at(text, work, owner);
-    write_rows::put_method(work, after(methods), p.rows);
+    write_rows::put_method_row(work, after(methods), p.rows);
     read_scopes::put_block(text, work, class, m, parameter);
-    Tried::On(moved(p, in_method(names), with_method(above), p.main))
+    TriedLine::On(moved(p, in_method(names), with_method(above), p.main))
 }
 
 // `var T x`, whose word ends at r: one more local, if T is a type and x a new name.
-pub fn put_var(text: &[u8], work: &mut [u8], p: Pass, r: usize) -> Tried
-    requires { ⌜ Ready (now text) (now work) p × (r ≤ length (now text)) × (isFormed (form Var .operands) (form Var .tail) (more (drop r (now text))) ≡ true) × Room (now text) (now work) p (lineAfter (now text) r 7) ⌝ }
+pub fn put_var(text: &[u8], work: &mut [u8], p: Pass, r: usize) -> TriedLine
+    requires { ⌜ PassFits (now text) (now work) p × (r ≤ length (now text)) × FormedAfter (now text) r Var × LineRoom (now text) (now work) p (lineAfter (now text) r 7) ⌝ }
     ensures { λ q. ⌜ LineTried (now (text .entry)) (now (work .entry)) p (lineAfter (now (text .entry)) r 7) (now (work .exit)) q ⌝ }
 {
     let names = p.names;
@@ -193,8 +193,8 @@ pub fn put_var(text: &[u8], work: &mut [u8], p: Pass, r: usize) -> Tried
     let gives = read_declarations::span_after(text, r);
     let name = read_declarations::span_after(text, gives.start + gives.len);
     if !read_lookups::may_declare(text, work, names, name, gives) {
-        return Tried::Bad;
+        return TriedLine::Bad;
     }
     let grown = read_scopes::put_local(text, work, names, name, gives);
-    Tried::On(moved(p, grown, above, p.main))
+    TriedLine::On(moved(p, grown, above, p.main))
 }

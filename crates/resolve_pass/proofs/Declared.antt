@@ -13,7 +13,7 @@ use Rattle.read_scopes.specs.declared.Names.{Names}
 use Rattle.read_scopes.specs.declared.Above.{Above}
 use Rattle.tables.specs.Decode.{run}
 use Rattle.read_names.specs.Rows.{entryAt, classes-first, fields-first, methods-first}
-use Rattle.read_scopes.specs.Meanings.{Fits, AboveFits, asField, asMethod, namesFrom, declarationsIn}
+use Rattle.read_scopes.specs.Meanings.{NamesFit, AboveFits, asField, asMethod, namesFrom, declarationsIn}
 use Rattle.tables.proofs.Runs.{run-length, run-get}
 use Rattle.resolve_pass.specs.Passes.{after, aboveAfter}
 use Rattle.resolve_pass.proofs.Counted.{above-on}
@@ -76,7 +76,7 @@ follow-on {d} {a} {l} {ls} x =
     }
 
 module _ (t w : List ℕ) (c : Names) {a : Above} where
-  pub above-fits : {ls : List Line} → Fits c → Follow (declarationsIn t w c) a ls → AboveFits a
+  pub above-fits : {ls : List Line} → NamesFit c → Follow (declarationsIn t w c) a ls → AboveFits a
   unfolding declarationsIn namesFrom
   above-fits f x =
       record {

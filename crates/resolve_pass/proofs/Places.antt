@@ -15,11 +15,11 @@ use Rattle.rules.specs.Places.{Place, firstPlace, inPlace, placeAfter, withinLi
 use Rattle.read_grammar.specs.Coded.{coded}
 use Rattle.tables.specs.Layout.{most-names}
 use Rattle.read_scopes.specs.declared.Names.{Names}
-use Rattle.read_scopes.specs.Meanings.{Fits, moreLocals, declarationsIn}
+use Rattle.read_scopes.specs.Meanings.{NamesFit, moreLocals, declarationsIn}
 use Rattle.read_declarations.specs.Texts.{linesOf}
 use Rattle.read_declarations.specs.Declares.{Declares}
 use Rattle.resolve_pass.specs.declared.Pass.{Pass}
-use Rattle.resolve_pass.specs.Passes.{firstPass, namesAfter, withBlock, Ready, Room, LinePut}
+use Rattle.resolve_pass.specs.Passes.{firstPass, namesAfter, withBlock, PassFits, LineRoom, LinePut}
 use Rattle.resolve_pass.proofs.Stages.{localsAt, limits, at-least}
 use Rattle.resolve_pass.proofs.Counted.{Counted, counted-first, counted-on}
 use Rattle.resolve_pass.proofs.Counted.{rows-room, fields-room, method-room, local-room, header-room, atoms-room}
@@ -72,7 +72,7 @@ at-first t v w r x =
     }
 
 module _ {t w : List ℕ} {p : Pass} {place : Place} {ls : List Line} (x : At t w p place ls) where
-  pub at-fits : Fits (p .names)
+  pub at-fits : NamesFit (p .names)
   unfolding coded
   at-fits =
       let n = few-locals (place .stage) (place .locals) in
@@ -83,14 +83,14 @@ module _ {t w : List ℕ} {p : Pass} {place : Place} {ls : List Line} (x : At t 
         locals = omega (arith, x .counted .staged .locals, n, limits place (x .within) .locals);
       }
 
-  pub at-ready : length t ≤ most-bytes → length w ≡ work-bytes → Ready t w p
+  pub at-ready : length t ≤ most-bytes → length w ≡ work-bytes → PassFits t w p
   at-ready a b =
       record { text = a; whole = b; names = at-fits; above = above-fits t w (p .names) at-fits (x .follow); result = x .counted .result }
 
 module _ {t w : List ℕ} {p : Pass} {place : Place} {l : Line} {ls : List Line} (x : At t w p place (l ∷ ls))
     (i : inPlace (l .kind) place ≡ true) (m : withinLimits (placeAfter (l .kind) place) ≡ true) where
   -- where the lines to come are taken
-  pub at-room : (raw : List Name) (n : ℕ) → scanLines raw n (placeAfter (l .kind) place) ≡ accepted ls → p .line < most-bytes → Room t w p l
+  pub at-room : (raw : List Name) (n : ℕ) → scanLines raw n (placeAfter (l .kind) place) ≡ accepted ls → p .line < most-bytes → LineRoom t w p l
   at-room raw n e h =
       let k : Kind = l .kind in
       let c = x .counted in

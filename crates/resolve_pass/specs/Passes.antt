@@ -23,14 +23,14 @@ use Rattle.read_scopes.specs.declared.Names.{Names}
 use Rattle.read_scopes.specs.declared.Above.{Above}
 use Rattle.read_scopes.specs.declared.Range.{Range}
 use Rattle.read_names.specs.Rows.{entryAt, classes-first, fields-first, methods-first}
-use Rattle.read_scopes.specs.Meanings.{Fits, AboveFits, declarationsIn, variablesIn, scopeIn, moreLocals}
+use Rattle.read_scopes.specs.Meanings.{NamesFit, AboveFits, declarationsIn, variablesIn, scopeIn, moreLocals}
 use Rattle.read_declarations.specs.Declares.{lineWith}
 use Rattle.rules.specs.Syntax.{Program}
 use Rattle.rules.specs.Reading.{withItem}
 use Rattle.tables.specs.Tables.{Declared}
 use Rattle.write_rows.specs.Holds.{Holds}
 use Rattle.resolve_pass.specs.declared.Pass.{Pass}
-use Rattle.resolve_pass.specs.declared.Tried.{Tried}
+use Rattle.resolve_pass.specs.declared.TriedLine.{TriedLine}
 
 -- COUNTS
 
@@ -126,10 +126,10 @@ framedFormula (aStatement s) = joinFormula s
 -- THE LINES ABOVE: t is the text, w the work area
 
 -- the text and the area have their lengths, and all counts fit
-pub record Ready (t w : List ℕ) (p : Pass) : Type 0 where
+pub record PassFits (t w : List ℕ) (p : Pass) : Type 0 where
   pub text : length t ≤ most-bytes
   pub whole : length w ≡ work-bytes
-  pub names : Fits (p .names)
+  pub names : NamesFit (p .names)
   pub above : AboveFits (p .above)
   pub result : p .names .result ≡ p .names .method
 
@@ -164,7 +164,7 @@ module _ (t w : List ℕ) (p : Pass) (l : Line) where
       isGood (declarationsIn t w (p .names)) (variablesIn t w (seenBy (l .kind) (p .names))) (scopeIn t w (p .names) (p .above)) l
 
   -- there is room for what it adds, and what it declares is the next row of its kind
-  pub record Room : Type 0 where
+  pub record LineRoom : Type 0 where
     pub line : p .line < most-bytes
     pub rows : isStatement (l .kind) ≡ true → p .rows < most-statements
     pub atoms : hasAtoms (l .kind) ≡ true → p .atoms + most-atoms ≤ most-atom-rows
@@ -216,9 +216,9 @@ pub record BadLine (t w : List ℕ) (p : Pass) (l : Line) (w′ : List ℕ) : Ty
   pub size : length w′ ≡ length w
 
 -- a line is put in the tables just if it is good
-unfoldable pub LineTried : (t w : List ℕ) (p : Pass) (l : Line) (w′ : List ℕ) → Tried → Type 0
-LineTried t w p l w′ (Tried.On q) = (isGoodHere t w p l ≡ true) × (LinePut t w p l w′ q × (q .unframed ≡ p .unframed))
-LineTried t w p l w′ Tried.Bad = BadLine t w p l w′
+unfoldable pub LineTried : (t w : List ℕ) (p : Pass) (l : Line) (w′ : List ℕ) → TriedLine → Type 0
+LineTried t w p l w′ (TriedLine.On q) = (isGoodHere t w p l ≡ true) × (LinePut t w p l w′ q × (q .unframed ≡ p .unframed))
+LineTried t w p l w′ TriedLine.Bad = BadLine t w p l w′
 
 -- the first line that number 10 refuses, or 0, after one line more
 unfoldable pub unframedAfter : ℕ → ℕ → Item → ℕ

@@ -15,7 +15,7 @@ pub struct Pass {
 }
 
 // What trying a line gives: it is in the tables, or it is not good.
-pub enum Tried {
+pub enum TriedLine {
     On(Pass),
     Bad,
 }

@@ -149,6 +149,10 @@ isStatementNumber n = leb first-statement n
 unfoldable pub isClosingNumber : ℕ → Bool
 isClosingNumber n = eqb n (statementNumber Else) || (eqb n (statementNumber Join) || eqb n (statementNumber End))
 
+-- `add` or `sub`
+unfoldable pub isComputing : ℕ → Bool
+isComputing n = eqb n (statementNumber Add) || eqb n (statementNumber Sub)
+
 -- after a statement that neither opens nor closes a part of a branch, nor ends the method, the next line follows
 abbrev pub GoesOn : ℕ → Type 0
 GoesOn n = (isClosingNumber n ≡ false) × (n ≡ statementNumber If → ⊥) × (n ≡ statementNumber Return → ⊥)
@@ -218,5 +222,5 @@ readLine l = do
 
 -- Everything above computes where this unfolds.
 unfoldable pub opened : Unit {0}
-unfolding stands shaped shape statementNumber kindNumber isStatement isClosingNumber isKind lastStage nextStage form kindOf isOperand isTail isFormed readLine
+unfolding stands shaped shape statementNumber kindNumber isStatement isClosingNumber isComputing isKind lastStage nextStage form kindOf isOperand isTail isFormed readLine
 opened = tt

@@ -22,10 +22,10 @@ use Rattle.tables.proofs.Bytes.{same-trans}
 use Rattle.tables.proofs.Decoding.{tables-same, rows-count-same, kind-same, methods-count-same, first-row-same, ensures-same, requires-same}
 use Rattle.run_heap.specs.declared.Fault.{Fault}
 use Rattle.run_steps.specs.declared.Turn.{Turn}
-use Rattle.run_heap.specs.Views.{frameAt, variableAt, savedHolder, savedRow, methodOf, cellHolder, cellOf, holderIn, holderOf, prepared, nextView, stopOf}
+use Rattle.run_heap.specs.Views.{frameAt, variableAt, savedHolder, savedRow, methodOf, cellHolder, cellOf, holderIn, holderOf, prepared, nextView, stopOf, frame-holder, frame-row, frame-method}
 use Rattle.run_footprint.specs.Footprints.{marked, takeIn, SmallCells}
-use Rattle.run_steps.specs.States.{FrameIs, CallerIs, CallersAre, Represents, Follows, Does, Ready, AtKind}
-use Rattle.run_calls.specs.Calls.{Calling, Admits, called}
+use Rattle.run_steps.specs.States.{FrameIs, CallerIs, CallersAre, Represents, Follows, Does, CanStep, AtKind, call-kind}
+use Rattle.run_calls.specs.Calls.{Calling, Admits, called, callHere}
 use Rattle.run_heap.proofs.Reading.{cell-small}
 use Rattle.run_steps.proofs.Seeing.{Sees, Matches, FormulaOk, no-footprint, ok-footprint, atoms-ok}
 use Rattle.run_footprint.proofs.Regions.{Only, only-wide, only-tables, only-marked, variable-kept, value-kept, holder-kept}
@@ -39,11 +39,11 @@ use Rattle.run_calls.proofs.Framing.{framed-only, framed-before, framed
 module _ {w : List ℕ} {c : Machine} {m : Config} (R : Represents w c m) where
   -- bytes after the running frame's variables, but for its method, are free
   pub above-kept :
-      (w′ : List ℕ) → Only (frameAt (length (m .callers)) + 60) (frames-at + 8192) w w′ →
+      (w′ : List ℕ) → Only (frameAt (length (m .callers)) + frame-holder) (frames-at + 8192) w w′ →
       methodOf w′ (length (m .callers)) ≡ methodOf w (length (m .callers)) → Represents w′ c m
   above-kept w′ s e =
       let i : ℕ = length (m .callers) in
-      let a : ℕ = frameAt i + 60 in
+      let a : ℕ = frameAt i + frame-holder in
       let b : ℕ = frames-at + 8192 in
       let t : SameTables w w′ = only-tables s (omega arith) in
       let S : SameObjects (c .objects) w w′ = same-objects a b w w′ (c .objects) s (inl (omega arith)) (R .heap .most-objects) in
@@ -144,7 +144,7 @@ module _ {w : List ℕ} {c : Machine} {m : Config} {method : ℕ} {G : Frame} (R
     kept-frame j = same-frame holders-at seconds-at w (marked w ks (c .holders + 1)) j new-marks (inr (omega arith))
 
     the-caller :
-        kindAt w (c .row) ≡ 11 →
+        kindAt w (c .row) ≡ call-kind →
         CallerIs (marked w ks (c .holders + 1)) (c .objects) (length (m .callers)) (c .holders + 1) (holding (without A (m .frame .held)) (m .frame))
     unfolding holding
     the-caller k =
@@ -177,7 +177,7 @@ module _ {w : List ℕ} {c : Machine} {m : Config} {method : ℕ} {G : Frame} (R
         }
 
     pub enters :
-        kindAt w (c .row) ≡ 11 → c .frames < most-frames →
+        kindAt w (c .row) ≡ call-kind → c .frames < most-frames →
         Represents (marked w ks (c .holders + 1)) (called c (firstRowAt w method)) (entered m G A)
     unfolding entered CallersAre holding
     enters k l =
@@ -239,7 +239,7 @@ module _ {w : List ℕ} {c : Machine} {m : Config} (R : Represents w c m) (y z m
   row-half : c .row < 65536
   row-half = omega (arith, R .frame .row-fits, R .tables .rows)
 
-  ready-only : Only (frameAt (length (m .callers)) + 60) (frames-at + 8192) w (prepared w c method o p)
+  ready-only : Only (frameAt (length (m .callers)) + frame-holder) (frames-at + 8192) w (prepared w c method o p)
   ready-only =
       only-wide
       (framed-only w (frameAt (c .frames - 1)) (frameAt (c .frames)) (c .holder) (c .row) method o p next room-left)
@@ -252,7 +252,7 @@ module _ {w : List ℕ} {c : Machine} {m : Config} (R : Represents w c m) (y z m
   unfolding methodOf
   call-kept =
       above-kept R (prepared w c method o p) ready-only
-      (subst (λ (n : ℕ). byteAt (prepared w c method o p) (n + 66) ≡ byteAt w (n + 66)) a-is
+      (subst (λ (n : ℕ). byteAt (prepared w c method o p) (n + frame-method) ≡ byteAt w (n + frame-method)) a-is
       (framed-before w (frameAt (c .frames - 1)) (frameAt (c .frames)) (c .holder) (c .row) method o p next room-left))
 
   pub call-prepared : Prepared (prepared w c method o p) c m method (callFrame m (methodAt w method) y z)
@@ -265,13 +265,13 @@ module _ {w : List ℕ} {c : Machine} {m : Config} (R : Represents w c m) (y z m
       record {
         exists = omega (arith, exists, methods-count-same w u call-tables);
         holder =
-            subst (λ (n : ℕ). wordAt u (n + 60) ≡ c .holder) a-is
+            subst (λ (n : ℕ). wordAt u (n + frame-holder) ≡ c .holder) a-is
             (framed-holder w A B (c .holder) (c .row) method o p next room-left lh);
         row =
-            subst (λ (n : ℕ). halfAt u (n + 64) ≡ c .row) a-is
+            subst (λ (n : ℕ). halfAt u (n + frame-row) ≡ c .row) a-is
             (framed-row w A B (c .holder) (c .row) method o p next room-left row-half);
         is-method =
-            subst (λ (n : ℕ). byteAt u (n + 66) ≡ method) b-is (framed-method w A B (c .holder) (c .row) method o p next room-left);
+            subst (λ (n : ℕ). byteAt u (n + frame-method) ≡ method) b-is (framed-method w A B (c .holder) (c .row) method o p next room-left);
         size = entry-size (valueOf (m .frame) y) (valueOf (m .frame) z);
         values = λ x l.
             ap (λ (n : ℕ). getD (entryValues n (valueOf (m .frame) z)) x 0) this-is
@@ -331,7 +331,7 @@ module _ {w : List ℕ} {c : Machine} {m : Config} (R : Represents w c m) (y z m
   call-small ks e = let (A, f, M) = ok-footprint (next-sees call-kept call-prepared) _ ks requires-ok e in M .small
 
   pub call-enters :
-      (ks : List ℕ) → (o ≡ 0 → ⊥) → c .frames < most-frames → kindAt w (c .row) ≡ 11 → c .steps < 4294967295 →
+      (ks : List ℕ) → (o ≡ 0 → ⊥) → c .frames < most-frames → kindAt w (c .row) ≡ call-kind → c .steps < 4294967295 →
       takeIn (prepared w c method o p) (nextView c) (requiresAt (prepared w c method o p) method) [] ≡ ok ks →
       Follows (marked (prepared w c method o p) ks (c .holders + 1)) c
       (Turn.On (called c (firstRowAt (prepared w c method o p) method))) m (took (callStep y (methodAt w method) z m))
@@ -340,13 +340,13 @@ module _ {w : List ℕ} {c : Machine} {m : Config} (R : Represents w c m) (y z m
       let (A, f, M) = ok-footprint (next-sees call-kept call-prepared) _ ks requires-ok e in
       let f′ : footprint (m .heap) (callFrame m (methodAt w method) y z) (methodAt w method .requires) ≡ ok A =
       ap (footprint (m .heap) (callFrame m (methodAt w method) y z)) requires-is ∙ f in
-      let k′ : kindAt (prepared w c method o p) (c .row) ≡ 11 =
+      let k′ : kindAt (prepared w c method o p) (c .row) ≡ call-kind =
       kind-same w (prepared w c method o p) call-tables (c .row) (omega (arith, R .frame .row-fits, R .tables .rows)) ∙ k in
       follow-on R _ _ _ (after-null n _ ∙ rw (f′, lt-ltb (suc (length (m .callers))) most-frames (omega (arith, R .frames)))) refl
       (enters call-kept call-prepared A ks M (taken-by A f) (omega (arith, R .given, R .most)) k′ l)
 
 -- THE CODE
-module _ {w : List ℕ} {c : Machine} (ready : Ready w c) (k : AtKind w c 11) (y z method o p : ℕ)
+module _ {w : List ℕ} {c : Machine} (ready : CanStep w c) (k : AtKind w c call-kind) (y z method o p : ℕ)
     (ey : y ≡ yAt w (c .row)) (ez : z ≡ zAt w (c .row)) (em : method ≡ memberAt w (c .row))
     (eo : o ≡ variableAt w (frameAt (c .frames - 1)) y) (ep : p ≡ variableAt w (frameAt (c .frames - 1)) z)
     (lo : o < 4294967296) (lp : p < 4294967296) where
@@ -365,12 +365,12 @@ module _ {w : List ℕ} {c : Machine} (ready : Ready w c) (k : AtKind w c 11) (y
   lh : c .holder < 4294967296
   lh = omega (arith, ready .represents .last, numbers)
 
-  step-is : (m : Config) → took (callStep y (methodAt w method) z m) ≡ took (callStep (yAt w (c .row)) (methodAt w (memberAt w (c .row))) (zAt w (c .row)) m)
+  step-is : (m : Config) → took (callStep y (methodAt w method) z m) ≡ callHere w c m
   step-is m = rw (ey, ez, em)
 
   follow-as :
       (w′ : List ℕ) (r : Turn) (m : Config) → Follows w′ c r m (took (callStep y (methodAt w method) z m)) →
-      Follows w′ c r m (took (callStep (yAt w (c .row)) (methodAt w (memberAt w (c .row))) (zAt w (c .row)) m))
+      Follows w′ c r m (callHere w c m)
   follow-as w′ r m f = subst (Follows w′ c r m) (step-is m) f
 
   tables-too : SameTables w (prepared w c method o p)
@@ -397,7 +397,7 @@ module _ {w : List ℕ} {c : Machine} (ready : Ready w c) (k : AtKind w c 11) (y
   stopped-at :
       (w′ : List ℕ) (s : Fault) → w′ ≡ prepared w c method o p →
       ((m : Config) → Represents w c m → Follows (prepared w c method o p) c (Turn.Stopped s) m (took (callStep y (methodAt w method) z m))) →
-      Does w c w′ (Turn.Stopped s) (λ m. took (callStep (yAt w (c .row)) (methodAt w (memberAt w (c .row))) (zAt w (c .row)) m))
+      Does w c w′ (Turn.Stopped s) (callHere w c)
   stopped-at w′ s q h =
       record {
         tables = subst (SameTables w) (sym q) tables-too;
@@ -406,18 +406,18 @@ module _ {w : List ℕ} {c : Machine} (ready : Ready w c) (k : AtKind w c 11) (y
 
   pub calls :
       (w′ : List ℕ) (r : Turn) → (o ≡ 0 → ⊥) → Admits (prepared w c method o p) c method w′ r →
-      Does w c w′ r (λ m. took (callStep (yAt w (c .row)) (methodAt w (memberAt w (c .row))) (zAt w (c .row)) m))
+      Does w c w′ r (callHere w c)
   calls w′ (Turn.On d) n (inl (ks, e, (l, q, g))) =
       does-on q g
       (same-trans tables-too
       (only-tables (only-marked (prepared w c method o p) ks (c .holders + 1) (calling .small ks e)) (omega arith)))
       (λ m R. follow-as _ (Turn.On (called c (firstRowAt (prepared w c method o p) method))) m (call-enters R y z method o p exists ly lz eo ep lo lp lh ks n l k (ready .more) e))
   calls w′ (Turn.Stopped f) n (inl (ks, e, (l, q, g))) =
-      subst (λ s. Does w c w′ (Turn.Stopped s) (λ m. took (callStep (yAt w (c .row)) (methodAt w (memberAt w (c .row))) (zAt w (c .row)) m))) (sym g)
+      subst (λ s. Does w c w′ (Turn.Stopped s) (callHere w c)) (sym g)
       (stopped-at w′ Fault.FramesFull q (λ m R. call-full R y z method o p exists ly lz eo ep lo lp lh ks n l e))
   calls w′ Turn.Done n (inl (ks, e, b)) = absurd b
   calls w′ r n (inr (s, e, g, q)) =
-      subst (λ t. Does w c w′ t (λ m. took (callStep (yAt w (c .row)) (methodAt w (memberAt w (c .row))) (zAt w (c .row)) m))) (sym g)
+      subst (λ t. Does w c w′ t (callHere w c)) (sym g)
       (stopped-at w′ s q (λ m R. call-lacks R y z method o p exists ly lz eo ep lo lp lh s n e))
 
 -- requires as the code reads it
@@ -432,9 +432,9 @@ module _ {w : List ℕ} {c : Machine} (method a n : ℕ) (C : Calling w c method
   requires-takes = rw (ea, en)
 
 pub call-null-does :
-    {w : List ℕ} {c : Machine} (ready : Ready w c) → AtKind w c 11 → (y o : ℕ) → y ≡ yAt w (c .row) →
+    {w : List ℕ} {c : Machine} (ready : CanStep w c) → AtKind w c call-kind → (y o : ℕ) → y ≡ yAt w (c .row) →
     o ≡ variableAt w (frameAt (c .frames - 1)) y → o ≡ 0 →
-    Does w c w (Turn.Stopped Fault.Null) (λ m. took (callStep (yAt w (c .row)) (methodAt w (memberAt w (c .row))) (zAt w (c .row)) m))
+    Does w c w (Turn.Stopped Fault.Null) (callHere w c)
 unfolding callStep check _>>_ stopOf
 call-null-does {w} {c} ready k y o ey eo e =
     does-stop Fault.Null

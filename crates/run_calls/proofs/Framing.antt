@@ -11,13 +11,13 @@ use Rattle.tables.specs.Layout.{frame-variables}
 use Rattle.tables.specs.Decode.{byteAt, halfAt, wordAt}
 use Rattle.tables.specs.Stores.{putHalf, putWord}
 use Rattle.tables.proofs.Bytes.{word-put, half-put, word-kept, half-kept, put-word-length}
-use Rattle.run_heap.specs.Views.{variableAt, fill, framed}
+use Rattle.run_heap.specs.Views.{variableAt, fill, framed, frame-holder, frame-row, frame-method}
 use Rattle.run_footprint.proofs.Regions.{Only, only-trans, only-wide, only-word, only-half, only-byte, only-fill, only-kept, fill-word, variable-kept}
 use Rattle.run_steps.proofs.Changes.{other-variable, this-variable}
 
 module _ (w : List ℕ) (a b holder row method o p : ℕ) (next : b ≡ a + 72) (fits : b + 72 ≤ length w) where
   filled : List ℕ
-  filled = fill w b 15 0
+  filled = fill w b frame-variables 0
 
   first : List ℕ
   first = putWord filled b o
@@ -26,83 +26,83 @@ module _ (w : List ℕ) (a b holder row method o p : ℕ) (next : b ≡ a + 72) 
   second = putWord first (b + 4) p
 
   third : List ℕ
-  third = putWord second (a + 60) holder
+  third = putWord second (a + frame-holder) holder
 
   fourth : List ℕ
-  fourth = putHalf third (a + 64) row
+  fourth = putHalf third (a + frame-row) row
 
   all : List ℕ
-  all = set fourth (b + 66) method
+  all = set fourth (b + frame-method) method
 
   is-framed : framed w a b holder row method o p ≡ all
   unfolding framed all fourth third second first filled
   is-framed = refl
 
-  to-second : Only b (b + 60) w second
+  to-second : Only b (b + frame-holder) w second
   unfolding second first filled
   to-second =
-      only-trans (only-fill b (b + 60) w b 15 0 (omega arith) (omega arith))
-      (only-trans (only-word b (b + 60) (fill w b 15 0) b o (omega arith) (omega arith))
-      (only-word b (b + 60) (putWord (fill w b 15 0) b o) (b + 4) p (omega arith) (omega arith)))
+      only-trans (only-fill b (b + frame-holder) w b frame-variables 0 (omega arith) (omega arith))
+      (only-trans (only-word b (b + frame-holder) (fill w b frame-variables 0) b o (omega arith) (omega arith))
+      (only-word b (b + frame-holder) (putWord (fill w b frame-variables 0) b o) (b + 4) p (omega arith) (omega arith)))
 
-  to-third : Only (a + 60) (a + 64) second third
+  to-third : Only (a + frame-holder) (a + frame-row) second third
   unfolding third
-  to-third = only-word (a + 60) (a + 64) second (a + 60) holder (omega arith) (omega arith)
+  to-third = only-word (a + frame-holder) (a + frame-row) second (a + frame-holder) holder (omega arith) (omega arith)
 
-  to-fourth : Only (a + 64) (a + 66) third fourth
+  to-fourth : Only (a + frame-row) (a + frame-method) third fourth
   unfolding fourth
-  to-fourth = only-half (a + 64) (a + 66) third (a + 64) row (omega arith) (omega arith)
+  to-fourth = only-half (a + frame-row) (a + frame-method) third (a + frame-row) row (omega arith) (omega arith)
 
-  to-all : Only (b + 66) (b + 67) fourth all
+  to-all : Only (b + frame-method) (b + 67) fourth all
   unfolding all
-  to-all = only-byte (b + 66) (b + 67) fourth (b + 66) method (omega arith) (omega arith)
+  to-all = only-byte (b + frame-method) (b + 67) fourth (b + frame-method) method (omega arith) (omega arith)
 
-  pub framed-only : Only (a + 60) (b + 67) w (framed w a b holder row method o p)
+  pub framed-only : Only (a + frame-holder) (b + 67) w (framed w a b holder row method o p)
   framed-only =
       rw is-framed
       (only-trans (only-wide to-second (omega arith) (omega arith))
       (only-trans (only-wide to-third (omega arith) (omega arith))
       (only-trans (only-wide to-fourth (omega arith) (omega arith)) (only-wide to-all (omega arith) (omega arith)))))
 
-  pub framed-before : byteAt (framed w a b holder row method o p) (a + 66) ≡ byteAt w (a + 66)
+  pub framed-before : byteAt (framed w a b holder row method o p) (a + frame-method) ≡ byteAt w (a + frame-method)
   framed-before =
       rw is-framed
-      (to-all .bytes (a + 66) (inl (omega arith))
-      ∙ (to-fourth .bytes (a + 66) (inr (omega arith))
-      ∙ (to-third .bytes (a + 66) (inr (omega arith)) ∙ to-second .bytes (a + 66) (inl (omega arith)))))
+      (to-all .bytes (a + frame-method) (inl (omega arith))
+      ∙ (to-fourth .bytes (a + frame-method) (inr (omega arith))
+      ∙ (to-third .bytes (a + frame-method) (inr (omega arith)) ∙ to-second .bytes (a + frame-method) (inl (omega arith)))))
 
-  pub framed-method : byteAt (framed w a b holder row method o p) (b + 66) ≡ method
+  pub framed-method : byteAt (framed w a b holder row method o p) (b + frame-method) ≡ method
   unfolding all
   framed-method =
       rw is-framed
-      (getD-set-same fourth (b + 66) method 0
+      (getD-set-same fourth (b + frame-method) method 0
       (omega (arith, to-fourth .size, to-third .size, to-second .size)))
 
-  pub framed-holder : holder < 4294967296 → wordAt (framed w a b holder row method o p) (a + 60) ≡ holder
+  pub framed-holder : holder < 4294967296 → wordAt (framed w a b holder row method o p) (a + frame-holder) ≡ holder
   unfolding third
   framed-holder l =
       rw is-framed
-      (word-kept (a + 60) (a + 64) fourth all (only-kept to-all (a + 60) (a + 64) (inl (omega arith))) (a + 60) (omega arith) (omega arith)
-      ∙ (word-kept (a + 60) (a + 64) third fourth (only-kept to-fourth (a + 60) (a + 64) (inl (omega arith))) (a + 60) (omega arith) (omega arith)
-      ∙ word-put second (a + 60) holder (omega (arith, to-second .size)) l))
+      (word-kept (a + frame-holder) (a + frame-row) fourth all (only-kept to-all (a + frame-holder) (a + frame-row) (inl (omega arith))) (a + frame-holder) (omega arith) (omega arith)
+      ∙ (word-kept (a + frame-holder) (a + frame-row) third fourth (only-kept to-fourth (a + frame-holder) (a + frame-row) (inl (omega arith))) (a + frame-holder) (omega arith) (omega arith)
+      ∙ word-put second (a + frame-holder) holder (omega (arith, to-second .size)) l))
 
-  pub framed-row : row < 65536 → halfAt (framed w a b holder row method o p) (a + 64) ≡ row
+  pub framed-row : row < 65536 → halfAt (framed w a b holder row method o p) (a + frame-row) ≡ row
   unfolding fourth
   framed-row l =
       rw is-framed
-      (half-kept (a + 64) (a + 66) fourth all (only-kept to-all (a + 64) (a + 66) (inl (omega arith))) (a + 64) (omega arith) (omega arith)
-      ∙ half-put third (a + 64) row (omega (arith, to-third .size, to-second .size)) l)
+      (half-kept (a + frame-row) (a + frame-method) fourth all (only-kept to-all (a + frame-row) (a + frame-method) (inl (omega arith))) (a + frame-row) (omega arith) (omega arith)
+      ∙ half-put third (a + frame-row) row (omega (arith, to-third .size, to-second .size)) l)
 
   -- THE VALUES
   kept-variable : (x : ℕ) → x < frame-variables → variableAt all b x ≡ variableAt second b x
   kept-variable x l =
-      variable-kept (b + 66) (b + 67) fourth all to-all b x (inl (omega arith)) l
-      ∙ (variable-kept (a + 64) (a + 66) third fourth to-fourth b x (inr (omega arith)) l
-      ∙ variable-kept (a + 60) (a + 64) second third to-third b x (inr (omega arith)) l)
+      variable-kept (b + frame-method) (b + 67) fourth all to-all b x (inl (omega arith)) l
+      ∙ (variable-kept (a + frame-row) (a + frame-method) third fourth to-fourth b x (inr (omega arith)) l
+      ∙ variable-kept (a + frame-holder) (a + frame-row) second third to-third b x (inr (omega arith)) l)
 
   zeros : (x : ℕ) → x < frame-variables → variableAt filled b x ≡ 0
   unfolding variableAt filled
-  zeros x l = fill-word w b 15 0 x (omega arith) (omega arith) l
+  zeros x l = fill-word w b frame-variables 0 x (omega arith) (omega arith) l
 
   module _ (lo : o < 4294967296) (lp : p < 4294967296) where
     start : putWord filled b o ≡ putWord filled (b + 0 * 4) o
@@ -110,7 +110,7 @@ module _ (w : List ℕ) (a b holder row method o p : ℕ) (next : b ≡ a + 72) 
 
     filled-size : length filled ≡ length w
     unfolding filled
-    filled-size = only-fill b (b + 60) w b 15 0 (omega arith) (omega arith) .size
+    filled-size = only-fill b (b + frame-holder) w b frame-variables 0 (omega arith) (omega arith) .size
 
     in-second : (x : ℕ) → x < frame-variables → getD (entryValues o p) x 0 ≡ variableAt second b x
     unfolding entryValues second first

@@ -30,8 +30,8 @@ use Rattle.run_heap.specs.declared.Fault.{Fault}
 use Rattle.run_steps.specs.declared.Turn.{Turn}
 use Rattle.run_heap.specs.declared.View.{View}
 use Rattle.run_heap.specs.Views.{frameAt, cellValue, cellHolder, classIn, firstIn, cellOf, holderIn, holderOf, made, viewOf, stopOf, ObjectFits}
-use Rattle.run_steps.specs.States.{HeapIs, Represents, Follows, Does, Ready, AtKind, atRow}
-use Rattle.run_calls.specs.Calls.{larger}
+use Rattle.run_steps.specs.States.{HeapIs, Represents, Follows, Does, CanStep, AtKind, atRow, new-kind, NotEnd}
+use Rattle.run_calls.specs.Calls.{larger, newHere}
 use Rattle.run_heap.proofs.Reading.{Placed, cell-placed, cell-small, cell-beyond, cell-null, cell-some, bound-free, place-found}
 use Rattle.run_steps.proofs.Seeing.{bool-iff, at}
 use Rattle.run_footprint.proofs.Regions.{Only, only-tables, only-word}
@@ -390,7 +390,7 @@ module _ {w : List ℕ} {c : Machine} {m : Config} (R : Represents w c m) (class
   grown-tables = t
 
   pub new-on :
-      (x mo mf : ℕ) → x < frame-variables → (kindAt w (c .row) ≡ 18 → ⊥) → c .objects < mo → c .fields + count ≤ mf →
+      (x mo mf : ℕ) → x < frame-variables → NotEnd w c → c .objects < mo → c .fields + count ≤ mf →
       Follows (putWord w′ (frameAt (length (m .callers)) + x * 4) (c .objects + 1)) c
       (Turn.On (atRow (larger c count (c .steps)) (c .row + 1) (c .steps + 1))) m
       (took (newStep (record { objects = mo; fields = mf }) x (classAt w class) m))
@@ -429,7 +429,7 @@ new-stop {w} {c} {m} R class x mo mf (inr l) =
     go false = refl
 
 -- THE CODE
-module _ {w : List ℕ} {c : Machine} (ready : Ready w c) (k : AtKind w c 10) (mo mf : ℕ) (lmo : mo ≤ heap-objects) (lmf : mf ≤ heap-fields)
+module _ {w : List ℕ} {c : Machine} (ready : CanStep w c) (k : AtKind w c new-kind) (mo mf : ℕ) (lmo : mo ≤ heap-objects) (lmf : mf ≤ heap-fields)
     (class n : ℕ) (ec : class ≡ memberAt w (c .row)) (en : n ≡ fieldCountAt w class) where
   pub new-class : class < classCount w
   new-class = omega (arith, ec, fits ready .class k)
@@ -440,7 +440,7 @@ module _ {w : List ℕ} {c : Machine} (ready : Ready w c) (k : AtKind w c 10) (m
   pub new-stops :
       (mo ≤ c .objects) ⊎ (mf < c .fields + n) →
       Does w c w (Turn.Stopped Fault.HeapFull)
-      (λ m. took (newStep (record { objects = mo; fields = mf }) (xAt w (c .row)) (classAt w (memberAt w (c .row))) m))
+      (newHere w c (record { objects = mo; fields = mf }))
   new-stops o =
       does-stop Fault.HeapFull
       (λ m R.
@@ -451,7 +451,7 @@ module _ {w : List ℕ} {c : Machine} (ready : Ready w c) (k : AtKind w c 10) (m
       (v : View) (x : ℕ) {w′ : List ℕ} {d : Machine} → c .objects < mo → c .fields + n ≤ mf → v ≡ viewOf c → x ≡ xAt w (c .row) →
       w′ ≡ putWord (made w (c .objects) (c .fields) n class (c .holder)) (v .base + x * 4) (c .objects + 1) →
       d ≡ atRow (larger c n (c .steps)) (c .row + 1) (c .steps + 1) →
-      Does w c w′ (Turn.On d) (λ m. took (newStep (record { objects = mo; fields = mf }) (xAt w (c .row)) (classAt w (memberAt w (c .row))) m))
+      Does w c w′ (Turn.On d) (newHere w c (record { objects = mo; fields = mf }))
   new-does v x {w′} {d} l h ev ex p q =
       let p′ : w′ ≡ putWord (made w (c .objects) (c .fields) (fieldCountAt w class) class (c .holder)) (frameAt (c .frames - 1) + xAt w (c .row) * 4) (c .objects + 1) =
       p ∙ rw (ev, ex, en) in

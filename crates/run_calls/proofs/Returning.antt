@@ -27,8 +27,8 @@ use Rattle.run_steps.specs.declared.Turn.{Turn}
 use Rattle.run_heap.specs.declared.View.{View}
 use Rattle.run_heap.specs.Views.{frameAt, variableAt, savedHolder, savedRow, methodOf, holderOf, viewOf, stopOf}
 use Rattle.run_footprint.specs.Footprints.{takeIn, marked, SmallCells}
-use Rattle.run_steps.specs.States.{FrameIs, CallerIs, CallersAre, Represents, Follows, Does, Ready}
-use Rattle.run_calls.specs.Calls.{back}
+use Rattle.run_steps.specs.States.{FrameIs, CallerIs, CallersAre, Represents, Follows, Does, CanStep, call-kind}
+use Rattle.run_calls.specs.Calls.{back, endHere}
 use Rattle.run_steps.proofs.Seeing.{Matches, FormulaOk, no-footprint, ok-footprint, atoms-ok, bool-iff}
 use Rattle.run_footprint.proofs.Regions.{Only, only-tables, only-word, only-marked}
 use Rattle.run_steps.proofs.Keeping.{same-frame, ensures-kept, callers-kept}
@@ -48,7 +48,7 @@ among-append p A B = go (among p B) refl
         (λ t. ⊎-elim (λ a. a) (λ b. absurd (subst T e b)) (in-append p A B t)) (λ t. in-left p A B t)
 
 -- the variable that a call sets
-call-target : (w : List ℕ) (i : ℕ) → kindAt w i ≡ 11 → targetOf (stmtAt w i) ≡ xAt w i
+call-target : (w : List ℕ) (i : ℕ) → kindAt w i ≡ call-kind → targetOf (stmtAt w i) ≡ xAt w i
 unfolding targetOf
 call-target w i e = rw (call-means w (operandsAt w i) e)
 
@@ -120,7 +120,7 @@ module _ {w : List ℕ} {c : Machine} {h : _} {F C : Frame} {Cs : List Frame}
   unfolding ensuresAt
   ensures-ok = atoms-ok w (R .tables) _ _ (R .tables .method-fits _ method-fits .formulas .ensures .1)
 
-  row-stays : (w′ : List ℕ) → SameTables w w′ → kindAt w′ (savedRow w (length Cs)) ≡ 11
+  row-stays : (w′ : List ℕ) → SameTables w w′ → kindAt w′ (savedRow w (length Cs)) ≡ call-kind
   row-stays w′ t =
       kind-same w w′ t (savedRow w (length Cs)) (omega (arith, caller .frame .row-fits, R .tables .rows)) ∙ caller .at-call
 
@@ -143,7 +143,7 @@ module _ {w : List ℕ} {c : Machine} {h : _} {F C : Frame} {Cs : List Frame}
       let t1 : SameTables w (marked w ks n) = only-tables (only-marked w ks n (M .small)) (omega arith) in
       let t2 : SameTables (marked w ks n) (putWord (marked w ks n) (frameAt (length Cs) + x * 4) v) =
       only-tables (only-word frames-at (frames-at + 8192) (marked w ks n) (frameAt (length Cs) + x * 4) v (omega arith) (omega (arith, R .most, R .frames))) (omega arith) in
-      let k : kindAt (putWord (marked w ks n) (frameAt (length Cs) + x * 4) v) (savedRow w (length Cs)) ≡ 11 = row-stays _ (same-trans t1 t2) in
+      let k : kindAt (putWord (marked w ks n) (frameAt (length Cs) + x * 4) v) (savedRow w (length Cs)) ≡ call-kind = row-stays _ (same-trans t1 t2) in
       let target : targetOf (statementOf (programIn w) C) ≡ x = ap (λ (r : Row). targetOf (r .stmt)) (row-of (caller .frame)) ∙ target-is in
       follow-on R (back c n (savedRow w (length Cs) + 1)) _ _ (rw (a′, target, ← ev)) refl
       (moved-to R2 (savedRow w (length Cs) + 1) (c .steps + 1) _ (next-fits R2 (λ z. omega (arith, z, k))) (next-is R2) (omega arith))
@@ -163,8 +163,8 @@ module _ {w : List ℕ} {c : Machine} {h : _} {F C : Frame} {Cs : List Frame}
   saved-fits = (caller .frame .row-fits, method-fits)
 
 -- THE CODE
-module _ {w : List ℕ} {c : Machine} (ready : Ready w c) where
-  pub end-done : c .frames ≡ 1 → Does w c w Turn.Done (λ m. endStep (programIn w) m (m .callers))
+module _ {w : List ℕ} {c : Machine} (ready : CanStep w c) where
+  pub end-done : c .frames ≡ 1 → Does w c w Turn.Done (endHere w)
   unfolding endStep
   end-done e = record { tables = same-refl w; follows = λ m R. go (m .heap) (m .frame) (m .callers) R }
     where
@@ -189,7 +189,7 @@ module _ {w : List ℕ} {c : Machine} (ready : Ready w c) where
 
     pub end-stops :
         (s : Fault) → takeIn w (viewOf c) (ensuresAt w (methodOf w (c .frames - 1))) [] ≡ no (stopOf s) →
-        Does w c w (Turn.Stopped s) (λ m. endStep (programIn w) m (m .callers))
+        Does w c w (Turn.Stopped s) (endHere w)
     end-stops s e = record { tables = same-refl w; follows = λ m R. go (m .heap) (m .frame) (m .callers) R }
       where
         go :
@@ -217,7 +217,7 @@ module _ {w : List ℕ} {c : Machine} (ready : Ready w c) where
         takeIn w (viewOf c) (ensuresAt w (methodOf w (c .frames - 1))) [] ≡ ok ks → n ≡ savedHolder w (c .frames - 2) → n < 4294967296 →
         r ≡ savedRow w (c .frames - 2) → x ≡ xAt w r → v ≡ variableAt w (frameAt (c .frames - 1)) result-variable → v < 4294967296 →
         w′ ≡ putWord (marked w ks n) (frameAt (c .frames - 2) + x * 4) v → d ≡ back c n (r + 1) →
-        Does w c w′ (Turn.On d) (λ m. endStep (programIn w) m (m .callers))
+        Does w c w′ (Turn.On d) (endHere w)
     leave-does ks n r x v {w′} {d} e en ln er ex ev lv p q =
         does-on p q
         (same-trans (only-tables (only-marked w ks n (end-small ks e)) (omega arith))

@@ -7,12 +7,26 @@ use lib.ListN.{length, take}
 use Rattle.rules.specs.Limits.{most-frames, most-methods, work-bytes}
 use Rattle.rules.specs.Base.{ok, no}
 use Rattle.rules.specs.declared.Machine.{Machine}
-use Rattle.tables.specs.Decode.{methodCount, requiresAt, ensuresAt, firstRowAt}
+use Rattle.rules.specs.Machine.{Config, Step, Room, took, newStep, callStep, endStep}
+use Rattle.tables.specs.Decode.{xAt, yAt, zAt, memberAt, classAt, methodAt, programIn, methodCount, requiresAt, ensuresAt, firstRowAt}
 use Rattle.run_heap.specs.declared.Fault.{Fault}
 use Rattle.run_steps.specs.declared.Turn.{Turn}
 use Rattle.run_heap.specs.Views.{methodOf, viewOf, nextView, Readable, stopOf}
 use Rattle.run_footprint.specs.Footprints.{footprint-cells, marked, takeIn, SmallCells}
-use Rattle.run_steps.specs.States.{Ready}
+use Rattle.run_steps.specs.States.{CanStep}
+
+-- WHAT THE DEFINITIONS DO at the row, by its operands
+
+abbrev pub newHere : List ℕ → Machine → Room → Config → Step
+newHere w c room m = took (newStep room (xAt w (c .row)) (classAt w (memberAt w (c .row))) m)
+
+abbrev pub callHere : List ℕ → Machine → Config → Step
+callHere w c m = took (callStep (yAt w (c .row)) (methodAt w (memberAt w (c .row))) (zAt w (c .row)) m)
+
+abbrev pub endHere : List ℕ → Config → Step
+endHere w m = endStep (programIn w) m (m .callers)
+
+-- COUNTERS
 
 -- back in the caller, which holds by this number
 abbrev pub back : Machine → ℕ → ℕ → Machine
@@ -62,7 +76,7 @@ larger c n steps =
 
 -- `end` of a call: ensures took these cells
 pub record Leaving (w : List ℕ) (c : Machine) (cells : List ℕ) (n : ℕ) : Type 0 where
-  pub ready : Ready w c
+  pub ready : CanStep w c
   pub inner : c .frames ≡ 1 → ⊥
   pub size : length cells ≡ footprint-cells
   pub count : n ≤ footprint-cells

@@ -10,10 +10,8 @@ ghost use mathlib.Core.Path.{_≡_};
 ghost use Prim.Native.Nat.{_+_, _*_, _-_, _≤_, _<_};
 ghost use lib.ListN.{take};
 ghost use Rattle.rules.specs.Limits.{most-statements, most-frames, heap-objects, heap-fields};
-ghost use Rattle.rules.specs.Machine.{took, newStep, callStep, endStep};
-ghost use Rattle.tables.specs.Decode.{programIn, xAt, yAt, zAt, memberAt, methodAt, classAt};
-ghost use Rattle.run_steps.specs.States.{Ready, AtKind, Does, atRow};
-ghost use Rattle.run_calls.specs.Calls.{Leaving, Entering, Enters, Calling, Admits, back, called, larger};
+ghost use Rattle.run_steps.specs.States.{CanStep, AtKind, Does, atRow, new-kind, call-kind};
+ghost use Rattle.run_calls.specs.Calls.{Leaving, Entering, Enters, Calling, Admits, back, called, larger, newHere, callHere, endHere};
 
 // One step more, back in the caller.
 fn back_in(c: Machine, holder: u32, row: u32) -> Machine
@@ -34,7 +32,7 @@ fn back_in(c: Machine, holder: u32, row: u32) -> Machine
 // The caller goes on with the cells that ensures took, and its x is the result.
 fn leave(work: &mut [u8], c: Machine, cells: &Cells, n: usize) -> Turn
     requires { ⌜ Leaving (now work) c (now cells) n ⌝ }
-    ensures { λ r. ⌜ Does (now (work .entry)) c (now (work .exit)) r (λ m. endStep (programIn (now (work .entry))) m (m .callers)) ⌝ }
+    ensures { λ r. ⌜ Does (now (work .entry)) c (now (work .exit)) r (endHere (now (work .entry))) ⌝ }
 {
     let i = (c.frames - 2) as usize;
     let at = Layout::FRAMES + i * Layout::FRAME_BYTES;
@@ -49,8 +47,8 @@ fn leave(work: &mut [u8], c: Machine, cells: &Cells, n: usize) -> Turn
 
 // `end`: "ensures, then the caller gains its footprint, and x the result; the rest of that A is lost".
 pub fn end_step(work: &mut [u8], c: Machine) -> Turn
-    requires { ⌜ Ready (now work) c ⌝ }
-    ensures { λ r. ⌜ Does (now (work .entry)) c (now (work .exit)) r (λ m. endStep (programIn (now (work .entry))) m (m .callers)) ⌝ }
+    requires { ⌜ CanStep (now work) c ⌝ }
+    ensures { λ r. ⌜ Does (now (work .entry)) c (now (work .exit)) r (endHere (now (work .entry))) ⌝ }
 {
     if c.frames == 1 {
         return Turn::Done;
@@ -118,8 +116,8 @@ fn admit(work: &mut [u8], c: Machine, m: usize) -> Turn
 
 // `call`: "null receiver, then requires, then frames full".
 pub fn call_step(work: &mut [u8], c: Machine) -> Turn
-    requires { ⌜ Ready (now work) c × AtKind (now work) c 11 ⌝ }
-    ensures { λ r. ⌜ Does (now (work .entry)) c (now (work .exit)) r (λ m. took (callStep (yAt (now (work .entry)) (c .row)) (methodAt (now (work .entry)) (memberAt (now (work .entry)) (c .row))) (zAt (now (work .entry)) (c .row)) m)) ⌝ }
+    requires { ⌜ CanStep (now work) c × AtKind (now work) c call-kind ⌝ }
+    ensures { λ r. ⌜ Does (now (work .entry)) c (now (work .exit)) r (callHere (now (work .entry)) c) ⌝ }
 {
     let row = c.row as usize;
     let v = run_heap::view_of(c);
@@ -154,8 +152,8 @@ fn grow(c: Machine, n: u32) -> Machine
 
 // `new`: "22 only where `new` would pass 256 objects or 1,024 fields", the heap's two limits.
 pub fn new_step(work: &mut [u8], c: Machine, most_objects: u32, most_fields: u32) -> Turn
-    requires { ⌜ (Ready (now work) c × AtKind (now work) c 10) × ((«most_objects» ≤ heap-objects) × («most_fields» ≤ heap-fields)) ⌝ }
-    ensures { λ r. ⌜ Does (now (work .entry)) c (now (work .exit)) r (λ m. took (newStep (record { objects = «most_objects»; fields = «most_fields» }) (xAt (now (work .entry)) (c .row)) (classAt (now (work .entry)) (memberAt (now (work .entry)) (c .row))) m)) ⌝ }
+    requires { ⌜ (CanStep (now work) c × AtKind (now work) c new-kind) × ((«most_objects» ≤ heap-objects) × («most_fields» ≤ heap-fields)) ⌝ }
+    ensures { λ r. ⌜ Does (now (work .entry)) c (now (work .exit)) r (newHere (now (work .entry)) c (record { objects = «most_objects»; fields = «most_fields» })) ⌝ }
 {
     let row = c.row as usize;
     let class = tables::member_at(work, row);

@@ -12,11 +12,11 @@ use borrow.Author.Tests.{eqb-true, eqb-false}
 use Rattle.rules.specs.Limits.{work-bytes, heap-objects, heap-fields}
 use Rattle.rules.specs.Base.{any}
 use Rattle.rules.proofs.Lists.{or-left, or-right}
-use Rattle.tables.specs.Layout.{names-at, values-at, holders-at, seconds-at, objects-at, frames-at, frame-variables}
+use Rattle.tables.specs.Layout.{names-at, values-at, holders-at, seconds-at, objects-at, frames-at, frame-variables, frame-bytes}
 use Rattle.tables.specs.Decode.{byteAt, wordAt}
 use Rattle.tables.specs.Stores.{putHalf, putWord, Kept, SameTables}
 use Rattle.tables.proofs.Bytes.{put-word-length, put-word-byte, put-half-length, put-half-byte, word-put, word-kept, half-kept}
-use Rattle.run_heap.specs.Views.{frameAt, variableAt, savedHolder, savedRow, methodOf, cellValue, cellHolder, classIn, firstIn, fill}
+use Rattle.run_heap.specs.Views.{frameAt, variableAt, savedHolder, savedRow, methodOf, cellValue, cellHolder, classIn, firstIn, fill, frame-holder, frame-row, frame-method}
 use Rattle.run_footprint.specs.Footprints.{marked, SmallCells}
 
 -- bytes from a up to b may differ, and no others
@@ -102,23 +102,23 @@ pub only-tables : {a b : ℕ} {w w′ : List ℕ} → Only a b w w′ → names-
 only-tables s l = record { size = s .size; bytes = only-kept s 0 names-at (inl l) }
 
 module _ (a b : ℕ) (w w′ : List ℕ) (s : Only a b w w′) where
-  pub variable-kept : (i x : ℕ) → (i + 60 ≤ a) ⊎ (b ≤ i) → x < frame-variables → variableAt w′ i x ≡ variableAt w i x
+  pub variable-kept : (i x : ℕ) → (i + frame-holder ≤ a) ⊎ (b ≤ i) → x < frame-variables → variableAt w′ i x ≡ variableAt w i x
   unfolding variableAt
-  variable-kept i x o l = word-kept i (i + 60) w w′ (only-kept s i (i + 60) o) (i + x * 4) (omega arith) (omega arith)
+  variable-kept i x o l = word-kept i (i + frame-holder) w w′ (only-kept s i (i + frame-holder) o) (i + x * 4) (omega arith) (omega arith)
 
-  pub saved-holder-kept : (i : ℕ) → (frameAt i + 72 ≤ a) ⊎ (b ≤ frameAt i) → savedHolder w′ i ≡ savedHolder w i
+  pub saved-holder-kept : (i : ℕ) → (frameAt i + frame-bytes ≤ a) ⊎ (b ≤ frameAt i) → savedHolder w′ i ≡ savedHolder w i
   unfolding savedHolder
   saved-holder-kept i o =
-      word-kept (frameAt i) (frameAt i + 72) w w′ (only-kept s (frameAt i) (frameAt i + 72) o) (frameAt i + 60) (omega arith) (omega arith)
+      word-kept (frameAt i) (frameAt i + frame-bytes) w w′ (only-kept s (frameAt i) (frameAt i + frame-bytes) o) (frameAt i + frame-holder) (omega arith) (omega arith)
 
-  pub saved-row-kept : (i : ℕ) → (frameAt i + 72 ≤ a) ⊎ (b ≤ frameAt i) → savedRow w′ i ≡ savedRow w i
+  pub saved-row-kept : (i : ℕ) → (frameAt i + frame-bytes ≤ a) ⊎ (b ≤ frameAt i) → savedRow w′ i ≡ savedRow w i
   unfolding savedRow
   saved-row-kept i o =
-      half-kept (frameAt i) (frameAt i + 72) w w′ (only-kept s (frameAt i) (frameAt i + 72) o) (frameAt i + 64) (omega arith) (omega arith)
+      half-kept (frameAt i) (frameAt i + frame-bytes) w w′ (only-kept s (frameAt i) (frameAt i + frame-bytes) o) (frameAt i + frame-row) (omega arith) (omega arith)
 
-  pub method-kept : (i : ℕ) → (frameAt i + 72 ≤ a) ⊎ (b ≤ frameAt i) → methodOf w′ i ≡ methodOf w i
+  pub method-kept : (i : ℕ) → (frameAt i + frame-bytes ≤ a) ⊎ (b ≤ frameAt i) → methodOf w′ i ≡ methodOf w i
   unfolding methodOf
-  method-kept i o = only-kept s (frameAt i) (frameAt i + 72) o (frameAt i + 66) (omega arith) (omega arith)
+  method-kept i o = only-kept s (frameAt i) (frameAt i + frame-bytes) o (frameAt i + frame-method) (omega arith) (omega arith)
 
   pub value-kept : (holders-at ≤ a) ⊎ (b ≤ values-at) → (k : ℕ) → k < heap-fields → cellValue w′ k ≡ cellValue w k
   unfolding cellValue

@@ -12,23 +12,23 @@ use borrow.Author.Tests.{ne-eqb, eqb-true, eqb-false}
 use Rattle.rules.specs.Base.{any}
 use Rattle.rules.proofs.Tries.{no-ok, ok-inj}
 use Rattle.run_footprint.specs.declared.Took.{Took}
-use Rattle.run_footprint.specs.Footprints.{newCells, tookIs, countOf, TookUpTo, Sieve}
+use Rattle.run_footprint.specs.Footprints.{newCells, tookIs, countOf, TookUpTo, Sieve, sieve-bytes}
 use Rattle.run_footprint.proofs.Cells.{any-end}
 use Rattle.run_footprint.proofs.Taking.{new-taken, new-free}
 
 -- no cell is taken
-pub sieve-none : (l seen : List ℕ) → length seen ≡ 64 → Sieve (take 0 l) seen
+pub sieve-none : (l seen : List ℕ) → length seen ≡ sieve-bytes → Sieve (take 0 l) seen
 unfolding any
 sieve-none l seen s = record { size = s; clear = λ k e. refl }
 
 -- a cell more, whose remainder is seen
 pub sieve-more :
-    (ks seen seen′ : List ℕ) (k : ℕ) → Sieve ks seen → length seen′ ≡ 64 → (getD seen′ (k % 64) 0 ≡ 0 → ⊥) →
+    (ks seen seen′ : List ℕ) (k : ℕ) → Sieve ks seen → length seen′ ≡ sieve-bytes → (getD seen′ (k % sieve-bytes) 0 ≡ 0 → ⊥) →
     ((i : ℕ) → getD seen′ i 0 ≡ 0 → getD seen i 0 ≡ 0) → Sieve (ks ++ (k ∷ [])) seen′
 sieve-more ks seen seen′ k S s h g =
     record {
       size = s;
-      clear = λ j e. any-end j k ks ∙ rw (ne-eqb j k (λ q. h (subst (λ (z : ℕ). getD seen′ (z % 64) 0 ≡ 0) q e)), S .clear j (g (j % 64) e));
+      clear = λ j e. any-end j k ks ∙ rw (ne-eqb j k (λ q. h (subst (λ (z : ℕ). getD seen′ (z % sieve-bytes) 0 ≡ 0) q e)), S .clear j (g (j % sieve-bytes) e));
     }
 
 -- what is taken with it
@@ -49,22 +49,22 @@ sieve-cells r n l seen e S = rw e at S
 
 -- a remainder that is marked as seen stays so, and others stay
 pub sieve-set :
-    (ks seen : List ℕ) (k : ℕ) → Sieve ks seen → k % 64 < 64 → Sieve (ks ++ (k ∷ [])) (set seen (k % 64) 1)
+    (ks seen : List ℕ) (k : ℕ) → Sieve ks seen → k % sieve-bytes < sieve-bytes → Sieve (ks ++ (k ∷ [])) (set seen (k % sieve-bytes) 1)
 sieve-set ks seen k S l =
-    sieve-more ks seen (set seen (k % 64) 1) k S (length-set seen (k % 64) 1 ∙ S .size) marked kept
+    sieve-more ks seen (set seen (k % sieve-bytes) 1) k S (length-set seen (k % sieve-bytes) 1 ∙ S .size) marked kept
   where
-    here : getD (set seen (k % 64) 1) (k % 64) 0 ≡ 1
-    here = getD-set-same seen (k % 64) 1 0 (omega (arith, S .size))
+    here : getD (set seen (k % sieve-bytes) 1) (k % sieve-bytes) 0 ≡ 1
+    here = getD-set-same seen (k % sieve-bytes) 1 0 (omega (arith, S .size))
 
-    marked : getD (set seen (k % 64) 1) (k % 64) 0 ≡ 0 → ⊥
+    marked : getD (set seen (k % sieve-bytes) 1) (k % sieve-bytes) 0 ≡ 0 → ⊥
     marked e = absurd (omega (arith, here, e))
 
-    kept : (i : ℕ) → getD (set seen (k % 64) 1) i 0 ≡ 0 → getD seen i 0 ≡ 0
-    kept i e = go (eqb i (k % 64)) refl
+    kept : (i : ℕ) → getD (set seen (k % sieve-bytes) 1) i 0 ≡ 0 → getD seen i 0 ≡ 0
+    kept i e = go (eqb i (k % sieve-bytes)) refl
       where
-        go : (b : Bool) → eqb i (k % 64) ≡ b → getD seen i 0 ≡ 0
-        go true t = absurd (marked (subst (λ (z : ℕ). getD (set seen (k % 64) 1) z 0 ≡ 0) (eqb-true i (k % 64) t) e))
-        go false t = sym (getD-set-other seen (k % 64) i 1 0 (eqb-false i (k % 64) t)) ∙ e
+        go : (b : Bool) → eqb i (k % sieve-bytes) ≡ b → getD seen i 0 ≡ 0
+        go true t = absurd (marked (subst (λ (z : ℕ). getD (set seen (k % sieve-bytes) 1) z 0 ≡ 0) (eqb-true i (k % sieve-bytes) t) e))
+        go false t = sym (getD-set-other seen (k % sieve-bytes) i 1 0 (eqb-false i (k % sieve-bytes) t)) ∙ e
 
 -- the cell put, where it is none of the others
 pub took-new :

@@ -81,5 +81,9 @@ pub record Sieve (ks seen : List ℕ) : Type 0 where
   pub size : length seen ≡ sieve-bytes
   pub clear : (k : ℕ) → getD seen (k % sieve-bytes) 0 ≡ 0 → any (eqb k) ks ≡ false
 
+-- after n cells at most one more was taken, and the bytes go on saying which remainders they have
+abbrev pub TookOne : Took → List ℕ → List ℕ → ℕ → Try Stop (List ℕ) → Type 0
+TookOne r ks seen n t = TookUpTo r ks (n + 1) t × Sieve (take (countOf r) ks) seen
+
 abbrev pub SmallCells : List ℕ → Type 0
 SmallCells ks = (k : ℕ) → T (any (eqb k) ks) → k < heap-fields

@@ -17,7 +17,7 @@ ghost use Rattle.rules.specs.Base.{any, ok};
 ghost use Rattle.rules.specs.Machine.{compared};
 ghost use lib.Dec.{eqb};
 ghost use Rattle.run_heap.specs.Views.{Readable};
-ghost use Rattle.run_footprint.specs.Footprints.{rightTest, testIn, newCells, accIn, takeIn, SmallCells, marked, truthIs, footprint-cells, countOf, TookUpTo, Sieve};
+ghost use Rattle.run_footprint.specs.Footprints.{rightTest, testIn, newCells, accIn, takeIn, SmallCells, marked, truthIs, footprint-cells, TookUpTo, TookOne, Sieve};
 
 // The cells of a footprint.
 pub type Cells = [usize; CELLS];
@@ -131,7 +131,7 @@ fn put_seen(cells: &mut Cells, n: usize, k: usize) -> Took
 // Takes the cell k after n others. It is looked for only where its remainder by SIEVE has been seen.
 fn put_cell(cells: &mut Cells, seen: &mut [u8; SIEVE], n: usize, k: usize) -> Took
     requires { ⌜ ((n < footprint-cells) × (length (now cells) ≡ footprint-cells)) × Sieve (take n (now cells)) (now seen) ⌝ }
-    ensures { λ r. ⌜ TookUpTo r (now (cells .exit)) (n + 1) (newCells (take n (now (cells .entry))) k) × Sieve (take (countOf r) (now (cells .exit))) (now (seen .exit)) ⌝ }
+    ensures { λ r. ⌜ TookOne r (now (cells .exit)) (now (seen .exit)) n (newCells (take n (now (cells .entry))) k) ⌝ }
 {
     let s = k % SIEVE;
     let b = seen[s];
@@ -154,7 +154,7 @@ fn take_cell(
     n: usize,
 ) -> Took
     requires { ⌜ (Readable (now work) v × ((x < frame-variables) × (f < most-names))) × (((n < footprint-cells) × (length (now cells) ≡ footprint-cells)) × Sieve (take n (now cells)) (now seen)) ⌝ }
-    ensures { λ r. ⌜ TookUpTo r (now (cells .exit)) (n + 1) (accIn (now (work .entry)) v x f (take n (now (cells .entry)))) × Sieve (take (countOf r) (now (cells .exit))) (now (seen .exit)) ⌝ }
+    ensures { λ r. ⌜ TookOne r (now (cells .exit)) (now (seen .exit)) n (accIn (now (work .entry)) v x f (take n (now (cells .entry)))) ⌝ }
 {
     match run_heap::locate(work, v, x, f) {
         Spot::At(k) => put_cell(cells, seen, n, k),
@@ -172,7 +172,7 @@ fn take_atom(
     n: usize,
 ) -> Took
     requires { ⌜ (Readable (now work) v × (a < atomCount (now work))) × (((n < footprint-cells) × (length (now cells) ≡ footprint-cells)) × Sieve (take n (now cells)) (now seen)) ⌝ }
-    ensures { λ r. ⌜ TookUpTo r (now (cells .exit)) (n + 1) (takeIn (now (work .entry)) v (atomAt (now (work .entry)) a ∷ []) (take n (now (cells .entry)))) × Sieve (take (countOf r) (now (cells .exit))) (now (seen .exit)) ⌝ }
+    ensures { λ r. ⌜ TookOne r (now (cells .exit)) (now (seen .exit)) n (takeIn (now (work .entry)) v (atomAt (now (work .entry)) a ∷ []) (take n (now (cells .entry)))) ⌝ }
 {
     if tables::atom_kind(work, a) == AtomKind::ACC {
         let x = tables::atom_variable(work, a);

@@ -21,7 +21,7 @@ use Rattle.tables.specs.Tables.{Tables}
 use Rattle.tables.specs.Stores.{SameTables, putWord}
 use Rattle.tables.proofs.Bytes.{word-put, word-kept}
 use Rattle.tables.proofs.Decoding.{tables-same, rows-count-same}
-use Rattle.run_heap.specs.Views.{frameAt, variableAt, cellValue, cellHolder, cellOf, holderIn, holderOf, methodOf, ObjectFits}
+use Rattle.run_heap.specs.Views.{frameAt, variableAt, cellValue, cellHolder, cellOf, holderIn, holderOf, methodOf, ObjectFits, frame-holder, frame-method}
 use Rattle.run_footprint.specs.Footprints.{marked}
 use Rattle.run_steps.specs.States.{HeapIs, Represents}
 use Rattle.run_heap.proofs.Reading.{Placed, cell-placed, cell-small}
@@ -100,28 +100,28 @@ module _ {w : List ℕ} {c : Machine} {m : Config} (R : Represents w c m) where
         let b : ℕ = frameAt i in
         let w′ : List ℕ = putWord w (b + x * 4) v in
         let il : i < most-frames = frame-number in
-        let s : Only b (b + 60) w w′ = only-word b (b + 60) w (b + x * 4) v (omega arith) (omega arith) in
+        let s : Only b (b + frame-holder) w w′ = only-word b (b + frame-holder) w (b + x * 4) v (omega arith) (omega arith) in
         let t : SameTables w w′ = only-tables s (omega arith) in
-        let S : SameObjects (c .objects) w w′ = same-objects b (b + 60) w w′ (c .objects) s (inl (omega arith)) (R .heap .most-objects) in
+        let S : SameObjects (c .objects) w w′ = same-objects b (b + frame-holder) w w′ (c .objects) s (inl (omega arith)) (R .heap .most-objects) in
         let K : (k : ℕ) → k < c .fields → cellHolder w′ k ≡ cellHolder w k =
-        λ k l. holder-kept b (b + 60) w w′ s (inl (omega arith)) k (omega (arith, R .heap .most-fields)) in
+        λ k l. holder-kept b (b + frame-holder) w w′ s (inl (omega arith)) k (omega (arith, R .heap .most-fields)) in
         let H : (p : Location) → holderOf w′ (c .objects) p ≡ holderOf w (c .objects) p =
         λ p. holder-of-kept w w′ t (R .tables) (c .objects) (c .fields) p (R .heap .fit) S K in
         record {
           tables = tables-same w w′ t (R .tables);
           heap =
               heap-kept w w′ t (R .tables) (c .objects) (c .fields) (c .holders) (c .holders) (m .heap) S
-              (λ k l. value-kept b (b + 60) w w′ s (inl (omega arith)) k (omega (arith, R .heap .most-fields)))
+              (λ k l. value-kept b (b + frame-holder) w w′ s (inl (omega arith)) k (omega (arith, R .heap .most-fields)))
               (λ k l. rw (K k l) (R .heap .marks k l)) (R .heap);
           frames = R .frames;
           most = R .most;
           frame =
               frame-bind x v lx (this-variable w b x v (omega (arith, R .tables .size)) lv)
               (λ y _ d. other-variable w b x y v d) H (rows-count-same w w′ t) (R .frame);
-          ensures = ensures-kept w w′ t (R .tables) i (m .frame) (s .bytes (b + 66) (inr (omega arith))) (R .ensures);
+          ensures = ensures-kept w w′ t (R .tables) i (m .frame) (s .bytes (b + frame-method) (inr (omega arith))) (R .ensures);
           callers =
               callers-kept w w′ t (R .tables) (c .objects) (c .objects) (c .holder) (m .callers)
-              (λ j l. same-frame b (b + 60) w w′ j s (inl (omega arith)))
+              (λ j l. same-frame b (b + frame-holder) w w′ j s (inl (omega arith)))
               (λ number _ _ p. ap (λ (o : ℕ). eqb o number) (H p)) (R .callers);
           last = R .last;
           given = R .given;

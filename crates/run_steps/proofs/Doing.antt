@@ -5,23 +5,26 @@ use mathlib.Core.List.{List, []}
 use mathlib.Core.Logic.{inl, inr}
 use Prim.Native.Nat.{ℕ, _+_, _*_, _-_, _≤_, _<_}
 use native.Mathlib.Omega.{arith}
+use lib.Dec.{T}
 use lib.ListN.{length}
 use Rattle.rules.specs.Limits.{heap-fields, most-statements, most-frames}
 use Rattle.rules.specs.Base.{ok, no}
+use Rattle.rules.specs.Answers.{overflow}
 use Rattle.rules.specs.Syntax.{var, result-variable}
-use Rattle.rules.specs.Machine.{Config, Step, took, on, elseStep, setStep, assignStep, ifStep, assertStep, releaseStep}
+use Rattle.rules.specs.Grammar.{statementNumber, isComputing}
+use Rattle.rules.specs.Machine.{Config, Step, computed}
 use Rattle.rules.specs.declared.Machine.{Machine}
 use Rattle.tables.specs.Layout.{frame-variables, values-at, holders-at, frames-at, most-names}
-use Rattle.tables.specs.Decode.{allRows, byteAt, atomPlace, relOf, xAt, yAt, memberAt, targetAt, firstAtomAt, atomCountAt, atomsFrom, atomCount, operandsAt, formulaAt, leftAt, rightAt}
+use Rattle.tables.specs.Decode.{operationOf, kindAt, xAt, yAt, zAt, memberAt, targetAt, firstAtomAt, atomCountAt, atomsFrom, atomCount, operandsAt, formulaAt, rightAt}
 use Rattle.tables.specs.Tables.{SideFits, declaredIn, OperandsFit}
 use Rattle.tables.specs.Stores.{SameTables, putWord}
 use Rattle.tables.proofs.Bytes.{same-refl}
 use Rattle.run_heap.specs.declared.View.{View}
 use Rattle.run_heap.specs.declared.Fault.{Fault}
 use Rattle.run_steps.specs.declared.Turn.{Turn}
-use Rattle.run_heap.specs.Views.{frameAt, variableAt, spot, readIn, viewOf, stopOf, Readable}
+use Rattle.run_heap.specs.Views.{frameAt, variableAt, spot, readIn, viewOf, stopOf, Readable, frame-holder}
 use Rattle.run_footprint.specs.Footprints.{testIn, takeIn, marked, SmallCells}
-use Rattle.run_steps.specs.States.{Represents, Follows, Does, Ready, NotEnd, AtKind, stepped}
+use Rattle.run_steps.specs.States.{Represents, Follows, Does, CanStep, NotEnd, AtKind, stepped, set-kind, let-kind, return-kind, if-kind, else-kind, setHere, letHere, computeHere, returnHere, assertHere, releaseHere, ifHere, elseHere}
 use Rattle.run_heap.proofs.Reading.{spot-small}
 use Rattle.run_steps.proofs.Seeing.{ok-footprint}
 use Rattle.run_footprint.proofs.Regions.{only-word, only-tables, only-marked}
@@ -43,7 +46,7 @@ pub does-stop :
     Does w c w (Turn.Stopped s) f
 does-stop {w} s h = record { tables = same-refl w; follows = h }
 
-module _ {w : List ℕ} {c : Machine} (ready : Ready w c) where
+module _ {w : List ℕ} {c : Machine} (ready : CanStep w c) where
   -- WHAT A READY MACHINE HAS
   pub fits : OperandsFit (declaredIn w) (atomCount w) (operandsAt w (c .row))
   fits = Moves.row-fits (ready .represents) .operands
@@ -60,7 +63,7 @@ module _ {w : List ℕ} {c : Machine} (ready : Ready w c) where
   pub view-readable : {v : View} → v ≡ viewOf c → Readable w v
   view-readable e = subst (Readable w) (sym e) (Moves.readable (ready .represents))
 
-  pub base-fits : {v : View} → v ≡ viewOf c → v .base + 60 ≤ 65536
+  pub base-fits : {v : View} → v ≡ viewOf c → v .base + frame-holder ≤ 65536
   base-fits e = view-readable e .base
 
   frame-words : (x : ℕ) → x < frame-variables → (n : ℕ) → SameTables w (putWord w (frameAt (c .frames - 1) + x * 4) n)
@@ -78,12 +81,12 @@ module _ {w : List ℕ} {c : Machine} (ready : Ready w c) where
 
   pub assert-does :
       (ks : List ℕ) {d : Machine} → NotEnd w c → takeIn w (viewOf c) (formulaAt w (c .row)) [] ≡ ok ks → d ≡ stepped c (c .row + 1) →
-      Does w c w (Turn.On d) (λ m. took (assertStep (formulaAt w (c .row)) m))
+      Does w c w (Turn.On d) (assertHere w c)
   assert-does ks n e q = does-on refl q (same-refl w) (λ m R. Moves.assert-on R _ ks (Moves.row-formula-ok R) n e)
 
   pub assert-stops :
       (s : Fault) → takeIn w (viewOf c) (formulaAt w (c .row)) [] ≡ no (stopOf s) →
-      Does w c w (Turn.Stopped s) (λ m. took (assertStep (formulaAt w (c .row)) m))
+      Does w c w (Turn.Stopped s) (assertHere w c)
   assert-stops s e = does-stop s (λ m R. Moves.assert-stop R _ s (Moves.row-formula-ok R) e)
 
   -- the cells that a formula took
@@ -95,53 +98,53 @@ module _ {w : List ℕ} {c : Machine} (ready : Ready w c) where
 
   pub release-does :
       (ks : List ℕ) {w′ : List ℕ} {d : Machine} → NotEnd w c → takeIn w (viewOf c) (formulaAt w (c .row)) [] ≡ ok ks → w′ ≡ marked w ks 0 →
-      d ≡ stepped c (c .row + 1) → Does w c w′ (Turn.On d) (λ m. took (releaseStep (formulaAt w (c .row)) m))
+      d ≡ stepped c (c .row + 1) → Does w c w′ (Turn.On d) (releaseHere w c)
   release-does ks n e p q =
       does-on p q (only-tables (only-marked w ks 0 (taken-small ks e)) (omega arith))
       (λ m R. Steps.release-on R _ ks (Moves.row-formula-ok R) n e)
 
   pub release-stops :
       (s : Fault) → takeIn w (viewOf c) (formulaAt w (c .row)) [] ≡ no (stopOf s) →
-      Does w c w (Turn.Stopped s) (λ m. took (releaseStep (formulaAt w (c .row)) m))
+      Does w c w (Turn.Stopped s) (releaseHere w c)
   release-stops s e = does-stop s (λ m R. Steps.release-stop R _ s (Moves.row-formula-ok R) e)
 
   -- BRANCHES
   pub else-does :
-      {d : Machine} → AtKind w c 16 → d ≡ stepped c (targetAt w (c .row)) →
-      Does w c w (Turn.On d) (λ m. on (elseStep (allRows w) m))
+      {d : Machine} → AtKind w c else-kind → d ≡ stepped c (targetAt w (c .row)) →
+      Does w c w (Turn.On d) (elseHere w)
   else-does k q = does-on refl q (same-refl w) (λ m R. Moves.else-on R k)
 
-  pub if-atom : AtKind w c 15 → firstAtomAt w (c .row) < atomCount w
+  pub if-atom : AtKind w c if-kind → firstAtomAt w (c .row) < atomCount w
   if-atom k = omega (arith, fits .atoms .1, fits .one-atom (inr k))
 
-  module _ (k : AtKind w c 15) (v : View) (a : ℕ) (ev : v ≡ viewOf c) (ea : a ≡ firstAtomAt w (c .row)) where
+  module _ (k : AtKind w c if-kind) (v : View) (a : ℕ) (ev : v ≡ viewOf c) (ea : a ≡ firstAtomAt w (c .row)) where
     pub if-holds :
         {d : Machine} → testIn w v a ≡ ok true → d ≡ stepped c (c .row + 1) →
         Does w c w (Turn.On d)
-        (λ m. took (ifStep (allRows w) (relOf (byteAt w (atomPlace (firstAtomAt w (c .row))))) (leftAt w (firstAtomAt w (c .row))) (rightAt w (firstAtomAt w (c .row))) m))
+        (ifHere w c)
     if-holds e q = does-on refl q (same-refl w) (λ m R. Moves.if-true R (firstAtomAt w (c .row)) (if-atom k) k (rw (← ev, ← ea) e))
 
     pub if-fails :
         {d : Machine} → testIn w v a ≡ ok false → d ≡ stepped c (targetAt w (c .row)) →
         Does w c w (Turn.On d)
-        (λ m. took (ifStep (allRows w) (relOf (byteAt w (atomPlace (firstAtomAt w (c .row))))) (leftAt w (firstAtomAt w (c .row))) (rightAt w (firstAtomAt w (c .row))) m))
+        (ifHere w c)
     if-fails e q = does-on refl q (same-refl w) (λ m R. Moves.if-false R (firstAtomAt w (c .row)) (if-atom k) k (rw (← ev, ← ea) e))
 
     pub if-stops :
         (s : Fault) → testIn w v a ≡ no (stopOf s) →
         Does w c w (Turn.Stopped s)
-        (λ m. took (ifStep (allRows w) (relOf (byteAt w (atomPlace (firstAtomAt w (c .row))))) (leftAt w (firstAtomAt w (c .row))) (rightAt w (firstAtomAt w (c .row))) m))
+        (ifHere w c)
     if-stops s e = does-stop s (λ m R. Moves.if-stop R (firstAtomAt w (c .row)) (if-atom k) s (rw (← ev, ← ea) e))
 
   -- VARIABLES
-  pub let-atom : AtKind w c 9 → firstAtomAt w (c .row) < atomCount w
+  pub let-atom : AtKind w c let-kind → firstAtomAt w (c .row) < atomCount w
   let-atom k = omega (arith, fits .atoms .1, fits .one-atom (inl k))
 
-  module _ (k : AtKind w c 9) (v : View) (a : ℕ) (ev : v ≡ viewOf c) (ea : a ≡ firstAtomAt w (c .row)) where
+  module _ (k : AtKind w c let-kind) (v : View) (a : ℕ) (ev : v ≡ viewOf c) (ea : a ≡ firstAtomAt w (c .row)) where
     pub let-does :
         (x n : ℕ) {w′ : List ℕ} {d : Machine} → x ≡ xAt w (c .row) → n < 4294967296 → readIn w v (rightAt w a) ≡ ok n →
         w′ ≡ putWord w (v .base + x * 4) n → d ≡ stepped c (c .row + 1) →
-        Does w c w′ (Turn.On d) (λ m. took (assignStep (xAt w (c .row)) (rightAt w (firstAtomAt w (c .row))) m))
+        Does w c w′ (Turn.On d) (letHere w c)
     let-does x n ex ln e p q =
         does-on (p ∙ rw (ev, ex)) q (frame-words (xAt w (c .row)) (fits .x) n)
         (λ m R.
@@ -150,15 +153,44 @@ module _ {w : List ℕ} {c : Machine} (ready : Ready w c) where
 
     pub let-stops :
         (s : Fault) → readIn w v (rightAt w a) ≡ no (stopOf s) →
-        Does w c w (Turn.Stopped s) (λ m. took (assignStep (xAt w (c .row)) (rightAt w (firstAtomAt w (c .row))) m))
+        Does w c w (Turn.Stopped s) (letHere w c)
     let-stops s e =
         does-stop s
         (λ m R. Steps.assign-stop R (xAt w (c .row)) _ s (R .tables .atom-fits _ (let-atom k) .right) (rw (← ev, ← ea) e))
 
+  -- `add` and `sub`, where the code reads y and z as n₁ and n₂
+  module _
+      (t : T (isComputing (kindAt w (c .row)))) (v : View) (ev : v ≡ viewOf c) (y z k n₁ n₂ : ℕ) (ey : y ≡ yAt w (c .row))
+      (ez : z ≡ zAt w (c .row)) (ek : k ≡ kindAt w (c .row)) (e₁ : n₁ ≡ variableAt w (v .base) y)
+      (e₂ : n₂ ≡ variableAt w (v .base) z) where
+    not-end : NotEnd w c
+    unfolding isComputing statementNumber
+    not-end e = subst (λ k. T (isComputing k)) e t
+
+    read-so :
+        computed (operationOf k) n₁ n₂
+        ≡ computed (operationOf (kindAt w (c .row))) (variableAt w (viewOf c .base) (yAt w (c .row))) (variableAt w (viewOf c .base) (zAt w (c .row)))
+    read-so = rw (ek, e₁, e₂, ey, ez, ev)
+
+    pub compute-does :
+        (x n : ℕ) {w′ : List ℕ} {d : Machine} → x ≡ xAt w (c .row) → n < 4294967296 → computed (operationOf k) n₁ n₂ ≡ ok n →
+        w′ ≡ putWord w (v .base + x * 4) n → d ≡ stepped c (c .row + 1) →
+        Does w c w′ (Turn.On d) (computeHere w c)
+    compute-does x n ex ln e p q =
+        does-on (p ∙ rw (ev, ex)) q (frame-words (xAt w (c .row)) (fits .x) n)
+        (λ m R. Steps.compute-on R _ (xAt w (c .row)) _ _ (fits .y) (fits .z) n (fits .x) ln not-end (sym read-so ∙ e))
+
+    pub compute-stops :
+        computed (operationOf k) n₁ n₂ ≡ no overflow →
+        Does w c w (Turn.Stopped Fault.Overflow) (computeHere w c)
+    compute-stops e =
+        does-stop Fault.Overflow
+        (λ m R. Steps.compute-stop R _ (xAt w (c .row)) _ _ (fits .y) (fits .z) (sym read-so ∙ e))
+
   pub return-does :
-      (v : View) (x n : ℕ) {w′ : List ℕ} {d : Machine} → AtKind w c 12 → v ≡ viewOf c → x ≡ xAt w (c .row) → n < 4294967296 →
+      (v : View) (x n : ℕ) {w′ : List ℕ} {d : Machine} → AtKind w c return-kind → v ≡ viewOf c → x ≡ xAt w (c .row) → n < 4294967296 →
       n ≡ variableAt w (v .base) x → w′ ≡ putWord w (v .base + 56) n → d ≡ stepped c (c .row + 1) →
-      Does w c w′ (Turn.On d) (λ m. took (assignStep result-variable (var (xAt w (c .row))) m))
+      Does w c w′ (Turn.On d) (returnHere w c)
   unfolding readIn SideFits
   return-does v x n k ev ex ln e p q =
       does-on (p ∙ rw ev) q (frame-words result-variable (omega arith) n)
@@ -167,7 +199,7 @@ module _ {w : List ℕ} {c : Machine} (ready : Ready w c) where
       (ap ok (sym (e ∙ rw (ev, ex)))))
 
   -- `set`
-  module _ (k : AtKind w c 8) (v : View) (x f : ℕ) (ev : v ≡ viewOf c) (ex : x ≡ xAt w (c .row)) (ef : f ≡ memberAt w (c .row)) where
+  module _ (k : AtKind w c set-kind) (v : View) (x f : ℕ) (ev : v ≡ viewOf c) (ex : x ≡ xAt w (c .row)) (ef : f ≡ memberAt w (c .row)) where
     pub set-operands : (x < frame-variables) × (f < most-names)
     set-operands = (omega (arith, fits .x), omega (arith, fits .field k))
 
@@ -177,7 +209,7 @@ module _ {w : List ℕ} {c : Machine} (ready : Ready w c) where
     pub set-does :
         (j y n : ℕ) {w′ : List ℕ} {d : Machine} → spot w v x f ≡ ok j → y ≡ yAt w (c .row) → n < 4294967296 →
         n ≡ variableAt w (v .base) y → w′ ≡ putWord w (values-at + j * 4) n → d ≡ stepped c (c .row + 1) →
-        Does w c w′ (Turn.On d) (λ m. took (setStep (xAt w (c .row)) (memberAt w (c .row)) (yAt w (c .row)) m))
+        Does w c w′ (Turn.On d) (setHere w c)
     set-does j y n e ey ln en p q =
         let l : j < heap-fields = set-small j e in
         does-on p q (only-tables (only-word values-at holders-at w (values-at + j * 4) n (omega arith) (omega arith)) (omega arith))
@@ -187,5 +219,5 @@ module _ {w : List ℕ} {c : Machine} (ready : Ready w c) where
 
     pub set-stops :
         (s : Fault) → spot w v x f ≡ no (stopOf s) →
-        Does w c w (Turn.Stopped s) (λ m. took (setStep (xAt w (c .row)) (memberAt w (c .row)) (yAt w (c .row)) m))
+        Does w c w (Turn.Stopped s) (setHere w c)
     set-stops s e = does-stop s (λ m R. Steps.set-stop R (xAt w (c .row)) _ _ s (fits .x) (rw (← ev, ← ex, ← ef) e))

@@ -21,7 +21,7 @@ use Rattle.run_heap.specs.declared.Fault.{Fault}
 use Rattle.run_steps.specs.declared.Turn.{Turn}
 use Rattle.run_heap.specs.Views.{frameAt, variableAt, holderOf, viewOf, readIn, stopOf, ObjectFits, Readable}
 use Rattle.run_footprint.specs.Footprints.{rightTest, testIn, takeIn}
-use Rattle.run_steps.specs.States.{FrameIs, Represents, Follows, atRow, stepped}
+use Rattle.run_steps.specs.States.{FrameIs, Represents, Follows, atRow, stepped, if-kind, else-kind, NotEnd, ifOn}
 use Rattle.run_heap.proofs.Reading.{cell-small}
 use Rattle.run_steps.proofs.Seeing.{Sees, FormulaOk, cells-apart, value-is, no-footprint, ok-footprint, atoms-ok}
 
@@ -106,7 +106,7 @@ module _ {w : List ℕ} {c : Machine} {m : Config} (R : Represents w c m) where
   pub next-is : suc (m .frame .row) ≡ c .row + 1
   next-is = omega (arith, R .frame .row-is)
 
-  pub next-fits : (kindAt w (c .row) ≡ 18 → ⊥) → c .row + 1 < rowCount w
+  pub next-fits : NotEnd w c → c .row + 1 < rowCount w
   next-fits n = ⊎-elim (λ e. absurd (n e)) (λ l. omega arith) (row-fits .follows .next)
 
   -- the same state, at another row and after as many steps or more
@@ -135,7 +135,7 @@ module _ {w : List ℕ} {c : Machine} {m : Config} (R : Represents w c m) where
   moved row i l e = moved-to row (c .steps + 1) i l e (omega arith)
 
   pub moved-on :
-      (kindAt w (c .row) ≡ 18 → ⊥) → Represents w (stepped c (c .row + 1)) (withFrame m (advance (m .frame)))
+      NotEnd w c → Represents w (stepped c (c .row + 1)) (withFrame m (advance (m .frame)))
   unfolding advance
   moved-on n = moved (c .row + 1) (suc (m .frame .row)) (next-fits n) next-is
 
@@ -167,7 +167,7 @@ module _ {w : List ℕ} {c : Machine} {m : Config} (R : Represents w c m) where
   assert-stop φ f l e = follow-stop f _ (rw (no-footprint sees φ (stopOf f) l e))
 
   pub assert-on :
-      (φ : Formula ℕ) (ks : List ℕ) → FormulaOk φ → (kindAt w (c .row) ≡ 18 → ⊥) → takeIn w (viewOf c) φ [] ≡ ok ks →
+      (φ : Formula ℕ) (ks : List ℕ) → FormulaOk φ → NotEnd w c → takeIn w (viewOf c) φ [] ≡ ok ks →
       Follows w c (Turn.On (stepped c (c .row + 1))) m (took (assertStep φ m))
   unfolding assertStep _>>=_
   assert-on φ ks l n e =
@@ -176,7 +176,7 @@ module _ {w : List ℕ} {c : Machine} {m : Config} (R : Represents w c m) where
 
   -- BRANCHES
   pub else-on :
-      kindAt w (c .row) ≡ 16 → Follows w c (Turn.On (stepped c (targetAt w (c .row)))) m (on (elseStep (allRows w) m))
+      kindAt w (c .row) ≡ else-kind → Follows w c (Turn.On (stepped c (targetAt w (c .row)))) m (on (elseStep (allRows w) m))
   unfolding elseStep
   else-on e =
       record {
@@ -208,19 +208,19 @@ module _ {w : List ℕ} {c : Machine} {m : Config} (R : Represents w c m) where
 
     pub if-stop :
         (f : Fault) → testIn w (viewOf c) a ≡ no (stopOf f) →
-        Follows w c (Turn.Stopped f) m (took (ifStep (allRows w) (relOf (byteAt w (atomPlace a))) (leftAt w a) (rightAt w a) m))
+        Follows w c (Turn.Stopped f) m (ifOn w a m)
     unfolding _>>=_
     if-stop f e = follow-stop f _ (if-is ∙ rw e)
 
     pub if-true :
-        kindAt w (c .row) ≡ 15 → testIn w (viewOf c) a ≡ ok true →
-        Follows w c (Turn.On (stepped c (c .row + 1))) m (took (ifStep (allRows w) (relOf (byteAt w (atomPlace a))) (leftAt w a) (rightAt w a) m))
+        kindAt w (c .row) ≡ if-kind → testIn w (viewOf c) a ≡ ok true →
+        Follows w c (Turn.On (stepped c (c .row + 1))) m (ifOn w a m)
     unfolding _>>=_
     if-true k e = follow-on _ _ _ (if-is ∙ rw e) refl (moved (c .row + 1) _ (next-fits (λ z. omega (arith, k, z))) next-is)
 
     pub if-false :
-        kindAt w (c .row) ≡ 15 → testIn w (viewOf c) a ≡ ok false →
-        Follows w c (Turn.On (stepped c (targetAt w (c .row)))) m (took (ifStep (allRows w) (relOf (byteAt w (atomPlace a))) (leftAt w a) (rightAt w a) m))
+        kindAt w (c .row) ≡ if-kind → testIn w (viewOf c) a ≡ ok false →
+        Follows w c (Turn.On (stepped c (targetAt w (c .row)))) m (ifOn w a m)
     unfolding _>>=_
     if-false k e =
         follow-on _ _ _ (if-is ∙ rw e) refl

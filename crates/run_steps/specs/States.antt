@@ -8,14 +8,50 @@ use lib.Dec.{T, eqb}
 use lib.ListN.{length}
 use Rattle.rules.specs.Limits.{heap-objects, heap-fields, most-frames}
 use Rattle.rules.specs.Base.{any}
-use Rattle.rules.specs.Machine.{Heap, Frame, Location, Config, Step, fieldsOf, valueAt, object, valueOf, holds, on, stop, done}
+use Rattle.rules.specs.Syntax.{var, result-variable}
+use Rattle.rules.specs.Machine.{Heap, Frame, Location, Config, Step, fieldsOf, valueAt, object, valueOf, holds, on, stop, done, took}
+use Rattle.rules.specs.Machine.{setStep, assignStep, computeStep, assertStep, releaseStep, ifStep, elseStep}
 use Rattle.rules.specs.declared.Machine.{Machine}
 use Rattle.tables.specs.Layout.{frame-variables}
-use Rattle.tables.specs.Decode.{rowCount, kindAt, methodCount, ensuresAt, fieldCountAt}
+use Rattle.tables.specs.Decode.{rowCount, operationOf, kindAt, xAt, yAt, zAt, memberAt, firstAtomAt, formulaAt, atomPlace, byteAt, relOf, leftAt, rightAt, allRows, methodCount, ensuresAt, fieldCountAt}
 use Rattle.tables.specs.Tables.{Tables}
 use Rattle.tables.specs.Stores.{SameTables}
 use Rattle.run_steps.specs.declared.Turn.{Turn}
 use Rattle.run_heap.specs.Views.{frameAt, variableAt, savedHolder, savedRow, methodOf, cellValue, cellHolder, classIn, firstIn, cellOf, holderOf, ObjectFits, stopOf}
+
+-- the kinds of rows, by their numbers in the tables
+abbrev pub set-kind : ℕ
+set-kind = 8
+
+abbrev pub let-kind : ℕ
+let-kind = 9
+
+abbrev pub new-kind : ℕ
+new-kind = 10
+
+abbrev pub call-kind : ℕ
+call-kind = 11
+
+abbrev pub return-kind : ℕ
+return-kind = 12
+
+abbrev pub assert-kind : ℕ
+assert-kind = 13
+
+abbrev pub release-kind : ℕ
+release-kind = 14
+
+abbrev pub if-kind : ℕ
+if-kind = 15
+
+abbrev pub else-kind : ℕ
+else-kind = 16
+
+abbrev pub join-kind : ℕ
+join-kind = 17
+
+abbrev pub end-kind : ℕ
+end-kind = 18
 
 -- so many objects with so many fields stand for the heap; no cell is held by a number above `holders`
 pub record HeapIs (w : List ℕ) (objects fields holders : ℕ) (h : Heap) : Type 0 where
@@ -46,7 +82,7 @@ EnsuresIs w n F = (n ≡ 0) ⊎ ((methodOf w n < methodCount w) × (F .ensures �
 pub record CallerIs (w : List ℕ) (objects n bound : ℕ) (F : Frame) : Type 0 where
   pub frame : FrameIs w objects (frameAt n) (savedHolder w n) (savedRow w n) F
   pub below : savedHolder w n < bound
-  pub at-call : kindAt w (savedRow w n) ≡ 11
+  pub at-call : kindAt w (savedRow w n) ≡ call-kind
   pub ensures : EnsuresIs w n F
 
 unfoldable pub CallersAre : List ℕ → ℕ → ℕ → List Frame → Type 0
@@ -103,15 +139,47 @@ abbrev pub stepped : Machine → ℕ → Machine
 stepped c row = atRow c row (c .steps + 1)
 
 -- a state is represented, and a further step can be counted
-pub record Ready (w : List ℕ) (c : Machine) : Type 0 where
+pub record CanStep (w : List ℕ) (c : Machine) : Type 0 where
   pub state : Config
   pub represents : Represents w c state
   pub more : c .steps < 4294967295
 
+-- ROWS
+
 -- the row is no `end`
 abbrev pub NotEnd : List ℕ → Machine → Type 0
-NotEnd w c = kindAt w (c .row) ≡ 18 → ⊥
+NotEnd w c = kindAt w (c .row) ≡ end-kind → ⊥
 
 -- the row is of this kind
 abbrev pub AtKind : List ℕ → Machine → ℕ → Type 0
 AtKind w c k = kindAt w (c .row) ≡ k
+
+-- WHAT THE DEFINITIONS DO at the row, by its operands
+
+abbrev pub setHere : List ℕ → Machine → Config → Step
+setHere w c m = took (setStep (xAt w (c .row)) (memberAt w (c .row)) (yAt w (c .row)) m)
+
+abbrev pub letHere : List ℕ → Machine → Config → Step
+letHere w c m = took (assignStep (xAt w (c .row)) (rightAt w (firstAtomAt w (c .row))) m)
+
+abbrev pub computeHere : List ℕ → Machine → Config → Step
+computeHere w c m = took (computeStep (operationOf (kindAt w (c .row))) (xAt w (c .row)) (yAt w (c .row)) (zAt w (c .row)) m)
+
+abbrev pub returnHere : List ℕ → Machine → Config → Step
+returnHere w c m = took (assignStep result-variable (var (xAt w (c .row))) m)
+
+abbrev pub assertHere : List ℕ → Machine → Config → Step
+assertHere w c m = took (assertStep (formulaAt w (c .row)) m)
+
+abbrev pub releaseHere : List ℕ → Machine → Config → Step
+releaseHere w c m = took (releaseStep (formulaAt w (c .row)) m)
+
+-- with the condition that is the atom a
+abbrev pub ifOn : List ℕ → ℕ → Config → Step
+ifOn w a m = took (ifStep (allRows w) (relOf (byteAt w (atomPlace a))) (leftAt w a) (rightAt w a) m)
+
+abbrev pub ifHere : List ℕ → Machine → Config → Step
+ifHere w c = ifOn w (firstAtomAt w (c .row))
+
+abbrev pub elseHere : List ℕ → Config → Step
+elseHere w m = on (elseStep (allRows w) m)

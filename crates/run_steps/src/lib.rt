@@ -6,15 +6,16 @@ use run_footprint::Truth;
 use run_heap::Fault;
 use run_heap::Read;
 use run_heap::Spot;
+use run_numbers::Computed;
 use tables::Layout;
 ghost use mathlib.Core.Path.{_≡_};
 ghost use mathlib.Core.List.{[]};
 ghost use Prim.Native.Nat.{_+_, _*_, _<_};
+ghost use lib.Dec.{T};
 ghost use lib.ListN.{length};
-ghost use Rattle.tables.specs.Decode.{allRows, leftAt, rightAt, relOf, byteAt, atomPlace, xAt, yAt, memberAt, firstAtomAt, formulaAt};
-ghost use Rattle.rules.specs.Machine.{took, on, elseStep, setStep, assignStep, ifStep, assertStep, releaseStep};
-ghost use Rattle.rules.specs.Syntax.{var, result-variable};
-ghost use Rattle.run_steps.specs.States.{Ready, NotEnd, AtKind, Does, stepped};
+ghost use Rattle.rules.specs.Grammar.{isComputing};
+ghost use Rattle.tables.specs.Decode.{kindAt, formulaAt};
+ghost use Rattle.run_steps.specs.States.{CanStep, NotEnd, AtKind, Does, stepped, set-kind, let-kind, return-kind, if-kind, else-kind, setHere, letHere, computeHere, returnHere, assertHere, releaseHere, ifHere, elseHere};
 ghost use Rattle.run_heap.specs.Views.{viewOf};
 ghost use Rattle.run_footprint.specs.Footprints.{takeIn, footprint-cells, TookUpTo};
 
@@ -43,7 +44,7 @@ fn next(c: Machine, row: u32) -> Machine
 
 // What the formula of the row takes.
 fn row_footprint(work: &[u8], c: Machine, cells: &mut Cells) -> Took
-    requires { ⌜ Ready (now work) c × (length (now cells) ≡ footprint-cells) ⌝ }
+    requires { ⌜ CanStep (now work) c × (length (now cells) ≡ footprint-cells) ⌝ }
     ensures { λ r. ⌜ TookUpTo r (now (cells .exit)) footprint-cells (takeIn (now (work .entry)) (viewOf c) (formulaAt (now (work .entry)) (c .row)) []) ⌝ }
 {
     let row = c.row as usize;
@@ -55,8 +56,8 @@ fn row_footprint(work: &[u8], c: Machine, cells: &mut Cells) -> Took
 
 // `assert` and `join`.
 pub fn assert_step(work: &[u8], c: Machine) -> Turn
-    requires { ⌜ Ready (now work) c × NotEnd (now work) c ⌝ }
-    ensures { λ r. ⌜ Does (now (work .entry)) c (now (work .entry)) r (λ m. took (assertStep (formulaAt (now (work .entry)) (c .row)) m)) ⌝ }
+    requires { ⌜ CanStep (now work) c × NotEnd (now work) c ⌝ }
+    ensures { λ r. ⌜ Does (now (work .entry)) c (now (work .entry)) r (assertHere (now (work .entry)) c) ⌝ }
 {
     let mut cells = [0usize; run_footprint::CELLS];
     match row_footprint(work, c, &mut cells) {
@@ -67,8 +68,8 @@ pub fn assert_step(work: &[u8], c: Machine) -> Turn
 
 // `release`.
 pub fn release_step(work: &mut [u8], c: Machine) -> Turn
-    requires { ⌜ Ready (now work) c × NotEnd (now work) c ⌝ }
-    ensures { λ r. ⌜ Does (now (work .entry)) c (now (work .exit)) r (λ m. took (releaseStep (formulaAt (now (work .entry)) (c .row)) m)) ⌝ }
+    requires { ⌜ CanStep (now work) c × NotEnd (now work) c ⌝ }
+    ensures { λ r. ⌜ Does (now (work .entry)) c (now (work .exit)) r (releaseHere (now (work .entry)) c) ⌝ }
 {
     let mut cells = [0usize; run_footprint::CELLS];
     match row_footprint(work, c, &mut cells) {
@@ -82,8 +83,8 @@ pub fn release_step(work: &mut [u8], c: Machine) -> Turn
 
 // `if`: "a false `if` goes to the line after its `else`".
 pub fn if_step(work: &[u8], c: Machine) -> Turn
-    requires { ⌜ Ready (now work) c × AtKind (now work) c 15 ⌝ }
-    ensures { λ r. ⌜ Does (now (work .entry)) c (now (work .entry)) r (λ m. took (ifStep (allRows (now (work .entry))) (relOf (byteAt (now (work .entry)) (atomPlace (firstAtomAt (now (work .entry)) (c .row))))) (leftAt (now (work .entry)) (firstAtomAt (now (work .entry)) (c .row))) (rightAt (now (work .entry)) (firstAtomAt (now (work .entry)) (c .row))) m)) ⌝ }
+    requires { ⌜ CanStep (now work) c × AtKind (now work) c if-kind ⌝ }
+    ensures { λ r. ⌜ Does (now (work .entry)) c (now (work .entry)) r (ifHere (now (work .entry)) c) ⌝ }
 {
     let row = c.row as usize;
     let a = tables::first_atom_at(work, row);
@@ -96,8 +97,8 @@ pub fn if_step(work: &[u8], c: Machine) -> Turn
 
 // `else`: "on to its `join`".
 pub fn else_step(work: &[u8], c: Machine) -> Turn
-    requires { ⌜ Ready (now work) c × AtKind (now work) c 16 ⌝ }
-    ensures { λ r. ⌜ Does (now (work .entry)) c (now (work .entry)) r (λ m. on (elseStep (allRows (now (work .entry))) m)) ⌝ }
+    requires { ⌜ CanStep (now work) c × AtKind (now work) c else-kind ⌝ }
+    ensures { λ r. ⌜ Does (now (work .entry)) c (now (work .entry)) r (elseHere (now (work .entry))) ⌝ }
 {
     let row = c.row as usize;
     Turn::On(next(c, tables::target_at(work, row) as u32))
@@ -105,8 +106,8 @@ pub fn else_step(work: &[u8], c: Machine) -> Turn
 
 // `let`.
 pub fn let_step(work: &mut [u8], c: Machine) -> Turn
-    requires { ⌜ Ready (now work) c × AtKind (now work) c 9 ⌝ }
-    ensures { λ r. ⌜ Does (now (work .entry)) c (now (work .exit)) r (λ m. took (assignStep (xAt (now (work .entry)) (c .row)) (rightAt (now (work .entry)) (firstAtomAt (now (work .entry)) (c .row))) m)) ⌝ }
+    requires { ⌜ CanStep (now work) c × AtKind (now work) c let-kind ⌝ }
+    ensures { λ r. ⌜ Does (now (work .entry)) c (now (work .exit)) r (letHere (now (work .entry)) c) ⌝ }
 {
     let row = c.row as usize;
     let v = run_heap::view_of(c);
@@ -122,10 +123,30 @@ pub fn let_step(work: &mut [u8], c: Machine) -> Turn
     }
 }
 
+// `add` and `sub`.
+pub fn compute_step(work: &mut [u8], c: Machine) -> Turn
+    requires { ⌜ CanStep (now work) c × T (isComputing (kindAt (now work) (c .row))) ⌝ }
+    ensures { λ r. ⌜ Does (now (work .entry)) c (now (work .exit)) r (computeHere (now (work .entry)) c) ⌝ }
+{
+    let row = c.row as usize;
+    let v = run_heap::view_of(c);
+    let b = v.base;
+    let y = run_heap::variable(work, b, tables::y_at(work, row));
+    let z = run_heap::variable(work, b, tables::z_at(work, row));
+    match run_numbers::compute(tables::kind_at(work, row), y, z) {
+        Computed::Value(n) => {
+            let x = tables::x_at(work, row);
+            tables::put_word(work, b + x * 4, n);
+            Turn::On(next(c, c.row + 1))
+        }
+        Computed::Overflow => Turn::Stopped(Fault::Overflow),
+    }
+}
+
 // `return`: "does this for `result`; the body goes on".
 pub fn return_step(work: &mut [u8], c: Machine) -> Turn
-    requires { ⌜ Ready (now work) c × AtKind (now work) c 12 ⌝ }
-    ensures { λ r. ⌜ Does (now (work .entry)) c (now (work .exit)) r (λ m. took (assignStep result-variable (var (xAt (now (work .entry)) (c .row))) m)) ⌝ }
+    requires { ⌜ CanStep (now work) c × AtKind (now work) c return-kind ⌝ }
+    ensures { λ r. ⌜ Does (now (work .entry)) c (now (work .exit)) r (returnHere (now (work .entry)) c) ⌝ }
 {
     let row = c.row as usize;
     let v = run_heap::view_of(c);
@@ -138,8 +159,8 @@ pub fn return_step(work: &mut [u8], c: Machine) -> Turn
 
 // `set`: "first tests `acc x f`".
 pub fn set_step(work: &mut [u8], c: Machine) -> Turn
-    requires { ⌜ Ready (now work) c × AtKind (now work) c 8 ⌝ }
-    ensures { λ r. ⌜ Does (now (work .entry)) c (now (work .exit)) r (λ m. took (setStep (xAt (now (work .entry)) (c .row)) (memberAt (now (work .entry)) (c .row)) (yAt (now (work .entry)) (c .row)) m)) ⌝ }
+    requires { ⌜ CanStep (now work) c × AtKind (now work) c set-kind ⌝ }
+    ensures { λ r. ⌜ Does (now (work .entry)) c (now (work .exit)) r (setHere (now (work .entry)) c) ⌝ }
 {
     let row = c.row as usize;
     let v = run_heap::view_of(c);

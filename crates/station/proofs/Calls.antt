@@ -9,10 +9,10 @@ use borrow.Author.Tests.{eq-eqb, ne-eqb}
 use Rattle.rules.specs.Limits.{work-bytes, results-bytes}
 use Rattle.rules.specs.Calls.{checkText, runText}
 use Rattle.rules.specs.Areas.{packed, cleared, resultBytes, checkCall, runCall}
-use Rattle.station.specs.declared.Found.{Found}
+use Rattle.station.specs.declared.Reply.{Reply}
 use Rattle.station.specs.Station.{numbersIn, runNumbers}
 
-pack-is : {f : Found} {p : ℕ × ℕ} {r : ℕ} → numbersIn f ≡ p → r ≡ packed (f .number) (f .line) → r ≡ packed (p .0) (p .1)
+pack-is : {f : Reply} {p : ℕ × ℕ} {r : ℕ} → numbersIn f ≡ p → r ≡ packed (f .number) (f .line) → r ≡ packed (p .0) (p .1)
 pack-is e i = i ∙ ap (λ (p : ℕ × ℕ). packed (p .0) (p .1)) e
 
 -- an area of this length, all zero
@@ -27,7 +27,7 @@ module _ (t w : List ℕ) where
   wrong-check n = (sym (rw (ne-eqb (length w) work-bytes n)), sym (rw (ne-eqb (length w) work-bytes n)))
 
   pub right-check :
-      length w ≡ work-bytes → {f : Found} (v : List ℕ) {u : List ℕ} {r : ℕ} → numbersIn f ≡ checkText t → length v ≡ work-bytes → u ≡ cleared v →
+      length w ≡ work-bytes → {f : Reply} (v : List ℕ) {u : List ℕ} {r : ℕ} → numbersIn f ≡ checkText t → length v ≡ work-bytes → u ≡ cleared v →
       r ≡ packed (f .number) (f .line) → (r ≡ checkCall t w .returned) × (u ≡ checkCall t w .work)
   unfolding checkCall
   right-check n v e s c p = rw (eq-eqb (length w) work-bytes n) (pack-is e p, cleared-is w v n s c)
@@ -48,7 +48,7 @@ module _ (t w : List ℕ) (k : ℕ) (b : List ℕ) where
   wrong-results m n = wrong (rw (eq-eqb (length w) work-bytes m, ne-eqb (length b) results-bytes n))
 
   pub right-run :
-      length w ≡ work-bytes → length b ≡ results-bytes → {f : Found} (v : List ℕ) {u d : List ℕ} {r : ℕ} → numbersIn f ≡ runNumbers (runText t k) →
+      length w ≡ work-bytes → length b ≡ results-bytes → {f : Reply} (v : List ℕ) {u d : List ℕ} {r : ℕ} → numbersIn f ≡ runNumbers (runText t k) →
       d ≡ resultBytes (runText t k) → length v ≡ work-bytes → u ≡ cleared v → r ≡ packed (f .number) (f .line) → Right r u d
   unfolding runCall
   right-run m n v e i s c p = rw (eq-eqb (length w) work-bytes m, eq-eqb (length b) results-bytes n) (pack-is e p, cleared-is w v m s c, i)

@@ -25,7 +25,7 @@ use Rattle.checker.specs.Checked.{verdictOf}
 use Rattle.machine.specs.declared.Ran.{Ran}
 use Rattle.machine.specs.Runs.{number, mainValues, RanAs}
 use Rattle.printer.proofs.Calls.{fits}
-use Rattle.station.specs.declared.Found.{Found}
+use Rattle.station.specs.declared.Reply.{Reply}
 use Rattle.station.specs.Station.{numbersIn, runNumbers}
 
 -- THE READER'S ANSWER BY ITS CASES
@@ -145,14 +145,14 @@ unfolding runItems outcomeResult
 run-small (accepted items) k = ending-small _
 run-small (refused r l) k = refusal-small r
 
-pub check-fits : (t : List ℕ) (f : Found) → numbersIn f ≡ checkText t → (f .number < 65536) × (f .line < 65536)
+pub check-fits : (t : List ℕ) (f : Reply) → numbersIn f ≡ checkText t → (f .number < 65536) × (f .line < 65536)
 unfolding checkText
 check-fits t f e =
     let n : f .number ≡ checkText t .0 = ap (λ (p : ℕ × ℕ). p .0) e in
     let l : f .line ≡ checkText t .1 = ap (λ (p : ℕ × ℕ). p .1) e in
     (subst (λ (m : ℕ). m < 65536) (sym n) (verdict-small _), subst (λ (m : ℕ). m < 65536) (sym l) (fits t 0 (omega arith) .check-line))
 
-pub run-fits : (t : List ℕ) (k : ℕ) (f : Found) → k < 4294967296 → numbersIn f ≡ runNumbers (runText t k) → (f .number < 65536) × (f .line < 65536)
+pub run-fits : (t : List ℕ) (k : ℕ) (f : Reply) → k < 4294967296 → numbersIn f ≡ runNumbers (runText t k) → (f .number < 65536) × (f .line < 65536)
 unfolding runText
 run-fits t k f h e =
     let n : f .number ≡ runText t k .number = ap (λ (p : ℕ × ℕ). p .0) e in

@@ -15,7 +15,7 @@ ghost use Rattle.rules.specs.Answers.{refusalNumber, then};
 ghost use Rattle.rules.specs.Rules.{checkProgram};
 ghost use Rattle.rules.specs.Machine.{runProgram};
 ghost use Rattle.rules.specs.Calls.{verdictNumbers, checkText, wholeHeap, outcomeResult, runText};
-ghost use Rattle.rules.specs.Areas.{packed, cleared, wordsBytes, resultBytes, checkCall, runCall};
+ghost use Rattle.rules.specs.Areas.{packed, cleared, wordsBytes};
 ghost use Rattle.rules.specs.Printed.{printed};
 ghost use Rattle.tables.specs.Decode.{programIn};
 ghost use Rattle.tables.specs.Tables.{Tables};
@@ -25,10 +25,10 @@ ghost use Rattle.checker.specs.Checked as Checker;
 ghost use Rattle.machine.specs.Runs.{mainValues};
 ghost use Rattle.printer.specs.Writes.{Prints};
 ghost use Rattle.printer.specs.Answers.{out-bytes};
-ghost use Rattle.station.specs.Station.{numbersIn, runNumbers};
+ghost use Rattle.station.specs.Station.{numbersIn, RunAs, CheckReturns, RunReturns};
 
 // A number of document 01's table, and the line that it goes with.
-pub struct Found {
+pub struct Reply {
     pub number: u32,
     pub line: usize,
 }
@@ -64,7 +64,7 @@ fn checking_number(a: Answer) -> u32
 }
 
 // number × 65,536 + line
-fn pack(f: Found) -> u32
+fn pack(f: Reply) -> u32
     requires { ⌜ (f .number < 65536) × (f .line < 65536) ⌝ }
     ensures { λ r. ⌜ r ≡ packed (f .number) (f .line) ⌝ }
 {
@@ -101,27 +101,27 @@ fn put_results(work: &[u8], results: &mut [u8], steps: u32)
 // CHECK
 
 // Number 10, then the rules, over the tables of a text that is taken; `unframed` is the first line that number 10 refuses, or 0.
-fn check_tables(work: &[u8], unframed: usize) -> Found
+fn check_tables(work: &[u8], unframed: usize) -> Reply
     requires { ⌜ Tables (now work) ⌝ }
     ensures { λ f. ⌜ numbersIn f ≡ verdictNumbers (then (framedVerdict unframed) (λ u. checkProgram (programIn (now (work .entry))))) ⌝ }
 {
     if unframed != 0 {
-        return Found {
+        return Reply {
             number: 10,
             line: unframed,
         };
     }
     let v = checker::check(work);
     match v {
-        Verdict::Accepted => Found { number: 0, line: 0 },
+        Verdict::Accepted => Reply { number: 0, line: 0 },
         Verdict::Refused(why, line) => {
             let number = checking_number(why);
-            Found { number, line }
+            Reply { number, line }
         }
     }
 }
 
-fn check_text(text: &[u8], work: &mut [u8]) -> Found
+fn check_text(text: &[u8], work: &mut [u8]) -> Reply
     requires { ⌜ length (now work) ≡ work-bytes ⌝ }
     ensures { λ f. ⌜ (numbersIn f ≡ checkText (now (text .entry))) × (length (now (work .exit)) ≡ work-bytes) ⌝ }
 {
@@ -129,7 +129,7 @@ fn check_text(text: &[u8], work: &mut [u8]) -> Found
     match r {
         Reading::Refused(why, line) => {
             let number = reading_number(why);
-            Found { number, line }
+            Reply { number, line }
         }
         Reading::Taken(unframed) => check_tables(work, unframed),
     }
@@ -138,7 +138,7 @@ fn check_text(text: &[u8], work: &mut [u8]) -> Found
 // Is the text a script that keeps to its permissions? The number and line of document 01's table, as number × 65,536 + line.
 #[no_mangle]
 pub extern "C" fn check(text: &[u8], work: &mut [u8]) -> u32
-    ensures { λ r. ⌜ (r ≡ checkCall (now (text .entry)) (now (work .entry)) .returned) × (now (work .exit) ≡ checkCall (now (text .entry)) (now (work .entry)) .work) ⌝ }
+    ensures { λ r. ⌜ CheckReturns (now (text .entry)) (now (work .entry)) r (now (work .exit)) ⌝ }
 {
     if work.len() != Machine::WORK_BYTES {
         return 65536;
@@ -150,28 +150,28 @@ pub extern "C" fn check(text: &[u8], work: &mut [u8]) -> u32
 
 // RUN
 
-fn run_tables(work: &mut [u8], steps: u32, results: &mut [u8]) -> Found
+fn run_tables(work: &mut [u8], steps: u32, results: &mut [u8]) -> Reply
     requires { ⌜ Tables (now work) × (length (now results) ≡ results-bytes) ⌝ }
-    ensures { λ f. ⌜ (numbersIn f ≡ runNumbers (outcomeResult (runProgram wholeHeap (programIn (now (work .entry))) steps))) × (now (results .exit) ≡ resultBytes (outcomeResult (runProgram wholeHeap (programIn (now (work .entry))) steps))) × (length (now (work .exit)) ≡ work-bytes) ⌝ }
+    ensures { λ f. ⌜ RunAs (outcomeResult (runProgram wholeHeap (programIn (now (work .entry))) steps)) f (now (results .exit)) (now (work .exit)) ⌝ }
 {
     let r = machine::run(work, steps, Machine::OBJECTS as u32, Machine::FIELDS as u32);
     put_results(work, results, r.steps);
     let ending = r.ending;
     let number = machine::number_of(ending);
     let line = r.line as usize;
-    Found { number, line }
+    Reply { number, line }
 }
 
-fn run_text(text: &[u8], work: &mut [u8], steps: u32, results: &mut [u8]) -> Found
+fn run_text(text: &[u8], work: &mut [u8], steps: u32, results: &mut [u8]) -> Reply
     requires { ⌜ (length (now work) ≡ work-bytes) × (length (now results) ≡ results-bytes) ⌝ }
-    ensures { λ f. ⌜ (numbersIn f ≡ runNumbers (runText (now (text .entry)) steps)) × (now (results .exit) ≡ resultBytes (runText (now (text .entry)) steps)) × (length (now (work .exit)) ≡ work-bytes) ⌝ }
+    ensures { λ f. ⌜ RunAs (runText (now (text .entry)) steps) f (now (results .exit)) (now (work .exit)) ⌝ }
 {
     let r = reader::read(text, work);
     match r {
         Reading::Refused(why, line) => {
             clear(results);
             let number = reading_number(why);
-            Found { number, line }
+            Reply { number, line }
         }
         Reading::Taken(_) => run_tables(work, steps, results),
     }
@@ -180,7 +180,7 @@ fn run_text(text: &[u8], work: &mut [u8], steps: u32, results: &mut [u8]) -> Fou
 // Runs main for at most so many steps: the number and line as for check; the steps taken and main's values in `results`.
 #[no_mangle]
 pub extern "C" fn run(text: &[u8], work: &mut [u8], steps: u32, results: &mut [u8]) -> u32
-    ensures { λ r. ⌜ (r ≡ runCall (now (text .entry)) (now (work .entry)) steps (now (results .entry)) .returned) × (now (work .exit) ≡ runCall (now (text .entry)) (now (work .entry)) steps (now (results .entry)) .work) × (now (results .exit) ≡ runCall (now (text .entry)) (now (work .entry)) steps (now (results .entry)) .results) ⌝ }
+    ensures { λ r. ⌜ RunReturns (now (text .entry)) (now (work .entry)) steps (now (results .entry)) r (now (work .exit)) (now (results .exit)) ⌝ }
 {
     if work.len() != Machine::WORK_BYTES {
         return 65536;

@@ -48,5 +48,5 @@ unfoldable pub power : ℕ → ℕ
 power zero = 1
 power (suc d) = power d * 256
 
-abbrev pub Fits : ℕ → ℕ → Type 0
-Fits d s = (d ≤ 4) × (s < power d)
+abbrev pub StackFits : ℕ → ℕ → Type 0
+StackFits d s = (d ≤ 4) × (s < power d)

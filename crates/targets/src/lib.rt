@@ -8,7 +8,7 @@ ghost use mathlib.Core.Path.{_≡_};
 ghost use Prim.Native.Nat.{_+_, _≤_, _<_};
 ghost use mathlib.Core.List.{[]};
 ghost use lib.ListN.{length};
-ghost use Rattle.targets.specs.Targets.{Fits, stackOf, pushed, popped, replaced, openAfter, putTarget, workAfter, targetsFrom};
+ghost use Rattle.targets.specs.Targets.{StackFits, stackOf, pushed, popped, replaced, openAfter, putTarget, workAfter, targetsFrom};
 ghost use Rattle.write_rows.specs.Puts.{putHeader};
 
 // The rows of the open branches: how many, and their numbers in base 256, the innermost lowest.
@@ -18,8 +18,8 @@ pub struct Open {
 }
 
 fn push(o: Open, i: usize) -> Open
-    requires { ⌜ (Fits (o .depth) (o .rows)) × (i < 256) ⌝ }
-    ensures { λ r. ⌜ (stackOf (r .depth) (r .rows) ≡ pushed i (stackOf (o .depth) (o .rows))) × (Fits (r .depth) (r .rows)) ⌝ }
+    requires { ⌜ (StackFits (o .depth) (o .rows)) × (i < 256) ⌝ }
+    ensures { λ r. ⌜ (stackOf (r .depth) (r .rows) ≡ pushed i (stackOf (o .depth) (o .rows))) × (StackFits (r .depth) (r .rows)) ⌝ }
 {
     let depth = o.depth;
     if depth < Machine::BRANCHES {
@@ -32,8 +32,8 @@ fn push(o: Open, i: usize) -> Open
 }
 
 fn pop(o: Open) -> Open
-    requires { ⌜ Fits (o .depth) (o .rows) ⌝ }
-    ensures { λ r. ⌜ (stackOf (r .depth) (r .rows) ≡ popped (stackOf (o .depth) (o .rows))) × (Fits (r .depth) (r .rows)) ⌝ }
+    requires { ⌜ StackFits (o .depth) (o .rows) ⌝ }
+    ensures { λ r. ⌜ (stackOf (r .depth) (r .rows) ≡ popped (stackOf (o .depth) (o .rows))) × (StackFits (r .depth) (r .rows)) ⌝ }
 {
     let depth = o.depth;
     if depth == 0 {
@@ -46,8 +46,8 @@ fn pop(o: Open) -> Open
 }
 
 fn replace(o: Open, i: usize) -> Open
-    requires { ⌜ (Fits (o .depth) (o .rows)) × (i < 256) ⌝ }
-    ensures { λ r. ⌜ (stackOf (r .depth) (r .rows) ≡ replaced i (stackOf (o .depth) (o .rows))) × (Fits (r .depth) (r .rows)) ⌝ }
+    requires { ⌜ (StackFits (o .depth) (o .rows)) × (i < 256) ⌝ }
+    ensures { λ r. ⌜ (stackOf (r .depth) (r .rows) ≡ replaced i (stackOf (o .depth) (o .rows))) × (StackFits (r .depth) (r .rows)) ⌝ }
 {
     let depth = o.depth;
     if depth == 0 {
@@ -61,8 +61,8 @@ fn replace(o: Open, i: usize) -> Open
 
 // The open rows after row i of kind k.
 fn open_after(k: u8, i: usize, o: Open) -> Open
-    requires { ⌜ (Fits (o .depth) (o .rows)) × (i < 256) ⌝ }
-    ensures { λ r. ⌜ (stackOf (r .depth) (r .rows) ≡ openAfter k i (stackOf (o .depth) (o .rows))) × (Fits (r .depth) (r .rows)) ⌝ }
+    requires { ⌜ (StackFits (o .depth) (o .rows)) × (i < 256) ⌝ }
+    ensures { λ r. ⌜ (stackOf (r .depth) (r .rows) ≡ openAfter k i (stackOf (o .depth) (o .rows))) × (StackFits (r .depth) (r .rows)) ⌝ }
 {
     match k {
         Kind::IF => push(o, i),

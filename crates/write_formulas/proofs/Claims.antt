@@ -20,7 +20,7 @@ use Rattle.tables.specs.Decode as Decode
 use Rattle.tables.specs.Decode.{byteAt, atomPlace, methodPlace, atomsFrom, stmtOf}
 use Rattle.tables.specs.Stores.{Kept}
 use Rattle.read_scopes.specs.declared.Names.{Names}
-use Rattle.read_scopes.specs.Meanings.{declarationsIn, variablesIn}
+use Rattle.read_scopes.specs.Meanings.{AreaFits, declarationsIn, variablesIn}
 use Rattle.rules.specs.Syntax.{Program}
 use Rattle.rules.specs.Reading.{withItem}
 use Rattle.write_rows.specs.Puts.{putRow, putRequires, putEnsures, RowBytes}
@@ -32,7 +32,7 @@ use Rattle.write_rows.proofs.Methods.{requires-written, ensures-written, requir
 use Rattle.write_rows.specs.Holds.{Holds, Building}
 use Rattle.write_rows.proofs.Rows.{row-written, row-kept, row-names, row-length, row-bytes}
 use Rattle.resolve_atoms.specs.declared.Put.{Put}
-use Rattle.resolve_atoms.specs.Written.{formulaAfter, fitsAfter, Ready, FormulaFollows, FormulaPut, FormulaTried, Unfit}
+use Rattle.resolve_atoms.specs.Written.{formulaAfter, fitsAfter, FormulaFollows, FormulaPut, FormulaTried, Unfit}
 use Rattle.write_formulas.specs.Claims.{isClaim, claimOf, claimRow, ClaimPut, HeaderPut, ClaimTried, HeaderTried}
 
 pub claim-cases : (k : ℕ) → isClaim k ≡ true → (k ≡ 13) ⊎ ((k ≡ 14) ⊎ (k ≡ 17))
@@ -78,7 +78,7 @@ formula-stays u v {D} {F} {n} {m} {φ} b k =
     let e : m - n ≡ length φ = omega (arith, b .place) in
     atoms-kept u v m k n (m - n) (omega (arith, b .place)) ∙ (ap (atomsFrom u n) e ∙ b .mean)
 
-module _ {t w : List ℕ} {c : Names} {r n : ℕ} (k i l : ℕ) (ready : Ready t w c) (x : FormulaFollows t w c r n) (claim : isClaim k ≡ true) where
+module _ {t w : List ℕ} {c : Names} {r n : ℕ} (k i l : ℕ) (ready : AreaFits w c) (x : FormulaFollows t w c r n) (claim : isClaim k ≡ true) where
   short : length (formulaAfter t w c r) ≤ 8
   short = formula-short x
 

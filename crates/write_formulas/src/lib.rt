@@ -7,7 +7,8 @@ ghost use mathlib.Core.Bool.{true};
 ghost use Prim.Native.Nat.{_<_};
 ghost use Rattle.rules.specs.Limits.{most-statements, most-methods};
 ghost use Rattle.rules.specs.Items.{aRequires, anEnsures};
-ghost use Rattle.resolve_atoms.specs.Written.{Ready, FormulaFollows};
+ghost use Rattle.read_scopes.specs.Meanings.{AreaFits};
+ghost use Rattle.resolve_atoms.specs.Written.{FormulaFollows};
 ghost use Rattle.write_formulas.specs.Claims.{isClaim, ClaimTried, HeaderTried};
 
 // Writes the formula after r as the atoms from n on, and the statement of this kind with it as the row i; gives the number after the
@@ -22,7 +23,7 @@ pub fn put_claim(
     n: usize,
     line: usize,
 ) -> Put
-    requires { ⌜ Ready (now text) (now work) c × FormulaFollows (now text) (now work) c r n × (isClaim kind ≡ true) × (i < most-statements) × (line < 65536) ⌝ }
+    requires { ⌜ AreaFits (now work) c × FormulaFollows (now text) (now work) c r n × (isClaim kind ≡ true) × (i < most-statements) × (line < 65536) ⌝ }
     ensures { λ m. ⌜ ClaimTried (now (text .entry)) (now (work .entry)) c kind r i n line (now (work .exit)) m ⌝ }
 {
     let p = resolve_atoms::put_formula(text, work, r, n, c);
@@ -48,7 +49,7 @@ pub fn put_claim(
 
 // Writes the formula after r as the atoms from n on, and as the requires of the method m.
 pub fn put_requires(text: &[u8], work: &mut [u8], c: Names, r: usize, m: usize, n: usize) -> Put
-    requires { ⌜ Ready (now text) (now work) c × FormulaFollows (now text) (now work) c r n × (m < most-methods) ⌝ }
+    requires { ⌜ AreaFits (now work) c × FormulaFollows (now text) (now work) c r n × (m < most-methods) ⌝ }
     ensures { λ e. ⌜ HeaderTried aRequires (now (text .entry)) (now (work .entry)) c r m n (now (work .exit)) e ⌝ }
 {
     let p = resolve_atoms::put_formula(text, work, r, n, c);
@@ -61,7 +62,7 @@ pub fn put_requires(text: &[u8], work: &mut [u8], c: Names, r: usize, m: usize, 
 
 // Writes it as the ensures of the method m.
 pub fn put_ensures(text: &[u8], work: &mut [u8], c: Names, r: usize, m: usize, n: usize) -> Put
-    requires { ⌜ Ready (now text) (now work) c × FormulaFollows (now text) (now work) c r n × (m < most-methods) ⌝ }
+    requires { ⌜ AreaFits (now work) c × FormulaFollows (now text) (now work) c r n × (m < most-methods) ⌝ }
     ensures { λ e. ⌜ HeaderTried anEnsures (now (text .entry)) (now (work .entry)) c r m n (now (work .exit)) e ⌝ }
 {
     let p = resolve_atoms::put_formula(text, work, r, n, c);

@@ -19,7 +19,7 @@ use Rattle.read_fields.specs.Cuts.{more}
 use Rattle.read_grammar.specs.Rows.{kindNumbered}
 use Rattle.tables.specs.Decode.{byteAt}
 use Rattle.read_scopes.specs.declared.Names as Counts
-use Rattle.read_scopes.specs.Meanings.{Fits, declarationsIn, variablesIn}
+use Rattle.read_scopes.specs.Meanings.{AreaFits, NamesFit, declarationsIn, variablesIn}
 use Rattle.rules.specs.Syntax.{Program}
 use Rattle.rules.specs.Reading.{withItem}
 use Rattle.tables.specs.declared.Operands.{Operands}
@@ -29,8 +29,8 @@ use Rattle.write_rows.specs.Holds.{Holds}
 use Rattle.write_rows.proofs.Rows.{row-bytes, row-names, row-length}
 use Rattle.resolve_pass.specs.Passes.{counts, isGood}
 use Rattle.read_declarations.specs.Declares.{lineWith}
-use Rattle.write_plain.specs.declared.Tried.{Tried}
-use Rattle.write_plain.specs.Plain.{setRow, newRow, callRow, returnRow, plainRow, plainGood, RowTried, Ready, isPlain, PlainFollows, PlainPut, PlainTried}
+use Rattle.write_plain.specs.declared.TriedRow.{TriedRow}
+use Rattle.write_plain.specs.Plain.{setRow, newRow, callRow, returnRow, plainRow, plainGood, RowTried, isPlain, PlainFollows, PlainPut, PlainTried}
 use Rattle.write_plain.proofs.Goods.{set-good, new-good, call-good, return-good, else-good, end-good}
 use Rattle.write_plain.proofs.Rows.{set-ok, new-ok, call-ok, return-ok, empty-ok, set-written, new-written, call-written, return-written, else-written, end-written}
 
@@ -50,7 +50,7 @@ plain-kinds P k e a b c d f g =
     (λ e. either k 12 _ e (λ q. subst P (sym q) d)
     (λ e. either k 16 _ e (λ q. subst P (sym q) f) (λ e. subst P (sym (eqb-true k 18 e)) g)))))
 
-module _ (t w : List ℕ) (c : Counts.Names) (fits : Fits c) (l : ℕ) (ws : List Name) where
+module _ (t w : List ℕ) (c : Counts.Names) (fits : NamesFit c) (l : ℕ) (ws : List Name) where
   abbrev Γ : Declarations
   Γ = declarationsIn t w c
 
@@ -114,15 +114,15 @@ module _ (t w : List ℕ) (c : Counts.Names) (fits : Fits c) (l : ℕ) (ws : Lis
       (λ x. end-written t w c fits n l F room h ws)
 
 -- THE ANSWER
-pub row-is : (b : Bool) (o p : Operands) (q : Tried) → q ≡ Tried.Row p → RowTried b o q → (b ≡ true) × (p ≡ o)
+pub row-is : (b : Bool) (o p : Operands) (q : TriedRow) → q ≡ TriedRow.Row p → RowTried b o q → (b ≡ true) × (p ≡ o)
 unfolding RowTried
 row-is b o p q e h = subst (RowTried b o) e h
 
-pub row-none : (b : Bool) (o : Operands) (q : Tried) → q ≡ Tried.Bad → RowTried b o q → b ≡ false
+pub row-none : (b : Bool) (o : Operands) (q : TriedRow) → q ≡ TriedRow.Bad → RowTried b o q → b ≡ false
 unfolding RowTried
 row-none b o q e h = subst (RowTried b o) e h
 
-module _ (t w : List ℕ) (c : Counts.Names) (k r i l : ℕ) (v : List ℕ) (ready : Ready w c) (x : PlainFollows t k r) where
+module _ (t w : List ℕ) (c : Counts.Names) (k r i l : ℕ) (v : List ℕ) (ready : AreaFits w c) (x : PlainFollows t k r) where
   abbrev fields : List Name
   fields = more (drop r t)
 

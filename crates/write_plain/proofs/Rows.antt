@@ -23,7 +23,7 @@ use Rattle.read_fields.specs.Cuts.{more}
 use Rattle.read_scopes.specs.declared.Names as Counts
 use Rattle.read_names.specs.declared.Span.{Span}
 use Rattle.read_names.specs.Rows.{nameIn}
-use Rattle.read_scopes.specs.Meanings.{Fits, declarationsIn, variablesIn}
+use Rattle.read_scopes.specs.Meanings.{NamesFit, declarationsIn, variablesIn}
 use Rattle.read_lookups.proofs.LookUps.{class-any, method-any}
 use Rattle.tables.specs.Layout.{most-names, frame-variables}
 use Rattle.rules.specs.Syntax.{Program}
@@ -52,7 +52,7 @@ fourth {t} {r} x y z u =
     ∙ (getD-drop 1 (drop 1 (drop 1 (more (drop r t)))) 0 []
     ∙ (getD-drop 1 (drop 1 (more (drop r t))) 1 [] ∙ getD-drop 1 (more (drop r t)) 2 [])))
 
-module _ (t w : List ℕ) (c : Counts.Names) (fits : Fits c) (n l : ℕ) where
+module _ (t w : List ℕ) (c : Counts.Names) (fits : NamesFit c) (n l : ℕ) where
   abbrev Γ : Declarations
   Γ = declarationsIn t w c
 

@@ -21,11 +21,11 @@ use Rattle.read_lookups.proofs.LookUps.{class-any, method-any}
 use Rattle.tables.specs.declared.Operands.{Operands}
 use Rattle.read_declarations.specs.Texts.{SpanAfter}
 use Rattle.read_declarations.proofs.Lines.{second, third}
-use Rattle.write_plain.specs.declared.Tried.{Tried}
+use Rattle.write_plain.specs.declared.TriedRow.{TriedRow}
 use Rattle.write_plain.specs.Plain.{bare, setRow, newRow, callRow, returnRow, setGood, newGood, callApart, callKnown, callAgrees, callGood, returnGood, RowTried}
 use Rattle.write_plain.proofs.Rows.{fourth}
 
-pub row-as : (a b : Bool) (o p : Operands) (q : Tried) → a ≡ b → o ≡ p → RowTried a o q → RowTried b p q
+pub row-as : (a b : Bool) (o p : Operands) (q : TriedRow) → a ≡ b → o ≡ p → RowTried a o q → RowTried b p q
 row-as a b o p q e f h = subst (λ z. RowTried z p q) e (subst (λ z. RowTried a z q) f h)
 
 and-assoc : (a b c : Bool) → (a && (b && c)) ≡ ((a && b) && c)
@@ -53,7 +53,7 @@ module _ (t w : List ℕ) (c : Names) (r l : ℕ) where
 
   -- SET
   pub set-tried :
-      {a b d : Span} {x f : Name} {m : Member} {y : ℕ} {g : Bool} {o : Operands} (q : Tried) → SpanAfter t r a →
+      {a b d : Span} {x f : Name} {m : Member} {y : ℕ} {g : Bool} {o : Operands} (q : TriedRow) → SpanAfter t r a →
       SpanAfter t (a .start + a .len) b → SpanAfter t (b .start + b .len) d → x ≡ nameIn t a → f ≡ nameIn t b → MemberIs t Γ vs x f m →
       Looked t w vs (nameIn t d) y →
       g ≡ (m .good && (ltb y 15 && eqName (nameIn t (m .is)) (nameIn t (typeOf w y)))) → o ≡ bare 8 (m .variable) y 0 (m .number) l →
@@ -68,7 +68,7 @@ module _ (t w : List ℕ) (c : Names) (r l : ℕ) where
 
   -- NEW
   pub new-tried :
-      {a b : Span} {D : Name} {x k : ℕ} {g : Bool} {o : Operands} (q : Tried) → SpanAfter t r a → SpanAfter t (a .start + a .len) b →
+      {a b : Span} {D : Name} {x k : ℕ} {g : Bool} {o : Operands} (q : TriedRow) → SpanAfter t r a → SpanAfter t (a .start + a .len) b →
       Looked t w vs (nameIn t a) x → D ≡ nameIn t b → k ≡ classNumber Γ D →
       g ≡ (isLocal x && (not (reserved (nameIn t b)) && (ltb k (c .classes) && eqName (nameIn t (typeOf w x)) (nameIn t b)))) →
       o ≡ bare 10 x 0 0 k l → RowTried g o q → RowTried (newGood Γ vs ws) (newRow Γ vs ws l) q
@@ -138,7 +138,7 @@ module _ (t w : List ℕ) (c : Names) (r l : ℕ) where
           && eqName (sym (Z .type) j) (getD (Γ .methods) (number-is j) noDeclaration .parameterType)
 
       pub call-tried :
-          {g : Bool} {o : Operands} (q : Tried) → callApart Γ vs ws ≡ true → callKnown Γ vs ws ≡ true →
+          {g : Bool} {o : Operands} (q : TriedRow) → callApart Γ vs ws ≡ true → callKnown Γ vs ws ≡ true →
           g ≡ (eqName (nameIn t (typeOf w x)) (getD (Γ .methods) i noDeclaration .result)
           && eqName (nameIn t (typeOf w z)) (getD (Γ .methods) i noDeclaration .parameterType)) →
           o ≡ bare 11 x y z i l → RowTried g o q → RowTried (callGood Γ vs ws) (callRow Γ vs ws l) q
@@ -165,7 +165,7 @@ module _ (t w : List ℕ) (c : Names) (r l : ℕ) where
     return-unknown e j = (R .known ∙ e) j && eqName (variableType vs (getD ws 0 [])) (variableType vs (bytes "result"))
 
     pub return-tried :
-        {s : Span} (k : Span) {g : Bool} {o : Operands} (q : Tried) → ltb x 15 ≡ true → nameIn t k ≡ variableType vs (bytes "result") →
+        {s : Span} (k : Span) {g : Bool} {o : Operands} (q : TriedRow) → ltb x 15 ≡ true → nameIn t k ≡ variableType vs (bytes "result") →
         s ≡ typeOf w x → g ≡ eqName (nameIn t s) (nameIn t k) → o ≡ bare 12 x 0 0 0 l → RowTried g o q →
         RowTried (returnGood Γ vs ws) (returnRow Γ vs ws l) q
     unfolding returnGood returnRow

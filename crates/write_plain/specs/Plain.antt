@@ -3,12 +3,12 @@ use mathlib.Core.Path.{_≡_}
 use mathlib.Core.Bool.{Bool, true, false, not, cond, _&&_, _||_}
 use mathlib.Core.List.{List, []}
 use Prim.Native.Nat.{ℕ, _≤_}
-use lib.Dec.{eqb}
+use lib.Dec.{eqb, ltb}
 use lib.ListN.{length, getD, drop}
 use Rattle.rules.specs.Base.{Name, bytes, eqName}
 use Rattle.rules.specs.Limits.{work-bytes}
 use Rattle.rules.specs.Syntax.{path}
-use Rattle.rules.specs.Grammar.{form, isFormed}
+use Rattle.rules.specs.Text.{reserved}
 use Rattle.rules.specs.Scope.{MethodDeclaration, Declarations, Variable, Scope}
 use Rattle.rules.specs.Names.{isLocal, inScope, isInt, isClass, knownMethod, variableNumber, variableType, fieldNumber, fieldType, classNumber, methodNumber, methodOfClass}
 use Rattle.rules.specs.Items.{itemOf}
@@ -16,15 +16,19 @@ use Rattle.read_fields.specs.Cuts.{more}
 use Rattle.read_grammar.specs.Rows.{kindNumbered}
 use Rattle.tables.specs.Layout.{names-at}
 use Rattle.tables.specs.Stores.{Kept}
+use Rattle.read_names.specs.declared.Span.{Span}
+use Rattle.read_names.specs.Rows.{nameIn}
 use Rattle.read_scopes.specs.declared.Names.{Names}
-use Rattle.read_scopes.specs.Meanings.{Fits, declarationsIn, variablesIn}
+use Rattle.read_scopes.specs.Meanings.{declarationsIn, variablesIn}
+use Rattle.read_lookups.specs.LookUps.{typeOf}
 use Rattle.read_types.specs.Types.{good}
 use Rattle.rules.specs.Syntax.{Program}
 use Rattle.rules.specs.Reading.{withItem}
 use Rattle.tables.specs.declared.Operands.{Operands}
 use Rattle.write_rows.specs.Holds.{Holds}
+use Rattle.read_declarations.specs.Declares.{FormedAfter}
 use Rattle.resolve_pass.specs.Passes.{counts, lineAfter, isGood}
-use Rattle.write_plain.specs.declared.Tried.{Tried}
+use Rattle.write_plain.specs.declared.TriedRow.{TriedRow}
 
 -- a row without atoms, of this line
 abbrev pub bare : ℕ → ℕ → ℕ → ℕ → ℕ → ℕ → Operands
@@ -101,13 +105,26 @@ module _ (Γ : Declarations) (vs : List Variable) (ws : List Name) where
   plainGood k = cond (eqb k 8) setGood (cond (eqb k 10) newGood (cond (eqb k 11) callGood (cond (eqb k 12) returnGood true)))
 
 -- the row o just if the test is passed
-unfoldable pub RowTried : Bool → Operands → Tried → Type 0
-RowTried b o (Tried.Row r) = (b ≡ true) × (r ≡ o)
-RowTried b o Tried.Bad = b ≡ false
+unfoldable pub RowTried : Bool → Operands → TriedRow → Type 0
+RowTried b o (TriedRow.Row r) = (b ≡ true) × (r ≡ o)
+RowTried b o TriedRow.Bad = b ≡ false
 
-pub record Ready (w : List ℕ) (c : Names) : Type 0 where
-  pub whole : length w ≡ work-bytes
-  pub fits : Fits c
+-- of the fields after r of the text t, by the rows of names in w: the row just if the line is good
+abbrev pub TriedAfter :
+    List ℕ → List ℕ → Names → ℕ → (Declarations → List Variable → List Name → Bool) →
+    (Declarations → List Variable → List Name → ℕ → Operands) → ℕ → TriedRow → Type 0
+TriedAfter t w c r good row l o =
+    RowTried (good (declarationsIn t w c) (variablesIn t w c) (more (drop r t)))
+    (row (declarationsIn t w c) (variablesIn t w c) (more (drop r t)) l) o
+
+-- x is a local of the class that is named at s and has the number k
+abbrev pub mayHold : List ℕ → List ℕ → Names → ℕ → ℕ → Span → Bool
+mayHold t w c x k s =
+    isLocal x && (not (reserved (nameIn t s)) && (ltb k (c .classes) && eqName (nameIn t (typeOf w x)) (nameIn t s)))
+
+-- x and z are of the types of the method's result and parameter
+abbrev pub agreeWith : List ℕ → List ℕ → ℕ → ℕ → MethodDeclaration → Bool
+agreeWith t w x z m = eqName (nameIn t (typeOf w x)) (m .result) && eqName (nameIn t (typeOf w z)) (m .parameterType)
 
 -- by the number of the kind: 8 `set`, 10 `new`, 11 `call`, 12 `return`, 16 `else`, 18 `end`
 unfoldable pub isPlain : ℕ → Bool
@@ -117,7 +134,7 @@ isPlain k = eqb k 8 || (eqb k 10 || (eqb k 11 || (eqb k 12 || (eqb k 16 || eqb k
 pub record PlainFollows (t : List ℕ) (k r : ℕ) : Type 0 where
   pub kind : isPlain k ≡ true
   pub high : r ≤ length t
-  pub formed : isFormed (form (kindNumbered k) .operands) (form (kindNumbered k) .tail) (more (drop r t)) ≡ true
+  pub formed : FormedAfter t r (kindNumbered k)
 
 -- it is written as the row i, and is the line l
 pub record PlainPut (t w : List ℕ) (c : Names) (k r i l : ℕ) (w′ : List ℕ) : Type 0 where

@@ -8,28 +8,25 @@ ghost use mathlib.Core.Path.{_≡_};
 ghost use mathlib.Core.Bool.{not, _&&_};
 ghost use Prim.Native.Nat.{_≤_, _<_};
 ghost use lib.Dec.{eqb, ltb};
-ghost use lib.ListN.{length, drop, getD};
+ghost use lib.ListN.{length, getD};
 ghost use Rattle.rules.specs.Base.{is, eqName};
 ghost use Rattle.rules.specs.Limits.{work-bytes, most-statements};
 ghost use Rattle.rules.specs.Text.{reserved};
 ghost use Rattle.rules.specs.Names.{isLocal, noDeclaration};
-ghost use Rattle.read_fields.specs.Cuts.{more};
 ghost use Rattle.read_names.specs.Rows.{nameIn};
-ghost use Rattle.read_scopes.specs.Meanings.{declarationsIn, variablesIn};
+ghost use Rattle.read_scopes.specs.Meanings.{AreaFits, declarationsIn, variablesIn};
 ghost use Rattle.read_lookups.specs.LookUps.{Looked, typeOf};
-ghost use Rattle.write_plain.specs.Plain.{bare, setRow, newRow, callRow, returnRow, plainRow, setGood, newGood, callGood, returnGood, plainGood, RowTried, Ready, PlainFollows, PlainTried};
+ghost use Rattle.write_plain.specs.Plain.{bare, setRow, newRow, callRow, returnRow, plainRow, setGood, newGood, callGood, returnGood, plainGood, RowTried, TriedAfter, mayHold, agreeWith, PlainFollows, PlainTried};
 
 // The row of a line, if the line is good.
-pub enum Tried {
+pub enum TriedRow {
     Row(Operands),
     Bad,
 }
 
-const NO_VARIABLE: usize = 15;
-
 // The number of the variable named at a place of the text.
 fn variable_at(text: &[u8], work: &[u8], c: Names, s: Span) -> usize
-    requires { ⌜ Ready (now work) c ⌝ }
+    requires { ⌜ AreaFits (now work) c ⌝ }
     ensures { λ r. ⌜ Looked (now (text .entry)) (now (work .entry)) (variablesIn (now (text .entry)) (now (work .entry)) c) (nameIn (now (text .entry)) s) r ⌝ }
 {
     read_lookups::variable(text, work, c, read_names::name_in(text, s))
@@ -39,19 +36,19 @@ fn variable_at(text: &[u8], work: &[u8], c: Names, s: Span) -> usize
 fn is_local(x: usize) -> bool
     ensures { λ r. ⌜ r ≡ isLocal x ⌝ }
 {
-    if x < 2 {
+    if x < read_scopes::FIRST_LOCAL {
         return false;
     }
-    x < 14
+    x < read_names::RESULT
 }
 
-fn row_if(good: bool, o: Operands) -> Tried
+fn row_if(good: bool, o: Operands) -> TriedRow
     ensures { λ r. ⌜ RowTried good o r ⌝ }
 {
     if good {
-        return Tried::Row(o);
+        return TriedRow::Row(o);
     }
-    Tried::Bad
+    TriedRow::Bad
 }
 
 fn row(kind: u8, x: usize, y: usize, z: usize, member: usize, line: usize) -> Operands
@@ -77,7 +74,7 @@ fn set_fits(text: &[u8], work: &[u8], x: Member, y: usize) -> bool
     if !x.good {
         return false;
     }
-    if NO_VARIABLE <= y {
+    if read_names::NO_VARIABLE <= y {
         return false;
     }
     let is = x.is;
@@ -85,9 +82,9 @@ fn set_fits(text: &[u8], work: &[u8], x: Member, y: usize) -> bool
 }
 
 // `set x f y`, the word of which ends at r
-fn set_row(text: &[u8], work: &[u8], c: Names, r: usize, line: usize) -> Tried
-    requires { ⌜ Ready (now work) c × (r ≤ length (now text)) ⌝ }
-    ensures { λ o. ⌜ RowTried (setGood (declarationsIn (now (text .entry)) (now (work .entry)) c) (variablesIn (now (text .entry)) (now (work .entry)) c) (more (drop r (now (text .entry))))) (setRow (declarationsIn (now (text .entry)) (now (work .entry)) c) (variablesIn (now (text .entry)) (now (work .entry)) c) (more (drop r (now (text .entry)))) line) o ⌝ }
+fn set_row(text: &[u8], work: &[u8], c: Names, r: usize, line: usize) -> TriedRow
+    requires { ⌜ AreaFits (now work) c × (r ≤ length (now text)) ⌝ }
+    ensures { λ o. ⌜ TriedAfter (now (text .entry)) (now (work .entry)) c r setGood setRow line o ⌝ }
 {
     let a = read_declarations::span_after(text, r);
     let b = read_declarations::span_after(text, a.start + a.len);
@@ -107,7 +104,7 @@ fn set_row(text: &[u8], work: &[u8], c: Names, r: usize, line: usize) -> Tried
 // Is x a local of the class that is named at s and has the number k?
 fn new_fits(text: &[u8], work: &[u8], c: Names, x: usize, k: usize, s: Span) -> bool
     requires { ⌜ (length (now work) ≡ work-bytes) × (x ≤ 15) ⌝ }
-    ensures { λ r. ⌜ r ≡ (isLocal x && (not (reserved (nameIn (now (text .entry)) s)) && (ltb k (c .classes) && eqName (nameIn (now (text .entry)) (typeOf (now (work .entry)) x)) (nameIn (now (text .entry)) s)))) ⌝ }
+    ensures { λ r. ⌜ r ≡ mayHold (now (text .entry)) (now (work .entry)) c x k s ⌝ }
 {
     if !is_local(x) {
         return false;
@@ -122,9 +119,9 @@ fn new_fits(text: &[u8], work: &[u8], c: Names, x: usize, k: usize, s: Span) -> 
 }
 
 // `new x C`
-fn new_row(text: &[u8], work: &[u8], c: Names, r: usize, line: usize) -> Tried
-    requires { ⌜ Ready (now work) c × (r ≤ length (now text)) ⌝ }
-    ensures { λ o. ⌜ RowTried (newGood (declarationsIn (now (text .entry)) (now (work .entry)) c) (variablesIn (now (text .entry)) (now (work .entry)) c) (more (drop r (now (text .entry))))) (newRow (declarationsIn (now (text .entry)) (now (work .entry)) c) (variablesIn (now (text .entry)) (now (work .entry)) c) (more (drop r (now (text .entry)))) line) o ⌝ }
+fn new_row(text: &[u8], work: &[u8], c: Names, r: usize, line: usize) -> TriedRow
+    requires { ⌜ AreaFits (now work) c × (r ≤ length (now text)) ⌝ }
+    ensures { λ o. ⌜ TriedAfter (now (text .entry)) (now (work .entry)) c r newGood newRow line o ⌝ }
 {
     let a = read_declarations::span_after(text, r);
     let b = read_declarations::span_after(text, a.start + a.len);
@@ -141,10 +138,10 @@ fn may_call(x: usize, y: usize, z: usize) -> bool
     if !is_local(x) {
         return false;
     }
-    if NO_VARIABLE <= y {
+    if read_names::NO_VARIABLE <= y {
         return false;
     }
-    if NO_VARIABLE <= z {
+    if read_names::NO_VARIABLE <= z {
         return false;
     }
     if x == y {
@@ -168,8 +165,8 @@ fn has_method(text: &[u8], class: Span, m: Span, i: usize, n: usize) -> bool
 
 // Are x and z of the types of the result and of the parameter of the method i?
 fn call_agrees(text: &[u8], work: &[u8], c: Names, x: usize, z: usize, i: usize) -> bool
-    requires { ⌜ Ready (now work) c × (x ≤ 15) × (z ≤ 15) ⌝ }
-    ensures { λ r. ⌜ r ≡ (eqName (nameIn (now (text .entry)) (typeOf (now (work .entry)) x)) (getD (declarationsIn (now (text .entry)) (now (work .entry)) c .methods) i noDeclaration .result) && eqName (nameIn (now (text .entry)) (typeOf (now (work .entry)) z)) (getD (declarationsIn (now (text .entry)) (now (work .entry)) c .methods) i noDeclaration .parameterType)) ⌝ }
+    requires { ⌜ AreaFits (now work) c × (x ≤ 15) × (z ≤ 15) ⌝ }
+    ensures { λ r. ⌜ r ≡ agreeWith (now (text .entry)) (now (work .entry)) x z (getD (declarationsIn (now (text .entry)) (now (work .entry)) c .methods) i noDeclaration) ⌝ }
 {
     if read_lookups::same_name(
         text,
@@ -186,9 +183,9 @@ fn call_agrees(text: &[u8], work: &[u8], c: Names, x: usize, z: usize, i: usize)
 }
 
 // `call x y m z`
-fn call_row(text: &[u8], work: &[u8], c: Names, r: usize, line: usize) -> Tried
-    requires { ⌜ Ready (now work) c × (r ≤ length (now text)) ⌝ }
-    ensures { λ o. ⌜ RowTried (callGood (declarationsIn (now (text .entry)) (now (work .entry)) c) (variablesIn (now (text .entry)) (now (work .entry)) c) (more (drop r (now (text .entry))))) (callRow (declarationsIn (now (text .entry)) (now (work .entry)) c) (variablesIn (now (text .entry)) (now (work .entry)) c) (more (drop r (now (text .entry)))) line) o ⌝ }
+fn call_row(text: &[u8], work: &[u8], c: Names, r: usize, line: usize) -> TriedRow
+    requires { ⌜ AreaFits (now work) c × (r ≤ length (now text)) ⌝ }
+    ensures { λ o. ⌜ TriedAfter (now (text .entry)) (now (work .entry)) c r callGood callRow line o ⌝ }
 {
     let a = read_declarations::span_after(text, r);
     let b = read_declarations::span_after(text, a.start + a.len);
@@ -198,26 +195,26 @@ fn call_row(text: &[u8], work: &[u8], c: Names, r: usize, line: usize) -> Tried
     let y = variable_at(text, work, c, b);
     let z = variable_at(text, work, c, e);
     if !may_call(x, y, z) {
-        return Tried::Bad;
+        return TriedRow::Bad;
     }
     let class = read_lookups::type_of(work, y);
     let m = read_lookups::method_number(text, work, c, class, read_names::name_in(text, d));
     if !has_method(text, class, d, m, c.methods) {
-        return Tried::Bad;
+        return TriedRow::Bad;
     }
     let good = call_agrees(text, work, c, x, z, m);
     row_if(good, row(Kind::CALL, x, y, z, m, line))
 }
 
 // `return x`
-fn return_row(text: &[u8], work: &[u8], c: Names, r: usize, line: usize) -> Tried
-    requires { ⌜ Ready (now work) c × (r ≤ length (now text)) ⌝ }
-    ensures { λ o. ⌜ RowTried (returnGood (declarationsIn (now (text .entry)) (now (work .entry)) c) (variablesIn (now (text .entry)) (now (work .entry)) c) (more (drop r (now (text .entry))))) (returnRow (declarationsIn (now (text .entry)) (now (work .entry)) c) (variablesIn (now (text .entry)) (now (work .entry)) c) (more (drop r (now (text .entry)))) line) o ⌝ }
+fn return_row(text: &[u8], work: &[u8], c: Names, r: usize, line: usize) -> TriedRow
+    requires { ⌜ AreaFits (now work) c × (r ≤ length (now text)) ⌝ }
+    ensures { λ o. ⌜ TriedAfter (now (text .entry)) (now (work .entry)) c r returnGood returnRow line o ⌝ }
 {
     let a = read_declarations::span_after(text, r);
     let x = variable_at(text, work, c, a);
-    if NO_VARIABLE <= x {
-        return Tried::Bad;
+    if read_names::NO_VARIABLE <= x {
+        return TriedRow::Bad;
     }
     let result = read_lookups::variable_type(text, work, c, b"result");
     let good = read_lookups::same_name(text, read_lookups::type_of(work, x), result);
@@ -225,9 +222,9 @@ fn return_row(text: &[u8], work: &[u8], c: Names, r: usize, line: usize) -> Trie
 }
 
 // The row of a line of this kind; `else` and `end` have no operands.
-pub fn plain_row(text: &[u8], work: &[u8], c: Names, kind: u8, r: usize, line: usize) -> Tried
-    requires { ⌜ Ready (now work) c × (r ≤ length (now text)) ⌝ }
-    ensures { λ o. ⌜ RowTried (plainGood (declarationsIn (now (text .entry)) (now (work .entry)) c) (variablesIn (now (text .entry)) (now (work .entry)) c) (more (drop r (now (text .entry)))) kind) (plainRow (declarationsIn (now (text .entry)) (now (work .entry)) c) (variablesIn (now (text .entry)) (now (work .entry)) c) (more (drop r (now (text .entry)))) line kind) o ⌝ }
+pub fn plain_row(text: &[u8], work: &[u8], c: Names, kind: u8, r: usize, line: usize) -> TriedRow
+    requires { ⌜ AreaFits (now work) c × (r ≤ length (now text)) ⌝ }
+    ensures { λ o. ⌜ TriedAfter (now (text .entry)) (now (work .entry)) c r (λ Γ vs ws. plainGood Γ vs ws kind) (λ Γ vs ws l. plainRow Γ vs ws l kind) line o ⌝ }
 {
     match kind {
         Kind::SET => set_row(text, work, c, r, line),
@@ -248,11 +245,11 @@ pub fn put_plain(
     i: usize,
     line: usize,
 ) -> bool
-    requires { ⌜ Ready (now work) c × PlainFollows (now text) kind r × (i < most-statements) × (line < 65536) ⌝ }
+    requires { ⌜ AreaFits (now work) c × PlainFollows (now text) kind r × (i < most-statements) × (line < 65536) ⌝ }
     ensures { λ b. ⌜ PlainTried (now (text .entry)) (now (work .entry)) c kind r i line (now (work .exit)) b ⌝ }
 {
     let t = plain_row(text, work, c, kind, r, line);
-    let Tried::Row(o) = t else {
+    let TriedRow::Row(o) = t else {
         return false;
     };
     write_rows::put_row(work, i, o);

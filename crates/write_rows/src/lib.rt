@@ -85,7 +85,7 @@ pub fn put_row(work: &mut [u8], i: usize, r: Operands)
 // METHODS
 
 // Writes the method m with its first row; its requires and ensures are empty.
-pub fn put_method(work: &mut [u8], m: usize, first: usize)
+pub fn put_method_row(work: &mut [u8], m: usize, first: usize)
     requires { ⌜ (length (now work) ≡ work-bytes) × ((m < most-methods) × (first < 65536)) ⌝ }
     ensures { λ _. ⌜ now (work .exit) ≡ putMethod (now (work .entry)) m first ⌝ }
 {
@@ -128,7 +128,7 @@ fn fill(work: &mut [u8], at: usize, n: usize)
 }
 
 // Writes the class c, which has no field yet.
-pub fn put_class(work: &mut [u8], c: usize)
+pub fn put_class_row(work: &mut [u8], c: usize)
     requires { ⌜ (length (now work) ≡ work-bytes) × (c < most-classes) ⌝ }
     ensures { λ _. ⌜ now (work .exit) ≡ putClass (now (work .entry)) c ⌝ }
 {
@@ -147,7 +147,7 @@ fn flag(int: bool) -> usize
 }
 
 // One more field of the class c: the number of its name, and whether it is an int.
-pub fn put_field(work: &mut [u8], c: usize, name: usize, int: bool)
+pub fn put_class_field(work: &mut [u8], c: usize, name: usize, int: bool)
     requires { ⌜ ((length (now work) ≡ work-bytes) × (c < most-classes)) × ((name < most-names) × (fieldCountAt (now work) c < most-fields)) ⌝ }
     ensures { λ _. ⌜ now (work .exit) ≡ putField (now (work .entry)) c name int ⌝ }
 {

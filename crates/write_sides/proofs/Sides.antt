@@ -35,7 +35,7 @@ use Rattle.read_scopes.specs.declared.Names as Counts
 use Rattle.read_names.specs.declared.Span.{Span}
 use Rattle.read_types.specs.declared.Lookup.{Lookup}
 use Rattle.read_names.specs.Rows.{nameIn}
-use Rattle.read_scopes.specs.Meanings.{declarationsIn, variablesIn}
+use Rattle.read_scopes.specs.Meanings.{AreaFits, declarationsIn, variablesIn}
 use Rattle.read_lookups.specs.LookUps.{Looked, typeOf}
 use Rattle.read_types.specs.Types.{good, LookIs, typeMeant}
 use Rattle.rules.specs.Syntax.{Program}
@@ -52,10 +52,10 @@ use Rattle.read_declarations.specs.Declares.{lineWith}
 use Rattle.read_declarations.proofs.Lines.{second, third}
 use Rattle.resolve_pass.specs.Passes.{isGood}
 use Rattle.resolve_atoms.specs.declared.AtomRow.{AtomRow}
-use Rattle.resolve_atoms.specs.declared.Tried.{Tried}
+use Rattle.resolve_atoms.specs.declared.TriedAtom.{TriedAtom}
 use Rattle.resolve_atoms.specs.declared.Put.{Put}
 use Rattle.resolve_atoms.specs.Good.{fitsAtom}
-use Rattle.resolve_atoms.specs.Written.{Resolved, AtomTried, Ready}
+use Rattle.resolve_atoms.specs.Written.{Resolved, AtomTried}
 use Rattle.resolve_atoms.proofs.Sides.{variable-small, compared-is}
 use Rattle.resolve_atoms.proofs.Goods.{formula-good}
 use Rattle.write_plain.proofs.Goods.{formed-length, local-known}
@@ -183,7 +183,7 @@ condition-is k l r n p q e = go (eqb k 0) e
     go true i = absurd (not-accessed l i)
     go false i = ap condition i
 
-module _ (t w : List ℕ) (c : Counts.Names) (r i n l : ℕ) (ready : Ready t w c) (few : i < most-statements) where
+module _ (t w : List ℕ) (c : Counts.Names) (r i n l : ℕ) (ready : AreaFits w c) (few : i < most-statements) where
   abbrev Γ : Declarations
   Γ = declarationsIn t w c
 
@@ -307,13 +307,13 @@ module _ (t w : List ℕ) (c : Counts.Names) (r i n l : ℕ) (ready : Ready t w 
       atom-is : atomOf u x z ≡ atom
       atom-is j = atomOf ((eu ∙ p .name) j) ((ex ∙ second p p2) j) ((ez ∙ third p p2 p3) j)
 
-      pub if-bad : (q : Tried) → q ≡ Tried.Bad → AtomTried Γ vs (atomOf u x z) q → SideTried If t w c r i n l w Put.Bad
+      pub if-bad : (q : TriedAtom) → q ≡ TriedAtom.Bad → AtomTried Γ vs (atomOf u x z) q → SideTried If t w c r i n l w Put.Bad
       unfolding SideTried AtomTried
       if-bad q e h =
           let g : fitsAtom Γ vs (atomOf u x z) ≡ false = subst (AtomTried Γ vs (atomOf u x z)) e h in
           (λ s. if-good Γ vs s ws (y .formed) ∙ (ap (fitsAtom Γ vs) (sym atom-is) ∙ g), λ j k m. refl, refl)
 
-      module _ (q : Tried) (s : AtomRow) (e : q ≡ Tried.Row s) (h : AtomTried Γ vs (atomOf u x z) q) where
+      module _ (q : TriedAtom) (s : AtomRow) (e : q ≡ TriedAtom.Row s) (h : AtomTried Γ vs (atomOf u x z) q) where
         if-row : (fitsAtom Γ vs (atomOf u x z) ≡ true) × Resolved Γ vs (atomOf u x z) s
         unfolding AtomTried
         if-row = subst (AtomTried Γ vs (atomOf u x z)) e h

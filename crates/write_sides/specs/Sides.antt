@@ -8,7 +8,7 @@ use lib.ListN.{length, getD, drop}
 use Rattle.rules.specs.Limits.{work-bytes}
 use Rattle.rules.specs.Base.{Name}
 use Rattle.rules.specs.Text.{exprOf}
-use Rattle.rules.specs.Grammar.{Statement, statement, form, isFormed}
+use Rattle.rules.specs.Grammar.{Statement, statement}
 use Rattle.rules.specs.Scope.{Declarations, Variable, Scope}
 use Rattle.rules.specs.Names.{isLocal, agree, variableNumber, variableType, exprType}
 use Rattle.rules.specs.Items.{itemOf}
@@ -23,7 +23,7 @@ use Rattle.rules.specs.Reading.{withItem}
 use Rattle.tables.specs.declared.Operands.{Operands}
 use Rattle.tables.specs.Tables.{Declared}
 use Rattle.write_rows.specs.Holds.{Holds}
-use Rattle.read_declarations.specs.Declares.{lineWith}
+use Rattle.read_declarations.specs.Declares.{lineWith, FormedAfter}
 use Rattle.resolve_pass.specs.Passes.{isGood}
 use Rattle.resolve_atoms.specs.declared.Put.{Put}
 
@@ -41,7 +41,7 @@ letGood Γ vs ws =
 -- the statement whose word ends at r has its form, and there is room for the atom n
 pub record SideFollows (a : Statement) (t : List ℕ) (r n : ℕ) : Type 0 where
   pub high : r ≤ length t
-  pub formed : isFormed (form (statement a) .operands) (form (statement a) .tail) (more (drop r t)) ≡ true
+  pub formed : FormedAfter t r (statement a)
   pub room : n < most-atom-rows
 
 module _ (a : Statement) (t w : List ℕ) (c : Names) (r : ℕ) where

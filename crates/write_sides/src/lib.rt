@@ -3,7 +3,7 @@ use read_scopes::Names;
 use read_types::ExprType;
 use read_types::Lookup;
 use resolve_atoms::Put;
-use resolve_atoms::Tried;
+use resolve_atoms::TriedAtom;
 use rules::Kind;
 use tables::AtomKind;
 use tables::Expr;
@@ -17,9 +17,9 @@ ghost use Rattle.rules.specs.Limits.{work-bytes, most-statements};
 ghost use Rattle.rules.specs.Grammar.{Let, If};
 ghost use Rattle.rules.specs.Names.{isLocal, agree};
 ghost use Rattle.read_names.specs.Rows.{nameIn};
+ghost use Rattle.read_scopes.specs.Meanings.{AreaFits};
 ghost use Rattle.read_lookups.specs.LookUps.{typeOf};
 ghost use Rattle.read_types.specs.Types.{typeMeant};
-ghost use Rattle.resolve_atoms.specs.Written.{Ready};
 ghost use Rattle.write_sides.specs.Sides.{oneRow, SideFollows, SideTried};
 
 fn row(kind: u8, x: usize, n: usize, line: usize) -> Operands
@@ -42,10 +42,10 @@ fn let_fits(text: &[u8], work: &[u8], x: usize, e: Lookup) -> bool
     requires { ⌜ (length (now work) ≡ work-bytes) × (x ≤ 15) ⌝ }
     ensures { λ r. ⌜ r ≡ (isLocal x && (e .good && agree (some (nameIn (now (text .entry)) (typeOf (now (work .entry)) x))) (typeMeant (now (text .entry)) (e .is)))) ⌝ }
 {
-    if x < 2 {
+    if x < read_scopes::FIRST_LOCAL {
         return false;
     }
-    if 14 <= x {
+    if read_names::RESULT <= x {
         return false;
     }
     if !e.good {
@@ -67,7 +67,7 @@ pub fn put_let(
     n: usize,
     line: usize,
 ) -> Put
-    requires { ⌜ Ready (now text) (now work) c × SideFollows Let (now text) r n × (i < most-statements) × (line < 65536) ⌝ }
+    requires { ⌜ AreaFits (now work) c × SideFollows Let (now text) r n × (i < most-statements) × (line < 65536) ⌝ }
     ensures { λ p. ⌜ SideTried Let (now (text .entry)) (now (work .entry)) c r i n line (now (work .exit)) p ⌝ }
 {
     let a = read_declarations::span_after(text, r);
@@ -94,7 +94,7 @@ pub fn put_if(
     n: usize,
     line: usize,
 ) -> Put
-    requires { ⌜ Ready (now text) (now work) c × SideFollows If (now text) r n × (i < most-statements) × (line < 65536) ⌝ }
+    requires { ⌜ AreaFits (now work) c × SideFollows If (now text) r n × (i < most-statements) × (line < 65536) ⌝ }
     ensures { λ p. ⌜ SideTried If (now (text .entry)) (now (work .entry)) c r i n line (now (work .exit)) p ⌝ }
 {
     let a = read_declarations::span_after(text, r);
@@ -104,7 +104,7 @@ pub fn put_if(
     let x = read_names::name_in(text, b);
     let y = read_names::name_in(text, d);
     let q = resolve_atoms::resolve_atom(text, work, c, word, x, y);
-    let Tried::Row(s) = q else {
+    let TriedAtom::Row(s) = q else {
         return Put::Bad;
     };
     let left = s.left;

@@ -14,32 +14,32 @@ slice-aggregate-put-word c = search needs
 put-word-requires : tie.Need-put-word-requires
 put-word-requires c κs = search needs
 
-put-field-requires : tie.Need-put-field-requires
-put-field-requires c κs = search needs
+put-tab-number-requires : tie.Need-put-tab-number-requires
+put-tab-number-requires c κs = search needs
 
-put-field-requires-2 : tie.Need-put-field-requires-2
-put-field-requires-2 c κs =
+put-tab-number-requires-2 : tie.Need-put-tab-number-requires-2
+put-tab-number-requires-2 c κs =
     let start = c .before .before .before .before .before .before .before .before .before .before .before in
     let at-put-word = c .before .before .before .before .before .before .before .put-word in
-    let at-put-field = c .before .before .before .put-field in
-    omega (arith, at-put-word .ensures .end, at-put-field .ensures .end, at-put-field .ensures .size, at-put-word .ensures .size, digits-short (start .args .ran / 65536), start .pre)
+    let at-number = c .before .before .before .put-tab-number in
+    omega (arith, at-put-word .ensures .end, at-number .ensures .end, at-number .ensures .size, at-put-word .ensures .size, digits-short (start .args .ran / 65536), start .pre)
 
-put-field-requires-3 : tie.Need-put-field-requires-3
-put-field-requires-3 c κs =
+put-tab-number-requires-3 : tie.Need-put-tab-number-requires-3
+put-tab-number-requires-3 c κs =
     let start = c .before .before .before .before .before .before .before .before .before .before .before .before .before .before .before in
     let at-put-word = c .before .before .before .before .before .before .before .before .before .before .before .put-word in
-    let at-put-field = c .before .before .before .before .before .before .before .put-field in
-    let at-put-field2 = c .before .before .before .put-field2 in
-    let v = start .args .ran in omega (arith, at-put-word .ensures .end, at-put-field .ensures .end, at-put-field2 .ensures .end, at-put-field2 .ensures .size, at-put-field .ensures .size, at-put-word .ensures .size, digits-short (v / 65536), digits-short (v % 65536), start .pre)
+    let at-number = c .before .before .before .before .before .before .before .put-tab-number in
+    let at-number2 = c .before .before .before .put-tab-number2 in
+    let v = start .args .ran in omega (arith, at-put-word .ensures .end, at-number .ensures .end, at-number2 .ensures .end, at-number2 .ensures .size, at-number .ensures .size, at-put-word .ensures .size, digits-short (v / 65536), digits-short (v % 65536), start .pre)
 
 put-requires : tie.Need-put-requires
 put-requires c κs =
     let start = c .before .before .before .before .before .before .before .before .before .before .before .before .before .before .before .before .before .before .before in
     let at-put-word = c .before .before .before .before .before .before .before .before .before .before .before .before .before .before .before .put-word in
-    let at-put-field = c .before .before .before .before .before .before .before .before .before .before .before .put-field in
-    let at-put-field2 = c .before .before .before .before .before .before .before .put-field2 in
-    let at-put-field3 = c .before .before .before .put-field3 in
-    let v = start .args .ran in omega (arith, at-put-word .ensures .end, at-put-field .ensures .end, at-put-field2 .ensures .end, at-put-field3 .ensures .end, at-put-field3 .ensures .size, at-put-field2 .ensures .size, at-put-field .ensures .size, at-put-word .ensures .size, digits-short (v / 65536), digits-short (v % 65536), digits-short (start .args .steps), start .pre)
+    let at-number = c .before .before .before .before .before .before .before .before .before .before .before .put-tab-number in
+    let at-number2 = c .before .before .before .before .before .before .before .put-tab-number2 in
+    let at-number3 = c .before .before .before .put-tab-number3 in
+    let v = start .args .ran in omega (arith, at-put-word .ensures .end, at-number .ensures .end, at-number2 .ensures .end, at-number3 .ensures .end, at-number3 .ensures .size, at-number2 .ensures .size, at-number .ensures .size, at-put-word .ensures .size, digits-short (v / 65536), digits-short (v % 65536), digits-short (start .args .steps), start .pre)
 
 same-length : tie.Need-same-length
 same-length c = search needs
@@ -48,11 +48,11 @@ returns : tie.Need-returns
 unfolding bytes printedLine
 returns c =
     let at-put-word = c .before .before .before .before .before .before .before .before .before .before .before .before .before .before .before .before .before .before .put-word in
-    let at-put-field = c .before .before .before .before .before .before .before .before .before .before .before .before .before .before .put-field in
-    let at-put-field2 = c .before .before .before .before .before .before .before .before .before .before .put-field2 in
-    let at-put-field3 = c .before .before .before .before .before .before .put-field3 in
+    let at-number = c .before .before .before .before .before .before .before .before .before .before .before .before .before .before .put-tab-number in
+    let at-number2 = c .before .before .before .before .before .before .before .before .before .before .put-tab-number2 in
+    let at-number3 = c .before .before .before .before .before .before .put-tab-number3 in
     let at-put = c .before .before .put in
-    writes-on (at-put-word .ensures) (writes-on (at-put-field .ensures) (writes-on (at-put-field2 .ensures) (writes-on (at-put-field3 .ensures) (at-put .ensures))))
+    writes-on (at-put-word .ensures) (writes-on (at-number .ensures) (writes-on (at-number2 .ensures) (writes-on (at-number3 .ensures) (at-put .ensures))))
 
 pub put-run-spec : {M : Type 1} → statement M
 put-run-spec =
@@ -60,9 +60,9 @@ put-run-spec =
     (tie.spec
     slice-aggregate-put-word
     put-word-requires
-    put-field-requires
-    put-field-requires-2
-    put-field-requires-3
+    put-tab-number-requires
+    put-tab-number-requires-2
+    put-tab-number-requires-3
     put-requires
     same-length
     returns)

@@ -1,4 +1,4 @@
-use Rattle.read_bytes.specs.Sets.{Found}
+use Rattle.read_bytes.specs.Sets.{FirstInSet}
 use borrow.Author.Needs.{needs}
 use mathlib.Core.Path.{sym, subst}
 use Rattle.read_bytes.proofs.find.Statement.{statement}
@@ -29,13 +29,13 @@ find-from-requires : tie.Need-find-from-requires
 find-from-requires c κs = search needs
 
 returns : tie.Need-returns
-returns c = subst (λ s. Found (c .before .before .before .before .args .l .now) (c .before .before .before .before .args .at) s (c .find-wide .result)) (sym (c .before .enum-told .given .1)) (c .find-wide .ensures)
+returns c = subst (λ s. FirstInSet (c .before .before .before .before .args .l .now) (c .before .before .before .before .args .at) s (c .find-wide .result)) (sym (c .before .enum-told .given .1)) (c .find-wide .ensures)
 
 returns-2 : tie.Need-returns-2
-returns-2 c = subst (λ s. Found (c .before .before .before .before .args .l .now) (c .before .before .before .before .args .at) s (c .find-wide2 .result)) (sym (c .before .enum-told2 .given .1)) (c .find-wide2 .ensures)
+returns-2 c = subst (λ s. FirstInSet (c .before .before .before .before .args .l .now) (c .before .before .before .before .args .at) s (c .find-wide2 .result)) (sym (c .before .enum-told2 .given .1)) (c .find-wide2 .ensures)
 
 returns-3 : tie.Need-returns-3
-returns-3 c = subst (λ s. Found (c .before .before .before .before .args .l .now) (c .before .before .before .before .args .at) s (c .find-wide3 .result)) (sym (c .before .enum-told3 .given .1)) (c .find-wide3 .ensures)
+returns-3 c = subst (λ s. FirstInSet (c .before .before .before .before .args .l .now) (c .before .before .before .before .args .at) s (c .find-wide3 .result)) (sym (c .before .enum-told3 .given .1)) (c .find-wide3 .ensures)
 
 returns-4 : tie.Need-returns-4
 returns-4 c = search needs

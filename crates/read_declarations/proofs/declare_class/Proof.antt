@@ -10,8 +10,8 @@ use Rattle.read_declarations.proofs.declare_class.Tie as tie
 span-after-requires : tie.Need-span-after-requires
 span-after-requires c κs = search needs
 
-put-class-requires : tie.Need-put-class-requires
-put-class-requires c κs =
+add-class-requires : tie.Need-add-class-requires
+add-class-requires c κs =
     let t = c .before .before .before .before .args .text .now in
     let x = c .before .span-after .ensures in
     let p = c .before .before .before .before .pre in
@@ -26,8 +26,8 @@ returns c =
     let x = c .before .before .before .before .span-after .ensures in
     let p = c .before .before .before .before .before .before .before .pre in
     let f = span-fits t (c .before .before .before .before .span-after .result) (p .0 .text) (x .high) (ap isName (x .name) ∙ p .3) in
-    class-adds (p .0) _ (c .before .before .before .before .span-after .result) (x .name) f (p .2) (c .before .before .put-class .ensures .0) (c .before .before .put-class .ensures .1)
+    class-adds (p .0) _ (c .before .before .before .before .span-after .result) (x .name) f (p .2) (c .before .before .add-class .ensures .0) (c .before .before .add-class .ensures .1)
 
 pub declare-class-spec : {M : Type 1} → statement M
 declare-class-spec =
-    tie.close (tie.spec span-after-requires put-class-requires same-length returns)
+    tie.close (tie.spec span-after-requires add-class-requires same-length returns)

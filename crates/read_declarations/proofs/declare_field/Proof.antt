@@ -20,8 +20,8 @@ span-after-requires-2 c κs = search needs
 owner-requires : tie.Need-owner-requires
 owner-requires c κs = search needs
 
-put-field-requires : tie.Need-put-field-requires
-put-field-requires c κs =
+add-field-requires : tie.Need-add-field-requires
+add-field-requires c κs =
     let t = c .before .before .before .before .before .before .before .args .text .now in
     let x = c .before .before .before .before .span-after .ensures in
     let y = c .before .before .span-after2 .ensures in
@@ -44,7 +44,7 @@ returns c =
     let f = span-fits t (c .before .before .before .before .before .before .before .span-after .result) (p .0 .text) (x .high) (ap isName (x .name) ∙ p .3) in
     let g = span-fits t (c .before .before .before .before .before .span-after2 .result) (p .0 .text) (y .high) (ap isName n ∙ p .4) in
     field-adds (p .0) _ (c .before .before .before .owner .result) (c .before .before .before .before .before .span-after2 .result) (c .before .before .before .before .before .before .before .span-after .result) (c .before .before .before .owner .ensures) n (x .name)
-    (field-fits (omega (arith, c .before .before .before .owner .ensures, p .0 .fits .classes)) g f) (p .2) (c .before .before .put-field .ensures .0) (c .before .before .put-field .ensures .1)
+    (field-fits (omega (arith, c .before .before .before .owner .ensures, p .0 .fits .classes)) g f) (p .2) (c .before .before .add-field .ensures .0) (c .before .before .add-field .ensures .1)
 
 pub declare-field-spec : {M : Type 1} → statement M
 declare-field-spec =
@@ -54,6 +54,6 @@ declare-field-spec =
     add-span-after
     span-after-requires-2
     owner-requires
-    put-field-requires
+    add-field-requires
     same-length
     returns)

@@ -10,8 +10,8 @@ owner-requires c κs = search needs
 method-row-requires : tie.Need-method-row-requires
 method-row-requires c κs = search needs
 
-put-method-requires : tie.Need-put-method-requires
-put-method-requires c κs = search needs
+add-method-requires : tie.Need-add-method-requires
+add-method-requires c κs = search needs
 
 same-length : tie.Need-same-length
 same-length c = search needs
@@ -19,8 +19,8 @@ same-length c = search needs
 returns : tie.Need-returns
 returns c =
     let p = c .before .before .before .before .before .before .before .before .pre in
-    method-adds (p .0) _ (c .before .before .before .before .before .owner .result) (c .before .before .before .before .method-row .result) (c .before .before .before .before .before .owner .ensures) (c .before .before .before .before .method-row .ensures) (p .2) (c .before .before .put-method .ensures .0) (c .before .before .put-method .ensures .1)
+    method-adds (p .0) _ (c .before .before .before .before .before .owner .result) (c .before .before .before .before .method-row .result) (c .before .before .before .before .before .owner .ensures) (c .before .before .before .before .method-row .ensures) (p .2) (c .before .before .add-method .ensures .0) (c .before .before .add-method .ensures .1)
 
 pub declare-method-spec : {M : Type 1} → statement M
 declare-method-spec =
-    tie.close (tie.spec owner-requires method-row-requires put-method-requires same-length returns)
+    tie.close (tie.spec owner-requires method-row-requires add-method-requires same-length returns)

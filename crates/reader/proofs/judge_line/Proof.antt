@@ -1,6 +1,6 @@
 -- `reader::judge_line` meets its contract. Assumes nothing.
 use mathlib.Core.Path.{sym, subst}
-use Rattle.read_scopes.specs.Meanings.{Fits}
+use Rattle.read_scopes.specs.Meanings.{NamesFit}
 use Rattle.reader.proofs.Judged.{judged-formed, seen-fits, judged-here}
 use Rattle.reader.proofs.judge_line.Statement.{statement}
 use Rattle.reader.proofs.judge_line.Tie as tie
@@ -11,7 +11,7 @@ seen-requires c κs = let x = c .before .before .before .before .pre in x .kind
 judge-requires : tie.Need-judge-requires
 judge-requires c κs =
     let x = c .before .before .before .before .before .pre in (
-      record { whole = x .ready .whole; names = subst Fits (sym (c .seen .ensures)) (seen-fits _ _ (x .ready .names)); above = x .ready .above },
+      record { whole = x .ready .whole; names = subst NamesFit (sym (c .seen .ensures)) (seen-fits _ _ (x .ready .names)); above = x .ready .above },
       x .high,
       judged-formed x,
     )

@@ -3,7 +3,7 @@ use mathlib.Core.Path.{_≡_}
 use native.Mathlib.Omega.{arith}
 use Rattle.rules.specs.Grammar as Grammar
 use Rattle.rules.specs.Grammar.{kindNumber}
-use Rattle.resolve_bodies.proofs.Items.{kind-as, requires-is, ensures-is, method-room, atoms-ready, follows-as, header-tried}
+use Rattle.resolve_bodies.proofs.Items.{kind-as, requires-is, ensures-is, method-room, area-fits, follows-as, header-tried}
 use borrow.Author.Needs.{needs}
 use Rattle.resolve_bodies.proofs.put_formula.Statement.{statement}
 use Rattle.resolve_bodies.proofs.put_formula.Tie as tie
@@ -24,14 +24,14 @@ unfolding kindNumber
 put-requires-requires c κs =
     let start = c .before .before .before .before .before .before .before .before .before in
     let at-seen = c .before .before .before .before .before .seen in
-    let p = start .pre in let g = at-seen .ensures in (atoms-ready (p .0) g, follows-as (p .0) g requires-is (kind-as Grammar.Requires _ (c .before .match .keys1)), omega (arith, method-room (p .0) (p .1 .0) (p .1 .1)))
+    let p = start .pre in let g = at-seen .ensures in (area-fits (p .0) g, follows-as (p .0) g requires-is (kind-as Grammar.Requires _ (c .before .match .keys1)), omega (arith, method-room (p .0) (p .1 .0) (p .1 .1)))
 
 put-ensures-requires : tie.Need-put-ensures-requires
 unfolding kindNumber
 put-ensures-requires c κs =
     let start = c .before .before .before .before .before .before .before .before .before in
     let at-seen = c .before .before .before .before .before .seen in
-    let p = start .pre in let g = at-seen .ensures in (atoms-ready (p .0) g, follows-as (p .0) g ensures-is (kind-as Grammar.Ensures _ (let e : start .args .kind ≡ 5 = omega (arith, p .1 .0, p .1 .1, c .before .match .rest .1) in e)), omega (arith, method-room (p .0) (p .1 .0) (p .1 .1)))
+    let p = start .pre in let g = at-seen .ensures in (area-fits (p .0) g, follows-as (p .0) g ensures-is (kind-as Grammar.Ensures _ (let e : start .args .kind ≡ 5 = omega (arith, p .1 .0, p .1 .1, c .before .match .rest .1) in e)), omega (arith, method-room (p .0) (p .1 .0) (p .1 .1)))
 
 same-length : tie.Need-same-length
 same-length c = search needs

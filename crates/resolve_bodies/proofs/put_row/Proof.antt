@@ -4,7 +4,7 @@ use Rattle.rules.specs.Grammar as Grammar
 use Rattle.rules.specs.Grammar.{kindNumber}
 use Rattle.resolve_pass.specs.Passes.{hasAtoms, isFramed}
 use Rattle.write_formulas.specs.Claims.{isClaim}
-use Rattle.resolve_bodies.proofs.Items.{kind-as, plain-left, claim-is, claim-at, line-small, row-room, plain-ready, atoms-ready, side-follows, plain-follows, follows-as, side-tried, plain-tried, claim-tried}
+use Rattle.resolve_bodies.proofs.Items.{kind-as, plain-left, claim-is, claim-at, line-small, row-room, area-fits, side-follows, plain-follows, follows-as, side-tried, plain-tried, claim-tried}
 use borrow.Author.Needs.{needs}
 use Rattle.resolve_bodies.proofs.put_row.Statement.{statement}
 use Rattle.resolve_bodies.proofs.put_row.Tie as tie
@@ -20,7 +20,7 @@ unfolding kindNumber Grammar.statementNumber Grammar.isKind Grammar.isStatement 
 put-let-requires c κs =
     let p = c .before .before .before .before .before .before .before .pre in
     let g = c .before .before .before .seen .ensures in
-    (atoms-ready (p .0) g, side-follows (p .0) g Grammar.Let (kind-as (Grammar.statement Grammar.Let) _ (c .before .match .keys1)) refl, row-room (p .0) (p .1), line-small (p .0))
+    (area-fits (p .0) g, side-follows (p .0) g Grammar.Let (kind-as (Grammar.statement Grammar.Let) _ (c .before .match .keys1)) refl, row-room (p .0) (p .1), line-small (p .0))
 
 put-claim-requires : tie.Need-put-claim-requires
 unfolding isClaim
@@ -28,7 +28,7 @@ put-claim-requires c κs =
     let p = c .before .before .before .before .before .before .before .pre in
     let g = c .before .before .before .seen .ensures in
     let i = claim-at 13 _ refl (c .before .match .keys2) in
-    (atoms-ready (p .0) g, follows-as (p .0) g (claim-is _ i) refl, i, row-room (p .0) (p .1), line-small (p .0))
+    (area-fits (p .0) g, follows-as (p .0) g (claim-is _ i) refl, i, row-room (p .0) (p .1), line-small (p .0))
 
 put-claim-requires-2 : tie.Need-put-claim-requires-2
 unfolding isClaim
@@ -36,14 +36,14 @@ put-claim-requires-2 c κs =
     let p = c .before .before .before .before .before .before .before .pre in
     let g = c .before .before .before .seen .ensures in
     let i = claim-at 14 _ refl (c .before .match .keys3) in
-    (atoms-ready (p .0) g, follows-as (p .0) g (claim-is _ i) refl, i, row-room (p .0) (p .1), line-small (p .0))
+    (area-fits (p .0) g, follows-as (p .0) g (claim-is _ i) refl, i, row-room (p .0) (p .1), line-small (p .0))
 
 put-if-requires : tie.Need-put-if-requires
 unfolding kindNumber Grammar.statementNumber Grammar.isKind Grammar.isStatement hasAtoms isFramed
 put-if-requires c κs =
     let p = c .before .before .before .before .before .before .before .pre in
     let g = c .before .before .before .seen .ensures in
-    (atoms-ready (p .0) g, side-follows (p .0) g Grammar.If (kind-as (Grammar.statement Grammar.If) _ (c .before .match .keys4)) refl, row-room (p .0) (p .1), line-small (p .0))
+    (area-fits (p .0) g, side-follows (p .0) g Grammar.If (kind-as (Grammar.statement Grammar.If) _ (c .before .match .keys4)) refl, row-room (p .0) (p .1), line-small (p .0))
 
 put-claim-requires-3 : tie.Need-put-claim-requires-3
 unfolding isClaim
@@ -51,14 +51,14 @@ put-claim-requires-3 c κs =
     let p = c .before .before .before .before .before .before .before .pre in
     let g = c .before .before .before .seen .ensures in
     let i = claim-at 17 _ refl (c .before .match .keys5) in
-    (atoms-ready (p .0) g, follows-as (p .0) g (claim-is _ i) refl, i, row-room (p .0) (p .1), line-small (p .0))
+    (area-fits (p .0) g, follows-as (p .0) g (claim-is _ i) refl, i, row-room (p .0) (p .1), line-small (p .0))
 
 put-plain-requires : tie.Need-put-plain-requires
 put-plain-requires c κs =
     let p = c .before .before .before .before .before .before .before .pre in
     let g = c .before .before .before .seen .ensures in
     let r = c .before .match .rest in
-    (plain-ready (p .0) g, plain-follows (p .0) g (plain-left _ (p .1) r), row-room (p .0) (p .1), line-small (p .0))
+    (area-fits (p .0) g, plain-follows (p .0) g (plain-left _ (p .1) r), row-room (p .0) (p .1), line-small (p .0))
 
 done-if-requires : tie.Need-done-if-requires
 done-if-requires c κs = search needs

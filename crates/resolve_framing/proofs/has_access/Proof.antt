@@ -2,12 +2,12 @@
 use Prim.Native.Nat.{_≤_}
 use mathlib.Core.Path.{_≡_, refl, sym, _∙_}
 use native.Mathlib.Omega.{arith}
-use Rattle.resolve_framing.proofs.Framing.{Found, found-none, found-here, found-on}
+use Rattle.resolve_framing.proofs.Framing.{framedBefore, found-none, found-here, found-on}
 use Rattle.resolve_framing.proofs.has_access.Statement.{statement}
 use Rattle.resolve_framing.proofs.has_access.Tie as tie
 
 abbrev Inv-loop : tie.InvT-loop
-Inv-loop work first n x f i₀ i = (i ≤ n) × (Found work first x f n ≡ Found work first x f i)
+Inv-loop work first n x f i₀ i = (i ≤ n) × (framedBefore work first x f n ≡ framedBefore work first x f i)
 
 abbrev μ-loop : tie.MeasureT-loop
 μ-loop work first n x f i₀ i = i

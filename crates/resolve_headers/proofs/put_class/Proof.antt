@@ -5,8 +5,8 @@ use borrow.Author.Needs.{needs}
 use Rattle.resolve_headers.proofs.put_class.Statement.{statement}
 use Rattle.resolve_headers.proofs.put_class.Tie as tie
 
-put-class-requires : tie.Need-put-class-requires
-put-class-requires c κs = search needs
+put-class-row-requires : tie.Need-put-class-row-requires
+put-class-row-requires c κs = search needs
 
 with-class-requires : tie.Need-with-class-requires
 with-class-requires c κs = search needs
@@ -19,8 +19,8 @@ same-length c = search needs
 
 returns : tie.Need-returns
 returns c =
-    (c .moved .ensures ∙ (λ j. moved (c .before .before .before .before .before .before .before .before .before .args .p) (c .before .before .before .before .before .before .before .before .before .args .p .names) (c .before .with-class .ensures j) (c .before .before .before .before .before .before .before .before .before .args .p .main)), c .before .before .before .before .put-class .ensures)
+    (c .moved .ensures ∙ (λ j. moved (c .before .before .before .before .before .before .before .before .before .args .p) (c .before .before .before .before .before .before .before .before .before .args .p .names) (c .before .with-class .ensures j) (c .before .before .before .before .before .before .before .before .before .args .p .main)), c .before .before .before .before .put-class-row .ensures)
 
 pub put-class-spec : {M : Type 1} → statement M
 put-class-spec =
-    tie.close (tie.spec put-class-requires with-class-requires moved-requires same-length returns)
+    tie.close (tie.spec put-class-row-requires with-class-requires moved-requires same-length returns)

@@ -56,13 +56,13 @@ name-in-requires c κs = search needs
 field-number-requires : tie.Need-field-number-requires
 field-number-requires c κs = search needs
 
-sub-put-field : tie.Need-sub-put-field
+sub-put-class-field : tie.Need-sub-put-class-field
 unfolding kindNumber
-sub-put-field c = omega (arith, room-as Field refl (c .before .before .before .before .before .before .before .before .before .before .before .before .before .before .before .before .pre .3) .field refl .0 .0)
+sub-put-class-field c = omega (arith, room-as Field refl (c .before .before .before .before .before .before .before .before .before .before .before .before .before .before .before .before .pre .3) .field refl .0 .0)
 
-put-field-requires : tie.Need-put-field-requires
+put-class-field-requires : tie.Need-put-class-field-requires
 unfolding kindNumber
-put-field-requires c κs =
+put-class-field-requires c κs =
     let p = c .before .before .before .before .before .before .before .before .before .before .before .before .before .before .before .before .pre in
     let v = c .before .before .before .before .before .before .before .before .before .before .before .before .before .before .before .before .args in
     let x = c .before .before .before .before .before .before .before .before .before .before .before .span-after .ensures in
@@ -107,7 +107,7 @@ returns-2 c =
     let new = new-field t w (v .p) ws _ (c .before .before .before .before .before .before .before .before .before .before .before .before .before .before .before .before .span-after .result) (c .before .before .before .before .before .before .before .before .before .before .before .before .before .before .span-after2 .result) (x .name) n test passed in
     put-on t w (v .p) (v .r) Field refl good passed
     (at-end
-    (c .before .before .before .before .put-field .ensures ∙ (λ j. putField w (v .p .above .classes - 1) (name j) (int j)))
+    (c .before .before .before .before .put-class-field .ensures ∙ (λ j. putField w (v .p .above .classes - 1) (name j) (int j)))
     (c .moved .ensures ∙ (λ j. moved (v .p) (v .p .names) (c .before .with-field .ensures j) (v .p .main)))
     (field-line t w (v .p) ws (v .p .above .classes - 1) (p .0) room (p .4) last new))
 
@@ -124,8 +124,8 @@ put-field-spec =
     is-int-requires
     name-in-requires
     field-number-requires
-    sub-put-field
-    put-field-requires
+    sub-put-class-field
+    put-class-field-requires
     with-field-requires
     moved-requires
     same-length-2

@@ -67,9 +67,9 @@ after-requires c κs =
     let start = c .before .before .before .before .before .before .before .before .before .before .before .before .before .before .before .before in
     omega (arith, start .pre .0 .above .methods)
 
-put-method-requires : tie.Need-put-method-requires
+put-method-row-requires : tie.Need-put-method-row-requires
 unfolding kindNumber
-put-method-requires c κs =
+put-method-row-requires c κs =
     let p = c .before .before .before .before .before .before .before .before .before .before .before .before .before .before .before .before .before .pre in
     (p .0 .whole, (omega (arith, c .after .ensures, room-as Method refl (p .3) .method refl .1 .0, p .0 .names .methods), omega (arith, p .4 .rows)))
 
@@ -81,7 +81,7 @@ put-block-requires c κs =
     let at-span-after = c .before .before .before .before .before .before .before .before .before .before .before .span-after in
     let at-name-at = c .before .before .before .before .before .before .name-at in
     let at-after = c .before .before .before .before .after in
-    let at-put-method = c .before .before .before .put-method in
+    let at-put-method-row = c .before .before .before .put-method-row in
     let p = start .pre in
     let v = start .args in
     let m = at-method-row .ensures in
@@ -90,7 +90,7 @@ put-block-requires c κs =
     in
     let s = span-fits (v .text .now) (at-span-after .result) (p .0 .text) (x .high) (ap isName (x .name ∙ m .parameter) ∙ parameter-name (more (drop
     (v .r) (v .text .now))) (p .2)) in (
-      ap length (at-put-method .ensures) ∙ (method-length (v .work .now) (at-after .result) (v .p .rows) (p .0 .whole) few ∙ p .0 .whole),
+      ap length (at-put-method-row .ensures) ∙ (method-length (v .work .now) (at-after .result) (v .p .rows) (p .0 .whole) few ∙ p .0 .whole),
       at-name-at
           .ensures .1,
       m .fits,
@@ -123,7 +123,7 @@ returns-2 c =
     let at-if1 = c .before .before .before .before .before .before .before .before .before .before .before .before .before .before .if1 in
     let at-name-at = c .before .before .before .before .before .before .before .before .before .before .before .before .name-at in
     let at-after = c .before .before .before .before .before .before .before .before .before .before .after in
-    let at-put-method = c .before .before .before .before .before .before .before .before .before .put-method in
+    let at-put-method-row = c .before .before .before .before .before .before .before .before .before .put-method-row in
     let at-put-block = c .before .before .before .before .before .put-block in
     let at-in-method = c .before .before .in-method in
     let p = start .pre in
@@ -140,7 +140,7 @@ returns-2 c =
     let last : v .p .above .classes ≡ suc (v .p .above .classes - 1) = omega (arith, room .method refl .0) in
     let good = method-test t w (v .p) ws _ (at-span-after .result) m name (p .2) (at-may-add-method .ensures) in
     put-on t w (v .p) (v .r) Method refl good (not-false _ (at-if1 .left)) (at-end (at-put-block .ensures ∙ ap (λ u. putBlock t u (at-name-at .result)
-    (at-method-row .result) (at-span-after .result)) (at-put-method .ensures ∙ (λ j. putMethod w (at-after .ensures j) (v .p .rows)))) (c .moved
+    (at-method-row .result) (at-span-after .result)) (at-put-method-row .ensures ∙ (λ j. putMethod w (at-after .ensures j) (v .p .rows)))) (c .moved
     .ensures ∙ (λ j. moved (v .p) (at-in-method .ensures j) (c .before .with-method .ensures j) (v .p .main))) (method-line t w (v .p) ws (v .p .above
     .classes - 1) (at-name-at .result) (at-span-after .result) (at-method-row .result) (p .0) room (p .4) last (k .0) (k .1) m name s))
 
@@ -157,7 +157,7 @@ put-method-spec =
     returns
     name-at-requires
     after-requires
-    put-method-requires
+    put-method-row-requires
     put-block-requires
     in-method-requires
     with-method-requires

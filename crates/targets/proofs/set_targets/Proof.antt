@@ -4,14 +4,14 @@ use Prim.Native.Nat.{ℕ, _-_, _≤_}
 use native.Mathlib.Omega.{arith}
 use lib.ListN.{length}
 use borrow.Author.Needs.{needs}
-use Rattle.targets.specs.Targets.{Fits, power, stackOf, targetsFrom}
+use Rattle.targets.specs.Targets.{StackFits, power, stackOf, targetsFrom}
 use Rattle.targets.proofs.Stacks.{targets-on, targets-end, work-after-length}
 use Rattle.targets.proofs.set_targets.Statement.{statement}
 use Rattle.targets.proofs.set_targets.Tie as tie
 
 abbrev Inv-loop : tie.InvT-loop
 Inv-loop work₀ n o₀ i₀ work o i =
-    (length work ≡ 65536) × (i ≤ n) × Fits (o .depth) (o .rows)
+    (length work ≡ 65536) × (i ≤ n) × StackFits (o .depth) (o .rows)
     × (targetsFrom work i (n - i) (stackOf (o .depth) (o .rows)) ≡ targetsFrom work₀ 0 n [])
 
 abbrev μ-loop : tie.MeasureT-loop

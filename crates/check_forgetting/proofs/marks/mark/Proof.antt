@@ -1,0 +1,25 @@
+use Rattle.check_forgetting.proofs.Marking.{marked, not-marked}
+use borrow.Author.Needs.{needs}
+use Rattle.check_forgetting.proofs.marks.mark.Statement.{statement}
+use Rattle.check_forgetting.proofs.marks.mark.Tie as tie
+
+path-key-requires : tie.Need-path-key-requires
+path-key-requires c κs = search needs
+
+place-requires : tie.Need-place-requires
+place-requires c κs = search needs
+
+element-write-marks : tie.Need-element-write-marks
+element-write-marks c = search needs
+
+returns : tie.Need-returns
+returns c =
+    rw (c .before .before .if1 .taken) (marked _ _ _ _ _ (c .before .before .before .pre) (c .before .path-key .ensures .0) (c .place .ensures))
+
+returns-2 : tie.Need-returns-2
+returns-2 c =
+    rw (c .if1 .left) (not-marked _ _ _)
+
+pub mark-spec : {M : Type 1} → statement M
+mark-spec =
+    tie.close (tie.spec path-key-requires place-requires element-write-marks returns returns-2)

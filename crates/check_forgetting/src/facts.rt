@@ -1,0 +1,171 @@
+// What becomes of the sides of the facts, in the slots from LEFT to m: of the side in slot i the key that stands there, or nothing where
+// `gone` has the flag i. For each way of forgetting one function stores that and tells whether it changes anything.
+use crate::keys;
+use crate::marks;
+use check_equality::State;
+use rules::Machine;
+ghost use mathlib.Core.Path.{_≡_};
+ghost use mathlib.Core.Bool.{false};
+ghost use Prim.Native.Nat.{_+_, _*_, _≤_, _<_};
+ghost use lib.ListN.{length};
+ghost use lib.Dec.{eqb};
+ghost use Rattle.rules.specs.Limits.{most-permissions, most-facts};
+ghost use Rattle.check_equality.specs.Layout.{slots, bytes, left-sides};
+ghost use Rattle.check_equality.specs.Links.{Header, Marked};
+ghost use Rattle.check_state.specs.States.{Linked, entries};
+ghost use Rattle.check_forgetting.specs.Changes.{Fresh, mentionsKey, Dropped, RenamedKeys, KeepsFact, Sized, Unchanged, Rebuilt, keyOut};
+
+// The labels of the slots before the facts' are their own numbers.
+pub fn fresh(b: &mut [u8; State::BYTES])
+    requires { ⌜ length (now b) ≡ bytes ⌝ }
+    ensures { λ _. ⌜ Fresh (now (b .entry)) (now (b .exit)) ⌝ }
+{
+    let mut i = 0;
+    while i < State::LEFT {
+        b[i] = i as u8;
+        i += 1;
+    }
+}
+
+// One more fact, unless it is out; the count of facts then.
+fn keep_fact(
+    key: &mut [u64; State::SLOTS],
+    b: &mut [u8; State::BYTES],
+    marks: &mut [bool; State::MARKS],
+    n: usize,
+    out: bool,
+    c: u8,
+    l: u64,
+    r: u64,
+) -> usize
+    requires { ⌜ (n < most-facts) × Linked (now key) (now b) n × Marked (now key) (now marks) (left-sides + 2 * n) ⌝ }
+    ensures { λ a. ⌜ KeepsFact (now (key .entry)) (now (b .entry)) n out c l r (now (key .exit)) (now (b .exit)) a × Marked (now (key .exit)) (now (marks .exit)) (left-sides + 2 * a) ⌝ }
+{
+    if out {
+        return n;
+    }
+    check_equality::push_marked(key, b, marks, State::LEFT + 2 * n, c == 1, l, r);
+    b[State::RELATIONS + n] = c;
+    n + 1
+}
+
+// The path of the key k is dropped.
+pub fn drop_path<'a>(
+    key: &'a [u64; State::SLOTS],
+    m: usize,
+    k: u64,
+    gone: &mut [bool; State::SLOTS],
+) -> bool
+    requires { ⌜ (m ≤ slots) × (length (now gone) ≡ slots) ⌝ }
+    ensures { λ r. ⌜ Dropped (λ l. eqb l k) (now (key .entry)) m (now (gone .exit)) r ⌝ }
+{
+    let mut changed = false;
+    let mut i = State::LEFT;
+    while i < m {
+        let out = key[i] == k;
+        gone[i] = out;
+        changed = changed | out;
+        i += 1;
+    }
+    changed
+}
+
+// All that names x is dropped.
+pub fn drop_variable<'a>(
+    key: &'a [u64; State::SLOTS],
+    m: usize,
+    x: u8,
+    gone: &mut [bool; State::SLOTS],
+) -> bool
+    requires { ⌜ (m ≤ slots) × (length (now gone) ≡ slots) ⌝ }
+    ensures { λ r. ⌜ Dropped (mentionsKey x) (now (key .entry)) m (now (gone .exit)) r ⌝ }
+{
+    let mut changed = false;
+    let mut i = State::LEFT;
+    while i < m {
+        let out = keys::mentions(key[i], x);
+        gone[i] = out;
+        changed = changed | out;
+        i += 1;
+    }
+    changed
+}
+
+// The paths of the entries that are out are dropped.
+pub fn drop_paths<'a>(
+    key: &'a [u64; State::SLOTS],
+    b: &'a [u8; State::BYTES],
+    out: &'a [bool; Machine::PERMISSIONS],
+    m: usize,
+    gone: &mut [bool; State::SLOTS],
+) -> bool
+    requires { ⌜ (m ≤ slots) × (entries (now b) ≤ most-permissions) × (length (now gone) ≡ slots) ⌝ }
+    ensures { λ r. ⌜ Dropped (keyOut (now (b .entry)) (now (out .entry))) (now (key .entry)) m (now (gone .exit)) r ⌝ }
+{
+    let n = b[State::ENTRIES] as usize;
+    let marks = marks::marks_out(b, out, n);
+    let mut changed = false;
+    let mut i = State::LEFT;
+    while i < m {
+        let named = marks::names_marked(b, out, &marks, n, key[i]);
+        gone[i] = named;
+        changed = changed | named;
+        i += 1;
+    }
+    changed
+}
+
+// x is renamed to the variable `to`.
+pub fn rename_keys(key: &mut [u64; State::SLOTS], m: usize, x: u8, to: u8) -> bool
+    requires { ⌜ (m ≤ slots) × Header (now key) ⌝ }
+    ensures { λ r. ⌜ RenamedKeys x to (now (key .entry)) m (now (key .exit)) r ⌝ }
+{
+    let mut changed = false;
+    let mut i = State::LEFT;
+    while i < m {
+        let k = key[i];
+        let l = keys::rename(k, x, to);
+        key[i] = l;
+        changed = changed | (l != k);
+        i += 1;
+    }
+    changed
+}
+
+// The facts of which no side is gone, with labels made anew.
+fn rebuild(key: &mut [u64; State::SLOTS], b: &mut [u8; State::BYTES], gone: &[bool; State::SLOTS])
+    requires { ⌜ Sized (now key) (now b) ⌝ }
+    ensures { λ _. ⌜ Rebuilt (now (key .entry)) (now (b .entry)) (now (gone .entry)) (now (key .exit)) (now (b .exit)) ⌝ }
+{
+    let all = b[State::FACTS] as usize;
+    let mut marks = [false; State::MARKS];
+    fresh(b);
+    let mut n = 0;
+    let mut i = 0;
+    while i < all {
+        let l = State::LEFT + 2 * i;
+        let r = State::RIGHT + 2 * i;
+        let out = gone[l] | gone[r];
+        let c = b[State::RELATIONS + i];
+        let left = key[l];
+        let right = key[r];
+        n = keep_fact(key, b, &mut marks, n, out, c, left, right);
+        i += 1;
+    }
+    b[State::FACTS] = n as u8;
+}
+
+// As `rebuild`; nothing is done where nothing changes.
+pub fn forget(
+    key: &mut [u64; State::SLOTS],
+    b: &mut [u8; State::BYTES],
+    gone: &[bool; State::SLOTS],
+    changed: bool,
+)
+    requires { ⌜ Sized (now key) (now b) × (changed ≡ false → Unchanged (now key) (now b) (now gone)) ⌝ }
+    ensures { λ _. ⌜ Rebuilt (now (key .entry)) (now (b .entry)) (now (gone .entry)) (now (key .exit)) (now (b .exit)) ⌝ }
+{
+    if changed {
+        rebuild(key, b, gone);
+    }
+}

@@ -1,0 +1,94 @@
+// Which keys are those of entries that are out, by marks.
+use check_equality::State;
+use rules::Machine;
+ghost use mathlib.Core.Path.{_≡_};
+ghost use mathlib.Core.Bool.{false};
+ghost use Prim.Native.Nat.{_+_, _≤_, _<_};
+ghost use lib.ListN.{length};
+ghost use Rattle.rules.specs.Base.{any};
+ghost use Rattle.rules.specs.Limits.{most-permissions};
+ghost use Rattle.check_equality.specs.Layout.{mark-count};
+ghost use Rattle.check_state.specs.Questions.{places};
+ghost use Rattle.check_forgetting.specs.Changes.{pathOut, pathOutAt, Marks, MarksOut};
+
+// Is the entry x.f out, and its path that of the key?
+fn path_out(out: bool, x: u8, f: u8, k: u64) -> bool
+    ensures { λ r. ⌜ r ≡ pathOut out x f k ⌝ }
+{
+    if out {
+        return check_equality::path_key(x, f) == k;
+    }
+    false
+}
+
+// Is a key that of an entry that is out?
+fn names_out<'a>(
+    b: &'a [u8; State::BYTES],
+    out: &'a [bool; Machine::PERMISSIONS],
+    n: usize,
+    k: u64,
+) -> bool
+    requires { ⌜ n ≤ most-permissions ⌝ }
+    ensures { λ r. ⌜ r ≡ any (pathOutAt (now (b .entry)) (now (out .entry)) k) (places n) ⌝ }
+{
+    let mut i = 0;
+    while i < n {
+        if path_out(out[i], b[State::VARIABLES + i], b[State::FIELDS + i], k) {
+            return true;
+        }
+        i += 1;
+    }
+    false
+}
+
+// Marks the place of the key of x.f, where that entry is out.
+fn mark(marks: &mut [bool; State::MARKS], out: bool, x: u8, f: u8)
+    requires { ⌜ length (now marks) ≡ mark-count ⌝ }
+    ensures { λ _. ⌜ Marks out x f (now (marks .entry)) (now (marks .exit)) ⌝ }
+{
+    if out {
+        let p = check_equality::place(check_equality::path_key(x, f));
+        marks[p] = true;
+    }
+}
+
+// The places of the keys of all entries that are out.
+pub fn marks_out<'a>(
+    b: &'a [u8; State::BYTES],
+    out: &'a [bool; Machine::PERMISSIONS],
+    n: usize,
+) -> [bool; State::MARKS]
+    requires { ⌜ n ≤ most-permissions ⌝ }
+    ensures { λ r. ⌜ MarksOut (now (b .entry)) (now (out .entry)) n r ⌝ }
+{
+    let mut marks = [false; State::MARKS];
+    let mut i = 0;
+    while i < n {
+        mark(
+            &mut marks,
+            out[i],
+            b[State::VARIABLES + i],
+            b[State::FIELDS + i],
+        );
+        i += 1;
+    }
+    marks
+}
+
+// As `names_out`, by a look at the marks first.
+pub fn names_marked<'a>(
+    b: &'a [u8; State::BYTES],
+    out: &'a [bool; Machine::PERMISSIONS],
+    marks: &'a [bool; State::MARKS],
+    n: usize,
+    k: u64,
+) -> bool
+    requires { ⌜ (n ≤ most-permissions) × MarksOut (now b) (now out) n (now marks) ⌝ }
+    ensures { λ r. ⌜ r ≡ any (pathOutAt (now (b .entry)) (now (out .entry)) k) (places n) ⌝ }
+{
+    let p = check_equality::place(k);
+    if marks[p] {
+        return names_out(b, out, n, k);
+    }
+    false
+}
