@@ -59,6 +59,6 @@ no-variable = 255
 unfoldable pub variableOr : ℕ → Option ℕ
 variableOr v = cond (eqb v no-variable) none (some v)
 
--- another variable, and ~ x
-unfoldable pub standsFor : Rules.Equality → ℕ → ℕ → Bool
-standsFor same x v = not (eqb v x) && same (Syntax.var v) (Syntax.var x)
+-- another variable than x, and ~ t
+unfoldable pub standsFor : Equality → ℕ → Rules.Term → ℕ → Bool
+standsFor _~_ x t v = not (eqb v x) && _~_ (var v) t
