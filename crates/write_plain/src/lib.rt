@@ -239,14 +239,7 @@ fn may_compute(text: &[u8], work: &[u8], x: usize, y: usize, z: usize) -> bool
 }
 
 // `add x y z` and `sub x y z`
-fn compute_row(
-    text: &[u8],
-    work: &[u8],
-    c: Names,
-    kind: u8,
-    r: usize,
-    line: usize,
-) -> TriedRow
+fn compute_row(text: &[u8], work: &[u8], c: Names, kind: u8, r: usize, line: usize) -> TriedRow
     requires { ⌜ AreaFits (now work) c × (r ≤ length (now text)) ⌝ }
     ensures { λ o. ⌜ TriedAfter (now (text .entry)) (now (work .entry)) c r computeGood (λ Γ vs ws l. computeRow Γ vs ws l kind) line o ⌝ }
 {
