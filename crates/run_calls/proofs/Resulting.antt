@@ -9,7 +9,7 @@ use Rattle.rules.specs.Base.{update}
 use Rattle.rules.specs.Syntax.{result-variable}
 use Rattle.rules.specs.Machine.{Config, valueOf, bind, withFrame, returnStep}
 use Rattle.rules.specs.declared.Machine.{Machine}
-use Rattle.tables.specs.Layout.{frame-variables, frames-at}
+use Rattle.tables.specs.Layout.{frames-at}
 use Rattle.tables.specs.Decode.{programIn, xAt}
 use Rattle.tables.specs.Stores.{SameTables, putWord}
 use Rattle.tables.proofs.Bytes.{same-trans}
