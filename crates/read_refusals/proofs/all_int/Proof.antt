@@ -40,8 +40,16 @@ and-requires-2 c κs = search needs
 returns : tie.Need-returns
 unfolding isInt
 returns c =
-    c .and2 .ensures
-    ∙ rw (c .before .is-int3 .ensures, c .before .before .and .ensures, c .before .before .before .before .is-int .ensures, c .before .before .before .is-int2 .ensures, c .before .before .before .before .before .before .before .before .before .variable-type .ensures, c .before .before .before .before .before .before .before .variable-type2 .ensures, c .before .before .before .before .before .variable-type3 .ensures, c .before .before .before .before .before .before .before .before .before .before .nth-field .ensures, c .before .before .before .before .before .before .before .before .nth-field2 .ensures, c .before .before .before .before .before .before .nth-field3 .ensures)
+    let at-nth-field = c .before .before .before .before .before .before .before .before .before .before .nth-field in
+    let at-variable-type = c .before .before .before .before .before .before .before .before .before .variable-type in
+    let at-nth-field2 = c .before .before .before .before .before .before .before .before .nth-field2 in
+    let at-variable-type2 = c .before .before .before .before .before .before .before .variable-type2 in
+    let at-nth-field3 = c .before .before .before .before .before .before .nth-field3 in
+    let at-variable-type3 = c .before .before .before .before .before .variable-type3 in
+    let at-is-int = c .before .before .before .before .is-int in
+    let at-is-int2 = c .before .before .before .is-int2 in
+    let at-and = c .before .before .and in
+    c .and2 .ensures ∙ rw (c .before .is-int3 .ensures, at-and .ensures, at-is-int .ensures, at-is-int2 .ensures, at-variable-type .ensures, at-variable-type2 .ensures, at-variable-type3 .ensures, at-nth-field .ensures, at-nth-field2 .ensures, at-nth-field3 .ensures)
 
 pub all-int-spec : {M : Type 1} → statement M
 all-int-spec =

@@ -19,7 +19,12 @@ is-int-requires : tie.Need-is-int-requires
 is-int-requires c κs = search needs
 
 returns-2 : tie.Need-returns-2
-returns-2 c = rw (sym (c .before .before .before .before .is-local .ensures) ∙ not-false _ (c .before .before .before .if1 .left), ap (λ s. is "int" (nameIn (c .before .before .before .before .before .before .before .args .text .now) s)) (sym (c .before .before .type-of .ensures)) ∙ (sym (c .before .is-int .ensures) ∙ not-true _ (c .if2 .taken)))
+returns-2 c =
+    let start = c .before .before .before .before .before .before .before in
+    let at-is-local = c .before .before .before .before .is-local in
+    let at-if1 = c .before .before .before .if1 in
+    let at-type-of = c .before .before .type-of in
+    rw (sym (at-is-local .ensures) ∙ not-false _ (at-if1 .left), ap (λ s. is "int" (nameIn (start .args .text .now) s)) (sym (at-type-of .ensures)) ∙ (sym (c .before .is-int .ensures) ∙ not-true _ (c .if2 .taken)))
 
 type-of-requires-2 : tie.Need-type-of-requires-2
 type-of-requires-2 c κs = search needs
@@ -28,7 +33,19 @@ is-int-requires-2 : tie.Need-is-int-requires-2
 is-int-requires-2 c κs = search needs
 
 returns-3 : tie.Need-returns-3
-returns-3 c = rw (sym (c .before .before .before .before .before .before .before .is-local .ensures) ∙ not-false _ (c .before .before .before .before .before .before .if1 .left), ap (λ s. is "int" (nameIn (c .before .before .before .before .before .before .before .before .before .before .args .text .now) s)) (sym (c .before .before .before .before .before .type-of .ensures)) ∙ (sym (c .before .before .before .before .is-int .ensures) ∙ not-false _ (c .before .before .before .if2 .left)), ap (λ s. is "int" (nameIn (c .before .before .before .before .before .before .before .before .before .before .args .text .now) s)) (sym (c .before .before .type-of2 .ensures)) ∙ (sym (c .before .is-int2 .ensures) ∙ not-true _ (c .if3 .taken)))
+returns-3 c =
+    let start = c .before .before .before .before .before .before .before .before .before .before in
+    let at-is-local = c .before .before .before .before .before .before .before .is-local in
+    let at-if1 = c .before .before .before .before .before .before .if1 in
+    let at-type-of = c .before .before .before .before .before .type-of in
+    let at-is-int = c .before .before .before .before .is-int in
+    let at-if2 = c .before .before .before .if2 in
+    let at-type-of2 = c .before .before .type-of2 in
+    rw (
+      sym (at-is-local .ensures) ∙ not-false _ (at-if1 .left),
+      ap (λ s. is "int" (nameIn (start .args .text .now) s)) (sym (at-type-of .ensures)) ∙ (sym (at-is-int .ensures) ∙ not-false _ (at-if2 .left)),
+      ap (λ s. is "int" (nameIn (start .args .text .now) s)) (sym (at-type-of2 .ensures)) ∙ (sym (c .before .is-int2 .ensures) ∙ not-true _ (c .if3 .taken)),
+    )
 
 type-of-requires-3 : tie.Need-type-of-requires-3
 type-of-requires-3 c κs = search needs
@@ -37,7 +54,22 @@ is-int-requires-3 : tie.Need-is-int-requires-3
 is-int-requires-3 c κs = search needs
 
 returns-4 : tie.Need-returns-4
-returns-4 c = rw (sym (c .before .before .before .before .before .before .before .before .before .is-local .ensures) ∙ not-false _ (c .before .before .before .before .before .before .before .before .if1 .left), ap (λ s. is "int" (nameIn (c .before .before .before .before .before .before .before .before .before .before .before .before .args .text .now) s)) (sym (c .before .before .before .before .before .before .before .type-of .ensures)) ∙ (sym (c .before .before .before .before .before .before .is-int .ensures) ∙ not-false _ (c .before .before .before .before .before .if2 .left)), ap (λ s. is "int" (nameIn (c .before .before .before .before .before .before .before .before .before .before .before .before .args .text .now) s)) (sym (c .before .before .before .before .type-of2 .ensures)) ∙ (sym (c .before .before .before .is-int2 .ensures) ∙ not-false _ (c .before .before .if3 .left)), ← c .before .type-of3 .ensures) (c .is-int3 .ensures)
+returns-4 c =
+    let start = c .before .before .before .before .before .before .before .before .before .before .before .before in
+    let at-is-local = c .before .before .before .before .before .before .before .before .before .is-local in
+    let at-if1 = c .before .before .before .before .before .before .before .before .if1 in
+    let at-type-of = c .before .before .before .before .before .before .before .type-of in
+    let at-is-int = c .before .before .before .before .before .before .is-int in
+    let at-if2 = c .before .before .before .before .before .if2 in
+    let at-type-of2 = c .before .before .before .before .type-of2 in
+    let at-is-int2 = c .before .before .before .is-int2 in
+    let at-if3 = c .before .before .if3 in
+    rw (
+      sym (at-is-local .ensures) ∙ not-false _ (at-if1 .left),
+      ap (λ s. is "int" (nameIn (start .args .text .now) s)) (sym (at-type-of .ensures)) ∙ (sym (at-is-int .ensures) ∙ not-false _ (at-if2 .left)),
+      ap (λ s. is "int" (nameIn (start .args .text .now) s)) (sym (at-type-of2 .ensures)) ∙ (sym (at-is-int2 .ensures) ∙ not-false _ (at-if3 .left)),
+      ← c .before .type-of3 .ensures,
+    ) (c .is-int3 .ensures)
 
 pub may-compute-spec : {M : Type 1} → statement M
 may-compute-spec =
