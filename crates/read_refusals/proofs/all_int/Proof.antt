@@ -1,0 +1,61 @@
+use mathlib.Core.Path.{_∙_}
+use Rattle.rules.specs.Names.{isInt}
+use borrow.Author.Needs.{needs}
+use Rattle.read_refusals.proofs.all_int.Statement.{statement}
+use Rattle.read_refusals.proofs.all_int.Tie as tie
+
+nth-field-requires : tie.Need-nth-field-requires
+nth-field-requires c κs = search needs
+
+variable-type-requires : tie.Need-variable-type-requires
+variable-type-requires c κs = search needs
+
+nth-field-requires-2 : tie.Need-nth-field-requires-2
+nth-field-requires-2 c κs = search needs
+
+variable-type-requires-2 : tie.Need-variable-type-requires-2
+variable-type-requires-2 c κs = search needs
+
+nth-field-requires-3 : tie.Need-nth-field-requires-3
+nth-field-requires-3 c κs = search needs
+
+variable-type-requires-3 : tie.Need-variable-type-requires-3
+variable-type-requires-3 c κs = search needs
+
+is-int-requires : tie.Need-is-int-requires
+is-int-requires c κs = search needs
+
+is-int-requires-2 : tie.Need-is-int-requires-2
+is-int-requires-2 c κs = search needs
+
+and-requires : tie.Need-and-requires
+and-requires c κs = search needs
+
+is-int-requires-3 : tie.Need-is-int-requires-3
+is-int-requires-3 c κs = search needs
+
+and-requires-2 : tie.Need-and-requires-2
+and-requires-2 c κs = search needs
+
+returns : tie.Need-returns
+unfolding isInt
+returns c =
+    c .and2 .ensures
+    ∙ rw (c .before .is-int3 .ensures, c .before .before .and .ensures, c .before .before .before .before .is-int .ensures, c .before .before .before .is-int2 .ensures, c .before .before .before .before .before .before .before .before .before .variable-type .ensures, c .before .before .before .before .before .before .before .variable-type2 .ensures, c .before .before .before .before .before .variable-type3 .ensures, c .before .before .before .before .before .before .before .before .before .before .nth-field .ensures, c .before .before .before .before .before .before .before .before .nth-field2 .ensures, c .before .before .before .before .before .before .nth-field3 .ensures)
+
+pub all-int-spec : {M : Type 1} → statement M
+all-int-spec =
+    tie.close
+    (tie.spec
+    nth-field-requires
+    variable-type-requires
+    nth-field-requires-2
+    variable-type-requires-2
+    nth-field-requires-3
+    variable-type-requires-3
+    is-int-requires
+    is-int-requires-2
+    and-requires
+    is-int-requires-3
+    and-requires-2
+    returns)
