@@ -79,9 +79,13 @@ block-kind-at-requires t c κs =
 block-return-at-requires : (t : ℕ) → block-lts.Need-return-at-requires (block-calls t) (block-at t) block.Post block-Inv-loop block-μ-loop
 block-return-at-requires t c κs =
     let start = c .before .before .before .before .before .before .before .before in
-    let at-loop = c .before .before .before .before .before .before .loop in
-    (start .pre .1 .0, at-loop .inv .within, sym (c .before .before .before .kind-at .ensures) ∙ c .before .before .if2 .taken, start .pre .1 .4,
-    at-loop .inv .wf)
+    let at-loop = c .before .before .before .before .before .before .loop in (
+      start .pre .1 .0,
+      at-loop .inv .within,
+      sym (c .before .before .before .kind-at .ensures) ∙ c .before .before .if2 .taken,
+      start .pre .1 .4,
+      at-loop .inv .wf,
+    )
 
 block-returns : (t : ℕ) → block-lts.Need-returns (block-calls t) (block-at t) block.Post block-Inv-loop block-μ-loop
 block-returns t c =
@@ -343,9 +347,13 @@ block-statement-requires t c κs =
     let at-is-closing-at = c .before .before .before .before .before .before .is-closing-at in
     let at-if1 = c .before .before .before .before .before .if1 in
     let at-kind-at = c .before .before .before .before .kind-at in
-    let at-if3 = c .before .before .if3 in
-    (start .pre .1 .0, at-loop .inv .within, going _ (sym (at-is-closing-at .ensures) ∙ not-true _ (at-if1 .taken)) (λ e.
-    c .before .before .before .if2 .left (at-kind-at .ensures ∙ e)) (λ e. at-if3 .left (at-kind-at .ensures ∙ e)), at-loop .inv .wf)
+    let at-if3 = c .before .before .if3 in (
+      start .pre .1 .0,
+      at-loop .inv .within,
+      going _ (sym (at-is-closing-at .ensures) ∙ not-true _ (at-if1 .taken)) (λ e.
+          c .before .before .before .if2 .left (at-kind-at .ensures ∙ e)) (λ e. at-if3 .left (at-kind-at .ensures ∙ e)),
+      at-loop .inv .wf,
+    )
 
 block-enum-told-4 : (t : ℕ) → block-lts.Need-enum-told-4 (block-calls t) (block-at t) block.Post block-Inv-loop block-μ-loop
 block-enum-told-4 t c =
