@@ -6,20 +6,18 @@ use mathlib.Core.Logic.{⊎-elim}
 use mathlib.Core.Option.{none, some}
 use Prim.Native.Nat.{ℕ, suc, _+_, _-_, _≤_, _<_}
 use native.Mathlib.Omega.{arith}
-use lib.ListN.{drop}
-use borrow.Author.Tests.{eqb-true, ne-eqb}
+use borrow.Author.Tests.{ne-eqb}
 use types.Run.{OneOf, miss}
 use denote.Enum.Declared.{tagOf}
-use Rattle.rules.specs.Base.{Try, ok, no, _>>=_}
 use Rattle.rules.specs.Limits.{most-branches}
 use Rattle.rules.specs.Grammar.{statementNumber, isClosingNumber, GoesOn}
 use Rattle.rules.specs.Answers as Answers
-use Rattle.rules.specs.Answers.{Refusal, accepted, refused, atLine, then, malformed}
+use Rattle.rules.specs.Answers.{accepted, refused, then, malformed}
 use Rattle.rules.specs.Syntax.{Formula, Rel, if}
 use Rattle.rules.specs.State as Rules
-use Rattle.rules.specs.Rules.{End, Open, inFirst, inSecond, ifRule, returnRule, showEnd, joinRule, checkRows, checkFrom, checkMethod, checkBlocks, checkProgram}
+use Rattle.rules.specs.Rules.{End, Open, inFirst, inSecond, ifRule, returnRule, showEnd, joinRule, checkFrom, checkMethod, checkBlocks, checkProgram}
 use Rattle.rules.proofs.Lists.{decide-eq}
-use Rattle.tables.specs.Decode.{operandsAt, run, kindAt, xAt, lineAt, stmtAt, formulaAt, rowCount, allRows, programIn, methodAt, methodsFrom, methodCount, mainFirst, atomsFrom, requiresAt, ensuresAt, firstRowAt, byteAt, halfAt, methodPlace}
+use Rattle.tables.specs.Decode.{operandsAt, run, kindAt, xAt, lineAt, stmtAt, formulaAt, rowCount, programIn, methodAt, methodsFrom, methodCount, mainFirst, atomsFrom, requiresAt, ensuresAt, firstRowAt, byteAt, halfAt, methodPlace}
 use Rattle.check_formulas.specs.Formulas.{formula}
 use Rattle.tables.specs.Tables.{Tables}
 use Rattle.check_entailment.specs.declared.Answer.{Answer}

@@ -9,7 +9,7 @@ use native.Mathlib.Omega.{arith}
 use lib.Dec.{T, eqb, leb, leb→le}
 use lib.ListN.{drop}
 use borrow.Author.Tests.{eqb-false}
-use Rattle.rules.specs.Base.{Try, ok}
+use Rattle.rules.specs.Base.{Try}
 use Rattle.rules.specs.Grammar.{IsStatementNumber, statementNumber, isClosingNumber, isComputing, GoesOn}
 use Rattle.rules.specs.Answers as Answers
 use Rattle.rules.specs.Answers.{Refusal, accepted, refused, atLine, malformed}
@@ -18,17 +18,16 @@ use Rattle.rules.specs.Syntax as Syntax
 use Rattle.rules.specs.State as Rules
 use Rattle.rules.specs.Rules.{End, Following, Open, inFirst, inSecond, rule, newRule, callRule, ifRule, returnRule, showEnd, joinRule, reached, elseRow, joinRow, endRow, checkRow, checkRows}
 use Rattle.rules.proofs.Lists.{and-both, decide-eq}
-use Rattle.tables.specs.Decode.{operandsAt, kindAt, xAt, lineAt, stmtAt, rowAt, relOf, rowCount, classCount, methodCount, classAt, methodAt, allRows, programIn}
+use Rattle.tables.specs.Decode.{operandsAt, kindAt, lineAt, stmtAt, rowAt, relOf, rowCount, classCount, methodCount, classAt, methodAt, allRows, programIn}
 use Rattle.tables.specs.Tables.{nested, nestedRow}
 use Rattle.tables.proofs.Rows.{row-cons, class-get, method-get}
 use Rattle.tables.proofs.Statements.{if-means, no-branch, not-end}
 use Rattle.check_equality.specs.Links as Links
 use Rattle.check_entailment.specs.declared.Answer.{Answer}
 use Rattle.check_state.specs.States.{stateOf}
-use Rattle.check_forgetting.specs.Changes.{Becomes}
 use Rattle.check_entailment.specs.Answers.{answered, Adds}
 use Rattle.check_statements.specs.Statements.{Parts, Says}
-use Rattle.checker.specs.Checked.{outcome, Nests, verdictFrom, computeAt, RuleGives, Stepped}
+use Rattle.checker.specs.Checked.{outcome, Nests, verdictFrom, Stepped}
 
 -- `eq` by its number
 pub relation : (k : ℕ) → Links.relOf (not (eqb k 1)) ≡ relOf k
@@ -199,12 +198,6 @@ pub call-at :
     callRule x′ y′ (methodAt w m′) z′ s ≡ rule (programIn w) (Syntax.call x y m z) s
 unfolding rule
 call-at w x x′ y y′ m m′ z z′ s a b c d h = rw (a, b, c, d, method-get w m h)
-
-pub compute-at :
-    (w : List ℕ) (i x : ℕ) (key b : List ℕ) {key′ b′ : List ℕ} → x ≡ xAt w i → Becomes (Rules.remove x (stateOf key b)) key′ b′ →
-    RuleGives w (computeAt w i) key b Answer.Done key′ b′
-unfolding rule answered
-compute-at w i x key b e B = record { wf = B .wf; same = ap ok (B .same ∙ rw e) }
 
 -- the numbers of `add` and `sub`
 pub computes : (k n : ℕ) → k ≡ n → 19 ≤ k → k < 21 → T (isComputing n)

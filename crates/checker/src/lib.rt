@@ -78,7 +78,7 @@ fn call_at(w: &[u8], i: usize, key: &mut [u64; State::SLOTS], b: &mut [u8; State
     check_statements::call_rule(w, key, b, x, y, tables::member_at(w, i), z)
 }
 
-// `add x y z` or `sub x y z`: no more is known of x.
+// `add x y z` and `sub x y z`: "removes x and keeps no fact of the new value"
 fn compute_at(
     w: &[u8],
     i: usize,

@@ -11,8 +11,8 @@ use lib.ListN.{length, getD, length-append}
 use Rattle.rules.specs.Base.{ok}
 use Rattle.rules.specs.Syntax.{Rel, Expr, Operation, Simple, Stmt, Field, Method, Formula, Program, methodNumbered, result-variable}
 use Rattle.rules.specs.Syntax.{set, assign, compute, new, call, return, assert, release, simple, if, else, join, end}
-use Rattle.rules.specs.Machine.{Config, Frame, Location, Cell, Room, on, holds, without, valueAt, valueOf, locate, value, compared, footprint, jump, advance, bind, holding, withFrame, choose, ifStep, elseStep}
-use Rattle.rules.specs.Machine.{stored, setStep, assignStep, computed, computeStep, newCell, grown, newStep, callFrame, entered, callStep, returned, assertStep, releaseStep, endStep, returnStep, simpleStep, stepAt, step, statementOf}
+use Rattle.rules.specs.Machine.{Config, Frame, Location, Cell, Room, on, holds, without, valueAt, valueOf, locate, value, compared, footprint, jump, advance, bind, holding, withFrame, choose}
+use Rattle.rules.specs.Machine.{ifStep, elseStep, stored, setStep, assignStep, computed, computeStep, newCell, grown, newStep, callFrame, entered, callStep, returned, assertStep, releaseStep, endStep, returnStep, simpleStep, stepAt, step, statementOf}
 use Rattle.rules.specs.Runs.{Made}
 use Rattle.rules.proofs.Tries.{bind-ok, check-ok, ok-inj}
 use Rattle.rules.proofs.Sets.{Holds, location-eq, in-append, in-new, without-in, without-out, locate-holds, locate-is, footprint-held}

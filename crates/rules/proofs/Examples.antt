@@ -286,6 +286,7 @@ rows =
     row (counting "let b 2147483647" "let c 1" "add b b c") (run 9) (27 ∷ 7 ∷ 2 ∷ three 0 2147483647 1) ∷
     row (counting "let b 2147483647" "let c -2147483648" "add b b c") (run 9) (0 ∷ 8 ∷ 4 ∷ three 0 4294967295 2147483648) ∷
     row (counting "let b 1" "add b b b" "assert eq b 2") check (13 ∷ 7 ∷ []) ∷
+    row (counting "let b 1" "add b b b" "assert eq b 1") check (13 ∷ 7 ∷ []) ∷
     row (counting "let b 1" "let c b" "sub b b c") check (0 ∷ 0 ∷ []) ∷
     row (withLine 7 "add k k k" worked) check (9 ∷ 7 ∷ []) ∷
     row (withLine 7 "add this k k" worked) check (7 ∷ 7 ∷ []) ∷

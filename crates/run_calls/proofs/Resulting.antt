@@ -1,14 +1,15 @@
 -- `return`: `end` with the result set; the old result is put back where that does not go on.
 use mathlib.Core.Path.{_≡_, refl, sym, ap, _∙_, subst}
 use mathlib.Core.List.{List, [], _∷_}
-use Prim.Native.Nat.{ℕ, zero, suc, _+_, _*_, _-_, _≤_, _<_}
+use Prim.Native.Nat.{ℕ, zero, suc, _+_, _*_, _-_, _<_}
 use native.Mathlib.Omega.{arith}
 use lib.ListN.{length, getD}
+use Rattle.rules.specs.Limits.{work-bytes}
 use Rattle.rules.specs.Base.{update}
-use Rattle.rules.specs.Syntax.{Program, result-variable}
-use Rattle.rules.specs.Machine.{Frame, Config, Step, stop, done, valueOf, bind, withFrame, returnStep, endStep}
+use Rattle.rules.specs.Syntax.{result-variable}
+use Rattle.rules.specs.Machine.{Config, valueOf, bind, withFrame, returnStep}
 use Rattle.rules.specs.declared.Machine.{Machine}
-use Rattle.tables.specs.Layout.{frame-variables, frames-at}
+use Rattle.tables.specs.Layout.{frames-at}
 use Rattle.tables.specs.Decode.{programIn, xAt}
 use Rattle.tables.specs.Stores.{SameTables, putWord}
 use Rattle.tables.proofs.Bytes.{same-trans}
@@ -22,7 +23,7 @@ use Rattle.run_calls.specs.Calls.{returnHere, endHere}
 use Rattle.run_footprint.proofs.Regions.{only-word, only-tables}
 use Rattle.run_steps.proofs.Moves.{running}
 use Rattle.run_steps.proofs.Changes.{put-variable}
-use Rattle.run_steps.proofs.Doing.{fits, frames-fit}
+use Rattle.run_steps.proofs.Doing.{size, fits, frames-fit}
 
 -- a value changed and put back
 put-back : (l : List ℕ) (i a : ℕ) → i < length l → update 0 (update 0 l i a) i (getD l i 0) ≡ l
@@ -89,47 +90,42 @@ module _ {w : List ℕ} {c : Machine} (ready : CanStep w c) where
     old-is : (m : Config) → Represents w c m → old ≡ valueOf (m .frame) result-variable
     old-is m R = eo ∙ rw ev (sym (running R .values result-variable (omega arith)))
 
-    -- the code's answer is that of `end`, and so is what it leaves if it went on
+    -- the code's answer r is that of `end`
     module _ {w₂ : List ℕ} {t : Turn} (D : Does w₁ c w₂ t (endHere w₁)) where
+      followed : (m : Config) → Represents w c m → (r : Turn) → t ≡ r → Follows w₂ c r (resulting n m) (returnHere w c m)
+      followed m R r e =
+          subst (Follows w₂ c r (resulting n m)) (step-is m R)
+          (subst (λ (u : Turn). Follows w₂ c u (resulting n m) (endHere w₁ (resulting n m))) e (D .follows _ (represented m R)))
+
+      same-after : SameTables w w₂
+      same-after = same-trans same-put (D .tables)
+
       pub return-goes : (d : Machine) → t ≡ Turn.On d → Does w c w₂ (Turn.On d) (returnHere w c)
-      return-goes d et =
-          record {
-            tables = same-trans same-put (D .tables);
-            follows = λ m R.
-                let F : Follows w₂ c (Turn.On d) (resulting n m) (endHere w₁ (resulting n m)) =
-                subst (λ (r : Turn). Follows w₂ c r (resulting n m) (endHere w₁ (resulting n m))) et (D .follows _ (represented m R)) in
-                subst (λ (s : Step). Follows w₂ c (Turn.On d) m s) (step-is m R) F;
-          }
+      return-goes d e = record { tables = same-after; follows = λ m R. followed m R (Turn.On d) e }
 
-      restored : {w₃ : List ℕ} (m : Config) → Represents w c m → w₃ ≡ putWord w₂ (v .base + 56) old → Represents w₂ c (resulting n m) → Represents w₃ c m
-      restored m R e₃ S =
-          let p : putWord w₂ (v .base + 56) old ≡ putWord w₂ (resultAt c) old = rw ev refl in
-          let b = subst (λ (o : ℕ). resulting o (resulting n m) ≡ m) (sym (old-is m R)) (as-before R n) in
-          subst (λ u. Represents u c m) (sym (e₃ ∙ p)) (subst (Represents (putWord w₂ (resultAt c) old) c) b (result-put S old lo))
+      pub size-after : length w₂ ≡ work-bytes
+      size-after = omega (arith, same-after .size, size ready)
 
-      tables-restored : {w₃ : List ℕ} → w₃ ≡ putWord w₂ (v .base + 56) old → SameTables w w₃
-      tables-restored e₃ =
-          let p : putWord w₂ (v .base + 56) old ≡ putWord w₂ (resultAt c) old = rw ev refl in
-          same-trans (same-trans same-put (D .tables)) (subst (SameTables w₂) (sym (e₃ ∙ p)) (result-tables old))
+      -- the old result is put back
+      module _ {w₃ : List ℕ} (e₃ : w₃ ≡ putWord w₂ (v .base + 56) old) where
+        put-back-is : w₃ ≡ putWord w₂ (resultAt c) old
+        put-back-is = e₃ ∙ rw ev
 
-      pub return-stops :
-          (s : Fault) {w₃ : List ℕ} → t ≡ Turn.Stopped s → w₃ ≡ putWord w₂ (v .base + 56) old → Does w c w₃ (Turn.Stopped s) (returnHere w c)
-      return-stops s et e₃ =
-          record {
-            tables = tables-restored e₃;
-            follows = λ m R.
-                let F : Follows w₂ c (Turn.Stopped s) (resulting n m) (endHere w₁ (resulting n m)) =
-                subst (λ (r : Turn). Follows w₂ c r (resulting n m) (endHere w₁ (resulting n m))) et (D .follows _ (represented m R)) in
-                (sym (step-is m R) ∙ F .0, restored m R e₃ (F .1));
-          }
+        same-restored : SameTables w w₃
+        same-restored = same-trans same-after (subst (SameTables w₂) (sym put-back-is) (result-tables old))
 
-      pub return-ends :
-          {w₃ : List ℕ} → t ≡ Turn.Done → w₃ ≡ putWord w₂ (v .base + 56) old → Does w c w₃ Turn.Done (returnHere w c)
-      return-ends et e₃ =
-          record {
-            tables = tables-restored e₃;
-            follows = λ m R.
-                let F : Follows w₂ c Turn.Done (resulting n m) (endHere w₁ (resulting n m)) =
-                subst (λ (r : Turn). Follows w₂ c r (resulting n m) (endHere w₁ (resulting n m))) et (D .follows _ (represented m R)) in
-                (sym (step-is m R) ∙ F .0, restored m R e₃ (F .1));
-          }
+        restored : (m : Config) → Represents w c m → Represents w₂ c (resulting n m) → Represents w₃ c m
+        restored m R S =
+            let b = subst (λ (o : ℕ). resulting o (resulting n m) ≡ m) (sym (old-is m R)) (as-before R n) in
+            subst (λ u. Represents u c m) (sym put-back-is) (subst (Represents (putWord w₂ (resultAt c) old) c) b (result-put S old lo))
+
+        pub return-stops : (s : Fault) → t ≡ Turn.Stopped s → Does w c w₃ (Turn.Stopped s) (returnHere w c)
+        return-stops s e =
+            record {
+              tables = same-restored;
+              follows = λ m R. let F = followed m R (Turn.Stopped s) e in (F .0, restored m R (F .1));
+            }
+
+        pub return-ends : t ≡ Turn.Done → Does w c w₃ Turn.Done (returnHere w c)
+        return-ends e =
+            record { tables = same-restored; follows = λ m R. let F = followed m R Turn.Done e in (F .0, restored m R (F .1)) }

@@ -2,7 +2,7 @@
 use rules::Kind;
 ghost use mathlib.Core.Path.{_≡_};
 ghost use Prim.Native.Nat.{_<_};
-ghost use Rattle.rules.specs.Syntax.{words, sign, offset};
+ghost use Rattle.rules.specs.Syntax.{words, offset};
 ghost use Rattle.rules.specs.Machine.{raised, inRange, computed};
 ghost use Rattle.tables.specs.Decode.{operationOf};
 ghost use Rattle.run_numbers.specs.Computing.{computedIs};

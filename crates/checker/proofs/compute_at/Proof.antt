@@ -1,6 +1,10 @@
-use Rattle.checker.proofs.Stepping.{compute-at}
-use borrow.Author.Needs.{needs}
+use Rattle.check_entailment.specs.declared.Answer.{Answer}
+use Rattle.check_entailment.specs.Answers.{answered}
+use Rattle.rules.specs.State as Rules
+use Rattle.rules.specs.Rules.{rule}
+use mathlib.Core.Path.{ap, _∙_}
 use native.Mathlib.Omega.{arith}
+use borrow.Author.Needs.{needs}
 use Rattle.checker.proofs.compute_at.Statement.{statement}
 use Rattle.checker.proofs.compute_at.Tie as tie
 
@@ -14,7 +18,13 @@ remove-requires : tie.Need-remove-requires
 remove-requires c κs = search needs
 
 returns : tie.Need-returns
-returns c = compute-at _ _ _ (c .before .before .before .before .before .args .key .now) (c .before .before .before .before .before .args .b .now) (c .before .before .before .x-at .ensures .0) (c .remove .ensures)
+unfolding rule answered
+returns c =
+    let at-remove = c .remove in
+    record {
+      wf = at-remove .ensures .wf;
+      same = ap (λ (s : Rules.State). answered Answer.Done s) (at-remove .ensures .same) ∙ rw (c .before .before .before .x-at .ensures .0);
+    }
 
 pub compute-at-spec : {M : Type 1} → statement M
 compute-at-spec = tie.close (tie.spec x-at-requires cast-x remove-requires returns)
