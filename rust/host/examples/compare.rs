@@ -14,7 +14,8 @@ fn main() {
     match compare::compare_seeds(first..first.saturating_add(seeds)) {
         Ok((checks, runs)) => {
             println!("{} texts, no difference", checks.iter().sum::<u64>());
-            for number in (0..27).filter(|&number| checks[number] + runs[number] > 0) {
+            for number in (0..compare::NUMBERS).filter(|&number| checks[number] + runs[number] > 0)
+            {
                 println!(
                     "{number:>2}: check {:>9}, run {:>9}",
                     checks[number], runs[number]

@@ -4,10 +4,13 @@
 #[path = "support/workloads.rs"]
 mod workloads;
 
-use host::limits;
+use nuyardi::{limits, Kind, Stop};
 use std::collections::BTreeMap;
 use std::path::{Path, PathBuf};
 use std::process::Command;
+
+/// What the header promises of the stack.
+const STACK_BYTES: usize = 64 * 1_024;
 
 fn header() -> String {
     let path = Path::new(env!("CARGO_MANIFEST_DIR")).join("../../include/station.h");
@@ -28,6 +31,7 @@ fn sizes() {
         ("RESULTS_BYTES", limits::RESULTS_BYTES),
         ("TEXT_BYTES", limits::TEXT_BYTES),
         ("VALUES", limits::VALUES),
+        ("STACK_BYTES", STACK_BYTES),
     ]);
     assert_eq!(sizes, machine);
     assert_eq!(limits::RESULTS_BYTES, 4 * (1 + limits::VALUES));
@@ -62,23 +66,89 @@ fn limits_of_the_model() {
     }
 }
 
-/// The header names every number that is explained, and no other.
+/// `TextTooLong` as the header writes it: `TEXT_TOO_LONG`.
+fn in_capitals(name: &str) -> String {
+    let mut capitals = String::new();
+    for letter in name.chars() {
+        if letter.is_uppercase() && !capitals.is_empty() {
+            capitals.push('_');
+        }
+        capitals.push(letter.to_ascii_uppercase());
+    }
+    capitals
+}
+
+/// The header names every number, as the Rust API does.
 #[test]
 fn numbers() {
     let header = header();
-    let named: Vec<u32> = header
+    let named: Vec<(String, u32)> = header
         .lines()
         .filter_map(|line| line.trim().strip_prefix("STATION_")?.split_once(" = "))
-        .map(|(_, rest)| {
+        .map(|(name, rest)| {
             let digits: String = rest.chars().take_while(char::is_ascii_digit).collect();
-            digits.parse().expect("a number")
+            (name.to_string(), digits.parse().expect("a number"))
         })
         .collect();
-    let explained: Vec<u32> = host::EXPLANATIONS
+    let own = [("DONE".to_string(), 0), ("AREA_LENGTH".to_string(), 1)];
+    let kinds = Kind::ALL
         .iter()
-        .map(|known| known.number)
+        .map(|kind| (format!("{kind:?}"), kind.number()));
+    let stops = Stop::ALL
+        .iter()
+        .map(|stop| (format!("{stop:?}"), stop.number()));
+    let cases = kinds
+        .chain(stops)
+        .map(|(name, number)| (in_capitals(&name), number));
+    assert_eq!(named, own.into_iter().chain(cases).collect::<Vec<_>>());
+}
+
+/// The names of functions that the header declares.
+fn declared() -> Vec<String> {
+    let header = header();
+    let names = header.lines().filter_map(|line| {
+        let (_, rest) = line.split_once(" station_")?;
+        let (name, _) = rest.split_once('(')?;
+        line.starts_with(|letter: char| letter.is_ascii_lowercase())
+            .then(|| name.to_string())
+    });
+    names.collect()
+}
+
+/// The library defines the header's functions and no other global name; they are
+/// the exported functions of `station`.
+#[test]
+fn global_names() {
+    let output = Command::new("nm")
+        .args(["--extern-only", "--defined-only", "--format=posix"])
+        .arg(concat!(env!("OUT_DIR"), "/libnuyardi.a"))
+        .output()
+        .expect("nm");
+    let printed = String::from_utf8_lossy(&output.stdout);
+    let mut names: Vec<&str> = printed
+        .lines()
+        .filter_map(|line| line.split_once(" T "))
+        .map(|(name, _)| name)
         .collect();
-    assert_eq!(named, explained);
+    names.sort();
+    // The lines that define names: the archive's own line has none.
+    assert_eq!(printed.lines().count(), names.len() + 1, "{printed}");
+    let mut functions: Vec<String> = declared();
+    functions.sort();
+    let with_prefix: Vec<String> = functions
+        .iter()
+        .map(|name| format!("station_{name}"))
+        .collect();
+    assert_eq!(names, with_prefix);
+    let source = Path::new(env!("CARGO_MANIFEST_DIR")).join("../../crates/station/src/lib.rt");
+    let source = std::fs::read_to_string(source).expect("the source");
+    let mut exported: Vec<&str> = source
+        .lines()
+        .filter_map(|line| line.split_once("pub extern \"C\" fn ")?.1.split_once('('))
+        .map(|(name, _)| name)
+        .collect();
+    exported.sort();
+    assert_eq!(exported, functions);
 }
 
 /// Compiles a C program with the library, in a folder of its own.
@@ -91,7 +161,7 @@ fn compiled(name: &str) -> PathBuf {
         ])
         .arg(host.join("../../include"))
         .arg(host.join(format!("tests/c/{name}.c")))
-        .arg(concat!(env!("OUT_DIR"), "/libstation.a"))
+        .arg(concat!(env!("OUT_DIR"), "/libnuyardi.a"))
         .arg("-o")
         .arg(&program)
         .output()
@@ -200,6 +270,6 @@ fn stack() {
     }
     println!("stack: check {check} bytes, run {run} bytes");
     assert_eq!(rows, names.len());
-    assert!((256..64 * 1_024).contains(&check), "check takes {check}");
-    assert!((256..64 * 1_024).contains(&run), "run takes {run}");
+    assert!((256..STACK_BYTES).contains(&check), "check takes {check}");
+    assert!((256..STACK_BYTES).contains(&run), "run takes {run}");
 }
