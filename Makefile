@@ -1,6 +1,7 @@
 # make                      the command and the library; proves what is not proved yet
 # make check                the gate: every proof, every must-fail edit, every test
 # make install PREFIX=DIR   builds and installs (DESTDIR for packages); make uninstall removes it again
+# make index                target/INDEX.md: each sentence of the papers, its definitions, laws and code
 # make soak                 the library beside the model on 10 million texts (TEXTS=N for another number)
 # make same-bytes           builds libstation.a in two folders and compares the two
 #
@@ -24,7 +25,7 @@ LIBRARY ?= target/libnuyardi.a
 INSTALL ?= install
 CARGO ?= cargo
 
-.PHONY: all library command check install install-files uninstall soak same-bytes
+.PHONY: all library command check install install-files uninstall index soak same-bytes
 
 all: library command
 
@@ -74,6 +75,11 @@ uninstall:
 	rm -f "$(DESTDIR)$(datadir)/bash-completion/completions/station" "$(DESTDIR)$(datadir)/zsh/site-functions/_station"
 	rm -f "$(DESTDIR)$(datadir)/fish/vendor_completions.d/station.fish"
 	rm -rf "$(DESTDIR)$(docdir)" "$(DESTDIR)$(owndir)"
+
+index:
+	mkdir -p target
+	cd rust && $(CARGO) run --release --offline -q -p sources --example index >../target/INDEX.md
+	@echo target/INDEX.md
 
 # Twenty texts come of each seed.
 TEXTS ?= 10000000
