@@ -1,12 +1,14 @@
 //! The C header: its sizes and numbers, two C programs that use it, and the
 //! stack that each call takes.
 
+#[path = "support/c.rs"]
+mod c;
 #[path = "support/workloads.rs"]
 mod workloads;
 
 use nuyardi::{limits, Kind, Stop};
 use std::collections::BTreeMap;
-use std::path::{Path, PathBuf};
+use std::path::Path;
 use std::process::Command;
 
 /// What the header promises of the stack.
@@ -151,32 +153,9 @@ fn global_names() {
     assert_eq!(exported, functions);
 }
 
-/// Compiles a C program with the library, in a folder of its own.
-fn compiled(name: &str) -> PathBuf {
-    let host = Path::new(env!("CARGO_MANIFEST_DIR"));
-    let program = Path::new(env!("CARGO_TARGET_TMPDIR")).join(name);
-    let output = Command::new("gcc")
-        .args([
-            "-std=c11", "-O2", "-Wall", "-Wextra", "-Werror", "-pthread", "-I",
-        ])
-        .arg(host.join("../../include"))
-        .arg(host.join(format!("tests/c/{name}.c")))
-        .arg(concat!(env!("OUT_DIR"), "/libnuyardi.a"))
-        .arg("-o")
-        .arg(&program)
-        .output()
-        .expect("gcc");
-    assert!(
-        output.status.success(),
-        "{}",
-        String::from_utf8_lossy(&output.stderr)
-    );
-    program
-}
-
 #[test]
 fn called_from_c() {
-    let output = Command::new(compiled("calls"))
+    let output = Command::new(c::compiled("calls"))
         .output()
         .expect("the program");
     let printed = String::from_utf8_lossy(&output.stdout);
@@ -186,74 +165,26 @@ fn called_from_c() {
     );
 }
 
-/// Under valgrind, where there is one: nothing outside the areas is touched, and
-/// no result rests on what they held before. The answers are the model's.
+/// The answers of a C program with areas fresh from malloc are the model's.
 #[test]
 fn replayed() {
-    let folder = Path::new(env!("CARGO_TARGET_TMPDIR")).join("replay-texts");
-    std::fs::create_dir_all(&folder).expect("a folder");
     let texts: Vec<Vec<u8>> = (0..150).map(model::gen::text).collect();
-    let names: Vec<PathBuf> = (0..texts.len())
-        .map(|at| folder.join(format!("{at}")))
-        .collect();
-    for (name, text) in names.iter().zip(&texts) {
-        std::fs::write(name, text).expect("a text");
-    }
-    let program = compiled("replay");
-    let valgrind = Command::new("valgrind").arg("--version").output().is_ok();
-    let mut command = match valgrind {
-        true => Command::new("valgrind"),
-        false => Command::new(&program),
-    };
-    if valgrind {
-        command
-            .args(["--quiet", "--error-exitcode=9"])
-            .arg(&program);
-    }
-    let output = command
-        .arg("500")
-        .args(&names)
-        .output()
-        .expect("the program");
-    let errors = String::from_utf8_lossy(&output.stderr);
-    assert_eq!((output.status.code(), errors.as_ref()), (Some(0), ""));
-    let printed = String::from_utf8_lossy(&output.stdout);
-    let mut lines = printed.lines();
-    for text in &texts {
-        let mut work = vec![0; limits::WORK_BYTES];
-        let mut results = [0; limits::RESULTS_BYTES];
-        let checked = model::check_call(text, &mut work);
-        let ran = model::run_call(text, &mut work, 500, &mut results);
-        let add = |sum: u32, &byte: &u8| sum.wrapping_mul(31).wrapping_add(u32::from(byte));
-        let expected = format!("{checked} {ran} {}", results.iter().fold(0, add));
-        assert_eq!(
-            lines.next(),
-            Some(expected.as_str()),
-            "{}",
-            text.escape_ascii()
-        );
-    }
-    assert_eq!(lines.next(), None);
+    c::as_expected(
+        Command::new(c::compiled("replay")),
+        "replay-texts",
+        &texts,
+        500,
+    );
 }
 
 /// Each call takes less than 64 KB of stack, on every text that is timed and
 /// on generated ones; and the measure itself sees something.
 #[test]
 fn stack() {
-    let folder = Path::new(env!("CARGO_TARGET_TMPDIR")).join("stack-texts");
-    std::fs::create_dir_all(&folder).expect("a folder");
     let timed = workloads::all().into_iter().map(|workload| workload.text);
     let generated = (0..200).map(model::gen::text);
-    let names: Vec<PathBuf> = timed
-        .chain(generated)
-        .enumerate()
-        .map(|(at, text)| {
-            let name = folder.join(format!("{at}"));
-            std::fs::write(&name, text).expect("a text");
-            name
-        })
-        .collect();
-    let output = Command::new(compiled("stack"))
+    let names = c::files("stack-texts", timed.chain(generated));
+    let output = Command::new(c::compiled("stack"))
         .arg("2000")
         .args(&names)
         .output();
