@@ -4,6 +4,7 @@ use crate::limits::{RESULTS_BYTES, WORK_BYTES};
 use crate::outcome::{AcceptedEnding, Ending};
 use crate::{calls, Outcome, Refusal};
 use core::borrow::BorrowMut;
+use core::fmt;
 
 /// The work area that a [`Station`] has if none is lent to it.
 #[cfg(feature = "alloc")]
@@ -47,6 +48,12 @@ impl Station {
 impl Default for Station {
     fn default() -> Station {
         Station::new()
+    }
+}
+
+impl<W> fmt::Debug for Station<W> {
+    fn fmt(&self, f: &mut fmt::Formatter<'_>) -> fmt::Result {
+        f.debug_struct("Station").finish_non_exhaustive()
     }
 }
 
