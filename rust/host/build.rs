@@ -37,6 +37,13 @@ fn proved_library(root: &Path) -> PathBuf {
     for source in ["crates", "crates.txt"] {
         println!("cargo:rerun-if-changed={}", root.join(source).display());
     }
+    // Cargo shows nothing of what a build says while it lasts, and a proof takes minutes: a terminal is told directly.
+    let terminal = fs::OpenOptions::new().write(true).open("/dev/tty");
+    if let Ok(terminal) = terminal {
+        let _ = Command::new(root.join("tools/prove-library"))
+            .stdout(terminal)
+            .status();
+    }
     tool(root, "prove-library", &[]);
     root.join("target/staticlib/libstation.a")
 }
