@@ -153,6 +153,30 @@ fn global_names() {
     assert_eq!(exported, functions);
 }
 
+/// The header alone, by the strictest words: C99, and C++ where there is a compiler of it.
+#[test]
+fn header_by_itself() {
+    let header = Path::new(env!("CARGO_MANIFEST_DIR")).join("../../include/station.h");
+    for (compiler, words) in [
+        ("gcc", ["-std=c99", "-xc"]),
+        ("g++", ["-std=c++11", "-xc++"]),
+    ] {
+        let output = Command::new(compiler)
+            .args(["-pedantic", "-Wall", "-Wextra", "-Werror", "-fsyntax-only"])
+            .args(words)
+            .arg(&header)
+            .output();
+        match output {
+            Ok(output) => assert!(
+                output.status.success(),
+                "{compiler}: {}",
+                String::from_utf8_lossy(&output.stderr)
+            ),
+            Err(error) => assert_ne!(compiler, "gcc", "{error}"),
+        }
+    }
+}
+
 #[test]
 fn called_from_c() {
     let output = Command::new(c::compiled("calls"))

@@ -77,7 +77,7 @@ pub fn quotes(source: &Source, declared: &[Declaration]) -> Result<Vec<Quote>, S
     let mut found = Vec::new();
     for comment in comments(source) {
         let parts: Vec<&str> = comment.text.split('"').collect();
-        if parts.len() % 2 == 0 {
+        if parts.len().is_multiple_of(2) {
             return Err(format!(
                 "{}:{}: a quote without its end",
                 source.path.display(),
