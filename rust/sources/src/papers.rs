@@ -88,6 +88,25 @@ fn blocks(text: &str) -> Vec<(String, String)> {
     found
 }
 
+/// The parts of a quote that must stand in the paper.
+fn parts(quote: &str) -> Vec<String> {
+    let mut taken = String::new();
+    let mut depth = 0;
+    for letter in quote.chars() {
+        match letter {
+            '[' => depth += 1,
+            ']' if depth > 0 => {
+                depth -= 1;
+                taken.push_str("..");
+            }
+            _ if depth == 0 => taken.push(letter),
+            _ => {}
+        }
+    }
+    let parts = taken.split("..").map(plain);
+    parts.filter(|part| !part.is_empty()).collect()
+}
+
 /// Where the words stand first, not as parts of longer words.
 fn found_in(text: &str, words: &str) -> Option<usize> {
     let letter = |found: Option<char>| found.is_some_and(char::is_alphanumeric);
@@ -128,17 +147,27 @@ impl Paper {
             }
             paper.blocks.push(block);
         }
+        let mut headings: Vec<&String> = paper
+            .sentences
+            .iter()
+            .map(|sentence| &sentence.section)
+            .collect();
+        headings.dedup();
+        let headings: Vec<Block> = headings
+            .into_iter()
+            .map(|heading| Block {
+                text: plain(heading),
+                sentences: Vec::new(),
+            })
+            .collect();
+        paper.blocks.extend(headings);
         paper
     }
 
     /// The sentences that a quote takes words from, if the paper has it: all of its words in one block, in their order, with
-    /// anything where the quote has `..`.
+    /// anything where the quote has `..` or words of its own in square brackets. A heading has no sentence.
     pub fn quoted(&self, quote: &str) -> Option<Vec<usize>> {
-        let parts: Vec<String> = quote
-            .split("..")
-            .map(plain)
-            .filter(|part| !part.is_empty())
-            .collect();
+        let parts: Vec<String> = parts(quote.trim_end_matches(['.', ',', ';', ':']));
         self.blocks.iter().find_map(|block| {
             let mut from = 0;
             let mut found = Vec::new();

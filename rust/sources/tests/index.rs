@@ -58,7 +58,9 @@ fn sentences_of_a_paper() {
     );
     assert_eq!(paper.quoted("long. The rest is"), Some(vec![0, 1]));
     assert_eq!(paper.quoted("The rest .., short"), Some(vec![1]));
+    assert_eq!(paper.quoted("The rest [of it], as told;"), Some(vec![1]));
     assert_eq!(paper.quoted("bad form"), Some(vec![2]));
+    assert_eq!(paper.quoted("W1. More"), Some(vec![]));
     for wrong in [
         "the rest",
         "short .. rest",
