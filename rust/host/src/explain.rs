@@ -1,5 +1,7 @@
 //! Every number in words: what it means and what usually mends it.
 
+use core::fmt;
+
 /// A number in words.
 #[derive(Clone, Copy, Debug, PartialEq, Eq)]
 #[non_exhaustive]
@@ -29,12 +31,20 @@ macro_rules! example {
 /// The explanation of a number, if it is one that the calls return.
 ///
 /// ```
-/// let known = host::explain(12).unwrap();
+/// let known = nuyardi::explain(12).unwrap();
 /// assert_eq!(known.title, "a permission that is not shown");
-/// assert!(host::explain(15).is_none());
+/// assert!(nuyardi::explain(20).is_none());
 /// ```
 pub fn explain(number: u32) -> Option<&'static Explanation> {
     EXPLANATIONS.iter().find(|known| known.number == number)
+}
+
+/// A number's title and mend, as messages have them.
+pub(crate) fn words(f: &mut fmt::Formatter<'_>, number: u32) -> fmt::Result {
+    match explain(number) {
+        Some(known) => write!(f, "{} (number {number}); {}", known.title, known.mend),
+        None => write!(f, "number {number}"),
+    }
 }
 
 /// Every number that the calls return, in rising order.
@@ -67,8 +77,7 @@ pub const EXPLANATIONS: &[Explanation] = &[
         title: "a byte that may not stand in a text",
         meaning: "A text has tabs, line ends (LF) and the visible ASCII characters, and its last \
                   line is ended too. Blanks, CR, accented letters and control characters are refused.",
-        mend: "part fields by tabs, not blanks, end lines with LF alone, end the last line: \
-               `station fmt --write FILE` does all three",
+        mend: "part fields by tabs, not blanks, end lines with LF alone, and end the last line",
         example: example!("refused-03"),
     },
     Explanation {
@@ -79,8 +88,8 @@ pub const EXPLANATIONS: &[Explanation] = &[
                   `ensures` follow `method`, `var` lines come before statements, every `if` has \
                   `else` and `join`, `return` stands in methods only, nothing follows main's `end`. \
                   A formula has at most 8 atoms, a name at most 12 letters and digits.",
-        mend: "compare the line with its form in the guide; where fields are parted by two tabs, or \
-               a line ends in one, `station fmt --write FILE` mends it",
+        mend: "compare the line with its form in the guide; one tab parts two fields, and none \
+               begins or ends a line",
         example: example!("refused-04"),
     },
     Explanation {

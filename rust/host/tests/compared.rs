@@ -4,8 +4,8 @@
 mod compare;
 
 use compare::{compare_seeds, run_of, Call, Comparer, CHECK};
-use host::calls::raw;
-use host::limits::{RESULTS_BYTES, TEXT_BYTES, WORK_BYTES};
+use nuyardi::calls::raw;
+use nuyardi::limits::{RESULTS_BYTES, TEXT_BYTES, WORK_BYTES};
 use std::path::Path;
 
 const CASES: &str = include_str!("../../model/tests/cases/base.tsv");
@@ -64,7 +64,7 @@ fn every_case() {
         }
         if let (Call::Run { steps, .. }, [_, _, values @ ..]) = (call, &expected[..]) {
             let mut lent = (vec![0xa5; work], vec![0x5a; results]);
-            host::calls::run(&text, &mut lent.0, steps, &mut lent.1);
+            nuyardi::calls::run(&text, &mut lent.0, steps, &mut lent.1);
             if !values.is_empty() {
                 assert_eq!(decoded(&lent.1), values, "{line}");
             }
@@ -141,13 +141,13 @@ fn a_null_text() {
     let mut work = vec![0xa5; WORK_BYTES];
     let mut results = [0x5a; RESULTS_BYTES];
     // SAFETY: the areas are as long as is said, and a text of length 0 is not read.
-    let checked = unsafe { raw::check(std::ptr::null(), 0, work.as_mut_ptr(), WORK_BYTES) };
+    let checked = unsafe { raw::station_check(std::ptr::null(), 0, work.as_mut_ptr(), WORK_BYTES) };
     assert_eq!(checked, 8 * 65_536);
     assert!(work.iter().all(|&byte| byte == 0));
     work.fill(0xa5);
     // SAFETY: as above.
     let ran = unsafe {
-        raw::run(
+        raw::station_run(
             std::ptr::null(),
             0,
             work.as_mut_ptr(),
@@ -166,7 +166,7 @@ fn a_null_text() {
 fn two_threads_at_once() {
     let texts: Vec<Vec<u8>> = (0..200).map(model::gen::text).collect();
     let answers = || -> Vec<_> {
-        let mut station = host::Station::new();
+        let mut station = nuyardi::Station::new();
         let answer = |text| (station.check(text).err(), station.run(text, 500));
         texts
             .iter()
