@@ -1,12 +1,25 @@
-/* Catalogue scripts: the two functions of libstation.a.
+/* Catalogue scripts: check and run, the functions of libnuyardi.a.
  *
- * Each returns number * 65536 + line. The text is only read; it may be null if
- * its length is 0. The areas must not overlap, with each other or with the
- * text. They may hold anything before a call; after it the work area is all
- * zero, except for number 1, which changes neither area.
+ * Each returns number * 65536 + line (STATION_NUMBER, STATION_LINE). For every
+ * content of the text and of the areas, number, line and every byte of the areas
+ * afterwards are those of the specification: that is proved of the code that is
+ * compiled. The text is only read. After a call the work area is all zero, except
+ * for number 1, which changes neither area.
  *
- * Nothing is kept between calls and nothing is allocated: calls may run in
- * parallel on areas of their own.
+ * What a caller must see to, since C can not:
+ *  - each pointer points to as many bytes as the length beside it says, which may
+ *    be read, and written if they are an area's; with length 0 it may be null;
+ *  - an area overlaps neither the other one nor the text;
+ *  - nobody else writes to the text or to an area during the call.
+ * The bytes may hold anything, and need no alignment.
+ *
+ * Threads: nothing is kept between calls and there is no global state. Calls may
+ * run in parallel on areas of their own; they may share a text. No call waits,
+ * allocates, opens a file or calls back.
+ * Stack: below STATION_STACK_BYTES (measured and tested, not proved). Signals are
+ * left alone.
+ * Platform: x86-64, System V calling convention; memset and the like are taken
+ * from the C library.
  */
 #ifndef STATION_H
 #define STATION_H
@@ -18,6 +31,8 @@
 extern "C" {
 #endif
 
+#define STATION_VERSION "0.1.0"
+
 /* Lengths of the two areas, in bytes: each call takes these and no other. */
 #define STATION_WORK_BYTES 65536
 #define STATION_RESULTS_BYTES 52
@@ -25,6 +40,8 @@ extern "C" {
 #define STATION_TEXT_BYTES 32768
 /* Values in the results area: main's variables in the order of their lines. */
 #define STATION_VALUES 12
+/* More stack than any call takes, in bytes. */
+#define STATION_STACK_BYTES 65536
 
 /* What a call returned. */
 #define STATION_NUMBER(returned) ((uint32_t)(returned) >> 16)
@@ -51,22 +68,24 @@ enum station_number {
     STATION_FRAMES_FULL = 23,       /* frames full */
     STATION_PERMISSION_MISSING = 24, /* permission missing */
     STATION_NULL_FOLLOWED = 25,     /* null followed */
-    STATION_FORMULA_FALSE = 26      /* formula false */
+    STATION_FORMULA_FALSE = 26,     /* formula false */
+    STATION_OVERFLOW = 27           /* sum or difference beyond 32 bits signed */
 };
 
 /* Is the text a script that keeps to its permissions? Returns number 0, or 1 to
  * 14 with the line. */
-uint32_t check(const uint8_t *text, size_t text_len,
-               uint8_t *work, size_t work_len);
+uint32_t station_check(const uint8_t *text, size_t text_len,
+                       uint8_t *work, size_t work_len);
 
-/* Runs main for at most so many steps. Returns number 0, 1 to 9 or 21 to 26 with
- * the line. The results area then holds the steps taken (unsigned) and the
- * values (signed; an object is its number from 1, null is 0), 4 bytes each, low
- * byte first; all zero for the numbers 2 to 9. */
-uint32_t run(const uint8_t *text, size_t text_len,
-             uint8_t *work, size_t work_len,
-             uint32_t steps,
-             uint8_t *results, size_t results_len);
+/* Runs main for at most so many steps. Returns number 0, 1 to 9 or 21 to 27 with
+ * the line; 24 to 26 only for a text that station_check refuses. The results area
+ * then holds the steps taken (unsigned) and the values (signed; an object is its
+ * number from 1, null is 0), 4 bytes each, low byte first; all zero for the
+ * numbers 2 to 9. */
+uint32_t station_run(const uint8_t *text, size_t text_len,
+                     uint8_t *work, size_t work_len,
+                     uint32_t steps,
+                     uint8_t *results, size_t results_len);
 
 #ifdef __cplusplus
 }

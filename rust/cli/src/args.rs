@@ -76,7 +76,7 @@ fn command_named(word: &OsString) -> Result<&'static CommandSpec, String> {
 }
 
 fn parsed_values(given: &[Given]) -> Result<(u32, Colour), String> {
-    let mut steps = host::limits::PROGRAM_STEPS as u32;
+    let mut steps = nuyardi::limits::PROGRAM_STEPS as u32;
     let mut colour = Colour::Auto;
     for Given { spec, value } in given {
         let value = value.as_deref().unwrap_or_default();

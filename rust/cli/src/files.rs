@@ -6,7 +6,7 @@ use std::io::{ErrorKind, IsTerminal, Read, Write};
 use std::path::{Path, PathBuf};
 
 /// A text, or one byte more than a text may have.
-const READ_BYTES: u64 = host::limits::TEXT_BYTES as u64 + 1;
+const READ_BYTES: u64 = nuyardi::limits::TEXT_BYTES as u64 + 1;
 
 /// The bytes of a file, or of standard input for `-`; at most one more than a
 /// text may have.

@@ -93,7 +93,7 @@ fn near_misses_have_causes() {
 /// Where the model answers otherwise than the library, no cause is given.
 #[test]
 fn no_cause_of_another_answer() {
-    let refusal = |text: &[u8]| host::check(text).err();
+    let refusal = |text: &[u8]| nuyardi::check(text).err();
     let (one, other) = (&b"main\nlet\ta\t7\nend\n"[..], &b"main\nlet\ta\nend\n"[..]);
     let found = refusal(one).expect("it is refused");
     assert!(crate::cause::cause(one, found).is_some());

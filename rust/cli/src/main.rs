@@ -163,8 +163,8 @@ fn run(session: &mut Session) -> u8 {
 /// `station fmt`, one file.
 fn fmt_one(session: &mut Session, name: &OsStr, text: &[u8]) -> u8 {
     let shown = show::file_name(name);
-    if text.len() > host::limits::TEXT_BYTES {
-        let most = host::limits::TEXT_BYTES;
+    if text.len() > nuyardi::limits::TEXT_BYTES {
+        let most = nuyardi::limits::TEXT_BYTES;
         let error = std::io::Error::other(format!("more than {most} bytes; nothing is changed"));
         session.unread(name, &error);
         return REFUSED;
@@ -205,8 +205,8 @@ fn explain(session: &mut Session) -> u8 {
         .first()
         .and_then(|word| word.to_str());
     let number = word.and_then(|word| word.parse().ok());
-    let Some(known) = number.and_then(host::explain) else {
-        let numbers: Vec<String> = host::EXPLANATIONS
+    let Some(known) = number.and_then(nuyardi::explain) else {
+        let numbers: Vec<String> = nuyardi::EXPLANATIONS
             .iter()
             .map(|known| known.number.to_string())
             .collect();

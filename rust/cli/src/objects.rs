@@ -5,7 +5,7 @@ use crate::json::Json;
 use crate::report::{columns, Ran, Report};
 use crate::script::line;
 use crate::show::escaped;
-use host::{explain, Explanation, Value};
+use nuyardi::{explain, Explanation, Value};
 
 /// A line of the text, its bytes escaped.
 pub fn line_text(text: &[u8], number: u32) -> Option<String> {
@@ -64,10 +64,10 @@ pub fn check(object: Json, report: &Report) -> Json {
 /// What a run gives, over check's answer.
 pub fn ran(object: Json, ran: &Ran) -> Json {
     let outcome = &ran.outcome;
-    let variables = outcome.variables().iter().map(|variable| {
+    let variables = outcome.variables().map(|variable| {
         Json::object()
-            .with("name", variable.name.as_str())
-            .with("type", variable.kind.as_str())
+            .with("name", variable.name)
+            .with("type", variable.kind)
             .with("value", value(variable.value))
     });
     let object = object

@@ -4,7 +4,7 @@
 use crate::cause::{cause, open_calls, stop_cause, Cause};
 use crate::fmt::formatted;
 use crate::progress::Progress;
-use host::{Ending, Kind, Outcome, Refusal};
+use nuyardi::{Ending, Kind, Outcome, Refusal};
 
 pub struct Report<'a> {
     pub file: &'a str,
@@ -13,19 +13,19 @@ pub struct Report<'a> {
     pub cause: Option<Cause>,
     /// What check says of the text as `fmt` gives it, where that may help.
     pub mended: Option<String>,
-    pub run: Option<Ran>,
+    pub run: Option<Ran<'a>>,
 }
 
-pub struct Ran {
+pub struct Ran<'a> {
     pub allowed: u32,
-    pub outcome: Outcome,
+    pub outcome: Outcome<'a>,
     pub cause: Option<Cause>,
     /// The calls that are open where the run stopped.
     pub open: Vec<String>,
 }
 
-impl Ran {
-    pub fn of(station: &mut host::Station, text: &[u8], allowed: u32) -> Ran {
+impl<'a> Ran<'a> {
+    pub fn of(station: &mut nuyardi::Station, text: &'a [u8], allowed: u32) -> Ran<'a> {
         let progress = Progress::start(allowed);
         let outcome = station.run(text, allowed);
         drop(progress);
@@ -47,10 +47,10 @@ fn mended(text: &[u8], refusal: Refusal) -> Option<String> {
         return None;
     }
     let better = formatted(text);
-    if better == text || better.len() > host::limits::TEXT_BYTES {
+    if better == text || better.len() > nuyardi::limits::TEXT_BYTES {
         return None;
     }
-    let Err(next) = host::check(&better) else {
+    let Err(next) = nuyardi::check(&better) else {
         return Some("after `station fmt` the text is accepted".to_string());
     };
     if next == refusal {
@@ -67,7 +67,7 @@ fn mended(text: &[u8], refusal: Refusal) -> Option<String> {
 impl<'a> Report<'a> {
     /// Checks the text, and runs it if steps are allowed.
     pub fn of(file: &'a str, text: &'a [u8], steps: Option<u32>) -> Report<'a> {
-        let mut station = host::Station::new();
+        let mut station = nuyardi::Station::new();
         let refusal = station.check(text).err();
         let run = steps.map(|allowed| Ran::of(&mut station, text, allowed));
         Report {
@@ -89,7 +89,7 @@ impl<'a> Report<'a> {
     }
 
     /// The run, unless the reader refused the text, which check says already.
-    pub fn ran(&self) -> Option<&Ran> {
+    pub fn ran(&self) -> Option<&Ran<'a>> {
         let read = |ran: &&Ran| !matches!(ran.outcome.ending(), Ending::Refused(_));
         self.run.as_ref().filter(read)
     }

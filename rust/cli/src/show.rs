@@ -3,7 +3,7 @@
 use crate::cause::Cause;
 use crate::report::{columns, Ran, Report};
 use crate::script::line;
-use host::{explain, Ending, Explanation};
+use nuyardi::{explain, Ending, Explanation, Kind};
 use std::ffi::OsStr;
 use std::fmt::Write;
 use std::ops::Range;
@@ -154,9 +154,21 @@ pub fn rows(out: &mut String, heading: &str, words: &[String]) {
     out.push('\n');
 }
 
+/// What the command itself can mend of a number's faults.
+fn formats(number: u32) -> Option<&'static str> {
+    match Kind::of(number) {
+        Some(Kind::Byte) => Some("`station fmt --write FILE` does all three"),
+        Some(Kind::Form) => Some("`station fmt --write FILE` mends tabs too many"),
+        _ => None,
+    }
+}
+
 fn number_in_words(out: &mut String, known: &Explanation) {
     wrapped(out, "   what: ", known.meaning);
     wrapped(out, "   mend: ", known.mend);
+    if let Some(said) = formats(known.number) {
+        wrapped(out, "   note: ", said);
+    }
 }
 
 /// The least number of a stopped run: what usually mends it is said with its

@@ -73,7 +73,10 @@ pub fn help(command: Option<&str>) -> String {
 /// A man page in roff.
 pub fn man() -> String {
     let safe = |text: &str| text.replace('\\', "\\e").replace('-', "\\-");
-    let mut out = String::from(".TH STATION 1\n.SH NAME\n");
+    let mut out = format!(
+        ".TH STATION 1 \"\" \"nuyardi {}\"\n.SH NAME\n",
+        env!("CARGO_PKG_VERSION")
+    );
     let _ = writeln!(out, "{}", safe(HEAD).replacen(": ", " \\- ", 1));
     let _ = writeln!(
         out,

@@ -188,15 +188,15 @@ fn colour() {
 /// Each explanation's example gets the number that it explains.
 #[test]
 fn examples_of_explanations() {
-    for known in host::EXPLANATIONS {
+    for known in nuyardi::EXPLANATIONS {
         let Some(example) = known.example else {
             assert!(known.number < 3);
             continue;
         };
         let number = match known.number {
-            21 => host::run(example.as_bytes(), 1).number(),
-            22.. => host::run(example.as_bytes(), 1_000).number(),
-            _ => host::check(example.as_bytes()).map_or_else(|refusal| refusal.number(), |_| 0),
+            21 => nuyardi::run(example.as_bytes(), 1).number(),
+            22.. => nuyardi::run(example.as_bytes(), 1_000).number(),
+            _ => nuyardi::check(example.as_bytes()).map_or_else(|refusal| refusal.number(), |_| 0),
         };
         assert_eq!(number, known.number);
     }

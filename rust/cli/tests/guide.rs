@@ -184,9 +184,9 @@ fn mends() {
         if let Some(name) = block.heading.strip_prefix("diff ") {
             mends.insert(name.to_string());
             let text = mended(&script(name), &block.lines);
-            let checked = host::check(text.as_bytes());
+            let checked = nuyardi::check(text.as_bytes());
             assert!(checked.is_ok(), "{name}: {checked:?}\n{text}");
-            let outcome = host::run(text.as_bytes(), 1_000);
+            let outcome = nuyardi::run(text.as_bytes(), 1_000);
             assert!(outcome.finished(), "{name}: {outcome}");
         }
         String::new()
@@ -197,7 +197,7 @@ fn mends() {
             "{number}"
         );
     }
-    for number in 22..=26 {
+    for number in 22..=27 {
         assert!(
             mends.contains(&format!("examples/stopped-{number}.script")),
             "{number}"
@@ -247,7 +247,7 @@ fn json_fields() {
 /// The table of limits has those of the machine, in this order.
 #[test]
 fn limits() {
-    use host::limits::*;
+    use nuyardi::limits::*;
     let guide = guide();
     let (_, table) = guide.split_once("## Limits\n").expect("the last section");
     let numbers: Vec<usize> = table

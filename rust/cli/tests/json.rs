@@ -33,7 +33,7 @@ fn check() {
     assert_eq!(refused.get("column"), Some(&Json::Int(5)));
     assert_eq!(refused.get("end"), Some(&Json::Int(11)));
     assert_eq!(refused.get("text"), Some(&text("set\\tthis\\tn\\tk")));
-    let known = host::explain(12).expect("12 is explained");
+    let known = nuyardi::explain(12).expect("12 is explained");
     for (name, said) in [
         ("title", known.title),
         ("meaning", known.meaning),
@@ -136,7 +136,7 @@ fn anything() {
             );
         }
     }
-    for known in host::EXPLANATIONS {
+    for known in nuyardi::EXPLANATIONS {
         let number = known.number.to_string();
         let shown = object(&["explain", "--json", &number], b"");
         assert_eq!(shown.get("mend"), Some(&text(known.mend)));

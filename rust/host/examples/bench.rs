@@ -8,8 +8,8 @@
 #[path = "../tests/support/workloads.rs"]
 mod workloads;
 
-use host::calls;
-use host::limits::{RESULTS_BYTES, WORK_BYTES};
+use nuyardi::calls;
+use nuyardi::limits::{RESULTS_BYTES, WORK_BYTES};
 use std::hint::black_box;
 use std::time::Instant;
 

@@ -1,29 +1,46 @@
 //! The comparison of the tests, for as long as one likes.
 //!
 //! `cargo run --release --example compare [FIRST] [SEEDS]`: so many seeds (10,000)
-//! from a first one (50,000, where the tests end), twenty texts each. Exit status
-//! 1 if library and model differ; the text is then shown, reduced.
+//! from a first one (50,000, where the tests end), twenty texts each. How far it
+//! is goes to standard error. Exit status 1 if library and model differ; the text
+//! is then shown, reduced.
 
 #[path = "../tests/support/compare.rs"]
 mod compare;
+
+/// The seeds after which it is told how far the comparison is.
+const TOLD: u64 = 5_000;
 
 fn main() {
     let mut words = std::env::args().skip(1);
     let first = compare::number_or(50_000, words.next());
     let seeds = compare::number_or(10_000, words.next());
-    match compare::compare_seeds(first..first.saturating_add(seeds)) {
-        Ok((checks, runs)) => {
-            println!("{} texts, no difference", checks.iter().sum::<u64>());
-            for number in (0..27).filter(|&number| checks[number] + runs[number] > 0) {
-                println!(
-                    "{number:>2}: check {:>9}, run {:>9}",
-                    checks[number], runs[number]
-                );
+    let end = first.saturating_add(seeds);
+    let start = std::time::Instant::now();
+    let (mut checks, mut runs) = ([0; compare::NUMBERS], [0; compare::NUMBERS]);
+    let mut at = first;
+    while at < end {
+        let next = end.min(at.saturating_add(TOLD));
+        let (more_checks, more_runs) = match compare::compare_seeds(at..next) {
+            Ok(counts) => counts,
+            Err(difference) => {
+                println!("{difference}");
+                std::process::exit(1);
             }
+        };
+        for number in 0..compare::NUMBERS {
+            checks[number] += more_checks[number];
+            runs[number] += more_runs[number];
         }
-        Err(difference) => {
-            println!("{difference}");
-            std::process::exit(1);
-        }
+        at = next;
+        let (texts, seconds) = (checks.iter().sum::<u64>(), start.elapsed().as_secs());
+        eprintln!("{texts} texts, {seconds} s");
+    }
+    println!("{} texts, no difference", checks.iter().sum::<u64>());
+    for number in (0..compare::NUMBERS).filter(|&number| checks[number] + runs[number] > 0) {
+        println!(
+            "{number:>2}: check {:>9}, run {:>9}",
+            checks[number], runs[number]
+        );
     }
 }

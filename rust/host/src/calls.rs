@@ -1,4 +1,4 @@
-//! The two C functions of libstation.a, declared once, and over Rust slices.
+//! The two C functions of libnuyardi.a, declared once, and over Rust slices.
 //!
 //! Most callers want [`crate::check`] and [`crate::run`]. The functions here are
 //! for those who lend areas of their own and want the number as it comes.
@@ -7,8 +7,13 @@
 /// must not overlap, with each other or with the text.
 pub mod raw {
     extern "C" {
-        pub fn check(text: *const u8, text_len: usize, work: *mut u8, work_len: usize) -> u32;
-        pub fn run(
+        pub fn station_check(
+            text: *const u8,
+            text_len: usize,
+            work: *mut u8,
+            work_len: usize,
+        ) -> u32;
+        pub fn station_run(
             text: *const u8,
             text_len: usize,
             work: *mut u8,
@@ -25,15 +30,15 @@ pub mod raw {
 /// except for number 1 (an area of wrong length), which changes nothing.
 ///
 /// ```
-/// let mut work = vec![0xa5; host::limits::WORK_BYTES];
-/// assert_eq!(host::calls::check(b"main\nend\n", &mut work), 0);
+/// let mut work = vec![0xa5; nuyardi::limits::WORK_BYTES];
+/// assert_eq!(nuyardi::calls::check(b"main\nend\n", &mut work), 0);
 /// assert!(work.iter().all(|&byte| byte == 0));
-/// assert_eq!(host::calls::check(b"main\nend\n", &mut work[1..]), 65_536);
+/// assert_eq!(nuyardi::calls::check(b"main\nend\n", &mut work[1..]), 65_536);
 /// ```
 pub fn check(text: &[u8], work: &mut [u8]) -> u32 {
     // SAFETY: each pointer comes with the length of its slice, the text is only
     // read, and the borrows keep the slices alive and apart during the call.
-    unsafe { raw::check(text.as_ptr(), text.len(), work.as_mut_ptr(), work.len()) }
+    unsafe { raw::station_check(text.as_ptr(), text.len(), work.as_mut_ptr(), work.len()) }
 }
 
 /// Runs the text for at most so many steps, with a results area of
@@ -41,16 +46,16 @@ pub fn check(text: &[u8], work: &mut [u8]) -> u32 {
 /// the values of main's variables, 4 bytes each, low byte first.
 ///
 /// ```
-/// let mut work = vec![0; host::limits::WORK_BYTES];
-/// let mut results = [0xa5; host::limits::RESULTS_BYTES];
+/// let mut work = vec![0; nuyardi::limits::WORK_BYTES];
+/// let mut results = [0xa5; nuyardi::limits::RESULTS_BYTES];
 /// let text = b"main\nvar\tint\ta\nlet\ta\t7\nend\n";
-/// assert_eq!(host::calls::run(text, &mut work, 1_000, &mut results), 4);
+/// assert_eq!(nuyardi::calls::run(text, &mut work, 1_000, &mut results), 4);
 /// assert_eq!(results[..8], [2, 0, 0, 0, 7, 0, 0, 0]);
 /// ```
 pub fn run(text: &[u8], work: &mut [u8], steps: u32, results: &mut [u8]) -> u32 {
     // SAFETY: as in `check`; the two areas are two borrows, so they are apart.
     unsafe {
-        raw::run(
+        raw::station_run(
             text.as_ptr(),
             text.len(),
             work.as_mut_ptr(),

@@ -1,5 +1,7 @@
 //! Every number in words: what it means and what usually mends it.
 
+use core::fmt;
+
 /// A number in words.
 #[derive(Clone, Copy, Debug, PartialEq, Eq)]
 #[non_exhaustive]
@@ -29,12 +31,20 @@ macro_rules! example {
 /// The explanation of a number, if it is one that the calls return.
 ///
 /// ```
-/// let known = host::explain(12).unwrap();
+/// let known = nuyardi::explain(12).unwrap();
 /// assert_eq!(known.title, "a permission that is not shown");
-/// assert!(host::explain(15).is_none());
+/// assert!(nuyardi::explain(20).is_none());
 /// ```
 pub fn explain(number: u32) -> Option<&'static Explanation> {
     EXPLANATIONS.iter().find(|known| known.number == number)
+}
+
+/// A number's title and mend, as messages have them.
+pub(crate) fn words(f: &mut fmt::Formatter<'_>, number: u32) -> fmt::Result {
+    match explain(number) {
+        Some(known) => write!(f, "{} (number {number}); {}", known.title, known.mend),
+        None => write!(f, "number {number}"),
+    }
 }
 
 /// Every number that the calls return, in rising order.
@@ -67,8 +77,7 @@ pub const EXPLANATIONS: &[Explanation] = &[
         title: "a byte that may not stand in a text",
         meaning: "A text has tabs, line ends (LF) and the visible ASCII characters, and its last \
                   line is ended too. Blanks, CR, accented letters and control characters are refused.",
-        mend: "part fields by tabs, not blanks, end lines with LF alone, end the last line: \
-               `station fmt --write FILE` does all three",
+        mend: "part fields by tabs, not blanks, end lines with LF alone, and end the last line",
         example: example!("refused-03"),
     },
     Explanation {
@@ -79,8 +88,8 @@ pub const EXPLANATIONS: &[Explanation] = &[
                   `ensures` follow `method`, `var` lines come before statements, every `if` has \
                   `else` and `join`, `return` stands in methods only, nothing follows main's `end`. \
                   A formula has at most 8 atoms, a name at most 12 letters and digits.",
-        mend: "compare the line with its form in the guide; where fields are parted by two tabs, or \
-               a line ends in one, `station fmt --write FILE` mends it",
+        mend: "compare the line with its form in the guide; one tab parts two fields, and none \
+               begins or ends a line",
         example: example!("refused-04"),
     },
     Explanation {
@@ -107,8 +116,9 @@ pub const EXPLANATIONS: &[Explanation] = &[
         number: 7,
         title: "a wrong type",
         meaning: "Both sides of `eq`, `ne`, `let` and `set`, an argument and its parameter, a result \
-                  and what takes it are both int, or both null or of one class. Only a variable of a \
-                  class has fields and methods. The variable of `new` is of that class.",
+                  and what takes it are both int, or both null or of one class. All three variables of \
+                  `add` and `sub` are int. Only a variable of a class has fields and methods. The \
+                  variable of `new` is of that class.",
         mend: "give both sides one type: change the declaration, or name another variable",
         example: example!("refused-07"),
     },
@@ -124,8 +134,8 @@ pub const EXPLANATIONS: &[Explanation] = &[
     Explanation {
         number: 9,
         title: "a variable that may not be assigned here",
-        meaning: "`let`, `new` and `call` may not assign `this`, the parameter or `result`, and the \
-                  x of `call x y m z` may be neither y nor z.",
+        meaning: "`let`, `new`, `call`, `add` and `sub` may not assign `this`, the parameter or \
+                  `result`, and the x of `call x y m z` may be neither y nor z.",
         mend: "assign a local variable instead; `return` is what sets `result`",
         example: example!("refused-09"),
     },
@@ -160,7 +170,8 @@ pub const EXPLANATIONS: &[Explanation] = &[
         title: "an `eq` or `ne` that is not shown",
         meaning: "What is known here does not make the two sides equal, or different. A call forgets \
                   what was known of the fields that it is handed, `join` all but its formula, and an \
-                  assignment what was known of its variable.",
+                  assignment what was known of its variable. Of what `add` and `sub` give nothing is \
+                  known.",
         mend: "state the fact where it is lost: in `ensures`, in `join`, or by `if`",
         example: example!("refused-13"),
     },
@@ -219,5 +230,15 @@ pub const EXPLANATIONS: &[Explanation] = &[
                   of a call or the `ensures` of a method. An accepted text never stops so.",
         mend: "check the text, and compare the values that the run left with the formula",
         example: example!("stopped-26"),
+    },
+    Explanation {
+        number: 27,
+        title: "a sum or difference beyond 32 bits",
+        meaning: "An `add` or `sub` would give less than -2147483648 or more than 2147483647. The \
+                  step is not done, and the variable keeps its value. The checker does not compute, \
+                  so an accepted text may stop so too.",
+        mend: "test before adding, by `if eq` the number at which counting must end, or keep counts \
+               small",
+        example: example!("stopped-27"),
     },
 ];

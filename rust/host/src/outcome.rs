@@ -1,27 +1,11 @@
 //! How a run ended, and what main's variables hold.
 
-use crate::{explain, Kind};
-use std::fmt;
+use crate::limits::{RESULTS_BYTES, VALUES};
+use crate::numbers::known;
+use crate::{explain, AcceptedStop, Kind, Stop};
+use core::fmt;
 
-/// Why the machine stopped before main's `end` was done.
-#[derive(Clone, Copy, Debug, PartialEq, Eq, Hash, PartialOrd, Ord)]
-#[non_exhaustive]
-pub enum Stop {
-    /// 21: the allowed steps are taken.
-    OutOfSteps,
-    /// 22: no room for a further object.
-    HeapFull,
-    /// 23: no room for a further frame.
-    FramesFull,
-    /// 24: a permission is missing.
-    PermissionMissing,
-    /// 25: null was followed.
-    NullFollowed,
-    /// 26: an `eq` or `ne` was false.
-    FormulaFalse,
-}
-
-/// How a run ended.
+/// How a run of any text ended.
 #[derive(Clone, Copy, Debug, PartialEq, Eq, Hash)]
 #[non_exhaustive]
 pub enum Ending {
@@ -29,21 +13,46 @@ pub enum Ending {
     Finished,
     /// The machine stopped at a line.
     Stopped(Stop),
-    /// The text was not run: one of the numbers 2 to 9.
+    /// The text was not run.
     Refused(Kind),
 }
 
 impl Ending {
-    fn of(number: u32) -> Ending {
+    pub(crate) fn of(number: u32) -> Option<Ending> {
         match number {
-            0 => Ending::Finished,
-            21 => Ending::Stopped(Stop::OutOfSteps),
-            22 => Ending::Stopped(Stop::HeapFull),
-            23 => Ending::Stopped(Stop::FramesFull),
-            24 => Ending::Stopped(Stop::PermissionMissing),
-            25 => Ending::Stopped(Stop::NullFollowed),
-            26 => Ending::Stopped(Stop::FormulaFalse),
-            _ => Ending::Refused(Kind::of(number)),
+            0 => Some(Ending::Finished),
+            _ => Stop::of(number)
+                .map(Ending::Stopped)
+                .or(Kind::of(number).map(Ending::Refused)),
+        }
+    }
+}
+
+/// How a run of an accepted text ended: a permission is never missing, null is
+/// never followed, no formula is false.
+#[derive(Clone, Copy, Debug, PartialEq, Eq, Hash)]
+#[non_exhaustive]
+pub enum AcceptedEnding {
+    /// Main's `end` is done.
+    Finished,
+    /// The machine stopped at a line.
+    Stopped(AcceptedStop),
+}
+
+impl AcceptedEnding {
+    pub(crate) fn of(number: u32) -> Option<AcceptedEnding> {
+        match number {
+            0 => Some(AcceptedEnding::Finished),
+            _ => AcceptedStop::of(number).map(AcceptedEnding::Stopped),
+        }
+    }
+}
+
+impl From<AcceptedEnding> for Ending {
+    fn from(ending: AcceptedEnding) -> Ending {
+        match ending {
+            AcceptedEnding::Finished => Ending::Finished,
+            AcceptedEnding::Stopped(stop) => Ending::Stopped(stop.into()),
         }
     }
 }
@@ -70,51 +79,65 @@ impl fmt::Display for Value {
     }
 }
 
-/// A variable of main after a run.
-#[derive(Clone, Debug, PartialEq, Eq, Hash)]
-pub struct Variable {
+/// A variable of main after a run; its words are those of the text.
+#[derive(Clone, Copy, Debug, PartialEq, Eq, Hash)]
+#[non_exhaustive]
+pub struct Variable<'t> {
     /// Its name.
-    pub name: String,
+    pub name: &'t str,
     /// `int` or the name of a class.
-    pub kind: String,
+    pub kind: &'t str,
     /// Its value.
     pub value: Value,
 }
 
-/// How a run ended: number and line, the steps taken, main's variables.
-#[derive(Clone, Debug, PartialEq, Eq, Hash)]
-pub struct Outcome {
+/// How a run ended: number and line, the steps taken, main's variables. The
+/// ending of a run of any text is an [`Ending`], that of an accepted one an
+/// [`AcceptedEnding`].
+#[derive(Clone, Copy, Debug, PartialEq, Eq, Hash)]
+pub struct Outcome<'t, E = Ending> {
+    ending: E,
     number: u32,
     line: u32,
     steps: u32,
-    variables: Vec<Variable>,
+    values: [i32; VALUES],
+    /// The text that was run; empty if it was refused.
+    text: &'t [u8],
 }
 
-impl Outcome {
-    pub(crate) fn of(returned: u32, text: &[u8], steps: u32, values: &[i32]) -> Outcome {
+impl<'t, E: Copy> Outcome<'t, E> {
+    /// What run returned, the text, and what it left in the results area.
+    pub(crate) fn of(
+        returned: u32,
+        ending: fn(u32) -> Option<E>,
+        text: &'t [u8],
+        results: &[u8; RESULTS_BYTES],
+    ) -> Outcome<'t, E> {
         let number = returned / 65_536;
-        let ran = !matches!(Ending::of(number), Ending::Refused(_));
-        let named = ran.then(|| main_variables(text)).into_iter().flatten();
-        let variables = named.zip(values).map(|((kind, name), &value)| Variable {
-            name: String::from_utf8_lossy(name).into_owned(),
-            kind: String::from_utf8_lossy(kind).into_owned(),
-            value: match value {
-                number if kind == b"int" => Value::Int(number),
-                0 => Value::Null,
-                object => Value::Object(object as u32),
-            },
+        let mut words = results.chunks_exact(4).map(|four| {
+            four.iter()
+                .rev()
+                .fold(0, |word, &byte| word << 8 | u32::from(byte))
         });
+        let steps = words.next().unwrap_or(0);
+        let mut values = [0; VALUES];
+        for (value, word) in values.iter_mut().zip(words) {
+            *value = word as i32;
+        }
+        let ran = Kind::of(number).is_none();
         Outcome {
+            ending: known(ending(number), number),
             number,
             line: returned % 65_536,
             steps,
-            variables: variables.collect(),
+            values,
+            text: if ran { text } else { b"" },
         }
     }
 
     /// How the run ended.
-    pub fn ending(&self) -> Ending {
-        Ending::of(self.number)
+    pub fn ending(&self) -> E {
+        self.ending
     }
 
     /// Is main's `end` done?
@@ -122,7 +145,7 @@ impl Outcome {
         self.number == 0
     }
 
-    /// The number: 0, 2 to 9, or 21 to 26.
+    /// The number: 0, or that of the stop or of the refusal.
     pub fn number(&self) -> u32 {
         self.number
     }
@@ -140,53 +163,61 @@ impl Outcome {
 
     /// Main's variables in the order of their `var` lines; none if the text was
     /// not run.
-    pub fn variables(&self) -> &[Variable] {
-        &self.variables
+    pub fn variables(&self) -> impl Iterator<Item = Variable<'t>> {
+        main_variables(self.text)
+            .zip(self.values)
+            .map(|((kind, name), value)| Variable {
+                name,
+                kind,
+                value: match value {
+                    number if kind == "int" => Value::Int(number),
+                    0 => Value::Null,
+                    object => Value::Object(object as u32),
+                },
+            })
     }
 
     /// Main's variable of a name.
-    pub fn variable(&self, name: &str) -> Option<&Variable> {
-        self.variables.iter().find(|variable| variable.name == name)
+    pub fn variable(&self, name: &str) -> Option<Variable<'t>> {
+        self.variables().find(|variable| variable.name == name)
     }
 }
 
 /// The types and names of main's `var` lines, of a text that was run: there
-/// `main` alone on a line occurs once.
-fn main_variables(text: &[u8]) -> impl Iterator<Item = (&[u8], &[u8])> {
+/// `main` alone on a line occurs once, and every byte is ASCII.
+fn main_variables(text: &[u8]) -> impl Iterator<Item = (&str, &str)> {
     text.split(|&byte| byte == b'\n')
         .skip_while(|&line| line != b"main")
         .skip(1)
-        .map_while(|line| {
-            let mut fields = line.split(|&byte| byte == b'\t');
-            let word = fields.next()?;
-            Some((fields.next()?, fields.next()?)).filter(|_| word == b"var")
-        })
+        .map_while(|line| core::str::from_utf8(line).ok()?.strip_prefix("var\t"))
+        .map_while(|rest| rest.split_once('\t'))
 }
 
-impl fmt::Display for Outcome {
-    fn fmt(&self, f: &mut fmt::Formatter<'_>) -> fmt::Result {
-        let Outcome {
-            number,
-            line,
-            steps,
-            ..
-        } = self;
-        let step = if *steps == 1 { "step" } else { "steps" };
-        match (self.ending(), explain(*number)) {
-            (Ending::Finished, _) => write!(f, "finished at line {line} after {steps} {step}"),
-            (Ending::Stopped(_), Some(known)) => write!(
-                f,
-                "stopped at line {line} after {steps} {step}: {} (number {number}); {}",
-                known.title, known.mend
-            ),
-            (_, Some(known)) => {
-                write!(f, "not run")?;
-                if *line != 0 {
-                    write!(f, ", line {line}")?;
-                }
-                write!(f, ": {} (number {number}); {}", known.title, known.mend)
-            }
-            (_, None) => write!(f, "number {number}, which this version does not know"),
+impl<'t> From<Outcome<'t, AcceptedEnding>> for Outcome<'t> {
+    fn from(outcome: Outcome<'t, AcceptedEnding>) -> Outcome<'t> {
+        Outcome {
+            ending: outcome.ending.into(),
+            number: outcome.number,
+            line: outcome.line,
+            steps: outcome.steps,
+            values: outcome.values,
+            text: outcome.text,
         }
+    }
+}
+
+impl<E> fmt::Display for Outcome<'_, E> {
+    fn fmt(&self, f: &mut fmt::Formatter<'_>) -> fmt::Result {
+        let (number, line, steps) = (self.number, self.line, self.steps);
+        let step = if steps == 1 { "step" } else { "steps" };
+        if number == 0 {
+            return write!(f, "finished at line {line} after {steps} {step}");
+        }
+        match Stop::of(number) {
+            Some(_) => write!(f, "stopped at line {line} after {steps} {step}: ")?,
+            None if line == 0 => write!(f, "not run: ")?,
+            None => write!(f, "not run, line {line}: ")?,
+        }
+        explain::words(f, number)
     }
 }

@@ -1,55 +1,47 @@
 //! The two calls with areas of their own.
 
-use crate::limits::{RESULTS_BYTES, VALUES, WORK_BYTES};
+use crate::limits::{RESULTS_BYTES, WORK_BYTES};
+use crate::outcome::{AcceptedEnding, Ending};
 use crate::{calls, Outcome, Refusal};
+use core::borrow::BorrowMut;
+use core::fmt;
 
-/// The areas that the library is lent, kept from call to call.
+/// The work area that a [`Station`] has if none is lent to it.
+#[cfg(feature = "alloc")]
+pub type OwnWork = alloc::boxed::Box<[u8; WORK_BYTES]>;
+/// The work area that a [`Station`] has if none is lent to it.
+#[cfg(not(feature = "alloc"))]
+pub type OwnWork = [u8; WORK_BYTES];
+
+/// The areas that the library is lent, kept from call to call: one station
+/// serves any number of calls, one after the other.
 ///
 /// ```
-/// let mut station = host::Station::new();
+/// let mut station = nuyardi::Station::new();
 /// for text in [&b"main\nend\n"[..], b"main\nvar\tint\ta\nend\n"] {
-///     assert!(station.check(text).is_ok());
-///     assert!(station.run(text, 10).finished());
+///     let accepted = station.check(text)?;
+///     assert!(accepted.run(&mut station, 10).finished());
 /// }
+/// # Ok::<(), nuyardi::Refusal>(())
 /// ```
 #[derive(Clone)]
-pub struct Station {
-    work: Box<[u8]>,
+pub struct Station<W = OwnWork> {
+    work: W,
     results: [u8; RESULTS_BYTES],
 }
 
 impl Station {
-    /// Areas for one call at a time.
+    /// Areas for one call at a time: the only allocation there is.
+    #[cfg(feature = "alloc")]
     pub fn new() -> Station {
-        Station {
-            work: vec![0; WORK_BYTES].into_boxed_slice(),
-            results: [0; RESULTS_BYTES],
-        }
+        let work = alloc::vec![0; WORK_BYTES].into_boxed_slice().try_into();
+        Station::over(work.unwrap_or_else(|_| alloc::boxed::Box::new([0; WORK_BYTES])))
     }
 
-    /// As [`crate::check`].
-    pub fn check<'t>(&mut self, text: &'t [u8]) -> Result<Accepted<'t>, Refusal> {
-        let returned = calls::check(text, &mut self.work);
-        match Refusal::of(returned) {
-            None => Ok(Accepted { text }),
-            Some(refusal) => Err(refusal),
-        }
-    }
-
-    /// As [`crate::run`].
-    pub fn run(&mut self, text: &[u8], steps: u32) -> Outcome {
-        let returned = calls::run(text, &mut self.work, steps, &mut self.results);
-        let mut words = self.results.chunks_exact(4).map(|four| {
-            four.iter()
-                .rev()
-                .fold(0, |word, &byte| word << 8 | u32::from(byte))
-        });
-        let steps = words.next().unwrap_or(0);
-        let mut values = [0; VALUES];
-        for (value, word) in values.iter_mut().zip(words) {
-            *value = word as i32;
-        }
-        Outcome::of(returned, text, steps, &values)
+    /// Areas for one call at a time.
+    #[cfg(not(feature = "alloc"))]
+    pub const fn new() -> Station {
+        Station::over([0; WORK_BYTES])
     }
 }
 
@@ -59,8 +51,57 @@ impl Default for Station {
     }
 }
 
-/// A text that check accepts. Its runs end in one of four ways: finished, out
-/// of steps, heap full or frames full.
+impl<W> fmt::Debug for Station<W> {
+    fn fmt(&self, f: &mut fmt::Formatter<'_>) -> fmt::Result {
+        f.debug_struct("Station").finish_non_exhaustive()
+    }
+}
+
+impl<W> Station<W> {
+    /// A station over a work area of the caller's, whatever it holds.
+    ///
+    /// ```
+    /// let mut area = [0xa5; nuyardi::limits::WORK_BYTES];
+    /// let mut station = nuyardi::Station::over(&mut area);
+    /// assert!(station.check(b"main\nend\n").is_ok());
+    /// ```
+    pub const fn over(work: W) -> Station<W> {
+        Station {
+            work,
+            results: [0; RESULTS_BYTES],
+        }
+    }
+}
+
+impl<W: BorrowMut<[u8; WORK_BYTES]>> Station<W> {
+    /// Checks a text: accepted, or refused with a number and a line.
+    pub fn check<'t>(&mut self, text: &'t [u8]) -> Result<Accepted<'t>, Refusal> {
+        let returned = calls::check(text, self.work.borrow_mut());
+        match Refusal::of(returned) {
+            None => Ok(Accepted { text }),
+            Some(refusal) => Err(refusal),
+        }
+    }
+
+    /// Runs a text for at most so many steps. A text that check refuses with one
+    /// of the numbers 10 to 14 runs all the same; the machine tests every
+    /// permission. For a text that is checked there is [`Accepted::run`].
+    pub fn run<'t>(&mut self, text: &'t [u8], steps: u32) -> Outcome<'t> {
+        self.run_to(Ending::of, text, steps)
+    }
+
+    fn run_to<'t, E: Copy>(
+        &mut self,
+        ending: fn(u32) -> Option<E>,
+        text: &'t [u8],
+        steps: u32,
+    ) -> Outcome<'t, E> {
+        let returned = calls::run(text, self.work.borrow_mut(), steps, &mut self.results);
+        Outcome::of(returned, ending, text, &self.results)
+    }
+}
+
+/// A text that check accepts.
 #[derive(Clone, Copy, Debug, PartialEq, Eq)]
 pub struct Accepted<'t> {
     text: &'t [u8],
@@ -72,8 +113,24 @@ impl<'t> Accepted<'t> {
         self.text
     }
 
-    /// Runs the text, as [`crate::run`].
-    pub fn run(self, steps: u32) -> Outcome {
-        crate::run(self.text, steps)
+    /// Runs the text for at most so many steps. It finishes, or stops for want
+    /// of room or at a sum beyond 32 bits: an [`AcceptedEnding`] has no other
+    /// case, by a theorem.
+    ///
+    /// ```
+    /// use nuyardi::{AcceptedEnding, AcceptedStop};
+    /// let mut station = nuyardi::Station::new();
+    /// let accepted = station.check(b"main\nvar\tint\ta\nlet\ta\t7\nend\n")?;
+    /// let outcome = accepted.run(&mut station, 1);
+    /// assert_eq!(outcome.ending(), AcceptedEnding::Stopped(AcceptedStop::OutOfSteps));
+    /// assert_eq!((outcome.line(), outcome.steps()), (4, 1));
+    /// # Ok::<(), nuyardi::Refusal>(())
+    /// ```
+    pub fn run<W: BorrowMut<[u8; WORK_BYTES]>>(
+        self,
+        station: &mut Station<W>,
+        steps: u32,
+    ) -> Outcome<'t, AcceptedEnding> {
+        station.run_to(AcceptedEnding::of, self.text, steps)
     }
 }

@@ -1,39 +1,58 @@
 //! The Rust API beside the model: kinds, lines, main's variables by name.
 
-use host::{Ending, Kind, Station, Stop, Value};
 use model::gen::{self, rng::Rng};
 use model::names::{Declared, Type};
+use nuyardi::{AcceptedEnding, AcceptedStop, Ending, Kind, Outcome, Station, Stop, Value};
+use std::collections::BTreeSet;
 
-/// Every number has its own kind or ending, and words.
+/// Every number that a call returns is explained: 0, 1, and those of the kinds
+/// and stops, each of which is found by its number.
 #[test]
 fn numbers_and_kinds() {
-    let kinds: Vec<Kind> = (2..=14).map(Kind::of).collect();
-    for (at, kind) in kinds.iter().enumerate() {
-        assert_ne!(*kind, Kind::Unknown);
-        assert!(!kinds[..at].contains(kind));
-    }
-    for number in [0, 1, 15, 21, u32::MAX] {
-        assert_eq!(Kind::of(number), Kind::Unknown);
-    }
-    let explained: Vec<u32> = host::EXPLANATIONS
+    let kinds = Kind::ALL.iter().map(|kind| kind.number());
+    let stops = Stop::ALL.iter().map(|stop| stop.number());
+    let returned: Vec<u32> = [0, 1].into_iter().chain(kinds).chain(stops).collect();
+    assert!(returned.windows(2).all(|pair| pair[0] < pair[1]));
+    let explained: Vec<u32> = nuyardi::EXPLANATIONS
         .iter()
         .map(|known| known.number)
         .collect();
-    let returned: Vec<u32> = (0..=14).chain(21..=26).collect();
     assert_eq!(explained, returned);
-    for known in host::EXPLANATIONS {
+    for number in (0..100).chain([u32::MAX]) {
+        let kind = Kind::of(number).map(Kind::number);
+        let stop = Stop::of(number).map(Stop::number);
+        assert_eq!(
+            kind.or(stop),
+            returned[2..].contains(&number).then_some(number)
+        );
+    }
+    for known in nuyardi::EXPLANATIONS {
         for words in [known.title, known.meaning, known.mend] {
             assert!(words.len() > 10 && !words.contains("  "), "{words}");
+            assert!(!words.contains("`station "), "{words}");
         }
+    }
+}
+
+/// An accepted text's stops are stops, and those of which the explanation says
+/// that an accepted text never stops so are not among them.
+#[test]
+fn stops_of_accepted_texts() {
+    for &stop in Stop::ALL {
+        let accepted = AcceptedStop::of(stop.number());
+        let known = nuyardi::explain(stop.number()).expect("an explanation");
+        let never = known.meaning.contains("An accepted text never stops so.");
+        assert_eq!(accepted.is_none(), never, "{}", known.meaning);
+        assert_eq!(accepted.map(Stop::from), accepted.map(|_| stop));
     }
 }
 
 /// The sizes that the explanations name are those of the machine.
 #[test]
 fn sizes_in_words() {
-    use host::limits::*;
+    use nuyardi::limits::*;
     let said = |number: u32, sizes: &[usize]| {
-        let known = host::explain(number).expect("an explanation");
+        let known = nuyardi::explain(number).expect("an explanation");
         let words = format!("{} {}", known.meaning, known.mend).replace(',', "");
         let words: Vec<&str> = words.split_whitespace().collect();
         for size in sizes {
@@ -60,21 +79,26 @@ fn sizes_in_words() {
 #[test]
 fn generated_texts() {
     let mut station = Station::new();
-    let mut stops = Vec::new();
+    let mut stops = BTreeSet::new();
+    let mut accepted_stops = BTreeSet::new();
     for seed in 1_000_000..1_004_000 {
         let text = gen::text(seed);
         let steps = gen::steps(&mut Rng::new(seed));
         let (number, line) = model::check(&text);
         let checked = station.check(&text);
-        assert_eq!(checked, host::check(&text));
+        assert_eq!(checked, nuyardi::check(&text));
         match checked {
             Ok(accepted) => {
                 assert_eq!((number, accepted.text()), (0, &text[..]));
-                assert_eq!(accepted.run(steps), station.run(&text, steps));
+                let outcome = accepted.run(&mut station, steps);
+                assert_eq!(Outcome::from(outcome), station.run(&text, steps));
+                if let AcceptedEnding::Stopped(stop) = outcome.ending() {
+                    accepted_stops.insert(stop);
+                }
             }
             Err(refusal) => {
                 assert_eq!((refusal.number(), refusal.line()), (number, line));
-                assert_eq!(refusal.kind(), Kind::of(number));
+                assert_eq!(Some(refusal.kind()), Kind::of(number));
                 let shown = refusal.to_string();
                 assert!(line == 0 || shown.starts_with(&format!("line {line}: ")));
                 assert!(shown.contains(&format!("(number {number}); ")), "{shown}");
@@ -89,9 +113,9 @@ fn generated_texts() {
         assert_eq!(outcome.finished(), run.number == 0);
         let declared = model::read(&text).map(|program| program.main().locals.clone());
         let declared = declared.unwrap_or_default();
-        assert_eq!(outcome.variables().len(), declared.len());
+        assert_eq!(outcome.variables().count(), declared.len());
         for ((variable, Declared { name, kind, .. }), value) in
-            outcome.variables().iter().zip(&declared).zip(run.values)
+            outcome.variables().zip(&declared).zip(run.values)
         {
             assert_eq!(variable.name.as_bytes(), *name);
             let (kind, value) = match kind {
@@ -100,19 +124,17 @@ fn generated_texts() {
                 Type::Class(class) => (*class, Value::Object(value as u32)),
             };
             assert_eq!((variable.kind.as_bytes(), variable.value), (kind, value));
-            assert_eq!(outcome.variable(&variable.name), Some(variable));
+            assert_eq!(outcome.variable(variable.name), Some(variable));
         }
         assert_eq!(outcome.variable("no name"), None);
         match outcome.ending() {
             Ending::Finished => assert!(outcome.to_string().starts_with("finished at line ")),
             Ending::Stopped(stop) => {
                 assert!(outcome.to_string().starts_with("stopped at line "));
-                if !stops.contains(&stop) {
-                    stops.push(stop);
-                }
+                stops.insert(stop);
             }
             Ending::Refused(kind) => {
-                assert_eq!(kind, Kind::of(number));
+                assert_eq!(Some(kind), Kind::of(number));
                 let start = if line == 0 {
                     "not run: ".to_string()
                 } else {
@@ -123,23 +145,19 @@ fn generated_texts() {
             other => panic!("an ending that the model does not know: {other:?}"),
         }
     }
-    stops.sort();
-    let all = [
-        Stop::OutOfSteps,
-        Stop::HeapFull,
-        Stop::FramesFull,
-        Stop::PermissionMissing,
-        Stop::NullFollowed,
-        Stop::FormulaFalse,
-    ];
-    assert_eq!(stops, all);
+    assert!(stops.iter().eq(Stop::ALL), "{stops:?}");
+    assert!(
+        accepted_stops.iter().eq(AcceptedStop::ALL),
+        "{accepted_stops:?}"
+    );
 }
 
 /// A refusal is an error that can be passed on.
 #[test]
 fn a_refusal_is_an_error() {
     fn checked(text: &[u8]) -> Result<u32, Box<dyn std::error::Error + '_>> {
-        Ok(host::check(text)?.run(10).steps())
+        let mut station = Station::new();
+        Ok(station.check(text)?.run(&mut station, 10).steps())
     }
     assert_eq!(checked(b"main\nend\n").expect("accepted"), 1);
     let error = checked(b"main\nend").expect_err("the last line is not ended");

@@ -1,13 +1,18 @@
 //! The C header: its sizes and numbers, two C programs that use it, and the
 //! stack that each call takes.
 
+#[path = "support/c.rs"]
+mod c;
 #[path = "support/workloads.rs"]
 mod workloads;
 
-use host::limits;
+use nuyardi::{limits, Kind, Stop};
 use std::collections::BTreeMap;
-use std::path::{Path, PathBuf};
+use std::path::Path;
 use std::process::Command;
+
+/// What the header promises of the stack.
+const STACK_BYTES: usize = 64 * 1_024;
 
 fn header() -> String {
     let path = Path::new(env!("CARGO_MANIFEST_DIR")).join("../../include/station.h");
@@ -28,6 +33,7 @@ fn sizes() {
         ("RESULTS_BYTES", limits::RESULTS_BYTES),
         ("TEXT_BYTES", limits::TEXT_BYTES),
         ("VALUES", limits::VALUES),
+        ("STACK_BYTES", STACK_BYTES),
     ]);
     assert_eq!(sizes, machine);
     assert_eq!(limits::RESULTS_BYTES, 4 * (1 + limits::VALUES));
@@ -62,51 +68,118 @@ fn limits_of_the_model() {
     }
 }
 
-/// The header names every number that is explained, and no other.
+/// `TextTooLong` as the header writes it: `TEXT_TOO_LONG`.
+fn in_capitals(name: &str) -> String {
+    let mut capitals = String::new();
+    for letter in name.chars() {
+        if letter.is_uppercase() && !capitals.is_empty() {
+            capitals.push('_');
+        }
+        capitals.push(letter.to_ascii_uppercase());
+    }
+    capitals
+}
+
+/// The header names every number, as the Rust API does.
 #[test]
 fn numbers() {
     let header = header();
-    let named: Vec<u32> = header
+    let named: Vec<(String, u32)> = header
         .lines()
         .filter_map(|line| line.trim().strip_prefix("STATION_")?.split_once(" = "))
-        .map(|(_, rest)| {
+        .map(|(name, rest)| {
             let digits: String = rest.chars().take_while(char::is_ascii_digit).collect();
-            digits.parse().expect("a number")
+            (name.to_string(), digits.parse().expect("a number"))
         })
         .collect();
-    let explained: Vec<u32> = host::EXPLANATIONS
+    let own = [("DONE".to_string(), 0), ("AREA_LENGTH".to_string(), 1)];
+    let kinds = Kind::ALL
         .iter()
-        .map(|known| known.number)
-        .collect();
-    assert_eq!(named, explained);
+        .map(|kind| (format!("{kind:?}"), kind.number()));
+    let stops = Stop::ALL
+        .iter()
+        .map(|stop| (format!("{stop:?}"), stop.number()));
+    let cases = kinds
+        .chain(stops)
+        .map(|(name, number)| (in_capitals(&name), number));
+    assert_eq!(named, own.into_iter().chain(cases).collect::<Vec<_>>());
 }
 
-/// Compiles a C program with the library, in a folder of its own.
-fn compiled(name: &str) -> PathBuf {
-    let host = Path::new(env!("CARGO_MANIFEST_DIR"));
-    let program = Path::new(env!("CARGO_TARGET_TMPDIR")).join(name);
-    let output = Command::new("gcc")
-        .args([
-            "-std=c11", "-O2", "-Wall", "-Wextra", "-Werror", "-pthread", "-I",
-        ])
-        .arg(host.join("../../include"))
-        .arg(host.join(format!("tests/c/{name}.c")))
-        .arg(concat!(env!("OUT_DIR"), "/libstation.a"))
-        .arg("-o")
-        .arg(&program)
+/// The names of functions that the header declares.
+fn declared() -> Vec<String> {
+    let header = header();
+    let names = header.lines().filter_map(|line| {
+        let (_, rest) = line.split_once(" station_")?;
+        let (name, _) = rest.split_once('(')?;
+        line.starts_with(|letter: char| letter.is_ascii_lowercase())
+            .then(|| name.to_string())
+    });
+    names.collect()
+}
+
+/// The library defines the header's functions and no other global name; they are
+/// the exported functions of `station`.
+#[test]
+fn global_names() {
+    let output = Command::new("nm")
+        .args(["--extern-only", "--defined-only", "--format=posix"])
+        .arg(concat!(env!("OUT_DIR"), "/libnuyardi.a"))
         .output()
-        .expect("gcc");
-    assert!(
-        output.status.success(),
-        "{}",
-        String::from_utf8_lossy(&output.stderr)
-    );
-    program
+        .expect("nm");
+    let printed = String::from_utf8_lossy(&output.stdout);
+    let mut names: Vec<&str> = printed
+        .lines()
+        .filter_map(|line| line.split_once(" T "))
+        .map(|(name, _)| name)
+        .collect();
+    names.sort();
+    // The lines that define names: the archive's own line has none.
+    assert_eq!(printed.lines().count(), names.len() + 1, "{printed}");
+    let mut functions: Vec<String> = declared();
+    functions.sort();
+    let with_prefix: Vec<String> = functions
+        .iter()
+        .map(|name| format!("station_{name}"))
+        .collect();
+    assert_eq!(names, with_prefix);
+    let source = Path::new(env!("CARGO_MANIFEST_DIR")).join("../../crates/station/src/lib.rt");
+    let source = std::fs::read_to_string(source).expect("the source");
+    let mut exported: Vec<&str> = source
+        .lines()
+        .filter_map(|line| line.split_once("pub extern \"C\" fn ")?.1.split_once('('))
+        .map(|(name, _)| name)
+        .collect();
+    exported.sort();
+    assert_eq!(exported, functions);
+}
+
+/// The header alone, by the strictest words: C99, and C++ where there is a compiler of it.
+#[test]
+fn header_by_itself() {
+    let header = Path::new(env!("CARGO_MANIFEST_DIR")).join("../../include/station.h");
+    for (compiler, words) in [
+        ("gcc", ["-std=c99", "-xc"]),
+        ("g++", ["-std=c++11", "-xc++"]),
+    ] {
+        let output = Command::new(compiler)
+            .args(["-pedantic", "-Wall", "-Wextra", "-Werror", "-fsyntax-only"])
+            .args(words)
+            .arg(&header)
+            .output();
+        match output {
+            Ok(output) => assert!(
+                output.status.success(),
+                "{compiler}: {}",
+                String::from_utf8_lossy(&output.stderr)
+            ),
+            Err(error) => assert_ne!(compiler, "gcc", "{error}"),
+        }
+    }
 }
 
 #[test]
 fn called_from_c() {
-    let output = Command::new(compiled("calls"))
+    let output = Command::new(c::compiled("calls"))
         .output()
         .expect("the program");
     let printed = String::from_utf8_lossy(&output.stdout);
@@ -116,74 +189,26 @@ fn called_from_c() {
     );
 }
 
-/// Under valgrind, where there is one: nothing outside the areas is touched, and
-/// no result rests on what they held before. The answers are the model's.
+/// The answers of a C program with areas fresh from malloc are the model's.
 #[test]
 fn replayed() {
-    let folder = Path::new(env!("CARGO_TARGET_TMPDIR")).join("replay-texts");
-    std::fs::create_dir_all(&folder).expect("a folder");
     let texts: Vec<Vec<u8>> = (0..150).map(model::gen::text).collect();
-    let names: Vec<PathBuf> = (0..texts.len())
-        .map(|at| folder.join(format!("{at}")))
-        .collect();
-    for (name, text) in names.iter().zip(&texts) {
-        std::fs::write(name, text).expect("a text");
-    }
-    let program = compiled("replay");
-    let valgrind = Command::new("valgrind").arg("--version").output().is_ok();
-    let mut command = match valgrind {
-        true => Command::new("valgrind"),
-        false => Command::new(&program),
-    };
-    if valgrind {
-        command
-            .args(["--quiet", "--error-exitcode=9"])
-            .arg(&program);
-    }
-    let output = command
-        .arg("500")
-        .args(&names)
-        .output()
-        .expect("the program");
-    let errors = String::from_utf8_lossy(&output.stderr);
-    assert_eq!((output.status.code(), errors.as_ref()), (Some(0), ""));
-    let printed = String::from_utf8_lossy(&output.stdout);
-    let mut lines = printed.lines();
-    for text in &texts {
-        let mut work = vec![0; limits::WORK_BYTES];
-        let mut results = [0; limits::RESULTS_BYTES];
-        let checked = model::check_call(text, &mut work);
-        let ran = model::run_call(text, &mut work, 500, &mut results);
-        let add = |sum: u32, &byte: &u8| sum.wrapping_mul(31).wrapping_add(u32::from(byte));
-        let expected = format!("{checked} {ran} {}", results.iter().fold(0, add));
-        assert_eq!(
-            lines.next(),
-            Some(expected.as_str()),
-            "{}",
-            text.escape_ascii()
-        );
-    }
-    assert_eq!(lines.next(), None);
+    c::as_expected(
+        Command::new(c::compiled("replay")),
+        "replay-texts",
+        &texts,
+        500,
+    );
 }
 
 /// Each call takes less than 64 KB of stack, on every text that is timed and
 /// on generated ones; and the measure itself sees something.
 #[test]
 fn stack() {
-    let folder = Path::new(env!("CARGO_TARGET_TMPDIR")).join("stack-texts");
-    std::fs::create_dir_all(&folder).expect("a folder");
     let timed = workloads::all().into_iter().map(|workload| workload.text);
     let generated = (0..200).map(model::gen::text);
-    let names: Vec<PathBuf> = timed
-        .chain(generated)
-        .enumerate()
-        .map(|(at, text)| {
-            let name = folder.join(format!("{at}"));
-            std::fs::write(&name, text).expect("a text");
-            name
-        })
-        .collect();
-    let output = Command::new(compiled("stack"))
+    let names = c::files("stack-texts", timed.chain(generated));
+    let output = Command::new(c::compiled("stack"))
         .arg("2000")
         .args(&names)
         .output();
@@ -200,6 +225,6 @@ fn stack() {
     }
     println!("stack: check {check} bytes, run {run} bytes");
     assert_eq!(rows, names.len());
-    assert!((256..64 * 1_024).contains(&check), "check takes {check}");
-    assert!((256..64 * 1_024).contains(&run), "run takes {run}");
+    assert!((256..STACK_BYTES).contains(&check), "check takes {check}");
+    assert!((256..STACK_BYTES).contains(&run), "run takes {run}");
 }

@@ -9,10 +9,16 @@ use std::path::{Path, PathBuf};
 
 mod declared;
 mod imports;
+mod index;
+mod papers;
+mod quotes;
 mod unused;
 
 pub use declared::{declarations, Declaration};
 pub use imports::{imports, Import};
+pub use index::Index;
+pub use papers::{papers, plain, Paper, Sentence};
+pub use quotes::{quotes, Quote};
 pub use unused::{unused_declarations, unused_imports, File};
 
 /// Names that open all others of their file, so that standing there is no use.

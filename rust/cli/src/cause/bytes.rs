@@ -5,7 +5,7 @@ use crate::script::line;
 use model::text::allowed_byte;
 
 pub fn too_long(text: &[u8]) -> Cause {
-    let most = host::limits::TEXT_BYTES;
+    let most = nuyardi::limits::TEXT_BYTES;
     let size = match text.len() > most + 1 {
         true => text.len().to_string(),
         false => format!("more than {most}"),

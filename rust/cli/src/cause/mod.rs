@@ -14,7 +14,7 @@ mod stops;
 pub use form::form_of;
 pub use stops::{machine_at, open_calls, stop_cause, value_shown, AGAIN};
 
-use host::{Kind, Refusal};
+use nuyardi::{Kind, Refusal};
 use std::ops::Range;
 
 /// The one reason, where in the line, what else is known, and a mend that fits.

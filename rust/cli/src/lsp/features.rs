@@ -46,7 +46,7 @@ fn range(line: u32, from: usize, to: usize) -> Json {
 
 /// The diagnostics of a text: one, or none if it is accepted.
 pub fn diagnostics(text: &str) -> Json {
-    let Err(refusal) = host::check(text.as_bytes()) else {
+    let Err(refusal) = nuyardi::check(text.as_bytes()) else {
         return Json::List(Vec::new());
     };
     let why = cause(text.as_bytes(), refusal);
@@ -54,7 +54,7 @@ pub fn diagnostics(text: &str) -> Json {
     let shown = line_of(text, line);
     let mark = why.as_ref().and_then(|cause| cause.mark.clone());
     let mark = mark.unwrap_or(0..shown.len());
-    let title = host::explain(refusal.number()).map_or("", |known| known.title);
+    let title = nuyardi::explain(refusal.number()).map_or("", |known| known.title);
     let mut message = why.as_ref().map_or(title, |cause| &cause.text).to_string();
     for note in why.iter().flat_map(|cause| &cause.notes) {
         message.push_str(&format!("\nnote: {note}"));

@@ -44,34 +44,34 @@ int main(void)
     uint32_t returned;
 
     garbage();
-    returned = check(text, len, work, STATION_WORK_BYTES);
+    returned = station_check(text, len, work, STATION_WORK_BYTES);
     expect(returned == STATION_DONE, "the script is accepted");
     expect(all(work, STATION_WORK_BYTES, 0), "check clears the work area");
     expect(work[STATION_WORK_BYTES] == 0xa5, "check stays within the work area");
 
     garbage();
-    returned = run(text, len, work, STATION_WORK_BYTES, 1000, results, STATION_RESULTS_BYTES);
+    returned = station_run(text, len, work, STATION_WORK_BYTES, 1000, results, STATION_RESULTS_BYTES);
     expect(STATION_NUMBER(returned) == STATION_DONE && STATION_LINE(returned) == 5, "the run ends at line 5");
     expect(word(0) == 2 && (int32_t)word(1) == -7, "two steps, and a is -7");
     expect(all(results + 8, 4 * (STATION_VALUES - 1), 0), "zeros after the last variable");
     expect(all(work, STATION_WORK_BYTES, 0), "run clears the work area");
     expect(work[STATION_WORK_BYTES] == 0xa5 && results[STATION_RESULTS_BYTES] == 0x5a, "run stays within the areas");
 
-    returned = run(text, len, work, STATION_WORK_BYTES, 1, results, STATION_RESULTS_BYTES);
+    returned = station_run(text, len, work, STATION_WORK_BYTES, 1, results, STATION_RESULTS_BYTES);
     expect(returned == STATION_OUT_OF_STEPS * 65536 + 5, "one step is not enough");
 
     garbage();
-    expect(check(NULL, 0, work, STATION_WORK_BYTES) == STATION_UNFINISHED * 65536, "check of a null text");
-    returned = run(NULL, 0, work, STATION_WORK_BYTES, 1, results, STATION_RESULTS_BYTES);
+    expect(station_check(NULL, 0, work, STATION_WORK_BYTES) == STATION_UNFINISHED * 65536, "check of a null text");
+    returned = station_run(NULL, 0, work, STATION_WORK_BYTES, 1, results, STATION_RESULTS_BYTES);
     expect(returned == STATION_UNFINISHED * 65536, "run of a null text");
     expect(all(results, STATION_RESULTS_BYTES, 0), "zeros after a refusal");
 
     garbage();
-    expect(check(text, len, work, STATION_WORK_BYTES + 1) == 65536, "a work area too long for check");
-    expect(check(text, len, NULL, 0) == 65536, "no work area for check");
-    returned = run(text, len, work, STATION_WORK_BYTES - 1, 9, results, STATION_RESULTS_BYTES);
+    expect(station_check(text, len, work, STATION_WORK_BYTES + 1) == 65536, "a work area too long for check");
+    expect(station_check(text, len, NULL, 0) == 65536, "no work area for check");
+    returned = station_run(text, len, work, STATION_WORK_BYTES - 1, 9, results, STATION_RESULTS_BYTES);
     expect(returned == STATION_AREA_LENGTH * 65536, "a work area too short for run");
-    returned = run(text, len, work, STATION_WORK_BYTES, 9, results, STATION_RESULTS_BYTES + 1);
+    returned = station_run(text, len, work, STATION_WORK_BYTES, 9, results, STATION_RESULTS_BYTES + 1);
     expect(returned == STATION_AREA_LENGTH * 65536, "a results area too long");
     expect(all(work, sizeof work, 0xa5) && all(results, sizeof results, 0x5a), "number 1 changes nothing");
 

@@ -29,8 +29,8 @@ int main(int count, char **words)
         if (!text || !work || !again || !results)
             return 2;
         memcpy(text, read, len);
-        uint32_t checked = check(text, len, work, STATION_WORK_BYTES);
-        uint32_t ran = run(text, len, again, STATION_WORK_BYTES, steps, results, STATION_RESULTS_BYTES);
+        uint32_t checked = station_check(text, len, work, STATION_WORK_BYTES);
+        uint32_t ran = station_run(text, len, again, STATION_WORK_BYTES, steps, results, STATION_RESULTS_BYTES);
         uint32_t sum = 0;
         for (size_t at = 0; at < STATION_RESULTS_BYTES; at++)
             sum = sum * 31 + results[at];

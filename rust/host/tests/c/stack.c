@@ -29,13 +29,13 @@ static void *nothing(void *unused)
 
 static void *checked(void *unused)
 {
-    answer = check(text, len, work, sizeof work);
+    answer = station_check(text, len, work, sizeof work);
     return unused;
 }
 
 static void *ran(void *unused)
 {
-    answer = run(text, len, work, sizeof work, steps, results, sizeof results);
+    answer = station_run(text, len, work, sizeof work, steps, results, sizeof results);
     return unused;
 }
 

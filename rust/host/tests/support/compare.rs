@@ -2,9 +2,9 @@
 //! the lent areas, with canaries around them and garbage in them before.
 #![allow(dead_code)]
 
-use host::calls;
-use host::limits::{RESULTS_BYTES, WORK_BYTES};
 use model::gen::{self, mutate, rng::Rng};
+use nuyardi::calls;
+use nuyardi::limits::{RESULTS_BYTES, WORK_BYTES};
 use std::fmt;
 
 /// The number that a word of the command line gives, or the usual one.
@@ -285,8 +285,12 @@ pub fn gently_mutated(rng: &mut Rng, text: &[u8]) -> Vec<u8> {
 /// The mutations of each generated text.
 pub const MUTATIONS: usize = 19;
 
+/// One more than the highest number that a call returns.
+pub const NUMBERS: usize =
+    nuyardi::EXPLANATIONS[nuyardi::EXPLANATIONS.len() - 1].number as usize + 1;
+
 /// How often each number came.
-pub type Counts = [u64; 27];
+pub type Counts = [u64; NUMBERS];
 
 /// The text of a seed and its mutations, compared; counts by number.
 pub fn compare_seed(
@@ -323,7 +327,7 @@ pub fn compare_seeds(seeds: std::ops::Range<u64>) -> Result<(Counts, Counts), Bo
     let next = AtomicU64::new(seeds.start);
     let work = || {
         let mut comparer = Comparer::new(seeds.start);
-        let (mut checks, mut runs) = ([0; 27], [0; 27]);
+        let (mut checks, mut runs) = ([0; NUMBERS], [0; NUMBERS]);
         loop {
             let seed = next.fetch_add(1, Ordering::Relaxed);
             if seed >= seeds.end {
@@ -340,7 +344,7 @@ pub fn compare_seeds(seeds: std::ops::Range<u64>) -> Result<(Counts, Counts), Bo
         (work(), other.join().expect("the other thread ends"))
     });
     let ((mut checks, mut runs), (more_checks, more_runs)) = (one?, two?);
-    for at in 0..27 {
+    for at in 0..NUMBERS {
         checks[at] += more_checks[at];
         runs[at] += more_runs[at];
     }

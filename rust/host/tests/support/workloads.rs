@@ -2,7 +2,7 @@
 //! the checker and the reader.
 #![allow(dead_code)]
 
-use host::limits::{CLASSES, CLASS_FIELDS, LOCALS, METHODS, STATEMENTS, TEXT_BYTES};
+use nuyardi::limits::{CLASSES, CLASS_FIELDS, LOCALS, METHODS, STATEMENTS, TEXT_BYTES};
 
 pub struct Workload {
     pub name: &'static str,

@@ -1,0 +1,78 @@
+//! C programs over the library, and what they are to print.
+#![allow(dead_code)]
+
+use nuyardi::limits;
+use std::path::{Path, PathBuf};
+use std::process::Command;
+
+/// Compiles a program of `tests/c` with the library, in a folder of its own and by a compiler that may not be there, or may not
+/// have what the words ask for.
+pub fn compiled_by(compiler: &str, name: &str, words: &[&str]) -> Result<PathBuf, String> {
+    let host = Path::new(env!("CARGO_MANIFEST_DIR"));
+    let told: String = words
+        .concat()
+        .replace(|letter: char| !letter.is_alphanumeric(), "");
+    let program = Path::new(env!("CARGO_TARGET_TMPDIR")).join(format!("{name}-{compiler}{told}"));
+    let output = Command::new(compiler)
+        .args([
+            "-std=c11", "-O2", "-Wall", "-Wextra", "-Werror", "-pthread", "-I",
+        ])
+        .arg(host.join("../../include"))
+        .args(words)
+        .arg(host.join(format!("tests/c/{name}.c")))
+        .arg(concat!(env!("OUT_DIR"), "/libnuyardi.a"))
+        .arg("-o")
+        .arg(&program)
+        .output()
+        .map_err(|error| error.to_string())?;
+    match output.status.success() {
+        true => Ok(program),
+        false => Err(String::from_utf8_lossy(&output.stderr).into_owned()),
+    }
+}
+
+pub fn compiled(name: &str) -> PathBuf {
+    compiled_by("gcc", name, &[]).unwrap_or_else(|error| panic!("{name}.c: {error}"))
+}
+
+/// Texts as files in a folder of this name.
+pub fn files(folder: &str, texts: impl IntoIterator<Item = Vec<u8>>) -> Vec<PathBuf> {
+    let folder = Path::new(env!("CARGO_TARGET_TMPDIR")).join(folder);
+    std::fs::create_dir_all(&folder).expect("a folder");
+    let written = texts.into_iter().enumerate().map(|(at, text)| {
+        let name = folder.join(at.to_string());
+        std::fs::write(&name, text).expect("a text");
+        name
+    });
+    written.collect()
+}
+
+/// What `replay` and `guard` print of a text, by the model: what check and run return, and a sum of the results.
+pub fn expected(text: &[u8], steps: u32) -> String {
+    let mut work = vec![0; limits::WORK_BYTES];
+    let mut results = [0; limits::RESULTS_BYTES];
+    let checked = model::check_call(text, &mut work);
+    let ran = model::run_call(text, &mut work, steps, &mut results);
+    let add = |sum: u32, &byte: &u8| sum.wrapping_mul(31).wrapping_add(u32::from(byte));
+    format!("{checked} {ran} {}\n", results.iter().fold(0, add))
+}
+
+/// Runs a program that prints a line for each text; each is the model's.
+pub fn as_expected(mut program: Command, folder: &str, texts: &[Vec<u8>], steps: u32) {
+    let names = files(folder, texts.iter().cloned());
+    let output = program.arg(steps.to_string()).args(&names).output();
+    let output = output.expect("the program");
+    let errors = String::from_utf8_lossy(&output.stderr);
+    assert_eq!((output.status.code(), errors.as_ref()), (Some(0), ""));
+    let printed = String::from_utf8_lossy(&output.stdout);
+    let mut lines = printed.split_inclusive('\n');
+    for text in texts {
+        assert_eq!(
+            lines.next(),
+            Some(expected(text, steps).as_str()),
+            "{}",
+            text.escape_ascii()
+        );
+    }
+    assert_eq!(lines.next(), None);
+}
