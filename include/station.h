@@ -68,7 +68,8 @@ enum station_number {
     STATION_FRAMES_FULL = 23,       /* frames full */
     STATION_PERMISSION_MISSING = 24, /* permission missing */
     STATION_NULL_FOLLOWED = 25,     /* null followed */
-    STATION_FORMULA_FALSE = 26      /* formula false */
+    STATION_FORMULA_FALSE = 26,     /* formula false */
+    STATION_OVERFLOW = 27           /* sum or difference beyond 32 bits signed */
 };
 
 /* Is the text a script that keeps to its permissions? Returns number 0, or 1 to
@@ -76,7 +77,7 @@ enum station_number {
 uint32_t station_check(const uint8_t *text, size_t text_len,
                        uint8_t *work, size_t work_len);
 
-/* Runs main for at most so many steps. Returns number 0, 1 to 9 or 21 to 26 with
+/* Runs main for at most so many steps. Returns number 0, 1 to 9 or 21 to 27 with
  * the line; 24 to 26 only for a text that station_check refuses. The results area
  * then holds the steps taken (unsigned) and the values (signed; an object is its
  * number from 1, null is 0), 4 bytes each, low byte first; all zero for the

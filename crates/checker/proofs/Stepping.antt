@@ -2,13 +2,14 @@
 use mathlib.Core.Path.{_≡_, refl, sym, ap, ap₂, _∙_, subst}
 use mathlib.Core.Bool.{Bool, true, false, cond, not, _||_}
 use mathlib.Core.List.{List, [], _∷_}
+use mathlib.Core.Logic.{_⊎_, inl, inr}
 use Prim.Native.Nat.{ℕ, suc, _+_, _≤_, _<_}
 use native.Mathlib.Omega.{arith}
 use lib.Dec.{T, eqb, leb, leb→le}
 use lib.ListN.{drop}
 use borrow.Author.Tests.{eqb-false}
 use Rattle.rules.specs.Base.{Try}
-use Rattle.rules.specs.Grammar.{IsStatementNumber, statementNumber, isClosingNumber, GoesOn}
+use Rattle.rules.specs.Grammar.{last-kind, IsStatementNumber, statementNumber, isClosingNumber, isComputing, GoesOn}
 use Rattle.rules.specs.Answers as Answers
 use Rattle.rules.specs.Answers.{Refusal, accepted, refused, atLine, malformed}
 use Rattle.rules.specs.Syntax.{Formula, Rel, Stmt, Row, simple, if, else, join, end, eq, ne}
@@ -177,16 +178,22 @@ neither : (a b : Bool) → (a || b) ≡ false → (a ≡ false) × (b ≡ false)
 neither false b e = (refl, e)
 neither true b e = absurd (let z : _≡_ {A = ℕ} 0 1 = cc in omega arith)
 
+pub is-computing : {k : ℕ} → (k ≡ 19) ⊎ (k ≡ 20) → T (isComputing k)
+unfolding isComputing statementNumber
+is-computing (inl e) = rw e tt
+is-computing (inr e) = rw e tt
+
 -- each kind that goes on has its rule
 pub no-kind :
     (k : ℕ) → IsStatementNumber k → GoesOn k → (k ≡ 8 → ⊥) → (k ≡ 9 → ⊥) → (k ≡ 10 → ⊥) → (k ≡ 11 → ⊥) → (k ≡ 12 → ⊥) → (k ≡ 13 → ⊥) →
-    (k ≡ 14 → ⊥) → ⊥
+    (k ≡ 14 → ⊥) → (k ≡ 19 → ⊥) → (k ≡ 20 → ⊥) → ⊥
 unfolding isClosingNumber statementNumber
-no-kind k (low, high) (o, i) a b c d e f g =
+no-kind k (low, high) (o, i) a b c d e f g m n =
     let (x, others) = neither (eqb k 16) (eqb k 17 || eqb k 18) o in
     let (y, z) = neither (eqb k 17) (eqb k 18) others in
     let p = above k 15 (above k 14 (above k 13 (above k 12 (above k 11 (above k 10 (above k 9 (above k 8 low a) b) c) d) e) f) g) i in
-    last k (above k 18 (above k 17 (above k 16 p (eqb-false k 16 x)) (eqb-false k 17 y)) (eqb-false k 18 z)) high
+    let q = above k 18 (above k 17 (above k 16 p (eqb-false k 16 x)) (eqb-false k 17 y)) (eqb-false k 18 z) in
+    last k (above k 20 (above k 19 q m) n) high
   where
-    last : (k : ℕ) → 19 ≤ k → k ≤ 18 → ⊥
+    last : (k : ℕ) → 21 ≤ k → k ≤ last-kind → ⊥
     last k p l = omega arith

@@ -10,10 +10,10 @@ use Rattle.rules.specs.Grammar.{isClosingNumber}
 use Rattle.rules.specs.Answers as Answers
 use Rattle.rules.specs.Answers.{Refusal, accepted, refused, unresolved, noPermission, notShown, stateFull, malformed}
 use Rattle.rules.specs.Base.{Try}
-use Rattle.rules.specs.Syntax.{Formula, Simple, simple, set, assign, new, call}
+use Rattle.rules.specs.Syntax.{Formula, Simple, simple, set, assign, compute, new, call}
 use Rattle.rules.specs.State as Rules
 use Rattle.rules.specs.Rules.{Open, inFirst, inSecond, rule, ifRule, checkRows}
-use Rattle.tables.specs.Decode.{kindAt, xAt, yAt, zAt, memberAt, firstAtomAt, lineAt, stmtAt, rowCount, allRows, programIn, atomPlace, byteAt, relOf, leftAt, rightAt}
+use Rattle.tables.specs.Decode.{operationOf, kindAt, xAt, yAt, zAt, memberAt, firstAtomAt, lineAt, stmtAt, rowCount, allRows, programIn, atomPlace, byteAt, relOf, leftAt, rightAt}
 use Rattle.tables.specs.Tables.{nested}
 use Rattle.check_entailment.specs.declared.Answer.{Answer}
 use Rattle.check_state.specs.States.{Wf, stateOf}
@@ -71,6 +71,9 @@ newAt w i = new (xAt w i) (memberAt w i)
 
 abbrev pub callAt : List ℕ → ℕ → Simple
 callAt w i = call (xAt w i) (yAt w i) (memberAt w i) (zAt w i)
+
+abbrev pub computeAt : List ℕ → ℕ → Simple
+computeAt w i = compute (operationOf (kindAt w i)) (xAt w i) (yAt w i) (zAt w i)
 
 -- its rule, from the state that key and b hold
 abbrev pub RuleGives : List ℕ → Simple → List ℕ → List ℕ → Answer → List ℕ → List ℕ → Type 0

@@ -18,7 +18,7 @@ ghost use Rattle.tables.specs.Decode.{kindAt, xAt, rowCount, methodCount, formu
 ghost use Rattle.tables.specs.Tables.{Tables};
 ghost use Rattle.check_state.specs.States.{Wf, stateOf};
 ghost use Rattle.check_statements.specs.Statements.{Parts, JoinGives};
-ghost use Rattle.checker.specs.Checked.{IsLet, IsNew, IsCall, IsIf, setAt, letAt, newAt, callAt, RuleGives, branches, Stepped, Nests, Ran, Ended, Turned, Joined, outcome, verdictFrom, verdictOf};
+ghost use Rattle.checker.specs.Checked.{IsLet, IsNew, IsCall, IsIf, setAt, letAt, newAt, callAt, computeAt, RuleGives, branches, Stepped, Nests, Ran, Ended, Turned, Joined, outcome, verdictFrom, verdictOf};
 
 // How far a block was checked, or why no further.
 pub struct Out {
@@ -75,6 +75,21 @@ fn call_at(w: &[u8], i: usize, key: &mut [u64; State::SLOTS], b: &mut [u8; State
     let y = tables::y_at(w, i) as u8;
     let z = tables::z_at(w, i) as u8;
     check_statements::call_rule(w, key, b, x, y, tables::member_at(w, i), z)
+}
+
+// `add x y z` and `sub x y z`: "removes x and keeps no fact of the new value"
+fn compute_at(
+    w: &[u8],
+    i: usize,
+    key: &mut [u64; State::SLOTS],
+    b: &mut [u8; State::BYTES],
+) -> Answer
+    requires { ⌜ Tables (now w) × (i < rowCount (now w)) × Wf (now key) (now b) ⌝ }
+    ensures { λ r. ⌜ RuleGives (now (w .entry)) (computeAt (now (w .entry)) i) (now (key .entry)) (now (b .entry)) r (now (key .exit)) (now (b .exit)) ⌝ }
+{
+    let x = tables::x_at(w, i) as u8;
+    check_forgetting::remove(key, b, x);
+    Answer::Done
 }
 
 // `return x`
@@ -172,6 +187,8 @@ fn statement(
         Kind::RETURN => return_at(w, i, key, b),
         Kind::ASSERT => assert_at(w, i, key, b),
         Kind::RELEASE => release_at(w, i, key, b),
+        Kind::ADD => compute_at(w, i, key, b),
+        Kind::SUB => compute_at(w, i, key, b),
         0..=7 => Answer::Malformed,
         _ => Answer::Malformed,
     }

@@ -4,15 +4,17 @@ use mathlib.Core.List.{List}
 use mathlib.Core.Logic.{_⊎_, inl, inr}
 use Prim.Native.Nat.{ℕ, _+_, _≤_}
 use native.Mathlib.Omega.{arith}
-use Rattle.rules.specs.Grammar.{IsStatementNumber}
+use native.Mathlib.Decide.{decLt}
+use lib.Dec.{T}
+use Rattle.rules.specs.Grammar.{IsStatementNumber, statementNumber, isComputing}
 use Rattle.rules.specs.Syntax.{Row, Stmt}
 use Rattle.rules.specs.Machine.{Config, Step, Room, statementOf, step, stepAt, simpleStep}
 use Rattle.rules.specs.declared.Machine.{Machine}
 use Rattle.tables.specs.Decode.{rowAt, operandsAt, stmtAt, kindAt, memberAt, programIn}
 use Rattle.tables.proofs.Rows.{method-get, class-get}
-use Rattle.tables.proofs.Statements.{set-means, let-means, new-means, call-means, return-means, assert-means, release-means, if-means, else-means, join-means, end-means}
+use Rattle.tables.proofs.Statements.{set-means, let-means, new-means, call-means, return-means, assert-means, release-means, if-means, else-means, join-means, end-means, compute-means}
 use Rattle.run_steps.specs.declared.Turn.{Turn}
-use Rattle.run_steps.specs.States.{Represents, Follows, Does, CanStep, AtKind, set-kind, let-kind, new-kind, call-kind, return-kind, assert-kind, release-kind, if-kind, else-kind, join-kind, end-kind, setHere, letHere, returnHere, assertHere, releaseHere, ifHere, elseHere}
+use Rattle.run_steps.specs.States.{Represents, Follows, Does, CanStep, AtKind, set-kind, let-kind, new-kind, call-kind, return-kind, assert-kind, release-kind, if-kind, else-kind, join-kind, end-kind, setHere, letHere, computeHere, returnHere, assertHere, releaseHere, ifHere, elseHere}
 use Rattle.run_calls.proofs.Returning.{row-of}
 use Rattle.run_steps.proofs.Doing.{fits}
 use Rattle.run_calls.specs.Calls.{newHere, callHere, endHere}
@@ -25,17 +27,16 @@ statement m R = ap (λ (r : Row). r .stmt) (row-of (R .frame))
 up : (a k : ℕ) → a ≤ k → (k ≡ a → ⊥) → a + 1 ≤ k
 up a k l n = omega arith
 
--- each kind of statement has its step
-pub no-other :
+-- a statement that is none of the others is `add` or `sub`
+pub is-computing :
     (k : ℕ) → IsStatementNumber k → (k ≡ 8 → ⊥) → (k ≡ 9 → ⊥) → (k ≡ 10 → ⊥) → (k ≡ 11 → ⊥) → (k ≡ 12 → ⊥) →
-    ((k ≡ 13) ⊎ (k ≡ 17) → ⊥) → (k ≡ 14 → ⊥) → (k ≡ 15 → ⊥) → (k ≡ 16 → ⊥) → (k ≡ 18 → ⊥) → ⊥
-no-other k (low, high) a b c d e f g i j n =
+    ((k ≡ 13) ⊎ (k ≡ 17) → ⊥) → (k ≡ 14 → ⊥) → (k ≡ 15 → ⊥) → (k ≡ 16 → ⊥) → (k ≡ 18 → ⊥) → T (isComputing k)
+unfolding isComputing statementNumber
+is-computing k (low, high) a b c d e f g i j n =
     let l1 : 13 ≤ k = up 12 k (up 11 k (up 10 k (up 9 k (up 8 k low a) b) c) d) e in
     let l2 : 17 ≤ k = up 16 k (up 15 k (up 14 k (up 13 k l1 (λ z. f (inl z))) g) i) j in
-    past (up 18 k (up 17 k l2 (λ z. f (inr z))) n) high
-  where
-    past : 19 ≤ k → k ≤ 18 → ⊥
-    past l h = omega arith
+    let l3 : 19 ≤ k = up 18 k (up 17 k l2 (λ z. f (inr z))) n in
+    elim (decLt k 20) [ yes l ↦ (let z : k ≡ 19 = omega arith in rw z tt) | no l ↦ (let z : k ≡ 20 = omega arith in rw z tt) ]
 
 module _ {w w′ : List ℕ} {c : Machine} {r : Turn} (ready : CanStep w c) (room : Room) where
   does-as :
@@ -99,6 +100,10 @@ module _ {w w′ : List ℕ} {c : Machine} {r : Turn} (ready : CanStep w c) (roo
       AtKind w c else-kind → Does w c w′ r (elseHere w) → Does w c w′ r (step room (programIn w))
   unfolding stepAt programIn
   elses k = does-as _ (λ m. rw (else-means w (operandsAt w (c .row)) k))
+
+  pub computes : T (isComputing (kindAt w (c .row))) → Does w c w′ r (computeHere w c) → Does w c w′ r (step room (programIn w))
+  unfolding stepAt simpleStep
+  computes t = does-as _ (λ m. rw (compute-means w (operandsAt w (c .row)) t))
 
   pub ends : AtKind w c end-kind → Does w c w′ r (endHere w) → Does w c w′ r (step room (programIn w))
   unfolding stepAt

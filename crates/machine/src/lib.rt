@@ -41,6 +41,7 @@ fn fault_number(f: Fault) -> u32
         Fault::Permission => 24,
         Fault::Null => 25,
         Fault::False => 26,
+        Fault::Overflow => 27,
     }
 }
 
@@ -72,8 +73,9 @@ pub fn step(work: &mut [u8], c: Machine, most_objects: u32, most_fields: u32) ->
         Kind::IF => run_steps::if_step(work, c),
         Kind::ELSE => run_steps::else_step(work, c),
         Kind::END => run_calls::end_step(work, c),
+        Kind::ADD | Kind::SUB => run_steps::compute_step(work, c),
         // No row is of another kind, so that any answer meets the contract.
-        0..=7 | 19..=255 => Turn::Done,
+        0..=7 | 21..=255 => Turn::Done,
     }
 }
 

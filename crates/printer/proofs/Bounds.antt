@@ -12,12 +12,12 @@ use Rattle.rules.specs.Base.{Name, Try, ok, no, update, between}
 use Rattle.rules.specs.Limits.{most-bytes}
 use Rattle.rules.specs.Answers.{Refusal, Verdict, accepted, refused, atLine, then, textTooLong, textEnds, unframed}
 use Rattle.rules.specs.Syntax.{Expr, Formula, Stmt, Simple, Row, Method, Program, num, null, var, path}
-use Rattle.rules.specs.Syntax.{set, assign, new, call, return, assert, release, simple, if, else, join, end}
+use Rattle.rules.specs.Syntax.{set, assign, compute, new, call, return, assert, release, simple, if, else, join, end}
 use Rattle.rules.specs.Text.{lines, onto, isExpr, exprOf, numeral, hasStop, beforeStop, afterStop, isNumber, number, isNegative, isDigits, decimal}
 use Rattle.rules.specs.Grammar as Grammar
 use Rattle.rules.specs.Grammar.{Kind, Statement, Line}
 use Rattle.rules.specs.Grammar.{Class, Field, Requires, Ensures, Main, Var, statement}
-use Rattle.rules.specs.Grammar.{Set, Let, New, Call, Return, Assert, Release, If, Else, Join, End}
+use Rattle.rules.specs.Grammar.{Set, Let, New, Call, Return, Assert, Release, If, Else, Join, End, Add, Sub}
 use Rattle.rules.specs.Places.{Place, firstPlace, scanLine, scanLines, ended}
 use Rattle.rules.specs.Scope.{Declarations, Variable, Scope, operand, declarations, firstScope, scopeAfter}
 use Rattle.rules.specs.Items.{Item, aClass, aField, aMethod, aRequires, anEnsures, aMain, aLocal, aStatement}
@@ -158,6 +158,7 @@ SmallExpr (path x f) = Unit {0}
 abbrev pub SmallSimple : Simple → Type 0
 SmallSimple (set x f y) = Unit {0}
 SmallSimple (assign x e) = SmallExpr e
+SmallSimple (compute o x y z) = Unit {0}
 SmallSimple (new x c) = Unit {0}
 SmallSimple (call x y m z) = Unit {0}
 SmallSimple (return x) = Unit {0}
@@ -231,7 +232,7 @@ module _ (Γ : Declarations) (vs : List Variable) where
   statement-small :
       (a : Statement) (ws : List Name) → HasForm (lineOf (statement a) ws) →
       SmallItem (aStatement (resolveStatement Γ vs a (lineOf (statement a) ws)))
-  unfolding resolveStatement Rattle.rules.specs.Items.resolveSet Rattle.rules.specs.Items.resolveCall Rattle.rules.specs.Items.resolveIf
+  unfolding resolveStatement Rattle.rules.specs.Items.resolveSet Rattle.rules.specs.Items.resolveCompute Rattle.rules.specs.Items.resolveCall Rattle.rules.specs.Items.resolveIf
   statement-small Set ws h = tt
   statement-small Let ws h = let-small ws h
   statement-small New ws h = tt
@@ -243,6 +244,8 @@ module _ (Γ : Declarations) (vs : List Variable) where
   statement-small Else ws h = tt
   statement-small Join ws h = tt
   statement-small End ws h = tt
+  statement-small Add ws h = tt
+  statement-small Sub ws h = tt
 
   item-small : (k : Kind) (ws : List Name) → HasForm (lineOf k ws) → SmallItem (itemOf Γ vs k (lineOf k ws))
   unfolding itemOf

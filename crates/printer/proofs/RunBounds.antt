@@ -9,14 +9,14 @@ use lib.ListN.{length, getD, take, drop, replicate, length-drop}
 use lib.Seq.{length-take-le}
 use Rattle.rules.specs.Base.{ok}
 use Rattle.rules.specs.Limits.{most-frames}
-use Rattle.rules.specs.Answers.{Ending, finished, stepsTaken, stopped, heapFull, framesFull, nullFollowed}
-use Rattle.rules.specs.Syntax.{Expr, Formula, Stmt, Simple, Row, Field, Method, Program, num, null, var, path}
-use Rattle.rules.specs.Syntax.{set, assign, new, call, return, assert, release, simple, if, else, join, end}
+use Rattle.rules.specs.Answers.{Ending, finished, stepsTaken, stopped, heapFull, framesFull, nullFollowed, overflow}
+use Rattle.rules.specs.Syntax.{Expr, Formula, Operation, Stmt, Simple, Row, Field, Method, Program, num, null, var, path}
+use Rattle.rules.specs.Syntax.{set, assign, compute, new, call, return, assert, release, simple, if, else, join, end}
 use Rattle.rules.specs.Syntax.{noRow, rowNumbered, methodNumbered, result-variable}
 use Rattle.rules.specs.Machine as Machine
 use Rattle.rules.specs.Machine.{Cell, Heap, Location, Frame, Config, Room, Step, Outcome, on, stop, done}
 use Rattle.rules.specs.Machine.{valueIn, object, valueAt, storeIn, store, valueOf, locate, value, footprint, jump, advance, bind, holding, withFrame, choose, elseStep}
-use Rattle.rules.specs.Machine.{ifStep, stored, setStep, assignStep, newCell, grown, newStep, entryValues, callFrame, entered, callStep, statementOf, returned, assertStep, releaseStep, endStep, mainFrame, ends, goOn, simpleStep, stepAt, step, run, start, runProgram}
+use Rattle.rules.specs.Machine.{ifStep, stored, setStep, assignStep, raised, inRange, computed, computeStep, newCell, grown, newStep, entryValues, callFrame, entered, callStep, statementOf, returned, assertStep, releaseStep, endStep, mainFrame, ends, goOn, simpleStep, stepAt, step, run, start, runProgram}
 use Rattle.rules.proofs.Lists.{update-length, and-both}
 use Rattle.rules.proofs.Tries.{ok-inj, bind-ok, check-ok}
 use Rattle.rules.proofs.States.{on-inj, took-on}
@@ -144,6 +144,16 @@ module _ (n : ℕ) where
       subst Fit (ok-inj k)
       (with-frame m _ f (advance-fits _ (bind-fits (m .frame) x v (f .frame) (value-fits m e v f s j))))
 
+  computed-small : (o : Operation) (a b v : ℕ) → computed o a b ≡ ok v → Small v
+  unfolding computed
+  computed-small o a b v e = let (t, i) = check-ok (inRange (raised o a b)) overflow e in subst Small (ok-inj i) (omega arith)
+
+  compute-fits : (m m′ : Config) (o : Operation) (x y z : ℕ) → Fit m → computeStep o x y z m ≡ ok m′ → Fit m′
+  unfolding computeStep
+  compute-fits m m′ o x y z f i =
+      let (v, j, k) = bind-ok (computed o (valueOf (m .frame) y) (valueOf (m .frame) z)) i in
+      subst Fit (ok-inj k) (with-frame m _ f (advance-fits _ (bind-fits (m .frame) x v (f .frame) (computed-small o _ _ v j))))
+
   set-fits : (m m′ : Config) (x f y : ℕ) → Fit m → setStep x f y m ≡ ok m′ → Fit m′
   unfolding setStep stored
   set-fits m m′ x f y z i =
@@ -226,6 +236,7 @@ module _ (n : ℕ) where
     unfolding simpleStep
     simple-fits (set x f y) m m′ s z i = set-fits m m′ x f y z i
     simple-fits (assign x e) m m′ s z i = assign-fits m m′ x e z s i
+    simple-fits (compute o x y v) m m′ s z i = compute-fits m m′ o x y v z i
     simple-fits (new x c) m m′ s z i = new-fits room m m′ x (getD (P .classes) c []) h z i
     simple-fits (call x y k v) m m′ s z i =
         call-fits m m′ y (methodNumbered P k) v z i

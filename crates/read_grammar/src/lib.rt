@@ -92,7 +92,9 @@ fn row_number(kind: u8) -> u32
         Kind::IF => 0x6651_0000,
         Kind::ELSE => 0x6650_0000,
         Kind::JOIN => 0x6652_0000,
-        _ => 0x6650_0000, // end
+        Kind::END => 0x6650_0000,
+        Kind::ADD => 0x6650_0778,
+        _ => 0x6650_0778, // sub
     }
 }
 

@@ -3,7 +3,7 @@ use mathlib.Core.Path.{_≡_}
 use mathlib.Core.Bool.{Bool, true, _&&_}
 use mathlib.Core.List.{List, [], _∷_}
 use Prim.Native.Nat.{ℕ}
-use lib.ListN.{length, drop}
+use lib.ListN.{length, drop, getD}
 use Rattle.rules.specs.Base.{Name, all}
 use Rattle.rules.specs.Limits.{work-bytes}
 use Rattle.rules.specs.Syntax.{Formula}
@@ -112,6 +112,12 @@ module _ (t w : List ℕ) (c : Names) (a : Above) where
 
 -- of the sides of a line that is no formula, and of the variables of a `call`
 module _ (t w : List ℕ) (c : Names) where
+  -- the first three fields name int variables
+  abbrev pub intsIn : List Name → Bool
+  intsIn ws =
+      Rules.isInt (variablesIn t w c) (getD ws 0 [])
+      && (Rules.isInt (variablesIn t w c) (getD ws 1 []) && Rules.isInt (variablesIn t w c) (getD ws 2 []))
+
   unfoldable pub sidesIn : Line → Bool
   sidesIn l = Rules.sidesAgree (declarationsIn t w c) (variablesIn t w c) l
 

@@ -18,7 +18,7 @@ ghost use Rattle.read_fields.specs.Cuts.{more};
 ghost use Rattle.read_grammar.specs.Rows.{operandNumber};
 ghost use Rattle.read_scopes.specs.Meanings.{NamesFit};
 ghost use Rattle.read_tests.specs.Tests.{operandMeant};
-ghost use Rattle.read_refusals.specs.Tests.{lineAfter, Formed, CountsFit, bothTests, slotTests, exprTests, exprsAgree, accTests, cmpTests, tested, atomTests, lineTests, sidesIn, apartIn};
+ghost use Rattle.read_refusals.specs.Tests.{lineAfter, Formed, CountsFit, bothTests, slotTests, exprTests, exprsAgree, accTests, cmpTests, tested, atomTests, lineTests, intsIn, sidesIn, apartIn};
 ghost use Rattle.read_refusals.specs.Refusals.{refusalOf, refusalAfter};
 
 // Which of the tests of numbers 6, 7 and 9 are passed.
@@ -299,6 +299,18 @@ fn return_agrees(text: &[u8], work: &[u8], from: usize, c: Names) -> bool
     read_lookups::same_name(text, x, r)
 }
 
+// `add x y z` and `sub x y z`: "the int x", "the int variables y and z"
+fn all_int(text: &[u8], work: &[u8], from: usize, c: Names) -> bool
+    requires { ⌜ (length (now work) ≡ work-bytes) × NamesFit c × (from ≤ length (now text)) ⌝ }
+    ensures { λ r. ⌜ r ≡ intsIn (now (text .entry)) (now (work .entry)) c (more (drop from (now (text .entry)))) ⌝ }
+{
+    let x = read_lookups::variable_type(text, work, c, nth_field(text, from, 0));
+    let y = read_lookups::variable_type(text, work, c, nth_field(text, from, 1));
+    let z = read_lookups::variable_type(text, work, c, nth_field(text, from, 2));
+    let others = and(read_lookups::is_int(text, y), read_lookups::is_int(text, z));
+    and(read_lookups::is_int(text, x), others)
+}
+
 fn sides_agree(text: &[u8], work: &[u8], from: usize, kind: u8, c: Names) -> bool
     requires { ⌜ (length (now work) ≡ work-bytes) × NamesFit c × (from ≤ length (now text)) × Formed kind (lineAfter (now text) from kind) ⌝ }
     ensures { λ r. ⌜ r ≡ sidesIn (now (text .entry)) (now (work .entry)) c (lineAfter (now (text .entry)) from kind) ⌝ }
@@ -309,6 +321,8 @@ fn sides_agree(text: &[u8], work: &[u8], from: usize, kind: u8, c: Names) -> boo
         Kind::NEW => new_agrees(text, work, from, c),
         Kind::CALL => call_agrees(text, work, from, c),
         Kind::RETURN => return_agrees(text, work, from, c),
+        Kind::ADD => all_int(text, work, from, c),
+        Kind::SUB => all_int(text, work, from, c),
         _ => true,
     }
 }

@@ -12,19 +12,19 @@ ghost use Rattle.read_words.specs.Words.{words, wordNumber, kindOr0, pac
 // WORDS
 
 // Words by number: those that begin a line, by their kinds; then those of atoms, and the reserved ones.
-pub const ACC: u8 = 19;
+pub const ACC: u8 = Kind::LAST + 1;
 
-pub const EQ: u8 = 20;
+pub const EQ: u8 = ACC + 1;
 
-pub const NE: u8 = 21;
+pub const NE: u8 = EQ + 1;
 
-pub const INT: u8 = 22;
+pub const INT: u8 = NE + 1;
 
-pub const NULL: u8 = 23;
+pub const NULL: u8 = INT + 1;
 
-pub const THIS: u8 = 24;
+pub const THIS: u8 = NULL + 1;
 
-pub const RESULT: u8 = 25;
+pub const RESULT: u8 = THIS + 1;
 
 // At most 8 bytes as one number, the first byte highest.
 fn pack(w: &[u8]) -> u64
@@ -63,6 +63,8 @@ fn numbered(k: u64) -> u8
         0x656c7365 => Kind::ELSE,
         0x6a6f696e => Kind::JOIN,
         0x656e64 => Kind::END,
+        0x616464 => Kind::ADD,
+        0x737562 => Kind::SUB,
         0x616363 => ACC,
         0x6571 => EQ,
         0x6e65 => NE,

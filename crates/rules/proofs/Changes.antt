@@ -9,9 +9,10 @@ use native.Mathlib.Omega.{arith}
 use native.Mathlib.Nat.{le-refl}
 use lib.ListN.{length, getD, length-append}
 use Rattle.rules.specs.Base.{ok}
-use Rattle.rules.specs.Syntax.{Rel, Expr, Simple, Stmt, Field, Method, Formula, Program, methodNumbered, result-variable}
-use Rattle.rules.specs.Syntax.{var, set, assign, new, call, return, assert, release, simple, if, else, join, end}
-use Rattle.rules.specs.Machine.{Config, Frame, Location, Cell, Room, on, holds, without, valueAt, valueOf, locate, value, compared, footprint, jump, advance, bind, holding, withFrame, choose, ifStep, elseStep, stored, setStep, assignStep, newCell, grown, newStep, callFrame, entered, callStep, returned, assertStep, releaseStep, endStep, simpleStep, stepAt, step, statementOf}
+use Rattle.rules.specs.Syntax.{Rel, Expr, Operation, Simple, Stmt, Field, Method, Formula, Program, methodNumbered, result-variable}
+use Rattle.rules.specs.Syntax.{var, set, assign, compute, new, call, return, assert, release, simple, if, else, join, end}
+use Rattle.rules.specs.Machine.{Config, Frame, Location, Cell, Room, on, holds, without, valueAt, valueOf, locate, value, compared, footprint, jump, advance, bind, holding, withFrame, choose}
+use Rattle.rules.specs.Machine.{ifStep, elseStep, stored, setStep, assignStep, computed, computeStep, newCell, grown, newStep, callFrame, entered, callStep, returned, assertStep, releaseStep, endStep, simpleStep, stepAt, step, statementOf}
 use Rattle.rules.specs.Runs.{Made}
 use Rattle.rules.proofs.Tries.{bind-ok, check-ok, ok-inj}
 use Rattle.rules.proofs.Sets.{Holds, location-eq, in-append, in-new, without-in, without-out, locate-holds, locate-is, footprint-held}
@@ -87,6 +88,12 @@ assign-within : (x : ℕ) (e : Expr ℕ) (m m′ : Config) → assignStep x e m 
 unfolding assignStep holds advance jump bind
 assign-within x e m m′ q =
     let (v, _, r) = bind-ok (value (m .heap) (m .frame) e) q in
+    subst (Within m) (ok-inj r) (same-heap m (advance (bind x v (m .frame))) (λ p i. i))
+
+compute-within : (o : Operation) (x y z : ℕ) (m m′ : Config) → computeStep o x y z m ≡ ok m′ → Within m m′
+unfolding computeStep holds advance jump bind
+compute-within o x y z m m′ q =
+    let (v, _, r) = bind-ok (computed o (valueOf (m .frame) y) (valueOf (m .frame) z)) q in
     subst (Within m) (ok-inj r) (same-heap m (advance (bind x v (m .frame))) (λ p i. i))
 
 grown-within : (x : ℕ) (cs : List Cell) (m : Config) → Within m (grown m x cs)
@@ -188,6 +195,7 @@ module _ (room : Room) (P : Program) where
   unfolding simpleStep
   simple-changes (set x f y) m m′ e = within (set-within x f y m m′ e)
   simple-changes (assign x a) m m′ e = within (assign-within x a m m′ e)
+  simple-changes (compute o x y z) m m′ e = within (compute-within o x y z m m′ e)
   simple-changes (new x c) m m′ e = within (new-within room x (getD (P .classes) c []) m m′ e)
   simple-changes (call x y n z) m m′ e = entering (call-entering y (methodNumbered P n) z m m′ e)
   simple-changes (return x) m m′ e = within (assign-within result-variable (var x) m m′ e)

@@ -123,6 +123,10 @@ twoFields =
     "end" ∷
     []
 
+-- two numbers and a line on them
+pub counting : String → String → String → List String
+counting b c l = "main" ∷ "var int a" ∷ "var int b" ∷ "var int c" ∷ b ∷ c ∷ l ∷ "end" ∷ []
+
 -- 7 (an int and null) and 6 (x) on one line
 pub lower : List String
 lower = "main" ∷ "var int a" ∷ "assert eq a null eq x 1" ∷ "end" ∷ []
@@ -178,6 +182,16 @@ rows =
     row twice check (12 ∷ 11 ∷ []) ∷
     row twice (run 1000) (24 ∷ 11 ∷ 1 ∷ three 1 0 0) ∷
     row oldValue check (13 ∷ 7 ∷ []) ∷
+    -- W1: "−2147483648 less 1 does, −2147483647 less 1 doesn't"
+    row (counting "let b -2147483648" "let c 1" "sub a b c") (run 9) (27 ∷ 7 ∷ 2 ∷ three 0 2147483648 1) ∷
+    row (counting "let b -2147483647" "let c 1" "sub a b c") (run 9) (0 ∷ 8 ∷ 4 ∷ three 2147483648 2147483649 1) ∷
+    row (counting "let b 2147483647" "let c 1" "add b b c") (run 9) (27 ∷ 7 ∷ 2 ∷ three 0 2147483647 1) ∷
+    row (counting "let b 2147483647" "let c -2147483648" "add b b c") (run 9) (0 ∷ 8 ∷ 4 ∷ three 0 4294967295 2147483648) ∷
+    row (counting "let b 1" "add b b b" "assert eq b 2") check (13 ∷ 7 ∷ []) ∷
+    row (counting "let b 1" "add b b b" "assert eq b 1") check (13 ∷ 7 ∷ []) ∷
+    row (counting "let b 1" "let c b" "sub b b c") check (0 ∷ 0 ∷ []) ∷
+    row (withLine 7 "add k k k" worked) check (9 ∷ 7 ∷ []) ∷
+    row (withLine 7 "add this k k" worked) check (7 ∷ 7 ∷ []) ∷
     -- the same field in way (d); the lower of two numbers; what ensures does not hand back is lost
     row twoFields check (13 ∷ 7 ∷ []) ∷
     row lower check (6 ∷ 3 ∷ []) ∷
@@ -190,7 +204,7 @@ right : Row → Bool
 right r = eqName (answer (text (r .text)) (r .call)) (r .answer)
 
 all-right : T (all right rows)
-unfolding computing Printed.opened right answer row three text tabbed withLine times oneLine alias acrossCall twice oldValue twoFields lower
+unfolding computing Printed.opened right answer row three text tabbed withLine times oneLine alias acrossCall twice oldValue twoFields counting lower
 all-right = tt
 
 right-at : (rs : List Row) (d : Row) (i : ℕ) → i < length rs → T (all right rs) → T (right (getD rs i d))

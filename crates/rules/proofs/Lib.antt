@@ -10,3 +10,4 @@ pub mod Disjoint
 pub mod Examples
 pub mod LinesTaken
 pub mod LineKinds
+pub mod Numbers

@@ -9,9 +9,9 @@ use Rattle.rules.specs.Reading.{readText, program}
 use Rattle.rules.specs.Calls.{checkText, runText, wholeHeap, outcomeResult}
 use Rattle.rules.specs.Runs.{Run, FrameKept, outcome}
 
--- "run .. returns number 0, 21, 22 or 23"
+-- "run .. returns number 0, 21, 22 or 23"; of 27, "an accepted script may end so as well"
 abbrev pub NotStuck : ℕ → Type 0
-NotStuck n = (n ≡ 0) ⊎ (n ≡ 21) ⊎ (n ≡ 22) ⊎ (n ≡ 23)
+NotStuck n = (n ≡ 0) ⊎ (n ≡ 21) ⊎ (n ≡ 22) ⊎ (n ≡ 23) ⊎ (n ≡ 27)
 
 -- First half: "For every text for which check returns 0, and every number of allowed steps"
 abbrev pub AcceptedNeverStuck : Type 0
@@ -28,7 +28,7 @@ pub record KeepsFrame (t : List ℕ) (items : List Item) (k : ℕ) : Type 0 wher
 abbrev pub CallsKeepFrame : Type 0
 CallsKeepFrame = (t : List ℕ) (items : List Item) → readText t ≡ accepted items → (k : ℕ) → KeepsFrame t items k
 
--- "This is one claim about the whole run": the text was read, its run is one list of steps, that run answers 0, 21, 22 or 23, and
+-- "This is one claim about the whole run": the text was read, its run is one list of steps, that run answers one of these numbers, and
 -- each call in it keeps what it was not handed.
 pub record Claim (t : List ℕ) (k : ℕ) : Type 0 where
   pub items : List Item

@@ -1,4 +1,4 @@
--- The eighteen kinds of line: word, operands, and where each may stand. A kind of line is a row of this table.
+-- The twenty kinds of line: word, operands, and where each may stand. A kind of line is a row of this table.
 use mathlib.Core.Path.{_≡_}
 use mathlib.Core.Bool.{Bool, true, false, _&&_, _||_, Bool·beq}
 use mathlib.Core.List.{List, [], _∷_, map}
@@ -15,7 +15,7 @@ use Rattle.rules.specs.Text.{clean, isName, isExpr, isFormula, isConditi
 
 -- the lines of a block after its `var` lines
 pub data Statement : Type 0 where
-  Set Let New Call Return Assert Release If Else Join End : Statement
+  Set Let New Call Return Assert Release If Else Join End Add Sub : Statement
 
 pub data Kind : Type 0 where
   Class Field Method Requires Ensures Main Var : Kind
@@ -70,7 +70,7 @@ unfoldable pub shaped : String → List Operand → Tail → Shape
 shaped w os t = record { word = w; operands = os; tail = t }
 
 -- "Statements: `set x f y`, `let x e`, `new x C`, `call x y m z`, `return x` .., `assert` formula, `release` formula, and `if eq e e`
--- or `if ne e e` .. `else` .. `join` formula." After `end`, see `Places`.
+-- or `if ne e e` .. `else` .. `join` formula." After `end`, see `Places`. "New lines `add x y z` and `sub x y z`" are numbered last.
 unfoldable pub shape : Statement → Shape
 shape Set = shaped "set" (variable read ∷ member field ∷ variable read ∷ []) nothing
 shape Let = shaped "let" (variable assigned ∷ expression ∷ []) nothing
@@ -83,6 +83,8 @@ shape If = shaped "if" [] condition
 shape Else = shaped "else" [] nothing
 shape Join = shaped "join" [] formula
 shape End = shaped "end" [] nothing
+shape Add = shaped "add" (variable assigned ∷ variable read ∷ variable read ∷ []) nothing
+shape Sub = shaped "sub" (variable assigned ∷ variable read ∷ variable read ∷ []) nothing
 
 -- "`class C`, then `field T f` lines, then methods."
 -- "`method T m T w`, `requires` formula, `ensures` formula, `var T x` lines, statements, `end`."
@@ -98,7 +100,7 @@ form Var = stands inLocals inLocals inLocals "var" (typeName ∷ new variables �
 form (statement s) = stands inLocals inBody inBody (shape s .word) (shape s .operands) (shape s .tail)
 
 abbrev pub statements : List Statement
-statements = Set ∷ Let ∷ New ∷ Call ∷ Return ∷ Assert ∷ Release ∷ If ∷ Else ∷ Join ∷ End ∷ []
+statements = Set ∷ Let ∷ New ∷ Call ∷ Return ∷ Assert ∷ Release ∷ If ∷ Else ∷ Join ∷ End ∷ Add ∷ Sub ∷ []
 
 abbrev pub kinds : List Kind
 kinds = Class ∷ Field ∷ Method ∷ Requires ∷ Ensures ∷ Main ∷ Var ∷ map statement statements
@@ -108,7 +110,7 @@ abbrev pub first-statement : ℕ
 first-statement = 8
 
 abbrev pub last-kind : ℕ
-last-kind = 18
+last-kind = 20
 
 abbrev pub IsKindNumber : ℕ → Type 0
 IsKindNumber n = (1 ≤ n) × (n ≤ last-kind)
@@ -128,6 +130,8 @@ statementNumber If = 15
 statementNumber Else = 16
 statementNumber Join = 17
 statementNumber End = 18
+statementNumber Add = 19
+statementNumber Sub = 20
 
 unfoldable pub kindNumber : Kind → ℕ
 kindNumber Class = 1
@@ -157,6 +161,10 @@ isStatementNumber n = leb first-statement n
 -- The statements before such a line end there: "`if` .. `else` .. `join` formula"; "statements, `end`".
 unfoldable pub isClosingNumber : ℕ → Bool
 isClosingNumber n = eqb n (statementNumber Else) || (eqb n (statementNumber Join) || eqb n (statementNumber End))
+
+-- `add` or `sub`
+unfoldable pub isComputing : ℕ → Bool
+isComputing n = eqb n (statementNumber Add) || eqb n (statementNumber Sub)
 
 -- after a statement that neither opens nor closes a part of a branch, the next line follows
 abbrev pub GoesOn : ℕ → Type 0
@@ -205,5 +213,5 @@ readLine l = do
 
 -- Everything above computes where this unfolds.
 unfoldable pub opened : Unit {0}
-unfolding stands shaped shape form statementNumber kindNumber isStatement isClosingNumber isKind kindOf isOperand isTail isFormed readLine
+unfolding stands shaped shape form statementNumber kindNumber isStatement isClosingNumber isComputing isKind kindOf isOperand isTail isFormed readLine
 opened = tt

@@ -4,11 +4,11 @@ use Prim.Native.Nat.{ℕ, suc}
 use Rattle.rules.specs.Base.{Name, Try, ok, _>>=_, _>>_, check, is}
 use Rattle.rules.specs.Answers.{Refusal, Verdict, accepted, atLine, then, undeclared, wrongType, wrongTarget}
 use Rattle.rules.specs.Syntax as Syntax
-use Rattle.rules.specs.Syntax.{Expr, Atom, Formula, Stmt, num, null, var, path, acc, cmp}
-use Rattle.rules.specs.Syntax.{set, assign, new, call, return, assert, release, simple, if, else, join, end}
+use Rattle.rules.specs.Syntax.{Expr, Atom, Formula, Operation, Stmt, num, null, var, path, acc, cmp, sum, difference}
+use Rattle.rules.specs.Syntax.{set, assign, compute, new, call, return, assert, release, simple, if, else, join, end}
 use Rattle.rules.specs.Text.{exprOf, relOf, formulaOf}
 use Rattle.rules.specs.Grammar.{Kind, Statement, Line, statement}
-use Rattle.rules.specs.Grammar.{Class, Field, Method, Requires, Ensures, Main, Var, Set, Let, New, Call, Return, Assert, Release, If, Else, Join, End}
+use Rattle.rules.specs.Grammar.{Class, Field, Method, Requires, Ensures, Main, Var, Set, Let, New, Call, Return, Assert, Release, If, Else, Join, End, Add, Sub}
 use Rattle.rules.specs.Scope.{Declarations, Variable, Scope, operand, atomsOf, visible, scopeAfter}
 use Rattle.rules.specs.Names.{variableNumber, variableType, fieldNumber, classNumber, methodNumber, allKnown, allTyped, allAssignable}
 
@@ -44,6 +44,11 @@ module _ (Γ : Declarations) (vs : List Variable) where
   unfoldable pub resolveSet : Line → Stmt
   resolveSet l = simple (set (variableNumber vs (operand l 0)) (fieldNumber Γ (operand l 1)) (variableNumber vs (operand l 2)))
 
+  unfoldable pub resolveCompute : Operation → Line → Stmt
+  resolveCompute o l =
+      simple
+      (compute o (variableNumber vs (operand l 0)) (variableNumber vs (operand l 1)) (variableNumber vs (operand l 2)))
+
   unfoldable pub resolveCall : Line → Stmt
   resolveCall l =
       simple
@@ -68,6 +73,8 @@ module _ (Γ : Declarations) (vs : List Variable) where
   resolveStatement Else l = else
   resolveStatement Join l = join (resolveFormula l)
   resolveStatement End l = end
+  resolveStatement Add l = resolveCompute sum l
+  resolveStatement Sub l = resolveCompute difference l
 
   unfoldable pub itemOf : Kind → Line → Item
   itemOf Class l = aClass
@@ -97,5 +104,5 @@ module _ (Γ : Declarations) where
 
 -- Everything above computes where this unfolds.
 unfoldable pub opened : Unit {0}
-unfolding resolveExpr resolveAtom resolveFormula resolveField resolveSet resolveCall resolveIf resolveStatement itemOf resolveLine resolveLines
+unfolding resolveExpr resolveAtom resolveFormula resolveField resolveSet resolveCompute resolveCall resolveIf resolveStatement itemOf resolveLine resolveLines
 opened = tt

@@ -1,14 +1,14 @@
 -- The machine: heap, frames and sets of locations, evaluation, each step, and a run of so many steps.
 use mathlib.Core.Bool.{Bool, true, false, not, cond, _&&_}
 use mathlib.Core.List.{List, [], _∷_, _++_, map}
-use Prim.Native.Nat.{ℕ, zero, suc, pred, _+_}
+use Prim.Native.Nat.{ℕ, zero, suc, pred, _+_, _-_, _%_}
 use lib.Dec.{eqb, ltb, leb}
 use lib.ListN.{length, getD, replicate, take, drop}
 use Rattle.rules.specs.Base.{Try, ok, no, _>>=_, _>>_, check, any, keep, update}
 use Rattle.rules.specs.Limits.{most-locals, most-frames, values-shown}
-use Rattle.rules.specs.Answers.{Stop, Ending, finished, stepsTaken, stopped, heapFull, framesFull, permissionMissing, nullFollowed, formulaFalse}
-use Rattle.rules.specs.Syntax.{Rel, Expr, Formula, Simple, Stmt, Row, Field, Method, Program, rowNumbered, methodNumbered, first-local, result-variable}
-use Rattle.rules.specs.Syntax.{eq, ne, num, null, var, path, acc, cmp, set, assign, new, call, return, assert, release, simple, if, else, join, end}
+use Rattle.rules.specs.Answers.{Stop, Ending, finished, stepsTaken, stopped, heapFull, framesFull, permissionMissing, nullFollowed, formulaFalse, overflow}
+use Rattle.rules.specs.Syntax.{Rel, Expr, Formula, Operation, Simple, Stmt, Row, Field, Method, Program, rowNumbered, methodNumbered, first-local, result-variable, words, sign, offset}
+use Rattle.rules.specs.Syntax.{eq, ne, num, null, var, path, acc, cmp, sum, difference, set, assign, compute, new, call, return, assert, release, simple, if, else, join, end}
 
 -- HEAP AND FRAMES
 
@@ -191,6 +191,24 @@ setStep x f y m = locate (m .frame) x f >>= λ p. ok (stored m (p .object) f (va
 unfoldable pub assignStep : ℕ → Expr ℕ → Config → Try Stop Config
 assignStep x e m = value (m .heap) (m .frame) e >>= λ v. ok (withFrame m (advance (bind x v (m .frame))))
 
+-- the sum or difference of two numbers, plus 2^32
+unfoldable pub raised : Operation → ℕ → ℕ → ℕ
+raised sum v w = offset v + offset w
+raised difference v w = offset v + (words - offset w)
+
+-- does the number that so comes to n fit "32 bits signed"?
+unfoldable pub inRange : ℕ → Bool
+inRange n = leb sign n && ltb n (words + sign)
+
+-- "A result beyond 32 bits signed stops the run"
+unfoldable pub computed : Operation → ℕ → ℕ → Try Stop ℕ
+computed o v w = let n : ℕ = raised o v w in check (inRange n) overflow >> ok (n % words)
+
+-- "give the int x the sum or difference of the int variables y and z"
+unfoldable pub computeStep : Operation → ℕ → ℕ → ℕ → Config → Try Stop Config
+computeStep o x y z m =
+    computed o (valueOf (m .frame) y) (valueOf (m .frame) z) >>= λ v. ok (withFrame m (advance (bind x v (m .frame))))
+
 -- a new object: each field null or 0; its locations are the running frame's
 unfoldable pub newCell : Field → Cell
 newCell f = record { name = f .name; value = 0 }
@@ -246,7 +264,16 @@ callStep y M z m = do
 -- the x of the `call` at which a caller stands
 unfoldable pub targetOf : Stmt → ℕ
 targetOf (simple p) =
-    elim p [ call x y n z ↦ x | set x f y ↦ 0 | assign x e ↦ 0 | new x c ↦ 0 | return x ↦ 0 | assert φ ↦ 0 | release φ ↦ 0 ]
+    elim p [
+      | call x y n z ↦ x
+      | set x f y ↦ 0
+      | assign x e ↦ 0
+      | compute o x y z ↦ 0
+      | new x c ↦ 0
+      | return x ↦ 0
+      | assert φ ↦ 0
+      | release φ ↦ 0
+    ]
 targetOf (if n a b) = 0
 targetOf else = 0
 targetOf (join φ) = 0
@@ -321,6 +348,7 @@ module _ (room : Room) (P : Program) where
   unfoldable pub simpleStep : Simple → Config → Try Stop Config
   simpleStep (set x f y) m = setStep x f y m
   simpleStep (assign x e) m = assignStep x e m
+  simpleStep (compute o x y z) m = computeStep o x y z m
   simpleStep (new x c) m = newStep room x (getD (P .classes) c []) m
   simpleStep (call x y n z) m = callStep y (methodNumbered P n) z m
   simpleStep (return x) m = assignStep result-variable (var x) m
@@ -352,5 +380,5 @@ runProgram room P k = run room P k 0 (start P)
 
 -- Everything above computes where this unfolds.
 unfoldable pub opened : Unit {0}
-unfolding eqLocation among holds without valueIn object valueAt storeIn store fieldsOf valueOf locate value compared takeFrom footprint jump advance bind holding withFrame depthAfter closes seek closing choose ifStep elseStep stored setStep assignStep newCell grown newStep entryValues callFrame entered callStep targetOf statementOf returned assertStep releaseStep took endStep mainFrame ends goOn simpleStep stepAt step run start runProgram
+unfolding eqLocation among holds without valueIn object valueAt storeIn store fieldsOf valueOf locate value compared takeFrom footprint jump advance bind holding withFrame depthAfter closes seek closing choose ifStep elseStep stored setStep assignStep raised inRange computed computeStep newCell grown newStep entryValues callFrame entered callStep targetOf statementOf returned assertStep releaseStep took endStep mainFrame ends goOn simpleStep stepAt step run start runProgram
 opened = tt

@@ -9,7 +9,7 @@ use Rattle.rules.specs.Base.{Name, withDefault, bytes, is, eqName, any, 
 use Rattle.rules.specs.Limits.{most-locals}
 use Rattle.rules.specs.Syntax.{Expr, Atom, first-local, num, null, var, path, acc, cmp}
 use Rattle.rules.specs.Text.{reserved, exprOf, formulaOf}
-use Rattle.rules.specs.Grammar.{Operand, Line, isKind, statement, Set, Let, New, Call, Return}
+use Rattle.rules.specs.Grammar.{Operand, Line, isKind, statement, Set, Let, New, Call, Return, Add, Sub}
 use Rattle.rules.specs.Grammar.{read, assigned, field, method, new, typeName, className, variable, member, expression}
 use Rattle.rules.specs.Scope.{FieldDeclaration, MethodDeclaration, Declarations, Variable, Scope, operand, declaredIn, slots, atomsOf}
 
@@ -143,6 +143,10 @@ module _ (Γ : Declarations) (vs : List Variable) where
   callAgrees l m =
       eqName (variableType vs (operand l 0)) (m .result) && eqName (variableType vs (operand l 3)) (m .parameterType)
 
+  -- "the int x the sum or difference of the int variables y and z"
+  unfoldable pub allInt : Line → Bool
+  allInt l = isInt vs (operand l 0) && (isInt vs (operand l 1) && isInt vs (operand l 2))
+
   -- "so are the two sides of `let`, `set`, an argument and a result (of `call` and of `return`); the x of `new` is of class C"
   unfoldable pub sidesAgree : Line → Bool
   sidesAgree l =
@@ -152,7 +156,8 @@ module _ (Γ : Declarations) (vs : List Variable) where
       (cond (isKind (statement New) (l .kind)) (eqName x (operand l 1))
       (cond (isKind (statement Call) (l .kind)) (callAgrees l (methodOfClass Γ (variableType vs (operand l 1)) (operand l 2)))
       (cond (isKind (statement Return) (l .kind)) (eqName x (variableType vs (bytes "result")))
-      true))))
+      (cond (isKind (statement Add) (l .kind) || isKind (statement Sub) (l .kind)) (allInt l)
+      true)))))
 
   unfoldable pub allTyped : Line → Bool
   allTyped l =
@@ -182,5 +187,5 @@ module _ (vs : List Variable) where
 
 -- Everything above computes where this unfolds.
 unfoldable pub opened : Unit {0}
-unfolding agree isLocal classNumber isClass isType isFieldOf isMethodOf fieldType fieldNumber methodNumber methodOfClass inScope lookUp variableNumber variableType isInt knownField knownMethod knownExpr known allKnown ofClassIn ofClass exprType atomAgrees callAgrees sidesAgree allTyped mayBeAssigned callApart allAssignable
+unfolding agree isLocal classNumber isClass isType isFieldOf isMethodOf fieldType fieldNumber methodNumber methodOfClass inScope lookUp variableNumber variableType isInt knownField knownMethod knownExpr known allKnown ofClassIn ofClass exprType atomAgrees callAgrees allInt sidesAgree allTyped mayBeAssigned callApart allAssignable
 opened = tt

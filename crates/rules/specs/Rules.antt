@@ -8,7 +8,7 @@ use lib.ListN.{getD, drop}
 use Rattle.rules.specs.Base.{Try, ok, _>>=_, _>>_, check, orElse}
 use Rattle.rules.specs.Answers.{Refusal, Verdict, accepted, refused, atLine, then, malformed, textEnds, noPermission, notShown}
 use Rattle.rules.specs.Syntax.{Rel, Atom, Formula, Simple, Stmt, Row, Field, Method, Program, methodNumbered, same, this-variable, parameter, result-variable}
-use Rattle.rules.specs.Syntax.{eq, ne, num, null, var, path, acc, cmp, set, assign, new, call, return, assert, release, simple, if, else, join, end}
+use Rattle.rules.specs.Syntax.{eq, ne, num, null, var, path, acc, cmp, set, assign, compute, new, call, return, assert, release, simple, if, else, join, end}
 use Rattle.rules.specs.State.{Term, State, empty, pathOf, equalIn, names, resolve, holdsIn, split, show, dropPaths, remainder, renameTerm, successor, removeTo, remove, addPermission, addFact, add}
 
 -- y, z and x for `this`, w and `result`
@@ -103,10 +103,12 @@ endRow l φ s [] = atLine l (show s φ) λ r. accepted tt
 endRow l φ s (o ∷ os) = refused malformed l
 
 module _ (P : Program) where
-  -- "`return x` does this for `result`"; "`assert` shows its formula, no more. `release` leaves the remainder."
+  -- "`return x` does this for `result`"; "`assert` shows its formula, no more. `release` leaves the remainder." Of `add` and `sub`:
+  -- "The checker removes x and keeps no fact of the new value."
   unfoldable pub rule : Simple → State → Try Refusal State
   rule (set x f y) s = setRule x f y s
   rule (assign x e) s = assignRule x e s
+  rule (compute o x y z) s = ok (remove x s)
   rule (new x c) s = newRule x (getD (P .classes) c []) s
   rule (call x y m z) s = callRule x y (methodNumbered P m) z s
   rule (return x) s = assignRule result-variable (var x) s

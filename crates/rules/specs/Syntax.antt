@@ -1,7 +1,7 @@
 -- Scripts: expressions, atoms and formulas, over names as written or resolved to numbers; resolved statements and programs.
 use mathlib.Core.Bool.{Bool, true, false, _&&_}
 use mathlib.Core.List.{List, []}
-use Prim.Native.Nat.{ℕ}
+use Prim.Native.Nat.{ℕ, _+_, _%_}
 use lib.Dec.{eqb}
 use lib.ListN.{length, getD}
 
@@ -16,6 +16,17 @@ pub data Expr (N : Type 0) : Type 0 where
   null : Expr N
   var : N → Expr N
   path : N → N → Expr N
+
+-- how many numbers 32 bits hold, and the first that is negative
+abbrev pub words : ℕ
+words = 4294967296
+
+abbrev pub sign : ℕ
+sign = 2147483648
+
+-- a number by its 32 bits, plus 2^31: the order of these is that of signed numbers
+unfoldable pub offset : ℕ → ℕ
+offset v = (v + sign) % words
 
 -- "An atom is three fields: `acc x f`, `eq e e` or `ne e e`."
 pub data Atom (N : Type 0) : Type 0 where
@@ -40,10 +51,16 @@ first-local = 2
 abbrev pub result-variable : ℕ
 result-variable = 14
 
--- statements that go on to the next line; `assign` is `let`
+-- `add` or `sub`
+pub data Operation : Type 0 where
+  sum : Operation
+  difference : Operation
+
+-- statements that go on to the next line; `assign` is `let`, `compute` is `add` or `sub`
 pub data Simple : Type 0 where
   set : ℕ → ℕ → ℕ → Simple
   assign : ℕ → Expr ℕ → Simple
+  compute : Operation → ℕ → ℕ → ℕ → Simple
   new : ℕ → ℕ → Simple
   call : ℕ → ℕ → ℕ → ℕ → Simple
   return : ℕ → Simple
@@ -114,5 +131,5 @@ same (path x f) (path y g) = eqb x y && eqb f g
 
 -- Everything above computes where this unfolds.
 unfoldable pub opened : Unit {0}
-unfolding rowNumbered methodNumbered same
+unfolding offset rowNumbered methodNumbered same
 opened = tt

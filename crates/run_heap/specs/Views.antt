@@ -8,7 +8,7 @@ use lib.Dec.{eqb, ltb}
 use lib.ListN.{set}
 use Rattle.rules.specs.Limits.{heap-objects, heap-fields, work-bytes}
 use Rattle.rules.specs.Base.{Try, ok, no, _>>=_, _>>_, check}
-use Rattle.rules.specs.Answers.{Stop, heapFull, framesFull, permissionMissing, nullFollowed, formulaFalse}
+use Rattle.rules.specs.Answers.{Stop, heapFull, framesFull, permissionMissing, nullFollowed, formulaFalse, overflow}
 use Rattle.rules.specs.Syntax.{Expr, num, null, var, path}
 use Rattle.rules.specs.Machine.{Location}
 use Rattle.rules.specs.declared.Machine.{Machine}
@@ -152,6 +152,7 @@ stopOf Fault.FramesFull = framesFull
 stopOf Fault.Permission = permissionMissing
 stopOf Fault.Null = nullFollowed
 stopOf Fault.False = formulaFalse
+stopOf Fault.Overflow = overflow
 
 unfoldable pub spotIs : Spot → Try Stop ℕ
 spotIs (Spot.At k) = ok k

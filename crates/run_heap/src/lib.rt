@@ -41,6 +41,7 @@ pub enum Fault {
     Permission,
     Null,
     False,
+    Overflow,
 }
 
 // The cell of a location.

@@ -5,14 +5,17 @@ use mathlib.Core.List.{List, []}
 use mathlib.Core.Logic.{inl, inr}
 use Prim.Native.Nat.{ℕ, _+_, _*_, _-_, _≤_, _<_}
 use native.Mathlib.Omega.{arith}
+use lib.Dec.{T}
 use lib.ListN.{length}
 use Rattle.rules.specs.Limits.{heap-fields, most-statements, most-frames}
 use Rattle.rules.specs.Base.{ok, no}
+use Rattle.rules.specs.Answers.{overflow}
 use Rattle.rules.specs.Syntax.{var, result-variable}
-use Rattle.rules.specs.Machine.{Config, Step}
+use Rattle.rules.specs.Grammar.{statementNumber, isComputing}
+use Rattle.rules.specs.Machine.{Config, Step, computed}
 use Rattle.rules.specs.declared.Machine.{Machine}
 use Rattle.tables.specs.Layout.{frame-variables, values-at, holders-at, frames-at, most-names}
-use Rattle.tables.specs.Decode.{xAt, yAt, memberAt, targetAt, firstAtomAt, atomCountAt, atomsFrom, atomCount, operandsAt, formulaAt, rightAt}
+use Rattle.tables.specs.Decode.{operationOf, kindAt, xAt, yAt, zAt, memberAt, targetAt, firstAtomAt, atomCountAt, atomsFrom, atomCount, operandsAt, formulaAt, rightAt}
 use Rattle.tables.specs.Tables.{SideFits, declaredIn, OperandsFit}
 use Rattle.tables.specs.Stores.{SameTables, putWord}
 use Rattle.tables.proofs.Bytes.{same-refl}
@@ -21,7 +24,7 @@ use Rattle.run_heap.specs.declared.Fault.{Fault}
 use Rattle.run_steps.specs.declared.Turn.{Turn}
 use Rattle.run_heap.specs.Views.{frameAt, variableAt, spot, readIn, viewOf, stopOf, Readable, frame-holder}
 use Rattle.run_footprint.specs.Footprints.{testIn, takeIn, marked, SmallCells}
-use Rattle.run_steps.specs.States.{Represents, Follows, Does, CanStep, NotEnd, AtKind, stepped, set-kind, let-kind, return-kind, if-kind, else-kind, setHere, letHere, returnHere, assertHere, releaseHere, ifHere, elseHere}
+use Rattle.run_steps.specs.States.{Represents, Follows, Does, CanStep, NotEnd, AtKind, stepped, set-kind, let-kind, return-kind, if-kind, else-kind, setHere, letHere, computeHere, returnHere, assertHere, releaseHere, ifHere, elseHere}
 use Rattle.run_heap.proofs.Reading.{spot-small}
 use Rattle.run_steps.proofs.Seeing.{ok-footprint}
 use Rattle.run_footprint.proofs.Regions.{only-word, only-tables, only-marked}
@@ -154,6 +157,35 @@ module _ {w : List ℕ} {c : Machine} (ready : CanStep w c) where
     let-stops s e =
         does-stop s
         (λ m R. Steps.assign-stop R (xAt w (c .row)) _ s (R .tables .atom-fits _ (let-atom k) .right) (rw (← ev, ← ea) e))
+
+  -- `add` and `sub`, where the code reads y and z as n₁ and n₂
+  module _
+      (t : T (isComputing (kindAt w (c .row)))) (v : View) (ev : v ≡ viewOf c) (y z k n₁ n₂ : ℕ) (ey : y ≡ yAt w (c .row))
+      (ez : z ≡ zAt w (c .row)) (ek : k ≡ kindAt w (c .row)) (e₁ : n₁ ≡ variableAt w (v .base) y)
+      (e₂ : n₂ ≡ variableAt w (v .base) z) where
+    not-end : NotEnd w c
+    unfolding isComputing statementNumber
+    not-end e = subst (λ k. T (isComputing k)) e t
+
+    read-so :
+        computed (operationOf k) n₁ n₂
+        ≡ computed (operationOf (kindAt w (c .row))) (variableAt w (viewOf c .base) (yAt w (c .row))) (variableAt w (viewOf c .base) (zAt w (c .row)))
+    read-so = rw (ek, e₁, e₂, ey, ez, ev)
+
+    pub compute-does :
+        (x n : ℕ) {w′ : List ℕ} {d : Machine} → x ≡ xAt w (c .row) → n < 4294967296 → computed (operationOf k) n₁ n₂ ≡ ok n →
+        w′ ≡ putWord w (v .base + x * 4) n → d ≡ stepped c (c .row + 1) →
+        Does w c w′ (Turn.On d) (computeHere w c)
+    compute-does x n ex ln e p q =
+        does-on (p ∙ rw (ev, ex)) q (frame-words (xAt w (c .row)) (fits .x) n)
+        (λ m R. Steps.compute-on R _ (xAt w (c .row)) _ _ (fits .y) (fits .z) n (fits .x) ln not-end (sym read-so ∙ e))
+
+    pub compute-stops :
+        computed (operationOf k) n₁ n₂ ≡ no overflow →
+        Does w c w (Turn.Stopped Fault.Overflow) (computeHere w c)
+    compute-stops e =
+        does-stop Fault.Overflow
+        (λ m R. Steps.compute-stop R _ (xAt w (c .row)) _ _ (fits .y) (fits .z) (sym read-so ∙ e))
 
   pub return-does :
       (v : View) (x n : ℕ) {w′ : List ℕ} {d : Machine} → AtKind w c return-kind → v ≡ viewOf c → x ≡ xAt w (c .row) → n < 4294967296 →

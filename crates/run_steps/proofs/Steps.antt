@@ -1,5 +1,5 @@
--- The steps that stay in their frame: `let`, `return`, `set`, `release`.
-use mathlib.Core.Path.{_≡_, refl, sym, _∙_}
+-- The steps that stay in their frame: `let`, `return`, `add`, `sub`, `set`, `release`.
+use mathlib.Core.Path.{_≡_, refl, sym, ap₂, _∙_}
 use mathlib.Core.Bool.{Bool, true, false, cond}
 use mathlib.Core.List.{List, []}
 use mathlib.Core.Logic.{inr}
@@ -9,9 +9,10 @@ use lib.Dec.{T, eqb}
 use lib.ListN.{length}
 use borrow.Author.Tests.{ne-eqb}
 use Rattle.rules.specs.Limits.{heap-fields}
-use Rattle.rules.specs.Base.{ok, no, _>>=_}
-use Rattle.rules.specs.Syntax.{Expr, Formula}
-use Rattle.rules.specs.Machine.{Frame, Location, Config, took, holds, among, without, valueOf, advance, bind, holding, withFrame, stored, setStep, assignStep, releaseStep}
+use Rattle.rules.specs.Base.{Try, ok, no, _>>=_}
+use Rattle.rules.specs.Answers.{Stop, overflow}
+use Rattle.rules.specs.Syntax.{Operation, Expr, Formula}
+use Rattle.rules.specs.Machine.{Frame, Location, Config, Step, took, holds, among, without, valueOf, advance, bind, holding, withFrame, stored, setStep, assignStep, computed, computeStep, releaseStep}
 use Rattle.rules.specs.declared.Machine.{Machine}
 use Rattle.rules.proofs.Sets.{Holds, footprint-held}
 use Rattle.tables.specs.Layout.{frame-variables, values-at, holders-at, seconds-at, frames-at}
@@ -55,26 +56,63 @@ module _ {w : List ℕ} {c : Machine} {m : Config} (R : Represents w c m) where
   kind-kept : (w′ : List ℕ) → SameTables w w′ → kindAt w′ (c .row) ≡ kindAt w (c .row)
   kind-kept w′ t = kind-same w w′ t (c .row) (omega (arith, R .frame .row-fits, R .tables .rows))
 
-  -- `let` AND `return`
-  pub assign-on :
-      (x : ℕ) (e : Expr ℕ) (v : ℕ) → x < frame-variables → v < 4294967296 → SideFits e → NotEnd w c →
-      readIn w (viewOf c) e ≡ ok v →
-      Follows (putWord w (frameAt (c .frames - 1) + x * 4) v) c (Turn.On (stepped c (c .row + 1))) m (took (assignStep x e m))
-  unfolding assignStep _>>=_ withFrame advance bind
-  assign-on x e v lx lv ok-e n r =
+  -- a variable gets what was found, if something was
+  abbrev bound : ℕ → Try Stop ℕ → Step
+  bound x t = took (t >>= λ v. ok (withFrame m (advance (bind x v (m .frame)))))
+
+  bound-on :
+      (x : ℕ) (t : Try Stop ℕ) (v : ℕ) → x < frame-variables → v < 4294967296 → NotEnd w c → t ≡ ok v →
+      Follows (putWord w (frameAt (c .frames - 1) + x * 4) v) c (Turn.On (stepped c (c .row + 1))) m (bound x t)
+  unfolding _>>=_ withFrame advance bind
+  bound-on x u v lx lv n r =
       let w′ : List ℕ = putWord w (frameAt (length (m .callers)) + x * 4) v in
       let t : SameTables w w′ =
       only-tables (only-word frames-at (frames-at + 8192) w (frameAt (length (m .callers)) + x * 4) v (omega arith) (omega (arith, R .most, R .frames)))
       (omega arith) in
       rw base-is
-      (follow-on R _ _ _ (rw (value-is (sees R) e ok-e, r)) refl
+      (follow-on R _ _ _ (rw r) refl
       (moved-on (put-variable R x v lx lv) (λ z. n (sym (kind-kept w′ t) ∙ z))))
+
+  bound-stop : (x : ℕ) (t : Try Stop ℕ) (f : Fault) → t ≡ no (stopOf f) → Follows w c (Turn.Stopped f) m (bound x t)
+  unfolding _>>=_
+  bound-stop x t f r = follow-stop R f _ (rw r)
+
+  -- `let` AND `return`
+  pub assign-on :
+      (x : ℕ) (e : Expr ℕ) (v : ℕ) → x < frame-variables → v < 4294967296 → SideFits e → NotEnd w c →
+      readIn w (viewOf c) e ≡ ok v →
+      Follows (putWord w (frameAt (c .frames - 1) + x * 4) v) c (Turn.On (stepped c (c .row + 1))) m (took (assignStep x e m))
+  unfolding assignStep
+  assign-on x e v lx lv ok-e n r = bound-on x _ v lx lv n (value-is (sees R) e ok-e ∙ r)
 
   pub assign-stop :
       (x : ℕ) (e : Expr ℕ) (f : Fault) → SideFits e → readIn w (viewOf c) e ≡ no (stopOf f) →
       Follows w c (Turn.Stopped f) m (took (assignStep x e m))
-  unfolding assignStep _>>=_
-  assign-stop x e f ok-e r = follow-stop R f _ (rw (value-is (sees R) e ok-e, r))
+  unfolding assignStep
+  assign-stop x e f ok-e r = bound-stop x _ f (value-is (sees R) e ok-e ∙ r)
+
+  -- `add` AND `sub`
+  module _ (o : Operation) (x y z : ℕ) (ly : y < frame-variables) (lz : z < frame-variables) where
+    variable-is : (y : ℕ) → y < frame-variables → valueOf (m .frame) y ≡ variableAt w (viewOf c .base) y
+    variable-is y l = rw base-is (R .frame .values y l)
+
+    computed-is :
+        computed o (valueOf (m .frame) y) (valueOf (m .frame) z)
+        ≡ computed o (variableAt w (viewOf c .base) y) (variableAt w (viewOf c .base) z)
+    computed-is = ap₂ (computed o) (variable-is y ly) (variable-is z lz)
+
+    pub compute-on :
+        (v : ℕ) → x < frame-variables → v < 4294967296 → NotEnd w c →
+        computed o (variableAt w (viewOf c .base) y) (variableAt w (viewOf c .base) z) ≡ ok v →
+        Follows (putWord w (frameAt (c .frames - 1) + x * 4) v) c (Turn.On (stepped c (c .row + 1))) m (took (computeStep o x y z m))
+    unfolding computeStep
+    compute-on v lx lv n r = bound-on x _ v lx lv n (computed-is ∙ r)
+
+    pub compute-stop :
+        computed o (variableAt w (viewOf c .base) y) (variableAt w (viewOf c .base) z) ≡ no overflow →
+        Follows w c (Turn.Stopped Fault.Overflow) m (took (computeStep o x y z m))
+    unfolding computeStep stopOf
+    compute-stop r = bound-stop x _ Fault.Overflow (computed-is ∙ r)
 
   -- `set`
   pub set-on :

@@ -10,10 +10,10 @@ use Rattle.rules.specs.Limits.{heap-objects, heap-fields, most-frames}
 use Rattle.rules.specs.Base.{any}
 use Rattle.rules.specs.Syntax.{var, result-variable}
 use Rattle.rules.specs.Machine.{Heap, Frame, Location, Config, Step, fieldsOf, valueAt, object, valueOf, holds, on, stop, done, took}
-use Rattle.rules.specs.Machine.{setStep, assignStep, assertStep, releaseStep, ifStep, elseStep}
+use Rattle.rules.specs.Machine.{setStep, assignStep, computeStep, assertStep, releaseStep, ifStep, elseStep}
 use Rattle.rules.specs.declared.Machine.{Machine}
 use Rattle.tables.specs.Layout.{frame-variables}
-use Rattle.tables.specs.Decode.{rowCount, kindAt, xAt, yAt, memberAt, firstAtomAt, formulaAt, atomPlace, byteAt, relOf, leftAt, rightAt, allRows, methodCount, ensuresAt, fieldCountAt}
+use Rattle.tables.specs.Decode.{rowCount, operationOf, kindAt, xAt, yAt, zAt, memberAt, firstAtomAt, formulaAt, atomPlace, byteAt, relOf, leftAt, rightAt, allRows, methodCount, ensuresAt, fieldCountAt}
 use Rattle.tables.specs.Tables.{Tables}
 use Rattle.tables.specs.Stores.{SameTables}
 use Rattle.run_steps.specs.declared.Turn.{Turn}
@@ -161,6 +161,9 @@ setHere w c m = took (setStep (xAt w (c .row)) (memberAt w (c .row)) (yAt w (c .
 
 abbrev pub letHere : List ℕ → Machine → Config → Step
 letHere w c m = took (assignStep (xAt w (c .row)) (rightAt w (firstAtomAt w (c .row))) m)
+
+abbrev pub computeHere : List ℕ → Machine → Config → Step
+computeHere w c m = took (computeStep (operationOf (kindAt w (c .row))) (xAt w (c .row)) (yAt w (c .row)) (zAt w (c .row)) m)
 
 abbrev pub returnHere : List ℕ → Machine → Config → Step
 returnHere w c m = took (assignStep result-variable (var (xAt w (c .row))) m)

@@ -6,13 +6,16 @@ use run_footprint::Truth;
 use run_heap::Fault;
 use run_heap::Read;
 use run_heap::Spot;
+use run_numbers::Computed;
 use tables::Layout;
 ghost use mathlib.Core.Path.{_≡_};
 ghost use mathlib.Core.List.{[]};
 ghost use Prim.Native.Nat.{_+_, _*_, _<_};
+ghost use lib.Dec.{T};
 ghost use lib.ListN.{length};
-ghost use Rattle.tables.specs.Decode.{formulaAt};
-ghost use Rattle.run_steps.specs.States.{CanStep, NotEnd, AtKind, Does, stepped, set-kind, let-kind, return-kind, if-kind, else-kind, setHere, letHere, returnHere, assertHere, releaseHere, ifHere, elseHere};
+ghost use Rattle.rules.specs.Grammar.{isComputing};
+ghost use Rattle.tables.specs.Decode.{kindAt, formulaAt};
+ghost use Rattle.run_steps.specs.States.{CanStep, NotEnd, AtKind, Does, stepped, set-kind, let-kind, return-kind, if-kind, else-kind, setHere, letHere, computeHere, returnHere, assertHere, releaseHere, ifHere, elseHere};
 ghost use Rattle.run_heap.specs.Views.{viewOf};
 ghost use Rattle.run_footprint.specs.Footprints.{takeIn, footprint-cells, TookUpTo};
 
@@ -117,6 +120,26 @@ pub fn let_step(work: &mut [u8], c: Machine) -> Turn
             Turn::On(next(c, c.row + 1))
         }
         Read::Lacking(s) => Turn::Stopped(s),
+    }
+}
+
+// `add` and `sub`.
+pub fn compute_step(work: &mut [u8], c: Machine) -> Turn
+    requires { ⌜ CanStep (now work) c × T (isComputing (kindAt (now work) (c .row))) ⌝ }
+    ensures { λ r. ⌜ Does (now (work .entry)) c (now (work .exit)) r (computeHere (now (work .entry)) c) ⌝ }
+{
+    let row = c.row as usize;
+    let v = run_heap::view_of(c);
+    let b = v.base;
+    let y = run_heap::variable(work, b, tables::y_at(work, row));
+    let z = run_heap::variable(work, b, tables::z_at(work, row));
+    match run_numbers::compute(tables::kind_at(work, row), y, z) {
+        Computed::Value(n) => {
+            let x = tables::x_at(work, row);
+            tables::put_word(work, b + x * 4, n);
+            Turn::On(next(c, c.row + 1))
+        }
+        Computed::Overflow => Turn::Stopped(Fault::Overflow),
     }
 }
 

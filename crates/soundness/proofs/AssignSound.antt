@@ -1,16 +1,17 @@
--- `let` and `return`: the checker's state after one is satisfied after the machine's step.
+-- `let`, `return`, `add` and `sub`: the checker's state after one is satisfied after the machine's step.
 use mathlib.Core.Path.{_≡_, refl, sym, ap, _∙_, subst}
 use mathlib.Core.Bool.{Bool, true, false, cond}
 use mathlib.Core.Logic.{_⊎_, inl, inr}
 use mathlib.Core.Option.{Option, none, some}
-use Prim.Native.Nat.{ℕ, _≤_}
+use Prim.Native.Nat.{ℕ, _≤_, _%_}
 use native.Mathlib.Omega.{arith}
 use lib.Dec.{T}
-use Rattle.rules.specs.Base.{ok}
-use Rattle.rules.specs.Syntax.{eq, var, same, this-variable, parameter, first-local}
+use Rattle.rules.specs.Base.{ok, check, _>>_, _>>=_}
+use Rattle.rules.specs.Answers.{overflow}
+use Rattle.rules.specs.Syntax.{Operation, eq, var, same, this-variable, parameter, first-local, words}
 use Rattle.rules.specs.State.{Term, State, equalIn, resolve, successor, removeTo, remove, renameTerm}
 use Rattle.rules.specs.Rules.{addEqual, assignRule}
-use Rattle.rules.specs.Machine.{Config, Frame, Heap, valueOf, value, bind, advance, jump, holds, withFrame, assignStep}
+use Rattle.rules.specs.Machine.{Config, Frame, Heap, valueOf, value, bind, advance, jump, holds, withFrame, assignStep, raised, inRange, computed, computeStep}
 use Rattle.rules.proofs.Lists.{decide-eq}
 use Rattle.rules.proofs.Tries.{bind-ok, ok-inj, bind-of-ok}
 use Rattle.rules.proofs.Closure.{same→≡}
@@ -97,3 +98,25 @@ assign-sound m s s′ x e S l a =
       same-call = bound-call F x (A .read) l;
       callers = refl;
     })
+
+-- the lemma on `add` and `sub`
+pub compute-sound :
+    (m : Config) (s : State) (o : Operation) (x y z : ℕ) → Satisfied (m .heap) (m .frame) s → first-local ≤ x →
+    Goes m (remove x s) (computeStep o x y z m)
+unfolding computeStep computed check _>>_ _>>=_ withFrame advance jump holds valueOf bind
+compute-sound m s o x y z S l =
+    let n : ℕ = raised o (valueOf (m .frame) y) (valueOf (m .frame) z) in go (inRange n) (n % words)
+  where
+    go :
+        (b : Bool) (v : ℕ) →
+        Goes m (remove x s) ((check b overflow >> ok v) >>= λ v. ok (withFrame m (advance (bind x v (m .frame)))))
+    go true v =
+        record {
+          satisfied =
+              satisfied-frame (m .heap) (bind x v (m .frame)) (advance (bind x v (m .frame))) (remove x s) (λ v. refl) (λ p i. i)
+              (remove-sound (m .heap) (m .frame) s S x v);
+          row = refl;
+          same-call = bound-call (m .frame) x v l;
+          callers = refl;
+        }
+    go false v = tt

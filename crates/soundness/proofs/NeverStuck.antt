@@ -5,7 +5,7 @@ use mathlib.Core.Logic.{inl, inr}
 use Prim.Native.Nat.{ℕ, zero, suc}
 use native.Mathlib.Omega.{arith}
 use lib.ListN.{getD}
-use Rattle.rules.specs.Answers.{Ending, accepted, finished, stepsTaken, stopped, heapFull, framesFull, permissionMissing, nullFollowed, formulaFalse, stopNumber, endingNumber}
+use Rattle.rules.specs.Answers.{Ending, accepted, finished, stepsTaken, stopped, heapFull, framesFull, permissionMissing, nullFollowed, formulaFalse, overflow, stopNumber, endingNumber}
 use Rattle.rules.specs.Syntax.{Method, Program, noMethod, methodNumbered}
 use Rattle.rules.specs.State.{empty}
 use Rattle.rules.specs.Rules.{checkMethod, checkBlocks, checkProgram}
@@ -77,10 +77,11 @@ unfolding endingNumber stopNumber
 unstuck-number finished k = inl refl
 unstuck-number stepsTaken k = inr (inl refl)
 unstuck-number (stopped heapFull) k = inr (inr (inl refl))
-unstuck-number (stopped framesFull) k = inr (inr (inr refl))
+unstuck-number (stopped framesFull) k = inr (inr (inr (inl refl)))
 unstuck-number (stopped permissionMissing) k = absurd k
 unstuck-number (stopped nullFollowed) k = absurd k
 unstuck-number (stopped formulaFalse) k = absurd k
+unstuck-number (stopped overflow) k = inr (inr (inr (inr refl)))
 
 pub accepted-not-stuck :
     (P : Program) → WellFormed P → checkProgram P ≡ accepted tt → (room : Room) (k : ℕ) →

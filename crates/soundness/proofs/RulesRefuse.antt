@@ -6,7 +6,7 @@ use Prim.Native.Nat.{ℕ}
 use native.Mathlib.Omega.{arith}
 use Rattle.rules.specs.Base.{Try, ok, no, _>>=_, _>>_, check, orElse}
 use Rattle.rules.specs.Answers.{Refusal, refusalNumber, unframed, unresolved, noPermission, notShown, stateFull}
-use Rattle.rules.specs.Syntax.{Rel, Formula, Simple, Field, Program, same, eq, num, null, var, path, acc, cmp, set, assign, new, call, return, assert, release, result-variable}
+use Rattle.rules.specs.Syntax.{Rel, Formula, Simple, Field, Program, same, eq, num, null, var, path, acc, cmp, set, assign, compute, new, call, return, assert, release, result-variable}
 use Rattle.rules.specs.State.{Term, State, Permission, Equality, Shown, empty, resolve, showFrom, show, addPermission, addFact, add}
 use Rattle.rules.specs.Rules.{addEqual, assignRule, addFields, addInitial, newRule, setRule, callRule, ifRule, joinRule, rule}
 use Rattle.rules.specs.Refusals.{FromRules}
@@ -110,6 +110,7 @@ pub rule-ruled : (P : Program) (p : Simple) (s : State) → Ruled (rule P p s)
 unfolding rule setRule newRule callRule
 rule-ruled P (set x f y) s = bind (or-else _ twelve) (λ c. fact-ruled _ _ _ _)
 rule-ruled P (assign x e) s = assign-ruled x e s
+rule-ruled P (compute o x y z) s = yes
 rule-ruled P (new x c) s = bind (fields-ruled x _ _) (λ s. bind (fact-ruled _ _ _ s) (initial-ruled x _))
 rule-ruled P (call x y m z) s = tested _ thirteen (bind (show-ruled s _) (λ r. add-ruled _ _))
 rule-ruled P (return x) s = assign-ruled result-variable (var x) s

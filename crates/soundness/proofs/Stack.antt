@@ -13,7 +13,7 @@ use Rattle.rules.proofs.Changes.{Within, change-within, step-changes}
 use Rattle.rules.proofs.Disjoint.{shares, HeldOnce, HeldExists, share-held, shares-cons, change-keeps}
 use Rattle.rules.proofs.Sets.{Holds}
 use Rattle.soundness.specs.WellFormed.{SimpleFormed, AtEnd, Over}
-use Rattle.soundness.specs.Endings.{Full}
+use Rattle.soundness.specs.Endings.{MayStop}
 use Rattle.soundness.proofs.Satisfied.{Satisfied, AgreeAt, satisfied-heap}
 use Rattle.soundness.proofs.Branches.{Accepts}
 
@@ -78,7 +78,7 @@ pub data Moved (P : Program) (m m′ : Config) : Type 0 where
 
 abbrev pub Kept : Program → Config → Step → Type 0
 Kept P m (on m′) = Moved P m m′
-Kept P m (stop r) = Full r
+Kept P m (stop r) = MayStop r
 Kept P m done = Unit {0}
 
 -- a statement that goes on to the next line, from a state to s′
@@ -90,7 +90,7 @@ pub record Onward (m : Config) (s′ : State) (m′ : Config) : Type 0 where
 
 abbrev pub Goes : Config → State → Try Stop Config → Type 0
 Goes m s′ (ok m′) = Onward m s′ m′
-Goes m s′ (no r) = Full r
+Goes m s′ (no r) = MayStop r
 
 -- such a statement, where the rows after it are accepted from s′
 pub goes-kept :

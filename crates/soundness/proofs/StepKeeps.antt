@@ -6,20 +6,20 @@ use native.Mathlib.Omega.{arith}
 use lib.ListN.{length, getD}
 use Rattle.rules.specs.Base.{Try, ok}
 use Rattle.rules.specs.Answers.{Stop}
-use Rattle.rules.specs.Syntax.{Formula, Simple, Stmt, Program, rowNumbered, result-variable, var, set, assign, new, call, return, assert, release, simple, if, else, join, end}
+use Rattle.rules.specs.Syntax.{Formula, Simple, Stmt, Program, rowNumbered, result-variable, var, set, assign, compute, new, call, return, assert, release, simple, if, else, join, end}
 use Rattle.rules.specs.State.{State, show}
 use Rattle.rules.specs.Rules.{Open, inFirst, inSecond, rule, ifRule, joinRule, checkRow, elseRow, joinRow, endRow}
-use Rattle.rules.specs.Machine.{ifStep, elseStep, Config, Location, Room, Step, on, stop, done, statementOf, footprint, takeFrom, took, simpleStep, stepAt, step, assertStep, releaseStep}
+use Rattle.rules.specs.Machine.{ifStep, elseStep, Config, Location, Room, Step, on, stop, done, statementOf, footprint, takeFrom, took, simpleStep, stepAt, step, computeStep, assertStep, releaseStep}
 use Rattle.rules.proofs.Tries.{bind-ok, ok-inj, atLine-accepted, refused-accepted}
 use Rattle.rules.proofs.Sets.{Holds}
 use Rattle.rules.proofs.Disjoint.{share-held}
 use Rattle.soundness.specs.WellFormed.{SimpleFormed, StmtFormed, WellFormed}
-use Rattle.soundness.specs.Endings.{Full}
+use Rattle.soundness.specs.Endings.{MayStop}
 use Rattle.soundness.proofs.Satisfied.{Satisfied}
 use Rattle.soundness.proofs.ShowSound.{show-sound}
 use Rattle.soundness.proofs.Branches.{Accepts, AcceptsAt, accepts-row}
 use Rattle.soundness.proofs.Stack.{Ready, at-row, at-join, at-nothing, Invariant, Goes, Kept, goes-kept, moved-invariant}
-use Rattle.soundness.proofs.AssignSound.{assign-sound}
+use Rattle.soundness.proofs.AssignSound.{assign-sound, compute-sound}
 use Rattle.soundness.proofs.SetSound.{set-sound}
 use Rattle.soundness.proofs.NewSound.{new-sound}
 use Rattle.soundness.proofs.AssertSound.{assert-sound, join-sound, release-sound}
@@ -29,7 +29,7 @@ use Rattle.soundness.proofs.CallSound.{MethodsAccepted, call-sound, end
 -- what a step comes to
 abbrev pub Fine : Program → Step → Type 0
 Fine P (on m) = Invariant P m
-Fine P (stop r) = Full r
+Fine P (stop r) = MayStop r
 Fine P done = Unit {0}
 
 module _ (room : Room) (P : Program) (W : WellFormed P) (all : MethodsAccepted P) (m : Config) (I : Invariant P m) where
@@ -50,6 +50,8 @@ module _ (room : Room) (P : Program) (W : WellFormed P) (all : MethodsAccepted P
     unfolding rule simpleStep
     simple-kept (set x f y) c l s′ os a k = onward s′ os _ k (set-sound m s s′ x f y S a)
     simple-kept (assign x v) c l s′ os a k = onward s′ os _ k (assign-sound m s s′ x v S l a)
+    simple-kept (compute o x y z) c l s′ os a k =
+        onward s′ os _ k (subst (λ w. Goes m w (computeStep o x y z m)) (ok-inj a) (compute-sound m s o x y z S l))
     simple-kept (new x d) c l s′ os a k =
         onward s′ os _ k (new-sound room m s s′ x (getD (P .classes) d []) S frame-exists (W .classes d) l a)
     simple-kept (call x y n z) c l s′ os a k =

@@ -5,7 +5,7 @@ use mathlib.Core.Logic.{_⊎_}
 use Prim.Native.Nat.{ℕ, _≤_}
 use lib.ListN.{getD}
 use Rattle.rules.specs.Syntax.{Expr, Formula, Simple, Stmt, Field, Program, rowNumbered, methodNumbered, this-variable, parameter, first-local, result-variable}
-use Rattle.rules.specs.Syntax.{num, null, var, path, acc, cmp, set, assign, new, call, return, assert, release, simple, if, else, join, end}
+use Rattle.rules.specs.Syntax.{num, null, var, path, acc, cmp, set, assign, compute, new, call, return, assert, release, simple, if, else, join, end}
 
 -- every variable of a term, or of a formula, has the property Q
 abbrev pub TermOver : (ℕ → Type 0) → Expr ℕ → Type 0
@@ -30,6 +30,7 @@ AtEnd v = AtCall v ⊎ (v ≡ result-variable)
 abbrev pub SimpleFormed : Simple → Type 0
 SimpleFormed (set x f y) = Unit {0}
 SimpleFormed (assign x e) = first-local ≤ x
+SimpleFormed (compute o x y z) = first-local ≤ x
 SimpleFormed (new x c) = first-local ≤ x
 SimpleFormed (call x y m z) = (first-local ≤ x) × (x ≡ y → ⊥) × (x ≡ z → ⊥)
 SimpleFormed (return x) = Unit {0}

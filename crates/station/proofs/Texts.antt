@@ -128,6 +128,7 @@ stop-small Answers.framesFull = omega arith
 stop-small Answers.permissionMissing = omega arith
 stop-small Answers.nullFollowed = omega arith
 stop-small Answers.formulaFalse = omega arith
+stop-small Answers.overflow = omega arith
 
 ending-small : (e : Answers.Ending) → endingNumber e < 65536
 unfolding endingNumber

@@ -7,6 +7,7 @@ use Prim.Native.Nat.{ℕ, _+_, _*_, _≤_, _<_}
 use native.Mathlib.Omega.{arith}
 use lib.Dec.{T, eqb, eqb→eq}
 use Rattle.rules.specs.Limits.{most-fields}
+use Rattle.rules.specs.Grammar.{isComputing}
 use Rattle.rules.specs.Syntax.{assign, assert, release, simple, join}
 use Rattle.tables.specs.declared.Operands.{Operands}
 use Rattle.tables.specs.Layout.{rows-at, methods-at, classes-at, places-at, atoms-at, most-names}
@@ -92,7 +93,8 @@ module _ (w w′ : List ℕ) (n : ℕ) (K : Kept atoms-at (atomPlace n) w w′) 
         (λ _. cond-same (eqb (r .kind) 13) (λ _. to-assert)
         (λ _. cond-same (eqb (r .kind) 14) (λ _. to-release)
         (λ _. cond-same (eqb (r .kind) 15) to-if
-        (λ _. cond-same (eqb (r .kind) 16) (λ _. refl) (λ _. cond-same (eqb (r .kind) 17) (λ _. to-join) (λ _. refl))))))))))
+        (λ _. cond-same (eqb (r .kind) 16) (λ _. refl)
+        (λ _. cond-same (eqb (r .kind) 17) (λ _. to-join) (λ _. cond-same (isComputing (r .kind)) (λ _. refl) (λ _. refl)))))))))))
 
 -- the bytes of the first R rows are the same, but for their targets
 abbrev pub RowsKept : ℕ → List ℕ → List ℕ → Type 0

@@ -1,16 +1,16 @@
 -- What a row means, by its kind.
-use mathlib.Core.Path.{_≡_, refl}
-use mathlib.Core.Bool.{Bool, true, false, cond}
+use mathlib.Core.Path.{_≡_, refl, sym, subst}
+use mathlib.Core.Bool.{Bool, true, false, cond, _||_}
 use mathlib.Core.List.{List}
-use mathlib.Core.Logic.{_⊎_, inl, inr}
+use mathlib.Core.Logic.{_⊎_, inl, inr, ⊎-elim}
 use Prim.Native.Nat.{ℕ, suc, _≤_}
 use native.Mathlib.Omega.{arith}
-use lib.Dec.{eqb}
+use lib.Dec.{T, eqb, eqb→eq}
 use borrow.Author.Tests.{ne-eqb}
-use Rattle.rules.specs.Grammar.{IsStatementNumber}
-use Rattle.rules.specs.Syntax.{Simple, Stmt, set, assign, new, call, return, assert, release, simple, else, join, end}
+use Rattle.rules.specs.Grammar.{IsStatementNumber, statementNumber, isComputing}
+use Rattle.rules.specs.Syntax.{Simple, Stmt, set, assign, compute, new, call, return, assert, release, simple, else, join, end}
 use Rattle.tables.specs.declared.Operands.{Operands}
-use Rattle.tables.specs.Decode.{rightAt, ifAt, formulaOf, stmtOf}
+use Rattle.tables.specs.Decode.{rightAt, ifAt, formulaOf, operationOf, stmtOf}
 
 module _ (w : List ℕ) (r : Operands) where
   pub set-means : r .kind ≡ 8 → stmtOf w r ≡ simple (set (r .x) (r .member) (r .y))
@@ -54,8 +54,16 @@ module _ (w : List ℕ) (r : Operands) where
   join-means k = rw k
 
   pub end-means : r .kind ≡ 18 → stmtOf w r ≡ end
-  unfolding stmtOf
+  unfolding stmtOf isComputing statementNumber
   end-means k = rw k
+
+  pub compute-means : T (isComputing (r .kind)) → stmtOf w r ≡ simple (compute (operationOf (r .kind)) (r .x) (r .y) (r .z))
+  unfolding stmtOf isComputing statementNumber
+  compute-means t = ⊎-elim (λ k. rw k) (λ k. rw k) (one-of (eqb (r .kind) 19) refl t)
+    where
+      one-of : (b : Bool) → eqb (r .kind) 19 ≡ b → T (b || eqb (r .kind) 20) → (r .kind ≡ 19) ⊎ (r .kind ≡ 20)
+      one-of true e u = inl (eqb→eq (r .kind) 19 (subst T (sym e) tt))
+      one-of false e u = inr (eqb→eq (r .kind) 20 u)
 
   -- a row that opens and closes no branch
   pub simple-or-end :
@@ -68,7 +76,8 @@ module _ (w : List ℕ) (r : Operands) where
       (either (eqb (r .kind) 9) _
       (either (eqb (r .kind) 10) _
       (either (eqb (r .kind) 11) _
-      (either (eqb (r .kind) 12) _ (either (eqb (r .kind) 13) _ (either (eqb (r .kind) 14) _ (inr refl))))))))
+      (either (eqb (r .kind) 12) _
+      (either (eqb (r .kind) 13) _ (either (eqb (r .kind) 14) _ (either (isComputing (r .kind)) _ (inr refl)))))))))
     where
       either :
           (b : Bool) (p : Simple) {s : Stmt} → ((q : Simple) × (s ≡ simple q)) ⊎ (s ≡ end) →
@@ -77,7 +86,7 @@ module _ (w : List ℕ) (r : Operands) where
       either false p h = h
 
   pub not-end : IsStatementNumber (r .kind) → (r .kind ≡ 18 → ⊥) → stmtOf w r ≡ end → ⊥
-  unfolding stmtOf
+  unfolding stmtOf isComputing statementNumber
   not-end (a, b) n h =
       step 8 a (λ e. let z : _≡_ {A = ℕ} 0 1 = (let g = rw e at h in cc) in omega arith) λ l8.
       step 9 l8 (λ e. let z : _≡_ {A = ℕ} 0 1 = (let g = rw e at h in cc) in omega arith) λ l9.
@@ -90,7 +99,9 @@ module _ (w : List ℕ) (r : Operands) where
       step 16 l15 (λ e. let z : _≡_ {A = ℕ} 0 1 = (let g = rw e at h in cc) in omega arith) λ l16.
       step 17 l16 (λ e. let z : _≡_ {A = ℕ} 0 1 = (let g = rw e at h in cc) in omega arith) λ l17.
       step 18 l17 n λ l18.
-      omega (arith, b, l18)
+      step 19 l18 (λ e. let z : _≡_ {A = ℕ} 0 1 = (let g = rw e at h in cc) in omega arith) λ l19.
+      step 20 l19 (λ e. let z : _≡_ {A = ℕ} 0 1 = (let g = rw e at h in cc) in omega arith) λ l20.
+      omega (arith, b, l20)
     where
       -- it is not k, so it is more
       step : (k : ℕ) → k ≤ r .kind → (r .kind ≡ k → ⊥) → (suc k ≤ r .kind → ⊥) → ⊥

@@ -4,8 +4,9 @@ use mathlib.Core.List.{List, [], _∷_}
 use Prim.Native.Nat.{ℕ, zero, suc, _+_, _*_}
 use lib.Dec.{eqb}
 use lib.ListN.{getD}
-use Rattle.rules.specs.Syntax.{Rel, Expr, Atom, Formula, Stmt, Row, Field, Method, Program}
-use Rattle.rules.specs.Syntax.{eq, ne, num, null, var, path, acc, cmp, set, assign, new, call, return, assert, release, simple, if, else, join, end}
+use Rattle.rules.specs.Syntax.{Rel, Expr, Atom, Formula, Operation, Stmt, Row, Field, Method, Program}
+use Rattle.rules.specs.Syntax.{eq, ne, num, null, var, path, acc, cmp, sum, difference, set, assign, compute, new, call, return, assert, release, simple, if, else, join, end}
+use Rattle.rules.specs.Grammar.{isComputing}
 use Rattle.tables.specs.declared.Operands.{Operands}
 use Rattle.tables.specs.Layout.{rows-at, methods-at, classes-at, places-at, atoms-at, most-names, row-bytes, atom-bytes, method-bytes, class-bytes}
 
@@ -113,7 +114,10 @@ formulaOf w r = atomsFrom w (r .first) (r .atoms)
 abbrev pub ifAt : List ℕ → ℕ → Stmt
 ifAt w a = if (relOf (byteAt w (atomPlace a))) (leftAt w a) (rightAt w a)
 
--- by the number of its kind: 8 `set` to 17 `join`, and `end`
+unfoldable pub operationOf : ℕ → Operation
+operationOf k = cond (eqb k 19) sum difference
+
+-- by the number of its kind: 8 `set` to 17 `join`; `add`, `sub`; and `end`
 unfoldable pub stmtOf : List ℕ → Operands → Stmt
 stmtOf w r =
     cond (eqb (r .kind) 8) (simple (set (r .x) (r .member) (r .y)))
@@ -126,7 +130,8 @@ stmtOf w r =
     (cond (eqb (r .kind) 15) (ifAt w (r .first))
     (cond (eqb (r .kind) 16) else
     (cond (eqb (r .kind) 17) (join (formulaOf w r))
-    end)))))))))
+    (cond (isComputing (r .kind)) (simple (compute (operationOf (r .kind)) (r .x) (r .y) (r .z)))
+    end))))))))))
 
 abbrev pub formulaAt : List ℕ → ℕ → Formula ℕ
 formulaAt w i = formulaOf w (operandsAt w i)

@@ -12,18 +12,19 @@ use Rattle.rules.specs.Base as Base
 use Rattle.rules.specs.Base.{Name, bytes, eqName, any, first, withDefault}
 use Rattle.rules.specs.Text.{formulaOf}
 use Rattle.rules.specs.Grammar as Grammar
-use Rattle.rules.specs.Grammar.{Kind, Operand, nothing, form, isOperand, isFormed, statement, Set, New, Call, Return, Else, End}
+use Rattle.rules.specs.Grammar.{Kind, Statement, Operand, nothing, form, isOperand, isFormed, statement, Set, New, Call, Return, Else, End, Add, Sub}
+use Rattle.rules.specs.Syntax.{Operation, sum, difference}
 use Rattle.rules.specs.Scope as Scopes
 use Rattle.rules.specs.Scope.{Declarations, Variable, Scope}
 use Rattle.rules.specs.Names as Names
 use Rattle.rules.specs.Names.{isLocal, inScope, isInt, isClass, knownField, knownMethod, variableNumber, variableType, fieldType, methodOfClass, noVariable, lookUp}
-use Rattle.read_bytes.proofs.Search.{both-true, true-false}
+use Rattle.read_bytes.proofs.Search.{both-true, and-false, true-false}
 use Rattle.read_declarations.specs.Declares.{lineWith}
 use Rattle.resolve_pass.specs.Passes.{isGood}
 use Rattle.read_types.specs.Types.{good}
 use Rattle.resolve_atoms.specs.Good.{fitsAtom}
 use Rattle.resolve_atoms.proofs.Goods.{formula-good}
-use Rattle.write_plain.specs.Plain.{setGood, newGood, callApart, callKnown, callAgrees, callGood, returnGood}
+use Rattle.write_plain.specs.Plain.{setGood, newGood, callApart, callKnown, callAgrees, callGood, returnGood, computeGood}
 
 -- FORM: a line of operands alone has as many fields
 pub formed-length : (os : List Operand) (ws : List Name) → isFormed os nothing ws ≡ true → length ws ≡ length os
@@ -33,26 +34,39 @@ formed-length (o ∷ os) [] e = true-false (sym e)
 formed-length (o ∷ os) (w ∷ ws) e = ap suc (formed-length os ws (both-true (isOperand o w) _ e .1))
 
 -- VARIABLES: a local is in scope
-absent : (vs : List Variable) (x : Name) → inScope vs x ≡ false → variableNumber vs x ≡ 15
-unfolding inScope variableNumber lookUp any first withDefault
-absent [] x e = refl
-absent (v ∷ vs) x e = go (eqName (v .name) x) (λ i. absent vs x i) e
+no-variable : (vs : List Variable) (x : Name) → inScope vs x ≡ false → lookUp vs x ≡ noVariable
+unfolding inScope lookUp any first withDefault
+no-variable [] x e = refl
+no-variable (v ∷ vs) x e = go (eqName (v .name) x) (λ i. no-variable vs x i) e
   where
     go :
-        (q : Bool) →
-        (any (λ v. eqName (v .name) x) vs ≡ false → withDefault noVariable (first (λ v. eqName (v .name) x) vs) .number ≡ 15) →
+        (q : Bool) → (any (λ v. eqName (v .name) x) vs ≡ false → withDefault noVariable (first (λ v. eqName (v .name) x) vs) ≡ noVariable) →
         (q || any (λ v. eqName (v .name) x) vs) ≡ false →
-        withDefault noVariable (cond q (some v) (first (λ v. eqName (v .name) x) vs)) .number ≡ 15
+        withDefault noVariable (cond q (some v) (first (λ v. eqName (v .name) x) vs)) ≡ noVariable
     go true h i = true-false i
     go false h i = h i
 
 pub local-known : (vs : List Variable) (x : Name) → isLocal (variableNumber vs x) ≡ true → inScope vs x ≡ true
-unfolding isLocal
+unfolding isLocal variableNumber
 local-known vs x e = go (inScope vs x) refl
   where
     go : (q : Bool) → inScope vs x ≡ q → q ≡ true
     go true i = refl
-    go false i = true-false (sym (subst (λ n. isLocal n ≡ true) (absent vs x i) e))
+    go false i = true-false (sym (subst (λ v. isLocal (v .number) ≡ true) (no-variable vs x i) e))
+
+-- so is an int variable
+pub int-known : (vs : List Variable) (x : Name) → isInt vs x ≡ true → inScope vs x ≡ true
+unfolding isInt Base.is Base.bytes eqName variableType
+int-known vs x e = go (inScope vs x) refl
+  where
+    go : (q : Bool) → inScope vs x ≡ q → q ≡ true
+    go true i = refl
+    go false i = true-false (sym (subst (λ v. Base.is "int" (v .type) ≡ true) (no-variable vs x i) e))
+
+-- the lines `add` and `sub`
+abbrev pub computing : Operation → Statement
+computing sum = Add
+computing difference = Sub
 
 -- BY THE KIND
 module _ (Γ : Declarations) (vs : List Variable) (s : Scope) where
@@ -143,6 +157,29 @@ module _ (Γ : Declarations) (vs : List Variable) (s : Scope) where
   return-one (x ∷ []) e = return-shuffle (inScope vs x) (eqName (variableType vs x) (variableType vs (bytes "result")))
   return-one (x ∷ y ∷ ws) e = absurd (omega arith)
 
+  compute-shuffle :
+      (x y z i j k l : Bool) → (i ≡ true → x ≡ true) → (j ≡ true → y ≡ true) → (k ≡ true → z ≡ true) →
+      ((x && (y && (z && true))) && (((i && (j && k)) && true) && ((l && true) && true))) ≡ (l && (i && (j && k)))
+  compute-shuffle x y z false j k l f g h = and-false (x && (y && (z && true))) ∙ sym (and-false l)
+  compute-shuffle x y z true false k l f g h = and-false (x && (y && (z && true))) ∙ sym (and-false l)
+  compute-shuffle x y z true true false l f g h = and-false (x && (y && (z && true))) ∙ sym (and-false l)
+  compute-shuffle x y z true true true true f g h = rw (f refl, g refl, h refl)
+  compute-shuffle x y z true true true false f g h = and-false (x && (y && (z && true)))
+
+  compute-three :
+      (o : Operation) (ws : List Name) → length ws ≡ 3 → isGood Γ vs s (lineWith (statement (computing o)) ws) ≡ computeGood Γ vs ws
+  unfolding Base.all Grammar.opened Scopes.opened Names.allKnown Names.known Names.allTyped Names.ofClass Names.sidesAgree Names.allInt Names.allAssignable Names.mayBeAssigned Names.callApart formulaOf isGood computeGood
+  compute-three o [] e = absurd (omega arith)
+  compute-three o (x ∷ []) e = absurd (omega arith)
+  compute-three o (x ∷ y ∷ []) e = absurd (omega arith)
+  compute-three sum (x ∷ y ∷ z ∷ []) e =
+      compute-shuffle (inScope vs x) (inScope vs y) (inScope vs z) (isInt vs x) (isInt vs y) (isInt vs z) (isLocal (variableNumber vs x))
+      (int-known vs x) (int-known vs y) (int-known vs z)
+  compute-three difference (x ∷ y ∷ z ∷ []) e =
+      compute-shuffle (inScope vs x) (inScope vs y) (inScope vs z) (isInt vs x) (isInt vs y) (isInt vs z) (isLocal (variableNumber vs x))
+      (int-known vs x) (int-known vs y) (int-known vs z)
+  compute-three o (x ∷ y ∷ z ∷ u ∷ ws) e = absurd (omega arith)
+
   -- WITH ITS FORM
   abbrev Formed : Kind → List Name → Type 0
   Formed k ws = isFormed (form k .operands) (form k .tail) ws ≡ true
@@ -162,6 +199,13 @@ module _ (Γ : Declarations) (vs : List Variable) (s : Scope) where
   pub return-good : (ws : List Name) → Formed (statement Return) ws → isGood Γ vs s (lineWith (statement Return) ws) ≡ returnGood Γ vs ws
   unfolding Grammar.opened
   return-good ws e = return-one ws (formed-length (form (statement Return) .operands) ws e)
+
+  pub compute-good :
+      (o : Operation) (ws : List Name) → Formed (statement (computing o)) ws →
+      isGood Γ vs s (lineWith (statement (computing o)) ws) ≡ computeGood Γ vs ws
+  unfolding Grammar.opened
+  compute-good sum ws e = compute-three sum ws (formed-length (form (statement Add) .operands) ws e)
+  compute-good difference ws e = compute-three difference ws (formed-length (form (statement Sub) .operands) ws e)
 
   -- a line that is its word alone
   bare-good : (k : Kind) → form k .operands ≡ [] → form k .tail ≡ nothing → (ws : List Name) → Formed k ws → isGood Γ vs s (lineWith k ws) ≡ true

@@ -11,7 +11,7 @@ use Rattle.rules.specs.Base as Base
 use Rattle.rules.specs.Base.{Name}
 use Rattle.rules.specs.Limits.{most-statements}
 use Rattle.rules.specs.Grammar as Grammar
-use Rattle.rules.specs.Grammar.{form, isFormed}
+use Rattle.rules.specs.Grammar.{form, isFormed, statementNumber, isComputing}
 use Rattle.rules.specs.Scope.{Declarations, Variable, Scope}
 use Rattle.rules.specs.Items.{itemOf}
 use Rattle.read_words.specs.Words.{kindAt}
@@ -20,7 +20,7 @@ use Rattle.read_grammar.specs.Rows.{kindNumbered}
 use Rattle.tables.specs.Decode.{byteAt}
 use Rattle.read_scopes.specs.declared.Names as Counts
 use Rattle.read_scopes.specs.Meanings.{AreaFits, NamesFit, declarationsIn, variablesIn}
-use Rattle.rules.specs.Syntax.{Program}
+use Rattle.rules.specs.Syntax.{Operation, sum, difference, Program}
 use Rattle.rules.specs.Reading.{withItem}
 use Rattle.tables.specs.declared.Operands.{Operands}
 use Rattle.write_rows.specs.Puts.{putRow, RowBytes}
@@ -30,9 +30,9 @@ use Rattle.write_rows.proofs.Rows.{row-bytes, row-names, row-length}
 use Rattle.resolve_pass.specs.Passes.{counts, isGood}
 use Rattle.read_declarations.specs.Declares.{lineWith}
 use Rattle.write_plain.specs.declared.TriedRow.{TriedRow}
-use Rattle.write_plain.specs.Plain.{setRow, newRow, callRow, returnRow, plainRow, plainGood, RowTried, isPlain, PlainFollows, PlainPut, PlainTried}
-use Rattle.write_plain.proofs.Goods.{set-good, new-good, call-good, return-good, else-good, end-good}
-use Rattle.write_plain.proofs.Rows.{set-ok, new-ok, call-ok, return-ok, empty-ok, set-written, new-written, call-written, return-written, else-written, end-written}
+use Rattle.write_plain.specs.Plain.{setRow, newRow, callRow, returnRow, computeRow, plainRow, plainGood, RowTried, isPlain, PlainFollows, PlainPut, PlainTried}
+use Rattle.write_plain.proofs.Goods.{set-good, new-good, call-good, return-good, else-good, end-good, compute-good, computing}
+use Rattle.write_plain.proofs.Rows.{set-ok, new-ok, call-ok, return-ok, compute-ok, empty-ok, set-written, new-written, call-written, return-written, compute-written, else-written, end-written}
 
 either : {A : Type 0} (k m : ℕ) (b : Bool) → (eqb k m || b) ≡ true → (k ≡ m → A) → (b ≡ true → A) → A
 either {A} k m b e f g = go (eqb k m) refl e
@@ -41,14 +41,17 @@ either {A} k m b e f g = go (eqb k m) refl e
     go true i h = f (eqb-true k m i)
     go false i h = g h
 
-plain-kinds : (P : ℕ → Type 0) (k : ℕ) → isPlain k ≡ true → P 8 → P 10 → P 11 → P 12 → P 16 → P 18 → P k
-unfolding isPlain
-plain-kinds P k e a b c d f g =
+plain-kinds :
+    (P : ℕ → Type 0) (k : ℕ) → isPlain k ≡ true → P 8 → P 10 → P 11 → P 12 → P 16 → P 18 → ((o : Operation) → P (statementNumber (computing o))) → P k
+unfolding isPlain isComputing statementNumber
+plain-kinds P k e a b c d f g h =
     either k 8 _ e (λ q. subst P (sym q) a)
     (λ e. either k 10 _ e (λ q. subst P (sym q) b)
     (λ e. either k 11 _ e (λ q. subst P (sym q) c)
     (λ e. either k 12 _ e (λ q. subst P (sym q) d)
-    (λ e. either k 16 _ e (λ q. subst P (sym q) f) (λ e. subst P (sym (eqb-true k 18 e)) g)))))
+    (λ e. either k 16 _ e (λ q. subst P (sym q) f)
+    (λ e. either k 18 _ e (λ q. subst P (sym q) g)
+    (λ e. either k 19 _ e (λ q. subst P (sym q) (h sum)) (λ e. subst P (sym (eqb-true k 20 e)) (h difference))))))))
 
 module _ (t w : List ℕ) (c : Counts.Names) (fits : NamesFit c) (l : ℕ) (ws : List Name) where
   abbrev Γ : Declarations
@@ -67,7 +70,7 @@ module _ (t w : List ℕ) (c : Counts.Names) (fits : NamesFit c) (l : ℕ) (ws :
   pub plain-good :
       (s : Scope) (k : ℕ) → isPlain k ≡ true → isFormed (form (kindNumbered k) .operands) (form (kindNumbered k) .tail) ws ≡ true →
       isGood Γ vs s (lineWith (kindNumbered k) ws) ≡ plainGood Γ vs ws k
-  unfolding kindNumbered kindAt Base.withDefault Base.first Grammar.kindNumber Grammar.statementNumber plainGood
+  unfolding kindNumbered kindAt Base.withDefault Base.first Grammar.kindNumber Grammar.statementNumber isComputing plainGood
   plain-good s k e =
       plain-kinds
       (λ k.
@@ -80,9 +83,17 @@ module _ (t w : List ℕ) (c : Counts.Names) (fits : NamesFit c) (l : ℕ) (ws :
       (return-good Γ vs s ws)
       (else-good Γ vs s ws)
       (end-good Γ vs s ws)
+      (λ o. computes-good o)
+    where
+      computes-good :
+          (o : Operation) →
+          isFormed (form (kindNumbered (statementNumber (computing o))) .operands) (form (kindNumbered (statementNumber (computing o))) .tail) ws ≡ true →
+          isGood Γ vs s (lineWith (kindNumbered (statementNumber (computing o))) ws) ≡ plainGood Γ vs ws (statementNumber (computing o))
+      computes-good sum = compute-good Γ vs s sum ws
+      computes-good difference = compute-good Γ vs s difference ws
 
   pub plain-bytes : (k : ℕ) → isPlain k ≡ true → l < 65536 → GoodOf k → RowBytes (rowOf k)
-  unfolding plainRow plainGood setRow newRow callRow returnRow
+  unfolding plainRow plainGood setRow newRow callRow returnRow computeRow isComputing statementNumber
   plain-bytes k e line =
       let small : (r : Operands) → r .member < 256 → r .line < 65536 → OperandsFit (counts c) 0 r → RowBytes r =
       λ r. row-bytes (counts c) 0 r (omega arith) in
@@ -93,12 +104,19 @@ module _ (t w : List ℕ) (c : Counts.Names) (fits : NamesFit c) (l : ℕ) (ws :
       (λ x. small (rowOf 12) (omega arith) line (return-ok t w c fits 0 l ws x))
       (λ x. small (rowOf 16) (omega arith) line (empty-ok t w c fits 0 l 16 (omega arith, omega arith) (omega arith)))
       (λ x. small (rowOf 18) (omega arith) line (empty-ok t w c fits 0 l 18 (omega arith, omega arith) (omega arith)))
+      (λ o. computes-small small o)
+    where
+      computes-small :
+          ((r : Operands) → r .member < 256 → r .line < 65536 → OperandsFit (counts c) 0 r → RowBytes r) → (o : Operation) →
+          GoodOf (statementNumber (computing o)) → RowBytes (rowOf (statementNumber (computing o)))
+      computes-small small sum x = small (rowOf 19) (omega arith) line (compute-ok t w c fits 0 l sum ws x)
+      computes-small small difference x = small (rowOf 20) (omega arith) line (compute-ok t w c fits 0 l difference ws x)
 
   plain-written :
       (F : Program) (n : ℕ) → length (F .rows) < most-statements → Holds (counts c) w F n → (k : ℕ) → isPlain k ≡ true → GoodOf k →
       Holds (counts c) (putRow w (length (F .rows)) (rowOf k))
       (withItem F l (itemOf Γ vs (kindNumbered k) (lineWith (kindNumbered k) ws))) n
-  unfolding kindNumbered kindAt Base.withDefault Base.first Grammar.kindNumber Grammar.statementNumber plainRow plainGood
+  unfolding kindNumbered kindAt Base.withDefault Base.first Grammar.kindNumber Grammar.statementNumber isComputing plainRow plainGood
   plain-written F n room h k e =
       plain-kinds
       (λ k.
@@ -112,6 +130,15 @@ module _ (t w : List ℕ) (c : Counts.Names) (fits : NamesFit c) (l : ℕ) (ws :
       (return-written t w c fits n l F room h ws)
       (λ x. else-written t w c fits n l F room h ws)
       (λ x. end-written t w c fits n l F room h ws)
+      (λ o. computes-written o)
+    where
+      computes-written :
+          (o : Operation) → GoodOf (statementNumber (computing o)) →
+          Holds (counts c) (putRow w (length (F .rows)) (rowOf (statementNumber (computing o))))
+          (withItem F l
+          (itemOf Γ vs (kindNumbered (statementNumber (computing o))) (lineWith (kindNumbered (statementNumber (computing o))) ws))) n
+      computes-written sum = compute-written t w c fits n l F room h sum ws
+      computes-written difference = compute-written t w c fits n l F room h difference ws
 
 -- THE ANSWER
 pub row-is : (b : Bool) (o p : Operands) (q : TriedRow) → q ≡ TriedRow.Row p → RowTried b o q → (b ≡ true) × (p ≡ o)

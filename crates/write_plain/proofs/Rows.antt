@@ -11,7 +11,7 @@ use borrow.Author.Tests.{ltb-true, not-true}
 use Rattle.rules.specs.Base.{Name, any, eqName}
 use Rattle.rules.specs.Limits.{most-statements}
 use Rattle.rules.specs.Text.{reserved}
-use Rattle.rules.specs.Grammar.{Kind, IsStatementNumber, statement, Set, New, Call, Return, Else, End}
+use Rattle.rules.specs.Grammar.{Kind, IsStatementNumber, statementNumber, isComputing, statement, Set, New, Call, Return, Else, End}
 use Rattle.rules.specs.Scope as Scopes
 use Rattle.rules.specs.Scope.{Declarations, Variable}
 use Rattle.rules.specs.Names as Names
@@ -26,21 +26,22 @@ use Rattle.read_names.specs.Rows.{nameIn}
 use Rattle.read_scopes.specs.Meanings.{NamesFit, declarationsIn, variablesIn}
 use Rattle.read_lookups.proofs.LookUps.{class-any, method-any}
 use Rattle.tables.specs.Layout.{most-names, frame-variables}
-use Rattle.rules.specs.Syntax.{Program}
+use Rattle.rules.specs.Syntax.{Operation, sum, difference, Program}
 use Rattle.rules.specs.Reading.{withItem}
 use Rattle.tables.specs.declared.Operands.{Operands}
 use Rattle.write_rows.specs.Puts.{putRow}
 use Rattle.write_rows.specs.Holds.{Holds}
+use Rattle.tables.specs.Decode.{operationOf}
 use Rattle.tables.specs.Tables.{OperandsFit}
-use Rattle.tables.proofs.Statements.{set-means, new-means, call-means, return-means, else-means, end-means}
+use Rattle.tables.proofs.Statements.{set-means, new-means, call-means, return-means, else-means, end-means, compute-means}
 use Rattle.write_rows.proofs.Rows.{row-written}
 use Rattle.resolve_pass.specs.Passes.{counts}
 use Rattle.read_declarations.specs.Texts.{SpanAfter}
 use Rattle.read_declarations.specs.Declares.{lineWith}
 use Rattle.read_types.specs.Types.{good}
 use Rattle.resolve_atoms.proofs.Sides.{variable-small, field-small}
-use Rattle.write_plain.specs.Plain.{bare, setRow, newRow, callRow, returnRow, setGood, newGood, callApart, callKnown, callGood, returnGood}
-use Rattle.write_plain.proofs.Goods.{local-known}
+use Rattle.write_plain.specs.Plain.{bare, setRow, newRow, callRow, returnRow, computeRow, setGood, newGood, callApart, callKnown, callGood, returnGood, computeGood}
+use Rattle.write_plain.proofs.Goods.{local-known, int-known, computing}
 
 -- the fourth field of a line
 pub fourth :
@@ -144,6 +145,30 @@ module _ (t w : List ℕ) (c : Counts.Names) (fits : NamesFit c) (n l : ℕ) whe
       (variable-small t w c fits (getD ws 1 []) (b .0)) (variable-small t w c fits (getD ws 3 []) (d .0)) (λ i. absurd (omega arith)) (λ i. absurd (omega arith))
       (λ j. method-known (getD ws 1 []) (getD ws 2 []) (m .1) (m .0))
 
+  pub compute-ok :
+      (o : Operation) (ws : List Name) → computeGood Γ vs ws ≡ true →
+      OperandsFit (counts c) n (computeRow Γ vs ws l (statementNumber (computing o)))
+  unfolding computeGood computeRow statementNumber
+  compute-ok o ws e =
+      let a = both-true (isLocal (variableNumber vs (getD ws 0 []))) _ e in
+      let b = both-true (isInt vs (getD ws 0 [])) _ (a .1) in
+      let d = both-true (isInt vs (getD ws 1 [])) _ (b .1) in
+      let x = variable-small t w c fits (getD ws 0 []) (local-known vs (getD ws 0 []) (a .0)) in
+      let y = variable-small t w c fits (getD ws 1 []) (int-known vs (getD ws 1 []) (d .0)) in
+      let z = variable-small t w c fits (getD ws 2 []) (int-known vs (getD ws 2 []) (d .1)) in
+      go o x y z
+    where
+      ok : (k x y z : ℕ) → IsStatementNumber k → 18 < k → x < frame-variables → y < frame-variables → z < frame-variables → OperandsFit (counts c) n (bare k x y z 0 l)
+      ok k x y z is h p q r =
+          bare-ok k x y z 0 is (λ e. omega arith) (λ e. omega arith) p q r (λ i. absurd (omega arith)) (λ i. absurd (omega arith))
+          (λ i. absurd (omega arith))
+
+      go :
+          (o : Operation) {x y z : ℕ} → x < frame-variables → y < frame-variables → z < frame-variables →
+          OperandsFit (counts c) n (bare (statementNumber (computing o)) x y z 0 l)
+      go sum = ok 19 _ _ _ (omega arith, omega arith) (omega arith)
+      go difference = ok 20 _ _ _ (omega arith, omega arith) (omega arith)
+
   pub empty-ok : (k : ℕ) → IsStatementNumber k → 15 < k → OperandsFit (counts c) n (bare k 0 0 0 0 l)
   empty-ok k h d =
       bare-ok k 0 0 0 0 h (λ e. omega arith) (λ e. omega arith) (omega arith) (omega arith) (omega arith) (λ i. absurd (omega arith))
@@ -171,6 +196,15 @@ module _ (t w : List ℕ) (c : Counts.Names) (fits : NamesFit c) (n l : ℕ) whe
     unfolding itemOf Items.resolveStatement Scopes.operand returnRow
     return-written ws x =
         row-written (counts c) w F n (returnRow Γ vs ws l) _ room (return-ok ws x) (return-means w (returnRow Γ vs ws l) refl) h
+
+    pub compute-written :
+        (o : Operation) (ws : List Name) → computeGood Γ vs ws ≡ true →
+        Written (computeRow Γ vs ws l (statementNumber (computing o))) (statement (computing o)) ws
+    unfolding itemOf Items.resolveStatement Items.resolveCompute Scopes.operand computeRow statementNumber isComputing operationOf
+    compute-written sum ws x =
+        row-written (counts c) w F n (computeRow Γ vs ws l 19) _ room (compute-ok sum ws x) (compute-means w (computeRow Γ vs ws l 19) tt) h
+    compute-written difference ws x =
+        row-written (counts c) w F n (computeRow Γ vs ws l 20) _ room (compute-ok difference ws x) (compute-means w (computeRow Γ vs ws l 20) tt) h
 
     pub else-written : (ws : List Name) → Written (bare 16 0 0 0 0 l) (statement Else) ws
     unfolding itemOf Items.resolveStatement

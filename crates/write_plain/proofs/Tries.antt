@@ -22,7 +22,7 @@ use Rattle.tables.specs.declared.Operands.{Operands}
 use Rattle.read_declarations.specs.Texts.{SpanAfter}
 use Rattle.read_declarations.proofs.Lines.{second, third}
 use Rattle.write_plain.specs.declared.TriedRow.{TriedRow}
-use Rattle.write_plain.specs.Plain.{bare, setRow, newRow, callRow, returnRow, setGood, newGood, callApart, callKnown, callAgrees, callGood, returnGood, RowTried}
+use Rattle.write_plain.specs.Plain.{bare, setRow, newRow, callRow, returnRow, computeRow, setGood, newGood, callApart, callKnown, callAgrees, callGood, returnGood, computeGood, RowTried, mayCompute}
 use Rattle.write_plain.proofs.Rows.{fourth}
 
 pub row-as : (a b : Bool) (o p : Operands) (q : TriedRow) → a ≡ b → o ≡ p → RowTried a o q → RowTried b p q
@@ -172,3 +172,17 @@ module _ (t w : List ℕ) (c : Names) (r l : ℕ) where
     return-tried {s} k {g} {o} q u n z e f i =
         row-as g _ o _ q (e ∙ (λ j. sym (R .known ∙ u) j && eqName ((ap (nameIn t) z ∙ sym (R .type)) j) (n j)))
         (f ∙ (λ j. bare 12 (R .number j) 0 0 0 l)) i
+
+  -- ADD, SUB
+  pub compute-tried :
+      {a b d : Span} {x y z k : ℕ} {g : Bool} {o : Operands} (q : TriedRow) → SpanAfter t r a → SpanAfter t (a .start + a .len) b →
+      SpanAfter t (b .start + b .len) d → Looked t w vs (nameIn t a) x → Looked t w vs (nameIn t b) y → Looked t w vs (nameIn t d) z →
+      g ≡ mayCompute t w x y z → o ≡ bare k x y z 0 l → RowTried g o q → RowTried (computeGood Γ vs ws) (computeRow Γ vs ws l k) q
+  unfolding computeGood computeRow isInt
+  compute-tried {k = k} {g = g} {o = o} q p p2 p3 hx hy hz e f h =
+      let X : Looked t w vs (getD ws 0 []) _ = looked-as _ (p .name) hx in
+      let Y : Looked t w vs (getD ws 1 []) _ = looked-as _ (second p p2) hy in
+      let Z : Looked t w vs (getD ws 2 []) _ = looked-as _ (third p p2 p3) hz in
+      row-as g _ o _ q
+      (e ∙ (λ j. isLocal (X .number j) && (is "int" (sym (X .type) j) && (is "int" (sym (Y .type) j) && is "int" (sym (Z .type) j)))))
+      (f ∙ (λ j. bare k (X .number j) (Y .number j) (Z .number j) 0 l)) h

@@ -1,14 +1,15 @@
--- Rows of the statements that have no atoms: `set`, `new`, `call`, `return`, `else`, `end`.
+-- Rows of the statements that have no atoms: `set`, `new`, `call`, `return`, `else`, `end`, `add`, `sub`.
 use mathlib.Core.Path.{_≡_}
 use mathlib.Core.Bool.{Bool, true, false, not, cond, _&&_, _||_}
 use mathlib.Core.List.{List, []}
 use Prim.Native.Nat.{ℕ, _≤_}
 use lib.Dec.{eqb, ltb}
 use lib.ListN.{length, getD, drop}
-use Rattle.rules.specs.Base.{Name, bytes, eqName}
+use Rattle.rules.specs.Base.{Name, bytes, is, eqName}
 use Rattle.rules.specs.Limits.{work-bytes}
 use Rattle.rules.specs.Syntax.{path}
 use Rattle.rules.specs.Text.{reserved}
+use Rattle.rules.specs.Grammar.{isComputing}
 use Rattle.rules.specs.Scope.{MethodDeclaration, Declarations, Variable, Scope}
 use Rattle.rules.specs.Names.{isLocal, inScope, isInt, isClass, knownMethod, variableNumber, variableType, fieldNumber, fieldType, classNumber, methodNumber, methodOfClass}
 use Rattle.rules.specs.Items.{itemOf}
@@ -49,10 +50,19 @@ module _ (Γ : Declarations) (vs : List Variable) (ws : List Name) (l : ℕ) whe
   unfoldable pub returnRow : Operands
   returnRow = bare 12 (variableNumber vs (getD ws 0 [])) 0 0 0 l
 
+  -- `add` or `sub`, by its number
+  unfoldable pub computeRow : ℕ → Operands
+  computeRow k = bare k (variableNumber vs (getD ws 0 [])) (variableNumber vs (getD ws 1 [])) (variableNumber vs (getD ws 2 [])) 0 l
+
   -- by the number of its kind
   unfoldable pub plainRow : ℕ → Operands
   plainRow k =
-      cond (eqb k 8) setRow (cond (eqb k 10) newRow (cond (eqb k 11) callRow (cond (eqb k 12) returnRow (bare k 0 0 0 0 l))))
+      cond (eqb k 8) setRow
+      (cond (eqb k 10) newRow
+      (cond (eqb k 11) callRow
+      (cond (eqb k 12) returnRow
+      (cond (isComputing k) (computeRow k)
+      (bare k 0 0 0 0 l)))))
 
 -- THE TESTS OF NUMBERS 6, 7 AND 9, by kind, of a line of these fields that has its form
 
@@ -100,9 +110,19 @@ module _ (Γ : Declarations) (vs : List Variable) (ws : List Name) where
       let x : Name = getD ws 0 [] in
       inScope vs x && eqName (variableType vs x) (variableType vs (bytes "result"))
 
+  -- all three are int, and x is a local
+  unfoldable pub computeGood : Bool
+  computeGood = isLocal (variableNumber vs (getD ws 0 [])) && (isInt vs (getD ws 0 []) && (isInt vs (getD ws 1 []) && isInt vs (getD ws 2 [])))
+
   -- by the number of its kind; `else` and `end` name nothing
   unfoldable pub plainGood : ℕ → Bool
-  plainGood k = cond (eqb k 8) setGood (cond (eqb k 10) newGood (cond (eqb k 11) callGood (cond (eqb k 12) returnGood true)))
+  plainGood k =
+      cond (eqb k 8) setGood
+      (cond (eqb k 10) newGood
+      (cond (eqb k 11) callGood
+      (cond (eqb k 12) returnGood
+      (cond (isComputing k) computeGood
+      true))))
 
 -- the row o just if the test is passed
 unfoldable pub RowTried : Bool → Operands → TriedRow → Type 0
@@ -126,9 +146,14 @@ mayHold t w c x k s =
 abbrev pub agreeWith : List ℕ → List ℕ → ℕ → ℕ → MethodDeclaration → Bool
 agreeWith t w x z m = eqName (nameIn t (typeOf w x)) (m .result) && eqName (nameIn t (typeOf w z)) (m .parameterType)
 
--- by the number of the kind: 8 `set`, 10 `new`, 11 `call`, 12 `return`, 16 `else`, 18 `end`
+-- x is a local, and the variables are int
+abbrev pub mayCompute : List ℕ → List ℕ → ℕ → ℕ → ℕ → Bool
+mayCompute t w x y z =
+    isLocal x && (is "int" (nameIn t (typeOf w x)) && (is "int" (nameIn t (typeOf w y)) && is "int" (nameIn t (typeOf w z))))
+
+-- by the number of the kind: 8 `set`, 10 `new`, 11 `call`, 12 `return`, 16 `else`, 18 `end`; `add` and `sub`
 unfoldable pub isPlain : ℕ → Bool
-isPlain k = eqb k 8 || (eqb k 10 || (eqb k 11 || (eqb k 12 || (eqb k 16 || eqb k 18))))
+isPlain k = eqb k 8 || (eqb k 10 || (eqb k 11 || (eqb k 12 || (eqb k 16 || (eqb k 18 || isComputing k)))))
 
 -- the line of this kind whose word ends at r has its form
 pub record PlainFollows (t : List ℕ) (k r : ℕ) : Type 0 where

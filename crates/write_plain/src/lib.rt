@@ -16,7 +16,7 @@ ghost use Rattle.rules.specs.Names.{isLocal, noDeclaration};
 ghost use Rattle.read_names.specs.Rows.{nameIn};
 ghost use Rattle.read_scopes.specs.Meanings.{AreaFits, declarationsIn, variablesIn};
 ghost use Rattle.read_lookups.specs.LookUps.{Looked, typeOf};
-ghost use Rattle.write_plain.specs.Plain.{bare, setRow, newRow, callRow, returnRow, plainRow, setGood, newGood, callGood, returnGood, plainGood, RowTried, TriedAfter, mayHold, agreeWith, PlainFollows, PlainTried};
+ghost use Rattle.write_plain.specs.Plain.{bare, setRow, newRow, callRow, returnRow, computeRow, plainRow, setGood, newGood, callGood, returnGood, computeGood, plainGood, RowTried, TriedAfter, mayHold, agreeWith, mayCompute, PlainFollows, PlainTried};
 
 // The row of a line, if the line is good.
 pub enum TriedRow {
@@ -221,6 +221,38 @@ fn return_row(text: &[u8], work: &[u8], c: Names, r: usize, line: usize) -> Trie
     row_if(good, row(Kind::RETURN, x, 0, 0, 0, line))
 }
 
+// Is x a local, and are all three int? A name that is no variable's has no type.
+fn may_compute(text: &[u8], work: &[u8], x: usize, y: usize, z: usize) -> bool
+    requires { ⌜ (length (now work) ≡ work-bytes) × (x ≤ 15) × (y ≤ 15) × (z ≤ 15) ⌝ }
+    ensures { λ r. ⌜ r ≡ mayCompute (now (text .entry)) (now (work .entry)) x y z ⌝ }
+{
+    if !is_local(x) {
+        return false;
+    }
+    if !read_lookups::is_int(text, read_lookups::type_of(work, x)) {
+        return false;
+    }
+    if !read_lookups::is_int(text, read_lookups::type_of(work, y)) {
+        return false;
+    }
+    read_lookups::is_int(text, read_lookups::type_of(work, z))
+}
+
+// `add x y z` and `sub x y z`
+fn compute_row(text: &[u8], work: &[u8], c: Names, kind: u8, r: usize, line: usize) -> TriedRow
+    requires { ⌜ AreaFits (now work) c × (r ≤ length (now text)) ⌝ }
+    ensures { λ o. ⌜ TriedAfter (now (text .entry)) (now (work .entry)) c r computeGood (λ Γ vs ws l. computeRow Γ vs ws l kind) line o ⌝ }
+{
+    let a = read_declarations::span_after(text, r);
+    let b = read_declarations::span_after(text, a.start + a.len);
+    let d = read_declarations::span_after(text, b.start + b.len);
+    let x = variable_at(text, work, c, a);
+    let y = variable_at(text, work, c, b);
+    let z = variable_at(text, work, c, d);
+    let good = may_compute(text, work, x, y, z);
+    row_if(good, row(kind, x, y, z, 0, line))
+}
+
 // The row of a line of this kind; `else` and `end` have no operands.
 pub fn plain_row(text: &[u8], work: &[u8], c: Names, kind: u8, r: usize, line: usize) -> TriedRow
     requires { ⌜ AreaFits (now work) c × (r ≤ length (now text)) ⌝ }
@@ -231,6 +263,8 @@ pub fn plain_row(text: &[u8], work: &[u8], c: Names, kind: u8, r: usize, line: u
         Kind::NEW => new_row(text, work, c, r, line),
         Kind::CALL => call_row(text, work, c, r, line),
         Kind::RETURN => return_row(text, work, c, r, line),
+        Kind::ADD => compute_row(text, work, c, Kind::ADD, r, line),
+        Kind::SUB => compute_row(text, work, c, Kind::SUB, r, line),
         _ => row_if(true, row(kind, 0, 0, 0, 0, line)),
     }
 }

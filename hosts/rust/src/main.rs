@@ -11,7 +11,7 @@ fn license(name: &str) -> Result<(), Box<dyn Error>> {
     let outcome = station.check(&text)?.run(&mut station, 1_000);
     match outcome.ending() {
         AcceptedEnding::Finished => println!("{outcome}"),
-        AcceptedEnding::Stopped(stop) => println!("for want of room ({stop:?}): {outcome}"),
+        AcceptedEnding::Stopped(stop) => println!("without its end ({stop:?}): {outcome}"),
         _ => println!("{outcome}"),
     }
     for variable in outcome.variables() {

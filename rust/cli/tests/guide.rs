@@ -197,7 +197,7 @@ fn mends() {
             "{number}"
         );
     }
-    for number in 22..=26 {
+    for number in 22..=27 {
         assert!(
             mends.contains(&format!("examples/stopped-{number}.script")),
             "{number}"

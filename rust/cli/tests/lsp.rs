@@ -189,6 +189,14 @@ fn hover_definition_formatting() {
         .and_then(Json::text)
         .expect("a hover");
     assert!(shown.contains("adds:   eq c.tag k"), "{shown}");
+    client.change(&example("sum.script"));
+    let hover = client.at("textDocument/hover", 5, 0);
+    let shown = hover
+        .at(&["contents", "value"])
+        .and_then(Json::text)
+        .expect("a hover");
+    assert!(shown.starts_with("`add x y z`\n"), "{shown}");
+    client.change(&example("tag.script"));
     let line = |answer: &Json| answer.at(&["range", "start", "line"]).and_then(Json::int);
     // `call r c mark k`: the variable, the method, the class of `new`.
     let found = client.at("textDocument/definition", 15, 5);
@@ -232,7 +240,9 @@ fn completion_of_names_in_scope() {
     assert_eq!(client.labels(9, 4), ["c"]);
     assert_eq!(client.labels(13, 6), ["Card"]);
     assert_eq!(client.labels(8, 4), ["int", "Card"]);
-    assert!(client.labels(12, 0).contains(&"let".to_string()));
+    for word in ["let", "add", "sub"] {
+        assert!(client.labels(12, 0).contains(&word.to_string()));
+    }
     assert!(!client.labels(12, 0).contains(&"return".to_string()));
     client.end();
 }

@@ -116,8 +116,9 @@ pub const EXPLANATIONS: &[Explanation] = &[
         number: 7,
         title: "a wrong type",
         meaning: "Both sides of `eq`, `ne`, `let` and `set`, an argument and its parameter, a result \
-                  and what takes it are both int, or both null or of one class. Only a variable of a \
-                  class has fields and methods. The variable of `new` is of that class.",
+                  and what takes it are both int, or both null or of one class. All three variables of \
+                  `add` and `sub` are int. Only a variable of a class has fields and methods. The \
+                  variable of `new` is of that class.",
         mend: "give both sides one type: change the declaration, or name another variable",
         example: example!("refused-07"),
     },
@@ -133,8 +134,8 @@ pub const EXPLANATIONS: &[Explanation] = &[
     Explanation {
         number: 9,
         title: "a variable that may not be assigned here",
-        meaning: "`let`, `new` and `call` may not assign `this`, the parameter or `result`, and the \
-                  x of `call x y m z` may be neither y nor z.",
+        meaning: "`let`, `new`, `call`, `add` and `sub` may not assign `this`, the parameter or \
+                  `result`, and the x of `call x y m z` may be neither y nor z.",
         mend: "assign a local variable instead; `return` is what sets `result`",
         example: example!("refused-09"),
     },
@@ -169,7 +170,8 @@ pub const EXPLANATIONS: &[Explanation] = &[
         title: "an `eq` or `ne` that is not shown",
         meaning: "What is known here does not make the two sides equal, or different. A call forgets \
                   what was known of the fields that it is handed, `join` all but its formula, and an \
-                  assignment what was known of its variable.",
+                  assignment what was known of its variable. Of what `add` and `sub` give nothing is \
+                  known.",
         mend: "state the fact where it is lost: in `ensures`, in `join`, or by `if`",
         example: example!("refused-13"),
     },
@@ -228,5 +230,15 @@ pub const EXPLANATIONS: &[Explanation] = &[
                   of a call or the `ensures` of a method. An accepted text never stops so.",
         mend: "check the text, and compare the values that the run left with the formula",
         example: example!("stopped-26"),
+    },
+    Explanation {
+        number: 27,
+        title: "a sum or difference beyond 32 bits",
+        meaning: "An `add` or `sub` would give less than -2147483648 or more than 2147483647. The \
+                  step is not done, and the variable keeps its value. The checker does not compute, \
+                  so an accepted text may stop so too.",
+        mend: "test before adding, by `if eq` the number at which counting must end, or keep counts \
+               small",
+        example: example!("stopped-27"),
     },
 ];

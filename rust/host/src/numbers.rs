@@ -75,6 +75,8 @@ numbered! {
         NullFollowed = 25,
         /// 26: an `eq` or `ne` was false.
         FormulaFalse = 26,
+        /// 27: a sum or difference beyond 32 bits signed.
+        Overflow = 27,
     }
 }
 
@@ -88,6 +90,8 @@ numbered! {
         HeapFull = 22,
         /// 23: no room for a further frame.
         FramesFull = 23,
+        /// 27: a sum or difference beyond 32 bits signed.
+        Overflow = 27,
     }
 }
 

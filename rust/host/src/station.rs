@@ -114,7 +114,8 @@ impl<'t> Accepted<'t> {
     }
 
     /// Runs the text for at most so many steps. It finishes, or stops for want
-    /// of room: an [`AcceptedEnding`] has no other case, by a theorem.
+    /// of room or at a sum beyond 32 bits: an [`AcceptedEnding`] has no other
+    /// case, by a theorem.
     ///
     /// ```
     /// use nuyardi::{AcceptedEnding, AcceptedStop};

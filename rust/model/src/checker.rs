@@ -396,6 +396,11 @@ fn watched<'a, W: Watch<'a>>(
     match action {
         Action::Let(x, expr) => state.assign(*x, *expr, at),
         Action::Return(x) => state.assign(RESULT, Expr::Var(*x), at),
+        // W1: "The checker removes x and keeps no fact of the new value."
+        Action::Compute(compute) => {
+            state.remove(compute.x, Term::Null);
+            Ok(())
+        }
         Action::New(x, class) => state.create(*x, &program.classes[*class]),
         Action::Set(path, y) => state.set(*path, *y, at),
         Action::Call(call) => state.call(*call, &program.blocks[call.method], at),

@@ -51,6 +51,8 @@ pub enum Fault<'a> {
     },
     /// An int variable before a field or method.
     NoObject(Name<'a>),
+    /// An object variable in an `add` or `sub`.
+    NoInt(Name<'a>),
     /// `this`, w or `result` assigned.
     Assigned(Name<'a>),
     /// The x of a call is also its y or z.

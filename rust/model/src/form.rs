@@ -92,6 +92,18 @@ pub const SHAPES: &[Shape] = &[
         "let\tx\t0",
     ),
     shape(
+        "add",
+        &[("x", Variable), ("y", Variable), ("z", Variable)],
+        Tail::Nothing,
+        "add\tx\ty\tz",
+    ),
+    shape(
+        "sub",
+        &[("x", Variable), ("y", Variable), ("z", Variable)],
+        Tail::Nothing,
+        "sub\tx\ty\tz",
+    ),
+    shape(
         "new",
         &[("x", Variable), ("C", Name)],
         Tail::Nothing,

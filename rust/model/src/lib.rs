@@ -1,5 +1,6 @@
-//! A model of catalogue scripts, written from document 01 alone: the text, the
-//! permission check and the machine, in the paper's order. It is clear before
+//! A model of catalogue scripts, written from document 01 and the requests of
+//! document 02 alone (W1 and so on, as far as they landed): the text, the
+//! permission check and the machine, in the papers' order. It is clear before
 //! it is fast, and it shares nothing with the code that it is compared with.
 
 #![forbid(unsafe_code)]

@@ -1,9 +1,9 @@
-//! The machine: the numbers 0 and 21 to 26 of a run.
+//! The machine: the numbers 0 and 21 to 27 of a run.
 
 use crate::limits;
 use crate::names::{
-    Action, Atom, Block, Call, Expr, Path, Program, Statement, Var, FIRST_LOCAL, PARAM, RESULT,
-    THIS, VARS,
+    Action, Atom, Block, Call, Compute, Expr, Path, Program, Statement, Var, FIRST_LOCAL, PARAM,
+    RESULT, THIS, VARS,
 };
 use crate::number;
 use crate::watch::{Halt, Tested};
@@ -234,6 +234,7 @@ impl<'p, 'a> Machine<'p, 'a> {
                 let value = self.reader().value(*expr)?;
                 self.assign(*x, value);
             }
+            Action::Compute(compute) => self.compute(*compute)?,
             Action::New(x, class) => self.create(*x, *class)?,
             Action::Return(x) => self.assign(RESULT, self.frame().values[*x]),
             Action::Assert(formula) | Action::Join(formula) => {
@@ -258,6 +259,16 @@ impl<'p, 'a> Machine<'p, 'a> {
 
     fn assign(&mut self, x: Var, value: i32) {
         self.frame_mut().values[x] = value;
+    }
+
+    /// W1: "A result beyond 32 bits signed stops the run: ... a run has stop 27,
+    /// tested when the value is known".
+    fn compute(&mut self, compute: Compute) -> Outcome<'a, ()> {
+        let values = &self.frame().values;
+        let (y, z) = (values[compute.y], values[compute.z]);
+        let value = compute.operator.value(y, z);
+        self.assign(compute.x, value.ok_or(Halt::of(number::OVERFLOW))?);
+        Ok(())
     }
 
     fn condition(&self, condition: Atom<'a>) -> Outcome<'a, bool> {

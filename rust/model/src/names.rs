@@ -4,7 +4,7 @@
 use crate::faults::{Fault, Faults, Noted, Role, Sides};
 use crate::limits;
 use crate::number::{self, Refusal};
-use crate::text::{self, reserved, Line, Name};
+use crate::text::{self, reserved, Line, Name, Operator};
 
 /// The place of a variable in a frame. The places rise in the paper's order:
 /// "`this`, w, locals, `result`".
@@ -62,6 +62,7 @@ pub type Formula<'a> = Vec<Atom<'a>>;
 pub enum Action<'a> {
     Set(Path<'a>, Var),
     Let(Var, Expr<'a>),
+    Compute(Compute),
     /// The variable and the class, a place in the program's list of classes.
     New(Var, usize),
     Call(Call),
@@ -85,6 +86,15 @@ impl<'a> Action<'a> {
             _ => None,
         }
     }
+}
+
+/// `add x y z` or `sub x y z`.
+#[derive(Clone, Copy, Debug, PartialEq, Eq)]
+pub struct Compute {
+    pub operator: Operator,
+    pub x: Var,
+    pub y: Var,
+    pub z: Var,
 }
 
 /// `call x y m z`; the method is a place in the program's list of blocks.
@@ -393,7 +403,8 @@ impl<'p, 'a> Scope<'p, 'a> {
         (atoms.len() == formula.len()).then_some(atoms)
     }
 
-    /// "`this`, w or `result` assigned by `let`, `new` or `call`" is 9.
+    /// "`this`, w or `result` assigned by `let`, `new` or `call`" is 9, and W1:
+    /// "Number 9 covers these lines too: x may not be w or `result`."
     fn assigned(&mut self, name: Name<'a>) -> Option<(Var, Type<'a>)> {
         let found = self.var(name)?;
         let local = (FIRST_LOCAL..RESULT).contains(&found.0);
@@ -419,6 +430,33 @@ impl<'p, 'a> Scope<'p, 'a> {
         let left = (text::Expr::Var(x), Kind::Of(var_kind));
         self.same(Sides::Let, left, (expr, value_kind));
         Some(Action::Let(var, value))
+    }
+
+    /// "the int x ... the int variables y and z": each that is not int is 7.
+    fn int(&mut self, name: Name<'a>, found: Option<(Var, Type<'a>)>) -> Option<Var> {
+        let (var, kind) = found?;
+        self.faults
+            .note_if(kind != Type::Int, number::TYPE, Fault::NoInt(name));
+        Some(var)
+    }
+
+    fn compute(
+        &mut self,
+        operator: Operator,
+        x: Name<'a>,
+        y: Name<'a>,
+        z: Name<'a>,
+    ) -> Option<Action<'a>> {
+        let assigned = self.assigned(x);
+        let (one, other) = (self.var(y), self.var(z));
+        let assigned = self.int(x, assigned);
+        let (one, other) = (self.int(y, one), self.int(z, other));
+        Some(Action::Compute(Compute {
+            operator,
+            x: assigned?,
+            y: one?,
+            z: other?,
+        }))
     }
 
     /// "the x of `new` is of class C, else 7". The class must be declared.
@@ -495,6 +533,7 @@ impl<'p, 'a> Scope<'p, 'a> {
         match *line {
             Line::Set(x, field, y) => self.set(x, field, y),
             Line::Let(x, expr) => self.assign(x, expr),
+            Line::Compute(operator, x, y, z) => self.compute(operator, x, y, z),
             Line::New(x, class) => self.create(x, class),
             Line::Call(x, y, m, z) => self.call(x, y, m, z),
             Line::Return(x) => self.give_back(x),

@@ -1,4 +1,5 @@
-//! The numbers that the two calls return, as the table of document 01 has them.
+//! The numbers that the two calls return, as the table of document 01 has them,
+//! with those of document 02.
 
 /// Check: accepted. Run: main's `end` done.
 pub const DONE: u32 = 0;
@@ -43,6 +44,9 @@ pub const PERMISSION_MISSING: u32 = 24;
 pub const NULL_FOLLOWED: u32 = 25;
 /// Formula false.
 pub const FORMULA_FALSE: u32 = 26;
+
+/// A sum or difference beyond 32 bits signed (W1).
+pub const OVERFLOW: u32 = 27;
 
 /// A text refused: the number and the line that the table gives.
 #[derive(Clone, Copy, Debug, PartialEq, Eq)]

@@ -24,6 +24,32 @@ pub enum Atom<'a> {
     Ne(Expr<'a>, Expr<'a>),
 }
 
+/// "New lines `add x y z` and `sub x y z` give the int x the sum or difference
+/// of the int variables y and z".
+#[derive(Clone, Copy, Debug, PartialEq, Eq)]
+pub enum Operator {
+    Add,
+    Sub,
+}
+
+impl Operator {
+    /// The line's word.
+    pub fn word(self) -> &'static str {
+        match self {
+            Operator::Add => "add",
+            Operator::Sub => "sub",
+        }
+    }
+
+    /// The sum or difference; none if it is "beyond 32 bits signed".
+    pub fn value(self, y: i32, z: i32) -> Option<i32> {
+        match self {
+            Operator::Add => y.checked_add(z),
+            Operator::Sub => y.checked_sub(z),
+        }
+    }
+}
+
 /// A formula: the atoms of one line.
 pub type Formula<'a> = Vec<Atom<'a>>;
 
@@ -50,6 +76,8 @@ pub enum Line<'a> {
     },
     Set(Name<'a>, Name<'a>, Name<'a>),
     Let(Name<'a>, Expr<'a>),
+    /// `add x y z` or `sub x y z`.
+    Compute(Operator, Name<'a>, Name<'a>, Name<'a>),
     New(Name<'a>, Name<'a>),
     Call(Name<'a>, Name<'a>, Name<'a>, Name<'a>),
     Return(Name<'a>),
@@ -173,6 +201,8 @@ fn named_line<'a>(word: &[u8], names: &[Name<'a>]) -> Option<Line<'a>> {
         (b"main", &[]) => Line::Main,
         (b"var", &[kind, name]) => Line::Var { kind, name },
         (b"set", &[x, f, y]) => Line::Set(x, f, y),
+        (b"add", &[x, y, z]) => Line::Compute(Operator::Add, x, y, z),
+        (b"sub", &[x, y, z]) => Line::Compute(Operator::Sub, x, y, z),
         (b"new", &[x, class]) => Line::New(x, class),
         (b"call", &[x, y, m, z]) => Line::Call(x, y, m, z),
         (b"return", &[x]) => Line::Return(x),
@@ -287,6 +317,7 @@ impl Reader {
         match line {
             Line::Set(..)
             | Line::Let(..)
+            | Line::Compute(..)
             | Line::New(..)
             | Line::Call(..)
             | Line::Assert(_)

@@ -1,18 +1,29 @@
-//! Every case of `cases/base.tsv`, through the two calls for the host.
+//! Every case of `cases`, through the calls for the host and the program: those
+//! of document 01 with the answers of the present level, and those of document
+//! 02, of which a file has the answers of its own level.
 
 use model::limits::{RESULT_BYTES, WORK_BYTES};
-use model::{check_call, run_call};
+use model::{check_call, printed, run_call};
+use std::collections::HashMap;
 
-const CASES: &str = include_str!("cases/base.tsv");
+/// The cases of document 01.
+const BASE: &str = include_str!("cases/base.tsv");
+/// Those of them that have another answer at the present level.
+const BASE_NOW: &str = "";
 
-/// A call of the file: `check`, `check/W`, `run` or `run/W/R`.
+/// The cases of a level: the request, the file, how many there are, and the
+/// lines of the file that a later request gives another answer.
+type Level = (&'static str, &'static str, usize, &'static [usize]);
+
+const LEVELS: &[Level] = &[("W1", include_str!("cases/w1.tsv"), 162, &[])];
+
+/// A call of a file: `check`, `check/W`, `run` or `run/W/R`, or the program.
 struct Case<'a> {
     call: &'a str,
     work: usize,
     results: usize,
     steps: u32,
     text: Vec<u8>,
-    expected: Vec<i64>,
 }
 
 fn bytes(hex: &str) -> Vec<u8> {
@@ -25,17 +36,16 @@ fn bytes(hex: &str) -> Vec<u8> {
         .collect()
 }
 
-fn parse(line: &str) -> Case<'_> {
-    let (left, right) = line.split_once(" = ").expect("an answer");
+fn parse(left: &str) -> Case<'_> {
     let fields: Vec<&str> = left.split(' ').collect();
     let mut call = fields[0].split('/');
     let name = call.next().expect("a call");
     let mut length = |usual| call.next().map_or(usual, |n| n.parse().expect("a length"));
     let (work, results) = (length(WORK_BYTES), length(RESULT_BYTES));
     let (steps, hex) = match (name, &fields[1..]) {
-        ("check", &[hex]) => (0, hex),
+        ("check" | "program", &[hex]) => (0, hex),
         ("run", &[steps, hex]) => (steps.parse().expect("steps"), hex),
-        _ => panic!("no call: {line}"),
+        _ => panic!("no call: {left}"),
     };
     Case {
         call: name,
@@ -43,7 +53,6 @@ fn parse(line: &str) -> Case<'_> {
         results,
         steps,
         text: bytes(hex),
-        expected: right.split(' ').map(|n| n.parse().expect("n")).collect(),
     }
 }
 
@@ -64,10 +73,14 @@ fn decoded(results: &[u8]) -> Vec<i64> {
 
 /// Makes the call over areas full of garbage and gives its answer as the file
 /// has it; the areas must be as document 01 says.
-fn answer(case: &Case) -> Vec<i64> {
+fn answer(case: &Case) -> String {
     let mut work = vec![0xa5; case.work];
     let mut results = vec![0x5a; case.results];
     let returned = match case.call {
+        "program" => {
+            let printed = printed(&case.text).into_iter();
+            return printed.map(|byte| format!("{byte:02x}")).collect();
+        }
         "check" => check_call(&case.text, &mut work),
         _ => run_call(&case.text, &mut work, case.steps, &mut results),
     };
@@ -75,34 +88,64 @@ fn answer(case: &Case) -> Vec<i64> {
     let refused = answer[0] == 1;
     let rest = if refused { 0xa5 } else { 0 };
     assert!(work.iter().all(|&byte| byte == rest), "the work area");
-    if case.call == "run" && !refused {
-        answer.extend(decoded(&results));
-    } else {
+    if case.call == "check" || refused {
         assert!(results.iter().all(|&byte| byte == 0x5a), "the results area");
+    } else {
+        answer.extend(decoded(&results));
     }
-    answer
+    let answer: Vec<String> = answer.iter().map(i64::to_string).collect();
+    answer.join(" ")
+}
+
+/// The cases of a file: the number of the line, the call, the answer.
+fn cases(file: &str) -> impl Iterator<Item = (usize, &str, &str)> {
+    let lines = file.lines().zip(1..);
+    lines
+        .filter(|(line, _)| !line.starts_with('#'))
+        .map(|(line, at)| {
+            let (call, answer) = line.split_once(" = ").expect("an answer");
+            (at, call, answer)
+        })
+}
+
+/// The case told, if its answer is another one.
+fn wrong(call: &str, expected: &str) -> Option<String> {
+    let case = parse(call);
+    let answer = answer(&case);
+    let (name, steps) = (case.call, case.steps);
+    let text = String::from_utf8_lossy(&case.text).into_owned();
+    (answer != expected).then(|| format!("{name} {steps}: {answer}, expected {expected}\n{text}"))
 }
 
 #[test]
-fn every_case() {
-    let mut wrong = Vec::new();
+fn every_case_of_document_01() {
+    let now: HashMap<&str, &str> = cases(BASE_NOW).map(|(_, call, new)| (call, new)).collect();
     let mut count = 0;
-    for (at, line) in CASES.lines().enumerate() {
-        if line.starts_with('#') {
-            continue;
-        }
+    let mut moved = 0;
+    for (line, call, answer) in cases(BASE) {
         count += 1;
-        let case = parse(line);
-        let answer = answer(&case);
-        if answer != case.expected {
-            let text = String::from_utf8_lossy(&case.text).into_owned();
-            let (call, steps, expected) = (case.call, case.steps, &case.expected);
-            wrong.push(format!(
-                "line {}: {call} {steps}: {answer:?}, expected {expected:?}\n{text}",
-                at + 1
-            ));
-        }
+        let new = now.get(call).copied();
+        moved += usize::from(new.is_some());
+        let wrong = wrong(call, new.unwrap_or(answer));
+        assert_eq!(wrong, None, "line {line}");
     }
-    assert!(wrong.is_empty(), "{}", wrong.join("\n"));
     assert_eq!(count, 533, "all cases are read");
+    assert_eq!(moved, now.len(), "each other answer is of a case");
+}
+
+#[test]
+fn every_case_of_document_02() {
+    for &(request, file, all, moved) in LEVELS {
+        let mut count = 0;
+        let mut others = Vec::new();
+        for (line, call, answer) in cases(file) {
+            count += 1;
+            if let Some(wrong) = wrong(call, answer) {
+                assert!(moved.contains(&line), "{request}, line {line}: {wrong}");
+                others.push(line);
+            }
+        }
+        assert_eq!(count, all, "all cases of {request} are read");
+        assert_eq!(others, moved, "the moved answers of {request}");
+    }
 }

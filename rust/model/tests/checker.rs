@@ -675,3 +675,28 @@ fn variables_of_two_classes_linked_by_null() {
         ),
     ]);
 }
+
+/// W1: "The checker removes x and keeps no fact of the new value."
+#[test]
+fn add_and_sub_remove_their_variable() {
+    checks(&[
+        (&main_with("let a 1\nadd a a a\nassert eq a 2"), 13, 11),
+        (&main_with("let a 1\nsub b a a\nassert eq b 0"), 13, 11),
+        (
+            &main_with("let a 1\nlet b 2\nadd b a a\nassert eq a 1"),
+            0,
+            0,
+        ),
+        (
+            &main_with("let a 1\nlet b a\nadd a a b\nassert eq b 1"),
+            0,
+            0,
+        ),
+        (
+            &main_with("let a 1\nlet b a\nadd a a b\nassert eq a b"),
+            13,
+            12,
+        ),
+        (&main_with("add a a b\nassert eq a a"), 0, 0),
+    ]);
+}

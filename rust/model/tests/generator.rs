@@ -32,7 +32,7 @@ fn every_number_occurs() {
     for number in [0].into_iter().chain(2..=14) {
         assert!(checks.contains_key(&number), "check {number} is missing");
     }
-    for number in [0].into_iter().chain(2..=9).chain(21..=26) {
+    for number in [0].into_iter().chain(2..=9).chain(21..=27) {
         assert!(runs.contains_key(&number), "run {number} is missing");
     }
 }
@@ -73,12 +73,16 @@ fn accepted_programs_are_accepted() {
     println!("texts by nesting: {depths:?}");
     assert!(depths.iter().all(|&texts| texts > 50));
     let kinds = [
-        "set", "let", "new", "call", "return", "assert", "release", "if", "else", "join",
+        "set", "let", "add", "sub", "new", "call", "return", "assert", "release", "if", "else",
+        "join",
     ];
     for kind in kinds {
         assert!(words[kind] > 500, "{kind} is rare");
     }
-    assert!(runs.keys().all(|number| [0, 21, 22, 23].contains(number)));
+    assert!(runs
+        .keys()
+        .all(|number| [0, 21, 22, 23, 27].contains(number)));
+    assert!(runs[&27] > 5, "27 is rare");
 }
 
 #[test]

@@ -946,3 +946,54 @@ fn a_refused_text_does_not_run() {
         assert_eq!(printed(&script(source)), expected.as_bytes());
     }
 }
+
+/// W1: the rows of `add` and `sub`.
+#[test]
+fn add_and_sub() {
+    for (line, number) in [
+        ("add a b", 4),
+        ("add a b 1", 4),
+        ("sub a b a.n", 4),
+        ("add a b null", 6),
+        ("sub this a b", 6),
+        ("add s a b", 7),
+        ("sub a s b", 7),
+        ("sub a b t", 7),
+        ("add a a a", 0),
+        ("sub a b b", 0),
+    ] {
+        let expected = if number == 0 { (0, 0) } else { (number, 9) };
+        assert_eq!(check(&script(&main_with(line))), expected, "{line}");
+    }
+    let in_method = |line: &str| {
+        let lines = format!("requires\nensures\nvar int i\n{line}\nend");
+        check(&script(&method_with("method int m int w", &lines)))
+    };
+    assert_eq!(in_method("add i w result"), (0, 0));
+    assert_eq!(in_method("add w i i"), (9, 8));
+    assert_eq!(in_method("sub result i i"), (9, 8));
+    // Both 7 and 9 hold: the lower.
+    assert_eq!(in_method("add this i i"), (7, 8));
+    assert_eq!(in_method("add w this i"), (7, 8));
+}
+
+/// W1: "A result beyond 32 bits signed stops the run: −2147483648 less 1 does,
+/// −2147483647 less 1 doesn't."
+#[test]
+fn number_27() {
+    for (a, b, line, expected, value) in [
+        (-2147483648i64, 1, "sub a a b", (27, 11, 2), -2147483648),
+        (-2147483647, 1, "sub a a b", (0, 12, 4), -2147483648),
+        (2147483647, 1, "add a a b", (27, 11, 2), 2147483647),
+        (2147483646, 1, "add a b a", (0, 12, 4), 2147483647),
+        (0, -2147483648, "sub a a b", (27, 11, 2), 0),
+        (-1, -2147483648, "sub a a b", (0, 12, 4), 2147483647),
+        (2147483647, 5, "add a a a", (27, 11, 2), 2147483647),
+    ] {
+        let lines = format!("let a {a}\nlet b {b}\n{line}");
+        let text = script(&main_with(&lines));
+        assert_eq!(check(&text), (0, 0));
+        assert_eq!(ran(&text, 100), expected, "{lines}");
+        assert_eq!(run(&text, 100).values[2], value, "{lines}");
+    }
+}

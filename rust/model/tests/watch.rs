@@ -60,7 +60,7 @@ fn a_fault_is_of_its_number() {
         };
         let number = match noted.fault {
             Fault::Undeclared(..) | Fault::Reserved(_) | Fault::Twice(_) => NAME,
-            Fault::Mismatch { .. } | Fault::NoObject(_) => TYPE,
+            Fault::Mismatch { .. } | Fault::NoObject(_) | Fault::NoInt(_) => TYPE,
             Fault::Assigned(_) | Fault::Same(_) => ASSIGNED,
             other => panic!("{other:?}"),
         };
@@ -78,7 +78,7 @@ fn a_fault_is_of_its_number() {
 
 #[test]
 fn a_halt_is_of_its_stop() {
-    let mut seen = [0; 27];
+    let mut seen = [0; 28];
     for text in texts() {
         let Ok(program) = read(&text) else { continue };
         let mut machine = Machine::new(&program);
@@ -99,7 +99,13 @@ fn a_halt_is_of_its_stop() {
             _ => {}
         }
     }
-    let all = [HEAP_FULL, PERMISSION_MISSING, NULL_FOLLOWED, FORMULA_FALSE];
+    let all = [
+        HEAP_FULL,
+        PERMISSION_MISSING,
+        NULL_FOLLOWED,
+        FORMULA_FALSE,
+        OVERFLOW,
+    ];
     assert!(
         all.iter().all(|&number| seen[number as usize] > 10),
         "{seen:?}"

@@ -1,7 +1,8 @@
-use Rattle.checker.proofs.Stepping.{no-kind}
-use Rattle.tables.proofs.Statements.{set-means, let-means, new-means, call-means, return-means, assert-means, release-means}
+use Rattle.checker.proofs.Stepping.{is-computing, no-kind}
+use Rattle.tables.proofs.Statements.{set-means, let-means, new-means, call-means, return-means, assert-means, release-means, compute-means}
 use Rattle.rules.specs.Base.{is}
 use mathlib.Core.Path.{sym, _∙_}
+use mathlib.Core.Logic.{inl, inr}
 use native.Mathlib.Omega.{arith}
 use borrow.Author.Needs.{needs}
 use Rattle.checker.proofs.statement.Statement.{statement}
@@ -47,6 +48,12 @@ release-at-requires : tie.Need-release-at-requires
 release-at-requires c κs =
     (c .before .before .before .before .before .pre .0, c .before .before .before .before .before .pre .1, c .before .before .before .before .before .pre .3)
 
+compute-at-requires : tie.Need-compute-at-requires
+compute-at-requires c κs = (c .before .before .before .before .before .pre .0, c .before .before .before .before .before .pre .1, c .before .before .before .before .before .pre .3)
+
+compute-at-requires-2 : tie.Need-compute-at-requires-2
+compute-at-requires-2 c κs = (c .before .before .before .before .before .pre .0, c .before .before .before .before .before .pre .1, c .before .before .before .before .before .pre .3)
+
 returns : tie.Need-returns
 returns c =
     let at-kind-at = c .before .before .before .before .kind-at in
@@ -90,20 +97,27 @@ returns-7 c =
     record { statement = _; is = release-means _ _ (sym (at-kind-at .ensures) ∙ at-match .keys7); adds = c .release-at .ensures }
 
 returns-8 : tie.Need-returns-8
-returns-8 c =
+returns-8 c = record { statement = _; is = compute-means _ _ (is-computing (inl (sym (c .before .before .before .before .kind-at .ensures) ∙ c .before .before .before .match .keys8))); adds = c .compute-at .ensures }
+
+returns-9 : tie.Need-returns-9
+returns-9 c = record { statement = _; is = compute-means _ _ (is-computing (inr (sym (c .before .before .before .before .kind-at .ensures) ∙ c .before .before .before .match .keys9))); adds = c .compute-at2 .ensures }
+
+returns-10 : tie.Need-returns-10
+returns-10 c =
     let start = c .before .before .before .before in
     let at-kind-at = c .before .before .kind-at in
     absurd (omega (arith, start .pre .0 .row-fits (start .args .i) (start .pre .1) .operands .kind .0, at-kind-at .ensures, c .if1 .taken))
 
-returns-9 : tie.Need-returns-9
-returns-9 c =
+returns-11 : tie.Need-returns-11
+returns-11 c =
     let start = c .before .before .before .before in
     let at-kind-at = c .before .before .kind-at in
     let other = c .before .match .rest in
     let fit = start .pre .0 .row-fits (start .args .i) (start .pre .1) .operands .kind in
     absurd
-    (no-kind _ (rw (at-kind-at .ensures) fit) (rw (at-kind-at .ensures) (start .pre .2)) (other .0 .0 .0 .0 .0 .0 .1) (other .0 .0 .0 .0 .0 .1)
-    (other .0 .0 .0 .0 .1) (other .0 .0 .0 .1) (other .0 .0 .1) (other .0 .1) (other .1))
+    (no-kind _ (rw (at-kind-at .ensures) fit) (rw (at-kind-at .ensures) (start .pre .2)) (other .0 .0 .0 .0 .0 .0 .0 .0 .1)
+    (other .0 .0 .0 .0 .0 .0 .0 .1) (other .0 .0 .0 .0 .0 .0 .1) (other .0 .0 .0 .0 .0 .1) (other .0 .0 .0 .0 .1) (other .0 .0 .0 .1)
+    (other .0 .0 .1) (other .0 .1) (other .1))
 
 pub statement-spec : {M : Type 1} → statement M
 statement-spec =
@@ -117,6 +131,8 @@ statement-spec =
     return-at-requires
     assert-at-requires
     release-at-requires
+    compute-at-requires
+    compute-at-requires-2
     returns
     returns-2
     returns-3
@@ -125,4 +141,6 @@ statement-spec =
     returns-6
     returns-7
     returns-8
-    returns-9)
+    returns-9
+    returns-10
+    returns-11)

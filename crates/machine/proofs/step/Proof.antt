@@ -46,6 +46,17 @@ else-step-requires c κs = search needs
 end-step-requires : tie.Need-end-step-requires
 end-step-requires c κs = search needs
 
+compute-step-requires : tie.Need-compute-step-requires
+compute-step-requires c κs =
+    let is = c .before .before .before .before .kind-at .ensures in
+    let other = c .before .before .before .match .rest in
+    let t =
+    Stepping.is-computing _ (fits (c .before .before .before .before .before .before .before .before .pre .0) .kind) (λ z. other .0 .0 .0 .0 .0 .0 .0 .0 .0 .1 (is ∙ z)) (λ z. other .0 .0 .0 .0 .0 .0 .0 .0 .1 (is ∙ z))
+    (λ z. other .0 .0 .0 .0 .0 .0 .0 .1 (is ∙ z)) (λ z. other .0 .0 .0 .0 .0 .0 .1 (is ∙ z)) (λ z. other .0 .0 .0 .0 .0 .1 (is ∙ z))
+    (λ o. other .0 .0 .0 .0 .1 (⊎-elim (λ z. inl (is ∙ z)) (λ z. inr (is ∙ z)) o)) (λ z. other .0 .0 .0 .1 (is ∙ z))
+    (λ z. other .0 .0 .1 (is ∙ z)) (λ z. other .0 .1 (is ∙ z)) (λ z. other .1 (is ∙ z)) in
+    (c .before .before .before .before .before .before .before .before .pre .0, t)
+
 same-length : tie.Need-same-length
 same-length c = search needs
 
@@ -153,14 +164,26 @@ same-length-11 c = search needs
 
 returns-11 : tie.Need-returns-11
 returns-11 c =
-    let is = c .before .kind-at .ensures in
-    let other = c .match .rest in
-    let fit = fits (c .before .before .before .before .before .pre .0) .kind in
-    absurd
-    (Stepping.no-other _ fit (λ z. other .0 .0 .0 .0 .0 .0 .0 .0 .0 .1 (is ∙ z)) (λ z. other .0 .0 .0 .0 .0 .0 .0 .0 .1 (is ∙ z))
+    let is = c .before .before .before .before .before .before .before .kind-at .ensures in
+    let other = c .before .before .before .before .before .before .match .rest in
+    let t =
+    Stepping.is-computing _ (fits (c .before .before .before .before .before .before .before .before .before .before .before .pre .0) .kind) (λ z. other .0 .0 .0 .0 .0 .0 .0 .0 .0 .1 (is ∙ z)) (λ z. other .0 .0 .0 .0 .0 .0 .0 .0 .1 (is ∙ z))
     (λ z. other .0 .0 .0 .0 .0 .0 .0 .1 (is ∙ z)) (λ z. other .0 .0 .0 .0 .0 .0 .1 (is ∙ z)) (λ z. other .0 .0 .0 .0 .0 .1 (is ∙ z))
     (λ o. other .0 .0 .0 .0 .1 (⊎-elim (λ z. inl (is ∙ z)) (λ z. inr (is ∙ z)) o)) (λ z. other .0 .0 .0 .1 (is ∙ z))
-    (λ z. other .0 .0 .1 (is ∙ z)) (λ z. other .0 .1 (is ∙ z)) (λ z. other .1 (is ∙ z)))
+    (λ z. other .0 .0 .1 (is ∙ z)) (λ z. other .0 .1 (is ∙ z)) (λ z. other .1 (is ∙ z)) in
+    Stepping.computes (c .before .before .before .before .before .before .before .before .before .before .before .pre .0) _ t (c .before .before .compute-step .ensures)
+
+same-length-12 : tie.Need-same-length-12
+same-length-12 c = search needs
+
+returns-12 : tie.Need-returns-12
+returns-12 c = absurd (omega (arith, c .before .before .kind-at .ensures, c .if1 .taken, fits (c .before .before .before .before .before .before .pre .0) .kind .0))
+
+same-length-13 : tie.Need-same-length-13
+same-length-13 c = search needs
+
+returns-13 : tie.Need-returns-13
+returns-13 c = absurd (omega (arith, c .before .before .before .kind-at .ensures, c .if2 .left, fits (c .before .before .before .before .before .before .before .pre .0) .kind .1))
 
 pub step-spec : {M : Type 1} → statement M
 step-spec =
@@ -178,6 +201,7 @@ step-spec =
     if-step-requires
     else-step-requires
     end-step-requires
+    compute-step-requires
     same-length
     returns
     same-length-2
@@ -199,4 +223,8 @@ step-spec =
     same-length-10
     returns-10
     same-length-11
-    returns-11)
+    returns-11
+    same-length-12
+    returns-12
+    same-length-13
+    returns-13)

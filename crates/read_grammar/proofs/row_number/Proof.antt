@@ -80,9 +80,17 @@ returns-17 c = rw (c .match .keys17)
 
 returns-18 : tie.Need-returns-18
 unfolding Rows.opened Words.opened Grammar.opened Base.opened stageNumber
-returns-18 c =
+returns-18 c = rw (c .match .keys18)
+
+returns-19 : tie.Need-returns-19
+unfolding Rows.opened Words.opened Grammar.opened Base.opened stageNumber
+returns-19 c = rw (c .match .keys19)
+
+returns-20 : tie.Need-returns-20
+unfolding Rows.opened Words.opened Grammar.opened Base.opened stageNumber
+returns-20 c =
     let start = c .before in
-    let e : start .args .kind ≡ 18 = omega (arith, passed 17 (start .args .kind) (start .pre .0) (c .match .rest)) in rw e
+    let e : start .args .kind ≡ 20 = omega (arith, passed 19 (start .args .kind) (start .pre .0) (c .match .rest)) in rw e
 
 pub row-number-spec : {M : Type 1} → statement M
 row-number-spec =
@@ -105,4 +113,6 @@ row-number-spec =
     returns-15
     returns-16
     returns-17
-    returns-18)
+    returns-18
+    returns-19
+    returns-20)

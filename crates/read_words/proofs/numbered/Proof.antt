@@ -109,7 +109,15 @@ returns-25 c = rw (c .match .keys25)
 
 returns-26 : tie.Need-returns-26
 unfolding Words.opened Base.opened
-returns-26 c = sym (none-packed (Unit {0}) words 1 (c .before .args .k) (c .match .rest) .1)
+returns-26 c = rw (c .match .keys26)
+
+returns-27 : tie.Need-returns-27
+unfolding Words.opened Base.opened
+returns-27 c = rw (c .match .keys27)
+
+returns-28 : tie.Need-returns-28
+unfolding Words.opened Base.opened
+returns-28 c = sym (none-packed (Unit {0}) words 1 (c .before .args .k) (c .match .rest) .1)
 
 pub numbered-spec : {M : Type 1} → statement M
 numbered-spec =
@@ -140,4 +148,6 @@ numbered-spec =
     returns-23
     returns-24
     returns-25
-    returns-26)
+    returns-26
+    returns-27
+    returns-28)

@@ -1,5 +1,6 @@
 -- `plain::plain_row` meets its contract. Assumes nothing.
 use borrow.Author.Tests.{ne-eqb}
+use Rattle.rules.specs.Grammar.{statementNumber, isComputing}
 use Rattle.write_plain.specs.Plain.{plainRow, plainGood}
 use borrow.Author.Needs.{needs}
 use Rattle.write_plain.proofs.plain_row.Statement.{statement}
@@ -16,6 +17,12 @@ call-row-requires c κs = search needs
 
 return-row-requires : tie.Need-return-row-requires
 return-row-requires c κs = search needs
+
+compute-row-requires : tie.Need-compute-row-requires
+compute-row-requires c κs = search needs
+
+compute-row-requires-2 : tie.Need-compute-row-requires-2
+compute-row-requires-2 c κs = search needs
 
 row-requires : tie.Need-row-requires
 row-requires c κs = search needs
@@ -40,10 +47,20 @@ unfolding plainRow plainGood
 returns-4 c = rw (c .before .match .keys4) (c .return-row .ensures)
 
 returns-5 : tie.Need-returns-5
-unfolding plainRow plainGood
-returns-5 c =
+unfolding plainRow plainGood isComputing statementNumber
+returns-5 c = rw (c .before .match .keys5) (c .compute-row .ensures)
+
+returns-6 : tie.Need-returns-6
+unfolding plainRow plainGood isComputing statementNumber
+returns-6 c = rw (c .before .match .keys6) (c .compute-row2 .ensures)
+
+returns-7 : tie.Need-returns-7
+unfolding plainRow plainGood isComputing statementNumber
+returns-7 c =
     let r = c .before .before .match .rest in
-    rw (ne-eqb _ 8 (r .0 .0 .0 .1), ne-eqb _ 10 (r .0 .0 .1), ne-eqb _ 11 (r .0 .1), ne-eqb _ 12 (r .1), ← c .before .row .ensures) (c .row-if .ensures)
+    rw
+    (ne-eqb _ 8 (r .0 .0 .0 .0 .0 .1), ne-eqb _ 10 (r .0 .0 .0 .0 .1), ne-eqb _ 11 (r .0 .0 .0 .1), ne-eqb _ 12 (r .0 .0 .1), ne-eqb _ 19 (r .0 .1), ne-eqb _ 20 (r .1), ← c .before .row .ensures)
+    (c .row-if .ensures)
 
 pub plain-row-spec : {M : Type 1} → statement M
 plain-row-spec =
@@ -53,10 +70,14 @@ plain-row-spec =
     new-row-requires
     call-row-requires
     return-row-requires
+    compute-row-requires
+    compute-row-requires-2
     row-requires
     row-if-requires
     returns
     returns-2
     returns-3
     returns-4
-    returns-5)
+    returns-5
+    returns-6
+    returns-7)

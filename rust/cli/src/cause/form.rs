@@ -87,12 +87,29 @@ fn path_mend(why: Malformed, all: &[(usize, &[u8])], at: usize) -> Option<String
     }
 }
 
+/// `a = b + 1` or `a += 1` as other languages have it.
+fn computed(words: &[&str]) -> Option<String> {
+    let (x, y, sign, z) = match *words {
+        [x, "=" | ":=", y, sign @ ("+" | "-"), z] => (x, y, sign, z),
+        [x, sign @ ("+=" | "-="), z] => (x, x, sign, z),
+        [x, sign @ ("++" | "--")] => (x, x, sign, "1"),
+        _ => return None,
+    };
+    let word = if sign.starts_with('+') { "add" } else { "sub" };
+    let number = z.starts_with(|letter: char| letter.is_ascii_digit());
+    Some(match number {
+        true => format!("`let k {z}`, then `{word} {x} {y} k`"),
+        false => format!("`{word} {x} {y} {z}`"),
+    })
+}
+
 /// `a = 7` as other languages have it.
 fn assignment(all: &[(usize, &[u8])]) -> Option<String> {
-    let [(_, left), (_, b"=" | b":="), (_, right)] = all else {
-        return None;
+    let words: Vec<String> = all.iter().map(|field| shown(field.1)).collect();
+    let words: Vec<&str> = words.iter().map(String::as_str).collect();
+    let [left, "=" | ":=", right] = words[..] else {
+        return computed(&words);
     };
-    let (left, right) = (shown(left), shown(right));
     Some(match left.split_once('.') {
         Some((x, f)) => format!("`set {x} {f} y`, with a variable y that has the value"),
         None => format!("`let {left} {right}`"),

@@ -18,6 +18,7 @@ pub fn mend(unshown: &Unshown, steps: &[Step], lost_at: Option<usize>) -> Option
             let line = statement.line;
             Some(format!("add `{wanted}` to the `join` of line {line}"))
         }
+        Action::Compute(_) => tested(unshown),
         _ => None,
     }
 }
@@ -37,7 +38,7 @@ fn never_shown(unshown: &Unshown, steps: &[Step]) -> Option<String> {
             "add `{wanted}`, or an `acc` of it, to `requires` (line {requires})"
         )),
         Atom::Acc(Path { var, .. }) | Atom::Ne(Expr::Var(var), Expr::Null)
-            if !assigned(unshown.script, steps, var) =>
+            if assigned(unshown.script, steps, var).is_none() =>
         {
             let Some(Type::Class(class)) = names.kind(var) else {
                 return None;
@@ -47,15 +48,35 @@ fn never_shown(unshown: &Unshown, steps: &[Step]) -> Option<String> {
                 "`new {var} {class}` first: `{var}` is null until a line assigns it"
             ))
         }
-        Atom::Ne(Expr::Var(_), Expr::Null) => Some(format!(
-            "test it: `if {wanted}`, and do this in the first branch"
-        )),
+        Atom::Ne(Expr::Var(_), Expr::Null) => tested(unshown),
         Atom::Eq(Expr::Var(RESULT), Expr::Var(var))
         | Atom::Eq(Expr::Var(var), Expr::Var(RESULT)) => {
             Some(format!("`return {}` sets `result`", names.var(var)))
         }
+        Atom::Eq(left, right) | Atom::Ne(left, right)
+            if [left, right]
+                .iter()
+                .any(|side| computed(unshown, steps, *side)) =>
+        {
+            tested(unshown)
+        }
         _ => None,
     }
+}
+
+/// What nothing but a test shows.
+fn tested(unshown: &Unshown) -> Option<String> {
+    let wanted = unshown.names().atom(unshown.wanted);
+    Some(format!(
+        "test it: `if {wanted}`, and do this in the first branch"
+    ))
+}
+
+/// Is it a variable whose value is a sum or difference?
+fn computed(unshown: &Unshown, steps: &[Step], side: Expr) -> bool {
+    let Expr::Var(var) = side else { return false };
+    let last = assigned(unshown.script, steps, var);
+    last.is_some_and(|last| matches!(last.action, Action::Compute(_)))
 }
 
 fn mend_of_call(unshown: &Unshown, call: Call, atom: Atom) -> Option<String> {

@@ -54,6 +54,21 @@ impl<'a> Look<'a> {
         self.program.classes.get(self.program.class(name)?)
     }
 
+    /// The type of a variable of the block.
+    fn variable_kind(&self, name: Name) -> Option<Type<'a>> {
+        let block = self.block()?;
+        let local = block.locals.iter().find(|local| local.name == name);
+        let header = block.header;
+        match name {
+            b"this" => header.map(|header| Type::Class(header.class)),
+            b"result" => header.map(|header| header.result),
+            _ => local.map(|local| local.kind).or_else(|| {
+                let param = header.map(|header| header.param)?;
+                (param.name == name).then_some(param.kind)
+            }),
+        }
+    }
+
     /// The names that a line of the block may use.
     fn variables(&self) -> Vec<String> {
         let Some(block) = self.block() else {
@@ -97,10 +112,28 @@ pub fn fault(text: &[u8], number: u32) -> Option<Cause> {
             ))
             .mark(name_mark(name))
         }
+        Fault::NoInt(name) => no_int(&look, name).mark(name_mark(name)),
         Fault::Assigned(name) => assigned(&look, name).mark(name_mark(name)),
         Fault::Same(name) => same(&look, name).mark(name_mark(name)),
         _ => return None,
     })
+}
+
+/// An object variable in an `add` or `sub`.
+fn no_int(look: &Look, name: Name) -> Cause {
+    let kind = look.variable_kind(name).map(Kind::Of);
+    let kind = kind.map_or("no number".to_string(), kind_shown);
+    let takes = matches!(look.line(), Some(Line::Compute(_, x, ..)) if *x == name);
+    let name = shown(name);
+    let cause = Cause::new(format!(
+        "`{name}` is {kind}; `add` and `sub` take int variables"
+    ));
+    match takes {
+        true => cause.mend("take the number in an int variable: `var int v`"),
+        false => cause.mend(format!(
+            "`let k {name}.f` first, with an int variable k and an int field f, then name k here"
+        )),
+    }
 }
 
 fn sides_mark(bytes: &[u8], sides: Sides, atom: usize) -> Option<Range<usize>> {
@@ -197,6 +230,8 @@ fn elsewhere(look: &Look, name: Name, names: &[String]) -> Option<Cause> {
     let here = block.locals.iter().any(|local| local.name == name);
     let shown_name = shown(name);
     Some(match (shown_name.as_str(), look.line()?) {
+        ("null", Line::Compute(..)) => Cause::new("`null` is no number")
+            .mend("`let k 0` first, with an int variable k, then name k here"),
         ("null", _) => Cause::new("`null` stands where a variable must stand")
             .mend("`let p null` first, with a variable p of the class, then name p here"),
         ("int", _) => Cause::new("`int` is a type, no variable"),

@@ -3,7 +3,7 @@
 
 use crate::script::{quoted, shown, Names, Script};
 use model::checker::{Fact, State, Term};
-use model::names::{Action, Atom, Expr, Var};
+use model::names::{Action, Atom, Expr, Statement, Var};
 use model::watch::Record;
 
 /// One statement of the way, with the states before and after it.
@@ -112,6 +112,10 @@ fn reason(script: &Script, names: &Names, action: &Action, atom: Atom) -> String
         Action::Let(x, _) | Action::New(x, _) => {
             format!("which gives `{}` another value", names.var(*x))
         }
+        Action::Compute(compute) => format!(
+            "which gives `{}` another value, of which nothing is known",
+            names.var(compute.x)
+        ),
         Action::Return(_) => "which gives `result` another value".to_string(),
         Action::Set(path, _) => format!(
             "which gives `{}` another value",
@@ -123,18 +127,22 @@ fn reason(script: &Script, names: &Names, action: &Action, atom: Atom) -> String
     }
 }
 
-/// Does a statement of the way give the variable a value?
-pub fn assigned(script: &Script, steps: &[Step], var: Var) -> bool {
-    let gives = |action: &Action| match action {
+/// The last statement of the way that may give the variable a value.
+pub fn assigned<'s, 'a>(
+    script: &'s Script<'a>,
+    steps: &[Step],
+    var: Var,
+) -> Option<&'s Statement<'a>> {
+    let gives = |statement: &&Statement| match &statement.action {
         Action::Let(x, _) | Action::New(x, _) => *x == var,
+        Action::Compute(compute) => compute.x == var,
         Action::Call(call) => call.x == var,
         Action::Join(_) => true,
         _ => false,
     };
-    let statements = &script.program.statements;
-    steps
-        .iter()
-        .any(|step| gives(&statements[step.place].action))
+    let way = steps.iter().rev();
+    way.map(|step| &script.program.statements[step.place])
+        .find(gives)
 }
 
 /// Does the atom name the variable?

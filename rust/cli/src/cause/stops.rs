@@ -5,6 +5,7 @@ use crate::script::{field_range, line, quoted, shown, Names, Script};
 use model::machine::{Machine, Step, Values};
 use model::names::{Action, Atom, Expr, Path, Type};
 use model::number;
+use model::text::Operator;
 use model::watch::{Halt, Tested};
 
 /// Longer runs are not done again to say more about them.
@@ -107,6 +108,7 @@ pub fn stop_cause(text: &[u8], steps: u32, stop: u32) -> Option<Cause> {
     let Some((at, tested)) = halt.atom.zip(tested) else {
         let said = full(&script, &machine, stop);
         let said = said.or_else(|| followed(&names, &statement.action, halt.path, stop));
+        let said = said.or_else(|| overflow(&names, &machine));
         return said.map(Cause::new);
     };
     let said = false_atom(&machine, &names, &tested, *tested.atoms.get(at)?, halt)?;
@@ -185,6 +187,27 @@ fn followed(names: &Names, action: &Action, path: Option<Path>, stop: u32) -> Op
         }
         _ => return None,
     })
+}
+
+/// The two numbers of an `add` or `sub`, and what they would give.
+fn overflow(names: &Names, machine: &Machine) -> Option<String> {
+    let Action::Compute(compute) = machine.statement().action else {
+        return None;
+    };
+    let values = machine.frame().values;
+    let (one, other) = (i64::from(values[compute.y]), i64::from(values[compute.z]));
+    let (y, z) = (names.var(compute.y), names.var(compute.z));
+    let (word, value) = match compute.operator {
+        Operator::Add => ("plus", one + other),
+        Operator::Sub => ("less", one - other),
+    };
+    let (end, which) = match value < 0 {
+        true => (i32::MIN, "least"),
+        false => (i32::MAX, "most"),
+    };
+    Some(format!(
+        "{one} (`{y}`) {word} {other} (`{z}`) is {value}, and {end} is the {which}"
+    ))
 }
 
 /// The calls that are open after so many steps: a line for each frame, main's

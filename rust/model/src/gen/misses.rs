@@ -46,10 +46,10 @@ fn searched(rng: &mut Rng, number: u32) -> Vec<u8> {
     text
 }
 
-/// A `let`, `new` or `call` whose x is one that it may not be: a line's x is
+/// A line that assigns, whose x is one that it may not be: a line's x is
 /// changed, or a new line comes in.
 fn assign_wrongly(rng: &mut Rng, lines: &mut Fields) {
-    let assigns = |word: &[u8]| matches!(word, b"let" | b"new" | b"call");
+    let assigns = |word: &[u8]| matches!(word, b"let" | b"new" | b"call" | b"add" | b"sub");
     let places: Vec<usize> = (0..lines.len())
         .filter(|&at| assigns(&lines[at][0]))
         .collect();

@@ -36,12 +36,12 @@ impl Kind {
         match rng.below(1_000) {
             0..=249 => Kind::Accepted,
             250..=251 => Kind::Miss(2),
-            252..=599 => Kind::Miss(rng.pick(&[
+            252..=579 => Kind::Miss(rng.pick(&[
                 3, 4, 5, 5, 6, 7, 8, 9, 9, 10, 10, 11, 11, 12, 12, 13, 13, 14, 14,
             ])),
-            600..=719 => Kind::Wild,
-            720..=799 => Kind::Recipe,
-            800..=959 => Kind::Mutated,
+            580..=699 => Kind::Wild,
+            700..=819 => Kind::Recipe,
+            820..=959 => Kind::Mutated,
             _ => Kind::Arbitrary,
         }
     }

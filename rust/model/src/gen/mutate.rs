@@ -3,7 +3,7 @@
 use super::rng::Rng;
 
 /// Words, names, numbers and other fields that a line may have.
-const TOKENS: [&str; 60] = [
+const TOKENS: [&str; 62] = [
     "class",
     "field",
     "method",
@@ -13,6 +13,8 @@ const TOKENS: [&str; 60] = [
     "var",
     "set",
     "let",
+    "add",
+    "sub",
     "new",
     "call",
     "return",
@@ -216,12 +218,18 @@ fn small(rng: &mut Rng) -> Vec<u8> {
     let name = |rng: &mut Rng| rng.pick(&["s", "t", "a", "f", "n", "S", "this"]);
     let expr = |rng: &mut Rng| rng.pick(&["s", "t", "a", "s.f", "t.f", "s.n", "t.n", "null", "0"]);
     for _ in 0..rng.below(7) {
-        let line = match rng.below(6) {
+        let line = match rng.below(7) {
             0 => format!("set {} {} {}", name(rng), name(rng), name(rng)),
             1 => format!("let {} {}", name(rng), expr(rng)),
             2 => format!("new {} S", name(rng)),
             3 => format!("assert eq {} {}", expr(rng), expr(rng)),
             4 => format!("release acc {} {}", name(rng), name(rng)),
+            5 => format!(
+                "{} a {} {}",
+                rng.pick(&["add", "sub"]),
+                name(rng),
+                name(rng)
+            ),
             _ => format!("if ne {} {}\nelse\njoin", expr(rng), expr(rng)),
         };
         text.push_str(&line);

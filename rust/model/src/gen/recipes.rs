@@ -10,8 +10,9 @@ fn push(lines: &mut Vec<String>, source: &str) {
 
 /// A program by one of the plans.
 pub fn recipe(rng: &mut Rng) -> Vec<u8> {
-    match rng.below(5) {
+    match rng.below(6) {
         0 => full_state(rng),
+        4 => counting(rng),
         1 => doubling(rng),
         2 => recursion(rng),
         3 => full_heap(rng),
@@ -190,6 +191,48 @@ pub fn full_heap(rng: &mut Rng) -> Vec<u8> {
     let calls = (room / each + rng.below(3)).min(230);
     (0..calls).for_each(|_| push(&mut lines, "call g e make a"));
     (0..rng.below(6)).for_each(|_| push(&mut lines, "new g E"));
+    push(&mut lines, "end");
+    joined(&lines)
+}
+
+/// Cards counted near both ends of 32 bits, in main and in a method.
+pub fn counting(rng: &mut Rng) -> Vec<u8> {
+    let mut lines = Vec::new();
+    let source = "class K\nfield int n\nmethod int more int w\nrequires acc this n\n\
+                  ensures acc this n\nvar int t\nlet t this.n";
+    push(&mut lines, source);
+    push(
+        &mut lines,
+        rng.pick(&["add t t w", "sub t t w", "sub t w t"]),
+    );
+    push(
+        &mut lines,
+        "set this n t\nreturn t\nend\nmain\nvar K k\nvar int a\nvar int b\nvar int c\nnew k K",
+    );
+    let ends = [
+        "2147483647",
+        "-2147483648",
+        "-2147483647",
+        "2147483646",
+        "1",
+        "-1",
+        "0",
+    ];
+    for var in ["a", "b"] {
+        push(&mut lines, &format!("let {var} {}", rng.pick(&ends)));
+    }
+    for _ in 0..rng.within(1, 12) {
+        let vars = ["a", "b", "c"];
+        let (x, y, z) = (rng.pick(&vars), rng.pick(&vars), rng.pick(&vars));
+        let line = match rng.below(10) {
+            0 => format!("let {x} {}", rng.pick(&ends)),
+            1 => format!("set k n {x}"),
+            2 if x != y => format!("call {x} k more {y}"),
+            3 => format!("assert eq {x} {x}"),
+            _ => format!("{} {x} {y} {z}", rng.pick(&["add", "sub"])),
+        };
+        push(&mut lines, &line);
+    }
     push(&mut lines, "end");
     joined(&lines)
 }

@@ -66,6 +66,10 @@ pub fn action(program: &Program, block: &Block, action: &Action) -> String {
     match action {
         Action::Set(p, y) => format!("set {} {} {}", var(p.var), written(p.field), var(*y)),
         Action::Let(x, side) => format!("let {} {}", var(*x), expr(block, *side)),
+        Action::Compute(compute) => {
+            let (x, y, z) = (var(compute.x), var(compute.y), var(compute.z));
+            format!("{} {x} {y} {z}", compute.operator.word())
+        }
         Action::New(x, class) => {
             format!("new {} {}", var(*x), written(program.classes[*class].name))
         }

@@ -6,11 +6,11 @@ use super::rng::Rng;
 use crate::checker::{instance, opposite, simple, State, Term};
 use crate::limits;
 use crate::names::{
-    Action, Atom, Block, Branch, Call, Expr, Formula, Path, Program, Type, Var, FIRST_LOCAL, PARAM,
-    RESULT, THIS, VARS,
+    Action, Atom, Block, Branch, Call, Compute, Expr, Formula, Path, Program, Type, Var,
+    FIRST_LOCAL, PARAM, RESULT, THIS, VARS,
 };
 use crate::number;
-use crate::text;
+use crate::text::{self, Operator};
 
 /// What the lines of a program are like.
 #[derive(Clone, Copy, Debug)]
@@ -207,6 +207,16 @@ impl<'p, 'a> Writer<'p, 'a> {
         Ok(state)
     }
 
+    /// A sum or difference; x may be y or z.
+    fn any_compute(&mut self) -> Option<Compute> {
+        Some(Compute {
+            operator: self.rng.pick(&[Operator::Add, Operator::Sub]),
+            x: self.local(Type::Int, &[])?,
+            y: self.any_var(Type::Int)?,
+            z: self.any_var(Type::Int)?,
+        })
+    }
+
     /// A receiver, a method, an argument and a variable for the result.
     fn any_call(&mut self) -> Option<Call> {
         let vars = self.vars(|_, kind| kind != Type::Int);
@@ -252,17 +262,18 @@ impl<'p, 'a> Writer<'p, 'a> {
                 let var = self.rng.choose(&vars)?;
                 one(Action::New(var, self.class_of(var)?))
             }
-            12..=29 => {
+            12..=19 => one(Action::Compute(self.any_compute()?)),
+            20..=33 => {
                 let vars = self.vars(|var, _| (FIRST_LOCAL..RESULT).contains(&var));
                 let var = self.rng.choose(&vars)?;
                 let kind = self.type_of(var)?;
                 one(Action::Let(var, self.expr(state, kind)?))
             }
-            30..=46 => {
+            34..=48 => {
                 let (path, kind) = self.known_path(state)?;
                 one(Action::Set(path, self.any_var(kind)?))
             }
-            47..=79 => self.call(state),
+            49..=79 => self.call(state),
             80..=84 => {
                 let kind = self.type_of(RESULT)?;
                 one(Action::Return(self.any_var(kind)?))
