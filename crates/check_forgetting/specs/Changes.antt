@@ -134,15 +134,31 @@ pub record Stored (j : ℕ) (t : Option Rules.Term) (key : List ℕ) (gone : Lis
   pub keys : (i : ℕ) → (i ≡ j → ⊥) → getD key′ i 0 ≡ getD key i 0
   pub flags : (i : ℕ) → (i ≡ j → ⊥) → getD gone′ i false ≡ getD gone i false
 
+-- the successor of the side in slot j
+abbrev pub successorAt : List ℕ → List ℕ → Renaming → List Permission → ℕ → Option Rules.Term
+successorAt key b ρ ps j = Rules.successor (equalIn (stateOf key b)) ρ ps (factsOf key b) (termAt key j)
+
 -- what becomes of the side in slot j, where `gone` has the flags of those that are dropped
 abbrev pub givenAt : List ℕ → List ℕ → Renaming → List Permission → List Bool → ℕ → Option Rules.Term
 givenAt key b ρ ps gone j =
-    cond (getD gone j false) (Rules.successor (equalIn (stateOf key b)) ρ ps (factsOf key b) (termAt key j)) (some (termAt key j))
+    cond (getD gone j false) (successorAt key b ρ ps j) (some (termAt key j))
+
+-- the side in slot i, before j, with the label a, has given way
+pub record Lead (old b : List ℕ) (skip : List Bool) (x j : ℕ) (key : List ℕ) (gone : List Bool) (a i : ℕ) : Type 0 where
+  pub within : i < j
+  pub label : getD b i 0 ≡ a
+  pub is : (ρ : Renaming) (ps : List Permission) → Drops ρ ps b skip x → becomeOf key gone i ≡ successorAt old b ρ ps i
+
+-- how far giving way is, at slot j: `lead` has for each label the first side that has given way, or 0
+pub record Giving (old b : List ℕ) (skip : List Bool) (x j : ℕ) (key : List ℕ) (gone : List Bool) (lead : List ℕ) : Type 0 where
+  pub header : Header key
+  pub size : length gone ≡ slots
+  pub leads-size : length lead ≡ slots
+  pub leads : (a : ℕ) → (getD lead a 0 ≡ 0 → ⊥) → Lead old b skip x j key gone a (getD lead a 0)
 
 -- that becomes of the side in slot j of the arrays old and b
-pub record SideGiven (old b : List ℕ) (skip : List Bool) (x j : ℕ) (key : List ℕ) (gone : List Bool) (key′ : List ℕ) (gone′ : List Bool) : Type 0 where
-  pub header : Header key′
-  pub size : length gone′ ≡ slots
+pub record SideGiven (old b : List ℕ) (skip : List Bool) (x j : ℕ) (key : List ℕ) (gone : List Bool) (key′ : List ℕ) (gone′ : List Bool) (lead′ : List ℕ) : Type 0 where
+  pub next : Giving old b skip x (j + 1) key′ gone′ lead′
   pub here : (ρ : Renaming) (ps : List Permission) → Drops ρ ps b skip x → becomeOf key′ gone′ j ≡ givenAt old b ρ ps gone j
   pub keys : (i : ℕ) → (i ≡ j → ⊥) → getD key′ i 0 ≡ getD key i 0
   pub flags : (i : ℕ) → (i ≡ j → ⊥) → getD gone′ i false ≡ getD gone i false
@@ -223,12 +239,6 @@ droppedAt b out n i = getD out i false && not (any (keptNames b out (pathAtEntry
 -- the place of a path's key
 abbrev pub placeOfPath : ℕ → ℕ → ℕ
 placeOfPath x f = placeOf (keyOf (Syntax.path x f))
-
--- the place of `x.f` is marked where it is out
-pub record Marks (out : Bool) (x f : ℕ) (marks marks′ : List Bool) : Type 0 where
-  pub size : length marks′ ≡ length marks
-  pub new : out ≡ true → getD marks′ (placeOfPath x f) false ≡ true
-  pub old : (p : ℕ) → getD marks p false ≡ true → getD marks′ p false ≡ true
 
 -- the places of the paths of the first n entries that are out are marked
 pub record MarksOut (b : List ℕ) (out : List Bool) (n : ℕ) (marks : List Bool) : Type 0 where

@@ -7,7 +7,7 @@ use check_equality::State;
 use check_state::Resolved;
 use rules::Machine;
 ghost use mathlib.Core.Path.{_≡_};
-ghost use mathlib.Core.Bool.{false};
+ghost use mathlib.Core.Bool.{true, false};
 ghost use Prim.Native.Nat.{_+_, _*_, _≤_, _<_};
 ghost use lib.ListN.{length, getD};
 ghost use lib.Dec.{eqb};
@@ -18,7 +18,7 @@ ghost use Rattle.check_equality.specs.Links.{Header, Marked};
 ghost use Rattle.check_state.specs.States.{Wf, Linked, facts, entries};
 ghost use Rattle.check_state.specs.Questions.{places};
 ghost use Rattle.check_successors.specs.Successors.{termOr};
-ghost use Rattle.check_forgetting.specs.Changes.{Fresh, mentionsKey, Dropped, RenamedKeys, KeepsFact, Sized, Unchanged, Rebuilt, keyDropped, sameSides, trivialAt, Stored, SideGiven, GaveWay, Forgotten};
+ghost use Rattle.check_forgetting.specs.Changes.{Fresh, mentionsKey, Dropped, RenamedKeys, KeepsFact, Sized, Unchanged, Rebuilt, keyDropped, sameSides, trivialAt, Stored, Giving, SideGiven, GaveWay, Forgotten};
 
 // The labels of the slots before the facts' are their own numbers.
 pub fn fresh(b: &mut [u8; State::BYTES])
@@ -216,7 +216,40 @@ fn store(key: &mut [u64; State::SLOTS], gone: &mut [bool; State::SLOTS], j: usiz
     gone[j] = false;
 }
 
-// The side in slot j gives way, if it is dropped; `old` and b hold the state before.
+// The dropped side in slot j gives way; `old` and b hold the state before. `lead` has, for each label, the first slot with it that gave
+// way, or 0: what is ~ to it has the same successor.
+fn give_dropped<'a>(
+    old: &'a [u64; State::SLOTS],
+    b: &'a [u8; State::BYTES],
+    skip: &'a [bool; Machine::PERMISSIONS],
+    x: u8,
+    key: &mut [u64; State::SLOTS],
+    gone: &mut [bool; State::SLOTS],
+    lead: &mut [u8; State::SLOTS],
+    j: usize,
+)
+    requires { ⌜ Wf (now old) (now b) × (left-sides ≤ j) × (j < left-sides + 2 * facts (now b)) × Giving (now old) (now b) (now skip) x j (now key) (now gone) (now lead) × (getD (now gone) j false ≡ true) ⌝ }
+    ensures { λ _. ⌜ SideGiven (now (old .entry)) (now (b .entry)) (now (skip .entry)) x j (now (key .entry)) (now (gone .entry)) (now (key .exit)) (now (gone .exit)) (now (lead .exit)) ⌝ }
+{
+    let a = b[j] as usize;
+    let i = lead[a] as usize;
+    if i == 0 {
+        lead[a] = j as u8;
+        store(
+            key,
+            gone,
+            j,
+            check_successors::successor(old, b, skip, x, old[j], b[j]),
+        );
+        return;
+    }
+    let k = key[i];
+    let g = gone[i];
+    key[j] = k;
+    gone[j] = g;
+}
+
+// The side in slot j gives way, if it is dropped.
 fn give_side<'a>(
     old: &'a [u64; State::SLOTS],
     b: &'a [u8; State::BYTES],
@@ -224,18 +257,14 @@ fn give_side<'a>(
     x: u8,
     key: &mut [u64; State::SLOTS],
     gone: &mut [bool; State::SLOTS],
+    lead: &mut [u8; State::SLOTS],
     j: usize,
 )
-    requires { ⌜ Wf (now old) (now b) × (left-sides ≤ j) × (j < left-sides + 2 * facts (now b)) × Header (now key) × (length (now gone) ≡ slots) × (getD (now key) j 0 ≡ getD (now old) j 0) ⌝ }
-    ensures { λ _. ⌜ SideGiven (now (old .entry)) (now (b .entry)) (now (skip .entry)) x j (now (key .entry)) (now (gone .entry)) (now (key .exit)) (now (gone .exit)) ⌝ }
+    requires { ⌜ Wf (now old) (now b) × (left-sides ≤ j) × (j < left-sides + 2 * facts (now b)) × Giving (now old) (now b) (now skip) x j (now key) (now gone) (now lead) × (getD (now key) j 0 ≡ getD (now old) j 0) ⌝ }
+    ensures { λ _. ⌜ SideGiven (now (old .entry)) (now (b .entry)) (now (skip .entry)) x j (now (key .entry)) (now (gone .entry)) (now (key .exit)) (now (gone .exit)) (now (lead .exit)) ⌝ }
 {
     if gone[j] {
-        store(
-            key,
-            gone,
-            j,
-            check_successors::successor(old, b, skip, x, old[j], b[j]),
-        );
+        give_dropped(old, b, skip, x, key, gone, lead, j);
     }
 }
 
@@ -252,9 +281,10 @@ fn give_way<'a>(
 {
     let old = *key;
     let m = State::LEFT + 2 * (b[State::FACTS] as usize);
+    let mut lead = [0; State::SLOTS];
     let mut j = State::LEFT;
     while j < m {
-        give_side(&old, b, skip, x, key, gone, j);
+        give_side(&old, b, skip, x, key, gone, &mut lead, j);
         j += 1;
     }
 }

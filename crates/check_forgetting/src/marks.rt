@@ -4,14 +4,12 @@ use rules::Machine;
 ghost use mathlib.Core.Path.{_≡_};
 ghost use mathlib.Core.Bool.{false, not, _&&_};
 ghost use Prim.Native.Nat.{_+_, _≤_, _<_};
-ghost use lib.ListN.{length};
 ghost use Rattle.rules.specs.Base.{any};
 ghost use Rattle.rules.specs.Limits.{most-permissions};
 ghost use Rattle.rules.specs.Syntax.{path};
-ghost use Rattle.check_equality.specs.Layout.{mark-count};
 ghost use Rattle.check_equality.specs.Keys.{termOf};
 ghost use Rattle.check_state.specs.Questions.{places};
-ghost use Rattle.check_forgetting.specs.Changes.{pathOut, pathOutAt, keptNames, droppedAt, Marks, MarksOut};
+ghost use Rattle.check_forgetting.specs.Changes.{pathOut, pathOutAt, keptNames, droppedAt, MarksOut};
 
 // Is the entry x.f out, and its path that of the key?
 fn path_out(out: bool, x: u8, f: u8, k: u64) -> bool
@@ -43,17 +41,6 @@ fn names_out<'a>(
     false
 }
 
-// Marks the place of the key of x.f, where that entry is out.
-fn mark(marks: &mut [bool; State::MARKS], out: bool, x: u8, f: u8)
-    requires { ⌜ length (now marks) ≡ mark-count ⌝ }
-    ensures { λ _. ⌜ Marks out x f (now (marks .entry)) (now (marks .exit)) ⌝ }
-{
-    if out {
-        let p = check_equality::place(check_equality::path_key(x, f));
-        marks[p] = true;
-    }
-}
-
 // The places of the keys of all entries that are out.
 pub fn marks_out<'a>(
     b: &'a [u8; State::BYTES],
@@ -66,12 +53,8 @@ pub fn marks_out<'a>(
     let mut marks = [false; State::MARKS];
     let mut i = 0;
     while i < n {
-        mark(
-            &mut marks,
-            out[i],
-            b[State::VARIABLES + i],
-            b[State::FIELDS + i],
-        );
+        let k = check_equality::path_key(b[State::VARIABLES + i], b[State::FIELDS + i]);
+        check_successors::mark(&mut marks, out[i], k);
         i += 1;
     }
     marks

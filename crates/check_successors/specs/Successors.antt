@@ -3,15 +3,15 @@ use mathlib.Core.Bool.{Bool, true, false, cond, not, _&&_}
 use mathlib.Core.Path.{_≡_}
 use mathlib.Core.List.{List, map}
 use mathlib.Core.Option.{Option, none, some}
-use Prim.Native.Nat.{ℕ, _+_, _-_, _<_}
+use Prim.Native.Nat.{ℕ, _+_, _-_, _≤_, _<_}
 use lib.Dec.{eqb, ltb}
-use lib.ListN.{getD}
+use lib.ListN.{length, getD}
 use Rattle.rules.specs.Base.{first, bindOption}
 use Rattle.rules.specs.Syntax.{offset, num, null, var, path}
 use Rattle.rules.specs.State.{Term, Equality, Renaming, Permission, isLeft, pathOf}
-use Rattle.check_equality.specs.Layout.{left-sides, null-slot}
+use Rattle.check_equality.specs.Layout.{left-sides, null-slot, mark-count}
 use Rattle.check_equality.specs.Keys.{termOf, first-number}
-use Rattle.check_equality.specs.Links.{termAt}
+use Rattle.check_equality.specs.Links.{termAt, placeOf}
 use Rattle.check_equality.specs.Listing.{listed}
 use Rattle.check_state.specs.declared.Resolved.{Resolved}
 use Rattle.check_state.specs.States.{variableAt, fieldAt, entries}
@@ -40,6 +40,18 @@ abbrev pub sideTerms : List ℕ → ℕ → List Term
 sideTerms key n = listed (λ i. termAt key (left-sides + i)) n
 
 -- PATHS
+-- the place of the key k is marked, if `yes`
+pub record Marks (yes : Bool) (k : ℕ) (marks marks′ : List Bool) : Type 0 where
+  pub size : length marks′ ≡ length marks
+  pub new : yes ≡ true → getD marks′ (placeOf k) false ≡ true
+  pub old : (p : ℕ) → getD marks p false ≡ true → getD marks′ p false ≡ true
+
+-- the places of the key t, and of the sides in the slots up to m with the label a, are marked
+pub record MarksLike (key b : List ℕ) (m t a : ℕ) (marks : List Bool) : Type 0 where
+  pub size : length marks ≡ mark-count
+  pub own : getD marks (placeOf t) false ≡ true
+  pub at : (i : ℕ) → left-sides ≤ i → i < m → getD b i 0 ≡ a → getD marks (placeOf (getD key i 0)) false ≡ true
+
 -- the path `x.f` is not to be skipped, and is ~ the term of t
 unfoldable pub pathTest : Equality → Bool → ℕ → ℕ → ℕ → Bool
 pathTest _~_ skip x f t = not skip && _~_ (path x f) (termOf t)

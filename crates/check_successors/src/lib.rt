@@ -5,17 +5,18 @@ use rules::Machine;
 ghost use mathlib.Core.Path.{_≡_};
 ghost use mathlib.Core.List.{List};
 ghost use Prim.Native.Nat.{_+_, _*_, _≤_};
+ghost use lib.ListN.{length};
 ghost use Rattle.rules.specs.Limits.{most-permissions};
 ghost use Rattle.rules.specs.Syntax.{num};
 ghost use Rattle.rules.specs.State as Rules;
 ghost use Rattle.rules.specs.State.{numbers};
 ghost use Rattle.rules.proofs.Rising.{least};
-ghost use Rattle.check_equality.specs.Layout.{left-sides};
+ghost use Rattle.check_equality.specs.Layout.{slots, left-sides, mark-count};
 ghost use Rattle.check_equality.specs.Keys.{termOf, first-number};
 ghost use Rattle.check_equality.specs.Links.{Labelled};
 ghost use Rattle.check_state.specs.States.{Wf, stateOf, facts, factsOf};
 ghost use Rattle.check_state.specs.Questions.{Slots, Told, FirstPlace};
-ghost use Rattle.check_successors.specs.Successors.{numberOr, offsetOf, lowerOf, withSlot, sideTerms, pathTest, entryPathTest, Drops, termOr};
+ghost use Rattle.check_successors.specs.Successors.{numberOr, offsetOf, lowerOf, withSlot, sideTerms, Marks, MarksLike, pathTest, entryPathTest, Drops, termOr};
 
 // How many numbers 32 bits hold, and the first that is negative.
 const WORDS: u64 = 4294967296;
@@ -75,24 +76,61 @@ fn least_number<'a>(
     best
 }
 
+// Marks the place of a key, or not.
+pub fn mark(marks: &mut [bool; State::MARKS], yes: bool, k: u64)
+    requires { ⌜ length (now marks) ≡ mark-count ⌝ }
+    ensures { λ _. ⌜ Marks yes k (now (marks .entry)) (now (marks .exit)) ⌝ }
+{
+    if yes {
+        let p = check_equality::place(k);
+        marks[p] = true;
+    }
+}
+
+// The places of the key t and of the keys of the sides with the label a: every path that is ~ the term of t has one of them.
+fn marks_like<'a>(
+    key: &'a [u64; State::SLOTS],
+    b: &'a [u8; State::BYTES],
+    m: usize,
+    t: u64,
+    a: u8,
+) -> [bool; State::MARKS]
+    requires { ⌜ m ≤ slots ⌝ }
+    ensures { λ r. ⌜ MarksLike (now (key .entry)) (now (b .entry)) m t a r ⌝ }
+{
+    let mut marks = [false; State::MARKS];
+    mark(&mut marks, true, t);
+    let mut i = State::LEFT;
+    while i < m {
+        mark(&mut marks, b[i] == a, key[i]);
+        i += 1;
+    }
+    marks
+}
+
 // Is the path x.f not to be skipped, and ~ the term of t?
 fn path_like<'a>(
     key: &'a [u64; State::SLOTS],
     b: &'a [u8; State::BYTES],
     m: usize,
+    marks: &'a [bool; State::MARKS],
     skip: bool,
     x: u8,
     f: u8,
     t: u64,
     a: u8,
 ) -> bool
-    requires { ⌜ Slots (now key) (now b) m × Labelled (now key) (now b) m t a ⌝ }
+    requires { ⌜ Slots (now key) (now b) m × Labelled (now key) (now b) m t a × MarksLike (now key) (now b) m t a (now marks) ⌝ }
     ensures { λ r. ⌜ Told (now (key .entry)) (now (b .entry)) m (λ same. r ≡ pathTest same skip x f t) ⌝ }
 {
     if skip {
         return false;
     }
     let k = check_equality::path_key(x, f);
+    let p = check_equality::place(k);
+    if !marks[p] {
+        return false;
+    }
     let c = check_equality::label_of(key, b, m, k);
     check_equality::alike(k, c, t, a)
 }
@@ -110,12 +148,14 @@ fn first_entry<'a>(
     requires { ⌜ Slots (now key) (now b) m × Labelled (now key) (now b) m t a × (n ≤ most-permissions) ⌝ }
     ensures { λ r. ⌜ Told (now (key .entry)) (now (b .entry)) m (λ same. FirstPlace (entryPathTest same (now (b .entry)) (now (skip .entry)) t) n r) ⌝ }
 {
+    let marks = marks_like(key, b, m, t, a);
     let mut i = 0;
     while i < n {
         if path_like(
             key,
             b,
             m,
+            &marks,
             skip[i],
             b[State::VARIABLES + i],
             b[State::FIELDS + i],

@@ -9,10 +9,14 @@ use Rattle.check_successors.proofs.first_entry.Statement.{statement}
 use Rattle.check_successors.proofs.first_entry.Tie as tie
 
 abbrev Inv-loop : tie.InvT-loop
-Inv-loop key b m skip n t a i₀ i = (i ≤ n) × Told key b m (λ same. (j : ℕ) → j < i → entryPathTest same b skip t j ≡ false)
+Inv-loop key b m skip n t a marks i₀ i =
+    (i ≤ n) × Told key b m (λ same. (j : ℕ) → j < i → entryPathTest same b skip t j ≡ false)
 
 abbrev μ-loop : tie.MeasureT-loop
-μ-loop key b m skip n t a i₀ i = n - i
+μ-loop key b m skip n t a marks i₀ i = n - i
+
+marks-like-requires : tie.Need-marks-like-requires Inv-loop μ-loop
+marks-like-requires c κs = c .pre .0 .most
 
 loop-holds : tie.Need-loop-holds Inv-loop μ-loop
 loop-holds c = (omega arith, λ fs D j h. absurd (omega arith))
@@ -33,14 +37,14 @@ element-copy-out-path-like-3 : tie.Need-element-copy-out-path-like-3 Inv-loop μ
 element-copy-out-path-like-3 c = omega arith
 
 path-like-requires : tie.Need-path-like-requires Inv-loop μ-loop
-path-like-requires c κs = (c .before .before .before .before .before .pre .0, c .before .before .before .before .before .pre .1)
+path-like-requires c κs = (c .before .before .before .before .before .before .before .pre .0, c .before .before .before .before .before .before .before .pre .1, c .before .before .before .before .before .before .marks-like .ensures)
 
 returns : tie.Need-returns Inv-loop μ-loop
 returns c =
     λ fs D.
     record {
       within = omega arith;
-      before = c .before .before .before .before .before .before .loop .inv .1 fs D;
+      before = c .before .before .before .before .before .before .before .loop .inv .1 fs D;
       found = λ _. sym (c .before .path-like .ensures fs D) ∙ c .if1 .taken;
     }
 
@@ -52,12 +56,12 @@ loop-less c = omega arith
 
 loop-again : tie.Need-loop-again Inv-loop μ-loop
 loop-again c =
-    (omega arith, λ fs D. below-more _ _ (c .before .before .before .before .before .before .loop .inv .1 fs D) (sym (c .before .path-like .ensures fs D) ∙ c .if1 .left))
+    (omega arith, λ fs D. below-more _ _ (c .before .before .before .before .before .before .before .loop .inv .1 fs D) (sym (c .before .path-like .ensures fs D) ∙ c .if1 .left))
 
 returns-2 : tie.Need-returns-2 Inv-loop μ-loop
 returns-2 c =
     λ fs D.
-    let e : c .before .loop .i ≡ c .before .before .args .n = omega arith in
+    let e : c .before .loop .i ≡ c .before .before .before .args .n = omega arith in
     record { within = omega arith; before = rw e at (c .before .loop .inv .1 fs D); found = λ h. absurd (omega arith) }
 
 pub first-entry-spec : {M : Type 1} → statement M
@@ -66,6 +70,7 @@ first-entry-spec =
     (tie.spec
     Inv-loop
     μ-loop
+    marks-like-requires
     loop-holds
     element-copy-out-path-like
     add-path-like
