@@ -8,7 +8,7 @@ use native.Mathlib.Omega.{arith}
 use lib.Dec.{eqb}
 use lib.ListN.{getD, set, replicate}
 use borrow.Author.Tests.{eq-eqb, ne-eqb, eqb-true}
-use types.Run.{OneOf, miss}
+use types.Run.{OneOf}
 use denote.Enum.Declared.{tagOf}
 use Rattle.rules.specs.Base.{Try, ok, no, _>>=_, _>>_, check, orElse}
 use Rattle.rules.specs.Limits.{most-permissions}
@@ -16,7 +16,7 @@ use Rattle.rules.specs.Answers.{Refusal, unresolved, noPermission, notShown}
 use Rattle.rules.specs.Syntax.{Formula, Atom, Rel, same, eq, ne, num, null, var, path, acc, cmp}
 use Rattle.rules.specs.State as Rules
 use Rattle.rules.specs.State.{Permission, equalIn, names, split, pathOf, holdsIn}
-use Rattle.rules.specs.Rules.{actual, substTerm, substAtom, addEqual, setRule, assignRule, addFields, initial, addInitial, newRule, callRule, opposite, ifRule, joinRule}
+use Rattle.rules.specs.Rules.{End, actual, substTerm, substAtom, addEqual, setRule, assignRule, addFields, initial, addInitial, newRule, callRule, opposite, ifRule, returnRule, showEnd, joinRule}
 use Rattle.tables.specs.Decode.{run, atomsFrom, fieldsFrom, classAt, fieldCountAt, fieldNameAt, byteAt, classPlace, methodAt, requiresAt, ensuresAt, methodPlace, halfAt}
 use Rattle.tables.specs.Decode as Decode
 use Rattle.check_equality.specs.Keys.{termOf}
@@ -34,7 +34,7 @@ use Rattle.check_forgetting.proofs.Keeping.{kept-all}
 use Rattle.check_entailment.proofs.Splits.{split-none, split-first}
 use Rattle.check_formulas.specs.Formulas.{formula, Shows}
 use Rattle.check_formulas.proofs.Atoms.{not-done, is-done}
-use Rattle.check_statements.specs.Statements.{Parts, assignTerm, callShown, partRule, initialOf, assertRule, Asserts, releaseRule}
+use Rattle.check_statements.specs.Statements.{Parts, assignTerm, callShown, partRule, initialOf, Says, Asserts, endOf, releaseRule}
 
 abbrev pub Refused : Answer → Type 0
 Refused k = OneOf (1 ∷ 2 ∷ 3 ∷ 4 ∷ 5 ∷ []) (tagOf the-type k)
@@ -43,20 +43,20 @@ Refused k = OneOf (1 ∷ 2 ∷ 3 ∷ 4 ∷ 5 ∷ []) (tagOf the-type k)
 pub adds-same : (t u : Try Refusal Rules.State) (k : Answer) (key b : List ℕ) → t ≡ u → Adds t k key b → Adds u k key b
 adds-same t u k key b e A = record { wf = A .wf; same = A .same ∙ e }
 
-module _ {B : Type 0} (t : Try Refusal Rules.State) (k : Answer) (key b : List ℕ) (A : Adds t k key b) (f : Rules.State → Try Refusal B) where
-  pub after-done : k ≡ Answer.Done → (t >>= f) ≡ f (stateOf key b)
-  after-done e = ap (λ (u : Try Refusal Rules.State). u >>= f) (sym (A .same)) ∙ is-done k e (stateOf key b) f
+module _ {A B : Type 0} (t : Try Refusal A) (k : Answer) (a : A) (S : answered k a ≡ t) (f : A → Try Refusal B) where
+  pub after-done : k ≡ Answer.Done → (t >>= f) ≡ f a
+  after-done e = ap (λ (u : Try Refusal A). u >>= f) (sym S) ∙ is-done k e a f
 
   pub after-refused : Refused k → (c : B) → (t >>= f) ≡ answered k c
-  after-refused o c = ap (λ (u : Try Refusal Rules.State). u >>= f) (sym (A .same)) ∙ not-done k o (stateOf key b) f c
+  after-refused o c = ap (λ (u : Try Refusal A). u >>= f) (sym S) ∙ not-done k o a f c
 
 pub adds-refused : (t : Try Refusal Rules.State) (k : Answer) (key b : List ℕ) → Adds t k key b → (f : Rules.State → Try Refusal Rules.State) → Refused k → Adds (t >>= f) k key b
-adds-refused t k key b A f o = record { wf = A .wf; same = sym (after-refused t k key b A f o (stateOf key b)) }
+adds-refused t k key b A f o = record { wf = A .wf; same = sym (after-refused t k (stateOf key b) (A .same) f o (stateOf key b)) }
 
 pub adds-on :
     (t : Try Refusal Rules.State) (k : Answer) (key b : List ℕ) → Adds t k key b → (f : Rules.State → Try Refusal Rules.State) → k ≡ Answer.Done →
     (k′ : Answer) (key′ b′ : List ℕ) → Adds (f (stateOf key b)) k′ key′ b′ → Adds (t >>= f) k′ key′ b′
-adds-on t k key b A f e k′ key′ b′ Q = adds-same _ _ k′ key′ b′ (sym (after-done t k key b A f e)) Q
+adds-on t k key b A f e k′ key′ b′ Q = adds-same _ _ k′ key′ b′ (sym (after-done t k (stateOf key b) (A .same) f e)) Q
 
 pub adds-ok : (key b : List ℕ) → Wf key b → Adds (ok (stateOf key b)) Answer.Done key b
 unfolding answered
@@ -64,19 +64,6 @@ adds-ok key b w = record { wf = w; same = refl }
 
 pub adds-no : (k : Answer) (key b : List ℕ) → Wf key b → (t : Try Refusal Rules.State) → t ≡ answered k (stateOf key b) → Adds t k key b
 adds-no k key b w t e = record { wf = w; same = sym e }
-
-refused-same : {A : Type 0} (k : Answer) → Refused k → (x y : A) → answered k x ≡ answered k y
-unfolding answered
-refused-same Answer.Done o x y = absurd (miss (1 ∷ 2 ∷ 3 ∷ 4 ∷ 5 ∷ []) 0 tt o)
-refused-same Answer.Unresolved o x y = refl
-refused-same Answer.NoPermission o x y = refl
-refused-same Answer.NotShown o x y = refl
-refused-same Answer.Full o x y = refl
-refused-same Answer.Malformed o x y = refl
-
--- a refusal, whatever the arrays hold
-pub adds-elsewhere : (t : Try Refusal Rules.State) (k : Answer) (key b : List ℕ) → Adds t k key b → Refused k → (key′ b′ : List ℕ) → Wf key′ b′ → Adds t k key′ b′
-adds-elsewhere t k key b A o key′ b′ w = record { wf = w; same = refused-same k o (stateOf key′ b′) (stateOf key b) ∙ A .same }
 
 -- SET
 module _ (key b : List ℕ) (w : Wf key b) (x f y i : ℕ) (F : FirstPlace (entryTest b (replicate most-permissions false) x f (equalIn (stateOf key b))) (entries b) i) where
@@ -214,8 +201,17 @@ bind-answered Answer.Full a f b e = refl
 bind-answered Answer.Malformed a f b e = refl
 
 pub assert-law : (key b : List ℕ) (φ : Formula ℕ) (k : Answer) (out : List Bool) → Shows key b φ k out → Asserts φ (stateOf key b) k
-unfolding assertRule
-assert-law key b φ k out S = sym (ap (λ (t : Try Refusal Rules.Shown). t >>= λ r. ok (stateOf key b)) (sym (S .same)) ∙ bind-answered k (S .shown) (λ r. ok (stateOf key b)) (stateOf key b) refl)
+unfolding showEnd
+assert-law key b φ k out S = sym (ap (λ (t : Try Refusal Rules.Shown). t >>= λ r. ok tt) (sym (S .same)) ∙ bind-answered k (S .shown) (λ r. ok tt) tt refl)
+
+-- `assert` leaves the state
+pub asserted : (φ : Formula ℕ) (key b : List ℕ) (k : Answer) → Wf key b → Asserts φ (stateOf key b) k → Adds (Rules.show (stateOf key b) φ >>= λ r. ok (stateOf key b)) k key b
+unfolding showEnd _>>=_
+asserted φ key b k w e = record { wf = w; same = go (Rules.show (stateOf key b) φ) e }
+  where
+    go : (t : Try Refusal Rules.Shown) → Says (t >>= λ r. ok tt) k → answered k (stateOf key b) ≡ (t >>= λ r. ok (stateOf key b))
+    go (ok r) e = sym (bind-answered k tt (λ u. ok (stateOf key b)) (stateOf key b) refl) ∙ ap (λ (u : Try Refusal (Unit {0})). u >>= λ v. ok (stateOf key b)) e
+    go (no f) e = sym (bind-answered k tt (λ u. ok (stateOf key b)) (stateOf key b) refl) ∙ ap (λ (u : Try Refusal (Unit {0})). u >>= λ v. ok (stateOf key b)) e
 
 pub release-law :
     (key b key′ b′ : List ℕ) (φ : Formula ℕ) (k : Answer) (out : List Bool) → Shows key b φ k out →
@@ -259,7 +255,7 @@ pub part-refused :
     Parts (partRule n t u s) k key b key2 b2
 unfolding partRule
 part-refused n t u s k key b key2 b2 A w o =
-    record { first = A .wf; second = w; same = sym (after-refused _ k key b A _ o (stateOf key b, stateOf key2 b2)) }
+    record { first = A .wf; second = w; same = sym (after-refused _ k (stateOf key b) (A .same) _ o (stateOf key b, stateOf key2 b2)) }
 
 other : (b : Bool) → opposite (relOf b) ≡ relOf (not b)
 unfolding opposite relOf
@@ -274,7 +270,7 @@ part-done c t u s k key b A e s₂ d k2 key2 b2 C =
     record {
       first = A .wf;
       second = C .wf;
-      same = sym (after-done _ k key b A _ e ∙ ap (λ (n : Rel). Rules.addFact n t u s >>= λ q. ok (stateOf key b, q)) (other c) ∙ ap (λ (q : Try Refusal Rules.State). q >>= λ q. ok (stateOf key b, q)) (ap (Rules.addFact (relOf (not c)) t u) (sym d) ∙ sym (C .same)) ∙ bind-answered k2 _ (λ q. ok (stateOf key b, q)) _ refl);
+      same = sym (after-done _ k (stateOf key b) (A .same) _ e ∙ ap (λ (n : Rel). Rules.addFact n t u s >>= λ q. ok (stateOf key b, q)) (other c) ∙ ap (λ (q : Try Refusal Rules.State). q >>= λ q. ok (stateOf key b, q)) (ap (Rules.addFact (relOf (not c)) t u) (sym d) ∙ sym (C .same)) ∙ bind-answered k2 _ (λ q. ok (stateOf key b, q)) _ refl);
     }
 
 module _ (key b : List ℕ) (w : Wf key b) (n : Rel) (a c : Rules.Term) (key2 b2 : List ℕ) (w2 : Wf key2 b2) where
@@ -310,24 +306,42 @@ pub field-fact :
 unfolding relOf
 field-fact p x f i t s e d = rw (e, d)
 
--- JOIN
-join-cases : (φ : Formula ℕ) (s t : Rules.State) → (assertRule φ s >>= λ a. assertRule φ t >>= λ b. Rules.add φ Rules.empty) ≡ joinRule φ s t
-unfolding assertRule joinRule _>>=_
-join-cases φ s t = go (Rules.show s φ) (Rules.show t φ)
-  where
-    go : (p q : Try Refusal Rules.Shown) → ((p >>= λ r. ok s) >>= λ a. (q >>= λ r. ok t) >>= λ b. Rules.add φ Rules.empty) ≡ (p >>= λ r. q >>= λ r. Rules.add φ Rules.empty)
-    go (ok p) (ok q) = refl
-    go (ok p) (no e) = refl
-    go (no e) q = refl
+-- ENDS
+module _ (φ : Formula ℕ) (s : Rules.State) (returned : Bool) where
+  pub end-returned : returned ≡ true → Says (showEnd φ (endOf returned s)) Answer.Done
+  unfolding showEnd answered
+  end-returned e = rw e
 
-pub join-law : (φ : Formula ℕ) (s t : Rules.State) → (assertRule φ s >>= λ a. assertRule φ t >>= λ b. Rules.add φ Rules.empty) ≡ joinRule φ s t
-join-law φ s t = join-cases φ s t
+  pub end-shown : returned ≡ false → (k : Answer) → Asserts φ s k → Says (showEnd φ (endOf returned s)) k
+  end-shown e k S = rw e S
+
+-- RETURN
+module _ (x : ℕ) (φ : Formula ℕ) (s : Rules.State) (k : Answer) (key b : List ℕ) (A : Adds (assignRule 14 (var x) s) k key b) where
+  pub return-refused : Refused k → Says (returnRule x φ s) k
+  unfolding returnRule
+  return-refused o = sym (after-refused _ k (stateOf key b) (A .same) _ o tt)
+
+  pub return-shown : k ≡ Answer.Done → (l : Answer) → Asserts φ (stateOf key b) l → Says (returnRule x φ s) l
+  unfolding returnRule showEnd
+  return-shown e l S = S ∙ sym (after-done _ k (stateOf key b) (A .same) _ e)
+
+-- JOIN
+module _ (φ : Formula ℕ) (e₁ e₂ : End) (k : Answer) (S : Says (showEnd φ e₁) k) where
+  pub join-first : (key b : List ℕ) → Wf key b → Refused k → Adds (joinRule φ e₁ e₂) k key b
+  unfolding joinRule
+  join-first key b w o = adds-no k key b w _ (after-refused _ k tt S _ o (stateOf key b))
+
+  module _ (d : k ≡ Answer.Done) (l : Answer) (Q : Says (showEnd φ e₂) l) where
+    pub join-second : (key b : List ℕ) → Wf key b → Refused l → Adds (joinRule φ e₁ e₂) l key b
+    unfolding joinRule
+    join-second key b w o = adds-no l key b w _ (after-done _ k tt S _ d ∙ after-refused _ l tt Q _ o (stateOf key b))
+
+    pub join-done : l ≡ Answer.Done → (m : Answer) (key b : List ℕ) → Adds (Rules.add φ Rules.empty) m key b → Adds (joinRule φ e₁ e₂) m key b
+    unfolding joinRule
+    join-done f m key b A = adds-same _ _ m key b (sym (after-done _ k tt S _ d ∙ after-done _ l tt Q _ f)) A
 
 pub empty-add : (w : List ℕ) (a n : ℕ) (s : Rules.State) → s ≡ Rules.empty → Rules.add (formula w 0 1 14 a n) s ≡ Rules.add (atomsFrom w a n) Rules.empty
 empty-add w a n s d = ap₂ (λ (φ : Formula ℕ) (s : Rules.State). Rules.add φ s) (plain w a n) d
-
-pub asserted : (φ : Formula ℕ) (key b : List ℕ) (k : Answer) → Wf key b → Asserts φ (stateOf key b) k → Adds (assertRule φ (stateOf key b)) k key b
-asserted φ key b k w e = record { wf = w; same = e }
 
 -- a copy of a state
 pub copied : (key b key2 b2 : List ℕ) → Wf key b → key2 ≡ key → b2 ≡ b → Wf key2 b2

@@ -1,14 +1,14 @@
 -- What the rules of statements answer.
 use mathlib.Core.Path.{_≡_}
-use mathlib.Core.Bool.{cond, not}
-use mathlib.Core.Option.{Option}
+use mathlib.Core.Bool.{Bool, cond, not}
+use mathlib.Core.Option.{Option, none, some}
 use mathlib.Core.List.{List, map}
 use Prim.Native.Nat.{ℕ}
 use lib.Dec.{eqb}
 use Rattle.rules.specs.Base.{Try, ok, _>>=_}
 use Rattle.rules.specs.Answers.{Refusal}
 use Rattle.rules.specs.Syntax.{Formula, Rel, Method, same, num, null, var}
-use Rattle.rules.specs.Rules.{addEqual, actual, substAtom, opposite, joinRule}
+use Rattle.rules.specs.Rules.{End, addEqual, actual, substAtom, opposite, showEnd, joinRule}
 use Rattle.rules.specs.State as Rules
 use Rattle.check_entailment.specs.declared.Answer.{Answer}
 use Rattle.check_state.specs.States.{Wf, stateOf}
@@ -20,9 +20,22 @@ pub record Parts (t : Try Refusal (Rules.State × Rules.State)) (answer : Answer
   pub second : Wf key2 b2
   pub same : answered answer (stateOf key b, stateOf key2 b2) ≡ t
 
--- `join` of the states that two pairs of arrays hold, the ends of the two parts
-abbrev pub JoinGives : Formula ℕ → List ℕ → List ℕ → List ℕ → List ℕ → Answer → List ℕ → List ℕ → Type 0
-JoinGives φ key b key2 b2 answer key′ b′ = Adds (joinRule φ (stateOf key b) (stateOf key2 b2)) answer key′ b′
+-- an answer that leaves no state
+abbrev pub Says : Try Refusal (Unit {0}) → Answer → Type 0
+Says t answer = answered answer tt ≡ t
+
+-- a formula shown by a state
+abbrev pub Asserts : Formula ℕ → Rules.State → Answer → Type 0
+Asserts φ s answer = Says (showEnd φ (some s)) answer
+
+-- the end of a part or a block: a state, or none after a `return`
+abbrev pub endOf : Bool → Rules.State → End
+endOf returned s = cond returned none (some s)
+
+-- `join` of the ends of the two parts, by whether a part returned and the state that its arrays hold
+abbrev pub JoinGives : Formula ℕ → Bool → List ℕ → List ℕ → Bool → List ℕ → List ℕ → Answer → List ℕ → List ℕ → Type 0
+JoinGives φ returned key b returned2 key2 b2 answer key′ b′ =
+    Adds (joinRule φ (endOf returned (stateOf key b)) (endOf returned2 (stateOf key2 b2))) answer key′ b′
 
 -- `let x e`, where e resolves to r
 unfoldable pub assignTerm : ℕ → Rules.Term → Rules.State → Try Refusal Rules.State
@@ -46,13 +59,6 @@ partRule n t u s = do
 -- a field's first value, by its kind
 unfoldable pub initialOf : ℕ → Rules.Term
 initialOf k = cond (not (eqb k 0)) (num 0) null
-
--- `assert` and `release`
-unfoldable pub assertRule : Formula ℕ → Rules.State → Try Refusal Rules.State
-assertRule φ s = Rules.show s φ >>= λ r. ok s
-
-abbrev pub Asserts : Formula ℕ → Rules.State → Answer → Type 0
-Asserts φ s k = answered k s ≡ assertRule φ s
 
 unfoldable pub releaseRule : Formula ℕ → Rules.State → Try Refusal Rules.State
 releaseRule φ s = Rules.show s φ >>= λ r. ok (Rules.remainder s r)

@@ -8,7 +8,7 @@ ghost use mathlib.Core.Path.{_≡_};
 ghost use Prim.Native.Nat.{_+_, _≤_, _<_};
 ghost use lib.ListN.{length};
 ghost use Rattle.rules.specs.Limits.{work-bytes, most-classes, most-fields};
-ghost use Rattle.rules.specs.Rules.{setRule, addEqual, assignRule, newRule, addFields, addInitial, callRule, ifRule};
+ghost use Rattle.rules.specs.Rules.{setRule, addEqual, assignRule, newRule, addFields, addInitial, callRule, ifRule, returnRule, showEnd};
 ghost use Rattle.tables.specs.Layout.{most-atom-rows};
 ghost use Rattle.tables.specs.Decode.{fieldCountAt, fieldsFrom, classAt, methodAt, methodCount, atomsFrom};
 ghost use Rattle.tables.specs.Tables.{Tables};
@@ -17,7 +17,7 @@ ghost use Rattle.check_equality.specs.Links.{relOf};
 ghost use Rattle.check_state.specs.States.{Wf, stateOf};
 ghost use Rattle.check_forgetting.specs.Changes.{leftOver};
 ghost use Rattle.check_entailment.specs.Answers.{Adds};
-ghost use Rattle.check_statements.specs.Statements.{Parts, assignTerm, callShown, partRule, initialOf, Asserts, releaseRule, JoinGives};
+ghost use Rattle.check_statements.specs.Statements.{Parts, assignTerm, callShown, partRule, initialOf, Says, Asserts, endOf, releaseRule, JoinGives};
 
 // `set x f y`: the facts that name the path that shows `acc x f` go, and the path is y.
 pub fn set_rule(
@@ -195,6 +195,43 @@ pub fn assert_rule<'a>(
     k
 }
 
+// The end of a part or a block shows the formula, but after a `return` nothing.
+pub fn show_end<'a>(
+    w: &'a [u8],
+    a: usize,
+    n: usize,
+    returned: bool,
+    key: &'a [u64; State::SLOTS],
+    b: &'a [u8; State::BYTES],
+) -> Answer
+    requires { ⌜ (length (now w) ≡ work-bytes) × (a + n ≤ most-atom-rows) × Wf (now key) (now b) ⌝ }
+    ensures { λ r. ⌜ Says (showEnd (atomsFrom (now (w .entry)) a n) (endOf returned (stateOf (now (key .entry)) (now (b .entry))))) r ⌝ }
+{
+    if returned {
+        return Answer::Done;
+    }
+    assert_rule(w, key, b, a, n)
+}
+
+// `return x`: `let result x`, and then the formula of ensures is shown.
+pub fn return_rule(
+    w: &[u8],
+    key: &mut [u64; State::SLOTS],
+    b: &mut [u8; State::BYTES],
+    x: u8,
+    a: usize,
+    n: usize,
+) -> Answer
+    requires { ⌜ (length (now w) ≡ work-bytes) × (a + n ≤ most-atom-rows) × Wf (now key) (now b) ⌝ }
+    ensures { λ r. ⌜ Says (returnRule x (atomsFrom (now (w .entry)) a n) (stateOf (now (key .entry)) (now (b .entry)))) r × Wf (now (key .exit)) (now (b .exit)) ⌝ }
+{
+    let k = assign_rule(key, b, State::RESULT, Term::Var(x));
+    let Answer::Done = k else {
+        return k;
+    };
+    assert_rule(w, key, b, a, n)
+}
+
 // `release`: the formula is shown, and the remainder is left.
 pub fn release_rule(
     w: &[u8],
@@ -313,19 +350,21 @@ pub fn join_rule<'a>(
     w: &'a [u8],
     a: usize,
     n: usize,
+    returned: bool,
     key: &mut [u64; State::SLOTS],
     b: &mut [u8; State::BYTES],
+    returned2: bool,
     key2: &'a [u64; State::SLOTS],
     b2: &'a [u8; State::BYTES],
 ) -> Answer
     requires { ⌜ (length (now w) ≡ work-bytes) × (a + n ≤ most-atom-rows) × Wf (now key) (now b) × Wf (now key2) (now b2) ⌝ }
-    ensures { λ r. ⌜ JoinGives (atomsFrom (now (w .entry)) a n) (now (key .entry)) (now (b .entry)) (now (key2 .entry)) (now (b2 .entry)) r (now (key .exit)) (now (b .exit)) ⌝ }
+    ensures { λ r. ⌜ JoinGives (atomsFrom (now (w .entry)) a n) returned (now (key .entry)) (now (b .entry)) returned2 (now (key2 .entry)) (now (b2 .entry)) r (now (key .exit)) (now (b .exit)) ⌝ }
 {
-    let k = assert_rule(w, key, b, a, n);
+    let k = show_end(w, a, n, returned, key, b);
     let Answer::Done = k else {
         return k;
     };
-    let l = assert_rule(w, key2, b2, a, n);
+    let l = show_end(w, a, n, returned2, key2, b2);
     let Answer::Done = l else {
         return l;
     };

@@ -1,36 +1,35 @@
 -- The parts of a branch, and a block.
 use mathlib.Core.Path.{_≡_, refl, sym, ap, _∙_, subst}
-use mathlib.Core.Bool.{true, false}
+use mathlib.Core.Bool.{Bool, true, false}
 use mathlib.Core.List.{List, [], _∷_}
 use mathlib.Core.Logic.{⊎-elim}
+use mathlib.Core.Option.{none, some}
 use Prim.Native.Nat.{ℕ, suc, _+_, _-_, _≤_, _<_}
 use native.Mathlib.Omega.{arith}
-use lib.ListN.{drop}
-use borrow.Author.Tests.{eqb-true, ne-eqb}
+use borrow.Author.Tests.{ne-eqb}
 use types.Run.{OneOf, miss}
 use denote.Enum.Declared.{tagOf}
-use Rattle.rules.specs.Base.{Try, ok, no, _>>=_}
 use Rattle.rules.specs.Limits.{most-branches}
 use Rattle.rules.specs.Grammar.{statementNumber, isClosingNumber, GoesOn}
 use Rattle.rules.specs.Answers as Answers
-use Rattle.rules.specs.Answers.{Refusal, accepted, refused, atLine, then, malformed}
+use Rattle.rules.specs.Answers.{accepted, refused, then, malformed}
 use Rattle.rules.specs.Syntax.{Formula, Rel, if}
 use Rattle.rules.specs.State as Rules
-use Rattle.rules.specs.Rules.{Open, inFirst, inSecond, ifRule, joinRule, checkRows, checkFrom, checkMethod, checkBlocks, checkProgram}
+use Rattle.rules.specs.Rules.{End, Open, inFirst, inSecond, ifRule, returnRule, showEnd, joinRule, checkFrom, checkMethod, checkBlocks, checkProgram}
 use Rattle.rules.proofs.Lists.{decide-eq}
-use Rattle.tables.specs.Decode.{operandsAt, run, kindAt, lineAt, stmtAt, formulaAt, rowCount, allRows, programIn, methodAt, methodsFrom, methodCount, mainFirst, atomsFrom, requiresAt, ensuresAt, firstRowAt, byteAt, halfAt, methodPlace}
+use Rattle.tables.specs.Decode.{operandsAt, run, kindAt, xAt, lineAt, stmtAt, formulaAt, rowCount, programIn, methodAt, methodsFrom, methodCount, mainFirst, atomsFrom, requiresAt, ensuresAt, firstRowAt, byteAt, halfAt, methodPlace}
 use Rattle.check_formulas.specs.Formulas.{formula}
 use Rattle.tables.specs.Tables.{Tables}
 use Rattle.check_entailment.specs.declared.Answer.{Answer}
 use Rattle.check_state.specs.States.{Wf, stateOf}
 use Rattle.check_entailment.specs.Answers.{Adds}
-use Rattle.check_statements.specs.Statements.{Parts, assertRule, Asserts}
-use Rattle.check_statements.proofs.Ruled.{Refused, adds-same, empty-add, asserted}
+use Rattle.check_statements.specs.Statements.{Parts, Says, endOf}
+use Rattle.check_statements.proofs.Ruled.{Refused, adds-same, empty-add}
 use Rattle.checker.specs.declared.Out.{Out}
 use Rattle.checker.specs.declared.Verdict.{Verdict}
-use Rattle.checker.specs.Checked.{outcome, verdictOf, refusalOf, Nests, verdictFrom, Stepped, Ran, Ended, Turned, Joined}
-use Rattle.tables.proofs.Statements.{else-means, join-means, end-means}
-use Rattle.checker.proofs.Stepping.{step-verdict, step-nests, if-verdict, if-nests, else-verdict, else-twice, else-alone, else-nests, join-verdict, join-early, join-alone, join-nests, end-inside, end-verdict, at-line}
+use Rattle.checker.specs.Checked.{outcome, verdictOf, refusalOf, Nests, verdictFrom, Stepped, stoppedAt, Ran, Returns, Ended, Turned, Joined}
+use Rattle.tables.proofs.Statements.{return-means, else-means, join-means, end-means}
+use Rattle.checker.proofs.Stepping.{step-verdict, step-nests, return-verdict, return-nests, after-return, if-verdict, if-nests, else-verdict, else-twice, else-alone, else-nests, join-verdict, join-early, join-alone, join-nests, end-inside, end-verdict, at-line}
 use Rattle.checker.proofs.Verdict.{the-type as verdict-type}
 
 abbrev Result : Type 0
@@ -73,20 +72,35 @@ never {k = k} o e = absurd (miss (1 ∷ 2 ∷ 3 ∷ 4 ∷ 5 ∷ []) 0 tt (subst 
 wrong : {A : Type 0} → Answer.Malformed ≡ Answer.Done → A
 wrong e = absurd (let z : _≡_ {A = ℕ} 0 1 = cc in omega arith)
 
-pub going : (k : ℕ) → isClosingNumber k ≡ false → (k ≡ 15 → ⊥) → GoesOn k
+pub going : (k : ℕ) → isClosingNumber k ≡ false → (k ≡ 12 → ⊥) → (k ≡ 15 → ⊥) → GoesOn k
 unfolding statementNumber
-going k a n = (a, n)
+going k a r n = (a, n, r)
 
 no-end : (k : ℕ) → GoesOn k → k ≡ 18 → ⊥
 unfolding isClosingNumber statementNumber
-no-end k (o, i) e = absurd (let p = rw e at o in let z : _≡_ {A = ℕ} 0 1 = cc in omega arith)
+no-end k (o, i, r) e = absurd (let p = rw e at o in let z : _≡_ {A = ℕ} 0 1 = cc in omega arith)
 
 module _ (w : List ℕ) (T : Tables w) where
-  -- a row that closes is one of three
-  pub closing : {A : Type 0} (i : ℕ) → isClosingNumber (kindAt w i) ≡ true → (kindAt w i ≡ 16 → A) → (kindAt w i ≡ 17 → A) → (kindAt w i ≡ 18 → A) → A
+  -- a row that closes a part is one of three, and any other stands there after a `return` alone
+  pub out-of-place :
+      (r : Out) → Ended w r → r .answer ≡ Answer.Done → (t : Rules.State) (φ : Formula ℕ) (os : List Open) →
+      (kindAt w (r .at) ≡ 16 → verdictFrom w (r .at) (endOf (r .returned) t) φ os ≡ refused malformed (lineAt w (r .at))) →
+      (kindAt w (r .at) ≡ 17 → verdictFrom w (r .at) (endOf (r .returned) t) φ os ≡ refused malformed (lineAt w (r .at))) →
+      (kindAt w (r .at) ≡ 18 → verdictFrom w (r .at) (endOf (r .returned) t) φ os ≡ refused malformed (lineAt w (r .at))) →
+      verdictFrom w (r .at) (endOf (r .returned) t) φ os ≡ refused malformed (lineAt w (r .at))
   unfolding isClosingNumber statementNumber
-  closing i g a b c =
-      ⊎-elim a (λ n. ⊎-elim b (λ m. c (eqb-true (kindAt w i) 18 (rw (ne-eqb (kindAt w i) 16 n, ne-eqb (kindAt w i) 17 m) at g))) (decide-eq (kindAt w i) 17)) (decide-eq (kindAt w i) 16)
+  out-of-place r E e t φ os a b c =
+      ⊎-elim a (λ na. ⊎-elim b (λ nb. ⊎-elim c (λ nc. other na nb nc (r .returned) refl) (decide-eq k 18)) (decide-eq k 17)) (decide-eq k 16)
+    where
+      k : ℕ
+      k = kindAt w (r .at)
+
+      other :
+          (k ≡ 16 → ⊥) → (k ≡ 17 → ⊥) → (k ≡ 18 → ⊥) → (q : Bool) → r .returned ≡ q →
+          verdictFrom w (r .at) (endOf (r .returned) t) φ os ≡ refused malformed (lineAt w (r .at))
+      other na nb nc true d = rw d (after-return w (r .at) (E .within) (T .row-fits (r .at) (E .within) .operands .kind) na nb nc φ os)
+      other na nb nc false d =
+          absurd (let g = rw (ne-eqb k 16 na, ne-eqb k 17 nb, ne-eqb k 18 nc) at (E .closes e d) in let z : _≡_ {A = ℕ} 0 1 = cc in omega arith)
 
   pub goes-on : (i : ℕ) → i < rowCount w → (kindAt w i ≡ 18 → ⊥) → i + 1 < rowCount w
   goes-on i h g = ⊎-elim (λ e. absurd (g e)) (λ n. omega arith) (T .row-fits i h .follows .next)
@@ -111,22 +125,28 @@ module _ (w : List ℕ) (T : Tables w) where
             was = λ e. e;
             next = λ _. goes-on (one .at) (E .within) (λ m. omega arith);
             nests = λ _ d t. else-nests w (one .at) (E .within) (else-means w (operandsAt w (one .at)) k) d t;
-            same = λ s s₂ φ os. ap (outcome (one .answer) (lineAt w (one .at))) (else-verdict w (one .at) (E .within) (else-means w (operandsAt w (one .at)) k) s s₂ φ os);
+            same = λ s s₂ φ os. ap (outcome (one .answer) (lineAt w (one .at))) (else-verdict w (one .at) (E .within) (else-means w (operandsAt w (one .at)) k) (endOf (one .returned) s) s₂ φ os);
           }
 
-      pub turned-wrong : (kindAt w (one .at) ≡ 16 → ⊥) → Turned w one (record { answer = Answer.Malformed; at = one .at })
-      turned-wrong n =
+      pub turned-wrong : (kindAt w (one .at) ≡ 16 → ⊥) → (r : Out) → r ≡ stoppedAt Answer.Malformed (one .at) → Turned w one r
+      turned-wrong n r er =
+          rw er
           record {
             place = refl;
             was = λ d. wrong d;
             next = λ d. wrong d;
             nests = λ d. wrong d;
-            same = λ s s₂ φ os. done-outcome (one .answer) e _ _ ∙ closing (one .at) (E .closes e) (λ k. absurd (n k)) (λ k. join-early w (one .at) (E .within) (formulaAt w (one .at)) (join-means w (operandsAt w (one .at)) k) s s₂ φ os) (λ k. end-inside w (one .at) (E .within) (end-means w (operandsAt w (one .at)) k) s (inFirst s₂) φ os) ∙ sym (malformed-outcome _ _);
+            same = λ s s₂ φ os.
+                done-outcome (one .answer) e _ _
+                ∙ out-of-place one E e s φ (inFirst s₂ ∷ os) (λ k. absurd (n k))
+                (λ k. join-early w (one .at) (E .within) (formulaAt w (one .at)) (join-means w (operandsAt w (one .at)) k) _ s₂ φ os)
+                (λ k. end-inside w (one .at) (E .within) (end-means w (operandsAt w (one .at)) k) _ (inFirst s₂) φ os)
+                ∙ sym (malformed-outcome _ _);
           }
 
   -- THE SECOND PART'S END
-  module _ (two : Out) (E : Ended w two) (s t : Rules.State) where
-    pub joined-refused : Refused (two .answer) → (key b : List ℕ) → Wf key b → Joined w two s t two key b
+  module _ (two : Out) (E : Ended w two) (u : End) (t : Rules.State) where
+    pub joined-refused : Refused (two .answer) → (key b : List ℕ) → Wf key b → Joined w two u t two key b
     joined-refused o key b f =
         record {
           place = refl;
@@ -139,87 +159,130 @@ module _ (w : List ℕ) (T : Tables w) where
 
     module _ (e : two .answer ≡ Answer.Done) where
       pub joined-join :
-          kindAt w (two .at) ≡ 17 → (a : Answer) (key b : List ℕ) → Adds (joinRule (formulaAt w (two .at)) s t) a key b →
-          Joined w two s t (record { answer = a; at = two .at }) key b
-      joined-join k a key b A =
+          kindAt w (two .at) ≡ 17 → (a : Answer) (key b : List ℕ) → Adds (joinRule (formulaAt w (two .at)) u (endOf (two .returned) t)) a key b →
+          (r : Out) → r ≡ stoppedAt a (two .at) → Joined w two u t r key b
+      joined-join k a key b A r er =
+          rw er
           record {
             place = refl;
             wf = A .wf;
             was = λ d. e;
             next = λ _. goes-on (two .at) (E .within) (λ m. omega arith);
             nests = λ _ d t. join-nests w (two .at) (E .within) (formulaAt w (two .at)) (join-means w (operandsAt w (two .at)) k) d t;
-            same = λ φ os. done-outcome (two .answer) e _ _ ∙ join-verdict w (two .at) (E .within) (formulaAt w (two .at)) (join-means w (operandsAt w (two .at)) k) t s a key b A φ os;
+            same = λ φ os. done-outcome (two .answer) e _ _ ∙ join-verdict w (two .at) (E .within) (formulaAt w (two .at)) (join-means w (operandsAt w (two .at)) k) (endOf (two .returned) t) u a key b A φ os;
           }
 
-      pub joined-wrong : (kindAt w (two .at) ≡ 17 → ⊥) → (key b : List ℕ) → Wf key b → Joined w two s t (record { answer = Answer.Malformed; at = two .at }) key b
-      joined-wrong n key b f =
+      pub joined-wrong : (kindAt w (two .at) ≡ 17 → ⊥) → (key b : List ℕ) → Wf key b → (r : Out) → r ≡ stoppedAt Answer.Malformed (two .at) → Joined w two u t r key b
+      joined-wrong n key b f r er =
+          rw er
           record {
             place = refl;
             wf = f;
             was = λ d. wrong d;
             next = λ d. wrong d;
             nests = λ d. wrong d;
-            same = λ φ os. done-outcome (two .answer) e _ _ ∙ closing (two .at) (E .closes e) (λ k. else-twice w (two .at) (E .within) (else-means w (operandsAt w (two .at)) k) t s φ os) (λ k. absurd (n k)) (λ k. end-inside w (two .at) (E .within) (end-means w (operandsAt w (two .at)) k) t (inSecond s) φ os) ∙ sym (malformed-outcome _ _);
+            same = λ φ os.
+                done-outcome (two .answer) e _ _
+                ∙ out-of-place two E e t φ (inSecond u ∷ os)
+                (λ k. else-twice w (two .at) (E .within) (else-means w (operandsAt w (two .at)) k) _ u φ os) (λ k. absurd (n k))
+                (λ k. end-inside w (two .at) (E .within) (end-means w (operandsAt w (two .at)) k) _ (inSecond u) φ os)
+                ∙ sym (malformed-outcome _ _);
           }
+
+  -- `return`
+  module _ (i : ℕ) (h : i < rowCount w) (q : kindAt w i ≡ 12) (φ : Formula ℕ) (s : Rules.State) (key b : List ℕ) (f : Wf key b) (x : ℕ) (ex : x ≡ xAt w i) (k : Answer) (S : Says (returnRule x φ s) k) where
+    returned-verdict : (os : List Open) → verdictFrom w i (some s) φ os ≡ outcome k (lineAt w i) (verdictFrom w (i + 1) none φ os)
+    returned-verdict os = return-verdict w i h (xAt w i) (return-means w (operandsAt w i) q) s φ k (rw (← ex) S) os
+
+    pub return-stops : Refused k → (r : Out) → r ≡ stoppedAt k i → Returns w i φ s r key b
+    return-stops o r er depth n =
+        rw er
+        record {
+          wf = f;
+          on = omega arith;
+          within = h;
+          closes = λ d. never o d;
+          nests = λ d. never o d;
+          same = λ os. returned-verdict os ∙ refused-outcome k o _ _ _;
+        }
+
+    pub return-goes : k ≡ Answer.Done → Returns w i φ s (record { answer = Answer.Done; at = i + 1; returned = true }) key b
+    return-goes e depth n =
+        record {
+          wf = f;
+          on = omega arith;
+          within = goes-on i h (λ m. omega arith);
+          closes = λ _ d. absurd (let z : _≡_ {A = ℕ} 0 1 = cc in omega arith);
+          nests = λ _. return-nests w i h (xAt w i) (return-means w (operandsAt w i) q) _ n;
+          same = λ os. returned-verdict os ∙ done-outcome k e _ _ ∙ sym (done-outcome Answer.Done refl _ _);
+        }
 
 -- A BLOCK
 -- what the loop keeps
-pub record Going (w : List ℕ) (depth from : ℕ) (start : Rules.State) (i : ℕ) (key b : List ℕ) : Type 0 where
+pub record Going (w : List ℕ) (depth from : ℕ) (φ : Formula ℕ) (start : Rules.State) (i : ℕ) (key b : List ℕ) : Type 0 where
   pub wf : Wf key b
   pub on : from ≤ i
   pub within : i < rowCount w
   pub nests : Nests w i (most-branches - depth)
-  pub same : (φ : Formula ℕ) (os : List Open) → verdictFrom w from start φ os ≡ verdictFrom w i (stateOf key b) φ os
+  pub same : (os : List Open) → verdictFrom w from (some start) φ os ≡ verdictFrom w i (some (stateOf key b)) φ os
 
-pub begin : (w : List ℕ) (depth from : ℕ) (key b : List ℕ) → Wf key b → from < rowCount w → Nests w from (most-branches - depth) → Going w depth from (stateOf key b) from key b
-begin w depth from key b f h n = record { wf = f; on = omega arith; within = h; nests = n; same = λ φ os. refl }
+pub begin : (w : List ℕ) (depth from : ℕ) (φ : Formula ℕ) (key b : List ℕ) → Wf key b → from < rowCount w → Nests w from (most-branches - depth) → Going w depth from φ (stateOf key b) from key b
+begin w depth from φ key b f h n = record { wf = f; on = omega arith; within = h; nests = n; same = λ os. refl }
 
-module _ (w : List ℕ) (T : Tables w) (depth from : ℕ) (d4 : depth ≤ 4) (start : Rules.State) (i : ℕ) (key b : List ℕ) (G : Going w depth from start i key b) where
+module _ (w : List ℕ) (T : Tables w) (depth from : ℕ) (d4 : depth ≤ 4) (φ : Formula ℕ) (start : Rules.State) (i : ℕ) (key b : List ℕ) (G : Going w depth from φ start i key b) where
   abbrev s : Rules.State
   s = stateOf key b
 
-  pub ends : isClosingNumber (kindAt w i) ≡ true → Ran w depth from start (record { answer = Answer.Done; at = i }) key b
-  ends k =
+  pub ends : isClosingNumber (kindAt w i) ≡ true → (r : Out) → r ≡ stoppedAt Answer.Done i → Ran w depth from φ start r key b
+  ends k r er =
+      rw er
       record {
         wf = G .wf;
         on = G .on;
         within = G .within;
-        closes = λ _. k;
+        closes = λ _ _. k;
         nests = λ _. G .nests;
-        same = λ φ os. G .same φ os ∙ sym (done-outcome Answer.Done refl _ _);
+        same = λ os. G .same os ∙ sym (done-outcome Answer.Done refl _ _);
       }
+
+  pub returns : (r : Out) (key′ b′ : List ℕ) → Returns w i φ s r key′ b′ → Ran w depth from φ start r key′ b′
+  returns r key′ b′ R =
+      let Q = R depth (G .nests) in
+      record { wf = Q .wf; on = omega (arith, G .on, Q .on); within = Q .within; closes = Q .closes; nests = Q .nests; same = λ os. G .same os ∙ Q .same os }
 
   -- a refusal on the way
   stops :
-      (k : Answer) (j : ℕ) (key′ b′ : List ℕ) → Refused k → Wf key′ b′ → i ≤ j → j < rowCount w →
-      ((φ : Formula ℕ) (os : List Open) (v : Result) → verdictFrom w i s φ os ≡ outcome k (lineAt w j) v) → Ran w depth from start (record { answer = k; at = j }) key′ b′
-  stops k j key′ b′ o f h g e =
+      (r : Out) (key′ b′ : List ℕ) → Refused (r .answer) → Wf key′ b′ → i ≤ r .at → r .at < rowCount w →
+      ((os : List Open) (v : Result) → verdictFrom w i (some s) φ os ≡ outcome (r .answer) (lineAt w (r .at)) v) → Ran w depth from φ start r key′ b′
+  stops r key′ b′ o f h g e =
       record {
         wf = f;
         on = omega (arith, G .on);
         within = g;
         closes = λ d. never o d;
         nests = λ d. never o d;
-        same = λ φ os. G .same φ os ∙ e φ os _;
+        same = λ os. G .same os ∙ e os _;
       }
 
   module _ (k : Answer) (key′ b′ : List ℕ) (S : Stepped w i s k key′ b′) where
-    pub step-stops : Refused k → Ran w depth from start (record { answer = k; at = i }) key′ b′
-    step-stops o = stops k i key′ b′ o (S .adds .wf) (omega arith) (G .within) (λ φ os v. step-verdict w i (G .within) s k key′ b′ S φ os ∙ refused-outcome k o _ _ _)
+    pub step-stops : Refused k → (r : Out) → r ≡ stoppedAt k i → Ran w depth from φ start r key′ b′
+    step-stops o r er =
+        rw er (stops (stoppedAt k i) key′ b′ o (S .adds .wf) (omega arith) (G .within) (λ os v. step-verdict w i (G .within) s k key′ b′ S φ os ∙ refused-outcome k o _ _ _))
 
-    pub step-on : GoesOn (kindAt w i) → k ≡ Answer.Done → Going w depth from start (i + 1) key′ b′
+    pub step-on : GoesOn (kindAt w i) → k ≡ Answer.Done → Going w depth from φ start (i + 1) key′ b′
     step-on l e =
         record {
           wf = S .adds .wf;
           on = omega (arith, G .on);
           within = goes-on w T i (G .within) (no-end _ l);
           nests = step-nests w i (G .within) s k key′ b′ S _ (G .nests);
-          same = λ φ os. G .same φ os ∙ step-verdict w i (G .within) s k key′ b′ S φ os ∙ done-outcome k e _ _;
+          same = λ os. G .same os ∙ step-verdict w i (G .within) s k key′ b′ S φ os ∙ done-outcome k e _ _;
         }
 
   module _ (n : Rel) (x y : Rules.Term) (is : stmtAt w i ≡ if n x y) (k : Answer) (key₁ b₁ key₂ b₂ : List ℕ) (P : Parts (ifRule n x y s) k key₁ b₁ key₂ b₂) where
-    pub if-stops : Refused k → Ran w depth from start (record { answer = k; at = i }) key₁ b₁
-    if-stops o = stops k i key₁ b₁ o (P .first) (omega arith) (G .within) (λ φ os v. if-verdict w i (G .within) n x y is s k key₁ b₁ key₂ b₂ P φ os ∙ refused-outcome k o _ _ _)
+    pub if-stops : Refused k → (r : Out) → r ≡ stoppedAt k i → Ran w depth from φ start r key₁ b₁
+    if-stops o r er =
+        rw er (stops (stoppedAt k i) key₁ b₁ o (P .first) (omega arith) (G .within) (λ os v. if-verdict w i (G .within) n x y is s k key₁ b₁ key₂ b₂ P φ os ∙ refused-outcome k o _ _ _))
 
     pub deep : (0 < depth) × Nests w (i + 1) (most-branches - (depth - 1))
     deep =
@@ -228,71 +291,71 @@ module _ (w : List ℕ) (T : Tables w) (depth from : ℕ) (d4 : depth ≤ 4) (st
         let e : suc (most-branches - depth) ≡ most-branches - (depth - 1) = omega arith in
         (omega arith, subst (λ (m : ℕ). Nests w (i + 1) m) e (p .1))
 
-    module _ (q : kindAt w i ≡ 15) (done : k ≡ Answer.Done) (one turn : Out) (key₃ b₃ : List ℕ) (R : Ran w (depth - 1) (i + 1) (stateOf key₁ b₁) one key₃ b₃) (U : Turned w one turn) where
-      first-verdict : (φ : Formula ℕ) (os : List Open) → verdictFrom w i s φ os ≡ outcome (turn .answer) (lineAt w (turn .at)) (verdictFrom w (turn .at + 1) (stateOf key₂ b₂) φ (inSecond (stateOf key₃ b₃) ∷ os))
-      first-verdict φ os =
-          if-verdict w i (G .within) n x y is s k key₁ b₁ key₂ b₂ P φ os ∙ done-outcome k done _ _
-          ∙ R .same φ (inFirst (stateOf key₂ b₂) ∷ os) ∙ U .same (stateOf key₃ b₃) (stateOf key₂ b₂) φ os
+    module _ (q : kindAt w i ≡ 15) (done : k ≡ Answer.Done) (one turn : Out) (key₃ b₃ : List ℕ) (R : Ran w (depth - 1) (i + 1) φ (stateOf key₁ b₁) one key₃ b₃) (U : Turned w one turn) where
+      -- the first part's end
+      abbrev u₁ : End
+      u₁ = endOf (turn .returned) (stateOf key₃ b₃)
 
-      pub turn-stops : Refused (turn .answer) → Ran w depth from start turn key₃ b₃
-      turn-stops o = stops (turn .answer) (turn .at) key₃ b₃ o (R .wf) (omega (arith, R .on, U .place)) (omega (arith, R .within, U .place)) (λ φ os v. first-verdict φ os ∙ refused-outcome (turn .answer) o _ _ _)
+      first-verdict : (os : List Open) → verdictFrom w i (some s) φ os ≡ outcome (turn .answer) (lineAt w (turn .at)) (verdictFrom w (turn .at + 1) (some (stateOf key₂ b₂)) φ (inSecond u₁ ∷ os))
+      first-verdict os =
+          if-verdict w i (G .within) n x y is s k key₁ b₁ key₂ b₂ P φ os ∙ done-outcome k done _ _
+          ∙ R .same (inFirst (stateOf key₂ b₂) ∷ os) ∙ U .same (stateOf key₃ b₃) (stateOf key₂ b₂) φ os
+
+      pub turn-stops : Refused (turn .answer) → Ran w depth from φ start turn key₃ b₃
+      turn-stops o = stops turn key₃ b₃ o (R .wf) (omega (arith, R .on, U .place)) (omega (arith, R .within, U .place)) (λ os v. first-verdict os ∙ refused-outcome (turn .answer) o _ _ _)
 
       pub turn-nests : turn .answer ≡ Answer.Done → Nests w (turn .at + 1) (most-branches - (depth - 1))
       turn-nests e = U .nests e _ (R .nests (U .was e))
 
-      module _ (e : turn .answer ≡ Answer.Done) (two fin : Out) (key₄ b₄ key₅ b₅ : List ℕ) (Q : Ran w (depth - 1) (turn .at + 1) (stateOf key₂ b₂) two key₄ b₄) (J : Joined w two (stateOf key₃ b₃) (stateOf key₄ b₄) fin key₅ b₅) where
-        second-verdict : (φ : Formula ℕ) (os : List Open) → verdictFrom w i s φ os ≡ outcome (fin .answer) (lineAt w (fin .at)) (verdictFrom w (fin .at + 1) (stateOf key₅ b₅) φ os)
-        second-verdict φ os =
-            first-verdict φ os ∙ done-outcome (turn .answer) e _ _ ∙ Q .same φ (inSecond (stateOf key₃ b₃) ∷ os) ∙ J .same φ os
+      module _ (e : turn .answer ≡ Answer.Done) (two fin : Out) (key₄ b₄ key₅ b₅ : List ℕ) (Q : Ran w (depth - 1) (turn .at + 1) φ (stateOf key₂ b₂) two key₄ b₄) (J : Joined w two u₁ (stateOf key₄ b₄) fin key₅ b₅) where
+        second-verdict : (os : List Open) → verdictFrom w i (some s) φ os ≡ outcome (fin .answer) (lineAt w (fin .at)) (verdictFrom w (fin .at + 1) (some (stateOf key₅ b₅)) φ os)
+        second-verdict os =
+            first-verdict os ∙ done-outcome (turn .answer) e _ _ ∙ Q .same (inSecond u₁ ∷ os) ∙ J .same φ os
 
         far : i < fin .at
         far = omega (arith, R .on, U .place, Q .on, J .place)
 
-        pub join-stops : Refused (fin .answer) → Ran w depth from start fin key₅ b₅
-        join-stops o = stops (fin .answer) (fin .at) key₅ b₅ o (J .wf) (omega (arith, far)) (omega (arith, Q .within, J .place)) (λ φ os v. second-verdict φ os ∙ refused-outcome (fin .answer) o _ _ _)
+        pub join-stops : Refused (fin .answer) → Ran w depth from φ start fin key₅ b₅
+        join-stops o = stops fin key₅ b₅ o (J .wf) (omega (arith, far)) (omega (arith, Q .within, J .place)) (λ os v. second-verdict os ∙ refused-outcome (fin .answer) o _ _ _)
 
-        pub join-on : fin .answer ≡ Answer.Done → Going w depth from start (fin .at + 1) key₅ b₅
+        pub join-on : fin .answer ≡ Answer.Done → Going w depth from φ start (fin .at + 1) key₅ b₅
         join-on f =
             record {
               wf = J .wf;
               on = omega (arith, G .on, far);
               within = J .next f;
               nests = let p = deep .0 in let c : most-branches - (depth - 1) ≡ suc (most-branches - depth) = omega arith in J .nests f (most-branches - depth) (subst (λ (m : ℕ). Nests w (two .at) m) c (Q .nests (J .was f)));
-              same = λ φ os. G .same φ os ∙ second-verdict φ os ∙ done-outcome (fin .answer) f _ _;
+              same = λ os. G .same os ∙ second-verdict os ∙ done-outcome (fin .answer) f _ _;
             }
 
         pub far-on : i < fin .at + 1
         far-on = omega (arith, far)
 
 -- A BLOCK TO ITS END
-assert-end : (l : ℕ) (φ : Formula ℕ) (s : Rules.State) → atLine l (Rules.show s φ) (λ r. accepted tt) ≡ atLine {B = Unit {0}} l (assertRule φ s) (λ t. accepted tt)
-unfolding atLine assertRule _>>=_
-assert-end l φ s = go (Rules.show s φ)
-  where
-    go : (t : Try Refusal Rules.Shown) → _≡_ {A = Result} (atLine l t (λ r. accepted tt)) (atLine l (t >>= λ r. ok s) (λ t. accepted tt))
-    go (ok r) = refl
-    go (no e) = refl
+module _ (w : List ℕ) (T : Tables w) (from : ℕ) (φ : Formula ℕ) (s : Rules.State) (r : Out) (key b : List ℕ) (R : Ran w 4 from φ s r key b) (line : ℕ) (el : line ≡ lineAt w (r .at)) where
+  abbrev u : End
+  u = endOf (r .returned) (stateOf key b)
 
-module _ (w : List ℕ) (T : Tables w) (from : ℕ) (s : Rules.State) (r : Out) (key b : List ℕ) (R : Ran w 4 from s r key b) (φ : Formula ℕ) (line : ℕ) (el : line ≡ lineAt w (r .at)) where
-  pub block-refused : Refused (r .answer) → verdictOf (Verdict.Refused (r .answer) line) ≡ verdictFrom w from s φ []
+  pub block-refused : Refused (r .answer) → verdictOf (Verdict.Refused (r .answer) line) ≡ verdictFrom w from (some s) φ []
   block-refused o =
-      refused-verdict (r .answer) o line (verdictFrom w (r .at) (stateOf key b) φ [])
-      ∙ ap (λ (l : ℕ). outcome (r .answer) l (verdictFrom w (r .at) (stateOf key b) φ [])) el ∙ sym (R .same φ [])
+      refused-verdict (r .answer) o line (verdictFrom w (r .at) u φ [])
+      ∙ ap (λ (l : ℕ). outcome (r .answer) l (verdictFrom w (r .at) u φ [])) el ∙ sym (R .same [])
 
   module _ (e : r .answer ≡ Answer.Done) where
-    reached : verdictFrom w from s φ [] ≡ verdictFrom w (r .at) (stateOf key b) φ []
-    reached = R .same φ [] ∙ done-outcome (r .answer) e _ _
+    arrived : verdictFrom w from (some s) φ [] ≡ verdictFrom w (r .at) u φ []
+    arrived = R .same [] ∙ done-outcome (r .answer) e _ _
 
-    pub block-ended : kindAt w (r .at) ≡ 18 → (a : Answer) → Asserts φ (stateOf key b) a → outcome a line (accepted tt) ≡ verdictFrom w from s φ []
+    pub block-ended : kindAt w (r .at) ≡ 18 → (a : Answer) → Says (showEnd φ u) a → outcome a line (accepted tt) ≡ verdictFrom w from (some s) φ []
     block-ended k a A =
         ap (λ (l : ℕ). outcome a l (accepted tt)) el
-        ∙ sym (reached ∙ end-verdict w (r .at) (R .within) (end-means w (operandsAt w (r .at)) k) (stateOf key b) φ ∙ assert-end (lineAt w (r .at)) φ (stateOf key b)
-        ∙ at-line (lineAt w (r .at)) _ a key b (asserted φ key b a (R .wf) A) (λ t. accepted tt))
+        ∙ sym (arrived ∙ end-verdict w (r .at) (R .within) (end-means w (operandsAt w (r .at)) k) u φ a A)
 
-    pub block-open : (kindAt w (r .at) ≡ 18 → ⊥) → verdictOf (Verdict.Refused Answer.Malformed line) ≡ verdictFrom w from s φ []
+    pub block-open : (kindAt w (r .at) ≡ 18 → ⊥) → verdictOf (Verdict.Refused Answer.Malformed line) ≡ verdictFrom w from (some s) φ []
     block-open n =
         malformed-verdict line ∙ ap (λ (l : ℕ). refused malformed l) el
-        ∙ sym (reached ∙ closing w T (r .at) (R .closes e) (λ k. else-alone w (r .at) (R .within) (else-means w (operandsAt w (r .at)) k) (stateOf key b) φ) (λ k. join-alone w (r .at) (R .within) (formulaAt w (r .at)) (join-means w (operandsAt w (r .at)) k) (stateOf key b) φ) (λ k. absurd (n k)))
+        ∙ sym (arrived ∙ out-of-place w T r (record { within = R .within; closes = R .closes }) e (stateOf key b) φ []
+        (λ k. else-alone w (r .at) (R .within) (else-means w (operandsAt w (r .at)) k) u φ)
+        (λ k. join-alone w (r .at) (R .within) (formulaAt w (r .at)) (join-means w (operandsAt w (r .at)) k) u φ) (λ k. absurd (n k)))
 
 -- A METHOD
 module _ (w : List ℕ) (m a n c o f : ℕ) (ea : a ≡ halfAt w (methodPlace m)) (en : n ≡ byteAt w (methodPlace m + 2)) (s : Rules.State) (es : s ≡ Rules.empty) (k : Answer) (key b : List ℕ) (A : Adds (Rules.add (formula w 0 1 14 a n) s) k key b) where
@@ -300,14 +363,14 @@ module _ (w : List ℕ) (m a n c o f : ℕ) (ea : a ≡ halfAt w (methodPlace m)
   unfolding requiresAt
   start-added = adds-same _ _ k key b (empty-add w a n s es ∙ rw (ea, en)) A
 
-  method-verdict : checkMethod (programIn w) (methodAt w m) ≡ outcome k 0 (verdictFrom w (firstRowAt w m) (stateOf key b) (ensuresAt w m) [])
+  method-verdict : checkMethod (programIn w) (methodAt w m) ≡ outcome k 0 (verdictFrom w (firstRowAt w m) (some (stateOf key b)) (ensuresAt w m) [])
   unfolding checkMethod methodAt checkFrom programIn
-  method-verdict = at-line 0 (Rules.add (requiresAt w m) Rules.empty) k key b start-added (λ s. checkRows (programIn w) (ensuresAt w m) (drop (firstRowAt w m) (allRows w)) s [])
+  method-verdict = at-line 0 (Rules.add (requiresAt w m) Rules.empty) k (stateOf key b) (start-added .same) (λ s. verdictFrom w (firstRowAt w m) (some s) (ensuresAt w m) [])
 
   pub method-refused : Refused k → verdictOf (Verdict.Refused k 0) ≡ checkMethod (programIn w) (methodAt w m)
-  method-refused q = refused-verdict k q 0 (verdictFrom w (firstRowAt w m) (stateOf key b) (ensuresAt w m) []) ∙ sym method-verdict
+  method-refused q = refused-verdict k q 0 (verdictFrom w (firstRowAt w m) (some (stateOf key b)) (ensuresAt w m) []) ∙ sym method-verdict
 
-  pub method-done : k ≡ Answer.Done → c ≡ halfAt w (methodPlace m + 4) → o ≡ byteAt w (methodPlace m + 3) → f ≡ firstRowAt w m → verdictFrom w f (stateOf key b) (atomsFrom w c o) [] ≡ checkMethod (programIn w) (methodAt w m)
+  pub method-done : k ≡ Answer.Done → c ≡ halfAt w (methodPlace m + 4) → o ≡ byteAt w (methodPlace m + 3) → f ≡ firstRowAt w m → verdictFrom w f (some (stateOf key b)) (atomsFrom w c o) [] ≡ checkMethod (programIn w) (methodAt w m)
   unfolding ensuresAt
   method-done e ec eo ef = rw (ec, eo, ef) (sym (method-verdict ∙ done-outcome k e _ _))
 
@@ -343,6 +406,6 @@ module _ (w : List ℕ) where
       stays : (v : Verdict) → OneOf (1 ∷ []) (tagOf verdict-type v) → then (verdictOf v) (λ u. checkBlocks (programIn w) (methodsFrom w (m + 1) (n - (m + 1)))) ≡ verdictOf v
       stays v o = refusal-stays v o (λ u. checkBlocks (programIn w) (methodsFrom w (m + 1) (n - (m + 1))))
 
-  pub main-last : (n m f : ℕ) → n ≤ m → f ≡ mainFirst w → (t : Rules.State) → t ≡ Rules.empty → verdictFrom w f t (atomsFrom w 0 0) [] ≡ checkBlocks (programIn w) (methodsFrom w m (n - m))
+  pub main-last : (n m f : ℕ) → n ≤ m → f ≡ mainFirst w → (t : Rules.State) → t ≡ Rules.empty → verdictFrom w f (some t) (atomsFrom w 0 0) [] ≡ checkBlocks (programIn w) (methodsFrom w m (n - m))
   unfolding checkBlocks checkFrom run programIn
   main-last n m f h e t d = let z : n - m ≡ 0 = omega arith in rw (z, e, d)

@@ -2,29 +2,31 @@
 use mathlib.Core.Path.{_≡_, refl, sym, ap, ap₂, _∙_, subst}
 use mathlib.Core.Bool.{Bool, true, false, cond, not, _||_}
 use mathlib.Core.List.{List, [], _∷_}
-use mathlib.Core.Logic.{_⊎_, inl, inr}
+use mathlib.Core.Logic.{⊎-elim}
+use mathlib.Core.Option.{none, some}
 use Prim.Native.Nat.{ℕ, suc, _+_, _≤_, _<_}
 use native.Mathlib.Omega.{arith}
 use lib.Dec.{T, eqb, leb, leb→le}
 use lib.ListN.{drop}
 use borrow.Author.Tests.{eqb-false}
 use Rattle.rules.specs.Base.{Try}
-use Rattle.rules.specs.Grammar.{last-kind, IsStatementNumber, statementNumber, isClosingNumber, isComputing, GoesOn}
+use Rattle.rules.specs.Grammar.{IsStatementNumber, statementNumber, isClosingNumber, isComputing, GoesOn}
 use Rattle.rules.specs.Answers as Answers
 use Rattle.rules.specs.Answers.{Refusal, accepted, refused, atLine, malformed}
-use Rattle.rules.specs.Syntax.{Formula, Rel, Stmt, Row, simple, if, else, join, end, eq, ne}
+use Rattle.rules.specs.Syntax.{Formula, Rel, Stmt, Row, simple, return, if, else, join, end, eq, ne}
 use Rattle.rules.specs.Syntax as Syntax
 use Rattle.rules.specs.State as Rules
-use Rattle.rules.specs.Rules.{Open, inFirst, inSecond, rule, newRule, callRule, ifRule, joinRule, elseRow, joinRow, endRow, checkRow, checkRows}
-use Rattle.rules.proofs.Lists.{and-both}
-use Rattle.tables.specs.Decode.{lineAt, stmtAt, rowAt, relOf, rowCount, classCount, methodCount, classAt, methodAt, allRows, programIn}
+use Rattle.rules.specs.Rules.{End, Following, Open, inFirst, inSecond, rule, newRule, callRule, ifRule, returnRule, showEnd, joinRule, reached, elseRow, joinRow, endRow, checkRow, checkRows}
+use Rattle.rules.proofs.Lists.{and-both, decide-eq}
+use Rattle.tables.specs.Decode.{operandsAt, kindAt, lineAt, stmtAt, rowAt, relOf, rowCount, classCount, methodCount, classAt, methodAt, allRows, programIn}
 use Rattle.tables.specs.Tables.{nested, nestedRow}
 use Rattle.tables.proofs.Rows.{row-cons, class-get, method-get}
+use Rattle.tables.proofs.Statements.{if-means, no-branch, not-end}
 use Rattle.check_equality.specs.Links as Links
 use Rattle.check_entailment.specs.declared.Answer.{Answer}
 use Rattle.check_state.specs.States.{stateOf}
 use Rattle.check_entailment.specs.Answers.{answered, Adds}
-use Rattle.check_statements.specs.Statements.{Parts}
+use Rattle.check_statements.specs.Statements.{Parts, Says}
 use Rattle.checker.specs.Checked.{outcome, Nests, verdictFrom, Stepped}
 
 -- `eq` by its number
@@ -48,27 +50,20 @@ line-answered l Answer.Full x k = refl
 line-answered l Answer.Malformed x k = refl
 
 pub at-line :
-    (l : ℕ) (t : Try Refusal Rules.State) (a : Answer) (key b : List ℕ) → Adds t a key b → (k : Rules.State → Answers.Verdict (Unit {0})) →
-    atLine l t k ≡ outcome a l (k (stateOf key b))
-at-line l t a key b A k = ap (λ (u : Try Refusal Rules.State). atLine l u k) (sym (A .same)) ∙ line-answered l a (stateOf key b) k
-
-pub at-branch :
-    (l : ℕ) (t : Try Refusal (Rules.State × Rules.State)) (a : Answer) (key b key2 b2 : List ℕ) → Parts t a key b key2 b2 →
-    (k : Rules.State × Rules.State → Answers.Verdict (Unit {0})) → atLine l t k ≡ outcome a l (k (stateOf key b, stateOf key2 b2))
-at-branch l t a key b key2 b2 P k =
-    ap (λ (u : Try Refusal (Rules.State × Rules.State)). atLine l u k) (sym (P .same)) ∙ line-answered l a (stateOf key b, stateOf key2 b2) k
+    {A : Type 0} (l : ℕ) (t : Try Refusal A) (a : Answer) (x : A) → answered a x ≡ t → (k : A → Answers.Verdict (Unit {0})) →
+    atLine l t k ≡ outcome a l (k x)
+at-line {A} l t a x e k = ap (λ (u : Try Refusal A). atLine l u k) (sym e) ∙ line-answered l a x k
 
 -- THE ROW AT i
 module _ (w : List ℕ) (i : ℕ) (h : i < rowCount w) where
   pub row-verdict :
-      (q : Stmt) → stmtAt w i ≡ q → (s : Rules.State) (φ : Formula ℕ) (os : List Open) →
-      checkRows (programIn w) φ (drop i (allRows w)) s os
-      ≡ checkRow (programIn w) q (lineAt w i) φ (λ s os. checkRows (programIn w) φ (drop (i + 1) (allRows w)) s os) s os
+      (q : Stmt) → stmtAt w i ≡ q → (u : End) (φ : Formula ℕ) (os : List Open) →
+      verdictFrom w i u φ os ≡ checkRow (programIn w) q (lineAt w i) φ (λ u os. verdictFrom w (i + 1) u φ os) u os
   unfolding checkRows rowAt
-  row-verdict q e s φ os =
+  row-verdict q e u φ os =
       let d : suc i ≡ i + 1 = omega arith in
-      ap (λ (rs : List Row). checkRows (programIn w) φ rs s os) (row-cons w i h)
-      ∙ ap₂ (λ (p : Stmt) (k : ℕ). checkRow (programIn w) p (lineAt w i) φ (λ s os. checkRows (programIn w) φ (drop k (allRows w)) s os) s os) e d
+      ap (λ (rs : List Row). checkRows (programIn w) φ rs u os) (row-cons w i h)
+      ∙ ap₂ (λ (p : Stmt) (k : ℕ). checkRow (programIn w) p (lineAt w i) φ (λ u os. verdictFrom w k u φ os) u os) e d
 
   pub row-nested : (q : Stmt) → stmtAt w i ≡ q → (d : ℕ) → nested (drop i (allRows w)) d ≡ nestedRow q (λ d. nested (drop (i + 1) (allRows w)) d) d
   unfolding nested rowAt
@@ -81,25 +76,57 @@ module _ (w : List ℕ) (i : ℕ) (h : i < rowCount w) where
   -- a statement that goes on
   pub step-verdict :
       (s : Rules.State) (k : Answer) (key b : List ℕ) → Stepped w i s k key b → (φ : Formula ℕ) (os : List Open) →
-      verdictFrom w i s φ os ≡ outcome k (lineAt w i) (verdictFrom w (i + 1) (stateOf key b) φ os)
-  unfolding checkRow
+      verdictFrom w i (some s) φ os ≡ outcome k (lineAt w i) (verdictFrom w (i + 1) (some (stateOf key b)) φ os)
+  unfolding checkRow reached
   step-verdict s k key b S φ os =
-      row-verdict w i h (simple (S .statement)) (S .is) s φ os
-      ∙ at-line (lineAt w i) _ k key b (S .adds) (λ s′. checkRows (programIn w) φ (drop (i + 1) (allRows w)) s′ os)
+      row-verdict w i h (simple (S .statement)) (S .is) (some s) φ os
+      ∙ at-line (lineAt w i) _ k (stateOf key b) (S .adds .same) (λ s′. verdictFrom w (i + 1) (some s′) φ os)
 
   pub step-nests : (s : Rules.State) (k : Answer) (key b : List ℕ) → Stepped w i s k key b → (d : ℕ) → Nests w i d → Nests w (i + 1) d
   unfolding nestedRow
   step-nests s k key b S d t = subst T (row-nested w i h (simple (S .statement)) (S .is) d) t
 
+  -- `return`
+  module _ (x : ℕ) (e : stmtAt w i ≡ return x) where
+    pub return-verdict :
+        (s : Rules.State) (φ : Formula ℕ) (k : Answer) → Says (returnRule x φ s) k → (os : List Open) →
+        verdictFrom w i (some s) φ os ≡ outcome k (lineAt w i) (verdictFrom w (i + 1) none φ os)
+    unfolding checkRow reached
+    return-verdict s φ k S os =
+        row-verdict w i h (return x) e (some s) φ os ∙ at-line (lineAt w i) _ k tt S (λ v. verdictFrom w (i + 1) none φ os)
+
+    pub return-nests : (d : ℕ) → Nests w i d → Nests w (i + 1) d
+    unfolding nestedRow
+    return-nests d t = subst T (row-nested w i h (return x) e d) t
+
+  -- a row that closes nothing is out of place after it
+  pub after-return :
+      IsStatementNumber (kindAt w i) → (kindAt w i ≡ 16 → ⊥) → (kindAt w i ≡ 17 → ⊥) → (kindAt w i ≡ 18 → ⊥) →
+      (φ : Formula ℕ) (os : List Open) → verdictFrom w i none φ os ≡ refused malformed (lineAt w i)
+  unfolding checkRow reached
+  after-return g a b c φ os =
+      row-verdict w i h (stmtAt w i) refl none φ os
+      ∙ ⊎-elim
+      (λ e. ap (λ q. checkRow (programIn w) q (lineAt w i) φ following none os) (if-means w (operandsAt w i) e))
+      (λ n. no-branch w (operandsAt w i) Refuses (λ p d. refl) (λ x d. refl) (λ d. absurd (d refl)) n a b (not-end w (operandsAt w i) g c))
+      (decide-eq (kindAt w i) 15)
+    where
+      following : Following
+      following = λ u os. verdictFrom w (i + 1) u φ os
+
+      Refuses : Stmt → Type 0
+      Refuses q = (q ≡ end → ⊥) → checkRow (programIn w) q (lineAt w i) φ following none os ≡ refused malformed (lineAt w i)
+
   -- a branch
   module _ (n : Rel) (a b : Rules.Term) (e : stmtAt w i ≡ if n a b) where
     pub if-verdict :
         (s : Rules.State) (k : Answer) (key c key2 c2 : List ℕ) → Parts (ifRule n a b s) k key c key2 c2 → (φ : Formula ℕ) (os : List Open) →
-        verdictFrom w i s φ os ≡ outcome k (lineAt w i) (verdictFrom w (i + 1) (stateOf key c) φ (inFirst (stateOf key2 c2) ∷ os))
-    unfolding checkRow
+        verdictFrom w i (some s) φ os
+        ≡ outcome k (lineAt w i) (verdictFrom w (i + 1) (some (stateOf key c)) φ (inFirst (stateOf key2 c2) ∷ os))
+    unfolding checkRow reached
     if-verdict s k key c key2 c2 P φ os =
-        row-verdict w i h (if n a b) e s φ os
-        ∙ at-branch (lineAt w i) _ k key c key2 c2 P (λ c. checkRows (programIn w) φ (drop (i + 1) (allRows w)) (c .0) (inFirst (c .1) ∷ os))
+        row-verdict w i h (if n a b) e (some s) φ os
+        ∙ at-line (lineAt w i) _ k (stateOf key c, stateOf key2 c2) (P .same) (λ c. verdictFrom w (i + 1) (some (c .0)) φ (inFirst (c .1) ∷ os))
 
     pub if-nests : (d : ℕ) → Nests w i d → (suc d ≤ 4) × Nests w (i + 1) (suc d)
     unfolding nestedRow
@@ -110,14 +137,14 @@ module _ (w : List ℕ) (i : ℕ) (h : i < rowCount w) where
   -- its second part
   module _ (e : stmtAt w i ≡ else) where
     pub else-verdict :
-        (s s₂ : Rules.State) (φ : Formula ℕ) (os : List Open) →
-        verdictFrom w i s φ (inFirst s₂ ∷ os) ≡ checkRows (programIn w) φ (drop (i + 1) (allRows w)) s₂ (inSecond s ∷ os)
+        (u : End) (s₂ : Rules.State) (φ : Formula ℕ) (os : List Open) →
+        verdictFrom w i u φ (inFirst s₂ ∷ os) ≡ verdictFrom w (i + 1) (some s₂) φ (inSecond u ∷ os)
     unfolding checkRow elseRow
-    else-verdict s s₂ φ os = row-verdict w i h else e s φ (inFirst s₂ ∷ os)
+    else-verdict u s₂ φ os = row-verdict w i h else e u φ (inFirst s₂ ∷ os)
 
-    pub else-twice : (s s₁ : Rules.State) (φ : Formula ℕ) (os : List Open) → verdictFrom w i s φ (inSecond s₁ ∷ os) ≡ refused malformed (lineAt w i)
+    pub else-twice : (u u₁ : End) (φ : Formula ℕ) (os : List Open) → verdictFrom w i u φ (inSecond u₁ ∷ os) ≡ refused malformed (lineAt w i)
     unfolding checkRow elseRow
-    else-twice s s₁ φ os = row-verdict w i h else e s φ (inSecond s₁ ∷ os)
+    else-twice u u₁ φ os = row-verdict w i h else e u φ (inSecond u₁ ∷ os)
 
     pub else-nests : (d : ℕ) → Nests w i d → Nests w (i + 1) d
     unfolding nestedRow
@@ -126,20 +153,20 @@ module _ (w : List ℕ) (i : ℕ) (h : i < rowCount w) where
   -- its end
   module _ (ψ : Formula ℕ) (e : stmtAt w i ≡ join ψ) where
     pub join-verdict :
-        (s s₁ : Rules.State) (k : Answer) (key b : List ℕ) → Adds (joinRule ψ s₁ s) k key b → (φ : Formula ℕ) (os : List Open) →
-        verdictFrom w i s φ (inSecond s₁ ∷ os) ≡ outcome k (lineAt w i) (verdictFrom w (i + 1) (stateOf key b) φ os)
+        (u u₁ : End) (k : Answer) (key b : List ℕ) → Adds (joinRule ψ u₁ u) k key b → (φ : Formula ℕ) (os : List Open) →
+        verdictFrom w i u φ (inSecond u₁ ∷ os) ≡ outcome k (lineAt w i) (verdictFrom w (i + 1) (some (stateOf key b)) φ os)
     unfolding checkRow joinRow
-    join-verdict s s₁ k key b A φ os =
-        row-verdict w i h (join ψ) e s φ (inSecond s₁ ∷ os)
-        ∙ at-line (lineAt w i) _ k key b A (λ s′. checkRows (programIn w) φ (drop (i + 1) (allRows w)) s′ os)
+    join-verdict u u₁ k key b A φ os =
+        row-verdict w i h (join ψ) e u φ (inSecond u₁ ∷ os)
+        ∙ at-line (lineAt w i) _ k (stateOf key b) (A .same) (λ s′. verdictFrom w (i + 1) (some s′) φ os)
 
-    pub join-early : (s s₂ : Rules.State) (φ : Formula ℕ) (os : List Open) → verdictFrom w i s φ (inFirst s₂ ∷ os) ≡ refused malformed (lineAt w i)
+    pub join-early : (u : End) (s₂ : Rules.State) (φ : Formula ℕ) (os : List Open) → verdictFrom w i u φ (inFirst s₂ ∷ os) ≡ refused malformed (lineAt w i)
     unfolding checkRow joinRow
-    join-early s s₂ φ os = row-verdict w i h (join ψ) e s φ (inFirst s₂ ∷ os)
+    join-early u s₂ φ os = row-verdict w i h (join ψ) e u φ (inFirst s₂ ∷ os)
 
-    pub join-alone : (s : Rules.State) (φ : Formula ℕ) → verdictFrom w i s φ [] ≡ refused malformed (lineAt w i)
+    pub join-alone : (u : End) (φ : Formula ℕ) → verdictFrom w i u φ [] ≡ refused malformed (lineAt w i)
     unfolding checkRow joinRow
-    join-alone s φ = row-verdict w i h (join ψ) e s φ []
+    join-alone u φ = row-verdict w i h (join ψ) e u φ []
 
     pub join-nests : (d : ℕ) → Nests w i (suc d) → Nests w (i + 1) d
     unfolding nestedRow
@@ -147,17 +174,18 @@ module _ (w : List ℕ) (i : ℕ) (h : i < rowCount w) where
 
   -- the block's end
   module _ (e : stmtAt w i ≡ end) where
-    pub end-inside : (s : Rules.State) (o : Open) (φ : Formula ℕ) (os : List Open) → verdictFrom w i s φ (o ∷ os) ≡ refused malformed (lineAt w i)
+    pub end-inside : (u : End) (o : Open) (φ : Formula ℕ) (os : List Open) → verdictFrom w i u φ (o ∷ os) ≡ refused malformed (lineAt w i)
     unfolding checkRow endRow
-    end-inside s o φ os = row-verdict w i h end e s φ (o ∷ os)
+    end-inside u o φ os = row-verdict w i h end e u φ (o ∷ os)
 
-    pub end-verdict : (s : Rules.State) (φ : Formula ℕ) → verdictFrom w i s φ [] ≡ atLine (lineAt w i) (Rules.show s φ) (λ r. accepted tt)
+    pub end-verdict :
+        (u : End) (φ : Formula ℕ) (k : Answer) → Says (showEnd φ u) k → verdictFrom w i u φ [] ≡ outcome k (lineAt w i) (accepted tt)
     unfolding checkRow endRow
-    end-verdict s φ = row-verdict w i h end e s φ []
+    end-verdict u φ k S = row-verdict w i h end e u φ [] ∙ at-line (lineAt w i) _ k tt S (λ v. accepted tt)
 
-  pub else-alone : stmtAt w i ≡ else → (s : Rules.State) (φ : Formula ℕ) → verdictFrom w i s φ [] ≡ refused malformed (lineAt w i)
+  pub else-alone : stmtAt w i ≡ else → (u : End) (φ : Formula ℕ) → verdictFrom w i u φ [] ≡ refused malformed (lineAt w i)
   unfolding checkRow elseRow
-  else-alone e s φ = row-verdict w i h else e s φ []
+  else-alone e u φ = row-verdict w i h else e u φ []
 
 pub new-at :
     (w : List ℕ) (x x′ c c′ : ℕ) (s : Rules.State) → x′ ≡ x → c′ ≡ c → c < classCount w →
@@ -171,6 +199,12 @@ pub call-at :
 unfolding rule
 call-at w x x′ y y′ m m′ z z′ s a b c d h = rw (a, b, c, d, method-get w m h)
 
+-- the numbers of `add` and `sub`
+pub computes : (k n : ℕ) → k ≡ n → 19 ≤ k → k < 21 → T (isComputing n)
+unfolding isComputing statementNumber
+computes k n e l h =
+    ⊎-elim (λ d. rw d tt) (λ d. let c : n ≡ 20 = omega arith in rw c tt) (decide-eq n 19)
+
 above : (k n : ℕ) → n ≤ k → (k ≡ n → ⊥) → n + 1 ≤ k
 above k n h d = omega arith
 
@@ -178,22 +212,16 @@ neither : (a b : Bool) → (a || b) ≡ false → (a ≡ false) × (b ≡ false)
 neither false b e = (refl, e)
 neither true b e = absurd (let z : _≡_ {A = ℕ} 0 1 = cc in omega arith)
 
-pub is-computing : {k : ℕ} → (k ≡ 19) ⊎ (k ≡ 20) → T (isComputing k)
-unfolding isComputing statementNumber
-is-computing (inl e) = rw e tt
-is-computing (inr e) = rw e tt
-
--- each kind that goes on has its rule
+-- each kind that goes on, `add` and `sub` apart, has its rule
 pub no-kind :
-    (k : ℕ) → IsStatementNumber k → GoesOn k → (k ≡ 8 → ⊥) → (k ≡ 9 → ⊥) → (k ≡ 10 → ⊥) → (k ≡ 11 → ⊥) → (k ≡ 12 → ⊥) → (k ≡ 13 → ⊥) →
-    (k ≡ 14 → ⊥) → (k ≡ 19 → ⊥) → (k ≡ 20 → ⊥) → ⊥
+    (k : ℕ) → IsStatementNumber k → GoesOn k → (k ≡ 8 → ⊥) → (k ≡ 9 → ⊥) → (k ≡ 10 → ⊥) → (k ≡ 11 → ⊥) → (k ≡ 13 → ⊥) → (k ≡ 14 → ⊥) →
+    k < 19 → ⊥
 unfolding isClosingNumber statementNumber
-no-kind k (low, high) (o, i) a b c d e f g m n =
+no-kind k (low, high) (o, i, r) a b c d f g l =
     let (x, others) = neither (eqb k 16) (eqb k 17 || eqb k 18) o in
     let (y, z) = neither (eqb k 17) (eqb k 18) others in
-    let p = above k 15 (above k 14 (above k 13 (above k 12 (above k 11 (above k 10 (above k 9 (above k 8 low a) b) c) d) e) f) g) i in
-    let q = above k 18 (above k 17 (above k 16 p (eqb-false k 16 x)) (eqb-false k 17 y)) (eqb-false k 18 z) in
-    last k (above k 20 (above k 19 q m) n) high
+    let p = above k 15 (above k 14 (above k 13 (above k 12 (above k 11 (above k 10 (above k 9 (above k 8 low a) b) c) d) r) f) g) i in
+    last k (above k 18 (above k 17 (above k 16 p (eqb-false k 16 x)) (eqb-false k 17 y)) (eqb-false k 18 z)) l
   where
-    last : (k : ℕ) → 21 ≤ k → k ≤ last-kind → ⊥
+    last : (k : ℕ) → 19 ≤ k → k < 19 → ⊥
     last k p l = omega arith

@@ -1,7 +1,8 @@
 -- What the checker of a block and of a program answers.
 use mathlib.Core.Path.{_≡_}
-use mathlib.Core.Bool.{true}
+use mathlib.Core.Bool.{true, false}
 use mathlib.Core.List.{List, _∷_}
+use mathlib.Core.Option.{some}
 use Prim.Native.Nat.{ℕ, suc, _+_, _-_, _≤_, _<_}
 use lib.Dec.{T}
 use lib.ListN.{drop}
@@ -12,12 +13,13 @@ use Rattle.rules.specs.Answers.{Refusal, accepted, refused, unresolved, noPermi
 use Rattle.rules.specs.Base.{Try}
 use Rattle.rules.specs.Syntax.{Formula, Simple, simple, set, assign, compute, new, call}
 use Rattle.rules.specs.State as Rules
-use Rattle.rules.specs.Rules.{Open, inFirst, inSecond, rule, ifRule, checkRows}
-use Rattle.tables.specs.Decode.{operationOf, kindAt, xAt, yAt, zAt, memberAt, firstAtomAt, lineAt, stmtAt, rowCount, allRows, programIn, atomPlace, byteAt, relOf, leftAt, rightAt}
+use Rattle.rules.specs.Rules.{End, Open, inFirst, inSecond, rule, ifRule, checkRows}
+use Rattle.tables.specs.Decode.{kindAt, xAt, yAt, zAt, memberAt, firstAtomAt, lineAt, stmtAt, rowCount, allRows, programIn, atomPlace, byteAt, relOf, operationOf, leftAt, rightAt}
 use Rattle.tables.specs.Tables.{nested}
 use Rattle.check_entailment.specs.declared.Answer.{Answer}
 use Rattle.check_state.specs.States.{Wf, stateOf}
 use Rattle.check_entailment.specs.Answers.{Adds}
+use Rattle.check_statements.specs.Statements.{endOf}
 use Rattle.checker.specs.declared.Out.{Out}
 use Rattle.checker.specs.declared.Verdict.{Verdict}
 
@@ -55,6 +57,9 @@ IsNew w i = kindAt w i ≡ 10
 
 abbrev pub IsCall : List ℕ → ℕ → Type 0
 IsCall w i = kindAt w i ≡ 11
+
+abbrev pub IsReturn : List ℕ → ℕ → Type 0
+IsReturn w i = kindAt w i ≡ 12
 
 abbrev pub IsIf : List ℕ → ℕ → Type 0
 IsIf w i = kindAt w i ≡ 15
@@ -94,27 +99,36 @@ pub record Stepped (w : List ℕ) (i : ℕ) (s : Rules.State) (answer : Answer) 
 abbrev pub Nests : List ℕ → ℕ → ℕ → Type 0
 Nests w i d = T (nested (drop i (allRows w)) d)
 
-abbrev pub verdictFrom : List ℕ → ℕ → Rules.State → Formula ℕ → List Open → Answers.Verdict (Unit {0})
-verdictFrom w i s φ os = checkRows (programIn w) φ (drop i (allRows w)) s os
+-- these rows checked in a block with the ensures φ, where e is known
+abbrev pub verdictFrom : List ℕ → ℕ → End → Formula ℕ → List Open → Answers.Verdict (Unit {0})
+verdictFrom w i e φ os = checkRows (programIn w) φ (drop i (allRows w)) e os
 
--- a block's rows from i on, up to one that closes it, where the arrays then hold the state: what its rows give, whatever is open
--- around them
-pub record Ran (w : List ℕ) (depth i : ℕ) (s : Rules.State) (r : Out) (key b : List ℕ) : Type 0 where
+abbrev pub stoppedAt : Answer → ℕ → Out
+stoppedAt k i = record { answer = k; at = i; returned = false }
+
+-- a block's rows from i on, up to one that closes it, where the arrays then hold the state, or to the one after a `return`: what its
+-- rows give, whatever is open around them
+pub record Ran (w : List ℕ) (depth i : ℕ) (φ : Formula ℕ) (s : Rules.State) (r : Out) (key b : List ℕ) : Type 0 where
   pub wf : Wf key b
   pub on : i ≤ r .at
   pub within : r .at < rowCount w
-  pub closes : r .answer ≡ Answer.Done → isClosingNumber (kindAt w (r .at)) ≡ true
+  pub closes : r .answer ≡ Answer.Done → r .returned ≡ false → isClosingNumber (kindAt w (r .at)) ≡ true
   pub nests : r .answer ≡ Answer.Done → Nests w (r .at) (most-branches - depth)
   pub same :
-      (φ : Formula ℕ) (os : List Open) →
-      verdictFrom w i s φ os ≡ outcome (r .answer) (lineAt w (r .at)) (verdictFrom w (r .at) (stateOf key b) φ os)
+      (os : List Open) →
+      verdictFrom w i (some s) φ os
+      ≡ outcome (r .answer) (lineAt w (r .at)) (verdictFrom w (r .at) (endOf (r .returned) (stateOf key b)) φ os)
+
+-- a `return` at row i, however deep
+abbrev pub Returns : List ℕ → ℕ → Formula ℕ → Rules.State → Out → List ℕ → List ℕ → Type 0
+Returns w i φ s r key b = (depth : ℕ) → Nests w i (most-branches - depth) → Ran w depth i φ s r key b
 
 -- THE PARTS OF A BRANCH
 pub record Ended (w : List ℕ) (r : Out) : Type 0 where
   pub within : r .at < rowCount w
-  pub closes : r .answer ≡ Answer.Done → isClosingNumber (kindAt w (r .at)) ≡ true
+  pub closes : r .answer ≡ Answer.Done → r .returned ≡ false → isClosingNumber (kindAt w (r .at)) ≡ true
 
--- the first part ends, with any state s, at its `else`
+-- the first part ends, with any state s or after a `return`, at its `else`
 pub record Turned (w : List ℕ) (one r : Out) : Type 0 where
   pub place : r .at ≡ one .at
   pub was : r .answer ≡ Answer.Done → one .answer ≡ Answer.Done
@@ -122,11 +136,11 @@ pub record Turned (w : List ℕ) (one r : Out) : Type 0 where
   pub nests : r .answer ≡ Answer.Done → (d : ℕ) → Nests w (one .at) d → Nests w (r .at + 1) d
   pub same :
       (s s₂ : Rules.State) (φ : Formula ℕ) (os : List Open) →
-      outcome (one .answer) (lineAt w (one .at)) (verdictFrom w (one .at) s φ (inFirst s₂ ∷ os))
-      ≡ outcome (r .answer) (lineAt w (r .at)) (verdictFrom w (r .at + 1) s₂ φ (inSecond s ∷ os))
+      outcome (one .answer) (lineAt w (one .at)) (verdictFrom w (one .at) (endOf (one .returned) s) φ (inFirst s₂ ∷ os))
+      ≡ outcome (r .answer) (lineAt w (r .at)) (verdictFrom w (r .at + 1) (some s₂) φ (inSecond (endOf (r .returned) s) ∷ os))
 
--- the second part ends at its `join`; s is the first's end, t the second's
-pub record Joined (w : List ℕ) (two : Out) (s t : Rules.State) (r : Out) (key b : List ℕ) : Type 0 where
+-- the second part ends at its `join`; e is the first's end, t the second's state
+pub record Joined (w : List ℕ) (two : Out) (e : End) (t : Rules.State) (r : Out) (key b : List ℕ) : Type 0 where
   pub place : r .at ≡ two .at
   pub wf : Wf key b
   pub was : r .answer ≡ Answer.Done → two .answer ≡ Answer.Done
@@ -134,5 +148,5 @@ pub record Joined (w : List ℕ) (two : Out) (s t : Rules.State) (r : Out) (key 
   pub nests : r .answer ≡ Answer.Done → (d : ℕ) → Nests w (two .at) (suc d) → Nests w (r .at + 1) d
   pub same :
       (φ : Formula ℕ) (os : List Open) →
-      outcome (two .answer) (lineAt w (two .at)) (verdictFrom w (two .at) t φ (inSecond s ∷ os))
-      ≡ outcome (r .answer) (lineAt w (r .at)) (verdictFrom w (r .at + 1) (stateOf key b) φ os)
+      outcome (two .answer) (lineAt w (two .at)) (verdictFrom w (two .at) (endOf (two .returned) t) φ (inSecond e ∷ os))
+      ≡ outcome (r .answer) (lineAt w (r .at)) (verdictFrom w (r .at + 1) (some (stateOf key b)) φ os)

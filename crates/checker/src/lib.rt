@@ -1,12 +1,12 @@
 // Blocks, methods and main: the rules walked over the tables. The checker of a block calls itself for each branch, the remaining depth falling.
 use check_entailment::Answer;
 use check_equality::State;
-use check_equality::Term;
 use rules::Kind;
 use rules::Machine;
 use tables::AtomKind;
 ghost use mathlib.Core.Path.{_≡_};
 ghost use mathlib.Core.List.{[]};
+ghost use mathlib.Core.Option.{some};
 ghost use Prim.Native.Nat.{_+_, _-_, _≤_, _<_};
 ghost use Rattle.rules.specs.Limits.{most-branches};
 ghost use Rattle.rules.specs.Grammar.{GoesOn};
@@ -14,16 +14,17 @@ ghost use Rattle.rules.specs.Answers as Answers;
 ghost use Rattle.rules.specs.Syntax as Syntax;
 ghost use Rattle.tables.specs.Layout.{most-atom-rows};
 ghost use Rattle.rules.specs.Rules.{checkProgram, checkMethod};
-ghost use Rattle.tables.specs.Decode.{kindAt, xAt, rowCount, methodCount, formulaAt, atomsFrom, methodAt, programIn};
+ghost use Rattle.tables.specs.Decode.{kindAt, rowCount, methodCount, formulaAt, atomsFrom, methodAt, programIn};
 ghost use Rattle.tables.specs.Tables.{Tables};
 ghost use Rattle.check_state.specs.States.{Wf, stateOf};
-ghost use Rattle.check_statements.specs.Statements.{Parts, JoinGives};
-ghost use Rattle.checker.specs.Checked.{IsLet, IsNew, IsCall, IsIf, setAt, letAt, newAt, callAt, computeAt, RuleGives, branches, Stepped, Nests, Ran, Ended, Turned, Joined, outcome, verdictFrom, verdictOf};
+ghost use Rattle.check_statements.specs.Statements.{Parts, endOf, JoinGives};
+ghost use Rattle.checker.specs.Checked.{IsLet, IsNew, IsCall, IsReturn, IsIf, setAt, letAt, newAt, callAt, computeAt, RuleGives, branches, Stepped, Nests, stoppedAt, Ran, Returns, Ended, Turned, Joined, outcome, verdictFrom, verdictOf};
 
-// How far a block was checked, or why no further.
+// How far a block was checked, and whether the line before was a `return`; or why no further.
 pub struct Out {
     pub answer: Answer,
     pub at: usize,
+    pub returned: bool,
 }
 
 pub enum Verdict {
@@ -92,20 +93,6 @@ fn compute_at(
     Answer::Done
 }
 
-// `return x`
-fn return_at(
-    w: &[u8],
-    i: usize,
-    key: &mut [u64; State::SLOTS],
-    b: &mut [u8; State::BYTES],
-) -> Answer
-    requires { ⌜ Tables (now w) × (i < rowCount (now w)) × Wf (now key) (now b) ⌝ }
-    ensures { λ r. ⌜ RuleGives (now (w .entry)) (Syntax.return (xAt (now (w .entry)) i)) (now (key .entry)) (now (b .entry)) r (now (key .exit)) (now (b .exit)) ⌝ }
-{
-    let x = tables::x_at(w, i) as u8;
-    check_statements::assign_rule(key, b, State::RESULT, Term::Var(x))
-}
-
 // `assert` formula
 fn assert_at(
     w: &[u8],
@@ -153,20 +140,32 @@ fn if_at(
     check_statements::if_rule(key, b, key2, b2, apart, l, r)
 }
 
-// `join` formula, with the states at the ends of the two parts
+// `join` formula, with the ends of the two parts
 fn join_at<'a>(
     w: &'a [u8],
     i: usize,
+    returned: bool,
     key: &mut [u64; State::SLOTS],
     b: &mut [u8; State::BYTES],
+    returned2: bool,
     key2: &'a [u64; State::SLOTS],
     b2: &'a [u8; State::BYTES],
 ) -> Answer
     requires { ⌜ Tables (now w) × (i < rowCount (now w)) × Wf (now key) (now b) × Wf (now key2) (now b2) ⌝ }
-    ensures { λ r. ⌜ JoinGives (formulaAt (now (w .entry)) i) (now (key .entry)) (now (b .entry)) (now (key2 .entry)) (now (b2 .entry)) r (now (key .exit)) (now (b .exit)) ⌝ }
+    ensures { λ r. ⌜ JoinGives (formulaAt (now (w .entry)) i) returned (now (key .entry)) (now (b .entry)) returned2 (now (key2 .entry)) (now (b2 .entry)) r (now (key .exit)) (now (b .exit)) ⌝ }
 {
     let a = tables::first_atom_at(w, i);
-    check_statements::join_rule(w, a, tables::atom_count_at(w, i), key, b, key2, b2)
+    check_statements::join_rule(
+        w,
+        a,
+        tables::atom_count_at(w, i),
+        returned,
+        key,
+        b,
+        returned2,
+        key2,
+        b2,
+    )
 }
 
 // A statement that goes on to the next line, by its kind.
@@ -184,13 +183,45 @@ fn statement(
         Kind::LET => let_at(w, i, key, b),
         Kind::NEW => new_at(w, i, key, b),
         Kind::CALL => call_at(w, i, key, b),
-        Kind::RETURN => return_at(w, i, key, b),
         Kind::ASSERT => assert_at(w, i, key, b),
         Kind::RELEASE => release_at(w, i, key, b),
-        Kind::ADD => compute_at(w, i, key, b),
-        Kind::SUB => compute_at(w, i, key, b),
-        0..=7 => Answer::Malformed,
+        Kind::ADD | Kind::SUB => compute_at(w, i, key, b),
         _ => Answer::Malformed,
+    }
+}
+
+// Rows checked up to one before which no `return` stands.
+fn stopped(answer: Answer, at: usize) -> Out
+    ensures { λ r. ⌜ r ≡ stoppedAt answer at ⌝ }
+{
+    Out {
+        answer,
+        at,
+        returned: false,
+    }
+}
+
+// `return x` in a block that must show n atoms from the atom a on. No state is left after it.
+fn return_at(
+    w: &[u8],
+    i: usize,
+    a: usize,
+    n: usize,
+    key: &mut [u64; State::SLOTS],
+    b: &mut [u8; State::BYTES],
+) -> Out
+    requires { ⌜ Tables (now w) × (i < rowCount (now w)) × IsReturn (now w) i × (a + n ≤ most-atom-rows) × Wf (now key) (now b) ⌝ }
+    ensures { λ r. ⌜ Returns (now (w .entry)) i (atomsFrom (now (w .entry)) a n) (stateOf (now (key .entry)) (now (b .entry))) r (now (key .exit)) (now (b .exit)) ⌝ }
+{
+    let x = tables::x_at(w, i) as u8;
+    let k = check_statements::return_rule(w, key, b, x, a, n);
+    let Answer::Done = k else {
+        return stopped(k, i);
+    };
+    Out {
+        answer: Answer::Done,
+        at: i + 1,
+        returned: true,
     }
 }
 
@@ -207,23 +238,21 @@ fn turned(w: &[u8], one: Out) -> Out
     if tables::kind_at(w, at) == Kind::ELSE {
         return one;
     }
-    Out {
-        answer: Answer::Malformed,
-        at,
-    }
+    stopped(Answer::Malformed, at)
 }
 
-// A second part's end, which must be its `join`. The first part's end becomes the state after it.
+// A second part's end, which must be its `join`. The first part's end, in key and b, becomes the state after it.
 fn joined<'a>(
     w: &'a [u8],
     two: Out,
+    returned: bool,
     key: &mut [u64; State::SLOTS],
     b: &mut [u8; State::BYTES],
     key2: &'a [u64; State::SLOTS],
     b2: &'a [u8; State::BYTES],
 ) -> Out
     requires { ⌜ Tables (now w) × Ended (now w) two × Wf (now key) (now b) × Wf (now key2) (now b2) ⌝ }
-    ensures { λ r. ⌜ Joined (now (w .entry)) two (stateOf (now (key .entry)) (now (b .entry))) (stateOf (now (key2 .entry)) (now (b2 .entry))) r (now (key .exit)) (now (b .exit)) ⌝ }
+    ensures { λ r. ⌜ Joined (now (w .entry)) two (endOf returned (stateOf (now (key .entry)) (now (b .entry)))) (stateOf (now (key2 .entry)) (now (b2 .entry))) r (now (key .exit)) (now (b .exit)) ⌝ }
 {
     let k = two.answer;
     let Answer::Done = k else {
@@ -231,43 +260,46 @@ fn joined<'a>(
     };
     let at = two.at;
     if tables::kind_at(w, at) == Kind::JOIN {
-        let l = join_at(w, at, key, b, key2, b2);
-        return Out { answer: l, at };
+        let l = join_at(w, at, returned, key, b, two.returned, key2, b2);
+        return stopped(l, at);
     }
-    Out {
-        answer: Answer::Malformed,
-        at,
-    }
+    stopped(Answer::Malformed, at)
 }
 
-// The rows from `from` on, up to the one that closes them. Each part of a branch is checked by this function, with one branch less
-// to open.
+// The rows from `from` on, up to the one that closes them, in a block that must show n atoms from the atom a on. Each part of a branch
+// is checked by this function, with one branch less to open.
 pub fn block(
     w: &[u8],
     depth: usize,
     from: usize,
+    a: usize,
+    n: usize,
     key: &mut [u64; State::SLOTS],
     b: &mut [u8; State::BYTES],
 ) -> Out
-    requires { ⌜ Tables (now w) × (depth ≤ most-branches) × (from < rowCount (now w)) × Nests (now w) from (most-branches - depth) × Wf (now key) (now b) ⌝ }
-    ensures { λ r. ⌜ Ran (now (w .entry)) depth from (stateOf (now (key .entry)) (now (b .entry))) r (now (key .exit)) (now (b .exit)) ⌝ }
+    requires { ⌜ Tables (now w) × (depth ≤ most-branches) × (from < rowCount (now w)) × Nests (now w) from (most-branches - depth) × (a + n ≤ most-atom-rows) × Wf (now key) (now b) ⌝ }
+    ensures { λ r. ⌜ Ran (now (w .entry)) depth from (atomsFrom (now (w .entry)) a n) (stateOf (now (key .entry)) (now (b .entry))) r (now (key .exit)) (now (b .exit)) ⌝ }
 {
     let mut at = from;
     while !tables::is_closing_at(w, at) {
-        if tables::kind_at(w, at) == Kind::IF {
+        let kind = tables::kind_at(w, at);
+        if kind == Kind::RETURN {
+            return return_at(w, at, a, n, key, b);
+        }
+        if kind == Kind::IF {
             let mut key2 = *key;
             let mut b2 = *b;
             let k = if_at(w, at, key, b, &mut key2, &mut b2);
             let Answer::Done = k else {
-                return Out { answer: k, at };
+                return stopped(k, at);
             };
-            let one = turned(w, block(w, depth - 1, at + 1, key, b));
+            let one = turned(w, block(w, depth - 1, at + 1, a, n, key, b));
             let l = one.answer;
             let Answer::Done = l else {
                 return one;
             };
-            let two = block(w, depth - 1, one.at + 1, &mut key2, &mut b2);
-            let end = joined(w, two, key, b, &key2, &b2);
+            let two = block(w, depth - 1, one.at + 1, a, n, &mut key2, &mut b2);
+            let end = joined(w, two, one.returned, key, b, &key2, &b2);
             let m = end.answer;
             let Answer::Done = m else {
                 return end;
@@ -276,15 +308,12 @@ pub fn block(
         } else {
             let k = statement(w, at, key, b);
             let Answer::Done = k else {
-                return Out { answer: k, at };
+                return stopped(k, at);
             };
             at += 1;
         }
     }
-    Out {
-        answer: Answer::Done,
-        at,
-    }
+    stopped(Answer::Done, at)
 }
 
 // What a line gives that is the last to be checked.
@@ -297,7 +326,7 @@ fn ended(line: usize, k: Answer) -> Verdict
     Verdict::Accepted
 }
 
-// The block from a row on, whose end must show n atoms from the atom a on.
+// The block from a row on, which must show n atoms from the atom a on where it ends.
 fn check_block(
     w: &[u8],
     from: usize,
@@ -307,9 +336,9 @@ fn check_block(
     b: &mut [u8; State::BYTES],
 ) -> Verdict
     requires { ⌜ Tables (now w) × (from < rowCount (now w)) × Nests (now w) from 0 × (a + n ≤ most-atom-rows) × Wf (now key) (now b) ⌝ }
-    ensures { λ r. ⌜ (verdictOf r ≡ verdictFrom (now (w .entry)) from (stateOf (now (key .entry)) (now (b .entry))) (atomsFrom (now (w .entry)) a n) []) × Wf (now (key .exit)) (now (b .exit)) ⌝ }
+    ensures { λ r. ⌜ (verdictOf r ≡ verdictFrom (now (w .entry)) from (some (stateOf (now (key .entry)) (now (b .entry)))) (atomsFrom (now (w .entry)) a n) []) × Wf (now (key .exit)) (now (b .exit)) ⌝ }
 {
-    let r = block(w, Machine::BRANCHES, from, key, b);
+    let r = block(w, Machine::BRANCHES, from, a, n, key, b);
     let k = r.answer;
     let at = r.at;
     let line = tables::line_at(w, at);
@@ -317,7 +346,7 @@ fn check_block(
         return Verdict::Refused(k, line);
     };
     if tables::kind_at(w, at) == Kind::END {
-        let l = check_statements::assert_rule(w, key, b, a, n);
+        let l = check_statements::show_end(w, a, n, r.returned, key, b);
         return ended(line, l);
     }
     Verdict::Refused(Answer::Malformed, line)

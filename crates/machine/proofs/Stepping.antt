@@ -14,10 +14,10 @@ use Rattle.tables.specs.Decode.{rowAt, operandsAt, stmtAt, kindAt, memberAt, pr
 use Rattle.tables.proofs.Rows.{method-get, class-get}
 use Rattle.tables.proofs.Statements.{set-means, let-means, new-means, call-means, return-means, assert-means, release-means, if-means, else-means, join-means, end-means, compute-means}
 use Rattle.run_steps.specs.declared.Turn.{Turn}
-use Rattle.run_steps.specs.States.{Represents, Follows, Does, CanStep, AtKind, set-kind, let-kind, new-kind, call-kind, return-kind, assert-kind, release-kind, if-kind, else-kind, join-kind, end-kind, setHere, letHere, computeHere, returnHere, assertHere, releaseHere, ifHere, elseHere}
+use Rattle.run_steps.specs.States.{Represents, Follows, Does, CanStep, AtKind, set-kind, let-kind, new-kind, call-kind, return-kind, assert-kind, release-kind, if-kind, else-kind, join-kind, end-kind, setHere, letHere, computeHere, assertHere, releaseHere, ifHere, elseHere}
 use Rattle.run_calls.proofs.Returning.{row-of}
 use Rattle.run_steps.proofs.Doing.{fits}
-use Rattle.run_calls.specs.Calls.{newHere, callHere, endHere}
+use Rattle.run_calls.specs.Calls.{newHere, callHere, returnHere, endHere}
 
 -- the statement that is done
 statement : {w : List ℕ} {c : Machine} (m : Config) → Represents w c m → statementOf (programIn w) (m .frame) ≡ stmtAt w (c .row)
@@ -74,7 +74,7 @@ module _ {w w′ : List ℕ} {c : Machine} {r : Turn} (ready : CanStep w c) (roo
 
   pub returns :
       AtKind w c return-kind → Does w c w′ r (returnHere w c) → Does w c w′ r (step room (programIn w))
-  unfolding stepAt simpleStep
+  unfolding stepAt
   returns k = does-as _ (λ m. rw (return-means w (operandsAt w (c .row)) k))
 
   pub asserts :

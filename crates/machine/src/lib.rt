@@ -67,7 +67,7 @@ pub fn step(work: &mut [u8], c: Machine, most_objects: u32, most_fields: u32) ->
         Kind::LET => run_steps::let_step(work, c),
         Kind::NEW => run_calls::new_step(work, c, most_objects, most_fields),
         Kind::CALL => run_calls::call_step(work, c),
-        Kind::RETURN => run_steps::return_step(work, c),
+        Kind::RETURN => run_calls::return_step(work, c),
         Kind::ASSERT | Kind::JOIN => run_steps::assert_step(work, c),
         Kind::RELEASE => run_steps::release_step(work, c),
         Kind::IF => run_steps::if_step(work, c),

@@ -1,1 +1,2 @@
 pub mod ReadOrder
+pub mod Returns

@@ -2,18 +2,18 @@
 use mathlib.Core.Path.{_≡_, refl, sym, ap, _∙_, subst}
 use mathlib.Core.Bool.{Bool, true, false, not, cond, _&&_, _||_}
 use mathlib.Core.List.{List, [], _∷_, _++_, append-assoc, append-nil}
-use Prim.Native.Nat.{ℕ, suc}
+use Prim.Native.Nat.{ℕ, suc, _<_}
 use native.Mathlib.Omega.{arith}
 use lib.Dec.{T, not-T, leb, ltb, eqb, eqb→eq, leb→le}
 use lib.ListN.{length, drop}
 use Rattle.rules.specs.Base.{all, any, between}
 use Rattle.rules.specs.Answers.{accepted}
 use Rattle.rules.specs.Syntax as Syntax
-use Rattle.rules.specs.Syntax.{Formula, Stmt, Row, Program, simple, if, else, join, end}
+use Rattle.rules.specs.Syntax.{Formula, Stmt, Row, Program, simple, return, if, else, join, end}
 use Rattle.rules.specs.Grammar as Grammar
-use Rattle.rules.specs.Grammar.{Kind, Statement, Line, Class, Field, Method, Requires, Ensures, Main, Var, statement}
-use Rattle.rules.specs.Grammar.{If, Else, Join, End}
-use Rattle.rules.specs.Grammar.{inBody, afterMain, form, stands, isStatement, isKind, kindNumber, statementNumber}
+use Rattle.rules.specs.Grammar.{Kind, Statement, Stage, Line, Class, Field, Method, Requires, Ensures, Main, Var, statement}
+use Rattle.rules.specs.Grammar.{Return, If, Else, Join, End}
+use Rattle.rules.specs.Grammar.{inLocals, inBody, afterReturn, afterMain, nextStage, form, stands, isStatement, isKind, kindNumber, statementNumber}
 use Rattle.rules.specs.Places as Places
 use Rattle.rules.specs.Places.{Place, Branch, beforeElse, firstPlace, stageNumber, mayElse, mayJoin, mayEnd, outer, fits, inPlace, stageAfter, branchesAfter, placeAfter, withinLimits, ended}
 use Rattle.rules.specs.Scope.{Scope, Variable, Declarations, declarations, firstScope}
@@ -28,7 +28,7 @@ use Rattle.nesting.specs.Nests.{Wait, forElse, forJoin, rowNests, rowsNe
 -- THE ROWS OF ITEMS
 
 -- the statements among the items after n lines
-rowsOf : ℕ → List Item → List Row
+unfoldable pub rowsOf : ℕ → List Item → List Row
 rowsOf n [] = []
 rowsOf n (aClass ∷ items) = rowsOf (suc n) items
 rowsOf n (aField f ∷ items) = rowsOf (suc n) items
@@ -52,7 +52,7 @@ with-row P n aMain items = refl
 with-row P n (aLocal x) items = refl
 with-row P n (aStatement s) items = append-assoc (P .rows) _ (rowsOf (suc n) items)
 
-with-rows : (P : Program) (n : ℕ) (items : List Item) → withItems P n items .rows ≡ P .rows ++ rowsOf n items
+pub with-rows : (P : Program) (n : ℕ) (items : List Item) → withItems P n items .rows ≡ P .rows ++ rowsOf n items
 unfolding withItems rowsOf
 with-rows P n [] = sym (append-nil _)
 with-rows P n (a ∷ items) = with-rows (withItem P (suc n) a) (suc n) items ∙ with-row P n a items
@@ -62,7 +62,7 @@ drop-length [] k = refl
 drop-length (a ∷ l) k = drop-length l k
 
 -- a line stands between its first and its last stage
-bounds :
+pub bounds :
     (k : Kind) (p : Place) → T (inPlace k p) →
     T (leb (stageNumber (form k .first)) (stageNumber (p .stage))) × T (leb (stageNumber (p .stage)) (stageNumber (form k .last)))
 unfolding inPlace between
@@ -92,9 +92,26 @@ begin-nests b [] [] t = tt
 begin-nests b (v ∷ ws) [] t = t
 begin-nests b ws (r ∷ rs) t = t
 
+-- is it the place of a further statement?
+inside : Stage → Bool
+inside g = between (stageNumber inBody) (stageNumber afterReturn) (stageNumber g)
+
+inside-above : (g : Stage) → T (inside g) → stageNumber inLocals < stageNumber g
+unfolding inside between stageNumber
+inside-above g t = leb→le 6 (stageNumber g) (and-both (leb 6 (stageNumber g)) (leb (stageNumber g) 7) t .0)
+
 -- outside of bodies no branch is open
 abbrev Closed : Place → Type 0
-Closed p = T (not (eqb (stageNumber (p .stage)) 6)) → p .branches ≡ []
+Closed p = T (not (inside (p .stage))) → p .branches ≡ []
+
+-- after a statement another may stand, but for `end`, see `stageAfter`
+next-inside : (a : Statement) → (inside (nextStage a) ≡ true) × (eqb (stageNumber (nextStage a)) (stageNumber afterMain) ≡ false)
+unfolding nextStage inside between stageNumber
+next-inside a = go (eqb (statementNumber a) (statementNumber Return))
+  where
+    go : (b : Bool) → (inside (cond b afterReturn inBody) ≡ true) × (eqb (stageNumber (cond b afterReturn inBody)) (stageNumber afterMain) ≡ false)
+    go true = (refl, refl)
+    go false = (refl, refl)
 
 -- rows that nest inside a block are some
 some-nests : (b : Bool) (ws : List Wait) (rs : List Row) → T (rowsNest false ws rs) → T (rowsNest b ws rs)
@@ -136,6 +153,7 @@ turns k = any (λ a. isKind (statement a) k) (If ∷ Else ∷ Join ∷ End ∷ [
 
 isSimple : Stmt → Bool
 isSimple (simple s) = true
+isSimple (return x) = true
 isSimple (if n a b) = false
 isSimple else = false
 isSimple (join φ) = false
@@ -144,6 +162,7 @@ isSimple end = false
 simple-row : (s : Stmt) (ws : List Wait) (k : Bool → List Wait → Bool) → T (isSimple s) → T (k false ws) → T (rowNests s ws k)
 unfolding isSimple rowNests
 simple-row (simple s) ws k h t = t
+simple-row (return x) ws k h t = t
 simple-row (if n a b) ws k h t = absurd h
 simple-row else ws k h t = absurd h
 simple-row (join φ) ws k h t = absurd h
@@ -181,11 +200,12 @@ module _ (Γ : Declarations) (vs : List Variable) (l : Line) (p : Place) (closed
       × Closed (placeAfter k p)
 
   -- a line that stands before bodies only
-  not-body : (k : Kind) → T (leb (stageNumber (form k .last)) 5) → T (inPlace k p) → T (not (eqb (stageNumber (p .stage)) 6))
+  not-body : (k : Kind) → T (leb (stageNumber (form k .last)) 5) → T (inPlace k p) → T (not (inside (p .stage)))
+  unfolding stageNumber inside between
   not-body k l i =
       let h = leb→le (stageNumber (p .stage)) (stageNumber (form k .last)) (bounds k p i .1) in
       let g = leb→le (stageNumber (form k .last)) 5 l in
-      not-T (eqb (stageNumber (p .stage)) 6) (λ t. omega (arith, h, g, eqb→eq (stageNumber (p .stage)) 6 t))
+      not-T (inside (p .stage)) (λ t. omega (arith, h, g, inside-above (p .stage) t))
 
   fit : (k : Kind) → T (inPlace k p) → T (fits k p)
   unfolding inPlace
@@ -201,18 +221,19 @@ module _ (Γ : Declarations) (vs : List Variable) (l : Line) (p : Place) (closed
   unfolding Nests rows rowsOf itemOf placeAfter stageAfter branchesAfter ended stageNumber form stands rowsNest any turns isQuiet
   simple-nests a f e j d i w =
       let s : T (isSimple (resolveStatement Γ vs a l)) = rw (f, e, j, d) at (quiet-line (statement a)) in
-      rw (f, e, j, d) (λ t. simple-row (resolveStatement Γ vs a l) (waits (p .branches)) (λ b ws. rowsNest b ws rows) s t, absurd)
+      let (m, n) = next-inside a in
+      rw (f, e, j, d, m, n) (λ t. simple-row (resolveStatement Γ vs a l) (waits (p .branches)) (λ b ws. rowsNest b ws rows) s t, absurd)
 
   if-nests : Nests (statement If)
-  unfolding Nests rows rowsOf itemOf resolveStatement placeAfter stageAfter branchesAfter ended stageNumber form stands isStatement isKind kindNumber statementNumber rowsNest rowNests resolveIf
+  unfolding Nests rows rowsOf itemOf resolveStatement placeAfter stageAfter branchesAfter ended stageNumber form stands isStatement isKind kindNumber statementNumber rowsNest rowNests resolveIf nextStage inside between
   if-nests i w = (λ t. if-row (p .branches) rows (few-branches (placeAfter (statement If) p) w) t, absurd)
 
   else-nests : Nests (statement Else)
-  unfolding Nests rows rowsOf itemOf resolveStatement placeAfter stageAfter branchesAfter ended stageNumber form stands isStatement isKind kindNumber statementNumber rowsNest fits
+  unfolding Nests rows rowsOf itemOf resolveStatement placeAfter stageAfter branchesAfter ended stageNumber form stands isStatement isKind kindNumber statementNumber rowsNest fits nextStage inside between
   else-nests i w = (λ t. else-row (p .branches) (λ b ws. rowsNest b ws rows) (fit (statement Else) i) t, absurd)
 
   join-nests : Nests (statement Join)
-  unfolding Nests rows rowsOf itemOf resolveStatement placeAfter stageAfter branchesAfter ended stageNumber form stands isStatement isKind kindNumber statementNumber rowsNest fits
+  unfolding Nests rows rowsOf itemOf resolveStatement placeAfter stageAfter branchesAfter ended stageNumber form stands isStatement isKind kindNumber statementNumber rowsNest fits nextStage inside between
   join-nests i w = (λ t. join-row (p .branches) (resolveFormula Γ vs l) (λ b ws. rowsNest b ws rows) (fit (statement Join) i) t, absurd)
 
   end-nests : Nests (statement End)
@@ -245,7 +266,7 @@ module _ (Γ : Declarations) (vs : List Variable) (l : Line) (p : Place) (closed
   no-row k u i = (some-nests (ended p) (waits (p .branches)) rows, λ e. closed (not-body k u i))
 
   line-nests : (k : Kind) → Nests k
-  unfolding Nests rows rowsOf itemOf placeAfter stageAfter branchesAfter ended stageNumber form stands isStatement isKind kindNumber
+  unfolding Nests rows rowsOf itemOf placeAfter stageAfter branchesAfter ended stageNumber form stands isStatement isKind kindNumber inside between
   line-nests Class i w = no-row Class tt i
   line-nests Field i w = no-row Field tt i
   line-nests Method i w = no-row Method tt i
@@ -255,15 +276,17 @@ module _ (Γ : Declarations) (vs : List Variable) (l : Line) (p : Place) (closed
   line-nests Var i w = no-row Var tt i
   line-nests (statement a) i w = statement-nests a i w
 
+-- after main's `end`
+outside : (g : Stage) → T (eqb (stageNumber g) (stageNumber afterMain)) → T (not (inside g))
+unfolding stageNumber inside between
+outside g t = rw (eqb→eq (stageNumber g) (stageNumber afterMain) t) tt
+
 lines-nest :
     (text : List Line) (p : Place) (s : Scope) (ls : List Line) (items : List Item) (n : ℕ) → TakenLines text p s ls items →
     Closed p → T (rowsNest (ended p) (waits (p .branches)) (rowsOf n items))
 unfolding Nests rows rowsOf waits rowsNest ended stageNumber
 lines-nest text p s ls items n (none e) h =
-    subst (λ (bs : List Branch). T (rowsNest (ended p) (waits bs) [])) (sym (h (not-six (stageNumber (p .stage)) e))) e
-  where
-    not-six : (k : ℕ) → T (eqb k 7) → T (not (eqb k 6))
-    not-six k t = not-T (eqb k 6) (λ u. omega (arith, eqb→eq k 7 t, eqb→eq k 6 u))
+    subst (λ (bs : List Branch). T (rowsNest (ended p) (waits bs) [])) (sym (h (outside (p .stage) e))) e
 lines-nest text p s ls items n (line {l = l} {items = rest} L R) h =
     let (o, c) = line-nests _ _ l p h n rest (l .kind) (L .in-place) (L .within) in
     o (lines-nest text _ _ _ rest (suc n) R c)
@@ -301,7 +324,7 @@ module _ (rs : List Row) where
   record Blocks (p : Place) (P : Program) : Type 0 where
     methods : BodiesNest rs (P .methods)
     main : T (p .main) → T (rowsNest false [] (drop (P .main) rs))
-    last : T (eqb (stageNumber (p .stage)) 7) → T (p .main)
+    last : T (ended p) → T (p .main)
 
   module _ (Γ : Declarations) (vs : List Variable) (l : Line) (p : Place) (closed : Closed p) (n : ℕ) (rest : List Item) (P : Program)
       (is : rs ≡ P .rows ++ rowsOf (suc n) rest) where
@@ -315,11 +338,13 @@ module _ (rs : List Row) where
         (subst (λ (bs : List Branch). T (rowsNest false (waits bs) (rowsOf (suc n) rest))) (closed (not-body Γ vs l p closed n rest k u i)) t)
 
   -- of the statements, main's `end` comes last
-  last-end : (e m : Bool) → T (eqb (stageNumber (cond e (cond m afterMain Grammar.afterMethod) inBody)) 7) → T m
+  last-end :
+      (e m : Bool) (a : Statement) → T (eqb (stageNumber (cond e (cond m afterMain Grammar.afterMethod) (nextStage a))) (stageNumber afterMain)) →
+      T m
   unfolding stageNumber
-  last-end true true t = tt
-  last-end true false t = t
-  last-end false m t = absurd t
+  last-end true true a t = tt
+  last-end true false a t = t
+  last-end false m a t = absurd (subst T (next-inside a .1) t)
 
   line-blocks :
       (Γ : Declarations) (vs : List Variable) (l : Line) (p : Place) (closed : Closed p) (n : ℕ) (rest : List Item) (P : Program)
@@ -343,7 +368,7 @@ module _ (rs : List Row) where
       record { methods = B .methods; main = λ u. begins Γ vs l p c n rest P is Main tt i t; last = absurd }
   line-blocks Γ vs l p c n rest P Var is i t B = record { methods = B .methods; main = B .main; last = absurd }
   line-blocks Γ vs l p c n rest P (statement a) is i t B =
-      record { methods = B .methods; main = B .main; last = last-end (isKind (statement End) (statement a)) (p .main) }
+      record { methods = B .methods; main = B .main; last = last-end (isKind (statement End) (statement a)) (p .main) a }
 
   lines-blocks :
       (text : List Line) (p : Place) (s : Scope) (ls : List Line) (items : List Item) (n : ℕ) → TakenLines text p s ls items →
@@ -362,7 +387,7 @@ pub read-blocks :
     (t : List ℕ) (items : List Item) → readText t ≡ accepted items →
     BodiesNest (program items .rows) (program items .methods)
     × T (rowsNest false [] (drop (program items .main) (program items .rows)))
-unfolding program stageNumber
+unfolding program ended stageNumber
 read-blocks t items e =
     let (text, K) = read-taken t items e in
     lines-blocks (withItems noProgram 0 items .rows) text firstPlace firstScope text items 0 K (λ e. refl) noProgram

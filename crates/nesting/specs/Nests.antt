@@ -1,10 +1,10 @@
--- Rows whose branches nest: what the places of a read text give.
-use mathlib.Core.Bool.{Bool, true, false, _&&_}
+-- Rows whose branches nest, and in which nothing stands after a `return`: what the places of a read text give.
+use mathlib.Core.Bool.{Bool, true, false, not, _&&_, _||_}
 use mathlib.Core.List.{List, [], _∷_}
 use lib.Dec.{ltb}
 use lib.ListN.{length}
 use Rattle.rules.specs.Limits.{most-branches}
-use Rattle.rules.specs.Syntax.{Stmt, Row, simple, if, else, join, end}
+use Rattle.rules.specs.Syntax.{Stmt, Row, simple, return, if, else, join, end}
 
 -- what an open branch waits for
 pub data Wait : Type 0 where
@@ -14,6 +14,7 @@ pub data Wait : Type 0 where
 -- ws: the open branches, innermost first; then k, with true where a block has just ended
 unfoldable pub rowNests : Stmt → List Wait → (Bool → List Wait → Bool) → Bool
 rowNests (simple p) ws k = k false ws
+rowNests (return x) ws k = k false ws
 rowNests (if n a b) ws k = ltb (length ws) most-branches && k false (forElse ∷ ws)
 rowNests else [] k = false
 rowNests else (forElse ∷ ws) k = k false (forJoin ∷ ws)
@@ -29,3 +30,25 @@ unfoldable pub rowsNest : Bool → List Wait → List Row → Bool
 rowsNest b [] [] = b
 rowsNest b (v ∷ ws) [] = false
 rowsNest b ws (r ∷ rs) = rowNests (r .stmt) ws (λ b ws. rowsNest b ws rs)
+
+unfoldable pub isReturn : Stmt → Bool
+isReturn (simple p) = false
+isReturn (return x) = true
+isReturn (if n a b) = false
+isReturn else = false
+isReturn (join φ) = false
+isReturn end = false
+
+-- may it stand straight after a `return`?
+unfoldable pub mayFollow : Stmt → Bool
+mayFollow (simple p) = false
+mayFollow (return x) = false
+mayFollow (if n a b) = false
+mayFollow else = true
+mayFollow (join φ) = true
+mayFollow end = true
+
+-- "A statement between [`return`] and the next `else`, `join` or `end` is number 4." b: whether the row before these is a `return`
+unfoldable pub returnsLast : Bool → List Row → Bool
+returnsLast b [] = true
+returnsLast b (r ∷ rs) = (not b || mayFollow (r .stmt)) && returnsLast (isReturn (r .stmt)) rs

@@ -2,6 +2,8 @@
 use mathlib.Core.Path.{_≡_, refl, sym, ap, _∙_}
 use mathlib.Core.Bool.{Bool, true, false, cond, _&&_}
 use mathlib.Core.List.{List, [], _∷_, _++_}
+use mathlib.Core.Option as Option
+use mathlib.Core.Option.{some}
 use Prim.Native.Nat.{ℕ, zero, suc, _+_, _-_, _≤_, _<_}
 use native.Mathlib.Omega.{arith}
 use lib.Dec.{T, eqb, ltb, leb, leb→le}
@@ -24,7 +26,8 @@ use Rattle.rules.specs.Items.{Item, aClass, aField, aMethod, aRequires, anEnsur
 use Rattle.rules.specs.Items.{resolveExpr, resolveStatement, itemOf, resolveLine, resolveLines}
 use Rattle.rules.specs.Reading.{readText, framedItem, checkFramed, noProgram, withItem, withItems, program}
 use Rattle.rules.specs.State.{State}
-use Rattle.rules.specs.Rules.{Open, inFirst, inSecond, checkRow, checkRows, checkFrom, elseRow, joinRow, endRow, checkMethod, checkBlocks, checkProgram}
+use Rattle.rules.specs.Rules as Rules
+use Rattle.rules.specs.Rules.{Following, Open, inFirst, inSecond, reached, checkRow, checkRows, checkFrom, elseRow, joinRow, endRow, checkMethod, checkBlocks, checkProgram}
 use Rattle.rules.specs.Calls.{checkItems}
 use Rattle.rules.proofs.Lists.{and-both}
 use Rattle.rules.proofs.Tries.{refused-accepted, accepted-inj, atLine-accepted, then-accepted}
@@ -161,12 +164,12 @@ SmallSimple (assign x e) = SmallExpr e
 SmallSimple (compute o x y z) = Unit {0}
 SmallSimple (new x c) = Unit {0}
 SmallSimple (call x y m z) = Unit {0}
-SmallSimple (return x) = Unit {0}
 SmallSimple (assert φ) = Unit {0}
 SmallSimple (release φ) = Unit {0}
 
 abbrev pub SmallStmt : Stmt → Type 0
 SmallStmt (simple p) = SmallSimple p
+SmallStmt (return x) = Unit {0}
 SmallStmt (if n a b) = Unit {0}
 SmallStmt else = Unit {0}
 SmallStmt (join φ) = Unit {0}
@@ -296,34 +299,40 @@ module _ (n : ℕ) where
   drop-fits (suc i) [] x = tt
   drop-fits (suc i) (r ∷ rs) x = drop-fits i rs (x .1)
 
+  reached-within : (l : ℕ) (e : Rules.End) (k : State → Verdict (Unit {0})) → l ≤ n → ((s : State) → Within n (k s)) → Within n (reached l e k)
+  unfolding reached
+  reached-within l Option.none k h x = h
+  reached-within l (some s) k h x = x s
+
   module _ (P : Program) (φ : Formula ℕ) where
     row-within :
-        (st : Stmt) (l : ℕ) (k : State → List Open → Verdict (Unit {0})) (s : State) (os : List Open) → l ≤ n →
-        ((s : State) (os : List Open) → Within n (k s os)) → Within n (checkRow P st l φ k s os)
+        (st : Stmt) (l : ℕ) (k : Following) (e : Rules.End) (os : List Open) → l ≤ n → ((e : Rules.End) (os : List Open) → Within n (k e os)) →
+        Within n (checkRow P st l φ k e os)
     unfolding checkRow elseRow joinRow endRow
-    row-within (simple p) l k s os h x = at-within n l _ _ h (λ a. x a os)
-    row-within (if r a b) l k s os h x = at-within n l _ _ h (λ c. x (c .0) (inFirst (c .1) ∷ os))
-    row-within else l k s [] h x = h
-    row-within else l k s (inFirst s₂ ∷ os) h x = x s₂ (inSecond s ∷ os)
-    row-within else l k s (inSecond s₁ ∷ os) h x = h
-    row-within (join ψ) l k s [] h x = h
-    row-within (join ψ) l k s (inFirst s₂ ∷ os) h x = h
-    row-within (join ψ) l k s (inSecond s₁ ∷ os) h x = at-within n l _ _ h (λ a. x a os)
-    row-within end l k s [] h x = at-within n l _ _ h (λ a. tt)
-    row-within end l k s (o ∷ os) h x = h
+    row-within (simple p) l k e os h x = reached-within l e _ h (λ s. at-within n l _ _ h (λ a. x _ os))
+    row-within (return y) l k e os h x = reached-within l e _ h (λ s. at-within n l _ _ h (λ u. x _ os))
+    row-within (if r a b) l k e os h x = reached-within l e _ h (λ s. at-within n l _ _ h (λ c. x _ (inFirst (c .1) ∷ os)))
+    row-within else l k e [] h x = h
+    row-within else l k e (inFirst s₂ ∷ os) h x = x _ (inSecond e ∷ os)
+    row-within else l k e (inSecond e₁ ∷ os) h x = h
+    row-within (join ψ) l k e [] h x = h
+    row-within (join ψ) l k e (inFirst s₂ ∷ os) h x = h
+    row-within (join ψ) l k e (inSecond e₁ ∷ os) h x = at-within n l _ _ h (λ a. x _ os)
+    row-within end l k e [] h x = at-within n l _ _ h (λ a. tt)
+    row-within end l k e (o ∷ os) h x = h
 
-    rows-within : (rs : List Row) (s : State) (os : List Open) → All (RowFits n) rs → Within n (checkRows P φ rs s os)
+    rows-within : (rs : List Row) (e : Rules.End) (os : List Open) → All (RowFits n) rs → Within n (checkRows P φ rs e os)
     unfolding checkRows
-    rows-within [] s os x = omega arith
-    rows-within (r ∷ rs) s os x =
-        row-within (r .stmt) (r .line) _ s os (x .0 .line) (λ s′ os′. rows-within rs s′ os′ (x .1))
+    rows-within [] e os x = omega arith
+    rows-within (r ∷ rs) e os x =
+        row-within (r .stmt) (r .line) _ e os (x .0 .line) (λ e′ os′. rows-within rs e′ os′ (x .1))
 
   blocks-within : (P : Program) (Ms : List Method) → ProgramFits n P → Within n (checkBlocks P Ms)
   unfolding checkBlocks checkMethod checkFrom
   blocks-within P [] x = rows-within P [] _ _ [] (drop-fits (P .main) (P .rows) x)
   blocks-within P (M ∷ Ms) x =
       then-within n (checkMethod P M) _
-      (at-within n 0 _ _ (omega arith) (λ s. rows-within P (M .ensures) _ s [] (drop-fits (M .first) (P .rows) x)))
+      (at-within n 0 _ _ (omega arith) (λ s. rows-within P (M .ensures) _ _ [] (drop-fits (M .first) (P .rows) x)))
       (λ u e. blocks-within P Ms x)
 
   pub check-within : (items : List Item) → length items ≤ n → All SmallItem items → Within n (checkItems items)

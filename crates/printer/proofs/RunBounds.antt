@@ -16,7 +16,7 @@ use Rattle.rules.specs.Syntax.{noRow, rowNumbered, methodNumbered, result-varia
 use Rattle.rules.specs.Machine as Machine
 use Rattle.rules.specs.Machine.{Cell, Heap, Location, Frame, Config, Room, Step, Outcome, on, stop, done}
 use Rattle.rules.specs.Machine.{valueIn, object, valueAt, storeIn, store, valueOf, locate, value, footprint, jump, advance, bind, holding, withFrame, choose, elseStep}
-use Rattle.rules.specs.Machine.{ifStep, stored, setStep, assignStep, raised, inRange, computed, computeStep, newCell, grown, newStep, entryValues, callFrame, entered, callStep, statementOf, returned, assertStep, releaseStep, endStep, mainFrame, ends, goOn, simpleStep, stepAt, step, run, start, runProgram}
+use Rattle.rules.specs.Machine.{ifStep, stored, setStep, assignStep, raised, inRange, computed, computeStep, newCell, grown, newStep, entryValues, callFrame, entered, callStep, statementOf, returned, assertStep, releaseStep, endStep, returnStep, mainFrame, ends, goOn, simpleStep, stepAt, step, run, start, runProgram}
 use Rattle.rules.proofs.Lists.{update-length, and-both}
 use Rattle.rules.proofs.Tries.{ok-inj, bind-ok, check-ok}
 use Rattle.rules.proofs.States.{on-inj, took-on}
@@ -227,6 +227,12 @@ module _ (n : ℕ) where
         callers = c .1;
       })
 
+  return-fits : (P : Program) (m m′ : Config) (x : ℕ) → Fit m → returnStep P x m ≡ on m′ → Fit m′
+  unfolding returnStep withFrame
+  return-fits P m m′ x z i =
+      end-fits P _ m′ (m .callers) (z .callers)
+      (with-frame m _ z (bind-fits (m .frame) result-variable _ (z .frame) (value-of (m .frame) x (z .frame)))) i
+
   module _ (room : Room) (P : Program) (h : room .objects ≤ 256) (w : ProgramFits n P) where
     row-fits : (i : ℕ) → RowFits n (rowNumbered P i)
     unfolding rowNumbered
@@ -240,13 +246,13 @@ module _ (n : ℕ) where
     simple-fits (new x c) m m′ s z i = new-fits room m m′ x (getD (P .classes) c []) h z i
     simple-fits (call x y k v) m m′ s z i =
         call-fits m m′ y (methodNumbered P k) v z i
-    simple-fits (return x) m m′ s z i = assign-fits m m′ result-variable (var x) z tt i
     simple-fits (assert φ) m m′ s z i = assert-fits m m′ φ z i
     simple-fits (release φ) m m′ s z i = release-fits m m′ φ z i
 
     at-fits : (st : Stmt) (m m′ : Config) → SmallStmt st → Fit m → stepAt room P st m ≡ on m′ → Fit m′
     unfolding stepAt elseStep
     at-fits (simple p) m m′ s z i = simple-fits p m m′ s z (took-on _ m′ i)
+    at-fits (return x) m m′ s z i = return-fits P m m′ x z i
     at-fits (if r a b) m m′ s z i = if-fits m m′ (P .rows) r a b z (took-on _ m′ i)
     at-fits else m m′ s z i =
         subst Fit (on-inj i)

@@ -4,11 +4,11 @@ use mathlib.Core.Bool.{Bool, true, false, cond, _&&_}
 use Prim.Native.Nat.{suc, _+_, _*_, _-_, _≤_}
 use native.Mathlib.Omega.{arith}
 use native.Mathlib.Numerals.{add-one}
-use lib.Dec.{leb}
+use lib.Dec.{leb, eqb}
 use borrow.Author.Tests.{leb-true}
 use Rattle.rules.specs.Grammar as Grammar
 use Rattle.rules.specs.Grammar.{Kind}
-use Rattle.rules.specs.Grammar.{Class, Field, Method, Requires, Ensures, Main, Var, statement, End, isKind}
+use Rattle.rules.specs.Grammar.{Class, Field, Method, Requires, Ensures, Main, Var, statement, Return, End, isKind, statementNumber}
 use Rattle.rules.specs.Places as Places
 use Rattle.rules.specs.Places.{Place, firstPlace, stageNumber, inPlace, placeAfter, withinLimits}
 use Rattle.rules.specs.Base as Base
@@ -99,11 +99,13 @@ module _ {p : Place} {c : Names} (x : Counted p c) (w : withinLimits p ≡ true)
       })
 
   -- no class begins after a statement, be it an `end` or not
-  statement-stage : (e m : Bool) → stageNumber (cond e (cond m Grammar.afterMain Grammar.afterMethod) Grammar.inBody) ≡ 1 → ⊥
+  statement-stage :
+      (e m r : Bool) → stageNumber (cond e (cond m Grammar.afterMain Grammar.afterMethod) (cond r Grammar.afterReturn Grammar.inBody)) ≡ 1 → ⊥
   unfolding stageNumber
-  statement-stage true true i = omega arith
-  statement-stage true false i = omega arith
-  statement-stage false m i = omega arith
+  statement-stage true true r i = omega arith
+  statement-stage true false r i = omega arith
+  statement-stage false m true i = omega arith
+  statement-stage false m false i = omega arith
 
   counted-class : Counted (placeAfter Class p) (namesAfter Class c)
   unfolding Places.opened Grammar.opened namesAfter moreClasses
@@ -163,4 +165,4 @@ module _ {p : Place} {c : Names} (x : Counted p c) (w : withinLimits p ≡ true)
   counted-on Ensures i v = other _ _ refl refl refl refl (λ e. omega arith)
   counted-on Main i v = other _ _ refl refl refl refl (λ e. omega arith)
   counted-on Var i v = other _ _ refl refl refl refl (λ e. omega arith)
-  counted-on (statement a) i v = other _ _ refl refl refl refl (statement-stage (isKind (statement End) (statement a)) (p .main))
+  counted-on (statement a) i v = other _ _ refl refl refl refl (statement-stage (isKind (statement End) (statement a)) (p .main) (eqb (statementNumber a) (statementNumber Return)))

@@ -104,7 +104,7 @@ module _ (p : Places.Place) where
       where
         go :
             (x y : Bool) → let n = form (kindNumbered k) .next in
-            cond x (cond y 7 2) (stageNumber n) ≡ stageNumber (cond x (cond y afterMain afterMethod) n)
+            cond x (cond y (stageNumber afterMain) (stageNumber afterMethod)) (stageNumber n) ≡ stageNumber (cond x (cond y afterMain afterMethod) n)
         go true true = refl
         go true false = refl
         go false y = refl

@@ -6,7 +6,7 @@ use Prim.Native.Nat.{ℕ, _+_, _*_, _/_, _%_}
 use lib.Dec.{eqb, leb, ltb}
 use Rattle.rules.specs.Base.{between}
 use Rattle.rules.specs.Limits.{most-classes, most-fields, most-methods, most-locals, most-statements}
-use Rattle.rules.specs.Grammar.{form, first-statement}
+use Rattle.rules.specs.Grammar.{form, first-statement, afterMethod, afterMain}
 use Rattle.rules.specs.Places as Places
 use Rattle.rules.specs.Places.{Branch, beforeElse, afterElse, stageNumber, oneMoreIf}
 use Rattle.read_grammar.specs.Rows.{kindNumbered}
@@ -46,7 +46,7 @@ unfoldable pub inPlace : ℕ → Place → Bool
 inPlace k s = between (stageNumber (form (kindNumbered k) .first)) (stageNumber (form (kindNumbered k) .last)) (s .stage) && fits k s
 
 unfoldable pub stageAfter : ℕ → Bool → ℕ → ℕ
-stageAfter k main next = cond (eqb k 18) (cond main 7 2) next
+stageAfter k main next = cond (eqb k 18) (cond main (stageNumber afterMain) (stageNumber afterMethod)) next
 
 unfoldable pub branchesAfter : ℕ → ℕ → ℕ
 branchesAfter k n = cond (eqb k 15) (1 + 4 * n) (cond (eqb k 16) (2 + 4 * (n / 4)) (cond (eqb k 17) (n / 4) n))

@@ -56,7 +56,7 @@ impl Stage {
 
     pub const AFTER_METHOD: u32 = 2;
 
-    pub const AFTER_MAIN: u32 = 7;
+    pub const AFTER_MAIN: u32 = 8;
 }
 
 // What the grammar says of a kind of line: its operands to the base 16, the first lowest; what follows them; the stages at which it may
@@ -86,13 +86,13 @@ fn row_number(kind: u8) -> u32
         Kind::LET => 0x6650_00b8,
         Kind::NEW => 0x6650_0068,
         Kind::CALL => 0x6650_7a78,
-        Kind::RETURN => 0x6650_0007,
+        Kind::RETURN => 0x7650_0007,
         Kind::ASSERT => 0x6652_0000,
         Kind::RELEASE => 0x6652_0000,
         Kind::IF => 0x6651_0000,
-        Kind::ELSE => 0x6650_0000,
-        Kind::JOIN => 0x6652_0000,
-        Kind::END => 0x6650_0000,
+        Kind::ELSE => 0x6750_0000,
+        Kind::JOIN => 0x6752_0000,
+        Kind::END => 0x6750_0000,
         Kind::ADD => 0x6650_0778,
         _ => 0x6650_0778, // sub
     }

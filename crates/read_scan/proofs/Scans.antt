@@ -14,7 +14,7 @@ use Rattle.rules.specs.Answers.{Verdict, accepted, refused, atLine, then, badBy
 use Rattle.rules.specs.Answers as Answers
 use Rattle.rules.specs.Text as Text
 use Rattle.rules.specs.Text.{lines, onto, clean}
-use Rattle.rules.specs.Grammar.{Kind, Line, form, IsKindNumber, kindOf, isFormed, readLine}
+use Rattle.rules.specs.Grammar.{Kind, Line, afterMain, form, IsKindNumber, kindOf, isFormed, readLine}
 use Rattle.rules.specs.Places as Places
 use Rattle.rules.specs.Places.{Placed, stageNumber, placeLine, scanLine, scanLines, ended, firstPlace}
 use Rattle.rules.proofs.Lists.{T-true}
@@ -201,17 +201,17 @@ module _ {t : List ℕ} {a n : ℕ} {s : Place} (x : Passed t a n s) where
       sym (x .rest ∙ rw (m, f, ← add-one n))
 
   module _ (h : length t ≤ a) where
-    pub pass-done : s .stage ≡ 7 → accepted n ≡ scanText t
+    pub pass-done : s .stage ≡ stageNumber afterMain → accepted n ≡ scanText t
     unfolding scanLines then ended coded stageNumber
     pass-done e =
-        let z : stageNumber (x .place .stage) ≡ 7 = ap (λ (q : Place). q .stage) (sym (x .is)) ∙ e in
-        sym (x .rest ∙ rw (no-lines t a h, eq-eqb _ 7 z) (ap accepted (omega arith)))
+        let z : stageNumber (x .place .stage) ≡ stageNumber afterMain = ap (λ (q : Place). q .stage) (sym (x .is)) ∙ e in
+        sym (x .rest ∙ rw (no-lines t a h, eq-eqb _ _ z) (ap accepted (omega arith)))
 
-    pub pass-ends : (s .stage ≡ 7 → ⊥) → refused textEnds n ≡ scanText t
+    pub pass-ends : (s .stage ≡ stageNumber afterMain → ⊥) → refused textEnds n ≡ scanText t
     unfolding scanLines then ended coded stageNumber
     pass-ends e =
-        let z : stageNumber (x .place .stage) ≡ 7 → ⊥ = λ w. e (ap (λ (q : Place). q .stage) (x .is) ∙ w) in
-        sym (x .rest ∙ rw (no-lines t a h, ne-eqb _ 7 z))
+        let z : stageNumber (x .place .stage) ≡ stageNumber afterMain → ⊥ = λ w. e (ap (λ (q : Place). q .stage) (x .is) ∙ w) in
+        sym (x .rest ∙ rw (no-lines t a h, ne-eqb _ _ z))
 
 -- A TEXT THAT IS TAKEN
 

@@ -6,9 +6,9 @@ use native.Mathlib.Omega.{arith}
 use native.Mathlib.Numerals.{add-one}
 use lib.Dec.{T}
 use Rattle.rules.specs.Grammar as Grammar
-use Rattle.rules.specs.Grammar.{Kind, Statement, isKind, isStatement}
+use Rattle.rules.specs.Grammar.{Kind, Statement, isKind, isStatement, nextStage}
 use Rattle.rules.specs.Grammar.{Class, Field, Method, Requires, Ensures, Main, Var, statement, End}
-use Rattle.rules.specs.Grammar.{inClass, afterMethod, inBody, afterMain}
+use Rattle.rules.specs.Grammar.{inClass, afterMethod, afterMain}
 use Rattle.rules.proofs.LineKinds.{is-same}
 use Rattle.rules.specs.Limits.{most-fields, most-locals, most-statements, most-atoms}
 use Rattle.rules.specs.Places as Places
@@ -21,8 +21,8 @@ use Rattle.read_scopes.specs.declared.Above.{Above}
 use Rattle.read_scopes.specs.Meanings.{moreLocals}
 use Rattle.resolve_pass.specs.declared.Pass.{Pass}
 use Rattle.resolve_pass.specs.Passes.{firstPass, after, oneMore, nextRange, aboveAfter, withBlock, namesAfter, hasAtoms, Counts}
-use Rattle.resolve_pass.proofs.Stages.{neededAt, spareAt, localsAt, classesAt, methodsAt, atLeast, limits}
-use Rattle.resolve_pass.proofs.Stages.{at-header, at-requires, at-body, at-between, at-class, stage-from, stage-to}
+use Rattle.resolve_pass.proofs.Stages.{neededAt, spareAt, localsAt, classesAt, methodsAt, atLeast, limits, Inside, next-inside}
+use Rattle.resolve_pass.proofs.Stages.{at-header, at-requires, at-body, at-between, at-class, stage-from, stage-to, statement-to}
 
 -- what the stage of a place says of the locals and atoms so far
 pub record Staged (place : Place) (v a : ℕ) : Type 0 where
@@ -87,18 +87,17 @@ result-on k c e = go (isKind Method k) (isKind Var k) (isKind (statement End) k)
 module _ {p : Place} {v a : ℕ} (x : Staged p v a) (b : ℕ) where
   -- a statement that is not `end`
   staged-body :
-      (q : Place) (u : ℕ) → 5 ≤ stageNumber (p .stage) → stageNumber (p .stage) ≤ 6 → q .stage ≡ inBody → q .main ≡ p .main →
+      (q : Place) (u : ℕ) → 5 ≤ stageNumber (p .stage) → stageNumber (p .stage) ≤ 7 → Inside (q .stage) → q .main ≡ p .main →
       q .locals ≡ p .locals → q .classes ≡ p .classes → q .methods ≡ p .methods → q .statements ≡ suc (p .statements) →
       u ≡ v → b ≤ a + 8 → Staged q u b
-  unfolding stageNumber
-  staged-body q u l h s m o c d n e g =
+  staged-body q u l h (z, k) m o c d n e g =
       let y = at-body (p .stage) l h in
       record {
-        locals = e ∙ (x .locals ∙ (y .locals (p .locals) ∙ (sym o ∙ ap (λ r. localsAt r (q .locals)) (sym s))));
-        late = λ i. absurd (omega (arith, ap stageNumber s));
-        classes = rw (s, m, c) (rw (y .classes (p .main)) at (x .classes));
-        methods = rw s (omega arith);
-        atoms = rw (s, m, d, n) (omega (arith, g, x .atoms, y .spare (p .main)));
+        locals = e ∙ (x .locals ∙ (y .locals (p .locals) ∙ (sym o ∙ sym (z .locals (q .locals)))));
+        late = λ i. absurd (omega (arith, k));
+        classes = rw (z .classes (q .main), m, c) (rw (y .classes (p .main)) at (x .classes));
+        methods = omega (arith, z .methods);
+        atoms = rw (z .spare (q .main), m, d, n) (omega (arith, g, x .atoms, y .spare (p .main)));
       }
 
   staged-class :
@@ -174,7 +173,7 @@ module _ {p : Place} {v a : ℕ} (x : Staged p v a) (b : ℕ) where
         atoms = omega (arith, g, x .atoms, y .spare (p .main));
       }
 
-  staged-end : 5 ≤ stageNumber (p .stage) → stageNumber (p .stage) ≤ 6 → b ≤ a → Staged (placeAfter (statement End) p) 0 b
+  staged-end : 5 ≤ stageNumber (p .stage) → stageNumber (p .stage) ≤ 7 → b ≤ a → Staged (placeAfter (statement End) p) 0 b
   unfolding Places.opened Grammar.opened
   staged-end l h g = go (p .main) refl
     where
@@ -218,8 +217,8 @@ staged-statement {p} {a} c x b s i g = go (isKind (statement End) (statement s))
         (λ k. inPlace k p ≡ true → b ≤ a + cond (hasAtoms k) 8 0 → Staged (placeAfter k p) (namesAfter k c .locals) b)
         (is-same (statement End) (statement s) (subst T (sym e) tt)) ends i g
     go false e =
-        staged-body x b (placeAfter (statement s) p) _ (stage-from (statement s) p i) (stage-to (statement s) p i)
-        (ap (λ y. cond y (cond (p .main) afterMain afterMethod) inBody) e) refl refl refl refl refl
+        staged-body x b (placeAfter (statement s) p) _ (stage-from (statement s) p i) (statement-to s p i)
+        (subst (λ y. Inside (cond y (cond (p .main) afterMain afterMethod) (nextStage s))) (sym e) (next-inside s)) refl refl refl refl refl
         (ap (λ y. cond y (withBlock false c) c .locals) e) (omega (arith, g, few (hasAtoms (statement s))))
 
 staged-on :
@@ -296,7 +295,7 @@ module _ {place : Place} {p : Pass} (x : Counted place p) where
   header-room (statement s) i e = true-false (sym e)
 
   body-atoms :
-      (q : Place) → 5 ≤ stageNumber (place .stage) → stageNumber (place .stage) ≤ 6 → q .statements ≡ suc (place .statements) →
+      (q : Place) → 5 ≤ stageNumber (place .stage) → stageNumber (place .stage) ≤ 7 → q .statements ≡ suc (place .statements) →
       q .methods ≡ place .methods → neededAt (q .stage) (q .main) ≡ cond (place .main) 1 2 → withinLimits q ≡ true → atLeast q ≤ 256 →
       p .atoms + 8 ≤ 2552
   unfolding coded
@@ -328,8 +327,8 @@ module _ {place : Place} {p : Pass} (x : Counted place p) where
       go : (y : Bool) → isKind (statement End) (statement s) ≡ y → p .atoms + 8 ≤ 2552
       go true z = true-false (sym (ap hasAtoms (is-same (statement End) (statement s) (subst T (sym z) tt)) ∙ e))
       go false z =
-          body-atoms (placeAfter (statement s) place) (stage-from (statement s) place i) (stage-to (statement s) place i) refl refl
-          (ap (λ y. neededAt (cond y (cond (place .main) afterMain afterMethod) inBody) (place .main)) z) w r
+          body-atoms (placeAfter (statement s) place) (stage-from (statement s) place i) (statement-to s place i) refl refl
+          (ap (λ y. neededAt (cond y (cond (place .main) afterMain afterMethod) (nextStage s)) (place .main)) z ∙ next-inside s .0 .needed (place .main)) w r
 
   pub atoms-room :
       (k : Kind) → inPlace k place ≡ true → withinLimits (placeAfter k place) ≡ true → atLeast (placeAfter k place) ≤ 256 → hasAtoms k ≡ true →

@@ -9,7 +9,7 @@ use Rattle.rules.specs.Base.{Name}
 use Rattle.rules.specs.Limits.{most-bytes, most-classes, most-methods, work-bytes}
 use Rattle.rules.specs.Answers.{accepted}
 use Rattle.rules.specs.Grammar.{Kind, Line, Stage, Method, Var, statement, End, isKind}
-use Rattle.rules.specs.Grammar.{beginning, inClass, afterMethod, afterHeader, afterRequires, inLocals, inBody, afterMain}
+use Rattle.rules.specs.Grammar.{beginning, inClass, afterMethod, afterHeader, afterRequires, inLocals, inBody, afterReturn, afterMain}
 use Rattle.rules.specs.Places as Places
 use Rattle.rules.specs.Places.{Place, firstPlace, inPlace, placeAfter, withinLimits, scanLines}
 use Rattle.read_grammar.specs.Coded.{coded}
@@ -52,6 +52,7 @@ few-locals afterHeader n = omega arith
 few-locals afterRequires n = omega arith
 few-locals inLocals n = omega arith
 few-locals inBody n = omega arith
+few-locals afterReturn n = omega arith
 few-locals afterMain n = omega arith
 
 -- t is the text, w the work area, p how far pass 2 is, place that of the next line, and ls the lines to come

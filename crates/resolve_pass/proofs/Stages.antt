@@ -9,9 +9,9 @@ use borrow.Author.Tests.{eqb-true}
 use Rattle.rules.specs.Base.{Name, ok, between}
 use Rattle.rules.specs.Answers.{accepted, refused, malformed, limitPassed, textEnds}
 use Rattle.rules.specs.Grammar as Grammar
-use Rattle.rules.specs.Grammar.{Kind, Stage, Line, form, isKind}
-use Rattle.rules.specs.Grammar.{Class, Field, Method, Requires, Ensures, Main, Var, statement, End}
-use Rattle.rules.specs.Grammar.{beginning, inClass, afterMethod, afterHeader, afterRequires, inLocals, inBody, afterMain}
+use Rattle.rules.specs.Grammar.{Kind, Statement, Stage, Line, form, stands, isKind, isClosingNumber, statementNumber, lastStage, nextStage}
+use Rattle.rules.specs.Grammar.{Class, Field, Method, Requires, Ensures, Main, Var, statement, Return, End}
+use Rattle.rules.specs.Grammar.{beginning, inClass, afterMethod, afterHeader, afterRequires, inLocals, inBody, afterReturn, afterMain}
 use Rattle.rules.specs.Places as Places
 use Rattle.rules.specs.Places.{Place, stageNumber, fits, inPlace, placeAfter, placeLine, withinLimits, ended, scanLines}
 use Rattle.rules.proofs.Lists.{T-true}
@@ -33,6 +33,7 @@ neededAt afterHeader m = cond m 1 2
 neededAt afterRequires m = cond m 1 2
 neededAt inLocals m = cond m 1 2
 neededAt inBody m = cond m 1 2
+neededAt afterReturn m = cond m 1 2
 neededAt afterMain m = 0
 
 -- formulas that may stand above, with one more, beside one for each statement line and each method
@@ -44,6 +45,7 @@ spareAt afterHeader m = 0
 spareAt afterRequires m = 1
 spareAt inLocals m = cond m 1 2
 spareAt inBody m = cond m 1 2
+spareAt afterReturn m = cond m 1 2
 spareAt afterMain m = 1
 
 -- locals of the open block, of which n are counted
@@ -55,6 +57,7 @@ localsAt afterHeader n = n
 localsAt afterRequires n = n
 localsAt inLocals n = n
 localsAt inBody n = n
+localsAt afterReturn n = n
 localsAt afterMain n = 0
 
 -- classes above at least
@@ -66,6 +69,7 @@ classesAt afterHeader m = 1
 classesAt afterRequires m = 1
 classesAt inLocals m = cond m 0 1
 classesAt inBody m = cond m 0 1
+classesAt afterReturn m = cond m 0 1
 classesAt afterMain m = 0
 
 -- methods above at least
@@ -77,6 +81,7 @@ methodsAt afterHeader = 1
 methodsAt afterRequires = 1
 methodsAt inLocals = 0
 methodsAt inBody = 0
+methodsAt afterReturn = 0
 methodsAt afterMain = 0
 
 -- two stages that the tables do not tell apart
@@ -99,6 +104,7 @@ at-header afterHeader e = like afterHeader
 at-header afterRequires e = absurd (omega arith)
 at-header inLocals e = absurd (omega arith)
 at-header inBody e = absurd (omega arith)
+at-header afterReturn e = absurd (omega arith)
 at-header afterMain e = absurd (omega arith)
 
 pub at-requires : (s : Stage) → stageNumber s ≡ 4 → Like s afterRequires
@@ -110,9 +116,10 @@ at-requires afterHeader e = absurd (omega arith)
 at-requires afterRequires e = like afterRequires
 at-requires inLocals e = absurd (omega arith)
 at-requires inBody e = absurd (omega arith)
+at-requires afterReturn e = absurd (omega arith)
 at-requires afterMain e = absurd (omega arith)
 
-pub at-body : (s : Stage) → 5 ≤ stageNumber s → stageNumber s ≤ 6 → Like s inBody
+pub at-body : (s : Stage) → 5 ≤ stageNumber s → stageNumber s ≤ 7 → Like s inBody
 unfolding stageNumber
 at-body beginning l h = absurd (omega arith)
 at-body inClass l h = absurd (omega arith)
@@ -121,7 +128,21 @@ at-body afterHeader l h = absurd (omega arith)
 at-body afterRequires l h = absurd (omega arith)
 at-body inLocals l h = record { needed = λ m. refl; spare = λ m. refl; locals = λ n. refl; classes = λ m. refl; methods = refl }
 at-body inBody l h = like inBody
+at-body afterReturn l h = record { needed = λ m. refl; spare = λ m. refl; locals = λ n. refl; classes = λ m. refl; methods = refl }
 at-body afterMain l h = absurd (omega arith)
+
+-- a stage at which a statement may stand, unless it is an early one
+abbrev pub Inside : Stage → Type 0
+Inside s = Like s inBody × (5 ≤ stageNumber s)
+
+-- after a statement that is not `end`
+pub next-inside : (s : Statement) → Inside (nextStage s)
+unfolding nextStage stageNumber
+next-inside s = go (eqb (statementNumber s) (statementNumber Return))
+  where
+    go : (b : Bool) → Inside (cond b afterReturn inBody)
+    go true = (at-body afterReturn (omega arith) (omega arith), omega arith)
+    go false = (like inBody, omega arith)
 
 -- a stage between blocks
 pub record Between (s : Stage) : Type 0 where
@@ -138,6 +159,7 @@ at-between afterHeader h = absurd (omega arith)
 at-between afterRequires h = absurd (omega arith)
 at-between inLocals h = absurd (omega arith)
 at-between inBody h = absurd (omega arith)
+at-between afterReturn h = absurd (omega arith)
 at-between afterMain h = absurd (omega arith)
 
 pub at-class : (s : Stage) (m : Bool) → 1 ≤ stageNumber s → stageNumber s ≤ 2 → classesAt s m ≡ 1
@@ -149,9 +171,10 @@ at-class afterHeader m l h = absurd (omega arith)
 at-class afterRequires m l h = absurd (omega arith)
 at-class inLocals m l h = absurd (omega arith)
 at-class inBody m l h = absurd (omega arith)
+at-class afterReturn m l h = absurd (omega arith)
 at-class afterMain m l h = absurd (omega arith)
 
-at-end : (s : Stage) (m : Bool) → stageNumber s ≡ 7 → neededAt s m ≡ 0
+at-end : (s : Stage) (m : Bool) → stageNumber s ≡ stageNumber afterMain → neededAt s m ≡ 0
 unfolding stageNumber
 at-end beginning m e = absurd (omega arith)
 at-end inClass m e = absurd (omega arith)
@@ -160,6 +183,7 @@ at-end afterHeader m e = absurd (omega arith)
 at-end afterRequires m e = absurd (omega arith)
 at-end inLocals m e = absurd (omega arith)
 at-end inBody m e = absurd (omega arith)
+at-end afterReturn m e = absurd (omega arith)
 at-end afterMain m e = refl
 
 -- A LINE IN PLACE
@@ -173,6 +197,15 @@ stage-from k p i = between-true _ _ _ (both-true (between (stageNumber (form k .
 pub stage-to : (k : Kind) (p : Place) → inPlace k p ≡ true → stageNumber (p .stage) ≤ stageNumber (form k .last)
 unfolding inPlace
 stage-to k p i = between-true _ _ _ (both-true (between (stageNumber (form k .first)) (stageNumber (form k .last)) (stageNumber (p .stage))) (fits k p) i .0) .1
+
+last-inside : (b : Bool) → stageNumber (cond b afterReturn inBody) ≤ 7
+unfolding stageNumber
+last-inside true = omega arith
+last-inside false = omega arith
+
+pub statement-to : (s : Statement) (p : Place) → inPlace (statement s) p ≡ true → stageNumber (p .stage) ≤ 7
+unfolding form stands lastStage
+statement-to s p i = omega (arith, stage-to (statement s) p i, last-inside (isClosingNumber (statementNumber s)))
 
 -- what a line that is placed shows
 pub record InPlace (k : Kind) (p q : Place) : Type 0 where
@@ -202,23 +235,23 @@ module _ (p : Place) where
   outer-on q h s n = omega (arith, at-between (p .stage) h .needed (p .main))
 
   body-on :
-      (q : Place) → 5 ≤ stageNumber (p .stage) → stageNumber (p .stage) ≤ 6 → p .statements ≤ q .statements →
+      (q : Place) → 5 ≤ stageNumber (p .stage) → stageNumber (p .stage) ≤ 7 → p .statements ≤ q .statements →
       neededAt (q .stage) (q .main) ≡ cond (p .main) 1 2 → atLeast p ≤ atLeast q
   body-on q l h s n = omega (arith, at-body (p .stage) l h .needed (p .main))
 
   -- e: the statement is `end`
   statement-on :
-      (e : Bool) → 5 ≤ stageNumber (p .stage) → stageNumber (p .stage) ≤ 6 →
-      atLeast p ≤ suc (p .statements) + neededAt (cond e (cond (p .main) afterMain afterMethod) inBody) (p .main)
-  statement-on e l h = go e (p .main) (at-body (p .stage) l h .needed (p .main))
+      (e : Bool) (s : Statement) → 5 ≤ stageNumber (p .stage) → stageNumber (p .stage) ≤ 7 →
+      atLeast p ≤ suc (p .statements) + neededAt (cond e (cond (p .main) afterMain afterMethod) (nextStage s)) (p .main)
+  statement-on e s l h = go e (p .main) (at-body (p .stage) l h .needed (p .main))
     where
       go :
           (e m : Bool) → neededAt (p .stage) (p .main) ≡ cond m 1 2 →
-          atLeast p ≤ suc (p .statements) + neededAt (cond e (cond m afterMain afterMethod) inBody) (p .main)
+          atLeast p ≤ suc (p .statements) + neededAt (cond e (cond m afterMain afterMethod) (nextStage s)) (p .main)
       go true true i = omega arith
       go true false i = omega arith
-      go false true i = omega (arith, one-or-two (p .main))
-      go false false i = omega (arith, one-or-two (p .main))
+      go false true i = omega (arith, one-or-two (p .main), next-inside s .0 .needed (p .main))
+      go false false i = omega (arith, one-or-two (p .main), next-inside s .0 .needed (p .main))
 
   pub at-least-on : (k : Kind) → inPlace k p ≡ true → atLeast p ≤ atLeast (placeAfter k p)
   unfolding Places.opened Grammar.opened
@@ -229,7 +262,7 @@ module _ (p : Place) where
   at-least-on Ensures i = omega (arith, at-requires (p .stage) (omega (arith, stage-from Ensures p i, stage-to Ensures p i)) .needed (p .main))
   at-least-on Main i = outer-on (placeAfter Main p) (stage-to Main p i) refl (omega arith)
   at-least-on Var i = body-on (placeAfter Var p) (stage-from Var p i) (omega (arith, stage-to Var p i)) (omega arith) refl
-  at-least-on (statement s) i = statement-on (isKind (statement End) (statement s)) (stage-from (statement s) p i) (stage-to (statement s) p i)
+  at-least-on (statement s) i = statement-on (isKind (statement End) (statement s)) s (stage-from (statement s) p i) (statement-to s p i)
 
   no-lines : (n : ℕ) (out : List Line) → withinLimits p ≡ true → scanLines [] n p ≡ accepted out → atLeast p ≤ 256
   unfolding scanLines ended coded stageNumber

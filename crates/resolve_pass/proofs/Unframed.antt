@@ -6,7 +6,7 @@ use Prim.Native.Nat.{ℕ, zero, suc}
 use lib.Dec.{T, eqb, eqb·suc-zero}
 use Rattle.rules.specs.Base.{all}
 use Rattle.rules.specs.Answers.{Verdict, accepted, refused, unframed}
-use Rattle.rules.specs.Syntax.{Stmt, simple, if, else, join, end}
+use Rattle.rules.specs.Syntax.{Stmt, simple, return, if, else, join, end}
 use Rattle.rules.specs.Grammar as Grammar
 use Rattle.rules.specs.Grammar.{Kind, Line}
 use Rattle.rules.specs.Scope.{Declarations, Variable}
@@ -22,6 +22,7 @@ use Rattle.resolve_pass.specs.Passes.{isFramed, joinFormula, framedFormu
 framed-statement : (s : Stmt) → framedStmt s ≡ framed [] (joinFormula s)
 unfolding framedStmt framed joinFormula
 framed-statement (simple s) = refl
+framed-statement (return x) = refl
 framed-statement (if n a b) = refl
 framed-statement else = refl
 framed-statement (join φ) = refl

@@ -6,7 +6,7 @@ use Prim.Native.Nat.{ℕ, suc, pred, _+_, _-_, _≤_, _<_}
 use lib.Dec.{eqb}
 use lib.ListN.{length, getD, drop}
 use Rattle.rules.specs.Limits.{work-bytes, most-bytes, most-fields, most-locals, most-statements, most-atoms}
-use Rattle.rules.specs.Syntax.{Field, Formula, Stmt, simple, if, else, join, end}
+use Rattle.rules.specs.Syntax.{Field, Formula, Stmt, simple, return, if, else, join, end}
 use Rattle.rules.specs.Grammar.{Kind, Line, statement, isKind, isStatement}
 use Rattle.rules.specs.Grammar as Grammar
 use Rattle.rules.specs.Places.{oneMoreIf}
@@ -107,6 +107,7 @@ isFramed k = isKind Grammar.Requires k || (isKind Grammar.Ensures k || isKind (s
 
 unfoldable pub joinFormula : Stmt → Formula ℕ
 joinFormula (simple s) = []
+joinFormula (return x) = []
 joinFormula (if n a b) = []
 joinFormula else = []
 joinFormula (join φ) = φ

@@ -10,9 +10,9 @@ use native.Mathlib.Nat.{le-refl}
 use lib.ListN.{length, getD, length-append}
 use Rattle.rules.specs.Base.{ok}
 use Rattle.rules.specs.Syntax.{Rel, Expr, Operation, Simple, Stmt, Field, Method, Formula, Program, methodNumbered, result-variable}
-use Rattle.rules.specs.Syntax.{var, set, assign, compute, new, call, return, assert, release, simple, if, else, join, end}
+use Rattle.rules.specs.Syntax.{set, assign, compute, new, call, return, assert, release, simple, if, else, join, end}
 use Rattle.rules.specs.Machine.{Config, Frame, Location, Cell, Room, on, holds, without, valueAt, valueOf, locate, value, compared, footprint, jump, advance, bind, holding, withFrame, choose}
-use Rattle.rules.specs.Machine.{ifStep, elseStep, stored, setStep, assignStep, computed, computeStep, newCell, grown, newStep, callFrame, entered, callStep, returned, assertStep, releaseStep, endStep, simpleStep, stepAt, step, statementOf}
+use Rattle.rules.specs.Machine.{ifStep, elseStep, stored, setStep, assignStep, computed, computeStep, newCell, grown, newStep, callFrame, entered, callStep, returned, assertStep, releaseStep, endStep, returnStep, simpleStep, stepAt, step, statementOf}
 use Rattle.rules.specs.Runs.{Made}
 use Rattle.rules.proofs.Tries.{bind-ok, check-ok, ok-inj}
 use Rattle.rules.proofs.Sets.{Holds, location-eq, in-append, in-new, without-in, without-out, locate-holds, locate-is, footprint-held}
@@ -37,7 +37,7 @@ pub record Entering (m m′ : Config) : Type 0 where
   pub left : (p : Location) → Holds caller p → Holds (m .frame) p
   pub apart : (p : Location) → Holds (m′ .frame) p → Holds caller p → ⊥
 
--- a call's `end`: the caller goes on, with its set and some of the ended frame's
+-- a call's `end` or `return`: the caller goes on, with its set and some of the ended frame's
 pub record Returning (m m′ : Config) : Type 0 where
   pub caller : Frame
   pub callers : m .callers ≡ caller ∷ m′ .callers
@@ -189,6 +189,13 @@ end-returning P m m′ (C ∷ Cs) c e =
     let (A, f, q) = bind-ok (footprint (m .heap) (m .frame) (m .frame .ensures)) (took-on _ m′ e) in
     subst (Returning m) (ok-inj q) (returned-returning P m C Cs A c f)
 
+return-returning : (P : Program) (x : ℕ) (m m′ : Config) → returnStep P x m ≡ on m′ → Returning m m′
+unfolding returnStep withFrame bind holds
+return-returning P x m m′ e =
+    let R : Returning (withFrame m (bind result-variable (valueOf (m .frame) x) (m .frame))) m′ =
+    end-returning P _ m′ (m .callers) refl e in
+    record { caller = R .caller; callers = R .callers; heap = R .heap; gains = R .gains }
+
 -- A STEP
 module _ (room : Room) (P : Program) where
   simple-changes : (p : Simple) (m m′ : Config) → simpleStep room P p m ≡ ok m′ → Change m m′
@@ -198,13 +205,13 @@ module _ (room : Room) (P : Program) where
   simple-changes (compute o x y z) m m′ e = within (compute-within o x y z m m′ e)
   simple-changes (new x c) m m′ e = within (new-within room x (getD (P .classes) c []) m m′ e)
   simple-changes (call x y n z) m m′ e = entering (call-entering y (methodNumbered P n) z m m′ e)
-  simple-changes (return x) m m′ e = within (assign-within result-variable (var x) m m′ e)
   simple-changes (assert φ) m m′ e = within (assert-within φ m m′ e)
   simple-changes (release φ) m m′ e = within (release-within φ m m′ e)
 
   stepAt-changes : (s : Stmt) (m m′ : Config) → stepAt room P s m ≡ on m′ → Change m m′
   unfolding stepAt ifStep elseStep
   stepAt-changes (simple p) m m′ e = simple-changes p m m′ (took-on _ m′ e)
+  stepAt-changes (return x) m m′ e = returning (return-returning P x m m′ e)
   stepAt-changes (if n a b) m m′ e = within (choose-within n a b _ _ m m′ (took-on _ m′ e))
   stepAt-changes else m m′ e = within (subst (Within m) (on-inj e) (jump-within m _))
   stepAt-changes (join φ) m m′ e = within (assert-within φ m m′ (took-on _ m′ e))

@@ -123,6 +123,51 @@ twoFields =
     "end" ∷
     []
 
+-- a method with the last lines of two branches, their `join` and the line after it; main calls it for the first branch
+pub branching : String → String → String → String → List String
+branching a b c d =
+    "class A" ∷
+    "method int m int w" ∷
+    "requires" ∷
+    "ensures eq result w" ∷
+    "if eq w 1" ∷
+    a ∷
+    "else" ∷
+    b ∷
+    c ∷
+    d ∷
+    "end" ∷
+    "main" ∷
+    "var A s" ∷
+    "var int a" ∷
+    "var int b" ∷
+    "new s A" ∷
+    "let a 1" ∷
+    "call b s m a" ∷
+    "end" ∷
+    []
+
+-- all inside the first branch returns, but its last line is a `join`
+pub innerJoin : List String
+innerJoin =
+    "class A" ∷
+    "method int m int w" ∷
+    "requires" ∷
+    "ensures eq result w" ∷
+    "if eq w 1" ∷
+    "if eq w 2" ∷
+    "return w" ∷
+    "else" ∷
+    "return w" ∷
+    "join" ∷
+    "else" ∷
+    "return w" ∷
+    "join eq result w" ∷
+    "end" ∷
+    "main" ∷
+    "end" ∷
+    []
+
 -- two numbers and a line on them
 pub counting : String → String → String → List String
 counting b c l = "main" ∷ "var int a" ∷ "var int b" ∷ "var int c" ∷ b ∷ c ∷ l ∷ "end" ∷ []
@@ -159,16 +204,16 @@ three a b c = a ∷ b ∷ c ∷ 0 ∷ 0 ∷ 0 ∷ 0 ∷ 0 ∷ 0 ∷ 0 ∷ 0 ∷ 
 abbrev pub rows : List Row
 rows =
     row worked check (0 ∷ 0 ∷ []) ∷
-    row worked (run 1000) (0 ∷ 19 ∷ 9 ∷ three 1 7 7) ∷
-    row worked print (text ("check 0 0" ∷ "run 0 19 9" ∷ "var s 1" ∷ "var a 7" ∷ "var b 7" ∷ [])) ∷
+    row worked (run 1000) (0 ∷ 19 ∷ 8 ∷ three 1 7 7) ∷
+    row worked print (text ("check 0 0" ∷ "run 0 19 8" ∷ "var s 1" ∷ "var a 7" ∷ "var b 7" ∷ [])) ∷
     row (withLine 5 "requires" worked) check (12 ∷ 7 ∷ []) ∷
     row (withLine 5 "requires" worked) (run 1000) (24 ∷ 7 ∷ 3 ∷ three 1 7 0) ∷
     row (withLine 17 "assert eq s.n 8" worked) check (13 ∷ 17 ∷ []) ∷
-    row (withLine 17 "assert eq s.n 8" worked) (run 1000) (26 ∷ 17 ∷ 6 ∷ three 1 7 7) ∷
-    row worked (run 8) (21 ∷ 19 ∷ 8 ∷ three 1 7 7) ∷
-    row worked (run 9) (0 ∷ 19 ∷ 9 ∷ three 1 7 7) ∷
+    row (withLine 17 "assert eq s.n 8" worked) (run 1000) (26 ∷ 17 ∷ 5 ∷ three 1 7 7) ∷
+    row worked (run 7) (21 ∷ 19 ∷ 7 ∷ three 1 7 7) ∷
+    row worked (run 8) (0 ∷ 19 ∷ 8 ∷ three 1 7 7) ∷
     row worked (run 0) (21 ∷ 14 ∷ 0 ∷ three 0 0 0) ∷
-    row worked (run 4294967295) (0 ∷ 19 ∷ 9 ∷ three 1 7 7) ∷
+    row worked (run 4294967295) (0 ∷ 19 ∷ 8 ∷ three 1 7 7) ∷
     row (withLine 18 "release acc s n acc s n" worked) check (12 ∷ 18 ∷ []) ∷
     row (withLine 16 "call a s tag a" worked) check (9 ∷ 16 ∷ []) ∷
     row [] check (8 ∷ 0 ∷ []) ∷
@@ -192,11 +237,27 @@ rows =
     row (counting "let b 1" "let c b" "sub b b c") check (0 ∷ 0 ∷ []) ∷
     row (withLine 7 "add k k k" worked) check (9 ∷ 7 ∷ []) ∷
     row (withLine 7 "add this k k" worked) check (7 ∷ 7 ∷ []) ∷
+    -- W2: "The checker shows ensures at that line"; the machine tests it there, with the step not counted
+    row (withLine 7 "assert eq k k" worked) check (13 ∷ 8 ∷ []) ∷
+    row (withLine 7 "assert eq k k" worked) (run 1000) (26 ∷ 8 ∷ 4 ∷ three 1 7 0) ∷
+    -- "A statement between it and the next `else`, `join` or `end` is number 4."
+    row (withLine 7 "return k" worked) check (4 ∷ 8 ∷ []) ∷
+    row (branching "assert" "return w" "assert" "join") check (4 ∷ 9 ∷ []) ∷
+    -- "A branch whose last line is a `return` has no end to show at `join`", the other has; after it the formula alone is known
+    row (branching "return w" "return w" "join eq 1 2 eq result w" "assert eq 1 2") check (0 ∷ 0 ∷ []) ∷
+    row (branching "return w" "return w" "join eq 1 2 eq result w" "assert eq 1 2") (run 1000) (0 ∷ 19 ∷ 6 ∷ three 1 1 1) ∷
+    row (branching "return w" "assert" "join eq result w" "assert") check (13 ∷ 9 ∷ []) ∷
+    row (branching "assert" "return w" "join eq result w" "assert") check (13 ∷ 9 ∷ []) ∷
+    row (branching "return w" "assert ne w 1" "join" "assert ne w 1") check (13 ∷ 10 ∷ []) ∷
+    row innerJoin check (13 ∷ 13 ∷ []) ∷
+    -- "an `end` straight after a `return` shows nothing", every other does, also where no run comes
+    row (branching "assert" "assert" "join" "return w") check (0 ∷ 0 ∷ []) ∷
+    row (branching "return w" "return w" "join" "assert") check (13 ∷ 11 ∷ []) ∷
     -- the same field in way (d); the lower of two numbers; what ensures does not hand back is lost
     row twoFields check (13 ∷ 7 ∷ []) ∷
     row lower check (6 ∷ 3 ∷ []) ∷
     row (withLine 6 "ensures" worked) check (11 ∷ 17 ∷ []) ∷
-    row (withLine 6 "ensures" worked) (run 1000) (24 ∷ 17 ∷ 6 ∷ three 1 7 7) ∷
+    row (withLine 6 "ensures" worked) (run 1000) (24 ∷ 17 ∷ 5 ∷ three 1 7 7) ∷
     []
 
 -- the row's call gives its answer
@@ -204,7 +265,7 @@ right : Row → Bool
 right r = eqName (answer (text (r .text)) (r .call)) (r .answer)
 
 all-right : T (all right rows)
-unfolding computing Printed.opened right answer row three text tabbed withLine times oneLine alias acrossCall twice oldValue twoFields counting lower
+unfolding computing Printed.opened right answer row three text tabbed withLine times oneLine alias acrossCall twice oldValue twoFields branching innerJoin counting lower
 all-right = tt
 
 right-at : (rs : List Row) (d : Row) (i : ℕ) → i < length rs → T (all right rs) → T (right (getD rs i d))

@@ -1,6 +1,6 @@
 -- The twenty kinds of line: word, operands, and where each may stand. A kind of line is a row of this table.
 use mathlib.Core.Path.{_≡_}
-use mathlib.Core.Bool.{Bool, true, false, _&&_, _||_, Bool·beq}
+use mathlib.Core.Bool.{Bool, true, false, cond, _&&_, _||_, Bool·beq}
 use mathlib.Core.List.{List, [], _∷_, map}
 use mathlib.Core.Option.{Option}
 use Prim.Native.Nat.{ℕ, _≤_}
@@ -46,7 +46,7 @@ pub data Tail : Type 0 where
 
 -- where in a text a line may stand
 pub data Stage : Type 0 where
-  beginning inClass afterMethod afterHeader afterRequires inLocals inBody afterMain : Stage
+  beginning inClass afterMethod afterHeader afterRequires inLocals inBody afterReturn afterMain : Stage
 
 -- from the stage `first` to the stage `last`; after the line the text is at stage `next`
 pub record Form : Type 0 where
@@ -85,19 +85,6 @@ shape Join = shaped "join" [] formula
 shape End = shaped "end" [] nothing
 shape Add = shaped "add" (variable assigned ∷ variable read ∷ variable read ∷ []) nothing
 shape Sub = shaped "sub" (variable assigned ∷ variable read ∷ variable read ∷ []) nothing
-
--- "`class C`, then `field T f` lines, then methods."
--- "`method T m T w`, `requires` formula, `ensures` formula, `var T x` lines, statements, `end`."
--- "Last `main`, `var` lines, statements, `end`. Nothing follows."
-unfoldable pub form : Kind → Form
-form Class = stands beginning afterMethod inClass "class" (new classes ∷ []) nothing
-form Field = stands inClass inClass inClass "field" (typeName ∷ new fields ∷ []) nothing
-form Method = stands inClass afterMethod afterHeader "method" (typeName ∷ new methods ∷ typeName ∷ new variables ∷ []) nothing
-form Requires = stands afterHeader afterHeader afterRequires "requires" [] formula
-form Ensures = stands afterRequires afterRequires inLocals "ensures" [] formula
-form Main = stands beginning afterMethod inLocals "main" [] nothing
-form Var = stands inLocals inLocals inLocals "var" (typeName ∷ new variables ∷ []) nothing
-form (statement s) = stands inLocals inBody inBody (shape s .word) (shape s .operands) (shape s .tail)
 
 abbrev pub statements : List Statement
 statements = Set ∷ Let ∷ New ∷ Call ∷ Return ∷ Assert ∷ Release ∷ If ∷ Else ∷ Join ∷ End ∷ Add ∷ Sub ∷ []
@@ -166,13 +153,35 @@ isClosingNumber n = eqb n (statementNumber Else) || (eqb n (statementNumber Join
 unfoldable pub isComputing : ℕ → Bool
 isComputing n = eqb n (statementNumber Add) || eqb n (statementNumber Sub)
 
--- after a statement that neither opens nor closes a part of a branch, the next line follows
+-- after a statement that neither opens nor closes a part of a branch, nor ends the method, the next line follows
 abbrev pub GoesOn : ℕ → Type 0
-GoesOn n = (isClosingNumber n ≡ false) × (n ≡ statementNumber If → ⊥)
+GoesOn n = (isClosingNumber n ≡ false) × (n ≡ statementNumber If → ⊥) × (n ≡ statementNumber Return → ⊥)
 
 -- Have both one number? That a kind is no statement tells it from all of them at once.
 unfoldable pub isKind : Kind → Kind → Bool
 isKind a k = Bool·beq (isStatement a) (isStatement k) && eqb (kindNumber a) (kindNumber k)
+
+-- PLACE OF A LINE
+
+-- With W2, "A statement between [`return`] and the next `else`, `join` or `end` is number 4": these alone may stand straight after it.
+unfoldable pub lastStage : Statement → Stage
+lastStage s = cond (isClosingNumber (statementNumber s)) afterReturn inBody
+
+unfoldable pub nextStage : Statement → Stage
+nextStage s = cond (eqb (statementNumber s) (statementNumber Return)) afterReturn inBody
+
+-- "`class C`, then `field T f` lines, then methods."
+-- "`method T m T w`, `requires` formula, `ensures` formula, `var T x` lines, statements, `end`."
+-- "Last `main`, `var` lines, statements, `end`. Nothing follows."
+unfoldable pub form : Kind → Form
+form Class = stands beginning afterMethod inClass "class" (new classes ∷ []) nothing
+form Field = stands inClass inClass inClass "field" (typeName ∷ new fields ∷ []) nothing
+form Method = stands inClass afterMethod afterHeader "method" (typeName ∷ new methods ∷ typeName ∷ new variables ∷ []) nothing
+form Requires = stands afterHeader afterHeader afterRequires "requires" [] formula
+form Ensures = stands afterRequires afterRequires inLocals "ensures" [] formula
+form Main = stands beginning afterMethod inLocals "main" [] nothing
+form Var = stands inLocals inLocals inLocals "var" (typeName ∷ new variables ∷ []) nothing
+form (statement s) = stands inLocals (lastStage s) (nextStage s) (shape s .word) (shape s .operands) (shape s .tail)
 
 unfoldable pub kindOf : Name → Option Kind
 kindOf w = first (λ k. is (form k .word) w) kinds
@@ -213,5 +222,5 @@ readLine l = do
 
 -- Everything above computes where this unfolds.
 unfoldable pub opened : Unit {0}
-unfolding stands shaped shape form statementNumber kindNumber isStatement isClosingNumber isComputing isKind kindOf isOperand isTail isFormed readLine
+unfolding stands shaped shape statementNumber kindNumber isStatement isClosingNumber isComputing isKind lastStage nextStage form kindOf isOperand isTail isFormed readLine
 opened = tt

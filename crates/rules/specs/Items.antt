@@ -66,7 +66,7 @@ module _ (Γ : Declarations) (vs : List Variable) where
   resolveStatement Let l = simple (assign (variableNumber vs (operand l 0)) (resolveExpr (exprOf (operand l 1))))
   resolveStatement New l = simple (new (variableNumber vs (operand l 0)) (classNumber Γ (operand l 1)))
   resolveStatement Call l = resolveCall l
-  resolveStatement Return l = simple (return (variableNumber vs (operand l 0)))
+  resolveStatement Return l = return (variableNumber vs (operand l 0))
   resolveStatement Assert l = simple (assert (resolveFormula l))
   resolveStatement Release l = simple (release (resolveFormula l))
   resolveStatement If l = resolveIf l

@@ -143,6 +143,7 @@ withFrame m F = record { heap = m .heap; frame = F; callers = m .callers }
 -- the depth after a row, counted in further branches
 unfoldable pub depthAfter : Stmt → ℕ → ℕ
 depthAfter (simple p) d = d
+depthAfter (return x) d = d
 depthAfter (if n a b) d = suc d
 depthAfter else d = d
 depthAfter (join φ) d = pred d
@@ -150,6 +151,7 @@ depthAfter end d = d
 
 unfoldable pub closes : Stmt → Bool
 closes (simple p) = false
+closes (return x) = false
 closes (if n a b) = false
 closes else = true
 closes (join φ) = true
@@ -270,10 +272,10 @@ targetOf (simple p) =
       | assign x e ↦ 0
       | compute o x y z ↦ 0
       | new x c ↦ 0
-      | return x ↦ 0
       | assert φ ↦ 0
       | release φ ↦ 0
     ]
+targetOf (return x) = 0
 targetOf (if n a b) = 0
 targetOf else = 0
 targetOf (join φ) = 0
@@ -317,6 +319,10 @@ unfoldable pub endStep : Program → Config → List Frame → Step
 endStep P m [] = done
 endStep P m (C ∷ Cs) = took (footprint (m .heap) (m .frame) (m .frame .ensures) >>= λ A. ok (returned P m C Cs A))
 
+-- "`return x` sets the result, tests ensures and goes back to the caller in one step."
+unfoldable pub returnStep : Program → ℕ → Config → Step
+returnStep P x m = endStep P (withFrame m (bind result-variable (valueOf (m .frame) x) (m .frame))) (m .callers)
+
 -- what a run ends with: how, the line of the row that is next (done last, where main's `end` is done), the steps taken, and
 -- main's variables
 pub record Outcome : Type 0 where
@@ -351,12 +357,12 @@ module _ (room : Room) (P : Program) where
   simpleStep (compute o x y z) m = computeStep o x y z m
   simpleStep (new x c) m = newStep room x (getD (P .classes) c []) m
   simpleStep (call x y n z) m = callStep y (methodNumbered P n) z m
-  simpleStep (return x) m = assignStep result-variable (var x) m
   simpleStep (assert φ) m = assertStep φ m
   simpleStep (release φ) m = releaseStep φ m
 
   unfoldable pub stepAt : Stmt → Config → Step
   stepAt (simple p) m = took (simpleStep p m)
+  stepAt (return x) m = returnStep P x m
   stepAt (if n a b) m = took (ifStep (P .rows) n a b m)
   stepAt else m = on (elseStep (P .rows) m)
   stepAt (join φ) m = took (assertStep φ m)
@@ -380,5 +386,5 @@ runProgram room P k = run room P k 0 (start P)
 
 -- Everything above computes where this unfolds.
 unfoldable pub opened : Unit {0}
-unfolding eqLocation among holds without valueIn object valueAt storeIn store fieldsOf valueOf locate value compared takeFrom footprint jump advance bind holding withFrame depthAfter closes seek closing choose ifStep elseStep stored setStep assignStep raised inRange computed computeStep newCell grown newStep entryValues callFrame entered callStep targetOf statementOf returned assertStep releaseStep took endStep mainFrame ends goOn simpleStep stepAt step run start runProgram
+unfolding eqLocation among holds without valueIn object valueAt storeIn store fieldsOf valueOf locate value compared takeFrom footprint jump advance bind holding withFrame depthAfter closes seek closing choose ifStep elseStep stored setStep assignStep raised inRange computed computeStep newCell grown newStep entryValues callFrame entered callStep targetOf statementOf returned assertStep releaseStep took endStep returnStep mainFrame ends goOn simpleStep stepAt step run start runProgram
 opened = tt

@@ -9,7 +9,7 @@ use Rattle.rules.specs.Limits.{most-classes, most-fields, most-methods, 
 use Rattle.rules.specs.Answers.{Refusal, Verdict, accepted, refused, atLine, then, malformed, limitPassed, textEnds}
 use Rattle.rules.specs.Grammar.{Kind, Stage, Line, form, readLine, isKind, isStatement}
 use Rattle.rules.specs.Grammar.{Class, Field, Method, Main, Var, statement, Return, If, Else, Join, End}
-use Rattle.rules.specs.Grammar.{beginning, inClass, afterMethod, afterHeader, afterRequires, inLocals, inBody, afterMain}
+use Rattle.rules.specs.Grammar.{beginning, inClass, afterMethod, afterHeader, afterRequires, inLocals, inBody, afterReturn, afterMain}
 
 -- the stages in the order of a text
 unfoldable pub stageNumber : Stage → ℕ
@@ -20,7 +20,8 @@ stageNumber afterHeader = 3
 stageNumber afterRequires = 4
 stageNumber inLocals = 5
 stageNumber inBody = 6
-stageNumber afterMain = 7
+stageNumber afterReturn = 7
+stageNumber afterMain = 8
 
 -- an open branch, before or after its `else`
 pub data Branch : Type 0 where

@@ -8,7 +8,7 @@ use Rattle.rules.specs.Base.{any}
 use Rattle.rules.specs.Limits.{most-bytes}
 use Rattle.rules.specs.Answers.{Verdict, accepted, refused, then, textTooLong, unframed}
 use Rattle.rules.specs.Syntax.{Expr, Formula, Stmt, Method, Program}
-use Rattle.rules.specs.Syntax.{num, null, var, path, acc, cmp, simple, if, else, join, end}
+use Rattle.rules.specs.Syntax.{num, null, var, path, acc, cmp, simple, return, if, else, join, end}
 use Rattle.rules.specs.Text.{lines}
 use Rattle.rules.specs.Places.{firstPlace, scanLines}
 use Rattle.rules.specs.Scope.{declarations, firstScope}
@@ -41,6 +41,7 @@ framed before (cmp n a b ∷ φ) = let r : Bool = framed before φ in framedExpr
 
 unfoldable pub framedStmt : Stmt → Bool
 framedStmt (simple p) = true
+framedStmt (return x) = true
 framedStmt (if n a b) = true
 framedStmt else = true
 framedStmt (join φ) = framed [] φ

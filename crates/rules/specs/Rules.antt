@@ -77,67 +77,88 @@ ifRule n a b s = do
   s₂ ← addFact (opposite n) t u s
   ok (s₁, s₂)
 
+-- "`return x` does this for `result`"; with W2, "The checker shows ensures at that line", and "Return ends the method"
+unfoldable pub returnRule : ℕ → Formula ℕ → State → Try Refusal (Unit {0})
+returnRule x φ s = assignRule result-variable (var x) s >>= λ s′. show s′ φ >>= λ r. ok tt
+
+-- What is known after a line: a state, or none straight after a `return`. "A branch whose last line is a `return` has no end to show
+-- at `join`; an `end` straight after a `return` shows nothing."
+abbrev pub End : Type 0
+End = Option State
+
+unfoldable pub showEnd : Formula ℕ → End → Try Refusal (Unit {0})
+showEnd φ none = ok tt
+showEnd φ (some s) = show s φ >>= λ r. ok tt
+
 -- "At `join` the first end, then the second, shows the formula; the state after is that formula alone."
-unfoldable pub joinRule : Formula ℕ → State → State → Try Refusal State
-joinRule φ s₁ s₂ = show s₁ φ >>= λ r. show s₂ φ >>= λ r. add φ empty
+unfoldable pub joinRule : Formula ℕ → End → End → Try Refusal State
+joinRule φ e₁ e₂ = showEnd φ e₁ >>= λ u. showEnd φ e₂ >>= λ u. add φ empty
 
 -- a branch that is open: in its first part, with the state in which the second starts; in its second, with the first's end
 pub data Open : Type 0 where
   inFirst : State → Open
-  inSecond : State → Open
+  inSecond : End → Open
 
--- Lines out of place do not come from the reader; they are refused.
-unfoldable pub elseRow : ℕ → (State → List Open → Verdict (Unit {0})) → State → List Open → Verdict (Unit {0})
-elseRow l k s [] = refused malformed l
-elseRow l k s (inFirst s₂ ∷ os) = k s₂ (inSecond s ∷ os)
-elseRow l k s (inSecond s₁ ∷ os) = refused malformed l
+-- what follows a line of a block
+abbrev pub Following : Type 0
+Following = End → List Open → Verdict (Unit {0})
 
-unfoldable pub joinRow : ℕ → Formula ℕ → (State → List Open → Verdict (Unit {0})) → State → List Open → Verdict (Unit {0})
-joinRow l φ k s [] = refused malformed l
-joinRow l φ k s (inFirst s₂ ∷ os) = refused malformed l
-joinRow l φ k s (inSecond s₁ ∷ os) = atLine l (joinRule φ s₁ s) λ s′. k s′ os
+-- Lines out of place do not come from the reader; they are refused. After a `return` only `else`, `join` and `end` are in place.
+unfoldable pub reached : ℕ → End → (State → Verdict (Unit {0})) → Verdict (Unit {0})
+reached l none k = refused malformed l
+reached l (some s) k = k s
 
--- "its `end` must show ensures"
-unfoldable pub endRow : ℕ → Formula ℕ → State → List Open → Verdict (Unit {0})
-endRow l φ s [] = atLine l (show s φ) λ r. accepted tt
-endRow l φ s (o ∷ os) = refused malformed l
+unfoldable pub elseRow : ℕ → Following → End → List Open → Verdict (Unit {0})
+elseRow l k e [] = refused malformed l
+elseRow l k e (inFirst s₂ ∷ os) = k (some s₂) (inSecond e ∷ os)
+elseRow l k e (inSecond e₁ ∷ os) = refused malformed l
+
+unfoldable pub joinRow : ℕ → Formula ℕ → Following → End → List Open → Verdict (Unit {0})
+joinRow l φ k e [] = refused malformed l
+joinRow l φ k e (inFirst s₂ ∷ os) = refused malformed l
+joinRow l φ k e (inSecond e₁ ∷ os) = atLine l (joinRule φ e₁ e) λ s′. k (some s′) os
+
+-- "its `end` must show ensures"; "an `end` straight after a `return` shows nothing"
+unfoldable pub endRow : ℕ → Formula ℕ → End → List Open → Verdict (Unit {0})
+endRow l φ e [] = atLine l (showEnd φ e) λ u. accepted tt
+endRow l φ e (o ∷ os) = refused malformed l
 
 module _ (P : Program) where
-  -- "`return x` does this for `result`"; "`assert` shows its formula, no more. `release` leaves the remainder." Of `add` and `sub`:
-  -- "The checker removes x and keeps no fact of the new value."
+  -- "`assert` shows its formula, no more. `release` leaves the remainder." Of `add` and `sub`: "The checker removes x and keeps no fact
+  -- of the new value."
   unfoldable pub rule : Simple → State → Try Refusal State
   rule (set x f y) s = setRule x f y s
   rule (assign x e) s = assignRule x e s
   rule (compute o x y z) s = ok (remove x s)
   rule (new x c) s = newRule x (getD (P .classes) c []) s
   rule (call x y m z) s = callRule x y (methodNumbered P m) z s
-  rule (return x) s = assignRule result-variable (var x) s
   rule (assert φ) s = show s φ >>= λ r. ok s
   rule (release φ) s = show s φ >>= λ r. ok (remainder s r)
 
   -- one line of a block with the ensures φ, and then k; os: the branches that are open, innermost first
-  unfoldable pub checkRow : Stmt → ℕ → Formula ℕ → (State → List Open → Verdict (Unit {0})) → State → List Open → Verdict (Unit {0})
-  checkRow (simple p) l φ k s os = atLine l (rule p s) λ s′. k s′ os
-  checkRow (if n a b) l φ k s os = atLine l (ifRule n a b s) λ c. k (c .0) (inFirst (c .1) ∷ os)
-  checkRow else l φ k s os = elseRow l k s os
-  checkRow (join ψ) l φ k s os = joinRow l ψ k s os
-  checkRow end l φ k s os = endRow l φ s os
+  unfoldable pub checkRow : Stmt → ℕ → Formula ℕ → Following → End → List Open → Verdict (Unit {0})
+  checkRow (simple p) l φ k e os = reached l e λ s. atLine l (rule p s) λ s′. k (some s′) os
+  checkRow (return x) l φ k e os = reached l e λ s. atLine l (returnRule x φ s) λ u. k none os
+  checkRow (if n a b) l φ k e os = reached l e λ s. atLine l (ifRule n a b s) λ c. k (some (c .0)) (inFirst (c .1) ∷ os)
+  checkRow else l φ k e os = elseRow l k e os
+  checkRow (join ψ) l φ k e os = joinRow l ψ k e os
+  checkRow end l φ k e os = endRow l φ e os
 
-  unfoldable pub checkRows : Formula ℕ → List Row → State → List Open → Verdict (Unit {0})
-  checkRows φ [] s os = refused textEnds 0
-  checkRows φ (r ∷ rs) s os = checkRow (r .stmt) (r .line) φ (λ s os. checkRows φ rs s os) s os
+  unfoldable pub checkRows : Formula ℕ → List Row → End → List Open → Verdict (Unit {0})
+  checkRows φ [] e os = refused textEnds 0
+  checkRows φ (r ∷ rs) e os = checkRow (r .stmt) (r .line) φ (λ e os. checkRows φ rs e os) e os
 
   -- from row i on
-  unfoldable pub checkFrom : Formula ℕ → ℕ → State → List Open → Verdict (Unit {0})
-  checkFrom φ i s os = checkRows φ (drop i (P .rows)) s os
+  unfoldable pub checkFrom : Formula ℕ → ℕ → End → List Open → Verdict (Unit {0})
+  checkFrom φ i e os = checkRows φ (drop i (P .rows)) e os
 
   -- "A method starts with its requires": after number 10, and with 8 atoms at most, adding it to nothing is never refused
   unfoldable pub checkMethod : Method → Verdict (Unit {0})
-  checkMethod M = atLine 0 (add (M .requires) empty) (λ s. checkFrom (M .ensures) (M .first) s [])
+  checkMethod M = atLine 0 (add (M .requires) empty) (λ s. checkFrom (M .ensures) (M .first) (some s) [])
 
   -- "Main starts empty."
   unfoldable pub checkBlocks : List Method → Verdict (Unit {0})
-  checkBlocks [] = checkFrom [] (P .main) empty []
+  checkBlocks [] = checkFrom [] (P .main) (some empty) []
   checkBlocks (M ∷ Ms) = then (checkMethod M) λ u. checkBlocks Ms
 
   unfoldable pub checkProgram : Verdict (Unit {0})
@@ -145,5 +166,5 @@ module _ (P : Program) where
 
 -- Everything above computes where this unfolds.
 unfoldable pub opened : Unit {0}
-unfolding actual substTerm substAtom addEqual assignRule addFields initial addInitial newRule setRule callRule opposite ifRule joinRule elseRow joinRow endRow rule checkRow checkRows checkFrom checkMethod checkBlocks checkProgram
+unfolding actual substTerm substAtom addEqual assignRule addFields initial addInitial newRule setRule callRule opposite ifRule returnRule showEnd joinRule reached elseRow joinRow endRow rule checkRow checkRows checkFrom checkMethod checkBlocks checkProgram
 opened = tt

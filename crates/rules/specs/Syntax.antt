@@ -63,12 +63,12 @@ pub data Simple : Type 0 where
   compute : Operation → ℕ → ℕ → ℕ → Simple
   new : ℕ → ℕ → Simple
   call : ℕ → ℕ → ℕ → ℕ → Simple
-  return : ℕ → Simple
   assert : Formula ℕ → Simple
   release : Formula ℕ → Simple
 
 pub data Stmt : Type 0 where
   simple : Simple → Stmt
+  return : ℕ → Stmt
   if : Rel → Expr ℕ → Expr ℕ → Stmt
   else : Stmt
   join : Formula ℕ → Stmt

@@ -1,4 +1,5 @@
 pub mod Returning
+pub mod Resulting
 pub mod Framing
 pub mod Calling
 pub mod Making

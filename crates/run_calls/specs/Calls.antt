@@ -1,4 +1,4 @@
--- What `call`, `end` and `new` do with the counters and the stores.
+-- What `call`, `return`, `end` and `new` do with the counters and the stores.
 use mathlib.Core.Path.{_≡_}
 use mathlib.Core.List.{List, []}
 use mathlib.Core.Logic.{_⊎_}
@@ -7,7 +7,7 @@ use lib.ListN.{length, take}
 use Rattle.rules.specs.Limits.{most-frames, most-methods, work-bytes}
 use Rattle.rules.specs.Base.{ok, no}
 use Rattle.rules.specs.declared.Machine.{Machine}
-use Rattle.rules.specs.Machine.{Config, Step, Room, took, newStep, callStep, endStep}
+use Rattle.rules.specs.Machine.{Config, Step, Room, took, newStep, callStep, returnStep, endStep}
 use Rattle.tables.specs.Decode.{xAt, yAt, zAt, memberAt, classAt, methodAt, programIn, methodCount, requiresAt, ensuresAt, firstRowAt}
 use Rattle.run_heap.specs.declared.Fault.{Fault}
 use Rattle.run_steps.specs.declared.Turn.{Turn}
@@ -22,6 +22,9 @@ newHere w c room m = took (newStep room (xAt w (c .row)) (classAt w (memberAt w 
 
 abbrev pub callHere : List ℕ → Machine → Config → Step
 callHere w c m = took (callStep (yAt w (c .row)) (methodAt w (memberAt w (c .row))) (zAt w (c .row)) m)
+
+abbrev pub returnHere : List ℕ → Machine → Config → Step
+returnHere w c = returnStep (programIn w) (xAt w (c .row))
 
 abbrev pub endHere : List ℕ → Config → Step
 endHere w m = endStep (programIn w) m (m .callers)

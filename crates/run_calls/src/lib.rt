@@ -1,4 +1,4 @@
-// `call`, `end` and `new`.
+// `call`, `return`, `end` and `new`.
 use rules::Machine;
 use run_footprint::Cells;
 use run_footprint::Took;
@@ -11,7 +11,7 @@ ghost use Prim.Native.Nat.{_+_, _*_, _-_, _≤_, _<_};
 ghost use lib.ListN.{take};
 ghost use Rattle.rules.specs.Limits.{most-statements, most-frames, heap-objects, heap-fields};
 ghost use Rattle.run_steps.specs.States.{CanStep, AtKind, Does, atRow, new-kind, call-kind};
-ghost use Rattle.run_calls.specs.Calls.{Leaving, Entering, Enters, Calling, Admits, back, called, larger, newHere, callHere, endHere};
+ghost use Rattle.run_calls.specs.Calls.{Leaving, Entering, Enters, Calling, Admits, back, called, larger, newHere, callHere, returnHere, endHere};
 
 // One step more, back in the caller.
 fn back_in(c: Machine, holder: u32, row: u32) -> Machine
@@ -62,6 +62,32 @@ pub fn end_step(work: &mut [u8], c: Machine) -> Turn
     match run_footprint::footprint(work, v, first, n, &mut cells) {
         Took::Cells(k) => leave(work, c, &cells, k),
         Took::Lacking(s) => Turn::Stopped(s),
+    }
+}
+
+// `return`: "sets the result, tests ensures and goes back to the caller in one step". Where it does not go back, the old result is put
+// back.
+pub fn return_step(work: &mut [u8], c: Machine) -> Turn
+    requires { ⌜ CanStep (now work) c ⌝ }
+    ensures { λ r. ⌜ Does (now (work .entry)) c (now (work .exit)) r (returnHere (now (work .entry)) c) ⌝ }
+{
+    let row = c.row as usize;
+    let v = run_heap::view_of(c);
+    let b = v.base;
+    let old = run_heap::variable(work, b, run_heap::RESULT);
+    let x = tables::x_at(work, row);
+    let n = run_heap::variable(work, b, x);
+    tables::put_word(work, b + run_heap::RESULT_AT, n);
+    match end_step(work, c) {
+        Turn::On(d) => Turn::On(d),
+        Turn::Stopped(s) => {
+            tables::put_word(work, b + run_heap::RESULT_AT, old);
+            Turn::Stopped(s)
+        }
+        Turn::Done => {
+            tables::put_word(work, b + run_heap::RESULT_AT, old);
+            Turn::Done
+        }
     }
 }
 

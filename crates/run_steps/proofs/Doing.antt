@@ -1,5 +1,5 @@
 -- What the code of a step shows at its returns, from what it read and put.
-use mathlib.Core.Path.{_≡_, refl, sym, ap, _∙_, subst}
+use mathlib.Core.Path.{_≡_, refl, sym, _∙_, subst}
 use mathlib.Core.Bool.{true, false}
 use mathlib.Core.List.{List, []}
 use mathlib.Core.Logic.{inl, inr}
@@ -10,13 +10,12 @@ use lib.ListN.{length}
 use Rattle.rules.specs.Limits.{heap-fields, most-statements, most-frames}
 use Rattle.rules.specs.Base.{ok, no}
 use Rattle.rules.specs.Answers.{overflow}
-use Rattle.rules.specs.Syntax.{var, result-variable}
 use Rattle.rules.specs.Grammar.{statementNumber, isComputing}
 use Rattle.rules.specs.Machine.{Config, Step, computed}
 use Rattle.rules.specs.declared.Machine.{Machine}
 use Rattle.tables.specs.Layout.{frame-variables, values-at, holders-at, frames-at, most-names}
 use Rattle.tables.specs.Decode.{operationOf, kindAt, xAt, yAt, zAt, memberAt, targetAt, firstAtomAt, atomCountAt, atomsFrom, atomCount, operandsAt, formulaAt, rightAt}
-use Rattle.tables.specs.Tables.{SideFits, declaredIn, OperandsFit}
+use Rattle.tables.specs.Tables.{declaredIn, OperandsFit}
 use Rattle.tables.specs.Stores.{SameTables, putWord}
 use Rattle.tables.proofs.Bytes.{same-refl}
 use Rattle.run_heap.specs.declared.View.{View}
@@ -24,7 +23,7 @@ use Rattle.run_heap.specs.declared.Fault.{Fault}
 use Rattle.run_steps.specs.declared.Turn.{Turn}
 use Rattle.run_heap.specs.Views.{frameAt, variableAt, spot, readIn, viewOf, stopOf, Readable, frame-holder}
 use Rattle.run_footprint.specs.Footprints.{testIn, takeIn, marked, SmallCells}
-use Rattle.run_steps.specs.States.{Represents, Follows, Does, CanStep, NotEnd, AtKind, stepped, set-kind, let-kind, return-kind, if-kind, else-kind, setHere, letHere, computeHere, returnHere, assertHere, releaseHere, ifHere, elseHere}
+use Rattle.run_steps.specs.States.{Represents, Follows, Does, CanStep, NotEnd, AtKind, stepped, set-kind, let-kind, if-kind, else-kind, setHere, letHere, computeHere, assertHere, releaseHere, ifHere, elseHere}
 use Rattle.run_heap.proofs.Reading.{spot-small}
 use Rattle.run_steps.proofs.Seeing.{ok-footprint}
 use Rattle.run_footprint.proofs.Regions.{only-word, only-tables, only-marked}
@@ -186,17 +185,6 @@ module _ {w : List ℕ} {c : Machine} (ready : CanStep w c) where
     compute-stops e =
         does-stop Fault.Overflow
         (λ m R. Steps.compute-stop R _ (xAt w (c .row)) _ _ (fits .y) (fits .z) (sym read-so ∙ e))
-
-  pub return-does :
-      (v : View) (x n : ℕ) {w′ : List ℕ} {d : Machine} → AtKind w c return-kind → v ≡ viewOf c → x ≡ xAt w (c .row) → n < 4294967296 →
-      n ≡ variableAt w (v .base) x → w′ ≡ putWord w (v .base + 56) n → d ≡ stepped c (c .row + 1) →
-      Does w c w′ (Turn.On d) (returnHere w c)
-  unfolding readIn SideFits
-  return-does v x n k ev ex ln e p q =
-      does-on (p ∙ rw ev) q (frame-words result-variable (omega arith) n)
-      (λ m R.
-      Steps.assign-on R result-variable (var (xAt w (c .row))) n (omega arith) ln (fits .x) (λ z. omega (arith, z, k))
-      (ap ok (sym (e ∙ rw (ev, ex)))))
 
   -- `set`
   module _ (k : AtKind w c set-kind) (v : View) (x f : ℕ) (ev : v ≡ viewOf c) (ex : x ≡ xAt w (c .row)) (ef : f ≡ memberAt w (c .row)) where

@@ -1,4 +1,4 @@
--- The steps that stay in their frame: `let`, `return`, `add`, `sub`, `set`, `release`.
+-- The steps that stay in their frame: `let`, `add`, `sub`, `set`, `release`.
 use mathlib.Core.Path.{_≡_, refl, sym, ap₂, _∙_}
 use mathlib.Core.Bool.{Bool, true, false, cond}
 use mathlib.Core.List.{List, []}
@@ -77,7 +77,7 @@ module _ {w : List ℕ} {c : Machine} {m : Config} (R : Represents w c m) where
   unfolding _>>=_
   bound-stop x t f r = follow-stop R f _ (rw r)
 
-  -- `let` AND `return`
+  -- `let`
   pub assign-on :
       (x : ℕ) (e : Expr ℕ) (v : ℕ) → x < frame-variables → v < 4294967296 → SideFits e → NotEnd w c →
       readIn w (viewOf c) e ≡ ok v →

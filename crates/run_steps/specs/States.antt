@@ -8,7 +8,6 @@ use lib.Dec.{T, eqb}
 use lib.ListN.{length}
 use Rattle.rules.specs.Limits.{heap-objects, heap-fields, most-frames}
 use Rattle.rules.specs.Base.{any}
-use Rattle.rules.specs.Syntax.{var, result-variable}
 use Rattle.rules.specs.Machine.{Heap, Frame, Location, Config, Step, fieldsOf, valueAt, object, valueOf, holds, on, stop, done, took}
 use Rattle.rules.specs.Machine.{setStep, assignStep, computeStep, assertStep, releaseStep, ifStep, elseStep}
 use Rattle.rules.specs.declared.Machine.{Machine}
@@ -164,9 +163,6 @@ letHere w c m = took (assignStep (xAt w (c .row)) (rightAt w (firstAtomAt w (c .
 
 abbrev pub computeHere : List ℕ → Machine → Config → Step
 computeHere w c m = took (computeStep (operationOf (kindAt w (c .row))) (xAt w (c .row)) (yAt w (c .row)) (zAt w (c .row)) m)
-
-abbrev pub returnHere : List ℕ → Machine → Config → Step
-returnHere w c m = took (assignStep result-variable (var (xAt w (c .row))) m)
 
 abbrev pub assertHere : List ℕ → Machine → Config → Step
 assertHere w c m = took (assertStep (formulaAt w (c .row)) m)

@@ -15,7 +15,7 @@ ghost use lib.Dec.{T};
 ghost use lib.ListN.{length};
 ghost use Rattle.rules.specs.Grammar.{isComputing};
 ghost use Rattle.tables.specs.Decode.{kindAt, formulaAt};
-ghost use Rattle.run_steps.specs.States.{CanStep, NotEnd, AtKind, Does, stepped, set-kind, let-kind, return-kind, if-kind, else-kind, setHere, letHere, computeHere, returnHere, assertHere, releaseHere, ifHere, elseHere};
+ghost use Rattle.run_steps.specs.States.{CanStep, NotEnd, AtKind, Does, stepped, set-kind, let-kind, if-kind, else-kind, setHere, letHere, computeHere, assertHere, releaseHere, ifHere, elseHere};
 ghost use Rattle.run_heap.specs.Views.{viewOf};
 ghost use Rattle.run_footprint.specs.Footprints.{takeIn, footprint-cells, TookUpTo};
 
@@ -141,20 +141,6 @@ pub fn compute_step(work: &mut [u8], c: Machine) -> Turn
         }
         Computed::Overflow => Turn::Stopped(Fault::Overflow),
     }
-}
-
-// `return`: "does this for `result`; the body goes on".
-pub fn return_step(work: &mut [u8], c: Machine) -> Turn
-    requires { ⌜ CanStep (now work) c × AtKind (now work) c return-kind ⌝ }
-    ensures { λ r. ⌜ Does (now (work .entry)) c (now (work .exit)) r (returnHere (now (work .entry)) c) ⌝ }
-{
-    let row = c.row as usize;
-    let v = run_heap::view_of(c);
-    let b = v.base;
-    let x = tables::x_at(work, row);
-    let n = run_heap::variable(work, b, x);
-    tables::put_word(work, b + run_heap::RESULT_AT, n);
-    Turn::On(next(c, c.row + 1))
 }
 
 // `set`: "first tests `acc x f`".

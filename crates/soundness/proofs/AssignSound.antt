@@ -1,4 +1,4 @@
--- `let`, `return`, `add` and `sub`: the checker's state after one is satisfied after the machine's step.
+-- `let`, `add` and `sub`: the checker's state after one is satisfied after the machine's step.
 use mathlib.Core.Path.{_≡_, refl, sym, ap, _∙_, subst}
 use mathlib.Core.Bool.{Bool, true, false, cond}
 use mathlib.Core.Logic.{_⊎_, inl, inr}
@@ -52,7 +52,7 @@ module _ (h : Heap) (F : Frame) (s : State) (S : Satisfied h F s) (x : ℕ) wher
     pub reads : value h F e ≡ ok read
     pub satisfied : Satisfied h (bind x read F) s′
 
-  assigned : (e : Term) (s′ : State) → assignRule x e s ≡ ok s′ → Assigned e s′
+  pub assigned : (e : Term) (s′ : State) → assignRule x e s ≡ ok s′ → Assigned e s′
   unfolding assignRule termValue remove
   assigned e s′ a =
       let (r, q, b) = bind-ok (resolve (equalIn s) (s .permissions) e) a in

@@ -1,8 +1,9 @@
--- `call` and the `end` that returns from it: the frame that runs next and its callers are as the invariant has them.
+-- `call`, and the `end` or `return` that goes back from it: the frame that runs next and its callers are as the invariant has them.
 use mathlib.Core.Path.{_≡_, refl, sym, ap, _∙_, subst}
 use mathlib.Core.Bool.{Bool, true, false, not}
 use mathlib.Core.List.{List, [], _∷_, _++_, map}
 use mathlib.Core.Logic.{_⊎_, inl, inr}
+use mathlib.Core.Option.{some}
 use Prim.Native.Nat.{ℕ, suc}
 use native.Mathlib.Omega.{arith}
 use native.Mathlib.Nat.{le-refl}
@@ -74,7 +75,7 @@ module _ (P : Program) (W : WellFormed P) (all : MethodsAccepted P) (m : Config)
         (u : Shown) (s′ : State) (os : List Open) → rowNumbered P (m .frame .row) .stmt ≡ simple (call x y n z) → SimpleFormed (call x y n z) →
         show s (map (substAtom (actual y z x)) (M .requires)) ≡ ok u →
         add (map (substAtom (actual y z x)) (M .ensures)) (remove x (remainder s u)) ≡ ok s′ →
-        Accepts P (m .frame .ensures) (suc (m .frame .row)) s′ os →
+        Accepts P (m .frame .ensures) (suc (m .frame .row)) (some s′) os →
         footprint (m .heap) G (M .requires) ≡ ok (map (locationOf (m .frame)) (u .consumed)) →
         Moved P m (entered m G (map (locationOf (m .frame)) (u .consumed)))
     unfolding entered holding callFrame entryValues valueOf
@@ -104,7 +105,7 @@ module _ (P : Program) (W : WellFormed P) (all : MethodsAccepted P) (m : Config)
     -- the lemma on `call`
     pub call-sound :
         (s′ : State) (os : List Open) → rowNumbered P (m .frame .row) .stmt ≡ simple (call x y n z) → SimpleFormed (call x y n z) →
-        callRule x y M z s ≡ ok s′ → Accepts P (m .frame .ensures) (suc (m .frame .row)) s′ os → Kept P m (took (callStep y M z m))
+        callRule x y M z s ≡ ok s′ → Accepts P (m .frame .ensures) (suc (m .frame .row)) (some s′) os → Kept P m (took (callStep y M z m))
     unfolding callStep took callRule _>>_ check termValue
     call-sound s′ os c fits a k =
         let F : Frame = m .frame in
@@ -200,9 +201,10 @@ module _ (P : Program) (m : Config) (C : Frame) (Cs : List Frame) (A : List Loca
       (satisfied-frame (m .heap) H gained s₀ gained-value (λ p i. gained-old p (holds-bound C (D .x) result p i)) S₀)
       (D .adds)
 
-  returned-moved : BelowFrame P (m .heap) C Cs → Moved P m (record { heap = m .heap; frame = advance gained; callers = Cs })
+  returned-moved :
+      (m₀ : Config) → BelowFrame P (m .heap) C Cs → Moved P m₀ (record { heap = m .heap; frame = advance gained; callers = Cs })
   unfolding advance jump bind holding holds valueOf
-  returned-moved B =
+  returned-moved m₀ B =
       let value-kept : (v : ℕ) → (D .x ≡ v → ⊥) → valueOf gained v ≡ valueOf C v = λ v n. bound-other C (D .x) result v n in
       other-frame
       (at-row (D .after) (D .opens)
@@ -215,20 +217,20 @@ module _ (P : Program) (m : Config) (C : Frame) (Cs : List Frame) (A : List Loca
       })
       B)
 
--- the lemma on `end`
+-- the lemma on `end`; m₀ is the state before the step, m has the result
 pub end-sound :
-    (P : Program) (m : Config) (A : List Location) → footprint (m .heap) (m .frame) (m .frame .ensures) ≡ ok A → HeldOnce m →
-    (Cs : List Frame) → m .callers ≡ Cs → BelowFrame P (m .heap) (m .frame) Cs → Kept P m (endStep P m Cs)
+    (P : Program) (m₀ m : Config) (A : List Location) → footprint (m .heap) (m .frame) (m .frame .ensures) ≡ ok A → HeldOnce m →
+    (Cs : List Frame) → m .callers ≡ Cs → BelowFrame P (m .heap) (m .frame) Cs → Kept P m₀ (endStep P m Cs)
 unfolding endStep took returned
-end-sound P m A f H [] e B = tt
-end-sound P m A f H (C ∷ Cs) e B =
+end-sound P m₀ m A f H [] e B = tt
+end-sound P m₀ m A f H (C ∷ Cs) e B =
     let D = B .0 in
     let apart : (p : Location) → Holds (m .frame) p → Holds C p → ⊥ =
     λ p i. shares-none (C ∷ Cs) p (subst (λ Fs. shares Fs p ≡ 0) e (callers-none m H p i)) C at-head in
-    subst (λ t. Kept P m (took t)) (sym (bind-of-ok (footprint (m .heap) (m .frame) (m .frame .ensures)) A _ f))
-    (subst (λ x. Moved P m (back x))
+    subst (λ t. Kept P m₀ (took t)) (sym (bind-of-ok (footprint (m .heap) (m .frame) (m .frame .ensures)) A _ f))
+    (subst (λ x. Moved P m₀ (back x))
     (sym (target-is P C (D .x) (D .y) (D .method) (D .z) (D .is-call)))
-    (returned-moved P m C Cs A f D apart (B .1)))
+    (returned-moved P m C Cs A f D apart m₀ (B .1)))
   where
     back : ℕ → Config
     back x =

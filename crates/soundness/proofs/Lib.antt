@@ -13,6 +13,7 @@ pub mod NewSound
 pub mod AssertSound
 pub mod BranchSound
 pub mod CallSound
+pub mod ReturnSound
 pub mod StepKeeps
 pub mod NeverStuck
 pub mod FrameKept

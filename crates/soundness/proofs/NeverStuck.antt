@@ -2,6 +2,7 @@
 use mathlib.Core.Path.{_≡_, refl}
 use mathlib.Core.List.{List, [], _∷_}
 use mathlib.Core.Logic.{inl, inr}
+use mathlib.Core.Option.{some}
 use Prim.Native.Nat.{ℕ, zero, suc}
 use native.Mathlib.Omega.{arith}
 use lib.ListN.{getD}
@@ -30,7 +31,7 @@ methods-accepted P (M ∷ Ms) e zero = let (u, a, b) = then-accepted (checkMetho
 methods-accepted P (M ∷ Ms) e (suc n) =
     let (u, a, b) = then-accepted (checkMethod P M) (λ u. checkBlocks P Ms) tt e in methods-accepted P Ms b n
 
-main-accepted : (P : Program) (Ms : List Method) → checkBlocks P Ms ≡ accepted tt → Accepts P [] (P .main) empty []
+main-accepted : (P : Program) (Ms : List Method) → checkBlocks P Ms ≡ accepted tt → Accepts P [] (P .main) (some empty) []
 unfolding checkBlocks
 main-accepted P [] e = e
 main-accepted P (M ∷ Ms) e =
@@ -53,7 +54,7 @@ module _ (room : Room) (P : Program) (W : WellFormed P) (all : MethodsAccepted P
       goes-on (step room P m) n m (λ m′. run room P k (suc n) m′) (step-keeps room P W all m I)
       (λ m′ J. run-not-stuck k (suc n) m′ J)
 
-start-invariant : (P : Program) → Accepts P [] (P .main) empty [] → Invariant P (start P)
+start-invariant : (P : Program) → Accepts P [] (P .main) (some empty) [] → Invariant P (start P)
 unfolding start
 start-invariant P k =
     record {

@@ -1,9 +1,11 @@
 -- Of a text that is read, check refuses with 10 to 14 only, and at a line of the text: what the rules refuse as out of place, and
 -- what they refuse at line 0, does not come from a text.
 use mathlib.Core.Path.{_≡_, refl, sym, ap, _∙_}
-use mathlib.Core.Bool.{Bool, true, false, cond}
+use mathlib.Core.Bool.{Bool, true, false, not, cond, _||_}
 use mathlib.Core.List.{List, [], _∷_}
 use mathlib.Core.Logic.{_⊎_, inl, inr}
+use mathlib.Core.Option as Option
+use mathlib.Core.Option.{some}
 use Prim.Native.Nat.{ℕ, suc, _+_, _≤_}
 use native.Mathlib.Omega.{arith}
 use lib.Dec.{T, ltb}
@@ -13,7 +15,7 @@ use Rattle.rules.specs.Base.{Name, Try}
 use Rattle.rules.specs.Limits.{most-branches, most-atoms}
 use Rattle.rules.specs.Answers.{Refusal, Verdict, accepted, refused, atLine, then, textEnds, unframed}
 use Rattle.rules.specs.Syntax as Syntax
-use Rattle.rules.specs.Syntax.{Formula, Stmt, Row, Program, simple, if, else, join, end}
+use Rattle.rules.specs.Syntax.{Formula, Stmt, Row, Program, simple, return, if, else, join, end}
 use Rattle.rules.specs.Text.{lines}
 use Rattle.rules.specs.Grammar as Grammar
 use Rattle.rules.specs.Grammar.{Kind, Line, Class, Field, Method, Requires, Ensures, Main, Var, statement}
@@ -23,15 +25,16 @@ use Rattle.rules.specs.Scope.{Scope, Declarations, Variable, declarations, firs
 use Rattle.rules.specs.Items.{Item, aClass, aField, aMethod, aRequires, anEnsures, aMain, aLocal, aStatement, itemOf, resolveFormula, resolveLine, resolveLines}
 use Rattle.rules.specs.Reading.{readText, framed, framedItem, checkFramed, withRequires, withEnsures, program}
 use Rattle.rules.specs.State.{State, empty}
-use Rattle.rules.specs.Rules.{Open, inFirst, inSecond, elseRow, joinRow, endRow, checkRow, checkRows, checkFrom, checkMethod, checkBlocks, checkProgram}
+use Rattle.rules.specs.Rules.{End, Open, inFirst, inSecond, Following, reached, elseRow, joinRow, endRow, checkRow, checkRows, checkFrom, checkMethod, checkBlocks, checkProgram}
 use Rattle.rules.specs.Calls.{checkItems, verdictNumbers, checkText}
 use Rattle.rules.proofs.Lists.{and-both}
 use Rattle.rules.proofs.Tries.{refused-accepted, accepted-inj, atLine-accepted, then-accepted}
 use Rattle.rules.proofs.LinesTaken.{HasForm, TakenLines, none, line, lineOf, read-passes, read-taken}
-use Rattle.nesting.specs.Nests.{Wait, forElse, forJoin, rowNests, rowsNest}
+use Rattle.nesting.specs.Nests.{Wait, forElse, forJoin, rowNests, rowsNest, isReturn, mayFollow, returnsLast}
 use Rattle.nesting.proofs.ReadOrder.{BodiesNest, read-blocks}
+use Rattle.nesting.proofs.Returns.{read-returns}
 use Rattle.rules.specs.Refusals.{FromRules, LineOf, RefusedAtALine}
-use Rattle.soundness.proofs.RulesRefuse.{OfRules, ten, row-number, Ruled, yes, for, rule-ruled, if-ruled, join-ruled, show-ruled}
+use Rattle.soundness.proofs.RulesRefuse.{OfRules, ten, row-number, Ruled, yes, for, rule-ruled, return-ruled, if-ruled, join-ruled, end-ruled}
 use Rattle.soundness.proofs.RequiresAdded.{Addable, requires-added, few-atoms}
 use Rattle.soundness.proofs.ProgramParts.{All, all-drop, ItemsHold, Kept, Parts, parts}
 
@@ -156,49 +159,66 @@ module _ (L : ℕ → Type 0) where
   waits (inFirst s ∷ os) = forElse ∷ waits os
   waits (inSecond s ∷ os) = forJoin ∷ waits os
 
+  -- has the line above returned?
+  returned : End → Bool
+  returned Option.none = true
+  returned (some s) = false
+
   module _ (P : Program) (φ : Formula ℕ) where
+    -- n and f: what is known of the rows that follow
     row-fair :
-        (x : Stmt) (l : ℕ) (k : State → List Open → Verdict (Unit {0})) (s : State) (os : List Open) (n : Bool → List Wait → Bool) →
-        L l → T (rowNests x (waits os) n) → ((s : State) (os : List Open) → T (n false (waits os)) → Fair (k s os)) →
-        Fair (checkRow P x l φ k s os)
-    unfolding checkRow rowNests elseRow joinRow endRow waits
-    row-fair (simple p) l k s os n i t h = at-line i (rule-ruled P p s) (λ s′. h s′ os t)
-    row-fair (if r a b) l k s os n i t h =
+        (x : Stmt) (l : ℕ) (k : Following) (e : End) (os : List Open) (n : Bool → List Wait → Bool) (f : Bool → Bool) → L l →
+        T (rowNests x (waits os) n) → T (not (returned e) || mayFollow x) → T (f (isReturn x)) →
+        ((e : End) (os : List Open) → T (n false (waits os)) → T (f (returned e)) → Fair (k e os)) →
+        Fair (checkRow P x l φ k e os)
+    unfolding checkRow reached rowNests elseRow joinRow endRow waits returned mayFollow isReturn
+    row-fair (simple p) l k Option.none os n f i t u v h = absurd u
+    row-fair (simple p) l k (some s) os n f i t u v h = at-line i (rule-ruled P p s) (λ s′. h (some s′) os t v)
+    row-fair (return x) l k Option.none os n f i t u v h = absurd u
+    row-fair (return x) l k (some s) os n f i t u v h = at-line i (return-ruled x φ s) (λ r. h Option.none os t v)
+    row-fair (if r a b) l k Option.none os n f i t u v h = absurd u
+    row-fair (if r a b) l k (some s) os n f i t u v h =
         at-line i (if-ruled r a b s)
-        (λ c. h (c .0) (inFirst (c .1) ∷ os) (and-both (ltb (length (waits os)) most-branches) (n false (forElse ∷ waits os)) t .1))
-    row-fair else l k s [] n i t h = absurd t
-    row-fair else l k s (inFirst s₂ ∷ os) n i t h = h s₂ (inSecond s ∷ os) t
-    row-fair else l k s (inSecond s₁ ∷ os) n i t h = absurd t
-    row-fair (join ψ) l k s [] n i t h = absurd t
-    row-fair (join ψ) l k s (inFirst s₂ ∷ os) n i t h = absurd t
-    row-fair (join ψ) l k s (inSecond s₁ ∷ os) n i t h = at-line i (join-ruled ψ s₁ s) (λ s′. h s′ os t)
-    row-fair end l k s [] n i t h = at-line i (show-ruled s φ) (λ r. passes)
-    row-fair end l k s (inFirst s₂ ∷ os) n i t h = absurd t
-    row-fair end l k s (inSecond s₁ ∷ os) n i t h = absurd t
+        (λ c.
+        h (some (c .0)) (inFirst (c .1) ∷ os) (and-both (ltb (length (waits os)) most-branches) (n false (forElse ∷ waits os)) t .1) v)
+    row-fair else l k e [] n f i t u v h = absurd t
+    row-fair else l k e (inFirst s₂ ∷ os) n f i t u v h = h (some s₂) (inSecond e ∷ os) t v
+    row-fair else l k e (inSecond e₁ ∷ os) n f i t u v h = absurd t
+    row-fair (join ψ) l k e [] n f i t u v h = absurd t
+    row-fair (join ψ) l k e (inFirst s₂ ∷ os) n f i t u v h = absurd t
+    row-fair (join ψ) l k e (inSecond e₁ ∷ os) n f i t u v h = at-line i (join-ruled ψ e₁ e) (λ s′. h (some s′) os t v)
+    row-fair end l k e [] n f i t u v h = at-line i (end-ruled φ e) (λ r. passes)
+    row-fair end l k e (inFirst s₂ ∷ os) n f i t u v h = absurd t
+    row-fair end l k e (inSecond e₁ ∷ os) n f i t u v h = absurd t
 
     rows-fair :
-        (rs : List Row) (s : State) (os : List Open) → All AtLine rs → T (rowsNest false (waits os) rs) → Fair (checkRows P φ rs s os)
-    unfolding checkRows rowsNest waits
-    rows-fair [] s [] a t = absurd t
-    rows-fair [] s (inFirst s₂ ∷ os) a t = absurd t
-    rows-fair [] s (inSecond s₁ ∷ os) a t = absurd t
-    rows-fair (r ∷ rs) s os a t =
-        row-fair (r .stmt) (r .line) _ s os (λ b ws. rowsNest b ws rs) (a .0) t (λ s os t. rows-fair rs s os (a .1) t)
+        (rs : List Row) (e : End) (os : List Open) → All AtLine rs → T (rowsNest false (waits os) rs) →
+        T (returnsLast (returned e) rs) → Fair (checkRows P φ rs e os)
+    unfolding checkRows rowsNest returnsLast waits
+    rows-fair [] e [] a t r = absurd t
+    rows-fair [] e (inFirst s₂ ∷ os) a t r = absurd t
+    rows-fair [] e (inSecond e₁ ∷ os) a t r = absurd t
+    rows-fair (x ∷ rs) e os a t r =
+        let (u, v) = and-both (not (returned e) || mayFollow (x .stmt)) (returnsLast (isReturn (x .stmt)) rs) r in
+        row-fair (x .stmt) (x .line) _ e os (λ b ws. rowsNest b ws rs) (λ b. returnsLast b rs) (a .0) t u v
+        (λ e os t r. rows-fair rs e os (a .1) t r)
 
-    from-fair : (i : ℕ) (s : State) → All AtLine (P .rows) → T (rowsNest false [] (drop i (P .rows))) → Fair (checkFrom P φ i s [])
-    unfolding checkFrom waits
-    from-fair i s a t = rows-fair (drop i (P .rows)) s [] (all-drop AtLine i (P .rows) a) t
+  -- each row is at such a line, and what stands after a `return` may stand there
+  module _ (P : Program) (rows : All AtLine (P .rows)) (returns : (i : ℕ) → T (returnsLast false (drop i (P .rows)))) where
+    from-fair :
+        (φ : Formula ℕ) (i : ℕ) (s : State) → T (rowsNest false [] (drop i (P .rows))) → Fair (checkFrom P φ i (some s) [])
+    unfolding checkFrom waits returned
+    from-fair φ i s t = rows-fair P φ (drop i (P .rows)) (some s) [] (all-drop AtLine i (P .rows) rows) t (returns i)
 
-  module _ (P : Program) (rows : All AtLine (P .rows)) where
     method-fair : (M : Syntax.Method) → Startable M → T (rowsNest false [] (drop (M .first) (P .rows))) → Fair (checkMethod P M)
     unfolding checkMethod atLine
-    method-fair M g t = let (s, e) = requires-added (M .requires) g in rw e (from-fair P (M .ensures) (M .first) s rows t)
+    method-fair M g t = let (s, e) = requires-added (M .requires) g in rw e (from-fair (M .ensures) (M .first) s t)
 
     blocks-fair :
         (Ms : List Syntax.Method) → All Startable Ms → BodiesNest (P .rows) Ms →
         T (rowsNest false [] (drop (P .main) (P .rows))) → Fair (checkBlocks P Ms)
     unfolding checkBlocks
-    blocks-fair [] g b t = from-fair P [] (P .main) empty rows t
+    blocks-fair [] g b t = from-fair [] (P .main) empty t
     blocks-fair (M ∷ Ms) g b t = fair-then (method-fair M (g .0) (b .0)) (λ u e. blocks-fair Ms (g .1) (b .1) t)
 
   framed-fair : (items : List Item) (n : ℕ) → ((l : ℕ) → n + 1 ≤ l → l ≤ n + length items → L l) → Fair (checkFramed items n)
@@ -223,7 +243,7 @@ module _ (L : ℕ → Type 0) where
       (λ u c.
       let G : Parts Good Startable AtLine (program items) =
       parts Good Startable AtLine good-kept items (items-good text _ _ text items 0 u K within c) in
-      blocks-fair (program items) (G .rows) (program items .methods) (G .methods) b m)
+      blocks-fair (program items) (G .rows) (read-returns t items e) (program items .methods) (G .methods) b m)
 
 -- in numbers
 verdict-at :

@@ -1,4 +1,4 @@
--- The rules refuse with 11 to 14 only: each operation on states, each statement's rule, `if` and `join`.
+-- The rules refuse with 11 to 14 only: each operation on states, each statement's rule, `return`, `if` and `join`.
 use mathlib.Core.Bool.{Bool, true, false, cond}
 use mathlib.Core.List.{List, [], _∷_}
 use mathlib.Core.Option.{Option, none, some}
@@ -6,9 +6,9 @@ use Prim.Native.Nat.{ℕ}
 use native.Mathlib.Omega.{arith}
 use Rattle.rules.specs.Base.{Try, ok, no, _>>=_, _>>_, check, orElse}
 use Rattle.rules.specs.Answers.{Refusal, refusalNumber, unframed, unresolved, noPermission, notShown, stateFull}
-use Rattle.rules.specs.Syntax.{Rel, Formula, Simple, Field, Program, same, eq, num, null, var, path, acc, cmp, set, assign, compute, new, call, return, assert, release, result-variable}
+use Rattle.rules.specs.Syntax.{Rel, Formula, Simple, Field, Program, same, eq, num, null, var, path, acc, cmp, set, assign, compute, new, call, assert, release, result-variable}
 use Rattle.rules.specs.State.{Term, State, Permission, Equality, Shown, empty, resolve, showFrom, show, addPermission, addFact, add}
-use Rattle.rules.specs.Rules.{addEqual, assignRule, addFields, addInitial, newRule, setRule, callRule, ifRule, joinRule, rule}
+use Rattle.rules.specs.Rules.{addEqual, assignRule, addFields, addInitial, newRule, setRule, callRule, ifRule, returnRule, End, showEnd, joinRule, rule}
 use Rattle.rules.specs.Refusals.{FromRules}
 
 -- the refusals of the rows 10 to 14
@@ -67,7 +67,7 @@ show-from-ruled q s (acc y f ∷ φ) r =
 show-from-ruled q s (cmp n a b ∷ φ) r =
     bind (resolve-ruled q _ a) (λ t. bind (resolve-ruled q _ b) (λ u. tested _ thirteen (show-from-ruled q s φ r)))
 
-pub show-ruled : (s : State) (φ : Formula ℕ) → Ruled (show s φ)
+show-ruled : (s : State) (φ : Formula ℕ) → Ruled (show s φ)
 unfolding show
 show-ruled s φ = show-from-ruled _ s φ _
 
@@ -113,7 +113,6 @@ rule-ruled P (assign x e) s = assign-ruled x e s
 rule-ruled P (compute o x y z) s = yes
 rule-ruled P (new x c) s = bind (fields-ruled x _ _) (λ s. bind (fact-ruled _ _ _ s) (initial-ruled x _))
 rule-ruled P (call x y m z) s = tested _ thirteen (bind (show-ruled s _) (λ r. add-ruled _ _))
-rule-ruled P (return x) s = assign-ruled result-variable (var x) s
 rule-ruled P (assert φ) s = bind (show-ruled s φ) (λ r. yes)
 rule-ruled P (release φ) s = bind (show-ruled s φ) (λ r. yes)
 
@@ -123,6 +122,15 @@ if-ruled n a b s =
     bind (resolve-ruled _ _ a) (λ t.
     bind (resolve-ruled _ _ b) (λ u. bind (fact-ruled _ _ _ s) (λ s₁. bind (fact-ruled _ _ _ s) (λ s₂. yes))))
 
-pub join-ruled : (φ : Formula ℕ) (s t : State) → Ruled (joinRule φ s t)
+pub return-ruled : (x : ℕ) (φ : Formula ℕ) (s : State) → Ruled (returnRule x φ s)
+unfolding returnRule
+return-ruled x φ s = bind (assign-ruled result-variable (var x) s) (λ s′. bind (show-ruled s′ φ) (λ r. yes))
+
+pub end-ruled : (φ : Formula ℕ) (e : End) → Ruled (showEnd φ e)
+unfolding showEnd
+end-ruled φ none = yes
+end-ruled φ (some s) = bind (show-ruled s φ) (λ r. yes)
+
+pub join-ruled : (φ : Formula ℕ) (e₁ e₂ : End) → Ruled (joinRule φ e₁ e₂)
 unfolding joinRule
-join-ruled φ s t = bind (show-ruled s φ) (λ r. bind (show-ruled t φ) (λ r. add-ruled φ empty))
+join-ruled φ e₁ e₂ = bind (end-ruled φ e₁) (λ u. bind (end-ruled φ e₂) (λ u. add-ruled φ empty))

@@ -1,6 +1,7 @@
 -- The invariant of a run of an accepted program: what holds of the frame that runs and of each caller.
 use mathlib.Core.Path.{_≡_, sym, subst}
 use mathlib.Core.List.{List, [], _∷_, map}
+use mathlib.Core.Option.{some}
 use Prim.Native.Nat.{ℕ, suc, _≤_}
 use native.Mathlib.Omega.{arith}
 use Rattle.rules.specs.Base.{Try, ok, no}
@@ -21,11 +22,11 @@ use Rattle.soundness.proofs.Branches.{Accepts}
 -- from its next row on it is accepted in a state that it satisfies; or that row is the `join` to which its first branch goes on; or
 -- it is the frame of a method that is not there
 pub data Ready (P : Program) (h : Heap) (F : Frame) : Type 0 where
-  at-row : (s : State) (os : List Open) → Satisfied h F s → Accepts P (F .ensures) (F .row) s os → Ready P h F
+  at-row : (s : State) (os : List Open) → Satisfied h F s → Accepts P (F .ensures) (F .row) (some s) os → Ready P h F
   at-join :
       (φ : Formula ℕ) (s s′ : State) (u : Shown) (os : List Open) →
       rowNumbered P (F .row) .stmt ≡ join φ → Satisfied h F s → show s φ ≡ ok u → add φ empty ≡ ok s′ →
-      Accepts P (F .ensures) (suc (F .row)) s′ os → Ready P h F
+      Accepts P (F .ensures) (suc (F .row)) (some s′) os → Ready P h F
   at-nothing : rowNumbered P (F .row) .stmt ≡ end → F .ensures ≡ [] → Ready P h F
 
 -- A CALLER
@@ -46,7 +47,7 @@ pub record Suspended (P : Program) (h : Heap) (this w : ℕ) (φ : Formula ℕ) 
   pub after : State
   pub opens : List Open
   pub adds : add (map (substAtom (actual y z x)) φ) (remove x left) ≡ ok after
-  pub goes-on : Accepts P (C .ensures) (suc (C .row)) after opens
+  pub goes-on : Accepts P (C .ensures) (suc (C .row)) (some after) opens
 
 -- all callers, the nearest first
 abbrev pub Below : Program → Heap → ℕ → ℕ → Formula ℕ → List Frame → Type 0
@@ -95,14 +96,14 @@ Goes m s′ (no r) = MayStop r
 -- such a statement, where the rows after it are accepted from s′
 pub goes-kept :
     (P : Program) (m : Config) (s′ : State) (os : List Open) (t : Try Stop Config) →
-    Accepts P (m .frame .ensures) (suc (m .frame .row)) s′ os → Goes m s′ t → Kept P m (took t)
+    Accepts P (m .frame .ensures) (suc (m .frame .row)) (some s′) os → Goes m s′ t → Kept P m (took t)
 unfolding took
 goes-kept P m s′ os (no c) k g = g
 goes-kept P m s′ os (ok m′) k g =
     same-frame
     (at-row s′ os (g .satisfied)
-    (subst (λ φ. Accepts P φ (m′ .frame .row) s′ os) (sym (g .same-call .ensures))
-    (subst (λ i. Accepts P (m .frame .ensures) i s′ os) (sym (g .row)) k)))
+    (subst (λ φ. Accepts P φ (m′ .frame .row) (some s′) os) (sym (g .same-call .ensures))
+    (subst (λ i. Accepts P (m .frame .ensures) i (some s′) os) (sym (g .row)) k)))
     (g .same-call) (g .callers)
 
 -- A HEAP THAT CHANGES

@@ -1,14 +1,15 @@
 -- Each step of an accepted program keeps the invariant, or finds the machine full, or is main's `end`.
 use mathlib.Core.Path.{_≡_, refl, sym, ap, subst}
 use mathlib.Core.List.{List, [], _∷_}
+use mathlib.Core.Option.{some}
 use Prim.Native.Nat.{ℕ, suc, _≤_}
 use native.Mathlib.Omega.{arith}
 use lib.ListN.{length, getD}
 use Rattle.rules.specs.Base.{Try, ok}
 use Rattle.rules.specs.Answers.{Stop}
-use Rattle.rules.specs.Syntax.{Formula, Simple, Stmt, Program, rowNumbered, result-variable, var, set, assign, compute, new, call, return, assert, release, simple, if, else, join, end}
+use Rattle.rules.specs.Syntax.{Formula, Simple, Stmt, Program, rowNumbered, set, assign, compute, new, call, return, assert, release, simple, if, else, join, end}
 use Rattle.rules.specs.State.{State, show}
-use Rattle.rules.specs.Rules.{Open, inFirst, inSecond, rule, ifRule, joinRule, checkRow, elseRow, joinRow, endRow}
+use Rattle.rules.specs.Rules.{Open, inFirst, inSecond, rule, returnRule, ifRule, showEnd, joinRule, checkRow, reached, elseRow, joinRow, endRow}
 use Rattle.rules.specs.Machine.{ifStep, elseStep, Config, Location, Room, Step, on, stop, done, statementOf, footprint, takeFrom, took, simpleStep, stepAt, step, computeStep, assertStep, releaseStep}
 use Rattle.rules.proofs.Tries.{bind-ok, ok-inj, atLine-accepted, refused-accepted}
 use Rattle.rules.proofs.Sets.{Holds}
@@ -25,6 +26,7 @@ use Rattle.soundness.proofs.NewSound.{new-sound}
 use Rattle.soundness.proofs.AssertSound.{assert-sound, join-sound, release-sound}
 use Rattle.soundness.proofs.BranchSound.{if-sound, else-sound}
 use Rattle.soundness.proofs.CallSound.{MethodsAccepted, call-sound, end-sound}
+use Rattle.soundness.proofs.ReturnSound.{return-sound}
 
 -- what a step comes to
 abbrev pub Fine : Program → Step → Type 0
@@ -39,13 +41,13 @@ module _ (room : Room) (P : Program) (W : WellFormed P) (all : MethodsAccepted P
   -- in a state that the frame satisfies
   module _ (s : State) (S : Satisfied (m .heap) (m .frame) s) where
     onward :
-        (s′ : State) (os : List Open) (t : Try Stop Config) → Accepts P (m .frame .ensures) (suc (m .frame .row)) s′ os →
+        (s′ : State) (os : List Open) (t : Try Stop Config) → Accepts P (m .frame .ensures) (suc (m .frame .row)) (some s′) os →
         Goes m s′ t → Kept P m (took t)
     onward s′ os t k g = goes-kept P m s′ os t k g
 
     simple-kept :
         (p : Simple) → rowNumbered P (m .frame .row) .stmt ≡ simple p → SimpleFormed p → (s′ : State) (os : List Open) →
-        rule P p s ≡ ok s′ → Accepts P (m .frame .ensures) (suc (m .frame .row)) s′ os →
+        rule P p s ≡ ok s′ → Accepts P (m .frame .ensures) (suc (m .frame .row)) (some s′) os →
         Kept P m (took (simpleStep room P p m))
     unfolding rule simpleStep
     simple-kept (set x f y) c l s′ os a k = onward s′ os _ k (set-sound m s s′ x f y S a)
@@ -56,8 +58,6 @@ module _ (room : Room) (P : Program) (W : WellFormed P) (all : MethodsAccepted P
         onward s′ os _ k (new-sound room m s s′ x (getD (P .classes) d []) S frame-exists (W .classes d) l a)
     simple-kept (call x y n z) c l s′ os a k =
         call-sound P W all m (I .below) s S x y n z s′ os c l a k
-    simple-kept (return x) c l s′ os a k =
-        onward s′ os _ k (assign-sound m s s′ result-variable (var x) S (omega arith) a)
     simple-kept (assert φ) c l s′ os a k =
         let (u, b, q) = bind-ok (show s φ) a in
         onward s′ os _ k (subst (λ w. Goes m w (assertStep φ m)) (ok-inj q) (assert-sound m s S φ u b))
@@ -67,11 +67,14 @@ module _ (room : Room) (P : Program) (W : WellFormed P) (all : MethodsAccepted P
 
     row-kept :
         (os : List Open) (t : Stmt) → rowNumbered P (m .frame .row) .stmt ≡ t →
-        AcceptsAt P (m .frame .ensures) t (m .frame .row) s os → Kept P m (stepAt room P t m)
-    unfolding checkRow elseRow joinRow endRow stepAt ifStep elseStep joinRule
+        AcceptsAt P (m .frame .ensures) t (m .frame .row) (some s) os → Kept P m (stepAt room P t m)
+    unfolding checkRow reached elseRow joinRow endRow stepAt ifStep elseStep joinRule showEnd
     row-kept os (simple p) c k =
         let (s′, a, b) = atLine-accepted _ (rule P p s) _ _ k in
         simple-kept p c (subst StmtFormed c (W .rows (m .frame .row))) s′ os a b
+    row-kept os (return x) c k =
+        let (_, a, _) = atLine-accepted _ (returnRule x (m .frame .ensures) s) _ _ k in
+        return-sound P m s S x (I .once) (I .below) a
     row-kept os (if n a b) c k =
         let (d, i, j) = atLine-accepted _ (ifRule n a b s) _ _ k in
         if-sound P m s S n a b d os i j
@@ -81,23 +84,25 @@ module _ (room : Room) (P : Program) (W : WellFormed P) (all : MethodsAccepted P
     row-kept [] (join φ) c k = refused-accepted k
     row-kept (inFirst s₂ ∷ os) (join φ) c k = refused-accepted k
     row-kept (inSecond s₁ ∷ os) (join φ) c k =
-        let (s′, a, b) = atLine-accepted _ (joinRule φ s₁ s) _ _ k in
-        let (_, _, a₁) = bind-ok (show s₁ φ) a in
-        let (u, i, j) = bind-ok (show s φ) a₁ in
+        let (s′, a, b) = atLine-accepted _ (joinRule φ s₁ (some s)) _ _ k in
+        let (_, _, a₁) = bind-ok (showEnd φ s₁) a in
+        let (_, d, j) = bind-ok (showEnd φ (some s)) a₁ in
+        let (u, i, _) = bind-ok (show s φ) d in
         onward s′ os _ b (join-sound m s S φ u i s′ j)
     row-kept [] end c k =
-        let (u, a, b) = atLine-accepted _ (show s (m .frame .ensures)) _ _ k in
-        end-sound P m _ (show-sound (m .heap) (m .frame) s S (m .frame .ensures) u a) (I .once) (m .callers) refl (I .below)
+        let (_, d, _) = atLine-accepted _ (showEnd (m .frame .ensures) (some s)) _ _ k in
+        let (u, a, _) = bind-ok (show s (m .frame .ensures)) d in
+        end-sound P m m _ (show-sound (m .heap) (m .frame) s S (m .frame .ensures) u a) (I .once) (m .callers) refl (I .below)
     row-kept (o ∷ os) end c k = refused-accepted k
 
   ready-kept : Ready P (m .heap) (m .frame) → Kept P m (stepAt room P (rowNumbered P (m .frame .row) .stmt) m)
   unfolding stepAt footprint takeFrom
-  ready-kept (at-row s os S k) = row-kept s S os _ refl (accepts-row P _ (m .frame .row) s os k)
+  ready-kept (at-row s os S k) = row-kept s S os _ refl (accepts-row P _ (m .frame .row) (some s) os k)
   ready-kept (at-join φ s s′ u os j S a b k) =
       subst (λ t. Kept P m (stepAt room P t m)) (sym j) (onward s S s′ os _ k (join-sound m s S φ u a s′ b))
   ready-kept (at-nothing e f) =
       subst (λ t. Kept P m (stepAt room P t m)) (sym e)
-      (end-sound P m [] (ap (λ (φ : Formula ℕ). footprint (m .heap) (m .frame) φ) f) (I .once) (m .callers) refl (I .below))
+      (end-sound P m m [] (ap (λ (φ : Formula ℕ). footprint (m .heap) (m .frame) φ) f) (I .once) (m .callers) refl (I .below))
 
   pub step-keeps : Fine P (step room P m)
   unfolding step statementOf

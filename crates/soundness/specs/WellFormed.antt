@@ -33,12 +33,12 @@ SimpleFormed (assign x e) = first-local ≤ x
 SimpleFormed (compute o x y z) = first-local ≤ x
 SimpleFormed (new x c) = first-local ≤ x
 SimpleFormed (call x y m z) = (first-local ≤ x) × (x ≡ y → ⊥) × (x ≡ z → ⊥)
-SimpleFormed (return x) = Unit {0}
 SimpleFormed (assert φ) = Unit {0}
 SimpleFormed (release φ) = Unit {0}
 
 abbrev pub StmtFormed : Stmt → Type 0
 StmtFormed (simple p) = SimpleFormed p
+StmtFormed (return x) = Unit {0}
 StmtFormed (if n a b) = Unit {0}
 StmtFormed else = Unit {0}
 StmtFormed (join φ) = Unit {0}

@@ -29,7 +29,7 @@ module _ (w : List ℕ) (r : Operands) where
   unfolding stmtOf
   call-means k = rw k
 
-  pub return-means : r .kind ≡ 12 → stmtOf w r ≡ simple (return (r .x))
+  pub return-means : r .kind ≡ 12 → stmtOf w r ≡ return (r .x)
   unfolding stmtOf
   return-means k = rw k
 
@@ -65,25 +65,24 @@ module _ (w : List ℕ) (r : Operands) where
       one-of true e u = inl (eqb→eq (r .kind) 19 (subst T (sym e) tt))
       one-of false e u = inr (eqb→eq (r .kind) 20 u)
 
-  -- a row that opens and closes no branch
-  pub simple-or-end :
-      (r .kind ≡ 15 → ⊥) → (r .kind ≡ 16 → ⊥) → (r .kind ≡ 17 → ⊥) →
-      ((p : Simple) × (stmtOf w r ≡ simple p)) ⊎ (stmtOf w r ≡ end)
+  -- what holds of every statement that opens and closes no branch holds of a row of any other kind than `if`, `else`, `join`
+  pub no-branch :
+      (Q : Stmt → Type 0) → ((p : Simple) → Q (simple p)) → ((x : ℕ) → Q (return x)) → Q end →
+      (r .kind ≡ 15 → ⊥) → (r .kind ≡ 16 → ⊥) → (r .kind ≡ 17 → ⊥) → Q (stmtOf w r)
   unfolding stmtOf
-  simple-or-end a b d =
+  no-branch Q of-simple of-return of-end a b d =
       rw (ne-eqb (r .kind) 15 a, ne-eqb (r .kind) 16 b, ne-eqb (r .kind) 17 d)
-      (either (eqb (r .kind) 8) _
-      (either (eqb (r .kind) 9) _
-      (either (eqb (r .kind) 10) _
-      (either (eqb (r .kind) 11) _
-      (either (eqb (r .kind) 12) _
-      (either (eqb (r .kind) 13) _ (either (eqb (r .kind) 14) _ (either (isComputing (r .kind)) _ (inr refl)))))))))
+      (either (eqb (r .kind) 8) (of-simple _)
+      (either (eqb (r .kind) 9) (of-simple _)
+      (either (eqb (r .kind) 10) (of-simple _)
+      (either (eqb (r .kind) 11) (of-simple _)
+      (either (eqb (r .kind) 12) (of-return _)
+      (either (eqb (r .kind) 13) (of-simple _)
+      (either (eqb (r .kind) 14) (of-simple _) (either (isComputing (r .kind)) (of-simple _) of-end))))))))
     where
-      either :
-          (b : Bool) (p : Simple) {s : Stmt} → ((q : Simple) × (s ≡ simple q)) ⊎ (s ≡ end) →
-          ((q : Simple) × (cond b (simple p) s ≡ simple q)) ⊎ (cond b (simple p) s ≡ end)
-      either true p h = inl (p, refl)
-      either false p h = h
+      either : (b : Bool) {s t : Stmt} → Q s → Q t → Q (cond b s t)
+      either true p q = p
+      either false p q = q
 
   pub not-end : IsStatementNumber (r .kind) → (r .kind ≡ 18 → ⊥) → stmtOf w r ≡ end → ⊥
   unfolding stmtOf isComputing statementNumber

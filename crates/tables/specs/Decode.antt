@@ -124,7 +124,7 @@ stmtOf w r =
     (cond (eqb (r .kind) 9) (simple (assign (r .x) (rightAt w (r .first))))
     (cond (eqb (r .kind) 10) (simple (new (r .x) (r .member)))
     (cond (eqb (r .kind) 11) (simple (call (r .x) (r .y) (r .member) (r .z)))
-    (cond (eqb (r .kind) 12) (simple (return (r .x)))
+    (cond (eqb (r .kind) 12) (return (r .x))
     (cond (eqb (r .kind) 13) (simple (assert (formulaOf w r)))
     (cond (eqb (r .kind) 14) (simple (release (formulaOf w r)))
     (cond (eqb (r .kind) 15) (ifAt w (r .first))

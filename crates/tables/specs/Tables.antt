@@ -7,7 +7,7 @@ use Prim.Native.Nat.{ℕ, zero, suc, _+_, _≤_, _<_}
 use lib.Dec.{T, leb}
 use lib.ListN.{length, drop}
 use Rattle.rules.specs.Limits.{most-classes, most-fields, most-methods, most-statements, most-branches, most-atoms, work-bytes}
-use Rattle.rules.specs.Syntax.{Expr, num, null, var, path, Stmt, Row, simple, if, else, join, end}
+use Rattle.rules.specs.Syntax.{Expr, num, null, var, path, Stmt, Row, simple, return, if, else, join, end}
 use Rattle.rules.specs.Grammar.{IsStatementNumber}
 use Rattle.rules.specs.Machine.{closing}
 use Rattle.tables.specs.declared.Operands.{Operands}
@@ -75,6 +75,7 @@ pub record RowFits (w : List ℕ) (i : ℕ) : Type 0 where
 -- d branches are open, at most 4 at once, up to the block's `end`
 unfoldable pub nestedRow : Stmt → (ℕ → Bool) → ℕ → Bool
 nestedRow (simple p) k d = k d
+nestedRow (return x) k d = k d
 nestedRow (if n a b) k d = leb (suc d) most-branches && k (suc d)
 nestedRow else k d = leb 1 d && k d
 nestedRow (join φ) k zero = false

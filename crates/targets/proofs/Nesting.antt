@@ -6,7 +6,7 @@ use Prim.Native.Nat.{ℕ, zero, suc, _<_}
 use native.Mathlib.Omega.{arith}
 use lib.Dec.{T, ltb, leb, le→leb}
 use lib.ListN.{length, getD}
-use Rattle.rules.specs.Syntax.{Stmt, Row, simple, if, else, join, end, noRow}
+use Rattle.rules.specs.Syntax.{Stmt, Row, simple, return, if, else, join, end, noRow}
 use Rattle.rules.proofs.Lists.{and-both, and-intro}
 use Rattle.tables.specs.Tables.{nestedRow, nested}
 use Rattle.nesting.specs.Nests.{Wait, forElse, forJoin, rowNests, rowsNest}
@@ -17,6 +17,7 @@ row-nested :
     ((ws : List Wait) → T (k false ws) → T (l (length ws))) → T (rowNests s ws k) → T (nestedRow s l (length ws))
 unfolding rowNests nestedRow
 row-nested (simple p) ws k l h t = h ws t
+row-nested (return x) ws k l h t = h ws t
 row-nested (if n a b) ws k l h t =
     let (x, y) = and-both (ltb (length ws) 4) _ t in and-intro (leb (suc (length ws)) 4) _ x (h (forElse ∷ ws) y)
 row-nested else [] k l h t = absurd t
@@ -43,6 +44,7 @@ row-on :
     (b : Bool) × (ws′ : List Wait) × T (k b ws′) × (s ≡ end → (b ≡ true) × (ws′ ≡ [])) × ((s ≡ end → ⊥) → b ≡ false)
 unfolding rowNests
 row-on (simple p) ws k t = (false, ws, t, λ e. absurd (let z : _≡_ {A = ℕ} 0 1 = cc in omega arith), λ n. refl)
+row-on (return x) ws k t = (false, ws, t, λ e. absurd (let z : _≡_ {A = ℕ} 0 1 = cc in omega arith), λ n. refl)
 row-on (if n a b) ws k t =
     (false, forElse ∷ ws, and-both (ltb (length ws) 4) _ t .1, λ e. absurd (let z : _≡_ {A = ℕ} 0 1 = cc in omega arith), λ n. refl)
 row-on else [] k t = absurd t

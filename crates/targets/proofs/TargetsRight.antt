@@ -9,13 +9,13 @@ use native.Mathlib.Omega.{arith}
 use lib.Dec.{T, ltb, eqb, eqb→eq}
 use lib.ListN.{length, drop, drop-of-length-le}
 use native.Mathlib.Decide.{decLt}
-use Rattle.rules.specs.Syntax.{Simple, Stmt, Row, simple, else, join, end}
+use Rattle.rules.specs.Syntax.{Simple, Stmt, Row, simple, return, else, join, end}
 use Rattle.rules.specs.Machine.{depthAfter, closes, seek, closing}
 use Rattle.rules.proofs.Lists.{Member, at-head, further, head-or, decide-eq, and-both, T-true}
 use Rattle.tables.proofs.Bytes.{Outside, put-half-byte, half-put, put-half-length}
 use Rattle.tables.proofs.Runs.{run-length}
 use Rattle.tables.proofs.Rows.{rows-cons}
-use Rattle.tables.proofs.Statements.{if-means, else-means, join-means, simple-or-end}
+use Rattle.tables.proofs.Statements.{if-means, else-means, join-means, no-branch}
 use Rattle.tables.specs.Stores.{putHalf}
 use Rattle.tables.specs.Decode.{kindAt, targetAt, rowPlace, operandsAt, formulaAt, stmtAt, rowAt, rowsFrom}
 use Rattle.targets.proofs.Stacks.{open-at-if, open-at-else, open-at-join, open-elsewhere, work-at-else, work-at-join, work-elsewhere}
@@ -93,12 +93,12 @@ module _ (w : List ℕ) (rs : List Row) where
 -- a row that opens and closes no branch
 data Quiet : Stmt → Type 0 where
   is-simple : {p : Simple} → Quiet (simple p)
+  is-return : {x : ℕ} → Quiet (return x)
   is-end : Quiet end
 
 quiet-row :
     (w : List ℕ) (i : ℕ) → (kindAt w i ≡ 15 → ⊥) → (kindAt w i ≡ 16 → ⊥) → (kindAt w i ≡ 17 → ⊥) → Quiet (stmtAt w i)
-quiet-row w i a b d =
-    ⊎-elim (λ z. rw (z .1) is-simple) (λ e. rw e is-end) (simple-or-end w (operandsAt w i) a b d)
+quiet-row w i a b d = no-branch w (operandsAt w i) Quiet (λ p. is-simple) (λ x. is-return) is-end a b d
 
 -- STORES OF A TARGET
 module _ (w : List ℕ) (t v : ℕ) where
@@ -211,12 +211,14 @@ module _ (w₀ : List ℕ) (rs : List Row) (few : length rs ≤ 256) (row : (i :
   quiet-passes : (s : Stmt) → Quiet s → (l : ℕ) → Passes w₀ rs s (λ l. l) l
   unfolding depthAfter closes
   quiet-passes s is-simple l = record { depth = refl; no-close = λ t. absurd t; deeper = refl }
+  quiet-passes s is-return l = record { depth = refl; no-close = λ t. absurd t; deeper = refl }
   quiet-passes s is-end l = record { depth = refl; no-close = λ t. absurd t; deeper = refl }
 
   quiet-nests :
       (s : Stmt) (ws : List Wait) (k : Bool → List Wait → Bool) → Quiet s → T (rowNests s ws k) → (b : Bool) × T (k b ws)
   unfolding rowNests
   quiet-nests s ws k is-simple t = (false, t)
+  quiet-nests s ws k is-return t = (false, t)
   quiet-nests s [] k is-end t = (true, t)
   quiet-nests s (v ∷ ws) k is-end t = absurd t
 

@@ -66,9 +66,9 @@ loop-again c =
       omega arith,
       at-add-permission .ensures _ (at-loop .inv .1) .wf,
       at-loop .inv .2 ∙ permission-more (start .args .w .now) (start .args .c) (start
-          .args .x) (start .args .n) (at-loop .j) (at-loop-test .taken) (stateOf (start .args .key .now) (at-loop .b)) ∙ after-done _ _ _ _ (subst (λ (f :
+          .args .x) (start .args .n) (at-loop .j) (at-loop-test .taken) (stateOf (start .args .key .now) (at-loop .b)) ∙ after-done _ _ _ (subst (λ (f :
           ℕ). Adds (Rules.addPermission (record { variable = start .args .x; field = f }) (stateOf (start .args .key .now) (at-loop .b))) (at-add-permission
-          .result) (start .args .key .now) (at-add-permission .last .0)) (at-field-name-at .ensures .0) (at-add-permission .ensures _ (at-loop .inv .1))) _
+          .result) (start .args .key .now) (at-add-permission .last .0)) (at-field-name-at .ensures .0) (at-add-permission .ensures _ (at-loop .inv .1)) .same) _
           (c .enum-told .given .1),
     )
 

@@ -81,9 +81,9 @@ loop-again c =
       omega arith,
       at-add-fact .ensures .wf,
       at-loop .inv .2 ∙ initial-more (start .args .w .now) (start .args .c) (start .args .x) (start .args .n)
-          (at-loop .j) (at-loop-test .taken) (stateOf (at-loop .key) (at-loop .b)) ∙ after-done _ _ _ _ (adds-same _ _ (at-add-fact .result) _ _ (field-fact
+          (at-loop .j) (at-loop-test .taken) (stateOf (at-loop .key) (at-loop .b)) ∙ after-done _ _ _ (adds-same _ _ (at-add-fact .result) _ _ (field-fact
           _ _ _ _ _ (stateOf (at-loop .key) (at-loop .b)) (at-path-key .ensures .0 ∙ ap (λ (f : ℕ). path (start .args .x) f) (at-field-name-at .ensures .0))
-          (at-initial .ensures ∙ ap initialOf (at-field-kind-at .ensures .0))) (at-add-fact .ensures)) _ (c .enum-told .given .1),
+          (at-initial .ensures ∙ ap initialOf (at-field-kind-at .ensures .0))) (at-add-fact .ensures) .same) _ (c .enum-told .given .1),
     )
 
 returns-2 : tie.Need-returns-2 Inv-loop μ-loop

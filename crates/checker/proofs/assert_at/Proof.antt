@@ -2,7 +2,6 @@ use Rattle.check_statements.proofs.Ruled.{asserted}
 use Rattle.check_entailment.specs.Answers.{Adds}
 use Rattle.rules.specs.Answers.{Refusal}
 use Rattle.rules.specs.Base.{Try}
-use Rattle.check_statements.specs.Statements.{assertRule}
 use mathlib.Core.Path.{subst}
 use native.Mathlib.Omega.{arith}
 use Rattle.rules.specs.State as Rules
@@ -24,7 +23,7 @@ assert-rule-requires c κs =
     (start .pre .0 .size, omega (arith, start .pre .0 .row-fits (start .args .i) (start .pre .1) .operands .atoms .1, start .pre .0 .atoms, at-first-atom-at .ensures .0, c .atom-count-at .ensures .0), start .pre .2)
 
 returns : tie.Need-returns
-unfolding rule assertRule
+unfolding rule
 returns c =
     let start = c .before .before .before .before .before .before in
     let at-first-atom-at = c .before .before .before .before .first-atom-at in

@@ -17,16 +17,15 @@ returns : tie.Need-returns
 returns c =
     let start = c .before .before .before .before .before .before in
     let at-block = c .before .before .block in
-    (block-refused _ (start .pre .0) _ _ _ _ _ (at-block .ensures) _ _ (c .before .line-at .ensures .0) (c .match .keys2), at-block .ensures .wf)
+    (block-refused _ (start .pre .0) _ _ _ _ _ _ (at-block .ensures) _ (c .before .line-at .ensures .0) (c .match .keys2), at-block .ensures .wf)
 
 kind-at-requires : tie.Need-kind-at-requires
 kind-at-requires c κs = search needs
 
-assert-rule-requires : tie.Need-assert-rule-requires
-assert-rule-requires c κs =
+show-end-requires : tie.Need-show-end-requires
+show-end-requires c κs =
     let start = c .before .before .before .before .before .before .before .before .before .before .before in
-    let at-block = c .before .before .before .before .before .before .before .block in
-    (start .pre .0 .size, start .pre .3, at-block .ensures .wf)
+    (start .pre .0 .size, start .pre .3, c .before .before .before .before .before .before .before .block .ensures .wf)
 
 ended-requires : tie.Need-ended-requires
 ended-requires c κs = search needs
@@ -39,15 +38,13 @@ returns-2 c =
     let at-enum-told = c .before .before .before .before .before .before .enum-told in
     let at-kind-at = c .before .before .before .before .before .kind-at in
     let at-if1 = c .before .before .before .before .if1 in
-    (c .ended .ensures ∙ block-ended _ (start .pre .0) _ _ _ _ _ (at-block .ensures) _ _ (at-line-at .ensures .0) (at-enum-told .given .1) (sym (at-kind-at .ensures) ∙ at-if1 .taken) _ (c .before .assert-rule .ensures), at-block .ensures .wf)
+    (c .ended .ensures ∙ block-ended _ (start .pre .0) _ _ _ _ _ _ (at-block .ensures) _ (at-line-at .ensures .0) (at-enum-told .given .1) (sym (at-kind-at .ensures) ∙ at-if1 .taken) _ (c .before .show-end .ensures), at-block .ensures .wf)
 
 returns-3 : tie.Need-returns-3
 returns-3 c =
     let start = c .before .before .before .before .before .before .before .before .before in
     let at-block = c .before .before .before .before .before .block in
-    let at-line-at = c .before .before .before .before .line-at in
-    let at-enum-told = c .before .before .enum-told in
-    (block-open _ (start .pre .0) _ _ _ _ _ (at-block .ensures) _ _ (at-line-at .ensures .0) (at-enum-told .given .1) (λ e. c .if1 .left (c .before .kind-at .ensures ∙ e)), at-block .ensures .wf)
+    (block-open _ (start .pre .0) _ _ _ _ _ _ (at-block .ensures) _ (c .before .before .before .before .line-at .ensures .0) (c .before .before .enum-told .given .1) (λ e. c .if1 .left (c .before .kind-at .ensures ∙ e)), at-block .ensures .wf)
 
 pub check-block-spec : {M : Type 1} → statement M
 check-block-spec =
@@ -58,7 +55,7 @@ check-block-spec =
     enum-told
     returns
     kind-at-requires
-    assert-rule-requires
+    show-end-requires
     ended-requires
     returns-2
     returns-3)

@@ -25,7 +25,7 @@ returns : tie.Need-returns
 returns c =
     let at-first-atom-at = c .before .before .before .before .first-atom-at in
     let at-atom-count-at = c .before .before .before .atom-count-at in
-    subst (λ (t : Try Refusal Rules.State). Adds t (c .join-rule .result) (c .join-rule .last .1 .1 .1 .0) (c .join-rule .last .1 .1 .1 .1 .0)) (rw (at-first-atom-at .ensures .0, at-atom-count-at .ensures .0)) (c .join-rule .ensures)
+    subst (λ (t : Try Refusal Rules.State). Adds t (c .join-rule .result) (c .join-rule .last .1 .1 .1 .1 .0) (c .join-rule .last .1 .1 .1 .1 .1 .0)) (rw (at-first-atom-at .ensures .0, at-atom-count-at .ensures .0)) (c .join-rule .ensures)
 
 pub join-at-spec : {M : Type 1} → statement M
 join-at-spec =

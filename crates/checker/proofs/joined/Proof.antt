@@ -20,14 +20,31 @@ join-at-requires : tie.Need-join-at-requires
 join-at-requires c κs =
     (c .before .before .before .before .before .before .before .pre .0, c .before .before .before .before .before .before .before .pre .1 .within, c .before .before .before .before .before .before .before .pre .2, c .before .before .before .before .before .before .before .pre .3)
 
+stopped-requires : tie.Need-stopped-requires
+stopped-requires c κs = tt
+
 returns-2 : tie.Need-returns-2
 returns-2 c =
-    joined-join _ (c .before .before .before .before .before .before .before .before .pre .0) _ (c .before .before .before .before .before .before .before .before .pre .1) _ _ (c .before .before .before .before .before .enum-told .given .1) (sym (c .before .before .before .before .kind-at .ensures) ∙ c .before .before .before .if1 .taken) _ _ _ (c .join-at .ensures)
+    let start = c .before .before .before .before .before .before .before .before .before in
+    joined-join _ (start .pre .0) _ (start .pre .1) _ _ (c .before .before .before .before .before .before .enum-told .given .1) (sym (c .before .before .before .before .before .kind-at .ensures) ∙ c .before .before .before .before .if1 .taken) _ _ _ (c .before .join-at .ensures) _ (c .stopped .ensures)
+
+stopped-requires-2 : tie.Need-stopped-requires-2
+stopped-requires-2 c κs = tt
 
 returns-3 : tie.Need-returns-3
 returns-3 c =
-    joined-wrong _ (c .before .before .before .before .before .pre .0) _ (c .before .before .before .before .before .pre .1) _ _ (c .before .before .enum-told .given .1) (λ e. c .if1 .left (c .before .kind-at .ensures ∙ e)) _ _ (c .before .before .before .before .before .pre .2)
+    let start = c .before .before .before .before .before .before in
+    joined-wrong _ (start .pre .0) _ (start .pre .1) _ _ (c .before .before .before .enum-told .given .1) (λ e. c .before .if1 .left (c .before .before .kind-at .ensures ∙ e)) _ _ (start .pre .2) _ (c .stopped2 .ensures)
 
 pub joined-spec : {M : Type 1} → statement M
 joined-spec =
-    tie.close (tie.spec enum-told returns kind-at-requires join-at-requires returns-2 returns-3)
+    tie.close
+    (tie.spec
+    enum-told
+    returns
+    kind-at-requires
+    join-at-requires
+    stopped-requires
+    returns-2
+    stopped-requires-2
+    returns-3)

@@ -1,8 +1,6 @@
-use Rattle.checker.proofs.Stepping.{is-computing, no-kind}
-use Rattle.tables.proofs.Statements.{set-means, let-means, new-means, call-means, return-means, assert-means, release-means, compute-means}
-use Rattle.rules.specs.Base.{is}
+use Rattle.checker.proofs.Stepping.{no-kind, computes}
+use Rattle.tables.proofs.Statements.{set-means, let-means, new-means, call-means, compute-means, assert-means, release-means}
 use mathlib.Core.Path.{sym, _∙_}
-use mathlib.Core.Logic.{inl, inr}
 use native.Mathlib.Omega.{arith}
 use borrow.Author.Needs.{needs}
 use Rattle.checker.proofs.statement.Statement.{statement}
@@ -36,10 +34,6 @@ call-at-requires c κs =
     let at-match = c .before .before .match in
     (start .pre .0, start .pre .1, sym (at-kind-at .ensures) ∙ at-match .keys4, start .pre .3)
 
-return-at-requires : tie.Need-return-at-requires
-return-at-requires c κs =
-    (c .before .before .before .before .before .pre .0, c .before .before .before .before .before .pre .1, c .before .before .before .before .before .pre .3)
-
 assert-at-requires : tie.Need-assert-at-requires
 assert-at-requires c κs =
     (c .before .before .before .before .before .pre .0, c .before .before .before .before .before .pre .1, c .before .before .before .before .before .pre .3)
@@ -47,12 +41,6 @@ assert-at-requires c κs =
 release-at-requires : tie.Need-release-at-requires
 release-at-requires c κs =
     (c .before .before .before .before .before .pre .0, c .before .before .before .before .before .pre .1, c .before .before .before .before .before .pre .3)
-
-compute-at-requires : tie.Need-compute-at-requires
-compute-at-requires c κs = (c .before .before .before .before .before .pre .0, c .before .before .before .before .before .pre .1, c .before .before .before .before .before .pre .3)
-
-compute-at-requires-2 : tie.Need-compute-at-requires-2
-compute-at-requires-2 c κs = (c .before .before .before .before .before .pre .0, c .before .before .before .before .before .pre .1, c .before .before .before .before .before .pre .3)
 
 returns : tie.Need-returns
 returns c =
@@ -79,45 +67,32 @@ returns-4 c =
     record { statement = _; is = call-means _ _ (sym (at-kind-at .ensures) ∙ at-match .keys4); adds = c .call-at .ensures }
 
 returns-5 : tie.Need-returns-5
-returns-5 c =
-    let at-kind-at = c .before .before .before .before .kind-at in
-    let at-match = c .before .before .before .match in
-    record { statement = _; is = return-means _ _ (sym (at-kind-at .ensures) ∙ at-match .keys5); adds = c .return-at .ensures }
+returns-5 c = record { statement = _; is = assert-means _ _ (sym (c .before .before .before .before .kind-at .ensures) ∙ c .before .before .before .match .keys5); adds = c .assert-at .ensures }
 
 returns-6 : tie.Need-returns-6
-returns-6 c =
-    let at-kind-at = c .before .before .before .before .kind-at in
-    let at-match = c .before .before .before .match in
-    record { statement = _; is = assert-means _ _ (sym (at-kind-at .ensures) ∙ at-match .keys6); adds = c .assert-at .ensures }
+returns-6 c = record { statement = _; is = release-means _ _ (sym (c .before .before .before .before .kind-at .ensures) ∙ c .before .before .before .match .keys6); adds = c .release-at .ensures }
+
+compute-at-requires : tie.Need-compute-at-requires
+compute-at-requires c κs = let start = c .before .before .before .before .before .before .before in (start .pre .0, start .pre .1, start .pre .3)
 
 returns-7 : tie.Need-returns-7
 returns-7 c =
-    let at-kind-at = c .before .before .before .before .kind-at in
-    let at-match = c .before .before .before .match in
-    record { statement = _; is = release-means _ _ (sym (at-kind-at .ensures) ∙ at-match .keys7); adds = c .release-at .ensures }
+    record { statement = _; is = compute-means _ _ (computes _ _ (c .before .before .before .before .before .before .kind-at .ensures) (c .before .before .before .before .if1 .left) (c .before .before .before .if2 .taken)); adds = c .compute-at .ensures }
 
 returns-8 : tie.Need-returns-8
-returns-8 c = record { statement = _; is = compute-means _ _ (is-computing (inl (sym (c .before .before .before .before .kind-at .ensures) ∙ c .before .before .before .match .keys8))); adds = c .compute-at .ensures }
+returns-8 c =
+    let start = c .before .before .before .before in
+    let is = c .before .before .kind-at .ensures in
+    let other = c .before .match .rest in
+    absurd
+    (no-kind _ (start .pre .0 .row-fits (start .args .i) (start .pre .1) .operands .kind) (start .pre .2) (λ e. other .0 .0 .0 .0 .0 .1 (is ∙ e))
+    (λ e. other .0 .0 .0 .0 .1 (is ∙ e)) (λ e. other .0 .0 .0 .1 (is ∙ e)) (λ e. other .0 .0 .1 (is ∙ e)) (λ e. other .0 .1 (is ∙ e))
+    (λ e. other .1 (is ∙ e)) (omega (arith, is, c .if1 .taken)))
 
 returns-9 : tie.Need-returns-9
-returns-9 c = record { statement = _; is = compute-means _ _ (is-computing (inr (sym (c .before .before .before .before .kind-at .ensures) ∙ c .before .before .before .match .keys9))); adds = c .compute-at2 .ensures }
-
-returns-10 : tie.Need-returns-10
-returns-10 c =
-    let start = c .before .before .before .before in
-    let at-kind-at = c .before .before .kind-at in
-    absurd (omega (arith, start .pre .0 .row-fits (start .args .i) (start .pre .1) .operands .kind .0, at-kind-at .ensures, c .if1 .taken))
-
-returns-11 : tie.Need-returns-11
-returns-11 c =
-    let start = c .before .before .before .before in
-    let at-kind-at = c .before .before .kind-at in
-    let other = c .before .match .rest in
-    let fit = start .pre .0 .row-fits (start .args .i) (start .pre .1) .operands .kind in
-    absurd
-    (no-kind _ (rw (at-kind-at .ensures) fit) (rw (at-kind-at .ensures) (start .pre .2)) (other .0 .0 .0 .0 .0 .0 .0 .0 .1)
-    (other .0 .0 .0 .0 .0 .0 .0 .1) (other .0 .0 .0 .0 .0 .0 .1) (other .0 .0 .0 .0 .0 .1) (other .0 .0 .0 .0 .1) (other .0 .0 .0 .1)
-    (other .0 .0 .1) (other .0 .1) (other .1))
+returns-9 c =
+    let start = c .before .before .before .before .before in
+    absurd (omega (arith, start .pre .0 .row-fits (start .args .i) (start .pre .1) .operands .kind .1, c .before .before .before .kind-at .ensures, c .if2 .left))
 
 pub statement-spec : {M : Type 1} → statement M
 statement-spec =
@@ -128,11 +103,9 @@ statement-spec =
     let-at-requires
     new-at-requires
     call-at-requires
-    return-at-requires
     assert-at-requires
     release-at-requires
     compute-at-requires
-    compute-at-requires-2
     returns
     returns-2
     returns-3
@@ -141,6 +114,4 @@ statement-spec =
     returns-6
     returns-7
     returns-8
-    returns-9
-    returns-10
-    returns-11)
+    returns-9)

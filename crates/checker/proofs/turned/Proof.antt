@@ -19,9 +19,13 @@ returns-2 : tie.Need-returns-2
 returns-2 c =
     turned-else _ (c .before .before .before .before .before .pre .0) _ (c .before .before .before .before .before .pre .1) (c .before .before .enum-told .given .1) (sym (c .before .kind-at .ensures) ∙ c .if1 .taken)
 
+stopped-requires : tie.Need-stopped-requires
+stopped-requires c κs = tt
+
 returns-3 : tie.Need-returns-3
 returns-3 c =
-    turned-wrong _ (c .before .before .before .before .before .pre .0) _ (c .before .before .before .before .before .pre .1) (c .before .before .enum-told .given .1) (λ e. c .if1 .left (c .before .kind-at .ensures ∙ e))
+    let start = c .before .before .before .before .before .before in
+    turned-wrong _ (start .pre .0) _ (start .pre .1) (c .before .before .before .enum-told .given .1) (λ e. c .before .if1 .left (c .before .before .kind-at .ensures ∙ e)) _ (c .stopped .ensures)
 
 pub turned-spec : {M : Type 1} → statement M
-turned-spec = tie.close (tie.spec enum-told returns kind-at-requires returns-2 returns-3)
+turned-spec = tie.close (tie.spec enum-told returns kind-at-requires returns-2 stopped-requires returns-3)

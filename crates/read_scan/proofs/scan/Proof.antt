@@ -5,6 +5,7 @@ use borrow.Author.Needs.{needs}
 use mathlib.Core.Path.{_≡_, refl, sym, ap, _∙_}
 use Prim.Native.Nat.{_≤_, _-_}
 use lib.ListN.{length}
+use Rattle.rules.specs.Places.{stageNumber}
 use Rattle.read_scan.specs.Scans.{lineAnswer}
 use Rattle.read_fields.proofs.Cuts.{byte-in, clean-line}
 use Rattle.read_scan.proofs.Scans.{Passed, pass-start, pass-on, pass-stop, pass-done, pass-ends}
@@ -84,6 +85,7 @@ same-length-2 : tie.Need-same-length-2 Inv-loop μ-loop
 same-length-2 c = c .before .before .before .loop .inv .3
 
 returns-2 : tie.Need-returns-2 Inv-loop μ-loop
+unfolding stageNumber
 returns-2 c =
     let inv = c .before .before .before .loop .inv in
     let h = c .before .before .loop-test .left in
@@ -93,6 +95,7 @@ same-length-3 : tie.Need-same-length-3 Inv-loop μ-loop
 same-length-3 c = c .before .before .before .loop .inv .3
 
 returns-3 : tie.Need-returns-3 Inv-loop μ-loop
+unfolding stageNumber
 returns-3 c =
     let inv = c .before .before .before .loop .inv in
     (pass-ends (inv .1) (c .before .before .loop-test .left) (c .if1 .left), tt, inv .3)
