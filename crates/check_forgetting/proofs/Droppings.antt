@@ -6,9 +6,9 @@ use mathlib.Core.List.{List, [], _∷_, _++_, map}
 use mathlib.Core.Option.{Option, none, some}
 use Prim.Native.Nat.{ℕ, zero, suc, _<_}
 use native.Mathlib.Omega.{arith}
-use lib.Dec.{T, eqb, eqb-refl, eqb→eq}
+use lib.Dec.{eqb, eqb-refl}
 use lib.ListN.{getD}
-use borrow.Author.Tests.{eq-eqb, ne-eqb}
+use borrow.Author.Tests.{ne-eqb}
 use Rattle.rules.specs.Base.{first, any, keep, bindOption, mapOption}
 use Rattle.rules.specs.Syntax.{num, null, var, path, same}
 use Rattle.rules.specs.State.{Term, Permission, Shown, State, Renaming, becomes, renameFacts, factsWithout, isLeft, pathOf, lists, unlisted, withoutPaths, renameVariable, renameTerm, renamePermission, renamePermissions}
@@ -220,10 +220,6 @@ lists-number (g ∷ gs) n = lists-number gs n
 and-false : (b : Bool) → (b && false) ≡ false
 and-false true = refl
 and-false false = refl
-
-and-true : (b : Bool) → (b && true) ≡ b
-and-true true = refl
-and-true false = refl
 
 pub lists-unlisted : (ks us : List Permission) (t : Term) → lists (unlisted ks us) t ≡ (lists us t && not (lists ks t))
 unfolding unlisted keep lists any

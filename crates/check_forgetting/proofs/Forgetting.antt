@@ -12,7 +12,7 @@ use lib.ListN.{length, getD, set, replicate, length-set}
 use lib.Seq.{getD-set-same, getD-set-other, set-getD}
 use borrow.Author.Tests.{eqb-true}
 use Rattle.rules.specs.Base.{any, keep, mapOption, bindOption}
-use Rattle.rules.specs.State.{Term, Fact, Renaming, trivial, renameFact, renameFacts, renameTerm}
+use Rattle.rules.specs.State.{Term, Fact, Renaming, trivial, renameFact, renameFacts}
 use Rattle.rules.proofs.Lists.{decide-eq}
 use Rattle.check_equality.specs.Keys.{termOf}
 use Rattle.check_equality.specs.Listing.{listed}
@@ -27,7 +27,6 @@ use Rattle.check_state.proofs.Entries.{no-flags}
 use Rattle.check_inequality.proofs.Searches.{or-none-left, or-none-right, ne-is}
 use Rattle.check_forgetting.specs.Changes.{Fresh, Dropped, RenamedKeys, Stands, Sized, Unchanged, Rebuilt, renamedKey, sameSides, trivialAt}
 use Rattle.check_forgetting.proofs.Keeping.{kinds-same, counted-linked, counted-facts, counted-other}
-use Rattle.check_forgetting.proofs.Renaming.{renamed-term}
 
 -- SIDES DROPPED
 pub dropped-more :

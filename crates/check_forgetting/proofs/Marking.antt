@@ -5,14 +5,12 @@ use mathlib.Core.List.{List, [], _∷_}
 use mathlib.Core.Logic.{⊎-elim}
 use Prim.Native.Nat.{ℕ, zero, suc, _+_, _<_}
 use native.Mathlib.Omega.{arith}
-use lib.ListN.{length, getD, set, length-set}
-use lib.Seq.{getD-set-same, getD-set-other}
+use lib.ListN.{getD}
 use Rattle.rules.specs.Base.{any}
 use Rattle.rules.specs.Syntax as Syntax
 use Rattle.rules.specs.Syntax.{path}
 use Rattle.rules.proofs.Closure.{same→≡}
 use Rattle.rules.proofs.Lists.{decide-eq}
-use Rattle.check_equality.specs.Layout.{mark-count}
 use Rattle.check_equality.specs.Keys.{termOf, keyOf}
 use Rattle.check_equality.specs.Links.{placeOf}
 use Rattle.check_equality.specs.Listing.{listed}

@@ -1,15 +1,14 @@
 -- The searches one after the other are the search for a successor.
-use mathlib.Core.Path.{_≡_, refl, sym, ap, ap₂, _∙_, subst}
+use mathlib.Core.Path.{_≡_, refl, sym, ap, _∙_}
 use mathlib.Core.Bool.{Bool, true, false, cond, not, _&&_}
 use mathlib.Core.List.{List, [], _∷_, _++_, map}
 use mathlib.Core.Option.{Option, none, some}
 use Prim.Native.Nat.{ℕ, zero, suc, _+_, _*_, _-_, _≤_, _<_}
 use native.Mathlib.Omega.{arith}
-use lib.Dec.{eqb, ltb}
 use lib.ListN.{getD}
 use borrow.Author.Tests.{lt-ltb, le-ltb}
 use Rattle.rules.specs.Base.{first, bindOption}
-use Rattle.rules.specs.Syntax.{num, null, var, path}
+use Rattle.rules.specs.Syntax.{num, null, var}
 use Rattle.rules.specs.State as Rules
 use Rattle.rules.specs.State.{Term, Fact, Permission, Renaming, Equality, isLeft, pathOf, numbers, termsOf, rising, inOrder, variables, equalIn, equalBy, representative}
 use Rattle.rules.proofs.Rising.{least, first-rising}
@@ -17,8 +16,8 @@ use Rattle.check_equality.specs.Keys.{termOf}
 use Rattle.check_equality.proofs.Keys.{of-number}
 use Rattle.check_equality.specs.Listing.{listed}
 use Rattle.check_equality.proofs.Listing.{first-append, first-stays, first-here, first-found}
-use Rattle.check_state.specs.States.{Wf, variableAt, fieldAt, factAt, factsIn, factsOf, facts, entries, stateOf}
-use Rattle.check_state.specs.Questions.{Slots, FirstPlace, places, standsFor}
+use Rattle.check_state.specs.States.{Wf, factAt, factsIn, factsOf, facts, entries, stateOf}
+use Rattle.check_state.specs.Questions.{Slots, FirstPlace, standsFor}
 use Rattle.check_state.proofs.Entries.{first-none}
 use Rattle.check_successors.specs.Successors.{Drops, pathTest, entryPathTest, pathAtEntry, numberOr, sideTerms}
 

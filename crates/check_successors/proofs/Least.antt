@@ -8,7 +8,7 @@ use native.Mathlib.Omega.{arith}
 use lib.Dec.{eqb, ltb, leb}
 use lib.ListN.{getD}
 use mathlib.Core.Logic.{inl}
-use borrow.Author.Tests.{ltb-true, ltb-false, leb-true, leb-false, lt-ltb, le-ltb, le-leb, lt-leb}
+use borrow.Author.Tests.{ltb-true, ltb-false, leb-true, leb-false, lt-ltb, le-ltb, lt-leb}
 use Rattle.rules.specs.Syntax.{offset, num, null, var, path}
 use Rattle.rules.specs.State.{Term, Fact, numbers, representative, equalBy}
 use Rattle.rules.proofs.Rising.{lower, least}

@@ -16,7 +16,7 @@ use Rattle.rules.proofs.Closure.{same→≡}
 use Rattle.rules.proofs.Lists.{decide-eq}
 use Rattle.check_equality.specs.Layout.{left-sides, mark-count}
 use Rattle.check_equality.specs.Keys.{termOf}
-use Rattle.check_equality.specs.Links.{Header, Labelled, HasLabel, Missing, Together, Decides, placeOf}
+use Rattle.check_equality.specs.Links.{Labelled, Together, Decides, placeOf}
 use Rattle.check_equality.proofs.Keys.{one-key}
 use Rattle.check_state.specs.Questions.{Slots}
 use Rattle.check_successors.specs.Successors.{Marks, MarksLike}

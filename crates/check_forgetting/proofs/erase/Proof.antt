@@ -31,14 +31,20 @@ entries-of-requires c κs = search needs
 
 forget-requires : tie.Need-forget-requires
 forget-requires c κs =
-    (c .before .before .before .before .before .before .before .before .before .before .before .pre, c .before .before .before .before .before .before .before .drop-variable .ensures .size, dropped-unchanged _ _ _ _ _ (c .before .before .before .before .before .before .before .before .before .before .before .pre) (c .before .before .before .before .before .before .before .drop-variable .ensures))
+    let start = c .before .before .before .before .before .before .before .before .before .before .before in
+    let at-drop-variable = c .before .before .before .before .before .before .before .drop-variable in
+    (start .pre, at-drop-variable .ensures .size, dropped-unchanged _ _ _ _ _ (start .pre) (at-drop-variable .ensures))
 
 pack-requires : tie.Need-pack-requires
 pack-requires c κs = (c .before .before .forget .ensures .wf .fit, c .before .before .forget .ensures .wf .linked .size)
 
 returns : tie.Need-returns
 returns c =
-    erase-law _ _ _ (omega arith) (c .before .before .before .before .before .before .before .before .before .before .before .before .before .before .before .pre) _ (c .before .before .before .before .before .before .before .before .entries-of .ensures) _ _ _ _ _ (c .before .before .before .before .before .before .before .before .before .before .before .drop-variable .ensures) (c .before .before .before .forget .ensures) (c .pack .ensures)
+    let start = c .before .before .before .before .before .before .before .before .before .before .before .before .before .before .before in
+    let at-drop-variable = c .before .before .before .before .before .before .before .before .before .before .before .drop-variable in
+    let at-entries-of = c .before .before .before .before .before .before .before .before .entries-of in
+    let at-forget = c .before .before .before .forget in
+    erase-law _ _ _ (omega arith) (start .pre) _ (at-entries-of .ensures) _ _ _ _ _ (at-drop-variable .ensures) (at-forget .ensures) (c .pack .ensures)
 
 pub erase-spec : {M : Type 1} → statement M
 erase-spec =

@@ -30,11 +30,16 @@ entries-at-requires c κs = search needs
 
 forget-requires : tie.Need-forget-requires
 forget-requires c κs =
-    (c .before .before .before .before .before .before .before .before .before .before .before .pre .0, c .before .before .before .before .before .before .before .drop-path .ensures .size, dropped-unchanged _ _ _ _ _ (c .before .before .before .before .before .before .before .before .before .before .before .pre .0) (c .before .before .before .before .before .before .before .drop-path .ensures))
+    let start = c .before .before .before .before .before .before .before .before .before .before .before in
+    let at-drop-path = c .before .before .before .before .before .before .before .drop-path in
+    (start .pre .0, at-drop-path .ensures .size, dropped-unchanged _ _ _ _ _ (start .pre .0) (at-drop-path .ensures))
 
 returns : tie.Need-returns
 returns c =
-    path-law _ _ _ _ _ _ _ (c .before .before .before .before .before .before .before .before .before .before .before .before .args .i) _ (c .before .before .before .before .before .before .before .before .before .before .before .before .pre .0) (c .before .before .before .before .before .before .before .before .before .before .before .before .pre .2) (c .before .before .before .before .before .before .before .before .drop-path .ensures) (c .before .before .before .before .before .entries-at .ensures) (c .forget .ensures)
+    let start = c .before .before .before .before .before .before .before .before .before .before .before .before in
+    let at-drop-path = c .before .before .before .before .before .before .before .before .drop-path in
+    let at-entries-at = c .before .before .before .before .before .entries-at in
+    path-law _ _ _ _ _ _ _ (start .args .i) _ (start .pre .0) (start .pre .2) (at-drop-path .ensures) (at-entries-at .ensures) (c .forget .ensures)
 
 pub without-path-spec : {M : Type 1} → statement M
 without-path-spec =

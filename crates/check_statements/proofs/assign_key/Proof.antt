@@ -25,7 +25,12 @@ add-equal-requires c κs = search needs
 
 returns-2 : tie.Need-returns-2
 returns-2 c =
-    adds-same _ _ _ _ _ (rw (c .before .before .before .before .before .before .removed .ensures, c .before .before .before .remove-to .ensures .same, c .before .before .before .before .before .before .before .before .before .stand-in .ensures) (sym (assign-other _ _ _ _ (c .before .before .before .before .before .before .before .before .before .before .before .before .before .variable-key .ensures .0) (c .before .before .before .before .before .before .before .before .before .before .before .before .if1 .left)))) (c .add-equal .ensures)
+    let at-variable-key = c .before .before .before .before .before .before .before .before .before .before .before .before .before .variable-key in
+    let at-if1 = c .before .before .before .before .before .before .before .before .before .before .before .before .if1 in
+    let at-stand-in = c .before .before .before .before .before .before .before .before .before .stand-in in
+    let at-removed = c .before .before .before .before .before .before .removed in
+    let at-remove-to = c .before .before .before .remove-to in
+    adds-same _ _ _ _ _ (rw (at-removed .ensures, at-remove-to .ensures .same, at-stand-in .ensures) (sym (assign-other _ _ _ _ (at-variable-key .ensures .0) (at-if1 .left)))) (c .add-equal .ensures)
 
 pub assign-key-spec : {M : Type 1} → statement M
 assign-key-spec =

@@ -1,12 +1,11 @@
-use Prim.Native.Nat.{ℕ, suc, _+_, _-_, _≤_}
+use Prim.Native.Nat.{_-_, _≤_}
 use native.Mathlib.Omega.{arith}
 use native.Mathlib.Numerals.{add-one}
 use mathlib.Core.Path.{_≡_, ap, _∙_}
 use Rattle.rules.specs.Syntax.{num}
-use Rattle.rules.specs.State.{numbers, equalBy, representative}
+use Rattle.rules.specs.State.{numbers}
 use Rattle.rules.proofs.Rising.{least}
 use Rattle.check_equality.specs.Keys.{termOf}
-use Rattle.check_equality.specs.Listing.{listed}
 use Rattle.check_state.specs.Questions.{Told}
 use Rattle.check_successors.specs.Successors.{numberOr, sideTerms}
 use Rattle.check_successors.proofs.Least.{none-yet, slot-on}

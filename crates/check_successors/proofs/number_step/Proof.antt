@@ -1,8 +1,6 @@
 use Rattle.check_successors.specs.Successors.{withSlot}
-use Rattle.check_inequality.specs.Ways.{numberLike}
 use Rattle.check_successors.proofs.Least.{like-number}
-use mathlib.Core.Path.{_≡_, sym, _∙_}
-use native.Mathlib.Omega.{arith}
+use mathlib.Core.Path.{sym, _∙_}
 use borrow.Author.Needs.{needs}
 use Rattle.check_successors.proofs.number_step.Statement.{statement}
 use Rattle.check_successors.proofs.number_step.Tie as tie

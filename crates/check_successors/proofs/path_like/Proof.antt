@@ -1,6 +1,5 @@
 use Rattle.check_equality.proofs.Labels.{alike}
 use Rattle.check_equality.specs.Keys.{termOf}
-use Rattle.check_equality.specs.Links.{placeOf}
 use Rattle.rules.specs.State.{Term, representative, equalBy}
 use Rattle.check_successors.specs.Successors.{pathTest}
 use Rattle.check_successors.proofs.Marking.{unmarked-apart}
@@ -31,10 +30,15 @@ returns-2 : tie.Need-returns-2
 unfolding pathTest
 returns-2 c =
     λ fs D.
-    rw (c .before .before .before .before .if1 .left)
+    let at-if1 = c .before .before .before .before .if1 in
+    let start = c .before .before .before .before .before in
+    let at-path-key = c .before .before .before .path-key in
+    let at-place = c .before .before .place in
+    rw (at-if1 .left)
     (sym
-    (ap (λ (t : Term). equalBy (representative fs) t (termOf (c .before .before .before .before .before .args .t))) (sym (c .before .before .before .path-key .ensures .0))
-    ∙ unmarked-apart (c .before .before .before .before .before .pre .0) D _ _ (c .before .before .before .before .before .pre .1) _ (c .before .before .before .before .before .pre .2) _ (omega (arith, c .before .before .before .path-key .ensures .1)) (ap (λ (p : ℕ). getD (c .before .before .before .before .before .args .marks .now) p false) (sym (c .before .before .place .ensures .0)) ∙ not-true _ (c .if2 .taken))))
+    (ap (λ (t : Term). equalBy (representative fs) t (termOf (start .args .t))) (sym (at-path-key .ensures .0))
+    ∙ unmarked-apart (start .pre .0) D _ _ (start .pre .1) _ (start .pre .2) _ (omega (arith, at-path-key .ensures .1)) (ap (λ (p : ℕ). getD
+    (start .args .marks .now) p false) (sym (at-place .ensures .0)) ∙ not-true _ (c .if2 .taken))))
 
 label-of-requires : tie.Need-label-of-requires
 label-of-requires c κs = search needs
@@ -46,9 +50,12 @@ returns-3 : tie.Need-returns-3
 unfolding pathTest
 returns-3 c =
     λ fs D.
-    rw (c .before .before .before .before .before .before .if1 .left)
-    (c .alike .ensures ∙ sym (alike D (c .before .before .before .before .before .before .before .pre .0 .most) _ _ _ _ (c .before .label-of .ensures) (c .before .before .before .before .before .before .before .pre .1))
-    ∙ ap (λ (t : Term). equalBy (representative fs) t (termOf (c .before .before .before .before .before .before .before .args .t))) (c .before .before .before .before .before .path-key .ensures .0))
+    let at-if1 = c .before .before .before .before .before .before .if1 in
+    let start = c .before .before .before .before .before .before .before in
+    let at-path-key = c .before .before .before .before .before .path-key in
+    rw (at-if1 .left)
+    (c .alike .ensures ∙ sym (alike D (start .pre .0 .most) _ _ _ _ (c .before .label-of .ensures) (start .pre .1))
+    ∙ ap (λ (t : Term). equalBy (representative fs) t (termOf (start .args .t))) (at-path-key .ensures .0))
 
 pub path-like-spec : {M : Type 1} → statement M
 path-like-spec =

@@ -1,12 +1,8 @@
 use borrow.Author.Needs.{needs}
 use native.Mathlib.Omega.{arith}
-use mathlib.Core.Path.{_≡_, sym, ap, _∙_}
-use mathlib.Core.List.{List}
+use mathlib.Core.Path.{sym, ap, _∙_}
 use mathlib.Core.Option.{some}
-use Rattle.rules.specs.State.{Term, numbers}
-use Rattle.rules.proofs.Rising.{least}
 use Rattle.check_equality.proofs.Keys.{of-null}
-use Rattle.check_state.specs.States.{facts}
 use Rattle.check_inequality.proofs.Searches.{null-like}
 use Rattle.check_successors.specs.Successors.{termOr}
 use Rattle.check_successors.proofs.InOrder.{slots, is-variable, is-path, is-null, is-number, key-number, key-none}
@@ -36,8 +32,10 @@ unfolding termOr
 returns c =
     λ ρ ps W.
     let start = c .before .before .before .before in
+    let at-first-variable = c .before .before .first-variable in
     ap some (c .variable-key .ensures .0)
-    ∙ is-variable (start .args .key .now) (start .args .b .now) (start .args .skip .now) (start .args .x) (start .args .t) ρ ps W (c .before .before .first-variable .result) (c .before .before .first-variable .ensures _ (start .pre .0 .linked .decides)) (c .before .if1 .taken)
+    ∙ is-variable (start .args .key .now) (start .args .b .now) (start .args .skip .now) (start .args .x) (start .args .t) ρ ps W
+    (at-first-variable .result) (at-first-variable .ensures _ (start .pre .0 .linked .decides)) (c .before .if1 .taken)
 
 element-copy-out-p : tie.Need-element-copy-out-p
 element-copy-out-p c = search needs
@@ -68,8 +66,14 @@ unfolding termOr
 returns-2 c =
     λ ρ ps W.
     let start = c .before .before .before .before .before .before .before .before .before in
+    let at-first-variable = c .before .before .before .before .before .before .before .first-variable in
+    let at-if1 = c .before .before .before .before .before .before .if1 in
+    let at-first-entry = c .before .before .before .before .first-entry in
+    let at-if2 = c .before .before .before .if2 in
     ap some (c .path-key .ensures .0)
-    ∙ is-path (start .args .key .now) (start .args .b .now) (start .args .skip .now) (start .args .x) (start .args .t) ρ ps W (c .before .before .before .before .before .before .before .first-variable .result) (c .before .before .before .before .before .before .before .first-variable .ensures _ (start .pre .0 .linked .decides)) (c .before .before .before .before .before .before .if1 .left) (c .before .before .before .before .first-entry .result) (c .before .before .before .before .first-entry .ensures _ (start .pre .0 .linked .decides)) (c .before .before .before .if2 .taken)
+    ∙ is-path (start .args .key .now) (start .args .b .now) (start .args .skip .now) (start .args .x) (start .args .t) ρ ps W
+    (at-first-variable .result) (at-first-variable .ensures _ (start .pre .0 .linked .decides)) (at-if1 .left) (at-first-entry .result)
+    (at-first-entry .ensures _ (start .pre .0 .linked .decides)) (at-if2 .taken)
 
 element-copy-out-alike : tie.Need-element-copy-out-alike
 element-copy-out-alike c = search needs
@@ -82,8 +86,14 @@ unfolding termOr
 returns-3 c =
     λ ρ ps W.
     let start = c .before .before .before .before .before .before .before .before .before in
+    let at-first-variable = c .before .before .before .before .before .before .before .first-variable in
+    let at-if1 = c .before .before .before .before .before .before .if1 in
+    let at-first-entry = c .before .before .before .before .first-entry in
+    let at-if2 = c .before .before .before .if2 in
     ap some of-null
-    ∙ is-null (start .args .key .now) (start .args .b .now) (start .args .skip .now) (start .args .x) (start .args .t) ρ ps W (c .before .before .before .before .before .before .before .first-variable .result) (c .before .before .before .before .before .before .before .first-variable .ensures _ (start .pre .0 .linked .decides)) (c .before .before .before .before .before .before .if1 .left) (c .before .before .before .before .first-entry .result) (c .before .before .before .before .first-entry .ensures _ (start .pre .0 .linked .decides)) (c .before .before .before .if2 .left)
+    ∙ is-null (start .args .key .now) (start .args .b .now) (start .args .skip .now) (start .args .x) (start .args .t) ρ ps W
+    (at-first-variable .result) (at-first-variable .ensures _ (start .pre .0 .linked .decides)) (at-if1 .left) (at-first-entry .result)
+    (at-first-entry .ensures _ (start .pre .0 .linked .decides)) (at-if2 .left)
     (null-like (slots (start .pre .0)) (start .pre .0 .linked .decides) _ _ (start .pre .1) ∙ sym (c .before .alike .ensures) ∙ c .if3 .taken)
 
 least-number-requires : tie.Need-least-number-requires
@@ -96,9 +106,18 @@ unfolding termOr
 returns-4 c =
     λ ρ ps W.
     let start = c .before .before .before .before .before .before .before .before .before .before .before in
+    let at-first-variable = c .before .before .before .before .before .before .before .before .before .first-variable in
+    let at-if1 = c .before .before .before .before .before .before .before .before .if1 in
+    let at-first-entry = c .before .before .before .before .before .before .first-entry in
+    let at-if2 = c .before .before .before .before .before .if2 in
+    let at-alike = c .before .before .before .alike in
+    let at-if3 = c .before .before .if3 in
     key-none (c .before .least-number .result) (c .if4 .taken)
-    ∙ is-number (start .args .key .now) (start .args .b .now) (start .args .skip .now) (start .args .x) (start .args .t) ρ ps W (c .before .before .before .before .before .before .before .before .before .first-variable .result) (c .before .before .before .before .before .before .before .before .before .first-variable .ensures _ (start .pre .0 .linked .decides)) (c .before .before .before .before .before .before .before .before .if1 .left) (c .before .before .before .before .before .before .first-entry .result) (c .before .before .before .before .before .before .first-entry .ensures _ (start .pre .0 .linked .decides)) (c .before .before .before .before .before .if2 .left)
-    (null-like (slots (start .pre .0)) (start .pre .0 .linked .decides) _ _ (start .pre .1) ∙ sym (c .before .before .before .alike .ensures) ∙ c .before .before .if3 .left) (c .before .least-number .result)
+    ∙ is-number (start .args .key .now) (start .args .b .now) (start .args .skip .now) (start .args .x) (start .args .t) ρ ps W
+    (at-first-variable .result) (at-first-variable .ensures _ (start .pre .0 .linked .decides)) (at-if1 .left) (at-first-entry .result)
+    (at-first-entry .ensures _ (start .pre .0 .linked .decides)) (at-if2 .left)
+    (null-like (slots (start .pre .0)) (start .pre .0 .linked .decides) _ _ (start .pre .1) ∙ sym (at-alike .ensures) ∙ at-if3 .left)
+    (c .before .least-number .result)
     (c .before .least-number .ensures _ (start .pre .0 .linked .decides))
 
 returns-5 : tie.Need-returns-5
@@ -106,9 +125,18 @@ unfolding termOr
 returns-5 c =
     λ ρ ps W.
     let start = c .before .before .before .before .before .before .before .before .before .before .before in
+    let at-first-variable = c .before .before .before .before .before .before .before .before .before .first-variable in
+    let at-if1 = c .before .before .before .before .before .before .before .before .if1 in
+    let at-first-entry = c .before .before .before .before .before .before .first-entry in
+    let at-if2 = c .before .before .before .before .before .if2 in
+    let at-alike = c .before .before .before .alike in
+    let at-if3 = c .before .before .if3 in
     key-number (c .before .least-number .result) (c .if4 .left)
-    ∙ is-number (start .args .key .now) (start .args .b .now) (start .args .skip .now) (start .args .x) (start .args .t) ρ ps W (c .before .before .before .before .before .before .before .before .before .first-variable .result) (c .before .before .before .before .before .before .before .before .before .first-variable .ensures _ (start .pre .0 .linked .decides)) (c .before .before .before .before .before .before .before .before .if1 .left) (c .before .before .before .before .before .before .first-entry .result) (c .before .before .before .before .before .before .first-entry .ensures _ (start .pre .0 .linked .decides)) (c .before .before .before .before .before .if2 .left)
-    (null-like (slots (start .pre .0)) (start .pre .0 .linked .decides) _ _ (start .pre .1) ∙ sym (c .before .before .before .alike .ensures) ∙ c .before .before .if3 .left) (c .before .least-number .result)
+    ∙ is-number (start .args .key .now) (start .args .b .now) (start .args .skip .now) (start .args .x) (start .args .t) ρ ps W
+    (at-first-variable .result) (at-first-variable .ensures _ (start .pre .0 .linked .decides)) (at-if1 .left) (at-first-entry .result)
+    (at-first-entry .ensures _ (start .pre .0 .linked .decides)) (at-if2 .left)
+    (null-like (slots (start .pre .0)) (start .pre .0 .linked .decides) _ _ (start .pre .1) ∙ sym (at-alike .ensures) ∙ at-if3 .left)
+    (c .before .least-number .result)
     (c .before .least-number .ensures _ (start .pre .0 .linked .decides))
 
 pub successor-spec : {M : Type 1} → statement M

@@ -14,16 +14,21 @@ cast-a : tie.Need-cast-a
 cast-a c = omega (arith, c .before .pre .0 .linked .decides .low (c .before .args .j) (c .before .pre .2), c .before .pre .0 .linked .fit)
 
 element-copy-out-i : tie.Need-element-copy-out-i
-element-copy-out-i c = omega (arith, c .before .pre .0 .linked .decides .low (c .before .args .j) (c .before .pre .2), c .before .pre .0 .linked .fit, c .before .pre .3 .leads-size)
+element-copy-out-i c =
+    omega (arith, c .before .pre .0 .linked .decides .low (c .before .args .j) (c .before .pre .2), c .before .pre .0 .linked .fit, c .before .pre .3 .leads-size)
 
 cast-i : tie.Need-cast-i
-cast-i c = omega (arith, c .before .before .pre .0 .linked .fit, c .before .before .pre .2, lead-small _ _ _ _ _ _ _ _ (c .before .before .pre .3) (getD (c .before .before .args .b .now) (c .before .before .args .j) 0))
+cast-i c =
+    let start = c .before .before in
+    omega (arith, start .pre .0 .linked .fit, start .pre .2, lead-small _ _ _ _ _ _ _ _ (start .pre .3) (getD (start .args .b .now) (start .args .j) 0))
 
 cast-lead : tie.Need-cast-lead
 cast-lead c = search needs
 
 element-write-lead : tie.Need-element-write-lead
-element-write-lead c = omega (arith, c .before .before .before .pre .0 .linked .decides .low (c .before .before .before .args .j) (c .before .before .before .pre .2), c .before .before .before .pre .0 .linked .fit, c .before .before .before .pre .3 .leads-size)
+element-write-lead c =
+    let start = c .before .before .before in
+    omega (arith, start .pre .0 .linked .decides .low (start .args .j) (start .pre .2), start .pre .0 .linked .fit, start .pre .3 .leads-size)
 
 mul-successor : tie.Need-mul-successor
 mul-successor c = search needs
@@ -36,23 +41,31 @@ element-copy-out-successor-2 c = search needs
 
 successor-requires : tie.Need-successor-requires
 successor-requires c κs =
-    (c .before .before .before .before .before .before .before .pre .0, inl (record { place = c .before .before .before .before .before .before .before .args .j; within = c .before .before .before .before .before .before .before .pre .2; is = refl; shown = refl }))
+    let start = c .before .before .before .before .before .before .before in
+    (start .pre .0, inl (record { place = start .args .j; within = start .pre .2; is = refl; shown = refl }))
 
 store-requires : tie.Need-store-requires
 store-requires c κs = search needs
 
 returns : tie.Need-returns
 returns c =
-    side-first _ _ _ _ _ _ _ _ (c .before .before .before .before .before .before .before .before .before .pre .3) (c .before .before .before .before .before .before .before .before .before .pre .0) (c .before .before .before .before .before .before .before .before .before .pre .2) (c .before .before .before .before .before .before .before .before .before .pre .4) _ _ _ (c .store .ensures) (c .before .successor .ensures)
+    let start = c .before .before .before .before .before .before .before .before .before in
+    side-first _ _ _ _ _ _ _ _ (start .pre .3) (start .pre .0) (start .pre .2) (start .pre .4) _ _ _ (c .store .ensures) (c .before .successor .ensures)
 
 mul-k : tie.Need-mul-k
-mul-k c = omega (arith, c .before .before .before .pre .3 .leads _ (c .if1 .left) .within, c .before .before .before .pre .0 .linked .fit, c .before .before .before .pre .2)
+mul-k c =
+    let start = c .before .before .before in
+    omega (arith, start .pre .3 .leads _ (c .if1 .left) .within, start .pre .0 .linked .fit, start .pre .2)
 
 element-copy-out-k : tie.Need-element-copy-out-k
-element-copy-out-k c = omega (arith, c .before .before .before .pre .3 .leads _ (c .if1 .left) .within, c .before .before .before .pre .0 .linked .fit, c .before .before .before .pre .2, c .before .before .before .pre .3 .header .size)
+element-copy-out-k c =
+    let start = c .before .before .before in
+    omega (arith, start .pre .3 .leads _ (c .if1 .left) .within, start .pre .0 .linked .fit, start .pre .2, start .pre .3 .header .size)
 
 element-copy-out-g : tie.Need-element-copy-out-g
-element-copy-out-g c = omega (arith, c .before .before .before .before .pre .3 .leads _ (c .before .if1 .left) .within, c .before .before .before .before .pre .0 .linked .fit, c .before .before .before .before .pre .2, c .before .before .before .before .pre .3 .size)
+element-copy-out-g c =
+    let start = c .before .before .before .before in
+    omega (arith, start .pre .3 .leads _ (c .before .if1 .left) .within, start .pre .0 .linked .fit, start .pre .2, start .pre .3 .size)
 
 mul-key : tie.Need-mul-key
 mul-key c = search needs
@@ -65,7 +78,9 @@ element-write-gone c = search needs
 
 returns-2 : tie.Need-returns-2
 returns-2 c =
-    side-copied _ _ _ _ _ _ _ _ (c .before .before .before .before .before .pre .3) (c .before .before .before .before .before .pre .0) (c .before .before .before .before .before .pre .2) (c .before .before .before .before .before .pre .4) (c .before .before .before .before .before .pre .1) (c .before .before .if1 .left)
+    let start = c .before .before .before .before .before in
+    let at-if1 = c .before .before .if1 in
+    side-copied _ _ _ _ _ _ _ _ (start .pre .3) (start .pre .0) (start .pre .2) (start .pre .4) (start .pre .1) (at-if1 .left)
 
 pub give-dropped-spec : {M : Type 1} → statement M
 give-dropped-spec =

@@ -2,7 +2,6 @@ use Prim.Native.Nat.{_-_, _≤_}
 use Rattle.check_equality.specs.Layout.{left-sides}
 use Rattle.check_forgetting.specs.Changes.{Giving}
 use Rattle.check_forgetting.proofs.GivingWay.{Given, giving-first, given-first, given-more, given-all}
-use mathlib.Core.Path.{_≡_}
 use native.Mathlib.Omega.{arith}
 use Rattle.check_forgetting.proofs.facts.give_way.Statement.{statement}
 use Rattle.check_forgetting.proofs.facts.give_way.Tie as tie
