@@ -1,6 +1,6 @@
 -- Forgetting: what becomes of the sides of the facts, and the facts that are then left.
 use mathlib.Core.Path.{_≡_, refl, sym, ap, ap₂, _∙_, subst}
-use mathlib.Core.Bool.{Bool, true, false, cond, not, _||_}
+use mathlib.Core.Bool.{Bool, true, false, cond, not, _&&_, _||_}
 use mathlib.Core.List.{List, [], _∷_, _++_}
 use mathlib.Core.Option.{Option, none, some}
 use mathlib.Core.Logic.{⊎-elim}
@@ -8,31 +8,34 @@ use Prim.Native.Nat.{ℕ, zero, suc, _+_, _*_, _≤_, _<_}
 use native.Mathlib.Omega.{arith}
 use native.Mathlib.Numerals.{add-one}
 use lib.Dec.{eqb}
-use lib.ListN.{length, getD, set, replicate}
+use lib.ListN.{length, getD, set, replicate, length-set}
 use lib.Seq.{getD-set-same, getD-set-other, set-getD}
 use borrow.Author.Tests.{eqb-true}
-use Rattle.rules.specs.Base.{mapOption, bindOption}
-use Rattle.rules.specs.State.{Term, Fact, Renaming, renameFact, renameFacts, renameTerm}
+use Rattle.rules.specs.Base.{any, keep, mapOption, bindOption}
+use Rattle.rules.specs.State.{Term, Fact, Renaming, trivial, renameFact, renameFacts}
 use Rattle.rules.proofs.Lists.{decide-eq}
 use Rattle.check_equality.specs.Keys.{termOf}
 use Rattle.check_equality.specs.Listing.{listed}
 use Rattle.check_equality.specs.Links.{Header, termAt, factOf}
-use Rattle.check_equality.proofs.Listing.{listed-more, listed-same, map-append}
+use Rattle.check_equality.proofs.Keys.{same-key}
+use Rattle.check_equality.proofs.Listing.{listed-more, listed-same, map-append, any-found}
 use Rattle.check_equality.proofs.Labels.{header-set}
 use Rattle.check_equality.specs.Layout.{slots, left-sides, right-sides, relations-at, variables-at, fact-count, entry-count}
 use Rattle.check_state.specs.States.{Wf, Linked, facts, entries, apartAt, factAt, factsIn}
+use Rattle.check_state.specs.Questions.{places}
 use Rattle.check_state.proofs.Entries.{no-flags}
-use Rattle.check_inequality.proofs.Searches.{or-none-left, or-none-right}
-use Rattle.check_forgetting.specs.Changes.{Fresh, Dropped, RenamedKeys, Stands, Sized, Unchanged, Rebuilt, renamedKey}
+use Rattle.check_inequality.proofs.Searches.{or-none-left, or-none-right, ne-is}
+use Rattle.check_forgetting.specs.Changes.{Fresh, Dropped, RenamedKeys, Stands, Sized, Unchanged, Rebuilt, renamedKey, sameSides, trivialAt}
 use Rattle.check_forgetting.proofs.Keeping.{kinds-same, counted-linked, counted-facts, counted-other}
-use Rattle.check_forgetting.proofs.Renaming.{renamed-term}
 
 -- SIDES DROPPED
 pub dropped-more :
-    (test : ℕ → Bool) (key : List ℕ) (i : ℕ) (gone : List Bool) (changed g : Bool) → i < length gone → Dropped test key i gone changed →
+    (test : ℕ → Bool) (key : List ℕ) (i : ℕ) (gone : List Bool) (changed g : Bool) → i < slots → Dropped test key i gone changed →
     g ≡ test (getD key i 0) → Dropped test key (i + 1) (set gone i g) (changed || g)
-dropped-more test key i gone changed g l D e =
+dropped-more test key i gone changed g h₀ D e =
+    let l : i < length gone = omega (arith, D .size) in
     record {
+      size = length-set gone i g ∙ D .size;
       at = λ j a h. ⊎-elim (λ d. rw d (getD-set-same gone i g false l ∙ e)) (λ d. getD-set-other gone i j g false d ∙ D .at j a (omega arith)) (decide-eq j i);
       none =
           λ q j a h.
@@ -40,14 +43,14 @@ dropped-more test key i gone changed g l D e =
           (λ d. getD-set-other gone i j g false d ∙ D .none (or-none-left changed g q) j a (omega arith)) (decide-eq j i);
     }
 
-pub dropped-first : (test : ℕ → Bool) (key : List ℕ) (gone : List Bool) → Dropped test key left-sides gone false
-dropped-first test key gone = record { at = λ j a h. absurd (omega arith); none = λ q j a h. absurd (omega arith) }
+pub dropped-first : (test : ℕ → Bool) (key : List ℕ) (gone : List Bool) → length gone ≡ slots → Dropped test key left-sides gone false
+dropped-first test key gone l = record { size = l; at = λ j a h. absurd (omega arith); none = λ q j a h. absurd (omega arith) }
 
 pub dropped-all :
     (test : ℕ → Bool) (key : List ℕ) (i m : ℕ) (gone : List Bool) (changed : Bool) → m ≤ i → Dropped test key i gone changed →
     Dropped test key m gone changed
 dropped-all test key i m gone changed h D =
-    record { at = λ j a g. D .at j a (omega arith); none = λ q j a g. D .none q j a (omega arith) }
+    record { size = D .size; at = λ j a g. D .at j a (omega arith); none = λ q j a g. D .none q j a (omega arith) }
 
 -- SIDES RENAMED: those before slot i are, the others are as they were
 pub record RenamedTo (x to : ℕ) (old : List ℕ) (i : ℕ) (key : List ℕ) (changed : Bool) : Type 0 where
@@ -95,14 +98,6 @@ pub dropped-stands :
 dropped-stands ρ test key n gone changed w D =
     λ j a h. w (getD key j 0) ∙ ap (λ (c : Bool). cond c none (some (termAt key j))) (sym (D .at j a h))
 
-pub renamed-stands :
-    (x to : ℕ) → x < 256 → to < 256 → (key key′ : List ℕ) (n : ℕ) (changed : Bool) → RenamedKeys x to key (left-sides + 2 * n) key′ changed →
-    Stands (renameTerm x (some to)) key key′ (replicate slots false) n
-renamed-stands x to p q key key′ n changed R =
-    λ j a h.
-    renamed-term x p to q (getD key j 0) ∙ ap (λ (k : ℕ). some (termOf k)) (sym (R .at j a h))
-    ∙ ap (λ (c : Bool). cond c none (some (termAt key′ j))) (sym (no-flags slots j))
-
 -- nothing is done where nothing changes
 pub dropped-unchanged :
     (test : ℕ → Bool) (key b : List ℕ) (gone : List Bool) (changed : Bool) → Wf key b → Dropped test key (left-sides + 2 * facts b) gone changed →
@@ -119,6 +114,19 @@ pub wf-sized : (key key′ b : List ℕ) → Header key′ → Wf key b → Size
 wf-sized key key′ b H w = record { header = H; size = w .linked .size; fit = w .linked .fit; entries-fit = w .fit; kinds = w .kinds }
 
 -- ONE MORE FACT RENAMED
+keep-append : {A : Type 0} (p : A → Bool) (l m : List A) → keep p (l ++ m) ≡ keep p l ++ keep p m
+unfolding keep
+keep-append p [] m = refl
+keep-append {A = A} p (a ∷ l) m = go (p a) (keep-append p l m)
+  where
+    go : (c : Bool) → keep p (l ++ m) ≡ keep p l ++ keep p m → cond c (a ∷ keep p (l ++ m)) (keep p (l ++ m)) ≡ cond c (a ∷ keep p l) (keep p l) ++ keep p m
+    go true e = ap (λ (r : List A). a ∷ r) e
+    go false e = e
+
+trivial-keys : (c l r : ℕ) → trivial (factOf (eqb c 1) l r) ≡ sameSides c l r
+unfolding trivial sameSides
+trivial-keys c l r = ap₂ (λ (a b : Bool). not a && b) (ne-is (eqb c 1)) (same-key l r)
+
 module _ (ρ : Renaming) (old b : List ℕ) (i : ℕ) (g h : Bool) (l r : ℕ) (eg : ρ (termAt old (left-sides + 2 * i)) ≡ cond g none (some (termOf l)))
     (eh : ρ (termAt old (right-sides + 2 * i)) ≡ cond h none (some (termOf r))) where
   fact-renamed : renameFact ρ (factAt old b i) ≡ cond (g || h) none (some (factOf (apartAt b i) l r))
@@ -133,33 +141,51 @@ module _ (ρ : Renaming) (old b : List ℕ) (i : ℕ) (g h : Bool) (l r : ℕ) (
       go false true = refl
       go false false = refl
 
-  pub facts-more : renameFacts ρ (factsIn old b (i + 1)) ≡ renameFacts ρ (factsIn old b i) ++ cond (g || h) [] (factOf (apartAt b i) l r ∷ [])
-  unfolding renameFacts mapOption
+  pub facts-more :
+      renameFacts ρ (factsIn old b (i + 1))
+      ≡ renameFacts ρ (factsIn old b i) ++ cond ((g || h) || sameSides (getD b (relations-at + i) 0) l r) [] (factOf (apartAt b i) l r ∷ [])
+  unfolding renameFacts mapOption keep
   facts-more =
-      ap (mapOption (renameFact ρ)) (listed-more (factAt old b) i) ∙ map-append (renameFact ρ) (factsIn old b i) (factAt old b i ∷ [])
-      ∙ ap (λ (fs : List Fact). mapOption (renameFact ρ) (factsIn old b i) ++ fs) (one (renameFact ρ (factAt old b i)) (g || h) fact-renamed)
+      ap (λ (fs : List Fact). keep plain (mapOption (renameFact ρ) fs)) (listed-more (factAt old b) i)
+      ∙ ap (keep plain) (map-append (renameFact ρ) (factsIn old b i) (factAt old b i ∷ []))
+      ∙ keep-append plain (mapOption (renameFact ρ) (factsIn old b i)) (mapOption (renameFact ρ) (factAt old b i ∷ []))
+      ∙ ap (λ (fs : List Fact). keep plain (mapOption (renameFact ρ) (factsIn old b i)) ++ fs) (one (renameFact ρ (factAt old b i)) (g || h) _ fact-renamed (trivial-keys (getD b (relations-at + i) 0) l r))
     where
+      plain : Fact → Bool
+      plain f = not (trivial f)
+
       one :
-          (o : Option Fact) (c : Bool) → o ≡ cond c none (some (factOf (apartAt b i) l r)) →
-          elim o [ none ↦ [] | some f ↦ f ∷ [] ] ≡ cond c [] (factOf (apartAt b i) l r ∷ [])
-      one o true d = rw d
-      one o false d = rw d
+          (o : Option Fact) (c d : Bool) → o ≡ cond c none (some (factOf (apartAt b i) l r)) → trivial (factOf (apartAt b i) l r) ≡ d →
+          keep plain (elim o [ none ↦ [] | some f ↦ f ∷ [] ]) ≡ cond (c || d) [] (factOf (apartAt b i) l r ∷ [])
+      one o true d e t = rw e
+      one o false true e t = rw (e, t)
+      one o false false e t = rw (e, t)
 
 pub facts-none : (ρ : Renaming) (old b : List ℕ) → renameFacts ρ (factsIn old b 0) ≡ []
-unfolding renameFacts mapOption listed
+unfolding renameFacts mapOption listed keep
 facts-none ρ old b = refl
 
 -- the fact i of those that are rebuilt, whose sides and flag stand where they stood
 pub facts-next :
-    (ρ : Renaming) (old key₀ b₀ : List ℕ) (gone : List Bool) (all i : ℕ) → Stands ρ old key₀ gone all → i < all → (fs fs′ : List Fact) (c l r : ℕ) →
-    fs′ ≡ fs ++ cond (getD gone (left-sides + 2 * i) false || getD gone (right-sides + 2 * i) false) [] (factOf (eqb c 1) l r ∷ []) → l ≡ getD key₀ (left-sides + 2 * i) 0 →
-    r ≡ getD key₀ (right-sides + 2 * i) 0 → c ≡ getD b₀ (relations-at + i) 0 → fs ≡ renameFacts ρ (factsIn old b₀ i) → fs′ ≡ renameFacts ρ (factsIn old b₀ (i + 1))
-facts-next ρ old key₀ b₀ gone all i S h fs fs′ c l r k el er ec e =
-    k ∙ ap₂ (λ (a b : List Fact). a ++ b) e (rw (el, er, ec))
+    (ρ : Renaming) (old key₀ b₀ : List ℕ) (gone : List Bool) (all i : ℕ) → Stands ρ old key₀ gone all → i < all → (fs fs′ : List Fact) (c l r : ℕ) (t : Bool) →
+    fs′ ≡ fs ++ cond ((getD gone (left-sides + 2 * i) false || getD gone (right-sides + 2 * i) false) || t) [] (factOf (eqb c 1) l r ∷ []) → t ≡ sameSides c l r →
+    l ≡ getD key₀ (left-sides + 2 * i) 0 → r ≡ getD key₀ (right-sides + 2 * i) 0 → c ≡ getD b₀ (relations-at + i) 0 → fs ≡ renameFacts ρ (factsIn old b₀ i) →
+    fs′ ≡ renameFacts ρ (factsIn old b₀ (i + 1))
+facts-next ρ old key₀ b₀ gone all i S h fs fs′ c l r t k et el er ec e =
+    k ∙ ap₂ (λ (a b : List Fact). a ++ b) e (rw (et, el, er, ec))
     ∙ sym (facts-more ρ old b₀ i (getD gone (left-sides + 2 * i) false) (getD gone (right-sides + 2 * i) false) (getD key₀ (left-sides + 2 * i) 0) (getD key₀ (right-sides + 2 * i) 0) (S (left-sides + 2 * i) (omega arith) (omega arith)) (S (right-sides + 2 * i) (omega arith) (omega arith)))
 
 -- NOTHING CHANGES
-module _ (key b : List ℕ) (gone : List Bool) (U : Unchanged key b gone) (ρ : Renaming) (old : List ℕ) (S : Stands ρ old key gone (facts b)) where
+-- a test that no place passes
+none-passes : (p : ℕ → Bool) (n i : ℕ) → any p (places n) ≡ false → i < n → p i ≡ false
+none-passes p n i e h = go (p i) refl
+  where
+    go : (c : Bool) → p i ≡ c → c ≡ false
+    go true d = sym (any-found p (λ j. j) n i h d) ∙ e
+    go false d = refl
+
+module _ (key b : List ℕ) (gone : List Bool) (U : Unchanged key b gone) (plain : any (trivialAt key b) (places (facts b)) ≡ false) (ρ : Renaming)
+    (old : List ℕ) (S : Stands ρ old key gone (facts b)) where
   side-same : (j : ℕ) → left-sides ≤ j → j < left-sides + 2 * facts b → ρ (termAt old j) ≡ some (termAt key j)
   side-same j a h = S j a h ∙ ap (λ (c : Bool). cond c none (some (termAt key j))) (U .none j a h)
 
@@ -168,12 +194,13 @@ module _ (key b : List ℕ) (gone : List Bool) (U : Unchanged key b gone) (ρ : 
   facts-as zero h = sym (facts-none ρ old b)
   facts-as (suc n) h =
       ap (λ (fs : List Fact). fs ++ (factAt key b n ∷ [])) (facts-as n (omega arith))
+      ∙ ap (λ (c : Bool). renameFacts ρ (factsIn old b n) ++ cond c [] (factAt key b n ∷ [])) (sym (none-passes (trivialAt key b) (facts b) n plain (omega arith)))
       ∙ sym (facts-more ρ old b n false false (getD key (left-sides + 2 * n) 0) (getD key (right-sides + 2 * n) 0) (side-same (left-sides + 2 * n) (omega arith) (omega arith)) (side-same (right-sides + 2 * n) (omega arith) (omega arith)))
       ∙ ap (λ (k : ℕ). renameFacts ρ (factsIn old b k)) (add-one n)
 
-pub nothing-changed : (key b : List ℕ) (gone : List Bool) → Unchanged key b gone → Rebuilt key b gone key b
-nothing-changed key b gone U =
-    record { wf = U .wf; facts = λ ρ old S. facts-as key b gone U ρ old S (facts b) (omega arith); rest = λ i g s. refl }
+pub nothing-changed : (key b : List ℕ) (gone : List Bool) → Unchanged key b gone → any (trivialAt key b) (places (facts b)) ≡ false → Rebuilt key b gone key b
+nothing-changed key b gone U plain =
+    record { wf = U .wf; facts = λ ρ old S. facts-as key b gone U plain ρ old S (facts b) (omega arith); rest = λ i g s. refl }
 
 -- REBUILT: the count of facts is written; b₁ is b with fresh labels
 pub rebuilt-fresh :

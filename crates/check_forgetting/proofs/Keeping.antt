@@ -1,6 +1,6 @@
 -- Lists of which some elements are out.
 use mathlib.Core.Path.{_≡_, refl, sym, ap, ap₂, _∙_, subst}
-use mathlib.Core.Bool.{Bool, true, false, cond, _&&_, _||_}
+use mathlib.Core.Bool.{Bool, true, false, cond, not, _&&_, _||_}
 use mathlib.Core.List.{List, [], _∷_, _++_, append-nil}
 use mathlib.Core.Option.{Option, none, some}
 use mathlib.Core.Logic.{_⊎_, inl, inr, ⊎-elim}
@@ -55,6 +55,19 @@ module _ {A : Type 0} where
       ∙ sym (any-append (λ i. getD out i false && q (f i)) (listed (λ i. i) n) (n ∷ []))
     where
       one : (c : Bool) → any q (cond c (f n ∷ []) []) ≡ ((c && q (f n)) || false)
+      one true = refl
+      one false = refl
+
+  -- some element that is not
+  pub kept-any : (q : A → Bool) (out : List Bool) (f : ℕ → A) (n : ℕ) → any q (kept out f n) ≡ any (λ i. not (getD out i false) && q (f i)) (listed (λ i. i) n)
+  unfolding kept listed any
+  kept-any q out f zero = refl
+  kept-any q out f (suc n) =
+      any-append q (kept out f n) (cond (getD out n false) [] (f n ∷ []))
+      ∙ ap₂ (λ (a b : Bool). a || b) (kept-any q out f n) (one (getD out n false))
+      ∙ sym (any-append (λ i. not (getD out i false) && q (f i)) (listed (λ i. i) n) (n ∷ []))
+    where
+      one : (c : Bool) → any q (cond c [] (f n ∷ [])) ≡ ((not c && q (f n)) || false)
       one true = refl
       one false = refl
 

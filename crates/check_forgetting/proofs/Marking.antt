@@ -5,14 +5,12 @@ use mathlib.Core.List.{List, [], _∷_}
 use mathlib.Core.Logic.{⊎-elim}
 use Prim.Native.Nat.{ℕ, zero, suc, _+_, _<_}
 use native.Mathlib.Omega.{arith}
-use lib.ListN.{length, getD, set, length-set}
-use lib.Seq.{getD-set-same, getD-set-other}
+use lib.ListN.{getD}
 use Rattle.rules.specs.Base.{any}
 use Rattle.rules.specs.Syntax as Syntax
 use Rattle.rules.specs.Syntax.{path}
 use Rattle.rules.proofs.Closure.{same→≡}
 use Rattle.rules.proofs.Lists.{decide-eq}
-use Rattle.check_equality.specs.Layout.{mark-count}
 use Rattle.check_equality.specs.Keys.{termOf, keyOf}
 use Rattle.check_equality.specs.Links.{placeOf}
 use Rattle.check_equality.specs.Listing.{listed}
@@ -20,33 +18,20 @@ use Rattle.check_equality.proofs.Keys.{back}
 use Rattle.check_equality.proofs.Listing.{any-append}
 use Rattle.check_state.specs.States.{variableAt, fieldAt}
 use Rattle.check_state.specs.Questions.{places}
-use Rattle.check_forgetting.specs.Changes.{pathOut, pathOutAt, placeOfPath, Marks, MarksOut}
-
-pub marked : (marks : List Bool) (x f k p : ℕ) → length marks ≡ mark-count → termOf k ≡ path x f → (p ≡ placeOf k) × (p < mark-count) → Marks true x f marks (set marks p true)
-marked marks x f k p l e q = record { size = length-set marks p true; new = λ _. rw (sym here) (set-here); old = on }
-  where
-    here : p ≡ placeOfPath x f
-    here = q .0 ∙ ap placeOf (sym (ap keyOf (sym e) ∙ back k))
-
-    set-here : getD (set marks p true) p false ≡ true
-    set-here = getD-set-same marks p true false (omega arith)
-
-    on : (r : ℕ) → getD marks r false ≡ true → getD (set marks p true) r false ≡ true
-    on r d = ⊎-elim (λ z. rw z set-here) (λ z. getD-set-other marks p r true false z ∙ d) (decide-eq r p)
+use Rattle.check_forgetting.specs.Changes.{pathOut, pathOutAt, placeOfPath, MarksOut}
+use Rattle.check_successors.specs.Successors.{Marks}
 
 clash : {A : Type 0} → false ≡ true → A
 clash e = absurd (let z : _≡_ {A = ℕ} 0 1 = cc in omega arith)
 
-pub not-marked : (marks : List Bool) (x f : ℕ) → Marks false x f marks marks
-not-marked marks x f = record { size = refl; new = λ e. clash e; old = λ p d. d }
-
 pub marks-next :
-    (b : List ℕ) (out : List Bool) (n : ℕ) (marks marks′ : List Bool) → MarksOut b out n marks →
-    Marks (getD out n false) (variableAt b n) (fieldAt b n) marks marks′ → MarksOut b out (n + 1) marks′
-marks-next b out n marks marks′ M K =
+    (b : List ℕ) (out : List Bool) (n k : ℕ) (marks marks′ : List Bool) → termOf k ≡ path (variableAt b n) (fieldAt b n) → MarksOut b out n marks →
+    Marks (getD out n false) k marks marks′ → MarksOut b out (n + 1) marks′
+marks-next b out n k marks marks′ t M K =
+    let p : placeOf k ≡ placeOfPath (variableAt b n) (fieldAt b n) = ap placeOf (sym (ap keyOf (sym t) ∙ back k)) in
     record {
       size = K .size ∙ M .size;
-      at = λ i h e. ⊎-elim (λ d. rw d (K .new (rw d at e))) (λ d. K .old _ (M .at i (omega arith) e)) (decide-eq i n);
+      at = λ i h e. ⊎-elim (λ d. rw d (ap (λ (z : ℕ). getD marks′ z false) (sym p) ∙ K .new (rw d at e))) (λ d. K .old _ (M .at i (omega arith) e)) (decide-eq i n);
     }
 
 all-false : (p : ℕ → Bool) (m : ℕ) → ((i : ℕ) → i < m → p i ≡ false) → any p (places m) ≡ false

@@ -1,6 +1,6 @@
 -- What goes from a state, and what is renamed in it.
 use mathlib.Core.Path.{_≡_}
-use mathlib.Core.Bool.{Bool, true, false, cond, _&&_, _||_}
+use mathlib.Core.Bool.{Bool, true, false, cond, not, _&&_, _||_}
 use mathlib.Core.List.{List, [], _∷_, _++_}
 use mathlib.Core.Option.{Option, none, some}
 use mathlib.Core.Logic.{_⊎_}
@@ -11,23 +11,18 @@ use Rattle.rules.specs.Base.{any}
 use Rattle.rules.specs.Limits.{most-permissions, most-facts}
 use Rattle.rules.specs.Syntax as Syntax
 use Rattle.rules.specs.State as Rules
-use Rattle.rules.specs.State.{Permission, Renaming, renameFacts}
-use Rattle.check_equality.specs.Layout.{left-sides, relations-at, variables-at, fact-count, bytes, mark-count}
+use Rattle.rules.specs.State.{Permission, Renaming, renameFacts, becomes, equalIn, unlisted}
+use Rattle.check_equality.specs.Layout.{slots, left-sides, right-sides, relations-at, variables-at, fact-count, bytes, mark-count}
 use Rattle.check_equality.specs.Keys.{termOf, keyOf, first-path, paths}
 use Rattle.check_equality.specs.Links.{Header, termAt, factOf, placeOf}
-use Rattle.check_state.specs.declared.Resolved.{Resolved}
 use Rattle.check_state.specs.States.{Wf, Linked, stateOf, facts, entries, factsIn, factsOf, variableAt, fieldAt, permissionsIn, permissionsOf, permissionAt, kindAt, IsKind, KindsIn}
 use Rattle.check_state.specs.Questions.{places}
+use Rattle.check_successors.specs.Successors.{Drops, pathAtEntry}
 
 -- the arrays then hold the state
 pub record Becomes (t : Rules.State) (key b : List ℕ) : Type 0 where
   pub wf : Wf key b
   pub same : stateOf key b ≡ t
-
--- a renamed term, or that it goes
-unfoldable pub leftOver : Resolved → Option Rules.Term
-leftOver (Resolved.Key k) = some (termOf k)
-leftOver Resolved.Nothing = none
 
 -- LISTS OF WHICH SOME ELEMENTS ARE OUT
 -- those of f 0 to f (n - 1) that are not out
@@ -86,6 +81,7 @@ pub record KeepsFact (key b : List ℕ) (n : ℕ) (out : Bool) (c l r : ℕ) (ke
 -- FORGETTING
 -- the sides dropped: the flags of the facts' slots up to m, and whether one is set
 pub record Dropped (test : ℕ → Bool) (key : List ℕ) (m : ℕ) (gone : List Bool) (changed : Bool) : Type 0 where
+  pub size : length gone ≡ slots
   pub at : (j : ℕ) → left-sides ≤ j → j < m → getD gone j false ≡ test (getD key j 0)
   pub none : changed ≡ false → (j : ℕ) → left-sides ≤ j → j < m → getD gone j false ≡ false
 
@@ -116,10 +112,76 @@ pub record Unchanged (key b : List ℕ) (gone : List Bool) : Type 0 where
   pub wf : Wf key b
   pub none : (j : ℕ) → left-sides ≤ j → j < left-sides + 2 * facts b → getD gone j false ≡ false
 
+-- an equality with one term on both sides; c is 1 for an inequality
+unfoldable pub sameSides : ℕ → ℕ → ℕ → Bool
+sameSides c l r = not (eqb c 1) && eqb l r
+
+abbrev pub trivialAt : List ℕ → List ℕ → ℕ → Bool
+trivialAt key b i = sameSides (getD b (relations-at + i) 0) (getD key (left-sides + 2 * i) 0) (getD key (right-sides + 2 * i) 0)
+
 -- the facts by what becomes of their sides; the entries stay
 pub record Rebuilt (key b : List ℕ) (gone : List Bool) (key′ b′ : List ℕ) : Type 0 where
   pub wf : Wf key′ b′
   pub facts : (ρ : Renaming) (old : List ℕ) → Stands ρ old key gone (facts b) → factsOf key′ b′ ≡ renameFacts ρ (factsOf old b)
+  pub rest : (i : ℕ) → variables-at ≤ i → (i ≡ fact-count → ⊥) → getD b′ i 0 ≡ getD b i 0
+
+-- GIVING WAY
+-- t becomes of the side in slot j, and nothing else changes
+pub record Stored (j : ℕ) (t : Option Rules.Term) (key : List ℕ) (gone : List Bool) (key′ : List ℕ) (gone′ : List Bool) : Type 0 where
+  pub header : Header key′
+  pub size : length gone′ ≡ slots
+  pub here : becomeOf key′ gone′ j ≡ t
+  pub keys : (i : ℕ) → (i ≡ j → ⊥) → getD key′ i 0 ≡ getD key i 0
+  pub flags : (i : ℕ) → (i ≡ j → ⊥) → getD gone′ i false ≡ getD gone i false
+
+-- the successor of the side in slot j
+abbrev pub successorAt : List ℕ → List ℕ → Renaming → List Permission → ℕ → Option Rules.Term
+successorAt key b ρ ps j = Rules.successor (equalIn (stateOf key b)) ρ ps (factsOf key b) (termAt key j)
+
+-- what becomes of the side in slot j, where `gone` has the flags of those that are dropped
+abbrev pub givenAt : List ℕ → List ℕ → Renaming → List Permission → List Bool → ℕ → Option Rules.Term
+givenAt key b ρ ps gone j =
+    cond (getD gone j false) (successorAt key b ρ ps j) (some (termAt key j))
+
+-- the side in slot i, before j, with the label a, has given way
+pub record Lead (old b : List ℕ) (skip : List Bool) (x j : ℕ) (key : List ℕ) (gone : List Bool) (a i : ℕ) : Type 0 where
+  pub within : i < j
+  pub label : getD b i 0 ≡ a
+  pub is : (ρ : Renaming) (ps : List Permission) → Drops ρ ps b skip x → becomeOf key gone i ≡ successorAt old b ρ ps i
+
+-- how far giving way is, at slot j: `lead` has for each label the first side that has given way, or 0
+pub record Giving (old b : List ℕ) (skip : List Bool) (x j : ℕ) (key : List ℕ) (gone : List Bool) (lead : List ℕ) : Type 0 where
+  pub header : Header key
+  pub size : length gone ≡ slots
+  pub leads-size : length lead ≡ slots
+  pub leads : (a : ℕ) → (getD lead a 0 ≡ 0 → ⊥) → Lead old b skip x j key gone a (getD lead a 0)
+
+-- that becomes of the side in slot j of the arrays old and b
+pub record SideGiven (old b : List ℕ) (skip : List Bool) (x j : ℕ) (key : List ℕ) (gone : List Bool) (key′ : List ℕ) (gone′ : List Bool) (lead′ : List ℕ) : Type 0 where
+  pub next : Giving old b skip x (j + 1) key′ gone′ lead′
+  pub here : (ρ : Renaming) (ps : List Permission) → Drops ρ ps b skip x → becomeOf key′ gone′ j ≡ givenAt old b ρ ps gone j
+  pub keys : (i : ℕ) → (i ≡ j → ⊥) → getD key′ i 0 ≡ getD key i 0
+  pub flags : (i : ℕ) → (i ≡ j → ⊥) → getD gone′ i false ≡ getD gone i false
+
+-- .. of each side
+pub record GaveWay (key b : List ℕ) (skip : List Bool) (x : ℕ) (gone : List Bool) (key′ : List ℕ) (gone′ : List Bool) : Type 0 where
+  pub header : Header key′
+  pub at :
+      (ρ : Renaming) (ps : List Permission) → Drops ρ ps b skip x → (j : ℕ) → left-sides ≤ j → j < left-sides + 2 * facts b →
+      becomeOf key′ gone′ j ≡ givenAt key b ρ ps gone j
+
+-- the facts, where ρ drops the sides with a flag; the entries stay
+pub record Forgotten (key b : List ℕ) (skip : List Bool) (x : ℕ) (gone : List Bool) (key′ b′ : List ℕ) : Type 0 where
+  pub wf : Wf key′ b′
+  pub facts :
+      (ρ : Renaming) (ps : List Permission) → Drops ρ ps b skip x → Stands ρ key key gone (facts b) →
+      factsOf key′ b′ ≡ renameFacts (becomes (stateOf key b) ρ ps) (factsOf key b)
+  pub rest : (i : ℕ) → variables-at ≤ i → (i ≡ fact-count → ⊥) → getD b′ i 0 ≡ getD b i 0
+
+-- .. where the paths of the entries that are out are dropped
+pub record ForgotOut (key b : List ℕ) (out : List Bool) (key′ b′ : List ℕ) : Type 0 where
+  pub wf : Wf key′ b′
+  pub facts : (c : Rules.Shown) → Consumed b out c → factsOf key′ b′ ≡ Rules.factsWithout (unlisted (c .kept) (c .consumed)) (c .kept) (stateOf key b)
   pub rest : (i : ℕ) → variables-at ≤ i → (i ≡ fact-count → ⊥) → getD b′ i 0 ≡ getD b i 0
 
 -- ENTRIES
@@ -162,15 +224,21 @@ pathOutAt b out k i = pathOut (getD out i false) (variableAt b i) (fieldAt b i) 
 abbrev pub keyOut : List ℕ → List Bool → ℕ → Bool
 keyOut b out k = any (pathOutAt b out k) (places (entries b))
 
+-- the entry i is not out, and its path is t
+unfoldable pub keptNames : List ℕ → List Bool → Rules.Term → ℕ → Bool
+keptNames b out t i = not (getD out i false) && Syntax.same (pathAtEntry b i) t
+
+-- the path of the key is dropped: an entry that is out has it, and no other
+abbrev pub keyDropped : List ℕ → List Bool → ℕ → Bool
+keyDropped b out k = keyOut b out k && not (any (keptNames b out (termOf k)) (places (entries b)))
+
+-- the path of the entry i is, among n
+abbrev pub droppedAt : List ℕ → List Bool → ℕ → ℕ → Bool
+droppedAt b out n i = getD out i false && not (any (keptNames b out (pathAtEntry b i)) (places n))
+
 -- the place of a path's key
 abbrev pub placeOfPath : ℕ → ℕ → ℕ
 placeOfPath x f = placeOf (keyOf (Syntax.path x f))
-
--- the place of `x.f` is marked where it is out
-pub record Marks (out : Bool) (x f : ℕ) (marks marks′ : List Bool) : Type 0 where
-  pub size : length marks′ ≡ length marks
-  pub new : out ≡ true → getD marks′ (placeOfPath x f) false ≡ true
-  pub old : (p : ℕ) → getD marks p false ≡ true → getD marks′ p false ≡ true
 
 -- the places of the paths of the first n entries that are out are marked
 pub record MarksOut (b : List ℕ) (out : List Bool) (n : ℕ) (marks : List Bool) : Type 0 where

@@ -8,9 +8,12 @@ ghost use Prim.Native.Nat.{_+_, _≤_, _<_};
 ghost use lib.ListN.{length, getD};
 ghost use lib.Dec.{eqb};
 ghost use Rattle.rules.specs.Limits.{most-permissions};
+ghost use Rattle.rules.specs.Syntax.{same};
 ghost use Rattle.check_equality.specs.Layout.{bytes, variables-at};
+ghost use Rattle.check_equality.specs.Keys.{termOf};
 ghost use Rattle.check_state.specs.States.{entries};
 ghost use Rattle.check_state.specs.Questions.{FirstPlace};
+ghost use Rattle.check_successors.specs.Successors.{pathAtEntry};
 ghost use Rattle.check_forgetting.specs.Changes.{KeepsEntry, RenamedEntries, Packed, Flags};
 
 // x is renamed to the variable `to`.
@@ -83,6 +86,20 @@ pub fn entries_of(b: &[u8; State::BYTES], n: usize, x: u8) -> [bool; Machine::PE
     let mut i = 0;
     while i < n {
         out[i] = b[State::VARIABLES + i] == x;
+        i += 1;
+    }
+    out
+}
+
+// Which entries have the path of the key k.
+pub fn entries_at(b: &[u8; State::BYTES], n: usize, k: u64) -> [bool; Machine::PERMISSIONS]
+    requires { ⌜ n ≤ most-permissions ⌝ }
+    ensures { λ r. ⌜ Flags (λ i. same (termOf k) (pathAtEntry (now (b .entry)) i)) n r ⌝ }
+{
+    let mut out = [false; Machine::PERMISSIONS];
+    let mut i = 0;
+    while i < n {
+        out[i] = k == check_equality::path_key(b[State::VARIABLES + i], b[State::FIELDS + i]);
         i += 1;
     }
     out

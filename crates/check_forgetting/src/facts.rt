@@ -1,19 +1,24 @@
 // What becomes of the sides of the facts, in the slots from LEFT to m: of the side in slot i the key that stands there, or nothing where
-// `gone` has the flag i. For each way of forgetting one function stores that and tells whether it changes anything.
+// `gone` has the flag i. For each way of forgetting one function stores which sides are dropped, or the renamed ones, and tells whether it
+// changes anything; a dropped side then gives way to its successor.
 use crate::keys;
 use crate::marks;
 use check_equality::State;
+use check_state::Resolved;
 use rules::Machine;
 ghost use mathlib.Core.Path.{_≡_};
-ghost use mathlib.Core.Bool.{false};
+ghost use mathlib.Core.Bool.{true, false};
 ghost use Prim.Native.Nat.{_+_, _*_, _≤_, _<_};
-ghost use lib.ListN.{length};
+ghost use lib.ListN.{length, getD};
 ghost use lib.Dec.{eqb};
+ghost use Rattle.rules.specs.Base.{any};
 ghost use Rattle.rules.specs.Limits.{most-permissions, most-facts};
 ghost use Rattle.check_equality.specs.Layout.{slots, bytes, left-sides};
 ghost use Rattle.check_equality.specs.Links.{Header, Marked};
-ghost use Rattle.check_state.specs.States.{Linked, entries};
-ghost use Rattle.check_forgetting.specs.Changes.{Fresh, mentionsKey, Dropped, RenamedKeys, KeepsFact, Sized, Unchanged, Rebuilt, keyOut};
+ghost use Rattle.check_state.specs.States.{Wf, Linked, facts, entries};
+ghost use Rattle.check_state.specs.Questions.{places};
+ghost use Rattle.check_successors.specs.Successors.{termOr};
+ghost use Rattle.check_forgetting.specs.Changes.{Fresh, mentionsKey, Dropped, RenamedKeys, KeepsFact, Sized, Unchanged, Rebuilt, keyDropped, sameSides, trivialAt, Stored, Giving, SideGiven, GaveWay, Forgotten};
 
 // The labels of the slots before the facts' are their own numbers.
 pub fn fresh(b: &mut [u8; State::BYTES])
@@ -91,7 +96,7 @@ pub fn drop_variable<'a>(
     changed
 }
 
-// The paths of the entries that are out are dropped.
+// The paths of the entries that are out are dropped, but for names still listed.
 pub fn drop_paths<'a>(
     key: &'a [u64; State::SLOTS],
     b: &'a [u8; State::BYTES],
@@ -100,16 +105,16 @@ pub fn drop_paths<'a>(
     gone: &mut [bool; State::SLOTS],
 ) -> bool
     requires { ⌜ (m ≤ slots) × (entries (now b) ≤ most-permissions) × (length (now gone) ≡ slots) ⌝ }
-    ensures { λ r. ⌜ Dropped (keyOut (now (b .entry)) (now (out .entry))) (now (key .entry)) m (now (gone .exit)) r ⌝ }
+    ensures { λ r. ⌜ Dropped (keyDropped (now (b .entry)) (now (out .entry))) (now (key .entry)) m (now (gone .exit)) r ⌝ }
 {
     let n = b[State::ENTRIES] as usize;
     let marks = marks::marks_out(b, out, n);
     let mut changed = false;
     let mut i = State::LEFT;
     while i < m {
-        let named = marks::names_marked(b, out, &marks, n, key[i]);
-        gone[i] = named;
-        changed = changed | named;
+        let dropped = marks::names_dropped(b, out, &marks, n, key[i]);
+        gone[i] = dropped;
+        changed = changed | dropped;
         i += 1;
     }
     changed
@@ -132,7 +137,34 @@ pub fn rename_keys(key: &mut [u64; State::SLOTS], m: usize, x: u8, to: u8) -> bo
     changed
 }
 
-// The facts of which no side is gone, with labels made anew.
+// Has a fact one term on both sides, and is it an equality? c is 1 for an inequality.
+fn trivial(c: u8, left: u64, right: u64) -> bool
+    ensures { λ r. ⌜ r ≡ sameSides c left right ⌝ }
+{
+    (c != 1) & (left == right)
+}
+
+// Is there such a fact?
+fn has_trivial<'a>(key: &'a [u64; State::SLOTS], b: &'a [u8; State::BYTES]) -> bool
+    requires { ⌜ facts (now b) ≤ most-facts ⌝ }
+    ensures { λ r. ⌜ r ≡ any (trivialAt (now (key .entry)) (now (b .entry))) (places (facts (now (b .entry)))) ⌝ }
+{
+    let n = b[State::FACTS] as usize;
+    let mut i = 0;
+    while i < n {
+        if trivial(
+            b[State::RELATIONS + i],
+            key[State::LEFT + 2 * i],
+            key[State::RIGHT + 2 * i],
+        ) {
+            return true;
+        }
+        i += 1;
+    }
+    false
+}
+
+// The facts of which no side is gone, but for equalities with one term on both sides, with labels made anew.
 fn rebuild(key: &mut [u64; State::SLOTS], b: &mut [u8; State::BYTES], gone: &[bool; State::SLOTS])
     requires { ⌜ Sized (now key) (now b) ⌝ }
     ensures { λ _. ⌜ Rebuilt (now (key .entry)) (now (b .entry)) (now (gone .entry)) (now (key .exit)) (now (b .exit)) ⌝ }
@@ -145,10 +177,10 @@ fn rebuild(key: &mut [u64; State::SLOTS], b: &mut [u8; State::BYTES], gone: &[bo
     while i < all {
         let l = State::LEFT + 2 * i;
         let r = State::RIGHT + 2 * i;
-        let out = gone[l] | gone[r];
         let c = b[State::RELATIONS + i];
         let left = key[l];
         let right = key[r];
+        let out = gone[l] | gone[r] | trivial(c, left, right);
         n = keep_fact(key, b, &mut marks, n, out, c, left, right);
         i += 1;
     }
@@ -156,7 +188,7 @@ fn rebuild(key: &mut [u64; State::SLOTS], b: &mut [u8; State::BYTES], gone: &[bo
 }
 
 // As `rebuild`; nothing is done where nothing changes.
-pub fn forget(
+pub fn settle(
     key: &mut [u64; State::SLOTS],
     b: &mut [u8; State::BYTES],
     gone: &[bool; State::SLOTS],
@@ -165,7 +197,115 @@ pub fn forget(
     requires { ⌜ Sized (now key) (now b) × (changed ≡ false → Unchanged (now key) (now b) (now gone)) ⌝ }
     ensures { λ _. ⌜ Rebuilt (now (key .entry)) (now (b .entry)) (now (gone .entry)) (now (key .exit)) (now (b .exit)) ⌝ }
 {
-    if changed {
+    let again = changed | has_trivial(key, b);
+    if again {
         rebuild(key, b, gone);
     }
+}
+
+// Stores what becomes of the side in slot j.
+fn store(key: &mut [u64; State::SLOTS], gone: &mut [bool; State::SLOTS], j: usize, k: Resolved)
+    requires { ⌜ (left-sides ≤ j) × (j < slots) × Header (now key) × (length (now gone) ≡ slots) ⌝ }
+    ensures { λ _. ⌜ Stored j (termOr k) (now (key .entry)) (now (gone .entry)) (now (key .exit)) (now (gone .exit)) ⌝ }
+{
+    let Resolved::Key(l) = k else {
+        gone[j] = true;
+        return;
+    };
+    key[j] = l;
+    gone[j] = false;
+}
+
+// The dropped side in slot j gives way; `old` and b hold the state before. `lead` has, for each label, the first slot with it that gave
+// way, or 0: what is ~ to it has the same successor.
+fn give_dropped<'a>(
+    old: &'a [u64; State::SLOTS],
+    b: &'a [u8; State::BYTES],
+    skip: &'a [bool; Machine::PERMISSIONS],
+    x: u8,
+    key: &mut [u64; State::SLOTS],
+    gone: &mut [bool; State::SLOTS],
+    lead: &mut [u8; State::SLOTS],
+    j: usize,
+)
+    requires { ⌜ Wf (now old) (now b) × (left-sides ≤ j) × (j < left-sides + 2 * facts (now b)) × Giving (now old) (now b) (now skip) x j (now key) (now gone) (now lead) × (getD (now gone) j false ≡ true) ⌝ }
+    ensures { λ _. ⌜ SideGiven (now (old .entry)) (now (b .entry)) (now (skip .entry)) x j (now (key .entry)) (now (gone .entry)) (now (key .exit)) (now (gone .exit)) (now (lead .exit)) ⌝ }
+{
+    let a = b[j] as usize;
+    let i = lead[a] as usize;
+    if i == 0 {
+        lead[a] = j as u8;
+        store(
+            key,
+            gone,
+            j,
+            check_successors::successor(old, b, skip, x, old[j], b[j]),
+        );
+        return;
+    }
+    let k = key[i];
+    let g = gone[i];
+    key[j] = k;
+    gone[j] = g;
+}
+
+// The side in slot j gives way, if it is dropped.
+fn give_side<'a>(
+    old: &'a [u64; State::SLOTS],
+    b: &'a [u8; State::BYTES],
+    skip: &'a [bool; Machine::PERMISSIONS],
+    x: u8,
+    key: &mut [u64; State::SLOTS],
+    gone: &mut [bool; State::SLOTS],
+    lead: &mut [u8; State::SLOTS],
+    j: usize,
+)
+    requires { ⌜ Wf (now old) (now b) × (left-sides ≤ j) × (j < left-sides + 2 * facts (now b)) × Giving (now old) (now b) (now skip) x j (now key) (now gone) (now lead) × (getD (now key) j 0 ≡ getD (now old) j 0) ⌝ }
+    ensures { λ _. ⌜ SideGiven (now (old .entry)) (now (b .entry)) (now (skip .entry)) x j (now (key .entry)) (now (gone .entry)) (now (key .exit)) (now (gone .exit)) (now (lead .exit)) ⌝ }
+{
+    if gone[j] {
+        give_dropped(old, b, skip, x, key, gone, lead, j);
+    }
+}
+
+// Each side that is dropped gives way.
+fn give_way<'a>(
+    key: &mut [u64; State::SLOTS],
+    b: &'a [u8; State::BYTES],
+    skip: &'a [bool; Machine::PERMISSIONS],
+    x: u8,
+    gone: &mut [bool; State::SLOTS],
+)
+    requires { ⌜ Wf (now key) (now b) × (length (now gone) ≡ slots) ⌝ }
+    ensures { λ _. ⌜ GaveWay (now (key .entry)) (now (b .entry)) (now (skip .entry)) x (now (gone .entry)) (now (key .exit)) (now (gone .exit)) ⌝ }
+{
+    let old = *key;
+    let m = State::LEFT + 2 * (b[State::FACTS] as usize);
+    let mut lead = [0; State::SLOTS];
+    let mut j = State::LEFT;
+    while j < m {
+        give_side(&old, b, skip, x, key, gone, &mut lead, j);
+        j += 1;
+    }
+}
+
+// The sides with a flag are dropped: they give way to successors, which are neither x nor paths of entries to be skipped. `changed` says
+// whether there are any.
+pub fn forget(
+    key: &mut [u64; State::SLOTS],
+    b: &mut [u8; State::BYTES],
+    skip: &[bool; Machine::PERMISSIONS],
+    x: u8,
+    gone: &mut [bool; State::SLOTS],
+    changed: bool,
+)
+    requires { ⌜ Wf (now key) (now b) × (length (now gone) ≡ slots) × (changed ≡ false → Unchanged (now key) (now b) (now gone)) ⌝ }
+    ensures { λ _. ⌜ Forgotten (now (key .entry)) (now (b .entry)) (now (skip .entry)) x (now (gone .entry)) (now (key .exit)) (now (b .exit)) ⌝ }
+{
+    if changed {
+        give_way(key, b, skip, x, gone);
+        rebuild(key, b, gone);
+        return;
+    }
+    settle(key, b, gone, changed);
 }

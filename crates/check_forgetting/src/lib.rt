@@ -8,20 +8,20 @@ use check_equality::State;
 use check_state::Resolved;
 use rules::Machine;
 ghost use mathlib.Core.Path.{_≡_};
-ghost use mathlib.Core.Bool.{false};
+ghost use mathlib.Core.Bool.{true};
 ghost use mathlib.Core.Option.{none, some};
 ghost use mathlib.Core.List.{List};
 ghost use Prim.Native.Nat.{ℕ, _+_, _*_, _<_};
 ghost use lib.ListN.{length, getD};
 ghost use Rattle.rules.specs.Syntax as Syntax;
 ghost use Rattle.rules.specs.State as Rules;
-ghost use Rattle.rules.specs.State.{renameTerm};
 ghost use Rattle.check_equality.specs.Layout.{bytes, variables-at, fields-at};
 ghost use Rattle.check_equality.specs.Keys.{termOf};
 ghost use Rattle.check_equality.specs.Links.{Header};
 ghost use Rattle.check_state.specs.States.{Wf, stateOf, entries};
 ghost use Rattle.check_state.specs.Questions.{variableOr};
-ghost use Rattle.check_forgetting.specs.Changes.{Becomes, Remains, withoutPath, leftOver};
+ghost use Rattle.check_successors.specs.Successors.{termOr};
+ghost use Rattle.check_forgetting.specs.Changes.{Becomes, Remains, ForgotOut, withoutPath, mentionsKey};
 
 // The keys of a state that knows nothing: in the slots before the facts' the variables and null.
 pub fn header() -> [u64; State::SLOTS]
@@ -47,7 +47,25 @@ pub fn clear(b: &mut [u8; State::BYTES])
     b[State::ENTRIES] = 0;
 }
 
-// The state without the entries that are out, and without the facts that name their paths.
+// The paths of the entries that are out are dropped, but for names still listed: the facts without them.
+fn forget_out(
+    key: &mut [u64; State::SLOTS],
+    b: &mut [u8; State::BYTES],
+    out: &[bool; Machine::PERMISSIONS],
+)
+    requires { ⌜ Wf (now key) (now b) ⌝ }
+    ensures { λ _. ⌜ ForgotOut (now (key .entry)) (now (b .entry)) (now (out .entry)) (now (key .exit)) (now (b .exit)) ⌝ }
+{
+    let p = b[State::ENTRIES] as usize;
+    if marks::drops_some(b, out, p) {
+        let m = State::LEFT + 2 * (b[State::FACTS] as usize);
+        let mut gone = [false; State::SLOTS];
+        let changed = facts::drop_paths(key, b, out, m, &mut gone);
+        facts::forget(key, b, out, State::NO_VARIABLE, &mut gone, changed);
+    }
+}
+
+// The state without the entries that are out, whose paths are dropped.
 pub fn remainder(
     key: &mut [u64; State::SLOTS],
     b: &mut [u8; State::BYTES],
@@ -56,14 +74,11 @@ pub fn remainder(
     requires { ⌜ Wf (now key) (now b) ⌝ }
     ensures { λ _. ⌜ Remains (now (key .entry)) (now (b .entry)) (now (out .entry)) (now (key .exit)) (now (b .exit)) ⌝ }
 {
-    let m = State::LEFT + 2 * (b[State::FACTS] as usize);
-    let mut gone = [false; State::SLOTS];
-    let changed = facts::drop_paths(key, b, out, m, &mut gone);
-    facts::forget(key, b, &gone, changed);
+    forget_out(key, b, out);
     entries::pack(b, out);
 }
 
-// The state without the facts that name the path of entry i, whose key is k.
+// The path of entry i, whose key is k, is dropped, though it stays listed.
 pub fn without_path(key: &mut [u64; State::SLOTS], b: &mut [u8; State::BYTES], i: usize, k: u64)
     requires { ⌜ Wf (now key) (now b) × (i < entries (now b)) × (termOf k ≡ Syntax.path (getD (now b) (variables-at + i) 0) (getD (now b) (fields-at + i) 0)) ⌝ }
     ensures { λ _. ⌜ Becomes (withoutPath (now (key .entry)) (now (b .entry)) i) (now (key .exit)) (now (b .exit)) ⌝ }
@@ -71,10 +86,12 @@ pub fn without_path(key: &mut [u64; State::SLOTS], b: &mut [u8; State::BYTES], i
     let m = State::LEFT + 2 * (b[State::FACTS] as usize);
     let mut gone = [false; State::SLOTS];
     let changed = facts::drop_path(key, m, k, &mut gone);
-    facts::forget(key, b, &gone, changed);
+    let p = b[State::ENTRIES] as usize;
+    let skip = entries::entries_at(b, p, k);
+    facts::forget(key, b, &skip, State::NO_VARIABLE, &mut gone, changed);
 }
 
-// All that names x goes.
+// x and its paths are dropped.
 fn erase(key: &mut [u64; State::SLOTS], b: &mut [u8; State::BYTES], x: u8)
     requires { ⌜ Wf (now key) (now b) ⌝ }
     ensures { λ _. ⌜ Becomes (Rules.removeTo x none (stateOf (now (key .entry)) (now (b .entry)))) (now (key .exit)) (now (b .exit)) ⌝ }
@@ -84,7 +101,7 @@ fn erase(key: &mut [u64; State::SLOTS], b: &mut [u8; State::BYTES], x: u8)
     let changed = facts::drop_variable(key, m, x, &mut gone);
     let p = b[State::ENTRIES] as usize;
     let out = entries::entries_of(b, p, x);
-    facts::forget(key, b, &gone, changed);
+    facts::forget(key, b, &out, x, &mut gone, changed);
     entries::pack(b, &out);
 }
 
@@ -96,7 +113,7 @@ fn replace(key: &mut [u64; State::SLOTS], b: &mut [u8; State::BYTES], x: u8, to:
     let m = State::LEFT + 2 * (b[State::FACTS] as usize);
     let gone = [false; State::SLOTS];
     let changed = facts::rename_keys(key, m, x, to);
-    facts::forget(key, b, &gone, changed);
+    facts::settle(key, b, &gone, changed);
     entries::rename_entries(b, x, to);
 }
 
@@ -116,25 +133,46 @@ pub fn remove(key: &mut [u64; State::SLOTS], b: &mut [u8; State::BYTES], x: u8)
     requires { ⌜ Wf (now key) (now b) ⌝ }
     ensures { λ _. ⌜ Becomes (Rules.remove x (stateOf (now (key .entry)) (now (b .entry)))) (now (key .exit)) (now (b .exit)) ⌝ }
 {
-    let to = check_state::successor(key, b, x);
+    let to = check_state::stand_in(key, b, x);
     remove_to(key, b, x, to);
 }
 
-fn left_over(k: u64, x: u8) -> Resolved
-    ensures { λ r. ⌜ leftOver r ≡ renameTerm x none (termOf k) ⌝ }
+// What becomes of a term that names x, where x and its paths are dropped: its successor.
+fn gives_way<'a>(key: &'a [u64; State::SLOTS], b: &'a [u8; State::BYTES], k: u64, x: u8) -> Resolved
+    requires { ⌜ Wf (now key) (now b) ⌝ }
+    ensures { λ r. ⌜ (mentionsKey x k ≡ true → termOr r ≡ Rules.removedTerm x none (stateOf (now (key .entry)) (now (b .entry))) (termOf k)) ⌝ }
+{
+    let m = State::LEFT + 2 * (b[State::FACTS] as usize);
+    let p = b[State::ENTRIES] as usize;
+    let skip = entries::entries_of(b, p, x);
+    let a = check_equality::label_of(key, b, m, k);
+    check_successors::successor(key, b, &skip, x, k, a)
+}
+
+// What becomes of a term where x and its paths are dropped.
+fn left_over<'a>(key: &'a [u64; State::SLOTS], b: &'a [u8; State::BYTES], k: u64, x: u8) -> Resolved
+    requires { ⌜ Wf (now key) (now b) ⌝ }
+    ensures { λ r. ⌜ termOr r ≡ Rules.removedTerm x none (stateOf (now (key .entry)) (now (b .entry))) (termOf k) ⌝ }
 {
     if keys::mentions(k, x) {
-        return Resolved::Nothing;
+        return gives_way(key, b, k, x);
     }
     Resolved::Key(k)
 }
 
-// A term with `to` in the place of x; where that is NO_VARIABLE and the term names x, none.
-pub fn renamed(k: u64, x: u8, to: u8) -> Resolved
-    ensures { λ r. ⌜ leftOver r ≡ renameTerm x (variableOr to) (termOf k) ⌝ }
+// What becomes of a term where `to` takes the place of x, or, where that is NO_VARIABLE, x and its paths are dropped.
+pub fn removed<'a>(
+    key: &'a [u64; State::SLOTS],
+    b: &'a [u8; State::BYTES],
+    k: u64,
+    x: u8,
+    to: u8,
+) -> Resolved
+    requires { ⌜ Wf (now key) (now b) ⌝ }
+    ensures { λ r. ⌜ termOr r ≡ Rules.removedTerm x (variableOr to) (stateOf (now (key .entry)) (now (b .entry))) (termOf k) ⌝ }
 {
     if to == State::NO_VARIABLE {
-        return left_over(k, x);
+        return left_over(key, b, k, x);
     }
     Resolved::Key(keys::rename(k, x, to))
 }

@@ -1,15 +1,15 @@
-// Which keys are those of entries that are out, by marks.
+// Which keys are those of entries that are out, by marks; and which of these are dropped: those that no other entry has.
 use check_equality::State;
 use rules::Machine;
 ghost use mathlib.Core.Path.{_≡_};
-ghost use mathlib.Core.Bool.{false};
+ghost use mathlib.Core.Bool.{false, not, _&&_};
 ghost use Prim.Native.Nat.{_+_, _≤_, _<_};
-ghost use lib.ListN.{length};
 ghost use Rattle.rules.specs.Base.{any};
 ghost use Rattle.rules.specs.Limits.{most-permissions};
-ghost use Rattle.check_equality.specs.Layout.{mark-count};
+ghost use Rattle.rules.specs.Syntax.{path};
+ghost use Rattle.check_equality.specs.Keys.{termOf};
 ghost use Rattle.check_state.specs.Questions.{places};
-ghost use Rattle.check_forgetting.specs.Changes.{pathOut, pathOutAt, Marks, MarksOut};
+ghost use Rattle.check_forgetting.specs.Changes.{pathOut, pathOutAt, keptNames, droppedAt, MarksOut};
 
 // Is the entry x.f out, and its path that of the key?
 fn path_out(out: bool, x: u8, f: u8, k: u64) -> bool
@@ -41,17 +41,6 @@ fn names_out<'a>(
     false
 }
 
-// Marks the place of the key of x.f, where that entry is out.
-fn mark(marks: &mut [bool; State::MARKS], out: bool, x: u8, f: u8)
-    requires { ⌜ length (now marks) ≡ mark-count ⌝ }
-    ensures { λ _. ⌜ Marks out x f (now (marks .entry)) (now (marks .exit)) ⌝ }
-{
-    if out {
-        let p = check_equality::place(check_equality::path_key(x, f));
-        marks[p] = true;
-    }
-}
-
 // The places of the keys of all entries that are out.
 pub fn marks_out<'a>(
     b: &'a [u8; State::BYTES],
@@ -64,19 +53,15 @@ pub fn marks_out<'a>(
     let mut marks = [false; State::MARKS];
     let mut i = 0;
     while i < n {
-        mark(
-            &mut marks,
-            out[i],
-            b[State::VARIABLES + i],
-            b[State::FIELDS + i],
-        );
+        let k = check_equality::path_key(b[State::VARIABLES + i], b[State::FIELDS + i]);
+        check_successors::mark(&mut marks, out[i], k);
         i += 1;
     }
     marks
 }
 
 // As `names_out`, by a look at the marks first.
-pub fn names_marked<'a>(
+fn names_marked<'a>(
     b: &'a [u8; State::BYTES],
     out: &'a [bool; Machine::PERMISSIONS],
     marks: &'a [bool; State::MARKS],
@@ -89,6 +74,87 @@ pub fn names_marked<'a>(
     let p = check_equality::place(k);
     if marks[p] {
         return names_out(b, out, n, k);
+    }
+    false
+}
+
+// Is a key that of an entry that is not out?
+fn names_kept<'a>(
+    b: &'a [u8; State::BYTES],
+    out: &'a [bool; Machine::PERMISSIONS],
+    n: usize,
+    k: u64,
+) -> bool
+    requires { ⌜ n ≤ most-permissions ⌝ }
+    ensures { λ r. ⌜ r ≡ any (keptNames (now (b .entry)) (now (out .entry)) (termOf k)) (places n) ⌝ }
+{
+    let mut i = 0;
+    while i < n {
+        if path_out(!out[i], b[State::VARIABLES + i], b[State::FIELDS + i], k) {
+            return true;
+        }
+        i += 1;
+    }
+    false
+}
+
+// Is a key that of an entry that is out, and of no other?
+pub fn names_dropped<'a>(
+    b: &'a [u8; State::BYTES],
+    out: &'a [bool; Machine::PERMISSIONS],
+    marks: &'a [bool; State::MARKS],
+    n: usize,
+    k: u64,
+) -> bool
+    requires { ⌜ (n ≤ most-permissions) × MarksOut (now b) (now out) n (now marks) ⌝ }
+    ensures { λ r. ⌜ r ≡ (any (pathOutAt (now (b .entry)) (now (out .entry)) k) (places n) && not (any (keptNames (now (b .entry)) (now (out .entry)) (termOf k)) (places n))) ⌝ }
+{
+    if names_marked(b, out, marks, n, k) {
+        return !names_kept(b, out, n, k);
+    }
+    false
+}
+
+// Is an entry x.f out, and its path that of no entry that is not?
+fn drops_entry<'a>(
+    b: &'a [u8; State::BYTES],
+    out: &'a [bool; Machine::PERMISSIONS],
+    n: usize,
+    gone: bool,
+    x: u8,
+    f: u8,
+) -> bool
+    requires { ⌜ n ≤ most-permissions ⌝ }
+    ensures { λ r. ⌜ r ≡ (gone && not (any (keptNames (now (b .entry)) (now (out .entry)) (path x f)) (places n))) ⌝ }
+{
+    if gone {
+        return !names_kept(b, out, n, check_equality::path_key(x, f));
+    }
+    false
+}
+
+// Is a path dropped?
+pub fn drops_some<'a>(
+    b: &'a [u8; State::BYTES],
+    out: &'a [bool; Machine::PERMISSIONS],
+    n: usize,
+) -> bool
+    requires { ⌜ n ≤ most-permissions ⌝ }
+    ensures { λ r. ⌜ r ≡ any (droppedAt (now (b .entry)) (now (out .entry)) n) (places n) ⌝ }
+{
+    let mut i = 0;
+    while i < n {
+        if drops_entry(
+            b,
+            out,
+            n,
+            out[i],
+            b[State::VARIABLES + i],
+            b[State::FIELDS + i],
+        ) {
+            return true;
+        }
+        i += 1;
     }
     false
 }

@@ -66,7 +66,7 @@ slot-like {key = key} {label = label} D low i t a h w =
     alike D low (getD key i 0) (getD label i 0) t a (inl (record { place = i; within = h; is = refl; shown = refl })) w
     ∙ ap (λ (c : Bool). cond c (eqb (getD key i 0) t) (eqb (getD label i 0) a)) (ne-eqb (getD label i 0) 255 (λ e. omega (arith, D .low i h)))
 
-ne-is : (b : Bool) → isNe (relOf b) ≡ b
+pub ne-is : (b : Bool) → isNe (relOf b) ≡ b
 unfolding isNe relOf
 ne-is true = refl
 ne-is false = refl

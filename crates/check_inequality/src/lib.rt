@@ -54,7 +54,7 @@ fn listed_unequal(b: &[u8; State::BYTES], n: usize, x: u8, y: u8) -> bool
 }
 
 // Is k a number's key, and the number ~ the term of l?
-fn number_like(k: u64, c: u8, l: u64, b: u8) -> bool
+pub fn number_like(k: u64, c: u8, l: u64, b: u8) -> bool
     ensures { λ r. ⌜ r ≡ numberLike k c l b ⌝ }
 {
     if k < State::FIRST_NUMBER {

@@ -4,7 +4,7 @@ use mathlib.Core.Bool.{Bool, true, false, cond}
 use mathlib.Core.List.{List, [], _∷_}
 use mathlib.Core.Option.{none, some}
 use mathlib.Core.Logic.{_⊎_, inl, inr, ⊎-elim}
-use Prim.Native.Nat.{ℕ, zero, suc, _<_}
+use Prim.Native.Nat.{ℕ, zero, suc, _≤_, _<_}
 use native.Mathlib.Omega.{arith}
 use lib.Dec.{ltb}
 use lib.ListN.{getD, replicate, getD-replicate, List·getD-eq-default, length-replicate}
@@ -12,9 +12,10 @@ use borrow.Author.Tests.{ne-eqb, ltb-true, ltb-false}
 use Rattle.rules.specs.Base.{ok, no, _>>=_, orElse, first}
 use Rattle.rules.specs.Limits.{most-permissions}
 use Rattle.rules.specs.Answers.{unresolved}
-use Rattle.rules.specs.Syntax.{path}
+use Rattle.rules.specs.Syntax.{var, path}
 use Rattle.rules.specs.State as Rules
 use Rattle.rules.specs.State.{Equality, equalIn, equalBy, representative, names, pathOf}
+use Rattle.check_equality.specs.Keys.{termOf}
 use Rattle.check_equality.specs.Listing.{listed}
 use Rattle.check_equality.proofs.Listing.{first-append, first-here, first-found}
 use Rattle.check_state.specs.States.{factsOf, permissionAt, permissionsOf, stateOf, entries}
@@ -54,18 +55,23 @@ module _ (b : List ℕ) (_~_ : Equality) (y g i : ℕ) (F : FirstPlace (entryTes
           let d : i ≡ entries b = omega (arith, ltb-false i (entries b) e, F .within) in
           rw (rw d at none-before)
 
--- THE SUCCESSOR
-module _ (key b : List ℕ) (x v : ℕ) (before : (j : ℕ) → j < v → standsFor (equalBy (representative (factsOf key b))) x j ≡ false) where
-  none-yet : first (standsFor (equalBy (representative (factsOf key b))) x) (listed (λ i. i) v) ≡ none
-  none-yet = first-none _ (λ i. i) v before
+-- THE STAND-IN
+module _ (key b : List ℕ) (x k v : ℕ) (e : termOf k ≡ var x) (F : FirstPlace (standsFor (equalBy (representative (factsOf key b))) x (termOf k)) 15 v) where
+  abbrev test : ℕ → Bool
+  test = standsFor (equalBy (representative (factsOf key b))) x (termOf k)
 
-  pub successor-none : v ≡ 15 → none ≡ Rules.successor (stateOf key b) x
-  unfolding Rules.successor standsFor listed equalIn
-  successor-none e = sym (rw e at none-yet)
+  is : Rules.standIn (stateOf key b) x ≡ first test (listed (λ i. i) 15)
+  unfolding Rules.standIn standsFor listed equalIn
+  is = rw e
 
-  pub successor-found : v < 15 → standsFor (equalBy (representative (factsOf key b))) x v ≡ true → some v ≡ Rules.successor (stateOf key b) x
-  unfolding Rules.successor standsFor listed equalIn
-  successor-found h e = sym (first-found (standsFor (equalBy (representative (factsOf key b))) x) (λ i. i) 15 v h (first-here (standsFor (equalBy (representative (factsOf key b))) x) (λ i. i) v none-yet e))
+  none-yet : first test (listed (λ i. i) v) ≡ none
+  none-yet = first-none _ (λ i. i) v (F .before)
+
+  pub stand-in-none : 15 ≤ v → none ≡ Rules.standIn (stateOf key b) x
+  stand-in-none h = let d : v ≡ 15 = omega (arith, F .within) in sym (is ∙ (rw d at none-yet))
+
+  pub stand-in-found : v < 15 → some v ≡ Rules.standIn (stateOf key b) x
+  stand-in-found h = sym (is ∙ first-found test (λ i. i) 15 v h (first-here test (λ i. i) v none-yet (F .found h)))
 
 pub a-variable : (v : ℕ) → v < 15 → variableOr v ≡ some v
 unfolding variableOr

@@ -8,7 +8,6 @@ use lib.Dec.{eqb, ltb}
 use lib.ListN.{getD}
 use Rattle.rules.specs.Base.{Try, ok, no}
 use Rattle.rules.specs.Answers.{Refusal, unresolved}
-use Rattle.rules.specs.Syntax as Syntax
 use Rattle.rules.specs.Syntax.{var}
 use Rattle.rules.specs.State as Rules
 use Rattle.rules.specs.State.{Fact, Equality, representative, equalBy, names, pathOf}
@@ -59,6 +58,6 @@ no-variable = 255
 unfoldable pub variableOr : ℕ → Option ℕ
 variableOr v = cond (eqb v no-variable) none (some v)
 
--- another variable, and ~ x
-unfoldable pub standsFor : Rules.Equality → ℕ → ℕ → Bool
-standsFor same x v = not (eqb v x) && same (Syntax.var v) (Syntax.var x)
+-- another variable than x, and ~ t
+unfoldable pub standsFor : Equality → ℕ → Rules.Term → ℕ → Bool
+standsFor _~_ x t v = not (eqb v x) && _~_ (var v) t

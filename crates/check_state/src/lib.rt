@@ -8,6 +8,7 @@ ghost use Rattle.rules.specs.Limits.{most-permissions};
 ghost use Rattle.rules.specs.Syntax.{var};
 ghost use Rattle.rules.specs.State as Rules;
 ghost use Rattle.rules.specs.State.{equalIn};
+ghost use Rattle.check_equality.specs.Layout.{null-slot};
 ghost use Rattle.check_equality.specs.Keys.{termOf, meaning};
 ghost use Rattle.check_equality.specs.Links.{Labelled};
 ghost use Rattle.check_state.specs.States.{Wf, stateOf, permissionsOf, entries};
@@ -148,7 +149,7 @@ pub fn resolve<'a>(key: &'a [u64; State::SLOTS], b: &'a [u8; State::BYTES], e: T
     path_at(b, entry(key, b, &out, y, f))
 }
 
-// Is v a variable other than x and ~ x? k and a are x's key and label.
+// Is v a variable other than x, and ~ the term of k, whose label is a?
 fn stands_for<'a>(
     key: &'a [u64; State::SLOTS],
     b: &'a [u8; State::BYTES],
@@ -158,8 +159,8 @@ fn stands_for<'a>(
     k: u64,
     a: u8,
 ) -> bool
-    requires { ⌜ Slots (now key) (now b) m × Labelled (now key) (now b) m k a × (termOf k ≡ var x) ⌝ }
-    ensures { λ r. ⌜ Told (now (key .entry)) (now (b .entry)) m (λ same. r ≡ standsFor same x v) ⌝ }
+    requires { ⌜ Slots (now key) (now b) m × Labelled (now key) (now b) m k a ⌝ }
+    ensures { λ r. ⌜ Told (now (key .entry)) (now (b .entry)) m (λ same. r ≡ standsFor same x (termOf k) v) ⌝ }
 {
     if v == x {
         return false;
@@ -167,20 +168,39 @@ fn stands_for<'a>(
     variable_is(key, b, m, v, k, a)
 }
 
-// The first other variable ~ x, or NO_VARIABLE.
-pub fn successor<'a>(key: &'a [u64; State::SLOTS], b: &'a [u8; State::BYTES], x: u8) -> u8
-    requires { ⌜ Wf (now key) (now b) ⌝ }
-    ensures { λ r. ⌜ variableOr r ≡ Rules.successor (stateOf (now (key .entry)) (now (b .entry))) x ⌝ }
+// The first variable other than x that is ~ the term of k, whose label is a; or VARIABLE_COUNT.
+pub fn first_variable<'a>(
+    key: &'a [u64; State::SLOTS],
+    b: &'a [u8; State::BYTES],
+    m: usize,
+    x: u8,
+    k: u64,
+    a: u8,
+) -> u8
+    requires { ⌜ Slots (now key) (now b) m × Labelled (now key) (now b) m k a ⌝ }
+    ensures { λ r. ⌜ Told (now (key .entry)) (now (b .entry)) m (λ same. FirstPlace (standsFor same x (termOf k)) null-slot r) ⌝ }
 {
-    let m = State::LEFT + 2 * (b[State::FACTS] as usize);
-    let k = check_equality::variable_key(x);
-    let a = check_equality::label_of(key, b, m, k);
     let mut v = 0;
     while v < State::VARIABLE_COUNT {
         if stands_for(key, b, m, v, x, k, a) {
             return v;
         }
         v += 1;
+    }
+    State::VARIABLE_COUNT
+}
+
+// The first other variable ~ x, or NO_VARIABLE.
+pub fn stand_in<'a>(key: &'a [u64; State::SLOTS], b: &'a [u8; State::BYTES], x: u8) -> u8
+    requires { ⌜ Wf (now key) (now b) ⌝ }
+    ensures { λ r. ⌜ variableOr r ≡ Rules.standIn (stateOf (now (key .entry)) (now (b .entry))) x ⌝ }
+{
+    let m = State::LEFT + 2 * (b[State::FACTS] as usize);
+    let k = check_equality::variable_key(x);
+    let a = check_equality::label_of(key, b, m, k);
+    let v = first_variable(key, b, m, x, k, a);
+    if v < State::VARIABLE_COUNT {
+        return v;
     }
     State::NO_VARIABLE
 }

@@ -27,7 +27,8 @@ use Rattle.check_state.specs.declared.Resolved.{Resolved}
 use Rattle.check_entailment.proofs.Answer.{the-type}
 use Rattle.check_state.specs.States.{Wf, stateOf, entries, variableAt, fieldAt, permissionAt, permissionsOf}
 use Rattle.check_state.specs.Questions.{FirstPlace, entryTest, passes}
-use Rattle.check_forgetting.specs.Changes.{kept, leftOver, Becomes, withoutPath, Remains}
+use Rattle.check_successors.specs.Successors.{termOr}
+use Rattle.check_forgetting.specs.Changes.{kept, Becomes, withoutPath, Remains}
 use Rattle.check_entailment.specs.Answers.{answered, Adds}
 use Rattle.check_state.proofs.Entries.{no-flags}
 use Rattle.check_forgetting.proofs.Keeping.{kept-all}
@@ -93,21 +94,21 @@ module _ (key b : List ℕ) (w : Wf key b) (x f y i : ℕ) (F : FirstPlace (entr
       rw e
 
 -- LET
-pub equal-none : (x : ℕ) (k : Resolved) (key b : List ℕ) → Wf key b → k ≡ Resolved.Nothing → Adds (addEqual x (leftOver k) (stateOf key b)) Answer.Done key b
-unfolding addEqual leftOver
+pub equal-none : (x : ℕ) (k : Resolved) (key b : List ℕ) → Wf key b → k ≡ Resolved.Nothing → Adds (addEqual x (termOr k) (stateOf key b)) Answer.Done key b
+unfolding addEqual termOr
 equal-none x k key b w e = rw e (adds-ok key b w)
 
 pub equal-some :
     (x t v : ℕ) (k : Resolved) (s : Rules.State) (r : Answer) (key b : List ℕ) → termOf v ≡ var x → k ≡ Resolved.Key t →
-    Adds (Rules.addFact (relOf false) (termOf v) (termOf t) s) r key b → Adds (addEqual x (leftOver k) s) r key b
-unfolding addEqual leftOver relOf
+    Adds (Rules.addFact (relOf false) (termOf v) (termOf t) s) r key b → Adds (addEqual x (termOr k) s) r key b
+unfolding addEqual termOr relOf
 equal-some x t v k s r key b d e A = rw (e, ← d) A
 
 pub assign-same : (x k v : ℕ) (s : Rules.State) → termOf v ≡ var x → k ≡ v → assignTerm x (termOf k) s ≡ ok s
 unfolding assignTerm
 assign-same x k v s d e = rw (← d, same-key k v, eq-eqb k v e)
 
-pub assign-other : (x k v : ℕ) (s : Rules.State) → termOf v ≡ var x → (k ≡ v → ⊥) → assignTerm x (termOf k) s ≡ addEqual x (Rules.renameTerm x (Rules.successor s x) (termOf k)) (Rules.removeTo x (Rules.successor s x) s)
+pub assign-other : (x k v : ℕ) (s : Rules.State) → termOf v ≡ var x → (k ≡ v → ⊥) → assignTerm x (termOf k) s ≡ addEqual x (Rules.removedTerm x (Rules.standIn s x) s (termOf k)) (Rules.removeTo x (Rules.standIn s x) s)
 unfolding assignTerm
 assign-other x k v s d n = let e : same (termOf k) (var x) ≡ false = rw (← d) (same-key k v ∙ ne-eqb k v n) in rw e
 

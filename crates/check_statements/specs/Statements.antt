@@ -40,8 +40,8 @@ JoinGives φ returned key b returned2 key2 b2 answer key′ b′ =
 -- `let x e`, where e resolves to r
 unfoldable pub assignTerm : ℕ → Rules.Term → Rules.State → Try Refusal Rules.State
 assignTerm x r s =
-    let to : Option ℕ = Rules.successor s x in
-    cond (same r (var x)) (ok s) (addEqual x (Rules.renameTerm x to r) (Rules.removeTo x to s))
+    let to : Option ℕ = Rules.standIn s x in
+    cond (same r (var x)) (ok s) (addEqual x (Rules.removedTerm x to s r) (Rules.removeTo x to s))
 
 -- `call`, where y ≠ null is shown
 unfoldable pub callShown : ℕ → ℕ → Method → ℕ → Rules.State → Try Refusal Rules.State

@@ -15,11 +15,11 @@ ghost use Rattle.tables.specs.Tables.{Tables};
 ghost use Rattle.check_equality.specs.Keys.{termOf, meaning};
 ghost use Rattle.check_equality.specs.Links.{relOf};
 ghost use Rattle.check_state.specs.States.{Wf, stateOf};
-ghost use Rattle.check_forgetting.specs.Changes.{leftOver};
+ghost use Rattle.check_successors.specs.Successors.{termOr};
 ghost use Rattle.check_entailment.specs.Answers.{Adds};
 ghost use Rattle.check_statements.specs.Statements.{Parts, assignTerm, callShown, partRule, initialOf, Says, Asserts, endOf, releaseRule, JoinGives};
 
-// `set x f y`: the facts that name the path that shows `acc x f` go, and the path is y.
+// `set x f y`: the old value of the path that shows `acc x f` is dropped, and the path is y.
 pub fn set_rule(
     key: &mut [u64; State::SLOTS],
     b: &mut [u8; State::BYTES],
@@ -48,7 +48,7 @@ fn add_equal(
     k: Resolved,
 ) -> Answer
     requires { ⌜ Wf (now key) (now b) ⌝ }
-    ensures { λ r. ⌜ Adds (addEqual x (leftOver k) (stateOf (now (key .entry)) (now (b .entry)))) r (now (key .exit)) (now (b .exit)) ⌝ }
+    ensures { λ r. ⌜ Adds (addEqual x (termOr k) (stateOf (now (key .entry)) (now (b .entry)))) r (now (key .exit)) (now (b .exit)) ⌝ }
 {
     let Resolved::Key(t) = k else {
         return Answer::Done;
@@ -64,9 +64,10 @@ fn assign_key(key: &mut [u64; State::SLOTS], b: &mut [u8; State::BYTES], x: u8, 
     if k == check_equality::variable_key(x) {
         return Answer::Done;
     }
-    let to = check_state::successor(key, b, x);
+    let to = check_state::stand_in(key, b, x);
+    let r = check_forgetting::removed(key, b, k, x, to);
     check_forgetting::remove_to(key, b, x, to);
-    add_equal(key, b, x, check_forgetting::renamed(k, x, to))
+    add_equal(key, b, x, r)
 }
 
 // `let x e`

@@ -168,6 +168,59 @@ innerJoin =
     "end" ∷
     []
 
+-- a main that starts with these lines, from line 10 on
+pub script : List String → List String
+script ls =
+    "class S" ∷
+    "field S prev" ∷
+    "field int n" ∷
+    "main" ∷
+    "var S s" ∷
+    "var S t" ∷
+    "var int a" ∷
+    "var int b" ∷
+    "var int c" ∷
+    (ls ++ ("end" ∷ []))
+
+-- "If `a = s.n` and `s.n = b` are known and `s.n` is set, the checker loses `a = b`": what it knows after a line, the 13th
+pub throughPath : String → String → List String
+throughPath l m = script ("new s S" ∷ "set s n b" ∷ "let a s.n" ∷ l ∷ m ∷ [])
+
+-- a link over two paths that are both dropped
+pub overTwoPaths : List String
+overTwoPaths =
+    script
+    ("new s S" ∷
+    "new t S" ∷
+    "set s n a" ∷
+    "set t n b" ∷
+    "if eq s.n t.n" ∷
+    "release acc s n acc t n" ∷
+    "assert eq a b" ∷
+    "else" ∷
+    "join" ∷
+    [])
+
+-- two entries get one name, and a line drops one of them or sets it
+pub oneName : String → List String
+oneName l =
+    script ("new s S" ∷ "new t S" ∷ "if eq s t" ∷ "let t null" ∷ l ∷ "assert eq s.n 0" ∷ "else" ∷ "join" ∷ [])
+
+-- each call adds eight equalities with one term on both sides, and those of the calls before go
+pub oneOnBothSides : ℕ → List String
+oneOnBothSides n =
+    "class S" ∷
+    "method int m int w" ∷
+    "requires" ∷
+    "ensures eq w w eq w w eq w w eq w w eq w w eq w w eq w w eq w w" ∷
+    "end" ∷
+    "main" ∷
+    "var S s" ∷
+    "var int a" ∷
+    "var int b" ∷
+    "new s S" ∷
+    (times n "call b s m a" ++ ("end" ∷ []))
+
 -- two numbers and a line on them
 pub counting : String → String → String → List String
 counting b c l = "main" ∷ "var int a" ∷ "var int b" ∷ "var int c" ∷ b ∷ c ∷ l ∷ "end" ∷ []
@@ -253,6 +306,21 @@ rows =
     -- "an `end` straight after a `return` shows nothing", every other does, also where no run comes
     row (branching "assert" "assert" "join" "return w") check (0 ∷ 0 ∷ []) ∷
     row (branching "return w" "return w" "join" "assert") check (13 ∷ 11 ∷ []) ∷
+    -- W3: "two terms that are left shall be ~ exactly if they were ~ before"
+    row (throughPath "set s n c" "assert eq a b") check (0 ∷ 0 ∷ []) ∷
+    row (throughPath "release acc s n" "assert eq a b") check (0 ∷ 0 ∷ []) ∷
+    row (throughPath "let s s.prev" "assert eq a b") check (0 ∷ 0 ∷ []) ∷
+    row (throughPath "let a c" "assert eq a b") check (13 ∷ 14 ∷ []) ∷
+    row overTwoPaths check (0 ∷ 0 ∷ []) ∷
+    row (script ("new s S" ∷ "set s n a" ∷ "if ne s.n 7" ∷ "release acc s n" ∷ "assert ne a 7" ∷ "else" ∷ "join" ∷ [])) check (0 ∷ 0 ∷ []) ∷
+    -- "For `set`, the old value of the path counts as dropped, and `let` takes the successor for its r."
+    row (throughPath "set s n c" "assert eq s.n b") check (13 ∷ 14 ∷ []) ∷
+    row (throughPath "let s s.prev" "assert eq s null") check (0 ∷ 0 ∷ []) ∷
+    -- "`set` apart, a name still listed is not dropped"
+    row (oneName "release acc s n") check (0 ∷ 0 ∷ []) ∷
+    row (oneName "set s n a") check (13 ∷ 15 ∷ []) ∷
+    -- "An equality that now has one term on both sides goes too"
+    row (oneOnBothSides 9) check (0 ∷ 0 ∷ []) ∷
     -- the same field in way (d); the lower of two numbers; what ensures does not hand back is lost
     row twoFields check (13 ∷ 7 ∷ []) ∷
     row lower check (6 ∷ 3 ∷ []) ∷
@@ -265,7 +333,7 @@ right : Row → Bool
 right r = eqName (answer (text (r .text)) (r .call)) (r .answer)
 
 all-right : T (all right rows)
-unfolding computing Printed.opened right answer row three text tabbed withLine times oneLine alias acrossCall twice oldValue twoFields branching innerJoin counting lower
+unfolding computing Printed.opened right answer row three text tabbed withLine times oneLine alias acrossCall twice oldValue twoFields branching innerJoin script throughPath overTwoPaths oneName oneOnBothSides counting lower
 all-right = tt
 
 right-at : (rs : List Row) (d : Row) (i : ℕ) → i < length rs → T (all right rs) → T (right (getD rs i d))

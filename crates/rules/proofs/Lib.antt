@@ -1,6 +1,10 @@
 pub mod Lists
 pub mod Tries
 pub mod Closure
+pub mod Successors
+pub mod Dropping
+pub mod FormedStates
+pub mod Rising
 pub mod Sets
 pub mod Heaps
 pub mod States

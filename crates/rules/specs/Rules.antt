@@ -9,7 +9,7 @@ use Rattle.rules.specs.Base.{Try, ok, _>>=_, _>>_, check, orElse}
 use Rattle.rules.specs.Answers.{Refusal, Verdict, accepted, refused, atLine, then, malformed, textEnds, noPermission, notShown}
 use Rattle.rules.specs.Syntax.{Rel, Atom, Formula, Simple, Stmt, Row, Field, Method, Program, methodNumbered, same, this-variable, parameter, result-variable}
 use Rattle.rules.specs.Syntax.{eq, ne, num, null, var, path, acc, cmp, set, assign, compute, new, call, return, assert, release, simple, if, else, join, end}
-use Rattle.rules.specs.State.{Term, State, empty, pathOf, equalIn, names, resolve, holdsIn, split, show, dropPaths, remainder, renameTerm, successor, removeTo, remove, addPermission, addFact, add}
+use Rattle.rules.specs.State.{Term, State, empty, pathOf, equalIn, names, resolve, holdsIn, split, show, dropPaths, remainder, standIn, removedTerm, removeTo, remove, addPermission, addFact, add}
 
 -- y, z and x for `this`, w and `result`
 unfoldable pub actual : ℕ → ℕ → ℕ → ℕ → ℕ
@@ -25,7 +25,8 @@ unfoldable pub substAtom : (ℕ → ℕ) → Atom ℕ → Atom ℕ
 substAtom σ (acc v f) = acc (σ v) f
 substAtom σ (cmp n a b) = cmp n (substTerm σ a) (substTerm σ b)
 
--- "`let x e`: e resolves to r. If r is x, no change. Otherwise remove x, with r renamed likewise; if r is left, add x = r."
+-- "`let x e`: e resolves to r. If r is x, no change. Otherwise remove x, with r renamed likewise; if r is left, add x = r." With W3,
+-- "`let` takes the successor for its r".
 unfoldable pub addEqual : ℕ → Option Term → State → Try Refusal State
 addEqual x none s = ok s
 addEqual x (some r) s = addFact eq (var x) r s
@@ -33,8 +34,8 @@ addEqual x (some r) s = addFact eq (var x) r s
 unfoldable pub assignRule : ℕ → Term → State → Try Refusal State
 assignRule x e s = do
   r ← resolve (equalIn s) (s .permissions) e
-  let to : Option ℕ = successor s x in
-      cond (same r (var x)) (ok s) (addEqual x (renameTerm x to r) (removeTo x to s))
+  let to : Option ℕ = standIn s x in
+      cond (same r (var x)) (ok s) (addEqual x (removedTerm x to s r) (removeTo x to s))
 
 -- "`new`: remove x; add its permissions, x ≠ null, and each field = null, or 0 for int"
 unfoldable pub addFields : ℕ → List Field → State → Try Refusal State
@@ -51,7 +52,7 @@ addInitial x (f ∷ fs) s = addFact eq (path x (f .name)) (initial f) s >>= λ s
 unfoldable pub newRule : ℕ → List Field → State → Try Refusal State
 newRule x fs s = addFields x fs (remove x s) >>= λ s. addFact ne (var x) null s >>= λ s. addInitial x fs s
 
--- "`set`: `acc x f` shown by a path p; drop facts that name p; add p = y."
+-- "`set`: `acc x f` shown by a path p; drop facts that name p; add p = y." With W3, "the old value of the path counts as dropped".
 unfoldable pub setRule : ℕ → ℕ → ℕ → State → Try Refusal State
 setRule x f y s = do
   c ← orElse (split (names (equalIn s) x f) (s .permissions)) noPermission

@@ -1,14 +1,14 @@
--- What the checker knows: a state, ~, showing, the remainder, removing, adding.
+-- What the checker knows: a state, ~, showing, dropping, the remainder, removing, adding.
 use mathlib.Core.Bool.{Bool, true, false, not, cond, _&&_, _||_}
-use mathlib.Core.List.{List, [], _∷_, _++_}
+use mathlib.Core.List.{List, [], _∷_, _++_, map}
 use mathlib.Core.Option.{Option, none, some}
 use Prim.Native.Nat.{ℕ}
-use lib.Dec.{eqb, ltb}
+use lib.Dec.{eqb, ltb, leb}
 use lib.ListN.{length}
-use Rattle.rules.specs.Base.{Try, ok, _>>=_, _>>_, check, orElse, bindOption, any, first, mapOption}
+use Rattle.rules.specs.Base.{Try, ok, _>>=_, _>>_, check, orElse, bindOption, any, keep, first, mapOption}
 use Rattle.rules.specs.Limits.{most-permissions, most-facts}
 use Rattle.rules.specs.Answers.{Refusal, unresolved, noPermission, notShown, stateFull}
-use Rattle.rules.specs.Syntax.{Rel, Expr, Formula, same, eq, ne, num, null, var, path, acc, cmp}
+use Rattle.rules.specs.Syntax.{Rel, Expr, Formula, offset, same, eq, ne, num, null, var, path, acc, cmp}
 
 abbrev pub Term : Type 0
 Term = Expr ℕ
@@ -156,19 +156,58 @@ unfoldable pub show : State → Formula ℕ → Try Refusal Shown
 show s φ = showFrom (equalIn s) s φ (record { kept = s .permissions; consumed = [] })
 
 -- DROPPING
--- What is dropped is told by a function on terms: a term that is left to itself, a renamed one to its new name, a dropped one to none.
+-- W3: "When paths or a variable are dropped, two terms that are left shall be ~ exactly if they were ~ before." (The laws are in
+-- `proofs/Dropping`.) What is dropped is told by a function on terms: a term that is left to itself, a renamed one to its new name, a dropped one to none.
 abbrev pub Renaming : Type 0
 Renaming = Term → Option Term
 
--- a fact with a dropped term goes
+-- "(order: `this`, w, locals, `result`)"
+abbrev pub variables : List ℕ
+variables = 0 ∷ 1 ∷ 2 ∷ 3 ∷ 4 ∷ 5 ∷ 6 ∷ 7 ∷ 8 ∷ 9 ∷ 10 ∷ 11 ∷ 12 ∷ 13 ∷ 14 ∷ []
+
+-- "numbers rising", as signed numbers
+unfoldable pub insert : ℕ → List ℕ → List ℕ
+insert n [] = n ∷ []
+insert n (m ∷ ms) = let r : List ℕ = m ∷ insert n ms in cond (leb (offset n) (offset m)) (n ∷ m ∷ ms) r
+
+unfoldable pub rising : List ℕ → List ℕ
+rising [] = []
+rising (n ∷ ns) = insert n (rising ns)
+
+-- "The order is variables as in document 01, listed paths, null, numbers rising." ps: the permissions that are left
+unfoldable pub inOrder : List Permission → List Fact → List Term
+inOrder ps fs = map var variables ++ (map pathOf ps ++ (null ∷ map num (rising (numbers (termsOf fs)))))
+
+-- is the term left, as it is?
+unfoldable pub isLeft : Renaming → Term → Bool
+isLeft ρ t = elim (ρ t) [ none ↦ false | some u ↦ same u t ]
+
+-- "the first term left that was ~ to it"
+unfoldable pub successor : Equality → Renaming → List Permission → List Fact → Term → Option Term
+successor _~_ ρ ps fs t = first (λ u. isLeft ρ u && _~_ u t) (inOrder ps fs)
+
+-- "For this each dropped term gives way, in every fact, to" its successor. A renamed one is not dropped.
+unfoldable pub givesWay : Equality → Renaming → List Permission → List Fact → Renaming
+givesWay _~_ ρ ps fs t = elim (ρ t) [ none ↦ successor _~_ ρ ps fs t | some u ↦ some u ]
+
+-- what becomes of the terms of a state
+unfoldable pub becomes : State → Renaming → List Permission → Renaming
+becomes s ρ ps = givesWay (equalIn s) ρ ps (s .facts)
+
+-- "A fact with a dropped term that has no such successor goes."
 unfoldable pub renameFact : Renaming → Fact → Option Fact
 renameFact ρ f =
     bindOption (ρ (f .left)) λ a.
     bindOption (ρ (f .right)) λ b.
     some (record { rel = f .rel; left = a; right = b })
 
+-- has it one term on both sides?
+unfoldable pub trivial : Fact → Bool
+trivial f = not (isNe (f .rel)) && same (f .left) (f .right)
+
+-- "An equality that now has one term on both sides goes too; all other facts keep their order."
 unfoldable pub renameFacts : Renaming → List Fact → List Fact
-renameFacts ρ fs = mapOption (renameFact ρ) fs
+renameFacts ρ fs = keep (λ f. not (trivial f)) (mapOption (renameFact ρ) fs)
 
 unfoldable pub lists : List Permission → Term → Bool
 lists ps t = any (λ p. same (pathOf p) t) ps
@@ -176,13 +215,21 @@ lists ps t = any (λ p. same (pathOf p) t) ps
 unfoldable pub withoutPaths : List Permission → Renaming
 withoutPaths gone t = cond (lists gone t) none (some t)
 
--- the paths of the entries `gone` dropped; ps: the permissions that are left
-unfoldable pub dropPaths : List Permission → List Permission → State → State
-dropPaths gone ps s = record { permissions = ps; facts = renameFacts (withoutPaths gone) (s .facts) }
+-- the paths of the entries `gone` dropped, with ps the permissions that are left. Where nothing is dropped all facts stay.
+unfoldable pub factsWithout : List Permission → List Permission → State → List Fact
+factsWithout [] ps s = s .facts
+factsWithout (p ∷ gone) ps s = renameFacts (becomes s (withoutPaths (p ∷ gone)) ps) (s .facts)
 
--- "The remainder is the state without consumed paths and without facts that name them."
+unfoldable pub dropPaths : List Permission → List Permission → State → State
+dropPaths gone ps s = record { permissions = ps; facts = factsWithout gone ps s }
+
+-- the entries of us whose name ps does not list: "but, `set` apart, a name still listed is not dropped"
+unfoldable pub unlisted : List Permission → List Permission → List Permission
+unlisted ps us = keep (λ p. not (lists ps (pathOf p))) us
+
+-- "The remainder is the state without consumed paths and without facts that name them": with W3 these paths are dropped.
 unfoldable pub remainder : State → Shown → State
-remainder s r = dropPaths (r .consumed) (r .kept) s
+remainder s r = dropPaths (unlisted (r .kept) (r .consumed)) (r .kept) s
 
 -- REMOVING
 -- x renamed to the variable `to`, or nothing where that is none
@@ -202,21 +249,22 @@ renamePermission x to p =
 unfoldable pub renamePermissions : ℕ → Option ℕ → List Permission → List Permission
 renamePermissions x to ps = mapOption (renamePermission x to) ps
 
--- "(order: `this`, w, locals, `result`)"
-abbrev pub variables : List ℕ
-variables = 0 ∷ 1 ∷ 2 ∷ 3 ∷ 4 ∷ 5 ∷ 6 ∷ 7 ∷ 8 ∷ 9 ∷ 10 ∷ 11 ∷ 12 ∷ 13 ∷ 14 ∷ []
-
 -- "if another variable is ~ x, the first such"
-unfoldable pub successor : State → ℕ → Option ℕ
-successor s x = first (λ v. not (eqb v x) && equalIn s (var v) (var x)) variables
+unfoldable pub standIn : State → ℕ → Option ℕ
+standIn s x = first (λ v. not (eqb v x) && equalIn s (var v) (var x)) variables
 
--- "Removing x: .. takes its place everywhere; otherwise all that names x goes."
+-- What becomes of a term when x is removed. Where a variable takes its place, x and its paths are renamed, and nothing gives way. "A path
+-- renamed onto a listed one counts as ~ to it before": both have one name then.
+unfoldable pub removedTerm : ℕ → Option ℕ → State → Renaming
+removedTerm x to s = becomes s (renameTerm x to) (renamePermissions x to (s .permissions))
+
+-- "Removing x: .. takes its place everywhere; otherwise all that names x goes": with W3, x and its paths are dropped.
 unfoldable pub removeTo : ℕ → Option ℕ → State → State
 removeTo x to s =
-    record { permissions = renamePermissions x to (s .permissions); facts = renameFacts (renameTerm x to) (s .facts) }
+    record { permissions = renamePermissions x to (s .permissions); facts = renameFacts (removedTerm x to s) (s .facts) }
 
 unfoldable pub remove : ℕ → State → State
-remove x s = removeTo x (successor s x) s
+remove x s = removeTo x (standIn s x) s
 
 unfoldable pub addPermission : Permission → State → Try Refusal State
 addPermission p s =
@@ -240,5 +288,5 @@ add (cmp n a b ∷ φ) s = do
 
 -- Everything above computes where this unfolds.
 unfoldable pub opened : Unit {0}
-unfolding pathOf linkedBy representative equalBy equalIn numbers termsOf isNe names resolve links listedUnequal differentNumbers nullAndObject twoEntries holdsIn split showFrom show renameFact renameFacts lists withoutPaths dropPaths remainder renameVariable renameTerm renamePermission renamePermissions successor removeTo remove addPermission addFact add
+unfolding pathOf linkedBy representative equalBy equalIn numbers termsOf isNe names resolve links listedUnequal differentNumbers nullAndObject twoEntries holdsIn split showFrom show insert rising inOrder isLeft successor givesWay becomes renameFact trivial renameFacts lists withoutPaths factsWithout dropPaths unlisted remainder renameVariable renameTerm renamePermission renamePermissions standIn removedTerm removeTo remove addPermission addFact add
 opened = tt

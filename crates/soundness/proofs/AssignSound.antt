@@ -9,7 +9,7 @@ use lib.Dec.{T}
 use Rattle.rules.specs.Base.{ok, check, _>>_, _>>=_}
 use Rattle.rules.specs.Answers.{overflow}
 use Rattle.rules.specs.Syntax.{Operation, eq, var, same, this-variable, parameter, first-local, words}
-use Rattle.rules.specs.State.{Term, State, equalIn, resolve, successor, removeTo, remove, renameTerm}
+use Rattle.rules.specs.State.{Term, State, equalIn, resolve, standIn, removeTo, remove, removedTerm}
 use Rattle.rules.specs.Rules.{addEqual, assignRule}
 use Rattle.rules.specs.Machine.{Config, Frame, Heap, valueOf, value, bind, advance, jump, holds, withFrame, assignStep, raised, inRange, computed, computeStep}
 use Rattle.rules.proofs.Lists.{decide-eq}
@@ -17,7 +17,7 @@ use Rattle.rules.proofs.Tries.{bind-ok, ok-inj, bind-of-ok}
 use Rattle.rules.proofs.Closure.{same→≡}
 use Rattle.soundness.proofs.Satisfied.{termValue, Reads, Satisfied, satisfied-frame}
 use Rattle.soundness.proofs.ShowSound.{resolve-listed, resolve-reads}
-use Rattle.soundness.proofs.RemoveSound.{bound-same, bound-other, bound-holds, remove-sound, removed-value, removed-reads}
+use Rattle.soundness.proofs.RemoveSound.{bound-same, bound-other, bound-holds, remove-sound, removed-term}
 use Rattle.soundness.proofs.AddSound.{fact-added}
 use Rattle.soundness.proofs.Stack.{SameCall, Goes}
 
@@ -31,19 +31,19 @@ module _ (h : Heap) (F : Frame) (s : State) (S : Satisfied h F s) (x : ℕ) wher
       go (inr n) = bound-other F x v y n
 
   equal-added :
-      (r : Term) (s′ : State) → Reads (s .permissions) r → addEqual x (renameTerm x (successor s x) r) (remove x s) ≡ ok s′ →
+      (r : Term) (s′ : State) → Reads (s .permissions) r → addEqual x (removedTerm x (standIn s x) s r) (remove x s) ≡ ok s′ →
       Satisfied h (bind x (termValue h F r) F) s′
   unfolding addEqual termValue
-  equal-added r s′ l e = go (renameTerm x (successor s x) r) refl e
+  equal-added r s′ l e = go (removedTerm x (standIn s x) s r) refl e
     where
       go :
-          (o : Option Term) → renameTerm x (successor s x) r ≡ o → addEqual x o (remove x s) ≡ ok s′ →
+          (o : Option Term) → removedTerm x (standIn s x) s r ≡ o → addEqual x o (remove x s) ≡ ok s′ →
           Satisfied h (bind x (termValue h F r) F) s′
       go none m a = subst (Satisfied h _) (ok-inj a) (remove-sound h F s S x (termValue h F r))
       go (some t) m a =
-          fact-added h (bind x (termValue h F r) F) eq (var x) t (remove x s) s′ a tt
-          (removed-reads h F s S x (termValue h F r) r t m l)
-          (bound-same F x (termValue h F r) ∙ sym (removed-value h F s S x (termValue h F r) r t m))
+          let (reads, value) = removed-term h F s S x (termValue h F r) r t m l in
+          fact-added h (bind x (termValue h F r) F) eq (var x) t (remove x s) s′ a tt reads
+          (bound-same F x (termValue h F r) ∙ sym value)
           (remove-sound h F s S x (termValue h F r))
 
   -- the rule: the machine reads e, and the frame with that value in x satisfies the state
@@ -64,7 +64,7 @@ module _ (h : Heap) (F : Frame) (s : State) (S : Satisfied h F s) (x : ℕ) wher
     where
       go :
           (r : Term) → Reads (s .permissions) r → (b : Bool) → b ≡ same r (var x) →
-          cond b (ok s) (addEqual x (renameTerm x (successor s x) r) (removeTo x (successor s x) s)) ≡ ok s′ →
+          cond b (ok s) (addEqual x (removedTerm x (standIn s x) s r) (removeTo x (standIn s x) s)) ≡ ok s′ →
           Satisfied h (bind x (termValue h F r) F) s′
       go r l true d b =
           subst (Satisfied h _) (ok-inj b)

@@ -1,66 +1,95 @@
 -- Dropping terms of a state: the facts that are left are true, where each term that is left or renamed keeps its value and stays listed.
-use mathlib.Core.Path.{_≡_, subst}
-use mathlib.Core.Bool.{Bool, true, false, cond}
-use mathlib.Core.List.{List}
+use mathlib.Core.Path.{_≡_, _∙_, subst}
+use mathlib.Core.Bool.{not}
+use mathlib.Core.List.{List, [], _∷_}
 use mathlib.Core.Logic.{_⊎_, ⊎-elim}
-use mathlib.Core.Option.{none, some}
+use mathlib.Core.Option.{some}
 use lib.Dec.{T}
-use Rattle.rules.specs.Syntax.{num, null, var, path, same}
-use Rattle.rules.specs.State.{Term, Permission, Fact, State, Renaming, pathOf, renameFact, renameFacts, lists, withoutPaths}
+use Rattle.rules.specs.Base.{any, mapOption}
+use Rattle.rules.specs.Syntax.{num, null, var, path}
+use Rattle.rules.specs.State.{Term, Permission, Fact, State, Renaming, pathOf, equalIn, becomes, renameFact, trivial, renameFacts, lists, withoutPaths, factsWithout}
 use Rattle.rules.specs.Machine.{Frame, Heap}
-use Rattle.rules.proofs.Lists.{Member, any-in, came-from, bind-some, some-inj, none-some}
-use Rattle.rules.proofs.Closure.{same-refl}
+use Rattle.rules.proofs.Lists.{Member, keep-member, came-from, bind-some, some-inj}
+use Rattle.rules.proofs.Successors.{Known, order-known, successor-is, gives-way, member-lists, without-is}
 use Rattle.soundness.proofs.Satisfied.{termValue, Reads, FactTrue, Satisfied, related-by}
+use Rattle.soundness.proofs.ShowSound.{equal-value}
 
--- EVERY DROPPING: what becomes of each term, in G over h′, has the value that the term had in F over h
+known-reads : (ps : List Permission) (t : Term) → Known ps t → Reads ps t
+known-reads ps (num n) k = tt
+known-reads ps null k = tt
+known-reads ps (var x) k = tt
+known-reads ps (path x f) k = k
+
+-- EVERY DROPPING: each term that is left or renamed has in G over h′ the value that it had in F over h
 module _ (h h′ : Heap) (F G : Frame) (s : State) (S : Satisfied h F s) (ρ : Renaming) (ps : List Permission)
-    (renamed : (t u : Term) → ρ t ≡ some u → Reads (s .permissions) t → Reads ps u × (termValue h′ G u ≡ termValue h F t)) where
-  fact-renamed : (f g : Fact) → renameFact ρ f ≡ some g → FactTrue h F (s .permissions) f → FactTrue h′ G ps g
+    (renamed : (t u : Term) → ρ t ≡ some u → Reads (s .permissions) t → Reads ps u × (termValue h′ G u ≡ termValue h F t))
+    (left : (u : Term) → ρ u ≡ some u → Reads ps u → termValue h′ G u ≡ termValue h F u) where
+  -- so has what becomes of one that is dropped
+  pub became :
+      (t u : Term) → becomes s ρ ps t ≡ some u → Reads (s .permissions) t → Reads ps u × (termValue h′ G u ≡ termValue h F t)
+  unfolding becomes
+  became t u e r =
+      ⊎-elim (λ k. renamed t u k r)
+      (λ (_, k).
+      let (i, l, q) = successor-is (equalIn s) ρ ps (s .facts) t u k in
+      let d : Reads ps u = known-reads ps u (order-known ps (s .facts) u i) in
+      (d, left u l d ∙ equal-value h F s S u t q))
+      (gives-way (equalIn s) ρ ps (s .facts) t u e)
+
+  fact-became : (f g : Fact) → renameFact (becomes s ρ ps) f ≡ some g → FactTrue h F (s .permissions) f → FactTrue h′ G ps g
   unfolding renameFact
-  fact-renamed f g e t =
-      let (a, i, e₁) = bind-some (ρ (f .left)) _ g e in
-      let (b, j, e₂) = bind-some (ρ (f .right)) _ g e₁ in
-      let (ra, va) = renamed (f .left) a i (t .reads-left) in
-      let (rb, vb) = renamed (f .right) b j (t .reads-right) in
+  fact-became f g e t =
+      let (a, i, e₁) = bind-some (becomes s ρ ps (f .left)) _ g e in
+      let (b, j, e₂) = bind-some (becomes s ρ ps (f .right)) _ g e₁ in
+      let (ra, va) = became (f .left) a i (t .reads-left) in
+      let (rb, vb) = became (f .right) b j (t .reads-right) in
       subst (FactTrue h′ G ps) (some-inj e₂)
       (record { related = related-by (f .rel) va vb (t .related); reads-left = ra; reads-right = rb })
 
   -- the lemma on dropping
-  pub facts-renamed : (g : Fact) → Member g (renameFacts ρ (s .facts)) → FactTrue h′ G ps g
+  pub facts-became : (g : Fact) → Member g (renameFacts (becomes s ρ ps) (s .facts)) → FactTrue h′ G ps g
   unfolding renameFacts
-  facts-renamed g i = let (f, k, e) = came-from (renameFact ρ) (s .facts) g i in fact-renamed f g e (S .facts f k)
+  facts-became g i =
+      let (j, _) = keep-member (λ f. not (trivial f)) (mapOption (renameFact (becomes s ρ ps)) (s .facts)) g i in
+      let (f, k, e) = came-from (renameFact (becomes s ρ ps)) (s .facts) g j in
+      fact-became f g e (S .facts f k)
 
 -- PATHS DROPPED
-pub member-lists : (ps : List Permission) (p : Permission) → Member p ps → T (lists ps (pathOf p))
-unfolding lists
-member-lists ps p i = any-in (λ q. same (pathOf q) (pathOf p)) ps p i (same-refl (pathOf p))
+-- ps are left of the entries of s, and all that they list but the paths that go has over h′ the value that it had
+module _ (h h′ : Heap) (F : Frame) (s : State) (S : Satisfied h F s) (ps : List Permission) where
+  module _ (gone : List Permission) (all : (p : Permission) → Member p (s .permissions) → Member p ps ⊎ Member p gone)
+      (value : (u : Term) → (T (lists gone u) → ⊥) → Reads ps u → termValue h′ F u ≡ termValue h F u) where
+    reads-left : (t : Term) → (T (lists gone t) → ⊥) → Reads (s .permissions) t → Reads ps t
+    unfolding pathOf
+    reads-left (num n) out r = tt
+    reads-left null out r = tt
+    reads-left (var x) out r = tt
+    reads-left (path x f) out r = ⊎-elim (λ k. k) (λ u. absurd (out (member-lists gone _ u))) (all _ r)
 
--- a term that is left is the term itself, and no path that goes
-left-is : (gone : List Permission) (t u : Term) → withoutPaths gone t ≡ some u → (T (lists gone t) → ⊥) × (t ≡ u)
-unfolding withoutPaths
-left-is gone t u e = go (lists gone t) e
-  where
-    go : (b : Bool) → cond b none (some t) ≡ some u → (T b → ⊥) × (t ≡ u)
-    go true e = none-some e
-    go false e = (λ z. z, some-inj e)
+    left-term :
+        (t u : Term) → withoutPaths gone t ≡ some u → Reads (s .permissions) t → Reads ps u × (termValue h′ F u ≡ termValue h F t)
+    left-term t u e r =
+        let (out, is) = without-is gone t u e in
+        subst (λ u. Reads ps u × (termValue h′ F u ≡ termValue h F t)) is
+        (reads-left t out r, value t out (reads-left t out r))
 
--- ps are left of the entries of s, and all but the paths that go have over h′ the value that they had
-module _ (h h′ : Heap) (F : Frame) (s : State) (S : Satisfied h F s) (ps gone : List Permission)
-    (all : (p : Permission) → Member p (s .permissions) → Member p ps ⊎ Member p gone)
-    (value : (u : Term) → (T (lists gone u) → ⊥) → Reads (s .permissions) u → termValue h′ F u ≡ termValue h F u) where
-  reads-left : (t : Term) → (T (lists gone t) → ⊥) → Reads (s .permissions) t → Reads ps t
-  unfolding pathOf
-  reads-left (num n) out r = tt
-  reads-left null out r = tt
-  reads-left (var x) out r = tt
-  reads-left (path x f) out r = ⊎-elim (λ k. k) (λ u. absurd (out (member-lists gone _ u))) (all _ r)
-
-  left-term :
-      (t u : Term) → withoutPaths gone t ≡ some u → Reads (s .permissions) t → Reads ps u × (termValue h′ F u ≡ termValue h F t)
-  left-term t u e r =
-      let (out, is) = left-is gone t u e in
-      subst (λ u. Reads ps u × (termValue h′ F u ≡ termValue h F t)) is (reads-left t out r, value t out r)
+    fact-left : (f : Fact) → ((t : Term) → T (lists gone t) → ⊥) → FactTrue h F (s .permissions) f → FactTrue h′ F ps f
+    fact-left f out t =
+        let a : Reads ps (f .left) = reads-left (f .left) (out (f .left)) (t .reads-left) in
+        let b : Reads ps (f .right) = reads-left (f .right) (out (f .right)) (t .reads-right) in
+        record {
+          related = related-by (f .rel) (value (f .left) (out (f .left)) a) (value (f .right) (out (f .right)) b) (t .related);
+          reads-left = a;
+          reads-right = b;
+        }
 
   -- the lemma on dropping paths
-  pub paths-dropped : (g : Fact) → Member g (renameFacts (withoutPaths gone) (s .facts)) → FactTrue h′ F ps g
-  paths-dropped = facts-renamed h h′ F F s S (withoutPaths gone) ps left-term
+  pub paths-dropped :
+      (gone : List Permission) → ((p : Permission) → Member p (s .permissions) → Member p ps ⊎ Member p gone) →
+      ((u : Term) → (T (lists gone u) → ⊥) → Reads ps u → termValue h′ F u ≡ termValue h F u) → (g : Fact) →
+      Member g (factsWithout gone ps s) → FactTrue h′ F ps g
+  unfolding factsWithout lists any
+  paths-dropped [] all value g i = fact-left [] all value g (λ t z. z) (S .facts g i)
+  paths-dropped (p ∷ gone) all value g i =
+      facts-became h h′ F F s S (withoutPaths (p ∷ gone)) ps (left-term (p ∷ gone) all value)
+      (λ u e r. value u (without-is (p ∷ gone) u u e .0) r) g i

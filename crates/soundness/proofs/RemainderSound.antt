@@ -4,9 +4,10 @@ use mathlib.Core.List.{List, map}
 use Prim.Native.Nat.{ℕ}
 use Rattle.rules.specs.Base.{ok}
 use Rattle.rules.specs.Syntax.{Formula}
-use Rattle.rules.specs.State.{State, Shown, show, dropPaths, remainder}
+use Rattle.rules.specs.State.{State, Shown, show, dropPaths, unlisted, remainder}
 use Rattle.rules.specs.Machine.{Frame, Heap, Location, without, valueOf, holding, holds}
 use Rattle.rules.proofs.Sets.{in-without}
+use Rattle.rules.proofs.Dropping.{consumed-or}
 use Rattle.soundness.proofs.Satisfied.{locationOf, Satisfied, satisfied-by}
 use Rattle.soundness.proofs.ShowSound.{Left, show-left}
 use Rattle.soundness.proofs.DropSound.{paths-dropped}
@@ -24,5 +25,7 @@ remainder-sound h F s φ r S e =
     (record {
       owned = λ p i. S .owned p (L .some-of p i);
       apart = L .apart;
-      facts = paths-dropped h h F s S (r .kept) (r .consumed) (L .all-of) (λ u n d. refl);
+      facts =
+          paths-dropped h h F s S (r .kept) (unlisted (r .kept) (r .consumed))
+          (λ p i. consumed-or (r .kept) (r .consumed) p (L .all-of p i)) (λ u n d. refl);
     })

@@ -1,20 +1,21 @@
 -- Removing x from a state keeps what is known, whatever value x gets.
 use mathlib.Core.Path.{_≡_, refl, sym, ap, _∙_, subst}
-use mathlib.Core.Bool.{Bool, true, false, not, cond}
+use mathlib.Core.Bool.{Bool, true, false, cond}
 use mathlib.Core.List.{List, [], _∷_}
 use mathlib.Core.Logic.{⊎-elim}
 use mathlib.Core.Option.{Option, some}
 use Prim.Native.Nat.{ℕ}
-use lib.Dec.{T, eqb, eqb→eq, eqb-refl, T-not}
+use lib.Dec.{T, eqb, eqb→eq, eqb-refl}
 use Rattle.rules.specs.Base.{mapOption, bindOption}
 use Rattle.rules.specs.Syntax.{num, null, var, path}
-use Rattle.rules.specs.State.{Term, Permission, State, equalIn, renameVariable, renameTerm, renamePermission, renamePermissions, successor, removeTo, remove, variables}
+use Rattle.rules.specs.State.{Term, Permission, State, renameVariable, renameTerm, renamePermission, renamePermissions, standIn, removedTerm, removeTo, remove}
 use Rattle.rules.specs.Machine.{Frame, Heap, Location, valueAt, valueOf, bind, holds}
-use Rattle.rules.proofs.Lists.{and-both, first-in, some-inj, bind-some, option-cases, mapOption-none, mapOption-some, came-from, went-to, update-same, update-other}
+use Rattle.rules.proofs.Lists.{some-inj, bind-some, option-cases, mapOption-none, mapOption-some, came-from, went-to, update-same, update-other}
 use Rattle.rules.proofs.Sets.{Holds, location-eq}
+use Rattle.rules.proofs.Dropping.{standIn-is}
 use Rattle.soundness.proofs.Satisfied.{termValue, locationOf, Owned, Apart, Reads, Satisfied}
 use Rattle.soundness.proofs.ShowSound.{equal-variable}
-use Rattle.soundness.proofs.DropSound.{facts-renamed}
+use Rattle.soundness.proofs.DropSound.{became, facts-became}
 
 -- A FRAME WITH A NEW VALUE OF x
 pub bound-same : (F : Frame) (x v : ℕ) → valueOf (bind x v F) x ≡ v
@@ -90,34 +91,38 @@ module _ (h : Heap) (F G : Frame) (x : ℕ) (to : Option ℕ)
       (went-to (renamePermission x to) ps (record { variable = v; field = f }) (record { variable = w; field = f })
       (ap (λ (o : Option ℕ). bindOption o (λ w. some (record { variable = w; field = f }))) m) r)
 
-  renamed-satisfied : (s : State) → ((l : Location) → Holds F l → Holds G l) → Satisfied h F s → Satisfied h G (removeTo x to s)
-  unfolding removeTo renamePermissions
-  renamed-satisfied s L S =
-      record {
-        owned =
-            λ q i.
-            let (p, b, c) = came-from (renamePermission x to) (s .permissions) q i in renamed-owned p q L c (S .owned p b);
-        apart = renamed-apart (s .permissions) (S .apart);
-        facts =
-            facts-renamed h h F G s S (renameTerm x to) (renamePermissions x to (s .permissions))
-            (λ t u e r. (renamed-reads (s .permissions) t u e r, renamed-value t u e));
-      }
+  module _ (s : State) (S : Satisfied h F s) where
+    -- a term that is left or renamed has its value, and one that is dropped has its successor's
+    pub renamed-term :
+        (t u : Term) → removedTerm x to s t ≡ some u → Reads (s .permissions) t →
+        Reads (renamePermissions x to (s .permissions)) u × (termValue h G u ≡ termValue h F t)
+    unfolding removedTerm
+    renamed-term =
+        became h h F G s S (renameTerm x to) (renamePermissions x to (s .permissions))
+        (λ t u e r. (renamed-reads (s .permissions) t u e r, renamed-value t u e)) (λ u e r. renamed-value u u e)
 
--- REMOVING x: its successor has the value that x had
-successor-is : (s : State) (x w : ℕ) → successor s x ≡ some w → (x ≡ w → ⊥) × T (equalIn s (var w) (var x))
-unfolding successor
-successor-is s x w e =
-    let (a, b) = and-both (not (eqb w x)) _ (first-in _ variables w e .1) in
-    (λ p. T-not (eqb w x) a (subst (λ z. T (eqb w z)) (sym p) (eqb-refl w)), b)
+    pub renamed-satisfied : ((l : Location) → Holds F l → Holds G l) → Satisfied h G (removeTo x to s)
+    unfolding removeTo removedTerm renamePermissions
+    renamed-satisfied L =
+        record {
+          owned =
+              λ q i.
+              let (p, b, c) = came-from (renamePermission x to) (s .permissions) q i in renamed-owned p q L c (S .owned p b);
+          apart = renamed-apart (s .permissions) (S .apart);
+          facts =
+              facts-became h h F G s S (renameTerm x to) (renamePermissions x to (s .permissions))
+              (λ t u e r. (renamed-reads (s .permissions) t u e r, renamed-value t u e)) (λ u e r. renamed-value u u e);
+        }
 
+-- REMOVING x: the variable that takes its place has the value that x had
 module _ (h : Heap) (F : Frame) (s : State) (S : Satisfied h F s) (x v : ℕ) where
-  removed-variable : (y w : ℕ) → renameVariable x (successor s x) y ≡ some w → valueOf (bind x v F) w ≡ valueOf F y
+  removed-variable : (y w : ℕ) → renameVariable x (standIn s x) y ≡ some w → valueOf (bind x v F) w ≡ valueOf F y
   unfolding renameVariable
   removed-variable y w e = go (eqb y x) refl e
     where
-      go : (b : Bool) → b ≡ eqb y x → cond b (successor s x) (some y) ≡ some w → valueOf (bind x v F) w ≡ valueOf F y
+      go : (b : Bool) → b ≡ eqb y x → cond b (standIn s x) (some y) ≡ some w → valueOf (bind x v F) w ≡ valueOf F y
       go true r k =
-          let (a, l) = successor-is s x w k in
+          let (a, l) = standIn-is s x w k in
           bound-other F x v w a ∙ (equal-variable h F s S w x l ∙ ap (valueOf F) (sym (eqb→eq y x (subst T r tt))))
       go false r k =
           rw (← some-inj k) (bound-other F x v y (λ p. subst T (sym r) (subst (λ z. T (eqb y z)) (sym p) (eqb-refl y))))
@@ -125,13 +130,11 @@ module _ (h : Heap) (F : Frame) (s : State) (S : Satisfied h F s) (x v : ℕ) wh
   -- the lemma on removing
   pub remove-sound : Satisfied h (bind x v F) (remove x s)
   unfolding remove
-  remove-sound = renamed-satisfied h F (bind x v F) x (successor s x) removed-variable s (bound-holds F x v) S
+  remove-sound = renamed-satisfied h F (bind x v F) x (standIn s x) removed-variable s S (bound-holds F x v)
 
-  -- a term with x renamed has the value from before, and reads what is listed
-  pub removed-value : (t u : Term) → renameTerm x (successor s x) t ≡ some u → termValue h (bind x v F) u ≡ termValue h F t
-  removed-value t u e = renamed-value h F (bind x v F) x (successor s x) removed-variable t u e
-
-  pub removed-reads :
-      (t u : Term) → renameTerm x (successor s x) t ≡ some u → Reads (s .permissions) t → Reads (remove x s .permissions) u
+  -- what becomes of a term has the value from before, and reads what is listed
+  pub removed-term :
+      (t u : Term) → removedTerm x (standIn s x) s t ≡ some u → Reads (s .permissions) t →
+      Reads (remove x s .permissions) u × (termValue h (bind x v F) u ≡ termValue h F t)
   unfolding remove removeTo
-  removed-reads t u e r = renamed-reads h F (bind x v F) x (successor s x) removed-variable (s .permissions) t u e r
+  removed-term = renamed-term h F (bind x v F) x (standIn s x) removed-variable s S

@@ -14,9 +14,10 @@ use Rattle.rules.proofs.Lists.{is-head}
 use Rattle.rules.proofs.Tries.{bind-ok, orElse-ok, bind-of-ok}
 use Rattle.rules.proofs.Sets.{location-eq}
 use Rattle.rules.proofs.Heaps.{store-same, store-other}
+use Rattle.rules.proofs.Successors.{member-lists}
 use Rattle.soundness.proofs.Satisfied.{termValue, locationOf, Reads, Satisfied, path-reads, satisfied-frame}
 use Rattle.soundness.proofs.ShowSound.{names-location, owned-located, Parted, split-parted}
-use Rattle.soundness.proofs.DropSound.{member-lists, paths-dropped}
+use Rattle.soundness.proofs.DropSound.{paths-dropped}
 use Rattle.soundness.proofs.AddSound.{fact-added}
 use Rattle.soundness.proofs.Stack.{Goes}
 

@@ -1,7 +1,7 @@
-use native.Mathlib.Omega.{arith}
-use Rattle.check_forgetting.proofs.Forgetting.{wf-sized, dropped-unchanged}
-use Rattle.check_forgetting.proofs.Changes.{erase-law}
 use borrow.Author.Needs.{needs}
+use native.Mathlib.Omega.{arith}
+use Rattle.check_forgetting.proofs.Forgetting.{dropped-unchanged}
+use Rattle.check_forgetting.proofs.Changes.{erase-law}
 use Rattle.check_forgetting.proofs.erase.Statement.{statement}
 use Rattle.check_forgetting.proofs.erase.Tie as tie
 
@@ -31,20 +31,20 @@ entries-of-requires c κs = search needs
 
 forget-requires : tie.Need-forget-requires
 forget-requires c κs =
-    let start = c .before .before .before .before .before .before .before .before .before .before in
-    let at-drop-variable = c .before .before .before .before .before .before .drop-variable in
-    (wf-sized _ _ _ (start .pre .linked .header) (start .pre), dropped-unchanged _ _ _ _ _ (start .pre) (at-drop-variable .ensures))
+    let start = c .before .before .before .before .before .before .before .before .before .before .before in
+    let at-drop-variable = c .before .before .before .before .before .before .before .drop-variable in
+    (start .pre, at-drop-variable .ensures .size, dropped-unchanged _ _ _ _ _ (start .pre) (at-drop-variable .ensures))
 
 pack-requires : tie.Need-pack-requires
 pack-requires c κs = (c .before .before .forget .ensures .wf .fit, c .before .before .forget .ensures .wf .linked .size)
 
 returns : tie.Need-returns
 returns c =
-    let start = c .before .before .before .before .before .before .before .before .before .before .before .before .before .before in
-    let at-drop-variable = c .before .before .before .before .before .before .before .before .before .before .drop-variable in
-    let at-entries-of = c .before .before .before .before .before .before .before .entries-of in
+    let start = c .before .before .before .before .before .before .before .before .before .before .before .before .before .before .before in
+    let at-drop-variable = c .before .before .before .before .before .before .before .before .before .before .before .drop-variable in
+    let at-entries-of = c .before .before .before .before .before .before .before .before .entries-of in
     let at-forget = c .before .before .before .forget in
-    erase-law _ _ _ (omega arith) (start .pre) _ _ _ _ _ _ (at-drop-variable .ensures) (at-forget .ensures) (at-entries-of .ensures) (c .pack .ensures)
+    erase-law _ _ _ (omega arith) (start .pre) _ (at-entries-of .ensures) _ _ _ _ _ (at-drop-variable .ensures) (at-forget .ensures) (c .pack .ensures)
 
 pub erase-spec : {M : Type 1} → statement M
 erase-spec =

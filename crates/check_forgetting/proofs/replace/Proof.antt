@@ -20,14 +20,15 @@ add-m c = search needs
 rename-keys-requires : tie.Need-rename-keys-requires
 rename-keys-requires c κs = search needs
 
-forget-requires : tie.Need-forget-requires
-forget-requires c κs = (wf-sized _ _ _ (c .before .before .before .rename-keys .ensures .header) (c .before .before .before .before .before .before .pre), renamed-unchanged _ _ _ _ _ _ _ (c .before .before .before .before .before .before .pre) (c .before .before .before .rename-keys .ensures))
+settle-requires : tie.Need-settle-requires
+settle-requires c κs = (wf-sized _ _ _ (c .before .before .before .rename-keys .ensures .header) (c .before .before .before .before .before .before .pre), renamed-unchanged _ _ _ _ _ _ _ (c .before .before .before .before .before .before .pre) (c .before .before .before .rename-keys .ensures))
 
 rename-entries-requires : tie.Need-rename-entries-requires
-rename-entries-requires c κs = (c .before .forget .ensures .wf .fit, c .before .forget .ensures .wf .linked .size)
+rename-entries-requires c κs = (c .before .settle .ensures .wf .fit, c .before .settle .ensures .wf .linked .size)
 
 returns : tie.Need-returns
-returns c = replace-law _ _ _ (omega arith) (c .before .before .before .before .before .before .before .before .before .pre) _ _ _ _ (omega arith) _ _ (c .before .before .before .before .before .before .rename-keys .ensures) (c .before .before .forget .ensures) (c .rename-entries .ensures)
+returns c =
+    replace-law _ _ _ (omega arith) (c .before .before .before .before .before .before .before .before .before .pre) _ (omega arith) _ _ _ _ _ (c .before .before .before .before .before .before .rename-keys .ensures) (c .before .before .settle .ensures) (c .rename-entries .ensures)
 
 pub replace-spec : {M : Type 1} → statement M
 replace-spec =
@@ -38,6 +39,6 @@ replace-spec =
     mul-m
     add-m
     rename-keys-requires
-    forget-requires
+    settle-requires
     rename-entries-requires
     returns)

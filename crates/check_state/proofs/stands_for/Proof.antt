@@ -1,8 +1,5 @@
 use Rattle.check_state.specs.Questions.{standsFor}
-use Rattle.rules.specs.State.{Term, representative, equalBy}
-use Rattle.rules.specs.Syntax.{var}
 use borrow.Author.Tests.{eq-eqb, ne-eqb}
-use mathlib.Core.Path.{ap, _∙_}
 use borrow.Author.Needs.{needs}
 use Rattle.check_state.proofs.stands_for.Statement.{statement}
 use Rattle.check_state.proofs.stands_for.Tie as tie
@@ -17,7 +14,7 @@ variable-is-requires c κs = search needs
 returns-2 : tie.Need-returns-2
 unfolding standsFor
 returns-2 c =
-    λ fs D. rw (ne-eqb _ _ (c .before .if1 .left)) (c .variable-is .ensures fs D ∙ ap (λ (t : Term). equalBy (representative fs) (var (c .before .before .args .v)) t) (c .before .before .pre .2))
+    λ fs D. rw (ne-eqb _ _ (c .before .if1 .left)) (c .variable-is .ensures fs D)
 
 pub stands-for-spec : {M : Type 1} → statement M
 stands-for-spec = tie.close (tie.spec returns variable-is-requires returns-2)

@@ -60,63 +60,66 @@ mul-r c = omega (arith, c .before .before .before .before .before .pre .fit)
 add-r : tie.Need-add-r Inv-loop μ-loop
 add-r c = omega (arith, c .before .before .before .before .before .pre .fit)
 
-element-copy-out-out : tie.Need-element-copy-out-out Inv-loop μ-loop
-element-copy-out-out c = omega (arith, c .before .before .before .before .before .pre .fit)
-
-element-copy-out-out-2 : tie.Need-element-copy-out-out-2 Inv-loop μ-loop
-element-copy-out-out-2 c = omega (arith, c .before .before .before .before .before .before .pre .fit)
-
 add-c : tie.Need-add-c Inv-loop μ-loop
-add-c c = omega (arith, c .before .before .before .before .before .before .before .pre .fit)
+add-c c = omega (arith, c .before .before .before .before .before .pre .fit)
 
 element-copy-out-c : tie.Need-element-copy-out-c Inv-loop μ-loop
 element-copy-out-c c =
+    let start = c .before .before .before .before .before in
+    let at-loop = c .before .loop in
+    omega (arith, start .pre .fit, at-loop .inv .2 .header .size, at-loop .inv .2 .size)
+
+mul-left : tie.Need-mul-left Inv-loop μ-loop
+mul-left c = omega (arith, c .before .before .before .before .before .before .pre .fit)
+
+element-copy-out-left : tie.Need-element-copy-out-left Inv-loop μ-loop
+element-copy-out-left c =
+    let start = c .before .before .before .before .before .before in
+    let at-loop = c .before .before .loop in
+    omega (arith, start .pre .fit, at-loop .inv .2 .header .size, at-loop .inv .2 .size)
+
+mul-right : tie.Need-mul-right Inv-loop μ-loop
+mul-right c = omega (arith, c .before .before .before .before .before .before .before .pre .fit)
+
+element-copy-out-right : tie.Need-element-copy-out-right Inv-loop μ-loop
+element-copy-out-right c =
     let start = c .before .before .before .before .before .before .before in
     let at-loop = c .before .before .before .loop in
     omega (arith, start .pre .fit, at-loop .inv .2 .header .size, at-loop .inv .2 .size)
 
-mul-left : tie.Need-mul-left Inv-loop μ-loop
-mul-left c = omega (arith, c .before .before .before .before .before .before .before .before .pre .fit)
+element-copy-out-out : tie.Need-element-copy-out-out Inv-loop μ-loop
+element-copy-out-out c = omega (arith, c .before .before .before .before .before .before .before .before .pre .fit)
 
-element-copy-out-left : tie.Need-element-copy-out-left Inv-loop μ-loop
-element-copy-out-left c =
-    let start = c .before .before .before .before .before .before .before .before in
-    let at-loop = c .before .before .before .before .loop in
-    omega (arith, start .pre .fit, at-loop .inv .2 .header .size, at-loop .inv .2 .size)
+element-copy-out-out-2 : tie.Need-element-copy-out-out-2 Inv-loop μ-loop
+element-copy-out-out-2 c = omega (arith, c .before .before .before .before .before .before .before .before .before .pre .fit)
 
-mul-right : tie.Need-mul-right Inv-loop μ-loop
-mul-right c = omega (arith, c .before .before .before .before .before .before .before .before .before .pre .fit)
-
-element-copy-out-right : tie.Need-element-copy-out-right Inv-loop μ-loop
-element-copy-out-right c =
-    let start = c .before .before .before .before .before .before .before .before .before in
-    let at-loop = c .before .before .before .before .before .loop in
-    omega (arith, start .pre .fit, at-loop .inv .2 .header .size, at-loop .inv .2 .size)
+trivial-requires : tie.Need-trivial-requires Inv-loop μ-loop
+trivial-requires c κs = tt
 
 keep-fact-requires : tie.Need-keep-fact-requires Inv-loop μ-loop
 keep-fact-requires c κs =
-    let start = c .before .before .before .before .before .before .before .before .before .before .before .before .before in
-    let at-loop = c .before .before .before .before .before .before .before .before .before .loop in
+    let start = c .before .before .before .before .before .before .before .before .before .before .before .before .before .before in
+    let at-loop = c .before .before .before .before .before .before .before .before .before .before .loop in
     (omega (arith, start .pre .fit), at-loop .inv .2, at-loop .inv .3)
 
 add-i : tie.Need-add-i Inv-loop μ-loop
-add-i c = omega (arith, c .before .before .before .before .before .before .before .before .before .before .before .before .before .before .pre .fit)
+add-i c = omega (arith, c .before .before .before .before .before .before .before .before .before .before .before .before .before .before .before .pre .fit)
 
 loop-less : tie.Need-loop-less Inv-loop μ-loop
 loop-less c = omega arith
 
 loop-again : tie.Need-loop-again Inv-loop μ-loop
 loop-again c =
-    let start = c .before .before .before .before .before .before .before .before .before .before .before .before .before .before in
-    let at-fresh = c .before .before .before .before .before .before .before .before .before .before .before .fresh in
-    let at-loop = c .before .before .before .before .before .before .before .before .before .before .loop in (
+    let start = c .before .before .before .before .before .before .before .before .before .before .before .before .before .before .before in
+    let at-fresh = c .before .before .before .before .before .before .before .before .before .before .before .before .fresh in
+    let at-loop = c .before .before .before .before .before .before .before .before .before .before .before .loop in (
       omega (arith, c .keep-fact .ensures .0 .few),
       omega arith,
       c .keep-fact .ensures .0 .linked,
       c .keep-fact .ensures .1,
       λ ρ old S. facts-next ρ
-          old (start .args .key .now) (at-fresh .last .0) (start .args .gone .now) _ (at-loop .i) S (omega arith) _ _ _ _ _ (c .keep-fact .ensures .0
-          .facts) (at-loop .inv .5 (left-sides + 2 * at-loop .i) (omega arith)) (at-loop .inv .5 (right-sides + 2 * at-loop .i) (omega arith)) (at-loop .inv
+          old (start .args .key .now) (at-fresh .last .0) (start .args .gone .now) _ (at-loop .i) S (omega arith) _ _ _ _ _ _ (c .keep-fact .ensures .0
+          .facts) (c .before .before .before .before .trivial .ensures) (at-loop .inv .5 (left-sides + 2 * at-loop .i) (omega arith)) (at-loop .inv .5 (right-sides + 2 * at-loop .i) (omega arith)) (at-loop .inv
           .6 (relations-at + at-loop .i) (omega arith)) (at-loop .inv .4 ρ old S),
       λ j h. c .keep-fact .ensures .0 .keys j (omega arith) ∙ at-loop .inv .5 j
           (omega arith),
@@ -136,8 +139,7 @@ returns c =
     let e : c .before .loop .i ≡ facts (start .args .b .now) = omega arith in
     rebuilt-fresh (start .args .key .now) (start .args .b .now) (at-fresh .last .0) (c .before .loop .key) (c .before .loop .b) (start .args .gone
     .now) (c .before .loop .n) (start .pre) (at-fresh .ensures) (c .before .loop .inv .2) (λ ρ old S. subst (λ (i : ℕ). factsIn (c .before .loop .key)
-    (c .before .loop .b) (c .before .loop .n) ≡ renameFacts ρ (factsIn old (at-fresh .last .0) i)) e (c .before .loop .inv .4 ρ old S)) (λ j h. c
-    .before .loop .inv .6 j (omega (arith, start .pre .fit)))
+    (c .before .loop .b) (c .before .loop .n) ≡ renameFacts ρ (factsIn old (at-fresh .last .0) i)) e (c .before .loop .inv .4 ρ old S)) (λ j h. c .before .loop .inv .6 j (omega (arith, start .pre .fit)))
 
 pub rebuild-spec : {M : Type 1} → statement M
 rebuild-spec =
@@ -153,14 +155,15 @@ rebuild-spec =
     add-l
     mul-r
     add-r
-    element-copy-out-out
-    element-copy-out-out-2
     add-c
     element-copy-out-c
     mul-left
     element-copy-out-left
     mul-right
     element-copy-out-right
+    element-copy-out-out
+    element-copy-out-out-2
+    trivial-requires
     keep-fact-requires
     add-i
     loop-less

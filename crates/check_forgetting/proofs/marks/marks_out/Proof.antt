@@ -16,24 +16,26 @@ loop-holds : tie.Need-loop-holds Inv-loop μ-loop
 loop-holds c =
     (omega arith, record { size = refl; at = λ j h e. absurd (omega arith) })
 
+add-path-key : tie.Need-add-path-key Inv-loop μ-loop
+add-path-key c = omega arith
+
+element-copy-out-path-key : tie.Need-element-copy-out-path-key Inv-loop μ-loop
+element-copy-out-path-key c = omega arith
+
+add-path-key-2 : tie.Need-add-path-key-2 Inv-loop μ-loop
+add-path-key-2 c = omega arith
+
+element-copy-out-path-key-2 : tie.Need-element-copy-out-path-key-2 Inv-loop μ-loop
+element-copy-out-path-key-2 c = omega arith
+
+path-key-requires : tie.Need-path-key-requires Inv-loop μ-loop
+path-key-requires c κs = tt
+
 element-copy-out-mark : tie.Need-element-copy-out-mark Inv-loop μ-loop
 element-copy-out-mark c = omega arith
 
-add-mark : tie.Need-add-mark Inv-loop μ-loop
-add-mark c = omega arith
-
-element-copy-out-mark-2 : tie.Need-element-copy-out-mark-2 Inv-loop μ-loop
-element-copy-out-mark-2 c = omega arith
-
-add-mark-2 : tie.Need-add-mark-2 Inv-loop μ-loop
-add-mark-2 c = omega arith
-
-element-copy-out-mark-3 : tie.Need-element-copy-out-mark-3 Inv-loop μ-loop
-element-copy-out-mark-3 c = omega arith
-
 mark-requires : tie.Need-mark-requires Inv-loop μ-loop
-mark-requires c κs =
-    c .before .before .before .before .before .loop .inv .1 .size
+mark-requires c κs = c .before .before .before .before .before .before .loop .inv .1 .size
 
 add-i : tie.Need-add-i Inv-loop μ-loop
 add-i c = omega arith
@@ -43,7 +45,7 @@ loop-less c = omega arith
 
 loop-again : tie.Need-loop-again Inv-loop μ-loop
 loop-again c =
-    (omega arith, marks-next _ _ _ _ _ (c .before .before .before .before .before .before .loop .inv .1) (c .mark .ensures))
+    (omega arith, marks-next _ _ _ _ _ _ (c .before .before .before .path-key .ensures .0) (c .before .before .before .before .before .before .before .loop .inv .1) (c .mark .ensures))
 
 returns : tie.Need-returns Inv-loop μ-loop
 returns c =
@@ -56,11 +58,12 @@ marks-out-spec =
     Inv-loop
     μ-loop
     loop-holds
+    add-path-key
+    element-copy-out-path-key
+    add-path-key-2
+    element-copy-out-path-key-2
+    path-key-requires
     element-copy-out-mark
-    add-mark
-    element-copy-out-mark-2
-    add-mark-2
-    element-copy-out-mark-3
     mark-requires
     add-i
     loop-less

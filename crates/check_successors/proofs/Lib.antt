@@ -1,0 +1,3 @@
+pub mod Least
+pub mod Marking
+pub mod InOrder

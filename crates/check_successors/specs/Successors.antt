@@ -1,0 +1,81 @@
+-- The search for a successor: the first term left that is ~ a dropped one.
+use mathlib.Core.Bool.{Bool, true, false, cond, not, _&&_}
+use mathlib.Core.Path.{_≡_}
+use mathlib.Core.List.{List, map}
+use mathlib.Core.Option.{Option, none, some}
+use Prim.Native.Nat.{ℕ, _+_, _-_, _≤_, _<_}
+use lib.Dec.{eqb, ltb}
+use lib.ListN.{length, getD}
+use Rattle.rules.specs.Base.{first, bindOption}
+use Rattle.rules.specs.Syntax.{offset, num, null, var, path}
+use Rattle.rules.specs.State.{Term, Equality, Renaming, Permission, isLeft, pathOf}
+use Rattle.check_equality.specs.Layout.{left-sides, null-slot, mark-count}
+use Rattle.check_equality.specs.Keys.{termOf, first-number}
+use Rattle.check_equality.specs.Links.{termAt, placeOf}
+use Rattle.check_equality.specs.Listing.{listed}
+use Rattle.check_state.specs.declared.Resolved.{Resolved}
+use Rattle.check_state.specs.States.{variableAt, fieldAt, entries}
+use Rattle.check_state.specs.Questions.{places}
+use Rattle.check_inequality.specs.Ways.{numberLike}
+
+-- NUMBERS
+-- the number of a key, none where it is no number's
+unfoldable pub numberOr : ℕ → Option ℕ
+numberOr k = cond (ltb k first-number) none (some (k - first-number))
+
+-- its place in rising order
+abbrev pub offsetOf : ℕ → ℕ
+offsetOf k = offset (k - first-number)
+
+-- the lower of two numbers' keys, where `best` may be none's
+unfoldable pub lowerOf : ℕ → ℕ → ℕ
+lowerOf k best = cond (ltb best first-number) k (cond (ltb (offsetOf k) (offsetOf best)) k best)
+
+-- the lower of what there is and the key k, if it is that of a number ~ the term of t
+unfoldable pub withSlot : ℕ → ℕ → ℕ → ℕ → ℕ → ℕ
+withSlot best k c t a = cond (numberLike k c t a) (lowerOf k best) best
+
+-- the terms of the first n sides
+abbrev pub sideTerms : List ℕ → ℕ → List Term
+sideTerms key n = listed (λ i. termAt key (left-sides + i)) n
+
+-- PATHS
+-- the place of the key k is marked, if `yes`
+pub record Marks (yes : Bool) (k : ℕ) (marks marks′ : List Bool) : Type 0 where
+  pub size : length marks′ ≡ length marks
+  pub new : yes ≡ true → getD marks′ (placeOf k) false ≡ true
+  pub old : (p : ℕ) → getD marks p false ≡ true → getD marks′ p false ≡ true
+
+-- the places of the key t, and of the sides in the slots up to m with the label a, are marked
+pub record MarksLike (key b : List ℕ) (m t a : ℕ) (marks : List Bool) : Type 0 where
+  pub size : length marks ≡ mark-count
+  pub own : getD marks (placeOf t) false ≡ true
+  pub at : (i : ℕ) → left-sides ≤ i → i < m → getD b i 0 ≡ a → getD marks (placeOf (getD key i 0)) false ≡ true
+
+-- the path `x.f` is not to be skipped, and is ~ the term of t
+unfoldable pub pathTest : Equality → Bool → ℕ → ℕ → ℕ → Bool
+pathTest _~_ skip x f t = not skip && _~_ (path x f) (termOf t)
+
+-- of the entry i
+abbrev pub entryPathTest : Equality → List ℕ → List Bool → ℕ → ℕ → Bool
+entryPathTest _~_ b skip t i = pathTest _~_ (getD skip i false) (variableAt b i) (fieldAt b i) t
+
+-- SUCCESSORS
+-- a term by its key, or none
+unfoldable pub termOr : Resolved → Option Term
+termOr (Resolved.Key k) = some (termOf k)
+termOr Resolved.Nothing = none
+
+-- the path of the entry i
+abbrev pub pathAtEntry : List ℕ → ℕ → Term
+pathAtEntry b i = path (variableAt b i) (fieldAt b i)
+
+-- what a search may ask of a dropping, with ps the permissions left: x and the entries to be skipped are not left, all else is
+pub record Drops (ρ : Renaming) (ps : List Permission) (b : List ℕ) (skip : List Bool) (x : ℕ) : Type 0 where
+  pub variables : (v : ℕ) → v < null-slot → isLeft ρ (var v) ≡ not (eqb v x)
+  pub null : isLeft ρ null ≡ true
+  pub numbers : (n : ℕ) → isLeft ρ (num n) ≡ true
+  pub paths :
+      (q : Term → Bool) →
+      first (λ u. isLeft ρ u && q u) (map pathOf ps)
+      ≡ bindOption (first (λ i. not (getD skip i false) && q (pathAtEntry b i)) (places (entries b))) (λ i. some (pathAtEntry b i))

@@ -1,0 +1,207 @@
+// The successor of a dropped term: the first term left that is ~ to it, in the order of variables, listed paths, null, numbers rising.
+use check_equality::State;
+use check_state::Resolved;
+use rules::Machine;
+ghost use mathlib.Core.Path.{_≡_};
+ghost use mathlib.Core.List.{List};
+ghost use Prim.Native.Nat.{_+_, _*_, _≤_};
+ghost use lib.ListN.{length};
+ghost use Rattle.rules.specs.Limits.{most-permissions};
+ghost use Rattle.rules.specs.Syntax.{num};
+ghost use Rattle.rules.specs.State as Rules;
+ghost use Rattle.rules.specs.State.{numbers};
+ghost use Rattle.rules.proofs.Rising.{least};
+ghost use Rattle.check_equality.specs.Layout.{slots, left-sides, mark-count};
+ghost use Rattle.check_equality.specs.Keys.{termOf, first-number};
+ghost use Rattle.check_equality.specs.Links.{Labelled};
+ghost use Rattle.check_state.specs.States.{Wf, stateOf, facts, factsOf};
+ghost use Rattle.check_state.specs.Questions.{Slots, Told, FirstPlace};
+ghost use Rattle.check_successors.specs.Successors.{numberOr, offsetOf, lowerOf, withSlot, sideTerms, Marks, MarksLike, pathTest, entryPathTest, Drops, termOr};
+
+// How many numbers 32 bits hold, and the first that is negative.
+const WORDS: u64 = 4294967296;
+
+const SIGN: u64 = 2147483648;
+
+// The place of a number's key in rising order.
+fn order(k: u64) -> u64
+    requires { ⌜ first-number ≤ k ⌝ }
+    ensures { λ r. ⌜ r ≡ offsetOf k ⌝ }
+{
+    ((k - State::FIRST_NUMBER) % WORDS + SIGN) % WORDS
+}
+
+// The lower of two numbers' keys, where `best` may be 0 for none.
+fn lower(k: u64, best: u64) -> u64
+    requires { ⌜ first-number ≤ k ⌝ }
+    ensures { λ r. ⌜ r ≡ lowerOf k best ⌝ }
+{
+    if best < State::FIRST_NUMBER {
+        return k;
+    }
+    if order(k) < order(best) {
+        return k;
+    }
+    best
+}
+
+// One side more, with the key k and the label c.
+fn number_step(best: u64, k: u64, c: u8, t: u64, a: u8) -> u64
+    ensures { λ r. ⌜ r ≡ withSlot best k c t a ⌝ }
+{
+    if check_inequality::number_like(k, c, t, a) {
+        return lower(k, best);
+    }
+    best
+}
+
+// The key of the least number that is ~ the term of t among the first n sides; 0 where there is none.
+fn least_number<'a>(
+    key: &'a [u64; State::SLOTS],
+    b: &'a [u8; State::BYTES],
+    m: usize,
+    n: usize,
+    t: u64,
+    a: u8,
+) -> u64
+    requires { ⌜ Slots (now key) (now b) m × Labelled (now key) (now b) m t a × (left-sides + n ≤ m) ⌝ }
+    ensures { λ r. ⌜ Told (now (key .entry)) (now (b .entry)) m (λ same. numberOr r ≡ least (λ v. same (num v) (termOf t)) (numbers (sideTerms (now (key .entry)) n))) ⌝ }
+{
+    let mut best = 0;
+    let mut i = 0;
+    while i < n {
+        best = number_step(best, key[State::LEFT + i], b[State::LEFT + i], t, a);
+        i += 1;
+    }
+    best
+}
+
+// Marks the place of a key, or not.
+pub fn mark(marks: &mut [bool; State::MARKS], yes: bool, k: u64)
+    requires { ⌜ length (now marks) ≡ mark-count ⌝ }
+    ensures { λ _. ⌜ Marks yes k (now (marks .entry)) (now (marks .exit)) ⌝ }
+{
+    if yes {
+        let p = check_equality::place(k);
+        marks[p] = true;
+    }
+}
+
+// The places of the key t and of the keys of the sides with the label a: every path that is ~ the term of t has one of them.
+fn marks_like<'a>(
+    key: &'a [u64; State::SLOTS],
+    b: &'a [u8; State::BYTES],
+    m: usize,
+    t: u64,
+    a: u8,
+) -> [bool; State::MARKS]
+    requires { ⌜ m ≤ slots ⌝ }
+    ensures { λ r. ⌜ MarksLike (now (key .entry)) (now (b .entry)) m t a r ⌝ }
+{
+    let mut marks = [false; State::MARKS];
+    mark(&mut marks, true, t);
+    let mut i = State::LEFT;
+    while i < m {
+        mark(&mut marks, b[i] == a, key[i]);
+        i += 1;
+    }
+    marks
+}
+
+// Is the path x.f not to be skipped, and ~ the term of t?
+fn path_like<'a>(
+    key: &'a [u64; State::SLOTS],
+    b: &'a [u8; State::BYTES],
+    m: usize,
+    marks: &'a [bool; State::MARKS],
+    skip: bool,
+    x: u8,
+    f: u8,
+    t: u64,
+    a: u8,
+) -> bool
+    requires { ⌜ Slots (now key) (now b) m × Labelled (now key) (now b) m t a × MarksLike (now key) (now b) m t a (now marks) ⌝ }
+    ensures { λ r. ⌜ Told (now (key .entry)) (now (b .entry)) m (λ same. r ≡ pathTest same skip x f t) ⌝ }
+{
+    if skip {
+        return false;
+    }
+    let k = check_equality::path_key(x, f);
+    let p = check_equality::place(k);
+    if !marks[p] {
+        return false;
+    }
+    let c = check_equality::label_of(key, b, m, k);
+    check_equality::alike(k, c, t, a)
+}
+
+// The first of n entries that is not to be skipped and whose path is ~ the term of t, or n.
+fn first_entry<'a>(
+    key: &'a [u64; State::SLOTS],
+    b: &'a [u8; State::BYTES],
+    m: usize,
+    skip: &'a [bool; Machine::PERMISSIONS],
+    n: usize,
+    t: u64,
+    a: u8,
+) -> usize
+    requires { ⌜ Slots (now key) (now b) m × Labelled (now key) (now b) m t a × (n ≤ most-permissions) ⌝ }
+    ensures { λ r. ⌜ Told (now (key .entry)) (now (b .entry)) m (λ same. FirstPlace (entryPathTest same (now (b .entry)) (now (skip .entry)) t) n r) ⌝ }
+{
+    let marks = marks_like(key, b, m, t, a);
+    let mut i = 0;
+    while i < n {
+        if path_like(
+            key,
+            b,
+            m,
+            &marks,
+            skip[i],
+            b[State::VARIABLES + i],
+            b[State::FIELDS + i],
+            t,
+            a,
+        ) {
+            return i;
+        }
+        i += 1;
+    }
+    n
+}
+
+// The first term left that is ~ the term of t, whose label is a: x is not left (NO_VARIABLE: every variable is), nor are the paths of
+// the entries to be skipped.
+pub fn successor<'a>(
+    key: &'a [u64; State::SLOTS],
+    b: &'a [u8; State::BYTES],
+    skip: &'a [bool; Machine::PERMISSIONS],
+    x: u8,
+    t: u64,
+    a: u8,
+) -> Resolved
+    requires { ⌜ Wf (now key) (now b) × Labelled (now key) (now b) (left-sides + 2 * facts (now b)) t a ⌝ }
+    ensures { λ r. ⌜ ((ρ : Rules.Renaming) (ps : List Rules.Permission) → Drops ρ ps (now (b .entry)) (now (skip .entry)) x → termOr r ≡ Rules.successor (Rules.equalIn (stateOf (now (key .entry)) (now (b .entry)))) ρ ps (factsOf (now (key .entry)) (now (b .entry))) (termOf t)) ⌝ }
+{
+    let n = 2 * (b[State::FACTS] as usize);
+    let m = State::LEFT + n;
+    let v = check_state::first_variable(key, b, m, x, t, a);
+    if v < State::VARIABLE_COUNT {
+        return Resolved::Key(check_equality::variable_key(v));
+    }
+    let p = b[State::ENTRIES] as usize;
+    let i = first_entry(key, b, m, skip, p, t, a);
+    if i < p {
+        return Resolved::Key(check_equality::path_key(
+            b[State::VARIABLES + i],
+            b[State::FIELDS + i],
+        ));
+    }
+    if check_equality::alike(State::NULL_KEY, b[State::NULL], t, a) {
+        return Resolved::Key(State::NULL_KEY);
+    }
+    let k = least_number(key, b, m, n, t, a);
+    if k < State::FIRST_NUMBER {
+        return Resolved::Nothing;
+    }
+    Resolved::Key(k)
+}
