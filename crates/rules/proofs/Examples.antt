@@ -191,6 +191,15 @@ rows =
     row (counting "let b 1" "let c b" "sub b b c") check (0 ∷ 0 ∷ []) ∷
     row (withLine 7 "add k k k" worked) check (9 ∷ 7 ∷ []) ∷
     row (withLine 7 "add this k k" worked) check (7 ∷ 7 ∷ []) ∷
+    -- W4: "−2147483648 still reads, and `-0` is still number 4"
+    row (oneLine "let a -2147483648") (run 9) (0 ∷ 4 ∷ 2 ∷ three 2147483648 0 0) ∷
+    row (oneLine "let a -1") (run 9) (0 ∷ 4 ∷ 2 ∷ three 4294967295 0 0) ∷
+    row (oneLine "let a -2147483649") check (4 ∷ 3 ∷ []) ∷
+    row (oneLine "let a -0") check (4 ∷ 3 ∷ []) ∷
+    row (oneLine "let a -") check (4 ∷ 3 ∷ []) ∷
+    row (oneLine "let a -01") check (4 ∷ 3 ∷ []) ∷
+    row (oneLine "let a 00") check (4 ∷ 3 ∷ []) ∷
+    row (oneLine "let a 0") check (0 ∷ 0 ∷ []) ∷
     -- the same field in way (d); the lower of two numbers; what ensures does not hand back is lost
     row twoFields check (13 ∷ 7 ∷ []) ∷
     row lower check (6 ∷ 3 ∷ []) ∷

@@ -11,3 +11,4 @@ pub mod Examples
 pub mod LinesTaken
 pub mod LineKinds
 pub mod Numbers
+pub mod Signs
