@@ -19,6 +19,18 @@ pub struct Known {
     /// Since before the line; of `else` since before its `if`.
     pub added: Vec<String>,
     pub dropped: Vec<String>,
+    /// The line before ends the method.
+    pub returned: bool,
+}
+
+impl Known {
+    /// Why nothing is known before the line.
+    fn absence(&self) -> &'static str {
+        match self.returned {
+            true => "nothing: no run comes here from the line before, which returns",
+            false => "the check did not come here",
+        }
+    }
 }
 
 /// The items of one list that are not in the other; of two alike each counts.
@@ -61,8 +73,13 @@ pub fn all(script: &Script) -> Vec<Known> {
         let names = script.names_at(place);
         let before = seen.before.as_ref().map(|state| names.state(state));
         let after = seen.after.as_ref().map(|state| names.state(state));
+        let returned = place
+            .checked_sub(1)
+            .filter(|&last| record.seen[last].after.is_some())
+            .is_some_and(|last| script.returns(last));
         let since = match statement.action {
             Action::Else(_) => opened(script, &record, place).map(|state| names.state(state)),
+            _ if returned => Some(Vec::new()),
             _ => before.clone(),
         };
         let (added, dropped) = match (&since, &after) {
@@ -75,6 +92,7 @@ pub fn all(script: &Script) -> Vec<Known> {
             after,
             added,
             dropped,
+            returned,
         }
     });
     rows.collect()
@@ -85,11 +103,11 @@ pub fn at(script: &Script, line: u32) -> Option<Known> {
     all(script).into_iter().find(|known| known.line >= line)
 }
 
-fn list(out: &mut String, heading: &str, atoms: Option<&Vec<String>>) {
+fn list(out: &mut String, heading: &str, atoms: Result<&Vec<String>, &str>) {
     match atoms {
-        None => wrapped(out, heading, "the check did not come here"),
-        Some(atoms) if atoms.is_empty() => wrapped(out, heading, "nothing"),
-        Some(atoms) => rows(out, heading, &joined(atoms)),
+        Err(absence) => wrapped(out, heading, absence),
+        Ok(atoms) if atoms.is_empty() => wrapped(out, heading, "nothing"),
+        Ok(atoms) => rows(out, heading, &joined(atoms)),
     }
 }
 
@@ -106,18 +124,20 @@ fn joined(atoms: &[String]) -> Vec<String> {
 /// One line in full.
 pub fn full(script: &Script, known: &Known) -> String {
     let mut out = String::new();
-    list(&mut out, "  before: ", known.before.as_ref());
+    let before = known.before.as_ref().ok_or(known.absence());
+    list(&mut out, "  before: ", before);
     if !known.dropped.is_empty() {
-        list(&mut out, "  drops:  ", Some(&known.dropped));
+        list(&mut out, "  drops:  ", Ok(&known.dropped));
     }
     if !known.added.is_empty() {
-        list(&mut out, "  adds:   ", Some(&known.added));
+        list(&mut out, "  adds:   ", Ok(&known.added));
     }
     let ends = script
         .statement_at(known.line)
         .is_some_and(|place| matches!(script.program.statements[place].action, Action::End));
     if !ends {
-        list(&mut out, "  after:  ", known.after.as_ref());
+        let after = known.after.as_ref().ok_or("the check did not come here");
+        list(&mut out, "  after:  ", after);
     }
     out
 }
@@ -143,8 +163,8 @@ fn changes(script: &Script, all: &[Known], report: &Report, paint: Paint) -> Str
             signed(&mut out, "+", known.before.as_deref().unwrap_or_default());
         }
         row(&mut out, known.line);
-        if known.before.is_none() {
-            wrapped(&mut out, "       ", "the check did not come here");
+        if known.before.is_none() && !known.returned {
+            wrapped(&mut out, "       ", known.absence());
         }
         signed(&mut out, "-", &known.dropped);
         signed(&mut out, "+", &known.added);

@@ -1,7 +1,9 @@
 //! A text as the model sees it, and its parts in the script's own names.
 
 use model::checker::{State, Term};
-use model::names::{Atom, Block, Expr, Program, Type, Var, FIRST_LOCAL, PARAM, RESULT, THIS};
+use model::names::{
+    Action, Atom, Block, Expr, Program, Type, Var, FIRST_LOCAL, PARAM, RESULT, THIS,
+};
 use model::text::{self, Line};
 use std::ops::Range;
 
@@ -72,6 +74,11 @@ impl<'a> Script<'a> {
     pub fn statement_at(&self, line: u32) -> Option<usize> {
         let found = |statement: &model::names::Statement| statement.line == line;
         self.program.statements.iter().position(found)
+    }
+
+    /// Is the statement at a place a `return`?
+    pub fn returns(&self, place: usize) -> bool {
+        matches!(self.program.statements[place].action, Action::Return(_))
     }
 
     /// The place of the block that a statement is in.

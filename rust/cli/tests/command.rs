@@ -14,8 +14,8 @@ fn statuses() {
         (&["run", "examples/tag.script"], 0),
         (&["run", "examples/stopped-23.script"], 1),
         (&["run", "examples/refused-06.script"], 1),
-        (&["run", "--steps", "7", "examples/tag.script"], 1),
-        (&["run", "--steps=8", "examples/tag.script"], 0),
+        (&["run", "--steps", "6", "examples/tag.script"], 1),
+        (&["run", "--steps=7", "examples/tag.script"], 0),
         (&["trace", "examples/tag.script"], 0),
         (&["trace", "examples/stopped-26.script"], 1),
         (&["known", "examples/tag.script"], 0),
@@ -102,6 +102,43 @@ fn folders_and_quiet() {
                 .is_some_and(|part| part.starts_with(" number "))
     };
     assert!(out.lines().count() > 12 && out.lines().all(starts), "{out}");
+}
+
+/// A stop names the values that it was about.
+#[test]
+fn causes_of_stops() {
+    let method = "class\tS\nmethod\tint\tm\tint\tk\nrequires\nensures\teq\tresult\t8\n\
+                  return\tk\nend\nmain\nvar\tS\ts\nvar\tint\ta\nvar\tint\tb\nnew\ts\tS\n\
+                  let\ta\t7\ncall\tb\ts\tm\ta\nend\n";
+    let below = "main\nvar\tint\tn\nvar\tint\tone\nlet\tn\t-2147483648\nlet\tone\t1\n\
+                 sub\tn\tn\tone\nend\n";
+    for (text, stop, cause) in [
+        (
+            method,
+            "-:5: stopped after 3 steps, number 26: ",
+            "  cause: `eq result 8` of `ensures` (line 4) is false: `result` is 7\n",
+        ),
+        (
+            below,
+            "-:6: stopped after 2 steps, number 27: ",
+            "  cause: -2147483648 (`n`) less 1 (`one`) is -2147483649, and -2147483648 is\n         the least\n",
+        ),
+    ] {
+        let (out, _, status) = said(&["run", "-"], text.as_bytes());
+        assert_eq!(status, 1);
+        assert!(out.contains(stop) && out.contains(cause), "{out}");
+    }
+}
+
+/// No run comes to the line after a `return` from there; what a `join` says is
+/// known after it all the same.
+#[test]
+fn known_after_a_return() {
+    let (out, _, _) = said(&["known", "examples/tag.script:9"], b"");
+    let nothing = "  before: nothing: no run comes here from the line before, which returns\n";
+    assert_eq!(out, format!("examples/tag.script:9: end\n{nothing}"));
+    let (out, _, _) = said(&["known", "examples/early.script"], b"");
+    assert!(out.contains("  24 join acc this prev\n     + acc this prev\n  25 end\n"));
 }
 
 #[test]

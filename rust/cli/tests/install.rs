@@ -207,7 +207,7 @@ fn installed_and_used() {
     assert_eq!(
         ran(&program, &worked),
         (
-            "number 0 at line 19 after 9 steps: 1 7 7 0 0 0 0 0 0 0 0 0\n".into(),
+            "number 0 at line 19 after 8 steps: 1 7 7 0 0 0 0 0 0 0 0 0\n".into(),
             Some(0)
         )
     );
@@ -220,7 +220,7 @@ fn installed_and_used() {
     assert_eq!(
         ran(&program, &worked),
         (
-            "finished at line 19 after 9 steps\ns = object 1\na = 7\nb = 7\n".into(),
+            "finished at line 19 after 8 steps\ns = object 1\na = 7\nb = 7\n".into(),
             Some(0)
         )
     );

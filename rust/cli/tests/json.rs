@@ -50,14 +50,14 @@ fn check() {
 #[test]
 fn run() {
     let run = object(
-        &["run", "--json", "--steps", "5", "examples/tag.script"],
+        &["run", "--json", "--steps", "4", "examples/tag.script"],
         b"",
     );
     assert_eq!(run.get("call"), Some(&text("run")));
     assert_eq!(run.get("finished"), Some(&Json::Bool(false)));
     assert_eq!(run.get("number"), Some(&Json::Int(21)));
-    assert_eq!(run.get("allowed"), Some(&Json::Int(5)));
-    assert_eq!(run.get("steps"), Some(&Json::Int(5)));
+    assert_eq!(run.get("allowed"), Some(&Json::Int(4)));
+    assert_eq!(run.get("steps"), Some(&Json::Int(4)));
     assert_eq!(run.at(&["check", "accepted"]), Some(&Json::Bool(true)));
     let Some(Json::List(variables)) = run.get("variables") else {
         panic!("no variables: {run:?}");
@@ -97,7 +97,7 @@ fn looking_inside() {
     );
     assert_eq!(known.get("accepted"), Some(&Json::Bool(true)));
     let trace = object(&["trace", "--json", "--cards", "examples/tag.script"], b"");
-    assert!(matches!(trace.get("trace"), Some(Json::List(rows)) if rows.len() == 8));
+    assert!(matches!(trace.get("trace"), Some(Json::List(rows)) if rows.len() == 7));
     let Some(Json::List(cards)) = trace.get("cards") else {
         panic!("no cards: {trace:?}");
     };

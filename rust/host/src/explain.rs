@@ -86,7 +86,8 @@ pub const EXPLANATIONS: &[Explanation] = &[
         meaning: "The first word is unknown, a field is missing or too many, a field is no name, \
                   number, expression or atom, or the line may not stand here: `requires` and \
                   `ensures` follow `method`, `var` lines come before statements, every `if` has \
-                  `else` and `join`, `return` stands in methods only, nothing follows main's `end`. \
+                  `else` and `join`, `return` stands in methods only and only `else`, `join` or `end` \
+                  follows it, nothing follows main's `end`. \
                   A formula has at most 8 atoms, a name at most 12 letters and digits.",
         mend: "compare the line with its form in the guide; one tab parts two fields, and none \
                begins or ends a line",
@@ -186,8 +187,9 @@ pub const EXPLANATIONS: &[Explanation] = &[
     Explanation {
         number: 21,
         title: "the allowed steps are taken",
-        meaning: "Each statement line is a step, `else`, `join` and `end` too. The line given is the \
-                  one that would have come next.",
+        meaning: "Each statement line is a step, `else`, `join` and `end` too; `return` is one, and \
+                  the method's `end` none after it. The line given is the one that would have come \
+                  next.",
         mend: "allow more steps, or look for a method that calls itself without end",
         example: example!("stopped-21"),
     },

@@ -72,7 +72,7 @@ fn examples_of_the_document() {
     let examples: [(Vec<u8>, &str); 9] = [
         (
             worked(0, ""),
-            "check 0 0\nrun 0 19 9\nvar s 1\nvar a 7\nvar b 7\n",
+            "check 0 0\nrun 0 19 8\nvar s 1\nvar a 7\nvar b 7\n",
         ),
         (
             worked(5, "requires"),
@@ -80,11 +80,11 @@ fn examples_of_the_document() {
         ),
         (
             worked(17, "assert eq s.n 8"),
-            "check 13 17\nrun 26 17 6\nvar s 1\nvar a 7\nvar b 7\n",
+            "check 13 17\nrun 26 17 5\nvar s 1\nvar a 7\nvar b 7\n",
         ),
         (
             worked(18, "release acc s n acc s n"),
-            "check 12 18\nrun 24 18 7\nvar s 1\nvar a 7\nvar b 7\n",
+            "check 12 18\nrun 24 18 6\nvar s 1\nvar a 7\nvar b 7\n",
         ),
         (worked(16, "call a s tag a"), "check 9 16\n"),
         (Vec::new(), "check 8 0\n"),

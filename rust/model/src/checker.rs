@@ -341,14 +341,8 @@ fn different_numbers(left: &[Term], right: &[Term]) -> bool {
         .any(|one| right.iter().filter(number).any(|other| one != other))
 }
 
-/// A method's formula as its caller writes it: y, z, x for `this`, w, `result`.
-pub fn instance<'a>(formula: &[Atom<'a>], call: Call) -> Vec<Atom<'a>> {
-    let var = |var| match var {
-        THIS => call.y,
-        PARAM => call.z,
-        RESULT => call.x,
-        other => unreachable!("variable {other} in a contract"),
-    };
+/// A formula with other variables in the place of its own.
+pub fn with_vars<'a>(formula: &[Atom<'a>], var: impl Fn(Var) -> Var) -> Vec<Atom<'a>> {
     let path = |path: Path<'a>| Path {
         var: var(path.var),
         ..path
@@ -358,14 +352,22 @@ pub fn instance<'a>(formula: &[Atom<'a>], call: Call) -> Vec<Atom<'a>> {
         Expr::Path(p) => Expr::Path(path(p)),
         constant => constant,
     };
-    formula
-        .iter()
-        .map(|&atom| match atom {
-            Atom::Acc(p) => Atom::Acc(path(p)),
-            Atom::Eq(left, right) => Atom::Eq(side(left), side(right)),
-            Atom::Ne(left, right) => Atom::Ne(side(left), side(right)),
-        })
-        .collect()
+    let atom = |&atom: &Atom<'a>| match atom {
+        Atom::Acc(p) => Atom::Acc(path(p)),
+        Atom::Eq(left, right) => Atom::Eq(side(left), side(right)),
+        Atom::Ne(left, right) => Atom::Ne(side(left), side(right)),
+    };
+    formula.iter().map(atom).collect()
+}
+
+/// A method's formula as its caller writes it: y, z, x for `this`, w, `result`.
+pub fn instance<'a>(formula: &[Atom<'a>], call: Call) -> Vec<Atom<'a>> {
+    with_vars(formula, |var| match var {
+        THIS => call.y,
+        PARAM => call.z,
+        RESULT => call.x,
+        other => unreachable!("variable {other} in a contract"),
+    })
 }
 
 /// The opposite of a condition.
@@ -377,25 +379,36 @@ pub fn opposite(condition: Atom) -> Atom {
     }
 }
 
-/// The rule of one statement that is no branch and no `end`.
-pub fn simple<'a>(program: &Program<'a>, state: &mut State<'a>, action: &Action<'a>) -> Rule<()> {
+/// The rule of one statement of the block that is no branch and no `end`.
+pub fn simple<'a>(
+    program: &Program<'a>,
+    block: &Block<'a>,
+    state: &mut State<'a>,
+    action: &Action<'a>,
+) -> Rule<()> {
     let mut at = At {
         watch: &mut Unwatched,
         place: 0,
     };
-    watched(program, state, action, &mut at)
+    watched(program, block, state, action, &mut at)
 }
 
 /// The same, with someone who looks on.
 fn watched<'a, W: Watch<'a>>(
     program: &Program<'a>,
+    block: &Block<'a>,
     state: &mut State<'a>,
     action: &Action<'a>,
     at: &mut At<W>,
 ) -> Rule<()> {
     match action {
         Action::Let(x, expr) => state.assign(*x, *expr, at),
-        Action::Return(x) => state.assign(RESULT, Expr::Var(*x), at),
+        // W2: "The checker shows ensures at that line", `result` assigned.
+        Action::Return(x) => {
+            state.assign(RESULT, Expr::Var(*x), at)?;
+            at.show(state, Purpose::Ensures, &block.ensures);
+            state.show(&block.ensures)
+        }
         // W1: "The checker removes x and keeps no fact of the new value."
         Action::Compute(compute) => {
             state.remove(compute.x, Term::Null);
@@ -430,9 +443,14 @@ impl<'a> Watch<'a> for Before<'_, '_, 'a> {
     }
 }
 
-/// The check of the blocks, with someone who looks on.
+/// What is left where a branch or a block ends, and that place; no state if a
+/// `return` stands last.
+type End<'a> = (Option<State<'a>>, usize);
+
+/// The check of a block, with someone who looks on.
 struct Checker<'p, 'a, W> {
     program: &'p Program<'a>,
+    block: &'p Block<'a>,
     watch: &'p mut W,
 }
 
@@ -454,25 +472,32 @@ impl<'p, 'a, W: Watch<'a>> Checker<'p, 'a, W> {
     }
 
     /// The statements from a place up to the `else`, `join` or `end` that
-    /// closes them: its place, and the state that is left there.
-    fn branch(&mut self, state: State<'a>, start: usize) -> Result<(State<'a>, usize), Refusal> {
+    /// closes them: its place, and the state that is left there. W2: "A branch
+    /// whose last line is a `return` has no end to show".
+    fn branch(&mut self, state: State<'a>, start: usize) -> Result<End<'a>, Refusal> {
         let mut state = state;
         let mut place = start;
         loop {
             self.watch.before(place, &state);
             match &self.statement(place).action {
-                Action::Else(_) | Action::Join(_) | Action::End => return Ok((state, place)),
+                Action::Else(_) | Action::Join(_) | Action::End => {
+                    return Ok((Some(state), place));
+                }
                 Action::If(branch) => {
                     state = self.branches(state, branch, place)?;
                     place = branch.join;
                 }
                 action => {
-                    watched(self.program, &mut state, action, &mut self.at(place))
+                    let (program, block) = (self.program, self.block);
+                    watched(program, block, &mut state, action, &mut self.at(place))
                         .map_err(self.refusal(place))?;
                 }
             }
             self.watch.after(place, &state);
             place += 1;
+            if matches!(self.statement(place - 1).action, Action::Return(_)) {
+                return Ok((None, place));
+            }
         }
     }
 
@@ -502,8 +527,9 @@ impl<'p, 'a, W: Watch<'a>> Checker<'p, 'a, W> {
         let Action::Join(formula) = &self.statement(branch.join).action else {
             unreachable!("the target of a branch is its join");
         };
-        for (end, purpose) in [(&first, Purpose::FirstEnd), (&other, Purpose::SecondEnd)] {
-            self.at(branch.join).show(end, purpose, formula);
+        for (end, purpose) in [(first, Purpose::FirstEnd), (other, Purpose::SecondEnd)] {
+            let Some(end) = end else { continue };
+            self.at(branch.join).show(&end, purpose, formula);
             end.show(formula).map_err(&at_join)?;
         }
         let mut after = State::default();
@@ -512,13 +538,17 @@ impl<'p, 'a, W: Watch<'a>> Checker<'p, 'a, W> {
     }
 
     /// "A method starts with its requires; its `end` must show ensures. Main
-    /// starts empty" and shows nothing: its formulas are empty.
-    fn block(&mut self, block: &Block<'a>) -> Result<(), Refusal> {
+    /// starts empty" and shows nothing: its formulas are empty. W2: "an `end`
+    /// straight after a `return` shows nothing."
+    fn check(&mut self) -> Result<(), Refusal> {
+        let block = self.block;
         let mut state = State::default();
         state
             .add(&block.requires)
             .expect("eight framed atoms fit an empty state");
-        let (state, end) = self.branch(state, block.start)?;
+        let (Some(state), end) = self.branch(state, block.start)? else {
+            return Ok(());
+        };
         self.at(end).show(&state, Purpose::Ensures, &block.ensures);
         state.show(&block.ensures).map_err(self.refusal(end))
     }
@@ -539,9 +569,12 @@ pub fn check_observed<'a>(
 
 /// The same, with someone who looks on.
 pub fn check_watched<'a>(program: &Program<'a>, watch: &mut impl Watch<'a>) -> Result<(), Refusal> {
-    let mut checker = Checker { program, watch };
-    program
-        .blocks
-        .iter()
-        .try_for_each(|block| checker.block(block))
+    program.blocks.iter().try_for_each(|block| {
+        let mut checker = Checker {
+            program,
+            block,
+            watch: &mut *watch,
+        };
+        checker.check()
+    })
 }

@@ -148,6 +148,13 @@ pub fn callee_values(caller: &Values, call: Call) -> Values {
     values
 }
 
+/// The values of a method's variables when `return x` tests ensures.
+pub fn returned_values(values: &Values, x: Var) -> Values {
+    let mut values = *values;
+    values[RESULT] = values[x];
+    values
+}
+
 impl<'p, 'a> Machine<'p, 'a> {
     /// "the empty heap and main's frame"
     pub fn new(program: &'p Program<'a>) -> Machine<'p, 'a> {
@@ -208,7 +215,8 @@ impl<'p, 'a> Machine<'p, 'a> {
     fn tried(&mut self) -> Outcome<'a, Step> {
         let here = self.frame().next;
         let step = match &self.statement().action {
-            Action::End => self.end()?,
+            Action::End => self.leave(self.frame().values)?,
+            Action::Return(x) => self.leave(returned_values(&self.frame().values, *x))?,
             Action::Call(call) => {
                 self.call(*call)?;
                 Step::On
@@ -236,7 +244,6 @@ impl<'p, 'a> Machine<'p, 'a> {
             }
             Action::Compute(compute) => self.compute(*compute)?,
             Action::New(x, class) => self.create(*x, *class)?,
-            Action::Return(x) => self.assign(RESULT, self.frame().values[*x]),
             Action::Assert(formula) | Action::Join(formula) => {
                 self.reader().formula(formula, Tested::Line)?;
             }
@@ -252,7 +259,9 @@ impl<'p, 'a> Machine<'p, 'a> {
             }
             // "also `else` (on to its `join`)"
             Action::Else(join) => return Ok(*join),
-            Action::Call(_) | Action::End => unreachable!("these change the frames"),
+            Action::Call(_) | Action::Return(_) | Action::End => {
+                unreachable!("these change the frames")
+            }
         }
         Ok(here + 1)
     }
@@ -327,19 +336,22 @@ impl<'p, 'a> Machine<'p, 'a> {
     }
 
     /// "`end`: ensures, then the caller gains its footprint, and x the result;
-    /// the rest of that A is lost."
-    fn end(&mut self) -> Outcome<'a, Step> {
-        let ensures = &self.block().ensures;
-        let footprint = self.reader().formula(ensures, Tested::Ensures)?;
+    /// the rest of that A is lost." W2: "`return x` sets the result, tests
+    /// ensures and goes back to the caller in one step."
+    fn leave(&mut self, values: Values) -> Outcome<'a, Step> {
+        let reader = Reader {
+            values: &values,
+            ..self.reader()
+        };
+        let footprint = reader.formula(&self.block().ensures, Tested::Ensures)?;
         if self.frames.len() == 1 {
             return Ok(Step::Done);
         }
-        let result = self.frame().values[RESULT];
         self.frames.pop();
         let Action::Call(call) = self.statement().action else {
             unreachable!("a waiting frame stands at its call");
         };
-        self.assign(call.x, result);
+        self.assign(call.x, values[RESULT]);
         let caller = self.frame_mut();
         caller.held.add_all(&footprint);
         caller.next += 1;

@@ -265,6 +265,8 @@ pub struct Reader {
     pub place: Place,
     /// The open branches, the innermost last.
     pub branches: Vec<Branch>,
+    /// Was the last line a `return`?
+    pub returned: bool,
     classes: usize,
     fields: usize,
     methods: usize,
@@ -284,6 +286,7 @@ impl Reader {
         Reader {
             place: Place::Start,
             branches: Vec::new(),
+            returned: false,
             classes: 0,
             fields: 0,
             methods: 0,
@@ -309,11 +312,17 @@ impl Reader {
             },
             _ => return false,
         };
+        self.returned = matches!(line, Line::Return(_));
         true
     }
 
-    /// The place after a statement line, or none if it may not stand here.
+    /// The place after a statement line, or none if it may not stand here. W2:
+    /// "A statement between [a `return`] and the next `else`, `join` or `end` is
+    /// number 4."
     fn statement(&mut self, block: Block, line: &Line) -> Option<Place> {
+        if self.returned && !matches!(line, Line::Else | Line::Join(_) | Line::End) {
+            return None;
+        }
         match line {
             Line::Set(..)
             | Line::Let(..)

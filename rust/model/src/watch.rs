@@ -37,14 +37,14 @@ pub enum Purpose {
     FirstEnd,
     /// The formula of a `join`, at the end of its second branch.
     SecondEnd,
-    /// What the method ensures, at its `end`.
+    /// What the method ensures, at its `end` or at a `return`, `result` assigned.
     Ensures,
 }
 
 /// Who looks on. A place is one of the program's list of statements.
 pub trait Watch<'a> {
     /// The state before a statement; at `else` and `join` that of the branch
-    /// which ends there.
+    /// which ends there. A line straight after a `return` has none.
     fn before(&mut self, _place: usize, _state: &State<'a>) {}
     /// What the state is asked, before it answers.
     fn asked(&mut self, _place: usize, _state: &State<'a>, _for: Purpose, _need: Need<'_, 'a>) {}

@@ -111,16 +111,12 @@ fn the_first_equal_variable_takes_the_place() {
         (&source("var S u\nvar S t", "assert acc t prev"), 12, 14),
         (&source("var S u\nvar S t", "assert acc u prev"), 0, 0),
     ]);
-    // `this` and w come before the locals, `result` after them.
+    // `this` and w come before the locals; `result` comes after them, and has
+    // a value only where a method returns.
     let in_method = |lines: &str| method("acc this prev", "", lines);
-    let parted = "let x this\nset x prev x\nlet y x.prev\nreturn x\nlet x null\nset y prev x";
+    let parted = "let x this\nset x prev x\nlet y x.prev\nlet x null\nset y prev x";
     checks(&[(&in_method(&format!("{parted}\nassert acc this prev")), 0, 0)]);
-    let made = "new x S\nset x prev x\nlet y x.prev\nreturn y\nlet x null\nset y prev x";
-    checks(&[
-        (&in_method(&format!("{made}\nassert acc y prev")), 0, 0),
-        (&in_method(&format!("{made}\nassert acc result prev")), 0, 0),
-    ]);
-    let made = "new x S\nset x prev x\nreturn x\nlet y x.prev\nlet x null\nset y prev x";
+    let made = "new x S\nset x prev x\nlet y x.prev\nlet x null\nset y prev x";
     checks(&[(&in_method(&format!("{made}\nassert acc y prev")), 0, 0)]);
 }
 
@@ -435,39 +431,84 @@ fn set_drops_the_facts_of_its_path() {
     ]);
 }
 
+/// W2: "The checker shows ensures at that line", after document 01's rule for
+/// `return x`.
 #[test]
-fn return_assigns_result() {
+fn return_assigns_result_and_shows_ensures() {
     checks(&[
         (&method("", "eq result w", "return w"), 0, 0),
-        (&method("", "eq result w", "return w\nreturn this"), 13, 13),
-        (&method("", "eq result this", "return w\nreturn this"), 0, 0),
-        (
-            &method("", "eq result w", "let x w\nreturn x\nlet x this"),
-            0,
-            0,
-        ),
-        (&method("", "eq result w", "return w\nreturn result"), 0, 0),
+        (&method("", "eq result w", "return this"), 13, 11),
+        (&method("", "eq result this", "return this"), 0, 0),
+        (&method("", "eq result w", "let x w\nreturn x"), 0, 0),
+        (&method("", "eq result w", "return result"), 13, 11),
+        (&method("", "eq result result", "return result"), 0, 0),
         (
             &method("", "acc result n eq result.n 0", "new x S\nreturn x"),
             0,
             0,
         ),
         (
-            &method("", "acc result n", "new x S\nreturn x\nnew x S\nreturn x"),
+            &method("", "acc result n", "new x S\nnew x S\nreturn x"),
             0,
             0,
         ),
         (
-            &method(
-                "",
-                "acc result n",
-                "new x S\nreturn x\nrelease acc result n",
-            ),
+            &method("", "acc result n", "new x S\nrelease acc x n\nreturn x"),
             12,
-            14,
+            13,
         ),
         // Before any return nothing is known of `result`.
         (&method("", "eq result null", "assert"), 13, 12),
+        // An `end` straight after a `return` shows nothing, every other does.
+        (&method("", "eq result w", "return w"), 0, 0),
+        (
+            &method(
+                "",
+                "eq result w",
+                "if eq w this\nreturn w\nelse\nreturn w\njoin",
+            ),
+            13,
+            16,
+        ),
+    ]);
+}
+
+/// W2: "A branch whose last line is a `return` has no end to show at `join`".
+#[test]
+fn a_branch_that_returns_shows_nothing_at_join() {
+    let ends = |first: &str, second: &str, join: &str| {
+        let lines = format!("if eq w this\n{first}else\n{second}join {join}\nassert eq x w");
+        method("", "", &lines)
+    };
+    checks(&[
+        (&ends("", "let x w\n", "eq x w"), 13, 14),
+        (&ends("let x w\n", "", "eq x w"), 13, 14),
+        (&ends("let x w\n", "let x w\n", "eq x w"), 0, 0),
+        (&ends("return w\n", "let x w\n", "eq x w"), 0, 0),
+        (&ends("let x w\n", "return w\n", "eq x w"), 0, 0),
+        (&ends("return w\n", "", "eq x w"), 13, 14),
+        // Nothing is shown at all; the state after is the formula alone.
+        (&ends("return w\n", "return w\n", "eq x w"), 0, 0),
+        (&ends("return w\n", "return w\n", "eq x null"), 13, 16),
+        // A branch that ends in an inner `join` has an end to show.
+        (
+            &ends(
+                "if eq 1 1\nreturn w\nelse\nreturn w\njoin eq x w\n",
+                "return w\n",
+                "eq x w",
+            ),
+            0,
+            0,
+        ),
+        (
+            &ends(
+                "if eq 1 1\nreturn w\nelse\nreturn w\njoin\n",
+                "return w\n",
+                "eq x w",
+            ),
+            13,
+            19,
+        ),
     ]);
 }
 

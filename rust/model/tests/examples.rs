@@ -1,4 +1,5 @@
-//! The section "Examples" of document 01, all of it.
+//! The section "Examples" of document 01, all of it, with the steps that W2 of
+//! document 02 gives.
 
 mod common;
 
@@ -7,7 +8,7 @@ use model::{check, printed, run};
 
 #[test]
 fn the_example_prints_five_lines() {
-    let expected = "check\t0\t0\nrun\t0\t19\t9\nvar\ts\t1\nvar\ta\t7\nvar\tb\t7\n";
+    let expected = "check\t0\t0\nrun\t0\t19\t8\nvar\ts\t1\nvar\ta\t7\nvar\tb\t7\n";
     assert_eq!(printed(&text(&example())), expected.as_bytes());
 }
 
@@ -24,14 +25,15 @@ fn with_requires_bare() {
 fn with_line_17_false() {
     let text = example_with(17, "assert eq s.n 8");
     assert_eq!(check(&text), (13, 17));
-    assert_eq!(ran(&text, 1_000), (26, 17, 6));
+    assert_eq!(ran(&text, 1_000), (26, 17, 5));
 }
 
 #[test]
 fn with_fewer_steps() {
     let text = text(&example());
-    assert_eq!(ran(&text, 8), (21, 19, 8));
-    assert_eq!(ran(&text, 9), (0, 19, 9));
+    assert_eq!(ran(&text, 7), (21, 19, 7));
+    assert_eq!(ran(&text, 8), (0, 19, 8));
+    assert_eq!(ran(&text, 9), (0, 19, 8));
     assert_eq!(ran(&text, 0), (21, 14, 0));
     assert_eq!(run(&text, 3).values[..3], [1, 7, 0]);
     assert_eq!(run(&text, 0).values, [0; 12]);
@@ -41,7 +43,7 @@ fn with_fewer_steps() {
 fn a_permission_released_twice() {
     let text = example_with(18, "release acc s n acc s n");
     assert_eq!(check(&text), (12, 18));
-    assert_eq!(ran(&text, 1_000), (24, 18, 7));
+    assert_eq!(ran(&text, 1_000), (24, 18, 6));
 }
 
 #[test]
@@ -96,7 +98,7 @@ fn tempting_acc_by_name() {
 fn tempting_fact_kept_across_a_call() {
     let text = example_with(17, "assert eq s.n 0");
     assert_eq!(check(&text), (13, 17));
-    assert_eq!(ran(&text, 1_000), (26, 17, 6));
+    assert_eq!(ran(&text, 1_000), (26, 17, 5));
     // The field that is not handed over keeps its fact.
     assert_eq!(check(&example_with(17, "assert eq s.prev null")), (0, 0));
 }

@@ -93,3 +93,50 @@ fn a_seed_gives_one_text() {
     }
     assert_ne!(gen::accepted(1), gen::accepted(2));
 }
+
+/// The first words of a text's lines.
+fn words(text: &[u8]) -> Vec<&str> {
+    let text = std::str::from_utf8(text).expect("an accepted text");
+    text.lines()
+        .map(|line| line.split('\t').next().unwrap_or_default())
+        .collect()
+}
+
+/// W2: a `return` stands before `else`, `join` and `end`, in one branch or in
+/// both, and methods end without one.
+#[test]
+fn returns_stand_in_every_place() {
+    let mut pairs: BTreeMap<(&str, &str), u32> = BTreeMap::new();
+    let mut both = 0;
+    let texts: Vec<Vec<u8>> = (0..2_000).map(gen::accepted).collect();
+    for text in &texts {
+        let words = words(text);
+        for pair in words.windows(2) {
+            if pair.contains(&"return") || pair[1] == "end" {
+                *pairs.entry((pair[0], pair[1])).or_insert(0) += 1;
+            }
+        }
+        both += both_return(&words);
+    }
+    println!("lines and the ones after them: {pairs:?}; both branches return: {both}");
+    for next in ["else", "join", "end"] {
+        assert!(pairs[&("return", next)] > 200, "return, {next}");
+    }
+    assert!(pairs[&("var", "end")] > 100, "a method without a line");
+    assert!(pairs[&("join", "end")] > 100 && both > 50);
+}
+
+/// How many joins have two branches whose last line is a `return`.
+fn both_return(words: &[&str]) -> u32 {
+    let mut first = Vec::new();
+    let mut both = 0;
+    for pair in words.windows(2) {
+        let returned = pair[0] == "return";
+        match pair[1] {
+            "else" => first.push(returned),
+            "join" => both += u32::from(first.pop().unwrap_or_default() && returned),
+            _ => {}
+        }
+    }
+    both
+}

@@ -50,7 +50,7 @@ fn the_areas_after_the_calls() {
     assert_eq!(returned, 19);
     assert!(work.iter().all(|&byte| byte == 0));
     let mut expected = vec![0; RESULT_BYTES];
-    (expected[0], expected[4], expected[8], expected[12]) = (9, 1, 7, 7);
+    (expected[0], expected[4], expected[8], expected[12]) = (8, 1, 7, 7);
     assert_eq!(results, expected);
     // A refused text leaves zeros.
     let (mut work, mut results) = (vec![7; WORK_BYTES], vec![9; RESULT_BYTES]);
@@ -683,7 +683,7 @@ fn number_12() {
     };
     checks(&[
         (&ensures("ensures acc this n", ""), 12, 7),
-        (&ensures("ensures eq w 1", "return w\n"), 13, 8),
+        (&ensures("ensures eq w 1", "return w\n"), 13, 7),
         (&ensures("ensures eq w result", "return w\n"), 0, 0),
         (&ensures("ensures eq w result", ""), 13, 7),
     ]);
@@ -906,30 +906,32 @@ fn calls_and_ends_in_a_run() {
         "new s S\ncall r s m t\nassert acc r n\nassert acc r prev",
     );
     assert_eq!(check(&made), (12, 18));
-    assert_eq!(ran(&made, 99), (24, 18, 6));
+    assert_eq!(ran(&made, 99), (24, 18, 5));
     assert_eq!(model::run(&made, 99).values[..3], [1, 0, 2]);
-    // The body goes on after `return`.
-    let twice = source(
-        "",
-        "eq result this",
-        "return w\nreturn this\n",
-        "new s S\ncall r s m t",
-    );
-    assert_eq!(check(&twice), (0, 0));
-    assert_eq!(model::run(&twice, 99).values[..3], [1, 0, 1]);
-    assert_eq!(ran(&twice, 99), (0, 16, 6));
+    // W2: "`return x` sets the result, tests ensures and goes back to the
+    // caller in one step."
+    let once = |line: &str| source("", "eq result this", line, "new s S\ncall r s m t");
+    let right = once("return this\n");
+    assert_eq!(check(&right), (0, 0));
+    assert_eq!(model::run(&right, 99).values[..3], [1, 0, 1]);
+    assert_eq!(ran(&right, 99), (0, 15, 4));
+    let wrong = once("return w\n");
+    assert_eq!(check(&wrong), (13, 7));
+    assert_eq!(ran(&wrong, 99), (26, 7, 2));
+    assert_eq!(check(&once("return w\nreturn this\n")), (4, 8));
 }
 
 #[test]
 fn values_are_mains_also_inside_a_call() {
     let text = text(&example());
-    for allowed in 3..6 {
+    for allowed in 3..5 {
         assert_eq!(run(&text, allowed).values[..3], [1, 7, 0], "{allowed}");
     }
-    assert_eq!(run(&text, 6).values[..3], [1, 7, 7]);
+    assert_eq!(run(&text, 5).values[..3], [1, 7, 7]);
     assert_eq!(ran(&text, 3), (21, 7, 3));
-    assert_eq!(ran(&text, 5), (21, 9, 5));
-    assert_eq!(ran(&text, 6), (21, 17, 6));
+    assert_eq!(ran(&text, 4), (21, 8, 4));
+    assert_eq!(ran(&text, 5), (21, 17, 5));
+    assert_eq!(ran(&text, 6), (21, 18, 6));
 }
 
 #[test]
@@ -995,5 +997,47 @@ fn number_27() {
         assert_eq!(check(&text), (0, 0));
         assert_eq!(ran(&text, 100), expected, "{lines}");
         assert_eq!(run(&text, 100).values[2], value, "{lines}");
+    }
+}
+
+/// W2: "A statement between it and the next `else`, `join` or `end` is number
+/// 4."
+#[test]
+fn number_4_after_a_return() {
+    let in_method = |lines: &str| {
+        let lines = format!("requires\nensures\nvar int i\n{lines}\nend");
+        check(&script(&method_with("method int m int w", &lines)))
+    };
+    assert_eq!(in_method("return w"), (0, 0));
+    assert_eq!(in_method("return w\nreturn w"), (4, 9));
+    for line in ["let i 1", "assert", "if eq 1 1", "new x S", "var int j"] {
+        assert_eq!(in_method(&format!("return w\n{line}")), (4, 9), "{line}");
+        let after = format!("if eq w 1\nreturn w\n{line}\nelse\njoin");
+        assert_eq!(in_method(&after), (4, 10), "{line}");
+        let after = format!("if eq w 1\nelse\nreturn w\n{line}\njoin");
+        assert_eq!(in_method(&after), (4, 11), "{line}");
+    }
+    // Lines after the `join` may stand, whether a run reaches them or not.
+    let both = "if eq w 1\nreturn w\nelse\nreturn i\njoin\nlet i 1\nreturn i";
+    assert_eq!(in_method(both), (0, 0));
+}
+
+/// W2: each `return` is one step, and a run goes on after the `call`.
+#[test]
+fn a_return_in_a_branch() {
+    let source = |w: u32| {
+        format!(
+            "class S\nmethod int m int w\nrequires\nensures ne result 3\nvar int i\n\
+             if eq w 1\nlet i 2\nreturn i\nelse\nif eq w 2\nreturn w\nelse\njoin\njoin\n\
+             let i 5\nreturn i\nend\nmain\nvar S s\nvar int a\nvar int b\nnew s S\n\
+             let b {w}\ncall a s m b\nend"
+        )
+    };
+    // Line 11 returns w, of which nothing is known in a run's words.
+    for (w, steps, value) in [(1, 7, 2), (2, 7, 2), (4, 10, 5)] {
+        let text = script(&source(w));
+        assert_eq!(check(&text), (0, 0));
+        assert_eq!(ran(&text, 99), (0, 25, steps), "{w}");
+        assert_eq!(run(&text, 99).values[1], value, "{w}");
     }
 }

@@ -3,9 +3,9 @@
 
 use model::faults::Fault;
 use model::machine::{Machine, Step};
-use model::names::resolve_noted;
+use model::names::{resolve_noted, Action};
 use model::number::*;
-use model::watch::{Record, Tested};
+use model::watch::{Purpose, Record, Tested};
 use model::{check, gen, read, text};
 
 fn texts() -> impl Iterator<Item = Vec<u8>> {
@@ -15,6 +15,7 @@ fn texts() -> impl Iterator<Item = Vec<u8>> {
 #[test]
 fn a_refusal_by_a_rule_is_that_of_the_last_question() {
     let mut seen = [0; 15];
+    let mut at_return = 0;
     for text in texts() {
         let Ok(lines) = text::lines(&text) else {
             continue;
@@ -35,12 +36,18 @@ fn a_refusal_by_a_rule_is_that_of_the_last_question() {
         }
         let asked = record.asked.expect("a question");
         assert_eq!(program.statements[asked.place].line, line);
+        let action = &program.statements[asked.place].action;
+        if matches!(action, Action::Return(_)) {
+            at_return += 1;
+            assert_eq!(asked.purpose, Purpose::Ensures);
+        }
         let answer = match (asked.read, asked.unshown()) {
             (Some(expr), _) => asked.state.resolve(expr).map(drop),
             (None, at) => asked.state.show(&asked.show[..=at.expect("an atom")]),
         };
         assert_eq!(answer, Err(number));
     }
+    assert!(at_return > 10, "{at_return} refused at a return");
     let enough = [DONE, UNRESOLVED, NO_PERMISSION, NOT_SHOWN, STATE_FULL];
     assert!(
         enough.iter().all(|&number| seen[number as usize] > 10),
@@ -79,6 +86,7 @@ fn a_fault_is_of_its_number() {
 #[test]
 fn a_halt_is_of_its_stop() {
     let mut seen = [0; 28];
+    let mut at_return = 0;
     for text in texts() {
         let Ok(program) = read(&text) else { continue };
         let mut machine = Machine::new(&program);
@@ -93,12 +101,17 @@ fn a_halt_is_of_its_stop() {
         let Some(halt) = machine.halt else { continue };
         seen[halt.number as usize] += 1;
         assert_eq!(halt.atom.is_some(), halt.tested != Tested::Nothing);
+        if matches!(machine.statement().action, Action::Return(_)) {
+            at_return += 1;
+            assert_eq!(halt.tested, Tested::Ensures);
+        }
         match halt.number {
             FORMULA_FALSE => assert!(halt.atom.is_some()),
             PERMISSION_MISSING => assert!(halt.path.is_some()),
             _ => {}
         }
     }
+    assert!(at_return > 10, "{at_return} stopped at a return");
     let all = [
         HEAP_FULL,
         PERMISSION_MISSING,
@@ -110,4 +123,32 @@ fn a_halt_is_of_its_stop() {
         all.iter().all(|&number| seen[number as usize] > 10),
         "{seen:?}"
     );
+}
+
+/// W2: the line straight after a `return` has no state before it.
+#[test]
+fn nothing_is_known_after_a_return() {
+    let mut returns = 0;
+    for text in texts() {
+        let Ok(lines) = text::lines(&text) else {
+            continue;
+        };
+        let Ok(program) = read(&text) else { continue };
+        let Some(record) = Record::of(&lines, &program) else {
+            continue;
+        };
+        if record.refusal.is_some() {
+            continue;
+        }
+        for (place, pair) in program.statements.windows(2).enumerate() {
+            let returned = matches!(pair[0].action, Action::Return(_));
+            let join = matches!(pair[1].action, Action::Join(_));
+            if returned && !join {
+                returns += 1;
+                assert!(record.seen[place].after.is_some());
+                assert!(record.seen[place + 1].before.is_none());
+            }
+        }
+    }
+    assert!(returns > 1_000, "{returns}");
 }

@@ -3,6 +3,7 @@
 use super::route::{assigned, Step};
 use super::rules::Unshown;
 use crate::script::{shown, Names};
+use model::checker::Term;
 use model::names::{Action, Atom, Call, Expr, Path, Type, Var, PARAM, RESULT, THIS};
 
 /// A mend that fits, where one is to be seen.
@@ -49,9 +50,12 @@ fn never_shown(unshown: &Unshown, steps: &[Step]) -> Option<String> {
             ))
         }
         Atom::Ne(Expr::Var(_), Expr::Null) => tested(unshown),
-        Atom::Eq(Expr::Var(RESULT), Expr::Var(var))
-        | Atom::Eq(Expr::Var(var), Expr::Var(RESULT)) => {
-            Some(format!("`return {}` sets `result`", names.var(var)))
+        Atom::Eq(Expr::Var(RESULT), side) | Atom::Eq(side, Expr::Var(RESULT)) => {
+            let returned = names.var(variable_equal(unshown, side)?);
+            Some(match &unshown.action() {
+                Action::Return(_) => format!("`return {returned}` here gives that value back"),
+                _ => format!("`return {returned}` sets `result`"),
+            })
         }
         Atom::Eq(left, right) | Atom::Ne(left, right)
             if [left, right]
@@ -62,6 +66,16 @@ fn never_shown(unshown: &Unshown, steps: &[Step]) -> Option<String> {
         }
         _ => None,
     }
+}
+
+/// A variable that has the value of one side.
+fn variable_equal<'a>(unshown: &Unshown<'_, 'a>, side: Expr<'a>) -> Option<Var> {
+    let state = &unshown.asked.state;
+    let equal = state.equals(state.resolve(side).ok()?);
+    equal.into_iter().find_map(|term| match term {
+        Term::Var(var) if var != RESULT => Some(var),
+        _ => None,
+    })
 }
 
 /// What nothing but a test shows.

@@ -58,8 +58,19 @@ pub fn misplaced(text: &[u8], number: u32, reader: &Reader) -> Cause {
     };
     match missing_before(bytes, reader) {
         Some(lines) => cause.mend(format!("write {} before it", listed(&lines, "and"))),
+        None if only_returned(text, number, reader) => {
+            cause.mend("move the line before the `return`, or leave one of them out")
+        }
         None => cause,
     }
+}
+
+/// Might the line stand here if the line before were no `return`?
+fn only_returned(text: &[u8], number: u32, reader: &Reader) -> bool {
+    let mut unreturned = reader.clone();
+    unreturned.returned = false;
+    let found = line(text, number).and_then(text::line);
+    reader.returned && found.is_some_and(|line| unreturned.step(&line))
 }
 
 fn out_of_place(text: &[u8], number: u32, reader: &Reader, word: &str) -> String {
@@ -87,6 +98,10 @@ fn out_of_place(text: &[u8], number: u32, reader: &Reader, word: &str) -> String
         (_, "class" | "method" | "main" | "field" | "requires" | "ensures") => {
             format!("the block of line {block} is not ended")
         }
+        _ if only_returned(text, number, reader) => format!(
+            "the `return` of line {} ends the method, and no run comes to `{word}`",
+            number - 1
+        ),
         _ => format!("`{word}` may not stand here"),
     }
 }

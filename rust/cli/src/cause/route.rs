@@ -116,7 +116,6 @@ fn reason(script: &Script, names: &Names, action: &Action, atom: Atom) -> String
             "which gives `{}` another value, of which nothing is known",
             names.var(compute.x)
         ),
-        Action::Return(_) => "which gives `result` another value".to_string(),
         Action::Set(path, _) => format!(
             "which gives `{}` another value",
             names.expr(Expr::Path(*path))

@@ -64,7 +64,7 @@ impl<'s, 'a> Unshown<'s, 'a> {
         self.script.names_at(self.asked.place)
     }
 
-    fn action(&self) -> &'s Action<'a> {
+    pub fn action(&self) -> &'s Action<'a> {
         &self.script.program.statements[self.asked.place].action
     }
 

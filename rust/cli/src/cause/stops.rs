@@ -49,10 +49,17 @@ fn formula<'p, 'a>(
     };
     Some(match (tested, &machine.statement().action) {
         (Tested::Line, action) => own(action.formula()?, String::new()),
-        (Tested::Ensures, _) => {
+        (Tested::Ensures, action) => {
             let (_, line) = script.contract_lines(frame.block);
             let ensures = &script.program.blocks[frame.block].ensures;
-            own(ensures, format!(" of `ensures` (line {line})"))
+            let tested = own(ensures, format!(" of `ensures` (line {line})"));
+            match action {
+                Action::Return(x) => Formula {
+                    values: model::machine::returned_values(&frame.values, *x),
+                    ..tested
+                },
+                _ => tested,
+            }
         }
         (Tested::Requires, Action::Call(call)) => {
             let (line, _) = script.contract_lines(call.method);

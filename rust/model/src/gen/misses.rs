@@ -32,6 +32,7 @@ fn searched(rng: &mut Rng, number: u32) -> Vec<u8> {
         let mut lines = base.clone();
         match number {
             number::ASSIGNED => assign_wrongly(rng, &mut lines),
+            number::FORM if rng.chance(20) => after_return(rng, &mut lines),
             number::FORM => mutate_line(rng, &mut lines),
             _ => {
                 let at = rng.below(lines.len());
@@ -44,6 +45,20 @@ fn searched(rng: &mut Rng, number: u32) -> Vec<u8> {
         }
     }
     text
+}
+
+/// A line after a `return` that may not stand there.
+fn after_return(rng: &mut Rng, lines: &mut Fields) {
+    let returns = |&at: &usize| lines[at][0] == b"return";
+    let places: Vec<usize> = (0..lines.len()).filter(returns).collect();
+    let Some(at) = rng.choose(&places) else {
+        return;
+    };
+    let line = match rng.chance(50) {
+        true => rng.pick(lines),
+        false => lines[rng.pick(&places)].clone(),
+    };
+    lines.insert(at + 1, line);
 }
 
 /// A line that assigns, whose x is one that it may not be: a line's x is

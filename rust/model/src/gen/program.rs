@@ -6,7 +6,9 @@ use super::skeleton::{skeleton, Size};
 use super::writer::{framed, Style, Writer};
 use crate::checker::State;
 use crate::limits;
-use crate::names::{Atom, Block, Expr, Formula, Path, Program, Type, Var, PARAM, RESULT, THIS};
+use crate::names::{
+    Action, Atom, Block, Expr, Formula, Path, Program, Type, Var, PARAM, RESULT, THIS,
+};
 use crate::read;
 
 /// Lines as a text.
@@ -189,10 +191,13 @@ fn body(rng: &mut Rng, program: &Program, index: usize, style: &mut Style) -> Op
     let state = start(&program.blocks[index]);
     let state = writer.body(state, 0, 3 * budget);
     let mut closing = (0..20).find_map(|_| writer.finish(&state))?;
-    if !closing.is_empty() && writer.style.miss.is_some() && writer.rng.chance(10) {
-        // The `end` does not show its ensures.
+    let missed = !closing.is_empty() && writer.style.miss.is_some() && writer.rng.chance(10);
+    if missed || writer.rng.chance(writer.style.wild / 2) {
+        // The `end`, or the last `return`, may not show its ensures.
         writer.style.miss = None;
+        let last = closing.pop();
         closing.clear();
+        closing.extend(last.filter(|last| matches!(last, Action::Return(_))));
     }
     let block = &program.blocks[index];
     *style = writer.style;

@@ -110,8 +110,11 @@ fn doubling_method(rng: &mut Rng, at: usize, lines: &mut Vec<String>) {
         push(lines, &format!("call r this m{method} w"));
     }
     for _ in 0..rng.below(3) {
-        let more = ["new t D", "let r this.n", "assert eq w w", "return w"];
+        let more = ["new t D", "let r this.n", "assert eq w w"];
         push(lines, rng.pick(&more));
+    }
+    if rng.chance(30) {
+        push(lines, "return w");
     }
     push(lines, "end");
 }

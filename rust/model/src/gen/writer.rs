@@ -3,11 +3,10 @@
 
 use super::render;
 use super::rng::Rng;
-use crate::checker::{instance, opposite, simple, State, Term};
-use crate::limits;
+use crate::checker::{instance, simple, State, Term};
 use crate::names::{
-    Action, Atom, Block, Branch, Call, Compute, Expr, Formula, Path, Program, Type, Var,
-    FIRST_LOCAL, PARAM, RESULT, THIS, VARS,
+    Action, Atom, Block, Call, Compute, Expr, Formula, Path, Program, Type, Var, FIRST_LOCAL,
+    RESULT, VARS,
 };
 use crate::number;
 use crate::text::{self, Operator};
@@ -39,11 +38,11 @@ pub struct Writer<'p, 'a> {
 const NUMBERS: [i32; 8] = [0, 0, 1, 2, 7, -1, i32::MAX, i32::MIN];
 
 impl<'p, 'a> Writer<'p, 'a> {
-    fn block(&self) -> &'p Block<'a> {
+    pub(super) fn block(&self) -> &'p Block<'a> {
         &self.program.blocks[self.index]
     }
 
-    fn type_of(&self, var: Var) -> Option<Type<'a>> {
+    pub(super) fn type_of(&self, var: Var) -> Option<Type<'a>> {
         render::type_of(self.block(), var)
     }
 
@@ -54,20 +53,20 @@ impl<'p, 'a> Writer<'p, 'a> {
             .collect()
     }
 
-    fn any_var(&mut self, kind: Type<'a>) -> Option<Var> {
+    pub(super) fn any_var(&mut self, kind: Type<'a>) -> Option<Var> {
         let vars = self.vars(|_, other| other == kind);
         self.rng.choose(&vars)
     }
 
     /// A local, which can be assigned.
-    fn local(&mut self, kind: Type<'a>, but: &[Var]) -> Option<Var> {
+    pub(super) fn local(&mut self, kind: Type<'a>, but: &[Var]) -> Option<Var> {
         let vars = self.vars(|var, other| {
             (FIRST_LOCAL..RESULT).contains(&var) && other == kind && !but.contains(&var)
         });
         self.rng.choose(&vars)
     }
 
-    fn class_of(&self, var: Var) -> Option<usize> {
+    pub(super) fn class_of(&self, var: Var) -> Option<usize> {
         match self.type_of(var)? {
             Type::Int => None,
             Type::Class(name) => self.program.class(name),
@@ -75,7 +74,7 @@ impl<'p, 'a> Writer<'p, 'a> {
     }
 
     /// The path of a variable and a field's name, if its class has the field.
-    fn path(&self, var: Var, field: text::Name<'a>) -> Option<(Path<'a>, Type<'a>)> {
+    pub(super) fn path(&self, var: Var, field: text::Name<'a>) -> Option<(Path<'a>, Type<'a>)> {
         let fields = &self.program.classes[self.class_of(var)?].fields;
         let slot = fields.iter().position(|other| other.name == field)?;
         Some((Path { var, field, slot }, fields[slot].kind))
@@ -124,7 +123,7 @@ impl<'p, 'a> Writer<'p, 'a> {
         self.type_of(var)
     }
 
-    fn term_expr(&self, term: Term<'a>) -> Option<Expr<'a>> {
+    pub(super) fn term_expr(&self, term: Term<'a>) -> Option<Expr<'a>> {
         Some(match term {
             Term::Number(value) => Expr::Number(value),
             Term::Null => Expr::Null,
@@ -134,7 +133,7 @@ impl<'p, 'a> Writer<'p, 'a> {
     }
 
     /// An `eq` or `ne`: a fact of the state, two of its equal terms, or any.
-    fn fact(&mut self, state: &State<'a>) -> Option<Atom<'a>> {
+    pub(super) fn fact(&mut self, state: &State<'a>) -> Option<Atom<'a>> {
         if self.rng.chance(60) {
             let fact = self.rng.choose(&state.facts)?;
             let class = state.equals(fact.left);
@@ -190,7 +189,7 @@ impl<'p, 'a> Writer<'p, 'a> {
     }
 
     /// An `eq` or `ne` of two sides that fit.
-    fn compare(&self, equal: bool, left: Expr<'a>, right: Expr<'a>) -> Option<Atom<'a>> {
+    pub(super) fn compare(&self, equal: bool, left: Expr<'a>, right: Expr<'a>) -> Option<Atom<'a>> {
         self.fit(left, right).then_some(match equal {
             true => Atom::Eq(left, right),
             false => Atom::Ne(left, right),
@@ -199,10 +198,14 @@ impl<'p, 'a> Writer<'p, 'a> {
 
     /// The state after the statements, or the number that the first refused
     /// one gives.
-    fn after(&self, state: &State<'a>, actions: &[Action<'a>]) -> Result<State<'a>, u32> {
+    pub(super) fn after(
+        &self,
+        state: &State<'a>,
+        actions: &[Action<'a>],
+    ) -> Result<State<'a>, u32> {
         let mut state = state.clone();
         for action in actions {
-            simple(self.program, &mut state, action)?;
+            simple(self.program, self.block(), &mut state, action)?;
         }
         Ok(state)
     }
@@ -274,16 +277,12 @@ impl<'p, 'a> Writer<'p, 'a> {
                 one(Action::Set(path, self.any_var(kind)?))
             }
             49..=79 => self.call(state),
-            80..=84 => {
-                let kind = self.type_of(RESULT)?;
-                one(Action::Return(self.any_var(kind)?))
-            }
-            85..=95 => one(Action::Assert(self.formula(state, 6, 40))),
+            80..=94 => one(Action::Assert(self.formula(state, 6, 40))),
             _ => one(Action::Release(self.formula(state, 2, 70))),
         }
     }
 
-    fn write(&mut self, action: &Action<'a>) {
+    pub(super) fn write(&mut self, action: &Action<'a>) {
         let line = render::action(self.program, self.block(), action);
         self.lines.push(line);
         self.budget = self.budget.saturating_sub(1);
@@ -340,7 +339,7 @@ impl<'p, 'a> Writer<'p, 'a> {
 
     /// Proposes statements and writes them if the checker takes them, and if
     /// the block's ensures can still be reached.
-    fn statement(&mut self, state: &mut State<'a>) {
+    pub(super) fn statement(&mut self, state: &mut State<'a>) {
         let wrong = self.style.miss.is_some() && self.rng.chance(40);
         let proposed = match wrong {
             true => self.wrong(state),
@@ -360,7 +359,7 @@ impl<'p, 'a> Writer<'p, 'a> {
     }
 
     /// Is a refused statement kept all the same?
-    fn keeps(&mut self, number: u32) -> bool {
+    pub(super) fn keeps(&mut self, number: u32) -> bool {
         let share = if self.block().header.is_none() {
             50
         } else {
@@ -371,177 +370,6 @@ impl<'p, 'a> Writer<'p, 'a> {
             return true;
         }
         number >= number::UNRESOLVED && self.rng.chance(self.style.wild)
-    }
-
-    /// Some statements, branches among them.
-    pub fn body(&mut self, state: State<'a>, depth: usize, tries: usize) -> State<'a> {
-        let mut state = state;
-        for _ in 0..tries {
-            if self.budget == 0 {
-                break;
-            }
-            let share = if depth == 0 { 12 } else { 22 };
-            if depth < limits::NESTING && self.rng.chance(share) {
-                self.branches(&mut state, depth);
-            } else {
-                self.statement(&mut state);
-            }
-        }
-        state
-    }
-
-    /// `if`, its branches and `join`; nothing is written if they do not fit.
-    fn branches(&mut self, state: &mut State<'a>, depth: usize) -> Option<()> {
-        let condition = self.fact(state)?;
-        let branch = Action::If(Branch {
-            condition,
-            other: 0,
-            join: 0,
-        });
-        let (mut first, mut other) = (state.clone(), state.clone());
-        if first.add(&[condition]).is_err() {
-            return None;
-        }
-        other.add(&[opposite(condition)]).ok()?;
-        let start = (self.lines.len(), self.budget);
-        self.write(&branch);
-        let tries = self.rng.within(1, 8);
-        first = self.body(first, depth + 1, tries);
-        self.write(&Action::Else(0));
-        let tries = self.rng.within(0, 6);
-        other = self.body(other, depth + 1, tries);
-        let join = self.join(&first, &other);
-        let mut after = State::default();
-        let fits = after.add(&join).is_ok() && self.finish(&after).is_some();
-        if !fits {
-            self.lines.truncate(start.0);
-            self.budget = start.1;
-            return None;
-        }
-        self.write(&Action::Join(join));
-        *state = after;
-        Some(())
-    }
-
-    /// A formula that both ends show: what ensures needs first.
-    fn join(&mut self, first: &State<'a>, other: &State<'a>) -> Formula<'a> {
-        let mut join = Vec::new();
-        let mut candidates: Vec<Atom<'a>> = Vec::new();
-        for listed in &first.permissions {
-            candidates.extend(
-                self.path(listed.var, listed.field)
-                    .map(|(path, _)| Atom::Acc(path)),
-            );
-        }
-        self.rng.shuffle(&mut candidates);
-        let mut needed: Vec<Atom<'a>> = self.block().ensures.clone();
-        needed.retain(|atom| matches!(atom, Atom::Acc(path) if path.var != RESULT));
-        candidates.splice(0..0, needed);
-        let facts = first.facts.iter().filter_map(|fact| {
-            let (left, right) = (self.term_expr(fact.left)?, self.term_expr(fact.right)?);
-            self.compare(fact.equal, left, right)
-        });
-        candidates.extend(facts.collect::<Vec<_>>());
-        for atom in candidates {
-            if join.len() == limits::ATOMS || join.contains(&atom) || self.rng.chance(10) {
-                continue;
-            }
-            join.push(atom);
-            let shown = first.show(&join).and_then(|_| other.show(&join));
-            if !framed(&join) || shown.is_err_and(|number| !self.keeps(number)) {
-                join.pop();
-            }
-        }
-        join
-    }
-
-    /// The statements that make the block's `end` show its ensures.
-    pub fn finish(&mut self, state: &State<'a>) -> Option<Vec<Action<'a>>> {
-        let ensures = &self.block().ensures;
-        self.establish(state, ensures).map(|(_, actions)| actions)
-    }
-
-    /// Statements after which the state shows the formula.
-    fn establish(
-        &mut self,
-        state: &State<'a>,
-        formula: &[Atom<'a>],
-    ) -> Option<(State<'a>, Vec<Action<'a>>)> {
-        let mut state = state.clone();
-        let mut actions = Vec::new();
-        for end in 1..=formula.len() {
-            if state.show(&formula[..end]).is_ok() {
-                continue;
-            }
-            let more = match formula[end - 1] {
-                Atom::Acc(path) => self.make(path.var)?,
-                Atom::Eq(left, right) => match self.assign(left, right) {
-                    Some(actions) => actions,
-                    None => self.assign(right, left)?,
-                },
-                Atom::Ne(left, right) => self.differ(left, right)?,
-            };
-            state = self.after(&state, &more).ok()?;
-            actions.extend(more);
-        }
-        state.show(formula).ok()?;
-        Some((state, actions))
-    }
-
-    /// Statements that make a new object for a variable.
-    fn make(&mut self, var: Var) -> Option<Vec<Action<'a>>> {
-        let class = self.class_of(var)?;
-        match var {
-            THIS | PARAM => None,
-            RESULT => {
-                let temp = self.local(self.type_of(RESULT)?, &[])?;
-                Some(vec![Action::New(temp, class), Action::Return(temp)])
-            }
-            local => Some(vec![Action::New(local, class)]),
-        }
-    }
-
-    /// Statements that assign a value to a variable or a path.
-    fn assign(&mut self, target: Expr<'a>, value: Expr<'a>) -> Option<Vec<Action<'a>>> {
-        let kind = match target {
-            Expr::Var(var) => self.type_of(var)?,
-            Expr::Path(path) => self.path(path.var, path.field)?.1,
-            _ => return None,
-        };
-        let put = |from: Var| match target {
-            Expr::Path(path) => Some(Action::Set(path, from)),
-            Expr::Var(RESULT) => Some(Action::Return(from)),
-            _ => None,
-        };
-        match (target, value) {
-            (Expr::Var(THIS | PARAM), _) => None,
-            (Expr::Var(RESULT) | Expr::Path(_), Expr::Var(from)) => Some(vec![put(from)?]),
-            (Expr::Var(RESULT) | Expr::Path(_), _) => {
-                let temp = self.local(kind, &[])?;
-                Some(vec![Action::Let(temp, value), put(temp)?])
-            }
-            (Expr::Var(local), _) => Some(vec![Action::Let(local, value)]),
-            _ => None,
-        }
-    }
-
-    /// Statements that make two sides differ: a new object, or another number.
-    fn differ(&mut self, left: Expr<'a>, right: Expr<'a>) -> Option<Vec<Action<'a>>> {
-        match (left, right) {
-            (Expr::Var(var), Expr::Null) | (Expr::Null, Expr::Var(var)) => self.make(var),
-            (Expr::Path(path), Expr::Null) | (Expr::Null, Expr::Path(path)) => {
-                let kind = self.path(path.var, path.field)?.1;
-                let temp = self.local(kind, &[path.var])?;
-                Some(vec![
-                    Action::New(temp, self.class_of(temp)?),
-                    Action::Set(path, temp),
-                ])
-            }
-            (side, Expr::Number(value)) | (Expr::Number(value), side) => {
-                self.assign(side, Expr::Number(value ^ 1))
-            }
-            _ => None,
-        }
     }
 }
 
