@@ -8,7 +8,6 @@ use lib.Dec.{eqb, ltb}
 use lib.ListN.{getD}
 use Rattle.rules.specs.Base.{Try, ok, no}
 use Rattle.rules.specs.Answers.{Refusal, unresolved}
-use Rattle.rules.specs.Syntax as Syntax
 use Rattle.rules.specs.Syntax.{var}
 use Rattle.rules.specs.State as Rules
 use Rattle.rules.specs.State.{Fact, Equality, representative, equalBy, names, pathOf}

@@ -29,11 +29,16 @@ element-copy-out-if2 c = search needs
 returns-2 : tie.Need-returns-2
 unfolding pathTest
 returns-2 c =
-    let start = c .before .before .before .before .before in
+    λ fs D.
     let at-if1 = c .before .before .before .before .if1 in
+    let start = c .before .before .before .before .before in
     let at-path-key = c .before .before .before .path-key in
     let at-place = c .before .before .place in
-    λ fs D. rw (at-if1 .left) (sym (ap (λ (t : Term). equalBy (representative fs) t (termOf (start .args .t))) (sym (at-path-key .ensures .0)) ∙ unmarked-apart (start .pre .0) D _ _ (start .pre .1) _ (start .pre .2) _ (omega (arith, at-path-key .ensures .1)) (ap (λ (p : ℕ). getD (start .args .marks .now) p false) (sym (at-place .ensures .0)) ∙ not-true _ (c .if2 .taken))))
+    rw (at-if1 .left)
+    (sym
+    (ap (λ (t : Term). equalBy (representative fs) t (termOf (start .args .t))) (sym (at-path-key .ensures .0))
+    ∙ unmarked-apart (start .pre .0) D _ _ (start .pre .1) _ (start .pre .2) _ (omega (arith, at-path-key .ensures .1)) (ap (λ (p : ℕ). getD
+    (start .args .marks .now) p false) (sym (at-place .ensures .0)) ∙ not-true _ (c .if2 .taken))))
 
 label-of-requires : tie.Need-label-of-requires
 label-of-requires c κs = search needs
@@ -44,10 +49,13 @@ alike-requires c κs = search needs
 returns-3 : tie.Need-returns-3
 unfolding pathTest
 returns-3 c =
-    let start = c .before .before .before .before .before .before .before in
+    λ fs D.
     let at-if1 = c .before .before .before .before .before .before .if1 in
+    let start = c .before .before .before .before .before .before .before in
     let at-path-key = c .before .before .before .before .before .path-key in
-    λ fs D. rw (at-if1 .left) (c .alike .ensures ∙ sym (alike D (start .pre .0 .most) _ _ _ _ (c .before .label-of .ensures) (start .pre .1)) ∙ ap (λ (t : Term). equalBy (representative fs) t (termOf (start .args .t))) (at-path-key .ensures .0))
+    rw (at-if1 .left)
+    (c .alike .ensures ∙ sym (alike D (start .pre .0 .most) _ _ _ _ (c .before .label-of .ensures) (start .pre .1))
+    ∙ ap (λ (t : Term). equalBy (representative fs) t (termOf (start .args .t))) (at-path-key .ensures .0))
 
 pub path-like-spec : {M : Type 1} → statement M
 path-like-spec =

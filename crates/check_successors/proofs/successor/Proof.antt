@@ -30,9 +30,12 @@ variable-key-requires c κs = search needs
 returns : tie.Need-returns
 unfolding termOr
 returns c =
-    let start = c .before .before .before .before .before in
+    λ ρ ps W.
+    let start = c .before .before .before .before in
     let at-first-variable = c .before .before .first-variable in
-    λ ρ ps W. ap some (c .variable-key .ensures .0) ∙ is-variable (start .args .key .now) (start .args .b .now) (start .args .skip .now) (start .args .x) (start .args .t) ρ ps W (at-first-variable .result) (at-first-variable .ensures _ (start .pre .0 .linked .decides)) (c .before .if1 .taken)
+    ap some (c .variable-key .ensures .0)
+    ∙ is-variable (start .args .key .now) (start .args .b .now) (start .args .skip .now) (start .args .x) (start .args .t) ρ ps W
+    (at-first-variable .result) (at-first-variable .ensures _ (start .pre .0 .linked .decides)) (c .before .if1 .taken)
 
 element-copy-out-p : tie.Need-element-copy-out-p
 element-copy-out-p c = search needs
@@ -61,14 +64,16 @@ path-key-requires c κs = search needs
 returns-2 : tie.Need-returns-2
 unfolding termOr
 returns-2 c =
-    let start = c .before .before .before .before .before .before .before .before .before .before in
+    λ ρ ps W.
+    let start = c .before .before .before .before .before .before .before .before .before in
     let at-first-variable = c .before .before .before .before .before .before .before .first-variable in
     let at-if1 = c .before .before .before .before .before .before .if1 in
     let at-first-entry = c .before .before .before .before .first-entry in
     let at-if2 = c .before .before .before .if2 in
-    λ ρ ps W. ap some (c .path-key .ensures .0)
+    ap some (c .path-key .ensures .0)
     ∙ is-path (start .args .key .now) (start .args .b .now) (start .args .skip .now) (start .args .x) (start .args .t) ρ ps W
-    (at-first-variable .result) (at-first-variable .ensures _ (start .pre .0 .linked .decides)) (at-if1 .left) (at-first-entry .result) (at-first-entry .ensures _ (start .pre .0 .linked .decides)) (at-if2 .taken)
+    (at-first-variable .result) (at-first-variable .ensures _ (start .pre .0 .linked .decides)) (at-if1 .left) (at-first-entry .result)
+    (at-first-entry .ensures _ (start .pre .0 .linked .decides)) (at-if2 .taken)
 
 element-copy-out-alike : tie.Need-element-copy-out-alike
 element-copy-out-alike c = search needs
@@ -79,14 +84,16 @@ alike-requires c κs = search needs
 returns-3 : tie.Need-returns-3
 unfolding termOr
 returns-3 c =
-    let start = c .before .before .before .before .before .before .before .before .before .before in
+    λ ρ ps W.
+    let start = c .before .before .before .before .before .before .before .before .before in
     let at-first-variable = c .before .before .before .before .before .before .before .first-variable in
     let at-if1 = c .before .before .before .before .before .before .if1 in
     let at-first-entry = c .before .before .before .before .first-entry in
     let at-if2 = c .before .before .before .if2 in
-    λ ρ ps W. ap some of-null
+    ap some of-null
     ∙ is-null (start .args .key .now) (start .args .b .now) (start .args .skip .now) (start .args .x) (start .args .t) ρ ps W
-    (at-first-variable .result) (at-first-variable .ensures _ (start .pre .0 .linked .decides)) (at-if1 .left) (at-first-entry .result) (at-first-entry .ensures _ (start .pre .0 .linked .decides)) (at-if2 .left)
+    (at-first-variable .result) (at-first-variable .ensures _ (start .pre .0 .linked .decides)) (at-if1 .left) (at-first-entry .result)
+    (at-first-entry .ensures _ (start .pre .0 .linked .decides)) (at-if2 .left)
     (null-like (slots (start .pre .0)) (start .pre .0 .linked .decides) _ _ (start .pre .1) ∙ sym (c .before .alike .ensures) ∙ c .if3 .taken)
 
 least-number-requires : tie.Need-least-number-requires
@@ -97,32 +104,40 @@ least-number-requires c κs =
 returns-4 : tie.Need-returns-4
 unfolding termOr
 returns-4 c =
-    let start = c .before .before .before .before .before .before .before .before .before .before .before .before in
+    λ ρ ps W.
+    let start = c .before .before .before .before .before .before .before .before .before .before .before in
     let at-first-variable = c .before .before .before .before .before .before .before .before .before .first-variable in
     let at-if1 = c .before .before .before .before .before .before .before .before .if1 in
     let at-first-entry = c .before .before .before .before .before .before .first-entry in
     let at-if2 = c .before .before .before .before .before .if2 in
     let at-alike = c .before .before .before .alike in
     let at-if3 = c .before .before .if3 in
-    λ ρ ps W. key-none (c .before .least-number .result) (c .if4 .taken)
+    key-none (c .before .least-number .result) (c .if4 .taken)
     ∙ is-number (start .args .key .now) (start .args .b .now) (start .args .skip .now) (start .args .x) (start .args .t) ρ ps W
-    (at-first-variable .result) (at-first-variable .ensures _ (start .pre .0 .linked .decides)) (at-if1 .left) (at-first-entry .result) (at-first-entry .ensures _ (start .pre .0 .linked .decides)) (at-if2 .left)
-    (null-like (slots (start .pre .0)) (start .pre .0 .linked .decides) _ _ (start .pre .1) ∙ sym (at-alike .ensures) ∙ at-if3 .left) (c .before .least-number .result) (c .before .least-number .ensures _ (start .pre .0 .linked .decides))
+    (at-first-variable .result) (at-first-variable .ensures _ (start .pre .0 .linked .decides)) (at-if1 .left) (at-first-entry .result)
+    (at-first-entry .ensures _ (start .pre .0 .linked .decides)) (at-if2 .left)
+    (null-like (slots (start .pre .0)) (start .pre .0 .linked .decides) _ _ (start .pre .1) ∙ sym (at-alike .ensures) ∙ at-if3 .left)
+    (c .before .least-number .result)
+    (c .before .least-number .ensures _ (start .pre .0 .linked .decides))
 
 returns-5 : tie.Need-returns-5
 unfolding termOr
 returns-5 c =
-    let start = c .before .before .before .before .before .before .before .before .before .before .before .before in
+    λ ρ ps W.
+    let start = c .before .before .before .before .before .before .before .before .before .before .before in
     let at-first-variable = c .before .before .before .before .before .before .before .before .before .first-variable in
     let at-if1 = c .before .before .before .before .before .before .before .before .if1 in
     let at-first-entry = c .before .before .before .before .before .before .first-entry in
     let at-if2 = c .before .before .before .before .before .if2 in
     let at-alike = c .before .before .before .alike in
     let at-if3 = c .before .before .if3 in
-    λ ρ ps W. key-number (c .before .least-number .result) (c .if4 .left)
+    key-number (c .before .least-number .result) (c .if4 .left)
     ∙ is-number (start .args .key .now) (start .args .b .now) (start .args .skip .now) (start .args .x) (start .args .t) ρ ps W
-    (at-first-variable .result) (at-first-variable .ensures _ (start .pre .0 .linked .decides)) (at-if1 .left) (at-first-entry .result) (at-first-entry .ensures _ (start .pre .0 .linked .decides)) (at-if2 .left)
-    (null-like (slots (start .pre .0)) (start .pre .0 .linked .decides) _ _ (start .pre .1) ∙ sym (at-alike .ensures) ∙ at-if3 .left) (c .before .least-number .result) (c .before .least-number .ensures _ (start .pre .0 .linked .decides))
+    (at-first-variable .result) (at-first-variable .ensures _ (start .pre .0 .linked .decides)) (at-if1 .left) (at-first-entry .result)
+    (at-first-entry .ensures _ (start .pre .0 .linked .decides)) (at-if2 .left)
+    (null-like (slots (start .pre .0)) (start .pre .0 .linked .decides) _ _ (start .pre .1) ∙ sym (at-alike .ensures) ∙ at-if3 .left)
+    (c .before .least-number .result)
+    (c .before .least-number .ensures _ (start .pre .0 .linked .decides))
 
 pub successor-spec : {M : Type 1} → statement M
 successor-spec =
