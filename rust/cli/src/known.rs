@@ -5,7 +5,8 @@ use crate::report::Report;
 use crate::script::{quoted, Script};
 use crate::show::{file_name, rows, wrapped, Paint};
 use crate::{file_and_line, Session, DONE, FAILED, REFUSED};
-use model::checker::State;
+use model::checker::{simple, Fact, Permission, State, Term};
+use model::limits;
 use model::names::{Action, Statement};
 use model::watch::Record;
 use std::fmt::Write;
@@ -19,6 +20,8 @@ pub struct Known {
     /// Since before the line; of `else` since before its `if`.
     pub added: Vec<String>,
     pub dropped: Vec<String>,
+    /// Atoms that gave way to others: each with the one that took its place.
+    pub turned: Vec<(String, String)>,
     /// The line before ends the method.
     pub returned: bool,
 }
@@ -46,6 +49,82 @@ fn without(items: &[String], other: &[String]) -> Vec<String> {
         }
     }
     left
+}
+
+/// What takes the place of a term at a statement. The rule itself is asked: a
+/// fact that names the term and a number which nothing else names is followed.
+fn heir<'a>(
+    script: &Script<'a>,
+    place: usize,
+    before: &State<'a>,
+    term: Term<'a>,
+) -> Option<Term<'a>> {
+    let named = |number: &i32| {
+        let number = Term::Number(*number);
+        let facts = before.facts.iter();
+        facts
+            .flat_map(|fact| [fact.left, fact.right])
+            .any(|side| side == number)
+    };
+    let mark = Term::Number((i32::MIN..).find(|number| !named(number))?);
+    let room = before.facts.len() < limits::FACTS;
+    let mut state = Some(before.clone()).filter(|_| room)?;
+    state.facts.insert(
+        0,
+        Fact {
+            equal: false,
+            left: term,
+            right: mark,
+        },
+    );
+    let block = &script.program.blocks[script.block_of(place)];
+    let action = &script.program.statements[place].action;
+    simple(&script.program, block, &mut state, action).ok()?;
+    let followed = state.facts.first().filter(|fact| fact.right == mark)?;
+    Some(followed.left)
+}
+
+/// The atoms that are dropped and have others in their place, which are added:
+/// they are taken from both lists.
+fn turned<'a>(
+    script: &Script<'a>,
+    place: usize,
+    before: &State<'a>,
+    added: &mut Vec<String>,
+    dropped: &mut Vec<String>,
+) -> Vec<(String, String)> {
+    let names = script.names_at(place);
+    let heir = |term| heir(script, place, before, term);
+    let permission = |held: &Permission<'a>| match heir(held.path())? {
+        Term::Path(var, field) => Some(names.held(&Permission { var, field })),
+        _ => None,
+    };
+    let fact = |fact: &Fact<'a>| {
+        let (left, right) = (heir(fact.left)?, heir(fact.right)?);
+        Some(names.fact(&Fact {
+            left,
+            right,
+            ..*fact
+        }))
+    };
+    let mut turned = Vec::new();
+    let mut turn = |from: String, to: &dyn Fn() -> Option<String>| {
+        let Some(gone) = dropped.iter().position(|atom| *atom == from) else {
+            return;
+        };
+        let new = to().and_then(|to| added.iter().position(|atom| *atom == to));
+        if let Some(new) = new {
+            dropped.remove(gone);
+            turned.push((from, added.remove(new)));
+        }
+    };
+    for held in &before.permissions {
+        turn(names.held(held), &|| permission(held));
+    }
+    for known in &before.facts {
+        turn(names.fact(known), &|| fact(known));
+    }
+    turned
 }
 
 /// The state before the `if` of an `else`, from which its branch starts.
@@ -82,9 +161,14 @@ pub fn all(script: &Script) -> Vec<Known> {
             _ if returned => Some(Vec::new()),
             _ => before.clone(),
         };
-        let (added, dropped) = match (&since, &after) {
+        let (mut added, mut dropped) = match (&since, &after) {
             (Some(since), Some(after)) => (without(after, since), without(since, after)),
             _ => Default::default(),
+        };
+        let turned = match (&statement.action, &seen.before) {
+            (Action::If(_) | Action::Else(_) | Action::Join(_) | Action::End, _) => Vec::new(),
+            (_, Some(state)) => turned(script, place, state, &mut added, &mut dropped),
+            _ => Vec::new(),
         };
         Known {
             line: statement.line,
@@ -92,6 +176,7 @@ pub fn all(script: &Script) -> Vec<Known> {
             after,
             added,
             dropped,
+            turned,
             returned,
         }
     });
@@ -121,6 +206,14 @@ fn joined(atoms: &[String]) -> Vec<String> {
         .collect()
 }
 
+/// `eq s.n b into eq a b`, for each atom that gave way.
+fn turns(known: &Known) -> Vec<String> {
+    let turned = known.turned.iter();
+    turned
+        .map(|(from, to)| format!("{from} into {to}"))
+        .collect()
+}
+
 /// One line in full.
 pub fn full(script: &Script, known: &Known) -> String {
     let mut out = String::new();
@@ -128,6 +221,9 @@ pub fn full(script: &Script, known: &Known) -> String {
     list(&mut out, "  before: ", before);
     if !known.dropped.is_empty() {
         list(&mut out, "  drops:  ", Ok(&known.dropped));
+    }
+    if !known.turned.is_empty() {
+        list(&mut out, "  turns:  ", Ok(&turns(known)));
     }
     if !known.added.is_empty() {
         list(&mut out, "  adds:   ", Ok(&known.added));
@@ -148,8 +244,8 @@ fn signed(out: &mut String, sign: &str, atoms: &[String]) {
     }
 }
 
-/// Every block with what it starts from, and every line with what it drops and
-/// adds, or why it is refused.
+/// Every block with what it starts from, and every line with what it drops, what
+/// gives way there and what it adds, or why it is refused.
 fn changes(script: &Script, all: &[Known], report: &Report, paint: Paint) -> String {
     let mut out = String::new();
     let row = |out: &mut String, line: u32| {
@@ -167,6 +263,7 @@ fn changes(script: &Script, all: &[Known], report: &Report, paint: Paint) -> Str
             wrapped(&mut out, "       ", known.absence());
         }
         signed(&mut out, "-", &known.dropped);
+        signed(&mut out, "~", &turns(known));
         signed(&mut out, "+", &known.added);
         let refusal = report.refusal.filter(|found| found.line() == known.line);
         if let Some(refusal) = refusal {
@@ -179,6 +276,11 @@ fn changes(script: &Script, all: &[Known], report: &Report, paint: Paint) -> Str
 }
 
 fn json_of(script: &Script, known: &Known) -> Json {
+    let turned = known.turned.iter().map(|(from, to)| {
+        Json::object()
+            .with("from", from.as_str())
+            .with("to", to.as_str())
+    });
     Json::object()
         .with("line", known.line)
         .with("text", quoted(script.text, known.line))
@@ -186,6 +288,7 @@ fn json_of(script: &Script, known: &Known) -> Json {
         .with("after", known.after.clone())
         .with("added", known.added.clone())
         .with("dropped", known.dropped.clone())
+        .with("turned", Json::List(turned.collect()))
 }
 
 /// What is found, printed.

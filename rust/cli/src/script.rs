@@ -1,6 +1,6 @@
 //! A text as the model sees it, and its parts in the script's own names.
 
-use model::checker::{State, Term};
+use model::checker::{Fact, Permission, State, Term};
 use model::names::{
     Action, Atom, Block, Expr, Program, Type, Var, FIRST_LOCAL, PARAM, RESULT, THIS,
 };
@@ -181,15 +181,20 @@ impl Names<'_, '_> {
 
     /// What a state knows, as atoms: permissions first.
     pub fn state(&self, state: &State) -> Vec<String> {
-        let permissions = state
-            .permissions
-            .iter()
-            .map(|held| format!("acc {} {}", self.var(held.var), shown(held.field)));
-        let facts = state.facts.iter().map(|fact| {
-            let word = if fact.equal { "eq" } else { "ne" };
-            format!("{word} {} {}", self.term(fact.left), self.term(fact.right))
-        });
+        let permissions = state.permissions.iter().map(|held| self.held(held));
+        let facts = state.facts.iter().map(|fact| self.fact(fact));
         permissions.chain(facts).collect()
+    }
+
+    /// A permission as an atom.
+    pub fn held(&self, held: &Permission) -> String {
+        format!("acc {} {}", self.var(held.var), shown(held.field))
+    }
+
+    /// A fact as an atom.
+    pub fn fact(&self, fact: &Fact) -> String {
+        let word = if fact.equal { "eq" } else { "ne" };
+        format!("{word} {} {}", self.term(fact.left), self.term(fact.right))
     }
 
     /// How messages call the block.

@@ -141,6 +141,20 @@ fn known_after_a_return() {
     assert!(out.contains("  24 join acc this prev\n     + acc this prev\n  25 end\n"));
 }
 
+/// A permission passes to another name of its card, and a fact to what is equal.
+#[test]
+fn what_gives_way() {
+    let (out, _, _) = said(&["known", "examples/kept.script:13"], b"");
+    let turns = "  drops:  eq a s.tag\n  turns:  eq s.tag b into eq a b\n  adds:   eq s.tag c\n";
+    assert!(out.contains(turns), "{out}");
+    let text = b"class\tS\nfield\tint\tn\nmain\nvar\tS\ts\nvar\tS\tt\nnew\tt\tS\nlet\ts\tt\n\
+                 let\tt\tnull\nend\n";
+    let (out, _, _) = said(&["known", "-"], text);
+    let renamed = "     - eq s t\n     ~ acc t n into acc s n, ne t null into ne s null, \
+                   eq t.n 0 into eq s.n 0\n     + eq t null\n";
+    assert!(out.contains(renamed), "{out}");
+}
+
 #[test]
 fn standard_input() {
     assert_eq!(said(&["check", "-"], b"main\nend\n").0, "-: accepted\n");

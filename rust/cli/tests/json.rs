@@ -96,6 +96,14 @@ fn looking_inside() {
         Some(&Json::List(vec![text("eq c.tag 0")]))
     );
     assert_eq!(known.get("accepted"), Some(&Json::Bool(true)));
+    let known = object(&["known", "--json", "examples/kept.script:13"], b"");
+    let Some(Json::List(lines)) = known.get("lines") else {
+        panic!("no lines: {known:?}");
+    };
+    let turned = Json::object()
+        .with("from", "eq s.tag b")
+        .with("to", "eq a b");
+    assert_eq!(lines[0].get("turned"), Some(&Json::List(vec![turned])));
     let trace = object(&["trace", "--json", "--cards", "examples/tag.script"], b"");
     assert!(matches!(trace.get("trace"), Some(Json::List(rows)) if rows.len() == 7));
     let Some(Json::List(cards)) = trace.get("cards") else {

@@ -169,10 +169,11 @@ pub const EXPLANATIONS: &[Explanation] = &[
     Explanation {
         number: 13,
         title: "an `eq` or `ne` that is not shown",
-        meaning: "What is known here does not make the two sides equal, or different. A call forgets \
-                  what was known of the fields that it is handed, `join` all but its formula, and an \
-                  assignment what was known of its variable. Of what `add` and `sub` give nothing is \
-                  known.",
+        meaning: "What is known here does not make the two sides equal, or different. What \
+                  was equal to the old value of a variable or field stays so among itself, but the new \
+                  value is known only by the line that gives it: nothing of a sum or difference, \
+                  and of the fields that a call is handed what `ensures` says. After `join` only its \
+                  formula is known.",
         mend: "state the fact where it is lost: in `ensures`, in `join`, or by `if`",
         example: example!("refused-13"),
     },
@@ -181,7 +182,8 @@ pub const EXPLANATIONS: &[Explanation] = &[
         title: "the checker's state is full",
         meaning: "At most 64 permissions and 64 facts can be known at one line. The line would add \
                   one more.",
-        mend: "release what is not needed any more, or move a part into a method",
+        mend: "move a part into a method, whose contract keeps only what is needed, or let a `join` \
+               do so; `release` makes room for permissions",
         example: example!("refused-14"),
     },
     Explanation {

@@ -1,281 +1,17 @@
-//! What the checker knows, and its rules: the numbers 11 to 14.
+//! The checker's rules: the numbers 11 to 14.
 
 use crate::limits;
 use crate::names::{
     Action, Atom, Block, Branch, Call, Class, Expr, Path, Program, Statement, Type, Var, PARAM,
-    RESULT, THIS, VARS,
+    RESULT, THIS,
 };
 use crate::number::{self, Refusal};
-use crate::text::Name;
+use crate::state::Rule;
 use crate::watch::{At, Purpose, Unwatched, Watch};
 
-/// What facts are over: "variables, constants and listed paths". A path is a
-/// variable and the name of a field.
-#[derive(Clone, Copy, Debug, PartialEq, Eq)]
-pub enum Term<'a> {
-    Number(i32),
-    Null,
-    Var(Var),
-    Path(Var, Name<'a>),
-}
-
-impl Term<'_> {
-    fn names(self, var: Var) -> bool {
-        matches!(self, Term::Var(x) | Term::Path(x, _) if x == var)
-    }
-
-    /// The term with one variable in another's place.
-    fn renamed(self, old: Var, new: Var) -> Self {
-        match self {
-            Term::Var(x) if x == old => Term::Var(new),
-            Term::Path(x, field) if x == old => Term::Path(new, field),
-            other => other,
-        }
-    }
-}
-
-/// An equality, or an inequality, of two terms.
-#[derive(Clone, Copy, Debug, PartialEq, Eq)]
-pub struct Fact<'a> {
-    pub equal: bool,
-    pub left: Term<'a>,
-    pub right: Term<'a>,
-}
-
-/// A listed permission `x.f`.
-#[derive(Clone, Copy, Debug, PartialEq, Eq)]
-pub struct Permission<'a> {
-    pub var: Var,
-    pub field: Name<'a>,
-}
-
-impl<'a> Permission<'a> {
-    fn path(self) -> Term<'a> {
-        Term::Path(self.var, self.field)
-    }
-}
-
-/// "A state is an ordered list of permissions `x.f` and a list of equalities
-/// and inequalities over variables, constants and listed paths."
-#[derive(Clone, Debug, Default, PartialEq, Eq)]
-pub struct State<'a> {
-    pub permissions: Vec<Permission<'a>>,
-    pub facts: Vec<Fact<'a>>,
-}
-
-/// For each listed permission whether it is consumed.
-type Consumed = [bool; limits::PERMISSIONS];
-
-/// The rules give a number; the line is added by who knows it.
-type Rule<T> = Result<T, u32>;
+pub use crate::state::{Fact, Permission, State, Term};
 
 impl<'a> State<'a> {
-    /// All terms ~ the given one, itself first. "Two terms are equal (~) if
-    /// they are the same or the equalities link them."
-    pub fn equals(&self, term: Term<'a>) -> Vec<Term<'a>> {
-        let mut class = Vec::with_capacity(16);
-        class.push(term);
-        let mut used = [false; limits::FACTS];
-        let mut next = 0;
-        while next < class.len() {
-            let member = class[next];
-            for (fact, used) in self.facts.iter().zip(&mut used) {
-                if *used || !fact.equal || (fact.left != member && fact.right != member) {
-                    continue;
-                }
-                *used = true;
-                for side in [fact.left, fact.right] {
-                    if !class.contains(&side) {
-                        class.push(side);
-                    }
-                }
-            }
-            next += 1;
-        }
-        class
-    }
-
-    /// "A path `y.f` resolves to the first listed `x.f` with x ~ y; other
-    /// expressions to themselves." None is number 11.
-    pub fn resolve(&self, expr: Expr<'a>) -> Rule<Term<'a>> {
-        match expr {
-            Expr::Number(value) => Ok(Term::Number(value)),
-            Expr::Null => Ok(Term::Null),
-            Expr::Var(var) => Ok(Term::Var(var)),
-            Expr::Path(path) => self
-                .first_listed(path, &[false; limits::PERMISSIONS])
-                .map(|place| self.permissions[place].path())
-                .ok_or(number::UNRESOLVED),
-        }
-    }
-
-    /// The first listed, not yet consumed `x.f` with x ~ y.
-    fn first_listed(&self, path: Path<'a>, consumed: &Consumed) -> Option<usize> {
-        let class = self.equals(Term::Var(path.var));
-        (0..self.permissions.len()).find(|&place| {
-            let listed = self.permissions[place];
-            !consumed[place] && listed.field == path.field && class.contains(&Term::Var(listed.var))
-        })
-    }
-
-    /// "`eq` if both sides resolve and are ~".
-    fn show_eq(&self, left: Expr<'a>, right: Expr<'a>) -> Rule<()> {
-        let (left, right) = (self.resolve(left)?, self.resolve(right)?);
-        if self.equals(left).contains(&right) {
-            Ok(())
-        } else {
-            Err(number::NOT_SHOWN)
-        }
-    }
-
-    /// "`ne` if both resolve and" one of the ways (a) to (d) is open.
-    fn show_ne(&self, left: Expr<'a>, right: Expr<'a>) -> Rule<()> {
-        let (left, right) = (self.resolve(left)?, self.resolve(right)?);
-        let (left, right) = (self.equals(left), self.equals(right));
-        let shown = self.inequality_links(&left, &right)
-            || different_numbers(&left, &right)
-            || self.null_and_owner(&left, &right)
-            || self.null_and_owner(&right, &left)
-            || self.two_entries(&left, &right);
-        if shown {
-            Ok(())
-        } else {
-            Err(number::NOT_SHOWN)
-        }
-    }
-
-    /// (a) "a listed inequality links them, either way round", up to ~.
-    fn inequality_links(&self, left: &[Term], right: &[Term]) -> bool {
-        self.facts.iter().filter(|fact| !fact.equal).any(|fact| {
-            (left.contains(&fact.left) && right.contains(&fact.right))
-                || (left.contains(&fact.right) && right.contains(&fact.left))
-        })
-    }
-
-    /// (c) "one is ~ null and the other ~ x with some `x.f` listed".
-    fn null_and_owner(&self, one: &[Term], other: &[Term]) -> bool {
-        one.contains(&Term::Null)
-            && self
-                .permissions
-                .iter()
-                .any(|listed| other.contains(&Term::Var(listed.var)))
-    }
-
-    /// (d) "they are ~ x and ~ y with `x.f` and `y.f` two entries of the list
-    /// for one f".
-    fn two_entries(&self, left: &[Term], right: &[Term]) -> bool {
-        let entries = || self.permissions.iter().enumerate();
-        entries()
-            .filter(|(_, x)| left.contains(&Term::Var(x.var)))
-            .any(|(i, x)| {
-                entries()
-                    .any(|(j, y)| i != j && x.field == y.field && right.contains(&Term::Var(y.var)))
-            })
-    }
-
-    /// "Atoms go in order; `eq` and `ne` read the whole state." Gives the
-    /// entries that the formula consumes.
-    fn consume(&self, formula: &[Atom<'a>]) -> Rule<Consumed> {
-        let mut consumed = [false; limits::PERMISSIONS];
-        for &atom in formula {
-            match atom {
-                Atom::Acc(path) => {
-                    let place = self.first_listed(path, &consumed);
-                    consumed[place.ok_or(number::NO_PERMISSION)?] = true;
-                }
-                Atom::Eq(left, right) => self.show_eq(left, right)?,
-                Atom::Ne(left, right) => self.show_ne(left, right)?,
-            }
-        }
-        Ok(consumed)
-    }
-
-    /// Shows the formula and leaves the state as it is.
-    pub fn show(&self, formula: &[Atom<'a>]) -> Rule<()> {
-        self.consume(formula).map(|_| ())
-    }
-
-    /// Shows the formula and leaves the remainder: "the state without consumed
-    /// paths and without facts that name them".
-    pub fn take(&mut self, formula: &[Atom<'a>]) -> Rule<()> {
-        let consumed = self.consume(formula)?;
-        let listed = std::mem::take(&mut self.permissions);
-        for (&permission, &gone) in listed.iter().zip(&consumed) {
-            if gone {
-                self.drop_facts(permission.path());
-            } else {
-                self.permissions.push(permission);
-            }
-        }
-        Ok(())
-    }
-
-    /// Drops the facts that name the path.
-    fn drop_facts(&mut self, path: Term<'a>) {
-        self.facts
-            .retain(|fact| fact.left != path && fact.right != path);
-    }
-
-    /// The variable that takes the place of x: "if another variable is ~ x,
-    /// the first such (order: `this`, w, locals, `result`)".
-    fn successor(&self, x: Var) -> Option<Var> {
-        let class = self.equals(Term::Var(x));
-        (0..VARS).find(|&var| var != x && class.contains(&Term::Var(var)))
-    }
-
-    /// "Removing x": its successor takes its place everywhere, "otherwise all
-    /// that names x goes". Gives what is left of the term r.
-    fn remove(&mut self, x: Var, r: Term<'a>) -> Option<Term<'a>> {
-        let Some(successor) = self.successor(x) else {
-            self.permissions.retain(|permission| permission.var != x);
-            self.facts
-                .retain(|fact| !fact.left.names(x) && !fact.right.names(x));
-            return (!r.names(x)).then_some(r);
-        };
-        for permission in &mut self.permissions {
-            if permission.var == x {
-                permission.var = successor;
-            }
-        }
-        for fact in &mut self.facts {
-            fact.left = fact.left.renamed(x, successor);
-            fact.right = fact.right.renamed(x, successor);
-        }
-        Some(r.renamed(x, successor))
-    }
-
-    fn add_fact(&mut self, equal: bool, left: Term<'a>, right: Term<'a>) -> Rule<()> {
-        if self.facts.len() == limits::FACTS {
-            return Err(number::STATE_FULL);
-        }
-        self.facts.push(Fact { equal, left, right });
-        Ok(())
-    }
-
-    fn add_permission(&mut self, var: Var, field: Name<'a>) -> Rule<()> {
-        if self.permissions.len() == limits::PERMISSIONS {
-            return Err(number::STATE_FULL);
-        }
-        self.permissions.push(Permission { var, field });
-        Ok(())
-    }
-
-    fn add_atom(&mut self, atom: Atom<'a>) -> Rule<()> {
-        let (equal, left, right) = match atom {
-            Atom::Acc(path) => return self.add_permission(path.var, path.field),
-            Atom::Eq(left, right) => (true, left, right),
-            Atom::Ne(left, right) => (false, left, right),
-        };
-        let (left, right) = (self.resolve(left)?, self.resolve(right)?);
-        self.add_fact(equal, left, right)
-    }
-
-    /// "Adding a formula lists its permissions and its resolved facts, in
-    /// order."
-    pub fn add(&mut self, formula: &[Atom<'a>]) -> Rule<()> {
-        formula.iter().try_for_each(|&atom| self.add_atom(atom))
-    }
-
     /// `let x e`. "If r is x, no change. Otherwise remove x, with r renamed
     /// likewise; if r is left, add x = r."
     fn assign<W: Watch<'a>>(&mut self, x: Var, expr: Expr<'a>, at: &mut At<W>) -> Rule<()> {
@@ -308,14 +44,15 @@ impl<'a> State<'a> {
         Ok(())
     }
 
-    /// `set`: "`acc x f` shown by a path p; drop facts that name p; add p = y".
+    /// `set`: "`acc x f` shown by a path p", W3: "the old value of the path
+    /// counts as dropped"; "add p = y".
     fn set<W: Watch<'a>>(&mut self, path: Path<'a>, y: Var, at: &mut At<W>) -> Rule<()> {
         at.show(self, Purpose::Write, &[Atom::Acc(path)]);
         let place = self
             .first_listed(path, &[false; limits::PERMISSIONS])
             .ok_or(number::NO_PERMISSION)?;
         let path = self.permissions[place].path();
-        self.drop_facts(path);
+        self.drop_terms(&[path]);
         self.add_fact(true, path, Term::Var(y))
     }
 
@@ -331,14 +68,6 @@ impl<'a> State<'a> {
         self.remove(call.x, Term::Null);
         self.add(&instance(&method.ensures, call))
     }
-}
-
-/// (b) "they are ~ to different numbers".
-fn different_numbers(left: &[Term], right: &[Term]) -> bool {
-    let number = |term: &&Term| matches!(term, Term::Number(_));
-    left.iter()
-        .filter(number)
-        .any(|one| right.iter().filter(number).any(|other| one != other))
 }
 
 /// A formula with other variables in the place of its own.

@@ -17,6 +17,7 @@ pub mod machine;
 pub mod names;
 pub mod number;
 pub mod print;
+pub mod state;
 pub mod text;
 pub mod watch;
 

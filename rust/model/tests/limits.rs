@@ -236,7 +236,7 @@ fn givers(fields: usize, facts: usize, statements: &[String]) -> Vec<u8> {
     let head = format!(
         "class M\nmethod C all int w\nrequires\nensures{acc}\nvar C c\nnew c C\nreturn c\nend\n\
          method int facts int w\nrequires\nensures{}\nend\nmain\nvar M m\nvar int a",
-        " eq 1 1".repeat(facts)
+        " ne 1 2".repeat(facts)
     );
     lines.extend(head.lines().map(String::from));
     lines.extend(numbered(10, |at| format!("var C c{at}")));

@@ -69,11 +69,10 @@ pub fn dropped<'a>(steps: &[Step<'_, 'a>], terms: &[Term<'a>]) -> Option<(usize,
 pub fn told_fact(script: &Script, place: usize, fact: Fact) -> String {
     let statement = &script.program.statements[place];
     let names = script.names_at(place);
-    let word = if fact.equal { "eq" } else { "ne" };
-    let (left, right) = (names.term(fact.left), names.term(fact.right));
     let line = quoted(script.text, statement.line);
     format!(
-        "`{word} {left} {right}` was known up to line {}: `{line}`",
+        "`{}` was known up to line {}: `{line}`",
+        names.fact(&fact),
         statement.line
     )
 }

@@ -297,7 +297,11 @@ fn full(script: &Script, record: &Record, number: u32) -> Option<Cause> {
         limits::FACTS.min(limits::PERMISSIONS)
     );
     let cause = Cause::new(text).mark(field_range(bytes, 0..usize::MAX));
-    Some(cause.mend("`release` what is not needed any more, or move a part into a method"))
+    // A fact of what is released passes on where something is equal to it.
+    Some(match permissions < facts {
+        true => cause.mend("move a part into a method, whose `ensures` says only what is needed"),
+        false => cause.mend("`release` what is not needed any more, or move a part into a method"),
+    })
 }
 
 /// The cause of a refusal by the rules.

@@ -3,6 +3,7 @@
 
 use super::program::joined;
 use super::rng::Rng;
+use crate::check;
 
 fn push(lines: &mut Vec<String>, source: &str) {
     lines.extend(source.lines().map(|line| line.trim().replace(' ', "\t")));
@@ -10,9 +11,10 @@ fn push(lines: &mut Vec<String>, source: &str) {
 
 /// A program by one of the plans.
 pub fn recipe(rng: &mut Rng) -> Vec<u8> {
-    match rng.below(6) {
+    match rng.below(7) {
         0 => full_state(rng),
         4 => counting(rng),
+        5 => droppings(rng),
         1 => doubling(rng),
         2 => recursion(rng),
         3 => full_heap(rng),
@@ -69,7 +71,8 @@ fn givers(rng: &mut Rng, lines: &mut Vec<String>) {
         " eq 1 1",
         " eq w w",
         " ne 1 2",
-        " eq this this",
+        " ne 2 1",
+        " ne 7 0",
         " eq null null",
     ];
     let eq: String = (0..facts).map(|_| rng.pick(&known)).collect();
@@ -195,6 +198,59 @@ pub fn full_heap(rng: &mut Rng) -> Vec<u8> {
     (0..calls).for_each(|_| push(&mut lines, "call g e make a"));
     (0..rng.below(6)).for_each(|_| push(&mut lines, "new g E"));
     push(&mut lines, "end");
+    joined(&lines)
+}
+
+/// Adds lines that check takes where they stand, and now and then one that it
+/// refuses; the text is closed by an `end`.
+fn grow(rng: &mut Rng, lines: &mut Vec<String>, tries: usize, line: impl Fn(&mut Rng) -> String) {
+    for _ in 0..tries {
+        let before = lines.len();
+        push(lines, &line(rng));
+        let text = joined(&[&lines[..], &["end".to_string()]].concat());
+        if check(&text).0 != 0 && !rng.chance(1) {
+            lines.truncate(before);
+        }
+    }
+    push(lines, "end");
+}
+
+/// W3: paths and variables that are dropped after others were made equal to
+/// them, and what is known of those afterwards.
+pub fn droppings(rng: &mut Rng) -> Vec<u8> {
+    let mut lines = Vec::new();
+    let source = "class S\nfield S p\nfield int n\nfield int m\nmethod int give int w\n\
+                  requires acc this n\nensures acc this n eq this.n w eq result w\n\
+                  set this n w\nreturn w\nend\nmethod int lose int w\nrequires acc this n\n\
+                  ensures\nreturn w\nend\nmain\nvar S s\nvar S t\nvar S u\nvar int a\nvar int b\n\
+                  var int c\nnew s S\nlet t s\nlet a s.n\nlet b s.n";
+    push(&mut lines, source);
+    let tries = rng.within(8, 40);
+    grow(rng, &mut lines, tries, |rng| {
+        let object = rng.pick(&["s", "t", "u"]);
+        let other = rng.pick(&["s", "t", "u", "null", "s.p", "t.p", "u.p"]);
+        let (x, y, z) = {
+            let mut int = || rng.pick(&["a", "b", "c"]);
+            (int(), int(), int())
+        };
+        let field = rng.pick(&["n", "n", "m"]);
+        let side = rng.pick(&["a", "b", "c", "s.n", "t.n", "u.m", "0", "1"]);
+        match rng.below(20) {
+            0 => format!("new {object} S"),
+            1 | 2 => format!("let {object} {other}"),
+            3..=6 => format!("let {x} {object}.{field}"),
+            7 => format!("let {x} {side}"),
+            8 => format!("set {object} {field} {x}"),
+            9 => format!("set {object} p {}", rng.pick(&["s", "t", "u"])),
+            10 => format!("release acc {object} {field}"),
+            11 => format!("{} {x} {y} {z}", rng.pick(&["add", "sub"])),
+            12 if x != y => format!("call {x} {object} give {y}"),
+            13 if x != y => format!("call {x} {object} lose {y}"),
+            14 => format!("assert eq {object} {other}"),
+            15 => format!("assert ne {object} {other}"),
+            _ => format!("assert eq {x} {side}"),
+        }
+    });
     joined(&lines)
 }
 

@@ -1,0 +1,344 @@
+//! What the checker knows: a state, what it shows, what is left of it when
+//! something is consumed or dropped, and what is added to it.
+
+use crate::limits;
+use crate::names::{Atom, Expr, Path, Var, VARS};
+use crate::number;
+use crate::text::Name;
+
+/// What facts are over: "variables, constants and listed paths". A path is a
+/// variable and the name of a field.
+#[derive(Clone, Copy, Debug, PartialEq, Eq)]
+pub enum Term<'a> {
+    Number(i32),
+    Null,
+    Var(Var),
+    Path(Var, Name<'a>),
+}
+
+impl Term<'_> {
+    fn number(&self) -> Option<i32> {
+        match self {
+            Term::Number(value) => Some(*value),
+            _ => None,
+        }
+    }
+
+    /// The term with one variable in another's place.
+    fn renamed(self, old: Var, new: Var) -> Self {
+        match self {
+            Term::Var(x) if x == old => Term::Var(new),
+            Term::Path(x, field) if x == old => Term::Path(new, field),
+            other => other,
+        }
+    }
+}
+
+/// An equality, or an inequality, of two terms.
+#[derive(Clone, Copy, Debug, PartialEq, Eq)]
+pub struct Fact<'a> {
+    pub equal: bool,
+    pub left: Term<'a>,
+    pub right: Term<'a>,
+}
+
+/// A listed permission `x.f`.
+#[derive(Clone, Copy, Debug, PartialEq, Eq)]
+pub struct Permission<'a> {
+    pub var: Var,
+    pub field: Name<'a>,
+}
+
+impl<'a> Permission<'a> {
+    pub fn path(self) -> Term<'a> {
+        Term::Path(self.var, self.field)
+    }
+}
+
+/// "A state is an ordered list of permissions `x.f` and a list of equalities
+/// and inequalities over variables, constants and listed paths."
+#[derive(Clone, Debug, Default, PartialEq, Eq)]
+pub struct State<'a> {
+    pub permissions: Vec<Permission<'a>>,
+    pub facts: Vec<Fact<'a>>,
+}
+
+/// For each listed permission whether it is consumed.
+pub(crate) type Consumed = [bool; limits::PERMISSIONS];
+
+/// The rules give a number; the line is added by who knows it.
+pub type Rule<T> = Result<T, u32>;
+
+impl<'a> State<'a> {
+    /// All terms ~ the given one, itself first. "Two terms are equal (~) if
+    /// they are the same or the equalities link them."
+    pub fn equals(&self, term: Term<'a>) -> Vec<Term<'a>> {
+        let mut class = Vec::with_capacity(16);
+        class.push(term);
+        let mut used = [false; limits::FACTS];
+        let mut next = 0;
+        while next < class.len() {
+            let member = class[next];
+            for (fact, used) in self.facts.iter().zip(&mut used) {
+                if *used || !fact.equal || (fact.left != member && fact.right != member) {
+                    continue;
+                }
+                *used = true;
+                for side in [fact.left, fact.right] {
+                    if !class.contains(&side) {
+                        class.push(side);
+                    }
+                }
+            }
+            next += 1;
+        }
+        class
+    }
+
+    /// "A path `y.f` resolves to the first listed `x.f` with x ~ y; other
+    /// expressions to themselves." None is number 11.
+    pub fn resolve(&self, expr: Expr<'a>) -> Rule<Term<'a>> {
+        match expr {
+            Expr::Number(value) => Ok(Term::Number(value)),
+            Expr::Null => Ok(Term::Null),
+            Expr::Var(var) => Ok(Term::Var(var)),
+            Expr::Path(path) => self
+                .first_listed(path, &[false; limits::PERMISSIONS])
+                .map(|place| self.permissions[place].path())
+                .ok_or(number::UNRESOLVED),
+        }
+    }
+
+    /// The first listed, not yet consumed `x.f` with x ~ y.
+    pub(crate) fn first_listed(&self, path: Path<'a>, consumed: &Consumed) -> Option<usize> {
+        let class = self.equals(Term::Var(path.var));
+        (0..self.permissions.len()).find(|&place| {
+            let listed = self.permissions[place];
+            !consumed[place] && listed.field == path.field && class.contains(&Term::Var(listed.var))
+        })
+    }
+
+    /// "`eq` if both sides resolve and are ~".
+    fn show_eq(&self, left: Expr<'a>, right: Expr<'a>) -> Rule<()> {
+        let (left, right) = (self.resolve(left)?, self.resolve(right)?);
+        if self.equals(left).contains(&right) {
+            Ok(())
+        } else {
+            Err(number::NOT_SHOWN)
+        }
+    }
+
+    /// "`ne` if both resolve and" one of the ways (a) to (d) is open.
+    fn show_ne(&self, left: Expr<'a>, right: Expr<'a>) -> Rule<()> {
+        let (left, right) = (self.resolve(left)?, self.resolve(right)?);
+        let (left, right) = (self.equals(left), self.equals(right));
+        let shown = self.inequality_links(&left, &right)
+            || different_numbers(&left, &right)
+            || self.null_and_owner(&left, &right)
+            || self.null_and_owner(&right, &left)
+            || self.two_entries(&left, &right);
+        if shown {
+            Ok(())
+        } else {
+            Err(number::NOT_SHOWN)
+        }
+    }
+
+    /// (a) "a listed inequality links them, either way round", up to ~.
+    fn inequality_links(&self, left: &[Term], right: &[Term]) -> bool {
+        self.facts.iter().filter(|fact| !fact.equal).any(|fact| {
+            (left.contains(&fact.left) && right.contains(&fact.right))
+                || (left.contains(&fact.right) && right.contains(&fact.left))
+        })
+    }
+
+    /// (c) "one is ~ null and the other ~ x with some `x.f` listed".
+    fn null_and_owner(&self, one: &[Term], other: &[Term]) -> bool {
+        one.contains(&Term::Null)
+            && self
+                .permissions
+                .iter()
+                .any(|listed| other.contains(&Term::Var(listed.var)))
+    }
+
+    /// (d) "they are ~ x and ~ y with `x.f` and `y.f` two entries of the list
+    /// for one f".
+    fn two_entries(&self, left: &[Term], right: &[Term]) -> bool {
+        let entries = || self.permissions.iter().enumerate();
+        entries()
+            .filter(|(_, x)| left.contains(&Term::Var(x.var)))
+            .any(|(i, x)| {
+                entries()
+                    .any(|(j, y)| i != j && x.field == y.field && right.contains(&Term::Var(y.var)))
+            })
+    }
+
+    /// "Atoms go in order; `eq` and `ne` read the whole state." Gives the
+    /// entries that the formula consumes.
+    fn consume(&self, formula: &[Atom<'a>]) -> Rule<Consumed> {
+        let mut consumed = [false; limits::PERMISSIONS];
+        for &atom in formula {
+            match atom {
+                Atom::Acc(path) => {
+                    let place = self.first_listed(path, &consumed);
+                    consumed[place.ok_or(number::NO_PERMISSION)?] = true;
+                }
+                Atom::Eq(left, right) => self.show_eq(left, right)?,
+                Atom::Ne(left, right) => self.show_ne(left, right)?,
+            }
+        }
+        Ok(consumed)
+    }
+
+    /// Shows the formula and leaves the state as it is.
+    pub fn show(&self, formula: &[Atom<'a>]) -> Rule<()> {
+        self.consume(formula).map(|_| ())
+    }
+
+    /// Shows the formula and leaves the remainder: "the state without consumed
+    /// paths"; W3: "a name still listed is not dropped."
+    pub fn take(&mut self, formula: &[Atom<'a>]) -> Rule<()> {
+        let consumed = self.consume(formula)?;
+        let mut dropped = Vec::new();
+        let listed = std::mem::take(&mut self.permissions);
+        for (&permission, &gone) in listed.iter().zip(&consumed) {
+            if gone {
+                dropped.push(permission.path());
+            } else {
+                self.permissions.push(permission);
+            }
+        }
+        dropped.retain(|path| self.permissions.iter().all(|left| left.path() != *path));
+        self.drop_terms(&dropped);
+        Ok(())
+    }
+
+    /// W3: "the first term left that was ~ to it. The order is variables as in
+    /// document 01, listed paths, null, numbers rising."
+    fn successor(&self, term: Term<'a>, dropped: &[Term<'a>]) -> Option<Term<'a>> {
+        let equals = self.equals(term);
+        let vars = (0..VARS).map(Term::Var);
+        let paths = self.permissions.iter().map(|listed| listed.path());
+        let mut numbers: Vec<i32> = equals.iter().filter_map(Term::number).collect();
+        numbers.sort_unstable();
+        vars.chain(paths)
+            .chain([Term::Null])
+            .chain(numbers.into_iter().map(Term::Number))
+            .find(|left| equals.contains(left) && !dropped.contains(left))
+    }
+
+    /// W3: "each dropped term gives way, in every fact, to the first term left
+    /// that was ~ to it. ... A fact with a dropped term that has no such
+    /// successor goes. An equality that now has one term on both sides goes
+    /// too; all other facts keep their order." The list has the permissions
+    /// that are left. Nothing happens if nothing is dropped.
+    pub fn drop_terms(&mut self, dropped: &[Term<'a>]) {
+        if dropped.is_empty() {
+            return;
+        }
+        let heirs: Vec<_> = dropped
+            .iter()
+            .map(|&term| self.successor(term, dropped))
+            .collect();
+        let left = |term| match dropped.iter().position(|&gone| gone == term) {
+            Some(place) => heirs[place],
+            None => Some(term),
+        };
+        let given_way = |fact: &Fact<'a>| {
+            Some(Fact {
+                equal: fact.equal,
+                left: left(fact.left)?,
+                right: left(fact.right)?,
+            })
+        };
+        self.facts = self.facts.iter().filter_map(given_way).collect();
+        self.drop_reflexive();
+    }
+
+    /// "An equality that now has one term on both sides goes too".
+    fn drop_reflexive(&mut self) {
+        self.facts
+            .retain(|fact| !(fact.equal && fact.left == fact.right));
+    }
+
+    /// The variable that takes the place of x: "if another variable is ~ x,
+    /// the first such (order: `this`, w, locals, `result`)".
+    fn equal_var(&self, x: Var) -> Option<Var> {
+        let class = self.equals(Term::Var(x));
+        (0..VARS).find(|&var| var != x && class.contains(&Term::Var(var)))
+    }
+
+    /// "Removing x": another variable ~ x "takes its place everywhere"; if there
+    /// is none, x and its paths are dropped. Gives what is left of the term r:
+    /// renamed likewise, or W3: "`let` takes the successor for its r."
+    pub fn remove(&mut self, x: Var, r: Term<'a>) -> Option<Term<'a>> {
+        if let Some(var) = self.equal_var(x) {
+            self.rename(x, var);
+            return Some(r.renamed(x, var));
+        }
+        let own = self.permissions.iter().filter(|listed| listed.var == x);
+        let mut dropped = vec![Term::Var(x)];
+        dropped.extend(own.map(|listed| listed.path()));
+        self.permissions.retain(|listed| listed.var != x);
+        let r = match dropped.contains(&r) {
+            true => self.successor(r, &dropped),
+            false => Some(r),
+        };
+        self.drop_terms(&dropped);
+        r
+    }
+
+    /// Another variable takes the place of x everywhere.
+    fn rename(&mut self, x: Var, var: Var) {
+        for permission in &mut self.permissions {
+            if permission.var == x {
+                permission.var = var;
+            }
+        }
+        for fact in &mut self.facts {
+            fact.left = fact.left.renamed(x, var);
+            fact.right = fact.right.renamed(x, var);
+        }
+        self.drop_reflexive();
+    }
+
+    pub(crate) fn add_fact(&mut self, equal: bool, left: Term<'a>, right: Term<'a>) -> Rule<()> {
+        if self.facts.len() == limits::FACTS {
+            return Err(number::STATE_FULL);
+        }
+        self.facts.push(Fact { equal, left, right });
+        Ok(())
+    }
+
+    pub(crate) fn add_permission(&mut self, var: Var, field: Name<'a>) -> Rule<()> {
+        if self.permissions.len() == limits::PERMISSIONS {
+            return Err(number::STATE_FULL);
+        }
+        self.permissions.push(Permission { var, field });
+        Ok(())
+    }
+
+    pub(crate) fn add_atom(&mut self, atom: Atom<'a>) -> Rule<()> {
+        let (equal, left, right) = match atom {
+            Atom::Acc(path) => return self.add_permission(path.var, path.field),
+            Atom::Eq(left, right) => (true, left, right),
+            Atom::Ne(left, right) => (false, left, right),
+        };
+        let (left, right) = (self.resolve(left)?, self.resolve(right)?);
+        self.add_fact(equal, left, right)
+    }
+
+    /// "Adding a formula lists its permissions and its resolved facts, in
+    /// order."
+    pub fn add(&mut self, formula: &[Atom<'a>]) -> Rule<()> {
+        formula.iter().try_for_each(|&atom| self.add_atom(atom))
+    }
+}
+
+/// (b) "they are ~ to different numbers".
+fn different_numbers(left: &[Term], right: &[Term]) -> bool {
+    let number = |term: &&Term| matches!(term, Term::Number(_));
+    left.iter()
+        .filter(number)
+        .any(|one| right.iter().filter(number).any(|other| one != other))
+}
