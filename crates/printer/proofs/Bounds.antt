@@ -1,21 +1,21 @@
 -- Bounds of what is read and checked: the line of a refusal is one of the text, and each number of the program fits 32 bits.
 use mathlib.Core.Path.{_≡_, refl, sym, ap, _∙_}
-use mathlib.Core.Bool.{Bool, true, false, cond, _&&_}
+use mathlib.Core.Bool.{Bool, true, false, cond}
 use mathlib.Core.List.{List, [], _∷_, _++_}
 use mathlib.Core.Option as Option
 use mathlib.Core.Option.{some}
-use Prim.Native.Nat.{ℕ, zero, suc, _+_, _-_, _≤_, _<_}
+use Prim.Native.Nat.{ℕ, zero, suc, _+_, _≤_, _<_}
 use native.Mathlib.Omega.{arith}
-use lib.Dec.{T, eqb, ltb, leb, leb→le}
+use lib.Dec.{eqb, ltb}
 use lib.ListN.{length, getD, drop, length-map}
 use borrow.Author.Tests.{ltb-false}
 use Rattle.rules.specs.Base as Base
-use Rattle.rules.specs.Base.{Name, Try, ok, no, update, between}
+use Rattle.rules.specs.Base.{Name, Try, ok, no, update}
 use Rattle.rules.specs.Limits.{most-bytes}
 use Rattle.rules.specs.Answers.{Refusal, Verdict, accepted, refused, atLine, then, textTooLong, textEnds, unframed}
 use Rattle.rules.specs.Syntax.{Expr, Formula, Stmt, Simple, Row, Method, Program, num, null, var, path}
 use Rattle.rules.specs.Syntax.{set, assign, compute, new, call, return, assert, release, simple, if, else, join, end}
-use Rattle.rules.specs.Text.{lines, onto, isExpr, exprOf, numeral, hasStop, beforeStop, afterStop, isNumber, number, isNegative, isDigits, decimal}
+use Rattle.rules.specs.Text.{lines, onto, exprOf, numeral, hasStop, beforeStop, afterStop, number}
 use Rattle.rules.specs.Grammar as Grammar
 use Rattle.rules.specs.Grammar.{Kind, Statement, Line}
 use Rattle.rules.specs.Grammar.{Class, Field, Requires, Ensures, Main, Var, statement}
@@ -29,9 +29,9 @@ use Rattle.rules.specs.State.{State}
 use Rattle.rules.specs.Rules as Rules
 use Rattle.rules.specs.Rules.{Following, Open, inFirst, inSecond, reached, checkRow, checkRows, checkFrom, elseRow, joinRow, endRow, checkMethod, checkBlocks, checkProgram}
 use Rattle.rules.specs.Calls.{checkItems}
-use Rattle.rules.proofs.Lists.{and-both}
 use Rattle.rules.proofs.Tries.{refused-accepted, accepted-inj, atLine-accepted, then-accepted}
-use Rattle.rules.proofs.LinesTaken.{HasForm, lineOf, TakenLines, none, line}
+use Rattle.rules.proofs.Signs.{number-small}
+use Rattle.rules.proofs.LinesTaken.{lineOf, TakenLines, none, line}
 use Rattle.read_scan.proofs.Scans.{lines-taken}
 
 -- EACH OF A LIST
@@ -193,77 +193,51 @@ pub record RowFits (n : ℕ) (r : Row) : Type 0 where
 abbrev pub ProgramFits : ℕ → Program → Type 0
 ProgramFits n P = All (RowFits n) (P .rows)
 
-number-small : (w : Name) → T (isNumber w) → Small (number w)
-unfolding isNumber number between
-number-small w h = go (isNegative w) h
-  where
-    go :
-        (b : Bool) →
-        T (cond b (isDigits (drop 1 w) && between 1 2147483648 (decimal 0 (drop 1 w))) (isDigits w && leb (decimal 0 w) 2147483647)) →
-        Small (cond b (4294967296 - decimal 0 (drop 1 w)) (decimal 0 w))
-    go true x =
-        let (u, v) = and-both (isDigits (drop 1 w)) _ x in
-        let (i, j) = and-both (leb 1 (decimal 0 (drop 1 w))) _ v in
-        omega (arith, leb→le 1 (decimal 0 (drop 1 w)) i)
-    go false x = let (u, v) = and-both (isDigits w) _ x in omega (arith, leb→le (decimal 0 w) 2147483647 v)
-
 module _ (Γ : Declarations) (vs : List Variable) where
-  expr-small : (w : Name) → T (isExpr w) → SmallExpr (resolveExpr Γ vs (exprOf w))
-  unfolding isExpr exprOf resolveExpr
-  expr-small w h = go (numeral w) _ h
+  expr-small : (w : Name) → SmallExpr (resolveExpr Γ vs (exprOf w))
+  unfolding exprOf resolveExpr
+  expr-small w = go (numeral w) (hasStop w) (Base.is "null" w)
     where
-      other : (b c : Bool) → SmallExpr (resolveExpr Γ vs (cond b (path (beforeStop w) (afterStop w)) (cond c null (var w))))
-      other true c = tt
-      other false true = tt
-      other false false = tt
-
       go :
-          (b x : Bool) → T (cond b (isNumber w) x) →
-          SmallExpr
-          (resolveExpr Γ vs
-          (cond b (num (number w)) (cond (hasStop w) (path (beforeStop w) (afterStop w)) (cond (Base.is "null" w) null (var w)))))
-      go true x h = number-small w h
-      go false x h = other (hasStop w) (Base.is "null" w)
-
-  let-small : (ws : List Name) → HasForm (lineOf (statement Let) ws) → SmallExpr (resolveExpr Γ vs (exprOf (operand (lineOf (statement Let) ws) 1)))
-  unfolding Grammar.opened operand
-  let-small [] h = absurd h
-  let-small (u ∷ []) h = absurd (and-both (Rattle.rules.specs.Text.isName u) false h .1)
-  let-small (u ∷ w ∷ ws) h =
-      expr-small w (and-both (isExpr w) (eqb (length ws) 0) (and-both (Rattle.rules.specs.Text.isName u) _ h .1) .0)
+          (a b c : Bool) →
+          SmallExpr (resolveExpr Γ vs (cond a (num (number w)) (cond b (path (beforeStop w) (afterStop w)) (cond c null (var w)))))
+      go true b c = number-small w
+      go false true c = tt
+      go false false true = tt
+      go false false false = tt
 
   statement-small :
-      (a : Statement) (ws : List Name) → HasForm (lineOf (statement a) ws) →
+      (a : Statement) (ws : List Name) →
       SmallItem (aStatement (resolveStatement Γ vs a (lineOf (statement a) ws)))
   unfolding resolveStatement Rattle.rules.specs.Items.resolveSet Rattle.rules.specs.Items.resolveCompute Rattle.rules.specs.Items.resolveCall Rattle.rules.specs.Items.resolveIf
-  statement-small Set ws h = tt
-  statement-small Let ws h = let-small ws h
-  statement-small New ws h = tt
-  statement-small Call ws h = tt
-  statement-small Return ws h = tt
-  statement-small Assert ws h = tt
-  statement-small Release ws h = tt
-  statement-small If ws h = tt
-  statement-small Else ws h = tt
-  statement-small Join ws h = tt
-  statement-small End ws h = tt
-  statement-small Add ws h = tt
-  statement-small Sub ws h = tt
+  statement-small Set ws = tt
+  statement-small Let ws = expr-small (operand (lineOf (statement Let) ws) 1)
+  statement-small New ws = tt
+  statement-small Call ws = tt
+  statement-small Return ws = tt
+  statement-small Assert ws = tt
+  statement-small Release ws = tt
+  statement-small If ws = tt
+  statement-small Else ws = tt
+  statement-small Join ws = tt
+  statement-small End ws = tt
+  statement-small Add ws = tt
+  statement-small Sub ws = tt
 
-  item-small : (k : Kind) (ws : List Name) → HasForm (lineOf k ws) → SmallItem (itemOf Γ vs k (lineOf k ws))
+  item-small : (k : Kind) (ws : List Name) → SmallItem (itemOf Γ vs k (lineOf k ws))
   unfolding itemOf
-  item-small Class ws h = tt
-  item-small Field ws h = tt
-  item-small Grammar.Method ws h = tt
-  item-small Requires ws h = tt
-  item-small Ensures ws h = tt
-  item-small Main ws h = tt
-  item-small Var ws h = tt
-  item-small (statement a) ws h = statement-small a ws h
+  item-small Class ws = tt
+  item-small Field ws = tt
+  item-small Grammar.Method ws = tt
+  item-small Requires ws = tt
+  item-small Ensures ws = tt
+  item-small Main ws = tt
+  item-small Var ws = tt
+  item-small (statement a) ws = statement-small a ws
 
 pub items-small : (text : List Line) {p : Place} {s : Scope} {ls : List Line} {items : List Item} → TakenLines text p s ls items → All SmallItem items
 items-small text (none h) = tt
-items-small text (line {l = l} x xs) = (item-small (declarations text) _ (l .kind) (l .fields) (x .formed), items-small text xs)
+items-small text (line {l = l} x xs) = (item-small (declarations text) _ (l .kind) (l .fields), items-small text xs)
 
 -- ROWS
 module _ (n : ℕ) where

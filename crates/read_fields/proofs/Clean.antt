@@ -12,7 +12,7 @@ use Rattle.rules.specs.Base as Base
 use Rattle.rules.specs.Base.{Name, all, between}
 use Rattle.rules.specs.Limits.{most-letters}
 use Rattle.rules.specs.Text as Text
-use Rattle.rules.specs.Text.{letter, digit, letterOrDigit, isName, isDigits, isNegative, isNumber, numeral, hasStop, stopIn, beforeStop, afterStop, isExpr, decimal}
+use Rattle.rules.specs.Text.{letter, digit, letterOrDigit, isName, isDigits, minuses, unsigned, isNumber, numeral, hasStop, stopIn, beforeStop, afterStop, isExpr}
 use Rattle.rules.specs.Grammar.{kindOf}
 use Rattle.read_bytes.specs.Sets.{inSet}
 use Rattle.read_words.specs.Words.{kindAt, kindOr0}
@@ -72,17 +72,12 @@ first-clean [] h t = refl
 first-clean (b ∷ w) h t = rw h t
 
 number-clean : (w : Name) → isNumber w ≡ true → all inLine w ≡ true
-unfolding isNumber isNegative Text.allowed between
-number-clean w h = go (eqb (getD w 0 0) 45) refl h
+unfolding isNumber unsigned minuses Text.allowed between
+number-clean w h = go (eqb (getD w 0 0) 45) refl (both-true (isDigits (unsigned w)) _ h .0)
   where
-    go :
-        (q : Bool) → eqb (getD w 0 0) 45 ≡ q →
-        cond q (isDigits (drop 1 w) && between 1 2147483648 (decimal 0 (drop 1 w))) (isDigits w && leb (decimal 0 w) 2147483647) ≡ true →
-        all inLine w ≡ true
-    go true e k =
-        let m : getD w 0 0 ≡ 45 = eqb-true (getD w 0 0) 45 e in
-        first-clean w (ap inLine m) (digits-clean (drop 1 w) (both-true _ _ k .0))
-    go false e k = digits-clean w (both-true _ _ k .0)
+    go : (q : Bool) → eqb (getD w 0 0) 45 ≡ q → isDigits (drop (cond q 1 0) w) ≡ true → all inLine w ≡ true
+    go true e k = first-clean w (ap inLine (eqb-true (getD w 0 0) 45 e)) (digits-clean (drop 1 w) k)
+    go false e k = digits-clean w k
 
 -- clean up to a byte, that byte, and clean after it
 joined-clean : (w : Name) (i : ℕ) → inLine (getD w i 0) ≡ true → all inLine (take i w) ≡ true → all inLine (drop (suc i) w) ≡ true → all inLine w ≡ true

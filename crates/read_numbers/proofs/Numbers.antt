@@ -1,17 +1,17 @@
 -- Laws of digits and numbers.
-use mathlib.Core.Path.{_≡_, refl, sym, ap, subst, _∙_}
+use mathlib.Core.Path.{_≡_, refl, sym, ap, _∙_}
 use mathlib.Core.Bool.{Bool, true, false, not, cond, _&&_, _||_}
 use mathlib.Core.List.{[], _∷_, _++_}
-use Prim.Native.Nat.{ℕ, zero, suc, _+_, _*_, _-_, _≤_, _<_}
+use Prim.Native.Nat.{ℕ, zero, suc, _+_, _*_, _-_, _%_, _≤_, _<_}
 use native.Mathlib.Omega.{arith}
 use native.Mathlib.Numerals.{add-one}
 use native.Mathlib.Decide.{decLt}
 use lib.Dec.{eqb, leb}
 use lib.ListN.{length, getD, take, drop, drop-of-length-le, length-take, List·getD-eq-default}
 use lib.Seq.{drop-cons, take-suc, getD-take, getD-drop, length-take-le}
-use borrow.Author.Tests.{le-leb, lt-leb, leb-true, eqb-true, eqb-false, eq-eqb, ne-eqb, not-true, not-false}
+use borrow.Author.Tests.{le-leb, lt-leb, eqb-true, eqb-false, eq-eqb, ne-eqb, not-true, not-false}
 use Rattle.rules.specs.Base.{Name, all, between}
-use Rattle.rules.specs.Text.{digit, upTo, isDigits, isNegative, isNumber, number, decimal}
+use Rattle.rules.specs.Text.{digit, upTo, isDigits, minuses, factor, unsigned, isNumber, number, decimal}
 use Rattle.read_bytes.specs.Sets.{noDigit}
 use Rattle.read_bytes.specs.Marks.{eight}
 use Rattle.read_numbers.specs.Numbers.{digitsIn, Begun, TenDigits, led, inRange}
@@ -125,17 +125,26 @@ large-digits b w h e =
     let z : 1 ≤ b - 48 = elim (decLt 48 b) [ yes l ↦ omega arith | no l ↦ absurd (n (omega arith)) ] in
     decimal-least w 10 (0 * 10 + (b - 48)) 1 h (omega arith)
 
-out-of-range : (q : Bool) (n : ℕ) → 10000000000 ≤ n → inRange q n ≡ false
-unfolding inRange between
-out-of-range true n l = rw (lt-leb n 2147483648 (omega arith)) (and-false (leb 1 n))
-out-of-range false n l = lt-leb n 2147483647 (omega arith)
-
-pub more-digits : (w : Name) (q : Bool) → 10 < length w → (isDigits w && inRange q (decimal 0 w)) ≡ false
-more-digits [] q h = absurd (omega arith)
-more-digits (b ∷ w) q h = go (isDigits (b ∷ w)) refl
+-- how many signs a byte is
+pub minuses-few : (b : ℕ) → minuses b ≤ 1
+unfolding minuses
+minuses-few b = go (eqb b 45)
   where
-    go : (p : Bool) → isDigits (b ∷ w) ≡ p → (p && inRange q (decimal 0 (b ∷ w))) ≡ false
-    go true e = out-of-range q (decimal 0 (b ∷ w)) (large-digits b w (omega arith) e)
+    go : (q : Bool) → cond q 1 0 ≤ 1
+    go true = omega arith
+    go false = omega arith
+
+-- m of them
+out-of-range : (m n : ℕ) → m ≤ 1 → 10000000000 ≤ n → inRange m n ≡ false
+unfolding inRange between
+out-of-range m n h l = rw (lt-leb n (2147483647 + m) (omega arith)) (and-false (leb m n))
+
+pub more-digits : (w : Name) (m : ℕ) → m ≤ 1 → 10 < length w → (isDigits w && inRange m (decimal 0 w)) ≡ false
+more-digits [] m i h = absurd (omega arith)
+more-digits (b ∷ w) m i h = go (isDigits (b ∷ w)) refl
+  where
+    go : (p : Bool) → isDigits (b ∷ w) ≡ p → (p && inRange m (decimal 0 (b ∷ w))) ≡ false
+    go true e = out-of-range m (decimal 0 (b ∷ w)) i (large-digits b w (omega arith) e)
     go false e = refl
 
 led-same : (t : Name) (n : ℕ) → led n (getD (take n t) 0 0) ≡ led n (getD t 0 0)
@@ -217,6 +226,14 @@ led-zero n b h e = rw (le-leb 1 n h, e) (or-none (eqb n 1))
     or-none true = refl
     or-none false = refl
 
+pub below-range : (m n : ℕ) → n < m → inRange m n ≡ false
+unfolding inRange between
+below-range m n h = rw (lt-leb m n h)
+
+pub range-from : (m n : ℕ) → m ≤ n → leb n (2147483647 + m) ≡ inRange m n
+unfolding inRange between
+range-from m n h = rw (le-leb m n h)
+
 pub less-is : (from end : ℕ) → eqb end (from + 1) ≡ eqb (end - from) 1
 less-is from end = go (eqb end (from + 1)) refl
   where
@@ -230,53 +247,37 @@ less-is from end = go (eqb end (from + 1)) refl
 digits-all : (w : Name) → isDigits w ≡ true → all digit w ≡ true
 digits-all w e = both-true (led (length w) (getD w 0 0)) (all digit w) (sym (digits-form w) ∙ e) .1
 
-negative-digits : (w : Name) → isNumber w ≡ true → eqb (getD w 0 0) 45 ≡ true → (all digit (drop 1 w) ≡ true) × (1 ≤ decimal 0 (drop 1 w)) × (decimal 0 (drop 1 w) ≤ 2147483648)
-unfolding isNumber isNegative
-negative-digits w e m =
-    let h = both-true (isDigits (drop 1 w)) (between 1 2147483648 (decimal 0 (drop 1 w))) (rw m at e) in
-    let b = between-true 1 2147483648 (decimal 0 (drop 1 w)) (h .1) in
-    (digits-all (drop 1 w) (h .0), b .0, b .1)
-
-natural-digits : (w : Name) → isNumber w ≡ true → eqb (getD w 0 0) 45 ≡ false → (all digit w ≡ true) × (decimal 0 w ≤ 2147483647)
-unfolding isNumber isNegative
-natural-digits w e n =
-    let h = both-true (isDigits w) (leb (decimal 0 w) 2147483647) (rw n at e) in
-    (digits-all w (h .0), leb-true (decimal 0 w) 2147483647 (h .1))
-
-bits-negative : (w : Name) → eqb (getD w 0 0) 45 ≡ true → number w ≡ 4294967296 - decimal 0 (drop 1 w)
-unfolding number isNegative
-bits-negative w e = rw e
-
-bits-natural : (w : Name) → eqb (getD w 0 0) 45 ≡ false → number w ≡ decimal 0 w
-unfolding number isNegative
-bits-natural w e = rw e
-
--- what is known of the digits d after the sign
-pub record Known (w d : Name) (from : ℕ) : Type 0 where
+-- what is known of the digits d after m signs
+pub record Known (w d : Name) (m : ℕ) : Type 0 where
+  pub few : m ≤ 1
   pub digits : all digit d ≡ true
   pub small : decimal 0 d ≤ 2147483648
-  pub natural : from ≡ 0 → (decimal 0 d ≤ 2147483647) × (number w ≡ decimal 0 d)
-  pub negative : (from ≡ 0 → ⊥) → (1 ≤ decimal 0 d) × (number w ≡ 4294967296 - decimal 0 d)
+  pub bits : number w ≡ ((1 + m * 4294967294) * decimal 0 d) % 4294967296
 
--- they start at `from`
-module _ (w : Name) (x : isNumber w ≡ true) where
-  known-case : (q : Bool) (from : ℕ) → eqb (getD w 0 0) 45 ≡ q → from ≡ cond q (0 + 1) 0 → Known w (drop from w) from
-  known-case true from e h =
-      let d = negative-digits w x e in
-      subst (λ k. Known w (drop k w) k) (sym h) (record { digits = d .0; small = d .2; natural = λ z. absurd (omega arith); negative = λ z. (d .1, bits-negative w e) })
-  known-case false from e h =
-      let d = natural-digits w x e in
-      subst (λ k. Known w (drop k w) k) (sym h) (record { digits = d .0; small = omega (arith, d .1); natural = λ z. (d .1, bits-natural w e); negative = λ z. absurd (z refl) })
+pub known-digits : (w : Name) (m : ℕ) → isNumber w ≡ true → m ≡ minuses (getD w 0 0) → Known w (take (length w - m) (drop m w)) m
+unfolding isNumber number unsigned factor
+known-digits w m x e =
+    let f : m ≤ 1 = omega (arith, e, minuses-few (getD w 0 0)) in
+    let h = both-true (isDigits (drop m w)) (between m (2147483647 + m) (decimal 0 (drop m w))) (rw (← e) at x) in
+    let b = between-true m (2147483647 + m) (decimal 0 (drop m w)) (h .1) in
+    rw (rest-part w m) (record { few = f; digits = digits-all (drop m w) (h .0); small = omega (arith, b .1, f); bits = rw (← e) })
 
-  pub known-digits : (from : ℕ) → from ≡ cond (eqb (getD w 0 0) 45) (0 + 1) 0 → Known w (take (length w - from) (drop from w)) from
-  known-digits from h = rw (rest-part w from) (known-case (eqb (getD w 0 0) 45) from refl h)
-
-pub sign-within : (l : Name) (at r : ℕ) → at ≤ length l → r ≡ cond (eqb (getD l at 0) 45) (at + 1) at → r ≤ length l
-sign-within l at r h e = go (eqb (getD l at 0) 45) refl e
+-- it fits 64 bits before the remainder is taken
+pub product-small : (m n : ℕ) → m ≤ 1 → n ≤ 2147483648 → (1 + m * 4294967294) * n ≤ 9223372034707292160
+product-small m n h l = go m h
   where
-    go : (q : Bool) → eqb (getD l at 0) 45 ≡ q → r ≡ cond q (at + 1) at → r ≤ length l
+    go : (m : ℕ) → m ≤ 1 → (1 + m * 4294967294) * n ≤ 9223372034707292160
+    go zero h = omega arith
+    go (suc zero) h = omega arith
+    go (suc (suc m)) h = absurd (omega arith)
+
+pub sign-within : (l : Name) (at m : ℕ) → at ≤ length l → m ≡ minuses (getD l at 0) → at + m ≤ length l
+unfolding minuses
+sign-within l at m h e = go (eqb (getD l at 0) 45) refl e
+  where
+    go : (q : Bool) → eqb (getD l at 0) 45 ≡ q → m ≡ cond q 1 0 → at + m ≤ length l
     go true z k = elim (decLt at (length l)) [
-      | yes m ↦ omega arith
-      | no m ↦ absurd (omega (arith, eqb-true (getD l at 0) 45 z, List·getD-eq-default l 0 {n = at} (omega arith)))
+      | yes i ↦ omega arith
+      | no i ↦ absurd (omega (arith, eqb-true (getD l at 0) 45 z, List·getD-eq-default l 0 {n = at} (omega arith)))
     ]
     go false z k = omega arith

@@ -1,6 +1,6 @@
 -- The digits of a number as they are read: ten at most, their value, the range.
 use mathlib.Core.Path.{_≡_}
-use mathlib.Core.Bool.{Bool, not, cond, _&&_, _||_}
+use mathlib.Core.Bool.{Bool, not, _&&_, _||_}
 use Prim.Native.Nat.{ℕ, _+_, _-_, _≤_}
 use lib.Dec.{eqb, leb}
 use lib.ListN.{take, drop}
@@ -27,6 +27,6 @@ pub record TenDigits (l : Name) (at value end : ℕ) : Type 0 where
 unfoldable pub led : ℕ → ℕ → Bool
 led n b = leb 1 n && (eqb n 1 || not (eqb b digit-zero))
 
--- the range of what digits write, after `-` or without
-unfoldable pub inRange : Bool → ℕ → Bool
-inRange q n = cond q (between 1 2147483648 n) (leb n 2147483647)
+-- the range of what the digits of a number write after m signs
+unfoldable pub inRange : ℕ → ℕ → Bool
+inRange m n = between m (2147483647 + m) n

@@ -1,25 +1,24 @@
 // Numbers: decimal, 32 bits signed, read once.
 ghost use mathlib.Core.Path.{_≡_};
-ghost use mathlib.Core.Bool.{true, false, cond, _&&_};
-ghost use lib.Dec.{eqb};
+ghost use mathlib.Core.Bool.{true, false, _&&_};
 ghost use Prim.Native.Nat.{_+_, _-_, _≤_};
 ghost use lib.ListN.{length, getD, take, drop};
 ghost use Rattle.rules.specs.Base.{all};
-ghost use Rattle.rules.specs.Text.{minus, digit, isNumber, number, decimal};
+ghost use Rattle.rules.specs.Text.{digit, minuses, isNumber, number, decimal};
 ghost use Rattle.read_bytes.specs.Marks.{eight, value};
 ghost use Rattle.read_bytes.specs.Fields.{endsField, FieldIs};
 ghost use Rattle.read_numbers.specs.Numbers.{Begun, TenDigits, led, inRange};
 
 // NUMBERS
 
-// Where a number's digits start: after the sign at a place, if one stands there.
-fn sign_end(l: &[u8], at: usize) -> usize
-    ensures { λ r. ⌜ r ≡ cond (eqb (getD (now (l .entry)) at 0) minus) (at + 1) at ⌝ }
+// How many signs stand at a place: 1 if `-` does, else 0.
+fn minuses_at(l: &[u8], at: usize) -> u8
+    ensures { λ r. ⌜ r ≡ minuses (getD (now (l .entry)) at 0) ⌝ }
 {
     if read_bytes::byte_at(l, at) == 45 {
-        at + 1
+        1
     } else {
-        at
+        0
     }
 }
 
@@ -74,18 +73,15 @@ fn value_of(w: &[u8]) -> u64
     n
 }
 
-// The 32 bits of a field that is known to be a number.
+// The 32 bits of a field that is known to be a number: its digits times 1 or −1, which is 2^32 − 1.
 pub fn known_number(w: &[u8]) -> u32
     requires { ⌜ isNumber (now w) ≡ true ⌝ }
     ensures { λ r. ⌜ r ≡ number (now (w .entry)) ⌝ }
 {
-    let from = sign_end(w, 0);
-    let n = value_of(&w[from..]);
-    if from == 0 {
-        n as u32
-    } else {
-        (4294967296 - n) as u32
-    }
+    let minuses = minuses_at(w, 0);
+    let digits = value_of(&w[minuses as usize..]);
+    let factor = 1 + (minuses as u64) * 4294967294;
+    (factor * digits % 4294967296) as u32
 }
 
 // Ten bytes from a place on, or the end.
@@ -158,28 +154,25 @@ fn is_led(l: &[u8], from: usize, end: usize) -> bool
     end == from + 1
 }
 
-// Is it in the range of a number, after `-` or without?
-fn in_range(value: u64, signed: bool) -> bool
-    ensures { λ r. ⌜ r ≡ inRange signed value ⌝ }
+// Is it in the range of what the digits of a number write, after so many signs?
+fn in_range(value: u64, minuses: u8) -> bool
+    ensures { λ r. ⌜ r ≡ inRange minuses value ⌝ }
 {
-    if !signed {
-        return value <= 2147483647;
-    }
-    if value < 1 {
+    if value < minuses as u64 {
         return false;
     }
-    value <= 2147483648
+    value <= 2147483647 + minuses as u64
 }
 
 // Do the digits that stand from a place on write a number, and end the field?
-fn is_written(l: &[u8], from: usize, d: Digits, signed: bool) -> bool
+fn is_written(l: &[u8], from: usize, d: Digits, minuses: u8) -> bool
     requires { ⌜ (from ≤ d .end) × (d .end ≤ length (now l)) ⌝ }
-    ensures { λ r. ⌜ r ≡ (led (d .end - from) (getD (now (l .entry)) from 0) && (inRange signed (d .value) && endsField (now (l .entry)) (d .end))) ⌝ }
+    ensures { λ r. ⌜ r ≡ (led (d .end - from) (getD (now (l .entry)) from 0) && (inRange minuses (d .value) && endsField (now (l .entry)) (d .end))) ⌝ }
 {
     if !is_led(l, from, d.end) {
         return false;
     }
-    if !in_range(d.value, signed) {
+    if !in_range(d.value, minuses) {
         return false;
     }
     read_bytes::ends_field(l, d.end)
@@ -190,9 +183,10 @@ pub fn number_end(l: &[u8], at: usize) -> usize
     requires { ⌜ at ≤ length (now l) ⌝ }
     ensures { λ r. ⌜ FieldIs isNumber (now (l .entry)) at r ⌝ }
 {
-    let from = sign_end(l, at);
+    let minuses = minuses_at(l, at);
+    let from = at + minuses as usize;
     let d = digits_from(l, from);
-    if is_written(l, from, d, at < from) {
+    if is_written(l, from, d, minuses) {
         d.end
     } else {
         at

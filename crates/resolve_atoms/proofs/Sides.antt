@@ -3,23 +3,24 @@ use mathlib.Core.Path.{_≡_, refl, sym, ap, ap₂, subst, _∙_}
 use mathlib.Core.Bool.{Bool, true, false, not, cond, _&&_, _||_}
 use mathlib.Core.List.{List, [], _∷_, _++_}
 use mathlib.Core.Logic.{_⊎_, ⊎-elim}
-use Prim.Native.Nat.{ℕ, zero, suc, _+_, _-_, _≤_, _<_}
+use Prim.Native.Nat.{ℕ, zero, suc, _+_, _≤_, _<_}
 use native.Mathlib.Omega.{arith}
-use lib.Dec.{T, eqb, ltb, leb}
-use lib.ListN.{length, drop}
-use borrow.Author.Tests.{ltb-true, leb-true, not-true}
+use lib.Dec.{T, eqb, ltb}
+use lib.ListN.{length}
+use borrow.Author.Tests.{ltb-true, not-true}
 use Rattle.rules.specs.Base.{Name, is, any, index, eqName}
 use Rattle.rules.specs.Syntax as Syntax
 use Rattle.rules.specs.Syntax.{Expr, num, null, var, path, acc, cmp}
-use Rattle.rules.specs.Text.{decimal, isDigits, isNegative, isNumber, number, numeral, hasStop, isName, isExpr, exprOf, beforeStop, afterStop, reserved, isRel, relOf, isAtom, atomOf}
+use Rattle.rules.specs.Text.{number, numeral, hasStop, isName, isExpr, exprOf, beforeStop, afterStop, reserved, isRel, relOf, isAtom, atomOf}
 use Rattle.rules.specs.Base as Base
 use Rattle.rules.specs.Scope.{Declarations, Variable, FieldDeclaration}
 use Rattle.rules.specs.Names as Names
 use Rattle.rules.specs.Names.{knownExpr, ofClassIn, knownField, isInt, isFieldOf, variableType, variableNumber, fieldNumber, inScope, lookUp, noVariable}
 use Rattle.rules.specs.Items.{resolveExpr, resolveAtom}
+use Rattle.rules.proofs.Signs.{number-small}
 use Rattle.rules.proofs.Lists.{T-true, Member, head-or, append-member, and-both, in-any, any-in, first-member}
 use Rattle.read_words.specs.Words.{acc-word, eq-word, ne-word, wordNumber}
-use Rattle.read_bytes.proofs.Search.{both-true, true-false, between-true}
+use Rattle.read_bytes.proofs.Search.{both-true, true-false}
 use Rattle.read_words.proofs.Words.{acc-is, eq-is, atom-rel, atom-before, atom-after}
 use Rattle.tables.specs.declared.Expr as Tables
 use Rattle.tables.specs.Layout.{most-names, frame-variables}
@@ -52,18 +53,6 @@ path-access Tables.Expr.Null v n m = absurd (let z : _≡_ {A = ℕ} 0 1 = cc in
 path-access (Tables.Expr.Var x) v n m = absurd (let z : _≡_ {A = ℕ} 0 1 = cc in omega arith)
 path-access (Tables.Expr.Path x f) v n m = let p : x ≡ v = cc in let q : f ≡ n = cc in (refl, λ j. acc (p j) (q j))
 
--- NUMBERS
-number-small : (w : Name) → isNumber w ≡ true → number w < 4294967296
-unfolding isNumber number
-number-small w e = go (isNegative w) (decimal 0 (drop 1 w)) (decimal 0 w) e
-  where
-    go :
-        (q : Bool) (d n : ℕ) →
-        cond q (isDigits (drop 1 w) && Base.between 1 2147483648 d) (isDigits w && leb n 2147483647) ≡ true →
-        cond q (4294967296 - d) n < 4294967296
-    go true d n i = let b = between-true 1 2147483648 d (both-true (isDigits (drop 1 w)) (Base.between 1 2147483648 d) i .1) in omega (arith, b)
-    go false d n i = let b : n ≤ 2147483647 = leb-true n 2147483647 (both-true (isDigits w) (leb n 2147483647) i .1) in omega (arith, b)
-
 -- the word of an atom
 pub atom-word : (w a b : Name) → isAtom w a b ≡ true → (is "acc" w || isRel w) ≡ true
 unfolding isAtom
@@ -74,17 +63,15 @@ atom-word w a b e = go (is "acc" w) (isRel w) e
     go false true e = refl
     go false false e = true-false (sym e)
 
-number-read : (w : Name) (n : ℕ) → isExpr w ≡ true → exprOf w ≡ num n → n < 4294967296
-unfolding isExpr exprOf
-number-read w n f e = go (numeral w) (hasStop w) (Base.is "null" w) f e
+number-read : (w : Name) (n : ℕ) → exprOf w ≡ num n → n < 4294967296
+unfolding exprOf
+number-read w n e = go (numeral w) (hasStop w) (Base.is "null" w) e
   where
-    go :
-        (p q r : Bool) → cond p (isNumber w) (cond q (isName (beforeStop w) && isName (afterStop w)) (isName w)) ≡ true →
-        cond p (num (number w)) (cond q (path (beforeStop w) (afterStop w)) (cond r null (var w))) ≡ num n → n < 4294967296
-    go true q r i j = let z : number w ≡ n = cc in omega (arith, z, number-small w i)
-    go false true r i j = absurd (let z : _≡_ {A = ℕ} 0 1 = cc in omega arith)
-    go false false true i j = absurd (let z : _≡_ {A = ℕ} 0 1 = cc in omega arith)
-    go false false false i j = absurd (let z : _≡_ {A = ℕ} 0 1 = cc in omega arith)
+    go : (p q r : Bool) → cond p (num (number w)) (cond q (path (beforeStop w) (afterStop w)) (cond r null (var w))) ≡ num n → n < 4294967296
+    go true q r i = let z : number w ≡ n = cc in omega (arith, z, number-small w)
+    go false true r i = absurd (let z : _≡_ {A = ℕ} 0 1 = cc in omega arith)
+    go false false true i = absurd (let z : _≡_ {A = ℕ} 0 1 = cc in omega arith)
+    go false false false i = absurd (let z : _≡_ {A = ℕ} 0 1 = cc in omega arith)
 
 module _ (t w : List ℕ) (c : Declared.Names) (fits : NamesFit c) where
   -- VARIABLES
@@ -168,12 +155,12 @@ module _ (t w : List ℕ) (c : Declared.Names) (fits : NamesFit c) where
       subst (λ q. (q || any (isFieldOf Γ (variableType vs x) f) (Γ .fields)) ≡ true) i (k .1) in
       (variable-small x (b .0), field-small (variableType vs x) f m)
 
-  expr-fits : (w : Name) → isExpr w ≡ true → good Γ vs (exprOf w) ≡ true → SideFits (resolveExpr Γ vs (exprOf w))
+  expr-fits : (w : Name) → good Γ vs (exprOf w) ≡ true → SideFits (resolveExpr Γ vs (exprOf w))
   unfolding resolveExpr SideFits good knownExpr ofClassIn
-  expr-fits w f g = go (exprOf w) refl g
+  expr-fits w g = go (exprOf w) refl g
     where
       go : (e : Expr Name) → exprOf w ≡ e → good Γ vs e ≡ true → SideFits (resolveExpr Γ vs e)
-      go (num n) i h = number-read w n f i
+      go (num n) i h = number-read w n i
       go null i h = tt
       go (var x) i h = variable-small x (both-true (inScope vs x) true h .0)
       go (path x f) i h = path-fits x f h
@@ -204,19 +191,19 @@ module _ (t w : List ℕ) (c : Declared.Names) (fits : NamesFit c) where
   access-bad x f m h g = sym (h .good) ∙ g
 
   pub compared-is :
-      (k : ℕ) (a b : Name) (l r : Tables.Expr) → 1 ≤ k → k ≤ 2 → isExpr a ≡ true → isExpr b ≡ true →
+      (k : ℕ) (a b : Name) (l r : Tables.Expr) → 1 ≤ k → k ≤ 2 →
       good Γ vs (exprOf a) ≡ true → good Γ vs (exprOf b) ≡ true → meaning l ≡ resolveExpr Γ vs (exprOf a) →
       meaning r ≡ resolveExpr Γ vs (exprOf b) →
       Resolved Γ vs (cmp (Decode.relOf k) (exprOf a) (exprOf b)) (record { kind = k; left = l; right = r })
   unfolding resolveAtom Holds.atomOf
-  compared-is k a b l r k₁ k₂ f g p q m n =
+  compared-is k a b l r k₁ k₂ p q m n =
       record {
         is = rw (borrow.Author.Tests.ne-eqb k 0 (λ e. omega arith), m, n);
         ok =
             record {
               kind = k₂;
-              left = rw m (expr-fits a f p);
-              right = rw n (expr-fits b g q);
+              left = rw m (expr-fits a p);
+              right = rw n (expr-fits b q);
               access = λ e. absurd (omega arith);
             };
       }
@@ -229,13 +216,13 @@ module _ (t w : List ℕ) (c : Declared.Names) (fits : NamesFit c) where
     compared-fits = rw (p .good, q .good, p .is, q .is)
 
     pub compared-row :
-        (1 ≤ k) × (k ≤ 2) → isExpr a ≡ true → isExpr b ≡ true → l .good ≡ true → r .good ≡ true →
+        (1 ≤ k) × (k ≤ 2) → l .good ≡ true → r .good ≡ true →
         Names.agree (typeMeant t (l .is)) (typeMeant t (r .is)) ≡ true →
         AtomTried Γ vs (cmp (Decode.relOf k) (exprOf a) (exprOf b)) (TriedAtom.Row (record { kind = k; left = l .expr; right = r .expr }))
     unfolding AtomTried
-    compared-row i f g u v y = (
+    compared-row i u v y = (
       compared-fits ∙ rw (u, v, y),
-      compared-is k a b (l .expr) (r .expr) (i .0) (i .1) f g (sym (p .good) ∙ u) (sym (q .good) ∙ v) (p .expr) (q .expr),
+      compared-is k a b (l .expr) (r .expr) (i .0) (i .1) (sym (p .good) ∙ u) (sym (q .good) ∙ v) (p .expr) (q .expr),
     )
 
     pub left-bad : l .good ≡ false → AtomTried Γ vs (cmp (Decode.relOf k) (exprOf a) (exprOf b)) TriedAtom.Bad

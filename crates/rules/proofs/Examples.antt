@@ -321,6 +321,15 @@ rows =
     row (oneName "set s n a") check (13 ∷ 15 ∷ []) ∷
     -- "An equality that now has one term on both sides goes too"
     row (oneOnBothSides 9) check (0 ∷ 0 ∷ []) ∷
+    -- W4: "−2147483648 still reads, and `-0` is still number 4"
+    row (oneLine "let a -2147483648") (run 9) (0 ∷ 4 ∷ 2 ∷ three 2147483648 0 0) ∷
+    row (oneLine "let a -1") (run 9) (0 ∷ 4 ∷ 2 ∷ three 4294967295 0 0) ∷
+    row (oneLine "let a -2147483649") check (4 ∷ 3 ∷ []) ∷
+    row (oneLine "let a -0") check (4 ∷ 3 ∷ []) ∷
+    row (oneLine "let a -") check (4 ∷ 3 ∷ []) ∷
+    row (oneLine "let a -01") check (4 ∷ 3 ∷ []) ∷
+    row (oneLine "let a 00") check (4 ∷ 3 ∷ []) ∷
+    row (oneLine "let a 0") check (0 ∷ 0 ∷ []) ∷
     -- the same field in way (d); the lower of two numbers; what ensures does not hand back is lost
     row twoFields check (13 ∷ 7 ∷ []) ∷
     row lower check (6 ∷ 3 ∷ []) ∷

@@ -15,3 +15,4 @@ pub mod Examples
 pub mod LinesTaken
 pub mod LineKinds
 pub mod Numbers
+pub mod Signs

@@ -245,7 +245,7 @@ module _ (t w : List ℕ) (c : Counts.Names) (r i n l : ℕ) (ready : AreaFits w
         let-atom =
             let k = both-true (isLocal (variableNumber vs (getD ws 0 []))) _ (sym let-is ∙ fits) in
             let g = both-true (good Γ vs (exprOf (getD ws 1 []))) _ (k .1) .0 in
-            let o = compared-is t w c (ready .fits) 1 (getD ws 1 []) (getD ws 1 []) (e .expr) (e .expr) (omega arith) (omega arith) let-formed let-formed g g (E .expr) (E .expr) .ok in
+            let o = compared-is t w c (ready .fits) 1 (getD ws 1 []) (getD ws 1 []) (e .expr) (e .expr) (omega arith) (omega arith) g g (E .expr) (E .expr) .ok in
             record { kind = omega arith; left = tt; right = o .right; access = λ z. absurd (omega arith) }
 
         let-put :

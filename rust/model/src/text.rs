@@ -102,20 +102,21 @@ pub fn reserved(name: Name) -> bool {
 }
 
 /// "A number is decimal, −2147483648 to 2147483647, with `-` as its sign, no
-/// leading zero and no `-0`."
+/// leading zero and no `-0`." W4: "one path for both signs: digits times 1 or
+/// −1, the factor worked out from the first byte."
 pub fn number(field: &[u8]) -> Option<i32> {
-    let digits = field.strip_prefix(b"-").unwrap_or(field);
-    let negative = digits.len() < field.len();
+    let factor = if field.starts_with(b"-") { -1 } else { 1 };
+    let digits = &field[usize::from(factor < 0)..];
     if digits.is_empty() || digits.len() > 10 || !digits.iter().all(u8::is_ascii_digit) {
         return None;
     }
-    if digits[0] == b'0' && (digits.len() > 1 || negative) {
+    if digits[0] == b'0' && field.len() > 1 {
         return None;
     }
     let size = digits
         .iter()
         .fold(0i64, |value, digit| value * 10 + i64::from(digit - b'0'));
-    i32::try_from(if negative { -size } else { size }).ok()
+    i32::try_from(size * factor).ok()
 }
 
 /// The form of an expression; a path has exactly one dot.

@@ -140,3 +140,28 @@ fn both_return(words: &[&str]) -> u32 {
     }
     both
 }
+
+/// W4: numbers of both signs, those that are the last to have the form and
+/// those that have it not.
+#[test]
+fn numbers_of_both_signs_occur() {
+    let mut values: BTreeMap<Vec<u8>, u32> = BTreeMap::new();
+    let mut rng = Rng::new(0x3400_0000);
+    for _ in 0..2_000 {
+        let text = gen::text_of(&mut rng, gen::Kind::Miss(4));
+        let lets = text.split(|&byte| byte == b'\n');
+        for line in lets.filter_map(|line| line.strip_prefix(b"let\t")) {
+            let value = line.rsplit(|&byte| byte == b'\t').next();
+            *values
+                .entry(value.unwrap_or_default().to_vec())
+                .or_insert(0) += 1;
+        }
+    }
+    let formed = ["-2147483648", "-1", "0", "1", "2147483647"];
+    let others = ["-0", "00", "-01", "-", "+1", "2147483648", "-2147483649"];
+    for number in formed.iter().chain(&others) {
+        let count = values.get(number.as_bytes()).copied().unwrap_or_default();
+        println!("let x {number}: {count}");
+        assert!(count >= 5, "{number} is rare");
+    }
+}

@@ -46,7 +46,7 @@ returns-4 c =
     let at-look2 = c .before .before .before .before .before .before .look2 in
     let at-if1 = c .before .before .before .before .if1 in
     let at-if2 = c .before .before .if2 in
-    compared-row _ _ _ (start .pre .0 .fits) _ _ _ _ _ (at-look .ensures) (at-look2 .ensures) (start .pre .1) (start .pre .2 .0) (start .pre .2 .1) (not-false _ (at-if1 .left)) (not-false _ (at-if2 .left)) (sym (c .before .agree .ensures) ∙ not-false _ (c .if3 .left))
+    compared-row _ _ _ (start .pre .0 .fits) _ _ _ _ _ (at-look .ensures) (at-look2 .ensures) (start .pre .1) (not-false _ (at-if1 .left)) (not-false _ (at-if2 .left)) (sym (c .before .agree .ensures) ∙ not-false _ (c .if3 .left))
 
 pub compared-spec : {M : Type 1} → statement M
 compared-spec =

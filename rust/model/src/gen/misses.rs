@@ -33,6 +33,7 @@ fn searched(rng: &mut Rng, number: u32) -> Vec<u8> {
         match number {
             number::ASSIGNED => assign_wrongly(rng, &mut lines),
             number::FORM if rng.chance(20) => after_return(rng, &mut lines),
+            number::FORM if rng.chance(10) => number_form(rng, &mut lines),
             number::FORM => mutate_line(rng, &mut lines),
             _ => {
                 let at = rng.below(lines.len());
@@ -59,6 +60,31 @@ fn after_return(rng: &mut Rng, lines: &mut Fields) {
         false => lines[rng.pick(&places)].clone(),
     };
     lines.insert(at + 1, line);
+}
+
+/// Numbers without the form of one, and those that are the last to have it.
+const NUMBERS: [&str; 12] = [
+    "-0",
+    "00",
+    "-01",
+    "007",
+    "+1",
+    "-",
+    "--1",
+    "2147483648",
+    "-2147483649",
+    "99999999999",
+    "2147483647",
+    "-2147483648",
+];
+
+/// A number that may not have the form of one.
+fn number_form(rng: &mut Rng, lines: &mut Fields) {
+    let lets = |&at: &usize| lines[at][0] == b"let";
+    let places: Vec<usize> = (0..lines.len()).filter(lets).collect();
+    if let Some(at) = rng.choose(&places) {
+        lines[at][2] = rng.pick(&NUMBERS).as_bytes().to_vec();
+    }
 }
 
 /// A line that assigns, whose x is one that it may not be: a line's x is
