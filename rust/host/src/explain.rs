@@ -169,11 +169,9 @@ pub const EXPLANATIONS: &[Explanation] = &[
     Explanation {
         number: 13,
         title: "an `eq` or `ne` that is not shown",
-        meaning: "What is known here does not make the two sides equal, or different. What \
-                  was equal to the old value of a variable or field stays so among itself, but the new \
-                  value is known only by the line that gives it: nothing of a sum or difference, \
-                  and of the fields that a call is handed what `ensures` says. After `join` only its \
-                  formula is known.",
+        meaning: "What is known here does not make the two sides equal, or different. Of a new value \
+                  only what its line says is known: of a sum or difference nothing, of the fields that \
+                  a call is handed what `ensures` says. After `join` only its formula is known.",
         mend: "state the fact where it is lost: in `ensures`, in `join`, or by `if`",
         example: example!("refused-13"),
     },
