@@ -13,12 +13,12 @@ use borrow.Fn.PlainCycle.{Measures, is, falls, and}
 use Rattle.checker.proofs.block.Reads as block
 use Rattle.checker.proofs.block.Kinds as block-kinds
 use Rattle.checker.proofs.+block.Lts-block as block-lts
-use Rattle.checker.proofs.if_at.Reads as if-at-reads
-use Rattle.checker.proofs.joined.Reads as joined-reads
-use Rattle.checker.proofs.return_at.Reads as return-at-reads
-use Rattle.checker.proofs.statement.Reads as statement-reads
-use Rattle.checker.proofs.stopped.Reads as stopped-reads
-use Rattle.checker.proofs.turned.Reads as turned-reads
+use Rattle.checker.proofs.operands.if_at.Reads as if-at-reads
+use Rattle.checker.proofs.parts.joined.Reads as joined-reads
+use Rattle.checker.proofs.parts.return_at.Reads as return-at-reads
+use Rattle.checker.proofs.operands.statement.Reads as statement-reads
+use Rattle.checker.proofs.parts.stopped.Reads as stopped-reads
+use Rattle.checker.proofs.parts.turned.Reads as turned-reads
 use Rattle.tables.proofs.is_closing_at.Reads as is-closing-at-reads
 use Rattle.tables.proofs.kind_at.Reads as kind-at-reads
 use Rattle.checker.proofs.+block.{statement}
