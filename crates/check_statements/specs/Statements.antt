@@ -2,13 +2,13 @@
 use mathlib.Core.Path.{_≡_}
 use mathlib.Core.Bool.{Bool, cond, not}
 use mathlib.Core.Option.{Option, none, some}
-use mathlib.Core.List.{List, map}
+use mathlib.Core.List.{List, [], _∷_, map}
 use Prim.Native.Nat.{ℕ}
 use lib.Dec.{eqb}
 use Rattle.rules.specs.Base.{Try, ok, _>>=_}
 use Rattle.rules.specs.Answers.{Refusal}
-use Rattle.rules.specs.Syntax.{Formula, Rel, Method, same, num, null, var}
-use Rattle.rules.specs.Rules.{End, addEqual, actual, substAtom, opposite, showEnd, joinRule}
+use Rattle.rules.specs.Syntax.{Formula, Rel, Method, same, num, null, var, cmp}
+use Rattle.rules.specs.Rules.{End, addEqual, actual, substAtom, showEnd, joinRule}
 use Rattle.rules.specs.State as Rules
 use Rattle.check_entailment.specs.declared.Answer.{Answer}
 use Rattle.check_state.specs.States.{Wf, stateOf}
@@ -37,6 +37,10 @@ abbrev pub JoinGives : Formula ℕ → Bool → List ℕ → List ℕ → Bool �
 JoinGives φ returned key b returned2 key2 b2 answer key′ b′ =
     Adds (joinRule φ (endOf returned (stateOf key b)) (endOf returned2 (stateOf key2 b2))) answer key′ b′
 
+-- e shows the formula, and then that and a relation is all that is known: what the state is after a `loop` and after its `again`
+unfoldable pub onlyKnown : Rel → Rules.Term → Rules.Term → Formula ℕ → End → Try Refusal Rules.State
+onlyKnown n a b φ e = showEnd φ e >>= λ u. Rules.add φ Rules.empty >>= λ s. Rules.add (cmp n a b ∷ []) s
+
 -- `let x e`, where e resolves to r
 unfoldable pub assignTerm : ℕ → Rules.Term → Rules.State → Try Refusal Rules.State
 assignTerm x r s =
@@ -48,13 +52,6 @@ unfoldable pub callShown : ℕ → ℕ → Method → ℕ → Rules.State → Tr
 callShown x y M z s = do
   r ← Rules.show s (map (substAtom (actual y z x)) (M .requires))
   Rules.add (map (substAtom (actual y z x)) (M .ensures)) (Rules.remove x (Rules.remainder s r))
-
--- `if`, where both sides resolve
-unfoldable pub partRule : Rel → Rules.Term → Rules.Term → Rules.State → Try Refusal (Rules.State × Rules.State)
-partRule n t u s = do
-  s₁ ← Rules.addFact n t u s
-  s₂ ← Rules.addFact (opposite n) t u s
-  ok (s₁, s₂)
 
 -- a field's first value, by its kind
 unfoldable pub initialOf : ℕ → Rules.Term

@@ -1,41 +1,21 @@
-// The states at `if` and `join`.
+// The states at `if` and `join`, at `loop` and `again`.
 use check_entailment::Answer;
 use check_equality::State;
 use check_equality::Term;
-use check_state::Resolved;
 ghost use mathlib.Core.Path.{_≡_};
-ghost use Prim.Native.Nat.{_+_, _≤_};
+ghost use Prim.Native.Nat.{_+_, _-_, _≤_};
 ghost use lib.ListN.{length};
 ghost use Rattle.rules.specs.Limits.{work-bytes};
 ghost use Rattle.rules.specs.Rules.{ifRule};
 ghost use Rattle.tables.specs.Layout.{most-atom-rows};
-ghost use Rattle.tables.specs.Decode.{atomsFrom};
-ghost use Rattle.check_equality.specs.Keys.{termOf, meaning};
+ghost use Rattle.tables.specs.Decode.{leftAt, rightAt, atomsFrom};
+ghost use Rattle.check_equality.specs.Keys.{meaning};
 ghost use Rattle.check_equality.specs.Links.{relOf};
 ghost use Rattle.check_state.specs.States.{Wf, stateOf};
-ghost use Rattle.check_statements.specs.Statements.{Parts, partRule, JoinGives};
+ghost use Rattle.check_entailment.specs.Answers.{Adds};
+ghost use Rattle.check_statements.specs.Statements.{Parts, endOf, JoinGives, onlyKnown};
 
-// The condition, or where `apart` its opposite, in the first state, and the other in the second, which is a copy of the first.
-fn part(
-    key: &mut [u64; State::SLOTS],
-    b: &mut [u8; State::BYTES],
-    key2: &mut [u64; State::SLOTS],
-    b2: &mut [u8; State::BYTES],
-    apart: bool,
-    t: u64,
-    u: u64,
-) -> Answer
-    requires { ⌜ Wf (now key) (now b) × (now key2 ≡ now key) × (now b2 ≡ now b) ⌝ }
-    ensures { λ r. ⌜ Parts (partRule (relOf apart) (termOf t) (termOf u) (stateOf (now (key .entry)) (now (b .entry)))) r (now (key .exit)) (now (b .exit)) (now (key2 .exit)) (now (b2 .exit)) ⌝ }
-{
-    let k = check_entailment::add_fact(key, b, apart, t, u);
-    let Answer::Done = k else {
-        return k;
-    };
-    check_entailment::add_fact(key2, b2, !apart, t, u)
-}
-
-// `if eq l r`, or where `apart` `if ne l r`
+// `if eq l r`, or where `apart` `if ne l r`: the condition in the first state, its opposite in the second, which is a copy of the first.
 pub fn if_rule(
     key: &mut [u64; State::SLOTS],
     b: &mut [u8; State::BYTES],
@@ -48,13 +28,11 @@ pub fn if_rule(
     requires { ⌜ Wf (now key) (now b) × (now key2 ≡ now key) × (now b2 ≡ now b) ⌝ }
     ensures { λ a. ⌜ Parts (ifRule (relOf apart) (meaning l) (meaning r) (stateOf (now (key .entry)) (now (b .entry)))) a (now (key .exit)) (now (b .exit)) (now (key2 .exit)) (now (b2 .exit)) ⌝ }
 {
-    let Resolved::Key(t) = check_state::resolve(key, b, l) else {
-        return Answer::Unresolved;
+    let k = check_entailment::add_relation(key, b, apart, l, r);
+    let Answer::Done = k else {
+        return k;
     };
-    let Resolved::Key(u) = check_state::resolve(key, b, r) else {
-        return Answer::Unresolved;
-    };
-    part(key, b, key2, b2, apart, t, u)
+    check_entailment::add_relation(key2, b2, !apart, l, r)
 }
 
 // `join`: the first end, then the second, shows the formula, which is all that is known then.
@@ -82,4 +60,33 @@ pub fn join_rule<'a>(
     };
     check_forgetting::clear(b);
     check_formulas::add(w, a, n, State::THIS, State::PARAM, State::RESULT, key, b)
+}
+
+// `loop` and `again`, of a loop whose invariant has n atoms from the atom a on: the end before it shows the invariant; that and `eq` of
+// the condition's sides, or where `apart` `ne`, is all that is known then. The condition is the atom before the invariant.
+pub fn loop_rule(
+    w: &[u8],
+    a: usize,
+    n: usize,
+    returned: bool,
+    apart: bool,
+    key: &mut [u64; State::SLOTS],
+    b: &mut [u8; State::BYTES],
+) -> Answer
+    requires { ⌜ (length (now w) ≡ work-bytes) × (1 ≤ a) × (a + n ≤ most-atom-rows) × Wf (now key) (now b) ⌝ }
+    ensures { λ r. ⌜ Adds (onlyKnown (relOf apart) (leftAt (now (w .entry)) (a - 1)) (rightAt (now (w .entry)) (a - 1)) (atomsFrom (now (w .entry)) a n) (endOf returned (stateOf (now (key .entry)) (now (b .entry))))) r (now (key .exit)) (now (b .exit)) ⌝ }
+{
+    let k = crate::show_end(w, a, n, returned, key, b);
+    let Answer::Done = k else {
+        return k;
+    };
+    check_forgetting::clear(b);
+    let m = check_formulas::add(w, a, n, State::THIS, State::PARAM, State::RESULT, key, b);
+    let Answer::Done = m else {
+        return m;
+    };
+    let condition = a - 1;
+    let l = check_formulas::left(w, condition, State::THIS, State::PARAM, State::RESULT);
+    let r = check_formulas::right(w, condition, State::THIS, State::PARAM, State::RESULT);
+    check_entailment::add_relation(key, b, apart, l, r)
 }

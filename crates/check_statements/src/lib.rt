@@ -2,7 +2,7 @@
 mod branches;
 mod objects;
 
-pub use branches::{if_rule, join_rule};
+pub use branches::{if_rule, join_rule, loop_rule};
 pub use objects::new_rule;
 use check_entailment::Answer;
 use check_equality::State;
