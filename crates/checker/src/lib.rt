@@ -1,4 +1,5 @@
-// Blocks, methods and main: the rules walked over the tables. The checker of a block calls itself for each branch, the remaining depth falling.
+// Blocks, methods and main: the rules walked over the tables. A block's checker calls itself for each part of a branch and for each loop, the remaining
+// depth falling.
 mod operands;
 mod parts;
 
@@ -7,17 +8,18 @@ use check_equality::State;
 use rules::Kind;
 use rules::Machine;
 ghost use mathlib.Core.Path.{_≡_};
+ghost use mathlib.Core.Bool.{false};
 ghost use mathlib.Core.List.{[]};
 ghost use mathlib.Core.Option.{some};
-ghost use Prim.Native.Nat.{_+_, _-_, _≤_, _<_};
-ghost use Rattle.rules.specs.Limits.{most-branches};
+ghost use Prim.Native.Nat.{_+_, _≤_, _<_};
+ghost use Rattle.rules.specs.Grammar.{isClosingNumber};
 ghost use Rattle.rules.specs.Answers as Answers;
 ghost use Rattle.tables.specs.Layout.{most-atom-rows};
 ghost use Rattle.rules.specs.Rules.{checkProgram, checkMethod};
-ghost use Rattle.tables.specs.Decode.{rowCount, methodCount, atomsFrom, methodAt, programIn};
+ghost use Rattle.tables.specs.Decode.{kindAt, rowCount, methodCount, atomsFrom, methodAt, programIn};
 ghost use Rattle.tables.specs.Tables.{Tables};
 ghost use Rattle.check_state.specs.States.{Wf, stateOf};
-ghost use Rattle.checker.specs.Checked.{Nests, Ran, outcome, verdictFrom, verdictOf};
+ghost use Rattle.checker.specs.Checked.{IsIf, IsLoop, Nests, Stands, Passed, Ran, outcome, verdictFrom, verdictOf};
 
 // How far a block was checked, and whether the line before was a `return`; or why no further.
 pub struct Out {
@@ -31,8 +33,78 @@ pub enum Verdict {
     Refused(Answer, usize),
 }
 
-// The rows from `from` on, up to the one that closes them, in a block that must show n atoms from the atom a on. Each part of a branch
-// is checked by this function, with one branch less to open.
+// The branch whose `if` is row i, up to its `join`, where both its parts are checked with one less to open.
+fn branch(
+    w: &[u8],
+    depth: usize,
+    i: usize,
+    a: usize,
+    n: usize,
+    key: &mut [u64; State::SLOTS],
+    b: &mut [u8; State::BYTES],
+) -> Out
+    requires { ⌜ Stands (now w) depth i a n × IsIf (now w) i × Wf (now key) (now b) ⌝ }
+    ensures { λ r. ⌜ Passed (now (w .entry)) depth i (atomsFrom (now (w .entry)) a n) (stateOf (now (key .entry)) (now (b .entry))) r (now (key .exit)) (now (b .exit)) ⌝ }
+{
+    let mut key2 = *key;
+    let mut b2 = *b;
+    let k = operands::if_at(w, i, key, b, &mut key2, &mut b2);
+    let Answer::Done = k else {
+        return parts::stopped(k, i);
+    };
+    let one = parts::turned(w, block(w, depth - 1, i + 1, a, n, key, b));
+    let l = one.answer;
+    let Answer::Done = l else {
+        return one;
+    };
+    let two = block(w, depth - 1, one.at + 1, a, n, &mut key2, &mut b2);
+    parts::joined(w, two, one.returned, key, b, &key2, &b2)
+}
+
+// The loop whose `loop` is row i, up to its `again`.
+fn turns(
+    w: &[u8],
+    depth: usize,
+    i: usize,
+    a: usize,
+    n: usize,
+    key: &mut [u64; State::SLOTS],
+    b: &mut [u8; State::BYTES],
+) -> Out
+    requires { ⌜ Stands (now w) depth i a n × IsLoop (now w) i × Wf (now key) (now b) ⌝ }
+    ensures { λ r. ⌜ Passed (now (w .entry)) depth i (atomsFrom (now (w .entry)) a n) (stateOf (now (key .entry)) (now (b .entry))) r (now (key .exit)) (now (b .exit)) ⌝ }
+{
+    let k = operands::loop_at(w, i, key, b);
+    let Answer::Done = k else {
+        return parts::stopped(k, i);
+    };
+    let end = block(w, depth - 1, i + 1, a, n, key, b);
+    parts::closed(w, i, end, key, b)
+}
+
+// Row i, with the whole branch or loop that it opens.
+fn row(
+    w: &[u8],
+    depth: usize,
+    i: usize,
+    a: usize,
+    n: usize,
+    key: &mut [u64; State::SLOTS],
+    b: &mut [u8; State::BYTES],
+) -> Out
+    requires { ⌜ Stands (now w) depth i a n × (isClosingNumber (kindAt (now w) i) ≡ false) × Wf (now key) (now b) ⌝ }
+    ensures { λ r. ⌜ Passed (now (w .entry)) depth i (atomsFrom (now (w .entry)) a n) (stateOf (now (key .entry)) (now (b .entry))) r (now (key .exit)) (now (b .exit)) ⌝ }
+{
+    match tables::kind_at(w, i) {
+        Kind::RETURN => parts::return_at(w, i, a, n, key, b),
+        Kind::IF => branch(w, depth, i, a, n, key, b),
+        Kind::LOOP => turns(w, depth, i, a, n, key, b),
+        _ => parts::passed(operands::statement(w, i, key, b), i),
+    }
+}
+
+// The rows from `from` on, up to the one that closes them, in a block that must show n atoms from the atom a on, where so many branches
+// and loops may still be opened.
 pub fn block(
     w: &[u8],
     depth: usize,
@@ -42,41 +114,20 @@ pub fn block(
     key: &mut [u64; State::SLOTS],
     b: &mut [u8; State::BYTES],
 ) -> Out
-    requires { ⌜ Tables (now w) × (depth ≤ most-branches) × (from < rowCount (now w)) × Nests (now w) from (most-branches - depth) × (a + n ≤ most-atom-rows) × Wf (now key) (now b) ⌝ }
+    requires { ⌜ Stands (now w) depth from a n × Wf (now key) (now b) ⌝ }
     ensures { λ r. ⌜ Ran (now (w .entry)) depth from (atomsFrom (now (w .entry)) a n) (stateOf (now (key .entry)) (now (b .entry))) r (now (key .exit)) (now (b .exit)) ⌝ }
 {
     let mut at = from;
     while !tables::is_closing_at(w, at) {
-        let kind = tables::kind_at(w, at);
-        if kind == Kind::RETURN {
-            return parts::return_at(w, at, a, n, key, b);
+        let r = row(w, depth, at, a, n, key, b);
+        let k = r.answer;
+        let Answer::Done = k else {
+            return r;
+        };
+        if r.returned {
+            return r;
         }
-        if kind == Kind::IF {
-            let mut key2 = *key;
-            let mut b2 = *b;
-            let k = operands::if_at(w, at, key, b, &mut key2, &mut b2);
-            let Answer::Done = k else {
-                return parts::stopped(k, at);
-            };
-            let one = parts::turned(w, block(w, depth - 1, at + 1, a, n, key, b));
-            let l = one.answer;
-            let Answer::Done = l else {
-                return one;
-            };
-            let two = block(w, depth - 1, one.at + 1, a, n, &mut key2, &mut b2);
-            let end = parts::joined(w, two, one.returned, key, b, &key2, &b2);
-            let m = end.answer;
-            let Answer::Done = m else {
-                return end;
-            };
-            at = end.at + 1;
-        } else {
-            let k = operands::statement(w, at, key, b);
-            let Answer::Done = k else {
-                return parts::stopped(k, at);
-            };
-            at += 1;
-        }
+        at = r.at;
     }
     parts::stopped(Answer::Done, at)
 }

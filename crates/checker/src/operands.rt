@@ -10,8 +10,9 @@ ghost use Rattle.rules.specs.Syntax as Syntax;
 ghost use Rattle.tables.specs.Decode.{kindAt, rowCount, formulaAt};
 ghost use Rattle.tables.specs.Tables.{Tables};
 ghost use Rattle.check_state.specs.States.{Wf, stateOf};
-ghost use Rattle.check_statements.specs.Statements.{Parts, JoinGives};
-ghost use Rattle.checker.specs.Checked.{IsLet, IsNew, IsCall, IsIf, setAt, letAt, newAt, callAt, computeAt, RuleGives, branches, Stepped};
+ghost use Rattle.check_entailment.specs.Answers.{Adds};
+ghost use Rattle.check_statements.specs.Statements.{Parts, endOf, JoinGives};
+ghost use Rattle.checker.specs.Checked.{IsLet, IsNew, IsCall, IsIf, IsLoop, setAt, letAt, newAt, callAt, computeAt, RuleGives, branches, bodyStarts, loopLeaves, Stepped};
 
 // `set x f y`
 fn set_at(w: &[u8], i: usize, key: &mut [u64; State::SLOTS], b: &mut [u8; State::BYTES]) -> Answer
@@ -147,6 +148,39 @@ pub fn join_at<'a>(
         key2,
         b2,
     )
+}
+
+// `loop` at row i: the state shows the invariant, and its body starts from that and the condition alone.
+pub fn loop_at(
+    w: &[u8],
+    i: usize,
+    key: &mut [u64; State::SLOTS],
+    b: &mut [u8; State::BYTES],
+) -> Answer
+    requires { ⌜ Tables (now w) × (i < rowCount (now w)) × IsLoop (now w) i × Wf (now key) (now b) ⌝ }
+    ensures { λ r. ⌜ Adds (bodyStarts (now (w .entry)) i (stateOf (now (key .entry)) (now (b .entry)))) r (now (key .exit)) (now (b .exit)) ⌝ }
+{
+    let a = tables::first_atom_at(w, i);
+    let n = tables::atom_count_at(w, i);
+    let apart = tables::atom_kind(w, a - 1) != AtomKind::EQ;
+    check_statements::loop_rule(w, a, n, false, apart, key, b)
+}
+
+// `again` of the `loop` at row i: the end of its body shows the invariant, and that and the opposite is left.
+pub fn again_at(
+    w: &[u8],
+    i: usize,
+    returned: bool,
+    key: &mut [u64; State::SLOTS],
+    b: &mut [u8; State::BYTES],
+) -> Answer
+    requires { ⌜ Tables (now w) × (i < rowCount (now w)) × IsLoop (now w) i × Wf (now key) (now b) ⌝ }
+    ensures { λ r. ⌜ Adds (loopLeaves (now (w .entry)) i (endOf returned (stateOf (now (key .entry)) (now (b .entry))))) r (now (key .exit)) (now (b .exit)) ⌝ }
+{
+    let a = tables::first_atom_at(w, i);
+    let n = tables::atom_count_at(w, i);
+    let apart = tables::atom_kind(w, a - 1) == AtomKind::EQ;
+    check_statements::loop_rule(w, a, n, returned, apart, key, b)
 }
 
 // A statement that goes on to the next line, by its kind.

@@ -13,7 +13,8 @@ first-atom-at-requires c κs = search needs
 
 choose-requires : tie.Need-choose-requires
 choose-requires c κs =
-    (c .before .before .before .pre .0, inl (c .before .before .before .pre .1), rw (c .first-atom-at .ensures .0) (if-atom (c .before .before .before .pre .0) (c .before .before .before .pre .1)))
+    let start = c .before .before .before in
+    (start .pre .0, inl (start .pre .1), rw (c .first-atom-at .ensures .0) (if-atom (start .pre .0) (start .pre .1)))
 
 returns : tie.Need-returns
 returns c = rw (c .before .first-atom-at .ensures .0) at (c .choose .ensures)

@@ -19,21 +19,30 @@ first-atom-at-requires : tie.Need-first-atom-at-requires
 first-atom-at-requires c κs = search needs
 
 sub-choose : tie.Need-sub-choose
-sub-choose c = omega (arith, c .first-atom-at .ensures .0, loop-atom (c .before .before .before .before .before .before .before .pre .0) (c .before .before .before .before .before .before .before .pre .1))
+sub-choose c =
+    let start = c .before .before .before .before .before .before .before in
+    omega (arith, c .first-atom-at .ensures .0, loop-atom (start .pre .0) (start .pre .1))
 
 choose-requires : tie.Need-choose-requires
 choose-requires c κs =
-    (c .before .before .before .before .before .before .before .pre .0, inr (c .before .before .before .before .before .before .before .pre .1), omega (arith, c .first-atom-at .ensures .0, loop-atom (c .before .before .before .before .before .before .before .pre .0) (c .before .before .before .before .before .before .before .pre .1)))
+    let start = c .before .before .before .before .before .before .before in
+    (start .pre .0, inr (start .pre .1), omega (arith, c .first-atom-at .ensures .0, loop-atom (start .pre .0) (start .pre .1)))
 
 enum-known-s : tie.Need-enum-known-s
 enum-known-s c = search needs
 
 returns : tie.Need-returns
 returns c =
-    loop-does (c .before .before .before .before .before .before .before .before .pre .0) _ (took-cells _ _ _ (c .before .before .enum-told .given .1) (c .before .before .before .before .row-footprint .ensures .took)) _ (rw (c .before .first-atom-at .ensures .0)) (c .choose .ensures)
+    let start = c .before .before .before .before .before .before .before .before in
+    let at-row-footprint = c .before .before .before .before .row-footprint in
+    let at-enum-told = c .before .before .enum-told in
+    loop-does (start .pre .0) _ (took-cells _ _ _ (at-enum-told .given .1) (at-row-footprint .ensures .took)) _ (rw (c .before .first-atom-at .ensures .0)) (c .choose .ensures)
 
 returns-2 : tie.Need-returns-2
-returns-2 c = loop-stops (c .before .before .before .before .before .before .before .pre .0) _ (took-lacking _ _ _ (c .before .s .given .1) (c .before .before .before .row-footprint .ensures .took))
+returns-2 c =
+    let start = c .before .before .before .before .before .before .before in
+    let at-row-footprint = c .before .before .before .row-footprint in
+    loop-stops (start .pre .0) _ (took-lacking _ _ _ (c .before .s .given .1) (at-row-footprint .ensures .took))
 
 pub loop-step-spec : {M : Type 1} → statement M
 loop-step-spec =

@@ -1,6 +1,7 @@
 use Rattle.checker.proofs.Stepping.{no-kind, computes}
 use Rattle.tables.proofs.Statements.{set-means, let-means, new-means, call-means, compute-means, assert-means, release-means}
 use mathlib.Core.Path.{sym, _∙_}
+use mathlib.Core.Logic.{inl, inr}
 use native.Mathlib.Omega.{arith}
 use borrow.Author.Needs.{needs}
 use Rattle.checker.proofs.operands.statement.Statement.{statement}
@@ -87,12 +88,17 @@ returns-8 c =
     absurd
     (no-kind _ (start .pre .0 .row-fits (start .args .i) (start .pre .1) .operands .kind) (start .pre .2) (λ e. other .0 .0 .0 .0 .0 .1 (is ∙ e))
     (λ e. other .0 .0 .0 .0 .1 (is ∙ e)) (λ e. other .0 .0 .0 .1 (is ∙ e)) (λ e. other .0 .0 .1 (is ∙ e)) (λ e. other .0 .1 (is ∙ e))
-    (λ e. other .1 (is ∙ e)) (omega (arith, is, c .if1 .taken)))
+    (λ e. other .1 (is ∙ e)) (inl (omega (arith, is, c .if1 .taken))))
 
 returns-9 : tie.Need-returns-9
 returns-9 c =
     let start = c .before .before .before .before .before in
-    absurd (omega (arith, start .pre .0 .row-fits (start .args .i) (start .pre .1) .operands .kind .1, c .before .before .before .kind-at .ensures, c .if2 .left))
+    let is = c .before .before .before .kind-at .ensures in
+    let other = c .before .before .match .rest in
+    absurd
+    (no-kind _ (start .pre .0 .row-fits (start .args .i) (start .pre .1) .operands .kind) (start .pre .2) (λ e. other .0 .0 .0 .0 .0 .1 (is ∙ e))
+    (λ e. other .0 .0 .0 .0 .1 (is ∙ e)) (λ e. other .0 .0 .0 .1 (is ∙ e)) (λ e. other .0 .0 .1 (is ∙ e)) (λ e. other .0 .1 (is ∙ e))
+    (λ e. other .1 (is ∙ e)) (inr (omega (arith, is, c .if2 .left))))
 
 pub statement-spec : {M : Type 1} → statement M
 statement-spec =
