@@ -2,12 +2,14 @@
 mod branches;
 mod objects;
 
-pub use branches::{if_rule, join_rule, loop_rule};
-pub use objects::new_rule;
+pub use branches::if_rule;
+pub use branches::join_rule;
+pub use branches::loop_rule;
 use check_entailment::Answer;
 use check_equality::State;
 use check_equality::Term;
 use check_state::Resolved;
+pub use objects::new_rule;
 use rules::Machine;
 ghost use mathlib.Core.Path.{_≡_};
 ghost use Prim.Native.Nat.{_+_, _≤_, _<_};

@@ -13,12 +13,12 @@ use Rattle.rules.specs.Limits.{most-branches}
 use Rattle.rules.specs.Grammar.{statementNumber, isClosingNumber, GoesOn}
 use Rattle.rules.specs.Answers as Answers
 use Rattle.rules.specs.Answers.{accepted, refused, then, malformed}
-use Rattle.rules.specs.Syntax.{Formula, Rel, if, loop}
+use Rattle.rules.specs.Syntax.{Formula}
 use Rattle.rules.specs.State as Rules
 use Rattle.rules.specs.Base.{ok, _>>=_}
-use Rattle.rules.specs.Rules.{End, Open, inFirst, inSecond, inLoop, ifRule, returnRule, showEnd, joinRule, loopRule, checkFrom, checkMethod, checkBlocks, checkProgram}
+use Rattle.rules.specs.Rules.{End, Open, inFirst, inSecond, inLoop, returnRule, showEnd, joinRule, loopRule, checkFrom, checkMethod, checkBlocks, checkProgram}
 use Rattle.rules.proofs.Lists.{decide-eq}
-use Rattle.tables.specs.Decode.{operandsAt, run, kindAt, xAt, leftAt, rightAt, lineAt, stmtAt, formulaAt, rowCount, programIn, methodAt, methodsFrom, methodCount, mainFirst, atomsFrom, requiresAt, ensuresAt, firstRowAt, byteAt, halfAt, methodPlace}
+use Rattle.tables.specs.Decode.{operandsAt, run, kindAt, xAt, firstAtomAt, leftAt, rightAt, ifAt, loopAt, lineAt, stmtAt, formulaAt, rowCount, programIn, methodAt, methodsFrom, methodCount, mainFirst, atomsFrom, requiresAt, ensuresAt, firstRowAt, byteAt, halfAt, methodPlace}
 use Rattle.check_formulas.specs.Formulas.{formula}
 use Rattle.tables.specs.Tables.{Tables}
 use Rattle.check_entailment.specs.declared.Answer.{Answer}
@@ -29,8 +29,8 @@ use Rattle.check_statements.proofs.Ruled.{Refused, adds-same, empty-add}
 use Rattle.check_statements.proofs.Conditions.{loop-states}
 use Rattle.checker.specs.declared.Out.{Out}
 use Rattle.checker.specs.declared.Verdict.{Verdict}
-use Rattle.checker.specs.Checked.{outcome, verdictOf, refusalOf, conditionAt, relationAt, bodyStarts, loopLeaves, Nests, Stands, verdictFrom, Stepped, stoppedAt, onward, passedAt, Went, Ran, Passed, Returns, Ended, Turned, Closed, BodyClosed}
-use Rattle.tables.proofs.Statements.{return-means, else-means, join-means, loop-means, again-means, end-means}
+use Rattle.checker.specs.Checked.{outcome, verdictOf, refusalOf, branches, conditionAt, relationAt, bodyStarts, loopLeaves, Nests, Stands, verdictFrom, Stepped, stoppedAt, onward, passedAt, Went, Ran, Passed, Returns, Ended, Turned, Closed, BodyClosed}
+use Rattle.tables.proofs.Statements.{return-means, if-means, else-means, join-means, loop-means, again-means, end-means}
 use Rattle.checker.proofs.Stepping.{closer, step-verdict, step-nests, return-verdict, return-nests, after-return, if-verdict, if-nests, else-verdict, else-out, else-alone, else-nests, join-verdict, join-out, join-alone, join-nests, loop-verdict, loop-nests, again-verdict, again-out, again-alone, again-nests, end-inside, end-verdict, at-line}
 use Rattle.checker.proofs.Verdict.{the-type as verdict-type}
 
@@ -214,8 +214,8 @@ module _ (w : List ℕ) (T : Tables w) where
           (kindAt w (end .at) ≡ 18 → ⊥) → (k : Answer) (key b : List ℕ) → Wf key b →
           ((d : ℕ) → Nests w (end .at) (suc d) → Nests w (end .at + 1) d) →
           ((φ : Formula ℕ) (os : List Open) →
-              verdictFrom w (end .at) (endOf (end .returned) t) φ (o ∷ os)
-              ≡ outcome k (lineAt w (end .at)) (verdictFrom w (end .at + 1) (some (stateOf key b)) φ os)) →
+          verdictFrom w (end .at) (endOf (end .returned) t) φ (o ∷ os)
+          ≡ outcome k (lineAt w (end .at)) (verdictFrom w (end .at + 1) (some (stateOf key b)) φ os)) →
           (r : Out) → r ≡ passedAt k (end .at) → Closed w end t o r key b
       closed-by m k key b f nests verdict r er =
           rw er
@@ -304,16 +304,20 @@ module _ (w : List ℕ) (T : Tables w) where
           further = λ _. omega arith;
         }
 
+-- a part that ran has an end
+pub part-ends : {w : List ℕ} {depth i : ℕ} {φ : Formula ℕ} {s : Rules.State} {r : Out} {key b : List ℕ} → Ran w depth i φ s r key b → Ended w r
+part-ends R = record { within = R .went .within; closes = R .closes }
+
 -- A ROW
-module _ (w : List ℕ) (depth i a n : ℕ) (Q : Stands w depth i a n) (s : Rules.State) where
+module _ {w : List ℕ} {depth i a n : ℕ} (Q : Stands w depth i a n) where
   abbrev φ : Formula ℕ
   φ = atomsFrom w a n
 
   -- refused at row i or further on
   stops :
-      (r : Out) (key b : List ℕ) → Refused (r .answer) → Wf key b → i ≤ r .at → r .at < rowCount w →
+      (s : Rules.State) (r : Out) (key b : List ℕ) → Refused (r .answer) → Wf key b → i ≤ r .at → r .at < rowCount w →
       ((os : List Open) (v : Result) → verdictFrom w i (some s) φ os ≡ outcome (r .answer) (lineAt w (r .at)) v) → Passed w depth i φ s r key b
-  stops r key b o f h g e =
+  stops s r key b o f h g e =
       record {
         went = record { wf = f; on = h; within = g; nests = λ d. never o d; same = λ os. e os _ };
         further = λ d. never o d;
@@ -321,8 +325,9 @@ module _ (w : List ℕ) (depth i a n : ℕ) (Q : Stands w depth i a n) (s : Rule
 
   -- a statement
   pub step-passes :
-      (k : Answer) (key b : List ℕ) → Stepped w i s k key b → GoesOn (kindAt w i) → (r : Out) → r ≡ passedAt k i → Passed w depth i φ s r key b
-  step-passes k key b S l r er =
+      {s : Rules.State} {k : Answer} {key b : List ℕ} → Stepped w i s k key b → GoesOn (kindAt w i) → {r : Out} → r ≡ passedAt k i →
+      Passed w depth i φ s r key b
+  step-passes {s} {k} {key} {b} S l er =
       rw er
       record {
         went =
@@ -337,97 +342,139 @@ module _ (w : List ℕ) (depth i a n : ℕ) (Q : Stands w depth i a n) (s : Rule
       }
 
   -- one more is open
-  deeper : (suc (most-branches - depth) ≤ 4) × Nests w (i + 1) (suc (most-branches - depth)) → (0 < depth) × Nests w (i + 1) (most-branches - (depth - 1))
-  deeper p =
-      let l = p .0 in
+  abbrev Opens : Type 0
+  Opens = (suc (most-branches - depth) ≤ 4) × Nests w (i + 1) (suc (most-branches - depth))
+
+  deeper : Opens → 0 < depth
+  deeper p = omega (arith, p .0, Q .deep)
+
+  inner : Opens → (kindAt w i ≡ 18 → ⊥) → Stands w (depth - 1) (i + 1) a n
+  inner p e =
+      let h = deeper p in
       let d = Q .deep in
-      let e : suc (most-branches - depth) ≡ most-branches - (depth - 1) = omega arith in
-      (omega arith, subst (λ (m : ℕ). Nests w (i + 1) m) e (p .1))
+      let c : suc (most-branches - depth) ≡ most-branches - (depth - 1) = omega arith in
+      record {
+        tables = Q .tables;
+        deep = omega arith;
+        within = goes-on w (Q .tables) i (Q .within) e;
+        nests = subst (λ (m : ℕ). Nests w (i + 1) m) c (p .1);
+        atoms = Q .atoms;
+      }
 
   -- and is closed
-  shallower : 0 < depth → (j k : ℕ) → ((d : ℕ) → Nests w j (suc d) → Nests w k d) → Nests w j (most-branches - (depth - 1)) → Nests w k (most-branches - depth)
-  shallower h j k f t =
+  shallower : Opens → (j k : ℕ) → ((d : ℕ) → Nests w j (suc d) → Nests w k d) → Nests w j (most-branches - (depth - 1)) → Nests w k (most-branches - depth)
+  shallower p j k f t =
+      let h = deeper p in
       let d = Q .deep in
       let c : most-branches - (depth - 1) ≡ suc (most-branches - depth) = omega arith in
       f (most-branches - depth) (subst (λ (m : ℕ). Nests w j m) c t)
 
   -- a branch
-  module _ (m : Rel) (x y : Rules.Term) (is : stmtAt w i ≡ if m x y) (k : Answer) (key₁ b₁ key₂ b₂ : List ℕ) (P : Parts (ifRule m x y s) k key₁ b₁ key₂ b₂) where
-    pub if-stops : Refused k → (r : Out) → r ≡ stoppedAt k i → Passed w depth i φ s r key₁ b₁
-    if-stops o r er =
-        rw er (stops (stoppedAt k i) key₁ b₁ o (P .first) (omega arith) (Q .within) (λ os v. if-verdict w i (Q .within) m x y is s k key₁ b₁ key₂ b₂ P φ os ∙ refused-outcome k o _ _ _))
+  module _ (q : kindAt w i ≡ 15) where
+    is-if : stmtAt w i ≡ ifAt w (firstAtomAt w i)
+    is-if = if-means w (operandsAt w i) q
 
-    pub if-deep : (0 < depth) × Nests w (i + 1) (most-branches - (depth - 1))
-    if-deep = deeper (if-nests w i (Q .within) m x y is (most-branches - depth) (Q .nests))
+    if-opens : Opens
+    if-opens = if-nests w i (Q .within) _ _ _ is-if (most-branches - depth) (Q .nests)
 
-    module _ (done : k ≡ Answer.Done) (one turn : Out) (key₃ b₃ : List ℕ) (R : Ran w (depth - 1) (i + 1) φ (stateOf key₁ b₁) one key₃ b₃) (U : Turned w one turn) where
-      -- the first part's end
-      abbrev u₁ : End
-      u₁ = endOf (turn .returned) (stateOf key₃ b₃)
+    pub if-deep : 0 < depth
+    if-deep = deeper if-opens
 
-      first-verdict : (os : List Open) → verdictFrom w i (some s) φ os ≡ outcome (turn .answer) (lineAt w (turn .at)) (verdictFrom w (turn .at + 1) (some (stateOf key₂ b₂)) φ (inSecond u₁ ∷ os))
-      first-verdict os =
-          if-verdict w i (Q .within) m x y is s k key₁ b₁ key₂ b₂ P φ os ∙ done-outcome k done _ _
-          ∙ R .went .same (inFirst (stateOf key₂ b₂) ∷ os) ∙ U .same (stateOf key₃ b₃) (stateOf key₂ b₂) φ os
+    pub if-inner : Stands w (depth - 1) (i + 1) a n
+    if-inner = inner if-opens (λ e. omega (arith, e, q))
 
-      pub turn-stops : Refused (turn .answer) → Passed w depth i φ s turn key₃ b₃
-      turn-stops o =
-          stops turn key₃ b₃ o (R .went .wf) (omega (arith, R .went .on, U .place)) (omega (arith, R .went .within, U .place)) (λ os v. first-verdict os ∙ refused-outcome (turn .answer) o _ _ _)
+    module _ (s : Rules.State) {k : Answer} {key₁ b₁ key₂ b₂ : List ℕ} (P : Parts (branches w i s) k key₁ b₁ key₂ b₂) where
+      parts-verdict : (os : List Open) → verdictFrom w i (some s) φ os ≡ outcome k (lineAt w i) (verdictFrom w (i + 1) (some (stateOf key₁ b₁)) φ (inFirst (stateOf key₂ b₂) ∷ os))
+      parts-verdict os = if-verdict w i (Q .within) _ _ _ is-if s k key₁ b₁ key₂ b₂ P φ os
 
-      pub turn-nests : turn .answer ≡ Answer.Done → Nests w (turn .at + 1) (most-branches - (depth - 1))
-      turn-nests e = U .nests e _ (R .went .nests (U .was e))
+      pub if-stops : Refused k → {r : Out} → r ≡ stoppedAt k i → Passed w depth i φ s r key₁ b₁
+      if-stops o er = rw er (stops s (stoppedAt k i) key₁ b₁ o (P .first) (omega arith) (Q .within) (λ os v. parts-verdict os ∙ refused-outcome k o _ _ _))
 
-      pub join-passes :
-          turn .answer ≡ Answer.Done → (two fin : Out) (key₄ b₄ key₅ b₅ : List ℕ) → Ran w (depth - 1) (turn .at + 1) φ (stateOf key₂ b₂) two key₄ b₄ →
-          Closed w two (stateOf key₄ b₄) (inSecond u₁) fin key₅ b₅ → Passed w depth i φ s fin key₅ b₅
-      join-passes e two fin key₄ b₄ key₅ b₅ S J =
+      module _ (done : k ≡ Answer.Done) {one turn : Out} {key₃ b₃ : List ℕ} (R : Ran w (depth - 1) (i + 1) φ (stateOf key₁ b₁) one key₃ b₃) (U : Turned w one turn) where
+        -- the first part's end
+        abbrev u₁ : End
+        u₁ = endOf (turn .returned) (stateOf key₃ b₃)
+
+        first-verdict : (os : List Open) → verdictFrom w i (some s) φ os ≡ outcome (turn .answer) (lineAt w (turn .at)) (verdictFrom w (turn .at + 1) (some (stateOf key₂ b₂)) φ (inSecond u₁ ∷ os))
+        first-verdict os =
+            parts-verdict os ∙ done-outcome k done _ _ ∙ R .went .same (inFirst (stateOf key₂ b₂) ∷ os)
+            ∙ U .same (stateOf key₃ b₃) (stateOf key₂ b₂) φ os
+
+        pub turn-stops : Refused (turn .answer) → Passed w depth i φ s turn key₃ b₃
+        turn-stops o =
+            stops s turn key₃ b₃ o (R .went .wf) (omega (arith, R .went .on, U .place)) (omega (arith, R .went .within, U .place))
+            (λ os v. first-verdict os ∙ refused-outcome (turn .answer) o _ _ _)
+
+        pub turn-inner : turn .answer ≡ Answer.Done → Stands w (depth - 1) (turn .at + 1) a n
+        turn-inner e =
+            record {
+              tables = Q .tables;
+              deep = if-inner .deep;
+              within = U .next e;
+              nests = U .nests e _ (R .went .nests (U .was e));
+              atoms = Q .atoms;
+            }
+
+        pub join-passes :
+            turn .answer ≡ Answer.Done → {two fin : Out} {key₄ b₄ key₅ b₅ : List ℕ} → Ran w (depth - 1) (turn .at + 1) φ (stateOf key₂ b₂) two key₄ b₄ →
+            Closed w two (stateOf key₄ b₄) (inSecond u₁) fin key₅ b₅ → Passed w depth i φ s fin key₅ b₅
+        join-passes e {two} {fin} S J =
+            record {
+              went =
+                  record {
+                    wf = J .wf;
+                    on = omega (arith, R .went .on, U .place, S .went .on, J .on);
+                    within = J .within;
+                    nests = λ f. shallower if-opens (two .at) (fin .at) (J .nests f) (S .went .nests (J .was f));
+                    same = λ os. first-verdict os ∙ done-outcome (turn .answer) e _ _ ∙ S .went .same (inSecond u₁ ∷ os) ∙ J .same φ os;
+                  };
+              further = λ _. omega (arith, R .went .on, U .place, S .went .on, J .on);
+            }
+
+  -- a loop
+  module _ (q : kindAt w i ≡ 21) where
+    is-loop : stmtAt w i ≡ loopAt w (conditionAt w i) (formulaAt w i)
+    is-loop = loop-means w (operandsAt w i) q
+
+    loop-opens : Opens
+    loop-opens = loop-nests w i (Q .within) _ _ _ _ is-loop (most-branches - depth) (Q .nests)
+
+    pub loop-deep : 0 < depth
+    loop-deep = deeper loop-opens
+
+    pub loop-inner : Stands w (depth - 1) (i + 1) a n
+    loop-inner = inner loop-opens (λ e. omega (arith, e, q))
+
+    module _ (s : Rules.State) {k : Answer} {key₁ b₁ : List ℕ} (A : Adds (bodyStarts w i s) k key₁ b₁) where
+      -- the state after the loop, too
+      abbrev states :
+          (after : Rules.State)
+          × (answered k (stateOf key₁ b₁, after) ≡ loopRule (relationAt w i) (leftAt w (conditionAt w i)) (rightAt w (conditionAt w i)) (formulaAt w i) s)
+          × (k ≡ Answer.Done → (e : End) → loopLeaves w i e ≡ (showEnd (formulaAt w i) e >>= λ u. ok after))
+      states = loop-states (relationAt w i) (leftAt w (conditionAt w i)) (rightAt w (conditionAt w i)) (formulaAt w i) s k (stateOf key₁ b₁) (A .same)
+
+      body-verdict : (os : List Open) → verdictFrom w i (some s) φ os ≡ outcome k (lineAt w i) (verdictFrom w (i + 1) (some (stateOf key₁ b₁)) φ (inLoop (formulaAt w i) (states .0) ∷ os))
+      body-verdict os = loop-verdict w i (Q .within) _ _ _ (formulaAt w i) is-loop s (stateOf key₁ b₁) (states .0) k (states .1) φ os
+
+      pub loop-stops : Refused k → {r : Out} → r ≡ stoppedAt k i → Passed w depth i φ s r key₁ b₁
+      loop-stops o er = rw er (stops s (stoppedAt k i) key₁ b₁ o (A .wf) (omega arith) (Q .within) (λ os v. body-verdict os ∙ refused-outcome k o _ _ _))
+
+      pub loop-passes :
+          k ≡ Answer.Done → {end fin : Out} {key₂ b₂ key₃ b₃ : List ℕ} → Ran w (depth - 1) (i + 1) φ (stateOf key₁ b₁) end key₂ b₂ →
+          BodyClosed w i end (stateOf key₂ b₂) fin key₃ b₃ → Passed w depth i φ s fin key₃ b₃
+      loop-passes d {end} {fin} R B =
+          let C = B (states .0) (states .2 d) in
           record {
             went =
                 record {
-                  wf = J .wf;
-                  on = omega (arith, R .went .on, U .place, S .went .on, J .on);
-                  within = J .within;
-                  nests = λ f. shallower (if-deep .0) (two .at) (fin .at) (J .nests f) (S .went .nests (J .was f));
-                  same = λ os. first-verdict os ∙ done-outcome (turn .answer) e _ _ ∙ S .went .same (inSecond u₁ ∷ os) ∙ J .same φ os;
+                  wf = C .wf;
+                  on = omega (arith, R .went .on, C .on);
+                  within = C .within;
+                  nests = λ f. shallower loop-opens (end .at) (fin .at) (C .nests f) (R .went .nests (C .was f));
+                  same = λ os. body-verdict os ∙ done-outcome k d _ _ ∙ R .went .same (inLoop (formulaAt w i) (states .0) ∷ os) ∙ C .same φ os;
                 };
-            further = λ _. omega (arith, R .went .on, U .place, S .went .on, J .on);
+            further = λ _. omega (arith, R .went .on, C .on);
           }
-
-  -- a loop
-  module _ (q : kindAt w i ≡ 21) (k : Answer) (key₁ b₁ : List ℕ) (A : Adds (bodyStarts w i s) k key₁ b₁) where
-    is-loop : stmtAt w i ≡ loop (relationAt w i) (leftAt w (conditionAt w i)) (rightAt w (conditionAt w i)) (formulaAt w i)
-    is-loop = loop-means w (operandsAt w i) q
-
-    abbrev states : (after : Rules.State) × (answered k (stateOf key₁ b₁, after) ≡ loopRule (relationAt w i) (leftAt w (conditionAt w i)) (rightAt w (conditionAt w i)) (formulaAt w i) s)
-        × (k ≡ Answer.Done → (e : End) → loopLeaves w i e ≡ (showEnd (formulaAt w i) e >>= λ u. ok after))
-    states = loop-states (relationAt w i) (leftAt w (conditionAt w i)) (rightAt w (conditionAt w i)) (formulaAt w i) s k (stateOf key₁ b₁) (A .same)
-
-    body-verdict : (os : List Open) → verdictFrom w i (some s) φ os ≡ outcome k (lineAt w i) (verdictFrom w (i + 1) (some (stateOf key₁ b₁)) φ (inLoop (formulaAt w i) (states .0) ∷ os))
-    body-verdict os = loop-verdict w i (Q .within) _ _ _ (formulaAt w i) is-loop s (stateOf key₁ b₁) (states .0) k (states .1) φ os
-
-    pub loop-stops : Refused k → (r : Out) → r ≡ stoppedAt k i → Passed w depth i φ s r key₁ b₁
-    loop-stops o r er =
-        rw er (stops (stoppedAt k i) key₁ b₁ o (A .wf) (omega arith) (Q .within) (λ os v. body-verdict os ∙ refused-outcome k o _ _ _))
-
-    pub loop-deep : (0 < depth) × Nests w (i + 1) (most-branches - (depth - 1))
-    loop-deep = deeper (loop-nests w i (Q .within) _ _ _ (formulaAt w i) is-loop (most-branches - depth) (Q .nests))
-
-    pub loop-passes :
-        k ≡ Answer.Done → (end fin : Out) (key₂ b₂ key₃ b₃ : List ℕ) → Ran w (depth - 1) (i + 1) φ (stateOf key₁ b₁) end key₂ b₂ →
-        BodyClosed w i end (stateOf key₂ b₂) fin key₃ b₃ → Passed w depth i φ s fin key₃ b₃
-    loop-passes d end fin key₂ b₂ key₃ b₃ R B =
-        let C = B (states .0) (states .2 d) in
-        record {
-          went =
-              record {
-                wf = C .wf;
-                on = omega (arith, R .went .on, C .on);
-                within = C .within;
-                nests = λ f. shallower (loop-deep .0) (end .at) (fin .at) (C .nests f) (R .went .nests (C .was f));
-                same = λ os. body-verdict os ∙ done-outcome k d _ _ ∙ R .went .same (inLoop (formulaAt w i) (states .0) ∷ os) ∙ C .same φ os;
-              };
-          further = λ _. omega (arith, R .went .on, C .on);
-        }
 
 -- A BLOCK
 -- what the loop keeps
@@ -438,19 +485,22 @@ pub record Going (w : List ℕ) (depth from : ℕ) (φ : Formula ℕ) (start : R
   pub nests : Nests w i (most-branches - depth)
   pub same : (os : List Open) → verdictFrom w from (some start) φ os ≡ verdictFrom w i (some (stateOf key b)) φ os
 
-pub begin : (w : List ℕ) (depth from : ℕ) (φ : Formula ℕ) (key b : List ℕ) → Wf key b → from < rowCount w → Nests w from (most-branches - depth) → Going w depth from φ (stateOf key b) from key b
-begin w depth from φ key b f h n = record { wf = f; on = omega arith; within = h; nests = n; same = λ os. refl }
+pub begin : {w : List ℕ} {depth from a n : ℕ} {key b : List ℕ} → Stands w depth from a n → Wf key b → Going w depth from (atomsFrom w a n) (stateOf key b) from key b
+begin Q f = record { wf = f; on = omega arith; within = Q .within; nests = Q .nests; same = λ os. refl }
 
-module _ (w : List ℕ) (depth from : ℕ) (φ : Formula ℕ) (start : Rules.State) (i : ℕ) (key b : List ℕ) (G : Going w depth from φ start i key b) where
-  pub ends : isClosingNumber (kindAt w i) ≡ true → (r : Out) → r ≡ stoppedAt Answer.Done i → Ran w depth from φ start r key b
-  ends k r er =
+module _ {w : List ℕ} {depth from : ℕ} {φ : Formula ℕ} {start : Rules.State} {i : ℕ} {key b : List ℕ} (G : Going w depth from φ start i key b) where
+  pub stands : {a n : ℕ} → Stands w depth from a n → Stands w depth i a n
+  stands Q = record { tables = Q .tables; deep = Q .deep; within = G .within; nests = G .nests; atoms = Q .atoms }
+
+  pub ends : isClosingNumber (kindAt w i) ≡ true → {r : Out} → r ≡ stoppedAt Answer.Done i → Ran w depth from φ start r key b
+  ends k er =
       rw er
       record {
         went = record { wf = G .wf; on = G .on; within = G .within; nests = λ _. G .nests; same = λ os. G .same os ∙ sym (done-outcome Answer.Done refl _ _) };
         closes = λ _ _. k;
       }
 
-  module _ (r : Out) (key′ b′ : List ℕ) (P : Passed w depth i φ (stateOf key b) r key′ b′) where
+  module _ {r : Out} {key′ b′ : List ℕ} (P : Passed w depth i φ (stateOf key b) r key′ b′) where
     went-on : Went w depth from φ start r key′ b′
     went-on =
         let Q = P .went in
@@ -494,7 +544,7 @@ module _ (w : List ℕ) (T : Tables w) (from : ℕ) (φ : Formula ℕ) (s : Rule
     pub block-open : (kindAt w (r .at) ≡ 18 → ⊥) → verdictOf (Verdict.Refused Answer.Malformed line) ≡ verdictFrom w from (some s) φ []
     block-open n =
         malformed-verdict line ∙ ap (λ (l : ℕ). refused malformed l) el
-        ∙ sym (arrived ∙ out-of-place w T r (record { within = R .went .within; closes = R .closes }) e (stateOf key b) φ []
+        ∙ sym (arrived ∙ out-of-place w T r (part-ends R) e (stateOf key b) φ []
         (λ k. else-alone w (r .at) (R .went .within) (else-means w (operandsAt w (r .at)) k) u φ)
         (λ k. join-alone w (r .at) (R .went .within) (formulaAt w (r .at)) (join-means w (operandsAt w (r .at)) k) u φ) (λ k. absurd (n k))
         (λ k. again-alone w (r .at) (R .went .within) (again-means w (operandsAt w (r .at)) k) u φ))

@@ -61,8 +61,8 @@ fn branch(
     parts::joined(w, two, one.returned, key, b, &key2, &b2)
 }
 
-// The loop whose `loop` is row i, up to its `again`.
-fn turns(
+// The loop whose `loop` is row i: its body, up to its `again`.
+fn body(
     w: &[u8],
     depth: usize,
     i: usize,
@@ -98,7 +98,7 @@ fn row(
     match tables::kind_at(w, i) {
         Kind::RETURN => parts::return_at(w, i, a, n, key, b),
         Kind::IF => branch(w, depth, i, a, n, key, b),
-        Kind::LOOP => turns(w, depth, i, a, n, key, b),
+        Kind::LOOP => body(w, depth, i, a, n, key, b),
         _ => parts::passed(operands::statement(w, i, key, b), i),
     }
 }

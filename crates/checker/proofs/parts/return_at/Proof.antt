@@ -23,10 +23,9 @@ stopped-requires c κs = tt
 
 returns : tie.Need-returns
 returns c =
-    let at-before = c .before .before .before .before .before .before .before .before in
-    let at-x-at = c .before .before .before .before .before .x-at in
+    let start = c .before .before .before .before .before .before .before in
     let at-return-rule = c .before .before .return-rule in
-    let start = at-before in let at-return-rule = at-return-rule in return-stops _ (start .pre .0) _ (start .pre .1) (start .pre .2) _ _ _ _ (at-return-rule .ensures .1) _ (at-x-at .ensures .0) _ (at-return-rule .ensures .0) (c .before .match .keys2) _ (c .stopped .ensures)
+    return-stops _ (start .pre .0) _ (start .pre .1) (start .pre .2) _ _ _ _ (at-return-rule .ensures .1) _ (c .before .before .before .before .before .x-at .ensures .0) _ (at-return-rule .ensures .0) (c .before .match .keys2) _ (c .stopped .ensures)
 
 add-t9 : tie.Need-add-t9
 add-t9 c =
@@ -35,10 +34,9 @@ add-t9 c =
 
 returns-2 : tie.Need-returns-2
 returns-2 c =
-    let at-before = c .before .before .before .before .before .before .before .before in
-    let at-x-at = c .before .before .before .before .before .x-at in
+    let start = c .before .before .before .before .before .before .before in
     let at-return-rule = c .before .before .return-rule in
-    let start = at-before in let at-return-rule = at-return-rule in return-goes _ (start .pre .0) _ (start .pre .1) (start .pre .2) _ _ _ _ (at-return-rule .ensures .1) _ (at-x-at .ensures .0) _ (at-return-rule .ensures .0) (c .enum-told .given .1)
+    return-goes _ (start .pre .0) _ (start .pre .1) (start .pre .2) _ _ _ _ (at-return-rule .ensures .1) _ (c .before .before .before .before .before .x-at .ensures .0) _ (at-return-rule .ensures .0) (c .enum-told .given .1)
 
 pub return-at-spec : {M : Type 1} → statement M
 return-at-spec =

@@ -17,19 +17,15 @@ kind-at-requires c κs =
 
 returns-2 : tie.Need-returns-2
 returns-2 c =
-    let start = c .before .before .before .before .before in
-    let at-enum-told = c .before .before .enum-told in
-    turned-else _ (start .pre .0) _ (start .pre .1) (at-enum-told .given .1) (sym (c .before .kind-at .ensures) ∙ c .if1 .taken)
+    turned-else _ (c .before .before .before .before .before .pre .0) _ (c .before .before .before .before .before .pre .1) (c .before .before .enum-told .given .1) (sym (c .before .kind-at .ensures) ∙ c .if1 .taken)
 
 stopped-requires : tie.Need-stopped-requires
 stopped-requires c κs = tt
 
 returns-3 : tie.Need-returns-3
 returns-3 c =
-    let at-before = c .before .before .before .before .before .before .before in
-    let at-enum-told = c .before .before .before .enum-told in
-    let at-kind-at = c .before .before .kind-at in
-    let start = at-before in turned-wrong _ (start .pre .0) _ (start .pre .1) (at-enum-told .given .1) (λ e. c .before .if1 .left (at-kind-at .ensures ∙ e)) _ (c .stopped .ensures)
+    let start = c .before .before .before .before .before .before in
+    turned-wrong _ (start .pre .0) _ (start .pre .1) (c .before .before .before .enum-told .given .1) (λ e. c .before .if1 .left (c .before .before .kind-at .ensures ∙ e)) _ (c .stopped .ensures)
 
 pub turned-spec : {M : Type 1} → statement M
 turned-spec = tie.close (tie.spec enum-told returns kind-at-requires returns-2 stopped-requires returns-3)
