@@ -13,7 +13,7 @@ use denote.Enum.Declared.{tagOf}
 use Rattle.rules.specs.Base.{Try, ok, no, _>>=_, _>>_, check, orElse}
 use Rattle.rules.specs.Limits.{most-permissions}
 use Rattle.rules.specs.Answers.{Refusal, unresolved, noPermission, notShown}
-use Rattle.rules.specs.Syntax.{Formula, Atom, Rel, same, eq, ne, num, null, var, path, acc, cmp}
+use Rattle.rules.specs.Syntax.{Formula, Atom, same, eq, ne, num, null, var, path, acc, cmp}
 use Rattle.rules.specs.State as Rules
 use Rattle.rules.specs.State.{Permission, equalIn, names, split, pathOf, holdsIn}
 use Rattle.rules.specs.Rules.{End, actual, substTerm, substAtom, addEqual, setRule, assignRule, addFields, initial, addInitial, newRule, callRule, returnRule, showEnd, joinRule}

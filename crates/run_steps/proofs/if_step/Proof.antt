@@ -1,5 +1,4 @@
 use mathlib.Core.Logic.{inl}
-use Rattle.run_steps.specs.States.{Does, ifOn}
 use Rattle.run_steps.proofs.Doing.{if-atom}
 use borrow.Author.Needs.{needs}
 use Rattle.run_steps.proofs.if_step.Statement.{statement}
