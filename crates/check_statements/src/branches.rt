@@ -3,17 +3,17 @@ use check_entailment::Answer;
 use check_equality::State;
 use check_equality::Term;
 ghost use mathlib.Core.Path.{_≡_};
-ghost use Prim.Native.Nat.{_+_, _-_, _≤_};
+ghost use Prim.Native.Nat.{_+_, _≤_};
 ghost use lib.ListN.{length};
 ghost use Rattle.rules.specs.Limits.{work-bytes};
 ghost use Rattle.rules.specs.Rules.{ifRule};
 ghost use Rattle.tables.specs.Layout.{most-atom-rows};
-ghost use Rattle.tables.specs.Decode.{leftAt, rightAt, atomsFrom};
+ghost use Rattle.tables.specs.Decode.{atomsFrom};
 ghost use Rattle.check_equality.specs.Keys.{meaning};
 ghost use Rattle.check_equality.specs.Links.{relOf};
 ghost use Rattle.check_state.specs.States.{Wf, stateOf};
 ghost use Rattle.check_entailment.specs.Answers.{Adds};
-ghost use Rattle.check_statements.specs.Statements.{Parts, endOf, JoinGives, onlyKnown};
+ghost use Rattle.check_statements.specs.Statements.{Parts, endOf, JoinGives, loopKnown};
 
 // `if eq l r`, or where `apart` `if ne l r`: the condition in the first state, its opposite in the second, which is a copy of the first.
 pub fn if_rule(
@@ -74,7 +74,7 @@ pub fn loop_rule(
     b: &mut [u8; State::BYTES],
 ) -> Answer
     requires { ⌜ (length (now w) ≡ work-bytes) × (1 ≤ a) × (a + n ≤ most-atom-rows) × Wf (now key) (now b) ⌝ }
-    ensures { λ r. ⌜ Adds (onlyKnown (relOf apart) (leftAt (now (w .entry)) (a - 1)) (rightAt (now (w .entry)) (a - 1)) (atomsFrom (now (w .entry)) a n) (endOf returned (stateOf (now (key .entry)) (now (b .entry))))) r (now (key .exit)) (now (b .exit)) ⌝ }
+    ensures { λ r. ⌜ Adds (loopKnown (now (w .entry)) a n (relOf apart) (endOf returned (stateOf (now (key .entry)) (now (b .entry))))) r (now (key .exit)) (now (b .exit)) ⌝ }
 {
     let k = crate::show_end(w, a, n, returned, key, b);
     let Answer::Done = k else {

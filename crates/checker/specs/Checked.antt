@@ -14,13 +14,13 @@ use Rattle.rules.specs.Base.{Try, ok, _>>=_}
 use Rattle.rules.specs.Syntax.{Rel, Formula, Simple, simple, set, assign, compute, new, call}
 use Rattle.rules.specs.State as Rules
 use Rattle.rules.specs.Rules.{End, Open, inFirst, inSecond, inLoop, opposite, rule, ifRule, showEnd, checkRows}
-use Rattle.tables.specs.Decode.{kindAt, xAt, yAt, zAt, memberAt, firstAtomAt, lineAt, stmtAt, formulaAt, rowCount, allRows, programIn, atomPlace, byteAt, relOf, operationOf, leftAt, rightAt}
+use Rattle.tables.specs.Decode.{kindAt, xAt, yAt, zAt, memberAt, firstAtomAt, atomCountAt, lineAt, stmtAt, formulaAt, rowCount, allRows, programIn, atomPlace, byteAt, relOf, operationOf, leftAt, rightAt}
 use Rattle.tables.specs.Layout.{most-atom-rows}
 use Rattle.tables.specs.Tables.{nested, Tables}
 use Rattle.check_entailment.specs.declared.Answer.{Answer}
 use Rattle.check_state.specs.States.{Wf, stateOf}
 use Rattle.check_entailment.specs.Answers.{Adds}
-use Rattle.check_statements.specs.Statements.{endOf, onlyKnown}
+use Rattle.check_statements.specs.Statements.{endOf, loopKnown}
 use Rattle.checker.specs.declared.Out.{Out}
 use Rattle.checker.specs.declared.Verdict.{Verdict}
 
@@ -97,20 +97,16 @@ branches w i s =
 abbrev pub conditionAt : List ℕ → ℕ → ℕ
 conditionAt w i = firstAtomAt w i - 1
 
--- what is known where the condition is as n says: the invariant, shown by e, and that
-abbrev pub knownAt : List ℕ → ℕ → Rel → End → Try Refusal Rules.State
-knownAt w i n e = onlyKnown n (leftAt w (conditionAt w i)) (rightAt w (conditionAt w i)) (formulaAt w i) e
-
 abbrev pub relationAt : List ℕ → ℕ → Rel
 relationAt w i = relOf (byteAt w (atomPlace (conditionAt w i)))
 
 -- the state in which the body of the loop at row i starts
 abbrev pub bodyStarts : List ℕ → ℕ → Rules.State → Try Refusal Rules.State
-bodyStarts w i s = knownAt w i (relationAt w i) (some s)
+bodyStarts w i s = loopKnown w (firstAtomAt w i) (atomCountAt w i) (relationAt w i) (some s)
 
 -- the state after this loop
 abbrev pub loopLeaves : List ℕ → ℕ → End → Try Refusal Rules.State
-loopLeaves w i e = knownAt w i (opposite (relationAt w i)) e
+loopLeaves w i e = loopKnown w (firstAtomAt w i) (atomCountAt w i) (opposite (relationAt w i)) e
 
 -- a statement that goes on to the next line
 pub record Stepped (w : List ℕ) (i : ℕ) (s : Rules.State) (answer : Answer) (key b : List ℕ) : Type 0 where
