@@ -76,14 +76,14 @@ pub fn loop_rule(
     requires { ⌜ (length (now w) ≡ work-bytes) × (1 ≤ a) × (a + n ≤ most-atom-rows) × Wf (now key) (now b) ⌝ }
     ensures { λ r. ⌜ Adds (loopKnown (now (w .entry)) a n (relOf apart) (endOf returned (stateOf (now (key .entry)) (now (b .entry))))) r (now (key .exit)) (now (b .exit)) ⌝ }
 {
-    let k = crate::show_end(w, a, n, returned, key, b);
-    let Answer::Done = k else {
-        return k;
+    let shown = crate::show_end(w, a, n, returned, key, b);
+    let Answer::Done = shown else {
+        return shown;
     };
     check_forgetting::clear(b);
-    let m = check_formulas::add(w, a, n, State::THIS, State::PARAM, State::RESULT, key, b);
-    let Answer::Done = m else {
-        return m;
+    let added = check_formulas::add(w, a, n, State::THIS, State::PARAM, State::RESULT, key, b);
+    let Answer::Done = added else {
+        return added;
     };
     let condition = a - 1;
     let l = check_formulas::left(w, condition, State::THIS, State::PARAM, State::RESULT);
