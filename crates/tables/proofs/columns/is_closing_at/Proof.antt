@@ -1,8 +1,8 @@
 use mathlib.Core.Path.{ap, _∙_}
 use borrow.Author.Needs.{needs}
 use Rattle.rules.specs.Grammar.{isClosingNumber}
-use Rattle.tables.proofs.is_closing_at.Statement.{statement}
-use Rattle.tables.proofs.is_closing_at.Tie as tie
+use Rattle.tables.proofs.columns.is_closing_at.Statement.{statement}
+use Rattle.tables.proofs.columns.is_closing_at.Tie as tie
 
 kind-at-requires : tie.Need-kind-at-requires
 kind-at-requires c κs = search needs
