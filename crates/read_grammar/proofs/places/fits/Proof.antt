@@ -1,8 +1,8 @@
 -- `lines::fits` meets its contract. Assumes nothing.
 use borrow.Author.Tests.{ne-eqb}
 use Rattle.read_grammar.specs.Coded.{fits}
-use Rattle.read_grammar.proofs.fits.Statement.{statement}
-use Rattle.read_grammar.proofs.fits.Tie as tie
+use Rattle.read_grammar.proofs.places.fits.Statement.{statement}
+use Rattle.read_grammar.proofs.places.fits.Tie as tie
 
 returns : tie.Need-returns
 unfolding fits

@@ -2,8 +2,8 @@
 use borrow.Author.Needs.{needs}
 use borrow.Author.Tests.{ne-eqb}
 use Rattle.read_grammar.specs.Coded.{branchesAfter}
-use Rattle.read_grammar.proofs.branches_after.Statement.{statement}
-use Rattle.read_grammar.proofs.branches_after.Tie as tie
+use Rattle.read_grammar.proofs.places.branches_after.Statement.{statement}
+use Rattle.read_grammar.proofs.places.branches_after.Tie as tie
 
 mul-result : tie.Need-mul-result
 mul-result c = search needs
