@@ -36,13 +36,15 @@ impl OperandNumber {
     pub const EXPRESSION: u32 = 11;
 }
 
-// What follows the operands, by its number; any other is a formula.
+// What follows the operands, by its number; any other is a condition and then a formula.
 pub struct TailNumber {}
 
 impl TailNumber {
     pub const NONE: u32 = 0;
 
     pub const CONDITION: u32 = 1;
+
+    pub const FORMULA: u32 = 2;
 }
 
 // The stages that no row of a kind leads to, by their numbers.
@@ -91,7 +93,9 @@ fn row_number(kind: u8) -> u32
         Kind::JOIN => 0x6752_0000,
         Kind::END => 0x6750_0000,
         Kind::ADD => 0x6650_0778,
-        _ => 0x6650_0778, // sub
+        Kind::SUB => 0x6650_0778,
+        Kind::LOOP => 0x6653_0000,
+        _ => 0x6750_0000, // again
     }
 }
 
@@ -111,8 +115,8 @@ pub fn row_of(kind: u8) -> Row
 
 // THE PLACE OF A LINE
 
-// Where a line stands: the stage by its number, whether `main` is above, the open branches to the base 4, the innermost lowest (1 before
-// its `else`, 2 after it); and what the lines above have used of each limit.
+// Where a line stands: the stage by its number, whether `main` is above, the open branches and loops to the base 4, the innermost lowest
+// (1 before its `else`, 2 after it, 3 a loop); and what the lines above have used of each limit.
 pub struct Place {
     pub stage: u32,
     pub main: bool,

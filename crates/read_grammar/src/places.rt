@@ -12,7 +12,7 @@ ghost use Rattle.rules.specs.Places.{firstPlace, stageNumber};
 ghost use Rattle.read_grammar.specs.Rows.{kindNumbered};
 ghost use Rattle.read_grammar.specs.Coded.{coded, fits, inPlace, stageAfter, branchesAfter, atStage, placeAfter, withinLimits, AfterWithin};
 
-// Numbers of open branches are below this one: each branch is two bits.
+// Numbers of open branches and loops are below this one: each is two bits.
 const OPEN_BRANCHES: usize = 1 << (2 * Machine::BRANCHES);
 
 pub fn first_place() -> Place
@@ -30,7 +30,7 @@ pub fn first_place() -> Place
     }
 }
 
-// "`return x` (methods only)"; `else`, `join` and `end` go by the innermost open branch.
+// "`return x` (methods only)"; `else`, `join`, `again` and `end` go by the innermost open branch or loop.
 fn fits(kind: u8, p: Place) -> bool
     ensures { λ r. ⌜ r ≡ fits kind p ⌝ }
 {
@@ -38,6 +38,7 @@ fn fits(kind: u8, p: Place) -> bool
         Kind::RETURN => !p.main,
         Kind::ELSE => p.branches % 4 == 1,
         Kind::JOIN => p.branches % 4 == 2,
+        Kind::AGAIN => p.branches % 4 == 3,
         Kind::END => p.branches == 0,
         _ => true,
     }
@@ -78,6 +79,8 @@ fn branches_after(kind: u8, n: usize) -> usize
         Kind::IF => 1 + 4 * n,
         Kind::ELSE => 2 + 4 * (n / 4),
         Kind::JOIN => n / 4,
+        Kind::LOOP => 3 + 4 * n,
+        Kind::AGAIN => n / 4,
         _ => n,
     }
 }
@@ -182,7 +185,7 @@ fn with_local(p: Place, stage: u32) -> Place
     }
 }
 
-// One statement more, which may open or close a branch or end the body.
+// One statement more, which may open or close a branch or a loop, or end the body.
 fn with_statement(p: Place, kind: u8, next: u32) -> Place
     requires { ⌜ (first-statement ≤ kind) × (next ≡ stageNumber (form (kindNumbered kind) .next)) × (withinLimits p ≡ true) ⌝ }
     ensures { λ r. ⌜ r ≡ placeAfter kind p ⌝ }
