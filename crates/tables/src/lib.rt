@@ -43,7 +43,7 @@ impl Layout {
 
     pub const ATOMS: usize = 6208;
 
-    pub const NAMES: usize = 36832;
+    pub const NAMES: usize = 36880;
 
     pub const VALUES: usize = 40960;
 
@@ -256,7 +256,7 @@ pub fn kind_at(w: &[u8], i: usize) -> u8
     w[Layout::ROWS + i * Layout::ROW_BYTES]
 }
 
-// Do the rows of a block, or of a part of a branch, end before it?
+// Do the rows of a block, of a part of a branch or of a loop end before it?
 pub fn is_closing_at(w: &[u8], i: usize) -> bool
     requires { ⌜ (length (now w) ≡ work-bytes) × (i < most-statements) ⌝ }
     ensures { λ r. ⌜ r ≡ isClosingNumber (kindAt (now (w .entry)) i) ⌝ }
@@ -296,7 +296,7 @@ pub fn member_at(w: &[u8], i: usize) -> usize
     byte_at(w, Layout::ROWS + i * Layout::ROW_BYTES + 4)
 }
 
-// How many atoms its formula has.
+// How many atoms its formula has, that of a `loop` being the invariant.
 pub fn atom_count_at(w: &[u8], i: usize) -> usize
     requires { ⌜ (length (now w) ≡ work-bytes) × (i < most-statements) ⌝ }
     ensures { λ r. ⌜ (r ≡ atomCountAt (now (w .entry)) i) × (r < 256) ⌝ }
@@ -304,7 +304,7 @@ pub fn atom_count_at(w: &[u8], i: usize) -> usize
     byte_at(w, Layout::ROWS + i * Layout::ROW_BYTES + 5)
 }
 
-// The first of them.
+// The first of them. The condition of a `loop` is the atom before it.
 pub fn first_atom_at(w: &[u8], i: usize) -> usize
     requires { ⌜ (length (now w) ≡ work-bytes) × (i < most-statements) ⌝ }
     ensures { λ r. ⌜ (r ≡ firstAtomAt (now (w .entry)) i) × (r < 65536) ⌝ }
@@ -320,7 +320,7 @@ pub fn line_at(w: &[u8], i: usize) -> usize
     half_at(w, Layout::ROWS + i * Layout::ROW_BYTES + 8)
 }
 
-// Where an `if` or an `else` goes.
+// Where an `if`, an `else`, a `loop` or an `again` goes.
 pub fn target_at(w: &[u8], i: usize) -> usize
     requires { ⌜ (length (now w) ≡ work-bytes) × (i < most-statements) ⌝ }
     ensures { λ r. ⌜ (r ≡ targetAt (now (w .entry)) i) × (r < 65536) ⌝ }
