@@ -2,8 +2,8 @@
 use borrow.Author.Tests.{ne-eqb}
 use Rattle.rules.specs.Places.{stageNumber}
 use Rattle.read_grammar.specs.Coded.{stageAfter}
-use Rattle.read_grammar.proofs.stage_after.Statement.{statement}
-use Rattle.read_grammar.proofs.stage_after.Tie as tie
+use Rattle.read_grammar.proofs.places.stage_after.Statement.{statement}
+use Rattle.read_grammar.proofs.places.stage_after.Tie as tie
 
 returns : tie.Need-returns
 unfolding stageAfter

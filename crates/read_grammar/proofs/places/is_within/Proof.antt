@@ -3,8 +3,8 @@ use borrow.Author.Tests.{le-leb, lt-leb}
 use native.Mathlib.Omega.{arith}
 use Rattle.read_grammar.proofs.Rows.{passed}
 use Rattle.read_grammar.proofs.Coded.{counted, counts, counts-statement}
-use Rattle.read_grammar.proofs.is_within.Statement.{statement}
-use Rattle.read_grammar.proofs.is_within.Tie as tie
+use Rattle.read_grammar.proofs.places.is_within.Statement.{statement}
+use Rattle.read_grammar.proofs.places.is_within.Tie as tie
 
 returns : tie.Need-returns
 returns c =

@@ -2,8 +2,8 @@
 use mathlib.Core.Path.{refl}
 use Rattle.rules.specs.Places.{stageNumber}
 use Rattle.read_grammar.specs.Coded.{coded, branchesNumber}
-use Rattle.read_grammar.proofs.first_place.Statement.{statement}
-use Rattle.read_grammar.proofs.first_place.Tie as tie
+use Rattle.read_grammar.proofs.places.first_place.Statement.{statement}
+use Rattle.read_grammar.proofs.places.first_place.Tie as tie
 
 returns : tie.Need-returns
 unfolding coded branchesNumber stageNumber

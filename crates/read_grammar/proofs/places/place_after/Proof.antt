@@ -7,8 +7,8 @@ use Rattle.read_grammar.specs.Rows.{rowOf}
 use Rattle.read_grammar.specs.Coded.{atStage, placeAfter, stageAfter, branchesAfter}
 use Rattle.read_grammar.proofs.Rows.{passed}
 use Rattle.read_grammar.proofs.Coded.{low}
-use Rattle.read_grammar.proofs.place_after.Statement.{statement}
-use Rattle.read_grammar.proofs.place_after.Tie as tie
+use Rattle.read_grammar.proofs.places.place_after.Statement.{statement}
+use Rattle.read_grammar.proofs.places.place_after.Tie as tie
 
 row-of-requires : tie.Need-row-of-requires
 row-of-requires c κs = search needs

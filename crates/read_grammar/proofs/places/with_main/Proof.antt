@@ -2,8 +2,8 @@
 use mathlib.Core.Path.{refl}
 use Rattle.rules.specs.Places.{oneMoreIf}
 use Rattle.read_grammar.specs.Coded.{atStage, placeAfter, branchesAfter}
-use Rattle.read_grammar.proofs.with_main.Statement.{statement}
-use Rattle.read_grammar.proofs.with_main.Tie as tie
+use Rattle.read_grammar.proofs.places.with_main.Statement.{statement}
+use Rattle.read_grammar.proofs.places.with_main.Tie as tie
 
 returns : tie.Need-returns
 unfolding atStage placeAfter branchesAfter oneMoreIf

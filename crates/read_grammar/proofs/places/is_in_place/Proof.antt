@@ -6,8 +6,8 @@ use Rattle.rules.specs.Base.{between}
 use Rattle.read_grammar.specs.declared.Row.{Row}
 use Rattle.read_grammar.specs.Rows.{rowOf}
 use Rattle.read_grammar.specs.Coded.{inPlace}
-use Rattle.read_grammar.proofs.is_in_place.Statement.{statement}
-use Rattle.read_grammar.proofs.is_in_place.Tie as tie
+use Rattle.read_grammar.proofs.places.is_in_place.Statement.{statement}
+use Rattle.read_grammar.proofs.places.is_in_place.Tie as tie
 
 row-of-requires : tie.Need-row-of-requires
 row-of-requires c κs = search needs

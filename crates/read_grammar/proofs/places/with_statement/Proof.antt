@@ -6,8 +6,8 @@ use native.Mathlib.Omega.{arith}
 use Rattle.rules.specs.Places.{oneMoreIf}
 use Rattle.read_grammar.specs.Coded.{placeAfter}
 use Rattle.read_grammar.proofs.Coded.{low}
-use Rattle.read_grammar.proofs.with_statement.Statement.{statement}
-use Rattle.read_grammar.proofs.with_statement.Tie as tie
+use Rattle.read_grammar.proofs.places.with_statement.Statement.{statement}
+use Rattle.read_grammar.proofs.places.with_statement.Tie as tie
 
 stage-after-requires : tie.Need-stage-after-requires
 stage-after-requires c κs = search needs
