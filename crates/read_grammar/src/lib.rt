@@ -1,7 +1,10 @@
 // The grammar by numbers: the row of each kind of line. Where a line may stand, and the limits of the text: `places`.
 mod places;
 
-pub use places::{first_place, is_in_place, is_within, place_after};
+pub use places::first_place;
+pub use places::is_in_place;
+pub use places::is_within;
+pub use places::place_after;
 use rules::Kind;
 ghost use mathlib.Core.Path.{_≡_};
 ghost use Rattle.rules.specs.Grammar.{form, IsKindNumber};
