@@ -19,7 +19,7 @@ struct Resolver<'a> {
     blocks_seen: usize,
     fields_seen: usize,
     locals_seen: usize,
-    /// The open `if` and `else` statements.
+    /// The open `if`, `else` and `loop` statements.
     open: Vec<usize>,
 }
 
@@ -118,10 +118,16 @@ impl<'a> Resolver<'a> {
     }
 
     /// Puts the statement into the list and sets the targets that lead to it.
-    fn push(&mut self, statement: Statement<'a>) {
+    fn push(&mut self, mut statement: Statement<'a>) {
         let here = self.program.statements.len();
-        match statement.action {
-            Action::If(_) => self.open.push(here),
+        match &mut statement.action {
+            Action::If(_) | Action::Loop(_) => self.open.push(here),
+            Action::Again(start) => {
+                *start = self.open.pop().expect("an again has a loop");
+                if let Action::Loop(rounds) = &mut self.program.statements[*start].action {
+                    rounds.again = here;
+                }
+            }
             Action::Else(_) => {
                 let opened = *self.open.last().expect("an else has an if");
                 if let Action::If(branch) = &mut self.program.statements[opened].action {

@@ -70,16 +70,20 @@ pub enum Action<'a> {
     /// The target is the `join`.
     Else(usize),
     Join(Formula<'a>),
+    Loop(Loop<'a>),
+    /// The target is the `loop`.
+    Again(usize),
     End,
 }
 
 impl<'a> Action<'a> {
-    /// The line's own formula, if it has one.
+    /// The line's own formula, if it has one; of a `loop` its invariant.
     pub fn formula(&self) -> Option<&[Atom<'a>]> {
         match self {
             Action::Assert(formula) | Action::Release(formula) | Action::Join(formula) => {
                 Some(formula)
             }
+            Action::Loop(rounds) => Some(&rounds.invariant),
             _ => None,
         }
     }
@@ -109,6 +113,14 @@ pub struct Branch<'a> {
     pub condition: Atom<'a>,
     pub other: usize,
     pub join: usize,
+}
+
+/// A `loop` with the target of its `again`.
+#[derive(Clone, Debug, PartialEq, Eq)]
+pub struct Loop<'a> {
+    pub condition: Atom<'a>,
+    pub invariant: Formula<'a>,
+    pub again: usize,
 }
 
 #[derive(Clone, Debug, PartialEq, Eq)]

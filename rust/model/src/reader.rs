@@ -33,11 +33,13 @@ pub enum Place {
     Done,
 }
 
-/// The branch of an open `if` that the next line stands in.
+/// The open part that the next line stands in: a branch of an `if`, or the body
+/// of a `loop`.
 #[derive(Clone, Copy, Debug, PartialEq, Eq)]
 pub enum Branch {
     First,
     Second,
+    Loop,
 }
 
 /// A limit of the text.
@@ -56,7 +58,8 @@ pub enum Limit {
 #[derive(Clone, Debug)]
 pub struct Reader {
     pub place: Place,
-    /// The open branches, the innermost last.
+    /// The open branches and loops, the innermost last: "Loops count toward the
+    /// nesting limit of 4".
     pub branches: Vec<Branch>,
     /// Was the last line a `return`?
     pub returned: bool,
@@ -111,9 +114,10 @@ impl Reader {
 
     /// The place after a statement line, or none if it may not stand here. W2:
     /// "A statement between [a `return`] and the next `else`, `join` or `end` is
-    /// number 4."
+    /// number 4", and W5: "A `return` may also stand last before `again`".
     fn statement(&mut self, block: Block, line: &Line) -> Option<Place> {
-        if self.returned && !matches!(line, Line::Else | Line::Join(_) | Line::End) {
+        let closes = matches!(line, Line::Else | Line::Join(_) | Line::Again | Line::End);
+        if self.returned && !closes {
             return None;
         }
         match line {
@@ -132,6 +136,11 @@ impl Reader {
                 self.branches.push(Branch::Second);
             }
             Line::Join(_) if self.branches.last() == Some(&Branch::Second) => {
+                self.branches.pop();
+            }
+            Line::Loop(..) => self.branches.push(Branch::Loop),
+            // "`again` closes it"
+            Line::Again if self.branches.last() == Some(&Branch::Loop) => {
                 self.branches.pop();
             }
             Line::End if self.branches.is_empty() => {

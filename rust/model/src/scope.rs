@@ -270,8 +270,23 @@ impl<'p, 'a> Scope<'p, 'a> {
         Some(Action::Return(var))
     }
 
+    /// The atoms of a `loop` in the order of the line, the condition first.
+    fn rounds(
+        &mut self,
+        condition: text::Atom<'a>,
+        invariant: &[text::Atom<'a>],
+    ) -> Option<Action<'a>> {
+        let atoms = self.formula(&[&[condition], invariant].concat())?;
+        let (&condition, invariant) = atoms.split_first()?;
+        Some(Action::Loop(Loop {
+            condition,
+            invariant: invariant.to_vec(),
+            again: 0,
+        }))
+    }
+
     /// A statement line with its names resolved; none if it has a fault. The
-    /// targets of `if` and `else` are left at 0.
+    /// targets of `if`, `else`, `loop` and `again` are left at 0.
     pub fn statement(&mut self, line: &Line<'a>) -> Option<Action<'a>> {
         match *line {
             Line::Set(x, field, y) => self.set(x, field, y),
@@ -289,6 +304,8 @@ impl<'p, 'a> Scope<'p, 'a> {
                 join: 0,
             })),
             Line::Else => Some(Action::Else(0)),
+            Line::Loop(condition, ref invariant) => self.rounds(condition, invariant),
+            Line::Again => Some(Action::Again(0)),
             Line::End => Some(Action::End),
             _ => unreachable!("a declaration is no statement"),
         }

@@ -87,6 +87,10 @@ pub enum Line<'a> {
     If(Atom<'a>),
     Else,
     Join(Formula<'a>),
+    /// W5: "`loop` takes a condition atom (`eq` or `ne`) and then the atoms of
+    /// an invariant".
+    Loop(Atom<'a>, Formula<'a>),
+    Again,
     End,
 }
 
@@ -146,9 +150,11 @@ fn atom<'a>(fields: &[&'a [u8]]) -> Option<Atom<'a>> {
     }
 }
 
-/// "A formula is 0 to 8 atoms on the same line ...; a ninth is number 4": the
-/// fields are never more than eight atoms have.
+/// "A formula is 0 to 8 atoms on the same line ...; a ninth is number 4".
 fn formula<'a>(fields: &[&'a [u8]]) -> Option<Formula<'a>> {
+    if fields.len() > 3 * limits::ATOMS {
+        return None;
+    }
     let mut atoms = Vec::with_capacity(fields.len().div_ceil(3));
     for fields in fields.chunks(3) {
         atoms.push(atom(fields)?);
@@ -156,13 +162,19 @@ fn formula<'a>(fields: &[&'a [u8]]) -> Option<Formula<'a>> {
     Some(atoms)
 }
 
-/// "`if eq e e` or `if ne e e`".
+/// "`if eq e e` or `if ne e e`", and the first atom of a `loop`.
 fn condition<'a>(fields: &[&'a [u8]]) -> Option<Atom<'a>> {
     atom(fields).filter(|atom| !matches!(atom, Atom::Acc(..)))
 }
 
-/// No line has more fields than a word and eight atoms.
-const FIELDS: usize = 1 + 3 * limits::ATOMS;
+/// A condition, "and then the atoms of an invariant, at most 8".
+fn loop_line<'a>(fields: &[&'a [u8]]) -> Option<Line<'a>> {
+    let (first, rest) = fields.split_at_checked(3)?;
+    Some(Line::Loop(condition(first)?, formula(rest)?))
+}
+
+/// No line has more fields than a `loop` with its condition and eight atoms.
+const FIELDS: usize = 1 + 3 * (1 + limits::ATOMS);
 
 /// The form of one line, its LF taken off; none is number 4.
 pub fn line(bytes: &[u8]) -> Option<Line<'_>> {
@@ -180,6 +192,7 @@ pub fn line(bytes: &[u8]) -> Option<Line<'_>> {
         b"release" => formula(rest).map(Line::Release),
         b"join" => formula(rest).map(Line::Join),
         b"if" => condition(rest).map(Line::If),
+        b"loop" => loop_line(rest),
         b"let" => match *rest {
             [var, value] => Some(Line::Let(name(var)?, expression(value)?)),
             _ => None,
@@ -209,6 +222,7 @@ fn named_line<'a>(word: &[u8], names: &[Name<'a>]) -> Option<Line<'a>> {
         (b"call", &[x, y, m, z]) => Line::Call(x, y, m, z),
         (b"return", &[x]) => Line::Return(x),
         (b"else", &[]) => Line::Else,
+        (b"again", &[]) => Line::Again,
         (b"end", &[]) => Line::End,
         _ => return None,
     })
