@@ -111,10 +111,9 @@ pub fn opposite(condition: Atom) -> Atom {
 /// The empty state with a framed formula added, and a condition after it.
 pub fn alone<'a>(formula: &[Atom<'a>], condition: Option<Atom<'a>>) -> State<'a> {
     let mut state = State::default();
-    let atoms = formula.iter().copied().chain(condition);
+    let mut atoms = formula.iter().copied().chain(condition);
     atoms
-        .map(|atom| state.add_atom(atom))
-        .collect::<Rule<()>>()
+        .try_for_each(|atom| state.add_atom(atom))
         .expect("nine framed atoms fit an empty state");
     state
 }
