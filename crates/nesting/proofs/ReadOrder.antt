@@ -9,21 +9,21 @@ use lib.ListN.{length, drop}
 use Rattle.rules.specs.Base.{all, any, between}
 use Rattle.rules.specs.Answers.{accepted}
 use Rattle.rules.specs.Syntax as Syntax
-use Rattle.rules.specs.Syntax.{Formula, Stmt, Row, Program, simple, return, if, else, join, end}
+use Rattle.rules.specs.Syntax.{Formula, Stmt, Row, Program, simple, return, if, else, join, loop, again, end}
 use Rattle.rules.specs.Grammar as Grammar
 use Rattle.rules.specs.Grammar.{Kind, Statement, Stage, Line, Class, Field, Method, Requires, Ensures, Main, Var, statement}
-use Rattle.rules.specs.Grammar.{Return, If, Else, Join, End}
+use Rattle.rules.specs.Grammar.{Return, If, Else, Join, End, Loop, Again}
 use Rattle.rules.specs.Grammar.{inLocals, inBody, afterReturn, afterMain, nextStage, form, stands, isStatement, isKind, kindNumber, statementNumber}
 use Rattle.rules.specs.Places as Places
-use Rattle.rules.specs.Places.{Place, Branch, beforeElse, firstPlace, stageNumber, mayElse, mayJoin, mayEnd, outer, fits, inPlace, stageAfter, branchesAfter, placeAfter, withinLimits, ended}
+use Rattle.rules.specs.Places.{Place, Branch, beforeElse, inLoop, firstPlace, stageNumber, mayElse, mayJoin, mayAgain, mayEnd, outer, fits, inPlace, stageAfter, branchesAfter, placeAfter, withinLimits, ended}
 use Rattle.rules.specs.Scope.{Scope, Variable, Declarations, declarations, firstScope}
 use Rattle.rules.specs.Items as Items
-use Rattle.rules.specs.Items.{Item, aClass, aField, aMethod, aRequires, anEnsures, aMain, aLocal, aStatement, itemOf, resolveStatement, resolveFormula, resolveIf}
+use Rattle.rules.specs.Items.{Item, aClass, aField, aMethod, aRequires, anEnsures, aMain, aLocal, aStatement, itemOf, resolveStatement, resolveFormula, resolveIf, resolveLoop}
 use Rattle.rules.specs.Reading.{readText, noProgram, onLast, withRequires, withEnsures, withItem, withItems, program}
 use Rattle.rules.proofs.Lists.{and-both, and-intro}
 use Rattle.rules.proofs.LineKinds.{every-kind, is-same}
 use Rattle.rules.proofs.LinesTaken.{TakenLines, none, line, seen, read-taken}
-use Rattle.nesting.specs.Nests.{Wait, forElse, forJoin, rowNests, rowsNest}
+use Rattle.nesting.specs.Nests.{Wait, forElse, forJoin, forAgain, rowNests, rowsNest}
 
 -- THE ROWS OF ITEMS
 
@@ -73,17 +73,19 @@ bounds k p i =
 
 -- THE NESTING OF ROWS
 
--- what the open branches of a place wait for
+-- what the open branches and loops of a place wait for
 waits : List Branch → List Wait
 waits [] = []
 waits (beforeElse ∷ bs) = forElse ∷ waits bs
 waits (Places.afterElse ∷ bs) = forJoin ∷ waits bs
+waits (inLoop ∷ bs) = forAgain ∷ waits bs
 
 waits-length : (bs : List Branch) → length (waits bs) ≡ length bs
 unfolding waits
 waits-length [] = refl
 waits-length (beforeElse ∷ bs) = ap suc (waits-length bs)
 waits-length (Places.afterElse ∷ bs) = ap suc (waits-length bs)
+waits-length (inLoop ∷ bs) = ap suc (waits-length bs)
 
 -- rows that nest do so also where a block begins
 begin-nests : (b : Bool) (ws : List Wait) (rs : List Row) → T (rowsNest b ws rs) → T (rowsNest true ws rs)
@@ -100,7 +102,7 @@ inside-above : (g : Stage) → T (inside g) → stageNumber inLocals < stageNumb
 unfolding inside between stageNumber
 inside-above g t = leb→le 6 (stageNumber g) (and-both (leb 6 (stageNumber g)) (leb (stageNumber g) 7) t .0)
 
--- outside of bodies no branch is open
+-- outside of bodies no branch or loop is open
 abbrev Closed : Place → Type 0
 Closed p = T (not (inside (p .stage))) → p .branches ≡ []
 
@@ -120,22 +122,30 @@ some-nests b [] [] t = absurd t
 some-nests b (v ∷ ws) [] t = t
 some-nests b ws (r ∷ rs) t = t
 
--- `if`, `else`, `join` and `end`, by the branches that are open
-if-row : (bs : List Branch) (rs : List Row) → T (leb (suc (length bs)) 4) → T (rowsNest false (waits (beforeElse ∷ bs)) rs) → T (ltb (length (waits bs)) 4 && rowsNest false (forElse ∷ waits bs) rs)
-unfolding waits
-if-row bs rs l t = and-intro (ltb (length (waits bs)) 4) _ (subst (λ (n : ℕ). T (leb (suc n) 4)) (sym (waits-length bs)) l) t
+-- `if`, `else`, `join`, `loop`, `again` and `end`, by the branches and loops that are open
+opens-row : (bs : List Branch) (c : Bool) → T (leb (suc (length bs)) 4) → T c → T (ltb (length (waits bs)) 4 && c)
+opens-row bs c l t = and-intro (ltb (length (waits bs)) 4) c (subst (λ (n : ℕ). T (leb (suc n) 4)) (sym (waits-length bs)) l) t
 
 else-row : (bs : List Branch) (k : Bool → List Wait → Bool) → T (mayElse bs) → T (k false (waits (Places.afterElse ∷ outer bs))) → T (rowNests else (waits bs) k)
 unfolding mayElse outer waits rowNests
 else-row [] k m t = absurd m
 else-row (beforeElse ∷ bs) k m t = t
 else-row (Places.afterElse ∷ bs) k m t = absurd m
+else-row (inLoop ∷ bs) k m t = absurd m
 
 join-row : (bs : List Branch) (φ : Formula ℕ) (k : Bool → List Wait → Bool) → T (mayJoin bs) → T (k false (waits (outer bs))) → T (rowNests (join φ) (waits bs) k)
 unfolding mayJoin outer waits rowNests
 join-row [] φ k m t = absurd m
 join-row (beforeElse ∷ bs) φ k m t = absurd m
 join-row (Places.afterElse ∷ bs) φ k m t = t
+join-row (inLoop ∷ bs) φ k m t = absurd m
+
+again-row : (bs : List Branch) (k : Bool → List Wait → Bool) → T (mayAgain bs) → T (k false (waits (outer bs))) → T (rowNests again (waits bs) k)
+unfolding mayAgain outer waits rowNests
+again-row [] k m t = absurd m
+again-row (beforeElse ∷ bs) k m t = absurd m
+again-row (Places.afterElse ∷ bs) k m t = absurd m
+again-row (inLoop ∷ bs) k m t = t
 
 end-row : (bs : List Branch) (k : Bool → List Wait → Bool) → T (mayEnd bs) → T (k true (waits bs)) → T (rowNests end (waits bs) k)
 unfolding mayEnd waits rowNests
@@ -149,7 +159,7 @@ ends-closed (b ∷ bs) m = absurd m
 
 -- these open and close; the other statements do not
 turns : Kind → Bool
-turns k = any (λ a. isKind (statement a) k) (If ∷ Else ∷ Join ∷ End ∷ [])
+turns k = any (λ a. isKind (statement a) k) (If ∷ Else ∷ Join ∷ Loop ∷ Again ∷ End ∷ [])
 
 isSimple : Stmt → Bool
 isSimple (simple s) = true
@@ -157,6 +167,8 @@ isSimple (return x) = true
 isSimple (if n a b) = false
 isSimple else = false
 isSimple (join φ) = false
+isSimple (loop n a b φ) = false
+isSimple again = false
 isSimple end = false
 
 simple-row : (s : Stmt) (ws : List Wait) (k : Bool → List Wait → Bool) → T (isSimple s) → T (k false ws) → T (rowNests s ws k)
@@ -166,6 +178,8 @@ simple-row (return x) ws k h t = t
 simple-row (if n a b) ws k h t = absurd h
 simple-row else ws k h t = absurd h
 simple-row (join φ) ws k h t = absurd h
+simple-row (loop n a b φ) ws k h t = absurd h
+simple-row again ws k h t = absurd h
 simple-row end ws k h t = absurd h
 
 -- an item adds no row, or such a one
@@ -216,17 +230,18 @@ module _ (Γ : Declarations) (vs : List Variable) (l : Line) (p : Place) (closed
   quiet-line = every-kind (λ k. turns k || isQuiet (itemOf Γ vs k l)) tt
 
   simple-nests :
-      (a : Statement) → isKind (statement If) (statement a) ≡ false → isKind (statement Else) (statement a) ≡ false → isKind (statement Join) (statement a) ≡ false → isKind (statement End) (statement a) ≡ false →
+      (a : Statement) → isKind (statement If) (statement a) ≡ false → isKind (statement Else) (statement a) ≡ false → isKind (statement Join) (statement a) ≡ false →
+      isKind (statement Loop) (statement a) ≡ false → isKind (statement Again) (statement a) ≡ false → isKind (statement End) (statement a) ≡ false →
       Nests (statement a)
   unfolding Nests rows rowsOf itemOf placeAfter stageAfter branchesAfter ended stageNumber form stands rowsNest any turns isQuiet
-  simple-nests a f e j d i w =
-      let s : T (isSimple (resolveStatement Γ vs a l)) = rw (f, e, j, d) at (quiet-line (statement a)) in
+  simple-nests a f e j o g d i w =
+      let s : T (isSimple (resolveStatement Γ vs a l)) = rw (f, e, j, o, g, d) at (quiet-line (statement a)) in
       let (m, n) = next-inside a in
-      rw (f, e, j, d, m, n) (λ t. simple-row (resolveStatement Γ vs a l) (waits (p .branches)) (λ b ws. rowsNest b ws rows) s t, absurd)
+      rw (f, e, j, o, g, d, m, n) (λ t. simple-row (resolveStatement Γ vs a l) (waits (p .branches)) (λ b ws. rowsNest b ws rows) s t, absurd)
 
   if-nests : Nests (statement If)
-  unfolding Nests rows rowsOf itemOf resolveStatement placeAfter stageAfter branchesAfter ended stageNumber form stands isStatement isKind kindNumber statementNumber rowsNest rowNests resolveIf nextStage inside between
-  if-nests i w = (λ t. if-row (p .branches) rows (few-branches (placeAfter (statement If) p) w) t, absurd)
+  unfolding Nests rows rowsOf itemOf resolveStatement placeAfter stageAfter branchesAfter ended stageNumber form stands isStatement isKind kindNumber statementNumber rowsNest rowNests waits resolveIf nextStage inside between
+  if-nests i w = (λ t. opens-row (p .branches) _ (few-branches (placeAfter (statement If) p) w) t, absurd)
 
   else-nests : Nests (statement Else)
   unfolding Nests rows rowsOf itemOf resolveStatement placeAfter stageAfter branchesAfter ended stageNumber form stands isStatement isKind kindNumber statementNumber rowsNest fits nextStage inside between
@@ -235,6 +250,14 @@ module _ (Γ : Declarations) (vs : List Variable) (l : Line) (p : Place) (closed
   join-nests : Nests (statement Join)
   unfolding Nests rows rowsOf itemOf resolveStatement placeAfter stageAfter branchesAfter ended stageNumber form stands isStatement isKind kindNumber statementNumber rowsNest fits nextStage inside between
   join-nests i w = (λ t. join-row (p .branches) (resolveFormula Γ vs l) (λ b ws. rowsNest b ws rows) (fit (statement Join) i) t, absurd)
+
+  loop-nests : Nests (statement Loop)
+  unfolding Nests rows rowsOf itemOf resolveStatement placeAfter stageAfter branchesAfter ended stageNumber form stands isStatement isKind kindNumber statementNumber rowsNest rowNests waits resolveLoop nextStage inside between
+  loop-nests i w = (λ t. opens-row (p .branches) _ (few-branches (placeAfter (statement Loop) p) w) t, absurd)
+
+  again-nests : Nests (statement Again)
+  unfolding Nests rows rowsOf itemOf resolveStatement placeAfter stageAfter branchesAfter ended stageNumber form stands isStatement isKind kindNumber statementNumber rowsNest fits nextStage inside between
+  again-nests i w = (λ t. again-row (p .branches) (λ b ws. rowsNest b ws rows) (fit (statement Again) i) t, absurd)
 
   end-nests : Nests (statement End)
   unfolding Nests rows rowsOf itemOf resolveStatement placeAfter stageAfter branchesAfter ended stageNumber form stands isStatement isKind kindNumber statementNumber rowsNest fits
@@ -258,8 +281,10 @@ module _ (Γ : Declarations) (vs : List Variable) (l : Line) (p : Place) (closed
       or-else (statement If) (statement a) if-nests λ f.
       or-else (statement Else) (statement a) else-nests λ e.
       or-else (statement Join) (statement a) join-nests λ j.
+      or-else (statement Loop) (statement a) loop-nests λ o.
+      or-else (statement Again) (statement a) again-nests λ g.
       or-else (statement End) (statement a) end-nests λ d.
-      simple-nests a f e j d
+      simple-nests a f e j o g d
 
   -- a line that adds no row, and stands before bodies only
   no-row : (k : Kind) → T (leb (stageNumber (form k .last)) 5) → T (inPlace k p) → (T (rowsNest false (waits (p .branches)) rows) → T (rowsNest (ended p) (waits (p .branches)) rows)) × (T true → p .branches ≡ [])
@@ -300,7 +325,7 @@ read-nests t items e =
 
 -- BLOCKS
 
--- of the rows rs, each of these methods has a block whose branches nest
+-- of the rows rs, each of these methods has a block whose branches and loops nest
 abbrev pub BodiesNest : List Row → List Syntax.Method → Type 0
 BodiesNest rs [] = Unit {0}
 BodiesNest rs (M ∷ Ms) = T (rowsNest false [] (drop (M .first) rs)) × BodiesNest rs Ms

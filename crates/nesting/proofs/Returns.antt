@@ -1,4 +1,4 @@
--- In a read text `else`, `join` or `end` comes straight after each `return`.
+-- In a read text `else`, `join`, `again` or `end` comes straight after each `return`.
 use mathlib.Core.Path.{_≡_, sym, subst}
 use mathlib.Core.Bool.{Bool, true, false, not, _||_}
 use mathlib.Core.List.{List, [], _∷_}

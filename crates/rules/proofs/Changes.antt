@@ -10,9 +10,9 @@ use native.Mathlib.Nat.{le-refl}
 use lib.ListN.{length, getD, length-append}
 use Rattle.rules.specs.Base.{ok}
 use Rattle.rules.specs.Syntax.{Rel, Expr, Operation, Simple, Stmt, Field, Method, Formula, Program, methodNumbered, result-variable}
-use Rattle.rules.specs.Syntax.{set, assign, compute, new, call, return, assert, release, simple, if, else, join, end}
+use Rattle.rules.specs.Syntax.{set, assign, compute, new, call, return, assert, release, simple, if, else, join, loop, again, end}
 use Rattle.rules.specs.Machine.{Config, Frame, Location, Cell, Room, on, holds, without, valueAt, valueOf, locate, value, compared, footprint, jump, advance, bind, holding, withFrame, choose}
-use Rattle.rules.specs.Machine.{ifStep, elseStep, stored, setStep, assignStep, computed, computeStep, newCell, grown, newStep, callFrame, entered, callStep, returned, assertStep, releaseStep, endStep, returnStep, simpleStep, stepAt, step, statementOf}
+use Rattle.rules.specs.Machine.{ifStep, elseStep, loopStep, againStep, stored, setStep, assignStep, computed, computeStep, newCell, grown, newStep, callFrame, entered, callStep, returned, assertStep, releaseStep, endStep, returnStep, simpleStep, stepAt, step, statementOf}
 use Rattle.rules.specs.Runs.{Made}
 use Rattle.rules.proofs.Tries.{bind-ok, check-ok, ok-inj}
 use Rattle.rules.proofs.Sets.{Holds, location-eq, in-append, in-new, without-in, without-out, locate-holds, locate-is, footprint-held}
@@ -209,12 +209,15 @@ module _ (room : Room) (P : Program) where
   simple-changes (release φ) m m′ e = within (release-within φ m m′ e)
 
   stepAt-changes : (s : Stmt) (m m′ : Config) → stepAt room P s m ≡ on m′ → Change m m′
-  unfolding stepAt ifStep elseStep
+  unfolding stepAt ifStep elseStep loopStep againStep
   stepAt-changes (simple p) m m′ e = simple-changes p m m′ (took-on _ m′ e)
   stepAt-changes (return x) m m′ e = returning (return-returning P x m m′ e)
   stepAt-changes (if n a b) m m′ e = within (choose-within n a b _ _ m m′ (took-on _ m′ e))
   stepAt-changes else m m′ e = within (subst (Within m) (on-inj e) (jump-within m _))
   stepAt-changes (join φ) m m′ e = within (assert-within φ m m′ (took-on _ m′ e))
+  stepAt-changes (loop n a b φ) m m′ e =
+      let (_, _, q) = bind-ok (footprint (m .heap) (m .frame) φ) (took-on _ m′ e) in within (choose-within n a b _ _ m m′ q)
+  stepAt-changes again m m′ e = within (subst (Within m) (on-inj e) (jump-within m _))
   stepAt-changes end m m′ e = returning (end-returning P m m′ (m .callers) refl e)
 
   pub step-changes : (m m′ : Config) → step room P m ≡ on m′ → Change m m′

@@ -221,9 +221,60 @@ oneOnBothSides n =
     "new s S" ∷
     (times n "call b s m a" ++ ("end" ∷ []))
 
+-- a main with three numbers that has these lines, from line 5 on
+pub numbers : List String → List String
+numbers ls = "main" ∷ "var int a" ∷ "var int b" ∷ "var int c" ∷ (ls ++ ("end" ∷ []))
+
 -- two numbers and a line on them
 pub counting : String → String → String → List String
-counting b c l = "main" ∷ "var int a" ∷ "var int b" ∷ "var int c" ∷ b ∷ c ∷ l ∷ "end" ∷ []
+counting b c l = numbers (b ∷ c ∷ l ∷ [])
+
+-- a counts to 3 in a loop, the 9th line, by way of either branch; the 10th line is the body's first, the 17th comes after the loop
+pub walk : String → List String
+walk l =
+    "class S" ∷
+    "field int n" ∷
+    "main" ∷
+    "var S s" ∷
+    "var int a" ∷
+    "var int i" ∷
+    "let i 1" ∷
+    "new s S" ∷
+    l ∷
+    "set s n a" ∷
+    "if eq a 1" ∷
+    "let a 2" ∷
+    "else" ∷
+    "add a a i" ∷
+    "join acc s n" ∷
+    "again" ∷
+    "assert eq a 3" ∷
+    "end" ∷
+    []
+
+-- the body of a loop makes its invariant false, and then has this line
+pub leaving : String → List String
+leaving l =
+    "class A" ∷
+    "method int m int w" ∷
+    "requires" ∷
+    "ensures eq result w" ∷
+    "var int v" ∷
+    "let v 0" ∷
+    "loop ne w 1 eq v 0" ∷
+    "let v 1" ∷
+    l ∷
+    "again" ∷
+    "return w" ∷
+    "end" ∷
+    "main" ∷
+    "var A s" ∷
+    "var int a" ∷
+    "var int b" ∷
+    "new s A" ∷
+    "call b s m a" ∷
+    "end" ∷
+    []
 
 -- 7 (an int and null) and 6 (x) on one line
 pub lower : List String
@@ -356,16 +407,57 @@ rows =
     row (oneLine "let a -01") check (4 ∷ 3 ∷ []) ∷
     row (oneLine "let a 00") check (4 ∷ 3 ∷ []) ∷
     row (oneLine "let a 0") check (0 ∷ 0 ∷ []) ∷
+    -- W5: "Each arrival at `loop` is a step that tests the invariant, then the condition, and if that is false goes on after `again`;
+    -- `again` is a step back to it."
+    row (walk "loop ne a 3 acc s n") check (0 ∷ 0 ∷ []) ∷
+    row (walk "loop ne a 3 acc s n") (run 1000) (0 ∷ 18 ∷ 24 ∷ three 1 3 1) ∷
+    row (numbers ("let c 1" ∷ "loop ne a 2" ∷ "loop ne b 2" ∷ "add b b c" ∷ "again" ∷ "add a a c" ∷ "again" ∷ [])) (run 1000)
+    (0 ∷ 12 ∷ 17 ∷ three 2 2 1) ∷
+    row (counting "let b 3" "loop ne b 3 eq b 4" "again") (run 9) (26 ∷ 6 ∷ 1 ∷ three 0 3 0) ∷
+    row (walk "loop ne a 3 acc s n eq s.n 0") (run 1000) (26 ∷ 9 ∷ 15 ∷ three 1 2 1) ∷
+    -- "At `loop` the state shows the invariant. The body starts from the invariant and the condition alone, and its end shows the
+    -- invariant at `again`. The state afterwards is the invariant and the opposite alone."
+    row (walk "loop ne a 3 acc s n eq a 0") check (13 ∷ 9 ∷ []) ∷
+    row (walk "loop ne a 3") check (12 ∷ 10 ∷ []) ∷
+    row (withLine 10 "assert eq i 1" (walk "loop ne a 3 acc s n")) check (13 ∷ 10 ∷ []) ∷
+    row (withLine 10 "assert acc s n ne a 3" (walk "loop ne a 3 acc s n")) check (0 ∷ 0 ∷ []) ∷
+    row (walk "loop ne a 3 acc s n eq s.n 0") check (13 ∷ 16 ∷ []) ∷
+    row (withLine 17 "assert acc s n" (walk "loop ne a 3 acc s n")) check (0 ∷ 0 ∷ []) ∷
+    row (withLine 17 "assert eq i 1" (walk "loop ne a 3 acc s n")) check (13 ∷ 17 ∷ []) ∷
+    row (script ("new s S" ∷ "loop ne a a" ∷ "again" ∷ "assert acc s n" ∷ [])) check (12 ∷ 13 ∷ []) ∷
+    row (script ("new s S" ∷ "loop ne a a" ∷ "again" ∷ "assert acc s n" ∷ [])) (run 9) (0 ∷ 14 ∷ 4 ∷ three 1 0 0) ∷
+    -- "The invariant, and the condition after it, read only paths that the invariant holds"
+    row (walk "loop ne s.n 3 acc s n") check (13 ∷ 17 ∷ []) ∷
+    row (walk "loop ne s.n 3") check (10 ∷ 9 ∷ []) ∷
+    row (walk "loop ne a 3 eq a s.n acc s n") check (10 ∷ 9 ∷ []) ∷
+    -- "A `return` may also stand last before `again`, which then shows nothing."
+    row (leaving "return w") check (0 ∷ 0 ∷ []) ∷
+    row (leaving "return w") (run 1000) (0 ∷ 19 ∷ 7 ∷ three 1 0 0) ∷
+    row (leaving "assert") check (13 ∷ 10 ∷ []) ∷
+    row (withLine 8 "return w" (leaving "assert")) check (4 ∷ 9 ∷ []) ∷
+    -- "a condition atom (`eq` or `ne`) and then the atoms of an invariant, at most 8; `again` closes it"
+    row (walk "loop ne a 3 acc s n eq a a eq a a eq a a eq a a eq a a eq a a eq a a") check (0 ∷ 0 ∷ []) ∷
+    row (walk "loop ne a 3 acc s n eq a a eq a a eq a a eq a a eq a a eq a a eq a a eq a a") check (4 ∷ 9 ∷ []) ∷
+    row (walk "loop") check (4 ∷ 9 ∷ []) ∷
+    row (walk "loop acc s n ne a 3") check (4 ∷ 9 ∷ []) ∷
+    row (withLine 16 "again eq a a" (walk "loop ne a 3 acc s n")) check (4 ∷ 16 ∷ []) ∷
+    row (withLine 15 "again" (walk "loop ne a 3 acc s n")) check (4 ∷ 15 ∷ []) ∷
+    row (withLine 16 "end" (walk "loop ne a 3 acc s n")) check (4 ∷ 16 ∷ []) ∷
+    -- "Loops count toward the nesting limit of 4, both lines toward the 256."
+    row (numbers ("if eq a b" ∷ times 4 "loop eq a b")) check (5 ∷ 9 ∷ []) ∷
+    row ("class S" ∷ "main" ∷ "var S s" ∷ (times 254 "new s S" ++ ("loop ne s s" ∷ "again" ∷ "end" ∷ []))) check (5 ∷ 260 ∷ []) ∷
     -- W6: "its statement lines plus, for each `call` line, the bound of the method called"; "main's counted"
     row worked bound (0 ∷ 0 ∷ 9 ∷ 2 ∷ []) ∷
     row (withLine 17 "call b s tag a" worked) bound (0 ∷ 0 ∷ 12 ∷ 2 ∷ []) ∷
     row (oneLine "assert") bound (0 ∷ 0 ∷ 2 ∷ 1 ∷ []) ∷
     -- "after every check of document 01"
     row (withLine 5 "requires" worked) bound (12 ∷ 7 ∷ 0 ∷ 0 ∷ []) ∷
-    -- "15 at the first line that is .. a `call` whose method is, or can reach by calls, the method that the line is in"
+    -- "15 at the first line that is a `loop` or a `call` whose method is, or can reach by calls, the method that the line is in"
     row rings bound (15 ∷ 12 ∷ 0 ∷ 0 ∷ []) ∷
     row (withLine 12 "call a this there w" rings) bound (15 ∷ 12 ∷ 0 ∷ 0 ∷ []) ∷
     row (withLine 18 "assert" rings) bound (0 ∷ 0 ∷ 9 ∷ 4 ∷ []) ∷
+    row (walk "loop ne a 3 acc s n") bound (15 ∷ 9 ∷ 0 ∷ 0 ∷ []) ∷
+    row (("class S" ∷ method "method int m int w" ("loop ne w w" ∷ "again" ∷ [])) ++ ("main" ∷ "end" ∷ [])) bound (15 ∷ 6 ∷ 0 ∷ 0 ∷ []) ∷
     -- "16 at line 0 if the bound passes 1,000,000"
     row (tens []) bound (0 ∷ 0 ∷ 1000000 ∷ 7 ∷ []) ∷
     row (tens ("assert" ∷ [])) bound (16 ∷ 0 ∷ 0 ∷ 0 ∷ []) ∷
@@ -381,7 +473,7 @@ right : Row → Bool
 right r = eqName (answer (text (r .text)) (r .call)) (r .answer)
 
 all-right : T (all right rows)
-unfolding computing Printed.opened right answer row three text tabbed withLine times oneLine alias acrossCall twice oldValue twoFields branching innerJoin script throughPath overTwoPaths oneName oneOnBothSides counting lower method rings tens
+unfolding computing Printed.opened right answer row three text tabbed withLine times oneLine alias acrossCall twice oldValue twoFields branching innerJoin script throughPath overTwoPaths oneName oneOnBothSides numbers counting walk leaving lower method rings tens
 all-right = tt
 
 right-at : (rs : List Row) (d : Row) (i : ℕ) → i < length rs → T (all right rs) → T (right (getD rs i d))

@@ -9,7 +9,7 @@ use Rattle.rules.specs.Base.{any, first, mapOption}
 use Rattle.rules.specs.Limits.{most-bound}
 use Rattle.rules.specs.Answers.{Verdict, accepted, refused, unbounded, boundPassed}
 use Rattle.rules.specs.Syntax.{Stmt, Row, Program, noRow}
-use Rattle.rules.specs.Syntax.{set, assign, compute, new, call, return, assert, release, simple, if, else, join, end}
+use Rattle.rules.specs.Syntax.{set, assign, compute, new, call, return, assert, release, simple, if, else, join, loop, again, end}
 
 -- BLOCKS
 
@@ -19,6 +19,8 @@ isEnd (return x) = false
 isEnd (if n a b) = false
 isEnd else = false
 isEnd (join φ) = false
+isEnd (loop n a b φ) = false
+isEnd again = false
 isEnd end = true
 
 -- the method that a line calls
@@ -37,6 +39,8 @@ called (return x) = none
 called (if n a b) = none
 called else = none
 called (join φ) = none
+called (loop n a b φ) = none
+called again = none
 called end = none
 
 -- a block: its statement lines, the last of which is its `end`
@@ -120,9 +124,19 @@ unfoldable pub recursive : List Block → Option ℕ → ℕ → Bool
 recursive bs none n = false
 recursive bs (some a) n = eqb n a || reaches bs a n
 
+unfoldable pub isLoop : Stmt → Bool
+isLoop (simple p) = false
+isLoop (return x) = false
+isLoop (if n a b) = false
+isLoop else = false
+isLoop (join φ) = false
+isLoop (loop n a b φ) = true
+isLoop again = false
+isLoop end = false
+
 -- "a `loop` or a `call`" that is recursive
 unfoldable pub repeats : List Block → Option ℕ → Stmt → Bool
-repeats bs a s = elim (called s) [ none ↦ false | some n ↦ recursive bs a n ]
+repeats bs a s = elim (called s) [ none ↦ isLoop s | some n ↦ recursive bs a n ]
 
 unfoldable pub orLater : {A : Type 0} → Option A → Option A → Option A
 orLater none o = o
@@ -151,5 +165,5 @@ boundProgram P = boundOf P (firstRepeating P)
 
 -- Everything above computes where this unfolds.
 unfoldable pub opened : Unit {0}
-unfolding isEnd called upToEnd block blocks callees round valueBy total greatest blockBound methodBound blockFrames methodFrames blockReaches reaches mainBound mainFrames recursive repeats orLater firstIn firstFrom firstRepeating boundOf boundProgram
+unfolding isEnd called upToEnd block blocks callees round valueBy total greatest blockBound methodBound blockFrames methodFrames blockReaches reaches mainBound mainFrames recursive isLoop repeats orLater firstIn firstFrom firstRepeating boundOf boundProgram
 opened = tt

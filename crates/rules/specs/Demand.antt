@@ -9,7 +9,8 @@ use Rattle.rules.specs.Reading.{readText, program}
 use Rattle.rules.specs.Calls.{checkText, runText, wholeHeap, outcomeResult}
 use Rattle.rules.specs.Runs.{Run, FrameKept, outcome}
 
--- "run .. returns number 0, 21, 22 or 23"; of 27, "an accepted script may end so as well"
+-- "run .. returns number 0, 21, 22 or 23"; of 27, "an accepted script may end so as well"; "What an accepted script can't stop on now
+-- includes a false invariant."
 abbrev pub NotStuck : ℕ → Type 0
 NotStuck n = (n ≡ 0) ⊎ (n ≡ 21) ⊎ (n ≡ 22) ⊎ (n ≡ 23) ⊎ (n ≡ 27)
 

@@ -1,4 +1,4 @@
--- The twenty kinds of line: word, operands, and where each may stand. A kind of line is a row of this table.
+-- The twenty-two kinds of line: word, operands, and where each may stand. A kind of line is a row of this table.
 use mathlib.Core.Path.{_≡_}
 use mathlib.Core.Bool.{Bool, true, false, cond, _&&_, _||_, Bool·beq}
 use mathlib.Core.List.{List, [], _∷_, map}
@@ -6,7 +6,7 @@ use mathlib.Core.Option.{Option}
 use Prim.Native.Nat.{ℕ, _≤_}
 use Prim.Native.String.{String}
 use lib.Dec.{eqb, leb}
-use lib.ListN.{length, drop, getD}
+use lib.ListN.{length, take, drop, getD}
 use Rattle.rules.specs.Base.{Name, Try, ok, _>>=_, _>>_, check, orElse, first, is}
 use Rattle.rules.specs.Limits.{most-atoms}
 use Rattle.rules.specs.Answers.{Refusal, badByte, malformed}
@@ -15,7 +15,7 @@ use Rattle.rules.specs.Text.{clean, isName, isExpr, isFormula, isConditi
 
 -- the lines of a block after its `var` lines
 pub data Statement : Type 0 where
-  Set Let New Call Return Assert Release If Else Join End Add Sub : Statement
+  Set Let New Call Return Assert Release If Else Join End Add Sub Loop Again : Statement
 
 pub data Kind : Type 0 where
   Class Field Method Requires Ensures Main Var : Kind
@@ -40,9 +40,9 @@ pub data Operand : Type 0 where
   member : Member → Operand
   expression : Operand
 
--- what follows the operands: no more fields, one `eq` or `ne`, or the atoms of a formula
+-- what follows the operands: no more fields, one `eq` or `ne`, the atoms of a formula, or the one and then the other
 pub data Tail : Type 0 where
-  nothing condition formula : Tail
+  nothing condition formula both : Tail
 
 -- where in a text a line may stand
 pub data Stage : Type 0 where
@@ -70,7 +70,8 @@ unfoldable pub shaped : String → List Operand → Tail → Shape
 shaped w os t = record { word = w; operands = os; tail = t }
 
 -- "Statements: `set x f y`, `let x e`, `new x C`, `call x y m z`, `return x` .., `assert` formula, `release` formula, and `if eq e e`
--- or `if ne e e` .. `else` .. `join` formula." After `end`, see `Places`. "New lines `add x y z` and `sub x y z`" are numbered last.
+-- or `if ne e e` .. `else` .. `join` formula." After `end`, see `Places`. Document 02's are numbered last: "New lines `add x y z` and
+-- `sub x y z`"; "`loop` takes a condition atom (`eq` or `ne`) and then the atoms of an invariant, at most 8; `again` closes it."
 unfoldable pub shape : Statement → Shape
 shape Set = shaped "set" (variable read ∷ member field ∷ variable read ∷ []) nothing
 shape Let = shaped "let" (variable assigned ∷ expression ∷ []) nothing
@@ -85,9 +86,11 @@ shape Join = shaped "join" [] formula
 shape End = shaped "end" [] nothing
 shape Add = shaped "add" (variable assigned ∷ variable read ∷ variable read ∷ []) nothing
 shape Sub = shaped "sub" (variable assigned ∷ variable read ∷ variable read ∷ []) nothing
+shape Loop = shaped "loop" [] both
+shape Again = shaped "again" [] nothing
 
 abbrev pub statements : List Statement
-statements = Set ∷ Let ∷ New ∷ Call ∷ Return ∷ Assert ∷ Release ∷ If ∷ Else ∷ Join ∷ End ∷ Add ∷ Sub ∷ []
+statements = Set ∷ Let ∷ New ∷ Call ∷ Return ∷ Assert ∷ Release ∷ If ∷ Else ∷ Join ∷ End ∷ Add ∷ Sub ∷ Loop ∷ Again ∷ []
 
 abbrev pub kinds : List Kind
 kinds = Class ∷ Field ∷ Method ∷ Requires ∷ Ensures ∷ Main ∷ Var ∷ map statement statements
@@ -97,7 +100,7 @@ abbrev pub first-statement : ℕ
 first-statement = 8
 
 abbrev pub last-kind : ℕ
-last-kind = 20
+last-kind = 22
 
 abbrev pub IsKindNumber : ℕ → Type 0
 IsKindNumber n = (1 ≤ n) × (n ≤ last-kind)
@@ -119,6 +122,8 @@ statementNumber Join = 17
 statementNumber End = 18
 statementNumber Add = 19
 statementNumber Sub = 20
+statementNumber Loop = 21
+statementNumber Again = 22
 
 unfoldable pub kindNumber : Kind → ℕ
 kindNumber Class = 1
@@ -130,7 +135,7 @@ kindNumber Main = 6
 kindNumber Var = 7
 kindNumber (statement s) = statementNumber s
 
--- "statement lines .., with `else`, `join` and `end` counted"
+-- "statement lines .., with `else`, `join` and `end` counted"; of loops, "both lines toward the 256"
 unfoldable pub isStatement : Kind → Bool
 isStatement Class = false
 isStatement Field = false
@@ -145,17 +150,20 @@ isStatement (statement s) = true
 abbrev pub isStatementNumber : ℕ → Bool
 isStatementNumber n = leb first-statement n
 
--- The statements before such a line end there: "`if` .. `else` .. `join` formula"; "statements, `end`".
+-- The statements before such a line end there: "`if` .. `else` .. `join` formula"; "statements, `end`"; "`again` closes it".
 unfoldable pub isClosingNumber : ℕ → Bool
-isClosingNumber n = eqb n (statementNumber Else) || (eqb n (statementNumber Join) || eqb n (statementNumber End))
+isClosingNumber n =
+    eqb n (statementNumber Else)
+    || (eqb n (statementNumber Join) || (eqb n (statementNumber End) || eqb n (statementNumber Again)))
 
 -- `add` or `sub`
 unfoldable pub isComputing : ℕ → Bool
 isComputing n = eqb n (statementNumber Add) || eqb n (statementNumber Sub)
 
--- after a statement that neither opens nor closes a part of a branch, nor ends the method, the next line follows
+-- after a statement that neither opens nor closes a branch or a loop, nor ends the method, the next line follows
 abbrev pub GoesOn : ℕ → Type 0
-GoesOn n = (isClosingNumber n ≡ false) × (n ≡ statementNumber If → ⊥) × (n ≡ statementNumber Return → ⊥)
+GoesOn n =
+    (isClosingNumber n ≡ false) × (n ≡ statementNumber If → ⊥) × (n ≡ statementNumber Loop → ⊥) × (n ≡ statementNumber Return → ⊥)
 
 -- Have both one number? That a kind is no statement tells it from all of them at once.
 unfoldable pub isKind : Kind → Kind → Bool
@@ -163,7 +171,8 @@ isKind a k = Bool·beq (isStatement a) (isStatement k) && eqb (kindNumber a) (ki
 
 -- PLACE OF A LINE
 
--- With W2, "A statement between [`return`] and the next `else`, `join` or `end` is number 4": these alone may stand straight after it.
+-- With W2, "A statement between [`return`] and the next `else`, `join` or `end` is number 4"; with W5, "A `return` may also stand last before
+-- `again`": these alone may stand straight after it.
 unfoldable pub lastStage : Statement → Stage
 lastStage s = cond (isClosingNumber (statementNumber s)) afterReturn inBody
 
@@ -200,6 +209,7 @@ unfoldable pub isTail : Tail → List Name → Bool
 isTail nothing ws = eqb (length ws) 0
 isTail condition ws = isCondition ws
 isTail formula ws = isFormula most-atoms ws
+isTail both ws = isCondition (take 3 ws) && isFormula most-atoms (drop 3 ws)
 
 -- the fields after the word: operand by operand, then the tail
 unfoldable pub isFormed : List Operand → Tail → List Name → Bool

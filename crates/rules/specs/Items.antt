@@ -1,14 +1,15 @@
 -- What each line adds to the program, its names resolved to numbers: numbers 6, 7, 9 line by line.
 use mathlib.Core.List.{List, [], _∷_, map}
 use Prim.Native.Nat.{ℕ, suc}
+use lib.ListN.{drop}
 use Rattle.rules.specs.Base.{Name, Try, ok, _>>=_, _>>_, check, is}
 use Rattle.rules.specs.Answers.{Refusal, Verdict, accepted, atLine, then, undeclared, wrongType, wrongTarget}
 use Rattle.rules.specs.Syntax as Syntax
 use Rattle.rules.specs.Syntax.{Expr, Atom, Formula, Operation, Stmt, num, null, var, path, acc, cmp, sum, difference}
-use Rattle.rules.specs.Syntax.{set, assign, compute, new, call, return, assert, release, simple, if, else, join, end}
+use Rattle.rules.specs.Syntax.{set, assign, compute, new, call, return, assert, release, simple, if, else, join, loop, again, end}
 use Rattle.rules.specs.Text.{exprOf, relOf, formulaOf}
 use Rattle.rules.specs.Grammar.{Kind, Statement, Line, statement}
-use Rattle.rules.specs.Grammar.{Class, Field, Method, Requires, Ensures, Main, Var, Set, Let, New, Call, Return, Assert, Release, If, Else, Join, End, Add, Sub}
+use Rattle.rules.specs.Grammar.{Class, Field, Method, Requires, Ensures, Main, Var, Set, Let, New, Call, Return, Assert, Release, If, Else, Join, End, Add, Sub, Loop, Again}
 use Rattle.rules.specs.Scope.{Declarations, Variable, Scope, operand, atomsOf, visible, scopeAfter}
 use Rattle.rules.specs.Names.{variableNumber, variableType, fieldNumber, classNumber, methodNumber, allKnown, allTyped, allAssignable}
 
@@ -35,8 +36,11 @@ module _ (Γ : Declarations) (vs : List Variable) where
   resolveAtom (acc x f) = acc (variableNumber vs x) (fieldNumber Γ f)
   resolveAtom (cmp n a b) = cmp n (resolveExpr a) (resolveExpr b)
 
+  unfoldable pub resolveAtoms : List Name → Formula ℕ
+  resolveAtoms ws = map resolveAtom (formulaOf ws)
+
   unfoldable pub resolveFormula : Line → Formula ℕ
-  resolveFormula l = map resolveAtom (formulaOf (atomsOf l))
+  resolveFormula l = resolveAtoms (atomsOf l)
 
   unfoldable pub resolveField : Line → Syntax.Field
   resolveField l = record { name = fieldNumber Γ (operand l 1); int = is "int" (operand l 0) }
@@ -61,6 +65,12 @@ module _ (Γ : Declarations) (vs : List Variable) where
   unfoldable pub resolveIf : Line → Stmt
   resolveIf l = if (relOf (operand l 0)) (resolveExpr (exprOf (operand l 1))) (resolveExpr (exprOf (operand l 2)))
 
+  -- "a condition atom (`eq` or `ne`) and then the atoms of an invariant"
+  unfoldable pub resolveLoop : Line → Stmt
+  resolveLoop l =
+      loop (relOf (operand l 0)) (resolveExpr (exprOf (operand l 1))) (resolveExpr (exprOf (operand l 2)))
+      (resolveAtoms (drop 3 (atomsOf l)))
+
   unfoldable pub resolveStatement : Statement → Line → Stmt
   resolveStatement Set l = resolveSet l
   resolveStatement Let l = simple (assign (variableNumber vs (operand l 0)) (resolveExpr (exprOf (operand l 1))))
@@ -75,6 +85,8 @@ module _ (Γ : Declarations) (vs : List Variable) where
   resolveStatement End l = end
   resolveStatement Add l = resolveCompute sum l
   resolveStatement Sub l = resolveCompute difference l
+  resolveStatement Loop l = resolveLoop l
+  resolveStatement Again l = again
 
   unfoldable pub itemOf : Kind → Line → Item
   itemOf Class l = aClass
@@ -104,5 +116,5 @@ module _ (Γ : Declarations) where
 
 -- Everything above computes where this unfolds.
 unfoldable pub opened : Unit {0}
-unfolding resolveExpr resolveAtom resolveFormula resolveField resolveSet resolveCompute resolveCall resolveIf resolveStatement itemOf resolveLine resolveLines
+unfolding resolveExpr resolveAtom resolveAtoms resolveFormula resolveField resolveSet resolveCompute resolveCall resolveIf resolveLoop resolveStatement itemOf resolveLine resolveLines
 opened = tt

@@ -7,8 +7,8 @@ use lib.ListN.{length, getD, replicate, take, drop}
 use Rattle.rules.specs.Base.{Try, ok, no, _>>=_, _>>_, check, any, keep, update}
 use Rattle.rules.specs.Limits.{most-locals, most-frames, values-shown}
 use Rattle.rules.specs.Answers.{Stop, Ending, finished, stepsTaken, stopped, heapFull, framesFull, permissionMissing, nullFollowed, formulaFalse, overflow}
-use Rattle.rules.specs.Syntax.{Rel, Expr, Formula, Operation, Simple, Stmt, Row, Field, Method, Program, rowNumbered, methodNumbered, first-local, result-variable, words, sign, offset}
-use Rattle.rules.specs.Syntax.{eq, ne, num, null, var, path, acc, cmp, sum, difference, set, assign, compute, new, call, return, assert, release, simple, if, else, join, end}
+use Rattle.rules.specs.Syntax.{Rel, Expr, Formula, Operation, Simple, Stmt, Row, Field, Method, Program, noRow, rowNumbered, methodNumbered, first-local, result-variable, words, sign, offset}
+use Rattle.rules.specs.Syntax.{eq, ne, num, null, var, path, acc, cmp, sum, difference, set, assign, compute, new, call, return, assert, release, simple, if, else, join, loop, again, end}
 
 -- HEAP AND FRAMES
 
@@ -138,15 +138,17 @@ holding A F = record { values = F .values; held = A; row = F .row; ensures = F .
 unfoldable pub withFrame : Config → Frame → Config
 withFrame m F = record { heap = m .heap; frame = F; callers = m .callers }
 
--- BRANCHES
+-- BRANCHES AND LOOPS
 
--- the depth after a row, counted in further branches
+-- the depth after a row, counted in further branches and loops
 unfoldable pub depthAfter : Stmt → ℕ → ℕ
 depthAfter (simple p) d = d
 depthAfter (return x) d = d
 depthAfter (if n a b) d = suc d
 depthAfter else d = d
 depthAfter (join φ) d = pred d
+depthAfter (loop n a b φ) d = suc d
+depthAfter again d = pred d
 depthAfter end d = d
 
 unfoldable pub closes : Stmt → Bool
@@ -155,16 +157,38 @@ closes (return x) = false
 closes (if n a b) = false
 closes else = true
 closes (join φ) = true
+closes (loop n a b φ) = false
+closes again = true
 closes end = false
 
--- of the rows from number j on, the first that closes a part and is not in a further branch
+-- of the rows from number j on, the first that closes a part and is not in a further branch or loop
 unfoldable pub seek : ℕ → ℕ → List Row → ℕ
 seek d j [] = j
 seek d j (r ∷ rs) = let k : ℕ = seek (depthAfter (r .stmt) d) (suc j) rs in cond (closes (r .stmt) && eqb d 0) j k
 
--- the row that closes what row i opens: of an `if` "its `else`", of an `else` "its `join`"
+-- the row that closes what row i opens: of an `if` "its `else`", of an `else` "its `join`", of a `loop` its `again`
 unfoldable pub closing : List Row → ℕ → ℕ
 closing rs i = seek 0 (suc i) (drop (suc i) rs)
+
+-- the rows that opened what is open after row i, the innermost first; an `else` takes the place of its `if`
+unfoldable pub openAfter : Stmt → ℕ → List ℕ → List ℕ
+openAfter (simple p) i is = is
+openAfter (return x) i is = is
+openAfter (if n a b) i is = i ∷ is
+openAfter else i is = i ∷ drop 1 is
+openAfter (join φ) i is = drop 1 is
+openAfter (loop n a b φ) i is = i ∷ is
+openAfter again i is = drop 1 is
+openAfter end i is = is
+
+-- and what is open before row i
+unfoldable pub openAt : List Row → ℕ → List ℕ
+openAt rs zero = []
+openAt rs (suc i) = openAfter (getD rs i noRow .stmt) i (openAt rs i)
+
+-- the `loop` that an `again` at row i closes
+unfoldable pub loopOf : List Row → ℕ → ℕ
+loopOf rs i = getD (openAt rs i) 0 0
 
 -- one of two rows, by the condition
 unfoldable pub choose : Rel → Expr ℕ → Expr ℕ → ℕ → ℕ → Config → Try Stop Config
@@ -180,6 +204,14 @@ ifStep rs n a b m = choose n a b (suc (m .frame .row)) (suc (closing rs (m .fram
 -- "`else` (on to its `join`)"
 unfoldable pub elseStep : List Row → Config → Config
 elseStep rs m = withFrame m (jump (closing rs (m .frame .row)) (m .frame))
+
+-- "Each arrival at `loop` is a step that tests the invariant, then the condition, and if that is false goes on after `again`"
+unfoldable pub loopStep : List Row → Rel → Expr ℕ → Expr ℕ → Formula ℕ → Config → Try Stop Config
+loopStep rs n a b φ m = footprint (m .heap) (m .frame) φ >>= λ A. ifStep rs n a b m
+
+-- "`again` is a step back to it"
+unfoldable pub againStep : List Row → Config → Config
+againStep rs m = withFrame m (jump (loopOf rs (m .frame .row)) (m .frame))
 
 -- STATEMENTS
 
@@ -279,6 +311,8 @@ targetOf (return x) = 0
 targetOf (if n a b) = 0
 targetOf else = 0
 targetOf (join φ) = 0
+targetOf (loop n a b φ) = 0
+targetOf again = 0
 targetOf end = 0
 
 -- the statement that a frame does next
@@ -366,6 +400,8 @@ module _ (room : Room) (P : Program) where
   stepAt (if n a b) m = took (ifStep (P .rows) n a b m)
   stepAt else m = on (elseStep (P .rows) m)
   stepAt (join φ) m = took (assertStep φ m)
+  stepAt (loop n a b φ) m = took (loopStep (P .rows) n a b φ m)
+  stepAt again m = on (againStep (P .rows) m)
   stepAt end m = endStep P m (m .callers)
 
   -- "Each statement line is one step"
@@ -386,5 +422,5 @@ runProgram room P k = run room P k 0 (start P)
 
 -- Everything above computes where this unfolds.
 unfoldable pub opened : Unit {0}
-unfolding eqLocation among holds without valueIn object valueAt storeIn store fieldsOf valueOf locate value compared takeFrom footprint jump advance bind holding withFrame depthAfter closes seek closing choose ifStep elseStep stored setStep assignStep raised inRange computed computeStep newCell grown newStep entryValues callFrame entered callStep targetOf statementOf returned assertStep releaseStep took endStep returnStep mainFrame ends goOn simpleStep stepAt step run start runProgram
+unfolding eqLocation among holds without valueIn object valueAt storeIn store fieldsOf valueOf locate value compared takeFrom footprint jump advance bind holding withFrame depthAfter closes seek closing openAfter openAt loopOf choose ifStep elseStep loopStep againStep stored setStep assignStep raised inRange computed computeStep newCell grown newStep entryValues callFrame entered callStep targetOf statementOf returned assertStep releaseStep took endStep returnStep mainFrame ends goOn simpleStep stepAt step run start runProgram
 opened = tt

@@ -8,7 +8,7 @@ use Rattle.rules.specs.Base.{Name, Try, ok, _>>=_, _>>_, check, between}
 use Rattle.rules.specs.Limits.{most-classes, most-fields, most-methods, most-locals, most-statements, most-branches}
 use Rattle.rules.specs.Answers.{Refusal, Verdict, accepted, refused, atLine, then, malformed, limitPassed, textEnds}
 use Rattle.rules.specs.Grammar.{Kind, Stage, Line, form, readLine, isKind, isStatement}
-use Rattle.rules.specs.Grammar.{Class, Field, Method, Main, Var, statement, Return, If, Else, Join, End}
+use Rattle.rules.specs.Grammar.{Class, Field, Method, Main, Var, statement, Return, If, Else, Join, End, Loop, Again}
 use Rattle.rules.specs.Grammar.{beginning, inClass, afterMethod, afterHeader, afterRequires, inLocals, inBody, afterReturn, afterMain}
 
 -- the stages in the order of a text
@@ -23,13 +23,14 @@ stageNumber inBody = 6
 stageNumber afterReturn = 7
 stageNumber afterMain = 8
 
--- an open branch, before or after its `else`
+-- an open branch, before or after its `else`, or an open loop
 pub data Branch : Type 0 where
   beforeElse : Branch
   afterElse : Branch
+  inLoop : Branch
 
--- where the next line stands: main, where `main` is above it; the open branches, innermost first; what the lines above have used
--- of each limit
+-- where the next line stands: main, where `main` is above it; the open branches and loops, innermost first; what the lines above have
+-- used of each limit
 pub record Place : Type 0 where
   pub stage : Stage
   pub main : Bool
@@ -57,11 +58,19 @@ unfoldable pub mayElse : List Branch → Bool
 mayElse [] = false
 mayElse (beforeElse ∷ bs) = true
 mayElse (afterElse ∷ bs) = false
+mayElse (inLoop ∷ bs) = false
 
 unfoldable pub mayJoin : List Branch → Bool
 mayJoin [] = false
 mayJoin (beforeElse ∷ bs) = false
 mayJoin (afterElse ∷ bs) = true
+mayJoin (inLoop ∷ bs) = false
+
+unfoldable pub mayAgain : List Branch → Bool
+mayAgain [] = false
+mayAgain (beforeElse ∷ bs) = false
+mayAgain (afterElse ∷ bs) = false
+mayAgain (inLoop ∷ bs) = true
 
 unfoldable pub mayEnd : List Branch → Bool
 mayEnd [] = true
@@ -71,14 +80,15 @@ unfoldable pub outer : List Branch → List Branch
 outer [] = []
 outer (b ∷ bs) = bs
 
--- "`return x` (methods only)"; "`if` .. `else` .. `join`", and then `end`
+-- "`return x` (methods only)"; "`if` .. `else` .. `join`"; "`loop` .. `again` closes it"; and then `end`
 unfoldable pub fits : Kind → Place → Bool
 fits k p =
     cond (isKind (statement Return) k) (not (p .main))
     (cond (isKind (statement Else) k) (mayElse (p .branches))
     (cond (isKind (statement Join) k) (mayJoin (p .branches))
+    (cond (isKind (statement Again) k) (mayAgain (p .branches))
     (cond (isKind (statement End) k) (mayEnd (p .branches))
-    true)))
+    true))))
 
 unfoldable pub inPlace : Kind → Place → Bool
 inPlace k p = between (stageNumber (form k .first)) (stageNumber (form k .last)) (stageNumber (p .stage)) && fits k p
@@ -91,7 +101,9 @@ branchesAfter k bs =
     cond (isKind (statement If) k) (beforeElse ∷ bs)
     (cond (isKind (statement Else) k) (afterElse ∷ outer bs)
     (cond (isKind (statement Join) k) (outer bs)
-    bs))
+    (cond (isKind (statement Loop) k) (inLoop ∷ bs)
+    (cond (isKind (statement Again) k) (outer bs)
+    bs))))
 
 unfoldable pub oneMoreIf : Bool → ℕ → ℕ
 oneMoreIf b n = cond b (suc n) n
@@ -109,7 +121,8 @@ placeAfter k p =
       statements = oneMoreIf (isStatement k) (p .statements);
     }
 
--- "16 classes; 8 fields a class; 64 methods; 12 locals a block; 256 statement lines in the text ..; branches nest at most 4 deep"
+-- "16 classes; 8 fields a class; 64 methods; 12 locals a block; 256 statement lines in the text ..; branches nest at most 4 deep";
+-- "Loops count toward the nesting limit of 4, both lines toward the 256."
 unfoldable pub withinLimits : Place → Bool
 withinLimits p =
     leb (p .classes) most-classes
@@ -144,5 +157,5 @@ scanLines (l ∷ ls) n p =
 
 -- Everything above computes where this unfolds.
 unfoldable pub opened : Unit {0}
-unfolding stageNumber mayElse mayJoin mayEnd outer fits inPlace stageAfter branchesAfter oneMoreIf placeAfter withinLimits placeLine scanLine ended scanLines
+unfolding stageNumber mayElse mayJoin mayAgain mayEnd outer fits inPlace stageAfter branchesAfter oneMoreIf placeAfter withinLimits placeLine scanLine ended scanLines
 opened = tt

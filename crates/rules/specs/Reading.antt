@@ -8,7 +8,7 @@ use Rattle.rules.specs.Base.{any}
 use Rattle.rules.specs.Limits.{most-bytes}
 use Rattle.rules.specs.Answers.{Verdict, accepted, refused, then, textTooLong, unframed}
 use Rattle.rules.specs.Syntax.{Expr, Formula, Stmt, Method, Program}
-use Rattle.rules.specs.Syntax.{num, null, var, path, acc, cmp, simple, return, if, else, join, end}
+use Rattle.rules.specs.Syntax.{num, null, var, path, acc, cmp, simple, return, if, else, join, loop, again, end}
 use Rattle.rules.specs.Text.{lines}
 use Rattle.rules.specs.Places.{firstPlace, scanLines}
 use Rattle.rules.specs.Scope.{declarations, firstScope}
@@ -22,7 +22,8 @@ readText t =
     then (scanLines (lines t) 0 firstPlace) λ ls. resolveLines (declarations ls) ls 0 firstScope in
     cond (ltb most-bytes (length t)) (refused textTooLong 0) read
 
--- NUMBER 10: "requires, ensures or join reads `x.f` with no `acc x f` before it in the line"
+-- NUMBER 10: "requires, ensures or join reads `x.f` with no `acc x f` before it in the line"; of a loop, "The invariant, and the condition
+-- after it, read only paths that the invariant holds; number 10 covers this line."
 
 pub record Access : Type 0 where
   pub variable : ℕ
@@ -45,6 +46,8 @@ framedStmt (return x) = true
 framedStmt (if n a b) = true
 framedStmt else = true
 framedStmt (join φ) = framed [] φ
+framedStmt (loop n a b φ) = framed [] (φ ++ (cmp n a b ∷ []))
+framedStmt again = true
 framedStmt end = true
 
 unfoldable pub framedItem : Item → Bool

@@ -1,4 +1,4 @@
--- The checker's rules: each statement, branches, methods and main.
+-- The checker's rules: each statement, branches, loops, methods and main.
 use mathlib.Core.Bool.{cond}
 use mathlib.Core.List.{List, [], _∷_, map}
 use mathlib.Core.Option.{Option, none, some}
@@ -8,7 +8,7 @@ use lib.ListN.{getD, drop}
 use Rattle.rules.specs.Base.{Try, ok, _>>=_, _>>_, check, orElse}
 use Rattle.rules.specs.Answers.{Refusal, Verdict, accepted, refused, atLine, then, malformed, textEnds, noPermission, notShown}
 use Rattle.rules.specs.Syntax.{Rel, Atom, Formula, Simple, Stmt, Row, Field, Method, Program, methodNumbered, same, this-variable, parameter, result-variable}
-use Rattle.rules.specs.Syntax.{eq, ne, num, null, var, path, acc, cmp, set, assign, compute, new, call, return, assert, release, simple, if, else, join, end}
+use Rattle.rules.specs.Syntax.{eq, ne, num, null, var, path, acc, cmp, set, assign, compute, new, call, return, assert, release, simple, if, else, join, loop, again, end}
 use Rattle.rules.specs.State.{Term, State, empty, pathOf, equalIn, names, resolve, holdsIn, split, show, dropPaths, remainder, standIn, removedTerm, removeTo, remove, addPermission, addFact, add}
 
 -- y, z and x for `this`, w and `result`
@@ -95,16 +95,23 @@ showEnd φ (some s) = show s φ >>= λ r. ok tt
 unfoldable pub joinRule : Formula ℕ → End → End → Try Refusal State
 joinRule φ e₁ e₂ = showEnd φ e₁ >>= λ u. showEnd φ e₂ >>= λ u. add φ empty
 
--- a branch that is open: in its first part, with the state in which the second starts; in its second, with the first's end
+-- "At `loop` the state shows the invariant. The body starts from the invariant and the condition alone"; "The state afterwards is the
+-- invariant and the opposite alone." These two states are the result.
+unfoldable pub loopRule : Rel → Term → Term → Formula ℕ → State → Try Refusal (State × State)
+loopRule n a b φ s = show s φ >>= λ r. add φ empty >>= λ s₀. ifRule n a b s₀
+
+-- a branch that is open: in its first part, with the state in which the second starts; in its second, with the first's end; or a loop
+-- that is open, with its invariant and the state afterwards
 pub data Open : Type 0 where
   inFirst : State → Open
   inSecond : End → Open
+  inLoop : Formula ℕ → State → Open
 
 -- what follows a line of a block
 abbrev pub Following : Type 0
 Following = End → List Open → Verdict (Unit {0})
 
--- Lines out of place do not come from the reader; they are refused. After a `return` only `else`, `join` and `end` are in place.
+-- Lines out of place do not come from the reader; they are refused. After a `return` only `else`, `join`, `again` and `end` are in place.
 unfoldable pub reached : ℕ → End → (State → Verdict (Unit {0})) → Verdict (Unit {0})
 reached l none k = refused malformed l
 reached l (some s) k = k s
@@ -113,11 +120,20 @@ unfoldable pub elseRow : ℕ → Following → End → List Open → Verdict (Un
 elseRow l k e [] = refused malformed l
 elseRow l k e (inFirst s₂ ∷ os) = k (some s₂) (inSecond e ∷ os)
 elseRow l k e (inSecond e₁ ∷ os) = refused malformed l
+elseRow l k e (inLoop φ s ∷ os) = refused malformed l
 
 unfoldable pub joinRow : ℕ → Formula ℕ → Following → End → List Open → Verdict (Unit {0})
 joinRow l φ k e [] = refused malformed l
 joinRow l φ k e (inFirst s₂ ∷ os) = refused malformed l
 joinRow l φ k e (inSecond e₁ ∷ os) = atLine l (joinRule φ e₁ e) λ s′. k (some s′) os
+joinRow l φ k e (inLoop ψ s ∷ os) = refused malformed l
+
+-- "its end shows the invariant at `again`"; "A `return` may also stand last before `again`, which then shows nothing."
+unfoldable pub againRow : ℕ → Following → End → List Open → Verdict (Unit {0})
+againRow l k e [] = refused malformed l
+againRow l k e (inFirst s₂ ∷ os) = refused malformed l
+againRow l k e (inSecond e₁ ∷ os) = refused malformed l
+againRow l k e (inLoop φ s ∷ os) = atLine l (showEnd φ e) λ u. k (some s) os
 
 -- "its `end` must show ensures"; "an `end` straight after a `return` shows nothing"
 unfoldable pub endRow : ℕ → Formula ℕ → End → List Open → Verdict (Unit {0})
@@ -136,13 +152,16 @@ module _ (P : Program) where
   rule (assert φ) s = show s φ >>= λ r. ok s
   rule (release φ) s = show s φ >>= λ r. ok (remainder s r)
 
-  -- one line of a block with the ensures φ, and then k; os: the branches that are open, innermost first
+  -- one line of a block with the ensures φ, and then k; os: the branches and loops that are open, innermost first
   unfoldable pub checkRow : Stmt → ℕ → Formula ℕ → Following → End → List Open → Verdict (Unit {0})
   checkRow (simple p) l φ k e os = reached l e λ s. atLine l (rule p s) λ s′. k (some s′) os
   checkRow (return x) l φ k e os = reached l e λ s. atLine l (returnRule x φ s) λ u. k none os
   checkRow (if n a b) l φ k e os = reached l e λ s. atLine l (ifRule n a b s) λ c. k (some (c .0)) (inFirst (c .1) ∷ os)
   checkRow else l φ k e os = elseRow l k e os
   checkRow (join ψ) l φ k e os = joinRow l ψ k e os
+  checkRow (loop n a b ψ) l φ k e os =
+      reached l e λ s. atLine l (loopRule n a b ψ s) λ c. k (some (c .0)) (inLoop ψ (c .1) ∷ os)
+  checkRow again l φ k e os = againRow l k e os
   checkRow end l φ k e os = endRow l φ e os
 
   unfoldable pub checkRows : Formula ℕ → List Row → End → List Open → Verdict (Unit {0})
@@ -167,5 +186,5 @@ module _ (P : Program) where
 
 -- Everything above computes where this unfolds.
 unfoldable pub opened : Unit {0}
-unfolding actual substTerm substAtom addEqual assignRule addFields initial addInitial newRule setRule callRule opposite ifRule returnRule showEnd joinRule reached elseRow joinRow endRow rule checkRow checkRows checkFrom checkMethod checkBlocks checkProgram
+unfolding actual substTerm substAtom addEqual assignRule addFields initial addInitial newRule setRule callRule opposite ifRule returnRule showEnd joinRule loopRule reached elseRow joinRow againRow endRow rule checkRow checkRows checkFrom checkMethod checkBlocks checkProgram
 opened = tt

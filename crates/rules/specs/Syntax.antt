@@ -66,12 +66,15 @@ pub data Simple : Type 0 where
   assert : Formula ℕ → Simple
   release : Formula ℕ → Simple
 
+-- of a `loop` its condition, then its invariant
 pub data Stmt : Type 0 where
   simple : Simple → Stmt
   return : ℕ → Stmt
   if : Rel → Expr ℕ → Expr ℕ → Stmt
   else : Stmt
   join : Formula ℕ → Stmt
+  loop : Rel → Expr ℕ → Expr ℕ → Formula ℕ → Stmt
+  again : Stmt
   end : Stmt
 
 -- a statement line with its number

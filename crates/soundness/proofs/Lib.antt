@@ -12,6 +12,7 @@ pub mod SetSound
 pub mod NewSound
 pub mod AssertSound
 pub mod BranchSound
+pub mod LoopSound
 pub mod CallSound
 pub mod ReturnSound
 pub mod StepKeeps

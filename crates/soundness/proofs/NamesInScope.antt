@@ -14,7 +14,7 @@ use Rattle.rules.specs.Grammar.{Space, Operand, Tail, Line, statement, Call, fo
 use Rattle.rules.specs.Grammar.{read, assigned, field, new, typeName, variable, member, expression}
 use Rattle.rules.specs.Scope.{Declarations, Variable, Scope, Slot, operand, declaredIn, slotsFrom, atomOperands, atomSlots, atomsOf, slots}
 use Rattle.rules.specs.Names.{noVariable, isLocal, inScope, lookUp, variableNumber, knownExpr, known, allKnown, mayBeAssigned, callApart, allAssignable}
-use Rattle.rules.specs.Items.{resolveExpr, resolveAtom, resolveFormula}
+use Rattle.rules.specs.Items.{resolveExpr, resolveAtom, resolveAtoms, resolveFormula}
 use Rattle.rules.proofs.Lists.{Member, any-in, or-cases, and-both, all-append, first-member, name-same}
 use Rattle.soundness.specs.WellFormed.{TermOver, Over}
 use Rattle.rules.proofs.LinesTaken.{HasForm}
@@ -132,7 +132,7 @@ module _ (Γ : Declarations) (vs : List Variable) (Q : ℕ → Type 0) (has : (v
         atom-over w a b (map (resolveAtom Γ vs) (formulaOf ws)) x (atoms-over ws y)
 
     pub formula-over : (l : Line) → T (allKnown Γ vs s l) → Over Q (resolveFormula Γ vs l)
-    unfolding allKnown slots resolveFormula
+    unfolding allKnown slots resolveAtoms resolveFormula
     formula-over l h =
         atoms-over (atomsOf l)
         (all-append (knownSlot Γ vs s) (slotsFrom [] (form (l .kind) .operands) (l .fields)) (atomSlots (atomsOf l)) h .1)

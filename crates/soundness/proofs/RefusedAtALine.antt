@@ -15,26 +15,26 @@ use Rattle.rules.specs.Base.{Name, Try}
 use Rattle.rules.specs.Limits.{most-branches, most-atoms}
 use Rattle.rules.specs.Answers.{Refusal, Verdict, accepted, refused, atLine, then, textEnds, unframed}
 use Rattle.rules.specs.Syntax as Syntax
-use Rattle.rules.specs.Syntax.{Formula, Stmt, Row, Program, simple, return, if, else, join, end}
+use Rattle.rules.specs.Syntax.{Formula, Stmt, Row, Program, simple, return, if, else, join, loop, again, end}
 use Rattle.rules.specs.Text.{lines}
 use Rattle.rules.specs.Grammar as Grammar
 use Rattle.rules.specs.Grammar.{Kind, Line, Class, Field, Method, Requires, Ensures, Main, Var, statement}
 use Rattle.rules.specs.Places.{Place, firstPlace, scanLine, ended, scanLines}
 use Rattle.rules.specs.Scope as Scope
 use Rattle.rules.specs.Scope.{Scope, Declarations, Variable, declarations, firstScope, scopeAfter}
-use Rattle.rules.specs.Items.{Item, aClass, aField, aMethod, aRequires, anEnsures, aMain, aLocal, aStatement, itemOf, resolveFormula, resolveLine, resolveLines}
+use Rattle.rules.specs.Items.{Item, aClass, aField, aMethod, aRequires, anEnsures, aMain, aLocal, aStatement, itemOf, resolveAtoms, resolveFormula, resolveLine, resolveLines}
 use Rattle.rules.specs.Reading.{readText, framed, framedItem, checkFramed, withRequires, withEnsures, program}
 use Rattle.rules.specs.State.{State, empty}
-use Rattle.rules.specs.Rules.{End, Open, inFirst, inSecond, Following, reached, elseRow, joinRow, endRow, checkRow, checkRows, checkFrom, checkMethod, checkBlocks, checkProgram}
+use Rattle.rules.specs.Rules.{End, Open, inFirst, inSecond, inLoop, Following, reached, elseRow, joinRow, againRow, endRow, checkRow, checkRows, checkFrom, checkMethod, checkBlocks, checkProgram}
 use Rattle.rules.specs.Calls.{checkItems, verdictNumbers, checkText}
 use Rattle.rules.proofs.Lists.{and-both}
 use Rattle.rules.proofs.Tries.{refused-accepted, accepted-inj, atLine-accepted, then-accepted}
 use Rattle.rules.proofs.LinesTaken.{HasForm, TakenLines, none, line, lineOf, read-passes, read-taken}
-use Rattle.nesting.specs.Nests.{Wait, forElse, forJoin, rowNests, rowsNest, isReturn, mayFollow, returnsLast}
+use Rattle.nesting.specs.Nests.{Wait, forElse, forJoin, forAgain, rowNests, rowsNest, isReturn, mayFollow, returnsLast}
 use Rattle.nesting.proofs.ReadOrder.{BodiesNest, read-blocks}
 use Rattle.nesting.proofs.Returns.{read-returns}
 use Rattle.rules.specs.Refusals.{FromRules, LineOf, RefusedAtALine}
-use Rattle.soundness.proofs.RulesRefuse.{OfRules, ten, row-number, Ruled, yes, for, rule-ruled, return-ruled, if-ruled, join-ruled, end-ruled}
+use Rattle.soundness.proofs.RulesRefuse.{OfRules, ten, row-number, Ruled, yes, for, rule-ruled, return-ruled, if-ruled, loop-ruled, join-ruled, end-ruled}
 use Rattle.soundness.proofs.RequiresAdded.{Addable, requires-added, few-atoms}
 use Rattle.soundness.proofs.ProgramParts.{All, all-drop, ItemsHold, Kept, Parts, parts}
 
@@ -79,7 +79,7 @@ Few (aStatement s) = Unit {0}
 
 module _ (Γ : Declarations) (vs : List Variable) (ws : List Name) where
   requires-few : HasForm (lineOf Requires ws) → length (resolveFormula Γ vs (lineOf Requires ws)) ≤ most-atoms
-  unfolding Base.opened Grammar.opened Scope.opened resolveFormula
+  unfolding Base.opened Grammar.opened Scope.opened resolveAtoms resolveFormula
   requires-few h = rw length-map (few-atoms most-atoms ws h)
 
   line-few : (k : Kind) → HasForm (lineOf k ws) → Few (itemOf Γ vs k (lineOf k ws))
@@ -153,11 +153,12 @@ module _ (L : ℕ → Type 0) where
   fair-then passes h = h _ refl
   fair-then (at r i) h = at r i
 
-  -- what the open branches of the check wait for
+  -- what the open branches and loops of the check wait for
   waits : List Open → List Wait
   waits [] = []
   waits (inFirst s ∷ os) = forElse ∷ waits os
   waits (inSecond s ∷ os) = forJoin ∷ waits os
+  waits (inLoop ψ s ∷ os) = forAgain ∷ waits os
 
   -- has the line above returned?
   returned : End → Bool
@@ -171,7 +172,7 @@ module _ (L : ℕ → Type 0) where
         T (rowNests x (waits os) n) → T (not (returned e) || mayFollow x) → T (f (isReturn x)) →
         ((e : End) (os : List Open) → T (n false (waits os)) → T (f (returned e)) → Fair (k e os)) →
         Fair (checkRow P x l φ k e os)
-    unfolding checkRow reached rowNests elseRow joinRow endRow waits returned mayFollow isReturn
+    unfolding checkRow reached rowNests elseRow joinRow againRow endRow waits returned mayFollow isReturn
     row-fair (simple p) l k Option.none os n f i t u v h = absurd u
     row-fair (simple p) l k (some s) os n f i t u v h = at-line i (rule-ruled P p s) (λ s′. h (some s′) os t v)
     row-fair (return x) l k Option.none os n f i t u v h = absurd u
@@ -184,12 +185,24 @@ module _ (L : ℕ → Type 0) where
     row-fair else l k e [] n f i t u v h = absurd t
     row-fair else l k e (inFirst s₂ ∷ os) n f i t u v h = h (some s₂) (inSecond e ∷ os) t v
     row-fair else l k e (inSecond e₁ ∷ os) n f i t u v h = absurd t
+    row-fair else l k e (inLoop ψ s ∷ os) n f i t u v h = absurd t
     row-fair (join ψ) l k e [] n f i t u v h = absurd t
     row-fair (join ψ) l k e (inFirst s₂ ∷ os) n f i t u v h = absurd t
     row-fair (join ψ) l k e (inSecond e₁ ∷ os) n f i t u v h = at-line i (join-ruled ψ e₁ e) (λ s′. h (some s′) os t v)
+    row-fair (join ψ) l k e (inLoop χ s ∷ os) n f i t u v h = absurd t
+    row-fair (loop r a b ψ) l k Option.none os n f i t u v h = absurd u
+    row-fair (loop r a b ψ) l k (some s) os n f i t u v h =
+        at-line i (loop-ruled r a b ψ s)
+        (λ c.
+        h (some (c .0)) (inLoop ψ (c .1) ∷ os) (and-both (ltb (length (waits os)) most-branches) (n false (forAgain ∷ waits os)) t .1) v)
+    row-fair again l k e [] n f i t u v h = absurd t
+    row-fair again l k e (inFirst s₂ ∷ os) n f i t u v h = absurd t
+    row-fair again l k e (inSecond e₁ ∷ os) n f i t u v h = absurd t
+    row-fair again l k e (inLoop ψ s ∷ os) n f i t u v h = at-line i (end-ruled ψ e) (λ r. h (some s) os t v)
     row-fair end l k e [] n f i t u v h = at-line i (end-ruled φ e) (λ r. passes)
     row-fair end l k e (inFirst s₂ ∷ os) n f i t u v h = absurd t
     row-fair end l k e (inSecond e₁ ∷ os) n f i t u v h = absurd t
+    row-fair end l k e (inLoop ψ s ∷ os) n f i t u v h = absurd t
 
     rows-fair :
         (rs : List Row) (e : End) (os : List Open) → All AtLine rs → T (rowsNest false (waits os) rs) →
@@ -198,6 +211,7 @@ module _ (L : ℕ → Type 0) where
     rows-fair [] e [] a t r = absurd t
     rows-fair [] e (inFirst s₂ ∷ os) a t r = absurd t
     rows-fair [] e (inSecond e₁ ∷ os) a t r = absurd t
+    rows-fair [] e (inLoop ψ s ∷ os) a t r = absurd t
     rows-fair (x ∷ rs) e os a t r =
         let (u, v) = and-both (not (returned e) || mayFollow (x .stmt)) (returnsLast (isReturn (x .stmt)) rs) r in
         row-fair (x .stmt) (x .line) _ e os (λ b ws. rowsNest b ws rs) (λ b. returnsLast b rs) (a .0) t u v

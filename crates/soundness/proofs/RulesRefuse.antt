@@ -1,4 +1,4 @@
--- The rules refuse with 11 to 14 only: each operation on states, each statement's rule, `return`, `if` and `join`.
+-- The rules refuse with 11 to 14 only: each operation on states, each statement's rule, `return`, `if`, `loop` and `join`.
 use mathlib.Core.Bool.{Bool, true, false, cond}
 use mathlib.Core.List.{List, [], _∷_}
 use mathlib.Core.Option.{Option, none, some}
@@ -8,7 +8,7 @@ use Rattle.rules.specs.Base.{Try, ok, no, _>>=_, _>>_, check, orElse}
 use Rattle.rules.specs.Answers.{Refusal, refusalNumber, unframed, unresolved, noPermission, notShown, stateFull}
 use Rattle.rules.specs.Syntax.{Rel, Formula, Simple, Field, Program, same, eq, num, null, var, path, acc, cmp, set, assign, compute, new, call, assert, release, result-variable}
 use Rattle.rules.specs.State.{Term, State, Permission, Equality, Shown, empty, resolve, showFrom, show, addPermission, addFact, add}
-use Rattle.rules.specs.Rules.{addEqual, assignRule, addFields, addInitial, newRule, setRule, callRule, ifRule, returnRule, End, showEnd, joinRule, rule}
+use Rattle.rules.specs.Rules.{addEqual, assignRule, addFields, addInitial, newRule, setRule, callRule, ifRule, returnRule, End, showEnd, joinRule, loopRule, rule}
 use Rattle.rules.specs.Refusals.{FromRules}
 
 -- the refusals of the rows 10 to 14
@@ -121,6 +121,10 @@ unfolding ifRule
 if-ruled n a b s =
     bind (resolve-ruled _ _ a) (λ t.
     bind (resolve-ruled _ _ b) (λ u. bind (fact-ruled _ _ _ s) (λ s₁. bind (fact-ruled _ _ _ s) (λ s₂. yes))))
+
+pub loop-ruled : (n : Rel) (a b : Term) (φ : Formula ℕ) (s : State) → Ruled (loopRule n a b φ s)
+unfolding loopRule
+loop-ruled n a b φ s = bind (show-ruled s φ) (λ r. bind (add-ruled φ empty) (if-ruled n a b))
 
 pub return-ruled : (x : ℕ) (φ : Formula ℕ) (s : State) → Ruled (returnRule x φ s)
 unfolding returnRule

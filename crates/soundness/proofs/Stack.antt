@@ -9,24 +9,27 @@ use Rattle.rules.specs.Answers.{Stop}
 use Rattle.rules.specs.Syntax.{Formula, Program, rowNumbered, this-variable, parameter, call, simple, join, end}
 use Rattle.rules.specs.State.{State, Shown, empty, show, add, remove}
 use Rattle.rules.specs.Rules.{Open, actual, substAtom}
-use Rattle.rules.specs.Machine.{Config, Frame, Heap, Location, Room, Step, on, stop, done, step, took, valueOf}
+use Rattle.rules.specs.Machine.{Config, Frame, Heap, Location, Room, Step, on, stop, done, step, took, valueOf, openAt}
 use Rattle.rules.proofs.Changes.{Within, change-within, step-changes}
 use Rattle.rules.proofs.Disjoint.{shares, HeldOnce, HeldExists, share-held, shares-cons, change-keeps}
 use Rattle.rules.proofs.Sets.{Holds}
 use Rattle.soundness.specs.WellFormed.{SimpleFormed, AtEnd, Over}
 use Rattle.soundness.specs.Endings.{MayStop}
 use Rattle.soundness.proofs.Satisfied.{Satisfied, AgreeAt, satisfied-heap}
-use Rattle.soundness.proofs.Branches.{Accepts}
+use Rattle.soundness.proofs.Branches.{LoopAt, Opened, Accepts}
 
 -- THE FRAME THAT RUNS
--- from its next row on it is accepted in a state that it satisfies; or that row is the `join` to which its first branch goes on; or
--- it is the frame of a method that is not there
+-- from its next row on it is accepted in a state that it satisfies; or that row is the `join` to which its first branch goes on, or
+-- the `loop` to which `again` goes back; or it is the frame of a method that is not there
 pub data Ready (P : Program) (h : Heap) (F : Frame) : Type 0 where
   at-row : (s : State) (os : List Open) → Satisfied h F s → Accepts P (F .ensures) (F .row) (some s) os → Ready P h F
   at-join :
       (φ : Formula ℕ) (s s′ : State) (u : Shown) (os : List Open) →
       rowNumbered P (F .row) .stmt ≡ join φ → Satisfied h F s → show s φ ≡ ok u → add φ empty ≡ ok s′ →
       Accepts P (F .ensures) (suc (F .row)) (some s′) os → Ready P h F
+  at-loop :
+      (φ : Formula ℕ) (s : State) (u : Shown) (os : List Open) → Satisfied h F s → show s φ ≡ ok u →
+      LoopAt P (F .ensures) (F .row) φ os → Opened P (F .ensures) os (openAt (P .rows) (F .row)) → Ready P h F
   at-nothing : rowNumbered P (F .row) .stmt ≡ end → F .ensures ≡ [] → Ready P h F
 
 -- A CALLER

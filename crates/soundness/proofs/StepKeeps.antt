@@ -1,5 +1,5 @@
 -- Each step of an accepted program keeps the invariant, or finds the machine full, or is main's `end`.
-use mathlib.Core.Path.{_≡_, refl, sym, ap, subst}
+use mathlib.Core.Path.{_≡_, refl, sym, ap, _∙_, subst}
 use mathlib.Core.List.{List, [], _∷_}
 use mathlib.Core.Option.{some}
 use Prim.Native.Nat.{ℕ, suc, _≤_}
@@ -7,10 +7,10 @@ use native.Mathlib.Omega.{arith}
 use lib.ListN.{length, getD}
 use Rattle.rules.specs.Base.{Try, ok}
 use Rattle.rules.specs.Answers.{Stop}
-use Rattle.rules.specs.Syntax.{Formula, Simple, Stmt, Program, rowNumbered, set, assign, compute, new, call, return, assert, release, simple, if, else, join, end}
+use Rattle.rules.specs.Syntax.{Formula, Simple, Stmt, Program, rowNumbered, set, assign, compute, new, call, return, assert, release, simple, if, else, join, loop, again, end}
 use Rattle.rules.specs.State.{State, show}
-use Rattle.rules.specs.Rules.{Open, inFirst, inSecond, rule, returnRule, ifRule, showEnd, joinRule, checkRow, reached, elseRow, joinRow, endRow}
-use Rattle.rules.specs.Machine.{ifStep, elseStep, Config, Location, Room, Step, on, stop, done, statementOf, footprint, takeFrom, took, simpleStep, stepAt, step, computeStep, assertStep, releaseStep}
+use Rattle.rules.specs.Rules.{Open, inFirst, inSecond, inLoop, rule, returnRule, ifRule, loopRule, showEnd, joinRule, checkRow, reached, elseRow, joinRow, againRow, endRow}
+use Rattle.rules.specs.Machine.{openAfter, ifStep, elseStep, Config, Location, Room, Step, on, stop, done, statementOf, footprint, takeFrom, took, simpleStep, stepAt, step, computeStep, assertStep, releaseStep}
 use Rattle.rules.proofs.Tries.{bind-ok, ok-inj, atLine-accepted, refused-accepted}
 use Rattle.rules.proofs.Sets.{Holds}
 use Rattle.rules.proofs.Disjoint.{share-held}
@@ -18,13 +18,14 @@ use Rattle.soundness.specs.WellFormed.{SimpleFormed, StmtFormed, WellFor
 use Rattle.soundness.specs.Endings.{MayStop}
 use Rattle.soundness.proofs.Satisfied.{Satisfied}
 use Rattle.soundness.proofs.ShowSound.{show-sound}
-use Rattle.soundness.proofs.Branches.{Accepts, AcceptsAt, accepts-row}
-use Rattle.soundness.proofs.Stack.{Ready, at-row, at-join, at-nothing, Invariant, Goes, Kept, goes-kept, moved-invariant}
+use Rattle.soundness.proofs.Branches.{Accepts, AcceptsAt, accepts-row, next, loop-at}
+use Rattle.soundness.proofs.Stack.{Ready, at-row, at-join, at-loop, at-nothing, Invariant, Goes, Kept, goes-kept, moved-invariant}
 use Rattle.soundness.proofs.AssignSound.{assign-sound, compute-sound}
 use Rattle.soundness.proofs.SetSound.{set-sound}
 use Rattle.soundness.proofs.NewSound.{new-sound}
 use Rattle.soundness.proofs.AssertSound.{assert-sound, join-sound, release-sound}
 use Rattle.soundness.proofs.BranchSound.{if-sound, else-sound}
+use Rattle.soundness.proofs.LoopSound.{loop-sound, again-sound}
 use Rattle.soundness.proofs.CallSound.{MethodsAccepted, call-sound, end-sound}
 use Rattle.soundness.proofs.ReturnSound.{return-sound}
 
@@ -66,40 +67,56 @@ module _ (room : Room) (P : Program) (W : WellFormed P) (all : MethodsAccepted P
         onward s′ os _ k (subst (λ w. Goes m w (releaseStep φ m)) (ok-inj q) (release-sound m s S φ u b))
 
     row-kept :
-        (os : List Open) (t : Stmt) → rowNumbered P (m .frame .row) .stmt ≡ t →
-        AcceptsAt P (m .frame .ensures) t (m .frame .row) (some s) os → Kept P m (stepAt room P t m)
-    unfolding checkRow reached elseRow joinRow endRow stepAt ifStep elseStep joinRule showEnd
-    row-kept os (simple p) c k =
-        let (s′, a, b) = atLine-accepted _ (rule P p s) _ _ k in
-        simple-kept p c (subst StmtFormed c (W .rows (m .frame .row))) s′ os a b
-    row-kept os (return x) c k =
-        let (_, a, _) = atLine-accepted _ (returnRule x (m .frame .ensures) s) _ _ k in
+        (os : List Open) (t : Stmt) → AcceptsAt P (m .frame .ensures) t (m .frame .row) (some s) os → Kept P m (stepAt room P t m)
+    unfolding checkRow reached elseRow joinRow againRow endRow stepAt ifStep elseStep joinRule loopRule showEnd openAfter
+    row-kept os (simple p) A =
+        let (s′, a, b) = atLine-accepted _ (rule P p s) _ _ (A .checks) in
+        simple-kept p (A .is-row) (subst StmtFormed (A .is-row) (W .rows (m .frame .row))) s′ os a
+        (next P _ A _ _ b (A .opened))
+    row-kept os (return x) A =
+        let (_, a, _) = atLine-accepted _ (returnRule x (m .frame .ensures) s) _ _ (A .checks) in
         return-sound P m s S x (I .once) (I .below) a
-    row-kept os (if n a b) c k =
-        let (d, i, j) = atLine-accepted _ (ifRule n a b s) _ _ k in
-        if-sound P m s S n a b d os i j
-    row-kept [] else c k = refused-accepted k
-    row-kept (inFirst s₂ ∷ os) else c k = else-sound P m s S s₂ os k
-    row-kept (inSecond s₁ ∷ os) else c k = refused-accepted k
-    row-kept [] (join φ) c k = refused-accepted k
-    row-kept (inFirst s₂ ∷ os) (join φ) c k = refused-accepted k
-    row-kept (inSecond s₁ ∷ os) (join φ) c k =
-        let (s′, a, b) = atLine-accepted _ (joinRule φ s₁ (some s)) _ _ k in
+    row-kept os (if n a b) A =
+        let (d, i, j) = atLine-accepted _ (ifRule n a b s) _ _ (A .checks) in
+        if-sound P m s S n a b d os i (next P _ A _ _ j (A .opened))
+    row-kept [] else A = refused-accepted (A .checks)
+    row-kept (inFirst s₂ ∷ os) else A = else-sound P m s S s₂ os (next P _ A _ _ (A .checks) (A .opened))
+    row-kept (inSecond s₁ ∷ os) else A = refused-accepted (A .checks)
+    row-kept (inLoop ψ s₁ ∷ os) else A = refused-accepted (A .checks)
+    row-kept [] (join φ) A = refused-accepted (A .checks)
+    row-kept (inFirst s₂ ∷ os) (join φ) A = refused-accepted (A .checks)
+    row-kept (inSecond s₁ ∷ os) (join φ) A =
+        let (s′, a, b) = atLine-accepted _ (joinRule φ s₁ (some s)) _ _ (A .checks) in
         let (_, _, a₁) = bind-ok (showEnd φ s₁) a in
         let (_, d, j) = bind-ok (showEnd φ (some s)) a₁ in
         let (u, i, _) = bind-ok (show s φ) d in
-        onward s′ os _ b (join-sound m s S φ u i s′ j)
-    row-kept [] end c k =
-        let (_, d, _) = atLine-accepted _ (showEnd (m .frame .ensures) (some s)) _ _ k in
+        onward s′ os _ (next P _ A _ _ b (A .opened)) (join-sound m s S φ u i s′ j)
+    row-kept (inLoop ψ s₁ ∷ os) (join φ) A = refused-accepted (A .checks)
+    row-kept os (loop n a b φ) A =
+        let (c, i, j) = atLine-accepted _ (loopRule n a b φ s) _ _ (A .checks) in
+        let (u, d, _) = bind-ok (show s φ) i in
+        let L = loop-at P _ _ n a b φ s c os (A .is-row) i j in
+        subst (λ t. Kept P m (stepAt room P t m)) (sym (L .is-loop) ∙ A .is-row) (loop-sound P m s S φ u d os L (A .opened))
+    row-kept [] again A = refused-accepted (A .checks)
+    row-kept (inFirst s₂ ∷ os) again A = refused-accepted (A .checks)
+    row-kept (inSecond s₁ ∷ os) again A = refused-accepted (A .checks)
+    row-kept (inLoop φ s₁ ∷ os) again A =
+        let (_, d, _) = atLine-accepted _ (showEnd φ (some s)) _ _ (A .checks) in
+        let (u, a, _) = bind-ok (show s φ) d in
+        again-sound P m s S φ u a os s₁ (A .opened)
+    row-kept [] end A =
+        let (_, d, _) = atLine-accepted _ (showEnd (m .frame .ensures) (some s)) _ _ (A .checks) in
         let (u, a, _) = bind-ok (show s (m .frame .ensures)) d in
         end-sound P m m _ (show-sound (m .heap) (m .frame) s S (m .frame .ensures) u a) (I .once) (m .callers) refl (I .below)
-    row-kept (o ∷ os) end c k = refused-accepted k
+    row-kept (o ∷ os) end A = refused-accepted (A .checks)
 
   ready-kept : Ready P (m .heap) (m .frame) → Kept P m (stepAt room P (rowNumbered P (m .frame .row) .stmt) m)
   unfolding stepAt footprint takeFrom
-  ready-kept (at-row s os S k) = row-kept s S os _ refl (accepts-row P _ (m .frame .row) (some s) os k)
+  ready-kept (at-row s os S k) = row-kept s S os _ (accepts-row P _ (m .frame .row) (some s) os k)
   ready-kept (at-join φ s s′ u os j S a b k) =
       subst (λ t. Kept P m (stepAt room P t m)) (sym j) (onward s S s′ os _ k (join-sound m s S φ u a s′ b))
+  ready-kept (at-loop φ s u os S a L o) =
+      subst (λ t. Kept P m (stepAt room P t m)) (sym (L .is-loop)) (loop-sound P m s S φ u a os L o)
   ready-kept (at-nothing e f) =
       subst (λ t. Kept P m (stepAt room P t m)) (sym e)
       (end-sound P m m [] (ap (λ (φ : Formula ℕ). footprint (m .heap) (m .frame) φ) f) (I .once) (m .callers) refl (I .below))
