@@ -2,6 +2,7 @@
 use mathlib.Core.Path.{_≡_, refl, sym, ap, ap₂, _∙_, subst}
 use mathlib.Core.Bool.{Bool, true, false, not, cond}
 use mathlib.Core.List.{List, [], _∷_, map}
+use mathlib.Core.Logic.{⊎-elim}
 use mathlib.Core.Option.{none, some}
 use Prim.Native.Nat.{ℕ, zero, suc, _+_, _≤_, max, suc-le-suc}
 use native.Mathlib.Omega.{arith}
@@ -11,7 +12,7 @@ use Rattle.rules.specs.Base as Base
 use Rattle.rules.specs.Syntax.{Row, Method, Program, noRow, noMethod, rowNumbered, methodNumbered}
 use Rattle.rules.specs.Bounds.{Block, noBlock, isEnd, called, upToEnd, block, blocks, callees, total, greatest, round, valueBy, blockBound, methodBound, blockFrames, methodFrames}
 use Rattle.rules.specs.Bounds as Bounds
-use Rattle.rules.proofs.Lists.{Member, at-head, further, mapOption-none, mapOption-some}
+use Rattle.rules.proofs.Lists.{Member, at-head, further, option-cases, mapOption-none, mapOption-some}
 use Rattle.bound_laws.specs.Routes.{blockAt, Clear}
 use Rattle.bound_laws.proofs.Routes.{value-law}
 
@@ -32,6 +33,9 @@ block-goes P i e = block-row P i ∙ rw e refl
 pub block-ends : (P : Program) (i : ℕ) → isEnd (rowNumbered P i .stmt) ≡ true → block P i ≡ rowNumbered P i ∷ []
 block-ends P i e = block-row P i ∙ rw e refl
 
+pub block-first : (P : Program) (i : ℕ) → Member (rowNumbered P i) (block P i)
+block-first P i = subst (Member (rowNumbered P i)) (sym (block-row P i)) at-head
+
 -- the block of a method starts at its first row
 pub method-block : (P : Program) (n : ℕ) → blockAt (blocks P) n ≡ block P (methodNumbered P n .first)
 unfolding blocks methodNumbered block upToEnd
@@ -47,6 +51,11 @@ method-block P n = go (P .methods) n
     go [] n = sym (past (P .rows))
     go (M ∷ Ms) zero = refl
     go (M ∷ Ms) (suc n) = go Ms n
+
+-- a block has a line
+pub bound-positive : (v : ℕ → ℕ) (P : Program) (i : ℕ) → 1 ≤ blockBound v (block P i)
+unfolding blockBound
+bound-positive v P i = rw (block-row P i) (omega arith)
 
 -- what a row adds
 module _ (r : Row) (b : Block) where
@@ -74,6 +83,14 @@ module _ (r : Row) (b : Block) where
     pub frames-some : (n : ℕ) → called (r .stmt) ≡ some n → blockFrames v (r ∷ b) ≡ max (suc (v n)) (blockFrames v b)
     unfolding blockFrames greatest
     frames-some n e = rw (callees-some n e) (omega arith)
+
+    pub bound-more : suc (blockBound v b) ≤ blockBound v (r ∷ b)
+    bound-more =
+        ⊎-elim (λ e. omega (arith, bound-none e)) (λ (n, e). omega (arith, bound-some n e)) (option-cases (called (r .stmt)))
+
+    pub frames-more : blockFrames v b ≤ blockFrames v (r ∷ b)
+    frames-more =
+        ⊎-elim (λ e. omega (arith, frames-none e)) (λ (n, e). omega (arith, frames-some n e)) (option-cases (called (r .stmt)))
 
 -- METHODS
 total-agree : (v w : ℕ → ℕ) (cs : List ℕ) → ((c : ℕ) → Member c cs → v c ≡ w c) → total (map v cs) ≡ total (map w cs)
