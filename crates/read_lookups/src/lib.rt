@@ -1,23 +1,25 @@
 // Classes, variables, fields and methods looked up by name; whether a name is new.
+mod members;
+
+pub use members::{field_gives, field_number, field_of, field_type, method_number, owned_field, parameter_type, result_type};
 use read_names::Row;
 use read_names::Span;
 use read_scopes::Above;
 use read_scopes::Names;
 use read_scopes::Range;
 ghost use mathlib.Core.Path.{_≡_};
-ghost use mathlib.Core.Bool.{true, false, _&&_};
-ghost use mathlib.Core.List.{List, map};
-ghost use lib.Dec.{eqb, ltb};
-ghost use Prim.Native.Nat.{ℕ, _+_, _≤_, _<_};
-ghost use lib.ListN.{length, getD};
+ghost use mathlib.Core.Bool.{_&&_};
+ghost use mathlib.Core.List.{map};
+ghost use Prim.Native.Nat.{_+_, _≤_};
+ghost use lib.ListN.{length};
 ghost use Rattle.rules.specs.Base.{is, eqName};
 ghost use Rattle.rules.specs.Limits.{work-bytes};
-ghost use Rattle.rules.specs.Names.{classNumber, isClass, isType, fieldType, fieldNumber, methodNumber, noField, noDeclaration, inScope, variableType};
-ghost use Rattle.read_names.specs.Rows.{most-rows, nameIn, ownerAt, fields-first};
+ghost use Rattle.rules.specs.Names.{classNumber, isClass, isType, inScope, variableType};
+ghost use Rattle.read_names.specs.Rows.{most-rows, nameIn};
 ghost use Rattle.read_scopes.specs.Meanings.{NamesFit, AboveFits, namesFrom, declarationsIn, variablesIn, blockIn};
-ghost use Rattle.read_lookups.specs.LookUps.{mayDeclare, mayAddField, mayAddMethod, typeOf, ownIn, Looked, isNew, fieldIndex};
+ghost use Rattle.read_lookups.specs.LookUps.{mayDeclare, mayAddField, mayAddMethod, typeOf, ownIn, Looked, isNew};
 
-// read_names::CLASSES AND TYPES
+// CLASSES AND TYPES
 
 fn is_int_word(x: &[u8]) -> bool
     ensures { λ r. ⌜ r ≡ is "int" (now (x .entry)) ⌝ }
@@ -68,7 +70,7 @@ pub fn is_type(text: &[u8], work: &[u8], c: Names, x: &[u8]) -> bool
     is_class(text, work, c, x)
 }
 
-// read_names::VARIABLES
+// VARIABLES
 
 // Of n variables from the number `from` on, and `result` if the line may name it.
 fn own_variable(text: &[u8], work: &[u8], from: usize, n: usize, result: bool, x: &[u8]) -> usize
@@ -137,109 +139,7 @@ pub fn in_scope(text: &[u8], work: &[u8], c: Names, x: &[u8]) -> bool
     variable(text, work, c, x) < read_names::NO_VARIABLE
 }
 
-// MEMBERS
-
-// Where the first field f of a class stands among the fields; their count if there is none.
-pub fn field_of(text: &[u8], work: &[u8], c: Names, class: Span, f: &[u8]) -> usize
-    requires { ⌜ (length (now work) ≡ work-bytes) × NamesFit c ⌝ }
-    ensures { λ r. ⌜ (r ≡ fieldIndex (now (text .entry)) (now (work .entry)) c class (now (f .entry))) × (r ≤ c .fields) ⌝ }
-{
-    let k = class_number(text, work, c, read_names::name_in(text, class));
-    let n = c.fields;
-    read_names::find(text, work, read_names::FIELDS, n, k, f)
-}
-
-// The type of the field i.
-pub fn field_gives(work: &[u8], c: Names, i: usize) -> Span
-    requires { ⌜ (length (now work) ≡ work-bytes) × NamesFit c ⌝ }
-    ensures { λ r. ⌜ ((t : List ℕ) → nameIn t r ≡ getD (declarationsIn t (now (work .entry)) c .fields) i noField .type) ⌝ }
-{
-    if i < c.fields {
-        return read_names::gives_at(work, read_names::FIELDS + i);
-    }
-    read_names::no_span()
-}
-
-pub fn field_type(text: &[u8], work: &[u8], c: Names, class: Span, f: &[u8]) -> Span
-    requires { ⌜ (length (now work) ≡ work-bytes) × NamesFit c ⌝ }
-    ensures { λ r. ⌜ nameIn (now (text .entry)) r ≡ fieldType (declarationsIn (now (text .entry)) (now (work .entry)) c) (nameIn (now (text .entry)) class) (now (f .entry)) ⌝ }
-{
-    let i = field_of(text, work, c, class, f);
-    field_gives(work, c, i)
-}
-
-// The number of a field's name: where the first field of that name stands, of whatever class.
-pub fn field_number(text: &[u8], work: &[u8], c: Names, f: &[u8]) -> usize
-    requires { ⌜ (length (now work) ≡ work-bytes) × NamesFit c ⌝ }
-    ensures { λ r. ⌜ (r ≡ fieldNumber (declarationsIn (now (text .entry)) (now (work .entry)) c) (now (f .entry))) × (r ≤ c .fields) ⌝ }
-{
-    let n = c.fields;
-    read_names::find(text, work, read_names::FIELDS, n, read_names::ANY_OWNER, f)
-}
-
-// Is there a field i, and is it of the class k?
-fn is_field_of(work: &[u8], c: Names, k: usize, i: usize) -> bool
-    requires { ⌜ (length (now work) ≡ work-bytes) × NamesFit c ⌝ }
-    ensures { λ r. ⌜ r ≡ (ltb i (c .fields) && eqb (ownerAt (now (work .entry)) (fields-first + i)) k) ⌝ }
-{
-    if i < c.fields {
-        return read_names::owner_at(work, read_names::FIELDS + i) == k;
-    }
-    false
-}
-
-// As field_of, where the number of the name f is known: the first field of that name, if it is of the class, needs no other search.
-pub fn owned_field(
-    text: &[u8],
-    work: &[u8],
-    c: Names,
-    class: Span,
-    number: usize,
-    f: &[u8],
-) -> usize
-    requires { ⌜ (length (now work) ≡ work-bytes) × NamesFit c × (number ≡ fieldNumber (declarationsIn (now text) (now work) c) (now f)) ⌝ }
-    ensures { λ r. ⌜ r ≡ fieldIndex (now (text .entry)) (now (work .entry)) c class (now (f .entry)) ⌝ }
-{
-    let k = class_number(text, work, c, read_names::name_in(text, class));
-    if is_field_of(work, c, k, number) {
-        return number;
-    }
-    read_names::find(text, work, read_names::FIELDS, c.fields, k, f)
-}
-
-// The number of the first method m of a class; the count of methods if there is none.
-pub fn method_number(text: &[u8], work: &[u8], c: Names, class: Span, m: &[u8]) -> usize
-    requires { ⌜ (length (now work) ≡ work-bytes) × NamesFit c ⌝ }
-    ensures { λ r. ⌜ (r ≡ methodNumber (declarationsIn (now (text .entry)) (now (work .entry)) c) (nameIn (now (text .entry)) class) (now (m .entry))) × (r ≤ c .methods) ⌝ }
-{
-    let k = class_number(text, work, c, read_names::name_in(text, class));
-    let n = c.methods;
-    read_names::find(text, work, read_names::METHODS, n, k, m)
-}
-
-// The type of the result of the method i.
-pub fn result_type(work: &[u8], c: Names, i: usize) -> Span
-    requires { ⌜ (length (now work) ≡ work-bytes) × NamesFit c ⌝ }
-    ensures { λ r. ⌜ ((t : List ℕ) → nameIn t r ≡ getD (declarationsIn t (now (work .entry)) c .methods) i noDeclaration .result) ⌝ }
-{
-    if i < c.methods {
-        return read_names::gives_at(work, read_names::METHODS + i);
-    }
-    read_names::no_span()
-}
-
-// The type of its parameter.
-pub fn parameter_type(work: &[u8], c: Names, i: usize) -> Span
-    requires { ⌜ (length (now work) ≡ work-bytes) × NamesFit c ⌝ }
-    ensures { λ r. ⌜ ((t : List ℕ) → nameIn t r ≡ getD (declarationsIn t (now (work .entry)) c .methods) i noDeclaration .parameterType) ⌝ }
-{
-    if i < c.methods {
-        return read_names::takes_at(work, read_names::METHODS + i);
-    }
-    read_names::no_span()
-}
-
-// read_names::FIELDS OF A LINE
+// FIELDS OF A LINE
 
 // Is x no reserved word, and no name of n rows from `from` on?
 pub fn is_new(text: &[u8], work: &[u8], from: usize, n: usize, x: &[u8]) -> bool

@@ -1,10 +1,10 @@
 // Why a line is refused: the tests of its names and types (6, 7, 9).
+mod agreement;
+
 use read_grammar::OperandNumber;
 use read_scopes::Above;
 use read_scopes::Names;
 use read_tests::Operand;
-use read_types::ExprType;
-use rules::Kind;
 ghost use mathlib.Core.Path.{_≡_};
 ghost use mathlib.Core.Bool.{true, _&&_};
 ghost use mathlib.Core.List.{[]};
@@ -12,13 +12,13 @@ ghost use Prim.Native.Nat.{_≤_};
 ghost use lib.ListN.{length, drop, getD};
 ghost use Rattle.rules.specs.Limits.{work-bytes, most-atoms};
 ghost use Rattle.rules.specs.Text.{isName, isExpr, isAtom, isFormula, formulaOf};
-ghost use Rattle.rules.specs.Grammar.{IsKindNumber, isOperand};
+ghost use Rattle.rules.specs.Grammar.{isOperand};
 ghost use Rattle.rules.specs.Scope.{atomSlots};
 ghost use Rattle.read_fields.specs.Cuts.{more};
 ghost use Rattle.read_grammar.specs.Rows.{operandNumber};
 ghost use Rattle.read_scopes.specs.Meanings.{NamesFit};
 ghost use Rattle.read_tests.specs.Tests.{operandMeant};
-ghost use Rattle.read_refusals.specs.Tests.{lineAfter, Formed, CountsFit, bothTests, slotTests, exprTests, exprsAgree, accTests, cmpTests, tested, atomTests, lineTests, intsIn, sidesIn, apartIn};
+ghost use Rattle.read_refusals.specs.Tests.{lineAfter, Formed, CountsFit, bothTests, slotTests, exprTests, exprsAgree, accTests, cmpTests, tested, atomTests, lineTests};
 ghost use Rattle.read_refusals.specs.Refusals.{refusalOf, refusalAfter};
 
 // Which of the tests of numbers 6, 7 and 9 are passed.
@@ -36,7 +36,7 @@ pub enum Judged {
     WrongTarget,
 }
 
-fn and(a: bool, b: bool) -> bool
+pub fn and(a: bool, b: bool) -> bool
     ensures { λ r. ⌜ r ≡ (a && b) ⌝ }
 {
     if a { b } else { false }
@@ -58,7 +58,7 @@ fn both(a: Tests, b: Tests) -> Tests
 // FIELDS
 
 // Field i of those after a field that ends at `from`; nothing if there is none.
-fn nth_field(text: &[u8], from: usize, i: usize) -> &[u8]
+pub fn nth_field(text: &[u8], from: usize, i: usize) -> &[u8]
     requires { ⌜ from ≤ length (now text) ⌝ }
     ensures { λ x. ⌜ now x ≡ getD (more (drop from (now (text .entry)))) i [] ⌝ }
 {
@@ -243,104 +243,6 @@ fn line_tests(text: &[u8], work: &[u8], from: usize, kind: u8, c: Names, a: Abov
     both(t, f)
 }
 
-// SIDES
-
-// `set x f y`
-fn set_agrees(text: &[u8], work: &[u8], from: usize, c: Names) -> bool
-    requires { ⌜ (length (now work) ≡ work-bytes) × NamesFit c × (from ≤ length (now text)) ⌝ }
-    ensures { λ r. ⌜ r ≡ sidesIn (now (text .entry)) (now (work .entry)) c (lineAfter (now (text .entry)) from 8) ⌝ }
-{
-    let x = read_lookups::variable_type(text, work, c, nth_field(text, from, 0));
-    let f = read_lookups::field_type(text, work, c, x, nth_field(text, from, 1));
-    let y = read_lookups::variable_type(text, work, c, nth_field(text, from, 2));
-    read_lookups::same_name(text, f, y)
-}
-
-// `let x e`
-fn let_agrees(text: &[u8], work: &[u8], from: usize, c: Names) -> bool
-    requires { ⌜ (length (now work) ≡ work-bytes) × NamesFit c × (from ≤ length (now text)) × (isExpr (getD (more (drop from (now text))) 1 []) ≡ true) ⌝ }
-    ensures { λ r. ⌜ r ≡ sidesIn (now (text .entry)) (now (work .entry)) c (lineAfter (now (text .entry)) from 9) ⌝ }
-{
-    let x = read_lookups::variable_type(text, work, c, nth_field(text, from, 0));
-    let e = read_types::expr_type(text, work, c, nth_field(text, from, 1));
-    read_types::agree(text, ExprType::Named(x), e)
-}
-
-// `new x C`
-fn new_agrees(text: &[u8], work: &[u8], from: usize, c: Names) -> bool
-    requires { ⌜ (length (now work) ≡ work-bytes) × NamesFit c × (from ≤ length (now text)) ⌝ }
-    ensures { λ r. ⌜ r ≡ sidesIn (now (text .entry)) (now (work .entry)) c (lineAfter (now (text .entry)) from 10) ⌝ }
-{
-    let x = read_lookups::variable_type(text, work, c, nth_field(text, from, 0));
-    read_bytes::same(read_names::name_in(text, x), nth_field(text, from, 1))
-}
-
-// `call x y m z`: the result, and the argument
-fn call_agrees(text: &[u8], work: &[u8], from: usize, c: Names) -> bool
-    requires { ⌜ (length (now work) ≡ work-bytes) × NamesFit c × (from ≤ length (now text)) ⌝ }
-    ensures { λ r. ⌜ r ≡ sidesIn (now (text .entry)) (now (work .entry)) c (lineAfter (now (text .entry)) from 11) ⌝ }
-{
-    let x = read_lookups::variable_type(text, work, c, nth_field(text, from, 0));
-    let y = read_lookups::variable_type(text, work, c, nth_field(text, from, 1));
-    let m = read_lookups::method_number(text, work, c, y, nth_field(text, from, 2));
-    let z = read_lookups::variable_type(text, work, c, nth_field(text, from, 3));
-    let result = read_lookups::same_name(text, x, read_lookups::result_type(work, c, m));
-    let argument = read_lookups::same_name(text, z, read_lookups::parameter_type(work, c, m));
-    and(result, argument)
-}
-
-// `return x`
-fn return_agrees(text: &[u8], work: &[u8], from: usize, c: Names) -> bool
-    requires { ⌜ (length (now work) ≡ work-bytes) × NamesFit c × (from ≤ length (now text)) ⌝ }
-    ensures { λ r. ⌜ r ≡ sidesIn (now (text .entry)) (now (work .entry)) c (lineAfter (now (text .entry)) from 12) ⌝ }
-{
-    let x = read_lookups::variable_type(text, work, c, nth_field(text, from, 0));
-    let r = read_lookups::variable_type(text, work, c, b"result");
-    read_lookups::same_name(text, x, r)
-}
-
-// `add x y z` and `sub x y z`: "the int x", "the int variables y and z"
-fn all_int(text: &[u8], work: &[u8], from: usize, c: Names) -> bool
-    requires { ⌜ (length (now work) ≡ work-bytes) × NamesFit c × (from ≤ length (now text)) ⌝ }
-    ensures { λ r. ⌜ r ≡ intsIn (now (text .entry)) (now (work .entry)) c (more (drop from (now (text .entry)))) ⌝ }
-{
-    let x = read_lookups::variable_type(text, work, c, nth_field(text, from, 0));
-    let y = read_lookups::variable_type(text, work, c, nth_field(text, from, 1));
-    let z = read_lookups::variable_type(text, work, c, nth_field(text, from, 2));
-    let others = and(read_lookups::is_int(text, y), read_lookups::is_int(text, z));
-    and(read_lookups::is_int(text, x), others)
-}
-
-fn sides_agree(text: &[u8], work: &[u8], from: usize, kind: u8, c: Names) -> bool
-    requires { ⌜ (length (now work) ≡ work-bytes) × NamesFit c × (from ≤ length (now text)) × Formed kind (lineAfter (now text) from kind) ⌝ }
-    ensures { λ r. ⌜ r ≡ sidesIn (now (text .entry)) (now (work .entry)) c (lineAfter (now (text .entry)) from kind) ⌝ }
-{
-    match kind {
-        Kind::SET => set_agrees(text, work, from, c),
-        Kind::LET => let_agrees(text, work, from, c),
-        Kind::NEW => new_agrees(text, work, from, c),
-        Kind::CALL => call_agrees(text, work, from, c),
-        Kind::RETURN => return_agrees(text, work, from, c),
-        Kind::ADD => all_int(text, work, from, c),
-        Kind::SUB => all_int(text, work, from, c),
-        _ => true,
-    }
-}
-
-// 9: "`call x` with x the same name as y or z"
-fn call_apart(text: &[u8], work: &[u8], from: usize, kind: u8, c: Names) -> bool
-    requires { ⌜ (length (now work) ≡ work-bytes) × NamesFit c × (from ≤ length (now text)) × IsKindNumber kind ⌝ }
-    ensures { λ r. ⌜ r ≡ apartIn (now (text .entry)) (now (work .entry)) c (lineAfter (now (text .entry)) from kind) ⌝ }
-{
-    if kind != Kind::CALL {
-        return true;
-    }
-    let x = read_lookups::variable(text, work, c, nth_field(text, from, 0));
-    let y = read_lookups::variable(text, work, c, nth_field(text, from, 1));
-    let z = read_lookups::variable(text, work, c, nth_field(text, from, 3));
-    and(x != y, x != z)
-}
-
 // THE LINE
 
 // Is the line of this kind whose word ends at `from` good? 6 before 7 before 9.
@@ -352,11 +254,11 @@ pub fn judge(text: &[u8], work: &[u8], from: usize, kind: u8, c: Names, a: Above
     if !t.known {
         return Judged::Undeclared;
     }
-    let sides = sides_agree(text, work, from, kind, c);
+    let sides = agreement::sides_agree(text, work, from, kind, c);
     if !and(t.typed, sides) {
         return Judged::WrongType;
     }
-    let apart = call_apart(text, work, from, kind, c);
+    let apart = agreement::call_apart(text, work, from, kind, c);
     if !and(t.assignable, apart) {
         return Judged::WrongTarget;
     }

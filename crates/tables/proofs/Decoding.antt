@@ -1,5 +1,5 @@
 -- The program that an area holds depends on the bytes of its tables alone.
-use mathlib.Core.Path.{_≡_, sym, _∙_}
+use mathlib.Core.Path.{_≡_, sym, subst, _∙_}
 use mathlib.Core.List.{List}
 use mathlib.Core.Logic.{inl, inr, ⊎-elim}
 use Prim.Native.Nat.{ℕ, _+_, _≤_, _<_, zero-le}
@@ -7,7 +7,7 @@ use native.Mathlib.Omega.{arith}
 use Rattle.rules.specs.Limits.{most-statements, most-methods, most-classes}
 use Rattle.tables.specs.Layout.{classes-at, places-at, methods-at, atoms-at, most-names, names-at}
 use Rattle.tables.specs.Decode.{byteAt, halfAt, atomPlace, rowPlace, kindAt, targetAt, rowAt, allRows, rowCount, atomCount, classCount, methodCount, mainFirst, requiresAt, ensuresAt, methodAt, methodsFrom, methodPlace, firstRowAt, classPlace, placesPlace, fieldCountAt, classAt, classesFrom, programIn}
-use Rattle.tables.specs.Tables.{RowFits, TargetFits, MethodFits, Tables, BlockFits, declaredIn, placeAt}
+use Rattle.tables.specs.Tables.{RowFits, HasTarget, TargetFits, MethodFits, Tables, BlockFits, declaredIn, placeAt}
 use Rattle.tables.specs.Stores.{Kept, SameTables}
 use Rattle.tables.proofs.Bytes.{half-kept}
 use Rattle.tables.proofs.Runs.{run-same}
@@ -108,9 +108,11 @@ module _ (w w′ : List ℕ) (same : SameTables w w′) where
         let k : kindAt w i ≡ kindAt w′ i = sym (kind-same i l) in
         let t : targetAt w′ i ≡ targetAt w i = half (rowPlace i + 10) (omega arith) in
         record {
-          target = λ o. omega (arith, t, rows-count-same, f .target (⊎-elim (λ e. inl (k ∙ e)) (λ e. inr (k ∙ e)) o));
+          target = λ o. omega (arith, t, rows-count-same, f .target (subst HasTarget (sym k) o));
           after-else = λ e. rw (t, all-same) (f .after-else (k ∙ e));
           to-join = λ e. rw (t, all-same) (f .to-join (k ∙ e));
+          after-again = λ e. rw (t, all-same) (f .after-again (k ∙ e));
+          to-loop = λ e. rw (t, all-same) (f .to-loop (k ∙ e));
           next = ⊎-elim (λ e. inl (sym k ∙ e)) (λ n. inr (omega (arith, n, rows-count-same))) (f .next);
         }
 

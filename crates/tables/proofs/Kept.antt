@@ -3,15 +3,15 @@ use mathlib.Core.Path.{_≡_, refl, ap, _∙_}
 use mathlib.Core.Bool.{Bool, true, false, cond}
 use mathlib.Core.List.{List}
 use mathlib.Core.Logic.{_⊎_, inl, inr, ⊎-elim}
-use Prim.Native.Nat.{ℕ, _+_, _*_, _≤_, _<_}
+use Prim.Native.Nat.{ℕ, _+_, _-_, _*_, _≤_, _<_}
 use native.Mathlib.Omega.{arith}
 use lib.Dec.{T, eqb, eqb→eq}
 use Rattle.rules.specs.Limits.{most-fields}
 use Rattle.rules.specs.Grammar.{isComputing}
-use Rattle.rules.specs.Syntax.{assign, assert, release, simple, join}
+use Rattle.rules.specs.Syntax.{Formula, assign, assert, release, simple, join}
 use Rattle.tables.specs.declared.Operands.{Operands}
 use Rattle.tables.specs.Layout.{rows-at, methods-at, classes-at, places-at, atoms-at, most-names}
-use Rattle.tables.specs.Decode.{byteAt, halfAt, exprAt, leftAt, rightAt, atomAt, atomsFrom, atomPlace, ifAt, rowPlace, kindAt, operandsAt, formulaOf, stmtOf, rowAt, requiresAt, ensuresAt, methodPlace, firstRowAt, methodAt, classPlace, placesPlace, fieldCountAt, fieldNameAt, fieldAt, classAt}
+use Rattle.tables.specs.Decode.{byteAt, halfAt, exprAt, leftAt, rightAt, atomAt, atomsFrom, atomPlace, ifAt, loopAt, rowPlace, kindAt, operandsAt, formulaOf, stmtOf, rowAt, requiresAt, ensuresAt, methodPlace, firstRowAt, methodAt, classPlace, placesPlace, fieldCountAt, fieldNameAt, fieldAt, classAt}
 use Rattle.tables.specs.Tables.{AtomFitsAt, Declared, OperandsFit, FormulasFit, ClassFits, placeAt}
 use Rattle.tables.specs.Stores.{Kept}
 use Rattle.tables.proofs.Bytes.{half-kept}
@@ -53,6 +53,9 @@ module _ (w w′ : List ℕ) (n : ℕ) (K : Kept atoms-at (atomPlace n) w w′) 
     if-kept : ifAt w′ a ≡ ifAt w a
     if-kept = simp (at-kind, left-kept, right-kept)
 
+    loop-kept : {φ ψ : Formula ℕ} → φ ≡ ψ → loopAt w′ a φ ≡ loopAt w a ψ
+    loop-kept e = rw e (simp (at-kind, left-kept, right-kept))
+
     atom-kept : atomAt w′ a ≡ atomAt w a
     unfolding atomAt
     atom-kept =
@@ -71,6 +74,9 @@ module _ (w w′ : List ℕ) (n : ℕ) (K : Kept atoms-at (atomPlace n) w w′) 
     one : (r .kind ≡ 9) ⊎ (r .kind ≡ 15) → r .first < n
     one o = omega (arith, fits .one-atom o, fits .atoms)
 
+    before : r .kind ≡ 21 → r .first - 1 < n
+    before e = omega (arith, fits .condition e, fits .atoms .1)
+
     formula-kept : formulaOf w′ r ≡ formulaOf w r
     formula-kept = atoms-kept (r .first) (r .atoms) (fits .atoms .1)
 
@@ -85,6 +91,8 @@ module _ (w w′ : List ℕ) (n : ℕ) (K : Kept atoms-at (atomPlace n) w w′) 
         let to-if : T (eqb (r .kind) 15) → ifAt w′ (r .first) ≡ ifAt w (r .first) =
         λ t. if-kept (r .first) (one (inr (eqb→eq (r .kind) 15 t))) in
         let to-join : join (formulaOf w′ r) ≡ join (formulaOf w r) = rw formula-kept in
+        let to-loop : T (eqb (r .kind) 21) → loopAt w′ (r .first - 1) (formulaOf w′ r) ≡ loopAt w (r .first - 1) (formulaOf w r) =
+        λ t. loop-kept (r .first - 1) (before (eqb→eq (r .kind) 21 t)) formula-kept in
         cond-same (eqb (r .kind) 8) (λ _. refl)
         (λ _. cond-same (eqb (r .kind) 9) to-let
         (λ _. cond-same (eqb (r .kind) 10) (λ _. refl)
@@ -94,7 +102,9 @@ module _ (w w′ : List ℕ) (n : ℕ) (K : Kept atoms-at (atomPlace n) w w′) 
         (λ _. cond-same (eqb (r .kind) 14) (λ _. to-release)
         (λ _. cond-same (eqb (r .kind) 15) to-if
         (λ _. cond-same (eqb (r .kind) 16) (λ _. refl)
-        (λ _. cond-same (eqb (r .kind) 17) (λ _. to-join) (λ _. cond-same (isComputing (r .kind)) (λ _. refl) (λ _. refl)))))))))))
+        (λ _. cond-same (eqb (r .kind) 17) (λ _. to-join)
+        (λ _. cond-same (isComputing (r .kind)) (λ _. refl)
+        (λ _. cond-same (eqb (r .kind) 21) to-loop (λ _. refl))))))))))))
 
 -- the bytes of the first R rows are the same, but for their targets
 abbrev pub RowsKept : ℕ → List ℕ → List ℕ → Type 0

@@ -3,14 +3,14 @@ use mathlib.Core.Path.{_≡_, refl, sym, subst}
 use mathlib.Core.Bool.{Bool, true, false, cond, _||_}
 use mathlib.Core.List.{List}
 use mathlib.Core.Logic.{_⊎_, inl, inr, ⊎-elim}
-use Prim.Native.Nat.{ℕ, suc, _≤_}
+use Prim.Native.Nat.{ℕ, suc, _-_, _≤_}
 use native.Mathlib.Omega.{arith}
 use lib.Dec.{T, eqb, eqb→eq}
 use borrow.Author.Tests.{ne-eqb}
 use Rattle.rules.specs.Grammar.{IsStatementNumber, statementNumber, isComputing}
-use Rattle.rules.specs.Syntax.{Simple, Stmt, set, assign, compute, new, call, return, assert, release, simple, else, join, end}
+use Rattle.rules.specs.Syntax.{Simple, Stmt, set, assign, compute, new, call, return, assert, release, simple, else, join, again, end}
 use Rattle.tables.specs.declared.Operands.{Operands}
-use Rattle.tables.specs.Decode.{rightAt, ifAt, formulaOf, operationOf, stmtOf}
+use Rattle.tables.specs.Decode.{rightAt, ifAt, loopAt, formulaOf, operationOf, stmtOf}
 
 module _ (w : List ℕ) (r : Operands) where
   pub set-means : r .kind ≡ 8 → stmtOf w r ≡ simple (set (r .x) (r .member) (r .y))
@@ -53,6 +53,14 @@ module _ (w : List ℕ) (r : Operands) where
   unfolding stmtOf
   join-means k = rw k
 
+  pub loop-means : r .kind ≡ 21 → stmtOf w r ≡ loopAt w (r .first - 1) (formulaOf w r)
+  unfolding stmtOf isComputing statementNumber
+  loop-means k = rw k
+
+  pub again-means : r .kind ≡ 22 → stmtOf w r ≡ again
+  unfolding stmtOf isComputing statementNumber
+  again-means k = rw k
+
   pub end-means : r .kind ≡ 18 → stmtOf w r ≡ end
   unfolding stmtOf isComputing statementNumber
   end-means k = rw k
@@ -65,13 +73,15 @@ module _ (w : List ℕ) (r : Operands) where
       one-of true e u = inl (eqb→eq (r .kind) 19 (subst T (sym e) tt))
       one-of false e u = inr (eqb→eq (r .kind) 20 u)
 
-  -- what holds of every statement that opens and closes no branch holds of a row of any other kind than `if`, `else`, `join`
+  -- what holds of every statement that opens and closes no branch and no loop holds of a row of any other kind than `if`, `else`, `join`,
+  -- `loop`, `again`
   pub no-branch :
       (Q : Stmt → Type 0) → ((p : Simple) → Q (simple p)) → ((x : ℕ) → Q (return x)) → Q end →
-      (r .kind ≡ 15 → ⊥) → (r .kind ≡ 16 → ⊥) → (r .kind ≡ 17 → ⊥) → Q (stmtOf w r)
+      (r .kind ≡ 15 → ⊥) → (r .kind ≡ 16 → ⊥) → (r .kind ≡ 17 → ⊥) → (r .kind ≡ 21 → ⊥) → (r .kind ≡ 22 → ⊥) →
+      Q (stmtOf w r)
   unfolding stmtOf
-  no-branch Q of-simple of-return of-end a b d =
-      rw (ne-eqb (r .kind) 15 a, ne-eqb (r .kind) 16 b, ne-eqb (r .kind) 17 d)
+  no-branch Q of-simple of-return of-end a b d e f =
+      rw (ne-eqb (r .kind) 15 a, ne-eqb (r .kind) 16 b, ne-eqb (r .kind) 17 d, ne-eqb (r .kind) 21 e, ne-eqb (r .kind) 22 f)
       (either (eqb (r .kind) 8) (of-simple _)
       (either (eqb (r .kind) 9) (of-simple _)
       (either (eqb (r .kind) 10) (of-simple _)
@@ -100,7 +110,9 @@ module _ (w : List ℕ) (r : Operands) where
       step 18 l17 n λ l18.
       step 19 l18 (λ e. let z : _≡_ {A = ℕ} 0 1 = (let g = rw e at h in cc) in omega arith) λ l19.
       step 20 l19 (λ e. let z : _≡_ {A = ℕ} 0 1 = (let g = rw e at h in cc) in omega arith) λ l20.
-      omega (arith, b, l20)
+      step 21 l20 (λ e. let z : _≡_ {A = ℕ} 0 1 = (let g = rw e at h in cc) in omega arith) λ l21.
+      step 22 l21 (λ e. let z : _≡_ {A = ℕ} 0 1 = (let g = rw e at h in cc) in omega arith) λ l22.
+      omega (arith, b, l22)
     where
       -- it is not k, so it is more
       step : (k : ℕ) → k ≤ r .kind → (r .kind ≡ k → ⊥) → (suc k ≤ r .kind → ⊥) → ⊥

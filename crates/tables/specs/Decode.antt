@@ -1,11 +1,11 @@
 -- What the tables mean: the program that a work area holds.
 use mathlib.Core.Bool.{cond, not}
 use mathlib.Core.List.{List, [], _∷_}
-use Prim.Native.Nat.{ℕ, zero, suc, _+_, _*_}
+use Prim.Native.Nat.{ℕ, zero, suc, _+_, _-_, _*_}
 use lib.Dec.{eqb}
 use lib.ListN.{getD}
 use Rattle.rules.specs.Syntax.{Rel, Expr, Atom, Formula, Operation, Stmt, Row, Field, Method, Program}
-use Rattle.rules.specs.Syntax.{eq, ne, num, null, var, path, acc, cmp, sum, difference, set, assign, compute, new, call, return, assert, release, simple, if, else, join, end}
+use Rattle.rules.specs.Syntax.{eq, ne, num, null, var, path, acc, cmp, sum, difference, set, assign, compute, new, call, return, assert, release, simple, if, else, join, loop, again, end}
 use Rattle.rules.specs.Grammar.{isComputing}
 use Rattle.tables.specs.declared.Operands.{Operands}
 use Rattle.tables.specs.Layout.{rows-at, methods-at, classes-at, places-at, atoms-at, most-names, row-bytes, atom-bytes, method-bytes, class-bytes}
@@ -59,8 +59,9 @@ abbrev pub atomsFrom : List ℕ → ℕ → ℕ → Formula ℕ
 atomsFrom w i n = run (atomAt w) i n
 
 -- STATEMENT ROWS: kind, x, y, z, member (field, class or method), count of atoms (a byte each); first atom, line, target (2 bytes each).
--- `let x e` has e as the right side of its atom, `if` its condition as its atom. The target of `if` is the row after its `else`, that
--- of `else` its `join`.
+-- `let x e` has e as the right side of its atom, `if` its condition as its atom. The atoms of `loop` are those of its invariant; the atom
+-- before them is its condition. The target of `if` is the row after its `else`, that of `else` its `join`, that of `loop` the row after
+-- its `again`, that of `again` its `loop`.
 
 abbrev pub rowPlace : ℕ → ℕ
 rowPlace i = rows-at + i * row-bytes
@@ -114,10 +115,14 @@ formulaOf w r = atomsFrom w (r .first) (r .atoms)
 abbrev pub ifAt : List ℕ → ℕ → Stmt
 ifAt w a = if (relOf (byteAt w (atomPlace a))) (leftAt w a) (rightAt w a)
 
+-- a: its condition
+abbrev pub loopAt : List ℕ → ℕ → Formula ℕ → Stmt
+loopAt w a φ = loop (relOf (byteAt w (atomPlace a))) (leftAt w a) (rightAt w a) φ
+
 unfoldable pub operationOf : ℕ → Operation
 operationOf k = cond (eqb k 19) sum difference
 
--- by the number of its kind: 8 `set` to 17 `join`; `add`, `sub`; and `end`
+-- by the number of its kind: 8 `set` to 17 `join`; `add`, `sub`; 21 `loop`, 22 `again`; and `end`
 unfoldable pub stmtOf : List ℕ → Operands → Stmt
 stmtOf w r =
     cond (eqb (r .kind) 8) (simple (set (r .x) (r .member) (r .y)))
@@ -131,7 +136,9 @@ stmtOf w r =
     (cond (eqb (r .kind) 16) else
     (cond (eqb (r .kind) 17) (join (formulaOf w r))
     (cond (isComputing (r .kind)) (simple (compute (operationOf (r .kind)) (r .x) (r .y) (r .z)))
-    end))))))))))
+    (cond (eqb (r .kind) 21) (loopAt w (r .first - 1) (formulaOf w r))
+    (cond (eqb (r .kind) 22) again
+    end))))))))))))
 
 abbrev pub formulaAt : List ℕ → ℕ → Formula ℕ
 formulaAt w i = formulaOf w (operandsAt w i)

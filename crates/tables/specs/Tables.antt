@@ -7,9 +7,9 @@ use Prim.Native.Nat.{ℕ, zero, suc, _+_, _≤_, _<_}
 use lib.Dec.{T, leb}
 use lib.ListN.{length, drop}
 use Rattle.rules.specs.Limits.{most-classes, most-fields, most-methods, most-statements, most-branches, most-atoms, work-bytes}
-use Rattle.rules.specs.Syntax.{Expr, num, null, var, path, Stmt, Row, simple, return, if, else, join, end}
+use Rattle.rules.specs.Syntax.{Expr, num, null, var, path, Stmt, Row, simple, return, if, else, join, loop, again, end}
 use Rattle.rules.specs.Grammar.{IsStatementNumber}
-use Rattle.rules.specs.Machine.{closing}
+use Rattle.rules.specs.Machine.{closing, loopOf}
 use Rattle.tables.specs.declared.Operands.{Operands}
 use Rattle.tables.specs.Layout.{most-atom-rows, most-names, frame-variables}
 use Rattle.tables.specs.Decode.{byteAt, halfAt, leftAt, rightAt, atomPlace, kindAt, targetAt, operandsAt, rowCount, atomCount, classCount, methodCount, mainFirst, allRows, methodPlace, firstRowAt, placesPlace, fieldCountAt, fieldNameAt}
@@ -47,7 +47,8 @@ pub record Declared : Type 0 where
 abbrev pub declaredIn : List ℕ → Declared
 declaredIn w = record { classes = classCount w; methods = methodCount w }
 
--- operands that a row may have where there are n atoms: what `member` is by the kind, and which kinds have one atom
+-- operands that a row may have where there are n atoms: what `member` is by the kind, which kinds have one atom, and which has a condition
+-- before its atoms
 pub record OperandsFit (D : Declared) (n : ℕ) (r : Operands) : Type 0 where
   pub kind : IsStatementNumber (r .kind)
   pub x : r .x < frame-variables
@@ -58,12 +59,19 @@ pub record OperandsFit (D : Declared) (n : ℕ) (r : Operands) : Type 0 where
   pub method : r .kind ≡ 11 → r .member < D .methods
   pub atoms : AtomsFit n (r .first) (r .atoms)
   pub one-atom : (r .kind ≡ 9) ⊎ (r .kind ≡ 15) → r .atoms ≡ 1
+  pub condition : r .kind ≡ 21 → 1 ≤ r .first
+
+-- `if`, `else`, `loop` and `again` go to another row
+abbrev pub HasTarget : ℕ → Type 0
+HasTarget k = (k ≡ 15) ⊎ ((k ≡ 16) ⊎ ((k ≡ 21) ⊎ (k ≡ 22)))
 
 -- the rows that follow a row
 pub record TargetFits (w : List ℕ) (i : ℕ) : Type 0 where
-  pub target : (kindAt w i ≡ 15) ⊎ (kindAt w i ≡ 16) → targetAt w i < rowCount w
+  pub target : HasTarget (kindAt w i) → targetAt w i < rowCount w
   pub after-else : kindAt w i ≡ 15 → targetAt w i ≡ suc (closing (allRows w) i)
   pub to-join : kindAt w i ≡ 16 → targetAt w i ≡ closing (allRows w) i
+  pub after-again : kindAt w i ≡ 21 → targetAt w i ≡ suc (closing (allRows w) i)
+  pub to-loop : kindAt w i ≡ 22 → targetAt w i ≡ loopOf (allRows w) i
   pub next : (kindAt w i ≡ 18) ⊎ (suc i < rowCount w)
 
 pub record RowFits (w : List ℕ) (i : ℕ) : Type 0 where
@@ -72,7 +80,7 @@ pub record RowFits (w : List ℕ) (i : ℕ) : Type 0 where
 
 -- METHODS, CLASSES
 
--- d branches are open, at most 4 at once, up to the block's `end`
+-- d branches and loops are open, at most 4 at once, up to the block's `end`
 unfoldable pub nestedRow : Stmt → (ℕ → Bool) → ℕ → Bool
 nestedRow (simple p) k d = k d
 nestedRow (return x) k d = k d
@@ -80,6 +88,9 @@ nestedRow (if n a b) k d = leb (suc d) most-branches && k (suc d)
 nestedRow else k d = leb 1 d && k d
 nestedRow (join φ) k zero = false
 nestedRow (join φ) k (suc d) = k d
+nestedRow (loop n a b φ) k d = leb (suc d) most-branches && k (suc d)
+nestedRow again k zero = false
+nestedRow again k (suc d) = k d
 nestedRow end k zero = true
 nestedRow end k (suc d) = false
 

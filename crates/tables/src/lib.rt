@@ -1,13 +1,15 @@
-// The tables in the lent work area: where each stands (`Layout`), and the functions that read and write bytes, words and sides there.
-use rules::Kind;
+// The tables in the lent work area: where each stands (`Layout`), and the functions that read and write bytes, words, sides and atoms there.
+mod columns;
+mod declarations;
+
+pub use columns::{atom_count_at, first_atom_at, is_closing_at, kind_at, line_at, member_at, target_at, x_at, y_at, z_at};
+pub use declarations::{ensures_count, ensures_first, field_count_at, field_kind_at, field_name_at, first_row_at, place_at, requires_count, requires_first};
 ghost use mathlib.Core.Path.{_≡_};
-ghost use Prim.Native.Nat.{_+_, _*_, _%_, _≤_, _<_};
+ghost use Prim.Native.Nat.{_+_, _%_, _≤_, _<_};
 ghost use lib.ListN.{length};
-ghost use Rattle.rules.specs.Grammar.{isClosingNumber};
-ghost use Rattle.rules.specs.Limits.{most-statements, most-methods, most-classes, most-fields, work-bytes};
-ghost use Rattle.tables.specs.Layout.{most-atom-rows, most-names};
-ghost use Rattle.tables.specs.Decode.{byteAt, halfAt, wordAt, atomPlace, exprAt, leftAt, rightAt, kindAt, xAt, yAt, zAt, memberAt, atomCountAt, firstAtomAt, lineAt, targetAt, methodCount, mainFirst, methodPlace, firstRowAt, classPlace, fieldCountAt, fieldNameAt};
-ghost use Rattle.tables.specs.Tables.{placeAt};
+ghost use Rattle.rules.specs.Limits.{work-bytes};
+ghost use Rattle.tables.specs.Layout.{most-atom-rows};
+ghost use Rattle.tables.specs.Decode.{byteAt, halfAt, wordAt, atomPlace, exprAt, leftAt, rightAt, methodCount, mainFirst};
 ghost use Rattle.tables.specs.Stores.{meaning, putByte, putHalf, putWord, offsets};
 
 // Where each table stands in the work area: the constants below as one value.
@@ -43,7 +45,7 @@ impl Layout {
 
     pub const ATOMS: usize = 6208;
 
-    pub const NAMES: usize = 36832;
+    pub const NAMES: usize = 36880;
 
     pub const VALUES: usize = 40960;
 
@@ -244,164 +246,6 @@ pub fn atom_field(w: &[u8], a: usize) -> usize
     ensures { λ r. ⌜ (r ≡ byteAt (now (w .entry)) (atomPlace a + 5)) × (r < 256) ⌝ }
 {
     byte_at(w, Layout::ATOMS + a * Layout::ATOM_BYTES + 5)
-}
-
-// ROWS
-
-// The kind of the row i.
-pub fn kind_at(w: &[u8], i: usize) -> u8
-    requires { ⌜ (length (now w) ≡ work-bytes) × (i < most-statements) ⌝ }
-    ensures { λ r. ⌜ r ≡ kindAt (now (w .entry)) i ⌝ }
-{
-    w[Layout::ROWS + i * Layout::ROW_BYTES]
-}
-
-// Do the rows of a block, or of a part of a branch, end before it?
-pub fn is_closing_at(w: &[u8], i: usize) -> bool
-    requires { ⌜ (length (now w) ≡ work-bytes) × (i < most-statements) ⌝ }
-    ensures { λ r. ⌜ r ≡ isClosingNumber (kindAt (now (w .entry)) i) ⌝ }
-{
-    Kind::is_closing(kind_at(w, i))
-}
-
-// Its first variable.
-pub fn x_at(w: &[u8], i: usize) -> usize
-    requires { ⌜ (length (now w) ≡ work-bytes) × (i < most-statements) ⌝ }
-    ensures { λ r. ⌜ (r ≡ xAt (now (w .entry)) i) × (r < 256) ⌝ }
-{
-    byte_at(w, Layout::ROWS + i * Layout::ROW_BYTES + 1)
-}
-
-// Its second variable.
-pub fn y_at(w: &[u8], i: usize) -> usize
-    requires { ⌜ (length (now w) ≡ work-bytes) × (i < most-statements) ⌝ }
-    ensures { λ r. ⌜ (r ≡ yAt (now (w .entry)) i) × (r < 256) ⌝ }
-{
-    byte_at(w, Layout::ROWS + i * Layout::ROW_BYTES + 2)
-}
-
-// Its third variable.
-pub fn z_at(w: &[u8], i: usize) -> usize
-    requires { ⌜ (length (now w) ≡ work-bytes) × (i < most-statements) ⌝ }
-    ensures { λ r. ⌜ (r ≡ zAt (now (w .entry)) i) × (r < 256) ⌝ }
-{
-    byte_at(w, Layout::ROWS + i * Layout::ROW_BYTES + 3)
-}
-
-// Its field, class or method.
-pub fn member_at(w: &[u8], i: usize) -> usize
-    requires { ⌜ (length (now w) ≡ work-bytes) × (i < most-statements) ⌝ }
-    ensures { λ r. ⌜ (r ≡ memberAt (now (w .entry)) i) × (r < 256) ⌝ }
-{
-    byte_at(w, Layout::ROWS + i * Layout::ROW_BYTES + 4)
-}
-
-// How many atoms its formula has.
-pub fn atom_count_at(w: &[u8], i: usize) -> usize
-    requires { ⌜ (length (now w) ≡ work-bytes) × (i < most-statements) ⌝ }
-    ensures { λ r. ⌜ (r ≡ atomCountAt (now (w .entry)) i) × (r < 256) ⌝ }
-{
-    byte_at(w, Layout::ROWS + i * Layout::ROW_BYTES + 5)
-}
-
-// The first of them.
-pub fn first_atom_at(w: &[u8], i: usize) -> usize
-    requires { ⌜ (length (now w) ≡ work-bytes) × (i < most-statements) ⌝ }
-    ensures { λ r. ⌜ (r ≡ firstAtomAt (now (w .entry)) i) × (r < 65536) ⌝ }
-{
-    half_at(w, Layout::ROWS + i * Layout::ROW_BYTES + 6)
-}
-
-// Its line.
-pub fn line_at(w: &[u8], i: usize) -> usize
-    requires { ⌜ (length (now w) ≡ work-bytes) × (i < most-statements) ⌝ }
-    ensures { λ r. ⌜ (r ≡ lineAt (now (w .entry)) i) × (r < 65536) ⌝ }
-{
-    half_at(w, Layout::ROWS + i * Layout::ROW_BYTES + 8)
-}
-
-// Where an `if` or an `else` goes.
-pub fn target_at(w: &[u8], i: usize) -> usize
-    requires { ⌜ (length (now w) ≡ work-bytes) × (i < most-statements) ⌝ }
-    ensures { λ r. ⌜ (r ≡ targetAt (now (w .entry)) i) × (r < 65536) ⌝ }
-{
-    half_at(w, Layout::ROWS + i * Layout::ROW_BYTES + 10)
-}
-
-// METHODS
-
-// The first atom of the requires of the method m.
-pub fn requires_first(w: &[u8], m: usize) -> usize
-    requires { ⌜ (length (now w) ≡ work-bytes) × (m < most-methods) ⌝ }
-    ensures { λ r. ⌜ (r ≡ halfAt (now (w .entry)) (methodPlace m)) × (r < 65536) ⌝ }
-{
-    half_at(w, Layout::METHODS + m * Layout::METHOD_BYTES)
-}
-
-// How many atoms it has.
-pub fn requires_count(w: &[u8], m: usize) -> usize
-    requires { ⌜ (length (now w) ≡ work-bytes) × (m < most-methods) ⌝ }
-    ensures { λ r. ⌜ (r ≡ byteAt (now (w .entry)) (methodPlace m + 2)) × (r < 256) ⌝ }
-{
-    byte_at(w, Layout::METHODS + m * Layout::METHOD_BYTES + 2)
-}
-
-// The first atom of its ensures.
-pub fn ensures_first(w: &[u8], m: usize) -> usize
-    requires { ⌜ (length (now w) ≡ work-bytes) × (m < most-methods) ⌝ }
-    ensures { λ r. ⌜ (r ≡ halfAt (now (w .entry)) (methodPlace m + 4)) × (r < 65536) ⌝ }
-{
-    half_at(w, Layout::METHODS + m * Layout::METHOD_BYTES + 4)
-}
-
-// How many atoms that has.
-pub fn ensures_count(w: &[u8], m: usize) -> usize
-    requires { ⌜ (length (now w) ≡ work-bytes) × (m < most-methods) ⌝ }
-    ensures { λ r. ⌜ (r ≡ byteAt (now (w .entry)) (methodPlace m + 3)) × (r < 256) ⌝ }
-{
-    byte_at(w, Layout::METHODS + m * Layout::METHOD_BYTES + 3)
-}
-
-// Its first row.
-pub fn first_row_at(w: &[u8], m: usize) -> usize
-    requires { ⌜ (length (now w) ≡ work-bytes) × (m < most-methods) ⌝ }
-    ensures { λ r. ⌜ (r ≡ firstRowAt (now (w .entry)) m) × (r < 65536) ⌝ }
-{
-    half_at(w, Layout::METHODS + m * Layout::METHOD_BYTES + 6)
-}
-
-// CLASSES
-
-// How many fields the class c has.
-pub fn field_count_at(w: &[u8], c: usize) -> usize
-    requires { ⌜ (length (now w) ≡ work-bytes) × (c < most-classes) ⌝ }
-    ensures { λ r. ⌜ (r ≡ fieldCountAt (now (w .entry)) c) × (r < 256) ⌝ }
-{
-    byte_at(w, Layout::CLASSES + c * Layout::CLASS_BYTES)
-}
-
-// The name of its field j.
-pub fn field_name_at(w: &[u8], c: usize, j: usize) -> usize
-    requires { ⌜ (length (now w) ≡ work-bytes) × ((c < most-classes) × (j < most-fields)) ⌝ }
-    ensures { λ r. ⌜ (r ≡ fieldNameAt (now (w .entry)) c j) × (r < 256) ⌝ }
-{
-    byte_at(w, Layout::CLASSES + c * Layout::CLASS_BYTES + 1 + j * 2)
-}
-
-// 1 where that field is an int, 0 where it is a reference.
-pub fn field_kind_at(w: &[u8], c: usize, j: usize) -> usize
-    requires { ⌜ (length (now w) ≡ work-bytes) × ((c < most-classes) × (j < most-fields)) ⌝ }
-    ensures { λ r. ⌜ (r ≡ byteAt (now (w .entry)) (classPlace c + 2 + j * 2)) × (r < 256) ⌝ }
-{
-    byte_at(w, Layout::CLASSES + c * Layout::CLASS_BYTES + 2 + j * 2)
-}
-
-// The place in the class c of the field with the name n, 255 where it has none.
-pub fn place_at(w: &[u8], c: usize, n: usize) -> usize
-    requires { ⌜ (length (now w) ≡ work-bytes) × ((c < most-classes) × (n < most-names)) ⌝ }
-    ensures { λ r. ⌜ (r ≡ placeAt (now (w .entry)) c n) × (r < 256) ⌝ }
-{
-    byte_at(w, Layout::PLACES + c * Layout::FIELD_NAMES + n)
 }
 
 // STORES
