@@ -1,4 +1,4 @@
--- The examples of the papers and the readings that document 01 calls tempting and wrong, as rows under one theorem.
+-- The examples of documents 01 and 02, and a text against each reading that is tempting and wrong, as rows under one theorem.
 use mathlib.Core.Path.{_≡_}
 use mathlib.Core.Bool.{Bool, cond}
 use mathlib.Core.List.{List, [], _∷_, _++_, map}
