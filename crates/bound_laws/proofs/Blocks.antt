@@ -12,7 +12,7 @@ use Rattle.rules.specs.Base as Base
 use Rattle.rules.specs.Syntax.{Row, Method, Program, noRow, noMethod, rowNumbered, methodNumbered}
 use Rattle.rules.specs.Bounds.{Block, noBlock, isEnd, called, upToEnd, block, blocks, callees, total, greatest, round, valueBy, blockBound, methodBound, blockFrames, methodFrames}
 use Rattle.rules.specs.Bounds as Bounds
-use Rattle.rules.proofs.Lists.{Member, at-head, further, option-cases, mapOption-none, mapOption-some}
+use Rattle.rules.proofs.Lists.{Member, at-head, further, head-or, option-cases, mapOption-none, mapOption-some}
 use Rattle.bound_laws.specs.Routes.{blockAt, Clear}
 use Rattle.bound_laws.proofs.Routes.{value-law}
 
@@ -35,6 +35,23 @@ block-ends P i e = block-row P i ∙ rw e refl
 
 pub block-first : (P : Program) (i : ℕ) → Member (rowNumbered P i) (block P i)
 block-first P i = subst (Member (rowNumbered P i)) (sym (block-row P i)) at-head
+
+-- each line of a block is a row
+pub block-member : (P : Program) (i : ℕ) (r : Row) → Member r (block P i) → (j : ℕ) × (r ≡ rowNumbered P j)
+unfolding block rowNumbered upToEnd
+block-member P i r m = go (P .rows) i m
+  where
+    go : (l : List Row) (i : ℕ) → Member r (upToEnd (drop i l)) → (j : ℕ) × (r ≡ getD l j noRow)
+    go [] zero m = (0, ⊎-elim (λ k. elim k [ ]) (λ e. e) (head-or m))
+    go [] (suc i) m = (0, ⊎-elim (λ k. elim k [ ]) (λ e. e) (head-or m))
+    go (x ∷ l) zero m = ⊎-elim (λ k. let (j, e) = rest (isEnd (x .stmt)) k (λ k. go l 0 k) in (suc j, e)) (λ e. (0, e)) (head-or m)
+      where
+        rest :
+            (b : Bool) → Member r (cond b [] (upToEnd l)) → (Member r (upToEnd l) → (j : ℕ) × (r ≡ getD l j noRow)) →
+            (j : ℕ) × (r ≡ getD l j noRow)
+        rest true k f = elim k [ ]
+        rest false k f = f k
+    go (x ∷ l) (suc i) m = let (j, e) = go l i m in (suc j, e)
 
 -- the block of a method starts at its first row
 pub method-block : (P : Program) (n : ℕ) → blockAt (blocks P) n ≡ block P (methodNumbered P n .first)
