@@ -74,6 +74,14 @@ pub bound-positive : (v : ℕ → ℕ) (P : Program) (i : ℕ) → 1 ≤ blockBo
 unfolding blockBound
 bound-positive v P i = rw (block-row P i) (omega arith)
 
+pub callees-nil : callees [] ≡ []
+unfolding Bounds.opened Base.opened
+callees-nil = refl
+
+pub bound-nil : (v : ℕ → ℕ) → blockBound v [] ≡ 0
+unfolding Bounds.opened Base.opened
+bound-nil v = refl
+
 -- what a row adds
 module _ (r : Row) (b : Block) where
   pub callees-none : called (r .stmt) ≡ none → callees (r ∷ b) ≡ callees b

@@ -31,13 +31,17 @@ loop-repeats bs o (loop n a b φ) t = tt
 loop-repeats bs o again t = absurd t
 loop-repeats bs o end t = absurd t
 
-call-repeats : (bs : List Block) (o : Option ℕ) (s : Stmt) (n : ℕ) → called s ≡ some n → repeats bs o s ≡ recursive bs o n
+pub call-repeats : (bs : List Block) (o : Option ℕ) (s : Stmt) (n : ℕ) → called s ≡ some n → repeats bs o s ≡ recursive bs o n
 unfolding repeats
 call-repeats bs o s n e = rw (e, repeats)
 
-other-repeats : (bs : List Block) (o : Option ℕ) (s : Stmt) → called s ≡ none → repeats bs o s ≡ isLoop s
+pub other-repeats : (bs : List Block) (o : Option ℕ) (s : Stmt) → called s ≡ none → repeats bs o s ≡ isLoop s
 unfolding repeats
 other-repeats bs o s e = rw (e, repeats)
+
+pub none-loopless : Loopless noBlock
+unfolding isLoop
+none-loopless r i t = ⊎-elim (λ j. elim j [ ]) (λ e. subst (λ (r : Row). T (isLoop (r .stmt))) e t) (head-or i)
 
 -- NO LINE
 none-first : {A : Type 0} (t : A → Bool) (l : List A) → first t l ≡ none → (a : A) → Member a l → T (t a) → ⊥

@@ -1,27 +1,29 @@
 -- The kind of a row tells what it is to a bound, and what it is tells which block goes on after it.
 use mathlib.Core.Path.{_≡_, refl, sym, ap, _∙_, subst}
 use mathlib.Core.Bool.{Bool, true, false, cond}
-use mathlib.Core.List.{List, []}
+use mathlib.Core.List.{List, [], _∷_, map}
 use mathlib.Core.Logic.{_⊎_, inl, inr, ⊎-elim}
 use mathlib.Core.Option.{Option, none, some}
 use Prim.Native.Nat.{ℕ, suc, _≤_, _<_}
 use native.Mathlib.Omega.{arith}
 use borrow.Author.Tests.{ne-eqb}
 use lib.Dec.{eqb}
+use lib.ListN.{length}
 use Rattle.rules.specs.Grammar.{isComputing}
-use Rattle.rules.specs.Syntax.{Row, Stmt, noRow, rowNumbered, set, assign, compute, new, call, assert, release, simple, return, if, else, join, loop, again, end}
+use Rattle.rules.specs.Syntax.{Row, Stmt, Method, noRow, rowNumbered, set, assign, compute, new, call, assert, release, simple, return, if, else, join, loop, again, end}
 use Rattle.rules.specs.Bounds.{Block, isEnd, called, isLoop, block, blocks, callees}
 use Rattle.rules.proofs.Lists.{Member, none-some, some-inj, came-from, decide-eq}
 use Rattle.tables.specs.declared.Operands.{Operands}
-use Rattle.tables.specs.Decode.{kindAt, memberAt, operandsAt, stmtOf, stmtAt, rowAt, rowCount, allRows, methodCount, programIn}
+use Rattle.tables.specs.Decode.{kindAt, memberAt, operandsAt, stmtOf, stmtAt, rowAt, rowCount, allRows, methodCount, methodAt, firstRowAt, programIn}
 use Rattle.tables.specs.Tables.{Tables}
-use Rattle.tables.proofs.Rows.{row-in}
-use Rattle.tables.proofs.Runs.{less-or-not, run-past}
+use Rattle.tables.proofs.Rows.{row-in, method-get}
+use Rattle.tables.proofs.Runs.{less-or-not, run-past, run-length}
 use Rattle.tables.proofs.Statements.{call-means, loop-means, end-means, not-end}
-use Rattle.bound_laws.proofs.Blocks.{block-member}
+use Rattle.bound_laws.specs.Routes.{blockAt}
+use Rattle.bound_laws.proofs.Blocks.{block-member, method-block}
 use Rattle.bound_rows.specs.declared.Line.{Line}
 use Rattle.bound_rows.specs.declared.Line.the-variants.{Plain, Call, Loop, End}
-use Rattle.bound_rows.specs.Lines.{lineOf, lineIn, Says}
+use Rattle.bound_rows.specs.Lines.{lineOf, lineIn, Says, blocksIn}
 
 -- A STATEMENT
 pub says : (s : Stmt) → Says (lineOf s) s
@@ -139,3 +141,17 @@ module _ (w : List ℕ) (tables : Tables w) where
       at : (k : ℕ) → lineIn w k ≡ Call c → c < methodCount w
       at k e =
           ⊎-elim (λ l. call-there w tables k l c e) (λ l. absurd (end-call (past k l ∙ e))) (less-or-not k (rowCount w) _ refl)
+
+-- METHODS
+pub blocks-count : (w : List ℕ) → length (blocksIn w) ≡ methodCount w
+unfolding blocks programIn
+blocks-count w = map-length _ (programIn w .methods) ∙ run-length (methodAt w) 0 (methodCount w)
+  where
+    map-length : {A B : Type 0} (f : A → B) (l : List A) → length (map f l) ≡ length l
+    map-length f [] = refl
+    map-length f (a ∷ l) = ap suc (map-length f l)
+
+-- the block of a method starts at its first row
+pub block-there : (w : List ℕ) (n : ℕ) → n < methodCount w → blockAt (blocksIn w) n ≡ block (programIn w) (firstRowAt w n)
+unfolding methodAt
+block-there w n l = method-block (programIn w) n ∙ ap (λ (M : Method). block (programIn w) (M .first)) (method-get w n l)
