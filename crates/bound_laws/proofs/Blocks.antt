@@ -1,12 +1,11 @@
 -- Laws of blocks: by their rows, and the bound and frames of a method by its block, where no method that it reaches reaches itself.
 use mathlib.Core.Path.{_≡_, refl, sym, ap, ap₂, _∙_, subst}
-use mathlib.Core.Bool.{Bool, true, false, not, cond}
+use mathlib.Core.Bool.{Bool, true, false, cond}
 use mathlib.Core.List.{List, [], _∷_, map}
 use mathlib.Core.Logic.{⊎-elim}
 use mathlib.Core.Option.{none, some}
 use Prim.Native.Nat.{ℕ, zero, suc, _+_, _≤_, max, suc-le-suc}
 use native.Mathlib.Omega.{arith}
-use lib.Dec.{T}
 use lib.ListN.{length, getD, drop}
 use Rattle.rules.specs.Base as Base
 use Rattle.rules.specs.Syntax.{Row, Method, Program, noRow, noMethod, rowNumbered, methodNumbered}

@@ -1,19 +1,18 @@
 -- Where no line is refused with 15, no method reaches itself and no block has a loop; and the other way round.
 use mathlib.Core.Path.{_≡_, refl, sym, ap, _∙_, subst}
-use mathlib.Core.Bool.{Bool, true, false, _||_}
+use mathlib.Core.Bool.{Bool, _||_}
 use mathlib.Core.List.{List, [], _∷_}
-use mathlib.Core.Logic.{_⊎_, inl, inr, ⊎-elim}
+use mathlib.Core.Logic.{⊎-elim}
 use mathlib.Core.Option.{Option, none, some}
 use Prim.Native.Nat.{ℕ, zero, suc, _+_}
 use native.Mathlib.Omega.{arith}
 use lib.Dec.{T, eqb, eqb→eq, eqb-refl}
-use lib.ListN.{getD}
 use Rattle.rules.specs.Base.{first}
 use Rattle.rules.specs.Syntax.{Stmt, Row, Program, simple, return, if, else, join, loop, again, end}
 use Rattle.rules.specs.Bounds.{Block, noBlock, called, block, blocks, callees, reaches, recursive, isLoop, repeats, orLater, firstIn, firstFrom, firstRepeating}
 use Rattle.rules.proofs.Lists.{Member, head-or, none-some, or-left, or-right, or-cases, option-cases, came-from, went-to, first-in, first-some}
 use Rattle.bound_laws.specs.Routes.{blockAt, calls, Reaches, directly, through, Acyclic}
-use Rattle.bound_laws.proofs.Routes.{route-found, found-route, none-of, no-calls}
+use Rattle.bound_laws.proofs.Routes.{route-found, found-route}
 
 -- no line of a block is a loop
 abbrev pub Loopless : Block → Type 0

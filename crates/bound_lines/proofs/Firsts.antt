@@ -6,12 +6,12 @@ use mathlib.Core.Option.{Option, none, some}
 use Prim.Native.Nat.{ℕ, zero, suc, _+_, _≤_, _<_}
 use native.Mathlib.Omega.{arith}
 use native.Mathlib.Numerals.{add-one}
-use lib.Dec.{T, eqb}
-use lib.ListN.{length, getD, drop}
+use lib.Dec.{eqb}
+use lib.ListN.{length, drop}
 use lib.Seq.{drop-cons}
 use Rattle.rules.specs.Base.{first}
 use Rattle.rules.specs.Syntax.{Row, Program, rowNumbered}
-use Rattle.rules.specs.Bounds.{Block, noBlock, block, blocks, reaches, recursive, repeats, orLater, firstIn, firstFrom, firstRepeating}
+use Rattle.rules.specs.Bounds.{Block, noBlock, block, reaches, recursive, repeats, orLater, firstIn, firstFrom, firstRepeating}
 use Rattle.tables.specs.Decode.{lineAt, rowAt, rowCount, methodCount, mainFirst, firstRowAt, programIn}
 use Rattle.tables.specs.Tables.{Tables}
 use Rattle.tables.proofs.Rows.{row-in}
@@ -25,8 +25,6 @@ use Rattle.bound_lines.specs.declared.Seen.{Seen}
 use Rattle.bound_lines.specs.declared.Seen.the-variants.{Repeats, Ends, Goes}
 use Rattle.bound_lines.specs.declared.Place.{Place}
 use Rattle.bound_lines.specs.declared.Place.the-variants.{At, Nowhere}
-use Rattle.bound_lines.specs.declared.Reached.{Reached}
-use Rattle.bound_lines.specs.Reach.{Reaches}
 use Rattle.bound_lines.specs.Lines.{CallThere, lookedAt, placeOf, firstOf}
 
 -- A LINE
@@ -35,28 +33,29 @@ module _ (w : List ℕ) where
   unfolding lookedAt recursive
   main-call c = refl
 
-  module _ (a c : ℕ) (q : Reached) (R : Reaches w c q) where
-    pub call-back : getD (q .has) a false ≡ true → Repeats ≡ lookedAt (blocksIn w) (some a) (Lines.Call c)
+  -- b: whether c is or reaches a
+  module _ (a c : ℕ) (b : Bool) (e : b ≡ eqb c a || reaches (blocksIn w) a c) where
+    pub call-back : b ≡ true → Repeats ≡ lookedAt (blocksIn w) (some a) (Lines.Call c)
     unfolding lookedAt recursive
-    call-back h = rw (sym (R a) ∙ h) refl
+    call-back h = rw (sym e ∙ h) refl
 
-    pub call-away : getD (q .has) a false ≡ false → Goes ≡ lookedAt (blocksIn w) (some a) (Lines.Call c)
+    pub call-away : b ≡ false → Goes ≡ lookedAt (blocksIn w) (some a) (Lines.Call c)
     unfolding lookedAt recursive
-    call-away h = rw (sym (R a) ∙ h) refl
+    call-away h = rw (sym e ∙ h) refl
 
 -- A ROW OF A BLOCK
+pub call-is-there : (w : List ℕ) → Tables w → (i : ℕ) → i < rowCount w → (v : Line) → v ≡ lineIn w i → CallThere w v
+call-is-there w tables i l Lines.Plain e = tt
+call-is-there w tables i l (Lines.Call c) e = call-there w tables i l c (sym e)
+call-is-there w tables i l Lines.Loop e = tt
+call-is-there w tables i l Lines.End e = tt
+
 module _ (w : List ℕ) (tables : Tables w) (o : Option ℕ) (i : ℕ) (l : i < rowCount w) where
   abbrev P : Program
   P = programIn w
 
   abbrev bs : List Block
   bs = blocksIn w
-
-  pub call-is-there : (v : Line) → v ≡ lineIn w i → CallThere w v
-  call-is-there Lines.Plain e = tt
-  call-is-there (Lines.Call c) e = call-there w tables i l c (sym e)
-  call-is-there Lines.Loop e = tt
-  call-is-there Lines.End e = tt
 
   tested : (b : Block) → firstIn bs o (rowNumbered P i ∷ b) ≡ cond (repeats bs o (rowNumbered P i .stmt)) (some (rowNumbered P i)) (firstIn bs o b)
   unfolding firstIn first
@@ -113,8 +112,8 @@ module _ (w : List ℕ) (tables : Tables w) (o : Option ℕ) (i : ℕ) (l : i < 
     pub is-last : s ≡ Ends → firstOf w o i ≡ Nowhere
     is-last q = subst Told q says-so
 
-    pub is-passed : s ≡ Goes → (firstOf w o (suc i) ≡ firstOf w o i) × (suc i < rowCount w)
-    is-passed q = subst Told q says-so
+    pub is-passed : (n : ℕ) → n ≡ i + 1 → s ≡ Goes → (n < rowCount w) × (firstOf w o n ≡ firstOf w o i)
+    is-passed n r q = let (e, k) : Told Goes = subst Told q says-so in rw (r, add-one i) (k, e)
 
 -- BLOCK BY BLOCK
 -- the place of the first in the blocks from number a on
@@ -131,9 +130,9 @@ drop-past [] (suc i) h = refl
 drop-past (a ∷ l) zero h = absurd (omega arith)
 drop-past (a ∷ l) (suc i) h = drop-past l i (omega arith)
 
-pub place-main : (w : List ℕ) (a : ℕ) → methodCount w ≤ a → firstOf w none (mainFirst w) ≡ placeFrom w a
+pub place-main : (w : List ℕ) (a i : ℕ) → methodCount w ≤ a → i ≡ mainFirst w → firstOf w none i ≡ placeFrom w a
 unfolding firstFrom
-place-main w a l = rw (drop-past (blocksIn w) a (omega (arith, l, blocks-count w))) refl
+place-main w a i l e = rw (e, drop-past (blocksIn w) a (omega (arith, l, blocks-count w))) refl
 
 module _ (w : List ℕ) (a : ℕ) (l : a < methodCount w) where
   abbrev found : Option Row
@@ -148,18 +147,23 @@ module _ (w : List ℕ) (a : ℕ) (l : a < methodCount w) where
       ap (λ bs. placeOf (firstFrom (blocksIn w) a bs (block (programIn w) (mainFirst w)))) (drop-cons (blocksIn w) a noBlock (omega (arith, l, blocks-count w)))
       ∙ ap (λ b. placeOf (orLater (firstIn (blocksIn w) (some a) b) after)) (block-there w a l)
 
-  pub place-here : (n : ℕ) → firstOf w (some a) (firstRowAt w a) ≡ At n → At n ≡ placeFrom w a
-  unfolding orLater placeOf
-  place-here n q = go found refl
-    where
-      go : (o : Option Row) → found ≡ o → At n ≡ placeFrom w a
-      go none e = absurd (let y : Nowhere ≡ At n = sym (ap placeOf e) ∙ q in let z : _≡_ {A = ℕ} 0 1 = cc in omega arith)
-      go (some r) e = sym q ∙ ap placeOf e ∙ sym (split ∙ ap (λ o. placeOf (orLater o after)) e)
+  -- what the block gave
+  module _ (f : ℕ) (e : f ≡ firstRowAt w a) (r : Place) (h : r ≡ firstOf w (some a) f) where
+    is : r ≡ placeOf found
+    is = h ∙ ap (firstOf w (some a)) e
 
-  pub place-later : firstOf w (some a) (firstRowAt w a) ≡ Nowhere → placeFrom w (a + 1) ≡ placeFrom w a
-  unfolding orLater placeOf
-  place-later q = go found refl
-    where
-      go : (o : Option Row) → found ≡ o → placeFrom w (a + 1) ≡ placeFrom w a
-      go none e = rw (add-one a) (sym (split ∙ ap (λ o. placeOf (orLater o after)) e))
-      go (some r) e = absurd (let y : At (r .line) ≡ Nowhere = sym (ap placeOf e) ∙ q in let z : _≡_ {A = ℕ} 0 1 = cc in omega arith)
+    pub place-here : (n : ℕ) → r ≡ At n → At n ≡ placeFrom w a
+    unfolding orLater placeOf
+    place-here n q = go found refl
+      where
+        go : (o : Option Row) → found ≡ o → At n ≡ placeFrom w a
+        go none v = absurd (let y : At n ≡ Nowhere = sym q ∙ is ∙ ap placeOf v in let z : _≡_ {A = ℕ} 0 1 = cc in omega arith)
+        go (some k) v = sym q ∙ is ∙ ap placeOf v ∙ sym (split ∙ ap (λ o. placeOf (orLater o after)) v)
+
+    pub place-later : r ≡ Nowhere → placeFrom w (a + 1) ≡ placeFrom w a
+    unfolding orLater placeOf
+    place-later q = go found refl
+      where
+        go : (o : Option Row) → found ≡ o → placeFrom w (a + 1) ≡ placeFrom w a
+        go none v = rw (add-one a) (sym (split ∙ ap (λ o. placeOf (orLater o after)) v))
+        go (some k) v = absurd (let y : Nowhere ≡ At (k .line) = sym q ∙ is ∙ ap placeOf v in let z : _≡_ {A = ℕ} 0 1 = cc in omega arith)

@@ -150,16 +150,17 @@ module _ (w : List ℕ) (tables : Tables w) (c : ℕ) where
       pub rest : (d : ℕ) → Member d (calls bs m) → Member d (callees (block (programIn w) row)) ⊎ Has k d
       pub within : row < rowCount w
 
-    pub gather-start : Seeking w c q → Has q m → m < methodCount w → Gathering q (firstRowAt w m)
-    gather-start S h l =
-        record {
+    pub gather-start : Seeking w c q → Has q m → m < methodCount w → (n : ℕ) → n ≡ firstRowAt w m → Gathering q n
+    gather-start S h l n e =
+        rw e
+        (record {
           seeking = S;
           grows = grows-same q;
           owner = h;
           inside = λ d i. subst (λ b. Member d (callees b)) (sym (block-there w m l)) i;
           rest = λ d i. inl (subst (λ b. Member d (callees b)) (block-there w m l) i);
           within = tables .method-fits m l .block .0;
-        }
+        })
 
     module _ (k : Reached) (row : ℕ) (G : Gathering k row) where
       abbrev P : Program

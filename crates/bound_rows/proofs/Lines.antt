@@ -3,7 +3,7 @@ use mathlib.Core.Path.{_≡_, refl, sym, ap, _∙_, subst}
 use mathlib.Core.Bool.{Bool, true, false, cond}
 use mathlib.Core.List.{List, [], _∷_, map}
 use mathlib.Core.Logic.{_⊎_, inl, inr, ⊎-elim}
-use mathlib.Core.Option.{Option, none, some}
+use mathlib.Core.Option.{some}
 use Prim.Native.Nat.{ℕ, suc, _≤_, _<_}
 use native.Mathlib.Omega.{arith}
 use borrow.Author.Tests.{ne-eqb}
@@ -11,8 +11,8 @@ use lib.Dec.{eqb}
 use lib.ListN.{length}
 use Rattle.rules.specs.Grammar.{isComputing}
 use Rattle.rules.specs.Syntax.{Row, Stmt, Method, noRow, rowNumbered, set, assign, compute, new, call, assert, release, simple, return, if, else, join, loop, again, end}
-use Rattle.rules.specs.Bounds.{Block, isEnd, called, isLoop, block, blocks, callees}
-use Rattle.rules.proofs.Lists.{Member, none-some, some-inj, came-from, decide-eq}
+use Rattle.rules.specs.Bounds.{isEnd, called, isLoop, block, blocks, callees}
+use Rattle.rules.proofs.Lists.{Member, came-from, decide-eq}
 use Rattle.tables.specs.declared.Operands.{Operands}
 use Rattle.tables.specs.Decode.{kindAt, memberAt, operandsAt, stmtOf, stmtAt, rowAt, rowCount, allRows, methodCount, methodAt, firstRowAt, programIn}
 use Rattle.tables.specs.Tables.{Tables}

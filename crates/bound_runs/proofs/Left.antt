@@ -1,19 +1,17 @@
 -- What is left of a run falls with each step, and the frames that it may still open fit the longest route of calls.
-use mathlib.Core.Path.{_≡_, refl, sym, ap, _∙_, subst}
-use mathlib.Core.Bool.{false}
+use mathlib.Core.Path.{_≡_, sym, ap, _∙_, subst}
 use mathlib.Core.List.{List, [], _∷_}
-use mathlib.Core.Option.{none, some}
-use Prim.Native.Nat.{ℕ, zero, suc, _+_, _≤_, zero-le}
+use mathlib.Core.Option.{none}
+use Prim.Native.Nat.{ℕ, suc, _+_, _≤_, zero-le}
 use native.Mathlib.Omega.{arith}
 use lib.ListN.{length}
 use Rattle.rules.specs.Answers.{Ending, finished, stepsTaken, stopped}
-use Rattle.rules.specs.Syntax.{Row, Program, rowNumbered, methodNumbered}
+use Rattle.rules.specs.Syntax.{Program, rowNumbered, methodNumbered}
 use Rattle.rules.specs.Machine.{Config, Frame, Room, statementOf, start}
 use Rattle.rules.specs.Runs.{depth, lastStep, Run, EndedBy}
-use Rattle.rules.specs.Bounds.{isEnd, called, block, blocks, blockBound, methodBound, blockFrames, methodFrames, mainBound, mainFrames, firstRepeating}
+use Rattle.rules.specs.Bounds.{block, blocks, blockBound, methodBound, blockFrames, methodFrames, mainBound, mainFrames, firstRepeating}
 use Rattle.rules.proofs.Lists.{Member, further}
 use Rattle.rules.proofs.States.{every-later}
-use Rattle.bound_laws.specs.Routes.{blockAt}
 use Rattle.bound_laws.proofs.Routes.{acyclic-clear}
 use Rattle.bound_laws.proofs.Blocks.{block-goes, bound-positive, bound-some, bound-more, frames-some, frames-more, method-block, bound-law, frames-law}
 use Rattle.bound_laws.proofs.Repeating.{Loopless, methods-loopless, main-loopless, no-ring}

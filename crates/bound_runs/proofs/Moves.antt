@@ -3,18 +3,19 @@
 use mathlib.Core.Path.{_≡_, refl, sym, ap, _∙_, subst}
 use mathlib.Core.Bool.{Bool, true, false, cond}
 use mathlib.Core.List.{List, [], _∷_}
-use mathlib.Core.Option.{none, some}
+use mathlib.Core.Option.{some}
 use Prim.Native.Nat.{ℕ, suc}
 use native.Mathlib.Omega.{arith}
 use lib.Dec.{T, ltb}
-use lib.ListN.{length, getD}
-use Rattle.rules.specs.Base.{Try, ok}
+use lib.ListN.{length}
+use Rattle.rules.specs.Base.{ok}
 use Rattle.rules.specs.Limits.{most-branches}
-use Rattle.rules.specs.Syntax.{Rel, Expr, Formula, Operation, Simple, Stmt, Row, Field, Program, rowNumbered, methodNumbered}
+use Rattle.rules.specs.Syntax.{Rel, Expr, Formula, Operation, Simple, Stmt, Field, Program, rowNumbered, methodNumbered}
 use Rattle.rules.specs.Syntax.{set, assign, compute, new, call, return, assert, release, simple, if, else, join, loop, again, end}
-use Rattle.rules.specs.Machine.{Config, Frame, Room, Location, Step, on, statementOf, without, footprint, value, compared, locate, closing, jump, advance, bind, holding, withFrame, choose, ifStep, elseStep, stored, setStep, assignStep, computed, computeStep, grown, newStep, callFrame, entered, callStep, returned, assertStep, releaseStep, took, endStep, returnStep, simpleStep, stepAt, step, valueOf}
+use Rattle.rules.specs.Machine.{Config, Frame, Room, on, statementOf, without, footprint, value, compared, locate, closing, jump, advance, bind, holding, withFrame, choose, ifStep}
+use Rattle.rules.specs.Machine.{elseStep, stored, setStep, assignStep, computed, computeStep, grown, newStep, callFrame, entered, callStep, returned, assertStep, releaseStep, endStep, returnStep, simpleStep, stepAt, step, valueOf}
 use Rattle.rules.specs.Bounds.{isEnd, called, isLoop, block}
-use Rattle.rules.proofs.Lists.{at-head, Member, and-both}
+use Rattle.rules.proofs.Lists.{and-both}
 use Rattle.rules.proofs.Tries.{bind-ok, check-ok, ok-inj}
 use Rattle.rules.proofs.Changes.{call-enters}
 use Rattle.rules.proofs.States.{on-inj, took-on}

@@ -8,14 +8,14 @@ use native.Mathlib.Omega.{arith}
 use lib.Dec.{T, leb}
 use lib.ListN.{length, getD, drop}
 use Rattle.rules.specs.Limits.{most-bound}
-use Rattle.rules.specs.Answers.{Verdict, Ending, accepted, refused, then, finished, stepsTaken, stopped, endingNumber, stopNumber, unbounded, boundPassed}
+use Rattle.rules.specs.Answers.{Verdict, Ending, accepted, refused, then, finished, stepsTaken, stopped, endingNumber, stopNumber, boundPassed}
 use Rattle.rules.specs.Answers.{heapFull, framesFull, permissionMissing, nullFollowed, formulaFalse, overflow}
 use Rattle.rules.specs.Syntax.{Row, Method, Program, noMethod, methodNumbered}
 use Rattle.rules.specs.Items.{Item}
 use Rattle.rules.specs.Reading.{readText, program}
-use Rattle.rules.specs.Machine.{Outcome, ends, runProgram}
+use Rattle.rules.specs.Machine.{ends}
 use Rattle.rules.specs.Bounds.{mainBound, mainFrames, firstRepeating, boundOf, boundProgram}
-use Rattle.rules.specs.Calls.{Bounds, checkItems, wholeHeap, outcomeResult, runItems, runText, boundItems, boundNumbers, boundText}
+use Rattle.rules.specs.Calls.{checkItems, wholeHeap, outcomeResult, runItems, runText, boundItems, boundNumbers, boundText}
 use Rattle.rules.specs.Runs.{Run, outcome, depth}
 use Rattle.rules.proofs.Tries.{then-accepted, accepted-inj, refused-accepted, refusal-not-zero}
 use Rattle.rules.proofs.Counting.{run-listed}

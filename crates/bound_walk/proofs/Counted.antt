@@ -1,19 +1,19 @@
 -- Laws of counting: methods that are reckoned, and a block that is counted row by row.
 use mathlib.Core.Path.{_≡_, refl, sym, ap, _∙_, subst}
-use mathlib.Core.Bool.{Bool, true, false}
-use mathlib.Core.List.{List, [], _∷_, map}
-use mathlib.Core.Logic.{_⊎_, inl, inr, ⊎-elim}
+use mathlib.Core.Bool.{false}
+use mathlib.Core.List.{List, [], _∷_}
+use mathlib.Core.Logic.{⊎-elim}
 use mathlib.Core.Option.{none, some}
 use Prim.Native.Nat.{ℕ, suc, _+_, _≤_, _<_, max}
 use native.Mathlib.Omega.{arith}
 use native.Mathlib.Numerals.{add-one}
 use lib.Dec.{T}
 use lib.ListN.{getD}
-use Rattle.rules.specs.Limits.{most-bound, most-methods}
+use Rattle.rules.specs.Limits.{most-bound}
 use Rattle.rules.specs.Syntax.{Row, Program, rowNumbered}
-use Rattle.rules.specs.Bounds.{Block, isEnd, called, isLoop, block, callees, greatest, blockBound, methodBound, blockFrames, methodFrames}
+use Rattle.rules.specs.Bounds.{Block, isEnd, called, isLoop, block, callees, greatest, methodBound, blockFrames, methodFrames}
 use Rattle.rules.proofs.Lists.{Member, at-head, further, head-or, came-from, went-to}
-use Rattle.tables.specs.Decode.{rowCount, methodCount, programIn}
+use Rattle.tables.specs.Decode.{rowCount, programIn}
 use Rattle.tables.specs.Tables.{Tables}
 use Rattle.bound_laws.specs.Routes.{blockAt, calls, Reaches, directly, through, Clear}
 use Rattle.bound_laws.proofs.Routes.{none-of}
@@ -31,7 +31,7 @@ use Rattle.bound_walk.specs.declared.Found.the-variants as Finds
 use Rattle.bound_walk.specs.declared.Looked.{Looked}
 use Rattle.bound_walk.specs.declared.Looked.the-variants.{On, Wait, Loop, End}
 use Rattle.bound_walk.specs.Counting.{cap, fresh, lookedCall, looked, BoundFits, Counts, CallFits}
-use Rattle.bound_walk.specs.Walk.{Settled, settled, Right, Sound, SoundIn, Part, PartAt, Ended, Waits, NotDone, HasLoop, Scans}
+use Rattle.bound_walk.specs.Walk.{Settled, settled, Right, SoundIn, Part, PartAt, Ended, NotDone, HasLoop, Scans}
 
 -- METHODS
 -- a route back from a settled method there is none

@@ -1,5 +1,5 @@
 -- What the walk over all methods says of the definition: a line is refused, or main's bound and frames.
-use mathlib.Core.Path.{_≡_, refl, sym, ap, _∙_, subst}
+use mathlib.Core.Path.{_≡_, refl, sym, subst}
 use mathlib.Core.Bool.{Bool, true, false}
 use mathlib.Core.List.{List}
 use mathlib.Core.Logic.{⊎-elim}
@@ -7,15 +7,15 @@ use mathlib.Core.Option.{Option, none, some}
 use Prim.Native.Nat.{ℕ, suc, _+_, _≤_, _<_}
 use native.Mathlib.Omega.{arith}
 use lib.Dec.{leb, ltb, leb→le, le→leb}
-use lib.ListN.{length, getD}
+use lib.ListN.{getD}
 use Rattle.rules.specs.Limits.{most-bound, most-methods}
 use Rattle.rules.specs.Syntax.{Row, Program}
-use Rattle.rules.specs.Bounds.{Block, block, blocks, callees, blockBound, methodBound, mainBound, mainFrames, firstRepeating}
-use Rattle.rules.proofs.Lists.{Member, none-some, T-true, F-false}
+use Rattle.rules.specs.Bounds.{Block, block, mainBound, mainFrames, firstRepeating}
+use Rattle.rules.proofs.Lists.{T-true, F-false}
 use Rattle.tables.specs.Decode.{rowCount, methodCount, mainFirst, programIn}
 use Rattle.tables.specs.Tables.{Tables}
 use Rattle.tables.proofs.Runs.{less-or-not}
-use Rattle.bound_laws.specs.Routes.{blockAt, calls, Reaches, directly, through}
+use Rattle.bound_laws.specs.Routes.{blockAt, Reaches, directly, through}
 use Rattle.bound_laws.proofs.Routes.{calls-exist, blockAt-past}
 use Rattle.bound_laws.proofs.Blocks.{frames-most}
 use Rattle.bound_laws.proofs.Repeating.{Loopless, main-loopless, no-line, none-loopless}
@@ -24,13 +24,11 @@ use Rattle.bound_rows.proofs.Lines.{callees-there, blocks-count}
 use Rattle.bound_walk.specs.declared.Visit.{Visit}
 use Rattle.bound_walk.specs.declared.Visit.the-variants.{NotVisited, OnRoute, Done}
 use Rattle.bound_walk.specs.declared.Reckoned.{Reckoned}
-use Rattle.bound_walk.specs.declared.Found.{Found}
 use Rattle.bound_walk.specs.declared.Found.the-variants as Finds
 use Rattle.bound_walk.specs.declared.Scanned.{Scanned}
-use Rattle.bound_walk.specs.declared.Answer.{Answer}
 use Rattle.bound_walk.specs.declared.Answer.the-variants as Answers
 use Rattle.bound_walk.specs.Counting.{cap, fresh}
-use Rattle.bound_walk.specs.Walk.{Settled, Right, SoundIn, PartAt, Ended, Waits, NotDone, Stops, Scans, isNew, NoBound, Rested, Reckons, reckonedBy, reckoned}
+use Rattle.bound_walk.specs.Walk.{Settled, Right, SoundIn, Ended, Waits, NotDone, Stops, Scans, isNew, NoBound, Reckons, reckonedBy, reckoned}
 use Rattle.bound_walk.proofs.Counted.{settled-itself, settled-loopless, whole-part}
 
 pub no-bound-answer : (w : List ℕ) → NoBound w → Answers.Unbounded ≡ reckoned (programIn w)

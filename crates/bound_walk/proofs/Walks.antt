@@ -3,10 +3,8 @@ use mathlib.Core.Path.{_≡_, refl, sym, ap, _∙_, subst}
 use mathlib.Core.Bool.{Bool, true, false}
 use mathlib.Core.List.{List, [], _∷_}
 use mathlib.Core.Logic.{_⊎_, inl, inr, ⊎-elim}
-use mathlib.Core.Option.{none}
-use Prim.Native.Nat.{ℕ, zero, suc, _+_, _-_, _*_, _≤_, _<_}
+use Prim.Native.Nat.{ℕ, zero, suc, _+_, _-_, _≤_, _<_}
 use native.Mathlib.Omega.{arith}
-use lib.Dec.{T}
 use lib.ListN.{length, getD, set, length-set, replicate}
 use lib.Seq.{getD-set-same, getD-set-other}
 use Rattle.rules.specs.Limits.{most-bound, most-methods}
@@ -24,7 +22,6 @@ use Rattle.bound_walk.specs.declared.Visit.{Visit}
 use Rattle.bound_walk.specs.declared.Visit.the-variants.{NotVisited, OnRoute, Done}
 use Rattle.bound_walk.specs.declared.Reckoned.{Reckoned}
 use Rattle.bound_walk.specs.declared.Open.{Open}
-use Rattle.bound_walk.specs.declared.Found.{Found}
 use Rattle.bound_walk.specs.declared.Found.the-variants as Finds
 use Rattle.bound_walk.specs.declared.Scanned.{Scanned}
 use Rattle.bound_walk.specs.declared.Route.{Route}

@@ -1,5 +1,5 @@
-// The walk over the calls of a program, which gives main's bound and the most frames on a route of calls. "A struct per method with an
-// enum: not visited, on the present route, or done with its bound"; the present route is a stack of blocks.
+// The walk over the calls of a program, which gives main's bound and the most frames on a route of calls: "a struct per method with an
+// enum: not visited, on the present route, or done with its bound". The present route is a stack of blocks.
 mod counting;
 mod turns;
 

@@ -24,19 +24,42 @@ cast-if1 : tie.Need-cast-if1
 cast-if1 c = search needs
 
 returns : tie.Need-returns
-returns c = passed-answer _ (c .before .before .before .before .before .before .before .before .pre .0) _ (c .before .before .before .before .before .before .before .before .pre .1) _ (c .before .before .before .before .before .before .main-first .ensures .0) _ (c .before .before .before .before .before .scan .ensures) (c .before .before .enum-told3 .given .1) (c .if1 .taken)
+returns c =
+    let start = c .before .before .before .before .before .before .before .before in
+    let at-main-first = c .before .before .before .before .before .before .main-first in
+    let at-scan = c .before .before .before .before .before .scan in
+    let at-enum-told3 = c .before .before .enum-told3 in
+    passed-answer _ (start .pre .0) _ (start .pre .1) _ (at-main-first .ensures .0) _ (at-scan .ensures) (at-enum-told3 .given .1) (c .if1 .taken)
 
 add-t9 : tie.Need-add-t9
-add-t9 c = omega (arith, frames-small _ (c .before .before .before .before .before .before .before .before .before .pre .0) _ (c .before .before .before .before .before .before .before .before .before .pre .1) _ (c .before .before .before .before .before .before .before .main-first .ensures .0) _ (c .before .before .before .before .before .before .scan .ensures) (c .before .before .before .enum-told3 .given .1))
+add-t9 c =
+    let start = c .before .before .before .before .before .before .before .before .before in
+    let at-main-first = c .before .before .before .before .before .before .before .main-first in
+    let at-scan = c .before .before .before .before .before .before .scan in
+    let at-enum-told3 = c .before .before .before .enum-told3 in
+    omega (arith, frames-small _ (start .pre .0) _ (start .pre .1) _ (at-main-first .ensures .0) _ (at-scan .ensures) (at-enum-told3 .given .1))
 
 returns-2 : tie.Need-returns-2
-returns-2 c = main-waits _ (c .before .before .before .before .before .before .pre .0) _ (c .before .before .before .before .before .before .pre .1) _ (c .before .before .before .before .main-first .ensures .0) _ (c .before .before .before .scan .ensures) _ (c .enum-told .given .1)
+returns-2 c =
+    let start = c .before .before .before .before .before .before in
+    let at-main-first = c .before .before .before .before .main-first in
+    let at-scan = c .before .before .before .scan in
+    main-waits _ (start .pre .0) _ (start .pre .1) _ (at-main-first .ensures .0) _ (at-scan .ensures) _ (c .enum-told .given .1)
 
 returns-3 : tie.Need-returns-3
-returns-3 c = main-loops _ (c .before .before .before .before .before .before .pre .0) _ (c .before .before .before .before .before .before .pre .1) _ (c .before .before .before .before .main-first .ensures .0) _ (c .before .before .before .scan .ensures) (c .enum-told2 .given .1)
+returns-3 c =
+    let start = c .before .before .before .before .before .before in
+    let at-main-first = c .before .before .before .before .main-first in
+    let at-scan = c .before .before .before .scan in
+    main-loops _ (start .pre .0) _ (start .pre .1) _ (at-main-first .ensures .0) _ (at-scan .ensures) (c .enum-told2 .given .1)
 
 returns-4 : tie.Need-returns-4
-returns-4 c = bounded-answer _ (c .before .before .before .before .before .before .before .before .before .pre .0) _ (c .before .before .before .before .before .before .before .before .before .pre .1) _ (c .before .before .before .before .before .before .before .main-first .ensures .0) _ (c .before .before .before .before .before .before .scan .ensures) (c .before .before .before .enum-told3 .given .1) (c .before .if1 .left) _ refl
+returns-4 c =
+    let start = c .before .before .before .before .before .before .before .before .before in
+    let at-main-first = c .before .before .before .before .before .before .before .main-first in
+    let at-scan = c .before .before .before .before .before .before .scan in
+    let at-enum-told3 = c .before .before .before .enum-told3 in
+    bounded-answer _ (start .pre .0) _ (start .pre .1) _ (at-main-first .ensures .0) _ (at-scan .ensures) (at-enum-told3 .given .1) (c .before .if1 .left) _ refl
 
 pub reckon-main-spec : {M : Type 1} → statement M
 reckon-main-spec =

@@ -19,10 +19,9 @@ begin-requires : tie.Need-begin-requires Inv-loop μ-loop
 begin-requires c κs = (c .before .pre .0 .size, omega (arith, c .before .pre .0 .methods, c .before .pre .1 .1 .1))
 
 loop-holds : tie.Need-loop-holds Inv-loop μ-loop
-loop-holds c = (
-  subst (Walking _) (sym (c .begin .ensures)) (begun-walking _ (c .before .before .pre .0) _ (c .before .before .pre .1 .0) _ (c .before .before .pre .1 .1 .0) (c .before .before .pre .1 .1 .1)),
-  (λ n z. z, ap (λ (r : Route). r .unbounded) (c .begin .ensures) ∙ begun-on _ (c .before .before .pre .0) _ (c .before .before .pre .1 .0) _ (c .before .before .pre .1 .1 .0) (c .before .before .pre .1 .1 .1)),
-)
+loop-holds c =
+    let start = c .before .before in
+    (subst (Walking _) (sym (c .begin .ensures)) (begun-walking _ (start .pre .0) _ (start .pre .1 .0) _ (start .pre .1 .1 .0) (start .pre .1 .1 .1)), (λ n z. z, ap (λ (r : Route). r .unbounded) (c .begin .ensures) ∙ begun-on _ (start .pre .0) _ (start .pre .1 .0) _ (start .pre .1 .1 .0) (start .pre .1 .1 .1)))
 
 turn-requires : tie.Need-turn-requires Inv-loop μ-loop
 turn-requires c κs = (c .before .before .before .before .before .pre .0, (c .before .before .loop .inv .0, c .if1 .taken))
@@ -40,9 +39,18 @@ loop-again c =
 
 returns-2 : tie.Need-returns-2 Inv-loop μ-loop
 returns-2 c =
-    settles-at _ _ _ _ _ (c .before .before .loop .inv .1 .1) (walk-ends _ (c .before .before .before .before .before .pre .0) _ (c .before .before .loop .inv .0) (omega (arith, c .if1 .left)))
-    (λ n z. c .before .before .loop .inv .1 .0 n (subst (λ (r : Route). isNew (getD (r .marks) n fresh .visit) ≡ 0) (sym (c .before .before .before .begin .ensures)) (begun-keeps _ (c .before .before .before .before .before .pre .0) _ (c .before .before .before .before .before .pre .1 .0) _ (c .before .before .before .before .before .pre .1 .1 .0) (c .before .before .before .before .before .pre .1 .1 .1) n z)))
-    (c .before .before .loop .inv .1 .0 _ (subst (λ (r : Route). isNew (getD (r .marks) (c .before .before .before .before .before .args .start) fresh .visit) ≡ 0) (sym (c .before .before .before .begin .ensures)) (begun-start _ (c .before .before .before .before .before .pre .0) _ (c .before .before .before .before .before .pre .1 .0) _ (c .before .before .before .before .before .pre .1 .1 .0) (c .before .before .before .before .before .pre .1 .1 .1))))
+    let start = c .before .before .before .before .before in
+    let at-begin = c .before .before .before .begin in
+    let at-loop = c .before .before .loop in
+    let same = sym (at-begin .ensures) in
+    settles-at _ _ _ _ _ (at-loop .inv .1 .1) (walk-ends _ (start .pre .0) _ (at-loop .inv .0) (omega (arith, c .if1 .left)))
+    (λ n z.
+    at-loop .inv .1 .0 n
+    (subst (λ (r : Route). isNew (getD (r .marks) n fresh .visit) ≡ 0) same
+    (begun-keeps _ (start .pre .0) _ (start .pre .1 .0) _ (start .pre .1 .1 .0) (start .pre .1 .1 .1) n z)))
+    (at-loop .inv .1 .0 _
+    (subst (λ (r : Route). isNew (getD (r .marks) (start .args .start) fresh .visit) ≡ 0) same
+    (begun-start _ (start .pre .0) _ (start .pre .1 .0) _ (start .pre .1 .1 .0) (start .pre .1 .1 .1))))
 
 pub settle-spec : {M : Type 1} → statement M
 settle-spec =

@@ -1,88 +1,90 @@
+use borrow.Author.Needs.{needs}
+use mathlib.Core.Path.{refl, sym, _∙_}
+use Prim.Native.Nat.{_-_}
+use native.Mathlib.Omega.{arith}
+use Rattle.tables.specs.Decode.{rowCount}
+use Rattle.tables.specs.Tables.{Tables}
+use Rattle.bound_lines.proofs.Seeks.{Gathering, gather-start, gather-plain, gather-loop, called-small, gather-call, gather-end}
 use Rattle.bound_lines.proofs.queue.gather.Statement.{statement}
 use Rattle.bound_lines.proofs.queue.gather.Tie as tie
-use Rattle.bound_lines.proofs.queue.gather.Reads as reads
-use Rattle.bound_lines.proofs.queue.gather.Lts as lts
-use Rattle.bound_lines.proofs.queue.add.Reads as add-reads
-use Rattle.bound_rows.proofs.line_at.Reads as line-at-reads
-use Rattle.tables.proofs.first_row_at.Reads as first-row-at-reads
 
 abbrev Inv-loop : tie.InvT-loop
-Inv-loop work m c k₀ row₀ k row = ?
+Inv-loop work m c k₀ row₀ k row = (T : Tables work) × Gathering work T c m k₀ k row
 
 abbrev μ-loop : tie.MeasureT-loop
-μ-loop work m c k₀ row₀ k row = ?
+μ-loop work m c k₀ row₀ k row = rowCount work - row
 
--- src/queue.rt:37:9
 first-row-at-requires : tie.Need-first-row-at-requires Inv-loop μ-loop
-first-row-at-requires c κs = ?
+first-row-at-requires c κs = (c .before .pre .0 .size, omega (arith, c .before .pre .0 .methods, c .before .pre .1 .1 .1))
 
--- src/queue.rt:38:5
 loop-holds : tie.Need-loop-holds Inv-loop μ-loop
-loop-holds c = ?
+loop-holds c =
+    let start = c .before .before in
+    (start .pre .0, gather-start _ (start .pre .0) _ _ _ (start .pre .1 .0) (start .pre .1 .1 .0) (start .pre .1 .1 .1) _ (c .first-row-at .ensures .0))
 
--- src/queue.rt:39:15
 line-at-requires : tie.Need-line-at-requires Inv-loop μ-loop
-line-at-requires c κs = ?
+line-at-requires c κs = (c .loop .inv .0, c .loop .inv .1 .within)
 
--- src/queue.rt:41:17
 enum-told : tie.Need-enum-told Inv-loop μ-loop
-enum-told c = ?
+enum-told c = search needs
 
--- src/queue.rt:41:17
 add-row : tie.Need-add-row Inv-loop μ-loop
-add-row c = ?
+add-row c = omega (arith, c .before .before .before .loop .inv .1 .within, c .before .before .before .loop .inv .0 .rows)
 
--- src/queue.rt:38:5
 loop-less : tie.Need-loop-less Inv-loop μ-loop
-loop-less c = ?
+loop-less c = omega (arith, c .before .before .before .loop .inv .1 .within)
 
--- src/queue.rt:38:5
 loop-again : tie.Need-loop-again Inv-loop μ-loop
-loop-again c = ?
+loop-again c =
+    let at-loop = c .before .before .before .loop in
+    let at-line-at = c .before .before .line-at in
+    (at-loop .inv .0, gather-plain _ (at-loop .inv .0) _ _ _ _ _ (at-loop .inv .1) _ refl (sym (c .enum-told .given .1) ∙ at-line-at .ensures))
 
--- src/queue.rt:44:17
 enum-told-2 : tie.Need-enum-told-2 Inv-loop μ-loop
-enum-told-2 c = ?
+enum-told-2 c = search needs
 
--- src/queue.rt:44:17
 add-row-2 : tie.Need-add-row-2 Inv-loop μ-loop
-add-row-2 c = ?
+add-row-2 c = omega (arith, c .before .before .before .loop .inv .1 .within, c .before .before .before .loop .inv .0 .rows)
 
--- src/queue.rt:38:5
 loop-less-2 : tie.Need-loop-less-2 Inv-loop μ-loop
-loop-less-2 c = ?
+loop-less-2 c = omega (arith, c .before .before .before .loop .inv .1 .within)
 
--- src/queue.rt:38:5
 loop-again-2 : tie.Need-loop-again-2 Inv-loop μ-loop
-loop-again-2 c = ?
+loop-again-2 c =
+    let at-loop = c .before .before .before .loop in
+    let at-line-at = c .before .before .line-at in
+    (at-loop .inv .0, gather-loop _ (at-loop .inv .0) _ _ _ _ _ (at-loop .inv .1) _ refl (sym (c .enum-told2 .given .1) ∙ at-line-at .ensures))
 
--- src/queue.rt:46:24
 enum-known-d : tie.Need-enum-known-d Inv-loop μ-loop
-enum-known-d c = ?
+enum-known-d c = search needs
 
--- src/queue.rt:47:17
 add-requires : tie.Need-add-requires Inv-loop μ-loop
-add-requires c κs = ?
+add-requires c κs =
+    let at-loop = c .before .before .before .before .loop in
+    let at-line-at = c .before .before .before .line-at in
+    called-small _ (at-loop .inv .0) _ _ _ _ _ (at-loop .inv .1) _ (sym (c .before .d .given .1) ∙ at-line-at .ensures)
 
--- src/queue.rt:48:17
 add-row-3 : tie.Need-add-row-3 Inv-loop μ-loop
-add-row-3 c = ?
+add-row-3 c = omega (arith, c .before .before .before .before .before .loop .inv .1 .within, c .before .before .before .before .before .loop .inv .0 .rows)
 
--- src/queue.rt:38:5
 loop-less-3 : tie.Need-loop-less-3 Inv-loop μ-loop
-loop-less-3 c = ?
+loop-less-3 c = omega (arith, c .before .before .before .before .before .loop .inv .1 .within)
 
--- src/queue.rt:38:5
 loop-again-3 : tie.Need-loop-again-3 Inv-loop μ-loop
-loop-again-3 c = ?
+loop-again-3 c =
+    let at-loop = c .before .before .before .before .before .loop in
+    let at-line-at = c .before .before .before .before .line-at in
+    let at-d = c .before .before .d in
+    (at-loop .inv .0, gather-call _ (at-loop .inv .0) _ _ _ _ _ (at-loop .inv .1) _ refl _ (sym (at-d .given .1) ∙ at-line-at .ensures) _ (c .add .ensures))
 
--- src/queue.rt:51:17
 enum-told-3 : tie.Need-enum-told-3 Inv-loop μ-loop
-enum-told-3 c = ?
+enum-told-3 c = search needs
 
--- src/queue.rt:51:17
 returns : tie.Need-returns Inv-loop μ-loop
-returns c = ?
+returns c =
+    let at-loop = c .before .before .before .loop in
+    let at-line-at = c .before .before .line-at in
+    gather-end _ (at-loop .inv .0) _ _ _ _ _ (at-loop .inv .1) (sym (c .enum-told3 .given .1) ∙ at-line-at .ensures)
 
 pub gather-spec : {M : Type 1} → statement M
 gather-spec =

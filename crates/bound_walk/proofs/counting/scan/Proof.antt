@@ -20,7 +20,9 @@ line-at-requires : tie.Need-line-at-requires Inv-loop μ-loop
 line-at-requires c κs = (c .before .before .pre .0, c .loop .inv .within)
 
 look-requires : tie.Need-look-requires Inv-loop μ-loop
-look-requires c κs = may-look _ (c .before .before .before .pre .0) (c .before .before .before .args .marks) (c .before .before .before .pre .1 .0) (c .before .before .before .args .o) _ _ _ (c .before .loop .inv) _ (c .line-at .ensures)
+look-requires c κs =
+    let start = c .before .before .before in
+    may-look _ (start .pre .0) (start .args .marks) (start .pre .1 .0) (start .args .o) _ _ _ (c .before .loop .inv) _ (c .line-at .ensures)
 
 enum-known-s : tie.Need-enum-known-s Inv-loop μ-loop
 enum-known-s c = search needs
@@ -32,19 +34,34 @@ loop-less : tie.Need-loop-less Inv-loop μ-loop
 loop-less c = omega (arith, c .before .before .before .before .before .loop .inv .within)
 
 loop-again : tie.Need-loop-again Inv-loop μ-loop
-loop-again c = scan-on _ (c .before .before .before .before .before .before .before .pre .0) (c .before .before .before .before .before .before .before .args .marks) (c .before .before .before .before .before .before .before .pre .1 .0) (c .before .before .before .before .before .before .before .args .o) _ _ _ (c .before .before .before .before .before .loop .inv) _ (c .before .before .before .before .line-at .ensures) _ (c .before .before .before .look .ensures) _ _ _ (c .before .s .given .1) refl
+loop-again c =
+    let start = c .before .before .before .before .before .before .before in
+    let at-loop = c .before .before .before .before .before .loop in
+    let at-line-at = c .before .before .before .before .line-at in
+    let at-look = c .before .before .before .look in
+    scan-on _ (start .pre .0) (start .args .marks) (start .pre .1 .0) (start .args .o) _ _ _ (at-loop .inv) _ (at-line-at .ensures) _ (at-look .ensures) _ _ _ (c .before .s .given .1) refl
 
 enum-known-c : tie.Need-enum-known-c Inv-loop μ-loop
 enum-known-c c = search needs
 
 returns : tie.Need-returns Inv-loop μ-loop
-returns c = scan-waits _ (c .before .before .before .before .before .before .before .pre .0) (c .before .before .before .before .before .before .before .args .marks) (c .before .before .before .before .before .before .before .pre .1 .0) (c .before .before .before .before .before .before .before .args .o) _ _ _ (c .before .before .before .before .before .loop .inv) _ (c .before .before .before .before .line-at .ensures) _ (c .before .before .before .look .ensures) _ (c .before .c .given .1)
+returns c =
+    let start = c .before .before .before .before .before .before .before in
+    let at-loop = c .before .before .before .before .before .loop in
+    let at-line-at = c .before .before .before .before .line-at in
+    let at-look = c .before .before .before .look in
+    scan-waits _ (start .pre .0) (start .args .marks) (start .pre .1 .0) (start .args .o) _ _ _ (at-loop .inv) _ (at-line-at .ensures) _ (at-look .ensures) _ (c .before .c .given .1)
 
 enum-told : tie.Need-enum-told Inv-loop μ-loop
 enum-told c = search needs
 
 returns-2 : tie.Need-returns-2 Inv-loop μ-loop
-returns-2 c = scan-loops _ (c .before .before .before .before .before .before .pre .0) (c .before .before .before .before .before .before .args .marks) (c .before .before .before .before .before .before .pre .1 .0) (c .before .before .before .before .before .before .args .o) _ _ _ (c .before .before .before .before .loop .inv) _ (c .before .before .before .line-at .ensures) _ (c .before .before .look .ensures) (c .enum-told .given .1)
+returns-2 c =
+    let start = c .before .before .before .before .before .before in
+    let at-loop = c .before .before .before .before .loop in
+    let at-line-at = c .before .before .before .line-at in
+    let at-look = c .before .before .look in
+    scan-loops _ (start .pre .0) (start .args .marks) (start .pre .1 .0) (start .args .o) _ _ _ (at-loop .inv) _ (at-line-at .ensures) _ (at-look .ensures) (c .enum-told .given .1)
 
 enum-told-2 : tie.Need-enum-told-2 Inv-loop μ-loop
 enum-told-2 c = search needs
@@ -56,7 +73,12 @@ capped-requires : tie.Need-capped-requires Inv-loop μ-loop
 capped-requires c κs = search needs
 
 returns-3 : tie.Need-returns-3 Inv-loop μ-loop
-returns-3 c = scan-ends _ (c .before .before .before .before .before .before .before .pre .0) (c .before .before .before .before .before .before .before .args .marks) (c .before .before .before .before .before .before .before .pre .1 .0) (c .before .before .before .before .before .before .before .args .o) _ _ _ (c .before .before .before .before .before .loop .inv) _ (c .before .before .before .before .line-at .ensures) _ (c .before .before .before .look .ensures) _ (c .before .enum-told2 .given .1) (c .capped .ensures)
+returns-3 c =
+    let start = c .before .before .before .before .before .before .before in
+    let at-loop = c .before .before .before .before .before .loop in
+    let at-line-at = c .before .before .before .before .line-at in
+    let at-look = c .before .before .before .look in
+    scan-ends _ (start .pre .0) (start .args .marks) (start .pre .1 .0) (start .args .o) _ _ _ (at-loop .inv) _ (at-line-at .ensures) _ (at-look .ensures) _ (c .before .enum-told2 .given .1) (c .capped .ensures)
 
 pub scan-spec : {M : Type 1} → statement M
 scan-spec =

@@ -14,13 +14,18 @@ array-copy-out-o : tie.Need-array-copy-out-o
 array-copy-out-o c = search needs
 
 scan-requires : tie.Need-scan-requires
-scan-requires c κs = (c .before .before .before .before .before .pre .0, may-scan _ (c .before .before .before .before .before .pre .0) _ (c .before .before .before .before .before .pre .1 .0) _ (omega (arith, c .before .before .before .before .before .pre .1 .1)))
+scan-requires c κs =
+    let start = c .before .before .before .before .before in
+    (start .pre .0, may-scan _ (start .pre .0) _ (start .pre .1 .0) _ (omega (arith, start .pre .1 .1)))
 
 enum-told : tie.Need-enum-told
 enum-told c = search needs
 
 leave-requires : tie.Need-leave-requires
-leave-requires c κs = may-leave _ (c .before .before .before .before .before .before .before .before .before .pre .0) _ (c .before .before .before .before .before .before .before .before .before .pre .1 .0) (c .before .before .before .before .before .before .before .before .before .pre .1 .1) _ (c .before .before .before .scan .ensures) (c .enum-told .given .1)
+leave-requires c κs =
+    let start = c .before .before .before .before .before .before .before .before .before in
+    let at-scan = c .before .before .before .scan in
+    may-leave _ (start .pre .0) _ (start .pre .1 .0) (start .pre .1 .1) _ (at-scan .ensures) (c .enum-told .given .1)
 
 enum-told-2 : tie.Need-enum-told-2
 enum-told-2 c = search needs
@@ -32,22 +37,42 @@ enum-known-f : tie.Need-enum-known-f
 enum-known-f c = search needs
 
 mul-m : tie.Need-mul-m
-mul-m c = omega (arith, may-wait _ (c .before .before .before .before .before .before .before .before .before .before .pre .0) _ (c .before .before .before .before .before .before .before .before .before .before .pre .1 .0) (c .before .before .before .before .before .before .before .before .before .before .pre .1 .1) _ (c .before .before .before .before .scan .ensures) _ (c .before .f .given .1) .1)
+mul-m c =
+    let start = c .before .before .before .before .before .before .before .before .before .before in
+    let at-scan = c .before .before .before .before .scan in
+    omega (arith, may-wait _ (start .pre .0) _ (start .pre .1 .0) (start .pre .1 .1) _ (at-scan .ensures) _ (c .before .f .given .1) .1)
 
 array-copy-out-m : tie.Need-array-copy-out-m
-array-copy-out-m c = may-wait _ (c .before .before .before .before .before .before .before .before .before .before .pre .0) _ (c .before .before .before .before .before .before .before .before .before .before .pre .1 .0) (c .before .before .before .before .before .before .before .before .before .before .pre .1 .1) _ (c .before .before .before .before .scan .ensures) _ (c .before .f .given .1) .1
+array-copy-out-m c =
+    let start = c .before .before .before .before .before .before .before .before .before .before in
+    let at-scan = c .before .before .before .before .scan in
+    may-wait _ (start .pre .0) _ (start .pre .1 .0) (start .pre .1 .1) _ (at-scan .ensures) _ (c .before .f .given .1) .1
 
 wait-requires : tie.Need-wait-requires
-wait-requires c κs = (c .before .before .before .before .before .before .before .before .before .before .before .pre .0 .size, may-wait _ (c .before .before .before .before .before .before .before .before .before .before .before .pre .0) _ (c .before .before .before .before .before .before .before .before .before .before .before .pre .1 .0) (c .before .before .before .before .before .before .before .before .before .before .before .pre .1 .1) _ (c .before .before .before .before .before .scan .ensures) _ (c .before .before .f .given .1))
+wait-requires c κs =
+    let start = c .before .before .before .before .before .before .before .before .before .before .before in
+    let at-scan = c .before .before .before .before .before .scan in
+    let at-f = c .before .before .f in
+    (start .pre .0 .size, may-wait _ (start .pre .0) _ (start .pre .1 .0) (start .pre .1 .1) _ (at-scan .ensures) _ (at-f .given .1))
 
 returns : tie.Need-returns
-returns c = turn-leaves _ (c .before .before .before .before .before .before .before .before .before .before .pre .0) _ (c .before .before .before .before .before .before .before .before .before .before .pre .1 .0) (c .before .before .before .before .before .before .before .before .before .before .pre .1 .1) _ (c .before .before .before .before .scan .ensures) _ (c .before .enum-told .given .1) (c .leave .ensures)
+returns c =
+    let start = c .before .before .before .before .before .before .before .before .before .before in
+    let at-scan = c .before .before .before .before .scan in
+    turn-leaves _ (start .pre .0) _ (start .pre .1 .0) (start .pre .1 .1) _ (at-scan .ensures) _ (c .before .enum-told .given .1) (c .leave .ensures)
 
 returns-2 : tie.Need-returns-2
-returns-2 c = turn-stops _ (c .before .before .before .before .before .before .before .before .before .before .pre .0) _ (c .before .before .before .before .before .before .before .before .before .before .pre .1 .0) (c .before .before .before .before .before .before .before .before .before .before .pre .1 .1) _ (c .before .before .before .before .scan .ensures) _ (c .before .enum-told2 .given .1) (c .stop .ensures)
+returns-2 c =
+    let start = c .before .before .before .before .before .before .before .before .before .before in
+    let at-scan = c .before .before .before .before .scan in
+    turn-stops _ (start .pre .0) _ (start .pre .1 .0) (start .pre .1 .1) _ (at-scan .ensures) _ (c .before .enum-told2 .given .1) (c .stop .ensures)
 
 returns-3 : tie.Need-returns-3
-returns-3 c = turn-waits _ (c .before .before .before .before .before .before .before .before .before .before .before .before .pre .0) _ (c .before .before .before .before .before .before .before .before .before .before .before .before .pre .1 .0) (c .before .before .before .before .before .before .before .before .before .before .before .before .pre .1 .1) _ (c .before .before .before .before .before .before .scan .ensures) _ _ (c .before .before .before .f .given .1) (c .wait .ensures)
+returns-3 c =
+    let start = c .before .before .before .before .before .before .before .before .before .before .before .before in
+    let at-scan = c .before .before .before .before .before .before .scan in
+    let at-f = c .before .before .before .f in
+    turn-waits _ (start .pre .0) _ (start .pre .1 .0) (start .pre .1 .1) _ (at-scan .ensures) _ _ (at-f .given .1) (c .wait .ensures)
 
 pub turn-spec : {M : Type 1} → statement M
 turn-spec =
