@@ -152,7 +152,8 @@ pub fn show_atom<'a>(
     }
 }
 
-fn add_relation(
+// `eq`, or where `apart` `ne`, with both sides resolved.
+pub fn add_relation(
     key: &mut [u64; State::SLOTS],
     b: &mut [u8; State::BYTES],
     apart: bool,

@@ -13,10 +13,10 @@ use denote.Enum.Declared.{tagOf}
 use Rattle.rules.specs.Base.{Try, ok, no, _>>=_, _>>_, check, orElse}
 use Rattle.rules.specs.Limits.{most-permissions}
 use Rattle.rules.specs.Answers.{Refusal, unresolved, noPermission, notShown}
-use Rattle.rules.specs.Syntax.{Formula, Atom, Rel, same, eq, ne, num, null, var, path, acc, cmp}
+use Rattle.rules.specs.Syntax.{Formula, Atom, same, eq, ne, num, null, var, path, acc, cmp}
 use Rattle.rules.specs.State as Rules
 use Rattle.rules.specs.State.{Permission, equalIn, names, split, pathOf, holdsIn}
-use Rattle.rules.specs.Rules.{End, actual, substTerm, substAtom, addEqual, setRule, assignRule, addFields, initial, addInitial, newRule, callRule, opposite, ifRule, returnRule, showEnd, joinRule}
+use Rattle.rules.specs.Rules.{End, actual, substTerm, substAtom, addEqual, setRule, assignRule, addFields, initial, addInitial, newRule, callRule, returnRule, showEnd, joinRule}
 use Rattle.tables.specs.Decode.{run, atomsFrom, fieldsFrom, classAt, fieldCountAt, fieldNameAt, byteAt, classPlace, methodAt, requiresAt, ensuresAt, methodPlace, halfAt}
 use Rattle.tables.specs.Decode as Decode
 use Rattle.check_equality.specs.Keys.{termOf}
@@ -35,7 +35,7 @@ use Rattle.check_forgetting.proofs.Keeping.{kept-all}
 use Rattle.check_entailment.proofs.Splits.{split-none, split-first}
 use Rattle.check_formulas.specs.Formulas.{formula, Shows}
 use Rattle.check_formulas.proofs.Atoms.{not-done, is-done}
-use Rattle.check_statements.specs.Statements.{Parts, assignTerm, callShown, partRule, initialOf, Says, Asserts, endOf, releaseRule}
+use Rattle.check_statements.specs.Statements.{assignTerm, callShown, initialOf, Says, Asserts, endOf, releaseRule}
 
 abbrev pub Refused : Answer → Type 0
 Refused k = OneOf (1 ∷ 2 ∷ 3 ∷ 4 ∷ 5 ∷ []) (tagOf the-type k)
@@ -192,7 +192,7 @@ pub plain-term : (t : Rules.Term) → substTerm (actual 0 1 14) t ≡ t
 plain-term t = itself-term t
 
 -- ASSERT, RELEASE
-bind-answered : {A B : Type 0} (k : Answer) (a : A) (f : A → Try Refusal B) (b : B) → f a ≡ ok b → (answered k a >>= f) ≡ answered k b
+pub bind-answered : {A B : Type 0} (k : Answer) (a : A) (f : A → Try Refusal B) (b : B) → f a ≡ ok b → (answered k a >>= f) ≡ answered k b
 unfolding answered _>>=_
 bind-answered Answer.Done a f b e = e
 bind-answered Answer.Unresolved a f b e = refl
@@ -249,46 +249,6 @@ pub call-object :
     callShown x y (methodAt w m) z s ≡ callRule x y (methodAt w m) z s
 unfolding callRule callShown check _>>_ relOf
 call-object w x y m z v s d e = let h : holdsIn (equalIn s) s ne (var y) null ≡ true = rw (← d, ← of-null) (sym e) in rw h
-
--- IF
-pub part-refused :
-    (n : Rel) (t u : Rules.Term) (s : Rules.State) (k : Answer) (key b key2 b2 : List ℕ) → Adds (Rules.addFact n t u s) k key b → Wf key2 b2 → Refused k →
-    Parts (partRule n t u s) k key b key2 b2
-unfolding partRule
-part-refused n t u s k key b key2 b2 A w o =
-    record { first = A .wf; second = w; same = sym (after-refused _ k (stateOf key b) (A .same) _ o (stateOf key b, stateOf key2 b2)) }
-
-other : (b : Bool) → opposite (relOf b) ≡ relOf (not b)
-unfolding opposite relOf
-other true = refl
-other false = refl
-
-pub part-done :
-    (c : Bool) (t u : Rules.Term) (s : Rules.State) (k : Answer) (key b : List ℕ) → Adds (Rules.addFact (relOf c) t u s) k key b → k ≡ Answer.Done →
-    (s₂ : Rules.State) → s₂ ≡ s → (k2 : Answer) (key2 b2 : List ℕ) → Adds (Rules.addFact (relOf (not c)) t u s₂) k2 key2 b2 → Parts (partRule (relOf c) t u s) k2 key b key2 b2
-unfolding partRule
-part-done c t u s k key b A e s₂ d k2 key2 b2 C =
-    record {
-      first = A .wf;
-      second = C .wf;
-      same = sym (after-done _ k (stateOf key b) (A .same) _ e ∙ ap (λ (n : Rel). Rules.addFact n t u s >>= λ q. ok (stateOf key b, q)) (other c) ∙ ap (λ (q : Try Refusal Rules.State). q >>= λ q. ok (stateOf key b, q)) (ap (Rules.addFact (relOf (not c)) t u) (sym d) ∙ sym (C .same)) ∙ bind-answered k2 _ (λ q. ok (stateOf key b, q)) _ refl);
-    }
-
-module _ (key b : List ℕ) (w : Wf key b) (n : Rel) (a c : Rules.Term) (key2 b2 : List ℕ) (w2 : Wf key2 b2) where
-  pub if-left : Rules.resolve (equalIn (stateOf key b)) (permissionsOf b) a ≡ no unresolved → Parts (ifRule n a c (stateOf key b)) Answer.Unresolved key b key2 b2
-  unfolding ifRule _>>=_ answered
-  if-left e = record { first = w; second = w2; same = rw e }
-
-  module _ (t : Rules.Term) (et : Rules.resolve (equalIn (stateOf key b)) (permissionsOf b) a ≡ ok t) where
-    pub if-right : Rules.resolve (equalIn (stateOf key b)) (permissionsOf b) c ≡ no unresolved → Parts (ifRule n a c (stateOf key b)) Answer.Unresolved key b key2 b2
-    unfolding ifRule _>>=_ answered
-    if-right e = record { first = w; second = w2; same = rw (et, e) }
-
-    pub if-both :
-        (u : Rules.Term) → Rules.resolve (equalIn (stateOf key b)) (permissionsOf b) c ≡ ok u → (k : Answer) (key₁ b₁ key₂ b₂ : List ℕ) →
-        Parts (partRule n t u (stateOf key b)) k key₁ b₁ key₂ b₂ → Parts (ifRule n a c (stateOf key b)) k key₁ b₁ key₂ b₂
-    unfolding ifRule partRule _>>=_
-    if-both u eu k key₁ b₁ key₂ b₂ P = record { first = P .first; second = P .second; same = P .same ∙ rw (et, eu) }
 
 pub new-law :
     (w : List ℕ) (x c n : ℕ) (s t : Rules.State) → n ≡ fieldCountAt w c → t ≡ Rules.remove x s →

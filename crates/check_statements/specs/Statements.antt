@@ -2,14 +2,15 @@
 use mathlib.Core.Path.{_≡_}
 use mathlib.Core.Bool.{Bool, cond, not}
 use mathlib.Core.Option.{Option, none, some}
-use mathlib.Core.List.{List, map}
-use Prim.Native.Nat.{ℕ}
+use mathlib.Core.List.{List, [], _∷_, map}
+use Prim.Native.Nat.{ℕ, _-_}
 use lib.Dec.{eqb}
 use Rattle.rules.specs.Base.{Try, ok, _>>=_}
 use Rattle.rules.specs.Answers.{Refusal}
-use Rattle.rules.specs.Syntax.{Formula, Rel, Method, same, num, null, var}
-use Rattle.rules.specs.Rules.{End, addEqual, actual, substAtom, opposite, showEnd, joinRule}
+use Rattle.rules.specs.Syntax.{Formula, Rel, Method, same, num, null, var, cmp}
+use Rattle.rules.specs.Rules.{End, addEqual, actual, substAtom, showEnd, joinRule}
 use Rattle.rules.specs.State as Rules
+use Rattle.tables.specs.Decode.{leftAt, rightAt, atomsFrom}
 use Rattle.check_entailment.specs.declared.Answer.{Answer}
 use Rattle.check_state.specs.States.{Wf, stateOf}
 use Rattle.check_entailment.specs.Answers.{answered, Adds}
@@ -37,6 +38,14 @@ abbrev pub JoinGives : Formula ℕ → Bool → List ℕ → List ℕ → Bool �
 JoinGives φ returned key b returned2 key2 b2 answer key′ b′ =
     Adds (joinRule φ (endOf returned (stateOf key b)) (endOf returned2 (stateOf key2 b2))) answer key′ b′
 
+-- e shows the formula, and then that and a relation is all that is known: what the state is after a `loop` and after its `again`
+unfoldable pub onlyKnown : Rel → Rules.Term → Rules.Term → Formula ℕ → End → Try Refusal Rules.State
+onlyKnown n a b φ e = showEnd φ e >>= λ u. Rules.add φ Rules.empty >>= λ s. Rules.add (cmp n a b ∷ []) s
+
+-- of a loop whose invariant is n atoms from the atom a on, and whose condition is the atom before: the condition's sides and the invariant
+abbrev pub loopKnown : List ℕ → ℕ → ℕ → Rel → End → Try Refusal Rules.State
+loopKnown w a n m e = onlyKnown m (leftAt w (a - 1)) (rightAt w (a - 1)) (atomsFrom w a n) e
+
 -- `let x e`, where e resolves to r
 unfoldable pub assignTerm : ℕ → Rules.Term → Rules.State → Try Refusal Rules.State
 assignTerm x r s =
@@ -48,13 +57,6 @@ unfoldable pub callShown : ℕ → ℕ → Method → ℕ → Rules.State → Tr
 callShown x y M z s = do
   r ← Rules.show s (map (substAtom (actual y z x)) (M .requires))
   Rules.add (map (substAtom (actual y z x)) (M .ensures)) (Rules.remove x (Rules.remainder s r))
-
--- `if`, where both sides resolve
-unfoldable pub partRule : Rel → Rules.Term → Rules.Term → Rules.State → Try Refusal (Rules.State × Rules.State)
-partRule n t u s = do
-  s₁ ← Rules.addFact n t u s
-  s₂ ← Rules.addFact (opposite n) t u s
-  ok (s₁, s₂)
 
 -- a field's first value, by its kind
 unfoldable pub initialOf : ℕ → Rules.Term

@@ -1,23 +1,29 @@
 // The rule of each statement.
+mod branches;
+mod objects;
+
+pub use branches::if_rule;
+pub use branches::join_rule;
+pub use branches::loop_rule;
 use check_entailment::Answer;
 use check_equality::State;
 use check_equality::Term;
 use check_state::Resolved;
+pub use objects::new_rule;
 use rules::Machine;
 ghost use mathlib.Core.Path.{_≡_};
 ghost use Prim.Native.Nat.{_+_, _≤_, _<_};
 ghost use lib.ListN.{length};
-ghost use Rattle.rules.specs.Limits.{work-bytes, most-classes, most-fields};
-ghost use Rattle.rules.specs.Rules.{setRule, addEqual, assignRule, newRule, addFields, addInitial, callRule, ifRule, returnRule, showEnd};
+ghost use Rattle.rules.specs.Limits.{work-bytes};
+ghost use Rattle.rules.specs.Rules.{setRule, addEqual, assignRule, callRule, returnRule, showEnd};
 ghost use Rattle.tables.specs.Layout.{most-atom-rows};
-ghost use Rattle.tables.specs.Decode.{fieldCountAt, fieldsFrom, classAt, methodAt, methodCount, atomsFrom};
+ghost use Rattle.tables.specs.Decode.{methodAt, methodCount, atomsFrom};
 ghost use Rattle.tables.specs.Tables.{Tables};
 ghost use Rattle.check_equality.specs.Keys.{termOf, meaning};
-ghost use Rattle.check_equality.specs.Links.{relOf};
 ghost use Rattle.check_state.specs.States.{Wf, stateOf};
 ghost use Rattle.check_successors.specs.Successors.{termOr};
 ghost use Rattle.check_entailment.specs.Answers.{Adds};
-ghost use Rattle.check_statements.specs.Statements.{Parts, assignTerm, callShown, partRule, initialOf, Says, Asserts, endOf, releaseRule, JoinGives};
+ghost use Rattle.check_statements.specs.Statements.{assignTerm, callShown, Says, Asserts, endOf, releaseRule};
 
 // `set x f y`: the old value of the path that shows `acc x f` is dropped, and the path is y.
 pub fn set_rule(
@@ -84,100 +90,6 @@ pub fn assign_rule(
         return Answer::Unresolved;
     };
     assign_key(key, b, x, k)
-}
-
-// The permissions of a new x of the class c.
-fn add_fields(
-    w: &[u8],
-    key: &mut [u64; State::SLOTS],
-    b: &mut [u8; State::BYTES],
-    x: u8,
-    c: usize,
-    n: usize,
-) -> Answer
-    requires { ⌜ (length (now w) ≡ work-bytes) × (c < most-classes) × (n ≤ most-fields) × Wf (now key) (now b) ⌝ }
-    ensures { λ r. ⌜ Adds (addFields x (fieldsFrom (now (w .entry)) c 0 n) (stateOf (now (key .entry)) (now (b .entry)))) r (now (key .exit)) (now (b .exit)) ⌝ }
-{
-    let mut j = 0;
-    while j < n {
-        let k = check_entailment::add_permission(b, x, tables::field_name_at(w, c, j) as u8);
-        let Answer::Done = k else {
-            return k;
-        };
-        j += 1;
-    }
-    Answer::Done
-}
-
-// The key of a new field's value: 0 for an int, or else null.
-fn initial(kind: usize) -> u64
-    ensures { λ r. ⌜ termOf r ≡ initialOf kind ⌝ }
-{
-    if kind == 0 {
-        State::NULL_KEY
-    } else {
-        State::FIRST_NUMBER
-    }
-}
-
-// What the fields of a new x are.
-fn add_initial(
-    w: &[u8],
-    key: &mut [u64; State::SLOTS],
-    b: &mut [u8; State::BYTES],
-    x: u8,
-    c: usize,
-    n: usize,
-) -> Answer
-    requires { ⌜ (length (now w) ≡ work-bytes) × (c < most-classes) × (n ≤ most-fields) × Wf (now key) (now b) ⌝ }
-    ensures { λ r. ⌜ Adds (addInitial x (fieldsFrom (now (w .entry)) c 0 n) (stateOf (now (key .entry)) (now (b .entry)))) r (now (key .exit)) (now (b .exit)) ⌝ }
-{
-    let mut j = 0;
-    while j < n {
-        let path = check_equality::path_key(x, tables::field_name_at(w, c, j) as u8);
-        let k = check_entailment::add_fact(
-            key,
-            b,
-            false,
-            path,
-            initial(tables::field_kind_at(w, c, j)),
-        );
-        let Answer::Done = k else {
-            return k;
-        };
-        j += 1;
-    }
-    Answer::Done
-}
-
-// `new x C`
-pub fn new_rule(
-    w: &[u8],
-    key: &mut [u64; State::SLOTS],
-    b: &mut [u8; State::BYTES],
-    x: u8,
-    c: usize,
-) -> Answer
-    requires { ⌜ (length (now w) ≡ work-bytes) × (c < most-classes) × (fieldCountAt (now w) c ≤ most-fields) × Wf (now key) (now b) ⌝ }
-    ensures { λ r. ⌜ Adds (newRule x (classAt (now (w .entry)) c) (stateOf (now (key .entry)) (now (b .entry)))) r (now (key .exit)) (now (b .exit)) ⌝ }
-{
-    let n = tables::field_count_at(w, c);
-    check_forgetting::remove(key, b, x);
-    let k = add_fields(w, key, b, x, c, n);
-    let Answer::Done = k else {
-        return k;
-    };
-    let l = check_entailment::add_fact(
-        key,
-        b,
-        true,
-        check_equality::variable_key(x),
-        State::NULL_KEY,
-    );
-    let Answer::Done = l else {
-        return l;
-    };
-    add_initial(w, key, b, x, c, n)
 }
 
 // `assert`: the formula is shown, and the state stays.
@@ -302,73 +214,4 @@ pub fn call_rule(
         return call_shown(w, key, b, x, y, m, z);
     }
     Answer::NotShown
-}
-
-// The condition, or where `apart` its opposite, in the first state, and the other in the second, which is a copy of the first.
-fn part(
-    key: &mut [u64; State::SLOTS],
-    b: &mut [u8; State::BYTES],
-    key2: &mut [u64; State::SLOTS],
-    b2: &mut [u8; State::BYTES],
-    apart: bool,
-    t: u64,
-    u: u64,
-) -> Answer
-    requires { ⌜ Wf (now key) (now b) × (now key2 ≡ now key) × (now b2 ≡ now b) ⌝ }
-    ensures { λ r. ⌜ Parts (partRule (relOf apart) (termOf t) (termOf u) (stateOf (now (key .entry)) (now (b .entry)))) r (now (key .exit)) (now (b .exit)) (now (key2 .exit)) (now (b2 .exit)) ⌝ }
-{
-    let k = check_entailment::add_fact(key, b, apart, t, u);
-    let Answer::Done = k else {
-        return k;
-    };
-    check_entailment::add_fact(key2, b2, !apart, t, u)
-}
-
-// `if eq l r`, or where `apart` `if ne l r`
-pub fn if_rule(
-    key: &mut [u64; State::SLOTS],
-    b: &mut [u8; State::BYTES],
-    key2: &mut [u64; State::SLOTS],
-    b2: &mut [u8; State::BYTES],
-    apart: bool,
-    l: Term,
-    r: Term,
-) -> Answer
-    requires { ⌜ Wf (now key) (now b) × (now key2 ≡ now key) × (now b2 ≡ now b) ⌝ }
-    ensures { λ a. ⌜ Parts (ifRule (relOf apart) (meaning l) (meaning r) (stateOf (now (key .entry)) (now (b .entry)))) a (now (key .exit)) (now (b .exit)) (now (key2 .exit)) (now (b2 .exit)) ⌝ }
-{
-    let Resolved::Key(t) = check_state::resolve(key, b, l) else {
-        return Answer::Unresolved;
-    };
-    let Resolved::Key(u) = check_state::resolve(key, b, r) else {
-        return Answer::Unresolved;
-    };
-    part(key, b, key2, b2, apart, t, u)
-}
-
-// `join`: the first end, then the second, shows the formula, which is all that is known then.
-pub fn join_rule<'a>(
-    w: &'a [u8],
-    a: usize,
-    n: usize,
-    returned: bool,
-    key: &mut [u64; State::SLOTS],
-    b: &mut [u8; State::BYTES],
-    returned2: bool,
-    key2: &'a [u64; State::SLOTS],
-    b2: &'a [u8; State::BYTES],
-) -> Answer
-    requires { ⌜ (length (now w) ≡ work-bytes) × (a + n ≤ most-atom-rows) × Wf (now key) (now b) × Wf (now key2) (now b2) ⌝ }
-    ensures { λ r. ⌜ JoinGives (atomsFrom (now (w .entry)) a n) returned (now (key .entry)) (now (b .entry)) returned2 (now (key2 .entry)) (now (b2 .entry)) r (now (key .exit)) (now (b .exit)) ⌝ }
-{
-    let k = show_end(w, a, n, returned, key, b);
-    let Answer::Done = k else {
-        return k;
-    };
-    let l = show_end(w, a, n, returned2, key2, b2);
-    let Answer::Done = l else {
-        return l;
-    };
-    check_forgetting::clear(b);
-    check_formulas::add(w, a, n, State::THIS, State::PARAM, State::RESULT, key, b)
 }

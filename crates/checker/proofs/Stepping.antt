@@ -1,27 +1,28 @@
 -- One row at a time.
 use mathlib.Core.Path.{_≡_, refl, sym, ap, ap₂, _∙_, subst}
-use mathlib.Core.Bool.{Bool, true, false, cond, not, _||_}
+use mathlib.Core.Bool.{Bool, true, false, cond, not, _&&_, _||_}
 use mathlib.Core.List.{List, [], _∷_}
-use mathlib.Core.Logic.{⊎-elim}
+use mathlib.Core.Logic.{_⊎_, inl, inr, ⊎-elim}
 use mathlib.Core.Option.{none, some}
 use Prim.Native.Nat.{ℕ, suc, _+_, _≤_, _<_}
 use native.Mathlib.Omega.{arith}
 use lib.Dec.{T, eqb, leb, leb→le}
 use lib.ListN.{drop}
 use borrow.Author.Tests.{eqb-false}
-use Rattle.rules.specs.Base.{Try}
+use Rattle.rules.specs.Base.{Try, ok, no, _>>=_}
 use Rattle.rules.specs.Grammar.{IsStatementNumber, statementNumber, isClosingNumber, isComputing, GoesOn}
 use Rattle.rules.specs.Answers as Answers
 use Rattle.rules.specs.Answers.{Refusal, accepted, refused, atLine, malformed}
-use Rattle.rules.specs.Syntax.{Formula, Rel, Stmt, Row, simple, return, if, else, join, end, eq, ne}
+use Rattle.rules.specs.Syntax.{Formula, Rel, Stmt, Row, simple, return, if, else, join, loop, again, end, eq, ne}
 use Rattle.rules.specs.Syntax as Syntax
 use Rattle.rules.specs.State as Rules
-use Rattle.rules.specs.Rules.{End, Following, Open, inFirst, inSecond, rule, newRule, callRule, ifRule, returnRule, showEnd, joinRule, reached, elseRow, joinRow, endRow, checkRow, checkRows}
+use Rattle.rules.specs.Rules.{End, Following, Open, inFirst, inSecond, inLoop, rule, newRule, callRule, opposite, ifRule, returnRule, showEnd, joinRule, loopRule, reached, elseRow, joinRow, againRow, endRow, checkRow, checkRows}
 use Rattle.rules.proofs.Lists.{and-both, decide-eq}
-use Rattle.tables.specs.Decode.{operandsAt, kindAt, lineAt, stmtAt, rowAt, relOf, rowCount, classCount, methodCount, classAt, methodAt, allRows, programIn}
-use Rattle.tables.specs.Tables.{nested, nestedRow}
+use Rattle.tables.specs.Decode.{operandsAt, kindAt, firstAtomAt, atomCountAt, lineAt, stmtAt, rowAt, relOf, rowCount, classCount, methodCount, classAt, methodAt, allRows, programIn}
+use Rattle.tables.specs.Layout.{most-atom-rows}
+use Rattle.tables.specs.Tables.{nested, nestedRow, Tables}
 use Rattle.tables.proofs.Rows.{row-cons, class-get, method-get}
-use Rattle.tables.proofs.Statements.{if-means, no-branch, not-end}
+use Rattle.tables.proofs.Statements.{if-means, loop-means, no-branch, not-end}
 use Rattle.check_equality.specs.Links as Links
 use Rattle.check_entailment.specs.declared.Answer.{Answer}
 use Rattle.check_state.specs.States.{stateOf}
@@ -37,6 +38,22 @@ relation k = go (eqb k 1)
     go : (c : Bool) → cond (not c) ne eq ≡ cond c eq ne
     go true = refl
     go false = refl
+
+pub opposite-relation : (k : ℕ) → Links.relOf (eqb k 1) ≡ opposite (relOf k)
+unfolding Links.relOf relOf opposite
+opposite-relation k = go (eqb k 1)
+  where
+    go : (c : Bool) → cond c ne eq ≡ opposite (cond c eq ne)
+    go true = refl
+    go false = refl
+
+-- the atoms of a loop: its condition and its invariant
+pub loop-atoms :
+    (w : List ℕ) → Tables w → (i : ℕ) → i < rowCount w → kindAt w i ≡ 21 →
+    (1 ≤ firstAtomAt w i) × (firstAtomAt w i + atomCountAt w i ≤ most-atom-rows)
+loop-atoms w T i h k =
+    let F = T .row-fits i h .operands in
+    (F .condition k, omega (arith, F .atoms .1, T .atoms))
 
 -- A VERDICT AT A LINE
 line-answered :
@@ -55,6 +72,13 @@ pub at-line :
 at-line {A} l t a x e k = ap (λ (u : Try Refusal A). atLine l u k) (sym e) ∙ line-answered l a x k
 
 -- THE ROW AT i
+
+-- the kind of the row that closes what is open, or turns to its second part
+unfoldable pub closer : Open → ℕ
+closer (inFirst s) = 16
+closer (inSecond e) = 17
+closer (inLoop φ s) = 22
+
 module _ (w : List ℕ) (i : ℕ) (h : i < rowCount w) where
   pub row-verdict :
       (q : Stmt) → stmtAt w i ≡ q → (u : End) (φ : Formula ℕ) (os : List Open) →
@@ -101,14 +125,17 @@ module _ (w : List ℕ) (i : ℕ) (h : i < rowCount w) where
 
   -- a row that closes nothing is out of place after it
   pub after-return :
-      IsStatementNumber (kindAt w i) → (kindAt w i ≡ 16 → ⊥) → (kindAt w i ≡ 17 → ⊥) → (kindAt w i ≡ 18 → ⊥) →
+      IsStatementNumber (kindAt w i) → (kindAt w i ≡ 16 → ⊥) → (kindAt w i ≡ 17 → ⊥) → (kindAt w i ≡ 18 → ⊥) → (kindAt w i ≡ 22 → ⊥) →
       (φ : Formula ℕ) (os : List Open) → verdictFrom w i none φ os ≡ refused malformed (lineAt w i)
   unfolding checkRow reached
-  after-return g a b c φ os =
+  after-return g a b c d φ os =
       row-verdict w i h (stmtAt w i) refl none φ os
       ∙ ⊎-elim
       (λ e. ap (λ q. checkRow (programIn w) q (lineAt w i) φ following none os) (if-means w (operandsAt w i) e))
-      (λ n. no-branch w (operandsAt w i) Refuses (λ p d. refl) (λ x d. refl) (λ d. absurd (d refl)) n a b (not-end w (operandsAt w i) g c))
+      (λ n. ⊎-elim
+      (λ e. ap (λ q. checkRow (programIn w) q (lineAt w i) φ following none os) (loop-means w (operandsAt w i) e))
+      (λ m. no-branch w (operandsAt w i) Refuses (λ p d. refl) (λ x d. refl) (λ d. absurd (d refl)) n a b m d (not-end w (operandsAt w i) g c))
+      (decide-eq (kindAt w i) 21))
       (decide-eq (kindAt w i) 15)
     where
       following : Following
@@ -116,6 +143,9 @@ module _ (w : List ℕ) (i : ℕ) (h : i < rowCount w) where
 
       Refuses : Stmt → Type 0
       Refuses q = (q ≡ end → ⊥) → checkRow (programIn w) q (lineAt w i) φ following none os ≡ refused malformed (lineAt w i)
+
+  opened : (d : ℕ) → T (leb (suc d) 4 && nested (drop (i + 1) (allRows w)) (suc d)) → (suc d ≤ 4) × Nests w (i + 1) (suc d)
+  opened d t = let p = and-both (leb (suc d) 4) (nested (drop (i + 1) (allRows w)) (suc d)) t in (leb→le (suc d) 4 (p .0), p .1)
 
   -- a branch
   module _ (n : Rel) (a b : Rules.Term) (e : stmtAt w i ≡ if n a b) where
@@ -130,9 +160,7 @@ module _ (w : List ℕ) (i : ℕ) (h : i < rowCount w) where
 
     pub if-nests : (d : ℕ) → Nests w i d → (suc d ≤ 4) × Nests w (i + 1) (suc d)
     unfolding nestedRow
-    if-nests d t =
-        let p = and-both (leb (suc d) 4) (nested (drop (i + 1) (allRows w)) (suc d)) (subst T (row-nested w i h (if n a b) e d) t) in
-        (leb→le (suc d) 4 (p .0), p .1)
+    if-nests d t = opened d (subst T (row-nested w i h (if n a b) e d) t)
 
   -- its second part
   module _ (e : stmtAt w i ≡ else) where
@@ -142,9 +170,11 @@ module _ (w : List ℕ) (i : ℕ) (h : i < rowCount w) where
     unfolding checkRow elseRow
     else-verdict u s₂ φ os = row-verdict w i h else e u φ (inFirst s₂ ∷ os)
 
-    pub else-twice : (u u₁ : End) (φ : Formula ℕ) (os : List Open) → verdictFrom w i u φ (inSecond u₁ ∷ os) ≡ refused malformed (lineAt w i)
-    unfolding checkRow elseRow
-    else-twice u u₁ φ os = row-verdict w i h else e u φ (inSecond u₁ ∷ os)
+    pub else-out : (u : End) (o : Open) → (16 ≡ closer o → ⊥) → (φ : Formula ℕ) (os : List Open) → verdictFrom w i u φ (o ∷ os) ≡ refused malformed (lineAt w i)
+    unfolding checkRow elseRow closer
+    else-out u (inFirst s) q φ os = absurd (q refl)
+    else-out u (inSecond v) q φ os = row-verdict w i h else e u φ (inSecond v ∷ os)
+    else-out u (inLoop ψ s) q φ os = row-verdict w i h else e u φ (inLoop ψ s ∷ os)
 
     pub else-nests : (d : ℕ) → Nests w i d → Nests w (i + 1) d
     unfolding nestedRow
@@ -160,9 +190,11 @@ module _ (w : List ℕ) (i : ℕ) (h : i < rowCount w) where
         row-verdict w i h (join ψ) e u φ (inSecond u₁ ∷ os)
         ∙ at-line (lineAt w i) _ k (stateOf key b) (A .same) (λ s′. verdictFrom w (i + 1) (some s′) φ os)
 
-    pub join-early : (u : End) (s₂ : Rules.State) (φ : Formula ℕ) (os : List Open) → verdictFrom w i u φ (inFirst s₂ ∷ os) ≡ refused malformed (lineAt w i)
-    unfolding checkRow joinRow
-    join-early u s₂ φ os = row-verdict w i h (join ψ) e u φ (inFirst s₂ ∷ os)
+    pub join-out : (u : End) (o : Open) → (17 ≡ closer o → ⊥) → (φ : Formula ℕ) (os : List Open) → verdictFrom w i u φ (o ∷ os) ≡ refused malformed (lineAt w i)
+    unfolding checkRow joinRow closer
+    join-out u (inFirst s) q φ os = row-verdict w i h (join ψ) e u φ (inFirst s ∷ os)
+    join-out u (inSecond v) q φ os = absurd (q refl)
+    join-out u (inLoop χ s) q φ os = row-verdict w i h (join ψ) e u φ (inLoop χ s ∷ os)
 
     pub join-alone : (u : End) (φ : Formula ℕ) → verdictFrom w i u φ [] ≡ refused malformed (lineAt w i)
     unfolding checkRow joinRow
@@ -171,6 +203,52 @@ module _ (w : List ℕ) (i : ℕ) (h : i < rowCount w) where
     pub join-nests : (d : ℕ) → Nests w i (suc d) → Nests w (i + 1) d
     unfolding nestedRow
     join-nests d t = subst T (row-nested w i h (join ψ) e (suc d)) t
+
+  -- a loop
+  module _ (n : Rel) (a b : Rules.Term) (ψ : Formula ℕ) (e : stmtAt w i ≡ loop n a b ψ) where
+    pub loop-verdict :
+        (s t after : Rules.State) (k : Answer) → answered k (t, after) ≡ loopRule n a b ψ s → (φ : Formula ℕ) (os : List Open) →
+        verdictFrom w i (some s) φ os ≡ outcome k (lineAt w i) (verdictFrom w (i + 1) (some t) φ (inLoop ψ after ∷ os))
+    unfolding checkRow reached
+    loop-verdict s t after k S φ os =
+        row-verdict w i h (loop n a b ψ) e (some s) φ os
+        ∙ at-line (lineAt w i) _ k (t, after) S (λ c. verdictFrom w (i + 1) (some (c .0)) φ (inLoop ψ (c .1) ∷ os))
+
+    pub loop-nests : (d : ℕ) → Nests w i d → (suc d ≤ 4) × Nests w (i + 1) (suc d)
+    unfolding nestedRow
+    loop-nests d t = opened d (subst T (row-nested w i h (loop n a b ψ) e d) t)
+
+  -- its end
+  module _ (e : stmtAt w i ≡ again) where
+    pub again-verdict :
+        (u : End) (ψ : Formula ℕ) (after : Rules.State) (k : Answer) (key b : List ℕ) → Adds (showEnd ψ u >>= λ v. ok after) k key b →
+        (φ : Formula ℕ) (os : List Open) →
+        verdictFrom w i u φ (inLoop ψ after ∷ os) ≡ outcome k (lineAt w i) (verdictFrom w (i + 1) (some (stateOf key b)) φ os)
+    unfolding checkRow againRow atLine _>>=_
+    again-verdict u ψ after k key b A φ os =
+        row-verdict w i h again e u φ (inLoop ψ after ∷ os) ∙ go (showEnd ψ u)
+        ∙ at-line (lineAt w i) _ k (stateOf key b) (A .same) (λ s′. verdictFrom w (i + 1) (some s′) φ os)
+      where
+        go :
+            (t : Try Refusal (Unit {0})) →
+            atLine (lineAt w i) t (λ v. verdictFrom w (i + 1) (some after) φ os)
+            ≡ atLine (lineAt w i) (t >>= λ v. ok after) (λ s′. verdictFrom w (i + 1) (some s′) φ os)
+        go (ok v) = refl
+        go (no r) = refl
+
+    pub again-out : (u : End) (o : Open) → (22 ≡ closer o → ⊥) → (φ : Formula ℕ) (os : List Open) → verdictFrom w i u φ (o ∷ os) ≡ refused malformed (lineAt w i)
+    unfolding checkRow againRow closer
+    again-out u (inFirst s) q φ os = row-verdict w i h again e u φ (inFirst s ∷ os)
+    again-out u (inSecond v) q φ os = row-verdict w i h again e u φ (inSecond v ∷ os)
+    again-out u (inLoop ψ s) q φ os = absurd (q refl)
+
+    pub again-alone : (u : End) (φ : Formula ℕ) → verdictFrom w i u φ [] ≡ refused malformed (lineAt w i)
+    unfolding checkRow againRow
+    again-alone u φ = row-verdict w i h again e u φ []
+
+    pub again-nests : (d : ℕ) → Nests w i (suc d) → Nests w (i + 1) d
+    unfolding nestedRow
+    again-nests d t = subst T (row-nested w i h again e (suc d)) t
 
   -- the block's end
   module _ (e : stmtAt w i ≡ end) where
@@ -215,13 +293,15 @@ neither true b e = absurd (let z : _≡_ {A = ℕ} 0 1 = cc in omega arith)
 -- each kind that goes on, `add` and `sub` apart, has its rule
 pub no-kind :
     (k : ℕ) → IsStatementNumber k → GoesOn k → (k ≡ 8 → ⊥) → (k ≡ 9 → ⊥) → (k ≡ 10 → ⊥) → (k ≡ 11 → ⊥) → (k ≡ 13 → ⊥) → (k ≡ 14 → ⊥) →
-    k < 19 → ⊥
+    (k < 19) ⊎ (21 ≤ k) → ⊥
 unfolding isClosingNumber statementNumber
-no-kind k (low, high) (o, i, r) a b c d f g l =
-    let (x, others) = neither (eqb k 16) (eqb k 17 || eqb k 18) o in
-    let (y, z) = neither (eqb k 17) (eqb k 18) others in
-    let p = above k 15 (above k 14 (above k 13 (above k 12 (above k 11 (above k 10 (above k 9 (above k 8 low a) b) c) d) r) f) g) i in
-    last k (above k 18 (above k 17 (above k 16 p (eqb-false k 16 x)) (eqb-false k 17 y)) (eqb-false k 18 z)) l
+no-kind k (low, high) (o, i, p, r) a b c d f g l =
+    let (x, others) = neither (eqb k 16) (eqb k 17 || (eqb k 18 || eqb k 22)) o in
+    let (y, more) = neither (eqb k 17) (eqb k 18 || eqb k 22) others in
+    let (z, v) = neither (eqb k 18) (eqb k 22) more in
+    let m = above k 15 (above k 14 (above k 13 (above k 12 (above k 11 (above k 10 (above k 9 (above k 8 low a) b) c) d) r) f) g) i in
+    last k (above k 18 (above k 17 (above k 16 m (eqb-false k 16 x)) (eqb-false k 17 y)) (eqb-false k 18 z)) high p (eqb-false k 22 v) l
   where
-    last : (k : ℕ) → 19 ≤ k → k < 19 → ⊥
-    last k p l = omega arith
+    last : (k : ℕ) → 19 ≤ k → k ≤ 22 → (k ≡ 21 → ⊥) → (k ≡ 22 → ⊥) → (k < 19) ⊎ (21 ≤ k) → ⊥
+    last k m h p v (inl l) = omega arith
+    last k m h p v (inr l) = omega (arith, above k 22 (above k 21 l p) v)

@@ -10,16 +10,17 @@ use Rattle.rules.specs.Limits.{most-branches}
 use Rattle.rules.specs.Grammar.{isClosingNumber}
 use Rattle.rules.specs.Answers as Answers
 use Rattle.rules.specs.Answers.{Refusal, accepted, refused, unresolved, noPermission, notShown, stateFull, malformed}
-use Rattle.rules.specs.Base.{Try}
-use Rattle.rules.specs.Syntax.{Formula, Simple, simple, set, assign, compute, new, call}
+use Rattle.rules.specs.Base.{Try, ok, _>>=_}
+use Rattle.rules.specs.Syntax.{Rel, Formula, Simple, simple, set, assign, compute, new, call}
 use Rattle.rules.specs.State as Rules
-use Rattle.rules.specs.Rules.{End, Open, inFirst, inSecond, rule, ifRule, checkRows}
-use Rattle.tables.specs.Decode.{kindAt, xAt, yAt, zAt, memberAt, firstAtomAt, lineAt, stmtAt, rowCount, allRows, programIn, atomPlace, byteAt, relOf, operationOf, leftAt, rightAt}
-use Rattle.tables.specs.Tables.{nested}
+use Rattle.rules.specs.Rules.{End, Open, inFirst, inSecond, inLoop, opposite, rule, ifRule, showEnd, checkRows}
+use Rattle.tables.specs.Decode.{kindAt, xAt, yAt, zAt, memberAt, firstAtomAt, atomCountAt, lineAt, stmtAt, formulaAt, rowCount, allRows, programIn, atomPlace, byteAt, relOf, operationOf, leftAt, rightAt}
+use Rattle.tables.specs.Layout.{most-atom-rows}
+use Rattle.tables.specs.Tables.{nested, Tables}
 use Rattle.check_entailment.specs.declared.Answer.{Answer}
 use Rattle.check_state.specs.States.{Wf, stateOf}
 use Rattle.check_entailment.specs.Answers.{Adds}
-use Rattle.check_statements.specs.Statements.{endOf}
+use Rattle.check_statements.specs.Statements.{endOf, loopKnown}
 use Rattle.checker.specs.declared.Out.{Out}
 use Rattle.checker.specs.declared.Verdict.{Verdict}
 
@@ -64,6 +65,9 @@ IsReturn w i = kindAt w i ≡ 12
 abbrev pub IsIf : List ℕ → ℕ → Type 0
 IsIf w i = kindAt w i ≡ 15
 
+abbrev pub IsLoop : List ℕ → ℕ → Type 0
+IsLoop w i = kindAt w i ≡ 21
+
 -- the statement of a row, by its operands
 abbrev pub setAt : List ℕ → ℕ → Simple
 setAt w i = set (xAt w i) (memberAt w i) (yAt w i)
@@ -89,15 +93,38 @@ abbrev pub branches : List ℕ → ℕ → Rules.State → Try Refusal (Rules.St
 branches w i s =
     ifRule (relOf (byteAt w (atomPlace (firstAtomAt w i)))) (leftAt w (firstAtomAt w i)) (rightAt w (firstAtomAt w i)) s
 
+-- the condition of a `loop` is the atom before its invariant
+abbrev pub conditionAt : List ℕ → ℕ → ℕ
+conditionAt w i = firstAtomAt w i - 1
+
+abbrev pub relationAt : List ℕ → ℕ → Rel
+relationAt w i = relOf (byteAt w (atomPlace (conditionAt w i)))
+
+-- the state in which the body of the loop at row i starts
+abbrev pub bodyStarts : List ℕ → ℕ → Rules.State → Try Refusal Rules.State
+bodyStarts w i s = loopKnown w (firstAtomAt w i) (atomCountAt w i) (relationAt w i) (some s)
+
+-- the state after this loop
+abbrev pub loopLeaves : List ℕ → ℕ → End → Try Refusal Rules.State
+loopLeaves w i e = loopKnown w (firstAtomAt w i) (atomCountAt w i) (opposite (relationAt w i)) e
+
 -- a statement that goes on to the next line
 pub record Stepped (w : List ℕ) (i : ℕ) (s : Rules.State) (answer : Answer) (key b : List ℕ) : Type 0 where
   pub statement : Simple
   pub is : stmtAt w i ≡ simple statement
   pub adds : Adds (rule (programIn w) statement s) answer key b
 
--- the rows from i on, where d branches are open
+-- the rows from i on, where d branches and loops are open
 abbrev pub Nests : List ℕ → ℕ → ℕ → Type 0
 Nests w i d = T (nested (drop i (allRows w)) d)
+
+-- a row to be checked in a block that must show n atoms from the atom a on, where so many branches and loops may still be opened
+pub record Stands (w : List ℕ) (depth i a n : ℕ) : Type 0 where
+  pub tables : Tables w
+  pub deep : depth ≤ most-branches
+  pub within : i < rowCount w
+  pub nests : Nests w i (most-branches - depth)
+  pub atoms : a + n ≤ most-atom-rows
 
 -- these rows checked in a block with the ensures φ, where e is known
 abbrev pub verdictFrom : List ℕ → ℕ → End → Formula ℕ → List Open → Answers.Verdict (Unit {0})
@@ -106,24 +133,45 @@ verdictFrom w i e φ os = checkRows (programIn w) φ (drop i (allRows w)) e os
 abbrev pub stoppedAt : Answer → ℕ → Out
 stoppedAt k i = record { answer = k; at = i; returned = false }
 
--- a block's rows from i on, up to one that closes it, where the arrays then hold the state, or to the one after a `return`: what its
--- rows give, whatever is open around them
-pub record Ran (w : List ℕ) (depth i : ℕ) (φ : Formula ℕ) (s : Rules.State) (r : Out) (key b : List ℕ) : Type 0 where
+-- the row after i, where that is done
+unfoldable pub onward : Answer → ℕ → ℕ
+onward Answer.Done i = i + 1
+onward Answer.Unresolved i = i
+onward Answer.NoPermission i = i
+onward Answer.NotShown i = i
+onward Answer.Full i = i
+onward Answer.Malformed i = i
+
+abbrev pub passedAt : Answer → ℕ → Out
+passedAt k i = stoppedAt k (onward k i)
+
+-- rows from i on, up to another, where the arrays then hold the state, or to the one after a `return`: what they give, whatever is open
+-- around them
+pub record Went (w : List ℕ) (depth i : ℕ) (φ : Formula ℕ) (s : Rules.State) (r : Out) (key b : List ℕ) : Type 0 where
   pub wf : Wf key b
   pub on : i ≤ r .at
   pub within : r .at < rowCount w
-  pub closes : r .answer ≡ Answer.Done → r .returned ≡ false → isClosingNumber (kindAt w (r .at)) ≡ true
   pub nests : r .answer ≡ Answer.Done → Nests w (r .at) (most-branches - depth)
   pub same :
       (os : List Open) →
       verdictFrom w i (some s) φ os
       ≡ outcome (r .answer) (lineAt w (r .at)) (verdictFrom w (r .at) (endOf (r .returned) (stateOf key b)) φ os)
 
+-- a block's rows from i on: all up to one that closes it
+pub record Ran (w : List ℕ) (depth i : ℕ) (φ : Formula ℕ) (s : Rules.State) (r : Out) (key b : List ℕ) : Type 0 where
+  pub went : Went w depth i φ s r key b
+  pub closes : r .answer ≡ Answer.Done → r .returned ≡ false → isClosingNumber (kindAt w (r .at)) ≡ true
+
+-- row i, with all up to the `join` or `again` of a branch or loop that it opens
+pub record Passed (w : List ℕ) (depth i : ℕ) (φ : Formula ℕ) (s : Rules.State) (r : Out) (key b : List ℕ) : Type 0 where
+  pub went : Went w depth i φ s r key b
+  pub further : r .answer ≡ Answer.Done → i < r .at
+
 -- a `return` at row i, however deep
 abbrev pub Returns : List ℕ → ℕ → Formula ℕ → Rules.State → Out → List ℕ → List ℕ → Type 0
-Returns w i φ s r key b = (depth : ℕ) → Nests w i (most-branches - depth) → Ran w depth i φ s r key b
+Returns w i φ s r key b = (depth : ℕ) → Nests w i (most-branches - depth) → Passed w depth i φ s r key b
 
--- THE PARTS OF A BRANCH
+-- THE PARTS OF A BRANCH, AND A LOOP'S BODY
 pub record Ended (w : List ℕ) (r : Out) : Type 0 where
   pub within : r .at < rowCount w
   pub closes : r .answer ≡ Answer.Done → r .returned ≡ false → isClosingNumber (kindAt w (r .at)) ≡ true
@@ -139,14 +187,20 @@ pub record Turned (w : List ℕ) (one r : Out) : Type 0 where
       outcome (one .answer) (lineAt w (one .at)) (verdictFrom w (one .at) (endOf (one .returned) s) φ (inFirst s₂ ∷ os))
       ≡ outcome (r .answer) (lineAt w (r .at)) (verdictFrom w (r .at + 1) (some s₂) φ (inSecond (endOf (r .returned) s) ∷ os))
 
--- the second part ends at its `join`; e is the first's end, t the second's state
-pub record Joined (w : List ℕ) (two : Out) (e : End) (t : Rules.State) (r : Out) (key b : List ℕ) : Type 0 where
-  pub place : r .at ≡ two .at
+-- the second part, or a loop's body, ends with the state t or after a `return`, at the row that closes what is open
+pub record Closed (w : List ℕ) (end : Out) (t : Rules.State) (o : Open) (r : Out) (key b : List ℕ) : Type 0 where
   pub wf : Wf key b
-  pub was : r .answer ≡ Answer.Done → two .answer ≡ Answer.Done
-  pub next : r .answer ≡ Answer.Done → r .at + 1 < rowCount w
-  pub nests : r .answer ≡ Answer.Done → (d : ℕ) → Nests w (two .at) (suc d) → Nests w (r .at + 1) d
+  pub on : end .at ≤ r .at
+  pub within : r .at < rowCount w
+  pub was : r .answer ≡ Answer.Done → end .answer ≡ Answer.Done
+  pub nests : r .answer ≡ Answer.Done → (d : ℕ) → Nests w (end .at) (suc d) → Nests w (r .at) d
   pub same :
       (φ : Formula ℕ) (os : List Open) →
-      outcome (two .answer) (lineAt w (two .at)) (verdictFrom w (two .at) (endOf (two .returned) t) φ (inSecond e ∷ os))
-      ≡ outcome (r .answer) (lineAt w (r .at)) (verdictFrom w (r .at + 1) (some (stateOf key b)) φ os)
+      outcome (end .answer) (lineAt w (end .at)) (verdictFrom w (end .at) (endOf (end .returned) t) φ (o ∷ os))
+      ≡ outcome (r .answer) (lineAt w (r .at)) (verdictFrom w (r .at) (endOf (r .returned) (stateOf key b)) φ os)
+
+-- the body of the loop at row i, where the state after the loop is the same whatever shows the invariant
+abbrev pub BodyClosed : List ℕ → ℕ → Out → Rules.State → Out → List ℕ → List ℕ → Type 0
+BodyClosed w i end t r key b =
+    (after : Rules.State) → ((e : End) → loopLeaves w i e ≡ (showEnd (formulaAt w i) e >>= λ u. ok after)) →
+    Closed w end t (inLoop (formulaAt w i) after) r key b

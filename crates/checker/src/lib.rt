@@ -1,24 +1,25 @@
-// Blocks, methods and main: the rules walked over the tables. The checker of a block calls itself for each branch, the remaining depth falling.
+// Blocks, methods and main: the rules walked over the tables. A block's checker calls itself for each part of a branch and for each loop, the remaining
+// depth falling.
+mod operands;
+mod parts;
+
 use check_entailment::Answer;
 use check_equality::State;
 use rules::Kind;
 use rules::Machine;
-use tables::AtomKind;
 ghost use mathlib.Core.Path.{_≡_};
+ghost use mathlib.Core.Bool.{false};
 ghost use mathlib.Core.List.{[]};
 ghost use mathlib.Core.Option.{some};
-ghost use Prim.Native.Nat.{_+_, _-_, _≤_, _<_};
-ghost use Rattle.rules.specs.Limits.{most-branches};
-ghost use Rattle.rules.specs.Grammar.{GoesOn};
+ghost use Prim.Native.Nat.{_+_, _≤_, _<_};
+ghost use Rattle.rules.specs.Grammar.{isClosingNumber};
 ghost use Rattle.rules.specs.Answers as Answers;
-ghost use Rattle.rules.specs.Syntax as Syntax;
 ghost use Rattle.tables.specs.Layout.{most-atom-rows};
 ghost use Rattle.rules.specs.Rules.{checkProgram, checkMethod};
-ghost use Rattle.tables.specs.Decode.{kindAt, rowCount, methodCount, formulaAt, atomsFrom, methodAt, programIn};
+ghost use Rattle.tables.specs.Decode.{kindAt, rowCount, methodCount, atomsFrom, methodAt, programIn};
 ghost use Rattle.tables.specs.Tables.{Tables};
 ghost use Rattle.check_state.specs.States.{Wf, stateOf};
-ghost use Rattle.check_statements.specs.Statements.{Parts, endOf, JoinGives};
-ghost use Rattle.checker.specs.Checked.{IsLet, IsNew, IsCall, IsReturn, IsIf, setAt, letAt, newAt, callAt, computeAt, RuleGives, branches, Stepped, Nests, stoppedAt, Ran, Returns, Ended, Turned, Joined, outcome, verdictFrom, verdictOf};
+ghost use Rattle.checker.specs.Checked.{IsIf, IsLoop, Nests, Stands, Passed, Ran, outcome, verdictFrom, verdictOf};
 
 // How far a block was checked, and whether the line before was a `return`; or why no further.
 pub struct Out {
@@ -32,242 +33,78 @@ pub enum Verdict {
     Refused(Answer, usize),
 }
 
-// `set x f y`
-fn set_at(w: &[u8], i: usize, key: &mut [u64; State::SLOTS], b: &mut [u8; State::BYTES]) -> Answer
-    requires { ⌜ Tables (now w) × (i < rowCount (now w)) × Wf (now key) (now b) ⌝ }
-    ensures { λ r. ⌜ RuleGives (now (w .entry)) (setAt (now (w .entry)) i) (now (key .entry)) (now (b .entry)) r (now (key .exit)) (now (b .exit)) ⌝ }
-{
-    let x = tables::x_at(w, i) as u8;
-    let f = tables::member_at(w, i) as u8;
-    let y = tables::y_at(w, i) as u8;
-    check_statements::set_rule(key, b, x, f, y)
-}
-
-// `let x e`
-fn let_at(w: &[u8], i: usize, key: &mut [u64; State::SLOTS], b: &mut [u8; State::BYTES]) -> Answer
-    requires { ⌜ Tables (now w) × (i < rowCount (now w)) × IsLet (now w) i × Wf (now key) (now b) ⌝ }
-    ensures { λ r. ⌜ RuleGives (now (w .entry)) (letAt (now (w .entry)) i) (now (key .entry)) (now (b .entry)) r (now (key .exit)) (now (b .exit)) ⌝ }
-{
-    let x = tables::x_at(w, i) as u8;
-    let a = tables::first_atom_at(w, i);
-    check_statements::assign_rule(
-        key,
-        b,
-        x,
-        check_formulas::right(w, a, State::THIS, State::PARAM, State::RESULT),
-    )
-}
-
-// `new x C`
-fn new_at(w: &[u8], i: usize, key: &mut [u64; State::SLOTS], b: &mut [u8; State::BYTES]) -> Answer
-    requires { ⌜ Tables (now w) × (i < rowCount (now w)) × IsNew (now w) i × Wf (now key) (now b) ⌝ }
-    ensures { λ r. ⌜ RuleGives (now (w .entry)) (newAt (now (w .entry)) i) (now (key .entry)) (now (b .entry)) r (now (key .exit)) (now (b .exit)) ⌝ }
-{
-    let x = tables::x_at(w, i) as u8;
-    check_statements::new_rule(w, key, b, x, tables::member_at(w, i))
-}
-
-// `call x y m z`
-fn call_at(w: &[u8], i: usize, key: &mut [u64; State::SLOTS], b: &mut [u8; State::BYTES]) -> Answer
-    requires { ⌜ Tables (now w) × (i < rowCount (now w)) × IsCall (now w) i × Wf (now key) (now b) ⌝ }
-    ensures { λ r. ⌜ RuleGives (now (w .entry)) (callAt (now (w .entry)) i) (now (key .entry)) (now (b .entry)) r (now (key .exit)) (now (b .exit)) ⌝ }
-{
-    let x = tables::x_at(w, i) as u8;
-    let y = tables::y_at(w, i) as u8;
-    let z = tables::z_at(w, i) as u8;
-    check_statements::call_rule(w, key, b, x, y, tables::member_at(w, i), z)
-}
-
-// `add x y z` and `sub x y z`: "removes x and keeps no fact of the new value"
-fn compute_at(
+// The branch whose `if` is row i, up to its `join`, where both its parts are checked with one less to open.
+fn branch(
     w: &[u8],
-    i: usize,
-    key: &mut [u64; State::SLOTS],
-    b: &mut [u8; State::BYTES],
-) -> Answer
-    requires { ⌜ Tables (now w) × (i < rowCount (now w)) × Wf (now key) (now b) ⌝ }
-    ensures { λ r. ⌜ RuleGives (now (w .entry)) (computeAt (now (w .entry)) i) (now (key .entry)) (now (b .entry)) r (now (key .exit)) (now (b .exit)) ⌝ }
-{
-    let x = tables::x_at(w, i) as u8;
-    check_forgetting::remove(key, b, x);
-    Answer::Done
-}
-
-// `assert` formula
-fn assert_at(
-    w: &[u8],
-    i: usize,
-    key: &mut [u64; State::SLOTS],
-    b: &mut [u8; State::BYTES],
-) -> Answer
-    requires { ⌜ Tables (now w) × (i < rowCount (now w)) × Wf (now key) (now b) ⌝ }
-    ensures { λ r. ⌜ RuleGives (now (w .entry)) (Syntax.assert (formulaAt (now (w .entry)) i)) (now (key .entry)) (now (b .entry)) r (now (key .exit)) (now (b .exit)) ⌝ }
-{
-    let a = tables::first_atom_at(w, i);
-    check_statements::assert_rule(w, key, b, a, tables::atom_count_at(w, i))
-}
-
-// `release` formula
-fn release_at(
-    w: &[u8],
-    i: usize,
-    key: &mut [u64; State::SLOTS],
-    b: &mut [u8; State::BYTES],
-) -> Answer
-    requires { ⌜ Tables (now w) × (i < rowCount (now w)) × Wf (now key) (now b) ⌝ }
-    ensures { λ r. ⌜ RuleGives (now (w .entry)) (Syntax.release (formulaAt (now (w .entry)) i)) (now (key .entry)) (now (b .entry)) r (now (key .exit)) (now (b .exit)) ⌝ }
-{
-    let a = tables::first_atom_at(w, i);
-    check_statements::release_rule(w, key, b, a, tables::atom_count_at(w, i))
-}
-
-// `if eq e e` or `if ne e e`, where the second state is a copy of the first
-fn if_at(
-    w: &[u8],
-    i: usize,
-    key: &mut [u64; State::SLOTS],
-    b: &mut [u8; State::BYTES],
-    key2: &mut [u64; State::SLOTS],
-    b2: &mut [u8; State::BYTES],
-) -> Answer
-    requires { ⌜ Tables (now w) × (i < rowCount (now w)) × IsIf (now w) i × Wf (now key) (now b) × (now key2 ≡ now key) × (now b2 ≡ now b) ⌝ }
-    ensures { λ r. ⌜ Parts (branches (now (w .entry)) i (stateOf (now (key .entry)) (now (b .entry)))) r (now (key .exit)) (now (b .exit)) (now (key2 .exit)) (now (b2 .exit)) ⌝ }
-{
-    let a = tables::first_atom_at(w, i);
-    let apart = tables::atom_kind(w, a) != AtomKind::EQ;
-    let l = check_formulas::left(w, a, State::THIS, State::PARAM, State::RESULT);
-    let r = check_formulas::right(w, a, State::THIS, State::PARAM, State::RESULT);
-    check_statements::if_rule(key, b, key2, b2, apart, l, r)
-}
-
-// `join` formula, with the ends of the two parts
-fn join_at<'a>(
-    w: &'a [u8],
-    i: usize,
-    returned: bool,
-    key: &mut [u64; State::SLOTS],
-    b: &mut [u8; State::BYTES],
-    returned2: bool,
-    key2: &'a [u64; State::SLOTS],
-    b2: &'a [u8; State::BYTES],
-) -> Answer
-    requires { ⌜ Tables (now w) × (i < rowCount (now w)) × Wf (now key) (now b) × Wf (now key2) (now b2) ⌝ }
-    ensures { λ r. ⌜ JoinGives (formulaAt (now (w .entry)) i) returned (now (key .entry)) (now (b .entry)) returned2 (now (key2 .entry)) (now (b2 .entry)) r (now (key .exit)) (now (b .exit)) ⌝ }
-{
-    let a = tables::first_atom_at(w, i);
-    check_statements::join_rule(
-        w,
-        a,
-        tables::atom_count_at(w, i),
-        returned,
-        key,
-        b,
-        returned2,
-        key2,
-        b2,
-    )
-}
-
-// A statement that goes on to the next line, by its kind.
-fn statement(
-    w: &[u8],
-    i: usize,
-    key: &mut [u64; State::SLOTS],
-    b: &mut [u8; State::BYTES],
-) -> Answer
-    requires { ⌜ Tables (now w) × (i < rowCount (now w)) × GoesOn (kindAt (now w) i) × Wf (now key) (now b) ⌝ }
-    ensures { λ r. ⌜ Stepped (now (w .entry)) i (stateOf (now (key .entry)) (now (b .entry))) r (now (key .exit)) (now (b .exit)) ⌝ }
-{
-    match tables::kind_at(w, i) {
-        Kind::SET => set_at(w, i, key, b),
-        Kind::LET => let_at(w, i, key, b),
-        Kind::NEW => new_at(w, i, key, b),
-        Kind::CALL => call_at(w, i, key, b),
-        Kind::ASSERT => assert_at(w, i, key, b),
-        Kind::RELEASE => release_at(w, i, key, b),
-        Kind::ADD | Kind::SUB => compute_at(w, i, key, b),
-        _ => Answer::Malformed,
-    }
-}
-
-// Rows checked up to one before which no `return` stands.
-fn stopped(answer: Answer, at: usize) -> Out
-    ensures { λ r. ⌜ r ≡ stoppedAt answer at ⌝ }
-{
-    Out {
-        answer,
-        at,
-        returned: false,
-    }
-}
-
-// `return x` in a block that must show n atoms from the atom a on. No state is left after it.
-fn return_at(
-    w: &[u8],
+    depth: usize,
     i: usize,
     a: usize,
     n: usize,
     key: &mut [u64; State::SLOTS],
     b: &mut [u8; State::BYTES],
 ) -> Out
-    requires { ⌜ Tables (now w) × (i < rowCount (now w)) × IsReturn (now w) i × (a + n ≤ most-atom-rows) × Wf (now key) (now b) ⌝ }
-    ensures { λ r. ⌜ Returns (now (w .entry)) i (atomsFrom (now (w .entry)) a n) (stateOf (now (key .entry)) (now (b .entry))) r (now (key .exit)) (now (b .exit)) ⌝ }
+    requires { ⌜ Stands (now w) depth i a n × IsIf (now w) i × Wf (now key) (now b) ⌝ }
+    ensures { λ r. ⌜ Passed (now (w .entry)) depth i (atomsFrom (now (w .entry)) a n) (stateOf (now (key .entry)) (now (b .entry))) r (now (key .exit)) (now (b .exit)) ⌝ }
 {
-    let x = tables::x_at(w, i) as u8;
-    let k = check_statements::return_rule(w, key, b, x, a, n);
+    let mut key2 = *key;
+    let mut b2 = *b;
+    let k = operands::if_at(w, i, key, b, &mut key2, &mut b2);
     let Answer::Done = k else {
-        return stopped(k, i);
+        return parts::stopped(k, i);
     };
-    Out {
-        answer: Answer::Done,
-        at: i + 1,
-        returned: true,
-    }
-}
-
-// A first part's end, which must be its `else`.
-fn turned(w: &[u8], one: Out) -> Out
-    requires { ⌜ Tables (now w) × Ended (now w) one ⌝ }
-    ensures { λ r. ⌜ Turned (now (w .entry)) one r ⌝ }
-{
-    let k = one.answer;
-    let Answer::Done = k else {
+    let one = parts::turned(w, block(w, depth - 1, i + 1, a, n, key, b));
+    let l = one.answer;
+    let Answer::Done = l else {
         return one;
     };
-    let at = one.at;
-    if tables::kind_at(w, at) == Kind::ELSE {
-        return one;
-    }
-    stopped(Answer::Malformed, at)
+    let two = block(w, depth - 1, one.at + 1, a, n, &mut key2, &mut b2);
+    parts::joined(w, two, one.returned, key, b, &key2, &b2)
 }
 
-// A second part's end, which must be its `join`. The first part's end, in key and b, becomes the state after it.
-fn joined<'a>(
-    w: &'a [u8],
-    two: Out,
-    returned: bool,
+// The loop whose `loop` is row i: its body, up to its `again`.
+fn body(
+    w: &[u8],
+    depth: usize,
+    i: usize,
+    a: usize,
+    n: usize,
     key: &mut [u64; State::SLOTS],
     b: &mut [u8; State::BYTES],
-    key2: &'a [u64; State::SLOTS],
-    b2: &'a [u8; State::BYTES],
 ) -> Out
-    requires { ⌜ Tables (now w) × Ended (now w) two × Wf (now key) (now b) × Wf (now key2) (now b2) ⌝ }
-    ensures { λ r. ⌜ Joined (now (w .entry)) two (endOf returned (stateOf (now (key .entry)) (now (b .entry)))) (stateOf (now (key2 .entry)) (now (b2 .entry))) r (now (key .exit)) (now (b .exit)) ⌝ }
+    requires { ⌜ Stands (now w) depth i a n × IsLoop (now w) i × Wf (now key) (now b) ⌝ }
+    ensures { λ r. ⌜ Passed (now (w .entry)) depth i (atomsFrom (now (w .entry)) a n) (stateOf (now (key .entry)) (now (b .entry))) r (now (key .exit)) (now (b .exit)) ⌝ }
 {
-    let k = two.answer;
+    let k = operands::loop_at(w, i, key, b);
     let Answer::Done = k else {
-        return two;
+        return parts::stopped(k, i);
     };
-    let at = two.at;
-    if tables::kind_at(w, at) == Kind::JOIN {
-        let l = join_at(w, at, returned, key, b, two.returned, key2, b2);
-        return stopped(l, at);
-    }
-    stopped(Answer::Malformed, at)
+    let end = block(w, depth - 1, i + 1, a, n, key, b);
+    parts::closed(w, i, end, key, b)
 }
 
-// The rows from `from` on, up to the one that closes them, in a block that must show n atoms from the atom a on. Each part of a branch
-// is checked by this function, with one branch less to open.
+// Row i, with the whole branch or loop that it opens.
+fn row(
+    w: &[u8],
+    depth: usize,
+    i: usize,
+    a: usize,
+    n: usize,
+    key: &mut [u64; State::SLOTS],
+    b: &mut [u8; State::BYTES],
+) -> Out
+    requires { ⌜ Stands (now w) depth i a n × (isClosingNumber (kindAt (now w) i) ≡ false) × Wf (now key) (now b) ⌝ }
+    ensures { λ r. ⌜ Passed (now (w .entry)) depth i (atomsFrom (now (w .entry)) a n) (stateOf (now (key .entry)) (now (b .entry))) r (now (key .exit)) (now (b .exit)) ⌝ }
+{
+    match tables::kind_at(w, i) {
+        Kind::RETURN => parts::return_at(w, i, a, n, key, b),
+        Kind::IF => branch(w, depth, i, a, n, key, b),
+        Kind::LOOP => body(w, depth, i, a, n, key, b),
+        _ => parts::passed(operands::statement(w, i, key, b), i),
+    }
+}
+
+// The rows from `from` on, up to the one that closes them, in a block that must show n atoms from the atom a on, where so many branches
+// and loops may still be opened.
 pub fn block(
     w: &[u8],
     depth: usize,
@@ -277,43 +114,22 @@ pub fn block(
     key: &mut [u64; State::SLOTS],
     b: &mut [u8; State::BYTES],
 ) -> Out
-    requires { ⌜ Tables (now w) × (depth ≤ most-branches) × (from < rowCount (now w)) × Nests (now w) from (most-branches - depth) × (a + n ≤ most-atom-rows) × Wf (now key) (now b) ⌝ }
+    requires { ⌜ Stands (now w) depth from a n × Wf (now key) (now b) ⌝ }
     ensures { λ r. ⌜ Ran (now (w .entry)) depth from (atomsFrom (now (w .entry)) a n) (stateOf (now (key .entry)) (now (b .entry))) r (now (key .exit)) (now (b .exit)) ⌝ }
 {
     let mut at = from;
     while !tables::is_closing_at(w, at) {
-        let kind = tables::kind_at(w, at);
-        if kind == Kind::RETURN {
-            return return_at(w, at, a, n, key, b);
+        let r = row(w, depth, at, a, n, key, b);
+        let k = r.answer;
+        let Answer::Done = k else {
+            return r;
+        };
+        if r.returned {
+            return r;
         }
-        if kind == Kind::IF {
-            let mut key2 = *key;
-            let mut b2 = *b;
-            let k = if_at(w, at, key, b, &mut key2, &mut b2);
-            let Answer::Done = k else {
-                return stopped(k, at);
-            };
-            let one = turned(w, block(w, depth - 1, at + 1, a, n, key, b));
-            let l = one.answer;
-            let Answer::Done = l else {
-                return one;
-            };
-            let two = block(w, depth - 1, one.at + 1, a, n, &mut key2, &mut b2);
-            let end = joined(w, two, one.returned, key, b, &key2, &b2);
-            let m = end.answer;
-            let Answer::Done = m else {
-                return end;
-            };
-            at = end.at + 1;
-        } else {
-            let k = statement(w, at, key, b);
-            let Answer::Done = k else {
-                return stopped(k, at);
-            };
-            at += 1;
-        }
+        at = r.at;
     }
-    stopped(Answer::Done, at)
+    parts::stopped(Answer::Done, at)
 }
 
 // What a line gives that is the last to be checked.

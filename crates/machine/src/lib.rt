@@ -71,11 +71,12 @@ pub fn step(work: &mut [u8], c: Machine, most_objects: u32, most_fields: u32) ->
         Kind::ASSERT | Kind::JOIN => run_steps::assert_step(work, c),
         Kind::RELEASE => run_steps::release_step(work, c),
         Kind::IF => run_steps::if_step(work, c),
-        Kind::ELSE => run_steps::else_step(work, c),
+        Kind::LOOP => run_steps::loop_step(work, c),
+        Kind::ELSE | Kind::AGAIN => run_steps::jump_step(work, c),
         Kind::END => run_calls::end_step(work, c),
         Kind::ADD | Kind::SUB => run_steps::compute_step(work, c),
         // No row is of another kind, so that any answer meets the contract.
-        0..=7 | 21..=255 => Turn::Done,
+        0..=7 | 23..=255 => Turn::Done,
     }
 }
 

@@ -1,6 +1,6 @@
 -- Laws of atoms at a cursor: the word that bytes spell, and the operands after it.
 use mathlib.Core.Path.{_≡_, refl, sym, ap, subst, _∙_}
-use mathlib.Core.Bool.{Bool, true, false, not, cond, _&&_, _||_}
+use mathlib.Core.Bool.{Bool, true, false, not, cond, _&&_, _||_, and-true}
 use mathlib.Core.List.{List, [], _∷_}
 use mathlib.Core.Logic.{_⊎_, inl, inr, ⊎-elim}
 use Prim.Native.Nat.{ℕ, zero, suc, _+_, _-_, _≤_, _<_}
@@ -22,11 +22,12 @@ use Rattle.read_words.proofs.Words.{of-atom-word}
 use Rattle.read_fields.specs.Cuts.{part, more}
 use Rattle.read_grammar.specs.Rows as Rows
 use Rattle.read_grammar.specs.Rows.{operandsNumber}
-use Rattle.read_fields.specs.Spans.{Span, FieldFits, operandsThen, HeadIs, AtomHead, AtomEnd, OperandsRead}
+use Rattle.read_fields.specs.Spans.{Span, FieldFits, operandsThen, HeadIs, AtomHead, AtomEnd, OperandsRead, conditionFirst}
 use Rattle.read_fields.specs.declared.Head.{Head}
 use Rattle.read_fields.specs.declared.Fields.the-variants.{Upto, Bad}
 use Rattle.read_fields.proofs.Clean.{inLine}
 use Rattle.read_fields.proofs.Cuts.{byte-in, fields-from, no-more, some-more}
+use Rattle.read_fields.proofs.Formulas.{formula-full}
 use Rattle.read_fields.proofs.Spans.{span-on, more-fits, fits-span}
 
 -- WORDS
@@ -333,17 +334,25 @@ module _ {t : List ℕ} {r : ℕ} where
             (decide-eq (getD t (h .end) 0) 9)
 
 -- CONDITIONS
-condition-is : (w : Name) (ws : List Name) → isCondition (w ∷ ws) ≡ (isRel w && isFormula 1 (w ∷ ws))
-unfolding isCondition isFormula
-condition-is w [] = sym (and-false (isRel w))
-condition-is w (a ∷ []) = sym (and-false (isRel w))
-condition-is w (a ∷ b ∷ []) = refl
-condition-is w (a ∷ b ∷ d ∷ ws) =
+pub condition-then : (n : ℕ) (ws : List Name) → (isCondition (take 3 ws) && isFormula n (drop 3 ws)) ≡ conditionFirst (suc n) ws
+unfolding conditionFirst isCondition isFormula isRel is Base.eqName bytes
+condition-then n [] = refl
+condition-then n (w ∷ []) = sym (and-false (isRel w))
+condition-then n (w ∷ a ∷ []) = sym (and-false (isRel w))
+condition-then n (w ∷ a ∷ b ∷ ws) = rw (and-true (isAtom w a b)) (both-and (isRel w) (isAtom w a b) (isFormula n ws))
+
+pub condition-only : (ws : List Name) → isCondition ws ≡ conditionFirst 1 ws
+unfolding conditionFirst isCondition isFormula isRel is Base.eqName bytes
+condition-only [] = refl
+condition-only (w ∷ []) = sym (and-false (isRel w))
+condition-only (w ∷ a ∷ []) = sym (and-false (isRel w))
+condition-only (w ∷ a ∷ b ∷ []) = refl
+condition-only (w ∷ a ∷ b ∷ d ∷ ws) =
     rw (ne-eqb (length (w ∷ a ∷ b ∷ d ∷ ws)) 3 (λ e. omega arith), and-false (isAtom w a b)) (sym (and-false (isRel w)))
 
-pub no-condition : (ws : List Name) → ws ≡ [] → isCondition ws ≡ false
-unfolding isCondition
-no-condition ws e = rw e
+pub no-condition : (n : ℕ) (ws : List Name) → ws ≡ [] → conditionFirst n ws ≡ false
+unfolding conditionFirst isRel is Base.eqName bytes
+no-condition n ws e = rw e
 
 -- a word that does not begin as `acc` is `eq` or `ne`
 rel-letter : (s : Name) → isWord s ≡ true → isRel s ≡ not (eqb (getD s 0 0) 97)
@@ -351,23 +360,24 @@ unfolding bytes isRel is Base.eqName
 rel-letter = of-atom-word (λ s. isRel s ≡ not (eqb (getD s 0 0) 97)) refl refl refl
 
 module _ (t : List ℕ) (r : ℕ) (g : getD t r 0 ≡ 9) where
-  condition-case : (q : Bool) → not (eqb (getD t (r + 1) 0) 97) ≡ q → isCondition (more (drop r t)) ≡ (q && isFormula 1 (more (drop r t)))
-  condition-case q h = go (isFormula 1 (more (drop r t))) refl
+  condition-case :
+      (q : Bool) → not (eqb (getD t (r + 1) 0) 97) ≡ q → (n : ℕ) → conditionFirst n (more (drop r t)) ≡ (q && isFormula n (more (drop r t)))
+  unfolding conditionFirst
+  condition-case q h n = go n (isFormula n (more (drop r t))) refl
     where
-      by : {w : Name} {ws : List Name} → more (drop r t) ≡ w ∷ ws → isCondition (more (drop r t)) ≡ (isRel w && isFormula 1 (more (drop r t)))
-      by {w} {ws} c = ap isCondition c ∙ (condition-is w ws ∙ ap (λ vs. isRel w && isFormula 1 vs) (sym c))
+      by : {w : Name} {ws : List Name} (f : Bool) → more (drop r t) ≡ w ∷ ws → (isRel (getD (more (drop r t)) 0 []) && f) ≡ (isRel w && f)
+      by f c = ap (λ vs. isRel (getD vs 0 []) && f) c
 
-      go : (f : Bool) → isFormula 1 (more (drop r t)) ≡ f → isCondition (more (drop r t)) ≡ (q && f)
-      go true e =
-          let (s, w, x) = heads t r g 0 e in
+      go : (n : ℕ) (f : Bool) → isFormula n (more (drop r t)) ≡ f → (isRel (getD (more (drop r t)) 0 []) && isFormula n (more (drop r t))) ≡ (q && f)
+      go zero true e = true-false (sym e ∙ formula-full t r g)
+      go (suc n) true e =
+          let (s, w, x) = heads t r g n e in
           let i : isRel s ≡ q = rel-letter s w ∙ (ap (λ b. not (eqb b 97)) (sym (first-byte t r g s w x)) ∙ h) in
-          by (word-more t r g s w x) ∙ rw (e, i)
-      go false e =
-          let z : ℕ = r + 1 + upTo (inSet FieldEnd) (drop (r + 1) t) in
-          by (some-more t r g ∙ fields-from t (r + 1) z (field-end t r g)) ∙ rw (e, and-false q) (and-false (isRel (part (r + 1) z t)))
+          by _ (word-more t r g s w x) ∙ rw (e, i)
+      go n false e = rw (e, and-false q) (and-false (isRel (getD (more (drop r t)) 0 [])))
 
-  pub condition-acc : getD t (r + 1) 0 ≡ 97 → isCondition (more (drop r t)) ≡ false
+  pub condition-acc : getD t (r + 1) 0 ≡ 97 → (n : ℕ) → conditionFirst n (more (drop r t)) ≡ false
   condition-acc e = condition-case false (rw (eq-eqb _ 97 e))
 
-  pub condition-rel : (getD t (r + 1) 0 ≡ 97 → ⊥) → isCondition (more (drop r t)) ≡ isFormula 1 (more (drop r t))
+  pub condition-rel : (getD t (r + 1) 0 ≡ 97 → ⊥) → (n : ℕ) → conditionFirst n (more (drop r t)) ≡ isFormula n (more (drop r t))
   condition-rel e = condition-case true (rw (ne-eqb _ 97 e))

@@ -6,7 +6,7 @@ use Prim.Native.Nat.{ℕ, suc, _+_, _≤_, _<_}
 use lib.Dec.{eqb}
 use lib.ListN.{length, getD, drop}
 use Rattle.rules.specs.Base.{Name}
-use Rattle.rules.specs.Text.{tab, isFormula}
+use Rattle.rules.specs.Text.{tab, isRel, isFormula}
 use Rattle.rules.specs.Grammar.{Operand, form, isOperand, isFormed}
 use Rattle.read_bytes.specs.Sets.{inSet, FirstInSet}
 use Rattle.read_bytes.specs.declared.Set.the-variants.{LineEnd, FieldEnd}
@@ -82,6 +82,10 @@ pub record AtomHead (t : List ℕ) (r : ℕ) (h : Head) : Type 0 where
 pub record AtomEnd (t : List ℕ) (r e : ℕ) : Type 0 where
   pub none : e ≡ r → (n : ℕ) → isFormula (suc n) (more (drop r t)) ≡ false
   pub some : (e ≡ r → ⊥) → Span t r e × ((n : ℕ) → isFormula (suc n) (more (drop r t)) ≡ isFormula n (more (drop e t)))
+
+-- a condition and then atoms, at most n in all
+unfoldable pub conditionFirst : ℕ → List Name → Bool
+conditionFirst n ws = isRel (getD ws 0 []) && isFormula n ws
 
 -- ALL FIELDS OF A LINE
 

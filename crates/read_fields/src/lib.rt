@@ -9,11 +9,11 @@ ghost use mathlib.Core.Bool.{true};
 ghost use Prim.Native.Nat.{_+_, _≤_};
 ghost use lib.Dec.{eqb};
 ghost use lib.ListN.{length, getD};
-ghost use Rattle.rules.specs.Text.{isName, isExpr, isRel, isFormula, isCondition};
+ghost use Rattle.rules.specs.Text.{isName, isExpr, isRel, isFormula};
 ghost use Rattle.rules.specs.Grammar.{IsKindNumber};
 ghost use Rattle.read_fields.specs.Cuts.{NextField};
 ghost use Rattle.read_grammar.specs.Rows.{fitsOperand, fitsTail};
-ghost use Rattle.read_fields.specs.Spans.{NextFit, OperandsEnd, AtomHead, AtomEnd, FieldsRead, formedAs};
+ghost use Rattle.read_fields.specs.Spans.{NextFit, OperandsEnd, AtomHead, AtomEnd, FieldsRead, conditionFirst, formedAs};
 
 const TAB: u8 = 9;
 
@@ -206,10 +206,10 @@ fn formula_end(t: &[u8], from: usize, most: usize) -> Fields
     Fields::Upto(r)
 }
 
-// The fields after r, if they are one `eq` or `ne`: an atom that does not begin as `acc`.
-fn condition_end(t: &[u8], r: usize) -> Fields
+// The fields after r, if they are a condition and then atoms, at most n in all: the first atom does not begin as `acc`.
+fn condition_end(t: &[u8], r: usize, most: usize) -> Fields
     requires { ⌜ r ≤ length (now t) ⌝ }
-    ensures { λ f. ⌜ FieldsRead isCondition (now (t .entry)) r f ⌝ }
+    ensures { λ f. ⌜ FieldsRead (conditionFirst most) (now (t .entry)) r f ⌝ }
 {
     if read_bytes::byte_at(t, r) != TAB {
         return Fields::Bad;
@@ -217,10 +217,13 @@ fn condition_end(t: &[u8], r: usize) -> Fields
     if read_bytes::byte_at(t, r + 1) == b'a' {
         return Fields::Bad;
     }
-    formula_end(t, r, 1)
+    formula_end(t, r, most)
 }
 
 // THE FORM OF A LINE
+
+// The atoms of a `loop`: its condition and its invariant.
+const LOOP_ATOMS: usize = 1 + Machine::ATOMS;
 
 // The fields after r, if they are the tail with this number.
 fn tail_end(tail: u32, t: &[u8], r: usize) -> Fields
@@ -229,8 +232,9 @@ fn tail_end(tail: u32, t: &[u8], r: usize) -> Fields
 {
     match tail {
         TailNumber::NONE => no_fields(t, r),
-        TailNumber::CONDITION => condition_end(t, r),
-        _ => formula_end(t, r, Machine::ATOMS),
+        TailNumber::CONDITION => condition_end(t, r, 1),
+        TailNumber::FORMULA => formula_end(t, r, Machine::ATOMS),
+        _ => condition_end(t, r, LOOP_ATOMS),
     }
 }
 

@@ -8,9 +8,9 @@ use lib.Dec.{eqb, leb, ltb}
 use lib.ListN.{length}
 use borrow.Author.Tests.{eq-eqb, ne-eqb, eqb-true, eqb-false, lt-ltb, le-ltb, le-leb, lt-leb, leb-true, ltb-true}
 use Rattle.rules.specs.Grammar.{Kind, form, first-statement, IsKindNumber, statementNumber, kindNumber, isKind, afterMain, afterMethod}
-use Rattle.rules.specs.Grammar.{Class, Field, Method, Main, Var, statement, Return, If, Else, Join, End}
+use Rattle.rules.specs.Grammar.{Class, Field, Method, Main, Var, statement, Return, If, Else, Join, End, Loop, Again}
 use Rattle.rules.specs.Places as Places
-use Rattle.rules.specs.Places.{Branch, beforeElse, afterElse, stageNumber, oneMoreIf, mayElse, mayJoin, mayEnd, outer}
+use Rattle.rules.specs.Places.{Branch, beforeElse, afterElse, inLoop, stageNumber, oneMoreIf, mayElse, mayJoin, mayAgain, mayEnd, outer}
 use Rattle.read_bytes.proofs.Search.{both-true}
 use Rattle.read_grammar.specs.declared.Place.{Place}
 use Rattle.read_grammar.specs.Rows.{kindNumbered}
@@ -25,23 +25,33 @@ eqb-sym a b = go (eqb a b) refl
     go true e = sym (eq-eqb b a (sym (eqb-true a b e)))
     go false e = sym (ne-eqb b a (λ z. eqb-false a b e (sym z)))
 
--- OPEN BRANCHES
-branch-bounds : (b : Branch) → (1 ≤ branchNumber b) × (branchNumber b ≤ 2)
+-- OPEN BRANCHES AND LOOPS
+branch-bounds : (b : Branch) → (1 ≤ branchNumber b) × (branchNumber b ≤ 3)
 unfolding branchNumber
 branch-bounds beforeElse = omega arith
 branch-bounds afterElse = omega arith
+branch-bounds inLoop = omega arith
 
 may-else : (bs : List Branch) → eqb (branchesNumber bs % 4) 1 ≡ mayElse bs
 unfolding branchesNumber branchNumber mayElse
 may-else [] = refl
 may-else (beforeElse ∷ bs) = eq-eqb (branchesNumber (beforeElse ∷ bs) % 4) 1 (omega arith)
 may-else (afterElse ∷ bs) = ne-eqb (branchesNumber (afterElse ∷ bs) % 4) 1 (λ e. omega arith)
+may-else (inLoop ∷ bs) = ne-eqb (branchesNumber (inLoop ∷ bs) % 4) 1 (λ e. omega arith)
 
 may-join : (bs : List Branch) → eqb (branchesNumber bs % 4) 2 ≡ mayJoin bs
 unfolding branchesNumber branchNumber mayJoin
 may-join [] = refl
 may-join (beforeElse ∷ bs) = ne-eqb (branchesNumber (beforeElse ∷ bs) % 4) 2 (λ e. omega arith)
 may-join (afterElse ∷ bs) = eq-eqb (branchesNumber (afterElse ∷ bs) % 4) 2 (omega arith)
+may-join (inLoop ∷ bs) = ne-eqb (branchesNumber (inLoop ∷ bs) % 4) 2 (λ e. omega arith)
+
+may-again : (bs : List Branch) → eqb (branchesNumber bs % 4) 3 ≡ mayAgain bs
+unfolding branchesNumber branchNumber mayAgain
+may-again [] = refl
+may-again (beforeElse ∷ bs) = ne-eqb (branchesNumber (beforeElse ∷ bs) % 4) 3 (λ e. omega arith)
+may-again (afterElse ∷ bs) = ne-eqb (branchesNumber (afterElse ∷ bs) % 4) 3 (λ e. omega arith)
+may-again (inLoop ∷ bs) = eq-eqb (branchesNumber (inLoop ∷ bs) % 4) 3 (omega arith)
 
 may-end : (bs : List Branch) → eqb (branchesNumber bs) 0 ≡ mayEnd bs
 unfolding branchesNumber mayEnd
@@ -79,7 +89,9 @@ module _ (p : Places.Place) where
 
     fits-is : fits k (coded p) ≡ Places.fits (kindNumbered k) p
     unfolding fits coded Places.fits kindNumber statementNumber
-    fits-is = rw (kind-is (statement Return), kind-is (statement Else), kind-is (statement Join), kind-is (statement End), may-else (p .branches), may-join (p .branches), may-end (p .branches))
+    fits-is =
+        let bs = p .branches in
+        rw (kind-is (statement Return), kind-is (statement Else), kind-is (statement Join), kind-is (statement Again), kind-is (statement End), may-else bs, may-join bs, may-again bs, may-end bs)
 
     pub in-place-is : inPlace k (coded p) ≡ Places.inPlace (kindNumbered k) p
     unfolding inPlace coded Places.inPlace
@@ -87,16 +99,20 @@ module _ (p : Places.Place) where
 
     branches-is : branchesAfter k (branchesNumber (p .branches)) ≡ branchesNumber (Places.branchesAfter (kindNumbered k) (p .branches))
     unfolding branchesAfter Places.branchesAfter kindNumber statementNumber branchesNumber branchNumber
-    branches-is = rw (kind-is (statement If), kind-is (statement Else), kind-is (statement Join)) (go (p .branches) (eqb k 15) (eqb k 16) (eqb k 17))
+    branches-is =
+        rw (kind-is (statement If), kind-is (statement Else), kind-is (statement Join), kind-is (statement Loop), kind-is (statement Again))
+        (go (p .branches) (eqb k 15) (eqb k 16) (eqb k 17) (eqb k 21) (eqb k 22))
       where
         go :
-            (bs : List Branch) (x y z : Bool) → let n = branchesNumber bs in
-            cond x (1 + 4 * n) (cond y (2 + 4 * (n / 4)) (cond z (n / 4) n))
-            ≡ branchesNumber (cond x (beforeElse ∷ bs) (cond y (afterElse ∷ outer bs) (cond z (outer bs) bs)))
-        go bs true y z = refl
-        go bs false true z = rw (← outer-number bs)
-        go bs false false true = sym (outer-number bs)
-        go bs false false false = refl
+            (bs : List Branch) (x y z u v : Bool) → let n = branchesNumber bs in
+            cond x (1 + 4 * n) (cond y (2 + 4 * (n / 4)) (cond z (n / 4) (cond u (3 + 4 * n) (cond v (n / 4) n))))
+            ≡ branchesNumber (cond x (beforeElse ∷ bs) (cond y (afterElse ∷ outer bs) (cond z (outer bs) (cond u (inLoop ∷ bs) (cond v (outer bs) bs)))))
+        go bs true y z u v = refl
+        go bs false true z u v = rw (← outer-number bs)
+        go bs false false true u v = sym (outer-number bs)
+        go bs false false false true v = refl
+        go bs false false false false true = sym (outer-number bs)
+        go bs false false false false false = refl
 
     stage-is : stageAfter k (p .main) (stageNumber (form (kindNumbered k) .next)) ≡ stageNumber (Places.stageAfter (kindNumbered k) p)
     unfolding stageAfter Places.stageAfter kindNumber statementNumber stageNumber

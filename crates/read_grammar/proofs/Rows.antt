@@ -10,7 +10,7 @@ use Rattle.rules.specs.Base.{Name, bindOption, withDefault, all}
 use Rattle.rules.specs.Grammar as Grammar
 use Rattle.rules.specs.Grammar.{Kind, Operand, Tail, statement, End, form, first-statement, last-kind, IsKindNumber, kindOf, kindNumber, isStatement, isKind}
 use Rattle.rules.specs.Grammar.{isOperand, isTail, isFormed}
-use Rattle.rules.specs.Grammar.{new, typeName, className, variable, member, expression, nothing, condition, formula}
+use Rattle.rules.specs.Grammar.{new, typeName, className, variable, member, expression, nothing, condition, formula, both}
 use Rattle.rules.specs.Grammar.{classes, fields, methods, variables, read, assigned, field, method}
 use Rattle.rules.specs.Places.{stageNumber}
 use Rattle.rules.proofs.Lists.{and-both}
@@ -126,6 +126,7 @@ unfolding isTail fitsTail tailNumber
 tail-is nothing ws = refl
 tail-is condition ws = refl
 tail-is formula ws = refl
+tail-is both ws = refl
 
 -- THE KIND OF A LINE
 pub kind-known : (o : Option Kind) (n : ℕ) → n ≡ kindOr0 o → (n ≡ 0 → ⊥) → (k : Kind) × (o ≡ some k) × (n ≡ kindNumber k)

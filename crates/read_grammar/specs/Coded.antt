@@ -8,15 +8,16 @@ use Rattle.rules.specs.Base.{between}
 use Rattle.rules.specs.Limits.{most-classes, most-fields, most-methods, most-locals, most-statements}
 use Rattle.rules.specs.Grammar.{form, first-statement, afterMethod, afterMain}
 use Rattle.rules.specs.Places as Places
-use Rattle.rules.specs.Places.{Branch, beforeElse, afterElse, stageNumber, oneMoreIf}
+use Rattle.rules.specs.Places.{Branch, beforeElse, afterElse, inLoop, stageNumber, oneMoreIf}
 use Rattle.read_grammar.specs.Rows.{kindNumbered}
 use Rattle.read_grammar.specs.declared.Place.{Place}
 
 unfoldable pub branchNumber : Branch → ℕ
 branchNumber beforeElse = 1
 branchNumber afterElse = 2
+branchNumber inLoop = 3
 
--- to the base 4, the innermost branch lowest
+-- to the base 4, the innermost lowest
 unfoldable pub branchesNumber : List Branch → ℕ
 branchesNumber [] = 0
 branchesNumber (b ∷ bs) = branchNumber b + 4 * branchesNumber bs
@@ -39,8 +40,9 @@ fits k s =
     cond (eqb k 12) (not (s .main))
     (cond (eqb k 16) (eqb (s .branches % 4) 1)
     (cond (eqb k 17) (eqb (s .branches % 4) 2)
+    (cond (eqb k 22) (eqb (s .branches % 4) 3)
     (cond (eqb k 18) (eqb (s .branches) 0)
-    true)))
+    true))))
 
 unfoldable pub inPlace : ℕ → Place → Bool
 inPlace k s = between (stageNumber (form (kindNumbered k) .first)) (stageNumber (form (kindNumbered k) .last)) (s .stage) && fits k s
@@ -49,7 +51,13 @@ unfoldable pub stageAfter : ℕ → Bool → ℕ → ℕ
 stageAfter k main next = cond (eqb k 18) (cond main (stageNumber afterMain) (stageNumber afterMethod)) next
 
 unfoldable pub branchesAfter : ℕ → ℕ → ℕ
-branchesAfter k n = cond (eqb k 15) (1 + 4 * n) (cond (eqb k 16) (2 + 4 * (n / 4)) (cond (eqb k 17) (n / 4) n))
+branchesAfter k n =
+    cond (eqb k 15) (1 + 4 * n)
+    (cond (eqb k 16) (2 + 4 * (n / 4))
+    (cond (eqb k 17) (n / 4)
+    (cond (eqb k 21) (3 + 4 * n)
+    (cond (eqb k 22) (n / 4)
+    n))))
 
 -- the same place at another stage
 unfoldable pub atStage : ℕ → Place → Place

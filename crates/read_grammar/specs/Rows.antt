@@ -1,16 +1,16 @@
 -- The rows of the grammar as numbers: kinds, operands, tails and stages.
-use mathlib.Core.Bool.{Bool, true, false, cond}
+use mathlib.Core.Bool.{Bool, true, false, cond, _&&_}
 use mathlib.Core.List.{List, [], _∷_}
 use mathlib.Core.Option.{Option, none, some}
 use Prim.Native.Nat.{ℕ, _+_, _*_}
 use lib.Dec.{eqb}
-use lib.ListN.{getD, drop, length}
+use lib.ListN.{getD, take, drop, length}
 use Rattle.rules.specs.Base.{Name, bindOption, withDefault}
 use Rattle.rules.specs.Limits.{most-atoms}
 use Rattle.rules.specs.Text.{isName, isExpr, isFormula, isCondition}
 use Rattle.rules.specs.Grammar.{Kind, Operand, Tail, Form, statement, End, form, kindOf, isFormed}
 use Rattle.rules.specs.Grammar.{new, typeName, className, variable, member, expression}
-use Rattle.rules.specs.Grammar.{classes, fields, methods, variables, read, assigned, field, method, nothing, condition, formula}
+use Rattle.rules.specs.Grammar.{classes, fields, methods, variables, read, assigned, field, method, nothing, condition, formula, both}
 use Rattle.rules.specs.Places.{stageNumber}
 use Rattle.read_words.specs.Words.{kindAt}
 use Rattle.read_grammar.specs.declared.Row.{Row}
@@ -41,6 +41,7 @@ unfoldable pub tailNumber : Tail → ℕ
 tailNumber nothing = 0
 tailNumber condition = 1
 tailNumber formula = 2
+tailNumber both = 3
 
 unfoldable pub rowOf : Form → Row
 rowOf f =
@@ -61,7 +62,11 @@ unfoldable pub fitsOperand : ℕ → Name → Bool
 fitsOperand n w = cond (eqb n 11) (isExpr w) (isName w)
 
 unfoldable pub fitsTail : ℕ → List Name → Bool
-fitsTail n ws = cond (eqb n 0) (eqb (length ws) 0) (cond (eqb n 1) (isCondition ws) (isFormula most-atoms ws))
+fitsTail n ws =
+    cond (eqb n 0) (eqb (length ws) 0)
+    (cond (eqb n 1) (isCondition ws)
+    (cond (eqb n 2) (isFormula most-atoms ws)
+    (isCondition (take 3 ws) && isFormula most-atoms (drop 3 ws))))
 
 -- a, if the test passes
 abbrev pub whenTrue : {A : Type 0} → Bool → A → Option A

@@ -1,7 +1,14 @@
 // Classes, variables, fields and methods looked up by name; whether a name is new.
 mod members;
 
-pub use members::{field_gives, field_number, field_of, field_type, method_number, owned_field, parameter_type, result_type};
+pub use members::field_gives;
+pub use members::field_number;
+pub use members::field_of;
+pub use members::field_type;
+pub use members::method_number;
+pub use members::owned_field;
+pub use members::parameter_type;
+pub use members::result_type;
 use read_names::Row;
 use read_names::Span;
 use read_scopes::Above;

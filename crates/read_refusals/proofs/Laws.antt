@@ -13,7 +13,7 @@ use Rattle.rules.specs.Limits.{most-atoms}
 use Rattle.rules.specs.Syntax.{Atom, Formula, acc, cmp}
 use Rattle.rules.specs.Text.{isName, isExpr, exprOf, relOf, isAtom, isFormula, isCondition, isRel, atomOf, formulaOf}
 use Rattle.rules.specs.Grammar.{Operand, Tail, Line, form, isOperand, isTail, isFormed}
-use Rattle.rules.specs.Grammar.{new, typeName, className, variable, member, expression, nothing, condition, formula}
+use Rattle.rules.specs.Grammar.{new, typeName, className, variable, member, expression, nothing, condition, formula, both}
 use Rattle.rules.specs.Grammar.{classes, fields, methods, variables, read, assigned, field, method}
 use Rattle.rules.specs.Scope.{Slot, slotsFrom, atomOperands, atomSlots, atomsOf, slots}
 use Rattle.rules.specs.Names as Rules
@@ -22,7 +22,9 @@ use Rattle.read_words.proofs.Words.{acc-is}
 use Rattle.read_bytes.proofs.Search.{true-false, both-true, and-false}
 use Rattle.read_fields.specs.Cuts.{part, more, NextField}
 use Rattle.read_grammar.specs.Rows.{kindNumbered, operandNumber, operandsNumber}
+use Rattle.read_fields.specs.Spans.{conditionFirst}
 use Rattle.read_fields.proofs.Cuts.{no-more}
+use Rattle.read_fields.proofs.Heads.{condition-then}
 use Rattle.read_fields.proofs.Formulas.{more-on, not-none}
 use Rattle.read_scopes.specs.declared.Names.{Names}
 use Rattle.read_scopes.specs.declared.Above.{Above}
@@ -114,9 +116,18 @@ unfolding isFormula
 three-fields zero w a b ws e = true-false (sym e)
 three-fields (suc n) w a b ws e = both-true _ _ e
 
--- whatever stands after the operands is a formula
-pub tail-formula : (x : Tail) (ws : List Name) → isTail x ws ≡ true → isFormula most-atoms ws ≡ true
-unfolding isTail isFormula isCondition
+one-more : (n : ℕ) (ws : List Name) → isFormula n ws ≡ true → isFormula (suc n) ws ≡ true
+unfolding isFormula
+one-more zero [] e = refl
+one-more zero (w ∷ ws) e = true-false (sym e)
+one-more (suc n) [] e = refl
+one-more (suc n) (w ∷ []) e = true-false (sym e)
+one-more (suc n) (w ∷ a ∷ []) e = true-false (sym e)
+one-more (suc n) (w ∷ a ∷ b ∷ ws) e = let (x, y) = both-true (isAtom w a b) (isFormula n ws) e in rw (x, one-more n ws y)
+
+-- whatever stands after the operands are atoms
+pub tail-formula : (x : Tail) (ws : List Name) → isTail x ws ≡ true → isFormula (1 + most-atoms) ws ≡ true
+unfolding isTail isFormula isCondition conditionFirst
 tail-formula nothing [] e = refl
 tail-formula nothing (w ∷ ws) e = true-false (sym e ∙ ne-eqb (length (w ∷ ws)) 0 (λ z. omega arith))
 tail-formula condition [] e = refl
@@ -125,7 +136,8 @@ tail-formula condition (w ∷ a ∷ []) e = true-false (sym e)
 tail-formula condition (w ∷ a ∷ b ∷ []) e = both-true (isRel w) _ e .1
 tail-formula condition (w ∷ a ∷ b ∷ d ∷ ws) e =
     true-false (sym (both-true (eqb (length (w ∷ a ∷ b ∷ d ∷ ws)) 3) _ e .0) ∙ ne-eqb (length (w ∷ a ∷ b ∷ d ∷ ws)) 3 (λ z. omega arith))
-tail-formula formula ws e = e
+tail-formula formula ws e = one-more most-atoms ws e
+tail-formula both ws e = both-true (isRel (getD ws 0 [])) (isFormula (1 + most-atoms) ws) (sym (condition-then most-atoms ws) ∙ e) .1
 
 module _ {A : Type 0} (p : A → Bool) where
   all-append : (xs ys : List A) → all p (xs ++ ys) ≡ (all p xs && all p ys)
@@ -364,7 +376,7 @@ module _ (t w : List ℕ) (c : Names) (a : Above) where
 
     pub operands-done :
         {tail : Tail} {n b r : ℕ} {x : Tests} → Rest tail n b r x → n ≡ 0 →
-        (isFormula most-atoms (more (drop r t)) ≡ true)
+        (isFormula (1 + most-atoms) (more (drop r t)) ≡ true)
         × (bothTests x (tested t w c a (atomSlots (more (drop r t))) (formulaOf (more (drop r t)))) ≡ whole)
     unfolding operandsNumber isFormed restTests slotsFrom
     operands-done {tail} {n} {b} {r} {x} s e = go (s .left) (s .number) (s .formed) (s .is)
@@ -372,7 +384,7 @@ module _ (t w : List ℕ) (c : Names) (a : Above) where
         go :
             (os : List Operand) → n ≡ operandsNumber os → isFormed os tail (more (drop r t)) ≡ true →
             bothTests x (restTests (part b r t) os (more (drop r t))) ≡ whole →
-            (isFormula most-atoms (more (drop r t)) ≡ true)
+            (isFormula (1 + most-atoms) (more (drop r t)) ≡ true)
             × (bothTests x (tested t w c a (atomSlots (more (drop r t))) (formulaOf (more (drop r t)))) ≡ whole)
         go [] h i j = (tail-formula tail _ i, j)
         go (o ∷ os) h i j = absurd (omega (arith, operand-bounds o))

@@ -41,7 +41,10 @@ fn new_agrees(text: &[u8], work: &[u8], from: usize, c: Names) -> bool
     ensures { λ r. ⌜ r ≡ sidesIn (now (text .entry)) (now (work .entry)) c (lineAfter (now (text .entry)) from 10) ⌝ }
 {
     let x = read_lookups::variable_type(text, work, c, crate::nth_field(text, from, 0));
-    read_bytes::same(read_names::name_in(text, x), crate::nth_field(text, from, 1))
+    read_bytes::same(
+        read_names::name_in(text, x),
+        crate::nth_field(text, from, 1),
+    )
 }
 
 // `call x y m z`: the result, and the argument

@@ -8,7 +8,7 @@ use read_tests::Operand;
 ghost use mathlib.Core.Path.{_≡_};
 ghost use mathlib.Core.Bool.{true, _&&_};
 ghost use mathlib.Core.List.{[]};
-ghost use Prim.Native.Nat.{_≤_};
+ghost use Prim.Native.Nat.{_+_, _≤_};
 ghost use lib.ListN.{length, drop, getD};
 ghost use Rattle.rules.specs.Limits.{work-bytes, most-atoms};
 ghost use Rattle.rules.specs.Text.{isName, isExpr, isAtom, isFormula, formulaOf};
@@ -188,9 +188,9 @@ fn one_atom(text: &[u8], work: &[u8], c: Names, a: Above, w: &[u8], x: &[u8], y:
     cmp_tests(text, work, c, a, x, y)
 }
 
-// The atoms after a field that ends at `from`.
+// The atoms after a field that ends at `from`: a formula, or a condition and then a formula.
 fn atom_tests(text: &[u8], work: &[u8], from: usize, c: Names, a: Above) -> Tests
-    requires { ⌜ CountsFit (now work) c a × (from ≤ length (now text)) × (isFormula most-atoms (more (drop from (now text))) ≡ true) ⌝ }
+    requires { ⌜ CountsFit (now work) c a × (from ≤ length (now text)) × (isFormula (1 + most-atoms) (more (drop from (now text))) ≡ true) ⌝ }
     ensures { λ r. ⌜ r ≡ tested (now (text .entry)) (now (work .entry)) c a (atomSlots (more (drop from (now (text .entry))))) (formulaOf (more (drop from (now (text .entry))))) ⌝ }
 {
     let mut t = Tests {

@@ -12,7 +12,7 @@ use Rattle.rules.specs.Grammar.{Kind, kinds, last-kind, kindNumber}
 abbrev pub words : List String
 words =
     "class" ∷ "field" ∷ "method" ∷ "requires" ∷ "ensures" ∷ "main" ∷ "var" ∷
-    "set" ∷ "let" ∷ "new" ∷ "call" ∷ "return" ∷ "assert" ∷ "release" ∷ "if" ∷ "else" ∷ "join" ∷ "end" ∷ "add" ∷ "sub" ∷
+    "set" ∷ "let" ∷ "new" ∷ "call" ∷ "return" ∷ "assert" ∷ "release" ∷ "if" ∷ "else" ∷ "join" ∷ "end" ∷ "add" ∷ "sub" ∷ "loop" ∷ "again" ∷
     "acc" ∷ "eq" ∷ "ne" ∷
     "int" ∷ "null" ∷ "this" ∷ "result" ∷ []
 

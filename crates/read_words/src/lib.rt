@@ -65,6 +65,8 @@ fn numbered(k: u64) -> u8
         0x656e64 => Kind::END,
         0x616464 => Kind::ADD,
         0x737562 => Kind::SUB,
+        0x6c6f6f70 => Kind::LOOP,
+        0x616761696e => Kind::AGAIN,
         0x616363 => ACC,
         0x6571 => EQ,
         0x6e65 => NE,

@@ -9,7 +9,7 @@ use lib.Dec.{eqb}
 use lib.ListN.{length, getD, take, drop, length-append, length-drop}
 use lib.Seq.{getD-take, getD-drop, length-take-le}
 use Rattle.rules.specs.Base.{Name, all, is}
-use Rattle.rules.specs.Limits.{work-bytes, most-atoms}
+use Rattle.rules.specs.Limits.{work-bytes}
 use Rattle.rules.specs.Syntax.{Atom, Formula}
 use Rattle.rules.specs.Text.{upTo, isRel, isAtom, atomOf, isFormula, formulaOf}
 use Rattle.rules.specs.Scope.{Declarations, Variable}
@@ -21,7 +21,7 @@ use Rattle.read_words.proofs.Words.{atom-word-length}
 use Rattle.read_fields.specs.Cuts.{part, more, NextField}
 use Rattle.read_fields.proofs.Cuts.{byte-in, no-more, some-more, fields-from}
 use Rattle.read_fields.proofs.Formulas.{NextAtom, more-on, not-none, formula-full, atom-0, atom-1, atom-2, atom-3, atom-here}
-use Rattle.tables.specs.Layout.{names-at, most-atom-rows}
+use Rattle.tables.specs.Layout.{names-at, most-atom-rows, most-line-atoms}
 use Rattle.tables.specs.Stores.{Kept}
 use Rattle.read_scopes.specs.declared.Names.{Names}
 use Rattle.read_scopes.specs.Meanings.{AreaFits, declarationsIn, variablesIn}
@@ -183,11 +183,11 @@ pub record Writing (t v : List ℕ) (c : Names) (from first : ℕ) (w : List ℕ
   pub names : Kept names-at work-bytes v w
   pub size : length w ≡ length v
 
-pub writing-first : {t v : List ℕ} {c : Names} {from first : ℕ} → FormulaFollows t v c from first → Writing t v c from first v from first
+pub writing-first : {t v : List ℕ} {c : Names} {from first : ℕ} → FormulaFollows t v c most-line-atoms from first → Writing t v c from first v from first
 writing-first {t} {v} {c} {from} {first} x =
     record {
       high = x .high;
-      most = most-atoms;
+      most = most-line-atoms;
       form = x .form;
       fits = refl;
       done = [];

@@ -5,7 +5,7 @@ use mathlib.Core.List.{List, [], _∷_, _++_, map}
 use Prim.Native.Nat.{ℕ, suc, _+_, _≤_, _<_}
 use lib.ListN.{length, getD, drop}
 use Rattle.rules.specs.Base.{Name, all}
-use Rattle.rules.specs.Limits.{work-bytes, most-atoms}
+use Rattle.rules.specs.Limits.{work-bytes}
 use Rattle.rules.specs.Syntax.{Atom, Formula}
 use Rattle.rules.specs.Text.{tab, isFormula, formulaOf}
 use Rattle.rules.specs.Scope.{Declarations, Variable}
@@ -71,10 +71,10 @@ module _ (t w : List ℕ) (c : Names) where
   NextTried r n w′ (Put.Done e) = AtomPut r n w′ e
   NextTried r n w′ Put.Bad = (fitsAfter r ≡ false) × (w′ ≡ w)
 
-  -- the fields after r are a formula, and there is room for its atoms from n on
-  pub record FormulaFollows (r n : ℕ) : Type 0 where
+  -- the fields after r are a formula of at most so many atoms, and there is room for them from n on
+  pub record FormulaFollows (most r n : ℕ) : Type 0 where
     pub high : r ≤ length t
-    pub form : isFormula most-atoms (more (drop r t)) ≡ true
+    pub form : isFormula most (more (drop r t)) ≡ true
     pub room : n + length (formulaAfter r) ≤ most-atom-rows
 
   -- it is written as the atoms from n up to m

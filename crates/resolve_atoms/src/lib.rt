@@ -11,7 +11,7 @@ ghost use Rattle.rules.specs.Base.{is};
 ghost use Rattle.rules.specs.Text.{isExpr, exprOf, isRel, isAtom, atomOf};
 ghost use Rattle.read_words.specs.Words.{wordNumber, eq-word};
 ghost use Rattle.read_fields.specs.Cuts.{NextField};
-ghost use Rattle.tables.specs.Layout.{most-atom-rows};
+ghost use Rattle.tables.specs.Layout.{most-atom-rows, most-line-atoms};
 ghost use Rattle.tables.specs.Decode.{relOf};
 ghost use Rattle.read_scopes.specs.Meanings.{AreaFits};
 ghost use Rattle.resolve_atoms.specs.Written.{AtomTriedIn, AtomFollows, NextTried, FormulaFollows, FormulaTried};
@@ -149,7 +149,7 @@ fn put_next_atom(text: &[u8], work: &mut [u8], r: usize, n: usize, c: Names) -> 
 
 // Writes the formula of the fields after r as the atoms from `first` on, and gives the number after its last.
 pub fn put_formula(text: &[u8], work: &mut [u8], from: usize, first: usize, c: Names) -> Put
-    requires { ⌜ AreaFits (now work) c × FormulaFollows (now text) (now work) c from first ⌝ }
+    requires { ⌜ AreaFits (now work) c × FormulaFollows (now text) (now work) c most-line-atoms from first ⌝ }
     ensures { λ m. ⌜ FormulaTried (now (text .entry)) (now (work .entry)) c from first (now (work .exit)) m ⌝ }
 {
     let mut r = from;

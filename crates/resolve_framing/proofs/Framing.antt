@@ -1,15 +1,16 @@
 -- Laws of the search for an `acc`, and of a formula atom by atom.
-use mathlib.Core.Path.{_≡_, refl, _∙_}
+use mathlib.Core.Path.{_≡_, refl, sym, ap, _∙_}
 use mathlib.Core.Bool.{Bool, true, false, cond, _&&_, _||_}
-use mathlib.Core.List.{[], _∷_, List}
-use Prim.Native.Nat.{ℕ, suc, _+_, _-_, _≤_, _<_}
+use mathlib.Core.List.{[], _∷_, _++_, List}
+use Prim.Native.Nat.{ℕ, zero, suc, _+_, _-_, _≤_, _<_}
 use native.Mathlib.Omega.{arith}
-use native.Mathlib.Nat.{add-zero}
+use native.Mathlib.Nat.{add-zero, zero-add}
 use native.Mathlib.Numerals.{add-one}
+use borrow.Author.Tests.{ne-eqb}
 use Rattle.rules.specs.Base.{any}
-use Rattle.rules.specs.Syntax.{Formula, acc, cmp, path}
+use Rattle.rules.specs.Syntax.{Atom, Formula, acc, cmp, path}
 use Rattle.rules.specs.Reading.{Access, framedExpr, framed}
-use Rattle.tables.specs.Decode.{run, byteAt, atomPlace, relOf, leftAt, rightAt, atomAt, atomsFrom}
+use Rattle.tables.specs.Decode.{run, byteAt, atomPlace, relOf, leftAt, rightAt, atomAt, atomsFrom, framedFrom}
 use Rattle.resolve_framing.specs.Framing.{accessAt, isAccess, isOf, accesses}
 
 -- an atom by its sides
@@ -104,3 +105,45 @@ module _ (w : List ℕ) (a : ℕ) where
 
     pub passed-on : (i : ℕ) → i < n → Passed i → atom-framed i ≡ true → Passed (i + 1)
     passed-on i l x e = let s : a + suc i ≡ suc (a + i) = omega arith in rw (add-one, s) (passed-step i l x ∙ rw e)
+
+  -- ONE MORE, after n atoms
+  framed-more :
+      (b : Atom ℕ) (n i : ℕ) →
+      framed (accesses w a i) (atomsFrom w (a + i) n ++ (b ∷ []))
+      ≡ framed (accesses w a i) (atomsFrom w (a + i) n) && framed (accesses w a (i + n)) (b ∷ [])
+  unfolding run framed
+  framed-more b zero i = ap (λ (k : ℕ). framed (accesses w a k) (b ∷ [])) (sym (add-zero i))
+  framed-more b (suc n) i =
+      let s : a + suc i ≡ suc (a + i) = omega arith in
+      let e : suc i + n ≡ i + suc n = omega arith in
+      let h = rw (s, e) at (framed-more b n (suc i)) in
+      let x : Bool = framed (accesses w a i) (atomAt w (a + i) ∷ []) in
+      let y : Bool = framed (accesses w a (suc i)) (atomsFrom w (suc (a + i)) n) in
+      let z : Bool = framed (accesses w a (i + suc n)) (b ∷ []) in
+      framed-step i (atomsFrom w (suc (a + i)) n ++ (b ∷ []))
+      ∙ (ap (λ (q : Bool). x && q) h ∙ (and-assoc x y z ∙ ap (λ (q : Bool). q && z) (sym (framed-step i (atomsFrom w (suc (a + i)) n)))))
+    where
+      and-assoc : (p q r : Bool) → p && (q && r) ≡ (p && q) && r
+      and-assoc true q r = refl
+      and-assoc false q r = refl
+
+  module _ (b : Atom ℕ) (n : ℕ) where
+    framed-last : framed [] (atomsFrom w a n ++ (b ∷ [])) ≡ framed [] (atomsFrom w a n) && framed (accesses w a n) (b ∷ [])
+    unfolding accesses
+    framed-last = rw (add-zero, zero-add) at (framed-more b n 0)
+
+    pub last-not : framed [] (atomsFrom w a n) ≡ false → framed [] (atomsFrom w a n ++ (b ∷ [])) ≡ false
+    last-not e = framed-last ∙ rw e
+
+    pub last-on : framed [] (atomsFrom w a n) ≡ true → framed [] (atomsFrom w a n ++ (b ∷ [])) ≡ framed (accesses w a n) (b ∷ [])
+    last-on e = framed-last ∙ rw e
+
+-- BY THE KIND OF LINE
+module _ (w : List ℕ) (k i n : ℕ) where
+  pub as-loop : k ≡ 21 → framedFrom w k i n ≡ atomsFrom w (i + 1) (n - 1) ++ (atomAt w i ∷ [])
+  unfolding framedFrom
+  as-loop e = rw e
+
+  pub as-formula : (k ≡ 21 → ⊥) → framedFrom w k i n ≡ atomsFrom w i n
+  unfolding framedFrom
+  as-formula m = rw (ne-eqb k 21 m)

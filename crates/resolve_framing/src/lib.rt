@@ -1,16 +1,17 @@
-// Number 10 over the atoms of a formula.
+// Number 10 over the atoms of a line.
+use rules::Kind;
 use tables::AtomKind;
 use tables::Expr;
 ghost use mathlib.Core.Path.{_≡_};
 ghost use mathlib.Core.Bool.{_&&_};
-ghost use mathlib.Core.List.{[], _∷_};
-ghost use Prim.Native.Nat.{_+_, _≤_, _<_};
+ghost use mathlib.Core.List.{[], _∷_, _++_};
+ghost use Prim.Native.Nat.{_+_, _-_, _≤_, _<_};
 ghost use lib.ListN.{length};
 ghost use Rattle.rules.specs.Limits.{work-bytes};
 ghost use Rattle.rules.specs.Syntax.{path};
 ghost use Rattle.rules.specs.Reading.{framedExpr, framed};
 ghost use Rattle.tables.specs.Layout.{most-atom-rows};
-ghost use Rattle.tables.specs.Decode.{leftAt, rightAt, atomAt, atomsFrom};
+ghost use Rattle.tables.specs.Decode.{leftAt, rightAt, atomAt, atomsFrom, framedFrom};
 ghost use Rattle.tables.specs.Stores.{meaning};
 ghost use Rattle.resolve_framing.specs.Framing.{accessAt, isAccess, isOf, accesses};
 
@@ -90,8 +91,8 @@ fn framed_atom(work: &[u8], first: usize, n: usize, a: usize) -> bool
     framed_sides(work, first, n, a)
 }
 
-// Has each path of the formula of `count` atoms from `first` on an `acc` before it? Number 10 is about this.
-pub fn framed(work: &[u8], first: usize, count: usize) -> bool
+// Has each path of the formula of `count` atoms from `first` on an `acc` before it?
+fn framed(work: &[u8], first: usize, count: usize) -> bool
     requires { ⌜ (length (now work) ≡ work-bytes) × (first + count ≤ most-atom-rows) ⌝ }
     ensures { λ r. ⌜ r ≡ framed [] (atomsFrom (now (work .entry)) first count) ⌝ }
 {
@@ -103,4 +104,27 @@ pub fn framed(work: &[u8], first: usize, count: usize) -> bool
         i += 1;
     }
     true
+}
+
+// The first of these atoms as a condition, and the others as the invariant before it.
+fn framed_loop(work: &[u8], first: usize, count: usize) -> bool
+    requires { ⌜ (length (now work) ≡ work-bytes) × (1 ≤ count) × (first + count ≤ most-atom-rows) ⌝ }
+    ensures { λ r. ⌜ r ≡ framed [] (atomsFrom (now (work .entry)) (first + 1) (count - 1) ++ (atomAt (now (work .entry)) first ∷ [])) ⌝ }
+{
+    let n = count - 1;
+    if !framed(work, first + 1, n) {
+        return false;
+    }
+    framed_atom(work, first + 1, n, first)
+}
+
+// Has each path of a line of this kind, with `count` atoms from `first` on, an `acc` before it? Number 10 is about this.
+pub fn framed_line(work: &[u8], kind: u8, first: usize, count: usize) -> bool
+    requires { ⌜ (length (now work) ≡ work-bytes) × (kind ≡ 21 → 1 ≤ count) × (first + count ≤ most-atom-rows) ⌝ }
+    ensures { λ r. ⌜ r ≡ framed [] (framedFrom (now (work .entry)) kind first count) ⌝ }
+{
+    if kind == Kind::LOOP {
+        return framed_loop(work, first, count);
+    }
+    framed(work, first, count)
 }

@@ -6,31 +6,31 @@ use native.Mathlib.Omega.{arith}
 use native.Mathlib.Numerals.{add-one}
 use lib.Dec.{T}
 use Rattle.rules.specs.Grammar as Grammar
-use Rattle.rules.specs.Grammar.{Kind, Statement, isKind, isStatement, nextStage}
+use Rattle.rules.specs.Grammar.{Kind, Statement, isKind, isStatement, kindNumber, nextStage}
 use Rattle.rules.specs.Grammar.{Class, Field, Method, Requires, Ensures, Main, Var, statement, End}
 use Rattle.rules.specs.Grammar.{inClass, afterMethod, afterMain}
 use Rattle.rules.proofs.LineKinds.{is-same}
 use Rattle.rules.specs.Limits.{most-fields, most-locals, most-statements, most-atoms}
 use Rattle.rules.specs.Places as Places
-use Rattle.rules.specs.Places.{Place, firstPlace, stageNumber, inPlace, placeAfter, withinLimits, oneMoreIf}
+use Rattle.rules.specs.Places.{Place, firstPlace, stageNumber, inPlace, branchesAfter, placeAfter, withinLimits, oneMoreIf}
 use Rattle.read_bytes.proofs.Search.{true-false}
 use Rattle.read_grammar.specs.Coded.{coded}
-use Rattle.tables.specs.Layout.{most-atom-rows}
+use Rattle.tables.specs.Layout.{most-atom-rows, atomLimit}
 use Rattle.read_scopes.specs.declared.Names.{Names}
 use Rattle.read_scopes.specs.declared.Above.{Above}
 use Rattle.read_scopes.specs.Meanings.{moreLocals}
 use Rattle.resolve_pass.specs.declared.Pass.{Pass}
-use Rattle.resolve_pass.specs.Passes.{firstPass, after, oneMore, nextRange, aboveAfter, withBlock, namesAfter, hasAtoms, Counts}
-use Rattle.resolve_pass.proofs.Stages.{neededAt, spareAt, localsAt, classesAt, methodsAt, atLeast, limits, Inside, next-inside}
+use Rattle.resolve_pass.specs.Passes.{firstPass, after, oneMore, nextRange, aboveAfter, withBlock, namesAfter, hasAtoms, atomsAtMost, Counts}
+use Rattle.resolve_pass.proofs.Stages.{neededAt, spareAt, localsAt, classesAt, methodsAt, atLeast, limits, Inside, next-inside, openLoops, loops-within, loops-pay}
 use Rattle.resolve_pass.proofs.Stages.{at-header, at-requires, at-body, at-between, at-class, stage-from, stage-to, statement-to}
 
--- what the stage of a place says of the locals and atoms so far
+-- what the stage of a place says of the locals and atoms so far; the `again` to come of each open loop pays for its condition
 pub record Staged (place : Place) (v a : ℕ) : Type 0 where
   pub locals : v ≡ localsAt (place .stage) (place .locals)
   pub late : stageNumber (place .stage) ≤ 4 → place .main ≡ false
   pub classes : classesAt (place .stage) (place .main) ≤ place .classes
   pub methods : methodsAt (place .stage) ≤ place .methods
-  pub atoms : a + 8 ≤ 8 * (place .statements + place .methods + spareAt (place .stage) (place .main))
+  pub atoms : a + 8 ≤ 8 * (place .statements + place .methods + spareAt (place .stage) (place .main)) + openLoops (place .branches)
 
 -- the counts of what stands above a place
 pub record Counted (place : Place) (p : Pass) : Type 0 where
@@ -89,7 +89,7 @@ module _ {p : Place} {v a : ℕ} (x : Staged p v a) (b : ℕ) where
   staged-body :
       (q : Place) (u : ℕ) → 5 ≤ stageNumber (p .stage) → stageNumber (p .stage) ≤ 7 → Inside (q .stage) → q .main ≡ p .main →
       q .locals ≡ p .locals → q .classes ≡ p .classes → q .methods ≡ p .methods → q .statements ≡ suc (p .statements) →
-      u ≡ v → b ≤ a + 8 → Staged q u b
+      u ≡ v → b + openLoops (p .branches) ≤ a + 8 + openLoops (q .branches) → Staged q u b
   staged-body q u l h (z, k) m o c d n e g =
       let y = at-body (p .stage) l h in
       record {
@@ -102,15 +102,15 @@ module _ {p : Place} {v a : ℕ} (x : Staged p v a) (b : ℕ) where
 
   staged-class :
       (q : Place) (u : ℕ) → stageNumber (p .stage) ≤ 2 → q .stage ≡ inClass → q .main ≡ p .main → 1 ≤ q .classes →
-      q .methods ≡ p .methods → q .statements ≡ p .statements → u ≡ v → b ≤ a → Staged q u b
-  staged-class q u h s m c d n e g =
+      q .methods ≡ p .methods → q .statements ≡ p .statements → q .branches ≡ p .branches → u ≡ v → b ≤ a → Staged q u b
+  staged-class q u h s m c d n o e g =
       let y = at-between (p .stage) h in
       record {
         locals = e ∙ (x .locals ∙ (y .locals (p .locals) ∙ ap (λ r. localsAt r (q .locals)) (sym s)));
         late = λ i. m ∙ x .late (omega arith);
         classes = rw s c;
         methods = rw s (omega arith);
-        atoms = rw (s, d, n) (omega (arith, g, x .atoms, y .spare (p .main)));
+        atoms = rw (s, d, n, o) (omega (arith, g, x .atoms, y .spare (p .main)));
       }
 
   staged-method : 1 ≤ stageNumber (p .stage) → stageNumber (p .stage) ≤ 2 → b ≤ a → Staged (placeAfter Method p) 0 b
@@ -198,37 +198,33 @@ module _ {p : Place} {v a : ℕ} (x : Staged p v a) (b : ℕ) where
 
 staged-statement :
     {p : Place} {a : ℕ} (c : Names) → Staged p (c .locals) a → (b : ℕ) (s : Statement) → inPlace (statement s) p ≡ true →
-    b ≤ a + cond (hasAtoms (statement s)) 8 0 → Staged (placeAfter (statement s) p) (namesAfter (statement s) c .locals) b
-unfolding Places.opened Grammar.opened namesAfter withBlock hasAtoms
+    b ≤ a + atomsAtMost (statement s) → Staged (placeAfter (statement s) p) (namesAfter (statement s) c .locals) b
+unfolding Places.opened Grammar.opened namesAfter withBlock hasAtoms atomsAtMost
 staged-statement {p} {a} c x b s i g = go (isKind (statement End) (statement s)) refl
   where
-    few : (y : Bool) → cond y 8 0 ≤ 8
-    few true = omega arith
-    few false = omega arith
-
     ends :
-        inPlace (statement End) p ≡ true → b ≤ a + cond (hasAtoms (statement End)) 8 0 →
+        inPlace (statement End) p ≡ true → b ≤ a + atomsAtMost (statement End) →
         Staged (placeAfter (statement End) p) (namesAfter (statement End) c .locals) b
     ends i g = staged-end x b (stage-from (statement End) p i) (stage-to (statement End) p i) (omega arith)
 
     go : (e : Bool) → isKind (statement End) (statement s) ≡ e → Staged (placeAfter (statement s) p) (namesAfter (statement s) c .locals) b
     go true e =
         subst
-        (λ k. inPlace k p ≡ true → b ≤ a + cond (hasAtoms k) 8 0 → Staged (placeAfter k p) (namesAfter k c .locals) b)
+        (λ k. inPlace k p ≡ true → b ≤ a + atomsAtMost k → Staged (placeAfter k p) (namesAfter k c .locals) b)
         (is-same (statement End) (statement s) (subst T (sym e) tt)) ends i g
     go false e =
         staged-body x b (placeAfter (statement s) p) _ (stage-from (statement s) p i) (statement-to s p i)
         (subst (λ y. Inside (cond y (cond (p .main) afterMain afterMethod) (nextStage s))) (sym e) (next-inside s)) refl refl refl refl refl
-        (ap (λ y. cond y (withBlock false c) c .locals) e) (omega (arith, g, few (hasAtoms (statement s))))
+        (ap (λ y. cond y (withBlock false c) c .locals) e) (omega (arith, g, loops-pay s p i))
 
 staged-on :
     {p : Place} {a : ℕ} (c : Names) → Staged p (c .locals) a → (b : ℕ) (k : Kind) → inPlace k p ≡ true →
-    b ≤ a + cond (hasAtoms k) 8 0 → Staged (placeAfter k p) (namesAfter k c .locals) b
-unfolding Places.opened Grammar.opened namesAfter withBlock moreLocals hasAtoms
-staged-on {p} c x b Class i g = staged-class x b (placeAfter Class p) (c .locals) (stage-to Class p i) refl refl (omega arith) refl refl refl (omega arith)
+    b ≤ a + atomsAtMost k → Staged (placeAfter k p) (namesAfter k c .locals) b
+unfolding Places.opened Grammar.opened namesAfter withBlock moreLocals hasAtoms atomsAtMost atomLimit
+staged-on {p} c x b Class i g = staged-class x b (placeAfter Class p) (c .locals) (stage-to Class p i) refl refl (omega arith) refl refl refl refl (omega arith)
 staged-on {p} c x b Field i g =
     staged-class x b (placeAfter Field p) (c .locals) (omega (arith, stage-to Field p i)) refl refl
-    (omega (arith, x .classes, at-class (p .stage) (p .main) (stage-from Field p i) (omega (arith, stage-to Field p i)))) refl refl refl (omega arith)
+    (omega (arith, x .classes, at-class (p .stage) (p .main) (stage-from Field p i) (omega (arith, stage-to Field p i)))) refl refl refl refl (omega arith)
 staged-on {p} c x b Method i g = staged-method x b (stage-from Method p i) (stage-to Method p i) (omega arith)
 staged-on {p} c x b Requires i g = staged-requires x b (omega (arith, stage-from Requires p i, stage-to Requires p i)) g
 staged-on {p} c x b Ensures i g = staged-ensures x b (omega (arith, stage-from Ensures p i, stage-to Ensures p i)) g
@@ -294,46 +290,51 @@ module _ {place : Place} {p : Pass} (x : Counted place p) where
   header-room Var i e = true-false (sym e)
   header-room (statement s) i e = true-false (sym e)
 
+  -- m: the atoms that the line has at most
   body-atoms :
-      (q : Place) → 5 ≤ stageNumber (place .stage) → stageNumber (place .stage) ≤ 7 → q .statements ≡ suc (place .statements) →
-      q .methods ≡ place .methods → neededAt (q .stage) (q .main) ≡ cond (place .main) 1 2 → withinLimits q ≡ true → atLeast q ≤ 256 →
-      p .atoms + 8 ≤ 2552
+      (q : Place) (m : ℕ) → 5 ≤ stageNumber (place .stage) → stageNumber (place .stage) ≤ 7 → q .statements ≡ suc (place .statements) →
+      q .methods ≡ place .methods → neededAt (q .stage) (q .main) ≡ cond (place .main) 1 2 →
+      openLoops (place .branches) + m ≤ 8 + openLoops (q .branches) → withinLimits q ≡ true → atLeast q ≤ 256 →
+      p .atoms + m ≤ most-atom-rows
   unfolding coded
-  body-atoms q l h s m n w r =
-      omega (arith, x .staged .atoms, at-body (place .stage) l h .spare (place .main), limits q w .methods)
+  body-atoms q m l h s e n o w r =
+      omega (arith, x .staged .atoms, at-body (place .stage) l h .spare (place .main), limits q w .methods, loops-within q w)
 
   requires-atoms :
       stageNumber (place .stage) ≡ 3 → withinLimits (placeAfter Requires place) ≡ true → atLeast (placeAfter Requires place) ≤ 256 →
-      p .atoms + 8 ≤ 2552
+      p .atoms + most-atoms ≤ most-atom-rows
   unfolding coded Places.opened Grammar.opened
   requires-atoms h w r =
-      omega (arith, x .staged .atoms, at-header (place .stage) h .spare (place .main), limits (placeAfter Requires place) w .methods, rw (x .staged .late (omega arith)) at r)
+      omega (arith, x .staged .atoms, at-header (place .stage) h .spare (place .main), limits (placeAfter Requires place) w .methods, loops-within (placeAfter Requires place) w, rw (x .staged .late (omega arith)) at r)
 
   ensures-atoms :
       stageNumber (place .stage) ≡ 4 → withinLimits (placeAfter Ensures place) ≡ true → atLeast (placeAfter Ensures place) ≤ 256 →
-      p .atoms + 8 ≤ 2552
+      p .atoms + most-atoms ≤ most-atom-rows
   unfolding coded Places.opened Grammar.opened
   ensures-atoms h w r =
-      omega (arith, x .staged .atoms, at-requires (place .stage) h .spare (place .main), limits (placeAfter Ensures place) w .methods, rw (x .staged .late (omega arith)) at r)
+      omega (arith, x .staged .atoms, at-requires (place .stage) h .spare (place .main), limits (placeAfter Ensures place) w .methods, loops-within (placeAfter Ensures place) w, rw (x .staged .late (omega arith)) at r)
 
   -- `end` has no atoms
   statement-atoms :
       (s : Statement) → let k = statement s in
       inPlace k place ≡ true → withinLimits (placeAfter k place) ≡ true → atLeast (placeAfter k place) ≤ 256 → hasAtoms k ≡ true →
-      p .atoms + 8 ≤ 2552
-  unfolding Places.opened Grammar.opened hasAtoms
+      p .atoms + atomLimit (kindNumber k) ≤ most-atom-rows
+  unfolding Places.opened Grammar.opened hasAtoms atomsAtMost
   statement-atoms s i w r e = go (isKind (statement End) (statement s)) refl
     where
-      go : (y : Bool) → isKind (statement End) (statement s) ≡ y → p .atoms + 8 ≤ 2552
+      pays : openLoops (place .branches) + atomLimit (kindNumber (statement s)) ≤ 8 + openLoops (branchesAfter (statement s) (place .branches))
+      pays = rw e at (loops-pay s place i)
+
+      go : (y : Bool) → isKind (statement End) (statement s) ≡ y → p .atoms + atomLimit (kindNumber (statement s)) ≤ most-atom-rows
       go true z = true-false (sym (ap hasAtoms (is-same (statement End) (statement s) (subst T (sym z) tt)) ∙ e))
       go false z =
-          body-atoms (placeAfter (statement s) place) (stage-from (statement s) place i) (statement-to s place i) refl refl
-          (ap (λ y. neededAt (cond y (cond (place .main) afterMain afterMethod) (nextStage s)) (place .main)) z ∙ next-inside s .0 .needed (place .main)) w r
+          body-atoms (placeAfter (statement s) place) (atomLimit (kindNumber (statement s))) (stage-from (statement s) place i) (statement-to s place i) refl refl
+          (ap (λ y. neededAt (cond y (cond (place .main) afterMain afterMethod) (nextStage s)) (place .main)) z ∙ next-inside s .0 .needed (place .main)) pays w r
 
   pub atoms-room :
       (k : Kind) → inPlace k place ≡ true → withinLimits (placeAfter k place) ≡ true → atLeast (placeAfter k place) ≤ 256 → hasAtoms k ≡ true →
-      p .atoms + most-atoms ≤ most-atom-rows
-  unfolding Places.opened Grammar.opened hasAtoms
+      p .atoms + atomLimit (kindNumber k) ≤ most-atom-rows
+  unfolding Places.opened Grammar.opened hasAtoms atomLimit
   atoms-room Class i w r e = true-false (sym e)
   atoms-room Field i w r e = true-false (sym e)
   atoms-room Method i w r e = true-false (sym e)

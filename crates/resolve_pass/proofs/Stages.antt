@@ -4,23 +4,27 @@ use mathlib.Core.Bool.{Bool, true, false, cond}
 use mathlib.Core.List.{List, [], _∷_}
 use Prim.Native.Nat.{ℕ, suc, _+_, _≤_}
 use native.Mathlib.Omega.{arith}
-use lib.Dec.{eqb}
-use borrow.Author.Tests.{eqb-true}
+use lib.Dec.{eqb, leb}
+use lib.ListN.{length}
+use borrow.Author.Tests.{eqb-true, leb-true}
 use Rattle.rules.specs.Base.{Name, ok, between}
 use Rattle.rules.specs.Answers.{accepted, refused, malformed, limitPassed, textEnds}
 use Rattle.rules.specs.Grammar as Grammar
 use Rattle.rules.specs.Grammar.{Kind, Statement, Stage, Line, form, stands, isKind, isClosingNumber, statementNumber, lastStage, nextStage}
-use Rattle.rules.specs.Grammar.{Class, Field, Method, Requires, Ensures, Main, Var, statement, Return, End}
+use Rattle.rules.specs.Grammar.{Class, Field, Method, Requires, Ensures, Main, Var, statement}
+use Rattle.rules.specs.Grammar.{Set, Let, New, Call, Return, Assert, Release, If, Else, Join, End, Add, Sub, Loop, Again}
 use Rattle.rules.specs.Grammar.{beginning, inClass, afterMethod, afterHeader, afterRequires, inLocals, inBody, afterReturn, afterMain}
 use Rattle.rules.specs.Places as Places
-use Rattle.rules.specs.Places.{Place, stageNumber, fits, inPlace, placeAfter, placeLine, withinLimits, ended, scanLines}
+use Rattle.rules.specs.Places.{Place, Branch, beforeElse, afterElse, inLoop, stageNumber, mayJoin, outer, fits, inPlace, branchesAfter, placeAfter, placeLine, withinLimits, ended, scanLines}
 use Rattle.rules.proofs.Lists.{T-true}
 use Rattle.rules.proofs.Tries.{ok-inj, check-ok, refused-accepted}
-use Rattle.read_bytes.proofs.Search.{both-true, between-true}
+use Rattle.read_bytes.proofs.Search.{both-true, true-false, between-true}
 use Rattle.read_grammar.specs.Coded.{coded}
+use Rattle.tables.specs.Layout.{atomLimit}
 use Rattle.read_scan.specs.Scans.{lineOf}
 use Rattle.read_grammar.proofs.Coded.{within-is, low, Low}
 use Rattle.read_scan.proofs.Scans.{first-taken}
+use Rattle.resolve_pass.specs.Passes.{hasAtoms, atomsAtMost}
 
 -- TABLES: m, where `main` is above
 
@@ -206,6 +210,67 @@ last-inside false = omega arith
 pub statement-to : (s : Statement) (p : Place) → inPlace (statement s) p ≡ true → stageNumber (p .stage) ≤ 7
 unfolding form stands lastStage
 statement-to s p i = omega (arith, stage-to (statement s) p i, last-inside (isClosingNumber (statementNumber s)))
+
+-- LOOPS THAT ARE OPEN
+abbrev pub openLoops : List Branch → ℕ
+openLoops [] = 0
+openLoops (beforeElse ∷ bs) = openLoops bs
+openLoops (afterElse ∷ bs) = openLoops bs
+openLoops (inLoop ∷ bs) = suc (openLoops bs)
+
+loops-few : (bs : List Branch) → openLoops bs ≤ length bs
+loops-few [] = omega arith
+loops-few (beforeElse ∷ bs) = omega (arith, loops-few bs)
+loops-few (afterElse ∷ bs) = omega (arith, loops-few bs)
+loops-few (inLoop ∷ bs) = omega (arith, loops-few bs)
+
+pub loops-within : (p : Place) → withinLimits p ≡ true → openLoops (p .branches) ≤ 4
+unfolding withinLimits
+loops-within p e =
+    let a = both-true (leb (p .classes) 16) _ e .1 in
+    let b = both-true (leb (p .fields) 8) _ a .1 in
+    let c = both-true (leb (p .methods) 64) _ b .1 in
+    let d = both-true (leb (p .locals) 12) _ c .1 in
+    let f = both-true (leb (p .statements) 256) (leb (length (p .branches)) 4) d .1 in
+    omega (arith, leb-true (length (p .branches)) 4 f, loops-few (p .branches))
+
+loops-outer : (bs : List Branch) → openLoops bs ≤ suc (openLoops (outer bs))
+unfolding outer
+loops-outer [] = omega arith
+loops-outer (beforeElse ∷ bs) = omega arith
+loops-outer (afterElse ∷ bs) = omega arith
+loops-outer (inLoop ∷ bs) = omega arith
+
+loops-joined : (bs : List Branch) → mayJoin bs ≡ true → openLoops bs ≡ openLoops (outer bs)
+unfolding mayJoin outer
+loops-joined [] e = true-false (sym e)
+loops-joined (beforeElse ∷ bs) e = true-false (sym e)
+loops-joined (afterElse ∷ bs) e = refl
+loops-joined (inLoop ∷ bs) e = true-false (sym e)
+
+-- a statement line pays for eight atoms, and a loop that is opened for one more
+pub loops-pay :
+    (s : Statement) (p : Place) → inPlace (statement s) p ≡ true →
+    openLoops (p .branches) + atomsAtMost (statement s) ≤ 8 + openLoops (branchesAfter (statement s) (p .branches))
+unfolding Places.opened Grammar.opened hasAtoms atomsAtMost atomLimit
+loops-pay Set p i = omega arith
+loops-pay Let p i = omega arith
+loops-pay New p i = omega arith
+loops-pay Call p i = omega arith
+loops-pay Return p i = omega arith
+loops-pay Assert p i = omega arith
+loops-pay Release p i = omega arith
+loops-pay If p i = omega arith
+loops-pay Else p i = omega (arith, loops-outer (p .branches))
+loops-pay Join p i =
+    let k : Kind = statement Join in
+    let f = both-true (between (stageNumber (form k .first)) (stageNumber (form k .last)) (stageNumber (p .stage))) (fits k p) i .1 in
+    omega (arith, loops-joined (p .branches) f)
+loops-pay End p i = omega arith
+loops-pay Add p i = omega arith
+loops-pay Sub p i = omega arith
+loops-pay Loop p i = omega arith
+loops-pay Again p i = omega (arith, loops-outer (p .branches))
 
 -- what a line that is placed shows
 pub record InPlace (k : Kind) (p q : Place) : Type 0 where

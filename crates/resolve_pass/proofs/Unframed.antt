@@ -6,7 +6,7 @@ use Prim.Native.Nat.{ℕ, zero, suc}
 use lib.Dec.{T, eqb, eqb·suc-zero}
 use Rattle.rules.specs.Base.{all}
 use Rattle.rules.specs.Answers.{Verdict, accepted, refused, unframed}
-use Rattle.rules.specs.Syntax.{Stmt, simple, return, if, else, join, end}
+use Rattle.rules.specs.Syntax.{Stmt, simple, return, if, else, join, loop, again, end}
 use Rattle.rules.specs.Grammar as Grammar
 use Rattle.rules.specs.Grammar.{Kind, Line}
 use Rattle.rules.specs.Scope.{Declarations, Variable}
@@ -15,17 +15,19 @@ use Rattle.rules.specs.Items.{Item, itemOf, aClass, aField, aMethod, aRequires,
 use Rattle.rules.specs.Reading.{framed, framedStmt, framedItem, checkFramed}
 use Rattle.rules.proofs.LineKinds.{every-kind}
 use Rattle.read_bytes.proofs.Search.{true-false}
-use Rattle.resolve_pass.specs.Passes.{isFramed, joinFormula, framedFormula, unframedAfter}
+use Rattle.resolve_pass.specs.Passes.{isFramed, statedFormula, framedFormula, unframedAfter}
 
 -- ONE LINE
 
-framed-statement : (s : Stmt) → framedStmt s ≡ framed [] (joinFormula s)
-unfolding framedStmt framed joinFormula
+framed-statement : (s : Stmt) → framedStmt s ≡ framed [] (statedFormula s)
+unfolding framedStmt framed statedFormula
 framed-statement (simple s) = refl
 framed-statement (return x) = refl
 framed-statement (if n a b) = refl
 framed-statement else = refl
 framed-statement (join φ) = refl
+framed-statement (loop n a b φ) = refl
+framed-statement again = refl
 framed-statement end = refl
 
 -- it is about the line's formula

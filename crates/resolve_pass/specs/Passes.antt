@@ -1,13 +1,13 @@
 -- Pass 2, line by line: what the tables mean so far, what the next line may ask, and what it leaves.
 use mathlib.Core.Path.{_≡_}
 use mathlib.Core.Bool.{Bool, true, false, not, cond, _&&_, _||_}
-use mathlib.Core.List.{List, [], map}
+use mathlib.Core.List.{List, [], _∷_, _++_, map}
 use Prim.Native.Nat.{ℕ, suc, pred, _+_, _-_, _≤_, _<_}
 use lib.Dec.{eqb}
 use lib.ListN.{length, getD, drop}
-use Rattle.rules.specs.Limits.{work-bytes, most-bytes, most-fields, most-locals, most-statements, most-atoms}
-use Rattle.rules.specs.Syntax.{Field, Formula, Stmt, simple, return, if, else, join, end}
-use Rattle.rules.specs.Grammar.{Kind, Line, statement, isKind, isStatement}
+use Rattle.rules.specs.Limits.{work-bytes, most-bytes, most-fields, most-locals, most-statements}
+use Rattle.rules.specs.Syntax.{Field, Formula, Stmt, cmp, simple, return, if, else, join, loop, again, end}
+use Rattle.rules.specs.Grammar.{Kind, Line, statement, isKind, isStatement, kindNumber}
 use Rattle.rules.specs.Grammar as Grammar
 use Rattle.rules.specs.Places.{oneMoreIf}
 use Rattle.rules.specs.Scope.{Declarations, Variable, Scope, operand, scopeAfter}
@@ -16,8 +16,8 @@ use Rattle.rules.specs.Items.{Item, itemOf, aClass, aField, aMethod, aRequires,
 use Rattle.rules.specs.Reading.{framedItem}
 use Rattle.read_fields.specs.Cuts.{more}
 use Rattle.read_grammar.specs.Rows.{kindNumbered}
-use Rattle.tables.specs.Layout.{most-atom-rows, names-at, lines-at}
-use Rattle.tables.specs.Decode.{atomsFrom}
+use Rattle.tables.specs.Layout.{most-atom-rows, atomLimit, names-at, lines-at}
+use Rattle.tables.specs.Decode.{framedFrom}
 use Rattle.tables.specs.Stores.{Kept}
 use Rattle.read_scopes.specs.declared.Names.{Names}
 use Rattle.read_scopes.specs.declared.Above.{Above}
@@ -81,12 +81,17 @@ seenBy k c =
       result = c .method && not (isKind Grammar.Requires k);
     }
 
--- `let` and `if` have one atom, a formula at most eight
+-- `let` and `if` have one atom, a formula at most eight, a `loop` one before it
 unfoldable pub hasAtoms : Kind → Bool
 hasAtoms k =
     (isKind Grammar.Requires k || isKind Grammar.Ensures k)
     || ((isKind (statement Grammar.Let) k || isKind (statement Grammar.If) k)
-    || (isKind (statement Grammar.Assert) k || (isKind (statement Grammar.Release) k || isKind (statement Grammar.Join) k)))
+    || (isKind (statement Grammar.Assert) k
+    || (isKind (statement Grammar.Release) k || (isKind (statement Grammar.Join) k || isKind (statement Grammar.Loop) k))))
+
+-- how many at most
+unfoldable pub atomsAtMost : Kind → ℕ
+atomsAtMost k = cond (hasAtoms k) (atomLimit (kindNumber k)) 0
 
 -- before the first line
 abbrev pub firstPass : Names → Pass
@@ -103,15 +108,18 @@ firstPass r =
 
 -- number 10 is about these
 unfoldable pub isFramed : Kind → Bool
-isFramed k = isKind Grammar.Requires k || (isKind Grammar.Ensures k || isKind (statement Grammar.Join) k)
+isFramed k =
+    isKind Grammar.Requires k || (isKind Grammar.Ensures k || (isKind (statement Grammar.Join) k || isKind (statement Grammar.Loop) k))
 
-unfoldable pub joinFormula : Stmt → Formula ℕ
-joinFormula (simple s) = []
-joinFormula (return x) = []
-joinFormula (if n a b) = []
-joinFormula else = []
-joinFormula (join φ) = φ
-joinFormula end = []
+unfoldable pub statedFormula : Stmt → Formula ℕ
+statedFormula (simple s) = []
+statedFormula (return x) = []
+statedFormula (if n a b) = []
+statedFormula else = []
+statedFormula (join φ) = φ
+statedFormula (loop n a b φ) = φ ++ (cmp n a b ∷ [])
+statedFormula again = []
+statedFormula end = []
 
 -- the formula that it is about
 unfoldable pub framedFormula : Item → Formula ℕ
@@ -122,7 +130,7 @@ framedFormula (aRequires φ) = φ
 framedFormula (anEnsures φ) = φ
 framedFormula aMain = []
 framedFormula (aLocal x) = []
-framedFormula (aStatement s) = joinFormula s
+framedFormula (aStatement s) = statedFormula s
 
 -- THE LINES ABOVE: t is the text, w the work area
 
@@ -168,7 +176,7 @@ module _ (t w : List ℕ) (p : Pass) (l : Line) where
   pub record LineRoom : Type 0 where
     pub line : p .line < most-bytes
     pub rows : isStatement (l .kind) ≡ true → p .rows < most-statements
-    pub atoms : hasAtoms (l .kind) ≡ true → p .atoms + most-atoms ≤ most-atom-rows
+    pub atoms : hasAtoms (l .kind) ≡ true → p .atoms + atomLimit (kindNumber (l .kind)) ≤ most-atom-rows
     pub class :
         l .kind ≡ Grammar.Class →
         (p .above .classes < p .names .classes) × (entryAt t w (classes-first + p .above .classes) .name ≡ operand l 0)
@@ -194,7 +202,8 @@ pub record Counts (p : Pass) (k : Kind) (q : Pass) : Type 0 where
   pub above : q .above ≡ aboveAfter k (p .above)
   pub rows : q .rows ≡ oneMoreIf (isStatement k) (p .rows)
   pub grown : p .atoms ≤ q .atoms
-  pub atoms : q .atoms ≤ p .atoms + cond (hasAtoms k) most-atoms 0
+  pub atoms : q .atoms ≤ p .atoms + atomsAtMost k
+  pub condition : k ≡ statement Grammar.Loop → p .atoms < q .atoms
   pub main : q .main ≡ cond (isKind Grammar.Main k) (p .rows) (p .main)
   pub line : q .line ≡ p .line + 1
 
@@ -204,7 +213,7 @@ pub record LinePut (t w : List ℕ) (p : Pass) (l : Line) (w′ : List ℕ) (q :
   pub built : (F : Program) → Stands t w p F → Stands t w′ q (withItem F (suc (p .line)) (item t w p l))
   pub formula :
       isFramed (l .kind) ≡ true → (F : Program) → Stands t w p F →
-      atomsFrom w′ (p .atoms) (q .atoms - p .atoms) ≡ framedFormula (item t w p l)
+      framedFrom w′ (kindNumber (l .kind)) (p .atoms) (q .atoms - p .atoms) ≡ framedFormula (item t w p l)
   pub declared : declarationsIn t w′ (q .names) ≡ declarationsIn t w (p .names)
   pub scope : scopeIn t w′ (q .names) (q .above) ≡ scopeAfter (scopeIn t w (p .names) (p .above)) l
   pub lines : Kept lines-at work-bytes w w′

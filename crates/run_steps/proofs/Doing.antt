@@ -23,7 +23,7 @@ use Rattle.run_heap.specs.declared.Fault.{Fault}
 use Rattle.run_steps.specs.declared.Turn.{Turn}
 use Rattle.run_heap.specs.Views.{frameAt, variableAt, spot, readIn, viewOf, stopOf, Readable, frame-holder}
 use Rattle.run_footprint.specs.Footprints.{testIn, takeIn, marked, SmallCells}
-use Rattle.run_steps.specs.States.{Represents, Follows, Does, CanStep, NotEnd, AtKind, stepped, set-kind, let-kind, if-kind, else-kind, setHere, letHere, computeHere, assertHere, releaseHere, ifHere, elseHere}
+use Rattle.run_steps.specs.States.{Represents, Follows, Does, CanStep, NotEnd, AtKind, Chooses, Jumps, stepped, set-kind, let-kind, if-kind, loop-kind, setHere, letHere, computeHere, assertHere, releaseHere, ifOn, loopHere, jumpHere}
 use Rattle.run_heap.proofs.Reading.{spot-small}
 use Rattle.run_steps.proofs.Seeing.{ok-footprint}
 use Rattle.run_footprint.proofs.Regions.{only-word, only-tables, only-marked}
@@ -107,33 +107,38 @@ module _ {w : List ℕ} {c : Machine} (ready : CanStep w c) where
       Does w c w (Turn.Stopped s) (releaseHere w c)
   release-stops s e = does-stop s (λ m R. Steps.release-stop R _ s (Moves.row-formula-ok R) e)
 
-  -- BRANCHES
-  pub else-does :
-      {d : Machine} → AtKind w c else-kind → d ≡ stepped c (targetAt w (c .row)) →
-      Does w c w (Turn.On d) (elseHere w)
-  else-does k q = does-on refl q (same-refl w) (λ m R. Moves.else-on R k)
+  -- BRANCHES AND LOOPS
+  pub jump-does : {d : Machine} → Jumps w c → d ≡ stepped c (targetAt w (c .row)) → Does w c w (Turn.On d) (jumpHere w c)
+  jump-does k q = does-on refl q (same-refl w) (λ m R. Moves.jump-on R k)
 
   pub if-atom : AtKind w c if-kind → firstAtomAt w (c .row) < atomCount w
   if-atom k = omega (arith, fits .atoms .1, fits .one-atom (inr k))
 
-  module _ (k : AtKind w c if-kind) (v : View) (a : ℕ) (ev : v ≡ viewOf c) (ea : a ≡ firstAtomAt w (c .row)) where
-    pub if-holds :
-        {d : Machine} → testIn w v a ≡ ok true → d ≡ stepped c (c .row + 1) →
-        Does w c w (Turn.On d)
-        (ifHere w c)
-    if-holds e q = does-on refl q (same-refl w) (λ m R. Moves.if-true R (firstAtomAt w (c .row)) (if-atom k) k (rw (← ev, ← ea) e))
+  module _ (k : Chooses w c) (v : View) (a : ℕ) (l : a < atomCount w) (ev : v ≡ viewOf c) where
+    pub if-holds : {d : Machine} → testIn w v a ≡ ok true → d ≡ stepped c (c .row + 1) → Does w c w (Turn.On d) (ifOn w a)
+    if-holds e q = does-on refl q (same-refl w) (λ m R. Moves.if-true R a l k (rw (← ev) e))
 
-    pub if-fails :
-        {d : Machine} → testIn w v a ≡ ok false → d ≡ stepped c (targetAt w (c .row)) →
-        Does w c w (Turn.On d)
-        (ifHere w c)
-    if-fails e q = does-on refl q (same-refl w) (λ m R. Moves.if-false R (firstAtomAt w (c .row)) (if-atom k) k (rw (← ev, ← ea) e))
+    pub if-fails : {d : Machine} → testIn w v a ≡ ok false → d ≡ stepped c (targetAt w (c .row)) → Does w c w (Turn.On d) (ifOn w a)
+    if-fails e q = does-on refl q (same-refl w) (λ m R. Moves.if-false R a l k (rw (← ev) e))
 
-    pub if-stops :
-        (s : Fault) → testIn w v a ≡ no (stopOf s) →
-        Does w c w (Turn.Stopped s)
-        (ifHere w c)
-    if-stops s e = does-stop s (λ m R. Moves.if-stop R (firstAtomAt w (c .row)) (if-atom k) s (rw (← ev, ← ea) e))
+    pub if-stops : (s : Fault) → testIn w v a ≡ no (stopOf s) → Does w c w (Turn.Stopped s) (ifOn w a)
+    if-stops s e = does-stop s (λ m R. Moves.if-stop R a l s (rw (← ev) e))
+
+  -- the condition of a loop is the atom before its invariant
+  pub loop-atom : AtKind w c loop-kind → (1 ≤ firstAtomAt w (c .row)) × (firstAtomAt w (c .row) - 1 < atomCount w)
+  loop-atom k = let l = fits .condition k in (l, omega (arith, l, fits .atoms .1))
+
+  pub loop-does :
+      (ks : List ℕ) {r : Turn} → takeIn w (viewOf c) (formulaAt w (c .row)) [] ≡ ok ks → (a : ℕ) → a ≡ firstAtomAt w (c .row) - 1 →
+      Does w c w r (ifOn w a) → Does w c w r (loopHere w c)
+  loop-does ks {r} e a ea D =
+      record {
+        tables = D .tables;
+        follows = λ m R. subst (Follows w c r m) (rw ea (sym (Moves.loop-is R _ ks e))) (D .follows m R);
+      }
+
+  pub loop-stops : (s : Fault) → takeIn w (viewOf c) (formulaAt w (c .row)) [] ≡ no (stopOf s) → Does w c w (Turn.Stopped s) (loopHere w c)
+  loop-stops s e = does-stop s (λ m R. Moves.loop-stop R _ s e)
 
   -- VARIABLES
   pub let-atom : AtKind w c let-kind → firstAtomAt w (c .row) < atomCount w

@@ -1,5 +1,5 @@
 -- Steps that change no more than the row, a variable, a value or holders of the running frame.
-use mathlib.Core.Path.{_≡_, refl, sym, ap, _∙_}
+use mathlib.Core.Path.{_≡_, refl, sym, ap, _∙_, subst}
 use mathlib.Core.Bool.{true, false, cond}
 use mathlib.Core.List.{List, [], _∷_}
 use mathlib.Core.Logic.{inl, inr, ⊎-elim}
@@ -11,17 +11,17 @@ use Rattle.rules.specs.Limits.{heap-fields}
 use Rattle.rules.specs.Base.{Try, ok, no, _>>=_, update}
 use Rattle.rules.specs.Answers.{Stop}
 use Rattle.rules.specs.Syntax.{Formula}
-use Rattle.rules.specs.Machine.{Frame, Location, Config, on, took, holds, valueOf, value, compared, closing, jump, advance, bind, withFrame, choose, ifStep, elseStep, assertStep}
+use Rattle.rules.specs.Machine.{Frame, Location, Config, on, took, holds, valueOf, value, compared, closing, loopOf, jump, advance, bind, withFrame, choose, ifStep, elseStep, loopStep, againStep, assertStep}
 use Rattle.rules.specs.declared.Machine.{Machine}
 use Rattle.rules.proofs.Lists.{update-same, update-other, decide-eq}
 use Rattle.tables.specs.Layout.{frame-variables}
 use Rattle.tables.specs.Decode.{byteAt, allRows, rowCount, kindAt, targetAt, formulaAt, atomCount, leftAt, rightAt, relOf, atomPlace}
-use Rattle.tables.specs.Tables.{RowFits}
+use Rattle.tables.specs.Tables.{RowFits, HasTarget}
 use Rattle.run_heap.specs.declared.Fault.{Fault}
 use Rattle.run_steps.specs.declared.Turn.{Turn}
 use Rattle.run_heap.specs.Views.{frameAt, variableAt, holderOf, viewOf, readIn, stopOf, ObjectFits, Readable}
 use Rattle.run_footprint.specs.Footprints.{rightTest, testIn, takeIn}
-use Rattle.run_steps.specs.States.{FrameIs, Represents, Follows, atRow, stepped, if-kind, else-kind, NotEnd, ifOn}
+use Rattle.run_steps.specs.States.{FrameIs, Represents, Follows, atRow, stepped, else-kind, again-kind, NotEnd, AtKind, Chooses, Jumps, ifOn, loopOn, jumpHere}
 use Rattle.run_heap.proofs.Reading.{cell-small}
 use Rattle.run_steps.proofs.Seeing.{Sees, FormulaOk, cells-apart, value-is, no-footprint, ok-footprint, atoms-ok}
 
@@ -174,19 +174,32 @@ module _ {w : List ℕ} {c : Machine} {m : Config} (R : Represents w c m) where
       let (A, a, M) = ok-footprint sees φ ks l e in
       follow-on _ _ _ (rw a) refl (moved-on n)
 
-  -- BRANCHES
-  pub else-on :
-      kindAt w (c .row) ≡ else-kind → Follows w c (Turn.On (stepped c (targetAt w (c .row)))) m (on (elseStep (allRows w) m))
+  -- BRANCHES AND LOOPS
+  goes-to :
+      (i : ℕ) → HasTarget (kindAt w (c .row)) → i ≡ targetAt w (c .row) →
+      Follows w c (Turn.On (stepped c (targetAt w (c .row)))) m (on (withFrame m (jump i (m .frame))))
+  goes-to i t e = record { next = withFrame m (jump i (m .frame)); is-next = refl; represents = moved (targetAt w (c .row)) i (row-fits .follows .target t) e; counted = refl }
+
+  else-on : AtKind w c else-kind → Follows w c (Turn.On (stepped c (targetAt w (c .row)))) m (on (elseStep (allRows w) m))
   unfolding elseStep
-  else-on e =
-      record {
-        next = withFrame m (jump (closing (allRows w) (m .frame .row)) (m .frame));
-        is-next = refl;
-        represents =
-            moved (targetAt w (c .row)) _ (row-fits .follows .target (inr e))
-            (ap (closing (allRows w)) (R .frame .row-is) ∙ sym (row-fits .follows .to-join e));
-        counted = refl;
-      }
+  else-on k = goes-to _ (inr (inl k)) (ap (closing (allRows w)) (R .frame .row-is) ∙ sym (row-fits .follows .to-join k))
+
+  again-on : AtKind w c again-kind → Follows w c (Turn.On (stepped c (targetAt w (c .row)))) m (on (againStep (allRows w) m))
+  unfolding againStep
+  again-on k = goes-to _ (inr (inr (inr k))) (ap (loopOf (allRows w)) (R .frame .row-is) ∙ sym (row-fits .follows .to-loop k))
+
+  pub jump-on : Jumps w c → Follows w c (Turn.On (stepped c (targetAt w (c .row)))) m (jumpHere w c m)
+  jump-on (inl k) = subst (λ n. Follows w c (Turn.On (stepped c (targetAt w (c .row)))) m (on (cond (eqb n else-kind) (elseStep (allRows w) m) (againStep (allRows w) m)))) (sym k) (else-on k)
+  jump-on (inr k) = subst (λ n. Follows w c (Turn.On (stepped c (targetAt w (c .row)))) m (on (cond (eqb n else-kind) (elseStep (allRows w) m) (againStep (allRows w) m)))) (sym k) (again-on k)
+
+  -- where the condition fails
+  other-row : Chooses w c → (targetAt w (c .row) < rowCount w) × (targetAt w (c .row) ≡ suc (closing (allRows w) (c .row)))
+  other-row (inl k) = (row-fits .follows .target (inl k), row-fits .follows .after-else k)
+  other-row (inr k) = (row-fits .follows .target (inr (inr (inl k))), row-fits .follows .after-again k)
+
+  not-end : Chooses w c → NotEnd w c
+  not-end (inl k) z = omega (arith, k, z)
+  not-end (inr k) z = omega (arith, k, z)
 
   module _ (a : ℕ) (fits : a < atomCount w) where
     if-is :
@@ -213,16 +226,25 @@ module _ {w : List ℕ} {c : Machine} {m : Config} (R : Represents w c m) where
     if-stop f e = follow-stop f _ (if-is ∙ rw e)
 
     pub if-true :
-        kindAt w (c .row) ≡ if-kind → testIn w (viewOf c) a ≡ ok true →
-        Follows w c (Turn.On (stepped c (c .row + 1))) m (ifOn w a m)
+        Chooses w c → testIn w (viewOf c) a ≡ ok true → Follows w c (Turn.On (stepped c (c .row + 1))) m (ifOn w a m)
     unfolding _>>=_
-    if-true k e = follow-on _ _ _ (if-is ∙ rw e) refl (moved (c .row + 1) _ (next-fits (λ z. omega (arith, k, z))) next-is)
+    if-true k e = follow-on _ _ _ (if-is ∙ rw e) refl (moved (c .row + 1) _ (next-fits (not-end k)) next-is)
 
     pub if-false :
-        kindAt w (c .row) ≡ if-kind → testIn w (viewOf c) a ≡ ok false →
-        Follows w c (Turn.On (stepped c (targetAt w (c .row)))) m (ifOn w a m)
+        Chooses w c → testIn w (viewOf c) a ≡ ok false → Follows w c (Turn.On (stepped c (targetAt w (c .row)))) m (ifOn w a m)
     unfolding _>>=_
     if-false k e =
+        let (l, t) = other-row k in
         follow-on _ _ _ (if-is ∙ rw e) refl
-        (moved (targetAt w (c .row)) _ (row-fits .follows .target (inl k))
-        (ap (λ (i : ℕ). suc (closing (allRows w) i)) (R .frame .row-is) ∙ sym (row-fits .follows .after-else k)))
+        (moved (targetAt w (c .row)) _ l (ap (λ (i : ℕ). suc (closing (allRows w) i)) (R .frame .row-is) ∙ sym t))
+
+  -- the invariant of a loop, and then its condition
+  pub loop-stop :
+      (a : ℕ) (f : Fault) → takeIn w (viewOf c) (formulaAt w (c .row)) [] ≡ no (stopOf f) → Follows w c (Turn.Stopped f) m (loopOn w a c m)
+  unfolding loopStep _>>=_
+  loop-stop a f e = follow-stop f _ (rw (no-footprint sees _ (stopOf f) row-formula-ok e))
+
+  pub loop-is :
+      (a : ℕ) (ks : List ℕ) → takeIn w (viewOf c) (formulaAt w (c .row)) [] ≡ ok ks → loopOn w a c m ≡ ifOn w a m
+  unfolding loopStep _>>=_
+  loop-is a ks e = let (A, f, M) = ok-footprint sees _ ks row-formula-ok e in rw f

@@ -1,15 +1,16 @@
 -- Which state of the definitions the stores and the counters stand for, and what a step of the code does.
 use mathlib.Core.Path.{_≡_}
+use mathlib.Core.Bool.{cond}
 use mathlib.Core.List.{List, [], _∷_}
 use mathlib.Core.Logic.{_⊎_}
 use mathlib.Core.Option.{some}
-use Prim.Native.Nat.{ℕ, suc, _+_, _*_, _≤_, _<_}
+use Prim.Native.Nat.{ℕ, suc, _+_, _-_, _*_, _≤_, _<_}
 use lib.Dec.{T, eqb}
 use lib.ListN.{length}
 use Rattle.rules.specs.Limits.{heap-objects, heap-fields, most-frames}
 use Rattle.rules.specs.Base.{any}
 use Rattle.rules.specs.Machine.{Heap, Frame, Location, Config, Step, fieldsOf, valueAt, object, valueOf, holds, on, stop, done, took}
-use Rattle.rules.specs.Machine.{setStep, assignStep, computeStep, assertStep, releaseStep, ifStep, elseStep}
+use Rattle.rules.specs.Machine.{setStep, assignStep, computeStep, assertStep, releaseStep, ifStep, elseStep, loopStep, againStep}
 use Rattle.rules.specs.declared.Machine.{Machine}
 use Rattle.tables.specs.Layout.{frame-variables}
 use Rattle.tables.specs.Decode.{rowCount, operationOf, kindAt, xAt, yAt, zAt, memberAt, firstAtomAt, formulaAt, atomPlace, byteAt, relOf, leftAt, rightAt, allRows, methodCount, ensuresAt, fieldCountAt}
@@ -51,6 +52,12 @@ join-kind = 17
 
 abbrev pub end-kind : ℕ
 end-kind = 18
+
+abbrev pub loop-kind : ℕ
+loop-kind = 21
+
+abbrev pub again-kind : ℕ
+again-kind = 22
 
 -- so many objects with so many fields stand for the heap; no cell is held by a number above `holders`
 pub record HeapIs (w : List ℕ) (objects fields holders : ℕ) (h : Heap) : Type 0 where
@@ -153,6 +160,13 @@ NotEnd w c = kindAt w (c .row) ≡ end-kind → ⊥
 abbrev pub AtKind : List ℕ → Machine → ℕ → Type 0
 AtKind w c k = kindAt w (c .row) ≡ k
 
+-- it goes on by a condition, or to its target alone
+abbrev pub Chooses : List ℕ → Machine → Type 0
+Chooses w c = AtKind w c if-kind ⊎ AtKind w c loop-kind
+
+abbrev pub Jumps : List ℕ → Machine → Type 0
+Jumps w c = AtKind w c else-kind ⊎ AtKind w c again-kind
+
 -- WHAT THE DEFINITIONS DO at the row, by its operands
 
 abbrev pub setHere : List ℕ → Machine → Config → Step
@@ -177,5 +191,13 @@ ifOn w a m = took (ifStep (allRows w) (relOf (byteAt w (atomPlace a))) (leftAt w
 abbrev pub ifHere : List ℕ → Machine → Config → Step
 ifHere w c = ifOn w (firstAtomAt w (c .row))
 
-abbrev pub elseHere : List ℕ → Config → Step
-elseHere w m = on (elseStep (allRows w) m)
+-- a: its condition
+abbrev pub loopOn : List ℕ → ℕ → Machine → Config → Step
+loopOn w a c m =
+    took (loopStep (allRows w) (relOf (byteAt w (atomPlace a))) (leftAt w a) (rightAt w a) (formulaAt w (c .row)) m)
+
+abbrev pub loopHere : List ℕ → Machine → Config → Step
+loopHere w c = loopOn w (firstAtomAt w (c .row) - 1) c
+
+abbrev pub jumpHere : List ℕ → Machine → Config → Step
+jumpHere w c m = on (cond (eqb (kindAt w (c .row)) else-kind) (elseStep (allRows w) m) (againStep (allRows w) m))

@@ -14,8 +14,8 @@ ghost use Prim.Native.Nat.{_+_, _*_, _<_};
 ghost use lib.Dec.{T};
 ghost use lib.ListN.{length};
 ghost use Rattle.rules.specs.Grammar.{isComputing};
-ghost use Rattle.tables.specs.Decode.{kindAt, formulaAt};
-ghost use Rattle.run_steps.specs.States.{CanStep, NotEnd, AtKind, Does, stepped, set-kind, let-kind, if-kind, else-kind, setHere, letHere, computeHere, assertHere, releaseHere, ifHere, elseHere};
+ghost use Rattle.tables.specs.Decode.{kindAt, formulaAt, atomCount};
+ghost use Rattle.run_steps.specs.States.{CanStep, NotEnd, AtKind, Chooses, Jumps, Does, stepped, set-kind, let-kind, if-kind, loop-kind, setHere, letHere, computeHere, assertHere, releaseHere, ifOn, ifHere, loopHere, jumpHere};
 ghost use Rattle.run_heap.specs.Views.{viewOf};
 ghost use Rattle.run_footprint.specs.Footprints.{takeIn, footprint-cells, TookUpTo};
 
@@ -81,13 +81,12 @@ pub fn release_step(work: &mut [u8], c: Machine) -> Turn
     }
 }
 
-// `if`: "a false `if` goes to the line after its `else`".
-pub fn if_step(work: &[u8], c: Machine) -> Turn
-    requires { ⌜ CanStep (now work) c × AtKind (now work) c if-kind ⌝ }
-    ensures { λ r. ⌜ Does (now (work .entry)) c (now (work .entry)) r (ifHere (now (work .entry)) c) ⌝ }
+// On to the next row where the condition, the atom a, holds, and else to the row's target.
+fn choose(work: &[u8], c: Machine, a: usize) -> Turn
+    requires { ⌜ CanStep (now work) c × Chooses (now work) c × (a < atomCount (now work)) ⌝ }
+    ensures { λ r. ⌜ Does (now (work .entry)) c (now (work .entry)) r (ifOn (now (work .entry)) a) ⌝ }
 {
     let row = c.row as usize;
-    let a = tables::first_atom_at(work, row);
     match run_footprint::condition(work, run_heap::view_of(c), a) {
         Truth::Holds => Turn::On(next(c, c.row + 1)),
         Truth::Fails => Turn::On(next(c, tables::target_at(work, row) as u32)),
@@ -95,10 +94,32 @@ pub fn if_step(work: &[u8], c: Machine) -> Turn
     }
 }
 
-// `else`: "on to its `join`".
-pub fn else_step(work: &[u8], c: Machine) -> Turn
-    requires { ⌜ CanStep (now work) c × AtKind (now work) c else-kind ⌝ }
-    ensures { λ r. ⌜ Does (now (work .entry)) c (now (work .entry)) r (elseHere (now (work .entry))) ⌝ }
+// `if`: "a false `if` goes to the line after its `else`".
+pub fn if_step(work: &[u8], c: Machine) -> Turn
+    requires { ⌜ CanStep (now work) c × AtKind (now work) c if-kind ⌝ }
+    ensures { λ r. ⌜ Does (now (work .entry)) c (now (work .entry)) r (ifHere (now (work .entry)) c) ⌝ }
+{
+    let row = c.row as usize;
+    choose(work, c, tables::first_atom_at(work, row))
+}
+
+// `loop`: "tests the invariant, then the condition", which is the atom before it, "and if that is false goes on after `again`".
+pub fn loop_step(work: &[u8], c: Machine) -> Turn
+    requires { ⌜ CanStep (now work) c × AtKind (now work) c loop-kind ⌝ }
+    ensures { λ r. ⌜ Does (now (work .entry)) c (now (work .entry)) r (loopHere (now (work .entry)) c) ⌝ }
+{
+    let row = c.row as usize;
+    let mut cells = [0usize; run_footprint::CELLS];
+    match row_footprint(work, c, &mut cells) {
+        Took::Cells(_) => choose(work, c, tables::first_atom_at(work, row) - 1),
+        Took::Lacking(s) => Turn::Stopped(s),
+    }
+}
+
+// `else`, "on to its `join`", and `again`, "a step back to" its `loop`.
+pub fn jump_step(work: &[u8], c: Machine) -> Turn
+    requires { ⌜ CanStep (now work) c × Jumps (now work) c ⌝ }
+    ensures { λ r. ⌜ Does (now (work .entry)) c (now (work .entry)) r (jumpHere (now (work .entry)) c) ⌝ }
 {
     let row = c.row as usize;
     Turn::On(next(c, tables::target_at(work, row) as u32))

@@ -1,6 +1,6 @@
 -- What the tables mean: the program that a work area holds.
 use mathlib.Core.Bool.{cond, not}
-use mathlib.Core.List.{List, [], _∷_}
+use mathlib.Core.List.{List, [], _∷_, _++_}
 use Prim.Native.Nat.{ℕ, zero, suc, _+_, _-_, _*_}
 use lib.Dec.{eqb}
 use lib.ListN.{getD}
@@ -57,6 +57,11 @@ atomAt w i =
 -- n atoms from atom i on
 abbrev pub atomsFrom : List ℕ → ℕ → ℕ → Formula ℕ
 atomsFrom w i n = run (atomAt w) i n
+
+-- the n atoms of a line of the kind k, from atom i on, in the order of number 10: the condition of a `loop` (21) is the first of them, and
+-- comes last
+unfoldable pub framedFrom : List ℕ → ℕ → ℕ → ℕ → Formula ℕ
+framedFrom w k i n = cond (eqb k 21) (atomsFrom w (i + 1) (n - 1) ++ (atomAt w i ∷ [])) (atomsFrom w i n)
 
 -- STATEMENT ROWS: kind, x, y, z, member (field, class or method), count of atoms (a byte each); first atom, line, target (2 bytes each).
 -- `let x e` has e as the right side of its atom, `if` its condition as its atom. The atoms of `loop` are those of its invariant; the atom

@@ -1,5 +1,8 @@
 -- Where each table stands in the work area, and how large it can get.
+use mathlib.Core.Bool.{cond}
 use Prim.Native.Nat.{ℕ}
+use lib.Dec.{eqb}
+use Rattle.rules.specs.Limits.{most-atoms}
 
 -- THE LARGEST TABLES
 
@@ -9,6 +12,14 @@ use Prim.Native.Nat.{ℕ}
 -- open, at most 4.
 abbrev pub most-atom-rows : ℕ
 most-atom-rows = 2556
+
+-- of one line: "a condition atom (`eq` or `ne`) and then the atoms of an invariant, at most 8"
+abbrev pub most-line-atoms : ℕ
+most-line-atoms = 9
+
+-- by the number of its kind, 21 being `loop`
+unfoldable pub atomLimit : ℕ → ℕ
+atomLimit k = cond (eqb k 21) most-line-atoms most-atoms
 
 -- the names of all fields
 abbrev pub most-names : ℕ

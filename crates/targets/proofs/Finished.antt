@@ -1,6 +1,6 @@
 -- The tables of a read text, once they are ended, are tables for the checker and the machine, and mean its program.
 use mathlib.Core.Path.{_≡_, sym, ap, _∙_, subst}
-use mathlib.Core.Bool.{Bool, true, false, cond}
+use mathlib.Core.Bool.{Bool, true, false, cond, _||_}
 use mathlib.Core.List.{List, [], _∷_}
 use mathlib.Core.Logic.{_⊎_, inl, inr, ⊎-elim}
 use Prim.Native.Nat.{ℕ, zero, suc, _+_, _/_, _%_, _≤_, _<_}
@@ -18,12 +18,12 @@ use Rattle.rules.specs.Syntax.{Method}
 use Rattle.nesting.specs.Nests.{rowsNest}
 use Rattle.nesting.proofs.ReadOrder.{BodiesNest, read-nests, read-blocks}
 use Rattle.tables.specs.Decode.{rowPlace, kindAt, operandsAt, stmtAt, rowAt, rowsFrom, firstRowAt, allRows, targetAt, rowCount, methodCount, mainFirst, programIn, methodAt, methodsFrom}
-use Rattle.tables.specs.Tables.{Declared, TargetFits, Tables, BlockFits, nested}
+use Rattle.tables.specs.Tables.{Declared, HasTarget, TargetFits, Tables, BlockFits, nested}
 use Rattle.tables.specs.Stores.{putHalf, Kept}
 use Rattle.tables.proofs.Bytes.{half-kept}
 use Rattle.tables.proofs.Runs.{run-get}
 use Rattle.tables.proofs.Statements.{not-end}
-use Rattle.targets.specs.Targets.{pushed, popped, replaced, openAfter, putTarget, workAfter, targetsFrom}
+use Rattle.targets.specs.Targets.{pushed, popped, replaced, openAfter, putTarget, closed, workAfter, targetsFrom}
 use Rattle.write_rows.specs.Puts as Puts
 use Rattle.write_rows.specs.Puts.{putBytes}
 use Rattle.write_rows.specs.Holds.{Holds, Finished}
@@ -40,28 +40,31 @@ abbrev Small : List ℕ → Type 0
 Small [] = Unit {0}
 Small (i ∷ st) = (i < 256) × Small st
 
-same-put : (w : List ℕ) (t v : ℕ) → Puts.putTarget w t v ≡ putHalf w (rowPlace t + 10) v
-unfolding Puts.putTarget putBytes putHalf
+same-put : (w : List ℕ) (t v : ℕ) → Puts.putTarget w t v ≡ putTarget w t v
+unfolding Puts.putTarget putBytes putTarget putHalf
 same-put w t v = ap (λ (j : ℕ). set (set w (rowPlace t + 10) (v % 256)) j (v / 256)) (sym (add-one (rowPlace t + 10)))
 
 module _ (D : Declared) (F : Program) (n : ℕ) where
-  put-holds : (w : List ℕ) (st : List ℕ) (v : ℕ) → Small st → Holds D w F n → Holds D (putTarget w st v) F n
-  unfolding putTarget
-  put-holds w [] v s h = h
-  put-holds w (t ∷ st) v s h = subst (λ (u : List ℕ). Holds D u F n) (same-put w t v) (target-written D w F n t v (s .0) h)
+  put-holds : (w : List ℕ) (t v : ℕ) → t < 256 → Holds D w F n → Holds D (putTarget w t v) F n
+  put-holds w t v l h = subst (λ (u : List ℕ). Holds D u F n) (same-put w t v) (target-written D w F n t v l h)
 
-  work-holds : (w : List ℕ) (k i : ℕ) (st : List ℕ) → Small st → Holds D w F n → Holds D (workAfter w k i st) F n
-  unfolding workAfter
-  work-holds w k i st s h = go (eqb k 16) (eqb k 17)
+  work-holds : (w : List ℕ) (k i : ℕ) (st : List ℕ) → i < 256 → Small st → Holds D w F n → Holds D (workAfter w k i st) F n
+  unfolding workAfter closed
+  work-holds w k i [] l s h = h
+  work-holds w k i (t ∷ st) l s h = go (eqb k 16) (eqb k 17) (eqb k 22)
     where
-      go : (a b : Bool) → Holds D (cond a (putTarget w st (i + 1)) (cond b (putTarget w st i) w)) F n
-      go true b = put-holds w st (i + 1) s h
-      go false true = put-holds w st i s h
-      go false false = h
+      past : Holds D (putTarget w t (i + 1)) F n
+      past = put-holds w t (i + 1) (s .0) h
+
+      go : (a b c : Bool) → Holds D (cond a (putTarget w t (i + 1)) (cond b (putTarget w t i) (cond c (putTarget (putTarget w t (i + 1)) i t) w))) F n
+      go true b c = past
+      go false true c = put-holds w t i (s .0) h
+      go false false true = put-holds (putTarget w t (i + 1)) i t l past
+      go false false false = h
 
   open-small : (k i : ℕ) (st : List ℕ) → i < 256 → Small st → Small (openAfter k i st)
   unfolding openAfter pushed popped replaced
-  open-small k i st l s = go (eqb k 15) (eqb k 16) (eqb k 17) (ltb (length st) 4) st s
+  open-small k i st l s = go (eqb k 15 || eqb k 21) (eqb k 16) (eqb k 17 || eqb k 22) (ltb (length st) 4) st s
     where
       go :
           (a b c d : Bool) (st : List ℕ) → Small st →
@@ -78,7 +81,8 @@ module _ (D : Declared) (F : Program) (n : ℕ) where
   unfolding targetsFrom
   targets-hold zero w i st l s h = h
   targets-hold (suc m) w i st l s h =
-      targets-hold m _ (suc i) _ (omega (arith, l)) (open-small (kindAt w i) i st (omega (arith, l)) s) (work-holds w (kindAt w i) i st s h)
+      targets-hold m _ (suc i) _ (omega (arith, l)) (open-small (kindAt w i) i st (omega (arith, l)) s)
+      (work-holds w (kindAt w i) i st (omega (arith, l)) s h)
 
 -- LISTS READ AT A PLACE
 noneMethod : Method
@@ -181,12 +185,20 @@ module _ (t : List ℕ) (items : List Item) (read : readText t ≡ accepted item
         let g = target-is i l in
         let X = right i l in
         record {
-          target = λ o. ⊎-elim (λ e. omega (arith, X .after-else (sym k ∙ e) .0, g, counted)) (λ e. omega (arith, X .to-join (sym k ∙ e) .0, g, counted)) o;
-          after-else = λ e. rw (all-are, g) (X .after-else (sym k ∙ e) .1);
+          target = λ o. goes (subst HasTarget k o) X g;
+          after-else = λ e. rw (all-are, g) (X .past (inl (sym k ∙ e)) .1);
           to-join = λ e. rw (all-are, g) (X .to-join (sym k ∙ e) .1);
+          after-again = λ e. rw (all-are, g) (X .past (inr (sym k ∙ e)) .1);
+          to-loop = λ e. rw (all-are, g) (X .to-loop (sym k ∙ e) .1);
           next = last (decide-eq (kindAt ended i) 18);
         }
       where
+        goes : HasTarget (kindAt linked i) → TargetRight linked (F .rows) i → targetAt ended i ≡ targetAt linked i → targetAt ended i < rowCount ended
+        goes (inl e) X g = omega (arith, X .past (inl e) .0, g, counted)
+        goes (inr (inl e)) X g = omega (arith, X .to-join e .0, g, counted)
+        goes (inr (inr (inl e))) X g = omega (arith, X .past (inr e) .0, g, counted)
+        goes (inr (inr (inr e))) X g = omega (arith, X .to-loop e .0, g, counted)
+
         last : (kindAt ended i ≡ 18) ⊎ (kindAt ended i ≡ 18 → ⊥) → (kindAt ended i ≡ 18) ⊎ (suc i < rowCount ended)
         last (inl e) = inl e
         last (inr m) =

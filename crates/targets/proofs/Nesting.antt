@@ -6,10 +6,10 @@ use Prim.Native.Nat.{ℕ, zero, suc, _<_}
 use native.Mathlib.Omega.{arith}
 use lib.Dec.{T, ltb, leb, le→leb}
 use lib.ListN.{length, getD}
-use Rattle.rules.specs.Syntax.{Stmt, Row, simple, return, if, else, join, end, noRow}
+use Rattle.rules.specs.Syntax.{Stmt, Row, simple, return, if, else, join, loop, again, end, noRow}
 use Rattle.rules.proofs.Lists.{and-both, and-intro}
 use Rattle.tables.specs.Tables.{nestedRow, nested}
-use Rattle.nesting.specs.Nests.{Wait, forElse, forJoin, rowNests, rowsNest}
+use Rattle.nesting.specs.Nests.{Wait, forElse, forJoin, forAgain, rowNests, rowsNest}
 
 -- EACH BLOCK NESTS
 row-nested :
@@ -23,9 +23,17 @@ row-nested (if n a b) ws k l h t =
 row-nested else [] k l h t = absurd t
 row-nested else (forElse ∷ ws) k l h t = and-intro (leb 1 (suc (length ws))) _ (le→leb 1 (suc (length ws)) (omega arith)) (h (forJoin ∷ ws) t)
 row-nested else (forJoin ∷ ws) k l h t = absurd t
+row-nested else (forAgain ∷ ws) k l h t = absurd t
 row-nested (join φ) [] k l h t = absurd t
 row-nested (join φ) (forElse ∷ ws) k l h t = absurd t
 row-nested (join φ) (forJoin ∷ ws) k l h t = h ws t
+row-nested (join φ) (forAgain ∷ ws) k l h t = absurd t
+row-nested (loop n a b φ) ws k l h t =
+    let (x, y) = and-both (ltb (length ws) 4) _ t in and-intro (leb (suc (length ws)) 4) _ x (h (forAgain ∷ ws) y)
+row-nested again [] k l h t = absurd t
+row-nested again (forElse ∷ ws) k l h t = absurd t
+row-nested again (forJoin ∷ ws) k l h t = absurd t
+row-nested again (forAgain ∷ ws) k l h t = h ws t
 row-nested end [] k l h t = tt
 row-nested end (v ∷ ws) k l h t = absurd t
 
@@ -50,9 +58,17 @@ row-on (if n a b) ws k t =
 row-on else [] k t = absurd t
 row-on else (forElse ∷ ws) k t = (false, forJoin ∷ ws, t, λ e. absurd (let z : _≡_ {A = ℕ} 0 1 = cc in omega arith), λ n. refl)
 row-on else (forJoin ∷ ws) k t = absurd t
+row-on else (forAgain ∷ ws) k t = absurd t
 row-on (join φ) [] k t = absurd t
 row-on (join φ) (forElse ∷ ws) k t = absurd t
 row-on (join φ) (forJoin ∷ ws) k t = (false, ws, t, λ e. absurd (let z : _≡_ {A = ℕ} 0 1 = cc in omega arith), λ n. refl)
+row-on (join φ) (forAgain ∷ ws) k t = absurd t
+row-on (loop n a b φ) ws k t =
+    (false, forAgain ∷ ws, and-both (ltb (length ws) 4) _ t .1, λ e. absurd (let z : _≡_ {A = ℕ} 0 1 = cc in omega arith), λ n. refl)
+row-on again [] k t = absurd t
+row-on again (forElse ∷ ws) k t = absurd t
+row-on again (forJoin ∷ ws) k t = absurd t
+row-on again (forAgain ∷ ws) k t = (false, ws, t, λ e. absurd (let z : _≡_ {A = ℕ} 0 1 = cc in omega arith), λ n. refl)
 row-on end [] k t = (true, [], t, λ e. (refl, refl), λ n. absurd (n refl))
 row-on end (v ∷ ws) k t = absurd t
 

@@ -1,5 +1,5 @@
 -- The open rows as one number: what pushing, popping and replacing do to it.
-use mathlib.Core.Path.{_≡_, refl, ap, ap₂}
+use mathlib.Core.Path.{_≡_, refl, ap, ap₂, _∙_}
 use mathlib.Core.Bool.{Bool, true, false, cond}
 use mathlib.Core.List.{List, [], _∷_}
 use Prim.Native.Nat.{ℕ, zero, suc, _+_, _*_, _-_, _/_, _%_, _≤_, _<_}
@@ -11,7 +11,7 @@ use lib.ListN.{length}
 use Rattle.tables.specs.Decode.{kindAt, rowPlace}
 use Rattle.tables.specs.Stores.{putHalf}
 use Rattle.tables.proofs.Bytes.{put-half-length}
-use Rattle.targets.specs.Targets.{power, stackOf, pushed, popped, replaced, openAfter, putTarget, workAfter, targetsFrom}
+use Rattle.targets.specs.Targets.{power, stackOf, pushed, popped, replaced, openAfter, putTarget, closed, workAfter, targetsFrom}
 
 stack-length : (d s : ℕ) → length (stackOf d s) ≡ d
 unfolding stackOf
@@ -80,6 +80,10 @@ pub open-at-if : (k i : ℕ) (st : List ℕ) → k ≡ 15 → pushed i st ≡ op
 unfolding openAfter
 open-at-if k i st e = rw e
 
+pub open-at-loop : (k i : ℕ) (st : List ℕ) → k ≡ 21 → pushed i st ≡ openAfter k i st
+unfolding openAfter
+open-at-loop k i st e = rw e
+
 pub open-at-else : (k i : ℕ) (st : List ℕ) → k ≡ 16 → replaced i st ≡ openAfter k i st
 unfolding openAfter
 open-at-else k i st e = rw e
@@ -88,33 +92,46 @@ pub open-at-join : (k i : ℕ) (st : List ℕ) → k ≡ 17 → popped st ≡ op
 unfolding openAfter
 open-at-join k i st e = rw e
 
-pub open-elsewhere :
-    (k i : ℕ) (st : List ℕ) → (k ≡ 15 → ⊥) → (k ≡ 16 → ⊥) → (k ≡ 17 → ⊥) → st ≡ openAfter k i st
+pub open-at-again : (k i : ℕ) (st : List ℕ) → k ≡ 22 → popped st ≡ openAfter k i st
 unfolding openAfter
-open-elsewhere k i st a b d = rw (ne-eqb k 15 a, ne-eqb k 16 b, ne-eqb k 17 d)
+open-at-again k i st e = rw e
 
-pub work-at-else : (w : List ℕ) (k i : ℕ) (st : List ℕ) → k ≡ 16 → putTarget w st (i + 1) ≡ workAfter w k i st
-unfolding workAfter
-work-at-else w k i st e = rw e
+pub open-elsewhere :
+    (k i : ℕ) (st : List ℕ) → (k ≡ 15 → ⊥) → (k ≡ 16 → ⊥) → (k ≡ 17 → ⊥) → (k ≡ 21 → ⊥) → (k ≡ 22 → ⊥) → st ≡ openAfter k i st
+unfolding openAfter
+open-elsewhere k i st a b d e f = rw (ne-eqb k 15 a, ne-eqb k 16 b, ne-eqb k 17 d, ne-eqb k 21 e, ne-eqb k 22 f)
 
-pub work-at-join : (w : List ℕ) (k i : ℕ) (st : List ℕ) → k ≡ 17 → putTarget w st i ≡ workAfter w k i st
-unfolding workAfter
-work-at-join w k i st e = rw e
+pub closed-at-else : (w : List ℕ) (k i t : ℕ) → k ≡ 16 → putTarget w t (i + 1) ≡ closed w k i t
+unfolding closed
+closed-at-else w k i t e = rw e
 
-pub work-elsewhere : (w : List ℕ) (k i : ℕ) (st : List ℕ) → (k ≡ 16 → ⊥) → (k ≡ 17 → ⊥) → w ≡ workAfter w k i st
+pub closed-at-join : (w : List ℕ) (k i t : ℕ) → k ≡ 17 → putTarget w t i ≡ closed w k i t
+unfolding closed
+closed-at-join w k i t e = rw e
+
+pub closed-at-again : (w : List ℕ) (k i t : ℕ) → k ≡ 22 → putTarget (putTarget w t (i + 1)) i t ≡ closed w k i t
+unfolding closed
+closed-at-again w k i t e = rw e
+
+pub closed-elsewhere : (w : List ℕ) (k i t : ℕ) → (k ≡ 16 → ⊥) → (k ≡ 17 → ⊥) → (k ≡ 22 → ⊥) → w ≡ closed w k i t
+unfolding closed
+closed-elsewhere w k i t a b d = rw (ne-eqb k 16 a, ne-eqb k 17 b, ne-eqb k 22 d)
+
+pub work-elsewhere : (w : List ℕ) (k i : ℕ) (st : List ℕ) → (k ≡ 16 → ⊥) → (k ≡ 17 → ⊥) → (k ≡ 22 → ⊥) → w ≡ workAfter w k i st
 unfolding workAfter
-work-elsewhere w k i st b d = rw (ne-eqb k 16 b, ne-eqb k 17 d)
+work-elsewhere w k i [] a b d = refl
+work-elsewhere w k i (t ∷ st) a b d = closed-elsewhere w k i t a b d
 
 -- the innermost row is the lowest byte
-pub target-put : (w : List ℕ) (d s v : ℕ) → (d ≡ 0 → ⊥) → putHalf w (rowPlace (s % 256) + 10) v ≡ putTarget w (stackOf d s) v
-unfolding stackOf putTarget
-target-put w zero s v n = absurd (n refl)
-target-put w (suc d) s v n = refl
+pub innermost-closed : (w : List ℕ) (k i d s : ℕ) → (d ≡ 0 → ⊥) → closed w k i (s % 256) ≡ workAfter w k i (stackOf d s)
+unfolding stackOf workAfter
+innermost-closed w k i zero s n = absurd (n refl)
+innermost-closed w k i (suc d) s n = refl
 
-pub no-target : (w : List ℕ) (d s v : ℕ) → d ≡ 0 → w ≡ putTarget w (stackOf d s) v
-unfolding stackOf putTarget
-no-target w zero s v e = refl
-no-target w (suc d) s v e = absurd (omega (arith, e))
+pub none-closed : (w : List ℕ) (k i d s : ℕ) → d ≡ 0 → w ≡ workAfter w k i (stackOf d s)
+unfolding stackOf workAfter
+none-closed w k i zero s e = refl
+none-closed w k i (suc d) s e = absurd (omega (arith, e))
 
 -- ONE ROW MORE
 pub targets-on :
@@ -125,18 +142,22 @@ unfolding targetsFrom
 targets-on w i n st l = let e : n - i ≡ suc (n - (i + 1)) = omega arith in rw (e, add-one i)
 
 -- a store of a target leaves the area's length
-pub work-after-length : (w : List ℕ) (k i : ℕ) (st : List ℕ) → length (workAfter w k i st) ≡ length w
-unfolding workAfter putTarget
-work-after-length w k i st = go (eqb k 16) (eqb k 17) st
-  where
-    put : (st : List ℕ) (v : ℕ) → length (putTarget w st v) ≡ length w
-    put [] v = refl
-    put (t ∷ st) v = put-half-length w _ v
+pub put-length : (w : List ℕ) (t v : ℕ) → length (putTarget w t v) ≡ length w
+unfolding putTarget
+put-length w t v = put-half-length w (rowPlace t + 10) v
 
-    go : (a b : Bool) (st : List ℕ) → length (cond a (putTarget w st (i + 1)) (cond b (putTarget w st i) w)) ≡ length w
-    go true b st = put st (i + 1)
-    go false true st = put st i
-    go false false st = refl
+pub work-after-length : (w : List ℕ) (k i : ℕ) (st : List ℕ) → length (workAfter w k i st) ≡ length w
+unfolding workAfter closed
+work-after-length w k i [] = refl
+work-after-length w k i (t ∷ st) = go (eqb k 16) (eqb k 17) (eqb k 22)
+  where
+    go :
+        (a b c : Bool) →
+        length (cond a (putTarget w t (i + 1)) (cond b (putTarget w t i) (cond c (putTarget (putTarget w t (i + 1)) i t) w))) ≡ length w
+    go true b c = put-length w t (i + 1)
+    go false true c = put-length w t i
+    go false false true = put-length (putTarget w t (i + 1)) i t ∙ put-length w t (i + 1)
+    go false false false = refl
 
 pub targets-end : (w : List ℕ) (i n : ℕ) (st : List ℕ) → n ≤ i → targetsFrom w i (n - i) st ≡ w
 unfolding targetsFrom

@@ -1,5 +1,6 @@
--- Where `if` and `else` go on: a walk over the statement rows with the rows of the open branches, innermost first.
-use mathlib.Core.Bool.{cond}
+-- Where `if`, `else`, `loop` and `again` go on: a walk over the statement rows with the rows of the open branches and loops, innermost
+-- first.
+use mathlib.Core.Bool.{cond, _||_}
 use mathlib.Core.List.{List, [], _∷_}
 use Prim.Native.Nat.{ℕ, zero, suc, _+_, _*_, _/_, _%_, _≤_, _<_}
 use lib.Dec.{eqb, ltb}
@@ -20,18 +21,27 @@ unfoldable pub replaced : ℕ → List ℕ → List ℕ
 replaced i [] = []
 replaced i (t ∷ st) = i ∷ st
 
--- `if` (15) opens a branch; `else` (16) stands for it from here on; `join` (17) closes it
+-- `if` (15) opens a branch and `loop` (21) a loop; `else` (16) stands for its `if` from here on; `join` (17) and `again` (22) close
 unfoldable pub openAfter : ℕ → ℕ → List ℕ → List ℕ
-openAfter k i st = cond (eqb k 15) (pushed i st) (cond (eqb k 16) (replaced i st) (cond (eqb k 17) (popped st) st))
+openAfter k i st =
+    cond (eqb k 15 || eqb k 21) (pushed i st) (cond (eqb k 16) (replaced i st) (cond (eqb k 17 || eqb k 22) (popped st) st))
 
--- the innermost open row goes on to row v
-unfoldable pub putTarget : List ℕ → List ℕ → ℕ → List ℕ
-putTarget w [] v = w
-putTarget w (t ∷ st) v = putHalf w (rowPlace t + 10) v
+-- row t goes on to row v
+unfoldable pub putTarget : List ℕ → ℕ → ℕ → List ℕ
+putTarget w t v = putHalf w (rowPlace t + 10) v
 
--- `else` is what a false `if` goes past, `join` what an `else` goes on to
+-- what row i closes is row t: `else` is what a false `if` goes past, `join` what an `else` goes on to, `again` what a false `loop` goes
+-- past, and itself goes back to it
+unfoldable pub closed : List ℕ → ℕ → ℕ → ℕ → List ℕ
+closed w k i t =
+    cond (eqb k 16) (putTarget w t (i + 1))
+    (cond (eqb k 17) (putTarget w t i)
+    (cond (eqb k 22) (putTarget (putTarget w t (i + 1)) i t)
+    w))
+
 unfoldable pub workAfter : List ℕ → ℕ → ℕ → List ℕ → List ℕ
-workAfter w k i st = cond (eqb k 16) (putTarget w st (i + 1)) (cond (eqb k 17) (putTarget w st i) w)
+workAfter w k i [] = w
+workAfter w k i (t ∷ st) = closed w k i t
 
 -- n rows from row i on
 unfoldable pub targetsFrom : List ℕ → ℕ → ℕ → List ℕ → List ℕ

@@ -1,4 +1,4 @@
-// Where `if` and `else` go on, by one walk over the rows; the tables ended.
+// Where `if`, `else`, `loop` and `again` go on, by one walk over the rows; the tables ended.
 use rules::Kind;
 use rules::Machine;
 use tables::Layout;
@@ -8,10 +8,10 @@ ghost use mathlib.Core.Path.{_≡_};
 ghost use Prim.Native.Nat.{_+_, _≤_, _<_};
 ghost use mathlib.Core.List.{[]};
 ghost use lib.ListN.{length};
-ghost use Rattle.targets.specs.Targets.{StackFits, stackOf, pushed, popped, replaced, openAfter, putTarget, workAfter, targetsFrom};
+ghost use Rattle.targets.specs.Targets.{StackFits, stackOf, pushed, popped, replaced, openAfter, putTarget, closed, workAfter, targetsFrom};
 ghost use Rattle.write_rows.specs.Puts.{putHeader};
 
-// The rows of the open branches: how many, and their numbers in base 256, the innermost lowest.
+// The rows of the open branches and loops: how many, and their numbers in base 256, the innermost lowest.
 pub struct Open {
     pub depth: usize,
     pub rows: usize,
@@ -68,34 +68,47 @@ fn open_after(k: u8, i: usize, o: Open) -> Open
         Kind::IF => push(o, i),
         Kind::ELSE => replace(o, i),
         Kind::JOIN => pop(o),
+        Kind::LOOP => push(o, i),
+        Kind::AGAIN => pop(o),
         _ => o,
     }
 }
 
-// The innermost open row goes on to row v.
-fn put_target(work: &mut [u8], o: Open, v: usize)
-    requires { ⌜ (length (now work) ≡ 65536) × (v < 65536) ⌝ }
-    ensures { λ _. ⌜ now (work .exit) ≡ putTarget (now (work .entry)) (stackOf (o .depth) (o .rows)) v ⌝ }
+// Row t goes on to row v.
+fn put_target(work: &mut [u8], t: usize, v: usize)
+    requires { ⌜ (length (now work) ≡ 65536) × (t < 256) × (v < 65536) ⌝ }
+    ensures { λ _. ⌜ now (work .exit) ≡ putTarget (now (work .entry)) t v ⌝ }
 {
-    if o.depth != 0 {
-        let t = o.rows % 256;
-        put_half(work, Layout::ROWS + t * Layout::ROW_BYTES + 10, v);
-    }
+    put_half(work, Layout::ROWS + t * Layout::ROW_BYTES + 10, v);
 }
 
-// What row i of kind k says of the innermost open row.
-fn work_after(work: &mut [u8], k: u8, i: usize, o: Open)
-    requires { ⌜ (length (now work) ≡ 65536) × (i < 256) ⌝ }
-    ensures { λ _. ⌜ now (work .exit) ≡ workAfter (now (work .entry)) k i (stackOf (o .depth) (o .rows)) ⌝ }
+// What row i of kind k says of row t, which it closes.
+fn close(work: &mut [u8], k: u8, i: usize, t: usize)
+    requires { ⌜ (length (now work) ≡ 65536) × (i < 256) × (t < 256) ⌝ }
+    ensures { λ _. ⌜ now (work .exit) ≡ closed (now (work .entry)) k i t ⌝ }
 {
     match k {
-        Kind::ELSE => put_target(work, o, i + 1),
-        Kind::JOIN => put_target(work, o, i),
+        Kind::ELSE => put_target(work, t, i + 1),
+        Kind::JOIN => put_target(work, t, i),
+        Kind::AGAIN => {
+            put_target(work, t, i + 1);
+            put_target(work, i, t);
+        }
         _ => {}
     }
 }
 
-// Gives each `if` and `else` of n rows the row that it goes on to.
+// What it says of the innermost open row.
+fn work_after(work: &mut [u8], k: u8, i: usize, o: Open)
+    requires { ⌜ (length (now work) ≡ 65536) × (i < 256) ⌝ }
+    ensures { λ _. ⌜ now (work .exit) ≡ workAfter (now (work .entry)) k i (stackOf (o .depth) (o .rows)) ⌝ }
+{
+    if o.depth != 0 {
+        close(work, k, i, o.rows % 256);
+    }
+}
+
+// Gives each `if`, `else`, `loop` and `again` of n rows the row that it goes on to.
 pub fn set_targets(work: &mut [u8], n: usize)
     requires { ⌜ (length (now work) ≡ 65536) × (n ≤ 256) ⌝ }
     ensures { λ _. ⌜ now (work .exit) ≡ targetsFrom (now (work .entry)) 0 n [] ⌝ }
@@ -110,7 +123,7 @@ pub fn set_targets(work: &mut [u8], n: usize)
     }
 }
 
-// Ends the tables of a text: where `if` and `else` go on, then the counts and main's first row.
+// Ends the tables of a text: where rows go on, then the counts and main's first row.
 pub fn finish(
     work: &mut [u8],
     rows: usize,

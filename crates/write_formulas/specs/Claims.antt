@@ -1,14 +1,14 @@
--- What a formula of a line becomes: the row of `assert`, `release` or `join`; the requires or ensures of a method.
+-- What a formula of a line becomes: the row of `assert`, `release`, `join` or `loop`; the requires or ensures of a method.
 use mathlib.Core.Path.{_≡_}
-use mathlib.Core.Bool.{Bool, true, cond, _||_}
-use mathlib.Core.List.{List}
+use mathlib.Core.Bool.{Bool, true, false, cond, _||_}
+use mathlib.Core.List.{List, [], _∷_}
 use Prim.Native.Nat.{ℕ, suc, _+_, _-_}
 use lib.Dec.{eqb}
 use lib.ListN.{length}
 use Rattle.rules.specs.Limits.{work-bytes}
-use Rattle.rules.specs.Syntax.{Formula, Stmt, simple, assert, release, join}
+use Rattle.rules.specs.Syntax.{Formula, Stmt, acc, cmp, simple, assert, release, join, loop, end}
 use Rattle.rules.specs.Items.{Item, aStatement}
-use Rattle.tables.specs.Layout.{names-at}
+use Rattle.tables.specs.Layout.{atomLimit, names-at}
 use Rattle.tables.specs.Decode.{atomsFrom}
 use Rattle.tables.specs.Stores.{Kept}
 use Rattle.read_scopes.specs.declared.Names.{Names}
@@ -18,18 +18,40 @@ use Rattle.tables.specs.declared.Operands.{Operands}
 use Rattle.tables.specs.Tables.{Declared}
 use Rattle.write_rows.specs.Holds.{Holds}
 use Rattle.resolve_atoms.specs.declared.Put.{Put}
-use Rattle.resolve_atoms.specs.Written.{formulaAfter, fitsAfter, Unfit}
+use Rattle.resolve_atoms.specs.Written.{formulaAfter, fitsAfter, FormulaFollows, Unfit}
 
--- by the number of the kind: 13 `assert`, 14 `release`, 17 `join`
+-- by the number of the kind: 13 `assert`, 14 `release`, 17 `join`, 21 `loop`
 unfoldable pub isClaim : ℕ → Bool
-isClaim k = eqb k 13 || (eqb k 14 || eqb k 17)
+isClaim k = eqb k 13 || (eqb k 14 || (eqb k 17 || eqb k 21))
+
+-- its first atom is a condition
+unfoldable pub hasCondition : Formula ℕ → Bool
+hasCondition [] = false
+hasCondition (acc x f ∷ φ) = false
+hasCondition (cmp n a b ∷ φ) = true
+
+-- the `loop` with it, and with the others as its invariant
+unfoldable pub loopWith : Formula ℕ → Stmt
+loopWith [] = end
+loopWith (acc x f ∷ φ) = end
+loopWith (cmp n a b ∷ φ) = loop n a b φ
 
 unfoldable pub claimOf : ℕ → Formula ℕ → Stmt
-claimOf k φ = cond (eqb k 13) (simple (assert φ)) (cond (eqb k 14) (simple (release φ)) (join φ))
+claimOf k φ = cond (eqb k 13) (simple (assert φ)) (cond (eqb k 14) (simple (release φ)) (cond (eqb k 17) (join φ) (loopWith φ)))
 
--- its row, with the atoms from n up to m
+-- where its own formula begins, if the atoms of its line do so at n
+unfoldable pub ownFirst : ℕ → ℕ → ℕ
+ownFirst k n = cond (eqb k 21) (n + 1) n
+
+-- its row, with the formula of the atoms from n up to m
 abbrev pub claimRow : ℕ → ℕ → ℕ → ℕ → Operands
 claimRow k n m l = record { kind = k; x = 0; y = 0; z = 0; member = 0; atoms = m - n; first = n; line = l }
+
+-- the fields after r are the formula of a line of this kind, and there is room for its atoms from n on
+pub record ClaimFollows (t w : List ℕ) (c : Names) (k r n : ℕ) : Type 0 where
+  pub claim : isClaim k ≡ true
+  pub formula : FormulaFollows t w c (atomLimit k) r n
+  pub condition : k ≡ 21 → hasCondition (formulaAfter t w c r) ≡ true
 
 -- The formula after r is written as the atoms from n up to m, and the statement with it as the row i.
 pub record ClaimPut (t w : List ℕ) (c : Names) (k r i n l : ℕ) (w′ : List ℕ) (m : ℕ) : Type 0 where

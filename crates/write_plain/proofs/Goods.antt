@@ -12,7 +12,7 @@ use Rattle.rules.specs.Base as Base
 use Rattle.rules.specs.Base.{Name, bytes, eqName, any, first, withDefault}
 use Rattle.rules.specs.Text.{formulaOf}
 use Rattle.rules.specs.Grammar as Grammar
-use Rattle.rules.specs.Grammar.{Kind, Statement, Operand, nothing, form, isOperand, isFormed, statement, Set, New, Call, Return, Else, End, Add, Sub}
+use Rattle.rules.specs.Grammar.{Kind, Statement, Operand, nothing, form, isOperand, isFormed, statement, Set, New, Call, Return, Else, End, Add, Sub, Again}
 use Rattle.rules.specs.Syntax.{Operation, sum, difference}
 use Rattle.rules.specs.Scope as Scopes
 use Rattle.rules.specs.Scope.{Declarations, Variable, Scope}
@@ -223,3 +223,7 @@ module _ (Γ : Declarations) (vs : List Variable) (s : Scope) where
   pub end-good : (ws : List Name) → Formed (statement End) ws → isGood Γ vs s (lineWith (statement End) ws) ≡ true
   unfolding Grammar.opened
   end-good = bare-good (statement End) refl refl
+
+  pub again-good : (ws : List Name) → Formed (statement Again) ws → isGood Γ vs s (lineWith (statement Again) ws) ≡ true
+  unfolding Grammar.opened
+  again-good = bare-good (statement Again) refl refl

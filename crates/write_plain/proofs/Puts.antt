@@ -31,8 +31,8 @@ use Rattle.resolve_pass.specs.Passes.{counts, isGood}
 use Rattle.read_declarations.specs.Declares.{lineWith}
 use Rattle.write_plain.specs.declared.TriedRow.{TriedRow}
 use Rattle.write_plain.specs.Plain.{setRow, newRow, callRow, returnRow, computeRow, plainRow, plainGood, RowTried, isPlain, PlainFollows, PlainPut, PlainTried}
-use Rattle.write_plain.proofs.Goods.{set-good, new-good, call-good, return-good, else-good, end-good, compute-good, computing}
-use Rattle.write_plain.proofs.Rows.{set-ok, new-ok, call-ok, return-ok, compute-ok, empty-ok, set-written, new-written, call-written, return-written, compute-written, else-written, end-written}
+use Rattle.write_plain.proofs.Goods.{set-good, new-good, call-good, return-good, else-good, end-good, again-good, compute-good, computing}
+use Rattle.write_plain.proofs.Rows.{set-ok, new-ok, call-ok, return-ok, compute-ok, empty-ok, set-written, new-written, call-written, return-written, compute-written, else-written, end-written, again-written}
 
 either : {A : Type 0} (k m : ℕ) (b : Bool) → (eqb k m || b) ≡ true → (k ≡ m → A) → (b ≡ true → A) → A
 either {A} k m b e f g = go (eqb k m) refl e
@@ -42,16 +42,17 @@ either {A} k m b e f g = go (eqb k m) refl e
     go false i h = g h
 
 plain-kinds :
-    (P : ℕ → Type 0) (k : ℕ) → isPlain k ≡ true → P 8 → P 10 → P 11 → P 12 → P 16 → P 18 → ((o : Operation) → P (statementNumber (computing o))) → P k
+    (P : ℕ → Type 0) (k : ℕ) → isPlain k ≡ true → P 8 → P 10 → P 11 → P 12 → P 16 → P 18 → P 22 → ((o : Operation) → P (statementNumber (computing o))) → P k
 unfolding isPlain isComputing statementNumber
-plain-kinds P k e a b c d f g h =
+plain-kinds P k e a b c d f g j h =
     either k 8 _ e (λ q. subst P (sym q) a)
     (λ e. either k 10 _ e (λ q. subst P (sym q) b)
     (λ e. either k 11 _ e (λ q. subst P (sym q) c)
     (λ e. either k 12 _ e (λ q. subst P (sym q) d)
     (λ e. either k 16 _ e (λ q. subst P (sym q) f)
     (λ e. either k 18 _ e (λ q. subst P (sym q) g)
-    (λ e. either k 19 _ e (λ q. subst P (sym q) (h sum)) (λ e. subst P (sym (eqb-true k 20 e)) (h difference))))))))
+    (λ e. either k 22 _ e (λ q. subst P (sym q) j)
+    (λ e. either k 19 _ e (λ q. subst P (sym q) (h sum)) (λ e. subst P (sym (eqb-true k 20 e)) (h difference)))))))))
 
 module _ (t w : List ℕ) (c : Counts.Names) (fits : NamesFit c) (l : ℕ) (ws : List Name) where
   abbrev Γ : Declarations
@@ -83,6 +84,7 @@ module _ (t w : List ℕ) (c : Counts.Names) (fits : NamesFit c) (l : ℕ) (ws :
       (return-good Γ vs s ws)
       (else-good Γ vs s ws)
       (end-good Γ vs s ws)
+      (again-good Γ vs s ws)
       (λ o. computes-good o)
     where
       computes-good :
@@ -102,8 +104,9 @@ module _ (t w : List ℕ) (c : Counts.Names) (fits : NamesFit c) (l : ℕ) (ws :
       (λ x. let o = new-ok t w c fits 0 l ws x in small (rowOf 10) (omega (arith, o .class refl, fits .classes)) line o)
       (λ x. let o = call-ok t w c fits 0 l ws x in small (rowOf 11) (omega (arith, o .method refl, fits .methods)) line o)
       (λ x. small (rowOf 12) (omega arith) line (return-ok t w c fits 0 l ws x))
-      (λ x. small (rowOf 16) (omega arith) line (empty-ok t w c fits 0 l 16 (omega arith, omega arith) (omega arith)))
-      (λ x. small (rowOf 18) (omega arith) line (empty-ok t w c fits 0 l 18 (omega arith, omega arith) (omega arith)))
+      (λ x. small (rowOf 16) (omega arith) line (empty-ok t w c fits 0 l 16 (omega arith, omega arith) (omega arith) (λ e. omega arith)))
+      (λ x. small (rowOf 18) (omega arith) line (empty-ok t w c fits 0 l 18 (omega arith, omega arith) (omega arith) (λ e. omega arith)))
+      (λ x. small (rowOf 22) (omega arith) line (empty-ok t w c fits 0 l 22 (omega arith, omega arith) (omega arith) (λ e. omega arith)))
       (λ o. computes-small small o)
     where
       computes-small :
@@ -130,6 +133,7 @@ module _ (t w : List ℕ) (c : Counts.Names) (fits : NamesFit c) (l : ℕ) (ws :
       (return-written t w c fits n l F room h ws)
       (λ x. else-written t w c fits n l F room h ws)
       (λ x. end-written t w c fits n l F room h ws)
+      (λ x. again-written t w c fits n l F room h ws)
       (λ o. computes-written o)
     where
       computes-written :

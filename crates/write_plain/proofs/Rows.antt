@@ -11,7 +11,7 @@ use borrow.Author.Tests.{ltb-true, not-true}
 use Rattle.rules.specs.Base.{Name, any, eqName}
 use Rattle.rules.specs.Limits.{most-statements}
 use Rattle.rules.specs.Text.{reserved}
-use Rattle.rules.specs.Grammar.{Kind, IsStatementNumber, statementNumber, isComputing, statement, Set, New, Call, Return, Else, End}
+use Rattle.rules.specs.Grammar.{Kind, IsStatementNumber, statementNumber, isComputing, statement, Set, New, Call, Return, Else, End, Again}
 use Rattle.rules.specs.Scope as Scopes
 use Rattle.rules.specs.Scope.{Declarations, Variable}
 use Rattle.rules.specs.Names as Names
@@ -33,7 +33,7 @@ use Rattle.write_rows.specs.Puts.{putRow}
 use Rattle.write_rows.specs.Holds.{Holds}
 use Rattle.tables.specs.Decode.{operationOf}
 use Rattle.tables.specs.Tables.{OperandsFit}
-use Rattle.tables.proofs.Statements.{set-means, new-means, call-means, return-means, else-means, end-means, compute-means}
+use Rattle.tables.proofs.Statements.{set-means, new-means, call-means, return-means, else-means, again-means, end-means, compute-means}
 use Rattle.write_rows.proofs.Rows.{row-written}
 use Rattle.resolve_pass.specs.Passes.{counts}
 use Rattle.read_declarations.specs.Texts.{SpanAfter}
@@ -62,9 +62,9 @@ module _ (t w : List ℕ) (c : Counts.Names) (fits : NamesFit c) (n l : ℕ) whe
 
   -- a row of this kind without atoms
   bare-ok :
-      (k x y z m : ℕ) → IsStatementNumber k → (k ≡ 9 → ⊥) → (k ≡ 15 → ⊥) → x < frame-variables → y < frame-variables → z < frame-variables →
-      (k ≡ 8 → m < most-names) → (k ≡ 10 → m < c .classes) → (k ≡ 11 → m < c .methods) → OperandsFit (counts c) n (bare k x y z m l)
-  bare-ok k x y z m is no-let no-if p q r f g h =
+      (k x y z m : ℕ) → IsStatementNumber k → (k ≡ 9 → ⊥) → (k ≡ 15 → ⊥) → (k ≡ 21 → ⊥) → x < frame-variables → y < frame-variables →
+      z < frame-variables → (k ≡ 8 → m < most-names) → (k ≡ 10 → m < c .classes) → (k ≡ 11 → m < c .methods) → OperandsFit (counts c) n (bare k x y z m l)
+  bare-ok k x y z m is no-let no-if no-loop p q r f g h =
       record {
         kind = is;
         x = p;
@@ -75,6 +75,7 @@ module _ (t w : List ℕ) (c : Counts.Names) (fits : NamesFit c) (n l : ℕ) whe
         method = h;
         atoms = (omega arith, omega arith);
         one-atom = λ o. ⊎-elim (λ e. absurd (no-let e)) (λ e. absurd (no-if e)) o;
+        condition = λ e. absurd (no-loop e);
       }
 
   -- WHAT IS KNOWN
@@ -112,7 +113,7 @@ module _ (t w : List ℕ) (c : Counts.Names) (fits : NamesFit c) (n l : ℕ) whe
       let p = both-true (inScope vs u && knownField Γ vs u v) (not (isInt vs u)) (a .0) in
       let b = both-true (inScope vs u) (knownField Γ vs u v) (p .0) in
       let d = both-true (inScope vs (getD ws 2 [])) _ (a .1) in
-      bare-ok 8 _ _ _ _ (omega arith, omega arith) (λ e. omega arith) (λ e. omega arith) (variable-small t w c fits u (b .0))
+      bare-ok 8 _ _ _ _ (omega arith, omega arith) (λ e. omega arith) (λ e. omega arith) (λ e. omega arith) (variable-small t w c fits u (b .0))
       (variable-small t w c fits (getD ws 2 []) (d .0)) (omega arith) (λ i. field-known u v (b .1) (p .1)) (λ i. absurd (omega arith)) (λ i. absurd (omega arith))
 
   pub new-ok : (ws : List Name) → newGood Γ vs ws ≡ true → OperandsFit (counts c) n (newRow Γ vs ws l)
@@ -120,7 +121,7 @@ module _ (t w : List ℕ) (c : Counts.Names) (fits : NamesFit c) (n l : ℕ) whe
   new-ok ws e =
       let a = both-true (isLocal (variableNumber vs (getD ws 0 []))) _ e in
       let b = both-true (isClass Γ (getD ws 1 [])) _ (a .1) in
-      bare-ok 10 _ _ _ _ (omega arith, omega arith) (λ e. omega arith) (λ e. omega arith)
+      bare-ok 10 _ _ _ _ (omega arith, omega arith) (λ e. omega arith) (λ e. omega arith) (λ e. omega arith)
       (variable-small t w c fits (getD ws 0 []) (local-known vs (getD ws 0 []) (a .0)))
       (omega arith) (omega arith) (λ i. absurd (omega arith)) (λ i. class-known (getD ws 1 []) (b .0)) (λ i. absurd (omega arith))
 
@@ -128,7 +129,7 @@ module _ (t w : List ℕ) (c : Counts.Names) (fits : NamesFit c) (n l : ℕ) whe
   unfolding returnGood returnRow
   return-ok ws e =
       let a = both-true (inScope vs (getD ws 0 [])) _ e in
-      bare-ok 12 _ _ _ _ (omega arith, omega arith) (λ e. omega arith) (λ e. omega arith) (variable-small t w c fits (getD ws 0 []) (a .0))
+      bare-ok 12 _ _ _ _ (omega arith, omega arith) (λ e. omega arith) (λ e. omega arith) (λ e. omega arith) (variable-small t w c fits (getD ws 0 []) (a .0))
       (omega arith) (omega arith) (λ i. absurd (omega arith)) (λ i. absurd (omega arith)) (λ i. absurd (omega arith))
 
   pub call-ok : (ws : List Name) → callGood Γ vs ws ≡ true → OperandsFit (counts c) n (callRow Γ vs ws l)
@@ -140,7 +141,7 @@ module _ (t w : List ℕ) (c : Counts.Names) (fits : NamesFit c) (n l : ℕ) whe
       let d = both-true (inScope vs (getD ws 3 [])) _ (b .1) in
       let k = both-true (callKnown Γ vs ws) _ (g .1) in
       let m = both-true (not (isInt vs (getD ws 1 []))) _ (k .0) in
-      bare-ok 11 _ _ _ _ (omega arith, omega arith) (λ e. omega arith) (λ e. omega arith)
+      bare-ok 11 _ _ _ _ (omega arith, omega arith) (λ e. omega arith) (λ e. omega arith) (λ e. omega arith)
       (variable-small t w c fits (getD ws 0 []) (local-known vs (getD ws 0 []) (a .0)))
       (variable-small t w c fits (getD ws 1 []) (b .0)) (variable-small t w c fits (getD ws 3 []) (d .0)) (λ i. absurd (omega arith)) (λ i. absurd (omega arith))
       (λ j. method-known (getD ws 1 []) (getD ws 2 []) (m .1) (m .0))
@@ -158,20 +159,20 @@ module _ (t w : List ℕ) (c : Counts.Names) (fits : NamesFit c) (n l : ℕ) whe
       let z = variable-small t w c fits (getD ws 2 []) (int-known vs (getD ws 2 []) (d .1)) in
       go o x y z
     where
-      ok : (k x y z : ℕ) → IsStatementNumber k → 18 < k → x < frame-variables → y < frame-variables → z < frame-variables → OperandsFit (counts c) n (bare k x y z 0 l)
+      ok : (k x y z : ℕ) → IsStatementNumber k → (18 < k) × (k < 21) → x < frame-variables → y < frame-variables → z < frame-variables → OperandsFit (counts c) n (bare k x y z 0 l)
       ok k x y z is h p q r =
-          bare-ok k x y z 0 is (λ e. omega arith) (λ e. omega arith) p q r (λ i. absurd (omega arith)) (λ i. absurd (omega arith))
+          bare-ok k x y z 0 is (λ e. omega arith) (λ e. omega arith) (λ e. omega arith) p q r (λ i. absurd (omega arith)) (λ i. absurd (omega arith))
           (λ i. absurd (omega arith))
 
       go :
           (o : Operation) {x y z : ℕ} → x < frame-variables → y < frame-variables → z < frame-variables →
           OperandsFit (counts c) n (bare (statementNumber (computing o)) x y z 0 l)
-      go sum = ok 19 _ _ _ (omega arith, omega arith) (omega arith)
-      go difference = ok 20 _ _ _ (omega arith, omega arith) (omega arith)
+      go sum = ok 19 _ _ _ (omega arith, omega arith) (omega arith, omega arith)
+      go difference = ok 20 _ _ _ (omega arith, omega arith) (omega arith, omega arith)
 
-  pub empty-ok : (k : ℕ) → IsStatementNumber k → 15 < k → OperandsFit (counts c) n (bare k 0 0 0 0 l)
-  empty-ok k h d =
-      bare-ok k 0 0 0 0 h (λ e. omega arith) (λ e. omega arith) (omega arith) (omega arith) (omega arith) (λ i. absurd (omega arith))
+  pub empty-ok : (k : ℕ) → IsStatementNumber k → 15 < k → (k ≡ 21 → ⊥) → OperandsFit (counts c) n (bare k 0 0 0 0 l)
+  empty-ok k h d no-loop =
+      bare-ok k 0 0 0 0 h (λ e. omega arith) (λ e. omega arith) no-loop (omega arith) (omega arith) (omega arith) (λ i. absurd (omega arith))
       (λ i. absurd (omega arith)) (λ i. absurd (omega arith))
 
   -- WHAT IS WRITTEN: the row of a good line is the line's item
@@ -209,11 +210,17 @@ module _ (t w : List ℕ) (c : Counts.Names) (fits : NamesFit c) (n l : ℕ) whe
     pub else-written : (ws : List Name) → Written (bare 16 0 0 0 0 l) (statement Else) ws
     unfolding itemOf Items.resolveStatement
     else-written ws =
-        row-written (counts c) w F n (bare 16 0 0 0 0 l) _ room (empty-ok 16 (omega arith, omega arith) (omega arith))
+        row-written (counts c) w F n (bare 16 0 0 0 0 l) _ room (empty-ok 16 (omega arith, omega arith) (omega arith) (λ e. omega arith))
         (else-means w (bare 16 0 0 0 0 l) refl) h
+
+    pub again-written : (ws : List Name) → Written (bare 22 0 0 0 0 l) (statement Again) ws
+    unfolding itemOf Items.resolveStatement
+    again-written ws =
+        row-written (counts c) w F n (bare 22 0 0 0 0 l) _ room (empty-ok 22 (omega arith, omega arith) (omega arith) (λ e. omega arith))
+        (again-means w (bare 22 0 0 0 0 l) refl) h
 
     pub end-written : (ws : List Name) → Written (bare 18 0 0 0 0 l) (statement End) ws
     unfolding itemOf Items.resolveStatement
     end-written ws =
-        row-written (counts c) w F n (bare 18 0 0 0 0 l) _ room (empty-ok 18 (omega arith, omega arith) (omega arith))
+        row-written (counts c) w F n (bare 18 0 0 0 0 l) _ room (empty-ok 18 (omega arith, omega arith) (omega arith) (λ e. omega arith))
         (end-means w (bare 18 0 0 0 0 l) refl) h

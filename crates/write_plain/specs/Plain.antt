@@ -1,4 +1,4 @@
--- Rows of the statements that have no atoms: `set`, `new`, `call`, `return`, `else`, `end`, `add`, `sub`.
+-- Rows of the statements that have no atoms: `set`, `new`, `call`, `return`, `else`, `end`, `add`, `sub`, `again`.
 use mathlib.Core.Path.{_≡_}
 use mathlib.Core.Bool.{Bool, true, false, not, cond, _&&_, _||_}
 use mathlib.Core.List.{List, []}
@@ -114,7 +114,7 @@ module _ (Γ : Declarations) (vs : List Variable) (ws : List Name) where
   unfoldable pub computeGood : Bool
   computeGood = isLocal (variableNumber vs (getD ws 0 [])) && (isInt vs (getD ws 0 []) && (isInt vs (getD ws 1 []) && isInt vs (getD ws 2 [])))
 
-  -- by the number of its kind; `else` and `end` name nothing
+  -- by the number of its kind; `else`, `end` and `again` name nothing
   unfoldable pub plainGood : ℕ → Bool
   plainGood k =
       cond (eqb k 8) setGood
@@ -151,9 +151,9 @@ abbrev pub mayCompute : List ℕ → List ℕ → ℕ → ℕ → ℕ → Bool
 mayCompute t w x y z =
     isLocal x && (is "int" (nameIn t (typeOf w x)) && (is "int" (nameIn t (typeOf w y)) && is "int" (nameIn t (typeOf w z))))
 
--- by the number of the kind: 8 `set`, 10 `new`, 11 `call`, 12 `return`, 16 `else`, 18 `end`; `add` and `sub`
+-- by the number of the kind: 8 `set`, 10 `new`, 11 `call`, 12 `return`, 16 `else`, 18 `end`, 22 `again`; `add` and `sub`
 unfoldable pub isPlain : ℕ → Bool
-isPlain k = eqb k 8 || (eqb k 10 || (eqb k 11 || (eqb k 12 || (eqb k 16 || (eqb k 18 || isComputing k)))))
+isPlain k = eqb k 8 || (eqb k 10 || (eqb k 11 || (eqb k 12 || (eqb k 16 || (eqb k 18 || (eqb k 22 || isComputing k))))))
 
 -- the line of this kind whose word ends at r has its form
 pub record PlainFollows (t : List ℕ) (k r : ℕ) : Type 0 where

@@ -253,7 +253,7 @@ fn compute_row(text: &[u8], work: &[u8], c: Names, kind: u8, r: usize, line: usi
     row_if(good, row(kind, x, y, z, 0, line))
 }
 
-// The row of a line of this kind; `else` and `end` have no operands.
+// The row of a line of this kind; `else`, `end` and `again` have no operands.
 pub fn plain_row(text: &[u8], work: &[u8], c: Names, kind: u8, r: usize, line: usize) -> TriedRow
     requires { ⌜ AreaFits (now work) c × (r ≤ length (now text)) ⌝ }
     ensures { λ o. ⌜ TriedAfter (now (text .entry)) (now (work .entry)) c r (λ Γ vs ws. plainGood Γ vs ws kind) (λ Γ vs ws l. plainRow Γ vs ws l kind) line o ⌝ }

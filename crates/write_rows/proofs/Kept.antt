@@ -32,6 +32,7 @@ operands-more {D} {n} {n′} {r} l o =
       method = o .method;
       atoms = atoms-more (r .first) (r .atoms) l (o .atoms);
       one-atom = o .one-atom;
+      condition = o .condition;
     }
 
 pub method-more : {w : List ℕ} {n n′ R R′ m : ℕ} → n ≤ n′ → R ≤ R′ → MethodOk w n R m → MethodOk w n′ R′ m

@@ -40,8 +40,14 @@ release-step-requires c κs = search needs
 if-step-requires : tie.Need-if-step-requires
 if-step-requires c κs = search needs
 
-else-step-requires : tie.Need-else-step-requires
-else-step-requires c κs = search needs
+loop-step-requires : tie.Need-loop-step-requires
+loop-step-requires c κs = search needs
+
+jump-step-requires : tie.Need-jump-step-requires
+jump-step-requires c κs =
+    let start = c .before .before .before .before .before .before in
+    let at-kind-at = c .before .before .kind-at in
+    (start .pre .0, ⊎-elim (λ e. inl (sym (at-kind-at .ensures) ∙ e)) (λ e. inr (sym (at-kind-at .ensures) ∙ e)) (c .before .match .keys10))
 
 end-step-requires : tie.Need-end-step-requires
 end-step-requires c κs = search needs
@@ -51,10 +57,11 @@ compute-step-requires c κs =
     let is = c .before .before .before .before .kind-at .ensures in
     let other = c .before .before .before .match .rest in
     let t =
-    Stepping.is-computing _ (fits (c .before .before .before .before .before .before .before .before .pre .0) .kind) (λ z. other .0 .0 .0 .0 .0 .0 .0 .0 .0 .1 (is ∙ z)) (λ z. other .0 .0 .0 .0 .0 .0 .0 .0 .1 (is ∙ z))
-    (λ z. other .0 .0 .0 .0 .0 .0 .0 .1 (is ∙ z)) (λ z. other .0 .0 .0 .0 .0 .0 .1 (is ∙ z)) (λ z. other .0 .0 .0 .0 .0 .1 (is ∙ z))
-    (λ o. other .0 .0 .0 .0 .1 (⊎-elim (λ z. inl (is ∙ z)) (λ z. inr (is ∙ z)) o)) (λ z. other .0 .0 .0 .1 (is ∙ z))
-    (λ z. other .0 .0 .1 (is ∙ z)) (λ z. other .0 .1 (is ∙ z)) (λ z. other .1 (is ∙ z)) in
+    Stepping.is-computing _ (fits (c .before .before .before .before .before .before .before .before .pre .0) .kind) (λ z. other .0 .0 .0 .0 .0 .0 .0 .0 .0 .0 .1 (is ∙ z)) (λ z. other .0 .0 .0 .0 .0 .0 .0 .0 .0 .1 (is ∙ z))
+    (λ z. other .0 .0 .0 .0 .0 .0 .0 .0 .1 (is ∙ z)) (λ z. other .0 .0 .0 .0 .0 .0 .0 .1 (is ∙ z)) (λ z. other .0 .0 .0 .0 .0 .0 .1 (is ∙ z))
+    (λ o. other .0 .0 .0 .0 .0 .1 (⊎-elim (λ z. inl (is ∙ z)) (λ z. inr (is ∙ z)) o)) (λ z. other .0 .0 .0 .0 .1 (is ∙ z))
+    (λ z. other .0 .0 .0 .1 (is ∙ z)) (λ z. other .0 .0 .1 (is ∙ z))
+    (λ o. other .0 .1 (⊎-elim (λ z. inl (is ∙ z)) (λ z. inr (is ∙ z)) o)) (λ z. other .1 (is ∙ z)) in
     (c .before .before .before .before .before .before .before .before .pre .0, t)
 
 same-length : tie.Need-same-length
@@ -151,39 +158,55 @@ returns-9 c =
     let start = c .before .before .before .before .before .before .before in
     let at-kind-at = c .before .before .before .kind-at in
     let at-match = c .before .before .match in
-    Stepping.elses (start .pre .0) _ (sym (at-kind-at .ensures) ∙ at-match .keys9) (c .else-step .ensures)
+    Stepping.loops (start .pre .0) _ (sym (at-kind-at .ensures) ∙ at-match .keys9) (c .loop-step .ensures)
 
 same-length-10 : tie.Need-same-length-10
 same-length-10 c = search needs
 
 returns-10 : tie.Need-returns-10
-returns-10 c = Stepping.ends (c .before .before .before .before .before .before .before .before .before .pre .0) _ (sym (c .before .before .before .before .before .kind-at .ensures) ∙ c .before .before .before .before .match .keys10) (c .before .before .end-step .ensures)
+returns-10 c =
+    let start = c .before .before .before .before .before .before .before in
+    let at-kind-at = c .before .before .before .kind-at in
+    let at-match = c .before .before .match in
+    Stepping.jumps (start .pre .0) _ (⊎-elim (λ e. inl (sym (at-kind-at .ensures) ∙ e)) (λ e. inr (sym (at-kind-at .ensures) ∙ e)) (at-match .keys10)) (c .jump-step .ensures)
 
 same-length-11 : tie.Need-same-length-11
 same-length-11 c = search needs
 
 returns-11 : tie.Need-returns-11
-returns-11 c =
-    let is = c .before .before .before .before .before .before .before .kind-at .ensures in
-    let other = c .before .before .before .before .before .before .match .rest in
-    let t =
-    Stepping.is-computing _ (fits (c .before .before .before .before .before .before .before .before .before .before .before .pre .0) .kind) (λ z. other .0 .0 .0 .0 .0 .0 .0 .0 .0 .1 (is ∙ z)) (λ z. other .0 .0 .0 .0 .0 .0 .0 .0 .1 (is ∙ z))
-    (λ z. other .0 .0 .0 .0 .0 .0 .0 .1 (is ∙ z)) (λ z. other .0 .0 .0 .0 .0 .0 .1 (is ∙ z)) (λ z. other .0 .0 .0 .0 .0 .1 (is ∙ z))
-    (λ o. other .0 .0 .0 .0 .1 (⊎-elim (λ z. inl (is ∙ z)) (λ z. inr (is ∙ z)) o)) (λ z. other .0 .0 .0 .1 (is ∙ z))
-    (λ z. other .0 .0 .1 (is ∙ z)) (λ z. other .0 .1 (is ∙ z)) (λ z. other .1 (is ∙ z)) in
-    Stepping.computes (c .before .before .before .before .before .before .before .before .before .before .before .pre .0) _ t (c .before .before .compute-step .ensures)
+returns-11 c = Stepping.ends (c .before .before .before .before .before .before .before .before .before .pre .0) _ (sym (c .before .before .before .before .before .kind-at .ensures) ∙ c .before .before .before .before .match .keys11) (c .before .before .end-step .ensures)
 
 same-length-12 : tie.Need-same-length-12
 same-length-12 c = search needs
 
 returns-12 : tie.Need-returns-12
-returns-12 c = absurd (omega (arith, c .before .before .kind-at .ensures, c .if1 .taken, fits (c .before .before .before .before .before .before .pre .0) .kind .0))
+returns-12 c =
+    let is = c .before .before .before .before .before .before .before .kind-at .ensures in
+    let other = c .before .before .before .before .before .before .match .rest in
+    let t =
+    Stepping.is-computing _ (fits (c .before .before .before .before .before .before .before .before .before .before .before .pre .0) .kind) (λ z. other .0 .0 .0 .0 .0 .0 .0 .0 .0 .0 .1 (is ∙ z)) (λ z. other .0 .0 .0 .0 .0 .0 .0 .0 .0 .1 (is ∙ z))
+    (λ z. other .0 .0 .0 .0 .0 .0 .0 .0 .1 (is ∙ z)) (λ z. other .0 .0 .0 .0 .0 .0 .0 .1 (is ∙ z)) (λ z. other .0 .0 .0 .0 .0 .0 .1 (is ∙ z))
+    (λ o. other .0 .0 .0 .0 .0 .1 (⊎-elim (λ z. inl (is ∙ z)) (λ z. inr (is ∙ z)) o)) (λ z. other .0 .0 .0 .0 .1 (is ∙ z))
+    (λ z. other .0 .0 .0 .1 (is ∙ z)) (λ z. other .0 .0 .1 (is ∙ z))
+    (λ o. other .0 .1 (⊎-elim (λ z. inl (is ∙ z)) (λ z. inr (is ∙ z)) o)) (λ z. other .1 (is ∙ z)) in
+    Stepping.computes (c .before .before .before .before .before .before .before .before .before .before .before .pre .0) _ t (c .before .before .compute-step .ensures)
 
 same-length-13 : tie.Need-same-length-13
 same-length-13 c = search needs
 
 returns-13 : tie.Need-returns-13
-returns-13 c = absurd (omega (arith, c .before .before .before .kind-at .ensures, c .if2 .left, fits (c .before .before .before .before .before .before .before .pre .0) .kind .1))
+returns-13 c = absurd (omega (arith, c .before .before .kind-at .ensures, c .if1 .taken, fits (c .before .before .before .before .before .before .pre .0) .kind .0))
+
+same-length-14 : tie.Need-same-length-14
+same-length-14 c = search needs
+
+returns-14 : tie.Need-returns-14
+returns-14 c =
+    let is = c .before .before .before .kind-at .ensures in
+    let other = c .before .before .match .rest in
+    absurd
+    (Stepping.past-all _ (fits (c .before .before .before .before .before .before .before .pre .0) .kind) (omega (arith, is, c .if2 .left))
+    (λ z. other .0 .0 .1 (is ∙ z)) (λ o. other .0 .1 (⊎-elim (λ z. inl (is ∙ z)) (λ z. inr (is ∙ z)) o)))
 
 pub step-spec : {M : Type 1} → statement M
 step-spec =
@@ -199,7 +222,8 @@ step-spec =
     assert-step-requires
     release-step-requires
     if-step-requires
-    else-step-requires
+    loop-step-requires
+    jump-step-requires
     end-step-requires
     compute-step-requires
     same-length
@@ -227,4 +251,6 @@ step-spec =
     same-length-12
     returns-12
     same-length-13
-    returns-13)
+    returns-13
+    same-length-14
+    returns-14)

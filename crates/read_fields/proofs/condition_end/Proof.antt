@@ -1,7 +1,8 @@
 -- `lines::condition_end` meets its contract. Assumes nothing.
 use native.Mathlib.Omega.{arith}
 use mathlib.Core.Path.{sym, _∙_}
-use Rattle.rules.specs.Text.{isFormula, isCondition}
+use Rattle.rules.specs.Text.{isFormula}
+use Rattle.read_fields.specs.Spans.{conditionFirst}
 use Rattle.read_fields.proofs.Cuts.{byte-in, no-more}
 use Rattle.read_fields.proofs.Heads.{no-condition, condition-acc, condition-rel}
 use Rattle.read_fields.proofs.Spans.{read-as}
@@ -12,7 +13,7 @@ byte-at-requires : tie.Need-byte-at-requires
 byte-at-requires c κs = tt
 
 returns : tie.Need-returns
-returns c = no-condition _ (no-more (c .before .before .before .args .t .now) (c .before .before .before .args .r) (λ e. c .if1 .taken (c .before .byte-at .ensures ∙ e)))
+returns c = no-condition _ _ (no-more (c .before .before .before .args .t .now) (c .before .before .before .args .r) (λ e. c .if1 .taken (c .before .byte-at .ensures ∙ e)))
 
 add-byte-at : tie.Need-add-byte-at
 add-byte-at c = omega (arith, byte-in (c .before .before .before .args .t .now) (c .before .before .before .args .r) 9 (omega arith) (sym (c .before .byte-at .ensures) ∙ c .if1 .left))
@@ -22,15 +23,19 @@ byte-at-requires-2 c κs = tt
 
 returns-2 : tie.Need-returns-2
 returns-2 c =
-    condition-acc (c .before .before .before .before .before .args .t .now) (c .before .before .before .before .before .args .r) (sym (c .before .before .before .byte-at .ensures) ∙ c .before .before .if1 .left) (sym (c .before .byte-at2 .ensures) ∙ c .if2 .taken)
+    let start = c .before .before .before .before .before in
+    condition-acc (start .args .t .now) (start .args .r) (sym (c .before .before .before .byte-at .ensures) ∙ c .before .before .if1 .left) (sym (c .before .byte-at2 .ensures) ∙ c .if2 .taken)
+    (start .args .most)
 
 formula-end-requires : tie.Need-formula-end-requires
 formula-end-requires c κs = c .before .before .before .before .before .pre
 
 returns-3 : tie.Need-returns-3
 returns-3 c =
-    read-as (isFormula 1) isCondition (c .before .before .before .before .before .before .args .t .now) (c .before .before .before .before .before .before .args .r) (c .formula-end .result)
-    (condition-rel (c .before .before .before .before .before .before .args .t .now) (c .before .before .before .before .before .before .args .r) (sym (c .before .before .before .before .byte-at .ensures) ∙ c .before .before .before .if1 .left) (λ e. c .before .if2 .left (c .before .before .byte-at2 .ensures ∙ e)))
+    let start = c .before .before .before .before .before .before in
+    let n = start .args .most in
+    read-as (isFormula n) (conditionFirst n) (start .args .t .now) (start .args .r) (c .formula-end .result)
+    (condition-rel (start .args .t .now) (start .args .r) (sym (c .before .before .before .before .byte-at .ensures) ∙ c .before .before .before .if1 .left) (λ e. c .before .if2 .left (c .before .before .byte-at2 .ensures ∙ e)) n)
     (c .formula-end .ensures)
 
 pub condition-end-spec : {M : Type 1} → statement M

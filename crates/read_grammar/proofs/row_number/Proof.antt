@@ -88,9 +88,17 @@ returns-19 c = rw (c .match .keys19)
 
 returns-20 : tie.Need-returns-20
 unfolding Rows.opened Words.opened Grammar.opened Base.opened stageNumber
-returns-20 c =
+returns-20 c = rw (c .match .keys20)
+
+returns-21 : tie.Need-returns-21
+unfolding Rows.opened Words.opened Grammar.opened Base.opened stageNumber
+returns-21 c = rw (c .match .keys21)
+
+returns-22 : tie.Need-returns-22
+unfolding Rows.opened Words.opened Grammar.opened Base.opened stageNumber
+returns-22 c =
     let start = c .before in
-    let e : start .args .kind ≡ 20 = omega (arith, passed 19 (start .args .kind) (start .pre .0) (c .match .rest)) in rw e
+    let e : start .args .kind ≡ 22 = omega (arith, passed 21 (start .args .kind) (start .pre .0) (c .match .rest)) in rw e
 
 pub row-number-spec : {M : Type 1} → statement M
 row-number-spec =
@@ -115,4 +123,6 @@ row-number-spec =
     returns-17
     returns-18
     returns-19
-    returns-20)
+    returns-20
+    returns-21
+    returns-22)

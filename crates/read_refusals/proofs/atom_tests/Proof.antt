@@ -2,7 +2,7 @@
 use native.Mathlib.Omega.{arith}
 use borrow.Author.Needs.{needs}
 use mathlib.Core.Path.{_∙_, sym, refl}
-use Prim.Native.Nat.{_-_}
+use Prim.Native.Nat.{_+_, _-_}
 use lib.ListN.{length, drop}
 use Rattle.rules.specs.Limits.{most-atoms}
 use Rattle.rules.specs.Text.{formulaOf}
@@ -21,7 +21,7 @@ abbrev μ-loop : tie.MeasureT-loop
 μ-loop text work from c a t₀ r₀ t r = length text - r
 
 loop-holds : tie.Need-loop-holds Inv-loop μ-loop
-loop-holds c = record { most = most-atoms; high = c .before .before .pre .1; formed = c .before .before .pre .2; is = refl }
+loop-holds c = record { most = 1 + most-atoms; high = c .before .before .pre .1; formed = c .before .before .pre .2; is = refl }
 
 byte-at-requires : tie.Need-byte-at-requires Inv-loop μ-loop
 byte-at-requires c κs = search needs

@@ -117,7 +117,15 @@ returns-27 c = rw (c .match .keys27)
 
 returns-28 : tie.Need-returns-28
 unfolding Words.opened Base.opened
-returns-28 c = sym (none-packed (Unit {0}) words 1 (c .before .args .k) (c .match .rest) .1)
+returns-28 c = rw (c .match .keys28)
+
+returns-29 : tie.Need-returns-29
+unfolding Words.opened Base.opened
+returns-29 c = rw (c .match .keys29)
+
+returns-30 : tie.Need-returns-30
+unfolding Words.opened Base.opened
+returns-30 c = sym (none-packed (Unit {0}) words 1 (c .before .args .k) (c .match .rest) .1)
 
 pub numbered-spec : {M : Type 1} → statement M
 numbered-spec =
@@ -150,4 +158,6 @@ numbered-spec =
     returns-25
     returns-26
     returns-27
-    returns-28)
+    returns-28
+    returns-29
+    returns-30)

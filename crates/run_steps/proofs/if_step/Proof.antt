@@ -1,6 +1,5 @@
-use Rattle.run_steps.proofs.Doing.{view-readable, if-atom, if-holds, if-fails, if-stops}
-use mathlib.Core.Path.{_∙_}
-use Rattle.run_footprint.proofs.Taking.{truth-holds, truth-fails, truth-lacking}
+use mathlib.Core.Logic.{inl}
+use Rattle.run_steps.proofs.Doing.{if-atom}
 use borrow.Author.Needs.{needs}
 use Rattle.run_steps.proofs.if_step.Statement.{statement}
 use Rattle.run_steps.proofs.if_step.Tie as tie
@@ -11,80 +10,13 @@ cast-row c = search needs
 first-atom-at-requires : tie.Need-first-atom-at-requires
 first-atom-at-requires c κs = search needs
 
-view-of-requires : tie.Need-view-of-requires
-view-of-requires c κs = search needs
-
-condition-requires : tie.Need-condition-requires
-condition-requires c κs =
-    let start = c .before .before .before .before in
-    (view-readable (start .pre .0) (c .view-of .ensures), rw (c .before .first-atom-at .ensures .0) (if-atom (start .pre .0) (start .pre .1)))
-
-enum-told : tie.Need-enum-told
-enum-told c = search needs
-
-add-next : tie.Need-add-next
-add-next c = search needs
-
-next-requires : tie.Need-next-requires
-next-requires c κs = search needs
-
-enum-told-2 : tie.Need-enum-told-2
-enum-told-2 c = search needs
-
-target-at-requires : tie.Need-target-at-requires
-target-at-requires c κs = search needs
-
-cast-next : tie.Need-cast-next
-cast-next c = search needs
-
-next-requires-2 : tie.Need-next-requires-2
-next-requires-2 c κs = search needs
-
-enum-known-s : tie.Need-enum-known-s
-enum-known-s c = search needs
+choose-requires : tie.Need-choose-requires
+choose-requires c κs =
+    let start = c .before .before .before in
+    (start .pre .0, inl (start .pre .1), rw (c .first-atom-at .ensures .0) (if-atom (start .pre .0) (start .pre .1)))
 
 returns : tie.Need-returns
-returns c =
-    let start = c .before .before .before .before .before .before .before .before .before in
-    let at-first-atom-at = c .before .before .before .before .before .before .first-atom-at in
-    let at-view-of = c .before .before .before .before .before .view-of in
-    let at-condition = c .before .before .before .before .condition in
-    let at-enum-told = c .before .before .enum-told in
-    if-holds (start .pre .0) (start .pre .1) _ _ (at-view-of .ensures) (at-first-atom-at .ensures .0) (truth-holds _ (at-enum-told .given .1) (at-condition .ensures)) (c .next .ensures)
-
-returns-2 : tie.Need-returns-2
-returns-2 c =
-    let start = c .before .before .before .before .before .before .before .before .before in
-    let at-first-atom-at = c .before .before .before .before .before .before .first-atom-at in
-    let at-view-of = c .before .before .before .before .before .view-of in
-    let at-condition = c .before .before .before .before .condition in
-    let at-enum-told2 = c .before .before .enum-told2 in
-    if-fails (start .pre .0) (start .pre .1) _ _ (at-view-of .ensures) (at-first-atom-at .ensures .0) (truth-fails _ (at-enum-told2 .given .1) (at-condition .ensures)) (c .next2 .ensures ∙ rw (c .before .target-at .ensures .0))
-
-returns-3 : tie.Need-returns-3
-returns-3 c =
-    let start = c .before .before .before .before .before .before .before .before in
-    let at-first-atom-at = c .before .before .before .before .before .first-atom-at in
-    let at-view-of = c .before .before .before .before .view-of in
-    let at-condition = c .before .before .before .condition in
-    if-stops (start .pre .0) (start .pre .1) _ _ (at-view-of .ensures) (at-first-atom-at .ensures .0) _ (truth-lacking _ _ (c .before .s .given .1) (at-condition .ensures))
+returns c = rw (c .before .first-atom-at .ensures .0) at (c .choose .ensures)
 
 pub if-step-spec : {M : Type 1} → statement M
-if-step-spec =
-    tie.close
-    (tie.spec
-    cast-row
-    first-atom-at-requires
-    view-of-requires
-    condition-requires
-    enum-told
-    add-next
-    next-requires
-    enum-told-2
-    target-at-requires
-    cast-next
-    next-requires-2
-    enum-known-s
-    returns
-    returns-2
-    returns-3)
+if-step-spec = tie.close (tie.spec cast-row first-atom-at-requires choose-requires returns)

@@ -1,13 +1,13 @@
 -- `claims::put_ensures` meets its contract. Assumes nothing.
 use mathlib.Core.Path.{_∙_}
 use native.Mathlib.Omega.{arith}
-use Rattle.write_formulas.proofs.Claims.{header-bytes, ensures-put, tried-done, header-bad, header-done}
+use Rattle.write_formulas.proofs.Claims.{header-bytes, ensures-put, follows-line, tried-done, header-bad, header-done}
 use borrow.Author.Needs.{needs}
 use Rattle.write_formulas.proofs.put_ensures.Statement.{statement}
 use Rattle.write_formulas.proofs.put_ensures.Tie as tie
 
 put-formula-requires : tie.Need-put-formula-requires
-put-formula-requires c κs = search needs
+put-formula-requires c κs = let p = c .before .before .before .pre in (p .0, follows-line (omega arith) (p .1))
 
 enum-known-p : tie.Need-enum-known-p
 enum-known-p c = search needs
