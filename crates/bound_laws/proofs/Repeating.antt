@@ -1,17 +1,18 @@
 -- Where no line is refused with 15, no method reaches itself and no block has a loop; and the other way round.
 use mathlib.Core.Path.{_≡_, refl, sym, ap, _∙_, subst}
 use mathlib.Core.Bool.{Bool, _||_}
-use mathlib.Core.List.{List, [], _∷_}
+use mathlib.Core.List.{List, [], _∷_, map}
 use mathlib.Core.Logic.{⊎-elim}
 use mathlib.Core.Option.{Option, none, some}
 use Prim.Native.Nat.{ℕ, zero, suc, _+_}
 use native.Mathlib.Omega.{arith}
 use lib.Dec.{T, eqb, eqb→eq, eqb-refl}
 use Rattle.rules.specs.Base.{first}
-use Rattle.rules.specs.Syntax.{Stmt, Row, Program, simple, return, if, else, join, loop, again, end}
+use Rattle.rules.specs.Syntax.{Stmt, Row, Method, Program, rowNumbered, simple, return, if, else, join, loop, again, end}
 use Rattle.rules.specs.Bounds.{Block, noBlock, called, block, blocks, callees, reaches, recursive, isLoop, repeats, orLater, firstIn, firstFrom, firstRepeating}
 use Rattle.rules.proofs.Lists.{Member, head-or, none-some, or-left, or-right, or-cases, option-cases, came-from, went-to, first-in, first-some}
 use Rattle.bound_laws.specs.Routes.{blockAt, calls, Reaches, directly, through, Acyclic}
+use Rattle.bound_laws.proofs.Blocks.{block-member}
 use Rattle.bound_laws.proofs.Routes.{route-found, found-route}
 
 -- no line of a block is a loop
@@ -141,3 +142,24 @@ pub no-line :
     firstRepeating P ≡ none
 unfolding firstRepeating
 no-line P acyclic g h = none-left (blocks P) acyclic (block P (P .main)) h 0 (blocks P) (λ i. ap (blockAt (blocks P)) (omega arith)) g
+
+-- the line that is refused is a row
+block-row-of : (bs : List Block) (o : Option ℕ) (P : Program) (i : ℕ) (r : Row) → firstIn bs o (block P i) ≡ some r → (j : ℕ) × (r ≡ rowNumbered P j)
+unfolding firstIn
+block-row-of bs o P i r e = block-member P i r (first-in (λ r. repeats bs o (r .stmt)) (block P i) r e .0)
+
+pub repeating-row : (P : Program) (r : Row) → firstRepeating P ≡ some r → (j : ℕ) × (r ≡ rowNumbered P j)
+unfolding firstRepeating blocks firstFrom orLater
+repeating-row P r e = go 0 (P .methods) e
+  where
+    go : (a : ℕ) (Ms : List Method) → firstFrom (blocks P) a (map (λ M. block P (M .first)) Ms) (block P (P .main)) ≡ some r → (j : ℕ) × (r ≡ rowNumbered P j)
+    go a [] e = block-row-of (blocks P) none P (P .main) r e
+    go a (M ∷ Ms) e = one (firstIn (blocks P) (some a) (block P (M .first))) refl e (λ q. go (suc a) Ms q)
+      where
+        one :
+            (o : Option Row) → firstIn (blocks P) (some a) (block P (M .first)) ≡ o →
+            orLater o (firstFrom (blocks P) (suc a) (map (λ M. block P (M .first)) Ms) (block P (P .main))) ≡ some r →
+            (firstFrom (blocks P) (suc a) (map (λ M. block P (M .first)) Ms) (block P (P .main)) ≡ some r → (j : ℕ) × (r ≡ rowNumbered P j)) →
+            (j : ℕ) × (r ≡ rowNumbered P j)
+        one none q e ih = ih e
+        one (some x) q e ih = block-row-of (blocks P) (some a) P (M .first) r (q ∙ e)

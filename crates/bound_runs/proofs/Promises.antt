@@ -5,7 +5,7 @@ use mathlib.Core.List.{List, [], _∷_}
 use mathlib.Core.Option.{Option, none, some}
 use Prim.Native.Nat.{ℕ, zero, suc, _≤_}
 use native.Mathlib.Omega.{arith}
-use lib.Dec.{T, leb}
+use lib.Dec.{T, leb, leb→le}
 use lib.ListN.{length, getD, drop}
 use Rattle.rules.specs.Limits.{most-bound}
 use Rattle.rules.specs.Answers.{Verdict, Ending, accepted, refused, then, finished, stepsTaken, stopped, endingNumber, stopNumber, boundPassed}
@@ -44,8 +44,10 @@ record Given (t : List ℕ) : Type 0 where
   none-repeats : firstRepeating (program items) ≡ none
   is-bound : boundText t .bound ≡ mainBound (program items)
   is-frames : boundText t .frames ≡ mainFrames (program items)
+  fits : boundText t .bound ≤ most-bound
 
 record Main (P : Program) (b : ℕ × ℕ) : Type 0 where
+  fits : b .0 ≤ most-bound
   none-repeats : firstRepeating P ≡ none
   is-bound : b .0 ≡ mainBound P
   is-frames : b .1 ≡ mainFrames P
@@ -53,13 +55,14 @@ record Main (P : Program) (b : ℕ × ℕ) : Type 0 where
 main-given : (P : Program) (o : Option Row) → firstRepeating P ≡ o → (b : ℕ × ℕ) → boundOf P o ≡ accepted b → Main P b
 unfolding boundOf
 main-given P (some r) e b q = refused-accepted q
-main-given P none e b q = go (leb (mainBound P) most-bound) q
+main-given P none e b q = go (leb (mainBound P) most-bound) refl q
   where
-    go : (c : Bool) → cond c (accepted (mainBound P, mainFrames P)) (refused boundPassed 0) ≡ accepted b → Main P b
-    go true q =
+    go : (c : Bool) → leb (mainBound P) most-bound ≡ c → cond c (accepted (mainBound P, mainFrames P)) (refused boundPassed 0) ≡ accepted b → Main P b
+    go true w q =
         let is : (mainBound P, mainFrames P) ≡ b = accepted-inj q in
-        record { none-repeats = e; is-bound = sym (ap (λ (b : ℕ × ℕ). b .0) is); is-frames = sym (ap (λ (b : ℕ × ℕ). b .1) is) }
-    go false q = refused-accepted q
+        let l : mainBound P ≤ most-bound = leb→le (mainBound P) most-bound (subst T (sym w) tt) in
+        record { fits = subst (λ (b : ℕ × ℕ). b .0 ≤ most-bound) is l; none-repeats = e; is-bound = sym (ap (λ (b : ℕ × ℕ). b .0) is); is-frames = sym (ap (λ (b : ℕ × ℕ). b .1) is) }
+    go false w q = refused-accepted q
 
 given : (t : List ℕ) → boundText t .number ≡ 0 → Given t
 unfolding boundText boundNumbers boundItems boundProgram
@@ -77,6 +80,7 @@ given t e = go (then (readText t) boundItems) refl e
           none-repeats = M .none-repeats;
           is-bound = ap (λ (v : Verdict (ℕ × ℕ)). boundNumbers v .bound) q ∙ M .is-bound;
           is-frames = ap (λ (v : Verdict (ℕ × ℕ)). boundNumbers v .frames) q ∙ M .is-frames;
+          fits = subst (λ (v : Verdict (ℕ × ℕ)). boundNumbers v .bound ≤ most-bound) (sym q) (M .fits);
         }
 
 only-21 : (e : Ending) → endingNumber e ≡ 21 → e ≡ stepsTaken
@@ -135,3 +139,7 @@ pub frames-enough : FramesEnough
 frames-enough t e items r k =
     subst (λ items. (R : Run wholeHeap (program items) k) (i : ℕ) → i ≤ R .steps → suc (depth (R .state i)) ≤ boundText t .frames)
     (accepted-inj (sym (given t e .is-read) ∙ r)) (open-frames t e k)
+
+-- a bound that is given is at most the greatest
+pub bound-small : (t : List ℕ) → boundText t .number ≡ 0 → boundText t .bound ≤ most-bound
+bound-small t e = given t e .fits
