@@ -4,7 +4,7 @@ use super::render;
 use super::rng::Rng;
 use super::skeleton::{skeleton, Size};
 use super::writer::{framed, Style, Writer};
-use crate::checker::State;
+use crate::checker::{alone, State};
 use crate::limits;
 use crate::names::{
     Action, Atom, Block, Expr, Formula, Path, Program, Type, Var, PARAM, RESULT, THIS,
@@ -149,13 +149,12 @@ fn give_contract(rng: &mut Rng, program: &mut Program, index: usize) {
 
 /// The state at the start of a block.
 fn start<'a>(block: &Block<'a>) -> State<'a> {
-    let mut state = State::default();
-    state.add(&block.requires).expect("framed atoms that fit");
-    state
+    alone(&block.requires, None)
 }
 
 const PLAIN: Style = Style {
     recursive: false,
+    loops: false,
     wild: 0,
     miss: None,
 };
@@ -168,6 +167,7 @@ fn finishes(rng: &mut Rng, program: &Program, index: usize) -> bool {
         style: PLAIN,
         lines: Vec::new(),
         budget: 0,
+        invariants: Vec::new(),
     };
     writer.finish(&start(&program.blocks[index])).is_some()
 }
@@ -187,6 +187,7 @@ fn body(rng: &mut Rng, program: &Program, index: usize, style: &mut Style) -> Op
         style: *style,
         lines: Vec::new(),
         budget,
+        invariants: Vec::new(),
     };
     let state = start(&program.blocks[index]);
     let state = writer.body(state, 0, 3 * budget);
@@ -258,14 +259,19 @@ pub fn lines(rng: &mut Rng, style: Style) -> Vec<String> {
 
 /// A program that check accepts.
 pub fn accepted(rng: &mut Rng) -> Vec<u8> {
-    let recursive = rng.chance(35);
-    joined(&lines(rng, Style { recursive, ..PLAIN }))
+    let style = Style {
+        recursive: rng.chance(35),
+        loops: rng.chance(60),
+        ..PLAIN
+    };
+    joined(&lines(rng, style))
 }
 
 /// A program in which some lines are kept whatever the checker says.
 pub fn wild(rng: &mut Rng) -> Vec<u8> {
     let style = Style {
         recursive: rng.chance(35),
+        loops: rng.chance(60),
         wild: rng.pick(&[5, 20, 60]),
         miss: None,
     };
@@ -276,6 +282,7 @@ pub fn wild(rng: &mut Rng) -> Vec<u8> {
 pub fn with_miss(rng: &mut Rng, number: u32) -> Vec<u8> {
     let style = Style {
         recursive: rng.chance(20),
+        loops: rng.chance(60),
         wild: 0,
         miss: Some(number),
     };
