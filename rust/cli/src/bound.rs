@@ -35,8 +35,16 @@ impl<'a> Bounded<'a> {
             text,
             found,
             cause,
-            route: route(text, found).filter(|_| why).unwrap_or_default(),
+            route: why
+                .then(|| route(text, found))
+                .flatten()
+                .unwrap_or_default(),
         }
+    }
+
+    /// What check says of the text.
+    fn checked(&self) -> Report<'a> {
+        Report::of(self.file, self.text, None)
     }
 
     /// What a person reads.
@@ -51,7 +59,7 @@ impl<'a> Bounded<'a> {
                 show::snippet(&mut out, paint, self.text, line, None);
                 show::reasons(&mut out, number, self.cause.as_ref());
             }
-            Err(_) => return show::report(&Report::of(self.file, self.text, None), paint),
+            Err(_) => return show::report(&self.checked(), paint),
         }
         for (at, leg) in self.route.iter().enumerate() {
             wrapped(&mut out, "  route: ", &route_row(self.text, at, leg));
@@ -65,9 +73,7 @@ impl<'a> Bounded<'a> {
             .found
             .map_or_else(|none| (none.number(), none.line()), |_| (0, 0));
         let object = match self.found {
-            Err(NoBound::Refused(_)) => {
-                objects::check(object, &Report::of(self.file, self.text, None))
-            }
+            Err(NoBound::Refused(_)) => objects::check(object, &self.checked()),
             _ => {
                 let object = object.with("accepted", true).with("number", number);
                 objects::with_cause(object.with("line", line), self.cause.as_ref())

@@ -32,9 +32,9 @@ use show::Paint;
 use std::ffi::{OsStr, OsString};
 use std::process::ExitCode;
 
-/// Accepted or finished.
+/// Accepted, bounded or finished.
 pub const DONE: u8 = 0;
-/// Refused or stopped.
+/// Refused, without a bound or stopped.
 pub const REFUSED: u8 = 1;
 /// Wrong use, or a file that can't be read.
 pub const FAILED: u8 = 2;
