@@ -95,11 +95,7 @@ fn never_said(unshown: &Unshown, steps: &[Step]) -> Option<String> {
         }
         Atom::Ne(Expr::Var(_), Expr::Null) => tested(unshown),
         Atom::Eq(Expr::Var(RESULT), side) | Atom::Eq(side, Expr::Var(RESULT)) => {
-            let returned = names.var(variable_equal(unshown, side)?);
-            Some(match &unshown.action() {
-                Action::Return(_) => format!("`return {returned}` here gives that value back"),
-                _ => format!("`return {returned}` sets `result`"),
-            })
+            returned(unshown, side)
         }
         Atom::Eq(left, right) | Atom::Ne(left, right)
             if [left, right]
@@ -110,6 +106,15 @@ fn never_said(unshown: &Unshown, steps: &[Step]) -> Option<String> {
         }
         _ => None,
     }
+}
+
+/// The `return` that gives one side as the result.
+fn returned<'a>(unshown: &Unshown<'_, 'a>, side: Expr<'a>) -> Option<String> {
+    let returned = unshown.names().var(variable_equal(unshown, side)?);
+    Some(match unshown.action() {
+        Action::Return(_) => format!("`return {returned}` here gives that value back"),
+        _ => format!("`return {returned}` sets `result`"),
+    })
 }
 
 /// The line that says of a variable what it starts as, where that is wanted and

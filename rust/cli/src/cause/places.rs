@@ -158,10 +158,8 @@ pub fn limit(text: &[u8], number: u32) -> Option<Cause> {
     let mut reader = Reader::new();
     let _ = text::lines_by(&mut reader, text);
     let bytes = line(text, number)?;
-    let inner = format!(
-        "move the inner `{}` into a method",
-        shown(fields(bytes)[0].1)
-    );
+    let word = shown(fields(bytes)[0].1);
+    let inner = format!("move the inner `{word}` into a method");
     let (said, mend) = match reader.passed()? {
         Limit::Classes => (
             format!("a script has at most {} classes", limits::CLASSES),

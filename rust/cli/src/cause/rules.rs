@@ -125,14 +125,10 @@ impl<'s, 'a> Unshown<'s, 'a> {
             }
             Purpose::Requires => self.requires(&wanted, missing),
             Purpose::FirstEnd | Purpose::SecondEnd => self.end_of_branch(&wanted, missing),
-            Purpose::Invariant => {
-                format!("the invariant must hold before the first round, and `{wanted}` is {missing} here")
-            }
-            Purpose::RoundEnd => self.end_of_round(&wanted, missing),
+            Purpose::Invariant | Purpose::RoundEnd => self.invariant(&wanted, missing),
             Purpose::Ensures => {
-                let (_, line) = self
-                    .script
-                    .contract_lines(self.script.block_of(self.asked.place));
+                let block = self.script.block_of(self.asked.place);
+                let (_, line) = self.script.contract_lines(block);
                 format!("`ensures` (line {line}) promises `{wanted}`, which is {missing} here")
             }
             _ if self.read.is_some() => format!("the line {needs}, and it is {missing} here"),
@@ -172,8 +168,12 @@ impl<'s, 'a> Unshown<'s, 'a> {
         format!("at the end of the {which} branch, {lines}, `{wanted}` is {missing}")
     }
 
-    fn end_of_round(&self, wanted: &str, missing: &str) -> String {
-        let start = self.round().map_or(0, |opened| opened.line);
+    fn invariant(&self, wanted: &str, missing: &str) -> String {
+        let Some(start) = self.round().map(|opened| opened.line) else {
+            return format!(
+                "the invariant must hold before the first round, and `{wanted}` is {missing} here"
+            );
+        };
         let again = self.script.program.statements[self.asked.place].line;
         let lines = lines_between(start, again);
         format!(

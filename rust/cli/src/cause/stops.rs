@@ -50,13 +50,7 @@ fn formula<'p, 'a>(
     };
     Some(match (tested, &machine.statement().action) {
         (Tested::Line, action) => own(action.formula()?, String::new()),
-        (Tested::Invariant, action) => {
-            let when = match came_round(script, machine) {
-                true => "after a round",
-                false => "before the first round",
-            };
-            own(action.formula()?, format!(" of the invariant {when}"))
-        }
+        (Tested::Invariant, action) => own(action.formula()?, arrival(script, machine)),
         (Tested::Ensures, action) => {
             let (_, line) = script.contract_lines(frame.block);
             let ensures = &script.program.blocks[frame.block].ensures;
@@ -142,13 +136,15 @@ pub fn stop_cause(text: &[u8], steps: u32, stop: u32) -> Option<Cause> {
     Some(Cause::new(said).mark(mark))
 }
 
-/// Did the last step come back to the `loop` at which the machine stands?
-fn came_round(script: &Script, machine: &Machine) -> bool {
-    let Some(steps) = machine.steps.checked_sub(1) else {
-        return false;
+/// Whether the last step came back to the `loop` at which the machine stands.
+fn arrival(script: &Script, machine: &Machine) -> String {
+    let last = machine.steps.checked_sub(1);
+    let last = last.map(|steps| &machine_at(script, steps).statement().action);
+    let when = match last == Some(&Action::Again(machine.frame().next)) {
+        true => "after a round",
+        false => "before the first round",
     };
-    let action = &machine_at(script, steps).statement().action;
-    *action == Action::Again(machine.frame().next)
+    format!(" of the invariant {when}")
 }
 
 /// So many rounds of a loop are told of.
