@@ -14,12 +14,12 @@ use Rattle.rules.specs.Base.{Name, Try, ok, no, update}
 use Rattle.rules.specs.Limits.{most-bytes}
 use Rattle.rules.specs.Answers.{Refusal, Verdict, accepted, refused, atLine, then, textTooLong, textEnds, unframed}
 use Rattle.rules.specs.Syntax.{Expr, Formula, Stmt, Simple, Row, Method, Program, num, null, var, path}
-use Rattle.rules.specs.Syntax.{set, assign, compute, new, call, return, assert, release, simple, if, else, join, end}
+use Rattle.rules.specs.Syntax.{set, assign, compute, new, call, return, assert, release, simple, if, else, join, loop, again, end}
 use Rattle.rules.specs.Text.{lines, onto, exprOf, numeral, hasStop, beforeStop, afterStop, number}
 use Rattle.rules.specs.Grammar as Grammar
 use Rattle.rules.specs.Grammar.{Kind, Statement, Line}
 use Rattle.rules.specs.Grammar.{Class, Field, Requires, Ensures, Main, Var, statement}
-use Rattle.rules.specs.Grammar.{Set, Let, New, Call, Return, Assert, Release, If, Else, Join, End, Add, Sub}
+use Rattle.rules.specs.Grammar.{Set, Let, New, Call, Return, Assert, Release, If, Else, Join, End, Add, Sub, Loop, Again}
 use Rattle.rules.specs.Places.{Place, firstPlace, scanLine, scanLines, ended}
 use Rattle.rules.specs.Scope.{Declarations, Variable, Scope, operand, declarations, firstScope, scopeAfter}
 use Rattle.rules.specs.Items.{Item, aClass, aField, aMethod, aRequires, anEnsures, aMain, aLocal, aStatement}
@@ -27,7 +27,7 @@ use Rattle.rules.specs.Items.{resolveExpr, resolveStatement, itemOf, resolveLin
 use Rattle.rules.specs.Reading.{readText, framedItem, checkFramed, noProgram, withItem, withItems, program}
 use Rattle.rules.specs.State.{State}
 use Rattle.rules.specs.Rules as Rules
-use Rattle.rules.specs.Rules.{Following, Open, inFirst, inSecond, reached, checkRow, checkRows, checkFrom, elseRow, joinRow, endRow, checkMethod, checkBlocks, checkProgram}
+use Rattle.rules.specs.Rules.{Following, Open, inFirst, inSecond, inLoop, reached, checkRow, checkRows, checkFrom, elseRow, joinRow, againRow, endRow, checkMethod, checkBlocks, checkProgram}
 use Rattle.rules.specs.Calls.{checkItems}
 use Rattle.rules.proofs.Tries.{refused-accepted, accepted-inj, atLine-accepted, then-accepted}
 use Rattle.rules.proofs.Signs.{number-small}
@@ -173,6 +173,8 @@ SmallStmt (return x) = Unit {0}
 SmallStmt (if n a b) = Unit {0}
 SmallStmt else = Unit {0}
 SmallStmt (join φ) = Unit {0}
+SmallStmt (loop n a b φ) = Unit {0}
+SmallStmt again = Unit {0}
 SmallStmt end = Unit {0}
 
 abbrev pub SmallItem : Item → Type 0
@@ -209,7 +211,7 @@ module _ (Γ : Declarations) (vs : List Variable) where
   statement-small :
       (a : Statement) (ws : List Name) →
       SmallItem (aStatement (resolveStatement Γ vs a (lineOf (statement a) ws)))
-  unfolding resolveStatement Rattle.rules.specs.Items.resolveSet Rattle.rules.specs.Items.resolveCompute Rattle.rules.specs.Items.resolveCall Rattle.rules.specs.Items.resolveIf
+  unfolding resolveStatement Rattle.rules.specs.Items.resolveSet Rattle.rules.specs.Items.resolveCompute Rattle.rules.specs.Items.resolveCall Rattle.rules.specs.Items.resolveIf Rattle.rules.specs.Items.resolveLoop
   statement-small Set ws = tt
   statement-small Let ws = expr-small (operand (lineOf (statement Let) ws) 1)
   statement-small New ws = tt
@@ -223,6 +225,8 @@ module _ (Γ : Declarations) (vs : List Variable) where
   statement-small End ws = tt
   statement-small Add ws = tt
   statement-small Sub ws = tt
+  statement-small Loop ws = tt
+  statement-small Again ws = tt
 
   item-small : (k : Kind) (ws : List Name) → SmallItem (itemOf Γ vs k (lineOf k ws))
   unfolding itemOf
@@ -282,16 +286,23 @@ module _ (n : ℕ) where
     row-within :
         (st : Stmt) (l : ℕ) (k : Following) (e : Rules.End) (os : List Open) → l ≤ n → ((e : Rules.End) (os : List Open) → Within n (k e os)) →
         Within n (checkRow P st l φ k e os)
-    unfolding checkRow elseRow joinRow endRow
+    unfolding checkRow elseRow joinRow againRow endRow
     row-within (simple p) l k e os h x = reached-within l e _ h (λ s. at-within n l _ _ h (λ a. x _ os))
     row-within (return y) l k e os h x = reached-within l e _ h (λ s. at-within n l _ _ h (λ u. x _ os))
     row-within (if r a b) l k e os h x = reached-within l e _ h (λ s. at-within n l _ _ h (λ c. x _ (inFirst (c .1) ∷ os)))
     row-within else l k e [] h x = h
     row-within else l k e (inFirst s₂ ∷ os) h x = x _ (inSecond e ∷ os)
     row-within else l k e (inSecond e₁ ∷ os) h x = h
+    row-within else l k e (inLoop ψ s ∷ os) h x = h
     row-within (join ψ) l k e [] h x = h
     row-within (join ψ) l k e (inFirst s₂ ∷ os) h x = h
     row-within (join ψ) l k e (inSecond e₁ ∷ os) h x = at-within n l _ _ h (λ a. x _ os)
+    row-within (join ψ) l k e (inLoop χ s ∷ os) h x = h
+    row-within (loop r a b ψ) l k e os h x = reached-within l e _ h (λ s. at-within n l _ _ h (λ c. x _ (inLoop ψ (c .1) ∷ os)))
+    row-within again l k e [] h x = h
+    row-within again l k e (inFirst s₂ ∷ os) h x = h
+    row-within again l k e (inSecond e₁ ∷ os) h x = h
+    row-within again l k e (inLoop ψ s ∷ os) h x = at-within n l _ _ h (λ u. x _ os)
     row-within end l k e [] h x = at-within n l _ _ h (λ a. tt)
     row-within end l k e (o ∷ os) h x = h
 

@@ -11,12 +11,12 @@ use Rattle.rules.specs.Base.{ok}
 use Rattle.rules.specs.Limits.{most-frames}
 use Rattle.rules.specs.Answers.{Ending, finished, stepsTaken, stopped, heapFull, framesFull, nullFollowed, overflow}
 use Rattle.rules.specs.Syntax.{Expr, Formula, Operation, Stmt, Simple, Row, Field, Method, Program, num, null, var, path}
-use Rattle.rules.specs.Syntax.{set, assign, compute, new, call, return, assert, release, simple, if, else, join, end}
+use Rattle.rules.specs.Syntax.{set, assign, compute, new, call, return, assert, release, simple, if, else, join, loop, again, end}
 use Rattle.rules.specs.Syntax.{noRow, rowNumbered, methodNumbered, result-variable}
 use Rattle.rules.specs.Machine as Machine
 use Rattle.rules.specs.Machine.{Cell, Heap, Location, Frame, Config, Room, Step, Outcome, on, stop, done}
 use Rattle.rules.specs.Machine.{valueIn, object, valueAt, storeIn, store, valueOf, locate, value, footprint, jump, advance, bind, holding, withFrame, choose, elseStep}
-use Rattle.rules.specs.Machine.{ifStep, stored, setStep, assignStep, raised, inRange, computed, computeStep, newCell, grown, newStep, entryValues, callFrame, entered, callStep, statementOf, returned, assertStep, releaseStep, endStep, returnStep, mainFrame, ends, goOn, simpleStep, stepAt, step, run, start, runProgram}
+use Rattle.rules.specs.Machine.{ifStep, loopStep, againStep, stored, setStep, assignStep, raised, inRange, computed, computeStep, newCell, grown, newStep, entryValues, callFrame, entered, callStep, statementOf, returned, assertStep, releaseStep, endStep, returnStep, mainFrame, ends, goOn, simpleStep, stepAt, step, run, start, runProgram}
 use Rattle.rules.proofs.Lists.{update-length, and-both}
 use Rattle.rules.proofs.Tries.{ok-inj, bind-ok, check-ok}
 use Rattle.rules.proofs.States.{on-inj, took-on}
@@ -250,7 +250,7 @@ module _ (n : ℕ) where
     simple-fits (release φ) m m′ s z i = release-fits m m′ φ z i
 
     at-fits : (st : Stmt) (m m′ : Config) → SmallStmt st → Fit m → stepAt room P st m ≡ on m′ → Fit m′
-    unfolding stepAt elseStep
+    unfolding stepAt elseStep loopStep againStep
     at-fits (simple p) m m′ s z i = simple-fits p m m′ s z (took-on _ m′ i)
     at-fits (return x) m m′ s z i = return-fits P m m′ x z i
     at-fits (if r a b) m m′ s z i = if-fits m m′ (P .rows) r a b z (took-on _ m′ i)
@@ -258,6 +258,11 @@ module _ (n : ℕ) where
         subst Fit (on-inj i)
         (with-frame m _ z (jump-fits (m .frame) _ (z .frame)))
     at-fits (join φ) m m′ s z i = assert-fits m m′ φ z (took-on _ m′ i)
+    at-fits (loop r a b φ) m m′ s z i =
+        let (_, _, j) = bind-ok (footprint (m .heap) (m .frame) φ) (took-on _ m′ i) in if-fits m m′ (P .rows) r a b z j
+    at-fits again m m′ s z i =
+        subst Fit (on-inj i)
+        (with-frame m _ z (jump-fits (m .frame) _ (z .frame)))
     at-fits end m m′ s z i = end-fits P m m′ (m .callers) (z .callers) z i
 
     step-fits : (m m′ : Config) → Fit m → step room P m ≡ on m′ → Fit m′

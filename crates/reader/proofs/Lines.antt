@@ -8,14 +8,14 @@ use lib.Dec.{eqb, eqb·suc-zero}
 use lib.ListN.{length, drop}
 use borrow.Author.Tests.{eqb-true, eqb-false}
 use Rattle.rules.specs.Syntax.{Formula}
-use Rattle.rules.specs.Grammar.{Kind, Line, Class, Requires, Ensures, Main, statement, Join, form, isFormed}
+use Rattle.rules.specs.Grammar.{Kind, Line, Class, Requires, Ensures, Main, statement, Join, Loop, form, isFormed}
 use Rattle.rules.specs.Grammar.{first-statement, IsKindNumber, kindNumber, statementNumber, isStatement, isKind}
 use Rattle.rules.specs.Reading.{framed, framedItem}
 use Rattle.read_bytes.proofs.Search.{true-false, or-false}
 use Rattle.read_fields.specs.Cuts.{more}
 use Rattle.read_grammar.specs.Rows.{kindNumbered}
 use Rattle.read_grammar.proofs.Rows.{kind-of-number, kind-numbered}
-use Rattle.tables.specs.Decode.{atomsFrom}
+use Rattle.tables.specs.Decode.{framedFrom}
 use Rattle.rules.specs.Syntax.{Program}
 use Rattle.read_scan.specs.declared.Word.{Word}
 use Rattle.resolve_pass.specs.declared.Pass.{Pass}
@@ -27,9 +27,9 @@ use Rattle.reader.specs.Readings.{Between, Written, Begins, LineTaken, u
 use Rattle.resolve_bodies.specs.Bodies.{Follows}
 
 -- the kinds that number 10 is about, by their numbers
-pub framed-number : (n : ℕ) → IsKindNumber n → isFramed (kindNumbered n) ≡ (eqb 4 n || (eqb 5 n || eqb 17 n))
+pub framed-number : (n : ℕ) → IsKindNumber n → isFramed (kindNumbered n) ≡ (eqb 4 n || (eqb 5 n || (eqb 17 n || eqb 21 n)))
 unfolding isFramed kindNumber statementNumber
-framed-number n h = let is = kind-numbered n h in rw (is Requires, is Ensures, is (statement Join))
+framed-number n h = let is = kind-numbered n h in rw (is Requires, is Ensures, is (statement Join), is (statement Loop))
 
 -- the kinds that it is not about, by theirs
 pub declares-unframed : (k : ℕ) → isDeclaration k ≡ true → isFramed (kindNumbered k) ≡ false
@@ -61,14 +61,14 @@ module _ {t w : List ℕ} {p : Pass} {l : Line} {w′ : List ℕ} {q : Pass} (x 
   -- the line's formula was tested
   pub unframed-is :
       (F : Program) → Stands t w p F →
-      unframedBy (isFramed (l .kind)) (atomsFrom w′ (p .atoms) (q .atoms - p .atoms)) p
+      unframedBy (isFramed (l .kind)) (framedFrom w′ (kindNumber (l .kind)) (p .atoms) (q .atoms - p .atoms)) p
       ≡ unframedAfter (p .unframed) (p .line) (item t w p l)
   unfolding unframedBy unframedAfter framed
   unframed-is F s = ap (λ (n : ℕ). cond (eqb (p .unframed) 0) n (p .unframed)) (go (isFramed (l .kind)) refl)
     where
       go :
           (b : Bool) → isFramed (l .kind) ≡ b →
-          cond b (cond (framed [] (atomsFrom w′ (p .atoms) (q .atoms - p .atoms))) 0 (suc (p .line))) 0
+          cond b (cond (framed [] (framedFrom w′ (kindNumber (l .kind)) (p .atoms) (q .atoms - p .atoms))) 0 (suc (p .line))) 0
           ≡ cond (framedItem (item t w p l)) 0 (suc (p .line))
       go true e = rw (x .formula e F s, framed-formula (item t w p l))
       go false e = sym (rw (framed-other _ _ (l .kind) l e))
@@ -85,6 +85,7 @@ module _ {t w : List ℕ} {p : Pass} {l : Line} {w′ : List ℕ} {q : Pass} (x 
               rows = x .counted .rows;
               grown = x .counted .grown;
               atoms = x .counted .atoms;
+              condition = x .counted .condition;
               main = x .counted .main;
               line = x .counted .line;
             };
@@ -99,22 +100,27 @@ module _ {t w : List ℕ} {p : Pass} {l : Line} {w′ : List ℕ} {q : Pass} (x 
       }
 
   -- its atoms are written
-  pub between : (F : Program) → Stands t w p F → PassFits t w p → LineRoom t w p l → Between w′ p q
-  between F s r m =
+  pub between :
+      (k : ℕ) → IsKindNumber k → l .kind ≡ kindNumbered k → (F : Program) → Stands t w p F → PassFits t w p → LineRoom t w p l → Between w′ k p q
+  unfolding kindNumber statementNumber
+  between k n i F s r m =
       record {
+        kind = n;
         whole = x .size ∙ r .whole;
         line = m .line;
         low = x .counted .grown;
         high = x .built F s .holds .atoms .few;
+        condition = λ e. x .counted .condition (i ∙ (ap kindNumbered e ∙ kind-of-number (statement Loop)));
       }
 
   -- number 10 has its line
   pub line-taken :
-      Written t w p → (r : Pass) →
-      r ≡ withUnframed q (unframedBy (isFramed (l .kind)) (atomsFrom w′ (p .atoms) (q .atoms - p .atoms)) p) → LineTaken t w p l w′ r
+      Written t w p → (k : ℕ) → kindNumber (l .kind) ≡ k → (r : Pass) →
+      r ≡ withUnframed q (unframedBy (isFramed (l .kind)) (framedFrom w′ k (p .atoms) (q .atoms - p .atoms)) p) → LineTaken t w p l w′ r
   unfolding withUnframed
-  line-taken s r i =
-      subst (LineTaken t w p l w′) (sym i) (record { put = put-unframed _; unframed = unframed-is (s .flat) (s .stands) })
+  line-taken s k e r i =
+      let n : (u : ℕ) → Pass = λ u. withUnframed q (unframedBy (isFramed (l .kind)) (framedFrom w′ u (p .atoms) (q .atoms - p .atoms)) p) in
+      subst (LineTaken t w p l w′) (sym (i ∙ ap n (sym e))) (record { put = put-unframed _; unframed = unframed-is (s .flat) (s .stands) })
 
   -- it is not about the line
   pub line-declared : isFramed (l .kind) ≡ false → q .unframed ≡ p .unframed → LineTaken t w p l w′ q

@@ -67,12 +67,14 @@ unfoldable pub refusalHere : (t w : List ℕ) → Pass → Line → Option Answe
 refusalHere t w p l =
     refusalIn (declarationsIn t w (p .names)) (variablesIn t w (seenBy (l .kind) (p .names))) (scopeIn t w (p .names) (p .above)) l
 
--- its atoms, between p and q, are written
-pub record Between (w : List ℕ) (p q : Pass) : Type 0 where
+-- its atoms, between p and q, are written; k is the number of its kind, 21 that of a `loop`
+pub record Between (w : List ℕ) (k : ℕ) (p q : Pass) : Type 0 where
+  pub kind : IsKindNumber k
   pub whole : length w ≡ work-bytes
   pub line : p .line < most-bytes
   pub low : p .atoms ≤ q .atoms
   pub high : q .atoms ≤ most-atom-rows
+  pub condition : k ≡ 21 → p .atoms < q .atoms
 
 -- with a formula that number 10 is about, or not
 unfoldable pub unframedBy : Bool → Formula ℕ → Pass → ℕ

@@ -16,11 +16,10 @@ ghost use Prim.Native.Nat.{_+_, _-_, _≤_, _<_};
 ghost use lib.ListN.{length};
 ghost use Rattle.rules.specs.Limits.{work-bytes, most-bytes};
 ghost use Rattle.rules.specs.Grammar.{IsKindNumber};
-ghost use Rattle.rules.specs.Reading.{framed};
 ghost use Rattle.read_grammar.specs.Rows.{kindNumbered};
 ghost use Rattle.read_scan.specs.Scans as Scans;
 ghost use Rattle.read_scan.specs.Table.{LineTable};
-ghost use Rattle.tables.specs.Decode.{atomsFrom};
+ghost use Rattle.tables.specs.Decode.{framedFrom};
 ghost use Rattle.read_declarations.specs.Texts.{TextTaken};
 ghost use Rattle.read_declarations.specs.Declares.{Declares};
 ghost use Rattle.read_refusals.specs.Refusals as Judges;
@@ -69,20 +68,21 @@ fn is_framed(kind: u8) -> bool
         Kind::REQUIRES => true,
         Kind::ENSURES => true,
         Kind::JOIN => true,
+        Kind::LOOP => true,
         _ => false,
     }
 }
 
 // The first line that number 10 refuses, or 0, after a line of this kind between p and q.
 fn first_unframed(work: &[u8], kind: u8, p: Pass, q: Pass) -> usize
-    requires { ⌜ Between (now work) p q × IsKindNumber kind ⌝ }
-    ensures { λ u. ⌜ u ≡ unframedBy (isFramed (kindNumbered kind)) (atomsFrom (now (work .entry)) (p .atoms) (q .atoms - p .atoms)) p ⌝ }
+    requires { ⌜ Between (now work) kind p q ⌝ }
+    ensures { λ u. ⌜ u ≡ unframedBy (isFramed (kindNumbered kind)) (framedFrom (now (work .entry)) kind (p .atoms) (q .atoms - p .atoms)) p ⌝ }
 {
     if p.unframed != 0 {
         return p.unframed;
     }
     if is_framed(kind) {
-        if resolve_framing::framed(work, p.atoms, q.atoms - p.atoms) {
+        if resolve_framing::framed_line(work, kind, p.atoms, q.atoms - p.atoms) {
             return 0;
         }
         return p.line + 1;
@@ -108,8 +108,8 @@ fn with_unframed(p: Pass, unframed: usize) -> Pass
 
 // The pass q after a line of this kind, with the first line that number 10 refuses; p is the pass before it.
 fn take_line(work: &[u8], kind: u8, p: Pass, q: Pass) -> Pass
-    requires { ⌜ Between (now work) p q × IsKindNumber kind ⌝ }
-    ensures { λ r. ⌜ r ≡ withUnframed q (unframedBy (isFramed (kindNumbered kind)) (atomsFrom (now (work .entry)) (p .atoms) (q .atoms - p .atoms)) p) ⌝ }
+    requires { ⌜ Between (now work) kind p q ⌝ }
+    ensures { λ r. ⌜ r ≡ withUnframed q (unframedBy (isFramed (kindNumbered kind)) (framedFrom (now (work .entry)) kind (p .atoms) (q .atoms - p .atoms)) p) ⌝ }
 {
     let u = first_unframed(work, kind, p, q);
     with_unframed(q, u)

@@ -35,6 +35,7 @@ module _ {t w : List ℕ} {p : Pass} {k r : ℕ} (x : Follows t w p k r) {v : Li
         rows = r;
         grown = y .grown;
         atoms = y .count;
+        condition = y .condition;
         main = m ∙ sym (ap (λ b. cond b (p .rows) (p .main)) (o .main));
         line = l;
       }

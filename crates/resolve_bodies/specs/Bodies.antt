@@ -2,20 +2,20 @@
 use mathlib.Core.Path.{_≡_}
 use mathlib.Core.Bool.{Bool, true, cond}
 use mathlib.Core.List.{List}
-use Prim.Native.Nat.{ℕ, suc, _+_, _-_, _≤_}
+use Prim.Native.Nat.{ℕ, suc, _+_, _-_, _≤_, _<_}
 use lib.ListN.{length}
-use Rattle.rules.specs.Limits.{work-bytes, most-atoms}
-use Rattle.rules.specs.Grammar.{Line}
+use Rattle.rules.specs.Limits.{work-bytes}
+use Rattle.rules.specs.Grammar.{Line, statement, Loop, kindNumber}
 use Rattle.read_grammar.specs.Rows.{kindNumbered}
 use Rattle.tables.specs.Layout.{names-at}
-use Rattle.tables.specs.Decode.{atomsFrom}
+use Rattle.tables.specs.Decode.{framedFrom}
 use Rattle.tables.specs.Stores.{Kept}
 use Rattle.rules.specs.Syntax.{Program}
 use Rattle.rules.specs.Reading.{withItem}
 use Rattle.read_declarations.specs.Declares.{FormedAfter}
 use Rattle.write_rows.specs.Holds.{Holds}
 use Rattle.resolve_pass.specs.declared.Pass.{Pass}
-use Rattle.resolve_pass.specs.Passes.{counts, hasAtoms, isFramed, framedFormula, item, PassFits, Stands, LineRoom, lineAfter, isGoodHere, BadLine}
+use Rattle.resolve_pass.specs.Passes.{counts, atomsAtMost, isFramed, framedFormula, item, PassFits, Stands, LineRoom, lineAfter, isGoodHere, BadLine}
 use Rattle.resolve_atoms.specs.declared.Put.{Put}
 
 -- the line of this kind, whose word ends at r, may be tried
@@ -28,10 +28,12 @@ pub record Follows (t w : List ℕ) (p : Pass) (k r : ℕ) : Type 0 where
 -- its item is in the tables, and m atoms are written
 pub record ItemPut (t w : List ℕ) (p : Pass) (l : Line) (w′ : List ℕ) (m : ℕ) : Type 0 where
   pub grown : p .atoms ≤ m
-  pub count : m ≤ p .atoms + cond (hasAtoms (l .kind)) most-atoms 0
+  pub count : m ≤ p .atoms + atomsAtMost (l .kind)
+  pub condition : l .kind ≡ statement Loop → p .atoms < m
   pub built : (F : Program) → Stands t w p F → Holds (counts (p .names)) w′ (withItem F (suc (p .line)) (item t w p l)) m
   pub formula :
-      isFramed (l .kind) ≡ true → (F : Program) → Stands t w p F → atomsFrom w′ (p .atoms) (m - p .atoms) ≡ framedFormula (item t w p l)
+      isFramed (l .kind) ≡ true → (F : Program) → Stands t w p F →
+      framedFrom w′ (kindNumber (l .kind)) (p .atoms) (m - p .atoms) ≡ framedFormula (item t w p l)
   pub names : Kept names-at work-bytes w w′
   pub size : length w′ ≡ length w
 

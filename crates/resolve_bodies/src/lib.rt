@@ -74,6 +74,7 @@ fn put_row(text: &[u8], work: &mut [u8], p: Pass, kind: u8, r: usize) -> Put
         Kind::RELEASE => write_formulas::put_claim(text, work, c, kind, r, i, n, line),
         Kind::IF => write_sides::put_if(text, work, c, r, i, n, line),
         Kind::JOIN => write_formulas::put_claim(text, work, c, kind, r, i, n, line),
+        Kind::LOOP => write_formulas::put_claim(text, work, c, kind, r, i, n, line),
         _ => done_if(write_plain::put_plain(text, work, c, kind, r, i, line), n),
     }
 }

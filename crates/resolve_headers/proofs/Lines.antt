@@ -75,13 +75,22 @@ module _ (t w : List ℕ) (p : Pass) (l : Line) (w′ : List ℕ) where
       declarationsIn t w′ (namesAfter (l .kind) (p .names)) ≡ declarationsIn t w (p .names) →
       scopeIn t w′ (namesAfter (l .kind) (p .names)) (aboveAfter (l .kind) (p .above)) ≡ scopeAfter (scopeIn t w (p .names) (p .above)) l →
       Kept lines-at work-bytes w w′ → length w′ ≡ length w → DeclarationPut t w p l w′ (next (l .kind) p)
-  unfolding oneMoreIf
+  unfolding oneMoreIf isStatement
   declaration-put a b n g d s k z =
       record {
         put =
             record {
               counted =
-                  record { names = refl; above = refl; rows = rw a; grown = omega arith; atoms = omega arith; main = refl; line = refl };
+                  record {
+                    names = refl;
+                    above = refl;
+                    rows = rw a;
+                    grown = omega arith;
+                    atoms = omega arith;
+                    condition = λ e. true-false (sym (ap isStatement e) ∙ a);
+                    main = refl;
+                    line = refl;
+                  };
               built = λ F h.
                   let x = g F h in
                   record {

@@ -112,7 +112,7 @@ record Owns (k n m : ℕ) : Type 0 where
   later : k ≡ 21 → ownFirst k n ≡ n + 1
   same : (k ≡ 21 → ⊥) → ownFirst k n ≡ n
 
-some-atoms : (φ : Formula ℕ) → hasCondition φ ≡ true → 1 ≤ length φ
+pub some-atoms : (φ : Formula ℕ) → hasCondition φ ≡ true → 1 ≤ length φ
 unfolding hasCondition
 some-atoms [] e = true-false (sym e)
 some-atoms (x ∷ φ) e = omega arith

@@ -68,7 +68,7 @@ no-access u a b e =
     rw (acc-is u, ne-eqb (wordNumber u) acc-word (λ z. omega (arith, r)))
 
 -- THE TESTS OF A LINE THAT HAS ITS FORM
-abbrev Formed : Statement → List Name → Type 0
+abbrev pub Formed : Statement → List Name → Type 0
 Formed a ws = isFormed (form (statement a) .operands) (form (statement a) .tail) ws ≡ true
 
 let-form : (ws : List Name) → Formed Let ws → isExpr (getD ws 1 []) ≡ true
@@ -77,12 +77,12 @@ let-form [] e = true-false (sym e)
 let-form (u ∷ []) e = true-false (sym (both-true (isName u) false e .1))
 let-form (u ∷ v ∷ ws) e = both-true (isExpr v) _ (both-true (isName u) _ e .1) .0
 
--- the fields of `if`
+-- the fields of a condition
 pub record IfForm (u a b : Name) : Type 0 where
   pub form : isAtom u a b ≡ true
   pub compared : atomOf u a b ≡ cmp (relOf u) (exprOf a) (exprOf b)
 
-if-form : (ws : List Name) → Formed If ws → IfForm (getD ws 0 []) (getD ws 1 []) (getD ws 2 [])
+pub if-form : (ws : List Name) → Formed If ws → IfForm (getD ws 0 []) (getD ws 1 []) (getD ws 2 [])
 unfolding Grammar.opened isCondition isFormula
 if-form [] x = true-false (sym x)
 if-form (u ∷ []) x = true-false (sym x)
@@ -149,6 +149,7 @@ one-ok D k x n l o s =
       method = λ e. absurd (⊎-elim (λ z. omega arith) (λ z. omega arith) o);
       atoms = omega arith;
       one-atom = λ e. refl;
+      condition = λ e. absurd (omega (arith, b));
     }
 
 pub one-bytes :

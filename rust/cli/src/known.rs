@@ -167,6 +167,7 @@ pub fn all(script: &Script) -> Vec<Known> {
         };
         let turned = match (&statement.action, &seen.before) {
             (Action::If(_) | Action::Else(_) | Action::Join(_) | Action::End, _) => Vec::new(),
+            (Action::Loop(_) | Action::Again(_), _) => Vec::new(),
             (_, Some(state)) => turned(script, place, state, &mut added, &mut dropped),
             _ => Vec::new(),
         };

@@ -15,6 +15,7 @@ mod nearest;
 mod objects;
 mod progress;
 mod report;
+mod rounds;
 mod script;
 mod show;
 mod table;

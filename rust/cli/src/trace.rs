@@ -4,10 +4,12 @@ use crate::cards;
 use crate::cause::value_shown;
 use crate::json::Json;
 use crate::report::Report;
+use crate::rounds::Rounds;
 use crate::script::{quoted, shown, Script};
 use crate::show::file_name;
 use crate::{Session, DONE, REFUSED};
 use model::machine::{Machine, Step, Values};
+use model::names::Action;
 use std::cmp::Ordering;
 use std::ffi::OsStr;
 
@@ -113,19 +115,30 @@ impl Before {
     }
 }
 
+/// What a step at a `loop` leads to, after so many rounds.
+fn turn(entered: bool, rounds: u32) -> String {
+    match (entered, rounds) {
+        (true, rounds) => format!("round {}", rounds + 1),
+        (_, 1) => "left after 1 round".to_string(),
+        (_, rounds) => format!("left after {rounds} rounds"),
+    }
+}
+
 /// One step of the machine; none at the end.
-fn row(script: &Script, machine: &mut Machine) -> Option<Row> {
+fn row(script: &Script, machine: &mut Machine, rounds: &mut Rounds) -> Option<Row> {
     let before = Before::of(machine);
-    let line = machine.statement().line;
-    let done = machine.step();
+    let (statement, place) = (machine.statement(), machine.frame().next);
+    let before_rounds = rounds.done(machine);
+    let done = rounds.step(machine);
     done.ok().map(|step| Row {
         step: machine.steps,
-        line,
+        line: statement.line,
         depth: before.depth - 1,
-        text: quoted(script.text, line),
-        changes: match step {
-            Step::On => changes(script, &before, machine),
-            Step::Done => Vec::new(),
+        text: quoted(script.text, statement.line),
+        changes: match (step, &statement.action) {
+            (Step::Done, _) => Vec::new(),
+            (_, Action::Loop(_)) => vec![turn(machine.frame().next == place + 1, before_rounds)],
+            _ => changes(script, &before, machine),
         },
     })
 }
@@ -149,8 +162,9 @@ fn json_row(row: &Row) -> Json {
 /// Each of so many steps, until the first that is not wanted.
 pub fn each(script: &Script, steps: u32, mut wanted: impl FnMut(&Row) -> bool) {
     let mut machine = Machine::new(&script.program);
+    let mut rounds = Rounds::default();
     while machine.steps < steps {
-        match row(script, &mut machine) {
+        match row(script, &mut machine, &mut rounds) {
             Some(row) if wanted(&row) => {}
             _ => return,
         }

@@ -130,6 +130,107 @@ fn causes_of_stops() {
     }
 }
 
+/// A script with a card `s`, whose int field is n, and counters i and one, which
+/// is 1; its main goes on with these lines, blanks for tabs.
+fn with_loop(lines: &str) -> Vec<u8> {
+    let start = "class S|field int n|main|var S s|var int i|var int one|let one 1|";
+    let text = format!("{start}{lines}|end|");
+    text.replace(' ', "\t").replace('|', "\n").into_bytes()
+}
+
+/// A stop at a `loop` tells its invariant from its condition, and the first
+/// arrival from a later one.
+#[test]
+fn causes_of_stops_at_loops() {
+    for (lines, stop, cause) in [
+        (
+            "new s S|loop ne i 3 acc s n eq s.n 0|add i i one|set s n i|again",
+            "-:9: stopped after 6 steps, number 26: ",
+            "  cause: `eq s.n 0` of the invariant after a round is false: `s.n` is 1\n",
+        ),
+        (
+            "loop ne i 3 acc s n|again",
+            "-:8: stopped after 1 step, number 25: ",
+            "  cause: `acc s n` of the invariant before the first round: `s` is null\n",
+        ),
+        (
+            "new s S|release acc s n|loop ne i 3 acc s n|again",
+            "-:10: stopped after 3 steps, number 24: ",
+            "  cause: `acc s n` of the invariant before the first round: main does not hold\n",
+        ),
+        (
+            "loop ne s.n 3|again",
+            "8 | loop ne s.n 3\n  |      ^^^^^^^^\n",
+            "  cause: `s.n` follows `s`, which is null\n",
+        ),
+        (
+            "new s S|release acc s n|loop ne s.n 3|again",
+            "-:10: stopped after 3 steps, number 24: ",
+            "  cause: main does not hold `s.n`\n",
+        ),
+    ] {
+        let (out, _, status) = said(&["run", "-"], &with_loop(lines));
+        assert_eq!(status, 1);
+        assert!(out.contains(stop) && out.contains(cause), "{out}");
+    }
+}
+
+/// Where the allowed steps are taken in a loop, its line is told; that it never
+/// ends only where everything is as it was.
+#[test]
+fn loops_without_end() {
+    for (lines, cause) in [
+        (
+            "loop ne i 3|again",
+            "  cause: the loop of line 8 has done 499 rounds, and it never ends: a round\n         changes nothing\n   mend: let the body change what `ne i 3` reads\n",
+        ),
+        (
+            "loop ne i -1|add i i one|again",
+            "  cause: the loop of line 8 has done 333 rounds, and `ne i -1` is not false\n         yet\n",
+        ),
+        // The inner loop ends each time, the outer one does not.
+        (
+            "loop ne one 0|let i 0|loop ne i 2|add i i one|again|again",
+            "  cause: the loop of line 8 has done 99 rounds, and it never ends: a round\n         changes nothing\n",
+        ),
+    ] {
+        let (out, _, status) = said(&["run", "-"], &with_loop(lines));
+        assert_eq!(status, 1);
+        assert!(out.contains(": stopped after 1000 steps, number 21: ") && out.contains(cause), "{out}");
+    }
+    // Too few rounds to tell.
+    let text = with_loop("loop ne i 3|again");
+    let (out, _, _) = said(&["run", "--steps", "4", "-"], &text);
+    assert!(
+        out.contains("   what: ") && !out.contains("  cause: "),
+        "{out}"
+    );
+}
+
+/// At `loop` stands what the body starts from, at `again` what is known after it;
+/// a trace has the rounds.
+#[test]
+fn inside_loops() {
+    let text = with_loop("new s S|loop ne i 2 acc s n|add i i one|again|assert eq i 2");
+    let (out, _, _) = said(&["known", "-"], &text);
+    let body = "   9 loop ne i 2 acc s n\n     - eq one 1, ne s null, eq s.n 0\n     + ne i 2\n";
+    let after = "  11 again\n     + eq i 2\n";
+    assert!(out.contains(body) && out.contains(after), "{out}");
+    let (out, _, status) = said(&["trace", "-"], &text);
+    assert_eq!(status, 0);
+    for row in ["round 1", "round 2", "left after 2 rounds"] {
+        assert!(
+            out.contains(&format!("loop ne i 2 acc s n               {row}\n")),
+            "{out}"
+        );
+    }
+    // A `return` last in the body: what follows `again` is known all the same.
+    let text = b"class\tS\nmethod\tint\tm\tint\tk\nrequires\nensures\nloop\tne\tk\t0\nreturn\tk\n\
+                 again\nassert\teq\tk\t0\nend\nmain\nend\n";
+    let (out, _, _) = said(&["known", "-"], text);
+    assert!(out.contains("   7 again\n     + eq k 0\n"), "{out}");
+}
+
 /// No run comes to the line after a `return` from there; what a `join` says is
 /// known after it all the same.
 #[test]

@@ -4,9 +4,9 @@
 use std::path::{Path, PathBuf};
 use std::process::Command;
 
-const WORDS: [&str; 20] = [
+const WORDS: [&str; 22] = [
     "class", "field", "method", "requires", "ensures", "main", "var", "set", "let", "add", "sub",
-    "new", "call", "return", "assert", "release", "if", "else", "join", "end",
+    "new", "call", "return", "assert", "release", "if", "else", "join", "loop", "again", "end",
 ];
 
 fn root() -> PathBuf {
@@ -71,7 +71,7 @@ fn compare(editor: &str, text: &str, given: &str, known: impl Fn(&str) -> Option
 }
 
 #[test]
-fn the_twenty_words() {
+fn the_words() {
     let all = WORDS.join("|");
     assert!(
         read("editors/vscode/syntaxes/station.tmLanguage.json").contains(&format!("^({all})(?="))

@@ -240,10 +240,17 @@ fn completion_of_names_in_scope() {
     assert_eq!(client.labels(9, 4), ["c"]);
     assert_eq!(client.labels(13, 6), ["Card"]);
     assert_eq!(client.labels(8, 4), ["int", "Card"]);
-    for word in ["let", "add", "sub"] {
+    for word in ["let", "add", "sub", "loop"] {
         assert!(client.labels(12, 0).contains(&word.to_string()));
     }
-    assert!(!client.labels(12, 0).contains(&"return".to_string()));
+    for word in ["return", "again"] {
+        assert!(!client.labels(12, 0).contains(&word.to_string()));
+    }
+    // A condition first, then the invariant; in the loop its `again`.
+    client.change("class\tS\nfield\tint\tn\nmain\nvar\tS\ts\nloop\t\tS\nloop\tne\ts\tnull\t\n\n");
+    assert_eq!(client.labels(4, 5), ["eq", "ne"]);
+    assert_eq!(client.labels(5, 15), ["acc", "eq", "ne"]);
+    assert!(client.labels(6, 0).contains(&"again".to_string()));
     client.end();
 }
 

@@ -86,9 +86,10 @@ pub const EXPLANATIONS: &[Explanation] = &[
         meaning: "The first word is unknown, a field is missing or too many, a field is no name, \
                   number, expression or atom, or the line may not stand here: `requires` and \
                   `ensures` follow `method`, `var` lines come before statements, every `if` has \
-                  `else` and `join`, `return` stands in methods only and only `else`, `join` or `end` \
-                  follows it, nothing follows main's `end`. \
-                  A formula has at most 8 atoms, a name at most 12 letters and digits.",
+                  `else` and `join`, every `loop` its `again`, `return` stands in methods only and \
+                  only `else`, `join`, `again` or `end` follows it, nothing follows main's `end`. \
+                  A formula has at most 8 atoms, in a `loop` after its condition; a name has at most \
+                  12 letters and digits.",
         mend: "compare the line with its form in the guide; one tab parts two fields, and none \
                begins or ends a line",
         example: example!("refused-04"),
@@ -97,10 +98,10 @@ pub const EXPLANATIONS: &[Explanation] = &[
         number: 5,
         title: "a limit of the text is passed",
         meaning: "A text has at most 16 classes, 8 fields a class, 64 methods, 12 `var` lines a \
-                  block, 256 statement lines (`else`, `join` and `end` counted), and branches that \
-                  nest 4 deep.",
-        mend: "lines that recur go into a method, where they count once, and so do the inner branches; \
-               fields go into a second class with a link to it; or split the script",
+                  block, 256 statement lines (`else`, `join`, `again` and `end` counted), and \
+                  branches and loops that nest 4 deep.",
+        mend: "lines that recur go into a method, where they count once, and so do the inner branches \
+               and loops; fields go into a second class with a link to it; or split the script",
         example: example!("refused-05"),
     },
     Explanation {
@@ -128,8 +129,8 @@ pub const EXPLANATIONS: &[Explanation] = &[
         title: "the text ends before main's `end`",
         meaning: "A text ends with a block `main`, and that block with `end`. The line given is the \
                   last one.",
-        mend: "add what is missing after the last line; an `else`, `join` or `end` that is missing \
-               before other lines is number 4, at the line that comes in its place",
+        mend: "add what is missing after the last line; an `else`, `join`, `again` or `end` that is \
+               missing before other lines is number 4, at the line that comes in its place",
         example: example!("refused-08"),
     },
     Explanation {
@@ -143,9 +144,11 @@ pub const EXPLANATIONS: &[Explanation] = &[
     Explanation {
         number: 10,
         title: "a path that is read before its `acc`",
-        meaning: "In `requires`, `ensures` and `join` a path `x.f` may be read only after `acc x f`, \
-                  by these two names, in the same line.",
-        mend: "write `acc x f` before the atom that reads `x.f`",
+        meaning: "In `requires`, `ensures`, `join` and the invariant of a `loop` a path `x.f` may be \
+                  read only after `acc x f`, by these two names, in the same line. The condition of a \
+                  `loop` reads only paths whose `acc` is in the invariant after it.",
+        mend: "write `acc x f` before the atom that reads `x.f`; for a loop's condition, into its \
+               invariant",
         example: example!("refused-10"),
     },
     Explanation {
@@ -154,7 +157,7 @@ pub const EXPLANATIONS: &[Explanation] = &[
         meaning: "The line reads `x.f`, but no permission to it is known here: not for x, nor for \
                   anything known to be equal to x.",
         mend: "keep or ask for the permission before this line: in `requires`, in the `ensures` of \
-               the method called before, in the `join` before, or by not releasing it",
+               the method called before, in the `join` or `loop` before, or by not releasing it",
         example: example!("refused-11"),
     },
     Explanation {
@@ -162,8 +165,9 @@ pub const EXPLANATIONS: &[Explanation] = &[
         title: "a permission that is not shown",
         meaning: "The line needs `acc x f`, for itself or for a formula that it must show, and no \
                   permission that is known here and not yet used by the same formula gives it.",
-        mend: "ask for it in `requires`, give it back in `ensures`, keep it in `join`; a formula \
-               with `acc x f` twice needs two objects",
+        mend: "ask for it in `requires`, give it back in `ensures`, keep it in `join` or in the \
+               invariant of a `loop`, which is shown before the first round and at each `again`; a \
+               formula with `acc x f` twice needs two objects",
         example: example!("refused-12"),
     },
     Explanation {
@@ -171,8 +175,11 @@ pub const EXPLANATIONS: &[Explanation] = &[
         title: "an `eq` or `ne` that is not shown",
         meaning: "What is known here does not make the two sides equal, or different. Of a new value \
                   only what its line says is known: of a sum or difference nothing, of the fields that \
-                  a call is handed what `ensures` says. After `join` only its formula is known.",
-        mend: "state the fact where it is lost: in `ensures`, in `join`, or by `if`",
+                  a call is handed what `ensures` says. After `join` only its formula is known, in \
+                  a loop only the invariant and the condition, after it the invariant and the \
+                  condition's opposite.",
+        mend: "state the fact where it is lost: in `ensures`, in `join`, in `loop`, or by `if`; what \
+               a loop's body makes false can not be in its invariant",
         example: example!("refused-13"),
     },
     Explanation {
@@ -181,16 +188,16 @@ pub const EXPLANATIONS: &[Explanation] = &[
         meaning: "At most 64 permissions and 64 facts can be known at one line. The line would add \
                   one more.",
         mend: "move a part into a method, whose contract keeps only what is needed, or let a `join` \
-               do so; `release` makes room for permissions",
+               or `loop` do so; `release` makes room for permissions",
         example: example!("refused-14"),
     },
     Explanation {
         number: 21,
         title: "the allowed steps are taken",
         meaning: "Each statement line is a step, `else`, `join` and `end` too; `return` is one, and \
-                  the method's `end` none after it. The line given is the one that would have come \
-                  next.",
-        mend: "allow more steps, or look for a method that calls itself without end",
+                  the method's `end` none after it; in a loop each `again` is one, and each arrival \
+                  at the `loop`. The line given is the one that would have come next.",
+        mend: "allow more steps, or look for a loop that never ends or a method that calls itself without end",
         example: example!("stopped-21"),
     },
     Explanation {
@@ -228,8 +235,9 @@ pub const EXPLANATIONS: &[Explanation] = &[
     Explanation {
         number: 26,
         title: "an `eq` or `ne` is false",
-        meaning: "A formula of the line is false: an `assert` or `release`, a `join`, the `requires` \
-                  of a call or the `ensures` of a method. An accepted text never stops so.",
+        meaning: "A formula of the line is false: an `assert` or `release`, a `join`, the invariant \
+                  of a `loop`, the `requires` of a call or the `ensures` of a method. An accepted \
+                  text never stops so.",
         mend: "check the text, and compare the values that the run left with the formula",
         example: example!("stopped-26"),
     },

@@ -21,7 +21,7 @@ fn single_texts() {
     );
     let start = Instant::now();
     for _ in 0..10_000 {
-        assert_eq!(run(example.as_bytes(), 1_000).steps, 9);
+        assert_eq!(run(example.as_bytes(), 1_000).steps, 8);
     }
     println!(
         "run of the example: {} ns",

@@ -2,8 +2,8 @@
 
 use crate::limits;
 use crate::names::{
-    Action, Atom, Block, Branch, Call, Class, Expr, Path, Program, Statement, Type, Var, PARAM,
-    RESULT, THIS,
+    Action, Atom, Block, Branch, Call, Class, Expr, Loop, Path, Program, Statement, Type, Var,
+    PARAM, RESULT, THIS,
 };
 use crate::number::{self, Refusal};
 use crate::state::Rule;
@@ -108,7 +108,17 @@ pub fn opposite(condition: Atom) -> Atom {
     }
 }
 
-/// The rule of one statement of the block that is no branch and no `end`.
+/// The empty state with a framed formula added, and a condition after it.
+pub fn alone<'a>(formula: &[Atom<'a>], condition: Option<Atom<'a>>) -> State<'a> {
+    let mut state = State::default();
+    let mut atoms = formula.iter().copied().chain(condition);
+    atoms
+        .try_for_each(|atom| state.add_atom(atom))
+        .expect("nine framed atoms fit an empty state");
+    state
+}
+
+/// The rule of one statement of the block that is no branch, loop or `end`.
 pub fn simple<'a>(
     program: &Program<'a>,
     block: &Block<'a>,
@@ -154,9 +164,12 @@ fn watched<'a, W: Watch<'a>>(
             at.show(state, Purpose::Claim, formula);
             state.take(formula)
         }
-        Action::If(_) | Action::Else(_) | Action::Join(_) | Action::End => {
-            unreachable!("branches and ends have rules of their own")
-        }
+        Action::If(_)
+        | Action::Else(_)
+        | Action::Join(_)
+        | Action::Loop(_)
+        | Action::Again(_)
+        | Action::End => unreachable!("branches, loops and ends have rules of their own"),
     }
 }
 
@@ -172,8 +185,8 @@ impl<'a> Watch<'a> for Before<'_, '_, 'a> {
     }
 }
 
-/// What is left where a branch or a block ends, and that place; no state if a
-/// `return` stands last.
+/// What is left where a branch, a body or a block ends, and that place; no state
+/// if a `return` stands last.
 type End<'a> = (Option<State<'a>>, usize);
 
 /// The check of a block, with someone who looks on.
@@ -200,17 +213,21 @@ impl<'p, 'a, W: Watch<'a>> Checker<'p, 'a, W> {
         }
     }
 
-    /// The statements from a place up to the `else`, `join` or `end` that
-    /// closes them: its place, and the state that is left there. W2: "A branch
-    /// whose last line is a `return` has no end to show".
+    /// The statements from a place up to the `else`, `join`, `again` or `end`
+    /// that closes them: its place, and the state that is left there. W2: "A
+    /// branch whose last line is a `return` has no end to show".
     fn branch(&mut self, state: State<'a>, start: usize) -> Result<End<'a>, Refusal> {
         let mut state = state;
         let mut place = start;
         loop {
             self.watch.before(place, &state);
             match &self.statement(place).action {
-                Action::Else(_) | Action::Join(_) | Action::End => {
+                Action::Else(_) | Action::Join(_) | Action::Again(_) | Action::End => {
                     return Ok((Some(state), place));
+                }
+                Action::Loop(rounds) => {
+                    state = self.rounds(&state, rounds, place)?;
+                    place = rounds.again;
                 }
                 Action::If(branch) => {
                     state = self.branches(state, branch, place)?;
@@ -261,9 +278,38 @@ impl<'p, 'a, W: Watch<'a>> Checker<'p, 'a, W> {
             self.at(branch.join).show(&end, purpose, formula);
             end.show(formula).map_err(&at_join)?;
         }
-        let mut after = State::default();
-        after.add(formula).map_err(&at_join)?;
-        Ok(after)
+        Ok(alone(formula, None))
+    }
+
+    /// The invariant of a loop, shown at its `loop` or its `again`.
+    fn show_invariant(
+        &mut self,
+        state: &State<'a>,
+        rounds: &Loop<'a>,
+        place: usize,
+        purpose: Purpose,
+    ) -> Result<(), Refusal> {
+        self.at(place).show(state, purpose, &rounds.invariant);
+        state.show(&rounds.invariant).map_err(self.refusal(place))
+    }
+
+    /// W5: "At `loop` the state shows the invariant. The body starts from the
+    /// invariant and the condition alone, and its end shows the invariant at
+    /// `again`. The state afterwards is the invariant and the opposite alone. A
+    /// `return` may also stand last before `again`, which then shows nothing."
+    fn rounds(
+        &mut self,
+        state: &State<'a>,
+        rounds: &Loop<'a>,
+        place: usize,
+    ) -> Result<State<'a>, Refusal> {
+        self.show_invariant(state, rounds, place, Purpose::Invariant)?;
+        let body = alone(&rounds.invariant, Some(rounds.condition));
+        self.watch.after(place, &body);
+        if let (Some(end), again) = self.branch(body, place + 1)? {
+            self.show_invariant(&end, rounds, again, Purpose::RoundEnd)?;
+        }
+        Ok(alone(&rounds.invariant, Some(opposite(rounds.condition))))
     }
 
     /// "A method starts with its requires; its `end` must show ensures. Main
@@ -271,10 +317,7 @@ impl<'p, 'a, W: Watch<'a>> Checker<'p, 'a, W> {
     /// straight after a `return` shows nothing."
     fn check(&mut self) -> Result<(), Refusal> {
         let block = self.block;
-        let mut state = State::default();
-        state
-            .add(&block.requires)
-            .expect("eight framed atoms fit an empty state");
+        let state = alone(&block.requires, None);
         let (Some(state), end) = self.branch(state, block.start)? else {
             return Ok(());
         };

@@ -59,8 +59,8 @@ pub enum Fault<'a> {
     Same(Name<'a>),
 }
 
-/// A refusal with its fault, and the place of its atom in the line's formula
-/// from 0.
+/// A refusal with its fault, and the place of its atom on the line from 0; the
+/// condition of a `loop` is the first.
 #[derive(Clone, Copy, Debug, PartialEq, Eq)]
 pub struct Noted<'a> {
     pub refusal: Refusal,

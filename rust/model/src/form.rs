@@ -26,6 +26,8 @@ pub enum Tail {
     Formula,
     /// One `eq` or `ne`.
     Condition,
+    /// One `eq` or `ne`, and 0 to 8 atoms after it.
+    Loop,
 }
 
 /// A kind of line: its word, its operands with the letters that stand for them,
@@ -126,6 +128,8 @@ pub const SHAPES: &[Shape] = &[
     shape("if", &[], Tail::Condition, "if\teq\t0\t0"),
     shape("else", &[], Tail::Nothing, "else"),
     shape("join", &[], Tail::Formula, "join"),
+    shape("loop", &[], Tail::Loop, "loop\teq\t0\t0"),
+    shape("again", &[], Tail::Nothing, "again"),
     shape("end", &[], Tail::Nothing, "end"),
 ];
 
@@ -133,7 +137,7 @@ pub const SHAPES: &[Shape] = &[
 pub struct AtomShape {
     pub word: &'static str,
     pub operands: [(&'static str, Operand); 2],
-    /// May it stand after `if`?
+    /// May it stand after `if` or `loop`?
     pub condition: bool,
 }
 
@@ -220,9 +224,9 @@ pub enum Fault {
     UnknownAtom,
     /// An atom with one or two of its three fields.
     ShortAtom,
-    /// A ninth atom.
+    /// A ninth atom of a formula.
     NinthAtom,
-    /// An atom that is no condition, or no atom at all, after `if`.
+    /// An atom that is no condition, or no atom at all, after `if` or `loop`.
     NoCondition,
 }
 
@@ -261,7 +265,9 @@ pub fn fault(line: &[u8]) -> Option<(usize, Fault)> {
     match shape.tail {
         Tail::Nothing => (!rest.is_empty()).then_some((first, Fault::Extra)),
         Tail::Formula => formula_fault(first, rest),
-        Tail::Condition => condition_fault(first, rest),
+        Tail::Condition => condition_fault(first, rest)
+            .or_else(|| (rest.len() > 3).then_some((first + 3, Fault::Extra))),
+        Tail::Loop => condition_fault(first, rest).or_else(|| formula_fault(first + 3, &rest[3..])),
     }
 }
 
@@ -278,14 +284,14 @@ fn formula_fault(first: usize, fields: &[&[u8]]) -> Option<(usize, Fault)> {
     None
 }
 
+/// The fault of the first atom, which must be a condition.
 fn condition_fault(first: usize, fields: &[&[u8]]) -> Option<(usize, Fault)> {
     let known = ATOM_SHAPES.iter().filter(|atom| atom.condition);
     let word = fields.first().copied().unwrap_or_default();
     if !known.into_iter().any(|atom| atom.word.as_bytes() == word) {
         return Some((first, Fault::NoCondition));
     }
-    let atom = &fields[..fields.len().min(3)];
-    atom_fault(first, atom).or_else(|| (fields.len() > 3).then_some((first + 3, Fault::Extra)))
+    atom_fault(first, &fields[..fields.len().min(3)])
 }
 
 fn atom_fault(at: usize, fields: &[&[u8]]) -> Option<(usize, Fault)> {

@@ -1,42 +1,56 @@
 //! Number 10: "requires, ensures or join reads `x.f` with no `acc x f` before
-//! it in the line". It goes by the two names as written.
+//! it in the line", and W5: "The invariant, and the condition after it, read
+//! only paths that the invariant holds; number 10 covers this line." It goes by
+//! the two names as written.
 
 use crate::number::{self, Refusal};
 use crate::text::{Atom, Expr, Line, Name};
 
-/// The first path that the formula reads with no `acc` before it, and the place
-/// of its atom.
-pub fn unframed<'a>(formula: &[Atom<'a>]) -> Option<(usize, Name<'a>, Name<'a>)> {
-    formula.iter().enumerate().find_map(|(place, atom)| {
-        let bare = |side: Expr<'a>| match side {
-            Expr::Path(x, field) if !formula[..place].contains(&Atom::Acc(x, field)) => {
-                Some((place, x, field))
-            }
-            _ => None,
-        };
-        match *atom {
-            Atom::Acc(..) => None,
-            Atom::Eq(left, right) | Atom::Ne(left, right) => bare(left).or_else(|| bare(right)),
-        }
-    })
+/// A path that is read without its `acc`: the place of its atom, x and f.
+pub type Unframed<'a> = (usize, Name<'a>, Name<'a>);
+
+/// The first path that the atom at a place reads and none of the others holds.
+fn bare<'a>(place: usize, atom: Atom<'a>, held: &[Atom<'a>]) -> Option<Unframed<'a>> {
+    let bare = |side: Expr<'a>| match side {
+        Expr::Path(x, field) if !held.contains(&Atom::Acc(x, field)) => Some((place, x, field)),
+        _ => None,
+    };
+    match atom {
+        Atom::Acc(..) => None,
+        Atom::Eq(left, right) | Atom::Ne(left, right) => bare(left).or_else(|| bare(right)),
+    }
 }
 
-/// True if every path that the formula reads has its `acc` before it.
-pub fn framed(formula: &[Atom]) -> bool {
-    unframed(formula).is_none()
+/// The first path that the formula reads with no `acc` before it.
+pub fn unframed<'a>(formula: &[Atom<'a>]) -> Option<Unframed<'a>> {
+    let mut atoms = formula.iter().enumerate();
+    atoms.find_map(|(place, &atom)| bare(place, atom, &formula[..place]))
+}
+
+/// The first such path of a `loop`, its atom by its place on the line: the
+/// invariant comes first, and all of it serves the condition.
+fn unframed_loop<'a>(condition: Atom<'a>, invariant: &[Atom<'a>]) -> Option<Unframed<'a>> {
+    let inside = unframed(invariant).map(|(place, x, field)| (1 + place, x, field));
+    inside.or_else(|| bare(0, condition, invariant))
+}
+
+/// The first path that makes the line number 10; the place of its atom is that
+/// on the line.
+pub fn unframed_in<'a>(line: &Line<'a>) -> Option<Unframed<'a>> {
+    match line {
+        Line::Requires(formula) | Line::Ensures(formula) | Line::Join(formula) => unframed(formula),
+        Line::Loop(condition, invariant) => unframed_loop(*condition, invariant),
+        _ => None,
+    }
 }
 
 /// "then line by line 10".
 pub fn frame(lines: &[Line]) -> Result<(), Refusal> {
-    for (index, line) in lines.iter().enumerate() {
-        if let Line::Requires(formula) | Line::Ensures(formula) | Line::Join(formula) = line {
-            if !framed(formula) {
-                return Err(Refusal {
-                    number: number::UNFRAMED,
-                    line: index as u32 + 1,
-                });
-            }
-        }
+    match lines.iter().position(|line| unframed_in(line).is_some()) {
+        Some(index) => Err(Refusal {
+            number: number::UNFRAMED,
+            line: index as u32 + 1,
+        }),
+        None => Ok(()),
     }
-    Ok(())
 }

@@ -259,6 +259,17 @@ impl<'p, 'a> Machine<'p, 'a> {
             }
             // "also `else` (on to its `join`)"
             Action::Else(join) => return Ok(*join),
+            // W5: "Each arrival at `loop` is a step that tests the invariant,
+            // then the condition, and if that is false goes on after `again`".
+            Action::Loop(rounds) => {
+                self.reader()
+                    .formula(&rounds.invariant, Tested::Invariant)?;
+                if !self.condition(rounds.condition)? {
+                    return Ok(rounds.again + 1);
+                }
+            }
+            // "`again` is a step back to it"
+            Action::Again(start) => return Ok(*start),
             Action::Call(_) | Action::Return(_) | Action::End => {
                 unreachable!("these change the frames")
             }

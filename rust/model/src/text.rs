@@ -1,8 +1,9 @@
-//! The text: lines, fields, names, numbers, atoms and the kinds of line, with
-//! the numbers 2, 3, 4, 5 and 8.
+//! The form of the text: fields, names, numbers, atoms and the kinds of line.
+//! Where lines may stand is told in `reader`.
 
 use crate::limits;
-use crate::number::{self, Refusal};
+
+pub use crate::reader::{allowed_byte, lines, lines_by, Block, Branch, Limit, Place, Reader};
 
 /// A name as it stands in the text. A reserved word has the form of a name.
 pub type Name<'a> = &'a [u8];
@@ -86,6 +87,10 @@ pub enum Line<'a> {
     If(Atom<'a>),
     Else,
     Join(Formula<'a>),
+    /// W5: "`loop` takes a condition atom (`eq` or `ne`) and then the atoms of
+    /// an invariant".
+    Loop(Atom<'a>, Formula<'a>),
+    Again,
     End,
 }
 
@@ -145,9 +150,11 @@ fn atom<'a>(fields: &[&'a [u8]]) -> Option<Atom<'a>> {
     }
 }
 
-/// "A formula is 0 to 8 atoms on the same line ...; a ninth is number 4": the
-/// fields are never more than eight atoms have.
+/// "A formula is 0 to 8 atoms on the same line ...; a ninth is number 4".
 fn formula<'a>(fields: &[&'a [u8]]) -> Option<Formula<'a>> {
+    if fields.len() > 3 * limits::ATOMS {
+        return None;
+    }
     let mut atoms = Vec::with_capacity(fields.len().div_ceil(3));
     for fields in fields.chunks(3) {
         atoms.push(atom(fields)?);
@@ -155,13 +162,19 @@ fn formula<'a>(fields: &[&'a [u8]]) -> Option<Formula<'a>> {
     Some(atoms)
 }
 
-/// "`if eq e e` or `if ne e e`".
+/// "`if eq e e` or `if ne e e`", and the first atom of a `loop`.
 fn condition<'a>(fields: &[&'a [u8]]) -> Option<Atom<'a>> {
     atom(fields).filter(|atom| !matches!(atom, Atom::Acc(..)))
 }
 
-/// No line has more fields than a word and eight atoms.
-const FIELDS: usize = 1 + 3 * limits::ATOMS;
+/// A condition, "and then the atoms of an invariant, at most 8".
+fn loop_line<'a>(fields: &[&'a [u8]]) -> Option<Line<'a>> {
+    let (first, rest) = fields.split_at_checked(3)?;
+    Some(Line::Loop(condition(first)?, formula(rest)?))
+}
+
+/// No line has more fields than a `loop` with its condition and eight atoms.
+const FIELDS: usize = 1 + 3 * (1 + limits::ATOMS);
 
 /// The form of one line, its LF taken off; none is number 4.
 pub fn line(bytes: &[u8]) -> Option<Line<'_>> {
@@ -179,6 +192,7 @@ pub fn line(bytes: &[u8]) -> Option<Line<'_>> {
         b"release" => formula(rest).map(Line::Release),
         b"join" => formula(rest).map(Line::Join),
         b"if" => condition(rest).map(Line::If),
+        b"loop" => loop_line(rest),
         b"let" => match *rest {
             [var, value] => Some(Line::Let(name(var)?, expression(value)?)),
             _ => None,
@@ -208,225 +222,10 @@ fn named_line<'a>(word: &[u8], names: &[Name<'a>]) -> Option<Line<'a>> {
         (b"call", &[x, y, m, z]) => Line::Call(x, y, m, z),
         (b"return", &[x]) => Line::Return(x),
         (b"else", &[]) => Line::Else,
+        (b"again", &[]) => Line::Again,
         (b"end", &[]) => Line::End,
         _ => return None,
     })
-}
-
-/// The two kinds of block.
-#[derive(Clone, Copy, Debug, PartialEq, Eq)]
-pub enum Block {
-    Method,
-    Main,
-}
-
-/// Where in the text the next line stands.
-#[derive(Clone, Copy, Debug, PartialEq, Eq)]
-pub enum Place {
-    /// Before the first class.
-    Start,
-    /// After `class` or `field`.
-    Fields,
-    /// After a method's `end`.
-    Methods,
-    /// After `method`: `requires` must come.
-    Requires,
-    /// After `requires`: `ensures` must come.
-    Ensures,
-    /// Before a block's first statement.
-    Vars(Block),
-    /// After a block's first statement.
-    Body(Block),
-    /// After main's `end`: "Nothing follows."
-    Done,
-}
-
-/// The branch of an open `if` that the next line stands in.
-#[derive(Clone, Copy, Debug, PartialEq, Eq)]
-pub enum Branch {
-    First,
-    Second,
-}
-
-/// A limit of the text.
-#[derive(Clone, Copy, Debug, PartialEq, Eq)]
-#[non_exhaustive]
-pub enum Limit {
-    Classes,
-    Fields,
-    Methods,
-    Locals,
-    Statements,
-    Nesting,
-}
-
-/// The place of the next line, and how much of each limit is used.
-#[derive(Clone, Debug)]
-pub struct Reader {
-    pub place: Place,
-    /// The open branches, the innermost last.
-    pub branches: Vec<Branch>,
-    /// Was the last line a `return`?
-    pub returned: bool,
-    classes: usize,
-    fields: usize,
-    methods: usize,
-    locals: usize,
-    statements: usize,
-}
-
-impl Default for Reader {
-    fn default() -> Reader {
-        Reader::new()
-    }
-}
-
-impl Reader {
-    /// Before the first line.
-    pub fn new() -> Reader {
-        Reader {
-            place: Place::Start,
-            branches: Vec::new(),
-            returned: false,
-            classes: 0,
-            fields: 0,
-            methods: 0,
-            locals: 0,
-            statements: 0,
-        }
-    }
-
-    /// Takes the line if it may stand here; false is number 4.
-    pub fn step(&mut self, line: &Line) -> bool {
-        use Place::*;
-        self.place = match (self.place, line) {
-            (Start | Fields | Methods, Line::Class(_)) => Fields,
-            (Fields, Line::Field { .. }) => Fields,
-            (Fields | Methods, Line::Method { .. }) => Requires,
-            (Requires, Line::Requires(_)) => Ensures,
-            (Ensures, Line::Ensures(_)) => Vars(Block::Method),
-            (Start | Fields | Methods, Line::Main) => Vars(Block::Main),
-            (Vars(block), Line::Var { .. }) => Vars(block),
-            (Vars(block) | Body(block), line) => match self.statement(block, line) {
-                Some(place) => place,
-                None => return false,
-            },
-            _ => return false,
-        };
-        self.returned = matches!(line, Line::Return(_));
-        true
-    }
-
-    /// The place after a statement line, or none if it may not stand here. W2:
-    /// "A statement between [a `return`] and the next `else`, `join` or `end` is
-    /// number 4."
-    fn statement(&mut self, block: Block, line: &Line) -> Option<Place> {
-        if self.returned && !matches!(line, Line::Else | Line::Join(_) | Line::End) {
-            return None;
-        }
-        match line {
-            Line::Set(..)
-            | Line::Let(..)
-            | Line::Compute(..)
-            | Line::New(..)
-            | Line::Call(..)
-            | Line::Assert(_)
-            | Line::Release(_) => {}
-            // "`return x` (methods only)"
-            Line::Return(_) if block == Block::Method => {}
-            Line::If(_) => self.branches.push(Branch::First),
-            Line::Else if self.branches.last() == Some(&Branch::First) => {
-                self.branches.pop();
-                self.branches.push(Branch::Second);
-            }
-            Line::Join(_) if self.branches.last() == Some(&Branch::Second) => {
-                self.branches.pop();
-            }
-            Line::End if self.branches.is_empty() => {
-                return Some(match block {
-                    Block::Method => Place::Methods,
-                    Block::Main => Place::Done,
-                });
-            }
-            _ => return None,
-        }
-        Some(Place::Body(block))
-    }
-
-    /// Counts the line; false is number 5, a limit of the text passed.
-    pub fn count(&mut self, line: &Line) -> bool {
-        match line {
-            Line::Class(_) => {
-                self.classes += 1;
-                self.fields = 0;
-            }
-            Line::Field { .. } => self.fields += 1,
-            Line::Method { .. } => {
-                self.methods += 1;
-                self.locals = 0;
-            }
-            Line::Main => self.locals = 0,
-            Line::Var { .. } => self.locals += 1,
-            Line::Requires(_) | Line::Ensures(_) => {}
-            _ => self.statements += 1,
-        }
-        self.passed().is_none()
-    }
-
-    /// The limit that is passed.
-    pub fn passed(&self) -> Option<Limit> {
-        [
-            (Limit::Classes, self.classes, limits::CLASSES),
-            (Limit::Fields, self.fields, limits::FIELDS),
-            (Limit::Methods, self.methods, limits::METHODS),
-            (Limit::Locals, self.locals, limits::LOCALS),
-            (Limit::Statements, self.statements, limits::STATEMENT_LINES),
-            (Limit::Nesting, self.branches.len(), limits::NESTING),
-        ]
-        .into_iter()
-        .find_map(|(limit, used, most)| (used > most).then_some(limit))
-    }
-}
-
-/// "byte other than tab, LF, 33 to 126"
-pub fn allowed_byte(byte: &u8) -> bool {
-    matches!(byte, b'\t' | b'\n' | 33..=126)
-}
-
-/// Reads the text: 2; then line by line 3, 4, 5; then 8. Line n of the text is
-/// entry n - 1 of the list.
-pub fn lines(text: &[u8]) -> Result<Vec<Line<'_>>, Refusal> {
-    lines_by(&mut Reader::new(), text)
-}
-
-/// The same, with a fresh reader that the caller looks at afterwards: for 4 it
-/// stands before the refused line, for 5 after it, for 8 at the end.
-pub fn lines_by<'a>(reader: &mut Reader, text: &'a [u8]) -> Result<Vec<Line<'a>>, Refusal> {
-    let refuse = |number, line: usize| Refusal {
-        number,
-        line: line as u32,
-    };
-    if text.len() > limits::TEXT_BYTES {
-        return Err(refuse(number::TOO_LONG, 0));
-    }
-    let mut lines = Vec::new();
-    for bytes in text.split_inclusive(|&byte| byte == b'\n') {
-        let at = lines.len() + 1;
-        if !bytes.ends_with(b"\n") || !bytes.iter().all(allowed_byte) {
-            return Err(refuse(number::BYTE, at));
-        }
-        let line = line(&bytes[..bytes.len() - 1])
-            .filter(|line| reader.step(line))
-            .ok_or(refuse(number::FORM, at))?;
-        if !reader.count(&line) {
-            return Err(refuse(number::LIMIT, at));
-        }
-        lines.push(line);
-    }
-    if reader.place != Place::Done {
-        return Err(refuse(number::UNFINISHED, lines.len()));
-    }
-    Ok(lines)
 }
 
 #[cfg(test)]

@@ -23,7 +23,7 @@ pub enum Need<'f, 'a> {
 pub enum Purpose {
     /// `let` takes the value.
     Value,
-    /// `if` compares the value.
+    /// `if` compares the value; what a `loop` compares its invariant holds.
     Condition,
     /// `set` writes the field.
     Write,
@@ -37,19 +37,24 @@ pub enum Purpose {
     FirstEnd,
     /// The formula of a `join`, at the end of its second branch.
     SecondEnd,
+    /// The invariant of a `loop`, where the state comes to it.
+    Invariant,
+    /// The invariant of a loop at its `again`, at the end of its body.
+    RoundEnd,
     /// What the method ensures, at its `end` or at a `return`, `result` assigned.
     Ensures,
 }
 
 /// Who looks on. A place is one of the program's list of statements.
 pub trait Watch<'a> {
-    /// The state before a statement; at `else` and `join` that of the branch
-    /// which ends there. A line straight after a `return` has none.
+    /// The state before a statement; at `else`, `join` and `again` that of the
+    /// branch or body which ends there. A line straight after a `return` has
+    /// none.
     fn before(&mut self, _place: usize, _state: &State<'a>) {}
     /// What the state is asked, before it answers.
     fn asked(&mut self, _place: usize, _state: &State<'a>, _for: Purpose, _need: Need<'_, 'a>) {}
-    /// The state after a statement; at `if` and `else` that with which the
-    /// branch starts.
+    /// The state after a statement; at `if`, `else` and `loop` that with which
+    /// the branch or body starts.
     fn after(&mut self, _place: usize, _state: &State<'a>) {}
 }
 
@@ -170,6 +175,8 @@ pub enum Tested {
     Nothing,
     /// That of the line itself.
     Line,
+    /// The invariant of the `loop` itself, without its condition.
+    Invariant,
     /// What the called method requires, in its own names.
     Requires,
     /// What the running method ensures.

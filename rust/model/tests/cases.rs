@@ -26,6 +26,7 @@ const LEVELS: &[Level] = &[
     ("W2", include_str!("cases/w2.tsv"), 159, &[156]),
     ("W3", include_str!("cases/w3.tsv"), 137, &[]),
     ("W4", include_str!("cases/w4.tsv"), 170, &[]),
+    ("W5", include_str!("cases/w5.tsv"), 177, &[]),
 ];
 
 /// A call of a file: `check`, `check/W`, `run` or `run/W/R`, or the program.

@@ -27,7 +27,7 @@ fn faults_are_those_of_the_reader() {
     assert!(formed > 50_000 && faulty > 1_000, "{formed} {faulty}");
 }
 
-const REASONS: [(&str, usize, Fault); 19] = [
+const REASONS: [(&str, usize, Fault); 24] = [
     ("", 0, Fault::EmptyLine),
     ("feild int a", 0, Fault::UnknownWord),
     ("let a", 2, Fault::Missing("e", Expression)),
@@ -79,6 +79,11 @@ const REASONS: [(&str, usize, Fault); 19] = [
     ("assert and a b", 1, Fault::UnknownAtom),
     ("if acc x f", 1, Fault::NoCondition),
     ("if eq 1 1 ne 1 1", 4, Fault::Extra),
+    ("loop", 1, Fault::NoCondition),
+    ("loop acc x f eq 1 1", 1, Fault::NoCondition),
+    ("loop eq 1", 1, Fault::ShortAtom),
+    ("loop eq 1 1 acc x", 4, Fault::ShortAtom),
+    ("again x", 1, Fault::Extra),
 ];
 
 #[test]
@@ -89,4 +94,9 @@ fn one_reason_each() {
     }
     let nine = format!("assert{}", "\teq\t1\t1".repeat(9));
     assert_eq!(fault(nine.as_bytes()), Some((25, Fault::NinthAtom)));
+    // A condition and eight atoms.
+    let nine = nine.replace("assert", "loop");
+    assert_eq!(fault(nine.as_bytes()), None);
+    let ten = format!("{nine}\teq\t1\t1");
+    assert_eq!(fault(ten.as_bytes()), Some((28, Fault::NinthAtom)));
 }

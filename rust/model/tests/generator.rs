@@ -2,7 +2,9 @@
 //! are accepted.
 
 use model::gen::{self, rng::Rng};
-use model::{check, printed, run};
+use model::machine::{Machine, Step};
+use model::names::{Action, Program};
+use model::{check, printed, read, run};
 use std::collections::BTreeMap;
 
 const TEXTS: u64 = 20_000;
@@ -37,13 +39,13 @@ fn every_number_occurs() {
     }
 }
 
-/// How deep the branches of a text nest.
+/// How deep the branches and loops of a text nest.
 fn nesting(text: &[u8]) -> usize {
     let (mut depth, mut deepest) = (0usize, 0);
     for line in text.split(|&byte| byte == b'\n') {
-        if line.starts_with(b"if\t") {
+        if line.starts_with(b"if\t") || line.starts_with(b"loop\t") {
             depth += 1;
-        } else if line.starts_with(b"join") {
+        } else if line.starts_with(b"join") || line == b"again" {
             depth -= 1;
         }
         deepest = deepest.max(depth);
@@ -74,7 +76,7 @@ fn accepted_programs_are_accepted() {
     assert!(depths.iter().all(|&texts| texts > 50));
     let kinds = [
         "set", "let", "add", "sub", "new", "call", "return", "assert", "release", "if", "else",
-        "join",
+        "join", "loop", "again",
     ];
     for kind in kinds {
         assert!(words[kind] > 500, "{kind} is rare");
@@ -139,6 +141,149 @@ fn both_return(words: &[&str]) -> u32 {
         }
     }
     both
+}
+
+/// W5: loops stand in methods and main, in each other and in branches, with
+/// branches, calls and returns in them.
+#[test]
+fn loops_stand_in_every_place() {
+    let texts: Vec<Vec<u8>> = (0..2_000).map(gen::accepted).collect();
+    let mut counts: BTreeMap<(&str, &str), u32> = BTreeMap::new();
+    let mut inside: BTreeMap<(&str, &str), u32> = BTreeMap::new();
+    for text in &texts {
+        let words = words(text);
+        for pair in words.windows(2) {
+            *counts.entry((pair[0], pair[1])).or_insert(0) += 1;
+        }
+        let mut open: Vec<&str> = Vec::new();
+        for word in words {
+            if matches!(word, "again" | "join") {
+                open.pop();
+            }
+            if let Some(&around) = open.last() {
+                *inside.entry((around, word)).or_insert(0) += 1;
+            }
+            if matches!(word, "loop" | "if") {
+                open.push(word);
+            }
+        }
+    }
+    println!("inside: {inside:?}");
+    for word in [
+        "loop", "if", "set", "let", "add", "sub", "new", "call", "return", "assert", "release",
+    ] {
+        assert!(inside[&("loop", word)] > 40, "{word} in a loop is rare");
+    }
+    assert!(inside[&("if", "loop")] > 100, "a loop in a branch");
+    for pair in [
+        ("loop", "again"),
+        ("return", "again"),
+        ("join", "again"),
+        ("again", "again"),
+        ("again", "end"),
+        ("again", "else"),
+    ] {
+        assert!(counts[&pair] > 20, "{pair:?} is rare");
+    }
+}
+
+/// What a run does in loops: the number at its end, the `loop` steps that went
+/// in, and those that went on after `again`.
+fn rounds(program: &Program, steps: u32) -> (u32, u32, u32) {
+    let mut machine = Machine::new(program);
+    let (mut inside, mut past) = (0, 0);
+    while machine.steps < steps {
+        let here = machine.frame().next;
+        let looped = matches!(machine.statement().action, Action::Loop(_));
+        match machine.step() {
+            Err(number) => return (number, inside, past),
+            Ok(Step::Done) => return (0, inside, past),
+            Ok(Step::On) if looped => match machine.frame().next == here + 1 {
+                true => inside += 1,
+                false => past += 1,
+            },
+            Ok(Step::On) => {}
+        }
+    }
+    (21, inside, past)
+}
+
+/// W5: loops are done no time, once and often; runs with rounds in them end,
+/// are out of steps and stop.
+#[test]
+fn loops_go_round_and_end() {
+    let mut ends: BTreeMap<u32, u32> = BTreeMap::new();
+    let (mut never, mut once, mut often) = (0, 0, 0);
+    for seed in 0..5_000 {
+        let text = gen::text(0x3500_0000 + seed);
+        let Ok(program) = read(&text) else { continue };
+        let (number, inside, past) = rounds(&program, 2_000);
+        if inside > 0 {
+            *ends.entry(number).or_insert(0) += 1;
+        }
+        never += u32::from(past > 0 && inside == 0);
+        once += u32::from(past > 0 && inside == 1);
+        often += u32::from(past > 0 && inside > 3);
+    }
+    println!("ends of runs with rounds: {ends:?}");
+    println!("rounds: none {never}, one {once}, more than three {often}");
+    assert!(never > 50 && once > 50 && often > 50);
+    for number in [0, 21, 22, 23, 24, 25, 26, 27] {
+        assert!(
+            ends.get(&number).is_some_and(|&count| count > 3),
+            "{number}"
+        );
+    }
+}
+
+/// The first word of a line of the text.
+fn word_at(text: &[u8], line: u32) -> Option<&[u8]> {
+    let at = (line as usize).checked_sub(1)?;
+    let line = text.split(|&byte| byte == b'\n').nth(at)?;
+    line.split(|&byte| byte == b'\t').next()
+}
+
+/// W5: each number that a `loop` or an `again` can get occurs there.
+#[test]
+fn every_number_of_a_loop_occurs() {
+    let mut rng = Rng::new(0x3600_0000);
+    for (number, of_again) in [
+        (4, true),
+        (5, true),
+        (6, false),
+        (7, false),
+        (10, false),
+        (12, true),
+        (13, true),
+    ] {
+        let (mut of_loop, mut others) = (0, 0);
+        for _ in 0..1_500 {
+            let text = gen::text_of(&mut rng, gen::Kind::Miss(number));
+            let (found, line) = check(&text);
+            match word_at(&text, line) {
+                Some(b"loop") if found == number => of_loop += 1,
+                Some(b"again") if found == number => others += 1,
+                _ => {}
+            }
+        }
+        println!("{number}: {of_loop} at a `loop`, {others} at an `again`");
+        assert!(of_loop > 5 && (others > 5) == of_again, "{number}");
+    }
+}
+
+/// W5: runs stop at a `loop` with each number that they can get there.
+#[test]
+fn every_stop_of_a_loop_occurs() {
+    let mut stops: BTreeMap<u32, u32> = BTreeMap::new();
+    for seed in 0..10_000 {
+        let text = gen::text(0x3700_0000 + seed);
+        let stop = run(&text, 2_000);
+        if stop.number > 21 && word_at(&text, stop.line) == Some(b"loop") {
+            *stops.entry(stop.number).or_insert(0) += 1;
+        }
+    }
+    println!("stopped at a `loop`: {stops:?}");
+    assert!(stops.keys().eq(&[24, 25, 26]) && stops.values().all(|&count| count > 3));
 }
 
 /// W4: numbers of both signs, those that are the last to have the form and

@@ -61,12 +61,13 @@ fn holds(machine: &Machine, state: &State) -> bool {
     })
 }
 
-/// The state before each statement; a `join` is reached by two ways and left
-/// out.
+/// The state before each statement; a `join` and a `loop` are reached by two
+/// ways and left out.
 fn states<'a>(program: &Program<'a>) -> Vec<Option<State<'a>>> {
     let mut states = vec![None; program.statements.len()];
     let observed = check_observed(program, &mut |place, state| {
-        if !matches!(program.statements[place].action, Action::Join(_)) {
+        let action = &program.statements[place].action;
+        if !matches!(action, Action::Join(_) | Action::Loop(_)) {
             states[place] = Some(state.clone());
         }
     });

@@ -9,7 +9,7 @@ use model::watch::{Purpose, Record, Tested};
 use model::{check, gen, read, text};
 
 fn texts() -> impl Iterator<Item = Vec<u8>> {
-    (0..4_000).map(|seed| gen::text(0x4800_0000 + seed))
+    (0..6_000).map(|seed| gen::text(0x4800_0000 + seed))
 }
 
 #[test]

@@ -16,20 +16,22 @@ returns c = sym (rw (ne-eqb _ 0 (c .if1 .taken)))
 is-framed-requires : tie.Need-is-framed-requires
 is-framed-requires c κs = search needs
 
-sub-framed : tie.Need-sub-framed
-sub-framed c = omega (arith, c .before .before .before .before .before .before .before .pre .0 .low)
+sub-framed-line : tie.Need-sub-framed-line
+sub-framed-line c = omega (arith, c .before .before .before .before .before .before .before .pre .low)
 
-framed-requires : tie.Need-framed-requires
-framed-requires c κs = (c .before .before .before .before .before .before .before .pre .0 .whole, omega (arith, c .before .before .before .before .before .before .before .pre .0 .high, c .before .before .before .before .before .before .before .pre .0 .low))
+framed-line-requires : tie.Need-framed-line-requires
+framed-line-requires c κs =
+    let x = c .before .before .before .before .before .before .before .pre in
+    (x .whole, λ e. omega (arith, x .condition e), omega (arith, x .high, x .low))
 
 returns-2 : tie.Need-returns-2
-returns-2 c = sym (all-framed _ _ (c .before .before .before .before .before .before .if1 .left) _ _ (c .before .before .before .before .before .is-framed .ensures) (c .before .before .before .before .if2 .taken) _ (c .before .framed .ensures) (c .if3 .taken))
+returns-2 c = sym (all-framed _ _ (c .before .before .before .before .before .before .if1 .left) _ _ (c .before .before .before .before .before .is-framed .ensures) (c .before .before .before .before .if2 .taken) _ (c .before .framed-line .ensures) (c .if3 .taken))
 
 add-result : tie.Need-add-result
-add-result c = omega (arith, c .before .before .before .before .before .before .before .before .before .before .pre .0 .line)
+add-result c = omega (arith, c .before .before .before .before .before .before .before .before .before .before .pre .line)
 
 returns-3 : tie.Need-returns-3
-returns-3 c = add-one _ ∙ sym (one-unframed _ _ (c .before .before .before .before .before .before .before .if1 .left) _ _ (c .before .before .before .before .before .before .is-framed .ensures) (c .before .before .before .before .before .if2 .taken) _ (c .before .before .framed .ensures) (c .before .if3 .left))
+returns-3 c = add-one _ ∙ sym (one-unframed _ _ (c .before .before .before .before .before .before .before .if1 .left) _ _ (c .before .before .before .before .before .before .is-framed .ensures) (c .before .before .before .before .before .if2 .taken) _ (c .before .before .framed-line .ensures) (c .before .if3 .left))
 
 returns-4 : tie.Need-returns-4
 returns-4 c = sym (not-asked _ _ (c .before .before .if1 .left) _ _ (c .before .is-framed .ensures) (c .if2 .left))
@@ -40,8 +42,8 @@ first-unframed-spec =
     (tie.spec
     returns
     is-framed-requires
-    sub-framed
-    framed-requires
+    sub-framed-line
+    framed-line-requires
     returns-2
     add-result
     returns-3

@@ -1,5 +1,6 @@
 -- `reader::read_line` meets its contract. Assumes nothing.
-use mathlib.Core.Path.{sym, _∙_}
+use mathlib.Core.Path.{refl, sym, _∙_}
+use Rattle.read_grammar.proofs.Rows.{number-of-kind}
 use Rattle.resolve_headers.proofs.Lines.{stands-held}
 use Rattle.reader.specs.Readings.{StepIs}
 use Rattle.reader.proofs.Judged.{good-resolved, bad-resolved, refusal-kept, good-kept}
@@ -43,7 +44,7 @@ take-line-requires : tie.Need-take-line-requires
 take-line-requires c κs =
     let x = c .before .before .before .before .before .before .before .before .before .before .before .before .pre in
     let z = tried-on (c .before .before .before .before .before .before .try-line .ensures) _ (c .before .before .t .given .1) in
-    (between (z .1 .0) (x .2 .flat) (x .2 .stands) (x .0 .ready) (x .1), x .0 .kind)
+    between (z .1 .0) _ (x .0 .kind) refl (x .2 .flat) (x .2 .stands) (x .0 .ready) (x .1)
 
 same-length-2 : tie.Need-same-length-2
 same-length-2 c = search needs
@@ -64,7 +65,7 @@ returns-3 c =
     let x = c .before .before .before .before .before .before .before .before .before .before .before .before .before .pre in
     let z = tried-on (c .before .before .before .before .before .before .before .try-line .ensures) _ (c .before .before .before .t .given .1) in
     record {
-      taken = line-taken (z .1 .0) (x .2) _ (c .take-line .ensures);
+      taken = line-taken (z .1 .0) (x .2) _ (number-of-kind _ (x .0 .kind)) _ (c .take-line .ensures);
       resolved = good-resolved _ _ (c .before .before .before .before .before .before .before .before .before .before .before .before .before .args .p) _ (z .0);
     }
 

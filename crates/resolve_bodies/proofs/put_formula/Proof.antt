@@ -3,6 +3,7 @@ use mathlib.Core.Path.{_≡_}
 use native.Mathlib.Omega.{arith}
 use Rattle.rules.specs.Grammar as Grammar
 use Rattle.rules.specs.Grammar.{kindNumber}
+use Rattle.tables.specs.Layout.{atomLimit}
 use Rattle.resolve_bodies.proofs.Items.{kind-as, requires-is, ensures-is, method-room, area-fits, follows-as, header-tried}
 use borrow.Author.Needs.{needs}
 use Rattle.resolve_bodies.proofs.put_formula.Statement.{statement}
@@ -20,14 +21,14 @@ sub-m c =
     omega (arith, method-room (p .0) (p .1 .0) (p .1 .1))
 
 put-requires-requires : tie.Need-put-requires-requires
-unfolding kindNumber
+unfolding kindNumber atomLimit
 put-requires-requires c κs =
     let start = c .before .before .before .before .before .before .before .before .before in
     let at-seen = c .before .before .before .before .before .seen in
     let p = start .pre in let g = at-seen .ensures in (area-fits (p .0) g, follows-as (p .0) g requires-is (kind-as Grammar.Requires _ (c .before .match .keys1)), omega (arith, method-room (p .0) (p .1 .0) (p .1 .1)))
 
 put-ensures-requires : tie.Need-put-ensures-requires
-unfolding kindNumber
+unfolding kindNumber atomLimit
 put-ensures-requires c κs =
     let start = c .before .before .before .before .before .before .before .before .before in
     let at-seen = c .before .before .before .before .before .seen in

@@ -4,7 +4,7 @@ use Rattle.rules.specs.Grammar as Grammar
 use Rattle.rules.specs.Grammar.{kindNumber}
 use Rattle.resolve_pass.specs.Passes.{hasAtoms, isFramed}
 use Rattle.write_formulas.specs.Claims.{isClaim}
-use Rattle.resolve_bodies.proofs.Items.{kind-as, plain-left, claim-is, claim-at, line-small, row-room, area-fits, side-follows, plain-follows, follows-as, side-tried, plain-tried, claim-tried}
+use Rattle.resolve_bodies.proofs.Items.{kind-as, plain-left, claim-at, line-small, row-room, area-fits, side-follows, plain-follows, claim-follows, side-tried, plain-tried, claim-tried}
 use borrow.Author.Needs.{needs}
 use Rattle.resolve_bodies.proofs.put_row.Statement.{statement}
 use Rattle.resolve_bodies.proofs.put_row.Tie as tie
@@ -27,16 +27,14 @@ unfolding isClaim
 put-claim-requires c κs =
     let p = c .before .before .before .before .before .before .before .pre in
     let g = c .before .before .before .seen .ensures in
-    let i = claim-at 13 _ refl (c .before .match .keys2) in
-    (area-fits (p .0) g, follows-as (p .0) g (claim-is _ i) refl, i, row-room (p .0) (p .1), line-small (p .0))
+    (area-fits (p .0) g, claim-follows (p .0) g (p .1) (claim-at 13 _ refl (c .before .match .keys2)), row-room (p .0) (p .1), line-small (p .0))
 
 put-claim-requires-2 : tie.Need-put-claim-requires-2
 unfolding isClaim
 put-claim-requires-2 c κs =
     let p = c .before .before .before .before .before .before .before .pre in
     let g = c .before .before .before .seen .ensures in
-    let i = claim-at 14 _ refl (c .before .match .keys3) in
-    (area-fits (p .0) g, follows-as (p .0) g (claim-is _ i) refl, i, row-room (p .0) (p .1), line-small (p .0))
+    (area-fits (p .0) g, claim-follows (p .0) g (p .1) (claim-at 14 _ refl (c .before .match .keys3)), row-room (p .0) (p .1), line-small (p .0))
 
 put-if-requires : tie.Need-put-if-requires
 unfolding kindNumber Grammar.statementNumber Grammar.isKind Grammar.isStatement hasAtoms isFramed
@@ -50,8 +48,14 @@ unfolding isClaim
 put-claim-requires-3 c κs =
     let p = c .before .before .before .before .before .before .before .pre in
     let g = c .before .before .before .seen .ensures in
-    let i = claim-at 17 _ refl (c .before .match .keys5) in
-    (area-fits (p .0) g, follows-as (p .0) g (claim-is _ i) refl, i, row-room (p .0) (p .1), line-small (p .0))
+    (area-fits (p .0) g, claim-follows (p .0) g (p .1) (claim-at 17 _ refl (c .before .match .keys5)), row-room (p .0) (p .1), line-small (p .0))
+
+put-claim-requires-4 : tie.Need-put-claim-requires-4
+unfolding isClaim
+put-claim-requires-4 c κs =
+    let p = c .before .before .before .before .before .before .before .pre in
+    let g = c .before .before .before .seen .ensures in
+    (area-fits (p .0) g, claim-follows (p .0) g (p .1) (claim-at 21 _ refl (c .before .match .keys6)), row-room (p .0) (p .1), line-small (p .0))
 
 put-plain-requires : tie.Need-put-plain-requires
 put-plain-requires c κs =
@@ -117,10 +121,20 @@ same-length-6 : tie.Need-same-length-6
 same-length-6 c = search needs
 
 returns-6 : tie.Need-returns-6
+unfolding isClaim
 returns-6 c =
+    let p = c .before .before .before .before .before .before .before .before .before .before .pre in
+    let g = c .before .before .before .before .before .before .seen .ensures in
+    claim-tried (p .0) g (claim-at 21 _ refl (c .before .before .before .before .match .keys6)) _ (c .before .before .put-claim4 .result) (c .before .before .put-claim4 .ensures)
+
+same-length-7 : tie.Need-same-length-7
+same-length-7 c = search needs
+
+returns-7 : tie.Need-returns-7
+returns-7 c =
     let p = c .before .before .before .before .before .before .before .before .before .before .before .pre in
     let g = c .before .before .before .before .before .before .before .seen .ensures in
-    plain-tried (p .0) g (p .1) (c .before .before .before .before .before .match .rest .1) _ (c .before .before .before .put-plain .result) (c .done-if .result) (c .done-if .ensures) (c .before .before .before .put-plain .ensures)
+    plain-tried (p .0) g (p .1) (c .before .before .before .before .before .match .rest .0 .1) (c .before .before .before .before .before .match .rest .1) _ (c .before .before .before .put-plain .result) (c .done-if .result) (c .done-if .ensures) (c .before .before .before .put-plain .ensures)
 
 pub put-row-spec : {M : Type 1} → statement M
 put-row-spec =
@@ -133,6 +147,7 @@ put-row-spec =
     put-claim-requires-2
     put-if-requires
     put-claim-requires-3
+    put-claim-requires-4
     put-plain-requires
     done-if-requires
     same-length
@@ -146,4 +161,6 @@ put-row-spec =
     same-length-5
     returns-5
     same-length-6
-    returns-6)
+    returns-6
+    same-length-7
+    returns-7)

@@ -14,12 +14,14 @@ pub fn form_of(shape: &Shape) -> String {
         .operands
         .iter()
         .map(|(letter, _)| format!(" {letter}"));
-    let tail = match shape.tail {
-        Tail::Nothing => "",
-        Tail::Formula => " ATOM..",
-        Tail::Condition => " eq e e` or `if ne e e",
-    };
-    format!("{}{}{tail}", shape.word, letters.collect::<String>())
+    let start = format!("{}{}", shape.word, letters.collect::<String>());
+    let condition = |rest: &str| format!("{start} eq e e{rest}` or `{start} ne e e{rest}");
+    match shape.tail {
+        Tail::Nothing => start,
+        Tail::Formula => format!("{start} ATOM.."),
+        Tail::Condition => condition(""),
+        Tail::Loop => condition(" ATOM.."),
+    }
 }
 
 fn means(operand: Operand) -> &'static str {
@@ -49,7 +51,9 @@ pub fn malformed(text: &[u8], number: u32) -> Option<Cause> {
     let mark = field_range(bytes, at..end).or(after);
     let field = all.get(at).map_or(&b""[..], |field| field.1);
     let cause = match found {
-        Fault::UnknownWord => unknown_word(field, &reader).or_mend(assignment(&all)),
+        Fault::UnknownWord => unknown_word(field, &reader)
+            .or_mend(assignment(&all))
+            .or_mend(rounds(field).map(str::to_string)),
         Fault::EmptyLine if reader.place == Place::Done => {
             Cause::new("the line is empty, and nothing follows main's `end`").mend(DELETE)
         }
@@ -87,6 +91,19 @@ fn path_mend(why: Malformed, all: &[(usize, &[u8])], at: usize) -> Option<String
     }
 }
 
+/// A loop as other languages have it.
+fn rounds(word: &[u8]) -> Option<&'static str> {
+    match word {
+        b"while" | b"until" | b"for" | b"do" | b"repeat" => Some(
+            "`loop` begins a loop, with the condition for one more round, and `again` closes it",
+        ),
+        b"break" | b"continue" => {
+            Some("a loop is left at its `loop`, where the condition is false, or by `return`")
+        }
+        _ => None,
+    }
+}
+
 /// `a = b + 1` or `a += 1` as other languages have it.
 fn computed(words: &[&str]) -> Option<String> {
     let (x, y, sign, z) = match *words {
@@ -118,8 +135,9 @@ fn assignment(all: &[(usize, &[u8])]) -> Option<String> {
 
 /// Too few or too many fields or atoms.
 fn count_cause(found: Fault, word: &[u8], field: &[u8]) -> Cause {
-    let form = model::form::shape_of(word).map(form_of);
-    let form = form.unwrap_or_default();
+    let shape = model::form::shape_of(word);
+    let form = shape.map(form_of).unwrap_or_default();
+    let rounds = shape.is_some_and(|shape| shape.tail == Tail::Loop);
     match found {
         Fault::Missing(letter, operand) => Cause::new(format!(
             "the field for {letter} is missing, {}: the form is `{form}`",
@@ -132,11 +150,19 @@ fn count_cause(found: Fault, word: &[u8], field: &[u8]) -> Cause {
             "`{}` is a field too many: the form is `{form}`",
             shown(field)
         )),
+        Fault::NinthAtom if rounds => Cause::new(format!(
+            "an invariant has at most {} atoms after the condition, and this is the ninth",
+            limits::ATOMS
+        ))
+        .mend("leave out what neither the body nor a line after `again` needs"),
         Fault::NinthAtom => Cause::new(format!(
             "a formula has at most {} atoms, and this is the ninth",
             limits::ATOMS
         ))
         .mend("`assert` can be split over two lines; a contract wants less in one line"),
+        _ if rounds => Cause::new(format!(
+            "`loop` takes a condition first, then the atoms of its invariant: `{form}`"
+        )),
         _ => Cause::new(format!("`{}` takes one condition: `{form}`", shown(word))),
     }
 }

@@ -1,10 +1,11 @@
 //! Mends that fit what a rule does not show.
 
-use super::route::{assigned, Step};
+use super::route::{assigned, named, Step};
 use super::rules::Unshown;
 use crate::script::{shown, Names};
 use model::checker::Term;
-use model::names::{Action, Atom, Call, Expr, Path, Type, Var, PARAM, RESULT, THIS};
+use model::names::{Action, Atom, Call, Expr, Path, Type, Var, FIRST_LOCAL, PARAM, RESULT, THIS};
+use model::number::DONE;
 
 /// A mend that fits, where one is to be seen.
 pub fn mend(unshown: &Unshown, steps: &[Step], lost_at: Option<usize>) -> Option<String> {
@@ -19,13 +20,56 @@ pub fn mend(unshown: &Unshown, steps: &[Step], lost_at: Option<usize>) -> Option
             let line = statement.line;
             Some(format!("add `{wanted}` to the `join` of line {line}"))
         }
+        Action::Loop(_) | Action::Again(_) => mend_of_loop(unshown, at),
+        _ if unshown.round().is_some() => mend_of_round(unshown),
         Action::Compute(_) => tested(unshown),
         _ => None,
     }
 }
 
+/// The atom added to a loop that forgets it, if the check then comes past the
+/// line that wants it and the loop's `again`.
+fn mend_of_loop(unshown: &Unshown, at: usize) -> Option<String> {
+    let statements = &unshown.script.program.statements;
+    let opened = named(unshown.script, at);
+    let Action::Loop(rounds) = &opened.action else {
+        return None;
+    };
+    let wanted = unshown.names().atom(unshown.wanted);
+    let added = format!("\t{}", wanted.replace(' ', "\t"));
+    let mut lines: Vec<&[u8]> = unshown.script.text.split(|&byte| byte == b'\n').collect();
+    let place = opened.line as usize - 1;
+    let line = [lines[place], added.as_bytes()].concat();
+    lines[place] = &line;
+    let (number, refused) = model::check(&lines.join(&b'\n'));
+    let past =
+        refused > statements[unshown.asked.place].line && refused != statements[rounds.again].line;
+    match number == DONE || past {
+        true => Some(format!(
+            "add `{wanted}` to the `loop` of line {}",
+            opened.line
+        )),
+        false => None,
+    }
+}
+
+/// What to do for an atom of an invariant that the body makes go.
+fn mend_of_round(unshown: &Unshown) -> Option<String> {
+    let line = unshown.round()?.line;
+    match unshown.wanted {
+        Atom::Acc(_) => None,
+        _ => Some(format!(
+            "make it known before `again`, or leave it out of the `loop` of line {line}"
+        )),
+    }
+}
+
 /// What to do for an atom that was never shown in the block.
 fn never_shown(unshown: &Unshown, steps: &[Step]) -> Option<String> {
+    starts_so(unshown, steps).or_else(|| never_said(unshown, steps))
+}
+
+fn never_said(unshown: &Unshown, steps: &[Step]) -> Option<String> {
     let names = unshown.names();
     let wanted = names.atom(unshown.wanted);
     let in_method = names.block.header.is_some();
@@ -51,11 +95,7 @@ fn never_shown(unshown: &Unshown, steps: &[Step]) -> Option<String> {
         }
         Atom::Ne(Expr::Var(_), Expr::Null) => tested(unshown),
         Atom::Eq(Expr::Var(RESULT), side) | Atom::Eq(side, Expr::Var(RESULT)) => {
-            let returned = names.var(variable_equal(unshown, side)?);
-            Some(match &unshown.action() {
-                Action::Return(_) => format!("`return {returned}` here gives that value back"),
-                _ => format!("`return {returned}` sets `result`"),
-            })
+            returned(unshown, side)
         }
         Atom::Eq(left, right) | Atom::Ne(left, right)
             if [left, right]
@@ -66,6 +106,42 @@ fn never_shown(unshown: &Unshown, steps: &[Step]) -> Option<String> {
         }
         _ => None,
     }
+}
+
+/// The `return` that gives one side as the result.
+fn returned<'a>(unshown: &Unshown<'_, 'a>, side: Expr<'a>) -> Option<String> {
+    let returned = unshown.names().var(variable_equal(unshown, side)?);
+    Some(match unshown.action() {
+        Action::Return(_) => format!("`return {returned}` here gives that value back"),
+        _ => format!("`return {returned}` sets `result`"),
+    })
+}
+
+/// The line that says of a variable what it starts as, where that is wanted and
+/// no line has assigned it.
+fn starts_so(unshown: &Unshown, steps: &[Step]) -> Option<String> {
+    let Atom::Eq(left, right) = unshown.wanted else {
+        return None;
+    };
+    let state = &unshown.asked.state;
+    let names = unshown.names();
+    let mut ways = [(left, right), (right, left)].into_iter();
+    ways.find_map(|(side, value)| {
+        let Expr::Var(var @ FIRST_LOCAL..RESULT) = side else {
+            return None;
+        };
+        let start = match names.kind(var)? {
+            Type::Int => Term::Number(0),
+            Type::Class(_) => Term::Null,
+        };
+        let fresh = assigned(unshown.script, steps, var).is_none();
+        let equal = state.equals(state.resolve(value).ok()?);
+        let said = (names.var(var), names.term(start));
+        (fresh && equal.contains(&start)).then(|| {
+            let (var, start) = said;
+            format!("`let {var} {start}` first: `{var}` starts so, but only a line says it")
+        })
+    })
 }
 
 /// A variable that has the value of one side.

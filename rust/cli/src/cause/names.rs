@@ -400,22 +400,37 @@ fn same(look: &Look, name: Name) -> Cause {
     .mend("take the result in another variable")
 }
 
+/// The atoms of a line that number 10 is about, as they stand on it, and how
+/// many of them are the condition of a `loop`.
+fn framed_atoms<'a>(line: &Line<'a>) -> Option<(Vec<text::Atom<'a>>, usize)> {
+    match line {
+        Line::Requires(formula) | Line::Ensures(formula) | Line::Join(formula) => {
+            Some((formula.clone(), 0))
+        }
+        Line::Loop(condition, invariant) => Some(([&[*condition], &invariant[..]].concat(), 1)),
+        _ => None,
+    }
+}
+
 /// Number 10.
 pub fn unframed(text: &[u8], number: u32) -> Option<Cause> {
     let look = Look::at(text, number)?;
-    let (Line::Requires(formula) | Line::Ensures(formula) | Line::Join(formula)) = look.line()?
-    else {
-        return None;
-    };
-    let (atom, x, field) = model::framing::unframed(formula)?;
+    let (atoms, conditions) = framed_atoms(look.line()?)?;
+    let (atom, x, field) = model::framing::unframed_in(look.line()?)?;
     let acc = format!("acc {} {}", shown(x), shown(field));
     let path = format!("{}.{}", shown(x), shown(field));
-    let cause = Cause::new(format!(
-        "`{path}` is read, and `{acc}` does not stand before it"
-    ))
-    .mark(field_range(look.bytes(), 1 + 3 * atom..4 + 3 * atom));
-    let wanted = text::Atom::Acc(x, field);
-    let other = formula[..atom].iter().find_map(|atom| match atom {
+    let condition = atom < conditions;
+    let said = match condition {
+        true => format!("the condition reads `{path}`, and the invariant after it has no `{acc}`"),
+        false => format!("`{path}` is read, and `{acc}` does not stand before it"),
+    };
+    let mark = field_range(look.bytes(), 1 + 3 * atom..4 + 3 * atom);
+    let cause = Cause::new(said).mark(mark);
+    let serving = match condition {
+        true => &atoms[conditions..],
+        false => &atoms[conditions..atom],
+    };
+    let other = serving.iter().find_map(|atom| match atom {
         text::Atom::Acc(y, f) if *f == field && *y != x => Some(shown(y)),
         _ => None,
     });
@@ -427,8 +442,10 @@ pub fn unframed(text: &[u8], number: u32) -> Option<Cause> {
         )),
         None => cause,
     };
-    Some(match formula[atom..].contains(&wanted) {
-        true => cause.mend(format!("move `{acc}` before it")),
-        false => cause.mend(format!("write `{acc}` before it")),
-    })
+    let later = atoms[atom..].contains(&text::Atom::Acc(x, field));
+    Some(cause.mend(match later {
+        _ if condition => format!("write `{acc}` after the condition"),
+        true => format!("move `{acc}` before it"),
+        false => format!("write `{acc}` before it"),
+    }))
 }

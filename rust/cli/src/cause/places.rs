@@ -18,8 +18,8 @@ pub fn words(next: &[&str]) -> String {
     }
 }
 
-/// The lines of the `if`s that are open before a line.
-fn open_ifs(text: &[u8], before: u32) -> Vec<u32> {
+/// The lines of the `if`s and `loop`s that are open before a line.
+fn open_lines(text: &[u8], before: u32) -> Vec<u32> {
     let mut reader = Reader::new();
     let mut open = Vec::new();
     for (at, bytes) in text.split(|&byte| byte == b'\n').enumerate() {
@@ -73,8 +73,26 @@ fn only_returned(text: &[u8], number: u32, reader: &Reader) -> bool {
     reader.returned && found.is_some_and(|line| unreturned.step(&line))
 }
 
+/// The innermost open part is of another kind than the line would close.
+fn still_open(text: &[u8], number: u32, reader: &Reader, word: &str) -> String {
+    let open = open_lines(text, number).last().copied().unwrap_or(0);
+    let looping = |branch: &Branch| *branch == Branch::Loop;
+    let branches = &reader.branches;
+    match (word, branches.last()) {
+        ("else" | "join", _) if branches.iter().all(looping) => {
+            format!("`{word}` has no `if` before it that is open")
+        }
+        ("again", _) if !branches.iter().any(looping) => {
+            "`again` has no `loop` before it that is open".to_string()
+        }
+        (_, Some(Branch::Loop)) => format!("the `loop` of line {open} is still open"),
+        ("else", _) => format!("the `if` of line {open} has its `else` already"),
+        ("join", _) => format!("the `if` of line {open} has no `else` yet"),
+        _ => format!("the `if` of line {open} is still open"),
+    }
+}
+
 fn out_of_place(text: &[u8], number: u32, reader: &Reader, word: &str) -> String {
-    let open = open_ifs(text, number).last().copied().unwrap_or(0);
     let block = last_with(text, number, &["method", "main"]).unwrap_or(0);
     match (reader.place, word) {
         (Place::Done, _) => "nothing follows main's `end`".to_string(),
@@ -89,12 +107,7 @@ fn out_of_place(text: &[u8], number: u32, reader: &Reader, word: &str) -> String
         (Place::Vars(Block::Main) | Place::Body(Block::Main), "return") => {
             "`return` stands in methods only, and this is main".to_string()
         }
-        (_, "else" | "join") if reader.branches.is_empty() => {
-            format!("`{word}` has no `if` before it that is open")
-        }
-        (_, "else") => format!("the `if` of line {open} has its `else` already"),
-        (_, "join") => format!("the `if` of line {open} has no `else` yet"),
-        (_, "end") => format!("the `if` of line {open} is still open"),
+        (_, "else" | "join" | "again" | "end") => still_open(text, number, reader, word),
         (_, "class" | "method" | "main" | "field" | "requires" | "ensures") => {
             format!("the block of line {block} is not ended")
         }
@@ -107,7 +120,9 @@ fn out_of_place(text: &[u8], number: u32, reader: &Reader, word: &str) -> String
 }
 
 /// The lines that a reader wants next where something is missing, in order.
-const CLOSING: [&str; 6] = ["requires", "ensures", "else", "join", "end", "main"];
+const CLOSING: [&str; 7] = [
+    "requires", "ensures", "else", "join", "again", "end", "main",
+];
 
 /// The lines to write so that the reader comes to a place that suits.
 fn closing(reader: &Reader, suits: impl Fn(&Reader) -> bool) -> Option<Vec<String>> {
@@ -142,6 +157,9 @@ fn missing_before(bytes: &[u8], reader: &Reader) -> Option<Vec<String>> {
 pub fn limit(text: &[u8], number: u32) -> Option<Cause> {
     let mut reader = Reader::new();
     let _ = text::lines_by(&mut reader, text);
+    let bytes = line(text, number)?;
+    let word = shown(fields(bytes)[0].1);
+    let inner = format!("move the inner `{word}` into a method");
     let (said, mend) = match reader.passed()? {
         Limit::Classes => (
             format!("a script has at most {} classes", limits::CLASSES),
@@ -161,18 +179,17 @@ pub fn limit(text: &[u8], number: u32) -> Option<Cause> {
         ),
         Limit::Statements => (
             format!(
-                "a script has at most {} statement lines, with `else`, `join` and `end`",
+                "a script has at most {} statement lines, with `else`, `join`, `again` and `end`",
                 limits::STATEMENT_LINES
             ),
             "move lines that recur into a method, where they count once",
         ),
         Limit::Nesting => (
-            format!("branches nest at most {} deep", limits::NESTING),
-            "move the inner `if` into a method",
+            format!("branches and loops nest at most {} deep", limits::NESTING),
+            inner.as_str(),
         ),
         _ => return None,
     };
-    let bytes = line(text, number)?;
     let cause = Cause::new(said).mark(field_range(bytes, 0..usize::MAX));
     Some(cause.mend(mend))
 }
@@ -182,12 +199,13 @@ pub fn unfinished(text: &[u8]) -> Cause {
     let mut reader = Reader::new();
     let _ = text::lines_by(&mut reader, text);
     let lines = text.iter().filter(|&&byte| byte == b'\n').count() as u32;
-    let open = open_ifs(text, lines + 1).last().copied().unwrap_or(0);
+    let open = open_lines(text, lines + 1).last().copied().unwrap_or(0);
     let block = last_with(text, lines + 1, &["method", "main"]).unwrap_or(0);
     let said = match (reader.place, reader.branches.last()) {
         _ if text.is_empty() => "the text is empty".to_string(),
         (_, Some(Branch::First)) => format!("the `if` of line {open} has no `else` and no `join`"),
         (_, Some(Branch::Second)) => format!("the `if` of line {open} has no `join`"),
+        (_, Some(Branch::Loop)) => format!("the `loop` of line {open} has no `again`"),
         (Place::Requires, _) => format!("the method of line {block} has no `requires`"),
         (Place::Ensures, _) => format!("the method of line {block} has no `ensures`"),
         (Place::Vars(_) | Place::Body(_), _) => format!("the block of line {block} has no `end`"),

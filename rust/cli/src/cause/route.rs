@@ -14,7 +14,7 @@ pub struct Step<'r, 'a> {
 }
 
 /// The statements from a block's start up to a place. Branches that are closed
-/// before it count as their `join`.
+/// before it count as their `join`, loops as their `again`.
 pub fn route<'r, 'a>(
     script: &Script<'a>,
     record: &'r Record<'a>,
@@ -28,6 +28,9 @@ pub fn route<'r, 'a>(
             Action::If(branch) if target <= branch.other => (place, place, place + 1),
             Action::If(branch) if target <= branch.join => (place, branch.other, branch.other + 1),
             Action::If(branch) => (branch.join, branch.join, branch.join + 1),
+            Action::Loop(rounds) if rounds.again < target => {
+                (rounds.again, rounds.again, rounds.again + 1)
+            }
             _ => (place, place, place + 1),
         };
         if let (Some(before), Some(after)) = (&record.seen[place].before, &record.seen[last].after)
@@ -65,9 +68,18 @@ pub fn dropped<'a>(steps: &[Step<'_, 'a>], terms: &[Term<'a>]) -> Option<(usize,
     })
 }
 
+/// The statement that messages name for a place: for an `again` its `loop`, which
+/// has the invariant and up to which was known what the loop forgets.
+pub fn named<'s, 'a>(script: &'s Script<'a>, place: usize) -> &'s Statement<'a> {
+    match script.program.statements[place].action {
+        Action::Again(start) => &script.program.statements[start],
+        _ => &script.program.statements[place],
+    }
+}
+
 /// "known up to line 28: .." of a fact.
 pub fn told_fact(script: &Script, place: usize, fact: Fact) -> String {
-    let statement = &script.program.statements[place];
+    let statement = named(script, place);
     let names = script.names_at(place);
     let line = quoted(script.text, statement.line);
     format!(
@@ -79,7 +91,7 @@ pub fn told_fact(script: &Script, place: usize, fact: Fact) -> String {
 
 /// "held up to line 14: `call r c lose k`, ..".
 pub fn told(script: &Script, place: usize, atom: Atom) -> String {
-    let statement = &script.program.statements[place];
+    let statement = named(script, place);
     let names = script.names_at(place);
     let held = if matches!(atom, Atom::Acc(_)) {
         "held"
@@ -87,7 +99,8 @@ pub fn told(script: &Script, place: usize, atom: Atom) -> String {
         "known"
     };
     let line = quoted(script.text, statement.line);
-    let why = reason(script, &names, &statement.action, atom);
+    let action = &script.program.statements[place].action;
+    let why = reason(script, &names, action, atom);
     format!("{held} up to line {}: `{line}`, {why}", statement.line)
 }
 
@@ -121,6 +134,12 @@ fn reason(script: &Script, names: &Names, action: &Action, atom: Atom) -> String
         ),
         Action::Release(_) => "which lets it go".to_string(),
         Action::Join(_) => "after which only its own formula is known".to_string(),
+        Action::Loop(_) => {
+            "in whose body only its invariant and its condition are known".to_string()
+        }
+        Action::Again(_) => {
+            "after which only its invariant and the opposite of its condition are known".to_string()
+        }
         _ => "after which it is not shown".to_string(),
     }
 }
@@ -135,7 +154,7 @@ pub fn assigned<'s, 'a>(
         Action::Let(x, _) | Action::New(x, _) => *x == var,
         Action::Compute(compute) => compute.x == var,
         Action::Call(call) => call.x == var,
-        Action::Join(_) => true,
+        Action::Join(_) | Action::Loop(_) | Action::Again(_) => true,
         _ => false,
     };
     let way = steps.iter().rev();

@@ -7,7 +7,7 @@ use super::Cause;
 use crate::script::{field_range, line, listed, shown, Names, Script};
 use model::checker::{State, Term};
 use model::limits;
-use model::names::{Action, Atom, Expr, Path};
+use model::names::{Action, Atom, Expr, Path, Statement};
 use model::number::STATE_FULL;
 use model::watch::{Asked, Purpose, Record};
 use std::ops::Range;
@@ -86,6 +86,14 @@ impl<'s, 'a> Unshown<'s, 'a> {
         branches.next()
     }
 
+    /// The loop whose invariant is asked for at its `again`.
+    pub fn round(&self) -> Option<&'s Statement<'a>> {
+        match *self.action() {
+            Action::Again(start) => Some(&self.script.program.statements[start]),
+            _ => None,
+        }
+    }
+
     /// The line that is asked, in words.
     fn said(&self) -> String {
         let names = self.names();
@@ -117,10 +125,10 @@ impl<'s, 'a> Unshown<'s, 'a> {
             }
             Purpose::Requires => self.requires(&wanted, missing),
             Purpose::FirstEnd | Purpose::SecondEnd => self.end_of_branch(&wanted, missing),
+            Purpose::Invariant | Purpose::RoundEnd => self.invariant(&wanted, missing),
             Purpose::Ensures => {
-                let (_, line) = self
-                    .script
-                    .contract_lines(self.script.block_of(self.asked.place));
+                let block = self.script.block_of(self.asked.place);
+                let (_, line) = self.script.contract_lines(block);
                 format!("`ensures` (line {line}) promises `{wanted}`, which is {missing} here")
             }
             _ if self.read.is_some() => format!("the line {needs}, and it is {missing} here"),
@@ -156,12 +164,22 @@ impl<'s, 'a> Unshown<'s, 'a> {
             Purpose::FirstEnd => ("first", from, other),
             _ => ("second", other, self.asked.place),
         };
-        let lines = match (line(from) + 1, line(to) - 1) {
-            (first, last) if first > last => "which has no line".to_string(),
-            (first, last) if first == last => format!("line {first}"),
-            (first, last) => format!("lines {first} to {last}"),
-        };
+        let lines = lines_between(line(from), line(to));
         format!("at the end of the {which} branch, {lines}, `{wanted}` is {missing}")
+    }
+
+    fn invariant(&self, wanted: &str, missing: &str) -> String {
+        let Some(start) = self.round().map(|opened| opened.line) else {
+            return format!(
+                "the invariant must hold before the first round, and `{wanted}` is {missing} here"
+            );
+        };
+        let again = self.script.program.statements[self.asked.place].line;
+        let lines = lines_between(start, again);
+        format!(
+            "the invariant (line {start}) must hold again at the end of the body, {lines}, and \
+             `{wanted}` is {missing} there"
+        )
     }
 
     /// The bytes of the line to point at.
@@ -176,7 +194,8 @@ impl<'s, 'a> Unshown<'s, 'a> {
             (Purpose::Write, _) => 1..3,
             (Purpose::Receiver, _) => 2..3,
             (Purpose::Requires, _) => 3..4,
-            (Purpose::Ensures, _) => 0..1,
+            (Purpose::Ensures | Purpose::RoundEnd, _) => 0..1,
+            (Purpose::Invariant, _) => 4 + 3 * at..7 + 3 * at,
             _ => 1 + 3 * at..4 + 3 * at,
         };
         field_range(bytes, fields)
@@ -206,6 +225,15 @@ impl<'s, 'a> Unshown<'s, 'a> {
             ),
             _ => return None,
         })
+    }
+}
+
+/// The lines between two lines.
+fn lines_between(from: u32, to: u32) -> String {
+    match (from + 1, to - 1) {
+        (first, last) if first > last => "which has no line".to_string(),
+        (first, last) if first == last => format!("line {first}"),
+        (first, last) => format!("lines {first} to {last}"),
     }
 }
 

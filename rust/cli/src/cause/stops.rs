@@ -1,6 +1,7 @@
 //! Why a run stopped, and the calls that are open then.
 
 use super::Cause;
+use crate::rounds::Rounds;
 use crate::script::{field_range, line, quoted, shown, Names, Script};
 use model::machine::{Machine, Step, Values};
 use model::names::{Action, Atom, Expr, Path, Type};
@@ -49,6 +50,7 @@ fn formula<'p, 'a>(
     };
     Some(match (tested, &machine.statement().action) {
         (Tested::Line, action) => own(action.formula()?, String::new()),
+        (Tested::Invariant, action) => own(action.formula()?, arrival(script, machine)),
         (Tested::Ensures, action) => {
             let (_, line) = script.contract_lines(frame.block);
             let ensures = &script.program.blocks[frame.block].ensures;
@@ -104,6 +106,9 @@ fn path_kind<'a>(machine: &Machine<'_, 'a>, values: &Values, path: Path) -> Opti
 /// does not stop so.
 pub fn stop_cause(text: &[u8], steps: u32, stop: u32) -> Option<Cause> {
     let script = Script::of(text).filter(|_| steps <= AGAIN)?;
+    if stop == number::OUT_OF_STEPS {
+        return in_a_loop(&script, steps);
+    }
     let mut machine = machine_at(&script, steps);
     if machine.steps != steps || machine.step() != Err(stop) {
         return None;
@@ -112,17 +117,62 @@ pub fn stop_cause(text: &[u8], steps: u32, stop: u32) -> Option<Cause> {
     let names = script.names(machine.frame().block);
     let statement = machine.statement();
     let tested = formula(&script, &machine, halt.tested);
+    let bytes = line(text, statement.line)?;
     let Some((at, tested)) = halt.atom.zip(tested) else {
         let said = full(&script, &machine, stop);
         let said = said.or_else(|| followed(&names, &statement.action, halt.path, stop));
         let said = said.or_else(|| overflow(&names, &machine));
-        return said.map(Cause::new);
+        let looping = matches!(statement.action, Action::Loop(_));
+        let mark = field_range(bytes, 1..4).filter(|_| looping);
+        return said.map(|said| Cause::new(said).mark(mark));
     };
     let said = false_atom(&machine, &names, &tested, *tested.atoms.get(at)?, halt)?;
-    let own = halt.tested == Tested::Line;
-    let bytes = line(text, statement.line)?;
-    let mark = field_range(bytes, 1 + 3 * at..4 + 3 * at).filter(|_| own);
+    let first = match halt.tested {
+        Tested::Line => Some(at),
+        Tested::Invariant => Some(at + 1),
+        _ => None,
+    };
+    let mark = first.and_then(|at| field_range(bytes, 1 + 3 * at..4 + 3 * at));
     Some(Cause::new(said).mark(mark))
+}
+
+/// Whether the last step came back to the `loop` at which the machine stands.
+fn arrival(script: &Script, machine: &Machine) -> String {
+    let last = machine.steps.checked_sub(1);
+    let last = last.map(|steps| &machine_at(script, steps).statement().action);
+    let when = match last == Some(&Action::Again(machine.frame().next)) {
+        true => "after a round",
+        false => "before the first round",
+    };
+    format!(" of the invariant {when}")
+}
+
+/// So many rounds of a loop are told of.
+const ROUNDS: u32 = 2;
+
+/// Number 21: the loop that took the steps, and whether it ever ends.
+fn in_a_loop(script: &Script, steps: u32) -> Option<Cause> {
+    let mut machine = Machine::new(&script.program);
+    let mut rounds = Rounds::default();
+    while machine.steps < steps && rounds.step(&mut machine) == Ok(Step::On) {}
+    let open = rounds.most();
+    let open = open.filter(|open| machine.steps == steps && open.rounds >= ROUNDS)?;
+    let statement = &script.program.statements[open.place];
+    let Action::Loop(opened) = &statement.action else {
+        return None;
+    };
+    let condition = script.names_at(open.place).atom(opened.condition);
+    let said = format!(
+        "the loop of line {} has done {} rounds",
+        statement.line, open.rounds
+    );
+    Some(match rounds.for_ever(&mut machine, open) {
+        true => Cause::new(format!(
+            "{said}, and it never ends: a round changes nothing"
+        ))
+        .mend(format!("let the body change what `{condition}` reads")),
+        false => Cause::new(format!("{said}, and `{condition}` is not false yet")),
+    })
 }
 
 /// Why an atom of a formula stopped the step.

@@ -7,7 +7,7 @@ use crate::cause::{cause, form_of};
 use crate::json::Json;
 use crate::known;
 use crate::script::Script;
-use model::form::{line_or_kind, next_words, shape_of, Operand, Tail, ATOM_SHAPES};
+use model::form::{line_or_kind, next_words, shape_of, AtomShape, Operand, Tail, ATOM_SHAPES};
 use model::text::Reader;
 
 fn line_of(text: &str, line: u32) -> &str {
@@ -129,6 +129,8 @@ fn reader_before(text: &str, line: u32) -> Reader {
 enum Role {
     Word,
     AtomWord,
+    /// The word of an atom that is a condition.
+    ConditionWord,
     Type,
     Class,
     Variable,
@@ -155,6 +157,8 @@ fn role(fields: &[&str], at: usize) -> Role {
             .find(|atom| fields.get(start) == Some(&atom.word));
         return match (shape.tail, place % 3, atom) {
             (Tail::Nothing, ..) => Role::Free,
+            (Tail::Condition, ..) if place > 2 => Role::Free,
+            (Tail::Condition | Tail::Loop, ..) if place == 0 => Role::ConditionWord,
             (_, 0, _) => Role::AtomWord,
             (_, part, Some(atom)) => operand(atom.operands[part - 1].1, before(1)),
             _ => Role::Free,
@@ -178,6 +182,12 @@ fn operand(operand: Operand, before: String) -> Role {
     }
 }
 
+/// The words of the atoms that fit.
+fn atom_words(fits: impl Fn(&AtomShape) -> bool) -> Vec<String> {
+    let atoms = ATOM_SHAPES.iter().filter(|atom| fits(atom));
+    atoms.map(|atom| atom.word.to_string()).collect()
+}
+
 /// The names that may stand at a place.
 pub fn completion(text: &str, line: u32, column: usize) -> Json {
     let shown = line_of(text, line);
@@ -189,10 +199,8 @@ pub fn completion(text: &str, line: u32, column: usize) -> Json {
             let next = next_words(&reader_before(text, line));
             next.into_iter().map(str::to_string).collect()
         }
-        Role::AtomWord => ATOM_SHAPES
-            .iter()
-            .map(|atom| atom.word.to_string())
-            .collect(),
+        Role::AtomWord => atom_words(|_| true),
+        Role::ConditionWord => atom_words(|atom| atom.condition),
         role => names_for(&Outline::of(text.as_bytes()), line + 1, role, fields[at]),
     };
     let start = before.len() - fields[at].len();

@@ -33,6 +33,7 @@ fn searched(rng: &mut Rng, number: u32) -> Vec<u8> {
         match number {
             number::ASSIGNED => assign_wrongly(rng, &mut lines),
             number::FORM if rng.chance(20) => after_return(rng, &mut lines),
+            number::FORM if rng.chance(20) => loop_form(rng, &mut lines),
             number::FORM if rng.chance(10) => number_form(rng, &mut lines),
             number::FORM => mutate_line(rng, &mut lines),
             _ => {
@@ -60,6 +61,32 @@ fn after_return(rng: &mut Rng, lines: &mut Fields) {
         false => lines[rng.pick(&places)].clone(),
     };
     lines.insert(at + 1, line);
+}
+
+/// A `loop` or `again` that has not its form, or is out of place.
+fn loop_form(rng: &mut Rng, lines: &mut Fields) {
+    let of_loop = |&at: &usize| matches!(lines[at][0].as_slice(), b"loop" | b"again");
+    let places: Vec<usize> = (0..lines.len()).filter(of_loop).collect();
+    let Some(at) = rng.choose(&places) else {
+        return;
+    };
+    let line = &mut lines[at];
+    match (line[0].as_slice(), rng.below(4)) {
+        // No condition, or one of another kind.
+        (b"loop", 0) => line.truncate(1),
+        (b"loop", 1) => line[1] = b"acc".to_vec(),
+        // Nine atoms or ten.
+        (b"loop", 2) => {
+            let length = 1 + 3 * rng.within(9, 10);
+            while line.len() < length {
+                line.extend(fields("eq 1 1"));
+            }
+        }
+        (b"again", 0) => line.push(b"eq".to_vec()),
+        (b"again", 1) => line[0] = rng.pick(&["else", "join", "end"]).into(),
+        (b"again", 2) => lines.insert(at, fields("again")),
+        _ => drop(lines.remove(at)),
+    }
 }
 
 /// Numbers without the form of one, and those that are the last to have it.
@@ -163,9 +190,15 @@ fn past_limit(rng: &mut Rng) -> Vec<u8> {
             lines.extend(numbered(11 + more, |at| format!("var int k{at}")));
             lines.push(fields("end"));
         }
-        limit => {
+        4 => {
             let end = lines.len() - 1;
-            lines.splice(end..end, too_many_statements(limit, more));
+            let two = rng.pick(&[["assert eq 1 1", "assert"], ["loop ne 1 1", "again"]]);
+            let statements = numbered(200 + 30 * more, |at| two[at % 2].to_string());
+            lines.splice(end..end, statements);
+        }
+        _ => {
+            let end = lines.len() - 1;
+            lines.splice(end..end, deep(rng, 3 + more));
         }
     }
     text_from(&lines)
@@ -187,39 +220,58 @@ fn too_many_declarations(limit: usize, more: usize) -> Fields {
     lines
 }
 
-/// Many statements, or branches nested deep.
-fn too_many_statements(limit: usize, more: usize) -> Fields {
-    if limit == 4 {
-        return numbered(200 + 30 * more, |_| "assert eq 1 1".to_string());
-    }
-    let mut lines = numbered(3 + more, |_| "if eq 1 1".to_string());
-    for _ in 0..3 + more {
-        lines.extend(["else", "join"].map(fields));
+/// Branches and loops inside each other, so many deep.
+fn deep(rng: &mut Rng, depth: usize) -> Fields {
+    let mut lines = Vec::new();
+    for _ in 0..depth {
+        let (open, close): (_, &[_]) = match rng.chance(50) {
+            true => ("if eq 1 1", &["else", "join"]),
+            false => ("loop ne 1 1", &["again"]),
+        };
+        let inner = std::mem::replace(&mut lines, vec![fields(open)]);
+        lines.extend(inner);
+        lines.extend(close.iter().map(|line| fields(line)));
     }
     lines
 }
 
-/// A `requires`, `ensures` or `join` that reads a path before its `acc`.
+/// Where the formula starts that number 10 is about, if an `acc` comes first.
+fn framing(line: &[Vec<u8>]) -> Option<usize> {
+    let first = match line[0].as_slice() {
+        b"requires" | b"ensures" | b"join" => 1,
+        b"loop" => 4,
+        _ => return None,
+    };
+    (line.get(first)? == b"acc").then_some(first)
+}
+
+/// A `requires`, `ensures`, `join` or `loop` that reads a path before its `acc`
+/// or without it.
 fn unframed(rng: &mut Rng) -> Vec<u8> {
     let mut lines = fields_of(&accepted(rng));
-    let framing = |line: &[Vec<u8>]| {
-        let word = line[0].as_slice();
-        let formula = matches!(word, b"requires" | b"ensures" | b"join");
-        formula && line.get(1).is_some_and(|field| field == b"acc")
-    };
-    let places: Vec<usize> = (0..lines.len()).filter(|&at| framing(&lines[at])).collect();
+    let is_loop = |at: &usize| lines[*at][0] == b"loop";
+    let mut places: Vec<usize> = (0..lines.len())
+        .filter(|&at| framing(&lines[at]).is_some())
+        .collect();
+    if rng.chance(30) && places.iter().any(is_loop) {
+        places.retain(is_loop);
+    }
     let Some(at) = rng.choose(&places) else {
         return searched(rng, number::UNFRAMED);
     };
     let line = &mut lines[at];
-    let path = [line[2].clone(), b".".to_vec(), line[3].clone()].concat();
-    match rng.below(5) {
+    let first = framing(line).expect("one of the places");
+    let path = [&line[first + 1][..], b".", &line[first + 2]].concat();
+    let read = [b"eq".to_vec(), path.clone(), path];
+    match rng.below(6) {
         // The `acc` goes, the reads of its path stay.
-        0 => drop(line.drain(1..4)),
+        0 => drop(line.drain(first..first + 3)),
         // A read of the path comes before its `acc`.
-        1..=3 => drop(line.splice(1..1, [b"eq".to_vec(), path.clone(), path])),
+        1..=3 => drop(line.splice(first..first, read)),
+        // The condition of a loop reads the path, and its `acc` goes.
+        4 if first > 1 => drop(line.splice(1..first + 3, read)),
         // The `acc` comes last.
-        _ => line[1..].rotate_left(3),
+        _ => line[first..].rotate_left(3),
     }
     text_from(&lines)
 }

@@ -10,6 +10,7 @@ pub mod program;
 pub mod recipes;
 mod render;
 pub mod rng;
+pub mod rounds;
 mod skeleton;
 mod writer;
 

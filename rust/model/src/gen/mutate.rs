@@ -3,7 +3,7 @@
 use super::rng::Rng;
 
 /// Words, names, numbers and other fields that a line may have.
-const TOKENS: [&str; 62] = [
+const TOKENS: [&str; 64] = [
     "class",
     "field",
     "method",
@@ -23,6 +23,8 @@ const TOKENS: [&str; 62] = [
     "if",
     "else",
     "join",
+    "loop",
+    "again",
     "end",
     "acc",
     "eq",
@@ -218,7 +220,7 @@ fn small(rng: &mut Rng) -> Vec<u8> {
     let name = |rng: &mut Rng| rng.pick(&["s", "t", "a", "f", "n", "S", "this"]);
     let expr = |rng: &mut Rng| rng.pick(&["s", "t", "a", "s.f", "t.f", "s.n", "t.n", "null", "0"]);
     for _ in 0..rng.below(7) {
-        let line = match rng.below(7) {
+        let line = match rng.below(8) {
             0 => format!("set {} {} {}", name(rng), name(rng), name(rng)),
             1 => format!("let {} {}", name(rng), expr(rng)),
             2 => format!("new {} S", name(rng)),
@@ -230,7 +232,8 @@ fn small(rng: &mut Rng) -> Vec<u8> {
                 name(rng),
                 name(rng)
             ),
-            _ => format!("if ne {} {}\nelse\njoin", expr(rng), expr(rng)),
+            6 => format!("if ne {} {}\nelse\njoin", expr(rng), expr(rng)),
+            _ => format!("loop ne {} {} acc s n\nagain", expr(rng), expr(rng)),
         };
         text.push_str(&line);
         text.push('\n');

@@ -4,7 +4,7 @@ use super::render;
 use super::rng::Rng;
 use super::skeleton::{skeleton, Size};
 use super::writer::{framed, Style, Writer};
-use crate::checker::State;
+use crate::checker::{alone, State};
 use crate::limits;
 use crate::names::{
     Action, Atom, Block, Expr, Formula, Path, Program, Type, Var, PARAM, RESULT, THIS,
@@ -149,9 +149,7 @@ fn give_contract(rng: &mut Rng, program: &mut Program, index: usize) {
 
 /// The state at the start of a block.
 fn start<'a>(block: &Block<'a>) -> State<'a> {
-    let mut state = State::default();
-    state.add(&block.requires).expect("framed atoms that fit");
-    state
+    alone(&block.requires, None)
 }
 
 const PLAIN: Style = Style {
@@ -168,6 +166,7 @@ fn finishes(rng: &mut Rng, program: &Program, index: usize) -> bool {
         style: PLAIN,
         lines: Vec::new(),
         budget: 0,
+        invariants: Vec::new(),
     };
     writer.finish(&start(&program.blocks[index])).is_some()
 }
@@ -187,6 +186,7 @@ fn body(rng: &mut Rng, program: &Program, index: usize, style: &mut Style) -> Op
         style: *style,
         lines: Vec::new(),
         budget,
+        invariants: Vec::new(),
     };
     let state = start(&program.blocks[index]);
     let state = writer.body(state, 0, 3 * budget);

@@ -3,22 +3,24 @@
 
 use super::program::joined;
 use super::rng::Rng;
+use super::rounds::rounds;
 use crate::check;
 
-fn push(lines: &mut Vec<String>, source: &str) {
+pub(super) fn push(lines: &mut Vec<String>, source: &str) {
     lines.extend(source.lines().map(|line| line.trim().replace(' ', "\t")));
 }
 
 /// A program by one of the plans.
 pub fn recipe(rng: &mut Rng) -> Vec<u8> {
-    match rng.below(7) {
+    match rng.below(10) {
         0 => full_state(rng),
-        4 => counting(rng),
-        5 => droppings(rng),
         1 => doubling(rng),
         2 => recursion(rng),
         3 => full_heap(rng),
-        _ => list_walk(rng),
+        4 => counting(rng),
+        5 => droppings(rng),
+        6 => list_walk(rng),
+        _ => rounds(rng),
     }
 }
 

@@ -84,6 +84,11 @@ pub fn action(program: &Program, block: &Block, action: &Action) -> String {
         Action::If(branch) => formula(block, "if", &[branch.condition]),
         Action::Else(_) => "else".to_string(),
         Action::Join(atoms) => formula(block, "join", atoms),
+        Action::Loop(rounds) => {
+            let atoms = [&[rounds.condition], &rounds.invariant[..]].concat();
+            formula(block, "loop", &atoms)
+        }
+        Action::Again(_) => "again".to_string(),
         Action::End => "end".to_string(),
     }
     .replace(' ', "\t")

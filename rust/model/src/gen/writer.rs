@@ -32,6 +32,8 @@ pub struct Writer<'p, 'a> {
     pub lines: Vec<String>,
     /// How many more may be written, the closing ones apart.
     pub budget: usize,
+    /// The invariants of the open loops, the innermost last.
+    pub invariants: Vec<Formula<'a>>,
 }
 
 /// Small numbers, so that they meet, and the largest ones.
@@ -142,6 +144,11 @@ impl<'p, 'a> Writer<'p, 'a> {
             let right = self.term_expr(fact.right)?;
             return self.compare(fact.equal, left, right);
         }
+        self.any_fact(state)
+    }
+
+    /// An `eq` or `ne` of two sides that fit.
+    pub(super) fn any_fact(&mut self, state: &State<'a>) -> Option<Atom<'a>> {
         let kind = self.any_kind()?;
         let left = self.expr(state, kind)?;
         let right = self.expr(state, kind)?;
@@ -301,7 +308,7 @@ impl<'p, 'a> Writer<'p, 'a> {
 
     /// A path that is not listed, of a variable known not to be null if there
     /// is one, else any.
-    fn lost_path(&mut self, state: &State<'a>) -> Option<(Path<'a>, Type<'a>)> {
+    pub(super) fn lost_path(&mut self, state: &State<'a>) -> Option<(Path<'a>, Type<'a>)> {
         let vars = self.vars(|_, kind| kind != Type::Int);
         let all: Vec<_> = vars.iter().flat_map(|&var| self.paths(var)).collect();
         let mut lost = all.clone();
@@ -337,8 +344,16 @@ impl<'p, 'a> Writer<'p, 'a> {
         }])
     }
 
+    /// Can what ends the block, or the innermost loop's body, still be shown?
+    pub(super) fn reaches(&mut self, state: &State<'a>) -> bool {
+        match self.invariants.last().cloned() {
+            Some(invariant) => self.establish(state, &invariant).is_some(),
+            None => self.finish(state).is_some(),
+        }
+    }
+
     /// Proposes statements and writes them if the checker takes them, and if
-    /// the block's ensures can still be reached.
+    /// the end of the block or body can still be reached.
     pub(super) fn statement(&mut self, state: &mut State<'a>) {
         let wrong = self.style.miss.is_some() && self.rng.chance(40);
         let proposed = match wrong {
@@ -349,7 +364,7 @@ impl<'p, 'a> Writer<'p, 'a> {
             return;
         };
         match self.after(state, &actions) {
-            Ok(after) if self.finish(&after).is_some() => {
+            Ok(after) if self.reaches(&after) => {
                 actions.iter().for_each(|action| self.write(action));
                 *state = after;
             }
