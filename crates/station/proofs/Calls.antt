@@ -12,11 +12,11 @@ use Rattle.rules.specs.Areas.{packed, cleared, resultBytes, checkCall, runCall}
 use Rattle.station.specs.declared.Reply.{Reply}
 use Rattle.station.specs.Station.{numbersIn, runNumbers}
 
-pack-is : {f : Reply} {p : ℕ × ℕ} {r : ℕ} → numbersIn f ≡ p → r ≡ packed (f .number) (f .line) → r ≡ packed (p .0) (p .1)
+pub pack-is : {f : Reply} {p : ℕ × ℕ} {r : ℕ} → numbersIn f ≡ p → r ≡ packed (f .number) (f .line) → r ≡ packed (p .0) (p .1)
 pack-is e i = i ∙ ap (λ (p : ℕ × ℕ). packed (p .0) (p .1)) e
 
 -- an area of this length, all zero
-cleared-is : {n : ℕ} (w v : List ℕ) {u : List ℕ} → length w ≡ n → length v ≡ n → u ≡ cleared v → u ≡ cleared w
+pub cleared-is : {n : ℕ} (w v : List ℕ) {u : List ℕ} → length w ≡ n → length v ≡ n → u ≡ cleared v → u ≡ cleared w
 unfolding cleared
 cleared-is w v a b e = e ∙ ap (λ (m : ℕ). replicate m 0) (b ∙ sym a)
 

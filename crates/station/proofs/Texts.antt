@@ -14,6 +14,7 @@ use Rattle.rules.specs.Rules.{checkProgram}
 use Rattle.rules.specs.Machine.{runProgram}
 use Rattle.rules.specs.Calls.{checkItems, verdictNumbers, checkText, wholeHeap, outcomeResult, runItems, runText}
 use Rattle.rules.specs.Areas.{cleared, wordBytes, wordsBytes, resultBytes}
+use Rattle.rules.proofs.Tries.{refusal-not-zero}
 use Rattle.tables.specs.Decode.{programIn}
 use Rattle.reader.specs.declared.Refusal as Reasons
 use Rattle.reader.specs.declared.Reading.{Reading}
@@ -37,6 +38,10 @@ module _ (t w : List ℕ) (r : Reading) (x : ReadingIs t w r) where
   pub reading-taken : (u : ℕ) → r ≡ Reading.Taken u → Tabled t w u
   unfolding ReadingIs
   reading-taken u e = subst (ReadingIs t w) e x
+
+-- a number that refuses is not 0
+pub none-taken : {A : Type 0} (r : Answers.Refusal) {n : ℕ} → n ≡ refusalNumber r → n ≡ 0 → A
+none-taken r i e = absurd (refusal-not-zero r (sym i ∙ e))
 
 -- CHECK
 pub refused-checked :
@@ -105,7 +110,7 @@ module _ {w w′ : List ℕ} {k : ℕ} {r : Ran} (x : RanAs wholeHeap w k w′ r
   ran-bytes = sym (ap (λ o. resultBytes (outcomeResult o)) (x .outcome))
 
 -- WHAT IS RETURNED FITS
-refusal-small : (r : Answers.Refusal) → refusalNumber r < 65536
+pub refusal-small : (r : Answers.Refusal) → refusalNumber r < 65536
 unfolding refusalNumber
 refusal-small Answers.textTooLong = omega arith
 refusal-small Answers.badByte = omega arith
@@ -120,6 +125,8 @@ refusal-small Answers.unresolved = omega arith
 refusal-small Answers.noPermission = omega arith
 refusal-small Answers.notShown = omega arith
 refusal-small Answers.stateFull = omega arith
+refusal-small Answers.unbounded = omega arith
+refusal-small Answers.boundPassed = omega arith
 
 stop-small : (s : Answers.Stop) → stopNumber s < 65536
 unfolding stopNumber

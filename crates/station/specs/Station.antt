@@ -1,11 +1,16 @@
--- What the parts of the two calls answer.
+-- What the parts of the calls answer.
 use mathlib.Core.Path.{_≡_}
+use mathlib.Core.Bool.{cond}
 use mathlib.Core.List.{List}
 use Prim.Native.Nat.{ℕ}
+use lib.Dec.{eqb}
 use lib.ListN.{length}
 use Rattle.rules.specs.Limits.{work-bytes}
-use Rattle.rules.specs.Calls.{Result}
-use Rattle.rules.specs.Areas.{resultBytes, checkCall, runCall}
+use Rattle.rules.specs.Syntax.{Program}
+use Rattle.rules.specs.Bounds.{boundProgram}
+use Rattle.rules.specs.Calls.{Result, Bounds, boundNumbers}
+use Rattle.rules.specs.Areas.{resultBytes, boundBytes, checkCall, runCall, boundCall}
+use Rattle.reader.specs.Readings.{Tabled}
 use Rattle.station.specs.declared.Reply.{Reply}
 
 -- number and line
@@ -15,14 +20,32 @@ numbersIn f = (f .number, f .line)
 abbrev pub runNumbers : Result → ℕ × ℕ
 runNumbers r = (r .number, r .line)
 
+-- what was found of the text t: number and line; where the number is 0, its tables stand in the work area
+pub record Found (v : ℕ × ℕ) (t : List ℕ) (f : Reply) (work : List ℕ) : Type 0 where
+  pub numbers : numbersIn f ≡ v
+  pub taken : f .number ≡ 0 → (u : ℕ) × Tabled t work u
+  pub size : length work ≡ work-bytes
+
 -- what a run answers, and what it leaves in the results and the work area
 abbrev pub RunAs : Result → Reply → List ℕ → List ℕ → Type 0
 RunAs r f results work = (numbersIn f ≡ runNumbers r) × (results ≡ resultBytes r) × (length work ≡ work-bytes)
 
--- WHAT THE TWO CALLS RETURN, and leave in each area
+-- what a bound answers, and what it leaves in the bounds area
+abbrev pub BoundAs : Bounds → Reply → List ℕ → Type 0
+BoundAs b f bounds = (numbersIn f ≡ (b .number, b .line)) × (bounds ≡ boundBytes b)
+
+-- what it answers of the program P, unless a refusal was found
+unfoldable pub boundFound : Reply → Program → Bounds
+boundFound f P =
+    cond (eqb (f .number) 0) (boundNumbers (boundProgram P)) (record { number = f .number; line = f .line; bound = 0; frames = 0 })
+
+-- WHAT THE CALLS RETURN, and leave in each area
 abbrev pub CheckReturns : List ℕ → List ℕ → ℕ → List ℕ → Type 0
 CheckReturns t w r w′ = (r ≡ checkCall t w .returned) × (w′ ≡ checkCall t w .work)
 
 abbrev pub RunReturns : List ℕ → List ℕ → ℕ → List ℕ → ℕ → List ℕ → List ℕ → Type 0
 RunReturns t w steps b r w′ b′ =
     (r ≡ runCall t w steps b .returned) × (w′ ≡ runCall t w steps b .work) × (b′ ≡ runCall t w steps b .results)
+
+abbrev pub BoundReturns : List ℕ → List ℕ → List ℕ → ℕ → List ℕ → List ℕ → Type 0
+BoundReturns t w b r w′ b′ = (r ≡ boundCall t w b .returned) × (w′ ≡ boundCall t w b .work) × (b′ ≡ boundCall t w b .bounds)

@@ -1,4 +1,8 @@
-// The two calls that a host links, `check` and `run`, and what the program prints. Each reads, checks or runs, and clears the work area.
+// The calls that a host links, `check`, `run` and `bound`, and what the program prints. Each reads, does its work, and clears the work
+// area.
+mod bounds;
+
+use bounds::bound_found;
 use check_entailment::Answer;
 use checker::Verdict;
 use machine::Ran;
@@ -25,7 +29,7 @@ ghost use Rattle.checker.specs.Checked as Checker;
 ghost use Rattle.machine.specs.Runs.{mainValues};
 ghost use Rattle.printer.specs.Writes.{Prints};
 ghost use Rattle.printer.specs.Answers.{out-bytes};
-ghost use Rattle.station.specs.Station.{numbersIn, RunAs, CheckReturns, RunReturns};
+ghost use Rattle.station.specs.Station.{numbersIn, Found, RunAs, CheckReturns, RunReturns, BoundReturns};
 
 // A number of document 01's table, and the line that it goes with.
 pub struct Reply {
@@ -121,9 +125,10 @@ fn check_tables(work: &[u8], unframed: usize) -> Reply
     }
 }
 
+// Reads and checks the text.
 fn check_text(text: &[u8], work: &mut [u8]) -> Reply
     requires { ⌜ length (now work) ≡ work-bytes ⌝ }
-    ensures { λ f. ⌜ (numbersIn f ≡ checkText (now (text .entry))) × (length (now (work .exit)) ≡ work-bytes) ⌝ }
+    ensures { λ f. ⌜ Found (checkText (now (text .entry))) (now (text .entry)) f (now (work .exit)) ⌝ }
 {
     let r = reader::read(text, work);
     match r {
@@ -189,6 +194,26 @@ pub extern "C" fn run(text: &[u8], work: &mut [u8], steps: u32, results: &mut [u
         return 65536;
     }
     let f = run_text(text, work, steps, results);
+    clear(work);
+    pack(f)
+}
+
+// BOUND
+
+// How many steps can the script take, and how many frames? The number and line as for check; main's bound and the most frames on a route
+// of calls in `bounds`.
+#[no_mangle]
+pub extern "C" fn bound(text: &[u8], work: &mut [u8], bounds: &mut [u8]) -> u32
+    ensures { λ r. ⌜ BoundReturns (now (text .entry)) (now (work .entry)) (now (bounds .entry)) r (now (work .exit)) (now (bounds .exit)) ⌝ }
+{
+    if work.len() != Machine::WORK_BYTES {
+        return 65536;
+    }
+    if bounds.len() != Machine::BOUNDS_BYTES {
+        return 65536;
+    }
+    let found = check_text(text, work);
+    let f = bound_found(found, work, bounds);
     clear(work);
     pack(f)
 }

@@ -16,13 +16,13 @@ clear-requires : tie.Need-clear-requires
 clear-requires c κs = search needs
 
 pack-requires : tie.Need-pack-requires
-pack-requires c κs = check-fits _ _ (c .before .before .before .before .before .before .check-text .ensures .0)
+pack-requires c κs = check-fits _ _ (c .before .before .before .before .before .before .check-text .ensures .numbers)
 
 same-length : tie.Need-same-length
-same-length c = c .before .before .before .clear .kept .0 ∙ (c .before .before .before .before .before .before .before .check-text .ensures .1 ∙ sym (c .before .before .before .before .before .before .before .before .before .if1 .left))
+same-length c = c .before .before .before .clear .kept .0 ∙ (c .before .before .before .before .before .before .before .check-text .ensures .size ∙ sym (c .before .before .before .before .before .before .before .before .before .if1 .left))
 
 returns-2 : tie.Need-returns-2
-returns-2 c = right-check _ _ (c .before .before .before .before .before .before .before .before .before .if1 .left) _ (c .before .before .before .before .before .before .before .check-text .ensures .0) (c .before .before .before .before .before .before .before .check-text .ensures .1) (c .before .before .before .clear .ensures) (c .pack .ensures)
+returns-2 c = right-check _ _ (c .before .before .before .before .before .before .before .before .before .if1 .left) _ (c .before .before .before .before .before .before .before .check-text .ensures .numbers) (c .before .before .before .before .before .before .before .check-text .ensures .size) (c .before .before .before .clear .ensures) (c .pack .ensures)
 
 pub check-spec : {M : Type 1} → statement M
 check-spec = tie.close (tie.spec returns check-text-requires clear-requires pack-requires same-length returns-2)
