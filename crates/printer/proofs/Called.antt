@@ -29,7 +29,7 @@ summed :
 summed v a b c r s t e f g = omega arith
 
 module _ (w : ℕ) (rest : List ℕ) where
-  word-first : w < 4294967296 → wordAt (wordBytes w ++ rest) 0 ≡ w
+  pub word-first : w < 4294967296 → wordAt (wordBytes w ++ rest) 0 ≡ w
   unfolding wordBytes
   word-first h =
       let small : w / 16777216 < 256 = omega arith in

@@ -9,7 +9,7 @@ use lib.Dec.{T, eqb}
 use lib.ListN.{length, getD}
 use Rattle.rules.specs.Base.{bytes, update, eqName, all}
 use Rattle.rules.specs.Text.{tab, line-feed}
-use Rattle.rules.specs.Calls.{Result, checkText, runText, computing}
+use Rattle.rules.specs.Calls.{Result, Bounds, checkText, runText, boundText, computing}
 use Rattle.rules.specs.Printed.{printed}
 use Rattle.rules.specs.Printed as Printed
 use Rattle.rules.proofs.Lists.{and-both, same-name}
@@ -280,17 +280,43 @@ leaving l =
 pub lower : List String
 lower = "main" ∷ "var int a" ∷ "assert eq a null eq x 1" ∷ "end" ∷ []
 
+-- a method of the class S with these lines and an int a
+pub method : String → List String → List String
+method head ls = head ∷ "requires ne this null" ∷ "ensures" ∷ "var int a" ∷ (ls ++ ("end" ∷ []))
+
+-- one into a ring, a ring of two, and main's call of it
+pub rings : List String
+rings =
+    ("class S" ∷ method "method int into int w" ("call a this there w" ∷ []))
+    ++ (method "method int there int w" ("call a this back w" ∷ [])
+    ++ (method "method int back int w" ("call a this there w" ∷ [])
+    ++ ("main" ∷ "var S s" ∷ "var int b" ∷ "var int c" ∷ "new s S" ∷ "call b s into c" ∷ "end" ∷ [])))
+
+-- main's bound is 1,000,000, and what these lines add
+pub tens : List String → List String
+tens ls =
+    ("class S" ∷ method "method int m0 int w" [])
+    ++ (method "method int m1 int w" (times 10 "call a this m0 w")
+    ++ (method "method int m2 int w" (times 10 "call a this m1 w")
+    ++ (method "method int m3 int w" (times 10 "call a this m2 w")
+    ++ (method "method int m4 int w" (times 10 "call a this m3 w")
+    ++ (method "method int m5 int w" (times 10 "call a this m4 w")
+    ++ ("main" ∷ "var S s" ∷ "var int b" ∷ "var int c" ∷ "new s S" ∷ []
+    ++ (times 4 "call b s m5 c" ++ (times 5 "call b s m4 c" ++ (ls ++ ("end" ∷ []))))))))))
+
 -- ROWS
 
 pub data Call : Type 0 where
   check : Call
   run : ℕ → Call
+  bound : Call
   print : Call
 
--- number and line; of a run also the steps and the values; of the program what it prints
+-- number and line; of a run also the steps and the values; of a bound also the frames; of the program what it prints
 pub answer : List ℕ → Call → List ℕ
 answer t check = let v : ℕ × ℕ = checkText t in v .0 ∷ v .1 ∷ []
 answer t (run k) = let r : Result = runText t k in r .number ∷ r .line ∷ r .steps ∷ r .values
+answer t bound = let b : Bounds = boundText t in b .number ∷ b .line ∷ b .bound ∷ b .frames ∷ []
 answer t print = printed t
 
 pub record Row : Type 0 where
@@ -420,6 +446,21 @@ rows =
     -- "Loops count toward the nesting limit of 4, both lines toward the 256."
     row (numbers ("if eq a b" ∷ times 4 "loop eq a b")) check (5 ∷ 9 ∷ []) ∷
     row ("class S" ∷ "main" ∷ "var S s" ∷ (times 254 "new s S" ++ ("loop ne s s" ∷ "again" ∷ "end" ∷ []))) check (5 ∷ 260 ∷ []) ∷
+    -- W6: "its statement lines plus, for each `call` line, the bound of the method called"; "main's counted"
+    row worked bound (0 ∷ 0 ∷ 9 ∷ 2 ∷ []) ∷
+    row (withLine 17 "call b s tag a" worked) bound (0 ∷ 0 ∷ 12 ∷ 2 ∷ []) ∷
+    row (oneLine "assert") bound (0 ∷ 0 ∷ 2 ∷ 1 ∷ []) ∷
+    -- "after every check of document 01"
+    row (withLine 5 "requires" worked) bound (12 ∷ 7 ∷ 0 ∷ 0 ∷ []) ∷
+    -- "15 at the first line that is a `loop` or a `call` whose method is, or can reach by calls, the method that the line is in"
+    row rings bound (15 ∷ 12 ∷ 0 ∷ 0 ∷ []) ∷
+    row (withLine 12 "call a this there w" rings) bound (15 ∷ 12 ∷ 0 ∷ 0 ∷ []) ∷
+    row (withLine 18 "assert" rings) bound (0 ∷ 0 ∷ 9 ∷ 4 ∷ []) ∷
+    row (walk "loop ne a 3 acc s n") bound (15 ∷ 9 ∷ 0 ∷ 0 ∷ []) ∷
+    row (("class S" ∷ method "method int m int w" ("loop ne w w" ∷ "again" ∷ [])) ++ ("main" ∷ "end" ∷ [])) bound (15 ∷ 6 ∷ 0 ∷ 0 ∷ []) ∷
+    -- "16 at line 0 if the bound passes 1,000,000"
+    row (tens []) bound (0 ∷ 0 ∷ 1000000 ∷ 7 ∷ []) ∷
+    row (tens ("assert" ∷ [])) bound (16 ∷ 0 ∷ 0 ∷ 0 ∷ []) ∷
     -- the same field in way (d); the lower of two numbers; what ensures does not hand back is lost
     row twoFields check (13 ∷ 7 ∷ []) ∷
     row lower check (6 ∷ 3 ∷ []) ∷
@@ -432,7 +473,7 @@ right : Row → Bool
 right r = eqName (answer (text (r .text)) (r .call)) (r .answer)
 
 all-right : T (all right rows)
-unfolding computing Printed.opened right answer row three text tabbed withLine times oneLine alias acrossCall twice oldValue twoFields branching innerJoin script throughPath overTwoPaths oneName oneOnBothSides numbers counting walk leaving lower
+unfolding computing Printed.opened right answer row three text tabbed withLine times oneLine alias acrossCall twice oldValue twoFields branching innerJoin script throughPath overTwoPaths oneName oneOnBothSides numbers counting walk leaving lower method rings tens
 all-right = tt
 
 right-at : (rs : List Row) (d : Row) (i : ℕ) → i < length rs → T (all right rs) → T (right (getD rs i d))

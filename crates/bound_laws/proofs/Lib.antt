@@ -1,0 +1,4 @@
+pub mod Removal
+pub mod Routes
+pub mod Blocks
+pub mod Repeating

@@ -1,0 +1,1 @@
+// Laws of the bounds of blocks and of the routes of calls among them; no code.

@@ -1,0 +1,4 @@
+pub mod InBlock
+pub mod Moves
+pub mod Left
+pub mod Promises
