@@ -9,7 +9,7 @@ use lib.Dec.{T, eqb}
 use lib.ListN.{length, getD}
 use Rattle.rules.specs.Base.{bytes, update, eqName, all}
 use Rattle.rules.specs.Text.{tab, line-feed}
-use Rattle.rules.specs.Calls.{Result, checkText, runText, computing}
+use Rattle.rules.specs.Calls.{Result, checkText, runText, trialText, computing}
 use Rattle.rules.specs.Printed.{printed}
 use Rattle.rules.specs.Printed as Printed
 use Rattle.rules.proofs.Lists.{and-both, same-name}
@@ -225,6 +225,10 @@ oneOnBothSides n =
 pub counting : String → String → String → List String
 counting b c l = "main" ∷ "var int a" ∷ "var int b" ∷ "var int c" ∷ b ∷ c ∷ l ∷ "end" ∷ []
 
+-- ensures reads `this.n` before its `acc`
+pub unframed : List String
+unframed = withLine 6 "ensures eq this.n k acc this n" worked
+
 -- 7 (an int and null) and 6 (x) on one line
 pub lower : List String
 lower = "main" ∷ "var int a" ∷ "assert eq a null eq x 1" ∷ "end" ∷ []
@@ -234,12 +238,17 @@ lower = "main" ∷ "var int a" ∷ "assert eq a null eq x 1" ∷ "end" ∷ []
 pub data Call : Type 0 where
   check : Call
   run : ℕ → Call
+  trial : ℕ → Call
   print : Call
+
+pub shown : Result → List ℕ
+shown r = r .number ∷ r .line ∷ r .steps ∷ r .values
 
 -- number and line; of a run also the steps and the values; of the program what it prints
 pub answer : List ℕ → Call → List ℕ
 answer t check = let v : ℕ × ℕ = checkText t in v .0 ∷ v .1 ∷ []
-answer t (run k) = let r : Result = runText t k in r .number ∷ r .line ∷ r .steps ∷ r .values
+answer t (run k) = shown (runText t k)
+answer t (trial k) = shown (trialText t k)
 answer t print = printed t
 
 pub record Row : Type 0 where
@@ -260,9 +269,9 @@ rows =
     row worked (run 1000) (0 ∷ 19 ∷ 8 ∷ three 1 7 7) ∷
     row worked print (text ("check 0 0" ∷ "run 0 19 8" ∷ "var s 1" ∷ "var a 7" ∷ "var b 7" ∷ [])) ∷
     row (withLine 5 "requires" worked) check (12 ∷ 7 ∷ []) ∷
-    row (withLine 5 "requires" worked) (run 1000) (24 ∷ 7 ∷ 3 ∷ three 1 7 0) ∷
+    row (withLine 5 "requires" worked) (trial 1000) (24 ∷ 7 ∷ 3 ∷ three 1 7 0) ∷
     row (withLine 17 "assert eq s.n 8" worked) check (13 ∷ 17 ∷ []) ∷
-    row (withLine 17 "assert eq s.n 8" worked) (run 1000) (26 ∷ 17 ∷ 5 ∷ three 1 7 7) ∷
+    row (withLine 17 "assert eq s.n 8" worked) (trial 1000) (26 ∷ 17 ∷ 5 ∷ three 1 7 7) ∷
     row worked (run 7) (21 ∷ 19 ∷ 7 ∷ three 1 7 7) ∷
     row worked (run 8) (0 ∷ 19 ∷ 8 ∷ three 1 7 7) ∷
     row worked (run 0) (21 ∷ 14 ∷ 0 ∷ three 0 0 0) ∷
@@ -278,7 +287,7 @@ rows =
     row alias check (0 ∷ 0 ∷ []) ∷
     row acrossCall check (13 ∷ 15 ∷ []) ∷
     row twice check (12 ∷ 11 ∷ []) ∷
-    row twice (run 1000) (24 ∷ 11 ∷ 1 ∷ three 1 0 0) ∷
+    row twice (trial 1000) (24 ∷ 11 ∷ 1 ∷ three 1 0 0) ∷
     row oldValue check (13 ∷ 7 ∷ []) ∷
     -- W1: "−2147483648 less 1 does, −2147483647 less 1 doesn't"
     row (counting "let b -2147483648" "let c 1" "sub a b c") (run 9) (27 ∷ 7 ∷ 2 ∷ three 0 2147483648 1) ∷
@@ -292,7 +301,7 @@ rows =
     row (withLine 7 "add this k k" worked) check (7 ∷ 7 ∷ []) ∷
     -- W2: "The checker shows ensures at that line"; the machine tests it there, with the step not counted
     row (withLine 7 "assert eq k k" worked) check (13 ∷ 8 ∷ []) ∷
-    row (withLine 7 "assert eq k k" worked) (run 1000) (26 ∷ 8 ∷ 4 ∷ three 1 7 0) ∷
+    row (withLine 7 "assert eq k k" worked) (trial 1000) (26 ∷ 8 ∷ 4 ∷ three 1 7 0) ∷
     -- "A statement between it and the next `else`, `join` or `end` is number 4."
     row (withLine 7 "return k" worked) check (4 ∷ 8 ∷ []) ∷
     row (branching "assert" "return w" "assert" "join") check (4 ∷ 9 ∷ []) ∷
@@ -330,11 +339,23 @@ rows =
     row (oneLine "let a -01") check (4 ∷ 3 ∷ []) ∷
     row (oneLine "let a 00") check (4 ∷ 3 ∷ []) ∷
     row (oneLine "let a 0") check (0 ∷ 0 ∷ []) ∷
+    -- W7: "a text that the check refuses gets the check's number and line, with zeros in results"
+    row (withLine 5 "requires" worked) (run 1000) (12 ∷ 7 ∷ 0 ∷ three 0 0 0) ∷
+    row (withLine 17 "assert eq s.n 8" worked) (run 0) (13 ∷ 17 ∷ 0 ∷ three 0 0 0) ∷
+    row (withLine 16 "call a s tag a" worked) (run 1000) (9 ∷ 16 ∷ 0 ∷ three 0 0 0) ∷
+    row (withLine 16 "call a s tag a" worked) (trial 1000) (9 ∷ 16 ∷ 0 ∷ three 0 0 0) ∷
+    -- "trial, which is the old run": no test after 9 is made, number 10 neither; "The program of document 01" uses it
+    row unframed (run 1000) (10 ∷ 6 ∷ 0 ∷ three 0 0 0) ∷
+    row unframed (trial 1000) (0 ∷ 19 ∷ 8 ∷ three 1 7 7) ∷
+    row (withLine 5 "requires" worked) print (text ("check 12 7" ∷ "run 24 7 3" ∷ "var s 1" ∷ "var a 7" ∷ "var b 0" ∷ [])) ∷
+    -- "An accepted text gets the same from both."
+    row worked (trial 1000) (0 ∷ 19 ∷ 8 ∷ three 1 7 7) ∷
+    row worked (trial 7) (21 ∷ 19 ∷ 7 ∷ three 1 7 7) ∷
     -- the same field in way (d); the lower of two numbers; what ensures does not hand back is lost
     row twoFields check (13 ∷ 7 ∷ []) ∷
     row lower check (6 ∷ 3 ∷ []) ∷
     row (withLine 6 "ensures" worked) check (11 ∷ 17 ∷ []) ∷
-    row (withLine 6 "ensures" worked) (run 1000) (24 ∷ 17 ∷ 5 ∷ three 1 7 7) ∷
+    row (withLine 6 "ensures" worked) (trial 1000) (24 ∷ 17 ∷ 5 ∷ three 1 7 7) ∷
     []
 
 -- the row's call gives its answer
@@ -342,7 +363,7 @@ right : Row → Bool
 right r = eqName (answer (text (r .text)) (r .call)) (r .answer)
 
 all-right : T (all right rows)
-unfolding computing Printed.opened right answer row three text tabbed withLine times oneLine alias acrossCall twice oldValue twoFields branching innerJoin script throughPath overTwoPaths oneName oneOnBothSides counting lower
+unfolding computing Printed.opened right shown answer row three text tabbed withLine times oneLine alias acrossCall twice oldValue twoFields branching innerJoin script throughPath overTwoPaths oneName oneOnBothSides counting unframed lower
 all-right = tt
 
 right-at : (rs : List Row) (d : Row) (i : ℕ) → i < length rs → T (all right rs) → T (right (getD rs i d))
