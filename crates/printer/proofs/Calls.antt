@@ -1,4 +1,4 @@
--- What the two calls give for any text fits the numbers that they return and the words of the results area; a text whose number is
+-- What check and trial give for any text fits the numbers that they return and the words of the results area; a text whose number is
 -- not 1 to 9 is read. So what is printed is what document 01 says.
 use mathlib.Core.Path.{_≡_, refl, sym, ap, _∙_}
 use mathlib.Core.Bool.{Bool, true, false, cond}
@@ -21,7 +21,7 @@ use Rattle.rules.specs.Names.{allKnown, allTyped, allAssignable}
 use Rattle.rules.specs.Items.{Item, resolveLine, resolveLines}
 use Rattle.rules.specs.Reading.{readText, program}
 use Rattle.rules.specs.Machine.{runProgram}
-use Rattle.rules.specs.Calls.{checkItems, checkText, verdictNumbers, runText, runItems, outcomeResult, wholeHeap}
+use Rattle.rules.specs.Calls.{checkItems, checkText, verdictNumbers, trialText, runItems, outcomeResult, refusedResult, wholeHeap}
 use Rattle.rules.specs.Areas.{packed}
 use Rattle.rules.specs.Printed.{printed}
 use Rattle.rules.proofs.Lists.{T-true}
@@ -39,7 +39,7 @@ line-within n (accepted u) x = omega arith
 line-within n (refused r l) x = x
 
 pub fits : (t : List ℕ) (k : ℕ) → k < 4294967296 → AnswersFit t k
-unfolding checkText runText runItems outcomeResult then verdictNumbers
+unfolding checkText trialText runItems outcomeResult refusedResult then verdictNumbers
 fits t k small = go (readText t) refl (read-within t)
   where
     go : (v : Verdict (List Item)) → readText t ≡ v → Within most-bytes v → AnswersFit t k
@@ -51,7 +51,7 @@ fits t k small = go (readText t) refl (read-within t)
         let o = outcome-fits most-bytes wholeHeap (program items) (omega arith) (program-fits most-bytes items few s) k in
         record {
           check-line = rw e (omega (arith, l));
-          run-line = rw e (omega (arith, o .line));
+          trial-line = rw e (omega (arith, o .line));
           steps = rw e (omega (arith, o .steps, small));
           shown = rw e (o .shown);
           values = λ i. rw e (all-get Small (runProgram wholeHeap (program items) k .values) 0 i (omega arith) (o .values));
@@ -59,7 +59,7 @@ fits t k small = go (readText t) refl (read-within t)
     go (refused r l) e w =
         record {
           check-line = rw e (omega (arith, w));
-          run-line = rw e (omega (arith, w));
+          trial-line = rw e (omega (arith, w));
           steps = rw e (omega arith);
           shown = rw e refl;
           values = λ i. rw e (zeros 12 i);
