@@ -16,7 +16,9 @@ use Rattle.rules.specs.Machine.{runProgram}
 use Rattle.rules.specs.Calls.{Result, checkItems, verdictNumbers, checkText, wholeHeap, outcomeResult, refusedResult, runItems, trialText, runText}
 use Rattle.rules.specs.Areas.{cleared, wordBytes, wordsBytes, resultBytes}
 use Rattle.rules.specs.Demand.{IsRefusal}
-use Rattle.soundness.proofs.Demand3.{refusal-number, same-from-both, check-decides}
+use Rattle.rules.proofs.Tries.{refusal-number, refusal-not-zero}
+use Rattle.soundness.proofs.ReadRefuses.{read-refused}
+use Rattle.soundness.proofs.Demand3.{same-from-both, check-decides}
 use Rattle.tables.specs.Decode.{programIn}
 use Rattle.reader.specs.declared.Refusal as Reasons
 use Rattle.reader.specs.declared.Reading.{Reading}
@@ -45,7 +47,7 @@ module _ (t w : List ℕ) (r : Reading) (x : ReadingIs t w r) where
 
 -- a number that refuses is not 0
 pub none-taken : {A : Type 0} (r : Answers.Refusal) {n : ℕ} → n ≡ refusalNumber r → n ≡ 0 → A
-none-taken r i e = absurd (omega (arith, refusal-number r .0, i, e))
+none-taken r i e = refusal-not-zero r (sym i ∙ e)
 
 pub refused-read :
     (t : List ℕ) {r : Answers.Refusal} {n l : ℕ} → n ≡ refusalNumber r → readText t ≡ refused r l → (n, l) ≡ verdictNumbers (readText t)
@@ -105,7 +107,7 @@ read-decides t k = go (readText t) refl
         (v : Verdict (List Item)) → readText t ≡ v →
         (IsRefusal (verdictNumbers (readText t) .0) × (trialText t k ≡ refusedResult (verdictNumbers (readText t)))) ⊎ (verdictNumbers (readText t) ≡ (0, 0))
     go (accepted items) e = inr (rw e refl)
-    go (refused r l) e = inl (rw e (refusal-number r, refl))
+    go (refused r l) e = inl (rw e (read-refused t r l e, refl))
 
 module _ (f : Reply) (r : Result) where
   pub found-none : f .number ≡ 0 → unlessRefused f r ≡ r
