@@ -1,4 +1,4 @@
-/* Catalogue scripts: check and run, the functions of libnuyardi.a.
+/* Catalogue scripts: check, run and bound, the functions of libnuyardi.a.
  *
  * Each returns number * 65536 + line (STATION_NUMBER, STATION_LINE). For every
  * content of the text and of the areas, number, line and every byte of the areas
@@ -33,13 +33,16 @@ extern "C" {
 
 #define STATION_VERSION "0.1.0"
 
-/* Lengths of the two areas, in bytes: each call takes these and no other. */
+/* Lengths of the areas, in bytes: each call takes these and no other. */
 #define STATION_WORK_BYTES 65536
 #define STATION_RESULTS_BYTES 52
+#define STATION_BOUNDS_BYTES 8
 /* The longest text, in bytes. */
 #define STATION_TEXT_BYTES 32768
 /* Values in the results area: main's variables in the order of their lines. */
 #define STATION_VALUES 12
+/* The highest bound that is given. */
+#define STATION_BOUND 1000000
 /* More stack than any call takes, in bytes. */
 #define STATION_STACK_BYTES 65536
 
@@ -63,6 +66,8 @@ enum station_number {
     STATION_NO_PERMISSION = 12,     /* permission not shown */
     STATION_NOT_SHOWN = 13,         /* `eq` or `ne` not shown */
     STATION_STATE_FULL = 14,        /* checker's state full */
+    STATION_UNBOUNDED = 15,         /* `loop`, or `call` that can lead back to its own method */
+    STATION_BOUND_PASSED = 16,      /* bound above STATION_BOUND */
     STATION_OUT_OF_STEPS = 21,      /* allowed steps taken */
     STATION_HEAP_FULL = 22,         /* heap full */
     STATION_FRAMES_FULL = 23,       /* frames full */
@@ -86,6 +91,24 @@ uint32_t station_run(const uint8_t *text, size_t text_len,
                      uint8_t *work, size_t work_len,
                      uint32_t steps,
                      uint8_t *results, size_t results_len);
+
+/* The most that a run of main can take, known before it. The bounds area then
+ * holds the steps and the frames (both unsigned), 4 bytes each, low byte first.
+ *
+ *   returned          when                                   bounds area
+ *   0                 there is a bound                       steps, frames
+ *   1                 an area of wrong length                unchanged
+ *   2 to 14, line     station_check refuses the text so      all zero
+ *   15, line          the first line that is a `loop`, or    all zero
+ *                     a `call` whose method is the one that
+ *                     the line is in, or can reach it
+ *   16                the steps are above STATION_BOUND      all zero
+ *
+ * No run takes more steps, or has more frames at a time; station_run with so many
+ * steps allowed never returns 21. A text with 15 or 16 is accepted all the same. */
+uint32_t station_bound(const uint8_t *text, size_t text_len,
+                       uint8_t *work, size_t work_len,
+                       uint8_t *bounds, size_t bounds_len);
 
 #ifdef __cplusplus
 }

@@ -1,6 +1,7 @@
-//! `station`: check, run, explain and look into catalogue scripts.
+//! `station`: check, bound, run, explain and look into catalogue scripts.
 
 mod args;
+mod bound;
 mod cards;
 mod cause;
 mod draw;
@@ -16,6 +17,7 @@ mod objects;
 mod progress;
 mod report;
 mod rounds;
+mod routes;
 mod script;
 mod show;
 mod table;
@@ -30,9 +32,9 @@ use show::Paint;
 use std::ffi::{OsStr, OsString};
 use std::process::ExitCode;
 
-/// Accepted or finished.
+/// Accepted, bounded or finished.
 pub const DONE: u8 = 0;
-/// Refused or stopped.
+/// Refused, without a bound or stopped.
 pub const REFUSED: u8 = 1;
 /// Wrong use, or a file that can't be read.
 pub const FAILED: u8 = 2;
@@ -96,6 +98,12 @@ impl Session {
             worst = worst.max(status);
         }
         worst
+    }
+
+    /// The same, each folder replaced by its scripts.
+    fn each_script(&mut self, one: impl Fn(&mut Session, &OsStr, &[u8]) -> u8) -> u8 {
+        self.words.operands = files::expanded(&self.words.operands);
+        self.each(one)
     }
 }
 
@@ -249,10 +257,8 @@ fn dispatch(session: &mut Session) -> u8 {
         "trace" => session.each(trace::trace),
         "known" => known::known(session),
         "draw" => session.each(draw::draw),
-        "fmt" | "tabs" => {
-            session.words.operands = files::expanded(&session.words.operands);
-            session.each(fmt_one)
-        }
+        "bound" => session.each_script(bound::bound),
+        "fmt" | "tabs" => session.each_script(fmt_one),
         "explain" => explain(session),
         "completions" => completions(session),
         "lsp" => lsp::serve(),

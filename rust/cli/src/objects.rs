@@ -14,7 +14,7 @@ pub fn line_text(text: &[u8], number: u32) -> Option<String> {
 }
 
 /// The words of a number.
-fn words(object: Json, number: u32) -> Json {
+pub fn words(object: Json, number: u32) -> Json {
     match explain(number).filter(|_| number != 0) {
         Some(known) => object
             .with("title", known.title)
@@ -26,7 +26,7 @@ fn words(object: Json, number: u32) -> Json {
 
 /// The cause: what is wrong, where in the line (columns are bytes, from 1, the
 /// end is the column after the last), and what else is known.
-fn with_cause(object: Json, cause: Option<&Cause>) -> Json {
+pub fn with_cause(object: Json, cause: Option<&Cause>) -> Json {
     let Some(cause) = cause else {
         return object;
     };

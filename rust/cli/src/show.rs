@@ -3,7 +3,7 @@
 use crate::cause::Cause;
 use crate::report::{columns, Ran, Report};
 use crate::script::line;
-use nuyardi::{explain, Ending, Explanation, Kind};
+use nuyardi::{explain, Ending, Excess, Explanation, Kind};
 use std::ffi::OsStr;
 use std::fmt::Write;
 use std::ops::Range;
@@ -18,6 +18,25 @@ pub fn file_name(name: &OsStr) -> String {
         }
     }
     shown
+}
+
+/// A number with its digits in threes: `1,000,000`.
+pub fn grouped(number: u128) -> String {
+    let digits = number.to_string();
+    let mut grouped = String::new();
+    for (at, digit) in digits.chars().enumerate() {
+        if at > 0 && (digits.len() - at).is_multiple_of(3) {
+            grouped.push(',');
+        }
+        grouped.push(digit);
+    }
+    grouped
+}
+
+/// `1 step`, `1,000,000 steps`.
+pub fn counted(count: u128, what: &str) -> String {
+    let some = if count == 1 { "" } else { "s" };
+    format!("{} {what}{some}", grouped(count))
 }
 
 /// A byte of the text: as it is from 33 to 126, else escaped.
@@ -171,19 +190,19 @@ fn number_in_words(out: &mut String, known: &Explanation) {
     }
 }
 
-/// The least number of a stopped run: what usually mends it is said with its
-/// cause.
-const FIRST_STOP: u32 = 21;
+/// The least number that an accepted text may get: what usually mends it is said
+/// with its cause.
+const FIRST_OF_ACCEPTED: u32 = Excess::Unbounded.number();
 
 /// The cause, or the number in words where none is seen.
-fn reasons(out: &mut String, number: u32, cause: Option<&Cause>) {
+pub fn reasons(out: &mut String, number: u32, cause: Option<&Cause>) {
     match (cause, explain(number)) {
         (Some(cause), _) => {
             wrapped(out, "  cause: ", &cause.text);
             for note in &cause.notes {
                 wrapped(out, "   note: ", note);
             }
-            let usual = explain(number).filter(|_| number >= FIRST_STOP);
+            let usual = explain(number).filter(|_| number >= FIRST_OF_ACCEPTED);
             let mend = cause.mend.as_deref().or(usual.map(|known| known.mend));
             if let Some(mend) = mend {
                 wrapped(out, "   mend: ", mend);
@@ -194,14 +213,14 @@ fn reasons(out: &mut String, number: u32, cause: Option<&Cause>) {
     }
 }
 
-fn place(file: &str, line: u32) -> String {
+pub fn place(file: &str, line: u32) -> String {
     match line {
         0 => file.to_string(),
         line => format!("{file}:{line}"),
     }
 }
 
-fn title(number: u32) -> &'static str {
+pub fn title(number: u32) -> &'static str {
     explain(number).map_or("", |known| known.title)
 }
 

@@ -53,6 +53,13 @@ pub const COMMANDS: &[CommandSpec] = &[
     ),
     command("run", "FILE", "run a script", 1, 1),
     command(
+        "bound",
+        "FILE..",
+        "the most steps that a run can take, known before it",
+        1,
+        MANY,
+    ),
+    command(
         "trace",
         "FILE",
         "run a script, and show each step with what it changed",
@@ -138,6 +145,12 @@ pub const OPTIONS: &[OptionSpec] = &[
         &["run", "trace"],
     ),
     option(
+        "why",
+        None,
+        "show the calls that a bound comes from",
+        &["bound"],
+    ),
+    option(
         "short",
         None,
         "one line for each file: FILE:LINE:COLUMN: what is wrong",
@@ -163,7 +176,9 @@ pub const OPTIONS: &[OptionSpec] = &[
         "json",
         None,
         "JSON, an object for each file",
-        &["check", "run", "trace", "known", "draw", "fmt", "explain"],
+        &[
+            "check", "run", "bound", "trace", "known", "draw", "fmt", "explain",
+        ],
     ),
     option(
         "color",

@@ -10,8 +10,9 @@ const FOOT: &str = "\
 FILE may be - for standard input. run also runs a text that check refuses with
 one of the numbers 10 to 14, after saying so.
 
-Exit status: 0 accepted or finished; 1 refused or stopped; 2 wrong use, or a
-file that can't be read or written (the other files are still done).
+Exit status: 0 accepted, bounded or finished; 1 refused, without a bound or
+stopped; 2 wrong use, or a file that can't be read or written (the other files
+are still done).
 ";
 
 fn shown() -> impl Iterator<Item = &'static CommandSpec> {

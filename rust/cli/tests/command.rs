@@ -16,6 +16,12 @@ fn statuses() {
         (&["run", "examples/refused-06.script"], 1),
         (&["run", "--steps", "6", "examples/tag.script"], 1),
         (&["run", "--steps=7", "examples/tag.script"], 0),
+        (&["bound", "examples/tag.script"], 0),
+        (&["bound", "examples/refused-12.script"], 1),
+        (&["bound", "examples/refused-15.script"], 1),
+        (&["bound", "examples/refused-16.script"], 1),
+        (&["bound", "examples/tag.script", "no-such-file"], 2),
+        (&["bound", "--why", "examples"], 1),
         (&["trace", "examples/tag.script"], 0),
         (&["trace", "examples/stopped-26.script"], 1),
         (&["known", "examples/tag.script"], 0),
@@ -47,7 +53,7 @@ fn wrong_use() {
         &["run"],
         &["fmt"],
         &["explain"],
-        &["explain", "15"],
+        &["explain", "17"],
         &["explain", "many"],
         &["run", "a", "b"],
         &["run", "--steps", "-1", "a"],
@@ -300,6 +306,7 @@ fn escapes() {
         &["known", "-"],
         &["trace", "-"],
         &["draw", "-"],
+        &["bound", "--why", "-"],
     ] {
         let text = b"main\nvar\tint\t\x1b[31m\xe9\xe2\x80\xae\"\nend\n";
         let (out, error, _) = said(words, text);
@@ -348,6 +355,7 @@ fn examples_of_explanations() {
         let number = match known.number {
             21 => nuyardi::run(example.as_bytes(), 1).number(),
             22.. => nuyardi::run(example.as_bytes(), 1_000).number(),
+            15 | 16 => nuyardi::bound(example.as_bytes()).map_or_else(|none| none.number(), |_| 0),
             _ => nuyardi::check(example.as_bytes()).map_or_else(|refusal| refusal.number(), |_| 0),
         };
         assert_eq!(number, known.number);

@@ -188,10 +188,13 @@ fn mends() {
             assert!(checked.is_ok(), "{name}: {checked:?}\n{text}");
             let outcome = nuyardi::run(text.as_bytes(), 1_000);
             assert!(outcome.finished(), "{name}: {outcome}");
+            if name.contains("refused-15") || name.contains("refused-16") {
+                assert!(nuyardi::bound(text.as_bytes()).is_ok(), "{name}");
+            }
         }
         String::new()
     });
-    for number in 3..=14 {
+    for number in 3..=16 {
         assert!(
             mends.contains(&format!("examples/refused-{number:02}.script")),
             "{number}"
@@ -214,6 +217,8 @@ fn json_fields() {
         "station check --json examples/lost.script",
         "station run --json examples/stopped-24.script",
         "station run --json --cards examples/ring.script",
+        "station bound --json --why examples/tag.script",
+        "station bound --json examples/refused-15.script",
         "station trace --json examples/tag.script",
         "station known --json examples/tag.script",
         "station draw --json examples/tag.script",
@@ -270,6 +275,7 @@ fn limits() {
         OBJECTS,
         FIELDS,
         FRAMES,
+        BOUND,
     ];
     assert_eq!(numbers, limits);
     for (said, size) in [

@@ -82,6 +82,34 @@ fn run() {
 }
 
 #[test]
+fn bound() {
+    let bound = object(&["bound", "--json", "--why", "examples/worked.txt"], b"");
+    assert_eq!(bound.get("call"), Some(&text("bound")));
+    assert_eq!(bound.get("accepted"), Some(&Json::Bool(true)));
+    assert_eq!(bound.get("bound"), Some(&Json::Int(9)));
+    assert_eq!(bound.get("frames"), Some(&Json::Int(2)));
+    let Some(Json::List(route)) = bound.get("route") else {
+        panic!("no route: {bound:?}");
+    };
+    let call = Json::object()
+        .with("line", 16u32)
+        .with("text", "call\\tb\\ts\\ttag\\ta")
+        .with("adds", 3u32)
+        .with("own", 3u32)
+        .with("calls", 0u32);
+    assert_eq!((route.len(), &route[1]), (2, &call));
+    let none = object(&["bound", "--json", "examples/refused-15.script"], b"");
+    assert_eq!(none.get("accepted"), Some(&Json::Bool(true)));
+    assert_eq!(none.get("number"), Some(&Json::Int(15)));
+    assert_eq!(none.get("line"), Some(&Json::Int(5)));
+    assert_eq!(none.get("bound"), None);
+    assert_eq!(none.get("text"), Some(&text("loop\\tne\\tn\\t3")));
+    let refused = object(&["bound", "--json", "examples/refused-12.script"], b"");
+    assert_eq!(refused.get("accepted"), Some(&Json::Bool(false)));
+    assert_eq!(refused.get("number"), Some(&Json::Int(12)));
+}
+
+#[test]
 fn looking_inside() {
     let known = object(&["known", "--json", "examples/tag.script:16"], b"");
     let Some(Json::List(lines)) = known.get("lines") else {
@@ -136,7 +164,7 @@ fn anything() {
         b"main\nend\nend\n",
         b"\"\\\n",
     ] {
-        for command in ["check", "run", "trace", "known", "draw"] {
+        for command in ["check", "run", "bound", "trace", "known", "draw"] {
             let object = object(&[command, "--json", "-"], input);
             assert!(
                 matches!(object.get("number"), Some(Json::Int(_))),

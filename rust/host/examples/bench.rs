@@ -1,5 +1,5 @@
-//! Times check and run of the library beside those of `rust/model`, in one run,
-//! and prints a table. Each round times a batch of the one, then of the other;
+//! Times check, bound and run of the library beside those of `rust/model`, in one
+//! go, and prints a table. Each round times a batch of the one, then of the other;
 //! the best round counts. The answers are compared too.
 //!
 //! `cargo run --release --example bench [MS] [PART]`: about MS milliseconds for
@@ -9,7 +9,7 @@
 mod workloads;
 
 use nuyardi::calls;
-use nuyardi::limits::{RESULTS_BYTES, WORK_BYTES};
+use nuyardi::limits::{BOUNDS_BYTES, RESULTS_BYTES, WORK_BYTES};
 use std::hint::black_box;
 use std::time::Instant;
 
@@ -47,6 +47,7 @@ fn main() {
     let part = words.next().unwrap_or_default();
     let mut work = (vec![0; WORK_BYTES], vec![0; WORK_BYTES]);
     let mut results = ([0; RESULTS_BYTES], [0; RESULTS_BYTES]);
+    let mut bounds = ([0; BOUNDS_BYTES], [0; BOUNDS_BYTES]);
     let (clear, _) = duel(|| black_box(&mut work.0[..]).fill(0), || (), ms / 10.0);
     println!("clearing {WORK_BYTES} bytes, a part of every call: {clear:.0} ns\n");
     println!("| Text | Bytes | Call | Answer | Steps | Library ns | ns a step | Model ns | Model / library |");
@@ -80,6 +81,23 @@ fn main() {
             );
         };
         row("check", answers.0, 0, library, model);
+        let answers = (
+            calls::bound(text, &mut work.0, &mut bounds.0),
+            model::bound_call(text, &mut work.1, &mut bounds.1),
+        );
+        assert_eq!((answers.0, bounds.0), (answers.1, bounds.1), "{name}");
+        let (library, model) = duel(
+            || sink(calls::bound(black_box(text), &mut work.0, &mut bounds.0)),
+            || {
+                sink(model::bound_call(
+                    black_box(text),
+                    &mut work.1,
+                    &mut bounds.1,
+                ))
+            },
+            ms,
+        );
+        row("bound", answers.0, 0, library, model);
         let Some(allowed) = workload.steps else {
             continue;
         };

@@ -9,12 +9,12 @@
 #[path = "../tests/support/compare.rs"]
 mod compare;
 
-use compare::{gently_mutated, Comparer};
+use compare::{gently_mutated, Answers, Comparer};
 use model::gen::{self, mutate, rng::Rng};
 use std::collections::HashSet;
 use std::path::Path;
 
-/// What a text reached: the answers of both calls, with the kind of line that
+/// What a text reached: the answers of the calls, with the kind of line that
 /// they name and how far down the text it stands.
 #[derive(PartialEq, Eq, Hash)]
 struct Reached {
@@ -22,6 +22,8 @@ struct Reached {
     check_line: Vec<u8>,
     run: u32,
     run_line: Vec<u8>,
+    bound: u32,
+    bound_line: Vec<u8>,
     depth: u32,
 }
 
@@ -36,14 +38,16 @@ fn kind_of(text: &[u8], line: u32) -> Vec<u8> {
     fields.take(2).filter(known).flatten().copied().collect()
 }
 
-fn reached(text: &[u8], check: u32, run: u32) -> Reached {
-    let (check_line, run_line) = (check % 65_536, run % 65_536);
+fn reached(text: &[u8], [check, run, bound]: Answers) -> Reached {
+    let [check_line, run_line, bound_line] = [check, run, bound].map(|answer| answer % 65_536);
     Reached {
         check: check / 65_536,
         check_line: kind_of(text, check_line),
         run: run / 65_536,
         run_line: kind_of(text, run_line),
-        depth: (check_line.max(run_line) + 1).ilog2(),
+        bound: bound / 65_536,
+        bound_line: kind_of(text, bound_line),
+        depth: (check_line.max(run_line).max(bound_line) + 1).ilog2(),
     }
 }
 
@@ -71,9 +75,9 @@ fn main() {
                 }
             }
         };
-        match comparer.both(&text, &mut rng) {
-            Ok((check, run)) => {
-                if known.insert(reached(&text, check, run)) {
+        match comparer.every(&text, &mut rng) {
+            Ok(answers) => {
+                if known.insert(reached(&text, answers)) {
                     kept.push(text);
                 }
             }

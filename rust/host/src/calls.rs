@@ -1,7 +1,8 @@
-//! The two C functions of libnuyardi.a, declared once, and over Rust slices.
+//! The C functions of libnuyardi.a, declared once, and over Rust slices.
 //!
-//! Most callers want [`crate::check`] and [`crate::run`]. The functions here are
-//! for those who lend areas of their own and want the number as it comes.
+//! Most callers want [`crate::check`], [`crate::run`] and [`crate::bound`]. The
+//! functions here are for those who lend areas of their own and want the number as
+//! it comes.
 
 /// The functions as C has them. A null text is allowed with length 0; the areas
 /// must not overlap, with each other or with the text.
@@ -21,6 +22,14 @@ pub mod raw {
             steps: u32,
             results: *mut u8,
             results_len: usize,
+        ) -> u32;
+        pub fn station_bound(
+            text: *const u8,
+            text_len: usize,
+            work: *mut u8,
+            work_len: usize,
+            bounds: *mut u8,
+            bounds_len: usize,
         ) -> u32;
     }
 }
@@ -63,6 +72,34 @@ pub fn run(text: &[u8], work: &mut [u8], steps: u32, results: &mut [u8]) -> u32 
             steps,
             results.as_mut_ptr(),
             results.len(),
+        )
+    }
+}
+
+/// The bound of the text, in an area of [`BOUNDS_BYTES`](crate::limits::BOUNDS_BYTES)
+/// bytes: the most steps of a run, then the most frames, 4 bytes each, low byte
+/// first; zeros where there is none.
+///
+/// ```
+/// let mut work = vec![0; nuyardi::limits::WORK_BYTES];
+/// let mut bounds = [0xa5; nuyardi::limits::BOUNDS_BYTES];
+/// let text = b"main\nvar\tint\ta\nlet\ta\t7\nend\n";
+/// assert_eq!(nuyardi::calls::bound(text, &mut work, &mut bounds), 0);
+/// assert_eq!(bounds, [2, 0, 0, 0, 1, 0, 0, 0]);
+/// let text = b"main\nloop\teq\t1\t1\nagain\nend\n";
+/// assert_eq!(nuyardi::calls::bound(text, &mut work, &mut bounds), 15 * 65_536 + 2);
+/// assert_eq!(bounds, [0; nuyardi::limits::BOUNDS_BYTES]);
+/// ```
+pub fn bound(text: &[u8], work: &mut [u8], bounds: &mut [u8]) -> u32 {
+    // SAFETY: as in `run`.
+    unsafe {
+        raw::station_bound(
+            text.as_ptr(),
+            text.len(),
+            work.as_mut_ptr(),
+            work.len(),
+            bounds.as_mut_ptr(),
+            bounds.len(),
         )
     }
 }

@@ -47,22 +47,30 @@ pub(crate) fn words(f: &mut fmt::Formatter<'_>, number: u32) -> fmt::Result {
     }
 }
 
+/// The same after the line, where there is one.
+pub(crate) fn words_at(f: &mut fmt::Formatter<'_>, line: u32, number: u32) -> fmt::Result {
+    if line != 0 {
+        write!(f, "line {line}: ")?;
+    }
+    words(f, number)
+}
+
 /// Every number that the calls return, in rising order.
 pub const EXPLANATIONS: &[Explanation] = &[
     Explanation {
         number: 0,
         title: "accepted, or finished",
         meaning: "Check accepts the text: its runs never lack a permission, follow null or meet \
-                  a false formula. A run has done main's `end`.",
+                  a false formula. A run has done main's `end`. Bound gives the most steps.",
         mend: "there is nothing to mend",
         example: None,
     },
     Explanation {
         number: 1,
         title: "a lent area of wrong length",
-        meaning: "The program that calls the library lent it a work area or a results area of \
-                  another length than it takes. No script can cause this.",
-        mend: "lend 65,536 bytes to work in and 52 bytes for results",
+        meaning: "The program that calls the library lent it an area of another length than it \
+                  takes. No script can cause this.",
+        mend: "lend 65,536 bytes to work in, 52 bytes for results and 8 bytes for bounds",
         example: None,
     },
     Explanation {
@@ -190,6 +198,26 @@ pub const EXPLANATIONS: &[Explanation] = &[
         mend: "move a part into a method, whose contract keeps only what is needed, or let a `join` \
                or `loop` do so; `release` makes room for permissions",
         example: example!("refused-14"),
+    },
+    Explanation {
+        number: 15,
+        title: "a loop, or a call that can lead back to its own method",
+        meaning: "How often a `loop` goes round, and how often a method calls itself, by way of \
+                  others too, shows in a run alone: no bound is known before it. Methods that main \
+                  does not call count too. Only bound refuses so; check accepts the text.",
+        mend: "run it with as many steps as it may take, and number 21 stops it there; or write the \
+               rounds as lines, or as calls of a method that does one",
+        example: example!("refused-15"),
+    },
+    Explanation {
+        number: 16,
+        title: "a bound of more than 1,000,000 steps",
+        meaning: "Main's statement lines, with those of the methods that they call, as often as they \
+                  call them, are above 1,000,000 in all. Only bound refuses so; check accepts the \
+                  text.",
+        mend: "run it with as many steps as it may take, and number 21 stops it there; or call less: \
+               methods that each call the next one twice double the bound every time",
+        example: example!("refused-16"),
     },
     Explanation {
         number: 21,

@@ -30,6 +30,7 @@
 #[cfg(feature = "alloc")]
 extern crate alloc;
 
+mod bound;
 #[allow(missing_docs)]
 pub mod calls;
 mod explain;
@@ -39,8 +40,9 @@ mod outcome;
 mod refusal;
 mod station;
 
+pub use bound::{Bound, NoBound};
 pub use explain::{explain, Explanation, EXPLANATIONS};
-pub use numbers::{AcceptedStop, Kind, Stop};
+pub use numbers::{AcceptedStop, Excess, Kind, Stop};
 pub use outcome::{AcceptedEnding, Ending, Outcome, Value, Variable};
 pub use refusal::Refusal;
 pub use station::{Accepted, OwnWork, Station};
@@ -66,4 +68,15 @@ pub fn check(text: &[u8]) -> Result<Accepted<'_>, Refusal> {
 /// ```
 pub fn run(text: &[u8], steps: u32) -> Outcome<'_> {
     Station::new().run(text, steps)
+}
+
+/// The most steps and frames of a run, known before it; see [`Station::bound`].
+///
+/// ```
+/// let bound = nuyardi::bound(b"main\nvar\tint\ta\nlet\ta\t7\nend\n")?;
+/// assert_eq!((bound.steps, bound.frames), (2, 1));
+/// # Ok::<(), nuyardi::NoBound>(())
+/// ```
+pub fn bound(text: &[u8]) -> Result<Bound, NoBound> {
+    Station::new().bound(text)
 }

@@ -61,6 +61,16 @@ numbered! {
 }
 
 numbered! {
+    /// The reasons for which a text that check accepts has no bound.
+    Excess {
+        /// 15: a `loop`, or a `call` that can lead back to its own method.
+        Unbounded = 15,
+        /// 16: the bound is above [`BOUND`](crate::limits::BOUND).
+        BoundPassed = 16,
+    }
+}
+
+numbered! {
     /// Why the machine stopped before main's `end` was done.
     Stop {
         /// 21: the allowed steps are taken.

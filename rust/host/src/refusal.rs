@@ -40,10 +40,7 @@ impl Refusal {
 
 impl fmt::Display for Refusal {
     fn fmt(&self, f: &mut fmt::Formatter<'_>) -> fmt::Result {
-        if self.line != 0 {
-            write!(f, "line {}: ", self.line)?;
-        }
-        explain::words(f, self.number())
+        explain::words_at(f, self.line, self.number())
     }
 }
 

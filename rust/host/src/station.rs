@@ -1,8 +1,8 @@
-//! The two calls with areas of their own.
+//! The calls with areas of their own.
 
-use crate::limits::{RESULTS_BYTES, WORK_BYTES};
+use crate::limits::{BOUNDS_BYTES, RESULTS_BYTES, WORK_BYTES};
 use crate::outcome::{AcceptedEnding, Ending};
-use crate::{calls, Outcome, Refusal};
+use crate::{calls, Bound, NoBound, Outcome, Refusal};
 use core::borrow::BorrowMut;
 use core::fmt;
 
@@ -98,6 +98,36 @@ impl<W: BorrowMut<[u8; WORK_BYTES]>> Station<W> {
     ) -> Outcome<'t, E> {
         let returned = calls::run(text, self.work.borrow_mut(), steps, &mut self.results);
         Outcome::of(returned, ending, text, &self.results)
+    }
+
+    /// The most that a run of the text can take, known before it: its statement
+    /// lines, with those of the methods that it calls, as often as it calls them.
+    ///
+    /// ```
+    /// use nuyardi::{Excess, NoBound};
+    /// let mut station = nuyardi::Station::new();
+    /// let text = b"main\nvar\tint\ta\nlet\ta\t7\nend\n";
+    /// let bound = station.bound(text)?;
+    /// assert_eq!((bound.steps, bound.frames), (2, 1));
+    /// let outcome = station.check(text)?.run(&mut station, bound.steps);
+    /// assert!(outcome.finished());
+    ///
+    /// let text = b"main\nvar\tint\ta\nloop\teq\ta\t0\nagain\nend\n";
+    /// let excess = Excess::Unbounded;
+    /// assert_eq!(station.bound(text), Err(NoBound::Accepted { excess, line: 3 }));
+    /// # Ok::<(), NoBound>(())
+    /// ```
+    ///
+    /// # Errors
+    ///
+    /// A text that check refuses is refused as by [`Station::check`]. An accepted
+    /// one has no bound if a line of it, in a method that main does not call too,
+    /// is a `loop` or a `call` that can lead back to its own method, or if the
+    /// bound is above [`BOUND`](crate::limits::BOUND).
+    pub fn bound(&mut self, text: &[u8]) -> Result<Bound, NoBound> {
+        let mut bounds = [0; BOUNDS_BYTES];
+        let returned = calls::bound(text, self.work.borrow_mut(), &mut bounds);
+        Bound::of(returned, &bounds)
     }
 }
 

@@ -2,16 +2,19 @@
 
 use model::gen::{self, rng::Rng};
 use model::names::{Declared, Type};
-use nuyardi::{AcceptedEnding, AcceptedStop, Ending, Kind, Outcome, Station, Stop, Value};
+use nuyardi::{AcceptedEnding, AcceptedStop, Ending, Excess, Kind, NoBound, Outcome, Station};
+use nuyardi::{Stop, Value};
 use std::collections::BTreeSet;
 
-/// Every number that a call returns is explained: 0, 1, and those of the kinds
-/// and stops, each of which is found by its number.
+/// Every number that a call returns is explained: 0, 1, and those of the kinds,
+/// excesses and stops, each of which is found by its number.
 #[test]
 fn numbers_and_kinds() {
     let kinds = Kind::ALL.iter().map(|kind| kind.number());
+    let excesses = Excess::ALL.iter().map(|excess| excess.number());
     let stops = Stop::ALL.iter().map(|stop| stop.number());
-    let returned: Vec<u32> = [0, 1].into_iter().chain(kinds).chain(stops).collect();
+    let texts = [0, 1].into_iter().chain(kinds).chain(excesses);
+    let returned: Vec<u32> = texts.chain(stops).collect();
     assert!(returned.windows(2).all(|pair| pair[0] < pair[1]));
     let explained: Vec<u32> = nuyardi::EXPLANATIONS
         .iter()
@@ -20,9 +23,10 @@ fn numbers_and_kinds() {
     assert_eq!(explained, returned);
     for number in (0..100).chain([u32::MAX]) {
         let kind = Kind::of(number).map(Kind::number);
+        let excess = Excess::of(number).map(Excess::number);
         let stop = Stop::of(number).map(Stop::number);
         assert_eq!(
-            kind.or(stop),
+            kind.or(excess).or(stop),
             returned[2..].contains(&number).then_some(number)
         );
     }
@@ -62,7 +66,7 @@ fn sizes_in_words() {
             );
         }
     };
-    said(1, &[WORK_BYTES, RESULTS_BYTES]);
+    said(1, &[WORK_BYTES, RESULTS_BYTES, BOUNDS_BYTES]);
     said(2, &[TEXT_BYTES]);
     said(4, &[ATOMS, NAME_BYTES]);
     said(
@@ -70,6 +74,7 @@ fn sizes_in_words() {
         &[CLASSES, CLASS_FIELDS, METHODS, LOCALS, STATEMENTS, BRANCHES],
     );
     said(14, &[PERMISSIONS, FACTS]);
+    said(16, &[BOUND]);
     said(22, &[OBJECTS, FIELDS]);
     said(23, &[FRAMES, FRAMES - 1]);
 }
@@ -150,6 +155,60 @@ fn generated_texts() {
         accepted_stops.iter().eq(AcceptedStop::ALL),
         "{accepted_stops:?}"
     );
+}
+
+/// The bounds of generated texts; with so many steps no run lacks any.
+#[test]
+fn generated_bounds() {
+    let mut station = Station::new();
+    let mut excesses = BTreeSet::new();
+    for seed in 1_100_000..1_104_000 {
+        let text = gen::text(seed);
+        let model = model::bound(&text);
+        let found = station.bound(&text);
+        assert_eq!(found, nuyardi::bound(&text));
+        match found {
+            Ok(bound) => {
+                let numbers = (0, 0, bound.steps, bound.frames);
+                let modelled = (model.number, model.line, model.bound, model.frames);
+                assert_eq!(numbers, modelled);
+                let accepted = station.check(&text).expect("accepted");
+                let outcome = accepted.run(&mut station, bound.steps);
+                assert!(outcome.steps() <= bound.steps);
+                let want = AcceptedEnding::Stopped(AcceptedStop::OutOfSteps);
+                assert_ne!(outcome.ending(), want);
+            }
+            Err(none) => {
+                assert_eq!((none.number(), none.line()), (model.number, model.line));
+                match none {
+                    NoBound::Refused(refusal) => {
+                        assert_eq!(station.check(&text), Err(refusal));
+                        assert_eq!(none.to_string(), refusal.to_string());
+                    }
+                    NoBound::Accepted { excess, .. } => {
+                        assert!(station.check(&text).is_ok());
+                        excesses.insert(excess);
+                    }
+                    other => panic!("a reason that the model does not know: {other:?}"),
+                }
+            }
+        }
+    }
+    assert!(excesses.iter().eq(Excess::ALL), "{excesses:?}");
+}
+
+/// A bound in words, and one that there is not.
+#[test]
+fn bounds_in_words() {
+    let said = |text: &[u8]| match nuyardi::bound(text) {
+        Ok(bound) => bound.to_string(),
+        Err(none) => none.to_string(),
+    };
+    assert_eq!(said(b"main\nend\n"), "at most 1 step, 1 frame");
+    let worked = include_bytes!("../../../examples/worked.txt");
+    assert_eq!(said(worked), "at most 9 steps, 2 frames");
+    let looped = said(b"main\nloop\teq\t1\t2\nagain\nend\n");
+    assert!(looped.starts_with("line 2: a loop, or a call"), "{looped}");
 }
 
 /// A refusal is an error that can be passed on.

@@ -1,12 +1,12 @@
-//! The C header: its sizes and numbers, two C programs that use it, and the
-//! stack that each call takes.
+//! The C header: its sizes and numbers, C programs that use it, and the stack
+//! that each call takes.
 
 #[path = "support/c.rs"]
 mod c;
 #[path = "support/workloads.rs"]
 mod workloads;
 
-use nuyardi::{limits, Kind, Stop};
+use nuyardi::{limits, Excess, Kind, Stop};
 use std::collections::BTreeMap;
 use std::path::Path;
 use std::process::Command;
@@ -32,7 +32,9 @@ fn sizes() {
         ("WORK_BYTES", limits::WORK_BYTES),
         ("RESULTS_BYTES", limits::RESULTS_BYTES),
         ("TEXT_BYTES", limits::TEXT_BYTES),
+        ("BOUNDS_BYTES", limits::BOUNDS_BYTES),
         ("VALUES", limits::VALUES),
+        ("BOUND", limits::BOUND),
         ("STACK_BYTES", STACK_BYTES),
     ]);
     assert_eq!(sizes, machine);
@@ -61,6 +63,8 @@ fn limits_of_the_model() {
         (limits::WORK_BYTES, model::WORK_BYTES),
         (limits::RESULTS_BYTES, model::RESULT_BYTES),
         (limits::VALUES, model::LOCALS),
+        (limits::BOUNDS_BYTES, model::BOUND_BYTES),
+        (limits::BOUND, model::BOUND as usize),
         (limits::PROGRAM_STEPS, model::PROGRAM_STEPS as usize),
     ];
     for (at, (ours, theirs)) in pairs.into_iter().enumerate() {
@@ -96,10 +100,14 @@ fn numbers() {
     let kinds = Kind::ALL
         .iter()
         .map(|kind| (format!("{kind:?}"), kind.number()));
+    let excesses = Excess::ALL
+        .iter()
+        .map(|excess| (format!("{excess:?}"), excess.number()));
     let stops = Stop::ALL
         .iter()
         .map(|stop| (format!("{stop:?}"), stop.number()));
     let cases = kinds
+        .chain(excesses)
         .chain(stops)
         .map(|(name, number)| (in_capitals(&name), number));
     assert_eq!(named, own.into_iter().chain(cases).collect::<Vec<_>>());
@@ -215,16 +223,19 @@ fn stack() {
     let output = output.expect("the program");
     assert!(output.status.success());
     let printed = String::from_utf8_lossy(&output.stdout);
-    let (mut check, mut run, mut rows) = (0, 0, 0);
+    let mut most = [("check", 0), ("run", 0), ("bound", 0)];
+    let mut rows = 0;
     for line in printed.lines() {
         let mut words = line.split(' ').map(|word| word.parse::<usize>());
-        let mut next = || words.next().and_then(Result::ok).expect("bytes");
-        check = check.max(next());
-        run = run.max(next());
+        for (_, bytes) in &mut most {
+            let measured = words.next().and_then(Result::ok).expect("bytes");
+            *bytes = measured.max(*bytes);
+        }
         rows += 1;
     }
-    println!("stack: check {check} bytes, run {run} bytes");
+    println!("stack, bytes: {most:?}");
     assert_eq!(rows, names.len());
-    assert!((256..STACK_BYTES).contains(&check), "check takes {check}");
-    assert!((256..STACK_BYTES).contains(&run), "run takes {run}");
+    for (call, bytes) in most {
+        assert!((256..STACK_BYTES).contains(&bytes), "{call} takes {bytes}");
+    }
 }

@@ -3,9 +3,9 @@
 #[path = "support/compare.rs"]
 mod compare;
 
-use compare::{compare_seeds, run_of, Call, Comparer, CHECK};
+use compare::{compare_seeds, run_of, Call, Comparer, BOUND, CHECK};
 use nuyardi::calls::raw;
-use nuyardi::limits::{RESULTS_BYTES, TEXT_BYTES, WORK_BYTES};
+use nuyardi::limits::{BOUNDS_BYTES, RESULTS_BYTES, TEXT_BYTES, WORK_BYTES};
 use std::path::Path;
 
 fn hex(field: &str) -> Vec<u8> {
@@ -23,13 +23,17 @@ fn case(line: &str) -> Option<(Vec<u8>, Call)> {
     let mut name = fields[0].split('/');
     let call = name.next();
     let mut length = |usual: usize| name.next().map_or(usual, |n| n.parse().expect("a length"));
-    let (work, results) = (length(WORK_BYTES), length(RESULTS_BYTES));
+    let work = length(WORK_BYTES);
     let call = match call {
         Some("check") => Call::Check { work },
+        Some("bound") => Call::Bound {
+            work,
+            bounds: length(BOUNDS_BYTES),
+        },
         Some("run") => Call::Run {
             work,
             steps: fields[1].parse().expect("steps"),
-            results,
+            results: length(RESULTS_BYTES),
         },
         Some("program") => return None,
         _ => panic!("no call: {line}"),
@@ -65,7 +69,8 @@ fn every_example() {
     for entry in std::fs::read_dir(folder).expect("examples") {
         let text = std::fs::read(entry.expect("an entry").path()).expect("an example");
         examples += 1;
-        for call in [CHECK, run_of(0), run_of(7), run_of(1_000), run_of(100_000)] {
+        let runs = [0, 7, 1_000, 100_000].map(run_of);
+        for call in runs.into_iter().chain([CHECK, BOUND]) {
             if let Err(difference) = comparer.call(&text, call) {
                 panic!("{difference}");
             }
@@ -87,7 +92,7 @@ fn lengths_and_single_bytes() {
         texts.push(filled.copied().take(length).collect());
     }
     for text in texts {
-        for call in [CHECK, run_of(10)] {
+        for call in [CHECK, run_of(10), BOUND] {
             if let Err(difference) = comparer.call(&text, call) {
                 panic!("{difference}");
             }
@@ -103,19 +108,23 @@ fn a_million_texts() {
     } else {
         50_000
     };
-    let (checks, runs) = match compare_seeds(0..seeds) {
+    let [checks, runs, bounds] = match compare_seeds(0..seeds) {
         Ok(counts) => counts,
         Err(difference) => panic!("{difference}"),
     };
     let texts: u64 = checks.iter().sum();
-    println!("{texts} texts\ncheck {checks:?}\nrun {runs:?}");
+    println!("{texts} texts\ncheck {checks:?}\nrun {runs:?}\nbound {bounds:?}");
     assert_eq!(texts, seeds * (1 + compare::MUTATIONS as u64));
     assert!(cfg!(debug_assertions) || texts >= 1_000_000);
-    for number in [0].into_iter().chain(2..=14) {
-        assert!(checks[number] > 0, "check never gave {number}");
-    }
-    for number in [0].into_iter().chain(2..=9).chain(21..=27) {
-        assert!(runs[number] > 0, "run never gave {number}");
+    for (call, counts, numbers) in [
+        ("check", checks, &[0..=0, 2..=14][..]),
+        ("run", runs, &[0..=0, 2..=9, 21..=27]),
+        ("bound", bounds, &[0..=0, 2..=16]),
+    ] {
+        for (number, &count) in counts.iter().enumerate() {
+            let given = numbers.iter().any(|numbers| numbers.contains(&number));
+            assert_eq!(count > 0, given, "{call} gave {number} {count} times");
+        }
     }
 }
 
@@ -143,6 +152,21 @@ fn a_null_text() {
     };
     assert_eq!(ran, 8 * 65_536);
     assert!(work.iter().chain(&results).all(|&byte| byte == 0));
+    work.fill(0xa5);
+    let mut bounds = [0x5a; BOUNDS_BYTES];
+    // SAFETY: as above.
+    let bounded = unsafe {
+        raw::station_bound(
+            std::ptr::null(),
+            0,
+            work.as_mut_ptr(),
+            WORK_BYTES,
+            bounds.as_mut_ptr(),
+            BOUNDS_BYTES,
+        )
+    };
+    assert_eq!(bounded, 8 * 65_536);
+    assert!(work.iter().chain(&bounds).all(|&byte| byte == 0));
 }
 
 /// Two threads with areas of their own get the answers that one gets.
@@ -151,7 +175,10 @@ fn two_threads_at_once() {
     let texts: Vec<Vec<u8>> = (0..200).map(model::gen::text).collect();
     let answers = || -> Vec<_> {
         let mut station = nuyardi::Station::new();
-        let answer = |text| (station.check(text).err(), station.run(text, 500));
+        let answer = |text| {
+            let checked = station.check(text).err();
+            (checked, station.run(text, 500), station.bound(text))
+        };
         texts
             .iter()
             .map(|text| text.as_slice())

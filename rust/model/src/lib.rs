@@ -1,10 +1,11 @@
 //! A model of catalogue scripts, written from document 01 and the requests of
 //! document 02 alone (W1 and so on, as far as they landed): the text, the
-//! permission check and the machine, in the papers' order. It is clear before
+//! permission check, the machine and the bound, in the papers' order. It is clear before
 //! it is fast, and it shares nothing with the code that it is compared with.
 
 #![forbid(unsafe_code)]
 
+pub mod bounds;
 pub mod call;
 pub mod checker;
 pub mod faults;
@@ -24,7 +25,7 @@ pub mod state;
 pub mod text;
 pub mod watch;
 
-pub use call::{check_call, run_call};
+pub use call::{bound_call, check_call, run_call};
 pub use machine::Run;
 pub use number::Refusal;
 pub use print::printed;
@@ -34,20 +35,52 @@ pub fn read(text: &[u8]) -> Result<names::Program<'_>, Refusal> {
     names::resolve(&text::lines(text)?)
 }
 
-/// All tests in their order: "1, 2; then line by line 3, 4, 5; then 8; then
-/// line by line 6, 7, 9 ...; then line by line 10; then the rules".
-fn check_all(text: &[u8]) -> Result<(), Refusal> {
+/// The program of an accepted text. All tests in their order: "1, 2; then line
+/// by line 3, 4, 5; then 8; then line by line 6, 7, 9 ...; then line by line 10;
+/// then the rules".
+pub fn accept(text: &[u8]) -> Result<names::Program<'_>, Refusal> {
     let lines = text::lines(text)?;
     let program = names::resolve(&lines)?;
     framing::frame(&lines)?;
-    checker::check(&program)
+    checker::check(&program)?;
+    Ok(program)
 }
 
 /// Checks the text: number and line.
 pub fn check(text: &[u8]) -> (u32, u32) {
-    match check_all(text) {
-        Ok(()) => (number::DONE, 0),
+    match accept(text) {
+        Ok(_) => (number::DONE, 0),
         Err(Refusal { number, line }) => (number, line),
+    }
+}
+
+/// What bound returns and what it leaves in its area.
+#[derive(Clone, Copy, Debug, PartialEq, Eq)]
+pub struct Bounds {
+    pub number: u32,
+    pub line: u32,
+    /// "main's bound"
+    pub bound: u32,
+    /// "the most frames on a route of calls, main's counted"
+    pub frames: u32,
+}
+
+/// W6: main's bound and frames; "zeros for a refused text". "It refuses, after
+/// every check of document 01".
+pub fn bound(text: &[u8]) -> Bounds {
+    match accept(text).and_then(|program| bounds::bounds(&program)) {
+        Ok(most) => Bounds {
+            number: number::DONE,
+            line: 0,
+            bound: most.steps,
+            frames: most.frames,
+        },
+        Err(Refusal { number, line }) => Bounds {
+            number,
+            line,
+            bound: 0,
+            frames: 0,
+        },
     }
 }
 

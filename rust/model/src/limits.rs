@@ -31,9 +31,14 @@ pub const HEAP_FIELDS: usize = 1_024;
 /// "... and 64 frames with main's."
 pub const FRAMES: usize = 64;
 
+/// W6: "if the bound passes 1,000,000"
+pub const BOUND: u32 = 1_000_000;
+
 /// "a work area of 65,536 bytes"
 pub const WORK_BYTES: usize = 65_536;
 /// "a results area of 52 bytes"
 pub const RESULT_BYTES: usize = 52;
+/// W6: "The call fills 8 bytes"
+pub const BOUND_BYTES: usize = 8;
 /// "The program ... allows 1,000 steps"
 pub const PROGRAM_STEPS: u32 = 1_000;

@@ -1,4 +1,4 @@
-//! The numbers that the two calls return, as the table of document 01 has them,
+//! The numbers that the calls return, as the table of document 01 has them,
 //! with those of document 02.
 
 /// Check: accepted. Run: main's `end` done.
@@ -31,6 +31,10 @@ pub const NO_PERMISSION: u32 = 12;
 pub const NOT_SHOWN: u32 = 13;
 /// State full.
 pub const STATE_FULL: u32 = 14;
+/// A `loop`, or a `call` that can lead back to the method that it is in (W6).
+pub const UNBOUNDED: u32 = 15;
+/// Main's bound passes 1,000,000 (W6).
+pub const BOUND_PASSED: u32 = 16;
 
 /// Allowed steps taken, main's `end` not done.
 pub const OUT_OF_STEPS: u32 = 21;

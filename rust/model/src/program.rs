@@ -177,6 +177,13 @@ impl<'a> Program<'a> {
         &self.blocks[self.blocks.len() - 1]
     }
 
+    /// The statements of a block, its `end` the last.
+    pub fn body(&self, block: usize) -> &[Statement<'a>] {
+        let next = self.blocks.get(block + 1);
+        let end = next.map_or(self.statements.len(), |next| next.start);
+        &self.statements[self.blocks[block].start..end]
+    }
+
     /// Of two declarations of one name the first counts.
     pub fn class(&self, name: Name) -> Option<usize> {
         self.classes.iter().position(|class| class.name == name)

@@ -2,8 +2,8 @@
 //! of document 01 with the answers of the present level, and those of document
 //! 02, of which a file has the answers of its own level.
 
-use model::limits::{RESULT_BYTES, WORK_BYTES};
-use model::{check_call, printed, run_call};
+use model::limits::{BOUND_BYTES, RESULT_BYTES, WORK_BYTES};
+use model::{bound_call, check_call, printed, run_call};
 use std::collections::HashMap;
 
 /// The cases of document 01.
@@ -27,13 +27,16 @@ const LEVELS: &[Level] = &[
     ("W3", include_str!("cases/w3.tsv"), 137, &[]),
     ("W4", include_str!("cases/w4.tsv"), 170, &[]),
     ("W5", include_str!("cases/w5.tsv"), 177, &[]),
+    ("W6", include_str!("cases/w6.tsv"), 139, &[]),
 ];
 
-/// A call of a file: `check`, `check/W`, `run` or `run/W/R`, or the program.
+/// A call of a file: `check`, `check/W`, `run` or `run/W/R` and so on, or the
+/// program.
 struct Case<'a> {
     call: &'a str,
     work: usize,
-    results: usize,
+    /// The length of the second area; check has none.
+    second: usize,
     steps: u32,
     text: Vec<u8>,
 }
@@ -53,25 +56,30 @@ fn parse(left: &str) -> Case<'_> {
     let mut call = fields[0].split('/');
     let name = call.next().expect("a call");
     let mut length = |usual| call.next().map_or(usual, |n| n.parse().expect("a length"));
-    let (work, results) = (length(WORK_BYTES), length(RESULT_BYTES));
+    let usual = match name {
+        "run" => RESULT_BYTES,
+        "bound" => BOUND_BYTES,
+        _ => 0,
+    };
+    let (work, second) = (length(WORK_BYTES), length(usual));
     let (steps, hex) = match (name, &fields[1..]) {
-        ("check" | "program", &[hex]) => (0, hex),
+        ("check" | "bound" | "program", &[hex]) => (0, hex),
         ("run", &[steps, hex]) => (steps.parse().expect("steps"), hex),
         _ => panic!("no call: {left}"),
     };
     Case {
         call: name,
         work,
-        results,
+        second,
         steps,
         text: bytes(hex),
     }
 }
 
-/// What the results area holds: the steps, unsigned, and twelve signed values.
-fn decoded(results: &[u8]) -> Vec<i64> {
-    results
-        .chunks(4)
+/// What the second area holds: the steps, unsigned, and twelve signed values, or
+/// the bound and the frames, which are small.
+fn decoded(area: &[u8]) -> Vec<i64> {
+    area.chunks(4)
         .enumerate()
         .map(|(at, four)| {
             let four: [u8; 4] = four.try_into().expect("four bytes");
@@ -87,23 +95,24 @@ fn decoded(results: &[u8]) -> Vec<i64> {
 /// has it; the areas must be as document 01 says.
 fn answer(case: &Case) -> String {
     let mut work = vec![0xa5; case.work];
-    let mut results = vec![0x5a; case.results];
+    let mut second = vec![0x5a; case.second];
     let returned = match case.call {
         "program" => {
             let printed = printed(&case.text).into_iter();
             return printed.map(|byte| format!("{byte:02x}")).collect();
         }
         "check" => check_call(&case.text, &mut work),
-        _ => run_call(&case.text, &mut work, case.steps, &mut results),
+        "bound" => bound_call(&case.text, &mut work, &mut second),
+        _ => run_call(&case.text, &mut work, case.steps, &mut second),
     };
     let mut answer = vec![i64::from(returned / 65_536), i64::from(returned % 65_536)];
     let refused = answer[0] == 1;
     let rest = if refused { 0xa5 } else { 0 };
     assert!(work.iter().all(|&byte| byte == rest), "the work area");
-    if case.call == "check" || refused {
-        assert!(results.iter().all(|&byte| byte == 0x5a), "the results area");
+    if refused {
+        assert!(second.iter().all(|&byte| byte == 0x5a), "the second area");
     } else {
-        answer.extend(decoded(&results));
+        answer.extend(decoded(&second));
     }
     let answer: Vec<String> = answer.iter().map(i64::to_string).collect();
     answer.join(" ")

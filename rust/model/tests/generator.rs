@@ -3,8 +3,8 @@
 
 use model::gen::{self, rng::Rng};
 use model::machine::{Machine, Step};
-use model::names::{Action, Program};
-use model::{check, printed, read, run};
+use model::names::{Action, Program, Statement};
+use model::{bound, check, printed, read, run};
 use std::collections::BTreeMap;
 
 const TEXTS: u64 = 20_000;
@@ -284,6 +284,74 @@ fn every_stop_of_a_loop_occurs() {
     }
     println!("stopped at a `loop`: {stops:?}");
     assert!(stops.keys().eq(&[24, 25, 26]) && stops.values().all(|&count| count > 3));
+}
+
+/// How many calls lead from a method back to it, at least; none if none do.
+fn ring(program: &Program, block: usize, first: usize) -> Option<usize> {
+    let mut reached = vec![first];
+    for length in 1..=program.blocks.len() {
+        if reached.contains(&block) {
+            return Some(length);
+        }
+        let calls = reached.iter().flat_map(|&at| program.body(at));
+        reached = calls
+            .filter_map(|statement| match statement.action {
+                Action::Call(call) => Some(call.method),
+                _ => None,
+            })
+            .collect();
+        reached.sort_unstable();
+        reached.dedup();
+    }
+    None
+}
+
+/// W6: bounds are given and refused: with 15 at a loop, at a call of the method
+/// itself and at one into a ring of two or three, and with 16.
+#[test]
+fn every_number_of_bound_occurs() {
+    let mut numbers: BTreeMap<u32, u32> = BTreeMap::new();
+    let (mut loops, mut rings) = (0, [0; 5]);
+    let (mut near, mut passed, mut longest) = (0, 0, 0);
+    for seed in 0..10_000 {
+        let text = gen::text(0x3800_0000 + seed);
+        let found = bound(&text);
+        *numbers.entry(found.number).or_insert(0) += 1;
+        near += u32::from(found.bound.abs_diff(1_000_000) < 5);
+        passed += u32::from(found.number == 16);
+        longest = longest.max(found.frames);
+        if found.number != 15 {
+            continue;
+        }
+        let program = read(&text).expect("an accepted text");
+        let block = (0..program.blocks.len())
+            .rfind(|&at| program.body(at)[0].line <= found.line)
+            .expect("a block");
+        let mut lines = program.body(block).iter();
+        match lines.find(|statement| statement.line == found.line) {
+            Some(Statement {
+                action: Action::Loop(_),
+                ..
+            }) => loops += 1,
+            Some(Statement {
+                action: Action::Call(call),
+                ..
+            }) => {
+                let length = ring(&program, block, call.method).expect("a way back");
+                rings[length.min(4)] += 1;
+            }
+            other => panic!("15 at {other:?}"),
+        }
+    }
+    println!("bound: {numbers:?}; {near} near 1,000,000; at most {longest} frames");
+    println!("15 at {loops} loops, and in rings by their length {rings:?}");
+    assert!(numbers.keys().copied().eq([0].into_iter().chain(2..=16)));
+    assert!(loops > 100 && rings[1..=3].iter().all(|&count| count > 10));
+    assert!(near > 5 && passed > 100 && longest == 65);
+    let mut rng = Rng::new(0x3a00_0000);
+    let mut passed = || gen::text_of(&mut rng, gen::Kind::Miss(16));
+    let found = (0..200).filter(|_| bound(&passed()).number == 16).count();
+    assert!(found > 180, "{found} beyond the limit");
 }
 
 /// W4: numbers of both signs, those that are the last to have the form and

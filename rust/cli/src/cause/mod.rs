@@ -2,6 +2,7 @@
 //! library's; what is said here comes from the model, which is asked for the
 //! same text, and is left out where the model answers otherwise.
 
+mod bounds;
 mod bytes;
 mod form;
 mod mends;
@@ -11,6 +12,7 @@ mod route;
 mod rules;
 mod stops;
 
+pub use bounds::bound_cause;
 pub use form::form_of;
 pub use stops::{machine_at, open_calls, stop_cause, value_shown, AGAIN};
 

@@ -1,4 +1,4 @@
-/* Calls both functions as a C program would. Exit status 0 if all is as said. */
+/* Calls the functions as a C program would. Exit status 0 if all is as said. */
 #include "station.h"
 
 #include <stdio.h>
@@ -6,6 +6,7 @@
 
 static uint8_t work[STATION_WORK_BYTES + 1];
 static uint8_t results[STATION_RESULTS_BYTES + 1];
+static uint8_t bounds[STATION_BOUNDS_BYTES + 1];
 static int wrong;
 
 static void expect(int holds, const char *what)
@@ -28,12 +29,42 @@ static void garbage(void)
 {
     memset(work, 0xa5, sizeof work);
     memset(results, 0x5a, sizeof results);
+    memset(bounds, 0x5a, sizeof bounds);
 }
 
 static uint32_t word(size_t at)
 {
     const uint8_t *b = results + 4 * at;
     return b[0] | (uint32_t)b[1] << 8 | (uint32_t)b[2] << 16 | (uint32_t)b[3] << 24;
+}
+
+static void bound_calls(const uint8_t *text, size_t len)
+{
+    const char *endless = "main\nloop\teq\t1\t1\nagain\nend\n";
+    const uint8_t given[] = {2, 0, 0, 0, 1, 0, 0, 0};
+    uint32_t returned;
+
+    garbage();
+    returned = station_bound(text, len, work, STATION_WORK_BYTES, bounds, STATION_BOUNDS_BYTES);
+    expect(returned == STATION_DONE, "the script has a bound");
+    expect(!memcmp(bounds, given, sizeof given), "two steps and one frame");
+    expect(all(work, STATION_WORK_BYTES, 0), "bound clears the work area");
+    expect(work[STATION_WORK_BYTES] == 0xa5 && bounds[STATION_BOUNDS_BYTES] == 0x5a, "bound stays within the areas");
+
+    returned = station_bound((const uint8_t *)endless, strlen(endless), work, STATION_WORK_BYTES, bounds, STATION_BOUNDS_BYTES);
+    expect(returned == STATION_UNBOUNDED * 65536 + 2, "a loop has no bound");
+    expect(all(bounds, STATION_BOUNDS_BYTES, 0), "zeros where there is no bound");
+    garbage();
+    returned = station_bound(NULL, 0, work, STATION_WORK_BYTES, bounds, STATION_BOUNDS_BYTES);
+    expect(returned == STATION_UNFINISHED * 65536, "bound of a null text");
+    expect(all(bounds, STATION_BOUNDS_BYTES, 0), "zeros after a refusal");
+
+    garbage();
+    returned = station_bound(text, len, work, STATION_WORK_BYTES + 1, bounds, STATION_BOUNDS_BYTES);
+    expect(returned == STATION_AREA_LENGTH * 65536, "a work area too long for bound");
+    returned = station_bound(text, len, work, STATION_WORK_BYTES, bounds, STATION_BOUNDS_BYTES - 1);
+    expect(returned == STATION_AREA_LENGTH * 65536, "a bounds area too short");
+    expect(all(work, sizeof work, 0xa5) && all(bounds, sizeof bounds, 0x5a), "number 1 leaves both areas of bound");
 }
 
 int main(void)
@@ -74,6 +105,8 @@ int main(void)
     returned = station_run(text, len, work, STATION_WORK_BYTES, 9, results, STATION_RESULTS_BYTES + 1);
     expect(returned == STATION_AREA_LENGTH * 65536, "a results area too long");
     expect(all(work, sizeof work, 0xa5) && all(results, sizeof results, 0x5a), "number 1 changes nothing");
+
+    bound_calls(text, len);
 
     puts(wrong ? "wrong" : "right");
     return wrong;

@@ -2,9 +2,9 @@
  * be touched right before and right after every area and every text; a text's own
  * pages may only be read. Each thread has areas of its own; the texts are shared.
  *
- * guard STEPS FILE..: prints what check and run returned, for each file, and a sum
- * of the results area. Exit status 1 if two threads differ or the work area is not
- * all zero after a call. */
+ * guard STEPS FILE..: prints what check, run and bound returned, for each file, and
+ * a sum of the results and bounds areas. Exit status 1 if two threads differ or the
+ * work area is not all zero after a call. */
 #define _GNU_SOURCE
 #include "station.h"
 
@@ -27,7 +27,7 @@ struct text {
 };
 
 struct answer {
-    uint32_t checked, ran, sum;
+    uint32_t checked, ran, bounded, sum;
 };
 
 static struct text *texts;
@@ -66,20 +66,22 @@ static int all_zero(const uint8_t *bytes, size_t len)
     return 1;
 }
 
-static uint32_t added(uint32_t sum, const uint8_t *results)
+static uint32_t added(uint32_t sum, const uint8_t *area, size_t len)
 {
-    for (size_t i = 0; i < STATION_RESULTS_BYTES; i++)
-        sum = sum * 31 + results[i];
+    for (size_t i = 0; i < len; i++)
+        sum = sum * 31 + area[i];
     return sum;
 }
 
 static void *work_on(void *own)
 {
     struct answer *answer = own;
-    size_t room, results_room;
+    size_t room, results_room, bounds_room;
     uint8_t *work = pages(STATION_WORK_BYTES, &room);
     uint8_t *low = pages(STATION_RESULTS_BYTES, &results_room);
     uint8_t *high = low + results_room - STATION_RESULTS_BYTES;
+    uint8_t *first = pages(STATION_BOUNDS_BYTES, &bounds_room);
+    uint8_t *last = first + bounds_room - STATION_BOUNDS_BYTES;
 
     for (int i = 0; i < count; i++) {
         memset(work, 0xa5, STATION_WORK_BYTES);
@@ -88,9 +90,16 @@ static void *work_on(void *own)
         memset(work, 0x5a, STATION_WORK_BYTES);
         memset(low, 0xa5, results_room);
         answer[i].ran = station_run(texts[i].after, texts[i].len, work, STATION_WORK_BYTES, steps, high, STATION_RESULTS_BYTES);
-        answer[i].sum = added(0, high);
+        answer[i].sum = added(0, high, STATION_RESULTS_BYTES);
         uint32_t again = station_run(texts[i].before, texts[i].len, work, STATION_WORK_BYTES, steps, low, STATION_RESULTS_BYTES);
-        if (!clear || !all_zero(work, STATION_WORK_BYTES) || again != answer[i].ran || added(0, low) != answer[i].sum)
+        if (!clear || !all_zero(work, STATION_WORK_BYTES) || again != answer[i].ran || added(0, low, STATION_RESULTS_BYTES) != answer[i].sum)
+            wrong = 1;
+        memset(work, 0x5a, STATION_WORK_BYTES);
+        memset(first, 0xa5, bounds_room);
+        answer[i].bounded = station_bound(texts[i].after, texts[i].len, work, STATION_WORK_BYTES, last, STATION_BOUNDS_BYTES);
+        answer[i].sum = added(answer[i].sum, last, STATION_BOUNDS_BYTES);
+        again = station_bound(texts[i].before, texts[i].len, work, STATION_WORK_BYTES, first, STATION_BOUNDS_BYTES);
+        if (!all_zero(work, STATION_WORK_BYTES) || again != answer[i].bounded || memcmp(first, last, STATION_BOUNDS_BYTES))
             wrong = 1;
     }
     return NULL;
@@ -126,7 +135,7 @@ int main(int words, char **word)
             wrong = 1;
     }
     for (int i = 0; i < count; i++)
-        printf("%u %u %u\n", answers[0][i].checked, answers[0][i].ran, answers[0][i].sum);
+        printf("%u %u %u %u\n", answers[0][i].checked, answers[0][i].ran, answers[0][i].bounded, answers[0][i].sum);
     for (int t = 0; t < THREADS; t++)
         free(answers[t]);
     free(texts);

@@ -2,7 +2,7 @@
  * pattern, and the lowest byte that changed tells how deep it went. What the
  * thread itself takes is measured by an empty call and taken off.
  *
- * stack STEPS FILE..: prints, for each file, the bytes of check and of run. */
+ * stack STEPS FILE..: prints, for each file, the bytes of check, run and bound. */
 #define _GNU_SOURCE
 #include "station.h"
 
@@ -16,6 +16,7 @@ enum { STACK = 1 << 20, PATTERN = 0xc7 };
 
 static uint8_t work[STATION_WORK_BYTES];
 static uint8_t results[STATION_RESULTS_BYTES];
+static uint8_t bounds[STATION_BOUNDS_BYTES];
 static uint8_t text[STATION_TEXT_BYTES + 1];
 static size_t len;
 static uint32_t steps;
@@ -36,6 +37,12 @@ static void *checked(void *unused)
 static void *ran(void *unused)
 {
     answer = station_run(text, len, work, sizeof work, steps, results, sizeof results);
+    return unused;
+}
+
+static void *bounded(void *unused)
+{
+    answer = station_bound(text, len, work, sizeof work, bounds, sizeof bounds);
     return unused;
 }
 
@@ -75,7 +82,8 @@ int main(int count, char **words)
         fclose(file);
         long of_check = depth(checked) - empty;
         long of_run = depth(ran) - empty;
-        printf("%ld %ld %s\n", of_check, of_run, words[i]);
+        long of_bound = depth(bounded) - empty;
+        printf("%ld %ld %ld %s\n", of_check, of_run, of_bound, words[i]);
     }
     return 0;
 }

@@ -4,7 +4,7 @@
 
 use model::gen::{self, mutate, rng::Rng};
 use nuyardi::calls;
-use nuyardi::limits::{RESULTS_BYTES, WORK_BYTES};
+use nuyardi::limits::{BOUNDS_BYTES, RESULTS_BYTES, WORK_BYTES};
 use std::fmt;
 
 /// The number that a word of the command line gives, or the usual one.
@@ -46,10 +46,19 @@ pub enum Call {
         steps: u32,
         results: usize,
     },
+    Bound {
+        work: usize,
+        bounds: usize,
+    },
 }
 
-/// A check and a run with areas of the right length.
+/// A check, a bound and a run with areas of the right length.
 pub const CHECK: Call = Call::Check { work: WORK_BYTES };
+
+pub const BOUND: Call = Call::Bound {
+    work: WORK_BYTES,
+    bounds: BOUNDS_BYTES,
+};
 
 pub fn run_of(steps: u32) -> Call {
     Call::Run {
@@ -143,13 +152,23 @@ impl Comparer {
                     model::run_call(text, work, steps, results),
                 )
             }
+            Call::Bound { work: len, bounds } => {
+                let own_bounds = own_results.set(garbage, bounds).area();
+                let bounds = results.set(garbage, bounds).area();
+                let own_work = own_work.set(garbage, len).area();
+                let work = work.set(garbage, len).area();
+                (
+                    calls::bound(&self.text, own_work, own_bounds),
+                    model::bound_call(text, work, bounds),
+                )
+            }
         };
         let what = if library != model {
             "the returned number"
         } else if self.text != text {
             "the text"
         } else if own_results.bytes != results.bytes {
-            "the results area"
+            "the second area"
         } else if own_work.bytes != work.bytes {
             "the work area"
         } else {
@@ -166,18 +185,19 @@ impl Comparer {
         }))
     }
 
-    /// Both calls; now and then with areas of another length, and with as many
-    /// steps as can be allowed where the run ends before them.
-    pub fn both(&mut self, text: &[u8], rng: &mut Rng) -> Result<(u32, u32), Box<Difference>> {
+    /// Check, run and bound; now and then with areas of another length, and with
+    /// as many steps as can be allowed where the run ends before them.
+    pub fn every(&mut self, text: &[u8], rng: &mut Rng) -> Result<Answers, Box<Difference>> {
         let checked = self.call(text, CHECK)?;
         let ran = self.call(text, run_of(gen::steps(rng)))?;
+        let bounded = self.call(text, BOUND)?;
         if rng.below(64) == 0 {
             self.wrong_lengths(text, rng)?;
         }
         if ran / 65_536 != model::number::OUT_OF_STEPS && rng.below(8) == 0 {
             self.call(text, run_of(u32::MAX))?;
         }
-        Ok((checked, ran))
+        Ok([checked, ran, bounded])
     }
 
     fn wrong_lengths(&mut self, text: &[u8], rng: &mut Rng) -> Result<(), Box<Difference>> {
@@ -189,8 +209,10 @@ impl Comparer {
         };
         let work = other(rng, WORK_BYTES);
         let results = other(rng, RESULTS_BYTES);
+        let bounds = other(rng, BOUNDS_BYTES);
         let steps = gen::steps(rng);
         self.call(text, Call::Check { work })?;
+        self.call(text, Call::Bound { work, bounds })?;
         self.call(
             text,
             Call::Run {
@@ -289,22 +311,34 @@ pub const MUTATIONS: usize = 19;
 pub const NUMBERS: usize =
     nuyardi::EXPLANATIONS[nuyardi::EXPLANATIONS.len() - 1].number as usize + 1;
 
-/// How often each number came.
-pub type Counts = [u64; NUMBERS];
+/// What check, run and bound return.
+pub type Answers = [u32; 3];
+
+/// How often each number came from check, from run and from bound.
+pub type Counts = [[u64; NUMBERS]; 3];
+
+pub const NONE: Counts = [[0; NUMBERS]; 3];
+
+/// Counts added up.
+pub fn add(counts: &mut Counts, more: &Counts) {
+    for (count, more) in counts.iter_mut().flatten().zip(more.iter().flatten()) {
+        *count += more;
+    }
+}
 
 /// The text of a seed and its mutations, compared; counts by number.
 pub fn compare_seed(
     comparer: &mut Comparer,
     seed: u64,
-    checks: &mut Counts,
-    runs: &mut Counts,
+    counts: &mut Counts,
 ) -> Result<(), Box<Difference>> {
     let mut rng = Rng::new(!seed);
     let text = gen::text(seed);
     let mut compare = |rng: &mut Rng, text: &[u8]| -> Result<(), Box<Difference>> {
-        let (checked, ran) = comparer.both(text, rng)?;
-        checks[checked as usize / 65_536] += 1;
-        runs[ran as usize / 65_536] += 1;
+        let answers = comparer.every(text, rng)?;
+        for (counts, returned) in counts.iter_mut().zip(answers) {
+            counts[returned as usize / 65_536] += 1;
+        }
         Ok(())
     };
     compare(&mut rng, &text)?;
@@ -322,18 +356,18 @@ pub fn compare_seed(
 }
 
 /// Seeds compared by two threads; the texts are the same however they share them.
-pub fn compare_seeds(seeds: std::ops::Range<u64>) -> Result<(Counts, Counts), Box<Difference>> {
+pub fn compare_seeds(seeds: std::ops::Range<u64>) -> Result<Counts, Box<Difference>> {
     use std::sync::atomic::{AtomicU64, Ordering};
     let next = AtomicU64::new(seeds.start);
     let work = || {
         let mut comparer = Comparer::new(seeds.start);
-        let (mut checks, mut runs) = ([0; NUMBERS], [0; NUMBERS]);
+        let mut counts = NONE;
         loop {
             let seed = next.fetch_add(1, Ordering::Relaxed);
             if seed >= seeds.end {
-                return Ok((checks, runs));
+                return Ok(counts);
             }
-            if let Err(found) = compare_seed(&mut comparer, seed, &mut checks, &mut runs) {
+            if let Err(found) = compare_seed(&mut comparer, seed, &mut counts) {
                 next.store(seeds.end, Ordering::Relaxed);
                 return Err(comparer.reduced(found));
             }
@@ -343,10 +377,7 @@ pub fn compare_seeds(seeds: std::ops::Range<u64>) -> Result<(Counts, Counts), Bo
         let other = scope.spawn(work);
         (work(), other.join().expect("the other thread ends"))
     });
-    let ((mut checks, mut runs), (more_checks, more_runs)) = (one?, two?);
-    for at in 0..NUMBERS {
-        checks[at] += more_checks[at];
-        runs[at] += more_runs[at];
-    }
-    Ok((checks, runs))
+    let (mut counts, more) = (one?, two?);
+    add(&mut counts, &more);
+    Ok(counts)
 }

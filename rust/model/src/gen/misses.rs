@@ -4,13 +4,14 @@ use super::mutate::{exchange, fields_of, mutate_line, text_from};
 use super::program::{accepted, joined, with_miss};
 use super::recipes::full_state;
 use super::rng::Rng;
+use super::routes::passed;
 use crate::check;
 use crate::limits;
 use crate::number;
 
 type Fields = Vec<Vec<Vec<u8>>>;
 
-/// A text for which check gives the number, in most cases.
+/// A text for which check gives the number, in most cases; 16 is bound's.
 pub fn miss(rng: &mut Rng, number: u32) -> Vec<u8> {
     match number {
         number::TOO_LONG => too_long(rng),
@@ -19,6 +20,7 @@ pub fn miss(rng: &mut Rng, number: u32) -> Vec<u8> {
         number::UNFINISHED => unfinished(rng),
         number::UNFRAMED => unframed(rng),
         number::STATE_FULL => full(rng),
+        number::BOUND_PASSED => passed(rng),
         number::UNRESOLVED..=number::NOT_SHOWN if rng.chance(70) => with_miss(rng, number),
         _ => searched(rng, number),
     }

@@ -11,6 +11,7 @@ pub mod recipes;
 mod render;
 pub mod rng;
 pub mod rounds;
+pub mod routes;
 mod skeleton;
 mod writer;
 
@@ -21,7 +22,8 @@ use rng::Rng;
 pub enum Kind {
     /// A program that check accepts.
     Accepted,
-    /// A program with one line for which check gives this number.
+    /// A program with one line for which check gives this number, or one for
+    /// which bound gives 16.
     Miss(u32),
     /// A program with some lines that no rule was asked about.
     Wild,
@@ -40,11 +42,11 @@ impl Kind {
             0..=249 => Kind::Accepted,
             250..=251 => Kind::Miss(2),
             252..=579 => Kind::Miss(rng.pick(&[
-                3, 4, 5, 5, 6, 7, 8, 9, 9, 10, 10, 11, 11, 12, 12, 13, 13, 14, 14,
+                3, 4, 5, 5, 6, 7, 8, 9, 9, 10, 10, 11, 11, 12, 12, 13, 13, 14, 14, 16,
             ])),
-            580..=699 => Kind::Wild,
-            700..=819 => Kind::Recipe,
-            820..=959 => Kind::Mutated,
+            580..=669 => Kind::Wild,
+            670..=849 => Kind::Recipe,
+            850..=959 => Kind::Mutated,
             _ => Kind::Arbitrary,
         }
     }

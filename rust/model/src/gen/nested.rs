@@ -20,7 +20,8 @@ impl<'p, 'a> Writer<'p, 'a> {
             if self.budget == 0 {
                 break;
             }
-            let (branches, loops) = if depth == 0 { (12, 5) } else { (18, 7) };
+            let (branches, loops) = if depth == 0 { (12, 6) } else { (18, 8) };
+            let loops = if self.style.loops { loops } else { 0 };
             match self.rng.below(100) {
                 at if depth == limits::NESTING || at >= branches + loops => {
                     self.statement(&mut state);

@@ -154,6 +154,7 @@ fn start<'a>(block: &Block<'a>) -> State<'a> {
 
 const PLAIN: Style = Style {
     recursive: false,
+    loops: false,
     wild: 0,
     miss: None,
 };
@@ -258,14 +259,19 @@ pub fn lines(rng: &mut Rng, style: Style) -> Vec<String> {
 
 /// A program that check accepts.
 pub fn accepted(rng: &mut Rng) -> Vec<u8> {
-    let recursive = rng.chance(35);
-    joined(&lines(rng, Style { recursive, ..PLAIN }))
+    let style = Style {
+        recursive: rng.chance(35),
+        loops: rng.chance(60),
+        ..PLAIN
+    };
+    joined(&lines(rng, style))
 }
 
 /// A program in which some lines are kept whatever the checker says.
 pub fn wild(rng: &mut Rng) -> Vec<u8> {
     let style = Style {
         recursive: rng.chance(35),
+        loops: rng.chance(60),
         wild: rng.pick(&[5, 20, 60]),
         miss: None,
     };
@@ -276,6 +282,7 @@ pub fn wild(rng: &mut Rng) -> Vec<u8> {
 pub fn with_miss(rng: &mut Rng, number: u32) -> Vec<u8> {
     let style = Style {
         recursive: rng.chance(20),
+        loops: rng.chance(60),
         wild: 0,
         miss: Some(number),
     };

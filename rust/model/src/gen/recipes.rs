@@ -1,9 +1,10 @@
 //! Programs with a plan: full states of the checker, full heaps, full frames,
-//! and runs of many steps.
+//! runs of many steps; those of loops and of routes of calls stand by themselves.
 
 use super::program::joined;
 use super::rng::Rng;
 use super::rounds::rounds;
+use super::routes::routes;
 use crate::check;
 
 pub(super) fn push(lines: &mut Vec<String>, source: &str) {
@@ -12,15 +13,16 @@ pub(super) fn push(lines: &mut Vec<String>, source: &str) {
 
 /// A program by one of the plans.
 pub fn recipe(rng: &mut Rng) -> Vec<u8> {
-    match rng.below(10) {
+    match rng.below(13) {
         0 => full_state(rng),
         1 => doubling(rng),
         2 => recursion(rng),
         3 => full_heap(rng),
         4 => counting(rng),
-        5 => droppings(rng),
-        6 => list_walk(rng),
-        _ => rounds(rng),
+        5 | 6 => droppings(rng),
+        7 => list_walk(rng),
+        8..=10 => rounds(rng),
+        _ => routes(rng),
     }
 }
 

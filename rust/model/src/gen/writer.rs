@@ -16,6 +16,8 @@ use crate::text::{self, Operator};
 pub struct Style {
     /// May a method call itself or a later one?
     pub recursive: bool,
+    /// Are there loops?
+    pub loops: bool,
     /// Of a hundred lines, so many are kept whatever the checker says.
     pub wild: usize,
     /// One line for which the checker gives this number.
