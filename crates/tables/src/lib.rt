@@ -1,16 +1,37 @@
-// The tables in the lent work area: where each stands (`Layout`), and the functions that read and write bytes, words, sides and atoms there.
+// The tables in the lent work area: where each stands (`Layout`), and the functions that read bytes, words, sides and atoms there.
 mod columns;
 mod declarations;
+mod stores;
 
-pub use columns::{atom_count_at, first_atom_at, is_closing_at, kind_at, line_at, member_at, target_at, x_at, y_at, z_at};
-pub use declarations::{ensures_count, ensures_first, field_count_at, field_kind_at, field_name_at, first_row_at, place_at, requires_count, requires_first};
+pub use columns::atom_count_at;
+pub use columns::first_atom_at;
+pub use columns::is_closing_at;
+pub use columns::kind_at;
+pub use columns::line_at;
+pub use columns::member_at;
+pub use columns::target_at;
+pub use columns::x_at;
+pub use columns::y_at;
+pub use columns::z_at;
+pub use declarations::ensures_count;
+pub use declarations::ensures_first;
+pub use declarations::field_count_at;
+pub use declarations::field_kind_at;
+pub use declarations::field_name_at;
+pub use declarations::first_row_at;
+pub use declarations::place_at;
+pub use declarations::requires_count;
+pub use declarations::requires_first;
+pub use stores::put_byte;
+pub use stores::put_half;
+pub use stores::put_word;
 ghost use mathlib.Core.Path.{_≡_};
-ghost use Prim.Native.Nat.{_+_, _%_, _≤_, _<_};
+ghost use Prim.Native.Nat.{_+_, _≤_, _<_};
 ghost use lib.ListN.{length};
 ghost use Rattle.rules.specs.Limits.{work-bytes};
 ghost use Rattle.tables.specs.Layout.{most-atom-rows};
 ghost use Rattle.tables.specs.Decode.{byteAt, halfAt, wordAt, atomPlace, exprAt, leftAt, rightAt, methodCount, mainFirst};
-ghost use Rattle.tables.specs.Stores.{meaning, putByte, putHalf, putWord, offsets};
+ghost use Rattle.tables.specs.Stores.{meaning, offsets};
 
 // Where each table stands in the work area: the constants below as one value.
 pub struct Layout {
@@ -246,40 +267,4 @@ pub fn atom_field(w: &[u8], a: usize) -> usize
     ensures { λ r. ⌜ (r ≡ byteAt (now (w .entry)) (atomPlace a + 5)) × (r < 256) ⌝ }
 {
     byte_at(w, Layout::ATOMS + a * Layout::ATOM_BYTES + 5)
-}
-
-// STORES
-
-fn low(v: u32) -> u8
-    ensures { λ r. ⌜ r ≡ v % 256 ⌝ }
-{
-    (v % 256) as u8
-}
-
-// Writes a byte.
-pub fn put_byte(w: &mut [u8], i: usize, v: usize)
-    requires { ⌜ (i < length (now w)) × (v < 256) ⌝ }
-    ensures { λ _. ⌜ now (w .exit) ≡ putByte (now (w .entry)) i v ⌝ }
-{
-    w[i] = v as u8;
-}
-
-// Writes two bytes.
-pub fn put_half(w: &mut [u8], i: usize, v: usize)
-    requires { ⌜ (i + 2 ≤ length (now w)) × (v < 65536) ⌝ }
-    ensures { λ _. ⌜ now (w .exit) ≡ putHalf (now (w .entry)) i v ⌝ }
-{
-    w[i] = (v % 256) as u8;
-    w[i + 1] = (v / 256) as u8;
-}
-
-// Writes four bytes.
-pub fn put_word(w: &mut [u8], i: usize, v: u32)
-    requires { ⌜ i + 4 ≤ length (now w) ⌝ }
-    ensures { λ _. ⌜ now (w .exit) ≡ putWord (now (w .entry)) i v ⌝ }
-{
-    w[i] = low(v);
-    w[i + 1] = low(v / 256);
-    w[i + 2] = low(v / 65536);
-    w[i + 3] = low(v / 16777216);
 }

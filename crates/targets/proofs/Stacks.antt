@@ -9,7 +9,6 @@ use borrow.Author.Tests.{le-ltb, lt-ltb, ne-eqb}
 use lib.Dec.{eqb}
 use lib.ListN.{length}
 use Rattle.tables.specs.Decode.{kindAt, rowPlace}
-use Rattle.tables.specs.Stores.{putHalf}
 use Rattle.tables.proofs.Bytes.{put-half-length}
 use Rattle.targets.specs.Targets.{power, stackOf, pushed, popped, replaced, openAfter, putTarget, closed, workAfter, targetsFrom}
 

@@ -15,14 +15,13 @@ use Rattle.rules.specs.Syntax.{Simple, Stmt, Row, simple, return, else, join, a
 use Rattle.rules.specs.Machine as Machine
 use Rattle.rules.specs.Machine.{depthAfter, closes, seek, closing, openAt, loopOf}
 use Rattle.rules.proofs.Lists.{Member, at-head, further, head-or, decide-eq, and-both, T-true}
-use Rattle.tables.proofs.Bytes.{Outside, put-half-byte, half-put, put-half-length}
+use Rattle.tables.proofs.Bytes.{Outside, put-half-byte, half-put}
 use Rattle.tables.proofs.Runs.{run-length}
 use Rattle.tables.proofs.Rows.{rows-cons}
 use Rattle.tables.proofs.Statements.{if-means, else-means, join-means, loop-means, again-means, no-branch}
-use Rattle.tables.specs.Stores.{putHalf}
 use Rattle.tables.specs.Decode.{kindAt, targetAt, rowPlace, operandsAt, formulaAt, stmtAt, rowAt, rowsFrom}
 use Rattle.targets.proofs.Stacks.{open-at-if, open-at-else, open-at-join, open-at-loop, open-at-again, open-elsewhere, closed-at-else, closed-at-join, closed-at-again, work-elsewhere, put-length}
-use Rattle.targets.specs.Targets.{openAfter, closed, workAfter, targetsFrom, pushed, popped, replaced, putTarget}
+use Rattle.targets.specs.Targets.{openAfter, workAfter, targetsFrom, pushed, popped, replaced, putTarget}
 use Rattle.nesting.specs.Nests.{Wait, forElse, forJoin, forAgain, rowNests, rowsNest}
 use Rattle.targets.specs.Right.{TargetRight}
 
@@ -405,19 +404,19 @@ module _ (w₀ : List ℕ) (rs : List Row) (few : length rs ≤ 256) (row : (i :
           let before = all-right w i (suc k) (X .size) small more st k R h in (
             forJoin ∷ ws,
             subst (λ (v : List ℕ). Walked v (suc k) false (forJoin ∷ ws) (k ∷ st)) (ap (putTarget w i) (sym (add-one k)) ∙ closed-at-else w c k i f)
-            (record {
-              size = stored-size w i (suc k) (X .size) small more;
-              kinds = stored-kinds w i (suc k) (X .size) small more (X .kinds);
-              nests = t;
-              waits = (
-                l,
-                e,
-                refl,
-                waits-past k (λ l. l) 1 ws st (else-passes k e) (W .3),
-              );
-              opened = open-next k _ (i ∷ st) l means o;
-              right = λ j g. ⊎-elim (λ z. inl (subst (λ (a : ℕ). Member j (a ∷ st)) z at-head)) (λ z. ⊎-elim (λ m. inl (further m)) inr (before j (omega (arith, g, z)))) (decide-eq j k);
-            }),
+                (record {
+                  size = stored-size w i (suc k) (X .size) small more;
+                  kinds = stored-kinds w i (suc k) (X .size) small more (X .kinds);
+                  nests = t;
+                  waits = (
+                    l,
+                    e,
+                    refl,
+                    waits-past k (λ l. l) 1 ws st (else-passes k e) (W .3),
+                  );
+                  opened = open-next k _ (i ∷ st) l means o;
+                  right = λ j g. ⊎-elim (λ z. inl (subst (λ (a : ℕ). Member j (a ∷ st)) z at-head)) (λ z. ⊎-elim (λ m. inl (further m)) inr (before j (omega (arith, g, z)))) (decide-eq j k);
+                }),
           )
 
   -- CLOSING: `join` and `again`
@@ -463,14 +462,14 @@ module _ (w₀ : List ℕ) (rs : List Row) (few : length rs ≤ 256) (row : (i :
           no-target _ k (λ g. omega (arith, e, kinds k, g)) (λ g. omega (arith, e, kinds k, g)) (λ g. omega (arith, e, kinds k, g)) (λ g. omega (arith, e, kinds k, g)) in (
             ws,
             subst (λ (v : List ℕ). Walked v (suc k) false ws st) (closed-at-join w c k i f)
-            (record {
-              size = stored-size w i k (X .size) small l;
-              kinds = kinds;
-              nests = t;
-              waits = waits-past k pred 1 ws st (closes-passes k (inl e)) (W .3);
-              opened = open-next k _ (i ∷ st) l means o;
-              right = λ j g. ⊎-elim (λ z. inr (subst (TargetRight _ rs) (sym z) here)) (λ z. before j (omega (arith, g, z))) (decide-eq j k);
-            }),
+                (record {
+                  size = stored-size w i k (X .size) small l;
+                  kinds = kinds;
+                  nests = t;
+                  waits = waits-past k pred 1 ws st (closes-passes k (inl e)) (W .3);
+                  opened = open-next k _ (i ∷ st) l means o;
+                  right = λ j g. ⊎-elim (λ z. inr (subst (TargetRight _ rs) (sym z) here)) (λ z. before j (omega (arith, g, z))) (decide-eq j k);
+                }),
           )
 
   again-nests :
@@ -507,14 +506,14 @@ module _ (w₀ : List ℕ) (rs : List Row) (few : length rs ≤ 256) (row : (i :
           let other = other-right (putTarget w i (suc k)) k i size low (W .0) in (
             ws,
             subst (λ (v : List ℕ). Walked v (suc k) false ws st) (ap (λ (m : ℕ). putTarget (putTarget w i m) k i) (sym (add-one k)) ∙ closed-at-again w c k i f)
-            (record {
-              size = stored-size (putTarget w i (suc k)) k i size low (W .0);
-              kinds = stored-kinds (putTarget w i (suc k)) k i size low (W .0) kinds;
-              nests = t;
-              waits = waits-past k pred 1 ws st (closes-passes k (inr e)) (W .3);
-              opened = open-next k _ (i ∷ st) l means o;
-              right = λ j g. ⊎-elim (λ z. inr (subst (TargetRight _ rs) (sym z) here)) (λ z. ⊎-elim inl (λ r. inr (other j z r)) (before j (omega (arith, g, z)))) (decide-eq j k);
-            }),
+                (record {
+                  size = stored-size (putTarget w i (suc k)) k i size low (W .0);
+                  kinds = stored-kinds (putTarget w i (suc k)) k i size low (W .0) kinds;
+                  nests = t;
+                  waits = waits-past k pred 1 ws st (closes-passes k (inr e)) (W .3);
+                  opened = open-next k _ (i ∷ st) l means o;
+                  right = λ j g. ⊎-elim (λ z. inr (subst (TargetRight _ rs) (sym z) here)) (λ z. ⊎-elim inl (λ r. inr (other j z r)) (before j (omega (arith, g, z)))) (decide-eq j k);
+                }),
           )
 
   -- any row

@@ -1,6 +1,5 @@
 use mathlib.Core.Path.{ap, sym, _∙_}
 use mathlib.Core.List.{[]}
-use native.Mathlib.Omega.{arith}
 use Rattle.rules.specs.Reading.{framed}
 use Rattle.resolve_framing.proofs.Framing.{as-loop, as-formula}
 use borrow.Author.Needs.{needs}

@@ -2,8 +2,8 @@ use lib.ListN.{length-set}
 use native.Mathlib.Omega.{arith}
 use Rattle.tables.specs.Stores.{putHalf}
 use borrow.Author.Needs.{needs}
-use Rattle.tables.proofs.put_half.Statement.{statement}
-use Rattle.tables.proofs.put_half.Tie as tie
+use Rattle.tables.proofs.stores.put_half.Statement.{statement}
+use Rattle.tables.proofs.stores.put_half.Tie as tie
 
 cast-w : tie.Need-cast-w
 cast-w c = search needs

@@ -2,8 +2,8 @@ use lib.ListN.{length-set}
 use native.Mathlib.Omega.{arith}
 use Rattle.tables.specs.Stores.{putWord}
 use borrow.Author.Needs.{needs}
-use Rattle.tables.proofs.put_word.Statement.{statement}
-use Rattle.tables.proofs.put_word.Tie as tie
+use Rattle.tables.proofs.stores.put_word.Statement.{statement}
+use Rattle.tables.proofs.stores.put_word.Tie as tie
 
 low-requires : tie.Need-low-requires
 low-requires c κs = search needs
