@@ -51,7 +51,14 @@ pub const COMMANDS: &[CommandSpec] = &[
         1,
         MANY,
     ),
-    command("run", "FILE", "run a script", 1, 1),
+    command("run", "FILE", "run a script that check accepts", 1, 1),
+    command(
+        "trial",
+        "FILE",
+        "run a script, also one that check refuses, to try it out",
+        1,
+        1,
+    ),
     command(
         "trace",
         "FILE",
@@ -129,13 +136,19 @@ pub const OPTIONS: &[OptionSpec] = &[
         "steps",
         Some("N"),
         "allow N steps in place of 1,000",
-        &["run", "trace", "draw"],
+        &["run", "trial", "trace", "draw"],
     ),
     option(
         "cards",
         None,
         "show the cards at the end, or at a stop",
-        &["run", "trace"],
+        &["run", "trial", "trace"],
+    ),
+    option(
+        "trial",
+        None,
+        "show a trial, also of a script that check refuses",
+        &["trace", "draw"],
     ),
     option(
         "short",
@@ -163,7 +176,9 @@ pub const OPTIONS: &[OptionSpec] = &[
         "json",
         None,
         "JSON, an object for each file",
-        &["check", "run", "trace", "known", "draw", "fmt", "explain"],
+        &[
+            "check", "run", "trial", "trace", "known", "draw", "fmt", "explain",
+        ],
     ),
     option(
         "color",

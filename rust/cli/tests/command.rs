@@ -14,16 +14,25 @@ fn statuses() {
         (&["run", "examples/tag.script"], 0),
         (&["run", "examples/stopped-23.script"], 1),
         (&["run", "examples/refused-06.script"], 1),
+        (&["run", "examples/sum.script"], 1),
+        (&["trial", "examples/sum.script"], 0),
+        (&["trial", "examples/tag.script"], 0),
+        (&["trial", "examples/stopped-24.script"], 1),
+        (&["trial", "examples/refused-06.script"], 1),
         (&["run", "--steps", "6", "examples/tag.script"], 1),
         (&["run", "--steps=7", "examples/tag.script"], 0),
         (&["trace", "examples/tag.script"], 0),
         (&["trace", "examples/stopped-26.script"], 1),
+        (&["trace", "--trial", "examples/stopped-26.script"], 1),
+        (&["trace", "--trial", "examples/sum.script"], 0),
         (&["known", "examples/tag.script"], 0),
         (&["known", "examples/refused-12.script"], 1),
         (&["known", "examples/refused-10.script"], 1),
         (&["known", "examples/tag.script:99"], 2),
         (&["draw", "examples/tag.script"], 0),
         (&["draw", "examples/refused-04.script"], 1),
+        (&["draw", "examples/lost.script"], 1),
+        (&["draw", "--trial", "examples/lost.script"], 0),
         (&["explain", "12"], 0),
         (&["fmt", "-"], 0),
         (&["tabs", "-"], 0),
@@ -41,7 +50,7 @@ fn statuses() {
 
 #[test]
 fn wrong_use() {
-    let wrong: [&[&str]; 15] = [
+    let wrong: [&[&str]; 17] = [
         &[],
         &["check"],
         &["run"],
@@ -50,6 +59,8 @@ fn wrong_use() {
         &["explain", "15"],
         &["explain", "many"],
         &["run", "a", "b"],
+        &["trial"],
+        &["run", "--trial", "a"],
         &["run", "--steps", "-1", "a"],
         &["run", "--steps", "4294967296", "a"],
         &["run", "a", "--steps"],
@@ -124,9 +135,46 @@ fn causes_of_stops() {
             "  cause: -2147483648 (`n`) less 1 (`one`) is -2147483649, and -2147483648 is\n         the least\n",
         ),
     ] {
-        let (out, _, status) = said(&["run", "-"], text.as_bytes());
+        let (out, _, status) = said(&["trial", "-"], text.as_bytes());
         assert_eq!(status, 1);
         assert!(out.contains(stop) && out.contains(cause), "{out}");
+    }
+}
+
+/// A run of a refused text says what check says; a trial says at its head that
+/// check refuses the text, and of an accepted one the same as a run.
+#[test]
+fn run_checks_first() {
+    for name in [
+        "examples/lost.script",
+        "examples/refused-10.script",
+        "examples/refused-06.script",
+    ] {
+        let checked = said(&["check", name], b"");
+        assert_eq!(checked.2, 1);
+        for word in ["run", "trace", "draw"] {
+            assert_eq!(said(&[word, name], b""), checked, "{word} {name}");
+        }
+    }
+    let head =
+        "examples/lost.script:15: check refuses it, number 12: a permission that is not shown\n";
+    let stop =
+        "examples/lost.script:15: stopped after 3 steps, number 24: a permission is missing\n";
+    let (out, _, _) = said(&["trial", "examples/lost.script"], b"");
+    assert!(out.starts_with(&format!("{head}{stop}")), "{out}");
+    let (out, _, _) = said(&["trace", "--trial", "examples/lost.script"], b"");
+    assert!(
+        out.starts_with(&format!("{head}     1   13  new c Card ")) && out.contains(stop),
+        "{out}"
+    );
+    let (out, error, _) = said(&["draw", "--trial", "examples/lost.script"], b"");
+    assert!(out.starts_with("<svg ") && error == head, "{error}");
+    for name in ["examples/tag.script", "examples/stopped-23.script"] {
+        assert_eq!(said(&["trial", name], b""), said(&["run", name], b""));
+        assert_eq!(
+            said(&["trace", "--trial", name], b""),
+            said(&["trace", name], b"")
+        );
     }
 }
 
@@ -196,6 +244,7 @@ fn escapes() {
         &["check", "--json", "-"],
         &["check", "--short", "-"],
         &["run", "-"],
+        &["trial", "-"],
         &["known", "-"],
         &["trace", "-"],
         &["draw", "-"],
@@ -244,10 +293,14 @@ fn examples_of_explanations() {
             assert!(known.number < 3);
             continue;
         };
+        let example = example.as_bytes();
+        let steps = if known.number == 21 { 1 } else { 1_000 };
         let number = match known.number {
-            21 => nuyardi::run(example.as_bytes(), 1).number(),
-            22.. => nuyardi::run(example.as_bytes(), 1_000).number(),
-            _ => nuyardi::check(example.as_bytes()).map_or_else(|refusal| refusal.number(), |_| 0),
+            24..=26 => nuyardi::trial(example, steps).number(),
+            _ => match nuyardi::run(example, steps) {
+                Ok(outcome) => outcome.number(),
+                Err(refusal) => refusal.number(),
+            },
         };
         assert_eq!(number, known.number);
     }
