@@ -17,30 +17,26 @@ fn main() {
     let seeds = compare::number_or(10_000, words.next());
     let end = first.saturating_add(seeds);
     let start = std::time::Instant::now();
-    let (mut checks, mut runs) = ([0; compare::NUMBERS], [0; compare::NUMBERS]);
+    let mut counts = compare::NONE;
     let mut at = first;
     while at < end {
         let next = end.min(at.saturating_add(TOLD));
-        let (more_checks, more_runs) = match compare::compare_seeds(at..next) {
-            Ok(counts) => counts,
+        match compare::compare_seeds(at..next) {
+            Ok(more) => compare::add(&mut counts, &more),
             Err(difference) => {
                 println!("{difference}");
                 std::process::exit(1);
             }
-        };
-        for number in 0..compare::NUMBERS {
-            checks[number] += more_checks[number];
-            runs[number] += more_runs[number];
         }
         at = next;
-        let (texts, seconds) = (checks.iter().sum::<u64>(), start.elapsed().as_secs());
+        let (texts, seconds) = (counts[0].iter().sum::<u64>(), start.elapsed().as_secs());
         eprintln!("{texts} texts, {seconds} s");
     }
+    let [checks, runs, trials] = counts;
     println!("{} texts, no difference", checks.iter().sum::<u64>());
-    for number in (0..compare::NUMBERS).filter(|&number| checks[number] + runs[number] > 0) {
-        println!(
-            "{number:>2}: check {:>9}, run {:>9}",
-            checks[number], runs[number]
-        );
+    for (number, ((check, run), trial)) in checks.iter().zip(runs).zip(trials).enumerate() {
+        if check + run + trial > 0 {
+            println!("{number:>2}: check {check:>9}, run {run:>9}, trial {trial:>9}");
+        }
     }
 }

@@ -14,14 +14,14 @@ use model::gen::{self, mutate, rng::Rng};
 use std::collections::HashSet;
 use std::path::Path;
 
-/// What a text reached: the answers of both calls, with the kind of line that
-/// they name and how far down the text it stands.
+/// What a text reached: the answers of check and trial, with the kind of line
+/// that they name and how far down the text it stands.
 #[derive(PartialEq, Eq, Hash)]
 struct Reached {
     check: u32,
     check_line: Vec<u8>,
-    run: u32,
-    run_line: Vec<u8>,
+    trial: u32,
+    trial_line: Vec<u8>,
     depth: u32,
 }
 
@@ -36,14 +36,14 @@ fn kind_of(text: &[u8], line: u32) -> Vec<u8> {
     fields.take(2).filter(known).flatten().copied().collect()
 }
 
-fn reached(text: &[u8], check: u32, run: u32) -> Reached {
-    let (check_line, run_line) = (check % 65_536, run % 65_536);
+fn reached(text: &[u8], check: u32, trial: u32) -> Reached {
+    let (check_line, trial_line) = (check % 65_536, trial % 65_536);
     Reached {
         check: check / 65_536,
         check_line: kind_of(text, check_line),
-        run: run / 65_536,
-        run_line: kind_of(text, run_line),
-        depth: (check_line.max(run_line) + 1).ilog2(),
+        trial: trial / 65_536,
+        trial_line: kind_of(text, trial_line),
+        depth: (check_line.max(trial_line) + 1).ilog2(),
     }
 }
 
@@ -71,9 +71,9 @@ fn main() {
                 }
             }
         };
-        match comparer.both(&text, &mut rng) {
-            Ok((check, run)) => {
-                if known.insert(reached(&text, check, run)) {
+        match comparer.every(&text, &mut rng) {
+            Ok([check, _, trial]) => {
+                if known.insert(reached(&text, check, trial)) {
                     kept.push(text);
                 }
             }

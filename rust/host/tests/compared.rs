@@ -3,7 +3,7 @@
 #[path = "support/compare.rs"]
 mod compare;
 
-use compare::{compare_seeds, run_of, Call, Comparer, CHECK};
+use compare::{compare_seeds, run_of, trial_of, Call, Comparer, Runs, CHECK};
 use nuyardi::calls::raw;
 use nuyardi::limits::{RESULTS_BYTES, TEXT_BYTES, WORK_BYTES};
 use std::path::Path;
@@ -26,7 +26,12 @@ fn case(line: &str) -> Option<(Vec<u8>, Call)> {
     let (work, results) = (length(WORK_BYTES), length(RESULTS_BYTES));
     let call = match call {
         Some("check") => Call::Check { work },
-        Some("run") => Call::Run {
+        Some(name @ ("run" | "trial")) => Call::Run {
+            by: if name == "run" {
+                Runs::Run
+            } else {
+                Runs::Trial
+            },
             work,
             steps: fields[1].parse().expect("steps"),
             results,
@@ -65,7 +70,11 @@ fn every_example() {
     for entry in std::fs::read_dir(folder).expect("examples") {
         let text = std::fs::read(entry.expect("an entry").path()).expect("an example");
         examples += 1;
-        for call in [CHECK, run_of(0), run_of(7), run_of(1_000), run_of(100_000)] {
+        let runs = [0, 7, 1_000, 100_000];
+        let runs = runs
+            .into_iter()
+            .flat_map(|steps| [run_of(steps), trial_of(steps)]);
+        for call in runs.chain([CHECK]) {
             if let Err(difference) = comparer.call(&text, call) {
                 panic!("{difference}");
             }
@@ -87,7 +96,7 @@ fn lengths_and_single_bytes() {
         texts.push(filled.copied().take(length).collect());
     }
     for text in texts {
-        for call in [CHECK, run_of(10)] {
+        for call in [CHECK, run_of(10), trial_of(10)] {
             if let Err(difference) = comparer.call(&text, call) {
                 panic!("{difference}");
             }
@@ -103,19 +112,23 @@ fn a_million_texts() {
     } else {
         50_000
     };
-    let (checks, runs) = match compare_seeds(0..seeds) {
+    let [checks, runs, trials] = match compare_seeds(0..seeds) {
         Ok(counts) => counts,
         Err(difference) => panic!("{difference}"),
     };
     let texts: u64 = checks.iter().sum();
-    println!("{texts} texts\ncheck {checks:?}\nrun {runs:?}");
+    println!("{texts} texts\ncheck {checks:?}\nrun {runs:?}\ntrial {trials:?}");
     assert_eq!(texts, seeds * (1 + compare::MUTATIONS as u64));
     assert!(cfg!(debug_assertions) || texts >= 1_000_000);
-    for number in [0].into_iter().chain(2..=14) {
-        assert!(checks[number] > 0, "check never gave {number}");
-    }
-    for number in [0].into_iter().chain(2..=9).chain(21..=27) {
-        assert!(runs[number] > 0, "run never gave {number}");
+    for (call, counts, numbers) in [
+        ("check", checks, &[0..=0, 2..=14][..]),
+        ("run", runs, &[0..=0, 2..=14, 21..=23, 27..=27]),
+        ("trial", trials, &[0..=0, 2..=9, 21..=27]),
+    ] {
+        for (number, &count) in counts.iter().enumerate() {
+            let given = numbers.iter().any(|numbers| numbers.contains(&number));
+            assert_eq!(count > 0, given, "{call} gave {number} {count} times");
+        }
     }
 }
 
@@ -128,21 +141,24 @@ fn a_null_text() {
     let checked = unsafe { raw::station_check(std::ptr::null(), 0, work.as_mut_ptr(), WORK_BYTES) };
     assert_eq!(checked, 8 * 65_536);
     assert!(work.iter().all(|&byte| byte == 0));
-    work.fill(0xa5);
-    // SAFETY: as above.
-    let ran = unsafe {
-        raw::station_run(
-            std::ptr::null(),
-            0,
-            work.as_mut_ptr(),
-            WORK_BYTES,
-            5,
-            results.as_mut_ptr(),
-            RESULTS_BYTES,
-        )
-    };
-    assert_eq!(ran, 8 * 65_536);
-    assert!(work.iter().chain(&results).all(|&byte| byte == 0));
+    for call in [raw::station_run as raw::Runs, raw::station_trial] {
+        work.fill(0xa5);
+        results.fill(0x5a);
+        // SAFETY: as above.
+        let ran = unsafe {
+            call(
+                std::ptr::null(),
+                0,
+                work.as_mut_ptr(),
+                WORK_BYTES,
+                5,
+                results.as_mut_ptr(),
+                RESULTS_BYTES,
+            )
+        };
+        assert_eq!(ran, 8 * 65_536);
+        assert!(work.iter().chain(&results).all(|&byte| byte == 0));
+    }
 }
 
 /// Two threads with areas of their own get the answers that one gets.
@@ -151,7 +167,7 @@ fn two_threads_at_once() {
     let texts: Vec<Vec<u8>> = (0..200).map(model::gen::text).collect();
     let answers = || -> Vec<_> {
         let mut station = nuyardi::Station::new();
-        let answer = |text| (station.check(text).err(), station.run(text, 500));
+        let answer = |text| (station.run(text, 500), station.trial(text, 500));
         texts
             .iter()
             .map(|text| text.as_slice())

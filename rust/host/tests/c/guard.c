@@ -2,8 +2,8 @@
  * be touched right before and right after every area and every text; a text's own
  * pages may only be read. Each thread has areas of its own; the texts are shared.
  *
- * guard STEPS FILE..: prints what check and run returned, for each file, and a sum
- * of the results area. Exit status 1 if two threads differ or the work area is not
+ * guard STEPS FILE..: prints what check, run and trial returned, for each file, and
+ * a sum of the results area after each. Exit status 1 if two threads differ or the work area is not
  * all zero after a call. */
 #define _GNU_SOURCE
 #include "station.h"
@@ -27,7 +27,7 @@ struct text {
 };
 
 struct answer {
-    uint32_t checked, ran, sum;
+    uint32_t checked, ran, tried, sum;
 };
 
 static struct text *texts;
@@ -92,6 +92,11 @@ static void *work_on(void *own)
         uint32_t again = station_run(texts[i].before, texts[i].len, work, STATION_WORK_BYTES, steps, low, STATION_RESULTS_BYTES);
         if (!clear || !all_zero(work, STATION_WORK_BYTES) || again != answer[i].ran || added(0, low) != answer[i].sum)
             wrong = 1;
+        memset(work, 0x5a, STATION_WORK_BYTES);
+        answer[i].tried = station_trial(texts[i].after, texts[i].len, work, STATION_WORK_BYTES, steps, high, STATION_RESULTS_BYTES);
+        answer[i].sum = added(answer[i].sum, high);
+        if (!all_zero(work, STATION_WORK_BYTES))
+            wrong = 1;
     }
     return NULL;
 }
@@ -126,7 +131,7 @@ int main(int words, char **word)
             wrong = 1;
     }
     for (int i = 0; i < count; i++)
-        printf("%u %u %u\n", answers[0][i].checked, answers[0][i].ran, answers[0][i].sum);
+        printf("%u %u %u %u\n", answers[0][i].checked, answers[0][i].ran, answers[0][i].tried, answers[0][i].sum);
     for (int t = 0; t < THREADS; t++)
         free(answers[t]);
     free(texts);

@@ -2,7 +2,8 @@
  * sees a byte that is read or written outside them, and a result that rests on
  * what they held before.
  *
- * replay STEPS FILE..: prints what check and run returned, for each file. */
+ * replay STEPS FILE..: prints what check, run and trial returned, for each file,
+ * and a sum of the results areas. */
 #include "station.h"
 
 #include <stdio.h>
@@ -25,20 +26,27 @@ int main(int count, char **words)
         uint8_t *text = malloc(len ? len : 1);
         uint8_t *work = malloc(STATION_WORK_BYTES);
         uint8_t *again = malloc(STATION_WORK_BYTES);
+        uint8_t *third = malloc(STATION_WORK_BYTES);
         uint8_t *results = malloc(STATION_RESULTS_BYTES);
-        if (!text || !work || !again || !results)
+        uint8_t *others = malloc(STATION_RESULTS_BYTES);
+        if (!text || !work || !again || !third || !results || !others)
             return 2;
         memcpy(text, read, len);
         uint32_t checked = station_check(text, len, work, STATION_WORK_BYTES);
         uint32_t ran = station_run(text, len, again, STATION_WORK_BYTES, steps, results, STATION_RESULTS_BYTES);
+        uint32_t tried = station_trial(text, len, third, STATION_WORK_BYTES, steps, others, STATION_RESULTS_BYTES);
         uint32_t sum = 0;
         for (size_t at = 0; at < STATION_RESULTS_BYTES; at++)
             sum = sum * 31 + results[at];
-        printf("%u %u %u\n", checked, ran, sum);
+        for (size_t at = 0; at < STATION_RESULTS_BYTES; at++)
+            sum = sum * 31 + others[at];
+        printf("%u %u %u %u\n", checked, ran, tried, sum);
         free(text);
         free(work);
         free(again);
+        free(third);
         free(results);
+        free(others);
     }
     return 0;
 }

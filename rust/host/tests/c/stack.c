@@ -2,7 +2,7 @@
  * pattern, and the lowest byte that changed tells how deep it went. What the
  * thread itself takes is measured by an empty call and taken off.
  *
- * stack STEPS FILE..: prints, for each file, the bytes of check and of run. */
+ * stack STEPS FILE..: prints, for each file, the bytes of check, run and trial. */
 #define _GNU_SOURCE
 #include "station.h"
 
@@ -36,6 +36,12 @@ static void *checked(void *unused)
 static void *ran(void *unused)
 {
     answer = station_run(text, len, work, sizeof work, steps, results, sizeof results);
+    return unused;
+}
+
+static void *tried(void *unused)
+{
+    answer = station_trial(text, len, work, sizeof work, steps, results, sizeof results);
     return unused;
 }
 
@@ -75,7 +81,8 @@ int main(int count, char **words)
         fclose(file);
         long of_check = depth(checked) - empty;
         long of_run = depth(ran) - empty;
-        printf("%ld %ld %s\n", of_check, of_run, words[i]);
+        long of_trial = depth(tried) - empty;
+        printf("%ld %ld %ld %s\n", of_check, of_run, of_trial, words[i]);
     }
     return 0;
 }

@@ -47,14 +47,17 @@ pub fn files(folder: &str, texts: impl IntoIterator<Item = Vec<u8>>) -> Vec<Path
     written.collect()
 }
 
-/// What `replay` and `guard` print of a text, by the model: what check and run return, and a sum of the results.
+/// What `replay` and `guard` print of a text, by the model: what check, run and trial return, and a sum of the results of both.
 pub fn expected(text: &[u8], steps: u32) -> String {
     let mut work = vec![0; limits::WORK_BYTES];
     let mut results = [0; limits::RESULTS_BYTES];
     let checked = model::check_call(text, &mut work);
-    let ran = model::run_call(text, &mut work, steps, &mut results);
     let add = |sum: u32, &byte: &u8| sum.wrapping_mul(31).wrapping_add(u32::from(byte));
-    format!("{checked} {ran} {}\n", results.iter().fold(0, add))
+    let ran = model::run_call(text, &mut work, steps, &mut results);
+    let sum = results.iter().fold(0, add);
+    let tried = model::trial_call(text, &mut work, steps, &mut results);
+    let sum = results.iter().fold(sum, add);
+    format!("{checked} {ran} {tried} {sum}\n")
 }
 
 /// Runs a program that prints a line for each text; each is the model's.

@@ -42,17 +42,34 @@ pub enum Call {
         work: usize,
     },
     Run {
+        by: Runs,
         work: usize,
         steps: u32,
         results: usize,
     },
 }
 
-/// A check and a run with areas of the right length.
+/// A call that runs a text.
+#[derive(Clone, Copy, Debug)]
+pub enum Runs {
+    Run,
+    Trial,
+}
+
+/// A check, a run and a trial with areas of the right length.
 pub const CHECK: Call = Call::Check { work: WORK_BYTES };
 
 pub fn run_of(steps: u32) -> Call {
+    run_by(Runs::Run, steps)
+}
+
+pub fn trial_of(steps: u32) -> Call {
+    run_by(Runs::Trial, steps)
+}
+
+fn run_by(by: Runs, steps: u32) -> Call {
     Call::Run {
+        by,
         work: WORK_BYTES,
         steps,
         results: RESULTS_BYTES,
@@ -130,6 +147,7 @@ impl Comparer {
                 )
             }
             Call::Run {
+                by,
                 work: len,
                 steps,
                 results: results_len,
@@ -138,9 +156,14 @@ impl Comparer {
                 let results = results.set(garbage, results_len).area();
                 let own_work = own_work.set(garbage, len).area();
                 let work = work.set(garbage, len).area();
+                type Ran = fn(&[u8], &mut [u8], u32, &mut [u8]) -> u32;
+                let (library, model): (Ran, Ran) = match by {
+                    Runs::Run => (calls::run, model::run_call),
+                    Runs::Trial => (calls::trial, model::trial_call),
+                };
                 (
-                    calls::run(&self.text, own_work, steps, own_results),
-                    model::run_call(text, work, steps, results),
+                    library(&self.text, own_work, steps, own_results),
+                    model(text, work, steps, results),
                 )
             }
         };
@@ -166,18 +189,21 @@ impl Comparer {
         }))
     }
 
-    /// Both calls; now and then with areas of another length, and with as many
-    /// steps as can be allowed where the run ends before them.
-    pub fn both(&mut self, text: &[u8], rng: &mut Rng) -> Result<(u32, u32), Box<Difference>> {
+    /// Check, run and trial; now and then with areas of another length, and with
+    /// as many steps as can be allowed where the trial ends before them.
+    pub fn every(&mut self, text: &[u8], rng: &mut Rng) -> Result<Answers, Box<Difference>> {
+        let steps = gen::steps(rng);
         let checked = self.call(text, CHECK)?;
-        let ran = self.call(text, run_of(gen::steps(rng)))?;
+        let ran = self.call(text, run_of(steps))?;
+        let tried = self.call(text, trial_of(steps))?;
         if rng.below(64) == 0 {
             self.wrong_lengths(text, rng)?;
         }
-        if ran / 65_536 != model::number::OUT_OF_STEPS && rng.below(8) == 0 {
+        if tried / 65_536 != model::number::OUT_OF_STEPS && rng.below(8) == 0 {
             self.call(text, run_of(u32::MAX))?;
+            self.call(text, trial_of(u32::MAX))?;
         }
-        Ok((checked, ran))
+        Ok([checked, ran, tried])
     }
 
     fn wrong_lengths(&mut self, text: &[u8], rng: &mut Rng) -> Result<(), Box<Difference>> {
@@ -191,14 +217,17 @@ impl Comparer {
         let results = other(rng, RESULTS_BYTES);
         let steps = gen::steps(rng);
         self.call(text, Call::Check { work })?;
-        self.call(
-            text,
-            Call::Run {
-                work,
-                steps,
-                results,
-            },
-        )?;
+        for by in [Runs::Run, Runs::Trial] {
+            self.call(
+                text,
+                Call::Run {
+                    by,
+                    work,
+                    steps,
+                    results,
+                },
+            )?;
+        }
         Ok(())
     }
 
@@ -289,22 +318,34 @@ pub const MUTATIONS: usize = 19;
 pub const NUMBERS: usize =
     nuyardi::EXPLANATIONS[nuyardi::EXPLANATIONS.len() - 1].number as usize + 1;
 
-/// How often each number came.
-pub type Counts = [u64; NUMBERS];
+/// What check, run and trial return.
+pub type Answers = [u32; 3];
+
+/// How often each number came from check, from run and from trial.
+pub type Counts = [[u64; NUMBERS]; 3];
+
+pub const NONE: Counts = [[0; NUMBERS]; 3];
+
+/// Counts added up.
+pub fn add(counts: &mut Counts, more: &Counts) {
+    for (count, more) in counts.iter_mut().flatten().zip(more.iter().flatten()) {
+        *count += more;
+    }
+}
 
 /// The text of a seed and its mutations, compared; counts by number.
 pub fn compare_seed(
     comparer: &mut Comparer,
     seed: u64,
-    checks: &mut Counts,
-    runs: &mut Counts,
+    counts: &mut Counts,
 ) -> Result<(), Box<Difference>> {
     let mut rng = Rng::new(!seed);
     let text = gen::text(seed);
     let mut compare = |rng: &mut Rng, text: &[u8]| -> Result<(), Box<Difference>> {
-        let (checked, ran) = comparer.both(text, rng)?;
-        checks[checked as usize / 65_536] += 1;
-        runs[ran as usize / 65_536] += 1;
+        let answers = comparer.every(text, rng)?;
+        for (counts, returned) in counts.iter_mut().zip(answers) {
+            counts[returned as usize / 65_536] += 1;
+        }
         Ok(())
     };
     compare(&mut rng, &text)?;
@@ -322,18 +363,18 @@ pub fn compare_seed(
 }
 
 /// Seeds compared by two threads; the texts are the same however they share them.
-pub fn compare_seeds(seeds: std::ops::Range<u64>) -> Result<(Counts, Counts), Box<Difference>> {
+pub fn compare_seeds(seeds: std::ops::Range<u64>) -> Result<Counts, Box<Difference>> {
     use std::sync::atomic::{AtomicU64, Ordering};
     let next = AtomicU64::new(seeds.start);
     let work = || {
         let mut comparer = Comparer::new(seeds.start);
-        let (mut checks, mut runs) = ([0; NUMBERS], [0; NUMBERS]);
+        let mut counts = NONE;
         loop {
             let seed = next.fetch_add(1, Ordering::Relaxed);
             if seed >= seeds.end {
-                return Ok((checks, runs));
+                return Ok(counts);
             }
-            if let Err(found) = compare_seed(&mut comparer, seed, &mut checks, &mut runs) {
+            if let Err(found) = compare_seed(&mut comparer, seed, &mut counts) {
                 next.store(seeds.end, Ordering::Relaxed);
                 return Err(comparer.reduced(found));
             }
@@ -343,10 +384,7 @@ pub fn compare_seeds(seeds: std::ops::Range<u64>) -> Result<(Counts, Counts), Bo
         let other = scope.spawn(work);
         (work(), other.join().expect("the other thread ends"))
     });
-    let ((mut checks, mut runs), (more_checks, more_runs)) = (one?, two?);
-    for at in 0..NUMBERS {
-        checks[at] += more_checks[at];
-        runs[at] += more_runs[at];
-    }
-    Ok((checks, runs))
+    let mut counts = one?;
+    add(&mut counts, &two?);
+    Ok(counts)
 }
