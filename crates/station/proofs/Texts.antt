@@ -169,7 +169,7 @@ Fits v = (v .0 < 65536) × (v .1 < 65536)
 pub fits-as : {v w : ℕ × ℕ} → w ≡ v → Fits v → Fits w
 fits-as e x = subst Fits (sym e) x
 
-refusal-small : (r : Answers.Refusal) → refusalNumber r < 65536
+pub refusal-small : (r : Answers.Refusal) → refusalNumber r < 65536
 refusal-small r = omega (arith, refusal-number r .1)
 
 stop-small : (s : Answers.Stop) → stopNumber s < 65536

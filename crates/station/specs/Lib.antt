@@ -1,3 +1,4 @@
 pub mod Station
 pub mod Demand
 pub mod Refusals
+pub mod Promises

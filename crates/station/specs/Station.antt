@@ -5,9 +5,11 @@ use mathlib.Core.List.{List}
 use Prim.Native.Nat.{ℕ}
 use lib.Dec.{eqb}
 use lib.ListN.{length}
-use Rattle.rules.specs.Limits.{work-bytes, results-bytes}
-use Rattle.rules.specs.Calls.{Result, refusedResult}
-use Rattle.rules.specs.Areas.{resultBytes, Checked, Ran}
+use Rattle.rules.specs.Limits.{work-bytes}
+use Rattle.rules.specs.Syntax.{Program}
+use Rattle.rules.specs.Bounds.{boundProgram}
+use Rattle.rules.specs.Calls.{Result, Bounds, refusedResult, boundNumbers}
+use Rattle.rules.specs.Areas.{resultBytes, boundBytes, Checked, Ran, Bounded}
 use Rattle.reader.specs.Readings.{Tabled}
 use Rattle.station.specs.declared.Reply.{Reply}
 
@@ -32,9 +34,18 @@ RunAs r f results work = (numbersIn f ≡ runNumbers r) × (results ≡ resultBy
 unfoldable pub unlessRefused : Reply → Result → Result
 unlessRefused f r = cond (eqb (f .number) 0) r (refusedResult (numbersIn f))
 
--- both areas have their lengths
-unfoldable pub areasFit : List ℕ → List ℕ → Bool
-areasFit work results = eqb (length work) work-bytes && eqb (length results) results-bytes
+-- what a bound answers, and what it leaves in the bounds area
+abbrev pub BoundAs : Bounds → Reply → List ℕ → Type 0
+BoundAs b f bounds = (numbersIn f ≡ (b .number, b .line)) × (bounds ≡ boundBytes b)
+
+-- what it answers of the program P, unless a refusal was found
+unfoldable pub boundFound : Reply → Program → Bounds
+boundFound f P =
+    cond (eqb (f .number) 0) (boundNumbers (boundProgram P)) (record { number = f .number; line = f .line; bound = 0; frames = 0 })
+
+-- the work area and another one, of n bytes, have their lengths
+unfoldable pub areasFit : List ℕ → List ℕ → ℕ → Bool
+areasFit work other n = eqb (length work) work-bytes && eqb (length other) n
 
 -- WHAT A CALL RETURNS, and leaves in each area
 abbrev pub CheckLeaves : Checked → ℕ → List ℕ → Type 0
@@ -42,3 +53,6 @@ CheckLeaves c r work = (r ≡ c .returned) × (work ≡ c .work)
 
 abbrev pub RunLeaves : Ran → ℕ → List ℕ → List ℕ → Type 0
 RunLeaves c r work results = (r ≡ c .returned) × (work ≡ c .work) × (results ≡ c .results)
+
+abbrev pub BoundLeaves : Bounded → ℕ → List ℕ → List ℕ → Type 0
+BoundLeaves c r work bounds = (r ≡ c .returned) × (work ≡ c .work) × (bounds ≡ c .bounds)

@@ -1,5 +1,8 @@
-// The calls that a host links, `check`, `run` and `trial`, and what the program prints. Each reads the text, checks or runs it, and
+// The calls that a host links, `check`, `run`, `trial` and `bound`, and what the program prints. Each reads the text, does its work, and
 // clears the work area.
+mod bounds;
+
+use bounds::bound_found;
 use check_entailment::Answer;
 use checker::Verdict;
 use machine::Ran;
@@ -17,7 +20,7 @@ ghost use Rattle.rules.specs.Reading.{readText};
 ghost use Rattle.rules.specs.Rules.{checkProgram};
 ghost use Rattle.rules.specs.Machine.{runProgram};
 ghost use Rattle.rules.specs.Calls.{verdictNumbers, checkText, wholeHeap, outcomeResult};
-ghost use Rattle.rules.specs.Areas.{packed, cleared, wordsBytes, checkCall, runCall, trialCall};
+ghost use Rattle.rules.specs.Areas.{packed, cleared, wordsBytes, checkCall, runCall, trialCall, boundCall};
 ghost use Rattle.rules.specs.Printed.{printed};
 ghost use Rattle.tables.specs.Decode.{programIn};
 ghost use Rattle.tables.specs.Tables.{Tables};
@@ -27,7 +30,7 @@ ghost use Rattle.checker.specs.Checked as Checker;
 ghost use Rattle.machine.specs.Runs.{mainValues};
 ghost use Rattle.printer.specs.Writes.{Prints};
 ghost use Rattle.printer.specs.Answers.{out-bytes};
-ghost use Rattle.station.specs.Station.{numbersIn, Found, RunAs, unlessRefused, areasFit, CheckLeaves, RunLeaves};
+ghost use Rattle.station.specs.Station.{numbersIn, Found, RunAs, unlessRefused, areasFit, CheckLeaves, RunLeaves, BoundLeaves};
 
 // A number of document 01's table, and the line that it goes with.
 pub struct Reply {
@@ -80,14 +83,14 @@ fn pack(f: Reply) -> u32
 
 // AREAS
 
-// Have the areas that run and trial are lent their lengths?
-fn areas_fit(work: &[u8], results: &[u8]) -> bool
-    ensures { λ r. ⌜ r ≡ areasFit (now (work .entry)) (now (results .entry)) ⌝ }
+// Have the work area and another one, of so many bytes, their lengths?
+fn areas_fit(work: &[u8], other: &[u8], bytes: usize) -> bool
+    ensures { λ r. ⌜ r ≡ areasFit (now (work .entry)) (now (other .entry)) bytes ⌝ }
 {
     if work.len() != Machine::WORK_BYTES {
         return false;
     }
-    results.len() == Machine::RESULTS_BYTES
+    other.len() == bytes
 }
 
 // All bytes 0.
@@ -198,7 +201,7 @@ fn run_found(found: Reply, work: &mut [u8], steps: u32, results: &mut [u8]) -> R
 pub extern "C" fn run(text: &[u8], work: &mut [u8], steps: u32, results: &mut [u8]) -> u32
     ensures { λ r. ⌜ RunLeaves (runCall (now (text .entry)) (now (work .entry)) steps (now (results .entry))) r (now (work .exit)) (now (results .exit)) ⌝ }
 {
-    if !areas_fit(work, results) {
+    if !areas_fit(work, results, Machine::RESULTS_BYTES) {
         return Reply::WRONG_LENGTH;
     }
     let found = check_text(text, work);
@@ -227,11 +230,28 @@ fn read_text(text: &[u8], work: &mut [u8]) -> Reply
 pub extern "C" fn trial(text: &[u8], work: &mut [u8], steps: u32, results: &mut [u8]) -> u32
     ensures { λ r. ⌜ RunLeaves (trialCall (now (text .entry)) (now (work .entry)) steps (now (results .entry))) r (now (work .exit)) (now (results .exit)) ⌝ }
 {
-    if !areas_fit(work, results) {
+    if !areas_fit(work, results, Machine::RESULTS_BYTES) {
         return Reply::WRONG_LENGTH;
     }
     let found = read_text(text, work);
     let f = run_found(found, work, steps, results);
+    clear(work);
+    pack(f)
+}
+
+// BOUND
+
+// How many steps can an accepted script take, and how many frames? The number and line as for check; main's bound and the most frames on a
+// route of calls in `bounds`.
+#[no_mangle]
+pub extern "C" fn bound(text: &[u8], work: &mut [u8], bounds: &mut [u8]) -> u32
+    ensures { λ r. ⌜ BoundLeaves (boundCall (now (text .entry)) (now (work .entry)) (now (bounds .entry))) r (now (work .exit)) (now (bounds .exit)) ⌝ }
+{
+    if !areas_fit(work, bounds, Machine::BOUNDS_BYTES) {
+        return Reply::WRONG_LENGTH;
+    }
+    let found = check_text(text, work);
+    let f = bound_found(found, work, bounds);
     clear(work);
     pack(f)
 }

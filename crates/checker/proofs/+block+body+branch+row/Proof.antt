@@ -30,8 +30,8 @@ use Rattle.checker.proofs.parts.passed.Reads as passed-reads
 use Rattle.checker.proofs.parts.return_at.Reads as return-at-reads
 use Rattle.checker.proofs.parts.stopped.Reads as stopped-reads
 use Rattle.checker.proofs.parts.turned.Reads as turned-reads
-use Rattle.tables.proofs.columns.is_closing_at.Reads as is-closing-at-reads
-use Rattle.tables.proofs.columns.kind_at.Reads as kind-at-reads
+use Rattle.tables.proofs.is_closing_at.Reads as is-closing-at-reads
+use Rattle.tables.proofs.kind_at.Reads as kind-at-reads
 use Rattle.checker.proofs.+block+body+branch+row.{statement}
 use Rattle.checker.proofs.+block+body+branch+row.Tie.{close}
 
