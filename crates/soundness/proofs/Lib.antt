@@ -22,6 +22,7 @@ pub mod NamesInScope
 pub mod ItemsFormed
 pub mod FieldsDiffer
 pub mod ReadFormed
+pub mod ReadRefuses
 pub mod RulesRefuse
 pub mod RequiresAdded
 pub mod RefusedAtALine

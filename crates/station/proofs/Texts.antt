@@ -15,8 +15,7 @@ use Rattle.rules.specs.Rules.{checkProgram}
 use Rattle.rules.specs.Machine.{runProgram}
 use Rattle.rules.specs.Calls.{Result, checkItems, verdictNumbers, checkText, wholeHeap, outcomeResult, refusedResult, runItems, trialText, runText}
 use Rattle.rules.specs.Areas.{cleared, wordBytes, wordsBytes, resultBytes}
-use Rattle.rules.specs.Demand.{IsRefusal}
-use Rattle.soundness.proofs.Demand3.{refusal-number, same-from-both, check-decides}
+use Rattle.soundness.proofs.Demand3.{refusal-not-zero, same-from-both, check-decides}
 use Rattle.tables.specs.Decode.{programIn}
 use Rattle.reader.specs.declared.Refusal as Reasons
 use Rattle.reader.specs.declared.Reading.{Reading}
@@ -45,7 +44,7 @@ module _ (t w : List ℕ) (r : Reading) (x : ReadingIs t w r) where
 
 -- a number that refuses is not 0
 pub none-taken : {A : Type 0} (r : Answers.Refusal) {n : ℕ} → n ≡ refusalNumber r → n ≡ 0 → A
-none-taken r i e = absurd (omega (arith, refusal-number r .0, i, e))
+none-taken r i e = absurd (refusal-not-zero r (sym i ∙ e))
 
 pub refused-read :
     (t : List ℕ) {r : Answers.Refusal} {n l : ℕ} → n ≡ refusalNumber r → readText t ≡ refused r l → (n, l) ≡ verdictNumbers (readText t)
@@ -97,15 +96,15 @@ taken-ran k x = rw (x .read, ← x .program)
 -- a text that the reader refuses, or takes
 read-decides :
     (t : List ℕ) (k : ℕ) →
-    (IsRefusal (verdictNumbers (readText t) .0) × (trialText t k ≡ refusedResult (verdictNumbers (readText t)))) ⊎ (verdictNumbers (readText t) ≡ (0, 0))
+    ((verdictNumbers (readText t) .0 ≡ 0 → ⊥) × (trialText t k ≡ refusedResult (verdictNumbers (readText t)))) ⊎ (verdictNumbers (readText t) ≡ (0, 0))
 unfolding trialText runItems verdictNumbers
 read-decides t k = go (readText t) refl
   where
     go :
         (v : Verdict (List Item)) → readText t ≡ v →
-        (IsRefusal (verdictNumbers (readText t) .0) × (trialText t k ≡ refusedResult (verdictNumbers (readText t)))) ⊎ (verdictNumbers (readText t) ≡ (0, 0))
+        ((verdictNumbers (readText t) .0 ≡ 0 → ⊥) × (trialText t k ≡ refusedResult (verdictNumbers (readText t)))) ⊎ (verdictNumbers (readText t) ≡ (0, 0))
     go (accepted items) e = inr (rw e refl)
-    go (refused r l) e = inl (rw e (refusal-number r, refl))
+    go (refused r l) e = inl (rw e (refusal-not-zero r, refl))
 
 module _ (f : Reply) (r : Result) where
   pub found-none : f .number ≡ 0 → unlessRefused f r ≡ r
@@ -131,10 +130,10 @@ tablesRun w k = outcomeResult (runProgram wholeHeap (programIn w) k)
 
 -- with what was found of a text it is what trial answers, or run
 module _ {t w : List ℕ} {f : Reply} (k : ℕ) where
-  by-refusal : {v : ℕ × ℕ} {r : Result} → Found v t f w → IsRefusal (v .0) → r ≡ refusedResult v → unlessRefused f (tablesRun w k) ≡ r
+  by-refusal : {v : ℕ × ℕ} {r : Result} → Found v t f w → (v .0 ≡ 0 → ⊥) → r ≡ refusedResult v → unlessRefused f (tablesRun w k) ≡ r
   by-refusal {v = v} F i e =
       let n : f .number ≡ v .0 = ap (λ (p : ℕ × ℕ). p .0) (F .numbers) in
-      found-refusal f _ (λ z. omega (arith, i .0, n, z)) ∙ (ap refusedResult (F .numbers) ∙ sym e)
+      found-refusal f _ (λ z. i (sym n ∙ z)) ∙ (ap refusedResult (F .numbers) ∙ sym e)
 
   by-tables : {v : ℕ × ℕ} → Found v t f w → v ≡ (0, 0) → unlessRefused f (tablesRun w k) ≡ trialText t k
   by-tables F e =
@@ -146,7 +145,7 @@ module _ {t w : List ℕ} {f : Reply} (k : ℕ) where
 
   pub found-run : Found (checkText t) t f w → unlessRefused f (tablesRun w k) ≡ runText t k
   found-run F =
-      ⊎-elim (λ r. by-refusal F (r .number) (r .answer))
+      ⊎-elim (λ r. by-refusal F (λ z. omega (arith, r .number .0, z)) (r .answer))
       (λ e. by-tables F e ∙ sym (same-from-both t (ap (λ (p : ℕ × ℕ). p .0) e) k))
       (check-decides t k)
 
@@ -168,7 +167,20 @@ pub fits-as : {v w : ℕ × ℕ} → w ≡ v → Fits v → Fits w
 fits-as e x = subst Fits (sym e) x
 
 refusal-small : (r : Answers.Refusal) → refusalNumber r < 65536
-refusal-small r = omega (arith, refusal-number r .1)
+unfolding refusalNumber
+refusal-small Answers.textTooLong = omega arith
+refusal-small Answers.badByte = omega arith
+refusal-small Answers.malformed = omega arith
+refusal-small Answers.limitPassed = omega arith
+refusal-small Answers.undeclared = omega arith
+refusal-small Answers.wrongType = omega arith
+refusal-small Answers.textEnds = omega arith
+refusal-small Answers.wrongTarget = omega arith
+refusal-small Answers.unframed = omega arith
+refusal-small Answers.unresolved = omega arith
+refusal-small Answers.noPermission = omega arith
+refusal-small Answers.notShown = omega arith
+refusal-small Answers.stateFull = omega arith
 
 stop-small : (s : Answers.Stop) → stopNumber s < 65536
 unfolding stopNumber
