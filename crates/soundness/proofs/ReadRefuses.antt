@@ -2,7 +2,7 @@
 use mathlib.Core.Path.{_≡_, subst}
 use mathlib.Core.Bool.{Bool, true, false, cond}
 use mathlib.Core.List.{List, [], _∷_}
-use Prim.Native.Nat.{ℕ, suc}
+use Prim.Native.Nat.{ℕ, suc, _≤_}
 use lib.Dec.{ltb}
 use lib.ListN.{length}
 use Rattle.rules.specs.Base.{Name, Try}
@@ -14,7 +14,6 @@ use Rattle.rules.specs.Places.{Place, placeLine, scanLine, scanLines, ended, fi
 use Rattle.rules.specs.Scope.{Declarations, Scope, declarations, firstScope, scopeAfter}
 use Rattle.rules.specs.Items.{Item, resolveLine, resolveLines}
 use Rattle.rules.specs.Reading.{readText}
-use Rattle.rules.specs.Demand.{IsRefusal}
 use Rattle.soundness.proofs.Refusing.{OfPart, Refuses, reading, yes, for, bind, tested, or-else, two, three, four, five, six, seven, eight, nine, reading-number}
 
 -- LINES
@@ -72,8 +71,8 @@ text-read t =
     either (ltb most-bytes (length t)) (not-taken two)
     (and-then (lines-scanned (lines t) 0 firstPlace) (λ ls. lines-resolved (declarations ls) ls 0 firstScope))
 
-pub read-refused : (t : List ℕ) (r : Refusal) (l : ℕ) → readText t ≡ refused r l → IsRefusal (refusalNumber r)
+pub read-refused : (t : List ℕ) (r : Refusal) (l : ℕ) → readText t ≡ refused r l → (2 ≤ refusalNumber r) × (refusalNumber r ≤ 9)
 read-refused t r l e = number (subst Read e (text-read t))
   where
-    number : Read {A = List Item} (refused r l) → IsRefusal (refusalNumber r)
+    number : Read {A = List Item} (refused r l) → (2 ≤ refusalNumber r) × (refusalNumber r ≤ 9)
     number (not-taken o) = reading-number o

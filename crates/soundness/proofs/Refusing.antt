@@ -1,12 +1,12 @@
 -- With which refusals a part of the check refuses: the reader with 2 to 9, number 10 and the rules with 10 to 14.
 use mathlib.Core.Bool.{Bool, true, false}
 use mathlib.Core.Option.{Option, none, some}
+use Prim.Native.Nat.{_≤_}
 use native.Mathlib.Omega.{arith}
 use Rattle.rules.specs.Base.{Try, ok, no, _>>=_, _>>_, check, orElse}
 use Rattle.rules.specs.Answers.{Refusal, refusalNumber}
 use Rattle.rules.specs.Answers.{textTooLong, badByte, malformed, limitPassed, undeclared, wrongType, textEnds, wrongTarget, unframed, unresolved, noPermission, notShown, stateFull}
 use Rattle.rules.specs.Refusals.{FromRules}
-use Rattle.rules.specs.Demand.{IsRefusal}
 
 pub data Part : Type 0 where
   reading rules : Part
@@ -27,7 +27,7 @@ pub data OfPart : Part → Refusal → Type 0 where
   thirteen : OfPart rules notShown
   fourteen : OfPart rules stateFull
 
-pub reading-number : {r : Refusal} → OfPart reading r → IsRefusal (refusalNumber r)
+pub reading-number : {r : Refusal} → OfPart reading r → (2 ≤ refusalNumber r) × (refusalNumber r ≤ 9)
 unfolding refusalNumber
 reading-number two = (omega arith, omega arith)
 reading-number three = (omega arith, omega arith)

@@ -3,12 +3,12 @@ use mathlib.Core.Bool.{Bool, true, false, cond}
 use mathlib.Core.List.{List, [], _∷_}
 use mathlib.Core.Option.{Option, none, some}
 use Prim.Native.Nat.{ℕ}
-use Rattle.rules.specs.Base.{Try, ok, no, _>>=_, _>>_, check, orElse}
+use Rattle.rules.specs.Base.{Try}
 use Rattle.rules.specs.Answers.{Refusal}
 use Rattle.rules.specs.Syntax.{Rel, Formula, Simple, Field, Program, same, eq, num, null, var, path, acc, cmp, set, assign, compute, new, call, assert, release, result-variable}
 use Rattle.rules.specs.State.{Term, State, Permission, Equality, Shown, empty, resolve, showFrom, show, addPermission, addFact, add}
 use Rattle.rules.specs.Rules.{addEqual, assignRule, addFields, addInitial, newRule, setRule, callRule, ifRule, returnRule, End, showEnd, joinRule, loopRule, rule}
-use Rattle.soundness.proofs.Refusing.{Refuses, rules, yes, for, bind, tested, or-else, eleven, twelve, thirteen, fourteen}
+use Rattle.soundness.proofs.Refusing.{Refuses, rules, yes, bind, tested, or-else, eleven, twelve, thirteen, fourteen}
 
 abbrev pub Ruled : {A : Type 0} → Try Refusal A → Type 0
 Ruled x = Refuses rules x

@@ -107,7 +107,7 @@ read-decides t k = go (readText t) refl
         (v : Verdict (List Item)) → readText t ≡ v →
         (IsRefusal (verdictNumbers (readText t) .0) × (trialText t k ≡ refusedResult (verdictNumbers (readText t)))) ⊎ (verdictNumbers (readText t) ≡ (0, 0))
     go (accepted items) e = inr (rw e refl)
-    go (refused r l) e = inl (rw e (read-refused t r l e, refl))
+    go (refused r l) e = let (a, b) = read-refused t r l e in inl (rw e ((a, omega (arith, b)), refl))
 
 module _ (f : Reply) (r : Result) where
   pub found-none : f .number ≡ 0 → unlessRefused f r ≡ r
