@@ -891,7 +891,7 @@ fn calls_and_ends_in_a_run() {
     );
     assert_eq!(ran(&kept, 9), (0, 15, 5));
     // Without a return the result is null; a new object can be handed back.
-    assert_eq!(model::run(&kept, 9).values[..3], [1, 0, 0]);
+    assert_eq!(model::trial(&kept, 9).values[..3], [1, 0, 0]);
     let made = source(
         "",
         "acc result n ne result null",
@@ -907,13 +907,13 @@ fn calls_and_ends_in_a_run() {
     );
     assert_eq!(check(&made), (12, 18));
     assert_eq!(ran(&made, 99), (24, 18, 5));
-    assert_eq!(model::run(&made, 99).values[..3], [1, 0, 2]);
+    assert_eq!(model::trial(&made, 99).values[..3], [1, 0, 2]);
     // W2: "`return x` sets the result, tests ensures and goes back to the
     // caller in one step."
     let once = |line: &str| source("", "eq result this", line, "new s S\ncall r s m t");
     let right = once("return this\n");
     assert_eq!(check(&right), (0, 0));
-    assert_eq!(model::run(&right, 99).values[..3], [1, 0, 1]);
+    assert_eq!(model::trial(&right, 99).values[..3], [1, 0, 1]);
     assert_eq!(ran(&right, 99), (0, 15, 4));
     let wrong = once("return w\n");
     assert_eq!(check(&wrong), (13, 7));
