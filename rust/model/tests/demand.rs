@@ -1,6 +1,6 @@
-//! Demand 3, over the generator's texts: accepted texts stop with 0, 21, 22,
-//! 23 or 27 alone, and during a call the fields of older objects that are not handed
-//! over keep their values. The second holds for every text that runs.
+//! Demand 3, over the generator's texts: accepted texts stop with 0, 21, 22, 23
+//! or 27 alone, and during a call the fields of older objects that are not
+//! handed over keep their values. The second holds for every text that runs.
 
 mod common;
 

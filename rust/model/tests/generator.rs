@@ -277,7 +277,7 @@ fn every_number_of_a_loop_occurs() {
 #[test]
 fn every_stop_of_a_loop_occurs() {
     let mut stops: BTreeMap<u32, u32> = BTreeMap::new();
-    for seed in 0..10_000 {
+    for seed in 0..6_000 {
         let text = gen::text(0x3700_0000 + seed);
         let stop = trial(&text, 2_000);
         if stop.number > 21 && word_at(&text, stop.line) == Some(b"loop") {
@@ -315,7 +315,7 @@ fn every_number_of_bound_occurs() {
     let mut numbers: BTreeMap<u32, u32> = BTreeMap::new();
     let (mut loops, mut rings) = (0, [0; 5]);
     let (mut near, mut passed, mut longest) = (0, 0, 0);
-    for seed in 0..10_000 {
+    for seed in 0..6_000 {
         let text = gen::text(0x3800_0000 + seed);
         let found = bound(&text);
         *numbers.entry(found.number).or_insert(0) += 1;
