@@ -1,4 +1,4 @@
-/* Catalogue scripts: check, run and bound, the functions of libnuyardi.a.
+/* Catalogue scripts: check, run, trial and bound, the functions of libnuyardi.a.
  *
  * Each returns number * 65536 + line (STATION_NUMBER, STATION_LINE). For every
  * content of the text and of the areas, number, line and every byte of the areas
@@ -82,15 +82,24 @@ enum station_number {
 uint32_t station_check(const uint8_t *text, size_t text_len,
                        uint8_t *work, size_t work_len);
 
-/* Runs main for at most so many steps. Returns number 0, 1 to 9 or 21 to 27 with
- * the line; 24 to 26 only for a text that station_check refuses. The results area
- * then holds the steps taken (unsigned) and the values (signed; an object is its
- * number from 1, null is 0), 4 bytes each, low byte first; all zero for the
- * numbers 2 to 9. */
+/* Checks the text, and if it is accepted runs main for at most so many steps.
+ * Returns what station_check does, 1 to 14, or 0, 21, 22, 23 or 27 with the line:
+ * never 24, 25 or 26, whatever the text. The results area then holds the steps
+ * taken (unsigned) and the values (signed; an object is its number from 1, null is
+ * 0), 4 bytes each, low byte first; all zero for the numbers 2 to 14. */
 uint32_t station_run(const uint8_t *text, size_t text_len,
                      uint8_t *work, size_t work_len,
                      uint32_t steps,
                      uint8_t *results, size_t results_len);
+
+/* Runs main as station_run does, without checking the text before: for trying out
+ * a text that station_check may refuse. Returns 0, 1 to 9 or 21 to 27 with the
+ * line; the results area as after station_run, all zero for the numbers 2 to 9. A
+ * text that station_check accepts gets the same from both. */
+uint32_t station_trial(const uint8_t *text, size_t text_len,
+                       uint8_t *work, size_t work_len,
+                       uint32_t steps,
+                       uint8_t *results, size_t results_len);
 
 /* The most that a run of main can take, known before it. The bounds area then
  * holds the steps and the frames (both unsigned), 4 bytes each, low byte first.

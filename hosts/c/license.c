@@ -29,12 +29,11 @@ int main(int count, char **words)
     size_t len = fread(text, 1, sizeof text, file);
     fclose(file);
 
-    uint32_t checked = station_check(text, len, work, sizeof work);
-    if (STATION_NUMBER(checked) != STATION_DONE) {
-        printf("refused: number %u at line %u\n", STATION_NUMBER(checked), STATION_LINE(checked));
+    uint32_t ran = station_run(text, len, work, sizeof work, 1000, results, sizeof results);
+    if (STATION_NUMBER(ran) != STATION_DONE && STATION_NUMBER(ran) < STATION_OUT_OF_STEPS) {
+        printf("refused: number %u at line %u\n", STATION_NUMBER(ran), STATION_LINE(ran));
         return 1;
     }
-    uint32_t ran = station_run(text, len, work, sizeof work, 1000, results, sizeof results);
     printf("number %u at line %u after %u steps:", STATION_NUMBER(ran), STATION_LINE(ran), word(0));
     for (int at = 1; at <= STATION_VALUES; at++)
         printf(" %d", (int32_t)word(at));

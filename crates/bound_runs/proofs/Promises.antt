@@ -15,7 +15,7 @@ use Rattle.rules.specs.Items.{Item}
 use Rattle.rules.specs.Reading.{readText, program}
 use Rattle.rules.specs.Machine.{ends}
 use Rattle.rules.specs.Bounds.{mainBound, mainFrames, firstRepeating, boundOf, boundProgram}
-use Rattle.rules.specs.Calls.{checkItems, wholeHeap, outcomeResult, runItems, runText, boundItems, boundNumbers, boundText}
+use Rattle.rules.specs.Calls.{checkItems, checkedItems, wholeHeap, outcomeResult, runItems, runText, boundItems, boundNumbers, boundText}
 use Rattle.rules.specs.Runs.{Run, outcome, depth}
 use Rattle.rules.proofs.Tries.{then-accepted, accepted-inj, refused-accepted, refusal-not-zero}
 use Rattle.rules.proofs.Counting.{run-listed}
@@ -37,10 +37,11 @@ methods-nested P [] B n = ([], past (P .rows), tt)
 methods-nested P (M ∷ Ms) B zero = ([], nests-more [] (drop (M .first) (P .rows)) (B .0), tt)
 methods-nested P (M ∷ Ms) B (suc n) = methods-nested P Ms (B .1) n
 
--- A BOUND THAT IS GIVEN: the text is read, no line is refused, and the bound is main's
+-- A BOUND THAT IS GIVEN: the text is read and accepted, no line is refused, and the bound is main's
 record Given (t : List ℕ) : Type 0 where
   items : List Item
   is-read : readText t ≡ accepted items
+  is-checked : checkItems items ≡ accepted tt
   none-repeats : firstRepeating (program items) ≡ none
   is-bound : boundText t .bound ≡ mainBound (program items)
   is-frames : boundText t .frames ≡ mainFrames (program items)
@@ -69,14 +70,15 @@ unfolding boundText boundNumbers boundItems boundProgram
 given t e = go (then (readText t) boundItems) refl e
   where
     go : (v : Verdict (ℕ × ℕ)) → then (readText t) boundItems ≡ v → boundNumbers v .number ≡ 0 → Given t
-    go (refused r l) q n = absurd (refusal-not-zero r n)
+    go (refused r l) q n = refusal-not-zero r n
     go (accepted b) q n =
         let (items, r, c) = then-accepted (readText t) boundItems b q in
-        let (_, _, f) = then-accepted (checkItems items) (λ u. boundProgram (program items)) b c in
+        let (_, checked, f) = then-accepted (checkItems items) (λ u. boundProgram (program items)) b c in
         let M : Main (program items) b = main-given (program items) (firstRepeating (program items)) refl b f in
         record {
           items = items;
           is-read = r;
+          is-checked = checked;
           none-repeats = M .none-repeats;
           is-bound = ap (λ (v : Verdict (ℕ × ℕ)). boundNumbers v .bound) q ∙ M .is-bound;
           is-frames = ap (λ (v : Verdict (ℕ × ℕ)). boundNumbers v .frames) q ∙ M .is-frames;
@@ -107,8 +109,8 @@ module _ (t : List ℕ) (e : boundText t .number ≡ 0) where
   main-nested = ([], nests-more [] (drop (P .main) (P .rows)) (read-blocks t (given t e .items) (given t e .is-read) .1), tt)
 
   answers : (k : ℕ) → runText t k ≡ outcomeResult (outcome wholeHeap P (run-listed wholeHeap P k .0))
-  unfolding runText runItems
-  answers k = rw (given t e .is-read) (ap outcomeResult (run-listed wholeHeap P k .1))
+  unfolding runText runItems checkedItems then
+  answers k = rw (given t e .is-read, given t e .is-checked) (ap outcomeResult (run-listed wholeHeap P k .1))
 
   never : (k : ℕ) → runText t k .steps ≤ boundText t .bound
   unfolding outcomeResult outcome ends

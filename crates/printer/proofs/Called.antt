@@ -1,4 +1,4 @@
--- By what the two calls return and leave, what is printed is what document 01 says.
+-- By what check and trial return and leave, what is printed is what document 01 says.
 use mathlib.Core.Path.{_≡_, refl, sym, ap, ap₂, _∙_}
 use mathlib.Core.List.{List, [], _∷_, _++_}
 use Prim.Native.Nat.{ℕ, zero, suc, _+_, _*_, _/_, _<_}
@@ -7,7 +7,7 @@ use native.Mathlib.Nat.{mod-eq-of-lt, div-add-mod', div-div-eq-div-mul}
 use lib.ListN.{length, getD}
 use lib.Seq.{getD-append-add}
 use Rattle.rules.specs.Limits.{program-steps, values-shown}
-use Rattle.rules.specs.Calls.{Result, checkText, runText}
+use Rattle.rules.specs.Calls.{Result, checkText, trialText}
 use Rattle.rules.specs.Areas.{packed, wordBytes, wordsBytes, resultBytes}
 use Rattle.rules.specs.Printed.{printed}
 use Rattle.tables.specs.Decode.{wordAt}
@@ -63,14 +63,14 @@ words-of (w ∷ ws) h =
 -- with k steps allowed lines fit 16 bits, steps and values 32
 pub record AnswersFit (t : List ℕ) (k : ℕ) : Type 0 where
   pub check-line : checkText t .1 < 65536
-  pub run-line : runText t k .line < 65536
-  pub steps : runText t k .steps < 4294967296
-  pub shown : length (runText t k .values) ≡ values-shown
-  pub values : (i : ℕ) → getD (runText t k .values) i 0 < 4294967296
+  pub trial-line : trialText t k .line < 65536
+  pub steps : trialText t k .steps < 4294967296
+  pub shown : length (trialText t k .values) ≡ values-shown
+  pub values : (i : ℕ) → getD (trialText t k .values) i 0 < 4294967296
 
 module _ (t : List ℕ) (checked ran : ℕ) (b : List ℕ) (f : AnswersFit t program-steps) (c : Called t checked ran b) where
   abbrev R : Result
-  R = runText t program-steps
+  R = trialText t program-steps
 
   check-number : numberIn checked ≡ checkText t .0
   check-number = ap (λ k. numberIn k) (c .check) ∙ number-packed _ _ (f .check-line)
@@ -81,8 +81,8 @@ module _ (t : List ℕ) (checked ran : ℕ) (b : List ℕ) (f : AnswersFit t pro
   result-is : resultIn ran b ≡ R
   unfolding resultIn resultBytes wordsBytes
   result-is =
-      let n : numberIn ran ≡ R .number = ap (λ k. numberIn k) (c .run) ∙ number-packed _ _ (f .run-line) in
-      let l : lineIn ran ≡ R .line = ap (λ k. lineIn k) (c .run) ∙ line-packed _ _ (f .run-line) in
+      let n : numberIn ran ≡ R .number = ap (λ k. numberIn k) (c .trial) ∙ number-packed _ _ (f .trial-line) in
+      let l : lineIn ran ≡ R .line = ap (λ k. lineIn k) (c .trial) ∙ line-packed _ _ (f .trial-line) in
       let s : wordAt b 0 ≡ R .steps = ap (λ a. wordAt a 0) (c .results) ∙ word-first (R .steps) (wordsBytes (R .values)) (f .steps) in
       let v : wordsFrom 12 4 b ≡ R .values =
       ap (wordsFrom 12 4) (c .results)

@@ -1,4 +1,4 @@
--- What is printed, by what the two calls return and the bytes of the results area.
+-- What is printed, by what check and trial return and the bytes of the results area.
 use mathlib.Core.Path.{_≡_}
 use mathlib.Core.Bool.{false, cond}
 use mathlib.Core.List.{List, [], _∷_, _++_}
@@ -8,7 +8,7 @@ use Rattle.rules.specs.Limits.{values-shown, program-steps}
 use Rattle.rules.specs.Answers.{accepted}
 use Rattle.rules.specs.Items.{Item}
 use Rattle.rules.specs.Reading.{readText}
-use Rattle.rules.specs.Calls.{Result, checkText, runText}
+use Rattle.rules.specs.Calls.{Result, checkText, trialText}
 use Rattle.rules.specs.Areas.{packed, resultBytes}
 use Rattle.rules.specs.Printed.{digits, signed, printedLine, mainVariables, printedRun}
 use Rattle.tables.specs.Decode.{wordAt}
@@ -33,7 +33,7 @@ lineIn r = r % 65536
 abbrev pub valuesIn : List ℕ → List ℕ
 valuesIn b = wordsFrom values-shown 4 b
 
--- what `run` returned and left in the results area
+-- what `trial` returned and left in the results area
 unfoldable pub resultIn : ℕ → List ℕ → Result
 resultIn ran b =
     record { number = numberIn ran; line = lineIn ran; steps = wordAt b 0; values = valuesIn b }
@@ -62,8 +62,8 @@ ReadUnless t checked = between 1 9 (numberIn checked) ≡ false → (items : Lis
 
 -- WHAT THE CALLS GIVE
 
--- Both calls returned, and `run` left its results.
+-- Both calls returned, and `trial` left its results.
 pub record Called (t : List ℕ) (checked ran : ℕ) (b : List ℕ) : Type 0 where
   pub check : checked ≡ packed (checkText t .0) (checkText t .1)
-  pub run : ran ≡ packed (runText t program-steps .number) (runText t program-steps .line)
-  pub results : b ≡ resultBytes (runText t program-steps)
+  pub trial : ran ≡ packed (trialText t program-steps .number) (trialText t program-steps .line)
+  pub results : b ≡ resultBytes (trialText t program-steps)

@@ -209,7 +209,7 @@ fn is_unread(n: u32) -> bool
     n <= 9
 }
 
-// What the program prints for a text, by what the two calls return and the results of `run`; how many bytes.
+// What the program prints for a text, by what check and trial return and what trial leaves in results; how many bytes.
 pub fn print(text: &[u8], out: &mut [u8], checked: u32, ran: u32, results: &[u8]) -> usize
     requires { ⌜ (length (now out) ≡ out-bytes) × (length (now results) ≡ results-bytes) × ReadUnless (now text) checked ⌝ }
     ensures { λ r. ⌜ Prints (printedAnswers (now (text .entry)) checked ran (now (results .entry))) (now (out .exit)) r ⌝ }

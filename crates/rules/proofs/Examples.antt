@@ -9,7 +9,7 @@ use lib.Dec.{T, eqb}
 use lib.ListN.{length, getD}
 use Rattle.rules.specs.Base.{bytes, update, eqName, all}
 use Rattle.rules.specs.Text.{tab, line-feed}
-use Rattle.rules.specs.Calls.{Result, Bounds, checkText, runText, boundText, computing}
+use Rattle.rules.specs.Calls.{Result, Bounds, checkText, runText, trialText, boundText, computing}
 use Rattle.rules.specs.Printed.{printed}
 use Rattle.rules.specs.Printed as Printed
 use Rattle.rules.proofs.Lists.{and-both, same-name}
@@ -276,6 +276,10 @@ leaving l =
     "end" ∷
     []
 
+-- ensures reads `this.n` before its `acc`
+pub unframed : List String
+unframed = withLine 6 "ensures eq this.n k acc this n" worked
+
 -- 7 (an int and null) and 6 (x) on one line
 pub lower : List String
 lower = "main" ∷ "var int a" ∷ "assert eq a null eq x 1" ∷ "end" ∷ []
@@ -309,13 +313,18 @@ tens ls =
 pub data Call : Type 0 where
   check : Call
   run : ℕ → Call
+  trial : ℕ → Call
   bound : Call
   print : Call
+
+pub shown : Result → List ℕ
+shown r = r .number ∷ r .line ∷ r .steps ∷ r .values
 
 -- number and line; of a run also the steps and the values; of a bound also the frames; of the program what it prints
 pub answer : List ℕ → Call → List ℕ
 answer t check = let v : ℕ × ℕ = checkText t in v .0 ∷ v .1 ∷ []
-answer t (run k) = let r : Result = runText t k in r .number ∷ r .line ∷ r .steps ∷ r .values
+answer t (run k) = shown (runText t k)
+answer t (trial k) = shown (trialText t k)
 answer t bound = let b : Bounds = boundText t in b .number ∷ b .line ∷ b .bound ∷ b .frames ∷ []
 answer t print = printed t
 
@@ -337,9 +346,9 @@ rows =
     row worked (run 1000) (0 ∷ 19 ∷ 8 ∷ three 1 7 7) ∷
     row worked print (text ("check 0 0" ∷ "run 0 19 8" ∷ "var s 1" ∷ "var a 7" ∷ "var b 7" ∷ [])) ∷
     row (withLine 5 "requires" worked) check (12 ∷ 7 ∷ []) ∷
-    row (withLine 5 "requires" worked) (run 1000) (24 ∷ 7 ∷ 3 ∷ three 1 7 0) ∷
+    row (withLine 5 "requires" worked) (trial 1000) (24 ∷ 7 ∷ 3 ∷ three 1 7 0) ∷
     row (withLine 17 "assert eq s.n 8" worked) check (13 ∷ 17 ∷ []) ∷
-    row (withLine 17 "assert eq s.n 8" worked) (run 1000) (26 ∷ 17 ∷ 5 ∷ three 1 7 7) ∷
+    row (withLine 17 "assert eq s.n 8" worked) (trial 1000) (26 ∷ 17 ∷ 5 ∷ three 1 7 7) ∷
     row worked (run 7) (21 ∷ 19 ∷ 7 ∷ three 1 7 7) ∷
     row worked (run 8) (0 ∷ 19 ∷ 8 ∷ three 1 7 7) ∷
     row worked (run 0) (21 ∷ 14 ∷ 0 ∷ three 0 0 0) ∷
@@ -355,7 +364,7 @@ rows =
     row alias check (0 ∷ 0 ∷ []) ∷
     row acrossCall check (13 ∷ 15 ∷ []) ∷
     row twice check (12 ∷ 11 ∷ []) ∷
-    row twice (run 1000) (24 ∷ 11 ∷ 1 ∷ three 1 0 0) ∷
+    row twice (trial 1000) (24 ∷ 11 ∷ 1 ∷ three 1 0 0) ∷
     row oldValue check (13 ∷ 7 ∷ []) ∷
     -- W1: "−2147483648 less 1 does, −2147483647 less 1 doesn't"
     row (counting "let b -2147483648" "let c 1" "sub a b c") (run 9) (27 ∷ 7 ∷ 2 ∷ three 0 2147483648 1) ∷
@@ -369,7 +378,7 @@ rows =
     row (withLine 7 "add this k k" worked) check (7 ∷ 7 ∷ []) ∷
     -- W2: "The checker shows ensures at that line"; the machine tests it there, with the step not counted
     row (withLine 7 "assert eq k k" worked) check (13 ∷ 8 ∷ []) ∷
-    row (withLine 7 "assert eq k k" worked) (run 1000) (26 ∷ 8 ∷ 4 ∷ three 1 7 0) ∷
+    row (withLine 7 "assert eq k k" worked) (trial 1000) (26 ∷ 8 ∷ 4 ∷ three 1 7 0) ∷
     -- "A statement between it and the next `else`, `join` or `end` is number 4."
     row (withLine 7 "return k" worked) check (4 ∷ 8 ∷ []) ∷
     row (branching "assert" "return w" "assert" "join") check (4 ∷ 9 ∷ []) ∷
@@ -413,8 +422,8 @@ rows =
     row (walk "loop ne a 3 acc s n") (run 1000) (0 ∷ 18 ∷ 24 ∷ three 1 3 1) ∷
     row (numbers ("let c 1" ∷ "loop ne a 2" ∷ "loop ne b 2" ∷ "add b b c" ∷ "again" ∷ "add a a c" ∷ "again" ∷ [])) (run 1000)
     (0 ∷ 12 ∷ 17 ∷ three 2 2 1) ∷
-    row (counting "let b 3" "loop ne b 3 eq b 4" "again") (run 9) (26 ∷ 6 ∷ 1 ∷ three 0 3 0) ∷
-    row (walk "loop ne a 3 acc s n eq s.n 0") (run 1000) (26 ∷ 9 ∷ 15 ∷ three 1 2 1) ∷
+    row (counting "let b 3" "loop ne b 3 eq b 4" "again") (trial 9) (26 ∷ 6 ∷ 1 ∷ three 0 3 0) ∷
+    row (walk "loop ne a 3 acc s n eq s.n 0") (trial 1000) (26 ∷ 9 ∷ 15 ∷ three 1 2 1) ∷
     -- "At `loop` the state shows the invariant. The body starts from the invariant and the condition alone, and its end shows the
     -- invariant at `again`. The state afterwards is the invariant and the opposite alone."
     row (walk "loop ne a 3 acc s n eq a 0") check (13 ∷ 9 ∷ []) ∷
@@ -425,7 +434,7 @@ rows =
     row (withLine 17 "assert acc s n" (walk "loop ne a 3 acc s n")) check (0 ∷ 0 ∷ []) ∷
     row (withLine 17 "assert eq i 1" (walk "loop ne a 3 acc s n")) check (13 ∷ 17 ∷ []) ∷
     row (script ("new s S" ∷ "loop ne a a" ∷ "again" ∷ "assert acc s n" ∷ [])) check (12 ∷ 13 ∷ []) ∷
-    row (script ("new s S" ∷ "loop ne a a" ∷ "again" ∷ "assert acc s n" ∷ [])) (run 9) (0 ∷ 14 ∷ 4 ∷ three 1 0 0) ∷
+    row (script ("new s S" ∷ "loop ne a a" ∷ "again" ∷ "assert acc s n" ∷ [])) (trial 9) (0 ∷ 14 ∷ 4 ∷ three 1 0 0) ∷
     -- "The invariant, and the condition after it, read only paths that the invariant holds"
     row (walk "loop ne s.n 3 acc s n") check (13 ∷ 17 ∷ []) ∷
     row (walk "loop ne s.n 3") check (10 ∷ 9 ∷ []) ∷
@@ -461,11 +470,23 @@ rows =
     -- "16 at line 0 if the bound passes 1,000,000"
     row (tens []) bound (0 ∷ 0 ∷ 1000000 ∷ 7 ∷ []) ∷
     row (tens ("assert" ∷ [])) bound (16 ∷ 0 ∷ 0 ∷ 0 ∷ []) ∷
+    -- W7: "a text that the check refuses gets the check's number and line, with zeros in results"
+    row (withLine 5 "requires" worked) (run 1000) (12 ∷ 7 ∷ 0 ∷ three 0 0 0) ∷
+    row (withLine 17 "assert eq s.n 8" worked) (run 0) (13 ∷ 17 ∷ 0 ∷ three 0 0 0) ∷
+    row (withLine 16 "call a s tag a" worked) (run 1000) (9 ∷ 16 ∷ 0 ∷ three 0 0 0) ∷
+    row (withLine 16 "call a s tag a" worked) (trial 1000) (9 ∷ 16 ∷ 0 ∷ three 0 0 0) ∷
+    -- "trial, which is the old run": no test after 9 is made, number 10 neither; "The program of document 01" uses it
+    row unframed (run 1000) (10 ∷ 6 ∷ 0 ∷ three 0 0 0) ∷
+    row unframed (trial 1000) (0 ∷ 19 ∷ 8 ∷ three 1 7 7) ∷
+    row (withLine 5 "requires" worked) print (text ("check 12 7" ∷ "run 24 7 3" ∷ "var s 1" ∷ "var a 7" ∷ "var b 0" ∷ [])) ∷
+    -- "An accepted text gets the same from both."
+    row worked (trial 1000) (0 ∷ 19 ∷ 8 ∷ three 1 7 7) ∷
+    row worked (trial 7) (21 ∷ 19 ∷ 7 ∷ three 1 7 7) ∷
     -- the same field in way (d); the lower of two numbers; what ensures does not hand back is lost
     row twoFields check (13 ∷ 7 ∷ []) ∷
     row lower check (6 ∷ 3 ∷ []) ∷
     row (withLine 6 "ensures" worked) check (11 ∷ 17 ∷ []) ∷
-    row (withLine 6 "ensures" worked) (run 1000) (24 ∷ 17 ∷ 5 ∷ three 1 7 7) ∷
+    row (withLine 6 "ensures" worked) (trial 1000) (24 ∷ 17 ∷ 5 ∷ three 1 7 7) ∷
     []
 
 -- the row's call gives its answer
@@ -473,7 +494,7 @@ right : Row → Bool
 right r = eqName (answer (text (r .text)) (r .call)) (r .answer)
 
 all-right : T (all right rows)
-unfolding computing Printed.opened right answer row three text tabbed withLine times oneLine alias acrossCall twice oldValue twoFields branching innerJoin script throughPath overTwoPaths oneName oneOnBothSides numbers counting walk leaving lower method rings tens
+unfolding computing Printed.opened right shown answer row three text tabbed withLine times oneLine alias acrossCall twice oldValue twoFields branching innerJoin script throughPath overTwoPaths oneName oneOnBothSides numbers counting walk leaving unframed lower method rings tens
 all-right = tt
 
 right-at : (rs : List Row) (d : Row) (i : ℕ) → i < length rs → T (all right rs) → T (right (getD rs i d))

@@ -23,7 +23,9 @@ pub mod NamesInScope
 pub mod ItemsFormed
 pub mod FieldsDiffer
 pub mod ReadFormed
+pub mod Refusing
 pub mod RulesRefuse
+pub mod ReadRefuses
 pub mod RequiresAdded
 pub mod RefusedAtALine
 pub mod Demand3

@@ -34,7 +34,8 @@ use Rattle.nesting.specs.Nests.{Wait, forElse, forJoin, forAgain, rowNests, row
 use Rattle.nesting.proofs.ReadOrder.{BodiesNest, read-blocks}
 use Rattle.nesting.proofs.Returns.{read-returns}
 use Rattle.rules.specs.Refusals.{FromRules, LineOf, RefusedAtALine}
-use Rattle.soundness.proofs.RulesRefuse.{OfRules, ten, row-number, Ruled, yes, for, rule-ruled, return-ruled, if-ruled, loop-ruled, join-ruled, end-ruled}
+use Rattle.soundness.proofs.Refusing.{OfPart, rules, yes, for, ten, rules-number}
+use Rattle.soundness.proofs.RulesRefuse.{Ruled, rule-ruled, return-ruled, if-ruled, loop-ruled, join-ruled, end-ruled}
 use Rattle.soundness.proofs.RequiresAdded.{Addable, requires-added, few-atoms}
 use Rattle.soundness.proofs.ProgramParts.{All, all-drop, ItemsHold, Kept, Parts, parts}
 
@@ -141,7 +142,7 @@ module _ (L : ℕ → Type 0) where
   -- VERDICTS: refused, if at all, by the rules and at such a line
   data Fair {A : Type 0} : Verdict A → Type 0 where
     passes : {a : A} → Fair (accepted a)
-    at : {r : Refusal} {l : ℕ} → OfRules r → L l → Fair (refused r l)
+    at : {r : Refusal} {l : ℕ} → OfPart rules r → L l → Fair (refused r l)
 
   at-line : {A B : Type 0} {x : Try Refusal A} {k : A → Verdict B} {l : ℕ} → L l → Ruled x → ((a : A) → Fair (k a)) → Fair (atLine l x k)
   unfolding atLine
@@ -265,7 +266,7 @@ verdict-at :
     (verdictNumbers v ≡ (0, 0)) ⊎ (FromRules (verdictNumbers v .0) × LineOf t (verdictNumbers v .1))
 unfolding verdictNumbers
 verdict-at t v passes = inl refl
-verdict-at t v (at r i) = inr (row-number r, i)
+verdict-at t v (at r i) = inr (rules-number r, i)
 
 -- THE CLAIM
 pub refused-at-a-line : RefusedAtALine

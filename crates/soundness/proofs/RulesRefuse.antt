@@ -3,49 +3,15 @@ use mathlib.Core.Bool.{Bool, true, false, cond}
 use mathlib.Core.List.{List, [], _∷_}
 use mathlib.Core.Option.{Option, none, some}
 use Prim.Native.Nat.{ℕ}
-use native.Mathlib.Omega.{arith}
-use Rattle.rules.specs.Base.{Try, ok, no, _>>=_, _>>_, check, orElse}
-use Rattle.rules.specs.Answers.{Refusal, refusalNumber, unframed, unresolved, noPermission, notShown, stateFull}
+use Rattle.rules.specs.Base.{Try}
+use Rattle.rules.specs.Answers.{Refusal}
 use Rattle.rules.specs.Syntax.{Rel, Formula, Simple, Field, Program, same, eq, num, null, var, path, acc, cmp, set, assign, compute, new, call, assert, release, result-variable}
 use Rattle.rules.specs.State.{Term, State, Permission, Equality, Shown, empty, resolve, showFrom, show, addPermission, addFact, add}
 use Rattle.rules.specs.Rules.{addEqual, assignRule, addFields, addInitial, newRule, setRule, callRule, ifRule, returnRule, End, showEnd, joinRule, loopRule, rule}
-use Rattle.rules.specs.Refusals.{FromRules}
+use Rattle.soundness.proofs.Refusing.{Refuses, rules, yes, bind, tested, or-else, eleven, twelve, thirteen, fourteen}
 
--- the refusals of the rows 10 to 14
-pub data OfRules : Refusal → Type 0 where
-  ten : OfRules unframed
-  eleven : OfRules unresolved
-  twelve : OfRules noPermission
-  thirteen : OfRules notShown
-  fourteen : OfRules stateFull
-
-pub row-number : {r : Refusal} → OfRules r → FromRules (refusalNumber r)
-unfolding refusalNumber
-row-number ten = (omega arith, omega arith)
-row-number eleven = (omega arith, omega arith)
-row-number twelve = (omega arith, omega arith)
-row-number thirteen = (omega arith, omega arith)
-row-number fourteen = (omega arith, omega arith)
-
--- refused, if at all, with one of them
-pub data Ruled {A : Type 0} : Try Refusal A → Type 0 where
-  yes : {a : A} → Ruled (ok a)
-  for : {r : Refusal} → OfRules r → Ruled (no r)
-
-bind : {A B : Type 0} {x : Try Refusal A} {f : A → Try Refusal B} → Ruled x → ((a : A) → Ruled (f a)) → Ruled (x >>= f)
-unfolding _>>=_
-bind yes h = h _
-bind (for r) h = for r
-
-tested : {B : Type 0} (b : Bool) {r : Refusal} {x : Try Refusal B} → OfRules r → Ruled x → Ruled (check b r >> x)
-unfolding check _>>_
-tested true r h = h
-tested false r h = for r
-
-or-else : {A : Type 0} (o : Option A) {r : Refusal} → OfRules r → Ruled (orElse o r)
-unfolding orElse
-or-else none r = for r
-or-else (some a) r = yes
+abbrev pub Ruled : {A : Type 0} → Try Refusal A → Type 0
+Ruled x = Refuses rules x
 
 either : {A : Type 0} (b : Bool) {x y : Try Refusal A} → Ruled x → Ruled y → Ruled (cond b x y)
 either true h k = h

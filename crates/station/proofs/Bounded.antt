@@ -1,30 +1,29 @@
--- `bound`: the bytes that it writes, its answer by what the reader, the checker and the reckoner answer, and what it returns and leaves, as
--- `boundCall` says.
+-- `bound`: the bytes that it writes, and its answer by what check and the reckoner answer.
 use mathlib.Core.Path.{_≡_, refl, sym, ap, subst, _∙_}
-use mathlib.Core.Bool.{Bool, true, false, cond, _&&_}
+use mathlib.Core.Bool.{Bool, true, false, cond}
 use mathlib.Core.List.{List, [], _∷_}
 use mathlib.Core.Logic.{⊎-elim}
 use mathlib.Core.Option.{Option, none, some}
 use Prim.Native.Nat.{ℕ, _≤_, _<_}
 use native.Mathlib.Omega.{arith}
-use lib.Dec.{eqb, leb}
+use lib.Dec.{leb}
 use lib.ListN.{length, replicate}
 use borrow.Author.Tests.{eq-eqb, ne-eqb}
-use Rattle.rules.specs.Limits.{most-bytes, work-bytes, bounds-bytes, most-bound}
+use Rattle.rules.specs.Limits.{most-bytes, bounds-bytes, most-bound}
 use Rattle.rules.specs.Answers.{Refusal, Verdict, accepted, refused, then, refusalNumber, unbounded, boundPassed}
 use Rattle.rules.specs.Syntax.{Row, Program, noRow, rowNumbered}
 use Rattle.rules.specs.Items.{Item}
 use Rattle.rules.specs.Reading.{readText, program}
 use Rattle.rules.specs.Bounds.{mainBound, mainFrames, firstRepeating, boundOf, boundProgram}
 use Rattle.rules.specs.Calls.{Bounds, checkItems, verdictNumbers, checkText, boundItems, boundNumbers, boundText}
-use Rattle.rules.specs.Areas.{packed, cleared, wordBytes, wordsBytes, boundBytes, boundCall}
-use Rattle.rules.proofs.Lists.{decide-eq}
+use Rattle.rules.specs.Areas.{cleared, wordBytes, wordsBytes, boundBytes}
 use Rattle.rules.proofs.Tries.{refusal-not-zero}
 use Rattle.rules.proofs.LinesTaken.{read-taken}
 use Rattle.tables.specs.Decode.{programIn}
 use Rattle.tables.specs.Stores.{putWord}
 use Rattle.tables.proofs.Bytes.{put-word-length}
 use Rattle.bound_laws.proofs.Repeating.{repeating-row}
+use Rattle.soundness.proofs.Demand3.{check-decides}
 use Rattle.reckoner.specs.declared.Outcome.{Outcome}
 use Rattle.reckoner.specs.declared.Outcome.the-variants.{Given, Unbounded, Passed}
 use Rattle.reckoner.specs.Reckoned.{verdictOf}
@@ -33,7 +32,6 @@ use Rattle.station.specs.declared.Reply.{Reply}
 use Rattle.station.specs.Station.{numbersIn, Found, BoundAs, boundFound}
 use Rattle.station.proofs.Words.{word-first, word-more, words-all}
 use Rattle.station.proofs.Texts.{refusal-small}
-use Rattle.station.proofs.Calls.{pack-is, cleared-is}
 
 -- THE AREA
 pub two-words :
@@ -118,13 +116,17 @@ module _ (t : List ℕ) where
     where
       by : (v : Verdict (Unit {0})) → checkItems items ≡ v → boundText t ≡ boundNumbers (boundProgram (program items))
       by (accepted u) c = rw (e, c) refl
-      by (refused r l) c = absurd (refusal-not-zero r (sym (rw (e, c) refl) ∙ n))
+      by (refused r l) c = refusal-not-zero r (sym (rw (e, c) refl) ∙ n)
 
   pub found-bound : {f : Reply} {w : List ℕ} → Found (checkText t) t f w → boundFound f (programIn w) ≡ boundText t
-  found-bound {f} {w} F = ⊎-elim (λ z. given z) (λ n. sym (found-refusal f (programIn w) n) ∙ ap zerosOf (F .numbers) ∙ sym (check-refuses (λ z. n (number ∙ z)))) (decide-eq (f .number) 0)
+  found-bound {f} {w} F =
+      ⊎-elim (λ r. refused λ z. omega (arith, r .number .0, number, z)) (λ e. given (number ∙ ap (λ (p : ℕ × ℕ). p .0) e)) (check-decides t 0)
     where
       number : f .number ≡ checkText t .0
       number = ap (λ (p : ℕ × ℕ). p .0) (F .numbers)
+
+      refused : (f .number ≡ 0 → ⊥) → boundFound f (programIn w) ≡ boundText t
+      refused n = sym (found-refusal f (programIn w) n) ∙ ap zerosOf (F .numbers) ∙ sym (check-refuses (λ z. n (number ∙ z)))
 
       given : f .number ≡ 0 → boundFound f (programIn w) ≡ boundText t
       given z =
@@ -178,29 +180,7 @@ text-within t =
 
 pub bound-fits : (t : List ℕ) (f : Reply) → numbersIn f ≡ numbersOf (boundText t) → (f .number < 65536) × (f .line < 65536)
 unfolding boundText
-bound-fits t f e =
-    (subst (λ (n : ℕ). n < 65536) (sym (ap (λ (p : ℕ × ℕ). p .0) e)) (number-small (then (readText t) boundItems)),
-    omega (arith, ap (λ (p : ℕ × ℕ). p .1) e, line-small most-bytes (then (readText t) boundItems) (text-within t)))
-
--- THE CALL
-module _ (t w b : List ℕ) where
-  abbrev Right : ℕ → List ℕ → List ℕ → Type 0
-  Right r u d = (r ≡ boundCall t w b .returned) × (u ≡ boundCall t w b .work) × (d ≡ boundCall t w b .bounds)
-
-  wrong : eqb (length w) work-bytes && eqb (length b) bounds-bytes ≡ false → Right 65536 w b
-  unfolding boundCall packed
-  wrong n = (sym (rw n), sym (rw n), sym (rw n))
-
-  pub wrong-work : (length w ≡ work-bytes → ⊥) → Right 65536 w b
-  wrong-work n = wrong (rw (ne-eqb (length w) work-bytes n))
-
-  pub wrong-bounds : length w ≡ work-bytes → (length b ≡ bounds-bytes → ⊥) → Right 65536 w b
-  wrong-bounds m n = wrong (rw (eq-eqb (length w) work-bytes m, ne-eqb (length b) bounds-bytes n))
-
-  pub right-bound :
-      length w ≡ work-bytes → length b ≡ bounds-bytes → {f : Reply} (v : List ℕ) {u d : List ℕ} {r : ℕ} →
-      numbersIn f ≡ numbersOf (boundText t) → d ≡ boundBytes (boundText t) → length v ≡ work-bytes → u ≡ cleared v →
-      r ≡ packed (f .number) (f .line) → Right r u d
-  unfolding boundCall
-  right-bound m n v e i s c p =
-      rw (eq-eqb (length w) work-bytes m, eq-eqb (length b) bounds-bytes n) (pack-is e p, cleared-is w v m s c, i)
+bound-fits t f e = (
+  subst (λ (n : ℕ). n < 65536) (sym (ap (λ (p : ℕ × ℕ). p .0) e)) (number-small (then (readText t) boundItems)),
+  omega (arith, ap (λ (p : ℕ × ℕ). p .1) e, line-small most-bytes (then (readText t) boundItems) (text-within t)),
+)

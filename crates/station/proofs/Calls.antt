@@ -1,16 +1,17 @@
--- What the calls return and leave, as `checkCall` and `runCall` say.
-use mathlib.Core.Path.{_≡_, sym, ap, _∙_}
-use mathlib.Core.Bool.{false, _&&_}
+-- What the calls return and leave, as `checkCall`, `ranCall` and `boundCall` say.
+use mathlib.Core.Path.{_≡_, sym, ap, subst, _∙_}
+use mathlib.Core.Bool.{true, false}
 use mathlib.Core.List.{List}
 use Prim.Native.Nat.{ℕ}
-use lib.Dec.{eqb}
+use lib.Dec.{T, eqb}
 use lib.ListN.{length, replicate}
-use borrow.Author.Tests.{eq-eqb, ne-eqb}
-use Rattle.rules.specs.Limits.{work-bytes, results-bytes}
-use Rattle.rules.specs.Calls.{checkText, runText}
-use Rattle.rules.specs.Areas.{packed, cleared, resultBytes, checkCall, runCall}
+use borrow.Author.Tests.{eq-eqb, ne-eqb, eqb-true}
+use Rattle.rules.specs.Limits.{work-bytes, results-bytes, bounds-bytes}
+use Rattle.rules.specs.Calls.{Result, Bounds, checkText, boundText}
+use Rattle.rules.specs.Areas.{packed, cleared, resultBytes, boundBytes, checkCall, ranCall, boundCall}
+use Rattle.rules.proofs.Lists.{T-true, and-both}
 use Rattle.station.specs.declared.Reply.{Reply}
-use Rattle.station.specs.Station.{numbersIn, runNumbers}
+use Rattle.station.specs.Station.{numbersIn, runNumbers, areasFit, CheckLeaves, RunLeaves, BoundLeaves}
 
 pub pack-is : {f : Reply} {p : ℕ × ℕ} {r : ℕ} → numbersIn f ≡ p → r ≡ packed (f .number) (f .line) → r ≡ packed (p .0) (p .1)
 pack-is e i = i ∙ ap (λ (p : ℕ × ℕ). packed (p .0) (p .1)) e
@@ -22,33 +23,47 @@ cleared-is w v a b e = e ∙ ap (λ (m : ℕ). replicate m 0) (b ∙ sym a)
 
 -- CHECK
 module _ (t w : List ℕ) where
-  pub wrong-check : (length w ≡ work-bytes → ⊥) → (65536 ≡ checkCall t w .returned) × (w ≡ checkCall t w .work)
+  pub wrong-check : (length w ≡ work-bytes → ⊥) → CheckLeaves (checkCall t w) 65536 w
   unfolding checkCall packed
   wrong-check n = (sym (rw (ne-eqb (length w) work-bytes n)), sym (rw (ne-eqb (length w) work-bytes n)))
 
   pub right-check :
       length w ≡ work-bytes → {f : Reply} (v : List ℕ) {u : List ℕ} {r : ℕ} → numbersIn f ≡ checkText t → length v ≡ work-bytes → u ≡ cleared v →
-      r ≡ packed (f .number) (f .line) → (r ≡ checkCall t w .returned) × (u ≡ checkCall t w .work)
+      r ≡ packed (f .number) (f .line) → CheckLeaves (checkCall t w) r u
   unfolding checkCall
   right-check n v e s c p = rw (eq-eqb (length w) work-bytes n) (pack-is e p, cleared-is w v n s c)
 
--- RUN
-module _ (t w : List ℕ) (k : ℕ) (b : List ℕ) where
-  abbrev Right : ℕ → List ℕ → List ℕ → Type 0
-  Right r u d = (r ≡ runCall t w k b .returned) × (u ≡ runCall t w k b .work) × (d ≡ runCall t w k b .results)
+-- THE LENGTHS OF THE WORK AREA AND ANOTHER ONE
+pub fit-lengths : (w b : List ℕ) {n : ℕ} → areasFit w b n ≡ true → (length w ≡ work-bytes) × (length b ≡ n)
+unfolding areasFit
+fit-lengths w b {n} e =
+    let (x, y) = and-both (eqb (length w) work-bytes) (eqb (length b) n) (subst T (sym e) tt) in
+    (eqb-true _ _ (T-true _ x), eqb-true _ _ (T-true _ y))
 
-  wrong : eqb (length w) work-bytes && eqb (length b) results-bytes ≡ false → Right 65536 w b
-  unfolding runCall packed
-  wrong n = (sym (rw n), sym (rw n), sym (rw n))
+-- RUN AND TRIAL, with the answer a
+module _ (a : Result) (w b : List ℕ) where
+  pub wrong-areas : areasFit w b results-bytes ≡ false → RunLeaves (ranCall a w b) 65536 w b
+  unfolding ranCall packed areasFit
+  wrong-areas n = (sym (rw n), sym (rw n), sym (rw n))
 
-  pub wrong-work : (length w ≡ work-bytes → ⊥) → Right 65536 w b
-  wrong-work n = wrong (rw (ne-eqb (length w) work-bytes n))
+  pub right-areas :
+      areasFit w b results-bytes ≡ true → {x : Result} → x ≡ a → {f : Reply} (v : List ℕ) {u d : List ℕ} {r : ℕ} → numbersIn f ≡ runNumbers x →
+      d ≡ resultBytes x → length v ≡ work-bytes → u ≡ cleared v → r ≡ packed (f .number) (f .line) → RunLeaves (ranCall a w b) r u d
+  unfolding ranCall areasFit
+  right-areas m i v e d s c p =
+      rw m (pack-is (e ∙ ap runNumbers i) p, cleared-is w v (fit-lengths w b m .0) s c, d ∙ ap resultBytes i)
 
-  pub wrong-results : length w ≡ work-bytes → (length b ≡ results-bytes → ⊥) → Right 65536 w b
-  wrong-results m n = wrong (rw (eq-eqb (length w) work-bytes m, ne-eqb (length b) results-bytes n))
+-- BOUND
+module _ (t w b : List ℕ) where
+  pub wrong-bound : areasFit w b bounds-bytes ≡ false → BoundLeaves (boundCall t w b) 65536 w b
+  unfolding boundCall packed areasFit
+  wrong-bound n = (sym (rw n), sym (rw n), sym (rw n))
 
-  pub right-run :
-      length w ≡ work-bytes → length b ≡ results-bytes → {f : Reply} (v : List ℕ) {u d : List ℕ} {r : ℕ} → numbersIn f ≡ runNumbers (runText t k) →
-      d ≡ resultBytes (runText t k) → length v ≡ work-bytes → u ≡ cleared v → r ≡ packed (f .number) (f .line) → Right r u d
-  unfolding runCall
-  right-run m n v e i s c p = rw (eq-eqb (length w) work-bytes m, eq-eqb (length b) results-bytes n) (pack-is e p, cleared-is w v m s c, i)
+  pub right-bound :
+      areasFit w b bounds-bytes ≡ true → {x : Bounds} → x ≡ boundText t → {f : Reply} (v : List ℕ) {u d : List ℕ} {r : ℕ} →
+      numbersIn f ≡ (x .number, x .line) → d ≡ boundBytes x → length v ≡ work-bytes → u ≡ cleared v → r ≡ packed (f .number) (f .line) →
+      BoundLeaves (boundCall t w b) r u d
+  unfolding boundCall areasFit
+  right-bound m i v e d s c p =
+      rw m
+      (pack-is (e ∙ ap (λ (x : Bounds). (x .number, x .line)) i) p, cleared-is w v (fit-lengths w b m .0) s c, d ∙ ap boundBytes i)

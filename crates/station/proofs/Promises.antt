@@ -8,13 +8,13 @@ use lib.ListN.{length}
 use borrow.Author.Tests.{eq-eqb}
 use Rattle.rules.specs.Limits.{work-bytes, bounds-bytes}
 use Rattle.rules.specs.Calls.{runText, boundText}
-use Rattle.rules.specs.Areas.{packed, wordsBytes, resultBytes, boundBytes, runCall, boundCall}
+use Rattle.rules.specs.Areas.{packed, wordsBytes, resultBytes, boundBytes, boundCall}
 use Rattle.tables.specs.Decode.{wordAt}
 use Rattle.bound_runs.proofs.Promises.{never-passed, enough-steps, bound-small}
 use Rattle.printer.proofs.Called.{number-packed, word-first}
-use Rattle.printer.proofs.Calls.{fits}
-use Rattle.station.specs.Demand.{Lent}
+use Rattle.station.specs.Demand.{Lent, runOver}
 use Rattle.station.specs.Promises.{KeptTo, BoundKept}
+use Rattle.station.proofs.Texts.{run-fits}
 use Rattle.station.proofs.Demand3.{run-returns}
 
 module _ (t work bounds : List ℕ) (m : length work ≡ work-bytes) (n : length bounds ≡ bounds-bytes) where
@@ -37,10 +37,11 @@ module _ (t work bounds : List ℕ) (m : length work ≡ work-bytes) (n : length
     bound-word = ap (λ a. wordAt a 0) written ∙ word-first (boundText t .bound) _ (omega (arith, bound-small t given))
 
     module _ (l : Lent) where
-      run-word : wordAt (runCall t (l .work) (l .steps) (l .results) .results) 0 ≡ runText t (l .steps) .steps
+      run-word : wordAt (runOver t l .results) 0 ≡ runText t (l .steps) .steps
       unfolding resultBytes wordsBytes
       run-word =
-          ap (λ a. wordAt a 0) (run-returns t l .results) ∙ word-first (runText t (l .steps) .steps) _ (fits t (l .steps) (l .small) .steps)
+          ap (λ a. wordAt a 0) (run-returns t l .results)
+          ∙ word-first (runText t (l .steps) .steps) _ (omega (arith, never-passed t given (l .steps), bound-small t given))
 
       kept : KeptTo t (boundCall t work bounds .bounds) l
       kept =
@@ -49,7 +50,7 @@ module _ (t work bounds : List ℕ) (m : length work ≡ work-bytes) (n : length
             enough =
                 λ k q.
                 enough-steps t given (l .steps) (rw bound-word at k)
-                (sym (number-packed _ _ (fits t (l .steps) (l .small) .run-line)) ∙ ap (λ (r : ℕ). r / 65536) (sym (run-returns t l .returned)) ∙ q);
+                (sym (number-packed _ _ (run-fits t (l .steps) (l .small) .1)) ∙ ap (λ (r : ℕ). r / 65536) (sym (run-returns t l .returned)) ∙ q);
           }
 
 pub bound-kept : BoundKept

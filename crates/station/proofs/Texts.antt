@@ -1,10 +1,11 @@
--- The two calls on a text, by what the reader answers.
-use mathlib.Core.Path.{_≡_, sym, ap, subst, _∙_}
+-- The calls on a text, by what the reader answers.
+use mathlib.Core.Path.{_≡_, refl, sym, ap, subst, _∙_}
 use mathlib.Core.List.{List, _∷_}
+use mathlib.Core.Logic.{_⊎_, inl, inr, ⊎-elim}
 use Prim.Native.Nat.{ℕ, _<_}
 use native.Mathlib.Omega.{arith}
 use lib.ListN.{length, replicate}
-use borrow.Author.Tests.{ne-eqb}
+use borrow.Author.Tests.{eq-eqb, ne-eqb}
 use Rattle.rules.specs.Limits.{results-bytes}
 use Rattle.rules.specs.Answers as Answers
 use Rattle.rules.specs.Answers.{Verdict, accepted, refused, then, refusalNumber, endingNumber, stopNumber}
@@ -12,9 +13,12 @@ use Rattle.rules.specs.Items.{Item}
 use Rattle.rules.specs.Reading.{readText, program}
 use Rattle.rules.specs.Rules.{checkProgram}
 use Rattle.rules.specs.Machine.{runProgram}
-use Rattle.rules.specs.Calls.{checkItems, verdictNumbers, checkText, wholeHeap, outcomeResult, runItems, runText}
+use Rattle.rules.specs.Calls.{Result, checkItems, verdictNumbers, checkText, wholeHeap, outcomeResult, refusedResult, runItems, trialText, runText}
 use Rattle.rules.specs.Areas.{cleared, wordBytes, wordsBytes, resultBytes}
-use Rattle.rules.proofs.Tries.{refusal-not-zero}
+use Rattle.rules.specs.Demand.{IsRefusal}
+use Rattle.rules.proofs.Tries.{refusal-number, refusal-not-zero}
+use Rattle.soundness.proofs.ReadRefuses.{read-refused}
+use Rattle.soundness.proofs.Demand3.{same-from-both, check-decides}
 use Rattle.tables.specs.Decode.{programIn}
 use Rattle.reader.specs.declared.Refusal as Reasons
 use Rattle.reader.specs.declared.Reading.{Reading}
@@ -27,7 +31,7 @@ use Rattle.machine.specs.declared.Ran.{Ran}
 use Rattle.machine.specs.Runs.{number, mainValues, RanAs}
 use Rattle.printer.proofs.Calls.{fits}
 use Rattle.station.specs.declared.Reply.{Reply}
-use Rattle.station.specs.Station.{numbersIn, runNumbers}
+use Rattle.station.specs.Station.{numbersIn, runNumbers, Found, unlessRefused}
 
 -- THE READER'S ANSWER BY ITS CASES
 module _ (t w : List ℕ) (r : Reading) (x : ReadingIs t w r) where
@@ -39,11 +43,21 @@ module _ (t w : List ℕ) (r : Reading) (x : ReadingIs t w r) where
   unfolding ReadingIs
   reading-taken u e = subst (ReadingIs t w) e x
 
+-- WHAT IS FOUND OF A TEXT
+
 -- a number that refuses is not 0
 pub none-taken : {A : Type 0} (r : Answers.Refusal) {n : ℕ} → n ≡ refusalNumber r → n ≡ 0 → A
-none-taken r i e = absurd (refusal-not-zero r (sym i ∙ e))
+none-taken r i e = refusal-not-zero r (sym i ∙ e)
 
--- CHECK
+pub refused-read :
+    (t : List ℕ) {r : Answers.Refusal} {n l : ℕ} → n ≡ refusalNumber r → readText t ≡ refused r l → (n, l) ≡ verdictNumbers (readText t)
+unfolding verdictNumbers
+refused-read t {l = l} i e = ap (λ (m : ℕ). (m, l)) i ∙ sym (rw e)
+
+pub taken-read : {t w : List ℕ} {u : ℕ} → Tabled t w u → (0, 0) ≡ verdictNumbers (readText t)
+unfolding verdictNumbers
+taken-read x = sym (rw (x .read))
+
 pub refused-checked :
     (t : List ℕ) {r : Answers.Refusal} {n l : ℕ} → n ≡ refusalNumber r → readText t ≡ refused r l → (n, l) ≡ checkText t
 unfolding checkText then verdictNumbers
@@ -77,27 +91,66 @@ module _ (u : ℕ) (v : Verdict (Unit {0})) where
     unfolding verdictOf verdictNumbers
     found-refused a l e i = ap (λ (m : ℕ). (m, l)) i ∙ (ap verdictNumbers (sym (ap verdictOf e) ∙ is) ∙ by-rules none)
 
--- RUN
-pub refused-ran :
-    (t : List ℕ) {r : Answers.Refusal} {l : ℕ} (k : ℕ) → readText t ≡ refused r l →
-    runText t k ≡ record { number = refusalNumber r; line = l; steps = 0; values = replicate 12 0 }
-unfolding runText runItems
-refused-ran t k e = rw e
-
-pub refused-numbers :
-    (t : List ℕ) {r : Answers.Refusal} {n l : ℕ} (k : ℕ) → n ≡ refusalNumber r → readText t ≡ refused r l → (n, l) ≡ runNumbers (runText t k)
-unfolding runText runItems
-refused-numbers t {l = l} k i e = ap (λ (m : ℕ). (m, l)) i ∙ sym (rw e)
-
-pub refused-bytes :
-    (t : List ℕ) {r : Answers.Refusal} {l : ℕ} (k : ℕ) → readText t ≡ refused r l → (b : List ℕ) → length b ≡ results-bytes →
-    cleared b ≡ resultBytes (runText t k)
-unfolding cleared resultBytes wordsBytes wordBytes
-refused-bytes t k e b n = ap (λ (m : ℕ). replicate m 0) n ∙ sym (ap resultBytes (refused-ran t k e))
-
-pub taken-ran : {t w : List ℕ} {u : ℕ} (k : ℕ) → Tabled t w u → runText t k ≡ outcomeResult (runProgram wholeHeap (programIn w) k)
-unfolding runText runItems
+-- RUN AND TRIAL
+taken-ran : {t w : List ℕ} {u : ℕ} (k : ℕ) → Tabled t w u → trialText t k ≡ outcomeResult (runProgram wholeHeap (programIn w) k)
+unfolding trialText runItems
 taken-ran k x = rw (x .read, ← x .program)
+
+-- a text that the reader refuses, or takes
+read-decides :
+    (t : List ℕ) (k : ℕ) →
+    (IsRefusal (verdictNumbers (readText t) .0) × (trialText t k ≡ refusedResult (verdictNumbers (readText t)))) ⊎ (verdictNumbers (readText t) ≡ (0, 0))
+unfolding trialText runItems verdictNumbers
+read-decides t k = go (readText t) refl
+  where
+    go :
+        (v : Verdict (List Item)) → readText t ≡ v →
+        (IsRefusal (verdictNumbers (readText t) .0) × (trialText t k ≡ refusedResult (verdictNumbers (readText t)))) ⊎ (verdictNumbers (readText t) ≡ (0, 0))
+    go (accepted items) e = inr (rw e refl)
+    go (refused r l) e = let (a, b) = read-refused t r l e in inl (rw e ((a, omega (arith, b)), refl))
+
+module _ (f : Reply) (r : Result) where
+  pub found-none : f .number ≡ 0 → unlessRefused f r ≡ r
+  unfolding unlessRefused
+  found-none e = rw (eq-eqb (f .number) 0 e)
+
+  found-refusal : (f .number ≡ 0 → ⊥) → unlessRefused f r ≡ refusedResult (numbersIn f)
+  unfolding unlessRefused
+  found-refusal n = rw (ne-eqb (f .number) 0 n)
+
+  -- zeros in results
+  pub found-zeros :
+      (f .number ≡ 0 → ⊥) → (b : List ℕ) → length b ≡ results-bytes →
+      (numbersIn f ≡ runNumbers (unlessRefused f r)) × (cleared b ≡ resultBytes (unlessRefused f r))
+  unfolding cleared resultBytes wordsBytes wordBytes refusedResult
+  found-zeros n b e =
+      let i = found-refusal n in
+      (sym (ap runNumbers i), ap (λ (m : ℕ). replicate m 0) e ∙ sym (ap resultBytes i))
+
+-- the run that the tables give
+abbrev tablesRun : List ℕ → ℕ → Result
+tablesRun w k = outcomeResult (runProgram wholeHeap (programIn w) k)
+
+-- with what was found of a text it is what trial answers, or run
+module _ {t w : List ℕ} {f : Reply} (k : ℕ) where
+  by-refusal : {v : ℕ × ℕ} {r : Result} → Found v t f w → IsRefusal (v .0) → r ≡ refusedResult v → unlessRefused f (tablesRun w k) ≡ r
+  by-refusal {v = v} F i e =
+      let n : f .number ≡ v .0 = ap (λ (p : ℕ × ℕ). p .0) (F .numbers) in
+      found-refusal f _ (λ z. omega (arith, i .0, n, z)) ∙ (ap refusedResult (F .numbers) ∙ sym e)
+
+  by-tables : {v : ℕ × ℕ} → Found v t f w → v ≡ (0, 0) → unlessRefused f (tablesRun w k) ≡ trialText t k
+  by-tables F e =
+      let z = ap (λ (p : ℕ × ℕ). p .0) (F .numbers ∙ e) in
+      found-none f _ z ∙ sym (taken-ran k (F .taken z .1))
+
+  pub found-tried : Found (verdictNumbers (readText t)) t f w → unlessRefused f (tablesRun w k) ≡ trialText t k
+  found-tried F = ⊎-elim (λ r. by-refusal F (r .0) (r .1)) (by-tables F) (read-decides t k)
+
+  pub found-run : Found (checkText t) t f w → unlessRefused f (tablesRun w k) ≡ runText t k
+  found-run F =
+      ⊎-elim (λ r. by-refusal F (r .number) (r .answer))
+      (λ e. by-tables F e ∙ sym (same-from-both t (ap (λ (p : ℕ × ℕ). p .0) e) k))
+      (check-decides t k)
 
 -- what the machine ends with
 module _ {w w′ : List ℕ} {k : ℕ} {r : Ran} (x : RanAs wholeHeap w k w′ r) where
@@ -110,23 +163,14 @@ module _ {w w′ : List ℕ} {k : ℕ} {r : Ran} (x : RanAs wholeHeap w k w′ r
   ran-bytes = sym (ap (λ o. resultBytes (outcomeResult o)) (x .outcome))
 
 -- WHAT IS RETURNED FITS
+abbrev pub Fits : ℕ × ℕ → Type 0
+Fits v = (v .0 < 65536) × (v .1 < 65536)
+
+pub fits-as : {v w : ℕ × ℕ} → w ≡ v → Fits v → Fits w
+fits-as e x = subst Fits (sym e) x
+
 pub refusal-small : (r : Answers.Refusal) → refusalNumber r < 65536
-unfolding refusalNumber
-refusal-small Answers.textTooLong = omega arith
-refusal-small Answers.badByte = omega arith
-refusal-small Answers.malformed = omega arith
-refusal-small Answers.limitPassed = omega arith
-refusal-small Answers.undeclared = omega arith
-refusal-small Answers.wrongType = omega arith
-refusal-small Answers.textEnds = omega arith
-refusal-small Answers.wrongTarget = omega arith
-refusal-small Answers.unframed = omega arith
-refusal-small Answers.unresolved = omega arith
-refusal-small Answers.noPermission = omega arith
-refusal-small Answers.notShown = omega arith
-refusal-small Answers.stateFull = omega arith
-refusal-small Answers.unbounded = omega arith
-refusal-small Answers.boundPassed = omega arith
+refusal-small r = omega (arith, refusal-number r .1)
 
 stop-small : (s : Answers.Stop) → stopNumber s < 65536
 unfolding stopNumber
@@ -148,21 +192,22 @@ unfolding verdictNumbers
 verdict-small (accepted u) = omega arith
 verdict-small (refused r l) = refusal-small r
 
-run-small : (v : Verdict (List Item)) (k : ℕ) → runItems v k .number < 65536
-unfolding runItems outcomeResult
-run-small (accepted items) k = ending-small _
-run-small (refused r l) k = refusal-small r
+trial-small : (v : Verdict (List Item)) (k : ℕ) → runItems v k .number < 65536
+unfolding runItems outcomeResult refusedResult
+trial-small (accepted items) k = ending-small _
+trial-small (refused r l) k = refusal-small r
 
-pub check-fits : (t : List ℕ) (f : Reply) → numbersIn f ≡ checkText t → (f .number < 65536) × (f .line < 65536)
+pub check-fits : (t : List ℕ) → Fits (checkText t)
 unfolding checkText
-check-fits t f e =
-    let n : f .number ≡ checkText t .0 = ap (λ (p : ℕ × ℕ). p .0) e in
-    let l : f .line ≡ checkText t .1 = ap (λ (p : ℕ × ℕ). p .1) e in
-    (subst (λ (m : ℕ). m < 65536) (sym n) (verdict-small _), subst (λ (m : ℕ). m < 65536) (sym l) (fits t 0 (omega arith) .check-line))
+check-fits t = (verdict-small _, fits t 0 (omega arith) .check-line)
 
-pub run-fits : (t : List ℕ) (k : ℕ) (f : Reply) → k < 4294967296 → numbersIn f ≡ runNumbers (runText t k) → (f .number < 65536) × (f .line < 65536)
-unfolding runText
-run-fits t k f h e =
-    let n : f .number ≡ runText t k .number = ap (λ (p : ℕ × ℕ). p .0) e in
-    let l : f .line ≡ runText t k .line = ap (λ (p : ℕ × ℕ). p .1) e in
-    (subst (λ (m : ℕ). m < 65536) (sym n) (run-small (readText t) k), subst (λ (m : ℕ). m < 65536) (sym l) (fits t k h .run-line))
+pub trial-fits : (t : List ℕ) (k : ℕ) → k < 4294967296 → Fits (runNumbers (trialText t k))
+unfolding trialText
+trial-fits t k h = (trial-small (readText t) k, fits t k h .trial-line)
+
+pub run-fits : (t : List ℕ) (k : ℕ) → k < 4294967296 → Fits (runNumbers (runText t k))
+unfolding refusedResult
+run-fits t k h =
+    ⊎-elim (λ r. fits-as (ap runNumbers (r .answer)) (check-fits t))
+    (λ e. fits-as (ap runNumbers (same-from-both t (ap (λ (p : ℕ × ℕ). p .0) e) k)) (trial-fits t k h))
+    (check-decides t k)

@@ -1,12 +1,16 @@
--- Demand 3 of document 01 for what the two calls return, as a statement. proofs/Demand3 proves it.
+-- Demand 3 of document 01 for what the calls return, as statements. proofs/Demand3 proves them.
 use mathlib.Core.Path.{_≡_}
 use mathlib.Core.List.{List}
+use mathlib.Core.Logic.{_⊎_}
 use Prim.Native.Nat.{ℕ, _/_, _<_}
 use lib.ListN.{length}
 use Rattle.rules.specs.Limits.{work-bytes, results-bytes}
-use Rattle.rules.specs.Calls.{runText}
-use Rattle.rules.specs.Areas.{packed, resultBytes, checkCall, runCall}
-use Rattle.rules.specs.Demand.{NotStuck, Claim}
+use Rattle.rules.specs.Answers.{accepted}
+use Rattle.rules.specs.Items.{Item}
+use Rattle.rules.specs.Reading.{readText}
+use Rattle.rules.specs.Calls.{Result, runText, trialText}
+use Rattle.rules.specs.Areas.{packed, cleared, resultBytes, checkCall, Ran, runCall, trialCall}
+use Rattle.rules.specs.Demand.{NotStuck, KeepsFrame, Claim, IsRefusal}
 
 -- areas of the right length, whatever they hold, and a number of steps
 pub record Lent : Type 0 where
@@ -17,18 +21,58 @@ pub record Lent : Type 0 where
   pub wide : length results ≡ results-bytes
   pub small : steps < 4294967296
 
--- what run then returns and leaves in the results area is number, line, steps and values of `runText`
-pub record Returns (t : List ℕ) (l : Lent) : Type 0 where
-  pub returned : runCall t (l .work) (l .steps) (l .results) .returned ≡ packed (runText t (l .steps) .number) (runText t (l .steps) .line)
-  pub results : runCall t (l .work) (l .steps) (l .results) .results ≡ resultBytes (runText t (l .steps))
+-- run and trial over them
+abbrev pub runOver : List ℕ → Lent → Ran
+runOver t l = runCall t (l .work) (l .steps) (l .results)
+
+abbrev pub trialOver : List ℕ → Lent → Ran
+trialOver t l = trialCall t (l .work) (l .steps) (l .results)
+
+-- what a call returns and leaves in the results area is number, line, steps and values of the answer r
+pub record Returns (c : Ran) (r : Result) : Type 0 where
+  pub returned : c .returned ≡ packed (r .number) (r .line)
+  pub results : c .results ≡ resultBytes r
 
 -- "For every text for which check returns 0, and every number of allowed steps, run with areas of the right length returns number"
 -- one that is `NotStuck`: whatever area check was lent, and whatever areas run is. And the run that it answers with, its number, line,
 -- count of steps and values, keeps in each of its calls what that call was not handed.
 pub record ReturnsClaim (t : List ℕ) (l : Lent) : Type 0 where
-  pub number : NotStuck (runCall t (l .work) (l .steps) (l .results) .returned / 65536)
+  pub number : NotStuck (runOver t l .returned / 65536)
   pub claim : Claim t (l .steps)
-  pub returns : Returns t l
+  pub returns : Returns (runOver t l) (runText t (l .steps))
 
 abbrev pub OneClaimReturned : Type 0
 OneClaimReturned = (t area : List ℕ) → length area ≡ work-bytes → checkCall t area .returned ≡ 0 → (l : Lent) → ReturnsClaim t l
+
+-- RUN CHECKS FIRST
+
+-- "a text that the check refuses gets the check's number and line, with zeros in results"
+pub record ReturnsRefusal (t : List ℕ) (l : Lent) : Type 0 where
+  pub number : IsRefusal (runOver t l .returned / 65536)
+  pub returned : runOver t l .returned ≡ checkCall t (l .work) .returned
+  pub results : runOver t l .results ≡ cleared (l .results)
+
+-- Of every text, whether check was called before or not: run returns what check does, 2 to 14, with zeros, or one of 0, 21, 22, 23
+-- and 27. It never returns 24, 25 or 26.
+abbrev pub RunReturnsNeverStuck : Type 0
+RunReturnsNeverStuck = (t : List ℕ) (l : Lent) → ReturnsRefusal t l ⊎ NotStuck (runOver t l .returned / 65536)
+
+-- and the whole claim so
+abbrev pub EveryRunReturned : Type 0
+EveryRunReturned = (t : List ℕ) (l : Lent) → ReturnsRefusal t l ⊎ ReturnsClaim t l
+
+-- TRIAL
+
+-- "An accepted text gets the same from both": the number, the line and every byte, over areas of any length
+abbrev pub SameReturned : Type 0
+SameReturned =
+    (t area : List ℕ) → length area ≡ work-bytes → checkCall t area .returned ≡ 0 → (work : List ℕ) (steps : ℕ) (results : List ℕ) →
+    runCall t work steps results ≡ trialCall t work steps results
+
+-- of each text that the reader takes, accepted or not: the run that trial answers with keeps what its calls were not handed
+pub record TrialKeepsFrame (t : List ℕ) (items : List Item) (l : Lent) : Type 0 where
+  pub frame : KeepsFrame (trialText t (l .steps)) items (l .steps)
+  pub returns : Returns (trialOver t l) (trialText t (l .steps))
+
+abbrev pub TrialReturned : Type 0
+TrialReturned = (t : List ℕ) (items : List Item) → readText t ≡ accepted items → (l : Lent) → TrialKeepsFrame t items l

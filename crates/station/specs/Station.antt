@@ -1,6 +1,6 @@
 -- What the parts of the calls answer.
 use mathlib.Core.Path.{_≡_}
-use mathlib.Core.Bool.{cond}
+use mathlib.Core.Bool.{Bool, cond, _&&_}
 use mathlib.Core.List.{List}
 use Prim.Native.Nat.{ℕ}
 use lib.Dec.{eqb}
@@ -8,8 +8,8 @@ use lib.ListN.{length}
 use Rattle.rules.specs.Limits.{work-bytes}
 use Rattle.rules.specs.Syntax.{Program}
 use Rattle.rules.specs.Bounds.{boundProgram}
-use Rattle.rules.specs.Calls.{Result, Bounds, boundNumbers}
-use Rattle.rules.specs.Areas.{resultBytes, boundBytes, checkCall, runCall, boundCall}
+use Rattle.rules.specs.Calls.{Result, Bounds, refusedResult, boundNumbers}
+use Rattle.rules.specs.Areas.{resultBytes, boundBytes, Checked, Ran, Bounded}
 use Rattle.reader.specs.Readings.{Tabled}
 use Rattle.station.specs.declared.Reply.{Reply}
 
@@ -30,6 +30,10 @@ pub record Found (v : ℕ × ℕ) (t : List ℕ) (f : Reply) (work : List ℕ) :
 abbrev pub RunAs : Result → Reply → List ℕ → List ℕ → Type 0
 RunAs r f results work = (numbersIn f ≡ runNumbers r) × (results ≡ resultBytes r) × (length work ≡ work-bytes)
 
+-- the answer r, unless a refusal was found
+unfoldable pub unlessRefused : Reply → Result → Result
+unlessRefused f r = cond (eqb (f .number) 0) r (refusedResult (numbersIn f))
+
 -- what a bound answers, and what it leaves in the bounds area
 abbrev pub BoundAs : Bounds → Reply → List ℕ → Type 0
 BoundAs b f bounds = (numbersIn f ≡ (b .number, b .line)) × (bounds ≡ boundBytes b)
@@ -39,13 +43,16 @@ unfoldable pub boundFound : Reply → Program → Bounds
 boundFound f P =
     cond (eqb (f .number) 0) (boundNumbers (boundProgram P)) (record { number = f .number; line = f .line; bound = 0; frames = 0 })
 
--- WHAT THE CALLS RETURN, and leave in each area
-abbrev pub CheckReturns : List ℕ → List ℕ → ℕ → List ℕ → Type 0
-CheckReturns t w r w′ = (r ≡ checkCall t w .returned) × (w′ ≡ checkCall t w .work)
+-- the work area and another one, of n bytes, have their lengths
+unfoldable pub areasFit : List ℕ → List ℕ → ℕ → Bool
+areasFit work other n = eqb (length work) work-bytes && eqb (length other) n
 
-abbrev pub RunReturns : List ℕ → List ℕ → ℕ → List ℕ → ℕ → List ℕ → List ℕ → Type 0
-RunReturns t w steps b r w′ b′ =
-    (r ≡ runCall t w steps b .returned) × (w′ ≡ runCall t w steps b .work) × (b′ ≡ runCall t w steps b .results)
+-- WHAT A CALL RETURNS, and leaves in each area
+abbrev pub CheckLeaves : Checked → ℕ → List ℕ → Type 0
+CheckLeaves c r work = (r ≡ c .returned) × (work ≡ c .work)
 
-abbrev pub BoundReturns : List ℕ → List ℕ → List ℕ → ℕ → List ℕ → List ℕ → Type 0
-BoundReturns t w b r w′ b′ = (r ≡ boundCall t w b .returned) × (w′ ≡ boundCall t w b .work) × (b′ ≡ boundCall t w b .bounds)
+abbrev pub RunLeaves : Ran → ℕ → List ℕ → List ℕ → Type 0
+RunLeaves c r work results = (r ≡ c .returned) × (work ≡ c .work) × (results ≡ c .results)
+
+abbrev pub BoundLeaves : Bounded → ℕ → List ℕ → List ℕ → Type 0
+BoundLeaves c r work bounds = (r ≡ c .returned) × (work ≡ c .work) × (bounds ≡ c .bounds)

@@ -1,5 +1,5 @@
-// The calls that a host links, `check`, `run` and `bound`, and what the program prints. Each reads, does its work, and clears the work
-// area.
+// The calls that a host links, `check`, `run`, `trial` and `bound`, and what the program prints. Each reads the text, does its work, and
+// clears the work area.
 mod bounds;
 
 use bounds::bound_found;
@@ -16,10 +16,11 @@ ghost use Prim.Native.Nat.{_<_};
 ghost use lib.ListN.{length};
 ghost use Rattle.rules.specs.Limits.{work-bytes, results-bytes};
 ghost use Rattle.rules.specs.Answers.{refusalNumber, then};
+ghost use Rattle.rules.specs.Reading.{readText};
 ghost use Rattle.rules.specs.Rules.{checkProgram};
 ghost use Rattle.rules.specs.Machine.{runProgram};
-ghost use Rattle.rules.specs.Calls.{verdictNumbers, checkText, wholeHeap, outcomeResult, runText};
-ghost use Rattle.rules.specs.Areas.{packed, cleared, wordsBytes};
+ghost use Rattle.rules.specs.Calls.{verdictNumbers, checkText, wholeHeap, outcomeResult};
+ghost use Rattle.rules.specs.Areas.{packed, cleared, wordsBytes, checkCall, runCall, trialCall, boundCall};
 ghost use Rattle.rules.specs.Printed.{printed};
 ghost use Rattle.tables.specs.Decode.{programIn};
 ghost use Rattle.tables.specs.Tables.{Tables};
@@ -29,12 +30,17 @@ ghost use Rattle.checker.specs.Checked as Checker;
 ghost use Rattle.machine.specs.Runs.{mainValues};
 ghost use Rattle.printer.specs.Writes.{Prints};
 ghost use Rattle.printer.specs.Answers.{out-bytes};
-ghost use Rattle.station.specs.Station.{numbersIn, Found, RunAs, CheckReturns, RunReturns, BoundReturns};
+ghost use Rattle.station.specs.Station.{numbersIn, Found, RunAs, unlessRefused, areasFit, CheckLeaves, RunLeaves, BoundLeaves};
 
 // A number of document 01's table, and the line that it goes with.
 pub struct Reply {
     pub number: u32,
     pub line: usize,
+}
+
+impl Reply {
+    // Number 1 at line 0, as it is returned: a lent area of wrong length.
+    const WRONG_LENGTH: u32 = 65536;
 }
 
 // NUMBERS
@@ -76,6 +82,16 @@ fn pack(f: Reply) -> u32
 }
 
 // AREAS
+
+// Have the work area and another one, of so many bytes, their lengths?
+fn areas_fit(work: &[u8], other: &[u8], bytes: usize) -> bool
+    ensures { λ r. ⌜ r ≡ areasFit (now (work .entry)) (now (other .entry)) bytes ⌝ }
+{
+    if work.len() != Machine::WORK_BYTES {
+        return false;
+    }
+    other.len() == bytes
+}
 
 // All bytes 0.
 fn clear(area: &mut [u8])
@@ -143,17 +159,17 @@ fn check_text(text: &[u8], work: &mut [u8]) -> Reply
 // Is the text a script that keeps to its permissions? The number and line of document 01's table, as number × 65,536 + line.
 #[no_mangle]
 pub extern "C" fn check(text: &[u8], work: &mut [u8]) -> u32
-    ensures { λ r. ⌜ CheckReturns (now (text .entry)) (now (work .entry)) r (now (work .exit)) ⌝ }
+    ensures { λ r. ⌜ CheckLeaves (checkCall (now (text .entry)) (now (work .entry))) r (now (work .exit)) ⌝ }
 {
     if work.len() != Machine::WORK_BYTES {
-        return 65536;
+        return Reply::WRONG_LENGTH;
     }
     let f = check_text(text, work);
     clear(work);
     pack(f)
 }
 
-// RUN
+// RUN AND TRIAL
 
 fn run_tables(work: &mut [u8], steps: u32, results: &mut [u8]) -> Reply
     requires { ⌜ Tables (now work) × (length (now results) ≡ results-bytes) ⌝ }
@@ -167,50 +183,72 @@ fn run_tables(work: &mut [u8], steps: u32, results: &mut [u8]) -> Reply
     Reply { number, line }
 }
 
-fn run_text(text: &[u8], work: &mut [u8], steps: u32, results: &mut [u8]) -> Reply
-    requires { ⌜ (length (now work) ≡ work-bytes) × (length (now results) ≡ results-bytes) ⌝ }
-    ensures { λ f. ⌜ RunAs (runText (now (text .entry)) steps) f (now (results .exit)) (now (work .exit)) ⌝ }
+// Runs the tables, unless a refusal was found: then there are zeros in results.
+fn run_found(found: Reply, work: &mut [u8], steps: u32, results: &mut [u8]) -> Reply
+    requires { ⌜ (found .number ≡ 0 → Tables (now work)) × (length (now work) ≡ work-bytes) × (length (now results) ≡ results-bytes) ⌝ }
+    ensures { λ f. ⌜ RunAs (unlessRefused found (outcomeResult (runProgram wholeHeap (programIn (now (work .entry))) steps))) f (now (results .exit)) (now (work .exit)) ⌝ }
+{
+    if found.number != 0 {
+        clear(results);
+        return found;
+    }
+    run_tables(work, steps, results)
+}
+
+// Runs main for at most so many steps, if check accepts the text: the number and line as for check; the steps taken and main's values in
+// `results`.
+#[no_mangle]
+pub extern "C" fn run(text: &[u8], work: &mut [u8], steps: u32, results: &mut [u8]) -> u32
+    ensures { λ r. ⌜ RunLeaves (runCall (now (text .entry)) (now (work .entry)) steps (now (results .entry))) r (now (work .exit)) (now (results .exit)) ⌝ }
+{
+    if !areas_fit(work, results, Machine::RESULTS_BYTES) {
+        return Reply::WRONG_LENGTH;
+    }
+    let found = check_text(text, work);
+    let f = run_found(found, work, steps, results);
+    clear(work);
+    pack(f)
+}
+
+// Reads the text.
+fn read_text(text: &[u8], work: &mut [u8]) -> Reply
+    requires { ⌜ length (now work) ≡ work-bytes ⌝ }
+    ensures { λ f. ⌜ Found (verdictNumbers (readText (now (text .entry)))) (now (text .entry)) f (now (work .exit)) ⌝ }
 {
     let r = reader::read(text, work);
     match r {
         Reading::Refused(why, line) => {
-            clear(results);
             let number = reading_number(why);
             Reply { number, line }
         }
-        Reading::Taken(_) => run_tables(work, steps, results),
+        Reading::Taken(_) => Reply { number: 0, line: 0 },
     }
 }
 
-// Runs main for at most so many steps: the number and line as for check; the steps taken and main's values in `results`.
+// Runs main as `run` does, of each text that the reader takes, accepted or not.
 #[no_mangle]
-pub extern "C" fn run(text: &[u8], work: &mut [u8], steps: u32, results: &mut [u8]) -> u32
-    ensures { λ r. ⌜ RunReturns (now (text .entry)) (now (work .entry)) steps (now (results .entry)) r (now (work .exit)) (now (results .exit)) ⌝ }
+pub extern "C" fn trial(text: &[u8], work: &mut [u8], steps: u32, results: &mut [u8]) -> u32
+    ensures { λ r. ⌜ RunLeaves (trialCall (now (text .entry)) (now (work .entry)) steps (now (results .entry))) r (now (work .exit)) (now (results .exit)) ⌝ }
 {
-    if work.len() != Machine::WORK_BYTES {
-        return 65536;
+    if !areas_fit(work, results, Machine::RESULTS_BYTES) {
+        return Reply::WRONG_LENGTH;
     }
-    if results.len() != Machine::RESULTS_BYTES {
-        return 65536;
-    }
-    let f = run_text(text, work, steps, results);
+    let found = read_text(text, work);
+    let f = run_found(found, work, steps, results);
     clear(work);
     pack(f)
 }
 
 // BOUND
 
-// How many steps can the script take, and how many frames? The number and line as for check; main's bound and the most frames on a route
-// of calls in `bounds`.
+// How many steps can an accepted script take, and how many frames? The number and line as for check; main's bound and the most frames on a
+// route of calls in `bounds`.
 #[no_mangle]
 pub extern "C" fn bound(text: &[u8], work: &mut [u8], bounds: &mut [u8]) -> u32
-    ensures { λ r. ⌜ BoundReturns (now (text .entry)) (now (work .entry)) (now (bounds .entry)) r (now (work .exit)) (now (bounds .exit)) ⌝ }
+    ensures { λ r. ⌜ BoundLeaves (boundCall (now (text .entry)) (now (work .entry)) (now (bounds .entry))) r (now (work .exit)) (now (bounds .exit)) ⌝ }
 {
-    if work.len() != Machine::WORK_BYTES {
-        return 65536;
-    }
-    if bounds.len() != Machine::BOUNDS_BYTES {
-        return 65536;
+    if !areas_fit(work, bounds, Machine::BOUNDS_BYTES) {
+        return Reply::WRONG_LENGTH;
     }
     let found = check_text(text, work);
     let f = bound_found(found, work, bounds);
@@ -226,6 +264,6 @@ pub fn print(text: &[u8], work: &mut [u8], results: &mut [u8], out: &mut [u8]) -
     ensures { λ r. ⌜ Prints (printed (now (text .entry))) (now (out .exit)) r ⌝ }
 {
     let checked = check(text, work);
-    let ran = run(text, work, Machine::PROGRAM_STEPS as u32, results);
+    let ran = trial(text, work, Machine::PROGRAM_STEPS as u32, results);
     printer::print(text, out, checked, ran, results)
 }

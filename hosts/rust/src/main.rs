@@ -8,7 +8,7 @@ use std::process::ExitCode;
 fn license(name: &str) -> Result<(), Box<dyn Error>> {
     let text = std::fs::read(name)?;
     let mut station = Station::new();
-    let outcome = station.check(&text)?.run(&mut station, 1_000);
+    let outcome = station.run(&text, 1_000)?;
     match outcome.ending() {
         AcceptedEnding::Finished => println!("{outcome}"),
         AcceptedEnding::Stopped(stop) => println!("without its end ({stop:?}): {outcome}"),

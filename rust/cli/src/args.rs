@@ -216,7 +216,7 @@ mod tests {
             ),
             (
                 "check --steps 5 a",
-                "--steps goes with run, trace, draw, not with check",
+                "--steps goes with run, trial, trace, draw, not with check",
             ),
             ("check --json=yes a", "--json takes no value"),
             (

@@ -4,7 +4,7 @@
 use crate::cause::{bound_cause, Cause};
 use crate::json::Json;
 use crate::objects;
-use crate::report::Report;
+use crate::report::{Asked, Report};
 use crate::routes::{Leg, Routes};
 use crate::script::{quoted, Script};
 use crate::show::{self, counted, file_name, grouped, wrapped, Paint};
@@ -44,7 +44,7 @@ impl<'a> Bounded<'a> {
 
     /// What check says of the text.
     fn checked(&self) -> Report<'a> {
-        Report::of(self.file, self.text, None)
+        Report::of(self.file, self.text, Asked::Check)
     }
 
     /// What a person reads.

@@ -273,21 +273,23 @@ pub fn svg(cards: &Cards, title: &str) -> String {
 /// The command, for one file.
 pub fn draw(session: &mut Session, name: &OsStr, text: &[u8]) -> u8 {
     let shown = file_name(name);
-    let report = Report::of(&shown, text, Some(session.words.steps));
-    let cards = report
-        .ran()
-        .and_then(|ran| cards::after(text, ran.outcome.steps()));
+    let report = Report::of(&shown, text, session.shown_run());
+    let ran = report.ran.as_ref();
+    let cards = ran.and_then(|ran| cards::after(text, ran.outcome.steps()));
     let picture = cards.map(|cards| svg(&cards, &shown));
     if session.json() {
         let object = crate::objects::report(&report).with_some("picture", picture.clone());
         session.print_json(&object);
     } else {
         match &picture {
-            Some(picture) => session.print(picture),
+            Some(picture) => {
+                eprint!("{}", crate::show::head(&report, session.paint));
+                session.print(picture);
+            }
             None => session.print(&crate::show::report(&report, session.paint)),
         }
     }
-    // A stopped run has its picture too; a text that is not read has none.
+    // A stopped run has its picture too; a text that is not run has none.
     match picture {
         Some(_) => DONE,
         None => REFUSED,

@@ -5,18 +5,36 @@ use crate::cards;
 use crate::draw;
 use crate::known;
 use crate::objects;
-use crate::report::Report;
+use crate::report::{Asked, Report};
 use crate::script::{line, Script};
 use crate::show::{self, Paint};
 use crate::trace;
 
+/// A trial and a run: the same, but of a text that check refuses.
 fn looked_into(text: &[u8], steps: u32) {
-    let report = Report::of("a", text, Some(steps));
+    let (tried, ran) = (
+        looked_at(text, Asked::Trial(steps)),
+        looked_at(text, Asked::Run(steps)),
+    );
+    assert_eq!(
+        ran,
+        if nuyardi::check(text).is_ok() {
+            tried
+        } else {
+            0
+        }
+    );
+}
+
+/// The steps taken.
+fn looked_at(text: &[u8], asked: Asked) -> u32 {
+    let report = Report::of("a", text, asked);
+    let ran = report.ran.as_ref();
     let lines = [
         (report.refusal.map(|refusal| refusal.line()), &report.cause),
         (
-            report.ran().map(|ran| ran.outcome.line()),
-            report.ran().map_or(&None, |ran| &ran.cause),
+            ran.map(|ran| ran.outcome.line()),
+            ran.map_or(&None, |ran| &ran.cause),
         ),
     ];
     for (number, cause) in lines {
@@ -36,7 +54,7 @@ fn looked_into(text: &[u8], steps: u32) {
             known::full(&script, &known);
         }
     }
-    let ran = report.ran().map_or(0, |ran| ran.outcome.steps());
+    let ran = ran.map_or(0, |ran| ran.outcome.steps());
     if let Some(script) = Script::of(text) {
         let mut last = 0;
         trace::each(&script, ran, |row| {
@@ -54,6 +72,7 @@ fn looked_into(text: &[u8], steps: u32) {
         );
         cards.table();
     }
+    ran
 }
 
 #[test]
@@ -84,7 +103,7 @@ fn near_misses_have_causes() {
     for number in 2..=14 {
         for _ in 0..20 {
             let text = model::gen::text_of(&mut rng, model::gen::Kind::Miss(number));
-            let report = Report::of("a", &text, None);
+            let report = Report::of("a", &text, Asked::Check);
             assert_eq!(report.refusal.is_some(), report.cause.is_some());
         }
     }

@@ -1,7 +1,7 @@
 //! `station known`: what the checker knows before and after a line.
 
 use crate::json::Json;
-use crate::report::Report;
+use crate::report::{Asked, Report};
 use crate::script::{quoted, Script};
 use crate::show::{file_name, rows, wrapped, Paint};
 use crate::{file_and_line, Session, DONE, FAILED, REFUSED};
@@ -317,7 +317,7 @@ pub fn known(session: &mut Session) -> u8 {
         return FAILED;
     };
     let shown = file_name(&name);
-    let report = Report::of(&shown, &text, None);
+    let report = Report::of(&shown, &text, Asked::Check);
     let Some(script) = Script::of(&text) else {
         session.print_report(&report);
         return REFUSED;

@@ -27,7 +27,7 @@ mod usage;
 use args::{Colour, Parsed};
 use files::{complain, complain_of, Out};
 use json::Json;
-use report::Report;
+use report::{Asked, Report};
 use show::Paint;
 use std::ffi::{OsStr, OsString};
 use std::process::ExitCode;
@@ -49,6 +49,14 @@ pub struct Session {
 impl Session {
     fn json(&self) -> bool {
         self.words.has("json")
+    }
+
+    /// The run that trace and draw show; with `--trial` a trial.
+    fn shown_run(&self) -> Asked {
+        match self.words.has("trial") {
+            true => Asked::Trial(self.words.steps),
+            false => Asked::Run(self.words.steps),
+        }
     }
 
     fn print(&mut self, text: &str) {
@@ -119,7 +127,7 @@ fn check(session: &mut Session) -> u8 {
             continue;
         };
         let shown = show::file_name(&name);
-        let report = Report::of(&shown, &text, None);
+        let report = Report::of(&shown, &text, Asked::Check);
         match report.good() {
             true => accepted += 1,
             false => refused += 1,
@@ -139,15 +147,14 @@ fn check(session: &mut Session) -> u8 {
     worst
 }
 
-/// `station run`.
-fn run(session: &mut Session) -> u8 {
-    let steps = session.words.steps;
+/// `station run` and `station trial`.
+fn run(session: &mut Session, asked: Asked) -> u8 {
     session.each(|session, name, text| {
         let shown = show::file_name(name);
-        let report = Report::of(&shown, text, Some(steps));
-        let cards = report.ran().filter(|_| session.words.has("cards"));
+        let report = Report::of(&shown, text, asked);
+        let cards = report.ran.as_ref().filter(|_| session.words.has("cards"));
         let cards = cards.and_then(|ran| cards::after(text, ran.outcome.steps()));
-        if cards.is_none() && session.words.has("cards") && report.ran().is_some() {
+        if cards.is_none() && session.words.has("cards") && report.ran.is_some() {
             let most = cause::AGAIN;
             complain(&format!("cards are shown after at most {most} steps"));
         }
@@ -253,7 +260,8 @@ fn completions(session: &mut Session) -> u8 {
 fn dispatch(session: &mut Session) -> u8 {
     match session.words.command {
         "check" => check(session),
-        "run" => run(session),
+        "run" => run(session, Asked::Run(session.words.steps)),
+        "trial" => run(session, Asked::Trial(session.words.steps)),
         "trace" => session.each(trace::trace),
         "known" => known::known(session),
         "draw" => session.each(draw::draw),

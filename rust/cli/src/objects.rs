@@ -2,7 +2,7 @@
 
 use crate::cause::Cause;
 use crate::json::Json;
-use crate::report::{columns, Ran, Report};
+use crate::report::{columns, Asked, Ran, Report};
 use crate::script::line;
 use crate::show::escaped;
 use nuyardi::{explain, Explanation, Value};
@@ -47,12 +47,15 @@ fn value(value: Value) -> Json {
     }
 }
 
+/// Check's number and line.
+fn checked(report: &Report) -> (u32, u32) {
+    let refusal = report.refusal;
+    refusal.map_or((0, 0), |refusal| (refusal.number(), refusal.line()))
+}
+
 /// Check's answer and its cause.
 pub fn check(object: Json, report: &Report) -> Json {
-    let refusal = report
-        .refusal
-        .map(|refusal| (refusal.number(), refusal.line()));
-    let (number, line) = refusal.unwrap_or((0, 0));
+    let (number, line) = checked(report);
     let object = object
         .with("accepted", number == 0)
         .with("number", number)
@@ -61,44 +64,49 @@ pub fn check(object: Json, report: &Report) -> Json {
     object.with_some("note", report.mended.clone())
 }
 
-/// What a run gives, over check's answer.
-pub fn ran(object: Json, ran: &Ran) -> Json {
-    let outcome = &ran.outcome;
-    let variables = outcome.variables().map(|variable| {
+fn variables(ran: &Ran) -> Json {
+    let variables = ran.outcome.variables().map(|variable| {
         Json::object()
             .with("name", variable.name)
             .with("type", variable.kind)
             .with("value", value(variable.value))
     });
+    Json::List(variables.collect())
+}
+
+/// What a run or a trial gives, beside check's answer: the same fields whether
+/// the text was run or not.
+fn ran(object: Json, report: &Report, allowed: u32) -> Json {
+    let ran = report.ran.as_ref();
+    let (number, line) = answer(report);
+    let none = || Json::List(Vec::new());
     let object = object
-        .with("finished", outcome.finished())
-        .with("number", outcome.number())
-        .with("line", outcome.line())
-        .with("allowed", ran.allowed)
-        .with("steps", outcome.steps())
-        .with("variables", Json::List(variables.collect()))
-        .with("open", ran.open.clone());
-    with_cause(object, ran.cause.as_ref())
+        .with("check", check(Json::object(), report))
+        .with("finished", ran.is_some_and(|ran| ran.outcome.finished()))
+        .with("number", number)
+        .with("line", line)
+        .with("allowed", allowed)
+        .with("steps", ran.map_or(0, |ran| ran.outcome.steps()))
+        .with("variables", ran.map_or_else(none, variables))
+        .with("open", ran.map_or_else(Vec::new, |ran| ran.open.clone()));
+    let cause = ran.map_or(report.cause.as_ref(), |ran| ran.cause.as_ref());
+    with_cause(object, cause)
+}
+
+/// The number and line of the call that was asked.
+fn answer(report: &Report) -> (u32, u32) {
+    let ran = report.ran.as_ref().map(|ran| &ran.outcome);
+    ran.map_or(checked(report), |ran| (ran.number(), ran.line()))
 }
 
 pub fn report(report: &Report) -> Json {
     let object = Json::object().with("file", report.file);
-    let (object, number, line) = match &report.run {
-        None => {
-            let object = check(object.with("call", "check"), report);
-            let refusal = report
-                .refusal
-                .map(|refusal| (refusal.number(), refusal.line()));
-            let (number, line) = refusal.unwrap_or((0, 0));
-            (object, number, line)
-        }
-        Some(run) => {
-            let checked = check(Json::object(), report);
-            let object = object.with("call", "run").with("check", checked);
-            let (number, line) = (run.outcome.number(), run.outcome.line());
-            (ran(object, run), number, line)
-        }
+    let object = match report.asked {
+        Asked::Check => check(object.with("call", "check"), report),
+        Asked::Run(allowed) => ran(object.with("call", "run"), report, allowed),
+        Asked::Trial(allowed) => ran(object.with("call", "trial"), report, allowed),
     };
+    let (number, line) = answer(report);
     words(object, number).with_some("text", line_text(report.text, line))
 }
 

@@ -1,23 +1,34 @@
-//! What is said of one file: check's answer with its cause, and the run if
-//! there was one.
+//! What is said of one file: check's answer with its cause, and the run or the
+//! trial if there was one.
 
 use crate::cause::{cause, open_calls, stop_cause, Cause};
 use crate::fmt::formatted;
 use crate::progress::Progress;
-use nuyardi::{Ending, Kind, Outcome, Refusal};
+use nuyardi::{Ending, Kind, Outcome, Refusal, Station};
+
+/// What is asked of the library; the steps that are allowed.
+#[derive(Clone, Copy)]
+pub enum Asked {
+    Check,
+    /// A run: of a text that check accepts.
+    Run(u32),
+    /// A trial: of each text that the reader takes.
+    Trial(u32),
+}
 
 pub struct Report<'a> {
     pub file: &'a str,
     pub text: &'a [u8],
+    pub asked: Asked,
     pub refusal: Option<Refusal>,
     pub cause: Option<Cause>,
     /// What check says of the text as `fmt` gives it, where that may help.
     pub mended: Option<String>,
-    pub run: Option<Ran<'a>>,
+    /// None if the text was not run.
+    pub ran: Option<Ran<'a>>,
 }
 
 pub struct Ran<'a> {
-    pub allowed: u32,
     pub outcome: Outcome<'a>,
     pub cause: Option<Cause>,
     /// The calls that are open where the run stopped.
@@ -25,18 +36,36 @@ pub struct Ran<'a> {
 }
 
 impl<'a> Ran<'a> {
-    pub fn of(station: &mut nuyardi::Station, text: &'a [u8], allowed: u32) -> Ran<'a> {
-        let progress = Progress::start(allowed);
-        let outcome = station.run(text, allowed);
-        drop(progress);
+    fn of(text: &[u8], outcome: Outcome<'a>) -> Ran<'a> {
         let stopped = matches!(outcome.ending(), Ending::Stopped(_));
         let (number, steps) = (outcome.number(), outcome.steps());
         let open = open_calls(text, steps).filter(|_| stopped);
         Ran {
-            allowed,
             cause: stop_cause(text, steps, number).filter(|_| stopped),
             open: open.unwrap_or_default(),
             outcome,
+        }
+    }
+}
+
+/// Check's refusal, and the run or the trial unless the call refused the text.
+fn answers(text: &[u8], asked: Asked) -> (Option<Refusal>, Option<Outcome<'_>>) {
+    let mut station = Station::new();
+    match asked {
+        Asked::Check => (station.check(text).err(), None),
+        Asked::Run(steps) => {
+            let _progress = Progress::start(steps);
+            match station.run(text, steps) {
+                Ok(outcome) => (None, Some(outcome.into())),
+                Err(refusal) => (Some(refusal), None),
+            }
+        }
+        Asked::Trial(steps) => {
+            let refusal = station.check(text).err();
+            let _progress = Progress::start(steps);
+            let outcome = station.trial(text, steps);
+            let ran = !matches!(outcome.ending(), Ending::Refused(_));
+            (refusal, ran.then_some(outcome))
         }
     }
 }
@@ -65,33 +94,26 @@ fn mended(text: &[u8], refusal: Refusal) -> Option<String> {
 }
 
 impl<'a> Report<'a> {
-    /// Checks the text, and runs it if steps are allowed.
-    pub fn of(file: &'a str, text: &'a [u8], steps: Option<u32>) -> Report<'a> {
-        let mut station = nuyardi::Station::new();
-        let refusal = station.check(text).err();
-        let run = steps.map(|allowed| Ran::of(&mut station, text, allowed));
+    /// Checks the text, and runs it or tries it out if that is asked.
+    pub fn of(file: &'a str, text: &'a [u8], asked: Asked) -> Report<'a> {
+        let (refusal, outcome) = answers(text, asked);
         Report {
             file,
             text,
+            asked,
             refusal,
             cause: refusal.and_then(|refusal| cause(text, refusal)),
             mended: refusal.and_then(|refusal| mended(text, refusal)),
-            run,
+            ran: outcome.map(|outcome| Ran::of(text, outcome)),
         }
     }
 
     /// Accepted, or finished where the text was run.
     pub fn good(&self) -> bool {
-        match &self.run {
+        match &self.ran {
             Some(ran) => ran.outcome.finished(),
             None => self.refusal.is_none(),
         }
-    }
-
-    /// The run, unless the reader refused the text, which check says already.
-    pub fn ran(&self) -> Option<&Ran<'a>> {
-        let read = |ran: &&Ran| !matches!(ran.outcome.ending(), Ending::Refused(_));
-        self.run.as_ref().filter(read)
     }
 }
 

@@ -224,16 +224,13 @@ pub fn title(number: u32) -> &'static str {
     explain(number).map_or("", |known| known.title)
 }
 
-fn refusal(out: &mut String, paint: Paint, report: &Report, only_check: bool) {
+fn refusal(out: &mut String, paint: Paint, report: &Report) {
     let Some(refusal) = report.refusal else {
         return;
     };
     let (number, line) = (refusal.number(), refusal.line());
-    let said = if only_check {
-        "refused"
-    } else {
-        "check refuses it"
-    };
+    let tried = report.ran.is_some();
+    let said = if tried { "check refuses it" } else { "refused" };
     let _ = writeln!(
         out,
         "{}: {}, number {number}: {}",
@@ -241,7 +238,7 @@ fn refusal(out: &mut String, paint: Paint, report: &Report, only_check: bool) {
         paint.bad(said),
         title(number)
     );
-    if only_check {
+    if !tried {
         let mark = report.cause.as_ref().and_then(|cause| cause.mark.clone());
         snippet(out, paint, report.text, line, mark);
         reasons(out, number, report.cause.as_ref());
@@ -291,18 +288,28 @@ fn shortened(open: &[String]) -> Vec<String> {
     rows
 }
 
-/// The answer of check, or of check and run.
-pub fn report(report: &Report, paint: Paint) -> String {
+/// Check's answer; of a text that was tried out all the same, one line.
+pub fn head(report: &Report, paint: Paint) -> String {
     let mut out = String::new();
-    let run = report.ran();
-    if report.refusal.is_none() && run.is_none() {
+    if report.refusal.is_none() && report.ran.is_none() {
         let _ = writeln!(out, "{}: {}", report.file, paint.good("accepted"));
     }
-    refusal(&mut out, paint, report, run.is_none());
-    if let Some(run) = run {
+    refusal(&mut out, paint, report);
+    out
+}
+
+/// How the run ended, if there was one.
+pub fn ending(report: &Report, paint: Paint) -> String {
+    let mut out = String::new();
+    if let Some(run) = &report.ran {
         ran(&mut out, paint, report, run);
     }
     out
+}
+
+/// The answer of check, or of check and run.
+pub fn report(report: &Report, paint: Paint) -> String {
+    head(report, paint) + &ending(report, paint)
 }
 
 /// One line for a refused file, as editors and compilers want it.

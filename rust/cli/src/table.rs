@@ -51,7 +51,14 @@ pub const COMMANDS: &[CommandSpec] = &[
         1,
         MANY,
     ),
-    command("run", "FILE", "run a script", 1, 1),
+    command("run", "FILE", "run a script that check accepts", 1, 1),
+    command(
+        "trial",
+        "FILE",
+        "run a script, also one that check refuses, to try it out",
+        1,
+        1,
+    ),
     command(
         "bound",
         "FILE..",
@@ -136,13 +143,19 @@ pub const OPTIONS: &[OptionSpec] = &[
         "steps",
         Some("N"),
         "allow N steps in place of 1,000",
-        &["run", "trace", "draw"],
+        &["run", "trial", "trace", "draw"],
     ),
     option(
         "cards",
         None,
         "show the cards at the end, or at a stop",
-        &["run", "trace"],
+        &["run", "trial", "trace"],
+    ),
+    option(
+        "trial",
+        None,
+        "show a trial, also of a script that check refuses",
+        &["trace", "draw"],
     ),
     option(
         "why",
@@ -177,7 +190,7 @@ pub const OPTIONS: &[OptionSpec] = &[
         None,
         "JSON, an object for each file",
         &[
-            "check", "run", "bound", "trace", "known", "draw", "fmt", "explain",
+            "check", "run", "trial", "bound", "trace", "known", "draw", "fmt", "explain",
         ],
     ),
     option(

@@ -6,7 +6,7 @@ use crate::json::Json;
 use crate::report::Report;
 use crate::rounds::Rounds;
 use crate::script::{quoted, shown, Script};
-use crate::show::file_name;
+use crate::show::{ending, file_name, head};
 use crate::{Session, DONE, REFUSED};
 use model::machine::{Machine, Step, Values};
 use model::names::Action;
@@ -174,10 +174,12 @@ pub fn each(script: &Script, steps: u32, mut wanted: impl FnMut(&Row) -> bool) {
 /// The command, for one file.
 pub fn trace(session: &mut Session, name: &OsStr, text: &[u8]) -> u8 {
     let shown_name = file_name(name);
-    let allowed = session.words.steps;
-    let report = Report::of(&shown_name, text, Some(allowed));
+    let report = Report::of(&shown_name, text, session.shown_run());
     let mut rows = Vec::new();
-    if let (Some(script), Some(ran)) = (Script::of(text), report.ran()) {
+    if !session.json() {
+        session.print(&head(&report, session.paint));
+    }
+    if let (Some(script), Some(ran)) = (Script::of(text), &report.ran) {
         each(&script, ran.outcome.steps(), |row| {
             match session.json() {
                 true => rows.push(json_row(row)),
@@ -186,13 +188,13 @@ pub fn trace(session: &mut Session, name: &OsStr, text: &[u8]) -> u8 {
             rows.len() < JSON_ROWS
         });
     }
-    let cards = report.ran().filter(|_| session.words.has("cards"));
+    let cards = report.ran.as_ref().filter(|_| session.words.has("cards"));
     let cards = cards.and_then(|ran| cards::after(text, ran.outcome.steps()));
     if session.json() {
         let object = crate::objects::report(&report).with("trace", Json::List(rows));
         session.print_json(&object.with_some("cards", cards.map(|cards| cards.json())));
     } else {
-        session.print(&crate::show::report(&report, session.paint));
+        session.print(&ending(&report, session.paint));
         session.print(&cards.map_or(String::new(), |cards| cards.table()));
     }
     if report.good() {

@@ -14,6 +14,11 @@ fn statuses() {
         (&["run", "examples/tag.script"], 0),
         (&["run", "examples/stopped-23.script"], 1),
         (&["run", "examples/refused-06.script"], 1),
+        (&["run", "examples/sum.script"], 1),
+        (&["trial", "examples/sum.script"], 0),
+        (&["trial", "examples/tag.script"], 0),
+        (&["trial", "examples/stopped-24.script"], 1),
+        (&["trial", "examples/refused-06.script"], 1),
         (&["run", "--steps", "6", "examples/tag.script"], 1),
         (&["run", "--steps=7", "examples/tag.script"], 0),
         (&["bound", "examples/tag.script"], 0),
@@ -24,12 +29,16 @@ fn statuses() {
         (&["bound", "--why", "examples"], 1),
         (&["trace", "examples/tag.script"], 0),
         (&["trace", "examples/stopped-26.script"], 1),
+        (&["trace", "--trial", "examples/stopped-26.script"], 1),
+        (&["trace", "--trial", "examples/sum.script"], 0),
         (&["known", "examples/tag.script"], 0),
         (&["known", "examples/refused-12.script"], 1),
         (&["known", "examples/refused-10.script"], 1),
         (&["known", "examples/tag.script:99"], 2),
         (&["draw", "examples/tag.script"], 0),
         (&["draw", "examples/refused-04.script"], 1),
+        (&["draw", "examples/lost.script"], 1),
+        (&["draw", "--trial", "examples/lost.script"], 0),
         (&["explain", "12"], 0),
         (&["fmt", "-"], 0),
         (&["tabs", "-"], 0),
@@ -47,7 +56,7 @@ fn statuses() {
 
 #[test]
 fn wrong_use() {
-    let wrong: [&[&str]; 15] = [
+    let wrong: [&[&str]; 17] = [
         &[],
         &["check"],
         &["run"],
@@ -56,6 +65,8 @@ fn wrong_use() {
         &["explain", "17"],
         &["explain", "many"],
         &["run", "a", "b"],
+        &["trial"],
+        &["run", "--trial", "a"],
         &["run", "--steps", "-1", "a"],
         &["run", "--steps", "4294967296", "a"],
         &["run", "a", "--steps"],
@@ -130,7 +141,7 @@ fn causes_of_stops() {
             "  cause: -2147483648 (`n`) less 1 (`one`) is -2147483649, and -2147483648 is\n         the least\n",
         ),
     ] {
-        let (out, _, status) = said(&["run", "-"], text.as_bytes());
+        let (out, _, status) = said(&["trial", "-"], text.as_bytes());
         assert_eq!(status, 1);
         assert!(out.contains(stop) && out.contains(cause), "{out}");
     }
@@ -175,7 +186,7 @@ fn causes_of_stops_at_loops() {
             "  cause: main does not hold `s.n`\n",
         ),
     ] {
-        let (out, _, status) = said(&["run", "-"], &with_loop(lines));
+        let (out, _, status) = said(&["trial", "-"], &with_loop(lines));
         assert_eq!(status, 1);
         assert!(out.contains(stop) && out.contains(cause), "{out}");
     }
@@ -235,6 +246,43 @@ fn inside_loops() {
                  again\nassert\teq\tk\t0\nend\nmain\nend\n";
     let (out, _, _) = said(&["known", "-"], text);
     assert!(out.contains("   7 again\n     + eq k 0\n"), "{out}");
+}
+
+/// A run of a refused text says what check says; a trial says at its head that
+/// check refuses the text, and of an accepted one the same as a run.
+#[test]
+fn run_checks_first() {
+    for name in [
+        "examples/lost.script",
+        "examples/refused-10.script",
+        "examples/refused-06.script",
+    ] {
+        let checked = said(&["check", name], b"");
+        assert_eq!(checked.2, 1);
+        for word in ["run", "trace", "draw"] {
+            assert_eq!(said(&[word, name], b""), checked, "{word} {name}");
+        }
+    }
+    let head =
+        "examples/lost.script:15: check refuses it, number 12: a permission that is not shown\n";
+    let stop =
+        "examples/lost.script:15: stopped after 3 steps, number 24: a permission is missing\n";
+    let (out, _, _) = said(&["trial", "examples/lost.script"], b"");
+    assert!(out.starts_with(&format!("{head}{stop}")), "{out}");
+    let (out, _, _) = said(&["trace", "--trial", "examples/lost.script"], b"");
+    assert!(
+        out.starts_with(&format!("{head}     1   13  new c Card ")) && out.contains(stop),
+        "{out}"
+    );
+    let (out, error, _) = said(&["draw", "--trial", "examples/lost.script"], b"");
+    assert!(out.starts_with("<svg ") && error == head, "{error}");
+    for name in ["examples/tag.script", "examples/stopped-23.script"] {
+        assert_eq!(said(&["trial", name], b""), said(&["run", name], b""));
+        assert_eq!(
+            said(&["trace", "--trial", name], b""),
+            said(&["trace", name], b"")
+        );
+    }
 }
 
 /// No run comes to the line after a `return` from there; what a `join` says is
@@ -303,6 +351,7 @@ fn escapes() {
         &["check", "--json", "-"],
         &["check", "--short", "-"],
         &["run", "-"],
+        &["trial", "-"],
         &["known", "-"],
         &["trace", "-"],
         &["draw", "-"],
@@ -352,11 +401,15 @@ fn examples_of_explanations() {
             assert!(known.number < 3);
             continue;
         };
+        let example = example.as_bytes();
+        let steps = if known.number == 21 { 1 } else { 1_000 };
         let number = match known.number {
-            21 => nuyardi::run(example.as_bytes(), 1).number(),
-            22.. => nuyardi::run(example.as_bytes(), 1_000).number(),
-            15 | 16 => nuyardi::bound(example.as_bytes()).map_or_else(|none| none.number(), |_| 0),
-            _ => nuyardi::check(example.as_bytes()).map_or_else(|refusal| refusal.number(), |_| 0),
+            15 | 16 => nuyardi::bound(example).map_or_else(|none| none.number(), |_| 0),
+            24..=26 => nuyardi::trial(example, steps).number(),
+            _ => match nuyardi::run(example, steps) {
+                Ok(outcome) => outcome.number(),
+                Err(refusal) => refusal.number(),
+            },
         };
         assert_eq!(number, known.number);
     }

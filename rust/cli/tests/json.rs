@@ -73,12 +73,37 @@ fn run() {
         assert_eq!(variable.get("type"), Some(&text(kind)));
         assert_eq!(variable.get("value"), Some(&value));
     }
-    let null = object(&["run", "--json", "examples/stopped-25.script"], b"");
+    let null = object(&["trial", "--json", "examples/stopped-25.script"], b"");
+    assert_eq!(null.get("call"), Some(&text("trial")));
+    assert_eq!(null.get("number"), Some(&Json::Int(25)));
     let Some(Json::List(variables)) = null.get("variables") else {
         panic!("no variables: {null:?}");
     };
     assert_eq!(variables[0].get("value"), Some(&Json::Null));
     assert_eq!(null.at(&["check", "number"]), Some(&Json::Int(11)));
+}
+
+/// A run of a text that check refuses has check's number and line, and no steps.
+#[test]
+fn run_of_a_refused_text() {
+    for command in ["run", "trace", "draw"] {
+        let refused = object(&[command, "--json", "examples/stopped-25.script"], b"");
+        assert_eq!(refused.get("call"), Some(&text("run")));
+        for (name, value) in [
+            ("number", 11),
+            ("line", 6),
+            ("steps", 0),
+            ("allowed", 1_000),
+        ] {
+            assert_eq!(refused.get(name), Some(&Json::Int(value)), "{name}");
+        }
+        for name in ["variables", "open"] {
+            assert_eq!(refused.get(name), Some(&Json::List(Vec::new())), "{name}");
+        }
+        assert_eq!(refused.get("finished"), Some(&Json::Bool(false)));
+        assert_eq!(refused.at(&["check", "number"]), Some(&Json::Int(11)));
+        assert_eq!(refused.get("cause"), refused.at(&["check", "cause"]));
+    }
 }
 
 #[test]
@@ -164,7 +189,7 @@ fn anything() {
         b"main\nend\nend\n",
         b"\"\\\n",
     ] {
-        for command in ["check", "run", "bound", "trace", "known", "draw"] {
+        for command in ["check", "run", "trial", "bound", "trace", "known", "draw"] {
             let object = object(&[command, "--json", "-"], input);
             assert!(
                 matches!(object.get("number"), Some(Json::Int(_))),

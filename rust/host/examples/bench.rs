@@ -1,6 +1,6 @@
-//! Times check, bound and run of the library beside those of `rust/model`, in one
-//! go, and prints a table. Each round times a batch of the one, then of the other;
-//! the best round counts. The answers are compared too.
+//! Times check, bound, run and trial of the library beside those of `rust/model`, in
+//! one go, and prints a table. Each round times a batch of the one, then of the
+//! other; the best round counts. The answers are compared too.
 //!
 //! `cargo run --release --example bench [MS] [PART]`: about MS milliseconds for
 //! each side of a row (100), only rows whose name has PART in it.
@@ -14,6 +14,15 @@ use std::hint::black_box;
 use std::time::Instant;
 
 const ROUNDS: u32 = 40;
+
+/// A call that runs a text.
+type Ran = fn(&[u8], &mut [u8], u32, &mut [u8]) -> u32;
+
+/// The library's and the model's.
+const RUNS: [(&str, Ran, Ran); 2] = [
+    ("run", calls::run, model::run_call),
+    ("trial", calls::trial, model::trial_call),
+];
 
 /// The best time of a call of each side, in ns, timed in turn.
 fn duel(mut one: impl FnMut(), mut two: impl FnMut(), ms: f64) -> (f64, f64) {
@@ -101,34 +110,29 @@ fn main() {
         let Some(allowed) = workload.steps else {
             continue;
         };
-        let answers = (
-            calls::run(text, &mut work.0, allowed, &mut results.0),
-            model::run_call(text, &mut work.1, allowed, &mut results.1),
-        );
-        assert_eq!((answers.0, results.0), (answers.1, results.1), "{name}");
-        let steps = results.0[..4]
-            .iter()
-            .rev()
-            .fold(0, |all, &byte| all << 8 | u32::from(byte));
-        let (library, model) = duel(
-            || {
-                sink(calls::run(
-                    black_box(text),
-                    &mut work.0,
-                    allowed,
-                    &mut results.0,
-                ))
-            },
-            || {
-                sink(model::run_call(
-                    black_box(text),
-                    &mut work.1,
-                    allowed,
-                    &mut results.1,
-                ))
-            },
-            ms,
-        );
-        row("run", answers.0, steps, library, model);
+        for (call, ours, theirs) in RUNS {
+            let answers = (
+                ours(text, &mut work.0, allowed, &mut results.0),
+                theirs(text, &mut work.1, allowed, &mut results.1),
+            );
+            assert_eq!((answers.0, results.0), (answers.1, results.1), "{name}");
+            let steps = results.0[..4]
+                .iter()
+                .rev()
+                .fold(0, |all, &byte| all << 8 | u32::from(byte));
+            let (library, model) = duel(
+                || sink(ours(black_box(text), &mut work.0, allowed, &mut results.0)),
+                || {
+                    sink(theirs(
+                        black_box(text),
+                        &mut work.1,
+                        allowed,
+                        &mut results.1,
+                    ))
+                },
+                ms,
+            );
+            row(call, answers.0, steps, library, model);
+        }
     }
 }

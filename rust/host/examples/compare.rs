@@ -32,11 +32,15 @@ fn main() {
         let (texts, seconds) = (counts[0].iter().sum::<u64>(), start.elapsed().as_secs());
         eprintln!("{texts} texts, {seconds} s");
     }
-    let [checks, runs, bounds] = counts;
+    let [checks, runs, trials, bounds] = counts;
     println!("{} texts, no difference", checks.iter().sum::<u64>());
-    for (number, ((check, run), bound)) in checks.iter().zip(runs).zip(bounds).enumerate() {
-        if check + run + bound > 0 {
-            println!("{number:>2}: check {check:>9}, run {run:>9}, bound {bound:>9}");
+    for number in 0..checks.len() {
+        let given = [checks, runs, trials, bounds].map(|counts| counts[number]);
+        let [check, run, trial, bound] = given;
+        if given != [0; 4] {
+            println!(
+                "{number:>2}: check {check:>9}, run {run:>9}, trial {trial:>9}, bound {bound:>9}"
+            );
         }
     }
 }

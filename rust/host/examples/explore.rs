@@ -14,14 +14,14 @@ use model::gen::{self, mutate, rng::Rng};
 use std::collections::HashSet;
 use std::path::Path;
 
-/// What a text reached: the answers of the calls, with the kind of line that
-/// they name and how far down the text it stands.
+/// What a text reached: the answers of check, trial and bound, with the kind of
+/// line that they name and how far down the text it stands.
 #[derive(PartialEq, Eq, Hash)]
 struct Reached {
     check: u32,
     check_line: Vec<u8>,
-    run: u32,
-    run_line: Vec<u8>,
+    trial: u32,
+    trial_line: Vec<u8>,
     bound: u32,
     bound_line: Vec<u8>,
     depth: u32,
@@ -38,16 +38,16 @@ fn kind_of(text: &[u8], line: u32) -> Vec<u8> {
     fields.take(2).filter(known).flatten().copied().collect()
 }
 
-fn reached(text: &[u8], [check, run, bound]: Answers) -> Reached {
-    let [check_line, run_line, bound_line] = [check, run, bound].map(|answer| answer % 65_536);
+fn reached(text: &[u8], [check, _, trial, bound]: Answers) -> Reached {
+    let [check_line, trial_line, bound_line] = [check, trial, bound].map(|answer| answer % 65_536);
     Reached {
         check: check / 65_536,
         check_line: kind_of(text, check_line),
-        run: run / 65_536,
-        run_line: kind_of(text, run_line),
+        trial: trial / 65_536,
+        trial_line: kind_of(text, trial_line),
         bound: bound / 65_536,
         bound_line: kind_of(text, bound_line),
-        depth: (check_line.max(run_line).max(bound_line) + 1).ilog2(),
+        depth: (check_line.max(trial_line).max(bound_line) + 1).ilog2(),
     }
 }
 

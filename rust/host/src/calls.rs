@@ -1,8 +1,8 @@
 //! The C functions of libnuyardi.a, declared once, and over Rust slices.
 //!
-//! Most callers want [`crate::check`], [`crate::run`] and [`crate::bound`]. The
-//! functions here are for those who lend areas of their own and want the number as
-//! it comes.
+//! Most callers want [`crate::check`], [`crate::run`], [`crate::trial`] and
+//! [`crate::bound`]. The functions here are for those who lend areas of their own
+//! and want the number as it comes.
 
 /// The functions as C has them. A null text is allowed with length 0; the areas
 /// must not overlap, with each other or with the text.
@@ -23,6 +23,15 @@ pub mod raw {
             results: *mut u8,
             results_len: usize,
         ) -> u32;
+        pub fn station_trial(
+            text: *const u8,
+            text_len: usize,
+            work: *mut u8,
+            work_len: usize,
+            steps: u32,
+            results: *mut u8,
+            results_len: usize,
+        ) -> u32;
         pub fn station_bound(
             text: *const u8,
             text_len: usize,
@@ -32,6 +41,10 @@ pub mod raw {
             bounds_len: usize,
         ) -> u32;
     }
+
+    /// A function that runs a text.
+    pub type Runs =
+        unsafe extern "C" fn(*const u8, usize, *mut u8, usize, u32, *mut u8, usize) -> u32;
 }
 
 /// Checks the text over a lent work area of [`WORK_BYTES`](crate::limits::WORK_BYTES)
@@ -50,9 +63,10 @@ pub fn check(text: &[u8], work: &mut [u8]) -> u32 {
     unsafe { raw::station_check(text.as_ptr(), text.len(), work.as_mut_ptr(), work.len()) }
 }
 
-/// Runs the text for at most so many steps, with a results area of
-/// [`RESULTS_BYTES`](crate::limits::RESULTS_BYTES) bytes: the steps taken, then
-/// the values of main's variables, 4 bytes each, low byte first.
+/// Runs the text for at most so many steps, if check accepts it, with a results
+/// area of [`RESULTS_BYTES`](crate::limits::RESULTS_BYTES) bytes: the steps taken,
+/// then the values of main's variables, 4 bytes each, low byte first. A text that
+/// check refuses gets check's number and line, and zeros.
 ///
 /// ```
 /// let mut work = vec![0; nuyardi::limits::WORK_BYTES];
@@ -62,9 +76,26 @@ pub fn check(text: &[u8], work: &mut [u8]) -> u32 {
 /// assert_eq!(results[..8], [2, 0, 0, 0, 7, 0, 0, 0]);
 /// ```
 pub fn run(text: &[u8], work: &mut [u8], steps: u32, results: &mut [u8]) -> u32 {
+    over(raw::station_run, text, work, steps, results)
+}
+
+/// Runs the text as [`run`] does, accepted or not, if the reader takes it.
+///
+/// ```
+/// let mut work = vec![0; nuyardi::limits::WORK_BYTES];
+/// let mut results = [0; nuyardi::limits::RESULTS_BYTES];
+/// let text = b"main\nassert\teq\t1\t2\nend\n";
+/// assert_eq!(nuyardi::calls::run(text, &mut work, 9, &mut results), 13 * 65_536 + 2);
+/// assert_eq!(nuyardi::calls::trial(text, &mut work, 9, &mut results), 26 * 65_536 + 2);
+/// ```
+pub fn trial(text: &[u8], work: &mut [u8], steps: u32, results: &mut [u8]) -> u32 {
+    over(raw::station_trial, text, work, steps, results)
+}
+
+fn over(call: raw::Runs, text: &[u8], work: &mut [u8], steps: u32, results: &mut [u8]) -> u32 {
     // SAFETY: as in `check`; the two areas are two borrows, so they are apart.
     unsafe {
-        raw::station_run(
+        call(
             text.as_ptr(),
             text.len(),
             work.as_mut_ptr(),

@@ -3,8 +3,7 @@
 //! ```
 //! use nuyardi::{Station, Value};
 //! let mut station = Station::new();
-//! let accepted = station.check(b"main\nvar\tint\ta\nlet\ta\t7\nend\n")?;
-//! let outcome = accepted.run(&mut station, 1_000);
+//! let outcome = station.run(b"main\nvar\tint\ta\nlet\ta\t7\nend\n", 1_000)?;
 //! assert!(outcome.finished());
 //! assert_eq!(outcome.variable("a").map(|a| a.value), Some(Value::Int(7)));
 //! # Ok::<(), nuyardi::Refusal>(())
@@ -59,15 +58,27 @@ pub fn check(text: &[u8]) -> Result<Accepted<'_>, Refusal> {
     Station::new().check(text)
 }
 
-/// Runs a text for at most so many steps, accepted or not; see [`Station::run`].
+/// Runs a text for at most so many steps, if check accepts it; see [`Station::run`].
 ///
 /// ```
-/// let outcome = nuyardi::run(b"main\nvar\tint\ta\nassert\teq\ta\t1\nend\n", 1_000);
+/// let outcome = nuyardi::run(b"main\nvar\tint\ta\nlet\ta\t1\nend\n", 1_000)?;
+/// assert_eq!(outcome.ending(), nuyardi::AcceptedEnding::Finished);
+/// assert_eq!((outcome.line(), outcome.steps()), (4, 2));
+/// # Ok::<(), nuyardi::Refusal>(())
+/// ```
+pub fn run(text: &[u8], steps: u32) -> Result<Outcome<'_, AcceptedEnding>, Refusal> {
+    Station::new().run(text, steps)
+}
+
+/// Runs a text for at most so many steps, accepted or not; see [`Station::trial`].
+///
+/// ```
+/// let outcome = nuyardi::trial(b"main\nvar\tint\ta\nassert\teq\ta\t1\nend\n", 1_000);
 /// assert_eq!(outcome.ending(), nuyardi::Ending::Stopped(nuyardi::Stop::FormulaFalse));
 /// assert_eq!((outcome.line(), outcome.steps()), (3, 0));
 /// ```
-pub fn run(text: &[u8], steps: u32) -> Outcome<'_> {
-    Station::new().run(text, steps)
+pub fn trial(text: &[u8], steps: u32) -> Outcome<'_> {
+    Station::new().trial(text, steps)
 }
 
 /// The most steps and frames of a run, known before it; see [`Station::bound`].

@@ -91,8 +91,9 @@ numbered! {
 }
 
 numbered! {
-    /// The stops that an accepted text may meet. That it meets no other is a
-    /// theorem about the library (`one-claim-returned`).
+    /// The stops that an accepted text may meet. That it meets no other, and
+    /// that run returns no other for any text, are theorems about the library
+    /// (`one-claim-returned`, `run-returns-never-stuck`).
     AcceptedStop {
         /// 21: the allowed steps are taken.
         OutOfSteps = 21,

@@ -5,7 +5,7 @@ use crate::numbers::known;
 use crate::{explain, AcceptedStop, Kind, Stop};
 use core::fmt;
 
-/// How a run of any text ended.
+/// How a trial of any text ended.
 #[derive(Clone, Copy, Debug, PartialEq, Eq, Hash)]
 #[non_exhaustive]
 pub enum Ending {
@@ -92,7 +92,7 @@ pub struct Variable<'t> {
 }
 
 /// How a run ended: number and line, the steps taken, main's variables. The
-/// ending of a run of any text is an [`Ending`], that of an accepted one an
+/// ending of a trial of any text is an [`Ending`], that of a run an
 /// [`AcceptedEnding`].
 #[derive(Clone, Copy, Debug, PartialEq, Eq, Hash)]
 pub struct Outcome<'t, E = Ending> {
@@ -106,7 +106,7 @@ pub struct Outcome<'t, E = Ending> {
 }
 
 impl<'t, E: Copy> Outcome<'t, E> {
-    /// What run returned, the text, and what it left in the results area.
+    /// What a call returned, the text, and what it left in the results area.
     pub(crate) fn of(
         returned: u32,
         ending: fn(u32) -> Option<E>,

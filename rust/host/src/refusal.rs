@@ -1,6 +1,5 @@
 //! Why a text is refused, and where.
 
-use crate::numbers::known;
 use crate::{explain, Kind};
 use core::fmt;
 
@@ -12,13 +11,10 @@ pub struct Refusal {
 }
 
 impl Refusal {
-    /// The refusal that a call returned, or none for number 0.
+    /// The refusal that a call returned, if it is one.
     pub(crate) fn of(returned: u32) -> Option<Refusal> {
         let (number, line) = (returned / 65_536, returned % 65_536);
-        (number != 0).then(|| Refusal {
-            kind: known(Kind::of(number), number),
-            line,
-        })
+        Kind::of(number).map(|kind| Refusal { kind, line })
     }
 
     /// The number.

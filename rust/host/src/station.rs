@@ -1,6 +1,7 @@
 //! The calls with areas of their own.
 
 use crate::limits::{BOUNDS_BYTES, RESULTS_BYTES, WORK_BYTES};
+use crate::numbers::known;
 use crate::outcome::{AcceptedEnding, Ending};
 use crate::{calls, Bound, NoBound, Outcome, Refusal};
 use core::borrow::BorrowMut;
@@ -77,26 +78,56 @@ impl<W: BorrowMut<[u8; WORK_BYTES]>> Station<W> {
     /// Checks a text: accepted, or refused with a number and a line.
     pub fn check<'t>(&mut self, text: &'t [u8]) -> Result<Accepted<'t>, Refusal> {
         let returned = calls::check(text, self.work.borrow_mut());
+        let accepted = (returned == 0).then_some(Accepted { text });
         match Refusal::of(returned) {
-            None => Ok(Accepted { text }),
+            None => Ok(known(accepted, returned / 65_536)),
             Some(refusal) => Err(refusal),
         }
     }
 
-    /// Runs a text for at most so many steps. A text that check refuses with one
-    /// of the numbers 10 to 14 runs all the same; the machine tests every
-    /// permission. For a text that is checked there is [`Accepted::run`].
-    pub fn run<'t>(&mut self, text: &'t [u8], steps: u32) -> Outcome<'t> {
-        self.run_to(Ending::of, text, steps)
+    /// Runs a text for at most so many steps, if check accepts it: refused as by
+    /// check, or run to an [`AcceptedEnding`]. There is no third, by a theorem. A
+    /// text that is run more than once is better checked once, and run by
+    /// [`Accepted::run`].
+    ///
+    /// ```
+    /// let mut station = nuyardi::Station::new();
+    /// assert_eq!(station.run(b"main\nend\n", 10)?.steps(), 1);
+    /// let refusal = station.run(b"main\nassert\teq\t1\t2\nend\n", 10).unwrap_err();
+    /// assert_eq!((refusal.number(), refusal.line()), (13, 2));
+    /// # Ok::<(), nuyardi::Refusal>(())
+    /// ```
+    pub fn run<'t>(
+        &mut self,
+        text: &'t [u8],
+        steps: u32,
+    ) -> Result<Outcome<'t, AcceptedEnding>, Refusal> {
+        let returned = calls::run(text, self.work.borrow_mut(), steps, &mut self.results);
+        match Refusal::of(returned) {
+            None => Ok(Outcome::of(
+                returned,
+                AcceptedEnding::of,
+                text,
+                &self.results,
+            )),
+            Some(refusal) => Err(refusal),
+        }
     }
 
-    fn run_to<'t, E: Copy>(
+    /// Tries a text out: runs it for at most so many steps, accepted or not. A
+    /// text that check refuses with one of the numbers 10 to 14 runs all the same;
+    /// the machine tests every permission.
+    pub fn trial<'t>(&mut self, text: &'t [u8], steps: u32) -> Outcome<'t> {
+        self.tried(Ending::of, text, steps)
+    }
+
+    fn tried<'t, E: Copy>(
         &mut self,
         ending: fn(u32) -> Option<E>,
         text: &'t [u8],
         steps: u32,
     ) -> Outcome<'t, E> {
-        let returned = calls::run(text, self.work.borrow_mut(), steps, &mut self.results);
+        let returned = calls::trial(text, self.work.borrow_mut(), steps, &mut self.results);
         Outcome::of(returned, ending, text, &self.results)
     }
 
@@ -145,7 +176,8 @@ impl<'t> Accepted<'t> {
 
     /// Runs the text for at most so many steps. It finishes, or stops for want
     /// of room or at a sum beyond 32 bits: an [`AcceptedEnding`] has no other
-    /// case, by a theorem.
+    /// case, by a theorem. It is not checked again: an accepted text gets the same
+    /// from run and from trial, by another.
     ///
     /// ```
     /// use nuyardi::{AcceptedEnding, AcceptedStop};
@@ -161,6 +193,6 @@ impl<'t> Accepted<'t> {
         station: &mut Station<W>,
         steps: u32,
     ) -> Outcome<'t, AcceptedEnding> {
-        station.run_to(AcceptedEnding::of, self.text, steps)
+        station.tried(AcceptedEnding::of, self.text, steps)
     }
 }

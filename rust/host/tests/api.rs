@@ -96,21 +96,23 @@ fn generated_texts() {
             Ok(accepted) => {
                 assert_eq!((number, accepted.text()), (0, &text[..]));
                 let outcome = accepted.run(&mut station, steps);
-                assert_eq!(Outcome::from(outcome), station.run(&text, steps));
+                assert_eq!(Ok(outcome), station.run(&text, steps));
+                assert_eq!(Outcome::from(outcome), station.trial(&text, steps));
                 if let AcceptedEnding::Stopped(stop) = outcome.ending() {
                     accepted_stops.insert(stop);
                 }
             }
             Err(refusal) => {
                 assert_eq!((refusal.number(), refusal.line()), (number, line));
+                assert_eq!(station.run(&text, steps), Err(refusal));
                 assert_eq!(Some(refusal.kind()), Kind::of(number));
                 let shown = refusal.to_string();
                 assert!(line == 0 || shown.starts_with(&format!("line {line}: ")));
                 assert!(shown.contains(&format!("(number {number}); ")), "{shown}");
             }
         }
-        let outcome = station.run(&text, steps);
-        let run = model::run(&text, steps);
+        let outcome = station.trial(&text, steps);
+        let run = model::trial(&text, steps);
         assert_eq!(
             (outcome.number(), outcome.line(), outcome.steps()),
             (run.number, run.line, run.steps)
@@ -216,7 +218,7 @@ fn bounds_in_words() {
 fn a_refusal_is_an_error() {
     fn checked(text: &[u8]) -> Result<u32, Box<dyn std::error::Error + '_>> {
         let mut station = Station::new();
-        Ok(station.check(text)?.run(&mut station, 10).steps())
+        Ok(station.run(text, 10)?.steps())
     }
     assert_eq!(checked(b"main\nend\n").expect("accepted"), 1);
     let error = checked(b"main\nend").expect_err("the last line is not ended");

@@ -3,7 +3,7 @@
 #[path = "support/compare.rs"]
 mod compare;
 
-use compare::{compare_seeds, run_of, Call, Comparer, BOUND, CHECK};
+use compare::{compare_seeds, run_of, trial_of, Call, Comparer, Runs, BOUND, CHECK};
 use nuyardi::calls::raw;
 use nuyardi::limits::{BOUNDS_BYTES, RESULTS_BYTES, TEXT_BYTES, WORK_BYTES};
 use std::path::Path;
@@ -30,7 +30,12 @@ fn case(line: &str) -> Option<(Vec<u8>, Call)> {
             work,
             bounds: length(BOUNDS_BYTES),
         },
-        Some("run") => Call::Run {
+        Some(name @ ("run" | "trial")) => Call::Run {
+            by: if name == "run" {
+                Runs::Run
+            } else {
+                Runs::Trial
+            },
             work,
             steps: fields[1].parse().expect("steps"),
             results: length(RESULTS_BYTES),
@@ -69,8 +74,11 @@ fn every_example() {
     for entry in std::fs::read_dir(folder).expect("examples") {
         let text = std::fs::read(entry.expect("an entry").path()).expect("an example");
         examples += 1;
-        let runs = [0, 7, 1_000, 100_000].map(run_of);
-        for call in runs.into_iter().chain([CHECK, BOUND]) {
+        let runs = [0, 7, 1_000, 100_000];
+        let runs = runs
+            .into_iter()
+            .flat_map(|steps| [run_of(steps), trial_of(steps)]);
+        for call in runs.chain([CHECK, BOUND]) {
             if let Err(difference) = comparer.call(&text, call) {
                 panic!("{difference}");
             }
@@ -92,7 +100,7 @@ fn lengths_and_single_bytes() {
         texts.push(filled.copied().take(length).collect());
     }
     for text in texts {
-        for call in [CHECK, run_of(10), BOUND] {
+        for call in [CHECK, run_of(10), trial_of(10), BOUND] {
             if let Err(difference) = comparer.call(&text, call) {
                 panic!("{difference}");
             }
@@ -108,17 +116,18 @@ fn a_million_texts() {
     } else {
         50_000
     };
-    let [checks, runs, bounds] = match compare_seeds(0..seeds) {
+    let [checks, runs, trials, bounds] = match compare_seeds(0..seeds) {
         Ok(counts) => counts,
         Err(difference) => panic!("{difference}"),
     };
     let texts: u64 = checks.iter().sum();
-    println!("{texts} texts\ncheck {checks:?}\nrun {runs:?}\nbound {bounds:?}");
+    println!("{texts} texts\ncheck {checks:?}\nrun {runs:?}\ntrial {trials:?}\nbound {bounds:?}");
     assert_eq!(texts, seeds * (1 + compare::MUTATIONS as u64));
     assert!(cfg!(debug_assertions) || texts >= 1_000_000);
     for (call, counts, numbers) in [
         ("check", checks, &[0..=0, 2..=14][..]),
-        ("run", runs, &[0..=0, 2..=9, 21..=27]),
+        ("run", runs, &[0..=0, 2..=14, 21..=23, 27..=27]),
+        ("trial", trials, &[0..=0, 2..=9, 21..=27]),
         ("bound", bounds, &[0..=0, 2..=16]),
     ] {
         for (number, &count) in counts.iter().enumerate() {
@@ -137,21 +146,24 @@ fn a_null_text() {
     let checked = unsafe { raw::station_check(std::ptr::null(), 0, work.as_mut_ptr(), WORK_BYTES) };
     assert_eq!(checked, 8 * 65_536);
     assert!(work.iter().all(|&byte| byte == 0));
-    work.fill(0xa5);
-    // SAFETY: as above.
-    let ran = unsafe {
-        raw::station_run(
-            std::ptr::null(),
-            0,
-            work.as_mut_ptr(),
-            WORK_BYTES,
-            5,
-            results.as_mut_ptr(),
-            RESULTS_BYTES,
-        )
-    };
-    assert_eq!(ran, 8 * 65_536);
-    assert!(work.iter().chain(&results).all(|&byte| byte == 0));
+    for call in [raw::station_run as raw::Runs, raw::station_trial] {
+        work.fill(0xa5);
+        results.fill(0x5a);
+        // SAFETY: as above.
+        let ran = unsafe {
+            call(
+                std::ptr::null(),
+                0,
+                work.as_mut_ptr(),
+                WORK_BYTES,
+                5,
+                results.as_mut_ptr(),
+                RESULTS_BYTES,
+            )
+        };
+        assert_eq!(ran, 8 * 65_536);
+        assert!(work.iter().chain(&results).all(|&byte| byte == 0));
+    }
     work.fill(0xa5);
     let mut bounds = [0x5a; BOUNDS_BYTES];
     // SAFETY: as above.
@@ -176,8 +188,8 @@ fn two_threads_at_once() {
     let answers = || -> Vec<_> {
         let mut station = nuyardi::Station::new();
         let answer = |text| {
-            let checked = station.check(text).err();
-            (checked, station.run(text, 500), station.bound(text))
+            let (ran, tried) = (station.run(text, 500), station.trial(text, 500));
+            (ran, tried, station.bound(text))
         };
         texts
             .iter()

@@ -2,8 +2,9 @@
 //! line." What each does with the areas is told byte by byte.
 
 use crate::limits::{BOUND_BYTES, RESULT_BYTES, WORK_BYTES};
+use crate::machine::Run;
 use crate::number;
-use crate::{bound, check, run};
+use crate::{bound, check, run, trial};
 
 fn returned(number: u32, line: u32) -> u32 {
     number * 65_536 + line
@@ -27,8 +28,25 @@ pub fn check_call(text: &[u8], work: &mut [u8]) -> u32 {
     returned(number, line)
 }
 
-/// "Results hold the steps taken (unsigned) and twelve values".
+/// "run also takes the number of steps allowed (unsigned, 32 bits) and a results
+/// area of 52 bytes."
 pub fn run_call(text: &[u8], work: &mut [u8], steps: u32, results: &mut [u8]) -> u32 {
+    run_by(run, text, work, steps, results)
+}
+
+/// W7: the "second call, trial".
+pub fn trial_call(text: &[u8], work: &mut [u8], steps: u32, results: &mut [u8]) -> u32 {
+    run_by(trial, text, work, steps, results)
+}
+
+/// "Results hold the steps taken (unsigned) and twelve values".
+fn run_by(
+    run: fn(&[u8], u32) -> Run,
+    text: &[u8],
+    work: &mut [u8],
+    steps: u32,
+    results: &mut [u8],
+) -> u32 {
     if work.len() != WORK_BYTES || results.len() != RESULT_BYTES {
         return returned(number::AREA, 0);
     }

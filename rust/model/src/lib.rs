@@ -25,7 +25,7 @@ pub mod state;
 pub mod text;
 pub mod watch;
 
-pub use call::{bound_call, check_call, run_call};
+pub use call::{bound_call, check_call, run_call, trial_call};
 pub use machine::Run;
 pub use number::Refusal;
 pub use print::printed;
@@ -84,10 +84,21 @@ pub fn bound(text: &[u8]) -> Bounds {
     }
 }
 
-/// Runs the text. "Run works on each text that the reader takes, accepted or
-/// not"; for the others steps and values are zeros.
+/// W7: "By default run now checks first, and a text that the check refuses gets
+/// the check's number and line, with zeros in results."
 pub fn run(text: &[u8], steps: u32) -> Run {
-    match read(text) {
+    run_or_refused(accept(text), steps)
+}
+
+/// W7: "trial, which is the old run", of document 01: it "works on each text
+/// that the reader takes, accepted or not".
+pub fn trial(text: &[u8], steps: u32) -> Run {
+    run_or_refused(read(text), steps)
+}
+
+/// The run of a program; for a refused text steps and values are zeros.
+fn run_or_refused(program: Result<names::Program, Refusal>, steps: u32) -> Run {
+    match program {
         Ok(program) => machine::run(&program, steps),
         Err(Refusal { number, line }) => Run {
             number,

@@ -376,7 +376,7 @@ impl<'p, 'a> Machine<'p, 'a> {
     }
 }
 
-/// What run returns and what it leaves in results.
+/// What run, or trial, returns and what it leaves in results.
 #[derive(Clone, Copy, Debug, PartialEq, Eq)]
 pub struct Run {
     pub number: u32,

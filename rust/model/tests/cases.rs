@@ -1,21 +1,24 @@
 //! Every case of `cases`, through the calls for the host and the program: those
 //! of document 01 with the answers of the present level, and those of document
-//! 02, of which a file has the answers of its own level.
+//! 02, of which a file has the answers of its own level. The run of a file from
+//! before W7 is trial now.
 
 use model::limits::{BOUND_BYTES, RESULT_BYTES, WORK_BYTES};
-use model::{bound_call, check_call, printed, run_call};
+use model::{bound_call, check_call, printed, run_call, trial_call};
 use std::collections::HashMap;
 
 /// The cases of document 01.
 const BASE: &str = include_str!("cases/base.tsv");
-/// Those of them that have another answer at the present level.
-const BASE_NOW: &str = include_str!("cases/base-at-w3.tsv");
+/// Those of them that have another answer at the present level, and those that
+/// had another before W7: the answers of trial.
+const BASE_NOW: &str = include_str!("cases/base-at-w7.tsv");
+const BASE_BEFORE: &str = include_str!("cases/base-at-w3.tsv");
 
 /// The cases of a level: the request, the file, how many there are, and the
 /// lines of the file that a later request gives another answer.
 type Level = (&'static str, &'static str, usize, &'static [usize]);
 
-const LEVELS: &[Level] = &[
+const BEFORE_W7: &[Level] = &[
     // W2: texts with a `return`; W3: facts that stay, and `v = v` that goes.
     (
         "W1",
@@ -29,6 +32,15 @@ const LEVELS: &[Level] = &[
     ("W5", include_str!("cases/w5.tsv"), 177, &[]),
     ("W6", include_str!("cases/w6.tsv"), 139, &[]),
 ];
+
+const SINCE_W7: &[Level] = &[("W7", include_str!("cases/w7.tsv"), 186, &[])];
+
+/// Which call a file's `run` is.
+#[derive(Clone, Copy, PartialEq)]
+enum Runs {
+    Run,
+    Trial,
+}
 
 /// A call of a file: `check`, `check/W`, `run` or `run/W/R` and so on, or the
 /// program.
@@ -51,20 +63,23 @@ fn bytes(hex: &str) -> Vec<u8> {
         .collect()
 }
 
-fn parse(left: &str) -> Case<'_> {
+fn parse(left: &str, runs: Runs) -> Case<'_> {
     let fields: Vec<&str> = left.split(' ').collect();
     let mut call = fields[0].split('/');
-    let name = call.next().expect("a call");
+    let name = match (call.next().expect("a call"), runs) {
+        ("run", Runs::Trial) => "trial",
+        (name, _) => name,
+    };
     let mut length = |usual| call.next().map_or(usual, |n| n.parse().expect("a length"));
     let usual = match name {
-        "run" => RESULT_BYTES,
+        "run" | "trial" => RESULT_BYTES,
         "bound" => BOUND_BYTES,
         _ => 0,
     };
     let (work, second) = (length(WORK_BYTES), length(usual));
     let (steps, hex) = match (name, &fields[1..]) {
         ("check" | "bound" | "program", &[hex]) => (0, hex),
-        ("run", &[steps, hex]) => (steps.parse().expect("steps"), hex),
+        ("run" | "trial", &[steps, hex]) => (steps.parse().expect("steps"), hex),
         _ => panic!("no call: {left}"),
     };
     Case {
@@ -103,6 +118,7 @@ fn answer(case: &Case) -> String {
         }
         "check" => check_call(&case.text, &mut work),
         "bound" => bound_call(&case.text, &mut work, &mut second),
+        "trial" => trial_call(&case.text, &mut work, case.steps, &mut second),
         _ => run_call(&case.text, &mut work, case.steps, &mut second),
     };
     let mut answer = vec![i64::from(returned / 65_536), i64::from(returned % 65_536)];
@@ -130,24 +146,24 @@ fn cases(file: &str) -> impl Iterator<Item = (usize, &str, &str)> {
 }
 
 /// The case told, if its answer is another one.
-fn wrong(call: &str, expected: &str) -> Option<String> {
-    let case = parse(call);
+fn wrong(call: &str, runs: Runs, expected: &str) -> Option<String> {
+    let case = parse(call, runs);
     let answer = answer(&case);
     let (name, steps) = (case.call, case.steps);
     let text = String::from_utf8_lossy(&case.text).into_owned();
     (answer != expected).then(|| format!("{name} {steps}: {answer}, expected {expected}\n{text}"))
 }
 
-#[test]
-fn every_case_of_document_01() {
-    let now: HashMap<&str, &str> = cases(BASE_NOW).map(|(_, call, new)| (call, new)).collect();
+/// The cases of document 01 with the answers of a level.
+fn every_case_with(others: &str, runs: Runs) {
+    let now: HashMap<&str, &str> = cases(others).map(|(_, call, new)| (call, new)).collect();
     let mut count = 0;
     let mut moved = 0;
     for (line, call, answer) in cases(BASE) {
         count += 1;
         let new = now.get(call).copied();
         moved += usize::from(new.is_some());
-        let wrong = wrong(call, new.unwrap_or(answer));
+        let wrong = wrong(call, runs, new.unwrap_or(answer));
         assert_eq!(wrong, None, "line {line}");
     }
     assert_eq!(count, 533, "all cases are read");
@@ -155,14 +171,25 @@ fn every_case_of_document_01() {
 }
 
 #[test]
+fn every_case_of_document_01() {
+    every_case_with(BASE_NOW, Runs::Run);
+    every_case_with(BASE_BEFORE, Runs::Trial);
+}
+
+#[test]
 fn every_case_of_document_02() {
-    for &(request, file, all, moved) in LEVELS {
+    every_case_of(BEFORE_W7, Runs::Trial);
+    every_case_of(SINCE_W7, Runs::Run);
+}
+
+fn every_case_of(levels: &[Level], runs: Runs) {
+    for &(request, file, all, moved) in levels {
         let mut count = 0;
         let mut others = Vec::new();
         let mut told = String::new();
         for (line, call, answer) in cases(file) {
             count += 1;
-            if let Some(wrong) = wrong(call, answer) {
+            if let Some(wrong) = wrong(call, runs, answer) {
                 others.push(line);
                 if !moved.contains(&line) {
                     told.push_str(&format!("line {line}: {wrong}\n"));

@@ -1,10 +1,10 @@
-//! The generator reaches every number of both calls, and its accepted programs
+//! The generator reaches every number of the calls, and its accepted programs
 //! are accepted.
 
 use model::gen::{self, rng::Rng};
 use model::machine::{Machine, Step};
 use model::names::{Action, Program, Statement};
-use model::{bound, check, printed, read, run};
+use model::{bound, check, printed, read, run, trial};
 use std::collections::BTreeMap;
 
 const TEXTS: u64 = 20_000;
@@ -20,6 +20,7 @@ fn table(title: &str, counts: &BTreeMap<u32, u32>) {
 fn every_number_occurs() {
     let mut checks = BTreeMap::new();
     let mut runs = BTreeMap::new();
+    let mut trials = BTreeMap::new();
     let mut bytes = 0;
     for seed in 0..TEXTS {
         let text = gen::text(seed);
@@ -27,16 +28,17 @@ fn every_number_occurs() {
         *checks.entry(check(&text).0).or_insert(0) += 1;
         let steps = gen::steps(&mut Rng::new(seed));
         *runs.entry(run(&text, steps).number).or_insert(0) += 1;
+        *trials.entry(trial(&text, steps).number).or_insert(0) += 1;
     }
     println!("{TEXTS} texts of {} bytes on average", bytes as u64 / TEXTS);
     table("check", &checks);
     table("run", &runs);
-    for number in [0].into_iter().chain(2..=14) {
-        assert!(checks.contains_key(&number), "check {number} is missing");
-    }
-    for number in [0].into_iter().chain(2..=9).chain(21..=27) {
-        assert!(runs.contains_key(&number), "run {number} is missing");
-    }
+    table("trial", &trials);
+    let refused = [0].into_iter().chain(2..=14);
+    assert!(checks.keys().copied().eq(refused.clone()));
+    assert!(runs.keys().copied().eq(refused.chain([21, 22, 23, 27])));
+    let tried = [0].into_iter().chain(2..=9).chain(21..=27);
+    assert!(trials.keys().copied().eq(tried));
 }
 
 /// How deep the branches and loops of a text nest.
@@ -271,13 +273,13 @@ fn every_number_of_a_loop_occurs() {
     }
 }
 
-/// W5: runs stop at a `loop` with each number that they can get there.
+/// W5: trials stop at a `loop` with each number that they can get there.
 #[test]
 fn every_stop_of_a_loop_occurs() {
     let mut stops: BTreeMap<u32, u32> = BTreeMap::new();
-    for seed in 0..10_000 {
+    for seed in 0..6_000 {
         let text = gen::text(0x3700_0000 + seed);
-        let stop = run(&text, 2_000);
+        let stop = trial(&text, 2_000);
         if stop.number > 21 && word_at(&text, stop.line) == Some(b"loop") {
             *stops.entry(stop.number).or_insert(0) += 1;
         }
@@ -313,7 +315,7 @@ fn every_number_of_bound_occurs() {
     let mut numbers: BTreeMap<u32, u32> = BTreeMap::new();
     let (mut loops, mut rings) = (0, [0; 5]);
     let (mut near, mut passed, mut longest) = (0, 0, 0);
-    for seed in 0..10_000 {
+    for seed in 0..6_000 {
         let text = gen::text(0x3800_0000 + seed);
         let found = bound(&text);
         *numbers.entry(found.number).or_insert(0) += 1;

@@ -1,25 +1,33 @@
 -- `station::bound` meets its contract. Assumes nothing.
-use mathlib.Core.Path.{ap, _∙_}
-use Rattle.rules.specs.Areas.{boundBytes}
-use Rattle.station.proofs.Bounded.{numbersOf, found-bound, bound-fits, wrong-work, wrong-bounds, right-bound}
+use mathlib.Core.Path.{sym, ap, _∙_}
 use borrow.Author.Needs.{needs}
+use borrow.Author.Tests.{not-true, not-false}
+use Rattle.station.proofs.Bounded.{numbersOf, found-bound, bound-fits}
+use Rattle.station.proofs.Calls.{fit-lengths, wrong-bound, right-bound}
 use Rattle.station.proofs.bound.Statement.{statement}
 use Rattle.station.proofs.bound.Tie as tie
 
-returns : tie.Need-returns
-returns c = wrong-work _ _ _ (c .if1 .taken)
+areas-fit-requires : tie.Need-areas-fit-requires
+areas-fit-requires c κs = search needs
 
-returns-2 : tie.Need-returns-2
-returns-2 c = wrong-bounds _ _ _ (c .before .if1 .left) (c .if2 .taken)
+same-length : tie.Need-same-length
+same-length c = search needs
+
+same-length-2 : tie.Need-same-length-2
+same-length-2 c = search needs
+
+returns : tie.Need-returns
+returns c = wrong-bound _ _ _ (sym (c .before .areas-fit .ensures) ∙ not-true _ (c .if1 .taken))
 
 check-text-requires : tie.Need-check-text-requires
-check-text-requires c κs = search needs
+check-text-requires c κs = fit-lengths _ _ (sym (c .before .before .areas-fit .ensures) ∙ not-false _ (c .before .if1 .left)) .0
 
 bound-found-requires : tie.Need-bound-found-requires
 bound-found-requires c κs =
-    let at-if2 = c .before .before .before .before .before .before .if2 in
+    let at-areas-fit = c .before .before .before .before .before .before .before .areas-fit in
+    let at-if1 = c .before .before .before .before .before .before .if1 in
     let at-check-text = c .before .before .before .before .check-text in
-    (λ z. at-check-text .ensures .taken z .1 .tables, at-if2 .left)
+    (λ z. at-check-text .ensures .taken z .1 .tables, fit-lengths _ _ (sym (at-areas-fit .ensures) ∙ not-false _ (at-if1 .left)) .1)
 
 clear-requires : tie.Need-clear-requires
 clear-requires c κs = search needs
@@ -30,31 +38,33 @@ pack-requires c κs =
     let at-bound-found = c .before .before .before .before .before .before .bound-found in
     bound-fits _ _ (at-bound-found .ensures .0 ∙ ap numbersOf (found-bound _ (at-check-text .ensures)))
 
-same-length : tie.Need-same-length
-same-length c = search needs
+same-length-3 : tie.Need-same-length-3
+same-length-3 c = search needs
 
-same-length-2 : tie.Need-same-length-2
-same-length-2 c = search needs
+same-length-4 : tie.Need-same-length-4
+same-length-4 c = search needs
 
-returns-3 : tie.Need-returns-3
-returns-3 c =
-    let at-if1 = c .before .before .before .before .before .before .before .before .before .before .before .before .before .before .before .if1 in
-    let at-if2 = c .before .before .before .before .before .before .before .before .before .before .before .before .before .before .if2 in
+returns-2 : tie.Need-returns-2
+returns-2 c =
+    let at-areas-fit = c .before .before .before .before .before .before .before .before .before .before .before .before .before .before .before .areas-fit in
+    let at-if1 = c .before .before .before .before .before .before .before .before .before .before .before .before .before .before .if1 in
     let at-check-text = c .before .before .before .before .before .before .before .before .before .before .before .before .check-text in
     let at-bound-found = c .before .before .before .before .before .before .before .bound-found in
     let at-clear = c .before .before .before .clear in
-    let e = found-bound _ (at-check-text .ensures) in right-bound _ _ _ (at-if1 .left) (at-if2 .left) _ (at-bound-found .ensures .0 ∙ ap numbersOf e) (at-bound-found .ensures .1 ∙ ap boundBytes e) (at-check-text .ensures .size) (at-clear .ensures) (c .pack .ensures)
+    let x = at-bound-found .ensures in right-bound _ _ _ (sym (at-areas-fit .ensures) ∙ not-false _ (at-if1 .left)) (found-bound _ (at-check-text .ensures)) _ (x .0) (x .1) (at-check-text .ensures .size) (at-clear .ensures) (c .pack .ensures)
 
 pub bound-spec : {M : Type 1} → statement M
 bound-spec =
     tie.close
     (tie.spec
+    areas-fit-requires
+    same-length
+    same-length-2
     returns
-    returns-2
     check-text-requires
     bound-found-requires
     clear-requires
     pack-requires
-    same-length
-    same-length-2
-    returns-3)
+    same-length-3
+    same-length-4
+    returns-2)

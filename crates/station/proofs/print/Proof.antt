@@ -6,8 +6,8 @@ use lib.ListN.{length}
 use borrow.Author.Needs.{needs}
 use borrow.Author.Tests.{eq-eqb}
 use Rattle.rules.specs.Limits.{work-bytes, results-bytes, program-steps}
-use Rattle.rules.specs.Calls.{checkText, runText}
-use Rattle.rules.specs.Areas.{packed, cleared, resultBytes, Checked, checkCall, Ran, runCall}
+use Rattle.rules.specs.Calls.{checkText, trialText}
+use Rattle.rules.specs.Areas.{packed, cleared, resultBytes, Checked, checkCall, Ran, ranCall, trialCall}
 use Rattle.rules.specs.Printed.{printed}
 use Rattle.printer.specs.Writes.{Prints}
 use Rattle.printer.specs.Answers.{printedAnswers, Called}
@@ -20,21 +20,21 @@ check-is : (t w : List ℕ) → length w ≡ work-bytes → checkCall t w ≡ re
 unfolding checkCall
 check-is t w n = rw (eq-eqb (length w) work-bytes n)
 
-run-is :
+trial-is :
     (t w : List ℕ) (k : ℕ) (b : List ℕ) → length w ≡ work-bytes → length b ≡ results-bytes →
-    runCall t w k b ≡ record { returned = packed (runText t k .number) (runText t k .line); work = cleared w; results = resultBytes (runText t k) }
-unfolding runCall
-run-is t w k b m n = rw (eq-eqb (length w) work-bytes m, eq-eqb (length b) results-bytes n)
+    trialCall t w k b ≡ record { returned = packed (trialText t k .number) (trialText t k .line); work = cleared w; results = resultBytes (trialText t k) }
+unfolding ranCall
+trial-is t w k b m n = rw (eq-eqb (length w) work-bytes m, eq-eqb (length b) results-bytes n)
 
 called :
     {t : List ℕ} (w v b : List ℕ) {checked ran : ℕ} {d : List ℕ} → length w ≡ work-bytes → length v ≡ work-bytes → length b ≡ results-bytes →
-    checked ≡ checkCall t w .returned → ran ≡ runCall t v program-steps b .returned → d ≡ runCall t v program-steps b .results →
+    checked ≡ checkCall t w .returned → ran ≡ trialCall t v program-steps b .returned → d ≡ trialCall t v program-steps b .results →
     Called t checked ran d
 called {t = t} w v b l m n c r d =
     record {
       check = c ∙ ap (λ (x : Checked). x .returned) (check-is t w l);
-      run = r ∙ ap (λ (x : Ran). x .returned) (run-is t v program-steps b m n);
-      results = d ∙ ap (λ (x : Ran). x .results) (run-is t v program-steps b m n);
+      trial = r ∙ ap (λ (x : Ran). x .returned) (trial-is t v program-steps b m n);
+      results = d ∙ ap (λ (x : Ran). x .results) (trial-is t v program-steps b m n);
     }
 
 prints :
@@ -45,17 +45,17 @@ prints c x = record { high = x .high; are = x .are ∙ printed-answers _ _ _ _ c
 check-requires : tie.Need-check-requires
 check-requires c κs = search needs
 
-cast-run : tie.Need-cast-run
-cast-run c = search needs
+cast-trial : tie.Need-cast-trial
+cast-trial c = search needs
 
-run-requires : tie.Need-run-requires
-run-requires c κs = search needs
+trial-requires : tie.Need-trial-requires
+trial-requires c κs = search needs
 
 print-requires : tie.Need-print-requires
 print-requires c κs =
     let p = c .before .before .before .before .before .before .before .before .before .before .before .before .before .before .before .before .before .pre in
     let x = c .before .before .before .before .before .before .before .before .before .before .before .check .ensures .0 ∙ ap (λ (x : Checked). x .returned) (check-is _ _ (p .0)) in
-    (p .2, c .before .before .before .before .before .before .run .kept .1 .1 .1 .0 ∙ p .1, read-unless _ _ x)
+    (p .2, c .before .before .before .before .before .before .trial .kept .1 .1 .1 .0 ∙ p .1, read-unless _ _ x)
 
 same-length : tie.Need-same-length
 same-length c = search needs
@@ -69,10 +69,10 @@ same-length-3 c = search needs
 returns : tie.Need-returns
 returns c =
     let p = c .before .before .before .before .before .before .before .before .before .before .before .before .before .before .before .before .before .before .before .before .pre in
-    let y = c .before .before .before .before .before .before .before .before .before .run in
+    let y = c .before .before .before .before .before .before .before .before .before .trial in
     let x = c .before .before .before .before .before .before .before .before .before .before .before .before .before .before .check in
     let k = called _ _ _ (p .0) (x .kept .1 .0 ∙ p .0) (p .1) (x .ensures .0) (y .ensures .0) (y .ensures .2) in
     prints k (c .before .before .print .ensures)
 
 pub print-spec : {M : Type 1} → statement M
-print-spec = tie.close (tie.spec check-requires cast-run run-requires print-requires same-length same-length-2 same-length-3 returns)
+print-spec = tie.close (tie.spec check-requires cast-trial trial-requires print-requires same-length same-length-2 same-length-3 returns)

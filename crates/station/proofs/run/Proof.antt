@@ -1,46 +1,73 @@
 -- `station::run` meets its contract. Assumes nothing.
+use mathlib.Core.Path.{sym, ap, _∙_}
 use borrow.Author.Needs.{needs}
-use mathlib.Core.Path.{sym, _∙_}
-use Rattle.station.proofs.Texts.{run-fits}
-use Rattle.station.proofs.Calls.{wrong-work, wrong-results, right-run}
+use borrow.Author.Tests.{not-true, not-false}
+use Rattle.station.specs.Station.{runNumbers}
+use Rattle.station.proofs.Texts.{found-run, fits-as, run-fits}
+use Rattle.station.proofs.Calls.{fit-lengths, wrong-areas, right-areas}
 use Rattle.station.proofs.run.Statement.{statement}
 use Rattle.station.proofs.run.Tie as tie
 
+areas-fit-requires : tie.Need-areas-fit-requires
+areas-fit-requires c κs = search needs
+
+same-length : tie.Need-same-length
+same-length c = search needs
+
+same-length-2 : tie.Need-same-length-2
+same-length-2 c = search needs
+
 returns : tie.Need-returns
-returns c = wrong-work _ _ _ _ (c .if1 .taken)
+returns c = wrong-areas _ _ _ (sym (c .before .areas-fit .ensures) ∙ not-true _ (c .if1 .taken))
 
-returns-2 : tie.Need-returns-2
-returns-2 c = wrong-results _ _ _ _ (c .before .if1 .left) (c .if2 .taken)
+check-text-requires : tie.Need-check-text-requires
+check-text-requires c κs = fit-lengths _ _ (sym (c .before .before .areas-fit .ensures) ∙ not-false _ (c .before .if1 .left)) .0
 
-run-text-requires : tie.Need-run-text-requires
-run-text-requires c κs = (c .before .before .before .if1 .left, c .before .before .if2 .left)
+run-found-requires : tie.Need-run-found-requires
+run-found-requires c κs =
+    let at-areas-fit = c .before .before .before .before .before .before .before .areas-fit in
+    let at-if1 = c .before .before .before .before .before .before .if1 in
+    let at-check-text = c .before .before .before .before .check-text in
+    let F = at-check-text .ensures in (λ z. F .taken z .1 .tables, F .size, fit-lengths _ _ (sym (at-areas-fit .ensures) ∙ not-false _ (at-if1 .left)) .1)
 
 clear-requires : tie.Need-clear-requires
 clear-requires c κs = search needs
 
 pack-requires : tie.Need-pack-requires
 pack-requires c κs =
-    let start = c .before .before .before .before .before .before .before .before .before .before .before .before .before .before .before .before in
-    let at-run-text = c .before .before .before .before .before .before .before .before .run-text in
-    run-fits _ (start .args .steps) _ (search needs) (at-run-text .ensures .0)
+    let start = c .before .before .before .before .before .before .before .before .before .before .before .before .before .before .before .before .before .before .before .before .before .before in
+    let at-check-text = c .before .before .before .before .before .before .before .before .before .before .before .before .before .check-text in
+    let at-run-found = c .before .before .before .before .before .before .before .before .run-found in
+    let k = start .args .steps in fits-as (at-run-found .ensures .0 ∙ ap runNumbers (found-run k (at-check-text .ensures))) (run-fits _ k (search needs))
 
-same-length : tie.Need-same-length
-same-length c =
-    let at-if1 = c .before .before .before .before .before .before .before .before .before .before .before .before .before .if1 in
-    let at-run-text = c .before .before .before .before .before .before .before .before .before .run-text in
+same-length-3 : tie.Need-same-length-3
+same-length-3 c = search needs
+
+same-length-4 : tie.Need-same-length-4
+same-length-4 c = search needs
+
+returns-2 : tie.Need-returns-2
+returns-2 c =
+    let start = c .before .before .before .before .before .before .before .before .before .before .before .before .before .before .before .before .before .before .before .before .before .before .before in
+    let at-areas-fit = c .before .before .before .before .before .before .before .before .before .before .before .before .before .before .before .before .before .areas-fit in
+    let at-if1 = c .before .before .before .before .before .before .before .before .before .before .before .before .before .before .before .before .if1 in
+    let at-check-text = c .before .before .before .before .before .before .before .before .before .before .before .before .before .before .check-text in
+    let at-run-found = c .before .before .before .before .before .before .before .before .before .run-found in
     let at-clear = c .before .before .before .clear in
-    at-clear .kept .0 ∙ (at-run-text .ensures .2 ∙ sym (at-if1 .left))
-
-same-length-2 : tie.Need-same-length-2
-same-length-2 c = c .before .before .before .before .before .before .before .before .before .run-text .kept .1 .1 .1 .0
-
-returns-3 : tie.Need-returns-3
-returns-3 c =
-    let at-if1 = c .before .before .before .before .before .before .before .before .before .before .before .before .before .if1 in
-    let at-if2 = c .before .before .before .before .before .before .before .before .before .before .before .before .if2 in
-    let at-run-text = c .before .before .before .before .before .before .before .before .before .run-text in
-    let at-clear = c .before .before .before .clear in
-    right-run _ _ _ _ (at-if1 .left) (at-if2 .left) _ (at-run-text .ensures .0) (at-run-text .ensures .1) (at-run-text .ensures .2) (at-clear .ensures) (c .pack .ensures)
+    let x = at-run-found .ensures in right-areas _ _ _ (sym (at-areas-fit .ensures) ∙ not-false _ (at-if1 .left)) (found-run (start .args .steps) (at-check-text .ensures)) _ (x .0) (x .1) (x .2) (at-clear .ensures) (c .pack .ensures)
 
 pub run-spec : {M : Type 1} → statement M
-run-spec = tie.close (tie.spec returns returns-2 run-text-requires clear-requires pack-requires same-length same-length-2 returns-3)
+run-spec =
+    tie.close
+    (tie.spec
+    areas-fit-requires
+    same-length
+    same-length-2
+    returns
+    check-text-requires
+    run-found-requires
+    clear-requires
+    pack-requires
+    same-length-3
+    same-length-4
+    returns-2)

@@ -91,6 +91,17 @@ int main(void)
     returned = station_run(text, len, work, STATION_WORK_BYTES, 1, results, STATION_RESULTS_BYTES);
     expect(returned == STATION_OUT_OF_STEPS * 65536 + 5, "one step is not enough");
 
+    const char *refused = "main\nvar\tint\ta\nlet\ta\t-7\nassert\teq\ta\t7\nend\n";
+    garbage();
+    returned = station_run((const uint8_t *)refused, strlen(refused), work, STATION_WORK_BYTES, 9, results, STATION_RESULTS_BYTES);
+    expect(returned == STATION_NOT_SHOWN * 65536 + 4, "run refuses what check refuses");
+    expect(all(results, STATION_RESULTS_BYTES, 0), "zeros after check's refusal");
+    returned = station_trial((const uint8_t *)refused, strlen(refused), work, STATION_WORK_BYTES, 9, results, STATION_RESULTS_BYTES);
+    expect(returned == STATION_FORMULA_FALSE * 65536 + 4, "a trial runs it");
+    expect(word(0) == 1 && (int32_t)word(1) == -7, "one step, and a is -7");
+    returned = station_trial(text, len, work, STATION_WORK_BYTES, 1000, results, STATION_RESULTS_BYTES);
+    expect(returned == 5 && word(0) == 2 && (int32_t)word(1) == -7, "a trial of an accepted script is as its run");
+
     garbage();
     expect(station_check(NULL, 0, work, STATION_WORK_BYTES) == STATION_UNFINISHED * 65536, "check of a null text");
     returned = station_run(NULL, 0, work, STATION_WORK_BYTES, 1, results, STATION_RESULTS_BYTES);
@@ -104,6 +115,8 @@ int main(void)
     expect(returned == STATION_AREA_LENGTH * 65536, "a work area too short for run");
     returned = station_run(text, len, work, STATION_WORK_BYTES, 9, results, STATION_RESULTS_BYTES + 1);
     expect(returned == STATION_AREA_LENGTH * 65536, "a results area too long");
+    returned = station_trial(text, len, work, STATION_WORK_BYTES, 9, results, STATION_RESULTS_BYTES - 1);
+    expect(returned == STATION_AREA_LENGTH * 65536, "a results area too short for trial");
     expect(all(work, sizeof work, 0xa5) && all(results, sizeof results, 0x5a), "number 1 changes nothing");
 
     bound_calls(text, len);

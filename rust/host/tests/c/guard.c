@@ -2,9 +2,9 @@
  * be touched right before and right after every area and every text; a text's own
  * pages may only be read. Each thread has areas of its own; the texts are shared.
  *
- * guard STEPS FILE..: prints what check, run and bound returned, for each file, and
- * a sum of the results and bounds areas. Exit status 1 if two threads differ or the
- * work area is not all zero after a call. */
+ * guard STEPS FILE..: prints what check, run, trial and bound returned, for each
+ * file, and a sum of the results and bounds areas. Exit status 1 if two threads
+ * differ or the work area is not all zero after a call. */
 #define _GNU_SOURCE
 #include "station.h"
 
@@ -27,7 +27,7 @@ struct text {
 };
 
 struct answer {
-    uint32_t checked, ran, bounded, sum;
+    uint32_t checked, ran, tried, bounded, sum;
 };
 
 static struct text *texts;
@@ -95,6 +95,13 @@ static void *work_on(void *own)
         if (!clear || !all_zero(work, STATION_WORK_BYTES) || again != answer[i].ran || added(0, low, STATION_RESULTS_BYTES) != answer[i].sum)
             wrong = 1;
         memset(work, 0x5a, STATION_WORK_BYTES);
+        memset(low, 0xa5, results_room);
+        answer[i].tried = station_trial(texts[i].after, texts[i].len, work, STATION_WORK_BYTES, steps, high, STATION_RESULTS_BYTES);
+        answer[i].sum = added(answer[i].sum, high, STATION_RESULTS_BYTES);
+        again = station_trial(texts[i].before, texts[i].len, work, STATION_WORK_BYTES, steps, low, STATION_RESULTS_BYTES);
+        if (!all_zero(work, STATION_WORK_BYTES) || again != answer[i].tried || memcmp(low, high, STATION_RESULTS_BYTES))
+            wrong = 1;
+        memset(work, 0x5a, STATION_WORK_BYTES);
         memset(first, 0xa5, bounds_room);
         answer[i].bounded = station_bound(texts[i].after, texts[i].len, work, STATION_WORK_BYTES, last, STATION_BOUNDS_BYTES);
         answer[i].sum = added(answer[i].sum, last, STATION_BOUNDS_BYTES);
@@ -135,7 +142,7 @@ int main(int words, char **word)
             wrong = 1;
     }
     for (int i = 0; i < count; i++)
-        printf("%u %u %u %u\n", answers[0][i].checked, answers[0][i].ran, answers[0][i].bounded, answers[0][i].sum);
+        printf("%u %u %u %u %u\n", answers[0][i].checked, answers[0][i].ran, answers[0][i].tried, answers[0][i].bounded, answers[0][i].sum);
     for (int t = 0; t < THREADS; t++)
         free(answers[t]);
     free(texts);

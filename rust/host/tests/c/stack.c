@@ -2,7 +2,8 @@
  * pattern, and the lowest byte that changed tells how deep it went. What the
  * thread itself takes is measured by an empty call and taken off.
  *
- * stack STEPS FILE..: prints, for each file, the bytes of check, run and bound. */
+ * stack STEPS FILE..: prints, for each file, the bytes of check, run, trial and
+ * bound. */
 #define _GNU_SOURCE
 #include "station.h"
 
@@ -37,6 +38,12 @@ static void *checked(void *unused)
 static void *ran(void *unused)
 {
     answer = station_run(text, len, work, sizeof work, steps, results, sizeof results);
+    return unused;
+}
+
+static void *tried(void *unused)
+{
+    answer = station_trial(text, len, work, sizeof work, steps, results, sizeof results);
     return unused;
 }
 
@@ -82,8 +89,9 @@ int main(int count, char **words)
         fclose(file);
         long of_check = depth(checked) - empty;
         long of_run = depth(ran) - empty;
+        long of_trial = depth(tried) - empty;
         long of_bound = depth(bounded) - empty;
-        printf("%ld %ld %ld %s\n", of_check, of_run, of_bound, words[i]);
+        printf("%ld %ld %ld %ld %s\n", of_check, of_run, of_trial, of_bound, words[i]);
     }
     return 0;
 }

@@ -47,17 +47,19 @@ pub fn files(folder: &str, texts: impl IntoIterator<Item = Vec<u8>>) -> Vec<Path
     written.collect()
 }
 
-/// What `replay` and `guard` print of a text, by the model: what check, run and bound return, and a sum of the results and bounds.
+/// What `replay` and `guard` print of a text, by the model: what check, run, trial and bound return, and a sum of the results and bounds.
 pub fn expected(text: &[u8], steps: u32) -> String {
     let mut work = vec![0; limits::WORK_BYTES];
     let mut results = [0; limits::RESULTS_BYTES];
     let checked = model::check_call(text, &mut work);
+    let add = |sum: u32, &byte: &u8| sum.wrapping_mul(31).wrapping_add(u32::from(byte));
     let ran = model::run_call(text, &mut work, steps, &mut results);
+    let sum = results.iter().fold(0, add);
+    let tried = model::trial_call(text, &mut work, steps, &mut results);
     let mut bounds = [0; limits::BOUNDS_BYTES];
     let bounded = model::bound_call(text, &mut work, &mut bounds);
-    let add = |sum: u32, &byte: &u8| sum.wrapping_mul(31).wrapping_add(u32::from(byte));
-    let sum = results.iter().chain(&bounds).fold(0, add);
-    format!("{checked} {ran} {bounded} {sum}\n")
+    let sum = results.iter().chain(&bounds).fold(sum, add);
+    format!("{checked} {ran} {tried} {bounded} {sum}\n")
 }
 
 /// Runs a program that prints a line for each text; each is the model's.

@@ -42,6 +42,7 @@ pub enum Call {
         work: usize,
     },
     Run {
+        by: Runs,
         work: usize,
         steps: u32,
         results: usize,
@@ -52,7 +53,14 @@ pub enum Call {
     },
 }
 
-/// A check, a bound and a run with areas of the right length.
+/// A call that runs a text.
+#[derive(Clone, Copy, Debug)]
+pub enum Runs {
+    Run,
+    Trial,
+}
+
+/// A check, a bound, a run and a trial with areas of the right length.
 pub const CHECK: Call = Call::Check { work: WORK_BYTES };
 
 pub const BOUND: Call = Call::Bound {
@@ -61,7 +69,16 @@ pub const BOUND: Call = Call::Bound {
 };
 
 pub fn run_of(steps: u32) -> Call {
+    run_by(Runs::Run, steps)
+}
+
+pub fn trial_of(steps: u32) -> Call {
+    run_by(Runs::Trial, steps)
+}
+
+fn run_by(by: Runs, steps: u32) -> Call {
     Call::Run {
+        by,
         work: WORK_BYTES,
         steps,
         results: RESULTS_BYTES,
@@ -139,6 +156,7 @@ impl Comparer {
                 )
             }
             Call::Run {
+                by,
                 work: len,
                 steps,
                 results: results_len,
@@ -147,9 +165,14 @@ impl Comparer {
                 let results = results.set(garbage, results_len).area();
                 let own_work = own_work.set(garbage, len).area();
                 let work = work.set(garbage, len).area();
+                type Ran = fn(&[u8], &mut [u8], u32, &mut [u8]) -> u32;
+                let (library, model): (Ran, Ran) = match by {
+                    Runs::Run => (calls::run, model::run_call),
+                    Runs::Trial => (calls::trial, model::trial_call),
+                };
                 (
-                    calls::run(&self.text, own_work, steps, own_results),
-                    model::run_call(text, work, steps, results),
+                    library(&self.text, own_work, steps, own_results),
+                    model(text, work, steps, results),
                 )
             }
             Call::Bound { work: len, bounds } => {
@@ -185,19 +208,22 @@ impl Comparer {
         }))
     }
 
-    /// Check, run and bound; now and then with areas of another length, and with
-    /// as many steps as can be allowed where the run ends before them.
+    /// Check, run, trial and bound; now and then with areas of another length, and
+    /// with as many steps as can be allowed where the trial ends before them.
     pub fn every(&mut self, text: &[u8], rng: &mut Rng) -> Result<Answers, Box<Difference>> {
+        let steps = gen::steps(rng);
         let checked = self.call(text, CHECK)?;
-        let ran = self.call(text, run_of(gen::steps(rng)))?;
+        let ran = self.call(text, run_of(steps))?;
+        let tried = self.call(text, trial_of(steps))?;
         let bounded = self.call(text, BOUND)?;
         if rng.below(64) == 0 {
             self.wrong_lengths(text, rng)?;
         }
-        if ran / 65_536 != model::number::OUT_OF_STEPS && rng.below(8) == 0 {
+        if tried / 65_536 != model::number::OUT_OF_STEPS && rng.below(8) == 0 {
             self.call(text, run_of(u32::MAX))?;
+            self.call(text, trial_of(u32::MAX))?;
         }
-        Ok([checked, ran, bounded])
+        Ok([checked, ran, tried, bounded])
     }
 
     fn wrong_lengths(&mut self, text: &[u8], rng: &mut Rng) -> Result<(), Box<Difference>> {
@@ -213,14 +239,17 @@ impl Comparer {
         let steps = gen::steps(rng);
         self.call(text, Call::Check { work })?;
         self.call(text, Call::Bound { work, bounds })?;
-        self.call(
-            text,
-            Call::Run {
-                work,
-                steps,
-                results,
-            },
-        )?;
+        for by in [Runs::Run, Runs::Trial] {
+            self.call(
+                text,
+                Call::Run {
+                    by,
+                    work,
+                    steps,
+                    results,
+                },
+            )?;
+        }
         Ok(())
     }
 
@@ -311,13 +340,13 @@ pub const MUTATIONS: usize = 19;
 pub const NUMBERS: usize =
     nuyardi::EXPLANATIONS[nuyardi::EXPLANATIONS.len() - 1].number as usize + 1;
 
-/// What check, run and bound return.
-pub type Answers = [u32; 3];
+/// What check, run, trial and bound return.
+pub type Answers = [u32; 4];
 
-/// How often each number came from check, from run and from bound.
-pub type Counts = [[u64; NUMBERS]; 3];
+/// How often each number came from check, run, trial and bound.
+pub type Counts = [[u64; NUMBERS]; 4];
 
-pub const NONE: Counts = [[0; NUMBERS]; 3];
+pub const NONE: Counts = [[0; NUMBERS]; 4];
 
 /// Counts added up.
 pub fn add(counts: &mut Counts, more: &Counts) {
@@ -377,7 +406,7 @@ pub fn compare_seeds(seeds: std::ops::Range<u64>) -> Result<Counts, Box<Differen
         let other = scope.spawn(work);
         (work(), other.join().expect("the other thread ends"))
     });
-    let (mut counts, more) = (one?, two?);
-    add(&mut counts, &more);
+    let mut counts = one?;
+    add(&mut counts, &two?);
     Ok(counts)
 }

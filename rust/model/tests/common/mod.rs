@@ -1,7 +1,7 @@
 //! Small helpers for the tests: scripts written with spaces for tabs.
 #![allow(dead_code)]
 
-use model::{check, run};
+use model::{check, trial};
 
 /// The text of a script: each line trimmed, a tab for each space, LF at its end.
 pub fn script(source: &str) -> Vec<u8> {
@@ -51,9 +51,9 @@ pub fn example_with(line: usize, new: &str) -> Vec<u8> {
     text(&lines)
 }
 
-/// Number, line and steps of a run.
+/// Number, line and steps of a trial; an accepted text gets the same from run.
 pub fn ran(text: &[u8], allowed: u32) -> (u32, u32, u32) {
-    let run = run(text, allowed);
+    let run = trial(text, allowed);
     (run.number, run.line, run.steps)
 }
 

@@ -1,0 +1,73 @@
+-- `station::trial` meets its contract. Assumes nothing.
+use mathlib.Core.Path.{sym, ap, _∙_}
+use borrow.Author.Needs.{needs}
+use borrow.Author.Tests.{not-true, not-false}
+use Rattle.station.specs.Station.{runNumbers}
+use Rattle.station.proofs.Texts.{found-tried, fits-as, trial-fits}
+use Rattle.station.proofs.Calls.{fit-lengths, wrong-areas, right-areas}
+use Rattle.station.proofs.trial.Statement.{statement}
+use Rattle.station.proofs.trial.Tie as tie
+
+areas-fit-requires : tie.Need-areas-fit-requires
+areas-fit-requires c κs = search needs
+
+same-length : tie.Need-same-length
+same-length c = search needs
+
+same-length-2 : tie.Need-same-length-2
+same-length-2 c = search needs
+
+returns : tie.Need-returns
+returns c = wrong-areas _ _ _ (sym (c .before .areas-fit .ensures) ∙ not-true _ (c .if1 .taken))
+
+read-text-requires : tie.Need-read-text-requires
+read-text-requires c κs = fit-lengths _ _ (sym (c .before .before .areas-fit .ensures) ∙ not-false _ (c .before .if1 .left)) .0
+
+run-found-requires : tie.Need-run-found-requires
+run-found-requires c κs =
+    let at-areas-fit = c .before .before .before .before .before .before .before .areas-fit in
+    let at-if1 = c .before .before .before .before .before .before .if1 in
+    let at-read-text = c .before .before .before .before .read-text in
+    let F = at-read-text .ensures in (λ z. F .taken z .1 .tables, F .size, fit-lengths _ _ (sym (at-areas-fit .ensures) ∙ not-false _ (at-if1 .left)) .1)
+
+clear-requires : tie.Need-clear-requires
+clear-requires c κs = search needs
+
+pack-requires : tie.Need-pack-requires
+pack-requires c κs =
+    let start = c .before .before .before .before .before .before .before .before .before .before .before .before .before .before .before .before .before .before .before .before .before .before in
+    let at-read-text = c .before .before .before .before .before .before .before .before .before .before .before .before .before .read-text in
+    let at-run-found = c .before .before .before .before .before .before .before .before .run-found in
+    let k = start .args .steps in fits-as (at-run-found .ensures .0 ∙ ap runNumbers (found-tried k (at-read-text .ensures))) (trial-fits _ k (search needs))
+
+same-length-3 : tie.Need-same-length-3
+same-length-3 c = search needs
+
+same-length-4 : tie.Need-same-length-4
+same-length-4 c = search needs
+
+returns-2 : tie.Need-returns-2
+returns-2 c =
+    let start = c .before .before .before .before .before .before .before .before .before .before .before .before .before .before .before .before .before .before .before .before .before .before .before in
+    let at-areas-fit = c .before .before .before .before .before .before .before .before .before .before .before .before .before .before .before .before .before .areas-fit in
+    let at-if1 = c .before .before .before .before .before .before .before .before .before .before .before .before .before .before .before .before .if1 in
+    let at-read-text = c .before .before .before .before .before .before .before .before .before .before .before .before .before .before .read-text in
+    let at-run-found = c .before .before .before .before .before .before .before .before .before .run-found in
+    let at-clear = c .before .before .before .clear in
+    let x = at-run-found .ensures in right-areas _ _ _ (sym (at-areas-fit .ensures) ∙ not-false _ (at-if1 .left)) (found-tried (start .args .steps) (at-read-text .ensures)) _ (x .0) (x .1) (x .2) (at-clear .ensures) (c .pack .ensures)
+
+pub trial-spec : {M : Type 1} → statement M
+trial-spec =
+    tie.close
+    (tie.spec
+    areas-fit-requires
+    same-length
+    same-length-2
+    returns
+    read-text-requires
+    run-found-requires
+    clear-requires
+    pack-requires
+    same-length-3
+    same-length-4
+    returns-2)
