@@ -4,7 +4,7 @@ use mathlib.Core.Bool.{Bool, true, false, cond}
 use mathlib.Core.List.{List, [], _∷_}
 use mathlib.Core.Option.{Option, none, some}
 use mathlib.Core.Logic.{_⊎_, inl, inr, ⊎-elim}
-use Prim.Native.Nat.{ℕ, _+_, _*_, _≤_, _<_}
+use Prim.Native.Nat.{ℕ, _+_, _≤_, _<_}
 use native.Mathlib.Omega.{arith}
 use lib.Dec.{eqb}
 use lib.ListN.{getD}
@@ -24,10 +24,12 @@ use Rattle.check_equality.specs.Layout.{variables-at, fields-at, fact-count, en
 use Rattle.check_state.specs.States.{Wf, stateOf, facts, entries, factsOf, variableAt, fieldAt, permissionAt, permissionsIn, permissionsOf}
 use Rattle.check_state.specs.Questions.{places}
 use Rattle.check_successors.specs.Successors.{Drops, pathAtEntry}
-use Rattle.check_forgetting.specs.Changes.{Becomes, Consumed, Forgettable, Forgot, Renamed, ForgotOut, RenamedEntries, Packed, Flags, renamedVariable, renamedKey, mentionsKey, keyDropped, droppedAt, withoutPath, kept, gone, Remains}
+use Rattle.check_forgetting.specs.Changes.{Becomes, Consumed, Forgettable, Forgot, Renamed, ForgotOut, OutMarked, RenamedEntries, Packed, Flags, renamedVariable, renamedKey, mentionsKey, keyDropped, droppedAt, withoutPath, kept, gone, Remains}
 use Rattle.check_forgetting.proofs.Renaming.{gone-term, renamed-term}
 use Rattle.check_forgetting.proofs.Keeping.{kept-same, kept-all, kept-map, entries-same, kinds-same, same-linked, same-facts}
 use Rattle.check_forgetting.proofs.GivingWay.{gave, named}
+use Rattle.check_forgetting.specs.Scans.{Scanned, markedKey}
+use Rattle.check_forgetting.proofs.Scanning.{scanned-less, scanned-forgot, unmarked-kept}
 use Rattle.check_forgetting.proofs.Droppings.{path-drops, removed-drops, remainder-drops, drops-facts, keeps-facts, dropped-term}
 
 -- FACTS AND ENTRIES, one after the other: key₁ and b₁ have the facts, and the entries are as they were
@@ -103,6 +105,17 @@ dropped-out key b key₁ b₁ out e F =
           ∙ sym (drops-facts b out c C (stateOf key b) e);
       rest = F .rest;
     }
+
+-- no side is that of a path that is out
+pub none-out :
+    (key b : List ℕ) (out marks : List Bool) (i : ℕ) → Wf key b → OutMarked b out marks → Scanned (markedKey marks) key b i → facts b ≤ i → ForgotOut key b out key b
+none-out key b out marks i w M S h = go (any (droppedAt b out (entries b)) (places (entries b))) refl
+  where
+    go : (c : Bool) → any (droppedAt b out (entries b)) (places (entries b)) ≡ c → ForgotOut key b out key b
+    go true e =
+        dropped-out key b key b out (sym e)
+        (scanned-forgot (keyDropped b out) key b i (scanned-less (markedKey marks) (keyDropped b out) key b i (λ k d. unmarked-kept b out marks k M d) S) w h out 255)
+    go false e = kept-out key b out w (sym e)
 
 -- the entries that are out, as what a formula consumes
 pub out-forgettable : (key b : List ℕ) (out : List Bool) → Forgettable (keyDropped b out) key b out 255

@@ -1,5 +1,5 @@
 -- Forgetting: what becomes of the sides of the facts, and the facts that are then left.
-use mathlib.Core.Path.{_≡_, refl, sym, ap, ap₂, _∙_, subst}
+use mathlib.Core.Path.{_≡_, refl, sym, ap, ap₂, _∙_}
 use mathlib.Core.Bool.{Bool, true, false, cond, not, _&&_, _||_}
 use mathlib.Core.List.{List, [], _∷_, _++_}
 use mathlib.Core.Option.{Option, none, some}
@@ -8,23 +8,20 @@ use Prim.Native.Nat.{ℕ, zero, suc, _+_, _*_, _≤_, _<_}
 use native.Mathlib.Omega.{arith}
 use native.Mathlib.Numerals.{add-one}
 use lib.Dec.{eqb}
-use lib.ListN.{length, getD, set, replicate, length-set}
-use lib.Seq.{getD-set-same, getD-set-other, set-getD}
-use borrow.Author.Tests.{eqb-true}
-use Rattle.rules.specs.Base.{any, keep, mapOption, bindOption}
+use lib.ListN.{getD, set, length-set}
+use lib.Seq.{getD-set-same, getD-set-other}
+use Rattle.rules.specs.Base.{keep, mapOption, bindOption}
 use Rattle.rules.specs.State.{Term, Fact, Renaming, trivial, renameFact, renameFacts}
 use Rattle.rules.proofs.Lists.{decide-eq}
 use Rattle.check_equality.specs.Keys.{termOf}
 use Rattle.check_equality.specs.Listing.{listed}
 use Rattle.check_equality.specs.Links.{Header, termAt, factOf}
 use Rattle.check_equality.proofs.Keys.{same-key}
-use Rattle.check_equality.proofs.Listing.{listed-more, listed-same, map-append, any-found}
+use Rattle.check_equality.proofs.Listing.{listed-more, listed-same, map-append}
 use Rattle.check_equality.proofs.Labels.{header-set}
 use Rattle.check_equality.specs.Layout.{slots, left-sides, right-sides, relations-at, variables-at, fact-count, entry-count}
 use Rattle.check_state.specs.States.{Wf, Linked, facts, entries, apartAt, factAt, factsIn}
-use Rattle.check_state.specs.Questions.{places}
-use Rattle.check_state.proofs.Entries.{no-flags}
-use Rattle.check_inequality.proofs.Searches.{or-none-left, or-none-right, ne-is}
+use Rattle.check_inequality.proofs.Searches.{ne-is}
 use Rattle.check_forgetting.specs.Changes.{Fresh, Dropped, MappedKeys, Stands, Sized, Rebuilt, sameSides, trivialAt}
 use Rattle.check_forgetting.proofs.Keeping.{kinds-same, counted-linked, counted-facts, counted-other}
 

@@ -1,28 +1,28 @@
 -- Labels kept decide ~ of the facts that are left.
 use mathlib.Core.Path.{_≡_, refl, sym, ap, _∙_, subst}
-use mathlib.Core.Bool.{Bool, true, false, cond, not, _||_}
-use mathlib.Core.List.{List, [], _∷_, _++_}
+use mathlib.Core.Bool.{Bool, true, false, cond, not}
+use mathlib.Core.List.{List, []}
 use mathlib.Core.Option.{Option, none, some}
 use mathlib.Core.Logic.{_⊎_, inl, inr, ⊎-elim}
 use Prim.Native.Nat.{ℕ, zero, suc, _+_, _*_, _≤_, _<_}
 use native.Mathlib.Omega.{arith}
 use lib.Dec.{eqb, ltb}
-use lib.ListN.{length, getD}
-use borrow.Author.Tests.{ltb-true, ltb-false, lt-ltb}
+use lib.ListN.{getD}
+use borrow.Author.Tests.{ltb-true, lt-ltb}
 use Rattle.rules.specs.Syntax.{eq, ne, null, var}
-use Rattle.rules.specs.State.{Term, Fact, Renaming, representative, renameFacts}
+use Rattle.rules.specs.State.{Term, Fact, representative, renameFacts}
 use Rattle.rules.proofs.Closure as Closure
-use Rattle.rules.proofs.Closure.{Listed, Equivalence, linked-least, linked→representative, representative→linked, itself, listed, back, onward}
-use Rattle.rules.proofs.Lists.{Member, decide-eq, end-member, none-some, some-inj}
+use Rattle.rules.proofs.Closure.{Listed, linked-least, linked→representative, representative→linked, itself, listed, back, onward}
+use Rattle.rules.proofs.Lists.{Member, decide-eq, end-member, none-some}
 use Rattle.rules.proofs.Successors.{Joined, left-law, after-before, listed-fact, alone, by-fact, by-name, swapped, chained}
 use Rattle.check_equality.specs.Layout.{slots, null-slot, left-sides, right-sides, relations-at}
 use Rattle.check_equality.specs.Keys.{termOf}
 use Rattle.check_equality.specs.Listing as Places
 use Rattle.check_equality.specs.Links.{Header, Alike, Together, Decides, termAt, relOf}
 use Rattle.check_equality.proofs.Keys.{of-variable, of-null, one-key}
-use Rattle.check_state.specs.States.{Wf, facts, factsOf, factAt, factsIn, apartAt}
-use Rattle.check_forgetting.specs.Changes.{Stands, becomeOf}
-use Rattle.check_forgetting.specs.Labels.{Lone, loneOf, Relabelled, Keeps, even}
+use Rattle.check_state.specs.States.{facts, factsOf, factAt, factsIn, apartAt}
+use Rattle.check_forgetting.specs.Changes.{becomeOf}
+use Rattle.check_forgetting.specs.Labels.{loneOf, Relabelled, Keeps, even}
 
 -- a member of a list by its places
 pub listed-member : {A : Type 0} (f : ℕ → A) (n : ℕ) (a : A) → Member a (Places.listed f n) → (i : ℕ) × (i < n) × (f i ≡ a)

@@ -3,7 +3,7 @@ use mathlib.Core.Path.{_≡_, refl, sym, ap, ap₂, _∙_, subst}
 use mathlib.Core.Bool.{Bool, true, false, cond, _||_}
 use mathlib.Core.List.{List, [], _∷_, _++_, append-nil}
 use mathlib.Core.Option.{none, some}
-use mathlib.Core.Logic.{_⊎_, inl, inr, ⊎-elim}
+use mathlib.Core.Logic.{_⊎_, inl, inr}
 use Prim.Native.Nat.{ℕ, _+_, _*_, _≤_, _<_}
 use native.Mathlib.Omega.{arith}
 use lib.Dec.{eqb, ltb}
@@ -17,10 +17,10 @@ use Rattle.check_equality.specs.Layout.{slots, bytes, left-sides, right-sides, 
 use Rattle.check_equality.specs.Links.{Header, factOf, termAt}
 use Rattle.check_equality.proofs.Listing.{listed-more, listed-same}
 use Rattle.check_equality.proofs.Labels.{header-set}
-use Rattle.check_state.specs.States.{Wf, facts, entries, factAt, factsIn}
+use Rattle.check_state.specs.States.{facts, entries, factAt, factsIn}
 use Rattle.check_inequality.proofs.Searches.{or-none-left, or-none-right}
 use Rattle.check_forgetting.specs.Changes.{Stands, Rebuilt, sameSides}
-use Rattle.check_forgetting.specs.Labels.{Lone, loneOf, LabelsBelow, Relabelled, MovesFact, movedSides, movedBytes, Keeps, Untouched}
+use Rattle.check_forgetting.specs.Labels.{loneOf, LabelsBelow, Relabelled, MovesFact, movedSides, movedBytes, Keeps, Untouched}
 use Rattle.check_forgetting.proofs.Keeping.{kinds-same, counted, counted-other}
 use Rattle.check_forgetting.proofs.Forgetting.{facts-as, facts-next}
 use Rattle.check_forgetting.proofs.KeptLabels.{Source, header, side, kept-decides}
@@ -200,7 +200,10 @@ module _ (key₀ b₀ : List ℕ) (gone : List Bool) (i n : ℕ) (key b : List �
       go false e = let (p, q, r) = M .moved e in rw (p, q, r) (packing-moved e)
 
 -- ALL OF THEM: the count of facts is written, and the labels are kept
-module _ (key₀ b₀ : List ℕ) (gone : List Bool) (x n : ℕ) (key b : List ℕ) (K : Keeps key₀ b₀ gone x) (P : Packing key₀ b₀ gone (facts b₀) n key b) where
+module _ (key₀ b₀ : List ℕ) (gone : List Bool) (x i n : ℕ) (key b : List ℕ) (K : Keeps key₀ b₀ gone x) (all : i ≡ facts b₀) (P₀ : Packing key₀ b₀ gone i n key b) where
+  P : Packing key₀ b₀ gone (facts b₀) n key b
+  P = subst (λ (j : ℕ). Packing key₀ b₀ gone j n key b) all P₀
+
   abbrev b₁ : List ℕ
   b₁ = set b fact-count n
 

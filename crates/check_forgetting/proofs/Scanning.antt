@@ -2,14 +2,14 @@
 use mathlib.Core.Path.{_≡_, refl, sym, ap, _∙_}
 use mathlib.Core.Bool.{Bool, true, false, cond, not, _&&_, _||_}
 use mathlib.Core.List.{List}
-use mathlib.Core.Option.{none, some}
+use mathlib.Core.Option.{some}
 use mathlib.Core.Logic.{⊎-elim}
 use Prim.Native.Nat.{ℕ, _+_, _*_, _≤_, _<_}
 use native.Mathlib.Omega.{arith}
 use lib.Dec.{eqb, ltb}
 use lib.ListN.{getD, replicate, length-replicate}
 use borrow.Author.Tests.{ltb-true, ltb-false}
-use Rattle.rules.specs.State.{Renaming, Permission, becomes}
+use Rattle.rules.specs.State.{becomes}
 use Rattle.rules.proofs.Lists.{decide-eq}
 use Rattle.check_equality.specs.Layout.{slots, left-sides, right-sides, relations-at}
 use Rattle.check_equality.specs.Keys.{termOf}
@@ -36,17 +36,17 @@ pub at-place : (marks : List Bool) (k : ℕ) {p : ℕ} {c : Bool} → p ≡ plac
 at-place marks k e d = rw (← e) d
 
 -- ONE FACT
-pub touches-left : (test : ℕ → Bool) (c l r : ℕ) → test l ≡ true → true ≡ touches test c l r
+pub touches-left : (test : ℕ → Bool) (l r : ℕ) → test l ≡ true → true ≡ touches test l r
 unfolding touches
-touches-left test c l r e = rw e
+touches-left test l r e = rw e
 
-pub touches-right : (test : ℕ → Bool) (c l r : ℕ) → test l ≡ false → test r ≡ true → true ≡ touches test c l r
+pub touches-right : (test : ℕ → Bool) (l r : ℕ) → test l ≡ false → test r ≡ true → true ≡ touches test l r
 unfolding touches
-touches-right test c l r d e = rw (d, e)
+touches-right test l r d e = rw (d, e)
 
-pub touches-none : (test : ℕ → Bool) (c l r : ℕ) (t : Bool) → test l ≡ false → test r ≡ false → t ≡ sameSides c l r → t ≡ touches test c l r
+pub touches-none : (test : ℕ → Bool) (l r : ℕ) → test l ≡ false → test r ≡ false → eqb l r ≡ touches test l r
 unfolding touches
-touches-none test c l r t d e f = rw (d, e) f
+touches-none test l r d e = rw (d, e)
 
 -- ONE FACT MORE
 pub scanned-first : (test : ℕ → Bool) (key b : List ℕ) → Scanned test key b 0
@@ -54,8 +54,8 @@ scanned-first test key b = record { most = omega arith; sides = λ j a h. absurd
 
 pub scanned-more :
     (test : ℕ → Bool) (key b : List ℕ) (i : ℕ) → i < facts b → Scanned test key b i →
-    touches test (getD b (relations-at + i) 0) (getD key (left-sides + 2 * i) 0) (getD key (right-sides + 2 * i) 0) ≡ false → Scanned test key b (i + 1)
-unfolding touches
+    touches test (getD key (left-sides + 2 * i) 0) (getD key (right-sides + 2 * i) 0) ≡ false → Scanned test key b (i + 1)
+unfolding touches sameSides
 scanned-more test key b i h S e =
     record {
       most = omega arith;
@@ -69,14 +69,17 @@ scanned-more test key b i h S e =
     left : test (getD key (left-sides + 2 * i) 0) ≡ false
     left = or-none-left (test (getD key (left-sides + 2 * i) 0)) _ e
 
-    others : (test (getD key (right-sides + 2 * i) 0) || trivialAt key b i) ≡ false
+    one : Bool
+    one = eqb (getD key (left-sides + 2 * i) 0) (getD key (right-sides + 2 * i) 0)
+
+    others : (test (getD key (right-sides + 2 * i) 0) || one) ≡ false
     others = or-none-right (test (getD key (left-sides + 2 * i) 0)) _ e
 
     right : test (getD key (right-sides + 2 * i) 0) ≡ false
-    right = or-none-left (test (getD key (right-sides + 2 * i) 0)) (trivialAt key b i) others
+    right = or-none-left (test (getD key (right-sides + 2 * i) 0)) one others
 
     plain : trivialAt key b i ≡ false
-    plain = or-none-right (test (getD key (right-sides + 2 * i) 0)) (trivialAt key b i) others
+    plain = rw (or-none-right (test (getD key (right-sides + 2 * i) 0)) one others) (and-false (not (eqb (getD b (relations-at + i) 0) 1)))
 
 -- another test that passes no more
 pub scanned-less : (test test′ : ℕ → Bool) (key b : List ℕ) (i : ℕ) → ((k : ℕ) → test k ≡ false → test′ k ≡ false) → Scanned test key b i → Scanned test′ key b i

@@ -1,6 +1,6 @@
 -- Forgetting keeps labels: what becomes of terms is left, and was ~.
 use mathlib.Core.Path.{_≡_, refl, sym, ap, _∙_, subst}
-use mathlib.Core.Bool.{Bool, true, false, cond, not, _&&_, _||_}
+use mathlib.Core.Bool.{Bool, true, false, cond, not, _||_}
 use mathlib.Core.List.{List}
 use mathlib.Core.Option.{Option, none, some}
 use mathlib.Core.Logic.{_⊎_, inl, inr, ⊎-elim}
@@ -8,12 +8,12 @@ use Prim.Native.Nat.{ℕ, _+_, _*_, _≤_, _<_}
 use native.Mathlib.Omega.{arith}
 use lib.Dec.{T, eqb, ltb}
 use lib.ListN.{getD, replicate}
-use borrow.Author.Tests.{eq-eqb, ne-eqb, eqb-true, eqb-false, ltb-true, ltb-false}
+use borrow.Author.Tests.{eq-eqb, ne-eqb, eqb-true, ltb-true, ltb-false}
 use Rattle.rules.specs.Syntax.{var, null, same}
 use Rattle.rules.specs.State as Rules
 use Rattle.rules.specs.State.{Term, Permission, Renaming, representative, equalIn, isLeft, becomes}
 use Rattle.rules.proofs.Closure.{linked→representative, equalIn-sound, same→≡, same-refl}
-use Rattle.rules.proofs.Lists.{some-inj, none-some, T-true, F-false}
+use Rattle.rules.proofs.Lists.{some-inj, T-true, F-false}
 use Rattle.rules.proofs.Successors.{left-is, is-left, successor-is, gives-way, way-renamed}
 use Rattle.check_equality.specs.Layout.{slots, null-slot, left-sides, right-sides, relations-at}
 use Rattle.check_equality.specs.Keys.{termOf}

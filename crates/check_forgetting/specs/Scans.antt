@@ -8,11 +8,11 @@ use lib.ListN.{getD}
 use Rattle.check_equality.specs.Layout.{left-sides}
 use Rattle.check_equality.specs.Links.{placeOf}
 use Rattle.check_state.specs.States.{facts}
-use Rattle.check_forgetting.specs.Changes.{mentionsKey, sameSides, trivialAt}
+use Rattle.check_forgetting.specs.Changes.{mentionsKey, trivialAt}
 
--- a fact has a side that passes, or is an equality with one term on both sides; c is 1 for an inequality
-unfoldable pub touches : (ℕ → Bool) → ℕ → ℕ → ℕ → Bool
-touches test c l r = test l || (test r || sameSides c l r)
+-- a fact has a side that passes, or one term on both sides
+unfoldable pub touches : (ℕ → Bool) → ℕ → ℕ → Bool
+touches test l r = test l || (test r || eqb l r)
 
 -- no fact before r is such
 pub record Scanned (test : ℕ → Bool) (key b : List ℕ) (r : ℕ) : Type 0 where

@@ -3,14 +3,13 @@
 use crate::scans;
 use check_equality::State;
 ghost use mathlib.Core.Path.{_≡_};
-ghost use mathlib.Core.Bool.{true, not, _&&_, _||_};
+ghost use mathlib.Core.Bool.{true};
 ghost use Prim.Native.Nat.{_+_, _*_, _≤_, _<_};
-ghost use lib.Dec.{eqb, ltb};
-ghost use lib.ListN.{length, getD};
+ghost use lib.ListN.{length};
 ghost use Rattle.rules.specs.Limits.{most-facts};
 ghost use Rattle.check_equality.specs.Layout.{slots, bytes, left-sides};
 ghost use Rattle.check_state.specs.States.{facts};
-ghost use Rattle.check_forgetting.specs.Changes.{Rebuilt, sameSides};
+ghost use Rattle.check_forgetting.specs.Changes.{Rebuilt};
 ghost use Rattle.check_forgetting.specs.Labels.{Lone, loneOf, LabelsBelow, Named, Relabelled, Fits, withLabel, fitting, MovesFact, even, Whole, Keeps, Untouched};
 
 // x, or NO_VARIABLE where it is no variable.

@@ -60,8 +60,10 @@ fn forget_out(
     ensures { λ _. ⌜ ForgotOut (now (key .entry)) (now (b .entry)) (now (out .entry)) (now (key .exit)) (now (b .exit)) ⌝ }
 {
     let p = b[State::ENTRIES] as usize;
-    if marks::drops_some(b, out, p) {
-        swaps::drop_out(key, b, out);
+    let marks = marks::marks_out(b, out, p);
+    let from = scans::first_marked(key, b, &marks);
+    if from < (b[State::FACTS] as usize) {
+        swaps::drop_out(key, b, out, &marks, from);
     }
 }
 

@@ -1,15 +1,13 @@
-// Where forgetting begins: the first fact that it may change, which is one that names what is dropped, or an equality with one term on both
-// sides. The facts before it stay as they are.
+// Where forgetting begins: the first fact that it may change, which is one that names what is dropped, or has one term on both sides. The
+// facts before it stay as they are.
 use crate::keys;
 use check_equality::State;
 ghost use mathlib.Core.Path.{_≡_};
-ghost use mathlib.Core.Bool.{false, _||_};
+ghost use mathlib.Core.Bool.{false};
 ghost use Prim.Native.Nat.{_+_, _*_, _≤_, _<_};
 ghost use lib.Dec.{eqb};
-ghost use lib.ListN.{length, getD};
 ghost use Rattle.rules.specs.Limits.{most-facts};
-ghost use Rattle.check_equality.specs.Layout.{slots, left-sides, mark-count};
-ghost use Rattle.check_equality.specs.Links.{placeOf};
+ghost use Rattle.check_equality.specs.Layout.{slots};
 ghost use Rattle.check_state.specs.States.{facts};
 ghost use Rattle.check_forgetting.specs.Changes.{mentionsKey, sameSides};
 ghost use Rattle.check_forgetting.specs.Scans.{Scanned, NoPath, touches, markedKey, pathKeyOf};
@@ -25,8 +23,8 @@ pub fn trivial(c: u8, left: u64, right: u64) -> bool
 }
 
 // Has a fact the side k, or one term on both sides?
-fn has_key(c: u8, left: u64, right: u64, k: u64) -> bool
-    ensures { λ r. ⌜ r ≡ touches (λ l. eqb l k) c left right ⌝ }
+fn has_key(left: u64, right: u64, k: u64) -> bool
+    ensures { λ r. ⌜ r ≡ touches (λ l. eqb l k) left right ⌝ }
 {
     if left == k {
         return true;
@@ -34,12 +32,12 @@ fn has_key(c: u8, left: u64, right: u64, k: u64) -> bool
     if right == k {
         return true;
     }
-    trivial(c, left, right)
+    left == right
 }
 
 // .. a side that names x?
-fn has_name(c: u8, left: u64, right: u64, x: u8) -> bool
-    ensures { λ r. ⌜ r ≡ touches (mentionsKey x) c left right ⌝ }
+fn has_name(left: u64, right: u64, x: u8) -> bool
+    ensures { λ r. ⌜ r ≡ touches (mentionsKey x) left right ⌝ }
 {
     if keys::mentions(left, x) {
         return true;
@@ -47,12 +45,12 @@ fn has_name(c: u8, left: u64, right: u64, x: u8) -> bool
     if keys::mentions(right, x) {
         return true;
     }
-    trivial(c, left, right)
+    left == right
 }
 
 // .. a side whose place is marked?
-fn has_mark(c: u8, left: u64, right: u64, marks: &[bool; State::MARKS]) -> bool
-    ensures { λ r. ⌜ r ≡ touches (markedKey (now (marks .entry))) c left right ⌝ }
+fn has_mark(left: u64, right: u64, marks: &[bool; State::MARKS]) -> bool
+    ensures { λ r. ⌜ r ≡ touches (markedKey (now (marks .entry))) left right ⌝ }
 {
     let p = check_equality::place(left);
     if marks[p] {
@@ -62,7 +60,7 @@ fn has_mark(c: u8, left: u64, right: u64, marks: &[bool; State::MARKS]) -> bool
     if marks[q] {
         return true;
     }
-    trivial(c, left, right)
+    left == right
 }
 
 // The first fact that the key k's being dropped may change, or the count of facts.
@@ -73,12 +71,7 @@ pub fn first_with<'a>(key: &'a [u64; State::SLOTS], b: &'a [u8; State::BYTES], k
     let n = b[State::FACTS] as usize;
     let mut i = 0;
     while i < n {
-        if has_key(
-            b[State::RELATIONS + i],
-            key[State::LEFT + 2 * i],
-            key[State::RIGHT + 2 * i],
-            k,
-        ) {
+        if has_key(key[State::LEFT + 2 * i], key[State::RIGHT + 2 * i], k) {
             return i;
         }
         i += 1;
@@ -94,12 +87,7 @@ pub fn first_naming<'a>(key: &'a [u64; State::SLOTS], b: &'a [u8; State::BYTES],
     let n = b[State::FACTS] as usize;
     let mut i = 0;
     while i < n {
-        if has_name(
-            b[State::RELATIONS + i],
-            key[State::LEFT + 2 * i],
-            key[State::RIGHT + 2 * i],
-            x,
-        ) {
+        if has_name(key[State::LEFT + 2 * i], key[State::RIGHT + 2 * i], x) {
             return i;
         }
         i += 1;
@@ -119,12 +107,7 @@ pub fn first_marked<'a>(
     let n = b[State::FACTS] as usize;
     let mut i = 0;
     while i < n {
-        if has_mark(
-            b[State::RELATIONS + i],
-            key[State::LEFT + 2 * i],
-            key[State::RIGHT + 2 * i],
-            marks,
-        ) {
+        if has_mark(key[State::LEFT + 2 * i], key[State::RIGHT + 2 * i], marks) {
             return i;
         }
         i += 1;

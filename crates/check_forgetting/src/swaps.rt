@@ -15,7 +15,7 @@ ghost use Rattle.check_equality.specs.Layout.{slots, left-sides};
 ghost use Rattle.check_equality.specs.Links.{picked};
 ghost use Rattle.check_state.specs.States.{Wf};
 ghost use Rattle.check_state.specs.Questions.{no-variable};
-ghost use Rattle.check_forgetting.specs.Changes.{MappedKeys, Renamed, renamedKey, mentionsKey, keyDropped, OutMarked, Forgettable, Forgot};
+ghost use Rattle.check_forgetting.specs.Changes.{MappedKeys, Renamed, renamedKey, mentionsKey, keyDropped, OutMarked, Forgettable, Forgot, ForgotOut};
 ghost use Rattle.check_forgetting.specs.Scans.{Scanned, NoPath, markedKey};
 ghost use Rattle.check_forgetting.specs.Labels.{StandsIn};
 
@@ -136,20 +136,20 @@ fn give_out<'a>(
     facts::forget(key, b, out, State::NO_VARIABLE, &mut gone, from);
 }
 
-// .. are looked for.
-pub fn drop_out(
+// .. unless all of these are still listed.
+pub fn drop_out<'a>(
     key: &mut [u64; State::SLOTS],
     b: &mut [u8; State::BYTES],
-    out: &[bool; Machine::PERMISSIONS],
+    out: &'a [bool; Machine::PERMISSIONS],
+    marks: &'a [bool; State::MARKS],
+    from: usize,
 )
-    requires { ⌜ Wf (now key) (now b) × Forgettable (keyDropped (now b) (now out)) (now key) (now b) (now out) no-variable ⌝ }
-    ensures { λ _. ⌜ Forgot (keyDropped (now (b .entry)) (now (out .entry))) (now (key .entry)) (now (b .entry)) (now (out .entry)) no-variable (now (key .exit)) (now (b .exit)) ⌝ }
+    requires { ⌜ Wf (now key) (now b) × OutMarked (now b) (now out) (now marks) × Scanned (markedKey (now marks)) (now key) (now b) from ⌝ }
+    ensures { λ _. ⌜ ForgotOut (now (key .entry)) (now (b .entry)) (now (out .entry)) (now (key .exit)) (now (b .exit)) ⌝ }
 {
     let p = b[State::ENTRIES] as usize;
-    let marks = marks::marks_out(b, out, p);
-    let from = scans::first_marked(key, b, &marks);
-    if from < (b[State::FACTS] as usize) {
-        give_out(key, b, out, &marks, from);
+    if marks::drops_some(b, out, p) {
+        give_out(key, b, out, marks, from);
     }
 }
 

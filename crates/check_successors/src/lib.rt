@@ -31,18 +31,18 @@ fn order(k: u64) -> u64
     ((k - State::FIRST_NUMBER) % WORDS + SIGN) % WORDS
 }
 
-// The lower of two numbers' keys, where `best` may be 0 for none.
-fn lower(k: u64, best: u64) -> u64
+// The lower of two numbers' keys, where `least` may be 0 for none.
+fn lower(k: u64, least: u64) -> u64
     requires { ⌜ first-number ≤ k ⌝ }
-    ensures { λ r. ⌜ r ≡ lowerOf k best ⌝ }
+    ensures { λ r. ⌜ r ≡ lowerOf k least ⌝ }
 {
-    if best < State::FIRST_NUMBER {
+    if least < State::FIRST_NUMBER {
         return k;
     }
-    if order(k) < order(best) {
+    if order(k) < order(least) {
         return k;
     }
-    best
+    least
 }
 
 // One side more, with the key k and the label c.

@@ -2,7 +2,6 @@ use Prim.Native.Nat.{_-_, _≤_}
 use Rattle.check_equality.specs.Layout.{left-sides}
 use Rattle.check_successors.specs.Successors.{MarksLike}
 use Rattle.check_successors.proofs.Marking.{marks-first, marks-more, marks-upto}
-use mathlib.Core.Path.{refl}
 use native.Mathlib.Omega.{arith}
 use Rattle.check_successors.proofs.marks_like.Statement.{statement}
 use Rattle.check_successors.proofs.marks_like.Tie as tie

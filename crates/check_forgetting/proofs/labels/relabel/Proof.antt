@@ -35,9 +35,14 @@ loop-less c = omega arith
 
 loop-again : tie.Need-loop-again Inv-loop μ-loop
 loop-again c =
+    let s = c .before .before .before .before .before in
     let l = c .before .before .before .before .loop in
     let N = l .inv .1 in
-    (omega arith, naming-more (c .before .before .before .before .before .args .b .now) _ (l .i) _ _ N (omega (arith, c .before .before .before .before .before .pre .1)) (c .before .before .before .before .before .pre .2 .size) (λ j h. c .before .before .before .before .before .pre .2 .low j (omega arith)) _ _ (subst (λ (a : ℕ). Named (l .i) a (c .before .before .before .before .before .args .x) (l .name) (c .new-label .last .0) (c .new-label .result)) (N .rest (l .i) (omega arith)) (c .new-label .ensures)))
+    let L = c .new-label in (
+      omega arith,
+      naming-more (s .args .b .now) _ (l .i) _ _ N (omega (arith, s .pre .1)) (s .pre .2 .size) (λ j h. s .pre .2 .low j (omega arith)) _ _
+          (subst (λ (a : ℕ). Named (l .i) a (s .args .x) (l .name) (L .last .0) (L .result)) (N .rest (l .i) (omega arith)) (L .ensures)),
+    )
 
 returns : tie.Need-returns Inv-loop μ-loop
 returns c = relabelled _ _ _ _ _ _ (omega arith) (c .before .before .pre .1) (c .before .before .pre .2) (c .before .loop .inv .1)

@@ -3,7 +3,6 @@ use native.Mathlib.Omega.{arith}
 use lib.ListN.{set}
 use mathlib.Core.Path.{_≡_, refl, sym, subst}
 use Rattle.check_equality.specs.Layout.{left-sides, fact-count}
-use Rattle.check_state.specs.States.{facts}
 use Rattle.check_forgetting.specs.Labels.{Lone, Relabelled}
 use Rattle.check_forgetting.proofs.Relabelling.{lone-of}
 use Rattle.check_forgetting.proofs.Repacking.{Packing, packing-first, packing-more, labels-below, repacked}
@@ -98,17 +97,20 @@ keep-labels-requires : tie.Need-keep-labels-requires Inv-loop μ-loop
 keep-labels-requires c κs =
     let s = c .before .before .before .before .before in
     let l = c .before .before .before .loop in
-    let P = l .inv .2 in
-    let e : l .i ≡ facts (s .args .b .now) = omega arith in
-    (subst Lone (sym (c .lone .ensures)) (lone-of (s .args .x)), omega arith, omega (arith, P .few, s .pre .0 .wf .linked .fit), labels-below (s .args .key .now) (s .args .b .now) (s .args .gone .now) (s .args .x) (l .n) (l .key) (l .b) (s .pre .0) (subst (λ (i : ℕ). Packing (s .args .key .now) (s .args .b .now) (s .args .gone .now) i (l .n) (l .key) (l .b)) e P))
+    let P = l .inv .2 in (
+      subst Lone (sym (c .lone .ensures)) (lone-of (s .args .x)),
+      omega arith,
+      omega (arith, P .few, s .pre .0 .wf .linked .fit),
+      labels-below (s .args .key .now) (s .args .b .now) (s .args .gone .now) (s .args .x) (l .i) (l .n) (l .key) (l .b) (s .pre .0) (omega arith) P,
+    )
 
 returns : tie.Need-returns Inv-loop μ-loop
 returns c =
     let s = c .before .before .before .before .before .before in
     let l = c .before .before .before .before .loop in
-    let P = l .inv .2 in
-    let e : l .i ≡ facts (s .args .b .now) = omega arith in
-    repacked (s .args .key .now) (s .args .b .now) (s .args .gone .now) (s .args .x) (l .n) (l .key) (l .b) (s .pre .0) (subst (λ (i : ℕ). Packing (s .args .key .now) (s .args .b .now) (s .args .gone .now) i (l .n) (l .key) (l .b)) e P) _ (subst (λ (y : ℕ). Relabelled (set (l .b) fact-count (l .n)) (left-sides + 2 * l .n) y (c .keep-labels .last .0)) (c .before .lone .ensures) (c .keep-labels .ensures))
+    let K = c .keep-labels in
+    repacked (s .args .key .now) (s .args .b .now) (s .args .gone .now) (s .args .x) (l .i) (l .n) (l .key) (l .b) (s .pre .0) (omega arith) (l .inv .2) _
+    (subst (λ (y : ℕ). Relabelled (set (l .b) fact-count (l .n)) (left-sides + 2 * l .n) y (K .last .0)) (c .before .lone .ensures) (K .ensures))
 
 pub repack-spec : {M : Type 1} → statement M
 repack-spec =

@@ -22,50 +22,44 @@ cast-n c = omega (arith, c .before .pre)
 loop-holds : tie.Need-loop-holds Inv-loop μ-loop
 loop-holds c = (omega arith, scanned-first _ _ _)
 
+mul-has-mark : tie.Need-mul-has-mark Inv-loop μ-loop
+mul-has-mark c = omega (arith, c .before .before .before .pre)
+
 add-has-mark : tie.Need-add-has-mark Inv-loop μ-loop
 add-has-mark c = omega (arith, c .before .before .before .pre)
+
+mul-has-mark-2 : tie.Need-mul-has-mark-2 Inv-loop μ-loop
+mul-has-mark-2 c = omega (arith, c .before .before .before .pre)
 
 element-copy-out-has-mark : tie.Need-element-copy-out-has-mark Inv-loop μ-loop
 element-copy-out-has-mark c = omega (arith, c .before .before .before .pre)
 
-mul-has-mark : tie.Need-mul-has-mark Inv-loop μ-loop
-mul-has-mark c = omega (arith, c .before .before .before .before .pre)
+mul-has-mark-3 : tie.Need-mul-has-mark-3 Inv-loop μ-loop
+mul-has-mark-3 c = omega (arith, c .before .before .before .before .pre)
 
 add-has-mark-2 : tie.Need-add-has-mark-2 Inv-loop μ-loop
 add-has-mark-2 c = omega (arith, c .before .before .before .before .pre)
 
-mul-has-mark-2 : tie.Need-mul-has-mark-2 Inv-loop μ-loop
-mul-has-mark-2 c = omega (arith, c .before .before .before .before .pre)
+mul-has-mark-4 : tie.Need-mul-has-mark-4 Inv-loop μ-loop
+mul-has-mark-4 c = omega (arith, c .before .before .before .before .pre)
 
 element-copy-out-has-mark-2 : tie.Need-element-copy-out-has-mark-2 Inv-loop μ-loop
 element-copy-out-has-mark-2 c = omega (arith, c .before .before .before .before .pre)
-
-mul-has-mark-3 : tie.Need-mul-has-mark-3 Inv-loop μ-loop
-mul-has-mark-3 c = omega (arith, c .before .before .before .before .before .pre)
-
-add-has-mark-3 : tie.Need-add-has-mark-3 Inv-loop μ-loop
-add-has-mark-3 c = omega (arith, c .before .before .before .before .before .pre)
-
-mul-has-mark-4 : tie.Need-mul-has-mark-4 Inv-loop μ-loop
-mul-has-mark-4 c = omega (arith, c .before .before .before .before .before .pre)
-
-element-copy-out-has-mark-3 : tie.Need-element-copy-out-has-mark-3 Inv-loop μ-loop
-element-copy-out-has-mark-3 c = omega (arith, c .before .before .before .before .before .pre)
 
 has-mark-requires : tie.Need-has-mark-requires Inv-loop μ-loop
 has-mark-requires c κs = tt
 
 returns : tie.Need-returns Inv-loop μ-loop
-returns c = c .before .before .before .before .before .before .loop .inv .1
+returns c = c .before .before .before .before .before .loop .inv .1
 
 add-i : tie.Need-add-i Inv-loop μ-loop
-add-i c = omega (arith, c .before .before .before .before .before .before .before .before .pre)
+add-i c = omega (arith, c .before .before .before .before .before .before .before .pre)
 
 loop-less : tie.Need-loop-less Inv-loop μ-loop
 loop-less c = omega arith
 
 loop-again : tie.Need-loop-again Inv-loop μ-loop
-loop-again c = (omega arith, scanned-more _ _ _ _ (omega arith) (c .before .before .before .before .before .before .loop .inv .1) (sym (c .before .has-mark .ensures) ∙ c .if1 .left))
+loop-again c = (omega arith, scanned-more _ _ _ _ (omega arith) (c .before .before .before .before .before .loop .inv .1) (sym (c .before .has-mark .ensures) ∙ c .if1 .left))
 
 returns-2 : tie.Need-returns-2 Inv-loop μ-loop
 returns-2 c = c .before .loop .inv .1
@@ -79,16 +73,14 @@ first-marked-spec =
     element-copy-out-n
     cast-n
     loop-holds
-    add-has-mark
-    element-copy-out-has-mark
     mul-has-mark
-    add-has-mark-2
+    add-has-mark
     mul-has-mark-2
-    element-copy-out-has-mark-2
+    element-copy-out-has-mark
     mul-has-mark-3
-    add-has-mark-3
+    add-has-mark-2
     mul-has-mark-4
-    element-copy-out-has-mark-3
+    element-copy-out-has-mark-2
     has-mark-requires
     returns
     add-i

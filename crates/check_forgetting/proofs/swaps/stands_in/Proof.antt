@@ -20,7 +20,11 @@ element-copy-out-result-2 : tie.Need-element-copy-out-result-2
 element-copy-out-result-2 c = search needs
 
 returns-2 : tie.Need-returns-2
-returns-2 c = λ e. record { other = c .before .before .before .if1 .left; variable = ltb-true _ 15 (and-left _ _ (c .before .before .if2 .taken)); name = ltb-true _ 15 (and-right (ltb (c .before .before .before .before .args .x) 15) _ (c .before .before .if2 .taken)); label = eqb-true (getD (c .before .before .before .before .args .b .now) (c .before .before .before .before .args .x) 0) (getD (c .before .before .before .before .args .b .now) (c .before .before .before .before .args .to) 0) e }
+returns-2 c =
+    let start = c .before .before .before .before in
+    let at-if1 = c .before .before .before .if1 in
+    let at-if2 = c .before .before .if2 in
+    λ e. record { other = at-if1 .left; variable = ltb-true _ 15 (and-left _ _ (at-if2 .taken)); name = ltb-true _ 15 (and-right (ltb (start .args .x) 15) _ (at-if2 .taken)); label = eqb-true (getD (start .args .b .now) (start .args .x) 0) (getD (start .args .b .now) (start .args .to) 0) e }
 
 returns-3 : tie.Need-returns-3
 returns-3 c = λ e. absurd (let z : _≡_ {A = ℕ} 0 1 = cc in omega arith)
