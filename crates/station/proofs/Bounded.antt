@@ -180,6 +180,7 @@ text-within t =
 
 pub bound-fits : (t : List ℕ) (f : Reply) → numbersIn f ≡ numbersOf (boundText t) → (f .number < 65536) × (f .line < 65536)
 unfolding boundText
-bound-fits t f e =
-    (subst (λ (n : ℕ). n < 65536) (sym (ap (λ (p : ℕ × ℕ). p .0) e)) (number-small (then (readText t) boundItems)),
-    omega (arith, ap (λ (p : ℕ × ℕ). p .1) e, line-small most-bytes (then (readText t) boundItems) (text-within t)))
+bound-fits t f e = (
+  subst (λ (n : ℕ). n < 65536) (sym (ap (λ (p : ℕ × ℕ). p .0) e)) (number-small (then (readText t) boundItems)),
+  omega (arith, ap (λ (p : ℕ × ℕ). p .1) e, line-small most-bytes (then (readText t) boundItems) (text-within t)),
+)

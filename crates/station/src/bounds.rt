@@ -1,6 +1,6 @@
 // Main's bound and the most frames, written for `bound`; zeros where there are none.
-use crate::clear;
 use crate::Reply;
+use crate::clear;
 use reckoner::Outcome;
 ghost use mathlib.Core.Path.{_≡_};
 ghost use mathlib.Core.List.{[], _∷_};
