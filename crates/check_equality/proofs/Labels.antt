@@ -1,6 +1,6 @@
 -- Labels keep deciding ~ as slots and facts are added.
 use mathlib.Core.Path.{_≡_, refl, sym, ap, _∙_, subst}
-use mathlib.Core.Bool.{Bool, true, false, cond}
+use mathlib.Core.Bool.{Bool, true, false, cond, _||_}
 use mathlib.Core.List.{List, [], _∷_, _++_}
 use mathlib.Core.Logic.{_⊎_, inl, inr, ⊎-elim}
 use Prim.Native.Nat.{ℕ, _+_, _≤_, _<_}
@@ -13,14 +13,55 @@ use Rattle.rules.specs.Syntax.{eq, ne, same}
 use Rattle.rules.specs.State.{Term, Fact, representative, equalBy}
 use Rattle.rules.proofs.Closure.{Listed, Equivalence, linked-least, here, there, listed, linked→representative, representative→linked, same→≡, same-refl}
 use Rattle.rules.proofs.Lists.{decide-eq, T-true, F-false}
-use Rattle.check_equality.specs.Layout.{slots, mark-count}
+use Rattle.check_equality.specs.Layout.{slots, left-sides, mark-count}
 use Rattle.check_equality.specs.Keys.{termOf}
-use Rattle.check_equality.specs.Links.{termAt, Header, HasLabel, Missing, Labelled, Alike, Together, Decides, Merged, Joined, LinkedUnless, Slotted, Pushed, Marked, placeOf, picked, relOf, factOf, alikeBy, left-new, right-new, both-known}
+use Rattle.check_equality.specs.Links.{termAt, Header, HasLabel, Missing, Past, no-label, Labelled, Alike, Together, Decides, Merged, Joined, LinkedUnless, Slotted, Pushed, Marked, placeOf, picked, relOf, factOf, alikeBy, left-new, right-new, both-known}
 use Rattle.check_equality.proofs.Keys.{one-key}
 
 pub not-in-header : (key : List ℕ) (k : ℕ) → Header key → 15 ≤ k → (k ≡ 256 → ⊥) → (i : ℕ) → i < 16 → getD key i 0 ≡ k → ⊥
 not-in-header key k H h n i g e =
     ⊎-elim (λ d. n (sym e ∙ ap (λ (j : ℕ). getD key j 0) d ∙ H .null)) (λ d. omega (arith, H .variables i (omega arith))) (decide-eq i 15)
+
+in-header : (i : ℕ) → (i < left-sides) ⊎ (left-sides ≤ i)
+in-header i = go (ltb i left-sides) refl
+  where
+    go : (c : Bool) → ltb i left-sides ≡ c → (i < left-sides) ⊎ (left-sides ≤ i)
+    go true d = inl (ltb-true i left-sides d)
+    go false d = inr (ltb-false i left-sides d)
+
+-- NO SLOT YET
+pub past-first : (key : List ℕ) (m k : ℕ) → left-sides ≤ m → Past key m k left-sides
+past-first key m k h = record { some = omega arith; most = h; nowhere = λ i g l. absurd (omega arith) }
+
+none-of : (a b c d : Bool) → (((a || b) || c) || d) ≡ false → (a ≡ false) × (b ≡ false) × (c ≡ false) × (d ≡ false)
+none-of false false false false e = (refl, refl, refl, refl)
+none-of false false false true e = absurd (let z : _≡_ {A = ℕ} 0 1 = cc in omega arith)
+none-of false false true d e = absurd (let z : _≡_ {A = ℕ} 0 1 = cc in omega arith)
+none-of false true c d e = absurd (let z : _≡_ {A = ℕ} 0 1 = cc in omega arith)
+none-of true b c d e = absurd (let z : _≡_ {A = ℕ} 0 1 = cc in omega arith)
+
+pub past-more :
+    (key : List ℕ) (m k i : ℕ) → Past key m k i → i + 4 ≤ m →
+    (((eqb (getD key i 0) k || eqb (getD key (i + 1) 0) k) || eqb (getD key (i + 2) 0) k) || eqb (getD key (i + 3) 0) k) ≡ false →
+    Past key m k (i + 4)
+past-more key m k i P h e = record { some = omega (arith, P .some); most = h; nowhere = at }
+  where
+    is-not : (j c : ℕ) → eqb (getD key c 0) k ≡ false → j ≡ c → getD key j 0 ≡ k → ⊥
+    is-not j c f d x = eqb-false (getD key c 0) k f (ap (λ (z : ℕ). getD key z 0) (sym d) ∙ x)
+
+    at : (j : ℕ) → left-sides ≤ j → j < i + 4 → getD key j 0 ≡ k → ⊥
+    at j g l x =
+        let (a, b, c, d) = none-of (eqb (getD key i 0) k) (eqb (getD key (i + 1) 0) k) (eqb (getD key (i + 2) 0) k) (eqb (getD key (i + 3) 0) k) e in
+        ⊎-elim (λ z. is-not j i a z x)
+        (λ n₀. ⊎-elim (λ z. is-not j (i + 1) b z x)
+        (λ n₁. ⊎-elim (λ z. is-not j (i + 2) c z x)
+        (λ n₂. ⊎-elim (λ z. is-not j (i + 3) d z x) (λ n₃. P .nowhere j g (omega arith) x) (decide-eq j (i + 3)))
+        (decide-eq j (i + 2)))
+        (decide-eq j (i + 1)))
+        (decide-eq j i)
+
+pub past-all : (key : List ℕ) (m k r : ℕ) → Missing key left-sides k no-label → Past key m k r → Missing key r k no-label
+past-all key m k r M P = record { nowhere = λ i h e. ⊎-elim (λ g. M .nowhere i g e) (λ g. P .nowhere i g h e) (in-header i); shown = refl }
 
 -- ONE MORE FACT
 pub record Ends (f : Fact) (t u : Term) : Type 0 where
@@ -407,14 +448,14 @@ module _
               ⊎-elim (λ q. inr (ap (λ (j : ℕ). getD label₂ j 0) q)) (λ q. inl (λ x. omega (arith, old-low D i (omega arith)))) (decide-eq i m)));
         }
 
-    pushed-merged : m + 2 ≤ slots → (label₃ : List ℕ) → Merged (getD label₂ (m + 1) 0) (getD label₂ m 0) label₂ label₃ → Equal label₃
+    pushed-merged : m + 2 ≤ slots → (label₃ : List ℕ) → Merged (getD label₂ m 0) (getD label₂ (m + 1) 0) label₂ label₃ → Equal label₃
     pushed-merged h label₃ M =
         record {
           keys = keys-set;
           size = M .size ∙ two .size ∙ one .size;
           rest = λ i g. M .rest i g ∙ far h i g;
           labels = λ fs D.
-              one-equality (both-slots fs D) (factOf false l r) m (m + 1) (omega arith) (omega arith) (inl left-end) label₃
+              one-equality (both-slots fs D) (factOf false l r) (m + 1) m (omega arith) (omega arith) (inr left-end) label₃
               (λ i g. M .labels i (omega arith));
         }
 
@@ -449,16 +490,9 @@ pub unmarked :
     getD marks (placeOf k) false ≡ false → Missing key m k 255
 unmarked key marks m k H h n M e =
     record {
-      nowhere = λ i g d. ⊎-elim (λ x. not-in-header key k H h n i x d) (λ x. clash (sym (ap (λ (j : ℕ). getD marks (placeOf j) false) d) ∙ M .at i x g) e) (low i);
+      nowhere = λ i g d. ⊎-elim (λ x. not-in-header key k H h n i x d) (λ x. clash (sym (ap (λ (j : ℕ). getD marks (placeOf j) false) d) ∙ M .at i x g) e) (in-header i);
       shown = refl;
     }
   where
-    low : (i : ℕ) → (i < 16) ⊎ (16 ≤ i)
-    low i = go (ltb i 16) refl
-      where
-        go : (c : Bool) → ltb i 16 ≡ c → (i < 16) ⊎ (16 ≤ i)
-        go true d = inl (ltb-true i 16 d)
-        go false d = inr (ltb-false i 16 d)
-
     clash : {x : Bool} → x ≡ true → x ≡ false → ⊥
     clash p q = let z : _≡_ {A = ℕ} 0 1 = cc in omega arith

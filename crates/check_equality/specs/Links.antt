@@ -35,6 +35,12 @@ pub record Missing (key : List ℕ) (m k r : ℕ) : Type 0 where
   pub nowhere : (i : ℕ) → i < m → getD key i 0 ≡ k → ⊥
   pub shown : r ≡ no-label
 
+-- no slot from left-sides on before r holds the key
+pub record Past (key : List ℕ) (m k r : ℕ) : Type 0 where
+  pub some : left-sides ≤ r
+  pub most : r ≤ m
+  pub nowhere : (i : ℕ) → left-sides ≤ i → i < r → getD key i 0 ≡ k → ⊥
+
 abbrev pub Labelled : List ℕ → List ℕ → ℕ → ℕ → ℕ → Type 0
 Labelled key label m k r = HasLabel key label m k r ⊎ Missing key m k r
 
@@ -73,7 +79,7 @@ pub record Merged (from to : ℕ) (label label′ : List ℕ) : Type 0 where
 pub data Joined (m : ℕ) (label label′ : List ℕ) : Type 0 where
   left-new : getD label m 0 ≡ m → label′ ≡ set label m (getD label (m + 1) 0) → Joined m label label′
   right-new : getD label (m + 1) 0 ≡ m + 1 → label′ ≡ set label (m + 1) (getD label m 0) → Joined m label label′
-  both-known : Merged (getD label (m + 1) 0) (getD label m 0) label label′ → Joined m label label′
+  both-known : Merged (getD label m 0) (getD label (m + 1) 0) label label′ → Joined m label label′
 
 -- .. unless they are unequal
 pub record LinkedUnless (b : Bool) (m : ℕ) (label label′ : List ℕ) : Type 0 where

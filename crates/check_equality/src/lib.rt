@@ -1,13 +1,13 @@
 // Terms of the checker as keys, and ~ by labels that are kept as facts are added.
 ghost use mathlib.Core.Path.{_≡_};
-ghost use mathlib.Core.Bool.{cond};
+ghost use mathlib.Core.Bool.{cond, _||_};
 ghost use lib.Dec.{eqb};
 ghost use Prim.Native.Nat.{_+_, _*_, _≤_, _<_};
 ghost use lib.ListN.{length};
 ghost use Rattle.rules.specs.Syntax as Syntax;
 ghost use Rattle.check_equality.specs.Layout.{slots, bytes, left-sides, mark-count, offsets};
 ghost use Rattle.check_equality.specs.Keys.{termOf, meaning, first-path, first-number, paths};
-ghost use Rattle.check_equality.specs.Links.{Header, Labelled, Missing, Merged, Joined, LinkedUnless, Slotted, Pushed, Marked, placeOf, picked, alikeBy, no-label};
+ghost use Rattle.check_equality.specs.Links.{Header, Labelled, Missing, Past, Merged, Joined, LinkedUnless, Slotted, Pushed, Marked, placeOf, picked, alikeBy, no-label};
 
 // The checker's state stands in two arrays: the keys of its slots; and bytes, which are the slots' labels, and what is known besides.
 // The constants below as one value.
@@ -165,6 +165,31 @@ pub fn key_of(t: Term) -> u64
 
 // The labels are the first bytes of `label`, one for each slot; what stands after them stays as it is.
 
+// Is one of four keys k?
+fn one_of(a: u64, b: u64, c: u64, d: u64, k: u64) -> bool
+    ensures { λ r. ⌜ r ≡ (((eqb a k || eqb b k) || eqb c k) || eqb d k) ⌝ }
+{
+    (a == k) | (b == k) | (c == k) | (d == k)
+}
+
+// So many slots are looked at together.
+const BLOCK: usize = 4;
+
+// A slot from LEFT on before which none holds the key: the last block may.
+fn past(key: &[u64; State::SLOTS], m: usize, k: u64) -> usize
+    requires { ⌜ (left-sides ≤ m) × (m ≤ slots) ⌝ }
+    ensures { λ r. ⌜ Past (now (key .entry)) m k r ⌝ }
+{
+    let mut i = State::LEFT;
+    while i + BLOCK <= m {
+        if one_of(key[i], key[i + 1], key[i + 2], key[i + 3], k) {
+            return i;
+        }
+        i += BLOCK;
+    }
+    i
+}
+
 // The label of the slot from LEFT on that holds the key.
 fn label_from<'a>(
     key: &'a [u64; State::SLOTS],
@@ -175,7 +200,7 @@ fn label_from<'a>(
     requires { ⌜ (left-sides ≤ m) × (m ≤ slots) × Missing (now key) left-sides k no-label ⌝ }
     ensures { λ r. ⌜ Labelled (now (key .entry)) (now (label .entry)) m k r ⌝ }
 {
-    let mut i = State::LEFT;
+    let mut i = past(key, m, k);
     while i < m {
         if key[i] == k {
             return label[i];
@@ -256,7 +281,7 @@ fn link(label: &mut [u8; State::BYTES], m: usize)
         label[m + 1] = to;
         return;
     }
-    merge(label, from, to);
+    merge(label, to, from);
 }
 
 // The terms in the slots m and m + 1 are equal, unless `ne`.

@@ -4,31 +4,32 @@ use mathlib.Core.Bool.{Bool, true, false, cond}
 use mathlib.Core.List.{List, [], _∷_}
 use mathlib.Core.Option.{Option, none, some}
 use mathlib.Core.Logic.{_⊎_, inl, inr, ⊎-elim}
-use Prim.Native.Nat.{ℕ, _+_, _*_, _≤_, _<_}
+use Prim.Native.Nat.{ℕ, _+_, _≤_, _<_}
 use native.Mathlib.Omega.{arith}
 use lib.Dec.{eqb}
-use lib.ListN.{getD, replicate}
+use lib.ListN.{getD}
 use borrow.Author.Tests.{eqb-true, eqb-false}
 use Rattle.rules.specs.Base.{any, bindOption, mapOption}
 use Rattle.rules.specs.Syntax as Syntax
 use Rattle.rules.specs.Syntax.{path}
 use Rattle.rules.specs.State as Rules
 use Rattle.rules.specs.State.{Permission, Fact, pathOf, lists, unlisted, withoutPaths, renameVariable, renameTerm, renamePermission, renamePermissions}
+use Rattle.rules.proofs.Lists.{some-inj, none-some, bind-some}
+use Rattle.rules.proofs.Successors.{without-is}
 use Rattle.check_equality.specs.Keys.{termOf}
 use Rattle.check_equality.specs.Listing.{listed}
 use Rattle.check_equality.proofs.Keys.{same-key}
 use Rattle.check_equality.proofs.Listing.{listed-same, or-false}
-use Rattle.check_equality.specs.Layout.{slots, left-sides, variables-at, fields-at, fact-count, entry-count}
+use Rattle.check_equality.specs.Layout.{variables-at, fields-at, fact-count, entry-count}
 use Rattle.check_state.specs.States.{Wf, stateOf, facts, entries, factsOf, variableAt, fieldAt, permissionAt, permissionsIn, permissionsOf}
 use Rattle.check_state.specs.Questions.{places}
-use Rattle.check_state.proofs.Entries.{no-flags}
-use Rattle.check_equality.specs.Links.{termAt}
 use Rattle.check_successors.specs.Successors.{Drops, pathAtEntry}
-use Rattle.check_forgetting.specs.Changes.{Becomes, Dropped, RenamedKeys, Rebuilt, Forgotten, ForgotOut, RenamedEntries, Packed, Flags, renamedVariable, renamedKey, mentionsKey, keyDropped, droppedAt, withoutPath, kept, Remains}
+use Rattle.check_forgetting.specs.Changes.{Becomes, Consumed, Forgettable, Forgot, Renamed, ForgotOut, OutMarked, RenamedEntries, Packed, Flags, renamedVariable, renamedKey, mentionsKey, keyDropped, droppedAt, withoutPath, kept, gone, Remains}
 use Rattle.check_forgetting.proofs.Renaming.{gone-term, renamed-term}
 use Rattle.check_forgetting.proofs.Keeping.{kept-same, kept-all, kept-map, entries-same, kinds-same, same-linked, same-facts}
-use Rattle.check_forgetting.proofs.Forgetting.{dropped-stands}
 use Rattle.check_forgetting.proofs.GivingWay.{gave, named}
+use Rattle.check_forgetting.specs.Scans.{Scanned, markedKey}
+use Rattle.check_forgetting.proofs.Scanning.{scanned-less, scanned-forgot, unmarked-kept}
 use Rattle.check_forgetting.proofs.Droppings.{path-drops, removed-drops, remainder-drops, drops-facts, keeps-facts, dropped-term}
 
 -- FACTS AND ENTRIES, one after the other: key₁ and b₁ have the facts, and the entries are as they were
@@ -93,18 +94,45 @@ pub kept-out :
 kept-out key b out w e = record { wf = w; facts = λ c C. sym (keeps-facts b out c C (stateOf key b) e); rest = λ i g s. refl }
 
 pub dropped-out :
-    (key b key₁ b₁ : List ℕ) (dead out : List Bool) (changed : Bool) → true ≡ any (droppedAt b out (entries b)) (places (entries b)) →
-    Dropped (keyDropped b out) key (left-sides + 2 * facts b) dead changed → Forgotten key b out 255 dead key₁ b₁ → ForgotOut key b out key₁ b₁
-dropped-out key b key₁ b₁ dead out changed e D F =
+    (key b key₁ b₁ : List ℕ) (out : List Bool) → true ≡ any (droppedAt b out (entries b)) (places (entries b)) → Forgot (keyDropped b out) key b out 255 key₁ b₁ →
+    ForgotOut key b out key₁ b₁
+dropped-out key b key₁ b₁ out e F =
     record {
       wf = F .wf;
       facts =
           λ c C.
-          F .facts (withoutPaths (unlisted (c .kept) (c .consumed))) (c .kept) (remainder-drops b out c (C .rest))
-          (dropped-stands (withoutPaths (unlisted (c .kept) (c .consumed))) (keyDropped b out) key (facts b) dead changed (dropped-term b out c C) D)
+          F .facts (withoutPaths (unlisted (c .kept) (c .consumed))) (c .kept) (remainder-drops b out c (C .rest)) (λ j a h. dropped-term b out c C (getD key j 0))
           ∙ sym (drops-facts b out c C (stateOf key b) e);
       rest = F .rest;
     }
+
+-- no side is that of a path that is out
+pub none-out :
+    (key b : List ℕ) (out marks : List Bool) (i : ℕ) → Wf key b → OutMarked b out marks → Scanned (markedKey marks) key b i → facts b ≤ i → ForgotOut key b out key b
+none-out key b out marks i w M S h = go (any (droppedAt b out (entries b)) (places (entries b))) refl
+  where
+    go : (c : Bool) → any (droppedAt b out (entries b)) (places (entries b)) ≡ c → ForgotOut key b out key b
+    go true e =
+        dropped-out key b key b out (sym e)
+        (scanned-forgot (keyDropped b out) key b i (scanned-less (markedKey marks) (keyDropped b out) key b i (λ k d. unmarked-kept b out marks k M d) S) w h out 255)
+    go false e = kept-out key b out w (sym e)
+
+-- the entries that are out, as what a formula consumes
+pub out-forgettable : (key b : List ℕ) (out : List Bool) → Forgettable (keyDropped b out) key b out 255
+out-forgettable key b out =
+    record {
+      ρ = withoutPaths (unlisted (shown .kept) (shown .consumed));
+      ps = shown .kept;
+      plain = λ t u e. without-is (unlisted (shown .kept) (shown .consumed)) t u e .1;
+      drops = remainder-drops b out shown (consumed .rest);
+      sides = λ j a h. dropped-term b out shown consumed (getD key j 0);
+    }
+  where
+    shown : Rules.Shown
+    shown = record { kept = kept out (permissionAt b) (entries b); consumed = gone out (permissionAt b) (entries b) }
+
+    consumed : Consumed b out shown
+    consumed = record { rest = refl; used = λ q. refl }
 
 pub remainder-law : (key b key₁ b₁ b₂ : List ℕ) (out : List Bool) → Wf key b → ForgotOut key b out key₁ b₁ → Packed b₁ out b₂ → Remains key b out key₁ b₂
 unfolding Rules.remainder Rules.dropPaths
@@ -132,27 +160,68 @@ path-term b i k e l = ap (λ (c : Bool). cond c none (some (termOf l))) (or-fals
     is : Syntax.same (pathOf (permissionAt b i)) (termOf l) ≡ eqb l k
     is = ap (λ (t : Rules.Term). Syntax.same t (termOf l)) (sym e) ∙ same-key k l ∙ flip (eqb k l) (eqb l k) refl refl
 
-pub path-law :
-    (key b key′ b′ : List ℕ) (dead skip : List Bool) (changed : Bool) (i k : ℕ) → Wf key b → termOf k ≡ path (variableAt b i) (fieldAt b i) →
-    Dropped (λ l. eqb l k) key (left-sides + 2 * facts b) dead changed → Flags (λ j. Syntax.same (termOf k) (pathAtEntry b j)) (entries b) skip →
-    Forgotten key b skip 255 dead key′ b′ → Becomes (withoutPath key b i) key′ b′
-unfolding Rules.dropPaths Rules.factsWithout pathOf
-path-law key b key′ b′ dead skip changed i k w e D G F =
-    record {
-      wf = F .wf;
-      same = ap₂ (λ (ps : List Permission) (fs : List Fact). record { permissions = ps; facts = fs })
-          (same-entries key b key′ b′ w (F .wf) (F .rest))
-          (F .facts (withoutPaths (permissionAt b i ∷ [])) (permissionsOf b)
-          (path-drops (permissionAt b i) b skip (λ j h. G .at j h ∙ ap (λ (t : Rules.Term). Syntax.same t (pathAtEntry b j)) e))
-          (dropped-stands (withoutPaths (permissionAt b i ∷ [])) (λ l. eqb l k) key (facts b) dead changed (path-term b i k e) D));
-    }
+module _ (key b : List ℕ) (skip : List Bool) (i k : ℕ) (e : termOf k ≡ path (variableAt b i) (fieldAt b i))
+    (G : Flags (λ j. Syntax.same (termOf k) (pathAtEntry b j)) (entries b) skip) where
+  abbrev ρ : Rules.Renaming
+  ρ = withoutPaths (permissionAt b i ∷ [])
+
+  ρ-drops : Drops ρ (permissionsOf b) b skip 255
+  unfolding pathOf
+  ρ-drops = path-drops (permissionAt b i) b skip (λ j h. G .at j h ∙ ap (λ (t : Rules.Term). Syntax.same t (pathAtEntry b j)) e)
+
+  pub path-forgettable : Forgettable (λ l. eqb l k) key b skip 255
+  path-forgettable =
+      record {
+        ρ = ρ;
+        ps = permissionsOf b;
+        plain = λ t u d. without-is (permissionAt b i ∷ []) t u d .1;
+        drops = ρ-drops;
+        sides = λ j a h. path-term b i k e (getD key j 0);
+      }
+
+  pub path-law : (key′ b′ : List ℕ) → Wf key b → Forgot (λ l. eqb l k) key b skip 255 key′ b′ → Becomes (withoutPath key b i) key′ b′
+  unfolding Rules.dropPaths Rules.factsWithout
+  path-law key′ b′ w F =
+      record {
+        wf = F .wf;
+        same = ap₂ (λ (ps : List Permission) (fs : List Fact). record { permissions = ps; facts = fs })
+            (same-entries key b key′ b′ w (F .wf) (F .rest)) (F .facts ρ (permissionsOf b) ρ-drops (λ j a h. path-term b i k e (getD key j 0)));
+      }
 
 -- REMOVED
+left-variable : (x v w : ℕ) → renameVariable x none v ≡ some w → v ≡ w
+unfolding renameVariable
+left-variable x v w e = go (eqb v x) e
+  where
+    go : (c : Bool) → cond c none (some v) ≡ some w → v ≡ w
+    go true e = none-some e
+    go false e = some-inj e
+
+-- a term that is left is the term itself
+removed-plain : (x : ℕ) (t u : Rules.Term) → renameTerm x none t ≡ some u → t ≡ u
+unfolding renameTerm
+removed-plain x (Syntax.num n) u e = some-inj e
+removed-plain x Syntax.null u e = some-inj e
+removed-plain x (Syntax.var v) u e =
+    let (w, m, q) = bind-some (renameVariable x none v) _ u e in ap Syntax.var (left-variable x v w m) ∙ some-inj q
+removed-plain x (path v f) u e =
+    let (w, m, q) = bind-some (renameVariable x none v) _ u e in ap (λ (v : ℕ). path v f) (left-variable x v w m) ∙ some-inj q
+
 module _ (key b : List ℕ) (x : ℕ) (h : x < 256) (w : Wf key b) where
   -- x is dropped
   module _ (out : List Bool) (G : Flags (λ i. eqb (variableAt b i) x) (entries b) out) where
     abbrev x-drops : Drops (renameTerm x none) (renamePermissions x none (permissionsOf b)) b out x
     x-drops = removed-drops x b out (λ i g. G .at i g)
+
+    pub names-forgettable : Forgettable (mentionsKey x) key b out x
+    names-forgettable =
+        record {
+          ρ = renameTerm x none;
+          ps = renamePermissions x none (permissionsOf b);
+          plain = removed-plain x;
+          drops = x-drops;
+          sides = λ j a l. gone-term x h (getD key j 0);
+        }
 
     -- what becomes of a term that names x
     pub successor-term :
@@ -163,8 +232,7 @@ module _ (key b : List ℕ) (x : ℕ) (h : x < 256) (w : Wf key b) where
     successor-term k t m S =
         S _ _ x-drops ∙ sym (gave (stateOf key b) (renameTerm x none) (renamePermissions x none (permissionsOf b)) (termOf k) true (gone-term x h k ∙ rw m))
 
-    module _ (key₁ b₁ b₂ : List ℕ) (dead : List Bool) (changed : Bool) (D : Dropped (mentionsKey x) key (left-sides + 2 * facts b) dead changed)
-        (F : Forgotten key b out x dead key₁ b₁) (P : Packed b₁ out b₂) where
+    module _ (key₁ b₁ b₂ : List ℕ) (F : Forgot (mentionsKey x) key b out x key₁ b₁) (P : Packed b₁ out b₂) where
       entry-gone : (i : ℕ) → renamePermission x none (permissionAt b i) ≡ cond (eqb (variableAt b i) x) none (some (permissionAt b i))
       unfolding renamePermission renameVariable bindOption
       entry-gone i = go (eqb (variableAt b i) x)
@@ -185,7 +253,7 @@ module _ (key b : List ℕ) (x : ℕ) (h : x < 256) (w : Wf key b) where
             same = ap₂ (λ (ps : List Permission) (fs : List Fact). record { permissions = ps; facts = fs })
                 (packed-entries key b key₁ b₁ w (F .wf) (F .rest) b₂ out P ∙ sym kept-entries)
                 (packed-facts key b key₁ b₁ w (F .wf) (F .rest) b₂ out P
-                ∙ F .facts (renameTerm x none) (renamePermissions x none (permissionsOf b)) x-drops (dropped-stands (renameTerm x none) (mentionsKey x) key (facts b) dead changed (gone-term x h) D));
+                ∙ F .facts (renameTerm x none) (renamePermissions x none (permissionsOf b)) x-drops (λ j a l. gone-term x h (getD key j 0)));
           }
 
   -- a term that does not name x
@@ -199,8 +267,7 @@ module _ (key b : List ℕ) (x : ℕ) (h : x < 256) (w : Wf key b) where
     unfolding Rules.removedTerm
     named-term k = sym (named (stateOf key b) (renameTerm x (some to)) (renamePermissions x (some to) (permissionsOf b)) (termOf k) (termOf (renamedKey x to k)) (renamed-term x h to g k))
 
-    module _ (key₀ key₁ b₁ b₂ : List ℕ) (changed : Bool) (K : RenamedKeys x to key (left-sides + 2 * facts b) key₀ changed)
-        (R : Rebuilt key₀ b (replicate slots false) key₁ b₁) (E : RenamedEntries x to b₁ (entries b₁) b₂) where
+    module _ (key₁ b₁ b₂ : List ℕ) (R : Renamed (renamedKey x to) key b key₁ b₁) (E : RenamedEntries x to b₁ (entries b₁) b₂) where
       pub replace-law : Becomes (Rules.removeTo x (some to) (stateOf key b)) key₁ b₂
       unfolding Rules.removeTo
       replace-law =
@@ -209,6 +276,5 @@ module _ (key b : List ℕ) (x : ℕ) (h : x < 256) (w : Wf key b) where
             same = ap₂ (λ (ps : List Permission) (fs : List Fact). record { permissions = ps; facts = fs })
                 (renamed-entries key b key₁ b₁ w (R .wf) (R .rest) b₂ x to E)
                 (renamed-facts key b key₁ b₁ w (R .wf) (R .rest) b₂ x to E
-                ∙ R .facts (Rules.removedTerm x (some to) (stateOf key b)) key
-                (λ j a l. sym (named-term (getD key j 0)) ∙ ap (λ (k : ℕ). some (termOf k)) (sym (K .at j a l)) ∙ ap (λ (c : Bool). cond c none (some (termAt key₀ j))) (sym (no-flags slots j))));
+                ∙ R .facts (Rules.removedTerm x (some to) (stateOf key b)) (λ k. sym (named-term k)));
           }

@@ -1,5 +1,5 @@
 -- Forgetting: what becomes of the sides of the facts, and the facts that are then left.
-use mathlib.Core.Path.{_≡_, refl, sym, ap, ap₂, _∙_, subst}
+use mathlib.Core.Path.{_≡_, refl, sym, ap, ap₂, _∙_}
 use mathlib.Core.Bool.{Bool, true, false, cond, not, _&&_, _||_}
 use mathlib.Core.List.{List, [], _∷_, _++_}
 use mathlib.Core.Option.{Option, none, some}
@@ -8,107 +8,63 @@ use Prim.Native.Nat.{ℕ, zero, suc, _+_, _*_, _≤_, _<_}
 use native.Mathlib.Omega.{arith}
 use native.Mathlib.Numerals.{add-one}
 use lib.Dec.{eqb}
-use lib.ListN.{length, getD, set, replicate, length-set}
-use lib.Seq.{getD-set-same, getD-set-other, set-getD}
-use borrow.Author.Tests.{eqb-true}
-use Rattle.rules.specs.Base.{any, keep, mapOption, bindOption}
+use lib.ListN.{getD, set, length-set}
+use lib.Seq.{getD-set-same, getD-set-other}
+use Rattle.rules.specs.Base.{keep, mapOption, bindOption}
 use Rattle.rules.specs.State.{Term, Fact, Renaming, trivial, renameFact, renameFacts}
 use Rattle.rules.proofs.Lists.{decide-eq}
 use Rattle.check_equality.specs.Keys.{termOf}
 use Rattle.check_equality.specs.Listing.{listed}
 use Rattle.check_equality.specs.Links.{Header, termAt, factOf}
 use Rattle.check_equality.proofs.Keys.{same-key}
-use Rattle.check_equality.proofs.Listing.{listed-more, listed-same, map-append, any-found}
+use Rattle.check_equality.proofs.Listing.{listed-more, listed-same, map-append}
 use Rattle.check_equality.proofs.Labels.{header-set}
 use Rattle.check_equality.specs.Layout.{slots, left-sides, right-sides, relations-at, variables-at, fact-count, entry-count}
 use Rattle.check_state.specs.States.{Wf, Linked, facts, entries, apartAt, factAt, factsIn}
-use Rattle.check_state.specs.Questions.{places}
-use Rattle.check_state.proofs.Entries.{no-flags}
-use Rattle.check_inequality.proofs.Searches.{or-none-left, or-none-right, ne-is}
-use Rattle.check_forgetting.specs.Changes.{Fresh, Dropped, RenamedKeys, Stands, Sized, Unchanged, Rebuilt, renamedKey, sameSides, trivialAt}
+use Rattle.check_inequality.proofs.Searches.{ne-is}
+use Rattle.check_forgetting.specs.Changes.{Fresh, Dropped, MappedKeys, Stands, Sized, Rebuilt, sameSides, trivialAt}
 use Rattle.check_forgetting.proofs.Keeping.{kinds-same, counted-linked, counted-facts, counted-other}
 
 -- SIDES DROPPED
 pub dropped-more :
-    (test : ℕ → Bool) (key : List ℕ) (i : ℕ) (gone : List Bool) (changed g : Bool) → i < slots → Dropped test key i gone changed →
-    g ≡ test (getD key i 0) → Dropped test key (i + 1) (set gone i g) (changed || g)
-dropped-more test key i gone changed g h₀ D e =
-    let l : i < length gone = omega (arith, D .size) in
+    (test : ℕ → Bool) (key : List ℕ) (i : ℕ) (gone : List Bool) (g : Bool) → i < slots → Dropped test key i gone → g ≡ test (getD key i 0) →
+    Dropped test key (i + 1) (set gone i g)
+dropped-more test key i gone g h₀ D e =
     record {
       size = length-set gone i g ∙ D .size;
-      at = λ j a h. ⊎-elim (λ d. rw d (getD-set-same gone i g false l ∙ e)) (λ d. getD-set-other gone i j g false d ∙ D .at j a (omega arith)) (decide-eq j i);
-      none =
-          λ q j a h.
-          ⊎-elim (λ d. rw d (getD-set-same gone i g false l ∙ or-none-right changed g q))
-          (λ d. getD-set-other gone i j g false d ∙ D .none (or-none-left changed g q) j a (omega arith)) (decide-eq j i);
+      at =
+          λ j a h.
+          ⊎-elim (λ d. rw d (getD-set-same gone i g false (omega (arith, D .size)) ∙ e)) (λ d. getD-set-other gone i j g false d ∙ D .at j a (omega arith))
+          (decide-eq j i);
     }
 
-pub dropped-first : (test : ℕ → Bool) (key : List ℕ) (gone : List Bool) → length gone ≡ slots → Dropped test key left-sides gone false
-dropped-first test key gone l = record { size = l; at = λ j a h. absurd (omega arith); none = λ q j a h. absurd (omega arith) }
+pub dropped-all : (test : ℕ → Bool) (key : List ℕ) (i m : ℕ) (gone : List Bool) → m ≤ i → Dropped test key i gone → Dropped test key m gone
+dropped-all test key i m gone h D = record { size = D .size; at = λ j a g. D .at j a (omega arith) }
 
-pub dropped-all :
-    (test : ℕ → Bool) (key : List ℕ) (i m : ℕ) (gone : List Bool) (changed : Bool) → m ≤ i → Dropped test key i gone changed →
-    Dropped test key m gone changed
-dropped-all test key i m gone changed h D =
-    record { size = D .size; at = λ j a g. D .at j a (omega arith); none = λ q j a g. D .none q j a (omega arith) }
-
--- SIDES RENAMED: those before slot i are, the others are as they were
-pub record RenamedTo (x to : ℕ) (old : List ℕ) (i : ℕ) (key : List ℕ) (changed : Bool) : Type 0 where
+-- SIDES BY A MAP OF KEYS: those before slot i are, the others are as they were
+pub record MappedTo (map : ℕ → ℕ) (old : List ℕ) (i : ℕ) (key : List ℕ) : Type 0 where
   pub header : Header key
-  pub done : (j : ℕ) → left-sides ≤ j → j < i → getD key j 0 ≡ renamedKey x to (getD old j 0)
+  pub done : (j : ℕ) → left-sides ≤ j → j < i → getD key j 0 ≡ map (getD old j 0)
   pub rest : (j : ℕ) → i ≤ j → getD key j 0 ≡ getD old j 0
-  pub same : changed ≡ false → key ≡ old
 
-pub renamed-first : (x to : ℕ) (key : List ℕ) → Header key → RenamedTo x to key left-sides key false
-renamed-first x to key H =
-    record { header = H; done = λ j a h. absurd (omega arith); rest = λ j h. refl; same = λ q. refl }
+pub mapped-first : (map : ℕ → ℕ) (key : List ℕ) (i : ℕ) → MappedKeys map key i key → MappedTo map key i key
+mapped-first map key i M = record { header = M .header; done = M .at; rest = λ j h. refl }
 
-pub renamed-more :
-    (x to : ℕ) (old : List ℕ) (i : ℕ) (key : List ℕ) (changed : Bool) (l : ℕ) → left-sides ≤ i → i < slots → RenamedTo x to old i key changed →
-    l ≡ renamedKey x to (getD key i 0) → RenamedTo x to old (i + 1) (set key i l) (changed || not (eqb l (getD key i 0)))
-renamed-more x to old i key changed l a h R e =
+pub mapped-more :
+    (map : ℕ → ℕ) (old : List ℕ) (i : ℕ) (key : List ℕ) (l : ℕ) → left-sides ≤ i → i < slots → MappedTo map old i key → l ≡ map (getD key i 0) →
+    MappedTo map old (i + 1) (set key i l)
+mapped-more map old i key l a h R e =
     record {
       header = header-set key i l (R .header) a;
       done =
           λ j b g.
-          ⊎-elim
-          (λ d. rw d (getD-set-same key i l 0 (omega (arith, R .header .size)) ∙ e ∙ ap (renamedKey x to) (R .rest i (omega arith))))
+          ⊎-elim (λ d. rw d (getD-set-same key i l 0 (omega (arith, R .header .size)) ∙ e ∙ ap map (R .rest i (omega arith))))
           (λ d. getD-set-other key i j l 0 d ∙ R .done j b (omega arith)) (decide-eq j i);
       rest = λ j g. getD-set-other key i j l 0 (omega arith) ∙ R .rest j (omega arith);
-      same =
-          λ q.
-          ap (set key i) (eqb-true l (getD key i 0) (not-not (eqb l (getD key i 0)) (or-none-right changed _ q))) ∙ set-getD key i 0
-          ∙ R .same (or-none-left changed _ q);
     }
-  where
-    not-not : (c : Bool) → not c ≡ false → c ≡ true
-    not-not true q = refl
-    not-not false q = sym q
 
-pub renamed-all :
-    (x to : ℕ) (old : List ℕ) (i m : ℕ) (key : List ℕ) (changed : Bool) → m ≤ i → RenamedTo x to old i key changed →
-    RenamedKeys x to old m key changed
-renamed-all x to old i m key changed h R =
-    record { header = R .header; at = λ j a g. R .done j a (omega arith); same = R .same }
-
--- WHAT THE SIDES STAND FOR
-pub dropped-stands :
-    (ρ : Renaming) (test : ℕ → Bool) (key : List ℕ) (n : ℕ) (gone : List Bool) (changed : Bool) →
-    ((k : ℕ) → ρ (termOf k) ≡ cond (test k) none (some (termOf k))) → Dropped test key (left-sides + 2 * n) gone changed → Stands ρ key key gone n
-dropped-stands ρ test key n gone changed w D =
-    λ j a h. w (getD key j 0) ∙ ap (λ (c : Bool). cond c none (some (termAt key j))) (sym (D .at j a h))
-
--- nothing is done where nothing changes
-pub dropped-unchanged :
-    (test : ℕ → Bool) (key b : List ℕ) (gone : List Bool) (changed : Bool) → Wf key b → Dropped test key (left-sides + 2 * facts b) gone changed →
-    changed ≡ false → Unchanged key b gone
-dropped-unchanged test key b gone changed w D q = record { wf = w; none = D .none q }
-
-pub renamed-unchanged :
-    (x to : ℕ) (key b key′ : List ℕ) (m : ℕ) (changed : Bool) → Wf key b → RenamedKeys x to key m key′ changed → changed ≡ false →
-    Unchanged key′ b (replicate slots false)
-renamed-unchanged x to key b key′ m changed w R q =
-    record { wf = subst (λ (k : List ℕ). Wf k b) (sym (R .same q)) w; none = λ j a h. no-flags slots j }
+pub mapped-all : (map : ℕ → ℕ) (old : List ℕ) (i m : ℕ) (key : List ℕ) → m ≤ i → MappedTo map old i key → MappedKeys map old m key
+mapped-all map old i m key h R = record { header = R .header; at = λ j a g. R .done j a (omega arith) }
 
 pub wf-sized : (key key′ b : List ℕ) → Header key′ → Wf key b → Sized key′ b
 wf-sized key key′ b H w = record { header = H; size = w .linked .size; fit = w .linked .fit; entries-fit = w .fit; kinds = w .kinds }
@@ -175,32 +131,19 @@ facts-next ρ old key₀ b₀ gone all i S h fs fs′ c l r t k et el er ec e =
     k ∙ ap₂ (λ (a b : List Fact). a ++ b) e (rw (et, el, er, ec))
     ∙ sym (facts-more ρ old b₀ i (getD gone (left-sides + 2 * i) false) (getD gone (right-sides + 2 * i) false) (getD key₀ (left-sides + 2 * i) 0) (getD key₀ (right-sides + 2 * i) 0) (S (left-sides + 2 * i) (omega arith) (omega arith)) (S (right-sides + 2 * i) (omega arith) (omega arith)))
 
--- NOTHING CHANGES
--- a test that no place passes
-none-passes : (p : ℕ → Bool) (n i : ℕ) → any p (places n) ≡ false → i < n → p i ≡ false
-none-passes p n i e h = go (p i) refl
-  where
-    go : (c : Bool) → p i ≡ c → c ≡ false
-    go true d = sym (any-found p (λ j. j) n i h d) ∙ e
-    go false d = refl
-
-module _ (key b : List ℕ) (gone : List Bool) (U : Unchanged key b gone) (plain : any (trivialAt key b) (places (facts b)) ≡ false) (ρ : Renaming)
-    (old : List ℕ) (S : Stands ρ old key gone (facts b)) where
-  side-same : (j : ℕ) → left-sides ≤ j → j < left-sides + 2 * facts b → ρ (termAt old j) ≡ some (termAt key j)
-  side-same j a h = S j a h ∙ ap (λ (c : Bool). cond c none (some (termAt key j))) (U .none j a h)
-
-  facts-as : (n : ℕ) → n ≤ facts b → factsIn key b n ≡ renameFacts ρ (factsIn old b n)
-  unfolding listed
-  facts-as zero h = sym (facts-none ρ old b)
-  facts-as (suc n) h =
-      ap (λ (fs : List Fact). fs ++ (factAt key b n ∷ [])) (facts-as n (omega arith))
-      ∙ ap (λ (c : Bool). renameFacts ρ (factsIn old b n) ++ cond c [] (factAt key b n ∷ [])) (sym (none-passes (trivialAt key b) (facts b) n plain (omega arith)))
-      ∙ sym (facts-more ρ old b n false false (getD key (left-sides + 2 * n) 0) (getD key (right-sides + 2 * n) 0) (side-same (left-sides + 2 * n) (omega arith) (omega arith)) (side-same (right-sides + 2 * n) (omega arith) (omega arith)))
-      ∙ ap (λ (k : ℕ). renameFacts ρ (factsIn old b k)) (add-one n)
-
-pub nothing-changed : (key b : List ℕ) (gone : List Bool) → Unchanged key b gone → any (trivialAt key b) (places (facts b)) ≡ false → Rebuilt key b gone key b
-nothing-changed key b gone U plain =
-    record { wf = U .wf; facts = λ ρ old S. facts-as key b gone U plain ρ old S (facts b) (omega arith); rest = λ i g s. refl }
+-- FACTS THAT STAY
+pub facts-as :
+    (key b old : List ℕ) (ρ : Renaming) (n : ℕ) → ((i : ℕ) → i < n → trivialAt key b i ≡ false) →
+    ((j : ℕ) → left-sides ≤ j → j < left-sides + 2 * n → ρ (termAt old j) ≡ some (termAt key j)) → factsIn key b n ≡ renameFacts ρ (factsIn old b n)
+unfolding listed
+facts-as key b old ρ zero plain same = sym (facts-none ρ old b)
+facts-as key b old ρ (suc n) plain same =
+    ap (λ (fs : List Fact). fs ++ (factAt key b n ∷ [])) (facts-as key b old ρ n (λ i h. plain i (omega arith)) (λ j a h. same j a (omega arith)))
+    ∙ ap (λ (c : Bool). renameFacts ρ (factsIn old b n) ++ cond c [] (factAt key b n ∷ [])) (sym (plain n (omega arith)))
+    ∙ sym
+    (facts-more ρ old b n false false (getD key (left-sides + 2 * n) 0) (getD key (right-sides + 2 * n) 0) (same (left-sides + 2 * n) (omega arith) (omega arith))
+    (same (right-sides + 2 * n) (omega arith) (omega arith)))
+    ∙ ap (λ (k : ℕ). renameFacts ρ (factsIn old b k)) (add-one n)
 
 -- REBUILT: the count of facts is written; b₁ is b with fresh labels
 pub rebuilt-fresh :

@@ -3,7 +3,7 @@ use mathlib.Core.Path.{_≡_, refl, sym, ap, _∙_, subst}
 use mathlib.Core.Bool.{Bool, true, false, cond, _&&_}
 use mathlib.Core.List.{List}
 use mathlib.Core.Option.{Option, none, some}
-use mathlib.Core.Logic.{⊎-elim}
+use mathlib.Core.Logic.{_⊎_, inl, inr, ⊎-elim}
 use Prim.Native.Nat.{ℕ, _+_, _*_, _≤_, _<_}
 use native.Mathlib.Omega.{arith}
 use native.Mathlib.Decide.{decLt}
@@ -20,7 +20,7 @@ use Rattle.check_equality.specs.Links.{Header, termAt}
 use Rattle.check_equality.proofs.Labels.{header-set}
 use Rattle.check_state.specs.States.{Wf, facts, factsOf, stateOf}
 use Rattle.check_successors.specs.Successors.{Drops}
-use Rattle.check_forgetting.specs.Changes.{Unchanged, Rebuilt, Stored, Lead, Giving, SideGiven, GaveWay, Forgotten, becomeOf, successorAt, givenAt}
+use Rattle.check_forgetting.specs.Changes.{Stands, Rebuilt, Stored, Lead, Giving, SideGiven, GaveWay, Forgotten, becomeOf, successorAt, givenAt}
 
 -- WHAT BECOMES OF A TERM
 -- one that is dropped or left
@@ -168,12 +168,12 @@ module _ (old b : List ℕ) (skip : List Bool) (x j : ℕ) (key : List ℕ) (gon
             flags = fs;
           }
 
--- EACH SIDE: those before slot i have, the others are as they were
-pub record Given (old b : List ℕ) (skip : List Bool) (x : ℕ) (gone₀ : List Bool) (i : ℕ) (key : List ℕ) (gone : List Bool) : Type 0 where
+-- EACH SIDE: those before slot i have, the others are as they were, and so are those of the facts before `from`
+pub record Given (old b : List ℕ) (skip : List Bool) (x : ℕ) (gone₀ : List Bool) (from i : ℕ) (key : List ℕ) (gone : List Bool) : Type 0 where
   pub done :
       (ρ : Renaming) (ps : List Permission) → Drops ρ ps b skip x → (j : ℕ) → left-sides ≤ j → j < i → becomeOf key gone j ≡ givenAt old b ρ ps gone₀ j
-  pub keys : (j : ℕ) → i ≤ j → getD key j 0 ≡ getD old j 0
-  pub flags : (j : ℕ) → i ≤ j → getD gone j false ≡ getD gone₀ j false
+  pub keys : (j : ℕ) → (j < left-sides + 2 * from) ⊎ (i ≤ j) → getD key j 0 ≡ getD old j 0
+  pub flags : (j : ℕ) → (j < left-sides + 2 * from) ⊎ (i ≤ j) → getD gone j false ≡ getD gone₀ j false
 
 no-lead : (z n i : ℕ) → getD (replicate n z) i z ≡ z
 no-lead z n i = go (decLt i n)
@@ -182,53 +182,57 @@ no-lead z n i = go (decLt i n)
     go (yes h) = getD-replicate n i z z h
     go (no h) = List·getD-eq-default (replicate n z) z {n = i} (rw (length-replicate n z) (omega (arith, h)))
 
-pub giving-first : (old b : List ℕ) (skip : List Bool) (x : ℕ) (gone : List Bool) → Header old → length gone ≡ slots → Giving old b skip x left-sides old gone (replicate slots 0)
-giving-first old b skip x gone H l =
+pub giving-first : (old b : List ℕ) (skip : List Bool) (x i : ℕ) (gone : List Bool) → Header old → length gone ≡ slots → Giving old b skip x i old gone (replicate slots 0)
+giving-first old b skip x i gone H l =
     record { header = H; size = l; leads-size = length-replicate {A = ℕ} slots 0; leads = λ a n. absurd (n (no-lead 0 slots a)) }
 
-pub given-first : (old b : List ℕ) (skip : List Bool) (x : ℕ) (gone : List Bool) → Given old b skip x gone left-sides old gone
-given-first old b skip x gone = record { done = λ ρ ps W j a h. absurd (omega arith); keys = λ j h. refl; flags = λ j h. refl }
+pub given-first :
+    (old b : List ℕ) (skip : List Bool) (x : ℕ) (gone : List Bool) (from : ℕ) →
+    ((j : ℕ) → left-sides ≤ j → j < left-sides + 2 * from → getD gone j false ≡ false) → Given old b skip x gone from (left-sides + 2 * from) old gone
+given-first old b skip x gone from free = record { done = λ ρ ps W j a h. rw (free j a h); keys = λ j h. refl; flags = λ j h. refl }
 
 pub given-more :
-    (old b : List ℕ) (skip : List Bool) (x : ℕ) (gone₀ : List Bool) (i : ℕ) (key : List ℕ) (gone : List Bool) (key′ : List ℕ) (gone′ : List Bool) (lead′ : List ℕ) →
-    Given old b skip x gone₀ i key gone → SideGiven old b skip x i key gone key′ gone′ lead′ → Given old b skip x gone₀ (i + 1) key′ gone′
-given-more old b skip x gone₀ i key gone key′ gone′ lead′ G S =
+    (old b : List ℕ) (skip : List Bool) (x : ℕ) (gone₀ : List Bool) (from i : ℕ) (key : List ℕ) (gone : List Bool) (key′ : List ℕ) (gone′ : List Bool) (lead′ : List ℕ) →
+    left-sides + 2 * from ≤ i → Given old b skip x gone₀ from i key gone → SideGiven old b skip x i key gone key′ gone′ lead′ →
+    Given old b skip x gone₀ from (i + 1) key′ gone′
+given-more old b skip x gone₀ from i key gone key′ gone′ lead′ l G S =
     record {
       done = λ ρ ps W j a h. ⊎-elim (λ d. rw d (here ρ ps W)) (λ d. before ρ ps W j a (omega arith) d) (decide-eq j i);
-      keys = λ j h. S .keys j (omega arith) ∙ G .keys j (omega arith);
-      flags = λ j h. S .flags j (omega arith) ∙ G .flags j (omega arith);
+      keys = λ j h. S .keys j (⊎-elim (λ g d. omega arith) (λ g d. omega arith) h) ∙ G .keys j (⊎-elim (λ g. inl g) (λ g. inr (omega arith)) h);
+      flags = λ j h. S .flags j (⊎-elim (λ g d. omega arith) (λ g d. omega arith) h) ∙ G .flags j (⊎-elim (λ g. inl g) (λ g. inr (omega arith)) h);
     }
   where
     here : (ρ : Renaming) (ps : List Permission) → Drops ρ ps b skip x → becomeOf key′ gone′ i ≡ givenAt old b ρ ps gone₀ i
-    here ρ ps W = S .here ρ ps W ∙ rw (G .flags i (omega arith))
+    here ρ ps W = S .here ρ ps W ∙ rw (G .flags i (inr (omega arith)))
 
     before : (ρ : Renaming) (ps : List Permission) → Drops ρ ps b skip x → (j : ℕ) → left-sides ≤ j → j < i → (j ≡ i → ⊥) → becomeOf key′ gone′ j ≡ givenAt old b ρ ps gone₀ j
     before ρ ps W j a h d = rw (S .keys j d, S .flags j d) (G .done ρ ps W j a h)
 
 pub given-all :
-    (old b : List ℕ) (skip : List Bool) (x : ℕ) (gone₀ : List Bool) (i : ℕ) (key : List ℕ) (gone : List Bool) → left-sides + 2 * facts b ≤ i → Header key →
-    Given old b skip x gone₀ i key gone → GaveWay old b skip x gone₀ key gone
-given-all old b skip x gone₀ i key gone h H G =
-    record { header = H; at = λ ρ ps W j a g. G .done ρ ps W j a (omega arith) }
+    (old b : List ℕ) (skip : List Bool) (x : ℕ) (gone₀ : List Bool) (from i : ℕ) (key : List ℕ) (gone : List Bool) → left-sides + 2 * facts b ≤ i → Header key →
+    Given old b skip x gone₀ from i key gone → GaveWay old b skip x gone₀ from key gone
+given-all old b skip x gone₀ from i key gone h H G =
+    record {
+      header = H;
+      keys = λ j g. G .keys j (inl g);
+      flags = λ j g. G .flags j (inl g);
+      at = λ ρ ps W j a g. G .done ρ ps W j a (omega arith);
+    }
 
 -- THE FACTS THEN
-module _ (key b : List ℕ) (skip : List Bool) (x : ℕ) (gone : List Bool) where
-  pub gave-way :
-      (key₁ key′ b′ : List ℕ) (gone₁ : List Bool) → GaveWay key b skip x gone key₁ gone₁ → Rebuilt key₁ b gone₁ key′ b′ → Forgotten key b skip x gone key′ b′
-  gave-way key₁ key′ b′ gone₁ G R =
-      record {
-        wf = R .wf;
-        facts = λ ρ ps W S. R .facts (becomes (stateOf key b) ρ ps) key (λ j a h. gave (stateOf key b) ρ ps (termAt key j) (getD gone j false) (S j a h) ∙ sym (G .at ρ ps W j a h));
-        rest = R .rest;
-      }
+-- what becomes of the sides
+pub gave-sides :
+    (key b : List ℕ) (skip : List Bool) (x : ℕ) (gone : List Bool) (from : ℕ) (key₁ : List ℕ) (gone₁ : List Bool) → GaveWay key b skip x gone from key₁ gone₁ →
+    (ρ : Renaming) (ps : List Permission) → Drops ρ ps b skip x → Stands ρ key key gone (facts b) → Stands (becomes (stateOf key b) ρ ps) key key₁ gone₁ (facts b)
+gave-sides key b skip x gone from key₁ gone₁ G ρ ps W S j a h =
+    gave (stateOf key b) ρ ps (termAt key j) (getD gone j false) (S j a h) ∙ sym (G .at ρ ps W j a h)
 
-  pub none-gave-way : (key′ b′ : List ℕ) → Unchanged key b gone → Rebuilt key b gone key′ b′ → Forgotten key b skip x gone key′ b′
-  none-gave-way key′ b′ U R =
-      record {
-        wf = R .wf;
-        facts =
-            λ ρ ps W S.
-            R .facts (becomes (stateOf key b) ρ ps) key
-            (λ j a h. named (stateOf key b) ρ ps (termAt key j) (termAt key j) (S j a h ∙ rw (U .none j a h)) ∙ rw (U .none j a h));
-        rest = R .rest;
-      }
+pub gave-way :
+    (key b : List ℕ) (skip : List Bool) (x : ℕ) (gone : List Bool) (from : ℕ) (key₁ key′ b′ : List ℕ) (gone₁ : List Bool) →
+    GaveWay key b skip x gone from key₁ gone₁ → Rebuilt key₁ b gone₁ key′ b′ → Forgotten key b skip x gone key′ b′
+gave-way key b skip x gone from key₁ key′ b′ gone₁ G R =
+    record {
+      wf = R .wf;
+      facts = λ ρ ps W S. R .facts (becomes (stateOf key b) ρ ps) key (gave-sides key b skip x gone from key₁ gone₁ G ρ ps W S);
+      rest = R .rest;
+    }

@@ -1,9 +1,9 @@
 -- Renaming a variable in a key.
-use mathlib.Core.Path.{_≡_, refl, _∙_}
-use mathlib.Core.Bool.{Bool, true, false, cond}
+use mathlib.Core.Path.{_≡_, refl, ap, _∙_}
+use mathlib.Core.Bool.{Bool, true, false, cond, _&&_}
 use mathlib.Core.Option.{none, some}
 use mathlib.Core.Logic.{_⊎_, inl, inr, ⊎-elim}
-use Prim.Native.Nat.{ℕ, _+_, _*_, _-_, _/_, _%_, _≤_, _<_}
+use Prim.Native.Nat.{ℕ, _+_, _*_, _-_, _/_, _%_, _^_, _≤_, _<_}
 use native.Mathlib.Omega.{arith}
 use lib.Dec.{eqb, ltb, leb}
 use borrow.Author.Tests.{eq-eqb, ne-eqb, lt-ltb, le-ltb, le-leb, lt-leb, ltb-true, ltb-false, leb-true, leb-false}
@@ -66,6 +66,18 @@ module _ (x to k : ℕ) where
   pub mentions-past : (k ≡ x → ⊥) → 257 + x * 256 ≤ k → mentionsKey x k ≡ ltb (k - (257 + x * 256)) 256
   unfolding mentionsKey
   mentions-past n h = rw (ne-eqb k x n, le-leb (257 + x * 256) k h)
+
+-- by a difference that may wrap
+pub mentions-wrapped :
+    (x k first r : ℕ) → (k ≡ x → ⊥) → first ≡ 257 + x * 256 → x < 256 → k < 2 ^ 64 → r < 2 ^ 64 → (r + first) % 2 ^ 64 ≡ k → ltb r 256 ≡ mentionsKey x k
+unfolding mentionsKey
+mentions-wrapped x k first r n d h hk hr e = rw (ne-eqb k x n) (go (leb (257 + x * 256) k) refl)
+  where
+    go : (c : Bool) → leb (257 + x * 256) k ≡ c → ltb r 256 ≡ (c && ltb (k - (257 + x * 256)) 256)
+    go true f =
+        let l : 257 + x * 256 ≤ k = leb-true (257 + x * 256) k f in
+        let z : r ≡ k - (257 + x * 256) = omega arith in ap (λ (r : ℕ). ltb r 256) z
+    go false f = let l : k < 257 + x * 256 = leb-false (257 + x * 256) k f in le-ltb r 256 (omega arith)
 
 -- THE TERM RENAMED
 module _ (x : ℕ) (h : x < 256) where

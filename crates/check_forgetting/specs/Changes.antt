@@ -79,17 +79,15 @@ pub record KeepsFact (key b : List ℕ) (n : ℕ) (out : Bool) (c l r : ℕ) (ke
   pub rest : (j : ℕ) → relations-at + n < j → getD b′ j 0 ≡ getD b j 0
 
 -- FORGETTING
--- the sides dropped: the flags of the facts' slots up to m, and whether one is set
-pub record Dropped (test : ℕ → Bool) (key : List ℕ) (m : ℕ) (gone : List Bool) (changed : Bool) : Type 0 where
+-- the sides dropped: the flags of the facts' slots up to m
+pub record Dropped (test : ℕ → Bool) (key : List ℕ) (m : ℕ) (gone : List Bool) : Type 0 where
   pub size : length gone ≡ slots
   pub at : (j : ℕ) → left-sides ≤ j → j < m → getD gone j false ≡ test (getD key j 0)
-  pub none : changed ≡ false → (j : ℕ) → left-sides ≤ j → j < m → getD gone j false ≡ false
 
--- the sides renamed
-pub record RenamedKeys (x to : ℕ) (key : List ℕ) (m : ℕ) (key′ : List ℕ) (changed : Bool) : Type 0 where
+-- the sides in the facts' slots up to m by a map of keys
+pub record MappedKeys (map : ℕ → ℕ) (key : List ℕ) (m : ℕ) (key′ : List ℕ) : Type 0 where
   pub header : Header key′
-  pub at : (j : ℕ) → left-sides ≤ j → j < m → getD key′ j 0 ≡ renamedKey x to (getD key j 0)
-  pub same : changed ≡ false → key′ ≡ key
+  pub at : (j : ℕ) → left-sides ≤ j → j < m → getD key′ j 0 ≡ map (getD key j 0)
 
 -- what becomes of the side in slot j
 abbrev pub becomeOf : List ℕ → List Bool → ℕ → Option Rules.Term
@@ -106,11 +104,6 @@ pub record Sized (key b : List ℕ) : Type 0 where
   pub fit : facts b ≤ most-facts
   pub entries-fit : entries b ≤ most-permissions
   pub kinds : KindsIn b (entries b)
-
--- nothing changes
-pub record Unchanged (key b : List ℕ) (gone : List Bool) : Type 0 where
-  pub wf : Wf key b
-  pub none : (j : ℕ) → left-sides ≤ j → j < left-sides + 2 * facts b → getD gone j false ≡ false
 
 -- an equality with one term on both sides; c is 1 for an inequality
 unfoldable pub sameSides : ℕ → ℕ → ℕ → Bool
@@ -163,12 +156,22 @@ pub record SideGiven (old b : List ℕ) (skip : List Bool) (x j : ℕ) (key : Li
   pub keys : (i : ℕ) → (i ≡ j → ⊥) → getD key′ i 0 ≡ getD key i 0
   pub flags : (i : ℕ) → (i ≡ j → ⊥) → getD gone′ i false ≡ getD gone i false
 
--- .. of each side
-pub record GaveWay (key b : List ℕ) (skip : List Bool) (x : ℕ) (gone : List Bool) (key′ : List ℕ) (gone′ : List Bool) : Type 0 where
+-- .. of each side; those of the facts before `from` stay
+pub record GaveWay (key b : List ℕ) (skip : List Bool) (x : ℕ) (gone : List Bool) (from : ℕ) (key′ : List ℕ) (gone′ : List Bool) : Type 0 where
   pub header : Header key′
+  pub keys : (j : ℕ) → j < left-sides + 2 * from → getD key′ j 0 ≡ getD key j 0
+  pub flags : (j : ℕ) → j < left-sides + 2 * from → getD gone′ j false ≡ getD gone j false
   pub at :
       (ρ : Renaming) (ps : List Permission) → Drops ρ ps b skip x → (j : ℕ) → left-sides ≤ j → j < left-sides + 2 * facts b →
       becomeOf key′ gone′ j ≡ givenAt key b ρ ps gone j
+
+-- some ρ drops the sides with a flag, and nothing else changes
+pub record Dropping (key b : List ℕ) (skip : List Bool) (x : ℕ) (gone : List Bool) : Type 0 where
+  pub ρ : Renaming
+  pub ps : List Permission
+  pub plain : (t u : Rules.Term) → ρ t ≡ some u → t ≡ u
+  pub drops : Drops ρ ps b skip x
+  pub stands : Stands ρ key key gone (facts b)
 
 -- the facts, where ρ drops the sides with a flag; the entries stay
 pub record Forgotten (key b : List ℕ) (skip : List Bool) (x : ℕ) (gone : List Bool) (key′ b′ : List ℕ) : Type 0 where
@@ -176,6 +179,33 @@ pub record Forgotten (key b : List ℕ) (skip : List Bool) (x : ℕ) (gone : Lis
   pub facts :
       (ρ : Renaming) (ps : List Permission) → Drops ρ ps b skip x → Stands ρ key key gone (facts b) →
       factsOf key′ b′ ≡ renameFacts (becomes (stateOf key b) ρ ps) (factsOf key b)
+  pub rest : (i : ℕ) → variables-at ≤ i → (i ≡ fact-count → ⊥) → getD b′ i 0 ≡ getD b i 0
+
+-- ρ drops the sides whose keys pass
+abbrev pub DropsSides : (ℕ → Bool) → Renaming → List ℕ → List ℕ → Type 0
+DropsSides test ρ key b =
+    (j : ℕ) → left-sides ≤ j → j < left-sides + 2 * facts b → ρ (termAt key j) ≡ cond (test (getD key j 0)) none (some (termAt key j))
+
+-- .. some ρ does, and nothing else changes
+pub record Forgettable (test : ℕ → Bool) (key b : List ℕ) (skip : List Bool) (x : ℕ) : Type 0 where
+  pub ρ : Renaming
+  pub ps : List Permission
+  pub plain : (t u : Rules.Term) → ρ t ≡ some u → t ≡ u
+  pub drops : Drops ρ ps b skip x
+  pub sides : DropsSides test ρ key b
+
+-- the facts then; the entries stay
+pub record Forgot (test : ℕ → Bool) (key b : List ℕ) (skip : List Bool) (x : ℕ) (key′ b′ : List ℕ) : Type 0 where
+  pub wf : Wf key′ b′
+  pub facts :
+      (ρ : Renaming) (ps : List Permission) → Drops ρ ps b skip x → DropsSides test ρ key b →
+      factsOf key′ b′ ≡ renameFacts (becomes (stateOf key b) ρ ps) (factsOf key b)
+  pub rest : (i : ℕ) → variables-at ≤ i → (i ≡ fact-count → ⊥) → getD b′ i 0 ≡ getD b i 0
+
+-- the facts with each key by a map
+pub record Renamed (map : ℕ → ℕ) (key b key′ b′ : List ℕ) : Type 0 where
+  pub wf : Wf key′ b′
+  pub facts : (ρ : Renaming) → ((k : ℕ) → ρ (termOf k) ≡ some (termOf (map k))) → factsOf key′ b′ ≡ renameFacts ρ (factsOf key b)
   pub rest : (i : ℕ) → variables-at ≤ i → (i ≡ fact-count → ⊥) → getD b′ i 0 ≡ getD b i 0
 
 -- .. where the paths of the entries that are out are dropped
@@ -244,6 +274,10 @@ placeOfPath x f = placeOf (keyOf (Syntax.path x f))
 pub record MarksOut (b : List ℕ) (out : List Bool) (n : ℕ) (marks : List Bool) : Type 0 where
   pub size : length marks ≡ mark-count
   pub at : (i : ℕ) → i < n → getD out i false ≡ true → getD marks (placeOfPath (variableAt b i) (fieldAt b i)) false ≡ true
+
+-- .. of all
+abbrev pub OutMarked : List ℕ → List Bool → List Bool → Type 0
+OutMarked b out marks = (entries b ≤ most-permissions) × MarksOut b out (entries b) marks
 
 abbrev pub withoutPath : List ℕ → List ℕ → ℕ → Rules.State
 withoutPath key b i = Rules.dropPaths (permissionAt b i ∷ []) (permissionsOf b) (stateOf key b)

@@ -1,8 +1,10 @@
 // What becomes of the sides of the facts, in the slots from LEFT to m: of the side in slot i the key that stands there, or nothing where
-// `gone` has the flag i. For each way of forgetting one function stores which sides are dropped, or the renamed ones, and tells whether it
-// changes anything; a dropped side then gives way to its successor.
+// `gone` has the flag i. For each way of forgetting one function stores which sides are dropped, or the renamed ones; a dropped side then
+// gives way to its successor.
 use crate::keys;
+use crate::labels;
 use crate::marks;
+use crate::scans;
 use check_equality::State;
 use check_state::Resolved;
 use rules::Machine;
@@ -11,14 +13,13 @@ ghost use mathlib.Core.Bool.{true, false};
 ghost use Prim.Native.Nat.{_+_, _*_, _≤_, _<_};
 ghost use lib.ListN.{length, getD};
 ghost use lib.Dec.{eqb};
-ghost use Rattle.rules.specs.Base.{any};
-ghost use Rattle.rules.specs.Limits.{most-permissions, most-facts};
+ghost use Rattle.rules.specs.Limits.{most-facts};
 ghost use Rattle.check_equality.specs.Layout.{slots, bytes, left-sides};
 ghost use Rattle.check_equality.specs.Links.{Header, Marked};
-ghost use Rattle.check_state.specs.States.{Wf, Linked, facts, entries};
-ghost use Rattle.check_state.specs.Questions.{places};
+ghost use Rattle.check_state.specs.States.{Wf, Linked, facts};
 ghost use Rattle.check_successors.specs.Successors.{termOr};
-ghost use Rattle.check_forgetting.specs.Changes.{Fresh, mentionsKey, Dropped, RenamedKeys, KeepsFact, Sized, Unchanged, Rebuilt, keyDropped, sameSides, trivialAt, Stored, Giving, SideGiven, GaveWay, Forgotten};
+ghost use Rattle.check_forgetting.specs.Changes.{Fresh, renamedKey, mentionsKey, Dropped, MappedKeys, KeepsFact, Sized, Rebuilt, keyDropped, OutMarked, Stored, Giving, SideGiven, GaveWay, Dropping, Forgotten};
+ghost use Rattle.check_forgetting.specs.Labels.{Untouched};
 
 // The labels of the slots before the facts' are their own numbers.
 pub fn fresh(b: &mut [u8; State::BYTES])
@@ -57,43 +58,37 @@ fn keep_fact(
 // The path of the key k is dropped.
 pub fn drop_path<'a>(
     key: &'a [u64; State::SLOTS],
+    from: usize,
     m: usize,
     k: u64,
     gone: &mut [bool; State::SLOTS],
-) -> bool
-    requires { ⌜ (m ≤ slots) × (length (now gone) ≡ slots) ⌝ }
-    ensures { λ r. ⌜ Dropped (λ l. eqb l k) (now (key .entry)) m (now (gone .exit)) r ⌝ }
+)
+    requires { ⌜ (left-sides ≤ from) × (m ≤ slots) × Dropped (λ l. eqb l k) (now key) from (now gone) ⌝ }
+    ensures { λ _. ⌜ Dropped (λ l. eqb l k) (now (key .entry)) m (now (gone .exit)) ⌝ }
 {
-    let mut changed = false;
-    let mut i = State::LEFT;
+    let mut i = from;
     while i < m {
-        let out = key[i] == k;
-        gone[i] = out;
-        changed = changed | out;
+        gone[i] = key[i] == k;
         i += 1;
     }
-    changed
 }
 
 // All that names x is dropped.
 pub fn drop_variable<'a>(
     key: &'a [u64; State::SLOTS],
+    from: usize,
     m: usize,
     x: u8,
     gone: &mut [bool; State::SLOTS],
-) -> bool
-    requires { ⌜ (m ≤ slots) × (length (now gone) ≡ slots) ⌝ }
-    ensures { λ r. ⌜ Dropped (mentionsKey x) (now (key .entry)) m (now (gone .exit)) r ⌝ }
+)
+    requires { ⌜ (left-sides ≤ from) × (m ≤ slots) × Dropped (mentionsKey x) (now key) from (now gone) ⌝ }
+    ensures { λ _. ⌜ Dropped (mentionsKey x) (now (key .entry)) m (now (gone .exit)) ⌝ }
 {
-    let mut changed = false;
-    let mut i = State::LEFT;
+    let mut i = from;
     while i < m {
-        let out = keys::mentions(key[i], x);
-        gone[i] = out;
-        changed = changed | out;
+        gone[i] = keys::mentions(key[i], x);
         i += 1;
     }
-    changed
 }
 
 // The paths of the entries that are out are dropped, but for names still listed.
@@ -101,71 +96,41 @@ pub fn drop_paths<'a>(
     key: &'a [u64; State::SLOTS],
     b: &'a [u8; State::BYTES],
     out: &'a [bool; Machine::PERMISSIONS],
+    marks: &'a [bool; State::MARKS],
+    from: usize,
     m: usize,
     gone: &mut [bool; State::SLOTS],
-) -> bool
-    requires { ⌜ (m ≤ slots) × (entries (now b) ≤ most-permissions) × (length (now gone) ≡ slots) ⌝ }
-    ensures { λ r. ⌜ Dropped (keyDropped (now (b .entry)) (now (out .entry))) (now (key .entry)) m (now (gone .exit)) r ⌝ }
+)
+    requires { ⌜ (left-sides ≤ from) × (m ≤ slots) × OutMarked (now b) (now out) (now marks) × Dropped (keyDropped (now b) (now out)) (now key) from (now gone) ⌝ }
+    ensures { λ _. ⌜ Dropped (keyDropped (now (b .entry)) (now (out .entry))) (now (key .entry)) m (now (gone .exit)) ⌝ }
 {
     let n = b[State::ENTRIES] as usize;
-    let marks = marks::marks_out(b, out, n);
-    let mut changed = false;
-    let mut i = State::LEFT;
+    let mut i = from;
     while i < m {
-        let dropped = marks::names_dropped(b, out, &marks, n, key[i]);
-        gone[i] = dropped;
-        changed = changed | dropped;
+        gone[i] = marks::names_dropped(b, out, marks, n, key[i]);
         i += 1;
     }
-    changed
 }
 
 // x is renamed to the variable `to`.
-pub fn rename_keys(key: &mut [u64; State::SLOTS], m: usize, x: u8, to: u8) -> bool
+pub fn rename_keys(key: &mut [u64; State::SLOTS], m: usize, x: u8, to: u8)
     requires { ⌜ (m ≤ slots) × Header (now key) ⌝ }
-    ensures { λ r. ⌜ RenamedKeys x to (now (key .entry)) m (now (key .exit)) r ⌝ }
+    ensures { λ _. ⌜ MappedKeys (renamedKey x to) (now (key .entry)) m (now (key .exit)) ⌝ }
 {
-    let mut changed = false;
     let mut i = State::LEFT;
     while i < m {
         let k = key[i];
-        let l = keys::rename(k, x, to);
-        key[i] = l;
-        changed = changed | (l != k);
+        key[i] = keys::rename(k, x, to);
         i += 1;
     }
-    changed
-}
-
-// Has a fact one term on both sides, and is it an equality? c is 1 for an inequality.
-fn trivial(c: u8, left: u64, right: u64) -> bool
-    ensures { λ r. ⌜ r ≡ sameSides c left right ⌝ }
-{
-    (c != 1) & (left == right)
-}
-
-// Is there such a fact?
-fn has_trivial<'a>(key: &'a [u64; State::SLOTS], b: &'a [u8; State::BYTES]) -> bool
-    requires { ⌜ facts (now b) ≤ most-facts ⌝ }
-    ensures { λ r. ⌜ r ≡ any (trivialAt (now (key .entry)) (now (b .entry))) (places (facts (now (b .entry)))) ⌝ }
-{
-    let n = b[State::FACTS] as usize;
-    let mut i = 0;
-    while i < n {
-        if trivial(
-            b[State::RELATIONS + i],
-            key[State::LEFT + 2 * i],
-            key[State::RIGHT + 2 * i],
-        ) {
-            return true;
-        }
-        i += 1;
-    }
-    false
 }
 
 // The facts of which no side is gone, but for equalities with one term on both sides, with labels made anew.
-fn rebuild(key: &mut [u64; State::SLOTS], b: &mut [u8; State::BYTES], gone: &[bool; State::SLOTS])
+pub fn rebuild(
+    key: &mut [u64; State::SLOTS],
+    b: &mut [u8; State::BYTES],
+    gone: &[bool; State::SLOTS],
+)
     requires { ⌜ Sized (now key) (now b) ⌝ }
     ensures { λ _. ⌜ Rebuilt (now (key .entry)) (now (b .entry)) (now (gone .entry)) (now (key .exit)) (now (b .exit)) ⌝ }
 {
@@ -180,27 +145,11 @@ fn rebuild(key: &mut [u64; State::SLOTS], b: &mut [u8; State::BYTES], gone: &[bo
         let c = b[State::RELATIONS + i];
         let left = key[l];
         let right = key[r];
-        let out = gone[l] | gone[r] | trivial(c, left, right);
+        let out = gone[l] | gone[r] | scans::trivial(c, left, right);
         n = keep_fact(key, b, &mut marks, n, out, c, left, right);
         i += 1;
     }
     b[State::FACTS] = n as u8;
-}
-
-// As `rebuild`; nothing is done where nothing changes.
-pub fn settle(
-    key: &mut [u64; State::SLOTS],
-    b: &mut [u8; State::BYTES],
-    gone: &[bool; State::SLOTS],
-    changed: bool,
-)
-    requires { ⌜ Sized (now key) (now b) × (changed ≡ false → Unchanged (now key) (now b) (now gone)) ⌝ }
-    ensures { λ _. ⌜ Rebuilt (now (key .entry)) (now (b .entry)) (now (gone .entry)) (now (key .exit)) (now (b .exit)) ⌝ }
-{
-    let again = changed | has_trivial(key, b);
-    if again {
-        rebuild(key, b, gone);
-    }
 }
 
 // Stores what becomes of the side in slot j.
@@ -275,37 +224,38 @@ fn give_way<'a>(
     skip: &'a [bool; Machine::PERMISSIONS],
     x: u8,
     gone: &mut [bool; State::SLOTS],
+    from: usize,
 )
-    requires { ⌜ Wf (now key) (now b) × (length (now gone) ≡ slots) ⌝ }
-    ensures { λ _. ⌜ GaveWay (now (key .entry)) (now (b .entry)) (now (skip .entry)) x (now (gone .entry)) (now (key .exit)) (now (gone .exit)) ⌝ }
+    requires { ⌜ Wf (now key) (now b) × (length (now gone) ≡ slots) × Untouched (now key) (now b) (now gone) from ⌝ }
+    ensures { λ _. ⌜ GaveWay (now (key .entry)) (now (b .entry)) (now (skip .entry)) x (now (gone .entry)) from (now (key .exit)) (now (gone .exit)) ⌝ }
 {
     let old = *key;
     let m = State::LEFT + 2 * (b[State::FACTS] as usize);
     let mut lead = [0; State::SLOTS];
-    let mut j = State::LEFT;
+    let mut j = State::LEFT + 2 * from;
     while j < m {
         give_side(&old, b, skip, x, key, gone, &mut lead, j);
         j += 1;
     }
 }
 
-// The sides with a flag are dropped: they give way to successors, which are neither x nor paths of entries to be skipped. `changed` says
-// whether there are any.
+// The sides with a flag are dropped: they give way to successors, which are neither x nor paths of entries to be skipped. The facts
+// before `from` stay.
 pub fn forget(
     key: &mut [u64; State::SLOTS],
     b: &mut [u8; State::BYTES],
     skip: &[bool; Machine::PERMISSIONS],
     x: u8,
     gone: &mut [bool; State::SLOTS],
-    changed: bool,
+    from: usize,
 )
-    requires { ⌜ Wf (now key) (now b) × (length (now gone) ≡ slots) × (changed ≡ false → Unchanged (now key) (now b) (now gone)) ⌝ }
+    requires { ⌜ Wf (now key) (now b) × (length (now gone) ≡ slots) × Dropping (now key) (now b) (now skip) x (now gone) × Untouched (now key) (now b) (now gone) from ⌝ }
     ensures { λ _. ⌜ Forgotten (now (key .entry)) (now (b .entry)) (now (skip .entry)) x (now (gone .entry)) (now (key .exit)) (now (b .exit)) ⌝ }
 {
-    if changed {
-        give_way(key, b, skip, x, gone);
-        rebuild(key, b, gone);
+    give_way(key, b, skip, x, gone, from);
+    if labels::whole(b, gone, from) {
+        labels::repack(key, b, gone, from, x);
         return;
     }
-    settle(key, b, gone, changed);
+    rebuild(key, b, gone);
 }

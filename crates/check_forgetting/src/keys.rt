@@ -29,11 +29,7 @@ pub fn mentions(k: u64, x: u8) -> bool
     if k == check_equality::variable_key(x) {
         return true;
     }
-    let first = check_equality::path_key(x, 0);
-    if k < first {
-        return false;
-    }
-    k - first < State::PATHS
+    std::num::wrapping_sub_u64(k, check_equality::path_key(x, 0)) < State::PATHS
 }
 
 pub fn rename_variable(v: u8, x: u8, to: u8) -> u8

@@ -2,7 +2,10 @@
 mod entries;
 mod facts;
 mod keys;
+mod labels;
 mod marks;
+mod scans;
+mod swaps;
 
 use check_equality::State;
 use check_state::Resolved;
@@ -57,11 +60,10 @@ fn forget_out(
     ensures { λ _. ⌜ ForgotOut (now (key .entry)) (now (b .entry)) (now (out .entry)) (now (key .exit)) (now (b .exit)) ⌝ }
 {
     let p = b[State::ENTRIES] as usize;
-    if marks::drops_some(b, out, p) {
-        let m = State::LEFT + 2 * (b[State::FACTS] as usize);
-        let mut gone = [false; State::SLOTS];
-        let changed = facts::drop_paths(key, b, out, m, &mut gone);
-        facts::forget(key, b, out, State::NO_VARIABLE, &mut gone, changed);
+    let marks = marks::marks_out(b, out, p);
+    let from = scans::first_marked(key, b, &marks);
+    if from < (b[State::FACTS] as usize) {
+        swaps::drop_out(key, b, out, &marks, from);
     }
 }
 
@@ -83,12 +85,9 @@ pub fn without_path(key: &mut [u64; State::SLOTS], b: &mut [u8; State::BYTES], i
     requires { ⌜ Wf (now key) (now b) × (i < entries (now b)) × (termOf k ≡ Syntax.path (getD (now b) (variables-at + i) 0) (getD (now b) (fields-at + i) 0)) ⌝ }
     ensures { λ _. ⌜ Becomes (withoutPath (now (key .entry)) (now (b .entry)) i) (now (key .exit)) (now (b .exit)) ⌝ }
 {
-    let m = State::LEFT + 2 * (b[State::FACTS] as usize);
-    let mut gone = [false; State::SLOTS];
-    let changed = facts::drop_path(key, m, k, &mut gone);
     let p = b[State::ENTRIES] as usize;
     let skip = entries::entries_at(b, p, k);
-    facts::forget(key, b, &skip, State::NO_VARIABLE, &mut gone, changed);
+    swaps::drop_key(key, b, &skip, State::NO_VARIABLE, k);
 }
 
 // x and its paths are dropped.
@@ -96,12 +95,9 @@ fn erase(key: &mut [u64; State::SLOTS], b: &mut [u8; State::BYTES], x: u8)
     requires { ⌜ Wf (now key) (now b) ⌝ }
     ensures { λ _. ⌜ Becomes (Rules.removeTo x none (stateOf (now (key .entry)) (now (b .entry)))) (now (key .exit)) (now (b .exit)) ⌝ }
 {
-    let m = State::LEFT + 2 * (b[State::FACTS] as usize);
-    let mut gone = [false; State::SLOTS];
-    let changed = facts::drop_variable(key, m, x, &mut gone);
     let p = b[State::ENTRIES] as usize;
     let out = entries::entries_of(b, p, x);
-    facts::forget(key, b, &out, x, &mut gone, changed);
+    swaps::drop_names(key, b, &out, x);
     entries::pack(b, &out);
 }
 
@@ -110,10 +106,7 @@ fn replace(key: &mut [u64; State::SLOTS], b: &mut [u8; State::BYTES], x: u8, to:
     requires { ⌜ Wf (now key) (now b) ⌝ }
     ensures { λ _. ⌜ Becomes (Rules.removeTo x (some to) (stateOf (now (key .entry)) (now (b .entry)))) (now (key .exit)) (now (b .exit)) ⌝ }
 {
-    let m = State::LEFT + 2 * (b[State::FACTS] as usize);
-    let gone = [false; State::SLOTS];
-    let changed = facts::rename_keys(key, m, x, to);
-    facts::settle(key, b, &gone, changed);
+    swaps::rename_names(key, b, x, to);
     entries::rename_entries(b, x, to);
 }
 

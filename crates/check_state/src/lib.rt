@@ -29,6 +29,10 @@ pub fn variable_is<'a>(
     ensures { λ r. ⌜ Told (now (key .entry)) (now (b .entry)) m (λ same. r ≡ same (var x) (termOf k)) ⌝ }
 {
     let l = check_equality::variable_key(x);
+    if x < State::VARIABLE_COUNT {
+        let i = x as usize;
+        return b[i] == a;
+    }
     let c = check_equality::label_of(key, b, m, l);
     check_equality::alike(l, c, k, a)
 }

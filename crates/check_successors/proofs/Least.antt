@@ -3,12 +3,12 @@ use mathlib.Core.Path.{_≡_, refl, sym, ap, _∙_}
 use mathlib.Core.Bool.{Bool, true, false, cond, _&&_}
 use mathlib.Core.List.{List, [], _∷_, _++_}
 use mathlib.Core.Option.{Option, none, some}
-use Prim.Native.Nat.{ℕ, suc, _+_, _-_, _/_, _%_, _≤_, _<_}
+use Prim.Native.Nat.{ℕ, zero, suc, _+_, _-_, _/_, _%_, _≤_, _<_}
 use native.Mathlib.Omega.{arith}
 use lib.Dec.{eqb, ltb, leb}
 use lib.ListN.{getD}
 use mathlib.Core.Logic.{inl}
-use borrow.Author.Tests.{ltb-true, ltb-false, leb-true, leb-false, lt-ltb, le-ltb, lt-leb}
+use borrow.Author.Tests.{ne-eqb, ltb-true, ltb-false, leb-true, leb-false, lt-ltb, le-ltb, lt-leb}
 use Rattle.rules.specs.Syntax.{offset, num, null, var, path}
 use Rattle.rules.specs.State.{Term, Fact, numbers, representative, equalBy}
 use Rattle.rules.proofs.Rising.{lower, least}
@@ -18,7 +18,7 @@ use Rattle.check_equality.proofs.Keys.{of-number}
 use Rattle.check_equality.proofs.Labels.{alike}
 use Rattle.check_inequality.specs.Ways.{numberLike}
 use Rattle.check_equality.specs.Listing.{listed}
-use Rattle.check_successors.specs.Successors.{numberOr, offsetOf, lowerOf, withSlot, sideTerms}
+use Rattle.check_successors.specs.Successors.{numberOr, offsetOf, lowerOf, withSlot, numberWith, numberAtSide, sideTerms}
 
 -- what there is, or a later number that is lower
 upTo : Option ℕ → ℕ → ℕ
@@ -167,3 +167,21 @@ pub slot-on :
 unfolding listed
 slot-on {key = key} {label = label} D low i t a best h w e =
     slot-more _ (sideTerms key i) best (getD key (16 + i) 0) (getD label (16 + i) 0) t a e (slot-number D low (16 + i) t a h w)
+
+-- the sides before the first number with the label of t
+module _ {fs : List Fact} {key label : List ℕ} {m : ℕ} (D : Decides fs key label m) (low : m ≤ 144) (t a r : ℕ) (h : 16 + r ≤ m)
+    (w : Labelled key label m t a) (before : (i : ℕ) → i < r → numberAtSide key label a i ≡ false) where
+  not-like : (i : ℕ) → i < r → withSlot 0 (getD key (16 + i) 0) (getD label (16 + i) 0) t a ≡ 0
+  unfolding withSlot numberLike numberWith alikeBy
+  not-like i g =
+      let c : ℕ = getD label (16 + i) 0 in
+      rw (ne-eqb c 255 (λ e. omega (arith, e, D .low (16 + i) (omega arith)))) (go (leb 65793 (getD key (16 + i) 0)) (eqb c a) (before i g))
+    where
+      go : (d e : Bool) → (e && d) ≡ false → cond (d && e) (lowerOf (getD key (16 + i) 0) 0) 0 ≡ 0
+      go true true f = absurd (let z : _≡_ {A = ℕ} 0 1 = cc in omega arith)
+      go true false f = refl
+      go false e f = refl
+
+  pub none-before : (i : ℕ) → i ≤ r → numberOr 0 ≡ least (λ v. equalBy (representative fs) (num v) (termOf t)) (numbers (sideTerms key i))
+  none-before zero g = none-yet _ key
+  none-before (suc i) g = ap numberOr (sym (not-like i (omega arith))) ∙ slot-on D low i t a 0 (omega arith) w (none-before i (omega arith))

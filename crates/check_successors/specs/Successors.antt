@@ -4,7 +4,7 @@ use mathlib.Core.Path.{_≡_}
 use mathlib.Core.List.{List, map}
 use mathlib.Core.Option.{Option, none, some}
 use Prim.Native.Nat.{ℕ, _+_, _-_, _≤_, _<_}
-use lib.Dec.{eqb, ltb}
+use lib.Dec.{eqb, ltb, leb}
 use lib.ListN.{length, getD}
 use Rattle.rules.specs.Base.{first, bindOption}
 use Rattle.rules.specs.Syntax.{offset, num, null, var, path}
@@ -34,6 +34,14 @@ lowerOf k best = cond (ltb best first-number) k (cond (ltb (offsetOf k) (offsetO
 -- the lower of what there is and the key k, if it is that of a number ~ the term of t
 unfoldable pub withSlot : ℕ → ℕ → ℕ → ℕ → ℕ → ℕ
 withSlot best k c t a = cond (numberLike k c t a) (lowerOf k best) best
+
+-- the key of a number, whose label is a
+unfoldable pub numberWith : ℕ → ℕ → ℕ → Bool
+numberWith k c a = eqb c a && leb first-number k
+
+-- .. of the side i
+abbrev pub numberAtSide : List ℕ → List ℕ → ℕ → ℕ → Bool
+numberAtSide key b a i = numberWith (getD key (left-sides + i) 0) (getD b (left-sides + i) 0) a
 
 -- the terms of the first n sides
 abbrev pub sideTerms : List ℕ → ℕ → List Term

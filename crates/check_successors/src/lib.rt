@@ -16,7 +16,7 @@ ghost use Rattle.check_equality.specs.Keys.{termOf, first-number};
 ghost use Rattle.check_equality.specs.Links.{Labelled};
 ghost use Rattle.check_state.specs.States.{Wf, stateOf, facts, factsOf};
 ghost use Rattle.check_state.specs.Questions.{Slots, Told, FirstPlace};
-ghost use Rattle.check_successors.specs.Successors.{numberOr, offsetOf, lowerOf, withSlot, sideTerms, Marks, MarksLike, pathTest, entryPathTest, Drops, termOr};
+ghost use Rattle.check_successors.specs.Successors.{numberOr, offsetOf, lowerOf, withSlot, numberWith, numberAtSide, sideTerms, Marks, MarksLike, pathTest, entryPathTest, Drops, termOr};
 
 // How many numbers 32 bits hold, and the first that is negative.
 const WORDS: u64 = 4294967296;
@@ -31,18 +31,18 @@ fn order(k: u64) -> u64
     ((k - State::FIRST_NUMBER) % WORDS + SIGN) % WORDS
 }
 
-// The lower of two numbers' keys, where `best` may be 0 for none.
-fn lower(k: u64, best: u64) -> u64
+// The lower of two numbers' keys, where `least` may be 0 for none.
+fn lower(k: u64, least: u64) -> u64
     requires { ⌜ first-number ≤ k ⌝ }
-    ensures { λ r. ⌜ r ≡ lowerOf k best ⌝ }
+    ensures { λ r. ⌜ r ≡ lowerOf k least ⌝ }
 {
-    if best < State::FIRST_NUMBER {
+    if least < State::FIRST_NUMBER {
         return k;
     }
-    if order(k) < order(best) {
+    if order(k) < order(least) {
         return k;
     }
-    best
+    least
 }
 
 // One side more, with the key k and the label c.
@@ -53,6 +53,36 @@ fn number_step(best: u64, k: u64, c: u8, t: u64, a: u8) -> u64
         return lower(k, best);
     }
     best
+}
+
+// Is k the key of a number, and its label a?
+fn number_at(k: u64, c: u8, a: u8) -> bool
+    ensures { λ r. ⌜ r ≡ numberWith k c a ⌝ }
+{
+    if c == a {
+        return State::FIRST_NUMBER <= k;
+    }
+    false
+}
+
+// The first of n sides that is a number with the label a, or n.
+fn first_number<'a>(
+    key: &'a [u64; State::SLOTS],
+    b: &'a [u8; State::BYTES],
+    n: usize,
+    a: u8,
+) -> usize
+    requires { ⌜ left-sides + n ≤ slots ⌝ }
+    ensures { λ r. ⌜ FirstPlace (numberAtSide (now (key .entry)) (now (b .entry)) a) n r ⌝ }
+{
+    let mut i = 0;
+    while i < n {
+        if number_at(key[State::LEFT + i], b[State::LEFT + i], a) {
+            return i;
+        }
+        i += 1;
+    }
+    n
 }
 
 // The key of the least number that is ~ the term of t among the first n sides; 0 where there is none.
@@ -68,7 +98,7 @@ fn least_number<'a>(
     ensures { λ r. ⌜ Told (now (key .entry)) (now (b .entry)) m (λ same. numberOr r ≡ least (λ v. same (num v) (termOf t)) (numbers (sideTerms (now (key .entry)) n))) ⌝ }
 {
     let mut best = 0;
-    let mut i = 0;
+    let mut i = first_number(key, b, n, a);
     while i < n {
         best = number_step(best, key[State::LEFT + i], b[State::LEFT + i], t, a);
         i += 1;
@@ -94,18 +124,17 @@ fn marks_like<'a>(
     m: usize,
     t: u64,
     a: u8,
-) -> [bool; State::MARKS]
-    requires { ⌜ m ≤ slots ⌝ }
-    ensures { λ r. ⌜ MarksLike (now (key .entry)) (now (b .entry)) m t a r ⌝ }
+    marks: &mut [bool; State::MARKS],
+)
+    requires { ⌜ (m ≤ slots) × (length (now marks) ≡ mark-count) ⌝ }
+    ensures { λ _. ⌜ MarksLike (now (key .entry)) (now (b .entry)) m t a (now (marks .exit)) ⌝ }
 {
-    let mut marks = [false; State::MARKS];
-    mark(&mut marks, true, t);
+    mark(marks, true, t);
     let mut i = State::LEFT;
     while i < m {
-        mark(&mut marks, b[i] == a, key[i]);
+        mark(marks, b[i] == a, key[i]);
         i += 1;
     }
-    marks
 }
 
 // Is the path x.f not to be skipped, and ~ the term of t?
@@ -148,7 +177,8 @@ fn first_entry<'a>(
     requires { ⌜ Slots (now key) (now b) m × Labelled (now key) (now b) m t a × (n ≤ most-permissions) ⌝ }
     ensures { λ r. ⌜ Told (now (key .entry)) (now (b .entry)) m (λ same. FirstPlace (entryPathTest same (now (b .entry)) (now (skip .entry)) t) n r) ⌝ }
 {
-    let marks = marks_like(key, b, m, t, a);
+    let mut marks = [false; State::MARKS];
+    marks_like(key, b, m, t, a, &mut marks);
     let mut i = 0;
     while i < n {
         if path_like(

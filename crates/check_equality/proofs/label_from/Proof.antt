@@ -1,6 +1,6 @@
 use Prim.Native.Nat.{_-_, _≤_}
 use Rattle.check_equality.specs.Links.{Missing}
-use Rattle.rules.specs.Base.{is}
+use Rattle.check_equality.proofs.Labels.{past-all}
 use borrow.Author.Count.{below-more}
 use mathlib.Core.Logic.{inl, inr}
 use mathlib.Core.Path.{_≡_, refl}
@@ -14,8 +14,12 @@ Inv-loop key label m k i₀ i = (16 ≤ i) × (i ≤ m) × Missing key i k 255
 abbrev μ-loop : tie.MeasureT-loop
 μ-loop key label m k i₀ i = m - i
 
+past-requires : tie.Need-past-requires Inv-loop μ-loop
+past-requires c κs = (c .pre .0, c .pre .1)
+
 loop-holds : tie.Need-loop-holds Inv-loop μ-loop
-loop-holds c = (omega arith, omega arith, c .pre .2)
+loop-holds c =
+    let P = c .past .ensures in (P .some, P .most, past-all _ _ _ _ (c .before .pre .2) P)
 
 mul-if1 : tie.Need-mul-if1 Inv-loop μ-loop
 mul-if1 c = omega arith
@@ -42,7 +46,7 @@ loop-again c =
 
 returns-2 : tie.Need-returns-2 Inv-loop μ-loop
 returns-2 c =
-    let e : c .before .loop .i ≡ c .before .before .args .m = omega arith in inr (rw e at (c .before .loop .inv .2))
+    let e : c .before .loop .i ≡ c .before .before .before .args .m = omega arith in inr (rw e at (c .before .loop .inv .2))
 
 pub label-from-spec : {M : Type 1} → statement M
 label-from-spec =
@@ -50,6 +54,7 @@ label-from-spec =
     (tie.spec
     Inv-loop
     μ-loop
+    past-requires
     loop-holds
     mul-if1
     element-copy-out-if1

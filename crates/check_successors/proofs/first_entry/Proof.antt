@@ -2,7 +2,7 @@ use Prim.Native.Nat.{ℕ, _-_, _≤_, _<_}
 use native.Mathlib.Omega.{arith}
 use borrow.Author.Count.{below-more}
 use mathlib.Core.Bool.{false}
-use mathlib.Core.Path.{_≡_, sym, _∙_}
+use mathlib.Core.Path.{_≡_, refl, sym, _∙_}
 use Rattle.check_state.specs.Questions.{Told}
 use Rattle.check_successors.specs.Successors.{entryPathTest}
 use Rattle.check_successors.proofs.first_entry.Statement.{statement}
@@ -16,7 +16,7 @@ abbrev μ-loop : tie.MeasureT-loop
 μ-loop key b m skip n t a marks i₀ i = n - i
 
 marks-like-requires : tie.Need-marks-like-requires Inv-loop μ-loop
-marks-like-requires c κs = c .pre .0 .most
+marks-like-requires c κs = (c .before .pre .0 .most, refl)
 
 loop-holds : tie.Need-loop-holds Inv-loop μ-loop
 loop-holds c = (omega arith, λ fs D j h. absurd (omega arith))
@@ -37,7 +37,7 @@ element-copy-out-path-like-3 : tie.Need-element-copy-out-path-like-3 Inv-loop μ
 element-copy-out-path-like-3 c = omega arith
 
 path-like-requires : tie.Need-path-like-requires Inv-loop μ-loop
-path-like-requires c κs = (c .before .before .before .before .before .before .before .pre .0, c .before .before .before .before .before .before .before .pre .1, c .before .before .before .before .before .before .marks-like .ensures)
+path-like-requires c κs = (c .before .before .before .before .before .before .before .before .pre .0, c .before .before .before .before .before .before .before .before .pre .1, c .before .before .before .before .before .before .marks-like .ensures)
 
 returns : tie.Need-returns Inv-loop μ-loop
 returns c =
@@ -61,7 +61,7 @@ loop-again c =
 returns-2 : tie.Need-returns-2 Inv-loop μ-loop
 returns-2 c =
     λ fs D.
-    let e : c .before .loop .i ≡ c .before .before .before .args .n = omega arith in
+    let e : c .before .loop .i ≡ c .before .before .before .before .args .n = omega arith in
     record { within = omega arith; before = rw e at (c .before .loop .inv .1 fs D); found = λ h. absurd (omega arith) }
 
 pub first-entry-spec : {M : Type 1} → statement M

@@ -20,7 +20,7 @@ unfolding lowerOf
 returns-2 c =
     rw (
       le-ltb _ _ (c .before .before .before .if1 .left),
-      lt-ltb (offsetOf (c .before .before .before .before .args .k)) (offsetOf (c .before .before .before .before .args .best)) (omega (arith, c .before .before .order .ensures, c .before .order2 .ensures, c .if2 .taken)),
+      lt-ltb (offsetOf (c .before .before .before .before .args .k)) (offsetOf (c .before .before .before .before .args .least)) (omega (arith, c .before .before .order .ensures, c .before .order2 .ensures, c .if2 .taken)),
     )
 
 returns-3 : tie.Need-returns-3
@@ -28,7 +28,7 @@ unfolding lowerOf
 returns-3 c =
     rw (
       le-ltb _ _ (c .before .before .before .if1 .left),
-      le-ltb (offsetOf (c .before .before .before .before .args .k)) (offsetOf (c .before .before .before .before .args .best)) (omega (arith, c .before .before .order .ensures, c .before .order2 .ensures, c .if2 .left)),
+      le-ltb (offsetOf (c .before .before .before .before .args .k)) (offsetOf (c .before .before .before .before .args .least)) (omega (arith, c .before .before .order .ensures, c .before .order2 .ensures, c .if2 .left)),
     )
 
 pub lower-spec : {M : Type 1} → statement M

@@ -2,7 +2,6 @@ use Prim.Native.Nat.{_-_, _≤_}
 use Rattle.check_equality.specs.Layout.{left-sides}
 use Rattle.check_successors.specs.Successors.{MarksLike}
 use Rattle.check_successors.proofs.Marking.{marks-first, marks-more, marks-upto}
-use mathlib.Core.Path.{refl}
 use native.Mathlib.Omega.{arith}
 use Rattle.check_successors.proofs.marks_like.Statement.{statement}
 use Rattle.check_successors.proofs.marks_like.Tie as tie
@@ -14,25 +13,25 @@ abbrev μ-loop : tie.MeasureT-loop
 μ-loop key b m t a marks₀ i₀ marks i = m - i
 
 mark-requires : tie.Need-mark-requires Inv-loop μ-loop
-mark-requires c κs = refl
+mark-requires c κs = c .before .pre .1
 
 loop-holds : tie.Need-loop-holds Inv-loop μ-loop
-loop-holds c = (omega arith, marks-first _ _ _ _ _ _ refl (c .mark .ensures))
+loop-holds c = (omega arith, marks-first _ _ _ _ _ _ (c .before .before .pre .1) (c .mark .ensures))
 
 element-copy-out-mark : tie.Need-element-copy-out-mark Inv-loop μ-loop
-element-copy-out-mark c = omega (arith, c .before .before .before .before .before .pre)
+element-copy-out-mark c = omega (arith, c .before .before .before .before .before .pre .0)
 
 mul-mark : tie.Need-mul-mark Inv-loop μ-loop
-mul-mark c = omega (arith, c .before .before .before .before .before .before .pre)
+mul-mark c = omega (arith, c .before .before .before .before .before .before .pre .0)
 
 element-copy-out-mark-2 : tie.Need-element-copy-out-mark-2 Inv-loop μ-loop
-element-copy-out-mark-2 c = omega (arith, c .before .before .before .before .before .before .pre)
+element-copy-out-mark-2 c = omega (arith, c .before .before .before .before .before .before .pre .0)
 
 mark-requires-2 : tie.Need-mark-requires-2 Inv-loop μ-loop
 mark-requires-2 c κs = c .before .before .before .before .loop .inv .1 .size
 
 add-i : tie.Need-add-i Inv-loop μ-loop
-add-i c = omega (arith, c .before .before .before .before .before .before .before .before .pre)
+add-i c = omega (arith, c .before .before .before .before .before .before .before .before .pre .0)
 
 loop-less : tie.Need-loop-less Inv-loop μ-loop
 loop-less c = omega arith

@@ -1,42 +1,42 @@
-use lib.Dec.{eqb}
 use Prim.Native.Nat.{_-_, _≤_}
-use mathlib.Core.Path.{refl}
 use native.Mathlib.Omega.{arith}
 use Rattle.check_equality.specs.Layout.{left-sides}
+use lib.Dec.{eqb}
+use mathlib.Core.Path.{refl}
 use Rattle.check_forgetting.specs.Changes.{Dropped}
-use Rattle.check_forgetting.proofs.Forgetting.{dropped-first, dropped-more, dropped-all}
+use Rattle.check_forgetting.proofs.Forgetting.{dropped-more, dropped-all}
 use Rattle.check_forgetting.proofs.facts.drop_path.Statement.{statement}
 use Rattle.check_forgetting.proofs.facts.drop_path.Tie as tie
 
 abbrev Inv-loop : tie.InvT-loop
-Inv-loop key m k gone₀ changed₀ i₀ gone changed i = (left-sides ≤ i) × Dropped (λ l. eqb l k) key i gone changed
+Inv-loop key from m k gone₀ i₀ gone i = (left-sides ≤ i) × Dropped (λ l. eqb l k) key i gone
 
 abbrev μ-loop : tie.MeasureT-loop
-μ-loop key m k gone₀ changed₀ i₀ gone changed i = m - i
+μ-loop key from m k gone₀ i₀ gone i = m - i
 
 loop-holds : tie.Need-loop-holds Inv-loop μ-loop
-loop-holds c = (omega arith, dropped-first _ _ _ (c .pre .1))
+loop-holds c = (c .pre .0, c .pre .2)
 
-mul-out : tie.Need-mul-out Inv-loop μ-loop
-mul-out c = omega (arith, c .before .before .pre .0)
+mul-gone : tie.Need-mul-gone Inv-loop μ-loop
+mul-gone c = omega (arith, c .before .before .pre .1)
 
-element-copy-out-out : tie.Need-element-copy-out-out Inv-loop μ-loop
-element-copy-out-out c = omega (arith, c .before .before .pre .0)
+element-copy-out-gone : tie.Need-element-copy-out-gone Inv-loop μ-loop
+element-copy-out-gone c = omega (arith, c .before .before .pre .1)
 
 element-write-gone : tie.Need-element-write-gone Inv-loop μ-loop
-element-write-gone c = omega (arith, c .before .before .loop .inv .1 .size, c .before .before .before .pre .0)
+element-write-gone c = omega (arith, c .before .before .loop .inv .1 .size, c .before .before .before .pre .1)
 
 add-i : tie.Need-add-i Inv-loop μ-loop
-add-i c = omega (arith, c .before .before .before .pre .0)
+add-i c = omega (arith, c .before .before .before .pre .1)
 
 loop-less : tie.Need-loop-less Inv-loop μ-loop
 loop-less c = omega arith
 
 loop-again : tie.Need-loop-again Inv-loop μ-loop
-loop-again c = (omega arith, dropped-more _ _ (c .before .before .loop .i) (c .before .before .loop .gone) _ _ (omega (arith, c .before .before .before .pre .0)) (c .before .before .loop .inv .1) refl)
+loop-again c = (omega arith, dropped-more _ _ (c .before .before .loop .i) (c .before .before .loop .gone) _ (omega (arith, c .before .before .before .pre .1)) (c .before .before .loop .inv .1) refl)
 
 returns : tie.Need-returns Inv-loop μ-loop
-returns c = dropped-all _ _ _ _ _ _ (omega arith) (c .before .loop .inv .1)
+returns c = dropped-all _ _ _ _ _ (omega arith) (c .before .loop .inv .1)
 
 pub drop-path-spec : {M : Type 1} → statement M
 drop-path-spec =
@@ -45,8 +45,8 @@ drop-path-spec =
     Inv-loop
     μ-loop
     loop-holds
-    mul-out
-    element-copy-out-out
+    mul-gone
+    element-copy-out-gone
     element-write-gone
     add-i
     loop-less

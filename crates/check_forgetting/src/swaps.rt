@@ -1,0 +1,221 @@
+// What is dropped is looked for, and the facts that name it are forgotten or give way. Where that is one term alone, every side with its key
+// takes the key of its successor, or of the variable that stands in for it, and the labels stay.
+use crate::facts;
+use crate::labels;
+use crate::marks;
+use crate::scans;
+use check_equality::State;
+use check_state::Resolved;
+use rules::Machine;
+ghost use mathlib.Core.Path.{_≡_};
+ghost use mathlib.Core.Bool.{true};
+ghost use Prim.Native.Nat.{_≤_};
+ghost use lib.Dec.{eqb};
+ghost use Rattle.check_equality.specs.Layout.{slots, left-sides};
+ghost use Rattle.check_equality.specs.Links.{picked};
+ghost use Rattle.check_state.specs.States.{Wf};
+ghost use Rattle.check_state.specs.Questions.{no-variable};
+ghost use Rattle.check_forgetting.specs.Changes.{MappedKeys, Renamed, renamedKey, mentionsKey, keyDropped, OutMarked, Forgettable, Forgot, ForgotOut};
+ghost use Rattle.check_forgetting.specs.Scans.{Scanned, NoPath, markedKey};
+ghost use Rattle.check_forgetting.specs.Labels.{StandsIn};
+
+fn choose(k: u64, from: u64, to: u64) -> u64
+    ensures { λ r. ⌜ r ≡ picked from to k ⌝ }
+{
+    if k == from { to } else { k }
+}
+
+// The key t for each key k, from slot `from` on.
+fn swap_key(key: &mut [u64; State::SLOTS], from: usize, m: usize, k: u64, t: u64)
+    requires { ⌜ (left-sides ≤ from) × (m ≤ slots) × MappedKeys (picked k t) (now key) from (now key) ⌝ }
+    ensures { λ _. ⌜ MappedKeys (picked k t) (now (key .entry)) m (now (key .exit)) ⌝ }
+{
+    let mut i = from;
+    while i < m {
+        let l = key[i];
+        key[i] = choose(l, k, t);
+        i += 1;
+    }
+}
+
+// The term of k is dropped, and the facts before `from` stay: it gives way to its successor, or else as `forget` says.
+fn give_key(
+    key: &mut [u64; State::SLOTS],
+    b: &mut [u8; State::BYTES],
+    skip: &[bool; Machine::PERMISSIONS],
+    x: u8,
+    k: u64,
+    from: usize,
+)
+    requires { ⌜ Wf (now key) (now b) × Forgettable (λ l. eqb l k) (now key) (now b) (now skip) x × Scanned (λ l. eqb l k) (now key) (now b) from ⌝ }
+    ensures { λ _. ⌜ Forgot (λ l. eqb l k) (now (key .entry)) (now (b .entry)) (now (skip .entry)) x (now (key .exit)) (now (b .exit)) ⌝ }
+{
+    let m = State::LEFT + 2 * (b[State::FACTS] as usize);
+    let l = State::LEFT + 2 * from;
+    let mut gone = [false; State::SLOTS];
+    let a = check_equality::label_of(key, b, m, k);
+    let Resolved::Key(t) = check_successors::successor(key, b, skip, x, k, a) else {
+        facts::drop_path(key, l, m, k, &mut gone);
+        facts::forget(key, b, skip, x, &mut gone, from);
+        return;
+    };
+    swap_key(key, l, m, k, t);
+    labels::repack(key, b, &gone, from, x);
+}
+
+// The term of k is dropped.
+pub fn drop_key(
+    key: &mut [u64; State::SLOTS],
+    b: &mut [u8; State::BYTES],
+    skip: &[bool; Machine::PERMISSIONS],
+    x: u8,
+    k: u64,
+)
+    requires { ⌜ Wf (now key) (now b) × Forgettable (λ l. eqb l k) (now key) (now b) (now skip) x ⌝ }
+    ensures { λ _. ⌜ Forgot (λ l. eqb l k) (now (key .entry)) (now (b .entry)) (now (skip .entry)) x (now (key .exit)) (now (b .exit)) ⌝ }
+{
+    let from = scans::first_with(key, b, k);
+    if from < (b[State::FACTS] as usize) {
+        give_key(key, b, skip, x, k, from);
+    }
+}
+
+// x and its paths are dropped, and the facts before `from` stay.
+fn give_names(
+    key: &mut [u64; State::SLOTS],
+    b: &mut [u8; State::BYTES],
+    skip: &[bool; Machine::PERMISSIONS],
+    x: u8,
+    from: usize,
+)
+    requires { ⌜ Wf (now key) (now b) × Forgettable (mentionsKey x) (now key) (now b) (now skip) x × Scanned (mentionsKey x) (now key) (now b) from ⌝ }
+    ensures { λ _. ⌜ Forgot (mentionsKey x) (now (key .entry)) (now (b .entry)) (now (skip .entry)) x (now (key .exit)) (now (b .exit)) ⌝ }
+{
+    let m = State::LEFT + 2 * (b[State::FACTS] as usize);
+    let l = State::LEFT + 2 * from;
+    if scans::has_path(key, l, m, x) {
+        let mut gone = [false; State::SLOTS];
+        facts::drop_variable(key, l, m, x, &mut gone);
+        facts::forget(key, b, skip, x, &mut gone, from);
+        return;
+    }
+    give_key(key, b, skip, x, check_equality::variable_key(x), from);
+}
+
+// x and its paths are dropped.
+pub fn drop_names(
+    key: &mut [u64; State::SLOTS],
+    b: &mut [u8; State::BYTES],
+    skip: &[bool; Machine::PERMISSIONS],
+    x: u8,
+)
+    requires { ⌜ Wf (now key) (now b) × Forgettable (mentionsKey x) (now key) (now b) (now skip) x ⌝ }
+    ensures { λ _. ⌜ Forgot (mentionsKey x) (now (key .entry)) (now (b .entry)) (now (skip .entry)) x (now (key .exit)) (now (b .exit)) ⌝ }
+{
+    let from = scans::first_naming(key, b, x);
+    if from < (b[State::FACTS] as usize) {
+        give_names(key, b, skip, x, from);
+    }
+}
+
+// The paths of the entries that are out, whose places are marked, are dropped, but for names still listed.
+fn give_out<'a>(
+    key: &mut [u64; State::SLOTS],
+    b: &mut [u8; State::BYTES],
+    out: &'a [bool; Machine::PERMISSIONS],
+    marks: &'a [bool; State::MARKS],
+    from: usize,
+)
+    requires { ⌜ Wf (now key) (now b) × OutMarked (now b) (now out) (now marks) × Forgettable (keyDropped (now b) (now out)) (now key) (now b) (now out) no-variable × Scanned (markedKey (now marks)) (now key) (now b) from ⌝ }
+    ensures { λ _. ⌜ Forgot (keyDropped (now (b .entry)) (now (out .entry))) (now (key .entry)) (now (b .entry)) (now (out .entry)) no-variable (now (key .exit)) (now (b .exit)) ⌝ }
+{
+    let m = State::LEFT + 2 * (b[State::FACTS] as usize);
+    let l = State::LEFT + 2 * from;
+    let mut gone = [false; State::SLOTS];
+    facts::drop_paths(key, b, out, marks, l, m, &mut gone);
+    facts::forget(key, b, out, State::NO_VARIABLE, &mut gone, from);
+}
+
+// .. unless all of these are still listed.
+pub fn drop_out<'a>(
+    key: &mut [u64; State::SLOTS],
+    b: &mut [u8; State::BYTES],
+    out: &'a [bool; Machine::PERMISSIONS],
+    marks: &'a [bool; State::MARKS],
+    from: usize,
+)
+    requires { ⌜ Wf (now key) (now b) × OutMarked (now b) (now out) (now marks) × Scanned (markedKey (now marks)) (now key) (now b) from ⌝ }
+    ensures { λ _. ⌜ ForgotOut (now (key .entry)) (now (b .entry)) (now (out .entry)) (now (key .exit)) (now (b .exit)) ⌝ }
+{
+    let p = b[State::ENTRIES] as usize;
+    if marks::drops_some(b, out, p) {
+        give_out(key, b, out, marks, from);
+    }
+}
+
+// Is `to` another variable with the label of x?
+fn stands_in(b: &[u8; State::BYTES], x: u8, to: u8) -> bool
+    ensures { λ r. ⌜ (r ≡ true → StandsIn (now (b .entry)) x to) ⌝ }
+{
+    if x == to {
+        return false;
+    }
+    if (x < State::VARIABLE_COUNT) & (to < State::VARIABLE_COUNT) {
+        let i = x as usize;
+        let j = to as usize;
+        return b[i] == b[j];
+    }
+    false
+}
+
+// .. and no path of x among the sides from slot `from` on?
+fn stands_alone<'a>(
+    key: &'a [u64; State::SLOTS],
+    b: &'a [u8; State::BYTES],
+    from: usize,
+    m: usize,
+    x: u8,
+    to: u8,
+) -> bool
+    requires { ⌜ (from ≤ m) × (m ≤ slots) ⌝ }
+    ensures { λ r. ⌜ (r ≡ true → StandsIn (now (b .entry)) x to × NoPath (now (key .entry)) from m x) ⌝ }
+{
+    if stands_in(b, x, to) {
+        return !scans::has_path(key, from, m, x);
+    }
+    false
+}
+
+// The variable `to` takes the place of x, and the facts before `from` stay.
+fn give_name(key: &mut [u64; State::SLOTS], b: &mut [u8; State::BYTES], x: u8, to: u8, from: usize)
+    requires { ⌜ Wf (now key) (now b) × Scanned (mentionsKey x) (now key) (now b) from ⌝ }
+    ensures { λ _. ⌜ Renamed (renamedKey x to) (now (key .entry)) (now (b .entry)) (now (key .exit)) (now (b .exit)) ⌝ }
+{
+    let m = State::LEFT + 2 * (b[State::FACTS] as usize);
+    let l = State::LEFT + 2 * from;
+    let gone = [false; State::SLOTS];
+    if stands_alone(key, b, l, m, x, to) {
+        swap_key(
+            key,
+            l,
+            m,
+            check_equality::variable_key(x),
+            check_equality::variable_key(to),
+        );
+        labels::repack(key, b, &gone, from, x);
+        return;
+    }
+    facts::rename_keys(key, m, x, to);
+    facts::rebuild(key, b, &gone);
+}
+
+// The variable `to` takes the place of x.
+pub fn rename_names(key: &mut [u64; State::SLOTS], b: &mut [u8; State::BYTES], x: u8, to: u8)
+    requires { ⌜ Wf (now key) (now b) ⌝ }
+    ensures { λ _. ⌜ Renamed (renamedKey x to) (now (key .entry)) (now (b .entry)) (now (key .exit)) (now (b .exit)) ⌝ }
+{
+    let from = scans::first_naming(key, b, x);
+    if from < (b[State::FACTS] as usize) {
+        give_name(key, b, x, to, from);
+    }
+}
