@@ -1,7 +1,6 @@
 // Keys and variables with one variable in the place of another.
 use check_equality::State;
 ghost use mathlib.Core.Path.{_≡_};
-ghost use mathlib.Core.Bool.{false};
 ghost use Prim.Native.Nat.{_+_, _<_};
 ghost use Rattle.check_forgetting.specs.Changes.{renamedKey, mentionsKey, renamedVariable};
 

@@ -23,7 +23,9 @@ cast-if1 : tie.Need-cast-if1
 cast-if1 c = search needs
 
 drop-out-requires : tie.Need-drop-out-requires
-drop-out-requires c κs = (c .before .before .before .before .before .before .before .before .before .before .before .before .pre, (c .before .before .before .before .before .before .before .before .before .before .before .before .pre .fit, c .before .before .before .before .before .before .before .before .before .marks-out .ensures), c .before .before .before .before .before .first-marked .ensures)
+drop-out-requires c κs =
+    let start = c .before .before .before .before .before .before .before .before .before .before .before .before in
+    (start .pre, (start .pre .fit, c .before .before .before .before .before .before .before .before .before .marks-out .ensures), c .before .before .before .before .before .first-marked .ensures)
 
 returns : tie.Need-returns
 returns c = c .drop-out .ensures

@@ -1,7 +1,7 @@
 use Prim.Native.Nat.{ℕ, _+_, _*_, _-_, _≤_}
 use native.Mathlib.Omega.{arith}
 use lib.ListN.{set}
-use mathlib.Core.Path.{_≡_, refl, sym, subst}
+use mathlib.Core.Path.{refl, sym, subst}
 use Rattle.check_equality.specs.Layout.{left-sides, fact-count}
 use Rattle.check_forgetting.specs.Labels.{Lone, Relabelled}
 use Rattle.check_forgetting.proofs.Relabelling.{lone-of}
@@ -67,7 +67,9 @@ move-fact-requires : tie.Need-move-fact-requires Inv-loop μ-loop
 move-fact-requires c κs = let P = c .before .before .before .before .before .before .before .before .before .loop .inv .2 in (P .few, omega (arith, c .before .before .before .before .before .before .before .before .before .before .before .pre .0 .wf .linked .fit), P .header .size, P .size)
 
 add-i : tie.Need-add-i Inv-loop μ-loop
-add-i c = omega (arith, c .before .before .before .before .before .before .before .before .before .before .before .before .pre .0 .wf .linked .fit, c .before .before .before .before .before .before .before .before .before .before .loop .inv .2 .few, c .before .before .before .before .before .before .before .before .before .before .loop .inv .2 .header .size, c .before .before .before .before .before .before .before .before .before .before .loop .inv .2 .size)
+add-i c =
+    let P = c .before .before .before .before .before .before .before .before .before .before .loop .inv .2 in
+    omega (arith, c .before .before .before .before .before .before .before .before .before .before .before .before .pre .0 .wf .linked .fit, P .few, P .header .size, P .size)
 
 loop-less : tie.Need-loop-less Inv-loop μ-loop
 loop-less c = omega arith
