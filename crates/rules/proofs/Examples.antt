@@ -280,6 +280,28 @@ leaving l =
 pub unframed : List String
 unframed = withLine 6 "ensures eq this.n k acc this n" worked
 
+-- the 63rd call inside another finds all frames taken; this says what requires asks of its argument, 63
+pub deep : String → List String
+deep l =
+    "class S" ∷
+    "method int m int w" ∷
+    l ∷
+    "ensures" ∷
+    "var int a" ∷
+    "var int b" ∷
+    "let b 1" ∷
+    "add a w b" ∷
+    "call b this m a" ∷
+    "end" ∷
+    "main" ∷
+    "var S s" ∷
+    "var int a" ∷
+    "var int b" ∷
+    "new s S" ∷
+    "call b s m a" ∷
+    "end" ∷
+    []
+
 -- 7 (an int and null) and 6 (x) on one line
 pub lower : List String
 lower = "main" ∷ "var int a" ∷ "assert eq a null eq x 1" ∷ "end" ∷ []
@@ -485,6 +507,11 @@ rows =
     -- the same field in way (d); the lower of two numbers; what ensures does not hand back is lost
     row twoFields check (13 ∷ 7 ∷ []) ∷
     row lower check (6 ∷ 3 ∷ []) ∷
+    -- "`call`: null receiver, then requires, then frames full"
+    row (deep "requires ne w 64") (trial 1000) (23 ∷ 9 ∷ 190 ∷ three 1 0 0) ∷
+    row (deep "requires ne w 63") (trial 1000) (26 ∷ 9 ∷ 190 ∷ three 1 0 0) ∷
+    -- "then line by line 10; then the rules below in order of lines"
+    row (script ("assert eq a 1" ∷ "if eq a b" ∷ "else" ∷ "join eq s.n 1" ∷ [])) check (10 ∷ 13 ∷ []) ∷
     row (withLine 6 "ensures" worked) check (11 ∷ 17 ∷ []) ∷
     row (withLine 6 "ensures" worked) (trial 1000) (24 ∷ 17 ∷ 5 ∷ three 1 7 7) ∷
     []
@@ -494,7 +521,7 @@ right : Row → Bool
 right r = eqName (answer (text (r .text)) (r .call)) (r .answer)
 
 all-right : T (all right rows)
-unfolding computing Printed.opened right shown answer row three text tabbed withLine times oneLine alias acrossCall twice oldValue twoFields branching innerJoin script throughPath overTwoPaths oneName oneOnBothSides numbers counting walk leaving unframed lower method rings tens
+unfolding computing Printed.opened right shown answer row three text tabbed withLine times oneLine alias acrossCall twice oldValue twoFields branching innerJoin script throughPath overTwoPaths oneName oneOnBothSides numbers counting walk leaving unframed deep lower method rings tens
 all-right = tt
 
 right-at : (rs : List Row) (d : Row) (i : ℕ) → i < length rs → T (all right rs) → T (right (getD rs i d))

@@ -96,11 +96,77 @@ abbrev pub kinds : List Kind
 kinds = Class ∷ Field ∷ Method ∷ Requires ∷ Ensures ∷ Main ∷ Var ∷ map statement statements
 
 -- Kinds are numbered in this order, from 1 on.
+abbrev pub class-kind : ℕ
+class-kind = 1
+
+abbrev pub field-kind : ℕ
+field-kind = 2
+
+abbrev pub method-kind : ℕ
+method-kind = 3
+
+abbrev pub requires-kind : ℕ
+requires-kind = 4
+
+abbrev pub ensures-kind : ℕ
+ensures-kind = 5
+
+abbrev pub main-kind : ℕ
+main-kind = 6
+
+abbrev pub var-kind : ℕ
+var-kind = 7
+
+abbrev pub set-kind : ℕ
+set-kind = 8
+
+abbrev pub let-kind : ℕ
+let-kind = 9
+
+abbrev pub new-kind : ℕ
+new-kind = 10
+
+abbrev pub call-kind : ℕ
+call-kind = 11
+
+abbrev pub return-kind : ℕ
+return-kind = 12
+
+abbrev pub assert-kind : ℕ
+assert-kind = 13
+
+abbrev pub release-kind : ℕ
+release-kind = 14
+
+abbrev pub if-kind : ℕ
+if-kind = 15
+
+abbrev pub else-kind : ℕ
+else-kind = 16
+
+abbrev pub join-kind : ℕ
+join-kind = 17
+
+abbrev pub end-kind : ℕ
+end-kind = 18
+
+abbrev pub add-kind : ℕ
+add-kind = 19
+
+abbrev pub sub-kind : ℕ
+sub-kind = 20
+
+abbrev pub loop-kind : ℕ
+loop-kind = 21
+
+abbrev pub again-kind : ℕ
+again-kind = 22
+
 abbrev pub first-statement : ℕ
-first-statement = 8
+first-statement = set-kind
 
 abbrev pub last-kind : ℕ
-last-kind = 22
+last-kind = again-kind
 
 abbrev pub IsKindNumber : ℕ → Type 0
 IsKindNumber n = (1 ≤ n) × (n ≤ last-kind)
@@ -109,30 +175,30 @@ abbrev pub IsStatementNumber : ℕ → Type 0
 IsStatementNumber n = (first-statement ≤ n) × (n ≤ last-kind)
 
 unfoldable pub statementNumber : Statement → ℕ
-statementNumber Set = 8
-statementNumber Let = 9
-statementNumber New = 10
-statementNumber Call = 11
-statementNumber Return = 12
-statementNumber Assert = 13
-statementNumber Release = 14
-statementNumber If = 15
-statementNumber Else = 16
-statementNumber Join = 17
-statementNumber End = 18
-statementNumber Add = 19
-statementNumber Sub = 20
-statementNumber Loop = 21
-statementNumber Again = 22
+statementNumber Set = set-kind
+statementNumber Let = let-kind
+statementNumber New = new-kind
+statementNumber Call = call-kind
+statementNumber Return = return-kind
+statementNumber Assert = assert-kind
+statementNumber Release = release-kind
+statementNumber If = if-kind
+statementNumber Else = else-kind
+statementNumber Join = join-kind
+statementNumber End = end-kind
+statementNumber Add = add-kind
+statementNumber Sub = sub-kind
+statementNumber Loop = loop-kind
+statementNumber Again = again-kind
 
 unfoldable pub kindNumber : Kind → ℕ
-kindNumber Class = 1
-kindNumber Field = 2
-kindNumber Method = 3
-kindNumber Requires = 4
-kindNumber Ensures = 5
-kindNumber Main = 6
-kindNumber Var = 7
+kindNumber Class = class-kind
+kindNumber Field = field-kind
+kindNumber Method = method-kind
+kindNumber Requires = requires-kind
+kindNumber Ensures = ensures-kind
+kindNumber Main = main-kind
+kindNumber Var = var-kind
 kindNumber (statement s) = statementNumber s
 
 -- "statement lines .., with `else`, `join` and `end` counted"; of loops, "both lines toward the 256"

@@ -215,10 +215,11 @@ againStep rs m = withFrame m (jump (loopOf rs (m .frame .row)) (m .frame))
 
 -- STATEMENTS
 
--- "`set` first tests `acc x f`."
+-- `x.f` has a new value
 unfoldable pub stored : Config → ℕ → ℕ → ℕ → Config
 stored m o f v = record { heap = store (m .heap) o f v; frame = advance (m .frame); callers = m .callers }
 
+-- "`set` first tests `acc x f`."
 unfoldable pub setStep : ℕ → ℕ → ℕ → Config → Try Stop Config
 setStep x f y m = locate (m .frame) x f >>= λ p. ok (stored m (p .object) f (valueOf (m .frame) y))
 

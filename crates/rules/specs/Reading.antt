@@ -22,9 +22,9 @@ readText t =
     then (scanLines (lines t) 0 firstPlace) λ ls. resolveLines (declarations ls) ls 0 firstScope in
     cond (ltb most-bytes (length t)) (refused textTooLong 0) read
 
--- NUMBER 10: "requires, ensures or join reads `x.f` with no `acc x f` before it in the line"; of a loop, "The invariant, and the condition
--- after it, read only paths that the invariant holds; number 10 covers this line."
+-- NUMBER 10
 
+-- the `x.f` of an `acc x f`
 pub record Access : Type 0 where
   pub variable : ℕ
   pub field : ℕ
@@ -35,11 +35,13 @@ framedExpr before null = true
 framedExpr before (var x) = true
 framedExpr before (path x f) = any (λ a. eqb (a .variable) x && eqb (a .field) f) before
 
+-- "requires, ensures or join reads `x.f` with no `acc x f` before it in the line"
 unfoldable pub framed : List Access → Formula ℕ → Bool
 framed before [] = true
 framed before (acc x f ∷ φ) = framed (record { variable = x; field = f } ∷ before) φ
 framed before (cmp n a b ∷ φ) = let r : Bool = framed before φ in framedExpr before a && (framedExpr before b && r)
 
+-- of a loop, "The invariant, and the condition after it, read only paths that the invariant holds; number 10 covers this line."
 unfoldable pub framedStmt : Stmt → Bool
 framedStmt (simple p) = true
 framedStmt (return x) = true

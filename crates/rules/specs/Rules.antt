@@ -25,30 +25,34 @@ unfoldable pub substAtom : (ℕ → ℕ) → Atom ℕ → Atom ℕ
 substAtom σ (acc v f) = acc (σ v) f
 substAtom σ (cmp n a b) = cmp n (substTerm σ a) (substTerm σ b)
 
--- "`let x e`: e resolves to r. If r is x, no change. Otherwise remove x, with r renamed likewise; if r is left, add x = r." With W3,
--- "`let` takes the successor for its r".
+-- "if r is left, add x = r"
 unfoldable pub addEqual : ℕ → Option Term → State → Try Refusal State
 addEqual x none s = ok s
 addEqual x (some r) s = addFact eq (var x) r s
 
+-- "`let x e`: e resolves to r. If r is x, no change. Otherwise remove x, with r renamed likewise; if r is left, add x = r." With W3,
+-- "`let` takes the successor for its r".
 unfoldable pub assignRule : ℕ → Term → State → Try Refusal State
 assignRule x e s = do
   r ← resolve (equalIn s) (s .permissions) e
   let to : Option ℕ = standIn s x in
       cond (same r (var x)) (ok s) (addEqual x (removedTerm x to s r) (removeTo x to s))
 
--- "`new`: remove x; add its permissions, x ≠ null, and each field = null, or 0 for int"
+-- "add its permissions"
 unfoldable pub addFields : ℕ → List Field → State → Try Refusal State
 addFields x [] s = ok s
 addFields x (f ∷ fs) s = addPermission (record { variable = x; field = f .name }) s >>= λ s. addFields x fs s
 
+-- "null, or 0 for int"
 unfoldable pub initial : Field → Term
 initial f = cond (f .int) (num 0) null
 
+-- "each field = null, or 0 for int"
 unfoldable pub addInitial : ℕ → List Field → State → Try Refusal State
 addInitial x [] s = ok s
 addInitial x (f ∷ fs) s = addFact eq (path x (f .name)) (initial f) s >>= λ s. addInitial x fs s
 
+-- "`new`: remove x; add its permissions, x ≠ null, and each field = null, or 0 for int"
 unfoldable pub newRule : ℕ → List Field → State → Try Refusal State
 newRule x fs s = addFields x fs (remove x s) >>= λ s. addFact ne (var x) null s >>= λ s. addInitial x fs s
 

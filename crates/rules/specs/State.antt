@@ -165,11 +165,12 @@ Renaming = Term → Option Term
 abbrev pub variables : List ℕ
 variables = 0 ∷ 1 ∷ 2 ∷ 3 ∷ 4 ∷ 5 ∷ 6 ∷ 7 ∷ 8 ∷ 9 ∷ 10 ∷ 11 ∷ 12 ∷ 13 ∷ 14 ∷ []
 
--- "numbers rising", as signed numbers
+-- into numbers that rise, as signed numbers
 unfoldable pub insert : ℕ → List ℕ → List ℕ
 insert n [] = n ∷ []
 insert n (m ∷ ms) = let r : List ℕ = m ∷ insert n ms in cond (leb (offset n) (offset m)) (n ∷ m ∷ ms) r
 
+-- "numbers rising"
 unfoldable pub rising : List ℕ → List ℕ
 rising [] = []
 rising (n ∷ ns) = insert n (rising ns)
@@ -266,11 +267,13 @@ removeTo x to s =
 unfoldable pub remove : ℕ → State → State
 remove x s = removeTo x (standIn s x) s
 
+-- "A checker's state has at most 64 permissions": one more is number 14
 unfoldable pub addPermission : Permission → State → Try Refusal State
 addPermission p s =
     check (ltb (length (s .permissions)) most-permissions) stateFull
     >> ok (record { permissions = s .permissions ++ (p ∷ []); facts = s .facts })
 
+-- "and 64 facts": one more is number 14
 unfoldable pub addFact : Rel → Term → Term → State → Try Refusal State
 addFact n t u s =
     check (ltb (length (s .facts)) most-facts) stateFull
