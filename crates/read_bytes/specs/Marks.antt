@@ -8,16 +8,26 @@ use Rattle.read_bytes.specs.declared.Set.the-variants.{LineEnd, FieldEnd
 
 -- WORDS
 
+abbrev pub wide-bytes : ℕ
+wide-bytes = 8
+
 -- the eight bytes of a list from i on
 abbrev pub eight : List ℕ → ℕ → List ℕ
 eight l i =
     getD l i 0 ∷ getD l (i + 1) 0 ∷ getD l (i + 2) 0 ∷ getD l (i + 3) 0 ∷
     getD l (i + 4) 0 ∷ getD l (i + 5) 0 ∷ getD l (i + 6) 0 ∷ getD l (i + 7) 0 ∷ []
 
+-- how many numbers one byte holds, and two
+abbrev pub byte-values : ℕ
+byte-values = 256
+
+abbrev pub half-values : ℕ
+half-values = 65536
+
 -- bytes as one number, the first lowest
 unfoldable pub littleEndian : List ℕ → ℕ
 littleEndian [] = 0
-littleEndian (b ∷ t) = littleEndian t * 256 + b
+littleEndian (b ∷ t) = littleEndian t * byte-values + b
 
 -- MARKS
 
@@ -26,6 +36,10 @@ pub data Form : Type 0 where
   it : Form
   each : ℕ → Form
   and or xor plus : Form → Form → Form
+
+-- eight bytes, each 1
+abbrev pub ones : ℕ
+ones = 0x0101010101010101
 
 -- its value for the word x; k is the word of x's length whose bytes are 1
 abbrev pub value : ℕ → ℕ → Form → ℕ

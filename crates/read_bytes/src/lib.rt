@@ -1,15 +1,55 @@
-// Bytes of the text: sets of bytes, the search for the first byte of a set (eight bytes at a time), and comparing.
+// Bytes of the text: sets of bytes, the search for the first byte of a set, and comparing. Eight bytes at a time: `marks`.
+mod marks;
+
+pub use marks::Wide;
+pub use marks::digit_marks;
+pub use marks::name_marks;
+pub use marks::word8;
 ghost use mathlib.Core.Path.{_≡_};
 ghost use mathlib.Core.Bool.{true, false};
-ghost use Prim.Native.Nat.{_+_, _-_, _≤_};
+ghost use Prim.Native.Nat.{_+_, _-_, _*_, _≤_};
 ghost use lib.ListN.{length, getD, drop};
 ghost use Rattle.rules.specs.Base.{between, eqName};
 ghost use Rattle.rules.specs.Text.{letter, digit, letterOrDigit, upTo};
 ghost use Rattle.read_bytes.specs.Sets.{inSet, FirstInSet};
-ghost use Rattle.read_bytes.specs.Marks.{eight, littleEndian, value, lineForm, fieldForm, nameForm, digitForm, formOf};
+ghost use Rattle.read_bytes.specs.Marks.{wide-bytes};
 ghost use Rattle.read_bytes.specs.Fields.{endsField};
 
 // BYTES
+
+// The bytes of a text, by name: "tab, LF, 33 to 126".
+pub struct Byte {}
+
+impl Byte {
+    pub const TAB: u8 = 9;
+
+    pub const LINE_FEED: u8 = 10;
+
+    pub const FIRST_GRAPHIC: u8 = 33;
+
+    pub const LAST_GRAPHIC: u8 = 126;
+
+    pub const MINUS: u8 = b'-';
+
+    pub const FULL_STOP: u8 = b'.';
+
+    pub const ZERO: u8 = b'0';
+
+    pub const NINE: u8 = b'9';
+
+    const UPPER_A: u8 = b'A';
+
+    const UPPER_Z: u8 = b'Z';
+
+    pub const LOWER_A: u8 = b'a';
+
+    pub const LOWER_Z: u8 = b'z';
+
+    pub const BITS: u32 = 8;
+
+    // How many there are.
+    pub const VALUES: u64 = 256;
+}
 
 fn between(b: u8, a: u8, z: u8) -> bool
     ensures { λ r. ⌜ r ≡ between a z b ⌝ }
@@ -23,26 +63,26 @@ fn between(b: u8, a: u8, z: u8) -> bool
 pub fn is_digit(b: u8) -> bool
     ensures { λ r. ⌜ r ≡ digit b ⌝ }
 {
-    between(b, 48, 57)
+    between(b, Byte::ZERO, Byte::NINE)
 }
 
 pub fn is_letter(b: u8) -> bool
     ensures { λ r. ⌜ r ≡ letter b ⌝ }
 {
-    if 97 <= b {
-        return b <= 122;
+    if Byte::LOWER_A <= b {
+        return b <= Byte::LOWER_Z;
     }
-    between(b, 65, 90)
+    between(b, Byte::UPPER_A, Byte::UPPER_Z)
 }
 
 pub fn is_letter_or_digit(b: u8) -> bool
     ensures { λ r. ⌜ r ≡ letterOrDigit b ⌝ }
 {
-    if 97 <= b {
-        return b <= 122;
+    if Byte::LOWER_A <= b {
+        return b <= Byte::LOWER_Z;
     }
-    if 65 <= b {
-        return b <= 90;
+    if Byte::UPPER_A <= b {
+        return b <= Byte::UPPER_Z;
     }
     is_digit(b)
 }
@@ -62,18 +102,18 @@ pub fn in_set(b: u8, set: Set) -> bool
 {
     match set {
         Set::LineEnd => {
-            if b < 33 {
-                return b != 9;
+            if b < Byte::FIRST_GRAPHIC {
+                return b != Byte::TAB;
             }
-            126 < b
+            Byte::LAST_GRAPHIC < b
         }
         Set::FieldEnd => {
-            if 10 < b {
+            if Byte::LINE_FEED < b {
                 return false;
             }
-            9 <= b
+            Byte::TAB <= b
         }
-        Set::FullStop => b == 46,
+        Set::FullStop => b == Byte::FULL_STOP,
         Set::NotLetterOrDigit => !is_letter_or_digit(b),
     }
 }
@@ -94,84 +134,18 @@ pub fn find_from(l: &[u8], at: usize, set: Set) -> usize
     i
 }
 
-// Eight bytes from i on as one number, the first lowest.
-pub fn word8(l: &[u8], i: usize) -> u64
-    requires { ⌜ i + 8 ≤ length (now l) ⌝ }
-    ensures { λ r. ⌜ r ≡ littleEndian (eight (now (l .entry)) i) ⌝ }
-{
-    let a = l[i] as u64
-        + (l[i + 1] as u64) * 0x100
-        + (l[i + 2] as u64) * 0x10000
-        + (l[i + 3] as u64) * 0x1000000;
-    let b = (l[i + 4] as u64) * 0x100000000
-        + (l[i + 5] as u64) * 0x10000000000
-        + (l[i + 6] as u64) * 0x1000000000000
-        + (l[i + 7] as u64) * 0x100000000000000;
-    a + b
-}
-
-// Bit 7 of each byte that may end a field.
-fn field_marks(x: u64) -> u64
-    ensures { λ r. ⌜ r ≡ value 0x0101010101010101 x fieldForm ⌝ }
-{
-    (((x & 0x6060606060606060) + 0x6060606060606060) & 0x8080808080808080) ^ 0x8080808080808080
-}
-
-// Bit 7 of each byte that is not 9 or 33 to 126.
-fn line_marks(x: u64) -> u64
-    ensures { λ r. ⌜ r ≡ value 0x0101010101010101 x lineForm ⌝ }
-{
-    let y = x & 0x7f7f7f7f7f7f7f7f;
-    let low = y + 0x5f5f5f5f5f5f5f5f;
-    let del = y + 0x0101010101010101;
-    let tab = (y ^ 0x0909090909090909) + 0x7f7f7f7f7f7f7f7f;
-    (((low ^ 0x8080808080808080) & tab) | del | x) & 0x8080808080808080
-}
-
-// Bit 7 of each byte that is no letter or digit.
-pub fn name_marks(x: u64) -> u64
-    ensures { λ r. ⌜ r ≡ value 0x0101010101010101 x nameForm ⌝ }
-{
-    let y = x & 0x7f7f7f7f7f7f7f7f;
-    let u = y | 0x2020202020202020;
-    let letter = (u + 0x1f1f1f1f1f1f1f1f) & ((u + 0x0505050505050505) ^ 0x8080808080808080);
-    let digit = (y + 0x5050505050505050) & ((y + 0x4646464646464646) ^ 0x8080808080808080);
-    (((letter | digit) ^ 0x8080808080808080) | x) & 0x8080808080808080
-}
-
-// Bit 7 of each byte that is no digit.
-pub fn digit_marks(x: u64) -> u64
-    ensures { λ r. ⌜ r ≡ value 0x0101010101010101 x digitForm ⌝ }
-{
-    let y = x & 0x7f7f7f7f7f7f7f7f;
-    (((y + 0x5050505050505050) ^ 0x8080808080808080) | (y + 0x4646464646464646) | x)
-        & 0x8080808080808080
-}
-
-// Bit 7 of each byte that may be in the set.
-fn marks(x: u64, set: Set) -> u64
-    ensures { λ r. ⌜ r ≡ value 0x0101010101010101 x (formOf set) ⌝ }
-{
-    match set {
-        Set::LineEnd => line_marks(x),
-        Set::FieldEnd => field_marks(x),
-        Set::NotLetterOrDigit => name_marks(x),
-        Set::FullStop => 0x8080808080808080,
-    }
-}
-
 // A place from `at` on, up to which no byte is in the set: the first mark in whole words, or their end.
 fn skip_words(l: &[u8], at: usize, set: Set) -> usize
     requires { ⌜ at ≤ length (now l) ⌝ }
     ensures { λ r. ⌜ (at ≤ r) × (r ≤ length (now (l .entry))) × (r + upTo (inSet set) (drop r (now (l .entry))) ≡ at + upTo (inSet set) (drop at (now (l .entry)))) ⌝ }
 {
     let mut i = at;
-    while 8 <= l.len() - i {
-        let z = marks(word8(l, i), set);
+    while Wide::BYTES <= l.len() - i {
+        let z = marks::marks(word8(l, i), set);
         if z != 0 {
-            return i + (u64::trailing_zeros(z) / 8) as usize;
+            return i + (u64::trailing_zeros(z) / Byte::BITS) as usize;
         }
-        i += 8;
+        i += Wide::BYTES;
     }
     i
 }
@@ -223,10 +197,10 @@ fn same_bytes(a: &[u8], b: &[u8]) -> bool
 
 // Names of 8 to 16 bytes: the last eight bytes, then the first eight.
 fn same_wide(a: &[u8], b: &[u8]) -> bool
-    requires { ⌜ (length (now a) ≡ length (now b)) × (8 ≤ length (now a)) × (length (now a) ≤ 16) ⌝ }
+    requires { ⌜ (length (now a) ≡ length (now b)) × (wide-bytes ≤ length (now a)) × (length (now a) ≤ 2 * wide-bytes) ⌝ }
     ensures { λ r. ⌜ r ≡ eqName (now (a .entry)) (now (b .entry)) ⌝ }
 {
-    let i = a.len() - 8;
+    let i = a.len() - Wide::BYTES;
     if word8(a, i) != word8(b, i) {
         return false;
     }
@@ -240,10 +214,10 @@ pub fn same(a: &[u8], b: &[u8]) -> bool
     if n != b.len() {
         return false;
     }
-    if n < 8 {
+    if n < Wide::BYTES {
         return same_bytes(a, b);
     }
-    if 16 < n {
+    if Wide::TWICE < n {
         return same_bytes(a, b);
     }
     same_wide(a, b)

@@ -10,6 +10,7 @@ ghost use Prim.Native.Nat.{_≤_, _<_, pred};
 ghost use lib.ListN.{length, drop};
 ghost use Rattle.rules.specs.Limits.{work-bytes, most-bytes, most-classes, most-methods};
 ghost use Rattle.rules.specs.Grammar.{Class, Field, Method};
+ghost use Rattle.read_bytes.specs.Marks.{byte-values};
 ghost use Rattle.tables.specs.Layout.{most-names, lines-at};
 ghost use Rattle.tables.specs.Stores.{Kept};
 ghost use Rattle.read_fields.specs.Cuts.{more};
@@ -120,7 +121,7 @@ fn declare_field(text: &[u8], work: &mut [u8], r: usize, c: Names) -> Names
 
 // The row of a method by its header.
 pub fn method_row(text: &[u8], r: usize, owner: usize) -> Row
-    requires { ⌜ (length (now text) ≤ most-bytes) × (r ≤ length (now text)) × (owner < 256) × NameAfter (now text) r 0 × NameAfter (now text) r 1 × NameAfter (now text) r 2 ⌝ }
+    requires { ⌜ (length (now text) ≤ most-bytes) × (r ≤ length (now text)) × (owner < byte-values) × NameAfter (now text) r 0 × NameAfter (now text) r 1 × NameAfter (now text) r 2 ⌝ }
     ensures { λ m. ⌜ MethodRow (now (text .entry)) owner (more (drop r (now (text .entry)))) m ⌝ }
 {
     let gives = span_after(text, r);

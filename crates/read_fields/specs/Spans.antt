@@ -65,6 +65,10 @@ OperandsEnd n t r f = (os : List Operand) → n ≡ operandsNumber os → Operan
 
 -- ATOMS
 
+-- the letter that `acc` begins with, and `eq` and `ne` do not
+abbrev pub letter-a : ℕ
+letter-a = 97
+
 -- An atom's word follows the tab at r; the operands after it, and what follows them, decide.
 pub record HeadIs (t : List ℕ) (r : ℕ) (h : Head) (os : List Operand) : Type 0 where
   pub number : h .operands ≡ operandsNumber os

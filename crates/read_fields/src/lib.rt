@@ -1,4 +1,5 @@
 // The fields of a line, each read once: operands, atoms, what may follow them.
+use read_bytes::Byte;
 use read_bytes::Set;
 use read_grammar::OperandNumber;
 use read_grammar::TailNumber;
@@ -9,13 +10,11 @@ ghost use mathlib.Core.Bool.{true};
 ghost use Prim.Native.Nat.{_+_, _≤_};
 ghost use lib.Dec.{eqb};
 ghost use lib.ListN.{length, getD};
-ghost use Rattle.rules.specs.Text.{isName, isExpr, isRel, isFormula};
+ghost use Rattle.rules.specs.Text.{tab, isName, isExpr, isRel, isFormula};
 ghost use Rattle.rules.specs.Grammar.{IsKindNumber};
 ghost use Rattle.read_fields.specs.Cuts.{NextField};
 ghost use Rattle.read_grammar.specs.Rows.{fitsOperand, fitsTail};
-ghost use Rattle.read_fields.specs.Spans.{NextFit, OperandsEnd, AtomHead, AtomEnd, FieldsRead, conditionFirst, formedAs};
-
-const TAB: u8 = 9;
+ghost use Rattle.read_fields.specs.Spans.{letter-a, NextFit, OperandsEnd, AtomHead, AtomEnd, FieldsRead, conditionFirst, formedAs};
 
 // FIELDS
 
@@ -24,7 +23,7 @@ pub fn next_field(t: &[u8], r: usize) -> usize
     requires { ⌜ r ≤ length (now t) ⌝ }
     ensures { λ e. ⌜ NextField (now (t .entry)) r e ⌝ }
 {
-    if read_bytes::byte_at(t, r) != TAB {
+    if read_bytes::byte_at(t, r) != Byte::TAB {
         return r;
     }
     read_bytes::find(t, r + 1, Set::FieldEnd)
@@ -35,7 +34,7 @@ fn next_name(t: &[u8], r: usize) -> usize
     requires { ⌜ r ≤ length (now t) ⌝ }
     ensures { λ e. ⌜ NextFit isName (now (t .entry)) r e ⌝ }
 {
-    if read_bytes::byte_at(t, r) != TAB {
+    if read_bytes::byte_at(t, r) != Byte::TAB {
         return r;
     }
     let a = r + 1;
@@ -48,7 +47,7 @@ fn next_expr(t: &[u8], r: usize) -> usize
     requires { ⌜ r ≤ length (now t) ⌝ }
     ensures { λ e. ⌜ NextFit isExpr (now (t .entry)) r e ⌝ }
 {
-    if read_bytes::byte_at(t, r) != TAB {
+    if read_bytes::byte_at(t, r) != Byte::TAB {
         return r;
     }
     let a = r + 1;
@@ -81,12 +80,12 @@ fn operands_end(t: &[u8], from: usize, operands: u32) -> Fields
     let mut left = operands;
     let mut r = from;
     while left != 0 {
-        let e = next_operand(left % 16, t, r);
+        let e = next_operand(left % OperandNumber::BASE, t, r);
         if e == r {
             return Fields::Bad;
         }
         r = e;
-        left = left / 16;
+        left = left / OperandNumber::BASE;
     }
     Fields::Upto(r)
 }
@@ -96,7 +95,7 @@ fn no_fields(t: &[u8], r: usize) -> Fields
     requires { ⌜ r ≤ length (now t) ⌝ }
     ensures { λ f. ⌜ FieldsRead (λ ws. eqb (length ws) 0) (now (t .entry)) r f ⌝ }
 {
-    if read_bytes::byte_at(t, r) != TAB {
+    if read_bytes::byte_at(t, r) != Byte::TAB {
         return Fields::Upto(r);
     }
     Fields::Bad
@@ -105,9 +104,14 @@ fn no_fields(t: &[u8], r: usize) -> Fields
 // ATOMS
 
 // The operands of `acc x f`, and of `eq e e` and `ne e e`: two names, two expressions.
-const ACC_OPERANDS: u32 = 0x77;
+const ACC_OPERANDS: u32 = OperandNumber::READ * (1 + OperandNumber::BASE);
 
-const REL_OPERANDS: u32 = 0xbb;
+const REL_OPERANDS: u32 = OperandNumber::EXPRESSION * (1 + OperandNumber::BASE);
+
+// The bytes of a tab and `acc`, and of a tab and `eq` or `ne`.
+const ACC_BYTES: usize = 4;
+
+const REL_BYTES: usize = 3;
 
 // How an atom begins: the number of the operands after its word, or 0 where the word is none of an atom; and the word's end.
 struct Head {
@@ -126,7 +130,7 @@ fn no_head(r: usize) -> Head
 
 // `acc`, of which the first letter is there.
 fn acc_head(t: &[u8], r: usize) -> Head
-    requires { ⌜ (getD (now t) r 0 ≡ 9) × (getD (now t) (r + 1) 0 ≡ 97) ⌝ }
+    requires { ⌜ (getD (now t) r 0 ≡ tab) × (getD (now t) (r + 1) 0 ≡ letter-a) ⌝ }
     ensures { λ h. ⌜ AtomHead (now (t .entry)) r h ⌝ }
 {
     if read_bytes::byte_at(t, r + 2) != b'c' {
@@ -137,13 +141,13 @@ fn acc_head(t: &[u8], r: usize) -> Head
     }
     Head {
         operands: ACC_OPERANDS,
-        end: r + 4,
+        end: r + ACC_BYTES,
     }
 }
 
 // `eq` or `ne`, of which the first letter is there, and the second is b.
 fn rel_head(t: &[u8], r: usize, b: u8) -> Head
-    requires { ⌜ (getD (now t) r 0 ≡ 9) × (isRel (getD (now t) (r + 1) 0 ∷ b ∷ []) ≡ true) ⌝ }
+    requires { ⌜ (getD (now t) r 0 ≡ tab) × (isRel (getD (now t) (r + 1) 0 ∷ b ∷ []) ≡ true) ⌝ }
     ensures { λ h. ⌜ AtomHead (now (t .entry)) r h ⌝ }
 {
     if read_bytes::byte_at(t, r + 2) != b {
@@ -151,13 +155,13 @@ fn rel_head(t: &[u8], r: usize, b: u8) -> Head
     }
     Head {
         operands: REL_OPERANDS,
-        end: r + 3,
+        end: r + REL_BYTES,
     }
 }
 
 // The word after the tab at r. Whether its field ends there shows where the next begins.
 fn atom_head(t: &[u8], r: usize) -> Head
-    requires { ⌜ getD (now t) r 0 ≡ 9 ⌝ }
+    requires { ⌜ getD (now t) r 0 ≡ tab ⌝ }
     ensures { λ h. ⌜ AtomHead (now (t .entry)) r h ⌝ }
 {
     let b = read_bytes::byte_at(t, r + 1);
@@ -171,7 +175,7 @@ fn atom_head(t: &[u8], r: usize) -> Head
 
 // The end of the atom after the tab at r, or r where there is none.
 fn atom_end(t: &[u8], r: usize) -> usize
-    requires { ⌜ getD (now t) r 0 ≡ 9 ⌝ }
+    requires { ⌜ getD (now t) r 0 ≡ tab ⌝ }
     ensures { λ e. ⌜ AtomEnd (now (t .entry)) r e ⌝ }
 {
     let h = atom_head(t, r);
@@ -185,14 +189,14 @@ fn atom_end(t: &[u8], r: usize) -> usize
     }
 }
 
-// The fields after `from`, if they are at most n atoms.
+// The fields after `from`, if they are at most so many atoms.
 fn formula_end(t: &[u8], from: usize, most: usize) -> Fields
     requires { ⌜ from ≤ length (now t) ⌝ }
     ensures { λ f. ⌜ FieldsRead (isFormula most) (now (t .entry)) from f ⌝ }
 {
     let mut r = from;
     let mut n = most;
-    while read_bytes::byte_at(t, r) == TAB {
+    while read_bytes::byte_at(t, r) == Byte::TAB {
         if n == 0 {
             return Fields::Bad;
         }
@@ -206,12 +210,12 @@ fn formula_end(t: &[u8], from: usize, most: usize) -> Fields
     Fields::Upto(r)
 }
 
-// The fields after r, if they are a condition and then atoms, at most n in all: the first atom does not begin as `acc`.
+// The fields after r, if they are a condition and then atoms, at most so many in all: the first atom does not begin as `acc`.
 fn condition_end(t: &[u8], r: usize, most: usize) -> Fields
     requires { ⌜ r ≤ length (now t) ⌝ }
     ensures { λ f. ⌜ FieldsRead (conditionFirst most) (now (t .entry)) r f ⌝ }
 {
-    if read_bytes::byte_at(t, r) != TAB {
+    if read_bytes::byte_at(t, r) != Byte::TAB {
         return Fields::Bad;
     }
     if read_bytes::byte_at(t, r + 1) == b'a' {

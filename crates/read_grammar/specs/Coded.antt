@@ -9,8 +9,12 @@ use Rattle.rules.specs.Limits.{most-classes, most-fields, most-methods, most-lo
 use Rattle.rules.specs.Grammar.{form, first-statement, afterMethod, afterMain}
 use Rattle.rules.specs.Places as Places
 use Rattle.rules.specs.Places.{Branch, beforeElse, afterElse, inLoop, stageNumber, oneMoreIf}
-use Rattle.read_grammar.specs.Rows.{kindNumbered}
+use Rattle.read_grammar.specs.Rows.{class-kind, field-kind, method-kind, main-kind, var-kind, return-kind, if-kind, else-kind, join-kind, end-kind, loop-kind, again-kind, kindNumbered}
 use Rattle.read_grammar.specs.declared.Place.{Place}
+
+-- the open branches and loops are below this number: four, each of two bits
+abbrev pub open-limit : ℕ
+open-limit = 256
 
 unfoldable pub branchNumber : Branch → ℕ
 branchNumber beforeElse = 1
@@ -37,26 +41,26 @@ coded p =
 
 unfoldable pub fits : ℕ → Place → Bool
 fits k s =
-    cond (eqb k 12) (not (s .main))
-    (cond (eqb k 16) (eqb (s .branches % 4) 1)
-    (cond (eqb k 17) (eqb (s .branches % 4) 2)
-    (cond (eqb k 22) (eqb (s .branches % 4) 3)
-    (cond (eqb k 18) (eqb (s .branches) 0)
+    cond (eqb k return-kind) (not (s .main))
+    (cond (eqb k else-kind) (eqb (s .branches % 4) 1)
+    (cond (eqb k join-kind) (eqb (s .branches % 4) 2)
+    (cond (eqb k again-kind) (eqb (s .branches % 4) 3)
+    (cond (eqb k end-kind) (eqb (s .branches) 0)
     true))))
 
 unfoldable pub inPlace : ℕ → Place → Bool
 inPlace k s = between (stageNumber (form (kindNumbered k) .first)) (stageNumber (form (kindNumbered k) .last)) (s .stage) && fits k s
 
 unfoldable pub stageAfter : ℕ → Bool → ℕ → ℕ
-stageAfter k main next = cond (eqb k 18) (cond main (stageNumber afterMain) (stageNumber afterMethod)) next
+stageAfter k main next = cond (eqb k end-kind) (cond main (stageNumber afterMain) (stageNumber afterMethod)) next
 
 unfoldable pub branchesAfter : ℕ → ℕ → ℕ
 branchesAfter k n =
-    cond (eqb k 15) (1 + 4 * n)
-    (cond (eqb k 16) (2 + 4 * (n / 4))
-    (cond (eqb k 17) (n / 4)
-    (cond (eqb k 21) (3 + 4 * n)
-    (cond (eqb k 22) (n / 4)
+    cond (eqb k if-kind) (1 + 4 * n)
+    (cond (eqb k else-kind) (2 + 4 * (n / 4))
+    (cond (eqb k join-kind) (n / 4)
+    (cond (eqb k loop-kind) (3 + 4 * n)
+    (cond (eqb k again-kind) (n / 4)
     n))))
 
 -- the same place at another stage
@@ -77,12 +81,12 @@ unfoldable pub placeAfter : ℕ → Place → Place
 placeAfter k s =
     record {
       stage = stageAfter k (s .main) (stageNumber (form (kindNumbered k) .next));
-      main = eqb k 6 || s .main;
+      main = eqb k main-kind || s .main;
       branches = branchesAfter k (s .branches);
-      classes = oneMoreIf (eqb k 1) (s .classes);
-      fields = cond (eqb k 1) 0 (oneMoreIf (eqb k 2) (s .fields));
-      methods = oneMoreIf (eqb k 3) (s .methods);
-      locals = cond (eqb k 3 || eqb k 6) 0 (oneMoreIf (eqb k 7) (s .locals));
+      classes = oneMoreIf (eqb k class-kind) (s .classes);
+      fields = cond (eqb k class-kind) 0 (oneMoreIf (eqb k field-kind) (s .fields));
+      methods = oneMoreIf (eqb k method-kind) (s .methods);
+      locals = cond (eqb k method-kind || eqb k main-kind) 0 (oneMoreIf (eqb k var-kind) (s .locals));
       statements = oneMoreIf (leb first-statement k) (s .statements);
     }
 
@@ -92,7 +96,7 @@ withinLimits s =
     && (leb (s .fields) most-fields
     && (leb (s .methods) most-methods
     && (leb (s .locals) most-locals
-    && (leb (s .statements) most-statements && ltb (s .branches) 256))))
+    && (leb (s .statements) most-statements && ltb (s .branches) open-limit))))
 
 -- q is the place after a line of kind k, at a place that is within the limits
 pub record AfterWithin (k : ℕ) (q : Place) : Type 0 where

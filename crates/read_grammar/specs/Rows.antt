@@ -15,9 +15,62 @@ use Rattle.rules.specs.Places.{stageNumber}
 use Rattle.read_words.specs.Words.{kindAt}
 use Rattle.read_grammar.specs.declared.Row.{Row}
 
+-- the numbers of kinds, as `kindNumber` has them
+abbrev pub class-kind : ℕ
+class-kind = 1
+
+abbrev pub field-kind : ℕ
+field-kind = 2
+
+abbrev pub method-kind : ℕ
+method-kind = 3
+
+abbrev pub main-kind : ℕ
+main-kind = 6
+
+abbrev pub var-kind : ℕ
+var-kind = 7
+
+abbrev pub set-kind : ℕ
+set-kind = 8
+
+abbrev pub let-kind : ℕ
+let-kind = 9
+
+abbrev pub new-kind : ℕ
+new-kind = 10
+
+abbrev pub call-kind : ℕ
+call-kind = 11
+
+abbrev pub return-kind : ℕ
+return-kind = 12
+
+abbrev pub if-kind : ℕ
+if-kind = 15
+
+abbrev pub else-kind : ℕ
+else-kind = 16
+
+abbrev pub join-kind : ℕ
+join-kind = 17
+
+abbrev pub end-kind : ℕ
+end-kind = 18
+
+abbrev pub loop-kind : ℕ
+loop-kind = 21
+
+abbrev pub again-kind : ℕ
+again-kind = 22
+
 -- the kind with a number; `end` where there is none
 unfoldable pub kindNumbered : ℕ → Kind
 kindNumbered n = withDefault (statement End) (kindAt n)
+
+-- Operands are numbered from 1 on, an expression last.
+abbrev pub last-operand : ℕ
+last-operand = 11
 
 unfoldable pub operandNumber : Operand → ℕ
 operandNumber (new classes) = 1
@@ -30,12 +83,15 @@ operandNumber (variable read) = 7
 operandNumber (variable assigned) = 8
 operandNumber (member field) = 9
 operandNumber (member method) = 10
-operandNumber expression = 11
+operandNumber expression = last-operand
 
--- to the base 16, the first operand lowest
+abbrev pub operand-base : ℕ
+operand-base = 16
+
+-- to this base, the first operand lowest
 unfoldable pub operandsNumber : List Operand → ℕ
 operandsNumber [] = 0
-operandsNumber (o ∷ os) = operandNumber o + 16 * operandsNumber os
+operandsNumber (o ∷ os) = operandNumber o + operand-base * operandsNumber os
 
 unfoldable pub tailNumber : Tail → ℕ
 tailNumber nothing = 0
@@ -59,7 +115,7 @@ rowNumber r = r .operands + 65536 * (r .tail + 16 * (r .first + 16 * (r .last + 
 
 -- a field that stands for the operand with this number, and a line's end for the tail with this number
 unfoldable pub fitsOperand : ℕ → Name → Bool
-fitsOperand n w = cond (eqb n 11) (isExpr w) (isName w)
+fitsOperand n w = cond (eqb n last-operand) (isExpr w) (isName w)
 
 unfoldable pub fitsTail : ℕ → List Name → Bool
 fitsTail n ws =

@@ -12,10 +12,12 @@ ghost use Rattle.read_grammar.specs.Rows.{kindNumbered, rowOf, rowNumber
 
 // THE ROW OF A KIND
 
-// The operands, by their numbers.
+// The operands, by their numbers; several as one number to the base 16, the first lowest.
 pub struct OperandNumber {}
 
 impl OperandNumber {
+    pub const BASE: u32 = 16;
+
     pub const NEW_CLASS: u32 = 1;
 
     pub const NEW_FIELD: u32 = 2;
@@ -61,14 +63,27 @@ impl Stage {
     pub const AFTER_MAIN: u32 = 8;
 }
 
-// What the grammar says of a kind of line: its operands to the base 16, the first lowest; what follows them; the stages at which it may
-// stand; and the stage after it.
+// What the grammar says of a kind of line: its operands as one number; what follows them; the stages at which it may stand; and the stage
+// after it.
 pub struct Row {
     pub operands: u32,
     pub tail: u32,
     pub first: u32,
     pub last: u32,
     pub next: u32,
+}
+
+// A row as one number to the base 16: what each part of it counts there.
+impl Row {
+    const BASE: u32 = 16;
+
+    const TAIL: u32 = 0x1_0000;
+
+    const FIRST: u32 = 0x10_0000;
+
+    const LAST: u32 = 0x100_0000;
+
+    const NEXT: u32 = 0x1000_0000;
 }
 
 // From the right: four operands, tail, first stage, last stage, next stage.
@@ -108,18 +123,18 @@ pub fn row_of(kind: u8) -> Row
 {
     let n = row_number(kind);
     Row {
-        operands: n % 65536,
-        tail: n / 65536 % 16,
-        first: n / 1048576 % 16,
-        last: n / 16777216 % 16,
-        next: n / 268435456,
+        operands: n % Row::TAIL,
+        tail: n / Row::TAIL % Row::BASE,
+        first: n / Row::FIRST % Row::BASE,
+        last: n / Row::LAST % Row::BASE,
+        next: n / Row::NEXT,
     }
 }
 
 // THE PLACE OF A LINE
 
-// Where a line stands: the stage by its number, whether `main` is above, the open branches and loops to the base 4, the innermost lowest
-// (1 before its `else`, 2 after it, 3 a loop); and what the lines above have used of each limit.
+// Where a line stands: the stage by its number, whether `main` is above, the open branches and loops as one number (`places::Open`), and
+// what the lines above have used of each limit.
 pub struct Place {
     pub stage: u32,
     pub main: bool,

@@ -9,11 +9,24 @@ ghost use Prim.Native.Nat.{_≤_, _<_};
 ghost use Rattle.rules.specs.Limits.{most-classes, most-fields, most-methods, most-locals};
 ghost use Rattle.rules.specs.Grammar.{form, first-statement, IsKindNumber};
 ghost use Rattle.rules.specs.Places.{firstPlace, stageNumber};
-ghost use Rattle.read_grammar.specs.Rows.{kindNumbered};
-ghost use Rattle.read_grammar.specs.Coded.{coded, fits, inPlace, stageAfter, branchesAfter, atStage, placeAfter, withinLimits, AfterWithin};
+ghost use Rattle.read_grammar.specs.Rows.{class-kind, field-kind, method-kind, main-kind, var-kind, kindNumbered};
+ghost use Rattle.read_grammar.specs.Coded.{open-limit, coded, fits, inPlace, stageAfter, branchesAfter, atStage, placeAfter, withinLimits, AfterWithin};
 
-// Numbers of open branches and loops are below this one: each is two bits.
-const OPEN_BRANCHES: usize = 1 << (2 * Machine::BRANCHES);
+// The open branches and loops as one number to the base 4, the innermost lowest: a branch before its `else`, after it, or a loop.
+struct Open {}
+
+impl Open {
+    const BASE: usize = 4;
+
+    const BEFORE_ELSE: usize = 1;
+
+    const AFTER_ELSE: usize = 2;
+
+    const LOOP: usize = 3;
+
+    // What such numbers are below: each of those open is two bits.
+    const LIMIT: usize = 1 << (2 * Machine::BRANCHES);
+}
 
 pub fn first_place() -> Place
     ensures { λ r. ⌜ r ≡ coded firstPlace ⌝ }
@@ -36,9 +49,9 @@ fn fits(kind: u8, p: Place) -> bool
 {
     match kind {
         Kind::RETURN => !p.main,
-        Kind::ELSE => p.branches % 4 == 1,
-        Kind::JOIN => p.branches % 4 == 2,
-        Kind::AGAIN => p.branches % 4 == 3,
+        Kind::ELSE => p.branches % Open::BASE == Open::BEFORE_ELSE,
+        Kind::JOIN => p.branches % Open::BASE == Open::AFTER_ELSE,
+        Kind::AGAIN => p.branches % Open::BASE == Open::LOOP,
         Kind::END => p.branches == 0,
         _ => true,
     }
@@ -72,15 +85,15 @@ fn stage_after(kind: u8, main: bool, next: u32) -> u32
 }
 
 fn branches_after(kind: u8, n: usize) -> usize
-    requires { ⌜ n < 256 ⌝ }
+    requires { ⌜ n < open-limit ⌝ }
     ensures { λ r. ⌜ r ≡ branchesAfter kind n ⌝ }
 {
     match kind {
-        Kind::IF => 1 + 4 * n,
-        Kind::ELSE => 2 + 4 * (n / 4),
-        Kind::JOIN => n / 4,
-        Kind::LOOP => 3 + 4 * n,
-        Kind::AGAIN => n / 4,
+        Kind::IF => Open::BEFORE_ELSE + Open::BASE * n,
+        Kind::ELSE => Open::AFTER_ELSE + Open::BASE * (n / Open::BASE),
+        Kind::JOIN => n / Open::BASE,
+        Kind::LOOP => Open::LOOP + Open::BASE * n,
+        Kind::AGAIN => n / Open::BASE,
         _ => n,
     }
 }
@@ -88,7 +101,7 @@ fn branches_after(kind: u8, n: usize) -> usize
 // One class more, with no field yet.
 fn with_class(p: Place, stage: u32) -> Place
     requires { ⌜ p .classes ≤ most-classes ⌝ }
-    ensures { λ r. ⌜ r ≡ atStage stage (placeAfter 1 p) ⌝ }
+    ensures { λ r. ⌜ r ≡ atStage stage (placeAfter class-kind p) ⌝ }
 {
     Place {
         stage,
@@ -105,7 +118,7 @@ fn with_class(p: Place, stage: u32) -> Place
 // One field more.
 fn with_field(p: Place, stage: u32) -> Place
     requires { ⌜ p .fields ≤ most-fields ⌝ }
-    ensures { λ r. ⌜ r ≡ atStage stage (placeAfter 2 p) ⌝ }
+    ensures { λ r. ⌜ r ≡ atStage stage (placeAfter field-kind p) ⌝ }
 {
     Place {
         stage,
@@ -122,7 +135,7 @@ fn with_field(p: Place, stage: u32) -> Place
 // One method more, with no local yet.
 fn with_method(p: Place, stage: u32) -> Place
     requires { ⌜ p .methods ≤ most-methods ⌝ }
-    ensures { λ r. ⌜ r ≡ atStage stage (placeAfter 3 p) ⌝ }
+    ensures { λ r. ⌜ r ≡ atStage stage (placeAfter method-kind p) ⌝ }
 {
     Place {
         stage,
@@ -154,7 +167,7 @@ fn with_stage(p: Place, stage: u32) -> Place
 
 // `main`, with no local yet.
 fn with_main(p: Place, stage: u32) -> Place
-    ensures { λ r. ⌜ r ≡ atStage stage (placeAfter 6 p) ⌝ }
+    ensures { λ r. ⌜ r ≡ atStage stage (placeAfter main-kind p) ⌝ }
 {
     Place {
         stage,
@@ -171,7 +184,7 @@ fn with_main(p: Place, stage: u32) -> Place
 // One local more.
 fn with_local(p: Place, stage: u32) -> Place
     requires { ⌜ p .locals ≤ most-locals ⌝ }
-    ensures { λ r. ⌜ r ≡ atStage stage (placeAfter 7 p) ⌝ }
+    ensures { λ r. ⌜ r ≡ atStage stage (placeAfter var-kind p) ⌝ }
 {
     Place {
         stage,
@@ -238,7 +251,7 @@ pub fn is_within(q: Place, kind: u8) -> bool
             if Machine::STATEMENTS < q.statements {
                 return false;
             }
-            q.branches < OPEN_BRANCHES
+            q.branches < Open::LIMIT
         }
     }
 }

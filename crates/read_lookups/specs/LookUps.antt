@@ -14,17 +14,21 @@ use Rattle.read_scopes.specs.declared.Above.{Above}
 use Rattle.read_names.specs.declared.Row.{Row}
 use Rattle.tables.specs.Decode.{run}
 use Rattle.read_names.specs.Rows.{nameIn, givesAt, noSpan, variables-first}
-use Rattle.read_scopes.specs.Meanings.{variableAt, resultIn, declarationsIn, scopeIn, blockIn}
+use Rattle.read_scopes.specs.Meanings.{namesFrom, variableAt, resultIn, declarationsIn, scopeIn, blockIn}
 
--- the place of the type of the variable v; 15 is none
+-- the number after those of the variables
+abbrev pub no-variable : ℕ
+no-variable = 15
+
+-- the place of the type of the variable v
 unfoldable pub typeOf : List ℕ → ℕ → Span
-typeOf w v = cond (eqb v 15) noSpan (givesAt w (variables-first + v))
+typeOf w v = cond (eqb v no-variable) noSpan (givesAt w (variables-first + v))
 
 -- r is the number of the variable x among vs
 pub record Looked (t w : List ℕ) (vs : List Variable) (x : Name) (r : ℕ) : Type 0 where
   pub number : r ≡ variableNumber vs x
-  pub within : r ≤ 15
-  pub known : inScope vs x ≡ ltb r 15
+  pub within : r ≤ no-variable
+  pub known : inScope vs x ≡ ltb r no-variable
   pub type : variableType vs x ≡ nameIn t (typeOf w r)
 
 -- n variables from the number v on, and `result` if a line may name it
@@ -43,6 +47,10 @@ isNew x l = not (reserved x) && not (any (eqName x) l)
 abbrev pub mayDeclare : List ℕ → List ℕ → Names → Span → Span → Bool
 mayDeclare t w c name gives =
     isType (declarationsIn t w c) (nameIn t gives) && isNew (nameIn t name) (map (λ v. v .name) (blockIn t w c .variables))
+
+-- a member of a class that has those of n rows from i on,
+abbrev pub mayAdd : List ℕ → List ℕ → Names → ℕ → ℕ → Span → Span → Bool
+mayAdd t w c i n name gives = isType (declarationsIn t w c) (nameIn t gives) && isNew (nameIn t name) (namesFrom t w i n)
 
 -- a field of the present class,
 abbrev pub mayAddField : List ℕ → List ℕ → Names → Above → Span → Span → Bool

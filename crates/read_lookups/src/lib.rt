@@ -15,16 +15,16 @@ use read_scopes::Above;
 use read_scopes::Names;
 use read_scopes::Range;
 ghost use mathlib.Core.Path.{_≡_};
-ghost use mathlib.Core.Bool.{_&&_};
 ghost use mathlib.Core.List.{map};
 ghost use Prim.Native.Nat.{_+_, _≤_};
 ghost use lib.ListN.{length};
 ghost use Rattle.rules.specs.Base.{is, eqName};
 ghost use Rattle.rules.specs.Limits.{work-bytes};
+ghost use Rattle.rules.specs.Syntax.{result-variable};
 ghost use Rattle.rules.specs.Names.{classNumber, isClass, isType, inScope, variableType};
 ghost use Rattle.read_names.specs.Rows.{most-rows, nameIn};
 ghost use Rattle.read_scopes.specs.Meanings.{NamesFit, AboveFits, namesFrom, declarationsIn, variablesIn, blockIn};
-ghost use Rattle.read_lookups.specs.LookUps.{mayDeclare, mayAddField, mayAddMethod, typeOf, ownIn, Looked, isNew};
+ghost use Rattle.read_lookups.specs.LookUps.{no-variable, mayDeclare, mayAdd, mayAddField, mayAddMethod, typeOf, ownIn, Looked, isNew};
 
 // CLASSES AND TYPES
 
@@ -81,7 +81,7 @@ pub fn is_type(text: &[u8], work: &[u8], c: Names, x: &[u8]) -> bool
 
 // Of n variables from the number `from` on, and `result` if the line may name it.
 fn own_variable(text: &[u8], work: &[u8], from: usize, n: usize, result: bool, x: &[u8]) -> usize
-    requires { ⌜ (length (now work) ≡ work-bytes) × (from + n ≤ 14) ⌝ }
+    requires { ⌜ (length (now work) ≡ work-bytes) × (from + n ≤ result-variable) ⌝ }
     ensures { λ r. ⌜ Looked (now (text .entry)) (now (work .entry)) (ownIn (now (text .entry)) (now (work .entry)) from n result) (now (x .entry)) r ⌝ }
 {
     let i = read_names::find(
@@ -104,7 +104,7 @@ fn own_variable(text: &[u8], work: &[u8], from: usize, n: usize, result: bool, x
     read_names::NO_VARIABLE
 }
 
-// The number of the variable that is named x: 0 is `this`, 1 the parameter, 2 to 13 are locals, 14 is `result`, 15 none.
+// The number of the variable that is named x, or NO_VARIABLE.
 pub fn variable(text: &[u8], work: &[u8], c: Names, x: &[u8]) -> usize
     requires { ⌜ (length (now work) ≡ work-bytes) × NamesFit c ⌝ }
     ensures { λ r. ⌜ Looked (now (text .entry)) (now (work .entry)) (variablesIn (now (text .entry)) (now (work .entry)) c) (now (x .entry)) r ⌝ }
@@ -122,7 +122,7 @@ pub fn variable(text: &[u8], work: &[u8], c: Names, x: &[u8]) -> usize
 
 // The type of the variable v.
 pub fn type_of(work: &[u8], v: usize) -> Span
-    requires { ⌜ (length (now work) ≡ work-bytes) × (v ≤ 15) ⌝ }
+    requires { ⌜ (length (now work) ≡ work-bytes) × (v ≤ no-variable) ⌝ }
     ensures { λ r. ⌜ r ≡ typeOf (now (work .entry)) v ⌝ }
 {
     if v == read_names::NO_VARIABLE {
@@ -146,7 +146,7 @@ pub fn in_scope(text: &[u8], work: &[u8], c: Names, x: &[u8]) -> bool
     variable(text, work, c, x) < read_names::NO_VARIABLE
 }
 
-// FIELDS OF A LINE
+// NEW NAMES
 
 // Is x no reserved word, and no name of n rows from `from` on?
 pub fn is_new(text: &[u8], work: &[u8], from: usize, n: usize, x: &[u8]) -> bool
@@ -193,6 +193,7 @@ pub fn may_declare(text: &[u8], work: &[u8], c: Names, name: Span, gives: Span) 
     false
 }
 
+// The same of n rows of this range, those of its kind beginning at `from`.
 pub fn is_new_member(text: &[u8], work: &[u8], from: usize, r: Range, x: &[u8]) -> bool
     requires { ⌜ (length (now work) ≡ work-bytes) × (from + r .first + r .count ≤ most-rows) ⌝ }
     ensures { λ b. ⌜ b ≡ isNew (now (x .entry)) (namesFrom (now (text .entry)) (now (work .entry)) (from + r .first) (r .count)) ⌝ }
@@ -211,7 +212,7 @@ fn may_add(
     gives: Span,
 ) -> bool
     requires { ⌜ (length (now work) ≡ work-bytes) × NamesFit c × (from + r .first + r .count ≤ most-rows) ⌝ }
-    ensures { λ b. ⌜ b ≡ (isType (declarationsIn (now (text .entry)) (now (work .entry)) c) (nameIn (now (text .entry)) gives) && isNew (nameIn (now (text .entry)) name) (namesFrom (now (text .entry)) (now (work .entry)) (from + r .first) (r .count))) ⌝ }
+    ensures { λ b. ⌜ b ≡ mayAdd (now (text .entry)) (now (work .entry)) c (from + r .first) (r .count) name gives ⌝ }
 {
     if is_type(text, work, c, read_names::name_in(text, gives)) {
         return is_new_member(text, work, from, r, read_names::name_in(text, name));

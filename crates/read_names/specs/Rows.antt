@@ -9,6 +9,7 @@ use Rattle.rules.specs.Base.{Name, eqName}
 use Rattle.tables.specs.Layout.{names-at}
 use Rattle.tables.specs.Decode.{byteAt, halfAt}
 use Rattle.tables.specs.Stores.{putByte, putHalf}
+use Rattle.read_bytes.specs.Marks.{byte-values, half-values}
 use Rattle.read_names.specs.declared.Span.{Span}
 use Rattle.read_names.specs.declared.Row.{Row}
 
@@ -39,6 +40,9 @@ rowPlace i = names-at + i * row-bytes
 -- variable's, that of a method's result) and of the type that it takes (that of a method's parameter). A place is the start of a name
 -- (2 bytes) and its length (a byte). The last byte is the key of the name: names that have different keys are different. A row whose key
 -- is not that of its name has no name.
+
+abbrev pub span-bytes : ℕ
+span-bytes = 3
 
 abbrev pub nameIn : List ℕ → Span → Name
 nameIn t s = take (s .len) (drop (s .start) t)
@@ -107,11 +111,11 @@ pub record NextKey (w : List ℕ) (i n from k r : ℕ) : Type 0 where
 -- WHAT IS WRITTEN
 
 pub record SpanFits (s : Span) : Type 0 where
-  pub start : s .start < 65536
-  pub len : s .len < 256
+  pub start : s .start < half-values
+  pub len : s .len < byte-values
 
 pub record RowFits (r : Row) : Type 0 where
-  pub owner : r .owner < 256
+  pub owner : r .owner < byte-values
   pub name : SpanFits (r .name)
   pub gives : SpanFits (r .gives)
   pub takes : SpanFits (r .takes)

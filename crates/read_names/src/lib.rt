@@ -1,4 +1,5 @@
 // Names as rows of the work area: a place in the text, types, an owner and a key of one byte; the search for a name.
+use rules::Machine;
 use tables::Layout;
 ghost use mathlib.Core.Path.{_≡_};
 ghost use mathlib.Core.Bool.{true, false, _||_};
@@ -8,7 +9,8 @@ ghost use lib.ListN.{length};
 ghost use Rattle.rules.specs.Base.{index};
 ghost use Rattle.rules.specs.Limits.{work-bytes};
 ghost use Rattle.tables.specs.Decode.{run};
-ghost use Rattle.read_names.specs.Rows.{most-rows, nameIn, spanAt, noSpan, ownerAt, writtenAt, givesAt, takesAt, keyOf, keyAt, nameAt, entryAt, isEntry, NextKey, any-owner, SpanFits, RowFits, putSpan, putRow};
+ghost use Rattle.read_bytes.specs.Marks.{byte-values};
+ghost use Rattle.read_names.specs.Rows.{most-rows, span-bytes, nameIn, spanAt, noSpan, ownerAt, writtenAt, givesAt, takesAt, keyOf, keyAt, nameAt, entryAt, isEntry, NextKey, any-owner, SpanFits, RowFits, putSpan, putRow};
 
 // A name by its place in the text.
 pub struct Span {
@@ -24,22 +26,42 @@ pub struct Row {
     pub takes: Span,
 }
 
-const ROW_BYTES: usize = 11;
+// In bytes: the length of a place in the text is the last of three.
+impl Span {
+    const BYTES: usize = 3;
+
+    const LEN: usize = Span::BYTES - 1;
+}
+
+// In bytes: a row has its owner first, then three places in the text, then its key.
+impl Row {
+    const NAME: usize = 1;
+
+    const GIVES: usize = Row::NAME + Span::BYTES;
+
+    const TAKES: usize = Row::GIVES + Span::BYTES;
+
+    const KEY: usize = Row::TAKES + Span::BYTES;
+
+    const BYTES: usize = Row::KEY + 1;
+}
 
 // The first row of each kind.
 pub const CLASSES: usize = 0;
 
-pub const FIELDS: usize = 16;
+pub const FIELDS: usize = CLASSES + Machine::CLASSES;
 
-pub const METHODS: usize = 144;
+pub const METHODS: usize = FIELDS + Layout::FIELD_NAMES;
 
-pub const VARIABLES: usize = 208;
+pub const VARIABLES: usize = METHODS + Machine::METHODS;
 
+// No class has this number: a search with it is over all rows.
 pub const ANY_OWNER: usize = 255;
 
-pub const RESULT: usize = 14;
+// The variable `result`: `this`, the parameter and the locals come before it.
+pub const RESULT: usize = 2 + Machine::LOCALS;
 
-pub const NO_VARIABLE: usize = 15;
+pub const NO_VARIABLE: usize = RESULT + 1;
 
 // NAMES AND ROWS
 
@@ -66,11 +88,11 @@ pub fn no_span() -> Span
 }
 
 fn span_at(work: &[u8], at: usize) -> Span
-    requires { ⌜ at + 3 ≤ length (now work) ⌝ }
+    requires { ⌜ at + span-bytes ≤ length (now work) ⌝ }
     ensures { λ r. ⌜ (r ≡ spanAt (now (work .entry)) at) × SpanFits r ⌝ }
 {
     let start = tables::half_at(work, at);
-    let len = tables::byte_at(work, at + 2);
+    let len = tables::byte_at(work, at + Span::LEN);
     Span { start, len }
 }
 
@@ -78,32 +100,37 @@ pub fn owner_at(work: &[u8], i: usize) -> usize
     requires { ⌜ (length (now work) ≡ work-bytes) × (i < most-rows) ⌝ }
     ensures { λ r. ⌜ r ≡ ownerAt (now (work .entry)) i ⌝ }
 {
-    tables::byte_at(work, Layout::NAMES + i * ROW_BYTES)
+    tables::byte_at(work, Layout::NAMES + i * Row::BYTES)
 }
 
 fn written_at(work: &[u8], i: usize) -> Span
     requires { ⌜ (length (now work) ≡ work-bytes) × (i < most-rows) ⌝ }
     ensures { λ r. ⌜ (r ≡ writtenAt (now (work .entry)) i) × SpanFits r ⌝ }
 {
-    span_at(work, Layout::NAMES + i * ROW_BYTES + 1)
+    span_at(work, Layout::NAMES + i * Row::BYTES + Row::NAME)
 }
 
 fn key_at(work: &[u8], i: usize) -> usize
     requires { ⌜ (length (now work) ≡ work-bytes) × (i < most-rows) ⌝ }
     ensures { λ r. ⌜ r ≡ keyAt (now (work .entry)) i ⌝ }
 {
-    tables::byte_at(work, Layout::NAMES + i * ROW_BYTES + 10)
+    tables::byte_at(work, Layout::NAMES + i * Row::BYTES + Row::KEY)
 }
+
+// A key is made of the last two bytes of a name: the one before the last counts so often, and there are so many keys.
+const KEY_FACTOR: usize = 10;
+
+const KEYS: usize = 256;
 
 // The key of a name.
 fn key(x: &[u8]) -> usize
-    ensures { λ r. ⌜ (r ≡ keyOf (now (x .entry))) × (r < 256) ⌝ }
+    ensures { λ r. ⌜ (r ≡ keyOf (now (x .entry))) × (r < byte-values) ⌝ }
 {
     let n = x.len();
     if n < 2 {
         return read_bytes::byte_at(x, 0) as usize;
     }
-    (x[n - 1] as usize + 10 * (x[n - 2] as usize)) % 256
+    (x[n - 1] as usize + KEY_FACTOR * (x[n - 2] as usize)) % KEYS
 }
 
 // The name of the row i, which fits a row.
@@ -123,7 +150,7 @@ pub fn gives_at(work: &[u8], i: usize) -> Span
     requires { ⌜ (length (now work) ≡ work-bytes) × (i < most-rows) ⌝ }
     ensures { λ r. ⌜ r ≡ givesAt (now (work .entry)) i ⌝ }
 {
-    span_at(work, Layout::NAMES + i * ROW_BYTES + 4)
+    span_at(work, Layout::NAMES + i * Row::BYTES + Row::GIVES)
 }
 
 // The type that it takes.
@@ -131,17 +158,17 @@ pub fn takes_at(work: &[u8], i: usize) -> Span
     requires { ⌜ (length (now work) ≡ work-bytes) × (i < most-rows) ⌝ }
     ensures { λ r. ⌜ r ≡ takesAt (now (work .entry)) i ⌝ }
 {
-    span_at(work, Layout::NAMES + i * ROW_BYTES + 7)
+    span_at(work, Layout::NAMES + i * Row::BYTES + Row::TAKES)
 }
 
 // STORES
 
 fn put_span(work: &mut [u8], at: usize, s: Span)
-    requires { ⌜ (at + 3 ≤ length (now work)) × SpanFits s ⌝ }
+    requires { ⌜ (at + span-bytes ≤ length (now work)) × SpanFits s ⌝ }
     ensures { λ _. ⌜ now (work .exit) ≡ putSpan (now (work .entry)) at s ⌝ }
 {
     tables::put_half(work, at, s.start);
-    tables::put_byte(work, at + 2, s.len);
+    tables::put_byte(work, at + Span::LEN, s.len);
 }
 
 // Writes the row i.
@@ -149,15 +176,15 @@ pub fn put_row(text: &[u8], work: &mut [u8], i: usize, r: Row)
     requires { ⌜ (length (now work) ≡ work-bytes) × (i < most-rows) × RowFits r ⌝ }
     ensures { λ _. ⌜ now (work .exit) ≡ putRow (now (text .entry)) (now (work .entry)) i r ⌝ }
 {
-    let at = Layout::NAMES + i * ROW_BYTES;
+    let at = Layout::NAMES + i * Row::BYTES;
     let name = r.name;
     let gives = r.gives;
     let takes = r.takes;
     tables::put_byte(work, at, r.owner);
-    put_span(work, at + 1, name);
-    put_span(work, at + 4, gives);
-    put_span(work, at + 7, takes);
-    tables::put_byte(work, at + 10, key(name_in(text, name)));
+    put_span(work, at + Row::NAME, name);
+    put_span(work, at + Row::GIVES, gives);
+    put_span(work, at + Row::TAKES, takes);
+    tables::put_byte(work, at + Row::KEY, key(name_in(text, name)));
 }
 
 // THE SEARCH

@@ -8,9 +8,13 @@ use Rattle.rules.specs.Base.{Name, between}
 use Rattle.rules.specs.Text.{digit-zero, upTo, decimal}
 use Rattle.read_bytes.specs.Sets.{noDigit}
 
+-- those of the largest number
+abbrev pub most-digits : ℕ
+most-digits = 10
+
 -- how many digits a text begins with, among its first ten bytes
 unfoldable pub digitsIn : Name → ℕ
-digitsIn t = upTo noDigit (take 10 t)
+digitsIn t = upTo noDigit (take most-digits t)
 
 -- the bytes from `at` up to `end` are digits, at most ten, and `value` is the number that they write
 pub record Begun (l : Name) (at value end : ℕ) : Type 0 where

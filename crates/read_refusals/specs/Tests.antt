@@ -15,7 +15,9 @@ use Rattle.read_fields.specs.Cuts.{more}
 use Rattle.read_grammar.specs.Rows.{kindNumbered}
 use Rattle.read_scopes.specs.declared.Names.{Names}
 use Rattle.read_scopes.specs.declared.Above.{Above}
-use Rattle.read_scopes.specs.Meanings.{NamesFit, AboveFits, declarationsIn, variablesIn, scopeIn}
+use Rattle.read_scopes.specs.Meanings.{NamesFit, AboveFits, declarationsIn, variablesIn}
+use Rattle.read_types.specs.Types.{typeIn}
+use Rattle.read_tests.specs.Tests.{knownIn}
 use Rattle.read_refusals.specs.declared.Tests.{Tests}
 
 -- A LINE
@@ -63,16 +65,14 @@ exprTests t w c x =
 -- two fields that are expressions have types that agree
 abbrev pub exprsAgree : List ℕ → List ℕ → Names → Name → Name → Bool
 exprsAgree t w c x y =
-    Rules.agree
-    (Rules.exprType (declarationsIn t w c) (variablesIn t w c) (exprOf x))
-    (Rules.exprType (declarationsIn t w c) (variablesIn t w c) (exprOf y))
+    Rules.agree (typeIn t w c (exprOf x)) (typeIn t w c (exprOf y))
 
 module _ (t w : List ℕ) (c : Names) (a : Above) where
   -- of the field x with v before it
   unfoldable pub slotTests : Operand → Name → Name → Tests
   slotTests o v x =
       record {
-        known = Rules.known (declarationsIn t w c) (variablesIn t w c) (scopeIn t w c a) o v x;
+        known = knownIn t w c a o v x;
         typed = Rules.ofClass (declarationsIn t w c) (variablesIn t w c) o v x;
         assignable = Rules.mayBeAssigned (variablesIn t w c) o x;
       }
@@ -96,7 +96,7 @@ module _ (t w : List ℕ) (c : Names) (a : Above) where
   unfoldable pub tested : List Slot → Formula Name → Tests
   tested xs φ =
       record {
-        known = all (λ x. Rules.known (declarationsIn t w c) (variablesIn t w c) (scopeIn t w c a) (x .operand) (x .before) (x .name)) xs;
+        known = all (λ x. knownIn t w c a (x .operand) (x .before) (x .name)) xs;
         typed =
             all (λ x. Rules.ofClass (declarationsIn t w c) (variablesIn t w c) (x .operand) (x .before) (x .name)) xs
             && all (Rules.atomAgrees (declarationsIn t w c) (variablesIn t w c)) φ;

@@ -11,13 +11,14 @@ ghost use Rattle.rules.specs.Limits.{work-bytes};
 ghost use Rattle.rules.specs.Text.{isExpr};
 ghost use Rattle.rules.specs.Grammar.{IsKindNumber};
 ghost use Rattle.read_fields.specs.Cuts.{more};
+ghost use Rattle.read_grammar.specs.Rows.{set-kind, let-kind, new-kind, call-kind, return-kind};
 ghost use Rattle.read_scopes.specs.Meanings.{NamesFit};
 ghost use Rattle.read_refusals.specs.Tests.{lineAfter, Formed, intsIn, sidesIn, apartIn};
 
 // `set x f y`
 fn set_agrees(text: &[u8], work: &[u8], from: usize, c: Names) -> bool
     requires { ⌜ (length (now work) ≡ work-bytes) × NamesFit c × (from ≤ length (now text)) ⌝ }
-    ensures { λ r. ⌜ r ≡ sidesIn (now (text .entry)) (now (work .entry)) c (lineAfter (now (text .entry)) from 8) ⌝ }
+    ensures { λ r. ⌜ r ≡ sidesIn (now (text .entry)) (now (work .entry)) c (lineAfter (now (text .entry)) from set-kind) ⌝ }
 {
     let x = read_lookups::variable_type(text, work, c, crate::nth_field(text, from, 0));
     let f = read_lookups::field_type(text, work, c, x, crate::nth_field(text, from, 1));
@@ -28,7 +29,7 @@ fn set_agrees(text: &[u8], work: &[u8], from: usize, c: Names) -> bool
 // `let x e`
 fn let_agrees(text: &[u8], work: &[u8], from: usize, c: Names) -> bool
     requires { ⌜ (length (now work) ≡ work-bytes) × NamesFit c × (from ≤ length (now text)) × (isExpr (getD (more (drop from (now text))) 1 []) ≡ true) ⌝ }
-    ensures { λ r. ⌜ r ≡ sidesIn (now (text .entry)) (now (work .entry)) c (lineAfter (now (text .entry)) from 9) ⌝ }
+    ensures { λ r. ⌜ r ≡ sidesIn (now (text .entry)) (now (work .entry)) c (lineAfter (now (text .entry)) from let-kind) ⌝ }
 {
     let x = read_lookups::variable_type(text, work, c, crate::nth_field(text, from, 0));
     let e = read_types::expr_type(text, work, c, crate::nth_field(text, from, 1));
@@ -38,7 +39,7 @@ fn let_agrees(text: &[u8], work: &[u8], from: usize, c: Names) -> bool
 // `new x C`
 fn new_agrees(text: &[u8], work: &[u8], from: usize, c: Names) -> bool
     requires { ⌜ (length (now work) ≡ work-bytes) × NamesFit c × (from ≤ length (now text)) ⌝ }
-    ensures { λ r. ⌜ r ≡ sidesIn (now (text .entry)) (now (work .entry)) c (lineAfter (now (text .entry)) from 10) ⌝ }
+    ensures { λ r. ⌜ r ≡ sidesIn (now (text .entry)) (now (work .entry)) c (lineAfter (now (text .entry)) from new-kind) ⌝ }
 {
     let x = read_lookups::variable_type(text, work, c, crate::nth_field(text, from, 0));
     read_bytes::same(
@@ -50,7 +51,7 @@ fn new_agrees(text: &[u8], work: &[u8], from: usize, c: Names) -> bool
 // `call x y m z`: the result, and the argument
 fn call_agrees(text: &[u8], work: &[u8], from: usize, c: Names) -> bool
     requires { ⌜ (length (now work) ≡ work-bytes) × NamesFit c × (from ≤ length (now text)) ⌝ }
-    ensures { λ r. ⌜ r ≡ sidesIn (now (text .entry)) (now (work .entry)) c (lineAfter (now (text .entry)) from 11) ⌝ }
+    ensures { λ r. ⌜ r ≡ sidesIn (now (text .entry)) (now (work .entry)) c (lineAfter (now (text .entry)) from call-kind) ⌝ }
 {
     let x = read_lookups::variable_type(text, work, c, crate::nth_field(text, from, 0));
     let y = read_lookups::variable_type(text, work, c, crate::nth_field(text, from, 1));
@@ -64,7 +65,7 @@ fn call_agrees(text: &[u8], work: &[u8], from: usize, c: Names) -> bool
 // `return x`
 fn return_agrees(text: &[u8], work: &[u8], from: usize, c: Names) -> bool
     requires { ⌜ (length (now work) ≡ work-bytes) × NamesFit c × (from ≤ length (now text)) ⌝ }
-    ensures { λ r. ⌜ r ≡ sidesIn (now (text .entry)) (now (work .entry)) c (lineAfter (now (text .entry)) from 12) ⌝ }
+    ensures { λ r. ⌜ r ≡ sidesIn (now (text .entry)) (now (work .entry)) c (lineAfter (now (text .entry)) from return-kind) ⌝ }
 {
     let x = read_lookups::variable_type(text, work, c, crate::nth_field(text, from, 0));
     let r = read_lookups::variable_type(text, work, c, b"result");

@@ -1,6 +1,7 @@
 // Why a line is refused: the tests of its names and types (6, 7, 9).
 mod agreement;
 
+use read_bytes::Byte;
 use read_grammar::OperandNumber;
 use read_scopes::Above;
 use read_scopes::Names;
@@ -15,7 +16,7 @@ ghost use Rattle.rules.specs.Text.{isName, isExpr, isAtom, isFormula, formulaOf
 ghost use Rattle.rules.specs.Grammar.{isOperand};
 ghost use Rattle.rules.specs.Scope.{atomSlots};
 ghost use Rattle.read_fields.specs.Cuts.{more};
-ghost use Rattle.read_grammar.specs.Rows.{operandNumber};
+ghost use Rattle.read_grammar.specs.Rows.{last-operand, operandNumber};
 ghost use Rattle.read_scopes.specs.Meanings.{NamesFit};
 ghost use Rattle.read_tests.specs.Tests.{operandMeant};
 ghost use Rattle.read_refusals.specs.Tests.{lineAfter, Formed, CountsFit, bothTests, slotTests, exprTests, exprsAgree, accTests, cmpTests, tested, atomTests, lineTests};
@@ -78,7 +79,7 @@ pub fn nth_field(text: &[u8], from: usize, i: usize) -> &[u8]
 
 // The operand that has this number in a row of the grammar.
 fn operand_of(n: u32) -> Operand
-    requires { ⌜ (1 ≤ n) × (n ≤ 11) ⌝ }
+    requires { ⌜ (1 ≤ n) × (n ≤ last-operand) ⌝ }
     ensures { λ r. ⌜ operandNumber (operandMeant r) ≡ n ⌝ }
 {
     match n {
@@ -199,7 +200,7 @@ fn atom_tests(text: &[u8], work: &[u8], from: usize, c: Names, a: Above) -> Test
         assignable: true,
     };
     let mut r = from;
-    while read_bytes::byte_at(text, r) == 9 {
+    while read_bytes::byte_at(text, r) == Byte::TAB {
         let x = read_fields::next_field(text, r);
         let y = read_fields::next_field(text, x);
         let z = read_fields::next_field(text, y);
@@ -231,13 +232,13 @@ fn line_tests(text: &[u8], work: &[u8], from: usize, kind: u8, c: Names, a: Abov
     let mut r = from;
     while left != 0 {
         let e = read_fields::next_field(text, r);
-        let o = operand_of(left % 16);
+        let o = operand_of(left % OperandNumber::BASE);
         let s = r + 1;
         let f = field_tests(text, work, c, a, o, &text[b..r], &text[s..e]);
         t = both(t, f);
         b = s;
         r = e;
-        left = left / 16;
+        left = left / OperandNumber::BASE;
     }
     let f = atom_tests(text, work, r, c, a);
     both(t, f)

@@ -44,12 +44,18 @@ startOf t (suc i) = lineEnd t (startOf t i) + 1
 
 -- THE TABLE: 3 bytes a line, the end of its word (2 bytes) and the number of its kind
 
--- A line that is taken has at least 4 bytes.
+-- The bytes of the shortest line that is taken, with its LF; so a text has at most so many lines.
+abbrev pub least-line : ℕ
+least-line = 4
+
 abbrev pub most-lines : ℕ
 most-lines = 8192
 
+abbrev pub line-bytes : ℕ
+line-bytes = 3
+
 abbrev pub linePlace : ℕ → ℕ
-linePlace i = lines-at + 3 * i
+linePlace i = lines-at + line-bytes * i
 
 -- the word of line i
 abbrev pub wordIn : List ℕ → ℕ → Word

@@ -1,4 +1,5 @@
 // Pass 1: lines cut, each tested for form, place and limits (3, 4, 5, 8) and noted in a table of lines.
+use read_bytes::Byte;
 use read_bytes::Set;
 use read_fields::Fields;
 use read_grammar::Place;
@@ -10,15 +11,11 @@ ghost use Prim.Native.Nat.{_+_, _*_, _≤_, _<_};
 ghost use lib.ListN.{length};
 ghost use Rattle.rules.specs.Limits.{most-bytes, work-bytes};
 ghost use Rattle.rules.specs.Grammar.{last-kind, IsKindNumber};
+ghost use Rattle.read_bytes.specs.Marks.{half-values};
 ghost use Rattle.read_grammar.specs.Coded.{withinLimits};
 ghost use Rattle.read_scan.specs.Scans.{answerOf, nextPlace, PlacesLine, PlacesLineTo, Unformed, RefusesLine, ScansLine, verdictOf, scanText};
 ghost use Rattle.read_fields.specs.Spans.{FieldsRead, formedAs};
-ghost use Rattle.read_scan.specs.Table.{FirstWord, most-lines, wordIn, putLine, NotesLine, TableOf};
-
-const LINE_FEED: u8 = 10;
-
-// The bytes of a line's row in the table of lines.
-const LINE_BYTES: usize = 3;
+ghost use Rattle.read_scan.specs.Table.{FirstWord, least-line, most-lines, wordIn, putLine, NotesLine, TableOf};
 
 // The word that a line begins with: the number of its kind, or 0, and the word's end.
 pub struct Word {
@@ -89,13 +86,18 @@ pub fn place_line(p: Place, kind: u8) -> Placing
 
 // THE TABLE OF LINES: 3 bytes a line, the end of its word (2 bytes) and the number of its kind
 
+const LINE_BYTES: usize = 3;
+
+// Where in them the kind stands.
+const KIND: usize = 2;
+
 fn put_line(work: &mut [u8], i: usize, w: Word)
-    requires { ⌜ (length (now work) ≡ work-bytes) × (i < most-lines) × (w .end < 65536) ⌝ }
+    requires { ⌜ (length (now work) ≡ work-bytes) × (i < most-lines) × (w .end < half-values) ⌝ }
     ensures { λ _. ⌜ now (work .exit) ≡ putLine (now (work .entry)) i w ⌝ }
 {
     let at = Layout::LINES + LINE_BYTES * i;
     tables::put_half(work, at, w.end);
-    work[at + 2] = w.kind;
+    work[at + KIND] = w.kind;
 }
 
 // The word of line i.
@@ -105,7 +107,7 @@ pub fn line_word(work: &[u8], i: usize) -> Word
 {
     let at = Layout::LINES + LINE_BYTES * i;
     let end = tables::half_at(work, at);
-    let kind = work[at + 2];
+    let kind = work[at + KIND];
     Word { kind, end }
 }
 
@@ -135,7 +137,7 @@ fn refused_line(t: &[u8], at: usize) -> Refusal
     ensures { λ r. ⌜ RefusesLine (now (t .entry)) at r ⌝ }
 {
     let end = read_bytes::find(t, at, Set::LineEnd);
-    if read_bytes::byte_at(t, end) != LINE_FEED {
+    if read_bytes::byte_at(t, end) != Byte::LINE_FEED {
         return Refusal::BadByte;
     }
     Refusal::Malformed
@@ -143,7 +145,7 @@ fn refused_line(t: &[u8], at: usize) -> Refusal
 
 // The line that begins at `at`, with n lines above it. A line that has its form ends with its last field.
 fn scan_line(t: &[u8], work: &mut [u8], at: usize, n: usize, p: Place) -> ScannedLine
-    requires { ⌜ (at < length (now t)) × (withinLimits p ≡ true) × (length (now t) ≤ most-bytes) × (length (now work) ≡ work-bytes) × (4 * n ≤ at) ⌝ }
+    requires { ⌜ (at < length (now t)) × (withinLimits p ≡ true) × (length (now t) ≤ most-bytes) × (length (now work) ≡ work-bytes) × (least-line * n ≤ at) ⌝ }
     ensures { λ r. ⌜ ScansLine (now (t .entry)) at p r × NotesLine (now (t .entry)) (now (work .entry)) at n r (now (work .exit)) ⌝ }
 {
     let w = first_word(t, at);
@@ -151,7 +153,7 @@ fn scan_line(t: &[u8], work: &mut [u8], at: usize, n: usize, p: Place) -> Scanne
     match f {
         Fields::Bad => ScannedLine::Refused(refused_line(t, at)),
         Fields::Upto(e) => {
-            if read_bytes::byte_at(t, e) != LINE_FEED {
+            if read_bytes::byte_at(t, e) != Byte::LINE_FEED {
                 return ScannedLine::Refused(Refusal::BadByte);
             }
             put_line(work, n, w);

@@ -5,7 +5,8 @@ ghost use mathlib.Core.Path.{_≡_};
 ghost use Prim.Native.Nat.{_+_, _<_};
 ghost use lib.ListN.{length};
 ghost use Rattle.rules.specs.Limits.{work-bytes, most-classes, most-methods, most-locals};
-ghost use Rattle.tables.specs.Layout.{most-names};
+ghost use Rattle.rules.specs.Syntax.{first-local};
+ghost use Rattle.tables.specs.Layout.{most-names, frame-variables};
 ghost use Rattle.read_names.specs.Rows.{SpanFits, RowFits, putRow, classes-first, fields-first, methods-first, variables-first};
 ghost use Rattle.read_scopes.specs.Meanings.{classRow, fieldRow, variableRow, moreClasses, moreFields, moreMethods, moreLocals, putBlock};
 
@@ -118,7 +119,7 @@ pub fn add_method(text: &[u8], work: &mut [u8], c: Names, m: Row) -> Names
 }
 
 fn put_variable(text: &[u8], work: &mut [u8], v: usize, name: Span, gives: Span)
-    requires { ⌜ (length (now work) ≡ work-bytes) × (v < 15) × SpanFits name × SpanFits gives ⌝ }
+    requires { ⌜ (length (now work) ≡ work-bytes) × (v < frame-variables) × SpanFits name × SpanFits gives ⌝ }
     ensures { λ _. ⌜ now (work .exit) ≡ putRow (now (text .entry)) (now (work .entry)) (variables-first + v) (variableRow name gives) ⌝ }
 {
     let takes = read_names::no_span();
@@ -138,7 +139,7 @@ fn put_variable(text: &[u8], work: &mut [u8], v: usize, name: Span, gives: Span)
 // One more local.
 pub fn put_local(text: &[u8], work: &mut [u8], c: Names, name: Span, gives: Span) -> Names
     requires { ⌜ (length (now work) ≡ work-bytes) × (c .locals < most-locals) × SpanFits name × SpanFits gives ⌝ }
-    ensures { λ r. ⌜ (r ≡ moreLocals c) × (now (work .exit) ≡ putRow (now (text .entry)) (now (work .entry)) (variables-first + (2 + c .locals)) (variableRow name gives)) ⌝ }
+    ensures { λ r. ⌜ (r ≡ moreLocals c) × (now (work .exit) ≡ putRow (now (text .entry)) (now (work .entry)) (variables-first + (first-local + c .locals)) (variableRow name gives)) ⌝ }
 {
     put_variable(text, work, FIRST_LOCAL + c.locals, name, gives);
     Names {

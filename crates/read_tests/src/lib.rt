@@ -11,10 +11,10 @@ ghost use Rattle.rules.specs.Syntax.{path};
 ghost use Rattle.rules.specs.Limits.{work-bytes};
 ghost use Rattle.rules.specs.Text.{isExpr, exprOf};
 ghost use Rattle.rules.specs.Grammar.{isOperand};
-ghost use Rattle.rules.specs.Names.{isInt, known, knownExpr, ofClass, ofClassIn, mayBeAssigned};
+ghost use Rattle.rules.specs.Names.{isInt, knownExpr, ofClass, ofClassIn, mayBeAssigned};
 ghost use Rattle.read_names.specs.Rows.{nameIn};
-ghost use Rattle.read_scopes.specs.Meanings.{NamesFit, AboveFits, declarationsIn, variablesIn, scopeIn};
-ghost use Rattle.read_tests.specs.Tests.{fieldKnown, methodKnown, operandMeant};
+ghost use Rattle.read_scopes.specs.Meanings.{NamesFit, AboveFits, declarationsIn, variablesIn};
+ghost use Rattle.read_tests.specs.Tests.{fieldKnown, methodKnown, operandMeant, knownIn};
 
 // What a field of a line is.
 pub enum Operand {
@@ -112,7 +112,7 @@ pub fn of_class_in(text: &[u8], work: &[u8], c: Names, w: &[u8]) -> bool
 // 6: is the field w of a line, with v before it, a name that may stand there?
 pub fn known(text: &[u8], work: &[u8], c: Names, a: Above, o: Operand, v: &[u8], w: &[u8]) -> bool
     requires { ⌜ (length (now work) ≡ work-bytes) × NamesFit c × AboveFits a × (isOperand (operandMeant o) (now w) ≡ true) ⌝ }
-    ensures { λ r. ⌜ r ≡ known (declarationsIn (now (text .entry)) (now (work .entry)) c) (variablesIn (now (text .entry)) (now (work .entry)) c) (scopeIn (now (text .entry)) (now (work .entry)) c a) (operandMeant o) (now (v .entry)) (now (w .entry)) ⌝ }
+    ensures { λ r. ⌜ r ≡ knownIn (now (text .entry)) (now (work .entry)) c a (operandMeant o) (now (v .entry)) (now (w .entry)) ⌝ }
 {
     match o {
         Operand::NewClass => read_lookups::is_new(text, work, read_names::CLASSES, a.classes, w),

@@ -1,5 +1,7 @@
 // Names and expressions as fields of a line.
+use read_bytes::Byte;
 use read_bytes::Set;
+use read_bytes::Wide;
 use rules::Machine;
 ghost use mathlib.Core.Path.{_≡_};
 ghost use mathlib.Core.Bool.{true, false, _||_};
@@ -39,12 +41,12 @@ fn name_stop(l: &[u8], at: usize) -> usize
     ensures { λ r. ⌜ FirstInSet (now (l .entry)) at Set.NotLetterOrDigit r ⌝ }
 {
     let mut stop = at;
-    while 8 <= l.len() - stop {
+    while Wide::BYTES <= l.len() - stop {
         let z = read_bytes::name_marks(read_bytes::word8(l, stop));
         if z != 0 {
-            return stop + (u64::trailing_zeros(z) / 8) as usize;
+            return stop + (u64::trailing_zeros(z) / Byte::BITS) as usize;
         }
-        stop += 8;
+        stop += Wide::BYTES;
     }
     read_bytes::find_from(l, stop, Set::NotLetterOrDigit)
 }
@@ -81,7 +83,7 @@ fn begins_number(b: u8) -> bool
     if read_bytes::is_digit(b) {
         return true;
     }
-    b == 45
+    b == Byte::MINUS
 }
 
 // Does it begin as a number?
@@ -123,7 +125,7 @@ fn path_end(l: &[u8], at: usize, d: usize) -> usize
     if read_bytes::ends_field(l, d) {
         return d;
     }
-    if l[d] != 46 {
+    if l[d] != Byte::FULL_STOP {
         return at;
     }
     let f = d + 1;

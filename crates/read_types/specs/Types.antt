@@ -20,6 +20,8 @@ use Rattle.read_scopes.specs.declared.Names.{Names}
 use Rattle.read_types.specs.declared.Member.{Member}
 use Rattle.read_types.specs.declared.Lookup.{Lookup}
 use Rattle.read_names.specs.Rows.{nameIn}
+use Rattle.read_scopes.specs.Meanings.{declarationsIn, variablesIn}
+use Rattle.read_lookups.specs.LookUps.{no-variable}
 
 -- the type that an answer is
 unfoldable pub typeMeant : List ℕ → ExprType → Rules.ExprType
@@ -41,7 +43,7 @@ good Γ vs e = knownExpr Γ vs e && ofClassIn Γ vs e
 
 -- may a line name f of the variable v, of the class named at s, if i is where the class's field f stands?
 unfoldable pub mayName : List ℕ → Names → ℕ → Span → ℕ → Name → Bool
-mayName t c v s i f = ltb v 15 && (ltb i (c .fields) && (not (is "int" (nameIn t s)) && not (reserved f)))
+mayName t c v s i f = ltb v no-variable && (ltb i (c .fields) && (not (is "int" (nameIn t s)) && not (reserved f)))
 
 -- what looking up x.f gives
 pub record MemberIs (t : List ℕ) (Γ : Declarations) (vs : List Variable) (x f : Name) (r : Member) : Type 0 where
@@ -55,3 +57,15 @@ pub record LookIs (t : List ℕ) (Γ : Declarations) (vs : List Variable) (e : E
   pub expr : meaning (r .expr) ≡ resolveExpr Γ vs e
   pub is : typeMeant t (r .is) ≡ exprType Γ vs e
   pub good : r .good ≡ good Γ vs e
+
+-- BY ROWS OF NAMES: w is the work area, c counts its rows
+
+module _ (t w : List ℕ) (c : Names) where
+  abbrev pub typeIn : Expr Name → Rules.ExprType
+  typeIn e = exprType (declarationsIn t w c) (variablesIn t w c) e
+
+  abbrev pub MemberIn : Name → Name → Member → Type 0
+  MemberIn x f r = MemberIs t (declarationsIn t w c) (variablesIn t w c) x f r
+
+  abbrev pub LookIn : Expr Name → Lookup → Type 0
+  LookIn e r = LookIs t (declarationsIn t w c) (variablesIn t w c) e r

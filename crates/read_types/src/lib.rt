@@ -11,10 +11,10 @@ ghost use Rattle.rules.specs.Base.{is};
 ghost use Rattle.rules.specs.Syntax.{var, path};
 ghost use Rattle.rules.specs.Limits.{work-bytes};
 ghost use Rattle.rules.specs.Text.{isExpr, exprOf};
-ghost use Rattle.rules.specs.Names.{agree, exprType};
+ghost use Rattle.rules.specs.Names.{agree};
 ghost use Rattle.read_names.specs.Rows.{nameIn};
-ghost use Rattle.read_scopes.specs.Meanings.{NamesFit, declarationsIn, variablesIn};
-ghost use Rattle.read_types.specs.Types.{isIntType, typeMeant, mayName, MemberIs, LookIs};
+ghost use Rattle.read_scopes.specs.Meanings.{NamesFit};
+ghost use Rattle.read_types.specs.Types.{isIntType, typeMeant, mayName, typeIn, MemberIn, LookIn};
 
 // The type of an expression: null's, a number's, or that of a declaration, by its name.
 pub enum ExprType {
@@ -72,7 +72,7 @@ pub fn agree(text: &[u8], a: ExprType, b: ExprType) -> bool
 
 fn path_type(text: &[u8], work: &[u8], c: Names, x: &[u8], f: &[u8]) -> ExprType
     requires { ⌜ (length (now work) ≡ work-bytes) × NamesFit c ⌝ }
-    ensures { λ r. ⌜ typeMeant (now (text .entry)) r ≡ exprType (declarationsIn (now (text .entry)) (now (work .entry)) c) (variablesIn (now (text .entry)) (now (work .entry)) c) (path (now (x .entry)) (now (f .entry))) ⌝ }
+    ensures { λ r. ⌜ typeMeant (now (text .entry)) r ≡ typeIn (now (text .entry)) (now (work .entry)) c (path (now (x .entry)) (now (f .entry))) ⌝ }
 {
     let class = read_lookups::variable_type(text, work, c, x);
     let s = read_lookups::field_type(text, work, c, class, f);
@@ -81,7 +81,7 @@ fn path_type(text: &[u8], work: &[u8], c: Names, x: &[u8], f: &[u8]) -> ExprType
 
 pub fn expr_type(text: &[u8], work: &[u8], c: Names, w: &[u8]) -> ExprType
     requires { ⌜ (length (now work) ≡ work-bytes) × NamesFit c × (isExpr (now w) ≡ true) ⌝ }
-    ensures { λ r. ⌜ typeMeant (now (text .entry)) r ≡ exprType (declarationsIn (now (text .entry)) (now (work .entry)) c) (variablesIn (now (text .entry)) (now (work .entry)) c) (exprOf (now (w .entry))) ⌝ }
+    ensures { λ r. ⌜ typeMeant (now (text .entry)) r ≡ typeIn (now (text .entry)) (now (work .entry)) c (exprOf (now (w .entry))) ⌝ }
 {
     if read_tokens::is_numeral(w) {
         return ExprType::Int;
@@ -121,7 +121,7 @@ fn is_member(text: &[u8], c: Names, v: usize, class: Span, i: usize, f: &[u8]) -
 
 pub fn look_path(text: &[u8], work: &[u8], c: Names, x: &[u8], f: &[u8]) -> Member
     requires { ⌜ (length (now work) ≡ work-bytes) × NamesFit c ⌝ }
-    ensures { λ r. ⌜ MemberIs (now (text .entry)) (declarationsIn (now (text .entry)) (now (work .entry)) c) (variablesIn (now (text .entry)) (now (work .entry)) c) (now (x .entry)) (now (f .entry)) r ⌝ }
+    ensures { λ r. ⌜ MemberIn (now (text .entry)) (now (work .entry)) c (now (x .entry)) (now (f .entry)) r ⌝ }
 {
     let v = read_lookups::variable(text, work, c, x);
     let class = read_lookups::type_of(work, v);
@@ -139,7 +139,7 @@ pub fn look_path(text: &[u8], work: &[u8], c: Names, x: &[u8], f: &[u8]) -> Memb
 
 fn path_look(text: &[u8], work: &[u8], c: Names, x: &[u8], f: &[u8]) -> Lookup
     requires { ⌜ (length (now work) ≡ work-bytes) × NamesFit c ⌝ }
-    ensures { λ r. ⌜ LookIs (now (text .entry)) (declarationsIn (now (text .entry)) (now (work .entry)) c) (variablesIn (now (text .entry)) (now (work .entry)) c) (path (now (x .entry)) (now (f .entry))) r ⌝ }
+    ensures { λ r. ⌜ LookIn (now (text .entry)) (now (work .entry)) c (path (now (x .entry)) (now (f .entry))) r ⌝ }
 {
     let m = look_path(text, work, c, x, f);
     let is = m.is;
@@ -152,7 +152,7 @@ fn path_look(text: &[u8], work: &[u8], c: Names, x: &[u8], f: &[u8]) -> Lookup
 
 fn var_look(text: &[u8], work: &[u8], c: Names, x: &[u8]) -> Lookup
     requires { ⌜ (length (now work) ≡ work-bytes) × NamesFit c ⌝ }
-    ensures { λ r. ⌜ LookIs (now (text .entry)) (declarationsIn (now (text .entry)) (now (work .entry)) c) (variablesIn (now (text .entry)) (now (work .entry)) c) (var (now (x .entry))) r ⌝ }
+    ensures { λ r. ⌜ LookIn (now (text .entry)) (now (work .entry)) c (var (now (x .entry))) r ⌝ }
 {
     let v = read_lookups::variable(text, work, c, x);
     let is = read_lookups::type_of(work, v);
@@ -165,7 +165,7 @@ fn var_look(text: &[u8], work: &[u8], c: Names, x: &[u8]) -> Lookup
 
 pub fn look(text: &[u8], work: &[u8], c: Names, w: &[u8]) -> Lookup
     requires { ⌜ (length (now work) ≡ work-bytes) × NamesFit c × (isExpr (now w) ≡ true) ⌝ }
-    ensures { λ r. ⌜ LookIs (now (text .entry)) (declarationsIn (now (text .entry)) (now (work .entry)) c) (variablesIn (now (text .entry)) (now (work .entry)) c) (exprOf (now (w .entry))) r ⌝ }
+    ensures { λ r. ⌜ LookIn (now (text .entry)) (now (work .entry)) c (exprOf (now (w .entry))) r ⌝ }
 {
     let e = read_tokens::known_expr(w);
     match e {

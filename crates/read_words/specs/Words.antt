@@ -7,6 +7,7 @@ use Prim.Native.String.{String}
 use lib.Dec.{eqb}
 use Rattle.rules.specs.Base.{Name, bytes, is, first}
 use Rattle.rules.specs.Grammar.{Kind, kinds, last-kind, kindNumber}
+use Rattle.read_bytes.specs.Marks.{byte-values}
 
 -- in the order of `kindNumber`, then `acc`, `eq`, `ne`, then the reserved ones
 abbrev pub words : List String
@@ -58,7 +59,7 @@ kindOr0 (some k) = kindNumber k
 -- a word as one number: its bytes, after n, to the base 256
 unfoldable pub packed : ℕ → Name → ℕ
 packed n [] = n
-packed n (b ∷ t) = packed (n * 256 + b) t
+packed n (b ∷ t) = packed (n * byte-values + b) t
 
 -- the number of a packed word in a list that is numbered from n on, or 0
 unfoldable pub packedIn : List String → ℕ → ℕ → ℕ

@@ -1,4 +1,6 @@
 // Words by number: those that begin lines and atoms, and the reserved ones.
+use read_bytes::Byte;
+use read_bytes::Wide;
 use rules::Kind;
 ghost use mathlib.Core.Path.{_≡_};
 ghost use mathlib.Core.Bool.{false};
@@ -7,6 +9,7 @@ ghost use lib.ListN.{length};
 ghost use Rattle.rules.specs.Base.{is};
 ghost use Rattle.rules.specs.Text.{reserved};
 ghost use Rattle.rules.specs.Grammar.{kindOf};
+ghost use Rattle.read_bytes.specs.Marks.{wide-bytes};
 ghost use Rattle.read_words.specs.Words.{words, wordNumber, kindOr0, packed, packedIn};
 
 // WORDS
@@ -26,15 +29,78 @@ pub const THIS: u8 = NULL + 1;
 
 pub const RESULT: u8 = THIS + 1;
 
+// The words as numbers: their bytes to the base 256, the first highest.
+struct Packed {}
+
+impl Packed {
+    const CLASS: u64 = 0x636c617373;
+
+    const FIELD: u64 = 0x6669656c64;
+
+    const METHOD: u64 = 0x6d6574686f64;
+
+    const REQUIRES: u64 = 0x7265717569726573;
+
+    const ENSURES: u64 = 0x656e7375726573;
+
+    const MAIN: u64 = 0x6d61696e;
+
+    const VAR: u64 = 0x766172;
+
+    const SET: u64 = 0x736574;
+
+    const LET: u64 = 0x6c6574;
+
+    const NEW: u64 = 0x6e6577;
+
+    const CALL: u64 = 0x63616c6c;
+
+    const RETURN: u64 = 0x72657475726e;
+
+    const ASSERT: u64 = 0x617373657274;
+
+    const RELEASE: u64 = 0x72656c65617365;
+
+    const IF: u64 = 0x6966;
+
+    const ELSE: u64 = 0x656c7365;
+
+    const JOIN: u64 = 0x6a6f696e;
+
+    const END: u64 = 0x656e64;
+
+    const ADD: u64 = 0x616464;
+
+    const SUB: u64 = 0x737562;
+
+    const LOOP: u64 = 0x6c6f6f70;
+
+    const AGAIN: u64 = 0x616761696e;
+
+    const ACC: u64 = 0x616363;
+
+    const EQ: u64 = 0x6571;
+
+    const NE: u64 = 0x6e65;
+
+    const INT: u64 = 0x696e74;
+
+    const NULL: u64 = 0x6e756c6c;
+
+    const THIS: u64 = 0x74686973;
+
+    const RESULT: u64 = 0x726573756c74;
+}
+
 // At most 8 bytes as one number, the first byte highest.
 fn pack(w: &[u8]) -> u64
-    requires { ⌜ length (now w) ≤ 8 ⌝ }
+    requires { ⌜ length (now w) ≤ wide-bytes ⌝ }
     ensures { λ r. ⌜ r ≡ packed 0 (now (w .entry)) ⌝ }
 {
     let mut n: u64 = 0;
     let mut i = 0;
     while i < w.len() {
-        n = n * 256 + w[i] as u64;
+        n = n * Byte::VALUES + w[i] as u64;
         i += 1;
     }
     n
@@ -45,35 +111,35 @@ fn numbered(k: u64) -> u8
     ensures { λ r. ⌜ r ≡ packedIn words 1 k ⌝ }
 {
     match k {
-        0x636c617373 => Kind::CLASS,
-        0x6669656c64 => Kind::FIELD,
-        0x6d6574686f64 => Kind::METHOD,
-        0x7265717569726573 => Kind::REQUIRES,
-        0x656e7375726573 => Kind::ENSURES,
-        0x6d61696e => Kind::MAIN,
-        0x766172 => Kind::VAR,
-        0x736574 => Kind::SET,
-        0x6c6574 => Kind::LET,
-        0x6e6577 => Kind::NEW,
-        0x63616c6c => Kind::CALL,
-        0x72657475726e => Kind::RETURN,
-        0x617373657274 => Kind::ASSERT,
-        0x72656c65617365 => Kind::RELEASE,
-        0x6966 => Kind::IF,
-        0x656c7365 => Kind::ELSE,
-        0x6a6f696e => Kind::JOIN,
-        0x656e64 => Kind::END,
-        0x616464 => Kind::ADD,
-        0x737562 => Kind::SUB,
-        0x6c6f6f70 => Kind::LOOP,
-        0x616761696e => Kind::AGAIN,
-        0x616363 => ACC,
-        0x6571 => EQ,
-        0x6e65 => NE,
-        0x696e74 => INT,
-        0x6e756c6c => NULL,
-        0x74686973 => THIS,
-        0x726573756c74 => RESULT,
+        Packed::CLASS => Kind::CLASS,
+        Packed::FIELD => Kind::FIELD,
+        Packed::METHOD => Kind::METHOD,
+        Packed::REQUIRES => Kind::REQUIRES,
+        Packed::ENSURES => Kind::ENSURES,
+        Packed::MAIN => Kind::MAIN,
+        Packed::VAR => Kind::VAR,
+        Packed::SET => Kind::SET,
+        Packed::LET => Kind::LET,
+        Packed::NEW => Kind::NEW,
+        Packed::CALL => Kind::CALL,
+        Packed::RETURN => Kind::RETURN,
+        Packed::ASSERT => Kind::ASSERT,
+        Packed::RELEASE => Kind::RELEASE,
+        Packed::IF => Kind::IF,
+        Packed::ELSE => Kind::ELSE,
+        Packed::JOIN => Kind::JOIN,
+        Packed::END => Kind::END,
+        Packed::ADD => Kind::ADD,
+        Packed::SUB => Kind::SUB,
+        Packed::LOOP => Kind::LOOP,
+        Packed::AGAIN => Kind::AGAIN,
+        Packed::ACC => ACC,
+        Packed::EQ => EQ,
+        Packed::NE => NE,
+        Packed::INT => INT,
+        Packed::NULL => NULL,
+        Packed::THIS => THIS,
+        Packed::RESULT => RESULT,
         _ => 0,
     }
 }
@@ -82,7 +148,7 @@ fn numbered(k: u64) -> u8
 pub fn word(w: &[u8]) -> u8
     ensures { λ r. ⌜ r ≡ wordNumber (now (w .entry)) ⌝ }
 {
-    if 8 < w.len() {
+    if Wide::BYTES < w.len() {
         return 0;
     }
     if read_bytes::byte_at(w, 0) == 0 {
@@ -99,14 +165,21 @@ pub fn kind_of(w: &[u8]) -> u8
     if k <= Kind::LAST { k } else { 0 }
 }
 
+// The bytes of `int` and of `result`, and those of `null`.
+const SHORTEST_RESERVED: usize = 3;
+
+const LONGEST_RESERVED: usize = 6;
+
+const NULL_BYTES: usize = 4;
+
 // Many names are shorter or longer than any reserved word.
 pub fn is_reserved(w: &[u8]) -> bool
     ensures { λ r. ⌜ r ≡ reserved (now (w .entry)) ⌝ }
 {
-    if w.len() < 3 {
+    if w.len() < SHORTEST_RESERVED {
         return false;
     }
-    if 6 < w.len() {
+    if LONGEST_RESERVED < w.len() {
         return false;
     }
     INT <= word(w)
@@ -115,8 +188,8 @@ pub fn is_reserved(w: &[u8]) -> bool
 pub fn is_null(w: &[u8]) -> bool
     ensures { λ r. ⌜ r ≡ is "null" (now (w .entry)) ⌝ }
 {
-    if w.len() != 4 {
+    if w.len() != NULL_BYTES {
         return false;
     }
-    pack(w) == 0x6e756c6c
+    pack(w) == Packed::NULL
 }

@@ -1,4 +1,4 @@
--- `declare::declare` meets its contract: the lines before line i have their rows. Assumes nothing.
+-- `declare` meets its contract: the lines before line i have their rows. Assumes nothing.
 use mathlib.Core.Path.{_≡_, sym, subst, _∙_}
 use Prim.Native.Nat.{_-_, _≤_}
 use native.Mathlib.Omega.{arith}

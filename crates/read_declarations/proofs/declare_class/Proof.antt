@@ -1,4 +1,4 @@
--- `declare::declare_class` meets its contract. Assumes nothing.
+-- `declare_class` meets its contract. Assumes nothing.
 use mathlib.Core.Path.{ap, _∙_}
 use Rattle.rules.specs.Text.{isName}
 use Rattle.read_declarations.proofs.Lines.{span-fits}

@@ -1,4 +1,4 @@
--- `declare::declare_field` meets its contract. Assumes nothing.
+-- `declare_field` meets its contract. Assumes nothing.
 use mathlib.Core.Path.{ap, _∙_}
 use native.Mathlib.Omega.{arith}
 use Rattle.rules.specs.Text.{isName}

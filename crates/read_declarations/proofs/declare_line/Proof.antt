@@ -1,4 +1,4 @@
--- `declare::declare_line` meets its contract. Assumes nothing.
+-- `declare_line` meets its contract. Assumes nothing.
 use mathlib.Core.Path.{refl, sym, _∙_}
 use Rattle.rules.specs.Grammar.{Class, Field, Method, kindNumber}
 use Rattle.read_grammar.proofs.Rows.{kind-numbered}

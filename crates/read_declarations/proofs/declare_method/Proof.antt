@@ -1,4 +1,4 @@
--- `declare::declare_method` meets its contract. Assumes nothing.
+-- `declare_method` meets its contract. Assumes nothing.
 use Rattle.read_declarations.proofs.Adds.{method-adds}
 use borrow.Author.Needs.{needs}
 use Rattle.read_declarations.proofs.declare_method.Statement.{statement}

@@ -1,4 +1,4 @@
--- `declare::field_from` meets its contract. Assumes nothing.
+-- `field_from` meets its contract. Assumes nothing.
 use mathlib.Core.Path.{_≡_, sym, ap, subst, _∙_}
 use mathlib.Core.List.{[]}
 use Prim.Native.Nat.{ℕ, _+_, _-_}

@@ -1,4 +1,4 @@
--- `declare::method_row` meets its contract. Assumes nothing.
+-- `method_row` meets its contract. Assumes nothing.
 use mathlib.Core.Path.{ap, _∙_}
 use Rattle.rules.specs.Text.{isName}
 use Rattle.read_names.specs.Rows.{entryOf}

@@ -1,4 +1,4 @@
--- `declare::read_word` meets its contract: a walk of its MIR, by hand. The struct is taken apart, and `word_from` is called on the slice and the number.
+-- `read_word` meets its contract: a walk of its MIR, by hand. The struct is taken apart, and `word_from` is called on the slice and the number.
 -- The struct is Copy: what it owns is had twice, one copy is kept whole for the exit, and of the other what text owns goes to the callee, beside the lifetime's token, which comes back.
 -- Assumes nothing.
 use mathlib.Core.Path.{_≡_, refl}

@@ -1,4 +1,4 @@
--- `declare::word_from` meets its contract. Assumes nothing.
+-- `word_from` meets its contract. Assumes nothing.
 use mathlib.Core.Path.{sym, ap, _∙_}
 use mathlib.Core.List.{[]}
 use lib.ListN.{getD, drop}

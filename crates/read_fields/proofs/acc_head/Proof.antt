@@ -1,4 +1,4 @@
--- `lines::acc_head` meets its contract. Assumes nothing.
+-- `acc_head` meets its contract. Assumes nothing.
 use native.Mathlib.Omega.{arith}
 use borrow.Author.Needs.{needs}
 use mathlib.Core.Path.{refl, sym, _∙_}

@@ -1,4 +1,4 @@
--- `lines::atom_end` meets its contract. Assumes nothing.
+-- `atom_end` meets its contract. Assumes nothing.
 use borrow.Author.Needs.{needs}
 use mathlib.Core.Path.{subst}
 use Rattle.read_fields.specs.Spans.{OperandsRead}

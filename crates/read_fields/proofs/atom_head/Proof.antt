@@ -1,4 +1,4 @@
--- `lines::atom_head` meets its contract. Assumes nothing.
+-- `atom_head` meets its contract. Assumes nothing.
 use native.Mathlib.Omega.{arith}
 use borrow.Author.Needs.{needs}
 use mathlib.Core.Path.{sym, _∙_}

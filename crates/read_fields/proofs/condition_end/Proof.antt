@@ -1,4 +1,4 @@
--- `lines::condition_end` meets its contract. Assumes nothing.
+-- `condition_end` meets its contract. Assumes nothing.
 use native.Mathlib.Omega.{arith}
 use mathlib.Core.Path.{sym, _∙_}
 use Rattle.rules.specs.Text.{isFormula}

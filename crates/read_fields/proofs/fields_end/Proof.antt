@@ -1,4 +1,4 @@
--- `lines::fields_end` meets its contract: the operands of the kind's row, and then its tail. Assumes nothing.
+-- `fields_end` meets its contract: the operands of the kind's row, and then its tail. Assumes nothing.
 use native.Mathlib.Omega.{arith}
 use borrow.Author.Needs.{needs}
 use mathlib.Core.Path.{ap, subst}

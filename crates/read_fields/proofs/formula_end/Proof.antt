@@ -1,4 +1,4 @@
--- `lines::formula_end` meets its contract. The fields that are left are a formula where all are one. Assumes nothing.
+-- `formula_end` meets its contract. The fields that are left are a formula where all are one. Assumes nothing.
 use native.Mathlib.Omega.{arith}
 use mathlib.Core.Path.{_≡_, refl, sym, _∙_}
 use Prim.Native.Nat.{suc, _-_}

@@ -1,4 +1,4 @@
--- `lines::next_expr` meets its contract. Assumes nothing.
+-- `next_expr` meets its contract. Assumes nothing.
 use borrow.Author.Needs.{needs}
 use mathlib.Core.Path.{sym, _∙_}
 use native.Mathlib.Omega.{arith}

@@ -1,4 +1,4 @@
--- `lines::next_field` meets its contract. Assumes nothing.
+-- `next_field` meets its contract. Assumes nothing.
 use native.Mathlib.Omega.{arith}
 use borrow.Author.Needs.{needs}
 use Rattle.read_fields.proofs.Cuts.{byte-in, no-more, some-more, fields-from}

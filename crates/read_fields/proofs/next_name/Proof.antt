@@ -1,4 +1,4 @@
--- `lines::next_name` meets its contract. Assumes nothing.
+-- `next_name` meets its contract. Assumes nothing.
 use borrow.Author.Needs.{needs}
 use mathlib.Core.Path.{sym, _∙_}
 use native.Mathlib.Omega.{arith}

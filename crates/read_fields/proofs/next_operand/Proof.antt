@@ -1,4 +1,4 @@
--- `lines::next_operand` meets its contract. Assumes nothing.
+-- `next_operand` meets its contract. Assumes nothing.
 use borrow.Author.Needs.{needs}
 use Rattle.read_fields.proofs.Spans.{operand-expr, operand-name}
 use Rattle.read_fields.proofs.next_operand.Statement.{statement}

@@ -1,4 +1,4 @@
--- `lines::no_fields` meets its contract. Assumes nothing.
+-- `no_fields` meets its contract. Assumes nothing.
 use borrow.Author.Needs.{needs}
 use mathlib.Core.Path.{sym, _∙_}
 use Rattle.read_fields.proofs.Spans.{none-read, some-read}

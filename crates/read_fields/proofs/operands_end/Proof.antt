@@ -1,4 +1,4 @@
--- `lines::operands_end` meets its contract: it walks the operands. Assumes nothing.
+-- `operands_end` meets its contract: it walks the operands. Assumes nothing.
 use native.Mathlib.Omega.{arith}
 use mathlib.Core.Path.{_≡_}
 use mathlib.Core.List.{List}

@@ -1,4 +1,4 @@
--- `lines::rel_head` meets its contract. Assumes nothing.
+-- `rel_head` meets its contract. Assumes nothing.
 use native.Mathlib.Omega.{arith}
 use borrow.Author.Needs.{needs}
 use mathlib.Core.Path.{refl, sym, _∙_}

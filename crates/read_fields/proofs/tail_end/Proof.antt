@@ -1,4 +1,4 @@
--- `lines::tail_end` meets its contract. Assumes nothing.
+-- `tail_end` meets its contract. Assumes nothing.
 use borrow.Author.Needs.{needs}
 use borrow.Author.Tests.{ne-eqb}
 use Rattle.read_grammar.specs.Rows.{fitsTail}

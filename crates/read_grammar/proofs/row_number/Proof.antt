@@ -1,4 +1,4 @@
--- `lines::row_number` meets its contract, kind by kind. Assumes nothing.
+-- `row_number` meets its contract, kind by kind. Assumes nothing.
 use native.Mathlib.Omega.{arith}
 use Rattle.rules.specs.Base as Base
 use Rattle.rules.specs.Grammar as Grammar

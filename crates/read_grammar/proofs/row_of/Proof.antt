@@ -1,4 +1,4 @@
--- `lines::row_of` meets its contract. Assumes nothing.
+-- `row_of` meets its contract. Assumes nothing.
 use borrow.Author.Needs.{needs}
 use mathlib.Core.Path.{ap, _∙_}
 use Rattle.read_grammar.specs.Rows.{kindNumbered}

@@ -1,4 +1,4 @@
--- `judge::acc_tests` meets its contract: the two fields of `acc`. Assumes nothing.
+-- `acc_tests` meets its contract: the two fields of `acc`. Assumes nothing.
 use Rattle.rules.specs.Grammar.{isOperand}
 use Rattle.read_tests.specs.Tests.{operandMeant}
 use mathlib.Core.Path.{_∙_}

@@ -1,4 +1,4 @@
--- `judge::atom_tests` meets its contract: it walks the atoms, and `Atoms` says what is left. Assumes nothing.
+-- `atom_tests` meets its contract: it walks the atoms, and `Atoms` says what is left. Assumes nothing.
 use native.Mathlib.Omega.{arith}
 use borrow.Author.Needs.{needs}
 use mathlib.Core.Path.{_∙_, sym, refl}

@@ -1,4 +1,4 @@
--- `judge::both` meets its contract: test by test. Assumes nothing.
+-- `both` meets its contract: test by test. Assumes nothing.
 use Rattle.read_refusals.proofs.Laws.{same-tests}
 use borrow.Author.Needs.{needs}
 use Rattle.read_refusals.proofs.both.Statement.{statement}

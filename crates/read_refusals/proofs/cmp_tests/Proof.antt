@@ -1,4 +1,4 @@
--- `judge::cmp_tests` meets its contract: the two fields, and their sides. Assumes nothing.
+-- `cmp_tests` meets its contract: the two fields, and their sides. Assumes nothing.
 use Rattle.read_refusals.specs.Tests.{slotTests, exprTests, cmpTests}
 use Rattle.rules.specs.Names.{known, ofClass, mayBeAssigned}
 use mathlib.Core.Path.{_∙_}

@@ -1,4 +1,4 @@
--- `judge::expr_tests` meets its contract: test by test; a number passes them. Assumes nothing.
+-- `expr_tests` meets its contract: test by test; a number passes them. Assumes nothing.
 use Rattle.read_refusals.proofs.Laws.{same-tests}
 use Rattle.read_refusals.specs.Tests.{exprTests}
 use Rattle.rules.specs.Names.{knownExpr, ofClassIn}

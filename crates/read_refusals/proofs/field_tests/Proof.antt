@@ -1,4 +1,4 @@
--- `judge::field_tests` meets its contract: test by test. Assumes nothing.
+-- `field_tests` meets its contract: test by test. Assumes nothing.
 use Rattle.read_refusals.proofs.Laws.{same-tests}
 use Rattle.read_refusals.specs.Tests.{slotTests}
 use borrow.Author.Needs.{needs}

@@ -1,4 +1,4 @@
--- `judge::judge` meets its contract: each way out is a law of `Refusals`. Assumes nothing.
+-- `judge` meets its contract: each way out is a law of `Refusals`. Assumes nothing.
 use borrow.Author.Tests.{not-true, not-false}
 use Rattle.read_refusals.proofs.Refusals.{is-undeclared, is-wrong-type, is-wrong-target, is-good}
 use borrow.Author.Needs.{needs}

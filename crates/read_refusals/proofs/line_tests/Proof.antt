@@ -1,4 +1,4 @@
--- `judge::line_tests` meets its contract: it walks the operands of the kind's row, and `Rest` says what is left. Assumes nothing.
+-- `line_tests` meets its contract: it walks the operands of the kind's row, and `Rest` says what is left. Assumes nothing.
 use native.Mathlib.Omega.{arith}
 use borrow.Author.Needs.{needs}
 use mathlib.Core.Path.{_∙_, sym, refl}

@@ -1,4 +1,4 @@
--- `judge::nth_field` meets its contract: the field that is left to find stays the same. Assumes nothing.
+-- `nth_field` meets its contract: the field that is left to find stays the same. Assumes nothing.
 use native.Mathlib.Omega.{arith}
 use mathlib.Core.Path.{_≡_, _∙_, sym, refl}
 use mathlib.Core.List.{[]}

@@ -1,4 +1,4 @@
--- `judge::one_atom` meets its contract: by its word, each case a law of `Laws`. Assumes nothing.
+-- `one_atom` meets its contract: by its word, each case a law of `Laws`. Assumes nothing.
 use Rattle.read_refusals.proofs.Laws.{is-acc, not-acc, acc-names, cmp-exprs, acc-atom, cmp-atom}
 use mathlib.Core.Path.{_∙_, sym}
 use borrow.Author.Needs.{needs}

@@ -1,4 +1,4 @@
--- `judge::operand_of` meets its contract: number by number. Assumes nothing.
+-- `operand_of` meets its contract: number by number. Assumes nothing.
 use Rattle.read_grammar.specs.Rows.{operandNumber}
 use Rattle.read_tests.specs.Tests.{operandMeant}
 use mathlib.Core.Path.{sym}

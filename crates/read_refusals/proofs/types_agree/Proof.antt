@@ -1,4 +1,4 @@
--- `judge::types_agree` meets its contract: the types of both sides. Assumes nothing.
+-- `types_agree` meets its contract: the types of both sides. Assumes nothing.
 use mathlib.Core.Path.{_∙_}
 use borrow.Author.Needs.{needs}
 use Rattle.read_refusals.proofs.types_agree.Statement.{statement}

@@ -1,4 +1,4 @@
--- `lines::line_fields` meets its contract. Assumes nothing.
+-- `line_fields` meets its contract. Assumes nothing.
 use borrow.Author.Needs.{needs}
 use Rattle.read_fields.proofs.Spans.{formed-none}
 use Rattle.read_scan.proofs.line_fields.Statement.{statement}

@@ -1,4 +1,4 @@
--- `lines::line_word` meets its contract. Assumes nothing.
+-- `line_word` meets its contract. Assumes nothing.
 use Prim.Native.Nat.{_+_}
 use Rattle.tables.specs.Decode.{byteAt}
 use Rattle.read_scan.specs.Table.{linePlace}

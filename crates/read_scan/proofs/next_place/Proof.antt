@@ -1,4 +1,4 @@
--- `lines::next_place` meets its contract. Assumes nothing.
+-- `next_place` meets its contract. Assumes nothing.
 use Rattle.rules.specs.Base.{check, _>>_}
 use Rattle.read_scan.specs.Scans.{nextPlace}
 use Rattle.read_scan.proofs.next_place.Statement.{statement}

@@ -1,4 +1,4 @@
--- `lines::place_line` meets its contract. Assumes nothing.
+-- `place_line` meets its contract. Assumes nothing.
 use borrow.Author.Needs.{needs}
 use Rattle.read_scan.proofs.Scans.{place-line-is}
 use Rattle.read_scan.proofs.place_line.Statement.{statement}

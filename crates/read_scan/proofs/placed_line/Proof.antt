@@ -1,4 +1,4 @@
--- `lines::placed_line` meets its contract. Assumes nothing.
+-- `placed_line` meets its contract. Assumes nothing.
 use borrow.Author.Needs.{needs}
 use mathlib.Core.Path.{refl, sym, ap, _∙_}
 use Rattle.read_scan.specs.Scans.{answerOf}

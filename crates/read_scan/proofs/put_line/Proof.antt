@@ -1,4 +1,4 @@
--- `lines::put_line` meets its contract. Assumes nothing.
+-- `put_line` meets its contract. Assumes nothing.
 use Rattle.read_scan.specs.Table.{putLine}
 use borrow.Author.Needs.{needs}
 use Rattle.read_scan.proofs.put_line.Statement.{statement}

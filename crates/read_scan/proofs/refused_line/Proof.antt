@@ -1,4 +1,4 @@
--- `lines::refused_line` meets its contract. Assumes nothing.
+-- `refused_line` meets its contract. Assumes nothing.
 use borrow.Author.Needs.{needs}
 use mathlib.Core.Path.{sym, _∙_}
 use Rattle.read_scan.proofs.Formed.{refuses-byte, refuses-form}

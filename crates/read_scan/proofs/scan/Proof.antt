@@ -1,4 +1,4 @@
--- `lines::scan` meets its contract: what the lines that are left give from the present place is what the text gives, and the lines before
+-- `scan` meets its contract: what the lines that are left give from the present place is what the text gives, and the lines before
 -- it stand in the table. Assumes nothing.
 use native.Mathlib.Omega.{arith}
 use borrow.Author.Needs.{needs}

@@ -1,4 +1,4 @@
--- `lines::scan_line` meets its contract. Assumes nothing.
+-- `scan_line` meets its contract. Assumes nothing.
 use native.Mathlib.Omega.{arith}
 use borrow.Author.Needs.{needs}
 use mathlib.Core.Path.{refl, sym, ap, subst, _∙_}

@@ -1,4 +1,4 @@
--- `leaves::is_reserved` meets its contract. Assumes nothing.
+-- `is_reserved` meets its contract. Assumes nothing.
 use borrow.Author.Needs.{needs}
 use mathlib.Core.Path.{sym}
 use native.Mathlib.Omega.{arith}

@@ -1,4 +1,4 @@
--- `lines::branches_after` meets its contract. Assumes nothing.
+-- `branches_after` meets its contract. Assumes nothing.
 use borrow.Author.Needs.{needs}
 use borrow.Author.Tests.{ne-eqb}
 use Rattle.read_grammar.specs.Coded.{branchesAfter}

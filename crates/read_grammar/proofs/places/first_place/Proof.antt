@@ -1,4 +1,4 @@
--- `lines::first_place` meets its contract. Assumes nothing.
+-- `first_place` meets its contract. Assumes nothing.
 use mathlib.Core.Path.{refl}
 use Rattle.rules.specs.Places.{stageNumber}
 use Rattle.read_grammar.specs.Coded.{coded, branchesNumber}

@@ -1,4 +1,4 @@
--- `lines::fits` meets its contract. Assumes nothing.
+-- `fits` meets its contract. Assumes nothing.
 use borrow.Author.Tests.{ne-eqb}
 use Rattle.read_grammar.specs.Coded.{fits}
 use Rattle.read_grammar.proofs.places.fits.Statement.{statement}

@@ -1,4 +1,4 @@
--- `lines::is_in_place` meets its contract. Assumes nothing.
+-- `is_in_place` meets its contract. Assumes nothing.
 use borrow.Author.Needs.{needs}
 use mathlib.Core.Path.{ap}
 use borrow.Author.Tests.{le-leb, lt-leb}

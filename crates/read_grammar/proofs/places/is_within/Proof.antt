@@ -1,4 +1,4 @@
--- `lines::is_within` meets its contract. Assumes nothing.
+-- `is_within` meets its contract. Assumes nothing.
 use borrow.Author.Tests.{le-leb, lt-leb}
 use native.Mathlib.Omega.{arith}
 use Rattle.read_grammar.proofs.Rows.{passed}

@@ -1,4 +1,4 @@
--- `lines::place_after` meets its contract, kind by kind. Assumes nothing.
+-- `place_after` meets its contract, kind by kind. Assumes nothing.
 use borrow.Author.Needs.{needs}
 use mathlib.Core.Path.{ap}
 use Rattle.rules.specs.Places.{oneMoreIf}

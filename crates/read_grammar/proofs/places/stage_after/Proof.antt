@@ -1,4 +1,4 @@
--- `lines::stage_after` meets its contract. Assumes nothing.
+-- `stage_after` meets its contract. Assumes nothing.
 use borrow.Author.Tests.{ne-eqb}
 use Rattle.rules.specs.Places.{stageNumber}
 use Rattle.read_grammar.specs.Coded.{stageAfter}

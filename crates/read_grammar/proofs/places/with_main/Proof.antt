@@ -1,4 +1,4 @@
--- `lines::with_main` meets its contract. Assumes nothing.
+-- `with_main` meets its contract. Assumes nothing.
 use mathlib.Core.Path.{refl}
 use Rattle.rules.specs.Places.{oneMoreIf}
 use Rattle.read_grammar.specs.Coded.{atStage, placeAfter, branchesAfter}

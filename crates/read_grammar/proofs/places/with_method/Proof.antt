@@ -1,4 +1,4 @@
--- `lines::with_method` meets its contract. Assumes nothing.
+-- `with_method` meets its contract. Assumes nothing.
 use borrow.Author.Needs.{needs}
 use native.Mathlib.Numerals.{add-one}
 use Rattle.rules.specs.Places.{oneMoreIf}

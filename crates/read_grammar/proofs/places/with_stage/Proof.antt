@@ -1,4 +1,4 @@
--- `lines::with_stage` meets its contract. Assumes nothing.
+-- `with_stage` meets its contract. Assumes nothing.
 use mathlib.Core.Path.{refl}
 use Rattle.read_grammar.specs.Coded.{atStage}
 use Rattle.read_grammar.proofs.places.with_stage.Statement.{statement}

@@ -1,4 +1,4 @@
--- `lines::with_statement` meets its contract. Assumes nothing.
+-- `with_statement` meets its contract. Assumes nothing.
 use borrow.Author.Needs.{needs}
 use borrow.Author.Tests.{ne-eqb, le-leb}
 use native.Mathlib.Numerals.{add-one}

@@ -1,4 +1,4 @@
--- `judge::call_agrees` meets its contract: `sidesAgree` at `call`. Assumes nothing.
+-- `call_agrees` meets its contract: `sidesAgree` at `call`. Assumes nothing.
 use mathlib.Core.Path.{refl, sym, _∙_}
 use Rattle.rules.specs.Grammar as Grammar
 use Rattle.rules.specs.Grammar.{Call, isStatement, isKind, kindNumber, statementNumber}

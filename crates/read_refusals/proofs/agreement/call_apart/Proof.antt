@@ -1,4 +1,4 @@
--- `judge::call_apart` meets its contract: `callApart`, by the kind. Assumes nothing.
+-- `call_apart` meets its contract: `callApart`, by the kind. Assumes nothing.
 use mathlib.Core.Path.{sym, _∙_}
 use Rattle.read_refusals.proofs.Sides.{apart-other, apart-call}
 use borrow.Author.Needs.{needs}

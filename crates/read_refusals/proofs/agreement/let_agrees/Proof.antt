@@ -1,4 +1,4 @@
--- `judge::let_agrees` meets its contract: `sidesAgree` at `let`. Assumes nothing.
+-- `let_agrees` meets its contract: `sidesAgree` at `let`. Assumes nothing.
 use mathlib.Core.Path.{refl, sym, _∙_}
 use Rattle.rules.specs.Grammar as Grammar
 use Rattle.rules.specs.Grammar.{Let, isStatement, isKind, kindNumber, statementNumber}

@@ -1,4 +1,4 @@
--- `judge::new_agrees` meets its contract: `sidesAgree` at `new`. Assumes nothing.
+-- `new_agrees` meets its contract: `sidesAgree` at `new`. Assumes nothing.
 use mathlib.Core.Path.{refl, sym, _∙_}
 use Rattle.rules.specs.Grammar as Grammar
 use Rattle.rules.specs.Grammar.{New, isStatement, isKind, kindNumber, statementNumber}

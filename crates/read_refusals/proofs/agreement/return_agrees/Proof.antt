@@ -1,4 +1,4 @@
--- `judge::return_agrees` meets its contract: `sidesAgree` at `return`. Assumes nothing.
+-- `return_agrees` meets its contract: `sidesAgree` at `return`. Assumes nothing.
 use mathlib.Core.Path.{refl, sym, _∙_}
 use Rattle.rules.specs.Grammar as Grammar
 use Rattle.rules.specs.Grammar.{Return, isStatement, isKind, kindNumber, statementNumber}

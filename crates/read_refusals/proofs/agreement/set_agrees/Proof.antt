@@ -1,4 +1,4 @@
--- `judge::set_agrees` meets its contract: `sidesAgree` at `set`. Assumes nothing.
+-- `set_agrees` meets its contract: `sidesAgree` at `set`. Assumes nothing.
 use mathlib.Core.Path.{refl, sym, _∙_}
 use Rattle.rules.specs.Grammar as Grammar
 use Rattle.rules.specs.Grammar.{Set, isStatement, isKind, kindNumber, statementNumber}

@@ -1,4 +1,4 @@
--- `judge::sides_agree` meets its contract: kind by kind. Assumes nothing.
+-- `sides_agree` meets its contract: kind by kind. Assumes nothing.
 use mathlib.Core.Path.{refl, sym, _∙_}
 use mathlib.Core.List.{[], _∷_}
 use Rattle.rules.specs.Base.{all, any}

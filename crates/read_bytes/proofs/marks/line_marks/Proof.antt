@@ -1,8 +1,8 @@
 use borrow.Author.Needs.{needs}
 use lib.Bits.{bitAnd, and-le-r, xor-lt}
 use native.Mathlib.Omega.{arith}
-use Rattle.read_bytes.proofs.line_marks.Statement.{statement}
-use Rattle.read_bytes.proofs.line_marks.Tie as tie
+use Rattle.read_bytes.proofs.marks.line_marks.Statement.{statement}
+use Rattle.read_bytes.proofs.marks.line_marks.Tie as tie
 
 add-low : tie.Need-add-low
 add-low c = omega (arith, and-le-r (c .args .x) 0x7f7f7f7f7f7f7f7f)

@@ -1,8 +1,8 @@
 use borrow.Author.Needs.{needs}
 use lib.Bits.{and-le-r}
 use native.Mathlib.Omega.{arith}
-use Rattle.read_bytes.proofs.field_marks.Statement.{statement}
-use Rattle.read_bytes.proofs.field_marks.Tie as tie
+use Rattle.read_bytes.proofs.marks.field_marks.Statement.{statement}
+use Rattle.read_bytes.proofs.marks.field_marks.Tie as tie
 
 add-result : tie.Need-add-result
 add-result c = omega (arith, and-le-r (c .args .x) 0x6060606060606060)

@@ -1,8 +1,8 @@
 use Rattle.read_bytes.specs.Marks.{value, formOf}
 use borrow.Author.Needs.{needs}
 use mathlib.Core.Path.{sym, ap, _∙_}
-use Rattle.read_bytes.proofs.marks.Statement.{statement}
-use Rattle.read_bytes.proofs.marks.Tie as tie
+use Rattle.read_bytes.proofs.marks.marks.Statement.{statement}
+use Rattle.read_bytes.proofs.marks.marks.Tie as tie
 
 enum-told : tie.Need-enum-told
 enum-told c = search needs

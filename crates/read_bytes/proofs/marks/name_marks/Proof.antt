@@ -1,8 +1,8 @@
 use borrow.Author.Needs.{needs}
 use lib.Bits.{bitAnd, and-le-r, or-lt}
 use native.Mathlib.Omega.{arith}
-use Rattle.read_bytes.proofs.name_marks.Statement.{statement}
-use Rattle.read_bytes.proofs.name_marks.Tie as tie
+use Rattle.read_bytes.proofs.marks.name_marks.Statement.{statement}
+use Rattle.read_bytes.proofs.marks.name_marks.Tie as tie
 
 add-letter : tie.Need-add-letter
 add-letter c = let h = and-le-r (c .args .x) 0x7f7f7f7f7f7f7f7f in omega (arith, or-lt 63 (bitAnd (c .args .x) 0x7f7f7f7f7f7f7f7f) 0x2020202020202020 (omega arith) (omega arith))

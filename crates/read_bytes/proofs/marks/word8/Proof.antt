@@ -2,8 +2,8 @@ use Prim.Native.Nat.{_+_}
 use Rattle.read_bytes.specs.Marks.{littleEndian}
 use borrow.Author.Needs.{needs}
 use native.Mathlib.Omega.{arith}
-use Rattle.read_bytes.proofs.word8.Statement.{statement}
-use Rattle.read_bytes.proofs.word8.Tie as tie
+use Rattle.read_bytes.proofs.marks.word8.Statement.{statement}
+use Rattle.read_bytes.proofs.marks.word8.Tie as tie
 
 shared-slice-read-a : tie.Need-shared-slice-read-a
 shared-slice-read-a c = search needs
