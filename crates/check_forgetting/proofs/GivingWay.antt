@@ -20,7 +20,8 @@ use Rattle.check_equality.specs.Links.{Header, termAt}
 use Rattle.check_equality.proofs.Labels.{header-set}
 use Rattle.check_state.specs.States.{Wf, facts, factsOf, stateOf}
 use Rattle.check_successors.specs.Successors.{Drops}
-use Rattle.check_forgetting.specs.Changes.{Stands, Rebuilt, Stored, Lead, Giving, SideGiven, GaveWay, Forgotten, becomeOf, successorAt, givenAt}
+use Rattle.check_labels.specs.Facts.{Stands, Rebuilt, becomeOf}
+use Rattle.check_forgetting.specs.Changes.{Stored, Lead, Giving, SideGiven, GaveWay, Forgotten, successorAt, givenAt}
 
 -- WHAT BECOMES OF A TERM
 -- one that is dropped or left

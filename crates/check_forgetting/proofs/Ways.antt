@@ -23,11 +23,13 @@ use Rattle.check_state.specs.States.{Wf, facts, factsOf, stateOf}
 use Rattle.check_state.proofs.Entries.{no-flags}
 use Rattle.check_state.specs.declared.Resolved.{Resolved}
 use Rattle.check_successors.specs.Successors.{Drops, termOr}
-use Rattle.check_forgetting.specs.Changes.{Stands, Dropped, Dropping, DropsSides, Forgettable, Forgotten, Forgot, Renamed, MappedKeys, Rebuilt, GaveWay, mentionsKey, renamedKey}
-use Rattle.check_forgetting.specs.Scans.{pathKeyOf}
-use Rattle.check_forgetting.specs.Labels.{Whole, even, Keeps, Untouched, StandsIn}
+use Rattle.check_labels.specs.Facts.{Stands, Rebuilt}
+use Rattle.check_scans.specs.Sides.{Dropped, MappedKeys, mentionsKey, renamedKey}
+use Rattle.check_forgetting.specs.Changes.{Dropping, DropsSides, Forgettable, Forgotten, Forgot, Renamed, GaveWay, StandsIn}
+use Rattle.check_scans.specs.Scans.{pathKeyOf, Untouched}
+use Rattle.check_labels.specs.Labels.{Whole, even, Keeps}
 use Rattle.check_forgetting.proofs.GivingWay.{gave, named, gave-sides}
-use Rattle.check_forgetting.proofs.Scanning.{sole-name, sole-renamed}
+use Rattle.check_scans.proofs.Scanning.{sole-name, sole-renamed}
 
 -- NO SIDE GONE
 pub none-whole : (b : List ℕ) (n : ℕ) → Whole b (replicate slots false) 0 n

@@ -1,10 +1,5 @@
 // What becomes of a state when paths or a variable go: the remainder, removing, `set`; the state that knows nothing.
-mod entries;
-mod facts;
-mod keys;
-mod labels;
-mod marks;
-mod scans;
+mod giving;
 mod swaps;
 
 use check_equality::State;
@@ -14,17 +9,18 @@ ghost use mathlib.Core.Path.{_≡_};
 ghost use mathlib.Core.Bool.{true};
 ghost use mathlib.Core.Option.{none, some};
 ghost use mathlib.Core.List.{List};
-ghost use Prim.Native.Nat.{ℕ, _+_, _*_, _<_};
+ghost use Prim.Native.Nat.{_+_, _<_, ℕ};
 ghost use lib.ListN.{length, getD};
 ghost use Rattle.rules.specs.Syntax as Syntax;
 ghost use Rattle.rules.specs.State as Rules;
 ghost use Rattle.check_equality.specs.Layout.{bytes, variables-at, fields-at};
 ghost use Rattle.check_equality.specs.Keys.{termOf};
 ghost use Rattle.check_equality.specs.Links.{Header};
-ghost use Rattle.check_state.specs.States.{Wf, stateOf, entries};
+ghost use Rattle.check_state.specs.States.{entries, Wf, stateOf};
 ghost use Rattle.check_state.specs.Questions.{variableOr};
 ghost use Rattle.check_successors.specs.Successors.{termOr};
-ghost use Rattle.check_forgetting.specs.Changes.{Becomes, Remains, ForgotOut, withoutPath, mentionsKey};
+ghost use Rattle.check_scans.specs.Sides.{mentionsKey};
+ghost use Rattle.check_forgetting.specs.Changes.{Becomes, Remains, ForgotOut, withoutPath};
 
 // The keys of a state that knows nothing: in the slots before the facts' the variables and null.
 pub fn header() -> [u64; State::SLOTS]
@@ -45,7 +41,7 @@ pub fn clear(b: &mut [u8; State::BYTES])
     requires { ⌜ length (now b) ≡ bytes ⌝ }
     ensures { λ _. ⌜ ((key : List ℕ) → Header key → Becomes Rules.empty key (now (b .exit))) ⌝ }
 {
-    facts::fresh(b);
+    check_labels::fresh(b);
     b[State::FACTS] = 0;
     b[State::ENTRIES] = 0;
 }
@@ -60,8 +56,8 @@ fn forget_out(
     ensures { λ _. ⌜ ForgotOut (now (key .entry)) (now (b .entry)) (now (out .entry)) (now (key .exit)) (now (b .exit)) ⌝ }
 {
     let p = b[State::ENTRIES] as usize;
-    let marks = marks::marks_out(b, out, p);
-    let from = scans::first_marked(key, b, &marks);
+    let marks = check_entries::marks_out(b, out, p);
+    let from = check_scans::first_marked(key, b, &marks);
     if from < (b[State::FACTS] as usize) {
         swaps::drop_out(key, b, out, &marks, from);
     }
@@ -77,7 +73,7 @@ pub fn remainder(
     ensures { λ _. ⌜ Remains (now (key .entry)) (now (b .entry)) (now (out .entry)) (now (key .exit)) (now (b .exit)) ⌝ }
 {
     forget_out(key, b, out);
-    entries::pack(b, out);
+    check_entries::pack(b, out);
 }
 
 // The path of entry i, whose key is k, is dropped, though it stays listed.
@@ -86,7 +82,7 @@ pub fn without_path(key: &mut [u64; State::SLOTS], b: &mut [u8; State::BYTES], i
     ensures { λ _. ⌜ Becomes (withoutPath (now (key .entry)) (now (b .entry)) i) (now (key .exit)) (now (b .exit)) ⌝ }
 {
     let p = b[State::ENTRIES] as usize;
-    let skip = entries::entries_at(b, p, k);
+    let skip = check_entries::entries_at(b, p, k);
     swaps::drop_key(key, b, &skip, State::NO_VARIABLE, k);
 }
 
@@ -96,9 +92,9 @@ fn erase(key: &mut [u64; State::SLOTS], b: &mut [u8; State::BYTES], x: u8)
     ensures { λ _. ⌜ Becomes (Rules.removeTo x none (stateOf (now (key .entry)) (now (b .entry)))) (now (key .exit)) (now (b .exit)) ⌝ }
 {
     let p = b[State::ENTRIES] as usize;
-    let out = entries::entries_of(b, p, x);
+    let out = check_entries::entries_of(b, p, x);
     swaps::drop_names(key, b, &out, x);
-    entries::pack(b, &out);
+    check_entries::pack(b, &out);
 }
 
 // The variable `to` takes the place of x.
@@ -107,7 +103,7 @@ fn replace(key: &mut [u64; State::SLOTS], b: &mut [u8; State::BYTES], x: u8, to:
     ensures { λ _. ⌜ Becomes (Rules.removeTo x (some to) (stateOf (now (key .entry)) (now (b .entry)))) (now (key .exit)) (now (b .exit)) ⌝ }
 {
     swaps::rename_names(key, b, x, to);
-    entries::rename_entries(b, x, to);
+    check_entries::rename_entries(b, x, to);
 }
 
 // The state with `to` in the place of x, or, where that is NO_VARIABLE, without x.
@@ -137,7 +133,7 @@ fn gives_way<'a>(key: &'a [u64; State::SLOTS], b: &'a [u8; State::BYTES], k: u64
 {
     let m = State::LEFT + 2 * (b[State::FACTS] as usize);
     let p = b[State::ENTRIES] as usize;
-    let skip = entries::entries_of(b, p, x);
+    let skip = check_entries::entries_of(b, p, x);
     let a = check_equality::label_of(key, b, m, k);
     check_successors::successor(key, b, &skip, x, k, a)
 }
@@ -147,7 +143,7 @@ fn left_over<'a>(key: &'a [u64; State::SLOTS], b: &'a [u8; State::BYTES], k: u64
     requires { ⌜ Wf (now key) (now b) ⌝ }
     ensures { λ r. ⌜ termOr r ≡ Rules.removedTerm x none (stateOf (now (key .entry)) (now (b .entry))) (termOf k) ⌝ }
 {
-    if keys::mentions(k, x) {
+    if check_scans::mentions(k, x) {
         return gives_way(key, b, k, x);
     }
     Resolved::Key(k)
@@ -167,5 +163,5 @@ pub fn removed<'a>(
     if to == State::NO_VARIABLE {
         return left_over(key, b, k, x);
     }
-    Resolved::Key(keys::rename(k, x, to))
+    Resolved::Key(check_scans::rename(k, x, to))
 }

@@ -1,42 +1,20 @@
 // What is dropped is looked for, and the facts that name it are forgotten or give way. Where that is one term alone, every side with its key
 // takes the key of its successor, or of the variable that stands in for it, and the labels stay.
-use crate::facts;
-use crate::labels;
-use crate::marks;
-use crate::scans;
 use check_equality::State;
 use check_state::Resolved;
+use crate::giving;
 use rules::Machine;
 ghost use mathlib.Core.Path.{_≡_};
 ghost use mathlib.Core.Bool.{true};
 ghost use Prim.Native.Nat.{_≤_};
 ghost use lib.Dec.{eqb};
-ghost use Rattle.check_equality.specs.Layout.{slots, left-sides};
-ghost use Rattle.check_equality.specs.Links.{picked};
+ghost use Rattle.check_equality.specs.Layout.{slots};
 ghost use Rattle.check_state.specs.States.{Wf};
 ghost use Rattle.check_state.specs.Questions.{no-variable};
-ghost use Rattle.check_forgetting.specs.Changes.{MappedKeys, Renamed, renamedKey, mentionsKey, keyDropped, OutMarked, Forgettable, Forgot, ForgotOut};
-ghost use Rattle.check_forgetting.specs.Scans.{Scanned, NoPath, markedKey};
-ghost use Rattle.check_forgetting.specs.Labels.{StandsIn};
-
-fn choose(k: u64, from: u64, to: u64) -> u64
-    ensures { λ r. ⌜ r ≡ picked from to k ⌝ }
-{
-    if k == from { to } else { k }
-}
-
-// The key t for each key k, from slot `from` on.
-fn swap_key(key: &mut [u64; State::SLOTS], from: usize, m: usize, k: u64, t: u64)
-    requires { ⌜ (left-sides ≤ from) × (m ≤ slots) × MappedKeys (picked k t) (now key) from (now key) ⌝ }
-    ensures { λ _. ⌜ MappedKeys (picked k t) (now (key .entry)) m (now (key .exit)) ⌝ }
-{
-    let mut i = from;
-    while i < m {
-        let l = key[i];
-        key[i] = choose(l, k, t);
-        i += 1;
-    }
-}
+ghost use Rattle.check_entries.specs.PathsOut.{keyDropped, OutMarked};
+ghost use Rattle.check_scans.specs.Sides.{renamedKey, mentionsKey};
+ghost use Rattle.check_scans.specs.Scans.{Scanned, NoPath, markedKey};
+ghost use Rattle.check_forgetting.specs.Changes.{ForgotOut, Renamed, Forgettable, Forgot, StandsIn, PathsForgettable};
 
 // The term of k is dropped, and the facts before `from` stay: it gives way to its successor, or else as `forget` says.
 fn give_key(
@@ -55,12 +33,12 @@ fn give_key(
     let mut gone = [false; State::SLOTS];
     let a = check_equality::label_of(key, b, m, k);
     let Resolved::Key(t) = check_successors::successor(key, b, skip, x, k, a) else {
-        facts::drop_path(key, l, m, k, &mut gone);
-        facts::forget(key, b, skip, x, &mut gone, from);
+        check_scans::drop_path(key, l, m, k, &mut gone);
+        giving::forget(key, b, skip, x, &mut gone, from);
         return;
     };
-    swap_key(key, l, m, k, t);
-    labels::repack(key, b, &gone, from, x);
+    check_scans::swap_key(key, l, m, k, t);
+    check_labels::repack(key, b, &gone, from, x);
 }
 
 // The term of k is dropped.
@@ -74,7 +52,7 @@ pub fn drop_key(
     requires { ⌜ Wf (now key) (now b) × Forgettable (λ l. eqb l k) (now key) (now b) (now skip) x ⌝ }
     ensures { λ _. ⌜ Forgot (λ l. eqb l k) (now (key .entry)) (now (b .entry)) (now (skip .entry)) x (now (key .exit)) (now (b .exit)) ⌝ }
 {
-    let from = scans::first_with(key, b, k);
+    let from = check_scans::first_with(key, b, k);
     if from < (b[State::FACTS] as usize) {
         give_key(key, b, skip, x, k, from);
     }
@@ -93,10 +71,10 @@ fn give_names(
 {
     let m = State::LEFT + 2 * (b[State::FACTS] as usize);
     let l = State::LEFT + 2 * from;
-    if scans::has_path(key, l, m, x) {
+    if check_scans::has_path(key, l, m, x) {
         let mut gone = [false; State::SLOTS];
-        facts::drop_variable(key, l, m, x, &mut gone);
-        facts::forget(key, b, skip, x, &mut gone, from);
+        check_scans::drop_variable(key, l, m, x, &mut gone);
+        giving::forget(key, b, skip, x, &mut gone, from);
         return;
     }
     give_key(key, b, skip, x, check_equality::variable_key(x), from);
@@ -112,7 +90,7 @@ pub fn drop_names(
     requires { ⌜ Wf (now key) (now b) × Forgettable (mentionsKey x) (now key) (now b) (now skip) x ⌝ }
     ensures { λ _. ⌜ Forgot (mentionsKey x) (now (key .entry)) (now (b .entry)) (now (skip .entry)) x (now (key .exit)) (now (b .exit)) ⌝ }
 {
-    let from = scans::first_naming(key, b, x);
+    let from = check_scans::first_naming(key, b, x);
     if from < (b[State::FACTS] as usize) {
         give_names(key, b, skip, x, from);
     }
@@ -126,14 +104,14 @@ fn give_out<'a>(
     marks: &'a [bool; State::MARKS],
     from: usize,
 )
-    requires { ⌜ Wf (now key) (now b) × OutMarked (now b) (now out) (now marks) × Forgettable (keyDropped (now b) (now out)) (now key) (now b) (now out) no-variable × Scanned (markedKey (now marks)) (now key) (now b) from ⌝ }
+    requires { ⌜ Wf (now key) (now b) × OutMarked (now b) (now out) (now marks) × PathsForgettable (now key) (now b) (now out) × Scanned (markedKey (now marks)) (now key) (now b) from ⌝ }
     ensures { λ _. ⌜ Forgot (keyDropped (now (b .entry)) (now (out .entry))) (now (key .entry)) (now (b .entry)) (now (out .entry)) no-variable (now (key .exit)) (now (b .exit)) ⌝ }
 {
     let m = State::LEFT + 2 * (b[State::FACTS] as usize);
     let l = State::LEFT + 2 * from;
     let mut gone = [false; State::SLOTS];
-    facts::drop_paths(key, b, out, marks, l, m, &mut gone);
-    facts::forget(key, b, out, State::NO_VARIABLE, &mut gone, from);
+    check_scans::drop_paths(key, b, out, marks, l, m, &mut gone);
+    giving::forget(key, b, out, State::NO_VARIABLE, &mut gone, from);
 }
 
 // .. unless all of these are still listed.
@@ -148,7 +126,7 @@ pub fn drop_out<'a>(
     ensures { λ _. ⌜ ForgotOut (now (key .entry)) (now (b .entry)) (now (out .entry)) (now (key .exit)) (now (b .exit)) ⌝ }
 {
     let p = b[State::ENTRIES] as usize;
-    if marks::drops_some(b, out, p) {
+    if check_entries::drops_some(b, out, p) {
         give_out(key, b, out, marks, from);
     }
 }
@@ -181,7 +159,7 @@ fn stands_alone<'a>(
     ensures { λ r. ⌜ (r ≡ true → StandsIn (now (b .entry)) x to × NoPath (now (key .entry)) from m x) ⌝ }
 {
     if stands_in(b, x, to) {
-        return !scans::has_path(key, from, m, x);
+        return !check_scans::has_path(key, from, m, x);
     }
     false
 }
@@ -195,18 +173,18 @@ fn give_name(key: &mut [u64; State::SLOTS], b: &mut [u8; State::BYTES], x: u8, t
     let l = State::LEFT + 2 * from;
     let gone = [false; State::SLOTS];
     if stands_alone(key, b, l, m, x, to) {
-        swap_key(
+        check_scans::swap_key(
             key,
             l,
             m,
             check_equality::variable_key(x),
             check_equality::variable_key(to),
         );
-        labels::repack(key, b, &gone, from, x);
+        check_labels::repack(key, b, &gone, from, x);
         return;
     }
-    facts::rename_keys(key, m, x, to);
-    facts::rebuild(key, b, &gone);
+    check_scans::rename_keys(key, m, x, to);
+    check_labels::rebuild(key, b, &gone);
 }
 
 // The variable `to` takes the place of x.
@@ -214,7 +192,7 @@ pub fn rename_names(key: &mut [u64; State::SLOTS], b: &mut [u8; State::BYTES], x
     requires { ⌜ Wf (now key) (now b) ⌝ }
     ensures { λ _. ⌜ Renamed (renamedKey x to) (now (key .entry)) (now (b .entry)) (now (key .exit)) (now (b .exit)) ⌝ }
 {
-    let from = scans::first_naming(key, b, x);
+    let from = check_scans::first_naming(key, b, x);
     if from < (b[State::FACTS] as usize) {
         give_name(key, b, x, to, from);
     }

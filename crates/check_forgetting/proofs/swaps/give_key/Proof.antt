@@ -1,6 +1,6 @@
 use borrow.Author.Needs.{needs}
 use native.Mathlib.Omega.{arith}
-use Rattle.check_forgetting.proofs.Scanning.{scanned-dropped, dropped-untouched, mapped-start, mapped-untouched, picked-other}
+use Rattle.check_scans.proofs.Scanning.{scanned-dropped, dropped-untouched, mapped-start, mapped-untouched, picked-other}
 use Rattle.check_forgetting.proofs.Ways.{flags-dropping, flags-forgot, key-keeps, key-forgot, told-key}
 use Rattle.check_forgetting.proofs.swaps.give_key.Statement.{statement}
 use Rattle.check_forgetting.proofs.swaps.give_key.Tie as tie

@@ -1,6 +1,6 @@
 use native.Mathlib.Omega.{arith}
-use Rattle.check_forgetting.proofs.Forgetting.{wf-sized}
-use Rattle.check_forgetting.proofs.Scanning.{mapped-start, mapped-untouched, picked-other, mentions-not, no-paths}
+use Rattle.check_labels.proofs.Rebuilding.{wf-sized}
+use Rattle.check_scans.proofs.Scanning.{mapped-start, mapped-untouched, picked-other, mentions-not, no-paths}
 use Rattle.check_forgetting.proofs.Ways.{swap-keeps, swap-renamed, rebuilt-renamed}
 use Rattle.check_forgetting.proofs.swaps.give_name.Statement.{statement}
 use Rattle.check_forgetting.proofs.swaps.give_name.Tie as tie

@@ -1,5 +1,5 @@
 use native.Mathlib.Omega.{arith}
-use Rattle.check_forgetting.proofs.Scanning.{scanned-dropped, dropped-untouched, scanned-less, mentions-not, no-paths}
+use Rattle.check_scans.proofs.Scanning.{scanned-dropped, dropped-untouched, scanned-less, mentions-not, no-paths}
 use Rattle.check_forgetting.proofs.Ways.{flags-dropping, flags-forgot, sole-forgettable, sole-forgot}
 use Rattle.check_forgetting.proofs.swaps.give_names.Statement.{statement}
 use Rattle.check_forgetting.proofs.swaps.give_names.Tie as tie

@@ -1,5 +1,5 @@
 use native.Mathlib.Omega.{arith}
-use Rattle.check_forgetting.proofs.Scanning.{scanned-dropped, dropped-untouched, scanned-less, unmarked-kept}
+use Rattle.check_scans.proofs.Scanning.{scanned-dropped, dropped-untouched, scanned-less, unmarked-kept}
 use Rattle.check_forgetting.proofs.Ways.{flags-dropping, flags-forgot}
 use borrow.Author.Needs.{needs}
 use Rattle.check_forgetting.proofs.swaps.give_out.Statement.{statement}

@@ -1,5 +1,6 @@
 use native.Mathlib.Omega.{arith}
-use Rattle.check_forgetting.proofs.Scanning.{scanned-renamed, renamed-not}
+use Rattle.check_forgetting.proofs.Untouched.{scanned-renamed}
+use Rattle.check_scans.proofs.Scanning.{renamed-not}
 use Rattle.check_forgetting.proofs.swaps.rename_names.Statement.{statement}
 use Rattle.check_forgetting.proofs.swaps.rename_names.Tie as tie
 

@@ -1,4 +1,4 @@
-use Rattle.check_forgetting.proofs.Relabelling.{not-true}
+use Rattle.check_labels.proofs.Relabelling.{not-true}
 use Prim.Native.Nat.{ℕ}
 use native.Mathlib.Omega.{arith}
 use mathlib.Core.Path.{_≡_}

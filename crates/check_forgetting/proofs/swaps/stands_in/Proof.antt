@@ -1,4 +1,4 @@
-use Rattle.check_forgetting.proofs.Relabelling.{and-left, and-right}
+use Rattle.check_labels.proofs.Relabelling.{and-left, and-right}
 use Prim.Native.Nat.{ℕ}
 use lib.Dec.{ltb}
 use lib.ListN.{getD}
@@ -6,7 +6,6 @@ use borrow.Author.Needs.{needs}
 use native.Mathlib.Omega.{arith}
 use mathlib.Core.Path.{_≡_}
 use borrow.Author.Tests.{ltb-true, eqb-true}
-use borrow.Author.Needs.{needs}
 use Rattle.check_forgetting.proofs.swaps.stands_in.Statement.{statement}
 use Rattle.check_forgetting.proofs.swaps.stands_in.Tie as tie
 
