@@ -1,26 +1,25 @@
 // What becomes of a state when paths or a variable go: the remainder, removing, `set`; the state that knows nothing.
-mod giving;
-mod swaps;
-
 use check_equality::State;
 use check_state::Resolved;
 use rules::Machine;
 ghost use mathlib.Core.Path.{_≡_};
 ghost use mathlib.Core.Bool.{true};
+ghost use Prim.Native.Nat.{_<_, _+_, ℕ};
+ghost use lib.ListN.{length, getD};
+ghost use Rattle.check_equality.specs.Layout.{bytes, variables-at, fields-at};
+ghost use Rattle.check_equality.specs.Links.{Header};
+ghost use Rattle.check_state.specs.States.{Wf, entries, stateOf};
+ghost use Rattle.check_successors.specs.Successors.{termOr};
+ghost use Rattle.check_scans.specs.Scans.{Scanned, markedKey};
+ghost use Rattle.check_state.specs.Questions.{variableOr};
+ghost use Rattle.check_entries.specs.PathsOut.{OutMarked};
+ghost use Rattle.check_scans.specs.Sides.{mentionsKey};
+ghost use Rattle.check_forgetting.specs.Changes.{ForgotOut, Becomes, Remains, withoutPath};
 ghost use mathlib.Core.Option.{none, some};
 ghost use mathlib.Core.List.{List};
-ghost use Prim.Native.Nat.{_+_, _<_, ℕ};
-ghost use lib.ListN.{length, getD};
 ghost use Rattle.rules.specs.Syntax as Syntax;
 ghost use Rattle.rules.specs.State as Rules;
-ghost use Rattle.check_equality.specs.Layout.{bytes, variables-at, fields-at};
 ghost use Rattle.check_equality.specs.Keys.{termOf};
-ghost use Rattle.check_equality.specs.Links.{Header};
-ghost use Rattle.check_state.specs.States.{entries, Wf, stateOf};
-ghost use Rattle.check_state.specs.Questions.{variableOr};
-ghost use Rattle.check_successors.specs.Successors.{termOr};
-ghost use Rattle.check_scans.specs.Sides.{mentionsKey};
-ghost use Rattle.check_forgetting.specs.Changes.{Becomes, Remains, ForgotOut, withoutPath};
 
 // The keys of a state that knows nothing: in the slots before the facts' the variables and null.
 pub fn header() -> [u64; State::SLOTS]
@@ -46,6 +45,23 @@ pub fn clear(b: &mut [u8; State::BYTES])
     b[State::ENTRIES] = 0;
 }
 
+// The paths of the entries that are out, whose places are marked, are dropped, unless all of them are still listed.
+fn drop_out<'a>(
+    key: &mut [u64; State::SLOTS],
+    b: &mut [u8; State::BYTES],
+    out: &'a [bool; Machine::PERMISSIONS],
+    marks: &'a [bool; State::MARKS],
+    from: usize,
+)
+    requires { ⌜ Wf (now key) (now b) × OutMarked (now b) (now out) (now marks) × Scanned (markedKey (now marks)) (now key) (now b) from ⌝ }
+    ensures { λ _. ⌜ ForgotOut (now (key .entry)) (now (b .entry)) (now (out .entry)) (now (key .exit)) (now (b .exit)) ⌝ }
+{
+    let p = b[State::ENTRIES] as usize;
+    if check_entries::drops_some(b, out, p) {
+        check_dropping::give_out(key, b, out, marks, from);
+    }
+}
+
 // The paths of the entries that are out are dropped, but for names still listed: the facts without them.
 fn forget_out(
     key: &mut [u64; State::SLOTS],
@@ -59,7 +75,7 @@ fn forget_out(
     let marks = check_entries::marks_out(b, out, p);
     let from = check_scans::first_marked(key, b, &marks);
     if from < (b[State::FACTS] as usize) {
-        swaps::drop_out(key, b, out, &marks, from);
+        drop_out(key, b, out, &marks, from);
     }
 }
 
@@ -83,7 +99,7 @@ pub fn without_path(key: &mut [u64; State::SLOTS], b: &mut [u8; State::BYTES], i
 {
     let p = b[State::ENTRIES] as usize;
     let skip = check_entries::entries_at(b, p, k);
-    swaps::drop_key(key, b, &skip, State::NO_VARIABLE, k);
+    check_dropping::drop_key(key, b, &skip, State::NO_VARIABLE, k);
 }
 
 // x and its paths are dropped.
@@ -93,7 +109,7 @@ fn erase(key: &mut [u64; State::SLOTS], b: &mut [u8; State::BYTES], x: u8)
 {
     let p = b[State::ENTRIES] as usize;
     let out = check_entries::entries_of(b, p, x);
-    swaps::drop_names(key, b, &out, x);
+    check_dropping::drop_names(key, b, &out, x);
     check_entries::pack(b, &out);
 }
 
@@ -102,7 +118,7 @@ fn replace(key: &mut [u64; State::SLOTS], b: &mut [u8; State::BYTES], x: u8, to:
     requires { ⌜ Wf (now key) (now b) ⌝ }
     ensures { λ _. ⌜ Becomes (Rules.removeTo x (some to) (stateOf (now (key .entry)) (now (b .entry)))) (now (key .exit)) (now (b .exit)) ⌝ }
 {
-    swaps::rename_names(key, b, x, to);
+    check_dropping::rename_names(key, b, x, to);
     check_entries::rename_entries(b, x, to);
 }
 
