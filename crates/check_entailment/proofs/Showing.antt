@@ -21,13 +21,14 @@ use Rattle.check_entailment.specs.declared.Answer.{Answer}
 use Rattle.check_state.specs.declared.Resolved.{Resolved}
 use Rattle.check_state.specs.States.{Wf, stateOf, facts, entries, factAt, factsOf, permissionAt, permissionsOf}
 use Rattle.check_state.specs.Questions.{FirstPlace, entryTest, passes, resolvedAs}
-use Rattle.check_forgetting.specs.Changes.{kept}
+use Rattle.check_entries.specs.Entries.{kept}
 use Rattle.check_entailment.specs.Answers.{answered, ShowsAtom, ShowsRelation, Adds, AddsAtom}
 use Rattle.check_state.specs.States.{factsIn, permissionsIn, Linked}
 use Rattle.check_equality.specs.Links.{Pushed, factOf}
 use Rattle.check_equality.proofs.Listing.{listed-same}
 use Rattle.check_equality.specs.Layout.{left-sides, relations-at, variables-at, fact-count, entry-count, acc-kind, bytes}
-use Rattle.check_forgetting.proofs.Keeping.{with-entry, entry-size, entry-other, entries-more, entries-same, kinds-more, kinds-same, linked-same, facts-same, pushed-facts, pushed-linked, pushed-rest, counted-linked, counted-facts, counted-other}
+use Rattle.check_entries.proofs.Keeping.{with-entry, entry-size, entry-other, entries-more, kinds-more}
+use Rattle.check_state.proofs.Writing.{entries-same, kinds-same, linked-same, facts-same, pushed-facts, pushed-linked, pushed-rest, counted-linked, counted-facts, counted-other}
 use Rattle.check_entailment.proofs.Splits.{split-none, split-first, gone-set}
 
 -- ACCESS

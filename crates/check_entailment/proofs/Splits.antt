@@ -13,10 +13,10 @@ use Rattle.rules.specs.State.{Permission, Split, split}
 use Rattle.rules.proofs.Lists.{decide-eq}
 use Rattle.check_equality.specs.Listing.{listed}
 use Rattle.check_equality.proofs.Listing.{any-append}
-use Rattle.check_forgetting.specs.Changes.{kept, gone}
+use Rattle.check_entries.specs.Entries.{kept, gone}
 use Rattle.check_state.specs.Questions.{places}
 use Rattle.check_inequality.proofs.Searches.{any-same}
-use Rattle.check_forgetting.proofs.Keeping.{gone-any, kept-same}
+use Rattle.check_entries.proofs.Keeping.{gone-any, kept-same}
 
 abbrev ahead : List Permission → Split → Split
 ahead l c = record { taken = c .taken; others = l ++ c .others }

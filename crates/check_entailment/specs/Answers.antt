@@ -14,7 +14,7 @@ use Rattle.rules.specs.State.{equalIn, showFrom}
 use Rattle.check_equality.specs.Keys.{meaning}
 use Rattle.check_equality.specs.Links.{relOf}
 use Rattle.check_state.specs.States.{Wf, stateOf}
-use Rattle.check_forgetting.specs.Changes.{Consumed}
+use Rattle.check_entries.specs.Entries.{Consumed}
 use Rattle.check_entailment.specs.declared.Answer.{Answer}
 use Rattle.check_entailment.specs.declared.Atom.{Atom}
 

@@ -56,7 +56,7 @@ pub fn add_permission(b: &mut [u8; State::BYTES], x: u8, f: u8) -> Answer
 fn flag(apart: bool) -> u8
     ensures { λ r. ⌜ eqb r 1 ≡ apart ⌝ }
 {
-    if apart { 1 } else { 0 }
+    if apart { State::UNEQUAL } else { 0 }
 }
 
 // One more fact, of terms by their keys.

@@ -1,3 +1,4 @@
 pub mod Keys
 pub mod Listing
 pub mod Labels
+pub mod Marking

@@ -6,6 +6,10 @@ use Rattle.rules.specs.Syntax as Syntax
 use Rattle.rules.specs.Syntax.{num, null, var, path}
 use Rattle.check_equality.specs.declared.Term.{Term}
 
+-- how many values a byte has
+abbrev pub byte-values : ℕ
+byte-values = 256
+
 abbrev pub null-key : ℕ
 null-key = 256
 

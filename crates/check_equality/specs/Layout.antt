@@ -17,6 +17,10 @@ left-sides = 16
 abbrev pub right-sides : ℕ
 right-sides = 17
 
+-- two slots before the facts', which two more terms may take
+abbrev pub terms-at : ℕ
+terms-at = 14
+
 -- BYTES, after the labels
 abbrev pub relations-at : ℕ
 relations-at = 144
@@ -46,6 +50,10 @@ acc-kind = 0
 -- MARKS: the places of keys
 abbrev pub mark-count : ℕ
 mark-count = 512
+
+-- a key's place is the key and so many-th of it, so that the paths of two variables have different places
+abbrev pub mark-fold : ℕ
+mark-fold = 8
 
 -- the constants of the code are these
 abbrev pub offsets : Declared.State

@@ -9,7 +9,7 @@ use lib.Dec.{eqb}
 use lib.ListN.{length, getD, set}
 use Rattle.rules.specs.Syntax.{Rel, eq, ne}
 use Rattle.rules.specs.State.{Term, Fact, representative}
-use Rattle.check_equality.specs.Layout.{slots, null-slot, left-sides, mark-count}
+use Rattle.check_equality.specs.Layout.{slots, null-slot, left-sides, mark-count, mark-fold}
 use Rattle.check_equality.specs.Keys.{termOf, null-key}
 
 abbrev pub termAt : List ℕ → ℕ → Term
@@ -108,7 +108,13 @@ pub record Pushed (key label : List ℕ) (m : ℕ) (b : Bool) (l r : ℕ) (key�
 
 -- a place among the marks for each key
 unfoldable pub placeOf : ℕ → ℕ
-placeOf k = (k / 8 + k % mark-count) % mark-count
+placeOf k = (k / mark-fold + k % mark-count) % mark-count
+
+-- the place of the key k is marked, if `yes`
+pub record Marks (yes : Bool) (k : ℕ) (marks marks′ : List Bool) : Type 0 where
+  pub size : length marks′ ≡ length marks
+  pub new : yes ≡ true → getD marks′ (placeOf k) false ≡ true
+  pub old : (p : ℕ) → getD marks p false ≡ true → getD marks′ p false ≡ true
 
 -- the places of the sides in the slots up to m are marked
 pub record Marked (key : List ℕ) (marks : List Bool) (m : ℕ) : Type 0 where

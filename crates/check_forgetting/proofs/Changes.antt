@@ -21,15 +21,21 @@ use Rattle.check_equality.specs.Listing.{listed}
 use Rattle.check_equality.proofs.Keys.{same-key}
 use Rattle.check_equality.proofs.Listing.{listed-same, or-false}
 use Rattle.check_equality.specs.Layout.{variables-at, fields-at, fact-count, entry-count}
-use Rattle.check_state.specs.States.{Wf, stateOf, facts, entries, factsOf, variableAt, fieldAt, permissionAt, permissionsIn, permissionsOf}
+use Rattle.check_state.specs.States.{Wf, stateOf, facts, entries, factsOf, variableAt, fieldAt, permissionAt, permissionsIn, permissionsOf, pathAtEntry}
 use Rattle.check_state.specs.Questions.{places}
-use Rattle.check_successors.specs.Successors.{Drops, pathAtEntry}
-use Rattle.check_forgetting.specs.Changes.{Becomes, Consumed, Forgettable, Forgot, Renamed, ForgotOut, OutMarked, RenamedEntries, Packed, Flags, renamedVariable, renamedKey, mentionsKey, keyDropped, droppedAt, withoutPath, kept, gone, Remains}
-use Rattle.check_forgetting.proofs.Renaming.{gone-term, renamed-term}
-use Rattle.check_forgetting.proofs.Keeping.{kept-same, kept-all, kept-map, entries-same, kinds-same, same-linked, same-facts}
-use Rattle.check_forgetting.proofs.GivingWay.{gave, named}
-use Rattle.check_forgetting.specs.Scans.{Scanned, markedKey}
-use Rattle.check_forgetting.proofs.Scanning.{scanned-less, scanned-forgot, unmarked-kept}
+use Rattle.check_successors.specs.Successors.{Drops}
+use Rattle.check_forgetting.specs.Changes.{Becomes, ForgotOut, withoutPath, Remains}
+use Rattle.check_dropping.specs.Dropping.{Forgettable, Forgot, Renamed}
+use Rattle.check_entries.specs.Entries.{Consumed, RenamedEntries, Packed, Flags, renamedVariable, kept, gone}
+use Rattle.check_entries.specs.PathsOut.{OutMarked, keyDropped, droppedAt}
+use Rattle.check_scans.specs.Sides.{renamedKey, mentionsKey}
+use Rattle.check_scans.proofs.Renaming.{gone-term, renamed-term}
+use Rattle.check_entries.proofs.Keeping.{kept-same, kept-all, kept-map}
+use Rattle.check_state.proofs.Writing.{entries-same, kinds-same, same-linked, same-facts}
+use Rattle.check_dropping.proofs.GivingWay.{gave, named}
+use Rattle.check_scans.specs.Scans.{Scanned, markedKey}
+use Rattle.check_scans.proofs.Scanning.{scanned-less, unmarked-kept}
+use Rattle.check_dropping.proofs.Untouched.{scanned-forgot}
 use Rattle.check_forgetting.proofs.Droppings.{path-drops, removed-drops, remainder-drops, drops-facts, keeps-facts, dropped-term}
 
 -- FACTS AND ENTRIES, one after the other: key₁ and b₁ have the facts, and the entries are as they were

@@ -18,11 +18,12 @@ use Rattle.check_equality.specs.Listing.{listed}
 use Rattle.check_equality.specs.Keys.{termOf}
 use Rattle.check_equality.proofs.Listing.{map-append, any-found}
 use Rattle.check_inequality.proofs.Searches.{any-same}
-use Rattle.check_state.specs.States.{variableAt, fieldAt, permissionAt, permissionsOf, entries}
+use Rattle.check_state.specs.States.{variableAt, fieldAt, permissionAt, permissionsOf, entries, pathAtEntry}
 use Rattle.check_state.specs.Questions.{places}
-use Rattle.check_successors.specs.Successors.{Drops, pathAtEntry}
-use Rattle.check_forgetting.specs.Changes.{kept, keptNames, keyOut, pathOut, keyDropped, droppedAt, Consumed}
-use Rattle.check_forgetting.proofs.Keeping.{kept-any, gone-any}
+use Rattle.check_successors.specs.Successors.{Drops}
+use Rattle.check_entries.specs.Entries.{kept, Consumed}
+use Rattle.check_entries.specs.PathsOut.{keptNames, keyOut, pathOut, keyDropped, droppedAt}
+use Rattle.check_entries.proofs.Keeping.{kept-any, gone-any}
 
 -- a search over places, and over what stands there
 first-append-both :

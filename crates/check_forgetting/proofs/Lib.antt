@@ -1,13 +1,3 @@
 pub mod Starts
-pub mod Renaming
-pub mod Keeping
-pub mod Forgetting
-pub mod KeptLabels
-pub mod Repacking
-pub mod Relabelling
-pub mod GivingWay
-pub mod Marking
-pub mod Scanning
-pub mod Ways
 pub mod Droppings
 pub mod Changes

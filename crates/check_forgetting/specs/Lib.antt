@@ -1,3 +1,1 @@
 pub mod Changes
-pub mod Scans
-pub mod Labels

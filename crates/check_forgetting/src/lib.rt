@@ -1,30 +1,25 @@
 // What becomes of a state when paths or a variable go: the remainder, removing, `set`; the state that knows nothing.
-mod entries;
-mod facts;
-mod keys;
-mod labels;
-mod marks;
-mod scans;
-mod swaps;
-
 use check_equality::State;
 use check_state::Resolved;
 use rules::Machine;
 ghost use mathlib.Core.Path.{_≡_};
 ghost use mathlib.Core.Bool.{true};
+ghost use Prim.Native.Nat.{_<_, _+_, ℕ};
+ghost use lib.ListN.{length, getD};
+ghost use Rattle.check_equality.specs.Layout.{bytes, variables-at, fields-at};
+ghost use Rattle.check_equality.specs.Links.{Header};
+ghost use Rattle.check_state.specs.States.{Wf, entries, stateOf};
+ghost use Rattle.check_successors.specs.Successors.{termOr};
+ghost use Rattle.check_scans.specs.Scans.{Scanned, markedKey};
+ghost use Rattle.check_state.specs.Questions.{variableOr};
+ghost use Rattle.check_entries.specs.PathsOut.{OutMarked};
+ghost use Rattle.check_scans.specs.Sides.{mentionsKey};
+ghost use Rattle.check_forgetting.specs.Changes.{ForgotOut, Becomes, Remains, withoutPath};
 ghost use mathlib.Core.Option.{none, some};
 ghost use mathlib.Core.List.{List};
-ghost use Prim.Native.Nat.{ℕ, _+_, _*_, _<_};
-ghost use lib.ListN.{length, getD};
 ghost use Rattle.rules.specs.Syntax as Syntax;
 ghost use Rattle.rules.specs.State as Rules;
-ghost use Rattle.check_equality.specs.Layout.{bytes, variables-at, fields-at};
 ghost use Rattle.check_equality.specs.Keys.{termOf};
-ghost use Rattle.check_equality.specs.Links.{Header};
-ghost use Rattle.check_state.specs.States.{Wf, stateOf, entries};
-ghost use Rattle.check_state.specs.Questions.{variableOr};
-ghost use Rattle.check_successors.specs.Successors.{termOr};
-ghost use Rattle.check_forgetting.specs.Changes.{Becomes, Remains, ForgotOut, withoutPath, mentionsKey};
 
 // The keys of a state that knows nothing: in the slots before the facts' the variables and null.
 pub fn header() -> [u64; State::SLOTS]
@@ -45,9 +40,26 @@ pub fn clear(b: &mut [u8; State::BYTES])
     requires { ⌜ length (now b) ≡ bytes ⌝ }
     ensures { λ _. ⌜ ((key : List ℕ) → Header key → Becomes Rules.empty key (now (b .exit))) ⌝ }
 {
-    facts::fresh(b);
+    check_labels::fresh(b);
     b[State::FACTS] = 0;
     b[State::ENTRIES] = 0;
+}
+
+// The paths of the entries that are out, whose places are marked, are dropped, unless all of them are still listed.
+fn drop_out<'a>(
+    key: &mut [u64; State::SLOTS],
+    b: &mut [u8; State::BYTES],
+    out: &'a [bool; Machine::PERMISSIONS],
+    marks: &'a [bool; State::MARKS],
+    from: usize,
+)
+    requires { ⌜ Wf (now key) (now b) × OutMarked (now b) (now out) (now marks) × Scanned (markedKey (now marks)) (now key) (now b) from ⌝ }
+    ensures { λ _. ⌜ ForgotOut (now (key .entry)) (now (b .entry)) (now (out .entry)) (now (key .exit)) (now (b .exit)) ⌝ }
+{
+    let p = b[State::ENTRIES] as usize;
+    if check_entries::drops_some(b, out, p) {
+        check_dropping::give_out(key, b, out, marks, from);
+    }
 }
 
 // The paths of the entries that are out are dropped, but for names still listed: the facts without them.
@@ -60,10 +72,10 @@ fn forget_out(
     ensures { λ _. ⌜ ForgotOut (now (key .entry)) (now (b .entry)) (now (out .entry)) (now (key .exit)) (now (b .exit)) ⌝ }
 {
     let p = b[State::ENTRIES] as usize;
-    let marks = marks::marks_out(b, out, p);
-    let from = scans::first_marked(key, b, &marks);
+    let marks = check_entries::marks_out(b, out, p);
+    let from = check_scans::first_marked(key, b, &marks);
     if from < (b[State::FACTS] as usize) {
-        swaps::drop_out(key, b, out, &marks, from);
+        drop_out(key, b, out, &marks, from);
     }
 }
 
@@ -77,7 +89,7 @@ pub fn remainder(
     ensures { λ _. ⌜ Remains (now (key .entry)) (now (b .entry)) (now (out .entry)) (now (key .exit)) (now (b .exit)) ⌝ }
 {
     forget_out(key, b, out);
-    entries::pack(b, out);
+    check_entries::pack(b, out);
 }
 
 // The path of entry i, whose key is k, is dropped, though it stays listed.
@@ -86,8 +98,8 @@ pub fn without_path(key: &mut [u64; State::SLOTS], b: &mut [u8; State::BYTES], i
     ensures { λ _. ⌜ Becomes (withoutPath (now (key .entry)) (now (b .entry)) i) (now (key .exit)) (now (b .exit)) ⌝ }
 {
     let p = b[State::ENTRIES] as usize;
-    let skip = entries::entries_at(b, p, k);
-    swaps::drop_key(key, b, &skip, State::NO_VARIABLE, k);
+    let skip = check_entries::entries_at(b, p, k);
+    check_dropping::drop_key(key, b, &skip, State::NO_VARIABLE, k);
 }
 
 // x and its paths are dropped.
@@ -96,9 +108,9 @@ fn erase(key: &mut [u64; State::SLOTS], b: &mut [u8; State::BYTES], x: u8)
     ensures { λ _. ⌜ Becomes (Rules.removeTo x none (stateOf (now (key .entry)) (now (b .entry)))) (now (key .exit)) (now (b .exit)) ⌝ }
 {
     let p = b[State::ENTRIES] as usize;
-    let out = entries::entries_of(b, p, x);
-    swaps::drop_names(key, b, &out, x);
-    entries::pack(b, &out);
+    let out = check_entries::entries_of(b, p, x);
+    check_dropping::drop_names(key, b, &out, x);
+    check_entries::pack(b, &out);
 }
 
 // The variable `to` takes the place of x.
@@ -106,8 +118,8 @@ fn replace(key: &mut [u64; State::SLOTS], b: &mut [u8; State::BYTES], x: u8, to:
     requires { ⌜ Wf (now key) (now b) ⌝ }
     ensures { λ _. ⌜ Becomes (Rules.removeTo x (some to) (stateOf (now (key .entry)) (now (b .entry)))) (now (key .exit)) (now (b .exit)) ⌝ }
 {
-    swaps::rename_names(key, b, x, to);
-    entries::rename_entries(b, x, to);
+    check_dropping::rename_names(key, b, x, to);
+    check_entries::rename_entries(b, x, to);
 }
 
 // The state with `to` in the place of x, or, where that is NO_VARIABLE, without x.
@@ -137,7 +149,7 @@ fn gives_way<'a>(key: &'a [u64; State::SLOTS], b: &'a [u8; State::BYTES], k: u64
 {
     let m = State::LEFT + 2 * (b[State::FACTS] as usize);
     let p = b[State::ENTRIES] as usize;
-    let skip = entries::entries_of(b, p, x);
+    let skip = check_entries::entries_of(b, p, x);
     let a = check_equality::label_of(key, b, m, k);
     check_successors::successor(key, b, &skip, x, k, a)
 }
@@ -147,7 +159,7 @@ fn left_over<'a>(key: &'a [u64; State::SLOTS], b: &'a [u8; State::BYTES], k: u64
     requires { ⌜ Wf (now key) (now b) ⌝ }
     ensures { λ r. ⌜ termOr r ≡ Rules.removedTerm x none (stateOf (now (key .entry)) (now (b .entry))) (termOf k) ⌝ }
 {
-    if keys::mentions(k, x) {
+    if check_scans::mentions(k, x) {
         return gives_way(key, b, k, x);
     }
     Resolved::Key(k)
@@ -167,5 +179,5 @@ pub fn removed<'a>(
     if to == State::NO_VARIABLE {
         return left_over(key, b, k, x);
     }
-    Resolved::Key(keys::rename(k, x, to))
+    Resolved::Key(check_scans::rename(k, x, to))
 }

@@ -20,10 +20,10 @@ use Rattle.check_equality.specs.Listing.{listed}
 use Rattle.check_entailment.specs.declared.Answer.{Answer}
 use Rattle.check_entailment.proofs.Answer.{the-type}
 use Rattle.check_state.specs.States.{Wf, stateOf, entries, permissionsOf, permissionAt}
-use Rattle.check_forgetting.specs.Changes.{gone}
+use Rattle.check_entries.specs.Entries.{gone}
 use Rattle.check_entailment.specs.Answers.{answered, ShowsAtom, Adds, AddsAtom}
 use Rattle.check_state.proofs.Entries.{no-flags}
-use Rattle.check_forgetting.proofs.Keeping.{kept-all, gone-any}
+use Rattle.check_entries.proofs.Keeping.{kept-all, gone-any}
 use Rattle.check_inequality.proofs.Searches.{any-false}
 use Rattle.check_formulas.specs.Formulas.{formula, accessAt, Shows, Showing}
 

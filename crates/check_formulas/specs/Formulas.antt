@@ -12,8 +12,16 @@ use Rattle.rules.specs.Rules.{actual, substAtom}
 use Rattle.tables.specs.Decode.{byteAt, atomPlace, atomsFrom}
 use Rattle.check_entailment.specs.declared.Answer.{Answer}
 use Rattle.check_state.specs.States.{stateOf}
-use Rattle.check_forgetting.specs.Changes.{Consumed}
+use Rattle.check_entries.specs.Entries.{Consumed}
 use Rattle.check_entailment.specs.Answers.{answered}
+
+-- the bytes of a side
+abbrev pub side-bytes : ℕ
+side-bytes = 4
+
+-- where an atom has its left side: `acc x f` has x and f there
+abbrev pub left-at : ℕ
+left-at = 4
 
 -- n atoms from the atom a on, with y, z and x for `this`, w and `result`
 unfoldable pub formula : List ℕ → ℕ → ℕ → ℕ → ℕ → ℕ → Formula ℕ
@@ -34,4 +42,4 @@ pub record Showing (key b : List ℕ) (φ rest : Formula ℕ) (out : List Bool) 
   pub same : showFrom (equalIn (stateOf key b)) (stateOf key b) rest shown ≡ Rules.show (stateOf key b) φ
 
 unfoldable pub accessAt : List ℕ → ℕ → ℕ → ℕ → ℕ → Atom ℕ
-accessAt w y z x a = substAtom (actual y z x) (acc (byteAt w (atomPlace a + 4)) (byteAt w (atomPlace a + 5)))
+accessAt w y z x a = substAtom (actual y z x) (acc (byteAt w (atomPlace a + left-at)) (byteAt w (atomPlace a + (left-at + 1))))

@@ -18,7 +18,30 @@ ghost use Rattle.tables.specs.Decode.{exprAt, leftAt, rightAt, atomAt};
 ghost use Rattle.check_equality.specs.Keys.{meaning};
 ghost use Rattle.check_state.specs.States.{Wf, stateOf};
 ghost use Rattle.check_entailment.specs.Answers.{atomOf, Adds};
-ghost use Rattle.check_formulas.specs.Formulas.{formula, accessAt, Shows};
+ghost use Rattle.check_formulas.specs.Formulas.{side-bytes, formula, accessAt, Shows};
+
+// An atom of the tables: its kind, the tags of its sides, and the sides.
+const ACC: usize = 0;
+
+const EQ: usize = 1;
+
+const LEFT_TAG: usize = 1;
+
+const RIGHT_TAG: usize = 2;
+
+const LEFT: usize = 4;
+
+const RIGHT: usize = 8;
+
+// The field of a path on the left.
+const LEFT_FIELD: usize = 5;
+
+// A side: a number, null, a variable, or else a path, whose field comes after its variable.
+const NUMBER: usize = 0;
+
+const NULL: usize = 1;
+
+const VARIABLE: usize = 2;
 
 // The variable v of a formula, with y, z and x for `this`, w and `result`.
 fn actual(y: u8, z: u8, x: u8, v: u8) -> u8
@@ -34,13 +57,13 @@ fn actual(y: u8, z: u8, x: u8, v: u8) -> u8
 
 // The side of an atom that stands at i.
 fn side(w: &[u8], tag: usize, i: usize, y: u8, z: u8, x: u8) -> Term
-    requires { ⌜ i + 4 ≤ length (now w) ⌝ }
+    requires { ⌜ i + side-bytes ≤ length (now w) ⌝ }
     ensures { λ r. ⌜ meaning r ≡ substTerm (Rule.actual y z x) (exprAt (now (w .entry)) tag i) ⌝ }
 {
     match tag {
-        0 => Term::Num(tables::word_at(w, i)),
-        1 => Term::Null,
-        2 => Term::Var(actual(y, z, x, w[i])),
+        NUMBER => Term::Num(tables::word_at(w, i)),
+        NULL => Term::Null,
+        VARIABLE => Term::Var(actual(y, z, x, w[i])),
         _ => Term::Path(actual(y, z, x, w[i]), w[i + 1]),
     }
 }
@@ -51,8 +74,8 @@ pub fn left(w: &[u8], a: usize, y: u8, z: u8, x: u8) -> Term
     ensures { λ r. ⌜ meaning r ≡ substTerm (Rule.actual y z x) (leftAt (now (w .entry)) a) ⌝ }
 {
     let i = Layout::ATOMS + a * Layout::ATOM_BYTES;
-    let tag = tables::byte_at(w, i + 1);
-    side(w, tag, i + 4, y, z, x)
+    let tag = tables::byte_at(w, i + LEFT_TAG);
+    side(w, tag, i + LEFT, y, z, x)
 }
 
 // The right side of the atom a.
@@ -61,8 +84,8 @@ pub fn right(w: &[u8], a: usize, y: u8, z: u8, x: u8) -> Term
     ensures { λ r. ⌜ meaning r ≡ substTerm (Rule.actual y z x) (rightAt (now (w .entry)) a) ⌝ }
 {
     let i = Layout::ATOMS + a * Layout::ATOM_BYTES;
-    let tag = tables::byte_at(w, i + 2);
-    side(w, tag, i + 8, y, z, x)
+    let tag = tables::byte_at(w, i + RIGHT_TAG);
+    side(w, tag, i + RIGHT, y, z, x)
 }
 
 // `acc x f` at the atom a.
@@ -71,7 +94,7 @@ fn access(w: &[u8], a: usize, y: u8, z: u8, x: u8) -> Atom
     ensures { λ r. ⌜ atomOf r ≡ accessAt (now (w .entry)) y z x a ⌝ }
 {
     let i = Layout::ATOMS + a * Layout::ATOM_BYTES;
-    Atom::Acc(actual(y, z, x, w[i + 4]), w[i + 5])
+    Atom::Acc(actual(y, z, x, w[i + LEFT]), w[i + LEFT_FIELD])
 }
 
 // The atom a.
@@ -80,8 +103,8 @@ pub fn atom(w: &[u8], a: usize, y: u8, z: u8, x: u8) -> Atom
     ensures { λ r. ⌜ atomOf r ≡ substAtom (Rule.actual y z x) (atomAt (now (w .entry)) a) ⌝ }
 {
     match tables::atom_kind(w, a) {
-        0 => access(w, a, y, z, x),
-        1 => Atom::Eq(left(w, a, y, z, x), right(w, a, y, z, x)),
+        ACC => access(w, a, y, z, x),
+        EQ => Atom::Eq(left(w, a, y, z, x), right(w, a, y, z, x)),
         _ => Atom::Ne(left(w, a, y, z, x), right(w, a, y, z, x)),
     }
 }

@@ -8,7 +8,7 @@ use lib.ListN.{getD}
 use Rattle.rules.specs.Base.{any}
 use Rattle.rules.specs.Syntax.{var}
 use Rattle.rules.specs.State.{Equality, Permission, links, equalBy, representative, differentNumbers}
-use Rattle.check_equality.specs.Layout.{left-sides, right-sides, relations-at}
+use Rattle.check_equality.specs.Layout.{terms-at, left-sides, right-sides, relations-at}
 use Rattle.check_equality.specs.Keys.{termOf, first-number}
 use Rattle.check_equality.specs.Links.{alikeBy, Labelled, Decides}
 use Rattle.check_state.specs.States.{permissionAt, factsIn, variableAt}
@@ -33,9 +33,13 @@ numberLike k c l b = leb first-number k && alikeBy k c l b
 unfoldable pub otherLike : ℕ → ℕ → ℕ → ℕ → ℕ → Bool
 otherLike j l b k c = not (eqb j k) && numberLike k c l b
 
--- among n slots from 14 on
+-- the two terms and the sides of all facts
+abbrev pub most-terms : ℕ
+most-terms = 130
+
+-- among n slots from TERMS on
 abbrev pub otherIn : List ℕ → List ℕ → ℕ → ℕ → ℕ → ℕ → Bool
-otherIn key label l b j i = otherLike j l b (getD key (14 + i) 0) (getD label (14 + i) 0)
+otherIn key label l b j i = otherLike j l b (getD key (terms-at + i) 0) (getD label (terms-at + i) 0)
 
 unfoldable pub otherNumber : List ℕ → List ℕ → ℕ → ℕ → ℕ → ℕ → Bool
 otherNumber key label n l b j = any (otherIn key label l b j) (places n)
@@ -52,7 +56,7 @@ NumbersTold key label n t u r =
 
 unfoldable pub twoNumbers : List ℕ → List ℕ → ℕ → ℕ → ℕ → ℕ → ℕ → ℕ → Bool
 twoNumbers key label n t a u b i =
-    numberLike (getD key (14 + i) 0) (getD label (14 + i) 0) t a && otherNumber key label n u b (getD key (14 + i) 0)
+    numberLike (getD key (terms-at + i) 0) (getD label (terms-at + i) 0) t a && otherNumber key label n u b (getD key (terms-at + i) 0)
 
 -- (d) two entries are for one field, and their variables ~ t and u
 unfoldable pub pairTest : Equality → ℕ → ℕ → Permission → Permission → Bool

@@ -7,7 +7,7 @@ ghost use Rattle.rules.specs.Base.{any};
 ghost use Rattle.rules.specs.Limits.{most-facts};
 ghost use Rattle.check_equality.specs.Layout.{slots, bytes};
 ghost use Rattle.check_state.specs.Questions.{places};
-ghost use Rattle.check_inequality.specs.Ways.{numberLike, otherLike, otherNumber, twoNumbers, FactLabel, NumbersTold};
+ghost use Rattle.check_inequality.specs.Ways.{most-terms, numberLike, otherLike, otherNumber, twoNumbers, FactLabel, NumbersTold};
 
 // Is k a number's key, and the number ~ the term of l?
 pub fn number_like(k: u64, c: u8, l: u64, b: u8) -> bool
@@ -37,7 +37,7 @@ fn other_number<'a>(
     b: u8,
     j: u64,
 ) -> bool
-    requires { ⌜ n ≤ 130 ⌝ }
+    requires { ⌜ n ≤ most-terms ⌝ }
     ensures { λ r. ⌜ r ≡ otherNumber (now (key .entry)) (now (label .entry)) n l b j ⌝ }
 {
     let mut i = 0;
@@ -61,7 +61,7 @@ fn two_numbers<'a>(
     b: u8,
     i: usize,
 ) -> bool
-    requires { ⌜ (n ≤ 130) × (i < n) ⌝ }
+    requires { ⌜ (n ≤ most-terms) × (i < n) ⌝ }
     ensures { λ r. ⌜ r ≡ twoNumbers (now (key .entry)) (now (label .entry)) n t a u b i ⌝ }
 {
     let k = key[State::TERMS + i];
@@ -81,7 +81,7 @@ fn different_numbers<'a>(
     u: u64,
     b: u8,
 ) -> bool
-    requires { ⌜ n ≤ 130 ⌝ }
+    requires { ⌜ n ≤ most-terms ⌝ }
     ensures { λ r. ⌜ r ≡ any (twoNumbers (now (key .entry)) (now (label .entry)) n t a u b) (places n) ⌝ }
 {
     let mut i = 0;

@@ -26,7 +26,7 @@ fn either_way(x: u8, y: u8, a: u8, b: u8) -> bool
 fn unequal_at(c: u8, x: u8, y: u8, a: u8, b: u8) -> bool
     ensures { λ r. ⌜ r ≡ unequalAt c x y a b ⌝ }
 {
-    if c == 1 {
+    if c == State::UNEQUAL {
         either_way(x, y, a, b)
     } else {
         false

@@ -7,6 +7,7 @@ use Prim.Native.Nat.{ℕ, _+_, _*_, _≤_, _<_}
 use lib.Dec.{eqb}
 use lib.ListN.{length, getD}
 use Rattle.rules.specs.Limits.{most-permissions, most-facts}
+use Rattle.rules.specs.Syntax.{path}
 use Rattle.rules.specs.State as Rules
 use Rattle.rules.specs.State.{Permission, Fact}
 use Rattle.check_equality.specs.Layout.{left-sides, right-sides, relations-at, variables-at, fields-at, fact-count, entry-count, kinds-at, acc-kind, bytes}
@@ -34,6 +35,10 @@ fieldAt b i = getD b (fields-at + i) 0
 -- its kind
 abbrev pub kindAt : List ℕ → ℕ → ℕ
 kindAt b i = getD b (kinds-at + i) 0
+
+-- its path
+abbrev pub pathAtEntry : List ℕ → ℕ → Rules.Term
+pathAtEntry b i = path (variableAt b i) (fieldAt b i)
 
 abbrev pub permissionAt : List ℕ → ℕ → Permission
 permissionAt b i = record { variable = variableAt b i; field = fieldAt b i }

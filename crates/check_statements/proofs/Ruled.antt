@@ -28,10 +28,11 @@ use Rattle.check_entailment.proofs.Answer.{the-type}
 use Rattle.check_state.specs.States.{Wf, stateOf, entries, variableAt, fieldAt, permissionAt, permissionsOf}
 use Rattle.check_state.specs.Questions.{FirstPlace, entryTest, passes}
 use Rattle.check_successors.specs.Successors.{termOr}
-use Rattle.check_forgetting.specs.Changes.{kept, Becomes, withoutPath, Remains}
+use Rattle.check_entries.specs.Entries.{kept}
+use Rattle.check_forgetting.specs.Changes.{Becomes, withoutPath, Remains}
 use Rattle.check_entailment.specs.Answers.{answered, Adds}
 use Rattle.check_state.proofs.Entries.{no-flags}
-use Rattle.check_forgetting.proofs.Keeping.{kept-all}
+use Rattle.check_entries.proofs.Keeping.{kept-all}
 use Rattle.check_entailment.proofs.Splits.{split-none, split-first}
 use Rattle.check_formulas.specs.Formulas.{formula, Shows}
 use Rattle.check_formulas.proofs.Atoms.{not-done, is-done}

@@ -11,15 +11,14 @@ use Rattle.rules.specs.Base.{first, bindOption}
 use Rattle.rules.specs.Syntax.{num, null, var}
 use Rattle.rules.specs.State as Rules
 use Rattle.rules.specs.State.{Term, Fact, Permission, Renaming, Equality, isLeft, pathOf, numbers, termsOf, rising, inOrder, variables, equalIn, equalBy, representative}
-use Rattle.rules.proofs.Rising.{least, first-rising}
 use Rattle.check_equality.specs.Keys.{termOf}
 use Rattle.check_equality.proofs.Keys.{of-number}
 use Rattle.check_equality.specs.Listing.{listed}
 use Rattle.check_equality.proofs.Listing.{first-append, first-stays, first-here, first-found}
-use Rattle.check_state.specs.States.{Wf, factAt, factsIn, factsOf, facts, entries, stateOf}
+use Rattle.check_state.specs.States.{Wf, factAt, factsIn, factsOf, facts, entries, stateOf, pathAtEntry}
 use Rattle.check_state.specs.Questions.{Slots, FirstPlace, standsFor}
 use Rattle.check_state.proofs.Entries.{first-none}
-use Rattle.check_successors.specs.Successors.{Drops, pathTest, entryPathTest, pathAtEntry, numberOr, sideTerms}
+use Rattle.check_successors.specs.Successors.{Drops, pathTest, entryPathTest, numberOr, sideTerms, leastNumber}
 
 -- BY PLACES
 module _ {A : Type 0} (p : A → Bool) (f : ℕ → A) (n r : ℕ) (F : FirstPlace (λ i. p (f i)) n r) where
@@ -141,7 +140,7 @@ module _ (key b : List ℕ) (skip : List Bool) (x t : ℕ) (ρ : Renaming) (ps :
 
         pub is-number :
             alike null (termOf t) ≡ false → (k : ℕ) →
-            numberOr k ≡ least (λ n. alike (num n) (termOf t)) (numbers (sideTerms key (2 * facts b))) →
+            numberOr k ≡ leastNumber alike key (2 * facts b) t →
             bindOption (numberOr k) (λ n. some (num n)) ≡ found
         unfolding first
         is-number e k L =
@@ -149,8 +148,7 @@ module _ (key b : List ℕ) (skip : List Bool) (x t : ℕ) (ρ : Renaming) (ps :
             (past-paths
             ∙ rw (null-test ∙ e)
             (first-numbers test (λ n. alike (num n) (termOf t)) (rising (numbers (termsOf (factsOf key b)))) (λ n. ap (λ (c : Bool). c && alike (num n) (termOf t)) (W .numbers n))
-            ∙ ap (λ (o : Option ℕ). bindOption o (λ n. some (num n))) (first-rising (λ n. alike (num n) (termOf t)) (numbers (termsOf (factsOf key b)))
-            ∙ sym (L ∙ ap (λ (l : List Term). least (λ n. alike (num n) (termOf t)) (numbers l)) (slots-terms key b (facts b))))))
+            ∙ ap (λ (o : Option ℕ). bindOption o (λ n. some (num n))) (sym (L ∙ ap (λ (l : List Term). first (λ n. alike (num n) (termOf t)) (rising (numbers l))) (slots-terms key b (facts b))))))
 
 -- a number's key
 pub key-number : (k : ℕ) → 65793 ≤ k → some (termOf k) ≡ bindOption (numberOr k) (λ n. some (num n))

@@ -7,8 +7,7 @@ use Prim.Native.Nat.{ℕ, _+_, _≤_, _<_}
 use native.Mathlib.Omega.{arith}
 use native.Mathlib.Decide.{decLt}
 use lib.Dec.{eqb}
-use lib.ListN.{length, getD, set, length-set}
-use lib.Seq.{getD-set-same, getD-set-other}
+use lib.ListN.{length, getD}
 use borrow.Author.Tests.{eq-eqb}
 use Rattle.rules.specs.Syntax.{same}
 use Rattle.rules.specs.State.{Fact, representative, equalBy}
@@ -16,26 +15,13 @@ use Rattle.rules.proofs.Closure.{same→≡}
 use Rattle.rules.proofs.Lists.{decide-eq}
 use Rattle.check_equality.specs.Layout.{left-sides, mark-count}
 use Rattle.check_equality.specs.Keys.{termOf}
-use Rattle.check_equality.specs.Links.{Labelled, Together, Decides, placeOf}
+use Rattle.check_equality.specs.Links.{Labelled, Together, Decides, placeOf, Marks}
 use Rattle.check_equality.proofs.Keys.{one-key}
 use Rattle.check_state.specs.Questions.{Slots}
-use Rattle.check_successors.specs.Successors.{Marks, MarksLike}
+use Rattle.check_successors.specs.Successors.{MarksLike}
 
 clash : {A : Type 0} → false ≡ true → A
 clash e = absurd (let z : _≡_ {A = ℕ} 0 1 = cc in omega arith)
-
--- ONE KEY
-pub marked : (marks : List Bool) (k p : ℕ) → length marks ≡ mark-count → (p ≡ placeOf k) × (p < mark-count) → Marks true k marks (set marks p true)
-marked marks k p l q = record { size = length-set marks p true; new = λ _. rw (← q .0) set-here; old = on }
-  where
-    set-here : getD (set marks p true) p false ≡ true
-    set-here = getD-set-same marks p true false (omega arith)
-
-    on : (r : ℕ) → getD marks r false ≡ true → getD (set marks p true) r false ≡ true
-    on r d = ⊎-elim (λ z. rw z set-here) (λ z. getD-set-other marks p r true false z ∙ d) (decide-eq r p)
-
-pub not-marked : (marks : List Bool) (k : ℕ) → Marks false k marks marks
-not-marked marks k = record { size = refl; new = λ e. clash e; old = λ p d. d }
 
 -- ONE SIDE MORE
 pub marks-first : (key b : List ℕ) (t a : ℕ) (marks marks′ : List Bool) → length marks ≡ mark-count → Marks true t marks marks′ → MarksLike key b left-sides t a marks′

@@ -8,13 +8,13 @@ use lib.Dec.{eqb, ltb, leb}
 use lib.ListN.{length, getD}
 use Rattle.rules.specs.Base.{first, bindOption}
 use Rattle.rules.specs.Syntax.{offset, num, null, var, path}
-use Rattle.rules.specs.State.{Term, Equality, Renaming, Permission, isLeft, pathOf}
+use Rattle.rules.specs.State.{Term, Equality, Renaming, Permission, isLeft, pathOf, numbers, rising, equalIn, successor}
 use Rattle.check_equality.specs.Layout.{left-sides, null-slot, mark-count}
 use Rattle.check_equality.specs.Keys.{termOf, first-number}
 use Rattle.check_equality.specs.Links.{termAt, placeOf}
 use Rattle.check_equality.specs.Listing.{listed}
 use Rattle.check_state.specs.declared.Resolved.{Resolved}
-use Rattle.check_state.specs.States.{variableAt, fieldAt, entries}
+use Rattle.check_state.specs.States.{variableAt, fieldAt, pathAtEntry, entries, stateOf, factsOf}
 use Rattle.check_state.specs.Questions.{places}
 use Rattle.check_inequality.specs.Ways.{numberLike}
 
@@ -47,13 +47,11 @@ numberAtSide key b a i = numberWith (getD key (left-sides + i) 0) (getD b (left-
 abbrev pub sideTerms : List ℕ → ℕ → List Term
 sideTerms key n = listed (λ i. termAt key (left-sides + i)) n
 
--- PATHS
--- the place of the key k is marked, if `yes`
-pub record Marks (yes : Bool) (k : ℕ) (marks marks′ : List Bool) : Type 0 where
-  pub size : length marks′ ≡ length marks
-  pub new : yes ≡ true → getD marks′ (placeOf k) false ≡ true
-  pub old : (p : ℕ) → getD marks p false ≡ true → getD marks′ p false ≡ true
+-- the least number that is ~ the term of t among them: the first of all, rising
+abbrev pub leastNumber : Equality → List ℕ → ℕ → ℕ → Option ℕ
+leastNumber _~_ key n t = first (λ v. _~_ (num v) (termOf t)) (rising (numbers (sideTerms key n)))
 
+-- PATHS
 -- the places of the key t, and of the sides in the slots up to m with the label a, are marked
 pub record MarksLike (key b : List ℕ) (m t a : ℕ) (marks : List Bool) : Type 0 where
   pub size : length marks ≡ mark-count
@@ -74,10 +72,6 @@ unfoldable pub termOr : Resolved → Option Term
 termOr (Resolved.Key k) = some (termOf k)
 termOr Resolved.Nothing = none
 
--- the path of the entry i
-abbrev pub pathAtEntry : List ℕ → ℕ → Term
-pathAtEntry b i = path (variableAt b i) (fieldAt b i)
-
 -- what a search may ask of a dropping, with ps the permissions left: x and the entries to be skipped are not left, all else is
 pub record Drops (ρ : Renaming) (ps : List Permission) (b : List ℕ) (skip : List Bool) (x : ℕ) : Type 0 where
   pub variables : (v : ℕ) → v < null-slot → isLeft ρ (var v) ≡ not (eqb v x)
@@ -87,3 +81,8 @@ pub record Drops (ρ : Renaming) (ps : List Permission) (b : List ℕ) (skip : L
       (q : Term → Bool) →
       first (λ u. isLeft ρ u && q u) (map pathOf ps)
       ≡ bindOption (first (λ i. not (getD skip i false) && q (pathAtEntry b i)) (places (entries b))) (λ i. some (pathAtEntry b i))
+
+-- r is the successor of the term of t, whatever drops that
+abbrev pub IsSuccessor : List ℕ → List ℕ → List Bool → ℕ → ℕ → Resolved → Type 0
+IsSuccessor key b skip x t r =
+    (ρ : Renaming) (ps : List Permission) → Drops ρ ps b skip x → termOr r ≡ successor (equalIn (stateOf key b)) ρ ps (factsOf key b) (termOf t)

@@ -3,20 +3,16 @@ use check_equality::State;
 use check_state::Resolved;
 use rules::Machine;
 ghost use mathlib.Core.Path.{_≡_};
-ghost use mathlib.Core.List.{List};
 ghost use Prim.Native.Nat.{_+_, _*_, _≤_};
 ghost use lib.ListN.{length};
 ghost use Rattle.rules.specs.Limits.{most-permissions};
-ghost use Rattle.rules.specs.Syntax.{num};
-ghost use Rattle.rules.specs.State as Rules;
-ghost use Rattle.rules.specs.State.{numbers};
 ghost use Rattle.rules.proofs.Rising.{least};
 ghost use Rattle.check_equality.specs.Layout.{slots, left-sides, mark-count};
-ghost use Rattle.check_equality.specs.Keys.{termOf, first-number};
+ghost use Rattle.check_equality.specs.Keys.{first-number};
 ghost use Rattle.check_equality.specs.Links.{Labelled};
-ghost use Rattle.check_state.specs.States.{Wf, stateOf, facts, factsOf};
+ghost use Rattle.check_state.specs.States.{Wf, facts};
 ghost use Rattle.check_state.specs.Questions.{Slots, Told, FirstPlace};
-ghost use Rattle.check_successors.specs.Successors.{numberOr, offsetOf, lowerOf, withSlot, numberWith, numberAtSide, sideTerms, Marks, MarksLike, pathTest, entryPathTest, Drops, termOr};
+ghost use Rattle.check_successors.specs.Successors.{numberOr, offsetOf, lowerOf, withSlot, numberWith, numberAtSide, MarksLike, pathTest, entryPathTest, IsSuccessor, leastNumber};
 
 // How many numbers 32 bits hold, and the first that is negative.
 const WORDS: u64 = 4294967296;
@@ -95,7 +91,7 @@ fn least_number<'a>(
     a: u8,
 ) -> u64
     requires { ⌜ Slots (now key) (now b) m × Labelled (now key) (now b) m t a × (left-sides + n ≤ m) ⌝ }
-    ensures { λ r. ⌜ Told (now (key .entry)) (now (b .entry)) m (λ same. numberOr r ≡ least (λ v. same (num v) (termOf t)) (numbers (sideTerms (now (key .entry)) n))) ⌝ }
+    ensures { λ r. ⌜ Told (now (key .entry)) (now (b .entry)) m (λ same. numberOr r ≡ leastNumber same (now (key .entry)) n t) ⌝ }
 {
     let mut best = 0;
     let mut i = first_number(key, b, n, a);
@@ -104,17 +100,6 @@ fn least_number<'a>(
         i += 1;
     }
     best
-}
-
-// Marks the place of a key, or not.
-pub fn mark(marks: &mut [bool; State::MARKS], yes: bool, k: u64)
-    requires { ⌜ length (now marks) ≡ mark-count ⌝ }
-    ensures { λ _. ⌜ Marks yes k (now (marks .entry)) (now (marks .exit)) ⌝ }
-{
-    if yes {
-        let p = check_equality::place(k);
-        marks[p] = true;
-    }
 }
 
 // The places of the key t and of the keys of the sides with the label a: every path that is ~ the term of t has one of them.
@@ -129,10 +114,10 @@ fn marks_like<'a>(
     requires { ⌜ (m ≤ slots) × (length (now marks) ≡ mark-count) ⌝ }
     ensures { λ _. ⌜ MarksLike (now (key .entry)) (now (b .entry)) m t a (now (marks .exit)) ⌝ }
 {
-    mark(marks, true, t);
+    check_equality::mark(marks, true, t);
     let mut i = State::LEFT;
     while i < m {
-        mark(marks, b[i] == a, key[i]);
+        check_equality::mark(marks, b[i] == a, key[i]);
         i += 1;
     }
 }
@@ -210,7 +195,7 @@ pub fn successor<'a>(
     a: u8,
 ) -> Resolved
     requires { ⌜ Wf (now key) (now b) × Labelled (now key) (now b) (left-sides + 2 * facts (now b)) t a ⌝ }
-    ensures { λ r. ⌜ ((ρ : Rules.Renaming) (ps : List Rules.Permission) → Drops ρ ps (now (b .entry)) (now (skip .entry)) x → termOr r ≡ Rules.successor (Rules.equalIn (stateOf (now (key .entry)) (now (b .entry)))) ρ ps (factsOf (now (key .entry)) (now (b .entry))) (termOf t)) ⌝ }
+    ensures { λ r. ⌜ IsSuccessor (now (key .entry)) (now (b .entry)) (now (skip .entry)) x t r ⌝ }
 {
     let n = 2 * (b[State::FACTS] as usize);
     let m = State::LEFT + n;

@@ -1,5 +1,6 @@
 use Prim.Native.Nat.{ℕ, _-_, _≤_, _<_}
-use Rattle.check_forgetting.proofs.Starts.{own-more, header-from}
+use Rattle.check_labels.proofs.FreshLabels.{own-more}
+use Rattle.check_forgetting.proofs.Starts.{header-from}
 use lib.ListN.{length, getD, length-set}
 use mathlib.Core.Path.{_≡_, refl, _∙_}
 use native.Mathlib.Omega.{arith}

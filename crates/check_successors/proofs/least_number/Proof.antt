@@ -1,10 +1,10 @@
 use Prim.Native.Nat.{_-_, _≤_}
 use native.Mathlib.Omega.{arith}
 use native.Mathlib.Numerals.{add-one}
-use mathlib.Core.Path.{_≡_, ap, _∙_}
+use mathlib.Core.Path.{_≡_, sym, ap, _∙_}
 use Rattle.rules.specs.Syntax.{num}
 use Rattle.rules.specs.State.{numbers}
-use Rattle.rules.proofs.Rising.{least}
+use Rattle.rules.proofs.Rising.{least, first-rising}
 use Rattle.check_equality.specs.Keys.{termOf}
 use Rattle.check_state.specs.Questions.{Told}
 use Rattle.check_successors.specs.Successors.{numberOr, sideTerms}
@@ -65,7 +65,7 @@ loop-again c = (
 
 returns : tie.Need-returns Inv-loop μ-loop
 returns c =
-    λ fs D. let e : c .before .loop .i ≡ c .before .before .before .args .n = omega arith in rw e at (c .before .loop .inv .1 fs D)
+    λ fs D. let e : c .before .loop .i ≡ c .before .before .before .args .n = omega arith in rw e at (c .before .loop .inv .1 fs D ∙ sym (first-rising _ _))
 
 pub least-number-spec : {M : Type 1} → statement M
 least-number-spec =

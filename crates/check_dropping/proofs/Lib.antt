@@ -1,0 +1,3 @@
+pub mod GivingWay
+pub mod Untouched
+pub mod Ways

@@ -1,0 +1,68 @@
+-- The entries of a state of which some are out, and what becomes of them.
+use mathlib.Core.Path.{_≡_}
+use mathlib.Core.Bool.{Bool, false, cond}
+use mathlib.Core.List.{List, [], _∷_, _++_}
+use mathlib.Core.Logic.{_⊎_}
+use Prim.Native.Nat.{ℕ, zero, suc, _+_, _≤_, _<_}
+use lib.Dec.{eqb}
+use lib.ListN.{length, getD}
+use Rattle.rules.specs.Base.{any}
+use Rattle.rules.specs.Limits.{most-permissions}
+use Rattle.rules.specs.State as Rules
+use Rattle.rules.specs.State.{Permission}
+use Rattle.check_equality.specs.Layout.{variables-at, fact-count, bytes}
+use Rattle.check_state.specs.States.{entries, variableAt, permissionsIn, permissionsOf, permissionAt, kindAt, IsKind, KindsIn}
+
+-- LISTS OF WHICH SOME ELEMENTS ARE OUT
+-- those of f 0 to f (n - 1) that are not out
+unfoldable pub kept : {A : Type 0} → List Bool → (ℕ → A) → ℕ → List A
+kept out f zero = []
+kept out f (suc n) = kept out f n ++ cond (getD out n false) [] (f n ∷ [])
+
+-- those that are out
+unfoldable pub gone : {A : Type 0} → List Bool → (ℕ → A) → ℕ → List A
+gone out f zero = []
+gone out f (suc n) = gone out f n ++ cond (getD out n false) (f n ∷ []) []
+
+-- flags of the places below n
+pub record Flags (test : ℕ → Bool) (n : ℕ) (r : List Bool) : Type 0 where
+  pub size : length r ≡ most-permissions
+  pub at : (i : ℕ) → i < n → getD r i false ≡ test i
+
+-- WHAT A FORMULA CONSUMES
+-- the entries that are out are those consumed
+pub record Consumed (b : List ℕ) (out : List Bool) (c : Rules.Shown) : Type 0 where
+  pub rest : c .kept ≡ kept out (permissionAt b) (entries b)
+  pub used : (q : Permission → Bool) → any q (c .consumed) ≡ any q (gone out (permissionAt b) (entries b))
+
+unfoldable pub renamedVariable : ℕ → ℕ → ℕ → ℕ
+renamedVariable x to v = cond (eqb v x) to v
+
+-- ENTRIES
+-- the variables of the first n renamed, and nothing else
+pub record RenamedEntries (x to : ℕ) (b : List ℕ) (n : ℕ) (b′ : List ℕ) : Type 0 where
+  pub size : length b′ ≡ bytes
+  pub variables : (i : ℕ) → i < n → variableAt b′ i ≡ renamedVariable x to (variableAt b i)
+  pub rest : (i : ℕ) → (i < variables-at) ⊎ (variables-at + n ≤ i) → getD b′ i 0 ≡ getD b i 0
+
+-- the entry i is what it was
+pub record SameEntry (b b′ : List ℕ) (i : ℕ) : Type 0 where
+  pub permission : permissionAt b′ i ≡ permissionAt b i
+  pub kind : kindAt b′ i ≡ kindAt b i
+
+-- one more entry, unless it is out
+pub record KeepsEntry (b : List ℕ) (n : ℕ) (out : Bool) (x f k : ℕ) (b′ : List ℕ) (n′ : ℕ) : Type 0 where
+  pub few : n′ ≤ n + 1
+  pub size : length b′ ≡ bytes
+  pub kinds : IsKind k → KindsIn b n → KindsIn b′ n′
+  pub entries : permissionsIn b′ n′ ≡ permissionsIn b n ++ cond out [] (record { variable = x; field = f } ∷ [])
+  pub later : (j : ℕ) → n < j → j < most-permissions → SameEntry b b′ j
+  pub rest : (j : ℕ) → (j < variables-at) ⊎ (j ≡ fact-count) → getD b′ j 0 ≡ getD b j 0
+
+-- the entries that are not out; the facts stay
+pub record Packed (b : List ℕ) (out : List Bool) (b′ : List ℕ) : Type 0 where
+  pub size : length b′ ≡ bytes
+  pub few : entries b′ ≤ most-permissions
+  pub kinds : KindsIn b (entries b) → KindsIn b′ (entries b′)
+  pub entries : permissionsOf b′ ≡ kept out (permissionAt b) (entries b)
+  pub rest : (i : ℕ) → (i < variables-at) ⊎ (i ≡ fact-count) → getD b′ i 0 ≡ getD b i 0

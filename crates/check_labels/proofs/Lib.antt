@@ -1,0 +1,5 @@
+pub mod FreshLabels
+pub mod Rebuilding
+pub mod KeptLabels
+pub mod Relabelling
+pub mod Repacking

@@ -1,0 +1,3 @@
+pub mod Renaming
+pub mod Dropping
+pub mod Scanning
