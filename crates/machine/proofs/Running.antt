@@ -31,7 +31,7 @@ use Rattle.run_steps.specs.States.{FrameIs, CallersAre, Represents, Goes, Does,
 use Rattle.machine.specs.Runs.{endingOf, words, mainValues, RanAs}
 use Rattle.run_heap.proofs.Reading.{cell-null, cell-beyond, cell-placed}
 use Rattle.run_footprint.proofs.Regions.{only-fill, only-tables, fill-word}
-use Rattle.run_calls.proofs.Returning.{row-of}
+use Rattle.run_returns.proofs.Returning.{row-of}
 
 -- THE FIRST STATE
 no-cells : (w : List ℕ) (o f k : ℕ) → cellOf w 0 o f ≡ some k → ⊥

@@ -5,7 +5,7 @@ use mathlib.Core.Logic.{_⊎_, inl, inr, ⊎-elim}
 use Prim.Native.Nat.{ℕ, _+_, _≤_}
 use native.Mathlib.Omega.{arith}
 use lib.Dec.{T}
-use Rattle.rules.specs.Grammar.{IsStatementNumber, statementNumber, isComputing}
+use Rattle.rules.specs.Grammar.{Set, Let, New, Call, Return, Assert, Release, If, Join, Loop, End, IsStatementNumber, statementNumber, isComputing}
 use Rattle.rules.specs.Syntax.{Row, Stmt}
 use Rattle.rules.specs.Machine.{Config, Step, Room, statementOf, step, stepAt, simpleStep}
 use Rattle.rules.specs.declared.Machine.{Machine}
@@ -14,10 +14,11 @@ use Rattle.tables.specs.Decode.{rowAt, operandsAt, stmtAt, kindAt, memberAt, pr
 use Rattle.tables.proofs.Rows.{method-get, class-get}
 use Rattle.tables.proofs.Statements.{set-means, let-means, new-means, call-means, return-means, assert-means, release-means, if-means, else-means, join-means, loop-means, again-means, end-means, compute-means}
 use Rattle.run_steps.specs.declared.Turn.{Turn}
-use Rattle.run_steps.specs.States.{Represents, Follows, Does, CanStep, AtKind, Jumps, set-kind, let-kind, new-kind, call-kind, return-kind, assert-kind, release-kind, if-kind, join-kind, loop-kind, end-kind, setHere, letHere, computeHere, assertHere, releaseHere, ifHere, loopHere, jumpHere}
-use Rattle.run_calls.proofs.Returning.{row-of}
+use Rattle.run_steps.specs.States.{Represents, Follows, Does, CanStep, AtKind, Jumps, setHere, letHere, computeHere, assertHere, releaseHere, ifHere, loopHere, jumpHere}
+use Rattle.run_returns.proofs.Returning.{row-of}
 use Rattle.run_steps.proofs.Doing.{fits}
-use Rattle.run_calls.specs.Calls.{newHere, callHere, returnHere, endHere}
+use Rattle.run_calls.specs.Calls.{newHere, callHere}
+use Rattle.run_returns.specs.Returns.{returnHere, endHere}
 
 -- the statement that is done
 statement : {w : List ℕ} {c : Machine} (m : Config) → Represents w c m → statementOf (programIn w) (m .frame) ≡ stmtAt w (c .row)
@@ -56,65 +57,65 @@ module _ {w w′ : List ℕ} {c : Machine} {r : Turn} (ready : CanStep w c) (roo
             subst (Follows w′ c r m) (sym (ap (λ (s : Stmt). stepAt room (programIn w) s m) (statement m R) ∙ e m)) (D .follows m R);
       }
 
-  pub sets : AtKind w c set-kind → Does w c w′ r (setHere w c) → Does w c w′ r (step room (programIn w))
-  unfolding stepAt simpleStep
+  pub sets : AtKind w c Set → Does w c w′ r (setHere w c) → Does w c w′ r (step room (programIn w))
+  unfolding stepAt simpleStep statementNumber
   sets k = does-as _ (λ m. rw (set-means w (operandsAt w (c .row)) k))
 
   pub lets :
-      AtKind w c let-kind → Does w c w′ r (letHere w c) →
+      AtKind w c Let → Does w c w′ r (letHere w c) →
       Does w c w′ r (step room (programIn w))
-  unfolding stepAt simpleStep
+  unfolding stepAt simpleStep statementNumber
   lets k = does-as _ (λ m. rw (let-means w (operandsAt w (c .row)) k))
 
   pub news :
-      AtKind w c new-kind → Does w c w′ r (newHere w c room) →
+      AtKind w c New → Does w c w′ r (newHere w c room) →
       Does w c w′ r (step room (programIn w))
-  unfolding stepAt simpleStep
+  unfolding stepAt simpleStep statementNumber
   news k = does-as _ (λ m. rw (new-means w (operandsAt w (c .row)) k, class-get w (memberAt w (c .row)) (fits ready .class k)))
 
   pub calls :
-      AtKind w c call-kind → Does w c w′ r (callHere w c) →
+      AtKind w c Call → Does w c w′ r (callHere w c) →
       Does w c w′ r (step room (programIn w))
-  unfolding stepAt simpleStep
+  unfolding stepAt simpleStep statementNumber
   calls k = does-as _ (λ m. rw (call-means w (operandsAt w (c .row)) k, method-get w (memberAt w (c .row)) (fits ready .method k)))
 
   pub returns :
-      AtKind w c return-kind → Does w c w′ r (returnHere w c) → Does w c w′ r (step room (programIn w))
-  unfolding stepAt
+      AtKind w c Return → Does w c w′ r (returnHere w c) → Does w c w′ r (step room (programIn w))
+  unfolding stepAt statementNumber
   returns k = does-as _ (λ m. rw (return-means w (operandsAt w (c .row)) k))
 
   pub asserts :
-      (kindAt w (c .row) ≡ assert-kind) ⊎ (kindAt w (c .row) ≡ join-kind) → Does w c w′ r (assertHere w c) →
+      AtKind w c Assert ⊎ AtKind w c Join → Does w c w′ r (assertHere w c) →
       Does w c w′ r (step room (programIn w))
-  unfolding stepAt simpleStep
+  unfolding stepAt simpleStep statementNumber
   asserts (inl k) = does-as _ (λ m. rw (assert-means w (operandsAt w (c .row)) k))
   asserts (inr k) = does-as _ (λ m. rw (join-means w (operandsAt w (c .row)) k))
 
-  pub releases : AtKind w c release-kind → Does w c w′ r (releaseHere w c) → Does w c w′ r (step room (programIn w))
-  unfolding stepAt simpleStep
+  pub releases : AtKind w c Release → Does w c w′ r (releaseHere w c) → Does w c w′ r (step room (programIn w))
+  unfolding stepAt simpleStep statementNumber
   releases k = does-as _ (λ m. rw (release-means w (operandsAt w (c .row)) k))
 
   pub ifs :
-      AtKind w c if-kind →
+      AtKind w c If →
       Does w c w′ r
       (ifHere w c) →
       Does w c w′ r (step room (programIn w))
-  unfolding stepAt programIn
+  unfolding stepAt programIn statementNumber
   ifs k = does-as _ (λ m. rw (if-means w (operandsAt w (c .row)) k))
 
-  pub loops : AtKind w c loop-kind → Does w c w′ r (loopHere w c) → Does w c w′ r (step room (programIn w))
-  unfolding stepAt programIn
+  pub loops : AtKind w c Loop → Does w c w′ r (loopHere w c) → Does w c w′ r (step room (programIn w))
+  unfolding stepAt programIn statementNumber
   loops k = does-as _ (λ m. rw (loop-means w (operandsAt w (c .row)) k))
 
   pub jumps : Jumps w c → Does w c w′ r (jumpHere w c) → Does w c w′ r (step room (programIn w))
-  unfolding stepAt programIn
+  unfolding stepAt programIn statementNumber
   jumps (inl k) = does-as _ (λ m. rw (else-means w (operandsAt w (c .row)) k, k))
   jumps (inr k) = does-as _ (λ m. rw (again-means w (operandsAt w (c .row)) k, k))
 
   pub computes : T (isComputing (kindAt w (c .row))) → Does w c w′ r (computeHere w c) → Does w c w′ r (step room (programIn w))
-  unfolding stepAt simpleStep
+  unfolding stepAt simpleStep statementNumber
   computes t = does-as _ (λ m. rw (compute-means w (operandsAt w (c .row)) t))
 
-  pub ends : AtKind w c end-kind → Does w c w′ r (endHere w) → Does w c w′ r (step room (programIn w))
-  unfolding stepAt
+  pub ends : AtKind w c End → Does w c w′ r (endHere w) → Does w c w′ r (step room (programIn w))
+  unfolding stepAt statementNumber
   ends k = does-as _ (λ m. rw (end-means w (operandsAt w (c .row)) k))

@@ -1,10 +1,11 @@
 -- What a run by the code ends with: the definition's outcome, with main's values in the work area.
 use mathlib.Core.Path.{_≡_}
 use mathlib.Core.List.{List, [], _∷_}
-use Prim.Native.Nat.{ℕ, zero, suc, _+_}
+use Prim.Native.Nat.{ℕ, zero, suc, _+_, _*_}
 use Rattle.rules.specs.Limits.{values-shown}
 use Rattle.rules.specs.Answers as Answers
 use Rattle.rules.specs.Answers.{finished, stepsTaken, stopped, stopNumber, endingNumber}
+use Rattle.rules.specs.Syntax.{first-local}
 use Rattle.rules.specs.Machine.{Room, Outcome, runProgram}
 use Rattle.tables.specs.Layout.{frames-at}
 use Rattle.tables.specs.Decode.{wordAt, programIn}
@@ -12,7 +13,7 @@ use Rattle.tables.specs.Stores.{SameTables}
 use Rattle.run_heap.specs.declared.Fault.{Fault}
 use Rattle.machine.specs.declared.Ending.{Ending}
 use Rattle.machine.specs.declared.Ran.{Ran}
-use Rattle.run_heap.specs.Views.{stopOf}
+use Rattle.run_heap.specs.Views.{word-bytes, stopOf}
 
 -- how a run ends
 unfoldable pub endingOf : Ending → Answers.Ending
@@ -31,11 +32,11 @@ number e = endingNumber (endingOf e)
 -- n words from i on
 unfoldable pub words : List ℕ → ℕ → ℕ → List ℕ
 words w i zero = []
-words w i (suc n) = wordAt w i ∷ words w (i + 4) n
+words w i (suc n) = wordAt w i ∷ words w (i + word-bytes) n
 
--- main's twelve values: bytes 8 to 55 of the first frame
+-- main's twelve values: its locals, in the first frame
 abbrev pub mainValues : List ℕ → List ℕ
-mainValues w = words w (frames-at + 8) values-shown
+mainValues w = words w (frames-at + first-local * word-bytes) values-shown
 
 abbrev pub outcomeIn : List ℕ → Ran → Outcome
 outcomeIn w r = record { ending = endingOf (r .ending); line = r .line; steps = r .steps; values = mainValues w }

@@ -2,6 +2,7 @@
 use rules::Kind;
 use rules::Machine;
 use run_heap::Fault;
+use run_heap::Stores;
 use run_steps::Turn;
 use tables::Layout;
 ghost use mathlib.Core.Path.{_≡_};
@@ -17,11 +18,31 @@ ghost use Rattle.machine.specs.Runs.{RanAs, faultNumber, number};
 ghost use Rattle.run_heap.specs.Views.{fill};
 ghost use Rattle.rules.specs.Machine.{step as stepOf};
 
+// The first number past those of the kinds.
+const UNKNOWN: u8 = Kind::LAST + 1;
+
 // How a run ends.
 pub enum Ending {
     Finished,
     StepsTaken,
     Stopped(Fault),
+}
+
+// The numbers of document 01 for it; main's `end` done is 0.
+impl Ending {
+    pub const STEPS_TAKEN: u32 = 21;
+
+    pub const HEAP_FULL: u32 = 22;
+
+    pub const FRAMES_FULL: u32 = 23;
+
+    pub const PERMISSION_MISSING: u32 = 24;
+
+    pub const NULL_FOLLOWED: u32 = 25;
+
+    pub const FORMULA_FALSE: u32 = 26;
+
+    pub const OVERFLOW: u32 = 27;
 }
 
 // What a run ends with; main's values are in its frame, from byte FRAMES + 8 of the work area on.
@@ -36,12 +57,12 @@ fn fault_number(f: Fault) -> u32
     ensures { λ r. ⌜ r ≡ faultNumber f ⌝ }
 {
     match f {
-        Fault::HeapFull => 22,
-        Fault::FramesFull => 23,
-        Fault::Permission => 24,
-        Fault::Null => 25,
-        Fault::False => 26,
-        Fault::Overflow => 27,
+        Fault::HeapFull => Ending::HEAP_FULL,
+        Fault::FramesFull => Ending::FRAMES_FULL,
+        Fault::Permission => Ending::PERMISSION_MISSING,
+        Fault::Null => Ending::NULL_FOLLOWED,
+        Fault::False => Ending::FORMULA_FALSE,
+        Fault::Overflow => Ending::OVERFLOW,
     }
 }
 
@@ -51,7 +72,7 @@ pub fn number_of(e: Ending) -> u32
 {
     match e {
         Ending::Finished => 0,
-        Ending::StepsTaken => 21,
+        Ending::StepsTaken => Ending::STEPS_TAKEN,
         Ending::Stopped(f) => fault_number(f),
     }
 }
@@ -67,16 +88,16 @@ pub fn step(work: &mut [u8], c: Machine, most_objects: u32, most_fields: u32) ->
         Kind::LET => run_steps::let_step(work, c),
         Kind::NEW => run_calls::new_step(work, c, most_objects, most_fields),
         Kind::CALL => run_calls::call_step(work, c),
-        Kind::RETURN => run_calls::return_step(work, c),
+        Kind::RETURN => run_returns::return_step(work, c),
         Kind::ASSERT | Kind::JOIN => run_steps::assert_step(work, c),
         Kind::RELEASE => run_steps::release_step(work, c),
         Kind::IF => run_steps::if_step(work, c),
         Kind::LOOP => run_steps::loop_step(work, c),
         Kind::ELSE | Kind::AGAIN => run_steps::jump_step(work, c),
-        Kind::END => run_calls::end_step(work, c),
+        Kind::END => run_returns::end_step(work, c),
         Kind::ADD | Kind::SUB => run_steps::compute_step(work, c),
         // No row is of another kind, so that any answer meets the contract.
-        0..=7 | 23..=255 => Turn::Done,
+        0..=Kind::VAR | UNKNOWN..=255 => Turn::Done,
     }
 }
 
@@ -86,7 +107,7 @@ fn begin(work: &mut [u8]) -> Machine
     ensures { λ r. ⌜ (r ≡ freshMachine (mainFirst (now (work .entry)))) × (now (work .exit) ≡ fill (now (work .entry)) frames-at frame-variables 0) ⌝ }
 {
     let row = tables::main_first(work);
-    run_heap::fill_words(work, Layout::FRAMES, run_heap::VARIABLES, 0);
+    run_heap::fill_words(work, Layout::FRAMES, Stores::VARIABLES, 0);
     Machine::new(row as u32)
 }
 

@@ -12,6 +12,7 @@ use borrow.Author.Tests.{ne-eqb, eq-eqb, lt-ltb, le-ltb}
 use Rattle.rules.specs.Limits.{most-frames, most-methods}
 use Rattle.rules.specs.Base.{Try, ok, no, _>>=_, _>>_, check}
 use Rattle.rules.specs.Answers.{Stop, nullFollowed}
+use Rattle.rules.specs.Grammar.{Call, statementNumber}
 use Rattle.rules.specs.Machine.{Frame, Location, Config, took, holds, among, without, valueOf, footprint, holding, entryValues, callFrame, entered, callStep}
 use Rattle.rules.specs.declared.Machine.{Machine}
 use Rattle.rules.proofs.Sets.{Holds, footprint-held}
@@ -24,7 +25,7 @@ use Rattle.run_heap.specs.declared.Fault.{Fault}
 use Rattle.run_steps.specs.declared.Turn.{Turn}
 use Rattle.run_heap.specs.Views.{frameAt, variableAt, savedHolder, savedRow, methodOf, cellHolder, cellOf, holderIn, holderOf, prepared, nextView, stopOf, frame-holder, frame-row, frame-method}
 use Rattle.run_footprint.specs.Footprints.{marked, takeIn, SmallCells}
-use Rattle.run_steps.specs.States.{FrameIs, CallerIs, CallersAre, Represents, Follows, Does, CanStep, AtKind, call-kind}
+use Rattle.run_steps.specs.States.{FrameIs, CallerIs, CallersAre, Represents, Follows, Does, CanStep, AtKind}
 use Rattle.run_calls.specs.Calls.{Calling, Admits, called, callHere}
 use Rattle.run_heap.proofs.Reading.{cell-small}
 use Rattle.run_steps.proofs.Seeing.{Sees, Matches, FormulaOk, no-footprint, ok-footprint, atoms-ok}
@@ -144,7 +145,7 @@ module _ {w : List ℕ} {c : Machine} {m : Config} {method : ℕ} {G : Frame} (R
     kept-frame j = same-frame holders-at seconds-at w (marked w ks (c .holders + 1)) j new-marks (inr (omega arith))
 
     the-caller :
-        kindAt w (c .row) ≡ call-kind →
+        kindAt w (c .row) ≡ statementNumber Call →
         CallerIs (marked w ks (c .holders + 1)) (c .objects) (length (m .callers)) (c .holders + 1) (holding (without A (m .frame .held)) (m .frame))
     unfolding holding
     the-caller k =
@@ -177,7 +178,7 @@ module _ {w : List ℕ} {c : Machine} {m : Config} {method : ℕ} {G : Frame} (R
         }
 
     pub enters :
-        kindAt w (c .row) ≡ call-kind → c .frames < most-frames →
+        kindAt w (c .row) ≡ statementNumber Call → c .frames < most-frames →
         Represents (marked w ks (c .holders + 1)) (called c (firstRowAt w method)) (entered m G A)
     unfolding entered CallersAre holding
     enters k l =
@@ -331,7 +332,7 @@ module _ {w : List ℕ} {c : Machine} {m : Config} (R : Represents w c m) (y z m
   call-small ks e = let (A, f, M) = ok-footprint (next-sees call-kept call-prepared) _ ks requires-ok e in M .small
 
   pub call-enters :
-      (ks : List ℕ) → (o ≡ 0 → ⊥) → c .frames < most-frames → kindAt w (c .row) ≡ call-kind → c .steps < 4294967295 →
+      (ks : List ℕ) → (o ≡ 0 → ⊥) → c .frames < most-frames → kindAt w (c .row) ≡ statementNumber Call → c .steps < 4294967295 →
       takeIn (prepared w c method o p) (nextView c) (requiresAt (prepared w c method o p) method) [] ≡ ok ks →
       Follows (marked (prepared w c method o p) ks (c .holders + 1)) c
       (Turn.On (called c (firstRowAt (prepared w c method o p) method))) m (took (callStep y (methodAt w method) z m))
@@ -340,17 +341,18 @@ module _ {w : List ℕ} {c : Machine} {m : Config} (R : Represents w c m) (y z m
       let (A, f, M) = ok-footprint (next-sees call-kept call-prepared) _ ks requires-ok e in
       let f′ : footprint (m .heap) (callFrame m (methodAt w method) y z) (methodAt w method .requires) ≡ ok A =
       ap (footprint (m .heap) (callFrame m (methodAt w method) y z)) requires-is ∙ f in
-      let k′ : kindAt (prepared w c method o p) (c .row) ≡ call-kind =
+      let k′ : kindAt (prepared w c method o p) (c .row) ≡ statementNumber Call =
       kind-same w (prepared w c method o p) call-tables (c .row) (omega (arith, R .frame .row-fits, R .tables .rows)) ∙ k in
       follow-on R _ _ _ (after-null n _ ∙ rw (f′, lt-ltb (suc (length (m .callers))) most-frames (omega (arith, R .frames)))) refl
       (enters call-kept call-prepared A ks M (taken-by A f) (omega (arith, R .given, R .most)) k′ l)
 
 -- THE CODE
-module _ {w : List ℕ} {c : Machine} (ready : CanStep w c) (k : AtKind w c call-kind) (y z method o p : ℕ)
+module _ {w : List ℕ} {c : Machine} (ready : CanStep w c) (k : AtKind w c Call) (y z method o p : ℕ)
     (ey : y ≡ yAt w (c .row)) (ez : z ≡ zAt w (c .row)) (em : method ≡ memberAt w (c .row))
     (eo : o ≡ variableAt w (frameAt (c .frames - 1)) y) (ep : p ≡ variableAt w (frameAt (c .frames - 1)) z)
     (lo : o < 4294967296) (lp : p < 4294967296) where
   exists : method < methodCount w
+  unfolding statementNumber
   exists = omega (arith, em, fits ready .method k)
 
   ly : y < frame-variables
@@ -432,7 +434,7 @@ module _ {w : List ℕ} {c : Machine} (method a n : ℕ) (C : Calling w c method
   requires-takes = rw (ea, en)
 
 pub call-null-does :
-    {w : List ℕ} {c : Machine} (ready : CanStep w c) → AtKind w c call-kind → (y o : ℕ) → y ≡ yAt w (c .row) →
+    {w : List ℕ} {c : Machine} (ready : CanStep w c) → AtKind w c Call → (y o : ℕ) → y ≡ yAt w (c .row) →
     o ≡ variableAt w (frameAt (c .frames - 1)) y → o ≡ 0 →
     Does w c w (Turn.Stopped Fault.Null) (callHere w c)
 unfolding callStep check _>>_ stopOf

@@ -14,6 +14,7 @@ use borrow.Author.Tests.{ne-eqb, eq-eqb, lt-ltb, le-ltb, le-leb, lt-leb}
 use Rattle.rules.specs.Limits.{heap-objects, heap-fields, most-fields, most-classes}
 use Rattle.rules.specs.Base.{Try, ok, no, _>>_, check, any}
 use Rattle.rules.specs.Answers.{Stop, heapFull}
+use Rattle.rules.specs.Grammar.{New, statementNumber}
 use Rattle.rules.specs.Machine.{Heap, Cell, Location, Config, took, holds, among, eqLocation, fieldsOf, object, valueAt, holding, bind, advance, withFrame, newCell, grown, newStep}
 use Rattle.rules.specs.declared.Machine.{Machine}
 use Rattle.rules.proofs.Lists.{T-true, F-false, or-left, or-right, or-cases, none-some, decide-eq}
@@ -30,16 +31,15 @@ use Rattle.run_heap.specs.declared.Fault.{Fault}
 use Rattle.run_steps.specs.declared.Turn.{Turn}
 use Rattle.run_heap.specs.declared.View.{View}
 use Rattle.run_heap.specs.Views.{frameAt, cellValue, cellHolder, classIn, firstIn, cellOf, holderIn, holderOf, made, viewOf, stopOf, ObjectFits}
-use Rattle.run_steps.specs.States.{HeapIs, Represents, Follows, Does, CanStep, AtKind, atRow, new-kind, NotEnd}
+use Rattle.run_steps.specs.States.{HeapIs, Represents, Follows, Does, CanStep, AtKind, atRow, NotEnd}
 use Rattle.run_calls.specs.Calls.{larger, newHere}
 use Rattle.run_heap.proofs.Reading.{Placed, cell-placed, cell-small, cell-beyond, cell-null, cell-some, bound-free, place-found}
 use Rattle.run_steps.proofs.Seeing.{bool-iff, at}
 use Rattle.run_footprint.proofs.Regions.{Only, only-tables, only-word}
 use Rattle.run_steps.proofs.Keeping.{SameObjects, same-frame, cell-kept, fits-kept, ensures-kept, callers-kept}
 use Rattle.run_steps.proofs.Moves.{moved-to, next-is, next-fits, follow-stop, follow-on}
-use Rattle.run_steps.proofs.Changes.{put-variable}
+use Rattle.run_steps.proofs.Changes.{among-append, put-variable}
 use Rattle.run_steps.proofs.Steps.{frame-holding}
-use Rattle.run_calls.proofs.Returning.{among-append}
 use Rattle.run_steps.proofs.Heaps.{Has}
 use Rattle.run_steps.proofs.Doing.{does-on, does-stop, fits, frames-fit}
 use Rattle.run_calls.proofs.Making.{made-only, made-class, made-first, made-objects, old-value, old-holder, new-value, new-holder}
@@ -429,9 +429,10 @@ new-stop {w} {c} {m} R class x mo mf (inr l) =
     go false = refl
 
 -- THE CODE
-module _ {w : List ℕ} {c : Machine} (ready : CanStep w c) (k : AtKind w c new-kind) (mo mf : ℕ) (lmo : mo ≤ heap-objects) (lmf : mf ≤ heap-fields)
+module _ {w : List ℕ} {c : Machine} (ready : CanStep w c) (k : AtKind w c New) (mo mf : ℕ) (lmo : mo ≤ heap-objects) (lmf : mf ≤ heap-fields)
     (class n : ℕ) (ec : class ≡ memberAt w (c .row)) (en : n ≡ fieldCountAt w class) where
   pub new-class : class < classCount w
+  unfolding statementNumber
   new-class = omega (arith, ec, fits ready .class k)
 
   pub new-small : (class < most-classes) × (n ≤ 8)
@@ -452,6 +453,7 @@ module _ {w : List ℕ} {c : Machine} (ready : CanStep w c) (k : AtKind w c new-
       w′ ≡ putWord (made w (c .objects) (c .fields) n class (c .holder)) (v .base + x * 4) (c .objects + 1) →
       d ≡ atRow (larger c n (c .steps)) (c .row + 1) (c .steps + 1) →
       Does w c w′ (Turn.On d) (newHere w c (record { objects = mo; fields = mf }))
+  unfolding statementNumber
   new-does v x {w′} {d} l h ev ex p q =
       let p′ : w′ ≡ putWord (made w (c .objects) (c .fields) (fieldCountAt w class) class (c .holder)) (frameAt (c .frames - 1) + xAt w (c .row) * 4) (c .objects + 1) =
       p ∙ rw (ev, ex, en) in

@@ -1,5 +1,3 @@
-pub mod Returning
-pub mod Resulting
 pub mod Framing
 pub mod Calling
 pub mod Making

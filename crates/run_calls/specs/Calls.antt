@@ -1,19 +1,19 @@
--- What `call`, `return`, `end` and `new` do with the counters and the stores.
+-- What `call` and `new` do with the counters and the stores.
 use mathlib.Core.Path.{_≡_}
 use mathlib.Core.List.{List, []}
 use mathlib.Core.Logic.{_⊎_}
-use Prim.Native.Nat.{ℕ, _+_, _-_, _≤_, _<_}
+use Prim.Native.Nat.{ℕ, _+_, _≤_, _<_}
 use lib.ListN.{length, take}
 use Rattle.rules.specs.Limits.{most-frames, most-methods, work-bytes}
 use Rattle.rules.specs.Base.{ok, no}
 use Rattle.rules.specs.declared.Machine.{Machine}
-use Rattle.rules.specs.Machine.{Config, Step, Room, took, newStep, callStep, returnStep, endStep}
-use Rattle.tables.specs.Decode.{xAt, yAt, zAt, memberAt, classAt, methodAt, programIn, methodCount, requiresAt, ensuresAt, firstRowAt}
+use Rattle.rules.specs.Machine.{Config, Step, Room, took, newStep, callStep}
+use Rattle.tables.specs.Decode.{xAt, yAt, zAt, memberAt, classAt, methodAt, methodCount, requiresAt, firstRowAt}
 use Rattle.run_heap.specs.declared.Fault.{Fault}
 use Rattle.run_steps.specs.declared.Turn.{Turn}
-use Rattle.run_heap.specs.Views.{methodOf, viewOf, nextView, Readable, stopOf}
+use Rattle.run_heap.specs.Views.{nextView, Readable, stopOf}
 use Rattle.run_footprint.specs.Footprints.{footprint-cells, marked, takeIn, SmallCells}
-use Rattle.run_steps.specs.States.{CanStep}
+use Rattle.run_steps.specs.States.{most-count}
 
 -- WHAT THE DEFINITIONS DO at the row, by its operands
 
@@ -23,26 +23,7 @@ newHere w c room m = took (newStep room (xAt w (c .row)) (classAt w (memberAt w 
 abbrev pub callHere : List ℕ → Machine → Config → Step
 callHere w c m = took (callStep (yAt w (c .row)) (methodAt w (memberAt w (c .row))) (zAt w (c .row)) m)
 
-abbrev pub returnHere : List ℕ → Machine → Config → Step
-returnHere w c = returnStep (programIn w) (xAt w (c .row))
-
-abbrev pub endHere : List ℕ → Config → Step
-endHere w m = endStep (programIn w) m (m .callers)
-
 -- COUNTERS
-
--- back in the caller, which holds by this number
-abbrev pub back : Machine → ℕ → ℕ → Machine
-back c holder row =
-    record {
-      objects = c .objects;
-      fields = c .fields;
-      frames = c .frames - 1;
-      row = row;
-      holder = holder;
-      holders = c .holders;
-      steps = c .steps + 1;
-    }
 
 -- a call more, which holds by a new number
 abbrev pub called : Machine → ℕ → Machine
@@ -77,20 +58,12 @@ larger c n steps =
       steps = steps;
     }
 
--- `end` of a call: ensures took these cells
-pub record Leaving (w : List ℕ) (c : Machine) (cells : List ℕ) (n : ℕ) : Type 0 where
-  pub ready : CanStep w c
-  pub inner : c .frames ≡ 1 → ⊥
-  pub size : length cells ≡ footprint-cells
-  pub count : n ≤ footprint-cells
-  pub took : takeIn w (viewOf c) (ensuresAt w (methodOf w (c .frames - 1))) [] ≡ ok (take n cells)
-
 -- `call`: requires took these cells
 pub record Entering (w : List ℕ) (c : Machine) (method : ℕ) (cells : List ℕ) (n : ℕ) : Type 0 where
   pub area : length w ≡ work-bytes
   pub method-fits : method < most-methods
-  pub more : c .steps < 4294967295
-  pub numbers : c .holders < 4294967295
+  pub more : c .steps < most-count
+  pub numbers : c .holders < most-count
   pub size : length cells ≡ footprint-cells
   pub count : n ≤ footprint-cells
   pub small : SmallCells (take n cells)
@@ -105,6 +78,6 @@ Admits w c method w′ r =
 pub record Calling (w : List ℕ) (c : Machine) (method : ℕ) : Type 0 where
   pub readable : Readable w (nextView c)
   pub exists : method < methodCount w
-  pub more : c .steps < 4294967295
-  pub numbers : c .holders < 4294967295
+  pub more : c .steps < most-count
+  pub numbers : c .holders < most-count
   pub small : (ks : List ℕ) → takeIn w (nextView c) (requiresAt w method) [] ≡ ok ks → SmallCells ks

@@ -16,7 +16,7 @@ use Rattle.tables.specs.Stores.{putWord}
 use Rattle.run_heap.specs.declared.View.{View}
 use Rattle.run_footprint.specs.declared.Truth.{Truth}
 use Rattle.run_footprint.specs.declared.Took.{Took}
-use Rattle.run_heap.specs.Views.{readIn, spot, stopOf}
+use Rattle.run_heap.specs.Views.{word-bytes, readIn, spot, stopOf}
 
 -- a comparison whose left side is known
 unfoldable pub rightTest : List ℕ → View → ℕ → ℕ → Try Stop Bool
@@ -46,7 +46,7 @@ takeIn w v (cmp n a b ∷ φ) ks = do
 -- each of these cells is held by v
 unfoldable pub marked : List ℕ → List ℕ → ℕ → List ℕ
 marked w [] v = w
-marked w (k ∷ ks) v = marked (putWord w (holders-at + k * 4) v) ks v
+marked w (k ∷ ks) v = marked (putWord w (holders-at + k * word-bytes) v) ks v
 
 unfoldable pub truthIs : Truth → Try Stop Bool
 truthIs Truth.Holds = ok true
@@ -80,6 +80,10 @@ sieve-bytes = 64
 pub record Sieve (ks seen : List ℕ) : Type 0 where
   pub size : length seen ≡ sieve-bytes
   pub clear : (k : ℕ) → getD seen (k % sieve-bytes) 0 ≡ 0 → any (eqb k) ks ≡ false
+
+-- n cells are taken, and there is room for one more
+abbrev pub RoomAfter : List ℕ → List ℕ → ℕ → Type 0
+RoomAfter ks seen n = ((n < footprint-cells) × (length ks ≡ footprint-cells)) × Sieve (take n ks) seen
 
 -- after n cells at most one more was taken, and the bytes go on saying which remainders they have
 abbrev pub TookOne : Took → List ℕ → List ℕ → ℕ → Try Stop (List ℕ) → Type 0

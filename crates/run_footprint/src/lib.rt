@@ -3,6 +3,7 @@ use rules::Machine;
 use run_heap::Fault;
 use run_heap::Read;
 use run_heap::Spot;
+use run_heap::Stores;
 use run_heap::View;
 use tables::AtomKind;
 use tables::Layout;
@@ -17,7 +18,7 @@ ghost use Rattle.rules.specs.Base.{any, ok};
 ghost use Rattle.rules.specs.Machine.{compared};
 ghost use lib.Dec.{eqb};
 ghost use Rattle.run_heap.specs.Views.{Readable};
-ghost use Rattle.run_footprint.specs.Footprints.{rightTest, testIn, newCells, accIn, takeIn, SmallCells, marked, truthIs, footprint-cells, TookUpTo, TookOne, Sieve};
+ghost use Rattle.run_footprint.specs.Footprints.{rightTest, testIn, newCells, accIn, takeIn, SmallCells, marked, truthIs, footprint-cells, TookUpTo, TookOne, RoomAfter};
 
 // The cells of a footprint.
 pub type Cells = [usize; CELLS];
@@ -130,7 +131,7 @@ fn put_seen(cells: &mut Cells, n: usize, k: usize) -> Took
 
 // Takes the cell k after n others. It is looked for only where its remainder by SIEVE has been seen.
 fn put_cell(cells: &mut Cells, seen: &mut [u8; SIEVE], n: usize, k: usize) -> Took
-    requires { ⌜ ((n < footprint-cells) × (length (now cells) ≡ footprint-cells)) × Sieve (take n (now cells)) (now seen) ⌝ }
+    requires { ⌜ RoomAfter (now cells) (now seen) n ⌝ }
     ensures { λ r. ⌜ TookOne r (now (cells .exit)) (now (seen .exit)) n (newCells (take n (now (cells .entry))) k) ⌝ }
 {
     let s = k % SIEVE;
@@ -153,7 +154,7 @@ fn take_cell(
     seen: &mut [u8; SIEVE],
     n: usize,
 ) -> Took
-    requires { ⌜ (Readable (now work) v × ((x < frame-variables) × (f < most-names))) × (((n < footprint-cells) × (length (now cells) ≡ footprint-cells)) × Sieve (take n (now cells)) (now seen)) ⌝ }
+    requires { ⌜ (Readable (now work) v × ((x < frame-variables) × (f < most-names))) × RoomAfter (now cells) (now seen) n ⌝ }
     ensures { λ r. ⌜ TookOne r (now (cells .exit)) (now (seen .exit)) n (accIn (now (work .entry)) v x f (take n (now (cells .entry)))) ⌝ }
 {
     match run_heap::locate(work, v, x, f) {
@@ -171,7 +172,7 @@ fn take_atom(
     seen: &mut [u8; SIEVE],
     n: usize,
 ) -> Took
-    requires { ⌜ (Readable (now work) v × (a < atomCount (now work))) × (((n < footprint-cells) × (length (now cells) ≡ footprint-cells)) × Sieve (take n (now cells)) (now seen)) ⌝ }
+    requires { ⌜ (Readable (now work) v × (a < atomCount (now work))) × RoomAfter (now cells) (now seen) n ⌝ }
     ensures { λ r. ⌜ TookOne r (now (cells .exit)) (now (seen .exit)) n (takeIn (now (work .entry)) v (atomAt (now (work .entry)) a ∷ []) (take n (now (cells .entry)))) ⌝ }
 {
     if tables::atom_kind(work, a) == AtomKind::ACC {
@@ -213,7 +214,7 @@ pub fn mark(work: &mut [u8], cells: &Cells, n: usize, v: u32)
     let mut i = 0;
     while i < n {
         let k = cells[i];
-        tables::put_word(work, Layout::HOLDERS + k * 4, v);
+        tables::put_word(work, Layout::HOLDERS + k * Stores::WORD_BYTES, v);
         i += 1;
     }
 }

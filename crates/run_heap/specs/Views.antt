@@ -24,6 +24,17 @@ use Rattle.run_heap.specs.declared.Read.{Read}
 
 -- STORES
 
+-- the bytes of a word, and how many numbers two bytes hold
+abbrev pub word-bytes : ℕ
+word-bytes = 4
+
+abbrev pub halves : ℕ
+halves = 65536
+
+-- a frame has `this`, w and its other variables
+abbrev pub frame-parameter : ℕ
+frame-parameter = 4
+
 -- after its variables a frame keeps the number by which it holds, its row and its method
 abbrev pub frame-holder : ℕ
 frame-holder = 60
@@ -40,7 +51,7 @@ frameAt i = frames-at + i * frame-bytes
 
 -- the variable x of the frame at b
 unfoldable pub variableAt : List ℕ → ℕ → ℕ → ℕ
-variableAt w b x = wordAt w (b + x * 4)
+variableAt w b x = wordAt w (b + x * word-bytes)
 
 unfoldable pub savedHolder : List ℕ → ℕ → ℕ
 savedHolder w i = wordAt w (frameAt i + frame-holder)
@@ -52,21 +63,28 @@ unfoldable pub methodOf : List ℕ → ℕ → ℕ
 methodOf w i = byteAt w (frameAt i + frame-method)
 
 unfoldable pub cellValue : List ℕ → ℕ → ℕ
-cellValue w k = wordAt w (values-at + k * 4)
+cellValue w k = wordAt w (values-at + k * word-bytes)
 
 -- the number of the frame that holds it, 0 for nobody
 unfoldable pub cellHolder : List ℕ → ℕ → ℕ
-cellHolder w k = wordAt w (holders-at + k * 4)
+cellHolder w k = wordAt w (holders-at + k * word-bytes)
 
--- object i + 1: its class and first cell
+-- object i + 1: its class and, this far from it, its first cell
+abbrev pub object-first : ℕ
+object-first = 2
+
 unfoldable pub classIn : List ℕ → ℕ → ℕ
 classIn w i = byteAt w (objects-at + i * object-bytes)
 
 unfoldable pub firstIn : List ℕ → ℕ → ℕ
-firstIn w i = halfAt w (objects-at + i * object-bytes + 2)
+firstIn w i = halfAt w (objects-at + i * object-bytes + object-first)
+
+-- in place of the place of a field that a class does not have
+abbrev pub no-place : ℕ
+no-place = 255
 
 unfoldable pub placed : ℕ → ℕ → Option ℕ
-placed first p = cond (eqb p 255) none (some (first + p))
+placed first p = cond (eqb p no-place) none (some (first + p))
 
 -- of n objects: the cell of the field named f of the object o
 unfoldable pub cellOf : List ℕ → ℕ → ℕ → ℕ → Option ℕ
@@ -117,13 +135,13 @@ readIn w v (path x f) = spot w v x f >>= λ k. ok (cellValue w k)
 -- n words v from i on
 unfoldable pub fill : List ℕ → ℕ → ℕ → ℕ → List ℕ
 fill w i zero v = w
-fill w i (suc n) v = fill (putWord w i v) (i + 4) n v
+fill w i (suc n) v = fill (putWord w i v) (i + word-bytes) n v
 
 -- The frame at a calls: it keeps its number and row. The next, at b, has its values, `this`, w and zeros, and its method.
 unfoldable pub framed : List ℕ → ℕ → ℕ → ℕ → ℕ → ℕ → ℕ → ℕ → List ℕ
 framed w a b holder row method o p =
     set
-    (putHalf (putWord (putWord (putWord (fill w b frame-variables 0) b o) (b + 4) p) (a + frame-holder) holder) (a + frame-row) row)
+    (putHalf (putWord (putWord (putWord (fill w b frame-variables 0) b o) (b + frame-parameter) p) (a + frame-holder) holder) (a + frame-row) row)
     (b + frame-method)
     method
 
@@ -134,8 +152,8 @@ prepared w c method o p = framed w (frameAt (c .frames - 1)) (frameAt (c .frames
 unfoldable pub made : List ℕ → ℕ → ℕ → ℕ → ℕ → ℕ → List ℕ
 made w i k n class holder =
     fill
-    (fill (putHalf (set w (objects-at + i * object-bytes) class) (objects-at + i * object-bytes + 2) k) (values-at + k * 4) n 0)
-    (holders-at + k * 4)
+    (fill (putHalf (set w (objects-at + i * object-bytes) class) (objects-at + i * object-bytes + object-first) k) (values-at + k * word-bytes) n 0)
+    (holders-at + k * word-bytes)
     n
     holder
 

@@ -10,7 +10,7 @@ ghost use Rattle.tables.specs.Layout.{most-names, frame-variables};
 ghost use Rattle.tables.specs.Decode.{leftAt, rightAt, atomCount};
 ghost use Rattle.tables.specs.Tables.{SideFits};
 ghost use Rattle.tables.specs.Stores.{meaning};
-ghost use Rattle.run_heap.specs.Views.{frame-holder, variableAt, savedHolder, savedRow, methodOf, prepared, made, cellValue, cellHolder, classIn, firstIn, cellOf, present, foundOf, found, heldCell, spot, readIn, PlainIs, fill, spotIs, readIs, Readable, viewOf};
+ghost use Rattle.run_heap.specs.Views.{word-bytes, halves, frame-holder, variableAt, savedHolder, savedRow, methodOf, prepared, made, cellValue, cellHolder, classIn, firstIn, cellOf, present, foundOf, found, heldCell, spot, readIn, PlainIs, fill, spotIs, readIs, Readable, viewOf};
 
 // Whose variables are read, where the heap ends, and who holds.
 pub struct View {
@@ -19,20 +19,35 @@ pub struct View {
     pub holder: u32,
 }
 
-// A frame's variables: `this`, w, 12 locals, `result`.
-pub const VARIABLES: usize = 15;
+// How the stores are laid out, beyond `Layout`.
+pub struct Stores {}
 
-// The number of `result`, and where its value stands in a frame.
-pub const RESULT: usize = 14;
+impl Stores {
+    pub const WORD_BYTES: usize = 4;
 
-pub const RESULT_AT: usize = 56;
+    // A frame's variables: `this`, w, 12 locals, `result`.
+    pub const VARIABLES: usize = 15;
 
-// Where a frame keeps the number by which it holds, its row and its method.
-const HOLDER_AT: usize = 60;
+    // The number of `result`, and where its value stands in a frame.
+    pub const RESULT: usize = 14;
 
-const ROW_AT: usize = 64;
+    pub const RESULT_AT: usize = Stores::RESULT * Stores::WORD_BYTES;
+}
 
-const METHOD_AT: usize = 66;
+// Where a frame keeps the value of w, the number by which it holds, its row and its method.
+const PARAMETER_AT: usize = Stores::WORD_BYTES;
+
+const HOLDER_AT: usize = Stores::VARIABLES * Stores::WORD_BYTES;
+
+const ROW_AT: usize = HOLDER_AT + Stores::WORD_BYTES;
+
+const METHOD_AT: usize = ROW_AT + 2;
+
+// Where an object keeps the number of its first cell, after its class.
+const FIRST_AT: usize = 2;
+
+// What `tables::place_at` answers where a class does not have a field.
+const NO_PLACE: usize = 255;
 
 // Why a step is not done.
 pub enum Fault {
@@ -61,21 +76,21 @@ pub fn variable(work: &[u8], b: usize, x: usize) -> u32
     requires { ⌜ (b + frame-holder ≤ length (now work)) × (x < frame-variables) ⌝ }
     ensures { λ r. ⌜ r ≡ variableAt (now (work .entry)) b x ⌝ }
 {
-    tables::word_at(work, b + x * 4)
+    tables::word_at(work, b + x * Stores::WORD_BYTES)
 }
 
 fn cell_value(work: &[u8], k: usize) -> u32
     requires { ⌜ (length (now work) ≡ work-bytes) × (k < heap-fields) ⌝ }
     ensures { λ r. ⌜ r ≡ cellValue (now (work .entry)) k ⌝ }
 {
-    tables::word_at(work, Layout::VALUES + k * 4)
+    tables::word_at(work, Layout::VALUES + k * Stores::WORD_BYTES)
 }
 
 fn cell_holder(work: &[u8], k: usize) -> u32
     requires { ⌜ (length (now work) ≡ work-bytes) × (k < heap-fields) ⌝ }
     ensures { λ r. ⌜ r ≡ cellHolder (now (work .entry)) k ⌝ }
 {
-    tables::word_at(work, Layout::HOLDERS + k * 4)
+    tables::word_at(work, Layout::HOLDERS + k * Stores::WORD_BYTES)
 }
 
 // The class of object i + 1.
@@ -89,9 +104,9 @@ fn class_of(work: &[u8], i: usize) -> usize
 // Its first cell.
 fn first_of(work: &[u8], i: usize) -> usize
     requires { ⌜ (length (now work) ≡ work-bytes) × (i < heap-objects) ⌝ }
-    ensures { λ r. ⌜ (r ≡ firstIn (now (work .entry)) i) × (r < 65536) ⌝ }
+    ensures { λ r. ⌜ (r ≡ firstIn (now (work .entry)) i) × (r < halves) ⌝ }
 {
-    tables::half_at(work, Layout::OBJECTS + i * Layout::OBJECT_BYTES + 2)
+    tables::half_at(work, Layout::OBJECTS + i * Layout::OBJECT_BYTES + FIRST_AT)
 }
 
 // The cell of the field named f of object i + 1.
@@ -101,7 +116,7 @@ fn cell_at(work: &[u8], v: View, i: usize, f: usize) -> Spot
 {
     let c = class_of(work, i);
     let p = tables::place_at(work, c, f);
-    if p == 255 {
+    if p == NO_PLACE {
         return Spot::Lacking(Fault::Permission);
     }
     let k = first_of(work, i) + p;
@@ -182,6 +197,7 @@ fn value(work: &[u8], v: View, e: Expr) -> Read
     }
 }
 
+// The value of the left side of the atom a.
 pub fn left(work: &[u8], v: View, a: usize) -> Read
     requires { ⌜ Readable (now work) v × (a < atomCount (now work)) ⌝ }
     ensures { λ r. ⌜ readIs r ≡ readIn (now (work .entry)) v (leftAt (now (work .entry)) a) ⌝ }
@@ -189,6 +205,7 @@ pub fn left(work: &[u8], v: View, a: usize) -> Read
     value(work, v, tables::left_at(work, a))
 }
 
+// The value of its right side.
 pub fn right(work: &[u8], v: View, a: usize) -> Read
     requires { ⌜ Readable (now work) v × (a < atomCount (now work)) ⌝ }
     ensures { λ r. ⌜ readIs r ≡ readIn (now (work .entry)) v (rightAt (now (work .entry)) a) ⌝ }
@@ -196,14 +213,14 @@ pub fn right(work: &[u8], v: View, a: usize) -> Read
     value(work, v, tables::right_at(work, a))
 }
 
-// n words v from i on.
+// n words v from the byte `at` on.
 pub fn fill_words(work: &mut [u8], at: usize, n: usize, v: u32)
-    requires { ⌜ at + n * 4 ≤ length (now work) ⌝ }
+    requires { ⌜ at + n * word-bytes ≤ length (now work) ⌝ }
     ensures { λ _. ⌜ now (work .exit) ≡ fill (now (work .entry)) at n v ⌝ }
 {
     let mut i = 0;
     while i < n {
-        tables::put_word(work, at + i * 4, v);
+        tables::put_word(work, at + i * Stores::WORD_BYTES, v);
         i += 1;
     }
 }
@@ -230,7 +247,7 @@ pub fn saved_holder(work: &[u8], i: usize) -> u32
 
 pub fn saved_row(work: &[u8], i: usize) -> usize
     requires { ⌜ (length (now work) ≡ work-bytes) × (i < most-frames) ⌝ }
-    ensures { λ r. ⌜ (r ≡ savedRow (now (work .entry)) i) × (r < 65536) ⌝ }
+    ensures { λ r. ⌜ (r ≡ savedRow (now (work .entry)) i) × (r < halves) ⌝ }
 {
     tables::half_at(work, Layout::FRAMES + i * Layout::FRAME_BYTES + ROW_AT)
 }
@@ -251,9 +268,9 @@ pub fn prepare(work: &mut [u8], c: Machine, m: usize, o: u32, p: u32)
     let j = c.frames as usize;
     let a = Layout::FRAMES + i * Layout::FRAME_BYTES;
     let b = Layout::FRAMES + j * Layout::FRAME_BYTES;
-    fill_words(work, b, VARIABLES, 0);
+    fill_words(work, b, Stores::VARIABLES, 0);
     tables::put_word(work, b, o);
-    tables::put_word(work, b + 4, p);
+    tables::put_word(work, b + PARAMETER_AT, p);
     tables::put_word(work, a + HOLDER_AT, c.holder);
     tables::put_half(work, a + ROW_AT, c.row as usize);
     tables::put_byte(work, b + METHOD_AT, m);
@@ -268,7 +285,7 @@ pub fn make_object(work: &mut [u8], c: Machine, class: usize, n: usize)
     let k = c.fields as usize;
     let at = Layout::OBJECTS + i * Layout::OBJECT_BYTES;
     tables::put_byte(work, at, class);
-    tables::put_half(work, at + 2, k);
-    fill_words(work, Layout::VALUES + k * 4, n, 0);
-    fill_words(work, Layout::HOLDERS + k * 4, n, c.holder);
+    tables::put_half(work, at + FIRST_AT, k);
+    fill_words(work, Layout::VALUES + k * Stores::WORD_BYTES, n, 0);
+    fill_words(work, Layout::HOLDERS + k * Stores::WORD_BYTES, n, c.holder);
 }

@@ -1,7 +1,7 @@
 -- A variable of the running frame, a value of the heap, and holders: how the represented state changes with the store.
 use mathlib.Core.Path.{_≡_, refl, sym, ap, _∙_, subst}
 use mathlib.Core.Bool.{Bool, true, false, cond}
-use mathlib.Core.List.{List}
+use mathlib.Core.List.{List, _++_}
 use mathlib.Core.Logic.{inl, inr, ⊎-elim}
 use mathlib.Core.Option.{Option, none, some}
 use Prim.Native.Nat.{ℕ, suc, _+_, _*_, _≤_, _<_}
@@ -15,7 +15,7 @@ use Rattle.rules.specs.Machine.{Location, Config, among, without, valueAt, obje
 use Rattle.rules.specs.declared.Machine.{Machine}
 use Rattle.rules.proofs.Lists.{decide-eq, some-inj, T-true, F-false}
 use Rattle.rules.proofs.Heaps.{store-same, store-other}
-use Rattle.rules.proofs.Sets.{Holds, without-in, without-out, in-without}
+use Rattle.rules.proofs.Sets.{Holds, without-in, without-out, in-without, in-append, in-left, in-right}
 use Rattle.tables.specs.Layout.{frame-variables, values-at, holders-at, seconds-at}
 use Rattle.tables.specs.Tables.{Tables}
 use Rattle.tables.specs.Stores.{SameTables, putWord}
@@ -47,6 +47,16 @@ unfolding variableAt
 this-variable w b x v l h = word-put w (b + x * 4) v l h
 
 -- HOLDERS
+-- a set and another
+pub among-append : (p : Location) (A B : List Location) → among p (A ++ B) ≡ cond (among p B) true (among p A)
+among-append p A B = go (among p B) refl
+  where
+    go : (b : Bool) → among p B ≡ b → among p (A ++ B) ≡ cond b true (among p A)
+    go true e = T-true (among p (A ++ B)) (in-right p A B (subst T (sym e) tt))
+    go false e =
+        bool-iff (among p (A ++ B)) (among p A)
+        (λ t. ⊎-elim (λ a. a) (λ b. absurd (subst T e b)) (in-append p A B t)) (λ t. in-left p A B t)
+
 -- a set less another
 pub holds-without : (p : Location) (A B : List Location) → among p (without A B) ≡ cond (among p A) false (among p B)
 holds-without p A B = go (among p A) refl

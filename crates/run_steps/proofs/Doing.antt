@@ -10,7 +10,7 @@ use lib.ListN.{length}
 use Rattle.rules.specs.Limits.{heap-fields, most-statements, most-frames}
 use Rattle.rules.specs.Base.{ok, no}
 use Rattle.rules.specs.Answers.{overflow}
-use Rattle.rules.specs.Grammar.{statementNumber, isComputing}
+use Rattle.rules.specs.Grammar.{Set, Let, If, Loop, statementNumber, isComputing}
 use Rattle.rules.specs.Machine.{Config, Step, computed}
 use Rattle.rules.specs.declared.Machine.{Machine}
 use Rattle.tables.specs.Layout.{frame-variables, values-at, holders-at, frames-at, most-names}
@@ -23,7 +23,7 @@ use Rattle.run_heap.specs.declared.Fault.{Fault}
 use Rattle.run_steps.specs.declared.Turn.{Turn}
 use Rattle.run_heap.specs.Views.{frameAt, variableAt, spot, readIn, viewOf, stopOf, Readable, frame-holder}
 use Rattle.run_footprint.specs.Footprints.{testIn, takeIn, marked, SmallCells}
-use Rattle.run_steps.specs.States.{Represents, Follows, Does, CanStep, NotEnd, AtKind, Chooses, Jumps, stepped, set-kind, let-kind, if-kind, loop-kind, setHere, letHere, computeHere, assertHere, releaseHere, ifOn, loopHere, jumpHere}
+use Rattle.run_steps.specs.States.{Represents, Follows, Does, CanStep, NotEnd, AtKind, Chooses, Jumps, stepped, setHere, letHere, computeHere, assertHere, releaseHere, ifOn, loopHere, jumpHere}
 use Rattle.run_heap.proofs.Reading.{spot-small}
 use Rattle.run_steps.proofs.Seeing.{ok-footprint}
 use Rattle.run_footprint.proofs.Regions.{only-word, only-tables, only-marked}
@@ -111,7 +111,8 @@ module _ {w : List ℕ} {c : Machine} (ready : CanStep w c) where
   pub jump-does : {d : Machine} → Jumps w c → d ≡ stepped c (targetAt w (c .row)) → Does w c w (Turn.On d) (jumpHere w c)
   jump-does k q = does-on refl q (same-refl w) (λ m R. Moves.jump-on R k)
 
-  pub if-atom : AtKind w c if-kind → firstAtomAt w (c .row) < atomCount w
+  pub if-atom : AtKind w c If → firstAtomAt w (c .row) < atomCount w
+  unfolding statementNumber
   if-atom k = omega (arith, fits .atoms .1, fits .one-atom (inr k))
 
   module _ (k : Chooses w c) (v : View) (a : ℕ) (l : a < atomCount w) (ev : v ≡ viewOf c) where
@@ -125,7 +126,8 @@ module _ {w : List ℕ} {c : Machine} (ready : CanStep w c) where
     if-stops s e = does-stop s (λ m R. Moves.if-stop R a l s (rw (← ev) e))
 
   -- the condition of a loop is the atom before its invariant
-  pub loop-atom : AtKind w c loop-kind → (1 ≤ firstAtomAt w (c .row)) × (firstAtomAt w (c .row) - 1 < atomCount w)
+  pub loop-atom : AtKind w c Loop → (1 ≤ firstAtomAt w (c .row)) × (firstAtomAt w (c .row) - 1 < atomCount w)
+  unfolding statementNumber
   loop-atom k = let l = fits .condition k in (l, omega (arith, l, fits .atoms .1))
 
   pub loop-does :
@@ -141,14 +143,16 @@ module _ {w : List ℕ} {c : Machine} (ready : CanStep w c) where
   loop-stops s e = does-stop s (λ m R. Moves.loop-stop R _ s e)
 
   -- VARIABLES
-  pub let-atom : AtKind w c let-kind → firstAtomAt w (c .row) < atomCount w
+  pub let-atom : AtKind w c Let → firstAtomAt w (c .row) < atomCount w
+  unfolding statementNumber
   let-atom k = omega (arith, fits .atoms .1, fits .one-atom (inl k))
 
-  module _ (k : AtKind w c let-kind) (v : View) (a : ℕ) (ev : v ≡ viewOf c) (ea : a ≡ firstAtomAt w (c .row)) where
+  module _ (k : AtKind w c Let) (v : View) (a : ℕ) (ev : v ≡ viewOf c) (ea : a ≡ firstAtomAt w (c .row)) where
     pub let-does :
         (x n : ℕ) {w′ : List ℕ} {d : Machine} → x ≡ xAt w (c .row) → n < 4294967296 → readIn w v (rightAt w a) ≡ ok n →
         w′ ≡ putWord w (v .base + x * 4) n → d ≡ stepped c (c .row + 1) →
         Does w c w′ (Turn.On d) (letHere w c)
+    unfolding statementNumber
     let-does x n ex ln e p q =
         does-on (p ∙ rw (ev, ex)) q (frame-words (xAt w (c .row)) (fits .x) n)
         (λ m R.
@@ -192,8 +196,9 @@ module _ {w : List ℕ} {c : Machine} (ready : CanStep w c) where
         (λ m R. Steps.compute-stop R _ (xAt w (c .row)) _ _ (fits .y) (fits .z) (sym read-so ∙ e))
 
   -- `set`
-  module _ (k : AtKind w c set-kind) (v : View) (x f : ℕ) (ev : v ≡ viewOf c) (ex : x ≡ xAt w (c .row)) (ef : f ≡ memberAt w (c .row)) where
+  module _ (k : AtKind w c Set) (v : View) (x f : ℕ) (ev : v ≡ viewOf c) (ex : x ≡ xAt w (c .row)) (ef : f ≡ memberAt w (c .row)) where
     pub set-operands : (x < frame-variables) × (f < most-names)
+    unfolding statementNumber
     set-operands = (omega (arith, fits .x), omega (arith, fits .field k))
 
     pub set-small : (j : ℕ) → spot w v x f ≡ ok j → j < heap-fields
@@ -203,6 +208,7 @@ module _ {w : List ℕ} {c : Machine} (ready : CanStep w c) where
         (j y n : ℕ) {w′ : List ℕ} {d : Machine} → spot w v x f ≡ ok j → y ≡ yAt w (c .row) → n < 4294967296 →
         n ≡ variableAt w (v .base) y → w′ ≡ putWord w (values-at + j * 4) n → d ≡ stepped c (c .row + 1) →
         Does w c w′ (Turn.On d) (setHere w c)
+    unfolding statementNumber
     set-does j y n e ey ln en p q =
         let l : j < heap-fields = set-small j e in
         does-on p q (only-tables (only-word values-at holders-at w (values-at + j * 4) n (omega arith) (omega arith)) (omega arith))

@@ -10,6 +10,7 @@ use lib.ListN.{length}
 use Rattle.rules.specs.Limits.{heap-fields}
 use Rattle.rules.specs.Base.{Try, ok, no, _>>=_, update}
 use Rattle.rules.specs.Answers.{Stop}
+use Rattle.rules.specs.Grammar.{Else, Again, statementNumber}
 use Rattle.rules.specs.Syntax.{Formula}
 use Rattle.rules.specs.Machine.{Frame, Location, Config, on, took, holds, valueOf, value, compared, closing, loopOf, jump, advance, bind, withFrame, choose, ifStep, elseStep, loopStep, againStep, assertStep}
 use Rattle.rules.specs.declared.Machine.{Machine}
@@ -21,7 +22,7 @@ use Rattle.run_heap.specs.declared.Fault.{Fault}
 use Rattle.run_steps.specs.declared.Turn.{Turn}
 use Rattle.run_heap.specs.Views.{frameAt, variableAt, holderOf, viewOf, readIn, stopOf, ObjectFits, Readable}
 use Rattle.run_footprint.specs.Footprints.{rightTest, testIn, takeIn}
-use Rattle.run_steps.specs.States.{FrameIs, Represents, Follows, atRow, stepped, else-kind, again-kind, NotEnd, AtKind, Chooses, Jumps, ifOn, loopOn, jumpHere}
+use Rattle.run_steps.specs.States.{FrameIs, Represents, Follows, atRow, stepped, NotEnd, AtKind, Chooses, Jumps, ifOn, loopOn, jumpHere}
 use Rattle.run_heap.proofs.Reading.{cell-small}
 use Rattle.run_steps.proofs.Seeing.{Sees, FormulaOk, cells-apart, value-is, no-footprint, ok-footprint, atoms-ok}
 
@@ -107,6 +108,7 @@ module _ {w : List ℕ} {c : Machine} {m : Config} (R : Represents w c m) where
   next-is = omega (arith, R .frame .row-is)
 
   pub next-fits : NotEnd w c → c .row + 1 < rowCount w
+  unfolding statementNumber
   next-fits n = ⊎-elim (λ e. absurd (n e)) (λ l. omega arith) (row-fits .follows .next)
 
   -- the same state, at another row and after as many steps or more
@@ -180,24 +182,27 @@ module _ {w : List ℕ} {c : Machine} {m : Config} (R : Represents w c m) where
       Follows w c (Turn.On (stepped c (targetAt w (c .row)))) m (on (withFrame m (jump i (m .frame))))
   goes-to i t e = record { next = withFrame m (jump i (m .frame)); is-next = refl; represents = moved (targetAt w (c .row)) i (row-fits .follows .target t) e; counted = refl }
 
-  else-on : AtKind w c else-kind → Follows w c (Turn.On (stepped c (targetAt w (c .row)))) m (on (elseStep (allRows w) m))
-  unfolding elseStep
+  else-on : AtKind w c Else → Follows w c (Turn.On (stepped c (targetAt w (c .row)))) m (on (elseStep (allRows w) m))
+  unfolding elseStep statementNumber
   else-on k = goes-to _ (inr (inl k)) (ap (closing (allRows w)) (R .frame .row-is) ∙ sym (row-fits .follows .to-join k))
 
-  again-on : AtKind w c again-kind → Follows w c (Turn.On (stepped c (targetAt w (c .row)))) m (on (againStep (allRows w) m))
-  unfolding againStep
+  again-on : AtKind w c Again → Follows w c (Turn.On (stepped c (targetAt w (c .row)))) m (on (againStep (allRows w) m))
+  unfolding againStep statementNumber
   again-on k = goes-to _ (inr (inr (inr k))) (ap (loopOf (allRows w)) (R .frame .row-is) ∙ sym (row-fits .follows .to-loop k))
 
   pub jump-on : Jumps w c → Follows w c (Turn.On (stepped c (targetAt w (c .row)))) m (jumpHere w c m)
-  jump-on (inl k) = subst (λ n. Follows w c (Turn.On (stepped c (targetAt w (c .row)))) m (on (cond (eqb n else-kind) (elseStep (allRows w) m) (againStep (allRows w) m)))) (sym k) (else-on k)
-  jump-on (inr k) = subst (λ n. Follows w c (Turn.On (stepped c (targetAt w (c .row)))) m (on (cond (eqb n else-kind) (elseStep (allRows w) m) (againStep (allRows w) m)))) (sym k) (again-on k)
+  unfolding statementNumber
+  jump-on (inl k) = subst (λ n. Follows w c (Turn.On (stepped c (targetAt w (c .row)))) m (on (cond (eqb n (statementNumber Else)) (elseStep (allRows w) m) (againStep (allRows w) m)))) (sym k) (else-on k)
+  jump-on (inr k) = subst (λ n. Follows w c (Turn.On (stepped c (targetAt w (c .row)))) m (on (cond (eqb n (statementNumber Else)) (elseStep (allRows w) m) (againStep (allRows w) m)))) (sym k) (again-on k)
 
   -- where the condition fails
   other-row : Chooses w c → (targetAt w (c .row) < rowCount w) × (targetAt w (c .row) ≡ suc (closing (allRows w) (c .row)))
+  unfolding statementNumber
   other-row (inl k) = (row-fits .follows .target (inl k), row-fits .follows .after-else k)
   other-row (inr k) = (row-fits .follows .target (inr (inr (inl k))), row-fits .follows .after-again k)
 
   not-end : Chooses w c → NotEnd w c
+  unfolding statementNumber
   not-end (inl k) z = omega (arith, k, z)
   not-end (inr k) z = omega (arith, k, z)
 

@@ -9,6 +9,7 @@ use lib.Dec.{T, eqb}
 use lib.ListN.{length}
 use Rattle.rules.specs.Limits.{heap-objects, heap-fields, most-frames}
 use Rattle.rules.specs.Base.{any}
+use Rattle.rules.specs.Grammar.{Statement, Call, If, Else, End, Loop, Again, statementNumber}
 use Rattle.rules.specs.Machine.{Heap, Frame, Location, Config, Step, fieldsOf, valueAt, object, valueOf, holds, on, stop, done, took}
 use Rattle.rules.specs.Machine.{setStep, assignStep, computeStep, assertStep, releaseStep, ifStep, elseStep, loopStep, againStep}
 use Rattle.rules.specs.declared.Machine.{Machine}
@@ -18,46 +19,6 @@ use Rattle.tables.specs.Tables.{Tables}
 use Rattle.tables.specs.Stores.{SameTables}
 use Rattle.run_steps.specs.declared.Turn.{Turn}
 use Rattle.run_heap.specs.Views.{frameAt, variableAt, savedHolder, savedRow, methodOf, cellValue, cellHolder, classIn, firstIn, cellOf, holderOf, ObjectFits, stopOf}
-
--- the kinds of rows, by their numbers in the tables
-abbrev pub set-kind : ℕ
-set-kind = 8
-
-abbrev pub let-kind : ℕ
-let-kind = 9
-
-abbrev pub new-kind : ℕ
-new-kind = 10
-
-abbrev pub call-kind : ℕ
-call-kind = 11
-
-abbrev pub return-kind : ℕ
-return-kind = 12
-
-abbrev pub assert-kind : ℕ
-assert-kind = 13
-
-abbrev pub release-kind : ℕ
-release-kind = 14
-
-abbrev pub if-kind : ℕ
-if-kind = 15
-
-abbrev pub else-kind : ℕ
-else-kind = 16
-
-abbrev pub join-kind : ℕ
-join-kind = 17
-
-abbrev pub end-kind : ℕ
-end-kind = 18
-
-abbrev pub loop-kind : ℕ
-loop-kind = 21
-
-abbrev pub again-kind : ℕ
-again-kind = 22
 
 -- so many objects with so many fields stand for the heap; no cell is held by a number above `holders`
 pub record HeapIs (w : List ℕ) (objects fields holders : ℕ) (h : Heap) : Type 0 where
@@ -88,7 +49,7 @@ EnsuresIs w n F = (n ≡ 0) ⊎ ((methodOf w n < methodCount w) × (F .ensures �
 pub record CallerIs (w : List ℕ) (objects n bound : ℕ) (F : Frame) : Type 0 where
   pub frame : FrameIs w objects (frameAt n) (savedHolder w n) (savedRow w n) F
   pub below : savedHolder w n < bound
-  pub at-call : kindAt w (savedRow w n) ≡ call-kind
+  pub at-call : kindAt w (savedRow w n) ≡ statementNumber Call
   pub ensures : EnsuresIs w n F
 
 unfoldable pub CallersAre : List ℕ → ℕ → ℕ → List Frame → Type 0
@@ -144,28 +105,31 @@ atRow c row steps =
 abbrev pub stepped : Machine → ℕ → Machine
 stepped c row = atRow c row (c .steps + 1)
 
+-- the greatest number of 32 bits, to which a counter can rise
+abbrev pub most-count : ℕ
+most-count = 4294967295
+
 -- a state is represented, and a further step can be counted
 pub record CanStep (w : List ℕ) (c : Machine) : Type 0 where
   pub state : Config
   pub represents : Represents w c state
-  pub more : c .steps < 4294967295
+  pub more : c .steps < most-count
 
 -- ROWS
 
--- the row is no `end`
-abbrev pub NotEnd : List ℕ → Machine → Type 0
-NotEnd w c = kindAt w (c .row) ≡ end-kind → ⊥
-
 -- the row is of this kind
-abbrev pub AtKind : List ℕ → Machine → ℕ → Type 0
-AtKind w c k = kindAt w (c .row) ≡ k
+abbrev pub AtKind : List ℕ → Machine → Statement → Type 0
+AtKind w c s = kindAt w (c .row) ≡ statementNumber s
+
+abbrev pub NotEnd : List ℕ → Machine → Type 0
+NotEnd w c = AtKind w c End → ⊥
 
 -- it goes on by a condition, or to its target alone
 abbrev pub Chooses : List ℕ → Machine → Type 0
-Chooses w c = AtKind w c if-kind ⊎ AtKind w c loop-kind
+Chooses w c = AtKind w c If ⊎ AtKind w c Loop
 
 abbrev pub Jumps : List ℕ → Machine → Type 0
-Jumps w c = AtKind w c else-kind ⊎ AtKind w c again-kind
+Jumps w c = AtKind w c Else ⊎ AtKind w c Again
 
 -- WHAT THE DEFINITIONS DO at the row, by its operands
 
@@ -200,4 +164,4 @@ abbrev pub loopHere : List ℕ → Machine → Config → Step
 loopHere w c = loopOn w (firstAtomAt w (c .row) - 1) c
 
 abbrev pub jumpHere : List ℕ → Machine → Config → Step
-jumpHere w c m = on (cond (eqb (kindAt w (c .row)) else-kind) (elseStep (allRows w) m) (againStep (allRows w) m))
+jumpHere w c m = on (cond (eqb (kindAt w (c .row)) (statementNumber Else)) (elseStep (allRows w) m) (againStep (allRows w) m))

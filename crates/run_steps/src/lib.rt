@@ -6,6 +6,7 @@ use run_footprint::Truth;
 use run_heap::Fault;
 use run_heap::Read;
 use run_heap::Spot;
+use run_heap::Stores;
 use run_numbers::Computed;
 use tables::Layout;
 ghost use mathlib.Core.Path.{_≡_};
@@ -13,9 +14,9 @@ ghost use mathlib.Core.List.{[]};
 ghost use Prim.Native.Nat.{_+_, _*_, _<_};
 ghost use lib.Dec.{T};
 ghost use lib.ListN.{length};
-ghost use Rattle.rules.specs.Grammar.{isComputing};
+ghost use Rattle.rules.specs.Grammar.{Set, Let, If, Loop, isComputing};
 ghost use Rattle.tables.specs.Decode.{kindAt, formulaAt, atomCount};
-ghost use Rattle.run_steps.specs.States.{CanStep, NotEnd, AtKind, Chooses, Jumps, Does, stepped, set-kind, let-kind, if-kind, loop-kind, setHere, letHere, computeHere, assertHere, releaseHere, ifOn, ifHere, loopHere, jumpHere};
+ghost use Rattle.run_steps.specs.States.{CanStep, NotEnd, AtKind, Chooses, Jumps, Does, most-count, stepped, setHere, letHere, computeHere, assertHere, releaseHere, ifOn, ifHere, loopHere, jumpHere};
 ghost use Rattle.run_heap.specs.Views.{viewOf};
 ghost use Rattle.run_footprint.specs.Footprints.{takeIn, footprint-cells, TookUpTo};
 
@@ -28,7 +29,7 @@ pub enum Turn {
 
 // One step more, on to a row.
 fn next(c: Machine, row: u32) -> Machine
-    requires { ⌜ c .steps < 4294967295 ⌝ }
+    requires { ⌜ c .steps < most-count ⌝ }
     ensures { λ r. ⌜ r ≡ stepped c row ⌝ }
 {
     Machine {
@@ -96,7 +97,7 @@ fn choose(work: &[u8], c: Machine, a: usize) -> Turn
 
 // `if`: "a false `if` goes to the line after its `else`".
 pub fn if_step(work: &[u8], c: Machine) -> Turn
-    requires { ⌜ CanStep (now work) c × AtKind (now work) c if-kind ⌝ }
+    requires { ⌜ CanStep (now work) c × AtKind (now work) c If ⌝ }
     ensures { λ r. ⌜ Does (now (work .entry)) c (now (work .entry)) r (ifHere (now (work .entry)) c) ⌝ }
 {
     let row = c.row as usize;
@@ -105,7 +106,7 @@ pub fn if_step(work: &[u8], c: Machine) -> Turn
 
 // `loop`: "tests the invariant, then the condition", which is the atom before it, "and if that is false goes on after `again`".
 pub fn loop_step(work: &[u8], c: Machine) -> Turn
-    requires { ⌜ CanStep (now work) c × AtKind (now work) c loop-kind ⌝ }
+    requires { ⌜ CanStep (now work) c × AtKind (now work) c Loop ⌝ }
     ensures { λ r. ⌜ Does (now (work .entry)) c (now (work .entry)) r (loopHere (now (work .entry)) c) ⌝ }
 {
     let row = c.row as usize;
@@ -127,7 +128,7 @@ pub fn jump_step(work: &[u8], c: Machine) -> Turn
 
 // `let`.
 pub fn let_step(work: &mut [u8], c: Machine) -> Turn
-    requires { ⌜ CanStep (now work) c × AtKind (now work) c let-kind ⌝ }
+    requires { ⌜ CanStep (now work) c × AtKind (now work) c Let ⌝ }
     ensures { λ r. ⌜ Does (now (work .entry)) c (now (work .exit)) r (letHere (now (work .entry)) c) ⌝ }
 {
     let row = c.row as usize;
@@ -137,7 +138,7 @@ pub fn let_step(work: &mut [u8], c: Machine) -> Turn
     match run_heap::right(work, v, a) {
         Read::Got(n) => {
             let x = tables::x_at(work, row);
-            tables::put_word(work, b + x * 4, n);
+            tables::put_word(work, b + x * Stores::WORD_BYTES, n);
             Turn::On(next(c, c.row + 1))
         }
         Read::Lacking(s) => Turn::Stopped(s),
@@ -157,7 +158,7 @@ pub fn compute_step(work: &mut [u8], c: Machine) -> Turn
     match run_numbers::compute(tables::kind_at(work, row), y, z) {
         Computed::Value(n) => {
             let x = tables::x_at(work, row);
-            tables::put_word(work, b + x * 4, n);
+            tables::put_word(work, b + x * Stores::WORD_BYTES, n);
             Turn::On(next(c, c.row + 1))
         }
         Computed::Overflow => Turn::Stopped(Fault::Overflow),
@@ -166,7 +167,7 @@ pub fn compute_step(work: &mut [u8], c: Machine) -> Turn
 
 // `set`: "first tests `acc x f`".
 pub fn set_step(work: &mut [u8], c: Machine) -> Turn
-    requires { ⌜ CanStep (now work) c × AtKind (now work) c set-kind ⌝ }
+    requires { ⌜ CanStep (now work) c × AtKind (now work) c Set ⌝ }
     ensures { λ r. ⌜ Does (now (work .entry)) c (now (work .exit)) r (setHere (now (work .entry)) c) ⌝ }
 {
     let row = c.row as usize;
@@ -178,7 +179,7 @@ pub fn set_step(work: &mut [u8], c: Machine) -> Turn
         Spot::At(k) => {
             let y = tables::y_at(work, row);
             let n = run_heap::variable(work, b, y);
-            tables::put_word(work, Layout::VALUES + k * 4, n);
+            tables::put_word(work, Layout::VALUES + k * Stores::WORD_BYTES, n);
             Turn::On(next(c, c.row + 1))
         }
         Spot::Lacking(s) => Turn::Stopped(s),

@@ -4,6 +4,7 @@ use Rattle.machine.proofs.Stepping as Stepping
 use mathlib.Core.Logic.{inl, inr, ⊎-elim}
 use Rattle.run_steps.proofs.Doing.{fits}
 use borrow.Author.Needs.{needs}
+use Rattle.rules.specs.Grammar.{statementNumber}
 use Rattle.machine.proofs.step.Statement.{statement}
 use Rattle.machine.proofs.step.Tie as tie
 
@@ -14,36 +15,45 @@ kind-at-requires : tie.Need-kind-at-requires
 kind-at-requires c κs = search needs
 
 set-step-requires : tie.Need-set-step-requires
+unfolding statementNumber
 set-step-requires c κs = search needs
 
 let-step-requires : tie.Need-let-step-requires
+unfolding statementNumber
 let-step-requires c κs = search needs
 
 new-step-requires : tie.Need-new-step-requires
+unfolding statementNumber
 new-step-requires c κs = search needs
 
 call-step-requires : tie.Need-call-step-requires
+unfolding statementNumber
 call-step-requires c κs = search needs
 
 return-step-requires : tie.Need-return-step-requires
 return-step-requires c κs = search needs
 
 assert-step-requires : tie.Need-assert-step-requires
+unfolding statementNumber
 assert-step-requires c κs =
     let start = c .before .before .before .before .before .before in
     let at-kind-at = c .before .before .kind-at in
     (start .pre .0, ⊎-elim (λ e z. omega (arith, e, z, at-kind-at .ensures)) (λ e z. omega (arith, e, z, at-kind-at .ensures)) (c .before .match .keys6))
 
 release-step-requires : tie.Need-release-step-requires
+unfolding statementNumber
 release-step-requires c κs = search needs
 
 if-step-requires : tie.Need-if-step-requires
+unfolding statementNumber
 if-step-requires c κs = search needs
 
 loop-step-requires : tie.Need-loop-step-requires
+unfolding statementNumber
 loop-step-requires c κs = search needs
 
 jump-step-requires : tie.Need-jump-step-requires
+unfolding statementNumber
 jump-step-requires c κs =
     let start = c .before .before .before .before .before .before in
     let at-kind-at = c .before .before .kind-at in
@@ -68,6 +78,7 @@ same-length : tie.Need-same-length
 same-length c = search needs
 
 returns : tie.Need-returns
+unfolding statementNumber
 returns c =
     let start = c .before .before .before .before .before .before .before .before .before in
     let at-kind-at = c .before .before .before .before .before .kind-at in
@@ -79,6 +90,7 @@ same-length-2 : tie.Need-same-length-2
 same-length-2 c = search needs
 
 returns-2 : tie.Need-returns-2
+unfolding statementNumber
 returns-2 c =
     let start = c .before .before .before .before .before .before .before .before .before in
     let at-kind-at = c .before .before .before .before .before .kind-at in
@@ -90,6 +102,7 @@ same-length-3 : tie.Need-same-length-3
 same-length-3 c = search needs
 
 returns-3 : tie.Need-returns-3
+unfolding statementNumber
 returns-3 c =
     let start = c .before .before .before .before .before .before .before .before .before in
     let at-kind-at = c .before .before .before .before .before .kind-at in
@@ -101,6 +114,7 @@ same-length-4 : tie.Need-same-length-4
 same-length-4 c = search needs
 
 returns-4 : tie.Need-returns-4
+unfolding statementNumber
 returns-4 c =
     let start = c .before .before .before .before .before .before .before .before .before in
     let at-kind-at = c .before .before .before .before .before .kind-at in
@@ -112,6 +126,7 @@ same-length-5 : tie.Need-same-length-5
 same-length-5 c = search needs
 
 returns-5 : tie.Need-returns-5
+unfolding statementNumber
 returns-5 c =
     let start = c .before .before .before .before .before .before .before .before .before in
     let at-kind-at = c .before .before .before .before .before .kind-at in
@@ -123,6 +138,7 @@ same-length-6 : tie.Need-same-length-6
 same-length-6 c = search needs
 
 returns-6 : tie.Need-returns-6
+unfolding statementNumber
 returns-6 c =
     let start = c .before .before .before .before .before .before .before in
     let at-kind-at = c .before .before .before .kind-at in
@@ -133,6 +149,7 @@ same-length-7 : tie.Need-same-length-7
 same-length-7 c = search needs
 
 returns-7 : tie.Need-returns-7
+unfolding statementNumber
 returns-7 c =
     let start = c .before .before .before .before .before .before .before .before .before in
     let at-kind-at = c .before .before .before .before .before .kind-at in
@@ -144,6 +161,7 @@ same-length-8 : tie.Need-same-length-8
 same-length-8 c = search needs
 
 returns-8 : tie.Need-returns-8
+unfolding statementNumber
 returns-8 c =
     let start = c .before .before .before .before .before .before .before in
     let at-kind-at = c .before .before .before .kind-at in
@@ -154,6 +172,7 @@ same-length-9 : tie.Need-same-length-9
 same-length-9 c = search needs
 
 returns-9 : tie.Need-returns-9
+unfolding statementNumber
 returns-9 c =
     let start = c .before .before .before .before .before .before .before in
     let at-kind-at = c .before .before .before .kind-at in
@@ -164,6 +183,7 @@ same-length-10 : tie.Need-same-length-10
 same-length-10 c = search needs
 
 returns-10 : tie.Need-returns-10
+unfolding statementNumber
 returns-10 c =
     let start = c .before .before .before .before .before .before .before in
     let at-kind-at = c .before .before .before .kind-at in
@@ -174,6 +194,7 @@ same-length-11 : tie.Need-same-length-11
 same-length-11 c = search needs
 
 returns-11 : tie.Need-returns-11
+unfolding statementNumber
 returns-11 c = Stepping.ends (c .before .before .before .before .before .before .before .before .before .pre .0) _ (sym (c .before .before .before .before .before .kind-at .ensures) ∙ c .before .before .before .before .match .keys11) (c .before .before .end-step .ensures)
 
 same-length-12 : tie.Need-same-length-12

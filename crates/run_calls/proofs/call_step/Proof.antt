@@ -7,6 +7,7 @@ use Rattle.run_steps.proofs.Doing.{size, fits, frames-fit, row-small, base-fits
 use Rattle.run_heap.specs.Views.{variableAt}
 use denote.Ref.{now}
 use borrow.Author.Needs.{needs}
+use Rattle.rules.specs.Grammar.{statementNumber}
 use Rattle.run_calls.proofs.call_step.Statement.{statement}
 use Rattle.run_calls.proofs.call_step.Tie as tie
 
@@ -48,6 +49,7 @@ member-at-requires : tie.Need-member-at-requires
 member-at-requires c κs = search needs
 
 prepare-requires : tie.Need-prepare-requires
+unfolding statementNumber
 prepare-requires c κs =
     let start = c .before .before .before .before .before .before .before .before .before .before .before .before .before .before .before in
     (size (start .pre .0), (frames-fit (start .pre .0), (row-small (start .pre .0), omega (arith, c .before .member-at .ensures .0, fits (start .pre .0) .method (start .pre .1), start .pre .0 .represents .tables .methods))))

@@ -4,6 +4,7 @@ use mathlib.Core.Logic.{inl, inr}
 use Rattle.run_calls.proofs.Growing.{new-small, new-stops, new-does}
 use Rattle.run_steps.proofs.Doing.{size, fits, row-small, base-fits}
 use borrow.Author.Needs.{needs}
+use Rattle.rules.specs.Grammar.{statementNumber}
 use Rattle.run_calls.proofs.new_step.Statement.{statement}
 use Rattle.run_calls.proofs.new_step.Tie as tie
 
@@ -14,6 +15,7 @@ member-at-requires : tie.Need-member-at-requires
 member-at-requires c κs = search needs
 
 field-count-at-requires : tie.Need-field-count-at-requires
+unfolding statementNumber
 field-count-at-requires c κs =
     let start = c .before .before .before .before .before in
     (size (start .pre .0 .0), omega (arith, c .before .member-at .ensures .0, fits (start .pre .0 .0) .class (start .pre .0 .1), start .pre .0 .0 .represents .tables .classes))

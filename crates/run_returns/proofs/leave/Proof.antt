@@ -3,11 +3,11 @@ use mathlib.Core.Path.{_∙_}
 use mathlib.Core.Path.{_≡_}
 use Prim.Native.Nat.{_+_, _-_}
 use Rattle.run_heap.specs.Views.{frameAt}
-use Rattle.run_calls.proofs.Returning.{last-saved, end-small, leave-does}
+use Rattle.run_returns.proofs.Returning.{last-saved, end-small, leave-does}
 use Rattle.run_steps.proofs.Doing.{size, frames-fit}
 use borrow.Author.Needs.{needs}
-use Rattle.run_calls.proofs.leave.Statement.{statement}
-use Rattle.run_calls.proofs.leave.Tie as tie
+use Rattle.run_returns.proofs.leave.Statement.{statement}
+use Rattle.run_returns.proofs.leave.Tie as tie
 
 sub-i : tie.Need-sub-i
 sub-i c = search needs

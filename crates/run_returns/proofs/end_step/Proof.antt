@@ -1,11 +1,11 @@
 use native.Mathlib.Omega.{arith}
 use mathlib.Core.Path.{refl, sym, _∙_}
-use Rattle.run_calls.proofs.Returning.{last-saved, end-done, end-stops, end-atoms, end-takes}
+use Rattle.run_returns.proofs.Returning.{last-saved, end-done, end-stops, end-atoms, end-takes}
 use Rattle.run_steps.proofs.Doing.{size, view-readable}
 use Rattle.run_footprint.proofs.Taking.{took-cells, took-lacking, count-cells}
 use borrow.Author.Needs.{needs}
-use Rattle.run_calls.proofs.end_step.Statement.{statement}
-use Rattle.run_calls.proofs.end_step.Tie as tie
+use Rattle.run_returns.proofs.end_step.Statement.{statement}
+use Rattle.run_returns.proofs.end_step.Tie as tie
 
 returns : tie.Need-returns
 returns c = end-done (c .before .before .before .pre) (c .if1 .taken)

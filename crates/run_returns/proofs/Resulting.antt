@@ -19,7 +19,7 @@ use Rattle.run_heap.specs.declared.View.{View}
 use Rattle.run_heap.specs.Views.{frameAt, variableAt, viewOf}
 use Rattle.run_steps.specs.declared.Turn.{Turn}
 use Rattle.run_steps.specs.States.{Represents, Follows, Does, CanStep}
-use Rattle.run_calls.specs.Calls.{returnHere, endHere}
+use Rattle.run_returns.specs.Returns.{returnHere, endHere}
 use Rattle.run_footprint.proofs.Regions.{only-word, only-tables}
 use Rattle.run_steps.proofs.Moves.{running}
 use Rattle.run_steps.proofs.Changes.{put-variable}

@@ -1,9 +1,9 @@
 use native.Mathlib.Omega.{arith}
 use Rattle.run_steps.proofs.Doing.{fits, size, base-fits}
-use Rattle.run_calls.proofs.Resulting.{end-ready, size-after, return-goes, return-stops, return-ends}
+use Rattle.run_returns.proofs.Resulting.{end-ready, size-after, return-goes, return-stops, return-ends}
 use borrow.Author.Needs.{needs}
-use Rattle.run_calls.proofs.return_step.Statement.{statement}
-use Rattle.run_calls.proofs.return_step.Tie as tie
+use Rattle.run_returns.proofs.return_step.Statement.{statement}
+use Rattle.run_returns.proofs.return_step.Tie as tie
 
 cast-row : tie.Need-cast-row
 cast-row c = search needs

@@ -11,10 +11,10 @@ use borrow.Author.Tests.{eq-eqb}
 use Rattle.rules.specs.Base.{Try, ok, no, _>>=_}
 use Rattle.rules.specs.Syntax.{Row, rowNumbered, result-variable}
 use Rattle.rules.specs.Answers.{Stop}
+use Rattle.rules.specs.Grammar.{Call, statementNumber}
 use Rattle.rules.specs.Machine.{Heap, Frame, Location, holds, among, valueOf, footprint, advance, bind, holding, withFrame, statementOf, targetOf, returned, endStep}
 use Rattle.rules.specs.declared.Machine.{Machine}
-use Rattle.rules.proofs.Lists.{T-true}
-use Rattle.rules.proofs.Sets.{Holds, footprint-held, in-append, in-left, in-right}
+use Rattle.rules.proofs.Sets.{Holds, footprint-held}
 use Rattle.tables.specs.Layout.{frame-variables, holders-at, seconds-at, frames-at}
 use Rattle.tables.specs.Decode.{programIn, byteAt, halfAt, methodPlace, operandsAt, stmtAt, rowAt, kindAt, xAt, rowCount, methodCount, atomsFrom, atomCount, ensuresAt}
 use Rattle.tables.specs.Stores.{SameTables, putWord}
@@ -27,29 +27,19 @@ use Rattle.run_steps.specs.declared.Turn.{Turn}
 use Rattle.run_heap.specs.declared.View.{View}
 use Rattle.run_heap.specs.Views.{frameAt, variableAt, savedHolder, savedRow, methodOf, holderOf, viewOf, stopOf}
 use Rattle.run_footprint.specs.Footprints.{takeIn, marked, SmallCells}
-use Rattle.run_steps.specs.States.{FrameIs, CallerIs, CallersAre, Represents, Follows, Does, CanStep, call-kind}
-use Rattle.run_calls.specs.Calls.{back, endHere}
-use Rattle.run_steps.proofs.Seeing.{Matches, FormulaOk, no-footprint, ok-footprint, atoms-ok, bool-iff}
+use Rattle.run_steps.specs.States.{FrameIs, CallerIs, CallersAre, Represents, Follows, Does, CanStep}
+use Rattle.run_returns.specs.Returns.{back, endHere}
+use Rattle.run_steps.proofs.Seeing.{Matches, FormulaOk, no-footprint, ok-footprint, atoms-ok}
 use Rattle.run_footprint.proofs.Regions.{Only, only-tables, only-word, only-marked}
 use Rattle.run_steps.proofs.Keeping.{same-frame, ensures-kept, callers-kept}
 use Rattle.run_steps.proofs.Moves.{sees, moved-to, next-is, next-fits, follow-stop, follow-on}
-use Rattle.run_steps.proofs.Changes.{put-variable, marks-only, holder-marked, taken-held, others-kept, heap-marked}
+use Rattle.run_steps.proofs.Changes.{among-append, put-variable, marks-only, holder-marked, taken-held, others-kept, heap-marked}
 use Rattle.run_steps.proofs.Steps.{frame-holding}
 use Rattle.run_steps.proofs.Doing.{does-on, frames-fit}
 
--- a set and another
-pub among-append : (p : Location) (A B : List Location) → among p (A ++ B) ≡ cond (among p B) true (among p A)
-among-append p A B = go (among p B) refl
-  where
-    go : (b : Bool) → among p B ≡ b → among p (A ++ B) ≡ cond b true (among p A)
-    go true e = T-true (among p (A ++ B)) (in-right p A B (subst T (sym e) tt))
-    go false e =
-        bool-iff (among p (A ++ B)) (among p A)
-        (λ t. ⊎-elim (λ a. a) (λ b. absurd (subst T e b)) (in-append p A B t)) (λ t. in-left p A B t)
-
 -- the variable that a call sets
-call-target : (w : List ℕ) (i : ℕ) → kindAt w i ≡ call-kind → targetOf (stmtAt w i) ≡ xAt w i
-unfolding targetOf
+call-target : (w : List ℕ) (i : ℕ) → kindAt w i ≡ statementNumber Call → targetOf (stmtAt w i) ≡ xAt w i
+unfolding targetOf statementNumber
 call-target w i e = rw (call-means w (operandsAt w i) e)
 
 -- the row of a frame
@@ -120,7 +110,7 @@ module _ {w : List ℕ} {c : Machine} {h : _} {F C : Frame} {Cs : List Frame}
   unfolding ensuresAt
   ensures-ok = atoms-ok w (R .tables) _ _ (R .tables .method-fits _ method-fits .formulas .ensures .1)
 
-  row-stays : (w′ : List ℕ) → SameTables w w′ → kindAt w′ (savedRow w (length Cs)) ≡ call-kind
+  row-stays : (w′ : List ℕ) → SameTables w w′ → kindAt w′ (savedRow w (length Cs)) ≡ statementNumber Call
   row-stays w′ t =
       kind-same w w′ t (savedRow w (length Cs)) (omega (arith, caller .frame .row-fits, R .tables .rows)) ∙ caller .at-call
 
@@ -132,7 +122,7 @@ module _ {w : List ℕ} {c : Machine} {h : _} {F C : Frame} {Cs : List Frame}
       (Turn.On (back c (savedHolder w (length Cs)) (savedRow w (length Cs) + 1)))
       (record { heap = h; frame = F; callers = C ∷ Cs })
       (endStep (programIn w) (record { heap = h; frame = F; callers = C ∷ Cs }) (C ∷ Cs))
-  unfolding endStep returned withFrame advance bind holding _>>=_ rowAt statementOf
+  unfolding endStep returned withFrame advance bind holding _>>=_ rowAt statementOf statementNumber
   returns-on ks v l lv ev lx e =
       let n : ℕ = savedHolder w (length Cs) in
       let x : ℕ = xAt w (savedRow w (length Cs)) in
@@ -143,7 +133,7 @@ module _ {w : List ℕ} {c : Machine} {h : _} {F C : Frame} {Cs : List Frame}
       let t1 : SameTables w (marked w ks n) = only-tables (only-marked w ks n (M .small)) (omega arith) in
       let t2 : SameTables (marked w ks n) (putWord (marked w ks n) (frameAt (length Cs) + x * 4) v) =
       only-tables (only-word frames-at (frames-at + 8192) (marked w ks n) (frameAt (length Cs) + x * 4) v (omega arith) (omega (arith, R .most, R .frames))) (omega arith) in
-      let k : kindAt (putWord (marked w ks n) (frameAt (length Cs) + x * 4) v) (savedRow w (length Cs)) ≡ call-kind = row-stays _ (same-trans t1 t2) in
+      let k : kindAt (putWord (marked w ks n) (frameAt (length Cs) + x * 4) v) (savedRow w (length Cs)) ≡ statementNumber Call = row-stays _ (same-trans t1 t2) in
       let target : targetOf (statementOf (programIn w) C) ≡ x = ap (λ (r : Row). targetOf (r .stmt)) (row-of (caller .frame)) ∙ target-is in
       follow-on R (back c n (savedRow w (length Cs) + 1)) _ _ (rw (a′, target, ← ev)) refl
       (moved-to R2 (savedRow w (length Cs) + 1) (c .steps + 1) _ (next-fits R2 (λ z. omega (arith, z, k))) (next-is R2) (omega arith))
