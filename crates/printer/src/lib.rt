@@ -1,19 +1,22 @@
 // What the program prints, written to a lent buffer.
+mod numbers;
+
+pub use numbers::Number;
 use read_bytes::Set;
 use rules::Kind;
+use tables::Bytes;
 ghost use mathlib.Core.Path.{_≡_};
 ghost use mathlib.Core.Bool.{true};
 ghost use mathlib.Core.List.{[], _∷_};
-ghost use Prim.Native.Nat.{_+_, _%_, _≤_, _<_};
+ghost use Prim.Native.Nat.{_+_, _≤_, _<_};
 ghost use lib.ListN.{length, getD, drop};
-ghost use Rattle.rules.specs.Base.{between};
 ghost use Rattle.rules.specs.Limits.{results-bytes, values-shown};
 ghost use Rattle.rules.specs.Text.{tab, isName};
 ghost use Rattle.rules.specs.Printed.{digitsBefore, digits, signed, printedVariables};
 ghost use Rattle.read_fields.specs.Cuts.{more};
 ghost use Rattle.read_declarations.specs.Texts.{TextTaken, linesOf, lineAt, FormedAt};
 ghost use Rattle.printer.specs.Writes.{Writes, Prints};
-ghost use Rattle.printer.specs.Answers.{out-bytes, checkLine, runLine, variableLine, valuesIn, printedAnswers, ReadUnless};
+ghost use Rattle.printer.specs.Answers.{out-bytes, number-bytes, signed-bytes, check-bytes, run-bytes, variable-bytes, lowDigit, isUnread, checkLine, runLine, variableLine, valuesIn, printedAnswers, ReadUnless};
 ghost use Rattle.printer.specs.Variables.{locals, most-line, most-lines, ShownRoom, ShowsLocal, Goes};
 
 // BYTES: each function writes from a place on and returns the place after
@@ -41,10 +44,20 @@ fn put_word(out: &mut [u8], at: usize, w: &[u8]) -> usize
 
 // NUMBERS
 
+const BASE: u32 = 10;
+
+// a number of 32 bits has a digit and at most so many more
+const MORE_DIGITS: usize = 9;
+
+// the bits of the least number with a sign, and of -1
+const LEAST: u32 = 2147483648;
+
+const MINUS_ONE: u32 = 4294967295;
+
 fn low_digit(n: u32) -> u8
-    ensures { λ r. ⌜ r ≡ 48 + n % 10 ⌝ }
+    ensures { λ r. ⌜ r ≡ lowDigit n ⌝ }
 {
-    (n % 10) as u8 + 48
+    (n % BASE) as u8 + b'0'
 }
 
 // The digits of n, at most k + 1 of them.
@@ -56,76 +69,76 @@ fn put_digits(out: &mut [u8], at: usize, k: usize, n: u32) -> usize
     if k == 0 {
         return put(out, at, low);
     }
-    if n < 10 {
+    if n < BASE {
         return put(out, at, low);
     }
-    let e = put_digits(out, at, k - 1, n / 10);
+    let e = put_digits(out, at, k - 1, n / BASE);
     put(out, e, low)
 }
 
 fn put_number(out: &mut [u8], at: usize, n: u32) -> usize
-    requires { ⌜ at + 10 ≤ length (now out) ⌝ }
+    requires { ⌜ at + number-bytes ≤ length (now out) ⌝ }
     ensures { λ r. ⌜ Writes (now (out .entry)) at (digits n) (now (out .exit)) r ⌝ }
 {
-    put_digits(out, at, 9, n)
+    put_digits(out, at, MORE_DIGITS, n)
 }
 
 // The 32 bits of v as a number with its sign.
 fn put_signed(out: &mut [u8], at: usize, v: u32) -> usize
-    requires { ⌜ at + 11 ≤ length (now out) ⌝ }
+    requires { ⌜ at + signed-bytes ≤ length (now out) ⌝ }
     ensures { λ r. ⌜ Writes (now (out .entry)) at (signed v) (now (out .exit)) r ⌝ }
 {
-    if v < 2147483648 {
+    if v < LEAST {
         return put_number(out, at, v);
     }
     let e = put(out, at, b'-');
-    put_number(out, e, 4294967295 - v + 1)
+    put_number(out, e, MINUS_ONE - v + 1)
 }
 
 // LINES
 
 // A tab and a number.
 fn put_tab_number(out: &mut [u8], at: usize, n: u32) -> usize
-    requires { ⌜ at + 11 ≤ length (now out) ⌝ }
+    requires { ⌜ at + 1 + number-bytes ≤ length (now out) ⌝ }
     ensures { λ r. ⌜ Writes (now (out .entry)) at (tab ∷ digits n) (now (out .exit)) r ⌝ }
 {
-    let e = put(out, at, 9);
+    let e = put(out, at, b'\t');
     put_number(out, e, n)
 }
 
 // `check` number line
 fn put_check(out: &mut [u8], checked: u32) -> usize
-    requires { ⌜ 28 ≤ length (now out) ⌝ }
+    requires { ⌜ check-bytes ≤ length (now out) ⌝ }
     ensures { λ r. ⌜ Writes (now (out .entry)) 0 (checkLine checked) (now (out .exit)) r ⌝ }
 {
     let a = put_word(out, 0, b"check");
-    let b = put_tab_number(out, a, checked / 65536);
-    let c = put_tab_number(out, b, checked % 65536);
-    put(out, c, 10)
+    let b = put_tab_number(out, a, checked / Number::FACTOR);
+    let c = put_tab_number(out, b, checked % Number::FACTOR);
+    put(out, c, b'\n')
 }
 
 // `run` number line steps
 fn put_run(out: &mut [u8], at: usize, ran: u32, steps: u32) -> usize
-    requires { ⌜ at + 37 ≤ length (now out) ⌝ }
+    requires { ⌜ at + run-bytes ≤ length (now out) ⌝ }
     ensures { λ r. ⌜ Writes (now (out .entry)) at (runLine ran steps) (now (out .exit)) r ⌝ }
 {
     let a = put_word(out, at, b"run");
-    let b = put_tab_number(out, a, ran / 65536);
-    let c = put_tab_number(out, b, ran % 65536);
+    let b = put_tab_number(out, a, ran / Number::FACTOR);
+    let c = put_tab_number(out, b, ran % Number::FACTOR);
     let d = put_tab_number(out, c, steps);
-    put(out, d, 10)
+    put(out, d, b'\n')
 }
 
 // `var` name value
 fn put_variable(out: &mut [u8], at: usize, name: &[u8], v: u32) -> usize
-    requires { ⌜ at + length (now name) + 17 ≤ length (now out) ⌝ }
+    requires { ⌜ at + length (now name) + variable-bytes ≤ length (now out) ⌝ }
     ensures { λ r. ⌜ Writes (now (out .entry)) at (variableLine (now (name .entry)) v) (now (out .exit)) r ⌝ }
 {
     let a = put_word(out, at, b"var\t");
     let b = put_word(out, a, name);
-    let c = put(out, b, 9);
+    let c = put(out, b, b'\t');
     let d = put_signed(out, c, v);
-    put(out, d, 10)
+    put(out, d, b'\n')
 }
 
 // VARIABLES
@@ -146,7 +159,7 @@ fn show_local(text: &[u8], out: &mut [u8], r: usize, results: &[u8], s: Shown) -
     let from = name.start;
     let to = from + name.len;
     let count = s.count;
-    let v = tables::word_at(results, 4 + count * 4);
+    let v = tables::word_at(results, Bytes::WORD + count * Bytes::WORD);
     let end = put_variable(out, s.end, &text[from..to], v);
     Shown {
         count: count + 1,
@@ -199,14 +212,17 @@ fn show_variables(text: &[u8], out: &mut [u8], first: usize, results: &[u8]) -> 
 
 // ALL
 
+// all that is printed fits
+pub const OUT_BYTES: usize = 512;
+
 // 1 to 9: the text is not read.
 fn is_unread(n: u32) -> bool
-    ensures { λ r. ⌜ r ≡ between 1 9 n ⌝ }
+    ensures { λ r. ⌜ r ≡ isUnread n ⌝ }
 {
-    if n < 1 {
+    if n < Number::WRONG_LENGTH {
         return false;
     }
-    n <= 9
+    n <= Number::WRONG_TARGET
 }
 
 // What the program prints for a text, by what check and trial return and what trial leaves in results; how many bytes.
@@ -215,7 +231,7 @@ pub fn print(text: &[u8], out: &mut [u8], checked: u32, ran: u32, results: &[u8]
     ensures { λ r. ⌜ Prints (printedAnswers (now (text .entry)) checked ran (now (results .entry))) (now (out .exit)) r ⌝ }
 {
     let a = put_check(out, checked);
-    if is_unread(checked / 65536) {
+    if is_unread(checked / Number::FACTOR) {
         return a;
     }
     let b = put_run(out, a, ran, tables::word_at(results, 0));

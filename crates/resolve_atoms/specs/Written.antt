@@ -11,6 +11,7 @@ use Rattle.rules.specs.Text.{tab, isFormula, formulaOf}
 use Rattle.rules.specs.Scope.{Declarations, Variable}
 use Rattle.rules.specs.Items.{resolveAtom}
 use Rattle.read_fields.specs.Cuts.{more}
+use Rattle.tables.specs.Numbers.{eq-atom, ne-atom}
 use Rattle.tables.specs.Layout.{names-at, most-atom-rows}
 use Rattle.tables.specs.Stores.{Kept}
 use Rattle.read_scopes.specs.declared.Names.{Names}
@@ -22,6 +23,10 @@ use Rattle.resolve_atoms.specs.declared.AtomRow.{AtomRow}
 use Rattle.resolve_atoms.specs.declared.TriedAtom.{TriedAtom}
 use Rattle.resolve_atoms.specs.declared.Put.{Put}
 use Rattle.resolve_atoms.specs.Good.{fitsAtom}
+
+-- the kind of `eq` or that of `ne`
+abbrev pub IsRelation : ℕ → Type 0
+IsRelation k = (eq-atom ≤ k) × (k ≤ ne-atom)
 
 -- the row r is the atom x, resolved
 pub record Resolved (Γ : Declarations) (vs : List Variable) (x : Atom Name) (r : AtomRow) : Type 0 where

@@ -4,17 +4,18 @@ use tables::AtomKind;
 use tables::Expr;
 ghost use mathlib.Core.Path.{_≡_};
 ghost use mathlib.Core.Bool.{true, cond, _||_};
-ghost use Prim.Native.Nat.{_≤_, _<_};
+ghost use Prim.Native.Nat.{_<_};
 ghost use lib.Dec.{eqb};
 ghost use Rattle.rules.specs.Syntax.{acc, cmp};
 ghost use Rattle.rules.specs.Base.{is};
 ghost use Rattle.rules.specs.Text.{isExpr, exprOf, isRel, isAtom, atomOf};
 ghost use Rattle.read_words.specs.Words.{wordNumber, eq-word};
 ghost use Rattle.read_fields.specs.Cuts.{NextField};
+ghost use Rattle.tables.specs.Numbers.{eq-atom, ne-atom};
 ghost use Rattle.tables.specs.Layout.{most-atom-rows, most-line-atoms};
 ghost use Rattle.tables.specs.Decode.{relOf};
 ghost use Rattle.read_scopes.specs.Meanings.{AreaFits};
-ghost use Rattle.resolve_atoms.specs.Written.{AtomTriedIn, AtomFollows, NextTried, FormulaFollows, FormulaTried};
+ghost use Rattle.resolve_atoms.specs.Written.{IsRelation, AtomTriedIn, AtomFollows, NextTried, FormulaFollows, FormulaTried};
 
 // An atom as a row has it: its kind (`AtomKind`) and its sides.
 pub struct AtomRow {
@@ -55,7 +56,7 @@ fn access(text: &[u8], work: &[u8], c: Names, x: &[u8], f: &[u8]) -> TriedAtom
 
 // `eq` or `ne`, by its kind
 pub fn compared(text: &[u8], work: &[u8], c: Names, kind: usize, a: &[u8], b: &[u8]) -> TriedAtom
-    requires { ⌜ AreaFits (now work) c × ((1 ≤ kind) × (kind ≤ 2)) × ((isExpr (now a) ≡ true) × (isExpr (now b) ≡ true)) ⌝ }
+    requires { ⌜ AreaFits (now work) c × IsRelation kind × ((isExpr (now a) ≡ true) × (isExpr (now b) ≡ true)) ⌝ }
     ensures { λ r. ⌜ AtomTriedIn (now (text .entry)) (now (work .entry)) c (cmp (relOf kind) (exprOf (now (a .entry))) (exprOf (now (b .entry)))) r ⌝ }
 {
     let x = read_types::look(text, work, c, a);
@@ -78,7 +79,7 @@ pub fn compared(text: &[u8], work: &[u8], c: Names, kind: usize, a: &[u8], b: &[
 
 // The kind of `eq`, or that of `ne`.
 pub fn relation(word: u8) -> usize
-    ensures { λ r. ⌜ r ≡ cond (eqb word eq-word) 1 2 ⌝ }
+    ensures { λ r. ⌜ r ≡ cond (eqb word eq-word) eq-atom ne-atom ⌝ }
 {
     if word == read_words::EQ {
         AtomKind::EQ
@@ -114,15 +115,20 @@ pub fn resolve_atom(text: &[u8], work: &[u8], c: Names, w: &[u8], a: &[u8], b: &
 
 // THE FORMULA OF A LINE
 
+// A tab and the word `acc`, or `eq` or `ne`.
+const ACC_BYTES: usize = 4;
+
+const REL_BYTES: usize = 3;
+
 // The end of the word of the atom after the field that ends at r, which its first letter tells.
 fn word_end(text: &[u8], r: usize) -> usize
     requires { ⌜ AtomFollows (now text) r ⌝ }
     ensures { λ e. ⌜ NextField (now (text .entry)) r e ⌝ }
 {
     if read_bytes::byte_at(text, r + 1) == b'a' {
-        r + 4
+        r + ACC_BYTES
     } else {
-        r + 3
+        r + REL_BYTES
     }
 }
 
@@ -154,7 +160,7 @@ pub fn put_formula(text: &[u8], work: &mut [u8], from: usize, first: usize, c: N
 {
     let mut r = from;
     let mut n = first;
-    while read_bytes::byte_at(text, r) == 9 {
+    while read_bytes::byte_at(text, r) == b'\t' {
         let p = put_next_atom(text, work, r, n, c);
         let Put::Done(e) = p else {
             return Put::Bad;

@@ -3,15 +3,16 @@ use mathlib.Core.Bool.{Bool, cond, _&&_}
 use mathlib.Core.List.{List, [], _∷_}
 use Prim.Native.Nat.{ℕ, zero, suc, _+_}
 use lib.Dec.{eqb}
-use Rattle.rules.specs.Reading.{Access}
-use Rattle.tables.specs.Decode.{byteAt, atomPlace}
+use Rattle.rules.specs.Reading.{Access, framedExpr}
+use Rattle.tables.specs.Numbers.{acc-atom}
+use Rattle.tables.specs.Decode.{atomKindAt, accVariableAt, accFieldAt, leftAt, rightAt}
 
 -- the variable and the field of the atom i, an `acc`
 abbrev pub accessAt : List ℕ → ℕ → Access
-accessAt w i = record { variable = byteAt w (atomPlace i + 4); field = byteAt w (atomPlace i + 5) }
+accessAt w i = record { variable = accVariableAt w i; field = accFieldAt w i }
 
 abbrev pub isAccess : List ℕ → ℕ → Bool
-isAccess w i = eqb (byteAt w (atomPlace i)) 0
+isAccess w i = eqb (atomKindAt w i) acc-atom
 
 -- is it `x.f`?
 abbrev pub isOf : ℕ → ℕ → Access → Bool
@@ -21,3 +22,7 @@ isOf x f a = eqb (a .variable) x && eqb (a .field) f
 unfoldable pub accesses : List ℕ → ℕ → ℕ → List Access
 accesses w i zero = []
 accesses w i (suc n) = let r : List Access = accesses w i n in cond (isAccess w (i + n)) (accessAt w (i + n) ∷ r) r
+
+-- both sides of the atom a, after these
+abbrev pub sidesFramed : List ℕ → List Access → ℕ → Bool
+sidesFramed w rs a = framedExpr rs (leftAt w a) && framedExpr rs (rightAt w a)

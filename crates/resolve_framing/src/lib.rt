@@ -10,10 +10,11 @@ ghost use lib.ListN.{length};
 ghost use Rattle.rules.specs.Limits.{work-bytes};
 ghost use Rattle.rules.specs.Syntax.{path};
 ghost use Rattle.rules.specs.Reading.{framedExpr, framed};
+ghost use Rattle.tables.specs.Numbers.{loop-kind};
 ghost use Rattle.tables.specs.Layout.{most-atom-rows};
-ghost use Rattle.tables.specs.Decode.{leftAt, rightAt, atomAt, atomsFrom, framedFrom};
+ghost use Rattle.tables.specs.Decode.{atomAt, atomsFrom, framedFrom};
 ghost use Rattle.tables.specs.Stores.{meaning};
-ghost use Rattle.resolve_framing.specs.Framing.{accessAt, isAccess, isOf, accesses};
+ghost use Rattle.resolve_framing.specs.Framing.{accessAt, isAccess, isOf, accesses, sidesFramed};
 
 fn is_access(work: &[u8], a: usize) -> bool
     requires { ⌜ (length (now work) ≡ work-bytes) × (a < most-atom-rows) ⌝ }
@@ -72,7 +73,7 @@ fn framed_side(work: &[u8], first: usize, n: usize, e: Expr) -> bool
 // Both sides of the atom a.
 fn framed_sides(work: &[u8], first: usize, n: usize, a: usize) -> bool
     requires { ⌜ (length (now work) ≡ work-bytes) × (first + n ≤ most-atom-rows) × (a < most-atom-rows) ⌝ }
-    ensures { λ r. ⌜ r ≡ framedExpr (accesses (now (work .entry)) first n) (leftAt (now (work .entry)) a) && framedExpr (accesses (now (work .entry)) first n) (rightAt (now (work .entry)) a) ⌝ }
+    ensures { λ r. ⌜ r ≡ sidesFramed (now (work .entry)) (accesses (now (work .entry)) first n) a ⌝ }
 {
     if !framed_side(work, first, n, tables::left_at(work, a)) {
         return false;
@@ -120,7 +121,7 @@ fn framed_loop(work: &[u8], first: usize, count: usize) -> bool
 
 // Has each path of a line of this kind, with `count` atoms from `first` on, an `acc` before it? Number 10 is about this.
 pub fn framed_line(work: &[u8], kind: u8, first: usize, count: usize) -> bool
-    requires { ⌜ (length (now work) ≡ work-bytes) × (kind ≡ 21 → 1 ≤ count) × (first + count ≤ most-atom-rows) ⌝ }
+    requires { ⌜ (length (now work) ≡ work-bytes) × (kind ≡ loop-kind → 1 ≤ count) × (first + count ≤ most-atom-rows) ⌝ }
     ensures { λ r. ⌜ r ≡ framed [] (framedFrom (now (work .entry)) kind first count) ⌝ }
 {
     if kind == Kind::LOOP {

@@ -6,6 +6,7 @@ use Prim.Native.Nat.{ℕ, pred, _+_, _≤_}
 use lib.Dec.{eqb}
 use Rattle.rules.specs.Limits.{most-statements}
 use Rattle.rules.specs.Grammar.{Line}
+use Rattle.tables.specs.Numbers.{class-kind, main-kind}
 use Rattle.tables.specs.Decode.{fieldCountAt}
 use Rattle.read_scopes.specs.declared.Names.{Names}
 use Rattle.read_scopes.specs.declared.Above.{Above}
@@ -14,7 +15,7 @@ use Rattle.resolve_pass.specs.Passes.{LinePut}
 
 -- `class` or `main`, by the number of the kind
 unfoldable pub isDeclaration : ℕ → Bool
-isDeclaration k = eqb k 1 || eqb k 6
+isDeclaration k = eqb k class-kind || eqb k main-kind
 
 -- The rows that are written fit, and the last class has as many fields as are counted. Where the tables stand, they do.
 pub record Held (w : List ℕ) (p : Pass) : Type 0 where

@@ -7,14 +7,15 @@ use resolve_pass::TriedLine;
 use rules::Kind;
 ghost use mathlib.Core.Path.{_≡_};
 ghost use mathlib.Core.Bool.{true};
-ghost use Prim.Native.Nat.{_+_, _≤_, _<_};
+ghost use Prim.Native.Nat.{_≤_, _<_};
 ghost use lib.ListN.{length};
 ghost use Rattle.rules.specs.Limits.{work-bytes, most-bytes, most-classes};
 ghost use Rattle.rules.specs.Grammar.{Class, Field, Method, Var};
+ghost use Rattle.tables.specs.Numbers.{half-values, field-kind, method-kind, var-kind};
 ghost use Rattle.read_scopes.specs.Meanings.{AboveFits};
 ghost use Rattle.read_declarations.specs.Declares.{FormedAfter};
 ghost use Rattle.write_rows.specs.Puts.{putClass};
-ghost use Rattle.resolve_pass.specs.Passes.{PassFits, LineRoom, oneMore, withBlock, aboveAfter, lineAfter, LineTried};
+ghost use Rattle.resolve_pass.specs.Passes.{PassFits, LineRoom, after, oneMore, withBlock, aboveAfter, lineAfter, LineTried};
 ghost use Rattle.resolve_headers.specs.Headers.{isDeclaration, Held, moved, DeclarationPut};
 
 // THE COUNTS
@@ -35,8 +36,8 @@ fn moved(p: Pass, names: Names, above: Above, main: usize) -> Pass
 }
 
 fn after(r: Range) -> usize
-    requires { ⌜ r .first + r .count < 65536 ⌝ }
-    ensures { λ n. ⌜ n ≡ r .first + r .count ⌝ }
+    requires { ⌜ after r < half-values ⌝ }
+    ensures { λ n. ⌜ n ≡ after r ⌝ }
 {
     r.first + r.count
 }
@@ -61,7 +62,7 @@ fn with_class(a: Above) -> Above
 }
 
 fn one_more(r: Range) -> Range
-    requires { ⌜ r .first + r .count < 65536 ⌝ }
+    requires { ⌜ after r < half-values ⌝ }
     ensures { λ s. ⌜ s ≡ oneMore r ⌝ }
 {
     Range {
@@ -145,8 +146,8 @@ pub fn put_declaration(text: &[u8], work: &mut [u8], p: Pass, kind: u8, r: usize
 
 // `field T f`, whose word ends at r: one more field of the last class, if T is a type and f a new name.
 pub fn put_field(text: &[u8], work: &mut [u8], p: Pass, r: usize) -> TriedLine
-    requires { ⌜ PassFits (now text) (now work) p × (r ≤ length (now text)) × FormedAfter (now text) r Field × LineRoom (now text) (now work) p (lineAfter (now text) r 2) × Held (now work) p ⌝ }
-    ensures { λ q. ⌜ LineTried (now (text .entry)) (now (work .entry)) p (lineAfter (now (text .entry)) r 2) (now (work .exit)) q ⌝ }
+    requires { ⌜ PassFits (now text) (now work) p × (r ≤ length (now text)) × FormedAfter (now text) r Field × LineRoom (now text) (now work) p (lineAfter (now text) r field-kind) × Held (now work) p ⌝ }
+    ensures { λ q. ⌜ LineTried (now (text .entry)) (now (work .entry)) p (lineAfter (now (text .entry)) r field-kind) (now (work .exit)) q ⌝ }
 {
     let names = p.names;
     let above = p.above;
@@ -164,8 +165,8 @@ pub fn put_field(text: &[u8], work: &mut [u8], p: Pass, r: usize) -> TriedLine
 // `method T m U w`, whose word ends at r: the next method, from the next row on, and its block, if T and U are types and m and
 // w new names.
 pub fn put_method(text: &[u8], work: &mut [u8], p: Pass, r: usize) -> TriedLine
-    requires { ⌜ PassFits (now text) (now work) p × (r ≤ length (now text)) × FormedAfter (now text) r Method × LineRoom (now text) (now work) p (lineAfter (now text) r 3) × Held (now work) p ⌝ }
-    ensures { λ q. ⌜ LineTried (now (text .entry)) (now (work .entry)) p (lineAfter (now (text .entry)) r 3) (now (work .exit)) q ⌝ }
+    requires { ⌜ PassFits (now text) (now work) p × (r ≤ length (now text)) × FormedAfter (now text) r Method × LineRoom (now text) (now work) p (lineAfter (now text) r method-kind) × Held (now work) p ⌝ }
+    ensures { λ q. ⌜ LineTried (now (text .entry)) (now (work .entry)) p (lineAfter (now (text .entry)) r method-kind) (now (work .exit)) q ⌝ }
 {
     let names = p.names;
     let above = p.above;
@@ -185,8 +186,8 @@ pub fn put_method(text: &[u8], work: &mut [u8], p: Pass, r: usize) -> TriedLine
 
 // `var T x`, whose word ends at r: one more local, if T is a type and x a new name.
 pub fn put_var(text: &[u8], work: &mut [u8], p: Pass, r: usize) -> TriedLine
-    requires { ⌜ PassFits (now text) (now work) p × (r ≤ length (now text)) × FormedAfter (now text) r Var × LineRoom (now text) (now work) p (lineAfter (now text) r 7) ⌝ }
-    ensures { λ q. ⌜ LineTried (now (text .entry)) (now (work .entry)) p (lineAfter (now (text .entry)) r 7) (now (work .exit)) q ⌝ }
+    requires { ⌜ PassFits (now text) (now work) p × (r ≤ length (now text)) × FormedAfter (now text) r Var × LineRoom (now text) (now work) p (lineAfter (now text) r var-kind) ⌝ }
+    ensures { λ q. ⌜ LineTried (now (text .entry)) (now (work .entry)) p (lineAfter (now (text .entry)) r var-kind) (now (work .exit)) q ⌝ }
 {
     let names = p.names;
     let above = p.above;

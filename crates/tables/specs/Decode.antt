@@ -8,6 +8,8 @@ use Rattle.rules.specs.Syntax.{Rel, Expr, Atom, Formula, Operation, Stmt, Row, 
 use Rattle.rules.specs.Syntax.{eq, ne, num, null, var, path, acc, cmp, sum, difference, set, assign, compute, new, call, return, assert, release, simple, if, else, join, loop, again, end}
 use Rattle.rules.specs.Grammar.{isComputing}
 use Rattle.tables.specs.declared.Operands.{Operands}
+use Rattle.tables.specs.Numbers.{acc-atom, eq-atom, num-tag, null-tag, var-tag}
+use Rattle.tables.specs.Numbers.{set-kind, let-kind, new-kind, call-kind, return-kind, assert-kind, release-kind, if-kind, else-kind, join-kind, add-kind, loop-kind, again-kind}
 use Rattle.tables.specs.Layout.{rows-at, methods-at, classes-at, places-at, atoms-at, most-names, row-bytes, atom-bytes, method-bytes, class-bytes}
 
 -- LISTS: n of f i, f (i + 1), ..
@@ -26,42 +28,58 @@ halfAt w i = byteAt w i + byteAt w (i + 1) * 256
 abbrev pub wordAt : List ℕ → ℕ → ℕ
 wordAt w i = byteAt w i + byteAt w (i + 1) * 256 + byteAt w (i + 2) * 65536 + byteAt w (i + 3) * 16777216
 
--- ATOMS: kind (0 `acc`, 1 `eq`, 2 `ne`), tag of the left and of the right side, a spare byte, 4 bytes for each side. `acc x f` has x
+-- ATOMS: kind, tag of the left and of the right side, a spare byte, 4 bytes for each side. `acc x f` has x
 -- and f in the first two bytes of the left side.
 
--- a side: tag 0 is a number (4 bytes), 1 null, 2 a variable (a byte), 3 a path (two bytes)
+-- a side by its tag: a number (4 bytes), null, a variable (a byte), or a path (two bytes)
 unfoldable pub exprAt : List ℕ → ℕ → ℕ → Expr ℕ
 exprAt w tag i =
-    cond (eqb tag 0) (num (wordAt w i))
-    (cond (eqb tag 1) null
-    (cond (eqb tag 2) (var (byteAt w i))
+    cond (eqb tag num-tag) (num (wordAt w i))
+    (cond (eqb tag null-tag) null
+    (cond (eqb tag var-tag) (var (byteAt w i))
     (path (byteAt w i) (byteAt w (i + 1)))))
 
 abbrev pub atomPlace : ℕ → ℕ
 atomPlace i = atoms-at + i * atom-bytes
 
+abbrev pub atomKindAt : List ℕ → ℕ → ℕ
+atomKindAt w i = byteAt w (atomPlace i)
+
+abbrev pub leftTagAt : List ℕ → ℕ → ℕ
+leftTagAt w i = byteAt w (atomPlace i + 1)
+
+abbrev pub rightTagAt : List ℕ → ℕ → ℕ
+rightTagAt w i = byteAt w (atomPlace i + 2)
+
+-- the variable and the field of an `acc`
+abbrev pub accVariableAt : List ℕ → ℕ → ℕ
+accVariableAt w i = byteAt w (atomPlace i + 4)
+
+abbrev pub accFieldAt : List ℕ → ℕ → ℕ
+accFieldAt w i = byteAt w (atomPlace i + 5)
+
 unfoldable pub relOf : ℕ → Rel
-relOf k = cond (eqb k 1) eq ne
+relOf k = cond (eqb k eq-atom) eq ne
 
 unfoldable pub leftAt : List ℕ → ℕ → Expr ℕ
-leftAt w i = exprAt w (byteAt w (atomPlace i + 1)) (atomPlace i + 4)
+leftAt w i = exprAt w (leftTagAt w i) (atomPlace i + 4)
 
 unfoldable pub rightAt : List ℕ → ℕ → Expr ℕ
-rightAt w i = exprAt w (byteAt w (atomPlace i + 2)) (atomPlace i + 8)
+rightAt w i = exprAt w (rightTagAt w i) (atomPlace i + 8)
 
 unfoldable pub atomAt : List ℕ → ℕ → Atom ℕ
 atomAt w i =
-    let k : ℕ = byteAt w (atomPlace i) in
-    cond (eqb k 0) (acc (byteAt w (atomPlace i + 4)) (byteAt w (atomPlace i + 5))) (cmp (relOf k) (leftAt w i) (rightAt w i))
+    let k : ℕ = atomKindAt w i in
+    cond (eqb k acc-atom) (acc (accVariableAt w i) (accFieldAt w i)) (cmp (relOf k) (leftAt w i) (rightAt w i))
 
 -- n atoms from atom i on
 abbrev pub atomsFrom : List ℕ → ℕ → ℕ → Formula ℕ
 atomsFrom w i n = run (atomAt w) i n
 
--- the n atoms of a line of the kind k, from atom i on, in the order of number 10: the condition of a `loop` (21) is the first of them, and
+-- the n atoms of a line of the kind k, from atom i on, in the order of number 10: the condition of a `loop` is the first of them, and
 -- comes last
 unfoldable pub framedFrom : List ℕ → ℕ → ℕ → ℕ → Formula ℕ
-framedFrom w k i n = cond (eqb k 21) (atomsFrom w (i + 1) (n - 1) ++ (atomAt w i ∷ [])) (atomsFrom w i n)
+framedFrom w k i n = cond (eqb k loop-kind) (atomsFrom w (i + 1) (n - 1) ++ (atomAt w i ∷ [])) (atomsFrom w i n)
 
 -- STATEMENT ROWS: kind, x, y, z, member (field, class or method), count of atoms (a byte each); first atom, line, target (2 bytes each).
 -- `let x e` has e as the right side of its atom, `if` its condition as its atom. The atoms of `loop` are those of its invariant; the atom
@@ -95,8 +113,11 @@ firstAtomAt w i = halfAt w (rowPlace i + 6)
 abbrev pub lineAt : List ℕ → ℕ → ℕ
 lineAt w i = halfAt w (rowPlace i + 8)
 
+abbrev pub targetPlace : ℕ → ℕ
+targetPlace i = rowPlace i + 10
+
 abbrev pub targetAt : List ℕ → ℕ → ℕ
-targetAt w i = halfAt w (rowPlace i + 10)
+targetAt w i = halfAt w (targetPlace i)
 
 -- all of them but the target
 abbrev pub operandsAt : List ℕ → ℕ → Operands
@@ -118,31 +139,31 @@ abbrev pub formulaOf : List ℕ → Operands → Formula ℕ
 formulaOf w r = atomsFrom w (r .first) (r .atoms)
 
 abbrev pub ifAt : List ℕ → ℕ → Stmt
-ifAt w a = if (relOf (byteAt w (atomPlace a))) (leftAt w a) (rightAt w a)
+ifAt w a = if (relOf (atomKindAt w a)) (leftAt w a) (rightAt w a)
 
 -- a: its condition
 abbrev pub loopAt : List ℕ → ℕ → Formula ℕ → Stmt
-loopAt w a φ = loop (relOf (byteAt w (atomPlace a))) (leftAt w a) (rightAt w a) φ
+loopAt w a φ = loop (relOf (atomKindAt w a)) (leftAt w a) (rightAt w a) φ
 
 unfoldable pub operationOf : ℕ → Operation
-operationOf k = cond (eqb k 19) sum difference
+operationOf k = cond (eqb k add-kind) sum difference
 
--- by the number of its kind: 8 `set` to 17 `join`; `add`, `sub`; 21 `loop`, 22 `again`; and `end`
+-- by the number of its kind
 unfoldable pub stmtOf : List ℕ → Operands → Stmt
 stmtOf w r =
-    cond (eqb (r .kind) 8) (simple (set (r .x) (r .member) (r .y)))
-    (cond (eqb (r .kind) 9) (simple (assign (r .x) (rightAt w (r .first))))
-    (cond (eqb (r .kind) 10) (simple (new (r .x) (r .member)))
-    (cond (eqb (r .kind) 11) (simple (call (r .x) (r .y) (r .member) (r .z)))
-    (cond (eqb (r .kind) 12) (return (r .x))
-    (cond (eqb (r .kind) 13) (simple (assert (formulaOf w r)))
-    (cond (eqb (r .kind) 14) (simple (release (formulaOf w r)))
-    (cond (eqb (r .kind) 15) (ifAt w (r .first))
-    (cond (eqb (r .kind) 16) else
-    (cond (eqb (r .kind) 17) (join (formulaOf w r))
+    cond (eqb (r .kind) set-kind) (simple (set (r .x) (r .member) (r .y)))
+    (cond (eqb (r .kind) let-kind) (simple (assign (r .x) (rightAt w (r .first))))
+    (cond (eqb (r .kind) new-kind) (simple (new (r .x) (r .member)))
+    (cond (eqb (r .kind) call-kind) (simple (call (r .x) (r .y) (r .member) (r .z)))
+    (cond (eqb (r .kind) return-kind) (return (r .x))
+    (cond (eqb (r .kind) assert-kind) (simple (assert (formulaOf w r)))
+    (cond (eqb (r .kind) release-kind) (simple (release (formulaOf w r)))
+    (cond (eqb (r .kind) if-kind) (ifAt w (r .first))
+    (cond (eqb (r .kind) else-kind) else
+    (cond (eqb (r .kind) join-kind) (join (formulaOf w r))
     (cond (isComputing (r .kind)) (simple (compute (operationOf (r .kind)) (r .x) (r .y) (r .z)))
-    (cond (eqb (r .kind) 21) (loopAt w (r .first - 1) (formulaOf w r))
-    (cond (eqb (r .kind) 22) again
+    (cond (eqb (r .kind) loop-kind) (loopAt w (r .first - 1) (formulaOf w r))
+    (cond (eqb (r .kind) again-kind) again
     end))))))))))))
 
 abbrev pub formulaAt : List ℕ → ℕ → Formula ℕ
@@ -183,11 +204,23 @@ allRows w = rowsFrom w 0 (rowCount w)
 abbrev pub methodPlace : ℕ → ℕ
 methodPlace m = methods-at + m * method-bytes
 
+abbrev pub requiresFirstAt : List ℕ → ℕ → ℕ
+requiresFirstAt w m = halfAt w (methodPlace m)
+
+abbrev pub requiresCountAt : List ℕ → ℕ → ℕ
+requiresCountAt w m = byteAt w (methodPlace m + 2)
+
+abbrev pub ensuresCountAt : List ℕ → ℕ → ℕ
+ensuresCountAt w m = byteAt w (methodPlace m + 3)
+
+abbrev pub ensuresFirstAt : List ℕ → ℕ → ℕ
+ensuresFirstAt w m = halfAt w (methodPlace m + 4)
+
 unfoldable pub requiresAt : List ℕ → ℕ → Formula ℕ
-requiresAt w m = atomsFrom w (halfAt w (methodPlace m)) (byteAt w (methodPlace m + 2))
+requiresAt w m = atomsFrom w (requiresFirstAt w m) (requiresCountAt w m)
 
 unfoldable pub ensuresAt : List ℕ → ℕ → Formula ℕ
-ensuresAt w m = atomsFrom w (halfAt w (methodPlace m + 4)) (byteAt w (methodPlace m + 3))
+ensuresAt w m = atomsFrom w (ensuresFirstAt w m) (ensuresCountAt w m)
 
 abbrev pub firstRowAt : List ℕ → ℕ → ℕ
 firstRowAt w m = halfAt w (methodPlace m + 6)
@@ -210,12 +243,15 @@ placesPlace c = places-at + c * most-names
 abbrev pub fieldCountAt : List ℕ → ℕ → ℕ
 fieldCountAt w c = byteAt w (classPlace c)
 
--- the name of the j-th field
+-- the name of the j-th field, and whether it is an int
 abbrev pub fieldNameAt : List ℕ → ℕ → ℕ → ℕ
 fieldNameAt w c j = byteAt w (classPlace c + 1 + j * 2)
 
+abbrev pub fieldKindAt : List ℕ → ℕ → ℕ → ℕ
+fieldKindAt w c j = byteAt w (classPlace c + 2 + j * 2)
+
 unfoldable pub fieldAt : List ℕ → ℕ → ℕ → Field
-fieldAt w c j = record { name = fieldNameAt w c j; int = not (eqb (byteAt w (classPlace c + 2 + j * 2)) 0) }
+fieldAt w c j = record { name = fieldNameAt w c j; int = not (eqb (fieldKindAt w c j) 0) }
 
 abbrev pub fieldsFrom : List ℕ → ℕ → ℕ → ℕ → List Field
 fieldsFrom w c j n = run (fieldAt w c) j n

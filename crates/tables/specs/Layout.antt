@@ -3,6 +3,7 @@ use mathlib.Core.Bool.{cond}
 use Prim.Native.Nat.{ℕ}
 use lib.Dec.{eqb}
 use Rattle.rules.specs.Limits.{most-atoms}
+use Rattle.tables.specs.Numbers.{loop-kind}
 
 -- THE LARGEST TABLES
 
@@ -17,9 +18,9 @@ most-atom-rows = 2556
 abbrev pub most-line-atoms : ℕ
 most-line-atoms = 9
 
--- by the number of its kind, 21 being `loop`
+-- by the number of its kind
 unfoldable pub atomLimit : ℕ → ℕ
-atomLimit k = cond (eqb k 21) most-line-atoms most-atoms
+atomLimit k = cond (eqb k loop-kind) most-line-atoms most-atoms
 
 -- the names of all fields
 abbrev pub most-names : ℕ

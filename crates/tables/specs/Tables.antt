@@ -11,27 +11,29 @@ use Rattle.rules.specs.Syntax.{Expr, num, null, var, path, Stmt, Row, simple, r
 use Rattle.rules.specs.Grammar.{IsStatementNumber}
 use Rattle.rules.specs.Machine.{closing, loopOf}
 use Rattle.tables.specs.declared.Operands.{Operands}
+use Rattle.tables.specs.Numbers.{word-values, acc-atom, ne-atom, path-tag, no-place}
+use Rattle.tables.specs.Numbers.{set-kind, let-kind, new-kind, call-kind, if-kind, else-kind, end-kind, loop-kind, again-kind}
 use Rattle.tables.specs.Layout.{most-atom-rows, most-names, frame-variables}
-use Rattle.tables.specs.Decode.{byteAt, halfAt, leftAt, rightAt, atomPlace, kindAt, targetAt, operandsAt, rowCount, atomCount, classCount, methodCount, mainFirst, allRows, methodPlace, firstRowAt, placesPlace, fieldCountAt, fieldNameAt}
+use Rattle.tables.specs.Decode.{byteAt, leftAt, rightAt, atomKindAt, leftTagAt, kindAt, targetAt, operandsAt, rowCount, atomCount, classCount, methodCount, mainFirst, allRows, requiresFirstAt, requiresCountAt, ensuresFirstAt, ensuresCountAt, firstRowAt, placesPlace, fieldCountAt, fieldNameAt}
 
 -- ATOMS
 
 -- a side: a number of four bytes, a variable of a frame, the number of a name
 unfoldable pub SideFits : Expr ℕ → Type 0
-SideFits (num n) = n < 4294967296
+SideFits (num n) = n < word-values
 SideFits null = Unit {0}
 SideFits (var x) = x < frame-variables
 SideFits (path x f) = (x < frame-variables) × (f < most-names)
 
 -- an atom of the kind k with the sides a, which has this tag, and b: `acc x f` is written as a path on the left
 pub record AtomFits (k tag : ℕ) (a b : Expr ℕ) : Type 0 where
-  pub kind : k ≤ 2
+  pub kind : k ≤ ne-atom
   pub left : SideFits a
   pub right : SideFits b
-  pub access : k ≡ 0 → tag ≡ 3
+  pub access : k ≡ acc-atom → tag ≡ path-tag
 
 abbrev pub AtomFitsAt : List ℕ → ℕ → Type 0
-AtomFitsAt w i = AtomFits (byteAt w (atomPlace i)) (byteAt w (atomPlace i + 1)) (leftAt w i) (rightAt w i)
+AtomFitsAt w i = AtomFits (atomKindAt w i) (leftTagAt w i) (leftAt w i) (rightAt w i)
 
 -- k of n atoms, from the atom a on
 abbrev pub AtomsFit : ℕ → ℕ → ℕ → Type 0
@@ -54,25 +56,25 @@ pub record OperandsFit (D : Declared) (n : ℕ) (r : Operands) : Type 0 where
   pub x : r .x < frame-variables
   pub y : r .y < frame-variables
   pub z : r .z < frame-variables
-  pub field : r .kind ≡ 8 → r .member < most-names
-  pub class : r .kind ≡ 10 → r .member < D .classes
-  pub method : r .kind ≡ 11 → r .member < D .methods
+  pub field : r .kind ≡ set-kind → r .member < most-names
+  pub class : r .kind ≡ new-kind → r .member < D .classes
+  pub method : r .kind ≡ call-kind → r .member < D .methods
   pub atoms : AtomsFit n (r .first) (r .atoms)
-  pub one-atom : (r .kind ≡ 9) ⊎ (r .kind ≡ 15) → r .atoms ≡ 1
-  pub condition : r .kind ≡ 21 → 1 ≤ r .first
+  pub one-atom : (r .kind ≡ let-kind) ⊎ (r .kind ≡ if-kind) → r .atoms ≡ 1
+  pub condition : r .kind ≡ loop-kind → 1 ≤ r .first
 
 -- `if`, `else`, `loop` and `again` go to another row
 abbrev pub HasTarget : ℕ → Type 0
-HasTarget k = (k ≡ 15) ⊎ ((k ≡ 16) ⊎ ((k ≡ 21) ⊎ (k ≡ 22)))
+HasTarget k = (k ≡ if-kind) ⊎ ((k ≡ else-kind) ⊎ ((k ≡ loop-kind) ⊎ (k ≡ again-kind)))
 
 -- the rows that follow a row
 pub record TargetFits (w : List ℕ) (i : ℕ) : Type 0 where
   pub target : HasTarget (kindAt w i) → targetAt w i < rowCount w
-  pub after-else : kindAt w i ≡ 15 → targetAt w i ≡ suc (closing (allRows w) i)
-  pub to-join : kindAt w i ≡ 16 → targetAt w i ≡ closing (allRows w) i
-  pub after-again : kindAt w i ≡ 21 → targetAt w i ≡ suc (closing (allRows w) i)
-  pub to-loop : kindAt w i ≡ 22 → targetAt w i ≡ loopOf (allRows w) i
-  pub next : (kindAt w i ≡ 18) ⊎ (suc i < rowCount w)
+  pub after-else : kindAt w i ≡ if-kind → targetAt w i ≡ suc (closing (allRows w) i)
+  pub to-join : kindAt w i ≡ else-kind → targetAt w i ≡ closing (allRows w) i
+  pub after-again : kindAt w i ≡ loop-kind → targetAt w i ≡ suc (closing (allRows w) i)
+  pub to-loop : kindAt w i ≡ again-kind → targetAt w i ≡ loopOf (allRows w) i
+  pub next : (kindAt w i ≡ end-kind) ⊎ (suc i < rowCount w)
 
 pub record RowFits (w : List ℕ) (i : ℕ) : Type 0 where
   pub operands : OperandsFit (declaredIn w) (atomCount w) (operandsAt w i)
@@ -80,7 +82,7 @@ pub record RowFits (w : List ℕ) (i : ℕ) : Type 0 where
 
 -- METHODS, CLASSES
 
--- d branches and loops are open, at most 4 at once, up to the block's `end`
+-- d branches and loops are open, at most `most-branches` at once, up to the block's `end`
 unfoldable pub nestedRow : Stmt → (ℕ → Bool) → ℕ → Bool
 nestedRow (simple p) k d = k d
 nestedRow (return x) k d = k d
@@ -104,14 +106,14 @@ BlockFits w i = (i < rowCount w) × T (nested (drop i (allRows w)) 0)
 
 -- where there are n atoms
 pub record FormulasFit (w : List ℕ) (n m : ℕ) : Type 0 where
-  pub requires : AtomsFit n (halfAt w (methodPlace m)) (byteAt w (methodPlace m + 2))
-  pub ensures : AtomsFit n (halfAt w (methodPlace m + 4)) (byteAt w (methodPlace m + 3))
+  pub requires : AtomsFit n (requiresFirstAt w m) (requiresCountAt w m)
+  pub ensures : AtomsFit n (ensuresFirstAt w m) (ensuresCountAt w m)
 
 pub record MethodFits (w : List ℕ) (m : ℕ) : Type 0 where
   pub formulas : FormulasFit w (atomCount w) m
   pub block : BlockFits w (firstRowAt w m)
 
--- the place in class c of the field named n, 255 where it has none
+-- the place in class c of the field named n, `no-place` where it has none
 abbrev pub placeAt : List ℕ → ℕ → ℕ → ℕ
 placeAt w c n = byteAt w (placesPlace c + n)
 
@@ -120,7 +122,7 @@ pub record ClassFits (w : List ℕ) (c : ℕ) : Type 0 where
   pub names : (j : ℕ) → j < fieldCountAt w c → fieldNameAt w c j < most-names
   pub places : (j : ℕ) → j < fieldCountAt w c → placeAt w c (fieldNameAt w c j) ≡ j
   pub found : (n : ℕ) → n < most-names →
-      (placeAt w c n ≡ 255) ⊎ ((placeAt w c n < fieldCountAt w c) × (fieldNameAt w c (placeAt w c n) ≡ n))
+      (placeAt w c n ≡ no-place) ⊎ ((placeAt w c n < fieldCountAt w c) × (fieldNameAt w c (placeAt w c n) ≡ n))
 
 -- ALL OF THEM
 pub record Tables (w : List ℕ) : Type 0 where

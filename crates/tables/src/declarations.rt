@@ -1,11 +1,14 @@
 // Methods, classes and their fields.
+use crate::ClassAt;
 use crate::Layout;
+use crate::MethodAt;
 ghost use mathlib.Core.Path.{_≡_};
-ghost use Prim.Native.Nat.{_+_, _*_, _<_};
+ghost use Prim.Native.Nat.{_<_};
 ghost use lib.ListN.{length};
 ghost use Rattle.rules.specs.Limits.{most-methods, most-classes, most-fields, work-bytes};
 ghost use Rattle.tables.specs.Layout.{most-names};
-ghost use Rattle.tables.specs.Decode.{byteAt, halfAt, methodPlace, firstRowAt, classPlace, fieldCountAt, fieldNameAt};
+ghost use Rattle.tables.specs.Numbers.{byte-values, half-values};
+ghost use Rattle.tables.specs.Decode.{requiresFirstAt, requiresCountAt, ensuresFirstAt, ensuresCountAt, firstRowAt, fieldCountAt, fieldNameAt, fieldKindAt};
 ghost use Rattle.tables.specs.Tables.{placeAt};
 
 // METHODS
@@ -13,7 +16,7 @@ ghost use Rattle.tables.specs.Tables.{placeAt};
 // The first atom of the requires of the method m.
 pub fn requires_first(w: &[u8], m: usize) -> usize
     requires { ⌜ (length (now w) ≡ work-bytes) × (m < most-methods) ⌝ }
-    ensures { λ r. ⌜ (r ≡ halfAt (now (w .entry)) (methodPlace m)) × (r < 65536) ⌝ }
+    ensures { λ r. ⌜ (r ≡ requiresFirstAt (now (w .entry)) m) × (r < half-values) ⌝ }
 {
     crate::half_at(w, Layout::METHODS + m * Layout::METHOD_BYTES)
 }
@@ -21,33 +24,45 @@ pub fn requires_first(w: &[u8], m: usize) -> usize
 // How many atoms it has.
 pub fn requires_count(w: &[u8], m: usize) -> usize
     requires { ⌜ (length (now w) ≡ work-bytes) × (m < most-methods) ⌝ }
-    ensures { λ r. ⌜ (r ≡ byteAt (now (w .entry)) (methodPlace m + 2)) × (r < 256) ⌝ }
+    ensures { λ r. ⌜ (r ≡ requiresCountAt (now (w .entry)) m) × (r < byte-values) ⌝ }
 {
-    crate::byte_at(w, Layout::METHODS + m * Layout::METHOD_BYTES + 2)
+    crate::byte_at(
+        w,
+        Layout::METHODS + m * Layout::METHOD_BYTES + MethodAt::REQUIRES_COUNT,
+    )
 }
 
 // The first atom of its ensures.
 pub fn ensures_first(w: &[u8], m: usize) -> usize
     requires { ⌜ (length (now w) ≡ work-bytes) × (m < most-methods) ⌝ }
-    ensures { λ r. ⌜ (r ≡ halfAt (now (w .entry)) (methodPlace m + 4)) × (r < 65536) ⌝ }
+    ensures { λ r. ⌜ (r ≡ ensuresFirstAt (now (w .entry)) m) × (r < half-values) ⌝ }
 {
-    crate::half_at(w, Layout::METHODS + m * Layout::METHOD_BYTES + 4)
+    crate::half_at(
+        w,
+        Layout::METHODS + m * Layout::METHOD_BYTES + MethodAt::ENSURES,
+    )
 }
 
 // How many atoms that has.
 pub fn ensures_count(w: &[u8], m: usize) -> usize
     requires { ⌜ (length (now w) ≡ work-bytes) × (m < most-methods) ⌝ }
-    ensures { λ r. ⌜ (r ≡ byteAt (now (w .entry)) (methodPlace m + 3)) × (r < 256) ⌝ }
+    ensures { λ r. ⌜ (r ≡ ensuresCountAt (now (w .entry)) m) × (r < byte-values) ⌝ }
 {
-    crate::byte_at(w, Layout::METHODS + m * Layout::METHOD_BYTES + 3)
+    crate::byte_at(
+        w,
+        Layout::METHODS + m * Layout::METHOD_BYTES + MethodAt::ENSURES_COUNT,
+    )
 }
 
 // Its first row.
 pub fn first_row_at(w: &[u8], m: usize) -> usize
     requires { ⌜ (length (now w) ≡ work-bytes) × (m < most-methods) ⌝ }
-    ensures { λ r. ⌜ (r ≡ firstRowAt (now (w .entry)) m) × (r < 65536) ⌝ }
+    ensures { λ r. ⌜ (r ≡ firstRowAt (now (w .entry)) m) × (r < half-values) ⌝ }
 {
-    crate::half_at(w, Layout::METHODS + m * Layout::METHOD_BYTES + 6)
+    crate::half_at(
+        w,
+        Layout::METHODS + m * Layout::METHOD_BYTES + MethodAt::FIRST_ROW,
+    )
 }
 
 // CLASSES
@@ -55,7 +70,7 @@ pub fn first_row_at(w: &[u8], m: usize) -> usize
 // How many fields the class c has.
 pub fn field_count_at(w: &[u8], c: usize) -> usize
     requires { ⌜ (length (now w) ≡ work-bytes) × (c < most-classes) ⌝ }
-    ensures { λ r. ⌜ (r ≡ fieldCountAt (now (w .entry)) c) × (r < 256) ⌝ }
+    ensures { λ r. ⌜ (r ≡ fieldCountAt (now (w .entry)) c) × (r < byte-values) ⌝ }
 {
     crate::byte_at(w, Layout::CLASSES + c * Layout::CLASS_BYTES)
 }
@@ -63,23 +78,29 @@ pub fn field_count_at(w: &[u8], c: usize) -> usize
 // The name of its field j.
 pub fn field_name_at(w: &[u8], c: usize, j: usize) -> usize
     requires { ⌜ (length (now w) ≡ work-bytes) × ((c < most-classes) × (j < most-fields)) ⌝ }
-    ensures { λ r. ⌜ (r ≡ fieldNameAt (now (w .entry)) c j) × (r < 256) ⌝ }
+    ensures { λ r. ⌜ (r ≡ fieldNameAt (now (w .entry)) c j) × (r < byte-values) ⌝ }
 {
-    crate::byte_at(w, Layout::CLASSES + c * Layout::CLASS_BYTES + 1 + j * 2)
+    crate::byte_at(
+        w,
+        Layout::CLASSES + c * Layout::CLASS_BYTES + ClassAt::NAME + j * ClassAt::FIELD_BYTES,
+    )
 }
 
 // 1 where that field is an int, 0 where it is a reference.
 pub fn field_kind_at(w: &[u8], c: usize, j: usize) -> usize
     requires { ⌜ (length (now w) ≡ work-bytes) × ((c < most-classes) × (j < most-fields)) ⌝ }
-    ensures { λ r. ⌜ (r ≡ byteAt (now (w .entry)) (classPlace c + 2 + j * 2)) × (r < 256) ⌝ }
+    ensures { λ r. ⌜ (r ≡ fieldKindAt (now (w .entry)) c j) × (r < byte-values) ⌝ }
 {
-    crate::byte_at(w, Layout::CLASSES + c * Layout::CLASS_BYTES + 2 + j * 2)
+    crate::byte_at(
+        w,
+        Layout::CLASSES + c * Layout::CLASS_BYTES + ClassAt::KIND + j * ClassAt::FIELD_BYTES,
+    )
 }
 
-// The place in the class c of the field with the name n, 255 where it has none.
+// The place in the class c of the field with the name n, `ClassAt::NO_PLACE` where it has none.
 pub fn place_at(w: &[u8], c: usize, n: usize) -> usize
     requires { ⌜ (length (now w) ≡ work-bytes) × ((c < most-classes) × (n < most-names)) ⌝ }
-    ensures { λ r. ⌜ (r ≡ placeAt (now (w .entry)) c n) × (r < 256) ⌝ }
+    ensures { λ r. ⌜ (r ≡ placeAt (now (w .entry)) c n) × (r < byte-values) ⌝ }
 {
     crate::byte_at(w, Layout::PLACES + c * Layout::FIELD_NAMES + n)
 }

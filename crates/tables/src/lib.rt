@@ -1,6 +1,7 @@
 // The tables in the lent work area: where each stands (`Layout`), and the functions that read bytes, words, sides and atoms there.
 mod columns;
 mod declarations;
+mod offsets;
 mod stores;
 
 pub use columns::atom_count_at;
@@ -22,6 +23,13 @@ pub use declarations::first_row_at;
 pub use declarations::place_at;
 pub use declarations::requires_count;
 pub use declarations::requires_first;
+pub use offsets::AtomAt;
+pub use offsets::Bytes;
+pub use offsets::ClassAt;
+pub use offsets::HeaderAt;
+pub use offsets::MethodAt;
+pub use offsets::RowAt;
+pub use offsets::SideTag;
 pub use stores::put_byte;
 pub use stores::put_half;
 pub use stores::put_word;
@@ -29,8 +37,9 @@ ghost use mathlib.Core.Path.{_≡_};
 ghost use Prim.Native.Nat.{_+_, _≤_, _<_};
 ghost use lib.ListN.{length};
 ghost use Rattle.rules.specs.Limits.{work-bytes};
+ghost use Rattle.tables.specs.Numbers.{byte-values, half-values};
 ghost use Rattle.tables.specs.Layout.{most-atom-rows};
-ghost use Rattle.tables.specs.Decode.{byteAt, halfAt, wordAt, atomPlace, exprAt, leftAt, rightAt, methodCount, mainFirst};
+ghost use Rattle.tables.specs.Decode.{byteAt, halfAt, wordAt, exprAt, leftAt, rightAt, atomKindAt, accVariableAt, accFieldAt, methodCount, mainFirst};
 ghost use Rattle.tables.specs.Stores.{meaning, offsets};
 
 // Where each table stands in the work area: the constants below as one value.
@@ -120,13 +129,13 @@ impl Layout {
 }
 
 fn wide(b: u8) -> usize
-    ensures { λ r. ⌜ (r ≡ b) × (r < 256) ⌝ }
+    ensures { λ r. ⌜ (r ≡ b) × (r < byte-values) ⌝ }
 {
     b as usize
 }
 
 fn wide_word(b: u8) -> u32
-    ensures { λ r. ⌜ (r ≡ b) × (r < 256) ⌝ }
+    ensures { λ r. ⌜ (r ≡ b) × (r < byte-values) ⌝ }
 {
     b as u32
 }
@@ -134,7 +143,7 @@ fn wide_word(b: u8) -> u32
 // One byte of the area.
 pub fn byte_at(w: &[u8], i: usize) -> usize
     requires { ⌜ i < length (now w) ⌝ }
-    ensures { λ r. ⌜ (r ≡ byteAt (now (w .entry)) i) × (r < 256) ⌝ }
+    ensures { λ r. ⌜ (r ≡ byteAt (now (w .entry)) i) × (r < byte-values) ⌝ }
 {
     wide(w[i])
 }
@@ -142,11 +151,11 @@ pub fn byte_at(w: &[u8], i: usize) -> usize
 // Two bytes, low byte first.
 pub fn half_at(w: &[u8], i: usize) -> usize
     requires { ⌜ i + 2 ≤ length (now w) ⌝ }
-    ensures { λ r. ⌜ (r ≡ halfAt (now (w .entry)) i) × (r < 65536) ⌝ }
+    ensures { λ r. ⌜ (r ≡ halfAt (now (w .entry)) i) × (r < half-values) ⌝ }
 {
     let a = byte_at(w, i);
     let b = byte_at(w, i + 1);
-    a + b * 256
+    a + b * Bytes::VALUES
 }
 
 // Four bytes, low byte first.
@@ -158,7 +167,7 @@ pub fn word_at(w: &[u8], i: usize) -> u32
     let b = wide_word(w[i + 1]);
     let c = wide_word(w[i + 2]);
     let d = wide_word(w[i + 3]);
-    a + b * 256 + c * 65536 + d * 16777216
+    a + b * Bytes::SECOND + c * Bytes::THIRD + d * Bytes::FOURTH
 }
 
 // A statement row but for its target: the number of its kind, its variables, its field, class or method, how many atoms
@@ -187,9 +196,9 @@ fn expr_by(w: &[u8], tag: usize, i: usize) -> Expr
     ensures { λ r. ⌜ meaning r ≡ exprAt (now (w .entry)) tag i ⌝ }
 {
     match tag {
-        0 => Expr::Num(word_at(w, i)),
-        1 => Expr::Null,
-        2 => Expr::Var(byte_at(w, i)),
+        SideTag::NUM => Expr::Num(word_at(w, i)),
+        SideTag::NULL => Expr::Null,
+        SideTag::VAR => Expr::Var(byte_at(w, i)),
         _ => Expr::Path(byte_at(w, i), byte_at(w, i + 1)),
     }
 }
@@ -200,8 +209,8 @@ pub fn left_at(w: &[u8], a: usize) -> Expr
     ensures { λ r. ⌜ meaning r ≡ leftAt (now (w .entry)) a ⌝ }
 {
     let i = Layout::ATOMS + a * Layout::ATOM_BYTES;
-    let tag = byte_at(w, i + 1);
-    expr_by(w, tag, i + 4)
+    let tag = byte_at(w, i + AtomAt::LEFT_TAG);
+    expr_by(w, tag, i + AtomAt::LEFT)
 }
 
 // The right side of the atom a.
@@ -210,8 +219,8 @@ pub fn right_at(w: &[u8], a: usize) -> Expr
     ensures { λ r. ⌜ meaning r ≡ rightAt (now (w .entry)) a ⌝ }
 {
     let i = Layout::ATOMS + a * Layout::ATOM_BYTES;
-    let tag = byte_at(w, i + 2);
-    expr_by(w, tag, i + 8)
+    let tag = byte_at(w, i + AtomAt::RIGHT_TAG);
+    expr_by(w, tag, i + AtomAt::RIGHT)
 }
 
 // THE HEADER
@@ -219,17 +228,17 @@ pub fn right_at(w: &[u8], a: usize) -> Expr
 // How many methods there are.
 pub fn method_count(w: &[u8]) -> usize
     requires { ⌜ length (now w) ≡ work-bytes ⌝ }
-    ensures { λ r. ⌜ (r ≡ methodCount (now (w .entry))) × (r < 256) ⌝ }
+    ensures { λ r. ⌜ (r ≡ methodCount (now (w .entry))) × (r < byte-values) ⌝ }
 {
-    byte_at(w, 5)
+    byte_at(w, HeaderAt::METHODS)
 }
 
 // The first row of main.
 pub fn main_first(w: &[u8]) -> usize
     requires { ⌜ length (now w) ≡ work-bytes ⌝ }
-    ensures { λ r. ⌜ (r ≡ mainFirst (now (w .entry))) × (r < 65536) ⌝ }
+    ensures { λ r. ⌜ (r ≡ mainFirst (now (w .entry))) × (r < half-values) ⌝ }
 {
-    half_at(w, 6)
+    half_at(w, HeaderAt::MAIN)
 }
 
 // ATOMS
@@ -248,7 +257,7 @@ impl AtomKind {
 // The kind of the atom a, as `AtomKind` numbers it.
 pub fn atom_kind(w: &[u8], a: usize) -> usize
     requires { ⌜ (length (now w) ≡ work-bytes) × (a < most-atom-rows) ⌝ }
-    ensures { λ r. ⌜ (r ≡ byteAt (now (w .entry)) (atomPlace a)) × (r < 256) ⌝ }
+    ensures { λ r. ⌜ (r ≡ atomKindAt (now (w .entry)) a) × (r < byte-values) ⌝ }
 {
     byte_at(w, Layout::ATOMS + a * Layout::ATOM_BYTES)
 }
@@ -256,15 +265,15 @@ pub fn atom_kind(w: &[u8], a: usize) -> usize
 // The variable of the atom a, an `acc`.
 pub fn atom_variable(w: &[u8], a: usize) -> usize
     requires { ⌜ (length (now w) ≡ work-bytes) × (a < most-atom-rows) ⌝ }
-    ensures { λ r. ⌜ (r ≡ byteAt (now (w .entry)) (atomPlace a + 4)) × (r < 256) ⌝ }
+    ensures { λ r. ⌜ (r ≡ accVariableAt (now (w .entry)) a) × (r < byte-values) ⌝ }
 {
-    byte_at(w, Layout::ATOMS + a * Layout::ATOM_BYTES + 4)
+    byte_at(w, Layout::ATOMS + a * Layout::ATOM_BYTES + AtomAt::VARIABLE)
 }
 
 // The field of the atom a, an `acc`.
 pub fn atom_field(w: &[u8], a: usize) -> usize
     requires { ⌜ (length (now w) ≡ work-bytes) × (a < most-atom-rows) ⌝ }
-    ensures { λ r. ⌜ (r ≡ byteAt (now (w .entry)) (atomPlace a + 5)) × (r < 256) ⌝ }
+    ensures { λ r. ⌜ (r ≡ accFieldAt (now (w .entry)) a) × (r < byte-values) ⌝ }
 {
-    byte_at(w, Layout::ATOMS + a * Layout::ATOM_BYTES + 5)
+    byte_at(w, Layout::ATOMS + a * Layout::ATOM_BYTES + AtomAt::FIELD)
 }

@@ -1,14 +1,14 @@
 -- The tables of a read text, once they are ended, are tables for the checker and the machine, and mean its program.
-use mathlib.Core.Path.{_≡_, sym, ap, _∙_, subst}
+use mathlib.Core.Path.{_≡_, refl, sym, ap, _∙_, subst}
 use mathlib.Core.Bool.{Bool, true, false, cond, _||_}
 use mathlib.Core.List.{List, [], _∷_}
-use mathlib.Core.Logic.{_⊎_, inl, inr}
-use Prim.Native.Nat.{ℕ, zero, suc, _+_, _/_, _%_, _≤_, _<_}
-use native.Mathlib.Numerals.{add-one}
+use mathlib.Core.Logic.{_⊎_, inl, inr, ⊎-elim}
+use Prim.Native.Nat.{ℕ, zero, suc, _+_, _≤_, _<_}
 use native.Mathlib.Omega.{arith}
 use native.Mathlib.Decide.{decLt}
 use lib.Dec.{T, eqb, ltb}
-use lib.ListN.{length, getD, drop, set, drop-of-length-le}
+use lib.ListN.{length, getD, drop, drop-of-length-le}
+use Rattle.rules.specs.Limits.{most-statements}
 use Rattle.rules.specs.Syntax.{Row, Program, noRow}
 use Rattle.rules.proofs.Lists.{decide-eq}
 use Rattle.rules.specs.Answers.{accepted}
@@ -17,19 +17,18 @@ use Rattle.rules.specs.Reading.{readText, program}
 use Rattle.rules.specs.Syntax.{Method}
 use Rattle.nesting.specs.Nests.{rowsNest}
 use Rattle.nesting.proofs.ReadOrder.{BodiesNest, read-nests, read-blocks}
-use Rattle.tables.specs.Decode.{rowPlace, kindAt, operandsAt, stmtAt, rowAt, rowsFrom, firstRowAt, allRows, targetAt, rowCount, methodCount, mainFirst, programIn, methodAt, methodsFrom}
+use Rattle.tables.specs.Decode.{byteAt, rowPlace, targetPlace, kindAt, operandsAt, stmtAt, rowAt, rowsFrom, firstRowAt, allRows, targetAt, rowCount, methodCount, mainFirst, programIn, methodAt, methodsFrom}
 use Rattle.tables.specs.Tables.{Declared, HasTarget, TargetFits, Tables, BlockFits, nested}
-use Rattle.tables.specs.Stores.{putHalf, Kept}
-use Rattle.tables.proofs.Bytes.{half-kept}
-use Rattle.tables.proofs.Runs.{run-get}
+use Rattle.tables.specs.Stores.{Kept}
+use Rattle.tables.proofs.Bytes.{Outside, put-half-byte, half-kept}
+use Rattle.tables.proofs.Runs.{less-or-not, run-get}
 use Rattle.tables.proofs.Statements.{not-end}
 use Rattle.targets.specs.Targets.{pushed, popped, replaced, openAfter, putTarget, closed, workAfter, targetsFrom}
-use Rattle.write_rows.specs.Puts as Puts
-use Rattle.write_rows.specs.Puts.{putBytes}
 use Rattle.write_rows.specs.Holds.{Holds, Finished}
-use Rattle.write_rows.proofs.Rows.{target-written}
+use Rattle.write_rows.proofs.Kept.{holds-kept}
 use Rattle.write_rows.proofs.Header.{withHeader, header-written, header-kept, finished-program, finished-tables}
 use Rattle.targets.specs.Right.{TargetRight}
+use Rattle.targets.proofs.Stacks.{put-length}
 use Rattle.targets.proofs.TargetsRight.{targets-right}
 use Rattle.targets.proofs.Nesting.{rows-nested, not-last}
 
@@ -40,13 +39,24 @@ abbrev Small : List ℕ → Type 0
 Small [] = Unit {0}
 Small (i ∷ st) = (i < 256) × Small st
 
-same-put : (w : List ℕ) (t v : ℕ) → Puts.putTarget w t v ≡ putTarget w t v
-unfolding Puts.putTarget putBytes putTarget putHalf
-same-put w t v = ap (λ (j : ℕ). set (set w (rowPlace t + 10) (v % 256)) j (v / 256)) (sym (add-one (rowPlace t + 10)))
-
 module _ (D : Declared) (F : Program) (n : ℕ) where
-  put-holds : (w : List ℕ) (t v : ℕ) → t < 256 → Holds D w F n → Holds D (putTarget w t v) F n
-  put-holds w t v l h = subst (λ (u : List ℕ). Holds D u F n) (same-put w t v) (target-written D w F n t v l h)
+  -- a target may be written at any time
+  put-holds : (w : List ℕ) (t v : ℕ) → t < most-statements → Holds D w F n → Holds D (putTarget w t v) F n
+  unfolding putTarget
+  put-holds w t v l h =
+      let other : (j : ℕ) → Outside (targetPlace t) 2 j → byteAt (putTarget w t v) j ≡ byteAt w j = put-half-byte w (targetPlace t) v in
+      let row : (i j : ℕ) → rowPlace i ≤ j → j < targetPlace i → Outside (targetPlace t) 2 j =
+      λ i j p q. ⊎-elim (λ m. inr (omega arith)) (λ m. inl (omega arith)) (less-or-not t i (ltb t i) refl) in
+      holds-kept D w (putTarget w t v) F n
+      (record {
+        size = put-length w t v;
+        atoms = λ j p q. other j (inr (omega arith));
+        rows = λ i j k p q. other j (row i j p q);
+        methods = λ j p q. other j (inr (omega arith));
+        classes = λ j p q. other j (inr (omega arith));
+        places = λ j p q. other j (inr (omega arith));
+      })
+      h
 
   work-holds : (w : List ℕ) (k i : ℕ) (st : List ℕ) → i < 256 → Small st → Holds D w F n → Holds D (workAfter w k i st) F n
   unfolding workAfter closed

@@ -6,10 +6,11 @@ use Prim.Native.Nat.{ℕ, zero, suc, _+_, _*_, _/_, _%_, _≤_, _<_}
 use lib.Dec.{eqb, ltb}
 use lib.ListN.{length}
 use Rattle.rules.specs.Limits.{most-branches}
-use Rattle.tables.specs.Decode.{kindAt, rowPlace}
+use Rattle.tables.specs.Numbers.{byte-values, if-kind, else-kind, join-kind, loop-kind, again-kind}
+use Rattle.tables.specs.Decode.{kindAt, targetPlace}
 use Rattle.tables.specs.Stores.{putHalf}
 
--- the open rows, at most 4
+-- the open rows, at most `most-branches`
 unfoldable pub pushed : ℕ → List ℕ → List ℕ
 pushed i st = cond (ltb (length st) most-branches) (i ∷ st) st
 
@@ -21,22 +22,25 @@ unfoldable pub replaced : ℕ → List ℕ → List ℕ
 replaced i [] = []
 replaced i (t ∷ st) = i ∷ st
 
--- `if` (15) opens a branch and `loop` (21) a loop; `else` (16) stands for its `if` from here on; `join` (17) and `again` (22) close
+-- `if` opens a branch and `loop` a loop; `else` stands for its `if` from here on; `join` and `again` close
 unfoldable pub openAfter : ℕ → ℕ → List ℕ → List ℕ
 openAfter k i st =
-    cond (eqb k 15 || eqb k 21) (pushed i st) (cond (eqb k 16) (replaced i st) (cond (eqb k 17 || eqb k 22) (popped st) st))
+    cond (eqb k if-kind || eqb k loop-kind) (pushed i st)
+    (cond (eqb k else-kind) (replaced i st)
+    (cond (eqb k join-kind || eqb k again-kind) (popped st)
+    st))
 
 -- row t goes on to row v
 unfoldable pub putTarget : List ℕ → ℕ → ℕ → List ℕ
-putTarget w t v = putHalf w (rowPlace t + 10) v
+putTarget w t v = putHalf w (targetPlace t) v
 
 -- what row i closes is row t: `else` is what a false `if` goes past, `join` what an `else` goes on to, `again` what a false `loop` goes
 -- past, and itself goes back to it
 unfoldable pub closed : List ℕ → ℕ → ℕ → ℕ → List ℕ
 closed w k i t =
-    cond (eqb k 16) (putTarget w t (i + 1))
-    (cond (eqb k 17) (putTarget w t i)
-    (cond (eqb k 22) (putTarget (putTarget w t (i + 1)) i t)
+    cond (eqb k else-kind) (putTarget w t (i + 1))
+    (cond (eqb k join-kind) (putTarget w t i)
+    (cond (eqb k again-kind) (putTarget (putTarget w t (i + 1)) i t)
     w))
 
 unfoldable pub workAfter : List ℕ → ℕ → ℕ → List ℕ → List ℕ
@@ -51,12 +55,12 @@ targetsFrom w i (suc n) st = targetsFrom (workAfter w (kindAt w i) i st) (suc i)
 -- a list of d rows as one number, the innermost in its lowest byte
 unfoldable pub stackOf : ℕ → ℕ → List ℕ
 stackOf zero s = []
-stackOf (suc d) s = s % 256 ∷ stackOf d (s / 256)
+stackOf (suc d) s = s % byte-values ∷ stackOf d (s / byte-values)
 
 -- it has no more bytes than rows
 unfoldable pub power : ℕ → ℕ
 power zero = 1
-power (suc d) = power d * 256
+power (suc d) = power d * byte-values
 
 abbrev pub StackFits : ℕ → ℕ → Type 0
-StackFits d s = (d ≤ 4) × (s < power d)
+StackFits d s = (d ≤ most-branches) × (s < power d)

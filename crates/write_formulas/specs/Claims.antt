@@ -8,6 +8,7 @@ use lib.ListN.{length}
 use Rattle.rules.specs.Limits.{work-bytes}
 use Rattle.rules.specs.Syntax.{Formula, Stmt, acc, cmp, simple, assert, release, join, loop, end}
 use Rattle.rules.specs.Items.{Item, aStatement}
+use Rattle.tables.specs.Numbers.{assert-kind, release-kind, join-kind, loop-kind}
 use Rattle.tables.specs.Layout.{atomLimit, names-at}
 use Rattle.tables.specs.Decode.{atomsFrom}
 use Rattle.tables.specs.Stores.{Kept}
@@ -20,9 +21,9 @@ use Rattle.write_rows.specs.Holds.{Holds}
 use Rattle.resolve_atoms.specs.declared.Put.{Put}
 use Rattle.resolve_atoms.specs.Written.{formulaAfter, fitsAfter, FormulaFollows, Unfit}
 
--- by the number of the kind: 13 `assert`, 14 `release`, 17 `join`, 21 `loop`
+-- by the number of the kind
 unfoldable pub isClaim : ℕ → Bool
-isClaim k = eqb k 13 || (eqb k 14 || (eqb k 17 || eqb k 21))
+isClaim k = eqb k assert-kind || (eqb k release-kind || (eqb k join-kind || eqb k loop-kind))
 
 -- its first atom is a condition
 unfoldable pub hasCondition : Formula ℕ → Bool
@@ -37,11 +38,15 @@ loopWith (acc x f ∷ φ) = end
 loopWith (cmp n a b ∷ φ) = loop n a b φ
 
 unfoldable pub claimOf : ℕ → Formula ℕ → Stmt
-claimOf k φ = cond (eqb k 13) (simple (assert φ)) (cond (eqb k 14) (simple (release φ)) (cond (eqb k 17) (join φ) (loopWith φ)))
+claimOf k φ =
+    cond (eqb k assert-kind) (simple (assert φ))
+    (cond (eqb k release-kind) (simple (release φ))
+    (cond (eqb k join-kind) (join φ)
+    (loopWith φ)))
 
 -- where its own formula begins, if the atoms of its line do so at n
 unfoldable pub ownFirst : ℕ → ℕ → ℕ
-ownFirst k n = cond (eqb k 21) (n + 1) n
+ownFirst k n = cond (eqb k loop-kind) (n + 1) n
 
 -- its row, with the formula of the atoms from n up to m
 abbrev pub claimRow : ℕ → ℕ → ℕ → ℕ → Operands
@@ -51,7 +56,7 @@ claimRow k n m l = record { kind = k; x = 0; y = 0; z = 0; member = 0; atoms = m
 pub record ClaimFollows (t w : List ℕ) (c : Names) (k r n : ℕ) : Type 0 where
   pub claim : isClaim k ≡ true
   pub formula : FormulaFollows t w c (atomLimit k) r n
-  pub condition : k ≡ 21 → hasCondition (formulaAfter t w c r) ≡ true
+  pub condition : k ≡ loop-kind → hasCondition (formulaAfter t w c r) ≡ true
 
 -- The formula after r is written as the atoms from n up to m, and the statement with it as the row i.
 pub record ClaimPut (t w : List ℕ) (c : Names) (k r i n l : ℕ) (w′ : List ℕ) (m : ℕ) : Type 0 where

@@ -7,6 +7,7 @@ ghost use mathlib.Core.Path.{_≡_};
 ghost use Prim.Native.Nat.{_≤_, _<_};
 ghost use Rattle.rules.specs.Limits.{most-statements, most-methods, most-atoms};
 ghost use Rattle.rules.specs.Items.{aRequires, anEnsures};
+ghost use Rattle.tables.specs.Numbers.{half-values};
 ghost use Rattle.tables.specs.Layout.{most-atom-rows};
 ghost use Rattle.read_scopes.specs.Meanings.{AreaFits};
 ghost use Rattle.resolve_atoms.specs.Written.{FormulaFollows};
@@ -32,7 +33,7 @@ pub fn put_claim(
     n: usize,
     line: usize,
 ) -> Put
-    requires { ⌜ AreaFits (now work) c × ClaimFollows (now text) (now work) c kind r n × (i < most-statements) × (line < 65536) ⌝ }
+    requires { ⌜ AreaFits (now work) c × ClaimFollows (now text) (now work) c kind r n × (i < most-statements) × (line < half-values) ⌝ }
     ensures { λ m. ⌜ ClaimTried (now (text .entry)) (now (work .entry)) c kind r i n line (now (work .exit)) m ⌝ }
 {
     let p = resolve_atoms::put_formula(text, work, r, n, c);

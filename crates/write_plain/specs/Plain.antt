@@ -15,13 +15,15 @@ use Rattle.rules.specs.Names.{isLocal, inScope, isInt, isClass, knownMethod, va
 use Rattle.rules.specs.Items.{itemOf}
 use Rattle.read_fields.specs.Cuts.{more}
 use Rattle.read_grammar.specs.Rows.{kindNumbered}
-use Rattle.tables.specs.Layout.{names-at}
+use Rattle.tables.specs.Numbers.{set-kind, new-kind, call-kind, return-kind, else-kind, end-kind, again-kind}
+use Rattle.tables.specs.Layout.{frame-variables, names-at}
 use Rattle.tables.specs.Stores.{Kept}
 use Rattle.read_names.specs.declared.Span.{Span}
 use Rattle.read_names.specs.Rows.{nameIn}
 use Rattle.read_scopes.specs.declared.Names.{Names}
 use Rattle.read_scopes.specs.Meanings.{declarationsIn, variablesIn}
 use Rattle.read_lookups.specs.LookUps.{typeOf}
+use Rattle.read_types.specs.declared.Member.{Member}
 use Rattle.read_types.specs.Types.{good}
 use Rattle.rules.specs.Syntax.{Program}
 use Rattle.rules.specs.Reading.{withItem}
@@ -37,18 +39,18 @@ bare k x y z m l = record { kind = k; x = x; y = y; z = z; member = m; atoms = 0
 
 module _ (Γ : Declarations) (vs : List Variable) (ws : List Name) (l : ℕ) where
   unfoldable pub setRow : Operands
-  setRow = bare 8 (variableNumber vs (getD ws 0 [])) (variableNumber vs (getD ws 2 [])) 0 (fieldNumber Γ (getD ws 1 [])) l
+  setRow = bare set-kind (variableNumber vs (getD ws 0 [])) (variableNumber vs (getD ws 2 [])) 0 (fieldNumber Γ (getD ws 1 [])) l
 
   unfoldable pub newRow : Operands
-  newRow = bare 10 (variableNumber vs (getD ws 0 [])) 0 0 (classNumber Γ (getD ws 1 [])) l
+  newRow = bare new-kind (variableNumber vs (getD ws 0 [])) 0 0 (classNumber Γ (getD ws 1 [])) l
 
   unfoldable pub callRow : Operands
   callRow =
-      bare 11 (variableNumber vs (getD ws 0 [])) (variableNumber vs (getD ws 1 [])) (variableNumber vs (getD ws 3 []))
+      bare call-kind (variableNumber vs (getD ws 0 [])) (variableNumber vs (getD ws 1 [])) (variableNumber vs (getD ws 3 []))
       (methodNumber Γ (variableType vs (getD ws 1 [])) (getD ws 2 [])) l
 
   unfoldable pub returnRow : Operands
-  returnRow = bare 12 (variableNumber vs (getD ws 0 [])) 0 0 0 l
+  returnRow = bare return-kind (variableNumber vs (getD ws 0 [])) 0 0 0 l
 
   -- `add` or `sub`, by its number
   unfoldable pub computeRow : ℕ → Operands
@@ -57,10 +59,10 @@ module _ (Γ : Declarations) (vs : List Variable) (ws : List Name) (l : ℕ) whe
   -- by the number of its kind
   unfoldable pub plainRow : ℕ → Operands
   plainRow k =
-      cond (eqb k 8) setRow
-      (cond (eqb k 10) newRow
-      (cond (eqb k 11) callRow
-      (cond (eqb k 12) returnRow
+      cond (eqb k set-kind) setRow
+      (cond (eqb k new-kind) newRow
+      (cond (eqb k call-kind) callRow
+      (cond (eqb k return-kind) returnRow
       (cond (isComputing k) (computeRow k)
       (bare k 0 0 0 0 l)))))
 
@@ -117,10 +119,10 @@ module _ (Γ : Declarations) (vs : List Variable) (ws : List Name) where
   -- by the number of its kind; `else`, `end` and `again` name nothing
   unfoldable pub plainGood : ℕ → Bool
   plainGood k =
-      cond (eqb k 8) setGood
-      (cond (eqb k 10) newGood
-      (cond (eqb k 11) callGood
-      (cond (eqb k 12) returnGood
+      cond (eqb k set-kind) setGood
+      (cond (eqb k new-kind) newGood
+      (cond (eqb k call-kind) callGood
+      (cond (eqb k return-kind) returnGood
       (cond (isComputing k) computeGood
       true))))
 
@@ -137,10 +139,22 @@ TriedAfter t w c r good row l o =
     RowTried (good (declarationsIn t w c) (variablesIn t w c) (more (drop r t)))
     (row (declarationsIn t w c) (variablesIn t w c) (more (drop r t)) l) o
 
+-- x.f is known, and y a variable of its type
+abbrev pub maySet : List ℕ → List ℕ → Member → ℕ → Bool
+maySet t w x y = x .good && (ltb y frame-variables && eqName (nameIn t (x .is)) (nameIn t (typeOf w y)))
+
 -- x is a local of the class that is named at s and has the number k
 abbrev pub mayHold : List ℕ → List ℕ → Names → ℕ → ℕ → Span → Bool
 mayHold t w c x k s =
     isLocal x && (not (reserved (nameIn t s)) && (ltb k (c .classes) && eqName (nameIn t (typeOf w x)) (nameIn t s)))
+
+-- x is a local, and y and z are variables and other ones
+abbrev pub mayCall : ℕ → ℕ → ℕ → Bool
+mayCall x y z = isLocal x && (ltb y frame-variables && (ltb z frame-variables && (not (eqb x y) && not (eqb x z))))
+
+-- i, of n methods, is the number of a method named at m of a class
+abbrev pub hasMethod : List ℕ → Span → Span → ℕ → ℕ → Bool
+hasMethod t class m i n = not (is "int" (nameIn t class)) && (not (reserved (nameIn t m)) && ltb i n)
 
 -- x and z are of the types of the method's result and parameter
 abbrev pub agreeWith : List ℕ → List ℕ → ℕ → ℕ → MethodDeclaration → Bool
@@ -151,9 +165,12 @@ abbrev pub mayCompute : List ℕ → List ℕ → ℕ → ℕ → ℕ → Bool
 mayCompute t w x y z =
     isLocal x && (is "int" (nameIn t (typeOf w x)) && (is "int" (nameIn t (typeOf w y)) && is "int" (nameIn t (typeOf w z))))
 
--- by the number of the kind: 8 `set`, 10 `new`, 11 `call`, 12 `return`, 16 `else`, 18 `end`, 22 `again`; `add` and `sub`
+-- by the number of the kind
 unfoldable pub isPlain : ℕ → Bool
-isPlain k = eqb k 8 || (eqb k 10 || (eqb k 11 || (eqb k 12 || (eqb k 16 || (eqb k 18 || (eqb k 22 || isComputing k))))))
+isPlain k =
+    eqb k set-kind
+    || (eqb k new-kind
+    || (eqb k call-kind || (eqb k return-kind || (eqb k else-kind || (eqb k end-kind || (eqb k again-kind || isComputing k))))))
 
 -- the line of this kind whose word ends at r has its form
 pub record PlainFollows (t : List ℕ) (k r : ℕ) : Type 0 where

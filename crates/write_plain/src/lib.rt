@@ -5,18 +5,16 @@ use read_types::Member;
 use rules::Kind;
 use tables::Operands;
 ghost use mathlib.Core.Path.{_≡_};
-ghost use mathlib.Core.Bool.{not, _&&_};
 ghost use Prim.Native.Nat.{_≤_, _<_};
-ghost use lib.Dec.{eqb, ltb};
 ghost use lib.ListN.{length, getD};
-ghost use Rattle.rules.specs.Base.{is, eqName};
 ghost use Rattle.rules.specs.Limits.{work-bytes, most-statements};
-ghost use Rattle.rules.specs.Text.{reserved};
 ghost use Rattle.rules.specs.Names.{isLocal, noDeclaration};
+ghost use Rattle.tables.specs.Numbers.{half-values};
+ghost use Rattle.tables.specs.Layout.{frame-variables};
 ghost use Rattle.read_names.specs.Rows.{nameIn};
 ghost use Rattle.read_scopes.specs.Meanings.{AreaFits, declarationsIn, variablesIn};
-ghost use Rattle.read_lookups.specs.LookUps.{Looked, typeOf};
-ghost use Rattle.write_plain.specs.Plain.{bare, setRow, newRow, callRow, returnRow, computeRow, plainRow, setGood, newGood, callGood, returnGood, computeGood, plainGood, RowTried, TriedAfter, mayHold, agreeWith, mayCompute, PlainFollows, PlainTried};
+ghost use Rattle.read_lookups.specs.LookUps.{Looked};
+ghost use Rattle.write_plain.specs.Plain.{bare, setRow, newRow, callRow, returnRow, computeRow, plainRow, setGood, newGood, callGood, returnGood, computeGood, plainGood, RowTried, TriedAfter, maySet, mayHold, mayCall, hasMethod, agreeWith, mayCompute, PlainFollows, PlainTried};
 
 // The row of a line, if the line is good.
 pub enum TriedRow {
@@ -33,7 +31,7 @@ fn variable_at(text: &[u8], work: &[u8], c: Names, s: Span) -> usize
 }
 
 // May a line assign to the variable x?
-fn is_local(x: usize) -> bool
+pub fn is_local(x: usize) -> bool
     ensures { λ r. ⌜ r ≡ isLocal x ⌝ }
 {
     if x < read_scopes::FIRST_LOCAL {
@@ -68,8 +66,8 @@ fn row(kind: u8, x: usize, y: usize, z: usize, member: usize, line: usize) -> Op
 
 // Are x.f and y, if there is such a variable, of one type?
 fn set_fits(text: &[u8], work: &[u8], x: Member, y: usize) -> bool
-    requires { ⌜ (length (now work) ≡ work-bytes) × (y ≤ 15) ⌝ }
-    ensures { λ r. ⌜ r ≡ (x .good && (ltb y 15 && eqName (nameIn (now (text .entry)) (x .is)) (nameIn (now (text .entry)) (typeOf (now (work .entry)) y)))) ⌝ }
+    requires { ⌜ (length (now work) ≡ work-bytes) × (y ≤ frame-variables) ⌝ }
+    ensures { λ r. ⌜ r ≡ maySet (now (text .entry)) (now (work .entry)) x y ⌝ }
 {
     if !x.good {
         return false;
@@ -103,7 +101,7 @@ fn set_row(text: &[u8], work: &[u8], c: Names, r: usize, line: usize) -> TriedRo
 
 // Is x a local of the class that is named at s and has the number k?
 fn new_fits(text: &[u8], work: &[u8], c: Names, x: usize, k: usize, s: Span) -> bool
-    requires { ⌜ (length (now work) ≡ work-bytes) × (x ≤ 15) ⌝ }
+    requires { ⌜ (length (now work) ≡ work-bytes) × (x ≤ frame-variables) ⌝ }
     ensures { λ r. ⌜ r ≡ mayHold (now (text .entry)) (now (work .entry)) c x k s ⌝ }
 {
     if !is_local(x) {
@@ -133,7 +131,7 @@ fn new_row(text: &[u8], work: &[u8], c: Names, r: usize, line: usize) -> TriedRo
 
 // Is x a local, and are y and z variables and other ones?
 fn may_call(x: usize, y: usize, z: usize) -> bool
-    ensures { λ r. ⌜ r ≡ (isLocal x && (ltb y 15 && (ltb z 15 && (not (eqb x y) && not (eqb x z))))) ⌝ }
+    ensures { λ r. ⌜ r ≡ mayCall x y z ⌝ }
 {
     if !is_local(x) {
         return false;
@@ -152,7 +150,7 @@ fn may_call(x: usize, y: usize, z: usize) -> bool
 
 // Is i, of n methods, the number of a method named at m of a class?
 fn has_method(text: &[u8], class: Span, m: Span, i: usize, n: usize) -> bool
-    ensures { λ r. ⌜ r ≡ (not (is "int" (nameIn (now (text .entry)) class)) && (not (reserved (nameIn (now (text .entry)) m)) && ltb i n)) ⌝ }
+    ensures { λ r. ⌜ r ≡ hasMethod (now (text .entry)) class m i n ⌝ }
 {
     if read_lookups::is_int(text, class) {
         return false;
@@ -165,7 +163,7 @@ fn has_method(text: &[u8], class: Span, m: Span, i: usize, n: usize) -> bool
 
 // Are x and z of the types of the result and of the parameter of the method i?
 fn call_agrees(text: &[u8], work: &[u8], c: Names, x: usize, z: usize, i: usize) -> bool
-    requires { ⌜ AreaFits (now work) c × (x ≤ 15) × (z ≤ 15) ⌝ }
+    requires { ⌜ AreaFits (now work) c × (x ≤ frame-variables) × (z ≤ frame-variables) ⌝ }
     ensures { λ r. ⌜ r ≡ agreeWith (now (text .entry)) (now (work .entry)) x z (getD (declarationsIn (now (text .entry)) (now (work .entry)) c .methods) i noDeclaration) ⌝ }
 {
     if read_lookups::same_name(
@@ -223,7 +221,7 @@ fn return_row(text: &[u8], work: &[u8], c: Names, r: usize, line: usize) -> Trie
 
 // Is x a local, and are all three int? A name that is no variable's has no type.
 fn may_compute(text: &[u8], work: &[u8], x: usize, y: usize, z: usize) -> bool
-    requires { ⌜ (length (now work) ≡ work-bytes) × (x ≤ 15) × (y ≤ 15) × (z ≤ 15) ⌝ }
+    requires { ⌜ (length (now work) ≡ work-bytes) × (x ≤ frame-variables) × (y ≤ frame-variables) × (z ≤ frame-variables) ⌝ }
     ensures { λ r. ⌜ r ≡ mayCompute (now (text .entry)) (now (work .entry)) x y z ⌝ }
 {
     if !is_local(x) {
@@ -279,7 +277,7 @@ pub fn put_plain(
     i: usize,
     line: usize,
 ) -> bool
-    requires { ⌜ AreaFits (now work) c × PlainFollows (now text) kind r × (i < most-statements) × (line < 65536) ⌝ }
+    requires { ⌜ AreaFits (now work) c × PlainFollows (now text) kind r × (i < most-statements) × (line < half-values) ⌝ }
     ensures { λ b. ⌜ PlainTried (now (text .entry)) (now (work .entry)) c kind r i line (now (work .exit)) b ⌝ }
 {
     let t = plain_row(text, work, c, kind, r, line);

@@ -1,10 +1,9 @@
 -- One more statement row.
 use mathlib.Core.Path.{_≡_, refl, ap, _∙_}
 use mathlib.Core.List.{List, [], _∷_, _++_}
-use mathlib.Core.Logic.{inl, inr, ⊎-elim}
+use mathlib.Core.Logic.{inl, inr}
 use Prim.Native.Nat.{ℕ, suc, _+_, _/_, _%_, _≤_, _<_}
 use native.Mathlib.Omega.{arith}
-use lib.Dec.{ltb}
 use lib.ListN.{length, getD}
 use borrow.Author.Count.{below-more}
 use Rattle.rules.specs.Limits.{most-statements, work-bytes}
@@ -16,11 +15,11 @@ use Rattle.tables.specs.Layout.{names-at, most-atom-rows}
 use Rattle.tables.specs.Decode.{byteAt, halfAt, rowPlace, operandsAt, stmtOf, rowAt}
 use Rattle.tables.specs.Tables.{Declared, OperandsFit}
 use Rattle.tables.specs.Stores.{Kept}
-use Rattle.tables.proofs.Runs.{less-or-not, run-grown, end-length}
-use Rattle.tables.proofs.Kept.{RowsKept, all-rows, stmt-kept}
-use Rattle.write_rows.specs.Puts.{rowBytes, putRow, putTarget, RowBytes}
+use Rattle.tables.proofs.Runs.{run-grown, end-length}
+use Rattle.tables.proofs.Kept.{all-rows, stmt-kept}
+use Rattle.write_rows.specs.Puts.{rowBytes, putRow, RowBytes}
 use Rattle.write_rows.specs.Holds.{Holds}
-use Rattle.write_rows.proofs.Puts.{put-length, put-same, put-same-half, put-other, Clear, put-kept}
+use Rattle.write_rows.proofs.Puts.{put-length, put-same, put-same-half, Clear, put-kept}
 use Rattle.write_rows.proofs.Kept.{method-more, SameRows, holds-kept}
 
 module _ (w : List ℕ) (i : ℕ) (r : Operands) (size : length w ≡ work-bytes) (room : i < most-statements) where
@@ -142,36 +141,3 @@ row-bytes D n r few m l o =
       first = omega (arith, o .atoms);
       line = l;
     }
-
--- A TARGET
-module _ (w : List ℕ) (i t : ℕ) (size : length w ≡ work-bytes) (room : i < most-statements) where
-  -- other bytes
-  pub target-kept : (a b : ℕ) → Clear (rowPlace i + 10) 2 a b → Kept a b w (putTarget w i t)
-  unfolding putTarget
-  target-kept a b o = put-kept w (rowPlace i + 10) _ a b o
-
-  pub target-length : length (putTarget w i t) ≡ length w
-  unfolding putTarget
-  target-length = put-length w (rowPlace i + 10) _
-
-  outside-target : (R : ℕ) → RowsKept R w (putTarget w i t)
-  unfolding putTarget
-  outside-target R k j l p q =
-      ⊎-elim (λ m. put-other w (rowPlace i + 10) _ j (inr (omega arith))) (λ m. put-other w (rowPlace i + 10) _ j (inl (omega arith)))
-      (less-or-not i k (ltb i k) refl)
-
--- a target may be written at any time
-pub target-written :
-    (D : Declared) (w : List ℕ) (F : Program) (n i t : ℕ) → i < most-statements → Holds D w F n → Holds D (putTarget w i t) F n
-target-written D w F n i t room h =
-    let K : (a b : ℕ) → Clear (rowPlace i + 10) 2 a b → Kept a b w (putTarget w i t) = target-kept w i t (h .size) room in
-    holds-kept D w (putTarget w i t) F n
-    (record {
-      size = target-length w i t (h .size) room;
-      atoms = K _ _ (inr (omega arith));
-      rows = outside-target w i t (h .size) room (length (F .rows));
-      methods = K _ _ (inr (omega arith));
-      classes = K _ _ (inr (omega arith));
-      places = K _ _ (inr (omega arith));
-    })
-    h

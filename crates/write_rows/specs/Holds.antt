@@ -8,6 +8,7 @@ use lib.ListN.{length}
 use Rattle.rules.specs.Limits.{most-classes, most-methods, most-statements, work-bytes}
 use Rattle.rules.specs.Syntax.{Atom, Formula, Row, Field, Method, Program, acc, cmp}
 use Rattle.tables.specs.declared.Expr as Tables
+use Rattle.tables.specs.Numbers.{acc-atom}
 use Rattle.tables.specs.Layout.{most-atom-rows}
 use Rattle.tables.specs.Decode.{relOf, atomsFrom, operandsAt, rowsFrom, rowCount, atomCount, classCount, methodCount, mainFirst, firstRowAt, classesFrom, methodsFrom}
 use Rattle.tables.specs.Tables.{AtomFits, AtomFitsAt, Declared, OperandsFit, TargetFits, FormulasFit, ClassFits, BlockFits}
@@ -28,7 +29,7 @@ accessOf (Tables.Expr.Path x f) = acc x f
 
 -- the atom that a row means
 unfoldable pub atomOf : ℕ → Tables.Expr → Tables.Expr → Atom ℕ
-atomOf k a b = cond (eqb k 0) (accessOf a) (cmp (relOf k) (meaning a) (meaning b))
+atomOf k a b = cond (eqb k acc-atom) (accessOf a) (cmp (relOf k) (meaning a) (meaning b))
 
 -- n atoms are written
 pub record AtomsHold (w : List ℕ) (n : ℕ) : Type 0 where

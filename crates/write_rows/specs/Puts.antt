@@ -5,6 +5,7 @@ use Prim.Native.Nat.{ℕ, zero, suc, _+_, _*_, _/_, _%_, _<_}
 use lib.ListN.{set}
 use Rattle.tables.specs.declared.Expr as Tables
 use Rattle.tables.specs.declared.Operands.{Operands}
+use Rattle.tables.specs.Numbers.{byte-values, half-values, word-values, num-tag, null-tag, var-tag, path-tag, no-place}
 use Rattle.tables.specs.Layout.{most-names}
 use Rattle.tables.specs.Decode.{atomPlace, rowPlace, methodPlace, classPlace, placesPlace, fieldCountAt}
 
@@ -23,17 +24,17 @@ wordBytes v = v % 256 ∷ v / 256 % 256 ∷ v / 65536 % 256 ∷ v / 16777216 % 2
 -- ATOMS
 
 unfoldable pub tagOf : Tables.Expr → ℕ
-tagOf (Tables.Expr.Num n) = 0
-tagOf Tables.Expr.Null = 1
-tagOf (Tables.Expr.Var x) = 2
-tagOf (Tables.Expr.Path x f) = 3
+tagOf (Tables.Expr.Num n) = num-tag
+tagOf Tables.Expr.Null = null-tag
+tagOf (Tables.Expr.Var x) = var-tag
+tagOf (Tables.Expr.Path x f) = path-tag
 
 -- the four bytes of a side, as a number
 unfoldable pub wordOf : Tables.Expr → ℕ
 wordOf (Tables.Expr.Num n) = n
 wordOf Tables.Expr.Null = 0
 wordOf (Tables.Expr.Var x) = x
-wordOf (Tables.Expr.Path x f) = x + f * 256
+wordOf (Tables.Expr.Path x f) = x + f * byte-values
 
 unfoldable pub atomBytes : ℕ → Tables.Expr → Tables.Expr → List ℕ
 atomBytes k a b = (k ∷ tagOf a ∷ tagOf b ∷ 0 ∷ []) ++ (wordBytes (wordOf a) ++ wordBytes (wordOf b))
@@ -50,10 +51,6 @@ rowBytes r =
 
 unfoldable pub putRow : List ℕ → ℕ → Operands → List ℕ
 putRow w i r = putBytes w (rowPlace i) (rowBytes r)
-
--- the target of row i, once it is known
-unfoldable pub putTarget : List ℕ → ℕ → ℕ → List ℕ
-putTarget w i t = putBytes w (rowPlace i + 10) (halfBytes t)
 
 -- METHODS
 
@@ -73,10 +70,10 @@ putEnsures w m a n = putBytes w (methodPlace m + 3) ((n ∷ []) ++ halfBytes a)
 
 -- CLASSES
 
--- n times 255
+-- n names that have no place
 unfoldable pub blank : ℕ → List ℕ
 blank zero = []
-blank (suc n) = 255 ∷ blank n
+blank (suc n) = no-place ∷ blank n
 
 -- without fields: no name has a place
 unfoldable pub putClass : List ℕ → ℕ → List ℕ
@@ -103,18 +100,18 @@ putHeader w rows atoms classes methods main = putBytes w 0 (headerBytes rows ato
 
 -- the operands of a row fit their bytes
 pub record RowBytes (r : Operands) : Type 0 where
-  pub kind : r .kind < 256
-  pub x : r .x < 256
-  pub y : r .y < 256
-  pub z : r .z < 256
-  pub member : r .member < 256
-  pub atoms : r .atoms < 256
-  pub first : r .first < 65536
-  pub line : r .line < 65536
+  pub kind : r .kind < byte-values
+  pub x : r .x < byte-values
+  pub y : r .y < byte-values
+  pub z : r .z < byte-values
+  pub member : r .member < byte-values
+  pub atoms : r .atoms < byte-values
+  pub first : r .first < half-values
+  pub line : r .line < half-values
 
 -- a side fits its bytes
 unfoldable pub SideBytes : Tables.Expr → Type 0
-SideBytes (Tables.Expr.Num n) = n < 4294967296
+SideBytes (Tables.Expr.Num n) = n < word-values
 SideBytes Tables.Expr.Null = Unit {0}
-SideBytes (Tables.Expr.Var x) = x < 256
-SideBytes (Tables.Expr.Path x f) = (x < 256) × (f < 256)
+SideBytes (Tables.Expr.Var x) = x < byte-values
+SideBytes (Tables.Expr.Path x f) = (x < byte-values) × (f < byte-values)

@@ -1,19 +1,27 @@
 // The final rows written: atoms, statements, methods, classes, header.
+use tables::AtomAt;
+use tables::Bytes;
+use tables::ClassAt;
 use tables::Expr;
+use tables::HeaderAt;
 use tables::Layout;
+use tables::MethodAt;
 use tables::Operands;
+use tables::RowAt;
+use tables::SideTag;
 ghost use mathlib.Core.Path.{_≡_};
 ghost use mathlib.Core.Bool.{cond};
 ghost use mathlib.Core.List.{[], _∷_};
 ghost use Prim.Native.Nat.{_+_, _*_, _≤_, _<_};
 ghost use lib.ListN.{length};
 ghost use Rattle.rules.specs.Limits.{most-statements, most-methods, most-classes, most-fields, work-bytes};
+ghost use Rattle.tables.specs.Numbers.{byte-values, half-values};
 ghost use Rattle.tables.specs.Layout.{most-atom-rows, most-names};
 ghost use Rattle.tables.specs.Decode.{fieldCountAt};
 ghost use Rattle.write_rows.specs.Puts.{putBytes, tagOf, wordOf, putAtom, putRow, putMethod, putRequires, putEnsures, blank, putClass, putField, putHeader, RowBytes, SideBytes};
 
 fn put_four(work: &mut [u8], i: usize, a: usize, b: usize, c: usize, d: usize)
-    requires { ⌜ (i + 4 ≤ length (now work)) × ((a < 256) × ((b < 256) × ((c < 256) × (d < 256)))) ⌝ }
+    requires { ⌜ (i + 4 ≤ length (now work)) × ((a < byte-values) × ((b < byte-values) × ((c < byte-values) × (d < byte-values)))) ⌝ }
     ensures { λ _. ⌜ now (work .exit) ≡ putBytes (now (work .entry)) i (a ∷ b ∷ c ∷ d ∷ []) ⌝ }
 {
     work[i] = a as u8;
@@ -25,21 +33,21 @@ fn put_four(work: &mut [u8], i: usize, a: usize, b: usize, c: usize, d: usize)
 // ATOMS
 
 fn tag_of(e: Expr) -> usize
-    ensures { λ r. ⌜ (r ≡ tagOf e) × (r < 256) ⌝ }
+    ensures { λ r. ⌜ (r ≡ tagOf e) × (r < byte-values) ⌝ }
 {
     match e {
-        Expr::Num(_) => 0,
-        Expr::Null => 1,
-        Expr::Var(_) => 2,
-        Expr::Path(_, _) => 3,
+        Expr::Num(_) => SideTag::NUM,
+        Expr::Null => SideTag::NULL,
+        Expr::Var(_) => SideTag::VAR,
+        Expr::Path(_, _) => SideTag::PATH,
     }
 }
 
 fn pair(x: usize, f: usize) -> u32
-    requires { ⌜ (x < 256) × (f < 256) ⌝ }
-    ensures { λ r. ⌜ r ≡ x + f * 256 ⌝ }
+    requires { ⌜ (x < byte-values) × (f < byte-values) ⌝ }
+    ensures { λ r. ⌜ r ≡ x + f * byte-values ⌝ }
 {
-    (x + f * 256) as u32
+    (x + f * Bytes::VALUES) as u32
 }
 
 fn word_of(e: Expr) -> u32
@@ -56,15 +64,15 @@ fn word_of(e: Expr) -> u32
 
 // Writes the atom a: its kind (`AtomKind`) and its sides. `acc x f` has the path x.f on the left, null on the right.
 pub fn put_atom(work: &mut [u8], a: usize, kind: usize, left: Expr, right: Expr)
-    requires { ⌜ ((length (now work) ≡ work-bytes) × (a < most-atom-rows)) × ((kind < 256) × (SideBytes left × SideBytes right)) ⌝ }
+    requires { ⌜ ((length (now work) ≡ work-bytes) × (a < most-atom-rows)) × ((kind < byte-values) × (SideBytes left × SideBytes right)) ⌝ }
     ensures { λ _. ⌜ now (work .exit) ≡ putAtom (now (work .entry)) a kind left right ⌝ }
 {
     let i = Layout::ATOMS + a * Layout::ATOM_BYTES;
     let l = word_of(left);
     let r = word_of(right);
     put_four(work, i, kind, tag_of(left), tag_of(right), 0);
-    tables::put_word(work, i + 4, l);
-    tables::put_word(work, i + 8, r);
+    tables::put_word(work, i + AtomAt::LEFT, l);
+    tables::put_word(work, i + AtomAt::RIGHT, r);
 }
 
 // ROWS
@@ -78,43 +86,67 @@ pub fn put_row(work: &mut [u8], i: usize, r: Operands)
     let first = r.first;
     let line = r.line;
     put_four(work, at, r.kind as usize, r.x, r.y, r.z);
-    put_four(work, at + 4, r.member, r.atoms, first % 256, first / 256);
-    put_four(work, at + 8, line % 256, line / 256, 0, 0);
+    put_four(
+        work,
+        at + RowAt::MEMBER,
+        r.member,
+        r.atoms,
+        first % Bytes::VALUES,
+        first / Bytes::VALUES,
+    );
+    put_four(
+        work,
+        at + RowAt::LINE,
+        line % Bytes::VALUES,
+        line / Bytes::VALUES,
+        0,
+        0,
+    );
 }
 
 // METHODS
 
 // Writes the method m with its first row; its requires and ensures are empty.
 pub fn put_method_row(work: &mut [u8], m: usize, first: usize)
-    requires { ⌜ (length (now work) ≡ work-bytes) × ((m < most-methods) × (first < 65536)) ⌝ }
+    requires { ⌜ (length (now work) ≡ work-bytes) × ((m < most-methods) × (first < half-values)) ⌝ }
     ensures { λ _. ⌜ now (work .exit) ≡ putMethod (now (work .entry)) m first ⌝ }
 {
     let at = Layout::METHODS + m * Layout::METHOD_BYTES;
     put_four(work, at, 0, 0, 0, 0);
-    put_four(work, at + 4, 0, 0, first % 256, first / 256);
+    put_four(
+        work,
+        at + MethodAt::ENSURES,
+        0,
+        0,
+        first % Bytes::VALUES,
+        first / Bytes::VALUES,
+    );
 }
 
 // The requires of the method m is n atoms from a on.
 pub fn put_requires(work: &mut [u8], m: usize, a: usize, n: usize)
-    requires { ⌜ ((length (now work) ≡ work-bytes) × (m < most-methods)) × ((a < 65536) × (n < 256)) ⌝ }
+    requires { ⌜ ((length (now work) ≡ work-bytes) × (m < most-methods)) × ((a < half-values) × (n < byte-values)) ⌝ }
     ensures { λ _. ⌜ now (work .exit) ≡ putRequires (now (work .entry)) m a n ⌝ }
 {
     let at = Layout::METHODS + m * Layout::METHOD_BYTES;
     tables::put_half(work, at, a);
-    tables::put_byte(work, at + 2, n);
+    tables::put_byte(work, at + MethodAt::REQUIRES_COUNT, n);
 }
 
 // Its ensures is n atoms from a on.
 pub fn put_ensures(work: &mut [u8], m: usize, a: usize, n: usize)
-    requires { ⌜ ((length (now work) ≡ work-bytes) × (m < most-methods)) × ((a < 65536) × (n < 256)) ⌝ }
+    requires { ⌜ ((length (now work) ≡ work-bytes) × (m < most-methods)) × ((a < half-values) × (n < byte-values)) ⌝ }
     ensures { λ _. ⌜ now (work .exit) ≡ putEnsures (now (work .entry)) m a n ⌝ }
 {
     let at = Layout::METHODS + m * Layout::METHOD_BYTES;
-    tables::put_byte(work, at + 3, n);
-    tables::put_half(work, at + 4, a);
+    tables::put_byte(work, at + MethodAt::ENSURES_COUNT, n);
+    tables::put_half(work, at + MethodAt::ENSURES, a);
 }
 
 // CLASSES
+
+// the place of a name that no field has, as a byte
+const BLANK: u8 = ClassAt::NO_PLACE as u8;
 
 fn fill(work: &mut [u8], at: usize, n: usize)
     requires { ⌜ at + n ≤ length (now work) ⌝ }
@@ -122,7 +154,7 @@ fn fill(work: &mut [u8], at: usize, n: usize)
 {
     let mut i = 0;
     while i < n {
-        work[at + i] = 255;
+        work[at + i] = BLANK;
         i += 1;
     }
 }
@@ -141,7 +173,7 @@ pub fn put_class_row(work: &mut [u8], c: usize)
 }
 
 fn flag(int: bool) -> usize
-    ensures { λ r. ⌜ (r ≡ cond int 1 0) × (r < 256) ⌝ }
+    ensures { λ r. ⌜ (r ≡ cond int 1 0) × (r < byte-values) ⌝ }
 {
     if int { 1 } else { 0 }
 }
@@ -154,8 +186,12 @@ pub fn put_class_field(work: &mut [u8], c: usize, name: usize, int: bool)
     let at = Layout::CLASSES + c * Layout::CLASS_BYTES;
     let j = tables::field_count_at(work, c);
     tables::put_byte(work, at, j + 1);
-    tables::put_byte(work, at + 1 + j * 2, name);
-    tables::put_byte(work, at + 2 + j * 2, flag(int));
+    tables::put_byte(work, at + ClassAt::NAME + j * ClassAt::FIELD_BYTES, name);
+    tables::put_byte(
+        work,
+        at + ClassAt::KIND + j * ClassAt::FIELD_BYTES,
+        flag(int),
+    );
     tables::put_byte(work, Layout::PLACES + c * Layout::FIELD_NAMES + name, j);
 }
 
@@ -170,9 +206,23 @@ pub fn put_header(
     methods: usize,
     main: usize,
 )
-    requires { ⌜ ((length (now work) ≡ work-bytes) × ((rows < 65536) × (atoms < 65536))) × ((classes < 256) × ((methods < 256) × (main < 65536))) ⌝ }
+    requires { ⌜ ((length (now work) ≡ work-bytes) × ((rows < half-values) × (atoms < half-values))) × ((classes < byte-values) × ((methods < byte-values) × (main < half-values))) ⌝ }
     ensures { λ _. ⌜ now (work .exit) ≡ putHeader (now (work .entry)) rows atoms classes methods main ⌝ }
 {
-    put_four(work, 0, rows % 256, rows / 256, atoms % 256, atoms / 256);
-    put_four(work, 4, classes, methods, main % 256, main / 256);
+    put_four(
+        work,
+        HeaderAt::ROWS,
+        rows % Bytes::VALUES,
+        rows / Bytes::VALUES,
+        atoms % Bytes::VALUES,
+        atoms / Bytes::VALUES,
+    );
+    put_four(
+        work,
+        HeaderAt::CLASSES,
+        classes,
+        methods,
+        main % Bytes::VALUES,
+        main / Bytes::VALUES,
+    );
 }

@@ -1,4 +1,4 @@
--- `atoms::access` meets its contract. Assumes nothing.
+-- `resolve_atoms::access` meets its contract. Assumes nothing.
 use borrow.Author.Tests.{not-true, not-false}
 use Rattle.resolve_atoms.proofs.Sides.{access-row, access-bad}
 use borrow.Author.Needs.{needs}

@@ -1,4 +1,4 @@
--- `atoms::compared` meets its contract. Assumes nothing.
+-- `resolve_atoms::compared` meets its contract. Assumes nothing.
 use mathlib.Core.Path.{sym, _∙_}
 use borrow.Author.Tests.{not-true, not-false}
 use Rattle.resolve_atoms.proofs.Sides.{compared-row, left-bad, right-bad, apart-bad}

@@ -1,4 +1,4 @@
--- `atoms::put_formula` meets its contract. Assumes nothing.
+-- `resolve_atoms::put_formula` meets its contract. Assumes nothing.
 use mathlib.Core.Path.{sym, _∙_}
 use Prim.Native.Nat.{_-_}
 use native.Mathlib.Omega.{arith}

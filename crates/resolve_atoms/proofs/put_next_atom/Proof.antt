@@ -1,4 +1,4 @@
--- `atoms::put_next_atom` meets its contract. Assumes nothing.
+-- `resolve_atoms::put_next_atom` meets its contract. Assumes nothing.
 use native.Mathlib.Omega.{arith}
 use Rattle.write_rows.proofs.Atoms.{side-bytes}
 use Rattle.resolve_atoms.proofs.Formulas.{some-1, some-2, some-3, is-atom, next-put, next-bad, row-ok}

@@ -1,4 +1,4 @@
--- `atoms::relation` meets its contract. Assumes nothing.
+-- `resolve_atoms::relation` meets its contract. Assumes nothing.
 use mathlib.Core.Path.{sym, ap}
 use mathlib.Core.Bool.{cond}
 use borrow.Author.Tests.{eq-eqb, ne-eqb}

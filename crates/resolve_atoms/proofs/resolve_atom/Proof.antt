@@ -1,4 +1,4 @@
--- `atoms::resolve_atom` meets its contract. Assumes nothing.
+-- `resolve_atoms::resolve_atom` meets its contract. Assumes nothing.
 use Rattle.resolve_atoms.proofs.Sides.{atom-word, compared-form, compared-tried, access-tried, relation-bounds}
 use borrow.Author.Needs.{needs}
 use Rattle.resolve_atoms.proofs.resolve_atom.Statement.{statement}

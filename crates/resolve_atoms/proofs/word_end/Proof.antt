@@ -1,4 +1,4 @@
--- `atoms::word_end` meets its contract. Assumes nothing.
+-- `resolve_atoms::word_end` meets its contract. Assumes nothing.
 use mathlib.Core.Path.{sym, _∙_}
 use native.Mathlib.Omega.{arith}
 use borrow.Author.Tests.{ne-eqb}

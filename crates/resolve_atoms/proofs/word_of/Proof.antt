@@ -1,4 +1,4 @@
--- `atoms::word_of` meets its contract. Assumes nothing.
+-- `resolve_atoms::word_of` meets its contract. Assumes nothing.
 use mathlib.Core.Path.{sym, _∙_}
 use mathlib.Core.Logic.{⊎-elim}
 use native.Mathlib.Omega.{arith}

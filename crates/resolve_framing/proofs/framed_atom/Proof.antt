@@ -1,3 +1,4 @@
+-- `resolve_framing::framed_atom` meets its contract. Assumes nothing.
 use mathlib.Core.Path.{sym, _∙_}
 use Rattle.resolve_framing.proofs.Framing.{access-framed, sides-framed}
 use borrow.Author.Needs.{needs}

@@ -1,3 +1,4 @@
+-- `resolve_framing::framed_line` meets its contract. Assumes nothing.
 use mathlib.Core.Path.{ap, sym, _∙_}
 use mathlib.Core.List.{[]}
 use Rattle.rules.specs.Reading.{framed}

@@ -1,3 +1,4 @@
+-- `resolve_framing::framed_loop` meets its contract. Assumes nothing.
 use mathlib.Core.Path.{sym, _∙_}
 use borrow.Author.Tests.{not-true, not-false}
 use Rattle.resolve_framing.proofs.Framing.{last-not, last-on}

@@ -1,3 +1,4 @@
+-- `resolve_framing::framed_side` meets its contract. Assumes nothing.
 use denote.Enum.Declared.{tagOf}
 use mathlib.Core.Bool.{true}
 use mathlib.Core.List.{List, [], _∷_}

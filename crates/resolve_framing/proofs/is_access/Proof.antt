@@ -1,3 +1,4 @@
+-- `resolve_framing::is_access` meets its contract. Assumes nothing.
 use borrow.Author.Needs.{needs}
 use Rattle.resolve_framing.proofs.is_access.Statement.{statement}
 use Rattle.resolve_framing.proofs.is_access.Tie as tie

@@ -1,4 +1,4 @@
--- `headers::in_method` meets its contract. Assumes nothing.
+-- `resolve_headers::in_method` meets its contract. Assumes nothing.
 use mathlib.Core.Bool.{true}
 use Rattle.resolve_pass.specs.Passes.{withBlock}
 use Rattle.resolve_headers.proofs.in_method.Statement.{statement}

@@ -1,4 +1,4 @@
--- `headers::one_more` meets its contract. Assumes nothing.
+-- `resolve_headers::one_more` meets its contract. Assumes nothing.
 use Prim.Native.Nat.{_+_}
 use Rattle.resolve_pass.specs.Passes.{oneMore}
 use borrow.Author.Needs.{needs}

@@ -1,4 +1,4 @@
--- `headers::put_class` meets its contract. Assumes nothing.
+-- `resolve_headers::put_class` meets its contract. Assumes nothing.
 use mathlib.Core.Path.{_∙_}
 use Rattle.resolve_headers.specs.Headers.{moved}
 use borrow.Author.Needs.{needs}

@@ -1,4 +1,4 @@
--- `headers::put_declaration` meets its contract. Assumes nothing.
+-- `resolve_headers::put_declaration` meets its contract. Assumes nothing.
 use mathlib.Core.Path.{refl}
 use native.Mathlib.Omega.{arith}
 use lib.ListN.{drop}

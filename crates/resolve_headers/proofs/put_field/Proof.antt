@@ -1,4 +1,4 @@
--- `headers::put_field` meets its contract. Assumes nothing.
+-- `resolve_headers::put_field` meets its contract. Assumes nothing.
 use mathlib.Core.Path.{_≡_, refl, ap, _∙_}
 use mathlib.Core.List.{[]}
 use Prim.Native.Nat.{suc, _-_}

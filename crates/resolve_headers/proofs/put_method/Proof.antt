@@ -1,4 +1,4 @@
--- `headers::put_method` meets its contract. Assumes nothing.
+-- `resolve_headers::put_method` meets its contract. Assumes nothing.
 use mathlib.Core.Path.{_≡_, refl, ap, _∙_}
 use Prim.Native.Nat.{suc, _-_, _<_}
 use native.Mathlib.Omega.{arith}

@@ -1,4 +1,4 @@
--- `headers::put_var` meets its contract. Assumes nothing.
+-- `resolve_headers::put_var` meets its contract. Assumes nothing.
 use mathlib.Core.Path.{refl, ap, _∙_}
 use lib.ListN.{drop}
 use borrow.Author.Tests.{not-true, not-false}

@@ -1,4 +1,4 @@
--- `headers::with_class` meets its contract. Assumes nothing.
+-- `resolve_headers::with_class` meets its contract. Assumes nothing.
 use Prim.Native.Nat.{_+_}
 use Rattle.resolve_pass.specs.Passes.{aboveAfter, nextRange}
 use Rattle.rules.specs.Grammar as Grammar

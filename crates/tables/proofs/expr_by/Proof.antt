@@ -1,3 +1,4 @@
+-- `tables::expr_by` meets its contract. Assumes nothing.
 use borrow.Author.Tests.{ne-eqb}
 use Rattle.tables.specs.Stores.{meaning}
 use Rattle.tables.specs.Decode.{exprAt}

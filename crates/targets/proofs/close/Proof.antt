@@ -1,3 +1,4 @@
+-- `targets::close` meets its contract. Assumes nothing.
 use mathlib.Core.Path.{_∙_, ap}
 use mathlib.Core.List.{List}
 use Prim.Native.Nat.{ℕ}

@@ -1,3 +1,4 @@
+-- `targets::push` meets its contract. Assumes nothing.
 use Prim.Native.Nat.{_<_}
 use native.Mathlib.Omega.{arith}
 use Rattle.targets.proofs.Stacks.{power-small, push-stack, push-fits, full-stack}

@@ -1,3 +1,4 @@
+-- `targets::put_target` meets its contract. Assumes nothing.
 use Rattle.targets.specs.Targets.{putTarget}
 use borrow.Author.Needs.{needs}
 use Rattle.targets.proofs.put_target.Statement.{statement}

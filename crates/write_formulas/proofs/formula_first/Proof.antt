@@ -1,3 +1,4 @@
+-- `write_formulas::formula_first` meets its contract. Assumes nothing.
 use borrow.Author.Tests.{ne-eqb}
 use Rattle.write_formulas.specs.Claims.{ownFirst}
 use borrow.Author.Needs.{needs}

@@ -1,4 +1,4 @@
--- `claims::put_claim` meets its contract. Assumes nothing.
+-- `write_formulas::put_claim` meets its contract. Assumes nothing.
 use mathlib.Core.Path.{_∙_}
 use native.Mathlib.Omega.{arith}
 use Rattle.write_formulas.proofs.Claims.{claim-line, claim-least, claim-bytes, claim-put, tried-done, claim-bad, claim-done}

@@ -1,4 +1,4 @@
--- `plain::call_agrees` meets its contract. Assumes nothing.
+-- `write_plain::call_agrees` meets its contract. Assumes nothing.
 use mathlib.Core.Path.{sym, _∙_}
 use borrow.Author.Needs.{needs}
 use Rattle.write_plain.proofs.call_agrees.Statement.{statement}

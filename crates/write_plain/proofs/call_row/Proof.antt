@@ -1,4 +1,4 @@
--- `plain::call_row` meets its contract. Assumes nothing.
+-- `write_plain::call_row` meets its contract. Assumes nothing.
 use borrow.Author.Tests.{not-true, not-false}
 use Rattle.write_plain.specs.Plain.{RowTried}
 use Rattle.write_plain.proofs.Tries.{call-apart, call-known, call-tried, call-not-apart, call-unknown}

@@ -1,3 +1,4 @@
+-- `write_plain::compute_row` meets its contract. Assumes nothing.
 use Rattle.write_plain.proofs.Tries.{compute-tried}
 use borrow.Author.Needs.{needs}
 use Rattle.write_plain.proofs.compute_row.Statement.{statement}

@@ -1,4 +1,4 @@
--- `plain::has_method` meets its contract. Assumes nothing.
+-- `write_plain::has_method` meets its contract. Assumes nothing.
 use mathlib.Core.Path.{sym, ap, _∙_}
 use Rattle.rules.specs.Text.{reserved}
 use borrow.Author.Needs.{needs}

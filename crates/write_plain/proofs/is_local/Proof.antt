@@ -1,4 +1,4 @@
--- `plain::is_local` meets its contract. Assumes nothing.
+-- `write_plain::is_local` meets its contract. Assumes nothing.
 use borrow.Author.Tests.{le-leb, lt-leb}
 use native.Mathlib.Omega.{arith}
 use Rattle.rules.specs.Names.{isLocal}

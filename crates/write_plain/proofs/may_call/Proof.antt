@@ -1,4 +1,4 @@
--- `plain::may_call` meets its contract. Assumes nothing.
+-- `write_plain::may_call` meets its contract. Assumes nothing.
 use mathlib.Core.Path.{sym, _∙_}
 use borrow.Author.Tests.{not-true, not-false, le-ltb, lt-ltb, eq-eqb, ne-eqb}
 use borrow.Author.Needs.{needs}

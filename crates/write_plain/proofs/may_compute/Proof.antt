@@ -1,3 +1,4 @@
+-- `write_plain::may_compute` meets its contract. Assumes nothing.
 use mathlib.Core.Path.{sym, ap, _∙_}
 use borrow.Author.Tests.{not-true, not-false}
 use Rattle.rules.specs.Base.{is}

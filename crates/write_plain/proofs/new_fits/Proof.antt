@@ -1,4 +1,4 @@
--- `plain::new_fits` meets its contract. Assumes nothing.
+-- `write_plain::new_fits` meets its contract. Assumes nothing.
 use mathlib.Core.Path.{sym, ap, _∙_}
 use borrow.Author.Tests.{not-true, not-false, le-ltb, lt-ltb}
 use Rattle.rules.specs.Text.{reserved}

@@ -1,4 +1,4 @@
--- `plain::new_row` meets its contract. Assumes nothing.
+-- `write_plain::new_row` meets its contract. Assumes nothing.
 use Rattle.write_plain.proofs.Tries.{new-tried}
 use borrow.Author.Needs.{needs}
 use Rattle.write_plain.proofs.new_row.Statement.{statement}

@@ -1,4 +1,4 @@
--- `plain::plain_row` meets its contract. Assumes nothing.
+-- `write_plain::plain_row` meets its contract. Assumes nothing.
 use borrow.Author.Tests.{ne-eqb}
 use Rattle.rules.specs.Grammar.{statementNumber, isComputing}
 use Rattle.write_plain.specs.Plain.{plainRow, plainGood}

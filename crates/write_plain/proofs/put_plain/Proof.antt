@@ -1,4 +1,4 @@
--- `plain::put_plain` meets its contract. Assumes nothing.
+-- `write_plain::put_plain` meets its contract. Assumes nothing.
 use mathlib.Core.Path.{refl, sym, subst, ap, _∙_}
 use Rattle.write_rows.specs.Puts.{putRow, RowBytes}
 use Rattle.write_plain.proofs.Puts.{plain-bytes, row-is, row-none, plain-done, plain-bad}

@@ -1,4 +1,4 @@
--- `plain::return_row` meets its contract. Assumes nothing.
+-- `write_plain::return_row` meets its contract. Assumes nothing.
 use borrow.Author.Tests.{le-ltb, lt-ltb}
 use Rattle.rules.specs.Base.{bytes}
 use Rattle.write_plain.specs.Plain.{RowTried}

@@ -1,4 +1,4 @@
--- `plain::row_if` meets its contract. Assumes nothing.
+-- `write_plain::row_if` meets its contract. Assumes nothing.
 use mathlib.Core.Path.{refl}
 use Rattle.write_plain.specs.Plain.{RowTried}
 use Rattle.write_plain.proofs.row_if.Statement.{statement}

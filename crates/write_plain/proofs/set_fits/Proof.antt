@@ -1,4 +1,4 @@
--- `plain::set_fits` meets its contract. Assumes nothing.
+-- `write_plain::set_fits` meets its contract. Assumes nothing.
 use borrow.Author.Tests.{not-true, not-false, le-ltb, lt-ltb}
 use borrow.Author.Needs.{needs}
 use Rattle.write_plain.proofs.set_fits.Statement.{statement}

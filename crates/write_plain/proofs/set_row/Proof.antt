@@ -1,4 +1,4 @@
--- `plain::set_row` meets its contract. Assumes nothing.
+-- `write_plain::set_row` meets its contract. Assumes nothing.
 use Rattle.write_plain.proofs.Tries.{set-tried}
 use borrow.Author.Needs.{needs}
 use Rattle.write_plain.proofs.set_row.Statement.{statement}

@@ -1,4 +1,4 @@
--- `plain::variable_at` meets its contract. Assumes nothing.
+-- `write_plain::variable_at` meets its contract. Assumes nothing.
 use mathlib.Core.Path.{subst}
 use Rattle.read_scopes.specs.Meanings.{variablesIn}
 use Rattle.read_lookups.specs.LookUps.{Looked}

@@ -1,3 +1,4 @@
+-- `write_rows::put_four` meets its contract. Assumes nothing.
 use lib.ListN.{length-set}
 use native.Mathlib.Omega.{arith}
 use mathlib.Core.Path.{_≡_}

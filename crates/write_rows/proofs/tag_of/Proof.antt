@@ -1,3 +1,4 @@
+-- `write_rows::tag_of` meets its contract. Assumes nothing.
 use native.Mathlib.Omega.{arith}
 use Rattle.write_rows.specs.Puts.{tagOf}
 use borrow.Author.Needs.{needs}

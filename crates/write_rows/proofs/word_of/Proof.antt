@@ -1,3 +1,4 @@
+-- `write_rows::word_of` meets its contract. Assumes nothing.
 use native.Mathlib.Omega.{arith}
 use Rattle.write_rows.specs.Puts.{wordOf, SideBytes}
 use borrow.Author.Needs.{needs}

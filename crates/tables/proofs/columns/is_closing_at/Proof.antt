@@ -1,3 +1,4 @@
+-- `tables::columns::is_closing_at` meets its contract. Assumes nothing.
 use mathlib.Core.Path.{ap, _∙_}
 use borrow.Author.Needs.{needs}
 use Rattle.rules.specs.Grammar.{isClosingNumber}

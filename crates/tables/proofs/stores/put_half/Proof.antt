@@ -1,3 +1,4 @@
+-- `tables::stores::put_half` meets its contract. Assumes nothing.
 use lib.ListN.{length-set}
 use native.Mathlib.Omega.{arith}
 use Rattle.tables.specs.Stores.{putHalf}

@@ -1,0 +1,40 @@
+// The numbers of document 01's table and document 02's, as the calls return them.
+
+pub struct Number {}
+
+impl Number {
+    // A call returns number × FACTOR + line.
+    pub const FACTOR: u32 = 65536;
+
+    pub const WRONG_LENGTH: u32 = 1;
+
+    pub const TEXT_TOO_LONG: u32 = 2;
+
+    pub const BAD_BYTE: u32 = 3;
+
+    pub const MALFORMED: u32 = 4;
+
+    pub const LIMIT_PASSED: u32 = 5;
+
+    pub const UNDECLARED: u32 = 6;
+
+    pub const WRONG_TYPE: u32 = 7;
+
+    pub const TEXT_ENDS: u32 = 8;
+
+    pub const WRONG_TARGET: u32 = 9;
+
+    pub const UNFRAMED: u32 = 10;
+
+    pub const UNRESOLVED: u32 = 11;
+
+    pub const NO_PERMISSION: u32 = 12;
+
+    pub const NOT_SHOWN: u32 = 13;
+
+    pub const STATE_FULL: u32 = 14;
+
+    pub const UNBOUNDED: u32 = 15;
+
+    pub const BOUND_PASSED: u32 = 16;
+}
