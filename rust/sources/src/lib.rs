@@ -10,22 +10,26 @@ use std::path::{Path, PathBuf};
 
 mod declared;
 mod documents;
+mod functions;
 mod imports;
 mod index;
 mod named;
 mod papers;
 mod quotes;
+mod shape;
 mod unused;
 
 pub use declared::{declarations, Declaration};
 pub use documents::{
     crates_not_told, documents, files_told, listed_crates, proved_crates, wrong_counts, Document,
 };
+pub use functions::{functions, Clause, Function};
 pub use imports::{imports, Import};
 pub use index::Index;
 pub use named::Names;
 pub use papers::{papers, plain, Paper, Sentence};
 pub use quotes::{quotes, Quote};
+pub use shape::{long_clauses, long_files, long_functions};
 pub use unused::{unused_declarations, unused_imports, File};
 
 /// Names that open all others of their file, so that standing there is no use.
