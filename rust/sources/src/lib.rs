@@ -10,6 +10,7 @@ use std::path::{Path, PathBuf};
 
 mod declared;
 mod documents;
+mod edits;
 mod functions;
 mod imports;
 mod index;
@@ -24,6 +25,7 @@ pub use declared::{declarations, Declaration};
 pub use documents::{
     crates_not_told, documents, files_told, listed_crates, proved_crates, wrong_counts, Document,
 };
+pub use edits::{edit_fault, edits};
 pub use functions::{functions, Clause, Function};
 pub use imports::{imports, Import};
 pub use index::Index;
