@@ -1,69 +1,98 @@
 //! The library beside the model: cases, examples, a million generated texts.
 
+#[path = "support/cases.rs"]
+mod cases;
 #[path = "support/compare.rs"]
 mod compare;
 
+use cases::Case;
 use compare::{compare_seeds, run_of, trial_of, Call, Comparer, Runs, BOUND, CHECK};
 use nuyardi::calls::raw;
 use nuyardi::limits::{BOUNDS_BYTES, RESULTS_BYTES, TEXT_BYTES, WORK_BYTES};
 use std::path::Path;
 
-fn hex(field: &str) -> Vec<u8> {
-    if field == "-" {
-        return Vec::new();
-    }
-    let digit = |at: usize| u8::from_str_radix(&field[at..at + 2], 16).expect("hex");
-    (0..field.len()).step_by(2).map(digit).collect()
-}
-
-/// The text and the call of a case; none if it is of the program.
-fn case(line: &str) -> Option<(Vec<u8>, Call)> {
-    let (left, _) = line.split_once(" = ").expect("an answer");
-    let fields: Vec<&str> = left.split(' ').collect();
-    let mut name = fields[0].split('/');
-    let call = name.next();
-    let mut length = |usual: usize| name.next().map_or(usual, |n| n.parse().expect("a length"));
+/// The call of a case; none if it is of the program.
+fn call_of(case: &Case) -> Option<Call> {
+    let mut lengths = case.lengths.iter().copied();
+    let mut length = |usual| lengths.next().unwrap_or(usual);
     let work = length(WORK_BYTES);
-    let call = match call {
-        Some("check") => Call::Check { work },
-        Some("bound") => Call::Bound {
+    match (case.call.as_str(), case.steps) {
+        ("check", None) => Some(Call::Check { work }),
+        ("bound", None) => Some(Call::Bound {
             work,
             bounds: length(BOUNDS_BYTES),
-        },
-        Some(name @ ("run" | "trial")) => Call::Run {
-            by: if name == "run" {
-                Runs::Run
-            } else {
-                Runs::Trial
+        }),
+        (name @ ("run" | "trial"), Some(steps)) => Some(Call::Run {
+            by: match name {
+                "run" => Runs::Run,
+                _ => Runs::Trial,
             },
             work,
-            steps: fields[1].parse().expect("steps"),
+            steps,
             results: length(RESULTS_BYTES),
-        },
-        Some("program") => return None,
-        _ => panic!("no call: {line}"),
-    };
-    Some((hex(fields[fields.len() - 1]), call))
+        }),
+        _ => None,
+    }
 }
 
-/// Every case of the model's files. The model's tests hold it to the answers
-/// that stand there.
+/// Every line of the model's files, but for those of the program, which has a
+/// test of its own (`program.rs`). The model's tests hold it to the answers that
+/// stand there.
 #[test]
 fn every_case() {
     let mut comparer = Comparer::new(1);
-    let mut cases = 0;
-    let folder = Path::new(env!("CARGO_MANIFEST_DIR")).join("../model/tests/cases");
-    for entry in std::fs::read_dir(folder).expect("the cases") {
-        let file = std::fs::read_to_string(entry.expect("an entry").path()).expect("a file");
-        let lines = file.lines().filter(|line| !line.starts_with('#'));
-        for (text, call) in lines.filter_map(case) {
-            cases += 1;
-            if let Err(difference) = comparer.call(&text, call) {
+    for file in cases::files() {
+        let (mut compared, mut programs) = (0, 0);
+        for case in file.cases() {
+            let Some(call) = call_of(&case) else {
+                programs += usize::from(case.is_program());
+                continue;
+            };
+            compared += 1;
+            if let Err(difference) = comparer.call(&case.text, call) {
                 panic!("{difference}");
             }
         }
+        let (name, lines) = (&file.name, file.lines.len());
+        assert_eq!(
+            compared + programs,
+            lines,
+            "not every line of {name} is compared: does it name a call?"
+        );
+        println!("{name}: {compared} compared");
     }
-    assert!(cases >= 533 + 159, "only {cases} cases are read");
+}
+
+#[test]
+fn lines_that_are_no_case() {
+    let call = |line: &str| Case::of(line).as_ref().and_then(call_of);
+    for line in [
+        "check 6d = 0 0",
+        "check/9 - = 1 0",
+        "run/9/8 7 6d = 1 0",
+        "trial 7 6d = 0",
+        "bound/9/8 6d = 1 0",
+    ] {
+        assert!(call(line).is_some(), "{line}");
+    }
+    for line in [
+        "check 6d",
+        "check = 0 0",
+        "check 6 = 0 0",
+        "check/x 6d = 0 0",
+        "check 7 6d = 0 0",
+        "run 6d = 0",
+        "run x 6d = 0",
+        "chek 6d = 0 0",
+    ] {
+        assert!(call(line).is_none(), "{line}");
+        assert!(
+            !Case::of(line).is_some_and(|case| case.is_program()),
+            "{line}"
+        );
+    }
+    let test = "include_str!(\"cases/a.tsv\"), include_str!(\"cases/b.tsv\")";
+    assert_eq!(Vec::from_iter(cases::taken_in(test)), ["a.tsv", "b.tsv"]);
 }
 
 #[test]

@@ -4,6 +4,9 @@
 //! finds it unchanged. The environment variable STATION_SCRIPT names another file
 //! instead.
 
+#[path = "support/cases.rs"]
+mod cases;
+
 use std::io::Write;
 use std::path::{Path, PathBuf};
 use std::process::{Command, Stdio};
@@ -98,6 +101,26 @@ fn examples_of_the_document() {
         assert_eq!(printed(program, &text), expected.as_bytes(), "{shown}");
         assert_eq!(model::printed(&text), expected.as_bytes(), "{shown}");
     }
+}
+
+/// Every case of the program in the model's files.
+#[test]
+fn every_case() {
+    let program = program();
+    let mut count = 0;
+    for file in cases::files() {
+        for case in file.cases().filter(|case| case.is_program()) {
+            count += 1;
+            let shown = case.text.escape_ascii();
+            assert_eq!(
+                printed(program, &case.text),
+                model::printed(&case.text),
+                "{shown}"
+            );
+        }
+    }
+    println!("{count} cases");
+    assert!(count > 0, "no file has a case of the program");
 }
 
 #[test]

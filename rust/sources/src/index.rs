@@ -130,9 +130,9 @@ impl Index {
                     }
                 }
                 if !known {
-                    let (path, line) = (file.source.path.display(), quote.line + 1);
+                    let place = file.source.line(quote.line);
                     self.faults
-                        .push(format!("{path}:{line}: no paper has \"{}\"", quote.text));
+                        .push(format!("{place}: no paper has \"{}\"", quote.text));
                 }
             }
         }

@@ -1,24 +1,39 @@
 //! The sources of the proved crates as text: what each file declares, imports and names.
 //!
-//! The tests of this crate hold the sources to what no prover asks: nothing stands there that nobody uses, and every line can
-//! be read. Names go by module: a name counts as used by another file only if that file imports it.
+//! The tests of this crate hold the sources to what no prover asks: nothing stands there that nobody uses, every line can be
+//! read, no file, function or contract is long, numbers have names, each must-fail edit has its place, and the documents name
+//! what there is. Names go by module: a name counts as used by another file only if that file imports it.
 
 use std::collections::{BTreeMap, BTreeSet};
 use std::fs;
 use std::path::{Path, PathBuf};
 
 mod declared;
+mod documents;
+mod edits;
+mod functions;
 mod imports;
 mod index;
+mod named;
+mod numbers;
 mod papers;
 mod quotes;
+mod shape;
 mod unused;
 
 pub use declared::{declarations, Declaration};
+pub use documents::{
+    crates_not_told, documents, files_told, listed_crates, proved_crates, wrong_counts, Document,
+};
+pub use edits::{edit_fault, edits};
+pub use functions::{functions, Clause, Function};
 pub use imports::{imports, Import};
 pub use index::Index;
+pub use named::Names;
+pub use numbers::bare_numbers;
 pub use papers::{papers, plain, Paper, Sentence};
 pub use quotes::{quotes, Quote};
+pub use shape::{long_clauses, long_files, long_functions};
 pub use unused::{unused_declarations, unused_imports, File};
 
 /// Names that open all others of their file, so that standing there is no use.
@@ -29,7 +44,6 @@ const SEQUENCING: [&str; 2] = ["_>>=_", "_>>_"];
 
 /// One file below `crates/`.
 pub struct Source {
-    pub path: PathBuf,
     pub crate_name: String,
     /// The path within the crate, as `specs/Base.antt`.
     pub place: String,
@@ -37,6 +51,24 @@ pub struct Source {
 }
 
 impl Source {
+    pub fn of(crate_name: &str, place: &str, text: &str) -> Source {
+        Source {
+            crate_name: crate_name.to_string(),
+            place: place.to_string(),
+            text: text.to_string(),
+        }
+    }
+
+    /// Its path from the repository's root.
+    pub fn path(&self) -> String {
+        format!("crates/{}/{}", self.crate_name, self.place)
+    }
+
+    /// One of its lines, counted from 0, as messages name it.
+    pub fn line(&self, number: usize) -> String {
+        format!("{}:{}", self.path(), number + 1)
+    }
+
     /// The module that other files import: `specs.Base`, `proofs.Lists`.
     pub fn module(&self) -> Option<String> {
         let stem = self.place.strip_suffix(".antt")?;
@@ -57,13 +89,18 @@ pub fn root() -> PathBuf {
     Path::new(env!("CARGO_MANIFEST_DIR")).join("../..")
 }
 
-fn files(folder: &Path, found: &mut Vec<PathBuf>) {
+/// What stands in a folder, by name.
+fn entries(folder: &Path) -> Vec<PathBuf> {
     let mut entries: Vec<_> = fs::read_dir(folder)
         .unwrap_or_else(|error| panic!("{}: {error}", folder.display()))
         .map(|entry| entry.expect("an entry").path())
         .collect();
     entries.sort();
-    for path in entries {
+    entries
+}
+
+fn files(folder: &Path, found: &mut Vec<PathBuf>) {
+    for path in entries(folder) {
         if path.is_dir() {
             files(&path, found);
         } else {
@@ -72,30 +109,34 @@ fn files(folder: &Path, found: &mut Vec<PathBuf>) {
     }
 }
 
-/// Every source below `crates/`.
-pub fn sources() -> Vec<Source> {
+/// Every file below `crates/`: its crate, its place there and its text.
+fn crate_files(wanted: impl Fn(&Path) -> bool) -> Vec<Source> {
     let top = root().join("crates");
     let mut found = Vec::new();
     files(&top, &mut found);
-    found
-        .into_iter()
-        .filter(|path| {
-            path.extension()
-                .is_some_and(|end| end == "antt" || end == "rt")
-        })
-        .map(|path| {
-            let inner = path.strip_prefix(&top).expect("below crates/");
-            let inner = inner.to_str().expect("a plain name").to_string();
-            let (crate_name, place) = inner.split_once('/').expect("a crate's file");
-            let text = fs::read_to_string(&path).expect("a readable file");
-            Source {
-                crate_name: crate_name.to_string(),
-                place: place.to_string(),
-                text,
-                path,
-            }
-        })
-        .collect()
+    found.retain(|path| wanted(path));
+    let read = |path: &PathBuf| {
+        let inner = path.strip_prefix(&top).expect("below crates/");
+        let inner = inner.to_str().expect("a plain name");
+        let (crate_name, place) = inner.split_once('/').expect("a crate's file");
+        let text = fs::read_to_string(path).expect("a readable file");
+        Source::of(crate_name, place, &text)
+    };
+    found.iter().map(read).collect()
+}
+
+/// Every source below `crates/`.
+pub fn sources() -> Vec<Source> {
+    crate_files(|path| {
+        path.extension()
+            .is_some_and(|end| end == "antt" || end == "rt")
+    })
+}
+
+/// Fails with what is to be done, and where.
+#[track_caller]
+pub fn expect_none(faults: &[String], to_do: &str) {
+    assert!(faults.is_empty(), "{to_do}\n{}", faults.join("\n"));
 }
 
 /// A line without its comment.

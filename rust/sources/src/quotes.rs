@@ -78,11 +78,8 @@ pub fn quotes(source: &Source, declared: &[Declaration]) -> Result<Vec<Quote>, S
     for comment in comments(source) {
         let parts: Vec<&str> = comment.text.split('"').collect();
         if parts.len().is_multiple_of(2) {
-            return Err(format!(
-                "{}:{}: a quote without its end",
-                source.path.display(),
-                comment.first + 1
-            ));
+            let place = source.line(comment.first);
+            return Err(format!("{place}: a quote without its end"));
         }
         for text in parts.iter().skip(1).step_by(2) {
             found.push(Quote {

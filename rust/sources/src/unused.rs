@@ -54,11 +54,7 @@ pub fn unused_declarations(files: &[File], documents: &str) -> Vec<String> {
                 one.public && others.into_iter().any(|other| other.takes(name, file))
             };
             if !free && !here && !elsewhere() {
-                unused.push(format!(
-                    "{}:{}: {name}",
-                    file.source.path.display(),
-                    one.first + 1
-                ));
+                unused.push(format!("{}: {name}", file.source.line(one.first)));
             }
         }
     }
@@ -74,11 +70,8 @@ pub fn unused_imports(files: &[File]) -> Vec<String> {
             for name in taken.chain(&import.alias) {
                 let brackets = words(name).next().is_none() && file.source.text.contains(name);
                 if !brackets && !file.uses.names(name, &[], None) {
-                    unused.push(format!(
-                        "{}: {name} of {}",
-                        file.source.path.display(),
-                        import.module
-                    ));
+                    let path = file.source.path();
+                    unused.push(format!("{path}: {name} of {}", import.module));
                 }
             }
         }

@@ -1,7 +1,7 @@
 //! The index from the papers' sentences to definitions, laws and code, made of what the comments quote.
 
 use sources::{papers, root, sources, Index, Paper, Source};
-use std::path::{Path, PathBuf};
+use std::path::Path;
 
 /// Every quote stands in a paper, and the index is made: its page tells which sentences nothing quotes.
 #[test]
@@ -28,12 +28,7 @@ fn every_quote_stands_in_a_paper() {
 }
 
 fn made(place: &str, text: &str) -> Source {
-    Source {
-        path: PathBuf::from(place),
-        crate_name: "one".to_string(),
-        place: place.to_string(),
-        text: text.to_string(),
-    }
+    Source::of("one", place, text)
 }
 
 const PAPER: &str = "# Paper\n\nA line is long. The rest `is`, as told (here), short.\n\n    an example. Not a sentence.\n\n\
@@ -101,8 +96,8 @@ fn quotes_lead_to_laws_and_code() {
     assert_eq!(
         index.faults,
         [
-            "src/more.rt:1: a quote without its end",
-            "specs/Texts.antt:11: no paper has \"A line is short.\"",
+            "crates/one/src/more.rt:1: a quote without its end",
+            "crates/one/specs/Texts.antt:11: no paper has \"A line is short.\"",
         ]
     );
 }

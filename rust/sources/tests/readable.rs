@@ -1,6 +1,6 @@
 //! Every file says what it is for, and every line can be read.
 
-use sources::sources;
+use sources::{expect_none, sources};
 
 /// The most characters of a line; a list of names to unfold stands on one line, however long.
 const MOST: usize = 400;
@@ -17,16 +17,11 @@ fn no_line_is_too_long() {
                 .filter_map(|(number, line)| {
                     let length = line.chars().count();
                     let names = line.trim_start().starts_with("unfolding ");
-                    (length > MOST && !names)
-                        .then(|| format!("{}:{}: {length}", source.path.display(), number + 1))
+                    (length > MOST && !names).then(|| format!("{}: {length}", source.line(number)))
                 })
         })
         .collect();
-    assert!(
-        long.is_empty(),
-        "over {MOST} characters\n{}",
-        long.join("\n")
-    );
+    expect_none(&long, &format!("over {MOST} characters: break the line"));
 }
 
 #[test]
@@ -38,11 +33,7 @@ fn every_file_says_what_it_is_for() {
             let mark = if source.is_code() { "//" } else { "--" };
             !source.text.trim().is_empty() && !source.text.starts_with(mark)
         })
-        .map(|source| source.path.display().to_string())
+        .map(|source| source.path())
         .collect();
-    assert!(
-        silent.is_empty(),
-        "no comment at the head of\n{}",
-        silent.join("\n")
-    );
+    expect_none(&silent, "no comment at the head: say what the file is for");
 }

@@ -1,8 +1,6 @@
 //! Nothing in the proved crates is there for nobody.
 
-use sources::{root, sources, unused_declarations, unused_imports, File, Source};
-use std::fs;
-use std::path::PathBuf;
+use sources::{expect_none, sources, unused_declarations, unused_imports, Document, File, Source};
 
 fn files() -> Vec<File> {
     sources().into_iter().map(File::of).collect()
@@ -12,33 +10,24 @@ fn files() -> Vec<File> {
 fn documents() -> String {
     ["ASSURANCE.md", "ARCHITECTURE.md", "DECISIONS.md"]
         .iter()
-        .map(|name| fs::read_to_string(root().join("docs").join(name)).expect("a document"))
+        .map(|name| Document::of(&format!("docs/{name}")).text)
         .collect()
 }
 
 fn made(crate_name: &str, place: &str, text: &str) -> File {
-    File::of(Source {
-        path: PathBuf::from(format!("{crate_name}/{place}")),
-        crate_name: crate_name.to_string(),
-        place: place.to_string(),
-        text: text.to_string(),
-    })
+    File::of(Source::of(crate_name, place, text))
 }
 
 #[test]
 fn every_law_definition_and_function_is_used() {
     let unused = unused_declarations(&files(), &documents());
-    assert!(unused.is_empty(), "nobody uses\n{}", unused.join("\n"));
+    expect_none(&unused, "nobody uses: remove");
 }
 
 #[test]
 fn every_import_is_used() {
     let unused = unused_imports(&files());
-    assert!(
-        unused.is_empty(),
-        "imported and not used\n{}",
-        unused.join("\n")
-    );
+    expect_none(&unused, "imported and not used: remove the name");
 }
 
 #[test]
@@ -51,11 +40,11 @@ fn a_law_that_only_cites_itself_is_found() {
     ];
     assert_eq!(
         unused_declarations(&files, "`done`"),
-        ["one/proofs/Laws.antt:5: lost"]
+        ["crates/one/proofs/Laws.antt:5: lost"]
     );
     assert_eq!(
         unused_imports(&files),
-        ["two/proofs/More.antt: lost of proofs.Laws"]
+        ["crates/two/proofs/More.antt: lost of proofs.Laws"]
     );
 }
 
@@ -69,7 +58,7 @@ fn a_name_of_another_module_is_no_use() {
     ];
     assert_eq!(
         unused_declarations(&files, "`done`"),
-        ["one/proofs/Laws.antt:2: same"]
+        ["crates/one/proofs/Laws.antt:2: same"]
     );
 }
 
@@ -78,5 +67,8 @@ fn a_function_that_nobody_calls_is_found() {
     let code =
         "// code\npub fn used(x: u8) -> u8 {\n    x\n}\n\nfn left(x: u8) -> u8 {\n    used(x)\n}\n";
     let files = [made("one", "src/lib.rt", code)];
-    assert_eq!(unused_declarations(&files, ""), ["one/src/lib.rt:6: left"]);
+    assert_eq!(
+        unused_declarations(&files, ""),
+        ["crates/one/src/lib.rt:6: left"]
+    );
 }
