@@ -31,7 +31,7 @@
 extern "C" {
 #endif
 
-#define STATION_VERSION "0.1.0"
+#define STATION_VERSION "0.7.0"
 
 /* Lengths of the areas, in bytes: each call takes these and no other. */
 #define STATION_WORK_BYTES 65536
@@ -41,6 +41,11 @@ extern "C" {
 #define STATION_TEXT_BYTES 32768
 /* Values in the results area: main's variables in the order of their lines. */
 #define STATION_VALUES 12
+/* What a run has room for: objects, the fields of them all, and frames, main's
+ * counted. */
+#define STATION_OBJECTS 256
+#define STATION_FIELDS 1024
+#define STATION_FRAMES 64
 /* The highest bound that is given. */
 #define STATION_BOUND 1000000
 /* More stack than any call takes, in bytes. */
@@ -60,7 +65,7 @@ enum station_number {
     STATION_NAME = 6,               /* name undeclared, not allowed, reserved, declared twice */
     STATION_TYPE = 7,               /* wrong type */
     STATION_UNFINISHED = 8,         /* text ends before main's `end` */
-    STATION_ASSIGNED = 9,           /* variable that may not be assigned */
+    STATION_ASSIGNED = 9,           /* variable that may not be assigned; `call x` with x as y or z */
     STATION_UNFRAMED = 10,          /* path read before its `acc` */
     STATION_UNRESOLVED = 11,        /* path that does not resolve */
     STATION_NO_PERMISSION = 12,     /* permission not shown */
@@ -69,8 +74,8 @@ enum station_number {
     STATION_UNBOUNDED = 15,         /* `loop`, or `call` that can lead back to its own method */
     STATION_BOUND_PASSED = 16,      /* bound above STATION_BOUND */
     STATION_OUT_OF_STEPS = 21,      /* allowed steps taken */
-    STATION_HEAP_FULL = 22,         /* heap full */
-    STATION_FRAMES_FULL = 23,       /* frames full */
+    STATION_HEAP_FULL = 22,         /* more than STATION_OBJECTS or STATION_FIELDS */
+    STATION_FRAMES_FULL = 23,       /* more than STATION_FRAMES */
     STATION_PERMISSION_MISSING = 24, /* permission missing */
     STATION_NULL_FOLLOWED = 25,     /* null followed */
     STATION_FORMULA_FALSE = 26,     /* formula false */
@@ -83,7 +88,8 @@ uint32_t station_check(const uint8_t *text, size_t text_len,
                        uint8_t *work, size_t work_len);
 
 /* Checks the text, and if it is accepted runs main for at most so many steps.
- * Returns what station_check does, 1 to 14, or 0, 21, 22, 23 or 27 with the line:
+ * Returns number 1 if the work area or the results area has the wrong length; 2 to
+ * 14 with the line, as station_check does; or 0, 21, 22, 23 or 27 with the line:
  * never 24, 25 or 26, whatever the text. The results area then holds the steps
  * taken (unsigned) and the values (signed; an object is its number from 1, null is
  * 0), 4 bytes each, low byte first; all zero for the numbers 2 to 14. */
@@ -114,7 +120,9 @@ uint32_t station_trial(const uint8_t *text, size_t text_len,
  *   16                the steps are above STATION_BOUND      all zero
  *
  * No run takes more steps, or has more frames at a time; station_run with so many
- * steps allowed never returns 21. A text with 15 or 16 is accepted all the same. */
+ * steps allowed never returns 21. Frames are counted by the lines of the text and
+ * can be STATION_FRAMES + 1: a run that would open so many stops with 23. A text
+ * with 15 or 16 is accepted all the same. */
 uint32_t station_bound(const uint8_t *text, size_t text_len,
                        uint8_t *work, size_t work_len,
                        uint8_t *bounds, size_t bounds_len);

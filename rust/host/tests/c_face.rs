@@ -35,6 +35,9 @@ fn sizes() {
         ("BOUNDS_BYTES", limits::BOUNDS_BYTES),
         ("VALUES", limits::VALUES),
         ("BOUND", limits::BOUND),
+        ("OBJECTS", limits::OBJECTS),
+        ("FIELDS", limits::FIELDS),
+        ("FRAMES", limits::FRAMES),
         ("STACK_BYTES", STACK_BYTES),
     ]);
     assert_eq!(sizes, machine);

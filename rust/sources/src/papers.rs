@@ -1,5 +1,6 @@
 //! The papers that the definitions render, sentence by sentence.
 
+use std::collections::BTreeSet;
 use std::fs;
 use std::ops::Range;
 use std::path::Path;
@@ -9,6 +10,8 @@ pub struct Sentence {
     /// The heading that it stands under.
     pub section: String,
     pub text: String,
+    /// Whether it counts already: a request's do from its landing on.
+    pub landed: bool,
 }
 
 /// A paragraph, a point of a list or a row of a table: its text, and where in it the paper's sentences stand.
@@ -142,6 +145,7 @@ impl Paper {
                 paper.sentences.push(Sentence {
                     section: section.clone(),
                     text,
+                    landed: true,
                 });
                 start = end;
             }
@@ -164,6 +168,17 @@ impl Paper {
         paper
     }
 
+    /// With what has landed by the notes on changes.
+    pub fn landed(mut self, changes: &str) -> Paper {
+        let headings = changes.lines().filter_map(|line| line.strip_prefix("## "));
+        let landed: BTreeSet<usize> = headings.filter_map(request).collect();
+        for sentence in &mut self.sentences {
+            let request = request(&sentence.section);
+            sentence.landed = request.is_none_or(|number| landed.contains(&number));
+        }
+        self
+    }
+
     /// The sentences that a quote takes words from, if the paper has it: all of its words in one block, in their order, with
     /// anything where the quote has `..` or words of its own in square brackets. A heading has no sentence.
     pub fn quoted(&self, quote: &str) -> Option<Vec<usize>> {
@@ -184,8 +199,15 @@ impl Paper {
     }
 }
 
-/// Every paper below `docs/papers`, by its name.
+/// The number of a request, by its heading: 3 of `W3. More.` or `W3: more`.
+fn request(heading: &str) -> Option<usize> {
+    let rest = heading.strip_prefix('W')?;
+    rest.split_once(['.', ':'])?.0.parse().ok()
+}
+
+/// Every paper below `docs/papers`, by its name. A request has landed if the notes on changes have a section on it.
 pub fn papers(root: &Path) -> Vec<Paper> {
+    let changes = fs::read_to_string(root.join("docs/CHANGES.md")).expect("the notes on changes");
     let folder = root.join("docs/papers");
     let entries =
         fs::read_dir(&folder).unwrap_or_else(|error| panic!("{}: {error}", folder.display()));
@@ -200,7 +222,7 @@ pub fn papers(root: &Path) -> Vec<Paper> {
                 .file_name()
                 .and_then(|name| name.to_str())
                 .expect("a plain name");
-            Paper::of(name, &fs::read_to_string(path).expect("a readable paper"))
+            Paper::of(name, &fs::read_to_string(path).expect("a readable paper")).landed(&changes)
         })
         .collect()
 }

@@ -20,8 +20,9 @@ fn every_quote_stands_in_a_paper() {
         index.count
     );
     for found in [
-        "laws: `one-claim-returned` (station/proofs/Demand3.antt)",
-        "code: `station::check`",
+        "laws: `one-claim-returned` (crates/station/proofs/Demand3.antt:",
+        "code: `station::check` (crates/station/src/lib.rt:",
+        "quoted in proofs: `rows` (crates/rules/proofs/Examples.antt:",
     ] {
         assert!(page.contains(found), "{found}");
     }
@@ -84,8 +85,9 @@ fn quotes_lead_to_laws_and_code() {
     assert_eq!(index.unquoted(0), [2, 3]);
     let page = index.page();
     for row in [
-        "- A line is long.\n  - `isLong` (one/specs/Texts.antt); laws: `long-law` (one/proofs/Laws.antt); code: `one::f`\n",
-        "- The rest `is`, as told (here), short.\n  - `one::f`\n",
+        "- A line is long.\n  - `isLong` (crates/one/specs/Texts.antt:5); laws: `long-law` (crates/one/proofs/Laws.antt:4); \
+         code: `one::f` (crates/one/src/lib.rt:5)\n",
+        "- The rest `is`, as told (here), short.\n  - `one::f` (crates/one/src/lib.rt:5)\n",
     ] {
         assert!(page.contains(row), "{page}");
     }
@@ -99,5 +101,107 @@ fn quotes_lead_to_laws_and_code() {
             "crates/one/src/more.rt:1: a quote without its end",
             "crates/one/specs/Texts.antt:11: no paper has \"A line is short.\"",
         ]
+    );
+}
+
+/// The page's row of a definition with a quote, beside one other file.
+fn row_of(name: &str, other: Source) -> String {
+    let specs = format!("-- head\n\n-- \"A line is long.\"\npub {name} : A\n{name} = b\n");
+    let files = vec![made("specs/Texts.antt", &specs), other];
+    let page = Index::of(files, vec![Paper::of("paper", PAPER)]).page();
+    let (_, rest) = page.split_once("  - ").expect("a row");
+    rest.lines().next().expect("a line").to_string()
+}
+
+#[test]
+fn a_function_does_not_hide_the_definition_of_its_name() {
+    let code = "// code\nghost use Rattle.one.specs.Texts.{add};\n\nfn add(x: u8)\n    ensures { add }\n{\n    x\n}\n";
+    assert_eq!(
+        row_of("add", made("src/lib.rt", code)),
+        "`add` (crates/one/specs/Texts.antt:4); code: `one::add` (crates/one/src/lib.rt:4)"
+    );
+}
+
+/// Is a law with this import and statement about the definition `long`?
+fn is_about_long(import: &str, statement: &str) -> bool {
+    let law = format!(
+        "-- laws\nuse Rattle.one.specs.Texts{import}\n\npub law : {statement}\nlaw = refl\n"
+    );
+    row_of("long", made("proofs/Laws.antt", &law))
+        .contains("laws: `law` (crates/one/proofs/Laws.antt:4)")
+}
+
+#[test]
+fn a_module_taken_whole_gives_no_bare_name() {
+    for (statement, about) in [
+        ("Texts.long ≡ b", true),
+        ("f (Texts.long)", true),
+        ("long ≡ b", false),
+        ("r .long ≡ b", false),
+        ("Other.long ≡ b", false),
+    ] {
+        assert_eq!(is_about_long(" as Texts", statement), about, "{statement}");
+    }
+}
+
+#[test]
+fn a_part_or_a_variable_is_no_use() {
+    for (statement, about) in [
+        ("long ≡ b", true),
+        ("record { x = long } ≡ b", true),
+        ("r .long ≡ b", false),
+        ("(long : A) → b", false),
+        ("record { long = b; long = c } ≡ b", false),
+    ] {
+        assert_eq!(is_about_long(".{long}", statement), about, "{statement}");
+    }
+}
+
+#[test]
+fn quotes_of_proofs_stand_apart() {
+    let proofs = "-- laws\n\nrows : A\nrows =\n    -- \"A line is long.\"\n    b ∷\n    -- \"bad form\"\n    c\n";
+    let answer = "-- \"no paper has this\"\n";
+    let files = vec![
+        made("proofs/Laws.antt", proofs),
+        made("proofs/f/Proof.antt", answer),
+    ];
+    let index = Index::of(files, vec![Paper::of("paper", PAPER)]);
+    assert_eq!(index.faults, Vec::<String>::new());
+    assert_eq!(index.unquoted(0), [1, 3]);
+    let row = |line: usize| {
+        format!("\n  - quoted in proofs: `rows` (crates/one/proofs/Laws.antt:{line})\n")
+    };
+    let page = index.page();
+    for row in [
+        "- A line is long.".to_string() + &row(5),
+        "- | 4 | bad form. Very |".to_string() + &row(7),
+    ] {
+        assert!(page.contains(&row), "{page}");
+    }
+}
+
+#[test]
+fn requests_that_have_not_landed() {
+    let page = |changes: &str| {
+        let paper = Paper::of("paper", PAPER).landed(changes);
+        let index = Index::of(Vec::new(), vec![paper]);
+        (index.unquoted(0), index.page())
+    };
+    let line = "- (W1. More.) A sum is new: −1.\n";
+    let (unquoted, waiting) = page("## W2: other\n");
+    assert_eq!(unquoted, [0, 1, 2]);
+    assert!(
+        waiting.ends_with(&format!("### Not landed\n\n{line}")),
+        "{waiting}"
+    );
+    assert!(
+        waiting.contains("## paper: 0 of 3 sentences are quoted\n"),
+        "{waiting}"
+    );
+    let (unquoted, landed) = page("## W1: more\n");
+    assert_eq!(unquoted, [0, 1, 2, 3]);
+    assert!(
+        landed.ends_with(line) && !landed.contains("Not landed"),
+        "{landed}"
     );
 }
