@@ -19,7 +19,7 @@ use Rattle.read_words.specs.Words.{kindAt, kindOr0}
 use Rattle.read_words.proofs.Words.{kind-number}
 use Rattle.read_grammar.specs.declared.Row.{Row}
 use Rattle.read_grammar.specs.Rows as Rows
-use Rattle.read_grammar.specs.Rows.{whenTrue, kindNumbered, operandNumber, tailNumber, rowOf, rowNumber}
+use Rattle.read_grammar.specs.Rows.{whenTrue, kindNumbered, last-operand, operandNumber, tailNumber, rowOf, rowNumber}
 use Rattle.read_grammar.specs.Rows.{fitsOperand, fitsTail, formedKind}
 
 -- KINDS
@@ -93,7 +93,7 @@ unfolding Rows.opened Grammar.opened all stageNumber sameRow
 row-back k = row-same _ _ (every-kind (λ k. sameRow (unpacked (rowNumber (rowOf (form k)))) (rowOf (form k))) tt k)
 
 -- OPERANDS
-pub operand-bounds : (o : Operand) → (1 ≤ operandNumber o) × (operandNumber o < 16)
+pub operand-bounds : (o : Operand) → (1 ≤ operandNumber o) × (operandNumber o ≤ last-operand)
 unfolding operandNumber
 operand-bounds (new classes) = omega arith
 operand-bounds (new fields) = omega arith

@@ -22,6 +22,7 @@ use Rattle.read_words.proofs.Words.{acc-is}
 use Rattle.read_bytes.proofs.Search.{true-false, both-true, and-false}
 use Rattle.read_fields.specs.Cuts.{part, more, NextField}
 use Rattle.read_grammar.specs.Rows.{kindNumbered, operandNumber, operandsNumber}
+use Rattle.read_grammar.proofs.Rows.{operand-bounds}
 use Rattle.read_fields.specs.Spans.{conditionFirst}
 use Rattle.read_fields.proofs.Cuts.{no-more}
 use Rattle.read_fields.proofs.Heads.{condition-then}
@@ -49,20 +50,6 @@ pub both-passed : (a : Tests) → bothTests a allPassed ≡ a
 both-passed a = rw (and-true (a .known), and-true (a .typed), and-true (a .assignable))
 
 -- OPERANDS BY NUMBER
-pub operand-bounds : (o : Operand) → (1 ≤ operandNumber o) × (operandNumber o ≤ 11)
-unfolding operandNumber
-operand-bounds (new classes) = omega arith
-operand-bounds (new fields) = omega arith
-operand-bounds (new methods) = omega arith
-operand-bounds (new variables) = omega arith
-operand-bounds typeName = omega arith
-operand-bounds className = omega arith
-operand-bounds (variable read) = omega arith
-operand-bounds (variable assigned) = omega arith
-operand-bounds (member field) = omega arith
-operand-bounds (member method) = omega arith
-operand-bounds expression = omega arith
-
 numbered : ℕ → Operand
 numbered n =
     getD

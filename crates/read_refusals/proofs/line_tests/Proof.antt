@@ -6,7 +6,8 @@ use Rattle.rules.specs.Grammar.{form}
 use Rattle.read_grammar.specs.Rows.{kindNumbered, rowOf}
 use Rattle.read_tests.specs.Tests.{operandMeant}
 use Rattle.read_refusals.specs.Tests.{lineAfter, lineTests}
-use Rattle.read_refusals.proofs.Laws.{Rest, operand-bounds, same-operand, operands-start, operand-at, operands-done}
+use Rattle.read_grammar.proofs.Rows.{operand-bounds}
+use Rattle.read_refusals.proofs.Laws.{Rest, same-operand, operands-start, operand-at, operands-done}
 use Rattle.read_refusals.proofs.line_tests.Statement.{statement}
 use Rattle.read_refusals.proofs.line_tests.Tie as tie
 
