@@ -44,7 +44,13 @@ fn names_with<'a>(
 {
     let mut i = 0;
     while i < n {
-        if path_with(kept, out[i], b[State::VARIABLES + i], b[State::FIELDS + i], k) {
+        if path_with(
+            kept,
+            out[i],
+            b[State::VARIABLES + i],
+            b[State::FIELDS + i],
+            k,
+        ) {
             return true;
         }
         i += 1;

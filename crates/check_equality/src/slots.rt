@@ -102,7 +102,13 @@ fn new_label(l: u8, m: usize) -> u8
 }
 
 // The term in the slot m, the first that is free, where l is its label, or NO_LABEL.
-pub fn add_slot(key: &mut [u64; State::SLOTS], label: &mut [u8; State::BYTES], m: usize, k: u64, l: u8)
+pub fn add_slot(
+    key: &mut [u64; State::SLOTS],
+    label: &mut [u8; State::BYTES],
+    m: usize,
+    k: u64,
+    l: u8,
+)
     requires { ⌜ (left-sides ≤ m) × (m < slots) × Header (now key) × (length (now label) ≡ bytes) × Labelled (now key) (now label) m k l ⌝ }
     ensures { λ _. ⌜ Slotted (now (key .entry)) (now (label .entry)) m k (now (key .exit)) (now (label .exit)) ⌝ }
 {

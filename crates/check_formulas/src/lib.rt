@@ -5,6 +5,7 @@ use check_entailment::Shown;
 use check_equality::State;
 use check_equality::Term;
 use rules::Machine;
+use tables::AtomKind;
 use tables::Layout;
 ghost use mathlib.Core.Path.{_≡_};
 ghost use Prim.Native.Nat.{_+_, _≤_, _<_};
@@ -20,11 +21,7 @@ ghost use Rattle.check_state.specs.States.{Wf, stateOf};
 ghost use Rattle.check_entailment.specs.Answers.{atomOf, Adds};
 ghost use Rattle.check_formulas.specs.Formulas.{side-bytes, formula, accessAt, Shows};
 
-// An atom of the tables: its kind, the tags of its sides, and the sides.
-const ACC: usize = 0;
-
-const EQ: usize = 1;
-
+// An atom of the tables: its kind (`AtomKind`), the tags of its sides, and the sides.
 const LEFT_TAG: usize = 1;
 
 const RIGHT_TAG: usize = 2;
@@ -103,8 +100,8 @@ pub fn atom(w: &[u8], a: usize, y: u8, z: u8, x: u8) -> Atom
     ensures { λ r. ⌜ atomOf r ≡ substAtom (Rule.actual y z x) (atomAt (now (w .entry)) a) ⌝ }
 {
     match tables::atom_kind(w, a) {
-        ACC => access(w, a, y, z, x),
-        EQ => Atom::Eq(left(w, a, y, z, x), right(w, a, y, z, x)),
+        AtomKind::ACC => access(w, a, y, z, x),
+        AtomKind::EQ => Atom::Eq(left(w, a, y, z, x), right(w, a, y, z, x)),
         _ => Atom::Ne(left(w, a, y, z, x), right(w, a, y, z, x)),
     }
 }

@@ -38,7 +38,15 @@ fn keep_fact(
     if out {
         return n;
     }
-    check_equality::push_marked(key, b, marks, State::LEFT + 2 * n, c == State::UNEQUAL, l, r);
+    check_equality::push_marked(
+        key,
+        b,
+        marks,
+        State::LEFT + 2 * n,
+        c == State::UNEQUAL,
+        l,
+        r,
+    );
     b[State::RELATIONS + n] = c;
     n + 1
 }

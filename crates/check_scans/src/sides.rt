@@ -1,7 +1,7 @@
 // The sides of the facts, in the slots from LEFT to m, that are dropped: `gone` has the flag i where the side in slot i is. And those that
 // are renamed: the new key is stored where the old one stood.
-use check_equality::State;
 use crate::keys;
+use check_equality::State;
 use rules::Machine;
 ghost use mathlib.Core.Path.{_≡_};
 ghost use Prim.Native.Nat.{_≤_};
