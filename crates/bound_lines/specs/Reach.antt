@@ -57,4 +57,4 @@ abbrev pub Reaches : List ℕ → ℕ → Reached → Type 0
 Reaches w c q = (a : ℕ) → getD (q .has) a false ≡ eqb c a || reaches (blocksIn w) a c
 
 unfoldable pub begun : ℕ → Reached
-begun c = record { has = set (replicate 64 false) c true; order = set (replicate 64 0) 0 c; count = 1 }
+begun c = record { has = set (replicate most-methods false) c true; order = set (replicate most-methods 0) 0 c; count = 1 }

@@ -10,6 +10,9 @@ use Rattle.bound_walk.specs.declared.Visit.the-variants.{NotVisited, OnR
 use Rattle.bound_walk.specs.declared.Reckoned.{Reckoned}
 use Rattle.bound_walk.specs.declared.Looked.{Looked}
 use Rattle.bound_walk.specs.declared.Looked.the-variants.{On, Wait, Loop, End}
+use Rattle.bound_walk.specs.declared.Open.{Open}
+use Rattle.bound_walk.specs.declared.Found.{Found}
+use Rattle.bound_walk.specs.declared.Scanned.{Scanned}
 
 -- beyond the greatest bound only that it is passed
 abbrev pub cap : ℕ → ℕ
@@ -29,6 +32,10 @@ looked marks Lines.Plain sum frames = On (cap (sum + 1)) frames
 looked marks (Lines.Call c) sum frames = lookedCall (getD marks c fresh .visit) (getD marks c fresh .frames) c sum frames
 looked marks Lines.Loop sum frames = Loop
 looked marks Lines.End sum frames = End
+
+-- the counting of the block o stops at a row
+abbrev pub stoppedAt : Open → ℕ → ℕ → ℕ → Found → Scanned
+stoppedAt o row sum frames f = record { block = record { method = o .method; row = row; sum = sum; frames = frames }; found = f }
 
 -- no sum is greater than one past the greatest bound
 abbrev pub BoundFits : Visit → Type 0

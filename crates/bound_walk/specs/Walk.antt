@@ -168,7 +168,7 @@ unfoldable pub begun : List Reckoned → ℕ → ℕ → Route
 begun marks start first =
     record {
       marks = set marks start (record { visit = OnRoute; frames = 0 });
-      blocks = set (replicate 65 noOpen) 0 (record { method = start; row = first; sum = 0; frames = 0 });
+      blocks = set (replicate (suc most-methods) noOpen) 0 (record { method = start; row = first; sum = 0; frames = 0 });
       depth = 1;
       unbounded = false;
     }

@@ -12,7 +12,7 @@ ghost use Prim.Native.Nat.{suc, _≤_, _<_, max};
 ghost use Rattle.rules.specs.Limits.{most-bound};
 ghost use Rattle.tables.specs.Decode.{rowCount};
 ghost use Rattle.tables.specs.Tables.{Tables};
-ghost use Rattle.bound_walk.specs.Counting.{cap, lookedCall, looked, BoundFits, Counts, CallFits};
+ghost use Rattle.bound_walk.specs.Counting.{cap, lookedCall, looked, stoppedAt, BoundFits, Counts, CallFits};
 ghost use Rattle.bound_walk.specs.Walk.{Scans, SoundIn};
 
 // Beyond the greatest bound only that it is passed.
@@ -62,6 +62,21 @@ fn look(marks: [Reckoned; Machine::METHODS], line: Line, sum: u32, frames: u32) 
     }
 }
 
+// The counting of the block o stops at a row.
+fn stop_at(o: Open, row: usize, sum: u32, frames: u32, found: Found) -> Scanned
+    ensures { λ r. ⌜ r ≡ stoppedAt o row sum frames found ⌝ }
+{
+    Scanned {
+        block: Open {
+            method: o.method,
+            row: row,
+            sum: sum,
+            frames: frames,
+        },
+        found: found,
+    }
+}
+
 // On from a row of a block.
 pub fn scan(work: &[u8], marks: [Reckoned; Machine::METHODS], o: Open) -> Scanned
     requires { ⌜ Tables (now work) × (SoundIn (now work) marks × ((o .row < rowCount (now work)) × (o .sum ≤ suc most-bound))) ⌝ }
@@ -79,37 +94,13 @@ pub fn scan(work: &[u8], marks: [Reckoned; Machine::METHODS], o: Open) -> Scanne
                 row += 1;
             }
             Looked::Wait(c) => {
-                return Scanned {
-                    block: Open {
-                        method: o.method,
-                        row: row,
-                        sum: sum,
-                        frames: frames,
-                    },
-                    found: Found::Wait(c),
-                };
+                return stop_at(o, row, sum, frames, Found::Wait(c));
             }
             Looked::Loop => {
-                return Scanned {
-                    block: Open {
-                        method: o.method,
-                        row: row,
-                        sum: sum,
-                        frames: frames,
-                    },
-                    found: Found::Loop,
-                };
+                return stop_at(o, row, sum, frames, Found::Loop);
             }
             Looked::End => {
-                return Scanned {
-                    block: Open {
-                        method: o.method,
-                        row: row,
-                        sum: capped(sum + 1),
-                        frames: frames,
-                    },
-                    found: Found::End,
-                };
+                return stop_at(o, row, capped(sum + 1), frames, Found::End);
             }
         }
     }

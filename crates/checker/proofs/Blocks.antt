@@ -10,7 +10,7 @@ use borrow.Author.Tests.{ne-eqb}
 use types.Run.{OneOf, miss}
 use denote.Enum.Declared.{tagOf}
 use Rattle.rules.specs.Limits.{most-branches}
-use Rattle.rules.specs.Grammar.{statementNumber, isClosingNumber, GoesOn}
+use Rattle.rules.specs.Grammar.{Return, If, Loop, statementNumber, isClosingNumber, GoesOn}
 use Rattle.rules.specs.Answers as Answers
 use Rattle.rules.specs.Answers.{accepted, refused, then, malformed}
 use Rattle.rules.specs.Syntax.{Formula}
@@ -29,7 +29,7 @@ use Rattle.check_statements.proofs.Ruled.{Refused, adds-same, empty-add}
 use Rattle.check_statements.proofs.Conditions.{loop-states}
 use Rattle.checker.specs.declared.Out.{Out}
 use Rattle.checker.specs.declared.Verdict.{Verdict}
-use Rattle.checker.specs.Checked.{outcome, verdictOf, refusalOf, branches, conditionAt, relationAt, bodyStarts, loopLeaves, Nests, Stands, verdictFrom, Stepped, stoppedAt, onward, passedAt, Went, Ran, Passed, Returns, Ended, Turned, Closed, BodyClosed}
+use Rattle.checker.specs.Checked.{RowIs, outcome, verdictOf, refusalOf, branches, conditionAt, relationAt, bodyStarts, loopLeaves, Nests, Stands, verdictFrom, Stepped, stoppedAt, onward, passedAt, Went, Ran, Passed, Returns, Ended, Turned, Closed, BodyClosed}
 use Rattle.tables.proofs.Statements.{return-means, if-means, else-means, join-means, loop-means, again-means, end-means}
 use Rattle.checker.proofs.Stepping.{closer, step-verdict, step-nests, return-verdict, return-nests, after-return, if-verdict, if-nests, else-verdict, else-out, else-alone, else-nests, join-verdict, join-out, join-alone, join-nests, loop-verdict, loop-nests, again-verdict, again-out, again-alone, again-nests, end-inside, end-verdict, at-line}
 use Rattle.checker.proofs.Verdict.{the-type as verdict-type}
@@ -271,8 +271,9 @@ module _ (w : List ℕ) (T : Tables w) where
     closed-not-again i n key b f r er after l = closed-wrong end E t (inLoop (formulaAt w i) after) e n key b f r er
 
   -- `return`
-  module _ (i : ℕ) (h : i < rowCount w) (q : kindAt w i ≡ 12) (φ : Formula ℕ) (s : Rules.State) (key b : List ℕ) (f : Wf key b) (x : ℕ) (ex : x ≡ xAt w i) (k : Answer) (S : Says (returnRule x φ s) k) where
+  module _ (i : ℕ) (h : i < rowCount w) (q : RowIs w i Return) (φ : Formula ℕ) (s : Rules.State) (key b : List ℕ) (f : Wf key b) (x : ℕ) (ex : x ≡ xAt w i) (k : Answer) (S : Says (returnRule x φ s) k) where
     returned-verdict : (os : List Open) → verdictFrom w i (some s) φ os ≡ outcome k (lineAt w i) (verdictFrom w (i + 1) none φ os)
+    unfolding statementNumber
     returned-verdict os = return-verdict w i h (xAt w i) (return-means w (operandsAt w i) q) s φ k (rw (← ex) S) os
 
     pub return-stops : Refused k → (r : Out) → r ≡ stoppedAt k i → Returns w i φ s r key b
@@ -291,6 +292,7 @@ module _ (w : List ℕ) (T : Tables w) where
         }
 
     pub return-goes : k ≡ Answer.Done → Returns w i φ s (record { answer = Answer.Done; at = i + 1; returned = true }) key b
+    unfolding statementNumber
     return-goes e depth n =
         record {
           went =
@@ -370,8 +372,9 @@ module _ {w : List ℕ} {depth i a n : ℕ} (Q : Stands w depth i a n) where
       f (most-branches - depth) (subst (λ (m : ℕ). Nests w j m) c t)
 
   -- a branch
-  module _ (q : kindAt w i ≡ 15) where
+  module _ (q : RowIs w i If) where
     is-if : stmtAt w i ≡ ifAt w (firstAtomAt w i)
+    unfolding statementNumber
     is-if = if-means w (operandsAt w i) q
 
     if-opens : Opens
@@ -381,6 +384,7 @@ module _ {w : List ℕ} {depth i a n : ℕ} (Q : Stands w depth i a n) where
     if-deep = deeper if-opens
 
     pub if-inner : Stands w (depth - 1) (i + 1) a n
+    unfolding statementNumber
     if-inner = inner if-opens (λ e. omega (arith, e, q))
 
     module _ (s : Rules.State) {k : Answer} {key₁ b₁ key₂ b₂ : List ℕ} (P : Parts (branches w i s) k key₁ b₁ key₂ b₂) where
@@ -432,8 +436,9 @@ module _ {w : List ℕ} {depth i a n : ℕ} (Q : Stands w depth i a n) where
             }
 
   -- a loop
-  module _ (q : kindAt w i ≡ 21) where
+  module _ (q : RowIs w i Loop) where
     is-loop : stmtAt w i ≡ loopAt w (conditionAt w i) (formulaAt w i)
+    unfolding statementNumber
     is-loop = loop-means w (operandsAt w i) q
 
     loop-opens : Opens
@@ -443,6 +448,7 @@ module _ {w : List ℕ} {depth i a n : ℕ} (Q : Stands w depth i a n) where
     loop-deep = deeper loop-opens
 
     pub loop-inner : Stands w (depth - 1) (i + 1) a n
+    unfolding statementNumber
     loop-inner = inner loop-opens (λ e. omega (arith, e, q))
 
     module _ (s : Rules.State) {k : Answer} {key₁ b₁ : List ℕ} (A : Adds (bodyStarts w i s) k key₁ b₁) where

@@ -10,7 +10,7 @@ use lib.Dec.{T, eqb, leb, leb→le}
 use lib.ListN.{drop}
 use borrow.Author.Tests.{eqb-false}
 use Rattle.rules.specs.Base.{Try, ok, no, _>>=_}
-use Rattle.rules.specs.Grammar.{IsStatementNumber, statementNumber, isClosingNumber, isComputing, GoesOn}
+use Rattle.rules.specs.Grammar.{Loop, IsStatementNumber, statementNumber, isClosingNumber, isComputing, GoesOn}
 use Rattle.rules.specs.Answers as Answers
 use Rattle.rules.specs.Answers.{Refusal, accepted, refused, atLine, malformed}
 use Rattle.rules.specs.Syntax.{Formula, Rel, Stmt, Row, simple, return, if, else, join, loop, again, end, eq, ne}
@@ -28,7 +28,7 @@ use Rattle.check_entailment.specs.declared.Answer.{Answer}
 use Rattle.check_state.specs.States.{stateOf}
 use Rattle.check_entailment.specs.Answers.{answered, Adds}
 use Rattle.check_statements.specs.Statements.{Parts, Says}
-use Rattle.checker.specs.Checked.{outcome, Nests, verdictFrom, Stepped}
+use Rattle.checker.specs.Checked.{RowIs, outcome, Nests, verdictFrom, Stepped}
 
 -- `eq` by its number
 pub relation : (k : ℕ) → Links.relOf (not (eqb k 1)) ≡ relOf k
@@ -49,8 +49,9 @@ opposite-relation k = go (eqb k 1)
 
 -- the atoms of a loop: its condition and its invariant
 pub loop-atoms :
-    (w : List ℕ) → Tables w → (i : ℕ) → i < rowCount w → kindAt w i ≡ 21 →
+    (w : List ℕ) → Tables w → (i : ℕ) → i < rowCount w → RowIs w i Loop →
     (1 ≤ firstAtomAt w i) × (firstAtomAt w i + atomCountAt w i ≤ most-atom-rows)
+unfolding statementNumber
 loop-atoms w T i h k =
     let F = T .row-fits i h .operands in
     (F .condition k, omega (arith, F .atoms .1, T .atoms))

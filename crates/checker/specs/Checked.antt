@@ -1,20 +1,20 @@
 -- What the checker of a block and of a program answers.
 use mathlib.Core.Path.{_≡_}
-use mathlib.Core.Bool.{true, false}
-use mathlib.Core.List.{List, _∷_}
+use mathlib.Core.Bool.{Bool, true, false}
+use mathlib.Core.List.{List, [], _∷_}
 use mathlib.Core.Option.{some}
 use Prim.Native.Nat.{ℕ, suc, _+_, _-_, _≤_, _<_}
 use lib.Dec.{T}
 use lib.ListN.{drop}
 use Rattle.rules.specs.Limits.{most-branches}
-use Rattle.rules.specs.Grammar.{isClosingNumber}
+use Rattle.rules.specs.Grammar.{Statement, statementNumber, isClosingNumber}
 use Rattle.rules.specs.Answers as Answers
 use Rattle.rules.specs.Answers.{Refusal, accepted, refused, unresolved, noPermission, notShown, stateFull, malformed}
 use Rattle.rules.specs.Base.{Try, ok, _>>=_}
 use Rattle.rules.specs.Syntax.{Rel, Formula, Simple, simple, set, assign, compute, new, call}
 use Rattle.rules.specs.State as Rules
 use Rattle.rules.specs.Rules.{End, Open, inFirst, inSecond, inLoop, opposite, rule, ifRule, showEnd, checkRows}
-use Rattle.tables.specs.Decode.{kindAt, xAt, yAt, zAt, memberAt, firstAtomAt, atomCountAt, lineAt, stmtAt, formulaAt, rowCount, allRows, programIn, atomPlace, byteAt, relOf, operationOf, leftAt, rightAt}
+use Rattle.tables.specs.Decode.{kindAt, xAt, yAt, zAt, memberAt, firstAtomAt, atomCountAt, lineAt, stmtAt, formulaAt, atomsFrom, rowCount, allRows, programIn, atomPlace, byteAt, relOf, operationOf, leftAt, rightAt}
 use Rattle.tables.specs.Layout.{most-atom-rows}
 use Rattle.tables.specs.Tables.{nested, Tables}
 use Rattle.check_entailment.specs.declared.Answer.{Answer}
@@ -49,24 +49,9 @@ outcome Answer.Malformed l v = refused malformed l
 
 -- ROWS
 
--- the kind of a row, by its number in the tables
-abbrev pub IsLet : List ℕ → ℕ → Type 0
-IsLet w i = kindAt w i ≡ 9
-
-abbrev pub IsNew : List ℕ → ℕ → Type 0
-IsNew w i = kindAt w i ≡ 10
-
-abbrev pub IsCall : List ℕ → ℕ → Type 0
-IsCall w i = kindAt w i ≡ 11
-
-abbrev pub IsReturn : List ℕ → ℕ → Type 0
-IsReturn w i = kindAt w i ≡ 12
-
-abbrev pub IsIf : List ℕ → ℕ → Type 0
-IsIf w i = kindAt w i ≡ 15
-
-abbrev pub IsLoop : List ℕ → ℕ → Type 0
-IsLoop w i = kindAt w i ≡ 21
+-- the row is of this kind
+abbrev pub RowIs : List ℕ → ℕ → Statement → Type 0
+RowIs w i s = kindAt w i ≡ statementNumber s
 
 -- the statement of a row, by its operands
 abbrev pub setAt : List ℕ → ℕ → Simple
@@ -129,6 +114,10 @@ pub record Stands (w : List ℕ) (depth i a n : ℕ) : Type 0 where
 -- these rows checked in a block with the ensures φ, where e is known
 abbrev pub verdictFrom : List ℕ → ℕ → End → Formula ℕ → List Open → Answers.Verdict (Unit {0})
 verdictFrom w i e φ os = checkRows (programIn w) φ (drop i (allRows w)) e os
+
+-- a block from row i on, which must show n atoms from the atom a on where it ends
+abbrev pub blockVerdict : List ℕ → ℕ → ℕ → ℕ → Rules.State → Answers.Verdict (Unit {0})
+blockVerdict w i a n s = verdictFrom w i (some s) (atomsFrom w a n) []
 
 abbrev pub stoppedAt : Answer → ℕ → Out
 stoppedAt k i = record { answer = k; at = i; returned = false }
@@ -198,6 +187,10 @@ pub record Closed (w : List ℕ) (end : Out) (t : Rules.State) (o : Open) (r : O
       (φ : Formula ℕ) (os : List Open) →
       outcome (end .answer) (lineAt w (end .at)) (verdictFrom w (end .at) (endOf (end .returned) t) φ (o ∷ os))
       ≡ outcome (r .answer) (lineAt w (r .at)) (verdictFrom w (r .at) (endOf (r .returned) (stateOf key b)) φ os)
+
+-- the second part of a branch, whose end is in key₂ and b₂; its first part ended with the state in key₁ and b₁ or after a `return`
+abbrev pub BranchClosed : List ℕ → Out → List ℕ → List ℕ → Bool → List ℕ → List ℕ → Out → List ℕ → List ℕ → Type 0
+BranchClosed w two key₂ b₂ returned key₁ b₁ r key b = Closed w two (stateOf key₂ b₂) (inSecond (endOf returned (stateOf key₁ b₁))) r key b
 
 -- the body of the loop at row i, where the state after the loop is the same whatever shows the invariant
 abbrev pub BodyClosed : List ℕ → ℕ → Out → Rules.State → Out → List ℕ → List ℕ → Type 0

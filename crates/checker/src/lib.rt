@@ -1,5 +1,5 @@
-// Blocks, methods and main: the rules walked over the tables. A block's checker calls itself for each part of a branch and for each loop, the remaining
-// depth falling.
+// Blocks, methods and main: the rules walked over the tables. A block's checker calls itself for each part of a branch and for each loop,
+// the remaining depth falling.
 mod operands;
 mod parts;
 
@@ -9,17 +9,15 @@ use rules::Kind;
 use rules::Machine;
 ghost use mathlib.Core.Path.{_≡_};
 ghost use mathlib.Core.Bool.{false};
-ghost use mathlib.Core.List.{[]};
-ghost use mathlib.Core.Option.{some};
 ghost use Prim.Native.Nat.{_+_, _≤_, _<_};
-ghost use Rattle.rules.specs.Grammar.{isClosingNumber};
+ghost use Rattle.rules.specs.Grammar.{If, Loop, isClosingNumber};
 ghost use Rattle.rules.specs.Answers as Answers;
 ghost use Rattle.tables.specs.Layout.{most-atom-rows};
 ghost use Rattle.rules.specs.Rules.{checkProgram, checkMethod};
 ghost use Rattle.tables.specs.Decode.{kindAt, rowCount, methodCount, atomsFrom, methodAt, programIn};
 ghost use Rattle.tables.specs.Tables.{Tables};
 ghost use Rattle.check_state.specs.States.{Wf, stateOf};
-ghost use Rattle.checker.specs.Checked.{IsIf, IsLoop, Nests, Stands, Passed, Ran, outcome, verdictFrom, verdictOf};
+ghost use Rattle.checker.specs.Checked.{RowIs, Nests, Stands, Passed, Ran, outcome, blockVerdict, verdictOf};
 
 // How far a block was checked, and whether the line before was a `return`; or why no further.
 pub struct Out {
@@ -43,7 +41,7 @@ fn branch(
     key: &mut [u64; State::SLOTS],
     b: &mut [u8; State::BYTES],
 ) -> Out
-    requires { ⌜ Stands (now w) depth i a n × IsIf (now w) i × Wf (now key) (now b) ⌝ }
+    requires { ⌜ Stands (now w) depth i a n × RowIs (now w) i If × Wf (now key) (now b) ⌝ }
     ensures { λ r. ⌜ Passed (now (w .entry)) depth i (atomsFrom (now (w .entry)) a n) (stateOf (now (key .entry)) (now (b .entry))) r (now (key .exit)) (now (b .exit)) ⌝ }
 {
     let mut key2 = *key;
@@ -71,7 +69,7 @@ fn body(
     key: &mut [u64; State::SLOTS],
     b: &mut [u8; State::BYTES],
 ) -> Out
-    requires { ⌜ Stands (now w) depth i a n × IsLoop (now w) i × Wf (now key) (now b) ⌝ }
+    requires { ⌜ Stands (now w) depth i a n × RowIs (now w) i Loop × Wf (now key) (now b) ⌝ }
     ensures { λ r. ⌜ Passed (now (w .entry)) depth i (atomsFrom (now (w .entry)) a n) (stateOf (now (key .entry)) (now (b .entry))) r (now (key .exit)) (now (b .exit)) ⌝ }
 {
     let k = operands::loop_at(w, i, key, b);
@@ -152,7 +150,7 @@ fn check_block(
     b: &mut [u8; State::BYTES],
 ) -> Verdict
     requires { ⌜ Tables (now w) × (from < rowCount (now w)) × Nests (now w) from 0 × (a + n ≤ most-atom-rows) × Wf (now key) (now b) ⌝ }
-    ensures { λ r. ⌜ (verdictOf r ≡ verdictFrom (now (w .entry)) from (some (stateOf (now (key .entry)) (now (b .entry)))) (atomsFrom (now (w .entry)) a n) []) × Wf (now (key .exit)) (now (b .exit)) ⌝ }
+    ensures { λ r. ⌜ (verdictOf r ≡ blockVerdict (now (w .entry)) from a n (stateOf (now (key .entry)) (now (b .entry)))) × Wf (now (key .exit)) (now (b .exit)) ⌝ }
 {
     let r = block(w, Machine::BRANCHES, from, a, n, key, b);
     let k = r.answer;

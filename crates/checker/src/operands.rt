@@ -5,14 +5,14 @@ use rules::Kind;
 use tables::AtomKind;
 ghost use mathlib.Core.Path.{_≡_};
 ghost use Prim.Native.Nat.{_<_};
-ghost use Rattle.rules.specs.Grammar.{GoesOn};
+ghost use Rattle.rules.specs.Grammar.{Let, New, Call, If, Loop, GoesOn};
 ghost use Rattle.rules.specs.Syntax as Syntax;
 ghost use Rattle.tables.specs.Decode.{kindAt, rowCount, formulaAt};
 ghost use Rattle.tables.specs.Tables.{Tables};
 ghost use Rattle.check_state.specs.States.{Wf, stateOf};
 ghost use Rattle.check_entailment.specs.Answers.{Adds};
 ghost use Rattle.check_statements.specs.Statements.{Parts, endOf, JoinGives};
-ghost use Rattle.checker.specs.Checked.{IsLet, IsNew, IsCall, IsIf, IsLoop, setAt, letAt, newAt, callAt, computeAt, RuleGives, branches, bodyStarts, loopLeaves, Stepped};
+ghost use Rattle.checker.specs.Checked.{RowIs, setAt, letAt, newAt, callAt, computeAt, RuleGives, branches, bodyStarts, loopLeaves, Stepped};
 
 // `set x f y`
 fn set_at(w: &[u8], i: usize, key: &mut [u64; State::SLOTS], b: &mut [u8; State::BYTES]) -> Answer
@@ -27,7 +27,7 @@ fn set_at(w: &[u8], i: usize, key: &mut [u64; State::SLOTS], b: &mut [u8; State:
 
 // `let x e`
 fn let_at(w: &[u8], i: usize, key: &mut [u64; State::SLOTS], b: &mut [u8; State::BYTES]) -> Answer
-    requires { ⌜ Tables (now w) × (i < rowCount (now w)) × IsLet (now w) i × Wf (now key) (now b) ⌝ }
+    requires { ⌜ Tables (now w) × (i < rowCount (now w)) × RowIs (now w) i Let × Wf (now key) (now b) ⌝ }
     ensures { λ r. ⌜ RuleGives (now (w .entry)) (letAt (now (w .entry)) i) (now (key .entry)) (now (b .entry)) r (now (key .exit)) (now (b .exit)) ⌝ }
 {
     let x = tables::x_at(w, i) as u8;
@@ -42,7 +42,7 @@ fn let_at(w: &[u8], i: usize, key: &mut [u64; State::SLOTS], b: &mut [u8; State:
 
 // `new x C`
 fn new_at(w: &[u8], i: usize, key: &mut [u64; State::SLOTS], b: &mut [u8; State::BYTES]) -> Answer
-    requires { ⌜ Tables (now w) × (i < rowCount (now w)) × IsNew (now w) i × Wf (now key) (now b) ⌝ }
+    requires { ⌜ Tables (now w) × (i < rowCount (now w)) × RowIs (now w) i New × Wf (now key) (now b) ⌝ }
     ensures { λ r. ⌜ RuleGives (now (w .entry)) (newAt (now (w .entry)) i) (now (key .entry)) (now (b .entry)) r (now (key .exit)) (now (b .exit)) ⌝ }
 {
     let x = tables::x_at(w, i) as u8;
@@ -51,7 +51,7 @@ fn new_at(w: &[u8], i: usize, key: &mut [u64; State::SLOTS], b: &mut [u8; State:
 
 // `call x y m z`
 fn call_at(w: &[u8], i: usize, key: &mut [u64; State::SLOTS], b: &mut [u8; State::BYTES]) -> Answer
-    requires { ⌜ Tables (now w) × (i < rowCount (now w)) × IsCall (now w) i × Wf (now key) (now b) ⌝ }
+    requires { ⌜ Tables (now w) × (i < rowCount (now w)) × RowIs (now w) i Call × Wf (now key) (now b) ⌝ }
     ensures { λ r. ⌜ RuleGives (now (w .entry)) (callAt (now (w .entry)) i) (now (key .entry)) (now (b .entry)) r (now (key .exit)) (now (b .exit)) ⌝ }
 {
     let x = tables::x_at(w, i) as u8;
@@ -112,7 +112,7 @@ pub fn if_at(
     key2: &mut [u64; State::SLOTS],
     b2: &mut [u8; State::BYTES],
 ) -> Answer
-    requires { ⌜ Tables (now w) × (i < rowCount (now w)) × IsIf (now w) i × Wf (now key) (now b) × (now key2 ≡ now key) × (now b2 ≡ now b) ⌝ }
+    requires { ⌜ Tables (now w) × (i < rowCount (now w)) × RowIs (now w) i If × Wf (now key) (now b) × (now key2 ≡ now key) × (now b2 ≡ now b) ⌝ }
     ensures { λ r. ⌜ Parts (branches (now (w .entry)) i (stateOf (now (key .entry)) (now (b .entry)))) r (now (key .exit)) (now (b .exit)) (now (key2 .exit)) (now (b2 .exit)) ⌝ }
 {
     let a = tables::first_atom_at(w, i);
@@ -157,7 +157,7 @@ pub fn loop_at(
     key: &mut [u64; State::SLOTS],
     b: &mut [u8; State::BYTES],
 ) -> Answer
-    requires { ⌜ Tables (now w) × (i < rowCount (now w)) × IsLoop (now w) i × Wf (now key) (now b) ⌝ }
+    requires { ⌜ Tables (now w) × (i < rowCount (now w)) × RowIs (now w) i Loop × Wf (now key) (now b) ⌝ }
     ensures { λ r. ⌜ Adds (bodyStarts (now (w .entry)) i (stateOf (now (key .entry)) (now (b .entry)))) r (now (key .exit)) (now (b .exit)) ⌝ }
 {
     let a = tables::first_atom_at(w, i);
@@ -174,7 +174,7 @@ pub fn again_at(
     key: &mut [u64; State::SLOTS],
     b: &mut [u8; State::BYTES],
 ) -> Answer
-    requires { ⌜ Tables (now w) × (i < rowCount (now w)) × IsLoop (now w) i × Wf (now key) (now b) ⌝ }
+    requires { ⌜ Tables (now w) × (i < rowCount (now w)) × RowIs (now w) i Loop × Wf (now key) (now b) ⌝ }
     ensures { λ r. ⌜ Adds (loopLeaves (now (w .entry)) i (endOf returned (stateOf (now (key .entry)) (now (b .entry))))) r (now (key .exit)) (now (b .exit)) ⌝ }
 {
     let a = tables::first_atom_at(w, i);
@@ -201,6 +201,7 @@ pub fn statement(
         Kind::ASSERT => assert_at(w, i, key, b),
         Kind::RELEASE => release_at(w, i, key, b),
         Kind::ADD | Kind::SUB => compute_at(w, i, key, b),
+        // No other kind goes on, so that any answer meets the contract.
         _ => Answer::Malformed,
     }
 }

@@ -6,13 +6,12 @@ use rules::Kind;
 ghost use mathlib.Core.Path.{_≡_};
 ghost use Prim.Native.Nat.{_+_, _≤_, _<_};
 ghost use Rattle.rules.specs.Limits.{most-statements};
-ghost use Rattle.rules.specs.Rules.{inSecond};
+ghost use Rattle.rules.specs.Grammar.{Return, Loop};
 ghost use Rattle.tables.specs.Layout.{most-atom-rows};
 ghost use Rattle.tables.specs.Decode.{rowCount, atomsFrom};
 ghost use Rattle.tables.specs.Tables.{Tables};
 ghost use Rattle.check_state.specs.States.{Wf, stateOf};
-ghost use Rattle.check_statements.specs.Statements.{endOf};
-ghost use Rattle.checker.specs.Checked.{IsReturn, IsLoop, stoppedAt, passedAt, Returns, Ended, Turned, Closed, BodyClosed};
+ghost use Rattle.checker.specs.Checked.{RowIs, stoppedAt, passedAt, Returns, Ended, Turned, BranchClosed, BodyClosed};
 
 // Rows checked up to one before which no `return` stands.
 pub fn stopped(answer: Answer, at: usize) -> Out
@@ -45,7 +44,7 @@ pub fn return_at(
     key: &mut [u64; State::SLOTS],
     b: &mut [u8; State::BYTES],
 ) -> Out
-    requires { ⌜ Tables (now w) × (i < rowCount (now w)) × IsReturn (now w) i × (a + n ≤ most-atom-rows) × Wf (now key) (now b) ⌝ }
+    requires { ⌜ Tables (now w) × (i < rowCount (now w)) × RowIs (now w) i Return × (a + n ≤ most-atom-rows) × Wf (now key) (now b) ⌝ }
     ensures { λ r. ⌜ Returns (now (w .entry)) i (atomsFrom (now (w .entry)) a n) (stateOf (now (key .entry)) (now (b .entry))) r (now (key .exit)) (now (b .exit)) ⌝ }
 {
     let x = tables::x_at(w, i) as u8;
@@ -87,7 +86,7 @@ pub fn joined<'a>(
     b2: &'a [u8; State::BYTES],
 ) -> Out
     requires { ⌜ Tables (now w) × Ended (now w) two × Wf (now key) (now b) × Wf (now key2) (now b2) ⌝ }
-    ensures { λ r. ⌜ Closed (now (w .entry)) two (stateOf (now (key2 .entry)) (now (b2 .entry))) (inSecond (endOf returned (stateOf (now (key .entry)) (now (b .entry))))) r (now (key .exit)) (now (b .exit)) ⌝ }
+    ensures { λ r. ⌜ BranchClosed (now (w .entry)) two (now (key2 .entry)) (now (b2 .entry)) returned (now (key .entry)) (now (b .entry)) r (now (key .exit)) (now (b .exit)) ⌝ }
 {
     let k = two.answer;
     let Answer::Done = k else {
@@ -109,7 +108,7 @@ pub fn closed(
     key: &mut [u64; State::SLOTS],
     b: &mut [u8; State::BYTES],
 ) -> Out
-    requires { ⌜ Tables (now w) × (i < rowCount (now w)) × IsLoop (now w) i × Ended (now w) end × Wf (now key) (now b) ⌝ }
+    requires { ⌜ Tables (now w) × (i < rowCount (now w)) × RowIs (now w) i Loop × Ended (now w) end × Wf (now key) (now b) ⌝ }
     ensures { λ r. ⌜ BodyClosed (now (w .entry)) i end (stateOf (now (key .entry)) (now (b .entry))) r (now (key .exit)) (now (b .exit)) ⌝ }
 {
     let k = end.answer;

@@ -4,6 +4,7 @@ use mathlib.Core.Path.{refl, sym, _∙_}
 use native.Mathlib.Omega.{arith}
 use borrow.Author.Needs.{needs}
 use borrow.Author.Tests.{not-true, not-false}
+use Rattle.rules.specs.Grammar.{statementNumber}
 use Rattle.tables.specs.Decode.{rowCount, atomsFrom}
 use Rattle.check_state.specs.States.{stateOf}
 use Rattle.checker.proofs.Blocks.{going, part-ends, step-passes, if-deep, if-inner, if-stops, turn-stops, turn-inner, join-passes, loop-deep, loop-inner, loop-stops, loop-passes, Going, begin, stands, ends, passed-stops, passed-returns, passed-goes}
@@ -272,16 +273,19 @@ row-kind-at-requires t c κs =
     (start .pre .1 .0 .tables .size, omega (arith, start .pre .1 .0 .within, start .pre .1 .0 .tables .rows))
 
 row-return-at-requires : (t : ℕ) → row-lts.Need-return-at-requires (row-calls t) (row-at t) row.Post
+unfolding statementNumber
 row-return-at-requires t c κs =
     let start = c .before .before .before .before .before in
     (start .pre .1 .0 .tables, start .pre .1 .0 .within, sym (c .before .before .before .kind-at .ensures) ∙ c .before .before .match .keys1, start .pre .1 .0 .atoms, start .pre .1 .2)
 
 row-branch-requires : (t : ℕ) → row-lts.Need-branch-requires (row-calls t) (row-at t) row.Post
+unfolding statementNumber
 row-branch-requires t c κs =
     let start = c .before .before .before .before .before in
     (omega (arith, start .pre .0), (start .pre .1 .0, sym (c .before .before .before .kind-at .ensures) ∙ c .before .before .match .keys2, start .pre .1 .2))
 
 row-body-requires : (t : ℕ) → row-lts.Need-body-requires (row-calls t) (row-at t) row.Post
+unfolding statementNumber
 row-body-requires t c κs =
     let start = c .before .before .before .before .before in
     (omega (arith, start .pre .0), (start .pre .1 .0, sym (c .before .before .before .kind-at .ensures) ∙ c .before .before .match .keys3, start .pre .1 .2))

@@ -44,24 +44,32 @@ loop-again c =
 enum-known-c : tie.Need-enum-known-c Inv-loop μ-loop
 enum-known-c c = search needs
 
+stop-at-requires : tie.Need-stop-at-requires Inv-loop μ-loop
+stop-at-requires c κs = search needs
+
 returns : tie.Need-returns Inv-loop μ-loop
 returns c =
-    let start = c .before .before .before .before .before .before .before in
-    let at-loop = c .before .before .before .before .before .loop in
-    let at-line-at = c .before .before .before .before .line-at in
-    let at-look = c .before .before .before .look in
-    scan-waits _ (start .pre .0) (start .args .marks) (start .pre .1 .0) (start .args .o) _ _ _ (at-loop .inv) _ (at-line-at .ensures) _ (at-look .ensures) _ (c .before .c .given .1)
+    let start = c .before .before .before .before .before .before .before .before in
+    let at-loop = c .before .before .before .before .before .before .loop in
+    let at-line-at = c .before .before .before .before .before .line-at in
+    let at-look = c .before .before .before .before .look in
+    rw (c .stop-at .ensures)
+    (scan-waits _ (start .pre .0) (start .args .marks) (start .pre .1 .0) (start .args .o) _ _ _ (at-loop .inv) _ (at-line-at .ensures) _ (at-look .ensures) _ (c .before .before .c .given .1))
 
 enum-told : tie.Need-enum-told Inv-loop μ-loop
 enum-told c = search needs
 
+stop-at-requires-2 : tie.Need-stop-at-requires-2 Inv-loop μ-loop
+stop-at-requires-2 c κs = search needs
+
 returns-2 : tie.Need-returns-2 Inv-loop μ-loop
 returns-2 c =
-    let start = c .before .before .before .before .before .before in
-    let at-loop = c .before .before .before .before .loop in
-    let at-line-at = c .before .before .before .line-at in
-    let at-look = c .before .before .look in
-    scan-loops _ (start .pre .0) (start .args .marks) (start .pre .1 .0) (start .args .o) _ _ _ (at-loop .inv) _ (at-line-at .ensures) _ (at-look .ensures) (c .enum-told .given .1)
+    let start = c .before .before .before .before .before .before .before in
+    let at-loop = c .before .before .before .before .before .loop in
+    let at-line-at = c .before .before .before .before .line-at in
+    let at-look = c .before .before .before .look in
+    rw (c .stop-at2 .ensures)
+    (scan-loops _ (start .pre .0) (start .args .marks) (start .pre .1 .0) (start .args .o) _ _ _ (at-loop .inv) _ (at-line-at .ensures) _ (at-look .ensures) (c .before .enum-told .given .1))
 
 enum-told-2 : tie.Need-enum-told-2 Inv-loop μ-loop
 enum-told-2 c = search needs
@@ -72,13 +80,17 @@ add-capped c = omega (arith, c .before .before .before .before .loop .inv .fits)
 capped-requires : tie.Need-capped-requires Inv-loop μ-loop
 capped-requires c κs = search needs
 
+stop-at-requires-3 : tie.Need-stop-at-requires-3 Inv-loop μ-loop
+stop-at-requires-3 c κs = search needs
+
 returns-3 : tie.Need-returns-3 Inv-loop μ-loop
 returns-3 c =
-    let start = c .before .before .before .before .before .before .before in
-    let at-loop = c .before .before .before .before .before .loop in
-    let at-line-at = c .before .before .before .before .line-at in
-    let at-look = c .before .before .before .look in
-    scan-ends _ (start .pre .0) (start .args .marks) (start .pre .1 .0) (start .args .o) _ _ _ (at-loop .inv) _ (at-line-at .ensures) _ (at-look .ensures) _ (c .before .enum-told2 .given .1) (c .capped .ensures)
+    let start = c .before .before .before .before .before .before .before .before in
+    let at-loop = c .before .before .before .before .before .before .loop in
+    let at-line-at = c .before .before .before .before .before .line-at in
+    let at-look = c .before .before .before .before .look in
+    rw (c .stop-at3 .ensures)
+    (scan-ends _ (start .pre .0) (start .args .marks) (start .pre .1 .0) (start .args .o) _ _ _ (at-loop .inv) _ (at-line-at .ensures) _ (at-look .ensures) _ (c .before .before .enum-told2 .given .1) (c .before .capped .ensures))
 
 pub scan-spec : {M : Type 1} → statement M
 scan-spec =
@@ -94,10 +106,13 @@ scan-spec =
     loop-less
     loop-again
     enum-known-c
+    stop-at-requires
     returns
     enum-told
+    stop-at-requires-2
     returns-2
     enum-told-2
     add-capped
     capped-requires
+    stop-at-requires-3
     returns-3)

@@ -5,6 +5,7 @@ use Rattle.rules.specs.Base.{Try}
 use mathlib.Core.Path.{subst}
 use native.Mathlib.Omega.{arith}
 use Rattle.rules.specs.State as Rules
+use Rattle.rules.specs.Grammar.{statementNumber}
 use Rattle.checker.proofs.operands.call_at.Statement.{statement}
 use Rattle.checker.proofs.operands.call_at.Tie as tie
 
@@ -34,11 +35,13 @@ member-at-requires c κs =
     (start .pre .0 .size, omega (arith, start .pre .0 .rows, start .pre .1))
 
 call-rule-requires : tie.Need-call-rule-requires
+unfolding statementNumber
 call-rule-requires c κs =
     let start = c .before .before .before .before .before .before .before in
     (start .pre .0, omega (arith, start .pre .0 .row-fits (start .args .i) (start .pre .1) .operands .method (start .pre .2), c .member-at .ensures .0), start .pre .3)
 
 returns : tie.Need-returns
+unfolding statementNumber
 returns c =
     let start = c .before .before .before .before .before .before .before .before in
     let at-x-at = c .before .before .before .before .before .before .x-at in

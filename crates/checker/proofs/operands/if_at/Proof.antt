@@ -7,6 +7,7 @@ use mathlib.Core.Logic.{inr}
 use mathlib.Core.Path.{subst}
 use native.Mathlib.Omega.{arith}
 use Rattle.rules.specs.State as Rules
+use Rattle.rules.specs.Grammar.{statementNumber}
 use Rattle.checker.proofs.operands.if_at.Statement.{statement}
 use Rattle.checker.proofs.operands.if_at.Tie as tie
 
@@ -14,16 +15,19 @@ first-atom-at-requires : tie.Need-first-atom-at-requires
 first-atom-at-requires c κs = (c .before .pre .0 .size, omega (arith, c .before .pre .0 .rows, c .before .pre .1))
 
 atom-kind-requires : tie.Need-atom-kind-requires
+unfolding statementNumber
 atom-kind-requires c κs =
     let start = c .before .before in
     (start .pre .0 .size, omega (arith, start .pre .0 .row-fits (start .args .i) (start .pre .1) .operands .atoms .1, start .pre .0 .row-fits (start .args .i) (start .pre .1) .operands .one-atom (inr (start .pre .2)), start .pre .0 .atoms, c .first-atom-at .ensures .0))
 
 left-requires : tie.Need-left-requires
+unfolding statementNumber
 left-requires c κs =
     let start = c .before .before .before in
     (start .pre .0 .size, omega (arith, start .pre .0 .row-fits (start .args .i) (start .pre .1) .operands .atoms .1, start .pre .0 .row-fits (start .args .i) (start .pre .1) .operands .one-atom (inr (start .pre .2)), start .pre .0 .atoms, c .before .first-atom-at .ensures .0))
 
 right-requires : tie.Need-right-requires
+unfolding statementNumber
 right-requires c κs =
     let start = c .before .before .before .before in
     let at-first-atom-at = c .before .before .first-atom-at in

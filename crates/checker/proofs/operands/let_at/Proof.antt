@@ -7,6 +7,7 @@ use mathlib.Core.Path.{subst}
 use native.Mathlib.Omega.{arith}
 use Rattle.rules.specs.State as Rules
 use Rattle.rules.specs.Rules.{rule}
+use Rattle.rules.specs.Grammar.{statementNumber}
 use Rattle.checker.proofs.operands.let_at.Statement.{statement}
 use Rattle.checker.proofs.operands.let_at.Tie as tie
 
@@ -21,6 +22,7 @@ first-atom-at-requires c κs =
     (c .before .before .pre .0 .size, omega (arith, c .before .before .pre .0 .rows, c .before .before .pre .1))
 
 right-requires : tie.Need-right-requires
+unfolding statementNumber
 right-requires c κs =
     let start = c .before .before .before .before .before in
     let at-first-atom-at = c .before .before .first-atom-at in

@@ -5,6 +5,7 @@ use Rattle.rules.specs.Base.{Try}
 use mathlib.Core.Path.{subst}
 use native.Mathlib.Omega.{arith}
 use Rattle.rules.specs.State as Rules
+use Rattle.rules.specs.Grammar.{statementNumber}
 use Rattle.checker.proofs.operands.new_at.Statement.{statement}
 use Rattle.checker.proofs.operands.new_at.Tie as tie
 
@@ -19,11 +20,13 @@ member-at-requires c κs =
     (c .before .before .before .before .pre .0 .size, omega (arith, c .before .before .before .before .pre .0 .rows, c .before .before .before .before .pre .1))
 
 new-rule-requires : tie.Need-new-rule-requires
+unfolding statementNumber
 new-rule-requires c κs =
     let start = c .before .before .before .before .before in
     let m = start .pre .0 .row-fits (start .args .i) (start .pre .1) .operands .class (start .pre .2) in (start .pre .0 .size, omega (arith, m, c .member-at .ensures .0, start .pre .0 .classes), rw (c .member-at .ensures .0) (start .pre .0 .class-fits _ m .count), start .pre .3)
 
 returns : tie.Need-returns
+unfolding statementNumber
 returns c =
     let start = c .before .before .before .before .before .before in
     let at-x-at = c .before .before .before .before .x-at in

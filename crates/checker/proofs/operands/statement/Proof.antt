@@ -4,6 +4,7 @@ use mathlib.Core.Path.{sym, _∙_}
 use mathlib.Core.Logic.{inl, inr}
 use native.Mathlib.Omega.{arith}
 use borrow.Author.Needs.{needs}
+use Rattle.rules.specs.Grammar.{statementNumber}
 use Rattle.checker.proofs.operands.statement.Statement.{statement}
 use Rattle.checker.proofs.operands.statement.Tie as tie
 
@@ -15,6 +16,7 @@ set-at-requires c κs =
     (c .before .before .before .before .before .pre .0, c .before .before .before .before .before .pre .1, c .before .before .before .before .before .pre .3)
 
 let-at-requires : tie.Need-let-at-requires
+unfolding statementNumber
 let-at-requires c κs =
     let start = c .before .before .before .before .before in
     let at-kind-at = c .before .before .before .kind-at in
@@ -22,6 +24,7 @@ let-at-requires c κs =
     (start .pre .0, start .pre .1, sym (at-kind-at .ensures) ∙ at-match .keys2, start .pre .3)
 
 new-at-requires : tie.Need-new-at-requires
+unfolding statementNumber
 new-at-requires c κs =
     let start = c .before .before .before .before .before in
     let at-kind-at = c .before .before .before .kind-at in
@@ -29,6 +32,7 @@ new-at-requires c κs =
     (start .pre .0, start .pre .1, sym (at-kind-at .ensures) ∙ at-match .keys3, start .pre .3)
 
 call-at-requires : tie.Need-call-at-requires
+unfolding statementNumber
 call-at-requires c κs =
     let start = c .before .before .before .before .before in
     let at-kind-at = c .before .before .before .kind-at in
