@@ -1,4 +1,4 @@
--- What the reader's answers mean: the refusal of each case, and the tables of a text that is taken.
+-- What the reader's answers mean: the refusal of each case, and the tables of a text that is read.
 use mathlib.Core.Path.{_≡_}
 use mathlib.Core.Bool.{Bool, cond}
 use mathlib.Core.List.{List, []}
@@ -17,6 +17,7 @@ use Rattle.rules.specs.Items.{Item, resolveLine, resolveLines}
 use Rattle.rules.specs.Reading.{readText, framed, checkFramed, program}
 use Rattle.read_scan.specs.declared.Word.{Word}
 use Rattle.read_grammar.specs.Rows.{kindNumbered}
+use Rattle.tables.specs.Numbers.{loop-kind}
 use Rattle.tables.specs.Layout.{most-atom-rows}
 use Rattle.tables.specs.Decode.{programIn}
 use Rattle.tables.specs.Tables.{Tables}
@@ -67,14 +68,14 @@ unfoldable pub refusalHere : (t w : List ℕ) → Pass → Line → Option Answe
 refusalHere t w p l =
     refusalIn (declarationsIn t w (p .names)) (variablesIn t w (seenBy (l .kind) (p .names))) (scopeIn t w (p .names) (p .above)) l
 
--- its atoms, between p and q, are written; k is the number of its kind, 21 that of a `loop`
+-- its atoms, between p and q, are written; k is the number of its kind
 pub record Between (w : List ℕ) (k : ℕ) (p q : Pass) : Type 0 where
   pub kind : IsKindNumber k
   pub whole : length w ≡ work-bytes
   pub line : p .line < most-bytes
   pub low : p .atoms ≤ q .atoms
   pub high : q .atoms ≤ most-atom-rows
-  pub condition : k ≡ 21 → p .atoms < q .atoms
+  pub condition : k ≡ loop-kind → p .atoms < q .atoms
 
 -- with a formula that number 10 is about, or not
 unfoldable pub unframedBy : Bool → Formula ℕ → Pass → ℕ
@@ -127,5 +128,5 @@ pub record Tabled (t w : List ℕ) (u : ℕ) : Type 0 where
   pub framed : checkFramed items 0 ≡ framedVerdict u
 
 unfoldable pub ReadingIs : (t w : List ℕ) → Reading → Type 0
-ReadingIs t w (Reading.Taken u) = Tabled t w u
+ReadingIs t w (Reading.Read u) = Tabled t w u
 ReadingIs t w (Reading.Refused r l) = readText t ≡ refused (refusalOf r) l

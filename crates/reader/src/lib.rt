@@ -240,9 +240,9 @@ fn read_lines(text: &[u8], work: &mut [u8], names: Names, n: usize) -> Resolved
 
 // THE TEXT
 
-// A text that is taken, with the first line that number 10 refuses, or 0; or why it is refused, and at which line.
+// A text that is read, with the first line that number 10 refuses, or 0; or why it is refused, and at which line.
 pub enum Reading {
-    Taken(usize),
+    Read(usize),
     Refused(Refusal, usize),
 }
 
@@ -269,7 +269,7 @@ fn resolve(text: &[u8], work: &mut [u8], n: usize) -> Reading
         Resolved::Done(p) => {
             let names = p.names;
             targets::finish(work, p.rows, p.atoms, names.classes, names.methods, p.main);
-            Reading::Taken(p.unframed)
+            Reading::Read(p.unframed)
         }
     }
 }

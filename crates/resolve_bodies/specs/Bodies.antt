@@ -7,6 +7,7 @@ use lib.ListN.{length}
 use Rattle.rules.specs.Limits.{work-bytes}
 use Rattle.rules.specs.Grammar.{Line, statement, Loop, kindNumber}
 use Rattle.read_grammar.specs.Rows.{kindNumbered}
+use Rattle.tables.specs.Numbers.{requires-kind, ensures-kind}
 use Rattle.tables.specs.Layout.{names-at}
 use Rattle.tables.specs.Decode.{framedFrom}
 use Rattle.tables.specs.Stores.{Kept}
@@ -17,6 +18,10 @@ use Rattle.write_rows.specs.Holds.{Holds}
 use Rattle.resolve_pass.specs.declared.Pass.{Pass}
 use Rattle.resolve_pass.specs.Passes.{counts, atomsAtMost, isFramed, framedFormula, item, PassFits, Stands, LineRoom, lineAfter, isGoodHere, BadLine}
 use Rattle.resolve_atoms.specs.declared.Put.{Put}
+
+-- the number of `requires` or of `ensures`
+abbrev pub IsHeader : ℕ → Type 0
+IsHeader k = (requires-kind ≤ k) × (k ≤ ensures-kind)
 
 -- the line of this kind, whose word ends at r, may be tried
 pub record Follows (t w : List ℕ) (p : Pass) (k r : ℕ) : Type 0 where

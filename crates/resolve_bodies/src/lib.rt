@@ -6,11 +6,10 @@ use resolve_pass::TriedLine;
 use rules::Kind;
 ghost use mathlib.Core.Path.{_≡_};
 ghost use mathlib.Core.Bool.{not, _&&_};
-ghost use Prim.Native.Nat.{_≤_};
 ghost use Rattle.rules.specs.Grammar.{IsKindNumber, IsStatementNumber};
 ghost use Rattle.read_grammar.specs.Rows.{kindNumbered};
 ghost use Rattle.resolve_pass.specs.Passes.{seenBy, namesAfter, lineAfter, LineTried};
-ghost use Rattle.resolve_bodies.specs.Bodies.{Follows, ItemTried, doneIf};
+ghost use Rattle.resolve_bodies.specs.Bodies.{IsHeader, Follows, ItemTried, doneIf};
 
 fn unless(a: bool, b: bool) -> bool
     ensures { λ r. ⌜ r ≡ (a && not b) ⌝ }
@@ -104,7 +103,7 @@ pub fn put_statement(text: &[u8], work: &mut [u8], p: Pass, kind: u8, r: usize) 
 
 // Writes the atoms of the requires or the ensures of the last method, if they are good; gives the number after the last of them.
 fn put_formula(text: &[u8], work: &mut [u8], p: Pass, kind: u8, r: usize) -> Put
-    requires { ⌜ Follows (now text) (now work) p kind r × ((4 ≤ kind) × (kind ≤ 5)) ⌝ }
+    requires { ⌜ Follows (now text) (now work) p kind r × IsHeader kind ⌝ }
     ensures { λ m. ⌜ ItemTried (now (text .entry)) (now (work .entry)) p (lineAfter (now (text .entry)) r kind) (now (work .exit)) m ⌝ }
 {
     let names = p.names;
@@ -121,7 +120,7 @@ fn put_formula(text: &[u8], work: &mut [u8], p: Pass, kind: u8, r: usize) -> Put
 
 // Writes the line `requires` or `ensures`, the word of which ends at r, if it is good.
 pub fn put_header(text: &[u8], work: &mut [u8], p: Pass, kind: u8, r: usize) -> TriedLine
-    requires { ⌜ Follows (now text) (now work) p kind r × ((4 ≤ kind) × (kind ≤ 5)) ⌝ }
+    requires { ⌜ Follows (now text) (now work) p kind r × IsHeader kind ⌝ }
     ensures { λ q. ⌜ LineTried (now (text .entry)) (now (work .entry)) p (lineAfter (now (text .entry)) r kind) (now (work .exit)) q ⌝ }
 {
     let t = put_formula(text, work, p, kind, r);

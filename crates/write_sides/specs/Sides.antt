@@ -17,7 +17,10 @@ use Rattle.tables.specs.Layout.{most-atom-rows, names-at}
 use Rattle.tables.specs.Stores.{Kept}
 use Rattle.read_scopes.specs.declared.Names.{Names}
 use Rattle.read_scopes.specs.Meanings.{declarationsIn, variablesIn}
-use Rattle.read_types.specs.Types.{good}
+use Rattle.read_names.specs.Rows.{nameIn}
+use Rattle.read_lookups.specs.LookUps.{typeOf}
+use Rattle.read_types.specs.declared.Lookup.{Lookup}
+use Rattle.read_types.specs.Types.{good, typeMeant}
 use Rattle.rules.specs.Syntax.{Program}
 use Rattle.rules.specs.Reading.{withItem}
 use Rattle.tables.specs.declared.Operands.{Operands}
@@ -37,6 +40,10 @@ letGood Γ vs ws =
     let x : Name = getD ws 0 [] in
     isLocal (variableNumber vs x)
     && (good Γ vs (exprOf (getD ws 1 [])) && agree (some (variableType vs x)) (exprType Γ vs (exprOf (getD ws 1 []))))
+
+-- x is a local of the type of what was looked up
+abbrev pub mayLet : List ℕ → List ℕ → ℕ → Lookup → Bool
+mayLet t w x e = isLocal x && (e .good && agree (some (nameIn t (typeOf w x))) (typeMeant t (e .is)))
 
 -- the statement whose word ends at r has its form, and there is room for the atom n
 pub record SideFollows (a : Statement) (t : List ℕ) (r n : ℕ) : Type 0 where

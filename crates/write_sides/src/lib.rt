@@ -9,18 +9,14 @@ use tables::AtomKind;
 use tables::Expr;
 use tables::Operands;
 ghost use mathlib.Core.Path.{_≡_};
-ghost use mathlib.Core.Bool.{_&&_};
-ghost use mathlib.Core.Option.{some};
 ghost use Prim.Native.Nat.{_≤_, _<_};
 ghost use lib.ListN.{length};
 ghost use Rattle.rules.specs.Limits.{work-bytes, most-statements};
 ghost use Rattle.rules.specs.Grammar.{Let, If};
-ghost use Rattle.rules.specs.Names.{isLocal, agree};
-ghost use Rattle.read_names.specs.Rows.{nameIn};
+ghost use Rattle.tables.specs.Numbers.{half-values};
+ghost use Rattle.tables.specs.Layout.{frame-variables};
 ghost use Rattle.read_scopes.specs.Meanings.{AreaFits};
-ghost use Rattle.read_lookups.specs.LookUps.{typeOf};
-ghost use Rattle.read_types.specs.Types.{typeMeant};
-ghost use Rattle.write_sides.specs.Sides.{oneRow, SideFollows, SideTried};
+ghost use Rattle.write_sides.specs.Sides.{oneRow, mayLet, SideFollows, SideTried};
 
 fn row(kind: u8, x: usize, n: usize, line: usize) -> Operands
     ensures { λ r. ⌜ r ≡ oneRow kind x n line ⌝ }
@@ -39,13 +35,10 @@ fn row(kind: u8, x: usize, n: usize, line: usize) -> Operands
 
 // Is x a local of the type of e?
 fn let_fits(text: &[u8], work: &[u8], x: usize, e: Lookup) -> bool
-    requires { ⌜ (length (now work) ≡ work-bytes) × (x ≤ 15) ⌝ }
-    ensures { λ r. ⌜ r ≡ (isLocal x && (e .good && agree (some (nameIn (now (text .entry)) (typeOf (now (work .entry)) x))) (typeMeant (now (text .entry)) (e .is)))) ⌝ }
+    requires { ⌜ (length (now work) ≡ work-bytes) × (x ≤ frame-variables) ⌝ }
+    ensures { λ r. ⌜ r ≡ mayLet (now (text .entry)) (now (work .entry)) x e ⌝ }
 {
-    if x < read_scopes::FIRST_LOCAL {
-        return false;
-    }
-    if read_names::RESULT <= x {
+    if !write_plain::is_local(x) {
         return false;
     }
     if !e.good {
@@ -67,7 +60,7 @@ pub fn put_let(
     n: usize,
     line: usize,
 ) -> Put
-    requires { ⌜ AreaFits (now work) c × SideFollows Let (now text) r n × (i < most-statements) × (line < 65536) ⌝ }
+    requires { ⌜ AreaFits (now work) c × SideFollows Let (now text) r n × (i < most-statements) × (line < half-values) ⌝ }
     ensures { λ p. ⌜ SideTried Let (now (text .entry)) (now (work .entry)) c r i n line (now (work .exit)) p ⌝ }
 {
     let a = read_declarations::span_after(text, r);
@@ -94,7 +87,7 @@ pub fn put_if(
     n: usize,
     line: usize,
 ) -> Put
-    requires { ⌜ AreaFits (now work) c × SideFollows If (now text) r n × (i < most-statements) × (line < 65536) ⌝ }
+    requires { ⌜ AreaFits (now work) c × SideFollows If (now text) r n × (i < most-statements) × (line < half-values) ⌝ }
     ensures { λ p. ⌜ SideTried If (now (text .entry)) (now (work .entry)) c r i n line (now (work .exit)) p ⌝ }
 {
     let a = read_declarations::span_after(text, r);

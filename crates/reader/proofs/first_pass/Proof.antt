@@ -1,3 +1,4 @@
+-- `reader::first_pass` meets its contract. Assumes nothing.
 use mathlib.Core.Path.{refl}
 use Rattle.reader.proofs.first_pass.Statement.{statement}
 use Rattle.reader.proofs.first_pass.Tie as tie

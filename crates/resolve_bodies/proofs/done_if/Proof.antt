@@ -1,4 +1,4 @@
--- `bodies::done_if` meets its contract. Assumes nothing.
+-- `resolve_bodies::done_if` meets its contract. Assumes nothing.
 use mathlib.Core.Path.{sym}
 use Rattle.resolve_bodies.specs.Bodies.{doneIf}
 use Rattle.resolve_bodies.proofs.done_if.Statement.{statement}

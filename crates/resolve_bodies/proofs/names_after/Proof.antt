@@ -1,4 +1,4 @@
--- `bodies::names_after` meets its contract. Assumes nothing.
+-- `resolve_bodies::names_after` meets its contract. Assumes nothing.
 use Rattle.resolve_pass.specs.Passes.{withBlock}
 use Rattle.resolve_bodies.proofs.Items.{closes, stays-open}
 use Rattle.resolve_bodies.proofs.names_after.Statement.{statement}

@@ -1,4 +1,4 @@
--- `bodies::put_formula` meets its contract. Assumes nothing.
+-- `resolve_bodies::put_formula` meets its contract. Assumes nothing.
 use mathlib.Core.Path.{_≡_}
 use native.Mathlib.Omega.{arith}
 use Rattle.rules.specs.Grammar as Grammar

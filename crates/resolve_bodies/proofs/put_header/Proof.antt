@@ -1,4 +1,4 @@
--- `bodies::put_header` meets its contract. Assumes nothing.
+-- `resolve_bodies::put_header` meets its contract. Assumes nothing.
 use mathlib.Core.Path.{refl}
 use Rattle.resolve_pass.specs.Passes.{LineTried}
 use Rattle.resolve_bodies.proofs.Items.{item-done, item-bad}

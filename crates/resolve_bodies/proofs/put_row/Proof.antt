@@ -1,4 +1,4 @@
--- `bodies::put_row` meets its contract. Assumes nothing.
+-- `resolve_bodies::put_row` meets its contract. Assumes nothing.
 use mathlib.Core.Path.{refl}
 use Rattle.rules.specs.Grammar as Grammar
 use Rattle.rules.specs.Grammar.{kindNumber}

@@ -1,4 +1,4 @@
--- `bodies::put_statement` meets its contract. Assumes nothing.
+-- `resolve_bodies::put_statement` meets its contract. Assumes nothing.
 use mathlib.Core.Path.{refl}
 use native.Mathlib.Omega.{arith}
 use Rattle.resolve_pass.specs.Passes.{LineTried}

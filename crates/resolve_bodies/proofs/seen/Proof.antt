@@ -1,4 +1,4 @@
--- `bodies::seen` meets its contract. Assumes nothing.
+-- `resolve_bodies::seen` meets its contract. Assumes nothing.
 use mathlib.Core.Path.{sym, ap, _∙_}
 use mathlib.Core.Bool.{not, _&&_}
 use Rattle.resolve_pass.specs.Passes.{seenBy}

@@ -1,4 +1,4 @@
--- `bodies::unless` meets its contract. Assumes nothing.
+-- `resolve_bodies::unless` meets its contract. Assumes nothing.
 use mathlib.Core.Path.{_≡_, refl}
 use mathlib.Core.Bool.{Bool, true, false, not, _&&_}
 use Rattle.resolve_bodies.proofs.unless.Statement.{statement}

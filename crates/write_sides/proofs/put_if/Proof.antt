@@ -1,4 +1,4 @@
--- `sides::put_if` meets its contract. Assumes nothing.
+-- `write_sides::put_if` meets its contract. Assumes nothing.
 use mathlib.Core.Path.{refl, sym, ap, subst, _∙_}
 use mathlib.Core.Logic.{inr}
 use native.Mathlib.Omega.{arith}

@@ -1,4 +1,4 @@
--- `sides::put_let` meets its contract. Assumes nothing.
+-- `write_sides::put_let` meets its contract. Assumes nothing.
 use mathlib.Core.Path.{_≡_, refl, sym, ap, subst, _∙_}
 use mathlib.Core.Bool.{true}
 use mathlib.Core.Logic.{inl}
