@@ -144,25 +144,26 @@ impl Index {
         }
     }
 
-    /// What orders the declarations about this one: the theorems' crates first, then what is public, what has its name, and what
-    /// speaks of little else.
-    fn order(&self, about: Node, (file, number): Node) -> (usize, bool, bool, usize) {
+    /// What orders the declarations about this one: the theorems' crates first, then what is public, what has its name or one
+    /// that begins so, and what speaks of little else.
+    fn order(&self, about: Node, (file, number): Node) -> (usize, bool, usize, usize) {
         let letters = |(file, number): Node| {
-            let name = self.files[file].declared[number]
-                .name
-                .replace(['-', '_'], "");
-            name.to_lowercase()
+            let name = &self.files[file].declared[number].name;
+            name.replace(['-', '_'], "").to_lowercase()
         };
         let (found, crate_name) = (&self.files[file], &self.files[file].source.crate_name);
         let theorems = THEOREMS.iter().position(|name| name == crate_name);
+        let name = match (letters((file, number)), letters(about)) {
+            (name, its) if name == its => 0,
+            (name, its) if name.starts_with(&its) => 1,
+            _ => 2,
+        };
+        let names = |over: &&BTreeSet<Node>| over.contains(&(file, number));
         (
             theorems.unwrap_or(THEOREMS.len()),
             !found.declared[number].public,
-            letters(about) != letters((file, number)),
-            self.over
-                .values()
-                .filter(|over| over.contains(&(file, number)))
-                .count(),
+            name,
+            self.over.values().filter(names).count(),
         )
     }
 

@@ -122,6 +122,24 @@ fn a_function_does_not_hide_the_definition_of_its_name() {
     );
 }
 
+#[test]
+fn what_has_its_name_comes_first() {
+    let law = |name: &str, statement: &str| format!("pub {name} : {statement}\n{name} = refl\n\n");
+    let laws = [
+        law("kept", "long ≡ kept-too"),
+        law("kept-too", "long"),
+        law("long-law", "long ≡ kept"),
+    ];
+    let laws = format!(
+        "-- laws\nuse Rattle.one.specs.Texts.{{long}}\n\n{}",
+        laws.concat()
+    );
+    let row = row_of("long", made("proofs/Laws.antt", &laws));
+    let (_, shown) = row.split_once("laws: ").expect("laws");
+    let names: Vec<&str> = shown.split('`').skip(1).step_by(2).collect();
+    assert_eq!(names, ["long-law", "kept-too", "kept"]);
+}
+
 /// Is a law with this import and statement about the definition `long`?
 fn is_about_long(import: &str, statement: &str) -> bool {
     let law = format!(
