@@ -7,11 +7,12 @@ use mathlib.Core.Option.{none, some}
 use Prim.Native.Nat.{ℕ, zero, suc, _+_, _≤_, max, suc-le-suc}
 use native.Mathlib.Omega.{arith}
 use lib.ListN.{length, getD, drop}
+use Rattle.rules.specs.Base.{Member, at-head, further}
 use Rattle.rules.specs.Base as Base
 use Rattle.rules.specs.Syntax.{Row, Method, Program, noRow, noMethod, rowNumbered, methodNumbered}
 use Rattle.rules.specs.Bounds.{Block, noBlock, isEnd, called, upToEnd, block, blocks, callees, total, greatest, round, valueBy, blockBound, methodBound, blockFrames, methodFrames}
 use Rattle.rules.specs.Bounds as Bounds
-use Rattle.rules.proofs.Lists.{Member, at-head, further, head-or, option-cases, mapOption-none, mapOption-some}
+use Rattle.rules.proofs.Lists.{head-or, option-cases, mapOption-none, mapOption-some}
 use Rattle.bound_laws.specs.Routes.{blockAt, Clear}
 use Rattle.bound_laws.proofs.Routes.{value-law}
 

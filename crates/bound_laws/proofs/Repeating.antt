@@ -7,17 +7,13 @@ use mathlib.Core.Option.{Option, none, some}
 use Prim.Native.Nat.{ℕ, zero, suc, _+_}
 use native.Mathlib.Omega.{arith}
 use lib.Dec.{T, eqb, eqb→eq, eqb-refl}
-use Rattle.rules.specs.Base.{first}
+use Rattle.rules.specs.Base.{first, Member}
 use Rattle.rules.specs.Syntax.{Stmt, Row, Method, Program, rowNumbered, simple, return, if, else, join, loop, again, end}
 use Rattle.rules.specs.Bounds.{Block, noBlock, called, block, blocks, callees, reaches, recursive, isLoop, repeats, orLater, firstIn, firstFrom, firstRepeating}
-use Rattle.rules.proofs.Lists.{Member, head-or, none-some, or-left, or-right, or-cases, option-cases, came-from, went-to, first-in, first-some}
-use Rattle.bound_laws.specs.Routes.{blockAt, calls, Reaches, directly, through, Acyclic}
+use Rattle.rules.proofs.Lists.{head-or, none-some, or-left, or-right, or-cases, option-cases, came-from, went-to, first-in, first-some}
+use Rattle.bound_laws.specs.Routes.{Loopless, blockAt, calls, Reaches, directly, through, Acyclic}
 use Rattle.bound_laws.proofs.Blocks.{block-member}
 use Rattle.bound_laws.proofs.Routes.{route-found, found-route}
-
--- no line of a block is a loop
-abbrev pub Loopless : Block → Type 0
-Loopless b = (r : Row) → Member r b → T (isLoop (r .stmt)) → ⊥
 
 -- A LINE
 loop-repeats : (bs : List Block) (o : Option ℕ) (s : Stmt) → T (isLoop s) → T (repeats bs o s)

@@ -8,10 +8,11 @@ use Prim.Native.Nat.{ℕ, zero, suc, _≤_, _<_}
 use native.Mathlib.Omega.{arith}
 use lib.Dec.{T, eqb, ltb, eqb→eq, eqb-refl, ltb→lt, nltb→le, not-T}
 use lib.ListN.{length, getD}
+use Rattle.rules.specs.Base.{Member}
 use Rattle.rules.specs.Base as Base
 use Rattle.rules.specs.Bounds.{Block, noBlock, callees, round, valueBy, blockReaches, reaches}
 use Rattle.rules.specs.Bounds as Bounds
-use Rattle.rules.proofs.Lists.{Member, any-in, in-any, or-left, or-right, or-cases, decide-eq, decide-test}
+use Rattle.rules.proofs.Lists.{any-in, in-any, or-left, or-right, or-cases, decide-eq, decide-test}
 use Rattle.bound_laws.specs.Routes.{blockAt, calls, Reaches, directly, through, Acyclic, Clear}
 use Rattle.bound_laws.proofs.Removal.{below, below-member, below-length, removed, removed-member, removed-from, removed-length}
 

@@ -1,9 +1,11 @@
 -- Routes of calls among the blocks of methods.
 use mathlib.Core.List.{List}
 use Prim.Native.Nat.{ℕ}
+use lib.Dec.{T}
 use lib.ListN.{getD}
-use Rattle.rules.specs.Bounds.{Block, noBlock, callees}
-use Rattle.rules.proofs.Lists.{Member}
+use Rattle.rules.specs.Base.{Member}
+use Rattle.rules.specs.Syntax.{Row}
+use Rattle.rules.specs.Bounds.{Block, noBlock, callees, isLoop}
 
 -- the block of the method n
 abbrev pub blockAt : List Block → ℕ → Block
@@ -25,3 +27,7 @@ Acyclic bs = (a : ℕ) → Reaches bs a a → ⊥
 pub record Clear (bs : List Block) (n : ℕ) : Type 0 where
   pub itself : Reaches bs n n → ⊥
   pub others : (a : ℕ) → Reaches bs n a → Reaches bs a a → ⊥
+
+-- no line of a block is a loop
+abbrev pub Loopless : Block → Type 0
+Loopless b = (r : Row) → Member r b → T (isLoop (r .stmt)) → ⊥

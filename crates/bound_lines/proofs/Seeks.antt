@@ -8,10 +8,11 @@ use native.Mathlib.Omega.{arith}
 use lib.Dec.{T, eqb, leb, leb→le, le→leb, eqb→eq, eqb-refl}
 use lib.ListN.{length, getD, set, replicate, length-set}
 use lib.Seq.{getD-set-same, getD-set-other}
+use Rattle.rules.specs.Base.{Member, at-head, further}
 use Rattle.rules.specs.Limits.{most-methods}
 use Rattle.rules.specs.Syntax.{Program, rowNumbered}
 use Rattle.rules.specs.Bounds.{Block, block, callees, reaches}
-use Rattle.rules.proofs.Lists.{Member, at-head, further, head-or, decide-eq, T-true, F-false, or-left, or-right, or-cases}
+use Rattle.rules.proofs.Lists.{head-or, decide-eq, T-true, F-false, or-left, or-right, or-cases}
 use Rattle.tables.specs.Decode.{rowCount, methodCount, firstRowAt, programIn}
 use Rattle.tables.specs.Tables.{Tables}
 use Rattle.bound_laws.specs.Routes.{calls, Reaches, directly, through}

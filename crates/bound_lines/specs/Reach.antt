@@ -6,9 +6,9 @@ use mathlib.Core.Logic.{_⊎_}
 use Prim.Native.Nat.{ℕ, _+_, _≤_, _<_}
 use lib.Dec.{eqb, leb}
 use lib.ListN.{length, getD, set, replicate}
+use Rattle.rules.specs.Base.{Member}
 use Rattle.rules.specs.Limits.{most-methods}
 use Rattle.rules.specs.Bounds.{reaches}
-use Rattle.rules.proofs.Lists.{Member}
 use Rattle.tables.specs.Decode.{methodCount}
 use Rattle.bound_laws.specs.Routes.{calls}
 use Rattle.bound_laws.specs.Routes as Routes

@@ -9,10 +9,11 @@ use native.Mathlib.Omega.{arith}
 use borrow.Author.Tests.{ne-eqb}
 use lib.Dec.{eqb}
 use lib.ListN.{length}
+use Rattle.rules.specs.Base.{Member}
 use Rattle.rules.specs.Grammar.{isComputing}
 use Rattle.rules.specs.Syntax.{Row, Stmt, Method, noRow, rowNumbered, set, assign, compute, new, call, assert, release, simple, return, if, else, join, loop, again, end}
 use Rattle.rules.specs.Bounds.{isEnd, called, isLoop, block, blocks, callees}
-use Rattle.rules.proofs.Lists.{Member, came-from, decide-eq}
+use Rattle.rules.proofs.Lists.{came-from, decide-eq}
 use Rattle.tables.specs.declared.Operands.{Operands}
 use Rattle.tables.specs.Decode.{kindAt, memberAt, operandsAt, stmtOf, stmtAt, rowAt, rowCount, allRows, methodCount, methodAt, firstRowAt, programIn}
 use Rattle.tables.specs.Tables.{Tables}

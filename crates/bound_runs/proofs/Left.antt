@@ -5,16 +5,17 @@ use mathlib.Core.Option.{none}
 use Prim.Native.Nat.{ℕ, suc, _+_, _≤_, zero-le}
 use native.Mathlib.Omega.{arith}
 use lib.ListN.{length}
+use Rattle.bound_laws.specs.Routes.{Loopless}
+use Rattle.rules.specs.Base.{Member, further}
 use Rattle.rules.specs.Answers.{Ending, finished, stepsTaken, stopped}
 use Rattle.rules.specs.Syntax.{Program, rowNumbered, methodNumbered}
 use Rattle.rules.specs.Machine.{Config, Frame, Room, statementOf, start}
 use Rattle.rules.specs.Runs.{depth, lastStep, Run, EndedBy}
 use Rattle.rules.specs.Bounds.{block, blocks, blockBound, methodBound, blockFrames, methodFrames, mainBound, mainFrames, firstRepeating}
-use Rattle.rules.proofs.Lists.{Member, further}
 use Rattle.rules.proofs.States.{every-later}
 use Rattle.bound_laws.proofs.Routes.{acyclic-clear}
 use Rattle.bound_laws.proofs.Blocks.{block-goes, bound-positive, bound-some, bound-more, frames-some, frames-more, method-block, bound-law, frames-law}
-use Rattle.bound_laws.proofs.Repeating.{Loopless, methods-loopless, main-loopless, no-ring}
+use Rattle.bound_laws.proofs.Repeating.{methods-loopless, main-loopless, no-ring}
 use Rattle.bound_runs.proofs.InBlock.{Later, same, pass}
 use Rattle.bound_runs.proofs.Moves.{Nested, Move, goes-on, enters, returns, step-moves}
 

@@ -8,6 +8,7 @@ use Prim.Native.Nat.{ℕ, suc}
 use native.Mathlib.Omega.{arith}
 use lib.Dec.{T, ltb}
 use lib.ListN.{length}
+use Rattle.bound_laws.specs.Routes.{Loopless}
 use Rattle.rules.specs.Base.{ok}
 use Rattle.rules.specs.Limits.{most-branches}
 use Rattle.rules.specs.Syntax.{Rel, Expr, Formula, Operation, Simple, Stmt, Field, Program, rowNumbered, methodNumbered}
@@ -21,7 +22,6 @@ use Rattle.rules.proofs.Changes.{call-enters}
 use Rattle.rules.proofs.States.{on-inj, took-on}
 use Rattle.nesting.specs.Nests.{Wait, forElse, forJoin, forAgain, rowNests}
 use Rattle.bound_laws.proofs.Blocks.{block-first}
-use Rattle.bound_laws.proofs.Repeating.{Loopless}
 use Rattle.bound_runs.proofs.InBlock.{Later, same, NestsAt, goes, nests-row, nests-next, after-else, to-join}
 
 -- no loop is open

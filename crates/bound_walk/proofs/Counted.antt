@@ -9,16 +9,16 @@ use native.Mathlib.Omega.{arith}
 use native.Mathlib.Numerals.{add-one}
 use lib.Dec.{T}
 use lib.ListN.{getD}
+use Rattle.rules.specs.Base.{Member, at-head, further}
 use Rattle.rules.specs.Limits.{most-bound}
 use Rattle.rules.specs.Syntax.{Row, Program, rowNumbered}
 use Rattle.rules.specs.Bounds.{Block, isEnd, called, isLoop, block, callees, greatest, methodBound, blockFrames, methodFrames}
-use Rattle.rules.proofs.Lists.{Member, at-head, further, head-or, came-from, went-to}
+use Rattle.rules.proofs.Lists.{head-or, came-from, went-to}
 use Rattle.tables.specs.Decode.{rowCount, programIn}
 use Rattle.tables.specs.Tables.{Tables}
-use Rattle.bound_laws.specs.Routes.{blockAt, calls, Reaches, directly, through, Clear}
+use Rattle.bound_laws.specs.Routes.{blockAt, calls, Reaches, directly, through, Clear, Loopless}
 use Rattle.bound_laws.proofs.Routes.{none-of}
 use Rattle.bound_laws.proofs.Blocks.{block-goes, block-ends, block-first, callees-nil, callees-none, callees-some, bound-nil, bound-none, bound-some}
-use Rattle.bound_laws.proofs.Repeating.{Loopless}
 use Rattle.bound_rows.specs.declared.Line.{Line}
 use Rattle.bound_rows.specs.declared.Line.the-variants as Lines
 use Rattle.bound_rows.specs.Lines.{lineIn, Says, blocksIn}

@@ -15,10 +15,10 @@ use Rattle.rules.proofs.Lists.{T-true, F-false}
 use Rattle.tables.specs.Decode.{rowCount, methodCount, mainFirst, programIn}
 use Rattle.tables.specs.Tables.{Tables}
 use Rattle.tables.proofs.Runs.{less-or-not}
-use Rattle.bound_laws.specs.Routes.{blockAt, Reaches, directly, through}
+use Rattle.bound_laws.specs.Routes.{blockAt, Reaches, directly, through, Loopless}
 use Rattle.bound_laws.proofs.Routes.{calls-exist, blockAt-past}
 use Rattle.bound_laws.proofs.Blocks.{frames-most}
-use Rattle.bound_laws.proofs.Repeating.{Loopless, main-loopless, no-line, none-loopless}
+use Rattle.bound_laws.proofs.Repeating.{main-loopless, no-line, none-loopless}
 use Rattle.bound_rows.specs.Lines.{blocksIn}
 use Rattle.bound_rows.proofs.Lines.{callees-there, blocks-count}
 use Rattle.bound_walk.specs.declared.Visit.{Visit}

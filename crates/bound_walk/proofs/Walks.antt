@@ -7,10 +7,11 @@ use Prim.Native.Nat.{ℕ, zero, suc, _+_, _-_, _≤_, _<_}
 use native.Mathlib.Omega.{arith}
 use lib.ListN.{length, getD, set, length-set, replicate}
 use lib.Seq.{getD-set-same, getD-set-other}
+use Rattle.rules.specs.Base.{Member}
 use Rattle.rules.specs.Limits.{most-bound, most-methods}
 use Rattle.rules.specs.Syntax.{methodNumbered}
 use Rattle.rules.specs.Bounds.{Block, callees}
-use Rattle.rules.proofs.Lists.{Member, decide-eq}
+use Rattle.rules.proofs.Lists.{decide-eq}
 use Rattle.tables.specs.Decode.{rowCount, methodCount, firstRowAt, programIn}
 use Rattle.tables.specs.Tables.{Tables}
 use Rattle.bound_laws.specs.Routes.{blockAt, calls, Reaches, directly, through}

@@ -6,13 +6,12 @@ use mathlib.Core.Option.{Option, none, some}
 use Prim.Native.Nat.{ℕ, suc, _+_, _*_, _≤_, _<_, max}
 use lib.Dec.{T, leb}
 use lib.ListN.{length, getD, set, replicate}
+use Rattle.rules.specs.Base.{Member}
 use Rattle.rules.specs.Limits.{most-bound, most-methods}
 use Rattle.rules.specs.Syntax.{Row, Program}
 use Rattle.rules.specs.Bounds.{Block, isLoop, block, callees, greatest, blockBound, methodBound, blockFrames, methodFrames, mainBound, mainFrames, firstRepeating}
-use Rattle.rules.proofs.Lists.{Member}
 use Rattle.tables.specs.Decode.{rowCount, methodCount, programIn}
-use Rattle.bound_laws.specs.Routes.{blockAt, calls}
-use Rattle.bound_laws.proofs.Repeating.{Loopless}
+use Rattle.bound_laws.specs.Routes.{blockAt, calls, Loopless}
 use Rattle.bound_rows.specs.Lines.{blocksIn}
 use Rattle.bound_walk.specs.declared.Visit.{Visit}
 use Rattle.bound_walk.specs.declared.Visit.the-variants.{NotVisited, OnRoute, Done}

@@ -9,11 +9,12 @@ use native.Mathlib.Omega.{arith}
 use lib.Dec.{eqb, ltb}
 use lib.ListN.{getD}
 use borrow.Author.Tests.{ltb-true, lt-ltb}
+use Rattle.rules.specs.Base.{Member}
 use Rattle.rules.specs.Syntax.{eq, ne, null, var}
 use Rattle.rules.specs.State.{Term, Fact, representative, renameFacts}
 use Rattle.rules.proofs.Closure as Closure
 use Rattle.rules.proofs.Closure.{Listed, linked-least, linked→representative, representative→linked, itself, listed, back, onward}
-use Rattle.rules.proofs.Lists.{Member, decide-eq, end-member, none-some}
+use Rattle.rules.proofs.Lists.{decide-eq, end-member, none-some}
 use Rattle.rules.proofs.Successors.{Joined, left-law, after-before, listed-fact, alone, by-fact, by-name, swapped, chained}
 use Rattle.check_equality.specs.Layout.{slots, null-slot, left-sides, right-sides, relations-at}
 use Rattle.check_equality.specs.Keys.{termOf}

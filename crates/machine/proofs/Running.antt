@@ -13,7 +13,7 @@ use Rattle.rules.specs.Limits.{most-statements, values-shown}
 use Rattle.rules.specs.Base.{any}
 use Rattle.rules.specs.Answers as Answers
 use Rattle.rules.specs.Syntax.{Row, Program}
-use Rattle.rules.specs.Machine.{Frame, Location, Config, Step, Room, holds, among, fieldsOf, object, valueOf, entryValues, mainFrame, ends, goOn, step, run, start, runProgram}
+use Rattle.rules.specs.Machine.{Frame, Location, Config, Step, Room, holds, among, fieldsIn, object, valueOf, entryValues, mainFrame, ends, goOn, step, run, start, runProgram}
 use Rattle.rules.specs.Counters.{freshMachine}
 use Rattle.rules.specs.declared.Machine.{Machine}
 use Rattle.tables.specs.Layout.{frame-variables, frames-at}
@@ -60,7 +60,7 @@ module _ (w : List ℕ) (tables : Tables w) where
   begin-tables = only-tables (only-fill frames-at (frames-at + frame-holder) w frames-at frame-variables 0 (omega arith) (omega arith)) (omega arith)
 
   pub begins : Represents (fill w frames-at frame-variables 0) (freshMachine (mainFirst w)) (start (programIn w))
-  unfolding start programIn CallersAre fieldsOf holds among any valueOf variableAt
+  unfolding start programIn CallersAre fieldsIn holds among any valueOf variableAt
   begins =
       let w′ : List ℕ = fill w frames-at frame-variables 0 in
       record {

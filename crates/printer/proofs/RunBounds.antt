@@ -168,7 +168,7 @@ module _ (n : ℕ) where
   new-fits : (room : Room) (m m′ : Config) (x : ℕ) (fs : List Field) → room .objects ≤ 256 → Fit m → newStep room x fs m ≡ ok m′ → Fit m′
   unfolding newStep grown
   new-fits room m m′ x fs h z i =
-      let (t, k) = check-ok (ltb (length (m .heap)) (room .objects) && leb (Machine.fieldsOf (m .heap) + length fs) (room .fields)) heapFull i in
+      let (t, k) = check-ok (ltb (length (m .heap)) (room .objects) && leb (Machine.fieldsIn (m .heap) + length fs) (room .fields)) heapFull i in
       let (u, _) = and-both (ltb (length (m .heap)) (room .objects)) _ t in
       let o : Small (suc (length (m .heap))) = omega (arith, ltb→lt (length (m .heap)) (room .objects) u) in
       subst Fit (ok-inj k)

@@ -6,10 +6,10 @@ use Prim.Native.Nat.{ℕ, _+_, _*_, _/_, _%_}
 use lib.Dec.{eqb, leb, ltb}
 use Rattle.rules.specs.Base.{between}
 use Rattle.rules.specs.Limits.{most-classes, most-fields, most-methods, most-locals, most-statements}
-use Rattle.rules.specs.Grammar.{form, first-statement, afterMethod, afterMain}
+use Rattle.rules.specs.Grammar.{form, first-statement, afterMethod, afterMain, class-kind, field-kind, method-kind, main-kind, var-kind, return-kind, if-kind, else-kind, join-kind, end-kind, loop-kind, again-kind}
 use Rattle.rules.specs.Places as Places
 use Rattle.rules.specs.Places.{Branch, beforeElse, afterElse, inLoop, stageNumber, oneMoreIf}
-use Rattle.read_grammar.specs.Rows.{class-kind, field-kind, method-kind, main-kind, var-kind, return-kind, if-kind, else-kind, join-kind, end-kind, loop-kind, again-kind, kindNumbered}
+use Rattle.read_grammar.specs.Rows.{kindNumbered}
 use Rattle.read_grammar.specs.declared.Place.{Place}
 
 -- the open branches and loops are below this number: four, each of two bits

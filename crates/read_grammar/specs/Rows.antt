@@ -15,55 +15,6 @@ use Rattle.rules.specs.Places.{stageNumber}
 use Rattle.read_words.specs.Words.{kindAt}
 use Rattle.read_grammar.specs.declared.Row.{Row}
 
--- the numbers of kinds, as `kindNumber` has them
-abbrev pub class-kind : ℕ
-class-kind = 1
-
-abbrev pub field-kind : ℕ
-field-kind = 2
-
-abbrev pub method-kind : ℕ
-method-kind = 3
-
-abbrev pub main-kind : ℕ
-main-kind = 6
-
-abbrev pub var-kind : ℕ
-var-kind = 7
-
-abbrev pub set-kind : ℕ
-set-kind = 8
-
-abbrev pub let-kind : ℕ
-let-kind = 9
-
-abbrev pub new-kind : ℕ
-new-kind = 10
-
-abbrev pub call-kind : ℕ
-call-kind = 11
-
-abbrev pub return-kind : ℕ
-return-kind = 12
-
-abbrev pub if-kind : ℕ
-if-kind = 15
-
-abbrev pub else-kind : ℕ
-else-kind = 16
-
-abbrev pub join-kind : ℕ
-join-kind = 17
-
-abbrev pub end-kind : ℕ
-end-kind = 18
-
-abbrev pub loop-kind : ℕ
-loop-kind = 21
-
-abbrev pub again-kind : ℕ
-again-kind = 22
-
 -- the kind with a number; `end` where there is none
 unfoldable pub kindNumbered : ℕ → Kind
 kindNumbered n = withDefault (statement End) (kindAt n)

@@ -7,9 +7,9 @@ ghost use mathlib.Core.Path.{_≡_};
 ghost use mathlib.Core.Bool.{true};
 ghost use Prim.Native.Nat.{_≤_, _<_};
 ghost use Rattle.rules.specs.Limits.{most-classes, most-fields, most-methods, most-locals};
-ghost use Rattle.rules.specs.Grammar.{form, first-statement, IsKindNumber};
+ghost use Rattle.rules.specs.Grammar.{form, first-statement, IsKindNumber, class-kind, field-kind, method-kind, main-kind, var-kind};
 ghost use Rattle.rules.specs.Places.{firstPlace, stageNumber};
-ghost use Rattle.read_grammar.specs.Rows.{class-kind, field-kind, method-kind, main-kind, var-kind, kindNumbered};
+ghost use Rattle.read_grammar.specs.Rows.{kindNumbered};
 ghost use Rattle.read_grammar.specs.Coded.{open-limit, coded, fits, inPlace, stageAfter, branchesAfter, atStage, placeAfter, withinLimits, AfterWithin};
 
 // The open branches and loops as one number to the base 4, the innermost lowest: a branch before its `else`, after it, or a loop.

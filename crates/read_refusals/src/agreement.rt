@@ -9,9 +9,8 @@ ghost use Prim.Native.Nat.{_≤_};
 ghost use lib.ListN.{length, drop, getD};
 ghost use Rattle.rules.specs.Limits.{work-bytes};
 ghost use Rattle.rules.specs.Text.{isExpr};
-ghost use Rattle.rules.specs.Grammar.{IsKindNumber};
+ghost use Rattle.rules.specs.Grammar.{IsKindNumber, set-kind, let-kind, new-kind, call-kind, return-kind};
 ghost use Rattle.read_fields.specs.Cuts.{more};
-ghost use Rattle.read_grammar.specs.Rows.{set-kind, let-kind, new-kind, call-kind, return-kind};
 ghost use Rattle.read_scopes.specs.Meanings.{NamesFit};
 ghost use Rattle.read_refusals.specs.Tests.{lineAfter, Formed, intsIn, sidesIn, apartIn};
 

@@ -8,7 +8,7 @@ use lib.ListN.{length}
 use Rattle.rules.specs.Base.{Name, bytes}
 use Rattle.rules.specs.Limits.{work-bytes, most-classes, most-methods, most-locals}
 use Rattle.rules.specs.Syntax.{this-variable, parameter, first-local, result-variable}
-use Rattle.rules.specs.Scope.{FieldDeclaration, MethodDeclaration, Declarations, Variable, Block, Scope}
+use Rattle.rules.specs.Scope.{FieldDeclaration, MethodDeclaration, Declarations, Variable, BlockScope, Scope}
 use Rattle.tables.specs.Layout.{most-names}
 use Rattle.read_names.specs.declared.Span.{Span}
 use Rattle.read_names.specs.declared.Row.{Row}
@@ -75,7 +75,7 @@ module _ (t w : List ℕ) where
   unfoldable pub ownVariables : Names → List Variable
   ownVariables c = cond (c .method) (run variableAt parameter (suc (c .locals))) (run variableAt first-local (c .locals))
 
-  unfoldable pub blockIn : Names → Block
+  unfoldable pub blockIn : Names → BlockScope
   blockIn c =
       record {
         variables = cond (c .method) (thisIn ∷ ownVariables c) (ownVariables c);

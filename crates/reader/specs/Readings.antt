@@ -11,13 +11,12 @@ use Rattle.rules.specs.Syntax.{Formula}
 use Rattle.rules.specs.Base.{ok, no}
 use Rattle.rules.specs.Answers as Answers
 use Rattle.rules.specs.Answers.{Verdict, accepted, refused}
-use Rattle.rules.specs.Grammar.{Line, IsKindNumber}
+use Rattle.rules.specs.Grammar.{Line, IsKindNumber, loop-kind}
 use Rattle.rules.specs.Scope.{declarations, firstScope}
 use Rattle.rules.specs.Items.{Item, resolveLine, resolveLines}
 use Rattle.rules.specs.Reading.{readText, framed, checkFramed, program}
 use Rattle.read_scan.specs.declared.Word.{Word}
 use Rattle.read_grammar.specs.Rows.{kindNumbered}
-use Rattle.tables.specs.Numbers.{loop-kind}
 use Rattle.tables.specs.Layout.{most-atom-rows}
 use Rattle.tables.specs.Decode.{programIn}
 use Rattle.tables.specs.Tables.{Tables}

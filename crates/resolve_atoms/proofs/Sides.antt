@@ -8,7 +8,7 @@ use native.Mathlib.Omega.{arith}
 use lib.Dec.{T, eqb, ltb}
 use lib.ListN.{length}
 use borrow.Author.Tests.{ltb-true, not-true}
-use Rattle.rules.specs.Base.{Name, is, any, index, eqName}
+use Rattle.rules.specs.Base.{Name, is, any, index, eqName, Member}
 use Rattle.rules.specs.Syntax as Syntax
 use Rattle.rules.specs.Syntax.{Expr, num, null, var, path, acc, cmp}
 use Rattle.rules.specs.Text.{number, numeral, hasStop, isName, isExpr, exprOf, beforeStop, afterStop, reserved, isRel, relOf, isAtom, atomOf}
@@ -18,7 +18,7 @@ use Rattle.rules.specs.Names as Names
 use Rattle.rules.specs.Names.{knownExpr, ofClassIn, knownField, isInt, isFieldOf, variableType, variableNumber, fieldNumber, inScope, lookUp, noVariable}
 use Rattle.rules.specs.Items.{resolveExpr, resolveAtom}
 use Rattle.rules.proofs.Signs.{number-small}
-use Rattle.rules.proofs.Lists.{T-true, Member, head-or, append-member, and-both, in-any, any-in, first-member}
+use Rattle.rules.proofs.Lists.{T-true, head-or, append-member, and-both, in-any, any-in, first-member}
 use Rattle.read_words.specs.Words.{acc-word, eq-word, ne-word, wordNumber}
 use Rattle.read_bytes.proofs.Search.{both-true, true-false}
 use Rattle.read_words.proofs.Words.{acc-is, eq-is, atom-rel, atom-before, atom-after}

@@ -10,7 +10,7 @@ use Rattle.rules.specs.Limits.{work-bytes}
 use Rattle.rules.specs.Syntax.{Field, Stmt}
 use Rattle.rules.specs.Grammar as Grammar
 use Rattle.rules.specs.Grammar.{Kind, Line, statement, first-statement, isKind, kindNumber}
-use Rattle.rules.specs.Scope.{Declarations, Variable, Scope, noBlock, classesAfter, membersAfter, blockAfter, scopeAfter}
+use Rattle.rules.specs.Scope.{Declarations, Variable, Scope, noBlockScope, classesAfter, membersAfter, blockAfter, scopeAfter}
 use Rattle.rules.specs.Names.{fieldNumber}
 use Rattle.rules.specs.Items.{itemOf, aStatement}
 use Rattle.tables.specs.Layout.{names-at}
@@ -101,7 +101,7 @@ ensures-grown Γ vs F n l = record { classes = refl; methods = last-length _ (F 
 
 -- the block closed, or left
 closed : Bool → Scope → Scope
-closed e s = record { classes = s .classes; members = s .members; block = cond e noBlock (s .block) }
+closed e s = record { classes = s .classes; members = s .members; block = cond e noBlockScope (s .block) }
 
 module _ (t w w′ : List ℕ) (p : Pass) (l : Line) (o : Quiet (l .kind)) (ready : PassFits t w p) (kept : Kept names-at work-bytes w w′) where
   abbrev next : Names

@@ -5,9 +5,8 @@ use mathlib.Core.List.{List}
 use Prim.Native.Nat.{ℕ, suc, _+_, _-_, _≤_, _<_}
 use lib.ListN.{length}
 use Rattle.rules.specs.Limits.{work-bytes}
-use Rattle.rules.specs.Grammar.{Line, statement, Loop, kindNumber}
+use Rattle.rules.specs.Grammar.{Line, statement, Loop, kindNumber, requires-kind, ensures-kind}
 use Rattle.read_grammar.specs.Rows.{kindNumbered}
-use Rattle.tables.specs.Numbers.{requires-kind, ensures-kind}
 use Rattle.tables.specs.Layout.{names-at}
 use Rattle.tables.specs.Decode.{framedFrom}
 use Rattle.tables.specs.Stores.{Kept}

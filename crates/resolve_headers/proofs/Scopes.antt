@@ -11,7 +11,7 @@ use Rattle.rules.specs.Base.{Name}
 use Rattle.rules.specs.Grammar as Grammar
 use Rattle.rules.specs.Grammar.{Class, Field, Method}
 use Rattle.rules.specs.Scope as Scope
-use Rattle.rules.specs.Scope.{Block, scopeAfter}
+use Rattle.rules.specs.Scope.{BlockScope, scopeAfter}
 use Rattle.tables.specs.Stores.{Kept}
 use Rattle.read_scopes.specs.declared.Names.{Names}
 use Rattle.read_scopes.specs.declared.Above.{Above}
@@ -77,7 +77,7 @@ module _ (t w : List ℕ) (c : Names) (a : Above) (ws : List Name) where
 
   -- the block is that of the method
   pub method-scope :
-      entryAt t w (methods-first + (a .methods .first + a .methods .count)) .name ≡ getD ws 1 [] → (b : Block) →
+      entryAt t w (methods-first + (a .methods .first + a .methods .count)) .name ≡ getD ws 1 [] → (b : BlockScope) →
       b ≡ Scope.methodBlock (classAbove t w a) (getD ws 0 []) (getD ws 2 []) (getD ws 3 []) →
       record { classes = scopeIn t w c (aboveAfter Method a) .classes; members = scopeIn t w c (aboveAfter Method a) .members; block = b }
       ≡ scopeAfter (scopeIn t w c a) (lineWith Method ws)

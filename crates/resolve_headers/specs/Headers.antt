@@ -5,8 +5,7 @@ use mathlib.Core.List.{List}
 use Prim.Native.Nat.{ℕ, pred, _+_, _≤_}
 use lib.Dec.{eqb}
 use Rattle.rules.specs.Limits.{most-statements}
-use Rattle.rules.specs.Grammar.{Line}
-use Rattle.tables.specs.Numbers.{class-kind, main-kind}
+use Rattle.rules.specs.Grammar.{Line, class-kind, main-kind}
 use Rattle.tables.specs.Decode.{fieldCountAt}
 use Rattle.read_scopes.specs.declared.Names.{Names}
 use Rattle.read_scopes.specs.declared.Above.{Above}

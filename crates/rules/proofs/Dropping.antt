@@ -7,11 +7,11 @@ use mathlib.Core.Option.{Option, none, some}
 use Prim.Native.Nat.{ℕ}
 use native.Mathlib.Omega.{arith}
 use lib.Dec.{T, eqb, eqb→eq, eqb-refl, T-not, not-T}
-use Rattle.rules.specs.Base.{ok, bindOption, orElse}
+use Rattle.rules.specs.Base.{ok, bindOption, orElse, Member, at-head, further}
 use Rattle.rules.specs.Answers.{noPermission, notShown}
 use Rattle.rules.specs.Syntax.{Formula, num, null, var, path, acc, cmp, same}
 use Rattle.rules.specs.State.{Term, Permission, State, Equality, Shown, Split, Renaming, pathOf, equalIn, names, resolve, holdsIn, split, showFrom, show, becomes, lists, withoutPaths, factsWithout, dropPaths, unlisted, remainder, renameVariable, renameTerm, renamePermission, renamePermissions, variables, standIn, removedTerm, removeTo, remove}
-use Rattle.rules.proofs.Lists.{Member, at-head, in-any, first-in, and-both, further, head-or, is-head, keep-member, member-keep, went-to, decide-test, F-false, some-inj, none-some, bind-some}
+use Rattle.rules.proofs.Lists.{in-any, first-in, and-both, head-or, is-head, keep-member, member-keep, went-to, decide-test, F-false, some-inj, none-some, bind-some}
 use Rattle.rules.proofs.Tries.{bind-ok, check-ok, orElse-ok, ok-inj}
 use Rattle.rules.proofs.Closure.{equalIn-sound, equalIn-complete, same→≡}
 use Rattle.rules.proofs.Successors.{Known, Formed, Joined, way-renamed, member-lists, lists-member, without-is, left-law, drop-law}

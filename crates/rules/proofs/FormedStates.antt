@@ -8,13 +8,13 @@ use mathlib.Core.Option.{Option, none, some}
 use Prim.Native.Nat.{ℕ}
 use lib.Dec.{eqb}
 use lib.ListN.{getD}
-use Rattle.rules.specs.Base.{ok, first, mapOption, orElse}
+use Rattle.rules.specs.Base.{ok, first, mapOption, orElse, Member, at-head, further}
 use Rattle.rules.specs.Answers.{unresolved, notShown, noPermission}
 use Rattle.rules.specs.Syntax.{Rel, Formula, Field, Method, Program, Simple, methodNumbered, num, null, var, path, acc, cmp, eq, ne, set, assign, compute, new, call, assert, release, same, this-variable, parameter, result-variable}
 use Rattle.rules.specs.State.{Term, Permission, Fact, State, Equality, Shown, Renaming, empty, pathOf, equalIn, names, resolve, holdsIn, split, show}
 use Rattle.rules.specs.State.{variables, termsOf, becomes, renameFact, trivial, renameFacts, withoutPaths, factsWithout, dropPaths, remainder, renameTerm, renamePermissions, standIn, removedTerm, removeTo, remove, addPermission, addFact, add}
 use Rattle.rules.specs.Rules.{actual, substTerm, substAtom, addEqual, assignRule, addFields, initial, addInitial, newRule, setRule, callRule, opposite, ifRule, rule}
-use Rattle.rules.proofs.Lists.{Member, at-head, further, head-or, is-head, member-left, member-right, keep-member, came-from, end-member, bind-some, some-inj, first-in}
+use Rattle.rules.proofs.Lists.{head-or, is-head, member-left, member-right, keep-member, came-from, end-member, bind-some, some-inj, first-in}
 use Rattle.rules.proofs.Tries.{bind-ok, check-ok, orElse-ok, ok-inj}
 use Rattle.rules.proofs.Successors.{Known, Formed, order-known, gives-way, successor-is, without-is}
 use Rattle.rules.proofs.Dropping.{still-known, consumed-or, split-parts, AllOf, shown-all, renamed-known}

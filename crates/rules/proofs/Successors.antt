@@ -7,10 +7,10 @@ use mathlib.Core.Logic.{_↔_, _⊎_, inl, inr, ⊎-elim}
 use mathlib.Core.Option.{Option, none, some}
 use Prim.Native.Nat.{ℕ}
 use lib.Dec.{T, leb, not-T}
-use Rattle.rules.specs.Base.{mapOption, bindOption}
+use Rattle.rules.specs.Base.{mapOption, bindOption, Member, at-head, further}
 use Rattle.rules.specs.Syntax.{offset, eq, num, null, var, path, same}
 use Rattle.rules.specs.State.{Term, Permission, Fact, State, Equality, Renaming, pathOf, isNe, equalIn, numbers, termsOf, variables, insert, rising, inOrder, isLeft, successor, givesWay, becomes, renameFact, trivial, renameFacts, lists, withoutPaths}
-use Rattle.rules.proofs.Lists.{Member, at-head, further, head-or, is-head, append-member, member-left, member-right, map-member, member-map, keep-member, member-keep, came-from, went-to, and-both, and-intro, any-in, in-any, first-in, first-some, none-some, some-inj, bind-some, option-cases, decide-test}
+use Rattle.rules.proofs.Lists.{head-or, is-head, append-member, member-left, member-right, map-member, member-map, keep-member, member-keep, came-from, went-to, and-both, and-intro, any-in, in-any, first-in, first-some, none-some, some-inj, bind-some, option-cases, decide-test}
 use Rattle.rules.proofs.Closure.{Listed, here, there, Linked, itself, listed, back, onward, same→≡, same-refl, equalIn-sound, equalIn-complete}
 
 -- A TERM THAT IS LEFT

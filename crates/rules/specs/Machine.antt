@@ -76,9 +76,9 @@ unfoldable pub store : Heap → ℕ → ℕ → ℕ → Heap
 store h zero f v = h
 store h (suc i) f v = update [] h i (storeIn f v (getD h i []))
 
-unfoldable pub fieldsOf : Heap → ℕ
-fieldsOf [] = 0
-fieldsOf (o ∷ h) = length o + fieldsOf h
+unfoldable pub fieldsIn : Heap → ℕ
+fieldsIn [] = 0
+fieldsIn (o ∷ h) = length o + fieldsIn h
 
 unfoldable pub valueOf : Frame → ℕ → ℕ
 valueOf F x = getD (F .values) x 0
@@ -266,7 +266,7 @@ pub record Room : Type 0 where
 -- "22 only where `new` would pass 256 objects or 1,024 fields"
 unfoldable pub newStep : Room → ℕ → List Field → Config → Try Stop Config
 newStep room x fs m =
-    check (ltb (length (m .heap)) (room .objects) && leb (fieldsOf (m .heap) + length fs) (room .fields)) heapFull
+    check (ltb (length (m .heap)) (room .objects) && leb (fieldsIn (m .heap) + length fs) (room .fields)) heapFull
     >> ok (grown m x (map newCell fs))
 
 -- "Variables and `result` start as null or 0."
@@ -423,5 +423,5 @@ runProgram room P k = run room P k 0 (start P)
 
 -- Everything above computes where this unfolds.
 unfoldable pub opened : Unit {0}
-unfolding eqLocation among holds without valueIn object valueAt storeIn store fieldsOf valueOf locate value compared takeFrom footprint jump advance bind holding withFrame depthAfter closes seek closing openAfter openAt loopOf choose ifStep elseStep loopStep againStep stored setStep assignStep raised inRange computed computeStep newCell grown newStep entryValues callFrame entered callStep targetOf statementOf returned assertStep releaseStep took endStep returnStep mainFrame ends goOn simpleStep stepAt step run start runProgram
+unfolding eqLocation among holds without valueIn object valueAt storeIn store fieldsIn valueOf locate value compared takeFrom footprint jump advance bind holding withFrame depthAfter closes seek closing openAfter openAt loopOf choose ifStep elseStep loopStep againStep stored setStep assignStep raised inRange computed computeStep newCell grown newStep entryValues callFrame entered callStep targetOf statementOf returned assertStep releaseStep took endStep returnStep mainFrame ends goOn simpleStep stepAt step run start runProgram
 opened = tt

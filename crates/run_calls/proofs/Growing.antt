@@ -15,7 +15,7 @@ use Rattle.rules.specs.Limits.{heap-objects, heap-fields, most-fields, most-cla
 use Rattle.rules.specs.Base.{Try, ok, no, _>>_, check, any}
 use Rattle.rules.specs.Answers.{Stop, heapFull}
 use Rattle.rules.specs.Grammar.{New, statementNumber}
-use Rattle.rules.specs.Machine.{Heap, Cell, Location, Config, took, holds, among, eqLocation, fieldsOf, object, valueAt, holding, bind, advance, withFrame, newCell, grown, newStep}
+use Rattle.rules.specs.Machine.{Heap, Cell, Location, Config, took, holds, among, eqLocation, fieldsIn, object, valueAt, holding, bind, advance, withFrame, newCell, grown, newStep}
 use Rattle.rules.specs.declared.Machine.{Machine}
 use Rattle.rules.proofs.Lists.{T-true, F-false, or-left, or-right, or-cases, none-some, decide-eq}
 use Rattle.rules.proofs.Heaps.{grown-other, grown-new}
@@ -86,10 +86,10 @@ other-made :
     among p (map (λ c. record { object = o; field = c .name }) cs) ≡ false
 other-made o p cs d = F-false _ (λ t. d (in-new p o cs t))
 
-fields-more : (h : Heap) (o : List Cell) → fieldsOf (h ++ (o ∷ [])) ≡ fieldsOf h + length o
-unfolding fieldsOf
+fields-more : (h : Heap) (o : List Cell) → fieldsIn (h ++ (o ∷ [])) ≡ fieldsIn h + length o
+unfolding fieldsIn
 fields-more [] o = omega arith
-fields-more (x ∷ h) o = rw (fields-more h o) (let e : length x + (fieldsOf h + length o) ≡ length x + fieldsOf h + length o = omega arith in e)
+fields-more (x ∷ h) o = rw (fields-more h o) (let e : length x + (fieldsIn h + length o) ≡ length x + fieldsIn h + length o = omega arith in e)
 
 below-or : (i n : ℕ) → (i < n) ⊎ (n ≤ i)
 below-or i zero = inr (omega arith)
@@ -404,8 +404,8 @@ module _ {w : List ℕ} {c : Machine} {m : Config} (R : Represents w c m) (class
       (only-tables (only-word frames-at (frames-at + 8192) w′ (frameAt (length (m .callers)) + x * 4) (c .objects + 1) (omega arith) (omega (arith, R .most, R .frames))) (omega arith)) in
       let k2 : kindAt w″ (c .row) ≡ kindAt w (c .row) = kind-same w w″ t2 (c .row) (omega (arith, R .frame .row-fits, R .tables .rows)) in
       let a : ltb (length (m .heap)) mo ≡ true = lt-ltb (length (m .heap)) mo (omega (arith, R .heap .count)) in
-      let b : leb (fieldsOf (m .heap) + length (classAt w class)) mf ≡ true =
-      le-leb (fieldsOf (m .heap) + length (classAt w class)) mf (omega (arith, R .heap .fields-count, class-length w class)) in
+      let b : leb (fieldsIn (m .heap) + length (classAt w class)) mf ≡ true =
+      le-leb (fieldsIn (m .heap) + length (classAt w class)) mf (omega (arith, R .heap .fields-count, class-length w class)) in
       let o : suc (length (m .heap)) ≡ c .objects + 1 = omega (arith, R .heap .count) in
       follow-on R _ _ _ (rw (a, b) (ap (λ (i : ℕ). ok (record { heap = m .heap ++ (cells ∷ []); frame = advance (bind x i (holding (m .frame .held ++ gained) (m .frame))); callers = m .callers })) o)) refl
       (moved-to R2 (c .row + 1) (c .steps + 1) _ (next-fits R2 (λ z. k (sym k2 ∙ z))) (next-is R2) (omega arith))
@@ -420,8 +420,8 @@ new-stop {w} {c} {m} R class x mo mf (inl l) =
     let a : ltb (length (m .heap)) mo ≡ false = le-ltb (length (m .heap)) mo (omega (arith, R .heap .count)) in
     follow-stop R Fault.HeapFull (newStep (record { objects = mo; fields = mf }) x (classAt w class) m) (rw a)
 new-stop {w} {c} {m} R class x mo mf (inr l) =
-    let b : leb (fieldsOf (m .heap) + length (classAt w class)) mf ≡ false =
-    lt-leb (fieldsOf (m .heap) + length (classAt w class)) mf (omega (arith, R .heap .fields-count, class-length w class)) in
+    let b : leb (fieldsIn (m .heap) + length (classAt w class)) mf ≡ false =
+    lt-leb (fieldsIn (m .heap) + length (classAt w class)) mf (omega (arith, R .heap .fields-count, class-length w class)) in
     follow-stop R Fault.HeapFull (newStep (record { objects = mo; fields = mf }) x (classAt w class) m) (rw b (go (ltb (length (m .heap)) mo)))
   where
     go : (a : Bool) → _≡_ {A = Try Stop Config} (check (a && false) heapFull >> ok (grown m x (map newCell (classAt w class)))) (no heapFull)

@@ -89,7 +89,7 @@ fn condition_right(work: &[u8], v: View, a: usize, l: u32) -> Truth
     }
 }
 
-// The condition of an `if`: `test` again, because the compiler puts a function into its only caller, and a formula takes twice as long
+// The condition of an `if` or a `loop`: `test` again, because the compiler puts a function into its only caller, and a formula takes twice as long
 // where `footprint` calls a `test` that is shared.
 pub fn condition(work: &[u8], v: View, a: usize) -> Truth
     requires { ⌜ Readable (now work) v × (a < atomCount (now work)) ⌝ }

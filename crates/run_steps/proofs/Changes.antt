@@ -11,7 +11,7 @@ use lib.ListN.{length}
 use borrow.Author.Tests.{ne-eqb, eqb-true}
 use Rattle.rules.specs.Limits.{heap-objects, heap-fields, most-frames}
 use Rattle.rules.specs.Base.{any}
-use Rattle.rules.specs.Machine.{Location, Config, among, without, valueAt, object, fieldsOf, store, bind, withFrame}
+use Rattle.rules.specs.Machine.{Location, Config, among, without, valueAt, object, fieldsIn, store, bind, withFrame}
 use Rattle.rules.specs.declared.Machine.{Machine}
 use Rattle.rules.proofs.Lists.{decide-eq, some-inj, T-true, F-false}
 use Rattle.rules.proofs.Heaps.{store-same, store-other}
@@ -213,7 +213,7 @@ module _ {w : List ℕ} {c : Machine} {m : Config} (R : Represents w c m) where
           heap-changed w (putWord w (values-at + k * 4) v) t (R .tables) (c .objects) (c .fields) (c .holders) (c .holders)
           (m .heap) (store (m .heap) o f v) S
           (subst (λ i. length (store (m .heap) i f v) ≡ length (m .heap)) q (store-size (m .heap) (P .index) f v l))
-          (subst (λ i. fieldsOf (store (m .heap) i f v) ≡ fieldsOf (m .heap)) q (store-fields (m .heap) (P .index) f v l has))
+          (subst (λ i. fieldsIn (store (m .heap) i f v) ≡ fieldsIn (m .heap)) q (store-fields (m .heap) (P .index) f v l has))
           (read-back (omega (arith, cell-small o f (R .tables) (R .heap .fit) e, R .heap .most-fields)) (λ z. omega (arith, q, z)))
           (λ o′ g h. subst (λ i. Has (object (store (m .heap) i f v) o′) g) q (store-has (m .heap) (P .index) f v l o′ g h))
           (λ j h. rw (K j h) (R .heap .marks j h)) (R .heap)

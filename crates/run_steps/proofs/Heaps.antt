@@ -8,7 +8,7 @@ use native.Mathlib.Omega.{arith}
 use lib.Dec.{T, eqb, eqb→eq}
 use lib.ListN.{length, getD}
 use Rattle.rules.specs.Base.{any, update}
-use Rattle.rules.specs.Machine.{Heap, Cell, store, storeIn, object, fieldsOf}
+use Rattle.rules.specs.Machine.{Heap, Cell, store, storeIn, object, fieldsIn}
 use Rattle.rules.proofs.Lists.{decide-eq, update-same, update-other, or-left, or-right, or-cases}
 
 -- a field of this name is there
@@ -47,8 +47,8 @@ update-size d [] i a h = absurd (omega arith)
 update-size d (x ∷ l) zero a h = refl
 update-size d (x ∷ l) (suc i) a h = ap suc (update-size d l i a (omega arith))
 
-fields-update : (h : Heap) (i : ℕ) (o : List Cell) → i < length h → length o ≡ length (getD h i []) → fieldsOf (update [] h i o) ≡ fieldsOf h
-unfolding update fieldsOf
+fields-update : (h : Heap) (i : ℕ) (o : List Cell) → i < length h → length o ≡ length (getD h i []) → fieldsIn (update [] h i o) ≡ fieldsIn h
+unfolding update fieldsIn
 fields-update [] i o l e = absurd (omega arith)
 fields-update (x ∷ h) zero o l e = rw e
 fields-update (x ∷ h) (suc i) o l e = ap (λ (n : ℕ). length x + n) (fields-update h i o (omega arith) e)
@@ -58,7 +58,7 @@ module _ (h : Heap) (i f v : ℕ) (l : i < length h) where
   unfolding store
   store-size = update-size [] h i _ l
 
-  pub store-fields : Has (object h (suc i)) f → fieldsOf (store h (suc i) f v) ≡ fieldsOf h
+  pub store-fields : Has (object h (suc i)) f → fieldsIn (store h (suc i) f v) ≡ fieldsIn h
   unfolding store object
   store-fields t = fields-update h i _ l (store-in-size f v (getD h i []) t)
 

@@ -11,7 +11,7 @@ use lib.ListN.{length}
 use borrow.Author.Tests.{ltb-true}
 use Rattle.rules.specs.Limits.{heap-objects, most-classes, most-statements}
 use Rattle.rules.specs.Base.{any}
-use Rattle.rules.specs.Machine.{Heap, Frame, Location, fieldsOf, object, valueAt}
+use Rattle.rules.specs.Machine.{Heap, Frame, Location, fieldsIn, object, valueAt}
 use Rattle.rules.proofs.Lists.{T-true, and-both}
 use Rattle.tables.specs.Layout.{objects-at, frames-at, frame-variables, most-names}
 use Rattle.tables.specs.Decode.{fieldCountAt}
@@ -131,7 +131,7 @@ module _ (w w′ : List ℕ) (same : SameTables w w′) (tables : Tables w) wher
 
   -- THE HEAP
   pub heap-changed :
-      (objects fields holders holders′ : ℕ) (h h′ : Heap) → SameObjects objects w w′ → length h′ ≡ length h → fieldsOf h′ ≡ fieldsOf h →
+      (objects fields holders holders′ : ℕ) (h h′ : Heap) → SameObjects objects w w′ → length h′ ≡ length h → fieldsIn h′ ≡ fieldsIn h →
       ((o f k : ℕ) → cellOf w objects o f ≡ some k → valueAt h′ o f ≡ cellValue w′ k) →
       ((o f : ℕ) → T (any (λ c. eqb (c .name) f) (object h o)) → T (any (λ c. eqb (c .name) f) (object h′ o))) →
       ((k : ℕ) → k < fields → cellHolder w′ k ≤ holders′) → HeapIs w objects fields holders h → HeapIs w′ objects fields holders′ h′

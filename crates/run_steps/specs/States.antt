@@ -10,7 +10,7 @@ use lib.ListN.{length}
 use Rattle.rules.specs.Limits.{heap-objects, heap-fields, most-frames}
 use Rattle.rules.specs.Base.{any}
 use Rattle.rules.specs.Grammar.{Statement, Call, If, Else, End, Loop, Again, statementNumber}
-use Rattle.rules.specs.Machine.{Heap, Frame, Location, Config, Step, fieldsOf, valueAt, object, valueOf, holds, on, stop, done, took}
+use Rattle.rules.specs.Machine.{Heap, Frame, Location, Config, Step, fieldsIn, valueAt, object, valueOf, holds, on, stop, done, took}
 use Rattle.rules.specs.Machine.{setStep, assignStep, computeStep, assertStep, releaseStep, ifStep, elseStep, loopStep, againStep}
 use Rattle.rules.specs.declared.Machine.{Machine}
 use Rattle.tables.specs.Layout.{frame-variables}
@@ -23,7 +23,7 @@ use Rattle.run_heap.specs.Views.{frameAt, variableAt, savedHolder, savedRow, me
 -- so many objects with so many fields stand for the heap; no cell is held by a number above `holders`
 pub record HeapIs (w : List ℕ) (objects fields holders : ℕ) (h : Heap) : Type 0 where
   pub count : length h ≡ objects
-  pub fields-count : fieldsOf h ≡ fields
+  pub fields-count : fieldsIn h ≡ fields
   pub most-objects : objects ≤ heap-objects
   pub most-fields : fields ≤ heap-fields
   pub fit : (i : ℕ) → i < objects → ObjectFits w fields i

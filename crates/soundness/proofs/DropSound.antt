@@ -5,11 +5,11 @@ use mathlib.Core.List.{List, [], _∷_}
 use mathlib.Core.Logic.{_⊎_, ⊎-elim}
 use mathlib.Core.Option.{some}
 use lib.Dec.{T}
-use Rattle.rules.specs.Base.{any, mapOption}
+use Rattle.rules.specs.Base.{any, mapOption, Member}
 use Rattle.rules.specs.Syntax.{num, null, var, path}
 use Rattle.rules.specs.State.{Term, Permission, Fact, State, Renaming, pathOf, equalIn, becomes, renameFact, trivial, renameFacts, lists, withoutPaths, factsWithout}
 use Rattle.rules.specs.Machine.{Frame, Heap}
-use Rattle.rules.proofs.Lists.{Member, keep-member, came-from, bind-some, some-inj}
+use Rattle.rules.proofs.Lists.{keep-member, came-from, bind-some, some-inj}
 use Rattle.rules.proofs.Successors.{Known, order-known, successor-is, gives-way, member-lists, without-is}
 use Rattle.soundness.proofs.Satisfied.{termValue, Reads, FactTrue, Satisfied, related-by}
 use Rattle.soundness.proofs.ShowSound.{equal-value}

@@ -7,7 +7,7 @@ use mathlib.Core.Logic.{⊎-elim}
 use Prim.Native.Nat.{ℕ, zero, suc, pred}
 use lib.Dec.{T, lit<}
 use lib.ListN.{getD}
-use Rattle.rules.specs.Base.{Name, eqName, any}
+use Rattle.rules.specs.Base.{Name, eqName, any, Member, at-head}
 use Rattle.rules.specs.Syntax as Syntax
 use Rattle.rules.specs.Syntax.{Program}
 use Rattle.rules.specs.Grammar.{Kind, Line, isKind, fields}
@@ -20,7 +20,7 @@ use Rattle.rules.specs.Names.{fieldNumber}
 use Rattle.rules.specs.Items.{Item, itemOf}
 use Rattle.rules.specs.Items as Items
 use Rattle.rules.specs.Reading.{noProgram, onLast, withItem, withItems, program}
-use Rattle.rules.proofs.Lists.{Member, at-head, head-or, member-left, member-right, or-left, or-right, same-name, name-same, index-same}
+use Rattle.rules.proofs.Lists.{head-or, member-left, member-right, or-left, or-right, same-name, name-same, index-same}
 use Rattle.soundness.specs.WellFormed.{NoneNamed, NamesDiffer}
 use Rattle.rules.proofs.LinesTaken.{lineOf, Taken, TakenLines, TakenText, none, line}
 use Rattle.soundness.proofs.NamesInScope.{new-apart}

@@ -7,7 +7,7 @@ use mathlib.Core.Logic.{inl, inr, ⊎-elim}
 use Prim.Native.Nat.{ℕ, _≤_}
 use native.Mathlib.Omega.{arith}
 use lib.Dec.{T, leb, leb→le, le→leb, lit<, lit≤}
-use Rattle.rules.specs.Base.{Name, between}
+use Rattle.rules.specs.Base.{Name, between, Member}
 use Rattle.rules.specs.Base as Base
 use Rattle.rules.specs.Syntax.{result-variable}
 use Rattle.rules.specs.Grammar.{Kind, Stage, Line, form, afterHeader, afterRequires, afterMethod, afterMain}
@@ -15,11 +15,11 @@ use Rattle.rules.specs.Grammar.{Class, Field, Method, Requires, Ensures, Main, 
 use Rattle.rules.specs.Grammar as Grammar
 use Rattle.rules.specs.Places.{Place, firstPlace, stageNumber, inPlace, placeAfter, stageAfter}
 use Rattle.rules.specs.Places as Places
-use Rattle.rules.specs.Scope.{Variable, Block, Scope, declarations, methodBlock, blockAfter, scopeAfter, visible, firstScope}
+use Rattle.rules.specs.Scope.{Variable, BlockScope, Scope, declarations, methodBlock, blockAfter, scopeAfter, visible, firstScope}
 use Rattle.rules.specs.Scope as Scope
 use Rattle.rules.specs.Items.{Item, itemOf, resolveStatement, aClass, aField, aMethod, aRequires, anEnsures, aMain, aLocal, aStatement}
 use Rattle.rules.specs.Items as Items
-use Rattle.rules.proofs.Lists.{Member, head-or, append-member, and-both, and-intro}
+use Rattle.rules.proofs.Lists.{head-or, append-member, and-both, and-intro}
 use Rattle.soundness.specs.WellFormed.{Over, AtCall, AtEnd, StmtFormed}
 use Rattle.rules.proofs.LinesTaken.{lineOf, Taken, TakenLines, TakenText, none, line}
 use Rattle.soundness.proofs.NamesInScope.{assigned-local, target-apart, formula-over}
@@ -40,7 +40,7 @@ AllFormed [] = Unit {0}
 AllFormed (a ∷ items) = ItemFormed a × AllFormed items
 
 -- HEADERS: from a `method` line to its `ensures` the block has `this` and w, no locals yet, and `result` apart
-record Header (b : Block) : Type 0 where
+record Header (b : BlockScope) : Type 0 where
   variables : (v : Variable) → Member v (b .variables) → AtCall (v .number)
   result : (v : Variable) → Member v (b .result) → v .number ≡ result-variable
 
@@ -58,14 +58,14 @@ method-header C T U w =
     }
 
 -- with `result`
-header-ends : (b : Block) → Header b → (v : Variable) → Member v (b .variables ++ b .result) → AtEnd (v .number)
+header-ends : (b : BlockScope) → Header b → (v : Variable) → Member v (b .variables ++ b .result) → AtEnd (v .number)
 header-ends b H v i =
     ⊎-elim (λ j. inl (H .variables v j)) (λ j. inr (H .result v j)) (append-member (b .variables) (b .result) v i)
 
 abbrev inHeader : Stage → Bool
 inHeader st = between (stageNumber afterHeader) (stageNumber afterRequires) (stageNumber st)
 
-abbrev HeaderAt : Stage → Block → Type 0
+abbrev HeaderAt : Stage → BlockScope → Type 0
 HeaderAt st b = T (inHeader st) → Header b
 
 wider : (a z b y n : ℕ) → b ≤ a → z ≤ y → T (between a z n) → T (between b y n)

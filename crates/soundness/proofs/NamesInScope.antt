@@ -7,7 +7,7 @@ use Prim.Native.Nat.{ℕ, zero, suc, _≤_, _<_}
 use native.Mathlib.Omega.{arith}
 use lib.Dec.{T, T-not, eqb, eqb-refl, leb, leb→le}
 use lib.ListN.{length, getD}
-use Rattle.rules.specs.Base.{Name, is, eqName, any, all}
+use Rattle.rules.specs.Base.{Name, is, eqName, any, all, Member}
 use Rattle.rules.specs.Syntax.{Expr, Formula, first-local, num, null, var, path, acc, cmp}
 use Rattle.rules.specs.Text.{reserved, relOf, exprOf, atomOf, formulaOf}
 use Rattle.rules.specs.Grammar.{Space, Operand, Tail, Line, statement, Call, form, isKind, isOperand, isFormed}
@@ -15,7 +15,7 @@ use Rattle.rules.specs.Grammar.{read, assigned, field, new, typeName, variable,
 use Rattle.rules.specs.Scope.{Declarations, Variable, Scope, Slot, operand, declaredIn, slotsFrom, atomOperands, atomSlots, atomsOf, slots}
 use Rattle.rules.specs.Names.{noVariable, isLocal, inScope, lookUp, variableNumber, knownExpr, known, allKnown, mayBeAssigned, callApart, allAssignable}
 use Rattle.rules.specs.Items.{resolveExpr, resolveAtom, resolveAtoms, resolveFormula}
-use Rattle.rules.proofs.Lists.{Member, any-in, or-cases, and-both, all-append, first-member, name-same}
+use Rattle.rules.proofs.Lists.{any-in, or-cases, and-both, all-append, first-member, name-same}
 use Rattle.soundness.specs.WellFormed.{TermOver, Over}
 use Rattle.rules.proofs.LinesTaken.{HasForm}
 

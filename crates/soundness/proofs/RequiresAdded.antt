@@ -9,13 +9,13 @@ use native.Mathlib.Omega.{arith}
 use borrow.Author.Tests.{lt-ltb}
 use lib.Dec.{T, eqb, eqb→eq}
 use lib.ListN.{length, length-append}
-use Rattle.rules.specs.Base.{Name, ok, _>>=_, _>>_, check, orElse, any, first}
+use Rattle.rules.specs.Base.{Name, ok, _>>=_, _>>_, check, orElse, any, first, Member, at-head}
 use Rattle.rules.specs.Limits.{most-atoms, most-permissions, most-facts}
 use Rattle.rules.specs.Syntax.{Formula, num, null, var, path, acc, cmp}
 use Rattle.rules.specs.Text.{isAtom, isFormula, formulaOf}
 use Rattle.rules.specs.Reading.{Access, framedExpr, framed}
 use Rattle.rules.specs.State.{Term, State, Permission, empty, pathOf, names, equalBy, equalIn, resolve, addPermission, addFact, add}
-use Rattle.rules.proofs.Lists.{Member, at-head, head-or, member-left, member-right, any-in, in-any, and-both, and-intro}
+use Rattle.rules.proofs.Lists.{head-or, member-left, member-right, any-in, in-any, and-both, and-intro}
 use Rattle.rules.proofs.Closure.{same-refl}
 
 -- THE PATHS OF A FRAMED FORMULA RESOLVE

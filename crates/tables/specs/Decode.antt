@@ -6,10 +6,9 @@ use lib.Dec.{eqb}
 use lib.ListN.{getD}
 use Rattle.rules.specs.Syntax.{Rel, Expr, Atom, Formula, Operation, Stmt, Row, Field, Method, Program}
 use Rattle.rules.specs.Syntax.{eq, ne, num, null, var, path, acc, cmp, sum, difference, set, assign, compute, new, call, return, assert, release, simple, if, else, join, loop, again, end}
-use Rattle.rules.specs.Grammar.{isComputing}
+use Rattle.rules.specs.Grammar.{isComputing, set-kind, let-kind, new-kind, call-kind, return-kind, assert-kind, release-kind, if-kind, else-kind, join-kind, add-kind, loop-kind, again-kind}
 use Rattle.tables.specs.declared.Operands.{Operands}
 use Rattle.tables.specs.Numbers.{acc-atom, eq-atom, num-tag, null-tag, var-tag}
-use Rattle.tables.specs.Numbers.{set-kind, let-kind, new-kind, call-kind, return-kind, assert-kind, release-kind, if-kind, else-kind, join-kind, add-kind, loop-kind, again-kind}
 use Rattle.tables.specs.Layout.{rows-at, methods-at, classes-at, places-at, atoms-at, most-names, row-bytes, atom-bytes, method-bytes, class-bytes}
 
 -- LISTS: n of f i, f (i + 1), ..

@@ -2,8 +2,8 @@
 use mathlib.Core.Bool.{cond}
 use Prim.Native.Nat.{ℕ}
 use lib.Dec.{eqb}
+use Rattle.rules.specs.Grammar.{loop-kind}
 use Rattle.rules.specs.Limits.{most-atoms}
-use Rattle.tables.specs.Numbers.{loop-kind}
 
 -- THE LARGEST TABLES
 

@@ -8,11 +8,10 @@ use lib.Dec.{T, leb}
 use lib.ListN.{length, drop}
 use Rattle.rules.specs.Limits.{most-classes, most-fields, most-methods, most-statements, most-branches, most-atoms, work-bytes}
 use Rattle.rules.specs.Syntax.{Expr, num, null, var, path, Stmt, Row, simple, return, if, else, join, loop, again, end}
-use Rattle.rules.specs.Grammar.{IsStatementNumber}
+use Rattle.rules.specs.Grammar.{IsStatementNumber, set-kind, let-kind, new-kind, call-kind, if-kind, else-kind, end-kind, loop-kind, again-kind}
 use Rattle.rules.specs.Machine.{closing, loopOf}
 use Rattle.tables.specs.declared.Operands.{Operands}
 use Rattle.tables.specs.Numbers.{word-values, acc-atom, ne-atom, path-tag, no-place}
-use Rattle.tables.specs.Numbers.{set-kind, let-kind, new-kind, call-kind, if-kind, else-kind, end-kind, loop-kind, again-kind}
 use Rattle.tables.specs.Layout.{most-atom-rows, most-names, frame-variables}
 use Rattle.tables.specs.Decode.{byteAt, leftAt, rightAt, atomKindAt, leftTagAt, kindAt, targetAt, operandsAt, rowCount, atomCount, classCount, methodCount, mainFirst, allRows, requiresFirstAt, requiresCountAt, ensuresFirstAt, ensuresCountAt, firstRowAt, placesPlace, fieldCountAt, fieldNameAt}
 

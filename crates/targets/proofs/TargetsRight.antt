@@ -11,10 +11,11 @@ use lib.Dec.{T, ltb, eqb, eqb→eq}
 use lib.ListN.{length, getD, drop, drop-of-length-le}
 use lib.Seq.{drop-cons}
 use native.Mathlib.Decide.{decLt}
+use Rattle.rules.specs.Base.{Member, at-head, further}
 use Rattle.rules.specs.Syntax.{Simple, Stmt, Row, simple, return, else, join, again, end, noRow}
 use Rattle.rules.specs.Machine as Machine
 use Rattle.rules.specs.Machine.{depthAfter, closes, seek, closing, openAt, loopOf}
-use Rattle.rules.proofs.Lists.{Member, at-head, further, head-or, decide-eq, and-both, T-true}
+use Rattle.rules.proofs.Lists.{head-or, decide-eq, and-both, T-true}
 use Rattle.tables.proofs.Bytes.{Outside, put-half-byte, half-put}
 use Rattle.tables.proofs.Runs.{run-length}
 use Rattle.tables.proofs.Rows.{rows-cons}

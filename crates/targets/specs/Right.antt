@@ -4,9 +4,9 @@ use mathlib.Core.List.{List}
 use mathlib.Core.Logic.{_⊎_}
 use Prim.Native.Nat.{ℕ, suc, _<_}
 use lib.ListN.{length}
+use Rattle.rules.specs.Grammar.{if-kind, else-kind, loop-kind, again-kind}
 use Rattle.rules.specs.Syntax.{Row}
 use Rattle.rules.specs.Machine.{closing, loopOf}
-use Rattle.tables.specs.Numbers.{if-kind, else-kind, loop-kind, again-kind}
 use Rattle.tables.specs.Decode.{kindAt, targetAt}
 
 -- row i of the rows rs goes on where it should: a false `if` and a false `loop` past what closes them

@@ -5,8 +5,9 @@ use mathlib.Core.List.{List, [], _∷_}
 use Prim.Native.Nat.{ℕ, zero, suc, _+_, _*_, _/_, _%_, _≤_, _<_}
 use lib.Dec.{eqb, ltb}
 use lib.ListN.{length}
+use Rattle.rules.specs.Grammar.{if-kind, else-kind, join-kind, loop-kind, again-kind}
 use Rattle.rules.specs.Limits.{most-branches}
-use Rattle.tables.specs.Numbers.{byte-values, if-kind, else-kind, join-kind, loop-kind, again-kind}
+use Rattle.tables.specs.Numbers.{byte-values}
 use Rattle.tables.specs.Decode.{kindAt, targetPlace}
 use Rattle.tables.specs.Stores.{putHalf}
 

@@ -5,10 +5,10 @@ use mathlib.Core.List.{List, [], _∷_}
 use Prim.Native.Nat.{ℕ, suc, _+_, _-_}
 use lib.Dec.{eqb}
 use lib.ListN.{length}
+use Rattle.rules.specs.Grammar.{assert-kind, release-kind, join-kind, loop-kind}
 use Rattle.rules.specs.Limits.{work-bytes}
 use Rattle.rules.specs.Syntax.{Formula, Stmt, acc, cmp, simple, assert, release, join, loop, end}
 use Rattle.rules.specs.Items.{Item, aStatement}
-use Rattle.tables.specs.Numbers.{assert-kind, release-kind, join-kind, loop-kind}
 use Rattle.tables.specs.Layout.{atomLimit, names-at}
 use Rattle.tables.specs.Decode.{atomsFrom}
 use Rattle.tables.specs.Stores.{Kept}

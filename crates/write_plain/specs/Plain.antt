@@ -9,13 +9,12 @@ use Rattle.rules.specs.Base.{Name, bytes, is, eqName}
 use Rattle.rules.specs.Limits.{work-bytes}
 use Rattle.rules.specs.Syntax.{path}
 use Rattle.rules.specs.Text.{reserved}
-use Rattle.rules.specs.Grammar.{isComputing}
+use Rattle.rules.specs.Grammar.{isComputing, set-kind, new-kind, call-kind, return-kind, else-kind, end-kind, again-kind}
 use Rattle.rules.specs.Scope.{MethodDeclaration, Declarations, Variable, Scope}
 use Rattle.rules.specs.Names.{isLocal, inScope, isInt, isClass, knownMethod, variableNumber, variableType, fieldNumber, fieldType, classNumber, methodNumber, methodOfClass}
 use Rattle.rules.specs.Items.{itemOf}
 use Rattle.read_fields.specs.Cuts.{more}
 use Rattle.read_grammar.specs.Rows.{kindNumbered}
-use Rattle.tables.specs.Numbers.{set-kind, new-kind, call-kind, return-kind, else-kind, end-kind, again-kind}
 use Rattle.tables.specs.Layout.{frame-variables, names-at}
 use Rattle.tables.specs.Stores.{Kept}
 use Rattle.read_names.specs.declared.Span.{Span}
