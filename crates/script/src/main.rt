@@ -1,13 +1,14 @@
 // The program of document 01: reads a script from standard input, checks it, runs it for at most 1,000 steps, and prints the answers.
 use libc::STDIN_FILENO;
 use libc::STDOUT_FILENO;
+use rules::Machine;
 ghost use mathlib.Core.Path.{_≡_};
 ghost use Prim.Native.Nat.{_≤_};
 ghost use lib.ListN.{length};
 ghost use Rattle.rules.specs.Printed.{printed};
 ghost use Rattle.printer.specs.Writes.{Prints};
 ghost use Rattle.printer.specs.Answers.{out-bytes};
-ghost use Rattle.script.specs.Inputs.{Within};
+ghost use Rattle.script.specs.Inputs.{area-bytes, Within};
 
 // What reading gave: so many bytes at the start of the area, or a read that failed.
 pub enum Input {
@@ -16,10 +17,12 @@ pub enum Input {
 }
 
 // One byte more than a text may have, so that a longer one is told by its length.
-fn text_area() -> [u8; 32769]
-    ensures { λ r. ⌜ 32769 ≡ length r ⌝ }
+const AREA_BYTES: usize = Machine::TEXT_BYTES + 1;
+
+fn text_area() -> [u8; AREA_BYTES]
+    ensures { λ r. ⌜ area-bytes ≡ length r ⌝ }
 {
-    [0; 32769]
+    [0; AREA_BYTES]
 }
 
 // One read into the area from a place on.
@@ -54,12 +57,12 @@ fn answer(text: &[u8], out: &mut [u8]) -> usize
     ensures { λ r. ⌜ Prints (printed (now (text .entry))) (now (out .exit)) r ⌝ }
 {
     let mut work = io::large_buffer();
-    let mut results = [0u8; 52];
+    let mut results = [0u8; Machine::RESULTS_BYTES];
     station::print(text, &mut work, &mut results, out)
 }
 
 fn print_answer(text: &[u8]) {
-    let mut out = [0u8; 512];
+    let mut out = [0u8; printer::OUT_BYTES];
     let n = answer(text, &mut out);
     let is_written = io::write_all(STDOUT_FILENO, &out[..n]);
     if !is_written {

@@ -39,9 +39,9 @@ module _ (t w : List ℕ) (r : Reading) (x : ReadingIs t w r) where
   unfolding ReadingIs
   reading-refused why l e = subst (ReadingIs t w) e x
 
-  pub reading-taken : (u : ℕ) → r ≡ Reading.Taken u → Tabled t w u
+  pub reading-read : (u : ℕ) → r ≡ Reading.Read u → Tabled t w u
   unfolding ReadingIs
-  reading-taken u e = subst (ReadingIs t w) e x
+  reading-read u e = subst (ReadingIs t w) e x
 
 -- WHAT IS FOUND OF A TEXT
 

@@ -2,7 +2,7 @@
 use mathlib.Core.Path.{_≡_}
 use mathlib.Core.List.{List}
 use mathlib.Core.Logic.{_⊎_}
-use Prim.Native.Nat.{ℕ, _/_, _<_}
+use Prim.Native.Nat.{ℕ, _<_}
 use lib.ListN.{length}
 use Rattle.rules.specs.Limits.{work-bytes, results-bytes}
 use Rattle.rules.specs.Answers.{accepted}
@@ -10,6 +10,8 @@ use Rattle.rules.specs.Items.{Item}
 use Rattle.rules.specs.Reading.{readText}
 use Rattle.rules.specs.Calls.{Result, runText, trialText}
 use Rattle.rules.specs.Areas.{packed, cleared, resultBytes, checkCall, Ran, runCall, trialCall}
+use Rattle.tables.specs.Numbers.{word-values}
+use Rattle.printer.specs.Answers.{numberIn}
 use Rattle.rules.specs.Demand.{NotStuck, KeepsFrame, Claim, IsRefusal}
 
 -- areas of the right length, whatever they hold, and a number of steps
@@ -19,7 +21,7 @@ pub record Lent : Type 0 where
   pub steps : ℕ
   pub whole : length work ≡ work-bytes
   pub wide : length results ≡ results-bytes
-  pub small : steps < 4294967296
+  pub small : steps < word-values
 
 -- run and trial over them
 abbrev pub runOver : List ℕ → Lent → Ran
@@ -37,7 +39,7 @@ pub record Returns (c : Ran) (r : Result) : Type 0 where
 -- one that is `NotStuck`: whatever area check was lent, and whatever areas run is. And the run that it answers with, its number, line,
 -- count of steps and values, keeps in each of its calls what that call was not handed.
 pub record ReturnsClaim (t : List ℕ) (l : Lent) : Type 0 where
-  pub number : NotStuck (runOver t l .returned / 65536)
+  pub number : NotStuck (numberIn (runOver t l .returned))
   pub claim : Claim t (l .steps)
   pub returns : Returns (runOver t l) (runText t (l .steps))
 
@@ -48,14 +50,14 @@ OneClaimReturned = (t area : List ℕ) → length area ≡ work-bytes → checkC
 
 -- "a text that the check refuses gets the check's number and line, with zeros in results"
 pub record ReturnsRefusal (t : List ℕ) (l : Lent) : Type 0 where
-  pub number : IsRefusal (runOver t l .returned / 65536)
+  pub number : IsRefusal (numberIn (runOver t l .returned))
   pub returned : runOver t l .returned ≡ checkCall t (l .work) .returned
   pub results : runOver t l .results ≡ cleared (l .results)
 
 -- Of every text, whether check was called before or not: run returns what check does, 2 to 14, with zeros, or one of 0, 21, 22, 23
 -- and 27. It never returns 24, 25 or 26.
 abbrev pub RunReturnsNeverStuck : Type 0
-RunReturnsNeverStuck = (t : List ℕ) (l : Lent) → ReturnsRefusal t l ⊎ NotStuck (runOver t l .returned / 65536)
+RunReturnsNeverStuck = (t : List ℕ) (l : Lent) → ReturnsRefusal t l ⊎ NotStuck (numberIn (runOver t l .returned))
 
 -- and the whole claim so
 abbrev pub EveryRunReturned : Type 0

@@ -1,7 +1,9 @@
 // Main's bound and the most frames, written for `bound`; zeros where there are none.
 use crate::Reply;
 use crate::clear;
+use printer::Number;
 use reckoner::Outcome;
+use tables::Bytes;
 ghost use mathlib.Core.Path.{_≡_};
 ghost use mathlib.Core.List.{[], _∷_};
 ghost use lib.ListN.{length};
@@ -18,7 +20,7 @@ fn put_bounds(bounds: &mut [u8], bound: u32, frames: u32)
     ensures { λ _. ⌜ now (bounds .exit) ≡ wordsBytes (bound ∷ frames ∷ []) ⌝ }
 {
     tables::put_word(bounds, 0, bound);
-    tables::put_word(bounds, 4, frames);
+    tables::put_word(bounds, Bytes::WORD, frames);
 }
 
 fn bound_tables(work: &[u8], bounds: &mut [u8]) -> Reply
@@ -34,14 +36,14 @@ fn bound_tables(work: &[u8], bounds: &mut [u8]) -> Reply
         Outcome::Unbounded(l) => {
             clear(bounds);
             Reply {
-                number: 15,
+                number: Number::UNBOUNDED,
                 line: l,
             }
         }
         Outcome::Passed => {
             clear(bounds);
             Reply {
-                number: 16,
+                number: Number::BOUND_PASSED,
                 line: 0,
             }
         }

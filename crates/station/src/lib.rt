@@ -6,9 +6,11 @@ use bounds::bound_found;
 use check_entailment::Answer;
 use checker::Verdict;
 use machine::Ran;
+use printer::Number;
 use reader::Reading;
 use reader::Refusal;
 use rules::Machine;
+use tables::Bytes;
 use tables::Layout;
 ghost use mathlib.Core.Path.{_≡_};
 ghost use mathlib.Core.List.{_∷_};
@@ -22,6 +24,7 @@ ghost use Rattle.rules.specs.Machine.{runProgram};
 ghost use Rattle.rules.specs.Calls.{verdictNumbers, checkText, wholeHeap, outcomeResult};
 ghost use Rattle.rules.specs.Areas.{packed, cleared, wordsBytes, checkCall, runCall, trialCall, boundCall};
 ghost use Rattle.rules.specs.Printed.{printed};
+ghost use Rattle.tables.specs.Numbers.{half-values};
 ghost use Rattle.tables.specs.Decode.{programIn};
 ghost use Rattle.tables.specs.Tables.{Tables};
 ghost use Rattle.reader.specs.Readings as Reader;
@@ -40,7 +43,7 @@ pub struct Reply {
 
 impl Reply {
     // Number 1 at line 0, as it is returned: a lent area of wrong length.
-    const WRONG_LENGTH: u32 = 65536;
+    const WRONG_LENGTH: u32 = Number::WRONG_LENGTH * Number::FACTOR;
 }
 
 // NUMBERS
@@ -49,14 +52,14 @@ fn reading_number(r: Refusal) -> u32
     ensures { λ n. ⌜ n ≡ refusalNumber (Reader.refusalOf r) ⌝ }
 {
     match r {
-        Refusal::TextTooLong => 2,
-        Refusal::BadByte => 3,
-        Refusal::Malformed => 4,
-        Refusal::LimitPassed => 5,
-        Refusal::Undeclared => 6,
-        Refusal::WrongType => 7,
-        Refusal::TextEnds => 8,
-        Refusal::WrongTarget => 9,
+        Refusal::TextTooLong => Number::TEXT_TOO_LONG,
+        Refusal::BadByte => Number::BAD_BYTE,
+        Refusal::Malformed => Number::MALFORMED,
+        Refusal::LimitPassed => Number::LIMIT_PASSED,
+        Refusal::Undeclared => Number::UNDECLARED,
+        Refusal::WrongType => Number::WRONG_TYPE,
+        Refusal::TextEnds => Number::TEXT_ENDS,
+        Refusal::WrongTarget => Number::WRONG_TARGET,
     }
 }
 
@@ -64,21 +67,22 @@ fn checking_number(a: Answer) -> u32
     ensures { λ n. ⌜ n ≡ refusalNumber (Checker.refusalOf a) ⌝ }
 {
     match a {
-        Answer::Unresolved => 11,
-        Answer::NoPermission => 12,
-        Answer::NotShown => 13,
-        Answer::Full => 14,
-        Answer::Done => 4,
-        Answer::Malformed => 4,
+        Answer::Unresolved => Number::UNRESOLVED,
+        Answer::NoPermission => Number::NO_PERMISSION,
+        Answer::NotShown => Number::NOT_SHOWN,
+        Answer::Full => Number::STATE_FULL,
+        // Done is no refusal, and a text that is read has no malformed row.
+        Answer::Done => Number::MALFORMED,
+        Answer::Malformed => Number::MALFORMED,
     }
 }
 
 // number × 65,536 + line
 fn pack(f: Reply) -> u32
-    requires { ⌜ (f .number < 65536) × (f .line < 65536) ⌝ }
+    requires { ⌜ (f .number < half-values) × (f .line < half-values) ⌝ }
     ensures { λ r. ⌜ r ≡ packed (f .number) (f .line) ⌝ }
 {
-    f.number * 65536 + (f.line as u32)
+    f.number * Number::FACTOR + (f.line as u32)
 }
 
 // AREAS
@@ -104,7 +108,7 @@ fn clear(area: &mut [u8])
     }
 }
 
-// The steps taken and main's twelve values.
+// The steps taken and main's twelve values. The value i is that of main's variable i + 1: `this` and the parameter come first.
 fn put_results(work: &[u8], results: &mut [u8], steps: u32)
     requires { ⌜ (length (now work) ≡ work-bytes) × (length (now results) ≡ results-bytes) ⌝ }
     ensures { λ _. ⌜ now (results .exit) ≡ wordsBytes (steps ∷ mainValues (now (work .entry))) ⌝ }
@@ -112,22 +116,22 @@ fn put_results(work: &[u8], results: &mut [u8], steps: u32)
     tables::put_word(results, 0, steps);
     let mut i = 1;
     while i <= Machine::VALUES {
-        let v = tables::word_at(work, Layout::FRAMES + 4 + i * 4);
-        tables::put_word(results, i * 4, v);
+        let v = tables::word_at(work, Layout::FRAMES + Bytes::WORD + i * Bytes::WORD);
+        tables::put_word(results, i * Bytes::WORD, v);
         i += 1;
     }
 }
 
 // CHECK
 
-// Number 10, then the rules, over the tables of a text that is taken; `unframed` is the first line that number 10 refuses, or 0.
+// Number 10, then the rules, over the tables of a text that is read; `unframed` is the first line that number 10 refuses, or 0.
 fn check_tables(work: &[u8], unframed: usize) -> Reply
     requires { ⌜ Tables (now work) ⌝ }
     ensures { λ f. ⌜ numbersIn f ≡ verdictNumbers (then (framedVerdict unframed) (λ u. checkProgram (programIn (now (work .entry))))) ⌝ }
 {
     if unframed != 0 {
         return Reply {
-            number: 10,
+            number: Number::UNFRAMED,
             line: unframed,
         };
     }
@@ -152,7 +156,7 @@ fn check_text(text: &[u8], work: &mut [u8]) -> Reply
             let number = reading_number(why);
             Reply { number, line }
         }
-        Reading::Taken(unframed) => check_tables(work, unframed),
+        Reading::Read(unframed) => check_tables(work, unframed),
     }
 }
 
@@ -221,7 +225,7 @@ fn read_text(text: &[u8], work: &mut [u8]) -> Reply
             let number = reading_number(why);
             Reply { number, line }
         }
-        Reading::Taken(_) => Reply { number: 0, line: 0 },
+        Reading::Read(_) => Reply { number: 0, line: 0 },
     }
 }
 

@@ -1,7 +1,7 @@
 -- `station::check_text` meets its contract. Assumes nothing.
 use mathlib.Core.Path.{sym, _∙_}
 use borrow.Author.Needs.{needs}
-use Rattle.station.proofs.Texts.{reading-refused, reading-taken, none-taken, refused-checked, taken-checked}
+use Rattle.station.proofs.Texts.{reading-refused, reading-read, none-taken, refused-checked, taken-checked}
 use Rattle.station.proofs.check_text.Statement.{statement}
 use Rattle.station.proofs.check_text.Tie as tie
 
@@ -21,7 +21,7 @@ check-tables-requires : tie.Need-check-tables-requires
 check-tables-requires c κs =
     let at-read = c .before .before .before .before .before .before .read in
     let at-r2 = c .before .before .r2 in
-    reading-taken _ _ _ (at-read .ensures .0) _ (at-r2 .given .1) .tables
+    reading-read _ _ _ (at-read .ensures .0) _ (at-r2 .given .1) .tables
 
 same-length : tie.Need-same-length
 same-length c =
@@ -48,7 +48,7 @@ same-length-2 c =
 returns-2 : tie.Need-returns-2
 returns-2 c =
     let at-read = c .before .before .before .before .before .before .before .read .ensures in
-    let x = reading-taken _ _ _ (at-read .0) _ (c .before .before .before .r2 .given .1) in
+    let x = reading-read _ _ _ (at-read .0) _ (c .before .before .before .r2 .given .1) in
     record { numbers = c .check-tables .ensures ∙ sym (taken-checked x); taken = λ _. (_, x); size = at-read .1 }
 
 pub check-text-spec : {M : Type 1} → statement M

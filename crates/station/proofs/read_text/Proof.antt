@@ -1,6 +1,6 @@
 -- `station::read_text` meets its contract. Assumes nothing.
 use borrow.Author.Needs.{needs}
-use Rattle.station.proofs.Texts.{reading-refused, reading-taken, none-taken, refused-read, taken-read}
+use Rattle.station.proofs.Texts.{reading-refused, reading-read, none-taken, refused-read, taken-read}
 use Rattle.station.proofs.read_text.Statement.{statement}
 use Rattle.station.proofs.read_text.Tie as tie
 
@@ -35,7 +35,7 @@ same-length-2 c = search needs
 returns-2 : tie.Need-returns-2
 returns-2 c =
     let at-read = c .before .before .before .before .read .ensures in
-    let x = reading-taken _ _ _ (at-read .0) _ (c .enum-told .given .1) in
+    let x = reading-read _ _ _ (at-read .0) _ (c .enum-told .given .1) in
     record { numbers = taken-read x; taken = λ _. (_, x); size = at-read .1 }
 
 pub read-text-spec : {M : Type 1} → statement M
