@@ -202,6 +202,7 @@ pub fn statement(
         Kind::RELEASE => release_at(w, i, key, b),
         Kind::ADD | Kind::SUB => compute_at(w, i, key, b),
         // The other statements do not go on, and no row is of an unknown kind: any answer meets the contract.
-        0..=Kind::VAR | Kind::RETURN | Kind::IF..=Kind::END | Kind::LOOP..=255 => Answer::Malformed,
+        0..=Kind::VAR | Kind::RETURN | Kind::IF..=Kind::END | Kind::LOOP..=u8::MAX =>
+            Answer::Malformed,
     }
 }

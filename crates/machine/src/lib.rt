@@ -97,7 +97,7 @@ pub fn step(work: &mut [u8], c: Machine, most_objects: u32, most_fields: u32) ->
         Kind::END => run_returns::end_step(work, c),
         Kind::ADD | Kind::SUB => run_steps::compute_step(work, c),
         // No row is of another kind, so that any answer meets the contract.
-        0..=Kind::VAR | UNKNOWN..=255 => Turn::Done,
+        0..=Kind::VAR | UNKNOWN..=u8::MAX => Turn::Done,
     }
 }
 

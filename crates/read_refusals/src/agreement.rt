@@ -14,6 +14,9 @@ ghost use Rattle.read_fields.specs.Cuts.{more};
 ghost use Rattle.read_scopes.specs.Meanings.{NamesFit};
 ghost use Rattle.read_refusals.specs.Tests.{lineAfter, Formed, intsIn, sidesIn, apartIn};
 
+// The place of z among the fields of `call x y m z`, from 0 on.
+const ARGUMENT: usize = 3;
+
 // `set x f y`
 fn set_agrees(text: &[u8], work: &[u8], from: usize, c: Names) -> bool
     requires { ⌜ (length (now work) ≡ work-bytes) × NamesFit c × (from ≤ length (now text)) ⌝ }
@@ -55,7 +58,7 @@ fn call_agrees(text: &[u8], work: &[u8], from: usize, c: Names) -> bool
     let x = read_lookups::variable_type(text, work, c, crate::nth_field(text, from, 0));
     let y = read_lookups::variable_type(text, work, c, crate::nth_field(text, from, 1));
     let m = read_lookups::method_number(text, work, c, y, crate::nth_field(text, from, 2));
-    let z = read_lookups::variable_type(text, work, c, crate::nth_field(text, from, 3));
+    let z = read_lookups::variable_type(text, work, c, crate::nth_field(text, from, ARGUMENT));
     let result = read_lookups::same_name(text, x, read_lookups::result_type(work, c, m));
     let argument = read_lookups::same_name(text, z, read_lookups::parameter_type(work, c, m));
     crate::and(result, argument)
@@ -109,6 +112,6 @@ pub fn call_apart(text: &[u8], work: &[u8], from: usize, kind: u8, c: Names) -> 
     }
     let x = read_lookups::variable(text, work, c, crate::nth_field(text, from, 0));
     let y = read_lookups::variable(text, work, c, crate::nth_field(text, from, 1));
-    let z = read_lookups::variable(text, work, c, crate::nth_field(text, from, 3));
+    let z = read_lookups::variable(text, work, c, crate::nth_field(text, from, ARGUMENT));
     crate::and(x != y, x != z)
 }
