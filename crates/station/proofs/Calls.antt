@@ -11,7 +11,8 @@ use Rattle.rules.specs.Calls.{Result, Bounds, checkText, boundText}
 use Rattle.rules.specs.Areas.{packed, cleared, resultBytes, boundBytes, checkCall, ranCall, boundCall}
 use Rattle.rules.proofs.Lists.{T-true, and-both}
 use Rattle.station.specs.declared.Reply.{Reply}
-use Rattle.station.specs.Station.{numbersIn, runNumbers, areasFit, CheckLeaves, RunLeaves, BoundLeaves}
+use Rattle.areas.specs.Lengths.{areasFit}
+use Rattle.station.specs.Station.{numbersIn, runNumbers, CheckLeaves, RunLeaves, BoundLeaves}
 
 pub pack-is : {f : Reply} {p : ℕ × ℕ} {r : ℕ} → numbersIn f ≡ p → r ≡ packed (f .number) (f .line) → r ≡ packed (p .0) (p .1)
 pack-is e i = i ∙ ap (λ (p : ℕ × ℕ). packed (p .0) (p .1)) e

@@ -1,6 +1,6 @@
 -- What the parts of the calls answer.
 use mathlib.Core.Path.{_≡_}
-use mathlib.Core.Bool.{Bool, cond, _&&_}
+use mathlib.Core.Bool.{cond}
 use mathlib.Core.List.{List}
 use Prim.Native.Nat.{ℕ}
 use lib.Dec.{eqb}
@@ -42,10 +42,6 @@ BoundAs b f bounds = (numbersIn f ≡ (b .number, b .line)) × (bounds ≡ bound
 unfoldable pub boundFound : Reply → Program → Bounds
 boundFound f P =
     cond (eqb (f .number) 0) (boundNumbers (boundProgram P)) (record { number = f .number; line = f .line; bound = 0; frames = 0 })
-
--- the work area and another one, of n bytes, have their lengths
-unfoldable pub areasFit : List ℕ → List ℕ → ℕ → Bool
-areasFit work other n = eqb (length work) work-bytes && eqb (length other) n
 
 -- WHAT A CALL RETURNS, and leaves in each area
 abbrev pub CheckLeaves : Checked → ℕ → List ℕ → Type 0

@@ -1,6 +1,5 @@
 // Main's bound and the most frames, written for `bound`; zeros where there are none.
 use crate::Reply;
-use crate::clear;
 use printer::Number;
 use reckoner::Outcome;
 use tables::Bytes;
@@ -34,14 +33,14 @@ fn bound_tables(work: &[u8], bounds: &mut [u8]) -> Reply
             Reply { number: 0, line: 0 }
         }
         Outcome::Unbounded(l) => {
-            clear(bounds);
+            areas::clear(bounds);
             Reply {
                 number: Number::UNBOUNDED,
                 line: l,
             }
         }
         Outcome::Passed => {
-            clear(bounds);
+            areas::clear(bounds);
             Reply {
                 number: Number::BOUND_PASSED,
                 line: 0,
@@ -56,7 +55,7 @@ pub fn bound_found(found: Reply, work: &[u8], bounds: &mut [u8]) -> Reply
     ensures { λ f. ⌜ BoundAs (boundFound found (programIn (now (work .entry)))) f (now (bounds .exit)) ⌝ }
 {
     if found.number != 0 {
-        clear(bounds);
+        areas::clear(bounds);
         return found;
     }
     bound_tables(work, bounds)

@@ -22,7 +22,7 @@ ghost use Rattle.rules.specs.Reading.{readText};
 ghost use Rattle.rules.specs.Rules.{checkProgram};
 ghost use Rattle.rules.specs.Machine.{runProgram};
 ghost use Rattle.rules.specs.Calls.{verdictNumbers, checkText, wholeHeap, outcomeResult};
-ghost use Rattle.rules.specs.Areas.{packed, cleared, wordsBytes, checkCall, runCall, trialCall, boundCall};
+ghost use Rattle.rules.specs.Areas.{packed, wordsBytes, checkCall, runCall, trialCall, boundCall};
 ghost use Rattle.rules.specs.Printed.{printed};
 ghost use Rattle.tables.specs.Numbers.{half-values};
 ghost use Rattle.tables.specs.Decode.{programIn};
@@ -33,7 +33,7 @@ ghost use Rattle.checker.specs.Checked as Checker;
 ghost use Rattle.machine.specs.Runs.{mainValues};
 ghost use Rattle.printer.specs.Writes.{Prints};
 ghost use Rattle.printer.specs.Answers.{out-bytes};
-ghost use Rattle.station.specs.Station.{numbersIn, Found, RunAs, unlessRefused, areasFit, CheckLeaves, RunLeaves, BoundLeaves};
+ghost use Rattle.station.specs.Station.{numbersIn, Found, RunAs, unlessRefused, CheckLeaves, RunLeaves, BoundLeaves};
 
 // A number of document 01's table, and the line that it goes with.
 pub struct Reply {
@@ -83,29 +83,6 @@ fn pack(f: Reply) -> u32
     ensures { λ r. ⌜ r ≡ packed (f .number) (f .line) ⌝ }
 {
     f.number * Number::FACTOR + (f.line as u32)
-}
-
-// AREAS
-
-// Have the work area and another one, of so many bytes, their lengths?
-fn areas_fit(work: &[u8], other: &[u8], bytes: usize) -> bool
-    ensures { λ r. ⌜ r ≡ areasFit (now (work .entry)) (now (other .entry)) bytes ⌝ }
-{
-    if work.len() != Machine::WORK_BYTES {
-        return false;
-    }
-    other.len() == bytes
-}
-
-// All bytes 0.
-fn clear(area: &mut [u8])
-    ensures { λ _. ⌜ now (area .exit) ≡ cleared (now (area .entry)) ⌝ }
-{
-    let mut i = 0;
-    while i < area.len() {
-        area[i] = 0;
-        i += 1;
-    }
 }
 
 // The steps taken and main's twelve values. The value i is that of main's variable i + 1: `this` and the parameter come first.
@@ -169,7 +146,7 @@ pub extern "C" fn check(text: &[u8], work: &mut [u8]) -> u32
         return Reply::WRONG_LENGTH;
     }
     let f = check_text(text, work);
-    clear(work);
+    areas::clear(work);
     pack(f)
 }
 
@@ -193,7 +170,7 @@ fn run_found(found: Reply, work: &mut [u8], steps: u32, results: &mut [u8]) -> R
     ensures { λ f. ⌜ RunAs (unlessRefused found (outcomeResult (runProgram wholeHeap (programIn (now (work .entry))) steps))) f (now (results .exit)) (now (work .exit)) ⌝ }
 {
     if found.number != 0 {
-        clear(results);
+        areas::clear(results);
         return found;
     }
     run_tables(work, steps, results)
@@ -205,12 +182,12 @@ fn run_found(found: Reply, work: &mut [u8], steps: u32, results: &mut [u8]) -> R
 pub extern "C" fn run(text: &[u8], work: &mut [u8], steps: u32, results: &mut [u8]) -> u32
     ensures { λ r. ⌜ RunLeaves (runCall (now (text .entry)) (now (work .entry)) steps (now (results .entry))) r (now (work .exit)) (now (results .exit)) ⌝ }
 {
-    if !areas_fit(work, results, Machine::RESULTS_BYTES) {
+    if !areas::fit(work, results, Machine::RESULTS_BYTES) {
         return Reply::WRONG_LENGTH;
     }
     let found = check_text(text, work);
     let f = run_found(found, work, steps, results);
-    clear(work);
+    areas::clear(work);
     pack(f)
 }
 
@@ -234,12 +211,12 @@ fn read_text(text: &[u8], work: &mut [u8]) -> Reply
 pub extern "C" fn trial(text: &[u8], work: &mut [u8], steps: u32, results: &mut [u8]) -> u32
     ensures { λ r. ⌜ RunLeaves (trialCall (now (text .entry)) (now (work .entry)) steps (now (results .entry))) r (now (work .exit)) (now (results .exit)) ⌝ }
 {
-    if !areas_fit(work, results, Machine::RESULTS_BYTES) {
+    if !areas::fit(work, results, Machine::RESULTS_BYTES) {
         return Reply::WRONG_LENGTH;
     }
     let found = read_text(text, work);
     let f = run_found(found, work, steps, results);
-    clear(work);
+    areas::clear(work);
     pack(f)
 }
 
@@ -251,12 +228,12 @@ pub extern "C" fn trial(text: &[u8], work: &mut [u8], steps: u32, results: &mut 
 pub extern "C" fn bound(text: &[u8], work: &mut [u8], bounds: &mut [u8]) -> u32
     ensures { λ r. ⌜ BoundLeaves (boundCall (now (text .entry)) (now (work .entry)) (now (bounds .entry))) r (now (work .exit)) (now (bounds .exit)) ⌝ }
 {
-    if !areas_fit(work, bounds, Machine::BOUNDS_BYTES) {
+    if !areas::fit(work, bounds, Machine::BOUNDS_BYTES) {
         return Reply::WRONG_LENGTH;
     }
     let found = check_text(text, work);
     let f = bound_found(found, work, bounds);
-    clear(work);
+    areas::clear(work);
     pack(f)
 }
 

@@ -1,4 +1,4 @@
--- `station::clear` meets its contract. Assumes nothing.
+-- `areas::clear` meets its contract. Assumes nothing.
 use mathlib.Core.Path.{_≡_, refl, _∙_}
 use mathlib.Core.List.{_++_, append-nil}
 use Prim.Native.Nat.{_≤_, _-_}
@@ -6,8 +6,8 @@ use native.Mathlib.Omega.{arith}
 use lib.ListN.{length, drop, replicate, length-set, drop-of-length-le}
 use borrow.Author.Fill.{fill-more}
 use Rattle.rules.specs.Areas.{cleared}
-use Rattle.station.proofs.clear.Statement.{statement}
-use Rattle.station.proofs.clear.Tie as tie
+use Rattle.areas.proofs.clear.Statement.{statement}
+use Rattle.areas.proofs.clear.Tie as tie
 
 abbrev Inv-loop : tie.InvT-loop
 Inv-loop area₀ i₀ area i = (i ≤ length area₀) × (length area ≡ length area₀) × (area ≡ replicate i 0 ++ drop i area₀)
