@@ -4,7 +4,7 @@
 use crate::limits::{BOUND_BYTES, RESULT_BYTES, WORK_BYTES};
 use crate::machine::Run;
 use crate::number;
-use crate::{bound, check, run, trial};
+use crate::{trial, Bounds, Judged};
 
 fn returned(number: u32, line: u32) -> u32 {
     number * 65_536 + line
@@ -19,38 +19,22 @@ fn write(area: &mut [u8], words: impl IntoIterator<Item = [u8; 4]>) {
 
 /// "Check takes the text and a work area of 65,536 bytes". "After each call the
 /// work area is all zero, except for number 1."
-pub fn check_call(text: &[u8], work: &mut [u8]) -> u32 {
+fn check_over(work: &mut [u8], check: impl FnOnce() -> (u32, u32)) -> u32 {
     if work.len() != WORK_BYTES {
         return returned(number::AREA, 0);
     }
-    let (number, line) = check(text);
+    let (number, line) = check();
     work.fill(0);
     returned(number, line)
 }
 
 /// "run also takes the number of steps allowed (unsigned, 32 bits) and a results
-/// area of 52 bytes."
-pub fn run_call(text: &[u8], work: &mut [u8], steps: u32, results: &mut [u8]) -> u32 {
-    run_by(run, text, work, steps, results)
-}
-
-/// W7: the "second call, trial".
-pub fn trial_call(text: &[u8], work: &mut [u8], steps: u32, results: &mut [u8]) -> u32 {
-    run_by(trial, text, work, steps, results)
-}
-
-/// "Results hold the steps taken (unsigned) and twelve values".
-fn run_by(
-    run: fn(&[u8], u32) -> Run,
-    text: &[u8],
-    work: &mut [u8],
-    steps: u32,
-    results: &mut [u8],
-) -> u32 {
+/// area of 52 bytes." "Results hold the steps taken (unsigned) and twelve values".
+fn run_over(work: &mut [u8], results: &mut [u8], run: impl FnOnce() -> Run) -> u32 {
     if work.len() != WORK_BYTES || results.len() != RESULT_BYTES {
         return returned(number::AREA, 0);
     }
-    let run = run(text, steps);
+    let run = run();
     work.fill(0);
     let values = run.values.map(i32::to_le_bytes);
     write(results, [run.steps.to_le_bytes()].into_iter().chain(values));
@@ -60,12 +44,48 @@ fn run_by(
 /// W6: "The call fills 8 bytes, 4 each: main's bound and the most frames on a
 /// route of calls". "Like each later call it also takes check's work area, under
 /// the same rows of the table, and writes low byte first."
-pub fn bound_call(text: &[u8], work: &mut [u8], bounds: &mut [u8]) -> u32 {
+fn bound_over(work: &mut [u8], bounds: &mut [u8], bound: impl FnOnce() -> Bounds) -> u32 {
     if work.len() != WORK_BYTES || bounds.len() != BOUND_BYTES {
         return returned(number::AREA, 0);
     }
-    let found = bound(text);
+    let found = bound();
     work.fill(0);
     write(bounds, [found.bound, found.frames].map(u32::to_le_bytes));
     returned(found.number, found.line)
+}
+
+/// The calls on a text that was judged before, each as the function of its name.
+impl Judged<'_> {
+    pub fn check_call(&self, work: &mut [u8]) -> u32 {
+        check_over(work, || self.check())
+    }
+
+    pub fn run_call(&self, work: &mut [u8], steps: u32, results: &mut [u8]) -> u32 {
+        run_over(work, results, || self.run(steps))
+    }
+
+    pub fn trial_call(&self, work: &mut [u8], steps: u32, results: &mut [u8]) -> u32 {
+        run_over(work, results, || self.trial(steps))
+    }
+
+    pub fn bound_call(&self, work: &mut [u8], bounds: &mut [u8]) -> u32 {
+        bound_over(work, bounds, || self.bound())
+    }
+}
+
+pub fn check_call(text: &[u8], work: &mut [u8]) -> u32 {
+    check_over(work, || Judged::new(text).check())
+}
+
+pub fn run_call(text: &[u8], work: &mut [u8], steps: u32, results: &mut [u8]) -> u32 {
+    run_over(work, results, || Judged::new(text).run(steps))
+}
+
+/// W7: the "second call, trial".
+pub fn trial_call(text: &[u8], work: &mut [u8], steps: u32, results: &mut [u8]) -> u32 {
+    run_over(work, results, || trial(text, steps))
+}
+
+pub fn bound_call(text: &[u8], work: &mut [u8], bounds: &mut [u8]) -> u32 {
+    bound_over(work, bounds, || Judged::new(text).bound())
 }

@@ -35,25 +35,6 @@ pub fn read(text: &[u8]) -> Result<names::Program<'_>, Refusal> {
     names::resolve(&text::lines(text)?)
 }
 
-/// The program of an accepted text. All tests in their order: "1, 2; then line
-/// by line 3, 4, 5; then 8; then line by line 6, 7, 9 ...; then line by line 10;
-/// then the rules".
-pub fn accept(text: &[u8]) -> Result<names::Program<'_>, Refusal> {
-    let lines = text::lines(text)?;
-    let program = names::resolve(&lines)?;
-    framing::frame(&lines)?;
-    checker::check(&program)?;
-    Ok(program)
-}
-
-/// Checks the text: number and line.
-pub fn check(text: &[u8]) -> (u32, u32) {
-    match accept(text) {
-        Ok(_) => (number::DONE, 0),
-        Err(Refusal { number, line }) => (number, line),
-    }
-}
-
 /// What bound returns and what it leaves in its area.
 #[derive(Clone, Copy, Debug, PartialEq, Eq)]
 pub struct Bounds {
@@ -65,41 +46,110 @@ pub struct Bounds {
     pub frames: u32,
 }
 
-/// W6: main's bound and frames; "zeros for a refused text". "It refuses, after
-/// every check of document 01".
-pub fn bound(text: &[u8]) -> Bounds {
-    match accept(text).and_then(|program| bounds::bounds(&program)) {
-        Ok(most) => Bounds {
-            number: number::DONE,
-            line: 0,
-            bound: most.steps,
-            frames: most.frames,
-        },
-        Err(Refusal { number, line }) => Bounds {
-            number,
-            line,
-            bound: 0,
-            frames: 0,
-        },
+/// A text that is read and checked once, for any number of answers.
+pub struct Judged<'a> {
+    read: Result<names::Program<'a>, Refusal>,
+    /// What the tests after 9 say of a text that is read.
+    tested: Result<(), Refusal>,
+}
+
+impl<'a> Judged<'a> {
+    /// All tests in their order: "1, 2; then line by line 3, 4, 5; then 8; then
+    /// line by line 6, 7, 9 ...; then line by line 10; then the rules".
+    pub fn new(text: &'a [u8]) -> Judged<'a> {
+        let lines = match text::lines(text) {
+            Ok(lines) => lines,
+            Err(refusal) => {
+                return Judged {
+                    read: Err(refusal),
+                    tested: Ok(()),
+                }
+            }
+        };
+        let read = names::resolve(&lines);
+        let tested = match &read {
+            Ok(program) => framing::frame(&lines).and_then(|()| checker::check(program)),
+            Err(_) => Ok(()),
+        };
+        Judged { read, tested }
+    }
+
+    /// The program of an accepted text.
+    pub fn accepted(&self) -> Result<&names::Program<'a>, Refusal> {
+        let program = self.read()?;
+        self.tested?;
+        Ok(program)
+    }
+
+    /// The program of a text that has none of the numbers 2 to 9.
+    fn read(&self) -> Result<&names::Program<'a>, Refusal> {
+        self.read.as_ref().map_err(|&refusal| refusal)
+    }
+
+    /// Number and line of check.
+    pub fn check(&self) -> (u32, u32) {
+        match self.accepted() {
+            Ok(_) => (number::DONE, 0),
+            Err(Refusal { number, line }) => (number, line),
+        }
+    }
+
+    /// W6: main's bound and frames; "zeros for a refused text". "It refuses, after
+    /// every check of document 01".
+    pub fn bound(&self) -> Bounds {
+        match self.accepted().and_then(bounds::bounds) {
+            Ok(most) => Bounds {
+                number: number::DONE,
+                line: 0,
+                bound: most.steps,
+                frames: most.frames,
+            },
+            Err(Refusal { number, line }) => Bounds {
+                number,
+                line,
+                bound: 0,
+                frames: 0,
+            },
+        }
+    }
+
+    /// W7: "By default run now checks first, and a text that the check refuses gets
+    /// the check's number and line, with zeros in results."
+    pub fn run(&self, steps: u32) -> Run {
+        run_or_refused(self.accepted(), steps)
+    }
+
+    /// W7: "trial, which is the old run", of document 01: it "works on each text
+    /// that the reader takes, accepted or not".
+    pub fn trial(&self, steps: u32) -> Run {
+        run_or_refused(self.read(), steps)
     }
 }
 
-/// W7: "By default run now checks first, and a text that the check refuses gets
-/// the check's number and line, with zeros in results."
-pub fn run(text: &[u8], steps: u32) -> Run {
-    run_or_refused(accept(text), steps)
+/// Checks the text: number and line.
+pub fn check(text: &[u8]) -> (u32, u32) {
+    Judged::new(text).check()
 }
 
-/// W7: "trial, which is the old run", of document 01: it "works on each text
-/// that the reader takes, accepted or not".
+/// Its bound (W6).
+pub fn bound(text: &[u8]) -> Bounds {
+    Judged::new(text).bound()
+}
+
+/// Its run, which checks first (W7).
+pub fn run(text: &[u8], steps: u32) -> Run {
+    Judged::new(text).run(steps)
+}
+
+/// Its run without the tests after 9 (W7).
 pub fn trial(text: &[u8], steps: u32) -> Run {
-    run_or_refused(read(text), steps)
+    run_or_refused(read(text).as_ref().map_err(|&refusal| refusal), steps)
 }
 
 /// The run of a program; for a refused text steps and values are zeros.
-fn run_or_refused(program: Result<names::Program, Refusal>, steps: u32) -> Run {
+fn run_or_refused(program: Result<&names::Program, Refusal>, steps: u32) -> Run {
     match program {
-        Ok(program) => machine::run(&program, steps),
+        Ok(program) => machine::run(program, steps),
         Err(Refusal { number, line }) => Run {
             number,
             line,

@@ -8,7 +8,7 @@ use common::{example, script, text};
 use model::gen::{self, rng::Rng};
 use model::machine::{callee_values, location, run, Location, Machine, Step};
 use model::names::{Action, Atom, Call, Program};
-use model::{accept, check, read};
+use model::{check, read, Judged};
 use std::collections::BTreeMap;
 
 /// A call that has not ended: what was there before its step.
@@ -130,14 +130,17 @@ fn accepted_texts_stop_with_0_21_22_23_or_27() {
     let mut texts = 0;
     for seed in 0..5_000 {
         let text = gen::text(0x1000_0000 + seed);
-        let Ok(program) = accept(&text) else { continue };
+        let judged = Judged::new(&text);
+        let Ok(program) = judged.accepted() else {
+            continue;
+        };
         texts += 1;
-        let whole = run(&program, 5_000);
+        let whole = run(program, 5_000);
         let mut rng = Rng::new(seed);
         let few = 0..whole.steps.min(40);
         let some = (0..5).map(|_| rng.below(whole.steps as usize + 2) as u32);
         for allowed in few.chain(some).chain([whole.steps, whole.steps + 1, 5_000]) {
-            let run = run(&program, allowed);
+            let run = run(program, allowed);
             *numbers.entry(run.number).or_insert(0) += 1;
             assert!([0, 21, 22, 23, 27].contains(&run.number), "seed {seed}");
             // 21 comes exactly where the allowed steps are taken.

@@ -3,6 +3,7 @@
 #![allow(dead_code)]
 
 use model::gen::{self, mutate, rng::Rng};
+use model::Judged;
 use nuyardi::calls;
 use nuyardi::limits::{BOUNDS_BYTES, RESULTS_BYTES, WORK_BYTES};
 use std::fmt;
@@ -140,6 +141,16 @@ impl Comparer {
 
     /// The number and line that both sides return, or how they differ.
     pub fn call(&mut self, text: &[u8], call: Call) -> Result<u32, Box<Difference>> {
+        self.call_judged(text, &Judged::new(text), call)
+    }
+
+    /// The same of a text that the model has judged.
+    fn call_judged(
+        &mut self,
+        text: &[u8],
+        judged: &Judged,
+        call: Call,
+    ) -> Result<u32, Box<Difference>> {
         let from = text.len() % WORK_BYTES;
         let garbage = &self.garbage[from..];
         let [own_work, own_results, work, results] = &mut self.areas;
@@ -152,7 +163,7 @@ impl Comparer {
                 results.set(garbage, 0);
                 (
                     calls::check(&self.text, own_work.set(garbage, len).area()),
-                    model::check_call(text, work.set(garbage, len).area()),
+                    judged.check_call(work.set(garbage, len).area()),
                 )
             }
             Call::Run {
@@ -165,15 +176,16 @@ impl Comparer {
                 let results = results.set(garbage, results_len).area();
                 let own_work = own_work.set(garbage, len).area();
                 let work = work.set(garbage, len).area();
-                type Ran = fn(&[u8], &mut [u8], u32, &mut [u8]) -> u32;
-                let (library, model): (Ran, Ran) = match by {
-                    Runs::Run => (calls::run, model::run_call),
-                    Runs::Trial => (calls::trial, model::trial_call),
-                };
-                (
-                    library(&self.text, own_work, steps, own_results),
-                    model(text, work, steps, results),
-                )
+                match by {
+                    Runs::Run => (
+                        calls::run(&self.text, own_work, steps, own_results),
+                        judged.run_call(work, steps, results),
+                    ),
+                    Runs::Trial => (
+                        calls::trial(&self.text, own_work, steps, own_results),
+                        judged.trial_call(work, steps, results),
+                    ),
+                }
             }
             Call::Bound { work: len, bounds } => {
                 let own_bounds = own_results.set(garbage, bounds).area();
@@ -182,7 +194,7 @@ impl Comparer {
                 let work = work.set(garbage, len).area();
                 (
                     calls::bound(&self.text, own_work, own_bounds),
-                    model::bound_call(text, work, bounds),
+                    judged.bound_call(work, bounds),
                 )
             }
         };
@@ -212,21 +224,27 @@ impl Comparer {
     /// with as many steps as can be allowed where the trial ends before them.
     pub fn every(&mut self, text: &[u8], rng: &mut Rng) -> Result<Answers, Box<Difference>> {
         let steps = gen::steps(rng);
-        let checked = self.call(text, CHECK)?;
-        let ran = self.call(text, run_of(steps))?;
-        let tried = self.call(text, trial_of(steps))?;
-        let bounded = self.call(text, BOUND)?;
+        let judged = Judged::new(text);
+        let checked = self.call_judged(text, &judged, CHECK)?;
+        let ran = self.call_judged(text, &judged, run_of(steps))?;
+        let tried = self.call_judged(text, &judged, trial_of(steps))?;
+        let bounded = self.call_judged(text, &judged, BOUND)?;
         if rng.below(64) == 0 {
-            self.wrong_lengths(text, rng)?;
+            self.wrong_lengths(text, &judged, rng)?;
         }
         if tried / 65_536 != model::number::OUT_OF_STEPS && rng.below(8) == 0 {
-            self.call(text, run_of(u32::MAX))?;
-            self.call(text, trial_of(u32::MAX))?;
+            self.call_judged(text, &judged, run_of(u32::MAX))?;
+            self.call_judged(text, &judged, trial_of(u32::MAX))?;
         }
         Ok([checked, ran, tried, bounded])
     }
 
-    fn wrong_lengths(&mut self, text: &[u8], rng: &mut Rng) -> Result<(), Box<Difference>> {
+    fn wrong_lengths(
+        &mut self,
+        text: &[u8],
+        judged: &Judged,
+        rng: &mut Rng,
+    ) -> Result<(), Box<Difference>> {
         let other = |rng: &mut Rng, right: usize| match rng.below(4) {
             0 => right - 1,
             1 => right + 1,
@@ -237,11 +255,12 @@ impl Comparer {
         let results = other(rng, RESULTS_BYTES);
         let bounds = other(rng, BOUNDS_BYTES);
         let steps = gen::steps(rng);
-        self.call(text, Call::Check { work })?;
-        self.call(text, Call::Bound { work, bounds })?;
+        self.call_judged(text, judged, Call::Check { work })?;
+        self.call_judged(text, judged, Call::Bound { work, bounds })?;
         for by in [Runs::Run, Runs::Trial] {
-            self.call(
+            self.call_judged(
                 text,
+                judged,
                 Call::Run {
                     by,
                     work,
