@@ -29,7 +29,8 @@ use Rattle.check_statements.proofs.Ruled.{Refused, adds-same, empty-add}
 use Rattle.check_statements.proofs.Conditions.{loop-states}
 use Rattle.checker.specs.declared.Out.{Out}
 use Rattle.checker.specs.declared.Verdict.{Verdict}
-use Rattle.checker.specs.Checked.{RowIs, outcome, verdictOf, refusalOf, branches, conditionAt, relationAt, bodyStarts, loopLeaves, Nests, Stands, verdictFrom, Stepped, stoppedAt, onward, passedAt, Went, Ran, Passed, Returns, Ended, Turned, Closed, BodyClosed}
+use Rattle.check_rows.specs.Rows.{RowIs, branches, conditionAt, relationAt, bodyStarts, loopLeaves, Stepped}
+use Rattle.checker.specs.Checked.{outcome, verdictOf, refusalOf, Nests, Stands, verdictFrom, stoppedAt, onward, passedAt, Went, Ran, Passed, Returns, Ended, Turned, Closed, BodyClosed}
 use Rattle.tables.proofs.Statements.{return-means, if-means, else-means, join-means, loop-means, again-means, end-means}
 use Rattle.checker.proofs.Stepping.{closer, step-verdict, step-nests, return-verdict, return-nests, after-return, if-verdict, if-nests, else-verdict, else-out, else-alone, else-nests, join-verdict, join-out, join-alone, join-nests, loop-verdict, loop-nests, again-verdict, again-out, again-alone, again-nests, end-inside, end-verdict, at-line}
 use Rattle.checker.proofs.Verdict.{the-type as verdict-type}

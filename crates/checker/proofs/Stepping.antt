@@ -1,60 +1,31 @@
 -- One row at a time.
 use mathlib.Core.Path.{_≡_, refl, sym, ap, ap₂, _∙_, subst}
-use mathlib.Core.Bool.{Bool, true, false, cond, not, _&&_, _||_}
+use mathlib.Core.Bool.{_&&_}
 use mathlib.Core.List.{List, [], _∷_}
-use mathlib.Core.Logic.{_⊎_, inl, inr, ⊎-elim}
+use mathlib.Core.Logic.{⊎-elim}
 use mathlib.Core.Option.{none, some}
 use Prim.Native.Nat.{ℕ, suc, _+_, _≤_, _<_}
 use native.Mathlib.Omega.{arith}
-use lib.Dec.{T, eqb, leb, leb→le}
+use lib.Dec.{T, leb, leb→le}
 use lib.ListN.{drop}
-use borrow.Author.Tests.{eqb-false}
 use Rattle.rules.specs.Base.{Try, ok, no, _>>=_}
-use Rattle.rules.specs.Grammar.{Loop, IsStatementNumber, statementNumber, isClosingNumber, isComputing, GoesOn}
+use Rattle.rules.specs.Grammar.{IsStatementNumber}
 use Rattle.rules.specs.Answers as Answers
 use Rattle.rules.specs.Answers.{Refusal, accepted, refused, atLine, malformed}
-use Rattle.rules.specs.Syntax.{Formula, Rel, Stmt, Row, simple, return, if, else, join, loop, again, end, eq, ne}
-use Rattle.rules.specs.Syntax as Syntax
+use Rattle.rules.specs.Syntax.{Formula, Rel, Stmt, Row, simple, return, if, else, join, loop, again, end}
 use Rattle.rules.specs.State as Rules
-use Rattle.rules.specs.Rules.{End, Following, Open, inFirst, inSecond, inLoop, rule, newRule, callRule, opposite, ifRule, returnRule, showEnd, joinRule, loopRule, reached, elseRow, joinRow, againRow, endRow, checkRow, checkRows}
+use Rattle.rules.specs.Rules.{End, Following, Open, inFirst, inSecond, inLoop, ifRule, returnRule, showEnd, joinRule, loopRule, reached, elseRow, joinRow, againRow, endRow, checkRow, checkRows}
 use Rattle.rules.proofs.Lists.{and-both, decide-eq}
-use Rattle.tables.specs.Decode.{operandsAt, kindAt, firstAtomAt, atomCountAt, lineAt, stmtAt, rowAt, relOf, rowCount, classCount, methodCount, classAt, methodAt, allRows, programIn}
-use Rattle.tables.specs.Layout.{most-atom-rows}
-use Rattle.tables.specs.Tables.{nested, nestedRow, Tables}
-use Rattle.tables.proofs.Rows.{row-cons, class-get, method-get}
+use Rattle.tables.specs.Decode.{operandsAt, kindAt, lineAt, stmtAt, rowAt, rowCount, allRows, programIn}
+use Rattle.tables.specs.Tables.{nested, nestedRow}
+use Rattle.tables.proofs.Rows.{row-cons}
 use Rattle.tables.proofs.Statements.{if-means, loop-means, no-branch, not-end}
-use Rattle.check_equality.specs.Links as Links
 use Rattle.check_entailment.specs.declared.Answer.{Answer}
 use Rattle.check_state.specs.States.{stateOf}
 use Rattle.check_entailment.specs.Answers.{answered, Adds}
 use Rattle.check_statements.specs.Statements.{Parts, Says}
-use Rattle.checker.specs.Checked.{RowIs, outcome, Nests, verdictFrom, Stepped}
-
--- `eq` by its number
-pub relation : (k : ℕ) → Links.relOf (not (eqb k 1)) ≡ relOf k
-unfolding Links.relOf relOf
-relation k = go (eqb k 1)
-  where
-    go : (c : Bool) → cond (not c) ne eq ≡ cond c eq ne
-    go true = refl
-    go false = refl
-
-pub opposite-relation : (k : ℕ) → Links.relOf (eqb k 1) ≡ opposite (relOf k)
-unfolding Links.relOf relOf opposite
-opposite-relation k = go (eqb k 1)
-  where
-    go : (c : Bool) → cond c ne eq ≡ opposite (cond c eq ne)
-    go true = refl
-    go false = refl
-
--- the atoms of a loop: its condition and its invariant
-pub loop-atoms :
-    (w : List ℕ) → Tables w → (i : ℕ) → i < rowCount w → RowIs w i Loop →
-    (1 ≤ firstAtomAt w i) × (firstAtomAt w i + atomCountAt w i ≤ most-atom-rows)
-unfolding statementNumber
-loop-atoms w T i h k =
-    let F = T .row-fits i h .operands in
-    (F .condition k, omega (arith, F .atoms .1, T .atoms))
+use Rattle.check_rows.specs.Rows.{Stepped}
+use Rattle.checker.specs.Checked.{outcome, Nests, verdictFrom}
 
 -- A VERDICT AT A LINE
 line-answered :
@@ -265,44 +236,3 @@ module _ (w : List ℕ) (i : ℕ) (h : i < rowCount w) where
   pub else-alone : stmtAt w i ≡ else → (u : End) (φ : Formula ℕ) → verdictFrom w i u φ [] ≡ refused malformed (lineAt w i)
   unfolding checkRow elseRow
   else-alone e u φ = row-verdict w i h else e u φ []
-
-pub new-at :
-    (w : List ℕ) (x x′ c c′ : ℕ) (s : Rules.State) → x′ ≡ x → c′ ≡ c → c < classCount w →
-    newRule x′ (classAt w c′) s ≡ rule (programIn w) (Syntax.new x c) s
-unfolding rule
-new-at w x x′ c c′ s e d h = rw (e, d, class-get w c h)
-
-pub call-at :
-    (w : List ℕ) (x x′ y y′ m m′ z z′ : ℕ) (s : Rules.State) → x′ ≡ x → y′ ≡ y → m′ ≡ m → z′ ≡ z → m < methodCount w →
-    callRule x′ y′ (methodAt w m′) z′ s ≡ rule (programIn w) (Syntax.call x y m z) s
-unfolding rule
-call-at w x x′ y y′ m m′ z z′ s a b c d h = rw (a, b, c, d, method-get w m h)
-
--- the numbers of `add` and `sub`
-pub computes : (k n : ℕ) → k ≡ n → 19 ≤ k → k < 21 → T (isComputing n)
-unfolding isComputing statementNumber
-computes k n e l h =
-    ⊎-elim (λ d. rw d tt) (λ d. let c : n ≡ 20 = omega arith in rw c tt) (decide-eq n 19)
-
-above : (k n : ℕ) → n ≤ k → (k ≡ n → ⊥) → n + 1 ≤ k
-above k n h d = omega arith
-
-neither : (a b : Bool) → (a || b) ≡ false → (a ≡ false) × (b ≡ false)
-neither false b e = (refl, e)
-neither true b e = absurd (let z : _≡_ {A = ℕ} 0 1 = cc in omega arith)
-
--- each kind that goes on, `add` and `sub` apart, has its rule
-pub no-kind :
-    (k : ℕ) → IsStatementNumber k → GoesOn k → (k ≡ 8 → ⊥) → (k ≡ 9 → ⊥) → (k ≡ 10 → ⊥) → (k ≡ 11 → ⊥) → (k ≡ 13 → ⊥) → (k ≡ 14 → ⊥) →
-    (k < 19) ⊎ (21 ≤ k) → ⊥
-unfolding isClosingNumber statementNumber
-no-kind k (low, high) (o, i, p, r) a b c d f g l =
-    let (x, others) = neither (eqb k 16) (eqb k 17 || (eqb k 18 || eqb k 22)) o in
-    let (y, more) = neither (eqb k 17) (eqb k 18 || eqb k 22) others in
-    let (z, v) = neither (eqb k 18) (eqb k 22) more in
-    let m = above k 15 (above k 14 (above k 13 (above k 12 (above k 11 (above k 10 (above k 9 (above k 8 low a) b) c) d) r) f) g) i in
-    last k (above k 18 (above k 17 (above k 16 m (eqb-false k 16 x)) (eqb-false k 17 y)) (eqb-false k 18 z)) high p (eqb-false k 22 v) l
-  where
-    last : (k : ℕ) → 19 ≤ k → k ≤ 22 → (k ≡ 21 → ⊥) → (k ≡ 22 → ⊥) → (k < 19) ⊎ (21 ≤ k) → ⊥
-    last k m h p v (inl l) = omega arith
-    last k m h p v (inr l) = omega (arith, above k 22 (above k 21 l p) v)

@@ -1,6 +1,5 @@
 // Blocks, methods and main: the rules walked over the tables. A block's checker calls itself for each part of a branch and for each loop,
 // the remaining depth falling.
-mod operands;
 mod parts;
 
 use check_entailment::Answer;
@@ -17,7 +16,8 @@ ghost use Rattle.rules.specs.Rules.{checkProgram, checkMethod};
 ghost use Rattle.tables.specs.Decode.{kindAt, rowCount, methodCount, atomsFrom, methodAt, programIn};
 ghost use Rattle.tables.specs.Tables.{Tables};
 ghost use Rattle.check_state.specs.States.{Wf, stateOf};
-ghost use Rattle.checker.specs.Checked.{RowIs, Nests, Stands, Passed, Ran, outcome, blockVerdict, verdictOf};
+ghost use Rattle.check_rows.specs.Rows.{RowIs};
+ghost use Rattle.checker.specs.Checked.{Nests, Stands, Passed, Ran, outcome, blockVerdict, verdictOf};
 
 // How far a block was checked, and whether the line before was a `return`; or why no further.
 pub struct Out {
@@ -46,7 +46,7 @@ fn branch(
 {
     let mut key2 = *key;
     let mut b2 = *b;
-    let k = operands::if_at(w, i, key, b, &mut key2, &mut b2);
+    let k = check_rows::if_at(w, i, key, b, &mut key2, &mut b2);
     let Answer::Done = k else {
         return parts::stopped(k, i);
     };
@@ -72,7 +72,7 @@ fn body(
     requires { ⌜ Stands (now w) depth i a n × RowIs (now w) i Loop × Wf (now key) (now b) ⌝ }
     ensures { λ r. ⌜ Passed (now (w .entry)) depth i (atomsFrom (now (w .entry)) a n) (stateOf (now (key .entry)) (now (b .entry))) r (now (key .exit)) (now (b .exit)) ⌝ }
 {
-    let k = operands::loop_at(w, i, key, b);
+    let k = check_rows::loop_at(w, i, key, b);
     let Answer::Done = k else {
         return parts::stopped(k, i);
     };
@@ -97,7 +97,7 @@ fn row(
         Kind::RETURN => parts::return_at(w, i, a, n, key, b),
         Kind::IF => branch(w, depth, i, a, n, key, b),
         Kind::LOOP => body(w, depth, i, a, n, key, b),
-        _ => parts::passed(operands::statement(w, i, key, b), i),
+        _ => parts::passed(check_rows::statement(w, i, key, b), i),
     }
 }
 

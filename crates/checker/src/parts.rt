@@ -11,7 +11,8 @@ ghost use Rattle.tables.specs.Layout.{most-atom-rows};
 ghost use Rattle.tables.specs.Decode.{rowCount, atomsFrom};
 ghost use Rattle.tables.specs.Tables.{Tables};
 ghost use Rattle.check_state.specs.States.{Wf, stateOf};
-ghost use Rattle.checker.specs.Checked.{RowIs, stoppedAt, passedAt, Returns, Ended, Turned, BranchClosed, BodyClosed};
+ghost use Rattle.check_rows.specs.Rows.{RowIs};
+ghost use Rattle.checker.specs.Checked.{stoppedAt, passedAt, Returns, Ended, Turned, BranchClosed, BodyClosed};
 
 // Rows checked up to one before which no `return` stands.
 pub fn stopped(answer: Answer, at: usize) -> Out
@@ -94,7 +95,7 @@ pub fn joined<'a>(
     };
     let at = two.at;
     if tables::kind_at(w, at) == Kind::JOIN {
-        let l = crate::operands::join_at(w, at, returned, key, b, two.returned, key2, b2);
+        let l = check_rows::join_at(w, at, returned, key, b, two.returned, key2, b2);
         return passed(l, at);
     }
     stopped(Answer::Malformed, at)
@@ -117,7 +118,7 @@ pub fn closed(
     };
     let at = end.at;
     if tables::kind_at(w, at) == Kind::AGAIN {
-        let l = crate::operands::again_at(w, i, end.returned, key, b);
+        let l = check_rows::again_at(w, i, end.returned, key, b);
         return passed(l, at);
     }
     stopped(Answer::Malformed, at)

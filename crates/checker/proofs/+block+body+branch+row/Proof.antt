@@ -22,9 +22,9 @@ use Rattle.checker.proofs.+block+body+branch+row.Lts-row as row-lts
 use Rattle.checker.proofs.body.Reads as body
 use Rattle.checker.proofs.body.Kinds as body-kinds
 use Rattle.checker.proofs.+block+body+branch+row.Lts-body as body-lts
-use Rattle.checker.proofs.operands.if_at.Reads as if-at-reads
-use Rattle.checker.proofs.operands.loop_at.Reads as loop-at-reads
-use Rattle.checker.proofs.operands.statement.Reads as statement-reads
+use Rattle.check_rows.proofs.if_at.Reads as if-at-reads
+use Rattle.check_rows.proofs.loop_at.Reads as loop-at-reads
+use Rattle.check_rows.proofs.statement.Reads as statement-reads
 use Rattle.checker.proofs.parts.closed.Reads as closed-reads
 use Rattle.checker.proofs.parts.joined.Reads as joined-reads
 use Rattle.checker.proofs.parts.passed.Reads as passed-reads

@@ -5,8 +5,8 @@ use Rattle.rules.specs.Rules.{rule}
 use mathlib.Core.Path.{ap, _∙_}
 use native.Mathlib.Omega.{arith}
 use borrow.Author.Needs.{needs}
-use Rattle.checker.proofs.operands.compute_at.Statement.{statement}
-use Rattle.checker.proofs.operands.compute_at.Tie as tie
+use Rattle.check_rows.proofs.compute_at.Statement.{statement}
+use Rattle.check_rows.proofs.compute_at.Tie as tie
 
 x-at-requires : tie.Need-x-at-requires
 x-at-requires c κs = (c .before .pre .0 .size, omega (arith, c .before .pre .0 .rows, c .before .pre .1))

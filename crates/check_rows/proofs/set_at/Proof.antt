@@ -6,8 +6,8 @@ use native.Mathlib.Omega.{arith}
 use Rattle.rules.specs.State as Rules
 use Rattle.rules.specs.Rules.{rule}
 use borrow.Author.Needs.{needs}
-use Rattle.checker.proofs.operands.set_at.Statement.{statement}
-use Rattle.checker.proofs.operands.set_at.Tie as tie
+use Rattle.check_rows.proofs.set_at.Statement.{statement}
+use Rattle.check_rows.proofs.set_at.Tie as tie
 
 x-at-requires : tie.Need-x-at-requires
 x-at-requires c κs = (c .before .pre .0 .size, omega (arith, c .before .pre .0 .rows, c .before .pre .1))

@@ -1,12 +1,12 @@
-use Rattle.checker.proofs.Stepping.{no-kind, computes}
+use Rattle.check_rows.proofs.Operands.{no-kind, computes}
 use Rattle.tables.proofs.Statements.{set-means, let-means, new-means, call-means, compute-means, assert-means, release-means}
 use mathlib.Core.Path.{sym, _∙_}
 use mathlib.Core.Logic.{inl, inr}
 use native.Mathlib.Omega.{arith}
 use borrow.Author.Needs.{needs}
 use Rattle.rules.specs.Grammar.{statementNumber}
-use Rattle.checker.proofs.operands.statement.Statement.{statement}
-use Rattle.checker.proofs.operands.statement.Tie as tie
+use Rattle.check_rows.proofs.statement.Statement.{statement}
+use Rattle.check_rows.proofs.statement.Tie as tie
 
 kind-at-requires : tie.Need-kind-at-requires
 kind-at-requires c κs = search needs

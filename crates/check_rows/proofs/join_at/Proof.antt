@@ -4,8 +4,8 @@ use Rattle.rules.specs.Base.{Try}
 use mathlib.Core.Path.{subst}
 use native.Mathlib.Omega.{arith}
 use Rattle.rules.specs.State as Rules
-use Rattle.checker.proofs.operands.join_at.Statement.{statement}
-use Rattle.checker.proofs.operands.join_at.Tie as tie
+use Rattle.check_rows.proofs.join_at.Statement.{statement}
+use Rattle.check_rows.proofs.join_at.Tie as tie
 
 first-atom-at-requires : tie.Need-first-atom-at-requires
 first-atom-at-requires c κs = (c .before .pre .0 .size, omega (arith, c .before .pre .0 .rows, c .before .pre .1))

@@ -1,4 +1,4 @@
-// Each statement by its operands in the tables.
+// A statement's row by its kind: the rule of the statement, from the operands that stand in the tables.
 use check_entailment::Answer;
 use check_equality::State;
 use rules::Kind;
@@ -12,7 +12,7 @@ ghost use Rattle.tables.specs.Tables.{Tables};
 ghost use Rattle.check_state.specs.States.{Wf, stateOf};
 ghost use Rattle.check_entailment.specs.Answers.{Adds};
 ghost use Rattle.check_statements.specs.Statements.{Parts, endOf, JoinGives};
-ghost use Rattle.checker.specs.Checked.{RowIs, setAt, letAt, newAt, callAt, computeAt, RuleGives, branches, bodyStarts, loopLeaves, Stepped};
+ghost use Rattle.check_rows.specs.Rows.{RowIs, setAt, letAt, newAt, callAt, computeAt, RuleGives, branches, bodyStarts, loopLeaves, Stepped};
 
 // `set x f y`
 fn set_at(w: &[u8], i: usize, key: &mut [u64; State::SLOTS], b: &mut [u8; State::BYTES]) -> Answer

@@ -1,4 +1,4 @@
-use Rattle.checker.proofs.Stepping.{relation}
+use Rattle.check_rows.proofs.Operands.{relation}
 use Rattle.rules.specs.Answers.{Refusal}
 use Rattle.rules.specs.Base.{Try}
 use Rattle.check_statements.proofs.Ruled.{plain-term}
@@ -8,8 +8,8 @@ use mathlib.Core.Path.{subst}
 use native.Mathlib.Omega.{arith}
 use Rattle.rules.specs.State as Rules
 use Rattle.rules.specs.Grammar.{statementNumber}
-use Rattle.checker.proofs.operands.if_at.Statement.{statement}
-use Rattle.checker.proofs.operands.if_at.Tie as tie
+use Rattle.check_rows.proofs.if_at.Statement.{statement}
+use Rattle.check_rows.proofs.if_at.Tie as tie
 
 first-atom-at-requires : tie.Need-first-atom-at-requires
 first-atom-at-requires c κs = (c .before .pre .0 .size, omega (arith, c .before .pre .0 .rows, c .before .pre .1))
