@@ -8,7 +8,8 @@ use rules::Machine;
 ghost use mathlib.Core.Path.{_≡_};
 ghost use mathlib.Core.Bool.{true};
 ghost use Prim.Native.Nat.{_≤_};
-ghost use Rattle.check_equality.specs.Layout.{slots};
+ghost use Rattle.check_equality.specs.Layout.{slots, left-sides};
+ghost use Rattle.check_equality.specs.Links.{Header, Labelled};
 ghost use Rattle.check_state.specs.States.{Wf};
 ghost use Rattle.check_scans.specs.Scans.{Scanned, NoPath, markedKey};
 ghost use Rattle.check_dropping.specs.Dropping.{Renamed, Forgettable, Forgot, StandsIn, PathsForgettable};
@@ -16,6 +17,26 @@ ghost use lib.Dec.{eqb};
 ghost use Rattle.check_state.specs.Questions.{no-variable};
 ghost use Rattle.check_entries.specs.PathsOut.{keyDropped, OutMarked};
 ghost use Rattle.check_scans.specs.Sides.{renamedKey, mentionsKey};
+
+// The label of the key k, which is looked for in slot l first.
+fn label_near<'a>(
+    key: &'a [u64; State::SLOTS],
+    b: &'a [u8; State::BYTES],
+    m: usize,
+    k: u64,
+    l: usize,
+) -> u8
+    requires { ⌜ (left-sides ≤ m) × (m ≤ slots) × Header (now key) ⌝ }
+    ensures { λ r. ⌜ Labelled (now (key .entry)) (now (b .entry)) m k r ⌝ }
+{
+    if m <= l {
+        return check_equality::label_of(key, b, m, k);
+    }
+    if key[l] == k {
+        return b[l];
+    }
+    check_equality::label_of(key, b, m, k)
+}
 
 // The term of k is dropped, and the facts before `from` stay: it gives way to its successor, or else as `forget` says.
 fn give_key(
@@ -32,7 +53,7 @@ fn give_key(
     let m = State::LEFT + 2 * (b[State::FACTS] as usize);
     let l = State::LEFT + 2 * from;
     let mut gone = [false; State::SLOTS];
-    let a = check_equality::label_of(key, b, m, k);
+    let a = label_near(key, b, m, k, l);
     let Resolved::Key(t) = check_successors::successor(key, b, skip, x, k, a) else {
         check_scans::drop_path(key, l, m, k, &mut gone);
         giving::forget(key, b, skip, x, &mut gone, from);

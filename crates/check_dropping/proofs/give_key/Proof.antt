@@ -23,11 +23,11 @@ mul-l c = omega (arith, c .before .pre .0 .linked .fit, c .before .pre .2 .most)
 add-l : tie.Need-add-l
 add-l c = omega (arith, c .before .pre .0 .linked .fit, c .before .pre .2 .most)
 
-label-of-requires : tie.Need-label-of-requires
-label-of-requires c κs = (omega arith, omega (arith, c .before .before .before .pre .0 .linked .fit), c .before .before .before .pre .0 .linked .header)
+label-near-requires : tie.Need-label-near-requires
+label-near-requires c κs = (omega arith, omega (arith, c .before .before .before .pre .0 .linked .fit), c .before .before .before .pre .0 .linked .header)
 
 successor-requires : tie.Need-successor-requires
-successor-requires c κs = (c .before .before .before .before .before .before .pre .0, c .before .before .label-of .ensures)
+successor-requires c κs = (c .before .before .before .before .before .before .pre .0, c .before .before .label-near .ensures)
 
 enum-known-t : tie.Need-enum-known-t
 enum-known-t c = search needs
@@ -74,7 +74,7 @@ give-key-spec =
     add-m
     mul-l
     add-l
-    label-of-requires
+    label-near-requires
     successor-requires
     enum-known-t
     enum-told
