@@ -64,30 +64,30 @@ module _ (P : Program) where
   nests-next i ws t = nests-more ws (drop (suc i) (P .rows)) t
 
   -- the row that closes what waits for v
-  record Found (v : Wait) (ws : List Wait) (i j : ℕ) : Type 0 where
+  record ClosedBy (v : Wait) (ws : List Wait) (i j : ℕ) : Type 0 where
     later : Later i j
     closes-it : T (closes (rowNumbered P j .stmt))
     nests : NestsAt j (v ∷ ws)
 
-  abbrev FoundLater : Wait → List Wait → ℕ → List Row → Type 0
-  FoundLater v ws i rs = (us : List Wait) → NestsAt i (us ++ (v ∷ ws)) → Found v ws i (seek (length us) i rs)
+  abbrev ClosedLater : Wait → List Wait → ℕ → List Row → Type 0
+  ClosedLater v ws i rs = (us : List Wait) → NestsAt i (us ++ (v ∷ ws)) → ClosedBy v ws i (seek (length us) i rs)
 
-  further : {v : Wait} {ws : List Wait} {i j : ℕ} → isEnd (rowNumbered P i .stmt) ≡ false → Found v ws (suc i) j → Found v ws i j
+  further : {v : Wait} {ws : List Wait} {i j : ℕ} → isEnd (rowNumbered P i .stmt) ≡ false → ClosedBy v ws (suc i) j → ClosedBy v ws i j
   further e F = record { later = pass e (F .later); closes-it = F .closes-it; nests = F .nests }
 
-  module _ (v : Wait) (ws : List Wait) (i : ℕ) (rs : List Row) (ih : FoundLater v ws (suc i) rs) where
+  module _ (v : Wait) (ws : List Wait) (i : ℕ) (rs : List Row) (ih : ClosedLater v ws (suc i) rs) where
     -- on over the row i, with us open after it
     over :
         (t : Stmt) → rowNumbered P i .stmt ≡ t → isEnd t ≡ false → (us : List Wait) → T (goes i false (us ++ (v ∷ ws))) →
-        Found v ws i (seek (length us) (suc i) rs)
+        ClosedBy v ws i (seek (length us) (suc i) rs)
     over t w n us k = further (ap isEnd w ∙ n) (ih us (nests-next i (us ++ (v ∷ ws)) k))
 
-    here : (t : Stmt) → rowNumbered P i .stmt ≡ t → T (closes t) → NestsAt i (v ∷ ws) → Found v ws i i
+    here : (t : Stmt) → rowNumbered P i .stmt ≡ t → T (closes t) → NestsAt i (v ∷ ws) → ClosedBy v ws i i
     here t w c k = record { later = same; closes-it = subst (λ t. T (closes t)) (sym w) c; nests = k }
 
     found-row :
         (t : Stmt) → rowNumbered P i .stmt ≡ t → (us : List Wait) → NestsAt i (us ++ (v ∷ ws)) → T (rowNests t (us ++ (v ∷ ws)) (goes i)) →
-        Found v ws i (cond (closes t && eqb (length us) 0) i (seek (depthAfter t (length us)) (suc i) rs))
+        ClosedBy v ws i (cond (closes t && eqb (length us) 0) i (seek (depthAfter t (length us)) (suc i) rs))
     unfolding rowNests closes depthAfter isEnd
     found-row (simple p) w us h k = over (simple p) w refl us k
     found-row (return x) w us h k = over (return x) w refl us k
@@ -110,7 +110,7 @@ module _ (P : Program) where
     found-row end w [] h k = absurd k
     found-row end w (u ∷ us) h k = absurd k
 
-  find : (v : Wait) (ws : List Wait) (rs : List Row) (i : ℕ) → drop i (P .rows) ≡ rs → FoundLater v ws i rs
+  find : (v : Wait) (ws : List Wait) (rs : List Row) (i : ℕ) → drop i (P .rows) ≡ rs → ClosedLater v ws i rs
   unfolding rowsNest seek rowNumbered
   find v ws [] i e us t = absurd (nothing us (subst (λ rs. T (rowsNest true (us ++ (v ∷ ws)) rs)) e t))
     where
@@ -123,7 +123,7 @@ module _ (P : Program) where
       found-row v ws i rs (find v ws rs (suc i) rest) (r .stmt) w us t
       (subst (λ t. T (rowNests t (us ++ (v ∷ ws)) (goes i))) w (nests-row i (us ++ (v ∷ ws)) t))
 
-  to-closing : (v : Wait) (ws : List Wait) (i : ℕ) → NestsAt (suc i) (v ∷ ws) → Found v ws (suc i) (closing (P .rows) i)
+  to-closing : (v : Wait) (ws : List Wait) (i : ℕ) → NestsAt (suc i) (v ∷ ws) → ClosedBy v ws (suc i) (closing (P .rows) i)
   unfolding closing
   to-closing v ws i t = find v ws (drop (suc i) (P .rows)) (suc i) refl [] t
 

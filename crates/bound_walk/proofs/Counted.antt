@@ -27,7 +27,7 @@ use Rattle.bound_walk.specs.declared.Visit.{Visit}
 use Rattle.bound_walk.specs.declared.Visit.the-variants.{NotVisited, OnRoute, Done}
 use Rattle.bound_walk.specs.declared.Reckoned.{Reckoned}
 use Rattle.bound_walk.specs.declared.Open.{Open}
-use Rattle.bound_walk.specs.declared.Found.the-variants as Finds
+use Rattle.bound_walk.specs.declared.Halt.the-variants as Halts
 use Rattle.bound_walk.specs.declared.Looked.{Looked}
 use Rattle.bound_walk.specs.declared.Looked.the-variants.{On, Wait, Loop, End}
 use Rattle.bound_walk.specs.Counting.{cap, fresh, lookedCall, looked, stoppedAt, BoundFits, Counts, CallFits}
@@ -298,7 +298,7 @@ module _ (w : List ℕ) (tables : Tables w) (marks : List Reckoned) (sound : Sou
 
     pub scan-waits :
         (c : ℕ) → k ≡ Wait c →
-        Scans w marks o (stoppedAt o row sum frames (Finds.Wait c))
+        Scans w marks o (stoppedAt o row sum frames (Halts.Wait c))
     scan-waits c q =
         record {
           method = refl;
@@ -310,7 +310,7 @@ module _ (w : List ℕ) (tables : Tables w) (marks : List Reckoned) (sound : Sou
 
     pub scan-loops :
         k ≡ Loop →
-        Scans w marks o (stoppedAt o row sum frames Finds.Loop)
+        Scans w marks o (stoppedAt o row sum frames Halts.Loop)
     scan-loops q =
         record {
           method = refl;
@@ -319,7 +319,7 @@ module _ (w : List ℕ) (tables : Tables w) (marks : List Reckoned) (sound : Sou
 
     pub scan-ends :
         (s : ℕ) → k ≡ End → s ≡ cap (sum + 1) →
-        Scans w marks o (stoppedAt o row s frames Finds.End)
+        Scans w marks o (stoppedAt o row s frames Halts.End)
     scan-ends s q r =
         record {
           method = refl;

@@ -24,7 +24,7 @@ use Rattle.bound_rows.proofs.Lines.{callees-there, blocks-count}
 use Rattle.bound_walk.specs.declared.Visit.{Visit}
 use Rattle.bound_walk.specs.declared.Visit.the-variants.{NotVisited, OnRoute, Done}
 use Rattle.bound_walk.specs.declared.Reckoned.{Reckoned}
-use Rattle.bound_walk.specs.declared.Found.the-variants as Finds
+use Rattle.bound_walk.specs.declared.Halt.the-variants as Halts
 use Rattle.bound_walk.specs.declared.Scanned.{Scanned}
 use Rattle.bound_walk.specs.declared.Answer.the-variants as Answers
 use Rattle.bound_walk.specs.Counting.{cap, fresh}
@@ -90,19 +90,19 @@ module _ (w : List ℕ) (tables : Tables w) (marks : List Reckoned) (R : Reckons
     not-waiting OnRoute z i d = i refl
     not-waiting (Done b) z i d = d
 
-    pub main-waits : (c : ℕ) → s .found ≡ Finds.Wait c → Answers.Unbounded ≡ reckoned P
+    pub main-waits : (c : ℕ) → s .found ≡ Halts.Wait c → Answers.Unbounded ≡ reckoned P
     main-waits c f =
         let H : Waits w marks body (s .block) c = subst (λ f. Stops w marks body (s .block) f) f stops in
         absurd
         (not-waiting (getD marks c fresh .visit) (R .1 c (callees-there w tables (mainFirst w) c (H .called))) (R .0 .idle c) (H .not-done))
 
-    pub main-loops : s .found ≡ Finds.Loop → Answers.Unbounded ≡ reckoned P
+    pub main-loops : s .found ≡ Halts.Loop → Answers.Unbounded ≡ reckoned P
     unfolding programIn
     main-loops f =
         let (r, i, t) = subst (λ f. Stops w marks body (s .block) f) f stops in
         no-bound-answer w (λ e. main-loopless P e r i t)
 
-    module _ (f : s .found ≡ Finds.End) where
+    module _ (f : s .found ≡ Halts.End) where
       ended : Ended bs body (s .block)
       ended = subst (λ f. Stops w marks body (s .block) f) f stops
 

@@ -23,7 +23,7 @@ use Rattle.bound_walk.specs.declared.Visit.{Visit}
 use Rattle.bound_walk.specs.declared.Visit.the-variants.{NotVisited, OnRoute, Done}
 use Rattle.bound_walk.specs.declared.Reckoned.{Reckoned}
 use Rattle.bound_walk.specs.declared.Open.{Open}
-use Rattle.bound_walk.specs.declared.Found.the-variants as Finds
+use Rattle.bound_walk.specs.declared.Halt.the-variants as Halts
 use Rattle.bound_walk.specs.declared.Scanned.{Scanned}
 use Rattle.bound_walk.specs.declared.Route.{Route}
 use Rattle.bound_walk.specs.Counting.{cap, fresh}
@@ -331,34 +331,34 @@ module _ (w : List ℕ) (tables : Tables w) where
     stops : Stops w (r .marks) top-block (s .block) (s .found)
     stops = S .stops top-block (W .parts top (omega (arith, h)))
 
-    ends : s .found ≡ Finds.End → Ended bs top-block (s .block)
+    ends : s .found ≡ Halts.End → Ended bs top-block (s .block)
     ends f = subst (λ f. Stops w (r .marks) top-block (s .block) f) f stops
 
-    waits : (c : ℕ) → s .found ≡ Finds.Wait c → Waits w (r .marks) top-block (s .block) c
+    waits : (c : ℕ) → s .found ≡ Halts.Wait c → Waits w (r .marks) top-block (s .block) c
     waits c f = subst (λ f. Stops w (r .marks) top-block (s .block) f) f stops
 
-    pub may-leave : s .found ≡ Finds.End → (s .block .method < most-methods) × (s .block .frames ≤ suc most-methods)
+    pub may-leave : s .found ≡ Halts.End → (s .block .method < most-methods) × (s .block .frames ≤ suc most-methods)
     may-leave f = (
       omega (arith, S .method, W .exist top (omega (arith, h)), tables .methods),
       omega (arith, ends f .frames, frames-most bs top-block, blocks-count w, tables .methods),
     )
 
-    pub may-wait : (c : ℕ) → s .found ≡ Finds.Wait c → (top < most-methods) × (c < most-methods)
+    pub may-wait : (c : ℕ) → s .found ≡ Halts.Wait c → (top < most-methods) × (c < most-methods)
     may-wait c f =
         (omega (arith, W .room, h), omega (arith, call-known (getD (r .blocks) top noOpen .method) c (waits c f .called), tables .methods))
 
-    pub turn-leaves : (r′ : Route) → s .found ≡ Finds.End → r′ ≡ left r top (s .block) → Turned w r (r′ .unbounded) r′
+    pub turn-leaves : (r′ : Route) → s .found ≡ Halts.End → r′ ≡ left r top (s .block) → Turned w r (r′ .unbounded) r′
     turn-leaves r′ f q =
         subst (λ (r′ : Route). Turned w r (r′ .unbounded) r′) (sym q) (left-turned r W top is-top (s .block) (S .method) (ends f))
 
-    pub turn-stops : (r′ : Route) → s .found ≡ Finds.Loop → r′ ≡ stopped r → Turned w r (r′ .unbounded) r′
+    pub turn-stops : (r′ : Route) → s .found ≡ Halts.Loop → r′ ≡ stopped r → Turned w r (r′ .unbounded) r′
     unfolding stopped
     turn-stops r′ f q =
         subst (λ (r′ : Route). Turned w r (r′ .unbounded) r′) (sym q)
         (loop-unbounded w (getD (r .blocks) top noOpen .method) (subst (λ f. Stops w (r .marks) top-block (s .block) f) f stops))
 
     pub turn-waits :
-        (r′ : Route) (c : ℕ) → s .found ≡ Finds.Wait c → r′ ≡ waiting r top (s .block) c (firstRowAt w c) (getD (r .marks) c fresh .visit) →
+        (r′ : Route) (c : ℕ) → s .found ≡ Halts.Wait c → r′ ≡ waiting r top (s .block) c (firstRowAt w c) (getD (r .marks) c fresh .visit) →
         Turned w r (r′ .unbounded) r′
     turn-waits r′ c f q =
         subst (λ (r′ : Route). Turned w r (r′ .unbounded) r′) (sym q)

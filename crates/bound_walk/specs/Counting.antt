@@ -11,7 +11,7 @@ use Rattle.bound_walk.specs.declared.Reckoned.{Reckoned}
 use Rattle.bound_walk.specs.declared.Looked.{Looked}
 use Rattle.bound_walk.specs.declared.Looked.the-variants.{On, Wait, Loop, End}
 use Rattle.bound_walk.specs.declared.Open.{Open}
-use Rattle.bound_walk.specs.declared.Found.{Found}
+use Rattle.bound_walk.specs.declared.Halt.{Halt}
 use Rattle.bound_walk.specs.declared.Scanned.{Scanned}
 
 -- beyond the greatest bound only that it is passed
@@ -34,7 +34,7 @@ looked marks Lines.Loop sum frames = Loop
 looked marks Lines.End sum frames = End
 
 -- the counting of the block o stops at a row
-abbrev pub stoppedAt : Open → ℕ → ℕ → ℕ → Found → Scanned
+abbrev pub stoppedAt : Open → ℕ → ℕ → ℕ → Halt → Scanned
 stoppedAt o row sum frames f = record { block = record { method = o .method; row = row; sum = sum; frames = frames }; found = f }
 
 -- no sum is greater than one past the greatest bound

@@ -17,8 +17,8 @@ use Rattle.bound_walk.specs.declared.Visit.{Visit}
 use Rattle.bound_walk.specs.declared.Visit.the-variants.{NotVisited, OnRoute, Done}
 use Rattle.bound_walk.specs.declared.Reckoned.{Reckoned}
 use Rattle.bound_walk.specs.declared.Open.{Open}
-use Rattle.bound_walk.specs.declared.Found.{Found}
-use Rattle.bound_walk.specs.declared.Found.the-variants as Finds
+use Rattle.bound_walk.specs.declared.Halt.{Halt}
+use Rattle.bound_walk.specs.declared.Halt.the-variants as Halts
 use Rattle.bound_walk.specs.declared.Scanned.{Scanned}
 use Rattle.bound_walk.specs.declared.Route.{Route}
 use Rattle.bound_walk.specs.declared.Answer.{Answer}
@@ -80,10 +80,10 @@ pub record Waits (w : List ℕ) (marks : List Reckoned) (whole : Block) (o : Ope
 abbrev pub HasLoop : Block → Type 0
 HasLoop b = (r : Row) × Member r b × T (isLoop (r .stmt))
 
-abbrev pub Stops : List ℕ → List Reckoned → Block → Open → Found → Type 0
-Stops w marks whole o Finds.End = Ended (blocksIn w) whole o
-Stops w marks whole o Finds.Loop = HasLoop whole
-Stops w marks whole o (Finds.Wait c) = Waits w marks whole o c
+abbrev pub Stops : List ℕ → List Reckoned → Block → Open → Halt → Type 0
+Stops w marks whole o Halts.End = Ended (blocksIn w) whole o
+Stops w marks whole o Halts.Loop = HasLoop whole
+Stops w marks whole o (Halts.Wait c) = Waits w marks whole o c
 
 -- counted on from o, whatever block it is that o has counted in part
 pub record Scans (w : List ℕ) (marks : List Reckoned) (o : Open) (s : Scanned) : Type 0 where

@@ -1,5 +1,5 @@
 // The rows of a block counted, up to its `end` or to a row that has to wait.
-use crate::Found;
+use crate::Halt;
 use crate::Looked;
 use crate::Open;
 use crate::Reckoned;
@@ -63,7 +63,7 @@ fn look(marks: [Reckoned; Machine::METHODS], line: Line, sum: u32, frames: u32) 
 }
 
 // The counting of the block o stops at a row.
-fn stop_at(o: Open, row: usize, sum: u32, frames: u32, found: Found) -> Scanned
+fn stop_at(o: Open, row: usize, sum: u32, frames: u32, found: Halt) -> Scanned
     ensures { λ r. ⌜ r ≡ stoppedAt o row sum frames found ⌝ }
 {
     Scanned {
@@ -94,13 +94,13 @@ pub fn scan(work: &[u8], marks: [Reckoned; Machine::METHODS], o: Open) -> Scanne
                 row += 1;
             }
             Looked::Wait(c) => {
-                return stop_at(o, row, sum, frames, Found::Wait(c));
+                return stop_at(o, row, sum, frames, Halt::Wait(c));
             }
             Looked::Loop => {
-                return stop_at(o, row, sum, frames, Found::Loop);
+                return stop_at(o, row, sum, frames, Halt::Loop);
             }
             Looked::End => {
-                return stop_at(o, row, capped(sum + 1), frames, Found::End);
+                return stop_at(o, row, capped(sum + 1), frames, Halt::End);
             }
         }
     }

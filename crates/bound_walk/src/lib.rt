@@ -42,7 +42,7 @@ pub enum Looked {
 }
 
 // Where the counting of a block stops.
-pub enum Found {
+pub enum Halt {
     Wait(usize),
     Loop,
     End,
@@ -50,7 +50,7 @@ pub enum Found {
 
 pub struct Scanned {
     pub block: Open,
-    pub found: Found,
+    pub found: Halt,
 }
 
 // What is known of each method, and the blocks of the present route, the outermost first; or that there is no bound.
@@ -158,9 +158,9 @@ fn reckon_main(work: &[u8], marks: [Reckoned; Machine::METHODS]) -> Answer
     let b = s.block;
     let f = s.found;
     match f {
-        Found::Wait(_) => Answer::Unbounded,
-        Found::Loop => Answer::Unbounded,
-        Found::End => {
+        Halt::Wait(_) => Answer::Unbounded,
+        Halt::Loop => Answer::Unbounded,
+        Halt::End => {
             if (Machine::BOUND as u32) < b.sum {
                 return Answer::Passed;
             }

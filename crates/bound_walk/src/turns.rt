@@ -1,5 +1,5 @@
 // The route: its top block is counted on, left when it is done, and waits for the methods that it calls.
-use crate::Found;
+use crate::Halt;
 use crate::Open;
 use crate::Reckoned;
 use crate::Route;
@@ -99,9 +99,9 @@ pub fn turn(work: &[u8], r: Route) -> Route
     let b = s.block;
     let f = s.found;
     match f {
-        Found::End => leave(r, top, b),
-        Found::Loop => stop(r),
-        Found::Wait(c) => {
+        Halt::End => leave(r, top, b),
+        Halt::Loop => stop(r),
+        Halt::Wait(c) => {
             let m = marks[c];
             let v = m.visit;
             wait(work, r, top, b, c, v)

@@ -58,7 +58,7 @@ pub record SideGiven (old b : List ℕ) (skip : List Bool) (x j : ℕ) (key : Li
   pub keys : (i : ℕ) → (i ≡ j → ⊥) → getD key′ i 0 ≡ getD key i 0
   pub flags : (i : ℕ) → (i ≡ j → ⊥) → getD gone′ i false ≡ getD gone i false
 
--- .. of each side; those of the facts before `from` stay
+-- what becomes of every side; those of the facts before `from` stay
 pub record GaveWay (key b : List ℕ) (skip : List Bool) (x : ℕ) (gone : List Bool) (from : ℕ) (key′ : List ℕ) (gone′ : List Bool) : Type 0 where
   pub header : Header key′
   pub keys : (j : ℕ) → j < left-sides + 2 * from → getD key′ j 0 ≡ getD key j 0
@@ -88,7 +88,7 @@ abbrev pub DropsSides : (ℕ → Bool) → Renaming → List ℕ → List ℕ �
 DropsSides test ρ key b =
     (j : ℕ) → left-sides ≤ j → j < left-sides + 2 * facts b → ρ (termAt key j) ≡ cond (test (getD key j 0)) none (some (termAt key j))
 
--- .. some ρ does, and nothing else changes
+-- some ρ drops the sides whose keys pass, and renames nothing
 pub record Forgettable (test : ℕ → Bool) (key b : List ℕ) (skip : List Bool) (x : ℕ) : Type 0 where
   pub ρ : Renaming
   pub ps : List Permission
@@ -96,7 +96,7 @@ pub record Forgettable (test : ℕ → Bool) (key b : List ℕ) (skip : List Boo
   pub drops : Drops ρ ps b skip x
   pub sides : DropsSides test ρ key b
 
--- .. which drops the paths of the entries that are out, but for names still listed
+-- some ρ drops the paths of the entries that are out, but for names still listed
 abbrev pub PathsForgettable : List ℕ → List ℕ → List Bool → Type 0
 PathsForgettable key b out = Forgettable (keyDropped b out) key b out no-variable
 

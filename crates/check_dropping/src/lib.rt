@@ -151,7 +151,7 @@ fn stands_in(b: &[u8; State::BYTES], x: u8, to: u8) -> bool
     false
 }
 
-// .. and no path of x among the sides from slot `from` on?
+// Is `to` another variable with the label of x, and no path of x among the sides from slot `from` on?
 fn stands_alone<'a>(
     key: &'a [u64; State::SLOTS],
     b: &'a [u8; State::BYTES],

@@ -21,7 +21,7 @@ pathOut out x f k = out && Syntax.same (Syntax.path x f) (termOf k)
 abbrev pub pathOutAt : List ℕ → List Bool → ℕ → ℕ → Bool
 pathOutAt b out k i = pathOut (getD out i false) (variableAt b i) (fieldAt b i) k
 
--- .. or, where `kept`, it is not out
+-- the entry i is out (where `kept`: it is not out), and its path is the term of k
 abbrev pub pathWith : List ℕ → List Bool → Bool → ℕ → ℕ → Bool
 pathWith b out kept k i = pathOut (cond kept (not (getD out i false)) (getD out i false)) (variableAt b i) (fieldAt b i) k
 
@@ -49,6 +49,6 @@ pub record MarksOut (b : List ℕ) (out : List Bool) (n : ℕ) (marks : List Boo
   pub size : length marks ≡ mark-count
   pub at : (i : ℕ) → i < n → getD out i false ≡ true → getD marks (placeOfPath (variableAt b i) (fieldAt b i)) false ≡ true
 
--- .. of all
+-- the places of the paths of all entries that are out are marked
 abbrev pub OutMarked : List ℕ → List Bool → List Bool → Type 0
 OutMarked b out marks = (entries b ≤ most-permissions) × MarksOut b out (entries b) marks

@@ -21,7 +21,7 @@ fn path_out(out: bool, x: u8, f: u8, k: u64) -> bool
     false
 }
 
-// .. or, where `kept`, not out?
+// Is an entry out (where `kept`: is it not out), and its path the term of k?
 fn path_with(kept: bool, out: bool, x: u8, f: u8, k: u64) -> bool
     ensures { λ r. ⌜ r ≡ pathOut (cond kept (not out) out) x f k ⌝ }
 {

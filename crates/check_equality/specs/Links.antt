@@ -81,7 +81,7 @@ pub data Joined (m : ℕ) (label label′ : List ℕ) : Type 0 where
   right-new : getD label (m + 1) 0 ≡ m + 1 → label′ ≡ set label (m + 1) (getD label m 0) → Joined m label label′
   both-known : Merged (getD label m 0) (getD label (m + 1) 0) label label′ → Joined m label label′
 
--- .. unless they are unequal
+-- the terms in the slots m and m + 1 are made equal, unless b: the fact is an inequality
 pub record LinkedUnless (b : Bool) (m : ℕ) (label label′ : List ℕ) : Type 0 where
   pub apart : b ≡ true → label′ ≡ label
   pub equal : b ≡ false → Joined m label label′

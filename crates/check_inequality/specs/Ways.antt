@@ -29,7 +29,7 @@ unequalIn b x y i = unequalAt (getD b (relations-at + i) 0) (getD b (left-sides 
 unfoldable pub numberLike : ℕ → ℕ → ℕ → ℕ → Bool
 numberLike k c l b = leb first-number k && alikeBy k c l b
 
--- .. and not the number of j
+-- a number ~ the term of l, and not that of j
 unfoldable pub otherLike : ℕ → ℕ → ℕ → ℕ → ℕ → Bool
 otherLike j l b k c = not (eqb j k) && numberLike k c l b
 
@@ -66,7 +66,7 @@ pairTest _~_ t u p q =
 abbrev pub pairAt : Equality → ℕ → ℕ → List ℕ → ℕ → ℕ → Bool
 pairAt _~_ t u b j i = pairTest _~_ t u (permissionAt b j) (permissionAt b i)
 
--- .. where p and q say whether the variable of i is ~ t and ~ u
+-- r tells this of the entries j and i, where p and q say whether the variable of i is ~ t and ~ u
 abbrev pub PairTold : List ℕ → ℕ → ℕ → ℕ → ℕ → Bool → Bool → Bool → Equality → Type 0
 PairTold b t u j i p q r same =
     p ≡ same (var (variableAt b i)) (termOf t) → q ≡ same (var (variableAt b i)) (termOf u) → r ≡ pairAt same t u b j i

@@ -12,7 +12,7 @@ use borrow.Author.Tests.{eqb-false, ltb-true, lt-ltb}
 use Rattle.rules.proofs.Lists.{decide-eq}
 use Rattle.check_equality.specs.Layout.{slots, null-slot, left-sides, right-sides, relations-at, bytes}
 use Rattle.check_equality.specs.Links.{no-label}
-use Rattle.check_labels.specs.Labels.{Lone, loneOf, LabelsBelow, Named, own, known, new, Relabelled, Fits, fitting, withLabel, even, Whole}
+use Rattle.check_labels.specs.Labels.{Lone, loneOf, LabelsBelow, Named, own, known, new, Relabelled, LabelsFit, fitting, withLabel, even, Whole}
 
 -- the first i slots have new labels: `name` has them by the old ones, and each is a slot's
 pub record Naming (b : List ℕ) (x i : ℕ) (name b′ : List ℕ) : Type 0 where
@@ -167,11 +167,11 @@ pub not-true : (c : Bool) → not c ≡ true → c ≡ false
 not-true true z = sym z
 not-true false z = refl
 
-pub fits-more : (b : List ℕ) (m i x : ℕ) (good r : Bool) → r ≡ fitting m x (getD b i 0) → (good ≡ true → Fits b m i x) → (good && r) ≡ true → Fits b m (i + 1) x
+pub fits-more : (b : List ℕ) (m i x : ℕ) (good r : Bool) → r ≡ fitting m x (getD b i 0) → (good ≡ true → LabelsFit b m i x) → (good && r) ≡ true → LabelsFit b m (i + 1) x
 fits-more b m i x good r e F d j h =
     ⊎-elim (λ z. rw z (sym e ∙ and-right good r d)) (λ z. F (and-left good r d) j (omega arith)) (decide-eq j i)
 
--- .. and facts that are whole
+-- one fact more that is whole
 pub whole-more :
     (b : List ℕ) (gone : List Bool) (from i : ℕ) (good r : Bool) →
     r ≡ even (getD b (relations-at + i) 0) (getD gone (left-sides + 2 * i) false) (getD gone (right-sides + 2 * i) false) → (good ≡ true → Whole b gone from i) →
@@ -242,7 +242,7 @@ module _ (b : List ℕ) (x : ℕ) (w : Lone x) (s : length b ≡ bytes) where
       at i h e false d = rw d (L .low i h)
 
   -- all labels but x's stay
-  pub fits-kept : (m : ℕ) → left-sides ≤ m → m ≤ slots → Fits b m m x → Relabelled b m x (withLabel x x b)
+  pub fits-kept : (m : ℕ) → left-sides ≤ m → m ≤ slots → LabelsFit b m m x → Relabelled b m x (withLabel x x b)
   unfolding withLabel
   fits-kept m g u F =
       record {

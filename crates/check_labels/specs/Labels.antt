@@ -47,8 +47,8 @@ unfoldable pub fitting : ℕ → ℕ → ℕ → Bool
 fitting m x l = ltb l m && not (eqb l x)
 
 -- the labels of the first i slots are below m, and not x's
-abbrev pub Fits : List ℕ → ℕ → ℕ → ℕ → Type 0
-Fits b m i x = (j : ℕ) → j < i → fitting m x (getD b j 0) ≡ true
+abbrev pub LabelsFit : List ℕ → ℕ → ℕ → ℕ → Type 0
+LabelsFit b m i x = (j : ℕ) → j < i → fitting m x (getD b j 0) ≡ true
 
 unfoldable pub withLabel : ℕ → ℕ → List ℕ → List ℕ
 withLabel x l b = cond (ltb x null-slot) (set b x l) b
@@ -61,7 +61,7 @@ movedSides l n i = set (set l (left-sides + 2 * n) (getD l (left-sides + 2 * i) 
 abbrev pub movedBytes : List ℕ → ℕ → ℕ → List ℕ
 movedBytes b n i = set (movedSides b n i) (relations-at + n) (getD b (relations-at + i) 0)
 
--- .. unless it is out
+-- the fact i goes to place n, unless it is out
 pub record MovesFact (key b : List ℕ) (n : ℕ) (out : Bool) (i : ℕ) (key′ b′ : List ℕ) (n′ : ℕ) : Type 0 where
   pub gone : out ≡ true → (key′ ≡ key) × (b′ ≡ b) × (n′ ≡ n)
   pub moved : out ≡ false → (key′ ≡ movedSides key n i) × (b′ ≡ movedBytes b n i) × (n′ ≡ n + 1)
@@ -71,7 +71,7 @@ pub record MovesFact (key b : List ℕ) (n : ℕ) (out : Bool) (i : ℕ) (key′
 unfoldable pub even : ℕ → Bool → Bool → Bool
 even c g h = eqb c 1 || cond g h (not h)
 
--- .. from the fact `from` to n
+-- the facts from `from` to n are all so
 abbrev pub Whole : List ℕ → List Bool → ℕ → ℕ → Type 0
 Whole b gone from n =
     (i : ℕ) → from ≤ i → i < n →

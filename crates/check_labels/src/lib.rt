@@ -14,7 +14,7 @@ ghost use Rattle.check_equality.specs.Layout.{bytes, slots, left-sides};
 ghost use Rattle.check_state.specs.States.{facts};
 ghost use Rattle.check_scans.specs.Scans.{Untouched};
 ghost use Rattle.check_labels.specs.Facts.{Rebuilt};
-ghost use Rattle.check_labels.specs.Labels.{Lone, loneOf, LabelsBelow, Named, Relabelled, Fits, withLabel, fitting, MovesFact, even, Whole, Keeps};
+ghost use Rattle.check_labels.specs.Labels.{Lone, loneOf, LabelsBelow, Named, Relabelled, LabelsFit, withLabel, fitting, MovesFact, even, Whole, Keeps};
 
 // x, or NO_VARIABLE where it is no variable.
 fn lone(x: u8) -> u8
@@ -69,7 +69,7 @@ fn fit(l: u8, m: u8, x: u8) -> bool
 // Are all labels?
 fn fits(b: &[u8; State::BYTES], m: usize, x: u8) -> bool
     requires { ⌜ m ≤ slots ⌝ }
-    ensures { λ r. ⌜ (r ≡ true → Fits (now (b .entry)) m m x) ⌝ }
+    ensures { λ r. ⌜ (r ≡ true → LabelsFit (now (b .entry)) m m x) ⌝ }
 {
     let top = m as u8;
     let mut good = true;

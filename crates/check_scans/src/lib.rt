@@ -44,7 +44,7 @@ fn has_key(left: u64, right: u64, k: u64) -> bool
     left == right
 }
 
-// .. a side that names x?
+// Has a fact a side that names x, or one term on both sides?
 fn has_name(left: u64, right: u64, x: u8) -> bool
     ensures { λ r. ⌜ r ≡ touches (mentionsKey x) left right ⌝ }
 {
@@ -57,7 +57,7 @@ fn has_name(left: u64, right: u64, x: u8) -> bool
     left == right
 }
 
-// .. a side whose place is marked?
+// Has a fact a side whose place is marked, or one term on both sides?
 fn has_mark(left: u64, right: u64, marks: &[bool; State::MARKS]) -> bool
     ensures { λ r. ⌜ r ≡ touches (markedKey (now (marks .entry))) left right ⌝ }
 {
@@ -88,7 +88,7 @@ pub fn first_with<'a>(key: &'a [u64; State::SLOTS], b: &'a [u8; State::BYTES], k
     i
 }
 
-// .. x's being dropped or renamed.
+// The first fact that x's being dropped or renamed may change, or the count of facts.
 pub fn first_naming<'a>(key: &'a [u64; State::SLOTS], b: &'a [u8; State::BYTES], x: u8) -> usize
     requires { ⌜ facts (now b) ≤ most-facts ⌝ }
     ensures { λ r. ⌜ Scanned (mentionsKey x) (now (key .entry)) (now (b .entry)) r ⌝ }
@@ -104,7 +104,7 @@ pub fn first_naming<'a>(key: &'a [u64; State::SLOTS], b: &'a [u8; State::BYTES],
     i
 }
 
-// .. the dropping of keys whose places are marked.
+// The first fact that the dropping of keys whose places are marked may change, or the count of facts.
 pub fn first_marked<'a>(
     key: &'a [u64; State::SLOTS],
     b: &'a [u8; State::BYTES],

@@ -39,7 +39,7 @@ withSlot best k c t a = cond (numberLike k c t a) (lowerOf k best) best
 unfoldable pub numberWith : ℕ → ℕ → ℕ → Bool
 numberWith k c a = eqb c a && leb first-number k
 
--- .. of the side i
+-- the side i is a number whose label is a
 abbrev pub numberAtSide : List ℕ → List ℕ → ℕ → ℕ → Bool
 numberAtSide key b a i = numberWith (getD key (left-sides + i) 0) (getD b (left-sides + i) 0) a
 

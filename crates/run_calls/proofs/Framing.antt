@@ -11,7 +11,7 @@ use Rattle.tables.specs.Layout.{frame-variables}
 use Rattle.tables.specs.Decode.{byteAt, halfAt, wordAt}
 use Rattle.tables.specs.Stores.{putHalf, putWord}
 use Rattle.tables.proofs.Bytes.{word-put, half-put, word-kept, half-kept, put-word-length}
-use Rattle.run_heap.specs.Views.{variableAt, fill, framed, frame-holder, frame-row, frame-method}
+use Rattle.run_heap.specs.Views.{variableAt, fill, framePut, frame-holder, frame-row, frame-method}
 use Rattle.run_footprint.proofs.Regions.{Only, only-trans, only-wide, only-word, only-half, only-byte, only-fill, only-kept, fill-word, variable-kept}
 use Rattle.run_steps.proofs.Changes.{other-variable, this-variable}
 
@@ -34,8 +34,8 @@ module _ (w : List ℕ) (a b holder row method o p : ℕ) (next : b ≡ a + 72) 
   all : List ℕ
   all = set fourth (b + frame-method) method
 
-  is-framed : framed w a b holder row method o p ≡ all
-  unfolding framed all fourth third second first filled
+  is-framed : framePut w a b holder row method o p ≡ all
+  unfolding framePut all fourth third second first filled
   is-framed = refl
 
   to-second : Only b (b + frame-holder) w second
@@ -57,28 +57,28 @@ module _ (w : List ℕ) (a b holder row method o p : ℕ) (next : b ≡ a + 72) 
   unfolding all
   to-all = only-byte (b + frame-method) (b + 67) fourth (b + frame-method) method (omega arith) (omega arith)
 
-  pub framed-only : Only (a + frame-holder) (b + 67) w (framed w a b holder row method o p)
+  pub framed-only : Only (a + frame-holder) (b + 67) w (framePut w a b holder row method o p)
   framed-only =
       rw is-framed
       (only-trans (only-wide to-second (omega arith) (omega arith))
       (only-trans (only-wide to-third (omega arith) (omega arith))
       (only-trans (only-wide to-fourth (omega arith) (omega arith)) (only-wide to-all (omega arith) (omega arith)))))
 
-  pub framed-before : byteAt (framed w a b holder row method o p) (a + frame-method) ≡ byteAt w (a + frame-method)
+  pub framed-before : byteAt (framePut w a b holder row method o p) (a + frame-method) ≡ byteAt w (a + frame-method)
   framed-before =
       rw is-framed
       (to-all .bytes (a + frame-method) (inl (omega arith))
       ∙ (to-fourth .bytes (a + frame-method) (inr (omega arith))
       ∙ (to-third .bytes (a + frame-method) (inr (omega arith)) ∙ to-second .bytes (a + frame-method) (inl (omega arith)))))
 
-  pub framed-method : byteAt (framed w a b holder row method o p) (b + frame-method) ≡ method
+  pub framed-method : byteAt (framePut w a b holder row method o p) (b + frame-method) ≡ method
   unfolding all
   framed-method =
       rw is-framed
       (getD-set-same fourth (b + frame-method) method 0
       (omega (arith, to-fourth .size, to-third .size, to-second .size)))
 
-  pub framed-holder : holder < 4294967296 → wordAt (framed w a b holder row method o p) (a + frame-holder) ≡ holder
+  pub framed-holder : holder < 4294967296 → wordAt (framePut w a b holder row method o p) (a + frame-holder) ≡ holder
   unfolding third
   framed-holder l =
       rw is-framed
@@ -86,7 +86,7 @@ module _ (w : List ℕ) (a b holder row method o p : ℕ) (next : b ≡ a + 72) 
       ∙ (word-kept (a + frame-holder) (a + frame-row) third fourth (only-kept to-fourth (a + frame-holder) (a + frame-row) (inl (omega arith))) (a + frame-holder) (omega arith) (omega arith)
       ∙ word-put second (a + frame-holder) holder (omega (arith, to-second .size)) l))
 
-  pub framed-row : row < 65536 → halfAt (framed w a b holder row method o p) (a + frame-row) ≡ row
+  pub framed-row : row < 65536 → halfAt (framePut w a b holder row method o p) (a + frame-row) ≡ row
   unfolding fourth
   framed-row l =
       rw is-framed
@@ -124,5 +124,5 @@ module _ (w : List ℕ) (a b holder row method o p : ℕ) (next : b ≡ a + 72) 
         ∙ (ap (λ (u : List ℕ). variableAt u b (suc (suc x))) start
         ∙ (other-variable filled b 0 (suc (suc x)) o (λ e. omega arith) ∙ zeros (suc (suc x)) l)))
 
-    pub framed-values : (x : ℕ) → x < frame-variables → getD (entryValues o p) x 0 ≡ variableAt (framed w a b holder row method o p) b x
+    pub framed-values : (x : ℕ) → x < frame-variables → getD (entryValues o p) x 0 ≡ variableAt (framePut w a b holder row method o p) b x
     framed-values x l = rw is-framed (in-second x l ∙ sym (kept-variable x l))

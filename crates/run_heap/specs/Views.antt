@@ -138,15 +138,15 @@ fill w i zero v = w
 fill w i (suc n) v = fill (putWord w i v) (i + word-bytes) n v
 
 -- The frame at a calls: it keeps its number and row. The next, at b, has its values, `this`, w and zeros, and its method.
-unfoldable pub framed : List ℕ → ℕ → ℕ → ℕ → ℕ → ℕ → ℕ → ℕ → List ℕ
-framed w a b holder row method o p =
+unfoldable pub framePut : List ℕ → ℕ → ℕ → ℕ → ℕ → ℕ → ℕ → ℕ → List ℕ
+framePut w a b holder row method o p =
     set
     (putHalf (putWord (putWord (putWord (fill w b frame-variables 0) b o) (b + frame-parameter) p) (a + frame-holder) holder) (a + frame-row) row)
     (b + frame-method)
     method
 
 abbrev pub prepared : List ℕ → Machine → ℕ → ℕ → ℕ → List ℕ
-prepared w c method o p = framed w (frameAt (c .frames - 1)) (frameAt (c .frames)) (c .holder) (c .row) method o p
+prepared w c method o p = framePut w (frameAt (c .frames - 1)) (frameAt (c .frames)) (c .holder) (c .row) method o p
 
 -- object i + 1 of a class, its n fields from the cell k on, each 0 and held by a number
 unfoldable pub made : List ℕ → ℕ → ℕ → ℕ → ℕ → ℕ → List ℕ
@@ -163,7 +163,7 @@ nextView c = record { base = frameAt (c .frames); objects = c .objects; holder =
 
 -- ANSWERS
 
--- "permission missing; null followed; formula false", and the two limits
+-- "permission missing; null followed; formula false", the two limits, and "A result beyond 32 bits signed"
 unfoldable pub stopOf : Fault → Stop
 stopOf Fault.HeapFull = heapFull
 stopOf Fault.FramesFull = framesFull

@@ -1,4 +1,4 @@
-// The program of document 01: reads a script from standard input, checks it, runs it for at most 1,000 steps, and prints the answers.
+// The program of document 01: reads a script from standard input, checks it, tries it out for at most 1,000 steps, and prints the answers.
 use libc::STDIN_FILENO;
 use libc::STDOUT_FILENO;
 use rules::Machine;

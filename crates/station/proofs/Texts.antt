@@ -163,11 +163,11 @@ module _ {w w′ : List ℕ} {k : ℕ} {r : Ran} (x : RanAs wholeHeap w k w′ r
   ran-bytes = sym (ap (λ o. resultBytes (outcomeResult o)) (x .outcome))
 
 -- WHAT IS RETURNED FITS
-abbrev pub Fits : ℕ × ℕ → Type 0
-Fits v = (v .0 < 65536) × (v .1 < 65536)
+abbrev pub NumbersFit : ℕ × ℕ → Type 0
+NumbersFit v = (v .0 < 65536) × (v .1 < 65536)
 
-pub fits-as : {v w : ℕ × ℕ} → w ≡ v → Fits v → Fits w
-fits-as e x = subst Fits (sym e) x
+pub fits-as : {v w : ℕ × ℕ} → w ≡ v → NumbersFit v → NumbersFit w
+fits-as e x = subst NumbersFit (sym e) x
 
 pub refusal-small : (r : Answers.Refusal) → refusalNumber r < 65536
 refusal-small r = omega (arith, refusal-number r .1)
@@ -197,15 +197,15 @@ unfolding runItems outcomeResult refusedResult
 trial-small (accepted items) k = ending-small _
 trial-small (refused r l) k = refusal-small r
 
-pub check-fits : (t : List ℕ) → Fits (checkText t)
+pub check-fits : (t : List ℕ) → NumbersFit (checkText t)
 unfolding checkText
 check-fits t = (verdict-small _, fits t 0 (omega arith) .check-line)
 
-pub trial-fits : (t : List ℕ) (k : ℕ) → k < 4294967296 → Fits (runNumbers (trialText t k))
+pub trial-fits : (t : List ℕ) (k : ℕ) → k < 4294967296 → NumbersFit (runNumbers (trialText t k))
 unfolding trialText
 trial-fits t k h = (trial-small (readText t) k, fits t k h .trial-line)
 
-pub run-fits : (t : List ℕ) (k : ℕ) → k < 4294967296 → Fits (runNumbers (runText t k))
+pub run-fits : (t : List ℕ) (k : ℕ) → k < 4294967296 → NumbersFit (runNumbers (runText t k))
 unfolding refusedResult
 run-fits t k h =
     ⊎-elim (λ r. fits-as (ap runNumbers (r .answer)) (check-fits t))

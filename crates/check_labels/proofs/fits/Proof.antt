@@ -2,13 +2,13 @@ use Prim.Native.Nat.{_-_, _≤_}
 use native.Mathlib.Omega.{arith}
 use mathlib.Core.Bool.{true}
 use mathlib.Core.Path.{_≡_}
-use Rattle.check_labels.specs.Labels.{Fits}
+use Rattle.check_labels.specs.Labels.{LabelsFit}
 use Rattle.check_labels.proofs.Relabelling.{fits-more}
 use Rattle.check_labels.proofs.fits.Statement.{statement}
 use Rattle.check_labels.proofs.fits.Tie as tie
 
 abbrev Inv-loop : tie.InvT-loop
-Inv-loop b m x top good₀ i₀ good i = (i ≤ m) × (good ≡ true → Fits b m i x)
+Inv-loop b m x top good₀ i₀ good i = (i ≤ m) × (good ≡ true → LabelsFit b m i x)
 
 abbrev μ-loop : tie.MeasureT-loop
 μ-loop b m x top good₀ i₀ good i = m - i

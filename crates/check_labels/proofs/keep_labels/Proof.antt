@@ -2,7 +2,7 @@ use Prim.Native.Nat.{ℕ}
 use native.Mathlib.Omega.{arith}
 use mathlib.Core.List.{List}
 use mathlib.Core.Path.{sym, ap, _∙_, subst}
-use Rattle.check_labels.specs.Labels.{LabelsBelow, Relabelled, Fits, withLabel}
+use Rattle.check_labels.specs.Labels.{LabelsBelow, Relabelled, LabelsFit, withLabel}
 use Rattle.check_labels.proofs.Relabelling.{label-size, relabelled-first, labels-first, fits-kept}
 use borrow.Author.Needs.{needs}
 use Rattle.check_labels.proofs.keep_labels.Statement.{statement}
@@ -26,7 +26,7 @@ returns c =
     subst (λ (l : List ℕ). Relabelled b (s .args .m) x l) (sym (c .set-label2 .ensures ∙ ap (withLabel x x) e))
     (relabelled-first b x (s .pre .0) (s .pre .3 .size) (s .args .m) 0 _ (s .pre .1)
     (fits-kept (withLabel x 0 b) x (s .pre .0) (label-size b x (s .pre .0) (s .pre .3 .size) 0) (s .args .m) (s .pre .1) (s .pre .2)
-    (subst (λ (l : List ℕ). Fits l (s .args .m) (s .args .m) x) e (c .before .before .before .fits2 .ensures (c .before .before .if1 .taken)))))
+    (subst (λ (l : List ℕ). LabelsFit l (s .args .m) (s .args .m) x) e (c .before .before .before .fits2 .ensures (c .before .before .if1 .taken)))))
 
 relabel-requires : tie.Need-relabel-requires
 relabel-requires c κs =

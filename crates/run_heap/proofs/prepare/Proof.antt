@@ -1,6 +1,6 @@
 use native.Mathlib.Omega.{arith}
 use mathlib.Core.Path.{_∙_}
-use Rattle.run_heap.specs.Views.{framed}
+use Rattle.run_heap.specs.Views.{framePut}
 use borrow.Author.Needs.{needs}
 use Rattle.run_heap.proofs.prepare.Statement.{statement}
 use Rattle.run_heap.proofs.prepare.Tie as tie
@@ -70,7 +70,7 @@ same-length : tie.Need-same-length
 same-length c = search needs
 
 returns : tie.Need-returns
-unfolding framed
+unfolding framePut
 returns c =
     let at-fill-words = c .before .before .before .before .before .before .before .before .before .before .before .before .before .before .before .before .before .before .before .before .before .before .before .fill-words in
     let at-put-word = c .before .before .before .before .before .before .before .before .before .before .before .before .before .before .before .before .before .before .before .put-word in
