@@ -27,7 +27,7 @@ use Rattle.bound_walk.specs.declared.Halt.the-variants as Halts
 use Rattle.bound_walk.specs.declared.Scanned.{Scanned}
 use Rattle.bound_walk.specs.declared.Route.{Route}
 use Rattle.bound_walk.specs.Counting.{cap, fresh}
-use Rattle.bound_walk.specs.Walk.{Settled, settled, Right, SoundIn, Part, PartAt, Ended, Waits, NotDone, HasLoop, Stops, Scans, Keeps, noOpen, isNew, newOnes, Walking, toDo, NoBound, Turned, left, into, stopped, waiting, begun, FreshAt, Rested, Settles, Reckons}
+use Rattle.bound_walk.specs.Walk.{Settled, settled, Right, SoundIn, Part, PartAt, Ended, Waits, NotDone, HasLoop, Stops, Scans, Keeps, noOpen, isNew, newOnes, Walking, turnsLeft, NoBound, Turned, left, into, stopped, waiting, begun, FreshAt, Rested, Settles, Reckons}
 use Rattle.bound_walk.proofs.Counted.{settled-clear, whole-part}
 
 -- COUNTING THE METHODS THAT ARE NOT VISITED
@@ -439,7 +439,7 @@ module _ (w : List ℕ) (r r′ : Route) (b : Bool) where
       (marks : List Reckoned) (start : ℕ) (marks′ : List Reckoned) → b ≡ true → Turned w r b r′ → Settles w marks start b marks′
   turned-stop marks start marks′ e t = rw e (subst (λ b. Turned w r b r′) e t)
 
-  pub turned-on : b ≡ false → Turned w r b r′ → Walking w r′ × (toDo r′ < toDo r) × Keeps (r .marks) (r′ .marks)
+  pub turned-on : b ≡ false → Turned w r b r′ → Walking w r′ × (turnsLeft r′ < turnsLeft r) × Keeps (r .marks) (r′ .marks)
   turned-on e t = subst (λ b. Turned w r b r′) e t
 
 pub settles-at :

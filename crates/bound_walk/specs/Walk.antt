@@ -119,8 +119,8 @@ pub record Walking (w : List ℕ) (r : Route) : Type 0 where
   pub blocks-length : length (r .blocks) ≡ suc most-methods
 
 -- what is left to do
-abbrev pub toDo : Route → ℕ
-toDo r = 2 * newOnes (r .marks) + r .depth
+abbrev pub turnsLeft : Route → ℕ
+turnsLeft r = 2 * newOnes (r .marks) + r .depth
 
 -- a line is refused
 abbrev pub NoBound : List ℕ → Type 0
@@ -159,7 +159,7 @@ Keeps marks marks′ = (n : ℕ) → isNew (getD marks n fresh .visit) ≡ 0 →
 -- one turn: there is no bound, or the route goes on with less to do
 abbrev pub Turned : List ℕ → Route → Bool → Route → Type 0
 Turned w r true r′ = NoBound w
-Turned w r false r′ = Walking w r′ × (toDo r′ < toDo r) × Keeps (r .marks) (r′ .marks)
+Turned w r false r′ = Walking w r′ × (turnsLeft r′ < turnsLeft r) × Keeps (r .marks) (r′ .marks)
 
 -- A WALK FROM ONE METHOD
 

@@ -4,7 +4,7 @@ use native.Mathlib.Omega.{arith}
 use lib.ListN.{getD}
 use Rattle.bound_walk.specs.Counting.{fresh}
 use Rattle.bound_walk.specs.declared.Route.{Route}
-use Rattle.bound_walk.specs.Walk.{Walking, Keeps, isNew, toDo}
+use Rattle.bound_walk.specs.Walk.{Walking, Keeps, isNew, turnsLeft}
 use Rattle.bound_walk.proofs.Walks.{begun-walking, begun-on, begun-keeps, begun-start, walk-ends, turned-stop, turned-on, settles-at}
 use Rattle.bound_walk.proofs.settle.Statement.{statement}
 use Rattle.bound_walk.proofs.settle.Tie as tie
@@ -13,7 +13,7 @@ abbrev Inv-loop : tie.InvT-loop
 Inv-loop work start r₀ r = Walking work r × (Keeps (r₀ .marks) (r .marks) × (r .unbounded ≡ false))
 
 abbrev μ-loop : tie.MeasureT-loop
-μ-loop work start r₀ r = toDo r
+μ-loop work start r₀ r = turnsLeft r
 
 begin-requires : tie.Need-begin-requires Inv-loop μ-loop
 begin-requires c κs = (c .before .pre .0 .size, omega (arith, c .before .pre .0 .methods, c .before .pre .1 .1 .1))
