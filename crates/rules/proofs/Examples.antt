@@ -330,6 +330,27 @@ tens ls =
     ++ ("main" ∷ "var S s" ∷ "var int b" ∷ "var int c" ∷ "new s S" ∷ []
     ++ (times 4 "call b s m5 c" ++ (times 5 "call b s m4 c" ++ (ls ++ ("end" ∷ []))))))))))
 
+-- W8: half goes with the call and comes back; what is known of the path stays
+abbrev pub shared : List String
+shared =
+    "class S" ∷
+    "field int n" ∷
+    "method int look int k" ∷
+    "requires read this n" ∷
+    "ensures read this n" ∷
+    "assert eq this.n this.n" ∷
+    "end" ∷
+    "main" ∷
+    "var S s" ∷
+    "var int a" ∷
+    "var int b" ∷
+    "new s S" ∷
+    "call b s look a" ∷
+    "assert eq s.n 0 acc s n" ∷
+    "set s n a" ∷
+    "end" ∷
+    []
+
 -- ROWS
 
 pub data Call : Type 0 where
