@@ -11,7 +11,8 @@ use Rattle.rules.specs.State.{Permission, State, empty, show, add, remove}
 use Rattle.rules.specs.Rules.{Open, actual, substAtom}
 use Rattle.rules.specs.Machine.{Config, Frame, Heap, Location, Room, Step, on, stop, done, step, took, valueOf, openAt}
 use Rattle.rules.proofs.Changes.{holds, Within, change-within, step-changes}
-use Rattle.rules.proofs.Disjoint.{shares, TwoHalves, HeldExists, shares-cons, change-keeps}
+use Rattle.rules.specs.Runs.{shares, TwoHalves}
+use Rattle.rules.proofs.Disjoint.{HeldExists, shares-cons, change-keeps}
 use Rattle.soundness.specs.WellFormed.{SimpleFormed, AtEnd, Over}
 use Rattle.soundness.specs.Endings.{MayStop}
 use Rattle.soundness.proofs.Satisfied.{Satisfied, AgreeAt, satisfied-heap}
