@@ -6,13 +6,13 @@ use mathlib.Core.Logic.{⊎-elim}
 use mathlib.Core.Option.{Option, some}
 use Prim.Native.Nat.{ℕ, _+_, _≤_}
 use native.Mathlib.Omega.{arith}
-use lib.Dec.{T, eqb, eqb→eq, eqb-refl, T-not}
+use lib.Dec.{T, eqb, eqb→eq, eqb-refl}
 use lib.ListN.{replicate}
 use Rattle.rules.specs.Base.{mapOption, bindOption}
 use Rattle.rules.specs.Syntax.{Permit, acc, read, num, null, var, path}
-use Rattle.rules.specs.State.{Term, Permission, State, entry, equalIn, renameVariable, renameTerm, renamePermission, renamePermissions, standIn, removedTerm, removeTo, remove, variables}
+use Rattle.rules.specs.State.{Term, Permission, State, entry, renameVariable, renameTerm, renamePermission, renamePermissions, standIn, removedTerm, removeTo, remove}
 use Rattle.rules.specs.Machine.{Frame, Heap, Location, halves, valueAt, valueOf, bind}
-use Rattle.rules.proofs.Lists.{and-both, first-in, some-inj, bind-some, option-cases, mapOption-none, mapOption-some, went-to, update-same, update-other}
+use Rattle.rules.proofs.Lists.{some-inj, bind-some, option-cases, mapOption-none, mapOption-some, went-to, update-same, update-other}
 use Rattle.rules.proofs.Sets.{location-eq}
 use Rattle.rules.proofs.Dropping.{standIn-is}
 use Rattle.soundness.proofs.Satisfied.{termValue, locationOf, Stock, OwnsPath, OwnsAs, Stocked, Reads, Knows, Satisfied}
