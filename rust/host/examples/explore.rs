@@ -10,7 +10,7 @@
 mod compare;
 
 use compare::{gently_mutated, Answers, Comparer};
-use model::gen::{self, mutate, rng::Rng};
+use generator::{self as gen, mutate, rng::Rng};
 use std::collections::HashSet;
 use std::path::Path;
 

@@ -1,8 +1,7 @@
 //! How a run ended, and what main's variables hold.
 
 use crate::limits::{RESULTS_BYTES, VALUES};
-use crate::numbers::known;
-use crate::{explain, AcceptedStop, Kind, Stop};
+use crate::{explain, AcceptedStop, Kind, Returned, Stop};
 use core::fmt;
 
 /// How a trial of any text ended.
@@ -40,6 +39,7 @@ pub enum AcceptedEnding {
 }
 
 impl AcceptedEnding {
+    #[cfg(feature = "library")]
     pub(crate) fn of(number: u32) -> Option<AcceptedEnding> {
         match number {
             0 => Some(AcceptedEnding::Finished),
@@ -108,12 +108,11 @@ pub struct Outcome<'t, E = Ending> {
 impl<'t, E: Copy> Outcome<'t, E> {
     /// What a call returned, the text, and what it left in the results area.
     pub(crate) fn of(
-        returned: u32,
-        ending: fn(u32) -> Option<E>,
+        returned: Returned,
+        ending: E,
         text: &'t [u8],
         results: &[u8; RESULTS_BYTES],
     ) -> Outcome<'t, E> {
-        let number = returned / 65_536;
         let mut words = results.chunks_exact(4).map(|four| {
             four.iter()
                 .rev()
@@ -124,11 +123,11 @@ impl<'t, E: Copy> Outcome<'t, E> {
         for (value, word) in values.iter_mut().zip(words) {
             *value = word as i32;
         }
-        let ran = Kind::of(number).is_none();
+        let ran = returned.refusal().is_none();
         Outcome {
-            ending: known(ending(number), number),
-            number,
-            line: returned % 65_536,
+            ending,
+            number: returned.number(),
+            line: returned.line(),
             steps,
             values,
             text: if ran { text } else { b"" },

@@ -213,7 +213,7 @@ fn a_null_text() {
 /// Two threads with areas of their own get the answers that one gets.
 #[test]
 fn two_threads_at_once() {
-    let texts: Vec<Vec<u8>> = (0..200).map(model::gen::text).collect();
+    let texts: Vec<Vec<u8>> = (0..200).map(generator::text).collect();
     let answers = || -> Vec<_> {
         let mut station = nuyardi::Station::new();
         let answer = |text| {

@@ -2,7 +2,7 @@
 //! the lent areas, with canaries around them and garbage in them before.
 #![allow(dead_code)]
 
-use model::gen::{self, mutate, rng::Rng};
+use generator::{self as gen, mutate, rng::Rng};
 use model::Judged;
 use nuyardi::calls;
 use nuyardi::limits::{BOUNDS_BYTES, RESULTS_BYTES, WORK_BYTES};
