@@ -176,19 +176,27 @@ pub fn each(script: &Script, steps: u32, mut wanted: impl FnMut(&Row) -> bool) {
     }
 }
 
-/// The steps of a run as JSON, at most [`JSON_ROWS`].
-fn json_rows(script: &Script, steps: u32) -> Vec<Json> {
+/// The steps of a run as JSON, at most [`JSON_ROWS`]; none if there was no run.
+fn rows(report: &Report) -> Vec<Json> {
     let mut rows = Vec::new();
-    each(script, steps, |row| {
-        rows.push(json_row(row));
-        rows.len() < JSON_ROWS
-    });
+    if let (Some(script), Some(ran)) = (Script::of(report.text), &report.ran) {
+        each(&script, ran.outcome.steps(), |row| {
+            rows.push(json_row(row));
+            rows.len() < JSON_ROWS
+        });
+    }
     rows
 }
 
 /// What a run gives, with its steps, as JSON.
 pub fn json(report: &Report) -> Json {
-    let ran = report.ran.as_ref().zip(Script::of(report.text));
-    let rows = ran.map(|(ran, script)| json_rows(&script, ran.outcome.steps()));
-    objects::report(report).with("trace", Json::List(rows.unwrap_or_default()))
+    objects::report(report).with("trace", Json::List(rows(report)))
+}
+
+/// Each step of a run as a line of JSON, at most [`JSON_ROWS`]; what the run gives
+/// is the last line.
+pub fn json_lines(report: &Report) -> String {
+    let last = objects::report(report);
+    let lines = rows(report).into_iter().chain([last]);
+    lines.map(|line| format!("{line}\n")).collect()
 }
