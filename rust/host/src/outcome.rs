@@ -94,7 +94,17 @@ pub struct Variable<'t> {
 /// How a run ended: number and line, the steps taken, main's variables. The
 /// ending of a trial of any text is an [`Ending`], that of a run an
 /// [`AcceptedEnding`].
-#[derive(Clone, Copy, Debug, PartialEq, Eq, Hash)]
+///
+/// ```
+/// # #[cfg(feature = "library")] {
+/// let outcome = nuyardi::trial(b"main\nvar\tint\ta\nlet\ta\t7\nend\n", 10);
+/// assert_eq!(
+///     format!("{outcome:?}"),
+///     "Outcome { ending: Finished, line: 4, steps: 2, variables: {a: 7} }"
+/// );
+/// # }
+/// ```
+#[derive(Clone, Copy, PartialEq, Eq, Hash)]
 pub struct Outcome<'t, E = Ending> {
     ending: E,
     number: u32,
@@ -202,6 +212,30 @@ impl<'t> From<Outcome<'t, AcceptedEnding>> for Outcome<'t> {
             values: outcome.values,
             text: outcome.text,
         }
+    }
+}
+
+/// Main's variables as `{a: 7, s: object 1}`.
+struct Shown<'o, 't, E>(&'o Outcome<'t, E>);
+
+impl<E: Copy> fmt::Debug for Shown<'_, '_, E> {
+    fn fmt(&self, f: &mut fmt::Formatter<'_>) -> fmt::Result {
+        let mut map = f.debug_map();
+        for Variable { name, value, .. } in self.0.variables() {
+            map.entry(&format_args!("{name}"), &format_args!("{value}"));
+        }
+        map.finish()
+    }
+}
+
+impl<E: Copy + fmt::Debug> fmt::Debug for Outcome<'_, E> {
+    fn fmt(&self, f: &mut fmt::Formatter<'_>) -> fmt::Result {
+        f.debug_struct("Outcome")
+            .field("ending", &self.ending)
+            .field("line", &self.line)
+            .field("steps", &self.steps)
+            .field("variables", &Shown(self))
+            .finish()
     }
 }
 

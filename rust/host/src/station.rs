@@ -77,7 +77,7 @@ impl<W> Station<W> {
 impl<W: BorrowMut<[u8; WORK_BYTES]>> Station<W> {
     /// Checks a text: accepted, or refused with a number and a line.
     pub fn check<'t>(&mut self, text: &'t [u8]) -> Result<Accepted<'t>, Refusal> {
-        let returned = Returned::of(calls::check(text, self.work.borrow_mut()));
+        let returned = calls::check(text, self.work.borrow_mut());
         let accepted = (returned.word() == 0).then_some(Accepted { text });
         match returned.refusal() {
             None => Ok(known(accepted, returned.number())),
@@ -103,7 +103,6 @@ impl<W: BorrowMut<[u8; WORK_BYTES]>> Station<W> {
         steps: u32,
     ) -> Result<Outcome<'t, AcceptedEnding>, Refusal> {
         let returned = calls::run(text, self.work.borrow_mut(), steps, &mut self.results);
-        let returned = Returned::of(returned);
         match returned.refusal() {
             None => Ok(self.ended(AcceptedEnding::of, returned, text)),
             Some(refusal) => Err(refusal),
@@ -124,7 +123,7 @@ impl<W: BorrowMut<[u8; WORK_BYTES]>> Station<W> {
         steps: u32,
     ) -> Outcome<'t, E> {
         let returned = calls::trial(text, self.work.borrow_mut(), steps, &mut self.results);
-        self.ended(ending, Returned::of(returned), text)
+        self.ended(ending, returned, text)
     }
 
     /// What a run or a trial of the text returned, as its ending.
@@ -166,15 +165,42 @@ impl<W: BorrowMut<[u8; WORK_BYTES]>> Station<W> {
     pub fn bound(&mut self, text: &[u8]) -> Result<Bound, NoBound> {
         let mut bounds = [0; BOUNDS_BYTES];
         let returned = calls::bound(text, self.work.borrow_mut(), &mut bounds);
-        let returned = Returned::of(returned);
         known(returned.bound(&bounds), returned.number())
     }
 }
 
 /// A text that check accepts.
-#[derive(Clone, Copy, Debug, PartialEq, Eq)]
+///
+/// ```
+/// let accepted = nuyardi::check(b"main\nend\n")?;
+/// assert_eq!(format!("{accepted:?}"), r#"Accepted { text: "main\nend\n" }"#);
+/// # Ok::<(), nuyardi::Refusal>(())
+/// ```
+#[derive(Clone, Copy, PartialEq, Eq)]
 pub struct Accepted<'t> {
     text: &'t [u8],
+}
+
+/// A text in messages to those who debug: its first bytes.
+struct Shown<'t>(&'t [u8]);
+
+impl fmt::Debug for Shown<'_> {
+    fn fmt(&self, f: &mut fmt::Formatter<'_>) -> fmt::Result {
+        const BYTES: usize = 60;
+        let (first, rest) = self.0.split_at(self.0.len().min(BYTES));
+        write!(f, "\"{}\"", first.escape_ascii())?;
+        match rest.len() {
+            0 => Ok(()),
+            more => write!(f, " and {more} bytes more"),
+        }
+    }
+}
+
+impl fmt::Debug for Accepted<'_> {
+    fn fmt(&self, f: &mut fmt::Formatter<'_>) -> fmt::Result {
+        let mut shown = f.debug_struct("Accepted");
+        shown.field("text", &Shown(self.text)).finish()
+    }
 }
 
 impl<'t> Accepted<'t> {
