@@ -1,8 +1,8 @@
 //! The words of the command line, by the table of commands and options.
 
-use crate::nearest::did_you_mean;
-use crate::show::file_name;
 use crate::table::{CommandSpec, OptionSpec, COMMANDS, OPTIONS};
+use explain::nearest::did_you_mean;
+use explain::show::file_name;
 use std::ffi::OsString;
 
 /// When to use colour.

@@ -2,12 +2,9 @@
 //! that have none.
 
 mod common;
-#[allow(dead_code)]
-#[path = "../src/json.rs"]
-mod json;
 
 use common::{folder, said};
-use json::{parse, Json};
+use explain::json::{parse, Json};
 
 /// A script whose methods are of a class S, each with a variable r and these lines;
 /// main makes an s and does its own lines.
@@ -163,7 +160,7 @@ fn list<'j>(object: &'j Json, name: &str) -> &'j [Json] {
 #[test]
 fn random_texts() {
     let folder = folder("bounds");
-    let texts = (0..600).map(|seed| model::gen::text(0x7000_0000 + seed));
+    let texts = (0..600).map(|seed| generator::text(0x7000_0000 + seed));
     let texts: Vec<Vec<u8>> = texts.collect();
     for (at, text) in texts.iter().enumerate() {
         std::fs::write(folder.join(format!("{at:04}.script")), text).expect("written");

@@ -1,12 +1,9 @@
 //! A client that speaks the language server protocol with `station lsp`.
 
 mod common;
-#[allow(dead_code)]
-#[path = "../src/json.rs"]
-mod json;
 
 use common::command;
-use json::{parse, Json};
+use explain::json::{parse, Json};
 use std::io::{BufRead, BufReader, Read, Write};
 use std::process::{Child, ChildStdin, ChildStdout};
 
@@ -288,7 +285,7 @@ fn hostile_texts() {
     let mut texts: Vec<String> = ["", "\n\n", "main", "\t\t.\t\n"]
         .map(str::to_string)
         .to_vec();
-    texts.extend((0..40).map(|seed| String::from_utf8_lossy(&model::gen::text(seed)).into_owned()));
+    texts.extend((0..40).map(|seed| String::from_utf8_lossy(&generator::text(seed)).into_owned()));
     for text in texts {
         client.open(&text);
         for line in [0, 1, 7, u32::MAX] {

@@ -11,7 +11,6 @@ pub mod checker;
 pub mod faults;
 pub mod form;
 pub mod framing;
-pub mod gen;
 pub mod limits;
 pub mod locations;
 pub mod machine;

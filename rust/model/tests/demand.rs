@@ -5,7 +5,7 @@
 mod common;
 
 use common::{example, script, text};
-use model::gen::{self, rng::Rng};
+use generator::{self as gen, rng::Rng};
 use model::machine::{callee_values, location, run, Location, Machine, Step};
 use model::names::{Action, Atom, Call, Program};
 use model::{check, read, Judged};

@@ -3,7 +3,7 @@
 use model::names::{Action, Expr, Path, Program, Type, Var, FIRST_LOCAL, PARAM, RESULT, THIS};
 use model::state::{Fact, Permission, State, Term};
 use model::watch::Record;
-use model::{gen, read, text};
+use model::{read, text};
 
 const A: Term = Term::Var(FIRST_LOCAL);
 const B: Term = Term::Var(FIRST_LOCAL + 1);
@@ -176,7 +176,7 @@ fn drops<'a>(program: &Program<'a>, record: &Record<'a>, place: usize) -> Option
 fn terms_that_are_left_stay_equal() {
     let (mut statements, mut pairs, mut given_way) = (0, 0, 0);
     for seed in 0..1_500 {
-        let text = gen::text(0x3000_0000 + seed);
+        let text = generator::text(0x3000_0000 + seed);
         let Ok(lines) = text::lines(&text) else {
             continue;
         };

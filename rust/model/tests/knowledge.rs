@@ -6,7 +6,6 @@ mod common;
 
 use common::{example, text};
 use model::checker::{check_observed, State, Term};
-use model::gen;
 use model::machine::{location, Frame, Location, Machine, Step};
 use model::names::{Action, Block, Path, Program, Type, Var, FIRST_LOCAL, PARAM, RESULT, THIS};
 use model::{check, read};
@@ -129,7 +128,7 @@ fn a_false_state_is_seen() {
 fn what_the_checker_knows_is_so() {
     let mut counts = Counts::default();
     for seed in 0..5_000 {
-        let text = gen::text(0x4000_0000 + seed);
+        let text = generator::text(0x4000_0000 + seed);
         if check(&text).0 == 0 {
             let wrong = first_wrong(&text, &mut counts);
             assert_eq!(wrong, None, "{}", String::from_utf8_lossy(&text));

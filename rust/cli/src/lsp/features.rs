@@ -3,15 +3,14 @@
 //! the protocol has them, columns are units of UTF-16.
 
 use super::outline::{Name, Outline};
-use crate::cause::{cause, form_of};
-use crate::json::Json;
-use crate::known;
-use crate::script::Script;
+use explain::cause::{cause, form_of};
+use explain::script::Script;
+use explain::{fmt, known, script, Json};
 use model::form::{line_or_kind, next_words, shape_of, AtomShape, Operand, Tail, ATOM_SHAPES};
 use model::text::Reader;
 
 fn line_of(text: &str, line: u32) -> &str {
-    let bytes = crate::script::line(text.as_bytes(), line + 1).unwrap_or_default();
+    let bytes = script::line(text.as_bytes(), line + 1).unwrap_or_default();
     std::str::from_utf8(bytes).unwrap_or("")
 }
 
@@ -96,7 +95,7 @@ pub fn hover(text: &str, line: u32) -> Option<Json> {
 
 /// The whole text in its form, as one edit; none if it has it.
 pub fn formatting(text: &str) -> Json {
-    let better = crate::fmt::formatted(text.as_bytes());
+    let better = fmt::formatted(text.as_bytes());
     if better == text.as_bytes() {
         return Json::List(Vec::new());
     }

@@ -5,7 +5,8 @@ mod features;
 mod framing;
 mod outline;
 
-use crate::json::{parse, Json};
+use crate::session::{DONE, REFUSED};
+use explain::json::{parse, Json};
 use std::collections::HashMap;
 use std::io::{BufRead, Write};
 
@@ -169,9 +170,9 @@ fn served(input: &mut impl BufRead, output: &mut impl Write) -> u8 {
         }
     }
     if server.shut {
-        crate::DONE
+        DONE
     } else {
-        crate::REFUSED
+        REFUSED
     }
 }
 

@@ -22,10 +22,13 @@ use std::ops::Range;
 /// The one reason, where in the line, what else is known, and a mend that fits.
 #[derive(Clone, Debug, Default, PartialEq, Eq)]
 pub struct Cause {
+    /// The reason.
     pub text: String,
     /// Bytes of the line.
     pub mark: Option<Range<usize>>,
+    /// What else is known.
     pub notes: Vec<String>,
+    /// What mends it.
     pub mend: Option<String>,
 }
 

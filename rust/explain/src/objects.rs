@@ -99,6 +99,7 @@ fn answer(report: &Report) -> (u32, u32) {
     ran.map_or(checked(report), |ran| (ran.number(), ran.line()))
 }
 
+/// Check's answer, or that of check and run.
 pub fn report(report: &Report) -> Json {
     let object = Json::object().with("file", report.file);
     let object = match report.asked {
@@ -115,6 +116,7 @@ pub fn unread(file: &str, error: &str) -> Json {
     Json::object().with("file", file).with("error", error)
 }
 
+/// A number in words.
 pub fn explanation(known: &Explanation) -> Json {
     Json::object()
         .with("number", known.number)

@@ -1,14 +1,11 @@
-//! `station draw`: the cards and their links after a run, as an SVG picture.
+//! A drawing: the cards and their links after a run, as an SVG picture.
 //! Cards stand in columns by how far they are from main's variables; links are
 //! arrows; a field's colour says which open block holds it.
 
 use crate::cards::{self, Card, Cards, Field};
 use crate::report::Report;
-use crate::show::file_name;
-use crate::{Session, DONE, REFUSED};
 use std::cmp::Ordering;
 use std::collections::HashMap;
-use std::ffi::OsStr;
 use std::fmt::Write;
 
 const CARD_WIDTH: i32 = 150;
@@ -233,7 +230,7 @@ fn legend(out: &mut String, cards: &Cards, top: i32) -> i32 {
     y + 16
 }
 
-/// The picture.
+/// The picture of some cards, as SVG.
 pub fn svg(cards: &Cards, title: &str) -> String {
     let labels = labels(cards);
     let places = places(cards, &labels);
@@ -270,28 +267,9 @@ pub fn svg(cards: &Cards, title: &str) -> String {
     )
 }
 
-/// The command, for one file.
-pub fn draw(session: &mut Session, name: &OsStr, text: &[u8]) -> u8 {
-    let shown = file_name(name);
-    let report = Report::of(&shown, text, session.shown_run());
-    let ran = report.ran.as_ref();
-    let cards = ran.and_then(|ran| cards::after(text, ran.outcome.steps()));
-    let picture = cards.map(|cards| svg(&cards, &shown));
-    if session.json() {
-        let object = crate::objects::report(&report).with_some("picture", picture.clone());
-        session.print_json(&object);
-    } else {
-        match &picture {
-            Some(picture) => {
-                eprint!("{}", crate::show::head(&report, session.paint));
-                session.print(picture);
-            }
-            None => session.print(&crate::show::report(&report, session.paint)),
-        }
-    }
-    // A stopped run has its picture too; a text that is not run has none.
-    match picture {
-        Some(_) => DONE,
-        None => REFUSED,
-    }
+/// The picture of the cards after a run; none if there was none.
+pub fn picture(report: &Report) -> Option<String> {
+    let ran = report.ran.as_ref()?;
+    let cards = cards::after(report.text, ran.outcome.steps())?;
+    Some(svg(&cards, report.file))
 }

@@ -69,14 +69,17 @@ impl Paint {
         }
     }
 
+    /// What is wrong.
     pub fn bad(self, text: &str) -> String {
         self.with("1;31", text)
     }
 
+    /// What is right.
     pub fn good(self, text: &str) -> String {
         self.with("1;32", text)
     }
 
+    /// What stands in the margin.
     pub fn side(self, text: &str) -> String {
         self.with("1;34", text)
     }
@@ -213,6 +216,7 @@ pub fn reasons(out: &mut String, number: u32, cause: Option<&Cause>) {
     }
 }
 
+/// `FILE:LINE`, or the file where no line is meant.
 pub fn place(file: &str, line: u32) -> String {
     match line {
         0 => file.to_string(),
@@ -220,6 +224,7 @@ pub fn place(file: &str, line: u32) -> String {
     }
 }
 
+/// A number in a few words.
 pub fn title(number: u32) -> &'static str {
     explain(number).map_or("", |known| known.title)
 }

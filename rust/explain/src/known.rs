@@ -1,10 +1,10 @@
-//! `station known`: what the checker knows before and after a line.
+//! What the checker knows before and after a line.
 
 use crate::json::Json;
-use crate::report::{Asked, Report};
+use crate::objects;
+use crate::report::Report;
 use crate::script::{quoted, Script};
-use crate::show::{file_name, rows, wrapped, Paint};
-use crate::{file_and_line, Session, DONE, FAILED, REFUSED};
+use crate::show::{rows, wrapped, Paint};
 use model::checker::{simple, Fact, Permission, State, Term};
 use model::limits;
 use model::names::{Action, Statement};
@@ -14,11 +14,15 @@ use std::fmt::Write;
 /// What is known around one statement line.
 #[derive(Clone, Debug, Default, PartialEq, Eq)]
 pub struct Known {
+    /// The line.
     pub line: u32,
+    /// The atoms before it; none if the check did not come there.
     pub before: Option<Vec<String>>,
+    /// The atoms after it.
     pub after: Option<Vec<String>>,
     /// Since before the line; of `else` since before its `if`.
     pub added: Vec<String>,
+    /// As for `added`.
     pub dropped: Vec<String>,
     /// Atoms that gave way to others: each with the one that took its place.
     pub turned: Vec<(String, String)>,
@@ -247,7 +251,7 @@ fn signed(out: &mut String, sign: &str, atoms: &[String]) {
 
 /// Every block with what it starts from, and every line with what it drops, what
 /// gives way there and what it adds, or why it is refused.
-fn changes(script: &Script, all: &[Known], report: &Report, paint: Paint) -> String {
+pub fn changes(script: &Script, all: &[Known], report: &Report, paint: Paint) -> String {
     let mut out = String::new();
     let row = |out: &mut String, line: u32| {
         let number = paint.side(&format!("{line:>4}"));
@@ -292,55 +296,11 @@ fn json_of(script: &Script, known: &Known) -> Json {
         .with("turned", Json::List(turned.collect()))
 }
 
-/// What is found, printed.
-fn print(session: &mut Session, script: &Script, report: &Report, found: &[Known], one: bool) {
-    let shown = report.file;
-    if session.json() {
-        let lines: Vec<Json> = found.iter().map(|known| json_of(script, known)).collect();
-        let object = Json::object().with("file", shown).with("call", "known");
-        let object = crate::objects::check(object, report);
-        session.print_json(&object.with("lines", lines));
-    } else if let (true, [known]) = (one, found) {
-        let line = quoted(script.text, known.line);
-        let head = format!("{shown}:{}: {line}\n", known.line);
-        session.print(&(head + &full(script, known)));
-    } else {
-        session.print(&changes(script, found, report, session.paint));
-    }
-}
-
-/// The command.
-pub fn known(session: &mut Session) -> u8 {
-    let word = session.words.operands.first().cloned().unwrap_or_default();
-    let (name, line) = file_and_line(&word);
-    let Some(text) = session.text(&name) else {
-        return FAILED;
-    };
-    let shown = file_name(&name);
-    let report = Report::of(&shown, &text, Asked::Check);
-    let Some(script) = Script::of(&text) else {
-        session.print_report(&report);
-        return REFUSED;
-    };
-    let found = match line {
-        Some(line) => at(&script, line).into_iter().collect(),
-        None => all(&script),
-    };
-    if found.is_empty() && all(&script).is_empty() {
-        session.print_report(&report);
-        return REFUSED;
-    }
-    if found.is_empty() {
-        let line = line.unwrap_or(0);
-        crate::complain(&format!(
-            "{shown} has no statement at line {line} or after it"
-        ));
-        return FAILED;
-    }
-    print(session, &script, &report, &found, line.is_some());
-    if report.good() {
-        DONE
-    } else {
-        REFUSED
-    }
+/// Check's answer, and what is found at lines, as JSON.
+pub fn json(script: &Script, report: &Report, found: &[Known]) -> Json {
+    let lines: Vec<Json> = found.iter().map(|known| json_of(script, known)).collect();
+    let object = Json::object()
+        .with("file", report.file)
+        .with("call", "known");
+    objects::check(object, report).with("lines", lines)
 }

@@ -1,7 +1,7 @@
 //! The generator reaches every number of the calls, and its accepted programs
 //! are accepted.
 
-use model::gen::{self, rng::Rng};
+use generator::{self as gen, rng::Rng};
 use model::machine::{Machine, Step};
 use model::names::{Action, Program, Statement};
 use model::{bound, check, printed, read, run, trial};

@@ -1,8 +1,5 @@
-//! `station fmt`: a text as people type it, made one that can be read. A text
-//! that has its form is not changed.
-
-use std::io::Write;
-use std::path::{Path, PathBuf};
+//! Formatting: a text as people type it, made one that can be read. A text that
+//! has its form is not changed.
 
 /// Characters that stand for a blank: no-break blanks among them.
 const BLANKS: [&[u8]; 4] = [
@@ -66,35 +63,6 @@ pub fn formatted(text: &[u8]) -> Vec<u8> {
     out
 }
 
-/// A name beside the file for its new text.
-fn beside(file: &Path) -> PathBuf {
-    let mut name = file.file_name().unwrap_or_default().to_os_string();
-    name.push(format!(".station-{}", std::process::id()));
-    file.with_file_name(name)
-}
-
-/// Writes the file anew: the new text stands whole beside it before it takes
-/// its place, so that at no time the file is lost. A link is followed, and the
-/// file keeps its permissions.
-pub fn replace(file: &Path, text: &[u8]) -> std::io::Result<()> {
-    let file = std::fs::canonicalize(file)?;
-    let fresh = beside(&file);
-    let written = std::fs::OpenOptions::new()
-        .write(true)
-        .create_new(true)
-        .open(&fresh)
-        .and_then(|mut out| {
-            out.write_all(text)?;
-            out.set_permissions(std::fs::metadata(&file)?.permissions())?;
-            out.sync_all()
-        })
-        .and_then(|()| std::fs::rename(&fresh, &file));
-    if written.is_err() {
-        let _ = std::fs::remove_file(&fresh);
-    }
-    written
-}
-
 #[cfg(test)]
 mod tests {
     use super::formatted;
@@ -140,7 +108,7 @@ mod tests {
         }
         let mut read = 0;
         for seed in 0..3_000 {
-            let text = model::gen::text(seed);
+            let text = generator::text(seed);
             if model::read(&text).is_ok() {
                 read += 1;
                 assert_eq!(formatted(&text), text);

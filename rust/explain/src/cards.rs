@@ -10,21 +10,27 @@ use std::fmt::Write;
 
 /// A field of a card.
 pub struct Field {
+    /// Its name.
     pub name: String,
     /// Is it a link?
     pub link: bool,
+    /// A number, or the number of a card; 0 for null.
     pub value: i32,
     /// The frame that holds it, from main's 0; none if nobody does.
     pub holder: Option<usize>,
 }
 
+/// A card that the run made.
 pub struct Card {
+    /// The name of its class.
     pub class: String,
+    /// Its fields, in the order of their lines.
     pub fields: Vec<Field>,
 }
 
 /// An open block: its name and its variables.
 pub struct Open {
+    /// The method's name, or `main`.
     pub name: String,
     /// Name, value, and whether it is a link.
     pub variables: Vec<(String, i32, bool)>,
@@ -32,7 +38,9 @@ pub struct Open {
 
 /// All cards, and the open blocks, main's first.
 pub struct Cards {
+    /// The cards; card n stands at place n - 1.
     pub cards: Vec<Card>,
+    /// The open blocks.
     pub open: Vec<Open>,
 }
 
@@ -130,6 +138,7 @@ impl Cards {
         format!("; held: {}", each.join(", "))
     }
 
+    /// All of it as JSON.
     pub fn json(&self) -> Json {
         let cards = self.cards.iter().enumerate().map(|(at, card)| {
             let fields = card.fields.iter().map(|field| {

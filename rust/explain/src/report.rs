@@ -3,12 +3,13 @@
 
 use crate::cause::{cause, open_calls, stop_cause, Cause};
 use crate::fmt::formatted;
-use crate::progress::Progress;
-use nuyardi::{Ending, Kind, Outcome, Refusal, Station};
+use crate::Answers;
+use nuyardi::{Ending, Kind, Outcome, Refusal};
 
-/// What is asked of the library; the steps that are allowed.
-#[derive(Clone, Copy)]
+/// What is asked of a text; the steps that are allowed.
+#[derive(Clone, Copy, Debug, PartialEq, Eq)]
 pub enum Asked {
+    /// Whether it is accepted.
     Check,
     /// A run: of a text that check accepts.
     Run(u32),
@@ -16,11 +17,18 @@ pub enum Asked {
     Trial(u32),
 }
 
+/// What is said of one text.
+#[derive(Clone, Debug)]
 pub struct Report<'a> {
+    /// What messages call it.
     pub file: &'a str,
+    /// The text.
     pub text: &'a [u8],
+    /// What was asked of it.
     pub asked: Asked,
+    /// Check's refusal; none if it accepts the text.
     pub refusal: Option<Refusal>,
+    /// The cause of the refusal, where one is seen.
     pub cause: Option<Cause>,
     /// What check says of the text as `fmt` gives it, where that may help.
     pub mended: Option<String>,
@@ -28,8 +36,12 @@ pub struct Report<'a> {
     pub ran: Option<Ran<'a>>,
 }
 
+/// A run or a trial.
+#[derive(Clone, Debug)]
 pub struct Ran<'a> {
+    /// How it ended.
     pub outcome: Outcome<'a>,
+    /// The cause of a stop, where one is seen.
     pub cause: Option<Cause>,
     /// The calls that are open where the run stopped.
     pub open: Vec<String>,
@@ -49,21 +61,20 @@ impl<'a> Ran<'a> {
 }
 
 /// Check's refusal, and the run or the trial unless the call refused the text.
-fn answers(text: &[u8], asked: Asked) -> (Option<Refusal>, Option<Outcome<'_>>) {
-    let mut station = Station::new();
+fn answered<'t>(
+    answers: &mut impl Answers,
+    text: &'t [u8],
+    asked: Asked,
+) -> (Option<Refusal>, Option<Outcome<'t>>) {
     match asked {
-        Asked::Check => (station.check(text).err(), None),
-        Asked::Run(steps) => {
-            let _progress = Progress::start(steps);
-            match station.run(text, steps) {
-                Ok(outcome) => (None, Some(outcome.into())),
-                Err(refusal) => (Some(refusal), None),
-            }
-        }
+        Asked::Check => (answers.check(text).err(), None),
+        Asked::Run(steps) => match answers.run(text, steps) {
+            Ok(outcome) => (None, Some(outcome)),
+            Err(refusal) => (Some(refusal), None),
+        },
         Asked::Trial(steps) => {
-            let refusal = station.check(text).err();
-            let _progress = Progress::start(steps);
-            let outcome = station.trial(text, steps);
+            let refusal = answers.check(text).err();
+            let outcome = answers.trial(text, steps);
             let ran = !matches!(outcome.ending(), Ending::Refused(_));
             (refusal, ran.then_some(outcome))
         }
@@ -71,7 +82,7 @@ fn answers(text: &[u8], asked: Asked) -> (Option<Refusal>, Option<Outcome<'_>>) 
 }
 
 /// What the text as `fmt` gives it would get.
-fn mended(text: &[u8], refusal: Refusal) -> Option<String> {
+fn mended(answers: &mut impl Answers, text: &[u8], refusal: Refusal) -> Option<String> {
     if !matches!(refusal.kind(), Kind::Byte | Kind::Form) {
         return None;
     }
@@ -79,7 +90,7 @@ fn mended(text: &[u8], refusal: Refusal) -> Option<String> {
     if better == text || better.len() > nuyardi::limits::TEXT_BYTES {
         return None;
     }
-    let Err(next) = nuyardi::check(&better) else {
+    let Err(next) = answers.check(&better) else {
         return Some("after `station fmt` the text is accepted".to_string());
     };
     if next == refusal {
@@ -95,15 +106,20 @@ fn mended(text: &[u8], refusal: Refusal) -> Option<String> {
 
 impl<'a> Report<'a> {
     /// Checks the text, and runs it or tries it out if that is asked.
-    pub fn of(file: &'a str, text: &'a [u8], asked: Asked) -> Report<'a> {
-        let (refusal, outcome) = answers(text, asked);
+    pub fn of(
+        answers: &mut impl Answers,
+        file: &'a str,
+        text: &'a [u8],
+        asked: Asked,
+    ) -> Report<'a> {
+        let (refusal, outcome) = answered(answers, text, asked);
         Report {
             file,
             text,
             asked,
             refusal,
             cause: refusal.and_then(|refusal| cause(text, refusal)),
-            mended: refusal.and_then(|refusal| mended(text, refusal)),
+            mended: refusal.and_then(|refusal| mended(answers, text, refusal)),
             ran: outcome.map(|outcome| Ran::of(text, outcome)),
         }
     }

@@ -9,6 +9,7 @@ use crate::report::{Asked, Report};
 use crate::script::{line, Script};
 use crate::show::{self, Paint};
 use crate::trace;
+use crate::{Answers, Model};
 
 /// A trial and a run: the same, but of a text that check refuses.
 fn looked_into(text: &[u8], steps: u32) {
@@ -16,19 +17,12 @@ fn looked_into(text: &[u8], steps: u32) {
         looked_at(text, Asked::Trial(steps)),
         looked_at(text, Asked::Run(steps)),
     );
-    assert_eq!(
-        ran,
-        if nuyardi::check(text).is_ok() {
-            tried
-        } else {
-            0
-        }
-    );
+    assert_eq!(ran, if Model.check(text).is_ok() { tried } else { 0 });
 }
 
 /// The steps taken.
 fn looked_at(text: &[u8], asked: Asked) -> u32 {
-    let report = Report::of("a", text, asked);
+    let report = Report::of(&mut Model, "a", text, asked);
     let ran = report.ran.as_ref();
     let lines = [
         (report.refusal.map(|refusal| refusal.line()), &report.cause),
@@ -79,7 +73,7 @@ fn looked_at(text: &[u8], asked: Asked) -> u32 {
 fn texts_of_every_kind() {
     for seed in 0..1_500 {
         let steps = [0, 1, 7, 100, 1_000][seed as usize % 5];
-        looked_into(&model::gen::text(0x6000_0000 + seed), steps);
+        looked_into(&generator::text(0x6000_0000 + seed), steps);
     }
     for text in [
         &b""[..],
@@ -99,11 +93,11 @@ fn texts_of_every_kind() {
 /// generator makes it.
 #[test]
 fn near_misses_have_causes() {
-    let mut rng = model::gen::rng::Rng::new(7);
+    let mut rng = generator::rng::Rng::new(7);
     for number in 2..=14 {
         for _ in 0..20 {
-            let text = model::gen::text_of(&mut rng, model::gen::Kind::Miss(number));
-            let report = Report::of("a", &text, Asked::Check);
+            let text = generator::text_of(&mut rng, generator::Kind::Miss(number));
+            let report = Report::of(&mut Model, "a", &text, Asked::Check);
             assert_eq!(report.refusal.is_some(), report.cause.is_some());
         }
     }
@@ -112,7 +106,7 @@ fn near_misses_have_causes() {
 /// Where the model answers otherwise than the library, no cause is given.
 #[test]
 fn no_cause_of_another_answer() {
-    let refusal = |text: &[u8]| nuyardi::check(text).err();
+    let refusal = |text: &[u8]| Model.check(text).err();
     let (one, other) = (&b"main\nlet\ta\t7\nend\n"[..], &b"main\nlet\ta\nend\n"[..]);
     let found = refusal(one).expect("it is refused");
     assert!(crate::cause::cause(one, found).is_some());

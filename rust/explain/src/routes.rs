@@ -7,7 +7,9 @@ use model::names::Action;
 /// A `call` line, and the method that it calls, by its place among the blocks.
 #[derive(Clone, Copy, Debug, PartialEq, Eq)]
 pub struct CallLine {
+    /// The line.
     pub line: u32,
+    /// The method.
     pub method: usize,
 }
 
@@ -15,10 +17,15 @@ pub struct CallLine {
 /// statement lines, its calls, and its bound.
 #[derive(Clone, Copy, Debug, PartialEq, Eq)]
 pub struct Leg {
+    /// The line that leads there: a `call`, or `main`.
     pub line: u32,
+    /// The block, by its place among the blocks.
     pub block: usize,
+    /// Its own statement lines.
     pub own: u128,
+    /// How many of these are calls.
     pub calls: usize,
+    /// Its bound.
     pub bound: u128,
 }
 
@@ -30,6 +37,7 @@ pub struct Routes {
 }
 
 impl Routes {
+    /// The calls of a script.
     pub fn of(script: &Script) -> Routes {
         let blocks = 0..script.program.blocks.len();
         let bodies = blocks.map(|block| script.program.body(block));

@@ -2,6 +2,8 @@
 //! misses for every number, runs that stop with every number, full states,
 //! arbitrary bytes, and mutations of all of these.
 
+#![forbid(unsafe_code)]
+
 mod establish;
 pub mod misses;
 pub mod mutate;
@@ -15,6 +17,8 @@ pub mod routes;
 mod skeleton;
 mod writer;
 
+// The parts of the model by which texts are written.
+use model::{check, checker, limits, names, number, read, text};
 use rng::Rng;
 
 /// A kind of text.

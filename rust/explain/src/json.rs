@@ -6,14 +6,22 @@ use std::fmt;
 /// Deeper values are refused.
 const DEPTH: usize = 64;
 
+/// A JSON value; its display is its text.
 #[derive(Clone, Debug, PartialEq)]
 pub enum Json {
+    /// `null`.
     Null,
+    /// `true` or `false`.
     Bool(bool),
+    /// A whole number.
     Int(i64),
+    /// A number with a fraction or an exponent.
     Float(f64),
+    /// A string.
     Text(String),
+    /// An array.
     List(Vec<Json>),
+    /// An object, its fields in order.
     Object(Vec<(String, Json)>),
 }
 
@@ -103,6 +111,7 @@ impl Json {
         names.iter().try_fold(self, |value, name| value.get(name))
     }
 
+    /// A string.
     pub fn text(&self) -> Option<&str> {
         match self {
             Json::Text(text) => Some(text),
@@ -110,6 +119,7 @@ impl Json {
         }
     }
 
+    /// A whole number.
     pub fn int(&self) -> Option<i64> {
         match self {
             Json::Int(value) => Some(*value),

@@ -1,28 +1,31 @@
-//! `station trace`: each step of a run with its line and what it changed.
+//! A trace: each step of a run with its line and what it changed.
 
-use crate::cards;
 use crate::cause::value_shown;
 use crate::json::Json;
+use crate::objects;
 use crate::report::Report;
 use crate::rounds::Rounds;
 use crate::script::{quoted, shown, Script};
-use crate::show::{ending, file_name, head};
-use crate::{Session, DONE, REFUSED};
 use model::machine::{Machine, Step, Values};
 use model::names::Action;
 use std::cmp::Ordering;
-use std::ffi::OsStr;
 
 /// At most so many steps stand in one JSON object.
-const JSON_ROWS: usize = 100_000;
+pub const JSON_ROWS: usize = 100_000;
 
-/// One step, or the line at which the run stopped.
+/// One step of a run.
+#[derive(Clone, Debug, PartialEq, Eq)]
 pub struct Row {
-    step: u32,
-    line: u32,
-    depth: usize,
-    text: String,
-    changes: Vec<String>,
+    /// Its number, from 1.
+    pub step: u32,
+    /// The line of the statement that it does.
+    pub line: u32,
+    /// How many calls are open.
+    pub depth: usize,
+    /// The line, its tabs as blanks.
+    pub text: String,
+    /// What it changed, in words.
+    pub changes: Vec<String>,
 }
 
 /// The cards that a step made, the fields that it changed, and those that went
@@ -143,6 +146,7 @@ fn row(script: &Script, machine: &mut Machine, rounds: &mut Rounds) -> Option<Ro
     })
 }
 
+/// A step as people read it.
 pub fn shown_row(row: &Row) -> String {
     let text = format!("{}{}", "  ".repeat(row.depth), row.text);
     let changes = row.changes.join(", ");
@@ -150,7 +154,8 @@ pub fn shown_row(row: &Row) -> String {
     format!("{}\n", printed.trim_end())
 }
 
-fn json_row(row: &Row) -> Json {
+/// A step as JSON.
+pub fn json_row(row: &Row) -> Json {
     Json::object()
         .with("step", row.step)
         .with("line", row.line)
@@ -171,35 +176,27 @@ pub fn each(script: &Script, steps: u32, mut wanted: impl FnMut(&Row) -> bool) {
     }
 }
 
-/// The command, for one file.
-pub fn trace(session: &mut Session, name: &OsStr, text: &[u8]) -> u8 {
-    let shown_name = file_name(name);
-    let report = Report::of(&shown_name, text, session.shown_run());
+/// The steps of a run as JSON, at most [`JSON_ROWS`]; none if there was no run.
+fn rows(report: &Report) -> Vec<Json> {
     let mut rows = Vec::new();
-    if !session.json() {
-        session.print(&head(&report, session.paint));
-    }
-    if let (Some(script), Some(ran)) = (Script::of(text), &report.ran) {
+    if let (Some(script), Some(ran)) = (Script::of(report.text), &report.ran) {
         each(&script, ran.outcome.steps(), |row| {
-            match session.json() {
-                true => rows.push(json_row(row)),
-                false => session.print(&shown_row(row)),
-            }
+            rows.push(json_row(row));
             rows.len() < JSON_ROWS
         });
     }
-    let cards = report.ran.as_ref().filter(|_| session.words.has("cards"));
-    let cards = cards.and_then(|ran| cards::after(text, ran.outcome.steps()));
-    if session.json() {
-        let object = crate::objects::report(&report).with("trace", Json::List(rows));
-        session.print_json(&object.with_some("cards", cards.map(|cards| cards.json())));
-    } else {
-        session.print(&ending(&report, session.paint));
-        session.print(&cards.map_or(String::new(), |cards| cards.table()));
-    }
-    if report.good() {
-        DONE
-    } else {
-        REFUSED
-    }
+    rows
+}
+
+/// What a run gives, with its steps, as JSON.
+pub fn json(report: &Report) -> Json {
+    objects::report(report).with("trace", Json::List(rows(report)))
+}
+
+/// Each step of a run as a line of JSON, at most [`JSON_ROWS`]; what the run gives
+/// is the last line.
+pub fn json_lines(report: &Report) -> String {
+    let last = objects::report(report);
+    let lines = rows(report).into_iter().chain([last]);
+    lines.map(|line| format!("{line}\n")).collect()
 }

@@ -1,6 +1,6 @@
 //! Time per text: of the generator by kind, and of both calls.
 
-use model::gen::{self, rng::Rng, Kind};
+use generator::{self as gen, rng::Rng, Kind};
 use model::{check, run};
 use std::time::Instant;
 

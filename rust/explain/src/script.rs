@@ -9,8 +9,11 @@ use std::ops::Range;
 
 /// A text that the reader takes.
 pub struct Script<'a> {
+    /// The text.
     pub text: &'a [u8],
+    /// Its lines.
     pub lines: Vec<Line<'a>>,
+    /// Its program.
     pub program: Program<'a>,
 }
 
@@ -122,10 +125,12 @@ impl<'a> Script<'a> {
 /// Variables, terms and atoms in the names of one block.
 #[derive(Clone, Copy)]
 pub struct Names<'p, 'a> {
+    /// The block.
     pub block: &'p Block<'a>,
 }
 
 impl Names<'_, '_> {
+    /// A variable's name.
     pub fn var(&self, var: Var) -> String {
         match (var, self.block.header) {
             (THIS, _) => "this".to_string(),
@@ -153,6 +158,7 @@ impl Names<'_, '_> {
         }
     }
 
+    /// An expression as the text has it.
     pub fn expr(&self, expr: Expr) -> String {
         match expr {
             Expr::Number(value) => value.to_string(),
@@ -162,6 +168,7 @@ impl Names<'_, '_> {
         }
     }
 
+    /// A term of the checker, written as an expression.
     pub fn term(&self, term: Term) -> String {
         match term {
             Term::Number(value) => value.to_string(),
@@ -171,6 +178,7 @@ impl Names<'_, '_> {
         }
     }
 
+    /// An atom as the text has it, with blanks for tabs.
     pub fn atom(&self, atom: Atom) -> String {
         match atom {
             Atom::Acc(path) => format!("acc {} {}", self.var(path.var), shown(path.field)),

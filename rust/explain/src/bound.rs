@@ -1,4 +1,4 @@
-//! `station bound`: the most steps and frames of a run, known before it, and
+//! A bound: the most steps and frames of a run, known before it, and
 //! where they come from.
 
 use crate::cause::{bound_cause, Cause};
@@ -7,48 +7,49 @@ use crate::objects;
 use crate::report::{Asked, Report};
 use crate::routes::{Leg, Routes};
 use crate::script::{quoted, Script};
-use crate::show::{self, counted, file_name, grouped, wrapped, Paint};
-use crate::{Session, DONE, REFUSED};
+use crate::show::{self, counted, grouped, wrapped, Paint};
+use crate::Answers;
 use nuyardi::{limits, Bound, Excess, NoBound};
-use std::ffi::OsStr;
 use std::fmt::Write;
 
 /// What bound answers of one file.
 pub struct Bounded<'a> {
     file: &'a str,
     text: &'a [u8],
-    found: Result<Bound, NoBound>,
+    /// The bound, or why there is none.
+    pub found: Result<Bound, NoBound>,
     cause: Option<Cause>,
+    /// What check says of a text that it refuses.
+    refused: Option<Report<'a>>,
     /// The dearest route of calls, if it is asked for and the model agrees.
     route: Vec<Leg>,
 }
 
 impl<'a> Bounded<'a> {
-    pub fn of(file: &'a str, text: &'a [u8], why: bool) -> Bounded<'a> {
-        let found = nuyardi::bound(text);
-        let cause = match found {
-            Err(NoBound::Accepted { excess, line }) => bound_cause(text, excess, line),
-            _ => None,
+    /// The bound of a text, and if that is asked the calls that it comes from.
+    pub fn of(answers: &mut impl Answers, file: &'a str, text: &'a [u8], why: bool) -> Bounded<'a> {
+        let found = answers.bound(text);
+        let (cause, refused) = match found {
+            Err(NoBound::Accepted { excess, line }) => (bound_cause(text, excess, line), None),
+            Err(_) => (None, Some(Report::of(answers, file, text, Asked::Check))),
+            Ok(_) => (None, None),
         };
+        let route = why.then(|| route(text, found)).flatten();
         Bounded {
             file,
             text,
             found,
             cause,
-            route: why
-                .then(|| route(text, found))
-                .flatten()
-                .unwrap_or_default(),
+            refused,
+            route: route.unwrap_or_default(),
         }
-    }
-
-    /// What check says of the text.
-    fn checked(&self) -> Report<'a> {
-        Report::of(self.file, self.text, Asked::Check)
     }
 
     /// What a person reads.
     pub fn shown(&self, paint: Paint) -> String {
+        if let Some(refused) = &self.refused {
+            return show::report(refused, paint);
+        }
         let mut out = String::new();
         match self.found {
             Ok(bound) => given(&mut out, self.file, bound, paint),
@@ -59,7 +60,7 @@ impl<'a> Bounded<'a> {
                 show::snippet(&mut out, paint, self.text, line, None);
                 show::reasons(&mut out, number, self.cause.as_ref());
             }
-            Err(_) => return show::report(&self.checked(), paint),
+            Err(_) => {}
         }
         for (at, leg) in self.route.iter().enumerate() {
             wrapped(&mut out, "  route: ", &route_row(self.text, at, leg));
@@ -67,14 +68,15 @@ impl<'a> Bounded<'a> {
         out
     }
 
+    /// The same as JSON.
     pub fn json(&self) -> Json {
         let object = Json::object().with("file", self.file).with("call", "bound");
         let (number, line) = self
             .found
             .map_or_else(|none| (none.number(), none.line()), |_| (0, 0));
-        let object = match self.found {
-            Err(NoBound::Refused(_)) => objects::check(object, &self.checked()),
-            _ => {
+        let object = match &self.refused {
+            Some(refused) => objects::check(object, refused),
+            None => {
                 let object = object.with("accepted", true).with("number", number);
                 objects::with_cause(object.with("line", line), self.cause.as_ref())
             }
@@ -148,18 +150,4 @@ fn leg_json(text: &[u8], leg: &Leg) -> Json {
         .with("adds", number(leg.bound))
         .with("own", number(leg.own))
         .with("calls", leg.calls)
-}
-
-/// The command, for one file.
-pub fn bound(session: &mut Session, name: &OsStr, text: &[u8]) -> u8 {
-    let shown = file_name(name);
-    let bounded = Bounded::of(&shown, text, session.words.has("why"));
-    match session.json() {
-        true => session.print_json(&bounded.json()),
-        false => session.print(&bounded.shown(session.paint)),
-    }
-    match bounded.found {
-        Ok(_) => DONE,
-        Err(_) => REFUSED,
-    }
 }
