@@ -1,4 +1,4 @@
-# make                      the command and the library; proves what is not proved yet
+# make                      the command and the libraries; proves what is not proved yet
 # make check                the gate: every proof, every must-fail edit, every test
 # make install PREFIX=DIR   builds and installs (DESTDIR for packages); make uninstall removes it again
 # make index                target/INDEX.md: each sentence of the papers, its definitions, laws and code
@@ -9,6 +9,8 @@
 
 PREFIX ?= /usr/local
 VERSION := $(shell cat VERSION)
+# The first number of the version, which is that of the soname.
+MAJOR := $(firstword $(subst ., ,$(VERSION)))
 
 bindir = $(PREFIX)/bin
 libdir = $(PREFIX)/lib
@@ -22,20 +24,23 @@ cratedir = $(owndir)/rust/host
 
 COMMAND ?= rust/target/release/station
 LIBRARY ?= target/libnuyardi.a
+SHARED ?= target/libnuyardi.so
 INSTALL ?= install
 CARGO ?= cargo
 
-.PHONY: all library command check install install-files uninstall index soak same-bytes
+.PHONY: all library command check install install-files install-command install-shared install-dev uninstall index soak same-bytes
 
 all: library command
 
 library:
 ifdef STATION_LIB
+	mkdir -p target
 	tools/c-library "$(STATION_LIB)" $(LIBRARY)
 else
 	tools/prove-library
 	tools/c-library target/staticlib/libstation.a $(LIBRARY)
 endif
+	tools/shared-library $(LIBRARY) $(SHARED)
 
 command: library
 	cd rust && $(CARGO) build --release --offline -p cli
@@ -46,35 +51,56 @@ check:
 install: all
 	$(MAKE) install-files
 
-# Only copies; what it copies was built before.
-install-files:
+# These only copy; what they copy was built before.
+install-files: install-command install-shared install-dev
+
+# The command, the documents and the editors' files.
+install-command:
 	$(INSTALL) -D -m 755 $(COMMAND) "$(DESTDIR)$(bindir)/station"
-	$(INSTALL) -D -m 644 $(LIBRARY) "$(DESTDIR)$(libdir)/libnuyardi.a"
-	$(INSTALL) -D -m 644 include/station.h "$(DESTDIR)$(includedir)/station.h"
-	$(INSTALL) -d "$(DESTDIR)$(libdir)/pkgconfig" "$(DESTDIR)$(mandir)/man1" "$(DESTDIR)$(datadir)/bash-completion/completions"
+	$(INSTALL) -d "$(DESTDIR)$(mandir)/man1" "$(DESTDIR)$(datadir)/bash-completion/completions"
 	$(INSTALL) -d "$(DESTDIR)$(datadir)/zsh/site-functions" "$(DESTDIR)$(datadir)/fish/vendor_completions.d"
-	printf '%s\n' 'prefix=$(PREFIX)' 'libdir=$(libdir)' 'includedir=$(includedir)' '' 'Name: nuyardi' \
-	    'Description: Check and run catalogue scripts' 'Version: $(VERSION)' 'Cflags: -I$${includedir}' 'Libs: -L$${libdir} -lnuyardi' \
-	    >"$(DESTDIR)$(libdir)/pkgconfig/nuyardi.pc"
 	$(COMMAND) man >"$(DESTDIR)$(mandir)/man1/station.1"
 	$(COMMAND) completions bash >"$(DESTDIR)$(datadir)/bash-completion/completions/station"
 	$(COMMAND) completions zsh >"$(DESTDIR)$(datadir)/zsh/site-functions/_station"
 	$(COMMAND) completions fish >"$(DESTDIR)$(datadir)/fish/vendor_completions.d/station.fish"
-	$(INSTALL) -d "$(DESTDIR)$(docdir)/papers" "$(DESTDIR)$(cratedir)/src"
+	$(INSTALL) -d "$(DESTDIR)$(docdir)/papers"
 	$(INSTALL) -m 644 README.md docs/*.md "$(DESTDIR)$(docdir)"
 	$(INSTALL) -m 644 docs/papers/*.md "$(DESTDIR)$(docdir)/papers"
-	for file in $$(find examples editors hosts -type f ! -path '*/target/*'); do $(INSTALL) -D -m 644 "$$file" "$(DESTDIR)$(owndir)/$$file" || exit 1; done
+	for file in $$(find editors -type f); do $(INSTALL) -D -m 644 "$$file" "$(DESTDIR)$(owndir)/$$file" || exit 1; done
+
+# The shared library, as a program that is linked with it finds it.
+install-shared:
+	$(INSTALL) -D -m 644 $(SHARED) "$(DESTDIR)$(libdir)/libnuyardi.so.$(VERSION)"
+	ln -sf libnuyardi.so.$(VERSION) "$(DESTDIR)$(libdir)/libnuyardi.so.$(MAJOR)"
+
+# Fills in a file of packaging/ that ends in .in.
+fill = sed -e 's|@PREFIX@|$(PREFIX)|' -e 's|@LIBDIR@|$(libdir)|' -e 's|@INCLUDEDIR@|$(includedir)|' \
+    -e "s|@HEADERS@|$$(realpath -m --relative-to="$(libdir)" "$(includedir)")|" -e 's|@VERSION@|$(VERSION)|' -e 's|@MAJOR@|$(MAJOR)|'
+
+# What a program is built with: the static library, the header, pkg-config, CMake and the Rust crate; host programs and scripts.
+install-dev:
+	$(INSTALL) -D -m 644 $(LIBRARY) "$(DESTDIR)$(libdir)/libnuyardi.a"
+	ln -sf libnuyardi.so.$(MAJOR) "$(DESTDIR)$(libdir)/libnuyardi.so"
+	$(INSTALL) -D -m 644 include/station.h "$(DESTDIR)$(includedir)/station.h"
+	$(INSTALL) -d "$(DESTDIR)$(libdir)/pkgconfig" "$(DESTDIR)$(libdir)/cmake/nuyardi" "$(DESTDIR)$(cratedir)/src"
+	for name in nuyardi nuyardi-static; do \
+	    $(fill) packaging/pkgconfig/$$name.pc.in >"$(DESTDIR)$(libdir)/pkgconfig/$$name.pc" || exit 1; done
+	for name in nuyardi-config nuyardi-config-version; do \
+	    $(fill) packaging/cmake/$$name.cmake.in >"$(DESTDIR)$(libdir)/cmake/nuyardi/$$name.cmake" || exit 1; done
+	for file in $$(find examples hosts -type f ! -path '*/target/*'); do $(INSTALL) -D -m 644 "$$file" "$(DESTDIR)$(owndir)/$$file" || exit 1; done
 	$(INSTALL) -m 644 rust/host/build.rs "$(DESTDIR)$(cratedir)"
 	$(INSTALL) -m 644 rust/host/src/*.rs "$(DESTDIR)$(cratedir)/src"
 	sed -e 's/^version.workspace = true/version = "$(VERSION)"/' -e '/^\[dev-dependencies\]/,$$d' rust/host/Cargo.toml >"$(DESTDIR)$(cratedir)/Cargo.toml"
 	tools/limits >"$(DESTDIR)$(cratedir)/limits.rs"
 
 uninstall:
-	rm -f "$(DESTDIR)$(bindir)/station" "$(DESTDIR)$(libdir)/libnuyardi.a" "$(DESTDIR)$(includedir)/station.h"
-	rm -f "$(DESTDIR)$(libdir)/pkgconfig/nuyardi.pc" "$(DESTDIR)$(mandir)/man1/station.1"
+	rm -f "$(DESTDIR)$(bindir)/station" "$(DESTDIR)$(includedir)/station.h" "$(DESTDIR)$(mandir)/man1/station.1"
+	rm -f "$(DESTDIR)$(libdir)/libnuyardi.a" "$(DESTDIR)$(libdir)/libnuyardi.so" "$(DESTDIR)$(libdir)/libnuyardi.so.$(MAJOR)"
+	rm -f "$(DESTDIR)$(libdir)/libnuyardi.so.$(VERSION)"
+	rm -f "$(DESTDIR)$(libdir)/pkgconfig/nuyardi.pc" "$(DESTDIR)$(libdir)/pkgconfig/nuyardi-static.pc"
 	rm -f "$(DESTDIR)$(datadir)/bash-completion/completions/station" "$(DESTDIR)$(datadir)/zsh/site-functions/_station"
 	rm -f "$(DESTDIR)$(datadir)/fish/vendor_completions.d/station.fish"
-	rm -rf "$(DESTDIR)$(docdir)" "$(DESTDIR)$(owndir)"
+	rm -rf "$(DESTDIR)$(libdir)/cmake/nuyardi" "$(DESTDIR)$(docdir)" "$(DESTDIR)$(owndir)"
 
 index:
 	mkdir -p target
