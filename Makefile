@@ -4,6 +4,7 @@
 # make index                target/INDEX.md: each sentence of the papers, its definitions, laws and code
 # make soak                 the library beside the model on 10 million texts (TEXTS=N for another number)
 # make same-bytes           builds libstation.a in two folders and compares the two
+# make wheel                the Python package with the shared library inside; make check-python tests it
 #
 # STATION_LIB names a libstation.a that is already made: then nothing is proved here.
 
@@ -114,3 +115,5 @@ soak: library
 
 same-bytes:
 	tools/same-bytes
+
+include packaging/packages.mk
