@@ -5,6 +5,7 @@
 # make soak                 the library beside the model on 10 million texts (TEXTS=N for another number)
 # make same-bytes           builds libstation.a in two folders and compares the two
 # make wheel                the Python package with the shared library inside; make check-python tests it
+# make check-r              R CMD check of the package for R, where R is installed
 # make deb                  Debian packages of the command and the libraries; make check-deb installs and removes them in a test folder
 # make dist                 the source archive, with the sums of the proved library
 #

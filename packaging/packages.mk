@@ -1,10 +1,10 @@
-# Packages of what the Makefile builds: for Python and Debian, and the source archive.
+# Packages of what the Makefile builds: for Python, R and Debian, and the source archive.
 
 PYTHON ?= python3
 PACKAGES = target/packages
 STATION_ARCHIVE = $(or $(STATION_LIB),target/staticlib/libstation.a)
 
-.PHONY: wheel check-python deb check-deb dist
+.PHONY: wheel check-python check-r deb check-deb dist
 
 wheel: library
 	mkdir -p target
@@ -13,6 +13,15 @@ wheel: library
 
 check-python: library
 	cd python && NUYARDI_LIBRARY="$(abspath $(SHARED))" $(PYTHON) -B -m unittest -v
+
+# R CMD check of the package for R, over the library as it is installed; it takes jsonlite if it is there.
+RSTAGE = $(abspath target/r)
+check-r: library
+	command -v R >/dev/null || { echo "there is no R here" >&2; exit 1; }
+	rm -rf $(RSTAGE) && mkdir -p $(RSTAGE)
+	$(MAKE) --no-print-directory -s install-shared install-dev PREFIX=$(RSTAGE)/prefix DESTDIR=
+	cd $(RSTAGE) && export PKG_CONFIG_PATH=$(RSTAGE)/prefix/lib/pkgconfig _R_CHECK_FORCE_SUGGESTS_=false R_RD4PDF=times,hyper \
+	    && R CMD build $(CURDIR)/R/nuyardi && R CMD check nuyardi_*.tar.gz
 
 deb: all
 	mkdir -p $(PACKAGES)
