@@ -109,6 +109,33 @@ fn shared_library_exports_the_header() {
     assert!(!described.contains("TEXTREL"), "{described}");
 }
 
+/// Does the file hold the machine code of the static library?
+fn same_code(file: &Path) -> bool {
+    let mut command = Command::new(root().join("tools/same-code"));
+    command
+        .arg(concat!(env!("OUT_DIR"), "/libnuyardi.a"))
+        .arg(file);
+    command.output().expect("tools/same-code").status.success()
+}
+
+/// The shared library is the static one's machine code, linked; with another byte in it, it is not.
+#[test]
+fn same_machine_code() {
+    if asked("python3", &["--version"]).is_none() {
+        return;
+    }
+    let own = folder("same-code");
+    let shared = shared_library(&own);
+    assert!(same_code(&shared));
+    let mut bytes = std::fs::read(&shared).expect("the library");
+    // The middle of the library is in a function.
+    let middle = bytes.len() / 2;
+    bytes[middle] ^= 1;
+    let other = own.join("other.so");
+    std::fs::write(&other, bytes).expect("a library");
+    assert!(!same_code(&other));
+}
+
 /// What the program prints of the worked script, with a folder in which the loader looks for libraries.
 fn runs_the_worked_script(program: &Path, libraries: &str) {
     let mut command = Command::new(program);
