@@ -29,12 +29,14 @@ cratedir = $(owndir)/rust/host
 COMMAND ?= rust/target/release/station
 LIBRARY ?= target/libnuyardi.a
 SHARED ?= target/libnuyardi.so
+# The library of explanations: built where its crate is there, installed where it is built.
+EXPLAIN ?= rust/target/release/libnuyardi_explain.so
 INSTALL ?= install
 CARGO ?= cargo
 
-.PHONY: all library command check install install-files install-command install-shared install-dev uninstall index soak same-bytes
+.PHONY: all library explain command check install install-files install-command install-shared install-dev uninstall index soak same-bytes
 
-all: library command
+all: library explain command
 
 library:
 ifdef STATION_LIB
@@ -45,6 +47,9 @@ else
 	tools/c-library target/staticlib/libstation.a $(LIBRARY)
 endif
 	tools/shared-library $(LIBRARY) $(SHARED)
+
+explain: library
+	$(if $(wildcard rust/explain-c),cd rust && $(CARGO) build --release --offline -p explain-c)
 
 command: library
 	cd rust && $(CARGO) build --release --offline -p cli
@@ -72,10 +77,11 @@ install-command:
 	$(INSTALL) -m 644 docs/papers/*.md "$(DESTDIR)$(docdir)/papers"
 	for file in $$(find editors -type f); do $(INSTALL) -D -m 644 "$$file" "$(DESTDIR)$(owndir)/$$file" || exit 1; done
 
-# The shared library, as a program that is linked with it finds it.
+# The shared libraries, as a program that is linked with them finds them.
 install-shared:
 	$(INSTALL) -D -m 644 $(SHARED) "$(DESTDIR)$(libdir)/libnuyardi.so.$(VERSION)"
 	ln -sf libnuyardi.so.$(VERSION) "$(DESTDIR)$(libdir)/libnuyardi.so.$(MAJOR)"
+	$(if $(wildcard $(EXPLAIN)),$(INSTALL) -m 644 $(EXPLAIN) "$(DESTDIR)$(libdir)/libnuyardi_explain.so")
 
 # Fills in a file of packaging/ that ends in .in.
 fill = sed -e 's|@PREFIX@|$(PREFIX)|' -e 's|@LIBDIR@|$(libdir)|' -e 's|@INCLUDEDIR@|$(includedir)|' \
@@ -86,6 +92,7 @@ install-dev:
 	$(INSTALL) -D -m 644 $(LIBRARY) "$(DESTDIR)$(libdir)/libnuyardi.a"
 	ln -sf libnuyardi.so.$(MAJOR) "$(DESTDIR)$(libdir)/libnuyardi.so"
 	$(INSTALL) -D -m 644 include/station.h "$(DESTDIR)$(includedir)/station.h"
+	$(if $(wildcard $(EXPLAIN)),$(INSTALL) -m 644 include/nuyardi_explain.h "$(DESTDIR)$(includedir)/nuyardi_explain.h")
 	$(INSTALL) -d "$(DESTDIR)$(libdir)/pkgconfig" "$(DESTDIR)$(libdir)/cmake/nuyardi" "$(DESTDIR)$(cratedir)/src"
 	for name in nuyardi nuyardi-static; do \
 	    $(fill) packaging/pkgconfig/$$name.pc.in >"$(DESTDIR)$(libdir)/pkgconfig/$$name.pc" || exit 1; done
@@ -100,7 +107,7 @@ install-dev:
 uninstall:
 	rm -f "$(DESTDIR)$(bindir)/station" "$(DESTDIR)$(includedir)/station.h" "$(DESTDIR)$(mandir)/man1/station.1"
 	rm -f "$(DESTDIR)$(libdir)/libnuyardi.a" "$(DESTDIR)$(libdir)/libnuyardi.so" "$(DESTDIR)$(libdir)/libnuyardi.so.$(MAJOR)"
-	rm -f "$(DESTDIR)$(libdir)/libnuyardi.so.$(VERSION)"
+	rm -f "$(DESTDIR)$(libdir)/libnuyardi.so.$(VERSION)" "$(DESTDIR)$(libdir)/libnuyardi_explain.so" "$(DESTDIR)$(includedir)/nuyardi_explain.h"
 	rm -f "$(DESTDIR)$(libdir)/pkgconfig/nuyardi.pc" "$(DESTDIR)$(libdir)/pkgconfig/nuyardi-static.pc"
 	rm -f "$(DESTDIR)$(datadir)/bash-completion/completions/station" "$(DESTDIR)$(datadir)/zsh/site-functions/_station"
 	rm -f "$(DESTDIR)$(datadir)/fish/vendor_completions.d/station.fish"

@@ -25,32 +25,34 @@ def written(call: Callable[..., int], *words: Any) -> bytes:
         size = needed
 
 
-def _of_text(function: str, text: bytes) -> bytes:
-    said = script_bytes(text)
-    return written(getattr(_library.explaining(), function), said, len(said))
-
-
-def _of_run(function: str, text: bytes, steps: int) -> bytes:
-    said, allowed = script_bytes(text), steps_in_range(steps)
-    return written(getattr(_library.explaining(), function), said, len(said), allowed)
+def _answer(function: str, *words: Any) -> bytes:
+    """What a function of the library writes; every answer has some bytes."""
+    said = written(getattr(_library.explaining(), function), *words)
+    if not said:
+        raise _library.LibraryError(f"{function} gave no answer: a fault inside the library")
+    return said
 
 
 def explain(text: bytes) -> Dict[str, Any]:
-    """Why check refuses the text, with cause and mend: the object that `station check --json` prints."""
-    said: Dict[str, Any] = json.loads(_of_text("nuyardi_explain", text))
-    return said
+    """Check's answer, with cause, notes and fix where it refuses the text: the object that `station check --json -` prints."""
+    said = script_bytes(text)
+    answer: Dict[str, Any] = json.loads(_answer("nuyardi_explain", said, len(said)))
+    return answer
 
 
 def explain_run(text: bytes, steps: int) -> Dict[str, Any]:
-    """How a run ends and why, as explain does."""
-    said: Dict[str, Any] = json.loads(_of_run("nuyardi_explain_run", text, steps))
-    return said
+    """How a run of at most so many steps ends, with cause, notes and fix where it stops, as `station run --json -` prints it."""
+    said, allowed = script_bytes(text), steps_in_range(steps)
+    answer: Dict[str, Any] = json.loads(_answer("nuyardi_explain_run", said, len(said), allowed))
+    return answer
 
 
 def trace(text: bytes, steps: int) -> Iterator[Dict[str, Any]]:
-    """Each step of a run as a dict: a data frame is made of these as they are."""
-    lines = _of_run("nuyardi_trace", text, steps).splitlines()
-    return (json.loads(line) for line in lines if line)
+    """Each step of such a run, at most 100,000, as a dict: a data frame is made of these as they are. A refused text has none."""
+    said, allowed = script_bytes(text), steps_in_range(steps)
+    lines = _answer("nuyardi_trace", said, len(said), allowed).splitlines()
+    # The last line is what explain_run gives.
+    return (json.loads(line) for line in lines[:-1])
 
 
 @dataclass(frozen=True)
@@ -68,5 +70,9 @@ class Drawing:
 
 
 def draw(text: bytes, steps: int) -> Drawing:
-    """The cards as a run leaves them."""
-    return Drawing(_of_run("nuyardi_draw", text, steps).decode("utf-8"))
+    """The cards as such a run leaves them. There is no picture of a refused text, nor after more than 5,000,000 steps: ValueError."""
+    said, allowed = script_bytes(text), steps_in_range(steps)
+    svg = written(_library.explaining().nuyardi_draw, said, len(said), allowed)
+    if not svg:
+        raise ValueError("there is no picture: the text is refused, or its run takes too many steps")
+    return Drawing(svg.decode("utf-8"))

@@ -13,13 +13,21 @@ parsed <- function(json) {
   jsonlite::fromJSON(json)
 }
 
-station_explain <- function(text) parsed(written("nuyardi_explain", text))
+# What a function of the library writes; every answer has some bytes.
+answered <- function(call, text, steps = NULL) {
+  said <- written(call, text, steps)
+  if (!nzchar(said)) stop(call, " gave no answer: a fault inside the library")
+  said
+}
 
-station_explain_run <- function(text, steps = 1000) parsed(written("nuyardi_explain_run", text, steps))
+station_explain <- function(text) parsed(answered("nuyardi_explain", text))
 
+station_explain_run <- function(text, steps = 1000) parsed(answered("nuyardi_explain_run", text, steps))
+
+# The last line is what station_explain_run gives.
 station_trace <- function(text, steps = 1000) {
-  lines <- strsplit(written("nuyardi_trace", text, steps), "\n", fixed = TRUE)[[1L]]
-  traced(lines[nzchar(lines)])
+  lines <- strsplit(answered("nuyardi_trace", text, steps), "\n", fixed = TRUE)[[1L]]
+  traced(lines[-length(lines)])
 }
 
 # A data frame of JSON objects, one for each step.
@@ -30,7 +38,11 @@ traced <- function(lines) {
   steps
 }
 
-station_draw <- function(text, steps = 1000) structure(written("nuyardi_draw", text, steps), class = "station_drawing")
+station_draw <- function(text, steps = 1000) {
+  svg <- written("nuyardi_draw", text, steps)
+  if (!nzchar(svg)) stop("there is no picture: the text is refused, or its run takes too many steps")
+  structure(svg, class = "station_drawing")
+}
 
 station_save <- function(drawing, path) {
   if (!inherits(drawing, "station_drawing")) stop("drawing is none of station_draw")

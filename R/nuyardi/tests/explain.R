@@ -34,5 +34,14 @@ if (requireNamespace("jsonlite", quietly = TRUE)) {
 
 if (nzchar(library_there) && requireNamespace("jsonlite", quietly = TRUE)) {
   Sys.setenv(NUYARDI_EXPLAIN_LIBRARY = library_there)
-  stopifnot(station_explain(text)$number == 0L, nrow(station_trace(text)) >= 2L, grepl("<svg", station_draw(text), fixed = TRUE))
+  refused <- "main\nassert\teq\t1\t2\nend\n"
+  said <- station_explain(refused)
+  stopifnot(!said$accepted, said$number == 13L, said$line == 2L, nzchar(said$cause))
+  ended <- station_explain_run(text)
+  stopifnot(ended$finished, ended$steps == 2L, identical(ended$variables$name, "a"))
+  steps <- station_trace(text)
+  stopifnot(nrow(steps) == 2L, identical(steps$line, 3:4), nrow(station_trace(refused)) == 0L)
+  plot(steps)
+  stopifnot(grepl("^<svg", station_draw(text)))
+  refuses(station_draw(refused), "there is no picture")
 }
