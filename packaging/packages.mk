@@ -22,6 +22,7 @@ check-r: library explain
 	$(MAKE) --no-print-directory -s install-shared install-dev PREFIX=$(RSTAGE)/prefix DESTDIR=
 	cd $(RSTAGE) && export NUYARDI_EXPLAIN_LIBRARY="$(abspath $(wildcard $(EXPLAIN)))" PKG_CONFIG_PATH=$(RSTAGE)/prefix/lib/pkgconfig _R_CHECK_FORCE_SUGGESTS_=false R_RD4PDF=times,hyper \
 	    && R CMD build $(CURDIR)/R/nuyardi && R CMD check nuyardi_*.tar.gz
+	R_LIBS=$(RSTAGE)/nuyardi.Rcheck Rscript hosts/R/license.R examples/worked.txt
 
 deb: all
 	mkdir -p $(PACKAGES)

@@ -7,8 +7,9 @@ import tempfile
 import unittest
 from pathlib import Path
 
-from nuyardi.answers import checked
 from nuyardi import LibraryError, LibraryMismatch, LibraryNotFound
+from nuyardi._library import SONAME
+from nuyardi.answers import checked
 
 from . import PYTHON
 
@@ -46,6 +47,13 @@ class Library(unittest.TestCase):
             empty = Path(folder) / "empty.so"
             empty.write_bytes(b"no library")
             self.assertIn("can not be loaded", said("check(b'')", "LibraryNotFound", NUYARDI_LIBRARY=str(empty)))
+
+    def test_found_by_the_loader(self):
+        """As where the library is installed."""
+        with tempfile.TemporaryDirectory() as folder:
+            (Path(folder) / SONAME).symlink_to(os.environ["NUYARDI_LIBRARY"])
+            found = said("check(b'')", "LibraryNotFound", NUYARDI_LIBRARY="", LD_LIBRARY_PATH=folder)
+            self.assertEqual(found, "no error\n")
 
     def test_another_library(self):
         self.assertIn("has no function station_check", said("check(b'')", "LibraryMismatch", NUYARDI_LIBRARY="libc.so.6"))

@@ -65,5 +65,24 @@ class Wheel(unittest.TestCase):
         self.assertEqual(said, f"{self.version} 8 {own / 'nuyardi' / '__init__.py'}\n")
 
 
+class Host(unittest.TestCase):
+    """The program of the folder hosts."""
+
+    def said(self, name):
+        words = [sys.executable, "-B", str(ROOT / "hosts" / "python" / "license.py"), str(ROOT / "examples" / name)]
+        environment = {**os.environ, "PYTHONPATH": str(PYTHON)}
+        ran = subprocess.run(words, stdout=subprocess.PIPE, stderr=subprocess.STDOUT, env=environment)
+        return ran.returncode, ran.stdout.decode()
+
+    def test_worked_script(self):
+        expected = "line 19 after 8 steps: accepted; main's `end` done\ns = Object(number=1)\na = 7\nb = 7\n"
+        self.assertEqual(self.said("worked.txt"), (0, expected))
+
+    def test_refused_script(self):
+        status, said = self.said("refused-12.script")
+        self.assertEqual(status, 1)
+        self.assertIn("refused-12.script: line 6: permission not shown (number 12)", said)
+
+
 if __name__ == "__main__":
     unittest.main()
