@@ -7,7 +7,7 @@
 # make wheel                the Python package with the shared library inside; make check-python tests it
 # make check-r              R CMD check of the package for R, where R is installed
 # make deb                  Debian packages of the command and the libraries; make check-deb installs and removes them in a test folder
-# make dist                 the source archive, with the sums of the proved library
+# make dist                 the source archive, with the sums of the proved library; make check-dist unpacks it and compares them
 #
 # STATION_LIB names a libstation.a that is already made: then nothing is proved here.
 

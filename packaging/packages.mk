@@ -4,7 +4,7 @@ PYTHON ?= python3
 PACKAGES = target/packages
 STATION_ARCHIVE = $(or $(STATION_LIB),target/staticlib/libstation.a)
 
-.PHONY: wheel check-python check-r deb check-deb dist
+.PHONY: wheel check-python check-r deb check-deb dist check-dist
 
 wheel: library explain
 	mkdir -p target
@@ -33,3 +33,6 @@ check-deb: deb
 
 dist: library
 	tools/dist "$(STATION_ARCHIVE)" $(LIBRARY) $(SHARED)
+
+check-dist: dist
+	tools/check-dist target/nuyardi-$(VERSION).tar.gz "$(STATION_ARCHIVE)"
