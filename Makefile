@@ -94,7 +94,7 @@ install-dev:
 	$(INSTALL) -D -m 644 include/station.h "$(DESTDIR)$(includedir)/station.h"
 	$(if $(wildcard $(EXPLAIN)),$(INSTALL) -m 644 include/nuyardi_explain.h "$(DESTDIR)$(includedir)/nuyardi_explain.h")
 	$(INSTALL) -d "$(DESTDIR)$(libdir)/pkgconfig" "$(DESTDIR)$(libdir)/cmake/nuyardi" "$(DESTDIR)$(cratedir)/src"
-	for name in nuyardi nuyardi-static; do \
+	for name in nuyardi nuyardi-static $(if $(wildcard $(EXPLAIN)),nuyardi-explain); do \
 	    $(fill) packaging/pkgconfig/$$name.pc.in >"$(DESTDIR)$(libdir)/pkgconfig/$$name.pc" || exit 1; done
 	for name in nuyardi-config nuyardi-config-version; do \
 	    $(fill) packaging/cmake/$$name.cmake.in >"$(DESTDIR)$(libdir)/cmake/nuyardi/$$name.cmake" || exit 1; done
@@ -108,7 +108,7 @@ uninstall:
 	rm -f "$(DESTDIR)$(bindir)/station" "$(DESTDIR)$(includedir)/station.h" "$(DESTDIR)$(mandir)/man1/station.1"
 	rm -f "$(DESTDIR)$(libdir)/libnuyardi.a" "$(DESTDIR)$(libdir)/libnuyardi.so" "$(DESTDIR)$(libdir)/libnuyardi.so.$(MAJOR)"
 	rm -f "$(DESTDIR)$(libdir)/libnuyardi.so.$(VERSION)" "$(DESTDIR)$(libdir)/libnuyardi_explain.so" "$(DESTDIR)$(includedir)/nuyardi_explain.h"
-	rm -f "$(DESTDIR)$(libdir)/pkgconfig/nuyardi.pc" "$(DESTDIR)$(libdir)/pkgconfig/nuyardi-static.pc"
+	rm -f "$(DESTDIR)$(libdir)/pkgconfig/nuyardi.pc" "$(DESTDIR)$(libdir)/pkgconfig/nuyardi-static.pc" "$(DESTDIR)$(libdir)/pkgconfig/nuyardi-explain.pc"
 	rm -f "$(DESTDIR)$(datadir)/bash-completion/completions/station" "$(DESTDIR)$(datadir)/zsh/site-functions/_station"
 	rm -f "$(DESTDIR)$(datadir)/fish/vendor_completions.d/station.fish"
 	rm -rf "$(DESTDIR)$(libdir)/cmake/nuyardi" "$(DESTDIR)$(docdir)" "$(DESTDIR)$(owndir)"

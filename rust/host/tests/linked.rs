@@ -50,6 +50,12 @@ fn shared_library(folder: &Path) -> PathBuf {
     shared
 }
 
+/// The library of explanations, which the build of the workspace's tests may have made beside this one.
+fn explanations() -> PathBuf {
+    let test = std::env::current_exe().expect("this test");
+    test.with_file_name("libnuyardi_explain.so")
+}
+
 /// The folder into which both libraries are installed, with all that a C program needs.
 fn installed(name: &str) -> Option<PathBuf> {
     asked("make", &["--version"])?;
@@ -60,6 +66,7 @@ fn installed(name: &str) -> Option<PathBuf> {
         .args(["--no-print-directory", "install-shared", "install-dev"])
         .arg(concat!("LIBRARY=", env!("OUT_DIR"), "/libnuyardi.a"))
         .arg(format!("SHARED={}", shared_library(&top).display()))
+        .arg(format!("EXPLAIN={}", explanations().display()))
         .arg(format!("PREFIX={}", prefix.display()))
         .env_remove("MAKEFLAGS")
         .env_remove("DESTDIR")
@@ -148,6 +155,16 @@ fn runs_the_worked_script(program: &Path, libraries: &str) {
     );
 }
 
+/// The same of the program that explains.
+fn explains_the_worked_script(program: &Path, libraries: &str) {
+    let mut command = Command::new(program);
+    command
+        .arg(root().join("examples/worked.txt"))
+        .env("LD_LIBRARY_PATH", libraries);
+    let said = done(command.output().expect("the program"));
+    assert!(said.contains("\"accepted\":true"), "{said}");
+}
+
 /// Does the program take the shared library?
 fn is_shared(program: &Path) -> bool {
     let mut command = Command::new("readelf");
@@ -155,32 +172,41 @@ fn is_shared(program: &Path) -> bool {
     described.contains("[libnuyardi.so.")
 }
 
+/// A program of the folder `hosts/c`, compiled by the words that pkg-config gives for a name.
+fn by_pkg_config(prefix: &Path, name: &str, source: &str) -> Option<PathBuf> {
+    let described = prefix.join(format!("lib/pkgconfig/{name}.pc"));
+    let described = described.to_str().expect("a plain name");
+    let words = asked("pkg-config", &["--cflags", "--libs", described])?;
+    let told = asked("pkg-config", &["--modversion", described])?;
+    assert_eq!(told.trim(), text("VERSION").trim());
+    let program = prefix.join(name);
+    let mut command = Command::new("gcc");
+    command
+        .args(["-std=c11", "-Wall", "-Wextra", "-Werror", "-o"])
+        .arg(&program)
+        .arg(prefix.join("share/nuyardi/hosts/c").join(source))
+        .args(words.split_whitespace());
+    done(command.output().expect("gcc"));
+    Some(program)
+}
+
 #[test]
 fn linked_by_pkg_config() {
     let Some(prefix) = installed("pkg-config") else {
         return;
     };
-    let version = text("VERSION");
+    let libraries = prefix.join("lib");
+    let libraries = libraries.to_str().expect("a plain name");
     for (name, shared) in [("nuyardi", true), ("nuyardi-static", false)] {
-        let described = prefix.join(format!("lib/pkgconfig/{name}.pc"));
-        let described = described.to_str().expect("a plain name");
-        let Some(words) = asked("pkg-config", &["--cflags", "--libs", described]) else {
+        let Some(program) = by_pkg_config(&prefix, name, "license.c") else {
             return;
         };
-        let told = asked("pkg-config", &["--modversion", described]);
-        assert_eq!(told.as_deref().map(str::trim), Some(version.trim()));
-        let program = prefix.join(name);
-        let mut command = Command::new("gcc");
-        command
-            .args(["-std=c11", "-Wall", "-Wextra", "-Werror", "-o"])
-            .arg(&program)
-            .arg(prefix.join("share/nuyardi/hosts/c/license.c"))
-            .args(words.split_whitespace());
-        done(command.output().expect("gcc"));
         assert_eq!(is_shared(&program), shared, "{name}");
-        let libraries = prefix.join("lib");
-        let libraries = if shared { libraries.to_str() } else { Some("") };
-        runs_the_worked_script(&program, libraries.expect("a plain name"));
+        runs_the_worked_script(&program, if shared { libraries } else { "" });
+    }
+    if explanations().exists() {
+        let program = by_pkg_config(&prefix, "nuyardi-explain", "explain.c");
+        explains_the_worked_script(&program.expect("pkg-config"), libraries);
     }
 }
 
@@ -207,6 +233,10 @@ fn linked_by_cmake() {
         let program = prefix.join("build").join(name);
         assert_eq!(is_shared(&program), shared, "{name}");
         runs_the_worked_script(&program, "");
+    }
+
+    if explanations().exists() {
+        explains_the_worked_script(&prefix.join("build/explain"), "");
     }
 
     let version = text("VERSION");
