@@ -17,35 +17,38 @@ SCRIPTS = ["worked.txt", "sum.script", "refused-12.script", "stopped-27.script",
 
 
 def steps_for(seconds: float) -> int:
-    """About so many steps of a loop as take so long."""
+    """About so many steps of a loop as take a processor so long."""
     steps = 10000
     while True:
-        began = time.perf_counter()
+        began = time.thread_time()
         nuyardi.run(FOREVER, steps)
-        took = time.perf_counter() - began
+        took = time.thread_time() - began
         if took > 0.05:
             return min(int(steps * seconds / took), 2**32 - 1)
         steps *= 4
 
 
 def calls_beside(long_call) -> int:
-    """How many short calls another thread gets done while a long one lasts."""
-    begins, ended = threading.Event(), []
+    """How many short calls another thread gets done in the middle half of the time that a long one takes."""
+    begins, lasted = threading.Event(), []
 
     def lasts():
         begins.set()
+        began = time.perf_counter()
         long_call()
-        ended.append(True)
+        lasted.append((began, time.perf_counter()))
 
     thread = threading.Thread(target=lasts)
     thread.start()
     begins.wait()
-    count = 0
-    while not ended:
+    times = []
+    while not lasted:
         nuyardi.check(b"main\nend\n")
-        count += 1
+        times.append(time.perf_counter())
     thread.join()
-    return count
+    ((began, ended),) = lasted
+    quarter = (ended - began) / 4
+    return sum(began + quarter < at < ended - quarter for at in times)
 
 
 class Threads(unittest.TestCase):
