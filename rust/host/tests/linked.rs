@@ -210,52 +210,53 @@ fn linked_by_pkg_config() {
     }
 }
 
-/// `cmake` with these words.
-fn cmake(words: &[&str]) -> Output {
-    Command::new("cmake").args(words).output().expect("cmake")
+/// `cmake` on the sources of a folder, with what is installed in another.
+fn configured(source: &Path, build: &Path, prefix: &Path) -> Output {
+    let mut command = Command::new("cmake");
+    command.arg("-S").arg(source).arg("-B").arg(build);
+    command.arg(format!("-DCMAKE_PREFIX_PATH={}", prefix.display()));
+    command.output().expect("cmake")
+}
+
+/// A folder with what is installed, where there is a `cmake`.
+fn installed_for_cmake(name: &str) -> Option<PathBuf> {
+    asked("cmake", &["--version"])?;
+    installed(name)
 }
 
 #[test]
 fn linked_by_cmake() {
-    let Some(prefix) = installed("cmake") else {
+    let Some(prefix) = installed_for_cmake("cmake") else {
         return;
     };
-    if asked("cmake", &["--version"]).is_none() {
-        return;
-    }
-    let place = |path: PathBuf| path.to_str().expect("a plain name").to_string();
-    let source = place(prefix.join("share/nuyardi/hosts/c"));
-    let build = place(prefix.join("build"));
-    let found = format!("-DCMAKE_PREFIX_PATH={}", prefix.display());
-    done(cmake(&["-S", &source, "-B", &build, &found]));
-    done(cmake(&["--build", &build]));
+    let build = prefix.join("build");
+    let source = prefix.join("share/nuyardi/hosts/c");
+    done(configured(&source, &build, &prefix));
+    let mut command = Command::new("cmake");
+    done(command.arg("--build").arg(&build).output().expect("cmake"));
     for (name, shared) in [("license", true), ("license_static", false)] {
-        let program = prefix.join("build").join(name);
+        let program = build.join(name);
         assert_eq!(is_shared(&program), shared, "{name}");
         runs_the_worked_script(&program, "");
     }
-
     if explanations().exists() {
-        explains_the_worked_script(&prefix.join("build/explain"), "");
+        explains_the_worked_script(&build.join("explain"), "");
     }
+}
 
+/// Older versions with the same first number are served, newer ones are not.
+#[test]
+fn versions_for_cmake() {
+    let Some(prefix) = installed_for_cmake("cmake-versions") else {
+        return;
+    };
     let version = text("VERSION");
-    let version = version.trim();
-    for (asked_for, serves) in [
-        (format!("{version} EXACT"), true),
-        ("0".to_string(), true),
-        ("99".to_string(), false),
-    ] {
-        let own = folder("cmake-version");
+    let exact = format!("{} EXACT", version.trim());
+    for (asked_for, serves) in [(exact.as_str(), true), ("0", true), ("99", false)] {
+        let own = folder("cmake-asks");
         let page = format!("cmake_minimum_required(VERSION 3.13)\nproject(asks C)\nfind_package(nuyardi {asked_for} REQUIRED)\n");
         std::fs::write(own.join("CMakeLists.txt"), page).expect("a file");
-        let output = cmake(&[
-            "-S",
-            &place(own.clone()),
-            "-B",
-            &place(own.join("b")),
-            &found,
-        ]);
+        let output = configured(&own, &own.join("build"), &prefix);
         assert_eq!(output.status.success(), serves, "{asked_for}");
     }
 }
