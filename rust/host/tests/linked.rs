@@ -252,7 +252,8 @@ fn versions_for_cmake() {
     };
     let version = text("VERSION");
     let exact = format!("{} EXACT", version.trim());
-    for (asked_for, serves) in [(exact.as_str(), true), ("0", true), ("99", false)] {
+    let major = version.split('.').next().expect("a number");
+    for (asked_for, serves) in [(exact.as_str(), true), (major, true), ("99", false)] {
         let own = folder("cmake-asks");
         let page = format!("cmake_minimum_required(VERSION 3.13)\nproject(asks C)\nfind_package(nuyardi {asked_for} REQUIRED)\n");
         std::fs::write(own.join("CMakeLists.txt"), page).expect("a file");
