@@ -1,4 +1,5 @@
-/* Catalogue scripts: check, run, trial and bound, the functions of libnuyardi.a.
+/* Catalogue scripts: check, run, trial and bound, the functions of libnuyardi.a and
+ * libnuyardi.so.
  *
  * Each returns number * 65536 + line (STATION_NUMBER, STATION_LINE). For every
  * content of the text and of the areas, number, line and every byte of the areas
@@ -72,10 +73,10 @@ enum station_number {
     STATION_NOT_SHOWN = 13,         /* `eq` or `ne` not shown */
     STATION_STATE_FULL = 14,        /* checker's state full */
     STATION_UNBOUNDED = 15,         /* `loop`, or `call` that can lead back to its own method */
-    STATION_BOUND_PASSED = 16,      /* bound above STATION_BOUND */
+    STATION_BOUND_PASSED = 16,      /* bound above STATION_BOUND steps */
     STATION_OUT_OF_STEPS = 21,      /* allowed steps taken */
-    STATION_HEAP_FULL = 22,         /* more than STATION_OBJECTS or STATION_FIELDS */
-    STATION_FRAMES_FULL = 23,       /* more than STATION_FRAMES */
+    STATION_HEAP_FULL = 22,         /* more than STATION_OBJECTS objects or STATION_FIELDS fields */
+    STATION_FRAMES_FULL = 23,       /* more than STATION_FRAMES frames */
     STATION_PERMISSION_MISSING = 24, /* permission missing */
     STATION_NULL_FOLLOWED = 25,     /* null followed */
     STATION_FORMULA_FALSE = 26,     /* formula false */
