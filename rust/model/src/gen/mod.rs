@@ -12,6 +12,7 @@ mod render;
 pub mod rng;
 pub mod rounds;
 pub mod routes;
+mod shares;
 mod skeleton;
 mod writer;
 

@@ -2,6 +2,7 @@
 
 use super::render;
 use super::rng::Rng;
+use super::shares::{asked, given_back, permissions, Asked};
 use super::skeleton::{skeleton, Size};
 use super::writer::{framed, Style, Writer};
 use crate::checker::{alone, State};
@@ -92,12 +93,15 @@ fn contract<'a>(
     program: &Program<'a>,
     block: &Block<'a>,
     vars: &[Var],
-    held: &[Path<'a>],
+    held: &[(Asked, Path<'a>)],
     facts: usize,
 ) -> Formula<'a> {
-    let mut formula: Formula = held.iter().map(|&path| Atom::Acc(path)).collect();
-    formula.truncate(limits::ATOMS);
-    let held: Vec<Path> = held.iter().copied().take(formula.len()).collect();
+    let mut formula = permissions(rng, held);
+    let held = formula.iter().filter_map(|atom| match atom {
+        Atom::Permission(_, path) => Some(*path),
+        _ => None,
+    });
+    let held: Vec<Path> = held.collect();
     for _ in 0..rng.within(0, facts) {
         if formula.len() < limits::ATOMS {
             formula.extend(contract_fact(rng, program, block, vars, &held));
@@ -121,24 +125,29 @@ fn weakened<'a>(rng: &mut Rng, formula: &[Atom<'a>]) -> Formula<'a> {
 }
 
 /// Gives a method a contract that an empty body, once finished, meets.
-fn give_contract(rng: &mut Rng, program: &mut Program, index: usize) {
+fn give_contract(rng: &mut Rng, program: &mut Program, index: usize, halves: usize) {
     let block = &program.blocks[index];
     let mut held = paths(program, block, THIS);
     held.extend(paths(program, block, PARAM));
     let share = rng.pick(&[20, 50, 80]);
     held.retain(|_| rng.chance(share));
     held.truncate(6);
+    let held = held.into_iter().map(|path| (asked(rng, halves), path));
+    let mut held: Vec<(Asked, Path)> = held.collect();
     let mut requires = contract(rng, program, block, &[THIS, PARAM], &held, 2);
     if requires.len() < limits::ATOMS && rng.chance(50) {
         requires.insert(0, Atom::Ne(Expr::Var(THIS), Expr::Null));
     }
-    let mut back = held;
-    back.retain(|_| rng.chance(85));
+    held.retain(|_| rng.chance(85));
+    for (asked, _) in &mut held {
+        *asked = given_back(rng, halves, asked);
+    }
     if rng.chance(40) {
-        back.extend(paths(program, block, RESULT));
+        let made = paths(program, block, RESULT).into_iter();
+        held.extend(made.map(|path| (asked(rng, halves), path)));
     }
     let vars = [THIS, PARAM, RESULT];
-    let ensures = contract(rng, program, block, &vars, &back, 3);
+    let ensures = contract(rng, program, block, &vars, &held, 3);
     program.blocks[index].requires = requires;
     program.blocks[index].ensures = ensures;
     while !finishes(rng, program, index) {
@@ -155,6 +164,7 @@ fn start<'a>(block: &Block<'a>) -> State<'a> {
 const PLAIN: Style = Style {
     recursive: false,
     loops: false,
+    halves: 0,
     wild: 0,
     miss: None,
 };
@@ -243,7 +253,7 @@ pub fn lines(rng: &mut Rng, style: Style) -> Vec<String> {
         let text = joined(&declarations);
         let mut program = read(&text).expect("declarations that the reader takes");
         for index in 0..program.blocks.len() - 1 {
-            give_contract(rng, &mut program, index);
+            give_contract(rng, &mut program, index, style.halves);
         }
         let mut style = style;
         let bodies: Option<Vec<_>> = (0..program.blocks.len())
@@ -257,11 +267,15 @@ pub fn lines(rng: &mut Rng, style: Style) -> Vec<String> {
     }
 }
 
+/// Of a hundred permissions so many by halves: programs have none, some or many.
+const HALVES: [usize; 3] = [0, 30, 60];
+
 /// A program that check accepts.
 pub fn accepted(rng: &mut Rng) -> Vec<u8> {
     let style = Style {
         recursive: rng.chance(35),
         loops: rng.chance(60),
+        halves: rng.pick(&HALVES),
         ..PLAIN
     };
     joined(&lines(rng, style))
@@ -272,6 +286,7 @@ pub fn wild(rng: &mut Rng) -> Vec<u8> {
     let style = Style {
         recursive: rng.chance(35),
         loops: rng.chance(60),
+        halves: rng.pick(&HALVES),
         wild: rng.pick(&[5, 20, 60]),
         miss: None,
     };
@@ -283,6 +298,7 @@ pub fn with_miss(rng: &mut Rng, number: u32) -> Vec<u8> {
     let style = Style {
         recursive: rng.chance(20),
         loops: rng.chance(60),
+        halves: rng.pick(&HALVES),
         wild: 0,
         miss: Some(number),
     };
