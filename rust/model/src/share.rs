@@ -2,7 +2,7 @@
 //! halves with each frame, over all frames at most 2 in sum, and `acc` is both."
 
 /// How much of a location a permission is.
-#[derive(Clone, Copy, Debug, PartialEq, Eq)]
+#[derive(Clone, Copy, Debug, PartialEq, Eq, PartialOrd, Ord)]
 pub enum Share {
     /// One half.
     Read,

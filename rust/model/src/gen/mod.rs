@@ -3,10 +3,12 @@
 //! arbitrary bytes, and mutations of all of these.
 
 mod establish;
+mod forms;
 pub mod misses;
 pub mod mutate;
 mod nested;
 pub mod program;
+pub mod readers;
 pub mod recipes;
 mod render;
 pub mod rng;

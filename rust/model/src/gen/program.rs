@@ -138,6 +138,11 @@ fn give_contract(rng: &mut Rng, program: &mut Program, index: usize, halves: usi
     if requires.len() < limits::ATOMS && rng.chance(50) {
         requires.insert(0, Atom::Ne(Expr::Var(THIS), Expr::Null));
     }
+    let equal = Atom::Eq(Expr::Var(THIS), Expr::Var(PARAM));
+    let kinds = [THIS, PARAM].map(|var| render::type_of(block, var));
+    if kinds[0] == kinds[1] && requires.len() < limits::ATOMS && rng.chance(halves / 3) {
+        requires.insert(rng.below(requires.len() + 1), equal);
+    }
     held.retain(|_| rng.chance(85));
     for (asked, _) in &mut held {
         *asked = given_back(rng, halves, asked);

@@ -111,6 +111,9 @@ fn one_loop(rng: &mut Rng, depth: usize, step: i32, lines: &mut Vec<String>) {
         ];
         line.push_str(rng.pick(&atoms));
     }
+    if rng.chance(20) {
+        line = line.replace("acc s n", rng.pick(&["read s n", "read s n read s n"]));
+    }
     push(lines, &line);
     for _ in 0..rng.below(4) {
         inside(rng, depth, step, lines);
@@ -139,8 +142,8 @@ fn inside(rng: &mut Rng, depth: usize, step: i32, lines: &mut Vec<String>) {
         4 => "let t s",
         5 => "set s prev t",
         6 => "let t s.prev",
-        7 => "assert acc s n",
-        8 => "release acc s n",
+        7 => rng.pick(&["assert acc s n", "assert read s n"]),
+        8 => rng.pick(&["release acc s n", "release read s n"]),
         9 => "if eq i 2\nlet k 2\nelse\njoin acc s n",
         10 => "assert eq s.n i",
         11 => rng.pick(&["sub k k one", "add k k k"]),
