@@ -10,7 +10,8 @@ const IN_WORD: usize = 32;
 const WORDS: usize = limits::HEAP_FIELDS / IN_WORD;
 
 /// W8: "a location now has 0, 1 or 2 halves with each frame, over all frames at
-/// most 2 in sum". So the halves of one and of another can be added word by word.
+/// most 2 in sum": no sum of a caller's halves and those that come back to it
+/// passes its two bits.
 #[derive(Clone, Copy, Debug, Default, PartialEq, Eq)]
 pub struct Locations([u64; WORDS]);
 

@@ -295,6 +295,14 @@ impl<'p, 'a> Machine<'p, 'a> {
         Ok(Step::On)
     }
 
+    /// The frames that hold a half of the location or both, from main's 0, with
+    /// how many halves each.
+    pub fn holders(&self, location: Location) -> impl Iterator<Item = (usize, u8)> + '_ {
+        let halves = move |frame: &Frame| frame.held.halves(location);
+        let frames = self.frames.iter().map(halves).enumerate();
+        frames.filter(|&(_, halves)| halves > 0)
+    }
+
     /// Main's variables in order of `var` lines, then zeros.
     pub fn values(&self) -> [i32; limits::LOCALS] {
         let values = &self.frames[0].values;

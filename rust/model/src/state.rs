@@ -117,7 +117,7 @@ impl<'a> State<'a> {
         })
     }
 
-    /// The first of them of which one half is listed, or both.
+    /// The first of them with this share.
     pub fn first_listed(&self, share: Share, path: Path<'a>) -> Option<usize> {
         self.listed(path)
             .find(|&place| self.permissions[place].share == share)
@@ -231,8 +231,11 @@ impl<'a> State<'a> {
     /// W8: "A `read` added, atom by atom, where a `read` of an equal path is
     /// listed turns the first such into `acc`."
     fn add_share(&mut self, share: Share, path: Path<'a>) -> Rule<()> {
-        let half = self.first_listed(Share::Read, path);
-        match half.filter(|_| share == Share::Read) {
+        let half = match share {
+            Share::Read => self.first_listed(Share::Read, path),
+            Share::Acc => None,
+        };
+        match half {
             Some(place) => {
                 self.permissions[place].share = Share::Acc;
                 Ok(())

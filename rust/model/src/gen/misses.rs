@@ -1,10 +1,10 @@
 //! Near misses: a text that is right but for one thing, for each number.
 
 use super::forms::{after_return, loop_form, number_form, read_form};
+use super::full::{full_of_halves, full_state};
 use super::mutate::{exchange, fields_of, mutate_line, text_from};
 use super::program::{accepted, joined, with_miss};
-use super::readers::{full_of_halves, missed};
-use super::recipes::full_state;
+use super::readers::missed;
 use super::rng::Rng;
 use super::routes::passed;
 use crate::check;

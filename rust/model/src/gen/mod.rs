@@ -2,8 +2,10 @@
 //! misses for every number, runs that stop with every number, full states,
 //! arbitrary bytes, and mutations of all of these.
 
+mod contracts;
 mod establish;
 mod forms;
+mod full;
 pub mod misses;
 pub mod mutate;
 mod nested;

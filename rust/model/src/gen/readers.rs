@@ -1,7 +1,8 @@
 //! W8: programs with halves by a plan. Two readers of one card, halves that a
-//! call takes and its ensures gives back or keeps, a half left of a whole, lines
-//! that lack a half, and full states.
+//! call takes and its ensures gives back or keeps, a half left of a whole, and
+//! lines that lack a half.
 
+use super::full::full_of_halves;
 use super::program::joined;
 use super::recipes::{grow, push};
 use super::rng::Rng;
@@ -82,7 +83,7 @@ fn line(rng: &mut Rng) -> String {
     let (a, b) = rng.pick(&[("a", "b"), ("b", "c"), ("c", "a")]);
     let held = rng.pick(&["acc X n", "read X n", "read X n", "read X n read X n"]);
     let held = held.replace('X', x);
-    match rng.below(24) {
+    match rng.below(25) {
         0 => format!("new {x} S"),
         1 => format!("let {x} {y}"),
         2 => format!("call {x} {y} lend {a}"),
@@ -97,14 +98,15 @@ fn line(rng: &mut Rng) -> String {
         12 => format!("assert {held}"),
         13 => format!("assert read {x} n {held}"),
         14 => format!("assert read {x} n read {y} n read {z} n"),
-        15 => format!("set {x} n {a}"),
-        16 => format!("let {a} {x}.n"),
-        17 => format!("assert eq {x}.n {a}"),
-        18 => format!("assert ne {x} {y}"),
-        19 => format!("if eq {x} {y}\nelse\njoin {held}"),
-        20 => format!("if eq {x} {y}\nassert read {x} n read {y} n\nrelease {held}\nelse\njoin"),
-        21 => format!("if eq {a} {b}\nelse\njoin read {x} n read {y} n"),
-        22 => format!("loop ne {x}.n {a} {held}\nlet {a} {x}.n\nagain"),
+        15 => format!("assert read {x} n acc {y} n"),
+        16 => format!("set {x} n {a}"),
+        17 => format!("let {a} {x}.n"),
+        18 => format!("assert eq {x}.n {a}"),
+        19 => format!("assert ne {x} {y}"),
+        20 => format!("if eq {x} {y}\nelse\njoin {held}"),
+        21 => format!("if eq {x} {y}\nassert read {x} n read {y} n\nrelease {held}\nelse\njoin"),
+        22 => format!("if eq {a} {b}\nelse\njoin read {x} n read {y} n"),
+        23 => format!("loop ne {x}.n {a} {held}\nlet {a} {x}.n\nagain"),
         _ => format!("set {x} p {y}\nrelease read {x} p"),
     }
 }
@@ -143,38 +145,6 @@ pub fn missed(rng: &mut Rng, number: u32) -> Vec<u8> {
         _ => rng.pick(&TOO_LITTLE),
     };
     push(&mut lines, last);
-    push(&mut lines, "end");
-    joined(&lines)
-}
-
-/// States of 64 permissions, or nearly so, in which halves are taken and joined.
-pub fn full_of_halves(rng: &mut Rng) -> Vec<u8> {
-    let mut lines = Vec::new();
-    push(&mut lines, "class C");
-    (0..8).for_each(|at| push(&mut lines, &format!("field int f{at}")));
-    let whole: String = (0..8).map(|at| format!(" acc result f{at}")).collect();
-    let half = rng.pick(&["read result f0", "read result f0 read result f0"]);
-    let source = "class M\nmethod C all int k\nrequires\nensures WHOLE\nvar C c\nnew c C\nreturn c\n\
-                  end\nmethod C some int k\nrequires\nensures HALF\nvar C c\nnew c C\nreturn c\nend\n\
-                  method int look C w\nrequires read w f0 read w f7\nensures read w f0 read w f7\n\
-                  end\nmain\nvar M m\nvar int a";
-    push(
-        &mut lines,
-        &source.replace(" WHOLE", &whole).replace("HALF", half),
-    );
-    (0..10).for_each(|at| push(&mut lines, &format!("var C c{at}")));
-    push(&mut lines, "new m M");
-    (0..8).for_each(|at| push(&mut lines, &format!("call c{at} m all a")));
-    for _ in 0..rng.within(1, 5) {
-        let card = rng.below(8);
-        let more = [
-            format!("call a m look c{card}"),
-            format!("release read c{card} f{}", rng.below(8)),
-            format!("release acc c{card} f{}", rng.below(8)),
-            format!("call c{} m some a", 8 + rng.below(2)),
-        ];
-        push(&mut lines, &rng.pick(&more));
-    }
     push(&mut lines, "end");
     joined(&lines)
 }

@@ -1,7 +1,8 @@
-//! Programs with a plan: full states of the checker, full heaps, full frames,
-//! runs of many steps; those of loops, of routes of calls and of halves stand by
-//! themselves.
+//! Programs with a plan: full heaps, full frames, runs of many steps, paths that
+//! are dropped; those of full states, of loops, of routes of calls and of halves
+//! stand by themselves.
 
+use super::full::full_state;
 use super::program::joined;
 use super::readers::readers;
 use super::rng::Rng;
@@ -27,80 +28,6 @@ pub fn recipe(rng: &mut Rng) -> Vec<u8> {
         11 | 12 => readers(rng),
         _ => routes(rng),
     }
-}
-
-/// States at 64 permissions or 64 facts, or one past it, or not quite there.
-pub fn full_state(rng: &mut Rng) -> Vec<u8> {
-    let mut lines = Vec::new();
-    givers(rng, &mut lines);
-    push(&mut lines, "main\nvar M m\nvar int a\nvar int b");
-    (0..9).for_each(|at| push(&mut lines, &format!("var C c{at}")));
-    push(&mut lines, "new m M\ncall c0 m all b");
-    for at in 1..rng.within(5, 12) {
-        let line = match rng.below(7) {
-            0 => "call a m facts b".to_string(),
-            1 => "call a m look c0".to_string(),
-            2 => format!("new c{} C", at % 9),
-            3 => format!("let c{} c{}", rng.below(9), rng.below(9)),
-            _ => format!("call c{} m all b", at % 9),
-        };
-        push(&mut lines, &line);
-    }
-    for _ in 0..rng.within(0, 8) {
-        let line = match rng.below(7) {
-            0 => format!("let a {}", rng.below(3)),
-            1 => "if eq a b\nelse\njoin".to_string(),
-            2 => format!("set c{} f0 b", rng.below(9)),
-            3 => format!("release acc c{} f0", rng.below(9)),
-            4 => "call a m look c0".to_string(),
-            _ => "call a m facts b".to_string(),
-        };
-        push(&mut lines, &line);
-    }
-    push(&mut lines, "end");
-    joined(&lines)
-}
-
-/// A class with methods that give permissions, whole or by halves, and facts, and
-/// one that gives back the half that it takes.
-fn givers(rng: &mut Rng, lines: &mut Vec<String>) {
-    let fields = rng.within(1, 8);
-    let facts = rng.within(0, 8);
-    push(lines, "class C\nfield int f0");
-    for at in 1..8 {
-        let kind = rng.pick(&["int", "C", "M"]);
-        push(lines, &format!("field {kind} f{at}"));
-    }
-    let whole = if fields > 4 {
-        " acc result F"
-    } else {
-        rng.pick(&[" acc result F", " read result F read result F"])
-    };
-    let held: String = (0..fields)
-        .map(|at| whole.replace('F', &format!("f{at}")))
-        .collect();
-    push(lines, "class M\nmethod C all int w\nrequires");
-    push(
-        lines,
-        &format!("ensures{held}\nvar C c\nnew c C\nreturn c\nend"),
-    );
-    push(
-        lines,
-        "method int look C w\nrequires read w f0\nensures read w f0\nend",
-    );
-    let known = [
-        " eq 1 1",
-        " eq w w",
-        " ne 1 2",
-        " ne 2 1",
-        " ne 7 0",
-        " eq null null",
-    ];
-    let eq: String = (0..facts).map(|_| rng.pick(&known)).collect();
-    push(
-        lines,
-        &format!("method int facts int w\nrequires\nensures{eq}\nend"),
-    );
 }
 
 /// Methods that each call an earlier one some times: many steps, many objects.

@@ -210,10 +210,9 @@ fn summed(program: &Program, steps: u32) -> (u8, bool) {
         );
         let step = machine.step();
         for place in (0..machine.heap.len()).filter(|_| moves) {
-            let frames = machine.frames.iter();
-            let held: Vec<u8> = frames.map(|frame| frame.held.halves(place)).collect();
-            most = most.max(held.iter().sum());
-            shared |= held.iter().filter(|&&halves| halves == 1).count() == 2;
+            let held: Vec<(usize, u8)> = machine.holders(place).collect();
+            most = most.max(held.iter().map(|(_, halves)| halves).sum());
+            shared |= held.len() == 2;
         }
         if step != Ok(Step::On) {
             break;
