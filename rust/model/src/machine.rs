@@ -3,8 +3,8 @@
 use crate::formula::{Outcome, Reader};
 use crate::limits;
 use crate::names::{
-    Action, Atom, Block, Call, Compute, Program, Statement, Var, FIRST_LOCAL, PARAM, RESULT, THIS,
-    VARS,
+    Action, Atom, Block, Call, Compute, Path, Program, Statement, Var, FIRST_LOCAL, PARAM, RESULT,
+    THIS, VARS,
 };
 use crate::number;
 use crate::text::Share;
@@ -156,13 +156,7 @@ impl<'p, 'a> Machine<'p, 'a> {
     /// A step inside one frame; gives the place of the next statement.
     fn simple(&mut self, here: usize, action: &Action<'a>) -> Outcome<'a, usize> {
         match action {
-            Action::Set(path, y) => {
-                // W8: "Reading needs one half, `set` both."
-                let location = self
-                    .reader()
-                    .location(*path, Share::Acc, &Locations::NONE)?;
-                self.heap[location] = self.frame().values[*y];
-            }
+            Action::Set(path, y) => self.set(*path, *y)?,
             Action::Let(x, expr) => {
                 let value = self.reader().value(*expr)?;
                 self.assign(*x, value);
@@ -200,6 +194,14 @@ impl<'p, 'a> Machine<'p, 'a> {
             }
         }
         Ok(here + 1)
+    }
+
+    /// "`set` first tests `acc x f`." W8: "Reading needs one half, `set` both."
+    fn set(&mut self, path: Path<'a>, y: Var) -> Outcome<'a, ()> {
+        let reader = self.reader();
+        let location = reader.location(path, Share::Acc, &Locations::NONE)?;
+        self.heap[location] = self.frame().values[y];
+        Ok(())
     }
 
     fn assign(&mut self, x: Var, value: i32) {

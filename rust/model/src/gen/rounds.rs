@@ -81,9 +81,8 @@ fn walk(rng: &mut Rng, lines: &mut Vec<String>) {
     push(lines, rng.pick(&["return k\nend", "return i\nend", "end"]));
 }
 
-/// A loop with its body; a body may have a loop of its own.
-fn one_loop(rng: &mut Rng, depth: usize, step: i32, lines: &mut Vec<String>) {
-    let counter = if depth == 0 { "i" } else { "r" };
+/// The line of a `loop`, its invariant with whole permissions or halves.
+fn loop_line(rng: &mut Rng, counter: &str, step: i32) -> String {
     let condition = rng.pick(&[
         "ne X k",
         "ne X k",
@@ -111,9 +110,16 @@ fn one_loop(rng: &mut Rng, depth: usize, step: i32, lines: &mut Vec<String>) {
         ];
         line.push_str(rng.pick(&atoms));
     }
-    if rng.chance(20) {
-        line = line.replace("acc s n", rng.pick(&["read s n", "read s n read s n"]));
+    match rng.chance(20) {
+        true => line.replace("acc s n", rng.pick(&["read s n", "read s n read s n"])),
+        false => line,
     }
+}
+
+/// A loop with its body; a body may have a loop of its own.
+fn one_loop(rng: &mut Rng, depth: usize, step: i32, lines: &mut Vec<String>) {
+    let counter = if depth == 0 { "i" } else { "r" };
+    let line = loop_line(rng, counter, step);
     push(lines, &line);
     for _ in 0..rng.below(4) {
         inside(rng, depth, step, lines);

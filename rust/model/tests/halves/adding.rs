@@ -1,67 +1,71 @@
 //! W8.4 and W8.8: where a `read` that is added joins another, and where not.
 
 use crate::common::{checks, main_with, script};
-use crate::{listed, listed_before, mains, method, methods, Listed};
+use crate::{listed, listed_before, mains, method, methods};
 use model::check;
-use model::names::{FIRST_LOCAL, PARAM, THIS};
+use model::names::FIRST_LOCAL;
 use model::text::Share::{Acc, Read};
 
-/// What a method with this requires starts from.
-fn started(requires: &str) -> Vec<Listed> {
-    listed_before(&method(requires, "", "assert"), 9)
+/// What a method with this requires starts from, as atoms.
+fn started(requires: &str) -> String {
+    let listed = listed_before(&method(requires, "", "assert"), 9);
+    let names = ["this", "w"];
+    let atoms: Vec<String> = listed
+        .iter()
+        .map(|(share, var, field)| format!("{} {} {field}", share.word(), names[*var]))
+        .collect();
+    atoms.join(" ")
 }
 
 #[test]
 fn a_read_joins_the_first_read_of_an_equal_path() {
-    let this = |share| listed(share, THIS, "n");
-    let w = |share| listed(share, PARAM, "n");
+    let times = |count: usize| vec!["read this n"; count].join(" ");
     let cases = [
-        ("read this n", vec![this(Read)]),
-        ("read this n read this n", vec![this(Acc)]),
+        ("read this n", "read this n"),
+        (&times(2), "acc this n"),
         // Atom by atom.
-        (
-            "read this n read this n read this n",
-            vec![this(Acc), this(Read)],
-        ),
-        (
-            "read this n read this n read this n read this n",
-            vec![this(Acc), this(Acc)],
-        ),
+        (&times(3), "acc this n read this n"),
+        (&times(4), "acc this n acc this n"),
         // Under the name and in the place of the first.
-        ("read this n eq this w read w n", vec![this(Acc)]),
-        ("read this n acc w n read this n", vec![this(Acc), w(Acc)]),
+        ("read this n eq this w read w n", "acc this n"),
+        ("read this n acc w n read this n", "acc this n acc w n"),
         (
             "read w n read this n eq this w read this n",
-            vec![w(Acc), this(Read)],
+            "acc w n read this n",
         ),
         // An `acc` joins nothing, and a `read` does not join it.
-        ("acc this n read this n", vec![this(Acc), this(Read)]),
-        ("read this n acc this n", vec![this(Read), this(Acc)]),
+        ("acc this n read this n", "acc this n read this n"),
+        ("read this n acc this n", "read this n acc this n"),
         (
             "read this n acc this n read this n",
-            vec![this(Acc), this(Acc)],
+            "acc this n acc this n",
         ),
+    ];
+    for (requires, expected) in cases {
+        assert_eq!(started(requires), expected, "{requires}");
+    }
+}
+
+#[test]
+fn an_equal_path_is_one_of_an_equal_variable() {
+    for (requires, expected) in [
         // Equal only later, another field, equal values.
-        ("read this n read w n eq this w", vec![this(Read), w(Read)]),
-        (
-            "read this n read this prev",
-            vec![this(Read), listed(Read, THIS, "prev")],
-        ),
+        ("read this n read w n eq this w", "read this n read w n"),
+        ("read this n read this prev", "read this n read this prev"),
         (
             "read this prev eq this.prev w read w prev",
-            vec![listed(Read, THIS, "prev"), listed(Read, PARAM, "prev")],
+            "read this prev read w prev",
         ),
         (
             "read this n eq this.n 3 read w n eq w.n 3",
-            vec![this(Read), w(Read)],
+            "read this n read w n",
         ),
         // Equal through a path.
         (
             "acc w prev eq w.prev this eq w.prev w read this n read w n",
-            vec![listed(Acc, PARAM, "prev"), this(Acc)],
+            "acc w prev acc this n",
         ),
-    ];
-    for (requires, expected) in cases {
+    ] {
         assert_eq!(started(requires), expected, "{requires}");
     }
 }
@@ -94,13 +98,13 @@ fn what_is_joined_is_a_whole_one() {
         ),
     ]);
     // A renaming: two entries of one name, and both are halves.
-    let source = method(
-        "read this n read w n",
-        "",
-        "let x w\nif eq x this\nlet x null\nassert\nelse\njoin",
+    let source = main_with(
+        "new s S\nnew t S\nrelease read s n read t n acc s prev acc t prev\nif eq s t\nlet t null\n\
+         assert read s n read s n\nassert acc s n\nelse\njoin",
     );
-    let halves = [listed(Read, THIS, "n"), listed(Read, PARAM, "n")];
-    assert_eq!(listed_before(&source, 12), halves);
+    let half = listed(Read, FIRST_LOCAL, "n");
+    assert_eq!(listed_before(&source, 14), [half.clone(), half]);
+    checks(&[(&source, 12, 15)]);
 }
 
 /// "This holds wherever a formula is added".
@@ -139,9 +143,9 @@ fn ensures_join_and_loop_join_too() {
     ]);
 }
 
-/// A half that another method gives is added beside what is there.
+/// The last half that is taken and given back is a half again.
 #[test]
-fn two_calls_that_give_a_half() {
+fn a_call_that_gives_a_half_back() {
     let source = "class S\nfield int n\nmethod int half S w\nrequires read w n\n\
                   ensures read w n ne w null\nend\nmain\nvar S s\nvar S t\nvar int a\nnew s S\nnew t S\n\
                   release read t n\ncall a s half t\nassert read t n ne t null\nassert acc t n\nend";

@@ -99,22 +99,14 @@ fn a_record_shows_where_a_half_went() {
     let lines = text::lines(&bytes).expect("lines");
     let program = read(&bytes).expect("a program");
     let record = Record::of(&lines, &program).expect("number 10 does not come up");
-    let share = |state: &Option<State>| {
-        let state = state.as_ref().expect("the check comes there");
+    let before = record.seen.iter().filter_map(|seen| seen.before.as_ref());
+    let shares = before.map(|state| {
         let place = state.listed(path(FIRST_LOCAL)).next();
-        state.permissions[place.expect("it is listed")].share
-    };
-    let lost = program
-        .statements
-        .iter()
-        .zip(&record.seen)
-        .find(|(_, seen)| {
-            let listed =
-                |state: &&Option<State>| state.as_ref().is_some_and(|s| !s.permissions.is_empty());
-            let both = [&seen.before, &seen.after];
-            both.iter().all(listed) && share(&seen.before) == Acc && share(&seen.after) == Read
-        });
-    assert_eq!(lost.map(|(statement, _)| statement.line), Some(11));
+        place.map(|place| state.permissions[place].share)
+    });
+    // From line 9 on: the half goes at line 11.
+    let expected = [None, Some(Acc), Some(Acc), Some(Read), Some(Read)];
+    assert_eq!(shares.collect::<Vec<_>>(), expected);
 }
 
 fn halted(source: &str) -> (u32, Option<Missing>) {
