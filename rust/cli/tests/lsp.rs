@@ -230,7 +230,7 @@ fn completion_of_names_in_scope() {
     let text = "class\tCard\nfield\tCard\tprev\nfield\tint\ttag\nmethod\tint\tmark\tint\tk\nrequires\t\nensures\nend\n\
                 main\nvar\tCard\tc\nset\tc\t\ncall\tc\tc\t\nassert\teq\tc.\n\nnew\tc\t\n";
     client.open(text);
-    assert_eq!(client.labels(4, 9), ["acc", "eq", "ne"]);
+    assert_eq!(client.labels(4, 9), ["acc", "read", "eq", "ne"]);
     assert_eq!(client.labels(9, 6), ["prev", "tag"]);
     assert_eq!(client.labels(10, 9), ["mark"]);
     assert_eq!(client.labels(11, 12), ["c.prev", "c.tag"]);
@@ -246,7 +246,7 @@ fn completion_of_names_in_scope() {
     // A condition first, then the invariant; in the loop its `again`.
     client.change("class\tS\nfield\tint\tn\nmain\nvar\tS\ts\nloop\t\tS\nloop\tne\ts\tnull\t\n\n");
     assert_eq!(client.labels(4, 5), ["eq", "ne"]);
-    assert_eq!(client.labels(5, 15), ["acc", "eq", "ne"]);
+    assert_eq!(client.labels(5, 15), ["acc", "read", "eq", "ne"]);
     assert!(client.labels(6, 0).contains(&"again".to_string()));
     client.end();
 }

@@ -100,7 +100,11 @@ fn turned<'a>(
     let names = script.names_at(place);
     let heir = |term| heir(script, place, before, term);
     let permission = |held: &Permission<'a>| match heir(held.path())? {
-        Term::Path(var, field) => Some(names.held(&Permission { var, field })),
+        Term::Path(var, field) => Some(names.held(&Permission {
+            var,
+            field,
+            ..*held
+        })),
         _ => None,
     };
     let fact = |fact: &Fact<'a>| {

@@ -181,7 +181,14 @@ impl Names<'_, '_> {
     /// An atom as the text has it, with blanks for tabs.
     pub fn atom(&self, atom: Atom) -> String {
         match atom {
-            Atom::Acc(path) => format!("acc {} {}", self.var(path.var), shown(path.field)),
+            Atom::Permission(share, path) => {
+                format!(
+                    "{} {} {}",
+                    share.word(),
+                    self.var(path.var),
+                    shown(path.field)
+                )
+            }
             Atom::Eq(left, right) => format!("eq {} {}", self.expr(left), self.expr(right)),
             Atom::Ne(left, right) => format!("ne {} {}", self.expr(left), self.expr(right)),
         }
@@ -196,7 +203,8 @@ impl Names<'_, '_> {
 
     /// A permission as an atom.
     pub fn held(&self, held: &Permission) -> String {
-        format!("acc {} {}", self.var(held.var), shown(held.field))
+        let (var, field) = (self.var(held.var), shown(held.field));
+        format!("{} {var} {field}", held.share.word())
     }
 
     /// A fact as an atom.

@@ -52,7 +52,7 @@ impl<'p, 'a> Writer<'p, 'a> {
                 continue;
             }
             let more = match formula[end - 1] {
-                Atom::Acc(path) => self.make(path.var)?,
+                Atom::Permission(_, path) => self.make(path.var)?,
                 Atom::Eq(left, right) => match self.assign(left, right) {
                     Some(actions) => actions,
                     None => self.assign(right, left)?,

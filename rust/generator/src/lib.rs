@@ -4,16 +4,21 @@
 
 #![forbid(unsafe_code)]
 
+mod contracts;
 mod establish;
+mod forms;
+mod full;
 pub mod misses;
 pub mod mutate;
 mod nested;
 pub mod program;
+pub mod readers;
 pub mod recipes;
 mod render;
 pub mod rng;
 pub mod rounds;
 pub mod routes;
+mod shares;
 mod skeleton;
 mod writer;
 

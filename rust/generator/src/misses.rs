@@ -1,15 +1,19 @@
 //! Near misses: a text that is right but for one thing, for each number.
 
+use super::forms::{after_return, loop_form, number_form, read_form};
+use super::full::{full_of_halves, full_state};
 use super::mutate::{exchange, fields_of, mutate_line, text_from};
 use super::program::{accepted, joined, with_miss};
-use super::recipes::full_state;
+use super::readers::missed;
 use super::rng::Rng;
 use super::routes::passed;
 use crate::check;
 use crate::limits;
 use crate::number;
+use crate::text::Share;
 
-type Fields = Vec<Vec<Vec<u8>>>;
+/// The lines of a text, each a list of fields.
+pub(super) type Fields = Vec<Vec<Vec<u8>>>;
 
 /// A text for which check gives the number, in most cases; 16 is bound's.
 pub fn miss(rng: &mut Rng, number: u32) -> Vec<u8> {
@@ -21,6 +25,7 @@ pub fn miss(rng: &mut Rng, number: u32) -> Vec<u8> {
         number::UNFRAMED => unframed(rng),
         number::STATE_FULL => full(rng),
         number::BOUND_PASSED => passed(rng),
+        number::NO_PERMISSION | number::NOT_SHOWN if rng.chance(15) => missed(rng, number),
         number::UNRESOLVED..=number::NOT_SHOWN if rng.chance(70) => with_miss(rng, number),
         _ => searched(rng, number),
     }
@@ -36,6 +41,7 @@ fn searched(rng: &mut Rng, number: u32) -> Vec<u8> {
             number::ASSIGNED => assign_wrongly(rng, &mut lines),
             number::FORM if rng.chance(20) => after_return(rng, &mut lines),
             number::FORM if rng.chance(20) => loop_form(rng, &mut lines),
+            number::FORM if rng.chance(15) => read_form(rng, &mut lines),
             number::FORM if rng.chance(10) => number_form(rng, &mut lines),
             number::FORM => mutate_line(rng, &mut lines),
             _ => {
@@ -49,71 +55,6 @@ fn searched(rng: &mut Rng, number: u32) -> Vec<u8> {
         }
     }
     text
-}
-
-/// A line after a `return` that may not stand there.
-fn after_return(rng: &mut Rng, lines: &mut Fields) {
-    let returns = |&at: &usize| lines[at][0] == b"return";
-    let places: Vec<usize> = (0..lines.len()).filter(returns).collect();
-    let Some(at) = rng.choose(&places) else {
-        return;
-    };
-    let line = match rng.chance(50) {
-        true => rng.pick(lines),
-        false => lines[rng.pick(&places)].clone(),
-    };
-    lines.insert(at + 1, line);
-}
-
-/// A `loop` or `again` that has not its form, or is out of place.
-fn loop_form(rng: &mut Rng, lines: &mut Fields) {
-    let of_loop = |&at: &usize| matches!(lines[at][0].as_slice(), b"loop" | b"again");
-    let places: Vec<usize> = (0..lines.len()).filter(of_loop).collect();
-    let Some(at) = rng.choose(&places) else {
-        return;
-    };
-    let line = &mut lines[at];
-    match (line[0].as_slice(), rng.below(4)) {
-        // No condition, or one of another kind.
-        (b"loop", 0) => line.truncate(1),
-        (b"loop", 1) => line[1] = b"acc".to_vec(),
-        // Nine atoms or ten.
-        (b"loop", 2) => {
-            let length = 1 + 3 * rng.within(9, 10);
-            while line.len() < length {
-                line.extend(fields("eq 1 1"));
-            }
-        }
-        (b"again", 0) => line.push(b"eq".to_vec()),
-        (b"again", 1) => line[0] = rng.pick(&["else", "join", "end"]).into(),
-        (b"again", 2) => lines.insert(at, fields("again")),
-        _ => drop(lines.remove(at)),
-    }
-}
-
-/// Numbers without the form of one, and those that are the last to have it.
-const NUMBERS: [&str; 12] = [
-    "-0",
-    "00",
-    "-01",
-    "007",
-    "+1",
-    "-",
-    "--1",
-    "2147483648",
-    "-2147483649",
-    "99999999999",
-    "2147483647",
-    "-2147483648",
-];
-
-/// A number that may not have the form of one.
-fn number_form(rng: &mut Rng, lines: &mut Fields) {
-    let lets = |&at: &usize| lines[at][0] == b"let";
-    let places: Vec<usize> = (0..lines.len()).filter(lets).collect();
-    if let Some(at) = rng.choose(&places) {
-        lines[at][2] = rng.pick(&NUMBERS).as_bytes().to_vec();
-    }
 }
 
 /// A line that assigns, whose x is one that it may not be: a line's x is
@@ -164,7 +105,7 @@ fn unfinished(rng: &mut Rng) -> Vec<u8> {
     text_from(&lines)
 }
 
-fn fields(source: &str) -> Vec<Vec<u8>> {
+pub(super) fn fields(source: &str) -> Vec<Vec<u8>> {
     source
         .split(' ')
         .map(|field| field.as_bytes().to_vec())
@@ -237,18 +178,18 @@ fn deep(rng: &mut Rng, depth: usize) -> Fields {
     lines
 }
 
-/// Where the formula starts that number 10 is about, if an `acc` comes first.
+/// Where the formula starts that number 10 is about, if a permission comes first.
 fn framing(line: &[Vec<u8>]) -> Option<usize> {
     let first = match line[0].as_slice() {
         b"requires" | b"ensures" | b"join" => 1,
         b"loop" => 4,
         _ => return None,
     };
-    (line.get(first)? == b"acc").then_some(first)
+    Share::named(line.get(first)?).map(|_| first)
 }
 
-/// A `requires`, `ensures`, `join` or `loop` that reads a path before its `acc`
-/// or without it.
+/// A `requires`, `ensures`, `join` or `loop` that reads a path before its
+/// permission or without it.
 fn unframed(rng: &mut Rng) -> Vec<u8> {
     let mut lines = fields_of(&accepted(rng));
     let is_loop = |at: &usize| lines[*at][0] == b"loop";
@@ -266,13 +207,13 @@ fn unframed(rng: &mut Rng) -> Vec<u8> {
     let path = [&line[first + 1][..], b".", &line[first + 2]].concat();
     let read = [b"eq".to_vec(), path.clone(), path];
     match rng.below(6) {
-        // The `acc` goes, the reads of its path stay.
+        // The permission goes, the reads of its path stay.
         0 => drop(line.drain(first..first + 3)),
-        // A read of the path comes before its `acc`.
+        // A read of the path comes before its permission.
         1..=3 => drop(line.splice(first..first, read)),
-        // The condition of a loop reads the path, and its `acc` goes.
+        // The condition of a loop reads the path, and its permission goes.
         4 if first > 1 => drop(line.splice(1..first + 3, read)),
-        // The `acc` comes last.
+        // The permission comes last.
         _ => line[first..].rotate_left(3),
     }
     text_from(&lines)
@@ -280,8 +221,10 @@ fn unframed(rng: &mut Rng) -> Vec<u8> {
 
 /// Main makes objects until its state is full.
 fn full(rng: &mut Rng) -> Vec<u8> {
-    if rng.chance(60) {
-        return full_state(rng);
+    match rng.below(100) {
+        0..=49 => return full_state(rng),
+        50..=64 => return full_of_halves(rng),
+        _ => {}
     }
     let count = rng.within(4, 8);
     let mut lines = vec!["class\tF".to_string()];

@@ -3,7 +3,7 @@
 use super::rng::Rng;
 
 /// Words, names, numbers and other fields that a line may have.
-const TOKENS: [&str; 64] = [
+const TOKENS: [&str; 65] = [
     "class",
     "field",
     "method",
@@ -27,6 +27,7 @@ const TOKENS: [&str; 64] = [
     "again",
     "end",
     "acc",
+    "read",
     "eq",
     "ne",
     "int",
@@ -225,7 +226,12 @@ fn small(rng: &mut Rng) -> Vec<u8> {
             1 => format!("let {} {}", name(rng), expr(rng)),
             2 => format!("new {} S", name(rng)),
             3 => format!("assert eq {} {}", expr(rng), expr(rng)),
-            4 => format!("release acc {} {}", name(rng), name(rng)),
+            4 => format!(
+                "release {} {} {}",
+                rng.pick(&["acc", "read"]),
+                name(rng),
+                name(rng)
+            ),
             5 => format!(
                 "{} a {} {}",
                 rng.pick(&["add", "sub"]),
@@ -233,7 +239,7 @@ fn small(rng: &mut Rng) -> Vec<u8> {
                 name(rng)
             ),
             6 => format!("if ne {} {}\nelse\njoin", expr(rng), expr(rng)),
-            _ => format!("loop ne {} {} acc s n\nagain", expr(rng), expr(rng)),
+            _ => format!("loop ne {} {} read s n\nagain", expr(rng), expr(rng)),
         };
         text.push_str(&line);
         text.push('\n');

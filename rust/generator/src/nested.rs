@@ -4,6 +4,7 @@ use super::writer::{framed, Style, Writer};
 use crate::checker::{alone, opposite, State};
 use crate::limits;
 use crate::names::{Action, Atom, Branch, Formula, Loop, RESULT};
+use crate::text::Share;
 
 /// What the writer had before it began to write an `if` or a `loop`.
 struct Mark {
@@ -101,15 +102,12 @@ impl<'p, 'a> Writer<'p, 'a> {
         let mut join = Vec::new();
         let mut candidates: Vec<Atom<'a>> = Vec::new();
         for listed in &first.permissions {
-            candidates.extend(
-                self.path(listed.var, listed.field)
-                    .map(|(path, _)| Atom::Acc(path)),
-            );
+            candidates.extend(self.asked_of(listed));
         }
         self.rng.shuffle(&mut candidates);
         let mut needed: Vec<Atom<'a>> = self.block().ensures.clone();
         needed.extend(self.invariants.last().into_iter().flatten());
-        needed.retain(|atom| matches!(atom, Atom::Acc(path) if path.var != RESULT));
+        needed.retain(|atom| matches!(atom, Atom::Permission(_, path) if path.var != RESULT));
         candidates.splice(0..0, needed);
         let facts = first.facts.iter().filter_map(|fact| {
             let (left, right) = (self.term_expr(fact.left)?, self.term_expr(fact.right)?);
@@ -117,7 +115,10 @@ impl<'p, 'a> Writer<'p, 'a> {
         });
         candidates.extend(facts.collect::<Vec<_>>());
         for atom in candidates {
-            if join.len() == limits::ATOMS || join.contains(&atom) || self.rng.chance(10) {
+            // A half may be asked for twice.
+            let half = matches!(atom, Atom::Permission(Share::Read, _));
+            let twice = !half && join.contains(&atom);
+            if join.len() == limits::ATOMS || twice || self.rng.chance(10) {
                 continue;
             }
             join.push(atom);
@@ -134,7 +135,7 @@ impl<'p, 'a> Writer<'p, 'a> {
     fn rounds(&mut self, state: &State<'a>, depth: usize) -> Option<State<'a>> {
         let mut invariant = self.join(state, &[state]);
         if self.rng.chance(40) {
-            invariant.retain(|atom| matches!(atom, Atom::Acc(_)));
+            invariant.retain(|atom| matches!(atom, Atom::Permission(..)));
         }
         self.ask_too_much(state, &mut invariant);
         let condition = self.condition(&invariant)?;
@@ -166,7 +167,7 @@ impl<'p, 'a> Writer<'p, 'a> {
             return;
         }
         let atom = match self.rng.chance(50) {
-            true => self.lost_path(state).map(|(path, _)| Atom::Acc(path)),
+            true => self.lost_permission(state),
             false => self.any_fact(state),
         };
         invariant.extend(atom);
@@ -206,8 +207,9 @@ impl<'p, 'a> Writer<'p, 'a> {
             ended = self.establish(end, &both);
         }
         let (_, closing) = ended.or_else(|| self.establish(end, invariant))?;
-        let acc = invariant.iter().find(|atom| matches!(atom, Atom::Acc(_)));
-        let lost = acc.map(|&acc| vec![Action::Release(vec![acc])]);
+        let mut held = invariant.iter();
+        let held = held.find(|atom| matches!(atom, Atom::Permission(..)));
+        let lost = held.map(|&held| vec![Action::Release(vec![held])]);
         for wrong in [Vec::new()].into_iter().chain(lost) {
             let Ok(end) = self.after(end, &wrong) else {
                 continue;

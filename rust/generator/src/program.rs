@@ -1,14 +1,13 @@
 //! Whole programs: the declarations, contracts that can be met, and bodies.
 
+use super::contracts::contract;
 use super::render;
 use super::rng::Rng;
 use super::skeleton::{skeleton, Size};
 use super::writer::{framed, Style, Writer};
 use crate::checker::{alone, State};
 use crate::limits;
-use crate::names::{
-    Action, Atom, Block, Expr, Formula, Path, Program, Type, Var, PARAM, RESULT, THIS,
-};
+use crate::names::{Action, Atom, Block, Formula, Program};
 use crate::read;
 
 /// Lines as a text.
@@ -19,91 +18,6 @@ pub fn joined(lines: &[String]) -> Vec<u8> {
         text.push(b'\n');
     }
     text
-}
-
-/// The paths of a variable.
-fn paths<'a>(program: &Program<'a>, block: &Block<'a>, var: Var) -> Vec<Path<'a>> {
-    let Some(Type::Class(name)) = render::type_of(block, var) else {
-        return Vec::new();
-    };
-    let class = program.class(name).expect("a declared class");
-    let fields = program.classes[class].fields.iter().enumerate();
-    fields
-        .map(|(slot, field)| Path {
-            var,
-            field: field.name,
-            slot,
-        })
-        .collect()
-}
-
-fn kind_of<'a>(program: &Program<'a>, block: &Block<'a>, path: Path<'a>) -> Option<Type<'a>> {
-    let Type::Class(name) = render::type_of(block, path.var)? else {
-        return None;
-    };
-    let class = &program.classes[program.class(name)?];
-    Some(class.fields[path.slot].kind)
-}
-
-/// An `eq` or `ne` over the variables, the held paths and constants.
-fn contract_fact<'a>(
-    rng: &mut Rng,
-    program: &Program<'a>,
-    block: &Block<'a>,
-    vars: &[Var],
-    held: &[Path<'a>],
-) -> Option<Atom<'a>> {
-    let mut sides: Vec<(Expr<'a>, Type<'a>)> = Vec::new();
-    for &var in vars {
-        sides.push((Expr::Var(var), render::type_of(block, var)?));
-    }
-    for &path in held {
-        sides.push((Expr::Path(path), kind_of(program, block, path)?));
-    }
-    let (left, kind) = rng.choose(&sides)?;
-    let constant = match kind {
-        Type::Int => Expr::Number(rng.pick(&[0, 1, 7])),
-        Type::Class(_) => Expr::Null,
-    };
-    let others: Vec<Expr> = sides
-        .iter()
-        .filter(|&&(side, other)| other == kind && side != left)
-        .map(|&(side, _)| side)
-        .collect();
-    let right = match rng.choose(&others) {
-        Some(other) if rng.chance(50) => other,
-        _ => constant,
-    };
-    // Few objects are null.
-    let equal = if (left, right) == (Expr::Var(THIS), Expr::Null) {
-        5
-    } else {
-        75
-    };
-    Some(match rng.chance(equal) {
-        true => Atom::Eq(left, right),
-        false => Atom::Ne(left, right),
-    })
-}
-
-/// A contract's formula: the permissions, then some facts.
-fn contract<'a>(
-    rng: &mut Rng,
-    program: &Program<'a>,
-    block: &Block<'a>,
-    vars: &[Var],
-    held: &[Path<'a>],
-    facts: usize,
-) -> Formula<'a> {
-    let mut formula: Formula = held.iter().map(|&path| Atom::Acc(path)).collect();
-    formula.truncate(limits::ATOMS);
-    let held: Vec<Path> = held.iter().copied().take(formula.len()).collect();
-    for _ in 0..rng.within(0, facts) {
-        if formula.len() < limits::ATOMS {
-            formula.extend(contract_fact(rng, program, block, vars, &held));
-        }
-    }
-    formula
 }
 
 /// A formula without one atom and without what that atom frames.
@@ -121,26 +35,10 @@ fn weakened<'a>(rng: &mut Rng, formula: &[Atom<'a>]) -> Formula<'a> {
 }
 
 /// Gives a method a contract that an empty body, once finished, meets.
-fn give_contract(rng: &mut Rng, program: &mut Program, index: usize) {
-    let block = &program.blocks[index];
-    let mut held = paths(program, block, THIS);
-    held.extend(paths(program, block, PARAM));
-    let share = rng.pick(&[20, 50, 80]);
-    held.retain(|_| rng.chance(share));
-    held.truncate(6);
-    let mut requires = contract(rng, program, block, &[THIS, PARAM], &held, 2);
-    if requires.len() < limits::ATOMS && rng.chance(50) {
-        requires.insert(0, Atom::Ne(Expr::Var(THIS), Expr::Null));
-    }
-    let mut back = held;
-    back.retain(|_| rng.chance(85));
-    if rng.chance(40) {
-        back.extend(paths(program, block, RESULT));
-    }
-    let vars = [THIS, PARAM, RESULT];
-    let ensures = contract(rng, program, block, &vars, &back, 3);
-    program.blocks[index].requires = requires;
-    program.blocks[index].ensures = ensures;
+fn give_contract(rng: &mut Rng, program: &mut Program, index: usize, halves: usize) {
+    let contract = contract(rng, program, &program.blocks[index], halves);
+    let block = &mut program.blocks[index];
+    (block.requires, block.ensures) = contract;
     while !finishes(rng, program, index) {
         let ensures = weakened(rng, &program.blocks[index].ensures);
         program.blocks[index].ensures = ensures;
@@ -155,6 +53,7 @@ fn start<'a>(block: &Block<'a>) -> State<'a> {
 const PLAIN: Style = Style {
     recursive: false,
     loops: false,
+    halves: 0,
     wild: 0,
     miss: None,
 };
@@ -243,7 +142,7 @@ pub fn lines(rng: &mut Rng, style: Style) -> Vec<String> {
         let text = joined(&declarations);
         let mut program = read(&text).expect("declarations that the reader takes");
         for index in 0..program.blocks.len() - 1 {
-            give_contract(rng, &mut program, index);
+            give_contract(rng, &mut program, index, style.halves);
         }
         let mut style = style;
         let bodies: Option<Vec<_>> = (0..program.blocks.len())
@@ -257,11 +156,15 @@ pub fn lines(rng: &mut Rng, style: Style) -> Vec<String> {
     }
 }
 
+/// Of a hundred permissions so many by halves: programs have none, some or many.
+const HALVES: [usize; 3] = [0, 30, 60];
+
 /// A program that check accepts.
 pub fn accepted(rng: &mut Rng) -> Vec<u8> {
     let style = Style {
         recursive: rng.chance(35),
         loops: rng.chance(60),
+        halves: rng.pick(&HALVES),
         ..PLAIN
     };
     joined(&lines(rng, style))
@@ -272,6 +175,7 @@ pub fn wild(rng: &mut Rng) -> Vec<u8> {
     let style = Style {
         recursive: rng.chance(35),
         loops: rng.chance(60),
+        halves: rng.pick(&HALVES),
         wild: rng.pick(&[5, 20, 60]),
         miss: None,
     };
@@ -283,6 +187,7 @@ pub fn with_miss(rng: &mut Rng, number: u32) -> Vec<u8> {
     let style = Style {
         recursive: rng.chance(20),
         loops: rng.chance(60),
+        halves: rng.pick(&HALVES),
         wild: 0,
         miss: Some(number),
     };

@@ -1,7 +1,10 @@
-//! Programs with a plan: full states of the checker, full heaps, full frames,
-//! runs of many steps; those of loops and of routes of calls stand by themselves.
+//! Programs with a plan: full heaps, full frames, runs of many steps, paths that
+//! are dropped; those of full states, of loops, of routes of calls and of halves
+//! stand by themselves.
 
+use super::full::full_state;
 use super::program::joined;
+use super::readers::readers;
 use super::rng::Rng;
 use super::rounds::rounds;
 use super::routes::routes;
@@ -13,7 +16,7 @@ pub(super) fn push(lines: &mut Vec<String>, source: &str) {
 
 /// A program by one of the plans.
 pub fn recipe(rng: &mut Rng) -> Vec<u8> {
-    match rng.below(13) {
+    match rng.below(15) {
         0 => full_state(rng),
         1 => doubling(rng),
         2 => recursion(rng),
@@ -22,68 +25,9 @@ pub fn recipe(rng: &mut Rng) -> Vec<u8> {
         5 | 6 => droppings(rng),
         7 => list_walk(rng),
         8..=10 => rounds(rng),
+        11 | 12 => readers(rng),
         _ => routes(rng),
     }
-}
-
-/// States at 64 permissions or 64 facts, or one past it, or not quite there.
-pub fn full_state(rng: &mut Rng) -> Vec<u8> {
-    let mut lines = Vec::new();
-    givers(rng, &mut lines);
-    push(&mut lines, "main\nvar M m\nvar int a\nvar int b");
-    (0..9).for_each(|at| push(&mut lines, &format!("var C c{at}")));
-    push(&mut lines, "new m M");
-    for at in 0..rng.within(5, 12) {
-        let line = match rng.below(6) {
-            0 => "call a m facts b".to_string(),
-            1 => format!("new c{} C", at % 9),
-            2 => format!("let c{} c{}", rng.below(9), rng.below(9)),
-            _ => format!("call c{} m all b", at % 9),
-        };
-        push(&mut lines, &line);
-    }
-    for _ in 0..rng.within(0, 8) {
-        let line = match rng.below(6) {
-            0 => format!("let a {}", rng.below(3)),
-            1 => "if eq a b\nelse\njoin".to_string(),
-            2 => format!("set c{} f0 b", rng.below(9)),
-            3 => format!("release acc c{} f0", rng.below(9)),
-            _ => "call a m facts b".to_string(),
-        };
-        push(&mut lines, &line);
-    }
-    push(&mut lines, "end");
-    joined(&lines)
-}
-
-/// A class with methods that give permissions, and facts.
-fn givers(rng: &mut Rng, lines: &mut Vec<String>) {
-    let fields = rng.within(1, 8);
-    let facts = rng.within(0, 8);
-    push(lines, "class C\nfield int f0");
-    for at in 1..8 {
-        let kind = rng.pick(&["int", "C", "M"]);
-        push(lines, &format!("field {kind} f{at}"));
-    }
-    let acc: String = (0..fields).map(|at| format!(" acc result f{at}")).collect();
-    push(lines, "class M\nmethod C all int w\nrequires");
-    push(
-        lines,
-        &format!("ensures{acc}\nvar C c\nnew c C\nreturn c\nend"),
-    );
-    let known = [
-        " eq 1 1",
-        " eq w w",
-        " ne 1 2",
-        " ne 2 1",
-        " ne 7 0",
-        " eq null null",
-    ];
-    let eq: String = (0..facts).map(|_| rng.pick(&known)).collect();
-    push(
-        lines,
-        &format!("method int facts int w\nrequires\nensures{eq}\nend"),
-    );
 }
 
 /// Methods that each call an earlier one some times: many steps, many objects.
@@ -207,7 +151,12 @@ pub fn full_heap(rng: &mut Rng) -> Vec<u8> {
 
 /// Adds lines that check takes where they stand, and now and then one that it
 /// refuses; the text is closed by an `end`.
-fn grow(rng: &mut Rng, lines: &mut Vec<String>, tries: usize, line: impl Fn(&mut Rng) -> String) {
+pub(super) fn grow(
+    rng: &mut Rng,
+    lines: &mut Vec<String>,
+    tries: usize,
+    line: impl Fn(&mut Rng) -> String,
+) {
     for _ in 0..tries {
         let before = lines.len();
         push(lines, &line(rng));

@@ -47,7 +47,14 @@ fn expr(block: &Block, side: Expr) -> String {
 
 fn atom(block: &Block, atom: Atom) -> String {
     match atom {
-        Atom::Acc(p) => format!("acc {} {}", var(block, p.var), written(p.field)),
+        Atom::Permission(share, p) => {
+            format!(
+                "{} {} {}",
+                share.word(),
+                var(block, p.var),
+                written(p.field)
+            )
+        }
         Atom::Eq(left, right) => format!("eq {} {}", expr(block, left), expr(block, right)),
         Atom::Ne(left, right) => format!("ne {} {}", expr(block, left), expr(block, right)),
     }

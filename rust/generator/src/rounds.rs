@@ -81,9 +81,8 @@ fn walk(rng: &mut Rng, lines: &mut Vec<String>) {
     push(lines, rng.pick(&["return k\nend", "return i\nend", "end"]));
 }
 
-/// A loop with its body; a body may have a loop of its own.
-fn one_loop(rng: &mut Rng, depth: usize, step: i32, lines: &mut Vec<String>) {
-    let counter = if depth == 0 { "i" } else { "r" };
+/// The line of a `loop`, its invariant with whole permissions or halves.
+fn loop_line(rng: &mut Rng, counter: &str, step: i32) -> String {
     let condition = rng.pick(&[
         "ne X k",
         "ne X k",
@@ -111,6 +110,16 @@ fn one_loop(rng: &mut Rng, depth: usize, step: i32, lines: &mut Vec<String>) {
         ];
         line.push_str(rng.pick(&atoms));
     }
+    match rng.chance(20) {
+        true => line.replace("acc s n", rng.pick(&["read s n", "read s n read s n"])),
+        false => line,
+    }
+}
+
+/// A loop with its body; a body may have a loop of its own.
+fn one_loop(rng: &mut Rng, depth: usize, step: i32, lines: &mut Vec<String>) {
+    let counter = if depth == 0 { "i" } else { "r" };
+    let line = loop_line(rng, counter, step);
     push(lines, &line);
     for _ in 0..rng.below(4) {
         inside(rng, depth, step, lines);
@@ -139,8 +148,8 @@ fn inside(rng: &mut Rng, depth: usize, step: i32, lines: &mut Vec<String>) {
         4 => "let t s",
         5 => "set s prev t",
         6 => "let t s.prev",
-        7 => "assert acc s n",
-        8 => "release acc s n",
+        7 => rng.pick(&["assert acc s n", "assert read s n"]),
+        8 => rng.pick(&["release acc s n", "release read s n"]),
         9 => "if eq i 2\nlet k 2\nelse\njoin acc s n",
         10 => "assert eq s.n i",
         11 => rng.pick(&["sub k k one", "add k k k"]),

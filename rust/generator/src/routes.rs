@@ -59,11 +59,11 @@ fn near_the_limit(rng: &mut Rng) -> Plan {
 
 /// A route of so many methods that the frames are full, or nearly so.
 fn chain(rng: &mut Rng) -> Plan {
-    let count = rng.within(60, limits::METHODS);
+    let count = rng.within(60, limits::METHODS + 4).min(limits::METHODS);
     let calls = |at: usize| at.checked_sub(1).map(Planned::Call).into_iter().collect();
     Plan {
         methods: (0..count).map(calls).collect(),
-        main: vec![Planned::Call(rng.within(58, count - 1))],
+        main: vec![Planned::Call(rng.within(58, count + 3).min(count - 1))],
     }
 }
 

@@ -16,7 +16,7 @@ const CLASS_NAMES: [&str; 10] = [
     "main",
     "Abcdefghijkl",
 ];
-const FIELD_NAMES: [&str; 12] = [
+const FIELD_NAMES: [&str; 13] = [
     "f",
     "g",
     "n",
@@ -24,6 +24,7 @@ const FIELD_NAMES: [&str; 12] = [
     "prev",
     "val",
     "acc",
+    "read",
     "x",
     "S",
     "h1",

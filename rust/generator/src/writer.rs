@@ -9,7 +9,7 @@ use crate::names::{
     RESULT, VARS,
 };
 use crate::number;
-use crate::text::{self, Operator};
+use crate::text::{self, Operator, Share};
 
 /// What the lines of a program are like.
 #[derive(Clone, Copy, Debug)]
@@ -18,6 +18,8 @@ pub struct Style {
     pub recursive: bool,
     /// Are there loops?
     pub loops: bool,
+    /// Of a hundred permissions that are asked for, so many by halves.
+    pub halves: usize,
     /// Of a hundred lines, so many are kept whatever the checker says.
     pub wild: usize,
     /// One line for which the checker gives this number.
@@ -86,7 +88,7 @@ impl<'p, 'a> Writer<'p, 'a> {
 
     /// A path that the state lists, sometimes by another name of its object;
     /// now and then any path.
-    fn known_path(&mut self, state: &State<'a>) -> Option<(Path<'a>, Type<'a>)> {
+    pub(super) fn known_path(&mut self, state: &State<'a>) -> Option<(Path<'a>, Type<'a>)> {
         let unknown = if self.style.miss.is_some() { 25 } else { 4 };
         let listed = self.rng.choose(&state.permissions);
         let Some(listed) = listed.filter(|_| !self.rng.chance(unknown)) else {
@@ -167,7 +169,7 @@ impl<'p, 'a> Writer<'p, 'a> {
                 break;
             }
             let atom = match self.rng.chance(acc) {
-                true => self.known_path(state).map(|(path, _)| Atom::Acc(path)),
+                true => self.known_permission(state),
                 false => self.fact(state),
             };
             let Some(atom) = atom else { continue };
@@ -230,7 +232,7 @@ impl<'p, 'a> Writer<'p, 'a> {
     }
 
     /// A receiver, a method, an argument and a variable for the result.
-    fn any_call(&mut self) -> Option<Call> {
+    pub(super) fn any_call(&mut self) -> Option<Call> {
         let vars = self.vars(|_, kind| kind != Type::Int);
         let y = self.rng.choose(&vars)?;
         let methods = &self.program.classes[self.class_of(y)?].methods;
@@ -323,6 +325,9 @@ impl<'p, 'a> Writer<'p, 'a> {
 
     /// A statement that may well be refused with the number that is wanted.
     fn wrong(&mut self, state: &State<'a>) -> Option<Vec<Action<'a>>> {
+        if self.rng.chance(self.style.halves) {
+            return self.wrong_by_halves(state).map(|action| vec![action]);
+        }
         let (path, kind) = match self.rng.chance(20) {
             true => self.known_path(state)?,
             false => self.lost_path(state)?,
@@ -332,7 +337,7 @@ impl<'p, 'a> Writer<'p, 'a> {
             Some(number::NO_PERMISSION) => 3 + self.rng.below(4),
             _ => 7 + self.rng.below(4),
         };
-        let (acc, side) = (Atom::Acc(path), Expr::Path(path));
+        let (acc, side) = (Atom::Permission(Share::Acc, path), Expr::Path(path));
         Some(vec![match choice {
             0 => Action::Let(self.local(kind, &[])?, side),
             1 => Action::Assert(vec![Atom::Eq(side, side)]),
@@ -393,12 +398,16 @@ impl<'p, 'a> Writer<'p, 'a> {
 /// Number 10 for a resolved formula.
 pub fn framed(formula: &[Atom]) -> bool {
     formula.iter().enumerate().all(|(place, atom)| {
+        let holds = |atom: &Atom, path: Path| match *atom {
+            Atom::Permission(_, other) => other == path,
+            _ => false,
+        };
         let held = |side: &Expr| match *side {
-            Expr::Path(path) => formula[..place].contains(&Atom::Acc(path)),
+            Expr::Path(path) => formula[..place].iter().any(|atom| holds(atom, path)),
             _ => true,
         };
         match atom {
-            Atom::Acc(_) => true,
+            Atom::Permission(..) => true,
             Atom::Eq(left, right) | Atom::Ne(left, right) => held(left) && held(right),
         }
     })

@@ -1,7 +1,8 @@
 //! W3: what gives way to what when terms are dropped.
 
-use model::names::{Action, Expr, Path, Program, Type, Var, FIRST_LOCAL, PARAM, RESULT, THIS};
+use model::names::{Action, Program, Type, Var, FIRST_LOCAL, PARAM, RESULT, THIS};
 use model::state::{Fact, Permission, State, Term};
+use model::text::Share;
 use model::watch::Record;
 use model::{read, text};
 
@@ -32,6 +33,7 @@ fn ne<'a>(left: Term<'a>, right: Term<'a>) -> Fact<'a> {
 
 fn state(listed: &[(Var, &'static str)], facts: &[Fact<'static>]) -> State<'static> {
     let permission = |&(var, field): &(Var, &'static str)| Permission {
+        share: Share::Acc,
         var,
         field: field.as_bytes(),
     };
@@ -163,8 +165,9 @@ fn drops<'a>(program: &Program<'a>, record: &Record<'a>, place: usize) -> Option
     match program.statements[place].action {
         Action::Compute(compute) => Some(Term::Var(compute.x)),
         Action::Let(x, _) if int(x) => Some(Term::Var(x)),
-        Action::Set(Path { var, field, slot }, _) => {
-            before.resolve(Expr::Path(Path { var, field, slot })).ok()
+        Action::Set(path, _) => {
+            let place = before.first_listed(Share::Acc, path)?;
+            Some(before.permissions[place].path())
         }
         _ => None,
     }

@@ -110,6 +110,8 @@ fn a_halt_is_of_its_stop() {
             PERMISSION_MISSING => assert!(halt.path.is_some()),
             _ => {}
         }
+        let missing = halt.missing.is_some();
+        assert_eq!(missing, halt.number == PERMISSION_MISSING);
     }
     assert!(at_return > 10, "{at_return} stopped at a return");
     let all = [

@@ -57,7 +57,7 @@ fn mend_of_loop(unshown: &Unshown, at: usize) -> Option<String> {
 fn mend_of_round(unshown: &Unshown) -> Option<String> {
     let line = unshown.round()?.line;
     match unshown.wanted {
-        Atom::Acc(_) => None,
+        Atom::Permission(..) => None,
         _ => Some(format!(
             "make it known before `again`, or leave it out of the `loop` of line {line}"
         )),
@@ -76,13 +76,16 @@ fn never_said(unshown: &Unshown, steps: &[Step]) -> Option<String> {
     let block = unshown.script.block_of(unshown.asked.place);
     let (requires, _) = unshown.script.contract_lines(block);
     match unshown.wanted {
-        Atom::Acc(Path {
-            var: THIS | PARAM, ..
-        }) if in_method => Some(format!("add `{wanted}` to `requires` (line {requires})")),
+        Atom::Permission(
+            _,
+            Path {
+                var: THIS | PARAM, ..
+            },
+        ) if in_method => Some(format!("add `{wanted}` to `requires` (line {requires})")),
         Atom::Ne(Expr::Var(THIS | PARAM), Expr::Null) if in_method => Some(format!(
             "add `{wanted}`, or an `acc` of it, to `requires` (line {requires})"
         )),
-        Atom::Acc(Path { var, .. }) | Atom::Ne(Expr::Var(var), Expr::Null)
+        Atom::Permission(_, Path { var, .. }) | Atom::Ne(Expr::Var(var), Expr::Null)
             if assigned(unshown.script, steps, var).is_none() =>
         {
             let Some(Type::Class(class)) = names.kind(var) else {
@@ -179,7 +182,9 @@ fn mend_of_call(unshown: &Unshown, call: Call, atom: Atom) -> Option<String> {
         constant => Some(unshown.names().expr(constant)),
     };
     let said = match atom {
-        Atom::Acc(path) => format!("acc {} {}", var(path.var)?, shown(path.field)),
+        Atom::Permission(share, path) => {
+            format!("{} {} {}", share.word(), var(path.var)?, shown(path.field))
+        }
         Atom::Eq(left, right) => format!("eq {} {}", side(left)?, side(right)?),
         Atom::Ne(left, right) => format!("ne {} {}", side(left)?, side(right)?),
     };

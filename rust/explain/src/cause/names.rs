@@ -431,7 +431,7 @@ pub fn unframed(text: &[u8], number: u32) -> Option<Cause> {
         false => &atoms[conditions..atom],
     };
     let other = serving.iter().find_map(|atom| match atom {
-        text::Atom::Acc(y, f) if *f == field && *y != x => Some(shown(y)),
+        text::Atom::Permission(_, y, f) if *f == field && *y != x => Some(shown(y)),
         _ => None,
     });
     let cause = match other {
@@ -442,7 +442,7 @@ pub fn unframed(text: &[u8], number: u32) -> Option<Cause> {
         )),
         None => cause,
     };
-    let later = atoms[atom..].contains(&text::Atom::Acc(x, field));
+    let later = atoms[atom..].contains(&text::Atom::Permission(text::Share::Acc, x, field));
     Some(cause.mend(match later {
         _ if condition => format!("write `{acc}` after the condition"),
         true => format!("move `{acc}` before it"),

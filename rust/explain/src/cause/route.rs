@@ -93,7 +93,7 @@ pub fn told_fact(script: &Script, place: usize, fact: Fact) -> String {
 pub fn told(script: &Script, place: usize, atom: Atom) -> String {
     let statement = named(script, place);
     let names = script.names_at(place);
-    let held = if matches!(atom, Atom::Acc(_)) {
+    let held = if matches!(atom, Atom::Permission(..)) {
         "held"
     } else {
         "known"
@@ -113,7 +113,7 @@ fn reason(script: &Script, names: &Names, action: &Action, atom: Atom) -> String
             let method = header.map_or(String::new(), |header| shown(header.name));
             match (names_var(atom, call.x), atom) {
                 (true, _) => format!("which gives `{}` another value", names.var(call.x)),
-                (_, Atom::Acc(_)) => {
+                (_, Atom::Permission(..)) => {
                     format!(
                         "and the `ensures` of `{method}` (line {ensures}) does not give it back"
                     )
@@ -170,7 +170,7 @@ fn names_var(atom: Atom, var: Var) -> bool {
         _ => false,
     };
     match atom {
-        Atom::Acc(path) => path.var == var,
+        Atom::Permission(_, path) => path.var == var,
         Atom::Eq(left, right) | Atom::Ne(left, right) => side(left) || side(right),
     }
 }

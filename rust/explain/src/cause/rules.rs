@@ -9,6 +9,7 @@ use model::checker::{State, Term};
 use model::limits;
 use model::names::{Action, Atom, Expr, Path, Statement};
 use model::number::STATE_FULL;
+use model::text::Share;
 use model::watch::{Asked, Purpose, Record};
 use std::ops::Range;
 
@@ -37,17 +38,18 @@ impl<'s, 'a> Unshown<'s, 'a> {
         let (wanted, read) = match (asked.read, place) {
             (Some(expr), _) => {
                 let path = bare(expr)?;
-                (Atom::Acc(path), Some(path))
+                (Atom::Permission(Share::Acc, path), Some(path))
             }
             (None, Some(at)) => {
                 let atom = asked.show[at];
                 let read = match atom {
-                    Atom::Acc(_) => None,
+                    Atom::Permission(..) => None,
                     Atom::Eq(left, right) | Atom::Ne(left, right) => {
                         bare(left).or_else(|| bare(right))
                     }
                 };
-                (read.map_or(atom, Atom::Acc), read)
+                let needed = read.map(|path| Atom::Permission(Share::Acc, path));
+                (needed.unwrap_or(atom), read)
             }
             (None, None) => return None,
         };
@@ -106,8 +108,8 @@ impl<'s, 'a> Unshown<'s, 'a> {
             None => format!("asks for `{wanted}`"),
         };
         let missing = match self.wanted {
-            Atom::Acc(_) if self.taken().is_some() => "not held a second time",
-            Atom::Acc(_) => "not held",
+            Atom::Permission(..) if self.taken().is_some() => "not held a second time",
+            Atom::Permission(..) => "not held",
             _ => "not known",
         };
         match self.asked.purpose {
@@ -115,7 +117,7 @@ impl<'s, 'a> Unshown<'s, 'a> {
             Purpose::Condition => format!("`if` {needs}, and it is {missing} here"),
             Purpose::Write => {
                 let path = match self.wanted {
-                    Atom::Acc(path) => names.expr(Expr::Path(path)),
+                    Atom::Permission(_, path) => names.expr(Expr::Path(path)),
                     _ => wanted.clone(),
                 };
                 format!("`set` writes `{path}`, which needs `{wanted}`, and it is {missing} here")
@@ -209,16 +211,17 @@ impl<'s, 'a> Unshown<'s, 'a> {
             return None;
         }
         let clash = |atom: &&Atom<'a>| {
-            matches!(atom, Atom::Acc(_)) && self.asked.state.show(&[**atom, self.wanted]).is_err()
+            matches!(atom, Atom::Permission(..))
+                && self.asked.state.show(&[**atom, self.wanted]).is_err()
         };
         let earlier = *self.asked.show[..at].iter().find(clash)?;
         let (one, other) = (names.atom(earlier), names.atom(self.wanted));
-        let Atom::Acc(wanted) = self.wanted else {
+        let Atom::Permission(_, wanted) = self.wanted else {
             return None;
         };
         Some(match earlier {
             _ if one == other => format!("`{one}` is asked for twice, and it is held once"),
-            Atom::Acc(path) => format!(
+            Atom::Permission(_, path) => format!(
                 "`{one}` and `{other}` ask for two cards, and `{}` and `{}` are known to be one",
                 names.var(path.var),
                 names.var(wanted.var)
@@ -240,16 +243,16 @@ fn lines_between(from: u32, to: u32) -> String {
 /// What comes nearest to the atom in the state.
 fn nearest<'a>(names: &Names, state: &State<'a>, wanted: Atom<'a>) -> Option<String> {
     match wanted {
-        Atom::Acc(path) if state.equals(Term::Var(path.var)).contains(&Term::Null) => {
+        Atom::Permission(_, path) if state.equals(Term::Var(path.var)).contains(&Term::Null) => {
             Some(format!("`{}` is known to be null", names.var(path.var)))
         }
-        Atom::Acc(path) => {
+        Atom::Permission(_, path) => {
             let held = state.permissions.iter();
             let held: Vec<String> = held
                 .filter(|held| {
                     held.field == path.field && names.kind(held.var) == names.kind(path.var)
                 })
-                .map(|held| format!("acc {} {}", names.var(held.var), shown(held.field)))
+                .map(|held| names.held(held))
                 .collect();
             let var = names.var(path.var);
             match held.is_empty() {
@@ -351,7 +354,7 @@ pub fn cause(text: &[u8], number: u32) -> Option<Cause> {
     let lost_at = lost(&steps, unshown.wanted);
     let cause = match lost_at {
         Some(place) => cause.note(told(&script, place, unshown.wanted)),
-        None if matches!(unshown.wanted, Atom::Acc(_)) => {
+        None if matches!(unshown.wanted, Atom::Permission(..)) => {
             cause.note(format!("it was never held in {}", names.title()))
         }
         None => match went(&unshown, &steps) {
