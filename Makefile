@@ -4,6 +4,7 @@
 # make index                target/INDEX.md: each sentence of the papers, its definitions, laws and code
 # make soak                 the library beside the model on 10 million texts (TEXTS=N for another number)
 # make same-bytes           builds libstation.a in two folders and compares the two
+# make mutants              how many wrong definitions the examples refuse
 #
 # STATION_LIB names a libstation.a that is already made: then nothing is proved here.
 
@@ -25,7 +26,7 @@ LIBRARY ?= target/libnuyardi.a
 INSTALL ?= install
 CARGO ?= cargo
 
-.PHONY: all library command check install install-files uninstall index soak same-bytes
+.PHONY: all library command check install install-files uninstall index soak same-bytes mutants
 
 all: library command
 
@@ -88,3 +89,6 @@ soak: library
 
 same-bytes:
 	tools/same-bytes
+
+mutants:
+	tools/mutants/run

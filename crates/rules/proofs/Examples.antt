@@ -8,33 +8,20 @@ use lib.Dec.{T}
 use lib.ListN.{length, getD}
 use Rattle.rules.specs.Base.{all}
 use Rattle.rules.specs.Calls.{computing}
-use Rattle.rules.specs.Areas as Areas
 use Rattle.rules.specs.Printed as Printed
-use Rattle.rules.proofs.Lists.{and-both, same-name}
+use Rattle.rules.proofs.Lists.{and-intro, and-both, same-name}
 use Rattle.rules.proofs.ExampleRows as ExampleRows
 use Rattle.rules.proofs.ExampleRows.{Row, check, run, trial, bound, print, answer, bare, row, three, right, text, withLine, times, oneLine, script, numbers, method}
 use Rattle.rules.proofs.ExampleTexts as ExampleTexts
 use Rattle.rules.proofs.ExampleTexts.{worked, alias, acrossCall, twice, oldValue, twoFields, branching, innerJoin, throughPath, overTwoPaths, oneName, oneOnBothSides, counting, walk, leaving, unframed, deep, lower, rings, tens}
-use Rattle.rules.proofs.ExamplesText as ExamplesText
-use Rattle.rules.proofs.ExamplesText.{textRows}
-use Rattle.rules.proofs.ExamplesNames as ExamplesNames
-use Rattle.rules.proofs.ExamplesNames.{nameRows}
-use Rattle.rules.proofs.ExamplesChecker as ExamplesChecker
-use Rattle.rules.proofs.ExamplesChecker.{stateRows, ruleRows}
-use Rattle.rules.proofs.ExamplesMachine as ExamplesMachine
-use Rattle.rules.proofs.ExamplesMachine.{machineRows}
-use Rattle.rules.proofs.ExamplesCalls as ExamplesCalls
-use Rattle.rules.proofs.ExamplesCalls.{callRows}
+use Rattle.rules.proofs.ExamplesText.{textRows, text-right}
+use Rattle.rules.proofs.ExamplesNames.{nameRows, names-right}
+use Rattle.rules.proofs.ExamplesChecker.{stateRows, ruleRows, state-right, rules-right}
+use Rattle.rules.proofs.ExamplesMachine.{machineRows, machine-right}
+use Rattle.rules.proofs.ExamplesCalls.{callRows, calls-right}
 
 abbrev pub rows : List Row
 rows =
-    -- the definitions, sentence by sentence
-    textRows
-    ++ (nameRows
-    ++ (stateRows
-    ++ (ruleRows
-    ++ (
-    -- the papers' own
     row worked check (0 ∷ 0 ∷ []) ∷
     row worked (run 1000) (0 ∷ 19 ∷ 8 ∷ three 1 7 7) ∷
     row worked print (text ("check 0 0" ∷ "run 0 19 8" ∷ "var s 1" ∷ "var a 7" ∷ "var b 7" ∷ [])) ∷
@@ -185,12 +172,30 @@ rows =
     row (script ("assert eq a 1" ∷ "if eq a b" ∷ "else" ∷ "join eq s.n 1" ∷ [])) check (10 ∷ 13 ∷ []) ∷
     row (withLine 6 "ensures" worked) check (11 ∷ 17 ∷ []) ∷
     row (withLine 6 "ensures" worked) (trial 1000) (24 ∷ 17 ∷ 5 ∷ three 1 7 7) ∷
-    -- further sentences
-    (machineRows ++ callRows)))))
+    []
 
-all-right : T (all right rows)
-unfolding computing Areas.opened Printed.opened ExampleRows.opened ExampleTexts.opened ExamplesText.opened ExamplesNames.opened ExamplesChecker.opened ExamplesMachine.opened ExamplesCalls.opened
-all-right = tt
+rows-right : T (all right rows)
+unfolding computing Printed.opened ExampleRows.opened ExampleTexts.opened
+rows-right = tt
+
+-- and those that pin the definitions
+abbrev pub everyRow : List Row
+everyRow = rows ++ (textRows ++ (nameRows ++ (stateRows ++ (ruleRows ++ (machineRows ++ callRows)))))
+
+both-right : (l m : List Row) → T (all right l) → T (all right m) → T (all right (l ++ m))
+unfolding all
+both-right [] m h k = k
+both-right (r ∷ l) m h k =
+    let (x, y) = and-both (right r) (all right l) h in and-intro (right r) (all right (l ++ m)) x (both-right l m y k)
+
+all-right : T (all right everyRow)
+all-right =
+    both-right rows _ rows-right
+    (both-right textRows _ text-right
+    (both-right nameRows _ names-right
+    (both-right stateRows _ state-right
+    (both-right ruleRows _ rules-right
+    (both-right machineRows callRows machine-right calls-right)))))
 
 right-at : (rs : List Row) (d : Row) (i : ℕ) → i < length rs → T (all right rs) → T (right (getD rs i d))
 unfolding all
@@ -199,9 +204,9 @@ right-at (r ∷ rs) d zero l t = and-both (right r) (all right rs) t .0
 right-at (r ∷ rs) d (suc i) l t = right-at rs d i (le-of-suc-le-suc l) (and-both (right r) (all right rs) t .1)
 
 abbrev pub rowNumbered : ℕ → Row
-rowNumbered i = getD rows i (bare [] check [])
+rowNumbered i = getD everyRow i (bare [] check [])
 
 -- The common theorem: what each row says is so.
-pub examples : (i : ℕ) → i < length rows → answer (rowNumbered i .text) (rowNumbered i .call) ≡ rowNumbered i .answer
+pub examples : (i : ℕ) → i < length everyRow → answer (rowNumbered i .text) (rowNumbered i .call) ≡ rowNumbered i .answer
 unfolding right
-examples i l = same-name _ _ (right-at rows (bare [] check []) i l all-right)
+examples i l = same-name _ _ (right-at everyRow (bare [] check []) i l all-right)

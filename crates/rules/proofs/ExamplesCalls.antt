@@ -1,17 +1,23 @@
 -- Examples of bounds, of what the calls leave in the lent areas, and of what the program prints.
 use mathlib.Core.List.{List, [], _∷_, _++_}
 use Prim.Native.String.{String}
+use lib.Dec.{T}
 use lib.ListN.{replicate}
-use Rattle.rules.proofs.ExampleRows.{Row, bound, print, checkIn, runIn, boundIn, row, text, lent, oneLine, numbers, method}
+use Rattle.rules.specs.Base.{all}
+use Rattle.rules.specs.Calls.{computing}
+use Rattle.rules.specs.Areas as Areas
+use Rattle.rules.specs.Printed as Printed
+use Rattle.rules.proofs.ExampleRows as ExampleRows
+use Rattle.rules.proofs.ExampleRows.{Row, right, bound, print, checkIn, runIn, boundIn, row, text, lent, oneLine, numbers, method}
 
 -- three methods with these lines, and an empty main
-unfoldable pub threeMethods : List String → List String → List String → List String
+pub threeMethods : List String → List String → List String → List String
 threeMethods a b c =
     ("class S" ∷ method "method int m int w" a)
     ++ (method "method int n int w" b ++ (method "method int o int w" c ++ ("main" ∷ "end" ∷ [])))
 
 -- a method with a local, and main with one
-unfoldable pub twoBlocks : List String
+pub twoBlocks : List String
 twoBlocks = "class S" ∷ (method "method int m int w" [] ++ ("main" ∷ "var int b" ∷ "let b -7" ∷ "end" ∷ []))
 
 abbrev pub callRows : List Row
@@ -41,7 +47,6 @@ callRows =
     row (numbers ("loop eq a a" ∷ "again" ∷ [])) print (text ("check 0 0" ∷ "run 21 5 1000" ∷ "var a 0" ∷ "var b 0" ∷ "var c 0" ∷ [])) ∷
     []
 
--- Everything above computes where this unfolds.
-unfoldable pub opened : Unit {0}
-unfolding threeMethods twoBlocks
-opened = tt
+pub calls-right : T (all right callRows)
+unfolding computing Printed.opened Areas.opened ExampleRows.opened threeMethods twoBlocks
+calls-right = tt

@@ -3,10 +3,14 @@
 use mathlib.Core.List.{List, [], _∷_, _++_}
 use Prim.Native.Nat.{ℕ, zero, suc}
 use Prim.Native.String.{String}
-use Rattle.rules.proofs.ExampleRows.{Row, check, row, times, script, numbers}
+use lib.Dec.{T}
+use Rattle.rules.specs.Base.{all}
+use Rattle.rules.specs.Calls.{computing}
+use Rattle.rules.proofs.ExampleRows as ExampleRows
+use Rattle.rules.proofs.ExampleRows.{Row, right, check, row, times, script, numbers}
 
 -- a method with this requires and then this line, the 7th
-unfoldable pub given : String → String → List String
+pub given : String → String → List String
 given r l =
     "class S" ∷
     "field S prev" ∷
@@ -22,7 +26,7 @@ given r l =
 
 -- Calls that list eight inequalities, and one. The method m starts with 5 facts; after line 27 it has 61, and then so many more before
 -- these lines.
-unfoldable pub filled : ℕ → List String → List String
+pub filled : ℕ → List String → List String
 filled n ls =
     "class S" ∷
     "field S p" ∷
@@ -47,12 +51,12 @@ filled n ls =
     (times 7 "call x this eight y" ++ (times n "call x this one y" ++ (ls ++ ("end" ∷ "main" ∷ "end" ∷ []))))
 
 -- the ends of so many branches
-unfoldable pub closed : ℕ → List String
+pub closed : ℕ → List String
 closed zero = []
 closed (suc n) = "else" ∷ "join" ∷ closed n
 
 -- eight permissions without a fact from each call, the last by the 33rd line, and then one more
-unfoldable pub manyPermissions : List String
+pub manyPermissions : List String
 manyPermissions =
     "class S" ∷
     "field int a" ∷
@@ -99,7 +103,7 @@ manyPermissions =
     []
 
 -- a method that gives its argument back and asks for `this.n`; these lines of main begin with the 12th
-unfoldable pub calling : List String → List String
+pub calling : List String → List String
 calling ls =
     "class S" ∷
     "field int n" ∷
@@ -115,7 +119,7 @@ calling ls =
     (ls ++ ("end" ∷ []))
 
 -- two blocks that are refused
-unfoldable pub twoRefused : List String
+pub twoRefused : List String
 twoRefused =
     "class S" ∷
     "field int n" ∷
@@ -194,7 +198,10 @@ ruleRows =
     row twoRefused check (13 ∷ 6 ∷ []) ∷
     []
 
--- Everything above computes where this unfolds.
-unfoldable pub opened : Unit {0}
-unfolding given filled closed manyPermissions calling twoRefused
-opened = tt
+pub state-right : T (all right stateRows)
+unfolding computing ExampleRows.opened given filled closed manyPermissions calling twoRefused
+state-right = tt
+
+pub rules-right : T (all right ruleRows)
+unfolding computing ExampleRows.opened given filled closed manyPermissions calling twoRefused
+rules-right = tt

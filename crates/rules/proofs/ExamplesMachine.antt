@@ -1,10 +1,14 @@
 -- Examples of the machine: what a formula tests and in which order, what stops a run, the heap's limits, branches and loops.
 use mathlib.Core.List.{List, [], _∷_, _++_}
 use Prim.Native.String.{String}
-use Rattle.rules.proofs.ExampleRows.{Row, run, trial, row, three, script, numbers}
+use lib.Dec.{T}
+use Rattle.rules.specs.Base.{all}
+use Rattle.rules.specs.Calls.{computing}
+use Rattle.rules.proofs.ExampleRows as ExampleRows
+use Rattle.rules.proofs.ExampleRows.{Row, right, run, trial, row, three, script, numbers}
 
 -- a method that asks for nothing, called on a null
-unfoldable pub nullReceiver : List String
+pub nullReceiver : List String
 nullReceiver =
     "class A" ∷
     "method int m int w" ∷
@@ -20,7 +24,7 @@ nullReceiver =
     []
 
 -- a method with one line, the 6th, that asks for `this.n` and hands back nothing; main's lines begin with the 12th
-unfoldable pub handing : String → List String → List String
+pub handing : String → List String → List String
 handing l ls =
     "class S" ∷
     "field int n" ∷
@@ -36,7 +40,7 @@ handing l ls =
     (ls ++ ("end" ∷ []))
 
 -- an object of the class A a round, as long as this condition holds, then one of the class B; A has these fields and B has one
-unfoldable pub making : List String → String → List String
+pub making : List String → String → List String
 making fs l =
     "class B" ∷
     "field int f" ∷
@@ -56,7 +60,7 @@ making fs l =
     "end" ∷
     []))
 
-unfoldable pub eightFields : List String
+pub eightFields : List String
 eightFields =
     "field int f" ∷
     "field int g" ∷
@@ -100,7 +104,6 @@ machineRows =
     row (making eightFields "loop ne a 128") (trial 2000) (22 ∷ 22 ∷ 514 ∷ three 128 128 1) ∷
     []
 
--- Everything above computes where this unfolds.
-unfoldable pub opened : Unit {0}
-unfolding nullReceiver handing making eightFields
-opened = tt
+pub machine-right : T (all right machineRows)
+unfolding computing ExampleRows.opened nullReceiver handing making eightFields
+machine-right = tt

@@ -1,11 +1,15 @@
 -- Examples of what names may stand for: names, types, targets and framing (numbers 6, 7, 9 and 10).
-use mathlib.Core.List.{List, [], _∷_, _++_}
+use mathlib.Core.List.{List, [], _∷_}
 use Prim.Native.Nat.{ℕ}
 use Prim.Native.String.{String}
-use Rattle.rules.proofs.ExampleRows.{Row, check, run, row, withLine}
+use lib.Dec.{T}
+use Rattle.rules.specs.Base.{all}
+use Rattle.rules.specs.Calls.{computing}
+use Rattle.rules.proofs.ExampleRows as ExampleRows
+use Rattle.rules.proofs.ExampleRows.{Row, right, check, row, withLine}
 
 -- two classes with names in common, S with methods of the types int and S; main's only statement is this, the 28th line
-unfoldable pub cards : String → List String
+pub cards : String → List String
 cards l =
     "class S" ∷
     "field S prev" ∷
@@ -39,11 +43,11 @@ cards l =
     []
 
 -- with one line written so
-unfoldable pub cardsWith : ℕ → String → List String
+pub cardsWith : ℕ → String → List String
 cardsWith n l = withLine n l (cards "assert")
 
 -- a method with twelve locals; the last is assigned where `result` is known
-unfoldable pub twelveLocals : List String
+pub twelveLocals : List String
 twelveLocals =
     "class S" ∷
     "method int m int w" ∷
@@ -139,7 +143,6 @@ nameRows =
     row twelveLocals check (0 ∷ 0 ∷ []) ∷
     []
 
--- Everything above computes where this unfolds.
-unfoldable pub opened : Unit {0}
-unfolding cards cardsWith twelveLocals
-opened = tt
+pub names-right : T (all right nameRows)
+unfolding computing ExampleRows.opened cards cardsWith twelveLocals
+names-right = tt

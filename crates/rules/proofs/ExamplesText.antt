@@ -2,32 +2,35 @@
 use mathlib.Core.List.{List, [], _∷_, _++_}
 use Prim.Native.Nat.{ℕ, zero, suc}
 use Prim.Native.String.{String}
+use lib.Dec.{T}
 use lib.ListN.{replicate}
-use Rattle.rules.specs.Base.{bytes}
+use Rattle.rules.specs.Base.{bytes, all}
 use Rattle.rules.specs.Text.{line-feed}
-use Rattle.rules.proofs.ExampleRows.{Row, check, run, bare, row, three, text, withLine, times, oneLine, script, numbers}
+use Rattle.rules.specs.Calls.{computing}
+use Rattle.rules.proofs.ExampleRows as ExampleRows
+use Rattle.rules.proofs.ExampleRows.{Row, right, check, bare, row, text, withLine, times, oneLine, script}
 
 -- the second line is one byte
-unfoldable pub ofByte : ℕ → List ℕ
+pub ofByte : ℕ → List ℕ
 ofByte b = text ("main" ∷ []) ++ (b ∷ line-feed ∷ [])
 
 -- a class, by its line
-unfoldable pub declaring : String → List String
+pub declaring : String → List String
 declaring l = l ∷ "main" ∷ "end" ∷ []
 
-unfoldable pub class : List String → List String
+pub class : List String → List String
 class ls = "class A" ∷ ls
 
-unfoldable pub emptyMain : List String
+pub emptyMain : List String
 emptyMain = "main" ∷ "end" ∷ []
 
 -- so many methods, all of one name
-unfoldable pub methods : ℕ → List String
+pub methods : ℕ → List String
 methods zero = []
 methods (suc n) = "method int m int w" ∷ "requires" ∷ "ensures" ∷ "end" ∷ methods n
 
 -- an `if` in main, with these lines after it
-unfoldable pub branch : List String → List String
+pub branch : List String → List String
 branch ls = "main" ∷ "if eq 1 1" ∷ (ls ++ ("end" ∷ []))
 
 abbrev pub textRows : List Row
@@ -95,7 +98,6 @@ textRows =
     row ("main" ∷ "var A a" ∷ []) check (8 ∷ 2 ∷ []) ∷
     []
 
--- Everything above computes where this unfolds.
-unfoldable pub opened : Unit {0}
-unfolding ofByte declaring class emptyMain methods branch
-opened = tt
+pub text-right : T (all right textRows)
+unfolding computing ExampleRows.opened ofByte declaring class emptyMain methods branch
+text-right = tt
