@@ -40,7 +40,7 @@ callRows =
     row (oneLine "assert") (boundIn 65536 8) (0 ∷ 65536 ∷ 0 ∷ 2 ∷ 0 ∷ 0 ∷ 0 ∷ 1 ∷ 0 ∷ 0 ∷ 0 ∷ []) ∷
     row (oneLine "assert") (boundIn 65536 4) (65536 ∷ 65536 ∷ 458752 ∷ lent 4) ∷
     -- "then, unless the number is 1 to 9, `run` number line steps, and `var` name value for each"
-    row (oneLine "let a b") print (text ("check 6 3" ∷ [])) ∷
+    row (threeMethods ("let w w" ∷ []) [] []) print (text ("check 9 6" ∷ [])) ∷
     row [] print (text ("check 8 0" ∷ [])) ∷
     row twoBlocks print (text ("check 0 0" ∷ "run 0 10 2" ∷ "var b -7" ∷ [])) ∷
     -- The program "allows 1,000 steps".

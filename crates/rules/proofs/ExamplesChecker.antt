@@ -177,7 +177,7 @@ ruleRows =
     -- "An equality that now has one term on both sides goes too": no inequality does
     row (numbers ("if ne a b" ∷ "if eq a b" ∷ "let a 1" ∷ "assert ne b b" ∷ "else" ∷ "join" ∷ "else" ∷ "join" ∷ [])) check (0 ∷ 0 ∷ []) ∷
     -- "`let x e`: e resolves to r. If r is x, no change."
-    row (numbers ("let a 7" ∷ "let a a" ∷ "assert eq a 7" ∷ [])) check (0 ∷ 0 ∷ []) ∷
+    row (numbers ("if ne a b" ∷ "let a a" ∷ "assert ne a b" ∷ "else" ∷ "join" ∷ [])) check (0 ∷ 0 ∷ []) ∷
     -- "`new`: remove x"
     row (script ("new s S" ∷ "let a 7" ∷ "set s n a" ∷ "new s S" ∷ "assert eq s.n 7" ∷ [])) check (13 ∷ 14 ∷ []) ∷
     -- "`call`: show y ≠ null, then requires with y, z for `this`, w."
