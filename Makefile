@@ -8,6 +8,7 @@
 # make check-r              R CMD check of the package for R, where R is installed
 # make deb                  Debian packages of the command and the libraries; make check-deb installs and removes them in a test folder
 # make dist                 the source archive, with the sums of the proved library; make check-dist unpacks it and compares them
+# make mutants              how many wrong definitions the examples refuse
 #
 # STATION_LIB names a libstation.a that is already made: then nothing is proved here.
 
@@ -34,7 +35,7 @@ EXPLAIN ?= rust/target/release/libnuyardi_explain.so
 INSTALL ?= install
 CARGO ?= cargo
 
-.PHONY: all library explain command check install install-files install-command install-shared install-dev uninstall index soak same-bytes
+.PHONY: all library explain command check install install-files install-command install-shared install-dev uninstall index soak same-bytes mutants
 
 all: library explain command
 
@@ -127,3 +128,6 @@ same-bytes:
 	tools/same-bytes
 
 include packaging/packages.mk
+
+mutants:
+	tools/mutants/run
