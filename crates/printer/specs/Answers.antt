@@ -2,7 +2,7 @@
 use mathlib.Core.Path.{_≡_}
 use mathlib.Core.Bool.{Bool, false, cond}
 use mathlib.Core.List.{List, [], _∷_, _++_}
-use Prim.Native.Nat.{ℕ, zero, suc, _+_, _/_, _%_}
+use Prim.Native.Nat.{ℕ, zero, suc, _+_, _%_}
 use Rattle.rules.specs.Base.{Name, bytes, between}
 use Rattle.rules.specs.Limits.{values-shown, program-steps}
 use Rattle.rules.specs.Text.{digit-zero}

@@ -8,7 +8,7 @@ use Rattle.rules.specs.Base.{bytes, all}
 use Rattle.rules.specs.Text.{line-feed}
 use Rattle.rules.specs.Calls.{computing}
 use Rattle.rules.proofs.ExampleRows as ExampleRows
-use Rattle.rules.proofs.ExampleRows.{Row, right, check, bare, row, text, withLine, times, oneLine, script}
+use Rattle.rules.proofs.ExampleRows.{Row, right, check, trial, bare, row, three, text, withLine, times, oneLine, script}
 
 -- the second line is one byte
 pub ofByte : ℕ → List ℕ
@@ -74,9 +74,9 @@ textRows =
     row (emptyMain ++ ("class A" ∷ [])) check (4 ∷ 3 ∷ []) ∷
     -- "`return x` (methods only)"
     row (oneLine "return a") check (4 ∷ 3 ∷ []) ∷
-    -- "`if ne e e` .. `else` .. `join` formula": an `else`, and one alone
-    row (branch ("join" ∷ [])) check (4 ∷ 3 ∷ []) ∷
-    row (branch ("else" ∷ "else" ∷ "join" ∷ [])) check (4 ∷ 4 ∷ []) ∷
+    -- "`if ne e e` .. `else` .. `join` formula": an `else`, and one alone; trial says so too, where no rule is asked
+    row (branch ("join" ∷ [])) (trial 9) (4 ∷ 3 ∷ 0 ∷ three 0 0 0) ∷
+    row (branch ("else" ∷ "else" ∷ "join" ∷ [])) (trial 9) (4 ∷ 4 ∷ 0 ∷ three 0 0 0) ∷
     -- "`again` closes it", and no branch
     row (branch ("again" ∷ "else" ∷ "join" ∷ [])) check (4 ∷ 3 ∷ []) ∷
     -- "16 classes": names are looked at later
