@@ -1,6 +1,7 @@
 //! `station`: check, bound, run, explain and look into catalogue scripts.
 
 mod args;
+mod authority;
 mod bound;
 mod cards;
 mod cause;
@@ -266,6 +267,7 @@ fn dispatch(session: &mut Session) -> u8 {
         "known" => known::known(session),
         "draw" => session.each(draw::draw),
         "bound" => session.each_script(bound::bound),
+        "report" => authority::report(session),
         "fmt" | "tabs" => session.each_script(fmt_one),
         "explain" => explain(session),
         "completions" => completions(session),

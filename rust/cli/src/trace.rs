@@ -18,11 +18,11 @@ const JSON_ROWS: usize = 100_000;
 
 /// One step, or the line at which the run stopped.
 pub struct Row {
-    step: u32,
-    line: u32,
-    depth: usize,
-    text: String,
-    changes: Vec<String>,
+    pub step: u32,
+    pub line: u32,
+    pub depth: usize,
+    pub text: String,
+    pub changes: Vec<String>,
 }
 
 /// The cards that a step made, the fields that it changed, and those that went
