@@ -73,7 +73,7 @@ pub fn alters(findings: &Findings) -> Answer {
         ),
         Some(_) => answer(
             "No, it does not run",
-            "A run and a trial refuse it and do no step.",
+            "A run refuses it and does no step.",
             &[&EVERY_RUN],
         ),
     }

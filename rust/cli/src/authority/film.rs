@@ -1,5 +1,5 @@
-//! The cards after each step of a run, as pictures. A step that changes no
-//! picture has that of the step before.
+//! The cards after each step of a run, as pictures. Steps after which the cards
+//! are the same share one.
 
 use super::findings::Findings;
 use crate::cards;
@@ -13,7 +13,7 @@ use model::machine::{Machine, Step};
 const STEPS: usize = 400;
 /// Pictures of so many bytes at most, of all scripts of a page, but for the last
 /// picture of each.
-pub const PICTURE_BYTES: usize = 6_000_000;
+pub const PICTURE_BYTES: usize = 3_000_000;
 
 /// The cards in a picture and in words.
 #[derive(PartialEq, Eq)]
@@ -55,17 +55,18 @@ impl Film {
         Some(film)
     }
 
-    /// The picture of a machine, by its place; the last one if it is the same.
+    /// The picture of a machine, by its place; an earlier one if it is the same.
     fn picture(&mut self, script: &Script, machine: &Machine, title: &str) -> usize {
         let cards = cards::of(script, machine);
         let picture = Picture {
             svg: draw::svg(&cards, title),
             words: cards.table(),
         };
-        if self.pictures.last() != Some(&picture) {
+        let same = self.pictures.iter().position(|old| *old == picture);
+        same.unwrap_or_else(|| {
             self.pictures.push(picture);
-        }
-        self.pictures.len() - 1
+            self.pictures.len() - 1
+        })
     }
 
     /// The first steps, as many as there is room for.

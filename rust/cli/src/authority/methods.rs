@@ -43,7 +43,8 @@ fn permission<'a>(atom: &Atom<'a>) -> Option<(Share, Path<'a>)> {
 pub struct Handed {
     pub share: Share,
     pub path: String,
-    /// Does `ensures` give it back?
+    /// Does `ensures` give it back, by its own name or an equal one? What it gives
+    /// by another name may be the same card.
     pub back: bool,
     /// Can a line of the method, or of one that it calls, write it?
     pub written: bool,

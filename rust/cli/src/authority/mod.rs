@@ -17,8 +17,11 @@ mod reasons;
 mod said;
 mod sections;
 mod sha256;
+mod slides;
 mod source;
 mod stops;
+#[cfg(test)]
+mod tests;
 mod text;
 mod write;
 

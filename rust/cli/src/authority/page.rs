@@ -1,12 +1,11 @@
 //! The page: one HTML file with everything in it, for one script or for many.
 
-use super::film::{Film, Frame, PICTURE_BYTES};
+use super::film::{Film, PICTURE_BYTES};
 use super::findings::Findings;
 use super::html::{base64, cell, escaped, table};
 use super::index::{total, Entry};
-use super::said::{html, Piece};
-use super::{sections, sha256, source};
-use crate::show::grouped;
+use super::said::html;
+use super::{sections, sha256, slides, source};
 
 const STYLE: &str = include_str!("page.css");
 const SCRIPT: &str = include_str!("page.js");
@@ -16,93 +15,10 @@ fn prefix(at: usize) -> String {
     format!("s{}-", at + 1)
 }
 
-fn frame_row(frame: &Frame, prefix: &str) -> String {
-    let line = match frame.line {
-        0 => String::new(),
-        line => html(&[Piece::Line(line)], prefix),
-    };
-    let text = match frame.step {
-        0 => "before the first step".to_string(),
-        _ => format!("<code>{}</code>", escaped(&frame.text)),
-    };
-    let (step, picture) = (frame.step, frame.picture);
-    format!(
-        "<tr data-step=\"{step}\" data-line=\"{}\" data-picture=\"{picture}\">{}{}{}{}</tr>\n",
-        frame.line,
-        cell("step", &grouped(step.into())),
-        cell("line", &line),
-        cell("statement", &text),
-        cell("what changed", &escaped(&frame.changes.join(", ")))
-    )
-}
-
-/// The width of a picture, by which the page does not let it shrink too far.
-fn width(svg: &str) -> &str {
-    let width = svg.split("width=\"").nth(1);
-    width.and_then(|rest| rest.split('"').next()).unwrap_or("0")
-}
-
-/// The drawing after the run, the pictures of the steps before it, and the steps.
-fn film(film: &Film, prefix: &str) -> String {
-    let shown = |at: usize| {
-        let picture = &film.pictures[at];
-        let words: Vec<String> = picture
-            .words
-            .lines()
-            .map(|line| escaped(line.trim()))
-            .collect();
-        let words = match words.is_empty() {
-            true => "no cards".to_string(),
-            false => words.join("\n"),
-        };
-        format!(
-            "<div class=\"drawing\" style=\"--wide: {}px\">{}</div>\n\
-             <pre class=\"cards\">{words}</pre>\n",
-            width(&picture.svg),
-            picture.svg
-        )
-    };
-    let last = film.pictures.len() - 1;
-    let pictures: String = (0..last)
-        .map(|at| {
-            format!(
-                "<template data-picture=\"{at}\">\n{}</template>\n",
-                shown(at)
-            )
-        })
-        .collect();
-    let rows: String = film
-        .frames
-        .iter()
-        .map(|frame| frame_row(frame, prefix))
-        .collect();
-    let headings = ["step", "line", "statement", "what changed"].map(str::to_string);
-    let left_out = match film.left_out {
-        0 => String::new(),
-        steps => format!(
-            "<p class=\"note\">{} steps before the last are not shown.</p>\n",
-            grouped(steps.into())
-        ),
-    };
-    let most = film.frames.len() - 1;
-    let end = film.frames.last().map_or(0, |frame| frame.step);
-    format!(
-        "<section class=\"film\" id=\"{prefix}film\">\n<h2>The cards</h2>\n\
-         <p class=\"controls\" hidden><button type=\"button\" data-by=\"-1\">Step back</button>\
-         <input type=\"range\" min=\"0\" max=\"{most}\" value=\"{most}\" aria-label=\"step\">\
-         <button type=\"button\" data-by=\"1\">Step on</button></p>\n\
-         <p class=\"caption\" aria-live=\"polite\">after step {end}</p>\n\
-         <div class=\"stage\" data-picture=\"{last}\">\n{}</div>\n{pictures}{left_out}\
-         <details><summary>The steps</summary>\n{}</details>\n</section>\n",
-        shown(last),
-        table("stacked steps", &headings, &rows)
-    )
-}
-
 /// The report on one script.
 fn article(findings: &Findings, at: usize, bytes: usize) -> String {
     let prefix = &prefix(at);
-    let cards = Film::of(findings, bytes).map(|cards| film(&cards, prefix));
+    let cards = Film::of(findings, bytes).map(|film| slides::section(&film, prefix));
     let source = format!(
         "<section id=\"{prefix}source\">\n<h2>The script</h2>\n{}</section>\n",
         source::source(findings, prefix)
