@@ -69,7 +69,7 @@ pub const COMMANDS: &[CommandSpec] = &[
     command(
         "report",
         "FILE..",
-        "what the licensing authority asks of each script, answered",
+        "what the licensing authority asks, for each script",
         1,
         MANY,
     ),
@@ -201,7 +201,7 @@ pub const OPTIONS: &[OptionSpec] = &[
     option(
         "no-time",
         None,
-        "leave out the time: the same scripts give the same bytes",
+        "leave out the time: the same bytes each time",
         &["report"],
     ),
     option(

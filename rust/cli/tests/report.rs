@@ -4,6 +4,8 @@
 mod common;
 #[path = "report/errors.rs"]
 mod errors;
+#[path = "report/figures.rs"]
+mod figures;
 #[allow(dead_code)]
 #[path = "../src/json.rs"]
 mod json;
@@ -130,172 +132,19 @@ fn is_whole(page: &Element) {
     assert_eq!(page.named("script").len(), 1);
 }
 
-/// The page's identity, decision, bound and run are those of the calls.
-fn answers_are(page: &Element, file: &str, said: &Said) {
-    let bytes = std::fs::read(root().join(file)).expect("a script");
-    assert_eq!(page.text_of("s1-script"), file);
-    assert_eq!(number(&page.text_of("s1-bytes")), bytes.len() as i64);
-    assert_eq!(page.text_of("s1-sha256"), sha256sum(&root().join(file)));
-    let refused = int(&said.check, "number") != 0;
-    let verdict = if refused { "refused" } else { "accepted" };
-    assert_eq!(page.text_of("s1-verdict"), verdict);
-    let place = |answer: &Json| match int(answer, "line") {
-        0 => format!("number {}: ", int(answer, "number")),
-        line => format!("number {} at line {line}: ", int(answer, "number")),
-    };
-    if refused {
-        let decision = page.text_of("s1-decision");
-        assert!(decision.contains(&place(&said.check)), "{decision}");
-        assert!(page.find("s1-run").is_none());
-        return;
-    }
-    let bound = page.text_of("s1-bound");
-    match said.bound.get("bound").and_then(Json::int) {
-        Some(steps) => {
-            let (told, frames) = bound.split_once(", ").expect("steps and frames");
-            assert_eq!(number(told), steps);
-            assert_eq!(number(frames), int(&said.bound, "frames"));
-        }
-        None => {
-            assert_eq!(bound, "No bound");
-            let question = page.text_of("s1-question-2");
-            assert!(question.contains(&place(&said.bound)), "{question}");
-        }
-    }
-    let run = page.text_of("s1-run");
-    let (line, steps) = run.split_once(" after ").expect("line and steps");
-    let (steps, stop) = steps.split_once(',').unwrap_or((steps, ""));
-    assert_eq!(number(line), int(&said.run, "line"));
-    assert_eq!(
-        number(&page.text_of("s1-allowed")),
-        int(&said.run, "allowed")
-    );
-    if stop.starts_with(" number") {
-        assert_eq!(
-            number(stop.split(':').next().unwrap_or("")),
-            int(&said.run, "number")
-        );
-    }
-    assert_eq!(number(steps), int(&said.run, "steps"));
-    assert_eq!(line.starts_with("finished"), int(&said.run, "number") == 0);
-    variables_are(page, &said.run);
-}
-
-fn variables_are(page: &Element, run: &Json) {
-    let value = |variable: &Json| match (text(variable, "type"), variable.get("value")) {
-        ("int", Some(Json::Int(value))) => value.to_string(),
-        (_, Some(Json::Int(value))) => format!("object {value}"),
-        _ => "null".to_string(),
-    };
-    let variables: Vec<String> = list(run, "variables")
-        .iter()
-        .map(|variable| format!("{} = {}", text(variable, "name"), value(variable)))
-        .collect();
-    let told = page.find("s1-variables").map(Element::text);
-    assert_eq!(told.unwrap_or_default(), variables.join(", "));
-}
-
-/// The route, the steps and the pictures are those of bound, trace and draw.
-fn steps_are(written: &str, page: &Element, said: &Said) {
-    for (at, leg) in said
-        .bound
-        .get("route")
-        .map_or(&[][..], |_| list(&said.bound, "route"))
-        .iter()
-        .enumerate()
-    {
-        let row = page.find(&format!("s1-route-{}", at + 1)).expect("a leg");
-        let cells: Vec<String> = row.named("td").iter().map(|cell| cell.text()).collect();
-        assert_eq!(number(&cells[0]), int(leg, "line"));
-        assert_eq!(number(&cells[2]), int(leg, "adds"));
-        assert_eq!(
-            number(cells[3].split(',').next().unwrap_or("")),
-            int(leg, "own")
-        );
-    }
-    let rows = page.with_class("steps");
-    let Some(rows) = rows.first() else {
-        assert_ne!(int(&said.check, "number"), 0, "a run has its steps");
-        return;
-    };
-    let rows: Vec<&Element> = rows.named("tr").into_iter().skip(1).collect();
-    let trace = list(&said.trace, "trace");
-    assert_eq!(rows[0].number("data-step"), 0);
-    for row in &rows[1..] {
-        let step = row.number("data-step");
-        let traced = &trace[step as usize - 1];
-        assert_eq!(step, int(traced, "step"));
-        assert_eq!(row.number("data-line"), int(traced, "line"));
-        let cells: Vec<String> = row.named("td").iter().map(|cell| cell.text()).collect();
-        assert_eq!(cells[2], text(traced, "text"));
-        let changes = list(traced, "changes").iter().filter_map(Json::text);
-        let changes = changes.collect::<Vec<_>>().join(", ");
-        // The last step of a long run is shown without what it changed.
-        let skipped = step > 400 && cells[3].is_empty();
-        assert!(
-            cells[3] == changes || skipped,
-            "{} is not {changes}",
-            cells[3]
-        );
-    }
-    let last = rows.last().expect("a step");
-    assert_eq!(last.number("data-step"), int(&said.run, "steps"));
-    let stage = page.with_class("stage")[0];
-    assert_eq!(
-        stage.attribute("data-picture"),
-        last.attribute("data-picture")
-    );
-    let picture = text(&said.drawn, "picture");
-    assert_eq!(
-        written.matches(picture).count(),
-        1,
-        "the drawing after the run"
-    );
-    let slider = page.named("input")[0];
-    assert_eq!(slider.number("max"), rows.len() as i64 - 1);
-    let templates = page.named("template");
-    let mut pictures: Vec<i64> = templates
-        .iter()
-        .map(|one| one.number("data-picture"))
-        .collect();
-    pictures.push(stage.number("data-picture"));
-    pictures.sort_unstable();
-    assert!(pictures.iter().copied().eq(0..pictures.len() as i64));
-    assert!(templates.iter().all(|one| one.named("svg").len() == 1));
-    for row in rows {
-        assert!(pictures.contains(&row.number("data-picture")));
-    }
-}
-
-/// The lines of the script stand on the page as the trace shows them.
-fn lines_are(page: &Element, file: &str) {
-    let script = std::fs::read(root().join(file)).expect("a script");
-    let lines = script.split_inclusive(|&byte| byte == b'\n');
-    let shown = page.with_class("source")[0].named("li");
-    assert_eq!(shown.len(), lines.clone().count());
-    for (at, (line, shown)) in lines.zip(shown).enumerate() {
-        let id = format!("s1-L{}", at + 1);
-        assert_eq!(shown.attribute("id"), Some(id.as_str()));
-        let line = line.strip_suffix(b"\n").unwrap_or(line);
-        if line
-            .iter()
-            .all(|byte| byte.is_ascii_graphic() && *byte != b'\\' || *byte == b'\t')
-        {
-            let line = String::from_utf8_lossy(line).replace('\t', " ");
-            assert_eq!(shown.named("code")[0].text(), line);
-        }
-    }
-}
-
 #[test]
 fn pages_of_the_examples() {
     for file in examples() {
         let said = others(&file);
         let (written, page) = page_of(&file);
         is_whole(&page);
-        answers_are(&page, &file, &said);
-        steps_are(&written, &page, &said);
-        lines_are(&page, &file);
+        figures::answers_are(&page, &file, &said);
+        figures::route_is(&page, &said);
+        figures::steps_are(&page, &said);
+        figures::pictures_are(&written, &page, &said);
+        figures::lines_are(&page, &file);
+        let report = object(&["report", "--json", "--no-time", &file]);
+        figures::tables_are(&page, &report, &said);
         assert!(page.find("index").is_none());
     }
 }
