@@ -228,7 +228,7 @@ pub fn finishes(findings: &Findings, prefix: &str) -> String {
 }
 
 pub fn stops(findings: &Findings, prefix: &str) -> String {
-    let headings = ["stop", "can it come?", "on what that rests"];
+    let headings = ["stop", "can it come", "on what that rests"];
     let rows = stops::rows(findings).into_iter().map(|row| {
         let (number, id) = (row.stop.number(), stop_id(row.stop));
         let basis = format!("{}: {}", row.basis.word(), html(&row.basis.said(), prefix));

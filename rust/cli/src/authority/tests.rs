@@ -100,6 +100,48 @@ fn only_read_and_given_back() {
     assert!(seen > 100, "{seen}");
 }
 
+/// A script with a method `m` of these two lines and a variable t, which main calls
+/// for a card with another one, and a method `w` that writes `this.n`.
+fn script_of(requires: &str, body: &str) -> Vec<u8> {
+    let text = format!(
+        "class S\nfield int n\nmethod int w int k\nrequires acc this n\nensures acc this n\n\
+         set this n k\nreturn k\nend\nmethod int m S p\nrequires {requires}\nensures {requires}\n\
+         var S t\nvar int k\nvar int j\nlet k 7\n{body}return k\nend\nmain\nvar S a\nvar S b\nvar int r\n\
+         new a S\nnew b S\ncall r a m b\nend\n"
+    );
+    text.replace(' ', "\t").into_bytes()
+}
+
+/// A field is written by whatever name: that of a variable, of the parameter, or
+/// of a receiver. Two that are handed over are of two cards.
+#[test]
+fn written_by_any_name() {
+    let own = "acc this n ne this null";
+    let both = "acc this n acc p n ne this null ne p null";
+    for (requires, body, only_read) in [
+        (own, "", &["this.n"][..]),
+        (own, "let k this.n\n", &["this.n"]),
+        (own, "set this n k\n", &[]),
+        (own, "let t this\nset t n k\n", &[]),
+        (own, "new t S\nset t n k\n", &[]),
+        (own, "call j this w k\n", &[]),
+        (own, "let t this\ncall j t w k\n", &[]),
+        (both, "set this n k\n", &["p.n"]),
+        (both, "set p n k\n", &["this.n"]),
+        (both, "call j p w k\n", &["this.n"]),
+        (both, "let t p\nset t n k\n", &[]),
+    ] {
+        let text = script_of(requires, body);
+        assert_eq!(nuyardi::check(&text).err(), None, "{requires}: {body}");
+        let script = Script::of(&text).expect("it is read");
+        let rows = methods::rows(&script);
+        run_is_as_told(&script, &rows);
+        let kept = rows[1].handed.iter().filter(|handed| !handed.written);
+        let kept: Vec<&str> = kept.map(|handed| handed.path.as_str()).collect();
+        assert_eq!(kept, only_read, "{requires}: {body}");
+    }
+}
+
 /// A run that ends with a number and a line agrees with the row of its stop.
 fn agrees(findings: &Findings, number: u32, line: u32, steps: u32) {
     let rows = stops::rows(findings);
