@@ -1,6 +1,6 @@
 //! The answers in sentences, for the text and the page.
 
-use super::claims::{Theorem, AT_A_LINE, BOUND, EVERY_RUN, TRIAL};
+use super::claims::{Theorem, AT_A_LINE, BOUND, EVERY_RUN, FRAMES, TRIAL};
 use super::findings::Findings;
 use super::methods::Row;
 use super::said::{self, code, joined, sentence, text, Piece, Said};
@@ -92,7 +92,7 @@ pub fn finishes(findings: &Findings) -> Answer {
             said: sentence(
                 "No run takes more, and none that is allowed so many ends for want of steps.",
             ),
-            theorems: vec![&BOUND],
+            theorems: vec![&BOUND, &FRAMES],
         },
         Err(NoBound::Accepted { excess, line }) => Answer {
             short: "No bound".to_string(),
@@ -143,22 +143,34 @@ pub fn leg_lines(leg: &Leg) -> String {
     format!("{}{calls}", counted(leg.own, "line"))
 }
 
-/// The columns of question 1, each with whether it is proved.
-pub const COLUMNS: [(&str, Option<&Theorem>); 6] = [
-    ("handed over", Some(&EVERY_RUN)),
-    ("written", None),
-    ("only read", None),
-    ("not given back", None),
-    ("cards it makes", None),
-    ("called from", None),
+/// The columns of question 1. The first is proved, the others are read off the
+/// text.
+pub const COLUMNS: [&str; 6] = [
+    "handed over",
+    "written",
+    "only read",
+    "not given back",
+    "cards it makes",
+    "called from",
 ];
+
+/// By which theorem a column is proved, if it is: of a refused text that of
+/// trials.
+pub fn column_theorem(findings: &Findings, column: &str) -> Option<&'static Theorem> {
+    match (column == COLUMNS[0], findings.refusal()) {
+        (true, None) => Some(&EVERY_RUN),
+        (true, Some(_)) => Some(&TRIAL),
+        (false, _) => None,
+    }
+}
 
 fn at_line(mut said: Said, line: u32) -> Said {
     said.extend([text(" (line "), Piece::Line(line), text(")")]);
     said
 }
 
-fn block(name: &str) -> Said {
+/// A method by its name, or main.
+pub fn block(name: &str) -> Said {
     match name {
         "main" => vec![text("main")],
         name => vec![code(name)],

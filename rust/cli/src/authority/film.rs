@@ -3,7 +3,7 @@
 
 use super::findings::Findings;
 use crate::cards;
-use crate::cause::machine_at;
+use crate::cause::{machine_at, AGAIN};
 use crate::draw;
 use crate::script::{quoted, Script};
 use crate::trace;
@@ -40,10 +40,14 @@ pub struct Film {
 }
 
 impl Film {
-    /// The film of the run; none if there was none, or the model's is another.
+    /// The film of the run; none if there was none, if it is too long to be done
+    /// again, or the model's is another.
     pub fn of(findings: &Findings, bytes: usize) -> Option<Film> {
         let script = findings.script.as_ref()?;
         let steps = findings.outcome()?.steps();
+        if steps > AGAIN {
+            return None;
+        }
         let mut film = Film {
             frames: Vec::new(),
             pictures: Vec::new(),

@@ -43,6 +43,17 @@ fn takes_place_of_a_script(page: &OsStr, scripts: &[OsString]) -> bool {
     page.is_some() && scripts.iter().any(|script| same(script) == page)
 }
 
+/// Why a page can't stand there, if it can't.
+fn unfit(session: &Session, page: &OsStr, scripts: &[OsString]) -> Option<String> {
+    if page == "-" && session.json() {
+        return Some("--json and --html - would print both to one place".to_string());
+    }
+    takes_place_of_a_script(page, scripts).then(|| {
+        let page = file_name(page);
+        format!("{page} is one of the scripts; name another file for the page")
+    })
+}
+
 /// Reads each file; what can't be read is told.
 fn read(names: &[OsString]) -> Vec<File> {
     let one = |name: &OsString| {
@@ -126,14 +137,12 @@ pub fn report(session: &mut Session) -> u8 {
     let names = files::expanded(&operands);
     let indexed = names.len() > 1 || operands.iter().any(|name| Path::new(name).is_dir());
     let page = session.words.html.take();
-    if let Some(page) = page.as_deref() {
-        if takes_place_of_a_script(page, &names) {
-            let page = file_name(page);
-            complain(&format!(
-                "{page} is one of the scripts; name another file for the page"
-            ));
-            return FAILED;
-        }
+    if let Some(told) = page
+        .as_deref()
+        .and_then(|page| unfit(session, page, &names))
+    {
+        complain(&told);
+        return FAILED;
     }
     let files = read(&names);
     let entries = entries(session, &files);

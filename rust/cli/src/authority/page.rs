@@ -18,7 +18,11 @@ fn prefix(at: usize) -> String {
 /// The report on one script.
 fn article(findings: &Findings, at: usize, bytes: usize) -> String {
     let prefix = &prefix(at);
-    let cards = Film::of(findings, bytes).map(|film| slides::section(&film, prefix));
+    let cards = match Film::of(findings, bytes) {
+        Some(film) => slides::section(&film, prefix),
+        None if findings.outcome().is_some() => slides::none(prefix),
+        None => String::new(),
+    };
     let source = format!(
         "<section id=\"{prefix}source\">\n<h2>The script</h2>\n{}</section>\n",
         source::source(findings, prefix)
@@ -30,7 +34,7 @@ fn article(findings: &Findings, at: usize, bytes: usize) -> String {
         sections::finishes(findings, prefix),
         sections::stops(findings, prefix),
         source,
-        cards.unwrap_or_default(),
+        cards,
         sections::assumed(prefix),
     ];
     let name = escaped(&findings.identity.file);

@@ -1,6 +1,7 @@
 //! Question 2: the lines for which a text has no bound, each with what a run says
 //! there.
 
+use super::answers;
 use super::methods::block_name;
 use super::said::{self, code, text, Piece, Said};
 use crate::cause::AGAIN;
@@ -87,14 +88,8 @@ impl Reason {
 
     /// The line itself, and where it is.
     pub fn place(&self) -> Said {
-        let mut said = vec![code(self.text.clone())];
-        said.push(text(match self.block.as_str() {
-            "main" => " in main".to_string(),
-            _ => " in ".to_string(),
-        }));
-        if self.block != "main" {
-            said.push(code(self.block.clone()));
-        }
+        let mut said = vec![code(self.text.clone()), text(" in ")];
+        said.extend(answers::block(&self.block));
         said
     }
 }

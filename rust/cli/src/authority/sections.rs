@@ -104,7 +104,7 @@ pub fn alters(findings: &Findings, prefix: &str) -> String {
     let rows = findings.methods.iter().enumerate().map(|(at, row)| {
         let cells = COLUMNS.iter().zip(answers::cells(row));
         let cells: String = cells
-            .map(|((heading, _), said)| cell(heading, &html(&said, prefix)))
+            .map(|(heading, said)| cell(heading, &html(&said, prefix)))
             .collect();
         let name = html(&answers::row_title(row), prefix);
         let line = html(&[Piece::Line(row.line)], prefix);
@@ -113,10 +113,11 @@ pub fn alters(findings: &Findings, prefix: &str) -> String {
     });
     let rows: String = rows.collect();
     let mut headings = vec!["method".to_string()];
-    headings.extend(COLUMNS.iter().map(|(heading, by)| {
-        let basis = by.map_or("read off the text".to_string(), |by| {
-            format!("proved: {}", by.name)
-        });
+    headings.extend(COLUMNS.iter().map(|heading| {
+        let basis = match answers::column_theorem(findings, heading) {
+            Some(by) => format!("proved: {}", by.name),
+            None => "read off the text".to_string(),
+        };
         format!("{heading} <span class=\"basis\">{basis}</span>")
     }));
     if !rows.is_empty() {

@@ -4,6 +4,7 @@
 use super::film::{Film, Frame, Picture};
 use super::html::{cell, escaped, table};
 use super::said::{html, Piece};
+use crate::cause::AGAIN;
 use crate::show::counted;
 
 /// The width of a picture, by which the page does not let it shrink too far.
@@ -91,5 +92,14 @@ pub fn section(film: &Film, prefix: &str) -> String {
         drawn(&film.pictures[shown]),
         others(film, shown),
         steps(film, prefix)
+    )
+}
+
+/// In the place of the section, where the steps of a run are not shown.
+pub fn none(prefix: &str) -> String {
+    let most = counted(AGAIN.into(), "step");
+    format!(
+        "<section id=\"{prefix}film\">\n<h2>The cards</h2>\n\
+         <p>They are drawn of runs of at most {most}.</p>\n</section>\n"
     )
 }

@@ -5,8 +5,8 @@ use super::findings::Findings;
 use super::html::escaped;
 use super::said::line_id;
 use super::stops::{self, Verdict};
-use crate::show::{counted, shown};
-use nuyardi::Stop;
+use crate::show::{counted, grouped, shown};
+use nuyardi::{limits, Stop};
 
 /// A word beside a line, and the row of a table that it leads to.
 pub struct Mark {
@@ -104,7 +104,7 @@ fn lines(text: &[u8]) -> impl Iterator<Item = &[u8]> {
     lines.map(|line| line.strip_suffix(b"\n").unwrap_or(line))
 }
 
-/// The lines as a list; one without LF at its end says so.
+/// The lines as a list.
 pub fn source(findings: &Findings, prefix: &str) -> String {
     let marks = marks(findings);
     let mut out = String::from("<ol class=\"source\">\n");
@@ -126,5 +126,10 @@ pub fn source(findings: &Findings, prefix: &str) -> String {
         ));
     }
     out.push_str("</ol>\n");
+    if findings.identity.content.is_none() {
+        let most = grouped(limits::TEXT_BYTES as u128);
+        let said = format!("The text goes on; it has more than {most} bytes.");
+        out.push_str(&format!("<p class=\"note\">{said}</p>\n"));
+    }
     out
 }

@@ -79,7 +79,7 @@ fn alters(out: &mut String, findings: &Findings) {
     for method in &findings.methods {
         let (name, line) = (plain(&answers::row_title(method)), method.line);
         let _ = writeln!(out, "  line {line}: {name}");
-        for ((heading, _), cell) in COLUMNS.iter().zip(answers::cells(method)) {
+        for (heading, cell) in COLUMNS.iter().zip(answers::cells(method)) {
             let heading = format!("{heading}:");
             wrapped(out, &format!("    {heading:<15} "), &plain(&cell));
         }
@@ -87,43 +87,32 @@ fn alters(out: &mut String, findings: &Findings) {
     if findings.methods.is_empty() {
         return;
     }
-    for (heading, theorem) in COLUMNS {
-        if let Some(theorem) = theorem {
-            let said = format!(
-                "`{heading}` is all that a call can change: {}",
-                theorem.name
-            );
-            row(out, "proved", &said);
-        }
+    let proof = |column: &str| answers::column_theorem(findings, column);
+    for (column, theorem) in COLUMNS.iter().filter_map(|one| Some((one, proof(one)?))) {
+        let said = format!("`{column}` is all that a call can change: {}", theorem.name);
+        row(out, "proved", &said);
     }
     let read: Vec<&str> = COLUMNS
-        .iter()
-        .filter(|(_, theorem)| theorem.is_none())
-        .map(|(heading, _)| *heading)
+        .into_iter()
+        .filter(|one| proof(one).is_none())
         .collect();
     row(out, "read off", &format!("the text: {}", read.join(", ")));
 }
 
-/// Question 2: the bound with its route, or each line that leaves none.
-fn finishes(out: &mut String, findings: &Findings) {
-    let _ = writeln!(out, "\n2. If it does not finish, which line is the reason?");
-    answer(out, "answer", &answers::finishes(findings));
-    cause(
-        out,
-        findings
-            .cause
-            .as_ref()
-            .filter(|_| findings.reasons.is_empty()),
-    );
+fn route(out: &mut String, findings: &Findings) {
     for (at, leg) in findings.route.iter().enumerate() {
         let what = plain(&answers::leg_said(findings.text, at, leg));
-        let (steps, lines) = (grouped(leg.bound), answers::leg_lines(leg));
+        let (line, steps, lines) = (leg.line, grouped(leg.bound), answers::leg_lines(leg));
+        let verb = if at == 0 { "takes" } else { "adds" };
         row(
             out,
             "route",
-            &format!("line {}: {what} adds {steps}: {lines}", leg.line),
+            &format!("line {line}: {what} {verb} {steps}: {lines}"),
         );
     }
+}
+
+fn reasons(out: &mut String, findings: &Findings) {
     for reason in &findings.reasons {
         let (place, kind) = (plain(&reason.place()), plain(&reason.kind()));
         row(
@@ -134,23 +123,35 @@ fn finishes(out: &mut String, findings: &Findings) {
         row(out, "a run", &plain(&reason.says()));
         row(out, "this one", &plain(&reason.seen()));
     }
-    if let Some(said) = answers::run(findings) {
-        let allowed = grouped(findings.allowed.into());
-        row(
-            out,
-            "run",
-            &format!("of {allowed} allowed steps: {}", plain(&said)),
-        );
-        let ran = findings.answered.ran.as_ref();
-        cause(out, ran.and_then(|ran| ran.cause.as_ref()));
-        for variable in findings
-            .outcome()
-            .into_iter()
-            .flat_map(|ran| ran.variables())
-        {
-            let _ = writeln!(out, "    {} = {}", variable.name, variable.value);
-        }
+}
+
+fn run(out: &mut String, findings: &Findings) {
+    let Some(said) = answers::run(findings) else {
+        return;
+    };
+    let (allowed, said) = (grouped(findings.allowed.into()), plain(&said));
+    row(out, "run", &format!("of {allowed} allowed steps: {said}"));
+    let ran = findings.answered.ran.as_ref();
+    cause(out, ran.and_then(|ran| ran.cause.as_ref()));
+    let variables = findings
+        .outcome()
+        .into_iter()
+        .flat_map(|ran| ran.variables());
+    for variable in variables {
+        let _ = writeln!(out, "    {} = {}", variable.name, variable.value);
     }
+}
+
+/// Question 2: the bound with its route, or each line that leaves none.
+fn finishes(out: &mut String, findings: &Findings) {
+    let question = "2. If it does not finish, which line is the reason?";
+    let _ = writeln!(out, "\n{question}");
+    answer(out, "answer", &answers::finishes(findings));
+    let why = findings.cause.as_ref();
+    cause(out, why.filter(|_| findings.reasons.is_empty()));
+    route(out, findings);
+    reasons(out, findings);
+    run(out, findings);
 }
 
 fn stop_rows(out: &mut String, findings: &Findings) {

@@ -101,6 +101,13 @@ fn what_can_not_be_read() {
         "{error}"
     );
     only(&folder, &[]);
+}
+
+/// What can be read is reported on, and the page says what could not.
+#[test]
+fn the_others_are_done() {
+    let folder = folder("report-others");
+    let page = folder.join("page.html");
     let words = [
         "report",
         "--html",
@@ -161,6 +168,7 @@ fn where_a_page_can_not_be_written() {
         &["report", "a", "--html="],
         &["check", "--html", "x", "a"],
         &["run", "--no-time", "a"],
+        &["report", "--json", "--html", "-", "examples/tag.script"],
     ] {
         assert_eq!(status(words, b""), 2, "{words:?}");
     }

@@ -16,43 +16,48 @@ pub fn answers_are(page: &Element, file: &str, said: &Said) {
     let refused = int(&said.check, "number") != 0;
     let verdict = if refused { "refused" } else { "accepted" };
     assert_eq!(page.text_of("s1-verdict"), verdict);
-    let place = |answer: &Json| match int(answer, "line") {
-        0 => format!("number {}: ", int(answer, "number")),
-        line => format!("number {} at line {line}: ", int(answer, "number")),
-    };
     if refused {
         let decision = page.text_of("s1-decision");
         assert!(decision.contains(&place(&said.check)), "{decision}");
         assert!(page.find("s1-run").is_none());
         return;
     }
-    let bound = page.text_of("s1-bound");
-    match said.bound.get("bound").and_then(Json::int) {
-        Some(steps) => {
-            let (told, frames) = bound.split_once(", ").expect("steps and frames");
-            assert_eq!(number(told), steps);
-            assert_eq!(number(frames), int(&said.bound, "frames"));
-        }
-        None => {
-            assert_eq!(bound, "No bound");
-            let question = page.text_of("s1-question-2");
-            assert!(question.contains(&place(&said.bound)), "{question}");
-        }
-    }
-    let run = page.text_of("s1-run");
-    let (line, steps) = run.split_once(" after ").expect("line and steps");
-    let (steps, stop) = steps.split_once(", number ").unwrap_or((steps, ""));
-    assert_eq!(number(line), int(&said.run, "line"));
-    assert_eq!(
-        number(&page.text_of("s1-allowed")),
-        int(&said.run, "allowed")
-    );
-    if let Some((stop, _)) = stop.split_once(':') {
-        assert_eq!(number(stop), int(&said.run, "number"));
-    }
-    assert_eq!(number(steps), int(&said.run, "steps"));
-    assert_eq!(line.starts_with("finished"), int(&said.run, "number") == 0);
+    bound_is(page, &said.bound);
+    run_is(page, &said.run);
     variables_are(page, &said.run);
+}
+
+/// How a page names a number and its line.
+fn place(answer: &Json) -> String {
+    match (int(answer, "number"), int(answer, "line")) {
+        (number, 0) => format!("number {number}: "),
+        (number, line) => format!("number {number} at line {line}: "),
+    }
+}
+
+fn bound_is(page: &Element, bound: &Json) {
+    let told = page.text_of("s1-bound");
+    let Some(steps) = bound.get("bound").and_then(Json::int) else {
+        assert_eq!(told, "No bound");
+        let question = page.text_of("s1-question-2");
+        assert!(question.contains(&place(bound)), "{question}");
+        return;
+    };
+    let (told, frames) = told.split_once(", ").expect("steps and frames");
+    assert_eq!(number(told), steps);
+    assert_eq!(number(frames), int(bound, "frames"));
+}
+
+fn run_is(page: &Element, run: &Json) {
+    let told = page.text_of("s1-run");
+    let (line, steps) = told.split_once(" after ").expect("line and steps");
+    let (steps, stop) = steps.split_once(", number ").unwrap_or((steps, "0:"));
+    let (stop, _) = stop.split_once(':').expect("a number and its words");
+    assert_eq!(line.starts_with("finished"), int(run, "number") == 0);
+    assert_eq!(number(line), int(run, "line"));
+    assert_eq!(number(steps), int(run, "steps"));
+    assert_eq!(number(stop), int(run, "number"));
+    assert_eq!(number(&page.text_of("s1-allowed")), int(run, "allowed"));
 }
 
 fn variables_are(page: &Element, run: &Json) {
@@ -164,63 +169,67 @@ fn lines_of(row: &Element) -> BTreeSet<i64> {
         .collect()
 }
 
+/// The row of a table.
+fn row<'p>(page: &'p Element, table: &str, number: usize) -> &'p Element {
+    let id = format!("s1-{table}-{number}");
+    page.find(&id).unwrap_or_else(|| panic!("no {id}"))
+}
+
 /// The tables of methods, reasons and stops are those of the JSON object.
 pub fn tables_are(page: &Element, report: &Json, said: &Said) {
     for (at, method) in list(report, "methods").iter().enumerate() {
-        let row = page
-            .find(&format!("s1-method-{}", at + 1))
-            .expect("a method");
-        let parts = ["writes", "makes", "callers"].map(|name| list(method, name));
-        let lines = parts
-            .concat()
-            .iter()
-            .map(|one| int(one, "line"))
-            .collect::<BTreeSet<_>>();
-        let own = BTreeSet::from([int(method, "line")]);
-        assert_eq!(lines_of(row), &lines | &own);
-        let handed = list(method, "handed").iter().map(|one| text(one, "path"));
-        let handed = handed.collect::<Vec<_>>().join(", ");
-        let told = &cells(row)[0];
-        assert_eq!(
-            told,
-            if handed.is_empty() {
-                "nothing"
-            } else {
-                &handed
-            }
-        );
+        method_is(row(page, "method", at + 1), method);
     }
     for (at, reason) in list(report, "reasons").iter().enumerate() {
-        let row = page
-            .find(&format!("s1-reason-{}", at + 1))
-            .expect("a reason");
-        assert_eq!(number(&cells(row)[0]), int(reason, "line"));
-        let trace = list(&said.trace, "trace").iter();
-        let times = trace
-            .filter(|step| int(step, "line") == int(reason, "line"))
-            .count();
-        assert_eq!(int(reason, "times"), times as i64);
-        let called = reason.get("called") == Some(&Json::Bool(true));
-        let (done, shown) = (format!("done {times} time"), &cells(row)[3]);
-        assert!(
-            shown.replace(',', "").starts_with(&done) || !called,
-            "{shown}"
+        reason_is(
+            row(page, "reason", at + 1),
+            reason,
+            list(&said.trace, "trace"),
         );
     }
     for stop in list(report, "stops") {
-        let row = page
-            .find(&format!("s1-stop-{}", int(stop, "number")))
-            .expect("a stop");
-        let lines = list(stop, "lines").iter().filter_map(Json::int);
-        assert_eq!(lines_of(row), lines.collect());
-        let start = match text(stop, "verdict") {
-            "bounded" => format!("not with {} step", grouped(int(stop, "steps"))),
-            "comes" => "it comes: line ".to_string(),
-            verdict => verdict.to_string(),
-        };
-        assert!(cells(row)[1].starts_with(&start), "{start}");
-        assert!(cells(row)[2].starts_with(text(stop, "basis")), "{stop}");
+        stop_is(row(page, "stop", int(stop, "number") as usize), stop);
     }
+}
+
+fn method_is(row: &Element, method: &Json) {
+    let parts = ["writes", "makes", "callers"].map(|name| list(method, name));
+    let parts = parts.concat();
+    let lines = parts.iter().chain([method]).map(|one| int(one, "line"));
+    assert_eq!(lines_of(row), lines.collect());
+    let handed = list(method, "handed").iter();
+    let handed: Vec<&str> = handed.map(|one| text(one, "path")).collect();
+    let handed = match handed.is_empty() {
+        true => "nothing".to_string(),
+        false => handed.join(", "),
+    };
+    assert_eq!(cells(row)[0], handed);
+}
+
+fn reason_is(row: &Element, reason: &Json, trace: &[Json]) {
+    let (line, cells) = (int(reason, "line"), cells(row));
+    assert_eq!(number(&cells[0]), line);
+    let times = trace.iter().filter(|step| int(step, "line") == line);
+    let times = times.count() as i64;
+    assert_eq!(int(reason, "times"), times);
+    let start = match reason.get("called") {
+        Some(Json::Bool(true)) => format!("done {} time", grouped(times)),
+        _ => "never: ".to_string(),
+    };
+    assert!(cells[3].starts_with(&start), "{}", cells[3]);
+}
+
+fn stop_is(row: &Element, stop: &Json) {
+    let lines = list(stop, "lines").iter().filter_map(Json::int);
+    assert_eq!(lines_of(row), lines.collect());
+    let start = match text(stop, "verdict") {
+        "bounded" => format!("not with {} step", grouped(int(stop, "steps"))),
+        "comes" => "it comes: line ".to_string(),
+        verdict => verdict.to_string(),
+    };
+    let cells = cells(row);
+    assert!(cells[1].starts_with(&start), "{start}: {}", cells[1]);
+    assert!(cells[2].starts_with(text(stop, "basis")), "{}", cells[2]);
 }
 
 /// 1000 as `1,000`.

@@ -176,9 +176,14 @@ fn the_table_of_methods() {
         (places(main, "writes"), places(main, "makes")),
         (vec![19, 20], vec![16, 17])
     );
+}
+
+/// A field that `ensures` does not give back.
+#[test]
+fn what_is_not_given_back() {
     let report = object(&["report", "--json", "examples/lost.script"]);
     let handed = list(&list(&report, "methods")[0], "handed").iter();
-    let kept = handed.filter(|one| one.get("back") == no);
+    let kept = handed.filter(|one| one.get("back") == Some(&Json::Bool(false)));
     assert_eq!(
         kept.map(|one| text(one, "path")).collect::<Vec<_>>(),
         ["this.tag"]
