@@ -3,6 +3,7 @@
 
 use crate::script::{shown, Script};
 use model::names::{Action, Atom, Expr, Path, Statement, Var, THIS};
+use model::watch::Record;
 
 /// How much of a permission an atom is.
 #[derive(Clone, Copy, Debug, PartialEq, Eq)]
@@ -76,6 +77,8 @@ pub struct Row {
 struct Write<'a> {
     var: Var,
     field: &'a [u8],
+    /// The place of its statement.
+    place: usize,
     line: u32,
     by: Option<usize>,
 }
@@ -85,6 +88,8 @@ type Permission<'a> = (Share, Path<'a>);
 /// Of each block what it is handed, and which of that may be written.
 struct Blocks<'s, 'a> {
     script: &'s Script<'a>,
+    /// What the checker knows at each line of an accepted text.
+    known: Option<Record<'a>>,
     handed: Vec<Vec<Permission<'a>>>,
     altered: Vec<Vec<bool>>,
 }
@@ -96,8 +101,10 @@ impl<'s, 'a> Blocks<'s, 'a> {
             .map(|block| block.requires.iter().filter_map(permission).collect())
             .collect();
         let altered = handed.iter().map(|all| vec![false; all.len()]).collect();
+        let known = Record::of(&script.lines, &script.program);
         let mut blocks = Blocks {
             script,
+            known: known.filter(|known| known.refusal.is_none()),
             handed,
             altered,
         };
@@ -121,17 +128,19 @@ impl<'s, 'a> Blocks<'s, 'a> {
     }
 
     fn writes(&self, block: usize) -> Vec<Write<'a>> {
-        let body = self.script.program.body(block).iter();
-        body.flat_map(|statement| self.writes_of(statement))
+        let first = self.script.program.blocks[block].start;
+        let body = (first..).zip(self.script.program.body(block));
+        body.flat_map(|(place, statement)| self.writes_of(place, statement))
             .collect()
     }
 
-    fn writes_of(&self, statement: &Statement<'a>) -> Vec<Write<'a>> {
+    fn writes_of(&self, place: usize, statement: &Statement<'a>) -> Vec<Write<'a>> {
         let line = statement.line;
         match statement.action {
             Action::Set(path, _) => vec![Write {
                 var: path.var,
                 field: path.field,
+                place,
                 line,
                 by: None,
             }],
@@ -143,6 +152,7 @@ impl<'s, 'a> Blocks<'s, 'a> {
                 let write = written.map(|((_, path), _)| Write {
                     var: if path.var == THIS { call.y } else { call.z },
                     field: path.field,
+                    place,
                     line,
                     by: Some(call.method),
                 });
@@ -153,7 +163,8 @@ impl<'s, 'a> Blocks<'s, 'a> {
     }
 
     /// May a write hit a field that its block is handed? The names of `this` and
-    /// of the parameter stay; other variables may be either.
+    /// of the parameter stay; other variables may be either, unless the checker
+    /// knows better.
     fn may_hit(&self, block: usize, write: &Write, at: usize) -> bool {
         let (share, path) = self.handed[block][at];
         if path.field != write.field || !share.writes() {
@@ -167,7 +178,16 @@ impl<'s, 'a> Blocks<'s, 'a> {
         let apart = others.any(|(other, its)| {
             (its.var, its.field) == (write.var, write.field) && share.apart(*other)
         });
-        !apart && names.kind(path.var) == names.kind(write.var)
+        let alike = names.kind(path.var) == names.kind(write.var);
+        alike && !apart && !self.differ(write.place, path.var, write.var)
+    }
+
+    /// Does the checker know before a line that two variables are of two cards?
+    fn differ(&self, place: usize, one: Var, other: Var) -> bool {
+        let seen = self.known.as_ref().map(|known| &known.seen[place]);
+        let differ = [Atom::Ne(Expr::Var(one), Expr::Var(other))];
+        let state = seen.and_then(|seen| seen.before.as_ref());
+        state.is_some_and(|state| state.show(&differ).is_ok())
     }
 
     /// Does `ensures` give a handed field back, by its own name or an equal one?

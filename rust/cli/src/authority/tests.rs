@@ -102,10 +102,10 @@ fn only_read_and_given_back() {
 
 /// A script with a method `m` of these two lines and a variable t, which main calls
 /// for a card with another one, and a method `w` that writes `this.n`.
-fn script_of(requires: &str, body: &str) -> Vec<u8> {
+fn script_of(requires: &str, ensures: &str, body: &str) -> Vec<u8> {
     let text = format!(
         "class S\nfield int n\nmethod int w int k\nrequires acc this n\nensures acc this n\n\
-         set this n k\nreturn k\nend\nmethod int m S p\nrequires {requires}\nensures {requires}\n\
+         set this n k\nreturn k\nend\nmethod int m S p\nrequires {requires}\nensures {ensures}\n\
          var S t\nvar int k\nvar int j\nlet k 7\n{body}return k\nend\nmain\nvar S a\nvar S b\nvar int r\n\
          new a S\nnew b S\ncall r a m b\nend\n"
     );
@@ -113,25 +113,30 @@ fn script_of(requires: &str, body: &str) -> Vec<u8> {
 }
 
 /// A field is written by whatever name: that of a variable, of the parameter, or
-/// of a receiver. Two that are handed over are of two cards.
+/// of a receiver. Two that are handed over are of two cards, and so is one that
+/// is made.
 #[test]
 fn written_by_any_name() {
-    let own = "acc this n ne this null";
+    let (own, gone) = ("acc this n ne this null", "ne this null");
     let both = "acc this n acc p n ne this null ne p null";
-    for (requires, body, only_read) in [
-        (own, "", &["this.n"][..]),
-        (own, "let k this.n\n", &["this.n"]),
-        (own, "set this n k\n", &[]),
-        (own, "let t this\nset t n k\n", &[]),
-        (own, "new t S\nset t n k\n", &[]),
-        (own, "call j this w k\n", &[]),
-        (own, "let t this\ncall j t w k\n", &[]),
-        (both, "set this n k\n", &["p.n"]),
-        (both, "set p n k\n", &["this.n"]),
-        (both, "call j p w k\n", &["this.n"]),
-        (both, "let t p\nset t n k\n", &[]),
+    let either = "if eq k 7\nlet t p\nelse\nlet t this\njoin acc t n ne this null\nset t n k\n";
+    for (requires, ensures, body, only_read) in [
+        (own, own, "", &["this.n"][..]),
+        (own, own, "let k this.n\n", &["this.n"]),
+        (own, own, "set this n k\n", &[]),
+        (own, own, "let t this\nset t n k\n", &[]),
+        (own, own, "new t S\nset t n k\n", &["this.n"]),
+        (own, own, "new t S\ncall j t w k\n", &["this.n"]),
+        (own, own, "new t S\nlet t this\nset t n k\n", &[]),
+        (own, own, "call j this w k\n", &[]),
+        (own, own, "let t this\ncall j t w k\n", &[]),
+        (both, both, "set this n k\n", &["p.n"]),
+        (both, both, "set p n k\n", &["this.n"]),
+        (both, both, "call j p w k\n", &["this.n"]),
+        (both, both, "let t p\nset t n k\n", &["this.n"]),
+        (both, gone, either, &[]),
     ] {
-        let text = script_of(requires, body);
+        let text = script_of(requires, ensures, body);
         assert_eq!(nuyardi::check(&text).err(), None, "{requires}: {body}");
         let script = Script::of(&text).expect("it is read");
         let rows = methods::rows(&script);
