@@ -49,6 +49,13 @@ fn proved_library(root: &Path) -> PathBuf {
     root.join("target/staticlib/libstation.a")
 }
 
+/// Links libnuyardi.a of a folder; builds of crates over this one get its path
+/// as DEP_NUYARDI_LIBRARY.
+fn linked(folder: &Path) {
+    println!("cargo:rustc-link-search=native={}", folder.display());
+    println!("cargo:library={}", folder.join("libnuyardi.a").display());
+}
+
 /// Makes libnuyardi.a in the build's folder.
 fn made_library(root: &Path, out: &Path) {
     println!("cargo:rerun-if-env-changed=STATION_LIB");
@@ -58,7 +65,7 @@ fn made_library(root: &Path, out: &Path) {
     let header = root.join("include/station.h");
     println!("cargo:rerun-if-changed={}", header.display());
     tool(root, "c-library", &[&library, &out.join("libnuyardi.a")]);
-    println!("cargo:rustc-link-search=native={}", out.display());
+    linked(out);
 }
 
 /// Makes both, from the repository.
@@ -75,7 +82,7 @@ fn in_repository(root: &Path, out: &Path, linked: bool) -> Vec<u8> {
 /// is this crate, PREFIX/lib has the library.
 fn installed(host: &Path) -> Vec<u8> {
     let libraries = host.join("../../../../lib");
-    println!("cargo:rustc-link-search=native={}", libraries.display());
+    linked(&libraries);
     let limits = host.join("limits.rs");
     println!("cargo:rerun-if-changed={}", limits.display());
     fs::read(&limits).unwrap_or_else(|error| fail(format!("{}: {error}", limits.display())))

@@ -2,6 +2,7 @@
 //! said of them is the crate `explain`'s.
 
 mod args;
+mod authority;
 mod commands;
 mod files;
 mod library;
@@ -29,6 +30,7 @@ fn dispatch(session: &mut Session) -> u8 {
         "known" => looking::known(session),
         "draw" => session.each(looking::draw_one),
         "bound" => session.each_script(looking::bound_one),
+        "report" => authority::report(session),
         "fmt" | "tabs" => session.each_script(commands::fmt_one),
         "explain" => commands::explain(session),
         "completions" => commands::completions(session),

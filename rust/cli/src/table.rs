@@ -67,6 +67,13 @@ pub const COMMANDS: &[CommandSpec] = &[
         MANY,
     ),
     command(
+        "report",
+        "FILE..",
+        "what the licensing authority asks, for each script",
+        1,
+        MANY,
+    ),
+    command(
         "trace",
         "FILE",
         "run a script, and show each step with what it changed",
@@ -143,7 +150,7 @@ pub const OPTIONS: &[OptionSpec] = &[
         "steps",
         Some("N"),
         "allow N steps in place of 1,000",
-        &["run", "trial", "trace", "draw"],
+        &["run", "trial", "trace", "draw", "report"],
     ),
     option(
         "cards",
@@ -186,11 +193,23 @@ pub const OPTIONS: &[OptionSpec] = &[
         &["fmt"],
     ),
     option(
+        "html",
+        Some("FILE"),
+        "write a page with all in it, whole or not at all",
+        &["report"],
+    ),
+    option(
+        "no-time",
+        None,
+        "leave out the time: the same bytes each time",
+        &["report"],
+    ),
+    option(
         "json",
         None,
         "JSON, an object for each file",
         &[
-            "check", "run", "trial", "bound", "trace", "known", "draw", "fmt", "explain",
+            "check", "run", "trial", "bound", "report", "trace", "known", "draw", "fmt", "explain",
         ],
     ),
     option(
