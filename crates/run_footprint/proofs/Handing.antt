@@ -3,7 +3,7 @@ use mathlib.Core.Path.{_≡_, refl, sym, ap, _∙_}
 use mathlib.Core.Bool.{Bool, true, false, cond}
 use mathlib.Core.List.{List, [], _∷_}
 use mathlib.Core.Logic.{_⊎_, inl, inr, ⊎-elim}
-use Prim.Native.Nat.{ℕ, _+_, _*_, _/_, _%_, _≤_, _<_}
+use Prim.Native.Nat.{ℕ, _+_, _≤_, _<_}
 use native.Mathlib.Omega.{arith}
 use lib.Dec.{eqb, ltb, eqb-refl}
 use lib.ListN.{length}
@@ -16,7 +16,7 @@ use Rattle.tables.specs.Decode.{wordAt}
 use Rattle.tables.specs.Stores.{putWord}
 use Rattle.tables.proofs.Bytes.{put-word-length, word-put, word-kept}
 use Rattle.run_heap.specs.Views.{holdersAt, firstHolder, secondHolder, one, halvesAt, wholePut, halfPut, handed}
-use Rattle.run_heap.proofs.Halves.{one-same, one-other, one-cases, halves-at, halves-most}
+use Rattle.run_heap.proofs.Halves.{one-other, one-cases, halves-at, halves-most}
 use Rattle.run_footprint.specs.Footprints.{cellIn, halvesIn, partOf, taken, marked, ShareFits, SharesFit}
 use Rattle.run_footprint.proofs.Regions.{Only, only-refl, only-trans, only-word, only-kept, apart}
 use Rattle.run_footprint.proofs.Shares.{part-same, part-other, taken-none, taken-cons}
@@ -276,3 +276,58 @@ module _ (from to k : ℕ) (lk : k < heap-fields) (lt : to < 4294967296) where
           amount-no (taken k ss) (ne-eqb from m (λ e. a (sym e))),
           amount-no (taken k ss) (ne-eqb to m (λ e. b (sym e))),
         )
+
+-- A NUMBER THAT GETS NOTHING has no more than before, whoever had what is handed over
+module _ (to m : ℕ) (d : m ≡ to → ⊥) (lt : to < 4294967296) where
+  first-most :
+      (w : List ℕ) (k : ℕ) → length w ≡ work-bytes → k < heap-fields → halvesAt (putWord w (holdersAt k) to) m k ≤ halvesAt w m k
+  first-most w k size l =
+      omega (
+        arith,
+        halves-by (putWord w (holdersAt k) to) k m (first-first w k to size l lt) (first-second w k to size l lt),
+        one-other (λ e. d (sym e)),
+        halves-at w m k,
+      )
+
+  second-most :
+      (w : List ℕ) (k : ℕ) → length w ≡ work-bytes → k < heap-fields → halvesAt (putWord w (holdersAt k + 4) to) m k ≤ halvesAt w m k
+  second-most w k size l =
+      omega (
+        arith,
+        halves-by (putWord w (holdersAt k + 4) to) k m (second-first w k to size l lt) (second-second w k to size l lt),
+        one-other (λ e. d (sym e)),
+        halves-at w m k,
+      )
+
+  same-most :
+      (w : List ℕ) (k n from : ℕ) → length w ≡ work-bytes → k < heap-fields → halvesAt (handed w k n from to) m k ≤ halvesAt w m k
+  unfolding handed wholePut halfPut
+  same-most w k n from size l = go (ltb n 2) (eqb (firstHolder w k) from)
+    where
+      go :
+          (a b : Bool) →
+          halvesAt (cond a (putWord w (cond b (holdersAt k) (holdersAt k + 4)) to) (putWord (putWord w (holdersAt k) to) (holdersAt k + 4) to)) m k
+          ≤ halvesAt w m k
+      go true true = first-most w k size l
+      go true false = second-most w k size l
+      go false b =
+          omega (
+            arith,
+            first-most w k size l,
+            second-most (putWord w (holdersAt k) to) k (put-word-length w (holdersAt k) to ∙ size) l,
+          )
+
+  pub marked-most :
+      (w ss : List ℕ) (from k : ℕ) → length w ≡ work-bytes → SharesFit ss → halvesAt (marked w ss from to) m k ≤ halvesAt w m k
+  unfolding marked
+  marked-most w [] from k size F = omega arith
+  marked-most w (s ∷ ss) from k size F =
+      let u : List ℕ = handed w (cellIn s) (halvesIn s) from to in
+      let l : cellIn s < heap-fields = fit-first s ss F .0 in
+      let us : length u ≡ work-bytes = only-handed w (cellIn s) (halvesIn s) from to l .size ∙ size in
+      let one-less : halvesAt u m k ≤ halvesAt w m k =
+      ⊎-elim
+      (λ (e : k ≡ cellIn s). rw e (same-most w (cellIn s) (halvesIn s) from size l))
+      (λ (n : k ≡ cellIn s → ⊥). omega (arith, hand-other w (cellIn s) (halvesIn s) from to size l lt k m n))
+      (decide-eq k (cellIn s)) in
+      omega (arith, marked-most u ss from k us (fit-rest s ss F), one-less)

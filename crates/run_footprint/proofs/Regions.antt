@@ -1,12 +1,12 @@
 -- Stores change bytes of one region alone: what each store leaves, and what it puts.
 use mathlib.Core.Path.{_≡_, refl, ap, _∙_}
-use mathlib.Core.List.{List, [], _∷_}
+use mathlib.Core.List.{List}
 use mathlib.Core.Logic.{_⊎_, inl, inr, ⊎-elim}
 use Prim.Native.Nat.{ℕ, zero, suc, _+_, _*_, _≤_, _<_}
 use native.Mathlib.Omega.{arith}
 use lib.ListN.{length, set, length-set}
 use lib.Seq.{getD-set-other}
-use Rattle.rules.specs.Limits.{work-bytes, heap-objects, heap-fields}
+use Rattle.rules.specs.Limits.{heap-objects, heap-fields}
 use Rattle.tables.specs.Layout.{names-at, values-at, holders-at, objects-at, frames-at, frame-variables, frame-bytes}
 use Rattle.tables.specs.Decode.{byteAt, wordAt}
 use Rattle.tables.specs.Stores.{putHalf, putWord, Kept, SameTables}

@@ -1,7 +1,8 @@
 -- Laws of the lists of shares that the code goes through.
-use mathlib.Core.Path.{_≡_, refl, sym, ap, _∙_}
+use mathlib.Core.Path.{_≡_, refl, ap, _∙_}
+use mathlib.Core.Bool.{Bool, true, false, _||_}
 use mathlib.Core.List.{List, [], _∷_, _++_}
-use Prim.Native.Nat.{ℕ, zero, suc, _+_, _*_, _/_, _%_, _≤_, _<_}
+use Prim.Native.Nat.{ℕ, zero, suc, _+_, _/_, _≤_, _<_}
 use native.Mathlib.Numerals.{add-one}
 use native.Mathlib.Omega.{arith}
 use lib.Dec.{T, eqb, eqb-refl}
@@ -63,6 +64,18 @@ module _ (l : List ℕ) (n i k : ℕ) where
 
   pub sum-past : n ≤ i → taken k (drop i (take n l)) ≡ 0
   sum-past h = ap (taken k) (past l n i h) ∙ taken-none k
+
+-- in a list with one more at its end
+pub any-end : (k j : ℕ) (ks : List ℕ) → any (eqb k) (ks ++ (j ∷ [])) ≡ (eqb k j || any (eqb k) ks)
+unfolding any
+any-end k j [] = refl
+any-end k j (i ∷ ks) = rw (any-end k j ks) (swap (eqb k i) (eqb k j) (any (eqb k) ks))
+  where
+    swap : (a b c : Bool) → (a || (b || c)) ≡ (b || (a || c))
+    swap true true c = refl
+    swap true false c = refl
+    swap false true c = refl
+    swap false false c = refl
 
 -- MARKS
 module _ (w l : List ℕ) (n i from to : ℕ) where

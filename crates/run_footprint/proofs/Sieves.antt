@@ -3,10 +3,10 @@ use mathlib.Core.Path.{_≡_, refl, sym, ap, _∙_, subst}
 use mathlib.Core.Bool.{Bool, true, false}
 use mathlib.Core.List.{List, [], _∷_, _++_}
 use mathlib.Core.Logic.{⊎-elim}
-use Prim.Native.Nat.{ℕ, _+_, _/_, _%_, _≤_, _<_}
+use Prim.Native.Nat.{ℕ, _+_, _%_, _≤_, _<_}
 use native.Mathlib.Omega.{arith}
 use native.Mathlib.Numerals.{add-one}
-use lib.Dec.{eqb, leb}
+use lib.Dec.{leb}
 use lib.ListN.{length, take, getD, set, length-set}
 use lib.Seq.{take-suc-set, getD-set-same, getD-set-other}
 use borrow.Author.Tests.{le-leb}
@@ -15,7 +15,7 @@ use Rattle.rules.specs.Base.{ok}
 use Rattle.rules.proofs.Tries.{no-ok, ok-inj}
 use Rattle.run_heap.specs.Views.{halvesAt}
 use Rattle.run_footprint.specs.declared.Took.{Took}
-use Rattle.run_footprint.specs.Footprints.{shareOf, cellIn, halvesIn, partOf, taken, newShare, tookIs, countOf, TookUpTo, Sieve, sieve-bytes}
+use Rattle.run_footprint.specs.Footprints.{cellIn, halvesIn, taken, newShare, tookIs, countOf, TookUpTo, Sieve, sieve-bytes}
 use Rattle.run_footprint.proofs.Shares.{share-is, part-other, taken-none, taken-end}
 use Rattle.run_footprint.proofs.Taking.{new-taken, new-free}
 

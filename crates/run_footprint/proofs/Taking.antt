@@ -10,7 +10,7 @@ use lib.ListN.{take}
 use borrow.Author.Tests.{eq-eqb, ne-eqb, lt-ltb, le-ltb, lt-leb, leb-false}
 use Rattle.rules.specs.Base.{Try, ok, no, _>>=_, _>>_, check}
 use Rattle.rules.specs.Answers.{Stop, permissionMissing, formulaFalse}
-use Rattle.rules.specs.Syntax.{Atom, Formula, acc, read, own, cmp}
+use Rattle.rules.specs.Syntax.{Atom, Formula, own, cmp}
 use Rattle.rules.specs.Machine.{compared}
 use Rattle.rules.proofs.Lists.{decide-eq}
 use Rattle.tables.specs.Numbers.{eq-atom}

@@ -1,6 +1,6 @@
 use native.Mathlib.Omega.{arith}
 use mathlib.Core.Path.{sym, _∙_}
-use Prim.Native.Nat.{_≤_, _<_}
+use Prim.Native.Nat.{_≤_}
 use denote.Ref.{now}
 use Rattle.tables.specs.Numbers.{eq-atom}
 use Rattle.tables.specs.Decode.{atomKindAt}
