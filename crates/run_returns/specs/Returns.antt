@@ -8,7 +8,7 @@ use Rattle.rules.specs.declared.Machine.{Machine}
 use Rattle.rules.specs.Machine.{Config, Step, returnStep, endStep}
 use Rattle.tables.specs.Decode.{xAt, programIn, ensuresAt}
 use Rattle.run_heap.specs.Views.{methodOf, viewOf}
-use Rattle.run_footprint.specs.Footprints.{footprint-cells, takeIn}
+use Rattle.run_footprint.specs.Footprints.{footprint-shares, takeIn}
 use Rattle.run_steps.specs.States.{CanStep}
 
 -- WHAT THE DEFINITIONS DO at the row, by its operands
@@ -32,10 +32,10 @@ back c holder row =
       steps = c .steps + 1;
     }
 
--- `end` of a call: ensures took these cells
-pub record Leaving (w : List ℕ) (c : Machine) (cells : List ℕ) (n : ℕ) : Type 0 where
+-- `end` of a call: ensures took these shares
+pub record Leaving (w : List ℕ) (c : Machine) (shares : List ℕ) (n : ℕ) : Type 0 where
   pub ready : CanStep w c
   pub inner : c .frames ≡ 1 → ⊥
-  pub size : length cells ≡ footprint-cells
-  pub count : n ≤ footprint-cells
-  pub took : takeIn w (viewOf c) (ensuresAt w (methodOf w (c .frames - 1))) [] ≡ ok (take n cells)
+  pub size : length shares ≡ footprint-shares
+  pub count : n ≤ footprint-shares
+  pub took : takeIn w (viewOf c) (ensuresAt w (methodOf w (c .frames - 1))) [] ≡ ok (take n shares)

@@ -1,6 +1,6 @@
 // `end` and `return`: back to the caller.
 use rules::Machine;
-use run_footprint::Cells;
+use run_footprint::Shares;
 use run_footprint::Took;
 use run_heap::Stores;
 use run_steps::Turn;
@@ -26,9 +26,9 @@ fn back_in(c: Machine, holder: u32, row: u32) -> Machine
     }
 }
 
-// The caller goes on with the cells that ensures took, and its x is the result.
-fn leave(work: &mut [u8], c: Machine, cells: &Cells, n: usize) -> Turn
-    requires { ⌜ Leaving (now work) c (now cells) n ⌝ }
+// The caller goes on with the shares that ensures took, and its x is the result.
+fn leave(work: &mut [u8], c: Machine, shares: &Shares, n: usize) -> Turn
+    requires { ⌜ Leaving (now work) c (now shares) n ⌝ }
     ensures { λ r. ⌜ Does (now (work .entry)) c (now (work .exit)) r (endHere (now (work .entry))) ⌝ }
 {
     let i = (c.frames - 2) as usize;
@@ -37,7 +37,7 @@ fn leave(work: &mut [u8], c: Machine, cells: &Cells, n: usize) -> Turn
     let row = run_heap::saved_row(work, i);
     let result = run_heap::variable(work, at + Layout::FRAME_BYTES, Stores::RESULT);
     let x = tables::x_at(work, row);
-    run_footprint::mark(work, cells, n, holder);
+    run_footprint::mark(work, shares, n, c.holder, holder);
     tables::put_word(work, at + x * Stores::WORD_BYTES, result);
     Turn::On(back_in(c, holder, row as u32 + 1))
 }
@@ -55,9 +55,9 @@ pub fn end_step(work: &mut [u8], c: Machine) -> Turn
     let m = run_heap::method_of(work, i);
     let first = tables::ensures_first(work, m);
     let n = tables::ensures_count(work, m);
-    let mut cells = [0usize; run_footprint::CELLS];
-    match run_footprint::footprint(work, v, first, n, &mut cells) {
-        Took::Cells(k) => leave(work, c, &cells, k),
+    let mut shares = [0usize; run_footprint::SHARES];
+    match run_footprint::footprint(work, v, first, n, &mut shares) {
+        Took::Shares(k) => leave(work, c, &shares, k),
         Took::Lacking(s) => Turn::Stopped(s),
     }
 }
