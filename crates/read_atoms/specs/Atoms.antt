@@ -12,7 +12,7 @@ use Rattle.rules.specs.Scope.{atomOperands}
 use Rattle.tables.specs.Numbers.{read-atom}
 use Rattle.read_words.specs.Words.{packed}
 use Rattle.read_grammar.specs.Rows.{operandsNumber}
-use Rattle.read_atoms.specs.declared.AtomRow.{AtomRow}
+use Rattle.read_atoms.specs.declared.Row.{Row}
 
 -- from the kind of `read` on
 abbrev pub atomWords : List String
@@ -30,7 +30,7 @@ beginsAtom w = isPermit w || isRel w
 unfoldable pub operandsOf : ℕ → List Operand
 operandsOf k = cond (beginsAtom (atomWord k)) (atomOperands (atomWord k)) []
 
-unfoldable pub atomRow : ℕ → AtomRow
+unfoldable pub atomRow : ℕ → Row
 atomRow k =
     record {
       word = packed 0 (atomWord k);

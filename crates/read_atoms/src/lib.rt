@@ -37,7 +37,7 @@ const SIDES: u32 = OperandNumber::EXPRESSION * (1 + OperandNumber::BASE);
 
 // What the grammar says of an atom: its word as one number and the length of that; its operands as one number; whether it may be the
 // condition of `if` or `loop`.
-pub struct AtomRow {
+pub struct Row {
     pub word: u64,
     pub bytes: usize,
     pub operands: u32,
@@ -45,35 +45,35 @@ pub struct AtomRow {
 }
 
 // The row of the atom of this kind (`AtomKind`). A number that is no kind has no operands.
-pub fn row_of(kind: usize) -> AtomRow
+pub fn row_of(kind: usize) -> Row
     ensures { λ r. ⌜ r ≡ atomRow kind ⌝ }
 {
     match kind {
-        AtomKind::READ => AtomRow {
+        AtomKind::READ => Row {
             word: Packed::READ,
             bytes: Bytes::READ,
             operands: PATH,
             condition: false,
         },
-        AtomKind::ACC => AtomRow {
+        AtomKind::ACC => Row {
             word: Packed::ACC,
             bytes: Bytes::ACC,
             operands: PATH,
             condition: false,
         },
-        AtomKind::EQ => AtomRow {
+        AtomKind::EQ => Row {
             word: Packed::EQ,
             bytes: Bytes::EQ,
             operands: SIDES,
             condition: true,
         },
-        AtomKind::NE => AtomRow {
+        AtomKind::NE => Row {
             word: Packed::NE,
             bytes: Bytes::NE,
             operands: SIDES,
             condition: true,
         },
-        _ => AtomRow {
+        _ => Row {
             word: 0,
             bytes: 0,
             operands: 0,

@@ -2,7 +2,7 @@
 use mathlib.Core.Path.{_≡_, refl, sym, ap, subst, _∙_}
 use mathlib.Core.Bool.{Bool, true, false, not, cond, _&&_, _||_, and-true}
 use mathlib.Core.List.{List, [], _∷_}
-use mathlib.Core.Logic.{_⊎_, inl, inr, ⊎-elim}
+use mathlib.Core.Logic.{⊎-elim}
 use Prim.Native.Nat.{ℕ, zero, suc, _+_, _-_, _≤_, _<_}
 use native.Mathlib.Omega.{arith}
 use lib.Dec.{eqb, leb}
@@ -20,13 +20,13 @@ use Rattle.rules.proofs.Lists.{decide-eq}
 use Rattle.read_bytes.specs.Marks.{wide-bytes}
 use Rattle.read_bytes.specs.Sets.{inSet, FirstInSet}
 use Rattle.read_bytes.specs.declared.Set.the-variants.{LineEnd, FieldEnd}
-use Rattle.read_bytes.proofs.Search.{true-false, both-true, and-false, or-true, or-false, all-at, upTo-within, upTo-is, same-is, same-refl}
+use Rattle.read_bytes.proofs.Search.{true-false, both-true, and-false, or-false, all-at, upTo-within, upTo-is, same-is, same-refl}
 use Rattle.read_fields.specs.Cuts.{part, more}
 use Rattle.read_grammar.specs.Rows as Rows
 use Rattle.read_grammar.specs.Rows.{operandsNumber}
 use Rattle.read_words.specs.Words.{packed}
 use Rattle.read_words.proofs.Words.{spelled}
-use Rattle.read_atoms.specs.declared.AtomRow.{AtomRow}
+use Rattle.read_atoms.specs.declared.Row.{Row}
 use Rattle.read_atoms.specs.Atoms.{atomWord, beginsAtom, operandsOf, atomRow, begunBy}
 use Rattle.read_atoms.proofs.Atoms.{of-atom-word, atom-begins, word-told, word-solid, word-short}
 use Rattle.read_fields.specs.Spans.{Span, FieldFits, operandsThen, Spells, HeadIs, AtomHead, AtomEnd, OperandsRead, conditionFirst}
@@ -74,7 +74,7 @@ take-same (b ∷ s) (c ∷ l) h f =
     let y = take-same s l (omega arith) (λ i k. f (suc i) (omega arith)) in
     rw (x, y)
 
-pub bytes-short : (k : ℕ) (q : AtomRow) → q ≡ atomRow k → q .bytes ≤ wide-bytes
+pub bytes-short : (k : ℕ) (q : Row) → q ≡ atomRow k → q .bytes ≤ wide-bytes
 unfolding atomRow
 bytes-short k q e = rw e (word-short k)
 
@@ -246,7 +246,7 @@ module _ (t : List ℕ) (r : ℕ) (g : getD t r 0 ≡ 9) where
       }
 
   -- by the row of that word
-  module _ (q : AtomRow) (e : q ≡ atomRow kind) (s : Bool) (f : Spells t (r + 1) (q .word) (q .bytes) s) (h : Head) where
+  module _ (q : Row) (e : q ≡ atomRow kind) (s : Bool) (f : Spells t (r + 1) (q .word) (q .bytes) s) (h : Head) where
     by-row : s ≡ stands
     unfolding atomRow
     by-row = f begun (word-solid kind) (ap (λ q. q .word) e) (ap (λ q. q .bytes) e) ∙ rw e
@@ -272,16 +272,19 @@ module _ (t : List ℕ) (r : ℕ) (g : getD t r 0 ≡ 9) where
         go true w =
             record {
               none = λ j. absurd (operands-some begun (sym (number true w) ∙ j));
-              some = λ j. (atomOperands begun, record {
-                number = number true w;
-                high = omega (arith, end, leb-true (r + 1 + length begun) (length t) (both-true (leb (r + 1 + length begun) (length t)) _ here .0));
-                later = omega (arith, end);
-                span = λ k. subst (Span t r) (sym end) (word-span t r g begun w (at-tab k));
-                is = λ n. ⊎-elim
-                    (λ k. ap (isFormula (suc n)) (word-more t r g begun w (at-tab k)) ∙ (word-then begun w _ n ∙ rw end))
-                    (λ k. unspelled (λ w x. k (rw end (x .after))) n ∙ sym (ap (operandsThen (atomOperands begun) (isFormula n)) (no-more t (h .end) k) ∙ some-operands (atomOperands begun) (operands-some begun) (isFormula n)))
-                    (decide-eq (getD t (h .end) 0) 9);
-              });
+              some = λ j. (
+                atomOperands begun,
+                record {
+                  number = number true w;
+                  high = omega (arith, end, leb-true (r + 1 + length begun) (length t) (both-true (leb (r + 1 + length begun) (length t)) _ here .0));
+                  later = omega (arith, end);
+                  span = λ k. subst (Span t r) (sym end) (word-span t r g begun w (at-tab k));
+                  is = λ n. ⊎-elim
+                      (λ k. ap (isFormula (suc n)) (word-more t r g begun w (at-tab k)) ∙ (word-then begun w _ n ∙ rw end))
+                      (λ k. unspelled (λ w x. k (rw end (x .after))) n ∙ sym (ap (operandsThen (atomOperands begun) (isFormula n)) (no-more t (h .end) k) ∙ some-operands (atomOperands begun) (operands-some begun) (isFormula n)))
+                      (decide-eq (getD t (h .end) 0) 9);
+                },
+              );
             }
           where
             at-tab : getD t (h .end) 0 ≡ 9 → Spelled t r begun
@@ -333,7 +336,7 @@ no-condition n ws e = rw e
 module _ (t : List ℕ) (r : ℕ) (g : getD t r 0 ≡ 9) where
   -- the row of the word that the first byte leaves decides
   pub condition-case :
-      (q : AtomRow) → q ≡ atomRow (kind t r g) → (c : Bool) → q .condition ≡ c → (n : ℕ) →
+      (q : Row) → q ≡ atomRow (kind t r g) → (c : Bool) → q .condition ≡ c → (n : ℕ) →
       conditionFirst n (more (drop r t)) ≡ (c && isFormula n (more (drop r t)))
   unfolding conditionFirst atomRow
   condition-case q row c h n = go n (isFormula n (more (drop r t))) refl
@@ -345,6 +348,6 @@ module _ (t : List ℕ) (r : ℕ) (g : getD t r 0 ≡ 9) where
       go zero true e = true-false (sym e ∙ formula-full t r g)
       go (suc n) true e =
           let (s, w, x) = heads t r g n e in
-          let i : isRel s ≡ c = ap isRel (only t r g s w x) ∙ (sym (ap (λ (q : AtomRow). q .condition) row) ∙ h) in
+          let i : isRel s ≡ c = ap isRel (only t r g s w x) ∙ (sym (ap (λ (q : Row). q .condition) row) ∙ h) in
           by _ (word-more t r g s w x) ∙ rw (e, i)
       go n false e = rw (e, and-false c) (and-false (isRel (getD (more (drop r t)) 0 [])))

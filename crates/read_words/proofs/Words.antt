@@ -1,5 +1,5 @@
 -- Laws of words: a word is known by its bytes packed into one number, and the words' numbers stand for what `rules` says of words.
-use mathlib.Core.Path.{_≡_, refl, sym, ap, ap₂, subst, _∙_}
+use mathlib.Core.Path.{_≡_, refl, sym, ap, ap₂, _∙_}
 use mathlib.Core.Bool.{Bool, true, false, cond, _&&_, _||_}
 use mathlib.Core.List.{List, [], _∷_}
 use mathlib.Core.Logic.{_⊎_, inl, inr, ⊎-elim}
@@ -22,7 +22,7 @@ use Rattle.rules.proofs.LineKinds.{every-kind, kind-bounds}
 use Rattle.read_words.specs.Words as Words
 use Rattle.read_words.specs.Words.{words, int-word, null-word, this-word, result-word}
 use Rattle.read_words.specs.Words.{placeIn, wordNumber, kindAt, kindOr0, packed, packedIn}
-use Rattle.read_bytes.proofs.Search.{true-false, both-true, and-false, or-false, between-true, all-at, same-is, same-refl, not-same}
+use Rattle.read_bytes.proofs.Search.{true-false, both-true, or-false, between-true, all-at, same-is, same-refl, not-same}
 
 -- PACKING
 

@@ -1,5 +1,4 @@
 -- `row_of` meets its contract, kind by kind. Assumes nothing.
-use mathlib.Core.Path.{sym}
 use Rattle.rules.specs.Base as Base
 use Rattle.rules.specs.Text as Text
 use Rattle.rules.specs.Scope.{atomOperands}
