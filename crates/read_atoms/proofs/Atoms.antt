@@ -44,6 +44,10 @@ atom-begins w a b e = go (isPermit w) (isRel w) e
     go true y h = refl
     go false y h = both-true y _ h .0
 
+pub some-bytes : (w : Name) → beginsAtom w ≡ true → 0 < length w
+unfolding bytes
+some-bytes = of-atom-word (λ w. 0 < length w) (omega arith) (omega arith) (omega arith) (omega arith)
+
 -- BY THE FIRST LETTER
 
 pub word-told : (w : Name) → beginsAtom w ≡ true → atomWord (begunBy (getD w 0 0)) ≡ w
@@ -101,3 +105,9 @@ module _ (a b : Name) where
   comparison-of =
       of-number (λ k w. eq-atom ≤ k → k ≤ ne-atom → atomOf w a b ≡ cmp (relOf k) (exprOf a) (exprOf b)) (λ k n l m. absurd (n (omega arith) m)) (λ l m. absurd (omega arith))
       (λ l m. absurd (omega arith)) (λ l m. refl) (λ l m. refl)
+
+  pub comparison-form : (k : ℕ) → eq-atom ≤ k → k ≤ ne-atom → isAtom (atomWord k) a b ≡ true → (isExpr a ≡ true) × (isExpr b ≡ true)
+  unfolding Atoms.opened Base.opened isRel isPermit isAtom
+  comparison-form =
+      of-number (λ k w. eq-atom ≤ k → k ≤ ne-atom → isAtom w a b ≡ true → (isExpr a ≡ true) × (isExpr b ≡ true)) (λ k n l m. absurd (n (omega arith) m))
+      (λ l m. absurd (omega arith)) (λ l m. absurd (omega arith)) (λ l m. both-true (isExpr a) (isExpr b)) (λ l m. both-true (isExpr a) (isExpr b))

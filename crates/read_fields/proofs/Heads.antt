@@ -28,7 +28,7 @@ use Rattle.read_words.specs.Words.{packed}
 use Rattle.read_words.proofs.Words.{spelled}
 use Rattle.read_atoms.specs.declared.Row.{Row}
 use Rattle.read_atoms.specs.Atoms.{atomWord, beginsAtom, operandsOf, atomRow, begunBy}
-use Rattle.read_atoms.proofs.Atoms.{of-atom-word, atom-begins, word-told, word-solid, word-short}
+use Rattle.read_atoms.proofs.Atoms.{of-atom-word, atom-begins, some-bytes, word-told, word-solid, word-short}
 use Rattle.read_fields.specs.Spans.{Span, FieldFits, operandsThen, Spells, HeadIs, AtomHead, AtomEnd, OperandsRead, conditionFirst}
 use Rattle.read_fields.specs.declared.Head.{Head}
 use Rattle.read_fields.specs.declared.Fields.the-variants.{Upto, Bad}
@@ -38,10 +38,6 @@ use Rattle.read_fields.proofs.Formulas.{formula-full}
 use Rattle.read_fields.proofs.Spans.{span-on, more-fits, fits-span}
 
 -- WORDS
-
-some-bytes : (s : Name) → beginsAtom s ≡ true → 0 < length s
-unfolding bytes
-some-bytes = of-atom-word (λ s. 0 < length s) (omega arith) (omega arith) (omega arith) (omega arith)
 
 -- of bytes that end neither a line nor a field
 abbrev within : ℕ → Bool
