@@ -28,14 +28,16 @@ add-x-2 c =
     let start = c .before .before .before .before .before .before in
     let at-byte-at = c .before .before .before .byte-at in
     let at-begun-by = c .before .before .begun-by in
-    let word = word-ends (start .pre .1) _ (at-begun-by .ensures ∙ ap begunBy (at-byte-at .ensures)) _ (c .before .row-of .ensures) in omega (arith, word .high)
+    let word = word-ends (start .pre .1) _ (at-begun-by .ensures ∙ ap begunBy (at-byte-at .ensures)) _ (c .before .row-of .ensures) in
+    omega (arith, word .high)
 
 next-field-requires : tie.Need-next-field-requires
 next-field-requires c κs =
     let start = c .before .before .before .before .before .before in
     let at-byte-at = c .before .before .before .byte-at in
     let at-begun-by = c .before .before .begun-by in
-    let word = word-ends (start .pre .1) _ (at-begun-by .ensures ∙ ap begunBy (at-byte-at .ensures)) _ (c .before .row-of .ensures) in word .high
+    let word = word-ends (start .pre .1) _ (at-begun-by .ensures ∙ ap begunBy (at-byte-at .ensures)) _ (c .before .row-of .ensures) in
+    word .high
 
 next-field-requires-2 : tie.Need-next-field-requires-2
 next-field-requires-2 c κs = search needs
@@ -53,7 +55,9 @@ sub-resolve-atom c =
     let at-begun-by = c .before .before .before .before .before .begun-by in
     let at-row-of = c .before .before .before .before .row-of in
     let at-next-field = c .before .before .next-field in
-    let follows = start .pre .1 in let word = word-ends follows _ (at-begun-by .ensures ∙ ap begunBy (at-byte-at .ensures)) _ (at-row-of .ensures) in omega (arith, at-next-field .ensures .low, some-2 word (at-next-field .ensures) (c .before .next-field2 .ensures) (follows .byte) _ (follows .form))
+    let follows = start .pre .1 in
+    let word = word-ends follows _ (at-begun-by .ensures ∙ ap begunBy (at-byte-at .ensures)) _ (at-row-of .ensures) in
+    omega (arith, at-next-field .ensures .low, some-2 word (at-next-field .ensures) (c .before .next-field2 .ensures) (follows .byte) _ (follows .form))
 
 part-resolve-atom-start : tie.Need-part-resolve-atom-start
 part-resolve-atom-start c =
@@ -62,7 +66,9 @@ part-resolve-atom-start c =
     let at-begun-by = c .before .before .before .before .before .begun-by in
     let at-row-of = c .before .before .before .before .row-of in
     let at-next-field = c .before .before .next-field in
-    let follows = start .pre .1 in let word = word-ends follows _ (at-begun-by .ensures ∙ ap begunBy (at-byte-at .ensures)) _ (at-row-of .ensures) in omega (arith, at-next-field .ensures .low, some-2 word (at-next-field .ensures) (c .before .next-field2 .ensures) (follows .byte) _ (follows .form))
+    let follows = start .pre .1 in
+    let word = word-ends follows _ (at-begun-by .ensures ∙ ap begunBy (at-byte-at .ensures)) _ (at-row-of .ensures) in
+    omega (arith, at-next-field .ensures .low, some-2 word (at-next-field .ensures) (c .before .next-field2 .ensures) (follows .byte) _ (follows .form))
 
 part-resolve-atom-end : tie.Need-part-resolve-atom-end
 part-resolve-atom-end c = search needs
@@ -75,7 +81,9 @@ sub-resolve-atom-2 c =
     let at-row-of = c .before .before .before .before .before .row-of in
     let at-next-field = c .before .before .before .next-field in
     let at-next-field2 = c .before .before .next-field2 in
-    let follows = start .pre .1 in let word = word-ends follows _ (at-begun-by .ensures ∙ ap begunBy (at-byte-at .ensures)) _ (at-row-of .ensures) in omega (arith, at-next-field2 .ensures .low, some-3 word (at-next-field .ensures) (at-next-field2 .ensures) (follows .byte) _ (follows .form))
+    let follows = start .pre .1 in
+    let word = word-ends follows _ (at-begun-by .ensures ∙ ap begunBy (at-byte-at .ensures)) _ (at-row-of .ensures) in
+    omega (arith, at-next-field2 .ensures .low, some-3 word (at-next-field .ensures) (at-next-field2 .ensures) (follows .byte) _ (follows .form))
 
 part-resolve-atom-start-2 : tie.Need-part-resolve-atom-start-2
 part-resolve-atom-start-2 c =
@@ -85,7 +93,9 @@ part-resolve-atom-start-2 c =
     let at-row-of = c .before .before .before .before .before .row-of in
     let at-next-field = c .before .before .before .next-field in
     let at-next-field2 = c .before .before .next-field2 in
-    let follows = start .pre .1 in let word = word-ends follows _ (at-begun-by .ensures ∙ ap begunBy (at-byte-at .ensures)) _ (at-row-of .ensures) in omega (arith, at-next-field2 .ensures .low, some-3 word (at-next-field .ensures) (at-next-field2 .ensures) (follows .byte) _ (follows .form))
+    let follows = start .pre .1 in
+    let word = word-ends follows _ (at-begun-by .ensures ∙ ap begunBy (at-byte-at .ensures)) _ (at-row-of .ensures) in
+    omega (arith, at-next-field2 .ensures .low, some-3 word (at-next-field .ensures) (at-next-field2 .ensures) (follows .byte) _ (follows .form))
 
 part-resolve-atom-end-2 : tie.Need-part-resolve-atom-end-2
 part-resolve-atom-end-2 c = search needs
@@ -98,7 +108,10 @@ resolve-atom-requires c κs =
     let at-row-of = c .before .before .before .before .before .before .row-of in
     let at-next-field = c .before .before .before .before .next-field in
     let at-next-field2 = c .before .before .before .next-field2 in
-    let follows = start .pre .1 in let kind = at-begun-by .ensures ∙ ap begunBy (at-byte-at .ensures) in let word = word-ends follows _ kind _ (at-row-of .ensures) in (start .pre .0, kind-atom word (at-next-field .ensures) (at-next-field2 .ensures) (follows .byte) _ (follows .form) _ (word-cut follows _ kind _ (at-row-of .ensures)))
+    let follows = start .pre .1 in
+    let kind = at-begun-by .ensures ∙ ap begunBy (at-byte-at .ensures) in
+    let word = word-ends follows _ kind _ (at-row-of .ensures) in
+    (start .pre .0, kind-atom word (at-next-field .ensures) (at-next-field2 .ensures) (follows .byte) _ (follows .form) _ (word-cut follows _ kind _ (at-row-of .ensures)))
 
 enum-known-t : tie.Need-enum-known-t
 enum-known-t c = search needs
@@ -118,14 +131,20 @@ returns c =
     let at-next-field = c .before .before .before .before .before .before .before .next-field in
     let at-next-field2 = c .before .before .before .before .before .before .next-field2 in
     let at-resolve-atom = c .before .before .resolve-atom in
-    let follows = start .pre .1 in let kind = at-begun-by .ensures ∙ ap begunBy (at-byte-at .ensures) in let word = word-ends follows _ kind _ (at-row-of .ensures) in let tried = kind-tried word (at-next-field .ensures) (at-next-field2 .ensures) (follows .byte) _ (follows .form) _ (word-cut follows _ kind _ (at-row-of .ensures)) _ _ _ (at-resolve-atom .ensures) in next-bad word (at-next-field .ensures) (at-next-field2 .ensures) (follows .byte) _ (follows .form) _ _ _ _ tried (c .enum-told .given .1)
+    let follows = start .pre .1 in
+    let kind = at-begun-by .ensures ∙ ap begunBy (at-byte-at .ensures) in
+    let word = word-ends follows _ kind _ (at-row-of .ensures) in
+    let tried =
+    kind-tried word (at-next-field .ensures) (at-next-field2 .ensures) (follows .byte) _ (follows .form) _ (word-cut follows _ kind _ (at-row-of .ensures)) _ _ _ (at-resolve-atom .ensures) in
+    next-bad word (at-next-field .ensures) (at-next-field2 .ensures) (follows .byte) _ (follows .form) _ _ _ _ tried (c .enum-told .given .1)
 
 put-atom-requires : tie.Need-put-atom-requires
 put-atom-requires c κs =
     let start = c .before .before .before .before .before .before .before .before .before .before .before .before .before .before .before .before in
     let at-resolve-atom = c .before .before .before .before .resolve-atom in
     let at-t = c .before .before .t in
-    let o = row-ok _ _ _ _ _ (at-resolve-atom .ensures) (at-t .given .1) in ((start .pre .0 .whole, start .pre .2), (omega (arith, o .kind), (side-bytes _ (o .left), side-bytes _ (o .right))))
+    let o = row-ok _ _ _ _ _ (at-resolve-atom .ensures) (at-t .given .1) in
+    ((start .pre .0 .whole, start .pre .2), (omega (arith, o .kind), (side-bytes _ (o .left), side-bytes _ (o .right))))
 
 same-length-2 : tie.Need-same-length-2
 same-length-2 c = search needs
@@ -141,7 +160,12 @@ returns-2 c =
     let at-resolve-atom = c .before .before .before .before .before .before .before .resolve-atom in
     let at-t = c .before .before .before .before .before .t in
     let at-put-atom = c .before .before .put-atom in
-    let follows = start .pre .1 in let kind = at-begun-by .ensures ∙ ap begunBy (at-byte-at .ensures) in let word = word-ends follows _ kind _ (at-row-of .ensures) in let tried = kind-tried word (at-next-field .ensures) (at-next-field2 .ensures) (follows .byte) _ (follows .form) _ (word-cut follows _ kind _ (at-row-of .ensures)) _ _ _ (at-resolve-atom .ensures) in next-put word (at-next-field .ensures) (at-next-field2 .ensures) (follows .byte) _ (follows .form) _ _ (start .pre .0) _ _ _ _ (start .pre .2) tried (at-t .given .1) (at-put-atom .ensures)
+    let follows = start .pre .1 in
+    let kind = at-begun-by .ensures ∙ ap begunBy (at-byte-at .ensures) in
+    let word = word-ends follows _ kind _ (at-row-of .ensures) in
+    let tried =
+    kind-tried word (at-next-field .ensures) (at-next-field2 .ensures) (follows .byte) _ (follows .form) _ (word-cut follows _ kind _ (at-row-of .ensures)) _ _ _ (at-resolve-atom .ensures) in
+    next-put word (at-next-field .ensures) (at-next-field2 .ensures) (follows .byte) _ (follows .form) _ _ (start .pre .0) _ _ _ _ (start .pre .2) tried (at-t .given .1) (at-put-atom .ensures)
 
 pub put-next-atom-spec : {M : Type 1} → statement M
 put-next-atom-spec =
