@@ -7,7 +7,7 @@ use mathlib.Core.Option.{Option, none, some}
 use Prim.Native.Nat.{ℕ}
 use native.Mathlib.Omega.{arith}
 use lib.Dec.{T, eqb, eqb→eq, eqb-refl, T-not, not-T}
-use Rattle.rules.specs.Base.{bindOption, Member, at-head, further}
+use Rattle.rules.specs.Base.{bindOption, Member}
 use Rattle.rules.specs.Syntax.{num, null, var, path}
 use Rattle.rules.specs.State.{Term, Permission, State, Renaming, entry, pathOf, equalIn, becomes, lists, withoutPaths, factsWithout, dropPaths, unlisted, remainder, renameVariable, renameTerm, renamePermission, renamePermissions, variables, standIn, removedTerm, removeTo, remove}
 use Rattle.rules.proofs.Lists.{first-in, and-both, head-or, keep-member, member-keep, went-to, decide-test, F-false, some-inj, none-some, bind-some}

@@ -351,6 +351,15 @@ shared =
     "end" ∷
     []
 
+-- a method of S with a parameter w of S, with this requires and, from line 6 on, these lines
+pub ofTwo : String → List String → List String
+ofTwo requires ls =
+    "class S" ∷ "field int n" ∷ "method int m S w" ∷ requires ∷ "ensures" ∷ (ls ++ ("end" ∷ "main" ∷ "end" ∷ []))
+
+-- a main with a new card s, and these lines from line 11 on
+pub withCard : List String → List String
+withCard ls = script ("new s S" ∷ ls)
+
 -- ROWS
 
 pub data Call : Type 0 where
@@ -535,6 +544,47 @@ rows =
     row (script ("assert eq a 1" ∷ "if eq a b" ∷ "else" ∷ "join eq s.n 1" ∷ [])) check (10 ∷ 13 ∷ []) ∷
     row (withLine 6 "ensures" worked) check (11 ∷ 17 ∷ []) ∷
     row (withLine 6 "ensures" worked) (trial 1000) (24 ∷ 17 ∷ 5 ∷ three 1 7 7) ∷
+    -- W8: "Two people want to read one card while neither writes it"; both halves that came back are `acc` again
+    row shared check (0 ∷ 0 ∷ []) ∷
+    row shared (run 1000) (0 ∷ 16 ∷ 7 ∷ three 1 0 0) ∷
+    row (withLine 5 "ensures" shared) check (12 ∷ 14 ∷ []) ∷
+    row (withLine 5 "ensures" shared) (trial 1000) (24 ∷ 14 ∷ 4 ∷ three 1 0 0) ∷
+    -- "Reading needs one half, `set` both."
+    row (withLine 6 "set this n k" shared) check (12 ∷ 6 ∷ []) ∷
+    row (withLine 6 "set this n k" shared) (trial 1000) (24 ∷ 6 ∷ 2 ∷ three 1 0 0) ∷
+    -- "`read` is shown by the first listed, unconsumed `acc` or `read`; taken from an `acc` it leaves a `read` of that path with its facts"
+    row (withCard ("release read s n" ∷ "assert read s n eq s.n 0" ∷ [])) check (0 ∷ 0 ∷ []) ∷
+    row (withCard ("release read s n" ∷ "assert acc s n" ∷ [])) check (12 ∷ 12 ∷ []) ∷
+    row (withCard ("release read s n" ∷ "set s n a" ∷ [])) check (12 ∷ 12 ∷ []) ∷
+    row (withCard ("release read s n" ∷ "set s n a" ∷ [])) (trial 1000) (24 ∷ 12 ∷ 2 ∷ three 1 0 0) ∷
+    row (withCard ("release read s n read s n" ∷ "assert eq s.n 0" ∷ [])) check (11 ∷ 12 ∷ []) ∷
+    row (withCard ("assert read s n read s n" ∷ [])) (run 1000) (0 ∷ 12 ∷ 3 ∷ three 1 0 0) ∷
+    row (withCard ("assert read s n read s n read s n" ∷ [])) check (12 ∷ 11 ∷ []) ∷
+    row (withCard ("assert read s n read s n read s n" ∷ [])) (trial 1000) (24 ∷ 11 ∷ 1 ∷ three 1 0 0) ∷
+    row (withCard ("assert read s n acc s n" ∷ [])) check (12 ∷ 11 ∷ []) ∷
+    row (withCard ("assert read s n acc s n" ∷ [])) (trial 1000) (24 ∷ 11 ∷ 1 ∷ three 1 0 0) ∷
+    row (withCard ("assert acc s n read s n" ∷ [])) check (12 ∷ 11 ∷ []) ∷
+    -- "A `read` added, atom by atom, where a `read` of an equal path is listed turns the first such into `acc`."
+    row (ofTwo "requires read this n read this n" ("assert acc this n" ∷ [])) check (0 ∷ 0 ∷ []) ∷
+    row (ofTwo "requires eq this w read this n read w n" ("assert acc w n" ∷ [])) check (0 ∷ 0 ∷ []) ∷
+    row (ofTwo "requires read this n read this n read this n" ("assert acc this n read this n" ∷ [])) check (0 ∷ 0 ∷ []) ∷
+    -- "`acc` is shown by an unconsumed `acc` alone, never by a `read`, nor by two of equal paths."
+    row (ofTwo "requires read this n" ("assert acc this n" ∷ [])) check (12 ∷ 6 ∷ []) ∷
+    row (ofTwo "requires read this n read w n eq this w" ("assert acc this n" ∷ [])) check (12 ∷ 6 ∷ []) ∷
+    row (ofTwo "requires read this n read w n eq this w" ("assert read this n read this n" ∷ [])) check (0 ∷ 0 ∷ []) ∷
+    -- "Way (d) of showing `ne` needs an `acc` among the two."
+    row (ofTwo "requires read this n read w n" ("assert ne this w" ∷ [])) check (13 ∷ 6 ∷ []) ∷
+    row (ofTwo "requires acc this n read w n" ("assert ne this w" ∷ [])) check (0 ∷ 0 ∷ []) ∷
+    row (ofTwo "requires read this n acc w n" ("assert ne this w" ∷ [])) check (0 ∷ 0 ∷ []) ∷
+    -- "For number 10, `read x f` serves as `acc x f` does."
+    row (ofTwo "requires read this n eq this.n 1" []) check (0 ∷ 0 ∷ []) ∷
+    row (ofTwo "requires eq this.n 1 read this n" []) check (10 ∷ 4 ∷ []) ∷
+    -- "only fields handed over whole may change: .. be it by two `read`"
+    row (withLine 4 "requires read this n read this n" (withLine 6 "set this n k" shared)) check (13 ∷ 14 ∷ []) ∷
+    row (withLine 4 "requires read this n read this n" (withLine 6 "set this n k" (withLine 14 "assert" (withLine 15 "assert" shared)))) (run 1000) (0 ∷ 16 ∷ 7 ∷ three 1 0 0) ∷
+    -- the condition of an `if` or a `loop` is "`eq` or `ne`"
+    row (withCard ("if read s n" ∷ "else" ∷ "join" ∷ [])) check (4 ∷ 11 ∷ []) ∷
+    row (withCard ("loop read s n" ∷ "again" ∷ [])) check (4 ∷ 11 ∷ []) ∷
     []
 
 -- the row's call gives its answer
@@ -542,7 +592,7 @@ right : Row → Bool
 right r = eqName (answer (text (r .text)) (r .call)) (r .answer)
 
 all-right : T (all right rows)
-unfolding computing Printed.opened right shown answer row three text tabbed withLine times oneLine alias acrossCall twice oldValue twoFields branching innerJoin script throughPath overTwoPaths oneName oneOnBothSides numbers counting walk leaving unframed deep lower method rings tens
+unfolding computing Printed.opened right shown answer row three text tabbed withLine times oneLine alias acrossCall twice oldValue twoFields branching innerJoin script throughPath overTwoPaths oneName oneOnBothSides numbers counting walk leaving unframed deep lower method rings tens ofTwo withCard
 all-right = tt
 
 right-at : (rs : List Row) (d : Row) (i : ℕ) → i < length rs → T (all right rs) → T (right (getD rs i d))

@@ -1,6 +1,6 @@
 -- Each rule of the checker keeps a state what the paper says it is: facts over variables, constants and listed paths (`Formed`), which
 -- the law of what is left asks for.
-use mathlib.Core.Path.{_≡_, refl, sym, ap, _∙_, subst}
+use mathlib.Core.Path.{_≡_, refl, sym, ap, subst}
 use mathlib.Core.Bool.{Bool, true, false, not, cond}
 use mathlib.Core.List.{List, [], _∷_, _++_, map}
 use mathlib.Core.Logic.{_⊎_, inl, inr, ⊎-elim}
