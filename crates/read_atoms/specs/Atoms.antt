@@ -30,14 +30,12 @@ beginsAtom w = isPermit w || isRel w
 unfoldable pub operandsOf : ℕ → List Operand
 operandsOf k = cond (beginsAtom (atomWord k)) (atomOperands (atomWord k)) []
 
+abbrev pub rowWith : ℕ → ℕ → ℕ → Bool → Row
+rowWith w n o c = record { word = w; bytes = n; operands = o; condition = c }
+
 unfoldable pub atomRow : ℕ → Row
 atomRow k =
-    record {
-      word = packed 0 (atomWord k);
-      bytes = length (atomWord k);
-      operands = operandsNumber (operandsOf k);
-      condition = isRel (atomWord k);
-    }
+    rowWith (packed 0 (atomWord k)) (length (atomWord k)) (operandsNumber (operandsOf k)) (isRel (atomWord k))
 
 -- the number of the word in a list, numbered from n on, that begins with the letter b; or 0
 unfoldable pub begunIn : List String → ℕ → ℕ → ℕ

@@ -2,7 +2,7 @@
 use read_grammar::OperandNumber;
 use tables::AtomKind;
 ghost use mathlib.Core.Path.{_≡_};
-ghost use Rattle.read_atoms.specs.Atoms.{atomRow, begunBy};
+ghost use Rattle.read_atoms.specs.Atoms.{rowWith, atomRow, begunBy};
 
 // The words as numbers: their bytes to the base 256, the first highest.
 struct Packed {}
@@ -44,41 +44,27 @@ pub struct Row {
     pub condition: bool,
 }
 
+fn columns(word: u64, bytes: usize, operands: u32, condition: bool) -> Row
+    ensures { λ r. ⌜ r ≡ rowWith word bytes operands condition ⌝ }
+{
+    Row {
+        word,
+        bytes,
+        operands,
+        condition,
+    }
+}
+
 // The row of the atom of this kind (`AtomKind`). A number that is no kind has no operands.
 pub fn row_of(kind: usize) -> Row
     ensures { λ r. ⌜ r ≡ atomRow kind ⌝ }
 {
     match kind {
-        AtomKind::READ => Row {
-            word: Packed::READ,
-            bytes: Bytes::READ,
-            operands: PATH,
-            condition: false,
-        },
-        AtomKind::ACC => Row {
-            word: Packed::ACC,
-            bytes: Bytes::ACC,
-            operands: PATH,
-            condition: false,
-        },
-        AtomKind::EQ => Row {
-            word: Packed::EQ,
-            bytes: Bytes::EQ,
-            operands: SIDES,
-            condition: true,
-        },
-        AtomKind::NE => Row {
-            word: Packed::NE,
-            bytes: Bytes::NE,
-            operands: SIDES,
-            condition: true,
-        },
-        _ => Row {
-            word: 0,
-            bytes: 0,
-            operands: 0,
-            condition: false,
-        },
+        AtomKind::READ => columns(Packed::READ, Bytes::READ, PATH, false),
+        AtomKind::ACC => columns(Packed::ACC, Bytes::ACC, PATH, false),
+        AtomKind::EQ => columns(Packed::EQ, Bytes::EQ, SIDES, true),
+        AtomKind::NE => columns(Packed::NE, Bytes::NE, SIDES, true),
+        _ => columns(0, 0, 0, false),
     }
 }
 

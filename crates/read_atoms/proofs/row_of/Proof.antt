@@ -1,4 +1,6 @@
 -- `row_of` meets its contract, kind by kind. Assumes nothing.
+use mathlib.Core.Path.{sym, _∙_}
+use borrow.Author.Needs.{needs}
 use Rattle.rules.specs.Base as Base
 use Rattle.rules.specs.Text as Text
 use Rattle.rules.specs.Scope.{atomOperands}
@@ -9,27 +11,54 @@ use Rattle.read_atoms.proofs.Atoms.{no-kind}
 use Rattle.read_atoms.proofs.row_of.Statement.{statement}
 use Rattle.read_atoms.proofs.row_of.Tie as tie
 
+columns-requires : tie.Need-columns-requires
+columns-requires c κs = search needs
+
+columns-requires-2 : tie.Need-columns-requires-2
+columns-requires-2 c κs = search needs
+
+columns-requires-3 : tie.Need-columns-requires-3
+columns-requires-3 c κs = search needs
+
+columns-requires-4 : tie.Need-columns-requires-4
+columns-requires-4 c κs = search needs
+
+columns-requires-5 : tie.Need-columns-requires-5
+columns-requires-5 c κs = search needs
+
 returns : tie.Need-returns
 unfolding Atoms.opened Base.opened Text.opened Rows.opened atomOperands packed
-returns c = rw (c .match .keys1)
+returns c = c .columns .ensures ∙ sym (rw (c .before .match .keys1))
 
 returns-2 : tie.Need-returns-2
 unfolding Atoms.opened Base.opened Text.opened Rows.opened atomOperands packed
-returns-2 c = rw (c .match .keys2)
+returns-2 c = c .columns2 .ensures ∙ sym (rw (c .before .match .keys2))
 
 returns-3 : tie.Need-returns-3
 unfolding Atoms.opened Base.opened Text.opened Rows.opened atomOperands packed
-returns-3 c = rw (c .match .keys3)
+returns-3 c = c .columns3 .ensures ∙ sym (rw (c .before .match .keys3))
 
 returns-4 : tie.Need-returns-4
 unfolding Atoms.opened Base.opened Text.opened Rows.opened atomOperands packed
-returns-4 c = rw (c .match .keys4)
+returns-4 c = c .columns4 .ensures ∙ sym (rw (c .before .match .keys4))
 
 returns-5 : tie.Need-returns-5
 unfolding Atoms.opened Base.opened Text.opened Rows.opened atomOperands packed
 returns-5 c =
-    let r = c .match .rest in
-    rw (no-kind _ (r .0 .0 .0 .1) (r .0 .0 .1) (r .0 .1) (r .1))
+    let r = c .before .match .rest in
+    c .columns5 .ensures ∙ sym (rw (no-kind _ (r .0 .0 .0 .1) (r .0 .0 .1) (r .0 .1) (r .1)))
 
 pub row-of-spec : {M : Type 1} → statement M
-row-of-spec = tie.close (tie.spec returns returns-2 returns-3 returns-4 returns-5)
+row-of-spec =
+    tie.close
+    (tie.spec
+    columns-requires
+    columns-requires-2
+    columns-requires-3
+    columns-requires-4
+    columns-requires-5
+    returns
+    returns-2
+    returns-3
+    returns-4
+    returns-5)
