@@ -1,10 +1,10 @@
--- `acc_tests` meets its contract: the two fields of `acc`. Assumes nothing.
+-- `permit_tests` meets its contract: the two fields of a permission. Assumes nothing.
 use Rattle.rules.specs.Grammar.{isOperand}
 use Rattle.read_tests.specs.Tests.{operandMeant}
 use mathlib.Core.Path.{_∙_}
 use borrow.Author.Needs.{needs}
-use Rattle.read_refusals.proofs.acc_tests.Statement.{statement}
-use Rattle.read_refusals.proofs.acc_tests.Tie as tie
+use Rattle.read_refusals.proofs.permit_tests.Statement.{statement}
+use Rattle.read_refusals.proofs.permit_tests.Tie as tie
 
 sub-field-tests : tie.Need-sub-field-tests
 sub-field-tests c = search needs
@@ -30,8 +30,8 @@ returns : tie.Need-returns
 unfolding operandMeant
 returns c = c .both .ensures ∙ rw (c .before .before .field-tests .ensures, c .before .field-tests2 .ensures)
 
-pub acc-tests-spec : {M : Type 1} → statement M
-acc-tests-spec =
+pub permit-tests-spec : {M : Type 1} → statement M
+permit-tests-spec =
     tie.close
     (tie.spec
     sub-field-tests
