@@ -1,19 +1,19 @@
 -- What is left of the entries, and their kinds when that is stored.
-use mathlib.Core.Path.{_≡_, refl, sym, ap, ap₂, _∙_}
+use mathlib.Core.Path.{_≡_, refl, ap, ap₂, _∙_}
 use mathlib.Core.Bool.{Bool, true, false, cond}
 use mathlib.Core.List.{List, [], _∷_, _++_}
 use mathlib.Core.Logic.{inl, inr, ⊎-elim}
 use Prim.Native.Nat.{ℕ, zero, suc, _+_, _≤_, _<_}
 use native.Mathlib.Omega.{arith}
 use lib.Dec.{eqb}
-use lib.ListN.{length, getD, set, length-set}
+use lib.ListN.{getD, set, length-set}
 use lib.Seq.{getD-set-same, getD-set-other}
 use borrow.Author.Tests.{ne-eqb}
 use Rattle.rules.specs.Limits.{most-permissions}
-use Rattle.rules.specs.State.{Permission, entry}
+use Rattle.rules.specs.State.{entry}
 use Rattle.rules.proofs.Lists.{decide-eq}
 use Rattle.check_equality.specs.Listing.{listed}
-use Rattle.check_equality.specs.Layout.{variables-at, fields-at, kinds-at, bytes}
+use Rattle.check_equality.specs.Layout.{variables-at, fields-at, kinds-at}
 use Rattle.check_state.specs.States.{variableAt, fieldAt, kindAt, permitOf, permissionAt, permissionsIn, KindsIn}
 use Rattle.check_entries.specs.Entries.{kept, halvesOf, appended, leftIn, kindLeft, StoredLeft, OutBy}
 

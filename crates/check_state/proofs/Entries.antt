@@ -3,11 +3,11 @@ use mathlib.Core.Path.{_≡_, refl, sym, _∙_}
 use mathlib.Core.Bool.{Bool, true, false, cond}
 use mathlib.Core.List.{List, [], _∷_}
 use mathlib.Core.Option.{none, some}
-use mathlib.Core.Logic.{⊎-elim}
+use mathlib.Core.Logic.{_⊎_, inl, inr, ⊎-elim}
 use Prim.Native.Nat.{ℕ, zero, suc, _+_, _≤_, _<_}
 use native.Mathlib.Omega.{arith}
 use lib.Dec.{ltb}
-use lib.ListN.{getD, set, length-set}
+use lib.ListN.{getD, set, replicate, getD-replicate, List·getD-eq-default, length-replicate, length-set}
 use lib.Seq.{getD-set-same, getD-set-other}
 use borrow.Author.Tests.{ne-eqb, le-leb, ltb-true, ltb-false}
 use Rattle.rules.specs.Base.{ok, no, _>>=_, orElse, first}
@@ -22,6 +22,13 @@ use Rattle.check_equality.specs.Listing.{listed}
 use Rattle.check_equality.proofs.Listing.{first-append, first-here, first-found}
 use Rattle.check_state.specs.States.{factsOf, permissionAt, permissionsOf, stateOf, entries}
 use Rattle.check_state.specs.Questions.{FirstPlace, Bytes, entryTest, passes, pathAt, standsFor, variableOr}
+
+pub no-flags : (n i : ℕ) → getD (replicate n false) i false ≡ false
+no-flags n i = ⊎-elim (λ h. h) (λ h. h) (go (ltb i n) refl)
+  where
+    go : (c : Bool) → ltb i n ≡ c → (getD (replicate n false) i false ≡ false) ⊎ (getD (replicate n false) i false ≡ false)
+    go true e = inl (getD-replicate n i false false (ltb-true i n e))
+    go false e = inr (List·getD-eq-default (replicate n false) false {n = i} (rw (length-replicate n false) (ltb-false i n e)))
 
 -- one more number
 pub bytes-more : (f : ℕ → ℕ) (i : ℕ) (r : List ℕ) (v : ℕ) → i < most-permissions → Bytes f i r → v ≡ f i → Bytes f (i + 1) (set r i v)
