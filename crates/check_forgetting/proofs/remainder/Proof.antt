@@ -1,15 +1,19 @@
-use Rattle.check_forgetting.proofs.Changes.{remainder-law}
+use Rattle.check_forgetting.proofs.Remainders.{stored-wf, remainder-law}
 use Rattle.check_forgetting.proofs.remainder.Statement.{statement}
 use Rattle.check_forgetting.proofs.remainder.Tie as tie
 
+store-left-requires : tie.Need-store-left-requires
+store-left-requires c κs = c .before .pre .0 .linked .size
+
 forget-out-requires : tie.Need-forget-out-requires
-forget-out-requires c κs = c .before .before .pre
+forget-out-requires c κs = stored-wf _ _ _ (c .before .before .before .before .before .pre .0) (c .before .before .before .before .before .pre .1) _ _ (c .before .before .before .store-left .ensures .0) (c .before .before .before .store-left .ensures .1)
 
 pack-requires : tie.Need-pack-requires
-pack-requires c κs = (c .before .forget-out .ensures .wf .fit, c .before .forget-out .ensures .wf .linked .size)
+pack-requires c κs = (c .before .before .forget-out .ensures .wf .fit, c .before .before .forget-out .ensures .wf .linked .size)
 
 returns : tie.Need-returns
-returns c = remainder-law _ _ _ _ _ _ (c .before .before .before .before .before .pre) (c .before .before .forget-out .ensures) (c .pack .ensures)
+returns c =
+    remainder-law _ _ _ (c .before .before .before .before .before .before .before .before .before .pre .0) (c .before .before .before .before .before .before .before .before .before .pre .1) _ _ (c .before .before .before .before .before .before .before .store-left .ensures .0) (c .before .before .before .before .before .before .before .store-left .ensures .1) _ _ (c .before .before .before .forget-out .ensures) _ (c .pack .ensures)
 
 pub remainder-spec : {M : Type 1} → statement M
-remainder-spec = tie.close (tie.spec forget-out-requires pack-requires returns)
+remainder-spec = tie.close (tie.spec store-left-requires forget-out-requires pack-requires returns)
