@@ -6,11 +6,9 @@ use mathlib.Core.Option.{some}
 use Prim.Native.Nat.{ℕ, zero, suc, _+_, _*_, _-_, _≤_, _<_}
 use native.Mathlib.Numerals.{add-one}
 use native.Mathlib.Omega.{arith}
-use lib.Dec.{eqb}
 use lib.ListN.{length, take, drop, getD, getD-replicate}
 use lib.Seq.{drop-cons}
 use Rattle.rules.specs.Limits.{most-statements, values-shown}
-use Rattle.rules.specs.Base.{any}
 use Rattle.rules.specs.Answers as Answers
 use Rattle.rules.specs.Syntax.{Row, Program}
 use Rattle.rules.specs.Machine.{Frame, Location, Config, Step, Room, halves, fieldsIn, object, valueOf, entryValues, mainFrame, ends, goOn, step, run, start, runProgram}

@@ -210,8 +210,7 @@ adds (cmp r a b ∷ φ) n before s t C S l =
     let (u, eu) = resolves before s C a ta in
     let (v, ev) = resolves before s C b tb in
     let N : Next n before (addFact r u v s) = fact-adds n before s C S (omega (arith, l)) r u v in
-    let (s″, e) = adds φ (suc n) before (N .after) tφ (N .covered) (N .small) (omega (arith, l)) in
-    (
+    let (s″, e) = adds φ (suc n) before (N .after) tφ (N .covered) (N .small) (omega (arith, l)) in (
       s″,
       bind-of-ok (resolve (equalIn s) (s .permissions) a) u _ eu
           ∙ (bind-of-ok (resolve (equalIn s) (s .permissions) b) v _ ev ∙ (bind-of-ok (addFact r u v s) (N .after) _ (N .is-after) ∙ e)),

@@ -13,7 +13,9 @@ pack-requires c κs = (c .before .before .forget-out .ensures .wf .fit, c .befor
 
 returns : tie.Need-returns
 returns c =
-    remainder-law _ _ _ (c .before .before .before .before .before .before .before .before .before .pre .0) (c .before .before .before .before .before .before .before .before .before .pre .1) _ _ (c .before .before .before .before .before .before .before .store-left .ensures .0) (c .before .before .before .before .before .before .before .store-left .ensures .1) _ _ (c .before .before .before .forget-out .ensures) _ (c .pack .ensures)
+    remainder-law _ _ _ (c .before .before .before .before .before .before .before .before .before .pre .0) (c .before .before .before .before .before .before .before .before .before .pre .1) _ _
+    (c .before .before .before .before .before .before .before .store-left .ensures .0) (c .before .before .before .before .before .before .before .store-left .ensures .1) _ _
+    (c .before .before .before .forget-out .ensures) _ (c .pack .ensures)
 
 pub remainder-spec : {M : Type 1} → statement M
 remainder-spec = tie.close (tie.spec store-left-requires forget-out-requires pack-requires returns)

@@ -50,7 +50,12 @@ put-share-requires c κs =
     let at-atom-field = c .before .before .before .before .before .before .atom-field in
     let at-locate = c .before .before .before .before .before .locate in
     let at-k = c .before .before .before .k in
-    let e = spot-at _ _ (at-k .given .1) (at-locate .ensures) in let l = spot-small _ _ _ (start .pre .0 .0) e in let o = own-fits _ (start .args .v) _ _ _ _ [] (start .pre .0 .0 .tables .atom-fits (start .args .a) (start .pre .0 .1 .0)) (start .pre .0 .1 .1) (at-atom-kind .ensures .0) (at-atom-variable .ensures .0) (at-atom-field .ensures .0) in (((start .pre .0 .0 .tables .size, omega arith), own-held _ (start .args .v) _ _ _ _ [] (start .pre .0 .0 .tables .atom-fits (start .args .a) (start .pre .0 .1 .0)) (start .pre .0 .1 .1) (at-atom-kind .ensures .0) (at-atom-variable .ensures .0) (at-atom-field .ensures .0) _ e), start .pre .1)
+    let e = spot-at _ _ (at-k .given .1) (at-locate .ensures) in let l = spot-small _ _ _ (start .pre .0 .0) e in let o = own-fits _ (start .args .v) _ _ _ _ []
+    (start .pre .0 .0 .tables .atom-fits (start .args .a) (start .pre .0 .1 .0)) (start .pre .0 .1 .1) (at-atom-kind .ensures .0) (at-atom-variable .ensures .0)
+    (at-atom-field .ensures .0) in (
+      ((start .pre .0 .0 .tables .size, omega arith), own-held _ (start .args .v) _ _ _ _ [] (start .pre .0 .0 .tables .atom-fits (start .args .a) (start .pre .0 .1 .0)) (start .pre .0 .1 .1) (at-atom-kind .ensures .0) (at-atom-variable .ensures .0) (at-atom-field .ensures .0) _ e),
+      start .pre .1,
+    )
 
 enum-known-s : tie.Need-enum-known-s
 enum-known-s c = search needs
@@ -62,8 +67,16 @@ returns c =
     let at-atom-variable = c .before .before .before .before .before .before .before .before .atom-variable in
     let at-atom-field = c .before .before .before .before .before .before .before .atom-field in
     let at-locate = c .before .before .before .before .before .before .locate in
-    let at-k = c .before .before .before .before .k in
-    (record { took = c .put-share .ensures .0 .took ∙ own-at _ (start .args .v) _ _ _ _ _ (start .pre .0 .0 .tables .atom-fits (start .args .a) (start .pre .0 .1 .0)) (start .pre .0 .1 .1) (at-atom-kind .ensures .0) (at-atom-variable .ensures .0) (at-atom-field .ensures .0) _ (spot-at _ _ (at-k .given .1) (at-locate .ensures)); count = c .put-share .ensures .0 .count; size = c .put-share .ensures .0 .size }, c .put-share .ensures .1)
+    let at-k = c .before .before .before .before .k in (
+      record {
+        took = c .put-share .ensures .0 .took ∙ own-at _ (start .args .v) _ _ _ _ _ (start .pre .0 .0 .tables .atom-fits (start .args .a) (start .pre .0 .1 .0))
+            (start .pre .0 .1 .1) (at-atom-kind .ensures .0) (at-atom-variable .ensures .0) (at-atom-field .ensures .0) _
+            (spot-at _ _ (at-k .given .1) (at-locate .ensures));
+        count = c .put-share .ensures .0 .count;
+        size = c .put-share .ensures .0 .size;
+      },
+      c .put-share .ensures .1,
+    )
 
 returns-2 : tie.Need-returns-2
 unfolding tookIs countOf
@@ -72,8 +85,17 @@ returns-2 c =
     let at-atom-kind = c .before .before .before .before .before .before .atom-kind in
     let at-atom-variable = c .before .before .before .before .before .atom-variable in
     let at-atom-field = c .before .before .before .before .atom-field in
-    let at-locate = c .before .before .before .locate in
-    (record { took = sym (own-lacking _ (start .args .v) _ _ _ _ _ (start .pre .0 .0 .tables .atom-fits (start .args .a) (start .pre .0 .1 .0)) (start .pre .0 .1 .1) (at-atom-kind .ensures .0) (at-atom-variable .ensures .0) (at-atom-field .ensures .0) _ (spot-lacking _ _ (c .before .s .given .1) (at-locate .ensures))); count = omega arith; size = start .pre .1 .0 .1 }, sieve-none (start .args .shares .now) _ (start .pre .1 .1 .size))
+    let at-locate = c .before .before .before .locate in (
+      record {
+        took = sym
+            (own-lacking _ (start .args .v) _ _ _ _ _ (start .pre .0 .0 .tables .atom-fits (start .args .a) (start .pre .0 .1 .0)) (start .pre .0 .1 .1) (at-atom-kind .ensures .0)
+            (at-atom-variable .ensures .0) (at-atom-field .ensures .0) _ (spot-lacking _ _ (c .before .s .given .1) (at-locate .ensures)));
+        count = omega arith;
+        size = start .pre .1 .0 .1;
+      },
+      sieve-none
+          (start .args .shares .now) _ (start .pre .1 .1 .size),
+    )
 
 pub take-share-spec : {M : Type 1} → statement M
 take-share-spec =

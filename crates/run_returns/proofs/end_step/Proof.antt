@@ -58,7 +58,14 @@ leave-requires c κs =
     let at-ensures-count = c .before .before .before .before .before .before .before .before .ensures-count in
     let at-footprint = c .before .before .before .before .before .footprint in
     let at-k = c .before .before .before .k in
-    record { ready = start .pre; inner = at-if1 .left; size = at-footprint .ensures .size; count = count-shares _ _ _ (at-k .given .1) (at-footprint .ensures .count); took = sym (end-takes (start .pre) (at-if1 .left) _ _ _ (at-method-of .ensures) (at-ensures-first .ensures .0) (at-ensures-count .ensures .0) _ (at-view-of .ensures)) ∙ took-shares _ _ _ (at-k .given .1) (at-footprint .ensures .took) }
+    record {
+      ready = start .pre;
+      inner = at-if1 .left;
+      size = at-footprint .ensures .size;
+      count = count-shares _ _ _ (at-k .given .1) (at-footprint .ensures .count);
+      took = sym (end-takes (start .pre) (at-if1 .left) _ _ _ (at-method-of .ensures) (at-ensures-first .ensures .0) (at-ensures-count .ensures .0) _ (at-view-of .ensures)) ∙ took-shares _ _ _
+          (at-k .given .1) (at-footprint .ensures .took);
+    }
 
 enum-known-s : tie.Need-enum-known-s
 enum-known-s c = search needs
