@@ -1,8 +1,9 @@
 //! The answers in sentences, for the text and the page.
 
-use super::claims::{Theorem, AT_A_LINE, BOUND, EVERY_RUN, FRAMES, TRIAL};
+use super::claims::{Theorem, AT_A_LINE, BOUND, EVERY_RUN, FRAMES, FRAME_KEPT, HALVES_KEPT, TRIAL};
 use super::findings::Findings;
-use super::methods::Row;
+use super::handed::Share;
+use super::methods::{Handed, Row};
 use super::said::{self, code, joined, sentence, text, Piece, Said};
 use explain::routes::Leg;
 use explain::script::quoted;
@@ -62,13 +63,13 @@ pub fn alters(findings: &Findings) -> Answer {
         None => answer(
             "No",
             "From a `call` to its end, each field of a card that was there at the call keeps its \
-             value, unless the method's `requires` hands it over.",
+             value, unless the method's `requires` hands it over whole.",
             &[&EVERY_RUN],
         ),
         Some(refusal) if is_read(refusal) => answer(
             "No, it does not run",
             "A run refuses it and does no step. In a trial, too, each field of a card that was \
-             there at a call keeps its value, unless `requires` hands it over.",
+             there at a call keeps its value, unless `requires` hands it over whole.",
             &[&EVERY_RUN, &TRIAL],
         ),
         Some(_) => answer(
@@ -143,10 +144,11 @@ pub fn leg_lines(leg: &Leg) -> String {
     format!("{}{calls}", counted(leg.own, "line"))
 }
 
-/// The columns of question 1. The first is proved, the others are read off the
-/// text.
-pub const COLUMNS: [&str; 6] = [
+/// The columns of question 1. Of the first two it is proved what a call can do,
+/// the others are read off the text.
+pub const COLUMNS: [&str; 7] = [
     "handed over",
+    "for reading",
     "written",
     "only read",
     "not given back",
@@ -154,14 +156,34 @@ pub const COLUMNS: [&str; 6] = [
     "called from",
 ];
 
-/// By which theorem a column is proved, if it is: of a refused text that of
-/// trials.
-pub fn column_theorem(findings: &Findings, column: &str) -> Option<&'static Theorem> {
-    match (column == COLUMNS[0], findings.refusal()) {
-        (true, None) => Some(&EVERY_RUN),
-        (true, Some(_)) => Some(&TRIAL),
-        (false, _) => None,
-    }
+/// What is proved of a column, if something is.
+pub struct Proved {
+    pub theorem: &'static Theorem,
+    pub says: &'static str,
+}
+
+/// What is proved of a column: of a refused text by the theorem of trials.
+pub fn proved(findings: &Findings, column: &str) -> Option<Proved> {
+    let says = match COLUMNS.iter().position(|known| *known == column) {
+        Some(0) => "all that a call can change",
+        Some(1) => "kept by a call",
+        _ => return None,
+    };
+    let theorem = match findings.refusal() {
+        None => &EVERY_RUN,
+        Some(_) => &TRIAL,
+    };
+    Some(Proved { theorem, says })
+}
+
+/// What is proved of the two columns, in full.
+pub fn proved_of_methods() -> String {
+    format!(
+        "Proved: of the cards that are there at a call, it can change what is handed over, by \
+         `acc` or by both halves, and nothing else; what is handed over for reading, by one \
+         half, keeps its value (`{FRAME_KEPT}`). All frames together hold at most two halves of \
+         a field (`{HALVES_KEPT}`). The other columns are read off the text."
+    )
 }
 
 fn at_line(mut said: Said, line: u32) -> Said {
@@ -177,9 +199,36 @@ pub fn block(name: &str) -> Said {
     }
 }
 
+/// A path that is handed over, with what that hangs on, if it does.
+fn handed_if(handed: &Handed, is: &str) -> Said {
+    let mut said = vec![code(handed.path.clone())];
+    if let Share::Either(other) = &handed.share {
+        said.extend([
+            text(" (if "),
+            code(other.clone()),
+            text(format!(" is {is})")),
+        ]);
+    }
+    said
+}
+
+/// What is handed over whole.
+fn whole(row: &Row) -> Said {
+    let handed = row.handed.iter();
+    let whole = handed.filter(|handed| handed.share != Share::Half);
+    joined(whole.map(|handed| handed_if(handed, "the same")), "nothing")
+}
+
+/// What is handed over for reading.
+fn for_reading(row: &Row) -> Said {
+    let handed = row.handed.iter();
+    let half = handed.filter(|handed| handed.share != Share::Whole);
+    joined(half.map(|handed| handed_if(handed, "another")), "nothing")
+}
+
 /// What stands in the columns for a method or main.
-pub fn cells(row: &Row) -> [Said; 6] {
-    let paths = |wanted: &dyn Fn(&super::methods::Handed) -> bool| {
+pub fn cells(row: &Row) -> [Said; 7] {
+    let paths = |wanted: &dyn Fn(&Handed) -> bool| {
         let wanted = row.handed.iter().filter(|handed| wanted(handed));
         joined(
             wanted.map(|handed| vec![code(handed.path.clone())]),
@@ -203,7 +252,8 @@ pub fn cells(row: &Row) -> [Said; 6] {
         "the host"
     };
     [
-        paths(&|_| true),
+        whole(row),
+        for_reading(row),
         joined(written, "nothing"),
         paths(&|handed| !handed.written),
         paths(&|handed| !handed.back),

@@ -56,6 +56,11 @@ pub const THEOREMS: [&Theorem; 6] = [
     &AT_A_LINE,
 ];
 
+/// The part of these claims on what a call keeps, in their words.
+pub const FRAME_KEPT: &str = "FrameKept";
+/// The part on the halves of a field that all frames hold together.
+pub const HALVES_KEPT: &str = "HalvesKept";
+
 /// Something that is assumed, and the anchor of its place.
 pub struct Assumed {
     pub what: &'static str,
@@ -94,7 +99,7 @@ pub const ASSUMED: [Assumed; 5] = [
 
 #[cfg(test)]
 mod tests {
-    use super::{ASSUMED, THEOREMS};
+    use super::{ASSUMED, FRAME_KEPT, HALVES_KEPT, THEOREMS};
     use std::path::Path;
 
     fn read(path: &str) -> String {
@@ -115,6 +120,23 @@ mod tests {
             assert!(
                 page.contains(&named) && page.contains(theorem.file),
                 "{theorem:?}"
+            );
+        }
+    }
+
+    /// The parts stand in the words of the claims, where the assurance says.
+    #[test]
+    fn parts_are_there() {
+        let page = read("docs/ASSURANCE.md");
+        let words = "crates/rules/specs/Runs.antt";
+        for part in [FRAME_KEPT, HALVES_KEPT] {
+            assert!(
+                read(words).contains(&format!("abbrev pub {part} : ")),
+                "{part}"
+            );
+            assert!(
+                page.contains(&format!("`{part}`")) && page.contains(words),
+                "{part}"
             );
         }
     }

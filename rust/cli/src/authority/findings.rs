@@ -9,6 +9,7 @@ use explain::cause::{bound_cause, Cause};
 use explain::report::{Asked, Report};
 use explain::routes::{Leg, Routes};
 use explain::script::Script;
+use explain::Answers;
 use model::Judged;
 use nuyardi::{limits, Bound, Excess, NoBound, Outcome, Refusal};
 
@@ -66,18 +67,19 @@ fn reasons(script: &Script, bound: Result<Bound, NoBound>, ran: Option<&Outcome>
 }
 
 impl<'a> Findings<'a> {
-    /// Asks the library, with so many steps allowed, else as many as the bound
+    /// Asks who answers, with so many steps allowed, else as many as the bound
     /// says, else as many as the program allows.
     pub fn of(
+        answers: &mut impl Answers,
         file: &'a str,
         text: &'a [u8],
         steps: Option<u32>,
         time: Option<String>,
     ) -> Findings<'a> {
-        let bound = nuyardi::bound(text);
+        let bound = answers.bound(text);
         let usual = bound.map_or(limits::PROGRAM_STEPS as u32, |bound| bound.steps);
         let allowed = steps.unwrap_or(usual);
-        let answered = Report::of(file, text, Asked::Run(allowed));
+        let answered = Report::of(answers, file, text, Asked::Run(allowed));
         let script = agreed(text, bound);
         let ran = answered.ran.as_ref().map(|ran| &ran.outcome);
         let cause = match bound {

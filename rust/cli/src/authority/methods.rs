@@ -1,51 +1,16 @@
 //! Question 1, read off the text: what each method is handed, writes, only
 //! reads and does not give back, which cards it makes, and where it is called.
 
+use super::handed::{Contracts, Permission, Share};
 use explain::script::{shown, Script};
-use model::names::{Action, Atom, Expr, Path, Statement, Var, THIS};
-use model::watch::Record;
-
-/// How much of a permission an atom is.
-#[derive(Clone, Copy, Debug, PartialEq, Eq)]
-pub enum Share {
-    /// `acc x f`: to read and to write.
-    Whole,
-}
-
-impl Share {
-    pub fn word(self) -> &'static str {
-        match self {
-            Share::Whole => "whole",
-        }
-    }
-
-    /// May a method that is handed so much write the field?
-    fn writes(self) -> bool {
-        match self {
-            Share::Whole => true,
-        }
-    }
-
-    /// Are two permissions of one formula to one field always to two cards?
-    fn apart(self, other: Share) -> bool {
-        self == Share::Whole || other == Share::Whole
-    }
-}
-
-/// The permission that an atom is, if it is one.
-fn permission<'a>(atom: &Atom<'a>) -> Option<(Share, Path<'a>)> {
-    match *atom {
-        Atom::Acc(path) => Some((Share::Whole, path)),
-        Atom::Eq(..) | Atom::Ne(..) => None,
-    }
-}
+use model::names::{Action, Expr, Statement, Var, THIS};
 
 /// A field that a method is handed.
 pub struct Handed {
-    pub share: Share,
+    pub share: Share<String>,
     pub path: String,
-    /// Does `ensures` give it back, by its own name or an equal one? What it gives
-    /// by another name may be the same card.
+    /// Does `ensures` give as many halves back, by its own name or an equal one?
+    /// What it gives by another name may be the same card.
     pub back: bool,
     /// Can a line of the method, or of one that it calls, write it?
     pub written: bool,
@@ -83,28 +48,23 @@ struct Write<'a> {
     by: Option<usize>,
 }
 
-type Permission<'a> = (Share, Path<'a>);
-
 /// Of each block what it is handed, and which of that may be written.
 struct Blocks<'s, 'a> {
     script: &'s Script<'a>,
-    /// What the checker knows at each line of an accepted text.
-    known: Option<Record<'a>>,
+    contracts: Contracts<'s, 'a>,
     handed: Vec<Vec<Permission<'a>>>,
     altered: Vec<Vec<bool>>,
 }
 
 impl<'s, 'a> Blocks<'s, 'a> {
     fn of(script: &'s Script<'a>) -> Blocks<'s, 'a> {
-        let blocks = script.program.blocks.iter();
-        let handed: Vec<Vec<Permission>> = blocks
-            .map(|block| block.requires.iter().filter_map(permission).collect())
-            .collect();
+        let contracts = Contracts::of(script);
+        let blocks = 0..script.program.blocks.len();
+        let handed: Vec<Vec<Permission>> = blocks.map(|block| contracts.handed(block)).collect();
         let altered = handed.iter().map(|all| vec![false; all.len()]).collect();
-        let known = Record::of(&script.lines, &script.program);
         let mut blocks = Blocks {
             script,
-            known: known.filter(|known| known.refusal.is_none()),
+            contracts,
             handed,
             altered,
         };
@@ -145,13 +105,19 @@ impl<'s, 'a> Blocks<'s, 'a> {
                 by: None,
             }],
             Action::Call(call) => {
-                let handed = self.handed[call.method]
-                    .iter()
-                    .zip(&self.altered[call.method]);
-                let written = handed.filter(|(_, altered)| **altered);
-                let write = written.map(|((_, path), _)| Write {
-                    var: if path.var == THIS { call.y } else { call.z },
-                    field: path.field,
+                let handed = self.handed[call.method].iter();
+                let handed = handed.zip(&self.altered[call.method]);
+                let two = self.contracts.differ(place, call.y, call.z);
+                let written = handed.filter(|(handed, altered)| {
+                    **altered && !(two && matches!(handed.share, Share::Either(_)))
+                });
+                let write = written.map(|(handed, _)| Write {
+                    var: if handed.path.var == THIS {
+                        call.y
+                    } else {
+                        call.z
+                    },
+                    field: handed.path.field,
                     place,
                     line,
                     by: Some(call.method),
@@ -162,40 +128,25 @@ impl<'s, 'a> Blocks<'s, 'a> {
         }
     }
 
-    /// May a write hit a field that its block is handed? The names of `this` and
-    /// of the parameter stay; other variables may be either, unless the checker
-    /// knows better.
+    /// May a write hit a field that its block is handed? One of which it has a half
+    /// keeps its value. The names of `this` and of the parameter stay; other
+    /// variables may be either, unless the checker knows better.
     fn may_hit(&self, block: usize, write: &Write, at: usize) -> bool {
-        let (share, path) = self.handed[block][at];
-        if path.field != write.field || !share.writes() {
+        let Permission { path, share } = self.handed[block][at];
+        if path.field != write.field || share == Share::Half {
             return false;
         }
-        if path.var == write.var {
+        let same = self.contracts.same(block, path.var);
+        if same.contains(&Expr::Var(write.var)) {
             return true;
         }
-        let names = self.script.names(block);
         let mut others = self.handed[block].iter();
-        let apart = others.any(|(other, its)| {
-            (its.var, its.field) == (write.var, write.field) && share.apart(*other)
+        let apart = others.any(|other| {
+            (other.path.var, other.path.field) == (write.var, write.field)
+                && share.apart(&other.share)
         });
-        let alike = names.kind(path.var) == names.kind(write.var);
-        alike && !apart && !self.differ(write.place, path.var, write.var)
-    }
-
-    /// Does the checker know before a line that two variables are of two cards?
-    fn differ(&self, place: usize, one: Var, other: Var) -> bool {
-        let seen = self.known.as_ref().map(|known| &known.seen[place]);
-        let differ = [Atom::Ne(Expr::Var(one), Expr::Var(other))];
-        let state = seen.and_then(|seen| seen.before.as_ref());
-        state.is_some_and(|state| state.show(&differ).is_ok())
-    }
-
-    /// Does `ensures` give a handed field back, by its own name or an equal one?
-    fn back(&self, block: usize, path: Path) -> bool {
-        let ensures = &self.script.program.blocks[block].ensures;
-        let equal = equal_to(ensures, Expr::Var(path.var));
-        let mut given = ensures.iter().filter_map(permission);
-        given.any(|(_, given)| given.field == path.field && equal.contains(&Expr::Var(given.var)))
+        let alike = self.contracts.alike(block, path.var, write.var);
+        alike && !apart && !self.contracts.differ(write.place, path.var, write.var)
     }
 
     fn row(&self, block: usize) -> Row {
@@ -221,10 +172,14 @@ impl<'s, 'a> Blocks<'s, 'a> {
                 .map(|header| (shown(header.name), shown(header.class))),
             line: self.script.block_line(block),
             handed: handed
-                .map(|(&(share, its), &written)| Handed {
-                    share,
-                    path: path(its.var, its.field),
-                    back: self.back(block, its),
+                .map(|(&its, &written)| Handed {
+                    share: match its.share {
+                        Share::Whole => Share::Whole,
+                        Share::Half => Share::Half,
+                        Share::Either(other) => Share::Either(path(other.var, other.field)),
+                    },
+                    path: path(its.path.var, its.path.field),
+                    back: self.contracts.back(block, its),
                     written,
                 })
                 .collect(),
@@ -233,26 +188,6 @@ impl<'s, 'a> Blocks<'s, 'a> {
             callers: callers(self.script, block),
         }
     }
-}
-
-/// What the equalities of a formula make equal to an expression.
-fn equal_to<'a>(formula: &[Atom<'a>], start: Expr<'a>) -> Vec<Expr<'a>> {
-    let mut equal = vec![start];
-    let mut next = 0;
-    while let Some(&known) = equal.get(next) {
-        for atom in formula {
-            let other = match *atom {
-                Atom::Eq(left, right) if left == known => right,
-                Atom::Eq(left, right) if right == known => left,
-                _ => continue,
-            };
-            if !equal.contains(&other) {
-                equal.push(other);
-            }
-        }
-        next += 1;
-    }
-    equal
 }
 
 /// The name of a method, or `main`.

@@ -7,6 +7,7 @@ mod claims;
 mod counts;
 mod film;
 mod findings;
+mod handed;
 mod html;
 mod identity;
 mod index;
@@ -26,7 +27,7 @@ mod text;
 mod write;
 
 use crate::files::{self, complain, complain_of};
-use crate::{Session, DONE, FAILED, REFUSED};
+use crate::session::{Session, DONE, FAILED, REFUSED};
 use explain::objects;
 use explain::show::file_name;
 use findings::Findings;
@@ -68,11 +69,15 @@ fn read(names: &[OsString]) -> Vec<File> {
 }
 
 /// Looks into each text.
-fn entries<'a>(session: &Session, files: &'a [File]) -> Vec<Entry<'a>> {
+fn entries<'a>(session: &mut Session, files: &'a [File]) -> Vec<Entry<'a>> {
     let steps = session.words.has("steps").then_some(session.words.steps);
     let time = (!session.words.has("no-time")).then(identity::now);
+    let library = &mut session.library;
     let one = |(file, text): &'a File| match text {
-        Ok(text) => Entry::Found(Box::new(Findings::of(file, text, steps, time.clone()))),
+        Ok(text) => {
+            let findings = Findings::of(library, file, text, steps, time.clone());
+            Entry::Found(Box::new(findings))
+        }
         Err(error) => Entry::Unread {
             file: file.clone(),
             error: error.to_string(),

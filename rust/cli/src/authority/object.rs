@@ -24,6 +24,7 @@ fn method(row: &Row) -> Json {
         Json::object()
             .with("path", handed.path.as_str())
             .with("share", handed.share.word())
+            .with_some("other", handed.share.other().cloned())
             .with("written", handed.written)
             .with("back", handed.back)
     });

@@ -114,18 +114,16 @@ pub fn alters(findings: &Findings, prefix: &str) -> String {
     let rows: String = rows.collect();
     let mut headings = vec!["method".to_string()];
     headings.extend(COLUMNS.iter().map(|heading| {
-        let basis = match answers::column_theorem(findings, heading) {
-            Some(by) => format!("proved: {}", by.name),
+        let basis = match answers::proved(findings, heading) {
+            Some(proved) => format!("proved, {}: {}", proved.says, proved.theorem.name),
             None => "read off the text".to_string(),
         };
         format!("{heading} <span class=\"basis\">{basis}</span>")
     }));
     if !rows.is_empty() {
         inner.push_str(&table("stacked methods", &headings, &rows));
-        inner.push_str(
-            "<p class=\"note\">Proved: of the cards that are there at a call, it can change what is handed over \
-             and nothing else. The other columns are read off the text.</p>\n",
-        );
+        let note = coded(&answers::proved_of_methods());
+        inner.push_str(&format!("<p class=\"note\">{note}</p>\n"));
     }
     let question = "1. Can it alter a card that it was not handed?";
     section(&format!("{prefix}question-1"), question, &inner)

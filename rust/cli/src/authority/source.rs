@@ -2,7 +2,9 @@
 //! tables say of it.
 
 use super::findings::Findings;
+use super::handed::Share;
 use super::html::escaped;
+use super::methods::Row;
 use super::said::line_id;
 use super::stops::{self, Verdict};
 use explain::show::{counted, grouped, shown};
@@ -40,14 +42,30 @@ fn mark(line: u32, words: impl Into<String>, row: impl Into<String>) -> Mark {
     }
 }
 
+/// What a method is handed: after the paths how much of them.
+fn handed(row: &Row) -> Vec<(&'static str, String)> {
+    let share = |share: &Share<String>| match share {
+        Share::Whole => "",
+        Share::Half => ", for reading",
+        Share::Either(_) => ", for reading, or whole if of one card",
+    };
+    let mut all: Vec<(&'static str, String)> = Vec::new();
+    for handed in &row.handed {
+        let (share, path) = (share(&handed.share), handed.path.as_str());
+        match all.iter_mut().find(|(known, _)| *known == share) {
+            Some((_, paths)) => *paths += &format!(", {path}"),
+            None => all.push((share, path.to_string())),
+        }
+    }
+    all
+}
+
 /// What the table of methods says of lines.
 fn of_methods(findings: &Findings, marks: &mut Vec<Mark>) {
     for (at, row) in findings.methods.iter().enumerate() {
         let id = method_id(at);
-        if !row.handed.is_empty() {
-            let paths: Vec<&str> = row.handed.iter().map(|one| one.path.as_str()).collect();
-            let words = format!("is handed {}", paths.join(", "));
-            marks.push(mark(row.line, words, &id));
+        for (share, words) in handed(row) {
+            marks.push(mark(row.line, format!("is handed {words}{share}"), &id));
         }
         for write in &row.written {
             let words = match &write.by {

@@ -87,10 +87,10 @@ fn alters(out: &mut String, findings: &Findings) {
     if findings.methods.is_empty() {
         return;
     }
-    let proof = |column: &str| answers::column_theorem(findings, column);
-    for (column, theorem) in COLUMNS.iter().filter_map(|one| Some((one, proof(one)?))) {
-        let said = format!("`{column}` is all that a call can change: {}", theorem.name);
-        row(out, "proved", &said);
+    let proof = |column: &str| answers::proved(findings, column);
+    for (column, proved) in COLUMNS.iter().filter_map(|one| Some((one, proof(one)?))) {
+        let (says, name) = (proved.says, proved.theorem.name);
+        row(out, "proved", &format!("`{column}` is {says}: {name}"));
     }
     let read: Vec<&str> = COLUMNS
         .into_iter()

@@ -197,13 +197,26 @@ fn method_is(row: &Element, method: &Json) {
     let parts = parts.concat();
     let lines = parts.iter().chain([method]).map(|one| int(one, "line"));
     assert_eq!(lines_of(row), lines.collect());
-    let handed = list(method, "handed").iter();
-    let handed: Vec<&str> = handed.map(|one| text(one, "path")).collect();
-    let handed = match handed.is_empty() {
+    let cells = cells(row);
+    assert_eq!(cells[0], handed(method, "half", "the same"));
+    assert_eq!(cells[1], handed(method, "whole", "another"));
+}
+
+/// The paths that a method is handed but for those of a share; those of which
+/// another path may have the other half are of either.
+fn handed(method: &Json, but: &str, is: &str) -> String {
+    let paths = list(method, "handed").iter().filter_map(|one| {
+        let other = one.get("other").and_then(Json::text);
+        match (text(one, "path"), other) {
+            (path, Some(other)) => Some(format!("{path} (if {other} is {is})")),
+            (path, None) => (text(one, "share") != but).then(|| path.to_string()),
+        }
+    });
+    let paths: Vec<String> = paths.collect();
+    match paths.is_empty() {
         true => "nothing".to_string(),
-        false => handed.join(", "),
-    };
-    assert_eq!(cells(row)[0], handed);
+        false => paths.join(", "),
+    }
 }
 
 fn reason_is(row: &Element, reason: &Json, trace: &[Json]) {

@@ -1,7 +1,7 @@
 //! `station report --json`: every figure that a call gives is the call's, for the
 //! examples and for texts of every kind.
 
-use super::{examples, int, list, object, objects, sha256sum, text};
+use super::{examples, int, list, object, objects, said, sha256sum, text};
 use crate::common::{folder, root};
 use explain::json::Json;
 use std::path::Path;
@@ -91,7 +91,7 @@ fn the_examples() {
 /// So many texts of the generator, each in a file of the folder.
 fn texts(folder: &Path, count: u64) {
     for seed in 0..count {
-        let text = model::gen::text(0x5e50_0000 + seed);
+        let text = generator::text(0x5e50_0000 + seed);
         std::fs::write(folder.join(format!("{seed:04}.script")), text).expect("a text");
     }
 }
@@ -188,4 +188,37 @@ fn what_is_not_given_back() {
         kept.map(|one| text(one, "path")).collect::<Vec<_>>(),
         ["this.tag"]
     );
+}
+
+/// Cards handed over for reading: one of which the method has a half, and two
+/// names that may be of one card.
+#[test]
+fn what_is_for_reading() {
+    let folder = folder("report-reading");
+    let file = folder.join("read.script");
+    let script = "class S\nfield int n\nmethod int look int k\nrequires read this n\nensures read this n\n\
+                  var int r\nlet r this.n\nreturn r\nend\nmethod int both S p\nrequires read this n read p n\n\
+                  ensures read this n\nvar int k\nreturn k\nend\nmain\nend\n";
+    std::fs::write(&file, script.replace(' ', "\t")).expect("a script");
+    let report = object(&["report", "--json", file.to_str().expect("a name")]);
+    let told: Vec<String> = list(&report, "methods")
+        .iter()
+        .flat_map(|method| list(method, "handed"))
+        .map(Json::to_string)
+        .collect();
+    let wanted = [
+        r#"{"path":"this.n","share":"half","written":false,"back":true}"#,
+        r#"{"path":"this.n","share":"half","other":"p.n","written":false,"back":true}"#,
+        r#"{"path":"p.n","share":"half","other":"this.n","written":false,"back":false}"#,
+    ];
+    assert_eq!(told, wanted);
+    let (out, _, _) = said(&["report", file.to_str().expect("a name")], b"");
+    for line in [
+        "    for reading:    `this.n`\n",
+        "    handed over:    `this.n` (if `p.n` is the same), `p.n` (if `this.n` is the same)\n",
+        "    for reading:    `this.n` (if `p.n` is another), `p.n` (if `this.n` is another)\n",
+        "    not given back: `p.n`\n",
+    ] {
+        assert!(out.contains(line), "{line}: {out}");
+    }
 }
