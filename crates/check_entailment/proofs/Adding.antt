@@ -227,4 +227,3 @@ module _ (key b : List ℕ) (c l r : ℕ) (apart : Bool) (w : Wf key b) (h : fac
       (ap (permissionsIn counted-two) last-two ∙ listed-same _ _ (entries b) (entries-same b counted-two (entries b) (w .fit) (λ i g s r. at-two i g s)))
       (counted-facts two (facts b + 1) (more-facts .size) key′ (omega arith) ∙ pushed-facts key b (facts b) c l r (w .linked) h key′ b₁ apart e P
       ∙ ap (λ (x : Bool). factsOf key b ++ (factOf x l r ∷ [])) e)
-

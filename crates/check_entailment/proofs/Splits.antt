@@ -145,13 +145,13 @@ module _ (_~_ : Equality) (y f x g : ℕ) where
 
   half-taken : (l : ℕ) → IsKind l → Taken read-kind l
   unfolding giving leaves withPermit names passes halvesOf permitOf bindOption
-  half-taken l k = 
+  half-taken l k =
       ⊎-elim (λ e. rw e (gives-way (giving _~_ read y f) (entry read x g) named [] refl))
       (λ e. rw e (gives-way (giving _~_ read y f) (entry acc x g) named (entry read x g ∷ []) refl)) (a-kind l k)
 
   both-taken : (l : ℕ) → IsKind l → Taken acc-kind l
   unfolding giving leaves withPermit names passes halvesOf permitOf bindOption
-  both-taken l k = 
+  both-taken l k =
       ⊎-elim (λ e. rw e (never (giving _~_ acc y f) (entry read x g) named refl)) (λ e. rw e (gives-way (giving _~_ acc y f) (entry acc x g) named [] refl))
       (a-kind l k)
 

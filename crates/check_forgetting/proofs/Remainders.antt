@@ -161,7 +161,7 @@ module _ (b : List ℕ) (out : List Bool) where
 
   dropped-term : (k : ℕ) → withoutPaths (droppedOf b out) (termOf k) ≡ cond (keyDropped b out k) none (some (termOf k))
   unfolding withoutPaths
-  dropped-term k = 
+  dropped-term k =
       rw (lists-unlisted (keptOf b out) (permissionsOf b) (termOf k)
       ∙ ap (λ (d : Bool). lists (permissionsOf b) (termOf k) && not d) (kept-lists b out (entries b) (termOf k)) ∙ dropped-key k)
 
