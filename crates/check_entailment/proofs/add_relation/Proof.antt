@@ -42,13 +42,12 @@ add-fact-requires c κs = search needs
 
 returns-3 : tie.Need-returns-3
 returns-3 c =
+    let start = c .before .before .before .before .before .before .before .before .before .before .before .before .before .before .before in
     let at-resolve = c .before .before .before .before .before .before .before .before .before .before .before .before .resolve in
     let at-t = c .before .before .before .before .before .before .before .before .before .before .t in
     let at-resolve2 = c .before .before .before .before .before .before .resolve2 in
     let at-u = c .before .before .before .before .u in
-    relation-added (c .before .before .before .before .before .before .before .before .before .before .before .before .before .before .before .args .key .now)
-    (c .before .before .before .before .before .before .before .before .before .before .before .before .before .before .before .args .b .now) _ _ _ _
-    (sym (at-resolve .ensures) ∙ key-resolved _ _ (at-t .given .1)) _ (sym (at-resolve2 .ensures) ∙ key-resolved _ _ (at-u .given .1)) _ _ _ (c .add-fact .ensures)
+    relation-added (start .args .key .now) (start .args .b .now) _ _ _ _ (sym (at-resolve .ensures) ∙ key-resolved _ _ (at-t .given .1)) _ (sym (at-resolve2 .ensures) ∙ key-resolved _ _ (at-u .given .1)) _ _ _ (c .add-fact .ensures)
 
 pub add-relation-spec : {M : Type 1} → statement M
 add-relation-spec =

@@ -43,12 +43,9 @@ returns c =
     let at-loop = c .before .before .before .before .before .loop in
     let at-loop-test = c .before .before .before .before .loop-test in
     let at-atom = c .before .before .before .atom in
-    let at-show-atom = c .before .before .show-atom in (
-      at-show-atom .ensures .0,
-      show-refused (start .args .key .now) (start .args .b .now) _ _ (at-loop .left) (at-loop .inv .2) _ _ (formula-more _ _ _ _ _ _ _ (at-loop-test .taken)) _
-          (at-show-atom .result .left) (subst (λ (b : Atom ℕ). ShowsAtom (start .args .key .now) (start .args .b .now) (at-loop .left) b (at-show-atom .result .answer) (at-show-atom .result .left)) (at-atom .ensures) (at-show-atom .ensures .1))
-          (c .match .keys2),
-    )
+    let at-show-atom = c .before .before .show-atom in
+    let A = subst (λ (b : Atom ℕ). ShowsAtom (start .args .key .now) (start .args .b .now) (at-loop .left) b (at-show-atom .result .answer) (at-show-atom .result .left)) (at-atom .ensures) (at-show-atom .ensures .1) in
+    (at-show-atom .ensures .0, show-refused (start .args .key .now) (start .args .b .now) _ _ (at-loop .left) (at-loop .inv .2) _ _ (formula-more _ _ _ _ _ _ _ (at-loop-test .taken)) _ (at-show-atom .result .left) A (c .match .keys2))
 
 add-i : tie.Need-add-i Inv-loop μ-loop
 add-i c = omega arith
@@ -62,13 +59,9 @@ loop-again c =
     let at-loop = c .before .before .before .before .before .before .loop in
     let at-loop-test = c .before .before .before .before .before .loop-test in
     let at-atom = c .before .before .before .before .atom in
-    let at-show-atom = c .before .before .before .show-atom in (
-      omega arith,
-      at-show-atom .ensures .0,
-      show-more (start .args .key .now) (start .args .b .now) _ _ (at-loop .left) (at-loop .inv .2) _ _ (formula-more _ _ _ _ _ _ _ (at-loop-test .taken)) _ (at-show-atom .result .left)
-          (subst (λ (b : Atom ℕ). ShowsAtom (start .args .key .now) (start .args .b .now) (at-loop .left) b (at-show-atom .result .answer) (at-show-atom .result .left)) (at-atom .ensures) (at-show-atom .ensures .1))
-          (c .enum-told .given .1),
-    )
+    let at-show-atom = c .before .before .before .show-atom in
+    let A = subst (λ (b : Atom ℕ). ShowsAtom (start .args .key .now) (start .args .b .now) (at-loop .left) b (at-show-atom .result .answer) (at-show-atom .result .left)) (at-atom .ensures) (at-show-atom .ensures .1) in
+    (omega arith, at-show-atom .ensures .0, show-more (start .args .key .now) (start .args .b .now) _ _ (at-loop .left) (at-loop .inv .2) _ _ (formula-more _ _ _ _ _ _ _ (at-loop-test .taken)) _ (at-show-atom .result .left) A (c .enum-told .given .1))
 
 returns-2 : tie.Need-returns-2 Inv-loop μ-loop
 returns-2 c =
