@@ -5,11 +5,14 @@
 mod bounds;
 mod bytes;
 mod form;
+mod half_mends;
+mod halves;
 mod mends;
 mod names;
 mod places;
 mod route;
 mod rules;
+mod stopped_halves;
 mod stops;
 
 pub use bounds::bound_cause;
