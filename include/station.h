@@ -67,7 +67,7 @@ enum station_number {
     STATION_TYPE = 7,               /* wrong type */
     STATION_UNFINISHED = 8,         /* text ends before main's `end` */
     STATION_ASSIGNED = 9,           /* variable that may not be assigned; `call x` with x as y or z */
-    STATION_UNFRAMED = 10,          /* path read before its `acc` */
+    STATION_UNFRAMED = 10,          /* path read before its `acc` or `read` */
     STATION_UNRESOLVED = 11,        /* path that does not resolve */
     STATION_NO_PERMISSION = 12,     /* permission not shown */
     STATION_NOT_SHOWN = 13,         /* `eq` or `ne` not shown */
