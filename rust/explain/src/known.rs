@@ -124,14 +124,10 @@ fn turned<'a>(
         }
     };
     for held in &before.permissions {
-        turn(names.held(held), &|| permission(held, held.share));
-    }
-    // A half went, or came back.
-    for held in &before.permissions {
-        let others = Share::ALL.into_iter().filter(|share| *share != held.share);
-        turn(names.held(held), &|| {
-            permission(held, others.clone().next()?)
-        });
+        // Or a half went, or came back.
+        for share in [held.share].into_iter().chain(Share::ALL) {
+            turn(names.held(held), &|| permission(held, share));
+        }
     }
     for known in &before.facts {
         turn(names.fact(known), &|| fact(known));

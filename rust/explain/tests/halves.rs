@@ -214,6 +214,10 @@ fn stops_for_want_of_a_half() {
         (cause.text.as_str(), &cause.notes[..]),
         (said, &["main holds the other half".to_string()][..])
     );
+}
+
+#[test]
+fn stops_at_atoms_for_want_of_a_half() {
     for (formula, lack) in [
         (
             "release read s n|assert acc s n",

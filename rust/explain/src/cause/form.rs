@@ -68,17 +68,21 @@ pub fn malformed(text: &[u8], number: u32) -> Option<Cause> {
             None => field_cause(operand, why, field),
         },
         Fault::UnknownAtom => unknown_atom(field),
-        Fault::ShortAtom => Cause::new(format!(
-            "the atom `{}` has not its three fields: {}",
-            shown(&bytes[all[at].0..]).replace('\t', " "),
-            atom_forms()
-        )),
+        Fault::ShortAtom => short_atom(&bytes[all[at].0..]),
         _ => count_cause(found, all[0].1, field),
     };
     Some(cause.mark(mark))
 }
 
 const DELETE: &str = "delete the line";
+
+fn short_atom(atom: &[u8]) -> Cause {
+    let atom = shown(atom).replace('\t', " ");
+    let forms = atom_forms();
+    Cause::new(format!(
+        "the atom `{atom}` has not its three fields: {forms}"
+    ))
+}
 
 /// The forms of all atoms.
 fn atom_forms() -> String {

@@ -4,7 +4,7 @@ use super::mends::in_contract;
 use super::route::{named, Step};
 use super::rules::Unshown;
 use crate::script::{line, shown, Names, Script};
-use model::names::{Action, Atom, Path, PARAM, THIS};
+use model::names::{Action, Atom, Call, Path, PARAM, THIS};
 use model::number::DONE;
 use model::text::Share;
 
@@ -65,16 +65,8 @@ fn keeper<'s, 'a>(
     let statement = named(script, place);
     Some(match &statement.action {
         Action::Call(call) => {
-            let method = script.names(call.method);
-            let (_, line) = script.contract_lines(call.method);
-            let name = method.block.header.map_or(&b""[..], |header| header.name);
-            let keeper = Keeper {
-                line,
-                formula: &method.block.ensures,
-                names: method,
-                of: format!("the `ensures` of `{}`", shown(name)),
-            };
-            let var = in_contract(*call, &method, path.var)?;
+            let keeper = ensures(script, *call);
+            let var = in_contract(*call, &keeper.names, path.var)?;
             (keeper, var)
         }
         Action::Join(formula) => (
@@ -87,6 +79,19 @@ fn keeper<'s, 'a>(
         }
         _ => return None,
     })
+}
+
+/// What the called method gives back.
+fn ensures<'s, 'a>(script: &'s Script<'a>, call: Call) -> Keeper<'s, 'a> {
+    let names = script.names(call.method);
+    let (_, line) = script.contract_lines(call.method);
+    let name = names.block.header.map_or(&b""[..], |header| header.name);
+    Keeper {
+        line,
+        formula: &names.block.ensures,
+        names,
+        of: format!("the `ensures` of `{}`", shown(name)),
+    }
 }
 
 /// The line with one word of an atom changed.

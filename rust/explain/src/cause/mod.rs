@@ -53,6 +53,12 @@ impl Cause {
         self
     }
 
+    /// The note, if there is one.
+    fn or_note(mut self, note: Option<String>) -> Cause {
+        self.notes.extend(note);
+        self
+    }
+
     /// The mend, if there is one.
     fn or_mend(mut self, mend: Option<String>) -> Cause {
         self.mend = mend.or(self.mend);

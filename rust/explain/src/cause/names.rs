@@ -417,12 +417,14 @@ pub fn unframed(text: &[u8], number: u32) -> Option<Cause> {
     let look = Look::at(text, number)?;
     let (atoms, conditions) = framed_atoms(look.line()?)?;
     let (atom, x, field) = model::framing::unframed_in(look.line()?)?;
-    let [acc, half] = [text::Share::Acc, text::Share::Read]
-        .map(|share| format!("{} {} {}", share.word(), shown(x), shown(field)));
+    let [acc, half] = text::Share::ALL.map(|share| permission(share, x, field));
     let path = format!("{}.{}", shown(x), shown(field));
     let condition = atom < conditions;
     let said = match condition {
-        true => format!("the condition reads `{path}`, and the invariant after it has neither `{acc}` nor `{half}`"),
+        true => format!(
+            "the condition reads `{path}`, and the invariant after it has neither `{acc}` nor \
+             `{half}`"
+        ),
         false => format!("`{path}` is read, and neither `{acc}` nor `{half}` stands before it"),
     };
     let mark = field_range(look.bytes(), 1 + 3 * atom..4 + 3 * atom);
@@ -432,27 +434,25 @@ pub fn unframed(text: &[u8], number: u32) -> Option<Cause> {
         false => &atoms[conditions..atom],
     };
     let other = serving.iter().find_map(|atom| match atom {
-        text::Atom::Permission(share, y, f) if *f == field && *y != x => {
-            Some(format!("{} {}", share.word(), shown(y)))
-        }
-        _ => None,
-    });
-    let cause = match other {
-        Some(held) => cause.note(format!(
-            "`{held} {}` does not count for `{path}`, also if the two are one card: it goes by the \
-             names as written",
-            shown(field)
+        text::Atom::Permission(share, y, f) if *f == field && *y != x => Some(format!(
+            "`{}` does not count for `{path}`, also if the two are one card: it goes by the names \
+             as written",
+            permission(*share, y, field)
         )),
-        None => cause,
-    };
-    let later = atoms[atom..].iter().find_map(|atom| match atom {
-        text::Atom::Permission(share, y, f) if (*y, *f) == (x, field) => Some(share),
         _ => None,
     });
-    Some(cause.mend(match later {
+    let later = atoms[atom..].iter().find_map(|atom| match atom {
+        text::Atom::Permission(share, y, f) if (*y, *f) == (x, field) => Some(*share),
+        _ => None,
+    });
+    Some(cause.or_note(other).mend(match later {
         _ if condition => format!("write `{acc}` or `{half}` after the condition"),
-        Some(text::Share::Acc) => format!("move `{acc}` before it"),
-        Some(text::Share::Read) => format!("move `{half}` before it"),
+        Some(share) => format!("move `{}` before it", permission(share, x, field)),
         None => format!("write `{acc}` or `{half}` before it"),
     }))
+}
+
+/// `acc x f` or `read x f`.
+fn permission(share: text::Share, x: Name, field: Name) -> String {
+    format!("{} {} {}", share.word(), shown(x), shown(field))
 }

@@ -110,13 +110,7 @@ impl<'s, 'a> Unshown<'s, 'a> {
             ),
             None => format!("asks for `{wanted}`"),
         };
-        let short = halves::short(self);
-        let missing = match self.wanted {
-            _ if short.is_some() => short.as_ref().map_or("", halves::Short::missing),
-            Atom::Permission(..) if self.taken().is_some() => "not held a second time",
-            Atom::Permission(..) => "not held",
-            _ => "not known",
-        };
+        let missing = self.missing();
         match self.asked.purpose {
             Purpose::Value => format!("`let` {needs}"),
             Purpose::Condition => format!("`if` {needs}"),
@@ -140,6 +134,16 @@ impl<'s, 'a> Unshown<'s, 'a> {
             }
             _ if self.read.is_some() => format!("the line {needs}"),
             _ => format!("`{wanted}` is {missing} here"),
+        }
+    }
+
+    /// "it is .. here".
+    fn missing(&self) -> &'static str {
+        match (self.wanted, halves::short(self)) {
+            (_, Some(short)) => short.missing(),
+            (Atom::Permission(..), _) if self.taken().is_some() => "not held a second time",
+            (Atom::Permission(..), _) => "not held",
+            _ => "not known",
         }
     }
 
@@ -374,18 +378,9 @@ pub fn cause(text: &[u8], number: u32) -> Option<Cause> {
             None => cause,
         },
     };
-    let cause = match nearest(&names, &asked.state, unshown.wanted) {
-        Some(near) => cause.note(near),
-        None => cause,
-    };
-    let cause = match halves::may_be_one(&names, &asked.state, unshown.wanted) {
-        Some(note) => cause.note(note),
-        None => cause,
-    };
+    let cause = cause.or_note(nearest(&names, &asked.state, unshown.wanted));
+    let cause = cause.or_note(halves::may_be_one(&names, &asked.state, unshown.wanted));
     let wanted = half_mends::offered(&unshown, &steps, lost_at);
     let unshown = Unshown { wanted, ..unshown };
-    Some(match mend(&unshown, &steps, lost_at) {
-        Some(mend) => cause.mend(mend),
-        None => cause,
-    })
+    Some(cause.or_mend(mend(&unshown, &steps, lost_at)))
 }
