@@ -67,7 +67,7 @@ _MEANINGS = {
     Number.TYPE: "wrong type",
     Number.UNFINISHED: "text ends before main's `end`",
     Number.ASSIGNED: "variable that may not be assigned; `call x` with x as y or z",
-    Number.UNFRAMED: "path read before its `acc`",
+    Number.UNFRAMED: "path read before its `acc` or `read`",
     Number.UNRESOLVED: "path that does not resolve",
     Number.NO_PERMISSION: "permission not shown",
     Number.NOT_SHOWN: "`eq` or `ne` not shown",

@@ -12,7 +12,7 @@ meanings <- c(
   "7" = "wrong type",
   "8" = "text ends before main's `end`",
   "9" = "variable that may not be assigned; `call x` with x as y or z",
-  "10" = "path read before its `acc`",
+  "10" = "path read before its `acc` or `read`",
   "11" = "path that does not resolve",
   "12" = "permission not shown",
   "13" = "`eq` or `ne` not shown",

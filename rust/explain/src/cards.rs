@@ -16,8 +16,22 @@ pub struct Field {
     pub link: bool,
     /// A number, or the number of a card; 0 for null.
     pub value: i32,
-    /// The frame that holds it, from main's 0; none if nobody does.
+    /// The frame that holds it, from main's 0, the first if two have a half each;
+    /// none if nobody does.
     pub holder: Option<usize>,
+    /// The frames that hold a half of it or both, with how many halves each.
+    pub halves: Vec<(usize, u8)>,
+}
+
+impl Field {
+    /// Who holds each half, where they are apart: nobody, if one is lost.
+    pub fn apart(&self) -> Option<[Option<usize>; 2]> {
+        match self.halves[..] {
+            [(one, 1)] => Some([Some(one), None]),
+            [(one, 1), (other, 1)] => Some([Some(one), Some(other)]),
+            _ => None,
+        }
+    }
 }
 
 /// A card that the run made.
@@ -53,10 +67,7 @@ pub fn after(text: &[u8], steps: u32) -> Option<Cards> {
 
 /// The cards of a machine.
 pub fn of(script: &Script, machine: &Machine) -> Cards {
-    let holder = |location| {
-        let mut frames = machine.frames.iter();
-        frames.position(|frame| frame.held.contains(location))
-    };
+    let holder = |location| machine.holders(location).map(|(frame, _)| frame).next();
     let cards = machine.objects.iter().map(|object| {
         let class = &script.program.classes[object.class];
         let fields = class.fields.iter().enumerate().map(|(slot, field)| Field {
@@ -64,6 +75,7 @@ pub fn of(script: &Script, machine: &Machine) -> Cards {
             link: field.kind != Type::Int,
             value: machine.heap[object.first + slot],
             holder: holder(object.first + slot),
+            halves: machine.holders(object.first + slot).collect(),
         });
         Card {
             class: shown(class.name),
@@ -128,14 +140,25 @@ impl Cards {
         let Some(first) = card.fields.first() else {
             return String::new();
         };
-        if card.fields.iter().all(|field| field.holder == first.holder) {
-            return format!("; held by {}", self.holder(first.holder));
+        if card.fields.iter().all(|field| field.halves == first.halves) {
+            return format!("; held {}", self.held_by(first));
         }
         let each = card.fields.iter();
         let each: Vec<String> = each
-            .map(|field| format!("{} by {}", field.name, self.holder(field.holder)))
+            .map(|field| format!("{} {}", field.name, self.held_by(field)))
             .collect();
         format!("; held: {}", each.join(", "))
+    }
+
+    /// "by main", or "half by main and half by look (call 1)".
+    fn held_by(&self, field: &Field) -> String {
+        match field.apart() {
+            None => format!("by {}", self.holder(field.holder)),
+            Some(halves) => {
+                let [one, other] = halves.map(|holder| self.holder(holder));
+                format!("half by {one} and half by {other}")
+            }
+        }
     }
 
     /// All of it as JSON.
@@ -146,11 +169,16 @@ impl Cards {
                     (true, 0) => Json::Null,
                     (_, value) => value.into(),
                 };
+                let holders = field.halves.iter().map(|&(frame, halves)| {
+                    let object = Json::object().with("holder", frame);
+                    object.with("halves", u32::from(halves))
+                });
                 Json::object()
                     .with("name", field.name.as_str())
                     .with("link", field.link)
                     .with("value", value)
                     .with("holder", field.holder)
+                    .with("holders", Json::List(holders.collect()))
             });
             Json::object()
                 .with("object", at + 1)

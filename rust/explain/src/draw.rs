@@ -1,6 +1,7 @@
 //! A drawing: the cards and their links after a run, as an SVG picture.
 //! Cards stand in columns by how far they are from main's variables; links are
-//! arrows; a field's colour says which open block holds it.
+//! arrows; a field's colour says which open block holds it, two colours that two
+//! have a half each.
 
 use crate::cards::{self, Card, Cards, Field};
 use crate::report::Report;
@@ -156,13 +157,18 @@ fn draw_card(
     }
 }
 
-/// A field, with the colour of its holder before it.
+/// A field, with the colour of its holder before it, or of both.
 fn draw_field(out: &mut String, field: &Field, (x, top): (i32, i32)) {
-    let fill = colour(field.holder);
-    let _ = writeln!(
-        out,
-        r#"<rect x="{x}" y="{top}" width="6" height="{ROW}" fill="{fill}"/>"#
-    );
+    let apart = field.apart();
+    let height = if apart.is_some() { ROW / 2 } else { ROW };
+    let holders = apart.map_or(vec![field.holder], |halves| halves.to_vec());
+    for (holder, y) in holders.into_iter().zip([top, top + height]) {
+        let fill = colour(holder);
+        let _ = writeln!(
+            out,
+            r#"<rect x="{x}" y="{y}" width="6" height="{height}" fill="{fill}"/>"#
+        );
+    }
     let value = match (field.link, field.value) {
         (true, 0) => "null".to_string(),
         (true, object) => format!("-> {object}"),
@@ -207,7 +213,10 @@ fn legend(out: &mut String, cards: &Cards, top: i32) -> i32 {
     let holders = (0..cards.open.len()).map(Some).chain([None]);
     let held = |holder| {
         let mut fields = cards.cards.iter().flat_map(|card| &card.fields);
-        fields.any(|field| field.holder == holder)
+        fields.any(|field| match field.apart() {
+            Some(halves) => halves.contains(&holder),
+            None => field.holder == holder,
+        })
     };
     for holder in holders.filter(|&holder| held(holder)) {
         let fill = colour(holder);
@@ -218,6 +227,11 @@ fn legend(out: &mut String, cards: &Cards, top: i32) -> i32 {
         );
         let said = format!("held by {}", cards.holder(holder));
         text(out, MARGIN + 16, y, "small", &said);
+        y += 16;
+    }
+    let mut fields = cards.cards.iter().flat_map(|card| &card.fields);
+    if fields.any(|field| field.apart().is_some()) {
+        text(out, MARGIN, y, "small", "two colours: a half each");
         y += 16;
     }
     text(

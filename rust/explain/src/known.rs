@@ -8,6 +8,7 @@ use crate::show::{rows, wrapped, Paint};
 use model::checker::{simple, Fact, Permission, State, Term};
 use model::limits;
 use model::names::{Action, Statement};
+use model::text::Share;
 use model::watch::Record;
 use std::fmt::Write;
 
@@ -99,12 +100,8 @@ fn turned<'a>(
 ) -> Vec<(String, String)> {
     let names = script.names_at(place);
     let heir = |term| heir(script, place, before, term);
-    let permission = |held: &Permission<'a>| match heir(held.path())? {
-        Term::Path(var, field) => Some(names.held(&Permission {
-            var,
-            field,
-            ..*held
-        })),
+    let permission = |held: &Permission<'a>, share| match heir(held.path())? {
+        Term::Path(var, field) => Some(names.held(&Permission { share, var, field })),
         _ => None,
     };
     let fact = |fact: &Fact<'a>| {
@@ -127,7 +124,10 @@ fn turned<'a>(
         }
     };
     for held in &before.permissions {
-        turn(names.held(held), &|| permission(held));
+        // Or a half went, or came back.
+        for share in [held.share].into_iter().chain(Share::ALL) {
+            turn(names.held(held), &|| permission(held, share));
+        }
     }
     for known in &before.facts {
         turn(names.fact(known), &|| fact(known));

@@ -50,21 +50,36 @@ fn card_changes(script: &Script, before: &Before, machine: &Machine) -> Vec<Stri
             if new != before.heap[place] {
                 said.push(format!("{name} = {}", value_shown(Some(field.kind), new)));
             }
-            if now[place] != before.holders[place] {
-                said.push(format!("{name} to {}", holder(script, machine, now[place])));
+            for (halves, to) in moved(&before.holders[place], &now[place]) {
+                let of = if halves == 1 { "half of " } else { "" };
+                said.push(format!("{of}{name} to {}", holder(script, machine, to)));
             }
         }
     }
     said
 }
 
-/// The frame that holds each location, from main's 0.
-fn holders(machine: &Machine) -> Vec<Option<usize>> {
-    let of = |place| {
-        let mut frames = machine.frames.iter();
-        frames.position(|frame| frame.held.contains(place))
-    };
+/// The frames that hold halves of a location, from main's 0, and how many.
+type Holders = Vec<(usize, u8)>;
+
+/// Who holds each location.
+fn holders(machine: &Machine) -> Vec<Holders> {
+    let of = |place| machine.holders(place).collect();
     (0..machine.heap.len()).map(of).collect()
+}
+
+/// The halves that each frame gained, and those that nobody holds any more.
+fn moved(before: &Holders, now: &Holders) -> Vec<(u8, Option<usize>)> {
+    let sum = |holders: &Holders| holders.iter().map(|held| held.1).sum::<u8>();
+    let had = |frame| {
+        let held = before.iter().find(|held| held.0 == frame);
+        held.map_or(0, |held| held.1)
+    };
+    let gained = now.iter();
+    let gained = gained.map(|&(frame, halves)| (halves.saturating_sub(had(frame)), Some(frame)));
+    let lost = sum(before).saturating_sub(sum(now));
+    let all = gained.chain([(lost, None)]);
+    all.filter(|moved| moved.0 > 0).collect()
 }
 
 fn holder(script: &Script, machine: &Machine, holder: Option<usize>) -> String {
@@ -98,7 +113,7 @@ fn changes(script: &Script, before: &Before, machine: &Machine) -> Vec<String> {
 struct Before {
     objects: usize,
     heap: Vec<i32>,
-    holders: Vec<Option<usize>>,
+    holders: Vec<Holders>,
     depth: usize,
     values: Values,
     caller: Option<Values>,

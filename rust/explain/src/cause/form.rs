@@ -3,10 +3,13 @@
 use super::places::{misplaced, words};
 use super::Cause;
 use crate::nearest::{did_you_mean, nearest};
-use crate::script::{field_range, line, shown};
-use model::form::{fault, fields, next_words, Fault, Malformed, Operand, Shape, Tail, SHAPES};
+use crate::script::{field_range, line, listed, shown};
+use model::form::{
+    fault, fields, next_words, AtomShape, Fault, Malformed, Operand, Shape, Tail, ATOM_SHAPES,
+    SHAPES,
+};
 use model::limits;
-use model::text::{self, Place, Reader};
+use model::text::{self, Place, Reader, Share};
 
 /// The form of a kind of line, as the guide writes it.
 pub fn form_of(shape: &Shape) -> String {
@@ -65,10 +68,7 @@ pub fn malformed(text: &[u8], number: u32) -> Option<Cause> {
             None => field_cause(operand, why, field),
         },
         Fault::UnknownAtom => unknown_atom(field),
-        Fault::ShortAtom => Cause::new(format!(
-            "the atom `{}` has not its three fields: `acc x f`, `eq e e` or `ne e e`",
-            shown(&bytes[all[at].0..]).replace('\t', " ")
-        )),
+        Fault::ShortAtom => short_atom(&bytes[all[at].0..]),
         _ => count_cause(found, all[0].1, field),
     };
     Some(cause.mark(mark))
@@ -76,7 +76,24 @@ pub fn malformed(text: &[u8], number: u32) -> Option<Cause> {
 
 const DELETE: &str = "delete the line";
 
-/// A path where `let` or `acc` wants a variable: how the line is written.
+fn short_atom(atom: &[u8]) -> Cause {
+    let atom = shown(atom).replace('\t', " ");
+    let forms = atom_forms();
+    Cause::new(format!(
+        "the atom `{atom}` has not its three fields: {forms}"
+    ))
+}
+
+/// The forms of all atoms.
+fn atom_forms() -> String {
+    let form = |atom: &AtomShape| {
+        let [(one, _), (other, _)] = atom.operands;
+        format!("{} {one} {other}", atom.word)
+    };
+    listed(&ATOM_SHAPES.iter().map(form).collect::<Vec<_>>(), "or")
+}
+
+/// A path where `let`, `acc` or `read` wants a variable: how the line is written.
 fn path_mend(why: Malformed, all: &[(usize, &[u8])], at: usize) -> Option<String> {
     let path = shown(all.get(at)?.1);
     let (x, f) = path
@@ -86,8 +103,7 @@ fn path_mend(why: Malformed, all: &[(usize, &[u8])], at: usize) -> Option<String
         (b"let", b"let") => Some(format!(
             "a field is written by `set {x} {f} k`, with a variable k"
         )),
-        (_, b"acc") => Some(format!("write `acc {x} {f}`")),
-        _ => None,
+        (_, word) => Share::named(word).map(|share| format!("write `{} {x} {f}`", share.word())),
     }
 }
 
@@ -185,6 +201,10 @@ fn unknown_word(word: &[u8], reader: &Reader) -> Cause {
     {
         return Cause::new(format!("words are written small: `{}`", shape.word));
     }
+    if let Some(atom) = ATOM_SHAPES.iter().find(|atom| atom.word == name) {
+        return Cause::new(format!("`{}` begins an atom, and no line", atom.word))
+            .note(format!("here may stand {here}"));
+    }
     let all = || SHAPES.iter().map(|shape| shape.word);
     let near = nearest(&name, next.iter().copied()).or_else(|| nearest(&name, all()));
     let near = near.map_or(String::new(), |word| format!("; did you mean `{word}`?"));
@@ -193,7 +213,7 @@ fn unknown_word(word: &[u8], reader: &Reader) -> Cause {
 
 fn unknown_atom(word: &[u8]) -> Cause {
     let name = shown(word);
-    let atoms = "an atom is `acc x f`, `eq e e` or `ne e e`";
+    let atoms = format!("an atom is {}", atom_forms());
     match name.as_str() {
         "" => Cause::new("an atom begins with an empty field: a tab too many").mend(FORMAT),
         "and" | "&&" | "*" | "," => Cause::new(format!(
@@ -201,7 +221,7 @@ fn unknown_atom(word: &[u8]) -> Cause {
         ))
         .mend(format!("leave `{name}` out")),
         _ => {
-            let near = did_you_mean(&name, ["acc", "eq", "ne"]);
+            let near = did_you_mean(&name, ATOM_SHAPES.iter().map(|atom| atom.word));
             Cause::new(format!("no atom begins with `{name}`{near}")).note(atoms)
         }
     }

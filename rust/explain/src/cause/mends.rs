@@ -196,7 +196,7 @@ fn mend_of_call(unshown: &Unshown, call: Call, atom: Atom) -> Option<String> {
 }
 
 /// Names of a contract for a variable of its caller.
-fn in_contract(call: Call, method: &Names, var: Var) -> Option<String> {
+pub fn in_contract(call: Call, method: &Names, var: Var) -> Option<String> {
     let of = |place| Some(method.var(place));
     match var {
         _ if var == call.x => of(RESULT),

@@ -5,11 +5,14 @@
 mod bounds;
 mod bytes;
 mod form;
+mod half_mends;
+mod halves;
 mod mends;
 mod names;
 mod places;
 mod route;
 mod rules;
+mod stopped_halves;
 mod stops;
 
 pub use bounds::bound_cause;
@@ -47,6 +50,12 @@ impl Cause {
 
     fn note(mut self, note: impl Into<String>) -> Cause {
         self.notes.push(note.into());
+        self
+    }
+
+    /// The note, if there is one.
+    fn or_note(mut self, note: Option<String>) -> Cause {
+        self.notes.extend(note);
         self
     }
 

@@ -1,5 +1,5 @@
 //! Numbers 6, 7, 9 and 10: names, types, what may be assigned, and paths that
-//! are read before their `acc`.
+//! are read before their `acc` or `read`.
 
 use super::Cause;
 use crate::nearest::did_you_mean;
@@ -417,12 +417,15 @@ pub fn unframed(text: &[u8], number: u32) -> Option<Cause> {
     let look = Look::at(text, number)?;
     let (atoms, conditions) = framed_atoms(look.line()?)?;
     let (atom, x, field) = model::framing::unframed_in(look.line()?)?;
-    let acc = format!("acc {} {}", shown(x), shown(field));
+    let [acc, half] = text::Share::ALL.map(|share| permission(share, x, field));
     let path = format!("{}.{}", shown(x), shown(field));
     let condition = atom < conditions;
     let said = match condition {
-        true => format!("the condition reads `{path}`, and the invariant after it has no `{acc}`"),
-        false => format!("`{path}` is read, and `{acc}` does not stand before it"),
+        true => format!(
+            "the condition reads `{path}`, and the invariant after it has neither `{acc}` nor \
+             `{half}`"
+        ),
+        false => format!("`{path}` is read, and neither `{acc}` nor `{half}` stands before it"),
     };
     let mark = field_range(look.bytes(), 1 + 3 * atom..4 + 3 * atom);
     let cause = Cause::new(said).mark(mark);
@@ -431,21 +434,25 @@ pub fn unframed(text: &[u8], number: u32) -> Option<Cause> {
         false => &atoms[conditions..atom],
     };
     let other = serving.iter().find_map(|atom| match atom {
-        text::Atom::Permission(_, y, f) if *f == field && *y != x => Some(shown(y)),
+        text::Atom::Permission(share, y, f) if *f == field && *y != x => Some(format!(
+            "`{}` does not count for `{path}`, also if the two are one card: it goes by the names \
+             as written",
+            permission(*share, y, field)
+        )),
         _ => None,
     });
-    let cause = match other {
-        Some(y) => cause.note(format!(
-            "`acc {y} {}` does not count for `{path}`, also if the two are one card: it goes by the \
-             names as written",
-            shown(field)
-        )),
-        None => cause,
-    };
-    let later = atoms[atom..].contains(&text::Atom::Permission(text::Share::Acc, x, field));
-    Some(cause.mend(match later {
-        _ if condition => format!("write `{acc}` after the condition"),
-        true => format!("move `{acc}` before it"),
-        false => format!("write `{acc}` before it"),
+    let later = atoms[atom..].iter().find_map(|atom| match atom {
+        text::Atom::Permission(share, y, f) if (*y, *f) == (x, field) => Some(*share),
+        _ => None,
+    });
+    Some(cause.or_note(other).mend(match later {
+        _ if condition => format!("write `{acc}` or `{half}` after the condition"),
+        Some(share) => format!("move `{}` before it", permission(share, x, field)),
+        None => format!("write `{acc}` or `{half}` before it"),
     }))
+}
+
+/// `acc x f` or `read x f`.
+fn permission(share: text::Share, x: Name, field: Name) -> String {
+    format!("{} {} {}", share.word(), shown(x), shown(field))
 }

@@ -105,7 +105,7 @@ pub fn told(script: &Script, place: usize, atom: Atom) -> String {
 }
 
 /// How a statement makes what was known go.
-fn reason(script: &Script, names: &Names, action: &Action, atom: Atom) -> String {
+pub fn reason(script: &Script, names: &Names, action: &Action, atom: Atom) -> String {
     match action {
         Action::Call(call) => {
             let (_, ensures) = script.contract_lines(call.method);

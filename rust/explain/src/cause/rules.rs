@@ -1,6 +1,8 @@
 //! Numbers 11 to 14: which atom is not shown, for what, where it went, and what
 //! comes nearest to it.
 
+use super::half_mends;
+use super::halves;
 use super::mends::mend;
 use super::route::{dropped, lost, route, told, told_fact, Step};
 use super::Cause;
@@ -22,10 +24,10 @@ pub struct Unshown<'s, 'a> {
     pub script: &'s Script<'a>,
     pub asked: &'s Asked<'a>,
     /// The place of the atom in the formula.
-    place: Option<usize>,
+    pub place: Option<usize>,
     pub wanted: Atom<'a>,
     /// The path that is read and does not resolve.
-    read: Option<Path<'a>>,
+    pub read: Option<Path<'a>>,
 }
 
 impl<'s, 'a> Unshown<'s, 'a> {
@@ -38,7 +40,7 @@ impl<'s, 'a> Unshown<'s, 'a> {
         let (wanted, read) = match (asked.read, place) {
             (Some(expr), _) => {
                 let path = bare(expr)?;
-                (Atom::Permission(Share::Acc, path), Some(path))
+                (Atom::Permission(Share::Read, path), Some(path))
             }
             (None, Some(at)) => {
                 let atom = asked.show[at];
@@ -48,7 +50,7 @@ impl<'s, 'a> Unshown<'s, 'a> {
                         bare(left).or_else(|| bare(right))
                     }
                 };
-                let needed = read.map(|path| Atom::Permission(Share::Acc, path));
+                let needed = read.map(|path| Atom::Permission(Share::Read, path));
                 (needed.unwrap_or(atom), read)
             }
             (None, None) => return None,
@@ -102,19 +104,16 @@ impl<'s, 'a> Unshown<'s, 'a> {
         let wanted = names.atom(self.wanted);
         let needs = match self.read {
             Some(path) => format!(
-                "reads `{}`, which needs `{wanted}`",
-                names.expr(Expr::Path(path))
+                "reads `{}`, which needs `{}` or `{wanted}`, and neither is held here",
+                names.expr(Expr::Path(path)),
+                names.atom(Atom::Permission(Share::Acc, path))
             ),
             None => format!("asks for `{wanted}`"),
         };
-        let missing = match self.wanted {
-            Atom::Permission(..) if self.taken().is_some() => "not held a second time",
-            Atom::Permission(..) => "not held",
-            _ => "not known",
-        };
+        let missing = self.missing();
         match self.asked.purpose {
-            Purpose::Value => format!("`let` {needs}, and it is {missing} here"),
-            Purpose::Condition => format!("`if` {needs}, and it is {missing} here"),
+            Purpose::Value => format!("`let` {needs}"),
+            Purpose::Condition => format!("`if` {needs}"),
             Purpose::Write => {
                 let path = match self.wanted {
                     Atom::Permission(_, path) => names.expr(Expr::Path(path)),
@@ -133,8 +132,18 @@ impl<'s, 'a> Unshown<'s, 'a> {
                 let (_, line) = self.script.contract_lines(block);
                 format!("`ensures` (line {line}) promises `{wanted}`, which is {missing} here")
             }
-            _ if self.read.is_some() => format!("the line {needs}, and it is {missing} here"),
+            _ if self.read.is_some() => format!("the line {needs}"),
             _ => format!("`{wanted}` is {missing} here"),
+        }
+    }
+
+    /// "it is .. here".
+    fn missing(&self) -> &'static str {
+        match (self.wanted, halves::short(self)) {
+            (_, Some(short)) => short.missing(),
+            (Atom::Permission(..), _) if self.taken().is_some() => "not held a second time",
+            (Atom::Permission(..), _) => "not held",
+            _ => "not known",
         }
     }
 
@@ -346,6 +355,10 @@ pub fn cause(text: &[u8], number: u32) -> Option<Cause> {
     let unshown = Unshown::of(&script, asked)?;
     let bytes = line(text, number)?;
     let cause = Cause::new(unshown.said()).mark(unshown.mark(bytes));
+    if let Some(short) = halves::short(&unshown) {
+        let steps = route(&script, &record, unshown.target());
+        return Some(short.told(cause, &unshown, &steps));
+    }
     if let Some(taken) = unshown.taken() {
         return Some(cause.note(taken));
     }
@@ -354,6 +367,9 @@ pub fn cause(text: &[u8], number: u32) -> Option<Cause> {
     let lost_at = lost(&steps, unshown.wanted);
     let cause = match lost_at {
         Some(place) => cause.note(told(&script, place, unshown.wanted)),
+        None if unshown.read.is_some() => {
+            cause.note(format!("neither was ever held in {}", names.title()))
+        }
         None if matches!(unshown.wanted, Atom::Permission(..)) => {
             cause.note(format!("it was never held in {}", names.title()))
         }
@@ -362,12 +378,9 @@ pub fn cause(text: &[u8], number: u32) -> Option<Cause> {
             None => cause,
         },
     };
-    let cause = match nearest(&names, &asked.state, unshown.wanted) {
-        Some(near) => cause.note(near),
-        None => cause,
-    };
-    Some(match mend(&unshown, &steps, lost_at) {
-        Some(mend) => cause.mend(mend),
-        None => cause,
-    })
+    let cause = cause.or_note(nearest(&names, &asked.state, unshown.wanted));
+    let cause = cause.or_note(halves::may_be_one(&names, &asked.state, unshown.wanted));
+    let wanted = half_mends::offered(&unshown, &steps, lost_at);
+    let unshown = Unshown { wanted, ..unshown };
+    Some(cause.or_mend(mend(&unshown, &steps, lost_at)))
 }

@@ -1,5 +1,6 @@
 //! Why a run stopped, and the calls that are open then.
 
+use super::stopped_halves::{half_written, lack, with_other};
 use super::Cause;
 use crate::rounds::Rounds;
 use crate::script::{field_range, line, quoted, shown, Names, Script};
@@ -120,11 +121,13 @@ pub fn stop_cause(text: &[u8], steps: u32, stop: u32) -> Option<Cause> {
     let bytes = line(text, statement.line)?;
     let Some((at, tested)) = halt.atom.zip(tested) else {
         let said = full(&script, &machine, stop);
+        let said = said.or_else(|| half_written(&names, halt));
         let said = said.or_else(|| followed(&names, &statement.action, halt.path, stop));
         let said = said.or_else(|| overflow(&names, &machine));
         let looping = matches!(statement.action, Action::Loop(_));
         let mark = field_range(bytes, 1..4).filter(|_| looping);
-        return said.map(|said| Cause::new(said).mark(mark));
+        let cause = said.map(|said| Cause::new(said).mark(mark));
+        return cause.map(|cause| with_other(cause, &script, &machine, halt));
     };
     let said = false_atom(&machine, &names, &tested, *tested.atoms.get(at)?, halt)?;
     let first = match halt.tested {
@@ -133,7 +136,8 @@ pub fn stop_cause(text: &[u8], steps: u32, stop: u32) -> Option<Cause> {
         _ => None,
     };
     let mark = first.and_then(|at| field_range(bytes, 1 + 3 * at..4 + 3 * at));
-    Some(Cause::new(said).mark(mark))
+    let cause = Cause::new(said).mark(mark);
+    Some(with_other(cause, &script, &machine, halt))
 }
 
 /// Whether the last step came back to the `loop` at which the machine stands.
@@ -192,10 +196,9 @@ fn false_atom(
                 .collect();
             format!("{shown} is false: {}", sides.join(", "))
         }
-        (number::PERMISSION_MISSING, _) => format!(
-            "{shown}: {} does not hold the field, or an earlier atom took it",
-            names.title()
-        ),
+        (number::PERMISSION_MISSING, _) => {
+            format!("{shown}: {} {}", names.title(), lack(halt.missing))
+        }
         (number::NULL_FOLLOWED, _) => {
             format!("{shown}: `{}` is null", tested.names.var(halt.path?.var))
         }
