@@ -1,4 +1,5 @@
 // `end` and `return`: back to the caller.
+use rules::Kind;
 use rules::Machine;
 use run_footprint::Shares;
 use run_footprint::Took;
@@ -7,8 +8,10 @@ use run_steps::Turn;
 use tables::Layout;
 ghost use mathlib.Core.Path.{_≡_};
 ghost use Prim.Native.Nat.{_+_, _*_, _-_, _≤_, _<_};
+ghost use lib.ListN.{length};
 ghost use Rattle.run_steps.specs.States.{CanStep, Does, most-count};
-ghost use Rattle.run_returns.specs.Returns.{Leaving, back, returnHere, endHere};
+ghost use Rattle.rules.specs.Limits.{work-bytes, most-statements};
+ghost use Rattle.run_returns.specs.Returns.{Leaving, back, sourceOf, backHere, endHere};
 
 // One step more, back in the caller.
 fn back_in(c: Machine, holder: u32, row: u32) -> Machine
@@ -43,7 +46,7 @@ fn leave(work: &mut [u8], c: Machine, shares: &Shares, n: usize) -> Turn
 }
 
 // `end`: "ensures, then the caller gains its footprint, and x the result; the rest of that A is lost".
-pub fn end_step(work: &mut [u8], c: Machine) -> Turn
+fn end_step(work: &mut [u8], c: Machine) -> Turn
     requires { ⌜ CanStep (now work) c ⌝ }
     ensures { λ r. ⌜ Does (now (work .entry)) c (now (work .exit)) r (endHere (now (work .entry))) ⌝ }
 {
@@ -62,17 +65,28 @@ pub fn end_step(work: &mut [u8], c: Machine) -> Turn
     }
 }
 
-// `return`: "sets the result, tests ensures and goes back to the caller in one step". Where it does not go back, the old result is put
-// back.
-pub fn return_step(work: &mut [u8], c: Machine) -> Turn
+// The variable that is the result: of a `return` its x, of an `end` the result as it is.
+fn source(work: &[u8], row: usize) -> usize
+    requires { ⌜ (length (now work) ≡ work-bytes) × (row < most-statements) ⌝ }
+    ensures { λ r. ⌜ r ≡ sourceOf (now (work .entry)) row ⌝ }
+{
+    if tables::kind_at(work, row) == Kind::END {
+        return Stores::RESULT;
+    }
+    tables::x_at(work, row)
+}
+
+// `return`: "sets the result, tests ensures and goes back to the caller in one step"; and `end`, for which the result stays. Where it
+// does not go back, the old result is put back. One function for both, since the compiler puts a function into its only caller.
+pub fn back_step(work: &mut [u8], c: Machine) -> Turn
     requires { ⌜ CanStep (now work) c ⌝ }
-    ensures { λ r. ⌜ Does (now (work .entry)) c (now (work .exit)) r (returnHere (now (work .entry)) c) ⌝ }
+    ensures { λ r. ⌜ Does (now (work .entry)) c (now (work .exit)) r (backHere (now (work .entry)) c) ⌝ }
 {
     let row = c.row as usize;
     let v = run_heap::view_of(c);
     let b = v.base;
     let old = run_heap::variable(work, b, Stores::RESULT);
-    let x = tables::x_at(work, row);
+    let x = source(work, row);
     let n = run_heap::variable(work, b, x);
     tables::put_word(work, b + Stores::RESULT_AT, n);
     match end_step(work, c) {

@@ -1,9 +1,9 @@
 use native.Mathlib.Omega.{arith}
 use Rattle.run_steps.proofs.Doing.{fits, size, base-fits}
-use Rattle.run_returns.proofs.Resulting.{end-ready, size-after, return-goes, return-stops, return-ends}
+use Rattle.run_returns.proofs.Resulting.{source-fits, end-ready, size-after, return-goes, return-stops, return-ends}
 use borrow.Author.Needs.{needs}
-use Rattle.run_returns.proofs.return_step.Statement.{statement}
-use Rattle.run_returns.proofs.return_step.Tie as tie
+use Rattle.run_returns.proofs.back_step.Statement.{statement}
+use Rattle.run_returns.proofs.back_step.Tie as tie
 
 cast-row : tie.Need-cast-row
 cast-row c = search needs
@@ -16,14 +16,14 @@ variable-requires c κs =
     let start = c .before .before .before .before in
     (omega (arith, base-fits (start .pre) (c .before .view-of .ensures), size (start .pre)), omega arith)
 
-x-at-requires : tie.Need-x-at-requires
-x-at-requires c κs = search needs
+source-requires : tie.Need-source-requires
+source-requires c κs = search needs
 
 variable-requires-2 : tie.Need-variable-requires-2
 variable-requires-2 c κs =
     let start = c .before .before .before .before .before .before .before .before in
     let at-view-of = c .before .before .before .before .before .view-of in
-    (omega (arith, base-fits (start .pre) (at-view-of .ensures), size (start .pre)), omega (arith, c .before .x-at .ensures .0, fits (start .pre) .x))
+    (omega (arith, base-fits (start .pre) (at-view-of .ensures), size (start .pre)), omega (arith, c .before .source .ensures, source-fits (start .pre)))
 
 add-put-word : tie.Need-add-put-word
 add-put-word c =
@@ -42,10 +42,10 @@ end-step-requires c κs =
     let start = c .before .before .before .before .before .before .before .before .before .before .before .before .before .before in
     let at-view-of = c .before .before .before .before .before .before .before .before .before .before .before .view-of in
     let at-variable = c .before .before .before .before .before .before .before .before .before .variable in
-    let at-x-at = c .before .before .before .before .before .before .before .x-at in
+    let at-source = c .before .before .before .before .before .before .before .source in
     let at-variable2 = c .before .before .before .before .before .variable2 in
     let at-put-word = c .before .before .before .put-word in
-    end-ready (start .pre) _ (at-view-of .ensures) _ _ _ (at-variable .ensures) (search needs) (at-x-at .ensures .0) (at-variable2 .ensures) (search needs) (at-put-word .ensures)
+    end-ready (start .pre) _ (at-view-of .ensures) _ _ _ (at-variable .ensures) (search needs) (at-source .ensures) (at-variable2 .ensures) (search needs) (at-put-word .ensures)
 
 enum-known-d : tie.Need-enum-known-d
 enum-known-d c = search needs
@@ -64,11 +64,11 @@ put-word-requires-2 c κs =
     let start = c .before .before .before .before .before .before .before .before .before .before .before .before .before .before .before .before .before .before .before .before .before in
     let at-view-of = c .before .before .before .before .before .before .before .before .before .before .before .before .before .before .before .before .before .before .view-of in
     let at-variable = c .before .before .before .before .before .before .before .before .before .before .before .before .before .before .before .before .variable in
-    let at-x-at = c .before .before .before .before .before .before .before .before .before .before .before .before .before .before .x-at in
+    let at-source = c .before .before .before .before .before .before .before .before .before .before .before .before .before .before .source in
     let at-variable2 = c .before .before .before .before .before .before .before .before .before .before .before .before .variable2 in
     let at-put-word = c .before .before .before .before .before .before .before .before .before .before .put-word in
     let at-end-step = c .before .before .before .before .before .before .end-step in
-    omega (arith, base-fits (start .pre) (at-view-of .ensures), size-after (start .pre) _ (at-view-of .ensures) _ _ _ (at-variable .ensures) (search needs) (at-x-at .ensures .0) (at-variable2 .ensures) (search needs) (at-put-word .ensures) (at-end-step .ensures))
+    omega (arith, base-fits (start .pre) (at-view-of .ensures), size-after (start .pre) _ (at-view-of .ensures) _ _ _ (at-variable .ensures) (search needs) (at-source .ensures) (at-variable2 .ensures) (search needs) (at-put-word .ensures) (at-end-step .ensures))
 
 enum-told : tie.Need-enum-told
 enum-told c = search needs
@@ -84,11 +84,11 @@ put-word-requires-3 c κs =
     let start = c .before .before .before .before .before .before .before .before .before .before .before .before .before .before .before .before .before .before .before .before in
     let at-view-of = c .before .before .before .before .before .before .before .before .before .before .before .before .before .before .before .before .before .view-of in
     let at-variable = c .before .before .before .before .before .before .before .before .before .before .before .before .before .before .before .variable in
-    let at-x-at = c .before .before .before .before .before .before .before .before .before .before .before .before .before .x-at in
+    let at-source = c .before .before .before .before .before .before .before .before .before .before .before .before .before .source in
     let at-variable2 = c .before .before .before .before .before .before .before .before .before .before .before .variable2 in
     let at-put-word = c .before .before .before .before .before .before .before .before .before .put-word in
     let at-end-step = c .before .before .before .before .before .end-step in
-    omega (arith, base-fits (start .pre) (at-view-of .ensures), size-after (start .pre) _ (at-view-of .ensures) _ _ _ (at-variable .ensures) (search needs) (at-x-at .ensures .0) (at-variable2 .ensures) (search needs) (at-put-word .ensures) (at-end-step .ensures))
+    omega (arith, base-fits (start .pre) (at-view-of .ensures), size-after (start .pre) _ (at-view-of .ensures) _ _ _ (at-variable .ensures) (search needs) (at-source .ensures) (at-variable2 .ensures) (search needs) (at-put-word .ensures) (at-end-step .ensures))
 
 same-length : tie.Need-same-length
 same-length c = search needs
@@ -98,11 +98,11 @@ returns c =
     let start = c .before .before .before .before .before .before .before .before .before .before .before .before .before .before .before .before .before .before .before .before in
     let at-view-of = c .before .before .before .before .before .before .before .before .before .before .before .before .before .before .before .before .before .view-of in
     let at-variable = c .before .before .before .before .before .before .before .before .before .before .before .before .before .before .before .variable in
-    let at-x-at = c .before .before .before .before .before .before .before .before .before .before .before .before .before .x-at in
+    let at-source = c .before .before .before .before .before .before .before .before .before .before .before .before .before .source in
     let at-variable2 = c .before .before .before .before .before .before .before .before .before .before .before .variable2 in
     let at-put-word = c .before .before .before .before .before .before .before .before .before .put-word in
     let at-end-step = c .before .before .before .before .before .end-step in
-    return-goes (start .pre) _ (at-view-of .ensures) _ _ _ (at-variable .ensures) (search needs) (at-x-at .ensures .0) (at-variable2 .ensures) (search needs) (at-put-word .ensures) (at-end-step .ensures) _ (c .before .d .given .1)
+    return-goes (start .pre) _ (at-view-of .ensures) _ _ _ (at-variable .ensures) (search needs) (at-source .ensures) (at-variable2 .ensures) (search needs) (at-put-word .ensures) (at-end-step .ensures) _ (c .before .d .given .1)
 
 same-length-2 : tie.Need-same-length-2
 same-length-2 c = search needs
@@ -112,13 +112,13 @@ returns-2 c =
     let start = c .before .before .before .before .before .before .before .before .before .before .before .before .before .before .before .before .before .before .before .before .before .before .before .before in
     let at-view-of = c .before .before .before .before .before .before .before .before .before .before .before .before .before .before .before .before .before .before .before .before .before .view-of in
     let at-variable = c .before .before .before .before .before .before .before .before .before .before .before .before .before .before .before .before .before .before .before .variable in
-    let at-x-at = c .before .before .before .before .before .before .before .before .before .before .before .before .before .before .before .before .before .x-at in
+    let at-source = c .before .before .before .before .before .before .before .before .before .before .before .before .before .before .before .before .before .source in
     let at-variable2 = c .before .before .before .before .before .before .before .before .before .before .before .before .before .before .before .variable2 in
     let at-put-word = c .before .before .before .before .before .before .before .before .before .before .before .before .before .put-word in
     let at-end-step = c .before .before .before .before .before .before .before .before .before .end-step in
     let at-s = c .before .before .before .before .before .s in
     let at-put-word2 = c .before .before .put-word2 in
-    return-stops (start .pre) _ (at-view-of .ensures) _ _ _ (at-variable .ensures) (search needs) (at-x-at .ensures .0) (at-variable2 .ensures) (search needs) (at-put-word .ensures) (at-end-step .ensures) (at-put-word2 .ensures) _ (at-s .given .1)
+    return-stops (start .pre) _ (at-view-of .ensures) _ _ _ (at-variable .ensures) (search needs) (at-source .ensures) (at-variable2 .ensures) (search needs) (at-put-word .ensures) (at-end-step .ensures) (at-put-word2 .ensures) _ (at-s .given .1)
 
 same-length-3 : tie.Need-same-length-3
 same-length-3 c = search needs
@@ -128,22 +128,22 @@ returns-3 c =
     let start = c .before .before .before .before .before .before .before .before .before .before .before .before .before .before .before .before .before .before .before .before .before .before .before in
     let at-view-of = c .before .before .before .before .before .before .before .before .before .before .before .before .before .before .before .before .before .before .before .before .view-of in
     let at-variable = c .before .before .before .before .before .before .before .before .before .before .before .before .before .before .before .before .before .before .variable in
-    let at-x-at = c .before .before .before .before .before .before .before .before .before .before .before .before .before .before .before .before .x-at in
+    let at-source = c .before .before .before .before .before .before .before .before .before .before .before .before .before .before .before .before .source in
     let at-variable2 = c .before .before .before .before .before .before .before .before .before .before .before .before .before .before .variable2 in
     let at-put-word = c .before .before .before .before .before .before .before .before .before .before .before .before .put-word in
     let at-end-step = c .before .before .before .before .before .before .before .before .end-step in
     let at-enum-told = c .before .before .before .before .enum-told in
     let at-put-word3 = c .before .before .put-word3 in
-    return-ends (start .pre) _ (at-view-of .ensures) _ _ _ (at-variable .ensures) (search needs) (at-x-at .ensures .0) (at-variable2 .ensures) (search needs) (at-put-word .ensures) (at-end-step .ensures) (at-put-word3 .ensures) (at-enum-told .given .1)
+    return-ends (start .pre) _ (at-view-of .ensures) _ _ _ (at-variable .ensures) (search needs) (at-source .ensures) (at-variable2 .ensures) (search needs) (at-put-word .ensures) (at-end-step .ensures) (at-put-word3 .ensures) (at-enum-told .given .1)
 
-pub return-step-spec : {M : Type 1} → statement M
-return-step-spec =
+pub back-step-spec : {M : Type 1} → statement M
+back-step-spec =
     tie.close
     (tie.spec
     cast-row
     view-of-requires
     variable-requires
-    x-at-requires
+    source-requires
     variable-requires-2
     add-put-word
     put-word-requires
