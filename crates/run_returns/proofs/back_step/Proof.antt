@@ -1,5 +1,5 @@
 use native.Mathlib.Omega.{arith}
-use Rattle.run_steps.proofs.Doing.{fits, size, base-fits}
+use Rattle.run_steps.proofs.Doing.{size, base-fits}
 use Rattle.run_returns.proofs.Resulting.{source-fits, end-ready, size-after, return-goes, return-stops, return-ends}
 use borrow.Author.Needs.{needs}
 use Rattle.run_returns.proofs.back_step.Statement.{statement}
