@@ -4,6 +4,7 @@
 mod args;
 mod commands;
 mod files;
+mod fixing;
 mod library;
 mod looking;
 mod lsp;
@@ -30,6 +31,7 @@ fn dispatch(session: &mut Session) -> u8 {
         "draw" => session.each(looking::draw_one),
         "bound" => session.each_script(looking::bound_one),
         "fmt" | "tabs" => session.each_script(commands::fmt_one),
+        "fix" => session.each_script(fixing::fix_one),
         "explain" => commands::explain(session),
         "completions" => commands::completions(session),
         "lsp" => lsp::serve(),

@@ -1,6 +1,7 @@
 //! The JSON objects of the command: one schema, which the guide lists.
 
 use crate::cause::Cause;
+use crate::fix::{edit::Change, Fix};
 use crate::json::Json;
 use crate::report::{columns, Asked, Ran, Report};
 use crate::script::line;
@@ -36,7 +37,8 @@ pub fn with_cause(object: Json, cause: Option<&Cause>) -> Json {
         .with_some("column", columns.map(|columns| columns.0))
         .with_some("end", columns.map(|columns| columns.1))
         .with("notes", cause.notes.clone())
-        .with_some("fix", cause.mend.clone())
+        .with_some("help", cause.help.clone())
+        .with_some("fix", cause.fix.as_ref().map(Fix::said))
 }
 
 fn value(value: Value) -> Json {
@@ -45,6 +47,12 @@ fn value(value: Value) -> Json {
         Value::Object(number) => number.into(),
         _ => Json::Null,
     }
+}
+
+/// The changes of a fix.
+pub fn edits(text: &[u8], fix: &Fix) -> Json {
+    let changes = fix.changes(text);
+    Json::List(changes.iter().map(Change::json).collect())
 }
 
 /// Check's number and line.
@@ -61,7 +69,9 @@ pub fn check(object: Json, report: &Report) -> Json {
         .with("number", number)
         .with("line", line);
     let object = with_cause(object, report.cause.as_ref());
-    object.with_some("note", report.mended.clone())
+    let fix = report.cause.as_ref().and_then(|cause| cause.fix.as_ref());
+    let object = object.with_some("edits", fix.map(|fix| edits(report.text, fix)));
+    object.with_some("note", report.formatted.clone())
 }
 
 fn variables(ran: &Ran) -> Json {

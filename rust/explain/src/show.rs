@@ -176,24 +176,24 @@ pub fn rows(out: &mut String, heading: &str, words: &[String]) {
     out.push('\n');
 }
 
-/// What the command itself can mend of a number's faults.
+/// What the command itself can fix of a number's faults.
 fn formats(number: u32) -> Option<&'static str> {
     match Kind::of(number) {
         Some(Kind::Byte) => Some("`station fmt --write FILE` does all three"),
-        Some(Kind::Form) => Some("`station fmt --write FILE` mends tabs too many"),
+        Some(Kind::Form) => Some("`station fmt --write FILE` fixes tabs too many"),
         _ => None,
     }
 }
 
 fn number_in_words(out: &mut String, known: &Explanation) {
     wrapped(out, "   what: ", known.meaning);
-    wrapped(out, "   mend: ", known.mend);
+    wrapped(out, "   help: ", known.mend);
     if let Some(said) = formats(known.number) {
         wrapped(out, "   note: ", said);
     }
 }
 
-/// The least number that an accepted text may get: what usually mends it is said
+/// The least number that an accepted text may get: what usually helps is said
 /// with its cause.
 const FIRST_OF_ACCEPTED: u32 = Excess::Unbounded.number();
 
@@ -205,10 +205,13 @@ pub fn reasons(out: &mut String, number: u32, cause: Option<&Cause>) {
             for note in &cause.notes {
                 wrapped(out, "   note: ", note);
             }
+            if let Some(fix) = &cause.fix {
+                wrapped(out, "    fix: ", &fix.said());
+            }
             let usual = explain(number).filter(|_| number >= FIRST_OF_ACCEPTED);
-            let mend = cause.mend.as_deref().or(usual.map(|known| known.mend));
-            if let Some(mend) = mend {
-                wrapped(out, "   mend: ", mend);
+            let help = cause.help.as_deref().or(usual.map(|known| known.mend));
+            if let Some(help) = help {
+                wrapped(out, "   help: ", help);
             }
         }
         (None, Some(known)) => number_in_words(out, known),
@@ -247,8 +250,8 @@ fn refusal(out: &mut String, paint: Paint, report: &Report) {
         let mark = report.cause.as_ref().and_then(|cause| cause.mark.clone());
         snippet(out, paint, report.text, line, mark);
         reasons(out, number, report.cause.as_ref());
-        if let Some(mended) = &report.mended {
-            wrapped(out, "   then: ", mended);
+        if let Some(formatted) = &report.formatted {
+            wrapped(out, "   then: ", formatted);
         }
     }
 }

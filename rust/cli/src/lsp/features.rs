@@ -3,7 +3,8 @@
 //! the protocol has them, columns are units of UTF-16.
 
 use super::outline::{Name, Outline};
-use explain::cause::{cause, form_of};
+use crate::library::Library;
+use explain::cause::{explained, form_of};
 use explain::script::Script;
 use explain::{fmt, known, script, Json};
 use model::form::{line_or_kind, next_words, shape_of, AtomShape, Operand, Tail, ATOM_SHAPES};
@@ -48,7 +49,7 @@ pub fn diagnostics(text: &str) -> Json {
     let Err(refusal) = nuyardi::check(text.as_bytes()) else {
         return Json::List(Vec::new());
     };
-    let why = cause(text.as_bytes(), refusal);
+    let why = explained(&mut Library::default(), text.as_bytes(), refusal);
     let line = refusal.line().saturating_sub(1);
     let shown = line_of(text, line);
     let mark = why.as_ref().and_then(|cause| cause.mark.clone());
@@ -58,8 +59,11 @@ pub fn diagnostics(text: &str) -> Json {
     for note in why.iter().flat_map(|cause| &cause.notes) {
         message.push_str(&format!("\nnote: {note}"));
     }
-    if let Some(mend) = why.as_ref().and_then(|cause| cause.mend.as_ref()) {
-        message.push_str(&format!("\nmend: {mend}"));
+    if let Some(fix) = why.as_ref().and_then(|cause| cause.fix.as_ref()) {
+        message.push_str(&format!("\nfix: {}", fix.said()));
+    }
+    if let Some(help) = why.as_ref().and_then(|cause| cause.help.as_ref()) {
+        message.push_str(&format!("\nhelp: {help}"));
     }
     let found = Json::object()
         .with(

@@ -1,7 +1,7 @@
 //! Numbers 11 to 14: which atom is not shown, for what, where it went, and what
 //! comes nearest to it.
 
-use super::mends::mend;
+use super::helps::help;
 use super::route::{dropped, lost, route, told, told_fact, Step};
 use super::Cause;
 use crate::script::{field_range, line, listed, shown, Names, Script};
@@ -21,14 +21,14 @@ pub struct Unshown<'s, 'a> {
     pub script: &'s Script<'a>,
     pub asked: &'s Asked<'a>,
     /// The place of the atom in the formula.
-    place: Option<usize>,
+    pub place: Option<usize>,
     pub wanted: Atom<'a>,
     /// The path that is read and does not resolve.
     read: Option<Path<'a>>,
 }
 
 impl<'s, 'a> Unshown<'s, 'a> {
-    fn of(script: &'s Script<'a>, asked: &'s Asked<'a>) -> Option<Unshown<'s, 'a>> {
+    pub fn of(script: &'s Script<'a>, asked: &'s Asked<'a>) -> Option<Unshown<'s, 'a>> {
         let bare = |expr: Expr<'a>| match expr {
             Expr::Path(path) if asked.state.resolve(expr).is_err() => Some(path),
             _ => None,
@@ -69,7 +69,7 @@ impl<'s, 'a> Unshown<'s, 'a> {
     }
 
     /// Where the states that led here end: at a `join` with the branch.
-    fn target(&self) -> usize {
+    pub fn target(&self) -> usize {
         match self.asked.purpose {
             Purpose::FirstEnd => self.branch().map_or(self.asked.place, |branch| branch.1),
             _ => self.asked.place,
@@ -327,8 +327,8 @@ fn full(script: &Script, record: &Record, number: u32) -> Option<Cause> {
     let cause = Cause::new(text).mark(field_range(bytes, 0..usize::MAX));
     // A fact of what is released passes on where something is equal to it.
     Some(match permissions < facts {
-        true => cause.mend("move a part into a method, whose `ensures` says only what is needed"),
-        false => cause.mend("`release` what is not needed any more, or move a part into a method"),
+        true => cause.help("move a part into a method, whose `ensures` says only what is needed"),
+        false => cause.help("`release` what is not needed any more, or move a part into a method"),
     })
 }
 
@@ -363,8 +363,8 @@ pub fn cause(text: &[u8], number: u32) -> Option<Cause> {
         Some(near) => cause.note(near),
         None => cause,
     };
-    Some(match mend(&unshown, &steps, lost_at) {
-        Some(mend) => cause.mend(mend),
+    Some(match help(&unshown, &steps, lost_at) {
+        Some(help) => cause.help(help),
         None => cause,
     })
 }

@@ -170,7 +170,7 @@ fn in_a_loop(script: &Script, steps: u32) -> Option<Cause> {
         true => Cause::new(format!(
             "{said}, and it never ends: a round changes nothing"
         ))
-        .mend(format!("let the body change what `{condition}` reads")),
+        .help(format!("let the body change what `{condition}` reads")),
         false => Cause::new(format!("{said}, and `{condition}` is not false yet")),
     })
 }
