@@ -173,7 +173,13 @@ pub const OPTIONS: &[OptionSpec] = &[
     option(
         "short",
         None,
-        "one line for each file: FILE:LINE:COLUMN: what is wrong",
+        "one line for each refusal: FILE:LINE:COLUMN: what is wrong",
+        &["check"],
+    ),
+    option(
+        "first",
+        None,
+        "only the first refusal of each file",
         &["check"],
     ),
     OptionSpec {

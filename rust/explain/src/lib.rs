@@ -18,6 +18,7 @@
 #![forbid(unsafe_code)]
 #![deny(missing_docs)]
 
+pub mod all;
 mod answers;
 pub mod bound;
 pub mod cards;

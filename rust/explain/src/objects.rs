@@ -71,7 +71,24 @@ pub fn check(object: Json, report: &Report) -> Json {
     let object = with_cause(object, report.cause.as_ref());
     let fix = report.cause.as_ref().and_then(|cause| cause.fix.as_ref());
     let object = object.with_some("edits", fix.map(|fix| edits(report.text, fix)));
-    object.with_some("note", report.formatted.clone())
+    let object = object.with_some("note", report.formatted.clone());
+    match report.asked {
+        Asked::Check => object.with("refusals", refusals(report)),
+        _ => object,
+    }
+}
+
+/// All refusals, check's own the first.
+fn refusals(report: &Report) -> Json {
+    let one = |number: u32, line: u32, cause: Option<&Cause>| {
+        let object = Json::object().with("number", number).with("line", line);
+        with_cause(words(object, number), cause).with_some("text", line_text(report.text, line))
+    };
+    let first = report.refusal.iter();
+    let first = first.map(|first| one(first.number(), first.line(), report.cause.as_ref()));
+    let others = report.further.iter();
+    let others = others.map(|other| one(other.number, other.line, other.cause.as_ref()));
+    Json::List(first.chain(others).collect())
 }
 
 fn variables(ran: &Ran) -> Json {

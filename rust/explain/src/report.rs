@@ -1,6 +1,7 @@
 //! What is said of one file: check's answer with its cause, and the run or the
 //! trial if there was one.
 
+use crate::all::{further, Further};
 use crate::cause::{cause, explained, open_calls, stop_cause, Cause};
 use crate::fmt::formatted;
 use crate::Answers;
@@ -30,6 +31,8 @@ pub struct Report<'a> {
     pub refusal: Option<Refusal>,
     /// The cause of the refusal, where one is seen.
     pub cause: Option<Cause>,
+    /// The other refusals of a text that was only checked.
+    pub further: Vec<Further>,
     /// What check says of the text as `fmt` gives it, where that may help.
     pub formatted: Option<String>,
     /// None if the text was not run.
@@ -122,6 +125,10 @@ impl<'a> Report<'a> {
             asked,
             refusal,
             cause,
+            further: match (asked, refusal) {
+                (Asked::Check, Some(_)) => further(text),
+                _ => Vec::new(),
+            },
             formatted: formats.and_then(|refusal| after_fmt(answers, text, refusal)),
             ran: outcome.map(|outcome| Ran::of(text, outcome)),
         }

@@ -1,5 +1,6 @@
 //! What a person reads.
 
+use crate::all::Further;
 use crate::cause::Cause;
 use crate::report::{columns, Ran, Report};
 use crate::script::line;
@@ -254,6 +255,24 @@ fn refusal(out: &mut String, paint: Paint, report: &Report) {
             wrapped(out, "   then: ", formatted);
         }
     }
+    for other in &report.further {
+        further(out, paint, report, other);
+    }
+}
+
+/// A refusal besides the first.
+fn further(out: &mut String, paint: Paint, report: &Report, other: &Further) {
+    let _ = writeln!(
+        out,
+        "{}: {}, number {}: {}",
+        place(report.file, other.line),
+        paint.bad("also refused"),
+        other.number,
+        title(other.number)
+    );
+    let mark = other.cause.as_ref().and_then(|cause| cause.mark.clone());
+    snippet(out, paint, report.text, other.line, mark);
+    reasons(out, other.number, other.cause.as_ref());
 }
 
 fn ran(out: &mut String, paint: Paint, report: &Report, ran: &Ran) {
@@ -320,7 +339,7 @@ pub fn report(report: &Report, paint: Paint) -> String {
     head(report, paint) + &ending(report, paint)
 }
 
-/// One line for a refused file, as editors and compilers want it.
+/// One line for each refusal of a file, as editors and compilers want it.
 pub fn short(report: &Report) -> String {
     let Some(refusal) = report.refusal else {
         return String::new();
@@ -330,7 +349,19 @@ pub fn short(report: &Report) -> String {
     let cause = report.cause.as_ref();
     let said = cause.map_or(title(number), |cause| cause.text.as_str());
     let line = refusal.line().max(1);
-    format!("{}:{line}:{column}: number {number}: {said}\n", report.file)
+    let mut out = format!("{}:{line}:{column}: number {number}: {said}\n", report.file);
+    for other in &report.further {
+        let column = columns(other.cause.as_ref()).map_or(1, |(from, _)| from);
+        let cause = other.cause.as_ref();
+        let said = cause.map_or(title(other.number), |cause| cause.text.as_str());
+        let (line, number) = (other.line.max(1), other.number);
+        let _ = writeln!(
+            out,
+            "{}:{line}:{column}: number {number}: {said}",
+            report.file
+        );
+    }
+    out
 }
 
 /// A number in words, with its example.

@@ -20,6 +20,19 @@ impl Locations {
         self.0[location / 64] |= 1 << (location % 64);
     }
 
+    /// The locations that are in this set and not in the other.
+    pub fn without(&self, other: &Locations) -> Vec<Location> {
+        let mut found = Vec::new();
+        for (place, (word, gone)) in self.0.iter().zip(other.0).enumerate() {
+            let mut left = word & !gone;
+            while left != 0 {
+                found.push(64 * place + left.trailing_zeros() as usize);
+                left &= left - 1;
+            }
+        }
+        found
+    }
+
     pub(crate) fn add_all(&mut self, other: &Locations) {
         for (word, more) in self.0.iter_mut().zip(other.0) {
             *word |= more;

@@ -6,6 +6,7 @@ mod bounds;
 mod bytes;
 mod form;
 mod helps;
+mod history;
 mod names;
 mod places;
 pub(crate) mod route;
@@ -14,6 +15,7 @@ mod stops;
 
 pub use bounds::bound_cause;
 pub use form::form_of;
+pub(crate) use names::unframed;
 pub use stops::{machine_at, open_calls, stop_cause, value_shown, AGAIN};
 
 use crate::fix::{fix, Fix, ONE_STEP};
@@ -67,7 +69,7 @@ impl Cause {
 
     /// With a fix that was tried, if one was found. Without one nothing is said of
     /// how to show what a rule asks: it would be a guess.
-    fn with_fix(mut self, number: u32, fix: Option<Fix>) -> Cause {
+    pub(crate) fn with_fix(mut self, number: u32, fix: Option<Fix>) -> Cause {
         let rule = (model::number::UNFRAMED..=model::number::NOT_SHOWN).contains(&number);
         if rule || fix.is_some() {
             self.help = None;

@@ -336,21 +336,26 @@ fn full(script: &Script, record: &Record, number: u32) -> Option<Cause> {
 pub fn cause(text: &[u8], number: u32) -> Option<Cause> {
     let script = Script::of(text)?;
     let record = Record::of(&script.lines, &script.program)?;
+    cause_in(&script, &record, number)
+}
+
+/// The same, of a check that was written down.
+pub fn cause_in(script: &Script, record: &Record, number: u32) -> Option<Cause> {
     if record.refusal?.number == STATE_FULL {
-        return full(&script, &record, number);
+        return full(script, record, number);
     }
     let asked = record.asked.as_ref()?;
-    let unshown = Unshown::of(&script, asked)?;
-    let bytes = line(text, number)?;
+    let unshown = Unshown::of(script, asked)?;
+    let bytes = line(script.text, number)?;
     let cause = Cause::new(unshown.said()).mark(unshown.mark(bytes));
     if let Some(taken) = unshown.taken() {
         return Some(cause.note(taken));
     }
     let names = unshown.names();
-    let steps = route(&script, &record, unshown.target());
+    let steps = route(script, record, unshown.target());
     let lost_at = lost(&steps, unshown.wanted);
     let cause = match lost_at {
-        Some(place) => cause.note(told(&script, place, unshown.wanted)),
+        Some(place) => cause.note(told(script, place, unshown.wanted)),
         None if matches!(unshown.wanted, Atom::Acc(_)) => {
             cause.note(format!("it was never held in {}", names.title()))
         }
