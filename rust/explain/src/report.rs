@@ -117,8 +117,6 @@ impl<'a> Report<'a> {
     ) -> Report<'a> {
         let (refusal, outcome) = answered(answers, text, asked);
         let cause = refusal.and_then(|refusal| explained(answers, text, refusal));
-        let fixed = cause.as_ref().is_some_and(|cause| cause.fix.is_some());
-        let formats = refusal.filter(|_| !fixed);
         Report {
             file,
             text,
@@ -129,7 +127,7 @@ impl<'a> Report<'a> {
                 (Asked::Check, Some(_)) => further(text),
                 _ => Vec::new(),
             },
-            formatted: formats.and_then(|refusal| after_fmt(answers, text, refusal)),
+            formatted: refusal.and_then(|refusal| after_fmt(answers, text, refusal)),
             ran: outcome.map(|outcome| Ran::of(text, outcome)),
         }
     }

@@ -251,7 +251,11 @@ fn refusal(out: &mut String, paint: Paint, report: &Report) {
         let mark = report.cause.as_ref().and_then(|cause| cause.mark.clone());
         snippet(out, paint, report.text, line, mark);
         reasons(out, number, report.cause.as_ref());
-        if let Some(formatted) = &report.formatted {
+        let fixed = report
+            .cause
+            .as_ref()
+            .is_some_and(|cause| cause.fix.is_some());
+        if let Some(formatted) = report.formatted.as_ref().filter(|_| !fixed) {
             wrapped(out, "   then: ", formatted);
         }
     }
