@@ -3,7 +3,7 @@
 
 use crate::rounds::Rounds;
 use crate::script::{quoted, Names, Script};
-use model::machine::{location, Location, Machine, Step, Values};
+use model::machine::{location, Location, Locations, Machine, Step, Values};
 use model::names::{Action, Expr, Path, Var, PARAM, RESULT, THIS, VARS};
 
 /// A step and its line; zeros where there was none.
@@ -101,6 +101,10 @@ impl Trail {
         let call = &machine.program.statements[caller.next - 1];
         if let (Action::Call(call), Some(own)) = (&call.action, self.vars.last_mut()) {
             own[call.x] = at;
+        }
+        // What is given back has gone nowhere.
+        for place in frame.held.without(&Locations::default()) {
+            self.went[place] = None;
         }
         let kept = frame.held.without(&caller.held);
         self.leave(&kept, at, Went::Kept(frame.block));
@@ -231,8 +235,7 @@ mod tests {
         digits.parse().ok()
     }
 
-    /// What a note says of a value is so: at that step that line was done, and no
-    /// later step of the block gave the variable another value.
+    /// The step that a note names was done, and it was that of the line it names.
     fn holds(script: &Script, steps: u32, note: &str) {
         let (Some(line), Some(step)) = (after(note, " at line "), after(note, "(step ")) else {
             panic!("{note}");
@@ -276,6 +279,19 @@ mod tests {
                 "`b` got its value at line 5 (step 2): `let b 2`",
             ]
         );
+    }
+
+    /// A permission that a method gave back is not said to have gone to it.
+    #[test]
+    fn permissions_that_came_back() {
+        let text = "class C|field int n|method int a int k|requires acc this n|ensures acc this n\
+                    |return k|end|method int b int k|requires|ensures|set this n k|return k|end\
+                    |main|var C c|var int k|var int r|new c C|call r c a k|call r c b k|end|";
+        let text = text.replace(' ', "\t").replace('|', "\n");
+        let run = model::trial(text.as_bytes(), 100);
+        assert_eq!((run.number, run.line), (24, 11));
+        let cause = stop_cause(text.as_bytes(), run.steps, 24).expect("a cause");
+        assert_eq!(cause.notes, ["main has the permission to `this.n`"]);
     }
 
     #[test]
