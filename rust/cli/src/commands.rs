@@ -18,7 +18,10 @@ pub fn check(session: &mut Session) -> u8 {
             continue;
         };
         let shown = show::file_name(&name);
-        let report = Report::of(&mut session.library, &shown, &text, Asked::Check);
+        let mut report = Report::of(&mut session.library, &shown, &text, Asked::Check);
+        if session.words.has("first") {
+            report.further.clear();
+        }
         match report.good() {
             true => accepted += 1,
             false => refused += 1,

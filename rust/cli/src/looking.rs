@@ -115,7 +115,9 @@ pub fn known(session: &mut Session) -> u8 {
     };
     let shown = file_name(&name);
     let report = Report::of(&mut session.library, &shown, &text, Asked::Check);
-    let Some(script) = Script::of(&text) else {
+    // What is known around a line that is not finished.
+    let patched = explain::all::readable(&text);
+    let Some(script) = Script::of(patched.as_deref().unwrap_or(&text)) else {
         session.print_report(&report);
         return REFUSED;
     };

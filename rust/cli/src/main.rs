@@ -5,6 +5,7 @@ mod args;
 mod authority;
 mod commands;
 mod files;
+mod fixing;
 mod library;
 mod looking;
 mod lsp;
@@ -32,6 +33,7 @@ fn dispatch(session: &mut Session) -> u8 {
         "bound" => session.each_script(looking::bound_one),
         "report" => authority::report(session),
         "fmt" | "tabs" => session.each_script(commands::fmt_one),
+        "fix" => session.each_script(fixing::fix_one),
         "explain" => commands::explain(session),
         "completions" => commands::completions(session),
         "lsp" => lsp::serve(),

@@ -103,12 +103,12 @@ fn loops_and_rings() {
         "   note: line 6, in `a`: `call r this b w`\n",
         "   note: line 12, in `b`: `call r this c w`\n",
         "   note: line 19, in `c`: `call r this a w`\n",
-        "   mend: run it with as many steps as it may take",
+        "   help: run it with as many steps as it may take",
     ];
     let itself = calls(&[("a", &["b"]), ("b", &["b"])]);
     let never = "  cause: here `b` of class S calls itself\n\
                  \x20  note: no call of main leads to `b` of class S\n\
-                 \x20  mend: leave the method out, if nothing is to call it\n";
+                 \x20  help: leave the method out, if nothing is to call it\n";
     let looped = [
         "  cause: how often the loop goes round shows in a run alone\n",
         "   note: its rounds end at line 9: `again`\n",

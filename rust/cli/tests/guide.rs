@@ -234,6 +234,7 @@ fn json_fields() {
         "station known --json examples/tag.script",
         "station draw --json examples/tag.script",
         "station fmt --json examples/tag.script",
+        "station fix --json examples/lost.script",
         "station explain --json 12",
         "station check --json no-such-file",
     ];

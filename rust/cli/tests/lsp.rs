@@ -162,7 +162,7 @@ fn diagnostics_as_one_types() {
         .and_then(Json::text)
         .expect("a message");
     assert!(
-        message.contains("`acc this n`") && message.contains("mend: "),
+        message.contains("`acc this n`") && message.contains("fix: "),
         "{message}"
     );
     let mended = example("refused-12.script").replace("requires", "requires\tacc\tthis\tn");

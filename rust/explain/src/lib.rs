@@ -1,5 +1,5 @@
 //! What is to be said of a catalogue script beyond numbers and lines: the cause of
-//! a refusal or a stop and a mend that fits, what the checker knows at a line, each
+//! a refusal or a stop and a fix that was tried, what the checker knows at a line, each
 //! step of a run, the cards as a table or a picture, the calls that a bound comes
 //! from, and a text in its form; for people, and as JSON.
 //!
@@ -18,11 +18,13 @@
 #![forbid(unsafe_code)]
 #![deny(missing_docs)]
 
+pub mod all;
 mod answers;
 pub mod bound;
 pub mod cards;
 pub mod cause;
 pub mod draw;
+pub mod fix;
 pub mod fmt;
 #[cfg(test)]
 mod hostile;

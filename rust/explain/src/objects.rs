@@ -1,6 +1,7 @@
 //! The JSON objects of the command: one schema, which the guide lists.
 
 use crate::cause::Cause;
+use crate::fix::{edit::Change, Fix};
 use crate::json::Json;
 use crate::report::{columns, Asked, Ran, Report};
 use crate::script::line;
@@ -36,7 +37,8 @@ pub fn with_cause(object: Json, cause: Option<&Cause>) -> Json {
         .with_some("column", columns.map(|columns| columns.0))
         .with_some("end", columns.map(|columns| columns.1))
         .with("notes", cause.notes.clone())
-        .with_some("fix", cause.mend.clone())
+        .with_some("help", cause.help.clone())
+        .with_some("fix", cause.fix.as_ref().map(Fix::said))
 }
 
 fn value(value: Value) -> Json {
@@ -45,6 +47,12 @@ fn value(value: Value) -> Json {
         Value::Object(number) => number.into(),
         _ => Json::Null,
     }
+}
+
+/// The changes of a fix.
+pub fn edits(text: &[u8], fix: &Fix) -> Json {
+    let changes = fix.changes(text);
+    Json::List(changes.iter().map(Change::json).collect())
 }
 
 /// Check's number and line.
@@ -61,7 +69,26 @@ pub fn check(object: Json, report: &Report) -> Json {
         .with("number", number)
         .with("line", line);
     let object = with_cause(object, report.cause.as_ref());
-    object.with_some("note", report.mended.clone())
+    let fix = report.cause.as_ref().and_then(|cause| cause.fix.as_ref());
+    let object = object.with_some("edits", fix.map(|fix| edits(report.text, fix)));
+    let object = object.with_some("note", report.formatted.clone());
+    match report.asked {
+        Asked::Check => object.with("refusals", refusals(report)),
+        _ => object,
+    }
+}
+
+/// All refusals, check's own the first.
+fn refusals(report: &Report) -> Json {
+    let one = |number: u32, line: u32, cause: Option<&Cause>| {
+        let object = Json::object().with("number", number).with("line", line);
+        with_cause(words(object, number), cause).with_some("text", line_text(report.text, line))
+    };
+    let first = report.refusal.iter();
+    let first = first.map(|first| one(first.number(), first.line(), report.cause.as_ref()));
+    let others = report.further.iter();
+    let others = others.map(|other| one(other.number, other.line, other.cause.as_ref()));
+    Json::List(first.chain(others).collect())
 }
 
 fn variables(ran: &Ran) -> Json {

@@ -1,7 +1,8 @@
 //! What is said of one file: check's answer with its cause, and the run or the
 //! trial if there was one.
 
-use crate::cause::{cause, open_calls, stop_cause, Cause};
+use crate::all::{further, Further};
+use crate::cause::{cause, explained, open_calls, stop_cause, Cause};
 use crate::fmt::formatted;
 use crate::Answers;
 use nuyardi::{Ending, Kind, Outcome, Refusal};
@@ -30,8 +31,10 @@ pub struct Report<'a> {
     pub refusal: Option<Refusal>,
     /// The cause of the refusal, where one is seen.
     pub cause: Option<Cause>,
+    /// The other refusals of a text that was only checked.
+    pub further: Vec<Further>,
     /// What check says of the text as `fmt` gives it, where that may help.
-    pub mended: Option<String>,
+    pub formatted: Option<String>,
     /// None if the text was not run.
     pub ran: Option<Ran<'a>>,
 }
@@ -82,7 +85,7 @@ fn answered<'t>(
 }
 
 /// What the text as `fmt` gives it would get.
-fn mended(answers: &mut impl Answers, text: &[u8], refusal: Refusal) -> Option<String> {
+fn after_fmt(answers: &mut impl Answers, text: &[u8], refusal: Refusal) -> Option<String> {
     if !matches!(refusal.kind(), Kind::Byte | Kind::Form) {
         return None;
     }
@@ -113,13 +116,18 @@ impl<'a> Report<'a> {
         asked: Asked,
     ) -> Report<'a> {
         let (refusal, outcome) = answered(answers, text, asked);
+        let cause = refusal.and_then(|refusal| explained(answers, text, refusal));
         Report {
             file,
             text,
             asked,
             refusal,
-            cause: refusal.and_then(|refusal| cause(text, refusal)),
-            mended: refusal.and_then(|refusal| mended(answers, text, refusal)),
+            cause,
+            further: match (asked, refusal) {
+                (Asked::Check, Some(_)) => further(text),
+                _ => Vec::new(),
+            },
+            formatted: refusal.and_then(|refusal| after_fmt(answers, text, refusal)),
             ran: outcome.map(|outcome| Ran::of(text, outcome)),
         }
     }

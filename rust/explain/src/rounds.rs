@@ -1,6 +1,5 @@
 //! The loops that a run is in, and how many rounds each has done.
 
-use model::limits::PROGRAM_STEPS;
 use model::machine::{Locations, Machine, Step, Values};
 use model::names::Action;
 
@@ -8,10 +7,13 @@ use model::names::Action;
 /// the rounds that are done.
 #[derive(Clone, Copy, Debug, PartialEq, Eq)]
 pub struct Open {
-    depth: usize,
+    pub depth: usize,
     pub place: usize,
     pub rounds: u32,
 }
+
+/// So many further steps are tried for a state that came before.
+const TRIED: u32 = 100_000;
 
 /// The open loops, the innermost last.
 #[derive(Default)]
@@ -68,28 +70,40 @@ impl Rounds {
         self.innermost(machine).map_or(0, |open| open.rounds)
     }
 
+    /// The open loops, the innermost last.
+    pub fn all(&self) -> &[Open] {
+        &self.open
+    }
+
     /// The open loop that has done most rounds.
     pub fn most(&self) -> Option<Open> {
         self.open.iter().copied().max_by_key(|open| open.rounds)
     }
 
     /// Does the run come to a loop twice with everything as it was? Then it does
-    /// so for ever. Only some steps are tried.
-    pub fn for_ever(&mut self, machine: &mut Machine, open: Open) -> bool {
+    /// so for ever, and the rounds between the two are told. Only some steps are
+    /// tried.
+    pub fn for_ever(&mut self, machine: &mut Machine, open: Open) -> Option<u32> {
         let mut seen: Option<Whole> = None;
-        for _ in 0..PROGRAM_STEPS {
+        let (mut since, mut again) = (0u32, 1u32);
+        for _ in 0..TRIED {
             if (machine.frames.len(), machine.frame().next) == (open.depth, open.place) {
                 let now = whole(machine);
                 if seen.as_ref() == Some(&now) {
-                    return true;
+                    return Some(since);
                 }
-                seen = Some(now);
+                // The state that is kept is exchanged ever more rarely.
+                if since == again || seen.is_none() {
+                    seen = Some(now);
+                    (since, again) = (0, 2 * again);
+                }
+                since += 1;
             }
             if self.step(machine) != Ok(Step::On) {
-                return false;
+                return None;
             }
         }
-        false
+        None
     }
 }
 

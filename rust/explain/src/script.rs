@@ -129,7 +129,7 @@ pub struct Names<'p, 'a> {
     pub block: &'p Block<'a>,
 }
 
-impl Names<'_, '_> {
+impl<'a> Names<'_, 'a> {
     /// A variable's name.
     pub fn var(&self, var: Var) -> String {
         match (var, self.block.header) {
@@ -145,7 +145,7 @@ impl Names<'_, '_> {
     }
 
     /// The type of a variable.
-    pub fn kind(&self, var: Var) -> Option<Type<'_>> {
+    pub fn kind(&self, var: Var) -> Option<Type<'a>> {
         let header = self.block.header;
         match var {
             THIS => header.map(|header| Type::Class(header.class)),

@@ -1,5 +1,6 @@
 //! What a person reads.
 
+use crate::all::Further;
 use crate::cause::Cause;
 use crate::report::{columns, Ran, Report};
 use crate::script::line;
@@ -176,24 +177,24 @@ pub fn rows(out: &mut String, heading: &str, words: &[String]) {
     out.push('\n');
 }
 
-/// What the command itself can mend of a number's faults.
+/// What the command itself can fix of a number's faults.
 fn formats(number: u32) -> Option<&'static str> {
     match Kind::of(number) {
         Some(Kind::Byte) => Some("`station fmt --write FILE` does all three"),
-        Some(Kind::Form) => Some("`station fmt --write FILE` mends tabs too many"),
+        Some(Kind::Form) => Some("`station fmt --write FILE` fixes tabs too many"),
         _ => None,
     }
 }
 
 fn number_in_words(out: &mut String, known: &Explanation) {
     wrapped(out, "   what: ", known.meaning);
-    wrapped(out, "   mend: ", known.mend);
+    wrapped(out, "   help: ", known.mend);
     if let Some(said) = formats(known.number) {
         wrapped(out, "   note: ", said);
     }
 }
 
-/// The least number that an accepted text may get: what usually mends it is said
+/// The least number that an accepted text may get: what usually helps is said
 /// with its cause.
 const FIRST_OF_ACCEPTED: u32 = Excess::Unbounded.number();
 
@@ -205,10 +206,13 @@ pub fn reasons(out: &mut String, number: u32, cause: Option<&Cause>) {
             for note in &cause.notes {
                 wrapped(out, "   note: ", note);
             }
+            if let Some(fix) = &cause.fix {
+                wrapped(out, "    fix: ", &fix.said());
+            }
             let usual = explain(number).filter(|_| number >= FIRST_OF_ACCEPTED);
-            let mend = cause.mend.as_deref().or(usual.map(|known| known.mend));
-            if let Some(mend) = mend {
-                wrapped(out, "   mend: ", mend);
+            let help = cause.help.as_deref().or(usual.map(|known| known.mend));
+            if let Some(help) = help {
+                wrapped(out, "   help: ", help);
             }
         }
         (None, Some(known)) => number_in_words(out, known),
@@ -247,10 +251,32 @@ fn refusal(out: &mut String, paint: Paint, report: &Report) {
         let mark = report.cause.as_ref().and_then(|cause| cause.mark.clone());
         snippet(out, paint, report.text, line, mark);
         reasons(out, number, report.cause.as_ref());
-        if let Some(mended) = &report.mended {
-            wrapped(out, "   then: ", mended);
+        let fixed = report
+            .cause
+            .as_ref()
+            .is_some_and(|cause| cause.fix.is_some());
+        if let Some(formatted) = report.formatted.as_ref().filter(|_| !fixed) {
+            wrapped(out, "   then: ", formatted);
         }
     }
+    for other in &report.further {
+        further(out, paint, report, other);
+    }
+}
+
+/// A refusal besides the first.
+fn further(out: &mut String, paint: Paint, report: &Report, other: &Further) {
+    let _ = writeln!(
+        out,
+        "{}: {}, number {}: {}",
+        place(report.file, other.line),
+        paint.bad("also refused"),
+        other.number,
+        title(other.number)
+    );
+    let mark = other.cause.as_ref().and_then(|cause| cause.mark.clone());
+    snippet(out, paint, report.text, other.line, mark);
+    reasons(out, other.number, other.cause.as_ref());
 }
 
 fn ran(out: &mut String, paint: Paint, report: &Report, ran: &Ran) {
@@ -317,7 +343,7 @@ pub fn report(report: &Report, paint: Paint) -> String {
     head(report, paint) + &ending(report, paint)
 }
 
-/// One line for a refused file, as editors and compilers want it.
+/// One line for each refusal of a file, as editors and compilers want it.
 pub fn short(report: &Report) -> String {
     let Some(refusal) = report.refusal else {
         return String::new();
@@ -327,7 +353,19 @@ pub fn short(report: &Report) -> String {
     let cause = report.cause.as_ref();
     let said = cause.map_or(title(number), |cause| cause.text.as_str());
     let line = refusal.line().max(1);
-    format!("{}:{line}:{column}: number {number}: {said}\n", report.file)
+    let mut out = format!("{}:{line}:{column}: number {number}: {said}\n", report.file);
+    for other in &report.further {
+        let column = columns(other.cause.as_ref()).map_or(1, |(from, _)| from);
+        let cause = other.cause.as_ref();
+        let said = cause.map_or(title(other.number), |cause| cause.text.as_str());
+        let (line, number) = (other.line.max(1), other.number);
+        let _ = writeln!(
+            out,
+            "{}:{line}:{column}: number {number}: {said}",
+            report.file
+        );
+    }
+    out
 }
 
 /// A number in words, with its example.

@@ -1,6 +1,7 @@
 //! What is said of halves: where one is held and both are needed, where the other
-//! went, what mends it, and how lists, traces, cards and drawings show them.
+//! went, what helps, and how lists, traces, cards and drawings show them.
 
+use explain::cause::cause;
 use explain::script::Script;
 use explain::{cards, draw, known, trace, Asked, Cause, Model, Report};
 
@@ -15,11 +16,19 @@ fn script(methods: &str, statements: &str) -> Vec<u8> {
     lines.replace('|', "\n").replace(' ', "\t").into_bytes()
 }
 
+/// The cause in words, before a fix is looked for.
 fn refused(text: &[u8], number: u32) -> Cause {
     let report = Report::of(&mut Model, "a", text, Asked::Check);
     let refusal = report.refusal.expect("a refusal");
     assert_eq!(refusal.number(), number);
-    report.cause.expect("a cause")
+    cause(text, refusal).expect("a cause")
+}
+
+/// The fix that a report tells.
+fn fixed(text: &[u8]) -> Option<String> {
+    let report = Report::of(&mut Model, "a", text, Asked::Check);
+    let fix = report.cause.expect("a cause").fix;
+    fix.map(|fix| fix.said())
 }
 
 fn stopped(text: &[u8]) -> Cause {
@@ -37,8 +46,10 @@ fn a_half_is_held_and_a_whole_one_is_needed() {
     let note = "a half of `c.tag` is held, a whole one is needed; the other half went at line 16: \
                 `call t c look k`, and the `ensures` of `look` (line 5) does not give it back";
     assert_eq!(cause.notes, [note]);
-    let mend = "add `read this tag` to the `ensures` of `look` (line 5)";
-    assert_eq!(cause.mend.as_deref(), Some(mend));
+    let help = "add `read this tag` to the `ensures` of `look` (line 5)";
+    assert_eq!(cause.help.as_deref(), Some(help));
+    let fix = "add `read this tag` to line 5: `ensures`; the script is then accepted";
+    assert_eq!(fixed(HALF).as_deref(), Some(fix));
 }
 
 #[test]
@@ -47,10 +58,11 @@ fn halves_that_did_not_come_together() {
     assert!(cause.text.ends_with("it is only half held here"));
     let note = "held are `read this tag` and `read same tag`, halves that did not come together: ";
     assert!(cause.notes[0].starts_with(note), "{:?}", cause.notes);
-    assert_eq!(cause.mend, None);
+    assert_eq!(cause.help, None);
+    assert_eq!(fixed(APART), None);
 }
 
-/// Where the other half went, and the mend.
+/// Where the other half went, and what helps.
 #[test]
 fn where_the_other_half_went() {
     let cases = [
@@ -71,33 +83,33 @@ fn where_the_other_half_went() {
             Some("write `acc s n` for `read s n` in the `loop` (line 10)"),
         ),
     ];
-    for (statements, went, mend) in cases {
+    for (statements, went, help) in cases {
         let cause = refused(&script("", statements), 12);
         let note = format!(
             "a half of `s.n` is held, a whole one is needed; the other half went at {went}"
         );
         assert_eq!(cause.notes, [note], "{statements}");
-        assert_eq!(cause.mend.as_deref(), mend, "{statements}");
+        assert_eq!(cause.help.as_deref(), help, "{statements}");
     }
 }
 
-/// A mend is offered only where the check then comes past the line.
+/// Help is offered only where the check then comes past the line.
 #[test]
-fn mends_that_help() {
+fn helps_that_help() {
     let method = |requires: &str, ensures: &str, body: &str| {
         format!("|method int m int k|requires{requires}|ensures{ensures}{body}|end")
     };
     let calls = "|new s S|call a s m b|set s n a";
     let given = method(" acc this n", " read this n", "");
-    let mend = "write `acc this n` for `read this n` in the `ensures` of `m` (line 6)";
+    let help = "write `acc this n` for `read this n` in the `ensures` of `m` (line 6)";
     let cause = refused(&script(&given, calls), 12);
-    assert_eq!(cause.mend.as_deref(), Some(mend));
+    assert_eq!(cause.help.as_deref(), Some(help));
     let lost = method(" read this n", "", "|release read this n");
-    assert_eq!(refused(&script(&lost, calls), 12).mend, None);
+    assert_eq!(refused(&script(&lost, calls), 12).help, None);
     let written = method(" read this n", " read this n", "|set this n k");
     let cause = refused(&script(&written, ""), 12);
-    let mend = "write `acc this n` for `read this n` in `requires` (line 5)";
-    assert_eq!(cause.mend.as_deref(), Some(mend));
+    let help = "write `acc this n` for `read this n` in `requires` (line 5)";
+    assert_eq!(cause.help.as_deref(), Some(help));
     let note = "a half of `this.n` is held, a whole one is needed; no more was held in `m` of \
                 class S";
     assert_eq!(cause.notes, [note]);
@@ -150,8 +162,8 @@ fn reading_needs_a_half() {
         let said = "`let` reads `this.n`, which needs `acc this n` or `read this n`, and neither \
                     is held here";
         assert_eq!(cause.text, said);
-        let mend = format!("add `{offered}` to `requires` (line 5)");
-        assert_eq!(cause.mend, Some(mend));
+        let help = format!("add `{offered}` to `requires` (line 5)");
+        assert_eq!(cause.help, Some(help));
     }
     for (held, calls) in [
         ("acc this n", "|call a s m b"),
@@ -159,8 +171,8 @@ fn reading_needs_a_half() {
     ] {
         let method = format!("|method int m int k|requires {held}|ensures|end");
         let cause = refused(&script(&method, &format!("|new s S{calls}|let a s.n")), 11);
-        let mend = format!("add `{held}` to the `ensures` of `m` (line 6)");
-        assert_eq!(cause.mend, Some(mend));
+        let help = format!("add `{held}` to the `ensures` of `m` (line 6)");
+        assert_eq!(cause.help, Some(help));
     }
 }
 
@@ -181,7 +193,7 @@ fn paths_before_their_read() {
             "",
         )
     };
-    for (requires, mend) in [
+    for (requires, help) in [
         ("eq this.n 0 read this n", "move `read this n` before it"),
         ("eq this.n 0 acc this n", "move `acc this n` before it"),
         (
@@ -192,7 +204,7 @@ fn paths_before_their_read() {
         let cause = refused(&method(requires), 10);
         let said = "`this.n` is read, and neither `acc this n` nor `read this n` stands before it";
         assert_eq!(cause.text, said);
-        assert_eq!(cause.mend.as_deref(), Some(mend));
+        assert_eq!(cause.help.as_deref(), Some(help));
     }
     let other = refused(&method("read w n eq this.n 0"), 10);
     assert!(other.notes[0].starts_with("`read w n` does not count for `this.n`"));

@@ -354,3 +354,18 @@ pub fn check_watched<'a>(program: &Program<'a>, watch: &mut impl Watch<'a>) -> R
         checker.check()
     })
 }
+
+/// The check of one block alone, with someone who looks on.
+pub fn check_block_watched<'a>(
+    program: &Program<'a>,
+    block: usize,
+    watch: &mut impl Watch<'a>,
+) -> Result<(), Refusal> {
+    let block = &program.blocks[block];
+    let mut checker = Checker {
+        program,
+        block,
+        watch,
+    };
+    checker.check()
+}

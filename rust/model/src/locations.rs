@@ -32,6 +32,15 @@ impl Locations {
         self.0[location / IN_WORD] += u64::from(halves) << (2 * (location % IN_WORD));
     }
 
+    /// The locations of which more halves are here than in the other.
+    pub fn without(&self, other: &Locations) -> Vec<Location> {
+        let words = self.0.iter().zip(other.0).enumerate();
+        let unlike = words.filter(|(_, (word, gone))| **word != *gone);
+        let places = unlike.flat_map(|(at, _)| IN_WORD * at..IN_WORD * (at + 1));
+        let more = |place: &Location| self.halves(*place) > other.halves(*place);
+        places.filter(more).collect()
+    }
+
     pub(crate) fn add_all(&mut self, other: &Locations) {
         for (word, more) in self.0.iter_mut().zip(other.0) {
             *word += more;

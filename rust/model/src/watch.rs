@@ -2,7 +2,7 @@
 //! answer looks on while the rules are applied. A watch changes no answer, and
 //! one that does nothing costs nothing.
 
-use crate::checker::{check_watched, State};
+use crate::checker::{check_block_watched, check_watched, State};
 use crate::framing::frame;
 use crate::locations::Location;
 use crate::names::{Atom, Expr, Path, Program};
@@ -136,6 +136,17 @@ impl<'a> Record<'a> {
         };
         record.refusal = check_watched(program, &mut record).err();
         Some(record)
+    }
+
+    /// The check of one block alone, whose formulas are framed.
+    pub fn of_block(program: &Program<'a>, block: usize) -> Record<'a> {
+        let mut record = Record {
+            seen: vec![Seen::default(); program.statements.len()],
+            asked: None,
+            refusal: None,
+        };
+        record.refusal = check_block_watched(program, block, &mut record).err();
+        record
     }
 }
 

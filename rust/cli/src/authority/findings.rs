@@ -114,4 +114,11 @@ impl<'a> Findings<'a> {
     pub fn refusal(&self) -> Option<Refusal> {
         self.answered.refusal
     }
+
+    /// What check says of the text as `fmt` gives it, where no fix is told.
+    pub fn after_fmt(&self) -> Option<&str> {
+        let cause = self.answered.cause.as_ref();
+        let fixed = cause.is_some_and(|cause| cause.fix.is_some());
+        self.answered.formatted.as_deref().filter(|_| !fixed)
+    }
 }

@@ -40,8 +40,9 @@ fn cause(cause: Option<&Cause>) -> String {
     };
     let said = |word: &str, said: &str| format!("<p>{word}: {}</p>\n", coded(said));
     let notes: String = cause.notes.iter().map(|note| said("Note", note)).collect();
-    let mend = cause.mend.as_deref().map(|mend| said("Mend", mend));
-    said("Cause", &cause.text) + &notes + &mend.unwrap_or_default()
+    let fix = cause.fix.as_ref().map(|fix| said("Fix", &fix.said()));
+    let help = cause.help.as_deref().map(|help| said("Help", help));
+    said("Cause", &cause.text) + &notes + &fix.unwrap_or_default() + &help.unwrap_or_default()
 }
 
 /// A message: what it has in backquotes is code.
@@ -92,8 +93,8 @@ pub fn identity(findings: &Findings, prefix: &str) -> String {
 pub fn decision(findings: &Findings, prefix: &str) -> String {
     let mut inner = answer(&answers::decision(findings), "verdict", prefix);
     inner.push_str(&cause(findings.answered.cause.as_ref()));
-    if let Some(mended) = &findings.answered.mended {
-        inner.push_str(&format!("<p>Then: {}</p>\n", coded(mended)));
+    if let Some(formatted) = findings.after_fmt() {
+        inner.push_str(&format!("<p>Then: {}</p>\n", coded(formatted)));
     }
     section(&format!("{prefix}decision"), "Decision", &inner)
 }

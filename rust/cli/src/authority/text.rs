@@ -39,7 +39,7 @@ fn identity(out: &mut String, findings: &Findings) {
     }
 }
 
-/// The cause with its notes and its mend.
+/// The cause with its notes, its fix and what helps.
 fn cause(out: &mut String, cause: Option<&Cause>) {
     let Some(cause) = cause else {
         return;
@@ -48,8 +48,11 @@ fn cause(out: &mut String, cause: Option<&Cause>) {
     for note in &cause.notes {
         row(out, "note", note);
     }
-    if let Some(mend) = &cause.mend {
-        row(out, "mend", mend);
+    if let Some(fix) = &cause.fix {
+        row(out, "fix", &fix.said());
+    }
+    if let Some(help) = &cause.help {
+        row(out, "help", help);
     }
 }
 
@@ -67,8 +70,8 @@ fn answer(out: &mut String, heading: &str, answer: &Answer) {
 fn decision(out: &mut String, findings: &Findings) {
     answer(out, "decision", &answers::decision(findings));
     cause(out, findings.answered.cause.as_ref());
-    if let Some(mended) = &findings.answered.mended {
-        row(out, "then", mended);
+    if let Some(formatted) = findings.after_fmt() {
+        row(out, "then", formatted);
     }
 }
 

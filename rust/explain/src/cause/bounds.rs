@@ -49,7 +49,7 @@ fn unbounded(script: &Script, line: u32) -> Option<Cause> {
                 "no call of main leads to {}",
                 script.names(block).title()
             ))
-            .mend("leave the method out, if nothing is to call it"),
+            .help("leave the method out, if nothing is to call it"),
     })
 }
 

@@ -56,7 +56,7 @@ fn described(letter: char) -> (String, &'static str) {
     (known.0.to_string(), known.1)
 }
 
-const FORMAT: &str = "`station fmt --write FILE` mends it";
+const FORMAT: &str = "`station fmt --write FILE` fixes it";
 
 pub fn bad_byte(text: &[u8], number: u32) -> Option<Cause> {
     let line = line(text, number)?;
@@ -64,16 +64,16 @@ pub fn bad_byte(text: &[u8], number: u32) -> Option<Cause> {
         return Some(
             Cause::new("the last line is not ended by LF")
                 .mark(Some(line.len()..line.len()))
-                .mend(FORMAT),
+                .help(FORMAT),
         );
     };
     let Some(letter) = character(&line[at..]) else {
         let text = format!("byte {} of the line has the value {}", at + 1, line[at]);
         let mark = Some(at..at + 1);
-        return Some(Cause::new(text).mark(mark).mend("leave it out"));
+        return Some(Cause::new(text).mark(mark).help("leave it out"));
     };
-    let (what, mend) = described(letter);
+    let (what, help) = described(letter);
     let cause = Cause::new(format!("byte {} of the line is {what}", at + 1));
     let to = at + letter.len_utf8();
-    Some(cause.mark(Some(at..to)).mend(mend))
+    Some(cause.mark(Some(at..to)).help(help))
 }

@@ -55,16 +55,16 @@ pub fn malformed(text: &[u8], number: u32) -> Option<Cause> {
     let field = all.get(at).map_or(&b""[..], |field| field.1);
     let cause = match found {
         Fault::UnknownWord => unknown_word(field, &reader)
-            .or_mend(assignment(&all))
-            .or_mend(rounds(field).map(str::to_string)),
+            .or_help(assignment(&all))
+            .or_help(rounds(field).map(str::to_string)),
         Fault::EmptyLine if reader.place == Place::Done => {
-            Cause::new("the line is empty, and nothing follows main's `end`").mend(DELETE)
+            Cause::new("the line is empty, and nothing follows main's `end`").help(DELETE)
         }
         Fault::EmptyLine => {
-            Cause::new("the line is empty; a script has no empty lines").mend(DELETE)
+            Cause::new("the line is empty; a script has no empty lines").help(DELETE)
         }
-        Fault::Field(operand, why) => match path_mend(why, &all, at) {
-            Some(mend) => field_cause(operand, why, field).mend(mend),
+        Fault::Field(operand, why) => match path_help(why, &all, at) {
+            Some(help) => field_cause(operand, why, field).help(help),
             None => field_cause(operand, why, field),
         },
         Fault::UnknownAtom => unknown_atom(field),
@@ -94,7 +94,7 @@ fn atom_forms() -> String {
 }
 
 /// A path where `let`, `acc` or `read` wants a variable: how the line is written.
-fn path_mend(why: Malformed, all: &[(usize, &[u8])], at: usize) -> Option<String> {
+fn path_help(why: Malformed, all: &[(usize, &[u8])], at: usize) -> Option<String> {
     let path = shown(all.get(at)?.1);
     let (x, f) = path
         .split_once('.')
@@ -160,7 +160,7 @@ fn count_cause(found: Fault, word: &[u8], field: &[u8]) -> Cause {
             means(operand)
         )),
         Fault::Extra if field.is_empty() => {
-            Cause::new("the line has a tab too many, and so an empty field").mend(FORMAT)
+            Cause::new("the line has a tab too many, and so an empty field").help(FORMAT)
         }
         Fault::Extra => Cause::new(format!(
             "`{}` is a field too many: the form is `{form}`",
@@ -170,12 +170,12 @@ fn count_cause(found: Fault, word: &[u8], field: &[u8]) -> Cause {
             "an invariant has at most {} atoms after the condition, and this is the ninth",
             limits::ATOMS
         ))
-        .mend("leave out what neither the body nor a line after `again` needs"),
+        .help("leave out what neither the body nor a line after `again` needs"),
         Fault::NinthAtom => Cause::new(format!(
             "a formula has at most {} atoms, and this is the ninth",
             limits::ATOMS
         ))
-        .mend("`assert` can be split over two lines; a contract wants less in one line"),
+        .help("`assert` can be split over two lines; a contract wants less in one line"),
         _ if rounds => Cause::new(format!(
             "`loop` takes a condition first, then the atoms of its invariant: `{form}`"
         )),
@@ -183,17 +183,17 @@ fn count_cause(found: Fault, word: &[u8], field: &[u8]) -> Cause {
     }
 }
 
-const FORMAT: &str = "`station fmt --write FILE` mends it";
+const FORMAT: &str = "`station fmt --write FILE` fixes it";
 
 fn unknown_word(word: &[u8], reader: &Reader) -> Cause {
     let name = shown(word);
     let next = next_words(reader);
     let here = words(&next);
     if name.is_empty() {
-        return Cause::new("the line begins with a tab; there is no indentation").mend(FORMAT);
+        return Cause::new("the line begins with a tab; there is no indentation").help(FORMAT);
     }
     if name.starts_with(['#', ';']) || name.starts_with("//") || name.starts_with("--") {
-        return Cause::new("a script has no comments").mend(DELETE);
+        return Cause::new("a script has no comments").help(DELETE);
     }
     if let Some(shape) = SHAPES
         .iter()
@@ -215,11 +215,11 @@ fn unknown_atom(word: &[u8]) -> Cause {
     let name = shown(word);
     let atoms = format!("an atom is {}", atom_forms());
     match name.as_str() {
-        "" => Cause::new("an atom begins with an empty field: a tab too many").mend(FORMAT),
+        "" => Cause::new("an atom begins with an empty field: a tab too many").help(FORMAT),
         "and" | "&&" | "*" | "," => Cause::new(format!(
             "no word stands between atoms, and `{name}` is none; {atoms}"
         ))
-        .mend(format!("leave `{name}` out")),
+        .help(format!("leave `{name}` out")),
         _ => {
             let near = did_you_mean(&name, ATOM_SHAPES.iter().map(|atom| atom.word));
             Cause::new(format!("no atom begins with `{name}`{near}")).note(atoms)
@@ -235,13 +235,13 @@ fn field_cause(operand: Operand, why: Malformed, field: &[u8]) -> Cause {
         Malformed::Empty => Cause::new(format!(
             "the field is empty where {must} must stand: two tabs, or one at the end"
         ))
-        .mend(FORMAT),
+        .help(FORMAT),
         Malformed::NumberForName if operand == Operand::Variable => {
-            stands("the number").mend(format!("`let k {name}` first, then name k here"))
+            stands("the number").help(format!("`let k {name}` first, then name k here"))
         }
         Malformed::NumberForName => stands("the number"),
         Malformed::PathForName if operand == Operand::Variable => {
-            stands("the path").mend(format!("`let v {name}` first, then name v here"))
+            stands("the path").help(format!("`let v {name}` first, then name v here"))
         }
         Malformed::PathForName => stands("the path"),
         Malformed::LongPath => {
@@ -249,7 +249,7 @@ fn field_cause(operand: Operand, why: Malformed, field: &[u8]) -> Cause {
             let mut part = || parts.next().unwrap_or_default();
             let (x, f, rest) = (part(), part(), part());
             Cause::new(format!("a path has one field, and `{name}` has more"))
-                .mend(format!("`let v {x}.{f}` first, then read `v.{rest}`"))
+                .help(format!("`let v {x}.{f}` first, then read `v.{rest}`"))
         }
         Malformed::Character(at) => {
             let letter = field.get(at).map_or('?', |&byte| char::from(byte));
@@ -277,16 +277,16 @@ fn word_cause(why: Malformed, name: &str) -> Cause {
                 "" => "0".to_string(),
                 digits => format!("{sign}{digits}"),
             };
-            Cause::new("a number has no leading zero").mend(format!("write `{number}`"))
+            Cause::new("a number has no leading zero").help(format!("write `{number}`"))
         }
-        Malformed::MinusZero => Cause::new("`-0` is no number").mend("write `0`"),
+        Malformed::MinusZero => Cause::new("`-0` is no number").help("write `0`"),
         Malformed::OutOfRange => Cause::new(format!(
             "a number is at least {} and at most {}",
             i32::MIN,
             i32::MAX
         )),
         Malformed::PlusSign => Cause::new("a number has no `+`")
-            .mend(format!("write `{}`", name.trim_start_matches('+'))),
+            .help(format!("write `{}`", name.trim_start_matches('+'))),
         Malformed::FirstDigit => Cause::new("a name begins with a letter"),
         _ => Cause::new(format!("`{name}` has no form of the language")),
     }

@@ -1,7 +1,7 @@
 //! Halves in a check: what is said where a half of a field is held and a whole
 //! one is needed, where the other half went, and what earlier atoms took.
 
-use super::half_mends::mend;
+use super::half_helps::help;
 use super::route::{lost, named, reason, Step};
 use super::rules::Unshown;
 use super::Cause;
@@ -71,7 +71,7 @@ impl Short {
         }
     }
 
-    /// The cause with what is held, where the rest went, and a mend.
+    /// The cause with what is held, where the rest went, and what helps.
     pub fn told(&self, cause: Cause, unshown: &Unshown, steps: &[Step]) -> Cause {
         match self {
             Short::Taken(takers, halves) => {
@@ -91,7 +91,7 @@ impl Short {
             Short::Half => {
                 let gone = lost(steps, unshown.wanted);
                 let cause = cause.note(other_half(unshown, gone));
-                cause.or_mend(mend(unshown, gone))
+                cause.or_help(help(unshown, gone))
             }
         }
     }

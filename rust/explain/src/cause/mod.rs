@@ -5,24 +5,28 @@
 mod bounds;
 mod bytes;
 mod form;
-mod half_mends;
-mod halves;
-mod mends;
+mod half_helps;
+pub(crate) mod halves;
+mod helps;
+mod history;
 mod names;
 mod places;
-mod route;
-mod rules;
+pub(crate) mod route;
+pub(crate) mod rules;
 mod stopped_halves;
 mod stops;
 
 pub use bounds::bound_cause;
 pub use form::form_of;
+pub(crate) use names::unframed;
 pub use stops::{machine_at, open_calls, stop_cause, value_shown, AGAIN};
 
+use crate::fix::{fix, Fix, ONE_STEP};
+use crate::Answers;
 use nuyardi::{Kind, Refusal};
 use std::ops::Range;
 
-/// The one reason, where in the line, what else is known, and a mend that fits.
+/// The one reason, where in the line, what else is known, and what helps.
 #[derive(Clone, Debug, Default, PartialEq, Eq)]
 pub struct Cause {
     /// The reason.
@@ -31,8 +35,10 @@ pub struct Cause {
     pub mark: Option<Range<usize>>,
     /// What else is known.
     pub notes: Vec<String>,
-    /// What mends it.
-    pub mend: Option<String>,
+    /// What usually helps, in words.
+    pub help: Option<String>,
+    /// A fix that was tried on the text.
+    pub fix: Option<Fix>,
 }
 
 impl Cause {
@@ -59,16 +65,43 @@ impl Cause {
         self
     }
 
-    /// The mend, if there is one.
-    fn or_mend(mut self, mend: Option<String>) -> Cause {
-        self.mend = mend.or(self.mend);
+    /// Words that help, if there are some.
+    fn or_help(mut self, help: Option<String>) -> Cause {
+        self.help = help.or(self.help);
         self
     }
 
-    fn mend(mut self, mend: impl Into<String>) -> Cause {
-        self.mend = Some(mend.into());
+    fn help(mut self, help: impl Into<String>) -> Cause {
+        self.help = Some(help.into());
         self
     }
+
+    /// With a fix that was tried, if one was found. Without one nothing is said of
+    /// how to show what a rule asks: it would be a guess.
+    pub(crate) fn with_fix(mut self, number: u32, fix: Option<Fix>) -> Cause {
+        let rule = (model::number::UNFRAMED..=model::number::NOT_SHOWN).contains(&number);
+        if rule || fix.is_some() {
+            self.help = None;
+        }
+        self.fix = fix;
+        self
+    }
+}
+
+/// The cause with a fix that was tried, and to which who answers agrees.
+pub fn explained(answers: &mut impl Answers, text: &[u8], refusal: Refusal) -> Option<Cause> {
+    let cause = cause(text, refusal)?;
+    let found = fix(text, ONE_STEP).filter(|fix| agreed(answers, fix));
+    Some(cause.with_fix(refusal.number(), found))
+}
+
+/// Does who answers say the same of the fixed text as the model?
+pub fn agreed(answers: &mut impl Answers, fix: &Fix) -> bool {
+    let answer = match answers.check(&fix.text) {
+        Ok(()) => (0, 0),
+        Err(refusal) => (refusal.number(), refusal.line()),
+    };
+    answer == fix.answer
 }
 
 /// The cause of a refusal, where the model agrees with it.

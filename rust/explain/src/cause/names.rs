@@ -129,8 +129,8 @@ fn no_int(look: &Look, name: Name) -> Cause {
         "`{name}` is {kind}; `add` and `sub` take int variables"
     ));
     match takes {
-        true => cause.mend("take the number in an int variable: `var int v`"),
-        false => cause.mend(format!(
+        true => cause.help("take the number in an int variable: `var int v`"),
+        false => cause.help(format!(
             "`let k {name}.f` first, with an int variable k and an int field f, then name k here"
         )),
     }
@@ -154,7 +154,7 @@ fn undeclared(look: &Look, name: Name, role: Role) -> Cause {
             let classes: Vec<String> = look.program.classes.iter().map(|c| shown(c.name)).collect();
             let near = did_you_mean(&shown(name), classes.iter().map(String::as_str));
             let cause = Cause::new(format!("no class `{}` is declared{near}", shown(name)));
-            let cause = cause.or_mend(turned(look));
+            let cause = cause.or_help(turned(look));
             match classes.is_empty() {
                 true => cause.note("a type is `int` or a class, and there is no class"),
                 false => cause.note(format!("a type is `int` or {}", listed(&classes, "or"))),
@@ -231,16 +231,16 @@ fn elsewhere(look: &Look, name: Name, names: &[String]) -> Option<Cause> {
     let shown_name = shown(name);
     Some(match (shown_name.as_str(), look.line()?) {
         ("null", Line::Compute(..)) => Cause::new("`null` is no number")
-            .mend("`let k 0` first, with an int variable k, then name k here"),
+            .help("`let k 0` first, with an int variable k, then name k here"),
         ("null", _) => Cause::new("`null` stands where a variable must stand")
-            .mend("`let p null` first, with a variable p of the class, then name p here"),
+            .help("`let p null` first, with a variable p of the class, then name p here"),
         ("int", _) => Cause::new("`int` is a type, no variable"),
         ("this" | "result", _) if block.header.is_none() => Cause::new(format!(
             "`{shown_name}` stands in methods only, and this is main"
         )),
         ("result", Line::Requires(_)) => {
             Cause::new("`requires` is about the time before the call, which has no `result`")
-                .mend("write it in `ensures`")
+                .help("write it in `ensures`")
         }
         (_, Line::Requires(_) | Line::Ensures(_)) if here => Cause::new(format!(
             "`{shown_name}` is a variable of the body; a contract names only {}",
@@ -290,7 +290,7 @@ fn reserved(name: Name) -> Cause {
         _ => "what a method gives back",
     };
     let name = shown(name);
-    Cause::new(format!("`{name}` is reserved: it is {what}")).mend("take another name")
+    Cause::new(format!("`{name}` is reserved: it is {what}")).help("take another name")
 }
 
 /// Is this the line's declared name?
@@ -322,7 +322,7 @@ fn twice(look: &Look, name: Name) -> Cause {
         Some(line) => Cause::new(format!("`{name}` is declared in line {line} already")),
         None => Cause::new(format!("`{name}` is declared twice")),
     }
-    .mend("take another name, or leave one out")
+    .help("take another name, or leave one out")
 }
 
 fn kind_shown(kind: Kind) -> String {
@@ -362,7 +362,7 @@ fn mismatch(sides: Sides, left: (Expr, Kind), right: (Expr, Kind)) -> Cause {
     };
     let cause = Cause::new(said);
     match other.as_str() {
-        "0" => cause.mend("write `null`, which is no object; 0 is a number"),
+        "0" => cause.help("write `null`, which is no object; 0 is a number"),
         _ => cause,
     }
 }
@@ -371,9 +371,9 @@ fn assigned(look: &Look, name: Name) -> Cause {
     let shown_name = shown(name);
     match name {
         b"result" => Cause::new("`result` is set by `return`, and by nothing else")
-            .mend("`return x`, with a variable x"),
+            .help("`return x`, with a variable x"),
         b"this" => Cause::new("`this` is the receiver, and may not be assigned")
-            .mend("assign a variable of the block"),
+            .help("assign a variable of the block"),
         _ => {
             let header = look.block().and_then(|block| block.header);
             let kind = header.map_or(String::new(), |header| match header.param.kind {
@@ -383,7 +383,7 @@ fn assigned(look: &Look, name: Name) -> Cause {
             Cause::new(format!(
                 "`{shown_name}` is the parameter, and may not be assigned"
             ))
-            .mend(format!("a variable of its own: `var {kind} v`"))
+            .help(format!("a variable of its own: `var {kind} v`"))
         }
     }
 }
@@ -397,7 +397,7 @@ fn same(look: &Look, name: Name) -> Cause {
     Cause::new(format!(
         "`{name_shown}` takes the result of the call, and is {role} too"
     ))
-    .mend("take the result in another variable")
+    .help("take the result in another variable")
 }
 
 /// The atoms of a line that number 10 is about, as they stand on it, and how
@@ -445,7 +445,7 @@ pub fn unframed(text: &[u8], number: u32) -> Option<Cause> {
         text::Atom::Permission(share, y, f) if (*y, *f) == (x, field) => Some(*share),
         _ => None,
     });
-    Some(cause.or_note(other).mend(match later {
+    Some(cause.or_note(other).help(match later {
         _ if condition => format!("write `{acc}` or `{half}` after the condition"),
         Some(share) => format!("move `{}` before it", permission(share, x, field)),
         None => format!("write `{acc}` or `{half}` before it"),

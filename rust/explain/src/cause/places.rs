@@ -53,13 +53,13 @@ pub fn misplaced(text: &[u8], number: u32, reader: &Reader) -> Cause {
     let cause =
         Cause::new(out_of_place(text, number, reader, &word)).mark(field_range(bytes, 0..1));
     let cause = match reader.place {
-        Place::Done => cause.mend("delete the lines after it"),
+        Place::Done => cause.help("delete the lines after it"),
         _ => cause.note(format!("here may stand {}", words(&next_words(reader)))),
     };
     match missing_before(bytes, reader) {
-        Some(lines) => cause.mend(format!("write {} before it", listed(&lines, "and"))),
+        Some(lines) => cause.help(format!("write {} before it", listed(&lines, "and"))),
         None if only_returned(text, number, reader) => {
-            cause.mend("move the line before the `return`, or leave one of them out")
+            cause.help("move the line before the `return`, or leave one of them out")
         }
         None => cause,
     }
@@ -160,7 +160,7 @@ pub fn limit(text: &[u8], number: u32) -> Option<Cause> {
     let bytes = line(text, number)?;
     let word = shown(fields(bytes)[0].1);
     let inner = format!("move the inner `{word}` into a method");
-    let (said, mend) = match reader.passed()? {
+    let (said, help) = match reader.passed()? {
         Limit::Classes => (
             format!("a script has at most {} classes", limits::CLASSES),
             "split the script, or let one class have the fields of two",
@@ -191,7 +191,7 @@ pub fn limit(text: &[u8], number: u32) -> Option<Cause> {
         _ => return None,
     };
     let cause = Cause::new(said).mark(field_range(bytes, 0..usize::MAX));
-    Some(cause.mend(mend))
+    Some(cause.help(help))
 }
 
 /// Number 8.
@@ -214,7 +214,7 @@ pub fn unfinished(text: &[u8]) -> Cause {
     let done = |reader: &Reader| reader.place == Place::Done;
     let cause = Cause::new(said);
     match closing(&reader, done) {
-        Some(lines) => cause.mend(format!(
+        Some(lines) => cause.help(format!(
             "write {} after the last line",
             listed(&lines, "and")
         )),

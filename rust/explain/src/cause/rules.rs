@@ -1,9 +1,9 @@
 //! Numbers 11 to 14: which atom is not shown, for what, where it went, and what
 //! comes nearest to it.
 
-use super::half_mends;
+use super::half_helps;
 use super::halves;
-use super::mends::mend;
+use super::helps::help;
 use super::route::{dropped, lost, route, told, told_fact, Step};
 use super::Cause;
 use crate::script::{field_range, line, listed, shown, Names, Script};
@@ -31,7 +31,7 @@ pub struct Unshown<'s, 'a> {
 }
 
 impl<'s, 'a> Unshown<'s, 'a> {
-    fn of(script: &'s Script<'a>, asked: &'s Asked<'a>) -> Option<Unshown<'s, 'a>> {
+    pub fn of(script: &'s Script<'a>, asked: &'s Asked<'a>) -> Option<Unshown<'s, 'a>> {
         let bare = |expr: Expr<'a>| match expr {
             Expr::Path(path) if asked.state.resolve(expr).is_err() => Some(path),
             _ => None,
@@ -73,7 +73,7 @@ impl<'s, 'a> Unshown<'s, 'a> {
     }
 
     /// Where the states that led here end: at a `join` with the branch.
-    fn target(&self) -> usize {
+    pub fn target(&self) -> usize {
         match self.asked.purpose {
             Purpose::FirstEnd => self.branch().map_or(self.asked.place, |branch| branch.1),
             _ => self.asked.place,
@@ -339,8 +339,8 @@ fn full(script: &Script, record: &Record, number: u32) -> Option<Cause> {
     let cause = Cause::new(text).mark(field_range(bytes, 0..usize::MAX));
     // A fact of what is released passes on where something is equal to it.
     Some(match permissions < facts {
-        true => cause.mend("move a part into a method, whose `ensures` says only what is needed"),
-        false => cause.mend("`release` what is not needed any more, or move a part into a method"),
+        true => cause.help("move a part into a method, whose `ensures` says only what is needed"),
+        false => cause.help("`release` what is not needed any more, or move a part into a method"),
     })
 }
 
@@ -348,25 +348,30 @@ fn full(script: &Script, record: &Record, number: u32) -> Option<Cause> {
 pub fn cause(text: &[u8], number: u32) -> Option<Cause> {
     let script = Script::of(text)?;
     let record = Record::of(&script.lines, &script.program)?;
+    cause_in(&script, &record, number)
+}
+
+/// The same, of a check that was written down.
+pub fn cause_in(script: &Script, record: &Record, number: u32) -> Option<Cause> {
     if record.refusal?.number == STATE_FULL {
-        return full(&script, &record, number);
+        return full(script, record, number);
     }
     let asked = record.asked.as_ref()?;
-    let unshown = Unshown::of(&script, asked)?;
-    let bytes = line(text, number)?;
+    let unshown = Unshown::of(script, asked)?;
+    let bytes = line(script.text, number)?;
     let cause = Cause::new(unshown.said()).mark(unshown.mark(bytes));
     if let Some(short) = halves::short(&unshown) {
-        let steps = route(&script, &record, unshown.target());
+        let steps = route(script, record, unshown.target());
         return Some(short.told(cause, &unshown, &steps));
     }
     if let Some(taken) = unshown.taken() {
         return Some(cause.note(taken));
     }
     let names = unshown.names();
-    let steps = route(&script, &record, unshown.target());
+    let steps = route(script, record, unshown.target());
     let lost_at = lost(&steps, unshown.wanted);
     let cause = match lost_at {
-        Some(place) => cause.note(told(&script, place, unshown.wanted)),
+        Some(place) => cause.note(told(script, place, unshown.wanted)),
         None if unshown.read.is_some() => {
             cause.note(format!("neither was ever held in {}", names.title()))
         }
@@ -380,7 +385,7 @@ pub fn cause(text: &[u8], number: u32) -> Option<Cause> {
     };
     let cause = cause.or_note(nearest(&names, &asked.state, unshown.wanted));
     let cause = cause.or_note(halves::may_be_one(&names, &asked.state, unshown.wanted));
-    let wanted = half_mends::offered(&unshown, &steps, lost_at);
+    let wanted = half_helps::offered(&unshown, &steps, lost_at);
     let unshown = Unshown { wanted, ..unshown };
-    Some(cause.or_mend(mend(&unshown, &steps, lost_at)))
+    Some(cause.or_help(help(&unshown, &steps, lost_at)))
 }

@@ -1,8 +1,9 @@
 //! Why a run stopped, and the calls that are open then.
 
+use super::history::{open_loops, same_card, Trail};
 use super::stopped_halves::{half_written, lack, with_other};
 use super::Cause;
-use crate::rounds::Rounds;
+use crate::rounds::Open;
 use crate::script::{field_range, line, quoted, shown, Names, Script};
 use model::machine::{Machine, Step, Values};
 use model::names::{Action, Atom, Expr, Path, Type};
@@ -11,7 +12,7 @@ use model::text::Operator;
 use model::watch::{Halt, Tested};
 
 /// Longer runs are not done again to say more about them.
-pub const AGAIN: u32 = 5_000_000;
+pub const AGAIN: u32 = 20_000_000;
 
 /// The machine after so many steps, at the step that stopped.
 pub fn machine_at<'p, 'a>(script: &'p Script<'a>, steps: u32) -> Machine<'p, 'a> {
@@ -106,15 +107,19 @@ fn path_kind<'a>(machine: &Machine<'_, 'a>, values: &Values, path: Path) -> Opti
 /// Why the step after so many steps stopped with the number; none if the model
 /// does not stop so.
 pub fn stop_cause(text: &[u8], steps: u32, stop: u32) -> Option<Cause> {
-    let script = Script::of(text).filter(|_| steps <= AGAIN)?;
+    let script = Script::of(text)?;
     if stop == number::OUT_OF_STEPS {
         return in_a_loop(&script, steps);
     }
-    let mut machine = machine_at(&script, steps);
+    if steps > AGAIN {
+        return None;
+    }
+    let (mut machine, trail) = Trail::of(&script, steps);
     if machine.steps != steps || machine.step() != Err(stop) {
         return None;
     }
     let halt = machine.halt?;
+    let history = history(&script, &machine, &trail, halt);
     let names = script.names(machine.frame().block);
     let statement = machine.statement();
     let tested = formula(&script, &machine, halt.tested);
@@ -127,7 +132,8 @@ pub fn stop_cause(text: &[u8], steps: u32, stop: u32) -> Option<Cause> {
         let looping = matches!(statement.action, Action::Loop(_));
         let mark = field_range(bytes, 1..4).filter(|_| looping);
         let cause = said.map(|said| Cause::new(said).mark(mark));
-        return cause.map(|cause| with_other(cause, &script, &machine, halt));
+        let cause = cause.map(|cause| with_other(cause, &script, &machine, halt));
+        return cause.map(|cause| history.into_iter().fold(cause, Cause::note));
     };
     let said = false_atom(&machine, &names, &tested, *tested.atoms.get(at)?, halt)?;
     let first = match halt.tested {
@@ -137,7 +143,57 @@ pub fn stop_cause(text: &[u8], steps: u32, stop: u32) -> Option<Cause> {
     };
     let mark = first.and_then(|at| field_range(bytes, 1 + 3 * at..4 + 3 * at));
     let cause = Cause::new(said).mark(mark);
-    Some(with_other(cause, &script, &machine, halt))
+    let cause = with_other(cause, &script, &machine, halt);
+    Some(history.into_iter().fold(cause, Cause::note))
+}
+
+/// What led to the stop: where values came from and permissions went.
+fn history(script: &Script, machine: &Machine, trail: &Trail, halt: Halt) -> Vec<String> {
+    let tested = formula(script, machine, halt.tested);
+    let frame = machine.frame();
+    let own = script.names(frame.block);
+    let (names, values) = match &tested {
+        Some(tested) => (tested.names, tested.values),
+        None => (own, frame.values),
+    };
+    let inside = !matches!(halt.tested, Tested::Requires);
+    let var = |var| trail.of_var(script, &own, var).filter(|_| inside);
+    let mut found = Vec::new();
+    match (halt.number, halt.path) {
+        (number::PERMISSION_MISSING, Some(path)) => {
+            // Where one half is held, what is said of the other tells it.
+            let none = halt.missing.is_none_or(|missing| missing.held == 0);
+            let went = trail.of_permission(script, machine, &names, &values, path);
+            found.extend(went.filter(|_| none));
+            found.extend(same_card(&names, &values, path.var));
+        }
+        (number::NULL_FOLLOWED, Some(path)) => found.extend(var(path.var)),
+        (number::NULL_FOLLOWED, None) => {
+            if let Action::Call(call) = machine.statement().action {
+                found.extend(var(call.y));
+            }
+        }
+        (number::FORMULA_FALSE, _) => {
+            let atom = halt.atom.zip(tested.as_ref());
+            let atom = atom.and_then(|(at, tested)| tested.atoms.get(at));
+            if let Some(Atom::Eq(left, right) | Atom::Ne(left, right)) = atom {
+                for side in [*left, *right] {
+                    let path = matches!(side, Expr::Path(_));
+                    let told = trail.of_expr(script, machine, &names, &values, side);
+                    found.extend(told.filter(|_| inside || path));
+                }
+            }
+        }
+        (number::OVERFLOW, _) => {
+            if let Action::Compute(compute) = machine.statement().action {
+                found.extend(var(compute.y));
+                found.extend(var(compute.z).filter(|_| compute.y != compute.z));
+            }
+            found.extend(open_loops(script, trail));
+        }
+        _ => {}
+    }
+    found
 }
 
 /// Whether the last step came back to the `loop` at which the machine stands.
@@ -154,29 +210,117 @@ fn arrival(script: &Script, machine: &Machine) -> String {
 /// So many rounds of a loop are told of.
 const ROUNDS: u32 = 2;
 
-/// Number 21: the loop that took the steps, and whether it ever ends.
+/// Number 21: the loop that took the steps, and whether it ever ends. Of a longer
+/// run its first steps are done again.
 fn in_a_loop(script: &Script, steps: u32) -> Option<Cause> {
-    let mut machine = Machine::new(&script.program);
-    let mut rounds = Rounds::default();
-    while machine.steps < steps && rounds.step(&mut machine) == Ok(Step::On) {}
-    let open = rounds.most();
-    let open = open.filter(|open| machine.steps == steps && open.rounds >= ROUNDS)?;
+    let looked = steps.min(AGAIN);
+    let (mut machine, mut trail) = Trail::of(script, looked);
+    let open = trail.rounds.most();
+    let open = open.filter(|open| machine.steps == looked && open.rounds >= ROUNDS)?;
     let statement = &script.program.statements[open.place];
     let Action::Loop(opened) = &statement.action else {
         return None;
     };
     let condition = script.names_at(open.place).atom(opened.condition);
+    let after = match looked < steps {
+        true => format!("after {looked} steps "),
+        false => String::new(),
+    };
     let said = format!(
-        "the loop of line {} has done {} rounds",
+        "{after}the loop of line {} has done {} rounds",
         statement.line, open.rounds
     );
-    Some(match rounds.for_ever(&mut machine, open) {
-        true => Cause::new(format!(
+    let loops = open_loops(script, &trail);
+    let notes = [reads(script, opened), moves(script, looked, open)];
+    let loops = loops.into_iter().filter(|_| trail.rounds.all().len() > 1);
+    let notes: Vec<String> = notes.into_iter().flatten().chain(loops).collect();
+    let cause = match trail.rounds.for_ever(&mut machine, open) {
+        Some(1) => Cause::new(format!(
             "{said}, and it never ends: a round changes nothing"
         ))
-        .mend(format!("let the body change what `{condition}` reads")),
-        false => Cause::new(format!("{said}, and `{condition}` is not false yet")),
+        .help(format!("let the body change what `{condition}` reads")),
+        Some(rounds) => Cause::new(format!(
+            "{said}, and it never ends: everything is as it was {rounds} rounds before"
+        )),
+        None => Cause::new(format!("{said}, and `{condition}` is not false yet")),
+    };
+    Some(notes.into_iter().fold(cause, Cause::note))
+}
+
+/// What a condition reads that no line of the body changes.
+fn reads(script: &Script, opened: &model::names::Loop) -> Option<String> {
+    let again = &script.program.statements[opened.again];
+    let Action::Again(start) = again.action else {
+        return None;
+    };
+    let names = script.names_at(start);
+    let body = &script.program.statements[start + 1..opened.again];
+    let (Atom::Eq(left, right) | Atom::Ne(left, right)) = opened.condition else {
+        return None;
+    };
+    let calls = body
+        .iter()
+        .any(|line| matches!(line.action, Action::Call(_)));
+    let changed = |side: Expr| {
+        let var = |x| match side {
+            Expr::Var(var) => var == x,
+            Expr::Path(path) => path.var == x,
+            _ => false,
+        };
+        body.iter().any(|line| match &line.action {
+            Action::Let(x, _) | Action::New(x, _) => var(*x),
+            Action::Compute(compute) => var(compute.x),
+            Action::Call(call) => var(call.x),
+            Action::Set(path, _) => matches!(side, Expr::Path(read) if read.field == path.field),
+            _ => false,
+        }) || (calls && matches!(side, Expr::Path(_)))
+    };
+    let read = [left, right].into_iter();
+    let read: Vec<Expr> = read
+        .filter(|side| matches!(side, Expr::Var(_) | Expr::Path(_)))
+        .collect();
+    let fixed = !read.is_empty() && !read.iter().any(|&side| changed(side));
+    let shown: Vec<String> = read.iter().map(|&side| names.expr(side)).collect();
+    fixed.then(|| {
+        let shown = crate::script::listed(&shown, "and");
+        format!("no line of the body changes {shown}, which the condition reads")
     })
+}
+
+/// By how much the numbers that the condition of a loop reads moved in the last
+/// round that was done.
+fn moves(script: &Script, steps: u32, open: Open) -> Option<String> {
+    let place = open.place;
+    let Action::Loop(opened) = &script.program.statements[place].action else {
+        return None;
+    };
+    let (Atom::Eq(left, right) | Atom::Ne(left, right)) = opened.condition else {
+        return None;
+    };
+    let names = script.names_at(place);
+    let mut arrivals: [Option<Values>; 2] = [None; 2];
+    let mut machine = Machine::new(&script.program);
+    while machine.steps < steps {
+        if (machine.frames.len(), machine.frame().next) == (open.depth, place) {
+            arrivals = [arrivals[1], Some(machine.frame().values)];
+        }
+        if machine.step() != Ok(Step::On) {
+            break;
+        }
+    }
+    let (one, other) = arrivals[0].zip(arrivals[1])?;
+    let moved = [left, right].into_iter().filter_map(|side| {
+        let Expr::Var(var) = side else { return None };
+        let int = names.kind(var) == Some(Type::Int);
+        let (from, to) = (i64::from(one[var]), i64::from(other[var]));
+        let name = names.var(var);
+        int.then(|| match to - from {
+            0 => format!("`{name}` stayed {to}"),
+            by => format!("`{name}` went from {from} to {to}, by {by}"),
+        })
+    });
+    let moved: Vec<String> = moved.collect();
+    (!moved.is_empty()).then(|| format!("in its last round {}", moved.join(", ")))
 }
 
 /// Why an atom of a formula stopped the step.

@@ -1,6 +1,6 @@
-//! Mends for halves: who keeps the other one, and whether a half is enough.
+//! Help with halves: who keeps the other one, and whether a half is enough.
 
-use super::mends::in_contract;
+use super::helps::in_contract;
 use super::route::{named, Step};
 use super::rules::Unshown;
 use crate::script::{line, shown, Names, Script};
@@ -16,9 +16,9 @@ struct Keeper<'s, 'a> {
     of: String,
 }
 
-/// The mend, where the check then comes past the line: a `read` made `acc`, or
+/// What helps, where the check then comes past the line: a `read` made `acc`, or
 /// the other half given back.
-pub fn mend(unshown: &Unshown, gone: Option<usize>) -> Option<String> {
+pub fn help(unshown: &Unshown, gone: Option<usize>) -> Option<String> {
     let Atom::Permission(_, path) = unshown.wanted else {
         return None;
     };
@@ -134,7 +134,7 @@ fn past(unshown: &Unshown, number: u32, new: &str) -> bool {
     reached(unshown.script, number, new) > asks
 }
 
-/// What a mend offers for a path that is read: both halves where both were held
+/// What the help offers for a path that is read: both halves where both were held
 /// before they went, or where the block needs them, else one.
 pub fn offered<'a>(
     unshown: &Unshown<'_, 'a>,

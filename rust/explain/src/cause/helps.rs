@@ -1,4 +1,4 @@
-//! Mends that fit what a rule does not show.
+//! What may help where a rule does not show.
 
 use super::route::{assigned, named, Step};
 use super::rules::Unshown;
@@ -7,21 +7,21 @@ use model::checker::Term;
 use model::names::{Action, Atom, Call, Expr, Path, Type, Var, FIRST_LOCAL, PARAM, RESULT, THIS};
 use model::number::DONE;
 
-/// A mend that fits, where one is to be seen.
-pub fn mend(unshown: &Unshown, steps: &[Step], lost_at: Option<usize>) -> Option<String> {
+/// What may help, where that is to be seen.
+pub fn help(unshown: &Unshown, steps: &[Step], lost_at: Option<usize>) -> Option<String> {
     let Some(at) = lost_at else {
         return never_shown(unshown, steps);
     };
     let statement = &unshown.script.program.statements[at];
     match &statement.action {
-        Action::Call(call) => mend_of_call(unshown, *call, unshown.wanted),
+        Action::Call(call) => help_of_call(unshown, *call, unshown.wanted),
         Action::Join(_) => {
             let wanted = unshown.names().atom(unshown.wanted);
             let line = statement.line;
             Some(format!("add `{wanted}` to the `join` of line {line}"))
         }
-        Action::Loop(_) | Action::Again(_) => mend_of_loop(unshown, at),
-        _ if unshown.round().is_some() => mend_of_round(unshown),
+        Action::Loop(_) | Action::Again(_) => help_of_loop(unshown, at),
+        _ if unshown.round().is_some() => help_of_round(unshown),
         Action::Compute(_) => tested(unshown),
         _ => None,
     }
@@ -29,7 +29,7 @@ pub fn mend(unshown: &Unshown, steps: &[Step], lost_at: Option<usize>) -> Option
 
 /// The atom added to a loop that forgets it, if the check then comes past the
 /// line that wants it and the loop's `again`.
-fn mend_of_loop(unshown: &Unshown, at: usize) -> Option<String> {
+fn help_of_loop(unshown: &Unshown, at: usize) -> Option<String> {
     let statements = &unshown.script.program.statements;
     let opened = named(unshown.script, at);
     let Action::Loop(rounds) = &opened.action else {
@@ -54,7 +54,7 @@ fn mend_of_loop(unshown: &Unshown, at: usize) -> Option<String> {
 }
 
 /// What to do for an atom of an invariant that the body makes go.
-fn mend_of_round(unshown: &Unshown) -> Option<String> {
+fn help_of_round(unshown: &Unshown) -> Option<String> {
     let line = unshown.round()?.line;
     match unshown.wanted {
         Atom::Permission(..) => None,
@@ -172,7 +172,7 @@ fn computed(unshown: &Unshown, steps: &[Step], side: Expr) -> bool {
     last.is_some_and(|last| matches!(last.action, Action::Compute(_)))
 }
 
-fn mend_of_call(unshown: &Unshown, call: Call, atom: Atom) -> Option<String> {
+fn help_of_call(unshown: &Unshown, call: Call, atom: Atom) -> Option<String> {
     let method = unshown.script.names(call.method);
     let (_, ensures) = unshown.script.contract_lines(call.method);
     let var = |var| in_contract(call, &method, var);
