@@ -1,14 +1,21 @@
-# make                      the command and the library; proves what is not proved yet
+# make                      the command and the libraries; proves what is not proved yet
 # make check                the gate: every proof, every must-fail edit, every test
 # make install PREFIX=DIR   builds and installs (DESTDIR for packages); make uninstall removes it again
 # make index                target/INDEX.md: each sentence of the papers, its definitions, laws and code
 # make soak                 the library beside the model on 10 million texts (TEXTS=N for another number)
 # make same-bytes           builds libstation.a in two folders and compares the two
+# make wheel                the Python package with the shared library inside; make check-python tests it
+# make check-r              R CMD check of the package for R, where R is installed
+# make deb                  Debian packages of the command and the libraries; make check-deb installs and removes them in a test folder
+# make dist                 the source archive, with the sums of the proved library; make check-dist unpacks it and compares them
+# make mutants              how many wrong definitions the examples refuse
 #
 # STATION_LIB names a libstation.a that is already made: then nothing is proved here.
 
 PREFIX ?= /usr/local
 VERSION := $(shell cat VERSION)
+# The first number of the version, which is that of the soname.
+MAJOR := $(firstword $(subst ., ,$(VERSION)))
 
 bindir = $(PREFIX)/bin
 libdir = $(PREFIX)/lib
@@ -22,20 +29,28 @@ cratedir = $(owndir)/rust/host
 
 COMMAND ?= rust/target/release/station
 LIBRARY ?= target/libnuyardi.a
+SHARED ?= target/libnuyardi.so
+# The library of explanations: built where its crate is there, installed where it is built.
+EXPLAIN ?= rust/target/release/libnuyardi_explain.so
 INSTALL ?= install
 CARGO ?= cargo
 
-.PHONY: all library command check install install-files uninstall index soak same-bytes
+.PHONY: all library explain command check install install-files install-command install-shared install-dev uninstall index soak same-bytes mutants
 
-all: library command
+all: library explain command
 
 library:
 ifdef STATION_LIB
+	mkdir -p target
 	tools/c-library "$(STATION_LIB)" $(LIBRARY)
 else
 	tools/prove-library
 	tools/c-library target/staticlib/libstation.a $(LIBRARY)
 endif
+	tools/shared-library $(LIBRARY) $(SHARED)
+
+explain: library
+	$(if $(wildcard rust/explain-c),cd rust && $(CARGO) build --release --offline -p explain-c)
 
 command: library
 	cd rust && $(CARGO) build --release --offline -p cli
@@ -46,35 +61,58 @@ check:
 install: all
 	$(MAKE) install-files
 
-# Only copies; what it copies was built before.
-install-files:
+# These only copy; what they copy was built before.
+install-files: install-command install-shared install-dev
+
+# The command, the documents and the editors' files.
+install-command:
 	$(INSTALL) -D -m 755 $(COMMAND) "$(DESTDIR)$(bindir)/station"
-	$(INSTALL) -D -m 644 $(LIBRARY) "$(DESTDIR)$(libdir)/libnuyardi.a"
-	$(INSTALL) -D -m 644 include/station.h "$(DESTDIR)$(includedir)/station.h"
-	$(INSTALL) -d "$(DESTDIR)$(libdir)/pkgconfig" "$(DESTDIR)$(mandir)/man1" "$(DESTDIR)$(datadir)/bash-completion/completions"
+	$(INSTALL) -d "$(DESTDIR)$(mandir)/man1" "$(DESTDIR)$(datadir)/bash-completion/completions"
 	$(INSTALL) -d "$(DESTDIR)$(datadir)/zsh/site-functions" "$(DESTDIR)$(datadir)/fish/vendor_completions.d"
-	printf '%s\n' 'prefix=$(PREFIX)' 'libdir=$(libdir)' 'includedir=$(includedir)' '' 'Name: nuyardi' \
-	    'Description: Check and run catalogue scripts' 'Version: $(VERSION)' 'Cflags: -I$${includedir}' 'Libs: -L$${libdir} -lnuyardi' \
-	    >"$(DESTDIR)$(libdir)/pkgconfig/nuyardi.pc"
 	$(COMMAND) man >"$(DESTDIR)$(mandir)/man1/station.1"
 	$(COMMAND) completions bash >"$(DESTDIR)$(datadir)/bash-completion/completions/station"
 	$(COMMAND) completions zsh >"$(DESTDIR)$(datadir)/zsh/site-functions/_station"
 	$(COMMAND) completions fish >"$(DESTDIR)$(datadir)/fish/vendor_completions.d/station.fish"
-	$(INSTALL) -d "$(DESTDIR)$(docdir)/papers" "$(DESTDIR)$(cratedir)/src"
+	$(INSTALL) -d "$(DESTDIR)$(docdir)/papers"
 	$(INSTALL) -m 644 README.md docs/*.md "$(DESTDIR)$(docdir)"
 	$(INSTALL) -m 644 docs/papers/*.md "$(DESTDIR)$(docdir)/papers"
-	for file in $$(find examples editors hosts -type f ! -path '*/target/*'); do $(INSTALL) -D -m 644 "$$file" "$(DESTDIR)$(owndir)/$$file" || exit 1; done
+	for file in $$(find editors -type f); do $(INSTALL) -D -m 644 "$$file" "$(DESTDIR)$(owndir)/$$file" || exit 1; done
+
+# The shared libraries, as a program that is linked with them finds them.
+install-shared:
+	$(INSTALL) -D -m 644 $(SHARED) "$(DESTDIR)$(libdir)/libnuyardi.so.$(VERSION)"
+	ln -sf libnuyardi.so.$(VERSION) "$(DESTDIR)$(libdir)/libnuyardi.so.$(MAJOR)"
+	$(if $(wildcard $(EXPLAIN)),$(INSTALL) -m 644 $(EXPLAIN) "$(DESTDIR)$(libdir)/libnuyardi_explain.so")
+
+# Fills in a file of packaging/ that ends in .in.
+fill = sed -e 's|@PREFIX@|$(PREFIX)|' -e 's|@LIBDIR@|$(libdir)|' -e 's|@INCLUDEDIR@|$(includedir)|' \
+    -e "s|@HEADERS@|$$(realpath -m --relative-to="$(libdir)" "$(includedir)")|" -e 's|@VERSION@|$(VERSION)|' -e 's|@MAJOR@|$(MAJOR)|'
+
+# What a program is built with: the static library, the header, pkg-config, CMake and the Rust crate; host programs and scripts.
+install-dev:
+	$(INSTALL) -D -m 644 $(LIBRARY) "$(DESTDIR)$(libdir)/libnuyardi.a"
+	ln -sf libnuyardi.so.$(MAJOR) "$(DESTDIR)$(libdir)/libnuyardi.so"
+	$(INSTALL) -D -m 644 include/station.h "$(DESTDIR)$(includedir)/station.h"
+	$(if $(wildcard $(EXPLAIN)),$(INSTALL) -m 644 include/nuyardi_explain.h "$(DESTDIR)$(includedir)/nuyardi_explain.h")
+	$(INSTALL) -d "$(DESTDIR)$(libdir)/pkgconfig" "$(DESTDIR)$(libdir)/cmake/nuyardi" "$(DESTDIR)$(cratedir)/src"
+	for name in nuyardi nuyardi-static $(if $(wildcard $(EXPLAIN)),nuyardi-explain); do \
+	    $(fill) packaging/pkgconfig/$$name.pc.in >"$(DESTDIR)$(libdir)/pkgconfig/$$name.pc" || exit 1; done
+	for name in nuyardi-config nuyardi-config-version; do \
+	    $(fill) packaging/cmake/$$name.cmake.in >"$(DESTDIR)$(libdir)/cmake/nuyardi/$$name.cmake" || exit 1; done
+	for file in $$(find examples hosts -type f ! -path '*/target/*'); do $(INSTALL) -D -m 644 "$$file" "$(DESTDIR)$(owndir)/$$file" || exit 1; done
 	$(INSTALL) -m 644 rust/host/build.rs "$(DESTDIR)$(cratedir)"
 	$(INSTALL) -m 644 rust/host/src/*.rs "$(DESTDIR)$(cratedir)/src"
 	sed -e 's/^version.workspace = true/version = "$(VERSION)"/' -e '/^\[dev-dependencies\]/,$$d' rust/host/Cargo.toml >"$(DESTDIR)$(cratedir)/Cargo.toml"
 	tools/limits >"$(DESTDIR)$(cratedir)/limits.rs"
 
 uninstall:
-	rm -f "$(DESTDIR)$(bindir)/station" "$(DESTDIR)$(libdir)/libnuyardi.a" "$(DESTDIR)$(includedir)/station.h"
-	rm -f "$(DESTDIR)$(libdir)/pkgconfig/nuyardi.pc" "$(DESTDIR)$(mandir)/man1/station.1"
+	rm -f "$(DESTDIR)$(bindir)/station" "$(DESTDIR)$(includedir)/station.h" "$(DESTDIR)$(mandir)/man1/station.1"
+	rm -f "$(DESTDIR)$(libdir)/libnuyardi.a" "$(DESTDIR)$(libdir)/libnuyardi.so" "$(DESTDIR)$(libdir)/libnuyardi.so.$(MAJOR)"
+	rm -f "$(DESTDIR)$(libdir)/libnuyardi.so.$(VERSION)" "$(DESTDIR)$(libdir)/libnuyardi_explain.so" "$(DESTDIR)$(includedir)/nuyardi_explain.h"
+	rm -f "$(DESTDIR)$(libdir)/pkgconfig/nuyardi.pc" "$(DESTDIR)$(libdir)/pkgconfig/nuyardi-static.pc" "$(DESTDIR)$(libdir)/pkgconfig/nuyardi-explain.pc"
 	rm -f "$(DESTDIR)$(datadir)/bash-completion/completions/station" "$(DESTDIR)$(datadir)/zsh/site-functions/_station"
 	rm -f "$(DESTDIR)$(datadir)/fish/vendor_completions.d/station.fish"
-	rm -rf "$(DESTDIR)$(docdir)" "$(DESTDIR)$(owndir)"
+	rm -rf "$(DESTDIR)$(libdir)/cmake/nuyardi" "$(DESTDIR)$(docdir)" "$(DESTDIR)$(owndir)"
 
 index:
 	mkdir -p target
@@ -88,3 +126,8 @@ soak: library
 
 same-bytes:
 	tools/same-bytes
+
+include packaging/packages.mk
+
+mutants:
+	tools/mutants/run

@@ -1,4 +1,5 @@
-/* Catalogue scripts: check, run, trial and bound, the functions of libnuyardi.a.
+/* Catalogue scripts: check, run, trial and bound, the functions of libnuyardi.a and
+ * libnuyardi.so.
  *
  * Each returns number * 65536 + line (STATION_NUMBER, STATION_LINE). For every
  * content of the text and of the areas, number, line and every byte of the areas
@@ -31,7 +32,7 @@
 extern "C" {
 #endif
 
-#define STATION_VERSION "0.7.0"
+#define STATION_VERSION "0.8.0"
 
 /* Lengths of the areas, in bytes: each call takes these and no other. */
 #define STATION_WORK_BYTES 65536
@@ -66,16 +67,16 @@ enum station_number {
     STATION_TYPE = 7,               /* wrong type */
     STATION_UNFINISHED = 8,         /* text ends before main's `end` */
     STATION_ASSIGNED = 9,           /* variable that may not be assigned; `call x` with x as y or z */
-    STATION_UNFRAMED = 10,          /* path read before its `acc` */
+    STATION_UNFRAMED = 10,          /* path read before its `acc` or `read` */
     STATION_UNRESOLVED = 11,        /* path that does not resolve */
     STATION_NO_PERMISSION = 12,     /* permission not shown */
     STATION_NOT_SHOWN = 13,         /* `eq` or `ne` not shown */
     STATION_STATE_FULL = 14,        /* checker's state full */
     STATION_UNBOUNDED = 15,         /* `loop`, or `call` that can lead back to its own method */
-    STATION_BOUND_PASSED = 16,      /* bound above STATION_BOUND */
+    STATION_BOUND_PASSED = 16,      /* bound above STATION_BOUND steps */
     STATION_OUT_OF_STEPS = 21,      /* allowed steps taken */
-    STATION_HEAP_FULL = 22,         /* more than STATION_OBJECTS or STATION_FIELDS */
-    STATION_FRAMES_FULL = 23,       /* more than STATION_FRAMES */
+    STATION_HEAP_FULL = 22,         /* more than STATION_OBJECTS objects or STATION_FIELDS fields */
+    STATION_FRAMES_FULL = 23,       /* more than STATION_FRAMES frames */
     STATION_PERMISSION_MISSING = 24, /* permission missing */
     STATION_NULL_FOLLOWED = 25,     /* null followed */
     STATION_FORMULA_FALSE = 26,     /* formula false */

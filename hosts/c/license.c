@@ -1,8 +1,10 @@
 /* Checks a script; if it is accepted, runs it for at most 1,000 steps and prints
  * the values of main's variables.
  *
- *   cc -o license license.c $(pkg-config --cflags --libs nuyardi)
+ *   cc -o license license.c $(pkg-config --cflags --libs nuyardi-static)
  *   ./license FILE
+ *
+ * With `nuyardi` in place of `nuyardi-static` it takes the shared library.
  */
 #include <station.h>
 

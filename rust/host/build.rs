@@ -3,7 +3,8 @@
 //! In the repository, `tools/prove-library` proves and makes libstation.a, if it
 //! was not made from the same sources before, and `tools/c-library` makes
 //! libnuyardi.a of it, whose names clash with no others. The environment
-//! variable STATION_LIB names another libstation.a to take instead.
+//! variable STATION_LIB names another libstation.a to take instead. Without the
+//! feature `library` none is made or linked.
 //!
 //! Where the crate is installed, both libnuyardi.a and the limits are there.
 
@@ -48,8 +49,15 @@ fn proved_library(root: &Path) -> PathBuf {
     root.join("target/staticlib/libstation.a")
 }
 
-/// Makes both in the build's folder, from the repository.
-fn in_repository(root: &Path, out: &Path) -> Vec<u8> {
+/// Links libnuyardi.a of a folder; builds of crates over this one get its path
+/// as DEP_NUYARDI_LIBRARY.
+fn linked(folder: &Path) {
+    println!("cargo:rustc-link-search=native={}", folder.display());
+    println!("cargo:library={}", folder.join("libnuyardi.a").display());
+}
+
+/// Makes libnuyardi.a in the build's folder.
+fn made_library(root: &Path, out: &Path) {
     println!("cargo:rerun-if-env-changed=STATION_LIB");
     let named = std::env::var_os("STATION_LIB").map(PathBuf::from);
     let library = named.unwrap_or_else(|| proved_library(root));
@@ -57,7 +65,14 @@ fn in_repository(root: &Path, out: &Path) -> Vec<u8> {
     let header = root.join("include/station.h");
     println!("cargo:rerun-if-changed={}", header.display());
     tool(root, "c-library", &[&library, &out.join("libnuyardi.a")]);
-    println!("cargo:rustc-link-search=native={}", out.display());
+    linked(out);
+}
+
+/// Makes both, from the repository.
+fn in_repository(root: &Path, out: &Path, linked: bool) -> Vec<u8> {
+    if linked {
+        made_library(root, out);
+    }
     let source = root.join("crates/rules/src/lib.rt");
     println!("cargo:rerun-if-changed={}", source.display());
     tool(root, "limits", &[])
@@ -67,7 +82,7 @@ fn in_repository(root: &Path, out: &Path) -> Vec<u8> {
 /// is this crate, PREFIX/lib has the library.
 fn installed(host: &Path) -> Vec<u8> {
     let libraries = host.join("../../../../lib");
-    println!("cargo:rustc-link-search=native={}", libraries.display());
+    linked(&libraries);
     let limits = host.join("limits.rs");
     println!("cargo:rerun-if-changed={}", limits.display());
     fs::read(&limits).unwrap_or_else(|error| fail(format!("{}: {error}", limits.display())))
@@ -80,12 +95,15 @@ fn main() {
     };
     println!("cargo:rerun-if-changed=build.rs");
     let root = host.join("../..");
+    let linked = variable("CARGO_FEATURE_LIBRARY").is_some();
     let limits = match root.join("crates.txt").exists() {
-        true => in_repository(&root, &out),
+        true => in_repository(&root, &out, linked),
         false => installed(&host),
     };
     if let Err(error) = fs::write(out.join("limits.rs"), limits) {
         fail(format!("{}: {error}", out.display()));
     }
-    println!("cargo:rustc-link-lib=static=nuyardi");
+    if linked {
+        println!("cargo:rustc-link-lib=static=nuyardi");
+    }
 }

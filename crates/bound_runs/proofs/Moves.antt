@@ -52,7 +52,7 @@ Stays m m′ = (m′ .frame .row ≡ suc (m .frame .row)) × (m′ .callers ≡ 
 
 set-stays : (x f y : ℕ) (m m′ : Config) → setStep x f y m ≡ ok m′ → Stays m m′
 unfolding setStep stored advance jump
-set-stays x f y m m′ e = let (p, _, q) = bind-ok (locate (m .frame) x f) e in subst (Stays m) (ok-inj q) (refl, refl)
+set-stays x f y m m′ e = let (p, _, q) = bind-ok (locate (m .frame) [] 2 x f) e in subst (Stays m) (ok-inj q) (refl, refl)
 
 assign-stays : (x : ℕ) (a : Expr ℕ) (m m′ : Config) → assignStep x a m ≡ ok m′ → Stays m m′
 unfolding assignStep withFrame advance jump bind

@@ -1,36 +1,39 @@
--- The first entry that passes, and the others.
-use mathlib.Core.Path.{_≡_, refl, sym, ap, ap₂, _∙_}
-use mathlib.Core.Bool.{Bool, true, false, cond, not, _&&_, _||_}
-use mathlib.Core.List.{List, [], _∷_, _++_}
+-- The first entry that gives way, and the list with what comes in its place.
+use mathlib.Core.Path.{_≡_, refl, sym, ap, _∙_}
+use mathlib.Core.Bool.{Bool, true, false, cond, _&&_}
+use mathlib.Core.List.{List, [], _∷_, _++_, append-assoc, append-nil}
 use mathlib.Core.Option.{Option, none, some}
-use mathlib.Core.Logic.{⊎-elim}
-use Prim.Native.Nat.{ℕ, zero, suc, _<_}
+use mathlib.Core.Logic.{_⊎_, inl, inr, ⊎-elim}
+use Prim.Native.Nat.{ℕ, zero, suc, _-_, _≤_, _<_}
 use native.Mathlib.Omega.{arith}
+use lib.Dec.{eqb, leb}
+use borrow.Author.Tests.{lt-leb}
 use lib.ListN.{length, getD, set}
 use lib.Seq.{getD-set-same, getD-set-other}
-use Rattle.rules.specs.Base.{any, bindOption}
-use Rattle.rules.specs.State.{Permission, Split, split}
+use Rattle.rules.specs.Base.{bindOption}
+use Rattle.rules.specs.Syntax.{acc, read, var}
+use Rattle.rules.specs.State.{Permission, Equality, Split, entry, names, leaves, withPermit, giving, split, joining, joins}
 use Rattle.rules.proofs.Lists.{decide-eq}
-use Rattle.check_equality.specs.Listing.{listed}
-use Rattle.check_equality.proofs.Listing.{any-append}
-use Rattle.check_entries.specs.Entries.{kept, gone}
-use Rattle.check_state.specs.Questions.{places}
-use Rattle.check_inequality.proofs.Searches.{any-same}
-use Rattle.check_entries.proofs.Keeping.{gone-any, kept-same}
+use Rattle.check_equality.specs.Layout.{read-kind, acc-kind}
+use Rattle.check_state.specs.States.{variableAt, fieldAt, permitOf, IsKind}
+use Rattle.check_state.specs.Questions.{FirstPlace, entryTest, passes}
+use Rattle.check_entries.specs.Entries.{halvesOf, appended, leftIn}
+use Rattle.check_entries.proofs.Halves.{appended-same}
 
 abbrev ahead : List Permission → Split → Split
-ahead l c = record { taken = c .taken; others = l ++ c .others }
+ahead l c = record { taken = c .taken; left = c .left; list = l ++ c .list }
 
 abbrev behind : Split → List Permission → Split
-behind c m = record { taken = c .taken; others = c .others ++ m }
+behind c m = record { taken = c .taken; left = c .left; list = c .list ++ m }
 
 abbrev past : Permission → Split → Option Split
-past p c = some (record { taken = c .taken; others = p ∷ c .others })
+past p c = some (ahead (p ∷ []) c)
 
 clash : {A B : Type 0} {a : A} → _≡_ {A = Option A} (some a) none → B
 clash e = absurd (let z : _≡_ {A = ℕ} 0 1 = cc in omega arith)
 
-module _ (t : Permission → Bool) where
+-- ONE LIST AFTER THE OTHER
+module _ (t : Permission → Option (List Permission)) where
   itself : (o : Option Split) → o ≡ bindOption o (λ c. some (ahead [] c))
   unfolding bindOption
   itself none = refl
@@ -46,19 +49,22 @@ module _ (t : Permission → Bool) where
   twice p l none = refl
   twice p l (some c) = refl
 
+  -- what the head of a list gives
+  abbrev from-head : Permission → List Permission → Option (List Permission) → Option Split
+  from-head p ps o = elim o [ some l ↦ some (record { taken = p; left = l; list = l ++ ps }) | none ↦ bindOption (split t ps) (past p) ]
+
   split-on : (l m : List Permission) → split t l ≡ none → split t (l ++ m) ≡ bindOption (split t m) (λ c. some (ahead l c))
   unfolding split
   split-on [] m e = itself (split t m)
   split-on (p ∷ l) m e = go (t p) (split-on l m) e
     where
       go :
-          (b : Bool) → (split t l ≡ none → split t (l ++ m) ≡ bindOption (split t m) (λ c. some (ahead l c))) →
-          _≡_ {A = Option Split} (elim b [ true ↦ some (record { taken = p; others = l }) | false ↦ bindOption (split t l) (past p) ]) none →
-          _≡_ {A = Option Split} (elim b [ true ↦ some (record { taken = p; others = l ++ m }) | false ↦ bindOption (split t (l ++ m)) (past p) ]) (bindOption (split t m) (λ c. some (ahead (p ∷ l) c)))
-      go true r e = clash e
-      go false r e = ap (λ (o : Option Split). bindOption o (past p)) (r (none-in p (split t l) e)) ∙ twice p l (split t m)
+          (o : Option (List Permission)) → (split t l ≡ none → split t (l ++ m) ≡ bindOption (split t m) (λ c. some (ahead l c))) →
+          from-head p l o ≡ none → from-head p (l ++ m) o ≡ bindOption (split t m) (λ c. some (ahead (p ∷ l) c))
+      go (some k) r e = clash e
+      go none r e = ap (λ (o : Option Split). bindOption o (past p)) (r (none-in p (split t l) e)) ∙ twice p l (split t m)
 
-  some-in : (p : Permission) (o : Option Split) (c : Split) → bindOption o (past p) ≡ some c → (d : Split) × (o ≡ some d) × (record { taken = d .taken; others = p ∷ d .others } ≡ c)
+  some-in : (p : Permission) (o : Option Split) (c : Split) → bindOption o (past p) ≡ some c → (d : Split) × (o ≡ some d) × (ahead (p ∷ []) d ≡ c)
   unfolding bindOption
   some-in p none c e = clash (sym e)
   some-in p (some d) c e = (d, refl, cc)
@@ -69,107 +75,118 @@ module _ (t : Permission → Bool) where
   split-stays (p ∷ l) m c e = go (t p) (split-stays l m) e
     where
       go :
-          (b : Bool) → ((d : Split) → split t l ≡ some d → split t (l ++ m) ≡ some (behind d m)) →
-          _≡_ {A = Option Split} (elim b [ true ↦ some (record { taken = p; others = l }) | false ↦ bindOption (split t l) (past p) ]) (some c) →
-          _≡_ {A = Option Split} (elim b [ true ↦ some (record { taken = p; others = l ++ m }) | false ↦ bindOption (split t (l ++ m)) (past p) ]) (some (behind c m))
-      go true r e = let d : record { taken = p; others = l } ≡ c = cc in ap (λ (x : Split). some (behind x m)) d
-      go false r e =
+          (o : Option (List Permission)) → ((d : Split) → split t l ≡ some d → split t (l ++ m) ≡ some (behind d m)) →
+          from-head p l o ≡ some c → from-head p (l ++ m) o ≡ some (behind c m)
+      go (some k) r e =
+          let d : record { taken = p; left = k; list = k ++ l } ≡ c = cc in
+          ap (λ (x : List Permission). some (record { taken = p; left = k; list = x })) (sym (append-assoc k l m)) ∙ ap (λ (x : Split). some (behind x m)) d
+      go none r e =
           let (d, f, g) = some-in p (split t l) c e in
           ap (λ (o : Option Split). bindOption o (past p)) (r d f) ∙ ap (λ (x : Split). some (behind x m)) g
 
-  module _ (out : List Bool) (f : ℕ → Permission) where
-    one-missed : (p : Permission) → t p ≡ false → split t (p ∷ []) ≡ none
-    unfolding split bindOption
-    one-missed p e = rw (e, split)
-
-    one-taken : (p : Permission) → t p ≡ true → split t (p ∷ []) ≡ some (record { taken = p; others = [] })
-    unfolding split
-    one-taken p e = rw (e, split)
-
-    -- no entry passes
-    pub split-none : (n : ℕ) → ((i : ℕ) → i < n → (not (getD out i false) && t (f i)) ≡ false) → split t (kept out f n) ≡ none
-    unfolding split kept bindOption
+  module _ (part : ℕ → List Permission) where
+    -- no part gives way
+    pub split-none : (n : ℕ) → ((i : ℕ) → i < n → split t (part i) ≡ none) → split t (appended part n) ≡ none
+    unfolding split appended bindOption
     split-none zero h = refl
-    split-none (suc n) h =
-        split-on (kept out f n) (cond (getD out n false) [] (f n ∷ [])) (split-none n (λ i k. h i (omega arith)))
-        ∙ one (getD out n false) (t (f n)) refl (h n (omega arith))
-      where
-        one : (o b : Bool) → t (f n) ≡ b → (not o && b) ≡ false → bindOption (split t (cond o [] (f n ∷ []))) (λ c. some (ahead (kept out f n) c)) ≡ none
-        one true b d e = refl
-        one false b d e = rw (one-missed (f n) (d ∙ e))
+    split-none (suc n) h = split-on (appended part n) (part n) (split-none n (λ i k. h i (omega arith))) ∙ rw (h n (omega arith))
 
-    -- the first that passes
+    -- the first that does
     pub split-first :
-        (n i : ℕ) → i < n → i < length out → ((j : ℕ) → j < i → (not (getD out j false) && t (f j)) ≡ false) →
-        (not (getD out i false) && t (f i)) ≡ true → split t (kept out f n) ≡ some (record { taken = f i; others = kept (set out i true) f n })
-    unfolding kept bindOption
-    split-first zero i h l b e = absurd (omega arith)
-    split-first (suc n) i h l b e =
-        ⊎-elim (λ d. last d) (λ d. before d (split-first n i (omega arith) l b e)) (decide-eq i n)
+        (part′ : ℕ → List Permission) (c : Split) (n i : ℕ) → i < n → ((j : ℕ) → j < i → split t (part j) ≡ none) → split t (part i) ≡ some c →
+        ((j : ℕ) → j < n → (j ≡ i → ⊥) → part j ≡ part′ j) → c .list ≡ part′ i →
+        split t (appended part n) ≡ some (record { taken = c .taken; left = c .left; list = appended part′ n })
+    unfolding appended bindOption
+    split-first part′ c zero i h b e s d = absurd (omega arith)
+    split-first part′ c (suc n) i h b e s d = ⊎-elim last (λ k. before k (split-first part′ c n i (omega arith) b e (λ j m. s j (omega arith)) d)) (decide-eq i n)
       where
-        kept-out : (not (getD out i false) && t (f i)) ≡ true → getD out i false ≡ false
-        kept-out d = go (getD out i false) (t (f i)) d
-          where
-            go : (o c : Bool) → (not o && c) ≡ true → o ≡ false
-            go true c d = absurd (let z : _≡_ {A = ℕ} 0 1 = cc in omega arith)
-            go false c d = refl
+        last : i ≡ n → split t (appended part n ++ part n) ≡ some (record { taken = c .taken; left = c .left; list = appended part′ n ++ part′ n })
+        last k =
+            let f : split t (part n) ≡ some c = rw k at e in
+            let g : c .list ≡ part′ n = rw k at d in
+            split-on (appended part n) (part n) (split-none n (λ j m. b j (omega arith)))
+            ∙ rw (f, g, appended-same part part′ n (λ j m. s j (omega arith) (omega arith)))
 
-        passed : (not (getD out i false) && t (f i)) ≡ true → t (f i) ≡ true
-        passed d = go (getD out i false) (t (f i)) d
-          where
-            go : (o c : Bool) → (not o && c) ≡ true → c ≡ true
-            go true c d = absurd (let z : _≡_ {A = ℕ} 0 1 = cc in omega arith)
-            go false c d = d
+        before :
+            (i ≡ n → ⊥) → split t (appended part n) ≡ some (record { taken = c .taken; left = c .left; list = appended part′ n }) →
+            split t (appended part n ++ part n) ≡ some (record { taken = c .taken; left = c .left; list = appended part′ n ++ part′ n })
+        before k r = split-stays (appended part n) (part n) _ r ∙ rw (s n (omega arith) (λ g. k (sym g)))
 
-        last : i ≡ n → split t (kept out f n ++ cond (getD out n false) [] (f n ∷ [])) ≡ some (record { taken = f i; others = kept (set out i true) f n ++ cond (getD (set out i true) n false) [] (f n ∷ []) })
-        last d =
-            let o : getD out n false ≡ false = rw d at (kept-out e) in
-            let p : t (f n) ≡ true = rw d at (passed e) in
-            let w : getD (set out n true) n false ≡ true = getD-set-same out n true false (rw d at l) in
-            let k : kept (set out n true) f n ≡ kept out f n = kept-same (set out n true) out f f n (λ j g. getD-set-other out n j true false (omega arith)) (λ j g. refl) in
-            rw (d, o, w, k, split-on (kept out f n) (f n ∷ []) (split-none n (λ j g. b j (omega arith))), one-taken (f n) p)
+-- ONE ENTRY
+-- what becomes of an entry, where a test passes
+abbrev pub instead : Bool → Permission → List Permission → Option Split
+instead c p l = cond c (some (record { taken = p; left = l; list = l })) none
 
-        before : (i ≡ n → ⊥) → split t (kept out f n) ≡ some (record { taken = f i; others = kept (set out i true) f n }) → split t (kept out f n ++ cond (getD out n false) [] (f n ∷ [])) ≡ some (record { taken = f i; others = kept (set out i true) f n ++ cond (getD (set out i true) n false) [] (f n ∷ []) })
-        before d r =
-            let w : getD (set out i true) n false ≡ getD out n false = getD-set-other out i n true false (λ g. d (sym g)) in
-            rw w (split-stays (kept out f n) (cond (getD out n false) [] (f n ∷ [])) _ r)
+module _ (t : Permission → Option (List Permission)) (p : Permission) where
+  gives-way : (c : Bool) (l : List Permission) → t p ≡ cond c (some l) none → split t (p ∷ []) ≡ instead c p l
+  unfolding split bindOption
+  gives-way true l e = rw (e, split) (ap (λ (m : List Permission). some (record { taken = p; left = l; list = m })) (append-nil l))
+  gives-way false l e = rw (e, split)
 
--- A PLACE MORE THAT IS OUT
-module _ (p q : ℕ → Bool) where
-  any-extra :
-      (n i : ℕ) → i < n → ((j : ℕ) → (j ≡ i → ⊥) → q j ≡ p j) → p i ≡ false → any q (places n) ≡ (q i || any p (places n))
-  unfolding any listed
-  any-extra zero i h e d = absurd (omega arith)
-  any-extra (suc n) i h e d =
-      any-append q (listed (λ i. i) n) (n ∷ []) ∙ ⊎-elim last (λ c. before c (any-extra n i (omega arith) e d)) (decide-eq i n)
-      ∙ ap (λ (b : Bool). q i || b) (sym (any-append p (listed (λ i. i) n) (n ∷ [])))
-    where
-      swap : (a b : Bool) → (a || (b || false)) ≡ (b || (a || (false || false)))
-      swap true true = refl
-      swap true false = refl
-      swap false true = refl
-      swap false false = refl
+  never : (c : Bool) → t p ≡ cond c none none → split t (p ∷ []) ≡ none
+  never true e = gives-way false [] e
+  never false e = gives-way false [] e
 
-      group : (a b c : Bool) → ((a || b) || c) ≡ (a || (b || c))
-      group true b c = refl
-      group false b c = refl
+a-kind : (k : ℕ) → IsKind k → (k ≡ read-kind) ⊎ (k ≡ acc-kind)
+a-kind k w = ⊎-elim (λ e. inl e) (λ e. inr (omega arith)) (decide-eq k read-kind)
 
-      last : i ≡ n → (any q (listed (λ i. i) n) || (q n || false)) ≡ (q i || (any p (listed (λ i. i) n) || (p n || false)))
-      last c =
-          let x : p n ≡ false = rw c at d in
-          let y : any q (listed (λ i. i) n) ≡ any p (listed (λ i. i) n) = any-same q p (λ i. i) (λ i. i) n (λ j g. e j (omega arith)) in
-          rw (c, x, y) (swap (any p (listed (λ i. i) n)) (q n))
+module _ (_~_ : Equality) (y f x g : ℕ) where
+  abbrev named : Bool
+  named = eqb g f && _~_ (var x) (var y)
 
-      before : (i ≡ n → ⊥) → any q (listed (λ i. i) n) ≡ (q i || any p (listed (λ i. i) n)) → (any q (listed (λ i. i) n) || (q n || false)) ≡ (q i || (any p (listed (λ i. i) n) || (p n || false)))
-      before c r =
-          let x : q n ≡ p n = e n (λ g. c (sym g)) in
-          rw (r, x) (group (q i) (any p (listed (λ i. i) n)) (p n || false))
+  -- which halves an atom takes of those left
+  abbrev Taken : ℕ → ℕ → Type 0
+  Taken w l =
+      split (giving _~_ (permitOf w) y f) (halvesOf l x g) ≡ instead (passes _~_ y f (leb w l) x g) (entry (permitOf l) x g) (halvesOf (l - w) x g)
 
-pub gone-set :
-    (r : Permission → Bool) (out : List Bool) (f : ℕ → Permission) (n i : ℕ) → i < n → i < length out → getD out i false ≡ false →
-    any r (gone (set out i true) f n) ≡ (r (f i) || any r (gone out f n))
-gone-set r out f n i h l e =
-    gone-any r (set out i true) f n
-    ∙ any-extra (λ j. getD out j false && r (f j)) (λ j. getD (set out i true) j false && r (f j)) n i h
-    (λ j d. ap (λ (b : Bool). b && r (f j)) (getD-set-other out i j true false d)) (ap (λ (b : Bool). b && r (f i)) e)
-    ∙ ap₂ (λ (a b : Bool). a || b) (ap (λ (b : Bool). b && r (f i)) (getD-set-same out i true false l)) (sym (gone-any r out f n))
+  none-taken : (w : ℕ) → IsKind w → Taken w 0
+  unfolding split passes halvesOf
+  none-taken w k = rw (lt-leb w 0 (omega arith))
+
+  half-taken : (l : ℕ) → IsKind l → Taken read-kind l
+  unfolding giving leaves withPermit names passes halvesOf permitOf bindOption
+  half-taken l k =
+      ⊎-elim (λ e. rw e (gives-way (giving _~_ read y f) (entry read x g) named [] refl))
+      (λ e. rw e (gives-way (giving _~_ read y f) (entry acc x g) named (entry read x g ∷ []) refl)) (a-kind l k)
+
+  both-taken : (l : ℕ) → IsKind l → Taken acc-kind l
+  unfolding giving leaves withPermit names passes halvesOf permitOf bindOption
+  both-taken l k =
+      ⊎-elim (λ e. rw e (never (giving _~_ acc y f) (entry read x g) named refl)) (λ e. rw e (gives-way (giving _~_ acc y f) (entry acc x g) named [] refl))
+      (a-kind l k)
+
+  taken-at : (w l : ℕ) → IsKind w → l ≤ acc-kind → Taken w l
+  taken-at w l k h =
+      ⊎-elim (λ d. rw d (none-taken w k))
+      (λ d. ⊎-elim (λ e. rw e (half-taken l (omega arith, h))) (λ e. rw e (both-taken l (omega arith, h))) (a-kind w k)) (decide-eq l 0)
+
+  -- a half added is joined to one
+  pub joined-at :
+      (k : ℕ) → IsKind k → split (joins _~_ y f) (entry (permitOf k) x g ∷ []) ≡ instead (passes _~_ y f (leb read-kind (acc-kind - k)) x g) (entry (permitOf k) x g) (entry acc x g ∷ [])
+  unfolding joins joining withPermit names passes permitOf
+  joined-at k w =
+      ⊎-elim (λ e. rw e (gives-way (joins _~_ y f) (entry read x g) named (entry acc x g ∷ []) refl))
+      (λ e. rw e (never (joins _~_ y f) (entry acc x g) named refl)) (a-kind k w)
+
+-- WHAT IS LEFT
+module _ (b left : List ℕ) (_~_ : Equality) (w y f n i : ℕ) (k : IsKind w) (most : (j : ℕ) → j < n → getD left j 0 ≤ acc-kind)
+    (F : FirstPlace (entryTest b left w y f _~_) n i) where
+  at : (j : ℕ) → j < n → (c : Bool) → entryTest b left w y f _~_ j ≡ c →
+      split (giving _~_ (permitOf w) y f) (halvesOf (getD left j 0) (variableAt b j) (fieldAt b j))
+      ≡ instead c (entry (permitOf (getD left j 0)) (variableAt b j) (fieldAt b j)) (halvesOf (getD left j 0 - w) (variableAt b j) (fieldAt b j))
+  at j h c e = taken-at _~_ y f (variableAt b j) (fieldAt b j) w (getD left j 0) k (most j h) ∙ rw e
+
+  pub left-none : n ≤ i → split (giving _~_ (permitOf w) y f) (leftIn b left n) ≡ none
+  left-none h = split-none (giving _~_ (permitOf w) y f) _ n (λ j g. at j g false (F .before j (omega arith)))
+
+  pub left-first :
+      i < n → i < length left →
+      split (giving _~_ (permitOf w) y f) (leftIn b left n)
+      ≡ some (record {
+        taken = entry (permitOf (getD left i 0)) (variableAt b i) (fieldAt b i);
+        left = halvesOf (getD left i 0 - w) (variableAt b i) (fieldAt b i);
+        list = leftIn b (set left i (getD left i 0 - w)) n;
+      })
+  left-first h l =
+      split-first (giving _~_ (permitOf w) y f) _ _ _ n i h (λ j g. at j (omega arith) false (F .before j g)) (at i h true (F .found h))
+      (λ j m g. rw (getD-set-other left i j (getD left i 0 - w) 0 g)) (rw (getD-set-same left i (getD left i 0 - w) 0 l))

@@ -5,16 +5,18 @@ use check_state::Resolved;
 use rules::Machine;
 ghost use mathlib.Core.Path.{_≡_};
 ghost use mathlib.Core.List.{List};
-ghost use Prim.Native.Nat.{ℕ, _≤_};
+ghost use Prim.Native.Nat.{ℕ, _-_, _≤_};
 ghost use lib.ListN.{length};
 ghost use lib.Dec.{eqb};
 ghost use Rattle.rules.specs.Limits.{most-permissions};
 ghost use Rattle.rules.specs.Syntax as Syntax;
 ghost use Rattle.rules.specs.State as Rules;
-ghost use Rattle.check_equality.specs.Layout.{bytes};
+ghost use Rattle.check_equality.specs.Layout.{bytes, acc-kind};
 ghost use Rattle.check_equality.specs.Keys.{termOf, meaning};
 ghost use Rattle.check_equality.specs.Links.{relOf};
-ghost use Rattle.check_state.specs.States.{Wf, stateOf, entries};
+ghost use Rattle.check_state.specs.States.{Wf, stateOf, entries, kindAt, permitOf, IsKind, KindsIn};
+ghost use Rattle.check_state.specs.Questions.{Bytes};
+ghost use Rattle.check_entries.specs.Entries.{LeftFits};
 ghost use Rattle.check_entailment.specs.Answers.{Adds, ShowsAtom, ShowsRelation, AddsAtom, atomOf};
 
 pub enum Answer {
@@ -28,19 +30,20 @@ pub enum Answer {
 
 pub enum Atom {
     Acc(u8, u8),
+    Read(u8, u8),
     Eq(Term, Term),
     Ne(Term, Term),
 }
 
 pub struct Shown {
     pub answer: Answer,
-    pub out: [bool; Machine::PERMISSIONS],
+    pub left: [u8; Machine::PERMISSIONS],
 }
 
-// One more permission.
-pub fn add_permission(b: &mut [u8; State::BYTES], x: u8, f: u8) -> Answer
-    requires { ⌜ (entries (now b) ≤ most-permissions) × (length (now b) ≡ bytes) ⌝ }
-    ensures { λ r. ⌜ ((key : List ℕ) → Wf key (now (b .entry)) → Adds (Rules.addPermission (record { variable = x; field = f }) (stateOf key (now (b .entry)))) r key (now (b .exit))) ⌝ }
+// One more entry, of the kind k.
+pub fn add_permission(b: &mut [u8; State::BYTES], k: u8, x: u8, f: u8) -> Answer
+    requires { ⌜ (entries (now b) ≤ most-permissions) × (length (now b) ≡ bytes) × IsKind k ⌝ }
+    ensures { λ r. ⌜ ((key : List ℕ) → Wf key (now (b .entry)) → Adds (Rules.addPermission (Rules.entry (permitOf k) x f) (stateOf key (now (b .entry)))) r key (now (b .exit))) ⌝ }
 {
     let n = b[State::ENTRIES] as usize;
     if Machine::PERMISSIONS <= n {
@@ -48,8 +51,37 @@ pub fn add_permission(b: &mut [u8; State::BYTES], x: u8, f: u8) -> Answer
     }
     b[State::VARIABLES + n] = x;
     b[State::FIELDS + n] = f;
-    b[State::KINDS + n] = State::ACC;
+    b[State::KINDS + n] = k;
     b[State::ENTRIES] = (n + 1) as u8;
+    Answer::Done
+}
+
+// The halves that each entry lacks.
+fn lacking(b: &[u8; State::BYTES], n: usize) -> [u8; Machine::PERMISSIONS]
+    requires { ⌜ (n ≤ most-permissions) × KindsIn (now b) n ⌝ }
+    ensures { λ r. ⌜ Bytes (λ i. acc-kind - kindAt (now (b .entry)) i) n r ⌝ }
+{
+    let mut halves = [0; Machine::PERMISSIONS];
+    let mut i = 0;
+    while i < n {
+        halves[i] = State::ACC - b[State::KINDS + i];
+        i += 1;
+    }
+    halves
+}
+
+// `read x f`: the first entry of an equal path that lacks a half is an `acc` then, or else there is one more entry.
+fn add_read(key: &[u64; State::SLOTS], b: &mut [u8; State::BYTES], x: u8, f: u8) -> Answer
+    requires { ⌜ Wf (now key) (now b) ⌝ }
+    ensures { λ r. ⌜ Adds (Rules.addOwn Syntax.read x f (stateOf (now (key .entry)) (now (b .entry)))) r (now (key .entry)) (now (b .exit)) ⌝ }
+{
+    let n = b[State::ENTRIES] as usize;
+    let halves = lacking(b, n);
+    let i = check_state::entry(key, b, &halves, State::READ, x, f);
+    if n <= i {
+        return add_permission(b, State::READ, x, f);
+    }
+    b[State::KINDS + i] = State::ACC;
     Answer::Done
 }
 
@@ -80,29 +112,30 @@ pub fn add_fact(
     Answer::Done
 }
 
-// `acc y f`: the entry that shows it is out then.
+// `acc y f`, which wants both halves, or `read y f`, which wants one: they are taken from the first entry that has them left.
 fn show_access<'a>(
     key: &'a [u64; State::SLOTS],
     b: &'a [u8; State::BYTES],
-    out: [bool; Machine::PERMISSIONS],
+    left: [u8; Machine::PERMISSIONS],
+    want: u8,
     y: u8,
     f: u8,
 ) -> Shown
-    requires { ⌜ Wf (now key) (now b) × (length out ≡ most-permissions) ⌝ }
-    ensures { λ r. ⌜ ShowsAtom (now (key .entry)) (now (b .entry)) out (Syntax.acc y f) (r .answer) (r .out) ⌝ }
+    requires { ⌜ Wf (now key) (now b) × LeftFits (now b) left × IsKind want ⌝ }
+    ensures { λ r. ⌜ LeftFits (now (b .entry)) (r .left) × ShowsAtom (now (key .entry)) (now (b .entry)) left (Syntax.own (permitOf want) y f) (r .answer) (r .left) ⌝ }
 {
-    let i = check_state::entry(key, b, &out, y, f);
+    let i = check_state::entry(key, b, &left, want, y, f);
     if i < (b[State::ENTRIES] as usize) {
-        let mut after = out;
-        after[i] = true;
+        let mut after = left;
+        after[i] = left[i] - want;
         return Shown {
             answer: Answer::Done,
-            out: after,
+            left: after,
         };
     }
     Shown {
         answer: Answer::NoPermission,
-        out,
+        left,
     }
 }
 
@@ -129,25 +162,26 @@ fn show_relation<'a>(
     Answer::NotShown
 }
 
-// An atom, where some entries are out already.
+// An atom, by what is left of the entries.
 pub fn show_atom<'a>(
     key: &'a [u64; State::SLOTS],
     b: &'a [u8; State::BYTES],
-    out: [bool; Machine::PERMISSIONS],
+    left: [u8; Machine::PERMISSIONS],
     a: Atom,
 ) -> Shown
-    requires { ⌜ Wf (now key) (now b) × (length out ≡ most-permissions) ⌝ }
-    ensures { λ r. ⌜ ShowsAtom (now (key .entry)) (now (b .entry)) out (atomOf a) (r .answer) (r .out) ⌝ }
+    requires { ⌜ Wf (now key) (now b) × LeftFits (now b) left ⌝ }
+    ensures { λ r. ⌜ LeftFits (now (b .entry)) (r .left) × ShowsAtom (now (key .entry)) (now (b .entry)) left (atomOf a) (r .answer) (r .left) ⌝ }
 {
     match a {
-        Atom::Acc(y, f) => show_access(key, b, out, y, f),
+        Atom::Acc(y, f) => show_access(key, b, left, State::ACC, y, f),
+        Atom::Read(y, f) => show_access(key, b, left, State::READ, y, f),
         Atom::Eq(l, r) => Shown {
             answer: show_relation(key, b, false, l, r),
-            out,
+            left,
         },
         Atom::Ne(l, r) => Shown {
             answer: show_relation(key, b, true, l, r),
-            out,
+            left,
         },
     }
 }
@@ -178,7 +212,8 @@ pub fn add_atom(key: &mut [u64; State::SLOTS], b: &mut [u8; State::BYTES], a: At
     ensures { λ r. ⌜ AddsAtom (now (key .entry)) (now (b .entry)) (atomOf a) r (now (key .exit)) (now (b .exit)) ⌝ }
 {
     match a {
-        Atom::Acc(x, f) => add_permission(b, x, f),
+        Atom::Acc(x, f) => add_permission(b, State::ACC, x, f),
+        Atom::Read(x, f) => add_read(key, b, x, f),
         Atom::Eq(l, r) => add_relation(key, b, false, l, r),
         Atom::Ne(l, r) => add_relation(key, b, true, l, r),
     }

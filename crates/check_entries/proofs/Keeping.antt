@@ -11,15 +11,15 @@ use lib.ListN.{length, getD, set, length-set}
 use lib.Seq.{getD-set-same, getD-set-other}
 use Rattle.rules.specs.Base.{any, mapOption}
 use Rattle.rules.specs.Limits.{most-permissions}
-use Rattle.rules.specs.State.{Permission}
+use Rattle.rules.specs.State.{Permission, entry}
 use Rattle.rules.proofs.Lists.{decide-eq}
 use Rattle.check_equality.specs.Listing.{listed}
 use Rattle.check_equality.specs.Layout.{variables-at, fields-at, fact-count, entry-count, kinds-at, bytes}
 use Rattle.check_equality.proofs.Listing.{listed-more, listed-same, any-append, map-append}
-use Rattle.check_state.specs.States.{entries, variableAt, fieldAt, permissionAt, permissionsIn, kindAt, IsKind, KindsIn}
+use Rattle.check_state.specs.States.{entries, variableAt, fieldAt, permitOf, permissionAt, permissionsIn, kindAt, IsKind, KindsIn}
 use Rattle.check_state.specs.Questions.{FirstPlace}
-use Rattle.check_state.proofs.Writing.{entries-same}
-use Rattle.check_entries.specs.Entries.{kept, gone, renamedVariable, RenamedEntries, SameEntry, KeepsEntry, Packed}
+use Rattle.check_state.proofs.Writing.{entry-same, entries-same}
+use Rattle.check_entries.specs.Entries.{kept, renamedVariable, RenamedEntries, SameEntry, KeepsEntry, Packed}
 
 module _ {A : Type 0} where
   pub kept-more : (out : List Bool) (f : ℕ → A) (n : ℕ) → kept out f (n + 1) ≡ kept out f n ++ cond (getD out n false) [] (f n ∷ [])
@@ -43,20 +43,7 @@ module _ {A : Type 0} where
   kept-all out f (suc n) h =
       ap₂ (λ (l : List A) (c : Bool). l ++ cond c [] (f n ∷ [])) (kept-all out f n (λ i k. h i (omega arith))) (h n (omega arith))
 
-  -- some element that is out
-  pub gone-any : (q : A → Bool) (out : List Bool) (f : ℕ → A) (n : ℕ) → any q (gone out f n) ≡ any (λ i. getD out i false && q (f i)) (listed (λ i. i) n)
-  unfolding gone listed any
-  gone-any q out f zero = refl
-  gone-any q out f (suc n) =
-      any-append q (gone out f n) (cond (getD out n false) (f n ∷ []) [])
-      ∙ ap₂ (λ (a b : Bool). a || b) (gone-any q out f n) (one (getD out n false))
-      ∙ sym (any-append (λ i. getD out i false && q (f i)) (listed (λ i. i) n) (n ∷ []))
-    where
-      one : (c : Bool) → any q (cond c (f n ∷ []) []) ≡ ((c && q (f n)) || false)
-      one true = refl
-      one false = refl
-
-  -- some element that is not
+  -- some element that is not out
   pub kept-any : (q : A → Bool) (out : List Bool) (f : ℕ → A) (n : ℕ) → any q (kept out f n) ≡ any (λ i. not (getD out i false) && q (f i)) (listed (λ i. i) n)
   unfolding kept listed any
   kept-any q out f zero = refl
@@ -125,31 +112,40 @@ module _ (b : List ℕ) (n x f k : ℕ) (l : length b ≡ bytes) (h : n < most-p
   pub entry-size : length with-entry ≡ bytes
   entry-size = length-set with-path (kinds-at + n) k ∙ path-size
 
+  path-other : (j : ℕ) → (j ≡ variables-at + n → ⊥) → (j ≡ fields-at + n → ⊥) → getD with-path j 0 ≡ getD b j 0
+  path-other j p q = getD-set-other (set b (variables-at + n) x) (fields-at + n) j f 0 q ∙ getD-set-other b (variables-at + n) j x 0 p
+
   pub entry-other : (j : ℕ) → (j ≡ variables-at + n → ⊥) → (j ≡ fields-at + n → ⊥) → (j ≡ kinds-at + n → ⊥) → getD with-entry j 0 ≡ getD b j 0
-  entry-other j p q r =
-      getD-set-other with-path (kinds-at + n) j k 0 r ∙ getD-set-other (set b (variables-at + n) x) (fields-at + n) j f 0 q
-      ∙ getD-set-other b (variables-at + n) j x 0 p
+  entry-other j p q r = getD-set-other with-path (kinds-at + n) j k 0 r ∙ path-other j p q
+
+  kind-other : (j : ℕ) → (j ≡ n → ⊥) → kindAt with-entry j ≡ kindAt b j
+  kind-other j d = getD-set-other with-path (kinds-at + n) (kinds-at + j) k 0 (omega arith) ∙ path-other (kinds-at + j) (omega arith) (omega arith)
 
   entry-at : (j : ℕ) → j < most-permissions → (j ≡ n → ⊥) → SameEntry b with-entry j
   entry-at j g d =
       record {
-        permission = ap₂ (λ (x f : ℕ). record { variable = x; field = f }) (entry-other (variables-at + j) (omega arith) (omega arith) (omega arith)) (entry-other (fields-at + j) (omega arith) (omega arith) (omega arith));
-        kind = entry-other (kinds-at + j) (omega arith) (omega arith) (omega arith);
+        permission = entry-same b with-entry j (kind-other j d) (entry-other (variables-at + j) (omega arith) (omega arith) (omega arith)) (entry-other (fields-at + j) (omega arith) (omega arith) (omega arith));
+        kind = kind-other j d;
       }
 
   path-at : (j : ℕ) → j < kinds-at → getD with-entry j 0 ≡ getD with-path j 0
   path-at j g = getD-set-other with-path (kinds-at + n) j k 0 (omega arith)
 
-  entry-new : permissionAt with-entry n ≡ record { variable = x; field = f }
-  entry-new =
-      ap₂ (λ (x f : ℕ). record { variable = x; field = f })
-      (path-at (variables-at + n) (omega arith) ∙ getD-set-other (set b (variables-at + n) x) (fields-at + n) (variables-at + n) f 0 (omega arith) ∙ getD-set-same b (variables-at + n) x 0 (omega arith))
-      (path-at (fields-at + n) (omega arith) ∙ getD-set-same (set b (variables-at + n) x) (fields-at + n) f 0 (rw (length-set b (variables-at + n) x) (omega arith)))
+  variable-new : variableAt with-entry n ≡ x
+  variable-new =
+      path-at (variables-at + n) (omega arith) ∙ getD-set-other (set b (variables-at + n) x) (fields-at + n) (variables-at + n) f 0 (omega arith)
+      ∙ getD-set-same b (variables-at + n) x 0 (omega arith)
+
+  field-new : fieldAt with-entry n ≡ f
+  field-new = path-at (fields-at + n) (omega arith) ∙ getD-set-same (set b (variables-at + n) x) (fields-at + n) f 0 (rw (length-set b (variables-at + n) x) (omega arith))
 
   kind-new : kindAt with-entry n ≡ k
   kind-new = getD-set-same with-path (kinds-at + n) k 0 (omega (arith, path-size))
 
-  pub entries-more : permissionsIn with-entry (n + 1) ≡ permissionsIn b n ++ (record { variable = x; field = f } ∷ [])
+  entry-new : permissionAt with-entry n ≡ entry (permitOf k) x f
+  entry-new = rw (kind-new, variable-new, field-new)
+
+  pub entries-more : permissionsIn with-entry (n + 1) ≡ permissionsIn b n ++ (entry (permitOf k) x f ∷ [])
   entries-more =
       listed-more (permissionAt with-entry) n
       ∙ ap₂ (λ (ps : List Permission) (p : Permission). ps ++ (p ∷ [])) (listed-same _ _ n (λ i g. entry-at i (omega arith) (omega arith) .permission)) entry-new
@@ -224,7 +220,7 @@ packed-at b₀ b out n h P =
       size = length-set b entry-count n ∙ P .size;
       few = omega (arith, last, P .few);
       kinds = λ w i g. subst IsKind (sym (at (kinds-at + i) (omega arith))) (P .kinds w i (omega (arith, last)));
-      entries = ap (permissionsIn (set b entry-count n)) last ∙ listed-same _ _ n (entries-same b (set b entry-count n) n (omega (arith, P .few)) (λ i g s. at i (omega arith))) ∙ P .entries;
+      entries = ap (permissionsIn (set b entry-count n)) last ∙ listed-same _ _ n (entries-same b (set b entry-count n) n (omega (arith, P .few)) (λ i g s r. at i r)) ∙ P .entries;
       rest = λ i g. at i (⊎-elim (λ p q. omega arith) (λ p q. omega arith) g) ∙ P .rest i g;
     }
   where

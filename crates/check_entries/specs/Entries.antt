@@ -6,12 +6,10 @@ use mathlib.Core.Logic.{_⊎_}
 use Prim.Native.Nat.{ℕ, zero, suc, _+_, _≤_, _<_}
 use lib.Dec.{eqb}
 use lib.ListN.{length, getD}
-use Rattle.rules.specs.Base.{any}
 use Rattle.rules.specs.Limits.{most-permissions}
-use Rattle.rules.specs.State as Rules
-use Rattle.rules.specs.State.{Permission}
-use Rattle.check_equality.specs.Layout.{variables-at, fact-count, bytes}
-use Rattle.check_state.specs.States.{entries, variableAt, permissionsIn, permissionsOf, permissionAt, kindAt, IsKind, KindsIn}
+use Rattle.rules.specs.State.{Permission, entry}
+use Rattle.check_equality.specs.Layout.{variables-at, fact-count, kinds-at, bytes}
+use Rattle.check_state.specs.States.{entries, variableAt, fieldAt, permitOf, permissionsIn, permissionsOf, permissionAt, kindAt, IsKind, KindsIn}
 
 -- LISTS OF WHICH SOME ELEMENTS ARE OUT
 -- those of f 0 to f (n - 1) that are not out
@@ -19,21 +17,46 @@ unfoldable pub kept : {A : Type 0} → List Bool → (ℕ → A) → ℕ → Lis
 kept out f zero = []
 kept out f (suc n) = kept out f n ++ cond (getD out n false) [] (f n ∷ [])
 
--- those that are out
-unfoldable pub gone : {A : Type 0} → List Bool → (ℕ → A) → ℕ → List A
-gone out f zero = []
-gone out f (suc n) = gone out f n ++ cond (getD out n false) (f n ∷ []) []
-
 -- flags of the places below n
 pub record Flags (test : ℕ → Bool) (n : ℕ) (r : List Bool) : Type 0 where
   pub size : length r ≡ most-permissions
   pub at : (i : ℕ) → i < n → getD r i false ≡ test i
 
--- WHAT A FORMULA CONSUMES
--- the entries that are out are those consumed
-pub record Consumed (b : List ℕ) (out : List Bool) (c : Rules.Shown) : Type 0 where
-  pub rest : c .kept ≡ kept out (permissionAt b) (entries b)
-  pub used : (q : Permission → Bool) → any q (c .consumed) ≡ any q (gone out (permissionAt b) (entries b))
+-- WHAT A FORMULA LEAVES
+-- so many halves of `x.f`, as an entry or none
+unfoldable pub halvesOf : ℕ → ℕ → ℕ → List Permission
+halvesOf k x f = cond (eqb k 0) [] (entry (permitOf k) x f ∷ [])
+
+-- part 0 to part (n - 1), one after the other
+unfoldable pub appended : {A : Type 0} → (ℕ → List A) → ℕ → List A
+appended part zero = []
+appended part (suc n) = appended part n ++ part n
+
+-- what is left of the first n entries, where `left` has the halves left of each
+abbrev pub leftIn : List ℕ → List ℕ → ℕ → List Permission
+leftIn b left n = appended (λ i. halvesOf (getD left i 0) (variableAt b i) (fieldAt b i)) n
+
+abbrev pub leftOf : List ℕ → List ℕ → List Permission
+leftOf b left = leftIn b left (entries b)
+
+-- no entry has more left than it owns
+pub record LeftFits (b left : List ℕ) : Type 0 where
+  pub size : length left ≡ most-permissions
+  pub most : (i : ℕ) → i < entries b → getD left i 0 ≤ kindAt b i
+
+-- the kind of an entry of which so many halves are left: one that is out keeps its own
+unfoldable pub kindLeft : ℕ → ℕ → ℕ
+kindLeft left k = cond (eqb left 0) k left
+
+-- the kinds are what is left, of the first n entries, and nothing else changes
+pub record StoredLeft (b left : List ℕ) (n : ℕ) (b′ : List ℕ) : Type 0 where
+  pub size : length b′ ≡ bytes
+  pub kinds : (i : ℕ) → i < n → kindAt b′ i ≡ kindLeft (getD left i 0) (kindAt b i)
+  pub rest : (i : ℕ) → (i < kinds-at) ⊎ (kinds-at + n ≤ i) → getD b′ i 0 ≡ getD b i 0
+
+-- the entries of which nothing is left are out
+abbrev pub OutBy : List ℕ → ℕ → List Bool → Type 0
+OutBy left n out = Flags (λ i. eqb (getD left i 0) 0) n out
 
 unfoldable pub renamedVariable : ℕ → ℕ → ℕ → ℕ
 renamedVariable x to v = cond (eqb v x) to v
@@ -55,7 +78,7 @@ pub record KeepsEntry (b : List ℕ) (n : ℕ) (out : Bool) (x f k : ℕ) (b′ 
   pub few : n′ ≤ n + 1
   pub size : length b′ ≡ bytes
   pub kinds : IsKind k → KindsIn b n → KindsIn b′ n′
-  pub entries : permissionsIn b′ n′ ≡ permissionsIn b n ++ cond out [] (record { variable = x; field = f } ∷ [])
+  pub entries : permissionsIn b′ n′ ≡ permissionsIn b n ++ cond out [] (entry (permitOf k) x f ∷ [])
   pub later : (j : ℕ) → n < j → j < most-permissions → SameEntry b b′ j
   pub rest : (j : ℕ) → (j < variables-at) ⊎ (j ≡ fact-count) → getD b′ j 0 ≡ getD b j 0
 

@@ -17,7 +17,7 @@ ghost use Rattle.check_equality.specs.Layout.{bytes, variables-at};
 ghost use Rattle.check_equality.specs.Keys.{termOf};
 ghost use Rattle.check_state.specs.States.{entries, pathAtEntry};
 ghost use Rattle.check_state.specs.Questions.{FirstPlace};
-ghost use Rattle.check_entries.specs.Entries.{KeepsEntry, RenamedEntries, Packed, Flags, renamedVariable};
+ghost use Rattle.check_entries.specs.Entries.{KeepsEntry, RenamedEntries, Packed, Flags, StoredLeft, OutBy, renamedVariable, kindLeft};
 
 fn rename_variable(v: u8, x: u8, to: u8) -> u8
     ensures { λ r. ⌜ r ≡ renamedVariable x to v ⌝ }
@@ -51,6 +51,31 @@ fn keep_entry(b: &mut [u8; State::BYTES], n: usize, out: bool, x: u8, f: u8, k: 
     b[State::FIELDS + n] = f;
     b[State::KINDS + n] = k;
     n + 1
+}
+
+fn kind_left(left: u8, k: u8) -> u8
+    ensures { λ r. ⌜ r ≡ kindLeft left k ⌝ }
+{
+    if left == 0 { k } else { left }
+}
+
+// Stores the halves left of each entry; which are out then: those of which nothing is left.
+pub fn store_left(
+    b: &mut [u8; State::BYTES],
+    left: &[u8; Machine::PERMISSIONS],
+) -> [bool; Machine::PERMISSIONS]
+    requires { ⌜ length (now b) ≡ bytes ⌝ }
+    ensures { λ r. ⌜ StoredLeft (now (b .entry)) (now (left .entry)) most-permissions (now (b .exit)) × OutBy (now (left .entry)) most-permissions r ⌝ }
+{
+    let mut out = [false; Machine::PERMISSIONS];
+    let mut i = 0;
+    while i < Machine::PERMISSIONS {
+        let k = b[State::KINDS + i];
+        b[State::KINDS + i] = kind_left(left[i], k);
+        out[i] = left[i] == 0;
+        i += 1;
+    }
+    out
 }
 
 // The first entry that is out, or n.

@@ -43,9 +43,12 @@ kinds-at = 338
 abbrev pub bytes : ℕ
 bytes = 402
 
--- KINDS of entries
+-- KINDS of entries: the halves that they own
+abbrev pub read-kind : ℕ
+read-kind = 1
+
 abbrev pub acc-kind : ℕ
-acc-kind = 0
+acc-kind = 2
 
 -- MARKS: the places of keys
 abbrev pub mark-count : ℕ
@@ -70,6 +73,7 @@ offsets =
       entries = entry-count;
       kinds = kinds-at;
       bytes = bytes;
+      read = read-kind;
       acc = acc-kind;
       marks = mark-count;
     }

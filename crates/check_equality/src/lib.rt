@@ -29,6 +29,7 @@ pub struct State {
     pub entries: usize,
     pub kinds: usize,
     pub bytes: usize,
+    pub read: u8,
     pub acc: u8,
     pub marks: usize,
 }
@@ -65,8 +66,10 @@ impl State {
 
     pub const BYTES: usize = 402;
 
-    // The kind of an entry: `acc`.
-    pub const ACC: u8 = 0;
+    // The kind of an entry is the number of its halves: a `read` is one, an `acc` both.
+    pub const READ: u8 = 1;
+
+    pub const ACC: u8 = 2;
 
     // Marks: one for each place of a key.
     pub const MARKS: usize = 512;
@@ -114,6 +117,7 @@ impl State {
             entries: State::ENTRIES,
             kinds: State::KINDS,
             bytes: State::BYTES,
+            read: State::READ,
             acc: State::ACC,
             marks: State::MARKS,
         }

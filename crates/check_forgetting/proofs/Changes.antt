@@ -13,30 +13,25 @@ use Rattle.rules.specs.Base.{any, bindOption, mapOption}
 use Rattle.rules.specs.Syntax as Syntax
 use Rattle.rules.specs.Syntax.{path}
 use Rattle.rules.specs.State as Rules
-use Rattle.rules.specs.State.{Permission, Fact, pathOf, lists, unlisted, withoutPaths, renameVariable, renameTerm, renamePermission, renamePermissions}
+use Rattle.rules.specs.State.{Permission, Fact, entry, pathOf, lists, withoutPaths, renameVariable, renameTerm, renamePermission, renamePermissions}
 use Rattle.rules.proofs.Lists.{some-inj, none-some, bind-some}
 use Rattle.rules.proofs.Successors.{without-is}
 use Rattle.check_equality.specs.Keys.{termOf}
 use Rattle.check_equality.specs.Listing.{listed}
 use Rattle.check_equality.proofs.Keys.{same-key}
 use Rattle.check_equality.proofs.Listing.{listed-same, or-false}
-use Rattle.check_equality.specs.Layout.{variables-at, fields-at, fact-count, entry-count}
-use Rattle.check_state.specs.States.{Wf, stateOf, facts, entries, factsOf, variableAt, fieldAt, permissionAt, permissionsIn, permissionsOf, pathAtEntry}
-use Rattle.check_state.specs.Questions.{places}
+use Rattle.check_equality.specs.Layout.{variables-at, fields-at, kinds-at, fact-count, entry-count}
+use Rattle.check_state.specs.States.{Wf, stateOf, entries, factsOf, variableAt, fieldAt, kindAt, permitOf, permissionAt, permissionsIn, permissionsOf, pathAtEntry}
 use Rattle.check_successors.specs.Successors.{Drops}
-use Rattle.check_forgetting.specs.Changes.{Becomes, ForgotOut, withoutPath, Remains}
+use Rattle.check_forgetting.specs.Changes.{Becomes, withoutPath}
 use Rattle.check_dropping.specs.Dropping.{Forgettable, Forgot, Renamed}
-use Rattle.check_entries.specs.Entries.{Consumed, RenamedEntries, Packed, Flags, renamedVariable, kept, gone}
-use Rattle.check_entries.specs.PathsOut.{OutMarked, keyDropped, droppedAt}
+use Rattle.check_entries.specs.Entries.{RenamedEntries, Packed, Flags, renamedVariable, kept}
 use Rattle.check_scans.specs.Sides.{renamedKey, mentionsKey}
 use Rattle.check_scans.proofs.Renaming.{gone-term, renamed-term}
 use Rattle.check_entries.proofs.Keeping.{kept-same, kept-all, kept-map}
 use Rattle.check_state.proofs.Writing.{entries-same, kinds-same, same-linked, same-facts}
 use Rattle.check_dropping.proofs.GivingWay.{gave, named}
-use Rattle.check_scans.specs.Scans.{Scanned, markedKey}
-use Rattle.check_scans.proofs.Scanning.{scanned-less, unmarked-kept}
-use Rattle.check_dropping.proofs.Untouched.{scanned-forgot}
-use Rattle.check_forgetting.proofs.Droppings.{path-drops, removed-drops, remainder-drops, drops-facts, keeps-facts, dropped-term}
+use Rattle.check_forgetting.proofs.Droppings.{path-drops, removed-drops}
 
 -- FACTS AND ENTRIES, one after the other: key₁ and b₁ have the facts, and the entries are as they were
 module _ (key b key₁ b₁ : List ℕ) (w : Wf key b) (w₁ : Wf key₁ b₁) (rest : (i : ℕ) → variables-at ≤ i → (i ≡ fact-count → ⊥) → getD b₁ i 0 ≡ getD b i 0) where
@@ -44,7 +39,7 @@ module _ (key b key₁ b₁ : List ℕ) (w : Wf key b) (w₁ : Wf key₁ b₁) (
   count = rest entry-count (omega arith) (omega arith)
 
   as-before : (i : ℕ) → i < entries b → permissionAt b₁ i ≡ permissionAt b i
-  as-before = entries-same b b₁ (entries b) (w .fit) (λ i g h. rest i g (omega arith))
+  as-before = entries-same b b₁ (entries b) (w .fit) (λ i g p q. rest i g p)
 
   same-entries : permissionsOf b₁ ≡ permissionsOf b
   same-entries = ap (λ (n : ℕ). listed (permissionAt b₁) n) count ∙ listed-same _ _ (entries b) as-before
@@ -73,9 +68,15 @@ module _ (key b key₁ b₁ : List ℕ) (w : Wf key b) (w₁ : Wf key₁ b₁) (
     unfolding renamePermission renameVariable renamedVariable bindOption
     entry-new i h =
         ap (renamePermission x (some to)) (sym (as-before i h)) ∙ go (eqb (variableAt b₁ i) x)
-        ∙ ap₂ (λ (v f : ℕ). some (record { variable = v; field = f })) (sym (E .variables i (omega (arith, count)))) (sym (E .rest (fields-at + i) (inr (omega (arith, w₁ .fit)))))
+        ∙ sym (rw (E .variables i (omega (arith, count)), above kinds-at i (omega (arith, w₁ .fit)), above fields-at i (omega (arith, w₁ .fit))))
       where
-        go : (c : Bool) → bindOption {B = Permission} (cond c (some to) (some (variableAt b₁ i))) (λ w. some (record { variable = w; field = fieldAt b₁ i })) ≡ some (record { variable = cond c to (variableAt b₁ i); field = fieldAt b₁ i })
+        above : (s j : ℕ) → variables-at + entries b₁ ≤ s + j → getD b₂ (s + j) 0 ≡ getD b₁ (s + j) 0
+        above s j g = E .rest (s + j) (inr g)
+
+        go :
+            (c : Bool) →
+            bindOption {B = Permission} (cond c (some to) (some (variableAt b₁ i))) (λ w. some (entry (permitOf (kindAt b₁ i)) w (fieldAt b₁ i)))
+            ≡ some (entry (permitOf (kindAt b₁ i)) (cond c to (variableAt b₁ i)) (fieldAt b₁ i))
         go true = refl
         go false = refl
 
@@ -93,63 +94,7 @@ module _ (key b key₁ b₁ : List ℕ) (w : Wf key b) (w₁ : Wf key₁ b₁) (
           kinds = kinds-same b₁ b₂ (entries b₁) (entries b₂) still (λ i h. E .rest i (inr (omega (arith, w₁ .fit)))) (w₁ .kinds);
         }
 
--- WITHOUT PATHS
--- nothing is dropped, or the sides that name a dropped path give way
-pub kept-out :
-    (key b : List ℕ) (out : List Bool) → Wf key b → false ≡ any (droppedAt b out (entries b)) (places (entries b)) → ForgotOut key b out key b
-kept-out key b out w e = record { wf = w; facts = λ c C. sym (keeps-facts b out c C (stateOf key b) e); rest = λ i g s. refl }
-
-pub dropped-out :
-    (key b key₁ b₁ : List ℕ) (out : List Bool) → true ≡ any (droppedAt b out (entries b)) (places (entries b)) → Forgot (keyDropped b out) key b out 255 key₁ b₁ →
-    ForgotOut key b out key₁ b₁
-dropped-out key b key₁ b₁ out e F =
-    record {
-      wf = F .wf;
-      facts =
-          λ c C.
-          F .facts (withoutPaths (unlisted (c .kept) (c .consumed))) (c .kept) (remainder-drops b out c (C .rest)) (λ j a h. dropped-term b out c C (getD key j 0))
-          ∙ sym (drops-facts b out c C (stateOf key b) e);
-      rest = F .rest;
-    }
-
--- no side is that of a path that is out
-pub none-out :
-    (key b : List ℕ) (out marks : List Bool) (i : ℕ) → Wf key b → OutMarked b out marks → Scanned (markedKey marks) key b i → facts b ≤ i → ForgotOut key b out key b
-none-out key b out marks i w M S h = go (any (droppedAt b out (entries b)) (places (entries b))) refl
-  where
-    go : (c : Bool) → any (droppedAt b out (entries b)) (places (entries b)) ≡ c → ForgotOut key b out key b
-    go true e =
-        dropped-out key b key b out (sym e)
-        (scanned-forgot (keyDropped b out) key b i (scanned-less (markedKey marks) (keyDropped b out) key b i (λ k d. unmarked-kept b out marks k M d) S) w h out 255)
-    go false e = kept-out key b out w (sym e)
-
--- the entries that are out, as what a formula consumes
-pub out-forgettable : (key b : List ℕ) (out : List Bool) → Forgettable (keyDropped b out) key b out 255
-out-forgettable key b out =
-    record {
-      ρ = withoutPaths (unlisted (shown .kept) (shown .consumed));
-      ps = shown .kept;
-      plain = λ t u e. without-is (unlisted (shown .kept) (shown .consumed)) t u e .1;
-      drops = remainder-drops b out shown (consumed .rest);
-      sides = λ j a h. dropped-term b out shown consumed (getD key j 0);
-    }
-  where
-    shown : Rules.Shown
-    shown = record { kept = kept out (permissionAt b) (entries b); consumed = gone out (permissionAt b) (entries b) }
-
-    consumed : Consumed b out shown
-    consumed = record { rest = refl; used = λ q. refl }
-
-pub remainder-law : (key b key₁ b₁ b₂ : List ℕ) (out : List Bool) → Wf key b → ForgotOut key b out key₁ b₁ → Packed b₁ out b₂ → Remains key b out key₁ b₂
-unfolding Rules.remainder Rules.dropPaths
-remainder-law key b key₁ b₁ b₂ out w F P c C =
-    record {
-      wf = packed-wf key b key₁ b₁ w (F .wf) (F .rest) b₂ out P;
-      same = ap₂ (λ (ps : List Permission) (fs : List Fact). record { permissions = ps; facts = fs })
-          (packed-entries key b key₁ b₁ w (F .wf) (F .rest) b₂ out P ∙ sym (C .rest))
-          (packed-facts key b key₁ b₁ w (F .wf) (F .rest) b₂ out P ∙ F .facts c C);
-    }
-
+-- WITHOUT A PATH
 -- k is the key of the path of entry i
 path-term :
     (b : List ℕ) (i k : ℕ) → termOf k ≡ path (variableAt b i) (fieldAt b i) → (l : ℕ) →
@@ -243,7 +188,7 @@ module _ (key b : List ℕ) (x : ℕ) (h : x < 256) (w : Wf key b) where
       unfolding renamePermission renameVariable bindOption
       entry-gone i = go (eqb (variableAt b i) x)
         where
-          go : (c : Bool) → bindOption (cond c none (some (variableAt b i))) (λ w. some (record { variable = w; field = fieldAt b i })) ≡ cond c none (some (permissionAt b i))
+          go : (c : Bool) → bindOption (cond c none (some (variableAt b i))) (λ w. some (entry (permitOf (kindAt b i)) w (fieldAt b i))) ≡ cond c none (some (permissionAt b i))
           go true = refl
           go false = refl
 

@@ -5,24 +5,28 @@ use mathlib.Core.List.{List, [], _∷_}
 use Prim.Native.Nat.{ℕ, _≤_}
 use lib.ListN.{getD}
 use Rattle.rules.specs.State as Rules
-use Rattle.rules.specs.State.{unlisted}
+use Rattle.rules.specs.State.{Permission, unlisted}
 use Rattle.check_equality.specs.Layout.{variables-at, fact-count}
-use Rattle.check_state.specs.States.{Wf, stateOf, facts, factsOf, permissionsOf, permissionAt}
-use Rattle.check_entries.specs.Entries.{Consumed}
+use Rattle.check_state.specs.States.{Wf, stateOf, entries, factsOf, permissionsOf, permissionAt}
+use Rattle.check_entries.specs.Entries.{kept}
 
 -- the arrays then hold the state
 pub record Becomes (t : Rules.State) (key b : List ℕ) : Type 0 where
   pub wf : Wf key b
   pub same : stateOf key b ≡ t
 
--- the arrays then hold what remains of the state without the entries that a formula consumed
-abbrev pub Remains : List ℕ → List ℕ → List Bool → List ℕ → List ℕ → Type 0
-Remains key b out key′ b′ = (c : Rules.Shown) → Consumed b out c → Becomes (Rules.remainder (stateOf key b) c) key′ b′
+-- the entries that are not out
+abbrev pub keptOf : List ℕ → List Bool → List Permission
+keptOf b out = kept out (permissionAt b) (entries b)
+
+-- the entries whose paths are dropped: no other entry has them
+abbrev pub droppedOf : List ℕ → List Bool → List Permission
+droppedOf b out = unlisted (keptOf b out) (permissionsOf b)
 
 -- the facts where the paths of the entries that are out are dropped; the entries stay
 pub record ForgotOut (key b : List ℕ) (out : List Bool) (key′ b′ : List ℕ) : Type 0 where
   pub wf : Wf key′ b′
-  pub facts : (c : Rules.Shown) → Consumed b out c → factsOf key′ b′ ≡ Rules.factsWithout (unlisted (c .kept) (c .consumed)) (c .kept) (stateOf key b)
+  pub facts : factsOf key′ b′ ≡ Rules.factsWithout (droppedOf b out) (keptOf b out) (stateOf key b)
   pub rest : (i : ℕ) → variables-at ≤ i → (i ≡ fact-count → ⊥) → getD b′ i 0 ≡ getD b i 0
 
 abbrev pub withoutPath : List ℕ → List ℕ → ℕ → Rules.State

@@ -12,9 +12,10 @@ ghost use Rattle.check_state.specs.States.{Wf, entries, stateOf};
 ghost use Rattle.check_successors.specs.Successors.{termOr};
 ghost use Rattle.check_scans.specs.Scans.{Scanned, markedKey};
 ghost use Rattle.check_state.specs.Questions.{variableOr};
+ghost use Rattle.check_entries.specs.Entries.{LeftFits, leftOf};
 ghost use Rattle.check_entries.specs.PathsOut.{OutMarked};
 ghost use Rattle.check_scans.specs.Sides.{mentionsKey};
-ghost use Rattle.check_forgetting.specs.Changes.{ForgotOut, Becomes, Remains, withoutPath};
+ghost use Rattle.check_forgetting.specs.Changes.{ForgotOut, Becomes, withoutPath};
 ghost use mathlib.Core.Option.{none, some};
 ghost use mathlib.Core.List.{List};
 ghost use Rattle.rules.specs.Syntax as Syntax;
@@ -79,17 +80,18 @@ fn forget_out(
     }
 }
 
-// The state without the entries that are out, whose paths are dropped.
+// What is left of the entries: a path of which nothing is left is dropped, one of which a half is left keeps its facts.
 pub fn remainder(
     key: &mut [u64; State::SLOTS],
     b: &mut [u8; State::BYTES],
-    out: &[bool; Machine::PERMISSIONS],
+    left: &[u8; Machine::PERMISSIONS],
 )
-    requires { ⌜ Wf (now key) (now b) ⌝ }
-    ensures { λ _. ⌜ Remains (now (key .entry)) (now (b .entry)) (now (out .entry)) (now (key .exit)) (now (b .exit)) ⌝ }
+    requires { ⌜ Wf (now key) (now b) × LeftFits (now b) (now left) ⌝ }
+    ensures { λ _. ⌜ Becomes (Rules.remainder (stateOf (now (key .entry)) (now (b .entry))) (leftOf (now (b .entry)) (now (left .entry)))) (now (key .exit)) (now (b .exit)) ⌝ }
 {
-    forget_out(key, b, out);
-    check_entries::pack(b, out);
+    let out = check_entries::store_left(b, left);
+    forget_out(key, b, &out);
+    check_entries::pack(b, &out);
 }
 
 // The path of entry i, whose key is k, is dropped, though it stays listed.

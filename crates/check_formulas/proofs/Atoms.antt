@@ -1,48 +1,46 @@
 -- Atoms of the tables, and formulas atom by atom.
-use mathlib.Core.Path.{_≡_, refl, sym, ap, ap₂, _∙_, subst}
-use mathlib.Core.Bool.{Bool, false, _&&_}
+use mathlib.Core.Path.{_≡_, refl, sym, ap, ap₂, _∙_}
+use mathlib.Core.Bool.{Bool, true, false}
 use mathlib.Core.List.{List, [], _∷_, map}
-use Prim.Native.Nat.{ℕ, suc, _+_, _-_, _<_}
+use Prim.Native.Nat.{ℕ, suc, _+_, _-_, _≤_, _<_}
 use native.Mathlib.Omega.{arith}
-use lib.ListN.{getD, replicate}
-use borrow.Author.Tests.{eq-eqb, ne-eqb}
+use borrow.Author.Tests.{lt-ltb, le-ltb, ne-eqb}
 use types.Run.{OneOf, miss}
 use denote.Enum.Declared.{tagOf}
-use Rattle.rules.specs.Base.{Try, _>>=_, any}
+use Rattle.rules.specs.Base.{Try, ok, no, _>>=_, _>>_, check}
 use Rattle.rules.specs.Limits.{most-permissions}
-use Rattle.rules.specs.Answers.{Refusal}
-use Rattle.rules.specs.Syntax.{Formula, Atom, eq, ne, cmp}
+use Rattle.rules.specs.Answers.{Refusal, notShown}
+use Rattle.rules.specs.Syntax.{Formula, Atom, eq, ne, own, cmp}
 use Rattle.rules.specs.State as Rules
-use Rattle.rules.specs.State.{Permission, equalIn, showFrom}
+use Rattle.rules.specs.State.{Permission, Equality, equalIn, showFrom}
 use Rattle.rules.specs.Rules.{actual, substTerm, substAtom}
-use Rattle.tables.specs.Decode.{run, byteAt, atomPlace, relOf, leftAt, rightAt, atomAt, atomsFrom}
-use Rattle.check_equality.specs.Listing.{listed}
+use Rattle.tables.specs.Numbers.{eq-atom}
+use Rattle.tables.specs.Decode.{run, isPermission, relOf, atomKindAt, leftAt, rightAt, atomAt, atomsFrom}
+use Rattle.check_state.specs.States.{Wf, stateOf, entries, kindAt}
+use Rattle.check_state.specs.Questions.{Bytes}
+use Rattle.check_entries.specs.Entries.{LeftFits, leftOf}
+use Rattle.check_entries.proofs.Halves.{all-left}
 use Rattle.check_entailment.specs.declared.Answer.{Answer}
 use Rattle.check_entailment.proofs.Answer.{the-type}
-use Rattle.check_state.specs.States.{Wf, stateOf, entries, permissionsOf, permissionAt}
-use Rattle.check_entries.specs.Entries.{gone}
 use Rattle.check_entailment.specs.Answers.{answered, ShowsAtom, Adds, AddsAtom}
-use Rattle.check_state.proofs.Entries.{no-flags}
-use Rattle.check_entries.proofs.Keeping.{kept-all, gone-any}
-use Rattle.check_inequality.proofs.Searches.{any-false}
 use Rattle.check_formulas.specs.Formulas.{formula, accessAt, Shows, Showing}
 
 module _ (w : List ℕ) (y z x a : ℕ) where
-  pub atom-access : byteAt w (atomPlace a) ≡ 0 → accessAt w y z x a ≡ substAtom (actual y z x) (atomAt w a)
-  unfolding accessAt atomAt
-  atom-access e = rw (eq-eqb (byteAt w (atomPlace a)) 0 e)
+  pub atom-access : (k : ℕ) → k ≡ atomKindAt w a → k < eq-atom → accessAt w y z x a k ≡ substAtom (actual y z x) (atomAt w a)
+  unfolding accessAt atomAt isPermission
+  atom-access k e h = rw (← e, lt-ltb k eq-atom h)
 
   pub atom-eq :
-      byteAt w (atomPlace a) ≡ 1 →
+      (k : ℕ) → k ≡ atomKindAt w a → k ≡ eq-atom →
       cmp eq (substTerm (actual y z x) (leftAt w a)) (substTerm (actual y z x) (rightAt w a)) ≡ substAtom (actual y z x) (atomAt w a)
-  unfolding atomAt substAtom relOf
-  atom-eq e = rw (ne-eqb (byteAt w (atomPlace a)) 0 (omega arith), eq-eqb (byteAt w (atomPlace a)) 1 e)
+  unfolding atomAt isPermission substAtom relOf
+  atom-eq k e d = rw (← e, d)
 
   pub atom-ne :
-      (byteAt w (atomPlace a) ≡ 0 → ⊥) → (byteAt w (atomPlace a) ≡ 1 → ⊥) →
+      (k : ℕ) → k ≡ atomKindAt w a → eq-atom ≤ k → (k ≡ eq-atom → ⊥) →
       cmp ne (substTerm (actual y z x) (leftAt w a)) (substTerm (actual y z x) (rightAt w a)) ≡ substAtom (actual y z x) (atomAt w a)
-  unfolding atomAt substAtom relOf
-  atom-ne n m = rw (ne-eqb (byteAt w (atomPlace a)) 0 n, ne-eqb (byteAt w (atomPlace a)) 1 m)
+  unfolding atomAt isPermission substAtom relOf
+  atom-ne k e h n = rw (← e, le-ltb k eq-atom h, ne-eqb k eq-atom n)
 
 module _ (w : List ℕ) (y z x : ℕ) where
   pub formula-none : (a : ℕ) → formula w y z x a 0 ≡ []
@@ -79,51 +77,72 @@ pub is-done : {A B : Type 0} (k : Answer) → k ≡ Answer.Done → (a : A) (f :
 unfolding answered _>>=_
 is-done k e a f = rw e
 
+-- ONE ATOM AND THE OTHERS
+pub bind-bind :
+    {A B C : Type 0} (t : Try Refusal A) (f : A → Try Refusal B) (g : B → Try Refusal C) (h : A → Try Refusal C) →
+    ((a : A) → h a ≡ (f a >>= g)) → (t >>= h) ≡ ((t >>= f) >>= g)
+unfolding _>>=_
+bind-bind (ok a) f g h e = e a
+bind-bind (no r) f g h e = refl
+
+check-on : {A B : Type 0} (c : Bool) (a : A) (f : A → Try Refusal B) → (check c notShown >> f a) ≡ ((check c notShown >> ok a) >>= f)
+unfolding check _>>_ _>>=_
+check-on true a f = refl
+check-on false a f = refl
+
+show-on :
+    (_~_ : Equality) (s : Rules.State) (a : Atom ℕ) (φ : Formula ℕ) (kept : List Permission) →
+    showFrom _~_ s (a ∷ φ) kept ≡ (showFrom _~_ s (a ∷ []) kept >>= λ k. showFrom _~_ s φ k)
+unfolding showFrom _>>=_
+show-on _~_ s (own k y f) φ kept = bind-bind (Rules.takeOwn _~_ k y f kept) ok (showFrom _~_ s φ) (showFrom _~_ s φ) (λ k. refl)
+show-on _~_ s (cmp n a b) φ kept =
+    bind-bind (Rules.resolve _~_ (s .permissions) a) _ _ _
+    (λ t. bind-bind (Rules.resolve _~_ (s .permissions) b) _ _ _ (λ u. check-on (Rules.holdsIn _~_ s n t u) kept (showFrom _~_ s φ)))
+
+add-on : (a : Atom ℕ) (φ : Formula ℕ) (s : Rules.State) → Rules.add (a ∷ φ) s ≡ (Rules.add (a ∷ []) s >>= λ t. Rules.add φ t)
+unfolding Rules.add _>>=_
+add-on (own k x f) φ s = bind-bind (Rules.addOwn k x f s) ok (Rules.add φ) (Rules.add φ) (λ t. refl)
+add-on (cmp n a b) φ s =
+    bind-bind (Rules.resolve (equalIn s) (s .permissions) a) _ _ _
+    (λ t. bind-bind (Rules.resolve (equalIn s) (s .permissions) b) _ _ _ (λ u. bind-bind (Rules.addFact n t u s) ok (Rules.add φ) (Rules.add φ) (λ t. refl)))
+
 -- SHOWING
-pub show-start : (key b : List ℕ) (φ : Formula ℕ) → Showing key b φ φ (replicate most-permissions false)
-unfolding Rules.show any
-show-start key b φ =
-    record {
-      size = refl;
-      shown = record { kept = permissionsOf b; consumed = [] };
-      taken = record { rest = sym (kept-all (replicate most-permissions false) (permissionAt b) (entries b) (λ i h. no-flags most-permissions i)); used = λ q. sym (none-gone q) };
-      same = refl;
-    }
-  where
-    none-gone : (q : Permission → Bool) → any q (gone (replicate most-permissions false) (permissionAt b) (entries b)) ≡ false
-    none-gone q =
-        gone-any q (replicate most-permissions false) (permissionAt b) (entries b)
-        ∙ any-false (λ j. getD (replicate most-permissions false) j false && q (permissionAt b j)) (listed (λ i. i) (entries b)) (λ j. ap (λ (d : Bool). d && q (permissionAt b j)) (no-flags most-permissions j))
+pub start-fits : (key b left : List ℕ) → Wf key b → Bytes (kindAt b) most-permissions left → LeftFits b left
+start-fits key b left w B = record { size = B .size; most = λ i h. let e = B .at i (omega (arith, w .fit)) in omega arith }
 
-module _ (key b : List ℕ) (φ rest : Formula ℕ) (out : List Bool) (S : Showing key b φ rest out) (a : Atom ℕ) (more : Formula ℕ) (e : rest ≡ a ∷ more)
-    (k : Answer) (out′ : List Bool) (A : ShowsAtom key b out a k out′) where
-  on : (answered k (A .after (S .shown)) >>= λ d. showFrom (equalIn (stateOf key b)) (stateOf key b) more d) ≡ Rules.show (stateOf key b) φ
-  on = sym (A .shows (S .shown) more (S .taken)) ∙ rw (← e) (S .same)
+pub show-start :
+    (w : List ℕ) (y z x a n : ℕ) (key b left : List ℕ) → Wf key b → Bytes (kindAt b) most-permissions left →
+    Showing key b (formula w y z x a n) (formula w y z x (a + 0) (n - 0)) left
+unfolding Rules.show
+show-start w y z x a n key b left W B =
+    ap₂ (λ (φ : Formula ℕ) (kept : List Permission). showFrom (equalIn (stateOf key b)) (stateOf key b) φ kept) (formula-all w y z x a n)
+    (all-left b left (entries b) (λ i h. B .at i (omega (arith, W .fit))) (W .kinds))
 
-  pub show-more : k ≡ Answer.Done → Showing key b φ more out′
-  show-more d = record { size = A .size; shown = A .after (S .shown); taken = A .taken (S .shown) (S .taken); same = sym (is-done k d _ _) ∙ on }
+module _ (key b : List ℕ) (φ rest : Formula ℕ) (left : List ℕ) (S : Showing key b φ rest left) where
+  module _ (a : Atom ℕ) (more : Formula ℕ) (e : rest ≡ a ∷ more) (k : Answer) (left′ : List ℕ) (A : ShowsAtom key b left a k left′) where
+    on : (answered k (leftOf b left′) >>= λ d. showFrom (equalIn (stateOf key b)) (stateOf key b) more d) ≡ Rules.show (stateOf key b) φ
+    on =
+        ap (λ (t : Try Refusal (List Permission)). t >>= λ d. showFrom (equalIn (stateOf key b)) (stateOf key b) more d) A
+        ∙ sym (show-on (equalIn (stateOf key b)) (stateOf key b) a more (leftOf b left)) ∙ rw (← e) S
 
-  pub show-refused : OneOf (1 ∷ 2 ∷ 3 ∷ 4 ∷ 5 ∷ []) (tagOf the-type k) → Shows key b φ k out′
-  show-refused o = record { size = A .size; shown = A .after (S .shown); taken = A .taken (S .shown) (S .taken); same = sym (not-done k o _ _ (A .after (S .shown))) ∙ on }
+    pub show-more : k ≡ Answer.Done → Showing key b φ more left′
+    show-more d = sym (is-done k d _ _) ∙ on
 
-pub show-end : (key b : List ℕ) (φ rest : Formula ℕ) (out : List Bool) → Showing key b φ rest out → rest ≡ [] → Shows key b φ Answer.Done out
-unfolding showFrom answered
-show-end key b φ rest out S e = record { size = S .size; shown = S .shown; taken = S .taken; same = rw e at (S .same) }
+    pub show-refused : OneOf (1 ∷ 2 ∷ 3 ∷ 4 ∷ 5 ∷ []) (tagOf the-type k) → Shows key b φ k left′
+    show-refused o = sym (not-done k o _ _ (leftOf b left′)) ∙ on
+
+  pub show-end : rest ≡ [] → Shows key b φ Answer.Done left
+  unfolding showFrom answered
+  show-end e = rw e at S
 
 -- ADDING
 module _ (key b : List ℕ) (a : Atom ℕ) (k : Answer) (key′ b′ : List ℕ) (A : AddsAtom key b a k key′ b′) (rest more : Formula ℕ) (e : rest ≡ a ∷ more) where
   pub add-more : k ≡ Answer.Done → Rules.add rest (stateOf key b) ≡ Rules.add more (stateOf key′ b′)
-  add-more d = rw e (A .adds more ∙ is-done k d _ _)
+  add-more d = rw e (add-on a more (stateOf key b) ∙ rw (← A .same) (is-done k d _ _))
 
   pub add-refused : OneOf (1 ∷ 2 ∷ 3 ∷ 4 ∷ 5 ∷ []) (tagOf the-type k) → Adds (Rules.add rest (stateOf key b)) k key′ b′
-  add-refused o = record { wf = A .wf; same = sym (rw e (A .adds more ∙ not-done k o _ _ (stateOf key′ b′))) }
+  add-refused o = record { wf = A .wf; same = sym (rw e (add-on a more (stateOf key b) ∙ rw (← A .same) (not-done k o _ _ (stateOf key′ b′)))) }
 
 pub add-end : (key b : List ℕ) (rest : Formula ℕ) → Wf key b → rest ≡ [] → Adds (Rules.add rest (stateOf key b)) Answer.Done key b
 unfolding Rules.add answered
 add-end key b rest w e = record { wf = w; same = rw e }
-
-pub show-begin :
-    (w : List ℕ) (y z x a n : ℕ) (key b : List ℕ) →
-    Showing key b (formula w y z x a n) (formula w y z x (a + 0) (n - 0)) (replicate most-permissions false)
-show-begin w y z x a n key b =
-    subst (λ (φ : Formula ℕ). Showing key b (formula w y z x a n) φ (replicate most-permissions false)) (sym (formula-all w y z x a n)) (show-start key b (formula w y z x a n))

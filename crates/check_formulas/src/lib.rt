@@ -4,20 +4,21 @@ use check_entailment::Atom;
 use check_entailment::Shown;
 use check_equality::State;
 use check_equality::Term;
-use rules::Machine;
 use tables::AtomKind;
 use tables::Layout;
 ghost use mathlib.Core.Path.{_≡_};
 ghost use Prim.Native.Nat.{_+_, _≤_, _<_};
 ghost use lib.ListN.{length};
 ghost use Rattle.rules.specs.Limits.{work-bytes};
+ghost use Rattle.rules.specs.Syntax.{own};
 ghost use Rattle.rules.specs.State as Rules;
 ghost use Rattle.rules.specs.Rules.{substTerm, substAtom};
 ghost use Rattle.rules.specs.Rules as Rule;
 ghost use Rattle.tables.specs.Layout.{most-atom-rows};
-ghost use Rattle.tables.specs.Decode.{exprAt, leftAt, rightAt, atomAt};
+ghost use Rattle.tables.specs.Decode.{exprAt, leftAt, rightAt, atomAt, permitOf};
 ghost use Rattle.check_equality.specs.Keys.{meaning};
 ghost use Rattle.check_state.specs.States.{Wf, stateOf};
+ghost use Rattle.check_entries.specs.Entries.{LeftFits};
 ghost use Rattle.check_entailment.specs.Answers.{atomOf, Adds};
 ghost use Rattle.check_formulas.specs.Formulas.{side-bytes, formula, accessAt, Shows};
 
@@ -85,13 +86,24 @@ pub fn right(w: &[u8], a: usize, y: u8, z: u8, x: u8) -> Term
     side(w, tag, i + RIGHT, y, z, x)
 }
 
-// `acc x f` at the atom a.
-fn access(w: &[u8], a: usize, y: u8, z: u8, x: u8) -> Atom
+// The permission of the kind k to x.f.
+fn permission(k: usize, x: u8, f: u8) -> Atom
+    ensures { λ r. ⌜ atomOf r ≡ own (permitOf k) x f ⌝ }
+{
+    if k == AtomKind::ACC {
+        Atom::Acc(x, f)
+    } else {
+        Atom::Read(x, f)
+    }
+}
+
+// The permission at the atom a, whose kind is k.
+fn access(w: &[u8], a: usize, k: usize, y: u8, z: u8, x: u8) -> Atom
     requires { ⌜ (length (now w) ≡ work-bytes) × (a < most-atom-rows) ⌝ }
-    ensures { λ r. ⌜ atomOf r ≡ accessAt (now (w .entry)) y z x a ⌝ }
+    ensures { λ r. ⌜ atomOf r ≡ accessAt (now (w .entry)) y z x a k ⌝ }
 {
     let i = Layout::ATOMS + a * Layout::ATOM_BYTES;
-    Atom::Acc(actual(y, z, x, w[i + LEFT]), w[i + LEFT_FIELD])
+    permission(k, actual(y, z, x, w[i + LEFT]), w[i + LEFT_FIELD])
 }
 
 // The atom a.
@@ -99,14 +111,17 @@ pub fn atom(w: &[u8], a: usize, y: u8, z: u8, x: u8) -> Atom
     requires { ⌜ (length (now w) ≡ work-bytes) × (a < most-atom-rows) ⌝ }
     ensures { λ r. ⌜ atomOf r ≡ substAtom (Rule.actual y z x) (atomAt (now (w .entry)) a) ⌝ }
 {
-    match tables::atom_kind(w, a) {
-        AtomKind::ACC => access(w, a, y, z, x),
-        AtomKind::EQ => Atom::Eq(left(w, a, y, z, x), right(w, a, y, z, x)),
-        _ => Atom::Ne(left(w, a, y, z, x), right(w, a, y, z, x)),
+    let k = tables::atom_kind(w, a);
+    if k < AtomKind::EQ {
+        return access(w, a, k, y, z, x);
     }
+    if k == AtomKind::EQ {
+        return Atom::Eq(left(w, a, y, z, x), right(w, a, y, z, x));
+    }
+    Atom::Ne(left(w, a, y, z, x), right(w, a, y, z, x))
 }
 
-// Shows n atoms from the atom a on; the entries that they consume are out then.
+// Shows n atoms from the atom a on, and says what is left of the entries then.
 pub fn show<'a>(
     w: &'a [u8],
     a: usize,
@@ -118,22 +133,22 @@ pub fn show<'a>(
     b: &'a [u8; State::BYTES],
 ) -> Shown
     requires { ⌜ (length (now w) ≡ work-bytes) × (a + n ≤ most-atom-rows) × Wf (now key) (now b) ⌝ }
-    ensures { λ r. ⌜ Shows (now (key .entry)) (now (b .entry)) (formula (now (w .entry)) y z x a n) (r .answer) (r .out) ⌝ }
+    ensures { λ r. ⌜ LeftFits (now (b .entry)) (r .left) × Shows (now (key .entry)) (now (b .entry)) (formula (now (w .entry)) y z x a n) (r .answer) (r .left) ⌝ }
 {
-    let mut out = [false; Machine::PERMISSIONS];
+    let mut left = check_state::kinds(b);
     let mut i = 0;
     while i < n {
-        let r = check_entailment::show_atom(key, b, out, atom(w, a + i, y, z, x));
+        let r = check_entailment::show_atom(key, b, left, atom(w, a + i, y, z, x));
         let k = r.answer;
-        out = r.out;
+        left = r.left;
         let Answer::Done = k else {
-            return Shown { answer: k, out };
+            return Shown { answer: k, left };
         };
         i += 1;
     }
     Shown {
         answer: Answer::Done,
-        out,
+        left,
     }
 }
 

@@ -9,12 +9,11 @@ use lib.Dec.{eqb}
 use borrow.Author.Tests.{eq-eqb}
 use Rattle.rules.specs.Base.{any}
 use Rattle.rules.specs.Syntax.{var}
-use Rattle.rules.specs.State.{Permission, Equality, links, twoEntries}
+use Rattle.rules.specs.State.{Permission, Equality, exceed, links, differ, twoEntries}
 use Rattle.rules.proofs.Lists.{decide-eq}
 use Rattle.check_equality.specs.Keys.{termOf}
 use Rattle.check_equality.specs.Listing.{listed}
 use Rattle.check_equality.proofs.Listing.{any-append, listed-more, or-true}
-use Rattle.check_inequality.specs.Ways.{pairTest}
 use Rattle.check_inequality.proofs.Searches.{any-false}
 
 shuffle : (a x b c : Bool) → ((a || (x || false)) || (b || c)) ≡ ((a || b) || (x || c))
@@ -32,23 +31,23 @@ module _ (_~_ : Equality) (t u : ℕ) where
 
   two-append :
       (l : List Permission) (q : Permission) →
-      twoEntries _~_ (l ++ (q ∷ [])) (termOf t) (termOf u) ≡ (twoEntries _~_ l (termOf t) (termOf u) || any (λ p. pairTest _~_ t u p q) l)
-  unfolding twoEntries any pairTest
+      twoEntries _~_ (l ++ (q ∷ [])) (termOf t) (termOf u) ≡ (twoEntries _~_ l (termOf t) (termOf u) || any (λ p. differ _~_ p q (termOf t) (termOf u)) l)
+  unfolding twoEntries any
   two-append [] q = refl
   two-append (p ∷ l) q =
-      ap₂ (λ (x y : Bool). x || y) (any-append (λ q. eqb (p .field) (q .field) && links _~_ (var (p .variable)) (var (q .variable)) (termOf t) (termOf u)) l (q ∷ [])) (two-append l q)
-      ∙ shuffle (any (pairTest _~_ t u p) l) (pairTest _~_ t u p q) (twoEntries _~_ l (termOf t) (termOf u)) (any (λ p. pairTest _~_ t u p q) l)
+      ap₂ (λ (x y : Bool). x || y) (any-append (λ q. differ _~_ p q (termOf t) (termOf u)) l (q ∷ [])) (two-append l q)
+      ∙ shuffle (any (λ q. differ _~_ p q (termOf t) (termOf u)) l) (differ _~_ p q (termOf t) (termOf u)) (twoEntries _~_ l (termOf t) (termOf u)) (any (λ p. differ _~_ p q (termOf t) (termOf u)) l)
 
   pub two-more :
       (f : ℕ → Permission) (i : ℕ) →
       twoEntries _~_ (listed f (i + 1)) (termOf t) (termOf u)
-      ≡ (twoEntries _~_ (listed f i) (termOf t) (termOf u) || any (λ p. pairTest _~_ t u p (f i)) (listed f i))
+      ≡ (twoEntries _~_ (listed f i) (termOf t) (termOf u) || any (λ p. differ _~_ p (f i) (termOf t) (termOf u)) (listed f i))
   two-more f i = ap (λ (l : List Permission). twoEntries _~_ l (termOf t) (termOf u)) (listed-more f i) ∙ two-append (listed f i) (f i)
 
   -- one more entry, with no other for it
   pub two-past :
       (f : ℕ → Permission) (i : ℕ) → twoEntries _~_ (listed f i) (termOf t) (termOf u) ≡ false →
-      any (λ p. pairTest _~_ t u p (f i)) (listed f i) ≡ false → twoEntries _~_ (listed f (i + 1)) (termOf t) (termOf u) ≡ false
+      any (λ p. differ _~_ p (f i) (termOf t) (termOf u)) (listed f i) ≡ false → twoEntries _~_ (listed f (i + 1)) (termOf t) (termOf u) ≡ false
   two-past f i e d = two-more f i ∙ rw (e, d)
 
   two-on : (f : ℕ → Permission) (n i : ℕ) → i ≤ n → twoEntries _~_ (listed f i) (termOf t) (termOf u) ≡ true → twoEntries _~_ (listed f n) (termOf t) (termOf u) ≡ true
@@ -64,29 +63,36 @@ module _ (_~_ : Equality) (t u : ℕ) where
 
   -- an entry that has another
   pub two-found :
-      (f : ℕ → Permission) (n i : ℕ) → i < n → any (λ p. pairTest _~_ t u p (f i)) (listed f i) ≡ true →
+      (f : ℕ → Permission) (n i : ℕ) → i < n → any (λ p. differ _~_ p (f i) (termOf t) (termOf u)) (listed f i) ≡ true →
       twoEntries _~_ (listed f n) (termOf t) (termOf u) ≡ true
   two-found f n i h e = two-on f n (i + 1) (omega arith) (two-more f i ∙ rw e (or-true (twoEntries _~_ (listed f i) (termOf t) (termOf u))))
 
   -- an entry whose variable is ~ neither
   pub two-neither :
       (q : Permission) (l : List Permission) → (var (q .variable) ~ termOf t) ≡ false → (var (q .variable) ~ termOf u) ≡ false →
-      any (λ p. pairTest _~_ t u p q) l ≡ false
-  unfolding pairTest links
-  two-neither q l e d = any-false _ l (λ p. rw (e, d) (none (eqb (p .field) (q .field)) (var (p .variable) ~ termOf t) (var (p .variable) ~ termOf u)))
+      any (λ p. differ _~_ p q (termOf t) (termOf u)) l ≡ false
+  unfolding differ links
+  two-neither q l e d = any-false _ l (λ p. rw (e, d) (none (eqb (p .field) (q .field)) (exceed (p .permit) (q .permit)) (var (p .variable) ~ termOf t) (var (p .variable) ~ termOf u)))
     where
-      none : (a b c : Bool) → (a && ((b && false) || (c && false))) ≡ false
-      none true true true = refl
-      none true true false = refl
-      none true false true = refl
-      none true false false = refl
-      none false b c = refl
+      none : (a x b c : Bool) → (a && (x && ((b && false) || (c && false)))) ≡ false
+      none true true true true = refl
+      none true true true false = refl
+      none true true false true = refl
+      none true true false false = refl
+      none true false b c = refl
+      none false x b c = refl
 
   pub pair-links :
-      (x y f g : ℕ) (p q : Bool) → f ≡ g → p ≡ (var y ~ termOf t) → q ≡ (var y ~ termOf u) →
-      (((var x ~ termOf t) && q) || ((var x ~ termOf u) && p)) ≡ pairTest _~_ t u (record { variable = x; field = f }) (record { variable = y; field = g })
-  unfolding pairTest links
-  pair-links x y f g p q e d c = rw (same-field f g e, d, c)
+      (k l : Permission) (p q : Bool) → k .field ≡ l .field → true ≡ exceed (k .permit) (l .permit) → p ≡ (var (l .variable) ~ termOf t) → q ≡ (var (l .variable) ~ termOf u) →
+      (((var (k .variable) ~ termOf t) && q) || ((var (k .variable) ~ termOf u) && p)) ≡ differ _~_ k l (termOf t) (termOf u)
+  unfolding differ links
+  pair-links k l p q e h d c = rw (eq-eqb (k .field) (l .field) e, ← h, d, c)
+
+  -- two `read`
+  pub pair-reads : (k l : Permission) → false ≡ exceed (k .permit) (l .permit) → false ≡ differ _~_ k l (termOf t) (termOf u)
+  unfolding differ
+  pair-reads k l h = rw (← h) (none (eqb (k .field) (l .field)))
     where
-      same-field : (f g : ℕ) → f ≡ g → eqb f g ≡ true
-      same-field f g e = eq-eqb f g e
+      none : (a : Bool) → false ≡ (a && false)
+      none true = refl
+      none false = refl

@@ -7,7 +7,7 @@ use lib.Dec.{eqb, leb}
 use lib.ListN.{getD}
 use Rattle.rules.specs.Base.{any}
 use Rattle.rules.specs.Syntax.{var}
-use Rattle.rules.specs.State.{Equality, Permission, links, equalBy, representative, differentNumbers}
+use Rattle.rules.specs.State.{Equality, equalBy, representative, differentNumbers, differ}
 use Rattle.check_equality.specs.Layout.{terms-at, left-sides, right-sides, relations-at}
 use Rattle.check_equality.specs.Keys.{termOf, first-number}
 use Rattle.check_equality.specs.Links.{alikeBy, Labelled, Decides}
@@ -58,15 +58,8 @@ unfoldable pub twoNumbers : List ℕ → List ℕ → ℕ → ℕ → ℕ → �
 twoNumbers key label n t a u b i =
     numberLike (getD key (terms-at + i) 0) (getD label (terms-at + i) 0) t a && otherNumber key label n u b (getD key (terms-at + i) 0)
 
--- (d) two entries are for one field, and their variables ~ t and u
-unfoldable pub pairTest : Equality → ℕ → ℕ → Permission → Permission → Bool
-pairTest _~_ t u p q =
-    eqb (p .field) (q .field) && links _~_ (var (p .variable)) (var (q .variable)) (termOf t) (termOf u)
-
-abbrev pub pairAt : Equality → ℕ → ℕ → List ℕ → ℕ → ℕ → Bool
-pairAt _~_ t u b j i = pairTest _~_ t u (permissionAt b j) (permissionAt b i)
-
--- r tells this of the entries j and i, where p and q say whether the variable of i is ~ t and ~ u
+-- (d) r tells this of the entries j and i, where p and q say whether the variable of i is ~ t and ~ u
 abbrev pub PairTold : List ℕ → ℕ → ℕ → ℕ → ℕ → Bool → Bool → Bool → Equality → Type 0
 PairTold b t u j i p q r same =
-    p ≡ same (var (variableAt b i)) (termOf t) → q ≡ same (var (variableAt b i)) (termOf u) → r ≡ pairAt same t u b j i
+    p ≡ same (var (variableAt b i)) (termOf t) → q ≡ same (var (variableAt b i)) (termOf u) →
+    r ≡ differ same (permissionAt b j) (permissionAt b i) (termOf t) (termOf u)

@@ -10,10 +10,11 @@ ghost use Rattle.rules.specs.Base.{any};
 ghost use Rattle.rules.specs.Limits.{most-permissions, most-facts};
 ghost use Rattle.rules.specs.Syntax as Syntax;
 ghost use Rattle.rules.specs.Syntax.{var};
+ghost use Rattle.rules.specs.State as Rules;
 ghost use Rattle.rules.specs.State.{nullAndObject, twoEntries, equalIn, holdsIn};
 ghost use Rattle.check_equality.specs.Keys.{termOf, first-number};
 ghost use Rattle.check_equality.specs.Links.{Labelled, relOf};
-ghost use Rattle.check_state.specs.States.{Wf, stateOf, permissionsIn};
+ghost use Rattle.check_state.specs.States.{Wf, stateOf, permissionsIn, permitOf};
 ghost use Rattle.check_state.specs.Questions.{Slots, Told, places};
 ghost use Rattle.check_inequality.specs.Ways.{eitherWay, unequalAt, unequalIn, PairTold};
 
@@ -96,6 +97,13 @@ fn null_and_object<'a>(
     false
 }
 
+// Do entries of two kinds own more halves than one location has? One of them is an `acc`.
+fn exceed(j: u8, i: u8) -> bool
+    ensures { λ r. ⌜ r ≡ Rules.exceed (permitOf j) (permitOf i) ⌝ }
+{
+    (j == State::ACC) | (i == State::ACC)
+}
+
 // The entries j and i, where p and q say whether the variable of i is ~ the terms of t and u.
 fn pair<'a>(
     key: &'a [u64; State::SLOTS],
@@ -116,12 +124,15 @@ fn pair<'a>(
     if b[State::FIELDS + j] != b[State::FIELDS + i] {
         return false;
     }
-    let c = check_state::variable_is(key, b, m, b[State::VARIABLES + j], t, x);
-    let d = check_state::variable_is(key, b, m, b[State::VARIABLES + j], u, y);
-    (c & q) | (d & p)
+    if exceed(b[State::KINDS + j], b[State::KINDS + i]) {
+        let c = check_state::variable_is(key, b, m, b[State::VARIABLES + j], t, x);
+        let d = check_state::variable_is(key, b, m, b[State::VARIABLES + j], u, y);
+        return (c & q) | (d & p);
+    }
+    false
 }
 
-// (d) Are the terms of t and u ~ the variables of two entries for one field? Only an entry whose variable is ~ to one of them is
+// (d) Are the terms of t and u ~ the variables of two entries for one field, one of them an `acc`? Only an entry whose variable is ~ to one of them is
 // tried with those before it.
 fn two_entries<'a>(
     key: &'a [u64; State::SLOTS],

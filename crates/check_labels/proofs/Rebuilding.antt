@@ -44,7 +44,7 @@ pub wf-sized : (key key′ b : List ℕ) → Header key′ → Wf key b → Size
 wf-sized key key′ b H w = record { header = H; size = w .linked .size; fit = w .linked .fit; entries-fit = w .fit; kinds = w .kinds }
 
 -- ONE MORE FACT RENAMED
-keep-append : {A : Type 0} (p : A → Bool) (l m : List A) → keep p (l ++ m) ≡ keep p l ++ keep p m
+pub keep-append : {A : Type 0} (p : A → Bool) (l m : List A) → keep p (l ++ m) ≡ keep p l ++ keep p m
 unfolding keep
 keep-append p [] m = refl
 keep-append {A = A} p (a ∷ l) m = go (p a) (keep-append p l m)

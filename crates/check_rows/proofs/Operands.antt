@@ -15,23 +15,24 @@ use Rattle.rules.specs.Rules.{rule, newRule, callRule, opposite}
 use Rattle.rules.proofs.Lists.{decide-eq}
 use Rattle.tables.specs.Decode.{firstAtomAt, atomCountAt, relOf, rowCount, classCount, methodCount, classAt, methodAt, programIn}
 use Rattle.tables.specs.Layout.{most-atom-rows}
+use Rattle.tables.specs.Numbers.{eq-atom}
 use Rattle.tables.specs.Tables.{Tables}
 use Rattle.tables.proofs.Rows.{class-get, method-get}
 use Rattle.check_equality.specs.Links as Links
 use Rattle.check_rows.specs.Rows.{RowIs}
 
 -- `eq` by its number
-pub relation : (k : ℕ) → Links.relOf (not (eqb k 1)) ≡ relOf k
+pub relation : (k : ℕ) → Links.relOf (not (eqb k eq-atom)) ≡ relOf k
 unfolding Links.relOf relOf
-relation k = go (eqb k 1)
+relation k = go (eqb k eq-atom)
   where
     go : (c : Bool) → cond (not c) ne eq ≡ cond c eq ne
     go true = refl
     go false = refl
 
-pub opposite-relation : (k : ℕ) → Links.relOf (eqb k 1) ≡ opposite (relOf k)
+pub opposite-relation : (k : ℕ) → Links.relOf (eqb k eq-atom) ≡ opposite (relOf k)
 unfolding Links.relOf relOf opposite
-opposite-relation k = go (eqb k 1)
+opposite-relation k = go (eqb k eq-atom)
   where
     go : (c : Bool) → cond c ne eq ≡ opposite (cond c eq ne)
     go true = refl

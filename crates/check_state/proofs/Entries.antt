@@ -4,22 +4,24 @@ use mathlib.Core.Bool.{Bool, true, false, cond}
 use mathlib.Core.List.{List, [], _∷_}
 use mathlib.Core.Option.{none, some}
 use mathlib.Core.Logic.{_⊎_, inl, inr, ⊎-elim}
-use Prim.Native.Nat.{ℕ, zero, suc, _≤_, _<_}
+use Prim.Native.Nat.{ℕ, zero, suc, _+_, _≤_, _<_}
 use native.Mathlib.Omega.{arith}
 use lib.Dec.{ltb}
-use lib.ListN.{getD, replicate, getD-replicate, List·getD-eq-default, length-replicate}
-use borrow.Author.Tests.{ne-eqb, ltb-true, ltb-false}
+use lib.ListN.{getD, set, replicate, getD-replicate, List·getD-eq-default, length-replicate, length-set}
+use lib.Seq.{getD-set-same, getD-set-other}
+use borrow.Author.Tests.{ne-eqb, le-leb, ltb-true, ltb-false}
 use Rattle.rules.specs.Base.{ok, no, _>>=_, orElse, first}
 use Rattle.rules.specs.Limits.{most-permissions}
 use Rattle.rules.specs.Answers.{unresolved}
 use Rattle.rules.specs.Syntax.{var, path}
 use Rattle.rules.specs.State as Rules
 use Rattle.rules.specs.State.{Equality, equalIn, equalBy, representative, names, pathOf}
+use Rattle.rules.proofs.Lists.{decide-eq}
 use Rattle.check_equality.specs.Keys.{termOf}
 use Rattle.check_equality.specs.Listing.{listed}
 use Rattle.check_equality.proofs.Listing.{first-append, first-here, first-found}
 use Rattle.check_state.specs.States.{factsOf, permissionAt, permissionsOf, stateOf, entries}
-use Rattle.check_state.specs.Questions.{FirstPlace, entryTest, passes, pathAt, standsFor, variableOr}
+use Rattle.check_state.specs.Questions.{FirstPlace, Bytes, entryTest, passes, pathAt, standsFor, variableOr}
 
 pub no-flags : (n i : ℕ) → getD (replicate n false) i false ≡ false
 no-flags n i = ⊎-elim (λ h. h) (λ h. h) (go (ltb i n) refl)
@@ -28,16 +30,24 @@ no-flags n i = ⊎-elim (λ h. h) (λ h. h) (go (ltb i n) refl)
     go true e = inl (getD-replicate n i false false (ltb-true i n e))
     go false e = inr (List·getD-eq-default (replicate n false) false {n = i} (rw (length-replicate n false) (ltb-false i n e)))
 
+-- one more number
+pub bytes-more : (f : ℕ → ℕ) (i : ℕ) (r : List ℕ) (v : ℕ) → i < most-permissions → Bytes f i r → v ≡ f i → Bytes f (i + 1) (set r i v)
+bytes-more f i r v h B e =
+    record {
+      size = length-set r i v ∙ B .size;
+      at = λ j g. ⊎-elim (λ d. rw d (getD-set-same r i v 0 (omega (arith, B .size)) ∙ e)) (λ d. getD-set-other r i j v 0 d ∙ B .at j (omega arith)) (decide-eq j i);
+    }
+
 pub first-none : {A : Type 0} (p : A → Bool) (f : ℕ → A) (n : ℕ) → ((i : ℕ) → i < n → p (f i) ≡ false) → first p (listed f n) ≡ none
 unfolding first listed
 first-none p f zero h = refl
 first-none p f (suc n) h =
     first-append p (listed f n) (f n ∷ []) (first-none p f n (λ i k. h i (omega arith))) ∙ rw (h n (omega arith))
 
-module _ (b : List ℕ) (_~_ : Equality) (y g i : ℕ) (F : FirstPlace (entryTest b (replicate most-permissions false) y g _~_) (entries b) i) where
-  in-order : (j : ℕ) → names _~_ y g (permissionAt b j) ≡ entryTest b (replicate most-permissions false) y g _~_ j
-  unfolding passes
-  in-order j = rw (no-flags most-permissions j)
+module _ (b halves : List ℕ) (_~_ : Equality) (y g i : ℕ) (F : FirstPlace (entryTest b halves 0 y g _~_) (entries b) i) where
+  in-order : (j : ℕ) → names _~_ y g (permissionAt b j) ≡ entryTest b halves 0 y g _~_ j
+  unfolding passes names
+  in-order j = rw (le-leb 0 (getD halves j 0) (omega arith))
 
   none-before : first (names _~_ y g) (listed (permissionAt b) i) ≡ none
   none-before = first-none _ (permissionAt b) i (λ j h. in-order j ∙ F .before j h)

@@ -11,10 +11,10 @@ use lib.Seq.{getD-set-same, getD-set-other}
 use Rattle.rules.specs.Limits.{most-permissions, most-facts}
 use Rattle.rules.specs.State.{Fact}
 use Rattle.check_equality.specs.Links.{Header, Decides, Pushed, factOf}
-use Rattle.check_equality.specs.Layout.{left-sides, right-sides, relations-at, variables-at, fields-at, fact-count, kinds-at, bytes}
+use Rattle.check_equality.specs.Layout.{left-sides, right-sides, relations-at, variables-at, fields-at, fact-count, entry-count, kinds-at, bytes}
 use Rattle.check_equality.proofs.Listing.{listed-more, listed-same}
 use Rattle.check_equality.proofs.Labels.{header-set}
-use Rattle.check_state.specs.States.{factAt, factsIn, factsOf, facts, permissionAt, IsKind, KindsIn, Linked, Wf}
+use Rattle.check_state.specs.States.{factAt, factsIn, factsOf, facts, variableAt, fieldAt, kindAt, permissionAt, IsKind, KindsIn, Linked, Wf}
 
 -- THE SAME BYTES
 -- labels that are the same decide the same
@@ -39,9 +39,18 @@ linked-same key b b′ n l e L =
       decides = subst (λ (fs : List Fact). Decides fs key b′ (left-sides + 2 * n)) (sym (facts-same key b b′ n (L .fit) e)) (decides-same b b′ (λ i h. e i (omega (arith, L .fit))) (L .decides));
     }
 
+-- an entry by its three bytes
+pub entry-same :
+    (b b′ : List ℕ) (i : ℕ) → kindAt b′ i ≡ kindAt b i → variableAt b′ i ≡ variableAt b i → fieldAt b′ i ≡ fieldAt b i → permissionAt b′ i ≡ permissionAt b i
+entry-same b b′ i k x f = rw (k, x, f)
+
 pub entries-same :
-    (b b′ : List ℕ) (n : ℕ) → n ≤ most-permissions → ((i : ℕ) → variables-at ≤ i → i < fact-count → getD b′ i 0 ≡ getD b i 0) → (i : ℕ) → i < n → permissionAt b′ i ≡ permissionAt b i
-entries-same b b′ n h e i g = ap₂ (λ (x f : ℕ). record { variable = x; field = f }) (e (variables-at + i) (omega arith) (omega arith)) (e (fields-at + i) (omega arith) (omega arith))
+    (b b′ : List ℕ) (n : ℕ) → n ≤ most-permissions → ((i : ℕ) → variables-at ≤ i → (i ≡ fact-count → ⊥) → (i ≡ entry-count → ⊥) → getD b′ i 0 ≡ getD b i 0) →
+    (i : ℕ) → i < n → permissionAt b′ i ≡ permissionAt b i
+entries-same b b′ n h e i g = entry-same b b′ i (at kinds-at (omega arith) (omega arith) (omega arith)) (at variables-at (omega arith) (omega arith) (omega arith)) (at fields-at (omega arith) (omega arith) (omega arith))
+  where
+    at : (s : ℕ) → variables-at ≤ s + i → (s + i ≡ fact-count → ⊥) → (s + i ≡ entry-count → ⊥) → getD b′ (s + i) 0 ≡ getD b (s + i) 0
+    at s p q r = e (s + i) p q r
 
 -- the kinds are as they were
 pub kinds-same : (b b′ : List ℕ) (n n′ : ℕ) → n′ ≡ n → ((i : ℕ) → kinds-at ≤ i → getD b′ i 0 ≡ getD b i 0) → KindsIn b n → KindsIn b′ n′

@@ -4,13 +4,14 @@ use mathlib.Core.Bool.{Bool, true, false, not, cond, _&&_}
 use mathlib.Core.List.{List}
 use mathlib.Core.Option.{Option, none, some}
 use Prim.Native.Nat.{ℕ, _≤_, _<_}
-use lib.Dec.{eqb, ltb}
-use lib.ListN.{getD}
+use lib.Dec.{eqb, ltb, leb}
+use lib.ListN.{length, getD}
 use Rattle.rules.specs.Base.{Try, ok, no}
 use Rattle.rules.specs.Answers.{Refusal, unresolved}
+use Rattle.rules.specs.Limits.{most-permissions}
 use Rattle.rules.specs.Syntax.{var}
 use Rattle.rules.specs.State as Rules
-use Rattle.rules.specs.State.{Fact, Equality, representative, equalBy, names, pathOf}
+use Rattle.rules.specs.State.{Fact, Equality, representative, equalBy, pathOf}
 use Rattle.check_equality.specs.Layout.{slots, left-sides}
 use Rattle.check_equality.specs.Keys.{termOf}
 use Rattle.check_equality.specs.Listing.{listed}
@@ -33,12 +34,18 @@ pub record FirstPlace (test : ℕ → Bool) (n r : ℕ) : Type 0 where
   pub before : (i : ℕ) → i < r → test i ≡ false
   pub found : r < n → test r ≡ true
 
--- the entry `x.f` is not out, and x ~ y and f is g
-unfoldable pub passes : Equality → ℕ → ℕ → Bool → ℕ → ℕ → Bool
-passes _~_ y g out x f = not out && names _~_ y g (record { variable = x; field = f })
+-- a number for each entry: f i for those below n
+pub record Bytes (f : ℕ → ℕ) (n : ℕ) (r : List ℕ) : Type 0 where
+  pub size : length r ≡ most-permissions
+  pub at : (i : ℕ) → i < n → getD r i 0 ≡ f i
 
-abbrev pub entryTest : List ℕ → List Bool → ℕ → ℕ → Equality → ℕ → Bool
-entryTest b out y g _~_ i = passes _~_ y g (getD out i false) (variableAt b i) (fieldAt b i)
+-- the entry `x.f` serves, and x ~ y and f is g
+unfoldable pub passes : Equality → ℕ → ℕ → Bool → ℕ → ℕ → Bool
+passes _~_ y g serves x f = serves && (eqb f g && _~_ (var x) (var y))
+
+-- it has as many halves as are wanted
+abbrev pub entryTest : List ℕ → List ℕ → ℕ → ℕ → ℕ → Equality → ℕ → Bool
+entryTest b halves want y g _~_ i = passes _~_ y g (leb want (getD halves i 0)) (variableAt b i) (fieldAt b i)
 
 abbrev pub places : ℕ → List ℕ
 places n = listed (λ i. i) n

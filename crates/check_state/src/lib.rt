@@ -11,8 +11,8 @@ ghost use Rattle.rules.specs.State.{equalIn};
 ghost use Rattle.check_equality.specs.Layout.{null-slot};
 ghost use Rattle.check_equality.specs.Keys.{termOf, meaning};
 ghost use Rattle.check_equality.specs.Links.{Labelled};
-ghost use Rattle.check_state.specs.States.{Wf, stateOf, permissionsOf, entries};
-ghost use Rattle.check_state.specs.Questions.{Slots, Told, FirstPlace, entryTest, passes, resolvedAs, pathAt, standsFor, variableOr};
+ghost use Rattle.check_state.specs.States.{Wf, stateOf, permissionsOf, entries, kindAt};
+ghost use Rattle.check_state.specs.Questions.{Slots, Told, FirstPlace, Bytes, entryTest, passes, resolvedAs, pathAt, standsFor, variableOr};
 
 // What the checker knows stands in two arrays, `key` and `b` (`State` in check_equality). Two slots have one label where their terms are ~.
 
@@ -37,12 +37,12 @@ pub fn variable_is<'a>(
     check_equality::alike(l, c, k, a)
 }
 
-// Is the entry x.f not out, and a y.g with x ~ y? k and a are y's key and label.
+// Does the entry x.f serve, and is it a y.g with x ~ y? k and a are y's key and label.
 fn names<'a>(
     key: &'a [u64; State::SLOTS],
     b: &'a [u8; State::BYTES],
     m: usize,
-    out: bool,
+    serves: bool,
     x: u8,
     f: u8,
     k: u64,
@@ -50,29 +50,30 @@ fn names<'a>(
     g: u8,
 ) -> bool
     requires { ⌜ Slots (now key) (now b) m × Labelled (now key) (now b) m k a ⌝ }
-    ensures { λ r. ⌜ Told (now (key .entry)) (now (b .entry)) m (λ same. (y : ℕ) → termOf k ≡ var y → r ≡ passes same y g out x f) ⌝ }
+    ensures { λ r. ⌜ Told (now (key .entry)) (now (b .entry)) m (λ same. (y : ℕ) → termOf k ≡ var y → r ≡ passes same y g serves x f) ⌝ }
 {
     if f != g {
         return false;
     }
-    if out {
-        return false;
+    if serves {
+        return variable_is(key, b, m, x, k, a);
     }
-    variable_is(key, b, m, x, k, a)
+    false
 }
 
-// The place of the first entry that is not out and a y.f up to ~, or n.
+// The place of the first entry that has as many halves as are wanted and is a y.f up to ~, or n.
 fn find<'a>(
     key: &'a [u64; State::SLOTS],
     b: &'a [u8; State::BYTES],
     m: usize,
-    out: &'a [bool; Machine::PERMISSIONS],
+    halves: &'a [u8; Machine::PERMISSIONS],
     n: usize,
+    want: u8,
     y: u8,
     f: u8,
 ) -> usize
     requires { ⌜ Slots (now key) (now b) m × (n ≤ most-permissions) ⌝ }
-    ensures { λ r. ⌜ Told (now (key .entry)) (now (b .entry)) m (λ same. FirstPlace (entryTest (now (b .entry)) (now (out .entry)) y f same) n r) ⌝ }
+    ensures { λ r. ⌜ Told (now (key .entry)) (now (b .entry)) m (λ same. FirstPlace (entryTest (now (b .entry)) (now (halves .entry)) want y f same) n r) ⌝ }
 {
     let k = check_equality::variable_key(y);
     let a = check_equality::label_of(key, b, m, k);
@@ -82,7 +83,7 @@ fn find<'a>(
             key,
             b,
             m,
-            out[i],
+            want <= halves[i],
             b[State::VARIABLES + i],
             b[State::FIELDS + i],
             k,
@@ -113,19 +114,20 @@ pub enum Resolved {
     Nothing,
 }
 
-// The place of the first entry that is not out and a y.f up to ~, or the count of entries.
+// The place of the first entry that has as many halves as are wanted and is a y.f up to ~, or the count of entries.
 pub fn entry<'a>(
     key: &'a [u64; State::SLOTS],
     b: &'a [u8; State::BYTES],
-    out: &'a [bool; Machine::PERMISSIONS],
+    halves: &'a [u8; Machine::PERMISSIONS],
+    want: u8,
     y: u8,
     f: u8,
 ) -> usize
     requires { ⌜ Wf (now key) (now b) ⌝ }
-    ensures { λ r. ⌜ FirstPlace (entryTest (now (b .entry)) (now (out .entry)) y f (equalIn (stateOf (now (key .entry)) (now (b .entry))))) (entries (now (b .entry))) r ⌝ }
+    ensures { λ r. ⌜ FirstPlace (entryTest (now (b .entry)) (now (halves .entry)) want y f (equalIn (stateOf (now (key .entry)) (now (b .entry))))) (entries (now (b .entry))) r ⌝ }
 {
     let m = State::LEFT + 2 * (b[State::FACTS] as usize);
-    find(key, b, m, out, b[State::ENTRIES] as usize, y, f)
+    find(key, b, m, halves, b[State::ENTRIES] as usize, want, y, f)
 }
 
 fn path_at(b: &[u8; State::BYTES], i: usize) -> Resolved
@@ -141,7 +143,20 @@ fn path_at(b: &[u8; State::BYTES], i: usize) -> Resolved
     Resolved::Nothing
 }
 
-// What an expression resolves to.
+// The halves that each entry owns.
+pub fn kinds(b: &[u8; State::BYTES]) -> [u8; Machine::PERMISSIONS]
+    ensures { λ r. ⌜ Bytes (kindAt (now (b .entry))) most-permissions r ⌝ }
+{
+    let mut halves = [0; Machine::PERMISSIONS];
+    let mut i = 0;
+    while i < Machine::PERMISSIONS {
+        halves[i] = b[State::KINDS + i];
+        i += 1;
+    }
+    halves
+}
+
+// What an expression resolves to: for a path any entry serves, with no half wanted of it.
 pub fn resolve<'a>(key: &'a [u64; State::SLOTS], b: &'a [u8; State::BYTES], e: Term) -> Resolved
     requires { ⌜ Wf (now key) (now b) ⌝ }
     ensures { λ r. ⌜ resolvedAs r ≡ Rules.resolve (equalIn (stateOf (now (key .entry)) (now (b .entry)))) (permissionsOf (now (b .entry))) (meaning e) ⌝ }
@@ -149,8 +164,8 @@ pub fn resolve<'a>(key: &'a [u64; State::SLOTS], b: &'a [u8; State::BYTES], e: T
     let Term::Path(y, f) = e else {
         return Resolved::Key(check_equality::key_of(e));
     };
-    let out = [false; Machine::PERMISSIONS];
-    path_at(b, entry(key, b, &out, y, f))
+    let halves = [0; Machine::PERMISSIONS];
+    path_at(b, entry(key, b, &halves, 0, y, f))
 }
 
 // Is v a variable other than x, and ~ the term of k, whose label is a?

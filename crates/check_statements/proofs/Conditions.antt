@@ -8,30 +8,22 @@ use Rattle.rules.specs.Base.{Try, ok, no, _>>=_, _>>_, check}
 use Rattle.rules.specs.Answers.{Refusal, stateFull}
 use Rattle.rules.specs.Syntax.{Formula, Rel, cmp}
 use Rattle.rules.specs.State as Rules
+use Rattle.rules.specs.State.{Permission}
 use Rattle.rules.specs.Rules.{End, opposite, ifRule, showEnd, loopRule}
 use Rattle.rules.proofs.Tries.{no-ok}
 use Rattle.check_equality.specs.Links.{relOf}
 use Rattle.check_entailment.specs.declared.Answer.{Answer}
 use Rattle.check_state.specs.States.{Wf, stateOf}
-use Rattle.check_entailment.specs.Answers.{answered, Adds, AddsAtom}
-use Rattle.check_formulas.proofs.Atoms.{not-done, is-done}
+use Rattle.check_entailment.specs.Answers.{answered, Adds}
+use Rattle.check_formulas.proofs.Atoms.{not-done, is-done, bind-bind}
 use Rattle.check_statements.specs.Statements.{Parts, Says, onlyKnown}
 use Rattle.check_statements.proofs.Ruled.{Refused, adds-same, adds-refused, adds-on, adds-no, after-done, after-refused, bind-answered}
 
--- a relation alone
-pub relation-adds :
-    (key b : List ℕ) (n : Rel) (l r : Rules.Term) (k : Answer) (key′ b′ : List ℕ) → AddsAtom key b (cmp n l r) k key′ b′ →
-    Adds (Rules.add (cmp n l r ∷ []) (stateOf key b)) k key′ b′
-unfolding Rules.add
-relation-adds key b n l r k key′ b′ A =
-    record { wf = A .wf; same = sym (A .adds [] ∙ bind-answered k (stateOf key′ b′) (λ t. Rules.add [] t) (stateOf key′ b′) refl) }
-
--- and by what its sides are
+-- a relation by what its sides are
 pub sides-add :
-    (key b : List ℕ) (n : Rel) (l r l′ r′ : Rules.Term) → l ≡ l′ → r ≡ r′ → (k : Answer) (key′ b′ : List ℕ) → AddsAtom key b (cmp n l r) k key′ b′ →
-    Adds (Rules.add (cmp n l′ r′ ∷ []) (stateOf key b)) k key′ b′
-sides-add key b n l r l′ r′ e d k key′ b′ A =
-    adds-same _ _ k key′ b′ (ap₂ (λ (t u : Rules.Term). Rules.add (cmp n t u ∷ []) (stateOf key b)) e d) (relation-adds key b n l r k key′ b′ A)
+    (s : Rules.State) (n : Rel) (l r l′ r′ : Rules.Term) → l ≡ l′ → r ≡ r′ → (k : Answer) (key′ b′ : List ℕ) →
+    Adds (Rules.add (cmp n l r ∷ []) s) k key′ b′ → Adds (Rules.add (cmp n l′ r′ ∷ []) s) k key′ b′
+sides-add s n l r l′ r′ e d k key′ b′ A = adds-same _ _ k key′ b′ (ap₂ (λ (t u : Rules.Term). Rules.add (cmp n t u ∷ []) s) e d) A
 
 -- IF
 
@@ -129,13 +121,6 @@ module _ (n : Rel) (l r : Rules.Term) (φ : Formula ℕ) (e : End) (k : Answer) 
     unfolding onlyKnown
     invariant-known f m′ key′ b′ C = adds-same _ _ m′ key′ b′ (sym (after-done _ k tt S _ d)) (adds-on _ m key b A _ f m′ key′ b′ C)
 
-bind-bind :
-    {A B C : Type 0} (t : Try Refusal A) (f : A → Try Refusal B) (g : B → Try Refusal C) (h : A → Try Refusal C) →
-    ((a : A) → h a ≡ (f a >>= g)) → (t >>= h) ≡ ((t >>= f) >>= g)
-unfolding _>>=_
-bind-bind (ok a) f g h e = e a
-bind-bind (no r) f g h e = refl
-
 -- the two states of a loop: one at its `loop`, and where there is that, the other at its `again`, whatever the body leaves
 module _ (n : Rel) (l r : Rules.Term) (φ : Formula ℕ) where
   abbrev states : Try Refusal (Rules.State × Rules.State)
@@ -163,15 +148,15 @@ module _ (n : Rel) (l r : Rules.Term) (φ : Formula ℕ) where
       paired : (f : Rules.State → Rules.State × Rules.State) (t : Try Refusal Rules.State) → answered k x ≡ t → answered k (f x) ≡ (t >>= λ y. ok (f y))
       paired f t e = sym (bind-answered k x (λ y. ok (f y)) (f x) refl) ∙ ap (λ (u : Try Refusal Rules.State). u >>= λ y. ok (f y)) e
 
-      shown : (p : Rules.State × Rules.State) (v : Try Refusal Rules.Shown) → (((v >>= λ r. ok (tt {0})) >>= λ u. ok (p .0)) >>= λ y. ok (y, p .1)) ≡ (v >>= λ r. ok p)
+      shown : (p : Rules.State × Rules.State) (v : Try Refusal (List Permission)) → (((v >>= λ r. ok (tt {0})) >>= λ u. ok (p .0)) >>= λ y. ok (y, p .1)) ≡ (v >>= λ r. ok p)
       shown p (ok r) = refl
       shown p (no q) = refl
 
-      unshown : (f : Rules.State → Rules.State × Rules.State) (q : Refusal) (v : Try Refusal Rules.Shown) → (((v >>= λ r. ok (tt {0})) >>= λ u. no q) >>= λ y. ok (f y)) ≡ (v >>= λ r. no q)
+      unshown : (f : Rules.State → Rules.State × Rules.State) (q : Refusal) (v : Try Refusal (List Permission)) → (((v >>= λ r. ok (tt {0})) >>= λ u. no q) >>= λ y. ok (f y)) ≡ (v >>= λ r. no q)
       unshown f q (ok r) = refl
       unshown f q (no p) = refl
 
-      never : {B : Type 0} (q : Refusal) (v : Try Refusal Rules.Shown) → (((v >>= λ r. ok (tt {0})) >>= λ u. no q) >>= ok) ≡ ok x → B
+      never : {B : Type 0} (q : Refusal) (v : Try Refusal (List Permission)) → (((v >>= λ r. ok (tt {0})) >>= λ u. no q) >>= ok) ≡ ok x → B
       never q (ok r) e = no-ok e
       never q (no p) e = no-ok e
 

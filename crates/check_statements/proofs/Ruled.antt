@@ -1,39 +1,39 @@
 -- The rules, one after the other.
 use mathlib.Core.Path.{_≡_, refl, sym, ap, ap₂, _∙_, subst}
-use mathlib.Core.Bool.{Bool, true, false, cond, not, _&&_}
+use mathlib.Core.Bool.{Bool, true, false, cond}
 use mathlib.Core.List.{List, [], _∷_, map}
-use mathlib.Core.Option.{none, some}
+use mathlib.Core.Option.{Option, none, some}
 use Prim.Native.Nat.{ℕ, suc, _+_, _*_, _-_, _≤_, _<_}
 use native.Mathlib.Omega.{arith}
 use lib.Dec.{eqb}
-use lib.ListN.{getD, set, replicate}
+use lib.ListN.{getD, set}
 use borrow.Author.Tests.{eq-eqb, ne-eqb, eqb-true}
 use types.Run.{OneOf}
 use denote.Enum.Declared.{tagOf}
 use Rattle.rules.specs.Base.{Try, ok, no, _>>=_, _>>_, check, orElse}
 use Rattle.rules.specs.Limits.{most-permissions}
 use Rattle.rules.specs.Answers.{Refusal, unresolved, noPermission, notShown}
-use Rattle.rules.specs.Syntax.{Formula, Atom, same, eq, ne, num, null, var, path, acc, cmp}
+use Rattle.rules.specs.Syntax.{Formula, Atom, same, eq, ne, num, null, var, path, acc, own, cmp}
 use Rattle.rules.specs.State as Rules
-use Rattle.rules.specs.State.{Permission, equalIn, names, split, pathOf, holdsIn}
+use Rattle.rules.specs.State.{Permission, Split, entry, equalIn, giving, split, pathOf, holdsIn}
 use Rattle.rules.specs.Rules.{End, actual, substTerm, substAtom, addEqual, setRule, assignRule, addFields, initial, addInitial, newRule, callRule, returnRule, showEnd, joinRule}
 use Rattle.tables.specs.Decode.{run, atomsFrom, fieldsFrom, classAt, fieldCountAt, fieldNameAt, byteAt, classPlace, methodAt, requiresAt, ensuresAt, methodPlace, halfAt}
 use Rattle.tables.specs.Decode as Decode
 use Rattle.check_equality.specs.Keys.{termOf}
+use Rattle.check_equality.specs.Layout.{acc-kind}
 use Rattle.check_equality.specs.Links.{relOf}
 use Rattle.check_equality.proofs.Keys.{same-key, of-null}
 use Rattle.check_entailment.specs.declared.Answer.{Answer}
 use Rattle.check_state.specs.declared.Resolved.{Resolved}
 use Rattle.check_entailment.proofs.Answer.{the-type}
-use Rattle.check_state.specs.States.{Wf, stateOf, entries, variableAt, fieldAt, permissionAt, permissionsOf}
-use Rattle.check_state.specs.Questions.{FirstPlace, entryTest, passes}
+use Rattle.check_state.specs.States.{Wf, stateOf, entries, variableAt, fieldAt, kindAt, permitOf, permissionAt, permissionsOf}
+use Rattle.check_state.specs.Questions.{FirstPlace, Bytes, entryTest}
 use Rattle.check_successors.specs.Successors.{termOr}
-use Rattle.check_entries.specs.Entries.{kept}
-use Rattle.check_forgetting.specs.Changes.{Becomes, withoutPath, Remains}
+use Rattle.check_entries.specs.Entries.{halvesOf, leftOf}
+use Rattle.check_forgetting.specs.Changes.{Becomes, withoutPath}
 use Rattle.check_entailment.specs.Answers.{answered, Adds}
-use Rattle.check_state.proofs.Entries.{no-flags}
-use Rattle.check_entries.proofs.Keeping.{kept-all}
-use Rattle.check_entailment.proofs.Splits.{split-none, split-first}
+use Rattle.check_entries.proofs.Halves.{all-left}
+use Rattle.check_entailment.proofs.Splits.{left-none, left-first}
 use Rattle.check_formulas.specs.Formulas.{formula, Shows}
 use Rattle.check_formulas.proofs.Atoms.{not-done, is-done}
 use Rattle.check_statements.specs.Statements.{assignTerm, callShown, initialOf, Says, Asserts, endOf, releaseRule}
@@ -68,31 +68,40 @@ pub adds-no : (k : Answer) (key b : List ℕ) → Wf key b → (t : Try Refusal 
 adds-no k key b w t e = record { wf = w; same = sym e }
 
 -- SET
-module _ (key b : List ℕ) (w : Wf key b) (x f y i : ℕ) (F : FirstPlace (entryTest b (replicate most-permissions false) x f (equalIn (stateOf key b))) (entries b) i) where
-  abbrev perm : ℕ → Permission
-  perm = permissionAt b
+module _ (key b : List ℕ) (w : Wf key b) (kinds : List ℕ) (B : Bytes (kindAt b) most-permissions kinds) (x f y i : ℕ)
+    (F : FirstPlace (entryTest b kinds acc-kind x f (equalIn (stateOf key b))) (entries b) i) where
+  kind-at : (j : ℕ) → j < entries b → getD kinds j 0 ≡ kindAt b j
+  kind-at j h = B .at j (omega (arith, w .fit))
 
-  all-kept : kept (replicate most-permissions false) perm (entries b) ≡ permissionsOf b
-  all-kept = kept-all (replicate most-permissions false) perm (entries b) (λ j h. no-flags most-permissions j)
+  most : (j : ℕ) → j < entries b → getD kinds j 0 ≤ acc-kind
+  most j h = omega (arith, kind-at j h, w .kinds j h .1)
 
-  passed : (j : ℕ) → (not (getD (replicate most-permissions false) j false) && names (equalIn (stateOf key b)) x f (perm j)) ≡ entryTest b (replicate most-permissions false) x f (equalIn (stateOf key b)) j
-  unfolding passes
-  passed j = refl
+  all : leftOf b kinds ≡ permissionsOf b
+  all = all-left b kinds (entries b) kind-at (w .kinds)
+
+  abbrev given : List Permission → Option Split
+  given l = split (giving (equalIn (stateOf key b)) acc x f) l
 
   pub set-refused : entries b ≤ i → setRule x f y (stateOf key b) ≡ no noPermission
-  unfolding setRule orElse _>>=_
+  unfolding setRule orElse _>>=_ permitOf
   set-refused h =
-      let e : split (names (equalIn (stateOf key b)) x f) (permissionsOf b) ≡ none =
-      subst (λ (l : List Permission). split (names (equalIn (stateOf key b)) x f) l ≡ none) all-kept
-      (split-none (names (equalIn (stateOf key b)) x f) (replicate most-permissions false) perm (entries b) (λ j g. passed j ∙ F .before j (omega arith))) in
+      let e : given (permissionsOf b) ≡ none =
+      subst (λ (l : List Permission). given l ≡ none) all
+      (left-none b kinds (equalIn (stateOf key b)) acc-kind x f (entries b) i (omega arith, omega arith) most F h) in
       rw e
+
+  shown-by : i < entries b → (c : Split) × (given (permissionsOf b) ≡ some c) × (c .taken ≡ permissionAt b i)
+  unfolding permitOf
+  shown-by h =
+      let c : Split = record { taken = permissionAt b i; left = halvesOf (getD kinds i 0 - acc-kind) (variableAt b i) (fieldAt b i); list = leftOf b (set kinds i (getD kinds i 0 - acc-kind)) } in
+      let e : given (leftOf b kinds) ≡ some c =
+      left-first b kinds (equalIn (stateOf key b)) acc-kind x f (entries b) i (omega arith, omega arith) most F h (omega (arith, B .size, w .fit))
+      ∙ rw (kind-at i h) in
+      (c, subst (λ (l : List Permission). given l ≡ some c) all e, refl)
 
   pub set-found : i < entries b → setRule x f y (stateOf key b) ≡ Rules.addFact eq (path (variableAt b i) (fieldAt b i)) (var y) (withoutPath key b i)
   unfolding setRule orElse _>>=_ pathOf
-  set-found h =
-      let e = subst (λ (l : List Permission). split (names (equalIn (stateOf key b)) x f) l ≡ some (record { taken = perm i; others = kept (set (replicate most-permissions false) i true) perm (entries b) })) all-kept
-      (split-first (names (equalIn (stateOf key b)) x f) (replicate most-permissions false) perm (entries b) i h (omega (arith, w .fit)) (λ j g. passed j ∙ F .before j g) (passed i ∙ F .found h)) in
-      rw e
+  set-found h = let (c, e, d) = shown-by h in rw (e, d)
 
 -- LET
 pub equal-none : (x : ℕ) (k : Resolved) (key b : List ℕ) → Wf key b → k ≡ Resolved.Nothing → Adds (addEqual x (termOr k) (stateOf key b)) Answer.Done key b
@@ -138,7 +147,7 @@ module _ (w : List ℕ) (c : ℕ) where
   fields-all n = let e : n ≡ n - 0 = omega arith in ap (λ (k : ℕ). fieldsFrom w c 0 k) e
 
   module _ (x : ℕ) (n j : ℕ) (h : j < n) (s : Rules.State) where
-    pub permission-more : addFields x (fieldsFrom w c j (n - j)) s ≡ (Rules.addPermission (record { variable = x; field = fieldNameAt w c j }) s >>= λ t. addFields x (fieldsFrom w c (j + 1) (n - (j + 1))) t)
+    pub permission-more : addFields x (fieldsFrom w c j (n - j)) s ≡ (Rules.addPermission (entry acc x (fieldNameAt w c j)) s >>= λ t. addFields x (fieldsFrom w c (j + 1) (n - (j + 1))) t)
     unfolding addFields Decode.fieldAt
     permission-more = rw (fields-more n j h)
 
@@ -178,7 +187,7 @@ itself-term (path v f) = ap (λ (u : ℕ). path u f) (itself v)
 
 itself-atom : (a : Atom ℕ) → substAtom (actual 0 1 14) a ≡ a
 unfolding substAtom
-itself-atom (acc v f) = ap (λ (u : ℕ). acc u f) (itself v)
+itself-atom (own k v f) = ap (λ (u : ℕ). own k u f) (itself v)
 itself-atom (cmp n a b) = ap₂ (λ (t u : Rules.Term). cmp n t u) (itself-term a) (itself-term b)
 
 itself-all : (φ : Formula ℕ) → map (substAtom (actual 0 1 14)) φ ≡ φ
@@ -202,42 +211,41 @@ bind-answered Answer.NotShown a f b e = refl
 bind-answered Answer.Full a f b e = refl
 bind-answered Answer.Malformed a f b e = refl
 
-pub assert-law : (key b : List ℕ) (φ : Formula ℕ) (k : Answer) (out : List Bool) → Shows key b φ k out → Asserts φ (stateOf key b) k
+pub assert-law : (key b : List ℕ) (φ : Formula ℕ) (k : Answer) (left : List ℕ) → Shows key b φ k left → Asserts φ (stateOf key b) k
 unfolding showEnd
-assert-law key b φ k out S = sym (ap (λ (t : Try Refusal Rules.Shown). t >>= λ r. ok tt) (sym (S .same)) ∙ bind-answered k (S .shown) (λ r. ok tt) tt refl)
+assert-law key b φ k left S = sym (ap (λ (t : Try Refusal (List Permission)). t >>= λ r. ok tt) (sym S) ∙ bind-answered k (leftOf b left) (λ r. ok tt) tt refl)
 
 -- `assert` leaves the state
 pub asserted : (φ : Formula ℕ) (key b : List ℕ) (k : Answer) → Wf key b → Asserts φ (stateOf key b) k → Adds (Rules.show (stateOf key b) φ >>= λ r. ok (stateOf key b)) k key b
 unfolding showEnd _>>=_
 asserted φ key b k w e = record { wf = w; same = go (Rules.show (stateOf key b) φ) e }
   where
-    go : (t : Try Refusal Rules.Shown) → Says (t >>= λ r. ok tt) k → answered k (stateOf key b) ≡ (t >>= λ r. ok (stateOf key b))
+    go : (t : Try Refusal (List Permission)) → Says (t >>= λ r. ok tt) k → answered k (stateOf key b) ≡ (t >>= λ r. ok (stateOf key b))
     go (ok r) e = sym (bind-answered k tt (λ u. ok (stateOf key b)) (stateOf key b) refl) ∙ ap (λ (u : Try Refusal (Unit {0})). u >>= λ v. ok (stateOf key b)) e
     go (no f) e = sym (bind-answered k tt (λ u. ok (stateOf key b)) (stateOf key b) refl) ∙ ap (λ (u : Try Refusal (Unit {0})). u >>= λ v. ok (stateOf key b)) e
 
 pub release-law :
-    (key b key′ b′ : List ℕ) (φ : Formula ℕ) (k : Answer) (out : List Bool) → Shows key b φ k out →
-    Remains key b out key′ b′ → Adds (releaseRule φ (stateOf key b)) k key′ b′
+    (key b key′ b′ : List ℕ) (φ : Formula ℕ) (k : Answer) (left : List ℕ) → Shows key b φ k left →
+    Becomes (Rules.remainder (stateOf key b) (leftOf b left)) key′ b′ → Adds (releaseRule φ (stateOf key b)) k key′ b′
 unfolding releaseRule
-release-law key b key′ b′ φ k out S R =
-    let B = R (S .shown) (S .taken) in
-    record { wf = B .wf; same = sym (ap (λ (u : Try Refusal Rules.Shown). u >>= λ r. ok (Rules.remainder (stateOf key b) r)) (sym (S .same)) ∙ bind-answered k (S .shown) (λ r. ok (Rules.remainder (stateOf key b) r)) (stateOf key′ b′) (ap ok (sym (B .same)))) }
+release-law key b key′ b′ φ k left S R =
+    record { wf = R .wf; same = sym (ap (λ (u : Try Refusal (List Permission)). u >>= λ r. ok (Rules.remainder (stateOf key b) r)) (sym S) ∙ bind-answered k (leftOf b left) (λ r. ok (Rules.remainder (stateOf key b) r)) (stateOf key′ b′) (ap ok (sym (R .same)))) }
 
 -- CALL
-module _ (w : List ℕ) (x y m z : ℕ) (key b : List ℕ) (a n c o : ℕ) (ea : a ≡ halfAt w (methodPlace m)) (en : n ≡ byteAt w (methodPlace m + 2)) (ec : c ≡ halfAt w (methodPlace m + 4)) (eo : o ≡ byteAt w (methodPlace m + 3)) (k : Answer) (out : List Bool) (S : Shows key b (formula w y z x a n) k out) where
-  shown-first : callShown x y (methodAt w m) z (stateOf key b) ≡ (answered k (S .shown) >>= λ r. Rules.add (formula w y z x c o) (Rules.remove x (Rules.remainder (stateOf key b) r)))
+module _ (w : List ℕ) (x y m z : ℕ) (key b : List ℕ) (a n c o : ℕ) (ea : a ≡ halfAt w (methodPlace m)) (en : n ≡ byteAt w (methodPlace m + 2)) (ec : c ≡ halfAt w (methodPlace m + 4)) (eo : o ≡ byteAt w (methodPlace m + 3)) (k : Answer) (left : List ℕ) (S : Shows key b (formula w y z x a n) k left) where
+  shown-first : callShown x y (methodAt w m) z (stateOf key b) ≡ (answered k (leftOf b left) >>= λ r. Rules.add (formula w y z x c o) (Rules.remove x (Rules.remainder (stateOf key b) r)))
   unfolding callShown methodAt requiresAt ensuresAt formula
-  shown-first = rw (S .same, ea, en, ec, eo)
+  shown-first = rw (S, ea, en, ec, eo)
 
   pub call-refused : Wf key b → Refused k → Adds (callShown x y (methodAt w m) z (stateOf key b)) k key b
   call-refused W r = record { wf = W; same = sym (shown-first ∙ not-done k r _ _ (stateOf key b)) }
 
   pub call-done :
-      k ≡ Answer.Done → (key₁ b₁ key₂ b₂ : List ℕ) → Remains key b out key₁ b₁ →
+      k ≡ Answer.Done → (key₁ b₁ key₂ b₂ : List ℕ) → Becomes (Rules.remainder (stateOf key b) (leftOf b left)) key₁ b₁ →
       Becomes (Rules.remove x (stateOf key₁ b₁)) key₂ b₂ → (r : Answer) (key₃ b₃ : List ℕ) → Adds (Rules.add (formula w y z x c o) (stateOf key₂ b₂)) r key₃ b₃ →
       Adds (callShown x y (methodAt w m) z (stateOf key b)) r key₃ b₃
   call-done e key₁ b₁ key₂ b₂ R Q r key₃ b₃ A =
-      adds-same _ _ r key₃ b₃ (sym (shown-first ∙ is-done k e _ _ ∙ rw (← R (S .shown) (S .taken) .same, ← Q .same))) A
+      adds-same _ _ r key₃ b₃ (sym (shown-first ∙ is-done k e _ _ ∙ rw (← R .same, ← Q .same))) A
 
 pub call-null :
     (w : List ℕ) (x y m z v : ℕ) (s : Rules.State) → termOf v ≡ var y → false ≡ holdsIn (equalIn s) s (relOf true) (termOf v) (termOf 256) →

@@ -10,7 +10,6 @@ use check_equality::State;
 use check_equality::Term;
 use check_state::Resolved;
 pub use objects::new_rule;
-use rules::Machine;
 ghost use mathlib.Core.Path.{_≡_};
 ghost use Prim.Native.Nat.{_+_, _≤_, _<_};
 ghost use lib.ListN.{length};
@@ -25,7 +24,7 @@ ghost use Rattle.check_successors.specs.Successors.{termOr};
 ghost use Rattle.check_entailment.specs.Answers.{Adds};
 ghost use Rattle.check_statements.specs.Statements.{assignTerm, callShown, Says, Asserts, endOf, releaseRule};
 
-// `set x f y`: the old value of the path that shows `acc x f` is dropped, and the path is y.
+// `set x f y`: the old value of the path that shows `acc x f`, by both halves, is dropped, and the path is y.
 pub fn set_rule(
     key: &mut [u64; State::SLOTS],
     b: &mut [u8; State::BYTES],
@@ -36,8 +35,8 @@ pub fn set_rule(
     requires { ⌜ Wf (now key) (now b) ⌝ }
     ensures { λ r. ⌜ Adds (setRule x f y (stateOf (now (key .entry)) (now (b .entry)))) r (now (key .exit)) (now (b .exit)) ⌝ }
 {
-    let out = [false; Machine::PERMISSIONS];
-    let i = check_state::entry(key, b, &out, x, f);
+    let kinds = check_state::kinds(b);
+    let i = check_state::entry(key, b, &kinds, State::ACC, x, f);
     if i < (b[State::ENTRIES] as usize) {
         let path = check_equality::path_key(b[State::VARIABLES + i], b[State::FIELDS + i]);
         check_forgetting::without_path(key, b, i, path);
@@ -158,8 +157,8 @@ pub fn release_rule(
 {
     let r = check_formulas::show(w, a, n, State::THIS, State::PARAM, State::RESULT, key, b);
     let k = r.answer;
-    let out = r.out;
-    check_forgetting::remainder(key, b, &out);
+    let left = r.left;
+    check_forgetting::remainder(key, b, &left);
     k
 }
 
@@ -183,8 +182,8 @@ fn call_shown(
     let Answer::Done = k else {
         return k;
     };
-    let out = r.out;
-    check_forgetting::remainder(key, b, &out);
+    let left = r.left;
+    check_forgetting::remainder(key, b, &left);
     check_forgetting::remove(key, b, x);
     let c = tables::ensures_first(w, m);
     let o = tables::ensures_count(w, m);

@@ -26,7 +26,12 @@ fn add_fields(
 {
     let mut j = 0;
     while j < n {
-        let k = check_entailment::add_permission(b, x, tables::field_name_at(w, c, j) as u8);
+        let k = check_entailment::add_permission(
+            b,
+            State::ACC,
+            x,
+            tables::field_name_at(w, c, j) as u8,
+        );
         let Answer::Done = k else {
             return k;
         };

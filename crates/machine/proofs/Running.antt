@@ -6,14 +6,12 @@ use mathlib.Core.Option.{some}
 use Prim.Native.Nat.{ℕ, zero, suc, _+_, _*_, _-_, _≤_, _<_}
 use native.Mathlib.Numerals.{add-one}
 use native.Mathlib.Omega.{arith}
-use lib.Dec.{eqb}
 use lib.ListN.{length, take, drop, getD, getD-replicate}
 use lib.Seq.{drop-cons}
 use Rattle.rules.specs.Limits.{most-statements, values-shown}
-use Rattle.rules.specs.Base.{any}
 use Rattle.rules.specs.Answers as Answers
 use Rattle.rules.specs.Syntax.{Row, Program}
-use Rattle.rules.specs.Machine.{Frame, Location, Config, Step, Room, holds, among, fieldsIn, object, valueOf, entryValues, mainFrame, ends, goOn, step, run, start, runProgram}
+use Rattle.rules.specs.Machine.{Frame, Location, Config, Step, Room, halves, fieldsIn, object, valueOf, entryValues, mainFrame, ends, goOn, step, run, start, runProgram}
 use Rattle.rules.specs.Counters.{freshMachine}
 use Rattle.rules.specs.declared.Machine.{Machine}
 use Rattle.tables.specs.Layout.{frame-variables, frames-at}
@@ -26,7 +24,7 @@ use Rattle.run_heap.specs.declared.Fault.{Fault}
 use Rattle.run_steps.specs.declared.Turn.{Turn}
 use Rattle.machine.specs.declared.Ending.{Ending}
 use Rattle.machine.specs.declared.Ran.{Ran}
-use Rattle.run_heap.specs.Views.{frameAt, variableAt, cellOf, holderIn, holderOf, fill, frame-holder}
+use Rattle.run_heap.specs.Views.{frameAt, variableAt, cellOf, halvesIn, halvesOf, fill, frame-holder}
 use Rattle.run_steps.specs.States.{FrameIs, CallersAre, Represents, Goes, Does, CanStep}
 use Rattle.machine.specs.Runs.{endingOf, words, mainValues, RanAs}
 use Rattle.run_heap.proofs.Reading.{cell-null, cell-beyond, cell-placed}
@@ -37,11 +35,11 @@ use Rattle.run_returns.proofs.Returning.{row-of}
 no-cells : (w : List ℕ) (o f k : ℕ) → cellOf w 0 o f ≡ some k → ⊥
 no-cells w o f k e = omega (arith, cell-placed w 0 o f k e .exists)
 
-nobody : (w : List ℕ) (p : Location) → holderOf w 0 p ≡ 0
-unfolding holderOf holderIn
-nobody w p = go (p .object)
+nobody : (w : List ℕ) (number : ℕ) (p : Location) → halvesOf w 0 number p ≡ 0
+unfolding halvesOf halvesIn
+nobody w number p = go (p .object)
   where
-    go : (o : ℕ) → holderIn w (cellOf w 0 o (p .field)) ≡ 0
+    go : (o : ℕ) → halvesIn w number (cellOf w 0 o (p .field)) ≡ 0
     go zero = rw (cell-null w 0 (p .field))
     go (suc i) = rw (cell-beyond w 0 i (p .field) (omega arith))
 
@@ -60,7 +58,7 @@ module _ (w : List ℕ) (tables : Tables w) where
   begin-tables = only-tables (only-fill frames-at (frames-at + frame-holder) w frames-at frame-variables 0 (omega arith) (omega arith)) (omega arith)
 
   pub begins : Represents (fill w frames-at frame-variables 0) (freshMachine (mainFirst w)) (start (programIn w))
-  unfolding start programIn CallersAre fieldsIn holds among any valueOf variableAt
+  unfolding start programIn CallersAre fieldsIn halves valueOf variableAt
   begins =
       let w′ : List ℕ = fill w frames-at frame-variables 0 in
       record {
@@ -75,7 +73,7 @@ module _ (w : List ℕ) (tables : Tables w) where
               apart = λ i j l h. absurd (omega arith);
               value = λ o f k e. absurd (no-cells w′ o f k e);
               has = λ o f k e. absurd (no-cells w′ o f k e);
-              marks = λ k l. absurd (omega arith);
+              marks = λ k n l h. absurd (omega arith);
             };
         frames = refl;
         most = omega arith;
@@ -85,7 +83,7 @@ module _ (w : List ℕ) (tables : Tables w) where
               values = λ x l. zero-values x l ∙ sym (fill-word w frames-at frame-variables 0 x (omega (arith, tables .size)) (omega arith) l);
               row-is = refl;
               row-fits = omega (arith, tables .main-fits .0, rows-count-same w w′ begin-tables);
-              held = λ p. sym (ap (λ (i : ℕ). eqb i 1) (nobody w′ p));
+              held = λ p. sym (nobody w′ 1 p);
               numbered = omega arith;
             };
         ensures = inl refl;

@@ -18,7 +18,8 @@ use Rattle.run_steps.specs.States.{Represents, Follows, Does, CanStep, AtKind, 
 use Rattle.run_returns.proofs.Returning.{row-of}
 use Rattle.run_steps.proofs.Doing.{fits}
 use Rattle.run_calls.specs.Calls.{newHere, callHere}
-use Rattle.run_returns.specs.Returns.{returnHere, endHere}
+use Rattle.run_returns.specs.Returns.{sourceOf, backHere}
+use Rattle.run_returns.proofs.Resulting.{end-returns}
 
 -- the statement that is done
 statement : {w : List ℕ} {c : Machine} (m : Config) → Represents w c m → statementOf (programIn w) (m .frame) ≡ stmtAt w (c .row)
@@ -79,10 +80,18 @@ module _ {w w′ : List ℕ} {c : Machine} {r : Turn} (ready : CanStep w c) (roo
   unfolding stepAt simpleStep statementNumber
   calls k = does-as _ (λ m. rw (call-means w (operandsAt w (c .row)) k, method-get w (memberAt w (c .row)) (fits ready .method k)))
 
-  pub returns :
-      AtKind w c Return → Does w c w′ r (returnHere w c) → Does w c w′ r (step room (programIn w))
-  unfolding stepAt statementNumber
-  returns k = does-as _ (λ m. rw (return-means w (operandsAt w (c .row)) k))
+  pub backs :
+      AtKind w c Return ⊎ AtKind w c End → Does w c w′ r (backHere w c) → Does w c w′ r (step room (programIn w))
+  unfolding step stepAt statementNumber sourceOf
+  backs (inl k) D = does-as _ (λ m. rw (return-means w (operandsAt w (c .row)) k, k)) D
+  backs (inr k) D =
+      record {
+        tables = D .tables;
+        follows = λ m R.
+            subst (Follows w′ c r m)
+            (sym (ap (λ (s : Stmt). stepAt room (programIn w) s m) (statement m R) ∙ (rw (end-means w (operandsAt w (c .row)) k, k) (sym (end-returns R)))))
+            (D .follows m R);
+      }
 
   pub asserts :
       AtKind w c Assert ⊎ AtKind w c Join → Does w c w′ r (assertHere w c) →
@@ -115,7 +124,3 @@ module _ {w w′ : List ℕ} {c : Machine} {r : Turn} (ready : CanStep w c) (roo
   pub computes : T (isComputing (kindAt w (c .row))) → Does w c w′ r (computeHere w c) → Does w c w′ r (step room (programIn w))
   unfolding stepAt simpleStep statementNumber
   computes t = does-as _ (λ m. rw (compute-means w (operandsAt w (c .row)) t))
-
-  pub ends : AtKind w c End → Does w c w′ r (endHere w) → Does w c w′ r (step room (programIn w))
-  unfolding stepAt statementNumber
-  ends k = does-as _ (λ m. rw (end-means w (operandsAt w (c .row)) k))

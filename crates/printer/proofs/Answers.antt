@@ -5,6 +5,7 @@ use mathlib.Core.List.{List, [], _∷_, _++_, append-nil}
 use Prim.Native.Nat.{ℕ, _+_, _≤_}
 use native.Mathlib.Omega.{arith}
 use lib.ListN.{length, length-append}
+use Rattle.rules.specs.Areas.{numberIn, lineIn}
 use Rattle.rules.specs.Base.{Name, bytes, between}
 use Rattle.rules.specs.Printed.{digits, printedLine, printedVariables, printedRun}
 use Rattle.rules.specs.Items.{Item}
@@ -13,7 +14,7 @@ use Rattle.rules.specs.Reading.{readText}
 use Rattle.tables.specs.Decode.{wordAt}
 use Rattle.read_declarations.specs.Texts.{linesOf}
 use Rattle.printer.specs.Writes.{Writes, Prints}
-use Rattle.printer.specs.Answers.{numberIn, lineIn, valuesIn, resultIn, checkLine, runLine, printedAnswers}
+use Rattle.printer.specs.Answers.{valuesIn, resultIn, checkLine, runLine, printedAnswers}
 use Rattle.printer.specs.Variables.{locals}
 use Rattle.printer.proofs.Writes.{digits-short}
 use Rattle.printer.proofs.Reading.{main-locals}

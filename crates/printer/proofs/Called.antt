@@ -8,10 +8,10 @@ use lib.ListN.{length, getD}
 use lib.Seq.{getD-append-add}
 use Rattle.rules.specs.Limits.{program-steps, values-shown}
 use Rattle.rules.specs.Calls.{Result, checkText, trialText}
-use Rattle.rules.specs.Areas.{packed, wordBytes, wordsBytes, resultBytes}
+use Rattle.rules.specs.Areas.{packed, wordBytes, wordsBytes, resultBytes, numberIn, lineIn}
 use Rattle.rules.specs.Printed.{printed}
 use Rattle.tables.specs.Decode.{wordAt}
-use Rattle.printer.specs.Answers.{numberIn, lineIn, wordsFrom, resultIn, printedAnswers, Called}
+use Rattle.printer.specs.Answers.{wordsFrom, resultIn, printedAnswers, Called}
 
 -- NUMBERS
 pub number-packed : (n l : ℕ) → l < 65536 → numberIn (packed n l) ≡ n

@@ -14,12 +14,12 @@ use Rattle.rules.specs.Items.{Item}
 use Rattle.rules.specs.Reading.{readText, program}
 use Rattle.rules.specs.Machine.{runProgram}
 use Rattle.rules.specs.Calls.{checkItems, checkText, verdictNumbers, trialText, runItems, outcomeResult, refusedResult, wholeHeap}
-use Rattle.rules.specs.Areas.{packed}
+use Rattle.rules.specs.Areas.{packed, numberIn}
 use Rattle.rules.specs.Printed.{printed}
 use Rattle.read_bytes.proofs.Search.{true-false}
 use Rattle.rules.proofs.LinesTaken.{read-taken}
 use Rattle.soundness.proofs.ReadRefuses.{read-refused}
-use Rattle.printer.specs.Answers.{numberIn, printedAnswers, ReadUnless, Called}
+use Rattle.printer.specs.Answers.{printedAnswers, ReadUnless, Called}
 use Rattle.printer.proofs.Called.{AnswersFit, number-packed, printed-is}
 use Rattle.printer.proofs.Bounds.{all-get, Small, Within, read-within, items-small, items-few, program-fits, check-within}
 use Rattle.printer.proofs.RunBounds.{outcome-fits}

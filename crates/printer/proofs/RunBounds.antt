@@ -124,7 +124,7 @@ module _ (n : ℕ) where
   value-fits m null v x s e = subst Small (ok-inj e) (omega arith)
   value-fits m (var y) v x s e = subst Small (ok-inj e) (value-of (m .frame) y (x .frame))
   value-fits m (path y f) v x s e =
-      let (p, i, j) = bind-ok (locate (m .frame) y f) e in
+      let (p, i, j) = bind-ok (locate (m .frame) [] 1 y f) e in
       subst Small (ok-inj j) (value-at (m .heap) (p .object) f (x .heap))
 
   store-fits : (h : Heap) (o f v : ℕ) → SmallHeap h → Small v → SmallHeap (store h o f v)
@@ -157,7 +157,7 @@ module _ (n : ℕ) where
   set-fits : (m m′ : Config) (x f y : ℕ) → Fit m → setStep x f y m ≡ ok m′ → Fit m′
   unfolding setStep stored
   set-fits m m′ x f y z i =
-      let (p, j, k) = bind-ok (locate (m .frame) x f) i in
+      let (p, j, k) = bind-ok (locate (m .frame) [] 2 x f) i in
       subst Fit (ok-inj k)
       (record {
         heap = store-fits (m .heap) (p .object) f (valueOf (m .frame) y) (z .heap) (value-of (m .frame) y (z .frame));

@@ -2,7 +2,7 @@
 use mathlib.Core.Path.{_≡_}
 use mathlib.Core.Bool.{Bool, false, cond}
 use mathlib.Core.List.{List, [], _∷_, _++_}
-use Prim.Native.Nat.{ℕ, zero, suc, _+_, _/_, _%_}
+use Prim.Native.Nat.{ℕ, zero, suc, _+_, _%_}
 use Rattle.rules.specs.Base.{Name, bytes, between}
 use Rattle.rules.specs.Limits.{values-shown, program-steps}
 use Rattle.rules.specs.Text.{digit-zero}
@@ -10,7 +10,7 @@ use Rattle.rules.specs.Answers.{accepted}
 use Rattle.rules.specs.Items.{Item}
 use Rattle.rules.specs.Reading.{readText}
 use Rattle.rules.specs.Calls.{Result, checkText, trialText}
-use Rattle.rules.specs.Areas.{packed, resultBytes}
+use Rattle.rules.specs.Areas.{packed, numberIn, lineIn, resultBytes}
 use Rattle.rules.specs.Printed.{digits, signed, printedLine, mainVariables, printedRun}
 use Rattle.tables.specs.Numbers.{word-bytes}
 use Rattle.tables.specs.Decode.{wordAt}
@@ -45,16 +45,6 @@ lowDigit n = digit-zero + n % 10
 unfoldable pub wordsFrom : ℕ → ℕ → List ℕ → List ℕ
 wordsFrom zero i b = []
 wordsFrom (suc n) i b = wordAt b i ∷ wordsFrom n (i + word-bytes) b
-
--- a call returns number × 65,536 + line
-abbrev pub number-factor : ℕ
-number-factor = 65536
-
-abbrev pub numberIn : ℕ → ℕ
-numberIn r = r / number-factor
-
-abbrev pub lineIn : ℕ → ℕ
-lineIn r = r % number-factor
 
 -- 1 to 9: the text is not read
 abbrev pub isUnread : ℕ → Bool

@@ -2,27 +2,34 @@
 use mathlib.Core.Path.{_≡_, refl, sym, ap, subst, _∙_}
 use mathlib.Core.Bool.{Bool, true, false, not, cond, _&&_, _||_, and-true}
 use mathlib.Core.List.{List, [], _∷_}
-use mathlib.Core.Logic.{_⊎_, inl, inr, ⊎-elim}
+use mathlib.Core.Logic.{⊎-elim}
 use Prim.Native.Nat.{ℕ, zero, suc, _+_, _-_, _≤_, _<_}
 use native.Mathlib.Omega.{arith}
-use lib.Dec.{eqb}
-use lib.ListN.{length, getD, drop, take, length-drop}
+use lib.Dec.{eqb, leb}
+use native.Mathlib.Decide.{decLt}
+use lib.ListN.{length, getD, drop, take, length-drop, List·getD-eq-default}
 use lib.Seq.{getD-drop, getD-take, length-take-le}
-use borrow.Author.Tests.{eq-eqb, ne-eqb, not-true}
+use borrow.Author.Tests.{ne-eqb, leb-true, le-leb, not-true}
 use Rattle.rules.specs.Base as Base
-use Rattle.rules.specs.Base.{Name, bytes, all, is}
+use Rattle.rules.specs.Base.{Name, bytes, all, is, eqName, between}
 use Rattle.rules.specs.Text as Text
-use Rattle.rules.specs.Text.{upTo, isName, isExpr, isRel, isAtom, isFormula, isCondition}
-use Rattle.rules.specs.Grammar.{Operand, variable, expression, read, isOperand}
+use Rattle.rules.specs.Text.{upTo, isName, isExpr, isRel, isPermit, isAtom, isFormula, isCondition}
+use Rattle.rules.specs.Grammar.{Operand, variable, member, expression, read, field, isOperand}
+use Rattle.rules.specs.Scope.{atomOperands}
 use Rattle.rules.proofs.Lists.{decide-eq}
+use Rattle.read_bytes.specs.Marks.{wide-bytes}
 use Rattle.read_bytes.specs.Sets.{inSet, FirstInSet}
 use Rattle.read_bytes.specs.declared.Set.the-variants.{LineEnd, FieldEnd}
-use Rattle.read_bytes.proofs.Search.{true-false, both-true, and-false, or-true, or-false, all-at, upTo-within, upTo-is}
-use Rattle.read_words.proofs.Words.{of-atom-word}
+use Rattle.read_bytes.proofs.Search.{true-false, both-true, and-false, or-false, all-at, upTo-within, upTo-is, same-is, same-refl}
 use Rattle.read_fields.specs.Cuts.{part, more}
 use Rattle.read_grammar.specs.Rows as Rows
 use Rattle.read_grammar.specs.Rows.{operandsNumber}
-use Rattle.read_fields.specs.Spans.{Span, FieldFits, operandsThen, HeadIs, AtomHead, AtomEnd, OperandsRead, conditionFirst}
+use Rattle.read_words.specs.Words.{packed}
+use Rattle.read_words.proofs.Words.{spelled}
+use Rattle.read_atoms.specs.declared.Row.{Row}
+use Rattle.read_atoms.specs.Atoms.{atomWord, beginsAtom, operandsOf, atomRow, begunBy}
+use Rattle.read_atoms.proofs.Atoms.{of-atom-word, atom-begins, some-bytes, word-told, word-solid, word-short}
+use Rattle.read_fields.specs.Spans.{Span, FieldFits, operandsThen, Spells, HeadIs, AtomHead, AtomEnd, OperandsRead, conditionFirst}
 use Rattle.read_fields.specs.declared.Head.{Head}
 use Rattle.read_fields.specs.declared.Fields.the-variants.{Upto, Bad}
 use Rattle.read_fields.proofs.Clean.{inLine}
@@ -32,36 +39,13 @@ use Rattle.read_fields.proofs.Spans.{span-on, more-fits, fits-span}
 
 -- WORDS
 
--- a word that begins an atom
-abbrev isWord : Name → Bool
-isWord s = is "acc" s || isRel s
-
-rel-word : (s : Name) → isRel s ≡ true → isWord s ≡ true
-rel-word s e = rw e (or-true (is "acc" s))
-
--- told by its first letter
-abbrev wordOf : ℕ → Name
-wordOf b = cond (eqb b 97) (bytes "acc") (cond (eqb b 101) (bytes "eq") (bytes "ne"))
-
-word-letter : (s : Name) → isWord s ≡ true → s ≡ wordOf (getD s 0 0)
-unfolding bytes
-word-letter = of-atom-word (λ s. s ≡ wordOf (getD s 0 0)) refl refl refl
-
-some-letter : (s : Name) → isWord s ≡ true → (getD s 0 0 ≡ 97) ⊎ ((getD s 0 0 ≡ 101) ⊎ (getD s 0 0 ≡ 110))
-unfolding bytes
-some-letter = of-atom-word (λ s. (getD s 0 0 ≡ 97) ⊎ ((getD s 0 0 ≡ 101) ⊎ (getD s 0 0 ≡ 110))) (inl refl) (inr (inl refl)) (inr (inr refl))
-
-some-bytes : (s : Name) → isWord s ≡ true → 0 < length s
-unfolding bytes
-some-bytes = of-atom-word (λ s. 0 < length s) (omega arith) (omega arith) (omega arith)
-
 -- of bytes that end neither a line nor a field
 abbrev within : ℕ → Bool
 within b = not (inSet LineEnd b || inSet FieldEnd b)
 
-word-within : (s : Name) → isWord s ≡ true → all within s ≡ true
+word-within : (s : Name) → beginsAtom s ≡ true → all within s ≡ true
 unfolding Text.opened Base.opened
-word-within = of-atom-word (λ s. all within s ≡ true) refl refl refl
+word-within = of-atom-word (λ s. all within s ≡ true) refl refl refl refl
 
 within-clean : (s : Name) → all within s ≡ true → all inLine s ≡ true
 unfolding all
@@ -86,9 +70,29 @@ take-same (b ∷ s) (c ∷ l) h f =
     let y = take-same s l (omega arith) (λ i k. f (suc i) (omega arith)) in
     rw (x, y)
 
+pub bytes-short : (k : ℕ) (q : Row) → q ≡ atomRow k → q .bytes ≤ wide-bytes
+unfolding atomRow
+bytes-short k q e = rw e (word-short k)
+
+-- bytes spell a word where they pack as it does
+pub packs :
+    (t : List ℕ) (a m k n : ℕ) (s : Name) → ((i : ℕ) → getD t i 0 < 256) → a + m ≤ length t → k ≡ packed 0 (part a (a + m) t) →
+    all (between 1 255) s ≡ true → n ≡ packed 0 s → m ≡ length s → eqb k n ≡ (leb (a + m) (length t) && eqName s (part a (a + m) t))
+packs t a m k n s b h e f i l =
+    let z : a + m - a ≡ m = omega arith in
+    let w : length (part a (a + m) t) ≡ length s = length-take-le (a + m - a) (drop a t) (omega (arith, length-drop a t)) ∙ (z ∙ l) in
+    rw (e, i, le-leb _ _ h) (spelled (part a (a + m) t) s w bounded f)
+  where
+    bounded : (i : ℕ) → getD (part a (a + m) t) i 0 < 256
+    bounded i =
+        elim (decLt i (a + m - a)) [
+          | yes l ↦ rw (getD-take (a + m - a) (drop a t) i 0 l, getD-drop a t i 0) (b (a + i))
+          | no l ↦ omega (arith, List·getD-eq-default (part a (a + m) t) 0 {n = i} (omega (arith, length-take-le (a + m - a) (drop a t) (omega (arith, length-drop a t)))))
+        ]
+
 module _ (t : List ℕ) (r : ℕ) (g : getD t r 0 ≡ 9) where
   -- the field is the word
-  module _ (s : Name) (w : isWord s ≡ true) (x : Spelled t r s) where
+  module _ (s : Name) (w : beginsAtom s ≡ true) (x : Spelled t r s) where
     from : (i : ℕ) → getD (drop (r + 1) t) i 0 ≡ getD t (r + 1 + i) 0
     from i = getD-drop (r + 1) t i 0
 
@@ -125,41 +129,50 @@ both-and : (a b c : Bool) → ((a && b) && c) ≡ (a && (b && c))
 both-and true b c = refl
 both-and false b c = refl
 
-abbrev accOperands : List Operand
-accOperands = variable read ∷ variable read ∷ []
+module _ (s : Name) where
+  permit-then : isPermit s ≡ true → (vs : List Name) (n : ℕ) → isFormula (suc n) (s ∷ vs) ≡ operandsThen (atomOperands s) (isFormula n) vs
+  unfolding isFormula isAtom operandsThen isOperand atomOperands
+  permit-then i [] n = rw i
+  permit-then i (a ∷ []) n = rw i (sym (and-false (isName a)))
+  permit-then i (a ∷ b ∷ vs) n = rw i (both-and (isName a) (isName b) (isFormula n vs))
 
-abbrev relOperands : List Operand
-relOperands = expression ∷ expression ∷ []
+  rel-then :
+      isPermit s ≡ false → isRel s ≡ true → (vs : List Name) (n : ℕ) → isFormula (suc n) (s ∷ vs) ≡ operandsThen (atomOperands s) (isFormula n) vs
+  unfolding isFormula isAtom operandsThen isOperand atomOperands
+  rel-then i j [] n = rw i
+  rel-then i j (a ∷ []) n = rw i (sym (and-false (isExpr a)))
+  rel-then i j (a ∷ b ∷ vs) n = rw (i, j) (both-and (isExpr a) (isExpr b) (isFormula n vs))
 
-acc-then : (vs : List Name) (n : ℕ) → isFormula (suc n) (bytes "acc" ∷ vs) ≡ operandsThen accOperands (isFormula n) vs
-unfolding isFormula isAtom operandsThen isOperand is Base.eqName bytes
-acc-then [] n = refl
-acc-then (a ∷ []) n = sym (and-false (isName a))
-acc-then (a ∷ b ∷ vs) n = both-and (isName a) (isName b) (isFormula n vs)
+  word-then : beginsAtom s ≡ true → (vs : List Name) (n : ℕ) → isFormula (suc n) (s ∷ vs) ≡ operandsThen (atomOperands s) (isFormula n) vs
+  unfolding beginsAtom
+  word-then e = go (isPermit s) refl e
+    where
+      go :
+          (q : Bool) → isPermit s ≡ q → (q || isRel s) ≡ true → (vs : List Name) (n : ℕ) →
+          isFormula (suc n) (s ∷ vs) ≡ operandsThen (atomOperands s) (isFormula n) vs
+      go true i h = permit-then i
+      go false i h = rel-then i h
 
-rel-then :
-    (s : Name) → is "acc" s ≡ false → isRel s ≡ true → (vs : List Name) (n : ℕ) →
-    isFormula (suc n) (s ∷ vs) ≡ operandsThen relOperands (isFormula n) vs
-unfolding isFormula isAtom operandsThen isOperand
-rel-then s i j [] n = refl
-rel-then s i j (a ∷ []) n = sym (and-false (isExpr a))
-rel-then s i j (a ∷ b ∷ vs) n = rw (i, j) (both-and (isExpr a) (isExpr b) (isFormula n vs))
+some-operands : (os : List Operand) → (operandsNumber os ≡ 0 → ⊥) → (k : List Name → Bool) → operandsThen os k [] ≡ false
+unfolding operandsNumber operandsThen
+some-operands [] n k = absurd (n refl)
+some-operands (o ∷ os) n k = refl
+
+operands-some : (s : Name) → operandsNumber (atomOperands s) ≡ 0 → ⊥
+unfolding atomOperands Rows.opened
+operands-some s e = go (isPermit s) e
+  where
+    go : (q : Bool) → operandsNumber (cond q (variable read ∷ member field ∷ []) (expression ∷ expression ∷ [])) ≡ 0 → ⊥
+    go true i = omega arith
+    go false i = omega arith
 
 -- WHAT A FORMULA BEGINS WITH
-atom-word : (w a b : Name) → isAtom w a b ≡ true → isWord w ≡ true
-unfolding isAtom
-atom-word w a b e = go (is "acc" w) (isRel w) e
-  where
-    go : (x y : Bool) → cond x (isName a && isName b) (y && (isExpr a && isExpr b)) ≡ true → (x || y) ≡ true
-    go true y h = refl
-    go false y h = both-true y _ h .0
-
-formula-word : (n : ℕ) (w : Name) (vs : List Name) → isFormula (suc n) (w ∷ vs) ≡ true → (isWord w ≡ true) × (vs ≡ [] → ⊥)
+formula-word : (n : ℕ) (w : Name) (vs : List Name) → isFormula (suc n) (w ∷ vs) ≡ true → (beginsAtom w ≡ true) × (vs ≡ [] → ⊥)
 unfolding isFormula
 formula-word n w [] e = true-false (sym e)
 formula-word n w (a ∷ []) e = true-false (sym e)
 formula-word n w (a ∷ b ∷ vs) e =
-    (atom-word w a b (both-true (isAtom w a b) (isFormula n vs) e .0), λ z. absurd (let y : _≡_ {A = ℕ} 0 1 = cc in omega arith))
+    (atom-begins w a b (both-true (isAtom w a b) (isFormula n vs) e .0), λ z. absurd (let y : _≡_ {A = ℕ} 0 1 = cc in omega arith))
 
 module _ (t : List ℕ) (r : ℕ) (g : getD t r 0 ≡ 9) where
   field-end : FirstInSet t (r + 1) FieldEnd (r + 1 + upTo (inSet FieldEnd) (drop (r + 1) t))
@@ -168,10 +181,10 @@ module _ (t : List ℕ) (r : ℕ) (g : getD t r 0 ≡ 9) where
       record { low = omega arith; high = omega (arith, upTo-within (inSet FieldEnd) (drop (r + 1) t), length-drop (r + 1) t); is = refl }
 
   -- the word of its first atom is spelled
-  heads : (n : ℕ) → isFormula (suc n) (more (drop r t)) ≡ true → (s : Name) × (isWord s ≡ true) × Spelled t r s
+  heads : (n : ℕ) → isFormula (suc n) (more (drop r t)) ≡ true → (s : Name) × (beginsAtom s ≡ true) × Spelled t r s
   heads n e = go (r + 1 + upTo (inSet FieldEnd) (drop (r + 1) t)) field-end
     where
-      go : (z : ℕ) → FirstInSet t (r + 1) FieldEnd z → (s : Name) × (isWord s ≡ true) × Spelled t r s
+      go : (z : ℕ) → FirstInSet t (r + 1) FieldEnd z → (s : Name) × (beginsAtom s ≡ true) × Spelled t r s
       go z f =
           let w : Name = part (r + 1) z t in
           let c : more (drop r t) ≡ w ∷ more (drop z t) = some-more t r g ∙ fields-from t (r + 1) z f in
@@ -187,131 +200,93 @@ module _ (t : List ℕ) (r : ℕ) (g : getD t r 0 ≡ 9) where
             },
           )
 
-  no-formula : ((s : Name) → isWord s ≡ true → Spelled t r s → ⊥) → (n : ℕ) → isFormula (suc n) (more (drop r t)) ≡ false
+  no-formula : ((s : Name) → beginsAtom s ≡ true → Spelled t r s → ⊥) → (n : ℕ) → isFormula (suc n) (more (drop r t)) ≡ false
   no-formula f n = go (isFormula (suc n) (more (drop r t))) refl
     where
       go : (q : Bool) → isFormula (suc n) (more (drop r t)) ≡ q → q ≡ false
       go true e = let (s, w, x) = heads n e in absurd (f s w x)
       go false e = refl
 
-  first-byte : (s : Name) → isWord s ≡ true → Spelled t r s → getD t (r + 1) 0 ≡ getD s 0 0
+  first-byte : (s : Name) → beginsAtom s ≡ true → Spelled t r s → getD t (r + 1) 0 ≡ getD s 0 0
   first-byte s w x = let z : r + 1 + 0 ≡ r + 1 = omega arith in ap (λ j. getD t j 0) (sym z) ∙ x .letters 0 (some-bytes s w)
 
   -- the first byte leaves one word
-  module _ (s : Name) (w : isWord s ≡ true) (b : getD t (r + 1) 0 ≡ getD s 0 0) where
-    only : (Spelled t r s → ⊥) → (n : ℕ) → isFormula (suc n) (more (drop r t)) ≡ false
-    only f =
-        no-formula (λ s' w' x.
-        let z : getD s' 0 0 ≡ getD s 0 0 = sym (first-byte s' w' x) ∙ b in
-        let y : s' ≡ s = word-letter s' w' ∙ (ap wordOf z ∙ sym (word-letter s w)) in
-        f (subst (Spelled t r) y x))
+  abbrev kind : ℕ
+  kind = begunBy (getD t (r + 1) 0)
 
-    head-none : (Spelled t r s → ⊥) → (h : Head) → h .operands ≡ 0 → AtomHead t r h
-    head-none f h z = record { none = λ e. only f; some = λ e. absurd (e z) }
+  abbrev begun : Name
+  begun = atomWord kind
 
-    head-some :
-        (o : Operand) (os : List Operand) → ((vs : List Name) (n : ℕ) → isFormula (suc n) (s ∷ vs) ≡ operandsThen (o ∷ os) (isFormula n) vs) →
-        ((i : ℕ) → i < length s → getD t (r + 1 + i) 0 ≡ getD s i 0) →
-        (h : Head) → h .end ≡ r + 1 + length s → h .end ≤ length t → h .operands ≡ operandsNumber (o ∷ os) → (h .operands ≡ 0 → ⊥) → AtomHead t r h
-    unfolding operandsThen
-    head-some o os q l h z high m d =
-        record {
-          none = λ e. absurd (d e);
-          some = λ e. (
-            o ∷ os,
-            record {
-              number = m;
-              high = high;
-              later = omega (arith, z);
-              span = λ i. subst (Span t r) (sym z) (word-span t r g s w (spelled i));
-              is = λ n. ⊎-elim
-                  (λ i. ap (isFormula (suc n)) (word-more t r g s w (spelled i)) ∙ (q _ n ∙ rw z))
-                  (λ i. only (λ x. i (rw z (x .after))) n ∙ rw (no-more t (h .end) i))
-                  (decide-eq (getD t (h .end) 0) 9);
-            },
-          );
-        }
-      where
-        spelled : getD t (h .end) 0 ≡ 9 → Spelled t r s
-        spelled i = record { letters = l; after = rw (← z) i }
+  only : (s : Name) → beginsAtom s ≡ true → Spelled t r s → s ≡ begun
+  only s w x = sym (ap (λ b. atomWord (begunBy b)) (first-byte s w x) ∙ word-told s w)
 
-  -- no word begins so
-  pub no-letter : (getD t (r + 1) 0 ≡ 97 → ⊥) → (getD t (r + 1) 0 ≡ 101 → ⊥) → (getD t (r + 1) 0 ≡ 110 → ⊥) → (h : Head) → h .operands ≡ 0 → AtomHead t r h
-  no-letter a e n h z =
+  unspelled : (beginsAtom begun ≡ true → Spelled t r begun → ⊥) → (n : ℕ) → isFormula (suc n) (more (drop r t)) ≡ false
+  unspelled f = no-formula (λ s w x. let e = only s w x in f (subst (λ s. beginsAtom s ≡ true) e w) (subst (Spelled t r) e x))
+
+  -- is it spelled there?
+  abbrev stands : Bool
+  stands = leb (r + 1 + length begun) (length t) && eqName begun (part (r + 1) (r + 1 + length begun) t)
+
+  spelled-stands : beginsAtom begun ≡ true → Spelled t r begun → stands ≡ true
+  spelled-stands w x =
+      let l : r + 1 + length begun ≤ length t = omega (arith, byte-in t (r + 1 + length begun) 9 (omega arith) (x .after)) in
+      rw (le-leb _ _ l, cut t r g begun w x) (same-refl begun)
+
+  stands-spelled : stands ≡ true → getD t (r + 1 + length begun) 0 ≡ 9 → Spelled t r begun
+  stands-spelled e i =
+      let m : ℕ = r + 1 + length begun - (r + 1) in
+      let f : begun ≡ part (r + 1) (r + 1 + length begun) t = same-is begun _ (both-true (leb (r + 1 + length begun) (length t)) _ e .1) in
       record {
-        none = λ i. no-formula (λ s w x.
-            let y = first-byte s w x in
-            ⊎-elim (λ j. a (y ∙ j)) (⊎-elim (λ j. e (y ∙ j)) (λ j. n (y ∙ j))) (some-letter s w));
-        some = λ i. absurd (i z);
+        letters = λ j l. sym (ap (λ w. getD w j 0) f ∙ (getD-take m (drop (r + 1) t) j 0 (omega arith) ∙ getD-drop (r + 1) t j 0));
+        after = i;
       }
 
--- ONE WORD AFTER A TAB
-two-bytes : (a b : ℕ) → is "acc" (a ∷ b ∷ []) ≡ false
-unfolding is bytes Base.eqName
-two-bytes a b = rw (and-false (eqb 99 b)) (and-false (eqb 97 a))
+  -- by the row of that word
+  module _ (q : Row) (e : q ≡ atomRow kind) (s : Bool) (f : Spells t (r + 1) (q .word) (q .bytes) s) (h : Head) where
+    by-row : s ≡ stands
+    unfolding atomRow
+    by-row = f begun (word-solid kind) (ap (λ q. q .word) e) (ap (λ q. q .bytes) e) ∙ rw e
 
-later-byte : (a b : ℕ) → isRel (a ∷ b ∷ []) ≡ true → 0 < b
-unfolding bytes
-later-byte a b w = of-atom-word (λ s. 0 < getD s 1 0) (omega arith) (omega arith) (omega arith) (a ∷ b ∷ []) (rel-word (a ∷ b ∷ []) w)
+    pub head-none : s ≡ false → h .operands ≡ 0 → AtomHead t r h
+    head-none i z = record { none = λ j. unspelled (λ w x. true-false (sym (spelled-stands w x) ∙ (sym by-row ∙ i))); some = λ j. absurd (j z) }
 
-letters-two : (t : List ℕ) (a b c : ℕ) → getD t a 0 ≡ b → getD t (a + 1) 0 ≡ c → (i : ℕ) → i < 2 → getD t (a + i) 0 ≡ getD (b ∷ c ∷ []) i 0
-letters-two t a b c e f zero h = let z : a + 0 ≡ a = omega arith in ap (λ j. getD t j 0) z ∙ e
-letters-two t a b c e f (suc zero) h = f
-letters-two t a b c e f (suc (suc i)) h = absurd (omega arith)
+    pub head-some : s ≡ true → h .operands ≡ q .operands → h .end ≡ r + 1 + q .bytes → AtomHead t r h
+    unfolding atomRow operandsOf operandsNumber
+    head-some i m z = go (beginsAtom begun) refl
+      where
+        here : stands ≡ true
+        here = sym by-row ∙ i
 
-letters-three :
-    (t : List ℕ) (a b c d : ℕ) → getD t a 0 ≡ b → getD t (a + 1) 0 ≡ c → getD t (a + 2) 0 ≡ d → (i : ℕ) → i < 3 →
-    getD t (a + i) 0 ≡ getD (b ∷ c ∷ d ∷ []) i 0
-letters-three t a b c d e f g zero h = let z : a + 0 ≡ a = omega arith in ap (λ j. getD t j 0) z ∙ e
-letters-three t a b c d e f g (suc zero) h = f
-letters-three t a b c d e f g (suc (suc zero)) h = g
-letters-three t a b c d e f g (suc (suc (suc i))) h = absurd (omega arith)
+        end : h .end ≡ r + 1 + length begun
+        end = z ∙ rw e
 
-module _ (t : List ℕ) (r : ℕ) (g : getD t r 0 ≡ 9) where
-  letter : {s : Name} → Spelled t r s → (i k : ℕ) → i < length s → k ≡ r + 1 + i → getD t k 0 ≡ getD s i 0
-  letter x i k h e = ap (λ j. getD t j 0) e ∙ x .letters i h
+        number : (b : Bool) → beginsAtom begun ≡ b → h .operands ≡ operandsNumber (cond b (atomOperands begun) [])
+        number b w = m ∙ (ap (λ q. q .operands) e ∙ rw w)
 
-  module _ (a : getD t (r + 1) 0 ≡ 97) where
-    pub acc-none : (getD t (r + 2) 0 ≡ 99 → getD t (r + 3) 0 ≡ 99 → ⊥) → (h : Head) → h .operands ≡ 0 → AtomHead t r h
-    unfolding bytes is Base.eqName
-    acc-none n = head-none t r g (bytes "acc") refl a (λ x. n (letter x 1 (r + 2) (omega arith) (omega arith)) (letter x 2 (r + 3) (omega arith) (omega arith)))
-
-    pub acc-some :
-        getD t (r + 2) 0 ≡ 99 → getD t (r + 3) 0 ≡ 99 → (h : Head) → h .end ≡ r + 4 → h .operands ≡ 0x77 → AtomHead t r h
-    unfolding bytes is Base.eqName Rows.opened
-    acc-some b c h z m =
-        let y : r + 1 + 1 ≡ r + 2 = omega arith in
-        let x : r + 1 + 2 ≡ r + 3 = omega arith in
-        head-some t r g (bytes "acc") refl a (variable read) (variable read ∷ []) acc-then
-        (letters-three t (r + 1) 97 99 99 a (ap (λ j. getD t j 0) y ∙ b) (ap (λ j. getD t j 0) x ∙ c))
-        h (z ∙ omega arith) (omega (arith, z, byte-in t (r + 3) 99 (omega arith) c)) m (λ i. omega (arith, i, m))
-
-  module _ (b : ℕ) (w : isRel (getD t (r + 1) 0 ∷ b ∷ []) ≡ true) where
-    pub rel-none : (getD t (r + 2) 0 ≡ b → ⊥) → (h : Head) → h .operands ≡ 0 → AtomHead t r h
-    rel-none n = head-none t r g (getD t (r + 1) 0 ∷ b ∷ []) (rel-word _ w) refl (λ x. n (letter x 1 (r + 2) (omega arith) (omega arith)))
-
-    pub rel-some : getD t (r + 2) 0 ≡ b → (h : Head) → h .end ≡ r + 3 → h .operands ≡ 0xbb → AtomHead t r h
-    unfolding Rows.opened
-    rel-some c h z m =
-        let y : r + 1 + 1 ≡ r + 2 = omega arith in
-        head-some t r g (getD t (r + 1) 0 ∷ b ∷ []) (rel-word _ w) refl expression (expression ∷ []) (rel-then _ (two-bytes _ b) w)
-        (letters-two t (r + 1) (getD t (r + 1) 0) b refl (ap (λ j. getD t j 0) y ∙ c))
-        h (z ∙ omega arith) (omega (arith, z, byte-in t (r + 2) b (later-byte _ b w) c)) m (λ i. omega (arith, i, m))
-
-pub eq-letters : (b : ℕ) → b ≡ 101 → isRel (b ∷ 113 ∷ []) ≡ true
-unfolding isRel is Base.eqName bytes
-eq-letters b e = rw e
-
-pub ne-letters : (b : ℕ) → b ≡ 110 → isRel (b ∷ 101 ∷ []) ≡ true
-unfolding isRel is Base.eqName bytes
-ne-letters b e = rw e
+        go : (b : Bool) → beginsAtom begun ≡ b → AtomHead t r h
+        go false w = record { none = λ j. unspelled (λ v x. true-false (sym v ∙ w)); some = λ j. absurd (j (number false w)) }
+        go true w =
+            record {
+              none = λ j. absurd (operands-some begun (sym (number true w) ∙ j));
+              some = λ j. (
+                atomOperands begun,
+                record {
+                  number = number true w;
+                  high = omega (arith, end, leb-true (r + 1 + length begun) (length t) (both-true (leb (r + 1 + length begun) (length t)) _ here .0));
+                  later = omega (arith, end);
+                  span = λ k. subst (Span t r) (sym end) (word-span t r g begun w (at-tab k));
+                  is = λ n. ⊎-elim
+                      (λ k. ap (isFormula (suc n)) (word-more t r g begun w (at-tab k)) ∙ (word-then begun w _ n ∙ rw end))
+                      (λ k. unspelled (λ w x. k (rw end (x .after))) n ∙ sym (ap (operandsThen (atomOperands begun) (isFormula n)) (no-more t (h .end) k) ∙ some-operands (atomOperands begun) (operands-some begun) (isFormula n)))
+                      (decide-eq (getD t (h .end) 0) 9);
+                },
+              );
+            }
+          where
+            at-tab : getD t (h .end) 0 ≡ 9 → Spelled t r begun
+            at-tab k = stands-spelled here (rw (← end) k)
 
 -- AN ATOM
-some-operands : (os : List Operand) → (operandsNumber os ≡ 0 → ⊥) → (k : List Name → Bool) → operandsThen os k [] ≡ false
-unfolding operandsNumber operandsThen
-some-operands [] n k = absurd (n refl)
-some-operands (o ∷ os) n k = refl
-
 module _ {t : List ℕ} {r : ℕ} where
   pub atom-none : ((n : ℕ) → isFormula (suc n) (more (drop r t)) ≡ false) → AtomEnd t r r
   atom-none f = record { none = λ e. f; some = λ e. absurd (e refl) }
@@ -354,30 +329,21 @@ pub no-condition : (n : ℕ) (ws : List Name) → ws ≡ [] → conditionFirst n
 unfolding conditionFirst isRel is Base.eqName bytes
 no-condition n ws e = rw e
 
--- a word that does not begin as `acc` is `eq` or `ne`
-rel-letter : (s : Name) → isWord s ≡ true → isRel s ≡ not (eqb (getD s 0 0) 97)
-unfolding bytes isRel is Base.eqName
-rel-letter = of-atom-word (λ s. isRel s ≡ not (eqb (getD s 0 0) 97)) refl refl refl
-
 module _ (t : List ℕ) (r : ℕ) (g : getD t r 0 ≡ 9) where
-  condition-case :
-      (q : Bool) → not (eqb (getD t (r + 1) 0) 97) ≡ q → (n : ℕ) → conditionFirst n (more (drop r t)) ≡ (q && isFormula n (more (drop r t)))
-  unfolding conditionFirst
-  condition-case q h n = go n (isFormula n (more (drop r t))) refl
+  -- the row of the word that the first byte leaves decides
+  pub condition-case :
+      (q : Row) → q ≡ atomRow (kind t r g) → (c : Bool) → q .condition ≡ c → (n : ℕ) →
+      conditionFirst n (more (drop r t)) ≡ (c && isFormula n (more (drop r t)))
+  unfolding conditionFirst atomRow
+  condition-case q row c h n = go n (isFormula n (more (drop r t))) refl
     where
       by : {w : Name} {ws : List Name} (f : Bool) → more (drop r t) ≡ w ∷ ws → (isRel (getD (more (drop r t)) 0 []) && f) ≡ (isRel w && f)
       by f c = ap (λ vs. isRel (getD vs 0 []) && f) c
 
-      go : (n : ℕ) (f : Bool) → isFormula n (more (drop r t)) ≡ f → (isRel (getD (more (drop r t)) 0 []) && isFormula n (more (drop r t))) ≡ (q && f)
+      go : (n : ℕ) (f : Bool) → isFormula n (more (drop r t)) ≡ f → (isRel (getD (more (drop r t)) 0 []) && isFormula n (more (drop r t))) ≡ (c && f)
       go zero true e = true-false (sym e ∙ formula-full t r g)
       go (suc n) true e =
           let (s, w, x) = heads t r g n e in
-          let i : isRel s ≡ q = rel-letter s w ∙ (ap (λ b. not (eqb b 97)) (sym (first-byte t r g s w x)) ∙ h) in
+          let i : isRel s ≡ c = ap isRel (only t r g s w x) ∙ (sym (ap (λ (q : Row). q .condition) row) ∙ h) in
           by _ (word-more t r g s w x) ∙ rw (e, i)
-      go n false e = rw (e, and-false q) (and-false (isRel (getD (more (drop r t)) 0 [])))
-
-  pub condition-acc : getD t (r + 1) 0 ≡ 97 → (n : ℕ) → conditionFirst n (more (drop r t)) ≡ false
-  condition-acc e = condition-case false (rw (eq-eqb _ 97 e))
-
-  pub condition-rel : (getD t (r + 1) 0 ≡ 97 → ⊥) → (n : ℕ) → conditionFirst n (more (drop r t)) ≡ isFormula n (more (drop r t))
-  condition-rel e = condition-case true (rw (ne-eqb _ 97 e))
+      go n false e = rw (e, and-false c) (and-false (isRel (getD (more (drop r t)) 0 [])))

@@ -3,13 +3,14 @@ use mathlib.Core.Path.{_≡_}
 use mathlib.Core.Bool.{Bool, true, false, not, _&&_}
 use mathlib.Core.List.{List, [], _∷_}
 use Prim.Native.Nat.{ℕ, suc, _+_, _≤_, _<_}
-use lib.Dec.{eqb}
+use lib.Dec.{eqb, leb}
 use lib.ListN.{length, getD, drop}
-use Rattle.rules.specs.Base.{Name}
+use Rattle.rules.specs.Base.{Name, all, eqName, between}
 use Rattle.rules.specs.Text.{tab, isRel, isFormula}
 use Rattle.rules.specs.Grammar.{Operand, form, isOperand, isFormed}
 use Rattle.read_bytes.specs.Sets.{inSet, FirstInSet}
 use Rattle.read_bytes.specs.declared.Set.the-variants.{LineEnd, FieldEnd}
+use Rattle.read_words.specs.Words.{packed}
 use Rattle.read_fields.specs.Cuts.{part, more}
 use Rattle.read_grammar.specs.Rows.{kindNumbered, operandsNumber}
 use Rattle.read_fields.specs.declared.Head.{Head}
@@ -65,9 +66,10 @@ OperandsEnd n t r f = (os : List Operand) → n ≡ operandsNumber os → Operan
 
 -- ATOMS
 
--- the letter that `acc` begins with, and `eq` and `ne` do not
-abbrev pub letter-a : ℕ
-letter-a = 97
+-- Whether a word, told by its number and its length, is spelled from a on.
+abbrev pub Spells : List ℕ → ℕ → ℕ → ℕ → Bool → Type 0
+Spells t a n m r =
+    (s : Name) → all (between 1 255) s ≡ true → n ≡ packed 0 s → m ≡ length s → r ≡ (leb (a + m) (length t) && eqName s (part a (a + m) t))
 
 -- An atom's word follows the tab at r; the operands after it, and what follows them, decide.
 pub record HeadIs (t : List ℕ) (r : ℕ) (h : Head) (os : List Operand) : Type 0 where

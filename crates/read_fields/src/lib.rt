@@ -5,16 +5,15 @@ use read_grammar::OperandNumber;
 use read_grammar::TailNumber;
 use rules::Machine;
 ghost use mathlib.Core.Path.{_≡_};
-ghost use mathlib.Core.List.{[], _∷_};
-ghost use mathlib.Core.Bool.{true};
 ghost use Prim.Native.Nat.{_+_, _≤_};
 ghost use lib.Dec.{eqb};
 ghost use lib.ListN.{length, getD};
-ghost use Rattle.rules.specs.Text.{tab, isName, isExpr, isRel, isFormula};
+ghost use Rattle.rules.specs.Text.{tab, isName, isExpr, isFormula};
 ghost use Rattle.rules.specs.Grammar.{IsKindNumber};
+ghost use Rattle.read_bytes.specs.Marks.{wide-bytes};
 ghost use Rattle.read_fields.specs.Cuts.{NextField};
 ghost use Rattle.read_grammar.specs.Rows.{fitsOperand, fitsTail};
-ghost use Rattle.read_fields.specs.Spans.{letter-a, NextFit, OperandsEnd, AtomHead, AtomEnd, FieldsRead, conditionFirst, formedAs};
+ghost use Rattle.read_fields.specs.Spans.{NextFit, OperandsEnd, Spells, AtomHead, AtomEnd, FieldsRead, conditionFirst, formedAs};
 
 // FIELDS
 
@@ -103,16 +102,6 @@ fn no_fields(t: &[u8], r: usize) -> Fields
 
 // ATOMS
 
-// The operands of `acc x f`, and of `eq e e` and `ne e e`: two names, two expressions.
-const ACC_OPERANDS: u32 = OperandNumber::READ * (1 + OperandNumber::BASE);
-
-const REL_OPERANDS: u32 = OperandNumber::EXPRESSION * (1 + OperandNumber::BASE);
-
-// The bytes of a tab and `acc`, and of a tab and `eq` or `ne`.
-const ACC_BYTES: usize = 4;
-
-const REL_BYTES: usize = 3;
-
 // How an atom begins: the number of the operands after its word, or 0 where the word is none of an atom; and the word's end.
 struct Head {
     pub operands: u32,
@@ -128,48 +117,32 @@ fn no_head(r: usize) -> Head
     }
 }
 
-// `acc`, of which the first letter is there.
-fn acc_head(t: &[u8], r: usize) -> Head
-    requires { ⌜ (getD (now t) r 0 ≡ tab) × (getD (now t) (r + 1) 0 ≡ letter-a) ⌝ }
-    ensures { λ h. ⌜ AtomHead (now (t .entry)) r h ⌝ }
+// Do the bytes from a on spell this word, of so many bytes?
+fn is_spelled(t: &[u8], a: usize, word: u64, bytes: usize) -> bool
+    requires { ⌜ (a ≤ length (now t)) × (bytes ≤ wide-bytes) ⌝ }
+    ensures { λ r. ⌜ Spells (now (t .entry)) a word bytes r ⌝ }
 {
-    if read_bytes::byte_at(t, r + 2) != b'c' {
-        return no_head(r);
+    let e = a + bytes;
+    if t.len() < e {
+        return false;
     }
-    if read_bytes::byte_at(t, r + 3) != b'c' {
-        return no_head(r);
-    }
-    Head {
-        operands: ACC_OPERANDS,
-        end: r + ACC_BYTES,
-    }
+    read_words::pack(&t[a..e]) == word
 }
 
-// `eq` or `ne`, of which the first letter is there, and the second is b.
-fn rel_head(t: &[u8], r: usize, b: u8) -> Head
-    requires { ⌜ (getD (now t) r 0 ≡ tab) × (isRel (getD (now t) (r + 1) 0 ∷ b ∷ []) ≡ true) ⌝ }
-    ensures { λ h. ⌜ AtomHead (now (t .entry)) r h ⌝ }
-{
-    if read_bytes::byte_at(t, r + 2) != b {
-        return no_head(r);
-    }
-    Head {
-        operands: REL_OPERANDS,
-        end: r + REL_BYTES,
-    }
-}
-
-// The word after the tab at r. Whether its field ends there shows where the next begins.
+// The word after the tab at r, by the row of the atom that its first letter begins. Whether its field ends there shows where the next
+// begins.
 fn atom_head(t: &[u8], r: usize) -> Head
     requires { ⌜ getD (now t) r 0 ≡ tab ⌝ }
     ensures { λ h. ⌜ AtomHead (now (t .entry)) r h ⌝ }
 {
-    let b = read_bytes::byte_at(t, r + 1);
-    match b {
-        b'a' => acc_head(t, r),
-        b'e' => rel_head(t, r, b'q'),
-        b'n' => rel_head(t, r, b'e'),
-        _ => no_head(r),
+    let a = r + 1;
+    let row = read_atoms::row_of(read_atoms::begun_by(read_bytes::byte_at(t, a)));
+    if !is_spelled(t, a, row.word, row.bytes) {
+        return no_head(r);
+    }
+    Head {
+        operands: row.operands,
+        end: a + row.bytes,
     }
 }
 
@@ -210,7 +183,7 @@ fn formula_end(t: &[u8], from: usize, most: usize) -> Fields
     Fields::Upto(r)
 }
 
-// The fields after r, if they are a condition and then atoms, at most so many in all: the first atom does not begin as `acc`.
+// The fields after r, if they are a condition and then atoms, at most so many in all.
 fn condition_end(t: &[u8], r: usize, most: usize) -> Fields
     requires { ⌜ r ≤ length (now t) ⌝ }
     ensures { λ f. ⌜ FieldsRead (conditionFirst most) (now (t .entry)) r f ⌝ }
@@ -218,7 +191,8 @@ fn condition_end(t: &[u8], r: usize, most: usize) -> Fields
     if read_bytes::byte_at(t, r) != Byte::TAB {
         return Fields::Bad;
     }
-    if read_bytes::byte_at(t, r + 1) == b'a' {
+    let row = read_atoms::row_of(read_atoms::begun_by(read_bytes::byte_at(t, r + 1)));
+    if !row.condition {
         return Fields::Bad;
     }
     formula_end(t, r, most)

@@ -5,20 +5,22 @@ use mathlib.Core.List.{List, [], _∷_, _++_}
 use Prim.Native.Nat.{ℕ, zero, suc, pred, _+_, _-_, _/_, _%_, _≤_, _<_}
 use native.Mathlib.Omega.{arith}
 use native.Mathlib.Decide.{decLt}
-use lib.Dec.{eqb}
-use borrow.Author.Tests.{eq-eqb, ne-eqb}
+use lib.Dec.{eqb, ltb}
+use borrow.Author.Tests.{ne-eqb, lt-ltb, le-ltb}
 use lib.ListN.{length, drop, getD}
-use Rattle.rules.specs.Base.{Name, is, all}
+use Rattle.rules.specs.Base.{Name, all}
 use Rattle.rules.specs.Limits.{most-atoms}
-use Rattle.rules.specs.Syntax.{Atom, Formula, acc, cmp}
-use Rattle.rules.specs.Text.{isName, isExpr, exprOf, relOf, isAtom, isFormula, isCondition, isRel, atomOf, formulaOf}
+use Rattle.rules.specs.Syntax.{Atom, Formula, own, cmp}
+use Rattle.rules.specs.Text.{isName, isExpr, exprOf, relOf, isPermit, permitOf, isAtom, isFormula, isCondition, isRel, atomOf, formulaOf}
 use Rattle.rules.specs.Grammar.{Operand, Tail, Line, form, isOperand, isTail, isFormed}
 use Rattle.rules.specs.Grammar.{new, typeName, className, variable, member, expression, nothing, condition, formula, both}
 use Rattle.rules.specs.Grammar.{classes, fields, methods, variables, read, assigned, field, method}
 use Rattle.rules.specs.Scope.{Slot, slotsFrom, atomOperands, atomSlots, atomsOf, slots}
 use Rattle.rules.specs.Names as Rules
-use Rattle.read_words.specs.Words.{acc-word, wordNumber}
-use Rattle.read_words.proofs.Words.{acc-is}
+use Rattle.tables.specs.Numbers.{eq-atom}
+use Rattle.tables.specs.Decode.{isPermission}
+use Rattle.read_atoms.specs.Atoms.{begunBy}
+use Rattle.read_atoms.proofs.Atoms.{atom-begins, permit-told}
 use Rattle.read_bytes.proofs.Search.{true-false, both-true, and-false}
 use Rattle.read_fields.specs.Cuts.{part, more, NextField}
 use Rattle.read_grammar.specs.Rows.{kindNumbered, operandNumber, operandsNumber}
@@ -144,21 +146,25 @@ and-swap true true false = refl
 and-swap true false true = refl
 and-swap true false false = refl
 
--- `acc` by its number
-module _ (p : Name) (k : ℕ) (e : k ≡ wordNumber p) where
-  pub is-acc : k ≡ acc-word → is "acc" p ≡ true
-  is-acc h = acc-is p ∙ eq-eqb _ acc-word (sym e ∙ h)
+-- an atom by the kind that its first letter tells
+module _ (p x y : Name) (h : isAtom p x y ≡ true) (k : ℕ) (e : k ≡ begunBy (getD p 0 0)) where
+  permit-is : isPermit p ≡ ltb k eq-atom
+  unfolding isPermission
+  permit-is = permit-told p (atom-begins p x y h) ∙ rw e
 
-  pub not-acc : (k ≡ acc-word → ⊥) → is "acc" p ≡ false
-  not-acc h = acc-is p ∙ ne-eqb _ acc-word (λ z. h (e ∙ z))
+  pub is-permit : k < eq-atom → isPermit p ≡ true
+  is-permit l = permit-is ∙ lt-ltb k eq-atom l
 
-pub acc-names : (p x y : Name) → is "acc" p ≡ true → isAtom p x y ≡ true → (isName x ≡ true) × (isName y ≡ true)
-unfolding isAtom
-acc-names p x y e h = both-true _ _ (rw e at h)
+  pub not-permit : eq-atom ≤ k → isPermit p ≡ false
+  not-permit l = permit-is ∙ le-ltb k eq-atom l
 
-pub cmp-exprs : (p x y : Name) → is "acc" p ≡ false → isAtom p x y ≡ true → (isExpr x ≡ true) × (isExpr y ≡ true)
-unfolding isAtom
-cmp-exprs p x y e h = both-true _ _ (both-true (isRel p) _ (rw e at h) .1)
+  pub permit-names : k < eq-atom → (isName x ≡ true) × (isName y ≡ true)
+  unfolding isAtom
+  permit-names l = both-true _ _ (rw (is-permit l) at h)
+
+  pub cmp-exprs : eq-atom ≤ k → (isExpr x ≡ true) × (isExpr y ≡ true)
+  unfolding isAtom
+  cmp-exprs l = both-true _ _ (both-true (isRel p) _ (rw (not-permit l) at h) .1)
 
 pub same-tests :
     {k k' y y' s s' : Bool} → k ≡ k' → y ≡ y' → s ≡ s' →
@@ -195,19 +201,19 @@ module _ (t w : List ℕ) (c : Names) (a : Above) where
       (all-append isAssignable xs ys)
 
   -- ONE ATOM
-  pub acc-atom :
-      (p x y : Name) → is "acc" p ≡ true →
+  pub permit-atom :
+      (p x y : Name) → isPermit p ≡ true →
       tested t w c a (slotsFrom [] (atomOperands p) (x ∷ y ∷ [])) (atomOf p x y ∷ [])
       ≡ bothTests (slotTests t w c a (variable read) [] x) (slotTests t w c a (member field) x y)
   unfolding slotsFrom atomOperands atomOf tested all Rules.atomAgrees
-  acc-atom p x y e =
+  permit-atom p x y e =
       rw e
-      (tested-slot (variable read) [] x (record { operand = member field; before = x; name = y } ∷ []) (acc x y ∷ [])
+      (tested-slot (variable read) [] x (record { operand = member field; before = x; name = y } ∷ []) (own (permitOf p) x y ∷ [])
       ∙ ap (bothTests (slotTests t w c a (variable read) [] x))
-      (tested-slot (member field) x y [] (acc x y ∷ []) ∙ both-passed (slotTests t w c a (member field) x y)))
+      (tested-slot (member field) x y [] (own (permitOf p) x y ∷ []) ∙ both-passed (slotTests t w c a (member field) x y)))
 
   pub cmp-atom :
-      (p x y : Name) → is "acc" p ≡ false →
+      (p x y : Name) → isPermit p ≡ false →
       tested t w c a (slotsFrom [] (atomOperands p) (x ∷ y ∷ [])) (atomOf p x y ∷ []) ≡ cmpTests t w c a x y
   unfolding slotsFrom atomOperands atomOf tested all Rules.atomAgrees cmpTests
   cmp-atom p x y e =

@@ -77,9 +77,9 @@ module _ (t w : List ℕ) (c : Names) (a : Above) where
         assignable = Rules.mayBeAssigned (variablesIn t w c) o x;
       }
 
-  -- of `acc x f`
-  abbrev pub accTests : Name → Name → Tests
-  accTests x f = bothTests (slotTests (variable read) [] x) (slotTests (member field) x f)
+  -- of `acc x f` or `read x f`
+  abbrev pub permitTests : Name → Name → Tests
+  permitTests x f = bothTests (slotTests (variable read) [] x) (slotTests (member field) x f)
 
   -- of `eq x y` or `ne x y`
   unfoldable pub cmpTests : Name → Name → Tests

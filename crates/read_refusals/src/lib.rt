@@ -6,6 +6,7 @@ use read_grammar::OperandNumber;
 use read_scopes::Above;
 use read_scopes::Names;
 use read_tests::Operand;
+use tables::AtomKind;
 ghost use mathlib.Core.Path.{_≡_};
 ghost use mathlib.Core.Bool.{true, _&&_};
 ghost use mathlib.Core.List.{[]};
@@ -19,7 +20,7 @@ ghost use Rattle.read_fields.specs.Cuts.{more};
 ghost use Rattle.read_grammar.specs.Rows.{last-operand, operandNumber};
 ghost use Rattle.read_scopes.specs.Meanings.{NamesFit};
 ghost use Rattle.read_tests.specs.Tests.{operandMeant};
-ghost use Rattle.read_refusals.specs.Tests.{lineAfter, Formed, CountsFit, bothTests, slotTests, exprTests, exprsAgree, accTests, cmpTests, tested, atomTests, lineTests};
+ghost use Rattle.read_refusals.specs.Tests.{lineAfter, Formed, CountsFit, bothTests, slotTests, exprTests, exprsAgree, permitTests, cmpTests, tested, atomTests, lineTests};
 ghost use Rattle.read_refusals.specs.Refusals.{refusalOf, refusalAfter};
 
 // Which of the tests of numbers 6, 7 and 9 are passed.
@@ -132,10 +133,10 @@ fn types_agree(text: &[u8], work: &[u8], c: Names, x: &[u8], y: &[u8]) -> bool
     read_types::agree(text, s, u)
 }
 
-// `acc x f`
-fn acc_tests(text: &[u8], work: &[u8], c: Names, a: Above, x: &[u8], f: &[u8]) -> Tests
+// `acc x f` or `read x f`
+fn permit_tests(text: &[u8], work: &[u8], c: Names, a: Above, x: &[u8], f: &[u8]) -> Tests
     requires { ⌜ CountsFit (now work) c a × (isName (now x) ≡ true) × (isName (now f) ≡ true) ⌝ }
-    ensures { λ r. ⌜ r ≡ accTests (now (text .entry)) (now (work .entry)) c a (now (x .entry)) (now (f .entry)) ⌝ }
+    ensures { λ r. ⌜ r ≡ permitTests (now (text .entry)) (now (work .entry)) c a (now (x .entry)) (now (f .entry)) ⌝ }
 {
     let first = field_tests(text, work, c, a, Operand::Read, &x[0..0], x);
     let second = field_tests(text, work, c, a, Operand::Field, x, f);
@@ -183,8 +184,8 @@ fn one_atom(text: &[u8], work: &[u8], c: Names, a: Above, w: &[u8], x: &[u8], y:
     requires { ⌜ CountsFit (now work) c a × (isAtom (now w) (now x) (now y) ≡ true) ⌝ }
     ensures { λ r. ⌜ r ≡ atomTests (now (text .entry)) (now (work .entry)) c a (now (w .entry)) (now (x .entry)) (now (y .entry)) ⌝ }
 {
-    if read_words::word(w) == read_words::ACC {
-        return acc_tests(text, work, c, a, x, y);
+    if read_atoms::begun_by(read_bytes::byte_at(w, 0)) < AtomKind::EQ {
+        return permit_tests(text, work, c, a, x, y);
     }
     cmp_tests(text, work, c, a, x, y)
 }

@@ -1,5 +1,5 @@
 -- Laws of words: a word is known by its bytes packed into one number, and the words' numbers stand for what `rules` says of words.
-use mathlib.Core.Path.{_≡_, refl, sym, ap, ap₂, subst, _∙_}
+use mathlib.Core.Path.{_≡_, refl, sym, ap, ap₂, _∙_}
 use mathlib.Core.Bool.{Bool, true, false, cond, _&&_, _||_}
 use mathlib.Core.List.{List, [], _∷_}
 use mathlib.Core.Logic.{_⊎_, inl, inr, ⊎-elim}
@@ -15,14 +15,14 @@ use lib.Seq.{drop-cons, getD-drop}
 use borrow.Author.Tests.{eqb-true, eqb-false, leb-true, eq-eqb, ne-eqb, le-leb, lt-leb}
 use Rattle.rules.specs.Base as Base
 use Rattle.rules.specs.Base.{Name, all, any, first, eqName, bytes, is, between}
-use Rattle.rules.specs.Text.{isExpr, isRel, isAtom, reserved}
+use Rattle.rules.specs.Text.{reserved}
 use Rattle.rules.specs.Grammar as Grammar
 use Rattle.rules.specs.Grammar.{Kind, kinds, last-kind, kindNumber, kindOf, form}
 use Rattle.rules.proofs.LineKinds.{every-kind, kind-bounds}
 use Rattle.read_words.specs.Words as Words
-use Rattle.read_words.specs.Words.{words, acc-word, eq-word, ne-word, int-word, null-word, this-word, result-word}
+use Rattle.read_words.specs.Words.{words, int-word, null-word, this-word, result-word}
 use Rattle.read_words.specs.Words.{placeIn, wordNumber, kindAt, kindOr0, packed, packedIn}
-use Rattle.read_bytes.proofs.Search.{true-false, both-true, and-false, or-false, between-true, all-at, same-is, same-refl, not-same}
+use Rattle.read_bytes.proofs.Search.{true-false, both-true, or-false, between-true, all-at, same-is, same-refl, not-same}
 
 -- PACKING
 
@@ -220,18 +220,6 @@ is-word s w h = go (eqName (bytes s) w) refl
         (ne-eqb (placeIn words 1 w) (placeIn words 1 (bytes s))
         (λ z. true-false (sym (same-refl (bytes s)) ∙ (ap (eqName (bytes s)) (place-same words 1 (bytes s) w (omega arith) (sym z) (leb-true _ _ h)) ∙ e))))
 
-pub acc-is : (w : Name) → is "acc" w ≡ eqb (wordNumber w) acc-word
-unfolding Words.opened Base.opened
-acc-is w = is-word "acc" w refl
-
-pub eq-is : (w : Name) → is "eq" w ≡ eqb (wordNumber w) eq-word
-unfolding Words.opened Base.opened
-eq-is w = is-word "eq" w refl
-
-pub ne-is : (w : Name) → is "ne" w ≡ eqb (wordNumber w) ne-word
-unfolding Words.opened Base.opened
-ne-is w = is-word "ne" w refl
-
 pub int-is : (w : Name) → is "int" w ≡ eqb (wordNumber w) int-word
 unfolding Words.opened Base.opened
 int-is w = is-word "int" w refl
@@ -247,37 +235,6 @@ this-is w = is-word "this" w refl
 pub result-is : (w : Name) → is "result" w ≡ eqb (wordNumber w) result-word
 unfolding Words.opened Base.opened
 result-is w = is-word "result" w refl
-
-two : (k : ℕ) → (eqb k eq-word || eqb k ne-word) ≡ (leb eq-word k && leb k ne-word)
-two k = elim (decLt k eq-word) [
-  | yes a ↦ rw (ne-eqb k eq-word (λ e. omega arith), lt-leb eq-word k a) (ne-eqb k ne-word (λ e. omega arith))
-  | no a ↦ rw (le-leb eq-word k (omega arith)) (go (omega arith) (eqb k eq-word) refl)
-]
-  where
-    go : eq-word ≤ k → (q : Bool) → eqb k eq-word ≡ q → (q || eqb k ne-word) ≡ leb k ne-word
-    go m true e = sym (le-leb k ne-word (omega (arith, eqb-true k eq-word e)))
-    go m false e = elim (decLt ne-word k) [
-      | yes l ↦ rw (lt-leb k ne-word l) (ne-eqb k ne-word (λ z. omega arith))
-      | no l ↦ rw (le-leb k ne-word (omega arith)) (eq-eqb k ne-word (omega (arith, eqb-false k eq-word e)))
-    ]
-
-pub rel-is : (w : Name) → isRel w ≡ between eq-word ne-word (wordNumber w)
-unfolding isRel between
-rel-is w = rw (eq-is w, ne-is w) (two (wordNumber w))
-
--- the form of an atom by its word's number
-module _ (w a b : Name) (k : ℕ) (h : k ≡ wordNumber w) where
-  pub atom-rel : (k ≡ acc-word → ⊥) → eq-word ≤ k → k ≤ ne-word → isAtom w a b ≡ (isExpr a && isExpr b)
-  unfolding isAtom between
-  atom-rel n l m = rw (acc-is w, rel-is w, ← h, ne-eqb k acc-word n, le-leb eq-word k l, le-leb k ne-word m)
-
-  pub atom-before : (k ≡ acc-word → ⊥) → k < eq-word → isAtom w a b ≡ false
-  unfolding isAtom between
-  atom-before n l = rw (acc-is w, rel-is w, ← h, ne-eqb k acc-word n, lt-leb eq-word k l)
-
-  pub atom-after : (k ≡ acc-word → ⊥) → ne-word < k → isAtom w a b ≡ false
-  unfolding isAtom between
-  atom-after n l = rw (acc-is w, rel-is w, ← h, ne-eqb k acc-word n, lt-leb k ne-word l, and-false (leb eq-word k))
 
 reserved-from : (k : ℕ) → k ≤ result-word → (eqb k int-word || (eqb k null-word || (eqb k this-word || eqb k result-word))) ≡ leb int-word k
 reserved-from k h = elim (decLt k int-word) [
@@ -352,31 +309,3 @@ not-reserved w h =
   where
     other : (s : String) → (3 ≤ length (bytes s)) × (length (bytes s) ≤ 6) → eqName (bytes s) w ≡ false
     other s k = not-same (bytes s) w (λ e. h (omega (arith, k .0, ap length e), omega (arith, k .1, ap length e)))
-
--- what holds of `acc`, `eq` and `ne` holds of the word of an atom
-pub of-atom-word : (P : Name → Type 0) → P (bytes "acc") → P (bytes "eq") → P (bytes "ne") → (w : Name) → (is "acc" w || isRel w) ≡ true → P w
-unfolding isRel is
-of-atom-word P a b c w e = go (is "acc" w) (is "eq" w) (is "ne" w) refl refl refl e
-  where
-    told : (s : String) → P (bytes s) → is s w ≡ true → P w
-    told s x i = subst P (same-is (bytes s) w i) x
-
-    go : (x y z : Bool) → is "acc" w ≡ x → is "eq" w ≡ y → is "ne" w ≡ z → (x || (y || z)) ≡ true → P w
-    go true y z p q r e = told "acc" a p
-    go false true z p q r e = told "eq" b q
-    go false false true p q r e = told "ne" c r
-    go false false false p q r e = true-false (sym e)
-
--- its number and its length by its first letter
-pub atom-letter :
-    (w : Name) → (is "acc" w || isRel w) ≡ true →
-    ((getD w 0 0 ≡ 97) × (wordNumber w ≡ acc-word)) ⊎ (((getD w 0 0 ≡ 101) × (wordNumber w ≡ eq-word)) ⊎ ((getD w 0 0 ≡ 110) × (wordNumber w ≡ ne-word)))
-unfolding Words.opened Base.opened
-atom-letter =
-    of-atom-word
-    (λ w. ((getD w 0 0 ≡ 97) × (wordNumber w ≡ acc-word)) ⊎ (((getD w 0 0 ≡ 101) × (wordNumber w ≡ eq-word)) ⊎ ((getD w 0 0 ≡ 110) × (wordNumber w ≡ ne-word))))
-    (inl (refl, refl)) (inr (inl (refl, refl))) (inr (inr (refl, refl)))
-
-pub atom-word-length : (w : Name) → (is "acc" w || isRel w) ≡ true → length w ≡ cond (eqb (getD w 0 0) 97) 3 2
-unfolding Base.opened
-atom-word-length = of-atom-word (λ w. length w ≡ cond (eqb (getD w 0 0) 97) 3 2) refl refl refl

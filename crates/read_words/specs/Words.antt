@@ -1,4 +1,4 @@
--- Words by number: first those that begin lines, as kinds are numbered, then those that begin atoms, then the reserved ones.
+-- Words by number: first those that begin lines, as kinds are numbered, then the reserved ones.
 use mathlib.Core.Bool.{cond}
 use mathlib.Core.List.{List, [], _∷_}
 use mathlib.Core.Option.{Option, none, some}
@@ -9,26 +9,16 @@ use Rattle.rules.specs.Base.{Name, bytes, is, first}
 use Rattle.rules.specs.Grammar.{Kind, kinds, last-kind, kindNumber}
 use Rattle.read_bytes.specs.Marks.{byte-values}
 
--- in the order of `kindNumber`, then `acc`, `eq`, `ne`, then the reserved ones
+-- in the order of `kindNumber`, then the reserved ones
 abbrev pub words : List String
 words =
     "class" ∷ "field" ∷ "method" ∷ "requires" ∷ "ensures" ∷ "main" ∷ "var" ∷
     "set" ∷ "let" ∷ "new" ∷ "call" ∷ "return" ∷ "assert" ∷ "release" ∷ "if" ∷ "else" ∷ "join" ∷ "end" ∷ "add" ∷ "sub" ∷ "loop" ∷ "again" ∷
-    "acc" ∷ "eq" ∷ "ne" ∷
     "int" ∷ "null" ∷ "this" ∷ "result" ∷ []
 
 -- the numbers of those that begin no line
-abbrev pub acc-word : ℕ
-acc-word = suc last-kind
-
-abbrev pub eq-word : ℕ
-eq-word = suc acc-word
-
-abbrev pub ne-word : ℕ
-ne-word = suc eq-word
-
 abbrev pub int-word : ℕ
-int-word = suc ne-word
+int-word = suc last-kind
 
 abbrev pub null-word : ℕ
 null-word = suc int-word

@@ -1,4 +1,4 @@
-// Words by number: those that begin lines and atoms, and the reserved ones.
+// Words by number: those that begin lines, and the reserved ones.
 use read_bytes::Byte;
 use read_bytes::Wide;
 use rules::Kind;
@@ -14,20 +14,14 @@ ghost use Rattle.read_words.specs.Words.{words, wordNumber, kindOr0, pac
 
 // WORDS
 
-// Words by number: those that begin a line, by their kinds; then those of atoms, and the reserved ones.
-pub const ACC: u8 = Kind::LAST + 1;
+// Words by number: those that begin a line, by their kinds; then the reserved ones.
+const INT: u8 = Kind::LAST + 1;
 
-pub const EQ: u8 = ACC + 1;
+const NULL: u8 = INT + 1;
 
-pub const NE: u8 = EQ + 1;
+const THIS: u8 = NULL + 1;
 
-pub const INT: u8 = NE + 1;
-
-pub const NULL: u8 = INT + 1;
-
-pub const THIS: u8 = NULL + 1;
-
-pub const RESULT: u8 = THIS + 1;
+const RESULT: u8 = THIS + 1;
 
 // The words as numbers: their bytes to the base 256, the first highest.
 struct Packed {}
@@ -77,12 +71,6 @@ impl Packed {
 
     const AGAIN: u64 = 0x616761696e;
 
-    const ACC: u64 = 0x616363;
-
-    const EQ: u64 = 0x6571;
-
-    const NE: u64 = 0x6e65;
-
     const INT: u64 = 0x696e74;
 
     const NULL: u64 = 0x6e756c6c;
@@ -93,7 +81,7 @@ impl Packed {
 }
 
 // At most 8 bytes as one number, the first byte highest.
-fn pack(w: &[u8]) -> u64
+pub fn pack(w: &[u8]) -> u64
     requires { ⌜ length (now w) ≤ wide-bytes ⌝ }
     ensures { λ r. ⌜ r ≡ packed 0 (now (w .entry)) ⌝ }
 {
@@ -133,9 +121,6 @@ fn numbered(k: u64) -> u8
         Packed::SUB => Kind::SUB,
         Packed::LOOP => Kind::LOOP,
         Packed::AGAIN => Kind::AGAIN,
-        Packed::ACC => ACC,
-        Packed::EQ => EQ,
-        Packed::NE => NE,
         Packed::INT => INT,
         Packed::NULL => NULL,
         Packed::THIS => THIS,
@@ -145,7 +130,7 @@ fn numbered(k: u64) -> u8
 }
 
 // The number of a word, or 0.
-pub fn word(w: &[u8]) -> u8
+fn word(w: &[u8]) -> u8
     ensures { λ r. ⌜ r ≡ wordNumber (now (w .entry)) ⌝ }
 {
     if Wide::BYTES < w.len() {

@@ -1,23 +1,24 @@
 -- A formula as the cursor passes it: three fields are an atom, and what is written grows with it.
 use mathlib.Core.Path.{_≡_, refl, sym, ap, ap₂, subst, _∙_}
-use mathlib.Core.Bool.{Bool, true, false, cond, _&&_, _||_}
+use mathlib.Core.Bool.{Bool, true, false, _&&_}
 use mathlib.Core.List.{List, [], _∷_, _++_, map, append-nil, append-assoc}
 use Prim.Native.Nat.{ℕ, zero, suc, _+_, _-_, _≤_, _<_}
 use native.Mathlib.Nat.{add-zero}
 use native.Mathlib.Omega.{arith}
-use lib.Dec.{eqb}
 use lib.ListN.{length, getD, take, drop, length-append, length-drop}
 use lib.Seq.{getD-take, getD-drop, length-take-le}
-use Rattle.rules.specs.Base.{Name, all, is}
+use Rattle.rules.specs.Base.{Name, all}
 use Rattle.rules.specs.Limits.{work-bytes}
 use Rattle.rules.specs.Syntax.{Atom, Formula}
-use Rattle.rules.specs.Text.{upTo, isRel, isAtom, atomOf, isFormula, formulaOf}
+use Rattle.rules.specs.Text.{upTo, isAtom, atomOf, isFormula, formulaOf}
 use Rattle.rules.specs.Scope.{Declarations, Variable}
 use Rattle.rules.specs.Items.{resolveAtom}
 use Rattle.read_bytes.specs.Sets.{inSet, FirstInSet}
 use Rattle.read_bytes.specs.declared.Set.the-variants.{FieldEnd}
 use Rattle.read_bytes.proofs.Search.{true-false, both-true, upTo-within}
-use Rattle.read_words.proofs.Words.{atom-word-length}
+use Rattle.read_atoms.specs.declared.Row.{Row}
+use Rattle.read_atoms.specs.Atoms.{atomWord, beginsAtom, atomRow, begunBy}
+use Rattle.read_atoms.proofs.Atoms.{atom-begins, some-bytes, word-told}
 use Rattle.read_fields.specs.Cuts.{part, more, NextField}
 use Rattle.read_fields.proofs.Cuts.{byte-in, no-more, some-more, fields-from}
 use Rattle.read_fields.proofs.Formulas.{NextAtom, more-on, not-none, formula-full, atom-0, atom-1, atom-2, atom-3, atom-here}
@@ -36,17 +37,16 @@ use Rattle.resolve_atoms.specs.declared.AtomRow.{AtomRow}
 use Rattle.resolve_atoms.specs.declared.TriedAtom.{TriedAtom}
 use Rattle.resolve_atoms.specs.declared.Put.{Put}
 use Rattle.resolve_atoms.specs.Good.{fitsAtom}
-use Rattle.resolve_atoms.proofs.Sides.{atom-word}
 use Rattle.resolve_atoms.specs.Written.{Resolved, AtomTried, formulaAfter, fitsAfter, AtomFollows, AtomPut, NextTried, FormulaFollows, FormulaTried}
 
 -- THE WORD OF AN ATOM
 
 -- the first field of a formula that is not empty
-first-word : (n : ℕ) (w : Name) (ws : List Name) → isFormula (suc n) (w ∷ ws) ≡ true → (is "acc" w || isRel w) ≡ true
+first-word : (n : ℕ) (w : Name) (ws : List Name) → isFormula (suc n) (w ∷ ws) ≡ true → beginsAtom w ≡ true
 unfolding isFormula
 first-word n w [] e = true-false (sym e)
 first-word n w (a ∷ []) e = true-false (sym e)
-first-word n w (a ∷ b ∷ ws) e = atom-word w a b (both-true (isAtom w a b) (isFormula n ws) e .0)
+first-word n w (a ∷ b ∷ ws) e = atom-begins w a b (both-true (isAtom w a b) (isFormula n ws) e .0)
 
 module _ {t : List ℕ} {r : ℕ} (f : AtomFollows t r) where
   abbrev word-length : ℕ
@@ -73,23 +73,28 @@ module _ {t : List ℕ} {r : ℕ} (f : AtomFollows t r) where
         some = λ l. some-more t r (f .byte) ∙ fields-from t (r + 1) (r + 1 + word-length) word-found;
       }
 
-  -- its first letter tells its length
-  word-letter : word-length ≡ cond (eqb (getD t (r + 1) 0) 97) 3 2
-  word-letter =
+  -- its first letter tells it
+  word-is : atomWord (begunBy (getD t (r + 1) 0)) ≡ take word-length (drop (r + 1) t)
+  word-is =
       let d = drop (r + 1) t in
+      let w = take word-length d in
       let z : r + 1 + word-length - (r + 1) ≡ word-length = omega arith in
-      let e = atom-word-length (take word-length d) (first-word (f .most) (take word-length d) _ (rw (word-next .some (omega arith), z) at (f .form))) in
-      let n : length (take word-length d) ≡ word-length = length-take-le word-length d (upTo-within (inSet FieldEnd) d) in
-      let p : 0 < word-length = omega (arith, e, n, some (eqb (getD (take word-length d) 0 0) 97)) in
-      let b : getD (take word-length d) 0 0 ≡ getD t (r + 1) 0 = getD-take word-length d 0 0 p ∙ (getD-drop (r + 1) t 0 0 ∙ ap (λ k. getD t k 0) (add-zero (r + 1))) in
-      sym n ∙ (e ∙ rw b)
-    where
-      some : (q : Bool) → 0 < cond q 3 2
-      some true = omega arith
-      some false = omega arith
+      let e : beginsAtom w ≡ true = first-word (f .most) w _ (rw (word-next .some (omega arith), z) at (f .form)) in
+      let n : length w ≡ word-length = length-take-le word-length d (upTo-within (inSet FieldEnd) d) in
+      let b : getD w 0 0 ≡ getD t (r + 1) 0 = getD-take word-length d 0 0 (omega (arith, n, some-bytes w e)) ∙ (getD-drop (r + 1) t 0 0 ∙ ap (λ k. getD t k 0) (add-zero (r + 1))) in
+      ap (λ b. atomWord (begunBy b)) (sym b) ∙ word-told w e
 
-  pub word-ends : (e : ℕ) → e ≡ r + 1 + cond (eqb (getD t (r + 1) 0) 97) 3 2 → NextField t r e
-  word-ends e h = subst (NextField t r) (sym (h ∙ ap (λ n. r + 1 + n) (sym word-letter))) word-next
+  module _ (k : ℕ) (i : k ≡ begunBy (getD t (r + 1) 0)) (q : Row) (j : q ≡ atomRow k) where
+    bytes-are : q .bytes ≡ word-length
+    unfolding atomRow
+    bytes-are =
+        rw (j, i, word-is) (length-take-le word-length (drop (r + 1) t) (upTo-within (inSet FieldEnd) (drop (r + 1) t)))
+
+    pub word-ends : NextField t r (r + 1 + q .bytes)
+    word-ends = rw bytes-are word-next
+
+    pub word-cut : part (r + 1) (r + 1 + q .bytes) t ≡ atomWord k
+    word-cut = let z : r + 1 + word-length - (r + 1) ≡ word-length = omega arith in rw (bytes-are, z, i) (sym word-is)
 
 -- THREE FIELDS
 module _
@@ -107,12 +112,22 @@ module _
   pub some-3 : z ≡ y → ⊥
   some-3 e = never (atom-2 f some-1 g some-2 h e)
 
-  pub is-atom : isAtom (part (r + 1) x t) (part (x + 1) y t) (part (y + 1) z t) ≡ true
+  is-atom : isAtom (part (r + 1) x t) (part (x + 1) y t) (part (y + 1) z t) ≡ true
   is-atom = go (isAtom (part (r + 1) x t) (part (x + 1) y t) (part (y + 1) z t)) refl
     where
       go : (q : Bool) → isAtom (part (r + 1) x t) (part (x + 1) y t) (part (y + 1) z t) ≡ q → q ≡ true
       go true e = refl
       go false e = never (atom-3 f some-1 g some-2 h some-3 e)
+
+  -- by the kind of its word
+  module _ (k : ℕ) (i : part (r + 1) x t ≡ atomWord k) where
+    pub kind-atom : isAtom (atomWord k) (part (x + 1) y t) (part (y + 1) z t) ≡ true
+    kind-atom = subst (λ w. isAtom w (part (x + 1) y t) (part (y + 1) z t) ≡ true) i is-atom
+
+    pub kind-tried :
+        (Γ : Declarations) (vs : List Variable) (q : TriedAtom) → AtomTried Γ vs (atomOf (atomWord k) (part (x + 1) y t) (part (y + 1) z t)) q →
+        AtomTried Γ vs (atomOf (part (r + 1) x t) (part (x + 1) y t) (part (y + 1) z t)) q
+    kind-tried Γ vs q a = subst (λ w. AtomTried Γ vs (atomOf w (part (x + 1) y t) (part (y + 1) z t)) q) (sym i) a
 
   abbrev here : Atom Name
   here = atomOf (part (r + 1) x t) (part (x + 1) y t) (part (y + 1) z t)

@@ -6,9 +6,9 @@ use Prim.Native.Nat.{ℕ}
 use native.Mathlib.Omega.{arith}
 use lib.Dec.{T, leb}
 use lib.ListN.{length, drop}
-use Rattle.rules.specs.Base.{Name, all, is}
-use Rattle.rules.specs.Syntax.{acc, cmp}
-use Rattle.rules.specs.Text.{exprOf, relOf, atomOf, formulaOf}
+use Rattle.rules.specs.Base.{Name, all}
+use Rattle.rules.specs.Syntax.{own, cmp}
+use Rattle.rules.specs.Text.{exprOf, relOf, isPermit, permitOf, atomOf, formulaOf}
 use Rattle.rules.specs.Grammar as Grammar
 use Rattle.rules.specs.Grammar.{Kind, Line, Operand, kinds, form, variable, member, expression, read, field}
 use Rattle.rules.specs.Scope.{Declarations, Variable, Scope, Slot, slotsFrom, atomOperands, atomSlots, atomsOf, slots}
@@ -62,8 +62,8 @@ module _ (Γ : Declarations) (vs : List Variable) (s : Scope) where
       (q : Bool) (u a b : Name) (xs : List Slot) (r : Bool) →
       (all knownSlot (slotsFrom [] (cond q (variable read ∷ member field ∷ []) (expression ∷ expression ∷ [])) (a ∷ b ∷ []) ++ xs)
       && (all typedSlot (slotsFrom [] (cond q (variable read ∷ member field ∷ []) (expression ∷ expression ∷ [])) (a ∷ b ∷ []) ++ xs)
-      && (atomAgrees Γ vs (cond q (acc a b) (cmp (relOf u) (exprOf a) (exprOf b))) && r)))
-      ≡ (fitsAtom Γ vs (cond q (acc a b) (cmp (relOf u) (exprOf a) (exprOf b))) && (all knownSlot xs && (all typedSlot xs && r)))
+      && (atomAgrees Γ vs (cond q (own (permitOf u) a b) (cmp (relOf u) (exprOf a) (exprOf b))) && r)))
+      ≡ (fitsAtom Γ vs (cond q (own (permitOf u) a b) (cmp (relOf u) (exprOf a) (exprOf b))) && (all knownSlot xs && (all typedSlot xs && r)))
   unfolding slotsFrom all known ofClass atomAgrees fitsAtom good knownExpr ofClassIn
   atom-fits true u a b xs r =
       access-order (inScope vs a) (knownField Γ vs a b) (not (isInt vs a)) (all knownSlot xs) (all typedSlot xs) r
@@ -80,7 +80,7 @@ module _ (Γ : Declarations) (vs : List Variable) (s : Scope) where
   atoms-fit (u ∷ []) = refl
   atoms-fit (u ∷ a ∷ []) = refl
   atoms-fit (u ∷ a ∷ b ∷ ws) =
-      atom-fits (is "acc" u) u a b (atomSlots ws) (all (atomAgrees Γ vs) (formulaOf ws))
+      atom-fits (isPermit u) u a b (atomSlots ws) (all (atomAgrees Γ vs) (formulaOf ws))
       ∙ ap (λ q. fitsAtom Γ vs (atomOf u a b) && q) (atoms-fit ws)
 
   -- atoms assign nothing
@@ -97,7 +97,7 @@ module _ (Γ : Declarations) (vs : List Variable) (s : Scope) where
   atoms-assign [] = refl
   atoms-assign (u ∷ []) = refl
   atoms-assign (u ∷ a ∷ []) = refl
-  atoms-assign (u ∷ a ∷ b ∷ ws) = atom-assigns (is "acc" u) a b (atomSlots ws) ∙ atoms-assign ws
+  atoms-assign (u ∷ a ∷ b ∷ ws) = atom-assigns (isPermit u) a b (atomSlots ws) ∙ atoms-assign ws
 
   -- a test that finds each kind with operands, or holds of it, holds of a kind without
   without-operands : (t : Kind → Bool) → T (all (λ k. leb 1 (length (form k .operands)) || t k) kinds) → (k : Kind) → form k .operands ≡ [] → t k ≡ true

@@ -2,16 +2,15 @@
 use mathlib.Core.Path.{_≡_, refl, sym, ap, ap₂, subst, _∙_}
 use mathlib.Core.Bool.{Bool, true, false, not, cond, _&&_, _||_}
 use mathlib.Core.List.{List, [], _∷_, _++_}
-use mathlib.Core.Logic.{_⊎_, ⊎-elim}
+use mathlib.Core.Logic.{⊎-elim}
 use Prim.Native.Nat.{ℕ, zero, suc, _+_, _≤_, _<_}
 use native.Mathlib.Omega.{arith}
-use lib.Dec.{T, eqb, ltb}
+use lib.Dec.{T, eqb}
 use lib.ListN.{length}
-use borrow.Author.Tests.{ltb-true, not-true}
-use Rattle.rules.specs.Base.{Name, is, any, index, eqName, Member}
-use Rattle.rules.specs.Syntax as Syntax
-use Rattle.rules.specs.Syntax.{Expr, num, null, var, path, acc, cmp}
-use Rattle.rules.specs.Text.{number, numeral, hasStop, isName, isExpr, exprOf, beforeStop, afterStop, reserved, isRel, relOf, isAtom, atomOf}
+use borrow.Author.Tests.{ltb-true, lt-ltb, le-ltb, not-true}
+use Rattle.rules.specs.Base.{Name, any, index, eqName, Member}
+use Rattle.rules.specs.Syntax.{Permit, Expr, num, null, var, path, own, cmp}
+use Rattle.rules.specs.Text.{number, numeral, hasStop, isExpr, exprOf, beforeStop, afterStop, reserved, isAtom, atomOf}
 use Rattle.rules.specs.Base as Base
 use Rattle.rules.specs.Scope.{Declarations, Variable, FieldDeclaration}
 use Rattle.rules.specs.Names as Names
@@ -19,10 +18,11 @@ use Rattle.rules.specs.Names.{knownExpr, ofClassIn, knownField, isInt, isFieldO
 use Rattle.rules.specs.Items.{resolveExpr, resolveAtom}
 use Rattle.rules.proofs.Signs.{number-small}
 use Rattle.rules.proofs.Lists.{T-true, head-or, append-member, and-both, in-any, any-in, first-member}
-use Rattle.read_words.specs.Words.{acc-word, eq-word, ne-word, wordNumber}
-use Rattle.read_bytes.proofs.Search.{both-true, true-false}
-use Rattle.read_words.proofs.Words.{acc-is, eq-is, atom-rel, atom-before, atom-after}
+use Rattle.read_bytes.proofs.Search.{both-true}
+use Rattle.read_atoms.specs.Atoms.{atomWord}
+use Rattle.read_atoms.proofs.Atoms.{atom-begins, kind-bounds, permission-of, comparison-of, comparison-form}
 use Rattle.tables.specs.declared.Expr as Tables
+use Rattle.tables.specs.Numbers.{read-atom, eq-atom, ne-atom}
 use Rattle.tables.specs.Layout.{most-names, frame-variables}
 use Rattle.tables.specs.Decode as Decode
 use Rattle.tables.specs.Stores.{meaning}
@@ -41,27 +41,17 @@ use Rattle.write_rows.specs.Holds as Holds
 use Rattle.write_rows.specs.Holds.{accessOf}
 use Rattle.resolve_atoms.specs.declared.TriedAtom.{TriedAtom}
 use Rattle.resolve_atoms.specs.Good.{fitsAtom}
-use Rattle.resolve_atoms.specs.Written.{Resolved, AtomTried}
+use Rattle.resolve_atoms.specs.Written.{IsAccess, IsRelation, Resolved, AtomTried}
 
 -- SIDES
 
 -- a path is an access
-path-access : (e : Tables.Expr) (v n : ℕ) → meaning e ≡ path v n → (tagOf e ≡ 3) × (accessOf e ≡ acc v n)
+path-access : (p : Permit) (e : Tables.Expr) (v n : ℕ) → meaning e ≡ path v n → (tagOf e ≡ 3) × (accessOf p e ≡ own p v n)
 unfolding meaning tagOf accessOf
-path-access (Tables.Expr.Num k) v n m = absurd (let z : _≡_ {A = ℕ} 0 1 = cc in omega arith)
-path-access Tables.Expr.Null v n m = absurd (let z : _≡_ {A = ℕ} 0 1 = cc in omega arith)
-path-access (Tables.Expr.Var x) v n m = absurd (let z : _≡_ {A = ℕ} 0 1 = cc in omega arith)
-path-access (Tables.Expr.Path x f) v n m = let p : x ≡ v = cc in let q : f ≡ n = cc in (refl, λ j. acc (p j) (q j))
-
--- the word of an atom
-pub atom-word : (w a b : Name) → isAtom w a b ≡ true → (is "acc" w || isRel w) ≡ true
-unfolding isAtom
-atom-word w a b e = go (is "acc" w) (isRel w) e
-  where
-    go : (x y : Bool) → cond x (isName a && isName b) (y && (isExpr a && isExpr b)) ≡ true → (x || y) ≡ true
-    go true y e = refl
-    go false true e = refl
-    go false false e = true-false (sym e)
+path-access p (Tables.Expr.Num k) v n m = absurd (let z : _≡_ {A = ℕ} 0 1 = cc in omega arith)
+path-access p Tables.Expr.Null v n m = absurd (let z : _≡_ {A = ℕ} 0 1 = cc in omega arith)
+path-access p (Tables.Expr.Var x) v n m = absurd (let z : _≡_ {A = ℕ} 0 1 = cc in omega arith)
+path-access p (Tables.Expr.Path x f) v n m = let q : x ≡ v = cc in let r : f ≡ n = cc in (refl, λ j. own p (q j) (r j))
 
 number-read : (w : Name) (n : ℕ) → exprOf w ≡ num n → n < 4294967296
 unfolding exprOf
@@ -166,45 +156,47 @@ module _ (t w : List ℕ) (c : Declared.Names) (fits : NamesFit c) where
       go (path x f) i h = path-fits x f h
 
   -- ATOMS
-  access-is :
-      (x f : Name) (l : Tables.Expr) → good Γ vs (path x f) ≡ true → meaning l ≡ resolveExpr Γ vs (path x f) →
-      Resolved Γ vs (acc x f) (record { kind = 0; left = l; right = Tables.Expr.Null })
-  unfolding resolveExpr resolveAtom Holds.atomOf meaning SideFits
-  access-is x f l g m =
-      let p = path-access l _ _ m in
-      record {
-        is = p .1;
-        ok = record { kind = omega arith; left = rw m (path-fits x f g); right = tt; access = λ e. p .0 };
-      }
+  module _ (k : ℕ) (a : IsAccess k) (x f : Name) where
+    access-is :
+        (l : Tables.Expr) → good Γ vs (path x f) ≡ true → meaning l ≡ resolveExpr Γ vs (path x f) →
+        Resolved Γ vs (own (Decode.permitOf k) x f) (record { kind = k; left = l; right = Tables.Expr.Null })
+    unfolding resolveExpr resolveAtom Holds.atomOf Decode.isPermission meaning SideFits
+    access-is l g m =
+        let p = path-access (Decode.permitOf k) l _ _ m in
+        record {
+          is = rw (lt-ltb k eq-atom (a .1)) (p .1);
+          ok = record { least = a .0; kind = omega (arith, a .1); left = rw m (path-fits x f g); right = tt; access = λ e. p .0 };
+        }
 
-  pub access-row :
-      (x f : Name) (m : Member.Member) → MemberIs t Γ vs x f m → m .good ≡ true →
-      AtomTried Γ vs (acc x f) (TriedAtom.Row (record { kind = 0; left = Tables.Expr.Path (m .variable) (m .number); right = Tables.Expr.Null }))
-  unfolding AtomTried fitsAtom resolveExpr meaning
-  access-row x f m h g =
-      let e : good Γ vs (path x f) ≡ true = sym (h .good) ∙ g in
-      (e, access-is x f (Tables.Expr.Path (m .variable) (m .number)) e (ap₂ path (h .variable) (h .number)))
+    pub access-row :
+        (m : Member.Member) → MemberIs t Γ vs x f m → m .good ≡ true →
+        AtomTried Γ vs (own (Decode.permitOf k) x f) (TriedAtom.Row (record { kind = k; left = Tables.Expr.Path (m .variable) (m .number); right = Tables.Expr.Null }))
+    unfolding AtomTried fitsAtom resolveExpr meaning
+    access-row m h g =
+        let e : good Γ vs (path x f) ≡ true = sym (h .good) ∙ g in
+        (e, access-is (Tables.Expr.Path (m .variable) (m .number)) e (ap₂ path (h .variable) (h .number)))
 
-  pub access-bad :
-      (x f : Name) (m : Member.Member) → MemberIs t Γ vs x f m → m .good ≡ false → AtomTried Γ vs (acc x f) TriedAtom.Bad
-  unfolding AtomTried fitsAtom
-  access-bad x f m h g = sym (h .good) ∙ g
+    pub access-bad :
+        (m : Member.Member) → MemberIs t Γ vs x f m → m .good ≡ false → AtomTried Γ vs (own (Decode.permitOf k) x f) TriedAtom.Bad
+    unfolding AtomTried fitsAtom
+    access-bad m h g = sym (h .good) ∙ g
 
   pub compared-is :
-      (k : ℕ) (a b : Name) (l r : Tables.Expr) → 1 ≤ k → k ≤ 2 →
+      (k : ℕ) (a b : Name) (l r : Tables.Expr) → IsRelation k →
       good Γ vs (exprOf a) ≡ true → good Γ vs (exprOf b) ≡ true → meaning l ≡ resolveExpr Γ vs (exprOf a) →
       meaning r ≡ resolveExpr Γ vs (exprOf b) →
       Resolved Γ vs (cmp (Decode.relOf k) (exprOf a) (exprOf b)) (record { kind = k; left = l; right = r })
-  unfolding resolveAtom Holds.atomOf
-  compared-is k a b l r k₁ k₂ p q m n =
+  unfolding resolveAtom Holds.atomOf Decode.isPermission
+  compared-is k a b l r i p q m n =
       record {
-        is = rw (borrow.Author.Tests.ne-eqb k 0 (λ e. omega arith), m, n);
+        is = rw (le-ltb k eq-atom (i .0), m, n);
         ok =
             record {
-              kind = k₂;
+              least = omega (arith, i .0);
+              kind = i .1;
               left = rw m (expr-fits a p);
               right = rw n (expr-fits b q);
-              access = λ e. absurd (omega arith);
+              access = λ e. absurd (omega (arith, i .0));
             };
       }
 
@@ -216,13 +208,13 @@ module _ (t w : List ℕ) (c : Declared.Names) (fits : NamesFit c) where
     compared-fits = rw (p .good, q .good, p .is, q .is)
 
     pub compared-row :
-        (1 ≤ k) × (k ≤ 2) → l .good ≡ true → r .good ≡ true →
+        IsRelation k → l .good ≡ true → r .good ≡ true →
         Names.agree (typeMeant t (l .is)) (typeMeant t (r .is)) ≡ true →
         AtomTried Γ vs (cmp (Decode.relOf k) (exprOf a) (exprOf b)) (TriedAtom.Row (record { kind = k; left = l .expr; right = r .expr }))
     unfolding AtomTried
     compared-row i u v y = (
       compared-fits ∙ rw (u, v, y),
-      compared-is k a b (l .expr) (r .expr) (i .0) (i .1) (sym (p .good) ∙ u) (sym (q .good) ∙ v) (p .expr) (q .expr),
+      compared-is k a b (l .expr) (r .expr) i (sym (p .good) ∙ u) (sym (q .good) ∙ v) (p .expr) (q .expr),
     )
 
     pub left-bad : l .good ≡ false → AtomTried Γ vs (cmp (Decode.relOf k) (exprOf a) (exprOf b)) TriedAtom.Bad
@@ -239,46 +231,24 @@ module _ (t w : List ℕ) (c : Declared.Names) (fits : NamesFit c) where
     unfolding AtomTried
     apart-bad u v y = compared-fits ∙ rw (u, v, y)
 
--- THE ATOM OF THREE FIELDS
-module _ (u a b : Name) (k : ℕ) (h : k ≡ wordNumber u) where
-  pub atom-access : k ≡ acc-word → atomOf u a b ≡ acc a b
-  unfolding atomOf
-  atom-access e = rw (acc-is u, ← h, e)
+-- THE ATOM OF A KIND
+module _ (k : ℕ) (a b : Name) (form : isAtom (atomWord k) a b ≡ true) where
+  kind-is : (read-atom ≤ k) × (k ≤ ne-atom)
+  kind-is = kind-bounds k (atom-begins (atomWord k) a b form)
 
-  pub access-tried :
-      (Γ : Declarations) (vs : List Variable) (r : TriedAtom) → k ≡ acc-word → AtomTried Γ vs (acc a b) r → AtomTried Γ vs (atomOf u a b) r
-  access-tried Γ vs r e x = subst (λ y. AtomTried Γ vs y r) (sym (atom-access e)) x
+  pub is-access : k < eq-atom → IsAccess k
+  is-access l = (kind-is .0, l)
 
-  relation-is : (q : Bool) → Decode.relOf (cond q 1 2) ≡ cond q Syntax.eq Syntax.ne
-  unfolding Decode.relOf
-  relation-is true = refl
-  relation-is false = refl
+  pub is-relation : eq-atom ≤ k → IsRelation k
+  is-relation l = (l, kind-is .1)
 
-  module _ (n : k ≡ acc-word → ⊥) where
-    pub atom-compared : atomOf u a b ≡ cmp (Decode.relOf (cond (eqb k eq-word) 1 2)) (exprOf a) (exprOf b)
-    unfolding atomOf relOf
-    atom-compared = rw (acc-is u, ← h, borrow.Author.Tests.ne-eqb k acc-word n, eq-is u, ← h, relation-is (eqb k eq-word))
+  pub compared-form : eq-atom ≤ k → (isExpr a ≡ true) × (isExpr b ≡ true)
+  compared-form l = comparison-form a b k l (kind-is .1) form
 
-    pub compared-form : isAtom u a b ≡ true → (isExpr a ≡ true) × (isExpr b ≡ true)
-    compared-form e =
-        ⊎-elim (λ l. true-false (sym e ∙ atom-before u a b k h n l))
-        (λ l.
-        ⊎-elim (λ m. true-false (sym e ∙ atom-after u a b k h n m)) (λ m. both-true (isExpr a) (isExpr b) (sym (atom-rel u a b k h n l m) ∙ e))
-        (below ne-word k))
-        (below k eq-word)
-      where
-        below : (i j : ℕ) → (i < j) ⊎ (j ≤ i)
-        below i j = Rattle.tables.proofs.Runs.less-or-not i j (ltb i j) refl
+  module _ (Γ : Declarations) (vs : List Variable) (r : TriedAtom) where
+    pub access-tried : k < eq-atom → AtomTried Γ vs (own (Decode.permitOf k) a b) r → AtomTried Γ vs (atomOf (atomWord k) a b) r
+    access-tried l x = subst (λ y. AtomTried Γ vs y r) (sym (permission-of a b k (kind-is .0) l)) x
 
     pub compared-tried :
-        (Γ : Declarations) (vs : List Variable) (r : TriedAtom) (i : ℕ) → i ≡ cond (eqb k eq-word) 1 2 →
-        AtomTried Γ vs (cmp (Decode.relOf i) (exprOf a) (exprOf b)) r → AtomTried Γ vs (atomOf u a b) r
-    compared-tried Γ vs r i e x =
-        subst (λ y. AtomTried Γ vs y r) (sym (atom-compared ∙ ap (λ j. cmp (Decode.relOf j) (exprOf a) (exprOf b)) (sym e))) x
-
-pub relation-bounds : (k n : ℕ) → n ≡ cond (eqb k eq-word) 1 2 → (1 ≤ n) × (n ≤ 2)
-relation-bounds k n e = go (eqb k eq-word) e
-  where
-    go : (q : Bool) → n ≡ cond q 1 2 → (1 ≤ n) × (n ≤ 2)
-    go true i = omega arith
-    go false i = omega arith
+        eq-atom ≤ k → AtomTried Γ vs (cmp (Decode.relOf k) (exprOf a) (exprOf b)) r → AtomTried Γ vs (atomOf (atomWord k) a b) r
+    compared-tried l x = subst (λ y. AtomTried Γ vs y r) (sym (comparison-of a b k l (kind-is .1))) x

@@ -2,13 +2,13 @@
 use mathlib.Core.Bool.{Bool, _&&_}
 use mathlib.Core.List.{List}
 use Rattle.rules.specs.Base.{Name}
-use Rattle.rules.specs.Syntax.{Atom, acc, cmp, path}
+use Rattle.rules.specs.Syntax.{Atom, own, cmp, path}
 use Rattle.rules.specs.Scope.{Declarations, Variable}
 use Rattle.rules.specs.Names.{agree, exprType}
 use Rattle.read_types.specs.Types.{good}
 
 module _ (Γ : Declarations) (vs : List Variable) where
-  -- `acc x f` names what x.f names
+  -- `acc x f` and `read x f` name what x.f names
   unfoldable pub fitsAtom : Atom Name → Bool
-  fitsAtom (acc x f) = good Γ vs (path x f)
+  fitsAtom (own k x f) = good Γ vs (path x f)
   fitsAtom (cmp n a b) = good Γ vs a && (good Γ vs b && agree (exprType Γ vs a) (exprType Γ vs b))

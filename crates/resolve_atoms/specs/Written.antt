@@ -11,7 +11,7 @@ use Rattle.rules.specs.Text.{tab, isFormula, formulaOf}
 use Rattle.rules.specs.Scope.{Declarations, Variable}
 use Rattle.rules.specs.Items.{resolveAtom}
 use Rattle.read_fields.specs.Cuts.{more}
-use Rattle.tables.specs.Numbers.{eq-atom, ne-atom}
+use Rattle.tables.specs.Numbers.{read-atom, eq-atom, ne-atom}
 use Rattle.tables.specs.Layout.{names-at, most-atom-rows}
 use Rattle.tables.specs.Stores.{Kept}
 use Rattle.read_scopes.specs.declared.Names.{Names}
@@ -23,6 +23,10 @@ use Rattle.resolve_atoms.specs.declared.AtomRow.{AtomRow}
 use Rattle.resolve_atoms.specs.declared.TriedAtom.{TriedAtom}
 use Rattle.resolve_atoms.specs.declared.Put.{Put}
 use Rattle.resolve_atoms.specs.Good.{fitsAtom}
+
+-- the kind of `read` or that of `acc`
+abbrev pub IsAccess : ℕ → Type 0
+IsAccess k = (read-atom ≤ k) × (k < eq-atom)
 
 -- the kind of `eq` or that of `ne`
 abbrev pub IsRelation : ℕ → Type 0

@@ -11,7 +11,7 @@ use lib.ListN.{length, getD, drop}
 use borrow.Author.Tests.{eqb-true, eq-eqb, ne-eqb, le-leb, lt-leb}
 use Rattle.rules.specs.Base.{Name, any, all}
 use Rattle.rules.specs.Limits.{work-bytes, most-methods, most-statements, most-atoms}
-use Rattle.rules.specs.Syntax.{Atom, Formula, acc, cmp}
+use Rattle.rules.specs.Syntax.{Atom, Formula, own, cmp}
 use Rattle.rules.specs.Text.{relOf, exprOf, isCondition, isFormula, formulaOf}
 use Rattle.rules.specs.Grammar as Grammar
 use Rattle.rules.specs.Grammar.{Kind, Statement, Line, statement, form, first-statement, IsKindNumber, IsStatementNumber, isFormed, isTail}
@@ -154,11 +154,11 @@ loop-framed w i (suc n) φ h e =
     let m : suc n - 1 ≡ n = omega arith in
     let ψ : Formula ℕ = atomsFrom w (suc i) n in
     (λ j. atomsFrom w (add-one i j) (m j) ++ (atomAt w i ∷ []))
-    ∙ (go (eqb (byteAt w (atomPlace i)) 0) ψ (ap hasCondition e ∙ h) ∙ ap (λ φ. statedFormula (loopWith φ)) e)
+    ∙ (go (Decode.isPermission (byteAt w (atomPlace i))) ψ (ap hasCondition e ∙ h) ∙ ap (λ φ. statedFormula (loopWith φ)) e)
   where
     atom : Bool → Atom ℕ
     atom b =
-        cond b (acc (byteAt w (atomPlace i + 4)) (byteAt w (atomPlace i + 5)))
+        cond b (own (Decode.permitOf (byteAt w (atomPlace i))) (byteAt w (atomPlace i + 4)) (byteAt w (atomPlace i + 5)))
         (cmp (Decode.relOf (byteAt w (atomPlace i))) (leftAt w i) (rightAt w i))
 
     go : (b : Bool) (ψ : Formula ℕ) → hasCondition (atom b ∷ ψ) ≡ true → ψ ++ (atom b ∷ []) ≡ statedFormula (loopWith (atom b ∷ ψ))

@@ -1,4 +1,4 @@
--- Laws of the search for an `acc`, and of a formula atom by atom.
+-- Laws of the search for an access, and of a formula atom by atom.
 use mathlib.Core.Path.{_≡_, refl, sym, ap, _∙_}
 use mathlib.Core.Bool.{Bool, true, false, cond, _&&_, _||_}
 use mathlib.Core.List.{[], _∷_, _++_, List}
@@ -8,9 +8,9 @@ use native.Mathlib.Nat.{add-zero, zero-add}
 use native.Mathlib.Numerals.{add-one}
 use borrow.Author.Tests.{ne-eqb}
 use Rattle.rules.specs.Base.{any}
-use Rattle.rules.specs.Syntax.{Atom, Formula, acc, cmp, path}
+use Rattle.rules.specs.Syntax.{Atom, Formula, own, cmp, path}
 use Rattle.rules.specs.Reading.{Access, framedExpr, framed}
-use Rattle.tables.specs.Decode.{run, byteAt, atomPlace, relOf, leftAt, rightAt, atomAt, atomsFrom, framedFrom}
+use Rattle.tables.specs.Decode.{run, byteAt, atomPlace, permitOf, relOf, leftAt, rightAt, atomAt, atomsFrom, framedFrom}
 use Rattle.resolve_framing.specs.Framing.{accessAt, isAccess, isOf, accesses}
 
 -- an atom by its sides
@@ -74,7 +74,7 @@ module _ (w : List ℕ) (a : ℕ) where
 
       go :
           (b : Bool) → let n = relOf (byteAt w (atomPlace (a + i))) in
-          let t = cond b (acc (byteAt w (atomPlace (a + i) + 4)) (byteAt w (atomPlace (a + i) + 5))) (cmp n (leftAt w (a + i)) (rightAt w (a + i))) in
+          let t = cond b (own (permitOf (byteAt w (atomPlace (a + i)))) (byteAt w (atomPlace (a + i) + 4)) (byteAt w (atomPlace (a + i) + 5))) (cmp n (leftAt w (a + i)) (rightAt w (a + i))) in
           framed (accesses w a i) (t ∷ φ)
           ≡ framed (accesses w a i) (t ∷ []) && framed (cond b (accessAt w (a + i) ∷ accesses w a i) (accesses w a i)) φ
       go true = refl

@@ -4,15 +4,14 @@ use mathlib.Core.List.{List, [], _∷_}
 use Prim.Native.Nat.{ℕ, zero, suc, _+_}
 use lib.Dec.{eqb}
 use Rattle.rules.specs.Reading.{Access, framedExpr}
-use Rattle.tables.specs.Numbers.{acc-atom}
-use Rattle.tables.specs.Decode.{atomKindAt, accVariableAt, accFieldAt, leftAt, rightAt}
+use Rattle.tables.specs.Decode.{atomKindAt, isPermission, accVariableAt, accFieldAt, leftAt, rightAt}
 
--- the variable and the field of the atom i, an `acc`
+-- the variable and the field of the atom i, an `acc` or a `read`
 abbrev pub accessAt : List ℕ → ℕ → Access
 accessAt w i = record { variable = accVariableAt w i; field = accFieldAt w i }
 
 abbrev pub isAccess : List ℕ → ℕ → Bool
-isAccess w i = eqb (atomKindAt w i) acc-atom
+isAccess w i = isPermission (atomKindAt w i)
 
 -- is it `x.f`?
 abbrev pub isOf : ℕ → ℕ → Access → Bool

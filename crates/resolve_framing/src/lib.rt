@@ -16,11 +16,12 @@ ghost use Rattle.tables.specs.Decode.{atomAt, atomsFrom, framedFrom};
 ghost use Rattle.tables.specs.Stores.{meaning};
 ghost use Rattle.resolve_framing.specs.Framing.{accessAt, isAccess, isOf, accesses, sidesFramed};
 
+// W8: "For number 10, `read x f` serves as `acc x f` does."
 fn is_access(work: &[u8], a: usize) -> bool
     requires { ⌜ (length (now work) ≡ work-bytes) × (a < most-atom-rows) ⌝ }
     ensures { λ r. ⌜ r ≡ isAccess (now (work .entry)) a ⌝ }
 {
-    tables::atom_kind(work, a) == AtomKind::ACC
+    tables::atom_kind(work, a) < AtomKind::EQ
 }
 
 fn is_of(work: &[u8], a: usize, x: usize, f: usize) -> bool
@@ -33,7 +34,7 @@ fn is_of(work: &[u8], a: usize, x: usize, f: usize) -> bool
     tables::atom_field(work, a) == f
 }
 
-// Is the atom a `acc x f`?
+// Is the atom a `acc x f` or `read x f`?
 fn is_access_of(work: &[u8], a: usize, x: usize, f: usize) -> bool
     requires { ⌜ (length (now work) ≡ work-bytes) × (a < most-atom-rows) ⌝ }
     ensures { λ r. ⌜ r ≡ isAccess (now (work .entry)) a && isOf x f (accessAt (now (work .entry)) a) ⌝ }
@@ -44,7 +45,7 @@ fn is_access_of(work: &[u8], a: usize, x: usize, f: usize) -> bool
     is_of(work, a, x, f)
 }
 
-// Is one of n atoms from `first` on `acc x f`?
+// Is one of n atoms from `first` on `acc x f` or `read x f`?
 fn has_access(work: &[u8], first: usize, n: usize, x: usize, f: usize) -> bool
     requires { ⌜ (length (now work) ≡ work-bytes) × (first + n ≤ most-atom-rows) ⌝ }
     ensures { λ r. ⌜ r ≡ framedExpr (accesses (now (work .entry)) first n) (path x f) ⌝ }
@@ -92,7 +93,7 @@ fn framed_atom(work: &[u8], first: usize, n: usize, a: usize) -> bool
     framed_sides(work, first, n, a)
 }
 
-// Has each path of the formula of `count` atoms from `first` on an `acc` before it?
+// Has each path of the formula of `count` atoms from `first` on an access before it?
 fn framed(work: &[u8], first: usize, count: usize) -> bool
     requires { ⌜ (length (now work) ≡ work-bytes) × (first + count ≤ most-atom-rows) ⌝ }
     ensures { λ r. ⌜ r ≡ framed [] (atomsFrom (now (work .entry)) first count) ⌝ }
@@ -119,7 +120,7 @@ fn framed_loop(work: &[u8], first: usize, count: usize) -> bool
     framed_atom(work, first + 1, n, first)
 }
 
-// Has each path of a line of this kind, with `count` atoms from `first` on, an `acc` before it? Number 10 is about this.
+// Has each path of a line of this kind, with `count` atoms from `first` on, an access before it? Number 10 is about this.
 pub fn framed_line(work: &[u8], kind: u8, first: usize, count: usize) -> bool
     requires { ⌜ (length (now work) ≡ work-bytes) × (kind ≡ loop-kind → 1 ≤ count) × (first + count ≤ most-atom-rows) ⌝ }
     ensures { λ r. ⌜ r ≡ framed [] (framedFrom (now (work .entry)) kind first count) ⌝ }

@@ -4,28 +4,38 @@ use mathlib.Core.Path.{_≡_, refl, sym, ap, _∙_, subst}
 use mathlib.Core.Bool.{cond}
 use mathlib.Core.List.{List, [], _∷_, map}
 use mathlib.Core.Logic.{_⊎_, inl, inr, ⊎-elim}
-use Prim.Native.Nat.{ℕ, suc, _≤_}
+use Prim.Native.Nat.{ℕ, suc, _+_, _≤_, _<_}
 use native.Mathlib.Omega.{arith}
 use native.Mathlib.Nat.{le-refl}
 use lib.ListN.{length, getD, length-append}
 use Rattle.rules.specs.Base.{ok}
 use Rattle.rules.specs.Syntax.{Rel, Expr, Operation, Simple, Stmt, Field, Method, Formula, Program, methodNumbered, result-variable}
 use Rattle.rules.specs.Syntax.{set, assign, compute, new, call, return, assert, release, simple, if, else, join, loop, again, end}
-use Rattle.rules.specs.Machine.{Config, Frame, Location, Cell, Room, on, holds, without, valueAt, valueOf, locate, value, compared, footprint, jump, advance, bind, holding, withFrame, choose}
+use Rattle.rules.specs.Machine.{Config, Frame, Location, Cell, Room, on, halves, wholeOf, without, valueAt, valueOf, locate, value, compared, footprint, jump, advance, bind, holding, withFrame, choose}
 use Rattle.rules.specs.Machine.{ifStep, elseStep, loopStep, againStep, stored, setStep, assignStep, computed, computeStep, newCell, grown, newStep, callFrame, entered, callStep, returned, assertStep, releaseStep, endStep, returnStep, simpleStep, stepAt, step, statementOf}
-use Rattle.rules.specs.Runs.{Made}
 use Rattle.rules.proofs.Tries.{bind-ok, check-ok, ok-inj}
-use Rattle.rules.proofs.Sets.{Holds, location-eq, in-append, in-new, without-in, without-out, locate-holds, locate-is, footprint-held}
+use Rattle.rules.proofs.Sets.{location-eq, halves-append, halves-without, whole-most, whole-new, locate-held, locate-is, footprint-held}
+use Rattle.rules.proofs.Lists.{decide-eq}
 use Rattle.rules.proofs.Heaps.{store-other, store-length, grown-other}
 use Rattle.rules.proofs.States.{on-inj, took-on}
 
--- the frame goes on: it gains only locations of new objects, and what it does not hold keeps its value
+-- how many halves of a location the frame holds
+abbrev pub holds : Frame → Location → ℕ
+holds F p = halves (F .held) p
+
+-- a location of an object that the step made: the frame gains it whole
+pub record Gained (m m′ : Config) (p : Location) : Type 0 where
+  pub new : length (m .heap) < p .object
+  pub exists : p .object ≤ length (m′ .heap)
+  pub gained : holds (m′ .frame) p ≤ holds (m .frame) p + 2
+
+-- the frame goes on: it gains only locations of new objects, and what it does not hold whole keeps its value
 pub record Within (m m′ : Config) : Type 0 where
   pub callers : m′ .callers ≡ m .callers
   pub grows : length (m .heap) ≤ length (m′ .heap)
-  pub gains : (p : Location) → Holds (m′ .frame) p → Holds (m .frame) p ⊎ Made m m′ (p .object)
+  pub gains : (p : Location) → (holds (m′ .frame) p ≤ holds (m .frame) p) ⊎ Gained m m′ p
   pub outside :
-      (p : Location) → (Holds (m .frame) p → ⊥) → p .object ≤ length (m .heap) →
+      (p : Location) → holds (m .frame) p < 2 → p .object ≤ length (m .heap) →
       valueAt (m′ .heap) (p .object) (p .field) ≡ valueAt (m .heap) (p .object) (p .field)
 
 -- a call: the set is divided between the frame that is entered and its caller
@@ -33,16 +43,14 @@ pub record Entering (m m′ : Config) : Type 0 where
   pub caller : Frame
   pub callers : m′ .callers ≡ caller ∷ m .callers
   pub heap : m′ .heap ≡ m .heap
-  pub handed : (p : Location) → Holds (m′ .frame) p → Holds (m .frame) p
-  pub left : (p : Location) → Holds caller p → Holds (m .frame) p
-  pub apart : (p : Location) → Holds (m′ .frame) p → Holds caller p → ⊥
+  pub divided : (p : Location) → holds (m′ .frame) p + holds caller p ≤ holds (m .frame) p
 
 -- a call's `end` or `return`: the caller goes on, with its set and some of the ended frame's
 pub record Returning (m m′ : Config) : Type 0 where
   pub caller : Frame
   pub callers : m .callers ≡ caller ∷ m′ .callers
   pub heap : m′ .heap ≡ m .heap
-  pub gains : (p : Location) → Holds (m′ .frame) p → Holds caller p ⊎ Holds (m .frame) p
+  pub gains : (p : Location) → holds (m′ .frame) p ≤ holds caller p + holds (m .frame) p
 
 pub data Change (m m′ : Config) : Type 0 where
   within : Within m m′ → Change m m′
@@ -57,57 +65,68 @@ change-within m m′ (returning R) e = absurd (omega (arith, ap (λ (Fs : List F
 
 -- STATEMENTS
 -- only the frame changes, and its set does not grow
-same-heap : (m : Config) (F : Frame) → ((p : Location) → Holds F p → Holds (m .frame) p) → Within m (withFrame m F)
+same-heap :
+    (m : Config) (F : Frame) → ((p : Location) → holds F p ≤ holds (m .frame) p) → Within m (withFrame m F)
 unfolding withFrame
-same-heap m F s =
-    record { callers = refl; grows = le-refl _; gains = λ p i. inl (s p i); outside = λ p n l. refl }
+same-heap m F s = record { callers = refl; grows = le-refl _; gains = λ p. inl (s p); outside = λ p n l. refl }
 
-stored-within : (m : Config) (p : Location) (v : ℕ) → Holds (m .frame) p → Within m (stored m (p .object) (p .field) v)
-unfolding stored holds advance jump
+stored-within :
+    (m : Config) (p : Location) (v : ℕ) → 2 ≤ holds (m .frame) p → Within m (stored m (p .object) (p .field) v)
+unfolding stored advance jump
 stored-within m p v i =
     record {
       callers = refl;
       grows = store-length (m .heap) (p .object) (p .field) v;
-      gains = λ q j. inl j;
+      gains = λ q. inl (le-refl _);
       outside =
           λ q n l.
           store-other (m .heap) (p .object) (p .field) v (q .object) (q .field)
-          (λ e. n (subst (λ (r : Location). Holds (m .frame) r) (location-eq (e .0) (sym (e .1))) i));
+          (λ e.
+          omega (arith, n, subst (λ (r : Location). 2 ≤ holds (m .frame) r) (location-eq (e .0) (sym (e .1))) i));
     }
 
 set-within : (x f y : ℕ) (m m′ : Config) → setStep x f y m ≡ ok m′ → Within m m′
 unfolding setStep
 set-within x f y m m′ e =
-    let (p, l, q) = bind-ok (locate (m .frame) x f) e in
+    let (p, l, q) = bind-ok (locate (m .frame) [] 2 x f) e in
     let v : ℕ = valueOf (m .frame) y in
-    let is : p .field ≡ f = ap (λ (r : Location). r .field) (locate-is (m .frame) x f p l) in
+    let is : p .field ≡ f = ap (λ (r : Location). r .field) (locate-is (m .frame) [] 2 x f p l) in
     subst (Within m) (ap (λ (g : ℕ). stored m (p .object) g v) is ∙ ok-inj q)
-    (stored-within m p v (locate-holds (m .frame) x f p l))
+    (stored-within m p v (omega (arith, locate-held (m .frame) [] 2 x f p l)))
 
 assign-within : (x : ℕ) (e : Expr ℕ) (m m′ : Config) → assignStep x e m ≡ ok m′ → Within m m′
-unfolding assignStep holds advance jump bind
+unfolding assignStep advance jump bind
 assign-within x e m m′ q =
     let (v, _, r) = bind-ok (value (m .heap) (m .frame) e) q in
-    subst (Within m) (ok-inj r) (same-heap m (advance (bind x v (m .frame))) (λ p i. i))
+    subst (Within m) (ok-inj r) (same-heap m (advance (bind x v (m .frame))) (λ p. le-refl _))
 
 compute-within : (o : Operation) (x y z : ℕ) (m m′ : Config) → computeStep o x y z m ≡ ok m′ → Within m m′
-unfolding computeStep holds advance jump bind
+unfolding computeStep advance jump bind
 compute-within o x y z m m′ q =
     let (v, _, r) = bind-ok (computed o (valueOf (m .frame) y) (valueOf (m .frame) z)) q in
-    subst (Within m) (ok-inj r) (same-heap m (advance (bind x v (m .frame))) (λ p i. i))
+    subst (Within m) (ok-inj r) (same-heap m (advance (bind x v (m .frame))) (λ p. le-refl _))
 
 grown-within : (x : ℕ) (cs : List Cell) (m : Config) → Within m (grown m x cs)
-unfolding grown holds advance jump bind holding
+unfolding grown advance jump bind holding
 grown-within x cs m =
     record {
       callers = refl;
       grows = rw length-append (omega arith);
       gains =
-          λ p i.
-          ⊎-elim (λ k. inl k)
-          (λ k. let e : p .object ≡ suc (length (m .heap)) = in-new p (suc (length (m .heap))) cs k in
-          inr (omega (arith, e), omega (arith, e, length-append (m .heap) (cs ∷ []))))
-          (in-append p (m .frame .held) _ i);
+          λ p.
+          let o : ℕ = suc (length (m .heap)) in
+          let sum = halves-append (m .frame .held) (wholeOf o cs) p in
+          ⊎-elim
+          (λ z. inl (omega (arith, z, sum)))
+          (λ z.
+          let e : p .object ≡ o = whole-new o cs p (omega (arith, z)) in
+          inr
+          (record {
+            new = omega (arith, e);
+            exists = omega (arith, e, length-append (m .heap) (cs ∷ []));
+            gained = omega (arith, sum, whole-most o cs p);
+          }))
+          (decide-eq (halves (wholeOf o cs) p) 0);
       outside = λ p n l. grown-other (m .heap) cs (p .object) (p .field) l;
     }
 
@@ -118,15 +137,16 @@ new-within room x fs m m′ e = subst (Within m) (ok-inj (check-ok _ _ e .1)) (g
 entered-entering :
     (m : Config) (M : Method) (y z : ℕ) (A : List Location) → footprint (m .heap) (callFrame m M y z) (M .requires) ≡ ok A →
     Entering m (entered m (callFrame m M y z) A)
-unfolding entered holding holds callFrame
+unfolding entered holding callFrame
 entered-entering m M y z A e =
     record {
       caller = holding (without A (m .frame .held)) (m .frame);
       callers = refl;
       heap = refl;
-      handed = footprint-held (m .heap) (callFrame m M y z) (M .requires) A e;
-      left = λ p i. without-in p A (m .frame .held) i;
-      apart = λ p i j. without-out p A (m .frame .held) j i;
+      divided =
+          λ p.
+          omega
+          (arith, footprint-held (m .heap) (callFrame m M y z) (M .requires) A e p, halves-without A (m .frame .held) p);
     }
 
 -- a call that is done enters with the footprint of requires
@@ -144,21 +164,22 @@ call-entering y M z m m′ e =
     let (A, f, q) = call-enters y M z m m′ e in subst (Entering m) (sym q) (entered-entering m M y z A f)
 
 assert-within : (φ : Formula ℕ) (m m′ : Config) → assertStep φ m ≡ ok m′ → Within m m′
-unfolding assertStep holds advance jump
+unfolding assertStep advance jump
 assert-within φ m m′ e =
     let (A, _, q) = bind-ok (footprint (m .heap) (m .frame) φ) e in
-    subst (Within m) (ok-inj q) (same-heap m (advance (m .frame)) (λ p i. i))
+    subst (Within m) (ok-inj q) (same-heap m (advance (m .frame)) (λ p. le-refl _))
 
 release-within : (φ : Formula ℕ) (m m′ : Config) → releaseStep φ m ≡ ok m′ → Within m m′
-unfolding releaseStep holds advance jump holding
+unfolding releaseStep advance jump holding
 release-within φ m m′ e =
     let (A, _, q) = bind-ok (footprint (m .heap) (m .frame) φ) e in
     subst (Within m) (ok-inj q)
-    (same-heap m (advance (holding (without A (m .frame .held)) (m .frame))) (λ p i. without-in p A (m .frame .held) i))
+    (same-heap m (advance (holding (without A (m .frame .held)) (m .frame)))
+    (λ p. omega (arith, halves-without A (m .frame .held) p)))
 
 jump-within : (m : Config) (i : ℕ) → Within m (withFrame m (jump i (m .frame)))
-unfolding jump holds
-jump-within m i = same-heap m (jump i (m .frame)) (λ p i. i)
+unfolding jump
+jump-within m i = same-heap m (jump i (m .frame)) (λ p. le-refl _)
 
 choose-within : (n : Rel) (a b : Expr ℕ) (i j : ℕ) (m m′ : Config) → choose n a b i j m ≡ ok m′ → Within m m′
 unfolding choose
@@ -170,16 +191,15 @@ choose-within n a b i j m m′ e =
 returned-returning :
     (P : Program) (m : Config) (C : Frame) (Cs : List Frame) (A : List Location) → m .callers ≡ C ∷ Cs →
     footprint (m .heap) (m .frame) (m .frame .ensures) ≡ ok A → Returning m (returned P m C Cs A)
-unfolding returned holds advance jump bind holding
+unfolding returned advance jump bind holding
 returned-returning P m C Cs A c e =
     record {
       caller = C;
       callers = c;
       heap = refl;
       gains =
-          λ p i.
-          ⊎-elim (λ k. inl k) (λ k. inr (footprint-held (m .heap) (m .frame) (m .frame .ensures) A e p k))
-          (in-append p (C .held) A i);
+          λ p.
+          omega (arith, footprint-held (m .heap) (m .frame) (m .frame .ensures) A e p, halves-append (C .held) A p);
     }
 
 end-returning : (P : Program) (m m′ : Config) (Cs : List Frame) → m .callers ≡ Cs → endStep P m Cs ≡ on m′ → Returning m m′
@@ -190,7 +210,7 @@ end-returning P m m′ (C ∷ Cs) c e =
     subst (Returning m) (ok-inj q) (returned-returning P m C Cs A c f)
 
 return-returning : (P : Program) (x : ℕ) (m m′ : Config) → returnStep P x m ≡ on m′ → Returning m m′
-unfolding returnStep withFrame bind holds
+unfolding returnStep withFrame bind
 return-returning P x m m′ e =
     let R : Returning (withFrame m (bind result-variable (valueOf (m .frame) x) (m .frame))) m′ =
     end-returning P _ m′ (m .callers) refl e in

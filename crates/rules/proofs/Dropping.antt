@@ -7,147 +7,97 @@ use mathlib.Core.Option.{Option, none, some}
 use Prim.Native.Nat.{ℕ}
 use native.Mathlib.Omega.{arith}
 use lib.Dec.{T, eqb, eqb→eq, eqb-refl, T-not, not-T}
-use Rattle.rules.specs.Base.{ok, bindOption, orElse, Member, at-head, further}
-use Rattle.rules.specs.Answers.{noPermission, notShown}
-use Rattle.rules.specs.Syntax.{Formula, num, null, var, path, acc, cmp, same}
-use Rattle.rules.specs.State.{Term, Permission, State, Equality, Shown, Split, Renaming, pathOf, equalIn, names, resolve, holdsIn, split, showFrom, show, becomes, lists, withoutPaths, factsWithout, dropPaths, unlisted, remainder, renameVariable, renameTerm, renamePermission, renamePermissions, variables, standIn, removedTerm, removeTo, remove}
-use Rattle.rules.proofs.Lists.{in-any, first-in, and-both, head-or, is-head, keep-member, member-keep, went-to, decide-test, F-false, some-inj, none-some, bind-some}
-use Rattle.rules.proofs.Tries.{bind-ok, check-ok, orElse-ok, ok-inj}
-use Rattle.rules.proofs.Closure.{equalIn-sound, equalIn-complete, same→≡}
-use Rattle.rules.proofs.Successors.{Known, Formed, Joined, way-renamed, member-lists, lists-member, without-is, left-law, drop-law}
+use Rattle.rules.specs.Base.{bindOption, Member}
+use Rattle.rules.specs.Syntax.{num, null, var, path}
+use Rattle.rules.specs.State.{Term, Permission, State, Renaming, entry, pathOf, equalIn, becomes, lists, withoutPaths, factsWithout, dropPaths, unlisted, remainder, renameVariable, renameTerm, renamePermission, renamePermissions, variables, standIn, removedTerm, removeTo, remove}
+use Rattle.rules.proofs.Lists.{first-in, and-both, head-or, keep-member, member-keep, went-to, decide-test, F-false, some-inj, none-some, bind-some}
+use Rattle.rules.proofs.Closure.{equalIn-sound, equalIn-complete}
+use Rattle.rules.proofs.Successors.{Known, Formed, Joined, way-renamed, entry-listed, listed-entry, without-is, left-law, drop-law}
 
 -- PATHS
--- ps are left of the entries ps₀, and the paths of the others are dropped: what is not dropped is still listed
-pub still-known :
-    (ps₀ ps gone : List Permission) → ((p : Permission) → Member p ps₀ → Member p ps ⊎ Member p gone) → (t : Term) →
-    (T (lists gone t) → ⊥) → Known ps₀ t → Known ps t
-unfolding pathOf
-still-known ps₀ ps gone all (num n) out k = tt
-still-known ps₀ ps gone all null out k = tt
-still-known ps₀ ps gone all (var v) out k = k
-still-known ps₀ ps gone all (path v f) out k = ⊎-elim (λ i. i) (λ i. absurd (out (member-lists gone _ i))) (all _ k)
+-- a path of s is one of ps, or gone
+abbrev pub LeftOr : State → List Permission → List Permission → Type 0
+LeftOr s ps gone = (t : Term) → T (lists (s .permissions) t) → T (lists ps t) ⊎ T (lists gone t)
 
+-- what is not dropped is still listed
+pub still-known :
+    (s : State) (ps gone : List Permission) → LeftOr s ps gone → (t : Term) → (T (lists gone t) → ⊥) → Known (s .permissions) t → Known ps t
+still-known s ps gone all (num n) out k = tt
+still-known s ps gone all null out k = tt
+still-known s ps gone all (var v) out k = k
+still-known s ps gone all (path v f) out k = ⊎-elim (λ i. i) (λ i. absurd (out i)) (all (path v f) k)
+
+-- ps are left of the entries of s, and the paths of the others are dropped
 module _ (s : State) (formed : Formed s) (ps : List Permission) where
   left-without : (gone : List Permission) (t : Term) → (T (lists gone t) → ⊥) → withoutPaths gone t ≡ some t
   unfolding withoutPaths
   left-without gone t n = rw (F-false (lists gone t) n)
 
   pub paths-law :
-      (gone : List Permission) → ((p : Permission) → Member p (s .permissions) → Member p ps ⊎ Member p gone) → (a b : Term) →
-      (T (lists gone a) → ⊥) → (T (lists gone b) → ⊥) → T (equalIn (dropPaths gone ps s) a b) ↔ T (equalIn s a b)
+      (gone : List Permission) → LeftOr s ps gone → (a b : Term) → (T (lists gone a) → ⊥) → (T (lists gone b) → ⊥) →
+      T (equalIn (dropPaths gone ps s) a b) ↔ T (equalIn s a b)
   unfolding dropPaths factsWithout equalIn
   paths-law [] all a b na nb = (λ h. h, λ h. h)
   paths-law (p ∷ gone) all a b na nb =
       drop-law s (withoutPaths (p ∷ gone)) ps (λ t u e. without-is (p ∷ gone) t u e .1)
-      (λ t i e. still-known (s .permissions) ps (p ∷ gone) all t (without-is (p ∷ gone) t t e .0) (formed t i)) (dropPaths (p ∷ gone) ps s) refl a b
+      (λ t i e. still-known s ps (p ∷ gone) all t (without-is (p ∷ gone) t t e .0) (formed t i)) (dropPaths (p ∷ gone) ps s) refl a b
       (left-without (p ∷ gone) a na) (left-without (p ∷ gone) b nb)
 
--- an entry that was consumed is still listed, or dropped
-pub consumed-or :
-    (ks us : List Permission) (p : Permission) → Member p ks ⊎ Member p us →
-    Member p ks ⊎ Member p (unlisted ks us)
+-- a path is still listed, or it is dropped
+pub kept-or-unlisted : (s : State) (kept : List Permission) → LeftOr s kept (unlisted kept (s .permissions))
 unfolding unlisted
-consumed-or ks us p m =
-    ⊎-elim (λ i. inl i)
-    (λ i.
-    ⊎-elim (λ l. inl (lists-member ks p l))
-    (λ n. inr (member-keep (λ p. not (lists ks (pathOf p))) us p (not-T (lists ks (pathOf p)) n) i))
-    (decide-test (lists ks (pathOf p))))
-    m
+kept-or-unlisted s kept t h =
+    let (p, i, e) = listed-entry (s .permissions) t h in
+    ⊎-elim (λ l. inl l)
+    (λ n.
+    inr
+    (subst (λ t. T (lists (unlisted kept (s .permissions)) t)) e
+    (entry-listed (unlisted kept (s .permissions)) p
+    (member-keep (λ p. not (lists kept (pathOf p))) _ p
+    (not-T (lists kept (pathOf p)) (subst (λ t. T (lists kept t) → ⊥) (sym e) n))
+    i))))
+    (decide-test (lists kept t))
 
--- an entry that is taken was there, and all that were there are taken or left
-pub split-parts :
-    (t : Permission → Bool) (ps : List Permission) (c : Split) → split t ps ≡ some c →
-    Member (c .taken) ps × ((q : Permission) → Member q ps → Member q (c .others) ⊎ (q ≡ c .taken))
-unfolding split
-split-parts t [] c e = none-some e
-split-parts t (p ∷ ps) c e = go (t p) e (λ d k. split-parts t ps d k)
+-- a term that is known of what is left is not dropped
+pub known-left : (s : State) (kept : List Permission) (t : Term) → Known kept t → T (lists (unlisted kept (s .permissions)) t) → ⊥
+unfolding unlisted pathOf
+known-left s kept t k h =
+    let (p, i, e) = listed-entry (unlisted kept (s .permissions)) t h in
+    let (_, n) = keep-member (λ p. not (lists kept (pathOf p))) (s .permissions) p i in
+    T-not (lists kept (pathOf p)) n (named t k p e)
   where
-    Parts : List Permission → Split → Type 0
-    Parts ps c = Member (c .taken) ps × ((q : Permission) → Member q ps → Member q (c .others) ⊎ (q ≡ c .taken))
+    named : (t : Term) → Known kept t → (p : Permission) → pathOf p ≡ t → T (lists kept (pathOf p))
+    named (num n) k p e = absurd (let z : _≡_ {A = ℕ} 0 1 = cc in omega arith)
+    named null k p e = absurd (let z : _≡_ {A = ℕ} 0 1 = cc in omega arith)
+    named (var v) k p e = absurd (let z : _≡_ {A = ℕ} 0 1 = cc in omega arith)
+    named (path v f) k p e = subst (λ t. T (lists kept t)) (sym e) k
 
-    go :
-        (b : Bool) →
-        elim b [
-          | true ↦ some (record { taken = p; others = ps })
-          | false ↦ bindOption (split t ps) (λ c. some (record { taken = c .taken; others = p ∷ c .others }))
-        ]
-        ≡ some c →
-        ((d : Split) → split t ps ≡ some d → Parts ps d) → Parts (p ∷ ps) c
-    go true e ih = subst (Parts (p ∷ ps)) (some-inj e) (at-head, λ q i. head-or i)
-    go false e ih =
-        let (d, k, z) = bind-some (split t ps) _ c e in
-        let (was, all) = ih d k in
-        subst (Parts (p ∷ ps)) (some-inj z) (
-          further was,
-          λ q i. ⊎-elim (λ j. ⊎-elim (λ l. inl (further l)) (λ w. inr w) (all q j)) (λ w. inl (is-head w)) (head-or i),
-        )
-
--- what a formula consumes, and what it leaves, is all that there was
-abbrev pub AllOf : List Permission → Shown → Type 0
-AllOf ps r = (p : Permission) → Member p ps → Member p (r .kept) ⊎ Member p (r .consumed)
-
-pub shown-all :
-    (_~_ : Equality) (s : State) (φ : Formula ℕ) (r₀ r : Shown) → AllOf (s .permissions) r₀ → showFrom _~_ s φ r₀ ≡ ok r →
-    AllOf (s .permissions) r
-unfolding showFrom
-shown-all _~_ s [] r₀ r A e = subst (AllOf (s .permissions)) (ok-inj e) A
-shown-all _~_ s (acc y f ∷ φ) r₀ r A e =
-    let (c, o, e₁) = bind-ok (orElse (split (names _~_ y f) (r₀ .kept)) noPermission) e in
-    let k : split (names _~_ y f) (r₀ .kept) ≡ some c = orElse-ok _ noPermission c o in
-    shown-all _~_ s φ _ r
-    (λ p i.
-    ⊎-elim (λ j. ⊎-elim (λ l. inl l) (λ w. inr (is-head w)) (split-parts _ _ c k .1 p j)) (λ j. inr (further j)) (A p i))
-    e₁
-shown-all _~_ s (cmp n a b ∷ φ) r₀ r A e =
-    let (t, _, e₁) = bind-ok (resolve _~_ (s .permissions) a) e in
-    let (u, _, e₂) = bind-ok (resolve _~_ (s .permissions) b) e₁ in
-    let (_, e₃) = check-ok (holdsIn _~_ s n t u) notShown e₂ in
-    shown-all _~_ s φ r₀ r A e₃
-
--- a path that is still listed is not dropped
-kept-left :
-    (ks us : List Permission) (t : Term) → Known ks t → T (lists (unlisted ks us) t) → ⊥
-unfolding unlisted lists pathOf
-kept-left ks us t k h =
-    in-any _ _ h λ p i e.
-    let (_, n) = keep-member (λ p. not (lists ks (pathOf p))) us p i in
-    T-not (lists ks (pathOf p)) n (known-lists t k p (same→≡ _ _ e))
-  where
-    known-lists : (t : Term) → Known ks t → (p : Permission) → pathOf p ≡ t → T (lists ks (pathOf p))
-    known-lists (num n) k p e = absurd (let z : _≡_ {A = ℕ} 0 1 = cc in omega arith)
-    known-lists null k p e = absurd (let z : _≡_ {A = ℕ} 0 1 = cc in omega arith)
-    known-lists (var v) k p e = absurd (let z : _≡_ {A = ℕ} 0 1 = cc in omega arith)
-    known-lists (path v f) k p e = subst (λ t. T (lists ks t)) (sym e) (member-lists ks (record { variable = v; field = f }) k)
-
--- the law at `release`, and at a `call` before x is removed
+-- the law at `release`, and at a `call` before x is removed; it holds whatever is left of the entries
 pub remainder-law :
-    (s : State) (φ : Formula ℕ) (r : Shown) → Formed s → show s φ ≡ ok r → (a b : Term) → Known (r .kept) a → Known (r .kept) b →
-    T (equalIn (remainder s r) a b) ↔ T (equalIn s a b)
-unfolding show remainder
-remainder-law s φ r F e a b ka kb =
-    let A : AllOf (s .permissions) r = shown-all (equalIn s) s φ _ r (λ p i. inl i) e in
-    paths-law s F (r .kept) (unlisted (r .kept) (r .consumed))
-    (λ p i. consumed-or (r .kept) (r .consumed) p (A p i)) a b (kept-left (r .kept) (r .consumed) a ka)
-    (kept-left (r .kept) (r .consumed) b kb)
+    (s : State) (kept : List Permission) → Formed s → (a b : Term) → Known kept a → Known kept b →
+    T (equalIn (remainder s kept) a b) ↔ T (equalIn s a b)
+unfolding remainder
+remainder-law s kept F a b ka kb =
+    paths-law s F kept (unlisted kept (s .permissions)) (kept-or-unlisted s kept) a b (known-left s kept a ka) (known-left s kept b kb)
 
 only : (p : Permission) (t : Term) → T (lists (p ∷ []) t) → pathOf p ≡ t
-unfolding lists
-only p t h = in-any (λ q. same (pathOf q) t) (p ∷ []) h λ q i e. ap pathOf (⊎-elim (λ j. elim j [ ]) (λ w. sym w) (head-or i)) ∙ same→≡ _ _ e
+only p t h =
+    let (q, i, e) = listed-entry (p ∷ []) t h in
+    ap pathOf (⊎-elim (λ j. elim j [ ]) (λ w. sym w) (head-or i)) ∙ e
 
 -- the law at `set`, before the new value is added
 pub set-law :
     (s : State) (p : Permission) → Formed s → (a b : Term) → (pathOf p ≡ a → ⊥) → (pathOf p ≡ b → ⊥) →
     T (equalIn (dropPaths (p ∷ []) (s .permissions) s) a b) ↔ T (equalIn s a b)
 set-law s p F a b na nb =
-    paths-law s F (s .permissions) (p ∷ []) (λ q i. inl i) a b (λ h. na (only p a h)) (λ h. nb (only p b h))
+    paths-law s F (s .permissions) (p ∷ []) (λ t i. inl i) a b (λ h. na (only p a h)) (λ h. nb (only p b h))
 
 -- A VARIABLE
 -- a term whose variable is left or renamed is still listed
 pub renamed-known :
     (x : ℕ) (to : Option ℕ) (ps : List Permission) → ((w : ℕ) → to ≡ some w → Member w variables) → (t u : Term) →
     renameTerm x to t ≡ some u → Known ps t → Known (renamePermissions x to ps) u
-unfolding renameTerm renamePermissions renamePermission bindOption renameVariable
+unfolding renameTerm renamePermissions renamePermission bindOption renameVariable pathOf
 renamed-known x to ps N (num n) u e k = subst (Known _) (some-inj e) tt
 renamed-known x to ps N null u e k = subst (Known _) (some-inj e) tt
 renamed-known x to ps N (var v) u e k =
@@ -158,9 +108,15 @@ renamed-known x to ps N (var v) u e k =
     go false w m = subst (λ z. Member z variables) (some-inj m) k
 renamed-known x to ps N (path v f) u e k =
     let (w, m, q) = bind-some (cond (eqb v x) to (some v)) _ u e in
+    let (p, i, z) = listed-entry ps (path v f) k in
+    let zv : p .variable ≡ v = cc in
+    let zf : p .field ≡ f = cc in
     subst (Known _) (some-inj q)
-    (went-to (renamePermission x to) ps (record { variable = v; field = f }) (record { variable = w; field = f })
-    (ap (λ (o : Option ℕ). bindOption o (λ w. some (record { variable = w; field = f }))) m) k)
+    (entry-listed (renamePermissions x to ps) (entry (p .permit) w f)
+    (went-to (renamePermission x to) ps p (entry (p .permit) w f)
+    (ap (λ (o : Option ℕ). bindOption o (λ w. some (entry (p .permit) w (p .field))))
+    (subst (λ v. cond (eqb v x) to (some v) ≡ some w) (sym zv) m)
+    ∙ ap (λ (g : ℕ). some (entry (p .permit) w g)) zf) i))
 
 -- where none takes its place: x and the paths of x are dropped
 dropped-variable : (x v w : ℕ) → renameVariable x none v ≡ some w → v ≡ w

@@ -1,366 +1,25 @@
--- The examples of documents 01 and 02, and a text against each reading that is tempting and wrong, as rows under one theorem.
+-- The common theorem on examples: those of documents 01 and 02, a text against each reading that is tempting and wrong, and the rows of
+-- the files `Examples*`, which pin the definitions sentence by sentence.
 use mathlib.Core.Path.{_≡_}
-use mathlib.Core.Bool.{Bool, cond}
-use mathlib.Core.List.{List, [], _∷_, _++_, map}
-use Prim.Native.Nat.{ℕ, zero, suc, pred, _<_}
+use mathlib.Core.List.{List, [], _∷_, _++_}
+use Prim.Native.Nat.{ℕ, zero, suc, _<_}
 use native.Mathlib.Nat.{not-suc-le-zero, le-of-suc-le-suc}
-use Prim.Native.String.{String}
-use lib.Dec.{T, eqb}
+use lib.Dec.{T}
 use lib.ListN.{length, getD}
-use Rattle.rules.specs.Base.{bytes, update, eqName, all}
-use Rattle.rules.specs.Text.{tab, line-feed}
-use Rattle.rules.specs.Calls.{Result, Bounds, checkText, runText, trialText, boundText, computing}
-use Rattle.rules.specs.Printed.{printed}
+use Rattle.rules.specs.Base.{all}
+use Rattle.rules.specs.Calls.{computing}
 use Rattle.rules.specs.Printed as Printed
-use Rattle.rules.proofs.Lists.{and-both, same-name}
-
--- TEXTS
-
--- "Fields are parted by one tab, shown below as a space."
-pub tabbed : List ℕ → List ℕ
-tabbed = map (λ b. cond (eqb b 32) tab b)
-
--- lines as the paper shows them
-pub text : List String → List ℕ
-text [] = []
-text (l ∷ ls) = tabbed (bytes l) ++ (line-feed ∷ text ls)
-
--- with line n written so
-pub withLine : ℕ → String → List String → List String
-withLine n l ls = update "" ls (pred n) l
-
-pub times : ℕ → String → List String
-times zero l = []
-times (suc n) l = l ∷ times n l
-
-abbrev pub worked : List String
-worked =
-    "class S" ∷
-    "field S prev" ∷
-    "field int n" ∷
-    "method int tag int k" ∷
-    "requires acc this n" ∷
-    "ensures acc this n eq this.n k" ∷
-    "set this n k" ∷
-    "return k" ∷
-    "end" ∷
-    "main" ∷
-    "var S s" ∷
-    "var int a" ∷
-    "var int b" ∷
-    "new s S" ∷
-    "let a 7" ∷
-    "call b s tag a" ∷
-    "assert eq s.n 7" ∷
-    "assert eq s.prev null" ∷
-    "end" ∷
-    []
-
--- main with an int a and one line
-pub oneLine : String → List String
-oneLine l = "main" ∷ "var int a" ∷ l ∷ "end" ∷ []
-
--- `let t s` keeps `t.n`
-pub alias : List String
-alias =
-    "class S" ∷ "field int n" ∷ "main" ∷ "var S s" ∷ "var S t" ∷ "new s S" ∷ "let t s" ∷ "assert eq t.n 0" ∷ "end" ∷ []
-
--- the call may have set s.n
-pub acrossCall : List String
-acrossCall =
-    "class S" ∷
-    "field int n" ∷
-    "method int tag int k" ∷
-    "requires acc this n" ∷
-    "ensures acc this n" ∷
-    "set this n k" ∷
-    "end" ∷
-    "main" ∷
-    "var S s" ∷
-    "var int a" ∷
-    "var int b" ∷
-    "new s S" ∷
-    "let a 7" ∷
-    "call b s tag a" ∷
-    "assert eq s.n 0" ∷
-    "end" ∷
-    []
-
--- one location for two `acc`
-pub twice : List String
-twice =
-    "class S" ∷
-    "field int n" ∷
-    "method int two S w" ∷
-    "requires acc this n acc w n" ∷
-    "ensures" ∷
-    "end" ∷
-    "main" ∷
-    "var S s" ∷
-    "var int b" ∷
-    "new s S" ∷
-    "call b s two s" ∷
-    "end" ∷
-    []
-
--- b is what a was
-pub oldValue : List String
-oldValue =
-    "main" ∷ "var int a" ∷ "var int b" ∷ "let a 7" ∷ "let b a" ∷ "let a 8" ∷ "assert eq b 8" ∷ "end" ∷ []
-
--- permissions of two fields do not tell two objects apart: s and t may be one
-pub twoFields : List String
-twoFields =
-    "class S" ∷
-    "field int m" ∷
-    "field int n" ∷
-    "method int f S w" ∷
-    "requires acc this m acc w n" ∷
-    "ensures" ∷
-    "assert ne this w" ∷
-    "end" ∷
-    "main" ∷
-    "end" ∷
-    []
-
--- a method with the last lines of two branches, their `join` and the line after it; main calls it for the first branch
-pub branching : String → String → String → String → List String
-branching a b c d =
-    "class A" ∷
-    "method int m int w" ∷
-    "requires" ∷
-    "ensures eq result w" ∷
-    "if eq w 1" ∷
-    a ∷
-    "else" ∷
-    b ∷
-    c ∷
-    d ∷
-    "end" ∷
-    "main" ∷
-    "var A s" ∷
-    "var int a" ∷
-    "var int b" ∷
-    "new s A" ∷
-    "let a 1" ∷
-    "call b s m a" ∷
-    "end" ∷
-    []
-
--- all inside the first branch returns, but its last line is a `join`
-pub innerJoin : List String
-innerJoin =
-    "class A" ∷
-    "method int m int w" ∷
-    "requires" ∷
-    "ensures eq result w" ∷
-    "if eq w 1" ∷
-    "if eq w 2" ∷
-    "return w" ∷
-    "else" ∷
-    "return w" ∷
-    "join" ∷
-    "else" ∷
-    "return w" ∷
-    "join eq result w" ∷
-    "end" ∷
-    "main" ∷
-    "end" ∷
-    []
-
--- a main that starts with these lines, from line 10 on
-pub script : List String → List String
-script ls =
-    "class S" ∷
-    "field S prev" ∷
-    "field int n" ∷
-    "main" ∷
-    "var S s" ∷
-    "var S t" ∷
-    "var int a" ∷
-    "var int b" ∷
-    "var int c" ∷
-    (ls ++ ("end" ∷ []))
-
--- "If `a = s.n` and `s.n = b` are known and `s.n` is set, the checker loses `a = b`": what it knows after a line, the 13th
-pub throughPath : String → String → List String
-throughPath l m = script ("new s S" ∷ "set s n b" ∷ "let a s.n" ∷ l ∷ m ∷ [])
-
--- a link over two paths that are both dropped
-pub overTwoPaths : List String
-overTwoPaths =
-    script
-    ("new s S" ∷
-    "new t S" ∷
-    "set s n a" ∷
-    "set t n b" ∷
-    "if eq s.n t.n" ∷
-    "release acc s n acc t n" ∷
-    "assert eq a b" ∷
-    "else" ∷
-    "join" ∷
-    [])
-
--- two entries get one name, and a line drops one of them or sets it
-pub oneName : String → List String
-oneName l =
-    script ("new s S" ∷ "new t S" ∷ "if eq s t" ∷ "let t null" ∷ l ∷ "assert eq s.n 0" ∷ "else" ∷ "join" ∷ [])
-
--- each call adds eight equalities with one term on both sides, and those of the calls before go
-pub oneOnBothSides : ℕ → List String
-oneOnBothSides n =
-    "class S" ∷
-    "method int m int w" ∷
-    "requires" ∷
-    "ensures eq w w eq w w eq w w eq w w eq w w eq w w eq w w eq w w" ∷
-    "end" ∷
-    "main" ∷
-    "var S s" ∷
-    "var int a" ∷
-    "var int b" ∷
-    "new s S" ∷
-    (times n "call b s m a" ++ ("end" ∷ []))
-
--- a main with three numbers that has these lines, from line 5 on
-pub numbers : List String → List String
-numbers ls = "main" ∷ "var int a" ∷ "var int b" ∷ "var int c" ∷ (ls ++ ("end" ∷ []))
-
--- two numbers and a line on them
-pub counting : String → String → String → List String
-counting b c l = numbers (b ∷ c ∷ l ∷ [])
-
--- a counts to 3 in a loop, the 9th line, by way of either branch; the 10th line is the body's first, the 17th comes after the loop
-pub walk : String → List String
-walk l =
-    "class S" ∷
-    "field int n" ∷
-    "main" ∷
-    "var S s" ∷
-    "var int a" ∷
-    "var int i" ∷
-    "let i 1" ∷
-    "new s S" ∷
-    l ∷
-    "set s n a" ∷
-    "if eq a 1" ∷
-    "let a 2" ∷
-    "else" ∷
-    "add a a i" ∷
-    "join acc s n" ∷
-    "again" ∷
-    "assert eq a 3" ∷
-    "end" ∷
-    []
-
--- the body of a loop makes its invariant false, and then has this line
-pub leaving : String → List String
-leaving l =
-    "class A" ∷
-    "method int m int w" ∷
-    "requires" ∷
-    "ensures eq result w" ∷
-    "var int v" ∷
-    "let v 0" ∷
-    "loop ne w 1 eq v 0" ∷
-    "let v 1" ∷
-    l ∷
-    "again" ∷
-    "return w" ∷
-    "end" ∷
-    "main" ∷
-    "var A s" ∷
-    "var int a" ∷
-    "var int b" ∷
-    "new s A" ∷
-    "call b s m a" ∷
-    "end" ∷
-    []
-
--- ensures reads `this.n` before its `acc`
-pub unframed : List String
-unframed = withLine 6 "ensures eq this.n k acc this n" worked
-
--- the 63rd call inside another finds all frames taken; this says what requires asks of its argument, 63
-pub deep : String → List String
-deep l =
-    "class S" ∷
-    "method int m int w" ∷
-    l ∷
-    "ensures" ∷
-    "var int a" ∷
-    "var int b" ∷
-    "let b 1" ∷
-    "add a w b" ∷
-    "call b this m a" ∷
-    "end" ∷
-    "main" ∷
-    "var S s" ∷
-    "var int a" ∷
-    "var int b" ∷
-    "new s S" ∷
-    "call b s m a" ∷
-    "end" ∷
-    []
-
--- 7 (an int and null) and 6 (x) on one line
-pub lower : List String
-lower = "main" ∷ "var int a" ∷ "assert eq a null eq x 1" ∷ "end" ∷ []
-
--- a method of the class S with these lines and an int a
-pub method : String → List String → List String
-method head ls = head ∷ "requires ne this null" ∷ "ensures" ∷ "var int a" ∷ (ls ++ ("end" ∷ []))
-
--- one into a ring, a ring of two, and main's call of it
-pub rings : List String
-rings =
-    ("class S" ∷ method "method int into int w" ("call a this there w" ∷ []))
-    ++ (method "method int there int w" ("call a this back w" ∷ [])
-    ++ (method "method int back int w" ("call a this there w" ∷ [])
-    ++ ("main" ∷ "var S s" ∷ "var int b" ∷ "var int c" ∷ "new s S" ∷ "call b s into c" ∷ "end" ∷ [])))
-
--- main's bound is 1,000,000, and what these lines add
-pub tens : List String → List String
-tens ls =
-    ("class S" ∷ method "method int m0 int w" [])
-    ++ (method "method int m1 int w" (times 10 "call a this m0 w")
-    ++ (method "method int m2 int w" (times 10 "call a this m1 w")
-    ++ (method "method int m3 int w" (times 10 "call a this m2 w")
-    ++ (method "method int m4 int w" (times 10 "call a this m3 w")
-    ++ (method "method int m5 int w" (times 10 "call a this m4 w")
-    ++ ("main" ∷ "var S s" ∷ "var int b" ∷ "var int c" ∷ "new s S" ∷ []
-    ++ (times 4 "call b s m5 c" ++ (times 5 "call b s m4 c" ++ (ls ++ ("end" ∷ []))))))))))
-
--- ROWS
-
-pub data Call : Type 0 where
-  check : Call
-  run : ℕ → Call
-  trial : ℕ → Call
-  bound : Call
-  print : Call
-
-pub shown : Result → List ℕ
-shown r = r .number ∷ r .line ∷ r .steps ∷ r .values
-
--- number and line; of a run also the steps and the values; of a bound also the frames; of the program what it prints
-pub answer : List ℕ → Call → List ℕ
-answer t check = let v : ℕ × ℕ = checkText t in v .0 ∷ v .1 ∷ []
-answer t (run k) = shown (runText t k)
-answer t (trial k) = shown (trialText t k)
-answer t bound = let b : Bounds = boundText t in b .number ∷ b .line ∷ b .bound ∷ b .frames ∷ []
-answer t print = printed t
-
-pub record Row : Type 0 where
-  pub text : List String
-  pub call : Call
-  pub answer : List ℕ
-
-pub row : List String → Call → List ℕ → Row
-row t c a = record { text = t; call = c; answer = a }
-
--- three values, then zeros
-pub three : ℕ → ℕ → ℕ → List ℕ
-three a b c = a ∷ b ∷ c ∷ 0 ∷ 0 ∷ 0 ∷ 0 ∷ 0 ∷ 0 ∷ 0 ∷ 0 ∷ 0 ∷ []
+use Rattle.rules.proofs.Lists.{and-intro, and-both, same-name}
+use Rattle.rules.proofs.ExampleRows as ExampleRows
+use Rattle.rules.proofs.ExampleRows.{Row, check, run, trial, bound, print, answer, bare, row, three, right, text, withLine, times, oneLine, script, numbers, method}
+use Rattle.rules.proofs.ExampleTexts as ExampleTexts
+use Rattle.rules.proofs.ExampleTexts.{worked, alias, acrossCall, twice, oldValue, twoFields, branching, innerJoin, throughPath, overTwoPaths, oneName, oneOnBothSides, counting, walk, leaving, unframed, deep, lower, rings, tens}
+use Rattle.rules.proofs.ExamplesText.{textRows, text-right}
+use Rattle.rules.proofs.ExamplesNames.{nameRows, names-right}
+use Rattle.rules.proofs.ExamplesChecker.{stateRows, ruleRows, state-right, rules-right}
+use Rattle.rules.proofs.ExamplesMachine.{machineRows, machine-right}
+use Rattle.rules.proofs.ExamplesHalves.{halfRows, halves-right}
+use Rattle.rules.proofs.ExamplesCalls.{callRows, calls-right}
 
 abbrev pub rows : List Row
 rows =
@@ -516,13 +175,29 @@ rows =
     row (withLine 6 "ensures" worked) (trial 1000) (24 ∷ 17 ∷ 5 ∷ three 1 7 7) ∷
     []
 
--- the row's call gives its answer
-right : Row → Bool
-right r = eqName (answer (text (r .text)) (r .call)) (r .answer)
+rows-right : T (all right rows)
+unfolding computing Printed.opened ExampleRows.opened ExampleTexts.opened
+rows-right = tt
 
-all-right : T (all right rows)
-unfolding computing Printed.opened right shown answer row three text tabbed withLine times oneLine alias acrossCall twice oldValue twoFields branching innerJoin script throughPath overTwoPaths oneName oneOnBothSides numbers counting walk leaving unframed deep lower method rings tens
-all-right = tt
+-- and those that pin the definitions
+abbrev pub everyRow : List Row
+everyRow = rows ++ (textRows ++ (nameRows ++ (stateRows ++ (ruleRows ++ (machineRows ++ (halfRows ++ callRows))))))
+
+both-right : (l m : List Row) → T (all right l) → T (all right m) → T (all right (l ++ m))
+unfolding all
+both-right [] m h k = k
+both-right (r ∷ l) m h k =
+    let (x, y) = and-both (right r) (all right l) h in and-intro (right r) (all right (l ++ m)) x (both-right l m y k)
+
+all-right : T (all right everyRow)
+all-right =
+    both-right rows _ rows-right
+    (both-right textRows _ text-right
+    (both-right nameRows _ names-right
+    (both-right stateRows _ state-right
+    (both-right ruleRows _ rules-right
+    (both-right machineRows _ machine-right
+    (both-right halfRows callRows halves-right calls-right))))))
 
 right-at : (rs : List Row) (d : Row) (i : ℕ) → i < length rs → T (all right rs) → T (right (getD rs i d))
 unfolding all
@@ -531,9 +206,9 @@ right-at (r ∷ rs) d zero l t = and-both (right r) (all right rs) t .0
 right-at (r ∷ rs) d (suc i) l t = right-at rs d i (le-of-suc-le-suc l) (and-both (right r) (all right rs) t .1)
 
 abbrev pub rowNumbered : ℕ → Row
-rowNumbered i = getD rows i (row [] check [])
+rowNumbered i = getD everyRow i (bare [] check [])
 
 -- The common theorem: what each row says is so.
-pub examples : (i : ℕ) → i < length rows → answer (text (rowNumbered i .text)) (rowNumbered i .call) ≡ rowNumbered i .answer
+pub examples : (i : ℕ) → i < length everyRow → answer (rowNumbered i .text) (rowNumbered i .call) ≡ rowNumbered i .answer
 unfolding right
-examples i l = same-name _ _ (right-at rows (row [] check []) i l all-right)
+examples i l = same-name _ _ (right-at everyRow (bare [] check []) i l all-right)

@@ -6,18 +6,18 @@ use mathlib.Core.List.{List, [], _∷_, _++_, map}
 use mathlib.Core.Logic.{_⊎_, inl, inr, ⊎-elim}
 use mathlib.Core.Option.{Option, none, some}
 use Prim.Native.Nat.{ℕ}
-use lib.Dec.{eqb}
+use lib.Dec.{T, eqb}
 use lib.ListN.{getD}
-use Rattle.rules.specs.Base.{ok, first, mapOption, orElse, Member, at-head, further}
+use Rattle.rules.specs.Base.{ok, any, first, mapOption, bindOption, orElse, Member, at-head, further}
 use Rattle.rules.specs.Answers.{unresolved, notShown, noPermission}
-use Rattle.rules.specs.Syntax.{Rel, Formula, Field, Method, Program, Simple, methodNumbered, num, null, var, path, acc, cmp, eq, ne, set, assign, compute, new, call, assert, release, same, this-variable, parameter, result-variable}
-use Rattle.rules.specs.State.{Term, Permission, Fact, State, Equality, Shown, Renaming, empty, pathOf, equalIn, names, resolve, holdsIn, split, show}
-use Rattle.rules.specs.State.{variables, termsOf, becomes, renameFact, trivial, renameFacts, withoutPaths, factsWithout, dropPaths, remainder, renameTerm, renamePermissions, standIn, removedTerm, removeTo, remove, addPermission, addFact, add}
+use Rattle.rules.specs.Syntax.{Rel, Permit, Formula, Field, Method, Program, Simple, methodNumbered, num, null, var, path, acc, read, own, cmp, eq, ne, set, assign, compute, new, call, assert, release, same, this-variable, parameter, result-variable}
+use Rattle.rules.specs.State.{Term, Permission, Fact, State, Equality, Split, Renaming, empty, entry, pathOf, equalIn, names, resolve, holdsIn, split, withPermit, giving, show, lists}
+use Rattle.rules.specs.State.{variables, termsOf, becomes, renameFact, trivial, renameFacts, withoutPaths, factsWithout, dropPaths, unlisted, remainder, renameTerm, renamePermissions, standIn, removedTerm, removeTo, remove, addPermission, addFact, joining, joins, addRead, addOwn, add}
 use Rattle.rules.specs.Rules.{actual, substTerm, substAtom, addEqual, assignRule, addFields, initial, addInitial, newRule, setRule, callRule, opposite, ifRule, rule}
-use Rattle.rules.proofs.Lists.{head-or, is-head, member-left, member-right, keep-member, came-from, end-member, bind-some, some-inj, first-in}
+use Rattle.rules.proofs.Lists.{head-or, is-head, append-member, member-left, member-right, keep-member, came-from, end-member, bind-some, some-inj, none-some, first-in}
 use Rattle.rules.proofs.Tries.{bind-ok, check-ok, orElse-ok, ok-inj}
-use Rattle.rules.proofs.Successors.{Known, Formed, order-known, gives-way, successor-is, without-is}
-use Rattle.rules.proofs.Dropping.{still-known, consumed-or, split-parts, AllOf, shown-all, renamed-known}
+use Rattle.rules.proofs.Successors.{Known, Formed, entry-listed, listed-entry, order-known, gives-way, successor-is, without-is}
+use Rattle.rules.proofs.Dropping.{LeftOr, still-known, kept-or-unlisted, renamed-known}
 
 -- TERMS OF FACTS
 side-fact : (fs : List Fact) (t : Term) → Member t (termsOf fs) → (f : Fact) × Member f fs × ((t ≡ f .left) ⊎ (t ≡ f .right))
@@ -51,11 +51,67 @@ pub formed-empty : Formed empty
 unfolding termsOf
 formed-empty t i = elim i [ ]
 
-known-more : {ps qs : List Permission} (t : Term) → ((p : Permission) → Member p ps → Member p qs) → Known ps t → Known qs t
-known-more (num n) m k = tt
-known-more null m k = tt
-known-more (var v) m k = k
-known-more (path v f) m k = m _ k
+-- a name that is listed stays listed
+abbrev Still : List Permission → List Permission → Type 0
+Still ps qs = (t : Term) → T (lists ps t) → T (lists qs t)
+
+known-more : (ps qs : List Permission) (t : Term) → Still ps qs → Known ps t → Known qs t
+known-more ps qs (num n) m k = tt
+known-more ps qs null m k = tt
+known-more ps qs (var v) m k = k
+known-more ps qs (path v f) m k = m _ k
+
+still-more : (ps qs : List Permission) → ((p : Permission) → Member p ps → Member p qs) → Still ps qs
+still-more ps qs m t h =
+    let (p, i, e) = listed-entry ps t h in subst (λ t. T (lists qs t)) e (entry-listed qs p (m p i))
+
+path-known : (ps : List Permission) (p : Permission) → Member p ps → Known ps (pathOf p)
+unfolding pathOf
+path-known ps p i = entry-listed ps p i
+
+-- the entry that gave way, and what came in its place
+pub record Parted (t : Permission → Option (List Permission)) (ps : List Permission) (c : Split) : Type 0 where
+  pub gives : t (c .taken) ≡ some (c .left)
+  pub was : Member (c .taken) ps
+  pub stays : (p : Permission) → Member p ps → Member p (c .list) ⊎ (p ≡ c .taken)
+  pub comes : (p : Permission) → Member p (c .left) → Member p (c .list)
+  pub from : (p : Permission) → Member p (c .list) → Member p ps ⊎ Member p (c .left)
+
+pub parted : (t : Permission → Option (List Permission)) (ps : List Permission) (c : Split) → split t ps ≡ some c → Parted t ps c
+unfolding split
+parted t [] c e = none-some e
+parted t (p ∷ ps) c e = go (t p) refl e (λ d k. parted t ps d k)
+  where
+    go :
+        (o : Option (List Permission)) → t p ≡ o →
+        elim o [
+          | some l ↦ some (record { taken = p; left = l; list = l ++ ps })
+          | none ↦ bindOption (split t ps) (λ c. some (record { taken = c .taken; left = c .left; list = p ∷ c .list }))
+        ]
+        ≡ some c →
+        ((d : Split) → split t ps ≡ some d → Parted t ps d) → Parted t (p ∷ ps) c
+    go (some l) r e ih =
+        subst (Parted t (p ∷ ps)) (some-inj e)
+        (record {
+          gives = r;
+          was = at-head;
+          stays = λ q i. ⊎-elim (λ j. inl (member-right l ps q j)) (λ w. inr w) (head-or i);
+          comes = λ q i. member-left l ps q i;
+          from = λ q i. ⊎-elim (λ j. inr j) (λ j. inl (further j)) (append-member l ps q i);
+        })
+    go none r e ih =
+        let (d, k, z) = bind-some (split t ps) _ c e in
+        let D : Parted t ps d = ih d k in
+        subst (Parted t (p ∷ ps)) (some-inj z)
+        (record {
+          gives = D .gives;
+          was = further (D .was);
+          stays = λ q i. ⊎-elim (λ j. ⊎-elim (λ m. inl (further m)) (λ w. inr w) (D .stays q j)) (λ w. inl (is-head w)) (head-or i);
+          comes = λ q i. further (D .comes q i);
+          from =
+              λ q i.
+              ⊎-elim (λ j. ⊎-elim (λ m. inl (further m)) (λ m. inr m) (D .from q j)) (λ w. inl (is-head w)) (head-or i);
+        })
 
 -- ADDING
 pub formed-fact :
@@ -82,7 +138,7 @@ pub formed-permission :
 unfolding addPermission
 formed-permission p s s′ F e =
     let is = ok-inj (check-ok _ _ e .1) in
-    (subst Formed is (λ t i. known-more t (member-left (s .permissions) (p ∷ [])) (F t i)), ap (λ (s : State). s .permissions) (sym is))
+    (subst Formed is (λ t i. known-more (s .permissions) _ t (still-more (s .permissions) _ (member-left (s .permissions) (p ∷ []))) (F t i)), ap (λ (s : State). s .permissions) (sym is))
 
 -- variables of a frame
 abbrev pub Named : Term → Type 0
@@ -93,25 +149,56 @@ Named (path v f) = Unit {0}
 
 abbrev pub NamedFormula : Formula ℕ → Type 0
 NamedFormula [] = Unit {0}
-NamedFormula (acc x f ∷ φ) = NamedFormula φ
+NamedFormula (own k x f ∷ φ) = NamedFormula φ
 NamedFormula (cmp n a b ∷ φ) = Named a × Named b × NamedFormula φ
 
 pub resolved-known : (_~_ : Equality) (ps : List Permission) (e t : Term) → Named e → resolve _~_ ps e ≡ ok t → Known ps t
-unfolding resolve pathOf
+unfolding resolve
 resolved-known l ps (num n) t k r = subst (Known ps) (ok-inj r) tt
 resolved-known l ps null t k r = subst (Known ps) (ok-inj r) tt
 resolved-known l ps (var x) t k r = subst (Known ps) (ok-inj r) k
 resolved-known l ps (path y f) t k r =
     let (p, e, q) = bind-ok (orElse (first (names l y f) ps) unresolved) r in
     let (i, _) = first-in (names l y f) ps p (orElse-ok _ unresolved p e) in
-    subst (Known ps) (ok-inj q) i
+    subst (Known ps) (ok-inj q) (path-known ps p i)
+
+-- a `read` that becomes an `acc` is listed under its name
+joined-still :
+    (_~_ : Equality) (x f : ℕ) (ps : List Permission) (c : Split) → split (joins _~_ x f) ps ≡ some c → Still ps (c .list)
+unfolding joins joining withPermit pathOf
+joined-still _~_ x f ps c e t h =
+    let D : Parted (joins _~_ x f) ps c = parted _ ps c e in
+    let (p, i, z) = listed-entry ps t h in
+    subst (λ t. T (lists (c .list) t)) z
+    (⊎-elim (λ j. entry-listed (c .list) p j)
+    (λ w.
+    subst (λ (q : Permission). T (lists (c .list) (path (q .variable) (q .field)))) (sym w)
+    (entry-listed (c .list) (entry acc (c .taken .variable) (c .taken .field))
+    (D .comes _ (is-acc (names _~_ x f (c .taken)) (c .taken .permit) (D .gives)))))
+    (D .stays p i))
+  where
+    is-acc :
+        (b : Bool) (k : Permit) → cond b (joining k (c .taken)) none ≡ some (c .left) →
+        Member (entry acc (c .taken .variable) (c .taken .field)) (c .left)
+    is-acc true acc q = none-some q
+    is-acc true read q = subst (Member _) (some-inj q) at-head
+    is-acc false k q = none-some q
+
+pub formed-own : (k : Permit) (x f : ℕ) (s s′ : State) → Formed s → addOwn k x f s ≡ ok s′ → Formed s′
+unfolding addOwn addRead
+formed-own acc x f s s′ F e = formed-permission (entry acc x f) s s′ F e .0
+formed-own read x f s s′ F e = go (split (joins (equalIn s) x f) (s .permissions)) refl e
+  where
+    go : (o : Option Split) → split (joins (equalIn s) x f) (s .permissions) ≡ o → addRead x f s o ≡ ok s′ → Formed s′
+    go none r q = formed-permission (entry read x f) s s′ F q .0
+    go (some c) r q =
+        subst Formed (ok-inj q) (λ t i. known-more (s .permissions) _ t (joined-still (equalIn s) x f (s .permissions) c r) (F t i))
 
 pub formed-add : (φ : Formula ℕ) (s s′ : State) → NamedFormula φ → Formed s → add φ s ≡ ok s′ → Formed s′
 unfolding add
 formed-add [] s s′ N F e = subst Formed (ok-inj e) F
-formed-add (acc x f ∷ φ) s s′ N F e =
-    let (s₁, a, b) = bind-ok (addPermission (record { variable = x; field = f }) s) e in
-    formed-add φ s₁ s′ N (formed-permission _ s s₁ F a .0) b
+formed-add (own k x f ∷ φ) s s′ N F e =
+    let (s₁, a, b) = bind-ok (addOwn k x f s) e in formed-add φ s₁ s′ N (formed-own k x f s s₁ F a) b
 formed-add (cmp n a b ∷ φ) s s′ N F e =
     let (t, i, e₁) = bind-ok (resolve (equalIn s) (s .permissions) a) e in
     let (u, j, e₂) = bind-ok (resolve (equalIn s) (s .permissions) b) e₁ in
@@ -145,20 +232,17 @@ module _ (s : State) (F : Formed s) (ρ : Renaming) (ps : List Permission)
       ))
 
 pub formed-dropped :
-    (gone ps : List Permission) (s : State) → Formed s →
-    ((p : Permission) → Member p (s .permissions) → Member p ps ⊎ Member p gone) → Formed (dropPaths gone ps s)
-unfolding dropPaths factsWithout
+    (gone ps : List Permission) (s : State) → Formed s → LeftOr s ps gone → Formed (dropPaths gone ps s)
+unfolding dropPaths factsWithout lists any
 formed-dropped [] ps s F all =
-    λ t i. known-more t (λ p j. ⊎-elim (λ k. k) (λ k. elim k [ ]) (all p j)) (F t i)
+    λ t i. known-more (s .permissions) _ t (λ t j. ⊎-elim (λ k. k) (λ k. absurd k) (all t j)) (F t i)
 formed-dropped (p ∷ gone) ps s F all =
     became-formed s F (withoutPaths (p ∷ gone)) ps
-    (λ t u e k. let (out, is) = without-is (p ∷ gone) t u e in subst (Known ps) is (still-known (s .permissions) ps (p ∷ gone) all t out k))
+    (λ t u e k. let (out, is) = without-is (p ∷ gone) t u e in subst (Known ps) is (still-known s ps (p ∷ gone) all t out k))
 
-pub formed-remainder : (s : State) (φ : Formula ℕ) (r : Shown) → Formed s → show s φ ≡ ok r → Formed (remainder s r)
-unfolding show remainder
-formed-remainder s φ r F e =
-    let A : AllOf (s .permissions) r = shown-all (equalIn s) s φ _ r (λ p i. inl i) e in
-    formed-dropped _ (r .kept) s F (λ p i. consumed-or (r .kept) (r .consumed) p (A p i))
+pub formed-remainder : (s : State) (kept : List Permission) → Formed s → Formed (remainder s kept)
+unfolding remainder
+formed-remainder s kept F = formed-dropped (unlisted kept (s .permissions)) kept s F (kept-or-unlisted s kept)
 
 -- REMOVING
 standIn-named : (s : State) (x w : ℕ) → standIn s x ≡ some w → Member w variables
@@ -212,24 +296,29 @@ formed-assign x a s s′ v na F e =
         formed-equal x (removedTerm x (standIn s x) s r) (removeTo x (standIn s x) s) s′ v (λ t m. removed-known s F x r t m k)
         (formed-removed s F x) e
 
+-- the path that shows an atom is listed
+taken-known :
+    (t : Permission → Option (List Permission)) (ps : List Permission) (c : Split) → split t ps ≡ some c → Known ps (pathOf (c .taken))
+taken-known t ps c e = path-known ps (c .taken) (parted t ps c e .was)
+
 pub formed-set : (x f y : ℕ) (s s′ : State) → Member y variables → Formed s → setRule x f y s ≡ ok s′ → Formed s′
 unfolding setRule dropPaths pathOf
 formed-set x f y s s′ v F e =
-    let (c, o, e₁) = bind-ok (orElse (split (names (equalIn s) x f) (s .permissions)) noPermission) e in
+    let (c, o, e₁) = bind-ok (orElse (split (giving (equalIn s) acc x f) (s .permissions)) noPermission) e in
     formed-fact eq (pathOf (c .taken)) (var y) (dropPaths (c .taken ∷ []) (s .permissions) s) s′
-    (formed-dropped (c .taken ∷ []) (s .permissions) s F (λ p i. inl i))
-    (split-parts _ (s .permissions) c (orElse-ok _ noPermission c o) .0) v e₁ .0
+    (formed-dropped (c .taken ∷ []) (s .permissions) s F (λ t i. inl i))
+    (taken-known _ (s .permissions) c (orElse-ok _ noPermission c o)) v e₁ .0
 
 -- `new`: every path that is said to be null or 0 is listed first
 fields-formed :
     (x : ℕ) (fs : List Field) (s s′ : State) → Formed s → addFields x fs s ≡ ok s′ →
     Formed s′ × ((p : Permission) → Member p (s .permissions) → Member p (s′ .permissions))
-    × ((g : Field) → Member g fs → Member (record { variable = x; field = g .name }) (s′ .permissions))
+    × ((g : Field) → Member g fs → Member (entry acc x (g .name)) (s′ .permissions))
 unfolding addFields
 fields-formed x [] s s′ F e =
     (subst Formed (ok-inj e) F, λ p i. subst (λ (s : State). Member p (s .permissions)) (ok-inj e) i, λ g i. elim i [ ])
 fields-formed x (f ∷ fs) s s′ F e =
-    let p₀ : Permission = record { variable = x; field = f .name } in
+    let p₀ : Permission = entry acc x (f .name) in
     let (s₁, a, b) = bind-ok (addPermission p₀ s) e in
     let (F₁, is) = formed-permission p₀ s s₁ F a in
     let (F₂, more, all) = fields-formed x fs s₁ s′ F₁ b in
@@ -238,7 +327,7 @@ fields-formed x (f ∷ fs) s s′ F e =
       λ p i. more p (subst (Member p) (sym is) (member-left (s .permissions) (p₀ ∷ []) p i)),
       λ g i.
           ⊎-elim (λ j. all g j)
-          (λ w. subst (λ (g : Field). Member (record { variable = x; field = g .name }) (s′ .permissions)) (sym w) (more p₀ here))
+          (λ w. subst (λ (g : Field). Member (entry acc x (g .name)) (s′ .permissions)) (sym w) (more p₀ here))
           (head-or i),
     )
 
@@ -252,12 +341,12 @@ initial-known ps g = go (g .int)
 
 initials-formed :
     (x : ℕ) (fs : List Field) (s s′ : State) → Formed s →
-    ((g : Field) → Member g fs → Member (record { variable = x; field = g .name }) (s .permissions)) → addInitial x fs s ≡ ok s′ → Formed s′
-unfolding addInitial
+    ((g : Field) → Member g fs → Member (entry acc x (g .name)) (s .permissions)) → addInitial x fs s ≡ ok s′ → Formed s′
+unfolding addInitial pathOf
 initials-formed x [] s s′ F L e = subst Formed (ok-inj e) F
 initials-formed x (f ∷ fs) s s′ F L e =
     let (s₁, a, b) = bind-ok (addFact eq (path x (f .name)) (initial f) s) e in
-    let (F₁, is) = formed-fact eq (path x (f .name)) (initial f) s s₁ F (L f at-head) (initial-known (s .permissions) f) a in
+    let (F₁, is) = formed-fact eq (path x (f .name)) (initial f) s s₁ F (path-known (s .permissions) (entry acc x (f .name)) (L f at-head)) (initial-known (s .permissions) f) a in
     initials-formed x fs s₁ s′ F₁ (λ g i. subst (Member _) (sym is) (L g (further i))) b
 
 pub formed-new : (x : ℕ) (fs : List Field) (s s′ : State) → Member x variables → Formed s → newRule x fs s ≡ ok s′ → Formed s′
@@ -291,7 +380,7 @@ module _ (x y z : ℕ) (mx : Member x variables) (my : Member y variables) (mz :
   formula-named : (φ : Formula ℕ) → NamedFormula φ → NamedFormula (map (substAtom (actual y z x)) φ)
   unfolding substAtom
   formula-named [] N = tt
-  formula-named (acc v f ∷ φ) N = formula-named φ N
+  formula-named (own k v f ∷ φ) N = formula-named φ N
   formula-named (cmp n a b ∷ φ) N = (term-named a (N .0), term-named b (N .1), formula-named φ (N .2))
 
   pub formed-call :
@@ -301,7 +390,7 @@ module _ (x y z : ℕ) (mx : Member x variables) (my : Member y variables) (mz :
       let (_, e₁) = check-ok (holdsIn (equalIn s) s ne (var y) null) notShown e in
       let (r, a, e₂) = bind-ok (show s (map (substAtom (actual y z x)) (M .requires))) e₁ in
       formed-add (map (substAtom (actual y z x)) (M .ensures)) (remove x (remainder s r)) s′ (formula-named (M .ensures) N)
-      (formed-removed (remainder s r) (formed-remainder s _ r F a) x) e₂
+      (formed-removed (remainder s r) (formed-remainder s r F) x) e₂
 
 -- what a statement names
 abbrev pub NamedSimple : Program → Simple → Type 0
@@ -324,4 +413,4 @@ formed-rule P (new x c) s s′ N F e = formed-new x (getD (P .classes) c []) s s
 formed-rule P (call x y m z) s s′ N F e = formed-call x y z (N .0) (N .1) (N .2) (methodNumbered P m) s s′ (N .3) F e
 formed-rule P (assert φ) s s′ N F e = let (_, _, q) = bind-ok (show s φ) e in subst Formed (ok-inj q) F
 formed-rule P (release φ) s s′ N F e =
-    let (r, a, q) = bind-ok (show s φ) e in subst Formed (ok-inj q) (formed-remainder s φ r F a)
+    let (r, a, q) = bind-ok (show s φ) e in subst Formed (ok-inj q) (formed-remainder s r F)

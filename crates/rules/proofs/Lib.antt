@@ -11,6 +11,14 @@ pub mod States
 pub mod Counting
 pub mod Changes
 pub mod Disjoint
+pub mod ExampleRows
+pub mod ExampleTexts
+pub mod ExamplesText
+pub mod ExamplesNames
+pub mod ExamplesChecker
+pub mod ExamplesMachine
+pub mod ExamplesHalves
+pub mod ExamplesCalls
 pub mod Examples
 pub mod LinesTaken
 pub mod LineKinds

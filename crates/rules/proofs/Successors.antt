@@ -30,22 +30,19 @@ is-left ρ t e = go (ρ t) e
     go none e = none-some e
     go (some u) e = subst (λ v. T (same u v)) (some-inj e) (same-refl u)
 
--- PATHS THAT ARE DROPPED
--- an entry's path is listed, and only an entry's
-pub member-lists : (ps : List Permission) (p : Permission) → Member p ps → T (lists ps (pathOf p))
+-- PATHS THAT ARE LISTED
+-- the path of an entry is listed, and no other
+pub entry-listed :
+    (ps : List Permission) (p : Permission) → Member p ps → T (lists ps (pathOf p))
 unfolding lists
-member-lists ps p i = any-in (λ q. same (pathOf q) (pathOf p)) ps p i (same-refl (pathOf p))
+entry-listed ps p i = any-in (λ q. same (pathOf q) (pathOf p)) ps p i (same-refl (pathOf p))
 
-path-inj : (p q : Permission) → pathOf p ≡ pathOf q → p ≡ q
-unfolding pathOf
-path-inj p q e =
-    let a : p .variable ≡ q .variable = cc in
-    let b : p .field ≡ q .field = cc in
-    λ i. record { variable = a i; field = b i }
-
-pub lists-member : (ps : List Permission) (p : Permission) → T (lists ps (pathOf p)) → Member p ps
+pub listed-entry :
+    (ps : List Permission) (t : Term) → T (lists ps t) →
+    (p : Permission) × Member p ps × (pathOf p ≡ t)
 unfolding lists
-lists-member ps p h = in-any _ ps h λ q i e. subst (λ r. Member r ps) (path-inj q p (same→≡ _ _ e)) i
+listed-entry ps t h =
+    in-any _ ps h λ p i e. (p, i, same→≡ _ _ e)
 
 -- a term that is left is the term itself
 pub without-is : (gone : List Permission) (t u : Term) → withoutPaths gone t ≡ some u → (T (lists gone t) → ⊥) × (t ≡ u)
@@ -150,7 +147,7 @@ module _ (fs : List Fact) (g : Renaming) where
   after-before (back l) = swapped (after-before l)
   after-before (onward l m) = chained (after-before l) (after-before m)
 
-  -- two terms that are equal before: both become nothing, or terms that are ~ after
+  -- two terms that are equal before: both withPermit nothing, or terms that are ~ after
   abbrev Meet : Option Term → Option Term → Type 0
   Meet none none = Unit {0}
   Meet none (some b) = ⊥
@@ -213,7 +210,7 @@ abbrev pub Known : List Permission → Term → Type 0
 Known ps (num n) = Unit {0}
 Known ps null = Unit {0}
 Known ps (var v) = Member v variables
-Known ps (path v f) = Member (record { variable = v; field = f }) ps
+Known ps (path v f) = T (lists ps (path v f))
 
 abbrev pub Formed : State → Type 0
 Formed s = (t : Term) → Member t (termsOf (s .facts)) → Known (s .permissions) t
@@ -257,14 +254,17 @@ number-member n (t ∷ ts) i =
     (head-or i)
 
 known-ordered : (ps : List Permission) (fs : List Fact) (t : Term) → Known ps t → Member t (termsOf fs) → Member t (inOrder ps fs)
-unfolding inOrder pathOf
+unfolding inOrder
 known-ordered ps fs (num n) k i =
     member-right (map var variables) _ _
     (member-right (map pathOf ps) _ _ (further (member-map num _ n (rising-member n _ (number-member n (termsOf fs) i)))))
 known-ordered ps fs null k i = member-right (map var variables) _ _ (member-right (map pathOf ps) _ _ at-head)
 known-ordered ps fs (var v) k i = member-left (map var variables) _ _ (member-map var variables v k)
 known-ordered ps fs (path v f) k i =
-    member-right (map var variables) _ _ (member-left (map pathOf ps) _ _ (member-map pathOf ps (record { variable = v; field = f }) k))
+    let (p, j, e) = listed-entry ps (path v f) k in
+    subst (λ t. Member t (inOrder ps fs)) e
+    (member-right (map var variables) _ _
+    (member-left (map pathOf ps) _ _ (member-map pathOf ps p j)))
 
 -- and only such terms
 pub order-known : (ps : List Permission) (fs : List Fact) (u : Term) → Member u (inOrder ps fs) → Known ps u
@@ -274,7 +274,7 @@ order-known ps fs u i =
     (λ j. let (v, k, e) = map-member var variables u j in subst (Known ps) (sym e) k)
     (λ j.
     ⊎-elim
-    (λ k. let (p, l, e) = map-member pathOf ps u k in subst (Known ps) (sym e) l)
+    (λ k. let (p, l, e) = map-member pathOf ps u k in subst (Known ps) (sym e) (entry-listed ps p l))
     (λ k.
     ⊎-elim
     (λ l. let (_, _, e) = map-member num (rising (numbers (termsOf fs))) u l in subst (Known ps) (sym e) tt)

@@ -8,7 +8,7 @@ use Rattle.rules.specs.Answers.{accepted}
 use Rattle.rules.specs.Items.{Item}
 use Rattle.rules.specs.Reading.{readText, program}
 use Rattle.rules.specs.Calls.{Result, checkText, runText, trialText, wholeHeap, outcomeResult, refusedResult}
-use Rattle.rules.specs.Runs.{Run, FrameKept, outcome}
+use Rattle.rules.specs.Runs.{Run, FrameKept, HalvesKept, outcome}
 
 -- "run .. returns number 0, 21, 22 or 23"; of 27, "an accepted script may end so as well"; "What an accepted script can't stop on now
 -- includes a false invariant."
@@ -20,18 +20,19 @@ abbrev pub AcceptedNeverStuck : Type 0
 AcceptedNeverStuck = (t : List ℕ) → checkText t ≡ (0, 0) → (k : ℕ) → NotStuck (runText t k .number)
 
 -- a text that was read as these items: its run with k allowed steps. The answer r is what this run does (number, line, count of
--- steps, values), and "each `call` step done in it" keeps what it was not handed.
+-- steps, values), "each `call` step done in it" keeps what it was not handed whole, and no location ever has more than two halves.
 pub record KeepsFrame (r : Result) (items : List Item) (k : ℕ) : Type 0 where
   pub run : Run wholeHeap (program items) k
   pub answered : r ≡ outcomeResult (outcome wholeHeap (program items) run)
   pub kept : FrameKept wholeHeap (program items) run
+  pub halves : HalvesKept wholeHeap (program items) run
 
 -- Second half, of what trial answers for each text that the reader takes, accepted or not
 abbrev pub CallsKeepFrame : Type 0
 CallsKeepFrame = (t : List ℕ) (items : List Item) → readText t ≡ accepted items → (k : ℕ) → KeepsFrame (trialText t k) items k
 
 -- "This is one claim about the whole run": the text was read, its run is one list of steps, that run answers one of these numbers, and
--- each call in it keeps what it was not handed.
+-- each call in it keeps what it was not handed whole.
 pub record Claim (t : List ℕ) (k : ℕ) : Type 0 where
   pub items : List Item
   pub is-read : readText t ≡ accepted items

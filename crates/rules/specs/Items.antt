@@ -5,7 +5,7 @@ use lib.ListN.{drop}
 use Rattle.rules.specs.Base.{Name, Try, ok, _>>=_, _>>_, check, is}
 use Rattle.rules.specs.Answers.{Refusal, Verdict, accepted, atLine, then, undeclared, wrongType, wrongTarget}
 use Rattle.rules.specs.Syntax as Syntax
-use Rattle.rules.specs.Syntax.{Expr, Atom, Formula, Operation, Stmt, num, null, var, path, acc, cmp, sum, difference}
+use Rattle.rules.specs.Syntax.{Expr, Atom, Formula, Operation, Stmt, num, null, var, path, own, cmp, sum, difference}
 use Rattle.rules.specs.Syntax.{set, assign, compute, new, call, return, assert, release, simple, if, else, join, loop, again, end}
 use Rattle.rules.specs.Text.{exprOf, relOf, formulaOf}
 use Rattle.rules.specs.Grammar.{Kind, Statement, Line, statement}
@@ -33,7 +33,7 @@ module _ (Γ : Declarations) (vs : List Variable) where
   resolveExpr (path x f) = path (variableNumber vs x) (fieldNumber Γ f)
 
   unfoldable pub resolveAtom : Atom Name → Atom ℕ
-  resolveAtom (acc x f) = acc (variableNumber vs x) (fieldNumber Γ f)
+  resolveAtom (own k x f) = own k (variableNumber vs x) (fieldNumber Γ f)
   resolveAtom (cmp n a b) = cmp n (resolveExpr a) (resolveExpr b)
 
   unfoldable pub resolveAtoms : List Name → Formula ℕ

@@ -4,11 +4,11 @@ use mathlib.Core.List.{List, [], _∷_, _++_, map}
 use Prim.Native.Nat.{ℕ, zero, suc, pred, _+_, _-_, _%_}
 use lib.Dec.{eqb, ltb, leb}
 use lib.ListN.{length, getD, replicate, take, drop}
-use Rattle.rules.specs.Base.{Try, ok, no, _>>=_, _>>_, check, any, keep, update}
+use Rattle.rules.specs.Base.{Try, ok, no, _>>=_, _>>_, check, update}
 use Rattle.rules.specs.Limits.{most-locals, most-frames, values-shown}
 use Rattle.rules.specs.Answers.{Stop, Ending, finished, stepsTaken, stopped, heapFull, framesFull, permissionMissing, nullFollowed, formulaFalse, overflow}
-use Rattle.rules.specs.Syntax.{Rel, Expr, Formula, Operation, Simple, Stmt, Row, Field, Method, Program, noRow, rowNumbered, methodNumbered, first-local, result-variable, words, sign, offset}
-use Rattle.rules.specs.Syntax.{eq, ne, num, null, var, path, acc, cmp, sum, difference, set, assign, compute, new, call, return, assert, release, simple, if, else, join, loop, again, end}
+use Rattle.rules.specs.Syntax.{Rel, Permit, Expr, Formula, Operation, Simple, Stmt, Row, Field, Method, Program, noRow, rowNumbered, methodNumbered, first-local, result-variable, words, sign, offset}
+use Rattle.rules.specs.Syntax.{eq, ne, num, null, var, path, acc, read, own, cmp, sum, difference, set, assign, compute, new, call, return, assert, release, simple, if, else, join, loop, again, end}
 
 -- HEAP AND FRAMES
 
@@ -26,7 +26,8 @@ pub record Location : Type 0 where
   pub object : ℕ
   pub field : ℕ
 
--- "A frame has values and a set A of locations". row: the number of the row that it does next
+-- "A frame has values and a set A of locations"; W8: "a location now has 0, 1 or 2 halves with each frame": A lists them half by half.
+-- row: the number of the row that it does next
 pub record Frame : Type 0 where
   pub values : List ℕ
   pub held : List Location
@@ -42,16 +43,20 @@ pub record Config : Type 0 where
 unfoldable pub eqLocation : Location → Location → Bool
 eqLocation p q = eqb (p .object) (q .object) && eqb (p .field) (q .field)
 
-unfoldable pub among : Location → List Location → Bool
-among p = any (eqLocation p)
+-- how many halves of p there are in a set
+unfoldable pub halves : List Location → Location → ℕ
+halves [] p = 0
+halves (q ∷ A) p = let r : ℕ = halves A p in cond (eqLocation p q) (suc r) r
 
--- is the location in the frame's set A?
-unfoldable pub holds : Frame → Location → Bool
-holds F p = among p (F .held)
+-- a set less one half of p
+unfoldable pub lessOne : Location → List Location → List Location
+lessOne p [] = []
+lessOne p (q ∷ A) = let r : List Location = lessOne p A in cond (eqLocation p q) A (q ∷ r)
 
--- the second set less the first
+-- the second set less the first, half by half
 unfoldable pub without : List Location → List Location → List Location
-without ps = keep (λ q. not (among q ps))
+without [] A = A
+without (p ∷ ps) A = without ps (lessOne p A)
 
 unfoldable pub valueIn : List Cell → ℕ → ℕ
 valueIn [] f = 0
@@ -85,31 +90,38 @@ valueOf F x = getD (F .values) x 0
 
 -- EVALUATION
 
--- the location of `x.f`: a null is 25, "a location not in A" 24
-unfoldable pub locate : Frame → ℕ → ℕ → Try Stop Location
-locate F x f =
+-- the location of `x.f`, with n halves of it in A beside those taken: a null is 25, "a location not in A or already taken" 24
+unfoldable pub locate : Frame → List Location → ℕ → ℕ → ℕ → Try Stop Location
+locate F taken n x f =
     let p : Location = record { object = valueOf F x; field = f } in
-    check (not (eqb (valueOf F x) 0)) nullFollowed >> (check (holds F p) permissionMissing >> ok p)
+    check (not (eqb (valueOf F x) 0)) nullFollowed
+    >> (check (leb (n + halves taken p) (halves (F .held) p)) permissionMissing >> ok p)
 
--- "reading a path needs its location in A"
+-- "reading a path needs its location in A"; W8: "Reading needs one half"
 unfoldable pub value : Heap → Frame → Expr ℕ → Try Stop ℕ
 value h F (num n) = ok n
 value h F null = ok 0
 value h F (var x) = ok (valueOf F x)
-value h F (path x f) = locate F x f >>= λ p. ok (valueAt h (p .object) f)
+value h F (path x f) = locate F [] 1 x f >>= λ p. ok (valueAt h (p .object) f)
 
 unfoldable pub compared : Rel → ℕ → ℕ → Bool
 compared eq v w = eqb v w
 compared ne v w = not (eqb v w)
 
+-- W8: "`acc` is both" halves, `read` one
+unfoldable pub takeHalves : Frame → ℕ → ℕ → ℕ → List Location → Try Stop (List Location)
+takeHalves F n x f taken = locate F taken n x f >>= λ p. ok (replicate n p ++ taken)
+
+-- what an atom takes, beside what is taken
+unfoldable pub takeShare : Frame → Permit → ℕ → ℕ → List Location → Try Stop (List Location)
+takeShare F acc x f taken = takeHalves F 2 x f taken
+takeShare F read x f taken = takeHalves F 1 x f taken
+
 -- "Formula atoms go in order, of two sides the left first: `acc` of a null is 25, of a location not in A or already taken in this
 -- formula 24; reading likewise, over the whole A; a false `eq` or `ne` is 26." The result is what was taken, the last first.
 unfoldable pub takeFrom : Heap → Frame → Formula ℕ → List Location → Try Stop (List Location)
 takeFrom h F [] taken = ok taken
-takeFrom h F (acc x f ∷ φ) taken = do
-  p ← locate F x f
-  check (not (among p taken)) permissionMissing
-  takeFrom h F φ (p ∷ taken)
+takeFrom h F (own k x f ∷ φ) taken = takeShare F k x f taken >>= λ A. takeFrom h F φ A
 takeFrom h F (cmp n a b ∷ φ) taken = do
   v ← value h F a
   w ← value h F b
@@ -219,9 +231,9 @@ againStep rs m = withFrame m (jump (loopOf rs (m .frame .row)) (m .frame))
 unfoldable pub stored : Config → ℕ → ℕ → ℕ → Config
 stored m o f v = record { heap = store (m .heap) o f v; frame = advance (m .frame); callers = m .callers }
 
--- "`set` first tests `acc x f`."
+-- "`set` first tests `acc x f`."; W8: "Reading needs one half, `set` both."
 unfoldable pub setStep : ℕ → ℕ → ℕ → Config → Try Stop Config
-setStep x f y m = locate (m .frame) x f >>= λ p. ok (stored m (p .object) f (valueOf (m .frame) y))
+setStep x f y m = locate (m .frame) [] 2 x f >>= λ p. ok (stored m (p .object) f (valueOf (m .frame) y))
 
 unfoldable pub assignStep : ℕ → Expr ℕ → Config → Try Stop Config
 assignStep x e m = value (m .heap) (m .frame) e >>= λ v. ok (withFrame m (advance (bind x v (m .frame))))
@@ -244,17 +256,24 @@ unfoldable pub computeStep : Operation → ℕ → ℕ → ℕ → Config → Tr
 computeStep o x y z m =
     computed o (valueOf (m .frame) y) (valueOf (m .frame) z) >>= λ v. ok (withFrame m (advance (bind x v (m .frame))))
 
--- a new object: each field null or 0; its locations are the running frame's
+-- a new object: each field null or 0; its locations are the running frame's, whole
 unfoldable pub newCell : Field → Cell
 newCell f = record { name = f .name; value = 0 }
+
+-- both halves of each location of object o
+unfoldable pub wholeOf : ℕ → List Cell → List Location
+wholeOf o [] = []
+wholeOf o (c ∷ cs) =
+    let p : Location = record { object = o; field = c .name } in
+    let r : List Location = wholeOf o cs in
+    cond (eqb (halves r p) 0) (p ∷ p ∷ r) r
 
 unfoldable pub grown : Config → ℕ → List Cell → Config
 grown m x cells =
     let o : ℕ = suc (length (m .heap)) in
-    let made : List Location = map (λ c. record { object = o; field = c .name }) cells in
     record {
       heap = m .heap ++ (cells ∷ []);
-      frame = advance (bind x o (holding (m .frame .held ++ made) (m .frame)));
+      frame = advance (bind x o (holding (m .frame .held ++ wholeOf o cells) (m .frame)));
       callers = m .callers;
     }
 
@@ -423,5 +442,5 @@ runProgram room P k = run room P k 0 (start P)
 
 -- Everything above computes where this unfolds.
 unfoldable pub opened : Unit {0}
-unfolding eqLocation among holds without valueIn object valueAt storeIn store fieldsIn valueOf locate value compared takeFrom footprint jump advance bind holding withFrame depthAfter closes seek closing openAfter openAt loopOf choose ifStep elseStep loopStep againStep stored setStep assignStep raised inRange computed computeStep newCell grown newStep entryValues callFrame entered callStep targetOf statementOf returned assertStep releaseStep took endStep returnStep mainFrame ends goOn simpleStep stepAt step run start runProgram
+unfolding eqLocation halves lessOne without valueIn object valueAt storeIn store fieldsIn valueOf locate value compared takeHalves takeShare takeFrom footprint jump advance bind holding withFrame depthAfter closes seek closing openAfter openAt loopOf choose ifStep elseStep loopStep againStep stored setStep assignStep raised inRange computed computeStep newCell wholeOf grown newStep entryValues callFrame entered callStep targetOf statementOf returned assertStep releaseStep took endStep returnStep mainFrame ends goOn simpleStep stepAt step run start runProgram
 opened = tt

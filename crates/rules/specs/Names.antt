@@ -7,7 +7,7 @@ use lib.Dec.{eqb, leb, ltb}
 use lib.ListN.{getD}
 use Rattle.rules.specs.Base.{Name, withDefault, bytes, is, eqName, any, all, first, index}
 use Rattle.rules.specs.Limits.{most-locals}
-use Rattle.rules.specs.Syntax.{Expr, Atom, first-local, num, null, var, path, acc, cmp}
+use Rattle.rules.specs.Syntax.{Expr, Atom, first-local, num, null, var, path, own, cmp}
 use Rattle.rules.specs.Text.{reserved, exprOf, formulaOf}
 use Rattle.rules.specs.Grammar.{Operand, Line, isKind, statement, Set, Let, New, Call, Return, Add, Sub}
 use Rattle.rules.specs.Grammar.{read, assigned, field, method, new, typeName, className, variable, member, expression}
@@ -136,7 +136,7 @@ module _ (Γ : Declarations) (vs : List Variable) where
   exprType (path x f) = some (fieldType Γ (variableType vs x) f)
 
   unfoldable pub atomAgrees : Atom Name → Bool
-  atomAgrees (acc x f) = true
+  atomAgrees (own k x f) = true
   atomAgrees (cmp n a b) = agree (exprType a) (exprType b)
 
   unfoldable pub callAgrees : Line → MethodDeclaration → Bool

@@ -8,7 +8,7 @@ use Rattle.rules.specs.Base.{any}
 use Rattle.rules.specs.Limits.{most-bytes}
 use Rattle.rules.specs.Answers.{Verdict, accepted, refused, then, textTooLong, unframed}
 use Rattle.rules.specs.Syntax.{Expr, Formula, Stmt, Method, Program}
-use Rattle.rules.specs.Syntax.{num, null, var, path, acc, cmp, simple, return, if, else, join, loop, again, end}
+use Rattle.rules.specs.Syntax.{num, null, var, path, own, cmp, simple, return, if, else, join, loop, again, end}
 use Rattle.rules.specs.Text.{lines}
 use Rattle.rules.specs.Places.{firstPlace, scanLines}
 use Rattle.rules.specs.Scope.{declarations, firstScope}
@@ -38,7 +38,7 @@ framedExpr before (path x f) = any (λ a. eqb (a .variable) x && eqb (a .field) 
 -- "requires, ensures or join reads `x.f` with no `acc x f` before it in the line"
 unfoldable pub framed : List Access → Formula ℕ → Bool
 framed before [] = true
-framed before (acc x f ∷ φ) = framed (record { variable = x; field = f } ∷ before) φ
+framed before (own k x f ∷ φ) = framed (record { variable = x; field = f } ∷ before) φ
 framed before (cmp n a b ∷ φ) = let r : Bool = framed before φ in framedExpr before a && (framedExpr before b && r)
 
 -- of a loop, "The invariant, and the condition after it, read only paths that the invariant holds; number 10 covers this line."

@@ -8,8 +8,8 @@ use lib.ListN.{getD, drop}
 use Rattle.rules.specs.Base.{Try, ok, _>>=_, _>>_, check, orElse}
 use Rattle.rules.specs.Answers.{Refusal, Verdict, accepted, refused, atLine, then, malformed, textEnds, noPermission, notShown}
 use Rattle.rules.specs.Syntax.{Rel, Atom, Formula, Simple, Stmt, Row, Field, Method, Program, methodNumbered, same, this-variable, parameter, result-variable}
-use Rattle.rules.specs.Syntax.{eq, ne, num, null, var, path, acc, cmp, set, assign, compute, new, call, return, assert, release, simple, if, else, join, loop, again, end}
-use Rattle.rules.specs.State.{Term, State, empty, pathOf, equalIn, names, resolve, holdsIn, split, show, dropPaths, remainder, standIn, removedTerm, removeTo, remove, addPermission, addFact, add}
+use Rattle.rules.specs.Syntax.{eq, ne, num, null, var, path, acc, own, cmp, set, assign, compute, new, call, return, assert, release, simple, if, else, join, loop, again, end}
+use Rattle.rules.specs.State.{Term, State, empty, entry, pathOf, equalIn, giving, resolve, holdsIn, split, show, dropPaths, remainder, standIn, removedTerm, removeTo, remove, addPermission, addFact, add}
 
 -- y, z and x for `this`, w and `result`
 unfoldable pub actual : ℕ → ℕ → ℕ → ℕ → ℕ
@@ -22,7 +22,7 @@ substTerm σ (var v) = var (σ v)
 substTerm σ (path v f) = path (σ v) f
 
 unfoldable pub substAtom : (ℕ → ℕ) → Atom ℕ → Atom ℕ
-substAtom σ (acc v f) = acc (σ v) f
+substAtom σ (own k v f) = own k (σ v) f
 substAtom σ (cmp n a b) = cmp n (substTerm σ a) (substTerm σ b)
 
 -- "if r is left, add x = r"
@@ -41,7 +41,7 @@ assignRule x e s = do
 -- "add its permissions"
 unfoldable pub addFields : ℕ → List Field → State → Try Refusal State
 addFields x [] s = ok s
-addFields x (f ∷ fs) s = addPermission (record { variable = x; field = f .name }) s >>= λ s. addFields x fs s
+addFields x (f ∷ fs) s = addPermission (entry acc x (f .name)) s >>= λ s. addFields x fs s
 
 -- "null, or 0 for int"
 unfoldable pub initial : Field → Term
@@ -59,7 +59,7 @@ newRule x fs s = addFields x fs (remove x s) >>= λ s. addFact ne (var x) null s
 -- "`set`: `acc x f` shown by a path p; drop facts that name p; add p = y." With W3, "the old value of the path counts as dropped".
 unfoldable pub setRule : ℕ → ℕ → ℕ → State → Try Refusal State
 setRule x f y s = do
-  c ← orElse (split (names (equalIn s) x f) (s .permissions)) noPermission
+  c ← orElse (split (giving (equalIn s) acc x f) (s .permissions)) noPermission
   addFact eq (pathOf (c .taken)) (var y) (dropPaths (c .taken ∷ []) (s .permissions) s)
 
 -- "`call`: show y ≠ null, then requires with y, z for `this`, w. Take the remainder, remove x, add ensures with x for `result`."

@@ -8,15 +8,19 @@ use lib.ListN.{length}
 use Rattle.rules.specs.Base.{Try, ok, _>>=_, _>>_, check, orElse, bindOption, any, keep, first, mapOption}
 use Rattle.rules.specs.Limits.{most-permissions, most-facts}
 use Rattle.rules.specs.Answers.{Refusal, unresolved, noPermission, notShown, stateFull}
-use Rattle.rules.specs.Syntax.{Rel, Expr, Formula, offset, same, eq, ne, num, null, var, path, acc, cmp}
+use Rattle.rules.specs.Syntax.{Rel, Permit, Expr, Formula, offset, same, eq, ne, num, null, var, path, acc, read, own, cmp}
 
 abbrev pub Term : Type 0
 Term = Expr ℕ
 
--- the permission to `x.f`
+-- an entry of a state's list: the permission to `x.f`, or half of it
 pub record Permission : Type 0 where
+  pub permit : Permit
   pub variable : ℕ
   pub field : ℕ
+
+abbrev pub entry : Permit → ℕ → ℕ → Permission
+entry k x f = record { permit = k; variable = x; field = f }
 
 -- an equality or an inequality
 pub record Fact : Type 0 where
@@ -58,6 +62,13 @@ equalBy r t u = same (r t) (r u)
 
 unfoldable pub equalIn : State → Equality
 equalIn s = equalBy (representative (s .facts))
+
+-- do two entries own more halves than one location has? One of them is an `acc`.
+unfoldable pub exceed : Permit → Permit → Bool
+exceed acc acc = true
+exceed acc read = true
+exceed read acc = true
+exceed read read = false
 
 -- the numbers among the terms
 unfoldable pub numbers : List Term → List ℕ
@@ -106,12 +117,15 @@ module _ (_~_ : Equality) where
   unfoldable pub nullAndObject : List Permission → Term → Term → Bool
   nullAndObject ps t u = (null ~ t) && any (λ p. var (p .variable) ~ u) ps
 
-  -- "(d) they are ~ x and ~ y with `x.f` and `y.f` two entries of the list for one f"
+  -- "(d) they are ~ x and ~ y with `x.f` and `y.f` two entries of the list for one f"; W8: "Way (d) .. needs an `acc` among the two"
+  unfoldable pub differ : Permission → Permission → Term → Term → Bool
+  differ p q t u =
+      eqb (p .field) (q .field)
+      && (exceed (p .permit) (q .permit) && links (var (p .variable)) (var (q .variable)) t u)
+
   unfoldable pub twoEntries : List Permission → Term → Term → Bool
   twoEntries [] t u = false
-  twoEntries (p ∷ ps) t u =
-      let r : Bool = twoEntries ps t u in
-      any (λ q. eqb (p .field) (q .field) && links (var (p .variable)) (var (q .variable)) t u) ps || r
+  twoEntries (p ∷ ps) t u = let r : Bool = twoEntries ps t u in any (λ q. differ p q t u) ps || r
 
   -- is this relation of resolved terms shown?
   unfoldable pub holdsIn : State → Rel → Term → Term → Bool
@@ -121,39 +135,54 @@ module _ (_~_ : Equality) where
       || (differentNumbers (s .facts) t u
       || (nullAndObject (s .permissions) t u || (nullAndObject (s .permissions) u t || twoEntries (s .permissions) t u)))
 
--- the first entry that passes, and the others
+-- the first entry that gives way, what comes in its place, and the list with that
 pub record Split : Type 0 where
   pub taken : Permission
-  pub others : List Permission
+  pub left : List Permission
+  pub list : List Permission
 
-unfoldable pub split : (Permission → Bool) → List Permission → Option Split
+unfoldable pub split : (Permission → Option (List Permission)) → List Permission → Option Split
 split t [] = none
 split t (p ∷ ps) =
     elim (t p) [
-      | true ↦ some (record { taken = p; others = ps })
-      | false ↦ bindOption (split t ps) (λ c. some (record { taken = c .taken; others = p ∷ c .others }))
+      | some l ↦ some (record { taken = p; left = l; list = l ++ ps })
+      | none ↦ bindOption (split t ps) (λ c. some (record { taken = c .taken; left = c .left; list = p ∷ c .list }))
     ]
 
--- entries not yet consumed, and those that are
-pub record Shown : Type 0 where
-  pub kept : List Permission
-  pub consumed : List Permission
+-- what an atom leaves of the entry that shows it. W8: "`acc` is shown by an unconsumed `acc` alone"; "`read` is shown by the first
+-- listed, unconsumed `acc` or `read`; taken from an `acc` it leaves a `read` of that path"
+unfoldable pub leaves : Permit → Permit → Option (List Permit)
+leaves acc acc = some []
+leaves acc read = none
+leaves read acc = some (read ∷ [])
+leaves read read = some []
 
--- "`acc y f` by the first listed, not yet consumed `x.f` with x ~ y, which it consumes; `eq` if both sides resolve and are ~; `ne`
--- if both resolve and (a) .. (d)"; "Atoms go in order; `eq` and `ne` read the whole state."
-unfoldable pub showFrom : Equality → State → Formula ℕ → Shown → Try Refusal Shown
-showFrom _~_ s [] r = ok r
-showFrom _~_ s (acc y f ∷ φ) r =
-    orElse (split (names _~_ y f) (r .kept)) noPermission >>= λ c.
-    showFrom _~_ s φ (record { kept = c .others; consumed = c .taken ∷ r .consumed })
-showFrom _~_ s (cmp n a b ∷ φ) r = do
+-- the same path with another permit
+unfoldable pub withPermit : Permission → Permit → Permission
+withPermit p k = entry k (p .variable) (p .field)
+
+-- what the atom `k y f` leaves of an entry, if that shows the atom
+unfoldable pub giving : Equality → Permit → ℕ → ℕ → Permission → Option (List Permission)
+giving _~_ k y f p =
+    cond (names _~_ y f p) (bindOption (leaves k (p .permit)) (λ ks. some (map (withPermit p) ks))) none
+
+-- "`acc y f` by the first listed, not yet consumed `x.f` with x ~ y, which it consumes", and so `read`. kept: the entries not yet consumed
+unfoldable pub takeOwn : Equality → Permit → ℕ → ℕ → List Permission → Try Refusal (List Permission)
+takeOwn _~_ k y f kept = orElse (split (giving _~_ k y f) kept) noPermission >>= λ c. ok (c .list)
+
+-- "`eq` if both sides resolve and are ~; `ne` if both resolve and (a) .. (d)"; "Atoms go in order; `eq` and `ne` read the whole state."
+unfoldable pub showFrom : Equality → State → Formula ℕ → List Permission → Try Refusal (List Permission)
+showFrom _~_ s [] kept = ok kept
+showFrom _~_ s (own k y f ∷ φ) kept = takeOwn _~_ k y f kept >>= λ kept. showFrom _~_ s φ kept
+showFrom _~_ s (cmp n a b ∷ φ) kept = do
   t ← resolve _~_ (s .permissions) a
   u ← resolve _~_ (s .permissions) b
   check (holdsIn _~_ s n t u) notShown
-  showFrom _~_ s φ r
+  showFrom _~_ s φ kept
 
-unfoldable pub show : State → Formula ℕ → Try Refusal Shown
-show s φ = showFrom (equalIn s) s φ (record { kept = s .permissions; consumed = [] })
+-- what is left of the state's entries
+unfoldable pub show : State → Formula ℕ → Try Refusal (List Permission)
+show s φ = showFrom (equalIn s) s φ (s .permissions)
 
 -- DROPPING
 -- W3: "When paths or a variable are dropped, two terms that are left shall be ~ exactly if they were ~ before." (The laws are in
@@ -210,6 +239,7 @@ trivial f = not (isNe (f .rel)) && same (f .left) (f .right)
 unfoldable pub renameFacts : Renaming → List Fact → List Fact
 renameFacts ρ fs = keep (λ f. not (trivial f)) (mapOption (renameFact ρ) fs)
 
+-- is t the path of an entry, by its very name?
 unfoldable pub lists : List Permission → Term → Bool
 lists ps t = any (λ p. same (pathOf p) t) ps
 
@@ -228,9 +258,10 @@ dropPaths gone ps s = record { permissions = ps; facts = factsWithout gone ps s 
 unfoldable pub unlisted : List Permission → List Permission → List Permission
 unlisted ps us = keep (λ p. not (lists ps (pathOf p))) us
 
--- "The remainder is the state without consumed paths and without facts that name them": with W3 these paths are dropped.
-unfoldable pub remainder : State → Shown → State
-remainder s r = dropPaths (unlisted (r .kept) (r .consumed)) (r .kept) s
+-- "The remainder is the state without consumed paths and without facts that name them": with W3 these paths are dropped. kept: what is
+-- left of the entries. W8: what is left of an `acc` is "a `read` of that path with its facts".
+unfoldable pub remainder : State → List Permission → State
+remainder s kept = dropPaths (unlisted kept (s .permissions)) kept s
 
 -- REMOVING
 -- x renamed to the variable `to`, or nothing where that is none
@@ -245,7 +276,7 @@ renameTerm x to (path v f) = bindOption (renameVariable x to v) (λ w. some (pat
 
 unfoldable pub renamePermission : ℕ → Option ℕ → Permission → Option Permission
 renamePermission x to p =
-    bindOption (renameVariable x to (p .variable)) (λ w. some (record { variable = w; field = p .field }))
+    bindOption (renameVariable x to (p .variable)) (λ w. some (entry (p .permit) w (p .field)))
 
 unfoldable pub renamePermissions : ℕ → Option ℕ → List Permission → List Permission
 renamePermissions x to ps = mapOption (renamePermission x to) ps
@@ -279,10 +310,26 @@ addFact n t u s =
     check (ltb (length (s .facts)) most-facts) stateFull
     >> ok (record { permissions = s .permissions; facts = s .facts ++ (record { rel = n; left = t; right = u } ∷ []) })
 
+-- W8: "A `read` added .. where a `read` of an equal path is listed turns the first such into `acc`."
+unfoldable pub joining : Permit → Permission → Option (List Permission)
+joining acc p = none
+joining read p = some (withPermit p acc ∷ [])
+
+unfoldable pub joins : Equality → ℕ → ℕ → Permission → Option (List Permission)
+joins _~_ x f p = cond (names _~_ x f p) (joining (p .permit) p) none
+
+unfoldable pub addRead : ℕ → ℕ → State → Option Split → Try Refusal State
+addRead x f s none = addPermission (entry read x f) s
+addRead x f s (some c) = ok (record { permissions = c .list; facts = s .facts })
+
+unfoldable pub addOwn : Permit → ℕ → ℕ → State → Try Refusal State
+addOwn acc x f s = addPermission (entry acc x f) s
+addOwn read x f s = addRead x f s (split (joins (equalIn s) x f) (s .permissions))
+
 -- "Adding a formula lists its permissions and its resolved facts, in order."
 unfoldable pub add : Formula ℕ → State → Try Refusal State
 add [] s = ok s
-add (acc x f ∷ φ) s = addPermission (record { variable = x; field = f }) s >>= λ s. add φ s
+add (own k x f ∷ φ) s = addOwn k x f s >>= λ s. add φ s
 add (cmp n a b ∷ φ) s = do
   t ← resolve (equalIn s) (s .permissions) a
   u ← resolve (equalIn s) (s .permissions) b
@@ -291,5 +338,5 @@ add (cmp n a b ∷ φ) s = do
 
 -- Everything above computes where this unfolds.
 unfoldable pub opened : Unit {0}
-unfolding pathOf linkedBy representative equalBy equalIn numbers termsOf isNe names resolve links listedUnequal differentNumbers nullAndObject twoEntries holdsIn split showFrom show insert rising inOrder isLeft successor givesWay becomes renameFact trivial renameFacts lists withoutPaths factsWithout dropPaths unlisted remainder renameVariable renameTerm renamePermission renamePermissions standIn removedTerm removeTo remove addPermission addFact add
+unfolding pathOf linkedBy representative equalBy equalIn exceed numbers termsOf isNe names resolve links listedUnequal differentNumbers nullAndObject differ twoEntries holdsIn split leaves withPermit giving takeOwn showFrom show insert rising inOrder isLeft successor givesWay becomes renameFact trivial renameFacts lists withoutPaths factsWithout dropPaths unlisted remainder renameVariable renameTerm renamePermission renamePermissions standIn removedTerm removeTo remove addPermission addFact joining joins addRead addOwn add
 opened = tt

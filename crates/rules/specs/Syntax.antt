@@ -28,9 +28,14 @@ sign = 2147483648
 unfoldable pub offset : ℕ → ℕ
 offset v = (v + sign) % words
 
--- "An atom is three fields: `acc x f`, `eq e e` or `ne e e`."
+-- what an atom claims: `acc x f` the permission to `x.f`, `read x f` half of it
+pub data Permit : Type 0 where
+  acc : Permit
+  read : Permit
+
+-- "An atom is three fields: `acc x f`, `eq e e` or `ne e e`."; W8: "A new atom `read x f` is half a permission"
 pub data Atom (N : Type 0) : Type 0 where
-  acc : N → N → Atom N
+  own : Permit → N → N → Atom N
   cmp : Rel → Expr N → Expr N → Atom N
 
 -- "A formula is 0 to 8 atoms .., joined by the separating star; 0 atoms means true"

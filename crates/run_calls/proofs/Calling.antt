@@ -1,38 +1,39 @@
 -- `call`: the new frame holds what requires takes, which the caller loses.
 use mathlib.Core.Path.{_≡_, refl, sym, ap, _∙_, subst}
-use mathlib.Core.Bool.{Bool, true, false, cond, not}
+use mathlib.Core.Bool.{not}
 use mathlib.Core.List.{List, []}
 use mathlib.Core.Logic.{inl, inr}
 use mathlib.Core.Option.{Option, none, some}
 use Prim.Native.Nat.{ℕ, suc, _+_, _-_, _≤_, _<_}
 use native.Mathlib.Omega.{arith}
-use lib.Dec.{T, eqb}
+use lib.Dec.{eqb}
 use lib.ListN.{length, getD}
 use borrow.Author.Tests.{ne-eqb, eq-eqb, lt-ltb, le-ltb}
 use Rattle.rules.specs.Limits.{most-frames, most-methods}
 use Rattle.rules.specs.Base.{Try, ok, no, _>>=_, _>>_, check}
 use Rattle.rules.specs.Answers.{Stop, nullFollowed}
 use Rattle.rules.specs.Grammar.{Call, statementNumber}
-use Rattle.rules.specs.Machine.{Frame, Location, Config, took, holds, among, without, valueOf, footprint, holding, entryValues, callFrame, entered, callStep}
+use Rattle.rules.specs.Machine.{Frame, Location, Config, took, halves, without, valueOf, footprint, holding, entryValues, callFrame, entered, callStep}
 use Rattle.rules.specs.declared.Machine.{Machine}
-use Rattle.rules.proofs.Sets.{Holds, footprint-held}
-use Rattle.tables.specs.Layout.{frame-variables, holders-at, seconds-at, frames-at}
+use Rattle.rules.proofs.Sets.{halves-without, footprint-held}
+use Rattle.tables.specs.Layout.{frame-variables, holders-at, objects-at, frames-at}
 use Rattle.tables.specs.Decode.{byteAt, halfAt, wordAt, yAt, zAt, memberAt, methodPlace, atomsFrom, atomCount, kindAt, methodCount, methodAt, requiresAt, ensuresAt, firstRowAt}
 use Rattle.tables.specs.Stores.{SameTables}
 use Rattle.tables.proofs.Bytes.{same-trans}
 use Rattle.tables.proofs.Decoding.{tables-same, rows-count-same, kind-same, methods-count-same, first-row-same, ensures-same, requires-same}
 use Rattle.run_heap.specs.declared.Fault.{Fault}
 use Rattle.run_steps.specs.declared.Turn.{Turn}
-use Rattle.run_heap.specs.Views.{frameAt, variableAt, savedHolder, savedRow, methodOf, cellHolder, cellOf, holderIn, holderOf, prepared, nextView, stopOf, frame-holder, frame-row, frame-method}
-use Rattle.run_footprint.specs.Footprints.{marked, takeIn, SmallCells}
+use Rattle.run_heap.specs.Views.{frameAt, variableAt, savedHolder, savedRow, methodOf, halvesAt, cellOf, halvesIn, halvesOf, prepared, nextView, stopOf, frame-holder, frame-row, frame-method}
+use Rattle.run_footprint.specs.Footprints.{marked, takeIn, SharesFit}
 use Rattle.run_steps.specs.States.{FrameIs, CallerIs, CallersAre, Represents, Follows, Does, CanStep, AtKind}
 use Rattle.run_calls.specs.Calls.{Calling, Admits, called, callHere}
 use Rattle.run_heap.proofs.Reading.{cell-small}
 use Rattle.run_steps.proofs.Seeing.{Sees, Matches, FormulaOk, no-footprint, ok-footprint, atoms-ok}
-use Rattle.run_footprint.proofs.Regions.{Only, only-wide, only-tables, only-marked, variable-kept, value-kept, holder-kept}
-use Rattle.run_steps.proofs.Keeping.{SameObjects, SameFrame, same-objects, same-frame, holder-of-kept, frame-kept, ensures-kept, callers-kept, heap-kept}
+use Rattle.run_footprint.proofs.Regions.{Only, only-wide, only-tables, variable-kept, value-kept, halves-kept}
+use Rattle.run_footprint.proofs.Handing.{only-marked}
+use Rattle.run_steps.proofs.Keeping.{SameObjects, SameFrame, same-objects, same-frame, halves-of-kept, frame-kept, ensures-kept, callers-kept, heap-kept}
 use Rattle.run_steps.proofs.Moves.{sees, readable, follow-stop, follow-stop-in, follow-on}
-use Rattle.run_steps.proofs.Changes.{holds-without, marks-only, holder-marked, taken-held, others-kept, heap-marked}
+use Rattle.run_steps.proofs.Changes.{marks-only, marks-tables, lost, gained, others-kept, heap-marked}
 use Rattle.run_steps.proofs.Steps.{frame-holding}
 use Rattle.run_steps.proofs.Doing.{does-on, does-stop, fits}
 use Rattle.run_calls.proofs.Framing.{framed-only, framed-before, framed-method, framed-holder, framed-row, framed-values}
@@ -48,39 +49,37 @@ module _ {w : List ℕ} {c : Machine} {m : Config} (R : Represents w c m) where
       let b : ℕ = frames-at + 8192 in
       let t : SameTables w w′ = only-tables s (omega arith) in
       let S : SameObjects (c .objects) w w′ = same-objects a b w w′ (c .objects) s (inl (omega arith)) (R .heap .most-objects) in
-      let K : (k : ℕ) → k < c .fields → cellHolder w′ k ≡ cellHolder w k =
-      λ k l. holder-kept a b w w′ s (inl (omega arith)) k (omega (arith, R .heap .most-fields)) in
-      let H : (p : Location) → holderOf w′ (c .objects) p ≡ holderOf w (c .objects) p =
-      λ p. holder-of-kept w w′ t (R .tables) (c .objects) (c .fields) p (R .heap .fit) S K in
-      let E : (number : ℕ) (p : Location) → eqb (holderOf w′ (c .objects) p) number ≡ eqb (holderOf w (c .objects) p) number =
-      λ number p. ap (λ (o : ℕ). eqb o number) (H p) in
+      let K : (n k : ℕ) → k < c .fields → halvesAt w′ n k ≡ halvesAt w n k =
+      λ n k l. halves-kept a b w w′ s (inl (omega arith)) n k (omega (arith, R .heap .most-fields)) in
+      let H : (n : ℕ) (p : Location) → halvesOf w′ (c .objects) n p ≡ halvesOf w (c .objects) n p =
+      λ n p. halves-of-kept w w′ t (R .tables) (c .objects) (c .fields) n p (R .heap .fit) S (K n) in
       record {
         tables = tables-same w w′ t (R .tables);
         heap =
             heap-kept w w′ t (R .tables) (c .objects) (c .fields) (c .holders) (c .holders) (m .heap) S
             (λ k l. value-kept a b w w′ s (inl (omega arith)) k (omega (arith, R .heap .most-fields)))
-            (λ k l. rw (K k l) (R .heap .marks k l)) (R .heap);
+            (λ k n l h. K n k l ∙ R .heap .marks k n l h) (R .heap);
         frames = R .frames;
         most = R .most;
         frame =
             frame-kept w w′ t (R .tables) (c .objects) (c .objects) (frameAt i) (c .holder) (c .row) (m .frame)
-            (λ x l. variable-kept a b w w′ s (frameAt i) x (inl (omega arith)) l) (E (c .holder)) (R .frame);
+            (λ x l. variable-kept a b w w′ s (frameAt i) x (inl (omega arith)) l) (H (c .holder)) (R .frame);
         ensures = ensures-kept w w′ t (R .tables) i (m .frame) e (R .ensures);
         callers =
             callers-kept w w′ t (R .tables) (c .objects) (c .objects) (c .holder) (m .callers)
-            (λ j l. same-frame a b w w′ j s (inl (omega arith))) (λ number _ _ p. E number p) (R .callers);
+            (λ j l. same-frame a b w w′ j s (inl (omega arith))) (λ number _ _ p. H number p) (R .callers);
         last = R .last;
         given = R .given;
       }
 
-  -- no location is held by a number above those given out
-  pub holder-most : (p : Location) → holderOf w (c .objects) p ≤ c .holders
-  unfolding holderOf holderIn
-  holder-most p = go (cellOf w (c .objects) (p .object) (p .field)) refl
+  -- nothing is with a number above those given out
+  fresh : (n : ℕ) (p : Location) → c .holders < n → halvesOf w (c .objects) n p ≡ 0
+  unfolding halvesOf halvesIn
+  fresh n p l = go (cellOf w (c .objects) (p .object) (p .field)) refl
     where
-      go : (o : Option ℕ) → cellOf w (c .objects) (p .object) (p .field) ≡ o → holderIn w o ≤ c .holders
-      go none e = omega arith
-      go (some k) e = R .heap .marks k (cell-small (p .object) (p .field) (R .tables) (R .heap .fit) e)
+      go : (o : Option ℕ) → cellOf w (c .objects) (p .object) (p .field) ≡ o → halvesIn w n o ≡ 0
+      go none e = refl
+      go (some k) e = R .heap .marks k n (cell-small (p .object) (p .field) (R .tables) (R .heap .fit) e) l
 
 -- the next frame is in its place
 pub record Prepared (w : List ℕ) (c : Machine) (m : Config) (method : ℕ) (G : Frame) : Type 0 where
@@ -97,98 +96,86 @@ pub record Prepared (w : List ℕ) (c : Machine) (m : Config) (method : ℕ) (G 
 module _ {w : List ℕ} {c : Machine} {m : Config} {method : ℕ} {G : Frame} (R : Represents w c m) (N : Prepared w c m method G) where
   -- requires is read over the caller's set
   pub next-sees : Sees w (nextView c) (m .heap) G
-  unfolding holds
   next-sees =
       let S = sees R in
       let b : frameAt (suc (length (m .callers))) ≡ frameAt (c .frames) = omega (arith, R .frames) in
       record {
         values = λ x l. N .values x l ∙ ap (λ (i : ℕ). variableAt w i x) b;
-        held = λ p. ap (among p) (N .held) ∙ S .held p;
-        numbered = S .numbered;
+        held = λ p. ap (λ (A : List Location). halves A p) (N .held) ∙ S .held p;
         cells = S .cells;
         small = S .small;
         apart = S .apart;
       }
 
-  module _ (A : List Location) (ks : List ℕ) (M : Matches w (c .objects) A ks) (taken : (p : Location) → T (among p A) → Holds (m .frame) p)
-      (fits : c .holders + 1 < 4294967296) where
-    new-marks : Only holders-at seconds-at w (marked w ks (c .holders + 1))
-    new-marks =
-        marks-only w (c .objects) (c .fields) (R .tables) (R .heap .fit) (R .heap .most-objects) (R .heap .most-fields) A ks (c .holders + 1) fits M
+  module _ (A : List Location) (ss : List ℕ) (M : Matches w (c .objects) A ss)
+      (taken : (p : Location) → halves A p ≤ halves (m .frame .held) p) (fits : c .holders + 1 < 4294967296) where
+    new-marks : Only holders-at objects-at w (marked w ss (c .holder) (c .holders + 1))
+    new-marks = marks-only R A ss (c .holders + 1) M
 
-    new-tables : SameTables w (marked w ks (c .holders + 1))
-    new-tables = only-tables new-marks (omega arith)
+    new-tables : SameTables w (marked w ss (c .holder) (c .holders + 1))
+    new-tables = marks-tables R A ss (c .holders + 1) M
 
-    new-holder : (p : Location) → holderOf (marked w ks (c .holders + 1)) (c .objects) p ≡ cond (among p A) (c .holders + 1) (holderOf w (c .objects) p)
-    new-holder p =
-        holder-marked w (c .objects) (c .fields) (R .tables) (R .heap .fit) (R .heap .most-objects) (R .heap .most-fields) A ks (c .holders + 1) fits M p
-        (λ t. omega (arith, taken-held R A taken p t, R .frame .numbered))
+    -- the new number is none of those that hold
+    other : c .holders + 1 ≡ c .holder → ⊥
+    other e = omega (arith, e, R .last)
 
     -- the new frame holds what was taken
-    gained : (p : Location) → among p A ≡ eqb (holderOf (marked w ks (c .holders + 1)) (c .objects) p) (c .holders + 1)
-    gained p = rw (new-holder p) (go (among p A))
-      where
-        go : (a : Bool) → a ≡ eqb (cond a (c .holders + 1) (holderOf w (c .objects) p)) (c .holders + 1)
-        go true = sym (eq-eqb (c .holders + 1) (c .holders + 1) refl)
-        go false = sym (ne-eqb _ (c .holders + 1) (λ e. omega (arith, e, holder-most R p)))
+    handed-over : (p : Location) → halves A p ≡ halvesOf (marked w ss (c .holder) (c .holders + 1)) (c .objects) (c .holders + 1) p
+    handed-over p = omega (arith, gained R A ss (c .holders + 1) M taken fits other p, fresh R (c .holders + 1) p (omega arith))
 
     -- and the caller loses it
-    lost : (p : Location) → among p (without A (m .frame .held)) ≡ eqb (holderOf (marked w ks (c .holders + 1)) (c .objects) p) (c .holder)
-    unfolding holds
-    lost p = holds-without p A (m .frame .held) ∙ rw (new-holder p) (go (among p A))
-      where
-        go : (a : Bool) → cond a false (among p (m .frame .held)) ≡ eqb (cond a (c .holders + 1) (holderOf w (c .objects) p)) (c .holder)
-        go true = sym (ne-eqb (c .holders + 1) (c .holder) (λ e. omega (arith, e, R .last)))
-        go false = R .frame .held p
+    left-over : (p : Location) → halves (without A (m .frame .held)) p ≡ halvesOf (marked w ss (c .holder) (c .holders + 1)) (c .objects) (c .holder) p
+    left-over p =
+        omega (arith, halves-without A (m .frame .held) p, lost R A ss (c .holders + 1) M taken fits other p, R .frame .held p)
 
-    kept-frame : (j : ℕ) → SameFrame j w (marked w ks (c .holders + 1))
-    kept-frame j = same-frame holders-at seconds-at w (marked w ks (c .holders + 1)) j new-marks (inr (omega arith))
+    kept-frame : (j : ℕ) → SameFrame j w (marked w ss (c .holder) (c .holders + 1))
+    kept-frame j = same-frame holders-at objects-at w (marked w ss (c .holder) (c .holders + 1)) j new-marks (inr (omega arith))
 
     the-caller :
         kindAt w (c .row) ≡ statementNumber Call →
-        CallerIs (marked w ks (c .holders + 1)) (c .objects) (length (m .callers)) (c .holders + 1) (holding (without A (m .frame .held)) (m .frame))
+        CallerIs (marked w ss (c .holder) (c .holders + 1)) (c .objects) (length (m .callers)) (c .holders + 1) (holding (without A (m .frame .held)) (m .frame))
     unfolding holding
     the-caller k =
         let i : ℕ = length (m .callers) in
-        let w′ : List ℕ = marked w ks (c .holders + 1) in
+        let w′ : List ℕ = marked w ss (c .holder) (c .holders + 1) in
         let h : savedHolder w′ i ≡ c .holder = kept-frame i .holder ∙ N .holder in
         let r : savedRow w′ i ≡ c .row = kept-frame i .row ∙ N .row in
         record {
           frame =
               rw (h, r)
               (frame-holding (without A (m .frame .held)) (kept-frame i .variables)
-              (rows-count-same w w′ new-tables) lost (R .frame));
+              (rows-count-same w w′ new-tables) left-over (R .frame));
           below = rw h (omega (arith, R .last));
           at-call = rw r (kind-same w w′ new-tables (c .row) (omega (arith, R .frame .row-fits, R .tables .rows)) ∙ k);
           ensures = ensures-kept w w′ new-tables (R .tables) i (m .frame) (kept-frame i .method) (R .ensures);
         }
 
     the-frame :
-        FrameIs (marked w ks (c .holders + 1)) (c .objects) (frameAt (suc (length (m .callers)))) (c .holders + 1) (firstRowAt w method) (holding A G)
-    unfolding holding holds valueOf
+        FrameIs (marked w ss (c .holder) (c .holders + 1)) (c .objects) (frameAt (suc (length (m .callers)))) (c .holders + 1) (firstRowAt w method) (holding A G)
+    unfolding holding valueOf
     the-frame =
-        let w′ : List ℕ = marked w ks (c .holders + 1) in
+        let w′ : List ℕ = marked w ss (c .holder) (c .holders + 1) in
         record {
           size = N .size;
           values = λ x l. N .values x l ∙ sym (kept-frame (suc (length (m .callers))) .variables x l);
           row-is = N .first;
           row-fits = omega (arith, R .tables .method-fits method (N .exists) .block .0, rows-count-same w w′ new-tables);
-          held = gained;
+          held = handed-over;
           numbered = omega arith;
         }
 
     pub enters :
         kindAt w (c .row) ≡ statementNumber Call → c .frames < most-frames →
-        Represents (marked w ks (c .holders + 1)) (called c (firstRowAt w method)) (entered m G A)
+        Represents (marked w ss (c .holder) (c .holders + 1)) (called c (firstRowAt w method)) (entered m G A)
     unfolding entered CallersAre holding
     enters k l =
         let i : ℕ = length (m .callers) in
-        let w′ : List ℕ = marked w ks (c .holders + 1) in
+        let w′ : List ℕ = marked w ss (c .holder) (c .holders + 1) in
         let h : savedHolder w′ i ≡ c .holder = kept-frame i .holder ∙ N .holder in
         let e : methodOf w′ (suc i) ≡ method = kept-frame (suc i) .method ∙ N .is-method in
         record {
           tables = tables-same w w′ new-tables (R .tables);
-          heap = heap-marked R A ks (c .holders + 1) (c .holders + 1) fits M (omega arith) (omega arith);
+          heap = heap-marked R A ss (c .holders + 1) M (c .holders + 1) fits (omega arith) (omega arith);
           frames = omega (arith, R .frames);
           most = omega arith;
           frame = the-frame;
@@ -201,7 +188,7 @@ module _ {w : List ℕ} {c : Machine} {m : Config} {method : ℕ} {G : Frame} (R
             the-caller k,
             rw h
                 (callers-kept w w′ new-tables (R .tables) (c .objects) (c .objects) (c .holder) (m .callers) (λ j _. kept-frame j)
-                (λ n o b p. others-kept R A ks (c .holders + 1) fits M taken n o b (λ z. omega (arith, z, b, R .last)) p) (R .callers)),
+                (λ n _ l p. others-kept R A ss (c .holders + 1) M taken fits n l (λ e. omega (arith, e, l, R .last)) p) (R .callers)),
           );
           last = omega arith;
           given = omega (arith, R .given);
@@ -302,9 +289,9 @@ module _ {w : List ℕ} {c : Machine} {m : Config} (R : Represents w c m) (y z m
   after-null n t = rw (ne-eqb _ 0 (λ e. n (sym this-is ∙ e)))
 
   taken-by : (A : List Location) → footprint (m .heap) (callFrame m (methodAt w method) y z) (requiresAt (prepared w c method o p) method) ≡ ok A →
-      (q : Location) → T (among q A) → Holds (m .frame) q
-  unfolding callFrame holds
-  taken-by A e q t = footprint-held (m .heap) (callFrame m (methodAt w method) y z) _ A e q t
+      (q : Location) → halves A q ≤ halves (m .frame .held) q
+  unfolding callFrame
+  taken-by A e q = footprint-held (m .heap) (callFrame m (methodAt w method) y z) _ A e q
 
   pub call-lacks :
       (s : Fault) → (o ≡ 0 → ⊥) → takeIn (prepared w c method o p) (nextView c) (requiresAt (prepared w c method o p) method) [] ≡ no (stopOf s) →
@@ -317,34 +304,34 @@ module _ {w : List ℕ} {c : Machine} {m : Config} (R : Represents w c m) (y z m
       follow-stop-in R s _ (after-null n _ ∙ rw f′) call-kept
 
   pub call-full :
-      (ks : List ℕ) → (o ≡ 0 → ⊥) → most-frames ≤ c .frames →
-      takeIn (prepared w c method o p) (nextView c) (requiresAt (prepared w c method o p) method) [] ≡ ok ks →
+      (ss : List ℕ) → (o ≡ 0 → ⊥) → most-frames ≤ c .frames →
+      takeIn (prepared w c method o p) (nextView c) (requiresAt (prepared w c method o p) method) [] ≡ ok ss →
       Follows (prepared w c method o p) c (Turn.Stopped Fault.FramesFull) m (took (callStep y (methodAt w method) z m))
   unfolding callStep _>>=_ check _>>_ stopOf
-  call-full ks n l e =
-      let (A, f, M) = ok-footprint (next-sees call-kept call-prepared) _ ks requires-ok e in
+  call-full ss n l e =
+      let (A, f, M) = ok-footprint (next-sees call-kept call-prepared) _ ss requires-ok e in
       let f′ : footprint (m .heap) (callFrame m (methodAt w method) y z) (methodAt w method .requires) ≡ ok A =
       ap (footprint (m .heap) (callFrame m (methodAt w method) y z)) requires-is ∙ f in
       follow-stop-in R Fault.FramesFull _ (after-null n _ ∙ rw (f′, le-ltb (suc (length (m .callers))) most-frames (omega (arith, R .frames)))) call-kept
 
-  pub call-small :
-      (ks : List ℕ) → takeIn (prepared w c method o p) (nextView c) (requiresAt (prepared w c method o p) method) [] ≡ ok ks → SmallCells ks
-  call-small ks e = let (A, f, M) = ok-footprint (next-sees call-kept call-prepared) _ ks requires-ok e in M .small
+  pub call-fit :
+      (ss : List ℕ) → takeIn (prepared w c method o p) (nextView c) (requiresAt (prepared w c method o p) method) [] ≡ ok ss → SharesFit ss
+  call-fit ss e = let (A, f, M) = ok-footprint (next-sees call-kept call-prepared) _ ss requires-ok e in M .fit
 
   pub call-enters :
-      (ks : List ℕ) → (o ≡ 0 → ⊥) → c .frames < most-frames → kindAt w (c .row) ≡ statementNumber Call → c .steps < 4294967295 →
-      takeIn (prepared w c method o p) (nextView c) (requiresAt (prepared w c method o p) method) [] ≡ ok ks →
-      Follows (marked (prepared w c method o p) ks (c .holders + 1)) c
+      (ss : List ℕ) → (o ≡ 0 → ⊥) → c .frames < most-frames → kindAt w (c .row) ≡ statementNumber Call → c .steps < 4294967295 →
+      takeIn (prepared w c method o p) (nextView c) (requiresAt (prepared w c method o p) method) [] ≡ ok ss →
+      Follows (marked (prepared w c method o p) ss (c .holder) (c .holders + 1)) c
       (Turn.On (called c (firstRowAt (prepared w c method o p) method))) m (took (callStep y (methodAt w method) z m))
   unfolding callStep _>>=_ check _>>_
-  call-enters ks n l k h e =
-      let (A, f, M) = ok-footprint (next-sees call-kept call-prepared) _ ks requires-ok e in
+  call-enters ss n l k h e =
+      let (A, f, M) = ok-footprint (next-sees call-kept call-prepared) _ ss requires-ok e in
       let f′ : footprint (m .heap) (callFrame m (methodAt w method) y z) (methodAt w method .requires) ≡ ok A =
       ap (footprint (m .heap) (callFrame m (methodAt w method) y z)) requires-is ∙ f in
       let k′ : kindAt (prepared w c method o p) (c .row) ≡ statementNumber Call =
       kind-same w (prepared w c method o p) call-tables (c .row) (omega (arith, R .frame .row-fits, R .tables .rows)) ∙ k in
       follow-on R _ _ _ (after-null n _ ∙ rw (f′, lt-ltb (suc (length (m .callers))) most-frames (omega (arith, R .frames)))) refl
-      (enters call-kept call-prepared A ks M (taken-by A f) (omega (arith, R .given, R .most)) k′ l)
+      (enters call-kept call-prepared A ss M (taken-by A f) (omega (arith, R .given, R .most)) k′ l)
 
 -- THE CODE
 module _ {w : List ℕ} {c : Machine} (ready : CanStep w c) (k : AtKind w c Call) (y z method o p : ℕ)
@@ -393,7 +380,7 @@ module _ {w : List ℕ} {c : Machine} (ready : CanStep w c) (k : AtKind w c Call
         exists = call-prepared R y z method o p exists ly lz eo ep lo lp lh .exists;
         more = ready .more;
         numbers = omega (arith, numbers);
-        small = λ ks e. call-small R y z method o p exists ly lz eo ep lo lp lh ks e;
+        fit = λ ss e. call-fit R y z method o p exists ly lz eo ep lo lp lh ss e;
       }
 
   stopped-at :
@@ -409,15 +396,15 @@ module _ {w : List ℕ} {c : Machine} (ready : CanStep w c) (k : AtKind w c Call
   pub calls :
       (w′ : List ℕ) (r : Turn) → (o ≡ 0 → ⊥) → Admits (prepared w c method o p) c method w′ r →
       Does w c w′ r (callHere w c)
-  calls w′ (Turn.On d) n (inl (ks, e, (l, q, g))) =
+  calls w′ (Turn.On d) n (inl (ss, e, (l, q, g))) =
       does-on q g
       (same-trans tables-too
-      (only-tables (only-marked (prepared w c method o p) ks (c .holders + 1) (calling .small ks e)) (omega arith)))
-      (λ m R. follow-as _ (Turn.On (called c (firstRowAt (prepared w c method o p) method))) m (call-enters R y z method o p exists ly lz eo ep lo lp lh ks n l k (ready .more) e))
-  calls w′ (Turn.Stopped f) n (inl (ks, e, (l, q, g))) =
+      (only-tables (only-marked (prepared w c method o p) ss (c .holder) (c .holders + 1) (calling .fit ss e)) (omega arith)))
+      (λ m R. follow-as _ (Turn.On (called c (firstRowAt (prepared w c method o p) method))) m (call-enters R y z method o p exists ly lz eo ep lo lp lh ss n l k (ready .more) e))
+  calls w′ (Turn.Stopped f) n (inl (ss, e, (l, q, g))) =
       subst (λ s. Does w c w′ (Turn.Stopped s) (callHere w c)) (sym g)
-      (stopped-at w′ Fault.FramesFull q (λ m R. call-full R y z method o p exists ly lz eo ep lo lp lh ks n l e))
-  calls w′ Turn.Done n (inl (ks, e, b)) = absurd b
+      (stopped-at w′ Fault.FramesFull q (λ m R. call-full R y z method o p exists ly lz eo ep lo lp lh ss n l e))
+  calls w′ Turn.Done n (inl (ss, e, b)) = absurd b
   calls w′ r n (inr (s, e, g, q)) =
       subst (λ t. Does w c w′ t (callHere w c)) (sym g)
       (stopped-at w′ s q (λ m R. call-lacks R y z method o p exists ly lz eo ep lo lp lh s n e))

@@ -1,6 +1,6 @@
 -- `new`: the heap grows by an object, whose locations the running frame holds.
 use mathlib.Core.Path.{_≡_, refl, sym, ap, _∙_, subst}
-use mathlib.Core.Bool.{Bool, true, false, cond, _&&_}
+use mathlib.Core.Bool.{Bool, true, false, cond, _&&_, _||_}
 use mathlib.Core.List.{List, [], _∷_, _++_, map}
 use mathlib.Core.Logic.{_⊎_, inl, inr, ⊎-elim}
 use mathlib.Core.Option.{Option, none, some}
@@ -10,16 +10,16 @@ use native.Mathlib.Omega.{arith}
 use lib.Dec.{T, eqb, ltb, leb, eqb→eq, eqb-refl}
 use lib.ListN.{length, getD, length-append, length-map, List·getD-append}
 use lib.Seq.{getD-append-seam}
-use borrow.Author.Tests.{ne-eqb, eq-eqb, lt-ltb, le-ltb, le-leb, lt-leb}
+use borrow.Author.Tests.{eqb-true, eqb-false, lt-ltb, le-ltb, le-leb, lt-leb}
 use Rattle.rules.specs.Limits.{heap-objects, heap-fields, most-fields, most-classes}
 use Rattle.rules.specs.Base.{Try, ok, no, _>>_, check, any}
 use Rattle.rules.specs.Answers.{Stop, heapFull}
 use Rattle.rules.specs.Grammar.{New, statementNumber}
-use Rattle.rules.specs.Machine.{Heap, Cell, Location, Config, took, holds, among, eqLocation, fieldsIn, object, valueAt, holding, bind, advance, withFrame, newCell, grown, newStep}
+use Rattle.rules.specs.Machine.{Heap, Cell, Location, Config, took, halves, fieldsIn, object, valueAt, holding, bind, advance, withFrame, newCell, wholeOf, grown, newStep}
 use Rattle.rules.specs.declared.Machine.{Machine}
 use Rattle.rules.proofs.Lists.{T-true, F-false, or-left, or-right, or-cases, none-some, decide-eq}
 use Rattle.rules.proofs.Heaps.{grown-other, grown-new}
-use Rattle.rules.proofs.Sets.{in-new}
+use Rattle.rules.proofs.Sets.{at-cases, halves-append, whole-cons, whole-nil, whole-new}
 use Rattle.tables.specs.Layout.{frame-variables, most-names, values-at, frames-at}
 use Rattle.tables.specs.Decode.{run, kindAt, xAt, memberAt, classCount, classAt, fieldsFrom, fieldAt, fieldCountAt, fieldNameAt}
 use Rattle.tables.specs.Tables.{ClassFits, placeAt}
@@ -30,19 +30,20 @@ use Rattle.tables.proofs.Decoding.{tables-same, rows-count-same, kind-same, cla
 use Rattle.run_heap.specs.declared.Fault.{Fault}
 use Rattle.run_steps.specs.declared.Turn.{Turn}
 use Rattle.run_heap.specs.declared.View.{View}
-use Rattle.run_heap.specs.Views.{frameAt, cellValue, cellHolder, classIn, firstIn, cellOf, holderIn, holderOf, made, viewOf, stopOf, ObjectFits}
+use Rattle.run_heap.specs.Views.{frameAt, cellValue, one, halvesAt, classIn, firstIn, cellOf, halvesIn, halvesOf, made, viewOf, stopOf, ObjectFits}
 use Rattle.run_steps.specs.States.{HeapIs, Represents, Follows, Does, CanStep, AtKind, atRow, NotEnd}
 use Rattle.run_calls.specs.Calls.{larger, newHere}
+use Rattle.run_heap.proofs.Halves.{one-same, one-other}
 use Rattle.run_heap.proofs.Reading.{Placed, cell-placed, cell-small, cell-beyond, cell-null, cell-some, bound-free, place-found}
-use Rattle.run_steps.proofs.Seeing.{bool-iff, at}
+use Rattle.run_steps.proofs.Seeing.{at}
 use Rattle.run_footprint.proofs.Regions.{Only, only-tables, only-word}
 use Rattle.run_steps.proofs.Keeping.{SameObjects, same-frame, cell-kept, fits-kept, ensures-kept, callers-kept}
 use Rattle.run_steps.proofs.Moves.{moved-to, next-is, next-fits, follow-stop, follow-on}
-use Rattle.run_steps.proofs.Changes.{among-append, put-variable}
+use Rattle.run_steps.proofs.Changes.{put-variable}
 use Rattle.run_steps.proofs.Steps.{frame-holding}
 use Rattle.run_steps.proofs.Heaps.{Has}
 use Rattle.run_steps.proofs.Doing.{does-on, does-stop, fits, frames-fit}
-use Rattle.run_calls.proofs.Making.{made-only, made-class, made-first, made-objects, old-value, old-holder, new-value, new-holder}
+use Rattle.run_calls.proofs.Making.{made-only, made-class, made-first, made-objects, old-value, old-halves, new-value, new-halves}
 
 -- FIELDS OF A CLASS
 class-has :
@@ -68,23 +69,38 @@ has-name w c j (suc n) f t =
     (suc p, omega arith, rw s at e))
     (or-cases (eqb (fieldNameAt w c j) f) _ t)
 
-eqb-comm : (a b : ℕ) → eqb a b ≡ eqb b a
-eqb-comm a b =
-    bool-iff (eqb a b) (eqb b a) (λ t. subst (λ i. T (eqb i a)) (eqb→eq a b t) (eqb-refl a))
-    (λ t. subst (λ i. T (eqb i b)) (eqb→eq b a t) (eqb-refl b))
+-- the locations of a new object: of each field both halves
+whole-made :
+    (o f : ℕ) (cs : List Cell) → halves (wholeOf o cs) (at o f) ≡ cond (any (λ c. eqb (c .name) f) cs) 2 0
+unfolding any
+whole-made o f [] = whole-nil o (at o f)
+whole-made o f (c ∷ cs) = go (whole-made o f cs) (eqb (c .name) f) refl
+  where
+    named : (b : Bool) → 1 ≤ cond b 2 0 → _≡_ {A = ℕ} (cond b 2 0) 2
+    named true l = refl
+    named false l = absurd (omega arith)
 
--- the locations of a new object
-among-made :
-    (o f : ℕ) (cs : List Cell) →
-    among (at o f) (map (λ c. record { object = o; field = c .name }) cs) ≡ any (λ c. eqb (c .name) f) cs
-unfolding among any eqLocation
-among-made o f [] = refl
-among-made o f (c ∷ cs) = rw (eq-eqb o o refl, eqb-comm f (c .name), among-made o f cs)
+    go :
+        halves (wholeOf o cs) (at o f) ≡ cond (any (λ c. eqb (c .name) f) cs) 2 0 → (b : Bool) → eqb (c .name) f ≡ b →
+        halves (wholeOf o (c ∷ cs)) (at o f) ≡ cond (b || any (λ c. eqb (c .name) f) cs) 2 0
+    go g true e =
+        let q : at o f ≡ at o (c .name) = ap (at o) (sym (eqb-true (c .name) f e)) in
+        let r : halves (wholeOf o cs) (at o f) ≡ halves (wholeOf o cs) (at o (c .name)) = ap (halves (wholeOf o cs)) q in
+        ⊎-elim
+        (λ (z, h). ⊎-elim (λ (_, i). omega (arith, z, h, r, i)) (λ (d, _). absurd (d q)) (at-cases (at o (c .name)) (at o f)))
+        (λ (z, h). h ∙ (g ∙ named (any (λ c. eqb (c .name) f) cs) (omega (arith, g, z, r))))
+        (whole-cons o c cs (at o f))
+    go g false e =
+        let d : at o f ≡ at o (c .name) → ⊥ = λ q. eqb-false (c .name) f e (ap (λ (p : Location). p .field) (sym q)) in
+        ⊎-elim
+        (λ (z, h).
+        ⊎-elim (λ (q, _). absurd (d q)) (λ (_, i). omega (arith, h, i, g)) (at-cases (at o (c .name)) (at o f)))
+        (λ (z, h). h ∙ g)
+        (whole-cons o c cs (at o f))
 
-other-made :
-    (o : ℕ) (p : Location) (cs : List Cell) → (p .object ≡ o → ⊥) →
-    among p (map (λ c. record { object = o; field = c .name }) cs) ≡ false
-other-made o p cs d = F-false _ (λ t. d (in-new p o cs t))
+other-made : (o : ℕ) (p : Location) (cs : List Cell) → (p .object ≡ o → ⊥) → halves (wholeOf o cs) p ≡ 0
+other-made o p cs d =
+    ⊎-elim (λ z. z) (λ z. absurd (d (whole-new o cs p (omega arith)))) (decide-eq (halves (wholeOf o cs) p) 0)
 
 fields-more : (h : Heap) (o : List Cell) → fieldsIn (h ++ (o ∷ [])) ≡ fieldsIn h + length o
 unfolding fieldsIn
@@ -114,7 +130,7 @@ module _ {w : List ℕ} {c : Machine} {m : Config} (R : Represents w c m) (class
   cells = map newCell (classAt w class)
 
   abbrev gained : List Location
-  gained = map (λ c. record { object = suc (length (m .heap)); field = c .name }) (map newCell (classAt w class))
+  gained = wholeOf (suc (length (m .heap))) (map newCell (classAt w class))
 
   s : Only values-at frames-at w w′
   s = made-only w n (c .fields) count class (c .holder) (R .tables .size) lo lf lh
@@ -161,8 +177,8 @@ module _ {w : List ℕ} {c : Machine} {m : Config} (R : Represents w c m) (class
           (placeAt w class f, F .0, F .1, P .is-cell ∙ rw (pl, q, last-first))
 
   -- WHO HOLDS
-  old-cells-held : (j : ℕ) → j < c .fields → cellHolder w′ j ≡ cellHolder w j
-  old-cells-held j l = old-holder w n (c .fields) count class (c .holder) (R .tables .size) lo lf lh j l
+  old-cells-held : (number j : ℕ) → j < c .fields → halvesAt w′ number j ≡ halvesAt w number j
+  old-cells-held number j l = old-halves w n (c .fields) count class (c .holder) (R .tables .size) lo lf lh number j l
 
   -- a field of the class has a cell
   no-cell : (f : ℕ) → cellOf w′ (n + 1) (suc n) f ≡ none → T (any (λ c. eqb (c .name) f) cells) → ⊥
@@ -176,20 +192,22 @@ module _ {w : List ℕ} {c : Machine} {m : Config} (R : Represents w c m) (class
       let here : placeAt w′ (classIn w′ n) f ≡ j = ap (λ (i : ℕ). placeAt w′ i f) last-class ∙ (place-in f lf′ ∙ pl) in
       none-some (sym e ∙ cell-some w′ (n + 1) n f (omega arith) lf′ (λ z. omega (arith, z, here, l, class-fits .count)))
 
-  beyond : (p : Location) → p .object ≡ suc n → holderOf w n p ≡ 0
-  unfolding holderOf holderIn
-  beyond p e = rw (e, cell-beyond w n n (p .field) (omega arith))
+  beyond : (number : ℕ) (p : Location) → p .object ≡ suc n → halvesOf w n number p ≡ 0
+  unfolding halvesOf halvesIn
+  beyond number p e = rw (e, cell-beyond w n n (p .field) (omega arith))
 
   -- an older object's locations are held as before
-  old-held : (p : Location) → (p .object ≡ suc n → ⊥) → holderOf w′ (n + 1) p ≡ holderOf w n p
-  unfolding holderOf holderIn
-  old-held p d = go (p .object) refl
+  old-held : (number : ℕ) (p : Location) → (p .object ≡ suc n → ⊥) → halvesOf w′ (n + 1) number p ≡ halvesOf w n number p
+  unfolding halvesOf halvesIn
+  old-held number p d = go (p .object) refl
     where
-      held-same : (o : Option ℕ) → ((k : ℕ) → o ≡ some k → k < c .fields) → holderIn w′ o ≡ holderIn w o
+      held-same : (o : Option ℕ) → ((k : ℕ) → o ≡ some k → k < c .fields) → halvesIn w′ number o ≡ halvesIn w number o
       held-same none h = refl
-      held-same (some k) h = old-cells-held k (h k refl)
+      held-same (some k) h = old-cells-held number k (h k refl)
 
-      go : (o : ℕ) → p .object ≡ o → holderIn w′ (cellOf w′ (n + 1) o (p .field)) ≡ holderIn w (cellOf w n o (p .field))
+      go :
+          (o : ℕ) → p .object ≡ o →
+          halvesIn w′ number (cellOf w′ (n + 1) o (p .field)) ≡ halvesIn w number (cellOf w n o (p .field))
       go zero e = rw (cell-null w′ (n + 1) (p .field), cell-null w n (p .field))
       go (suc i) e =
           ⊎-elim
@@ -200,61 +218,69 @@ module _ {w : List ℕ} {c : Machine} {m : Config} (R : Represents w c m) (class
           rw (cell-beyond w′ (n + 1) i (p .field) l′, cell-beyond w n i (p .field) l))
           (below-or i n)
 
-  -- the new object's are held by the running frame
-  new-held : (p : Location) → p .object ≡ suc n → holderOf w′ (n + 1) p ≡ cond (any (λ c. eqb (c .name) (p .field)) cells) (c .holder) 0
-  unfolding holderOf holderIn classAt
-  new-held p e = rw e (go (cellOf w′ (n + 1) (suc n) (p .field)) refl)
+  -- has the new object a field of this name?
+  abbrev named : Location → Bool
+  named p = any (λ c. eqb (c .name) (p .field)) cells
+
+  -- both halves of the new object's are with the running frame's number
+  new-held :
+      (number : ℕ) (p : Location) → p .object ≡ suc n →
+      halvesOf w′ (n + 1) number p ≡ cond (named p) (one (eqb (c .holder) number) + one (eqb (c .holder) number)) 0
+  unfolding halvesOf halvesIn classAt
+  new-held number p e = rw e (go (cellOf w′ (n + 1) (suc n) (p .field)) refl)
     where
-      go :
-          (o : Option ℕ) → cellOf w′ (n + 1) (suc n) (p .field) ≡ o →
-          holderIn w′ o ≡ cond (any (λ c. eqb (c .name) (p .field)) cells) (c .holder) 0
-      go none q = rw (F-false (any (λ c. eqb (c .name) (p .field)) cells) (λ h. no-cell (p .field) q h))
+      both : ℕ
+      both = one (eqb (c .holder) number) + one (eqb (c .holder) number)
+
+      go : (o : Option ℕ) → cellOf w′ (n + 1) (suc n) (p .field) ≡ o → halvesIn w′ number o ≡ cond (named p) both 0
+      go none q = rw (F-false (named p) (λ h. no-cell (p .field) q h))
       go (some k) q =
           let (j, l, f, g) = new-cell (p .field) k q in
           let h : Has (map newCell (fieldsFrom w class 0 count)) (fieldNameAt w class (0 + j)) = class-has w class 0 count j l in
           let z : 0 + j ≡ j = omega arith in
-          let h′ : T (any (λ c. eqb (c .name) (p .field)) cells) =
-          subst (λ i. Has (map newCell (fieldsFrom w class 0 count)) i) (ap (fieldNameAt w class) z ∙ f) h in
-          ap (cellHolder w′) g
-          ∙ (new-holder w n (c .fields) count class (c .holder) (R .tables .size) lo lf lh j l
-          ∙ sym (ap (λ (b : Bool). cond b (c .holder) 0) (T-true (any (λ c. eqb (c .name) (p .field)) cells) h′)))
+          let h′ : T (named p) = subst (λ i. Has (map newCell (fieldsFrom w class 0 count)) i) (ap (fieldNameAt w class) z ∙ f) h in
+          ap (halvesAt w′ number) g
+          ∙ (new-halves w n (c .fields) count class (c .holder) (R .tables .size) lo lf lh number j l
+          ∙ sym (ap (λ (b : Bool). cond b both 0) (T-true (named p) h′)))
 
   -- the set of the running frame
   heap-next : suc (length (m .heap)) ≡ suc n
   heap-next = ap suc (R .heap .count)
 
-  more-held : (p : Location) → among p (m .frame .held ++ gained) ≡ eqb (holderOf w′ (n + 1) p) (c .holder)
-  unfolding holds
-  more-held p = among-append p (m .frame .held) gained ∙ ⊎-elim at-new at-old (decide-eq (p .object) (suc n))
+  more-held : (p : Location) → halves (m .frame .held ++ gained) p ≡ halvesOf w′ (n + 1) (c .holder) p
+  more-held p = ⊎-elim at-new at-old (decide-eq (p .object) (suc n))
     where
-      at-new : p .object ≡ suc n → cond (among p gained) true (among p (m .frame .held)) ≡ eqb (holderOf w′ (n + 1) p) (c .holder)
+      at-new : p .object ≡ suc n → halves (m .frame .held ++ gained) p ≡ halvesOf w′ (n + 1) (c .holder) p
       at-new e =
-          let q : among p gained ≡ any (λ c. eqb (c .name) (p .field)) cells =
-          ap (λ (i : ℕ). among (at i (p .field)) gained) (e ∙ sym heap-next) ∙ among-made (suc (length (m .heap))) (p .field) cells in
-          rw (q, new-held p e) (go (any (λ c. eqb (c .name) (p .field)) cells))
-        where
-          go : (b : Bool) → cond b true (among p (m .frame .held)) ≡ eqb (cond b (c .holder) 0) (c .holder)
-          go true = sym (eq-eqb (c .holder) (c .holder) refl)
-          go false = R .frame .held p ∙ ap (λ (i : ℕ). eqb i (c .holder)) (beyond p e)
+          let q : halves gained p ≡ cond (named p) 2 0 =
+          ap (λ (i : ℕ). halves gained (at i (p .field))) (e ∙ sym heap-next) ∙ whole-made (suc (length (m .heap))) (p .field) cells in
+          let h : halvesOf w′ (n + 1) (c .holder) p ≡ cond (named p) 2 0 =
+          new-held (c .holder) p e ∙ ap (λ (i : ℕ). cond (named p) (i + i) 0) (one-same {a = c .holder} refl) in
+          omega (arith, halves-append (m .frame .held) gained p, R .frame .held p, beyond (c .holder) p e, q, h)
 
-      at-old : (p .object ≡ suc n → ⊥) → cond (among p gained) true (among p (m .frame .held)) ≡ eqb (holderOf w′ (n + 1) p) (c .holder)
+      at-old : (p .object ≡ suc n → ⊥) → halves (m .frame .held ++ gained) p ≡ halvesOf w′ (n + 1) (c .holder) p
       at-old d =
-          rw (other-made (suc (length (m .heap))) p cells (λ e. d (e ∙ heap-next)), old-held p d) (R .frame .held p)
+          omega (
+            arith,
+            halves-append (m .frame .held) gained p,
+            other-made (suc (length (m .heap))) p cells (λ e. d (e ∙ heap-next)),
+            R .frame .held p,
+            old-held (c .holder) p d,
+          )
 
   others-held :
-      (number : ℕ) → 1 ≤ number → number < c .holder → (p : Location) →
-      eqb (holderOf w′ (n + 1) p) number ≡ eqb (holderOf w n p) number
-  others-held number o b p = ⊎-elim at-new (λ d. ap (λ (i : ℕ). eqb i number) (old-held p d)) (decide-eq (p .object) (suc n))
+      (number : ℕ) → 1 ≤ number → number < c .holder → (p : Location) → halvesOf w′ (n + 1) number p ≡ halvesOf w n number p
+  others-held number o b p = ⊎-elim at-new (old-held number p) (decide-eq (p .object) (suc n))
     where
-      go : (a : Bool) → eqb (cond a (c .holder) 0) number ≡ false
-      go true = ne-eqb (c .holder) number (λ e. omega (arith, e, b))
-      go false = ne-eqb 0 number (λ e. omega (arith, e, o))
+      none-with : (a : Bool) → _≡_ {A = ℕ} (cond a 0 0) 0
+      none-with true = refl
+      none-with false = refl
 
-      at-new : p .object ≡ suc n → eqb (holderOf w′ (n + 1) p) number ≡ eqb (holderOf w n p) number
+      at-new : p .object ≡ suc n → halvesOf w′ (n + 1) number p ≡ halvesOf w n number p
       at-new e =
-          ap (λ (i : ℕ). eqb i number) (new-held p e)
-          ∙ (go (any (λ c. eqb (c .name) (p .field)) cells)
-          ∙ sym (ap (λ (i : ℕ). eqb i number) (beyond p e) ∙ ne-eqb 0 number (λ z. omega (arith, z, o))))
+          new-held number p e
+          ∙ (ap (λ (i : ℕ). cond (named p) (i + i) 0) (one-other {a = c .holder} {h = number} (λ z. omega (arith, z, b)))
+          ∙ (none-with (named p) ∙ sym (beyond number p e)))
 
   -- THE HEAP
   index-cases : (i : ℕ) → i < n + 1 → (i < n) ⊎ (i ≡ n)
@@ -336,14 +362,19 @@ module _ {w : List ℕ} {c : Machine} {m : Config} (R : Represents w c m) (class
           let z : 0 + j ≡ j = omega arith in
           subst (λ (i : ℕ). Has (map newCell (fieldsFrom w class 0 count)) i) (ap (fieldNameAt w class) z ∙ q) (class-has w class 0 count j l)
 
-  grown-marks : (k : ℕ) → k < c .fields + count → cellHolder w′ k ≤ c .holders
-  grown-marks k l =
+  grown-marks : (k number : ℕ) → k < c .fields + count → c .holders < number → halvesAt w′ number k ≡ 0
+  grown-marks k number l o =
       ⊎-elim
-      (λ (h : k < c .fields). rw (old-cells-held k h) (R .heap .marks k h))
+      (λ (h : k < c .fields). old-cells-held number k h ∙ R .heap .marks k number h o)
       (λ (h : c .fields ≤ k).
       let j : k ≡ c .fields + (k - c .fields) = omega arith in
-      subst (λ (i : ℕ). cellHolder w′ i ≤ c .holders) (sym j)
-      (rw (new-holder w n (c .fields) count class (c .holder) (R .tables .size) lo lf lh (k - c .fields) (omega arith)) (R .last)))
+      let z : one (eqb (c .holder) number) ≡ 0 = one-other {a = c .holder} {h = number} (λ e. omega (arith, e, o, R .last)) in
+      subst (λ (i : ℕ). halvesAt w′ number i ≡ 0) (sym j)
+      (omega (
+        arith,
+        new-halves w n (c .fields) count class (c .holder) (R .tables .size) lo lf lh number (k - c .fields) (omega arith),
+        z,
+      )))
       (below-or k (c .fields))
 
   size-of-cells : length cells ≡ count

@@ -4,13 +4,15 @@ use mathlib.Core.List.{List}
 use mathlib.Core.Logic.{inl, inr}
 use Prim.Native.Nat.{ℕ, _+_, _*_, _≤_, _<_}
 use native.Mathlib.Omega.{arith}
+use lib.Dec.{eqb}
 use lib.ListN.{length, set}
 use lib.Seq.{getD-set-same}
 use Rattle.rules.specs.Limits.{work-bytes, heap-objects, heap-fields}
-use Rattle.tables.specs.Layout.{values-at, holders-at, seconds-at, objects-at, frames-at}
+use Rattle.tables.specs.Layout.{values-at, holders-at, objects-at, frames-at}
+use Rattle.tables.specs.Decode.{wordAt}
 use Rattle.tables.specs.Stores.{putHalf}
 use Rattle.tables.proofs.Bytes.{half-put, word-kept, half-kept}
-use Rattle.run_heap.specs.Views.{cellValue, cellHolder, classIn, firstIn, fill, made}
+use Rattle.run_heap.specs.Views.{cellValue, holdersAt, firstHolder, secondHolder, one, halvesAt, classIn, firstIn, fill, made}
 use Rattle.run_footprint.proofs.Regions.{Only, only-trans, only-wide, only-half, only-byte, only-fill, only-kept, fill-word, class-in-kept, first-in-kept}
 use Rattle.run_steps.proofs.Keeping.{SameObjects}
 
@@ -26,7 +28,7 @@ module _ (w : List ℕ) (i k n class holder : ℕ) (size : length w ≡ work-byt
   u3 = fill u2 (values-at + k * 4) n 0
 
   u4 : List ℕ
-  u4 = fill u3 (holders-at + k * 4) n holder
+  u4 = fill u3 (holders-at + k * 8) (n * 2) holder
 
   is-made : made w i k n class holder ≡ u4
   unfolding made u4 u3 u2 u1
@@ -44,9 +46,9 @@ module _ (w : List ℕ) (i k n class holder : ℕ) (size : length w ≡ work-byt
   unfolding u3
   to-3 = only-fill _ _ u2 (values-at + k * 4) n 0 (omega arith) (omega arith)
 
-  to-4 : Only (holders-at + k * 4) (holders-at + k * 4 + n * 4) u3 u4
+  to-4 : Only (holders-at + k * 8) (holders-at + k * 8 + n * 8) u3 u4
   unfolding u4
-  to-4 = only-fill _ _ u3 (holders-at + k * 4) n holder (omega arith) (omega arith)
+  to-4 = only-fill _ _ u3 (holders-at + k * 8) (n * 2) holder (omega arith) (omega arith)
 
   pub made-only : Only values-at frames-at w (made w i k n class holder)
   made-only =
@@ -103,14 +105,18 @@ module _ (w : List ℕ) (i k n class holder : ℕ) (size : length w ≡ work-byt
       ∙ (word-kept values-at holders-at u1 u2 (only-kept to-2 values-at holders-at (inl (omega arith))) (values-at + j * 4) (omega arith) (omega arith)
       ∙ word-kept values-at holders-at w u1 (only-kept to-1 values-at holders-at (inl (omega arith))) (values-at + j * 4) (omega arith) (omega arith))))
 
-  pub old-holder : (j : ℕ) → j < k → cellHolder (made w i k n class holder) j ≡ cellHolder w j
-  unfolding cellHolder
-  old-holder j l =
+  old-word : (a : ℕ) → holders-at ≤ a → a + 4 ≤ holders-at + k * 8 → wordAt (made w i k n class holder) a ≡ wordAt w a
+  old-word a l h =
       rw is-made
-      (word-kept holders-at (holders-at + k * 4) u3 u4 (only-kept to-4 holders-at (holders-at + k * 4) (inl (omega arith))) (holders-at + j * 4) (omega arith) (omega arith)
-      ∙ (word-kept holders-at seconds-at u2 u3 (only-kept to-3 holders-at seconds-at (inr (omega arith))) (holders-at + j * 4) (omega arith) (omega arith)
-      ∙ (word-kept holders-at seconds-at u1 u2 (only-kept to-2 holders-at seconds-at (inl (omega arith))) (holders-at + j * 4) (omega arith) (omega arith)
-      ∙ word-kept holders-at seconds-at w u1 (only-kept to-1 holders-at seconds-at (inl (omega arith))) (holders-at + j * 4) (omega arith) (omega arith))))
+      (word-kept holders-at (holders-at + k * 8) u3 u4 (only-kept to-4 holders-at (holders-at + k * 8) (inl (omega arith))) a l h
+      ∙ (word-kept holders-at objects-at u2 u3 (only-kept to-3 holders-at objects-at (inr (omega arith))) a l (omega arith)
+      ∙ (word-kept holders-at objects-at u1 u2 (only-kept to-2 holders-at objects-at (inl (omega arith))) a l (omega arith)
+      ∙ word-kept holders-at objects-at w u1 (only-kept to-1 holders-at objects-at (inl (omega arith))) a l (omega arith))))
+
+  pub old-halves : (number j : ℕ) → j < k → halvesAt (made w i k n class holder) number j ≡ halvesAt w number j
+  unfolding halvesAt firstHolder secondHolder
+  old-halves number j l =
+      rw (old-word (holdersAt j) (omega arith) (omega arith), old-word (holdersAt j + 4) (omega arith) (omega arith))
 
   pub new-value : (j : ℕ) → j < n → cellValue (made w i k n class holder) (k + j) ≡ 0
   unfolding cellValue u3
@@ -120,8 +126,18 @@ module _ (w : List ℕ) (i k n class holder : ℕ) (size : length w ≡ work-byt
       (word-kept values-at holders-at u3 u4 (only-kept to-4 values-at holders-at (inl (omega arith))) (values-at + k * 4 + j * 4) (omega arith) (omega arith)
       ∙ fill-word u2 (values-at + k * 4) n 0 j (omega (arith, size, to-1 .size, to-2 .size)) (omega arith) l)
 
-  pub new-holder : (j : ℕ) → j < n → cellHolder (made w i k n class holder) (k + j) ≡ holder
-  unfolding cellHolder u4
-  new-holder j l =
-      let e : holders-at + (k + j) * 4 ≡ holders-at + k * 4 + j * 4 = omega arith in
-      rw (is-made, e) (fill-word u3 (holders-at + k * 4) n holder j (omega (arith, size, to-1 .size, to-2 .size, to-3 .size)) lh l)
+  new-word : (a j : ℕ) → a ≡ holders-at + k * 8 + j * 4 → j < n * 2 → wordAt (made w i k n class holder) a ≡ holder
+  unfolding u4
+  new-word a j e l =
+      rw (is-made, e) (fill-word u3 (holders-at + k * 8) (n * 2) holder j (omega (arith, size, to-1 .size, to-2 .size, to-3 .size)) lh l)
+
+  -- both halves of each are with the number
+  pub new-halves :
+      (number j : ℕ) → j < n →
+      halvesAt (made w i k n class holder) number (k + j) ≡ one (eqb holder number) + one (eqb holder number)
+  unfolding halvesAt firstHolder secondHolder
+  new-halves number j l =
+      rw (
+        new-word (holdersAt (k + j)) (j * 2) (omega arith) (omega arith),
+        new-word (holdersAt (k + j) + 4) (j * 2 + 1) (omega arith) (omega arith),
+      )

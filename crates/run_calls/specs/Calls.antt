@@ -12,7 +12,7 @@ use Rattle.tables.specs.Decode.{xAt, yAt, zAt, memberAt, classAt, methodAt, met
 use Rattle.run_heap.specs.declared.Fault.{Fault}
 use Rattle.run_steps.specs.declared.Turn.{Turn}
 use Rattle.run_heap.specs.Views.{nextView, Readable, stopOf}
-use Rattle.run_footprint.specs.Footprints.{footprint-cells, marked, takeIn, SmallCells}
+use Rattle.run_footprint.specs.Footprints.{footprint-shares, marked, takeIn, SharesFit}
 use Rattle.run_steps.specs.States.{most-count}
 
 -- WHAT THE DEFINITIONS DO at the row, by its operands
@@ -38,12 +38,12 @@ called c row =
       steps = c .steps + 1;
     }
 
--- a call is entered with these cells, unless frames are full
+-- a call is entered with these shares, unless frames are full
 abbrev pub Enters : List ℕ → Machine → ℕ → List ℕ → List ℕ → Turn → Type 0
-Enters w c method ks w′ (Turn.On d) =
-    (c .frames < most-frames) × (w′ ≡ marked w ks (c .holders + 1)) × (d ≡ called c (firstRowAt w method))
-Enters w c method ks w′ (Turn.Stopped f) = (most-frames ≤ c .frames) × (w′ ≡ w) × (f ≡ Fault.FramesFull)
-Enters w c method ks w′ Turn.Done = ⊥
+Enters w c method ss w′ (Turn.On d) =
+    (c .frames < most-frames) × (w′ ≡ marked w ss (c .holder) (c .holders + 1)) × (d ≡ called c (firstRowAt w method))
+Enters w c method ss w′ (Turn.Stopped f) = (most-frames ≤ c .frames) × (w′ ≡ w) × (f ≡ Fault.FramesFull)
+Enters w c method ss w′ Turn.Done = ⊥
 
 -- an object more, with n fields
 abbrev pub larger : Machine → ℕ → ℕ → Machine
@@ -58,20 +58,20 @@ larger c n steps =
       steps = steps;
     }
 
--- `call`: requires took these cells
-pub record Entering (w : List ℕ) (c : Machine) (method : ℕ) (cells : List ℕ) (n : ℕ) : Type 0 where
+-- `call`: requires took these shares
+pub record Entering (w : List ℕ) (c : Machine) (method : ℕ) (shares : List ℕ) (n : ℕ) : Type 0 where
   pub area : length w ≡ work-bytes
   pub method-fits : method < most-methods
   pub more : c .steps < most-count
   pub numbers : c .holders < most-count
-  pub size : length cells ≡ footprint-cells
-  pub count : n ≤ footprint-cells
-  pub small : SmallCells (take n cells)
+  pub size : length shares ≡ footprint-shares
+  pub count : n ≤ footprint-shares
+  pub fit : SharesFit (take n shares)
 
--- requires takes cells, and the call is entered; or it does not, and nothing is changed
+-- requires takes shares, and the call is entered; or it does not, and nothing is changed
 abbrev pub Admits : List ℕ → Machine → ℕ → List ℕ → Turn → Type 0
 Admits w c method w′ r =
-    ((ks : List ℕ) × (takeIn w (nextView c) (requiresAt w method) [] ≡ ok ks) × Enters w c method ks w′ r)
+    ((ss : List ℕ) × (takeIn w (nextView c) (requiresAt w method) [] ≡ ok ss) × Enters w c method ss w′ r)
     ⊎ ((s : Fault) × (takeIn w (nextView c) (requiresAt w method) [] ≡ no (stopOf s)) × (r ≡ Turn.Stopped s) × (w′ ≡ w))
 
 -- `call` with the next frame in its place
@@ -80,4 +80,4 @@ pub record Calling (w : List ℕ) (c : Machine) (method : ℕ) : Type 0 where
   pub exists : method < methodCount w
   pub more : c .steps < most-count
   pub numbers : c .holders < most-count
-  pub small : (ks : List ℕ) → takeIn w (nextView c) (requiresAt w method) [] ≡ ok ks → SmallCells ks
+  pub fit : (ss : List ℕ) → takeIn w (nextView c) (requiresAt w method) [] ≡ ok ss → SharesFit ss

@@ -1,6 +1,6 @@
 // `call` and `new`: a frame more, and an object more.
 use rules::Machine;
-use run_footprint::Cells;
+use run_footprint::Shares;
 use run_footprint::Took;
 use run_heap::Fault;
 use run_heap::Stores;
@@ -32,15 +32,15 @@ fn call_in(c: Machine, row: u32) -> Machine
 }
 
 // "the new frame's A is the footprint of requires": after it frames full.
-fn enter(work: &mut [u8], c: Machine, m: usize, cells: &Cells, n: usize) -> Turn
-    requires { ⌜ Entering (now work) c m (now cells) n ⌝ }
-    ensures { λ r. ⌜ Enters (now (work .entry)) c m (take n (now (cells .entry))) (now (work .exit)) r ⌝ }
+fn enter(work: &mut [u8], c: Machine, m: usize, shares: &Shares, n: usize) -> Turn
+    requires { ⌜ Entering (now work) c m (now shares) n ⌝ }
+    ensures { λ r. ⌜ Enters (now (work .entry)) c m (take n (now (shares .entry))) (now (work .exit)) r ⌝ }
 {
     if Machine::FRAMES as u32 <= c.frames {
         return Turn::Stopped(Fault::FramesFull);
     }
     let row = tables::first_row_at(work, m);
-    run_footprint::mark(work, cells, n, c.holders + 1);
+    run_footprint::mark(work, shares, n, c.holder, c.holders + 1);
     Turn::On(call_in(c, row as u32))
 }
 
@@ -57,9 +57,9 @@ fn admit(work: &mut [u8], c: Machine, m: usize) -> Turn
     };
     let first = tables::requires_first(work, m);
     let n = tables::requires_count(work, m);
-    let mut cells = [0usize; run_footprint::CELLS];
-    match run_footprint::footprint(work, v, first, n, &mut cells) {
-        Took::Cells(k) => enter(work, c, m, &cells, k),
+    let mut shares = [0usize; run_footprint::SHARES];
+    match run_footprint::footprint(work, v, first, n, &mut shares) {
+        Took::Shares(k) => enter(work, c, m, &shares, k),
         Took::Lacking(s) => Turn::Stopped(s),
     }
 }

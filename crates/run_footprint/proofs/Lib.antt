@@ -1,4 +1,5 @@
-pub mod Cells
-pub mod Taking
+pub mod Shares
 pub mod Regions
+pub mod Handing
+pub mod Taking
 pub mod Sieves

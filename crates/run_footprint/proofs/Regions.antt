@@ -1,23 +1,17 @@
 -- Stores change bytes of one region alone: what each store leaves, and what it puts.
 use mathlib.Core.Path.{_≡_, refl, ap, _∙_}
-use mathlib.Core.Bool.{Bool, true, false, cond, _||_}
-use mathlib.Core.List.{List, [], _∷_}
+use mathlib.Core.List.{List}
 use mathlib.Core.Logic.{_⊎_, inl, inr, ⊎-elim}
 use Prim.Native.Nat.{ℕ, zero, suc, _+_, _*_, _≤_, _<_}
 use native.Mathlib.Omega.{arith}
-use lib.Dec.{eqb, eqb-refl}
 use lib.ListN.{length, set, length-set}
 use lib.Seq.{getD-set-other}
-use borrow.Author.Tests.{eqb-true, eqb-false}
-use Rattle.rules.specs.Limits.{work-bytes, heap-objects, heap-fields}
-use Rattle.rules.specs.Base.{any}
-use Rattle.rules.proofs.Lists.{or-left, or-right}
-use Rattle.tables.specs.Layout.{names-at, values-at, holders-at, seconds-at, objects-at, frames-at, frame-variables, frame-bytes}
+use Rattle.rules.specs.Limits.{heap-objects, heap-fields}
+use Rattle.tables.specs.Layout.{names-at, values-at, holders-at, objects-at, frames-at, frame-variables, frame-bytes}
 use Rattle.tables.specs.Decode.{byteAt, wordAt}
 use Rattle.tables.specs.Stores.{putHalf, putWord, Kept, SameTables}
 use Rattle.tables.proofs.Bytes.{put-word-length, put-word-byte, put-half-length, put-half-byte, word-put, word-kept, half-kept}
-use Rattle.run_heap.specs.Views.{frameAt, variableAt, savedHolder, savedRow, methodOf, cellValue, cellHolder, classIn, firstIn, fill, frame-holder, frame-row, frame-method}
-use Rattle.run_footprint.specs.Footprints.{marked, SmallCells}
+use Rattle.run_heap.specs.Views.{frameAt, variableAt, savedHolder, savedRow, methodOf, cellValue, firstHolder, secondHolder, halvesAt, classIn, firstIn, fill, frame-holder, frame-row, frame-method}
 
 -- bytes from a up to b may differ, and no others
 pub record Only (a b : ℕ) (w w′ : List ℕ) : Type 0 where
@@ -78,22 +72,6 @@ fill-word w i (suc n) v (suc j) l b h =
     let e : i + suc j * 4 ≡ i + 4 + j * 4 = omega arith in
     rw e (fill-word (putWord w i v) (i + 4) n v j (omega (arith, put-word-length w i v)) b (omega arith))
 
-small-rest : (k : ℕ) (ks : List ℕ) → SmallCells (k ∷ ks) → SmallCells ks
-unfolding any
-small-rest k ks s j t = s j (or-right (eqb j k) (any (eqb j) ks) t)
-
-small-first : (k : ℕ) (ks : List ℕ) → SmallCells (k ∷ ks) → k < heap-fields
-unfolding any
-small-first k ks s = s k (or-left (eqb k k) (any (eqb k) ks) (eqb-refl k))
-
-pub only-marked : (w : List ℕ) (ks : List ℕ) (v : ℕ) → SmallCells ks → Only holders-at seconds-at w (marked w ks v)
-unfolding marked
-only-marked w [] v s = only-refl holders-at seconds-at w
-only-marked w (k ∷ ks) v s =
-    let l : k < heap-fields = small-first k ks s in
-    only-trans (only-word holders-at seconds-at w (holders-at + k * 4) v (omega arith) (omega arith))
-    (only-marked (putWord w (holders-at + k * 4) v) ks v (small-rest k ks s))
-
 -- WHAT STAYS
 pub only-kept : {a b : ℕ} {w w′ : List ℕ} → Only a b w w′ → (c d : ℕ) → (d ≤ a) ⊎ (b ≤ c) → Kept c d w w′
 only-kept s c d o i l h = s .bytes i (⊎-elim (λ p. inl (omega arith)) (λ p. inr (omega arith)) o)
@@ -125,10 +103,13 @@ module _ (a b : ℕ) (w w′ : List ℕ) (s : Only a b w w′) where
   value-kept o k l =
       word-kept values-at holders-at w w′ (only-kept s values-at holders-at o) (values-at + k * 4) (omega arith) (omega arith)
 
-  pub holder-kept : (seconds-at ≤ a) ⊎ (b ≤ holders-at) → (k : ℕ) → k < heap-fields → cellHolder w′ k ≡ cellHolder w k
-  unfolding cellHolder
-  holder-kept o k l =
-      word-kept holders-at seconds-at w w′ (only-kept s holders-at seconds-at o) (holders-at + k * 4) (omega arith) (omega arith)
+  pub halves-kept : (objects-at ≤ a) ⊎ (b ≤ holders-at) → (h k : ℕ) → k < heap-fields → halvesAt w′ h k ≡ halvesAt w h k
+  unfolding halvesAt firstHolder secondHolder
+  halves-kept o h k l =
+      rw (
+        word-kept holders-at objects-at w w′ (only-kept s holders-at objects-at o) (holders-at + k * 8) (omega arith) (omega arith),
+        word-kept holders-at objects-at w w′ (only-kept s holders-at objects-at o) (holders-at + k * 8 + 4) (omega arith) (omega arith),
+      )
 
   pub class-in-kept : (frames-at ≤ a) ⊎ (b ≤ objects-at) → (i : ℕ) → i < heap-objects → classIn w′ i ≡ classIn w i
   unfolding classIn
@@ -139,41 +120,9 @@ module _ (a b : ℕ) (w w′ : List ℕ) (s : Only a b w w′) where
   first-in-kept o i l =
       half-kept objects-at frames-at w w′ (only-kept s objects-at frames-at o) (objects-at + i * 4 + 2) (omega arith) (omega arith)
 
--- WHAT IS MARKED
+-- TWO NUMBERS
 pub apart : (k j : ℕ) → (k ≡ j → ⊥) → (k < j) ⊎ (j < k)
 apart zero zero d = absurd (d refl)
 apart zero (suc j) d = inl (omega arith)
 apart (suc k) zero d = inr (omega arith)
 apart (suc k) (suc j) d = ⊎-elim (λ l. inl (omega arith)) (λ l. inr (omega arith)) (apart k j (λ e. d (ap suc e)))
-
-put-holder :
-    (w : List ℕ) (j v k : ℕ) → length w ≡ work-bytes → v < 4294967296 → j < heap-fields → k < heap-fields →
-    cellHolder (putWord w (holders-at + j * 4) v) k ≡ cond (eqb k j) v (cellHolder w k)
-unfolding cellHolder
-put-holder w j v k n b l h = go (eqb k j) refl
-  where
-    go : (t : Bool) → eqb k j ≡ t → wordAt (putWord w (holders-at + j * 4) v) (holders-at + k * 4) ≡ cond t v (wordAt w (holders-at + k * 4))
-    go true e =
-        let q : k ≡ j = eqb-true k j e in
-        rw q (word-put w (holders-at + j * 4) v (omega (arith, n)) b)
-    go false e =
-        let d : k ≡ j → ⊥ = eqb-false k j e in
-        word-kept (holders-at + k * 4) (holders-at + k * 4 + 4) w (putWord w (holders-at + j * 4) v)
-        (only-kept (only-word (holders-at + j * 4) (holders-at + j * 4 + 4) w (holders-at + j * 4) v (omega arith) (omega arith))
-        (holders-at + k * 4) (holders-at + k * 4 + 4) (⊎-elim (λ p. inl (omega arith)) (λ p. inr (omega arith)) (apart k j d)))
-        (holders-at + k * 4) (omega arith) (omega arith)
-
-pub marked-holder :
-    (w : List ℕ) (ks : List ℕ) (v k : ℕ) → length w ≡ work-bytes → v < 4294967296 → SmallCells ks → k < heap-fields →
-    cellHolder (marked w ks v) k ≡ cond (any (eqb k) ks) v (cellHolder w k)
-unfolding marked any
-marked-holder w [] v k n b s h = refl
-marked-holder w (j ∷ ks) v k n b s h =
-    marked-holder (putWord w (holders-at + j * 4) v) ks v k (put-word-length w _ v ∙ n) b (small-rest j ks s) h
-    ∙ rw (put-holder w j v k n b (small-first j ks s) h) (go (eqb k j) (any (eqb k) ks) (cellHolder w k))
-  where
-    go : (s t : Bool) (c : ℕ) → cond t v (cond s v c) ≡ cond (s || t) v c
-    go true true c = refl
-    go true false c = refl
-    go false true c = refl
-    go false false c = refl

@@ -3,30 +3,29 @@ use rules::Machine;
 use run_heap::Fault;
 use run_heap::Read;
 use run_heap::Spot;
-use run_heap::Stores;
 use run_heap::View;
 use tables::AtomKind;
-use tables::Layout;
 ghost use mathlib.Core.Path.{_≡_};
 ghost use mathlib.Core.List.{[], _∷_};
 ghost use Prim.Native.Nat.{_+_, _*_, _≤_, _<_};
 ghost use lib.ListN.{length, take};
-ghost use Rattle.rules.specs.Limits.{work-bytes};
-ghost use Rattle.tables.specs.Layout.{most-names, frame-variables};
-ghost use Rattle.tables.specs.Decode.{relOf, atomsFrom, atomCount, atomAt};
-ghost use Rattle.rules.specs.Base.{any, ok};
+ghost use Rattle.rules.specs.Limits.{work-bytes, heap-fields};
+ghost use Rattle.tables.specs.Numbers.{eq-atom};
+ghost use Rattle.tables.specs.Decode.{relOf, atomsFrom, atomCount, atomAt, atomKindAt};
+ghost use Rattle.rules.specs.Base.{ok};
 ghost use Rattle.rules.specs.Machine.{compared};
-ghost use lib.Dec.{eqb};
-ghost use Rattle.run_heap.specs.Views.{Readable};
-ghost use Rattle.run_footprint.specs.Footprints.{rightTest, testIn, newCells, accIn, takeIn, SmallCells, marked, truthIs, footprint-cells, TookUpTo, TookOne, RoomAfter};
+ghost use Rattle.run_heap.specs.Views.{Readable, halvesAt};
+ghost use Rattle.run_footprint.specs.Footprints.{rightTest, testIn, share-size, cellIn, halvesIn, partOf, taken, newShare, takeIn, SharesFit, marked, truthIs, footprint-shares, TookUpTo, TookOne, RoomAfter};
 
-// The cells of a footprint.
-pub type Cells = [usize; CELLS];
+// The shares of a footprint: each a cell times SHARE, and how many halves of it.
+pub type Shares = [usize; SHARES];
 
 // How many there can be: each atom of a formula takes one at most.
-pub const CELLS: usize = Machine::ATOMS;
+pub const SHARES: usize = Machine::ATOMS;
 
-// The bytes that say which remainders the cells taken have.
+const SHARE: usize = 4;
+
+// The bytes that say which remainders the cells of the shares taken have.
 const SIEVE: usize = 64;
 
 // Whether a comparison is true.
@@ -36,9 +35,9 @@ pub enum Truth {
     Lacking(Fault),
 }
 
-// How many cells a formula took.
+// How many shares a formula took.
 pub enum Took {
-    Cells(usize),
+    Shares(usize),
     Lacking(Fault),
 }
 
@@ -101,120 +100,139 @@ pub fn condition(work: &[u8], v: View, a: usize) -> Truth
     }
 }
 
-// Whether k is one of the first n cells.
-fn among(cells: &Cells, n: usize, k: usize) -> bool
-    requires { ⌜ (n ≤ footprint-cells) × (length (now cells) ≡ footprint-cells) ⌝ }
-    ensures { λ r. ⌜ r ≡ any (eqb k) (take n (now (cells .entry))) ⌝ }
+// How many halves of the cell k the share s is.
+fn part_of(s: usize, k: usize) -> usize
+    ensures { λ r. ⌜ (r ≡ partOf k s) × (r < share-size) ⌝ }
 {
+    if s / SHARE == k {
+        return s % SHARE;
+    }
+    0
+}
+
+// How many of it the first n shares take.
+fn taken(shares: &Shares, n: usize, k: usize) -> usize
+    requires { ⌜ (n ≤ footprint-shares) × (length (now shares) ≡ footprint-shares) ⌝ }
+    ensures { λ r. ⌜ (r ≡ taken k (take n (now (shares .entry)))) × (r < share-size * footprint-shares) ⌝ }
+{
+    let mut t = 0;
     let mut i = 0;
     while i < n {
-        let c = cells[i];
-        if c == k {
-            return true;
-        }
+        let s = shares[i];
+        t += part_of(s, k);
         i += 1;
     }
-    false
+    t
 }
 
-// Takes the cell k after n others, which may be among them.
-fn put_seen(cells: &mut Cells, n: usize, k: usize) -> Took
-    requires { ⌜ (n < footprint-cells) × (length (now cells) ≡ footprint-cells) ⌝ }
-    ensures { λ r. ⌜ TookUpTo r (now (cells .exit)) (n + 1) (newCells (take n (now (cells .entry))) k) ⌝ }
+// Takes the share s after n others, some of which may be of its cell.
+fn put_seen(work: &[u8], h: u32, shares: &mut Shares, n: usize, s: usize) -> Took
+    requires { ⌜ ((length (now work) ≡ work-bytes) × (cellIn s < heap-fields)) × ((n < footprint-shares) × (length (now shares) ≡ footprint-shares)) ⌝ }
+    ensures { λ r. ⌜ TookUpTo r (now (shares .exit)) (n + 1) (newShare (now (work .entry)) h (halvesIn s) (take n (now (shares .entry))) (cellIn s)) ⌝ }
 {
-    if among(cells, n, k) {
+    let k = s / SHARE;
+    let t = s % SHARE + taken(shares, n, k);
+    if run_heap::halves_held(work, h, k) < t {
         return Took::Lacking(Fault::Permission);
     }
-    cells[n] = k;
-    Took::Cells(n + 1)
+    shares[n] = s;
+    Took::Shares(n + 1)
 }
 
-// Takes the cell k after n others. It is looked for only where its remainder by SIEVE has been seen.
-fn put_cell(cells: &mut Cells, seen: &mut [u8; SIEVE], n: usize, k: usize) -> Took
-    requires { ⌜ RoomAfter (now cells) (now seen) n ⌝ }
-    ensures { λ r. ⌜ TookOne r (now (cells .exit)) (now (seen .exit)) n (newCells (take n (now (cells .entry))) k) ⌝ }
+// Takes the share s, which h holds, after n others. Those are looked at only where the remainder of its cell by SIEVE has been seen.
+fn put_share(
+    work: &[u8],
+    h: u32,
+    shares: &mut Shares,
+    seen: &mut [u8; SIEVE],
+    n: usize,
+    s: usize,
+) -> Took
+    requires { ⌜ (((length (now work) ≡ work-bytes) × (cellIn s < heap-fields)) × (halvesIn s ≤ halvesAt (now work) h (cellIn s))) × RoomAfter (now shares) (now seen) n ⌝ }
+    ensures { λ r. ⌜ TookOne r (now (shares .exit)) (now (seen .exit)) n (newShare (now (work .entry)) h (halvesIn s) (take n (now (shares .entry))) (cellIn s)) ⌝ }
 {
-    let s = k % SIEVE;
-    let b = seen[s];
+    let r = s / SHARE % SIEVE;
+    let b = seen[r];
     if b == 0 {
-        seen[s] = 1;
-        cells[n] = k;
-        return Took::Cells(n + 1);
+        seen[r] = 1;
+        shares[n] = s;
+        return Took::Shares(n + 1);
     }
-    put_seen(cells, n, k)
+    put_seen(work, h, shares, n, s)
 }
 
-// `acc x f`, after n cells: "of a null is 25, of a location not in A or already taken in this formula 24".
-fn take_cell(
+// `acc x f` or `read x f`, the atom a, after n shares: "of a null is 25, of a location not in A or already taken in this formula 24".
+fn take_share(
     work: &[u8],
     v: View,
-    x: usize,
-    f: usize,
-    cells: &mut Cells,
+    a: usize,
+    shares: &mut Shares,
     seen: &mut [u8; SIEVE],
     n: usize,
 ) -> Took
-    requires { ⌜ (Readable (now work) v × ((x < frame-variables) × (f < most-names))) × RoomAfter (now cells) (now seen) n ⌝ }
-    ensures { λ r. ⌜ TookOne r (now (cells .exit)) (now (seen .exit)) n (accIn (now (work .entry)) v x f (take n (now (cells .entry)))) ⌝ }
+    requires { ⌜ (Readable (now work) v × ((a < atomCount (now work)) × (atomKindAt (now work) a < eq-atom))) × RoomAfter (now shares) (now seen) n ⌝ }
+    ensures { λ r. ⌜ TookOne r (now (shares .exit)) (now (seen .exit)) n (takeIn (now (work .entry)) v (atomAt (now (work .entry)) a ∷ []) (take n (now (shares .entry)))) ⌝ }
 {
-    match run_heap::locate(work, v, x, f) {
-        Spot::At(k) => put_cell(cells, seen, n, k),
+    let halves = tables::atom_kind(work, a);
+    let x = tables::atom_variable(work, a);
+    let f = tables::atom_field(work, a);
+    match run_heap::locate(work, v, halves, x, f) {
+        Spot::At(k) => put_share(work, v.holder, shares, seen, n, k * SHARE + halves),
         Spot::Lacking(s) => Took::Lacking(s),
     }
 }
 
-// The atom a, after n cells.
+// The atom a, after n shares.
 fn take_atom(
     work: &[u8],
     v: View,
     a: usize,
-    cells: &mut Cells,
+    shares: &mut Shares,
     seen: &mut [u8; SIEVE],
     n: usize,
 ) -> Took
-    requires { ⌜ (Readable (now work) v × (a < atomCount (now work))) × RoomAfter (now cells) (now seen) n ⌝ }
-    ensures { λ r. ⌜ TookOne r (now (cells .exit)) (now (seen .exit)) n (takeIn (now (work .entry)) v (atomAt (now (work .entry)) a ∷ []) (take n (now (cells .entry)))) ⌝ }
+    requires { ⌜ (Readable (now work) v × (a < atomCount (now work))) × RoomAfter (now shares) (now seen) n ⌝ }
+    ensures { λ r. ⌜ TookOne r (now (shares .exit)) (now (seen .exit)) n (takeIn (now (work .entry)) v (atomAt (now (work .entry)) a ∷ []) (take n (now (shares .entry)))) ⌝ }
 {
-    if tables::atom_kind(work, a) == AtomKind::ACC {
-        let x = tables::atom_variable(work, a);
-        let f = tables::atom_field(work, a);
-        return take_cell(work, v, x, f, cells, seen, n);
+    if tables::atom_kind(work, a) < AtomKind::EQ {
+        return take_share(work, v, a, shares, seen, n);
     }
     match test(work, v, a) {
-        Truth::Holds => Took::Cells(n),
+        Truth::Holds => Took::Shares(n),
         Truth::Fails => Took::Lacking(Fault::False),
         Truth::Lacking(s) => Took::Lacking(s),
     }
 }
 
-// "A formula's footprint is the locations that its `acc` atoms take": n atoms from the first on.
-pub fn footprint(work: &[u8], v: View, first: usize, n: usize, cells: &mut Cells) -> Took
-    requires { ⌜ (Readable (now work) v × (first + n ≤ atomCount (now work))) × ((n ≤ footprint-cells) × (length (now cells) ≡ footprint-cells)) ⌝ }
-    ensures { λ r. ⌜ TookUpTo r (now (cells .exit)) footprint-cells (takeIn (now (work .entry)) v (atomsFrom (now (work .entry)) first n) []) ⌝ }
+// "A formula's footprint is the locations that its `acc` atoms take", with W8 the halves that its `acc` and `read` do: n atoms from
+// the first on.
+pub fn footprint(work: &[u8], v: View, first: usize, n: usize, shares: &mut Shares) -> Took
+    requires { ⌜ (Readable (now work) v × (first + n ≤ atomCount (now work))) × ((n ≤ footprint-shares) × (length (now shares) ≡ footprint-shares)) ⌝ }
+    ensures { λ r. ⌜ TookUpTo r (now (shares .exit)) footprint-shares (takeIn (now (work .entry)) v (atomsFrom (now (work .entry)) first n) []) ⌝ }
 {
     let mut seen = [0u8; SIEVE];
     let mut count = 0;
     let mut i = 0;
     while i < n {
-        let t = take_atom(work, v, first + i, cells, &mut seen, count);
-        let Took::Cells(k) = t else {
+        let t = take_atom(work, v, first + i, shares, &mut seen, count);
+        let Took::Shares(k) = t else {
             return t;
         };
         count = k;
         i += 1;
     }
-    Took::Cells(count)
+    Took::Shares(count)
 }
 
-// The first n cells are held by v from now on.
-pub fn mark(work: &mut [u8], cells: &Cells, n: usize, v: u32)
-    requires { ⌜ ((length (now work) ≡ work-bytes) × ((n ≤ footprint-cells) × (length (now cells) ≡ footprint-cells))) × SmallCells (take n (now cells)) ⌝ }
-    ensures { λ _. ⌜ now (work .exit) ≡ marked (now (work .entry)) (take n (now (cells .entry))) v ⌝ }
+// The first n shares go from the number that holds them to another.
+pub fn mark(work: &mut [u8], shares: &Shares, n: usize, from: u32, to: u32)
+    requires { ⌜ ((length (now work) ≡ work-bytes) × ((n ≤ footprint-shares) × (length (now shares) ≡ footprint-shares))) × SharesFit (take n (now shares)) ⌝ }
+    ensures { λ _. ⌜ now (work .exit) ≡ marked (now (work .entry)) (take n (now (shares .entry))) from to ⌝ }
 {
     let mut i = 0;
     while i < n {
-        let k = cells[i];
-        tables::put_word(work, Layout::HOLDERS + k * Stores::WORD_BYTES, v);
+        let s = shares[i];
+        run_heap::hand_over(work, s / SHARE, s % SHARE, from, to);
         i += 1;
     }
 }

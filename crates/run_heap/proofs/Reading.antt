@@ -6,8 +6,8 @@ use mathlib.Core.Logic.{⊎-elim}
 use mathlib.Core.Option.{Option, none, some}
 use Prim.Native.Nat.{ℕ, zero, suc, _+_, _-_, _≤_, _<_}
 use native.Mathlib.Omega.{arith}
-use lib.Dec.{T, eqb, ltb}
-use borrow.Author.Tests.{ltb-true, ne-eqb, eqb-true, eqb-false, lt-ltb, le-ltb}
+use lib.Dec.{T, eqb, ltb, leb, leb→le}
+use borrow.Author.Tests.{ltb-true, ne-eqb, eqb-false, lt-ltb, le-ltb}
 use Rattle.rules.specs.Limits.{heap-fields}
 use Rattle.rules.specs.Base.{Try, ok, no, _>>=_, _>>_, check}
 use Rattle.rules.specs.Answers.{Stop, permissionMissing, nullFollowed}
@@ -23,7 +23,7 @@ use Rattle.run_heap.specs.declared.View.{View}
 use Rattle.run_heap.specs.declared.Fault.{Fault}
 use Rattle.run_heap.specs.declared.Spot.{Spot}
 use Rattle.run_heap.specs.declared.Read.{Read}
-use Rattle.run_heap.specs.Views.{variableAt, cellHolder, classIn, firstIn, placed, cellOf, present, foundOf, found, heldCell, spot, readIn, stopOf, spotIs, readIs, ObjectFits, PlainIs, Readable}
+use Rattle.run_heap.specs.Views.{variableAt, halvesAt, classIn, firstIn, placed, cellOf, present, foundOf, found, heldCell, spot, readIn, stopOf, spotIs, readIs, ObjectFits, PlainIs, Readable}
 
 -- ANSWERS BY CASES
 pub spot-at : (r : Spot) (k : ℕ) {t : Try Stop ℕ} → r ≡ Spot.At k → spotIs r ≡ t → t ≡ ok k
@@ -152,27 +152,28 @@ unfolding found
 found-small {w} {v} {k} x f r e =
     cell-small (variableAt w (v .base) x) f (r .tables) (r .object) (found-is w (v .objects) (variableAt w (v .base) x) f k e)
 
--- what is located is found, and held
+-- what is located is found, and so many halves of it are held
 pub spot-found :
-    (w : List ℕ) (v : View) (x f k : ℕ) → spot w v x f ≡ ok k → (found w v x f ≡ ok k) × (cellHolder w k ≡ v .holder)
+    (w : List ℕ) (v : View) (n x f k : ℕ) → spot w v n x f ≡ ok k → (found w v x f ≡ ok k) × (n ≤ halvesAt w (v .holder) k)
 unfolding spot heldCell _>>=_
-spot-found w v x f k e = go (found w v x f) e
+spot-found w v n x f k e = go (found w v x f) e
   where
-    go : (t : Try Stop ℕ) → t >>= heldCell w (v .holder) ≡ ok k → (t ≡ ok k) × (cellHolder w k ≡ v .holder)
+    go : (t : Try Stop ℕ) → t >>= heldCell w (v .holder) n ≡ ok k → (t ≡ ok k) × (n ≤ halvesAt w (v .holder) k)
     go (no s) e = absurd (let z : _≡_ {A = ℕ} 0 1 = cc in omega arith)
     go (ok j) e =
-        let (t, e′) = check-ok (eqb (cellHolder w j) (v .holder)) permissionMissing e in
+        let (t, e′) = check-ok (leb n (halvesAt w (v .holder) j)) permissionMissing e in
         let q : j ≡ k = ok-inj e′ in
-        (ap ok q, subst (λ i. cellHolder w i ≡ v .holder) q (eqb-true _ _ (T-true _ t)))
+        (ap ok q, subst (λ i. n ≤ halvesAt w (v .holder) i) q (leb→le _ _ t))
 
 pub spot-is :
-    (w : List ℕ) (v : View) (x f k : ℕ) → spot w v x f ≡ ok k →
-    (cellOf w (v .objects) (variableAt w (v .base) x) f ≡ some k) × (cellHolder w k ≡ v .holder)
+    (w : List ℕ) (v : View) (n x f k : ℕ) → spot w v n x f ≡ ok k →
+    (cellOf w (v .objects) (variableAt w (v .base) x) f ≡ some k) × (n ≤ halvesAt w (v .holder) k)
 unfolding found
-spot-is w v x f k e = let (a, b) = spot-found w v x f k e in (found-is w (v .objects) (variableAt w (v .base) x) f k a, b)
+spot-is w v n x f k e =
+    let (a, b) = spot-found w v n x f k e in (found-is w (v .objects) (variableAt w (v .base) x) f k a, b)
 
-pub spot-small : {w : List ℕ} {v : View} {k : ℕ} (x f : ℕ) → Readable w v → spot w v x f ≡ ok k → k < heap-fields
-spot-small {w} {v} {k} x f r e = found-small x f r (spot-found w v x f k e .0)
+pub spot-small : {w : List ℕ} {v : View} {k : ℕ} (n x f : ℕ) → Readable w v → spot w v n x f ≡ ok k → k < heap-fields
+spot-small {w} {v} {k} n x f r e = found-small x f r (spot-found w v n x f k e .0)
 
 -- SIDES
 pub plain-read :

@@ -1,10 +1,10 @@
 -- The machine's stores in the work area, and what the code reads from them: variables, cells, holders, expressions and formulas.
-use mathlib.Core.Bool.{cond, not, _&&_}
+use mathlib.Core.Bool.{Bool, cond, not, _&&_}
 use mathlib.Core.List.{List}
 use mathlib.Core.Option.{Option, none, some}
 use mathlib.Core.Path.{_≡_}
 use Prim.Native.Nat.{ℕ, zero, suc, _+_, _*_, _-_, _≤_, _<_}
-use lib.Dec.{eqb, ltb}
+use lib.Dec.{eqb, ltb, leb}
 use lib.ListN.{set}
 use Rattle.rules.specs.Limits.{heap-objects, heap-fields, work-bytes}
 use Rattle.rules.specs.Base.{Try, ok, no, _>>=_, _>>_, check}
@@ -24,12 +24,16 @@ use Rattle.run_heap.specs.declared.Read.{Read}
 
 -- STORES
 
--- the bytes of a word, and how many numbers two bytes hold
+-- the bytes of a word, and of the two holders of a cell
 abbrev pub word-bytes : ℕ
 word-bytes = 4
 
-abbrev pub halves : ℕ
-halves = 65536
+abbrev pub holder-bytes : ℕ
+holder-bytes = 8
+
+-- the halves of a location that is held whole
+abbrev pub whole : ℕ
+whole = 2
 
 -- a frame has `this`, w and its other variables
 abbrev pub frame-parameter : ℕ
@@ -65,9 +69,22 @@ methodOf w i = byteAt w (frameAt i + frame-method)
 unfoldable pub cellValue : List ℕ → ℕ → ℕ
 cellValue w k = wordAt w (values-at + k * word-bytes)
 
--- the number of the frame that holds it, 0 for nobody
-unfoldable pub cellHolder : List ℕ → ℕ → ℕ
-cellHolder w k = wordAt w (holders-at + k * word-bytes)
+-- each half of a cell is with a frame, whose number it has, or 0 for nobody
+abbrev pub holdersAt : ℕ → ℕ
+holdersAt k = holders-at + k * holder-bytes
+
+unfoldable pub firstHolder : List ℕ → ℕ → ℕ
+firstHolder w k = wordAt w (holdersAt k)
+
+unfoldable pub secondHolder : List ℕ → ℕ → ℕ
+secondHolder w k = wordAt w (holdersAt k + word-bytes)
+
+unfoldable pub one : Bool → ℕ
+one b = cond b 1 0
+
+-- W8: "a location now has 0, 1 or 2 halves with each frame": so many of the cell k are with the number h
+unfoldable pub halvesAt : List ℕ → ℕ → ℕ → ℕ
+halvesAt w h k = one (eqb (firstHolder w k) h) + one (eqb (secondHolder w k) h)
 
 -- object i + 1: its class and, this far from it, its first cell
 abbrev pub object-first : ℕ
@@ -91,13 +108,13 @@ unfoldable pub cellOf : List ℕ → ℕ → ℕ → ℕ → Option ℕ
 cellOf w n zero f = none
 cellOf w n (suc i) f = cond (ltb i n && ltb f most-names) (placed (firstIn w i) (placeAt w (classIn w i) f)) none
 
-unfoldable pub holderIn : List ℕ → Option ℕ → ℕ
-holderIn w none = 0
-holderIn w (some k) = cellHolder w k
+unfoldable pub halvesIn : List ℕ → ℕ → Option ℕ → ℕ
+halvesIn w h none = 0
+halvesIn w h (some k) = halvesAt w h k
 
--- who holds a location
-unfoldable pub holderOf : List ℕ → ℕ → Location → ℕ
-holderOf w n p = holderIn w (cellOf w n (p .object) (p .field))
+-- of n objects: how many halves of a location are with the number h
+unfoldable pub halvesOf : List ℕ → ℕ → ℕ → Location → ℕ
+halvesOf w n h p = halvesIn w h (cellOf w n (p .object) (p .field))
 
 -- FINDING a cell, whoever holds it
 
@@ -116,19 +133,24 @@ found w v x f = foundOf w (v .objects) (variableAt w (v .base) x) f
 
 -- READING, through the variables of one frame and what one number holds
 
--- the cell, if h holds it
-unfoldable pub heldCell : List ℕ → ℕ → ℕ → Try Stop ℕ
-heldCell w h k = check (eqb (cellHolder w k) h) permissionMissing >> ok k
+-- so many halves can be asked for
+abbrev pub Halves : ℕ → Type 0
+Halves n = (1 ≤ n) × (n ≤ whole)
 
--- the cell of `x.f`, if the view's number holds it
-unfoldable pub spot : List ℕ → View → ℕ → ℕ → Try Stop ℕ
-spot w v x f = found w v x f >>= heldCell w (v .holder)
+-- the cell, if h holds n halves of it
+unfoldable pub heldCell : List ℕ → ℕ → ℕ → ℕ → Try Stop ℕ
+heldCell w h n k = check (leb n (halvesAt w h k)) permissionMissing >> ok k
 
+-- the cell of `x.f`, if the view's number holds n halves of it
+unfoldable pub spot : List ℕ → View → ℕ → ℕ → ℕ → Try Stop ℕ
+spot w v n x f = found w v x f >>= heldCell w (v .holder) n
+
+-- W8: "Reading needs one half"
 unfoldable pub readIn : List ℕ → View → Expr ℕ → Try Stop ℕ
 readIn w v (num n) = ok n
 readIn w v null = ok 0
 readIn w v (var x) = ok (variableAt w (v .base) x)
-readIn w v (path x f) = spot w v x f >>= λ k. ok (cellValue w k)
+readIn w v (path x f) = spot w v 1 x f >>= λ k. ok (cellValue w k)
 
 -- WRITING
 
@@ -148,14 +170,26 @@ framePut w a b holder row method o p =
 abbrev pub prepared : List ℕ → Machine → ℕ → ℕ → ℕ → List ℕ
 prepared w c method o p = framePut w (frameAt (c .frames - 1)) (frameAt (c .frames)) (c .holder) (c .row) method o p
 
--- object i + 1 of a class, its n fields from the cell k on, each 0 and held by a number
+-- object i + 1 of a class, its n fields from the cell k on, each 0 and held whole by a number
 unfoldable pub made : List ℕ → ℕ → ℕ → ℕ → ℕ → ℕ → List ℕ
 made w i k n class holder =
     fill
     (fill (putHalf (set w (objects-at + i * object-bytes) class) (objects-at + i * object-bytes + object-first) k) (values-at + k * word-bytes) n 0)
-    (holders-at + k * word-bytes)
-    n
+    (holdersAt k)
+    (n * whole)
     holder
+
+-- both halves of the cell k are with h from now on
+unfoldable pub wholePut : List ℕ → ℕ → ℕ → List ℕ
+wholePut w k h = putWord (putWord w (holdersAt k) h) (holdersAt k + word-bytes) h
+
+-- one half of it goes from a number that holds it to another
+unfoldable pub halfPut : List ℕ → ℕ → ℕ → ℕ → List ℕ
+halfPut w k from to = putWord w (cond (eqb (firstHolder w k) from) (holdersAt k) (holdersAt k + word-bytes)) to
+
+-- n halves of it do
+unfoldable pub handed : List ℕ → ℕ → ℕ → ℕ → ℕ → List ℕ
+handed w k n from to = cond (ltb n whole) (halfPut w k from to) (wholePut w k to)
 
 -- the view of the next frame, which sees what the running one holds
 abbrev pub nextView : Machine → View

@@ -1,4 +1,9 @@
-// The machine's stores in the work area: values, holders, objects, frames; a location found, tested and read.
+// The machine's stores in the work area: values, objects, frames; a location found, tested and read. Who holds it is in `holders`.
+mod holders;
+
+pub use holders::halves_held;
+pub use holders::hand_over;
+use holders::held_cell;
 use rules::Machine;
 use tables::Expr;
 use tables::Layout;
@@ -6,11 +11,12 @@ ghost use mathlib.Core.Path.{_≡_};
 ghost use Prim.Native.Nat.{suc, _+_, _*_, _-_, _≤_, _<_};
 ghost use lib.ListN.{length};
 ghost use Rattle.rules.specs.Limits.{work-bytes, most-statements, most-methods, most-classes, most-frames, heap-objects, heap-fields};
+ghost use Rattle.tables.specs.Numbers.{half-values};
 ghost use Rattle.tables.specs.Layout.{most-names, frame-variables};
 ghost use Rattle.tables.specs.Decode.{leftAt, rightAt, atomCount};
 ghost use Rattle.tables.specs.Tables.{SideFits};
 ghost use Rattle.tables.specs.Stores.{meaning};
-ghost use Rattle.run_heap.specs.Views.{word-bytes, halves, frame-holder, variableAt, savedHolder, savedRow, methodOf, prepared, made, cellValue, cellHolder, classIn, firstIn, cellOf, present, foundOf, found, heldCell, spot, readIn, PlainIs, fill, spotIs, readIs, Readable, viewOf};
+ghost use Rattle.run_heap.specs.Views.{word-bytes, frame-holder, variableAt, savedHolder, savedRow, methodOf, prepared, made, cellValue, classIn, firstIn, cellOf, present, foundOf, found, Halves, spot, readIn, PlainIs, fill, spotIs, readIs, Readable, viewOf};
 
 // Whose variables are read, where the heap ends, and who holds.
 pub struct View {
@@ -24,6 +30,14 @@ pub struct Stores {}
 
 impl Stores {
     pub const WORD_BYTES: usize = 4;
+
+    // The two holders of a cell.
+    pub const HOLDER_BYTES: usize = 2 * Stores::WORD_BYTES;
+
+    // How many halves of a location reading needs, and how many it has.
+    pub const HALF: usize = 1;
+
+    pub const WHOLE: usize = 2;
 
     // A frame's variables: `this`, w, 12 locals, `result`.
     pub const VARIABLES: usize = 15;
@@ -86,13 +100,6 @@ fn cell_value(work: &[u8], k: usize) -> u32
     tables::word_at(work, Layout::VALUES + k * Stores::WORD_BYTES)
 }
 
-fn cell_holder(work: &[u8], k: usize) -> u32
-    requires { ⌜ (length (now work) ≡ work-bytes) × (k < heap-fields) ⌝ }
-    ensures { λ r. ⌜ r ≡ cellHolder (now (work .entry)) k ⌝ }
-{
-    tables::word_at(work, Layout::HOLDERS + k * Stores::WORD_BYTES)
-}
-
 // The class of object i + 1.
 fn class_of(work: &[u8], i: usize) -> usize
     requires { ⌜ (length (now work) ≡ work-bytes) × (i < heap-objects) ⌝ }
@@ -104,7 +111,7 @@ fn class_of(work: &[u8], i: usize) -> usize
 // Its first cell.
 fn first_of(work: &[u8], i: usize) -> usize
     requires { ⌜ (length (now work) ≡ work-bytes) × (i < heap-objects) ⌝ }
-    ensures { λ r. ⌜ (r ≡ firstIn (now (work .entry)) i) × (r < halves) ⌝ }
+    ensures { λ r. ⌜ (r ≡ firstIn (now (work .entry)) i) × (r < half-values) ⌝ }
 {
     tables::half_at(work, Layout::OBJECTS + i * Layout::OBJECT_BYTES + FIRST_AT)
 }
@@ -147,25 +154,13 @@ pub fn find(work: &[u8], v: View, x: usize, f: usize) -> Spot
     cell_of(work, v, o, f)
 }
 
-// The cell, if h holds it.
-fn held_cell(work: &[u8], h: u32, k: usize) -> Spot
-    requires { ⌜ (length (now work) ≡ work-bytes) × (k < heap-fields) ⌝ }
-    ensures { λ r. ⌜ spotIs r ≡ heldCell (now (work .entry)) h k ⌝ }
-{
-    let n = cell_holder(work, k);
-    if n == h {
-        return Spot::At(k);
-    }
-    Spot::Lacking(Fault::Permission)
-}
-
-// The cell of `x.f`, which the view's number must hold: "of a null is 25, of a location not in A .. 24".
-pub fn locate(work: &[u8], v: View, x: usize, f: usize) -> Spot
-    requires { ⌜ Readable (now work) v × ((x < frame-variables) × (f < most-names)) ⌝ }
-    ensures { λ r. ⌜ spotIs r ≡ spot (now (work .entry)) v x f ⌝ }
+// The cell of `x.f`, of which the view's number must hold n halves: "of a null is 25, of a location not in A .. 24".
+pub fn locate(work: &[u8], v: View, n: usize, x: usize, f: usize) -> Spot
+    requires { ⌜ (Readable (now work) v × Halves n) × ((x < frame-variables) × (f < most-names)) ⌝ }
+    ensures { λ r. ⌜ spotIs r ≡ spot (now (work .entry)) v n x f ⌝ }
 {
     match find(work, v, x, f) {
-        Spot::At(k) => held_cell(work, v.holder, k),
+        Spot::At(k) => held_cell(work, v.holder, n, k),
         Spot::Lacking(s) => Spot::Lacking(s),
     }
 }
@@ -183,7 +178,7 @@ fn plain(work: &[u8], v: View, e: Expr) -> u32
     }
 }
 
-// "reading a path needs its location in A"
+// "reading a path needs its location in A"; W8: "Reading needs one half"
 fn value(work: &[u8], v: View, e: Expr) -> Read
     requires { ⌜ Readable (now work) v × SideFits (meaning e) ⌝ }
     ensures { λ r. ⌜ readIs r ≡ readIn (now (work .entry)) v (meaning e) ⌝ }
@@ -191,7 +186,7 @@ fn value(work: &[u8], v: View, e: Expr) -> Read
     let Expr::Path(x, f) = e else {
         return Read::Got(plain(work, v, e));
     };
-    match locate(work, v, x, f) {
+    match locate(work, v, Stores::HALF, x, f) {
         Spot::At(k) => Read::Got(cell_value(work, k)),
         Spot::Lacking(s) => Read::Lacking(s),
     }
@@ -247,7 +242,7 @@ pub fn saved_holder(work: &[u8], i: usize) -> u32
 
 pub fn saved_row(work: &[u8], i: usize) -> usize
     requires { ⌜ (length (now work) ≡ work-bytes) × (i < most-frames) ⌝ }
-    ensures { λ r. ⌜ (r ≡ savedRow (now (work .entry)) i) × (r < halves) ⌝ }
+    ensures { λ r. ⌜ (r ≡ savedRow (now (work .entry)) i) × (r < half-values) ⌝ }
 {
     tables::half_at(work, Layout::FRAMES + i * Layout::FRAME_BYTES + ROW_AT)
 }
@@ -276,7 +271,7 @@ pub fn prepare(work: &mut [u8], c: Machine, m: usize, o: u32, p: u32)
     tables::put_byte(work, b + METHOD_AT, m);
 }
 
-// Object number `objects` + 1, of a class with n fields, which are the running frame's.
+// Object number `objects` + 1, of a class with n fields, which are the running frame's, both halves.
 pub fn make_object(work: &mut [u8], c: Machine, class: usize, n: usize)
     requires { ⌜ (length (now work) ≡ work-bytes) × (((c .objects < heap-objects) × (c .fields + n ≤ heap-fields)) × (class < most-classes)) ⌝ }
     ensures { λ _. ⌜ now (work .exit) ≡ made (now (work .entry)) (c .objects) (c .fields) n class (c .holder) ⌝ }
@@ -287,5 +282,10 @@ pub fn make_object(work: &mut [u8], c: Machine, class: usize, n: usize)
     tables::put_byte(work, at, class);
     tables::put_half(work, at + FIRST_AT, k);
     fill_words(work, Layout::VALUES + k * Stores::WORD_BYTES, n, 0);
-    fill_words(work, Layout::HOLDERS + k * Stores::WORD_BYTES, n, c.holder);
+    fill_words(
+        work,
+        Layout::HOLDERS + k * Stores::HOLDER_BYTES,
+        n * Stores::WHOLE,
+        c.holder,
+    );
 }

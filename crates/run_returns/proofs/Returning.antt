@@ -1,21 +1,18 @@
 -- `end`: the caller gains what ensures takes, and its x the result.
 use mathlib.Core.Path.{_≡_, refl, sym, ap, _∙_, subst}
-use mathlib.Core.Bool.{Bool, true, false, cond}
 use mathlib.Core.List.{List, [], _∷_, _++_}
 use mathlib.Core.Logic.{inr, ⊎-elim}
 use Prim.Native.Nat.{ℕ, suc, _+_, _*_, _-_, _≤_, _<_}
 use native.Mathlib.Omega.{arith}
-use lib.Dec.{T, eqb}
 use lib.ListN.{length}
-use borrow.Author.Tests.{eq-eqb}
 use Rattle.rules.specs.Base.{Try, ok, no, _>>=_}
 use Rattle.rules.specs.Syntax.{Row, rowNumbered, result-variable}
 use Rattle.rules.specs.Answers.{Stop}
 use Rattle.rules.specs.Grammar.{Call, statementNumber}
-use Rattle.rules.specs.Machine.{Heap, Frame, Location, holds, among, valueOf, footprint, advance, bind, holding, withFrame, statementOf, targetOf, returned, endStep}
+use Rattle.rules.specs.Machine.{Heap, Frame, Location, halves, valueOf, footprint, advance, bind, holding, withFrame, statementOf, targetOf, returned, endStep}
 use Rattle.rules.specs.declared.Machine.{Machine}
-use Rattle.rules.proofs.Sets.{Holds, footprint-held}
-use Rattle.tables.specs.Layout.{frame-variables, holders-at, seconds-at, frames-at}
+use Rattle.rules.proofs.Sets.{halves-append, footprint-held}
+use Rattle.tables.specs.Layout.{frame-variables, holders-at, objects-at, frames-at}
 use Rattle.tables.specs.Decode.{programIn, byteAt, halfAt, methodPlace, operandsAt, stmtAt, rowAt, kindAt, xAt, rowCount, methodCount, atomsFrom, atomCount, ensuresAt}
 use Rattle.tables.specs.Stores.{SameTables, putWord}
 use Rattle.tables.proofs.Rows.{row-in}
@@ -25,15 +22,16 @@ use Rattle.tables.proofs.Decoding.{tables-same, rows-count-same, kind-same}
 use Rattle.run_heap.specs.declared.Fault.{Fault}
 use Rattle.run_steps.specs.declared.Turn.{Turn}
 use Rattle.run_heap.specs.declared.View.{View}
-use Rattle.run_heap.specs.Views.{frameAt, variableAt, savedHolder, savedRow, methodOf, holderOf, viewOf, stopOf}
-use Rattle.run_footprint.specs.Footprints.{takeIn, marked, SmallCells}
+use Rattle.run_heap.specs.Views.{frameAt, variableAt, savedHolder, savedRow, methodOf, halvesOf, viewOf, stopOf}
+use Rattle.run_footprint.specs.Footprints.{takeIn, marked, SharesFit}
 use Rattle.run_steps.specs.States.{FrameIs, CallerIs, CallersAre, Represents, Follows, Does, CanStep}
 use Rattle.run_returns.specs.Returns.{back, endHere}
 use Rattle.run_steps.proofs.Seeing.{Matches, FormulaOk, no-footprint, ok-footprint, atoms-ok}
-use Rattle.run_footprint.proofs.Regions.{Only, only-tables, only-word, only-marked}
+use Rattle.run_footprint.proofs.Regions.{Only, only-tables, only-word}
+use Rattle.run_footprint.proofs.Handing.{only-marked}
 use Rattle.run_steps.proofs.Keeping.{same-frame, ensures-kept, callers-kept}
 use Rattle.run_steps.proofs.Moves.{sees, moved-to, next-is, next-fits, follow-stop, follow-on}
-use Rattle.run_steps.proofs.Changes.{among-append, put-variable, marks-only, holder-marked, taken-held, others-kept, heap-marked}
+use Rattle.run_steps.proofs.Changes.{put-variable, marks-only, gained, others-kept, heap-marked}
 use Rattle.run_steps.proofs.Steps.{frame-holding}
 use Rattle.run_steps.proofs.Doing.{does-on, frames-fit}
 
@@ -58,46 +56,44 @@ module _ {w : List ℕ} {c : Machine} {h : _} {F C : Frame} {Cs : List Frame}
 
   -- the caller runs again, with the set that it gains; its row and x are as at the call
   regained :
-      (A : List Location) (ks : List ℕ) → savedHolder w (length Cs) < 4294967296 → Matches w (c .objects) A ks →
-      ((p : Location) → T (among p A) → Holds F p) →
-      Represents (marked w ks (savedHolder w (length Cs))) (back c (savedHolder w (length Cs)) (savedRow w (length Cs)))
+      (A : List Location) (ss : List ℕ) → savedHolder w (length Cs) < 4294967296 → Matches w (c .objects) A ss →
+      ((p : Location) → halves A p ≤ halves (F .held) p) →
+      Represents (marked w ss (c .holder) (savedHolder w (length Cs))) (back c (savedHolder w (length Cs)) (savedRow w (length Cs)))
       (record { heap = h; frame = holding (C .held ++ A) C; callers = Cs })
-  unfolding holding holds
-  regained A ks l M held =
+  unfolding holding
+  regained A ss l M held =
       let v : ℕ = savedHolder w (length Cs) in
-      let w′ : List ℕ = marked w ks v in
-      let s : Only holders-at seconds-at w w′ =
-      marks-only w (c .objects) (c .fields) (R .tables) (R .heap .fit) (R .heap .most-objects) (R .heap .most-fields) A ks v l M in
+      let w′ : List ℕ = marked w ss (c .holder) v in
+      let s : Only holders-at objects-at w w′ =
+      marks-only R A ss v M in
       let t : SameTables w w′ = only-tables s (omega arith) in
       record {
         tables = tables-same w w′ t (R .tables);
-        heap = heap-marked R A ks v (c .holders) l M (omega (arith, caller .below, R .last)) (omega arith);
+        heap = heap-marked R A ss v M (c .holders) l (omega (arith, caller .below, R .last)) (omega arith);
         frames = omega (arith, R .frames);
         most = omega (arith, R .most);
         frame =
-            frame-holding (C .held ++ A) (same-frame holders-at seconds-at w w′ (length Cs) s (inr (omega arith)) .variables)
+            frame-holding (C .held ++ A) (same-frame holders-at objects-at w w′ (length Cs) s (inr (omega arith)) .variables)
             (rows-count-same w w′ t) (λ p. more p) (caller .frame);
         ensures =
-            ensures-kept w w′ t (R .tables) _ C (same-frame holders-at seconds-at w w′ (length Cs) s (inr (omega arith)) .method)
+            ensures-kept w w′ t (R .tables) _ C (same-frame holders-at objects-at w w′ (length Cs) s (inr (omega arith)) .method)
             (caller .ensures);
         callers =
-            callers-kept w w′ t (R .tables) (c .objects) (c .objects) v Cs (λ j _. same-frame holders-at seconds-at w w′ j s (inr (omega arith)))
-            (λ n o k p. others-kept R A ks v l M held n o (omega (arith, caller .below)) (λ e. omega (arith, e, k)) p) below;
+            callers-kept w w′ t (R .tables) (c .objects) (c .objects) v Cs (λ j _. same-frame holders-at objects-at w w′ j s (inr (omega arith)))
+            (λ n o k p. others-kept R A ss v M held l n (omega (arith, k, caller .below)) (λ e. omega (arith, e, k)) p) below;
         last = omega (arith, caller .below, R .last);
         given = omega (arith, R .given, R .frames);
       }
     where
-      more : (p : Location) → among p (C .held ++ A) ≡ eqb (holderOf (marked w ks (savedHolder w (length Cs))) (c .objects) p) (savedHolder w (length Cs))
+      more :
+          (p : Location) → halves (C .held ++ A) p ≡ halvesOf (marked w ss (c .holder) (savedHolder w (length Cs))) (c .objects) (savedHolder w (length Cs)) p
       more p =
-          among-append p (C .held) A
-          ∙ rw
-          (holder-marked w (c .objects) (c .fields) (R .tables) (R .heap .fit) (R .heap .most-objects) (R .heap .most-fields) A ks
-          (savedHolder w (length Cs)) l M p (λ t. omega (arith, taken-held R A held p t, R .frame .numbered)))
-          (go (among p A))
-        where
-          go : (a : Bool) → cond a true (among p (C .held)) ≡ eqb (cond a (savedHolder w (length Cs)) (holderOf w (c .objects) p)) (savedHolder w (length Cs))
-          go true = sym (eq-eqb (savedHolder w (length Cs)) (savedHolder w (length Cs)) refl)
-          go false = caller .frame .held p
+          omega (
+            arith,
+            halves-append (C .held) A p,
+            gained R A ss (savedHolder w (length Cs)) M held l (λ e. omega (arith, e, caller .below)) p,
+            caller .frame .held p,
+          )
 
   -- the formula of `end`
   ensures-is : F .ensures ≡ ensuresAt w (methodOf w (suc (length Cs)))
@@ -115,25 +111,25 @@ module _ {w : List ℕ} {c : Machine} {h : _} {F C : Frame} {Cs : List Frame}
       kind-same w w′ t (savedRow w (length Cs)) (omega (arith, caller .frame .row-fits, R .tables .rows)) ∙ caller .at-call
 
   returns-on :
-      (ks : List ℕ) (v : ℕ) → savedHolder w (length Cs) < 4294967296 → v < 4294967296 → v ≡ valueOf F result-variable →
+      (ss : List ℕ) (v : ℕ) → savedHolder w (length Cs) < 4294967296 → v < 4294967296 → v ≡ valueOf F result-variable →
       xAt w (savedRow w (length Cs)) < frame-variables →
-      takeIn w (viewOf c) (ensuresAt w (methodOf w (suc (length Cs)))) [] ≡ ok ks →
-      Follows (putWord (marked w ks (savedHolder w (length Cs))) (frameAt (length Cs) + xAt w (savedRow w (length Cs)) * 4) v) c
+      takeIn w (viewOf c) (ensuresAt w (methodOf w (suc (length Cs)))) [] ≡ ok ss →
+      Follows (putWord (marked w ss (c .holder) (savedHolder w (length Cs))) (frameAt (length Cs) + xAt w (savedRow w (length Cs)) * 4) v) c
       (Turn.On (back c (savedHolder w (length Cs)) (savedRow w (length Cs) + 1)))
       (record { heap = h; frame = F; callers = C ∷ Cs })
       (endStep (programIn w) (record { heap = h; frame = F; callers = C ∷ Cs }) (C ∷ Cs))
   unfolding endStep returned withFrame advance bind holding _>>=_ rowAt statementOf statementNumber
-  returns-on ks v l lv ev lx e =
+  returns-on ss v l lv ev lx e =
       let n : ℕ = savedHolder w (length Cs) in
       let x : ℕ = xAt w (savedRow w (length Cs)) in
-      let (A, a, M) = ok-footprint (sees R) _ ks ensures-ok e in
+      let (A, a, M) = ok-footprint (sees R) _ ss ensures-ok e in
       let a′ : footprint h F (F .ensures) ≡ ok A = ap (footprint h F) ensures-is ∙ a in
-      let R1 = regained A ks l M (footprint-held h F _ A a) in
+      let R1 = regained A ss l M (footprint-held h F _ A a) in
       let R2 = put-variable R1 x v lx lv in
-      let t1 : SameTables w (marked w ks n) = only-tables (only-marked w ks n (M .small)) (omega arith) in
-      let t2 : SameTables (marked w ks n) (putWord (marked w ks n) (frameAt (length Cs) + x * 4) v) =
-      only-tables (only-word frames-at (frames-at + 8192) (marked w ks n) (frameAt (length Cs) + x * 4) v (omega arith) (omega (arith, R .most, R .frames))) (omega arith) in
-      let k : kindAt (putWord (marked w ks n) (frameAt (length Cs) + x * 4) v) (savedRow w (length Cs)) ≡ statementNumber Call = row-stays _ (same-trans t1 t2) in
+      let t1 : SameTables w (marked w ss (c .holder) n) = only-tables (only-marked w ss (c .holder) n (M .fit)) (omega arith) in
+      let t2 : SameTables (marked w ss (c .holder) n) (putWord (marked w ss (c .holder) n) (frameAt (length Cs) + x * 4) v) =
+      only-tables (only-word frames-at (frames-at + 8192) (marked w ss (c .holder) n) (frameAt (length Cs) + x * 4) v (omega arith) (omega (arith, R .most, R .frames))) (omega arith) in
+      let k : kindAt (putWord (marked w ss (c .holder) n) (frameAt (length Cs) + x * 4) v) (savedRow w (length Cs)) ≡ statementNumber Call = row-stays _ (same-trans t1 t2) in
       let target : targetOf (statementOf (programIn w) C) ≡ x = ap (λ (r : Row). targetOf (r .stmt)) (row-of (caller .frame)) ∙ target-is in
       follow-on R (back c n (savedRow w (length Cs) + 1)) _ _ (rw (a′, target, ← ev)) refl
       (moved-to R2 (savedRow w (length Cs) + 1) (c .steps + 1) _ (next-fits R2 (λ z. omega (arith, z, k))) (next-is R2) (omega arith))
@@ -190,28 +186,28 @@ module _ {w : List ℕ} {c : Machine} (ready : CanStep w c) where
             let j : suc (length Cs) ≡ c .frames - 1 = omega (arith, R .frames) in
             returns-stop R s (rw j e)
 
-    pub end-small :
-        (ks : List ℕ) → takeIn w (viewOf c) (ensuresAt w (methodOf w (c .frames - 1))) [] ≡ ok ks → SmallCells ks
-    end-small ks e = go (ready .state .heap) (ready .state .frame) (ready .state .callers) (ready .represents)
+    pub end-fits :
+        (ss : List ℕ) → takeIn w (viewOf c) (ensuresAt w (methodOf w (c .frames - 1))) [] ≡ ok ss → SharesFit ss
+    end-fits ss e = go (ready .state .heap) (ready .state .frame) (ready .state .callers) (ready .represents)
       where
         go :
-            (h : Heap) (F : Frame) (Fs : List Frame) → Represents w c (record { heap = h; frame = F; callers = Fs }) → SmallCells ks
+            (h : Heap) (F : Frame) (Fs : List Frame) → Represents w c (record { heap = h; frame = F; callers = Fs }) → SharesFit ss
         go h F [] R = absurd (many (R .frames))
         go h F (C ∷ Cs) R =
             let j : suc (length Cs) ≡ c .frames - 1 = omega (arith, R .frames) in
-            let (A, a, M) = ok-footprint (sees R) (ensuresAt w (methodOf w (suc (length Cs)))) ks (ensures-ok R) (rw j e) in
-            M .small
+            let (A, a, M) = ok-footprint (sees R) (ensuresAt w (methodOf w (suc (length Cs)))) ss (ensures-ok R) (rw j e) in
+            M .fit
 
     pub leave-does :
-        (ks : List ℕ) (n r x v : ℕ) {w′ : List ℕ} {d : Machine} →
-        takeIn w (viewOf c) (ensuresAt w (methodOf w (c .frames - 1))) [] ≡ ok ks → n ≡ savedHolder w (c .frames - 2) → n < 4294967296 →
+        (ss : List ℕ) (n r x v : ℕ) {w′ : List ℕ} {d : Machine} →
+        takeIn w (viewOf c) (ensuresAt w (methodOf w (c .frames - 1))) [] ≡ ok ss → n ≡ savedHolder w (c .frames - 2) → n < 4294967296 →
         r ≡ savedRow w (c .frames - 2) → x ≡ xAt w r → v ≡ variableAt w (frameAt (c .frames - 1)) result-variable → v < 4294967296 →
-        w′ ≡ putWord (marked w ks n) (frameAt (c .frames - 2) + x * 4) v → d ≡ back c n (r + 1) →
+        w′ ≡ putWord (marked w ss (c .holder) n) (frameAt (c .frames - 2) + x * 4) v → d ≡ back c n (r + 1) →
         Does w c w′ (Turn.On d) (endHere w)
-    leave-does ks n r x v {w′} {d} e en ln er ex ev lv p q =
+    leave-does ss n r x v {w′} {d} e en ln er ex ev lv p q =
         does-on p q
-        (same-trans (only-tables (only-marked w ks n (end-small ks e)) (omega arith))
-        (only-tables (only-word frames-at (frames-at + 8192) (marked w ks n) (frameAt (c .frames - 2) + x * 4) v (omega arith) (omega (arith, xl, frames-fit ready .1))) (omega arith)))
+        (same-trans (only-tables (only-marked w ss (c .holder) n (end-fits ss e)) (omega arith))
+        (only-tables (only-word frames-at (frames-at + 8192) (marked w ss (c .holder) n) (frameAt (c .frames - 2) + x * 4) v (omega arith) (omega (arith, xl, frames-fit ready .1))) (omega arith)))
         (λ m R. go (m .heap) (m .frame) (m .callers) R)
       where
         rl : r < rowCount w
@@ -222,7 +218,7 @@ module _ {w : List ℕ} {c : Machine} (ready : CanStep w c) where
 
         go :
             (h : Heap) (F : Frame) (Fs : List Frame) → Represents w c (record { heap = h; frame = F; callers = Fs }) →
-            Follows (putWord (marked w ks n) (frameAt (c .frames - 2) + x * 4) v) c (Turn.On (back c n (r + 1)))
+            Follows (putWord (marked w ss (c .holder) n) (frameAt (c .frames - 2) + x * 4) v) c (Turn.On (back c n (r + 1)))
             (record { heap = h; frame = F; callers = Fs }) (endStep (programIn w) (record { heap = h; frame = F; callers = Fs }) Fs)
         go h F [] R = absurd (many (R .frames))
         go h F (C ∷ Cs) R =
@@ -232,7 +228,7 @@ module _ {w : List ℕ} {c : Machine} (ready : CanStep w c) where
             let n′ : n ≡ savedHolder w (length Cs) = en ∙ ap (savedHolder w) i in
             let x′ : x ≡ xAt w (savedRow w (length Cs)) = ex ∙ ap (xAt w) r′ in
             rw (i, r′, n′, x′)
-            (returns-on R ks v (subst (λ (k : ℕ). k < 4294967296) n′ ln) lv (ev ∙ sym (sees R .values result-variable (omega arith)))
+            (returns-on R ss v (subst (λ (k : ℕ). k < 4294967296) n′ ln) lv (ev ∙ sym (sees R .values result-variable (omega arith)))
             (subst (λ (k : ℕ). k < frame-variables) x′ xl) (rw j e))
 
     -- the atoms of ensures

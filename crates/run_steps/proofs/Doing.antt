@@ -22,11 +22,12 @@ use Rattle.run_heap.specs.declared.View.{View}
 use Rattle.run_heap.specs.declared.Fault.{Fault}
 use Rattle.run_steps.specs.declared.Turn.{Turn}
 use Rattle.run_heap.specs.Views.{frameAt, variableAt, spot, readIn, viewOf, stopOf, Readable, frame-holder}
-use Rattle.run_footprint.specs.Footprints.{testIn, takeIn, marked, SmallCells}
+use Rattle.run_footprint.specs.Footprints.{testIn, takeIn, marked, SharesFit}
 use Rattle.run_steps.specs.States.{Represents, Follows, Does, CanStep, NotEnd, AtKind, Chooses, Jumps, stepped, setHere, letHere, computeHere, assertHere, releaseHere, ifOn, loopHere, jumpHere}
 use Rattle.run_heap.proofs.Reading.{spot-small}
 use Rattle.run_steps.proofs.Seeing.{ok-footprint}
-use Rattle.run_footprint.proofs.Regions.{only-word, only-tables, only-marked}
+use Rattle.run_footprint.proofs.Regions.{only-word, only-tables}
+use Rattle.run_footprint.proofs.Handing.{only-marked}
 use Rattle.run_steps.proofs.Moves as Moves
 use Rattle.run_steps.proofs.Steps as Steps
 
@@ -79,28 +80,28 @@ module _ {w : List ℕ} {c : Machine} (ready : CanStep w c) where
     row-atoms = (omega (arith, fits .atoms .1), omega (arith, fits .atoms .0))
 
   pub assert-does :
-      (ks : List ℕ) {d : Machine} → NotEnd w c → takeIn w (viewOf c) (formulaAt w (c .row)) [] ≡ ok ks → d ≡ stepped c (c .row + 1) →
+      (ss : List ℕ) {d : Machine} → NotEnd w c → takeIn w (viewOf c) (formulaAt w (c .row)) [] ≡ ok ss → d ≡ stepped c (c .row + 1) →
       Does w c w (Turn.On d) (assertHere w c)
-  assert-does ks n e q = does-on refl q (same-refl w) (λ m R. Moves.assert-on R _ ks (Moves.row-formula-ok R) n e)
+  assert-does ss n e q = does-on refl q (same-refl w) (λ m R. Moves.assert-on R _ ss (Moves.row-formula-ok R) n e)
 
   pub assert-stops :
       (s : Fault) → takeIn w (viewOf c) (formulaAt w (c .row)) [] ≡ no (stopOf s) →
       Does w c w (Turn.Stopped s) (assertHere w c)
   assert-stops s e = does-stop s (λ m R. Moves.assert-stop R _ s (Moves.row-formula-ok R) e)
 
-  -- the cells that a formula took
-  pub taken-small : (ks : List ℕ) → takeIn w (viewOf c) (formulaAt w (c .row)) [] ≡ ok ks → SmallCells ks
-  taken-small ks e =
+  -- the shares that a formula took
+  pub taken-fit : (ss : List ℕ) → takeIn w (viewOf c) (formulaAt w (c .row)) [] ≡ ok ss → SharesFit ss
+  taken-fit ss e =
       let R = ready .represents in
-      let (A, a, M) = ok-footprint (Moves.sees R) _ ks (Moves.row-formula-ok R) e in
-      M .small
+      let (A, a, M) = ok-footprint (Moves.sees R) _ ss (Moves.row-formula-ok R) e in
+      M .fit
 
   pub release-does :
-      (ks : List ℕ) {w′ : List ℕ} {d : Machine} → NotEnd w c → takeIn w (viewOf c) (formulaAt w (c .row)) [] ≡ ok ks → w′ ≡ marked w ks 0 →
+      (ss : List ℕ) {w′ : List ℕ} {d : Machine} → NotEnd w c → takeIn w (viewOf c) (formulaAt w (c .row)) [] ≡ ok ss → w′ ≡ marked w ss (c .holder) 0 →
       d ≡ stepped c (c .row + 1) → Does w c w′ (Turn.On d) (releaseHere w c)
-  release-does ks n e p q =
-      does-on p q (only-tables (only-marked w ks 0 (taken-small ks e)) (omega arith))
-      (λ m R. Steps.release-on R _ ks (Moves.row-formula-ok R) n e)
+  release-does ss n e p q =
+      does-on p q (only-tables (only-marked w ss (c .holder) 0 (taken-fit ss e)) (omega arith))
+      (λ m R. Steps.release-on R _ ss (Moves.row-formula-ok R) n e)
 
   pub release-stops :
       (s : Fault) → takeIn w (viewOf c) (formulaAt w (c .row)) [] ≡ no (stopOf s) →
@@ -131,12 +132,12 @@ module _ {w : List ℕ} {c : Machine} (ready : CanStep w c) where
   loop-atom k = let l = fits .condition k in (l, omega (arith, l, fits .atoms .1))
 
   pub loop-does :
-      (ks : List ℕ) {r : Turn} → takeIn w (viewOf c) (formulaAt w (c .row)) [] ≡ ok ks → (a : ℕ) → a ≡ firstAtomAt w (c .row) - 1 →
+      (ss : List ℕ) {r : Turn} → takeIn w (viewOf c) (formulaAt w (c .row)) [] ≡ ok ss → (a : ℕ) → a ≡ firstAtomAt w (c .row) - 1 →
       Does w c w r (ifOn w a) → Does w c w r (loopHere w c)
-  loop-does ks {r} e a ea D =
+  loop-does ss {r} e a ea D =
       record {
         tables = D .tables;
-        follows = λ m R. subst (Follows w c r m) (rw ea (sym (Moves.loop-is R _ ks e))) (D .follows m R);
+        follows = λ m R. subst (Follows w c r m) (rw ea (sym (Moves.loop-is R _ ss e))) (D .follows m R);
       }
 
   pub loop-stops : (s : Fault) → takeIn w (viewOf c) (formulaAt w (c .row)) [] ≡ no (stopOf s) → Does w c w (Turn.Stopped s) (loopHere w c)
@@ -201,11 +202,11 @@ module _ {w : List ℕ} {c : Machine} (ready : CanStep w c) where
     unfolding statementNumber
     set-operands = (omega (arith, fits .x), omega (arith, fits .field k))
 
-    pub set-small : (j : ℕ) → spot w v x f ≡ ok j → j < heap-fields
-    set-small j e = spot-small x f (view-readable ev) e
+    pub set-small : (j : ℕ) → spot w v 2 x f ≡ ok j → j < heap-fields
+    set-small j e = spot-small 2 x f (view-readable ev) e
 
     pub set-does :
-        (j y n : ℕ) {w′ : List ℕ} {d : Machine} → spot w v x f ≡ ok j → y ≡ yAt w (c .row) → n < 4294967296 →
+        (j y n : ℕ) {w′ : List ℕ} {d : Machine} → spot w v 2 x f ≡ ok j → y ≡ yAt w (c .row) → n < 4294967296 →
         n ≡ variableAt w (v .base) y → w′ ≡ putWord w (values-at + j * 4) n → d ≡ stepped c (c .row + 1) →
         Does w c w′ (Turn.On d) (setHere w c)
     unfolding statementNumber
@@ -217,6 +218,6 @@ module _ {w : List ℕ} {c : Machine} (ready : CanStep w c) where
         (en ∙ rw (ev, ey)) (rw (← ev, ← ex, ← ef) e) l)
 
     pub set-stops :
-        (s : Fault) → spot w v x f ≡ no (stopOf s) →
+        (s : Fault) → spot w v 2 x f ≡ no (stopOf s) →
         Does w c w (Turn.Stopped s) (setHere w c)
     set-stops s e = does-stop s (λ m R. Steps.set-stop R (xAt w (c .row)) _ _ s (fits .x) (rw (← ev, ← ex, ← ef) e))

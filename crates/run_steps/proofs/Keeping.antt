@@ -18,7 +18,7 @@ use Rattle.tables.specs.Decode.{fieldCountAt}
 use Rattle.tables.specs.Tables.{Tables, placeAt}
 use Rattle.tables.specs.Stores.{SameTables}
 use Rattle.tables.proofs.Decoding.{rows-count-same, kind-same, methods-count-same, classes-count-same, field-count-same, place-same, ensures-same}
-use Rattle.run_heap.specs.Views.{frameAt, variableAt, savedHolder, savedRow, methodOf, cellValue, cellHolder, classIn, firstIn, placed, cellOf, holderIn, holderOf, ObjectFits}
+use Rattle.run_heap.specs.Views.{frameAt, variableAt, savedHolder, savedRow, methodOf, cellValue, halvesAt, classIn, firstIn, placed, cellOf, halvesIn, halvesOf, ObjectFits}
 use Rattle.run_steps.specs.States.{HeapIs, FrameIs, EnsuresIs, CallerIs, CallersAre}
 use Rattle.run_heap.proofs.Reading.{cell-small}
 use Rattle.run_footprint.proofs.Regions.{Only, variable-kept, saved-holder-kept, saved-row-kept, method-kept, class-in-kept, first-in-kept}
@@ -66,24 +66,25 @@ module _ (w w′ : List ℕ) (same : SameTables w w′) (tables : Tables w) wher
           rw (S .class i l, S .first i l, p)
       go false t = refl
 
-  holder-in-kept :
-      (n most : ℕ) (c : Option ℕ) → ((k : ℕ) → c ≡ some k → cellHolder w′ k ≡ cellHolder w k) → holderIn w′ c ≡ holderIn w c
-  unfolding holderIn
-  holder-in-kept n most none h = refl
-  holder-in-kept n most (some k) h = h k refl
+  halves-in-kept :
+      (number : ℕ) (c : Option ℕ) → ((k : ℕ) → c ≡ some k → halvesAt w′ number k ≡ halvesAt w number k) →
+      halvesIn w′ number c ≡ halvesIn w number c
+  unfolding halvesIn
+  halves-in-kept number none h = refl
+  halves-in-kept number (some k) h = h k refl
 
-  pub holder-of-kept :
-      (n most : ℕ) (p : Location) → ((i : ℕ) → i < n → ObjectFits w most i) → SameObjects n w w′ →
-      ((k : ℕ) → k < most → cellHolder w′ k ≡ cellHolder w k) → holderOf w′ n p ≡ holderOf w n p
-  unfolding holderOf
-  holder-of-kept n most p fit S h =
+  pub halves-of-kept :
+      (n most number : ℕ) (p : Location) → ((i : ℕ) → i < n → ObjectFits w most i) → SameObjects n w w′ →
+      ((k : ℕ) → k < most → halvesAt w′ number k ≡ halvesAt w number k) → halvesOf w′ n number p ≡ halvesOf w n number p
+  unfolding halvesOf
+  halves-of-kept n most number p fit S h =
       rw (cell-kept n most (p .object) (p .field) fit S)
-      (holder-in-kept n most _ (λ k e. h k (cell-small (p .object) (p .field) tables fit e)))
+      (halves-in-kept number _ (λ k e. h k (cell-small (p .object) (p .field) tables fit e)))
 
   -- FRAMES
   pub frame-kept :
       (n n′ b number row : ℕ) (F : Frame) → ((x : ℕ) → x < frame-variables → variableAt w′ b x ≡ variableAt w b x) →
-      ((p : Location) → eqb (holderOf w′ n′ p) number ≡ eqb (holderOf w n p) number) →
+      ((p : Location) → halvesOf w′ n′ number p ≡ halvesOf w n number p) →
       FrameIs w n b number row F → FrameIs w′ n′ b number row F
   frame-kept n n′ b number row F v h I =
       record {
@@ -102,7 +103,7 @@ module _ (w w′ : List ℕ) (same : SameTables w w′) (tables : Tables w) wher
 
   caller-kept :
       (n n′ i bound : ℕ) (F : Frame) → SameFrame i w w′ →
-      ((number : ℕ) → 1 ≤ number → number < bound → (p : Location) → eqb (holderOf w′ n′ p) number ≡ eqb (holderOf w n p) number) →
+      ((number : ℕ) → 1 ≤ number → number < bound → (p : Location) → halvesOf w′ n′ number p ≡ halvesOf w n number p) →
       CallerIs w n i bound F → CallerIs w′ n′ i bound F
   caller-kept n n′ i bound F S h C =
       let r : savedRow w i < most-statements = omega (arith, C .frame .row-fits, tables .rows) in
@@ -118,7 +119,7 @@ module _ (w w′ : List ℕ) (same : SameTables w w′) (tables : Tables w) wher
 
   pub callers-kept :
       (n n′ bound : ℕ) (Fs : List Frame) → ((i : ℕ) → i < length Fs → SameFrame i w w′) →
-      ((number : ℕ) → 1 ≤ number → number < bound → (p : Location) → eqb (holderOf w′ n′ p) number ≡ eqb (holderOf w n p) number) →
+      ((number : ℕ) → 1 ≤ number → number < bound → (p : Location) → halvesOf w′ n′ number p ≡ halvesOf w n number p) →
       CallersAre w n bound Fs → CallersAre w′ n′ bound Fs
   unfolding CallersAre
   callers-kept n n′ bound [] S h C = tt
@@ -134,7 +135,7 @@ module _ (w w′ : List ℕ) (same : SameTables w w′) (tables : Tables w) wher
       (objects fields holders holders′ : ℕ) (h h′ : Heap) → SameObjects objects w w′ → length h′ ≡ length h → fieldsIn h′ ≡ fieldsIn h →
       ((o f k : ℕ) → cellOf w objects o f ≡ some k → valueAt h′ o f ≡ cellValue w′ k) →
       ((o f : ℕ) → T (any (λ c. eqb (c .name) f) (object h o)) → T (any (λ c. eqb (c .name) f) (object h′ o))) →
-      ((k : ℕ) → k < fields → cellHolder w′ k ≤ holders′) → HeapIs w objects fields holders h → HeapIs w′ objects fields holders′ h′
+      ((k n : ℕ) → k < fields → holders′ < n → halvesAt w′ n k ≡ 0) → HeapIs w objects fields holders h → HeapIs w′ objects fields holders′ h′
   heap-changed objects fields holders holders′ h h′ S n g v s m H =
       record {
         count = n ∙ H .count;
@@ -153,7 +154,7 @@ module _ (w w′ : List ℕ) (same : SameTables w w′) (tables : Tables w) wher
 
   pub heap-kept :
       (objects fields holders holders′ : ℕ) (h : Heap) → SameObjects objects w w′ →
-      ((k : ℕ) → k < fields → cellValue w′ k ≡ cellValue w k) → ((k : ℕ) → k < fields → cellHolder w′ k ≤ holders′) →
+      ((k : ℕ) → k < fields → cellValue w′ k ≡ cellValue w k) → ((k n : ℕ) → k < fields → holders′ < n → halvesAt w′ n k ≡ 0) →
       HeapIs w objects fields holders h → HeapIs w′ objects fields holders′ h
   heap-kept objects fields holders holders′ h S v m H =
       heap-changed objects fields holders holders′ h h S refl refl

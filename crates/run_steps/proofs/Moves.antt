@@ -12,7 +12,7 @@ use Rattle.rules.specs.Base.{Try, ok, no, _>>=_, update}
 use Rattle.rules.specs.Answers.{Stop}
 use Rattle.rules.specs.Grammar.{Else, Again, statementNumber}
 use Rattle.rules.specs.Syntax.{Formula}
-use Rattle.rules.specs.Machine.{Frame, Location, Config, on, took, holds, valueOf, value, compared, closing, loopOf, jump, advance, bind, withFrame, choose, ifStep, elseStep, loopStep, againStep, assertStep}
+use Rattle.rules.specs.Machine.{Frame, Location, Config, on, took, valueOf, value, compared, closing, loopOf, jump, advance, bind, withFrame, choose, ifStep, elseStep, loopStep, againStep, assertStep}
 use Rattle.rules.specs.declared.Machine.{Machine}
 use Rattle.rules.proofs.Lists.{update-same, update-other, decide-eq}
 use Rattle.tables.specs.Layout.{frame-variables}
@@ -20,7 +20,7 @@ use Rattle.tables.specs.Decode.{byteAt, allRows, rowCount, kindAt, targetAt, fo
 use Rattle.tables.specs.Tables.{RowFits, HasTarget}
 use Rattle.run_heap.specs.declared.Fault.{Fault}
 use Rattle.run_steps.specs.declared.Turn.{Turn}
-use Rattle.run_heap.specs.Views.{frameAt, variableAt, holderOf, viewOf, readIn, stopOf, ObjectFits, Readable}
+use Rattle.run_heap.specs.Views.{frameAt, variableAt, halvesOf, viewOf, readIn, stopOf, ObjectFits, Readable}
 use Rattle.run_footprint.specs.Footprints.{rightTest, testIn, takeIn}
 use Rattle.run_steps.specs.States.{FrameIs, Represents, Follows, atRow, stepped, NotEnd, AtKind, Chooses, Jumps, ifOn, loopOn, jumpHere}
 use Rattle.run_heap.proofs.Reading.{cell-small}
@@ -30,7 +30,7 @@ use Rattle.run_steps.proofs.Seeing.{Sees, FormulaOk, cells-apart, value
 pub frame-jump :
     {w : List ℕ} {n b number row : ℕ} {F : Frame} (row′ i : ℕ) → row′ < rowCount w → i ≡ row′ →
     FrameIs w n b number row F → FrameIs w n b number row′ (jump i F)
-unfolding jump holds valueOf
+unfolding jump valueOf
 frame-jump row′ i l e I =
     record {
       size = I .size;
@@ -51,9 +51,9 @@ update-size (x ∷ l) (suc i) a h = ap suc (update-size l i a (omega arith))
 pub frame-bind :
     {w w′ : List ℕ} {n b number row : ℕ} {F : Frame} (x v : ℕ) → x < frame-variables → variableAt w′ b x ≡ v →
     ((y : ℕ) → y < frame-variables → (y ≡ x → ⊥) → variableAt w′ b y ≡ variableAt w b y) →
-    ((p : Location) → holderOf w′ n p ≡ holderOf w n p) → rowCount w′ ≡ rowCount w →
+    ((p : Location) → halvesOf w′ n number p ≡ halvesOf w n number p) → rowCount w′ ≡ rowCount w →
     FrameIs w n b number row F → FrameIs w′ n b number row (bind x v F)
-unfolding bind holds valueOf
+unfolding bind valueOf
 frame-bind {w} {w′} {n} {b} {number} {row} {F} x v l e o h k I =
     record {
       size = update-size (F .values) x v (omega (arith, I .size)) ∙ I .size;
@@ -64,7 +64,7 @@ frame-bind {w} {w′} {n} {b} {number} {row} {F} x v l e o h k I =
           (decide-eq y x);
       row-is = I .row-is;
       row-fits = omega (arith, I .row-fits, k);
-      held = λ p. I .held p ∙ ap (λ (i : ℕ). eqb i number) (sym (h p));
+      held = λ p. I .held p ∙ sym (h p);
       numbered = I .numbered;
     }
 
@@ -97,7 +97,6 @@ module _ {w : List ℕ} {c : Machine} {m : Config} (R : Represents w c m) where
       record {
         values = running .values;
         held = running .held;
-        numbered = running .numbered;
         cells = R .heap .value;
         small = λ o f k e. cell-small o f (R .tables) fit e;
         apart = cells-apart (R .tables) (R .heap);
@@ -169,11 +168,11 @@ module _ {w : List ℕ} {c : Machine} {m : Config} (R : Represents w c m) where
   assert-stop φ f l e = follow-stop f _ (rw (no-footprint sees φ (stopOf f) l e))
 
   pub assert-on :
-      (φ : Formula ℕ) (ks : List ℕ) → FormulaOk φ → NotEnd w c → takeIn w (viewOf c) φ [] ≡ ok ks →
+      (φ : Formula ℕ) (ss : List ℕ) → FormulaOk φ → NotEnd w c → takeIn w (viewOf c) φ [] ≡ ok ss →
       Follows w c (Turn.On (stepped c (c .row + 1))) m (took (assertStep φ m))
   unfolding assertStep _>>=_
-  assert-on φ ks l n e =
-      let (A, a, M) = ok-footprint sees φ ks l e in
+  assert-on φ ss l n e =
+      let (A, a, M) = ok-footprint sees φ ss l e in
       follow-on _ _ _ (rw a) refl (moved-on n)
 
   -- BRANCHES AND LOOPS
@@ -250,6 +249,6 @@ module _ {w : List ℕ} {c : Machine} {m : Config} (R : Represents w c m) where
   loop-stop a f e = follow-stop f _ (rw (no-footprint sees _ (stopOf f) row-formula-ok e))
 
   pub loop-is :
-      (a : ℕ) (ks : List ℕ) → takeIn w (viewOf c) (formulaAt w (c .row)) [] ≡ ok ks → loopOn w a c m ≡ ifOn w a m
+      (a : ℕ) (ss : List ℕ) → takeIn w (viewOf c) (formulaAt w (c .row)) [] ≡ ok ss → loopOn w a c m ≡ ifOn w a m
   unfolding loopStep _>>=_
-  loop-is a ks e = let (A, f, M) = ok-footprint sees _ ks row-formula-ok e in rw f
+  loop-is a ss e = let (A, f, M) = ok-footprint sees _ ss row-formula-ok e in rw f

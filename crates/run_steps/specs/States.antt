@@ -10,7 +10,7 @@ use lib.ListN.{length}
 use Rattle.rules.specs.Limits.{heap-objects, heap-fields, most-frames}
 use Rattle.rules.specs.Base.{any}
 use Rattle.rules.specs.Grammar.{Statement, Call, If, Else, End, Loop, Again, statementNumber}
-use Rattle.rules.specs.Machine.{Heap, Frame, Location, Config, Step, fieldsIn, valueAt, object, valueOf, holds, on, stop, done, took}
+use Rattle.rules.specs.Machine.{Heap, Frame, Location, Config, Step, halves, fieldsIn, valueAt, object, valueOf, on, stop, done, took}
 use Rattle.rules.specs.Machine.{setStep, assignStep, computeStep, assertStep, releaseStep, ifStep, elseStep, loopStep, againStep}
 use Rattle.rules.specs.declared.Machine.{Machine}
 use Rattle.tables.specs.Layout.{frame-variables}
@@ -18,9 +18,9 @@ use Rattle.tables.specs.Decode.{rowCount, operationOf, kindAt, xAt, yAt, zAt, m
 use Rattle.tables.specs.Tables.{Tables}
 use Rattle.tables.specs.Stores.{SameTables}
 use Rattle.run_steps.specs.declared.Turn.{Turn}
-use Rattle.run_heap.specs.Views.{frameAt, variableAt, savedHolder, savedRow, methodOf, cellValue, cellHolder, classIn, firstIn, cellOf, holderOf, ObjectFits, stopOf}
+use Rattle.run_heap.specs.Views.{frameAt, variableAt, savedHolder, savedRow, methodOf, cellValue, halvesAt, classIn, firstIn, cellOf, halvesOf, ObjectFits, stopOf}
 
--- so many objects with so many fields stand for the heap; no cell is held by a number above `holders`
+-- so many objects with so many fields stand for the heap; no half of a cell is with a number above `holders`
 pub record HeapIs (w : List ℕ) (objects fields holders : ℕ) (h : Heap) : Type 0 where
   pub count : length h ≡ objects
   pub fields-count : fieldsIn h ≡ fields
@@ -30,7 +30,7 @@ pub record HeapIs (w : List ℕ) (objects fields holders : ℕ) (h : Heap) : Typ
   pub apart : (i j : ℕ) → i < j → j < objects → firstIn w i + fieldCountAt w (classIn w i) ≤ firstIn w j
   pub value : (o f k : ℕ) → cellOf w objects o f ≡ some k → valueAt h o f ≡ cellValue w k
   pub has : (o f k : ℕ) → cellOf w objects o f ≡ some k → T (any (λ c. eqb (c .name) f) (object h o))
-  pub marks : (k : ℕ) → k < fields → cellHolder w k ≤ holders
+  pub marks : (k n : ℕ) → k < fields → holders < n → halvesAt w n k ≡ 0
 
 -- the frame at b, which holds by a number and does a row next
 pub record FrameIs (w : List ℕ) (objects b number row : ℕ) (F : Frame) : Type 0 where
@@ -38,7 +38,7 @@ pub record FrameIs (w : List ℕ) (objects b number row : ℕ) (F : Frame) : Typ
   pub values : (x : ℕ) → x < frame-variables → valueOf F x ≡ variableAt w b x
   pub row-is : F .row ≡ row
   pub row-fits : row < rowCount w
-  pub held : (p : Location) → holds F p ≡ eqb (holderOf w objects p) number
+  pub held : (p : Location) → halves (F .held) p ≡ halvesOf w objects number p
   pub numbered : 1 ≤ number
 
 -- the formula that the `end` of frame n tests; main has none

@@ -1,6 +1,6 @@
 // Which state the stores stand for; the steps that stay in their frame.
 use rules::Machine;
-use run_footprint::Cells;
+use run_footprint::Shares;
 use run_footprint::Took;
 use run_footprint::Truth;
 use run_heap::Fault;
@@ -18,7 +18,10 @@ ghost use Rattle.rules.specs.Grammar.{Set, Let, If, Loop, isComputing};
 ghost use Rattle.tables.specs.Decode.{kindAt, formulaAt, atomCount};
 ghost use Rattle.run_steps.specs.States.{CanStep, NotEnd, AtKind, Chooses, Jumps, Does, most-count, stepped, setHere, letHere, computeHere, assertHere, releaseHere, ifOn, ifHere, loopHere, jumpHere};
 ghost use Rattle.run_heap.specs.Views.{viewOf};
-ghost use Rattle.run_footprint.specs.Footprints.{takeIn, footprint-cells, TookUpTo};
+ghost use Rattle.run_footprint.specs.Footprints.{takeIn, footprint-shares, TookUpTo};
+
+// The number of no frame: what is released goes to it.
+const NOBODY: u32 = 0;
 
 // What became of a step: on to the next, not done, or main's `end` done.
 pub enum Turn {
@@ -44,15 +47,15 @@ fn next(c: Machine, row: u32) -> Machine
 }
 
 // What the formula of the row takes.
-fn row_footprint(work: &[u8], c: Machine, cells: &mut Cells) -> Took
-    requires { ⌜ CanStep (now work) c × (length (now cells) ≡ footprint-cells) ⌝ }
-    ensures { λ r. ⌜ TookUpTo r (now (cells .exit)) footprint-cells (takeIn (now (work .entry)) (viewOf c) (formulaAt (now (work .entry)) (c .row)) []) ⌝ }
+fn row_footprint(work: &[u8], c: Machine, shares: &mut Shares) -> Took
+    requires { ⌜ CanStep (now work) c × (length (now shares) ≡ footprint-shares) ⌝ }
+    ensures { λ r. ⌜ TookUpTo r (now (shares .exit)) footprint-shares (takeIn (now (work .entry)) (viewOf c) (formulaAt (now (work .entry)) (c .row)) []) ⌝ }
 {
     let row = c.row as usize;
     let v = run_heap::view_of(c);
     let first = tables::first_atom_at(work, row);
     let n = tables::atom_count_at(work, row);
-    run_footprint::footprint(work, v, first, n, cells)
+    run_footprint::footprint(work, v, first, n, shares)
 }
 
 // `assert` and `join`.
@@ -60,9 +63,9 @@ pub fn assert_step(work: &[u8], c: Machine) -> Turn
     requires { ⌜ CanStep (now work) c × NotEnd (now work) c ⌝ }
     ensures { λ r. ⌜ Does (now (work .entry)) c (now (work .entry)) r (assertHere (now (work .entry)) c) ⌝ }
 {
-    let mut cells = [0usize; run_footprint::CELLS];
-    match row_footprint(work, c, &mut cells) {
-        Took::Cells(_) => Turn::On(next(c, c.row + 1)),
+    let mut shares = [0usize; run_footprint::SHARES];
+    match row_footprint(work, c, &mut shares) {
+        Took::Shares(_) => Turn::On(next(c, c.row + 1)),
         Took::Lacking(s) => Turn::Stopped(s),
     }
 }
@@ -72,10 +75,10 @@ pub fn release_step(work: &mut [u8], c: Machine) -> Turn
     requires { ⌜ CanStep (now work) c × NotEnd (now work) c ⌝ }
     ensures { λ r. ⌜ Does (now (work .entry)) c (now (work .exit)) r (releaseHere (now (work .entry)) c) ⌝ }
 {
-    let mut cells = [0usize; run_footprint::CELLS];
-    match row_footprint(work, c, &mut cells) {
-        Took::Cells(n) => {
-            run_footprint::mark(work, &cells, n, 0);
+    let mut shares = [0usize; run_footprint::SHARES];
+    match row_footprint(work, c, &mut shares) {
+        Took::Shares(n) => {
+            run_footprint::mark(work, &shares, n, c.holder, NOBODY);
             Turn::On(next(c, c.row + 1))
         }
         Took::Lacking(s) => Turn::Stopped(s),
@@ -110,9 +113,9 @@ pub fn loop_step(work: &[u8], c: Machine) -> Turn
     ensures { λ r. ⌜ Does (now (work .entry)) c (now (work .entry)) r (loopHere (now (work .entry)) c) ⌝ }
 {
     let row = c.row as usize;
-    let mut cells = [0usize; run_footprint::CELLS];
-    match row_footprint(work, c, &mut cells) {
-        Took::Cells(_) => choose(work, c, tables::first_atom_at(work, row) - 1),
+    let mut shares = [0usize; run_footprint::SHARES];
+    match row_footprint(work, c, &mut shares) {
+        Took::Shares(_) => choose(work, c, tables::first_atom_at(work, row) - 1),
         Took::Lacking(s) => Turn::Stopped(s),
     }
 }
@@ -165,7 +168,7 @@ pub fn compute_step(work: &mut [u8], c: Machine) -> Turn
     }
 }
 
-// `set`: "first tests `acc x f`".
+// `set`: "first tests `acc x f`"; W8: "Reading needs one half, `set` both."
 pub fn set_step(work: &mut [u8], c: Machine) -> Turn
     requires { ⌜ CanStep (now work) c × AtKind (now work) c Set ⌝ }
     ensures { λ r. ⌜ Does (now (work .entry)) c (now (work .exit)) r (setHere (now (work .entry)) c) ⌝ }
@@ -175,7 +178,7 @@ pub fn set_step(work: &mut [u8], c: Machine) -> Turn
     let b = v.base;
     let x = tables::x_at(work, row);
     let f = tables::member_at(work, row);
-    match run_heap::locate(work, v, x, f) {
+    match run_heap::locate(work, v, Stores::WHOLE, x, f) {
         Spot::At(k) => {
             let y = tables::y_at(work, row);
             let n = run_heap::variable(work, b, y);

@@ -5,20 +5,22 @@ use mathlib.Core.Logic.{_⊎_, inl, inr}
 use mathlib.Core.Option.{Option, none, some}
 use Prim.Native.Nat.{ℕ, _≤_, _%_}
 use native.Mathlib.Omega.{arith}
+use native.Mathlib.Nat.{le-refl}
+use mathlib.Core.List.{List}
 use lib.Dec.{T}
 use Rattle.rules.specs.Base.{ok, check, _>>_, _>>=_}
 use Rattle.rules.specs.Answers.{overflow}
 use Rattle.rules.specs.Syntax.{Operation, eq, var, same, this-variable, parameter, first-local, words}
 use Rattle.rules.specs.State.{Term, State, equalIn, resolve, standIn, removeTo, remove, removedTerm}
 use Rattle.rules.specs.Rules.{addEqual, assignRule}
-use Rattle.rules.specs.Machine.{Config, Frame, Heap, valueOf, value, bind, advance, jump, holds, withFrame, assignStep, raised, inRange, computed, computeStep}
+use Rattle.rules.specs.Machine.{Config, Frame, Heap, Location, halves, valueOf, value, bind, advance, jump, withFrame, assignStep, raised, inRange, computed, computeStep}
 use Rattle.rules.proofs.Lists.{decide-eq}
 use Rattle.rules.proofs.Tries.{bind-ok, ok-inj, bind-of-ok}
 use Rattle.rules.proofs.Closure.{same→≡}
 use Rattle.soundness.proofs.Satisfied.{termValue, Reads, Satisfied, satisfied-frame}
 use Rattle.soundness.proofs.ShowSound.{resolve-listed, resolve-reads}
-use Rattle.soundness.proofs.RemoveSound.{bound-same, bound-other, bound-holds, remove-sound, removed-term}
-use Rattle.soundness.proofs.AddSound.{fact-added}
+use Rattle.soundness.proofs.RemoveSound.{bound-same, bound-other, bound-held, remove-sound, removed-term}
+use Rattle.soundness.proofs.AddSound.{fact-satisfied}
 use Rattle.soundness.proofs.Stack.{SameCall, Goes}
 
 module _ (h : Heap) (F : Frame) (s : State) (S : Satisfied h F s) (x : ℕ) where
@@ -42,7 +44,7 @@ module _ (h : Heap) (F : Frame) (s : State) (S : Satisfied h F s) (x : ℕ) wher
       go none m a = subst (Satisfied h _) (ok-inj a) (remove-sound h F s S x (termValue h F r))
       go (some t) m a =
           let (reads, value) = removed-term h F s S x (termValue h F r) r t m l in
-          fact-added h (bind x (termValue h F r) F) eq (var x) t (remove x s) s′ a tt reads
+          fact-satisfied h (bind x (termValue h F r) F) eq (var x) t (remove x s) s′ a tt reads
           (bound-same F x (termValue h F r) ∙ sym value)
           (remove-sound h F s S x (termValue h F r))
 
@@ -69,7 +71,7 @@ module _ (h : Heap) (F : Frame) (s : State) (S : Satisfied h F s) (x : ℕ) wher
       go r l true d b =
           subst (Satisfied h _) (ok-inj b)
           (satisfied-frame h F _ s (bound-again (termValue h F r) (ap (termValue h F) (same→≡ r (var x) (subst T d tt))))
-          (bound-holds F x (termValue h F r)) S)
+          (λ l. omega (arith, ap (λ (A : List Location). halves A l) (bound-held F x (termValue h F r)))) S)
       go r l false d b = equal-added r s′ l b
 
 -- a frame in which neither `this` nor w is assigned goes on in its call
@@ -86,14 +88,14 @@ bound-call F x v l =
 pub assign-sound :
     (m : Config) (s s′ : State) (x : ℕ) (e : Term) → Satisfied (m .heap) (m .frame) s → first-local ≤ x →
     assignRule x e s ≡ ok s′ → Goes m s′ (assignStep x e m)
-unfolding assignStep withFrame advance jump holds valueOf bind
+unfolding assignStep withFrame advance jump valueOf bind
 assign-sound m s s′ x e S l a =
     let F : Frame = m .frame in
     let A : Assigned (m .heap) F s S x e s′ = assigned (m .heap) F s S x e s′ a in
     subst (Goes m s′) (sym (bind-of-ok (value (m .heap) F e) _ _ (A .reads)))
     (record {
       satisfied =
-          satisfied-frame (m .heap) (bind x (A .read) F) (advance (bind x (A .read) F)) s′ (λ v. refl) (λ p i. i) (A .satisfied);
+          satisfied-frame (m .heap) (bind x (A .read) F) (advance (bind x (A .read) F)) s′ (λ v. refl) (λ l. le-refl _) (A .satisfied);
       row = refl;
       same-call = bound-call F x (A .read) l;
       callers = refl;
@@ -103,7 +105,7 @@ assign-sound m s s′ x e S l a =
 pub compute-sound :
     (m : Config) (s : State) (o : Operation) (x y z : ℕ) → Satisfied (m .heap) (m .frame) s → first-local ≤ x →
     Goes m (remove x s) (computeStep o x y z m)
-unfolding computeStep computed check _>>_ _>>=_ withFrame advance jump holds valueOf bind
+unfolding computeStep computed check _>>_ _>>=_ withFrame advance jump valueOf bind
 compute-sound m s o x y z S l =
     let n : ℕ = raised o (valueOf (m .frame) y) (valueOf (m .frame) z) in go (inRange n) (n % words)
   where
@@ -113,7 +115,7 @@ compute-sound m s o x y z S l =
     go true v =
         record {
           satisfied =
-              satisfied-frame (m .heap) (bind x v (m .frame)) (advance (bind x v (m .frame))) (remove x s) (λ v. refl) (λ p i. i)
+              satisfied-frame (m .heap) (bind x v (m .frame)) (advance (bind x v (m .frame))) (remove x s) (λ v. refl) (λ l. le-refl _)
               (remove-sound (m .heap) (m .frame) s S x v);
           row = refl;
           same-call = bound-call (m .frame) x v l;

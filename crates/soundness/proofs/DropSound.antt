@@ -4,21 +4,36 @@ use mathlib.Core.Bool.{not}
 use mathlib.Core.List.{List, [], _∷_}
 use mathlib.Core.Logic.{_⊎_, ⊎-elim}
 use mathlib.Core.Option.{some}
+use Prim.Native.Nat.{ℕ}
 use lib.Dec.{T}
 use Rattle.rules.specs.Base.{any, mapOption, Member}
 use Rattle.rules.specs.Syntax.{num, null, var, path}
-use Rattle.rules.specs.State.{Term, Permission, Fact, State, Renaming, pathOf, equalIn, becomes, renameFact, trivial, renameFacts, lists, withoutPaths, factsWithout}
+use Rattle.rules.specs.State.{Term, Permission, Fact, State, Renaming, entry, pathOf, equalIn, becomes, renameFact, trivial, renameFacts, lists, withoutPaths, factsWithout}
 use Rattle.rules.specs.Machine.{Frame, Heap}
 use Rattle.rules.proofs.Lists.{keep-member, came-from, bind-some, some-inj}
-use Rattle.rules.proofs.Successors.{Known, order-known, successor-is, gives-way, member-lists, without-is}
-use Rattle.soundness.proofs.Satisfied.{termValue, Reads, FactTrue, Satisfied, related-by}
+use Rattle.rules.proofs.Successors.{Known, order-known, entry-listed, listed-entry, successor-is, gives-way, without-is}
+use Rattle.soundness.proofs.Satisfied.{termValue, Listed, Reads, FactTrue, Satisfied, related-by}
 use Rattle.soundness.proofs.ShowSound.{equal-value}
+
+-- a listed path, by the checker's test
+pub reads-listed : (ps : List Permission) (x f : ℕ) → Listed ps x f → T (lists ps (path x f))
+unfolding pathOf
+reads-listed ps x f (k, i) = entry-listed ps (entry k x f) i
+
+pub listed-reads : (ps : List Permission) (x f : ℕ) → T (lists ps (path x f)) → Listed ps x f
+unfolding pathOf
+listed-reads ps x f h =
+    let (p, i, e) = listed-entry ps (path x f) h in
+    let a : p .variable ≡ x = cc in
+    let b : p .field ≡ f = cc in
+    let is : p ≡ entry (p .permit) x f = λ i. record { permit = p .permit; variable = a i; field = b i } in
+    (p .permit, subst (λ (q : Permission). Member q ps) is i)
 
 known-reads : (ps : List Permission) (t : Term) → Known ps t → Reads ps t
 known-reads ps (num n) k = tt
 known-reads ps null k = tt
 known-reads ps (var x) k = tt
-known-reads ps (path x f) k = k
+known-reads ps (path x f) k = listed-reads ps x f k
 
 -- EVERY DROPPING: each term that is left or renamed has in G over h′ the value that it had in F over h
 module _ (h h′ : Heap) (F G : Frame) (s : State) (S : Satisfied h F s) (ρ : Renaming) (ps : List Permission)
@@ -52,19 +67,18 @@ module _ (h h′ : Heap) (F G : Frame) (s : State) (S : Satisfied h F s) (ρ : R
   facts-became g i =
       let (j, _) = keep-member (λ f. not (trivial f)) (mapOption (renameFact (becomes s ρ ps)) (s .facts)) g i in
       let (f, k, e) = came-from (renameFact (becomes s ρ ps)) (s .facts) g j in
-      fact-became f g e (S .facts f k)
+      fact-became f g e (S .knows .facts f k)
 
 -- PATHS DROPPED
 -- ps are left of the entries of s, and all that they list but the paths that go has over h′ the value that it had
 module _ (h h′ : Heap) (F : Frame) (s : State) (S : Satisfied h F s) (ps : List Permission) where
-  module _ (gone : List Permission) (all : (p : Permission) → Member p (s .permissions) → Member p ps ⊎ Member p gone)
+  module _ (gone : List Permission) (all : (x f : ℕ) → Listed (s .permissions) x f → Listed ps x f ⊎ T (lists gone (path x f)))
       (value : (u : Term) → (T (lists gone u) → ⊥) → Reads ps u → termValue h′ F u ≡ termValue h F u) where
     reads-left : (t : Term) → (T (lists gone t) → ⊥) → Reads (s .permissions) t → Reads ps t
-    unfolding pathOf
     reads-left (num n) out r = tt
     reads-left null out r = tt
     reads-left (var x) out r = tt
-    reads-left (path x f) out r = ⊎-elim (λ k. k) (λ u. absurd (out (member-lists gone _ u))) (all _ r)
+    reads-left (path x f) out r = ⊎-elim (λ k. k) (λ u. absurd (out u)) (all x f r)
 
     left-term :
         (t u : Term) → withoutPaths gone t ≡ some u → Reads (s .permissions) t → Reads ps u × (termValue h′ F u ≡ termValue h F t)
@@ -85,11 +99,11 @@ module _ (h h′ : Heap) (F : Frame) (s : State) (S : Satisfied h F s) (ps : Lis
 
   -- the lemma on dropping paths
   pub paths-dropped :
-      (gone : List Permission) → ((p : Permission) → Member p (s .permissions) → Member p ps ⊎ Member p gone) →
+      (gone : List Permission) → ((x f : ℕ) → Listed (s .permissions) x f → Listed ps x f ⊎ T (lists gone (path x f))) →
       ((u : Term) → (T (lists gone u) → ⊥) → Reads ps u → termValue h′ F u ≡ termValue h F u) → (g : Fact) →
       Member g (factsWithout gone ps s) → FactTrue h′ F ps g
   unfolding factsWithout lists any
-  paths-dropped [] all value g i = fact-left [] all value g (λ t z. z) (S .facts g i)
+  paths-dropped [] all value g i = fact-left [] all value g (λ t z. z) (S .knows .facts g i)
   paths-dropped (p ∷ gone) all value g i =
       facts-became h h′ F F s S (withoutPaths (p ∷ gone)) ps (left-term (p ∷ gone) all value)
       (λ u e r. value u (without-is (p ∷ gone) u u e .0) r) g i

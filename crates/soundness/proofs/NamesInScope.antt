@@ -7,9 +7,9 @@ use Prim.Native.Nat.{ℕ, zero, suc, _≤_, _<_}
 use native.Mathlib.Omega.{arith}
 use lib.Dec.{T, T-not, eqb, eqb-refl, leb, leb→le}
 use lib.ListN.{length, getD}
-use Rattle.rules.specs.Base.{Name, is, eqName, any, all, Member}
-use Rattle.rules.specs.Syntax.{Expr, Formula, first-local, num, null, var, path, acc, cmp}
-use Rattle.rules.specs.Text.{reserved, relOf, exprOf, atomOf, formulaOf}
+use Rattle.rules.specs.Base.{Name, eqName, any, all, Member}
+use Rattle.rules.specs.Syntax.{Expr, Formula, first-local, num, null, var, path, own, cmp}
+use Rattle.rules.specs.Text.{reserved, relOf, isPermit, permitOf, exprOf, atomOf, formulaOf}
 use Rattle.rules.specs.Grammar.{Space, Operand, Tail, Line, statement, Call, form, isKind, isOperand, isFormed}
 use Rattle.rules.specs.Grammar.{read, assigned, field, new, typeName, variable, member, expression}
 use Rattle.rules.specs.Scope.{Declarations, Variable, Scope, Slot, operand, declaredIn, slotsFrom, atomOperands, atomSlots, atomsOf, slots}
@@ -109,14 +109,14 @@ module _ (Γ : Declarations) (vs : List Variable) (Q : ℕ → Type 0) (has : (v
         (w a b : Name) (φ : Formula ℕ) → T (all (knownSlot Γ vs s) (slotsFrom [] (atomOperands w) (a ∷ b ∷ []))) → Over Q φ →
         Over Q (resolveAtom Γ vs (atomOf w a b) ∷ φ)
     unfolding all slotsFrom atomOperands known atomOf resolveAtom
-    atom-over w a b φ h o = go (is "acc" w) h
+    atom-over w a b φ h o = go (isPermit w) h
       where
         go :
             (c : Bool) →
             T
             (all (knownSlot Γ vs s)
             (slotsFrom [] (cond c (variable read ∷ member field ∷ []) (expression ∷ expression ∷ [])) (a ∷ b ∷ []))) →
-            Over Q (resolveAtom Γ vs (cond c (acc a b) (cmp (relOf w) (exprOf a) (exprOf b))) ∷ φ)
+            Over Q (resolveAtom Γ vs (cond c (own (permitOf w) a b) (cmp (relOf w) (exprOf a) (exprOf b))) ∷ φ)
         go true h = (number-has a (and-both (inScope vs a) _ h .0), o)
         go false h =
             let (x, y) = and-both (knownExpr Γ vs (exprOf a)) _ h in

@@ -1,90 +1,220 @@
 -- Requires, added to nothing: after number 10, and with its few atoms, it is never refused.
-use mathlib.Core.Path.{_≡_, refl, sym, subst}
-use mathlib.Core.Bool.{Bool, true, false, cond, _&&_, _||_}
+use mathlib.Core.Path.{_≡_, refl, sym, ap, _∙_, subst}
+use mathlib.Core.Bool.{Bool, true, false, cond, _&&_}
 use mathlib.Core.List.{List, [], _∷_, _++_}
 use mathlib.Core.Logic.{⊎-elim}
-use mathlib.Core.Option.{some}
-use Prim.Native.Nat.{ℕ, zero, suc, _+_, _≤_}
+use mathlib.Core.Option.{Option, none, some}
+use Prim.Native.Nat.{ℕ, zero, suc, _+_, _≤_, _<_}
 use native.Mathlib.Omega.{arith}
-use borrow.Author.Tests.{lt-ltb}
-use lib.Dec.{T, eqb, eqb→eq}
+use lib.Dec.{T, eqb, eqb→eq, eqb-refl, lt→ltb}
 use lib.ListN.{length, length-append}
-use Rattle.rules.specs.Base.{Name, ok, _>>=_, _>>_, check, orElse, any, first, Member, at-head}
+use Rattle.rules.specs.Base.{Name, Try, ok, _>>=_, orElse, bindOption, Member, at-head}
 use Rattle.rules.specs.Limits.{most-atoms, most-permissions, most-facts}
-use Rattle.rules.specs.Syntax.{Formula, num, null, var, path, acc, cmp}
+use Rattle.rules.specs.Answers.{Refusal, stateFull}
+use Rattle.rules.specs.Syntax.{Rel, Permit, Formula, num, null, var, path, acc, read, own, cmp}
 use Rattle.rules.specs.Text.{isAtom, isFormula, formulaOf}
 use Rattle.rules.specs.Reading.{Access, framedExpr, framed}
-use Rattle.rules.specs.State.{Term, State, Permission, empty, pathOf, names, equalBy, equalIn, resolve, addPermission, addFact, add}
-use Rattle.rules.proofs.Lists.{head-or, member-left, member-right, any-in, in-any, and-both, and-intro}
-use Rattle.rules.proofs.Closure.{same-refl}
+use Rattle.rules.specs.State.{Term, Fact, State, Permission, Equality, Split, empty, entry, pathOf, names, equalIn, resolve, split, withPermit, joining, joins, addRead, addOwn, addPermission, addFact, add}
+use Rattle.rules.proofs.Lists.{head-or, member-left, member-right, in-any, first-some, and-both, and-intro, some-inj, none-some, bind-some}
+use Rattle.rules.proofs.Tries.{bind-of-ok, pass}
+use Rattle.rules.proofs.Closure.{Linked, itself, listed, back, onward, equalIn-sound, equalIn-complete}
+use Rattle.rules.proofs.Successors.{listed-fact, fact-listed}
+use Rattle.rules.proofs.FormedStates.{Parted, parted}
+
+-- MORE FACTS: what was ~ is ~
+linked-more : {t u : Term} (fs gs : List Fact) → ((f : Fact) → Member f fs → Member f gs) → Linked fs t u → Linked gs t u
+linked-more fs gs m itself = itself
+linked-more fs gs m (listed l) = let (f, i, r, p, q) = listed-fact fs l in listed (fact-listed gs f (m f i) r p q)
+linked-more fs gs m (back l) = back (linked-more fs gs m l)
+linked-more fs gs m (onward k l) = onward (linked-more fs gs m k) (linked-more fs gs m l)
+
+names-more :
+    (s s′ : State) → ((f : Fact) → Member f (s .facts) → Member f (s′ .facts)) → (y f : ℕ) (p : Permission) →
+    T (names (equalIn s) y f p) → T (names (equalIn s′) y f p)
+unfolding names
+names-more s s′ m y f p h =
+    let (a, b) = and-both (eqb (p .field) f) _ h in
+    and-intro (eqb (p .field) f) _ a
+    (equalIn-complete s′ _ _ (linked-more (s .facts) (s′ .facts) m (equalIn-sound s _ _ b)))
 
 -- THE PATHS OF A FRAMED FORMULA RESOLVE
-any-first : {A : Type 0} (t : A → Bool) (l : List A) → T (any t l) → (a : A) × (first t l ≡ some a)
-unfolding any first
-any-first t [] h = absurd h
-any-first t (a ∷ l) h = go (t a) (any-first t l) h
+-- each access that stands before in the line is listed, perhaps by another name
+abbrev Covered : List Access → State → Type 0
+Covered before s =
+    (a : Access) → Member a before → (p : Permission) × Member p (s .permissions) × T (names (equalIn s) (a .variable) (a .field) p)
+
+covered-too :
+    (before : List Access) (s : State) (x f : ℕ) (p : Permission) → Covered before s → Member p (s .permissions) →
+    T (names (equalIn s) x f p) → Covered (record { variable = x; field = f } ∷ before) s
+covered-too before s x f p C i h a j =
+    ⊎-elim (λ k. C a k)
+    (λ w.
+    subst (λ (a : Access). (p : Permission) × Member p (s .permissions) × T (names (equalIn s) (a .variable) (a .field) p)) (sym w) (p, i, h))
+    (head-or j)
+
+resolves :
+    (before : List Access) (s : State) → Covered before s → (t : Term) → T (framedExpr before t) →
+    (u : Term) × (resolve (equalIn s) (s .permissions) t ≡ ok u)
+unfolding resolve framedExpr orElse _>>=_
+resolves before s C (num n) h = (num n, refl)
+resolves before s C null h = (null, refl)
+resolves before s C (var x) h = (var x, refl)
+resolves before s C (path y f) h =
+    in-any (λ a. eqb (a .variable) y && eqb (a .field) f) before h λ a i g.
+    let (b, c) = and-both (eqb (a .variable) y) _ g in
+    let (p, j, l) = C a i in
+    let is : T (names (equalIn s) y f p) =
+    subst (λ v. T (names (equalIn s) v f p)) (eqb→eq (a .variable) y b)
+    (subst (λ g. T (names (equalIn s) (a .variable) g p)) (eqb→eq (a .field) f c) l) in
+    let (q, e) = first-some (names (equalIn s) y f) (s .permissions) p j is in
+    (pathOf q, rw e)
+
+-- WITH ROOM FOR ITS ATOMS, A FRAMED FORMULA IS ADDED
+-- no more than n entries and n facts
+record Small (n : ℕ) (s : State) : Type 0 where
+  entries : length (s .permissions) ≤ n
+  known : length (s .facts) ≤ n
+
+-- a state with one more of them, which covers these accesses
+record Next (n : ℕ) (before : List Access) (t : Try Refusal State) : Type 0 where
+  after : State
+  is-after : t ≡ ok after
+  covered : Covered before after
+  small : Small (suc n) after
+
+fact-adds :
+    (n : ℕ) (before : List Access) (s : State) → Covered before s → Small n s → n < most-facts → (r : Rel) (t u : Term) →
+    Next n before (addFact r t u s)
+unfolding addFact
+fact-adds n before s C S l r t u =
+    let f : Fact = record { rel = r; left = t; right = u } in
+    let s′ : State = record { permissions = s .permissions; facts = s .facts ++ (f ∷ []) } in
+    record {
+      after = s′;
+      is-after = pass _ stateFull _ (lt→ltb (length (s .facts)) most-facts (omega (arith, S .known, l)));
+      covered =
+          λ a i. let (p, j, h) = C a i in (p, j, names-more s s′ (λ f k. member-left (s .facts) _ f k) (a .variable) (a .field) p h);
+      small = record { entries = omega (arith, S .entries); known = omega (arith, S .known, length-append (s .facts) (f ∷ [])) };
+    }
+
+-- an entry by its own name
+names-itself : (s : State) (k : Permit) (x f : ℕ) → T (names (equalIn s) x f (entry k x f))
+unfolding names
+names-itself s k x f = and-intro (eqb f f) _ (eqb-refl f) (equalIn-complete s (var x) (var x) itself)
+
+entry-adds :
+    (n : ℕ) (before : List Access) (s : State) → Covered before s → Small n s → n < most-permissions → (k : Permit) (x f : ℕ) →
+    Next n (record { variable = x; field = f } ∷ before) (addPermission (entry k x f) s)
+unfolding addPermission equalIn
+entry-adds n before s C S l k x f =
+    let s′ : State = record { permissions = s .permissions ++ (entry k x f ∷ []); facts = s .facts } in
+    record {
+      after = s′;
+      is-after = pass _ stateFull _ (lt→ltb (length (s .permissions)) most-permissions (omega (arith, S .entries, l)));
+      covered =
+          covered-too before s′ x f (entry k x f)
+          (λ a i. let (p, j, h) = C a i in (p, member-left (s .permissions) (entry k x f ∷ []) p j, h))
+          (member-right (s .permissions) (entry k x f ∷ []) _ at-head) (names-itself s′ k x f);
+      small =
+          record {
+            entries = omega (arith, S .entries, length-append (s .permissions) (entry k x f ∷ []));
+            known = omega (arith, S .known);
+          };
+    }
+
+-- A `read` that joins another: the entries are as many
+joined-is :
+    (_~_ : Equality) (x f : ℕ) (p : Permission) (l : List Permission) → joins _~_ x f p ≡ some l →
+    T (names _~_ x f p) × (l ≡ entry acc (p .variable) (p .field) ∷ [])
+unfolding joins joining withPermit
+joined-is _~_ x f p l e = go (names _~_ x f p) (p .permit) e
   where
-    go : (b : Bool) → (T (any t l) → (c : _) × (first t l ≡ some c)) → T (b || any t l) → (c : _) × (cond b (some a) (first t l) ≡ some c)
-    go true k u = (a, refl)
-    go false k u = k u
+    go : (b : Bool) (k : Permit) → cond b (joining k p) none ≡ some l → T b × (l ≡ entry acc (p .variable) (p .field) ∷ [])
+    go true acc q = none-some q
+    go true read q = (tt, sym (some-inj q))
+    go false k q = none-some q
 
-abbrev permissionOf : Access → Permission
-permissionOf a = record { variable = a .variable; field = a .field }
+joined-length :
+    (_~_ : Equality) (x f : ℕ) (ps : List Permission) (c : Split) → split (joins _~_ x f) ps ≡ some c → length (c .list) ≡ length ps
+unfolding split
+joined-length _~_ x f [] c e = none-some e
+joined-length _~_ x f (p ∷ ps) c e = go (joins _~_ x f p) refl e (λ d k. joined-length _~_ x f ps d k)
+  where
+    go :
+        (o : Option (List Permission)) → joins _~_ x f p ≡ o →
+        elim o [
+          | some l ↦ some (record { taken = p; left = l; list = l ++ ps })
+          | none ↦
+              bindOption (split (joins _~_ x f) ps)
+              (λ c. some (record { taken = c .taken; left = c .left; list = p ∷ c .list }))
+        ]
+        ≡ some c →
+        ((d : Split) → split (joins _~_ x f) ps ≡ some d → length (d .list) ≡ length ps) → length (c .list) ≡ length (p ∷ ps)
+    go none r e ih =
+        let (d, k, z) = bind-some (split (joins _~_ x f) ps) _ c e in
+        subst (λ (c : Split). length (c .list) ≡ length (p ∷ ps)) (some-inj z) (ap suc (ih d k))
+    go (some l) r e ih =
+        subst (λ (c : Split). length (c .list) ≡ length (p ∷ ps)) (some-inj e)
+        (ap (λ (l : List Permission). length (l ++ ps)) (joined-is _~_ x f p l r .1))
 
--- the accesses that stand before in the line are listed
-abbrev Listed : List Access → List Permission → Type 0
-Listed before ps = (a : Access) → Member a before → Member (permissionOf a) ps
+joined-adds :
+    (n : ℕ) (before : List Access) (s : State) → Covered before s → Small n s → (x f : ℕ) (c : Split) →
+    split (joins (equalIn s) x f) (s .permissions) ≡ some c →
+    Next n (record { variable = x; field = f } ∷ before) (ok (record { permissions = c .list; facts = s .facts }))
+unfolding equalIn names
+joined-adds n before s C S x f c e =
+    let s′ : State = record { permissions = c .list; facts = s .facts } in
+    let D : Parted (joins (equalIn s) x f) (s .permissions) c = parted _ (s .permissions) c e in
+    let q : Permission = entry acc (c .taken .variable) (c .taken .field) in
+    let (named, is) = joined-is (equalIn s) x f (c .taken) (c .left) (D .gives) in
+    let i : Member q (c .list) = D .comes q (subst (Member q) (sym is) at-head) in
+    record {
+      after = s′;
+      is-after = refl;
+      covered =
+          covered-too before s′ x f q
+          (λ a j.
+          let (p, k, h) = C a j in
+          ⊎-elim (λ m. (p, m, h))
+          (λ w. (q, i, subst (λ (p : Permission). T (names (equalIn s) (a .variable) (a .field) p)) w h))
+          (D .stays p k))
+          i named;
+      small = record { entries = omega (arith, S .entries, joined-length (equalIn s) x f (s .permissions) c e); known = omega (arith, S .known) };
+    }
 
-listed-more :
-    (before : List Access) (ps : List Permission) (a : Access) → Listed before ps → Listed (a ∷ before) (ps ++ (permissionOf a ∷ []))
-listed-more before ps a h b i =
-    ⊎-elim
-    (λ j. member-left ps _ _ (h b j))
-    (λ e. subst (λ c. Member (permissionOf c) (ps ++ (permissionOf a ∷ []))) (sym e) (member-right ps _ _ at-head))
-    (head-or i)
+own-adds :
+    (n : ℕ) (before : List Access) (s : State) → Covered before s → Small n s → n < most-permissions → (k : Permit) (x f : ℕ) →
+    Next n (record { variable = x; field = f } ∷ before) (addOwn k x f s)
+unfolding addOwn addRead
+own-adds n before s C S l acc x f = entry-adds n before s C S l acc x f
+own-adds n before s C S l read x f = go (split (joins (equalIn s) x f) (s .permissions)) refl
+  where
+    go :
+        (o : Option Split) → split (joins (equalIn s) x f) (s .permissions) ≡ o →
+        Next n (record { variable = x; field = f } ∷ before) (addRead x f s o)
+    go none r = entry-adds n before s C S l read x f
+    go (some c) r = joined-adds n before s C S x f c r
 
-module _ (s : State) (before : List Access) (listed : Listed before (s .permissions)) where
-  names-it : (x f : ℕ) (a : Access) → T (eqb (a .variable) x && eqb (a .field) f) → T (names (equalIn s) x f (permissionOf a))
-  unfolding names equalIn equalBy
-  names-it x f a t =
-      let (v, g) = and-both (eqb (a .variable) x) (eqb (a .field) f) t in
-      and-intro (eqb (a .field) f) _ g
-      (subst (λ y. T (equalIn s (var (a .variable)) (var y))) (eqb→eq (a .variable) x v) (same-refl _))
-
-  resolves : (t : Term) → T (framedExpr before t) → (u : Term) × (resolve (equalIn s) (s .permissions) t ≡ ok u)
-  unfolding resolve framedExpr orElse _>>=_
-  resolves (num n) h = (num n, refl)
-  resolves null h = (null, refl)
-  resolves (var x) h = (var x, refl)
-  resolves (path x f) h =
-      let (p, e) =
-      any-first (names (equalIn s) x f) (s .permissions)
-      (in-any _ before h (λ a i t. any-in _ (s .permissions) (permissionOf a) (listed a i) (names-it x f a t))) in
-      (pathOf p, rw e)
-
--- with room for its atoms, a framed formula is added
 adds :
-    (φ : Formula ℕ) (before : List Access) (s : State) → T (framed before φ) → Listed before (s .permissions) →
-    length (s .permissions) + length φ ≤ most-permissions → length (s .facts) + length φ ≤ most-facts →
-    (s′ : State) × (add φ s ≡ ok s′)
-unfolding framed add addPermission addFact check _>>_ _>>=_
-adds [] before s t h p f = (s, refl)
-adds (acc x g ∷ φ) before s t h p f =
-    let a : Access = record { variable = x; field = g } in
-    let s′ : State = record { permissions = s .permissions ++ (permissionOf a ∷ []); facts = s .facts } in
-    let (s″, e) =
-    adds φ (a ∷ before) s′ t (listed-more before (s .permissions) a h)
-    (omega (arith, p, length-append (s .permissions) (permissionOf a ∷ []))) (omega (arith, f)) in
-    (s″, rw (lt-ltb (length (s .permissions)) most-permissions (omega (arith, p))) e)
-adds (cmp n a b ∷ φ) before s t h p f =
+    (φ : Formula ℕ) (n : ℕ) (before : List Access) (s : State) → T (framed before φ) → Covered before s → Small n s →
+    n + length φ ≤ most-permissions → (s′ : State) × (add φ s ≡ ok s′)
+unfolding framed add
+adds [] n before s t C S l = (s, refl)
+adds (own k x f ∷ φ) n before s t C S l =
+    let N : Next n (record { variable = x; field = f } ∷ before) (addOwn k x f s) = own-adds n before s C S (omega (arith, l)) k x f in
+    let (s″, e) = adds φ (suc n) _ (N .after) t (N .covered) (N .small) (omega (arith, l)) in
+    (s″, bind-of-ok (addOwn k x f s) (N .after) _ (N .is-after) ∙ e)
+adds (cmp r a b ∷ φ) n before s t C S l =
     let (ta, tr) = and-both (framedExpr before a) _ t in
     let (tb, tφ) = and-both (framedExpr before b) _ tr in
-    let (u, eu) = resolves s before h a ta in
-    let (v, ev) = resolves s before h b tb in
-    let s′ : State = record { permissions = s .permissions; facts = s .facts ++ (record { rel = n; left = u; right = v } ∷ []) } in
-    let (s″, e) =
-    adds φ before s′ tφ h (omega (arith, p)) (omega (arith, f, length-append (s .facts) (record { rel = n; left = u; right = v } ∷ []))) in
-    (s″, rw (eu, ev, lt-ltb (length (s .facts)) most-facts (omega (arith, f))) e)
+    let (u, eu) = resolves before s C a ta in
+    let (v, ev) = resolves before s C b tb in
+    let N : Next n before (addFact r u v s) = fact-adds n before s C S (omega (arith, l)) r u v in
+    let (s″, e) = adds φ (suc n) before (N .after) tφ (N .covered) (N .small) (omega (arith, l)) in (
+      s″,
+      bind-of-ok (resolve (equalIn s) (s .permissions) a) u _ eu
+          ∙ (bind-of-ok (resolve (equalIn s) (s .permissions) b) v _ ev ∙ (bind-of-ok (addFact r u v s) (N .after) _ (N .is-after) ∙ e)),
+    )
 
 -- THE CLAIM
 -- a formula that number 10 does not refuse, with the atoms that a line may have
@@ -92,7 +222,8 @@ abbrev pub Addable : Formula ℕ → Type 0
 Addable φ = T (framed [] φ) × (length φ ≤ most-atoms)
 
 pub requires-added : (φ : Formula ℕ) → Addable φ → (s : State) × (add φ empty ≡ ok s)
-requires-added φ (t, l) = adds φ [] empty t (λ a i. elim i [ ]) (omega (arith, l)) (omega (arith, l))
+requires-added φ (t, l) =
+    adds φ 0 [] empty t (λ a i. elim i [ ]) (record { entries = omega arith; known = omega arith }) (omega (arith, l))
 
 -- THE ATOMS OF A LINE
 pub few-atoms : (n : ℕ) (ws : List Name) → T (isFormula n ws) → length (formulaOf ws) ≤ n

@@ -5,8 +5,8 @@ use mathlib.Core.Option.{Option, none, some}
 use Prim.Native.Nat.{ℕ}
 use Rattle.rules.specs.Base.{Try}
 use Rattle.rules.specs.Answers.{Refusal}
-use Rattle.rules.specs.Syntax.{Rel, Formula, Simple, Field, Program, same, eq, num, null, var, path, acc, cmp, set, assign, compute, new, call, assert, release, result-variable}
-use Rattle.rules.specs.State.{Term, State, Permission, Equality, Shown, empty, resolve, showFrom, show, addPermission, addFact, add}
+use Rattle.rules.specs.Syntax.{Rel, Permit, Formula, Simple, Field, Program, same, eq, num, null, var, path, acc, read, own, cmp, set, assign, compute, new, call, assert, release, result-variable}
+use Rattle.rules.specs.State.{Term, State, Permission, Equality, Split, empty, equalIn, resolve, takeOwn, showFrom, show, split, joins, addPermission, addFact, addRead, addOwn, add}
 use Rattle.rules.specs.Rules.{addEqual, assignRule, addFields, addInitial, newRule, setRule, callRule, ifRule, returnRule, End, showEnd, joinRule, loopRule, rule}
 use Rattle.soundness.proofs.Refusing.{Refuses, rules, yes, bind, tested, or-else, eleven, twelve, thirteen, fourteen}
 
@@ -25,11 +25,10 @@ resolve-ruled q ps null = yes
 resolve-ruled q ps (var x) = yes
 resolve-ruled q ps (path y f) = bind (or-else _ eleven) (λ p. yes)
 
-show-from-ruled : (q : Equality) (s : State) (φ : Formula ℕ) (r : Shown) → Ruled (showFrom q s φ r)
-unfolding showFrom
+show-from-ruled : (q : Equality) (s : State) (φ : Formula ℕ) (r : List Permission) → Ruled (showFrom q s φ r)
+unfolding showFrom takeOwn
 show-from-ruled q s [] r = yes
-show-from-ruled q s (acc y f ∷ φ) r =
-    bind (or-else _ twelve) (λ c. show-from-ruled q s φ (record { kept = c .others; consumed = c .taken ∷ r .consumed }))
+show-from-ruled q s (own k y f ∷ φ) r = bind (bind (or-else _ twelve) (λ c. yes)) (λ kept. show-from-ruled q s φ kept)
 show-from-ruled q s (cmp n a b ∷ φ) r =
     bind (resolve-ruled q _ a) (λ t. bind (resolve-ruled q _ b) (λ u. tested _ thirteen (show-from-ruled q s φ r)))
 
@@ -45,10 +44,20 @@ fact-ruled : (n : Rel) (t u : Term) (s : State) → Ruled (addFact n t u s)
 unfolding addFact
 fact-ruled n t u s = tested _ fourteen yes
 
+read-ruled : (x f : ℕ) (s : State) (o : Option Split) → Ruled (addRead x f s o)
+unfolding addRead
+read-ruled x f s none = permission-ruled _ s
+read-ruled x f s (some c) = yes
+
+own-ruled : (k : Permit) (x f : ℕ) (s : State) → Ruled (addOwn k x f s)
+unfolding addOwn
+own-ruled acc x f s = permission-ruled _ s
+own-ruled read x f s = read-ruled x f s (split (joins (equalIn s) x f) (s .permissions))
+
 add-ruled : (φ : Formula ℕ) (s : State) → Ruled (add φ s)
 unfolding add
 add-ruled [] s = yes
-add-ruled (acc x f ∷ φ) s = bind (permission-ruled _ s) (add-ruled φ)
+add-ruled (own k x f ∷ φ) s = bind (own-ruled k x f s) (add-ruled φ)
 add-ruled (cmp n a b ∷ φ) s =
     bind (resolve-ruled _ _ a) (λ t. bind (resolve-ruled _ _ b) (λ u. bind (fact-ruled n t u s) (add-ruled φ)))
 

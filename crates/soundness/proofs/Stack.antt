@@ -7,12 +7,12 @@ use native.Mathlib.Omega.{arith}
 use Rattle.rules.specs.Base.{Try, ok, no}
 use Rattle.rules.specs.Answers.{Stop}
 use Rattle.rules.specs.Syntax.{Formula, Program, rowNumbered, this-variable, parameter, call, simple, join, end}
-use Rattle.rules.specs.State.{State, Shown, empty, show, add, remove}
+use Rattle.rules.specs.State.{Permission, State, empty, show, add, remove}
 use Rattle.rules.specs.Rules.{Open, actual, substAtom}
 use Rattle.rules.specs.Machine.{Config, Frame, Heap, Location, Room, Step, on, stop, done, step, took, valueOf, openAt}
-use Rattle.rules.proofs.Changes.{Within, change-within, step-changes}
-use Rattle.rules.proofs.Disjoint.{shares, HeldOnce, HeldExists, share-held, shares-cons, change-keeps}
-use Rattle.rules.proofs.Sets.{Holds}
+use Rattle.rules.proofs.Changes.{holds, Within, change-within, step-changes}
+use Rattle.rules.specs.Runs.{shares, TwoHalves}
+use Rattle.rules.proofs.Disjoint.{HeldExists, shares-cons, change-keeps}
 use Rattle.soundness.specs.WellFormed.{SimpleFormed, AtEnd, Over}
 use Rattle.soundness.specs.Endings.{MayStop}
 use Rattle.soundness.proofs.Satisfied.{Satisfied, AgreeAt, satisfied-heap}
@@ -24,11 +24,11 @@ use Rattle.soundness.proofs.Branches.{LoopAt, Opened, Accepts}
 pub data Ready (P : Program) (h : Heap) (F : Frame) : Type 0 where
   at-row : (s : State) (os : List Open) → Satisfied h F s → Accepts P (F .ensures) (F .row) (some s) os → Ready P h F
   at-join :
-      (φ : Formula ℕ) (s s′ : State) (u : Shown) (os : List Open) →
+      (φ : Formula ℕ) (s s′ : State) (u : List Permission) (os : List Open) →
       rowNumbered P (F .row) .stmt ≡ join φ → Satisfied h F s → show s φ ≡ ok u → add φ empty ≡ ok s′ →
       Accepts P (F .ensures) (suc (F .row)) (some s′) os → Ready P h F
   at-loop :
-      (φ : Formula ℕ) (s : State) (u : Shown) (os : List Open) → Satisfied h F s → show s φ ≡ ok u →
+      (φ : Formula ℕ) (s : State) (u : List Permission) (os : List Open) → Satisfied h F s → show s φ ≡ ok u →
       LoopAt P (F .ensures) (F .row) φ os → Opened P (F .ensures) os (openAt (P .rows) (F .row)) → Ready P h F
   at-nothing : rowNumbered P (F .row) .stmt ≡ end → F .ensures ≡ [] → Ready P h F
 
@@ -63,7 +63,7 @@ BelowFrame P h F Cs = Below P h (valueOf F this-variable) (valueOf F parameter) 
 
 -- THE INVARIANT
 pub record Invariant (P : Program) (m : Config) : Type 0 where
-  pub once : HeldOnce m
+  pub two : TwoHalves m
   pub exist : HeldExists m
   pub ready : Ready P (m .heap) (m .frame)
   pub below : BelowFrame P (m .heap) (m .frame) (m .callers)
@@ -111,7 +111,7 @@ goes-kept P m s′ os (ok m′) k g =
 
 -- A HEAP THAT CHANGES
 suspended-heap :
-    (P : Program) (h h′ : Heap) (t w : ℕ) (φ : Formula ℕ) (C : Frame) → ((p : Location) → Holds C p → AgreeAt h h′ p) →
+    (P : Program) (h h′ : Heap) (t w : ℕ) (φ : Formula ℕ) (C : Frame) → ((p : Location) → 1 ≤ holds C p → AgreeAt h h′ p) →
     Suspended P h t w φ C → Suspended P h′ t w φ C
 suspended-heap P h h′ t w φ C A S =
     record {
@@ -137,16 +137,15 @@ below-heap :
     ((p : Location) → 1 ≤ shares Cs p → AgreeAt h h′ p) → Below P h t w φ Cs → Below P h′ t w φ Cs
 below-heap P h h′ t w φ [] A B = tt
 below-heap P h h′ t w φ (C ∷ Cs) A B = (
-  suspended-heap P h h′ t w φ C (λ p i. A p (omega (arith, share-held C p i, shares-cons C Cs p))) (B .0),
+  suspended-heap P h h′ t w φ C (λ p i. A p (omega (arith, i, shares-cons C Cs p))) (B .0),
   below-heap P h h′ _ _ _ Cs (λ p l. A p (omega (arith, l, shares-cons C Cs p))) (B .1),
 )
 
--- what the callers hold the frame does not hold, and no step of its own changes it
+-- what the callers hold the frame does not hold whole, and no step of its own changes it
 callers-agree :
-    (m m′ : Config) → HeldOnce m → HeldExists m → Within m m′ → (p : Location) → 1 ≤ shares (m .callers) p →
+    (m m′ : Config) → TwoHalves m → HeldExists m → Within m m′ → (p : Location) → 1 ≤ shares (m .callers) p →
     AgreeAt (m .heap) (m′ .heap) p
-callers-agree m m′ H E W p l =
-    W .outside p (λ i. omega (arith, H p, l, share-held (m .frame) p i)) (E p (omega (arith, l)))
+callers-agree m m′ H E W p l = W .outside p (omega (arith, H p, l)) (E p (omega (arith, l)))
 
 pub below-same :
     (P : Program) (h : Heap) (F G : Frame) (Cs : List Frame) → SameCall F G → BelowFrame P h F Cs → BelowFrame P h G Cs
@@ -157,20 +156,21 @@ below-same P h F G Cs S B =
 
 -- the invariant after a step, from what its statement shows
 pub moved-invariant :
-    (room : Room) (P : Program) (m m′ : Config) → Invariant P m → step room P m ≡ on m′ → Moved P m m′ → Invariant P m′
+    (room : Room) (P : Program) (m m′ : Config) → Invariant P m → step room P m ≡ on m′ → Moved P m m′ →
+    Invariant P m′
 moved-invariant room P m m′ I e M =
-    let (H, E) = change-keeps m m′ (step-changes room P m m′ e) (I .once) (I .exist) in go H E M
+    let (H, E) = change-keeps m m′ (step-changes room P m m′ e) (I .two) (I .exist) in go H E M
   where
-    go : HeldOnce m′ → HeldExists m′ → Moved P m m′ → Invariant P m′
+    go : TwoHalves m′ → HeldExists m′ → Moved P m m′ → Invariant P m′
     go H E (same-frame R S c) =
         let W : Within m m′ = change-within m m′ (step-changes room P m m′ e) c in
         record {
-          once = H;
+          two = H;
           exist = E;
           ready = R;
           below =
               subst (BelowFrame P (m′ .heap) (m′ .frame)) (sym c)
               (below-same P (m′ .heap) (m .frame) (m′ .frame) (m .callers) S
-              (below-heap P (m .heap) (m′ .heap) _ _ _ (m .callers) (callers-agree m m′ (I .once) (I .exist) W) (I .below)));
+              (below-heap P (m .heap) (m′ .heap) _ _ _ (m .callers) (callers-agree m m′ (I .two) (I .exist) W) (I .below)));
         }
-    go H E (other-frame R B) = record { once = H; exist = E; ready = R; below = B }
+    go H E (other-frame R B) = record { two = H; exist = E; ready = R; below = B }

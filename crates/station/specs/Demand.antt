@@ -9,9 +9,8 @@ use Rattle.rules.specs.Answers.{accepted}
 use Rattle.rules.specs.Items.{Item}
 use Rattle.rules.specs.Reading.{readText}
 use Rattle.rules.specs.Calls.{Result, runText, trialText}
-use Rattle.rules.specs.Areas.{packed, cleared, resultBytes, checkCall, Ran, runCall, trialCall}
-use Rattle.tables.specs.Numbers.{word-values}
-use Rattle.printer.specs.Answers.{numberIn}
+use Rattle.rules.specs.Areas.{packed, cleared, resultBytes, checkCall, Ran, runCall, trialCall, numberIn}
+use Rattle.rules.specs.Syntax.{words}
 use Rattle.rules.specs.Demand.{NotStuck, KeepsFrame, Claim, IsRefusal}
 
 -- areas of the right length, whatever they hold, and a number of steps
@@ -21,7 +20,7 @@ pub record Lent : Type 0 where
   pub steps : ℕ
   pub whole : length work ≡ work-bytes
   pub wide : length results ≡ results-bytes
-  pub small : steps < word-values
+  pub small : steps < words
 
 -- run and trial over them
 abbrev pub runOver : List ℕ → Lent → Ran

@@ -8,9 +8,8 @@ use Rattle.rules.specs.Limits.{work-bytes}
 use Rattle.rules.specs.Answers.{accepted}
 use Rattle.rules.specs.Items.{Item}
 use Rattle.rules.specs.Reading.{readText}
-use Rattle.rules.specs.Areas.{checkCall}
+use Rattle.rules.specs.Areas.{checkCall, numberIn, lineIn}
 use Rattle.rules.specs.Refusals.{FromRules, LineOf}
-use Rattle.printer.specs.Answers.{numberIn, lineIn}
 
 -- "Each returns number × 65,536 + line": 0 with line 0, or 10 to 14 with a line of the text, whatever area check was lent
 abbrev pub ReturnsAtALine : Type 0

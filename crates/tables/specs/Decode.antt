@@ -1,11 +1,11 @@
 -- What the tables mean: the program that a work area holds.
-use mathlib.Core.Bool.{cond, not}
+use mathlib.Core.Bool.{Bool, cond, not}
 use mathlib.Core.List.{List, [], _∷_, _++_}
 use Prim.Native.Nat.{ℕ, zero, suc, _+_, _-_, _*_}
-use lib.Dec.{eqb}
+use lib.Dec.{eqb, ltb}
 use lib.ListN.{getD}
-use Rattle.rules.specs.Syntax.{Rel, Expr, Atom, Formula, Operation, Stmt, Row, Field, Method, Program}
-use Rattle.rules.specs.Syntax.{eq, ne, num, null, var, path, acc, cmp, sum, difference, set, assign, compute, new, call, return, assert, release, simple, if, else, join, loop, again, end}
+use Rattle.rules.specs.Syntax.{Rel, Permit, Expr, Atom, Formula, Operation, Stmt, Row, Field, Method, Program}
+use Rattle.rules.specs.Syntax.{eq, ne, num, null, var, path, acc, read, own, cmp, sum, difference, set, assign, compute, new, call, return, assert, release, simple, if, else, join, loop, again, end}
 use Rattle.rules.specs.Grammar.{isComputing, set-kind, let-kind, new-kind, call-kind, return-kind, assert-kind, release-kind, if-kind, else-kind, join-kind, add-kind, loop-kind, again-kind}
 use Rattle.tables.specs.declared.Operands.{Operands}
 use Rattle.tables.specs.Numbers.{acc-atom, eq-atom, num-tag, null-tag, var-tag}
@@ -27,8 +27,8 @@ halfAt w i = byteAt w i + byteAt w (i + 1) * 256
 abbrev pub wordAt : List ℕ → ℕ → ℕ
 wordAt w i = byteAt w i + byteAt w (i + 1) * 256 + byteAt w (i + 2) * 65536 + byteAt w (i + 3) * 16777216
 
--- ATOMS: kind, tag of the left and of the right side, a spare byte, 4 bytes for each side. `acc x f` has x
--- and f in the first two bytes of the left side.
+-- ATOMS: kind, tag of the left and of the right side, a spare byte, 4 bytes for each side. `acc x f`
+-- and `read x f` have x and f in the first two bytes of the left side.
 
 -- a side by its tag: a number (4 bytes), null, a variable (a byte), or a path (two bytes)
 unfoldable pub exprAt : List ℕ → ℕ → ℕ → Expr ℕ
@@ -50,12 +50,19 @@ leftTagAt w i = byteAt w (atomPlace i + 1)
 abbrev pub rightTagAt : List ℕ → ℕ → ℕ
 rightTagAt w i = byteAt w (atomPlace i + 2)
 
--- the variable and the field of an `acc`
+-- the variable and the field of an `acc` or a `read`
 abbrev pub accVariableAt : List ℕ → ℕ → ℕ
 accVariableAt w i = byteAt w (atomPlace i + 4)
 
 abbrev pub accFieldAt : List ℕ → ℕ → ℕ
 accFieldAt w i = byteAt w (atomPlace i + 5)
+
+-- by the number of its kind: is an atom a permission, and which; or a comparison, and which
+unfoldable pub isPermission : ℕ → Bool
+isPermission k = ltb k eq-atom
+
+unfoldable pub permitOf : ℕ → Permit
+permitOf k = cond (eqb k acc-atom) acc read
 
 unfoldable pub relOf : ℕ → Rel
 relOf k = cond (eqb k eq-atom) eq ne
@@ -69,7 +76,7 @@ rightAt w i = exprAt w (rightTagAt w i) (atomPlace i + 8)
 unfoldable pub atomAt : List ℕ → ℕ → Atom ℕ
 atomAt w i =
     let k : ℕ = atomKindAt w i in
-    cond (eqb k acc-atom) (acc (accVariableAt w i) (accFieldAt w i)) (cmp (relOf k) (leftAt w i) (rightAt w i))
+    cond (isPermission k) (own (permitOf k) (accVariableAt w i) (accFieldAt w i)) (cmp (relOf k) (leftAt w i) (rightAt w i))
 
 -- n atoms from atom i on
 abbrev pub atomsFrom : List ℕ → ℕ → ℕ → Formula ℕ

@@ -77,15 +77,12 @@ names-at = 36880
 abbrev pub lines-at : ℕ
 lines-at = 40960
 
--- the machine's stores: values of all fields, holders of all fields, room for a second holder, objects, frames
+-- the machine's stores: values of all fields, two holders of each field, objects, frames
 abbrev pub values-at : ℕ
 values-at = 40960
 
 abbrev pub holders-at : ℕ
 holders-at = 45056
-
-abbrev pub seconds-at : ℕ
-seconds-at = 49152
 
 abbrev pub objects-at : ℕ
 objects-at = 53248

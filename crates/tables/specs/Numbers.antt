@@ -17,16 +17,19 @@ word-values = 4294967296
 abbrev pub word-bytes : ℕ
 word-bytes = 4
 
--- ATOMS
+-- ATOMS: the kind of a permission is the number of its halves
+
+abbrev pub read-atom : ℕ
+read-atom = 1
 
 abbrev pub acc-atom : ℕ
-acc-atom = 0
+acc-atom = 2
 
 abbrev pub eq-atom : ℕ
-eq-atom = 1
+eq-atom = 3
 
 abbrev pub ne-atom : ℕ
-ne-atom = 2
+ne-atom = 4
 
 -- a side is a number, null, a variable or a path
 abbrev pub num-tag : ℕ

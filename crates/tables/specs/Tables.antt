@@ -11,7 +11,7 @@ use Rattle.rules.specs.Syntax.{Expr, num, null, var, path, Stmt, Row, simple, r
 use Rattle.rules.specs.Grammar.{IsStatementNumber, set-kind, let-kind, new-kind, call-kind, if-kind, else-kind, end-kind, loop-kind, again-kind}
 use Rattle.rules.specs.Machine.{closing, loopOf}
 use Rattle.tables.specs.declared.Operands.{Operands}
-use Rattle.tables.specs.Numbers.{word-values, acc-atom, ne-atom, path-tag, no-place}
+use Rattle.tables.specs.Numbers.{word-values, read-atom, eq-atom, ne-atom, path-tag, no-place}
 use Rattle.tables.specs.Layout.{most-atom-rows, most-names, frame-variables}
 use Rattle.tables.specs.Decode.{byteAt, leftAt, rightAt, atomKindAt, leftTagAt, kindAt, targetAt, operandsAt, rowCount, atomCount, classCount, methodCount, mainFirst, allRows, requiresFirstAt, requiresCountAt, ensuresFirstAt, ensuresCountAt, firstRowAt, placesPlace, fieldCountAt, fieldNameAt}
 
@@ -24,12 +24,13 @@ SideFits null = Unit {0}
 SideFits (var x) = x < frame-variables
 SideFits (path x f) = (x < frame-variables) × (f < most-names)
 
--- an atom of the kind k with the sides a, which has this tag, and b: `acc x f` is written as a path on the left
+-- an atom of the kind k with the sides a, which has this tag, and b: `acc x f` and `read x f` are written as a path on the left
 pub record AtomFits (k tag : ℕ) (a b : Expr ℕ) : Type 0 where
+  pub least : read-atom ≤ k
   pub kind : k ≤ ne-atom
   pub left : SideFits a
   pub right : SideFits b
-  pub access : k ≡ acc-atom → tag ≡ path-tag
+  pub access : k < eq-atom → tag ≡ path-tag
 
 abbrev pub AtomFitsAt : List ℕ → ℕ → Type 0
 AtomFitsAt w i = AtomFits (atomKindAt w i) (leftTagAt w i) (leftAt w i) (rightAt w i)

@@ -243,15 +243,17 @@ pub fn main_first(w: &[u8]) -> usize
 
 // ATOMS
 
-// The kinds of atoms, by their numbers.
+// The kinds of atoms, by their numbers: that of a permission is the number of its halves.
 pub struct AtomKind {}
 
 impl AtomKind {
-    pub const ACC: usize = 0;
+    pub const READ: usize = 1;
 
-    pub const EQ: usize = 1;
+    pub const ACC: usize = 2;
 
-    pub const NE: usize = 2;
+    pub const EQ: usize = 3;
+
+    pub const NE: usize = 4;
 }
 
 // The kind of the atom a, as `AtomKind` numbers it.
@@ -262,7 +264,7 @@ pub fn atom_kind(w: &[u8], a: usize) -> usize
     byte_at(w, Layout::ATOMS + a * Layout::ATOM_BYTES)
 }
 
-// The variable of the atom a, an `acc`.
+// The variable of the atom a, an `acc` or a `read`.
 pub fn atom_variable(w: &[u8], a: usize) -> usize
     requires { ⌜ (length (now w) ≡ work-bytes) × (a < most-atom-rows) ⌝ }
     ensures { λ r. ⌜ (r ≡ accVariableAt (now (w .entry)) a) × (r < byte-values) ⌝ }
@@ -270,7 +272,7 @@ pub fn atom_variable(w: &[u8], a: usize) -> usize
     byte_at(w, Layout::ATOMS + a * Layout::ATOM_BYTES + AtomAt::VARIABLE)
 }
 
-// The field of the atom a, an `acc`.
+// The field of the atom a, an `acc` or a `read`.
 pub fn atom_field(w: &[u8], a: usize) -> usize
     requires { ⌜ (length (now w) ≡ work-bytes) × (a < most-atom-rows) ⌝ }
     ensures { λ r. ⌜ (r ≡ accFieldAt (now (w .entry)) a) × (r < byte-values) ⌝ }

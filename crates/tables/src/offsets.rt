@@ -46,7 +46,7 @@ impl AtomAt {
 
     pub const RIGHT: usize = 8;
 
-    // `acc x f` has x and f in the first two bytes of its left side.
+    // `acc x f` and `read x f` have x and f in the first two bytes of the left side.
     pub const VARIABLE: usize = AtomAt::LEFT;
 
     pub const FIELD: usize = AtomAt::LEFT + 1;

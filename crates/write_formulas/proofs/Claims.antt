@@ -11,7 +11,7 @@ use lib.ListN.{length, drop}
 use borrow.Author.Tests.{eqb-true, ne-eqb}
 use Rattle.rules.specs.Base.{Name}
 use Rattle.rules.specs.Limits.{most-methods, most-statements, most-atoms}
-use Rattle.rules.specs.Syntax.{Atom, Formula, acc, cmp}
+use Rattle.rules.specs.Syntax.{Atom, Formula, own, cmp}
 use Rattle.rules.specs.Text.{isAtom, isFormula, formulaOf}
 use Rattle.rules.proofs.Lists.{decide-eq}
 use Rattle.rules.specs.Items.{Item, resolveAtom, aStatement, aRequires, anEnsures}
@@ -19,7 +19,7 @@ use Rattle.read_bytes.proofs.Search.{both-true, true-false}
 use Rattle.read_fields.specs.Cuts.{more}
 use Rattle.tables.specs.Layout.{atoms-at, most-line-atoms, atomLimit}
 use Rattle.tables.specs.Decode as Decode
-use Rattle.tables.specs.Decode.{run, byteAt, atomPlace, relOf, leftAt, rightAt, atomAt, atomsFrom, loopAt, methodPlace, stmtOf}
+use Rattle.tables.specs.Decode.{run, byteAt, atomPlace, isPermission, permitOf, relOf, leftAt, rightAt, atomAt, atomsFrom, loopAt, methodPlace, stmtOf}
 use Rattle.tables.specs.Stores.{Kept}
 use Rattle.read_scopes.specs.declared.Names.{Names}
 use Rattle.read_scopes.specs.Meanings.{AreaFits, declarationsIn, variablesIn}
@@ -139,11 +139,12 @@ owns k n m φ e l h = go (decide-eq k 21)
 -- the condition of the `loop` that the atoms are
 condition-at : (u : List ℕ) (n : ℕ) (φ : Formula ℕ) → hasCondition (atomAt u n ∷ φ) ≡ true → loopAt u n φ ≡ loopWith (atomAt u n ∷ φ)
 unfolding atomAt hasCondition loopWith
-condition-at u n φ e = go (eqb (byteAt u (atomPlace n)) 0) e
+condition-at u n φ e = go (isPermission (byteAt u (atomPlace n))) e
   where
     atom : Bool → Atom ℕ
     atom b =
-        cond b (acc (byteAt u (atomPlace n + 4)) (byteAt u (atomPlace n + 5))) (cmp (relOf (byteAt u (atomPlace n))) (leftAt u n) (rightAt u n))
+        cond b (own (permitOf (byteAt u (atomPlace n))) (byteAt u (atomPlace n + 4)) (byteAt u (atomPlace n + 5)))
+        (cmp (relOf (byteAt u (atomPlace n))) (leftAt u n) (rightAt u n))
 
     go : (b : Bool) → hasCondition (atom b ∷ φ) ≡ true → loopAt u n φ ≡ loopWith (atom b ∷ φ)
     go true e = true-false (sym e)
@@ -162,11 +163,11 @@ module _ {t w : List ℕ} {c : Names} {r n : ℕ} (k i l : ℕ) (ready : AreaFit
   claim-line = follows-line (limit-line k) (x .formula)
 
   module _ {u : List ℕ} {m : ℕ} (y : FormulaPut t w c r n u m) (line : l < 65536) where
-    own : Owns k n m
-    own = owns k n m (formulaAfter t w c r) (y .count) (formula-short (x .formula)) (x .condition)
+    owned : Owns k n m
+    owned = owns k n m (formulaAfter t w c r) (y .count) (formula-short (x .formula)) (x .condition)
 
     pub claim-least : {f : ℕ} → f ≡ ownFirst k n → f ≤ m
-    claim-least e = omega (arith, own .least, e)
+    claim-least e = omega (arith, owned .least, e)
 
     claim-ok : (D : Declared) → OperandsFit D m (claimRow k (ownFirst k n) m l)
     claim-ok D =
@@ -178,9 +179,9 @@ module _ {t w : List ℕ} {c : Names} {r n : ℕ} (k i l : ℕ) (ready : AreaFit
           field = λ e. absurd (omega (arith, bounds));
           class = λ e. absurd (omega (arith, bounds));
           method = λ e. absurd (omega (arith, bounds));
-          atoms = (omega (arith, own .most), omega (arith, own .least));
+          atoms = (omega (arith, owned .most), omega (arith, owned .least));
           one-atom = λ o. ⊎-elim (λ e. absurd (omega (arith, bounds))) (λ e. absurd (no-if e)) o;
-          condition = λ e. omega (arith, own .later e);
+          condition = λ e. omega (arith, owned .later e);
         }
 
     pub claim-bytes : {f : ℕ} → f ≡ ownFirst k n → RowBytes (claimRow k f m l)
@@ -193,14 +194,14 @@ module _ {t w : List ℕ} {c : Names} {r n : ℕ} (k i l : ℕ) (ready : AreaFit
       all-atoms = let e : m - n ≡ length (formulaAfter t w c r) = omega (arith, y .count) in rw e (b .mean)
 
       formula-means : (k ≡ 21 → ⊥) → Decode.formulaOf u (claimRow k (ownFirst k n) m l) ≡ formulaAfter t w c r
-      formula-means z = rw (own .same z) all-atoms
+      formula-means z = rw (owned .same z) all-atoms
 
       loop-is : k ≡ 21 → stmtOf u (claimRow k (ownFirst k n) m l) ≡ loopWith (formulaAfter t w c r)
       unfolding run
       loop-is z =
-          let f = own .later z in
+          let f = owned .later z in
           let p : ownFirst k n - 1 ≡ n = omega (arith, f) in
-          let s : m - n ≡ suc (m - (n + 1)) = omega (arith, own .least, f) in
+          let s : m - n ≡ suc (m - (n + 1)) = omega (arith, owned .least, f) in
           let φ : Formula ℕ = atomsFrom u (n + 1) (m - (n + 1)) in
           let e : atomAt u n ∷ φ ≡ formulaAfter t w c r = rw (s, ← add-one n) at all-atoms in
           loop-means u (claimRow k (ownFirst k n) m l) z

@@ -7,7 +7,7 @@ use lib.Dec.{eqb}
 use lib.ListN.{length}
 use Rattle.rules.specs.Grammar.{assert-kind, release-kind, join-kind, loop-kind}
 use Rattle.rules.specs.Limits.{work-bytes}
-use Rattle.rules.specs.Syntax.{Formula, Stmt, acc, cmp, simple, assert, release, join, loop, end}
+use Rattle.rules.specs.Syntax.{Formula, Stmt, own, cmp, simple, assert, release, join, loop, end}
 use Rattle.rules.specs.Items.{Item, aStatement}
 use Rattle.tables.specs.Layout.{atomLimit, names-at}
 use Rattle.tables.specs.Decode.{atomsFrom}
@@ -28,13 +28,13 @@ isClaim k = eqb k assert-kind || (eqb k release-kind || (eqb k join-kind || eqb 
 -- its first atom is a condition
 unfoldable pub hasCondition : Formula ℕ → Bool
 hasCondition [] = false
-hasCondition (acc x f ∷ φ) = false
+hasCondition (own k x f ∷ φ) = false
 hasCondition (cmp n a b ∷ φ) = true
 
 -- the `loop` with it, and with the others as its invariant
 unfoldable pub loopWith : Formula ℕ → Stmt
 loopWith [] = end
-loopWith (acc x f ∷ φ) = end
+loopWith (own k x f ∷ φ) = end
 loopWith (cmp n a b ∷ φ) = loop n a b φ
 
 unfoldable pub claimOf : ℕ → Formula ℕ → Stmt

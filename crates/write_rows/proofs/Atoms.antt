@@ -4,15 +4,18 @@ use mathlib.Core.List.{List, [], _∷_, _++_}
 use mathlib.Core.Logic.{inl, inr}
 use Prim.Native.Nat.{ℕ, _+_, _*_, _/_, _%_, _<_}
 use native.Mathlib.Omega.{arith}
-use lib.Dec.{T, eqb, eqb→eq}
+use lib.Dec.{T, ltb}
 use lib.ListN.{length, getD}
 use borrow.Author.Count.{below-more}
+use borrow.Author.Tests.{ltb-true}
 use Rattle.rules.specs.Limits.{work-bytes}
-use Rattle.rules.specs.Syntax.{Atom, Formula, Expr, num, var, path, acc, if}
+use Rattle.rules.specs.Syntax.{Permit, Atom, Formula, Expr, num, var, path, own, if}
 use Rattle.rules.specs.Syntax.{Program}
 use Rattle.tables.specs.declared.Expr as Tables
+use Rattle.rules.proofs.Lists.{T-true}
+use Rattle.tables.specs.Numbers.{eq-atom}
 use Rattle.tables.specs.Layout.{names-at, most-atom-rows}
-use Rattle.tables.specs.Decode.{byteAt, wordAt, exprAt, leftAt, rightAt, relOf, run, atomAt, atomsFrom, atomPlace, ifAt}
+use Rattle.tables.specs.Decode.{byteAt, wordAt, exprAt, leftAt, rightAt, isPermission, permitOf, relOf, run, atomAt, atomsFrom, atomPlace, ifAt}
 use Rattle.tables.specs.Tables.{SideFits, AtomFitsAt, Declared}
 use Rattle.tables.specs.Stores.{meaning, putWord, Kept}
 use Rattle.tables.proofs.Bytes.{word-put}
@@ -54,16 +57,16 @@ side-read w i (Tables.Expr.Path x f) ok s =
     λ j. path (z j) (y j)
 
 access-read :
-    (w : List ℕ) (i : ℕ) (e : Tables.Expr) → tagOf e ≡ 3 → SideFits (meaning e) → SideAt w i (wordOf e) →
-    acc (byteAt w i) (byteAt w (i + 1)) ≡ accessOf e
+    (p : Permit) (w : List ℕ) (i : ℕ) (e : Tables.Expr) → tagOf e ≡ 3 → SideFits (meaning e) → SideAt w i (wordOf e) →
+    own p (byteAt w i) (byteAt w (i + 1)) ≡ accessOf p e
 unfolding tagOf wordOf meaning SideFits accessOf
-access-read w i (Tables.Expr.Num n) t ok s = absurd (omega arith)
-access-read w i Tables.Expr.Null t ok s = absurd (omega arith)
-access-read w i (Tables.Expr.Var x) t ok s = absurd (omega arith)
-access-read w i (Tables.Expr.Path x f) t ok s =
+access-read p w i (Tables.Expr.Num n) t ok s = absurd (omega arith)
+access-read p w i Tables.Expr.Null t ok s = absurd (omega arith)
+access-read p w i (Tables.Expr.Var x) t ok s = absurd (omega arith)
+access-read p w i (Tables.Expr.Path x f) t ok s =
     let z : byteAt w i ≡ x = omega (arith, s .b0) in
     let y : byteAt w (i + 1) ≡ f = s .b1 ∙ second x f (omega arith) (omega arith) in
-    λ j. acc (z j) (y j)
+    λ j. own p (z j) (y j)
 
 -- what the writer asks
 pub side-bytes : (e : Tables.Expr) → SideFits (meaning e) → SideBytes e
@@ -127,13 +130,13 @@ module _
   condition-written = simp (kind-read, left-written, right-written)
 
   pub atom-read : atomAt (putAtom w a k l r) a ≡ atomOf k l r
-  unfolding atomAt atomOf
+  unfolding atomAt atomOf isPermission
   atom-read =
       let e : atomPlace a + 4 + 1 ≡ atomPlace a + 5 = omega arith in
-      let to-acc : T (eqb k 0) →
-      acc (byteAt (putAtom w a k l r) (atomPlace a + 4)) (byteAt (putAtom w a k l r) (atomPlace a + 5)) ≡ accessOf l =
-      λ t. rw e at (access-read _ (atomPlace a + 4) l (ok .access (eqb→eq k 0 t)) (ok .left) left-side) in
-      rw (kind-read, left-written, right-written) (cond-same (eqb k 0) to-acc (λ _. refl))
+      let to-own : T (ltb k eq-atom) →
+      own (permitOf k) (byteAt (putAtom w a k l r) (atomPlace a + 4)) (byteAt (putAtom w a k l r) (atomPlace a + 5)) ≡ accessOf (permitOf k) l =
+      λ t. rw e at (access-read (permitOf k) _ (atomPlace a + 4) l (ok .access (ltb-true k eq-atom (T-true _ t))) (ok .left) left-side) in
+      rw (kind-read, left-written, right-written) (cond-same (ltb k eq-atom) to-own (λ _. refl))
 
   atom-fits : AtomFitsAt (putAtom w a k l r) a
   atom-fits = rw (kind-read, left-tag, left-written, right-written) ok

@@ -3,14 +3,12 @@ use mathlib.Core.Path.{_≡_}
 use mathlib.Core.Bool.{cond}
 use mathlib.Core.List.{List}
 use Prim.Native.Nat.{ℕ, _+_, _≤_, _<_}
-use lib.Dec.{eqb}
 use lib.ListN.{length}
 use Rattle.rules.specs.Limits.{most-classes, most-methods, most-statements, work-bytes}
-use Rattle.rules.specs.Syntax.{Atom, Formula, Row, Field, Method, Program, acc, cmp}
+use Rattle.rules.specs.Syntax.{Permit, Atom, Formula, Row, Field, Method, Program, own, cmp}
 use Rattle.tables.specs.declared.Expr as Tables
-use Rattle.tables.specs.Numbers.{acc-atom}
 use Rattle.tables.specs.Layout.{most-atom-rows}
-use Rattle.tables.specs.Decode.{relOf, atomsFrom, operandsAt, rowsFrom, rowCount, atomCount, classCount, methodCount, mainFirst, firstRowAt, classesFrom, methodsFrom}
+use Rattle.tables.specs.Decode.{isPermission, permitOf, relOf, atomsFrom, operandsAt, rowsFrom, rowCount, atomCount, classCount, methodCount, mainFirst, firstRowAt, classesFrom, methodsFrom}
 use Rattle.tables.specs.Tables.{AtomFits, AtomFitsAt, Declared, OperandsFit, TargetFits, FormulasFit, ClassFits, BlockFits}
 use Rattle.tables.specs.Stores.{meaning}
 use Rattle.write_rows.specs.Puts.{tagOf}
@@ -21,15 +19,15 @@ use Rattle.write_rows.specs.Puts.{tagOf}
 abbrev pub AtomOk : ℕ → Tables.Expr → Tables.Expr → Type 0
 AtomOk k a b = AtomFits k (tagOf a) (meaning a) (meaning b)
 
-unfoldable pub accessOf : Tables.Expr → Atom ℕ
-accessOf (Tables.Expr.Num n) = acc 0 0
-accessOf Tables.Expr.Null = acc 0 0
-accessOf (Tables.Expr.Var x) = acc x 0
-accessOf (Tables.Expr.Path x f) = acc x f
+unfoldable pub accessOf : Permit → Tables.Expr → Atom ℕ
+accessOf p (Tables.Expr.Num n) = own p 0 0
+accessOf p Tables.Expr.Null = own p 0 0
+accessOf p (Tables.Expr.Var x) = own p x 0
+accessOf p (Tables.Expr.Path x f) = own p x f
 
 -- the atom that a row means
 unfoldable pub atomOf : ℕ → Tables.Expr → Tables.Expr → Atom ℕ
-atomOf k a b = cond (eqb k acc-atom) (accessOf a) (cmp (relOf k) (meaning a) (meaning b))
+atomOf k a b = cond (isPermission k) (accessOf (permitOf k) a) (cmp (relOf k) (meaning a) (meaning b))
 
 -- n atoms are written
 pub record AtomsHold (w : List ℕ) (n : ℕ) : Type 0 where

@@ -62,7 +62,7 @@ fn word_of(e: Expr) -> u32
     }
 }
 
-// Writes the atom a: its kind (`AtomKind`) and its sides. `acc x f` has the path x.f on the left, null on the right.
+// Writes the atom a: its kind (`AtomKind`) and its sides. `acc x f` and `read x f` have the path x.f on the left, null on the right.
 pub fn put_atom(work: &mut [u8], a: usize, kind: usize, left: Expr, right: Expr)
     requires { ⌜ ((length (now work) ≡ work-bytes) × (a < most-atom-rows)) × ((kind < byte-values) × (SideBytes left × SideBytes right)) ⌝ }
     ensures { λ _. ⌜ now (work .exit) ≡ putAtom (now (work .entry)) a kind left right ⌝ }

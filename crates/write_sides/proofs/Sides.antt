@@ -8,12 +8,12 @@ use Prim.Native.Nat.{ℕ, _+_, _≤_, _<_}
 use native.Mathlib.Omega.{arith}
 use lib.Dec.{eqb}
 use lib.ListN.{length, getD, drop}
-use borrow.Author.Tests.{eqb-true, ne-eqb}
+use borrow.Author.Tests.{eqb-true}
 use Rattle.rules.specs.Base as Base
 use Rattle.rules.specs.Base.{Name}
 use Rattle.rules.specs.Limits.{work-bytes, most-statements}
-use Rattle.rules.specs.Syntax.{Rel, Expr, Atom, Stmt, acc, cmp, simple, assign, if, end}
-use Rattle.rules.specs.Text.{isName, isExpr, exprOf, relOf, isRel, isAtom, atomOf, isFormula, isCondition, formulaOf}
+use Rattle.rules.specs.Syntax.{Rel, Expr, Atom, Stmt, own, cmp, simple, assign, if, end}
+use Rattle.rules.specs.Text.{isName, isExpr, exprOf, relOf, isRel, isPermit, isAtom, atomOf, isFormula, isCondition, formulaOf}
 use Rattle.rules.specs.Grammar as Grammar
 use Rattle.rules.specs.Grammar.{Statement, statement, Let, If, form, isFormed}
 use Rattle.rules.specs.Scope as Scopes
@@ -22,11 +22,12 @@ use Rattle.rules.specs.Names as Names
 use Rattle.rules.specs.Names.{isLocal, agree, inScope, variableNumber, variableType, exprType}
 use Rattle.rules.specs.Items as Items
 use Rattle.rules.specs.Items.{resolveAtom, itemOf, aStatement}
-use Rattle.read_words.specs.Words.{acc-word, eq-word, ne-word, wordNumber}
-use Rattle.read_bytes.proofs.Search.{both-true, true-false, between-true}
-use Rattle.read_words.proofs.Words.{acc-is, rel-is}
+use Rattle.read_bytes.proofs.Search.{both-true, true-false, or-true}
+use Rattle.read_atoms.specs.Atoms.{atomWord, beginsAtom, begunBy}
+use Rattle.read_atoms.proofs.Atoms.{of-atom-word, atom-begins, word-told}
 use Rattle.read_fields.specs.Cuts.{more}
 use Rattle.tables.specs.declared.Expr as Tables
+use Rattle.tables.specs.Numbers.{eq-atom}
 use Rattle.tables.specs.Layout.{frame-variables, most-atom-rows, names-at}
 use Rattle.tables.specs.Decode as Decode
 use Rattle.tables.specs.Decode.{byteAt}
@@ -61,11 +62,19 @@ use Rattle.resolve_atoms.proofs.Goods.{formula-good}
 use Rattle.write_plain.proofs.Goods.{formed-length, local-known}
 use Rattle.write_sides.specs.Sides.{oneRow, letGood, SideFollows, SidePut, SideTried}
 
+-- a condition is no permission
+rel-begins : (u : Name) → isRel u ≡ true → beginsAtom u ≡ true
+unfolding beginsAtom
+rel-begins u e = rw e (or-true (isPermit u))
+
+no-permit : (u : Name) → isRel u ≡ true → isPermit u ≡ false
+unfolding Base.opened isRel isPermit
+no-permit u e =
+    of-atom-word (λ u. isRel u ≡ true → isPermit u ≡ false) (λ e. true-false (sym e)) (λ e. true-false (sym e)) (λ e. refl) (λ e. refl) u (rel-begins u e) e
+
 no-access : (u a b : Name) → isRel u ≡ true → atomOf u a b ≡ cmp (relOf u) (exprOf a) (exprOf b)
 unfolding atomOf
-no-access u a b e =
-    let r = between-true eq-word ne-word (wordNumber u) (sym (rel-is u) ∙ e) in
-    rw (acc-is u, ne-eqb (wordNumber u) acc-word (λ z. omega (arith, r)))
+no-access u a b e = rw (no-permit u e)
 
 -- THE TESTS OF A LINE THAT HAS ITS FORM
 abbrev pub Formed : Statement → List Name → Type 0
@@ -160,26 +169,26 @@ one-bytes k x n l o s room line =
 
 -- the condition of an atom that is compared
 condition : Atom ℕ → Stmt
-condition (acc x f) = end
+condition (own k x f) = end
 condition (cmp n a b) = if n a b
 
 condition-is :
     (k : ℕ) (l r : Tables.Expr) (n : Rel) (p q : Expr ℕ) → Holds.atomOf k l r ≡ cmp n p q →
     if (Decode.relOf k) (meaning l) (meaning r) ≡ if n p q
 unfolding Holds.atomOf condition accessOf
-condition-is k l r n p q e = go (eqb k 0) e
+condition-is k l r n p q e = go (Decode.isPermission k) e
   where
-    none : (x f : ℕ) → acc x f ≡ cmp n p q → ⊥
+    none : (x f : ℕ) → own (Decode.permitOf k) x f ≡ cmp n p q → ⊥
     none x f i = let z : _≡_ {A = ℕ} 0 1 = cc in omega arith
 
-    not-accessed : (l : Tables.Expr) → accessOf l ≡ cmp n p q → ⊥
+    not-accessed : (l : Tables.Expr) → accessOf (Decode.permitOf k) l ≡ cmp n p q → ⊥
     not-accessed (Tables.Expr.Num m) i = none _ _ i
     not-accessed Tables.Expr.Null i = none _ _ i
     not-accessed (Tables.Expr.Var x) i = none _ _ i
     not-accessed (Tables.Expr.Path x f) i = none _ _ i
 
     go :
-        (b : Bool) → cond b (accessOf l) (cmp (Decode.relOf k) (meaning l) (meaning r)) ≡ cmp n p q →
+        (b : Bool) → cond b (accessOf (Decode.permitOf k) l) (cmp (Decode.relOf k) (meaning l) (meaning r)) ≡ cmp n p q →
         if (Decode.relOf k) (meaning l) (meaning r) ≡ if n p q
     go true i = absurd (not-accessed l i)
     go false i = ap condition i
@@ -241,33 +250,33 @@ module _ (t w : List ℕ) (c : Counts.Names) (r i n l : ℕ) (ready : AreaFits w
             let k = both-true (isLocal (variableNumber vs (getD ws 0 []))) _ (sym let-is ∙ fits) in
             omega (arith, X .number, variable-small t w c (ready .fits) (getD ws 0 []) (local-known vs (getD ws 0 []) (k .0)))
 
-        pub let-atom : AtomOk 1 Tables.Expr.Null (e .expr)
+        pub let-atom : AtomOk eq-atom Tables.Expr.Null (e .expr)
         unfolding meaning SideFits letGood
         let-atom =
             let k = both-true (isLocal (variableNumber vs (getD ws 0 []))) _ (sym let-is ∙ fits) in
             let g = both-true (good Γ vs (exprOf (getD ws 1 []))) _ (k .1) .0 in
-            let o = compared-is t w c (ready .fits) 1 (getD ws 1 []) (getD ws 1 []) (e .expr) (e .expr) (omega arith) (omega arith) g g (E .expr) (E .expr) .ok in
-            record { kind = omega arith; left = tt; right = o .right; access = λ z. absurd (omega arith) }
+            let o = compared-is t w c (ready .fits) eq-atom (getD ws 1 []) (getD ws 1 []) (e .expr) (e .expr) (omega arith) g g (E .expr) (E .expr) .ok in
+            record { least = omega arith; kind = omega arith; left = tt; right = o .right; access = λ z. absurd (omega arith) }
 
         let-put :
-            {q z : List ℕ} → q ≡ putAtom w n 1 Tables.Expr.Null (e .expr) → z ≡ putRow q i (oneRow 9 x n l) → SidePut Let t w c r i n l z (n + 1)
+            {q z : List ℕ} → q ≡ putAtom w n eq-atom Tables.Expr.Null (e .expr) → z ≡ putRow q i (oneRow 9 x n l) → SidePut Let t w c r i n l z (n + 1)
         unfolding itemOf Items.resolveStatement Scopes.operand
         let-put d f =
             record {
               count = refl;
               built = λ D F j h.
                   subst (λ z. Holds D z (withItem F l (itemOf Γ vs (statement Let) (lineWith (statement Let) ws))) (n + 1))
-                  (stored (y .room) 9 x 1 Tables.Expr.Null (e .expr) let-atom d f F j)
-                  (subst (λ z. Holds D (putRow (putAtom w n 1 Tables.Expr.Null (e .expr)) (length (F .rows)) (oneRow 9 x n l)) (withItem F l z) (n + 1))
+                  (stored (y .room) 9 x eq-atom Tables.Expr.Null (e .expr) let-atom d f F j)
+                  (subst (λ z. Holds D (putRow (putAtom w n eq-atom Tables.Expr.Null (e .expr)) (length (F .rows)) (oneRow 9 x n l)) (withItem F l z) (n + 1))
                   (λ z. aStatement (simple (assign (X .number z) (E .expr z))))
-                  (let-written D w F n 1 Tables.Expr.Null (e .expr) (oneRow 9 x n l) (y .room) (omega (arith, j, few)) let-atom
+                  (let-written D w F n eq-atom Tables.Expr.Null (e .expr) (oneRow 9 x n l) (y .room) (omega (arith, j, few)) let-atom
                   (one-ok D 9 x n l (inl refl) let-variable) refl h refl));
-              names = names-kept (y .room) 9 x 1 Tables.Expr.Null (e .expr) let-atom d f;
-              size = size-kept (y .room) 9 x 1 Tables.Expr.Null (e .expr) let-atom d f;
+              names = names-kept (y .room) 9 x eq-atom Tables.Expr.Null (e .expr) let-atom d f;
+              size = size-kept (y .room) 9 x eq-atom Tables.Expr.Null (e .expr) let-atom d f;
             }
 
         pub let-done :
-            {q z : List ℕ} → q ≡ putAtom w n 1 Tables.Expr.Null (e .expr) → z ≡ putRow q i (oneRow 9 x n l) →
+            {q z : List ℕ} → q ≡ putAtom w n eq-atom Tables.Expr.Null (e .expr) → z ≡ putRow q i (oneRow 9 x n l) →
             SideTried Let t w c r i n l z (Put.Done (n + 1))
         unfolding SideTried
         let-done d f = (λ s. let-good Γ vs s ws (y .formed) ∙ (sym let-is ∙ fits), let-put d f)
@@ -299,6 +308,12 @@ module _ (t w : List ℕ) (c : Counts.Names) (r i n l : ℕ) (ready : AreaFits w
           names = names-kept (y .room) 15 0 (s .kind) (s .left) (s .right) (o .ok) e f;
           size = size-kept (y .room) 15 0 (s .kind) (s .left) (s .right) (o .ok) e f;
         }
+
+    -- the word by the kind that its first letter tells
+    pub if-word : {a : Span} {u : Name} {k : ℕ} → SpanAfter t r a → u ≡ nameIn t a → k ≡ begunBy (getD u 0 0) → atomWord k ≡ nameIn t a
+    if-word {a} {u} {k} p eu ek =
+        let e : u ≡ getD ws 0 [] = eu ∙ p .name in
+        ap atomWord ek ∙ (word-told u (subst (λ z. beginsAtom z ≡ true) (sym e) (atom-begins _ _ _ (if-formed .form))) ∙ eu)
 
     module _ {a b d : Span} {u x z : Name} (p : SpanAfter t r a) (p2 : SpanAfter t (a .start + a .len) b) (p3 : SpanAfter t (b .start + b .len) d)
         (eu : u ≡ nameIn t a) (ex : x ≡ nameIn t b) (ez : z ≡ nameIn t d) where

@@ -96,7 +96,8 @@ pub fn put_if(
     let word = read_names::name_in(text, a);
     let x = read_names::name_in(text, b);
     let y = read_names::name_in(text, d);
-    let q = resolve_atoms::resolve_atom(text, work, c, word, x, y);
+    let kind = read_atoms::begun_by(read_bytes::byte_at(word, 0));
+    let q = resolve_atoms::resolve_atom(text, work, c, kind, x, y);
     let TriedAtom::Row(s) = q else {
         return Put::Bad;
     };

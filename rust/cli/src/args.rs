@@ -1,8 +1,8 @@
 //! The words of the command line, by the table of commands and options.
 
-use crate::nearest::did_you_mean;
-use crate::show::file_name;
 use crate::table::{CommandSpec, OptionSpec, COMMANDS, OPTIONS};
+use explain::nearest::did_you_mean;
+use explain::show::file_name;
 use std::ffi::OsString;
 
 /// When to use colour.
@@ -20,6 +20,8 @@ pub struct Parsed {
     pub operands: Vec<OsString>,
     pub steps: u32,
     pub colour: Colour,
+    /// The file for the page of a report.
+    pub html: Option<OsString>,
     flags: Vec<&'static str>,
 }
 
@@ -148,16 +150,29 @@ fn fits(command: &CommandSpec, given: &[Given], count: usize) -> Result<(), Stri
     })
 }
 
+/// The file for a page, if one is asked for.
+fn page_file(given: &[Given]) -> Result<Option<OsString>, String> {
+    let mut pages = given.iter().filter(|given| given.spec.name == "html");
+    let page = pages.next().and_then(|given| given.value.clone());
+    match (page, pages.next()) {
+        (_, Some(_)) => Err("--html goes once: all reports stand on one page".to_string()),
+        (Some(page), _) if page.is_empty() => Err("--html needs FILE".to_string()),
+        (page, None) => Ok(page),
+    }
+}
+
 /// Reads the command line; an error is one line.
 pub fn parse(words: impl Iterator<Item = OsString>) -> Result<Parsed, String> {
     let (mut names, given) = split(words)?;
     let (steps, colour) = parsed_values(&given)?;
+    let html = page_file(&given)?;
     let flags: Vec<&'static str> = given.iter().map(|given| given.spec.name).collect();
     let parsed = |command, operands| Parsed {
         command,
         operands,
         steps,
         colour,
+        html: html.clone(),
         flags: flags.clone(),
     };
     if flags.contains(&"version") {
@@ -216,7 +231,7 @@ mod tests {
             ),
             (
                 "check --steps 5 a",
-                "--steps goes with run, trial, trace, draw, not with check",
+                "--steps goes with run, trial, trace, draw, report, not with check",
             ),
             ("check --json=yes a", "--json takes no value"),
             (
@@ -224,6 +239,16 @@ mod tests {
                 "--color takes auto, always or never, not \"red\"",
             ),
             ("lsp x", "lsp takes no operand"),
+            ("report a --html", "--html needs FILE"),
+            ("report a --html=", "--html needs FILE"),
+            (
+                "report a --html b --html c",
+                "--html goes once: all reports stand on one page",
+            ),
+            (
+                "check --html b a",
+                "--html goes with report, not with check",
+            ),
             (
                 "fmt --check --write a",
                 "--check and --write do not go together",

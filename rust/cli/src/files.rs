@@ -1,6 +1,6 @@
 //! Files: their bytes, the scripts of a folder, and where output goes.
 
-use crate::show::file_name;
+use explain::show::file_name;
 use std::ffi::{OsStr, OsString};
 use std::io::{ErrorKind, IsTerminal, Read, Write};
 use std::path::{Path, PathBuf};
@@ -64,6 +64,35 @@ pub fn expanded(names: &[OsString]) -> Vec<OsString> {
         }
     }
     all
+}
+
+/// A name beside the file for its new text.
+fn beside(file: &Path) -> PathBuf {
+    let mut name = file.file_name().unwrap_or_default().to_os_string();
+    name.push(format!(".station-{}", std::process::id()));
+    file.with_file_name(name)
+}
+
+/// Writes the file anew: the new text stands whole beside it before it takes
+/// its place, so that at no time the file is lost. A link is followed, and the
+/// file keeps its permissions.
+pub fn replace(file: &Path, text: &[u8]) -> std::io::Result<()> {
+    let file = std::fs::canonicalize(file)?;
+    let fresh = beside(&file);
+    let written = std::fs::OpenOptions::new()
+        .write(true)
+        .create_new(true)
+        .open(&fresh)
+        .and_then(|mut out| {
+            out.write_all(text)?;
+            out.set_permissions(std::fs::metadata(&file)?.permissions())?;
+            out.sync_all()
+        })
+        .and_then(|()| std::fs::rename(&fresh, &file));
+    if written.is_err() {
+        let _ = std::fs::remove_file(&fresh);
+    }
+    written
 }
 
 /// Standard output. When its reader has gone away, nothing more is written, and

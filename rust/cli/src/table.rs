@@ -67,6 +67,13 @@ pub const COMMANDS: &[CommandSpec] = &[
         MANY,
     ),
     command(
+        "report",
+        "FILE..",
+        "what the licensing authority asks, for each script",
+        1,
+        MANY,
+    ),
+    command(
         "trace",
         "FILE",
         "run a script, and show each step with what it changed",
@@ -90,14 +97,21 @@ pub const COMMANDS: &[CommandSpec] = &[
     command(
         "fmt",
         "FILE..",
-        "print a text with its blanks, line ends and signs mended",
+        "print a text with its blanks, line ends and signs put right",
+        1,
+        MANY,
+    ),
+    command(
+        "fix",
+        "FILE..",
+        "print a text with the fixes that were found, each tried before",
         1,
         MANY,
     ),
     command(
         "explain",
         "NUMBER",
-        "what a number means, and what usually mends it",
+        "what a number means, and what usually helps",
         1,
         1,
     ),
@@ -143,7 +157,7 @@ pub const OPTIONS: &[OptionSpec] = &[
         "steps",
         Some("N"),
         "allow N steps in place of 1,000",
-        &["run", "trial", "trace", "draw"],
+        &["run", "trial", "trace", "draw", "report"],
     ),
     option(
         "cards",
@@ -166,7 +180,13 @@ pub const OPTIONS: &[OptionSpec] = &[
     option(
         "short",
         None,
-        "one line for each file: FILE:LINE:COLUMN: what is wrong",
+        "one line for each refusal: FILE:LINE:COLUMN: what is wrong",
+        &["check"],
+    ),
+    option(
+        "first",
+        None,
+        "only the first refusal of each file",
         &["check"],
     ),
     OptionSpec {
@@ -176,21 +196,34 @@ pub const OPTIONS: &[OptionSpec] = &[
     option(
         "check",
         None,
-        "change nothing; status 1 if a file has not its form",
-        &["fmt"],
+        "change nothing; status 1 if a file would be changed",
+        &["fmt", "fix"],
     ),
     option(
         "write",
         None,
-        "write the files anew, each whole or not at all",
-        &["fmt"],
+        "write the files again, each whole or not at all",
+        &["fmt", "fix"],
+    ),
+    option(
+        "html",
+        Some("FILE"),
+        "write a page with all in it, whole or not at all",
+        &["report"],
+    ),
+    option(
+        "no-time",
+        None,
+        "leave out the time: the same bytes each time",
+        &["report"],
     ),
     option(
         "json",
         None,
         "JSON, an object for each file",
         &[
-            "check", "run", "trial", "bound", "trace", "known", "draw", "fmt", "explain",
+            "check", "run", "trial", "bound", "report", "trace", "known", "draw", "fmt", "fix",
+            "explain",
         ],
     ),
     option(

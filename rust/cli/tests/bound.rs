@@ -2,12 +2,9 @@
 //! that have none.
 
 mod common;
-#[allow(dead_code)]
-#[path = "../src/json.rs"]
-mod json;
 
 use common::{folder, said};
-use json::{parse, Json};
+use explain::json::{parse, Json};
 
 /// A script whose methods are of a class S, each with a variable r and these lines;
 /// main makes an s and does its own lines.
@@ -106,12 +103,12 @@ fn loops_and_rings() {
         "   note: line 6, in `a`: `call r this b w`\n",
         "   note: line 12, in `b`: `call r this c w`\n",
         "   note: line 19, in `c`: `call r this a w`\n",
-        "   mend: run it with as many steps as it may take",
+        "   help: run it with as many steps as it may take",
     ];
     let itself = calls(&[("a", &["b"]), ("b", &["b"])]);
     let never = "  cause: here `b` of class S calls itself\n\
                  \x20  note: no call of main leads to `b` of class S\n\
-                 \x20  mend: leave the method out, if nothing is to call it\n";
+                 \x20  help: leave the method out, if nothing is to call it\n";
     let looped = [
         "  cause: how often the loop goes round shows in a run alone\n",
         "   note: its rounds end at line 9: `again`\n",
@@ -163,7 +160,7 @@ fn list<'j>(object: &'j Json, name: &str) -> &'j [Json] {
 #[test]
 fn random_texts() {
     let folder = folder("bounds");
-    let texts = (0..600).map(|seed| model::gen::text(0x7000_0000 + seed));
+    let texts = (0..600).map(|seed| generator::text(0x7000_0000 + seed));
     let texts: Vec<Vec<u8>> = texts.collect();
     for (at, text) in texts.iter().enumerate() {
         std::fs::write(folder.join(format!("{at:04}.script")), text).expect("written");

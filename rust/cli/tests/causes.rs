@@ -64,7 +64,7 @@ fn causes_of_random_texts() {
     let folder = common::folder("random");
     let count = 400;
     for seed in 0..count {
-        let text = model::gen::text(0x5000_0000 + seed);
+        let text = generator::text(0x5000_0000 + seed);
         std::fs::write(folder.join(format!("{seed:04}.script")), text).expect("written");
     }
     let (out, error, _) = said(&["check", "--json", folder.to_str().expect("a name")], b"");

@@ -3,12 +3,9 @@
 //! for the editor.
 
 mod common;
-#[allow(dead_code)]
-#[path = "../src/json.rs"]
-mod json;
 
 use common::{folder, root};
-use json::{parse, Json};
+use explain::json::{parse, Json};
 use std::ffi::OsStr;
 use std::path::PathBuf;
 use std::process::{Command, Stdio};

@@ -199,7 +199,7 @@ fn loops_without_end() {
     for (lines, cause) in [
         (
             "loop ne i 3|again",
-            "  cause: the loop of line 8 has done 499 rounds, and it never ends: a round\n         changes nothing\n   mend: let the body change what `ne i 3` reads\n",
+            "  cause: the loop of line 8 has done 499 rounds, and it never ends: a round\n         changes nothing\n   note: no line of the body changes `i`, which the condition reads\n   note: in its last round `i` stayed 0\n   help: let the body change what `ne i 3` reads\n",
         ),
         (
             "loop ne i -1|add i i one|again",

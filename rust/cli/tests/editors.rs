@@ -44,7 +44,7 @@ fn colour(place: usize, field: &str) -> Colour {
     match (place, first) {
         _ if field.contains(' ') => Colour::Bad,
         (0, _) => Colour::Word,
-        (_, "acc" | "eq" | "ne") => Colour::Atom,
+        (_, "acc" | "read" | "eq" | "ne") => Colour::Atom,
         (_, "int") => Colour::Type,
         (_, "null" | "this" | "result") => Colour::Reserved,
         _ if first.starts_with(|letter: char| letter == '-' || letter.is_ascii_digit()) => {
@@ -83,6 +83,22 @@ fn the_words() {
             read("docs/LANGUAGE.md").contains(&format!("`{word}")),
             "{word} in the guide"
         );
+    }
+}
+
+/// The words of atoms, as the language server offers them.
+#[test]
+fn the_atoms() {
+    let words: Vec<&str> = model::form::ATOM_SHAPES
+        .iter()
+        .map(|atom| atom.word)
+        .collect();
+    let code = read("editors/vscode/syntaxes/station.tmLanguage.json");
+    assert!(code.contains(&format!("({})(?=", words.join("|"))));
+    let vim = read("editors/vim/syntax/station.vim");
+    assert!(vim.contains(&format!("\\({}\\)\\ze", words.join("\\|"))));
+    for word in words {
+        assert_eq!(colour(1, word), Colour::Atom, "{word}");
     }
 }
 

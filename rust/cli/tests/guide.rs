@@ -25,7 +25,16 @@ fn printed(line: &str) -> String {
         .output()
         .expect("station");
     let bytes = [output.stdout, output.stderr].concat();
-    String::from_utf8(bytes).expect("UTF-8")
+    without_sums(String::from_utf8(bytes).expect("UTF-8"))
+}
+
+/// A report without the sums of this build, which change with the library and the
+/// prover.
+fn without_sums(printed: String) -> String {
+    let logic = format!("logic:    {}\n", env!("LOGIC_SUM"));
+    printed
+        .replace(env!("LIBRARY_SHA256"), "(of the library that is linked)")
+        .replace(&logic, "logic:    (of the prover)\n")
 }
 
 fn script(name: &str) -> String {
@@ -219,10 +228,13 @@ fn json_fields() {
         "station run --json --cards examples/ring.script",
         "station bound --json --why examples/tag.script",
         "station bound --json examples/refused-15.script",
+        "station report --json examples/tag.script",
+        "station report --json examples/refused-15-calls.script",
         "station trace --json examples/tag.script",
         "station known --json examples/tag.script",
         "station draw --json examples/tag.script",
         "station fmt --json examples/tag.script",
+        "station fix --json examples/lost.script",
         "station explain --json 12",
         "station check --json no-such-file",
     ];

@@ -58,23 +58,29 @@ fn make(target: &str, library: &Path, words: &[String]) {
         .arg(target)
         .arg(format!("COMMAND={}", env!("CARGO_BIN_EXE_station")))
         .arg(format!("LIBRARY={}", library.display()))
+        .arg(format!("SHARED={}", shared(library).display()))
         .args(words)
         .env_remove("MAKEFLAGS")
         .current_dir(root());
     done(command.output().expect("make"));
 }
 
-/// A library for C, made in the folder.
+/// The shared library beside a static one.
+fn shared(library: &Path) -> PathBuf {
+    library.with_extension("so")
+}
+
+/// A program of the folder `tools` that makes one file of another.
+fn tool(name: &str, from: &Path, to: &Path) {
+    let mut command = Command::new(root().join("tools").join(name));
+    done(command.arg(from).arg(to).output().expect(name));
+}
+
+/// The libraries for C, made in the folder: the static one, and the shared one beside it.
 fn c_library(folder: &Path) -> PathBuf {
     let library = folder.join("libnuyardi.a");
-    let mut command = Command::new(root().join("tools/c-library"));
-    done(
-        command
-            .arg(station_lib())
-            .arg(&library)
-            .output()
-            .expect("tools/c-library"),
-    );
+    tool("c-library", &station_lib(), &library);
+    tool("shared-library", &library, &shared(&library));
     library
 }
 
@@ -97,7 +103,7 @@ fn files(top: &Path) -> Vec<String> {
     found
 }
 
-/// The C program of the folder hosts, compiled by the words that pkg-config gives.
+/// The C program of the folder hosts with the static library, by the words that pkg-config gives.
 fn c_program(prefix: &Path, own: &Path) -> PathBuf {
     std::fs::copy(
         prefix.join("share/nuyardi/hosts/c/license.c"),
@@ -105,7 +111,7 @@ fn c_program(prefix: &Path, own: &Path) -> PathBuf {
     )
     .expect("the program");
     let described =
-        std::fs::read_to_string(prefix.join("lib/pkgconfig/nuyardi.pc")).expect("nuyardi.pc");
+        std::fs::read_to_string(prefix.join("lib/pkgconfig/nuyardi-static.pc")).expect("its file");
     let value = |name: &str| -> String {
         let line = described.lines().find_map(|line| line.strip_prefix(name));
         line.expect(name).trim().to_string()
@@ -122,7 +128,7 @@ fn c_program(prefix: &Path, own: &Path) -> PathBuf {
         expanded(value("Libs:"))
     );
     let asked = Command::new("pkg-config")
-        .args(["--cflags", "--libs", "nuyardi"])
+        .args(["--cflags", "--libs", "nuyardi-static"])
         .env("PKG_CONFIG_PATH", prefix.join("lib/pkgconfig"))
         .output();
     if let Ok(asked) = asked {
@@ -257,7 +263,10 @@ fn staged_and_uninstalled() {
     let installed = files(&stage);
     for name in [
         "bin/station",
+        "lib/cmake/nuyardi/nuyardi-config.cmake",
         "lib/libnuyardi.a",
+        "lib/libnuyardi.so",
+        "lib/pkgconfig/nuyardi-static.pc",
         "lib/pkgconfig/nuyardi.pc",
         "include/station.h",
         "share/bash-completion/completions/station",

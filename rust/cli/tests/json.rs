@@ -2,12 +2,9 @@
 //! lists.
 
 mod common;
-#[allow(dead_code)]
-#[path = "../src/json.rs"]
-mod json;
 
 use common::said;
-use json::{parse, Json};
+use explain::json::{parse, Json};
 
 fn object(words: &[&str], input: &[u8]) -> Json {
     let (out, _, _) = said(words, input);

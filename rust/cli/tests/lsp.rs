@@ -1,12 +1,9 @@
 //! A client that speaks the language server protocol with `station lsp`.
 
 mod common;
-#[allow(dead_code)]
-#[path = "../src/json.rs"]
-mod json;
 
 use common::command;
-use json::{parse, Json};
+use explain::json::{parse, Json};
 use std::io::{BufRead, BufReader, Read, Write};
 use std::process::{Child, ChildStdin, ChildStdout};
 
@@ -165,7 +162,7 @@ fn diagnostics_as_one_types() {
         .and_then(Json::text)
         .expect("a message");
     assert!(
-        message.contains("`acc this n`") && message.contains("mend: "),
+        message.contains("`acc this n`") && message.contains("fix: "),
         "{message}"
     );
     let mended = example("refused-12.script").replace("requires", "requires\tacc\tthis\tn");
@@ -233,7 +230,7 @@ fn completion_of_names_in_scope() {
     let text = "class\tCard\nfield\tCard\tprev\nfield\tint\ttag\nmethod\tint\tmark\tint\tk\nrequires\t\nensures\nend\n\
                 main\nvar\tCard\tc\nset\tc\t\ncall\tc\tc\t\nassert\teq\tc.\n\nnew\tc\t\n";
     client.open(text);
-    assert_eq!(client.labels(4, 9), ["acc", "eq", "ne"]);
+    assert_eq!(client.labels(4, 9), ["acc", "read", "eq", "ne"]);
     assert_eq!(client.labels(9, 6), ["prev", "tag"]);
     assert_eq!(client.labels(10, 9), ["mark"]);
     assert_eq!(client.labels(11, 12), ["c.prev", "c.tag"]);
@@ -249,7 +246,7 @@ fn completion_of_names_in_scope() {
     // A condition first, then the invariant; in the loop its `again`.
     client.change("class\tS\nfield\tint\tn\nmain\nvar\tS\ts\nloop\t\tS\nloop\tne\ts\tnull\t\n\n");
     assert_eq!(client.labels(4, 5), ["eq", "ne"]);
-    assert_eq!(client.labels(5, 15), ["acc", "eq", "ne"]);
+    assert_eq!(client.labels(5, 15), ["acc", "read", "eq", "ne"]);
     assert!(client.labels(6, 0).contains(&"again".to_string()));
     client.end();
 }
@@ -288,7 +285,7 @@ fn hostile_texts() {
     let mut texts: Vec<String> = ["", "\n\n", "main", "\t\t.\t\n"]
         .map(str::to_string)
         .to_vec();
-    texts.extend((0..40).map(|seed| String::from_utf8_lossy(&model::gen::text(seed)).into_owned()));
+    texts.extend((0..40).map(|seed| String::from_utf8_lossy(&generator::text(seed)).into_owned()));
     for text in texts {
         client.open(&text);
         for line in [0, 1, 7, u32::MAX] {

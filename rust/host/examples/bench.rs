@@ -8,18 +8,18 @@
 #[path = "../tests/support/workloads.rs"]
 mod workloads;
 
-use nuyardi::calls;
 use nuyardi::limits::{BOUNDS_BYTES, RESULTS_BYTES, WORK_BYTES};
+use nuyardi::{calls, Returned};
 use std::hint::black_box;
 use std::time::Instant;
 
 const ROUNDS: u32 = 40;
 
 /// A call that runs a text.
-type Ran = fn(&[u8], &mut [u8], u32, &mut [u8]) -> u32;
+type Ran<R> = fn(&[u8], &mut [u8], u32, &mut [u8]) -> R;
 
 /// The library's and the model's.
-const RUNS: [(&str, Ran, Ran); 2] = [
+const RUNS: [(&str, Ran<Returned>, Ran<u32>); 2] = [
     ("run", calls::run, model::run_call),
     ("trial", calls::trial, model::trial_call),
 ];
@@ -43,7 +43,7 @@ fn duel(mut one: impl FnMut(), mut two: impl FnMut(), ms: f64) -> (f64, f64) {
 }
 
 /// Uses an answer, so that the call is made.
-fn sink(answer: u32) {
+fn sink<R>(answer: R) {
     black_box(answer);
 }
 
@@ -68,7 +68,7 @@ fn main() {
         let (name, text) = (workload.name, &workload.text[..]);
         let answers = (
             calls::check(text, &mut work.0),
-            model::check_call(text, &mut work.1),
+            Returned::of(model::check_call(text, &mut work.1)),
         );
         assert_eq!(answers.0, answers.1, "{name}");
         let (library, model) = duel(
@@ -76,8 +76,8 @@ fn main() {
             || sink(model::check_call(black_box(text), &mut work.1)),
             ms,
         );
-        let row = |call: &str, answer: u32, steps: u32, library: f64, model: f64| {
-            let (number, line) = (answer / 65_536, answer % 65_536);
+        let row = |call: &str, answer: Returned, steps: u32, library: f64, model: f64| {
+            let (number, line) = (answer.number(), answer.line());
             let each = library / f64::from(steps);
             let (count, each) = match steps {
                 0 => (String::new(), String::new()),
@@ -92,7 +92,7 @@ fn main() {
         row("check", answers.0, 0, library, model);
         let answers = (
             calls::bound(text, &mut work.0, &mut bounds.0),
-            model::bound_call(text, &mut work.1, &mut bounds.1),
+            Returned::of(model::bound_call(text, &mut work.1, &mut bounds.1)),
         );
         assert_eq!((answers.0, bounds.0), (answers.1, bounds.1), "{name}");
         let (library, model) = duel(
@@ -113,7 +113,7 @@ fn main() {
         for (call, ours, theirs) in RUNS {
             let answers = (
                 ours(text, &mut work.0, allowed, &mut results.0),
-                theirs(text, &mut work.1, allowed, &mut results.1),
+                Returned::of(theirs(text, &mut work.1, allowed, &mut results.1)),
             );
             assert_eq!((answers.0, results.0), (answers.1, results.1), "{name}");
             let steps = results.0[..4]

@@ -10,7 +10,8 @@
 mod compare;
 
 use compare::{gently_mutated, Answers, Comparer};
-use model::gen::{self, mutate, rng::Rng};
+use generator::{self as gen, mutate, rng::Rng};
+use nuyardi::Returned;
 use std::collections::HashSet;
 use std::path::Path;
 
@@ -39,13 +40,14 @@ fn kind_of(text: &[u8], line: u32) -> Vec<u8> {
 }
 
 fn reached(text: &[u8], [check, _, trial, bound]: Answers) -> Reached {
-    let [check_line, trial_line, bound_line] = [check, trial, bound].map(|answer| answer % 65_536);
+    let [check, trial, bound] = [check, trial, bound].map(Returned::of);
+    let [check_line, trial_line, bound_line] = [check, trial, bound].map(Returned::line);
     Reached {
-        check: check / 65_536,
+        check: check.number(),
         check_line: kind_of(text, check_line),
-        trial: trial / 65_536,
+        trial: trial.number(),
         trial_line: kind_of(text, trial_line),
-        bound: bound / 65_536,
+        bound: bound.number(),
         bound_line: kind_of(text, bound_line),
         depth: (check_line.max(trial_line).max(bound_line) + 1).ilog2(),
     }

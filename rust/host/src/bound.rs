@@ -1,8 +1,7 @@
 //! What a run can take at most, known before it, or why no bound is given.
 
 use crate::limits::BOUNDS_BYTES;
-use crate::numbers::known;
-use crate::{explain, Excess, Refusal};
+use crate::{explain, Excess, Refusal, Returned};
 use core::fmt;
 
 /// What a run can take at most. No run of the text passes it, and one that is
@@ -33,21 +32,25 @@ pub enum NoBound {
 }
 
 impl Bound {
-    /// What bound returned, and what it left in the bounds area.
-    pub(crate) fn of(returned: u32, bounds: &[u8; BOUNDS_BYTES]) -> Result<Bound, NoBound> {
-        let (number, line) = (returned / 65_536, returned % 65_536);
-        if let Some(excess) = Excess::of(number) {
-            return Err(NoBound::Accepted { excess, line });
+    /// What bound returned, and what it left in the bounds area; none for a number
+    /// that it does not return.
+    pub(crate) fn of(
+        returned: Returned,
+        bounds: &[u8; BOUNDS_BYTES],
+    ) -> Option<Result<Bound, NoBound>> {
+        let line = returned.line();
+        if let Some(excess) = Excess::of(returned.number()) {
+            return Some(Err(NoBound::Accepted { excess, line }));
         }
-        if let Some(refusal) = Refusal::of(returned) {
-            return Err(NoBound::Refused(refusal));
+        if let Some(refusal) = returned.refusal() {
+            return Some(Err(NoBound::Refused(refusal)));
         }
         let [a, b, c, d, e, f, g, h] = *bounds;
         let bound = Bound {
             steps: u32::from_le_bytes([a, b, c, d]),
             frames: u32::from_le_bytes([e, f, g, h]),
         };
-        Ok(known((number == 0).then_some(bound), number))
+        (returned.number() == 0).then_some(Ok(bound))
     }
 }
 

@@ -2,7 +2,9 @@
 //!
 //! Most callers want [`crate::check`], [`crate::run`], [`crate::trial`] and
 //! [`crate::bound`]. The functions here are for those who lend areas of their own
-//! and want the number as it comes.
+//! and want what comes back as it is.
+
+use crate::Returned;
 
 /// The functions as C has them. A null text is allowed with length 0; the areas
 /// must not overlap, with each other or with the text.
@@ -48,19 +50,23 @@ pub mod raw {
 }
 
 /// Checks the text over a lent work area of [`WORK_BYTES`](crate::limits::WORK_BYTES)
-/// bytes. Returns number × 65,536 + line. Afterwards the work area is all zero,
+/// bytes. Afterwards the work area is all zero,
 /// except for number 1 (an area of wrong length), which changes nothing.
 ///
 /// ```
 /// let mut work = vec![0xa5; nuyardi::limits::WORK_BYTES];
-/// assert_eq!(nuyardi::calls::check(b"main\nend\n", &mut work), 0);
+/// let returned = nuyardi::calls::check(b"main\nend\n", &mut work);
+/// assert_eq!((returned.number(), returned.line()), (0, 0));
 /// assert!(work.iter().all(|&byte| byte == 0));
-/// assert_eq!(nuyardi::calls::check(b"main\nend\n", &mut work[1..]), 65_536);
+/// let returned = nuyardi::calls::check(b"main\nend\n", &mut work[1..]);
+/// assert_eq!((returned.number(), returned.line()), (1, 0));
 /// ```
-pub fn check(text: &[u8], work: &mut [u8]) -> u32 {
+pub fn check(text: &[u8], work: &mut [u8]) -> Returned {
     // SAFETY: each pointer comes with the length of its slice, the text is only
     // read, and the borrows keep the slices alive and apart during the call.
-    unsafe { raw::station_check(text.as_ptr(), text.len(), work.as_mut_ptr(), work.len()) }
+    Returned::of(unsafe {
+        raw::station_check(text.as_ptr(), text.len(), work.as_mut_ptr(), work.len())
+    })
 }
 
 /// Runs the text for at most so many steps, if check accepts it, with a results
@@ -72,10 +78,11 @@ pub fn check(text: &[u8], work: &mut [u8]) -> u32 {
 /// let mut work = vec![0; nuyardi::limits::WORK_BYTES];
 /// let mut results = [0xa5; nuyardi::limits::RESULTS_BYTES];
 /// let text = b"main\nvar\tint\ta\nlet\ta\t7\nend\n";
-/// assert_eq!(nuyardi::calls::run(text, &mut work, 1_000, &mut results), 4);
+/// let returned = nuyardi::calls::run(text, &mut work, 1_000, &mut results);
+/// assert_eq!((returned.number(), returned.line()), (0, 4));
 /// assert_eq!(results[..8], [2, 0, 0, 0, 7, 0, 0, 0]);
 /// ```
-pub fn run(text: &[u8], work: &mut [u8], steps: u32, results: &mut [u8]) -> u32 {
+pub fn run(text: &[u8], work: &mut [u8], steps: u32, results: &mut [u8]) -> Returned {
     over(raw::station_run, text, work, steps, results)
 }
 
@@ -85,16 +92,18 @@ pub fn run(text: &[u8], work: &mut [u8], steps: u32, results: &mut [u8]) -> u32 
 /// let mut work = vec![0; nuyardi::limits::WORK_BYTES];
 /// let mut results = [0; nuyardi::limits::RESULTS_BYTES];
 /// let text = b"main\nassert\teq\t1\t2\nend\n";
-/// assert_eq!(nuyardi::calls::run(text, &mut work, 9, &mut results), 13 * 65_536 + 2);
-/// assert_eq!(nuyardi::calls::trial(text, &mut work, 9, &mut results), 26 * 65_536 + 2);
+/// let returned = nuyardi::calls::run(text, &mut work, 9, &mut results);
+/// assert_eq!((returned.number(), returned.line()), (13, 2));
+/// let returned = nuyardi::calls::trial(text, &mut work, 9, &mut results);
+/// assert_eq!((returned.number(), returned.line()), (26, 2));
 /// ```
-pub fn trial(text: &[u8], work: &mut [u8], steps: u32, results: &mut [u8]) -> u32 {
+pub fn trial(text: &[u8], work: &mut [u8], steps: u32, results: &mut [u8]) -> Returned {
     over(raw::station_trial, text, work, steps, results)
 }
 
-fn over(call: raw::Runs, text: &[u8], work: &mut [u8], steps: u32, results: &mut [u8]) -> u32 {
+fn over(call: raw::Runs, text: &[u8], work: &mut [u8], steps: u32, results: &mut [u8]) -> Returned {
     // SAFETY: as in `check`; the two areas are two borrows, so they are apart.
-    unsafe {
+    Returned::of(unsafe {
         call(
             text.as_ptr(),
             text.len(),
@@ -104,7 +113,7 @@ fn over(call: raw::Runs, text: &[u8], work: &mut [u8], steps: u32, results: &mut
             results.as_mut_ptr(),
             results.len(),
         )
-    }
+    })
 }
 
 /// The bound of the text, in an area of [`BOUNDS_BYTES`](crate::limits::BOUNDS_BYTES)
@@ -115,15 +124,16 @@ fn over(call: raw::Runs, text: &[u8], work: &mut [u8], steps: u32, results: &mut
 /// let mut work = vec![0; nuyardi::limits::WORK_BYTES];
 /// let mut bounds = [0xa5; nuyardi::limits::BOUNDS_BYTES];
 /// let text = b"main\nvar\tint\ta\nlet\ta\t7\nend\n";
-/// assert_eq!(nuyardi::calls::bound(text, &mut work, &mut bounds), 0);
+/// assert_eq!(nuyardi::calls::bound(text, &mut work, &mut bounds).number(), 0);
 /// assert_eq!(bounds, [2, 0, 0, 0, 1, 0, 0, 0]);
 /// let text = b"main\nloop\teq\t1\t1\nagain\nend\n";
-/// assert_eq!(nuyardi::calls::bound(text, &mut work, &mut bounds), 15 * 65_536 + 2);
+/// let returned = nuyardi::calls::bound(text, &mut work, &mut bounds);
+/// assert_eq!((returned.number(), returned.line()), (15, 2));
 /// assert_eq!(bounds, [0; nuyardi::limits::BOUNDS_BYTES]);
 /// ```
-pub fn bound(text: &[u8], work: &mut [u8], bounds: &mut [u8]) -> u32 {
+pub fn bound(text: &[u8], work: &mut [u8], bounds: &mut [u8]) -> Returned {
     // SAFETY: as in `run`.
-    unsafe {
+    Returned::of(unsafe {
         raw::station_bound(
             text.as_ptr(),
             text.len(),
@@ -132,5 +142,5 @@ pub fn bound(text: &[u8], work: &mut [u8], bounds: &mut [u8]) -> u32 {
             bounds.as_mut_ptr(),
             bounds.len(),
         )
-    }
+    })
 }

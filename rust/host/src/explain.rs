@@ -151,19 +151,20 @@ pub const EXPLANATIONS: &[Explanation] = &[
     },
     Explanation {
         number: 10,
-        title: "a path that is read before its `acc`",
+        title: "a path that is read before its `acc` or `read`",
         meaning: "In `requires`, `ensures`, `join` and the invariant of a `loop` a path `x.f` may be \
-                  read only after `acc x f`, by these two names, in the same line. The condition of a \
-                  `loop` reads only paths whose `acc` is in the invariant after it.",
-        mend: "write `acc x f` before the atom that reads `x.f`; for a loop's condition, into its \
-               invariant",
+                  read only after `acc x f` or `read x f`, by these two names, in the same line. The \
+                  condition of a `loop` reads only paths whose `acc` or `read` is in the invariant \
+                  after it.",
+        mend: "write `acc x f` or `read x f` before the atom that reads `x.f`; for a loop's \
+               condition, into its invariant",
         example: example!("refused-10"),
     },
     Explanation {
         number: 11,
         title: "a path that does not resolve",
-        meaning: "The line reads `x.f`, but no permission to it is known here: not for x, nor for \
-                  anything known to be equal to x.",
+        meaning: "The line reads `x.f`, but no permission to it is known here, neither whole nor \
+                  half: not for x, nor for anything known to be equal to x.",
         mend: "keep or ask for the permission before this line: in `requires`, in the `ensures` of \
                the method called before, in the `join` or `loop` before, or by not releasing it",
         example: example!("refused-11"),
@@ -171,11 +172,13 @@ pub const EXPLANATIONS: &[Explanation] = &[
     Explanation {
         number: 12,
         title: "a permission that is not shown",
-        meaning: "The line needs `acc x f`, for itself or for a formula that it must show, and no \
-                  permission that is known here and not yet used by the same formula gives it.",
+        meaning: "The line needs `acc x f` or `read x f`, for itself or for a formula that it must \
+                  show, and no permission that is known here and not yet used by the same formula \
+                  gives it. `set` needs `acc`, and a `read`, which is a half, never gives an `acc`.",
         mend: "ask for it in `requires`, give it back in `ensures`, keep it in `join` or in the \
                invariant of a `loop`, which is shown before the first round and at each `again`; a \
-               formula with `acc x f` twice needs two objects",
+               formula with `acc x f` twice needs two objects; a half that a method was handed by \
+               `read` comes back by a `read` in its `ensures`",
         example: example!("refused-12"),
     },
     Explanation {
@@ -247,8 +250,9 @@ pub const EXPLANATIONS: &[Explanation] = &[
     Explanation {
         number: 24,
         title: "a permission is missing",
-        meaning: "The running block does not hold the field that the line reads, writes or claims. \
-                  An accepted text never stops so.",
+        meaning: "The running block does not hold the field that the line reads, writes or claims, \
+                  or only a half of one that it writes or claims whole. An accepted text never stops \
+                  so.",
         mend: "check the text: the refused line says which permission is not handed over",
         example: example!("stopped-24"),
     },

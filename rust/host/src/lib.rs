@@ -21,7 +21,8 @@
 //! No text makes a call panic. Calls share nothing: threads with a [`Station`]
 //! each may check and run at the same time. The crate has no `std`; without its
 //! feature `alloc` a station's area stands where the station does, and nothing is
-//! allocated.
+//! allocated. Without its feature `library` no library is linked: there are the
+//! numbers, what they mean, and the limits, and no call.
 
 #![no_std]
 #![deny(missing_docs)]
@@ -30,6 +31,7 @@
 extern crate alloc;
 
 mod bound;
+#[cfg(feature = "library")]
 #[allow(missing_docs)]
 pub mod calls;
 mod explain;
@@ -37,6 +39,8 @@ pub mod limits;
 mod numbers;
 mod outcome;
 mod refusal;
+mod returned;
+#[cfg(feature = "library")]
 mod station;
 
 pub use bound::{Bound, NoBound};
@@ -44,6 +48,8 @@ pub use explain::{explain, Explanation, EXPLANATIONS};
 pub use numbers::{AcceptedStop, Excess, Kind, Stop};
 pub use outcome::{AcceptedEnding, Ending, Outcome, Value, Variable};
 pub use refusal::Refusal;
+pub use returned::Returned;
+#[cfg(feature = "library")]
 pub use station::{Accepted, OwnWork, Station};
 
 /// Checks a text: accepted, or refused with a number and a line.
@@ -54,6 +60,7 @@ pub use station::{Accepted, OwnWork, Station};
 /// ```
 ///
 /// It makes areas for this call; a [`Station`] keeps its areas for the next one.
+#[cfg(feature = "library")]
 pub fn check(text: &[u8]) -> Result<Accepted<'_>, Refusal> {
     Station::new().check(text)
 }
@@ -66,6 +73,7 @@ pub fn check(text: &[u8]) -> Result<Accepted<'_>, Refusal> {
 /// assert_eq!((outcome.line(), outcome.steps()), (4, 2));
 /// # Ok::<(), nuyardi::Refusal>(())
 /// ```
+#[cfg(feature = "library")]
 pub fn run(text: &[u8], steps: u32) -> Result<Outcome<'_, AcceptedEnding>, Refusal> {
     Station::new().run(text, steps)
 }
@@ -77,6 +85,7 @@ pub fn run(text: &[u8], steps: u32) -> Result<Outcome<'_, AcceptedEnding>, Refus
 /// assert_eq!(outcome.ending(), nuyardi::Ending::Stopped(nuyardi::Stop::FormulaFalse));
 /// assert_eq!((outcome.line(), outcome.steps()), (3, 0));
 /// ```
+#[cfg(feature = "library")]
 pub fn trial(text: &[u8], steps: u32) -> Outcome<'_> {
     Station::new().trial(text, steps)
 }
@@ -88,6 +97,7 @@ pub fn trial(text: &[u8], steps: u32) -> Outcome<'_> {
 /// assert_eq!((bound.steps, bound.frames), (2, 1));
 /// # Ok::<(), nuyardi::NoBound>(())
 /// ```
+#[cfg(feature = "library")]
 pub fn bound(text: &[u8]) -> Result<Bound, NoBound> {
     Station::new().bound(text)
 }

@@ -47,7 +47,7 @@ numbered! {
         Unfinished = 8,
         /// 9: an assigned variable that must not be.
         Assigned = 9,
-        /// 10: a contract, `join` or `loop` reads a path without its `acc`.
+        /// 10: a contract, `join` or `loop` reads a path without its `acc` or `read`.
         Unframed = 10,
         /// 11: a path that does not resolve.
         Unresolved = 11,

@@ -1,8 +1,7 @@
 //! How a run ended, and what main's variables hold.
 
 use crate::limits::{RESULTS_BYTES, VALUES};
-use crate::numbers::known;
-use crate::{explain, AcceptedStop, Kind, Stop};
+use crate::{explain, AcceptedStop, Kind, Returned, Stop};
 use core::fmt;
 
 /// How a trial of any text ended.
@@ -40,6 +39,7 @@ pub enum AcceptedEnding {
 }
 
 impl AcceptedEnding {
+    #[cfg(feature = "library")]
     pub(crate) fn of(number: u32) -> Option<AcceptedEnding> {
         match number {
             0 => Some(AcceptedEnding::Finished),
@@ -94,7 +94,17 @@ pub struct Variable<'t> {
 /// How a run ended: number and line, the steps taken, main's variables. The
 /// ending of a trial of any text is an [`Ending`], that of a run an
 /// [`AcceptedEnding`].
-#[derive(Clone, Copy, Debug, PartialEq, Eq, Hash)]
+///
+/// ```
+/// # #[cfg(feature = "library")] {
+/// let outcome = nuyardi::trial(b"main\nvar\tint\ta\nlet\ta\t7\nend\n", 10);
+/// assert_eq!(
+///     format!("{outcome:?}"),
+///     "Outcome { ending: Finished, line: 4, steps: 2, variables: {a: 7} }"
+/// );
+/// # }
+/// ```
+#[derive(Clone, Copy, PartialEq, Eq, Hash)]
 pub struct Outcome<'t, E = Ending> {
     ending: E,
     number: u32,
@@ -108,12 +118,11 @@ pub struct Outcome<'t, E = Ending> {
 impl<'t, E: Copy> Outcome<'t, E> {
     /// What a call returned, the text, and what it left in the results area.
     pub(crate) fn of(
-        returned: u32,
-        ending: fn(u32) -> Option<E>,
+        returned: Returned,
+        ending: E,
         text: &'t [u8],
         results: &[u8; RESULTS_BYTES],
     ) -> Outcome<'t, E> {
-        let number = returned / 65_536;
         let mut words = results.chunks_exact(4).map(|four| {
             four.iter()
                 .rev()
@@ -124,11 +133,11 @@ impl<'t, E: Copy> Outcome<'t, E> {
         for (value, word) in values.iter_mut().zip(words) {
             *value = word as i32;
         }
-        let ran = Kind::of(number).is_none();
+        let ran = returned.refusal().is_none();
         Outcome {
-            ending: known(ending(number), number),
-            number,
-            line: returned % 65_536,
+            ending,
+            number: returned.number(),
+            line: returned.line(),
             steps,
             values,
             text: if ran { text } else { b"" },
@@ -203,6 +212,30 @@ impl<'t> From<Outcome<'t, AcceptedEnding>> for Outcome<'t> {
             values: outcome.values,
             text: outcome.text,
         }
+    }
+}
+
+/// Main's variables as `{a: 7, s: object 1}`.
+struct Shown<'o, 't, E>(&'o Outcome<'t, E>);
+
+impl<E: Copy> fmt::Debug for Shown<'_, '_, E> {
+    fn fmt(&self, f: &mut fmt::Formatter<'_>) -> fmt::Result {
+        let mut map = f.debug_map();
+        for Variable { name, value, .. } in self.0.variables() {
+            map.entry(&format_args!("{name}"), &format_args!("{value}"));
+        }
+        map.finish()
+    }
+}
+
+impl<E: Copy + fmt::Debug> fmt::Debug for Outcome<'_, E> {
+    fn fmt(&self, f: &mut fmt::Formatter<'_>) -> fmt::Result {
+        f.debug_struct("Outcome")
+            .field("ending", &self.ending)
+            .field("line", &self.line)
+            .field("steps", &self.steps)
+            .field("variables", &Shown(self))
+            .finish()
     }
 }
 

@@ -11,10 +11,8 @@ pub struct Refusal {
 }
 
 impl Refusal {
-    /// The refusal that a call returned, if it is one.
-    pub(crate) fn of(returned: u32) -> Option<Refusal> {
-        let (number, line) = (returned / 65_536, returned % 65_536);
-        Kind::of(number).map(|kind| Refusal { kind, line })
+    pub(crate) fn new(kind: Kind, line: u32) -> Refusal {
+        Refusal { kind, line }
     }
 
     /// The number.

@@ -3,7 +3,7 @@
 use crate::limits::{BOUNDS_BYTES, RESULTS_BYTES, WORK_BYTES};
 use crate::numbers::known;
 use crate::outcome::{AcceptedEnding, Ending};
-use crate::{calls, Bound, NoBound, Outcome, Refusal};
+use crate::{calls, Bound, NoBound, Outcome, Refusal, Returned};
 use core::borrow::BorrowMut;
 use core::fmt;
 
@@ -78,9 +78,9 @@ impl<W: BorrowMut<[u8; WORK_BYTES]>> Station<W> {
     /// Checks a text: accepted, or refused with a number and a line.
     pub fn check<'t>(&mut self, text: &'t [u8]) -> Result<Accepted<'t>, Refusal> {
         let returned = calls::check(text, self.work.borrow_mut());
-        let accepted = (returned == 0).then_some(Accepted { text });
-        match Refusal::of(returned) {
-            None => Ok(known(accepted, returned / 65_536)),
+        let accepted = (returned.word() == 0).then_some(Accepted { text });
+        match returned.refusal() {
+            None => Ok(known(accepted, returned.number())),
             Some(refusal) => Err(refusal),
         }
     }
@@ -103,13 +103,8 @@ impl<W: BorrowMut<[u8; WORK_BYTES]>> Station<W> {
         steps: u32,
     ) -> Result<Outcome<'t, AcceptedEnding>, Refusal> {
         let returned = calls::run(text, self.work.borrow_mut(), steps, &mut self.results);
-        match Refusal::of(returned) {
-            None => Ok(Outcome::of(
-                returned,
-                AcceptedEnding::of,
-                text,
-                &self.results,
-            )),
+        match returned.refusal() {
+            None => Ok(self.ended(AcceptedEnding::of, returned, text)),
             Some(refusal) => Err(refusal),
         }
     }
@@ -128,6 +123,18 @@ impl<W: BorrowMut<[u8; WORK_BYTES]>> Station<W> {
         steps: u32,
     ) -> Outcome<'t, E> {
         let returned = calls::trial(text, self.work.borrow_mut(), steps, &mut self.results);
+        self.ended(ending, returned, text)
+    }
+
+    /// What a run or a trial of the text returned, as its ending.
+    fn ended<'t, E: Copy>(
+        &self,
+        ending: fn(u32) -> Option<E>,
+        returned: Returned,
+        text: &'t [u8],
+    ) -> Outcome<'t, E> {
+        let number = returned.number();
+        let ending = known(ending(number), number);
         Outcome::of(returned, ending, text, &self.results)
     }
 
@@ -158,14 +165,42 @@ impl<W: BorrowMut<[u8; WORK_BYTES]>> Station<W> {
     pub fn bound(&mut self, text: &[u8]) -> Result<Bound, NoBound> {
         let mut bounds = [0; BOUNDS_BYTES];
         let returned = calls::bound(text, self.work.borrow_mut(), &mut bounds);
-        Bound::of(returned, &bounds)
+        known(returned.bound(&bounds), returned.number())
     }
 }
 
 /// A text that check accepts.
-#[derive(Clone, Copy, Debug, PartialEq, Eq)]
+///
+/// ```
+/// let accepted = nuyardi::check(b"main\nend\n")?;
+/// assert_eq!(format!("{accepted:?}"), r#"Accepted { text: "main\nend\n" }"#);
+/// # Ok::<(), nuyardi::Refusal>(())
+/// ```
+#[derive(Clone, Copy, PartialEq, Eq)]
 pub struct Accepted<'t> {
     text: &'t [u8],
+}
+
+/// A text in messages to those who debug: its first bytes.
+struct Shown<'t>(&'t [u8]);
+
+impl fmt::Debug for Shown<'_> {
+    fn fmt(&self, f: &mut fmt::Formatter<'_>) -> fmt::Result {
+        const BYTES: usize = 60;
+        let (first, rest) = self.0.split_at(self.0.len().min(BYTES));
+        write!(f, "\"{}\"", first.escape_ascii())?;
+        match rest.len() {
+            0 => Ok(()),
+            more => write!(f, " and {more} bytes more"),
+        }
+    }
+}
+
+impl fmt::Debug for Accepted<'_> {
+    fn fmt(&self, f: &mut fmt::Formatter<'_>) -> fmt::Result {
+        let mut shown = f.debug_struct("Accepted");
+        shown.field("text", &Shown(self.text)).finish()
+    }
 }
 
 impl<'t> Accepted<'t> {

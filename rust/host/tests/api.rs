@@ -1,6 +1,6 @@
 //! The Rust API beside the model: kinds, lines, main's variables by name.
 
-use model::gen::{self, rng::Rng};
+use generator::{self as gen, rng::Rng};
 use model::names::{Declared, Type};
 use nuyardi::{AcceptedEnding, AcceptedStop, Ending, Excess, Kind, NoBound, Outcome, Station};
 use nuyardi::{Stop, Value};

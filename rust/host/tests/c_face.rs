@@ -203,7 +203,7 @@ fn called_from_c() {
 /// The answers of a C program with areas fresh from malloc are the model's.
 #[test]
 fn replayed() {
-    let texts: Vec<Vec<u8>> = (0..150).map(model::gen::text).collect();
+    let texts: Vec<Vec<u8>> = (0..150).map(generator::text).collect();
     c::as_expected(
         Command::new(c::compiled("replay")),
         "replay-texts",
@@ -217,7 +217,7 @@ fn replayed() {
 #[test]
 fn stack() {
     let timed = workloads::all().into_iter().map(|workload| workload.text);
-    let generated = (0..200).map(model::gen::text);
+    let generated = (0..200).map(generator::text);
     let names = c::files("stack-texts", timed.chain(generated));
     let output = Command::new(c::compiled("stack"))
         .arg("2000")

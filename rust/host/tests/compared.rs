@@ -9,6 +9,7 @@ use cases::Case;
 use compare::{compare_seeds, run_of, trial_of, Call, Comparer, Runs, BOUND, CHECK};
 use nuyardi::calls::raw;
 use nuyardi::limits::{BOUNDS_BYTES, RESULTS_BYTES, TEXT_BYTES, WORK_BYTES};
+use nuyardi::Returned;
 use std::path::Path;
 
 /// The call of a case; none if it is of the program.
@@ -171,9 +172,11 @@ fn a_million_texts() {
 fn a_null_text() {
     let mut work = vec![0xa5; WORK_BYTES];
     let mut results = [0x5a; RESULTS_BYTES];
+    let unfinished = nuyardi::check(b"").err();
+    assert_eq!(unfinished.map(|refusal| refusal.number()), Some(8));
     // SAFETY: the areas are as long as is said, and a text of length 0 is not read.
     let checked = unsafe { raw::station_check(std::ptr::null(), 0, work.as_mut_ptr(), WORK_BYTES) };
-    assert_eq!(checked, 8 * 65_536);
+    assert_eq!(Returned::of(checked).refusal(), unfinished);
     assert!(work.iter().all(|&byte| byte == 0));
     for call in [raw::station_run as raw::Runs, raw::station_trial] {
         work.fill(0xa5);
@@ -190,7 +193,7 @@ fn a_null_text() {
                 RESULTS_BYTES,
             )
         };
-        assert_eq!(ran, 8 * 65_536);
+        assert_eq!(Returned::of(ran).refusal(), unfinished);
         assert!(work.iter().chain(&results).all(|&byte| byte == 0));
     }
     work.fill(0xa5);
@@ -206,14 +209,14 @@ fn a_null_text() {
             BOUNDS_BYTES,
         )
     };
-    assert_eq!(bounded, 8 * 65_536);
+    assert_eq!(Returned::of(bounded).refusal(), unfinished);
     assert!(work.iter().chain(&bounds).all(|&byte| byte == 0));
 }
 
 /// Two threads with areas of their own get the answers that one gets.
 #[test]
 fn two_threads_at_once() {
-    let texts: Vec<Vec<u8>> = (0..200).map(model::gen::text).collect();
+    let texts: Vec<Vec<u8>> = (0..200).map(generator::text).collect();
     let answers = || -> Vec<_> {
         let mut station = nuyardi::Station::new();
         let answer = |text| {

@@ -1,5 +1,5 @@
 //! The crate as a package: one version everywhere, documents without warnings,
-//! and a build that allocates nothing.
+//! and builds that allocate nothing, or link nothing.
 
 use std::path::{Path, PathBuf};
 use std::process::Command;
@@ -60,15 +60,20 @@ fn on_the_crate(program: &str, words: &[&str]) {
     assert!(output.status.success(), "{}: {said}", program.display());
 }
 
+const ALLOC: &str = "--cfg=feature=\"alloc\"";
+const LIBRARY: &str = "--cfg=feature=\"library\"";
+
 /// `cargo doc` has nothing to say.
 #[test]
 fn documents() {
-    on_the_crate("rustdoc", &["--cfg=feature=\"alloc\""]);
+    on_the_crate("rustdoc", &[ALLOC, LIBRARY]);
 }
 
-/// Without the feature `alloc` too.
+/// Each feature may be left out.
 #[test]
-fn without_allocation() {
-    on_the_crate("rustc", &["--emit=metadata"]);
-    on_the_crate("rustc", &["--emit=metadata", "--cfg=feature=\"alloc\""]);
+fn without_features() {
+    for features in [&[][..], &[ALLOC], &[LIBRARY], &[ALLOC, LIBRARY]] {
+        let words = [&["--emit=metadata"], features].concat();
+        on_the_crate("rustc", &words);
+    }
 }

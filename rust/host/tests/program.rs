@@ -128,7 +128,7 @@ fn generated_texts() {
     let program = program();
     let files = std::fs::read_dir(root().join("examples")).expect("examples");
     let files = files.map(|entry| std::fs::read(entry.expect("an entry").path()).expect("a text"));
-    let generated = (2_000_000..2_001_500).map(model::gen::text);
+    let generated = (2_000_000..2_001_500).map(generator::text);
     for text in files.chain(generated) {
         let shown = text.escape_ascii();
         assert_eq!(printed(program, &text), model::printed(&text), "{shown}");

@@ -1,12 +1,12 @@
 //! The checker's rules: the numbers 11 to 14.
 
-use crate::limits;
 use crate::names::{
     Action, Atom, Block, Branch, Call, Class, Expr, Loop, Path, Program, Statement, Type, Var,
     PARAM, RESULT, THIS,
 };
 use crate::number::{self, Refusal};
 use crate::state::Rule;
+use crate::text::Share;
 use crate::watch::{At, Purpose, Unwatched, Watch};
 
 pub use crate::state::{Fact, Permission, State, Term};
@@ -27,11 +27,15 @@ impl<'a> State<'a> {
     }
 
     /// `new`: "remove x; add its permissions, x ≠ null, and each field = null,
-    /// or 0 for int".
+    /// or 0 for int"; both halves of each.
     fn create(&mut self, x: Var, class: &Class<'a>) -> Rule<()> {
         self.remove(x, Term::Null);
         for field in &class.fields {
-            self.add_permission(x, field.name)?;
+            self.add_permission(Permission {
+                share: Share::Acc,
+                var: x,
+                field: field.name,
+            })?;
         }
         self.add_fact(false, Term::Var(x), Term::Null)?;
         for field in &class.fields {
@@ -45,11 +49,11 @@ impl<'a> State<'a> {
     }
 
     /// `set`: "`acc x f` shown by a path p", W3: "the old value of the path
-    /// counts as dropped"; "add p = y".
+    /// counts as dropped"; "add p = y". A `read` shows no `acc`.
     fn set<W: Watch<'a>>(&mut self, path: Path<'a>, y: Var, at: &mut At<W>) -> Rule<()> {
-        at.show(self, Purpose::Write, &[Atom::Acc(path)]);
+        at.show(self, Purpose::Write, &[Atom::Permission(Share::Acc, path)]);
         let place = self
-            .first_listed(path, &[false; limits::PERMISSIONS])
+            .first_listed(Share::Acc, path)
             .ok_or(number::NO_PERMISSION)?;
         let path = self.permissions[place].path();
         self.drop_terms(&[path]);
@@ -82,7 +86,7 @@ pub fn with_vars<'a>(formula: &[Atom<'a>], var: impl Fn(Var) -> Var) -> Vec<Atom
         constant => constant,
     };
     let atom = |&atom: &Atom<'a>| match atom {
-        Atom::Acc(p) => Atom::Acc(path(p)),
+        Atom::Permission(share, p) => Atom::Permission(share, path(p)),
         Atom::Eq(left, right) => Atom::Eq(side(left), side(right)),
         Atom::Ne(left, right) => Atom::Ne(side(left), side(right)),
     };
@@ -104,7 +108,7 @@ pub fn opposite(condition: Atom) -> Atom {
     match condition {
         Atom::Eq(left, right) => Atom::Ne(left, right),
         Atom::Ne(left, right) => Atom::Eq(left, right),
-        Atom::Acc(_) => unreachable!("a condition is eq or ne"),
+        Atom::Permission(..) => unreachable!("a condition is eq or ne"),
     }
 }
 
@@ -349,4 +353,19 @@ pub fn check_watched<'a>(program: &Program<'a>, watch: &mut impl Watch<'a>) -> R
         };
         checker.check()
     })
+}
+
+/// The check of one block alone, with someone who looks on.
+pub fn check_block_watched<'a>(
+    program: &Program<'a>,
+    block: usize,
+    watch: &mut impl Watch<'a>,
+) -> Result<(), Refusal> {
+    let block = &program.blocks[block];
+    let mut checker = Checker {
+        program,
+        block,
+        watch,
+    };
+    checker.check()
 }

@@ -149,6 +149,11 @@ pub const ATOM_SHAPES: &[AtomShape] = &[
         condition: false,
     },
     AtomShape {
+        word: "read",
+        operands: [("x", Variable), ("f", Name)],
+        condition: false,
+    },
+    AtomShape {
         word: "eq",
         operands: [("e", Expression), ("e", Expression)],
         condition: true,

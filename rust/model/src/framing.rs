@@ -1,27 +1,34 @@
 //! Number 10: "requires, ensures or join reads `x.f` with no `acc x f` before
 //! it in the line", and W5: "The invariant, and the condition after it, read
-//! only paths that the invariant holds; number 10 covers this line." It goes by
-//! the two names as written.
+//! only paths that the invariant holds; number 10 covers this line." W8: "For
+//! number 10, `read x f` serves as `acc x f` does." It goes by the two names as
+//! written.
 
 use crate::number::{self, Refusal};
 use crate::text::{Atom, Expr, Line, Name};
 
-/// A path that is read without its `acc`: the place of its atom, x and f.
+/// A path that is read without its permission: the place of its atom, x and f.
 pub type Unframed<'a> = (usize, Name<'a>, Name<'a>);
 
 /// The first path that the atom at a place reads and none of the others holds.
 fn bare<'a>(place: usize, atom: Atom<'a>, held: &[Atom<'a>]) -> Option<Unframed<'a>> {
+    let holds = |atom: &Atom, x: Name, field: Name| match *atom {
+        Atom::Permission(_, y, other) => (y, other) == (x, field),
+        Atom::Eq(..) | Atom::Ne(..) => false,
+    };
     let bare = |side: Expr<'a>| match side {
-        Expr::Path(x, field) if !held.contains(&Atom::Acc(x, field)) => Some((place, x, field)),
+        Expr::Path(x, field) if !held.iter().any(|atom| holds(atom, x, field)) => {
+            Some((place, x, field))
+        }
         _ => None,
     };
     match atom {
-        Atom::Acc(..) => None,
+        Atom::Permission(..) => None,
         Atom::Eq(left, right) | Atom::Ne(left, right) => bare(left).or_else(|| bare(right)),
     }
 }
 
-/// The first path that the formula reads with no `acc` before it.
+/// The first path that the formula reads with no permission before it.
 pub fn unframed<'a>(formula: &[Atom<'a>]) -> Option<Unframed<'a>> {
     let mut atoms = formula.iter().enumerate();
     atoms.find_map(|(place, &atom)| bare(place, atom, &formula[..place]))

@@ -1,20 +1,23 @@
 //! The machine: the numbers 0 and 21 to 27 of a run.
 
+use crate::formula::{Outcome, Reader};
 use crate::limits;
 use crate::names::{
-    Action, Atom, Block, Call, Compute, Expr, Path, Program, Statement, Var, FIRST_LOCAL, PARAM,
-    RESULT, THIS, VARS,
+    Action, Atom, Block, Call, Compute, Path, Program, Statement, Var, FIRST_LOCAL, PARAM, RESULT,
+    THIS, VARS,
 };
 use crate::number;
+use crate::text::Share;
 use crate::watch::{Halt, Tested};
 
+pub use crate::formula::location;
 pub use crate::locations::{Location, Locations};
 
 /// The values of a frame's variables; null is 0.
 pub type Values = [i32; VARS];
 
-/// "A frame has values and a set A of locations". A frame that waits for a call
-/// stands at the `call`.
+/// "A frame has values and a set A of locations", since W8 with one half of each
+/// or both. A frame that waits for a call stands at the `call`.
 #[derive(Clone, Copy, Debug)]
 pub struct Frame {
     /// The frame's block, a place in the program's list.
@@ -43,9 +46,6 @@ pub enum Step {
     Done,
 }
 
-/// A step that cannot be done stops with a number.
-type Outcome<'a, T> = Result<T, Halt<'a>>;
-
 /// The state of a run. "A run is the list of steps from the empty heap and
 /// main's frame."
 pub struct Machine<'p, 'a> {
@@ -60,84 +60,6 @@ pub struct Machine<'p, 'a> {
     pub steps: u32,
     /// What stopped the last step, if one was stopped.
     pub halt: Option<Halt<'a>>,
-}
-
-/// A formula's reader: the values it sees and the locations it may read.
-struct Reader<'m> {
-    objects: &'m [Object],
-    heap: &'m [i32],
-    values: &'m Values,
-    held: &'m Locations,
-}
-
-impl Reader<'_> {
-    /// The location of `x.f`: null followed is 25, one not held 24.
-    fn location<'a>(&self, path: Path<'a>) -> Outcome<'a, Location> {
-        let location = location(self.objects, self.values, path)
-            .ok_or_else(|| Halt::at(number::NULL_FOLLOWED, path))?;
-        if self.held.contains(location) {
-            Ok(location)
-        } else {
-            Err(Halt::at(number::PERMISSION_MISSING, path))
-        }
-    }
-
-    /// "reading a path needs its location in A", over the whole A.
-    fn value<'a>(&self, expr: Expr<'a>) -> Outcome<'a, i32> {
-        Ok(match expr {
-            Expr::Number(value) => value,
-            Expr::Null => 0,
-            Expr::Var(var) => self.values[var],
-            Expr::Path(path) => self.heap[self.location(path)?],
-        })
-    }
-
-    /// "of two sides the left first".
-    fn equal<'a>(&self, left: Expr<'a>, right: Expr<'a>) -> Outcome<'a, bool> {
-        let left = self.value(left)?;
-        let right = self.value(right)?;
-        Ok(left == right)
-    }
-
-    /// "Formula atoms go in order". Gives the footprint, "the locations that
-    /// its `acc` atoms take"; one already taken in this formula is 24.
-    fn formula<'a>(&self, formula: &[Atom<'a>], tested: Tested) -> Outcome<'a, Locations> {
-        let mut taken = Locations::default();
-        for (place, &atom) in formula.iter().enumerate() {
-            self.atom(atom, &mut taken).map_err(|halt| Halt {
-                atom: Some(place),
-                tested,
-                ..halt
-            })?;
-        }
-        Ok(taken)
-    }
-
-    fn atom<'a>(&self, atom: Atom<'a>, taken: &mut Locations) -> Outcome<'a, ()> {
-        let holds = match atom {
-            Atom::Acc(path) => {
-                let location = self.location(path)?;
-                if taken.contains(location) {
-                    return Err(Halt::at(number::PERMISSION_MISSING, path));
-                }
-                taken.insert(location);
-                true
-            }
-            Atom::Eq(left, right) => self.equal(left, right)?,
-            Atom::Ne(left, right) => !self.equal(left, right)?,
-        };
-        if holds {
-            Ok(())
-        } else {
-            Err(Halt::of(number::FORMULA_FALSE))
-        }
-    }
-}
-
-/// Where `x.f` is, for these values of the variables; none if x is null.
-pub fn location(objects: &[Object], values: &Values, path: Path) -> Option<Location> {
-    let object = (values[path.var] as usize).checked_sub(1)?;
-    Some(objects[object].first + path.slot)
 }
 
 /// The values of a called method's variables at its start.
@@ -234,10 +156,7 @@ impl<'p, 'a> Machine<'p, 'a> {
     /// A step inside one frame; gives the place of the next statement.
     fn simple(&mut self, here: usize, action: &Action<'a>) -> Outcome<'a, usize> {
         match action {
-            Action::Set(path, y) => {
-                let location = self.reader().location(*path)?;
-                self.heap[location] = self.frame().values[*y];
-            }
+            Action::Set(path, y) => self.set(*path, *y)?,
             Action::Let(x, expr) => {
                 let value = self.reader().value(*expr)?;
                 self.assign(*x, value);
@@ -277,6 +196,14 @@ impl<'p, 'a> Machine<'p, 'a> {
         Ok(here + 1)
     }
 
+    /// "`set` first tests `acc x f`." W8: "Reading needs one half, `set` both."
+    fn set(&mut self, path: Path<'a>, y: Var) -> Outcome<'a, ()> {
+        let reader = self.reader();
+        let location = reader.location(path, Share::Acc, &Locations::NONE)?;
+        self.heap[location] = self.frame().values[y];
+        Ok(())
+    }
+
     fn assign(&mut self, x: Var, value: i32) {
         self.frame_mut().values[x] = value;
     }
@@ -295,7 +222,7 @@ impl<'p, 'a> Machine<'p, 'a> {
         match condition {
             Atom::Eq(left, right) => self.reader().equal(left, right),
             Atom::Ne(left, right) => self.reader().equal(left, right).map(|equal| !equal),
-            Atom::Acc(_) => unreachable!("a condition is eq or ne"),
+            Atom::Permission(..) => unreachable!("a condition is eq or ne"),
         }
     }
 
@@ -313,14 +240,15 @@ impl<'p, 'a> Machine<'p, 'a> {
         });
         self.heap.resize(first + fields, 0);
         for location in first..first + fields {
-            self.frame_mut().held.insert(location);
+            self.frame_mut().held.add(location, Share::Acc.halves());
         }
         self.assign(x, self.objects.len() as i32);
         Ok(())
     }
 
     /// "`call`: null receiver, then requires, then frames full; the new frame's
-    /// A is the footprint of requires, which the caller loses."
+    /// A is the footprint of requires, which the caller loses"; since W8 the
+    /// halves of it.
     fn call(&mut self, call: Call) -> Outcome<'a, ()> {
         let caller = self.frame();
         if caller.values[call.y] == 0 {
@@ -367,6 +295,14 @@ impl<'p, 'a> Machine<'p, 'a> {
         caller.held.add_all(&footprint);
         caller.next += 1;
         Ok(Step::On)
+    }
+
+    /// The frames that hold a half of the location or both, from main's 0, with
+    /// how many halves each.
+    pub fn holders(&self, location: Location) -> impl Iterator<Item = (usize, u8)> + '_ {
+        let halves = move |frame: &Frame| frame.held.halves(location);
+        let frames = self.frames.iter().map(halves).enumerate();
+        frames.filter(|&(_, halves)| halves > 0)
     }
 
     /// Main's variables in order of `var` lines, then zeros.

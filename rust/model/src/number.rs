@@ -21,7 +21,8 @@ pub const TYPE: u32 = 7;
 pub const UNFINISHED: u32 = 8;
 /// `this`, w or `result` assigned; or `call x` with x the same name as y or z.
 pub const ASSIGNED: u32 = 9;
-/// `requires`, `ensures` or `join` reads `x.f` with no `acc x f` before it.
+/// `requires`, `ensures`, `join` or `loop` reads `x.f` with no `acc x f`, or
+/// `read x f` (W8), that serves it.
 pub const UNFRAMED: u32 = 10;
 /// A path that does not resolve.
 pub const UNRESOLVED: u32 = 11;

@@ -1,7 +1,7 @@
 //! The program with its names resolved, and what the text declares.
 
 use crate::limits;
-use crate::text::{Line, Name, Operator};
+use crate::text::{Line, Name, Operator, Share};
 
 /// The place of a variable in a frame. The places rise in the paper's order:
 /// "`this`, w, locals, `result`".
@@ -46,7 +46,8 @@ pub enum Expr<'a> {
 
 #[derive(Clone, Copy, Debug, PartialEq, Eq)]
 pub enum Atom<'a> {
-    Acc(Path<'a>),
+    /// `acc x f` or `read x f`.
+    Permission(Share, Path<'a>),
     Eq(Expr<'a>, Expr<'a>),
     Ne(Expr<'a>, Expr<'a>),
 }

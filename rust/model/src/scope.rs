@@ -124,7 +124,9 @@ impl<'p, 'a> Scope<'p, 'a> {
 
     fn atom(&mut self, atom: text::Atom<'a>) -> Option<Atom<'a>> {
         Some(match atom {
-            text::Atom::Acc(x, field) => Atom::Acc(self.path(x, field)?.0),
+            text::Atom::Permission(share, x, field) => {
+                Atom::Permission(share, self.path(x, field)?.0)
+            }
             text::Atom::Eq(left, right) => {
                 let (left, right) = self.sides(left, right)?;
                 Atom::Eq(left, right)

@@ -1,10 +1,10 @@
-//! What the checker knows: a state, what it shows, what is left of it when
-//! something is consumed or dropped, and what is added to it.
+//! What the checker knows: a state, what is left of it when something is
+//! dropped, and what is added to it. What it shows is told in `showing`.
 
 use crate::limits;
 use crate::names::{Atom, Expr, Path, Var, VARS};
 use crate::number;
-use crate::text::Name;
+use crate::text::{Name, Share};
 
 /// What facts are over: "variables, constants and listed paths". A path is a
 /// variable and the name of a field.
@@ -42,9 +42,10 @@ pub struct Fact<'a> {
     pub right: Term<'a>,
 }
 
-/// A listed permission `x.f`.
+/// A listed permission `x.f`, one half of it or both (W8).
 #[derive(Clone, Copy, Debug, PartialEq, Eq)]
 pub struct Permission<'a> {
+    pub share: Share,
     pub var: Var,
     pub field: Name<'a>,
 }
@@ -62,9 +63,6 @@ pub struct State<'a> {
     pub permissions: Vec<Permission<'a>>,
     pub facts: Vec<Fact<'a>>,
 }
-
-/// For each listed permission whether it is consumed.
-pub(crate) type Consumed = [bool; limits::PERMISSIONS];
 
 /// The rules give a number; the line is added by who knows it.
 pub type Rule<T> = Result<T, u32>;
@@ -103,114 +101,26 @@ impl<'a> State<'a> {
             Expr::Null => Ok(Term::Null),
             Expr::Var(var) => Ok(Term::Var(var)),
             Expr::Path(path) => self
-                .first_listed(path, &[false; limits::PERMISSIONS])
+                .listed(path)
+                .next()
                 .map(|place| self.permissions[place].path())
                 .ok_or(number::UNRESOLVED),
         }
     }
 
-    /// The first listed, not yet consumed `x.f` with x ~ y.
-    pub(crate) fn first_listed(&self, path: Path<'a>, consumed: &Consumed) -> Option<usize> {
+    /// The places of the listed `x.f` with x ~ y.
+    pub fn listed(&self, path: Path<'a>) -> impl Iterator<Item = usize> + '_ {
         let class = self.equals(Term::Var(path.var));
-        (0..self.permissions.len()).find(|&place| {
+        (0..self.permissions.len()).filter(move |&place| {
             let listed = self.permissions[place];
-            !consumed[place] && listed.field == path.field && class.contains(&Term::Var(listed.var))
+            listed.field == path.field && class.contains(&Term::Var(listed.var))
         })
     }
 
-    /// "`eq` if both sides resolve and are ~".
-    fn show_eq(&self, left: Expr<'a>, right: Expr<'a>) -> Rule<()> {
-        let (left, right) = (self.resolve(left)?, self.resolve(right)?);
-        if self.equals(left).contains(&right) {
-            Ok(())
-        } else {
-            Err(number::NOT_SHOWN)
-        }
-    }
-
-    /// "`ne` if both resolve and" one of the ways (a) to (d) is open.
-    fn show_ne(&self, left: Expr<'a>, right: Expr<'a>) -> Rule<()> {
-        let (left, right) = (self.resolve(left)?, self.resolve(right)?);
-        let (left, right) = (self.equals(left), self.equals(right));
-        let shown = self.inequality_links(&left, &right)
-            || different_numbers(&left, &right)
-            || self.null_and_owner(&left, &right)
-            || self.null_and_owner(&right, &left)
-            || self.two_entries(&left, &right);
-        if shown {
-            Ok(())
-        } else {
-            Err(number::NOT_SHOWN)
-        }
-    }
-
-    /// (a) "a listed inequality links them, either way round", up to ~.
-    fn inequality_links(&self, left: &[Term], right: &[Term]) -> bool {
-        self.facts.iter().filter(|fact| !fact.equal).any(|fact| {
-            (left.contains(&fact.left) && right.contains(&fact.right))
-                || (left.contains(&fact.right) && right.contains(&fact.left))
-        })
-    }
-
-    /// (c) "one is ~ null and the other ~ x with some `x.f` listed".
-    fn null_and_owner(&self, one: &[Term], other: &[Term]) -> bool {
-        one.contains(&Term::Null)
-            && self
-                .permissions
-                .iter()
-                .any(|listed| other.contains(&Term::Var(listed.var)))
-    }
-
-    /// (d) "they are ~ x and ~ y with `x.f` and `y.f` two entries of the list
-    /// for one f".
-    fn two_entries(&self, left: &[Term], right: &[Term]) -> bool {
-        let entries = || self.permissions.iter().enumerate();
-        entries()
-            .filter(|(_, x)| left.contains(&Term::Var(x.var)))
-            .any(|(i, x)| {
-                entries()
-                    .any(|(j, y)| i != j && x.field == y.field && right.contains(&Term::Var(y.var)))
-            })
-    }
-
-    /// "Atoms go in order; `eq` and `ne` read the whole state." Gives the
-    /// entries that the formula consumes.
-    fn consume(&self, formula: &[Atom<'a>]) -> Rule<Consumed> {
-        let mut consumed = [false; limits::PERMISSIONS];
-        for &atom in formula {
-            match atom {
-                Atom::Acc(path) => {
-                    let place = self.first_listed(path, &consumed);
-                    consumed[place.ok_or(number::NO_PERMISSION)?] = true;
-                }
-                Atom::Eq(left, right) => self.show_eq(left, right)?,
-                Atom::Ne(left, right) => self.show_ne(left, right)?,
-            }
-        }
-        Ok(consumed)
-    }
-
-    /// Shows the formula and leaves the state as it is.
-    pub fn show(&self, formula: &[Atom<'a>]) -> Rule<()> {
-        self.consume(formula).map(|_| ())
-    }
-
-    /// Shows the formula and leaves the remainder: "the state without consumed
-    /// paths"; W3: "a name still listed is not dropped."
-    pub fn take(&mut self, formula: &[Atom<'a>]) -> Rule<()> {
-        let consumed = self.consume(formula)?;
-        let mut dropped = Vec::new();
-        let listed = std::mem::take(&mut self.permissions);
-        for (&permission, &gone) in listed.iter().zip(&consumed) {
-            if gone {
-                dropped.push(permission.path());
-            } else {
-                self.permissions.push(permission);
-            }
-        }
-        dropped.retain(|path| self.permissions.iter().all(|left| left.path() != *path));
-        self.drop_terms(&dropped);
-        Ok(())
+    /// The first of them with this share.
+    pub fn first_listed(&self, share: Share, path: Path<'a>) -> Option<usize> {
+        self.listed(path)
+            .find(|&place| self.permissions[place].share == share)
     }
 
     /// W3: "the first term left that was ~ to it. The order is variables as in
@@ -310,17 +220,37 @@ impl<'a> State<'a> {
         Ok(())
     }
 
-    pub(crate) fn add_permission(&mut self, var: Var, field: Name<'a>) -> Rule<()> {
+    pub(crate) fn add_permission(&mut self, permission: Permission<'a>) -> Rule<()> {
         if self.permissions.len() == limits::PERMISSIONS {
             return Err(number::STATE_FULL);
         }
-        self.permissions.push(Permission { var, field });
+        self.permissions.push(permission);
         Ok(())
+    }
+
+    /// W8: "A `read` added, atom by atom, where a `read` of an equal path is
+    /// listed turns the first such into `acc`."
+    fn add_share(&mut self, share: Share, path: Path<'a>) -> Rule<()> {
+        let half = match share {
+            Share::Read => self.first_listed(Share::Read, path),
+            Share::Acc => None,
+        };
+        match half {
+            Some(place) => {
+                self.permissions[place].share = Share::Acc;
+                Ok(())
+            }
+            None => self.add_permission(Permission {
+                share,
+                var: path.var,
+                field: path.field,
+            }),
+        }
     }
 
     pub(crate) fn add_atom(&mut self, atom: Atom<'a>) -> Rule<()> {
         let (equal, left, right) = match atom {
-            Atom::Acc(path) => return self.add_permission(path.var, path.field),
+            Atom::Permission(share, path) => return self.add_share(share, path),
             Atom::Eq(left, right) => (true, left, right),
             Atom::Ne(left, right) => (false, left, right),
         };
@@ -333,12 +263,4 @@ impl<'a> State<'a> {
     pub fn add(&mut self, formula: &[Atom<'a>]) -> Rule<()> {
         formula.iter().try_for_each(|&atom| self.add_atom(atom))
     }
-}
-
-/// (b) "they are ~ to different numbers".
-fn different_numbers(left: &[Term], right: &[Term]) -> bool {
-    let number = |term: &&Term| matches!(term, Term::Number(_));
-    left.iter()
-        .filter(number)
-        .any(|one| right.iter().filter(number).any(|other| one != other))
 }

@@ -4,6 +4,7 @@
 use crate::limits;
 
 pub use crate::reader::{allowed_byte, lines, lines_by, Block, Branch, Limit, Place, Reader};
+pub use crate::share::Share;
 
 /// A name as it stands in the text. A reserved word has the form of a name.
 pub type Name<'a> = &'a [u8];
@@ -17,10 +18,12 @@ pub enum Expr<'a> {
     Path(Name<'a>, Name<'a>),
 }
 
-/// "An atom is three fields: `acc x f`, `eq e e` or `ne e e`."
+/// "An atom is three fields: `acc x f`, `eq e e` or `ne e e`", and W8: "A new
+/// atom `read x f`".
 #[derive(Clone, Copy, Debug, PartialEq, Eq)]
 pub enum Atom<'a> {
-    Acc(Name<'a>, Name<'a>),
+    /// `acc x f` or `read x f`.
+    Permission(Share, Name<'a>, Name<'a>),
     Eq(Expr<'a>, Expr<'a>),
     Ne(Expr<'a>, Expr<'a>),
 }
@@ -143,10 +146,12 @@ fn atom<'a>(fields: &[&'a [u8]]) -> Option<Atom<'a>> {
         return None;
     };
     match word {
-        b"acc" => Some(Atom::Acc(name(left)?, name(right)?)),
         b"eq" => Some(Atom::Eq(expression(left)?, expression(right)?)),
         b"ne" => Some(Atom::Ne(expression(left)?, expression(right)?)),
-        _ => None,
+        _ => {
+            let share = Share::named(word)?;
+            Some(Atom::Permission(share, name(left)?, name(right)?))
+        }
     }
 }
 
@@ -164,7 +169,7 @@ fn formula<'a>(fields: &[&'a [u8]]) -> Option<Formula<'a>> {
 
 /// "`if eq e e` or `if ne e e`", and the first atom of a `loop`.
 fn condition<'a>(fields: &[&'a [u8]]) -> Option<Atom<'a>> {
-    atom(fields).filter(|atom| !matches!(atom, Atom::Acc(..)))
+    atom(fields).filter(|atom| !matches!(atom, Atom::Permission(..)))
 }
 
 /// A condition, "and then the atoms of an invariant, at most 8".

@@ -2,11 +2,12 @@
 //! answer looks on while the rules are applied. A watch changes no answer, and
 //! one that does nothing costs nothing.
 
-use crate::checker::{check_watched, State};
+use crate::checker::{check_block_watched, check_watched, State};
 use crate::framing::frame;
+use crate::locations::Location;
 use crate::names::{Atom, Expr, Path, Program};
 use crate::number::Refusal;
-use crate::text::Line;
+use crate::text::{Line, Share};
 
 /// What a rule asks of the state.
 #[derive(Clone, Copy, Debug, PartialEq, Eq)]
@@ -136,6 +137,17 @@ impl<'a> Record<'a> {
         record.refusal = check_watched(program, &mut record).err();
         Some(record)
     }
+
+    /// The check of one block alone, whose formulas are framed.
+    pub fn of_block(program: &Program<'a>, block: usize) -> Record<'a> {
+        let mut record = Record {
+            seen: vec![Seen::default(); program.statements.len()],
+            asked: None,
+            refusal: None,
+        };
+        record.refusal = check_block_watched(program, block, &mut record).err();
+        record
+    }
 }
 
 impl<'a> Watch<'a> for Record<'a> {
@@ -183,6 +195,18 @@ pub enum Tested {
     Ensures,
 }
 
+/// The halves of a location that a step with number 24 missed.
+#[derive(Clone, Copy, Debug, PartialEq, Eq)]
+pub struct Missing {
+    pub location: Location,
+    /// How much of it was needed.
+    pub share: Share,
+    /// The halves that the frame held.
+    pub held: u8,
+    /// Those of them that earlier atoms of the formula had taken.
+    pub taken: u8,
+}
+
 /// What stopped a step.
 #[derive(Clone, Copy, Debug, PartialEq, Eq)]
 pub struct Halt<'a> {
@@ -192,6 +216,8 @@ pub struct Halt<'a> {
     pub atom: Option<usize>,
     /// The path that was followed.
     pub path: Option<Path<'a>>,
+    /// What was missing there, for number 24.
+    pub missing: Option<Missing>,
 }
 
 impl<'a> Halt<'a> {
@@ -201,6 +227,7 @@ impl<'a> Halt<'a> {
             tested: Tested::Nothing,
             atom: None,
             path: None,
+            missing: None,
         }
     }
 

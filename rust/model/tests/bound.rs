@@ -6,7 +6,7 @@ mod common;
 use common::{example, example_with, main_with, ran, script, text};
 use model::limits::{BOUND, BOUND_BYTES, TEXT_BYTES, WORK_BYTES};
 use model::machine::{Machine, Step};
-use model::{bound, bound_call, check, gen, read, run};
+use model::{bound, bound_call, check, read, run};
 
 /// Number, line, bound and frames.
 fn bounded(text: &[u8]) -> (u32, u32, u32, u32) {
@@ -227,7 +227,7 @@ fn the_areas_of_bound() {
 fn no_run_passes_its_bound() {
     let (mut given, mut reached, mut deepest) = (0, 0, 0);
     for seed in 0..6_000 {
-        let text = gen::text(0x3900_0000 + seed);
+        let text = generator::text(0x3900_0000 + seed);
         let found = bound(&text);
         if found.number != 0 || found.bound > 50_000 {
             continue;

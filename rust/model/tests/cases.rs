@@ -29,11 +29,15 @@ const BEFORE_W7: &[Level] = &[
     ("W2", include_str!("cases/w2.tsv"), 159, &[156]),
     ("W3", include_str!("cases/w3.tsv"), 137, &[]),
     ("W4", include_str!("cases/w4.tsv"), 170, &[]),
-    ("W5", include_str!("cases/w5.tsv"), 177, &[]),
+    // W8: a loop with `read` in its invariant.
+    ("W5", include_str!("cases/w5.tsv"), 177, &[37]),
     ("W6", include_str!("cases/w6.tsv"), 139, &[]),
 ];
 
-const SINCE_W7: &[Level] = &[("W7", include_str!("cases/w7.tsv"), 186, &[])];
+const SINCE_W7: &[Level] = &[
+    ("W7", include_str!("cases/w7.tsv"), 186, &[]),
+    ("W8", include_str!("cases/w8.tsv"), 164, &[]),
+];
 
 /// Which call a file's `run` is.
 #[derive(Clone, Copy, PartialEq)]

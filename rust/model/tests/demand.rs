@@ -1,15 +1,20 @@
 //! Demand 3, over the generator's texts: accepted texts stop with 0, 21, 22, 23
 //! or 27 alone, and during a call the fields of older objects that are not
-//! handed over keep their values. The second holds for every text that runs.
+//! handed over whole keep their values. The second holds for every text that
+//! runs.
 
 mod common;
 
 use common::{example, script, text};
-use model::gen::{self, rng::Rng};
+use generator::{self as gen, rng::Rng};
 use model::machine::{callee_values, location, run, Location, Machine, Step};
 use model::names::{Action, Atom, Call, Program};
+use model::text::Share;
 use model::{check, read, Judged};
 use std::collections::BTreeMap;
+
+/// The shares in which the atoms of requires take each location.
+type Handed = BTreeMap<Location, Vec<Share>>;
 
 /// A call that has not ended: what was there before its step.
 struct OpenCall {
@@ -17,8 +22,8 @@ struct OpenCall {
     frames: usize,
     /// The fields of all objects that existed, before the `call` step.
     heap: Vec<i32>,
-    /// The footprint of requires, in the state before the call.
-    handed: Vec<Location>,
+    /// The halves of the footprint of requires, in the state before the call.
+    handed: Handed,
 }
 
 /// What a walk has seen.
@@ -27,21 +32,35 @@ struct Seen {
     calls: usize,
     ended: usize,
     deepest: usize,
-    /// Fields of older objects that were handed over and have changed.
+    /// Fields of older objects that were handed over and have changed; those of
+    /// them that were handed over by two `read`.
     changed: usize,
+    changed_by_reads: usize,
+    /// Fields of which a call hands over one half.
+    shared: usize,
     /// The first field that changed though it was not handed over.
     violation: Option<(Location, u32)>,
 }
 
-/// The locations of the `acc` atoms of requires, by y and z for `this` and w.
-fn footprint(machine: &Machine, call: Call) -> Vec<Location> {
+/// What the `acc` and `read` atoms of requires take, by y and z for `this` and w.
+fn footprint(machine: &Machine, call: Call) -> Handed {
     let values = callee_values(&machine.frame().values, call);
-    let requires = &machine.program.blocks[call.method].requires;
-    let place = |atom: &Atom| match atom {
-        Atom::Acc(path) => location(&machine.objects, &values, *path),
-        _ => None,
-    };
-    requires.iter().filter_map(place).collect()
+    let mut handed = Handed::new();
+    for atom in &machine.program.blocks[call.method].requires {
+        let Atom::Permission(share, path) = *atom else {
+            continue;
+        };
+        if let Some(place) = location(&machine.objects, &values, path) {
+            handed.entry(place).or_default().push(share);
+        }
+    }
+    handed
+}
+
+/// W8: "only fields handed over whole may change: those with both halves in the
+/// footprint of requires, be it by two `read`."
+fn whole(shares: &[Share]) -> bool {
+    shares.iter().map(|share| share.halves()).sum::<u8>() == 2
 }
 
 fn look(machine: &Machine, open: &[OpenCall], line: u32, seen: &mut Seen) {
@@ -50,10 +69,12 @@ fn look(machine: &Machine, open: &[OpenCall], line: u32, seen: &mut Seen) {
             if machine.heap[place] == before {
                 continue;
             }
-            if call.handed.contains(&place) {
-                seen.changed += 1;
-            } else {
-                seen.violation = seen.violation.or(Some((place, line)));
+            match call.handed.get(&place) {
+                Some(shares) if whole(shares) => {
+                    seen.changed += 1;
+                    seen.changed_by_reads += usize::from(shares.len() == 2);
+                }
+                _ => seen.violation = seen.violation.or(Some((place, line))),
             }
         }
     }
@@ -70,12 +91,13 @@ fn walk(program: &Program, steps: u32, hand_over: bool) -> Seen {
         let (frames, heap) = (machine.frames.len(), machine.heap.clone());
         let handed = match statement.action {
             Action::Call(call) if machine.frame().values[call.y] != 0 => footprint(&machine, call),
-            _ => Vec::new(),
+            _ => Handed::new(),
         };
         let step = machine.step();
         if machine.frames.len() > frames {
             seen.calls += 1;
-            let handed = if hand_over { handed } else { Vec::new() };
+            seen.shared += handed.values().filter(|shares| !whole(shares)).count();
+            let handed = if hand_over { handed } else { Handed::new() };
             open.push(OpenCall {
                 frames,
                 heap,
@@ -124,6 +146,42 @@ fn the_walk_goes_on_up_to_the_last_state() {
     assert_eq!(walk(&program, 1_000, true).violation, None);
 }
 
+/// A field handed over by two `read` may change; one of which the caller keeps a
+/// half may not, and a machine that let it would be seen.
+#[test]
+fn two_halves_are_handed_over_whole() {
+    let with = |requires: &str| {
+        script(&format!(
+            "class S\nfield int n\nmethod int m S w\nrequires {requires}\nensures\nvar int b\n\
+             let b 5\nset this n b\nend\nmain\nvar S s\nvar int a\nnew s S\ncall a s m s\nend"
+        ))
+    };
+    for requires in ["read this n read this n", "read this n read w n"] {
+        let text = with(requires);
+        let program = read(&text).unwrap();
+        let seen = walk(&program, 1_000, true);
+        assert_eq!((seen.ended, seen.violation), (1, None), "{requires}");
+        assert!(seen.changed_by_reads > 0 && seen.shared == 0, "{requires}");
+        assert_eq!(walk(&program, 1_000, false).violation, Some((0, 8)));
+    }
+    let text = with("read this n");
+    let program = read(&text).unwrap();
+    let seen = walk(&program, 1_000, true);
+    assert_eq!((seen.calls, seen.shared, seen.ended), (1, 1, 0));
+    // What the walk says of a change that the machine does not do.
+    let mut machine = Machine::new(&program);
+    (0..2).for_each(|_| assert_eq!(machine.step(), Ok(Step::On)));
+    let open = OpenCall {
+        frames: 1,
+        heap: machine.heap.clone(),
+        handed: Handed::from([(0, vec![Share::Read])]),
+    };
+    machine.heap[0] = 5;
+    let mut seen = Seen::default();
+    look(&machine, &[open], 8, &mut seen);
+    assert_eq!(seen.violation, Some((0, 8)));
+}
+
 #[test]
 fn accepted_texts_stop_with_0_21_22_23_or_27() {
     let mut numbers = BTreeMap::new();
@@ -163,11 +221,13 @@ fn walk_one(text: &[u8], program: &Program, all: &mut Seen) {
     all.calls += seen.calls;
     all.ended += seen.ended;
     all.changed += seen.changed;
+    all.changed_by_reads += seen.changed_by_reads;
+    all.shared += seen.shared;
     all.deepest = all.deepest.max(seen.deepest);
 }
 
 #[test]
-fn calls_leave_what_is_not_handed_over() {
+fn calls_leave_what_is_not_handed_over_whole() {
     let (mut accepted, mut refused) = (Seen::default(), Seen::default());
     for seed in 0..10_000 {
         let text = gen::text(0x2000_0000 + seed);
@@ -180,6 +240,7 @@ fn calls_leave_what_is_not_handed_over() {
     println!("accepted: {accepted:?}\nrefused: {refused:?}");
     assert!(accepted.calls > 20_000 && accepted.ended > 10_000);
     assert!(accepted.changed > 10_000 && accepted.deepest == 64);
+    assert!(accepted.shared > 2_000 && accepted.changed_by_reads > 200);
     assert!(refused.calls > 2_000 && refused.ended > 1_000);
     assert!(refused.changed > 500);
 }

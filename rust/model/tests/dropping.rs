@@ -1,9 +1,10 @@
 //! W3: what gives way to what when terms are dropped.
 
-use model::names::{Action, Expr, Path, Program, Type, Var, FIRST_LOCAL, PARAM, RESULT, THIS};
+use model::names::{Action, Program, Type, Var, FIRST_LOCAL, PARAM, RESULT, THIS};
 use model::state::{Fact, Permission, State, Term};
+use model::text::Share;
 use model::watch::Record;
-use model::{gen, read, text};
+use model::{read, text};
 
 const A: Term = Term::Var(FIRST_LOCAL);
 const B: Term = Term::Var(FIRST_LOCAL + 1);
@@ -32,6 +33,7 @@ fn ne<'a>(left: Term<'a>, right: Term<'a>) -> Fact<'a> {
 
 fn state(listed: &[(Var, &'static str)], facts: &[Fact<'static>]) -> State<'static> {
     let permission = |&(var, field): &(Var, &'static str)| Permission {
+        share: Share::Acc,
         var,
         field: field.as_bytes(),
     };
@@ -163,8 +165,9 @@ fn drops<'a>(program: &Program<'a>, record: &Record<'a>, place: usize) -> Option
     match program.statements[place].action {
         Action::Compute(compute) => Some(Term::Var(compute.x)),
         Action::Let(x, _) if int(x) => Some(Term::Var(x)),
-        Action::Set(Path { var, field, slot }, _) => {
-            before.resolve(Expr::Path(Path { var, field, slot })).ok()
+        Action::Set(path, _) => {
+            let place = before.first_listed(Share::Acc, path)?;
+            Some(before.permissions[place].path())
         }
         _ => None,
     }
@@ -176,7 +179,7 @@ fn drops<'a>(program: &Program<'a>, record: &Record<'a>, place: usize) -> Option
 fn terms_that_are_left_stay_equal() {
     let (mut statements, mut pairs, mut given_way) = (0, 0, 0);
     for seed in 0..1_500 {
-        let text = gen::text(0x3000_0000 + seed);
+        let text = generator::text(0x3000_0000 + seed);
         let Ok(lines) = text::lines(&text) else {
             continue;
         };

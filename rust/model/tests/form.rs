@@ -2,14 +2,13 @@
 
 use model::form::Operand::{Expression, Name, Variable};
 use model::form::{fault, fields, Fault, Malformed};
-use model::gen;
 
 /// A line has no fault exactly if the reader takes its form.
 #[test]
 fn faults_are_those_of_the_reader() {
     let (mut formed, mut faulty) = (0, 0);
     for seed in 0..3_000 {
-        let text = gen::text(0x7000_0000 + seed);
+        let text = generator::text(0x7000_0000 + seed);
         for line in text.split(|&byte| byte == b'\n') {
             let found = fault(line);
             let taken = model::text::line(line).is_some();

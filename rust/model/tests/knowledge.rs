@@ -1,15 +1,16 @@
 //! What the checker knows is so: in the run of an accepted text, before each
-//! step, the frame holds the listed permissions, each at a location of its own,
-//! and every fact is true.
+//! step, the frame holds the halves of the listed permissions, those of one
+//! location in sum, and every fact is true.
 
 mod common;
 
 use common::{example, text};
 use model::checker::{check_observed, State, Term};
-use model::gen;
 use model::machine::{location, Frame, Location, Machine, Step};
 use model::names::{Action, Block, Path, Program, Type, Var, FIRST_LOCAL, PARAM, RESULT, THIS};
+use model::text::Share;
 use model::{check, read};
+use std::collections::BTreeMap;
 
 fn class_of<'a>(block: &Block<'a>, var: Var) -> Option<&'a [u8]> {
     let kind = match var {
@@ -45,14 +46,16 @@ fn value(machine: &Machine, frame: &Frame, term: Term) -> Option<i32> {
 /// Does the state hold of the frame that runs?
 fn holds(machine: &Machine, state: &State) -> bool {
     let frame = machine.frame();
-    let mut taken = Vec::new();
+    let mut listed: BTreeMap<Location, u8> = BTreeMap::new();
     for permission in &state.permissions {
-        match place(machine, frame, permission.var, permission.field) {
-            Some(place) if frame.held.contains(place) && !taken.contains(&place) => {
-                taken.push(place);
-            }
-            _ => return false,
-        }
+        let Some(place) = place(machine, frame, permission.var, permission.field) else {
+            return false;
+        };
+        *listed.entry(place).or_insert(0) += permission.share.halves();
+    }
+    let held = |(&place, &halves): (&Location, &u8)| frame.held.halves(place) >= halves;
+    if !listed.iter().all(held) {
+        return false;
     }
     state.facts.iter().all(|fact| {
         let left = value(machine, frame, fact.left);
@@ -80,6 +83,8 @@ struct Counts {
     texts: usize,
     states: usize,
     permissions: usize,
+    /// Those of them that are halves.
+    halves: usize,
     facts: usize,
 }
 
@@ -93,6 +98,8 @@ fn first_wrong(text: &[u8], counts: &mut Counts) -> Option<u32> {
         if let Some(state) = &states[machine.frame().next] {
             counts.states += 1;
             counts.permissions += state.permissions.len();
+            let halves = state.permissions.iter();
+            counts.halves += halves.filter(|held| held.share == Share::Read).count();
             counts.facts += state.facts.len();
             if !holds(&machine, state) {
                 return Some(machine.statement().line);
@@ -120,6 +127,13 @@ fn a_false_state_is_seen() {
     let mut wrong = state.clone();
     wrong.permissions.push(wrong.permissions[0]);
     assert!(!holds(&machine, &wrong));
+    // Two halves are as much as a whole, three are more.
+    let mut halves = state.clone();
+    halves.permissions[0].share = Share::Read;
+    halves.permissions.push(halves.permissions[0]);
+    assert!(holds(&machine, &halves));
+    halves.permissions.push(halves.permissions[0]);
+    assert!(!holds(&machine, &halves));
     machine.step().unwrap();
     machine.step().unwrap();
     assert!(!holds(&machine, &state), "inside the call");
@@ -129,7 +143,7 @@ fn a_false_state_is_seen() {
 fn what_the_checker_knows_is_so() {
     let mut counts = Counts::default();
     for seed in 0..5_000 {
-        let text = gen::text(0x4000_0000 + seed);
+        let text = generator::text(0x4000_0000 + seed);
         if check(&text).0 == 0 {
             let wrong = first_wrong(&text, &mut counts);
             assert_eq!(wrong, None, "{}", String::from_utf8_lossy(&text));
@@ -138,4 +152,5 @@ fn what_the_checker_knows_is_so() {
     println!("{counts:?}");
     assert!(counts.texts > 1_000 && counts.states > 50_000);
     assert!(counts.permissions > 100_000 && counts.facts > 100_000);
+    assert!(counts.halves > 5_000);
 }

@@ -4,7 +4,7 @@
 mod common;
 
 use common::{example, example_with, main_with, script, text};
-use model::gen::{self, rng::Rng};
+use generator::{self as gen, rng::Rng};
 use model::limits::{LOCALS, RESULT_BYTES, TEXT_BYTES, WORK_BYTES};
 use model::{check, printed, read, run, run_call, trial, trial_call, Run};
 

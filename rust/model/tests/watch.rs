@@ -6,10 +6,10 @@ use model::machine::{Machine, Step};
 use model::names::{resolve_noted, Action};
 use model::number::*;
 use model::watch::{Purpose, Record, Tested};
-use model::{check, gen, read, text};
+use model::{check, read, text};
 
 fn texts() -> impl Iterator<Item = Vec<u8>> {
-    (0..6_000).map(|seed| gen::text(0x4800_0000 + seed))
+    (0..6_000).map(|seed| generator::text(0x4800_0000 + seed))
 }
 
 #[test]
@@ -110,6 +110,8 @@ fn a_halt_is_of_its_stop() {
             PERMISSION_MISSING => assert!(halt.path.is_some()),
             _ => {}
         }
+        let missing = halt.missing.is_some();
+        assert_eq!(missing, halt.number == PERMISSION_MISSING);
     }
     assert!(at_return > 10, "{at_return} stopped at a return");
     let all = [

@@ -8,6 +8,7 @@ use std::collections::{BTreeMap, BTreeSet};
 use std::fs;
 use std::path::{Path, PathBuf};
 
+mod believed;
 mod declared;
 mod documents;
 mod edits;
@@ -21,6 +22,7 @@ mod quotes;
 mod shape;
 mod unused;
 
+pub use believed::{believed, closure, imported, listed};
 pub use declared::{declarations, Declaration};
 pub use documents::{
     crates_not_told, documents, files_told, listed_crates, proved_crates, wrong_counts, Document,

@@ -1,8 +1,8 @@
 //! What the documents say of the sources is so.
 
 use sources::{
-    crates_not_told, documents, expect_none, files_told, listed_crates, proved_crates, root,
-    sources, wrong_counts, Document, Names,
+    believed, closure, crates_not_told, documents, expect_none, files_told, imported, listed,
+    listed_crates, proved_crates, root, sources, wrong_counts, Document, Names,
 };
 use std::collections::BTreeSet;
 use std::process::Command;
@@ -83,6 +83,55 @@ fn files_of_tables() {
         .map(|(line, path)| format!("docs/ARCHITECTURE.md:{}: {path}", line + 1))
         .collect();
     expect_none(&lost, "a table lists a file that is not there");
+}
+
+/// What a reader must believe is what the assurance lists: the files of the claims and all that they import, no more.
+#[test]
+fn what_must_be_believed() {
+    let told = listed(&document("ASSURANCE.md"), "## What must be believed");
+    let believed = believed();
+    assert!(believed.len() > 20, "{believed:?}");
+    let (more, less) = (believed.difference(&told), told.difference(&believed));
+    let more = more.map(|file| format!("{file}: not listed"));
+    let less = less.map(|file| format!("{file}: no claim rests on it"));
+    let faults: Vec<String> = more.chain(less).collect();
+    expect_none(&faults, "docs/ASSURANCE.md, What must be believed");
+}
+
+/// The closure goes over imports of definitions, in the own crate and in others, and not over types of code.
+#[test]
+fn what_claims_import() {
+    let own = "use Rattle.rules.specs.State.{Term}";
+    assert_eq!(
+        imported(own).as_deref(),
+        Some("crates/rules/specs/State.antt")
+    );
+    let other = "use Rattle.rules.specs.Syntax as Syntax";
+    assert_eq!(
+        imported(other).as_deref(),
+        Some("crates/rules/specs/Syntax.antt")
+    );
+    assert_eq!(
+        imported("use Rattle.tables.specs.declared.Expr.{Expr}"),
+        None
+    );
+    assert_eq!(imported("use mathlib.Core.List.{List}"), None);
+    let read = |path: &str| match path {
+        "crates/one/specs/Claim.antt" => "use Rattle.two.specs.Base.{a}\n".to_string(),
+        _ => String::new(),
+    };
+    let files = closure(&["crates/one/specs/Claim.antt"], read);
+    let files: Vec<&str> = files.iter().map(String::as_str).collect();
+    assert_eq!(
+        files,
+        ["crates/one/specs/Claim.antt", "crates/two/specs/Base.antt"]
+    );
+    let page = "## A\n| `two` | `Other` |\n## B\n| Crate | Files |\n|---|---|\n| `one` | `Claim`, `Base` |\n## C\n";
+    let told: Vec<String> = listed(page, "## B").into_iter().collect();
+    assert_eq!(
+        told,
+        ["crates/one/specs/Base.antt", "crates/one/specs/Claim.antt"]
+    );
 }
 
 /// The kit that the assurance names is the one that proves, where there is one.

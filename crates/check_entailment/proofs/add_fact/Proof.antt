@@ -1,4 +1,4 @@
-use Rattle.check_entailment.proofs.Showing.{full-facts, one-fact}
+use Rattle.check_entailment.proofs.Adding.{full-facts, one-fact}
 use native.Mathlib.Omega.{arith}
 use borrow.Author.Needs.{needs}
 use Rattle.check_entailment.proofs.add_fact.Statement.{statement}

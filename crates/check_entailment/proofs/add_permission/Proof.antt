@@ -1,4 +1,4 @@
-use Rattle.check_entailment.proofs.Showing.{full-permissions, one-permission}
+use Rattle.check_entailment.proofs.Adding.{full-permissions, one-permission}
 use native.Mathlib.Omega.{arith}
 use borrow.Author.Needs.{needs}
 use Rattle.check_entailment.proofs.add_permission.Statement.{statement}
@@ -44,7 +44,7 @@ element-write-b-4 c = search needs
 
 returns-2 : tie.Need-returns-2
 returns-2 c =
-    λ key w. one-permission key _ _ _ w (c .if1 .left)
+    λ key w. one-permission key _ _ _ _ (c .before .before .pre .2) w (c .if1 .left)
 
 pub add-permission-spec : {M : Type 1} → statement M
 add-permission-spec =

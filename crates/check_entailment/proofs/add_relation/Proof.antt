@@ -1,4 +1,5 @@
-use Rattle.check_entailment.proofs.Showing.{left-unadded, right-unadded, relation-added, no-atom, nothing-resolved, key-resolved}
+use Rattle.check_entailment.proofs.Adding.{left-unadded, right-unadded, relation-added}
+use Rattle.check_entailment.proofs.Showing.{nothing-resolved, key-resolved}
 use mathlib.Core.Path.{sym, _∙_}
 use borrow.Author.Needs.{needs}
 use Rattle.check_entailment.proofs.add_relation.Statement.{statement}
@@ -17,7 +18,7 @@ returns : tie.Need-returns
 returns c =
     let start = c .before .before .before .before .before in
     let at-resolve = c .before .before .resolve in
-    no-atom _ _ (start .pre) _ _ _ (left-unadded (start .args .key .now) (start .args .b .now) _ _ _ (sym (at-resolve .ensures) ∙ nothing-resolved _ (c .enum-told .given .1)))
+    left-unadded _ _ _ _ _ (sym (at-resolve .ensures) ∙ nothing-resolved _ (c .enum-told .given .1)) (start .pre)
 
 resolve-requires-2 : tie.Need-resolve-requires-2
 resolve-requires-2 c κs = search needs
@@ -34,18 +35,19 @@ returns-2 c =
     let at-resolve = c .before .before .before .before .before .before .before .before .resolve in
     let at-t = c .before .before .before .before .before .before .t in
     let at-resolve2 = c .before .before .resolve2 in
-    no-atom _ _ (start .pre) _ _ _ (right-unadded (start .args .key .now) (start .args .b .now) _ _ _ _ (sym (at-resolve .ensures) ∙ key-resolved _ _ (at-t .given .1)) (sym (at-resolve2 .ensures) ∙ nothing-resolved _ (c .enum-told2 .given .1)))
+    right-unadded _ _ _ _ _ _ (sym (at-resolve .ensures) ∙ key-resolved _ _ (at-t .given .1)) (sym (at-resolve2 .ensures) ∙ nothing-resolved _ (c .enum-told2 .given .1)) (start .pre)
 
 add-fact-requires : tie.Need-add-fact-requires
 add-fact-requires c κs = search needs
 
 returns-3 : tie.Need-returns-3
 returns-3 c =
+    let start = c .before .before .before .before .before .before .before .before .before .before .before .before .before .before .before in
     let at-resolve = c .before .before .before .before .before .before .before .before .before .before .before .before .resolve in
     let at-t = c .before .before .before .before .before .before .before .before .before .before .t in
     let at-resolve2 = c .before .before .before .before .before .before .resolve2 in
     let at-u = c .before .before .before .before .u in
-    relation-added _ _ _ _ _ _ (sym (at-resolve .ensures) ∙ key-resolved _ _ (at-t .given .1)) _ (sym (at-resolve2 .ensures) ∙ key-resolved _ _ (at-u .given .1)) _ _ _ (c .add-fact .ensures)
+    relation-added (start .args .key .now) (start .args .b .now) _ _ _ _ (sym (at-resolve .ensures) ∙ key-resolved _ _ (at-t .given .1)) _ (sym (at-resolve2 .ensures) ∙ key-resolved _ _ (at-u .given .1)) _ _ _ (c .add-fact .ensures)
 
 pub add-relation-spec : {M : Type 1} → statement M
 add-relation-spec =

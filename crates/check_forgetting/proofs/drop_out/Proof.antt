@@ -1,5 +1,5 @@
 use mathlib.Core.Path.{sym, _∙_}
-use Rattle.check_forgetting.proofs.Changes.{out-forgettable, dropped-out, kept-out}
+use Rattle.check_forgetting.proofs.Remainders.{out-forgettable, dropped-out, kept-out}
 use borrow.Author.Needs.{needs}
 use Rattle.check_forgetting.proofs.drop_out.Statement.{statement}
 use Rattle.check_forgetting.proofs.drop_out.Tie as tie

@@ -1,5 +1,5 @@
 use native.Mathlib.Omega.{arith}
-use Rattle.check_forgetting.proofs.Changes.{none-out}
+use Rattle.check_forgetting.proofs.Remainders.{none-out}
 use borrow.Author.Needs.{needs}
 use Rattle.check_forgetting.proofs.forget_out.Statement.{statement}
 use Rattle.check_forgetting.proofs.forget_out.Tie as tie

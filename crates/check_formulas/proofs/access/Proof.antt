@@ -1,6 +1,6 @@
 use Rattle.check_formulas.specs.Formulas.{accessAt}
 use Rattle.rules.specs.Rules.{substAtom}
-use Rattle.check_entailment.specs.Answers.{atomOf}
+use mathlib.Core.Path.{_∙_}
 use borrow.Author.Needs.{needs}
 use Rattle.check_formulas.proofs.access.Statement.{statement}
 use Rattle.check_formulas.proofs.access.Tie as tie
@@ -20,15 +20,18 @@ shared-slice-read-actual c = search needs
 actual-requires : tie.Need-actual-requires
 actual-requires c κs = search needs
 
-add-t11 : tie.Need-add-t11
-add-t11 c = search needs
+add-permission : tie.Need-add-permission
+add-permission c = search needs
 
-shared-slice-read-t13 : tie.Need-shared-slice-read-t13
-shared-slice-read-t13 c = search needs
+shared-slice-read-permission : tie.Need-shared-slice-read-permission
+shared-slice-read-permission c = search needs
+
+permission-requires : tie.Need-permission-requires
+permission-requires c κs = search needs
 
 returns : tie.Need-returns
-unfolding atomOf accessAt substAtom
-returns c = rw (c .before .actual .ensures)
+unfolding accessAt substAtom
+returns c = c .permission .ensures ∙ rw (c .before .before .actual .ensures)
 
 pub access-spec : {M : Type 1} → statement M
 access-spec =
@@ -39,6 +42,7 @@ access-spec =
     add-actual
     shared-slice-read-actual
     actual-requires
-    add-t11
-    shared-slice-read-t13
+    add-permission
+    shared-slice-read-permission
+    permission-requires
     returns)

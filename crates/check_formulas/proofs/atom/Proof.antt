@@ -1,5 +1,5 @@
 use Rattle.check_formulas.proofs.Atoms.{atom-access, atom-eq, atom-ne}
-use mathlib.Core.Path.{sym, ap₂, _∙_}
+use mathlib.Core.Path.{ap₂, _∙_}
 use Rattle.check_entailment.specs.Answers.{atomOf}
 use Rattle.rules.specs.Syntax.{cmp, eq, ne}
 use Rattle.rules.specs.State.{Term}
@@ -13,11 +13,21 @@ atom-kind-requires c κs = search needs
 access-requires : tie.Need-access-requires
 access-requires c κs = search needs
 
+returns : tie.Need-returns
+returns c = c .access .ensures ∙ atom-access _ _ _ _ _ _ (c .before .before .atom-kind .ensures .0) (c .before .if1 .taken)
+
 left-requires : tie.Need-left-requires
 left-requires c κs = search needs
 
 right-requires : tie.Need-right-requires
 right-requires c κs = search needs
+
+returns-2 : tie.Need-returns-2
+unfolding atomOf
+returns-2 c =
+    let at-atom-kind = c .before .before .before .before .atom-kind in
+    let at-if2 = c .before .before .if2 in
+    ap₂ (λ (l r : Term). cmp eq l r) (c .before .left .ensures) (c .right .ensures) ∙ atom-eq _ _ _ _ _ _ (at-atom-kind .ensures .0) (at-if2 .taken)
 
 left-requires-2 : tie.Need-left-requires-2
 left-requires-2 c κs = search needs
@@ -25,19 +35,13 @@ left-requires-2 c κs = search needs
 right-requires-2 : tie.Need-right-requires-2
 right-requires-2 c κs = search needs
 
-returns : tie.Need-returns
-returns c =
-    c .access .ensures ∙ atom-access _ _ _ _ _ (sym (c .before .before .atom-kind .ensures .0) ∙ c .before .match .keys1)
-
-returns-2 : tie.Need-returns-2
-unfolding atomOf
-returns-2 c =
-    ap₂ (λ (l r : Term). cmp eq l r) (c .before .left .ensures) (c .right .ensures) ∙ atom-eq _ _ _ _ _ (sym (c .before .before .before .atom-kind .ensures .0) ∙ c .before .before .match .keys2)
-
 returns-3 : tie.Need-returns-3
 unfolding atomOf
 returns-3 c =
-    ap₂ (λ (l r : Term). cmp ne l r) (c .before .left2 .ensures) (c .right2 .ensures) ∙ atom-ne _ _ _ _ _ (λ e. c .before .before .match .rest .0 .1 (c .before .before .before .atom-kind .ensures .0 ∙ e)) (λ e. c .before .before .match .rest .1 (c .before .before .before .atom-kind .ensures .0 ∙ e))
+    let at-atom-kind = c .before .before .before .before .atom-kind in
+    let at-if1 = c .before .before .before .if1 in
+    let at-if2 = c .before .before .if2 in
+    ap₂ (λ (l r : Term). cmp ne l r) (c .before .left2 .ensures) (c .right2 .ensures) ∙ atom-ne _ _ _ _ _ _ (at-atom-kind .ensures .0) (at-if1 .left) (at-if2 .left)
 
 pub atom-spec : {M : Type 1} → statement M
 atom-spec =
@@ -45,10 +49,10 @@ atom-spec =
     (tie.spec
     atom-kind-requires
     access-requires
+    returns
     left-requires
     right-requires
+    returns-2
     left-requires-2
     right-requires-2
-    returns
-    returns-2
     returns-3)

@@ -2,12 +2,11 @@ use Prim.Native.Nat.{_-_, _≤_}
 use Rattle.check_inequality.proofs.Pairs.{two-none, two-past, two-found, two-neither}
 use Rattle.check_inequality.proofs.Searches.{or-none-left, or-none-right}
 use Rattle.check_state.specs.Questions.{Told}
-use Rattle.check_inequality.specs.Ways.{pairTest}
 use Rattle.check_state.specs.States.{permissionAt, permissionsIn}
 use Rattle.check_equality.proofs.Listing.{any-none, any-past, any-found}
 use Rattle.check_equality.specs.Keys.{termOf}
 use Rattle.rules.specs.Base.{any}
-use Rattle.rules.specs.State.{twoEntries}
+use Rattle.rules.specs.State.{differ, twoEntries}
 use Rattle.rules.specs.Syntax.{same}
 use mathlib.Core.Bool.{false}
 use mathlib.Core.Logic.{⊎-elim}
@@ -18,7 +17,7 @@ use Rattle.check_inequality.proofs.two_entries.Tie as tie
 
 abbrev Inv-loop : tie.InvT-loop
 Inv-loop key b m n t x u y found₀ i p q j₀ found j =
-    (j ≤ i) × (found ≡ false) × Told key b m (λ same. any (λ p. pairTest same t u p (permissionAt b i)) (permissionsIn b j) ≡ false)
+    (j ≤ i) × (found ≡ false) × Told key b m (λ same. any (λ p. differ same p (permissionAt b i) (termOf t) (termOf u)) (permissionsIn b j) ≡ false)
 
 abbrev μ-loop : tie.MeasureT-loop
 μ-loop key b m n t x u y found₀ i p q j₀ found j = i - j

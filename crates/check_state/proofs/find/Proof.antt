@@ -9,11 +9,11 @@ use Rattle.check_state.proofs.find.Statement.{statement}
 use Rattle.check_state.proofs.find.Tie as tie
 
 abbrev Inv-loop : tie.InvT-loop
-Inv-loop key b m out n y f k a i₀ i =
-    (i ≤ n) × Told key b m (λ same. (j : ℕ) → j < i → entryTest b out y f same j ≡ false)
+Inv-loop key b m halves n want y f k a i₀ i =
+    (i ≤ n) × Told key b m (λ same. (j : ℕ) → j < i → entryTest b halves want y f same j ≡ false)
 
 abbrev μ-loop : tie.MeasureT-loop
-μ-loop key b m out n y f k a i₀ i = n - i
+μ-loop key b m halves n want y f k a i₀ i = n - i
 
 variable-key-requires : tie.Need-variable-key-requires Inv-loop μ-loop
 variable-key-requires c κs = tt

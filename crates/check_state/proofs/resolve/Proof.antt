@@ -3,6 +3,8 @@ use Rattle.check_state.specs.Questions.{resolvedAs}
 use Rattle.check_state.specs.States.{permissionsOf, stateOf}
 use Rattle.check_equality.specs.Keys.{meaning}
 use Rattle.rules.specs.Base.{ok}
+use Rattle.rules.specs.Limits.{most-permissions}
+use lib.ListN.{replicate}
 use Rattle.rules.specs.Syntax.{same}
 use denote.Enum.Declared.{tagOf}
 use mathlib.Core.List.{List, [], _∷_}
@@ -47,7 +49,7 @@ unfolding meaning
 returns-2 c =
     let start = c .before .before .before .before .before .before in
     let at-e = c .before .before .before .before .e in
-    c .path-at .ensures ∙ resolve-path _ _ _ _ _ (c .before .entry .ensures) ∙ ap (λ (t : Term). Rules.resolve (equalIn (stateOf (start .args .key .now) (start .args .b .now))) (permissionsOf (start .args .b .now)) (meaning t)) (sym (at-e .given .1))
+    c .path-at .ensures ∙ resolve-path _ (replicate most-permissions 0) _ _ _ _ (c .before .entry .ensures) ∙ ap (λ (t : Term). Rules.resolve (equalIn (stateOf (start .args .key .now) (start .args .b .now))) (permissionsOf (start .args .b .now)) (meaning t)) (sym (at-e .given .1))
 
 pub resolve-spec : {M : Type 1} → statement M
 resolve-spec =

@@ -13,7 +13,7 @@ show-requires c κs = search needs
 
 returns : tie.Need-returns
 returns c =
-    subst (λ (φ : Formula ℕ). Asserts φ (stateOf (c .before .before .args .key .now) (c .before .before .args .b .now)) (c .show .result .answer)) (plain _ _ _) (assert-law _ _ _ _ _ (c .show .ensures))
+    subst (λ (φ : Formula ℕ). Asserts φ (stateOf (c .before .before .args .key .now) (c .before .before .args .b .now)) (c .show .result .answer)) (plain _ _ _) (assert-law (c .before .before .args .key .now) (c .before .before .args .b .now) _ _ (c .show .result .left) (c .show .ensures .1))
 
 pub assert-rule-spec : {M : Type 1} → statement M
 assert-rule-spec = tie.close (tie.spec show-requires returns)

@@ -27,16 +27,14 @@ returns c =
     let start = c .before .before .before .before .before .before .before in
     let at-requires-first = c .before .before .before .before .before .requires-first in
     let at-requires-count = c .before .before .before .before .requires-count in
-    call-refused (start .args .w .now) _ _ (start .args .m) _ _ _ _ _ _ _ (at-requires-first .ensures .0) (at-requires-count .ensures .0) refl refl _ _ (c .before .show .ensures) (start .pre .2) (c .match .keys2)
+    call-refused (start .args .w .now) _ _ (start .args .m) _ (start .args .key .now) (start .args .b .now) _ _ _ _ (at-requires-first .ensures .0) (at-requires-count .ensures .0) refl refl _ (c .before .show .result .left) (c .before .show .ensures .1) (start .pre .2) (c .match .keys2)
 
 remainder-requires : tie.Need-remainder-requires
-remainder-requires c κs = c .before .before .before .before .before .before .before .before .before .before .before .before .pre .2
+remainder-requires c κs = (c .before .before .before .before .before .before .before .before .before .before .before .before .pre .2, c .before .before .before .before .before .before .show .ensures .0)
 
 remove-requires : tie.Need-remove-requires
 remove-requires c κs =
-    let at-show = c .before .before .before .before .before .before .before .before .before .show in
-    let at-remainder = c .before .before .remainder in
-    at-remainder .ensures (at-show .ensures .shown) (at-show .ensures .taken) .wf
+    c .before .before .remainder .ensures .wf
 
 ensures-first-requires : tie.Need-ensures-first-requires
 ensures-first-requires c κs =
@@ -67,7 +65,7 @@ returns-2 c =
     let at-remove = c .before .before .before .before .before .remove in
     let at-ensures-first = c .before .before .before .before .ensures-first in
     let at-ensures-count = c .before .before .before .ensures-count in
-    call-done (start .args .w .now) _ _ (start .args .m) _ _ _ _ _ _ _ (at-requires-first .ensures .0) (at-requires-count .ensures .0) (at-ensures-first .ensures .0) (at-ensures-count .ensures .0) _ _ (at-show .ensures) (at-enum-told .given .1) _ _ _ _ (at-remainder .ensures) (at-remove .ensures) _ _ _ (c .add .ensures)
+    call-done (start .args .w .now) _ _ (start .args .m) _ (start .args .key .now) (start .args .b .now) _ _ _ _ (at-requires-first .ensures .0) (at-requires-count .ensures .0) (at-ensures-first .ensures .0) (at-ensures-count .ensures .0) _ (at-show .result .left) (at-show .ensures .1) (at-enum-told .given .1) _ _ _ _ (at-remainder .ensures) (at-remove .ensures) _ _ _ (c .add .ensures)
 
 pub call-shown-spec : {M : Type 1} → statement M
 call-shown-spec =

@@ -14,13 +14,13 @@ show-requires c κs =
 
 remainder-requires : tie.Need-remainder-requires
 remainder-requires c κs =
-    c .before .before .before .before .before .before .before .before .pre .2
+    (c .before .before .before .before .before .before .before .before .pre .2, c .before .before .before .before .show .ensures .0)
 
 returns : tie.Need-returns
 returns c =
     let start = c .before .before .before .before .before .before .before .before .before in
     let at-show = c .before .before .before .before .before .show in
-    subst (λ (φ : Formula ℕ). Adds (releaseRule φ (stateOf (start .args .key .now) (start .args .b .now))) (at-show .result .answer) (c .remainder .last .0) (c .remainder .last .1 .0)) (plain _ _ _) (release-law _ _ _ _ _ _ _ (at-show .ensures) (c .remainder .ensures))
+    subst (λ (φ : Formula ℕ). Adds (releaseRule φ (stateOf (start .args .key .now) (start .args .b .now))) (at-show .result .answer) (c .remainder .last .0) (c .remainder .last .1 .0)) (plain _ _ _) (release-law (start .args .key .now) (start .args .b .now) _ _ _ _ (at-show .result .left) (at-show .ensures .1) (c .remainder .ensures))
 
 pub release-rule-spec : {M : Type 1} → statement M
 release-rule-spec = tie.close (tie.spec show-requires remainder-requires returns)

@@ -8,6 +8,9 @@ use borrow.Author.Needs.{needs}
 use Rattle.check_statements.proofs.set_rule.Statement.{statement}
 use Rattle.check_statements.proofs.set_rule.Tie as tie
 
+kinds-requires : tie.Need-kinds-requires
+kinds-requires c κs = search needs
+
 entry-requires : tie.Need-entry-requires
 entry-requires c κs = search needs
 
@@ -15,7 +18,7 @@ element-copy-out-if1 : tie.Need-element-copy-out-if1
 element-copy-out-if1 c = search needs
 
 cast-if1 : tie.Need-cast-if1
-cast-if1 c = omega (arith, c .before .before .before .before .before .pre .fit)
+cast-if1 c = omega (arith, c .before .before .before .before .before .before .before .pre .fit)
 
 add-path-key : tie.Need-add-path-key
 add-path-key c = search needs
@@ -34,7 +37,7 @@ path-key-requires c κs = search needs
 
 without-path-requires : tie.Need-without-path-requires
 without-path-requires c κs =
-    let start = c .before .before .before .before .before .before .before .before .before .before .before in
+    let start = c .before .before .before .before .before .before .before .before .before .before .before .before .before in
     let at-if1 = c .before .before .before .before .before .if1 in
     let at-path-key = c .before .before .path-key in
     (start .pre, at-if1 .taken, at-path-key .ensures .0)
@@ -48,24 +51,27 @@ add-fact-requires c κs = search needs
 returns : tie.Need-returns
 unfolding relOf
 returns c =
-    let start = c .before .before .before .before .before .before .before .before .before .before .before .before .before .before .before .before in
+    let start = c .before .before .before .before .before .before .before .before .before .before .before .before .before .before .before .before .before .before in
+    let at-kinds = c .before .before .before .before .before .before .before .before .before .before .before .before .before .before .before .before .kinds in
     let at-entry = c .before .before .before .before .before .before .before .before .before .before .before .before .entry in
     let at-if1 = c .before .before .before .before .before .before .before .before .before .before .if1 in
     let at-path-key = c .before .before .before .before .before .before .before .path-key in
     let at-without-path = c .before .before .before .before .without-path in
-    adds-same _ _ _ _ _ (rw (at-path-key .ensures .0, c .before .variable-key .ensures .0, at-without-path .ensures .same) (sym (set-found (start .args .key .now) (start .args .b .now) (start .pre) _ _ _ _ (at-entry .ensures) (at-if1 .taken)))) (c .add-fact .ensures)
+    adds-same _ _ _ _ _ (rw (at-path-key .ensures .0, c .before .variable-key .ensures .0, at-without-path .ensures .same) (sym (set-found (start .args .key .now) (start .args .b .now) (start .pre) _ (at-kinds .ensures) _ _ _ _ (at-entry .ensures) (at-if1 .taken)))) (c .add-fact .ensures)
 
 returns-2 : tie.Need-returns-2
 unfolding answered
 returns-2 c =
-    let start = c .before .before .before .before .before .before in
+    let start = c .before .before .before .before .before .before .before .before in
+    let at-kinds = c .before .before .before .before .before .before .kinds in
     let at-entry = c .before .before .entry in
-    adds-no Answer.NoPermission _ _ (start .pre) _ (set-refused (start .args .key .now) (start .args .b .now) (start .pre) _ _ _ _ (at-entry .ensures) (c .if1 .left))
+    adds-no Answer.NoPermission _ _ (start .pre) _ (set-refused (start .args .key .now) (start .args .b .now) (start .pre) _ (at-kinds .ensures) _ _ _ _ (at-entry .ensures) (c .if1 .left))
 
 pub set-rule-spec : {M : Type 1} → statement M
 set-rule-spec =
     tie.close
     (tie.spec
+    kinds-requires
     entry-requires
     element-copy-out-if1
     cast-if1

@@ -30,8 +30,8 @@ call-step-requires : tie.Need-call-step-requires
 unfolding statementNumber
 call-step-requires c κs = search needs
 
-return-step-requires : tie.Need-return-step-requires
-return-step-requires c κs = search needs
+back-step-requires : tie.Need-back-step-requires
+back-step-requires c κs = search needs
 
 assert-step-requires : tie.Need-assert-step-requires
 unfolding statementNumber
@@ -59,19 +59,16 @@ jump-step-requires c κs =
     let at-kind-at = c .before .before .kind-at in
     (start .pre .0, ⊎-elim (λ e. inl (sym (at-kind-at .ensures) ∙ e)) (λ e. inr (sym (at-kind-at .ensures) ∙ e)) (c .before .match .keys10))
 
-end-step-requires : tie.Need-end-step-requires
-end-step-requires c κs = search needs
-
 compute-step-requires : tie.Need-compute-step-requires
 compute-step-requires c κs =
     let is = c .before .before .before .before .kind-at .ensures in
     let other = c .before .before .before .match .rest in
     let t =
-    Stepping.is-computing _ (fits (c .before .before .before .before .before .before .before .before .pre .0) .kind) (λ z. other .0 .0 .0 .0 .0 .0 .0 .0 .0 .0 .1 (is ∙ z)) (λ z. other .0 .0 .0 .0 .0 .0 .0 .0 .0 .1 (is ∙ z))
-    (λ z. other .0 .0 .0 .0 .0 .0 .0 .0 .1 (is ∙ z)) (λ z. other .0 .0 .0 .0 .0 .0 .0 .1 (is ∙ z)) (λ z. other .0 .0 .0 .0 .0 .0 .1 (is ∙ z))
-    (λ o. other .0 .0 .0 .0 .0 .1 (⊎-elim (λ z. inl (is ∙ z)) (λ z. inr (is ∙ z)) o)) (λ z. other .0 .0 .0 .0 .1 (is ∙ z))
-    (λ z. other .0 .0 .0 .1 (is ∙ z)) (λ z. other .0 .0 .1 (is ∙ z))
-    (λ o. other .0 .1 (⊎-elim (λ z. inl (is ∙ z)) (λ z. inr (is ∙ z)) o)) (λ z. other .1 (is ∙ z)) in
+    Stepping.is-computing _ (fits (c .before .before .before .before .before .before .before .before .pre .0) .kind) (λ z. other .0 .0 .0 .0 .0 .0 .0 .0 .0 .1 (is ∙ z)) (λ z. other .0 .0 .0 .0 .0 .0 .0 .0 .1 (is ∙ z))
+    (λ z. other .0 .0 .0 .0 .0 .0 .0 .1 (is ∙ z)) (λ z. other .0 .0 .0 .0 .0 .0 .1 (is ∙ z)) (λ z. other .0 .0 .0 .0 .0 .1 (inl (is ∙ z)))
+    (λ o. other .0 .0 .0 .0 .1 (⊎-elim (λ z. inl (is ∙ z)) (λ z. inr (is ∙ z)) o)) (λ z. other .0 .0 .0 .1 (is ∙ z))
+    (λ z. other .0 .0 .1 (is ∙ z)) (λ z. other .0 .1 (is ∙ z))
+    (λ o. other .1 (⊎-elim (λ z. inl (is ∙ z)) (λ z. inr (is ∙ z)) o)) (λ z. other .0 .0 .0 .0 .0 .1 (inr (is ∙ z))) in
     (c .before .before .before .before .before .before .before .before .pre .0, t)
 
 same-length : tie.Need-same-length
@@ -131,8 +128,9 @@ returns-5 c =
     let start = c .before .before .before .before .before .before .before .before .before in
     let at-kind-at = c .before .before .before .before .before .kind-at in
     let at-match = c .before .before .before .before .match in
-    let at-return-step = c .before .before .return-step in
-    Stepping.returns (start .pre .0) _ (sym (at-kind-at .ensures) ∙ at-match .keys5) (at-return-step .ensures)
+    let at-back-step = c .before .before .back-step in
+    Stepping.backs (start .pre .0) _ (⊎-elim (λ e. inl (sym (at-kind-at .ensures) ∙ e)) (λ e. inr (sym (at-kind-at .ensures) ∙ e)) (at-match .keys5))
+    (at-back-step .ensures)
 
 same-length-6 : tie.Need-same-length-6
 same-length-6 c = search needs
@@ -194,40 +192,33 @@ same-length-11 : tie.Need-same-length-11
 same-length-11 c = search needs
 
 returns-11 : tie.Need-returns-11
-unfolding statementNumber
-returns-11 c = Stepping.ends (c .before .before .before .before .before .before .before .before .before .pre .0) _ (sym (c .before .before .before .before .before .kind-at .ensures) ∙ c .before .before .before .before .match .keys11) (c .before .before .end-step .ensures)
+returns-11 c =
+    let is = c .before .before .before .before .before .before .before .kind-at .ensures in
+    let other = c .before .before .before .before .before .before .match .rest in
+    let t =
+    Stepping.is-computing _ (fits (c .before .before .before .before .before .before .before .before .before .before .before .pre .0) .kind) (λ z. other .0 .0 .0 .0 .0 .0 .0 .0 .0 .1 (is ∙ z)) (λ z. other .0 .0 .0 .0 .0 .0 .0 .0 .1 (is ∙ z))
+    (λ z. other .0 .0 .0 .0 .0 .0 .0 .1 (is ∙ z)) (λ z. other .0 .0 .0 .0 .0 .0 .1 (is ∙ z)) (λ z. other .0 .0 .0 .0 .0 .1 (inl (is ∙ z)))
+    (λ o. other .0 .0 .0 .0 .1 (⊎-elim (λ z. inl (is ∙ z)) (λ z. inr (is ∙ z)) o)) (λ z. other .0 .0 .0 .1 (is ∙ z))
+    (λ z. other .0 .0 .1 (is ∙ z)) (λ z. other .0 .1 (is ∙ z))
+    (λ o. other .1 (⊎-elim (λ z. inl (is ∙ z)) (λ z. inr (is ∙ z)) o)) (λ z. other .0 .0 .0 .0 .0 .1 (inr (is ∙ z))) in
+    Stepping.computes (c .before .before .before .before .before .before .before .before .before .before .before .pre .0) _ t (c .before .before .compute-step .ensures)
 
 same-length-12 : tie.Need-same-length-12
 same-length-12 c = search needs
 
 returns-12 : tie.Need-returns-12
-returns-12 c =
-    let is = c .before .before .before .before .before .before .before .kind-at .ensures in
-    let other = c .before .before .before .before .before .before .match .rest in
-    let t =
-    Stepping.is-computing _ (fits (c .before .before .before .before .before .before .before .before .before .before .before .pre .0) .kind) (λ z. other .0 .0 .0 .0 .0 .0 .0 .0 .0 .0 .1 (is ∙ z)) (λ z. other .0 .0 .0 .0 .0 .0 .0 .0 .0 .1 (is ∙ z))
-    (λ z. other .0 .0 .0 .0 .0 .0 .0 .0 .1 (is ∙ z)) (λ z. other .0 .0 .0 .0 .0 .0 .0 .1 (is ∙ z)) (λ z. other .0 .0 .0 .0 .0 .0 .1 (is ∙ z))
-    (λ o. other .0 .0 .0 .0 .0 .1 (⊎-elim (λ z. inl (is ∙ z)) (λ z. inr (is ∙ z)) o)) (λ z. other .0 .0 .0 .0 .1 (is ∙ z))
-    (λ z. other .0 .0 .0 .1 (is ∙ z)) (λ z. other .0 .0 .1 (is ∙ z))
-    (λ o. other .0 .1 (⊎-elim (λ z. inl (is ∙ z)) (λ z. inr (is ∙ z)) o)) (λ z. other .1 (is ∙ z)) in
-    Stepping.computes (c .before .before .before .before .before .before .before .before .before .before .before .pre .0) _ t (c .before .before .compute-step .ensures)
+returns-12 c = absurd (omega (arith, c .before .before .kind-at .ensures, c .if1 .taken, fits (c .before .before .before .before .before .before .pre .0) .kind .0))
 
 same-length-13 : tie.Need-same-length-13
 same-length-13 c = search needs
 
 returns-13 : tie.Need-returns-13
-returns-13 c = absurd (omega (arith, c .before .before .kind-at .ensures, c .if1 .taken, fits (c .before .before .before .before .before .before .pre .0) .kind .0))
-
-same-length-14 : tie.Need-same-length-14
-same-length-14 c = search needs
-
-returns-14 : tie.Need-returns-14
-returns-14 c =
+returns-13 c =
     let is = c .before .before .before .kind-at .ensures in
     let other = c .before .before .match .rest in
     absurd
     (Stepping.past-all _ (fits (c .before .before .before .before .before .before .before .pre .0) .kind) (omega (arith, is, c .if2 .left))
-    (λ z. other .0 .0 .1 (is ∙ z)) (λ o. other .0 .1 (⊎-elim (λ z. inl (is ∙ z)) (λ z. inr (is ∙ z)) o)))
+    (λ z. other .0 .1 (is ∙ z)) (λ o. other .1 (⊎-elim (λ z. inl (is ∙ z)) (λ z. inr (is ∙ z)) o)))
 
 pub step-spec : {M : Type 1} → statement M
 step-spec =
@@ -239,13 +230,12 @@ step-spec =
     let-step-requires
     new-step-requires
     call-step-requires
-    return-step-requires
+    back-step-requires
     assert-step-requires
     release-step-requires
     if-step-requires
     loop-step-requires
     jump-step-requires
-    end-step-requires
     compute-step-requires
     same-length
     returns
@@ -272,6 +262,4 @@ step-spec =
     same-length-12
     returns-12
     same-length-13
-    returns-13
-    same-length-14
-    returns-14)
+    returns-13)

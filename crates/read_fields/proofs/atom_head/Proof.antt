@@ -1,55 +1,63 @@
 -- `atom_head` meets its contract. Assumes nothing.
+use mathlib.Core.Path.{refl, ap, _∙_}
 use native.Mathlib.Omega.{arith}
 use borrow.Author.Needs.{needs}
-use mathlib.Core.Path.{sym, _∙_}
+use borrow.Author.Tests.{not-true, not-false}
+use Rattle.read_atoms.specs.Atoms.{atomRow, begunBy}
 use Rattle.read_fields.proofs.Cuts.{byte-in}
-use Rattle.read_fields.proofs.Heads.{eq-letters, ne-letters, no-letter}
+use Rattle.read_fields.proofs.Heads.{bytes-short, head-none, head-some}
 use Rattle.read_fields.proofs.atom_head.Statement.{statement}
 use Rattle.read_fields.proofs.atom_head.Tie as tie
 
-add-byte-at : tie.Need-add-byte-at
-add-byte-at c = omega (arith, byte-in (c .before .args .t .now) (c .before .args .r) 9 (omega arith) (c .before .pre))
+add-a : tie.Need-add-a
+add-a c = omega (arith, byte-in (c .before .args .t .now) (c .before .args .r) 9 (omega arith) (c .before .pre))
 
 byte-at-requires : tie.Need-byte-at-requires
 byte-at-requires c κs = search needs
 
-acc-head-requires : tie.Need-acc-head-requires
-acc-head-requires c κs = (c .before .before .before .pre, sym (c .before .byte-at .ensures) ∙ c .match .keys1)
+begun-by-requires : tie.Need-begun-by-requires
+begun-by-requires c κs = search needs
 
-rel-head-requires : tie.Need-rel-head-requires
-rel-head-requires c κs = (c .before .before .before .pre, eq-letters _ (sym (c .before .byte-at .ensures) ∙ c .match .keys2))
+row-of-requires : tie.Need-row-of-requires
+row-of-requires c κs = search needs
 
-rel-head-requires-2 : tie.Need-rel-head-requires-2
-rel-head-requires-2 c κs = (c .before .before .before .pre, ne-letters _ (sym (c .before .byte-at .ensures) ∙ c .match .keys3))
+is-spelled-requires : tie.Need-is-spelled-requires
+is-spelled-requires c κs =
+    let start = c .before .before .before .before in
+    (omega (arith, byte-in (start .args .t .now) (start .args .r) 9 (omega arith) (start .pre)), bytes-short _ _ (c .row-of .ensures))
 
 no-head-requires : tie.Need-no-head-requires
 no-head-requires c κs = search needs
 
 returns : tie.Need-returns
-returns c = search needs
+returns c =
+    let start = c .before .before .before .before .before .before .before in
+    let k = c .before .before .before .before .begun-by .ensures ∙ ap begunBy (c .before .before .before .before .before .byte-at .ensures) in
+    head-none (start .args .t .now) (start .args .r) (start .pre) _ (c .before .before .before .row-of .ensures ∙ ap atomRow k) _ (c .before .before .is-spelled .ensures) _
+    (not-true _ (c .before .if1 .taken)) (c .no-head .ensures)
+
+add-t5 : tie.Need-add-t5
+add-t5 c =
+    let start = c .before .before .before .before .before .before .before in
+    omega (arith, byte-in (start .args .t .now) (start .args .r) 9 (omega arith) (start .pre), bytes-short _ _ (c .before .before .before .row-of .ensures))
 
 returns-2 : tie.Need-returns-2
-returns-2 c = search needs
-
-returns-3 : tie.Need-returns-3
-returns-3 c = search needs
-
-returns-4 : tie.Need-returns-4
-returns-4 c =
-    let b = c .before .before .byte-at .ensures in
-    no-letter _ _ (c .before .before .before .before .pre) (λ e. c .before .match .rest .0 .0 .1 (b ∙ e)) (λ e. c .before .match .rest .0 .1 (b ∙ e)) (λ e. c .before .match .rest .1 (b ∙ e)) _ (c .no-head .ensures)
+returns-2 c =
+    let start = c .before .before .before .before .before .before .before in
+    let k = c .before .before .before .before .begun-by .ensures ∙ ap begunBy (c .before .before .before .before .before .byte-at .ensures) in
+    head-some (start .args .t .now) (start .args .r) (start .pre) _ (c .before .before .before .row-of .ensures ∙ ap atomRow k) _ (c .before .before .is-spelled .ensures) _
+    (not-false _ (c .before .if1 .left)) refl refl
 
 pub atom-head-spec : {M : Type 1} → statement M
 atom-head-spec =
     tie.close
     (tie.spec
-    add-byte-at
+    add-a
     byte-at-requires
-    acc-head-requires
-    rel-head-requires
-    rel-head-requires-2
+    begun-by-requires
+    row-of-requires
+    is-spelled-requires
     no-head-requires
     returns
-    returns-2
-    returns-3
-    returns-4)
+    add-t5
+    returns-2)

@@ -1,4 +1,4 @@
--- The invariant: the atoms from `first` + i on have no `acc x f`.
+-- The invariant: the atoms from `first` + i on have no access of x.f.
 use Prim.Native.Nat.{_≤_}
 use mathlib.Core.Path.{_≡_, refl, sym, _∙_}
 use native.Mathlib.Omega.{arith}

@@ -1,5 +1,6 @@
 -- `resolve_framing::is_access` meets its contract. Assumes nothing.
 use borrow.Author.Needs.{needs}
+use Rattle.tables.specs.Decode.{isPermission}
 use Rattle.resolve_framing.proofs.is_access.Statement.{statement}
 use Rattle.resolve_framing.proofs.is_access.Tie as tie
 
@@ -7,6 +8,7 @@ atom-kind-requires : tie.Need-atom-kind-requires
 atom-kind-requires c κs = search needs
 
 returns : tie.Need-returns
+unfolding isPermission
 returns c = rw (c .atom-kind .ensures .0)
 
 pub is-access-spec : {M : Type 1} → statement M

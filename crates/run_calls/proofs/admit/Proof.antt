@@ -2,7 +2,7 @@ use native.Mathlib.Omega.{arith}
 use mathlib.Core.Path.{refl, sym, _∙_}
 use mathlib.Core.Logic.{inl, inr}
 use Rattle.run_calls.proofs.Calling.{requires-atoms, requires-takes}
-use Rattle.run_footprint.proofs.Taking.{took-cells, took-lacking, count-cells}
+use Rattle.run_footprint.proofs.Taking.{took-shares, took-lacking, count-shares}
 use borrow.Author.Needs.{needs}
 use Rattle.run_calls.proofs.admit.Statement.{statement}
 use Rattle.run_calls.proofs.admit.Tie as tie
@@ -42,15 +42,15 @@ enter-requires c κs =
     let at-requires-count = c .before .before .before .before .before .before .before .before .requires-count in
     let at-footprint = c .before .before .before .before .before .footprint in
     let at-k = c .before .before .before .k in
-    let e = sym (requires-takes _ _ _ (start .pre) (at-requires-first .ensures .0) (at-requires-count .ensures .0)) ∙ took-cells _ _ _ (at-k .given .1) (at-footprint .ensures .took) in
+    let e = sym (requires-takes _ _ _ (start .pre) (at-requires-first .ensures .0) (at-requires-count .ensures .0)) ∙ took-shares _ _ _ (at-k .given .1) (at-footprint .ensures .took) in
     record {
       area = start .pre .readable .tables .size;
       method-fits = omega (arith, start .pre .exists, start .pre .readable .tables .methods);
       more = start .pre .more;
       numbers = start .pre .numbers;
       size = at-footprint .ensures .size;
-      count = count-cells _ _ _ (at-k .given .1) (at-footprint .ensures .count);
-      small = start .pre .small _ e;
+      count = count-shares _ _ _ (at-k .given .1) (at-footprint .ensures .count);
+      fit = start .pre .fit _ e;
     }
 
 enum-known-s : tie.Need-enum-known-s
@@ -67,7 +67,7 @@ returns c =
     let at-footprint = c .before .before .before .before .before .before .before .before .footprint in
     let at-k = c .before .before .before .before .before .before .k in
     let at-enter = c .before .before .enter in
-    inl (_, sym (requires-takes _ _ _ (start .pre) (at-requires-first .ensures .0) (at-requires-count .ensures .0)) ∙ took-cells _ _ _ (at-k .given .1) (at-footprint .ensures .took), at-enter .ensures)
+    inl (_, sym (requires-takes _ _ _ (start .pre) (at-requires-first .ensures .0) (at-requires-count .ensures .0)) ∙ took-shares _ _ _ (at-k .given .1) (at-footprint .ensures .took), at-enter .ensures)
 
 same-length-2 : tie.Need-same-length-2
 same-length-2 c = search needs

@@ -8,20 +8,20 @@ use Rattle.run_heap.specs.Views.{stopOf}
 use Rattle.run_footprint.specs.Footprints.{tookIs, countOf, takeIn, Sieve}
 use Rattle.tables.specs.Decode.{atomsFrom}
 use Prim.Native.Nat.{ℕ, _≤_, _-_, _+_}
-use Rattle.run_footprint.proofs.Taking.{foot-next, foot-stop, foot-end, took-cells, took-lacking, count-cells}
-use Rattle.run_footprint.proofs.Sieves.{sieve-none, sieve-cells}
+use Rattle.run_footprint.proofs.Taking.{foot-next, foot-stop, foot-end, took-shares, took-lacking, count-shares}
+use Rattle.run_footprint.proofs.Sieves.{sieve-none, sieve-shares}
 use Rattle.run_footprint.proofs.footprint.Statement.{statement}
 use Rattle.run_footprint.proofs.footprint.Tie as tie
 
 abbrev Inv-loop : tie.InvT-loop
-Inv-loop work v first n cells₀ seen₀ count₀ i₀ cells seen count i = (count ≤ i) × (i ≤ n) × (length cells ≡ 8) × (takeIn work v (atomsFrom work (first + i) (n - i)) (take count cells) ≡ takeIn work v (atomsFrom work first n) []) × Sieve (take count cells) seen
+Inv-loop work v first n shares₀ seen₀ count₀ i₀ shares seen count i = (count ≤ i) × (i ≤ n) × (length shares ≡ 8) × (takeIn work v (atomsFrom work (first + i) (n - i)) (take count shares) ≡ takeIn work v (atomsFrom work first n) []) × Sieve (take count shares) seen
 
 abbrev μ-loop : tie.MeasureT-loop
-μ-loop work v first n cells₀ seen₀ count₀ i₀ cells seen count i = n - i
+μ-loop work v first n shares₀ seen₀ count₀ i₀ shares seen count i = n - i
 
 loop-holds : tie.Need-loop-holds Inv-loop μ-loop
 loop-holds c =
-    (omega arith, omega arith, c .before .pre .1 .1, let e : c .before .args .first + 0 ≡ c .before .args .first = omega arith in let f : c .before .args .n - 0 ≡ c .before .args .n = omega arith in rw (e, f), sieve-none (c .before .args .cells .now) _ (length-replicate {A = ℕ} 64 0))
+    (omega arith, omega arith, c .before .pre .1 .1, let e : c .before .args .first + 0 ≡ c .before .args .first = omega arith in let f : c .before .args .n - 0 ≡ c .before .args .n = omega arith in rw (e, f), sieve-none (c .before .args .shares .now) _ (length-replicate {A = ℕ} 64 0))
 
 add-take-atom : tie.Need-add-take-atom Inv-loop μ-loop
 add-take-atom c = omega arith
@@ -57,7 +57,7 @@ loop-again c =
     let at-loop = c .before .before .before .before .before .before .before .loop in
     let at-loop-test = c .before .before .before .before .before .before .loop-test in
     let at-take-atom = c .before .before .before .take-atom in
-    (omega (arith, count-cells _ _ _ (c .before .t .given .1) (at-take-atom .ensures .0 .count)), omega arith, at-take-atom .ensures .0 .size, foot-next _ _ _ _ _ _ _ (at-loop-test .taken) (took-cells _ _ _ (c .before .t .given .1) (at-take-atom .ensures .0 .took)) ∙ at-loop .inv .3, sieve-cells _ _ _ _ (c .before .t .given .1) (at-take-atom .ensures .1))
+    (omega (arith, count-shares _ _ _ (c .before .t .given .1) (at-take-atom .ensures .0 .count)), omega arith, at-take-atom .ensures .0 .size, foot-next _ _ _ _ _ _ _ (at-loop-test .taken) (took-shares _ _ _ (c .before .t .given .1) (at-take-atom .ensures .0 .took)) ∙ at-loop .inv .3, sieve-shares _ _ _ _ (c .before .t .given .1) (at-take-atom .ensures .1))
 
 returns-2 : tie.Need-returns-2 Inv-loop μ-loop
 unfolding tookIs countOf

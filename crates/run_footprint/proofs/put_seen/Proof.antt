@@ -1,35 +1,54 @@
 use native.Mathlib.Omega.{arith}
-use mathlib.Core.Path.{sym, _∙_}
-use lib.ListN.{length-set}
-use native.Mathlib.Numerals.{add-one}
-use lib.Seq.{take-suc-set}
+use mathlib.Core.Path.{sym}
+use denote.Ref.{now}
 use Rattle.run_heap.specs.Views.{stopOf}
 use Rattle.run_footprint.specs.Footprints.{tookIs, countOf}
-use Rattle.run_footprint.proofs.Taking.{new-taken, new-free}
+use Rattle.run_footprint.proofs.Taking.{new-lacking}
+use Rattle.run_footprint.proofs.Sieves.{took-more}
 use borrow.Author.Needs.{needs}
 use Rattle.run_footprint.proofs.put_seen.Statement.{statement}
 use Rattle.run_footprint.proofs.put_seen.Tie as tie
 
-among-requires : tie.Need-among-requires
-among-requires c κs = search needs
+taken-requires : tie.Need-taken-requires
+taken-requires c κs = search needs
+
+add-t : tie.Need-add-t
+add-t c = search needs
+
+halves-held-requires : tie.Need-halves-held-requires
+halves-held-requires c κs = search needs
 
 returns : tie.Need-returns
 unfolding tookIs stopOf countOf
-returns c = record { took = sym (new-taken _ _ (sym (c .before .among .ensures) ∙ c .if1 .taken)); count = omega arith; size = c .before .before .before .pre .1 }
+returns c =
+    let start = c .before .before .before .before .before in
+    let at-taken = c .before .before .taken in
+    record { took = sym (new-lacking _ _ _ _ _ (omega (arith, c .if1 .taken, c .before .halves-held .ensures, at-taken .ensures .0))); count = omega arith; size = start .pre .1 .1 }
 
-mul-cells : tie.Need-mul-cells
-mul-cells c = search needs
+mul-shares : tie.Need-mul-shares
+mul-shares c = search needs
 
-element-write-cells : tie.Need-element-write-cells
-element-write-cells c = search needs
+element-write-shares : tie.Need-element-write-shares
+element-write-shares c = search needs
 
-add-t7 : tie.Need-add-t7
-add-t7 c = search needs
+add-t8 : tie.Need-add-t8
+add-t8 c = search needs
 
 returns-2 : tie.Need-returns-2
-unfolding tookIs countOf
-returns-2 c = record { took = rw (add-one, take-suc-set (c .before .before .before .args .cells .now) (c .before .before .before .args .n) (c .before .before .before .args .k) (omega arith)) (sym (new-free _ _ (sym (c .before .among .ensures) ∙ c .if1 .left))); count = omega arith; size = simp length-set (c .before .before .before .pre .1) }
+returns-2 c =
+    let start = c .before .before .before .before .before in
+    let at-taken = c .before .before .taken in
+    took-more (start .args .shares .now) (now (start .args .work)) (start .args .h) (start .args .n) (start .args .s) (start .pre .1 .0) (start .pre .1 .1) (omega (arith, c .if1 .left, c .before .halves-held .ensures, at-taken .ensures .0))
 
 pub put-seen-spec : {M : Type 1} → statement M
 put-seen-spec =
-    tie.close (tie.spec among-requires returns mul-cells element-write-cells add-t7 returns-2)
+    tie.close
+    (tie.spec
+    taken-requires
+    add-t
+    halves-held-requires
+    returns
+    mul-shares
+    element-write-shares
+    add-t8
+    returns-2)

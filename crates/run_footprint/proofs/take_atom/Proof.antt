@@ -1,11 +1,12 @@
 use native.Mathlib.Omega.{arith}
 use mathlib.Core.Path.{sym, _∙_}
-use mathlib.Core.Path.{_≡_}
+use Prim.Native.Nat.{_≤_}
 use denote.Ref.{now}
-use Rattle.tables.specs.Decode.{byteAt, atomPlace}
+use Rattle.tables.specs.Numbers.{eq-atom}
+use Rattle.tables.specs.Decode.{atomKindAt}
 use Rattle.run_heap.specs.Views.{stopOf}
 use Rattle.run_footprint.specs.Footprints.{tookIs, countOf}
-use Rattle.run_footprint.proofs.Taking.{access-fits, take-acc, take-cmp, test-true, test-false, test-lacking, truth-holds, truth-fails, truth-lacking}
+use Rattle.run_footprint.proofs.Taking.{take-cmp, test-true, test-false, test-lacking, truth-holds, truth-fails, truth-lacking}
 use Rattle.run_footprint.proofs.Sieves.{sieve-none}
 use borrow.Author.Needs.{needs}
 use Rattle.run_footprint.proofs.take_atom.Statement.{statement}
@@ -14,29 +15,15 @@ use Rattle.run_footprint.proofs.take_atom.Tie as tie
 atom-kind-requires : tie.Need-atom-kind-requires
 atom-kind-requires c κs = search needs
 
-atom-variable-requires : tie.Need-atom-variable-requires
-atom-variable-requires c κs = search needs
-
-atom-field-requires : tie.Need-atom-field-requires
-atom-field-requires c κs = search needs
-
-take-cell-requires : tie.Need-take-cell-requires
-take-cell-requires c κs =
-    let start = c .before .before .before .before .before .before .before in
-    let at-atom-kind = c .before .before .before .before .before .atom-kind in
-    let at-if1 = c .before .before .before .before .if1 in
-    let at-atom-variable = c .before .before .before .atom-variable in
-    let at-atom-field = c .before .before .atom-field in
-    let k : byteAt (now (start .args .work)) (atomPlace (start .args .a)) ≡ 0 = sym (at-atom-kind .ensures .0) ∙ at-if1 .taken in let f = access-fits _ _ (start .pre .0 .0 .tables .atom-fits (start .args .a) (start .pre .0 .1)) k in ((start .pre .0 .0, (omega (arith, f .0, at-atom-variable .ensures .0), omega (arith, f .1, at-atom-field .ensures .0))), start .pre .1)
+take-share-requires : tie.Need-take-share-requires
+take-share-requires c κs =
+    let start = c .before .before .before .before .before in
+    let at-atom-kind = c .before .before .before .atom-kind in
+    let at-if1 = c .before .before .if1 in
+    ((start .pre .0 .0, (start .pre .0 .1, omega (arith, at-atom-kind .ensures .0, at-if1 .taken))), start .pre .1)
 
 returns : tie.Need-returns
-returns c =
-    let start = c .before .before .before .before .before .before .before .before in
-    let at-atom-kind = c .before .before .before .before .before .before .atom-kind in
-    let at-if1 = c .before .before .before .before .before .if1 in
-    let at-atom-variable = c .before .before .before .before .atom-variable in
-    let at-atom-field = c .before .before .before .atom-field in
-    let k : byteAt (now (start .args .work)) (atomPlace (start .args .a)) ≡ 0 = sym (at-atom-kind .ensures .0) ∙ at-if1 .taken in (record { took = c .take-cell .ensures .0 .took ∙ rw (at-atom-variable .ensures .0, at-atom-field .ensures .0) (sym (take-acc _ _ _ _ k)); count = c .take-cell .ensures .0 .count; size = c .take-cell .ensures .0 .size }, c .take-cell .ensures .1)
+returns c = c .take-share .ensures
 
 test-requires : tie.Need-test-requires
 test-requires c κs = search needs
@@ -57,7 +44,7 @@ returns-2 c =
     let at-atom-kind = c .before .before .before .before .atom-kind in
     let at-if1 = c .before .before .before .if1 in
     let at-test = c .before .before .test in
-    let k : byteAt (now (start .args .work)) (atomPlace (start .args .a)) ≡ 0 → ⊥ = λ z. at-if1 .left (at-atom-kind .ensures .0 ∙ z) in (record { took = sym (take-cmp _ _ _ _ k ∙ test-true _ _ (truth-holds _ (c .enum-told .given .1) (at-test .ensures))); count = omega arith; size = start .pre .1 .0 .1 }, start .pre .1 .1)
+    let k : eq-atom ≤ atomKindAt (now (start .args .work)) (start .args .a) = omega (arith, at-atom-kind .ensures .0, at-if1 .left) in (record { took = sym (take-cmp _ _ _ _ k ∙ test-true _ _ (truth-holds _ (c .enum-told .given .1) (at-test .ensures))); count = omega arith; size = start .pre .1 .0 .1 }, start .pre .1 .1)
 
 returns-3 : tie.Need-returns-3
 unfolding tookIs countOf stopOf
@@ -66,7 +53,7 @@ returns-3 c =
     let at-atom-kind = c .before .before .before .before .atom-kind in
     let at-if1 = c .before .before .before .if1 in
     let at-test = c .before .before .test in
-    let k : byteAt (now (start .args .work)) (atomPlace (start .args .a)) ≡ 0 → ⊥ = λ z. at-if1 .left (at-atom-kind .ensures .0 ∙ z) in (record { took = sym (take-cmp _ _ _ _ k ∙ test-false _ _ (truth-fails _ (c .enum-told2 .given .1) (at-test .ensures))); count = omega arith; size = start .pre .1 .0 .1 }, sieve-none (start .args .cells .now) _ (start .pre .1 .1 .size))
+    let k : eq-atom ≤ atomKindAt (now (start .args .work)) (start .args .a) = omega (arith, at-atom-kind .ensures .0, at-if1 .left) in (record { took = sym (take-cmp _ _ _ _ k ∙ test-false _ _ (truth-fails _ (c .enum-told2 .given .1) (at-test .ensures))); count = omega arith; size = start .pre .1 .0 .1 }, sieve-none (start .args .shares .now) _ (start .pre .1 .1 .size))
 
 returns-4 : tie.Need-returns-4
 unfolding tookIs countOf
@@ -75,16 +62,14 @@ returns-4 c =
     let at-atom-kind = c .before .before .before .before .before .atom-kind in
     let at-if1 = c .before .before .before .before .if1 in
     let at-test = c .before .before .before .test in
-    let k : byteAt (now (start .args .work)) (atomPlace (start .args .a)) ≡ 0 → ⊥ = λ z. at-if1 .left (at-atom-kind .ensures .0 ∙ z) in (record { took = sym (take-cmp _ _ _ _ k ∙ test-lacking _ _ _ (truth-lacking _ _ (c .before .s .given .1) (at-test .ensures))); count = omega arith; size = start .pre .1 .0 .1 }, sieve-none (start .args .cells .now) _ (start .pre .1 .1 .size))
+    let k : eq-atom ≤ atomKindAt (now (start .args .work)) (start .args .a) = omega (arith, at-atom-kind .ensures .0, at-if1 .left) in (record { took = sym (take-cmp _ _ _ _ k ∙ test-lacking _ _ _ (truth-lacking _ _ (c .before .s .given .1) (at-test .ensures))); count = omega arith; size = start .pre .1 .0 .1 }, sieve-none (start .args .shares .now) _ (start .pre .1 .1 .size))
 
 pub take-atom-spec : {M : Type 1} → statement M
 take-atom-spec =
     tie.close
     (tie.spec
     atom-kind-requires
-    atom-variable-requires
-    atom-field-requires
-    take-cell-requires
+    take-share-requires
     returns
     test-requires
     enum-told

@@ -14,7 +14,9 @@ enum-known-k c = search needs
 
 held-cell-requires : tie.Need-held-cell-requires
 held-cell-requires c κs =
-    (c .before .before .before .before .before .pre .0 .tables .size, found-small _ _ (c .before .before .before .before .before .pre .0) (spot-at _ _ (c .before .k .given .1) (c .before .before .before .find .ensures)))
+    let start = c .before .before .before .before .before in
+    let at-find = c .before .before .before .find in
+    ((start .pre .0 .0 .tables .size, found-small _ _ (start .pre .0 .0) (spot-at _ _ (c .before .k .given .1) (at-find .ensures))), start .pre .0 .1)
 
 enum-known-s : tie.Need-enum-known-s
 enum-known-s c = search needs

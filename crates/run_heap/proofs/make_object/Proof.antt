@@ -40,6 +40,9 @@ mul-fill-words-2 c = search needs
 add-fill-words-2 : tie.Need-add-fill-words-2
 add-fill-words-2 c = search needs
 
+mul-fill-words-3 : tie.Need-mul-fill-words-3
+mul-fill-words-3 c = search needs
+
 fill-words-requires-2 : tie.Need-fill-words-requires-2
 fill-words-requires-2 c κs = search needs
 
@@ -48,7 +51,12 @@ same-length c = search needs
 
 returns : tie.Need-returns
 unfolding made
-returns c = c .before .before .fill-words2 .ensures ∙ rw (c .before .before .before .before .before .before .fill-words .ensures, c .before .before .before .before .before .before .before .before .before .before .put-half .ensures, c .before .before .before .before .before .before .before .before .before .before .before .before .before .before .put-byte .ensures)
+returns c =
+    let at-put-byte = c .before .before .before .before .before .before .before .before .before .before .before .before .before .before .put-byte in
+    let at-put-half = c .before .before .before .before .before .before .before .before .before .before .put-half in
+    let at-fill-words = c .before .before .before .before .before .before .fill-words in
+    let at-fill-words2 = c .before .before .fill-words2 in
+    at-fill-words2 .ensures ∙ rw (at-fill-words .ensures, at-put-half .ensures, at-put-byte .ensures)
 
 pub make-object-spec : {M : Type 1} → statement M
 make-object-spec =
@@ -66,6 +74,7 @@ make-object-spec =
     fill-words-requires
     mul-fill-words-2
     add-fill-words-2
+    mul-fill-words-3
     fill-words-requires-2
     same-length
     returns)

@@ -22,24 +22,36 @@ returns c = plain-read _ _ _ _ (c .plain .ensures)
 
 locate-requires : tie.Need-locate-requires
 unfolding SideFits meaning
-locate-requires c κs = (c .before .before .before .before .pre .0, rw (c .before .e .given .1) at (c .before .before .before .before .pre .1))
+locate-requires c κs =
+    let start = c .before .before .before .before in
+    ((start .pre .0, (omega arith, omega arith)), rw (c .before .e .given .1) at (start .pre .1))
 
 enum-known-k : tie.Need-enum-known-k
 enum-known-k c = search needs
 
 cell-value-requires : tie.Need-cell-value-requires
-cell-value-requires c κs = (c .before .before .before .before .before .before .before .before .pre .0 .tables .size, spot-small _ _ (c .before .before .before .before .before .before .before .before .pre .0) (spot-at _ _ (c .before .k .given .1) (c .before .before .before .locate .ensures)))
+cell-value-requires c κs =
+    let start = c .before .before .before .before .before .before .before .before in
+    let at-locate = c .before .before .before .locate in
+    (start .pre .0 .tables .size, spot-small _ _ _ (start .pre .0) (spot-at _ _ (c .before .k .given .1) (at-locate .ensures)))
 
 enum-known-s : tie.Need-enum-known-s
 enum-known-s c = search needs
 
 returns-2 : tie.Need-returns-2
 unfolding readIs readIn meaning _>>=_
-returns-2 c = rw (c .before .before .before .before .before .before .e .given .1, spot-at _ _ (c .before .before .k .given .1) (c .before .before .before .before .locate .ensures), c .cell-value .ensures)
+returns-2 c =
+    let at-e = c .before .before .before .before .before .before .e in
+    let at-locate = c .before .before .before .before .locate in
+    let at-k = c .before .before .k in
+    rw (at-e .given .1, spot-at _ _ (at-k .given .1) (at-locate .ensures), c .cell-value .ensures)
 
 returns-3 : tie.Need-returns-3
 unfolding readIs readIn meaning _>>=_
-returns-3 c = rw (c .before .before .before .before .before .e .given .1, spot-lacking _ _ (c .before .s .given .1) (c .before .before .before .locate .ensures))
+returns-3 c =
+    let at-e = c .before .before .before .before .before .e in
+    let at-locate = c .before .before .before .locate in
+    rw (at-e .given .1, spot-lacking _ _ (c .before .s .given .1) (at-locate .ensures))
 
 pub value-spec : {M : Type 1} → statement M
 value-spec =

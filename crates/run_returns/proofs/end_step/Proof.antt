@@ -2,7 +2,7 @@ use native.Mathlib.Omega.{arith}
 use mathlib.Core.Path.{refl, sym, _∙_}
 use Rattle.run_returns.proofs.Returning.{last-saved, end-done, end-stops, end-atoms, end-takes}
 use Rattle.run_steps.proofs.Doing.{size, view-readable}
-use Rattle.run_footprint.proofs.Taking.{took-cells, took-lacking, count-cells}
+use Rattle.run_footprint.proofs.Taking.{took-shares, took-lacking, count-shares}
 use borrow.Author.Needs.{needs}
 use Rattle.run_returns.proofs.end_step.Statement.{statement}
 use Rattle.run_returns.proofs.end_step.Tie as tie
@@ -58,7 +58,14 @@ leave-requires c κs =
     let at-ensures-count = c .before .before .before .before .before .before .before .before .ensures-count in
     let at-footprint = c .before .before .before .before .before .footprint in
     let at-k = c .before .before .before .k in
-    record { ready = start .pre; inner = at-if1 .left; size = at-footprint .ensures .size; count = count-cells _ _ _ (at-k .given .1) (at-footprint .ensures .count); took = sym (end-takes (start .pre) (at-if1 .left) _ _ _ (at-method-of .ensures) (at-ensures-first .ensures .0) (at-ensures-count .ensures .0) _ (at-view-of .ensures)) ∙ took-cells _ _ _ (at-k .given .1) (at-footprint .ensures .took) }
+    record {
+      ready = start .pre;
+      inner = at-if1 .left;
+      size = at-footprint .ensures .size;
+      count = count-shares _ _ _ (at-k .given .1) (at-footprint .ensures .count);
+      took = sym (end-takes (start .pre) (at-if1 .left) _ _ _ (at-method-of .ensures) (at-ensures-first .ensures .0) (at-ensures-count .ensures .0) _ (at-view-of .ensures)) ∙ took-shares _ _ _
+          (at-k .given .1) (at-footprint .ensures .took);
+    }
 
 enum-known-s : tie.Need-enum-known-s
 enum-known-s c = search needs

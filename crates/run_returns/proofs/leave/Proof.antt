@@ -3,7 +3,7 @@ use mathlib.Core.Path.{_∙_}
 use mathlib.Core.Path.{_≡_}
 use Prim.Native.Nat.{_+_, _-_}
 use Rattle.run_heap.specs.Views.{frameAt}
-use Rattle.run_returns.proofs.Returning.{last-saved, end-small, leave-does}
+use Rattle.run_returns.proofs.Returning.{last-saved, end-fits, leave-does}
 use Rattle.run_steps.proofs.Doing.{size, frames-fit}
 use borrow.Author.Needs.{needs}
 use Rattle.run_returns.proofs.leave.Statement.{statement}
@@ -42,7 +42,7 @@ x-at-requires c κs =
 mark-requires : tie.Need-mark-requires
 mark-requires c κs =
     let start = c .before .before .before .before .before .before .before .before .before .before .before in
-    ((size (start .pre .ready), (start .pre .count, start .pre .size)), end-small (start .pre .ready) (start .pre .inner) _ (start .pre .took))
+    ((size (start .pre .ready), (start .pre .count, start .pre .size)), end-fits (start .pre .ready) (start .pre .inner) _ (start .pre .took))
 
 mul-put-word : tie.Need-mul-put-word
 mul-put-word c = search needs

@@ -1,5 +1,5 @@
 use Rattle.run_steps.proofs.Doing.{assert-does, assert-stops}
-use Rattle.run_footprint.proofs.Taking.{took-cells, took-lacking}
+use Rattle.run_footprint.proofs.Taking.{took-shares, took-lacking}
 use borrow.Author.Needs.{needs}
 use Rattle.run_steps.proofs.assert_step.Statement.{statement}
 use Rattle.run_steps.proofs.assert_step.Tie as tie
@@ -20,7 +20,7 @@ enum-known-s : tie.Need-enum-known-s
 enum-known-s c = search needs
 
 returns : tie.Need-returns
-returns c = assert-does (c .before .before .before .before .before .before .before .pre .0) _ (c .before .before .before .before .before .before .before .pre .1) (took-cells _ _ _ (c .before .before .enum-told .given .1) (c .before .before .before .before .row-footprint .ensures .took)) (c .next .ensures)
+returns c = assert-does (c .before .before .before .before .before .before .before .pre .0) _ (c .before .before .before .before .before .before .before .pre .1) (took-shares _ _ _ (c .before .before .enum-told .given .1) (c .before .before .before .before .row-footprint .ensures .took)) (c .next .ensures)
 
 returns-2 : tie.Need-returns-2
 returns-2 c = assert-stops (c .before .before .before .before .before .before .pre .0) _ (took-lacking _ _ _ (c .before .s .given .1) (c .before .before .before .row-footprint .ensures .took))

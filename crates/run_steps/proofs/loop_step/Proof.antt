@@ -1,6 +1,6 @@
 use mathlib.Core.Logic.{inr}
 use native.Mathlib.Omega.{arith}
-use Rattle.run_footprint.proofs.Taking.{took-cells, took-lacking}
+use Rattle.run_footprint.proofs.Taking.{took-shares, took-lacking}
 use Rattle.run_steps.proofs.Doing.{loop-atom, loop-does, loop-stops}
 use borrow.Author.Needs.{needs}
 use Rattle.run_steps.proofs.loop_step.Statement.{statement}
@@ -36,7 +36,7 @@ returns c =
     let start = c .before .before .before .before .before .before .before .before in
     let at-row-footprint = c .before .before .before .before .row-footprint in
     let at-enum-told = c .before .before .enum-told in
-    loop-does (start .pre .0) _ (took-cells _ _ _ (at-enum-told .given .1) (at-row-footprint .ensures .took)) _ (rw (c .before .first-atom-at .ensures .0)) (c .choose .ensures)
+    loop-does (start .pre .0) _ (took-shares _ _ _ (at-enum-told .given .1) (at-row-footprint .ensures .took)) _ (rw (c .before .first-atom-at .ensures .0)) (c .choose .ensures)
 
 returns-2 : tie.Need-returns-2
 returns-2 c =

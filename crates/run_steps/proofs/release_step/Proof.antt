@@ -1,5 +1,5 @@
-use Rattle.run_steps.proofs.Doing.{size, taken-small, release-does, release-stops}
-use Rattle.run_footprint.proofs.Taking.{took-cells, took-lacking, count-cells}
+use Rattle.run_steps.proofs.Doing.{size, taken-fit, release-does, release-stops}
+use Rattle.run_footprint.proofs.Taking.{took-shares, took-lacking, count-shares}
 use borrow.Author.Needs.{needs}
 use Rattle.run_steps.proofs.release_step.Statement.{statement}
 use Rattle.run_steps.proofs.release_step.Tie as tie
@@ -15,7 +15,7 @@ mark-requires c κs =
     let start = c .before .before .before .before .before .before .before .before .before in
     let at-row-footprint = c .before .before .before .before .before .row-footprint in
     let at-n = c .before .before .before .n in
-    ((size (start .pre .0), (count-cells _ _ _ (at-n .given .1) (at-row-footprint .ensures .count), at-row-footprint .ensures .size)), taken-small (start .pre .0) _ (took-cells _ _ _ (at-n .given .1) (at-row-footprint .ensures .took)))
+    ((size (start .pre .0), (count-shares _ _ _ (at-n .given .1) (at-row-footprint .ensures .count), at-row-footprint .ensures .size)), taken-fit (start .pre .0) _ (took-shares _ _ _ (at-n .given .1) (at-row-footprint .ensures .took)))
 
 add-next : tie.Need-add-next
 add-next c = search needs
@@ -35,7 +35,7 @@ returns c =
     let at-row-footprint = c .before .before .before .before .before .before .before .before .before .before .row-footprint in
     let at-n = c .before .before .before .before .before .before .before .before .n in
     let at-mark = c .before .before .before .before .mark in
-    release-does (start .pre .0) _ (start .pre .1) (took-cells _ _ _ (at-n .given .1) (at-row-footprint .ensures .took)) (at-mark .ensures) (c .next .ensures)
+    release-does (start .pre .0) _ (start .pre .1) (took-shares _ _ _ (at-n .given .1) (at-row-footprint .ensures .took)) (at-mark .ensures) (c .next .ensures)
 
 same-length-2 : tie.Need-same-length-2
 same-length-2 c = search needs

@@ -22,7 +22,7 @@ locate-requires c κs =
     let start = c .before .before .before .before .before .before .before .before in
     let at-view-of = c .before .before .before .before .before .view-of in
     let at-x-at = c .before .before .before .x-at in
-    (view-readable (start .pre .0) (at-view-of .ensures), set-operands (start .pre .0) (start .pre .1) _ _ _ (at-view-of .ensures) (at-x-at .ensures .0) (c .before .member-at .ensures .0))
+    ((view-readable (start .pre .0) (at-view-of .ensures), (omega arith, omega arith)), set-operands (start .pre .0) (start .pre .1) _ _ _ (at-view-of .ensures) (at-x-at .ensures .0) (c .before .member-at .ensures .0))
 
 enum-known-k : tie.Need-enum-known-k
 enum-known-k c = search needs

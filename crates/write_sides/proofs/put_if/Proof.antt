@@ -3,9 +3,10 @@ use mathlib.Core.Path.{refl, sym, ap, subst, _∙_}
 use mathlib.Core.Logic.{inr}
 use native.Mathlib.Omega.{arith}
 use lib.ListN.{length}
+use Rattle.read_atoms.specs.Atoms.{begunBy}
 use Rattle.write_rows.specs.Puts.{putRow, RowBytes}
 use Rattle.write_rows.proofs.Atoms.{side-bytes, atom-length}
-use Rattle.write_sides.proofs.Sides.{if-atom, if-ok, if-bad, if-done, one-bytes}
+use Rattle.write_sides.proofs.Sides.{if-word, if-atom, if-ok, if-bad, if-done, one-bytes}
 use borrow.Author.Needs.{needs}
 use Rattle.write_sides.proofs.put_if.Statement.{statement}
 use Rattle.write_sides.proofs.put_if.Tie as tie
@@ -34,19 +35,28 @@ name-in-requires-2 c κs = search needs
 name-in-requires-3 : tie.Need-name-in-requires-3
 name-in-requires-3 c κs = search needs
 
+byte-at-requires : tie.Need-byte-at-requires
+byte-at-requires c κs = search needs
+
+begun-by-requires : tie.Need-begun-by-requires
+begun-by-requires c κs = search needs
+
 resolve-atom-requires : tie.Need-resolve-atom-requires
 resolve-atom-requires c κs =
-    let start = c .before .before .before .before .before .before .before .before .before .before .before in
-    let at-span-after = c .before .before .before .before .before .before .before .before .span-after in
-    let at-span-after2 = c .before .before .before .before .before .before .span-after2 in
-    let at-span-after3 = c .before .before .before .before .span-after3 in
-    let at-name-in = c .before .before .before .name-in in
-    let at-name-in2 = c .before .before .name-in2 in
+    let start = c .before .before .before .before .before .before .before .before .before .before .before .before .before in
+    let at-span-after = c .before .before .before .before .before .before .before .before .before .before .span-after in
+    let at-span-after2 = c .before .before .before .before .before .before .before .before .span-after2 in
+    let at-span-after3 = c .before .before .before .before .before .before .span-after3 in
+    let at-name-in = c .before .before .before .before .before .name-in in
+    let at-name-in2 = c .before .before .before .before .name-in2 in
+    let at-byte-at = c .before .before .byte-at in
+    let at-begun-by = c .before .begun-by in
     let v = start .args in
-    let p = start .pre in (
+    let p = start .pre in
+    let word = if-word (v .text .now) (v .work .now) (v .c) (v .r) (v .i) (v .n) (v .line) (p .0) (p .2) (p .1) (at-span-after .ensures) (at-name-in .ensures) (at-begun-by .ensures ∙ ap begunBy (at-byte-at .ensures)) in (
       p .0,
       if-atom (v .text .now) (v .work .now) (v .c) (v .r) (v .i) (v .n) (v .line) (p .0) (p .2) (p .1) (at-span-after .ensures) (at-span-after2
-          .ensures) (at-span-after3 .ensures) (at-name-in .ensures) (at-name-in2 .ensures) (c .before .name-in3 .ensures),
+          .ensures) (at-span-after3 .ensures) word (at-name-in2 .ensures) (c .before .before .before .name-in3 .ensures),
     )
 
 enum-known-q : tie.Need-enum-known-q
@@ -60,18 +70,21 @@ same-length c = search needs
 
 returns : tie.Need-returns
 returns c =
-    let start = c .before .before .before .before .before .before .before .before .before .before .before .before .before .before in
-    let at-span-after = c .before .before .before .before .before .before .before .before .before .before .before .span-after in
-    let at-span-after2 = c .before .before .before .before .before .before .before .before .before .span-after2 in
-    let at-span-after3 = c .before .before .before .before .before .before .before .span-after3 in
-    let at-name-in = c .before .before .before .before .before .before .name-in in
-    let at-name-in2 = c .before .before .before .before .before .name-in2 in
-    let at-name-in3 = c .before .before .before .before .name-in3 in
+    let start = c .before .before .before .before .before .before .before .before .before .before .before .before .before .before .before .before in
+    let at-span-after = c .before .before .before .before .before .before .before .before .before .before .before .before .before .span-after in
+    let at-span-after2 = c .before .before .before .before .before .before .before .before .before .before .before .span-after2 in
+    let at-span-after3 = c .before .before .before .before .before .before .before .before .before .span-after3 in
+    let at-name-in = c .before .before .before .before .before .before .before .before .name-in in
+    let at-name-in2 = c .before .before .before .before .before .before .before .name-in2 in
+    let at-name-in3 = c .before .before .before .before .before .before .name-in3 in
     let at-resolve-atom = c .before .before .resolve-atom in
+    let at-byte-at = c .before .before .before .before .before .byte-at in
+    let at-begun-by = c .before .before .before .before .begun-by in
     let v = start .args in
     let p = start .pre in
+    let word = if-word (v .text .now) (v .work .now) (v .c) (v .r) (v .i) (v .n) (v .line) (p .0) (p .2) (p .1) (at-span-after .ensures) (at-name-in .ensures) (at-begun-by .ensures ∙ ap begunBy (at-byte-at .ensures)) in
     if-bad (v .text .now) (v .work .now) (v .c) (v .r) (v .i) (v .n) (v .line) (p .0) (p .2) (p .1) (at-span-after .ensures) (at-span-after2 .ensures)
-    (at-span-after3 .ensures) (at-name-in .ensures) (at-name-in2 .ensures) (at-name-in3 .ensures) (at-resolve-atom .result) (c .enum-told .given .1)
+    (at-span-after3 .ensures) word (at-name-in2 .ensures) (at-name-in3 .ensures) (at-resolve-atom .result) (c .enum-told .given .1)
     (at-resolve-atom .ensures)
 
 row-requires : tie.Need-row-requires
@@ -79,39 +92,45 @@ row-requires c κs = search needs
 
 put-atom-requires : tie.Need-put-atom-requires
 put-atom-requires c κs =
-    let start = c .before .before .before .before .before .before .before .before .before .before .before .before .before .before .before .before .before in
-    let at-span-after = c .before .before .before .before .before .before .before .before .before .before .before .before .before .before .span-after in
-    let at-span-after2 = c .before .before .before .before .before .before .before .before .before .before .before .before .span-after2 in
-    let at-span-after3 = c .before .before .before .before .before .before .before .before .before .before .span-after3 in
-    let at-name-in = c .before .before .before .before .before .before .before .before .before .name-in in
-    let at-name-in2 = c .before .before .before .before .before .before .before .before .name-in2 in
-    let at-name-in3 = c .before .before .before .before .before .before .before .name-in3 in
+    let start = c .before .before .before .before .before .before .before .before .before .before .before .before .before .before .before .before .before .before .before in
+    let at-span-after = c .before .before .before .before .before .before .before .before .before .before .before .before .before .before .before .before .span-after in
+    let at-span-after2 = c .before .before .before .before .before .before .before .before .before .before .before .before .before .before .span-after2 in
+    let at-span-after3 = c .before .before .before .before .before .before .before .before .before .before .before .before .span-after3 in
+    let at-name-in = c .before .before .before .before .before .before .before .before .before .before .before .name-in in
+    let at-name-in2 = c .before .before .before .before .before .before .before .before .before .before .name-in2 in
+    let at-name-in3 = c .before .before .before .before .before .before .before .before .before .name-in3 in
     let at-resolve-atom = c .before .before .before .before .before .resolve-atom in
     let at-q = c .before .before .before .q in
+    let at-byte-at = c .before .before .before .before .before .before .before .before .byte-at in
+    let at-begun-by = c .before .before .before .before .before .before .before .begun-by in
     let v = start .args in
     let p = start .pre in
+    let word = if-word (v .text .now) (v .work .now) (v .c) (v .r) (v .i) (v .n) (v .line) (p .0) (p .2) (p .1) (at-span-after .ensures) (at-name-in .ensures) (at-begun-by .ensures ∙ ap begunBy (at-byte-at .ensures)) in
     let o = if-ok (v .text .now) (v .work .now) (v .c) (v .r) (v .i) (v .n) (v .line) (p .0) (p .2) (p .1) (at-span-after .ensures) (at-span-after2
-    .ensures) (at-span-after3 .ensures) (at-name-in .ensures) (at-name-in2 .ensures) (at-name-in3 .ensures) (at-resolve-atom .result) (at-q .given .0
+    .ensures) (at-span-after3 .ensures) word (at-name-in2 .ensures) (at-name-in3 .ensures) (at-resolve-atom .result) (at-q .given .0
     .0) (at-q .given .1) (at-resolve-atom .ensures) in
     ((p .0 .whole, p .1 .room), (omega (arith, o .kind), (side-bytes _ (o .left), side-bytes _ (o .right))))
 
 put-row-requires : tie.Need-put-row-requires
 put-row-requires c κs =
-    let start = c .before .before .before .before .before .before .before .before .before .before .before .before .before .before .before .before .before .before .before .before .before in
-    let at-span-after = c .before .before .before .before .before .before .before .before .before .before .before .before .before .before .before .before .before .before .span-after in
-    let at-span-after2 = c .before .before .before .before .before .before .before .before .before .before .before .before .before .before .before .before .span-after2 in
-    let at-span-after3 = c .before .before .before .before .before .before .before .before .before .before .before .before .before .before .span-after3 in
-    let at-name-in = c .before .before .before .before .before .before .before .before .before .before .before .before .before .name-in in
-    let at-name-in2 = c .before .before .before .before .before .before .before .before .before .before .before .before .name-in2 in
-    let at-name-in3 = c .before .before .before .before .before .before .before .before .before .before .before .name-in3 in
+    let start = c .before .before .before .before .before .before .before .before .before .before .before .before .before .before .before .before .before .before .before .before .before .before .before in
+    let at-span-after = c .before .before .before .before .before .before .before .before .before .before .before .before .before .before .before .before .before .before .before .before .span-after in
+    let at-span-after2 = c .before .before .before .before .before .before .before .before .before .before .before .before .before .before .before .before .before .before .span-after2 in
+    let at-span-after3 = c .before .before .before .before .before .before .before .before .before .before .before .before .before .before .before .before .span-after3 in
+    let at-name-in = c .before .before .before .before .before .before .before .before .before .before .before .before .before .before .before .name-in in
+    let at-name-in2 = c .before .before .before .before .before .before .before .before .before .before .before .before .before .before .name-in2 in
+    let at-name-in3 = c .before .before .before .before .before .before .before .before .before .before .before .before .before .name-in3 in
     let at-resolve-atom = c .before .before .before .before .before .before .before .before .before .resolve-atom in
     let at-q = c .before .before .before .before .before .before .before .q in
     let at-row = c .before .before .before .before .before .row in
     let at-put-atom = c .before .before .before .put-atom in
+    let at-byte-at = c .before .before .before .before .before .before .before .before .before .before .before .before .byte-at in
+    let at-begun-by = c .before .before .before .before .before .before .before .before .before .before .before .begun-by in
     let v = start .args in
     let p = start .pre in
+    let word = if-word (v .text .now) (v .work .now) (v .c) (v .r) (v .i) (v .n) (v .line) (p .0) (p .2) (p .1) (at-span-after .ensures) (at-name-in .ensures) (at-begun-by .ensures ∙ ap begunBy (at-byte-at .ensures)) in
     let o = if-ok (v .text .now) (v .work .now) (v .c) (v .r) (v .i) (v .n) (v .line) (p .0) (p .2) (p .1) (at-span-after .ensures) (at-span-after2
-    .ensures) (at-span-after3 .ensures) (at-name-in .ensures) (at-name-in2 .ensures) (at-name-in3 .ensures) (at-resolve-atom .result) (at-q .given .0
+    .ensures) (at-span-after3 .ensures) word (at-name-in2 .ensures) (at-name-in3 .ensures) (at-resolve-atom .result) (at-q .given .0
     .0) (at-q .given .1) (at-resolve-atom .ensures) in
     let b = one-bytes 15 0 _ _ (inr refl) (omega arith) (p .1 .room) (p .3) in (
       ap length (at-put-atom .ensures) ∙ (atom-length _ _ _ _ _ (p .0 .whole) (p .1 .room) o ∙ p .0 .whole),
@@ -122,9 +141,9 @@ put-row-requires c κs =
       ),
     )
 
-add-t19 : tie.Need-add-t19
-add-t19 c =
-    let start = c .before .before .before .before .before .before .before .before .before .before .before .before .before .before .before .before .before .before .before .before .before .before .before .before in
+add-t20 : tie.Need-add-t20
+add-t20 c =
+    let start = c .before .before .before .before .before .before .before .before .before .before .before .before .before .before .before .before .before .before .before .before .before .before .before .before .before .before in
     omega (arith, start .pre .1 .room)
 
 same-length-2 : tie.Need-same-length-2
@@ -132,22 +151,25 @@ same-length-2 c = search needs
 
 returns-2 : tie.Need-returns-2
 returns-2 c =
-    let start = c .before .before .before .before .before .before .before .before .before .before .before .before .before .before .before .before .before .before .before .before .before .before .before .before in
-    let at-span-after = c .before .before .before .before .before .before .before .before .before .before .before .before .before .before .before .before .before .before .before .before .before .span-after in
-    let at-span-after2 = c .before .before .before .before .before .before .before .before .before .before .before .before .before .before .before .before .before .before .before .span-after2 in
-    let at-span-after3 = c .before .before .before .before .before .before .before .before .before .before .before .before .before .before .before .before .before .span-after3 in
-    let at-name-in = c .before .before .before .before .before .before .before .before .before .before .before .before .before .before .before .before .name-in in
-    let at-name-in2 = c .before .before .before .before .before .before .before .before .before .before .before .before .before .before .before .name-in2 in
-    let at-name-in3 = c .before .before .before .before .before .before .before .before .before .before .before .before .before .before .name-in3 in
+    let start = c .before .before .before .before .before .before .before .before .before .before .before .before .before .before .before .before .before .before .before .before .before .before .before .before .before .before in
+    let at-span-after = c .before .before .before .before .before .before .before .before .before .before .before .before .before .before .before .before .before .before .before .before .before .before .before .span-after in
+    let at-span-after2 = c .before .before .before .before .before .before .before .before .before .before .before .before .before .before .before .before .before .before .before .before .before .span-after2 in
+    let at-span-after3 = c .before .before .before .before .before .before .before .before .before .before .before .before .before .before .before .before .before .before .before .span-after3 in
+    let at-name-in = c .before .before .before .before .before .before .before .before .before .before .before .before .before .before .before .before .before .before .name-in in
+    let at-name-in2 = c .before .before .before .before .before .before .before .before .before .before .before .before .before .before .before .before .before .name-in2 in
+    let at-name-in3 = c .before .before .before .before .before .before .before .before .before .before .before .before .before .before .before .before .name-in3 in
     let at-resolve-atom = c .before .before .before .before .before .before .before .before .before .before .before .before .resolve-atom in
     let at-q = c .before .before .before .before .before .before .before .before .before .before .q in
     let at-row = c .before .before .before .before .before .before .before .before .row in
     let at-put-atom = c .before .before .before .before .before .before .put-atom in
     let at-put-row = c .before .before .put-row in
+    let at-byte-at = c .before .before .before .before .before .before .before .before .before .before .before .before .before .before .before .byte-at in
+    let at-begun-by = c .before .before .before .before .before .before .before .before .before .before .before .before .before .before .begun-by in
     let v = start .args in
     let p = start .pre in
+    let word = if-word (v .text .now) (v .work .now) (v .c) (v .r) (v .i) (v .n) (v .line) (p .0) (p .2) (p .1) (at-span-after .ensures) (at-name-in .ensures) (at-begun-by .ensures ∙ ap begunBy (at-byte-at .ensures)) in
     if-done (v .text .now) (v .work .now) (v .c) (v .r) (v .i) (v .n) (v .line) (p .0) (p .2) (p .1) (at-span-after .ensures) (at-span-after2
-    .ensures) (at-span-after3 .ensures) (at-name-in .ensures) (at-name-in2 .ensures) (at-name-in3 .ensures) (at-resolve-atom .result) (at-q .given .0
+    .ensures) (at-span-after3 .ensures) word (at-name-in2 .ensures) (at-name-in3 .ensures) (at-resolve-atom .result) (at-q .given .0
     .0) (at-q .given .1) (at-resolve-atom .ensures) (at-put-atom .ensures) (at-put-row .ensures ∙ ap (putRow _ (v .i)) (at-row .ensures))
 
 pub put-if-spec : {M : Type 1} → statement M
@@ -162,6 +184,8 @@ put-if-spec =
     name-in-requires
     name-in-requires-2
     name-in-requires-3
+    byte-at-requires
+    begun-by-requires
     resolve-atom-requires
     enum-known-q
     enum-told
@@ -170,6 +194,6 @@ put-if-spec =
     row-requires
     put-atom-requires
     put-row-requires
-    add-t19
+    add-t20
     same-length-2
     returns-2)

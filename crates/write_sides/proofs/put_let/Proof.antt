@@ -110,7 +110,7 @@ put-row-requires c κs =
     let b = one-bytes 9 _ _ _ (inl refl) (let-variable (v .text .now) (v .work .now) (v .c) (v .r) (v .i) (v .n) (v .line) (p .0) (p .2) (p .1)
     (at-span-after .ensures) (at-span-after2 .ensures) (at-name-in .ensures) (at-name-in2 .ensures) (at-variable .ensures) (at-look .ensures)
     (at-let-fits .ensures) (not-false _ (at-if1 .left))) (p .1 .room) (p .3) in (
-      ap length (at-put-atom .ensures) ∙ (atom-length _ _ 1 Tables.Expr.Null _ (p .0 .whole) (p .1 .room) o ∙ p .0 .whole),
+      ap length (at-put-atom .ensures) ∙ (atom-length _ _ _ Tables.Expr.Null _ (p .0 .whole) (p .1 .room) o ∙ p .0 .whole),
       (
         p .2,
         subst RowBytes (sym

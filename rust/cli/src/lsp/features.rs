@@ -3,15 +3,17 @@
 //! the protocol has them, columns are units of UTF-16.
 
 use super::outline::{Name, Outline};
-use crate::cause::{cause, form_of};
-use crate::json::Json;
-use crate::known;
-use crate::script::Script;
+use crate::library::Library;
+use explain::all::{further, readable};
+use explain::cause::{agreed, explained, form_of, Cause};
+use explain::fix::{fix, Fix, WHOLE};
+use explain::script::Script;
+use explain::{fmt, known, script, Json};
 use model::form::{line_or_kind, next_words, shape_of, AtomShape, Operand, Tail, ATOM_SHAPES};
 use model::text::Reader;
 
 fn line_of(text: &str, line: u32) -> &str {
-    let bytes = crate::script::line(text.as_bytes(), line + 1).unwrap_or_default();
+    let bytes = script::line(text.as_bytes(), line + 1).unwrap_or_default();
     std::str::from_utf8(bytes).unwrap_or("")
 }
 
@@ -44,39 +46,107 @@ fn range(line: u32, from: usize, to: usize) -> Json {
         .with("end", position(line, to))
 }
 
-/// The diagnostics of a text: one, or none if it is accepted.
+/// The words of a diagnostic.
+fn message(number: u32, why: Option<&Cause>) -> String {
+    let title = nuyardi::explain(number).map_or("", |known| known.title);
+    let mut message = why.map_or(title, |cause| &cause.text).to_string();
+    for note in why.iter().flat_map(|cause| &cause.notes) {
+        message.push_str(&format!("\nnote: {note}"));
+    }
+    if let Some(fix) = why.and_then(|cause| cause.fix.as_ref()) {
+        message.push_str(&format!("\nfix: {}", fix.said()));
+    }
+    if let Some(help) = why.and_then(|cause| cause.help.as_ref()) {
+        message.push_str(&format!("\nhelp: {help}"));
+    }
+    message
+}
+
+/// One refusal as the protocol has it.
+fn diagnostic(text: &str, number: u32, line: u32, why: Option<&Cause>) -> Json {
+    let line = line.saturating_sub(1);
+    let shown = line_of(text, line);
+    let mark = why.and_then(|cause| cause.mark.clone());
+    let mark = mark.unwrap_or(0..shown.len());
+    let range = range(line, column(shown, mark.start), column(shown, mark.end));
+    let guide = Json::object().with("href", format!("{GUIDE}{number}"));
+    Json::object()
+        .with("range", range)
+        .with("severity", 1u32)
+        .with("code", number)
+        .with("codeDescription", guide)
+        .with("source", "station")
+        .with("message", message(number, why))
+}
+
+/// What `station explain N` says, as an address.
+const GUIDE: &str = "station:explain/";
+
+/// The diagnostics of a text, the first that of the library; none if it is
+/// accepted.
 pub fn diagnostics(text: &str) -> Json {
     let Err(refusal) = nuyardi::check(text.as_bytes()) else {
         return Json::List(Vec::new());
     };
-    let why = cause(text.as_bytes(), refusal);
+    let why = explained(&mut Library::default(), text.as_bytes(), refusal);
+    let first = diagnostic(text, refusal.number(), refusal.line(), why.as_ref());
+    let others = further(text.as_bytes()).into_iter();
+    let others =
+        others.map(|other| diagnostic(text, other.number, other.line, other.cause.as_ref()));
+    Json::List([first].into_iter().chain(others).collect())
+}
+
+/// The fix of the first refusal, as code actions where it touches the lines that
+/// are asked about.
+pub fn actions(text: &str, uri: &str, from: u32, to: u32) -> Json {
+    let bytes = text.as_bytes();
+    let Err(refusal) = nuyardi::check(bytes) else {
+        return Json::List(Vec::new());
+    };
+    let why = explained(&mut Library::default(), bytes, refusal);
     let line = refusal.line().saturating_sub(1);
-    let shown = line_of(text, line);
-    let mark = why.as_ref().and_then(|cause| cause.mark.clone());
-    let mark = mark.unwrap_or(0..shown.len());
-    let title = nuyardi::explain(refusal.number()).map_or("", |known| known.title);
-    let mut message = why.as_ref().map_or(title, |cause| &cause.text).to_string();
-    for note in why.iter().flat_map(|cause| &cause.notes) {
-        message.push_str(&format!("\nnote: {note}"));
+    let near = (from..=to).contains(&line);
+    let one = why.as_ref().and_then(|why| why.fix.clone());
+    let mut found = Vec::new();
+    for fix in one.filter(|_| near).into_iter().chain(whole(bytes)) {
+        let changes = fix.changes(bytes);
+        let edits = changes.iter().map(|change| {
+            let start = position(change.from.0 - 1, column_in(text, change.from));
+            let end = position(change.to.0 - 1, column_in(text, change.to));
+            let range = Json::object().with("start", start).with("end", end);
+            Json::object()
+                .with("range", range)
+                .with("newText", change.text.as_str())
+        });
+        let edits = Json::object().with(uri, Json::List(edits.collect()));
+        let title = match fix.steps.len() {
+            1 => fix.said(),
+            steps => format!("fix everything that can be fixed ({steps} steps)"),
+        };
+        let action = Json::object()
+            .with("title", title)
+            .with("kind", "quickfix")
+            .with("edit", Json::object().with("changes", edits));
+        found.push(action);
     }
-    if let Some(mend) = why.as_ref().and_then(|cause| cause.mend.as_ref()) {
-        message.push_str(&format!("\nmend: {mend}"));
-    }
-    let found = Json::object()
-        .with(
-            "range",
-            range(line, column(shown, mark.start), column(shown, mark.end)),
-        )
-        .with("severity", 1u32)
-        .with("code", refusal.number())
-        .with("source", "station")
-        .with("message", message);
-    Json::List(vec![found])
+    Json::List(found)
+}
+
+/// The fix of all refusals, if it takes more than one step.
+fn whole(text: &[u8]) -> Option<Fix> {
+    let fix = fix(text, WHOLE).filter(|fix| fix.steps.len() > 1)?;
+    agreed(&mut Library::default(), &fix).then_some(fix)
+}
+
+/// The column of a place in the text, in units of UTF-16.
+fn column_in(text: &str, (line, byte): (u32, u32)) -> usize {
+    column(line_of(text, line - 1), byte as usize - 1)
 }
 
 /// What is known at a line, or the form of its kind of line.
 pub fn hover(text: &str, line: u32) -> Option<Json> {
-    let bytes = text.as_bytes();
+    let patched = readable(text.as_bytes());
+    let bytes = patched.as_deref().unwrap_or(text.as_bytes());
     let word = line_of(text, line).split('\t').next().unwrap_or("");
     let form = shape_of(word.as_bytes()).map(|shape| format!("`{}`", form_of(shape)));
     let known = Script::of(bytes).and_then(|script| {
@@ -96,7 +166,7 @@ pub fn hover(text: &str, line: u32) -> Option<Json> {
 
 /// The whole text in its form, as one edit; none if it has it.
 pub fn formatting(text: &str) -> Json {
-    let better = crate::fmt::formatted(text.as_bytes());
+    let better = fmt::formatted(text.as_bytes());
     if better == text.as_bytes() {
         return Json::List(Vec::new());
     }

@@ -5,7 +5,8 @@ mod features;
 mod framing;
 mod outline;
 
-use crate::json::{parse, Json};
+use crate::session::{DONE, REFUSED};
+use explain::json::{parse, Json};
 use std::collections::HashMap;
 use std::io::{BufRead, Write};
 
@@ -29,6 +30,7 @@ fn capabilities() -> Json {
         .with("hoverProvider", true)
         .with("definitionProvider", true)
         .with("documentFormattingProvider", true)
+        .with("codeActionProvider", true)
         .with("completionProvider", completion);
     let info = Json::object()
         .with("name", "station")
@@ -101,6 +103,13 @@ impl Server {
         if method == "textDocument/formatting" {
             return Some(features::formatting(text));
         }
+        if method == "textDocument/codeAction" {
+            let line = |end: &str| {
+                let line = params.at(&["range", end, "line"])?.int()?;
+                u32::try_from(line.clamp(0, FAR)).ok()
+            };
+            return Some(features::actions(text, uri, line("start")?, line("end")?));
+        }
         let (line, column) = place(params)?;
         match method {
             "textDocument/hover" => features::hover(text, line),
@@ -114,7 +123,8 @@ impl Server {
     }
 
     fn answered(&mut self, id: Json, method: &str, params: &Json) -> Json {
-        const DOCUMENT: [&str; 4] = [
+        const DOCUMENT: [&str; 5] = [
+            "textDocument/codeAction",
             "textDocument/hover",
             "textDocument/completion",
             "textDocument/definition",
@@ -169,9 +179,9 @@ fn served(input: &mut impl BufRead, output: &mut impl Write) -> u8 {
         }
     }
     if server.shut {
-        crate::DONE
+        DONE
     } else {
-        crate::REFUSED
+        REFUSED
     }
 }
 

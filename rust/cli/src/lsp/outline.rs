@@ -1,7 +1,7 @@
 //! What a text declares, also where it is not finished: for completion and for
 //! going to a declaration. Lines that have no form are passed over.
 
-use crate::script::shown;
+use explain::script::shown;
 use model::text::{line, Line};
 
 /// A declared name, its type, and its line from 1.

@@ -2,10 +2,10 @@
 //! the lent areas, with canaries around them and garbage in them before.
 #![allow(dead_code)]
 
-use model::gen::{self, mutate, rng::Rng};
+use generator::{self as gen, mutate, rng::Rng};
 use model::Judged;
-use nuyardi::calls;
 use nuyardi::limits::{BOUNDS_BYTES, RESULTS_BYTES, WORK_BYTES};
+use nuyardi::{calls, Returned};
 use std::fmt;
 
 /// The number that a word of the command line gives, or the usual one.
@@ -99,15 +99,14 @@ pub struct Difference {
 
 impl fmt::Display for Difference {
     fn fmt(&self, f: &mut fmt::Formatter<'_>) -> fmt::Result {
-        let shown = |returned: u32| (returned / 65_536, returned % 65_536);
         writeln!(
             f,
             "{} differs for {:?}: library {:?} {:?}, model {:?} {:?}, on the text",
             self.what,
             self.call,
-            shown(self.library),
+            Returned::of(self.library),
             self.library_results,
-            shown(self.model),
+            Returned::of(self.model),
             self.model_results
         )?;
         write!(
@@ -162,7 +161,7 @@ impl Comparer {
                 own_results.set(garbage, 0);
                 results.set(garbage, 0);
                 (
-                    calls::check(&self.text, own_work.set(garbage, len).area()),
+                    calls::check(&self.text, own_work.set(garbage, len).area()).word(),
                     judged.check_call(work.set(garbage, len).area()),
                 )
             }
@@ -178,11 +177,11 @@ impl Comparer {
                 let work = work.set(garbage, len).area();
                 match by {
                     Runs::Run => (
-                        calls::run(&self.text, own_work, steps, own_results),
+                        calls::run(&self.text, own_work, steps, own_results).word(),
                         judged.run_call(work, steps, results),
                     ),
                     Runs::Trial => (
-                        calls::trial(&self.text, own_work, steps, own_results),
+                        calls::trial(&self.text, own_work, steps, own_results).word(),
                         judged.trial_call(work, steps, results),
                     ),
                 }
@@ -193,7 +192,7 @@ impl Comparer {
                 let own_work = own_work.set(garbage, len).area();
                 let work = work.set(garbage, len).area();
                 (
-                    calls::bound(&self.text, own_work, own_bounds),
+                    calls::bound(&self.text, own_work, own_bounds).word(),
                     judged.bound_call(work, bounds),
                 )
             }
@@ -232,7 +231,7 @@ impl Comparer {
         if rng.below(64) == 0 {
             self.wrong_lengths(text, &judged, rng)?;
         }
-        if tried / 65_536 != model::number::OUT_OF_STEPS && rng.below(8) == 0 {
+        if Returned::of(tried).number() != model::number::OUT_OF_STEPS && rng.below(8) == 0 {
             self.call_judged(text, &judged, run_of(u32::MAX))?;
             self.call_judged(text, &judged, trial_of(u32::MAX))?;
         }
@@ -385,7 +384,7 @@ pub fn compare_seed(
     let mut compare = |rng: &mut Rng, text: &[u8]| -> Result<(), Box<Difference>> {
         let answers = comparer.every(text, rng)?;
         for (counts, returned) in counts.iter_mut().zip(answers) {
-            counts[returned as usize / 65_536] += 1;
+            counts[Returned::of(returned).number() as usize] += 1;
         }
         Ok(())
     };

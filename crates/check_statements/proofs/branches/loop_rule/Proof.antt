@@ -61,7 +61,7 @@ returns-3 c =
     let at-enum-told2 = c .before .before .before .before .before .enum-told2 in
     let at-left = c .before .before .before .before .left in
     let at-right = c .before .before .before .right in
-    invariant-known _ _ _ _ _ _ (at-show-end .ensures) (at-enum-told .given .1) _ _ _ (adds-same _ _ _ _ _ (empty-add _ _ _ _ (at-clear .ensures _ (start .pre .3 .linked .header) .same)) (at-add .ensures)) (at-enum-told2 .given .1) _ _ _ (sides-add _ _ _ _ _ _ _ (at-left .ensures ∙ plain-term _) (at-right .ensures ∙ plain-term _) _ _ _ (c .add-relation .ensures))
+    invariant-known _ _ _ _ _ _ (at-show-end .ensures) (at-enum-told .given .1) _ _ _ (adds-same _ _ _ _ _ (empty-add _ _ _ _ (at-clear .ensures _ (start .pre .3 .linked .header) .same)) (at-add .ensures)) (at-enum-told2 .given .1) _ _ _ (sides-add _ _ _ _ _ _ (at-left .ensures ∙ plain-term _) (at-right .ensures ∙ plain-term _) _ _ _ (c .add-relation .ensures))
 
 pub loop-rule-spec : {M : Type 1} → statement M
 loop-rule-spec =

@@ -2,7 +2,7 @@ use Prim.Native.Nat.{ℕ, _-_, _≤_}
 use Rattle.check_entailment.specs.Answers.{Adds}
 use Rattle.check_state.specs.States.{stateOf, Wf}
 use Rattle.rules.specs.Rules.{addFields}
-use Rattle.rules.specs.Syntax.{Field}
+use Rattle.rules.specs.Syntax.{Field, acc}
 use Rattle.check_statements.proofs.Ruled.{adds-same, after-done, adds-refused, adds-ok, fields-all, permission-more, permission-end}
 use Rattle.tables.specs.Decode.{fieldsFrom}
 use borrow.Author.Needs.{needs}
@@ -10,6 +10,8 @@ use mathlib.Core.List.{List}
 use mathlib.Core.Path.{_≡_, sym, ap, _∙_, subst}
 use native.Mathlib.Omega.{arith}
 use Rattle.rules.specs.State as Rules
+use Rattle.rules.specs.State.{entry}
+use Rattle.check_state.specs.States.{permitOf}
 use Rattle.check_statements.proofs.objects.add_fields.Statement.{statement}
 use Rattle.check_statements.proofs.objects.add_fields.Tie as tie
 
@@ -33,12 +35,13 @@ cast-add-permission c = record { fits = c .field-name-at .ensures .1 }
 
 add-permission-requires : tie.Need-add-permission-requires Inv-loop μ-loop
 add-permission-requires c κs =
-    (c .before .before .before .loop .inv .1 .fit, c .before .before .before .loop .inv .1 .linked .size)
+    (c .before .before .before .loop .inv .1 .fit, c .before .before .before .loop .inv .1 .linked .size, (omega arith, omega arith))
 
 enum-told : tie.Need-enum-told Inv-loop μ-loop
 enum-told c = search needs
 
 returns : tie.Need-returns Inv-loop μ-loop
+unfolding permitOf
 returns c =
     let start = c .before .before .before .before .before .before .before in
     let at-loop = c .before .before .before .before .before .loop in
@@ -46,7 +49,7 @@ returns c =
     let at-field-name-at = c .before .before .field-name-at in
     adds-same _ _ (c .before .add-permission .result) _ _ (sym (at-loop .inv .2 ∙ permission-more (start .args .w .now) (start .args .c) (start .args
     .x) (start .args .n) (at-loop .j) (at-loop-test .taken) (stateOf (start .args .key .now) (at-loop .b)))) (adds-refused _ _ _ _ (subst (λ (f : ℕ).
-    Adds (Rules.addPermission (record { variable = start .args .x; field = f }) (stateOf (start .args .key .now) (at-loop .b))) (c .before
+    Adds (Rules.addPermission (entry acc (start .args .x) f) (stateOf (start .args .key .now) (at-loop .b))) (c .before
     .add-permission .result) (start .args .key .now) (c .before .add-permission .last .0)) (at-field-name-at .ensures .0) (c .before .add-permission
     .ensures _ (at-loop .inv .1))) _ (c .match .keys2))
 
@@ -57,6 +60,7 @@ loop-less : tie.Need-loop-less Inv-loop μ-loop
 loop-less c = omega arith
 
 loop-again : tie.Need-loop-again Inv-loop μ-loop
+unfolding permitOf
 loop-again c =
     let start = c .before .before .before .before .before .before .before .before in
     let at-loop = c .before .before .before .before .before .before .loop in
@@ -67,7 +71,7 @@ loop-again c =
       at-add-permission .ensures _ (at-loop .inv .1) .wf,
       at-loop .inv .2 ∙ permission-more (start .args .w .now) (start .args .c) (start
           .args .x) (start .args .n) (at-loop .j) (at-loop-test .taken) (stateOf (start .args .key .now) (at-loop .b)) ∙ after-done _ _ _ (subst (λ (f :
-          ℕ). Adds (Rules.addPermission (record { variable = start .args .x; field = f }) (stateOf (start .args .key .now) (at-loop .b))) (at-add-permission
+          ℕ). Adds (Rules.addPermission (entry acc (start .args .x) f) (stateOf (start .args .key .now) (at-loop .b))) (at-add-permission
           .result) (start .args .key .now) (at-add-permission .last .0)) (at-field-name-at .ensures .0) (at-add-permission .ensures _ (at-loop .inv .1)) .same) _
           (c .enum-told .given .1),
     )

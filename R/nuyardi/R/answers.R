@@ -1,0 +1,64 @@
+# What the calls answer.
+
+# Every number in words, as the header station.h has them.
+meanings <- c(
+  "0" = "accepted; main's `end` done",
+  "1" = "a lent area of wrong length",
+  "2" = "text too long",
+  "3" = "byte other than tab, LF, 33 to 126; last line without LF",
+  "4" = "unknown word, count or form of fields, line out of place",
+  "5" = "a limit of the text passed",
+  "6" = "name undeclared, not allowed, reserved, declared twice",
+  "7" = "wrong type",
+  "8" = "text ends before main's `end`",
+  "9" = "variable that may not be assigned; `call x` with x as y or z",
+  "10" = "path read before its `acc` or `read`",
+  "11" = "path that does not resolve",
+  "12" = "permission not shown",
+  "13" = "`eq` or `ne` not shown",
+  "14" = "checker's state full",
+  "15" = "`loop`, or `call` that can lead back to its own method",
+  "16" = "bound above 1000000 steps",
+  "21" = "allowed steps taken",
+  "22" = "more than 256 objects or 1024 fields",
+  "23" = "more than 64 frames",
+  "24" = "permission missing",
+  "25" = "null followed",
+  "26" = "formula false",
+  "27" = "sum or difference beyond 32 bits signed"
+)
+
+# Does check refuse a text with the number?
+refuses <- function(number) number >= 2 && number <= 14
+
+# An answer: number, line, what the number means, and more.
+answer <- function(returned, more) {
+  meaning <- meanings[as.character(returned[1L])]
+  if (is.na(meaning)) stop("number ", returned[1L], ": the library is not of this package's version")
+  first <- list(number = as.integer(returned[1L]), line = as.integer(returned[2L]), meaning = unname(meaning))
+  structure(c(first, more), class = "station_answer")
+}
+
+# Main's variables, of a text that was run: name, type and value. An object is its number from 1, null is NA.
+variables <- function(bytes, values) {
+  lines <- strsplit(rawToChar(bytes), "\n", fixed = TRUE)[[1L]]
+  main <- match("main", lines, nomatch = length(lines))
+  after <- lines[seq_along(lines) > main]
+  count <- match(FALSE, startsWith(after, "var\t"), nomatch = length(after) + 1L) - 1L
+  fields <- strsplit(after[seq_len(count)], "\t", fixed = TRUE)
+  type <- vapply(fields, `[`, "", 2L)
+  value <- values[seq_len(count)]
+  value[type != "int" & value == 0] <- NA
+  data.frame(name = vapply(fields, `[`, "", 3L), type = type, value = value, stringsAsFactors = FALSE)
+}
+
+print.station_answer <- function(x, ...) {
+  place <- if (x$line > 0) paste0("line ", x$line, ": ") else ""
+  cat(place, x$meaning, " (number ", x$number, ")\n", sep = "")
+  if (!is.null(x$steps) && !is.na(x$steps)) {
+    most <- if (is.null(x$frames)) "" else paste0(" at most, ", x$frames, " frames")
+    cat(format(x$steps, big.mark = ","), " steps", most, "\n", sep = "")
+  }
+  if (!is.null(x$variables) && nrow(x$variables) > 0L) print(x$variables, row.names = FALSE)
+  invisible(x)
+}

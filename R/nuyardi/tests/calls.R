@@ -1,0 +1,68 @@
+# The calls on scripts with known answers, and what they refuse.
+library(nuyardi)
+
+text <- function(...) paste0(gsub(" ", "\t", c(...)), "\n", collapse = "")
+worked <- text(
+  "class S", "field S prev", "field int n", "method int tag int k", "requires acc this n",
+  "ensures acc this n eq this.n k", "set this n k", "return k", "end", "main", "var S s", "var int a",
+  "var int b", "new s S", "let a 7", "call b s tag a", "assert eq s.n 7", "assert eq s.prev null", "end")
+
+refuses <- function(expression, words) {
+  said <- tryCatch({ expression; "no error" }, error = conditionMessage)
+  if (!grepl(words, said, fixed = TRUE)) stop("expected '", words, "', got '", said, "'")
+}
+
+# The worked script.
+checked <- station_check(worked)
+stopifnot(checked$number == 0L, checked$line == 0L, checked$accepted)
+for (call in list(station_run, station_trial)) {
+  ended <- call(worked, 1000)
+  stopifnot(ended$number == 0L, ended$line == 19L, ended$steps == 8, ended$finished, !ended$refused,
+            identical(ended$variables,
+                      data.frame(name = c("s", "a", "b"), type = c("S", "int", "int"), value = c(1, 7, 7),
+                                 stringsAsFactors = FALSE)))
+}
+bound <- station_bound(worked)
+stopifnot(bound$bounded, bound$steps == 9, bound$frames == 2)
+stopifnot(station_run(worked, 7)$number == 21L, identical(station_check(charToRaw(worked)), checked))
+
+# Without the permission.
+bare <- sub("requires\tacc\tthis\tn\n", "requires\n", worked, fixed = TRUE)
+stopifnot(station_check(bare)$number == 12L, station_check(bare)$line == 7L, !station_check(bare)$accepted)
+stopifnot(station_run(bare)$refused, nrow(station_run(bare)$variables) == 0L, station_trial(bare)$number == 24L)
+
+# Values at the ends, null, no bound, texts of any bytes.
+ends <- station_run(text("class S", "main", "var S s", "var int a", "var int b", "let a -2147483648", "let b 2147483647", "end"))
+stopifnot(identical(ends$variables$value, c(NA, -2147483648, 2147483647)))
+looped <- station_bound(text("main", "loop eq 1 1", "again", "end"))
+stopifnot(looped$number == 15L, looped$line == 2L, !looped$bounded, is.na(looped$steps), is.na(looped$frames))
+stopifnot(station_check("")$number == 8L, station_check(raw())$number == 8L, station_check(as.raw(0:255))$number == 3L,
+          station_check(raw(40000))$number == 2L, station_run(raw())$refused)
+stopifnot(nrow(station_run(text("main", "end"))$variables) == 0L)
+
+# A file.
+path <- tempfile()
+writeBin(charToRaw(worked), path)
+stopifnot(identical(station_script(path), charToRaw(worked)))
+refuses(station_script(file.path(path, "none")), "there is no file")
+
+# Misuse.
+for (call in list(station_check, station_run, station_trial, station_bound)) {
+  for (wrong in list(NULL, 5, NA_character_, c("main", "end"), list(), quote(x)))
+    refuses(call(wrong), "text must be a raw vector or one string")
+}
+for (call in list(station_run, station_trial)) {
+  for (wrong in list(-1, 0.5, 4294967296, Inf)) refuses(call(worked, wrong), "steps must be a whole number")
+  for (wrong in list(NULL, NA, "9", 1:2, TRUE)) refuses(call(worked, wrong), "steps must be one number")
+  stopifnot(call(worked, 4294967295)$finished, call(worked, 0)$number == 21L)
+}
+
+# Below the R functions the C functions test what they are given too.
+refuses(.Call(nuyardi:::nuyardi_check, NULL), "text is no raw vector")
+refuses(.Call(nuyardi:::nuyardi_check, "main"), "text is no raw vector")
+refuses(.Call(nuyardi:::nuyardi_run, raw(), NULL), "steps is no number")
+refuses(.Call(nuyardi:::nuyardi_run, raw(), -1), "steps must be a whole number")
+
+# Words for people.
+stopifnot(identical(capture.output(print(station_check(bare))), "line 7: permission not shown (number 12)"))
+stopifnot(identical(capture.output(print(bound))[2L], "9 steps at most, 2 frames"))

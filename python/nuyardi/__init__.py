@@ -1,0 +1,47 @@
+"""Check and run catalogue scripts by the proved library.
+
+    >>> import nuyardi
+    >>> text = b"main\\nvar\\tint\\ta\\nlet\\ta\\t7\\nend\\n"
+    >>> nuyardi.check(text).accepted
+    True
+    >>> nuyardi.run(text, 1000).variable("a").value
+    7
+    >>> nuyardi.bound(text).steps
+    2
+
+`check`, `run`, `trial` and `bound` answer with what the library returns: a refusal is an answer. Only misuse is an exception:
+a text that is not bytes (TypeError), steps out of range (ValueError), a library that is not there (LibraryNotFound).
+
+`explain`, `trace` and `draw` need a second library, libnuyardi_explain.so, and raise LibraryNotFound without it. The functions of
+`nuyardi.calls` work over areas of the caller's own.
+"""
+
+from ._explain import Drawing, draw, explain, explain_run, trace
+from ._library import LibraryError, LibraryMismatch, LibraryNotFound
+from ._version import __version__
+from .answers import Bounded, Checked, Object, Ran, Value, Variable
+from .numbers import Number
+from .scripts import bound, check, run, trial
+
+__all__ = [
+    "Bounded",
+    "Checked",
+    "Drawing",
+    "LibraryError",
+    "LibraryMismatch",
+    "LibraryNotFound",
+    "Number",
+    "Object",
+    "Ran",
+    "Value",
+    "Variable",
+    "__version__",
+    "bound",
+    "check",
+    "draw",
+    "explain",
+    "explain_run",
+    "run",
+    "trace",
+    "trial",
+]

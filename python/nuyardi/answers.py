@@ -1,0 +1,129 @@
+"""What the calls answer, as frozen dataclasses."""
+
+import re
+import struct
+from dataclasses import dataclass
+from typing import Iterator, Optional, Tuple, Union
+
+from ._library import LibraryMismatch
+from .numbers import VALUES, Number
+
+
+@dataclass(frozen=True)
+class Object:
+    """An object, by its number from 1."""
+
+    number: int
+
+
+#: What a variable holds: a number, an object, or None for null.
+Value = Union[int, Object, None]
+
+
+@dataclass(frozen=True)
+class Variable:
+    """A variable of main after a run; its type is `int` or the name of a class."""
+
+    name: str
+    type: str
+    value: Value
+
+
+@dataclass(frozen=True)
+class _Answer:
+    number: Number
+    line: int
+
+    def __str__(self) -> str:
+        place = f"line {self.line}: " if self.line else ""
+        return f"{place}{self.number.meaning} (number {int(self.number)})"
+
+
+@dataclass(frozen=True)
+class Checked(_Answer):
+    """What check says: number 0, or 2 to 14 with the line, which is 0 where the whole text is refused."""
+
+    @property
+    def accepted(self) -> bool:
+        return self.number == Number.DONE
+
+
+@dataclass(frozen=True)
+class Ran(_Answer):
+    """How a run ended: its number and line, the steps taken, and main's variables, none if the text was not run."""
+
+    steps: int
+    values: Tuple[int, ...]
+    variables: Tuple[Variable, ...]
+
+    @property
+    def finished(self) -> bool:
+        """Is main's `end` done?"""
+        return self.number == Number.DONE
+
+    @property
+    def refused(self) -> bool:
+        """Was the text not run?"""
+        return self.number.refuses
+
+    def variable(self, name: str) -> Variable:
+        """Main's variable of a name."""
+        for variable in self.variables:
+            if variable.name == name:
+                return variable
+        raise KeyError(name)
+
+
+@dataclass(frozen=True)
+class Bounded(_Answer):
+    """The most that a run can take; None where there is no bound, and then the number says why."""
+
+    steps: Optional[int]
+    frames: Optional[int]
+
+    @property
+    def bounded(self) -> bool:
+        return self.number == Number.DONE
+
+
+def _parted(returned: int) -> Tuple[Number, int]:
+    number, line = divmod(returned, 65536)
+    try:
+        return Number(number), line
+    except ValueError:
+        raise LibraryMismatch(f"number {number}: the library is not of this package's version") from None
+
+
+def _declared(text: bytes) -> Iterator[Tuple[str, str]]:
+    """The types and names of main's `var` lines, of a text that was run."""
+    main = re.search(rb"^main\n((?:var\t[^\n]*\n)*)", text, re.MULTILINE)
+    for line in main.group(1).decode("ascii").splitlines() if main else ():
+        _, kind, name = line.split("\t")
+        yield kind, name
+
+
+def _held(kind: str, value: int) -> Value:
+    if kind == "int":
+        return value
+    return Object(value) if value else None
+
+
+def checked(returned: int) -> Checked:
+    """What check returned."""
+    return Checked(*_parted(returned))
+
+
+def ran(returned: int, text: bytes, results: bytes) -> Ran:
+    """What run or trial returned for a text, and left in the results area."""
+    number, line = _parted(returned)
+    steps, *values = struct.unpack(f"<I{VALUES}i", results)
+    declared = () if number.refuses else _declared(text)
+    variables = tuple(Variable(name, kind, _held(kind, value)) for (kind, name), value in zip(declared, values))
+    return Ran(number, line, steps, tuple(values), variables)
+
+
+def bounded(returned: int, bounds: bytes) -> Bounded:
+    """What bound returned, and left in the bounds area."""
+    number, line = _parted(returned)
+    steps, frames = struct.unpack("<II", bounds)
+    return Bounded(number, line, steps, frames) if number == Number.DONE else Bounded(number, line, None, None)

@@ -1,0 +1,112 @@
+"""The calls over areas of the caller's own, with what they return as it comes: number * 65536 + line.
+
+What C can not check is checked here before the call: an area is a writable buffer of the right length (a bytearray, a writable
+memoryview of bytes), and overlaps neither another area nor the text. There are no null pointers: a buffer always has an address. The
+buffers can not be resized or freed during the call. That no other thread writes to them during it is left to the caller.
+
+Most callers want nuyardi.check, nuyardi.run, nuyardi.trial and nuyardi.bound, which need no areas.
+"""
+
+import ctypes
+from typing import Any, Tuple, Union
+
+from . import _library
+from .numbers import BOUNDS_BYTES, MOST_STEPS, RESULTS_BYTES, WORK_BYTES
+
+#: A writable buffer of bytes.
+Area = Union[bytearray, memoryview, "ctypes.Array[Any]"]
+#: A text: bytes, or a writable buffer with a text in it.
+Text = Union[bytes, Area]
+
+
+class _Lent:
+    """A buffer as the call is lent it: its name in messages, its address and its length. It keeps the buffer from moving."""
+
+    def __init__(self, name: str, length: int, address: int, owner: object) -> None:
+        self.name, self.length, self.address, self._owner = name, length, address, owner
+
+    def overlaps(self, other: "_Lent") -> bool:
+        end, other_end = self.address + self.length, other.address + other.length
+        return max(self.address, other.address) < min(end, other_end)
+
+
+def _buffer(name: str, buffer: Any) -> _Lent:
+    """A writable buffer, lent."""
+    try:
+        view = memoryview(buffer)
+    except TypeError:
+        raise TypeError(f"{name} is no buffer of bytes: {type(buffer).__name__}") from None
+    if view.readonly or not view.c_contiguous or view.itemsize != 1:
+        raise TypeError(f"{name} is no writable buffer of bytes, one after the other")
+    kept = (ctypes.c_ubyte * view.nbytes).from_buffer(buffer)
+    return _Lent(name, view.nbytes, ctypes.addressof(kept), kept)
+
+
+def _text(text: Any) -> _Lent:
+    if isinstance(text, bytes):
+        address = ctypes.cast(ctypes.c_char_p(text), ctypes.c_void_p).value
+        return _Lent("text", len(text), address or 0, text)
+    if isinstance(text, str):
+        raise TypeError('text is a str, not bytes: give text.encode("ascii")')
+    return _buffer("text", text)
+
+
+def _area(name: str, area: Any, length: int) -> _Lent:
+    lent = _buffer(name, area)
+    if lent.length != length:
+        raise ValueError(f"{name} has {lent.length} bytes, and must have {length}")
+    return lent
+
+
+def steps_in_range(steps: Any) -> int:
+    """The steps, if they are a number from 0 to 4294967295."""
+    if isinstance(steps, bool) or not isinstance(steps, int):
+        raise TypeError(f"steps is no int: {type(steps).__name__}")
+    if not 0 <= steps <= MOST_STEPS:
+        raise ValueError(f"steps is {steps}, and must be from 0 to {MOST_STEPS}")
+    return steps
+
+
+def _apart(*lent: _Lent) -> None:
+    for at, one in enumerate(lent):
+        for other in lent[at + 1 :]:
+            if one.overlaps(other):
+                raise ValueError(f"{one.name} and {other.name} overlap")
+
+
+def _pair(lent: _Lent) -> Tuple[int, int]:
+    return lent.address, lent.length
+
+
+def check(text: Text, work: Area) -> int:
+    """station_check. Afterwards work is all zero."""
+    said, room = _text(text), _area("work", work, WORK_BYTES)
+    _apart(said, room)
+    return int(_library.station().station_check(*_pair(said), *_pair(room)))
+
+
+def _ran(function: str, text: Text, work: Area, steps: int, results: Area) -> int:
+    said, room = _text(text), _area("work", work, WORK_BYTES)
+    left = _area("results", results, RESULTS_BYTES)
+    _apart(said, room, left)
+    allowed = steps_in_range(steps)
+    call = getattr(_library.station(), function)
+    return int(call(*_pair(said), *_pair(room), allowed, *_pair(left)))
+
+
+def run(text: Text, work: Area, steps: int, results: Area) -> int:
+    """station_run. Afterwards work is all zero, and results has the steps and the values, 4 bytes each, low byte first."""
+    return _ran("station_run", text, work, steps, results)
+
+
+def trial(text: Text, work: Area, steps: int, results: Area) -> int:
+    """station_trial: as run, of a text that check may refuse."""
+    return _ran("station_trial", text, work, steps, results)
+
+
+def bound(text: Text, work: Area, bounds: Area) -> int:
+    """station_bound. Afterwards work is all zero, and bounds has the steps and the frames, 4 bytes each, low byte first."""
+    said, room = _text(text), _area("work", work, WORK_BYTES)
+    left = _area("bounds", bounds, BOUNDS_BYTES)
+    _apart(said, room, left)
+    return int(_library.station().station_bound(*_pair(said), *_pair(room), *_pair(left)))

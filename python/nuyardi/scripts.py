@@ -1,0 +1,44 @@
+"""check, run, trial and bound, each with areas of its own: calls may run in any number of threads."""
+
+from typing import Any
+
+from . import answers, calls
+from .answers import Bounded, Checked, Ran
+from .numbers import BOUNDS_BYTES, RESULTS_BYTES, WORK_BYTES
+
+
+def script_bytes(text: Any) -> bytes:
+    """The text, if it is bytes: these nobody changes during a call."""
+    if isinstance(text, bytes):
+        return text
+    mend = 'text.encode("ascii")' if isinstance(text, str) else "bytes(text)"
+    raise TypeError(f"text is not bytes but {type(text).__name__}: give {mend}")
+
+
+def check(text: bytes) -> Checked:
+    """Is the text a script that keeps to its permissions?"""
+    return answers.checked(calls.check(script_bytes(text), bytearray(WORK_BYTES)))
+
+
+def run(text: bytes, steps: int) -> Ran:
+    """Checks the text, and if it is accepted runs it for at most so many steps.
+
+    The number is 2 to 14 where check refuses the text, and else 0, 21, 22, 23 or 27: never 24, 25 or 26, by a theorem.
+    """
+    results = bytearray(RESULTS_BYTES)
+    returned = calls.run(script_bytes(text), bytearray(WORK_BYTES), steps, results)
+    return answers.ran(returned, text, results)
+
+
+def trial(text: bytes, steps: int) -> Ran:
+    """Runs the text as run does, without checking it before; the machine tests every permission."""
+    results = bytearray(RESULTS_BYTES)
+    returned = calls.trial(script_bytes(text), bytearray(WORK_BYTES), steps, results)
+    return answers.ran(returned, text, results)
+
+
+def bound(text: bytes) -> Bounded:
+    """The most steps and frames that a run of the text can take, known before it."""
+    bounds = bytearray(BOUNDS_BYTES)
+    returned = calls.bound(script_bytes(text), bytearray(WORK_BYTES), bounds)
+    return answers.bounded(returned, bounds)

@@ -1,0 +1,109 @@
+"""The calls over areas of the caller's own: what they leave there, and the areas that they refuse."""
+
+import ctypes
+import struct
+import unittest
+
+from nuyardi import calls
+from nuyardi.numbers import BOUNDS_BYTES, RESULTS_BYTES, TEXT_BYTES, WORK_BYTES
+
+from . import example
+
+WORKED = example("worked.txt")
+
+
+def filled(length: int) -> bytearray:
+    return bytearray(b"\xa5" * length)
+
+
+class Areas(unittest.TestCase):
+    def setUp(self):
+        self.work, self.results, self.bounds = filled(WORK_BYTES), filled(RESULTS_BYTES), filled(BOUNDS_BYTES)
+
+    def every_call(self, text=WORKED, work=None, results=None, bounds=None):
+        """Each call, with these in place of its usual words."""
+        work = self.work if work is None else work
+        results = self.results if results is None else results
+        bounds = self.bounds if bounds is None else bounds
+        yield lambda: calls.check(text, work)
+        yield lambda: calls.run(text, work, 1000, results)
+        yield lambda: calls.trial(text, work, 1000, results)
+        yield lambda: calls.bound(text, work, bounds)
+
+    def refused(self, error, message, which=slice(None), **words):
+        for call in list(self.every_call(**words))[which]:
+            with self.assertRaisesRegex(error, message):
+                call()
+        self.assertEqual(set(self.work) | set(self.results) | set(self.bounds), {0xA5}, "an area was changed")
+
+    def test_what_is_left(self):
+        self.assertEqual(calls.check(WORKED, self.work), 0)
+        self.assertEqual(set(self.work), {0})
+        for call in [calls.run, calls.trial]:
+            results = filled(RESULTS_BYTES)
+            self.assertEqual(call(WORKED, filled(WORK_BYTES), 1000, results), 19)
+            self.assertEqual(struct.unpack("<I12i", results), (8, 1, 7, 7) + (0,) * 9)
+        self.assertEqual(calls.bound(WORKED, self.work, self.bounds), 0)
+        self.assertEqual(struct.unpack("<II", self.bounds), (9, 2))
+        self.assertEqual(calls.check(b"main\n", self.work), 8 * 65536 + 1)
+
+    def test_every_kind_of_buffer(self):
+        for text in [WORKED, bytearray(WORKED), memoryview(bytearray(WORKED)), (ctypes.c_ubyte * len(WORKED))(*WORKED)]:
+            for call, returned in zip(self.every_call(text=text), [0, 19, 19, 0]):
+                self.assertEqual(call(), returned)
+        whole = filled(WORK_BYTES + RESULTS_BYTES + len(WORKED))
+        view = memoryview(whole)
+        text, work = view[: len(WORKED)], view[len(WORKED) : len(WORKED) + WORK_BYTES]
+        text[:] = WORKED
+        self.assertEqual(calls.run(text, work, 1000, view[len(WORKED) + WORK_BYTES :]), 19)
+
+    def test_empty_text(self):
+        for text in [b"", bytearray()]:
+            self.assertEqual(calls.check(text, self.work), 8 * 65536)
+
+    def test_wrong_lengths(self):
+        for length in [0, 1, WORK_BYTES - 1, WORK_BYTES + 1]:
+            self.refused(ValueError, f"work has {length} bytes, and must have {WORK_BYTES}", work=filled(length))
+        self.refused(ValueError, "results has 51 bytes, and must have 52", slice(1, 3), results=filled(51))
+        self.refused(ValueError, "bounds has 9 bytes, and must have 8", slice(3, 4), bounds=filled(9))
+
+    def test_no_buffer(self):
+        """Null pointers among them."""
+        for nothing in [None, 0, 5, "text", object()]:
+            self.refused(TypeError, "text is", text=nothing if nothing is not None else 0)
+        for call in [lambda: calls.check(None, self.work), lambda: calls.check(WORKED, None)]:
+            with self.assertRaises(TypeError):
+                call()
+        self.refused(TypeError, "work is no writable buffer", work=bytes(WORK_BYTES))
+        self.refused(TypeError, "work is no writable buffer", work=memoryview(filled(2 * WORK_BYTES))[::2])
+        self.refused(TypeError, "results is no writable buffer", slice(1, 3), results=bytes(RESULTS_BYTES))
+
+    def test_overlapping_areas(self):
+        shared = memoryview(filled(WORK_BYTES + TEXT_BYTES))
+        work = shared[:WORK_BYTES]
+        for at in [WORK_BYTES - 1, WORK_BYTES - RESULTS_BYTES, 0]:
+            results, bounds = shared[at : at + RESULTS_BYTES], shared[at : at + BOUNDS_BYTES]
+            self.refused(ValueError, "work and (results|bounds) overlap", slice(1, 4), work=work, results=results, bounds=bounds)
+            self.refused(ValueError, "text and work overlap", text=shared[at : at + 100], work=work)
+        self.refused(ValueError, "text and results overlap", slice(1, 3), text=self.results)
+        self.refused(ValueError, "work and results overlap", slice(1, 3), results=memoryview(self.work)[:RESULTS_BYTES])
+        self.assertEqual(set(shared), {0xA5})
+        beside = shared[WORK_BYTES : WORK_BYTES + RESULTS_BYTES]
+        self.assertEqual(calls.run(WORKED, work, 1000, beside), 19)
+
+    def test_overlap_with_bytes(self):
+        """An area that someone lays over the bytes of a text."""
+        text = bytes(WORK_BYTES)
+        address = ctypes.cast(ctypes.c_char_p(text), ctypes.c_void_p).value
+        over = (ctypes.c_ubyte * WORK_BYTES).from_address(address)
+        with self.assertRaisesRegex(ValueError, "text and work overlap"):
+            calls.check(text, over)
+
+    def test_steps(self):
+        for steps in [-1, 2**32]:
+            with self.assertRaises(ValueError):
+                calls.run(WORKED, self.work, steps, self.results)
+
+
+if __name__ == "__main__":
+    unittest.main()

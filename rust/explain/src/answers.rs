@@ -1,0 +1,77 @@
+//! Who answers for a text: the proved library, or the model.
+
+use nuyardi::limits::{BOUNDS_BYTES, RESULTS_BYTES, WORK_BYTES};
+use nuyardi::{Bound, NoBound, Outcome, Refusal, Returned};
+
+/// Who gives the numbers, lines, steps and values that are explained.
+pub trait Answers {
+    /// Is the text accepted?
+    fn check(&mut self, text: &[u8]) -> Result<(), Refusal>;
+
+    /// A run of at most so many steps, of a text that is accepted.
+    fn run<'t>(&mut self, text: &'t [u8], steps: u32) -> Result<Outcome<'t>, Refusal>;
+
+    /// A run of at most so many steps, of each text that the reader takes.
+    fn trial<'t>(&mut self, text: &'t [u8], steps: u32) -> Outcome<'t>;
+
+    /// The most that a run can take.
+    fn bound(&mut self, text: &[u8]) -> Result<Bound, NoBound>;
+}
+
+#[cfg(feature = "library")]
+impl Answers for nuyardi::Station {
+    fn check(&mut self, text: &[u8]) -> Result<(), Refusal> {
+        nuyardi::Station::check(self, text).map(|_| ())
+    }
+
+    fn run<'t>(&mut self, text: &'t [u8], steps: u32) -> Result<Outcome<'t>, Refusal> {
+        nuyardi::Station::run(self, text, steps).map(Outcome::from)
+    }
+
+    fn trial<'t>(&mut self, text: &'t [u8], steps: u32) -> Outcome<'t> {
+        nuyardi::Station::trial(self, text, steps)
+    }
+
+    fn bound(&mut self, text: &[u8]) -> Result<Bound, NoBound> {
+        nuyardi::Station::bound(self, text)
+    }
+}
+
+/// The model, for programs that have no proved library at hand.
+#[derive(Clone, Copy, Debug, Default)]
+pub struct Model;
+
+/// A call of the model that runs a text.
+type Runs = fn(&[u8], &mut [u8], u32, &mut [u8]) -> u32;
+
+impl Model {
+    fn ran<'t>(call: Runs, text: &'t [u8], steps: u32) -> (Returned, Outcome<'t>) {
+        let (mut work, mut results) = (vec![0; WORK_BYTES], [0; RESULTS_BYTES]);
+        let returned = Returned::of(call(text, &mut work, steps, &mut results));
+        let outcome = returned.outcome(text, &results);
+        (returned, outcome.expect("a number of the table"))
+    }
+}
+
+impl Answers for Model {
+    fn check(&mut self, text: &[u8]) -> Result<(), Refusal> {
+        let returned = model::check_call(text, &mut vec![0; WORK_BYTES]);
+        Returned::of(returned).refusal().map_or(Ok(()), Err)
+    }
+
+    fn run<'t>(&mut self, text: &'t [u8], steps: u32) -> Result<Outcome<'t>, Refusal> {
+        let (returned, outcome) = Model::ran(model::run_call, text, steps);
+        returned.refusal().map_or(Ok(outcome), Err)
+    }
+
+    fn trial<'t>(&mut self, text: &'t [u8], steps: u32) -> Outcome<'t> {
+        Model::ran(model::trial_call, text, steps).1
+    }
+
+    fn bound(&mut self, text: &[u8]) -> Result<Bound, NoBound> {
+        let (mut work, mut bounds) = (vec![0; WORK_BYTES], [0; BOUNDS_BYTES]);
+        let returned = Returned::of(model::bound_call(text, &mut work, &mut bounds));
+        let bound = returned.bound(&bounds);
+        bound.expect("a number of the table")
+    }
+}

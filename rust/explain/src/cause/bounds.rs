@@ -1,0 +1,89 @@
+//! Numbers 15 and 16: why an accepted text has no bound.
+
+use super::Cause;
+use crate::routes::Routes;
+use crate::script::{quoted, shown, Script};
+use crate::show::{counted, grouped};
+use model::limits;
+use model::names::Action;
+use nuyardi::Excess;
+
+/// Why there is no bound, where the model agrees.
+pub fn bound_cause(text: &[u8], excess: Excess, line: u32) -> Option<Cause> {
+    let found = model::bound(text);
+    let script = Script::of(text)?;
+    if (found.number, found.line) != (excess.number(), line) {
+        return None;
+    }
+    match excess {
+        Excess::Unbounded => unbounded(&script, line),
+        Excess::BoundPassed => Some(passed(&script)),
+        _ => None,
+    }
+}
+
+/// A `loop`, or a call that leads back to its own method.
+fn unbounded(script: &Script, line: u32) -> Option<Cause> {
+    let place = script.statement_at(line)?;
+    let block = script.block_of(place);
+    let routes = Routes::of(script);
+    let cause = match &script.program.statements[place].action {
+        Action::Loop(rounds) => {
+            let again = script.program.statements[rounds.again].line;
+            Cause::new("how often the loop goes round shows in a run alone")
+                .note(format!("its rounds end at line {again}: `again`"))
+        }
+        Action::Call(call) => {
+            let own = script.names(block).title();
+            match call.method == block {
+                true => Cause::new(format!("here {own} calls itself")),
+                false => ring(script, &routes, line, block, call.method)?,
+            }
+        }
+        _ => return None,
+    };
+    Some(match routes.is_called(block) {
+        true => cause,
+        false => cause
+            .note(format!(
+                "no call of main leads to {}",
+                script.names(block).title()
+            ))
+            .help("leave the method out, if nothing is to call it"),
+    })
+}
+
+/// The calls by which a method comes back to itself, by way of others.
+fn ring(script: &Script, routes: &Routes, line: u32, block: usize, method: usize) -> Option<Cause> {
+    let back = routes.way(method, block)?;
+    let said = format!("this call leads back to {}", script.names(block).title());
+    let lines = [line].into_iter().chain(back.iter().map(|call| call.line));
+    let callers = [block, method].into_iter();
+    let callers = callers.chain(back.iter().map(|call| call.method));
+    let legs = lines.zip(callers).map(|(line, caller)| {
+        let header = script.program.blocks[caller].header;
+        let name = header.map_or_else(String::new, |header| shown(header.name));
+        let call = quoted(script.text, line);
+        format!("line {line}, in `{name}`: `{call}`")
+    });
+    Some(legs.fold(Cause::new(said), Cause::note))
+}
+
+/// A bound above the limit, and the method that has most of it.
+fn passed(script: &Script) -> Cause {
+    let routes = Routes::of(script);
+    let all = routes.dearest().first().map_or(0, |main| main.bound);
+    let (block, times) = routes.heaviest();
+    let lines = script.program.body(block).len() as u128;
+    let said = format!(
+        "main's lines and calls come to {}, and {} are the most for a bound",
+        counted(all, "step"),
+        grouped(u128::from(limits::BOUND))
+    );
+    Cause::new(said).note(format!(
+        "{} has the most of them: {}, done {}",
+        script.names(block).title(),
+        counted(lines, "line"),
+        counted(times, "time")
+    ))
+}
