@@ -6,6 +6,8 @@ pub mod Dropping
 pub mod FormedStates
 pub mod Rising
 pub mod Sets
+pub mod Walks
+pub mod Footprints
 pub mod Heaps
 pub mod States
 pub mod Counting

@@ -18,16 +18,16 @@ use Rattle.soundness.proofs.ShowSound.{equal-value}
 -- a listed path, by the checker's test
 pub reads-listed : (ps : List Permission) (x f : ℕ) → Listed ps x f → T (lists ps (path x f))
 unfolding pathOf
-reads-listed ps x f (k, i) = entry-listed ps (entry k x f) i
+reads-listed ps x f (k, t, i) = entry-listed ps (entry k x f) i t
 
 pub listed-reads : (ps : List Permission) (x f : ℕ) → T (lists ps (path x f)) → Listed ps x f
 unfolding pathOf
 listed-reads ps x f h =
-    let (p, i, e) = listed-entry ps (path x f) h in
+    let (p, i, t, e) = listed-entry ps (path x f) h in
     let a : p .variable ≡ x = cc in
     let b : p .field ≡ f = cc in
     let is : p ≡ entry (p .permit) x f = λ i. record { permit = p .permit; variable = a i; field = b i } in
-    (p .permit, subst (λ (q : Permission). Member q ps) is i)
+    (p .permit, t, subst (λ (q : Permission). Member q ps) is i)
 
 known-reads : (ps : List Permission) (t : Term) → Known ps t → Reads ps t
 known-reads ps (num n) k = tt

@@ -22,7 +22,7 @@ use Rattle.rules.specs.Items as Items
 use Rattle.rules.proofs.Lists.{head-or, append-member, and-both, and-intro}
 use Rattle.soundness.specs.WellFormed.{Over, AtCall, AtEnd, StmtFormed}
 use Rattle.rules.proofs.LinesTaken.{lineOf, Taken, TakenLines, TakenText, none, line}
-use Rattle.soundness.proofs.NamesInScope.{assigned-local, target-apart, formula-over}
+use Rattle.soundness.proofs.NamesInScope.{assigned-local, target-apart, opened-apart, formula-over}
 
 -- what WellFormed asks of an item by itself
 abbrev pub ItemFormed : Item → Type 0

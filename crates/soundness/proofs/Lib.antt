@@ -11,6 +11,7 @@ pub mod AssignSound
 pub mod SetSound
 pub mod NewSound
 pub mod AssertSound
+pub mod ChainSound
 pub mod BranchSound
 pub mod LoopSound
 pub mod CallSound

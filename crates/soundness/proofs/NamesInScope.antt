@@ -13,7 +13,7 @@ use Rattle.rules.specs.Text.{reserved, relOf, isPermit, permitOf, exprOf, atomO
 use Rattle.rules.specs.Grammar.{Space, Operand, Tail, Line, statement, Call, form, isKind, isOperand, isFormed}
 use Rattle.rules.specs.Grammar.{read, assigned, field, new, typeName, variable, member, expression}
 use Rattle.rules.specs.Scope.{Declarations, Variable, Scope, Slot, operand, declaredIn, slotsFrom, atomOperands, atomSlots, atomsOf, slots}
-use Rattle.rules.specs.Names.{noVariable, isLocal, inScope, lookUp, variableNumber, knownExpr, known, allKnown, mayBeAssigned, callApart, allAssignable}
+use Rattle.rules.specs.Names.{noVariable, isLocal, inScope, lookUp, variableNumber, knownExpr, known, allKnown, mayBeAssigned, callApart, openApart, allAssignable}
 use Rattle.rules.specs.Items.{resolveExpr, resolveAtom, resolveAtoms, resolveFormula}
 use Rattle.rules.proofs.Lists.{any-in, or-cases, and-both, all-append, first-member, name-same}
 use Rattle.soundness.specs.WellFormed.{TermOver, Over}
@@ -64,9 +64,11 @@ unequal a b t e = T-not (eqb a b) t (subst (λ w. T (eqb a w)) e (eqb-refl a))
 
 module _ (vs : List Variable) (l : Line) where
   assignable-both :
-      T (allAssignable vs l) → T (all (assignableSlot vs) (slots l)) × T (callApart vs l)
+      T (allAssignable vs l) → T (all (assignableSlot vs) (slots l)) × T (callApart vs l) × T (openApart vs l)
   unfolding allAssignable
-  assignable-both t = and-both (all (assignableSlot vs) (slots l)) (callApart vs l) t
+  assignable-both t =
+      let (a, b) = and-both (all (assignableSlot vs) (slots l)) _ t in
+      let (c, d) = and-both (callApart vs l) (openApart vs l) b in (a, c, d)
 
   -- an operand that is assigned is a local
   pub assigned-local :
@@ -90,6 +92,15 @@ module _ (vs : List Variable) (l : Line) where
       ⊎-elim (λ n. absurd (T-not (isKind (statement Call) (l .kind)) n c))
       (λ d. let (y, z) = and-both (not (eqb x (variableNumber vs (operand l 1)))) _ d in (unequal x _ y, unequal x _ z))
       (or-cases (not (isKind (statement Call) (l .kind))) _ (assignable-both t .1))
+
+  -- the y of `open` is not its x
+  pub opened-apart :
+      T (isKind Open (l .kind)) → T (allAssignable vs l) →
+      variableNumber vs (operand l 0) ≡ variableNumber vs (operand l 1) → ⊥
+  unfolding openApart
+  opened-apart c t =
+      ⊎-elim (λ n. absurd (T-not (isKind Open (l .kind)) n c)) (λ d. unequal _ _ d)
+      (or-cases (not (isKind Open (l .kind))) _ (assignable-both t .2))
 
 -- FORMULAS: where each variable in scope has a number with the property Q, so have those of a formula whose names are known
 module _ (Γ : Declarations) (vs : List Variable) (Q : ℕ → Type 0) (has : (v : Variable) → Member v vs → Q (v .number)) where

@@ -27,6 +27,7 @@ only-acc : (j : Permit) (ks : List Permit) → leaves acc j ≡ some ks → j �
 unfolding leaves
 only-acc acc ks e = refl
 only-acc read ks e = none-some e
+only-acc chain ks e = none-some e
 
 module _ (h : Heap) (F : Frame) (s : State) (S : Satisfied h F s) (most : AtMostTwo F) (x f y : ℕ) where
   abbrev written : Heap
@@ -76,10 +77,10 @@ module _ (h : Heap) (F : Frame) (s : State) (S : Satisfied h F s) (most : AtMost
     -- a listed path is another's, or the entry's
     other-or :
         (z g : ℕ) → (i : Listed (s .permissions) z g) → Listed others z g ⊎ (entry (i .0) z g ≡ c .taken)
-    other-or z g (k, i) =
+    other-or z g (k, t, i) =
         ⊎-elim
-        (λ j. inl (k, member-left (D .before) (D .after) _ j))
-        (λ j. ⊎-elim (λ m. inl (k, member-right (D .before) (D .after) _ m)) (λ e. inr e) (head-or j))
+        (λ j. inl (k, t, member-left (D .before) (D .after) _ j))
+        (λ j. ⊎-elim (λ m. inl (k, t, member-right (D .before) (D .after) _ m)) (λ e. inr e) (head-or j))
         (append-member (D .before) (c .taken ∷ D .after) _ (subst (Member _) (D .was) i))
 
     -- a term that is not the entry's path reads the others
@@ -88,7 +89,7 @@ module _ (h : Heap) (F : Frame) (s : State) (S : Satisfied h F s) (most : AtMost
     reads-others null out i = tt
     reads-others (var v) out i = tt
     reads-others (path z g) out i =
-        ⊎-elim (λ k. k) (λ e. absurd (out (reads-listed (c .taken ∷ []) z g (i .0, is-head e)))) (other-or z g i)
+        ⊎-elim (λ k. k) (λ e. absurd (out (reads-listed (c .taken ∷ []) z g (i .0, i .1, is-head e)))) (other-or z g i)
 
     others-own : Stocked h F others of-others
     others-own =
@@ -141,7 +142,7 @@ module _ (h : Heap) (F : Frame) (s : State) (S : Satisfied h F s) (most : AtMost
     set-known :
         (s′ : State) → addFact eq (pathOf (c .taken)) (var y) forgotten ≡ ok s′ →
         (locate F [] 2 x f ≡ ok spot) × Satisfied written F s′
-    unfolding dropPaths
+    unfolding isPath dropPaths
     set-known s′ b = (
       located F [] 2 x f entry-object
           (omega (arith, entry-whole, parts .sum spot, S .within spot, halves-nil spot)),
@@ -149,7 +150,7 @@ module _ (h : Heap) (F : Frame) (s : State) (S : Satisfied h F s) (most : AtMost
         stock = S .stock;
         knows =
             fact-added written F eq (pathOf (c .taken)) (var y) forgotten s′ (S .stock) b
-            (path-reads (s .permissions) (c .taken)
+            (path-reads (s .permissions) (c .taken) (subst (λ (k : Permit). T (isPath k)) (sym is-acc) tt)
             (subst (Member _) (sym (D .was)) (member-right (D .before) (c .taken ∷ D .after) _ (is-head refl))))
             tt (written-value (c .taken) entry-object spot-is) forgotten-known;
         within = S .within;
