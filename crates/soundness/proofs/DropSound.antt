@@ -6,9 +6,9 @@ use mathlib.Core.Logic.{_⊎_, ⊎-elim}
 use mathlib.Core.Option.{some}
 use Prim.Native.Nat.{ℕ}
 use lib.Dec.{T}
-use Rattle.rules.specs.Base.{any, mapOption, Member}
+use Rattle.rules.specs.Base.{any, keep, mapOption, Member}
 use Rattle.rules.specs.Syntax.{num, null, var, path}
-use Rattle.rules.specs.State.{Term, Permission, Fact, State, Renaming, entry, pathOf, equalIn, becomes, renameFact, trivial, renameFacts, lists, withoutPaths, factsWithout}
+use Rattle.rules.specs.State.{Term, Permission, Fact, State, Renaming, entry, pathOf, equalIn, becomes, renameFact, trivial, renameFacts, paths, lists, withoutPaths, factsWithout}
 use Rattle.rules.specs.Machine.{Frame, Heap}
 use Rattle.rules.proofs.Lists.{keep-member, came-from, bind-some, some-inj}
 use Rattle.rules.proofs.Successors.{Known, order-known, entry-listed, listed-entry, successor-is, gives-way, without-is}
@@ -102,7 +102,7 @@ module _ (h h′ : Heap) (F : Frame) (s : State) (S : Satisfied h F s) (ps : Lis
       (gone : List Permission) → ((x f : ℕ) → Listed (s .permissions) x f → Listed ps x f ⊎ T (lists gone (path x f))) →
       ((u : Term) → (T (lists gone u) → ⊥) → Reads ps u → termValue h′ F u ≡ termValue h F u) → (g : Fact) →
       Member g (factsWithout gone ps s) → FactTrue h′ F ps g
-  unfolding factsWithout lists any
+  unfolding factsWithout lists paths keep any
   paths-dropped [] all value g i = fact-left [] all value g (λ t z. z) (S .knows .facts g i)
   paths-dropped (p ∷ gone) all value g i =
       facts-became h h′ F F s S (withoutPaths (p ∷ gone)) ps (left-term (p ∷ gone) all value)

@@ -10,7 +10,7 @@ use lib.ListN.{length, getD}
 use Rattle.rules.specs.Base.{Name, eqName, any, all, Member}
 use Rattle.rules.specs.Syntax.{Expr, Formula, first-local, num, null, var, path, own, cmp}
 use Rattle.rules.specs.Text.{reserved, relOf, isPermit, permitOf, exprOf, atomOf, formulaOf}
-use Rattle.rules.specs.Grammar.{Space, Operand, Tail, Line, statement, Call, form, isKind, isOperand, isFormed}
+use Rattle.rules.specs.Grammar.{Space, Operand, Tail, Line, statement, Call, Open, form, isKind, isOperand, isFormed}
 use Rattle.rules.specs.Grammar.{read, assigned, field, new, typeName, variable, member, expression}
 use Rattle.rules.specs.Scope.{Declarations, Variable, Scope, Slot, operand, declaredIn, slotsFrom, atomOperands, atomSlots, atomsOf, slots}
 use Rattle.rules.specs.Names.{noVariable, isLocal, inScope, lookUp, variableNumber, knownExpr, known, allKnown, mayBeAssigned, callApart, openApart, allAssignable}
@@ -95,12 +95,12 @@ module _ (vs : List Variable) (l : Line) where
 
   -- the y of `open` is not its x
   pub opened-apart :
-      T (isKind Open (l .kind)) → T (allAssignable vs l) →
+      T (isKind (statement Open) (l .kind)) → T (allAssignable vs l) →
       variableNumber vs (operand l 0) ≡ variableNumber vs (operand l 1) → ⊥
   unfolding openApart
   opened-apart c t =
-      ⊎-elim (λ n. absurd (T-not (isKind Open (l .kind)) n c)) (λ d. unequal _ _ d)
-      (or-cases (not (isKind Open (l .kind))) _ (assignable-both t .2))
+      ⊎-elim (λ n. absurd (T-not (isKind (statement Open) (l .kind)) n c)) (λ d. unequal _ _ d)
+      (or-cases (not (isKind (statement Open) (l .kind))) _ (assignable-both t .2))
 
 -- FORMULAS: where each variable in scope has a number with the property Q, so have those of a formula whose names are known
 module _ (Γ : Declarations) (vs : List Variable) (Q : ℕ → Type 0) (has : (v : Variable) → Member v vs → Q (v .number)) where

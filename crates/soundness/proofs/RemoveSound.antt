@@ -9,11 +9,12 @@ use native.Mathlib.Omega.{arith}
 use lib.Dec.{T, eqb, eqb→eq, eqb-refl}
 use lib.ListN.{replicate}
 use Rattle.rules.specs.Base.{mapOption, bindOption}
-use Rattle.rules.specs.Syntax.{Permit, acc, read, num, null, var, path}
+use Rattle.rules.specs.Syntax.{Permit, acc, read, chain, num, null, var, path}
 use Rattle.rules.specs.State.{Term, Permission, State, entry, renameVariable, renameTerm, renamePermission, renamePermissions, standIn, removedTerm, removeTo, remove}
 use Rattle.rules.specs.Machine.{Frame, Heap, Location, halves, valueAt, valueOf, bind}
 use Rattle.rules.proofs.Lists.{some-inj, bind-some, option-cases, mapOption-none, mapOption-some, went-to, update-same, update-other}
 use Rattle.rules.proofs.Sets.{location-eq}
+use Rattle.rules.proofs.Walks.{Walk}
 use Rattle.rules.proofs.Dropping.{standIn-is}
 use Rattle.soundness.proofs.Satisfied.{termValue, locationOf, Stock, OwnsPath, OwnsAs, Stocked, Reads, Knows, Satisfied}
 use Rattle.soundness.proofs.ShowSound.{equal-variable}

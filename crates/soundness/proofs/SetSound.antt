@@ -9,7 +9,7 @@ use native.Mathlib.Nat.{le-refl}
 use lib.Dec.{T}
 use Rattle.rules.specs.Base.{ok, orElse, Member}
 use Rattle.rules.specs.Answers.{noPermission}
-use Rattle.rules.specs.Syntax.{Permit, acc, read, eq, num, null, var, path}
+use Rattle.rules.specs.Syntax.{Permit, acc, read, chain, isPath, eq, num, null, var, path}
 use Rattle.rules.specs.State.{Term, Permission, State, Split, entry, equalIn, leaves, giving, split, pathOf, lists, dropPaths, addFact}
 use Rattle.rules.specs.Rules.{setRule}
 use Rattle.rules.specs.Machine.{Config, Frame, Heap, Location, valueAt, valueOf, locate, store, advance, jump, stored, setStep}
@@ -18,7 +18,7 @@ use Rattle.rules.proofs.Tries.{bind-ok, orElse-ok, bind-of-ok}
 use Rattle.rules.proofs.Sets.{location-eq, halves-nil, halves-replicate}
 use Rattle.rules.proofs.Heaps.{store-same, store-other}
 use Rattle.soundness.proofs.Satisfied.{termValue, locationOf, Stock, OwnsPath, OwnsAs, Owns, Stocked, Listed, Reads, Knows, Satisfied, AgreeOn, stocked-same, stocked-parts, stocked-append, stocked-by, value-by, path-reads, satisfied-frame}
-use Rattle.soundness.proofs.ShowSound.{AtMostTwo, names-location, located, Parted, split-parted, Divided, divided, Given, given}
+use Rattle.soundness.proofs.ShowSound.{AtMostTwo, entry-location, located, Parted, split-parted, Divided, divided, Given, given}
 use Rattle.soundness.proofs.DropSound.{reads-listed, paths-dropped}
 use Rattle.soundness.proofs.AddSound.{fact-added}
 use Rattle.soundness.proofs.Stack.{Goes}
@@ -37,12 +37,12 @@ module _ (h : Heap) (F : Frame) (s : State) (S : Satisfied h F s) (most : AtMost
   spot = record { object = valueOf F x; field = f }
 
   -- the entry that shows `acc x f`, and the others
-  module _ (c : Split) (D : Parted (giving (equalIn s) acc x f) (s .permissions) c) where
-    gift : Given (equalIn s) acc x f (c .taken) (c .left)
-    gift = given (equalIn s) acc x f (c .taken) (c .left) (D .gives)
+  module _ (c : Split) (D : Parted (giving (equalIn s) acc (var x) f) (s .permissions) c) where
+    gift : Given (equalIn s) acc (var x) f (c .taken) (c .left)
+    gift = given (equalIn s) acc (var x) f (c .taken) (c .left) (D .gives)
 
     spot-is : locationOf F (c .taken) ≡ spot
-    spot-is = names-location h F s S x f (c .taken) (gift .named)
+    spot-is = entry-location h F s S x f (c .taken) (gift .named)
 
     parts : Divided h F (c .taken) (D .before) (D .after) (S .stock)
     parts = divided h F _ (s .permissions) c (S .stock) D (S .knows .stocked)
@@ -162,7 +162,7 @@ module _ (h : Heap) (F : Frame) (s : State) (S : Satisfied h F s) (most : AtMost
       (s′ : State) → setRule x f y s ≡ ok s′ → (locate F [] 2 x f ≡ ok spot) × Satisfied written F s′
   unfolding setRule
   set-rule s′ a =
-      let (c, o, b) = bind-ok (orElse (split (giving (equalIn s) acc x f) (s .permissions)) noPermission) a in
+      let (c, o, b) = bind-ok (orElse (split (giving (equalIn s) acc (var x) f) (s .permissions)) noPermission) a in
       set-known c (split-parted _ (s .permissions) c (orElse-ok _ noPermission c o)) s′ b
 
 -- the lemma on `set`
