@@ -13,6 +13,7 @@ pub mod States
 pub mod Counting
 pub mod Changes
 pub mod Disjoint
+pub mod Chains
 pub mod ExampleRows
 pub mod ExampleTexts
 pub mod ExamplesText

@@ -10,19 +10,13 @@ use lib.ListN.{length, length-append}
 use Rattle.rules.specs.Base.{Try, ok, no, check, _>>_}
 use Rattle.rules.specs.Answers.{Stop, permissionMissing, formulaFalse}
 use Rattle.rules.specs.Syntax.{chain}
+use Rattle.rules.specs.Runs.{Walk, at-null, goes}
 use Rattle.rules.specs.Machine.{Frame, Heap, Location, halves, lessOne, valueAt, walk, takeWalk}
 use Rattle.rules.proofs.Lists.{T-true, F-false, and-intro, and-both, decide-eq}
 use Rattle.rules.proofs.Tries.{bind-ok, check-ok, ok-inj, no-ok, pass, bind-of-ok}
 use Rattle.rules.proofs.Sets.{at-same, at-cases, halves-nil, halves-cons, halves-append, halves-lessOne, lessOne-length}
 
 -- A WALK
--- by f from object o over the locations ws, to null
-pub data Walk (h : Heap) (f : ℕ) : ℕ → List Location → Type 0 where
-  ends : {o : ℕ} → o ≡ 0 → Walk h f o []
-  goes :
-      {o : ℕ} {ws : List Location} → (o ≡ 0 → ⊥) → Walk h f (valueAt h o f) ws →
-      Walk h f o (record { object = o; field = f } ∷ ws)
-
 -- what was passed is passed once, held whole, and not taken
 abbrev Passed : Frame → List Location → List Location → Type 0
 Passed F A ws =
@@ -78,13 +72,13 @@ walk-walks h F A f zero o passed B e = go (eqb o 0) refl e
         (ws : List Location) × Walk h f o ws × ((p : Location) → halves B p ≡ halves ws p + halves passed p)
     go true r q = (
       [],
-      ends (eqb→eq o 0 (subst T r tt)),
+      at-null (eqb→eq o 0 (subst T r tt)),
       λ p. omega (arith, ap (λ (C : List Location). halves C p) (ok-inj q), halves-nil p),
     )
     go false r q = no-ok q
 walk-walks h F A f (suc n) o passed B e =
     ⊎-elim
-    (λ (z, q). ([], ends z, λ p. omega (arith, ap (λ (C : List Location). halves C p) q, halves-nil p)))
+    (λ (z, q). ([], at-null z, λ p. omega (arith, ap (λ (C : List Location). halves C p) q, halves-nil p)))
     (λ S.
     let q : Location = record { object = o; field = f } in
     let (ws, W, k) = walk-walks h F A f n (valueAt h o f) (q ∷ passed) B (S .onward) in
@@ -190,7 +184,7 @@ pub walk-does :
     ((p : Location) → halves (F .held) p ≤ 2) →
     ((p : Location) → (halves ws p + halves ws p) + ((halves passed p + halves passed p) + halves A p) ≤ halves (F .held) p) →
     (B : List Location) × (walk h F A f n o passed ≡ ok B) × ((p : Location) → halves B p ≡ halves ws p + halves passed p)
-walk-does h F A f n o ws passed (ends z) l most k = (passed, walk-ends h F A f n o passed z, λ p. omega (arith, halves-nil p))
+walk-does h F A f n o ws passed (at-null z) l most k = (passed, walk-ends h F A f n o passed z, λ p. omega (arith, halves-nil p))
 walk-does h F A f zero o ws passed (goes z W) l most k = absurd (omega arith)
 walk-does h F A f (suc n) o ws passed (goes {ws = us} z W) l most k =
     let p : Location = record { object = o; field = f } in

@@ -14,7 +14,7 @@ use Rattle.rules.specs.State.{Term, Permission, State, entry, renameVariable, r
 use Rattle.rules.specs.Machine.{Frame, Heap, Location, halves, valueAt, valueOf, bind}
 use Rattle.rules.proofs.Lists.{some-inj, bind-some, option-cases, mapOption-none, mapOption-some, went-to, update-same, update-other}
 use Rattle.rules.proofs.Sets.{location-eq}
-use Rattle.rules.proofs.Walks.{Walk}
+use Rattle.rules.specs.Runs.{Walk}
 use Rattle.rules.proofs.Dropping.{standIn-is}
 use Rattle.soundness.proofs.Satisfied.{termValue, locationOf, Stock, OwnsPath, OwnsAs, Stocked, Reads, Knows, Satisfied}
 use Rattle.soundness.proofs.ShowSound.{equal-variable}
