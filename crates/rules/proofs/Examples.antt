@@ -19,6 +19,7 @@ use Rattle.rules.proofs.ExamplesNames.{nameRows, names-right}
 use Rattle.rules.proofs.ExamplesChecker.{stateRows, ruleRows, state-right, rules-right}
 use Rattle.rules.proofs.ExamplesMachine.{machineRows, machine-right}
 use Rattle.rules.proofs.ExamplesHalves.{halfRows, halves-right}
+use Rattle.rules.proofs.ExamplesChains.{chainRows, chains-right}
 use Rattle.rules.proofs.ExamplesCalls.{callRows, calls-right}
 
 abbrev pub rows : List Row
@@ -181,7 +182,7 @@ rows-right = tt
 
 -- and those that pin the definitions
 abbrev pub everyRow : List Row
-everyRow = rows ++ (textRows ++ (nameRows ++ (stateRows ++ (ruleRows ++ (machineRows ++ (halfRows ++ callRows))))))
+everyRow = rows ++ (textRows ++ (nameRows ++ (stateRows ++ (ruleRows ++ (machineRows ++ (halfRows ++ (chainRows ++ callRows)))))))
 
 both-right : (l m : List Row) → T (all right l) → T (all right m) → T (all right (l ++ m))
 unfolding all
@@ -197,7 +198,8 @@ all-right =
     (both-right stateRows _ state-right
     (both-right ruleRows _ rules-right
     (both-right machineRows _ machine-right
-    (both-right halfRows callRows halves-right calls-right))))))
+    (both-right halfRows _ halves-right
+    (both-right chainRows callRows chains-right calls-right)))))))
 
 right-at : (rs : List Row) (d : Row) (i : ℕ) → i < length rs → T (all right rs) → T (right (getD rs i d))
 unfolding all
