@@ -16,13 +16,6 @@ pub mod Disjoint
 pub mod Chains
 pub mod ExampleRows
 pub mod ExampleTexts
-pub mod ExamplesText
-pub mod ExamplesNames
-pub mod ExamplesChecker
-pub mod ExamplesMachine
-pub mod ExamplesHalves
-pub mod ExamplesChains
-pub mod ExamplesCalls
 pub mod Examples
 pub mod LinesTaken
 pub mod LineKinds

@@ -2,51 +2,12 @@
 use mathlib.Core.List.{List, [], _∷_, _++_}
 use Prim.Native.String.{String}
 use lib.Dec.{T}
 use Rattle.rules.specs.Base.{all}
 use Rattle.rules.specs.Calls.{computing}
 use Rattle.rules.proofs.ExampleRows as ExampleRows
+use Rattle.rules.proofs.ExampleTexts as ExampleTexts
+use Rattle.rules.proofs.ExampleTexts.{cards, linked, shutBoth, ring, ofChain}
 use Rattle.rules.proofs.ExampleRows.{Row, right, check, run, trial, bound, row, three, withLine}
-
--- "A recursive walk over a chain must pass the check": each card gets the number k
-pub walked : List String
-walked =
-    "class S" ∷
-    "field S prev" ∷
-    "field int n" ∷
-    "method int visit int k" ∷
-    "requires ne this null chain this prev" ∷
-    "ensures chain this prev" ∷
-    "var S t" ∷
-    "var int r" ∷
-    "open t this prev" ∷
-    "if ne t null" ∷
-    "call r t visit k" ∷
-    "else" ∷
-    "join acc this prev eq this.prev t chain t prev" ∷
-    "shut this prev" ∷
-    "return k" ∷
-    "end" ∷
-    "main" ∷
-    "var S a" ∷
-    "var S b" ∷
-    "var S c" ∷
-    "var int k" ∷
-    "var int r" ∷
-    "new a S" ∷
-    "shut a prev" ∷
-    "new b S" ∷
-    "set b prev a" ∷
-    "shut b prev" ∷
-    "new c S" ∷
-    "set c prev b" ∷
-    "shut c prev" ∷
-    "let k 7" ∷
-    "call r c visit k" ∷
-    "assert chain c prev" ∷
-    "open a c prev" ∷
-    "assert acc c prev eq c.prev a" ∷
-    "end" ∷
-    []
 
 -- a chain that grows in a loop, which also has half of another card
 pub grown : List String
@@ -73,28 +34,6 @@ grown =
     "assert chain s prev read h n eq i 3" ∷
     "end" ∷
     []
-
--- a main with the cards s, t, u and these lines, from line 8 on
-pub cards : List String → List String
-cards ls =
-    "class S" ∷ "field S prev" ∷ "field int n" ∷ "main" ∷ "var S s" ∷ "var S t" ∷ "var S u" ∷ (ls ++ ("end" ∷ []))
-
--- two cards of which s links to t, and these lines, from line 11 on
-pub linked : List String → List String
-linked ls = cards ("new s S" ∷ "new t S" ∷ "set s prev t" ∷ ls)
-
--- the same, both shut, from line 13 on
-pub shutBoth : List String → List String
-shutBoth ls = linked ("shut t prev" ∷ "shut s prev" ∷ ls)
-
--- two cards that link to each other, from line 12 on
-pub ring : List String → List String
-ring ls = linked ("set t prev s" ∷ ls)
-
--- a method of S with a parameter w of S, with this requires and these lines, from line 7 on
-pub ofChain : String → List String → List String
-ofChain requires ls =
-    "class S" ∷ "field S prev" ∷ "method int m S w" ∷ requires ∷ "ensures" ∷ "var S t" ∷ (ls ++ ("end" ∷ "main" ∷ "end" ∷ []))
 
 -- a class whose field is another's, and a main with one line, line 6
 pub ofOther : String → List String
@@ -207,12 +146,10 @@ chainsShown =
     row (cards ("assert chain s prev" ∷ [])) check (12 ∷ 8 ∷ []) ∷
     row (cards ("assert chain s prev" ∷ [])) (trial 1000) (0 ∷ 9 ∷ 2 ∷ three 0 0 0) ∷
     -- a chain is no listed path: not for resolving, nor for (c) and (d), nor for `acc` and `read`
-    row (shutBoth ("assert eq s.prev t" ∷ [])) check (11 ∷ 13 ∷ []) ∷
     row (shutBoth ("assert acc s prev" ∷ [])) check (12 ∷ 13 ∷ []) ∷
     row (shutBoth ("assert read s prev" ∷ [])) check (12 ∷ 13 ∷ []) ∷
     row (shutBoth ("set s prev t" ∷ [])) check (12 ∷ 13 ∷ []) ∷
     row (linked ("assert chain t prev" ∷ [])) check (12 ∷ 11 ∷ []) ∷
-    row (ofChain "requires chain w prev" ("assert ne w null" ∷ [])) check (13 ∷ 7 ∷ []) ∷
     row (ofChain "requires chain this prev acc w prev" ("assert ne this w" ∷ [])) check (13 ∷ 7 ∷ []) ∷
     row (ofChain "requires chain this prev chain w prev" ("assert ne this w" ∷ [])) check (13 ∷ 7 ∷ []) ∷
     -- nor a term to which another gives way
@@ -225,8 +162,6 @@ chainsShown =
 abbrev pub chainLines : List Row
 chainLines =
     -- "A recursive walk over a chain must pass the check"
-    row walked check (0 ∷ 0 ∷ []) ∷
-    row walked (run 1000) (0 ∷ 36 ∷ 33 ∷ 2 ∷ 2 ∷ 3 ∷ 7 ∷ 7 ∷ 0 ∷ 0 ∷ 0 ∷ 0 ∷ 0 ∷ 0 ∷ 0 ∷ []) ∷
     row grown check (0 ∷ 0 ∷ []) ∷
     row grown (run 100) (0 ∷ 21 ∷ 27 ∷ 4 ∷ 4 ∷ 1 ∷ 3 ∷ 1 ∷ 0 ∷ 0 ∷ 0 ∷ 0 ∷ 0 ∷ 0 ∷ 0 ∷ []) ∷
     -- "`open y x f` takes x ≠ null and `chain x f`; y becomes `x.f`, and the state gets `x.f`, `x.f` = y and the chain of y."
@@ -235,15 +170,12 @@ chainLines =
     row (shutBoth ("open u s prev" ∷ "assert chain s prev" ∷ [])) (trial 1000) (0 ∷ 15 ∷ 8 ∷ three 1 2 2) ∷
     row (shutBoth ("open u s prev" ∷ "open u s prev" ∷ [])) check (12 ∷ 14 ∷ []) ∷
     row (ofChain "requires chain w prev" ("open t w prev" ∷ [])) check (13 ∷ 7 ∷ []) ∷
-    row (cards ("let s null" ∷ "open t s prev" ∷ [])) check (13 ∷ 9 ∷ []) ∷
     row (cards ("let s null" ∷ "open t s prev" ∷ [])) (trial 1000) (25 ∷ 9 ∷ 1 ∷ three 0 0 0) ∷
     row (linked ("open u s prev" ∷ [])) check (12 ∷ 11 ∷ []) ∷
     -- y is removed
-    row (shutBoth ("new u S" ∷ "open u s prev" ∷ "assert acc u n" ∷ [])) check (12 ∷ 15 ∷ []) ∷
     row (shutBoth ("open t s prev" ∷ "assert eq s.prev t chain t prev" ∷ [])) check (0 ∷ 0 ∷ []) ∷
     -- "`shut x f` takes a chain of the value of `x.f`, shown by a chain, by the same f, of a variable ~ to `x.f` or else by `x.f` ~ null,
     -- then the whole permission to `x.f`, and gives the chain of x."
-    row (shutBoth ("assert chain t prev" ∷ [])) check (12 ∷ 13 ∷ []) ∷
     row (shutBoth ("assert chain s prev chain t prev" ∷ [])) (trial 1000) (24 ∷ 13 ∷ 5 ∷ three 1 2 0) ∷
     row (linked ("shut s prev" ∷ [])) check (12 ∷ 11 ∷ []) ∷
     row (linked ("shut s prev" ∷ [])) (trial 1000) (0 ∷ 12 ∷ 5 ∷ three 1 2 0) ∷
@@ -262,18 +194,14 @@ chainLines =
 abbrev pub chainWalks : List Row
 chainWalks =
     -- "The walk stops with 26 at a location that it has passed itself (a ring)"
-    row (ring ("assert chain s prev" ∷ [])) check (12 ∷ 12 ∷ []) ∷
-    row (ring ("assert chain s prev" ∷ [])) (trial 1000) (26 ∷ 12 ∷ 4 ∷ three 1 2 0) ∷
     row (ring ("open u s prev" ∷ [])) (trial 1000) (26 ∷ 12 ∷ 4 ∷ three 1 2 0) ∷
     row (ring ("shut s prev" ∷ [])) (trial 1000) (26 ∷ 12 ∷ 4 ∷ three 1 2 0) ∷
     row (cards ("new s S" ∷ "set s prev s" ∷ "assert chain s prev" ∷ [])) (trial 1000) (26 ∷ 10 ∷ 2 ∷ three 1 0 0) ∷
     -- "and with 24 at one not held whole or taken by an earlier atom"
-    row (linked ("release read t prev" ∷ "assert chain s prev" ∷ [])) (trial 1000) (24 ∷ 12 ∷ 4 ∷ three 1 2 0) ∷
     row (ring ("release read t prev" ∷ "assert chain s prev" ∷ [])) (trial 1000) (24 ∷ 13 ∷ 5 ∷ three 1 2 0) ∷
     row (linked ("assert acc t prev chain s prev" ∷ [])) (trial 1000) (24 ∷ 11 ∷ 3 ∷ three 1 2 0) ∷
     row (linked ("assert chain s prev acc t prev" ∷ [])) (trial 1000) (24 ∷ 11 ∷ 3 ∷ three 1 2 0) ∷
     row (linked ("assert read t prev chain s prev" ∷ [])) (trial 1000) (24 ∷ 11 ∷ 3 ∷ three 1 2 0) ∷
-    row (linked ("assert chain t prev chain s prev" ∷ [])) (trial 1000) (24 ∷ 11 ∷ 3 ∷ three 1 2 0) ∷
     row (ring ("assert acc t prev chain s prev" ∷ [])) (trial 1000) (24 ∷ 12 ∷ 4 ∷ three 1 2 0) ∷
     row (linked ("assert chain s prev acc s n acc t n chain u prev" ∷ [])) (trial 1000) (0 ∷ 12 ∷ 5 ∷ three 1 2 0) ∷
     -- reading goes over the whole A, what a walk took included
@@ -289,5 +217,5 @@ abbrev pub chainRows : List Row
 chainRows = chainForms ++ (chainsShown ++ (chainLines ++ chainWalks))
 
 pub chains-right : T (all right chainRows)
-unfolding computing ExampleRows.opened walked grown cards linked shutBoth ring ofChain ofOther crowded handed
+unfolding computing ExampleRows.opened ExampleTexts.opened grown ofOther crowded handed
 chains-right = tt

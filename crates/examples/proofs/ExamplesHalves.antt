@@ -1,11 +1,13 @@
 -- Examples of read shares (W8): half a permission shown, taken, added, handed over and written by.
-use mathlib.Core.List.{List, [], _∷_, _++_}
+use mathlib.Core.List.{List, [], _∷_}
 use Prim.Native.String.{String}
 use lib.Dec.{T}
 use Rattle.rules.specs.Base.{all}
 use Rattle.rules.specs.Calls.{computing}
 use Rattle.rules.proofs.ExampleRows as ExampleRows
-use Rattle.rules.proofs.ExampleRows.{Row, right, check, run, trial, row, three, withLine, script}
+use Rattle.rules.proofs.ExampleTexts as ExampleTexts
+use Rattle.rules.proofs.ExampleTexts.{ofTwo, withCard}
+use Rattle.rules.proofs.ExampleRows.{Row, right, check, run, trial, row, three, withLine}
 
 -- half goes with the call and comes back; what is known of the path stays
 pub shared : List String
@@ -28,15 +30,6 @@ shared =
     "end" ∷
     []
 
--- a method of S with a parameter w of S, with this requires and, from line 6 on, these lines
-pub ofTwo : String → List String → List String
-ofTwo requires ls =
-    "class S" ∷ "field int n" ∷ "method int m S w" ∷ requires ∷ "ensures" ∷ (ls ++ ("end" ∷ "main" ∷ "end" ∷ []))
-
--- a main with a new card s, and these lines from line 11 on
-pub withCard : List String → List String
-withCard ls = script ("new s S" ∷ ls)
-
 -- both halves go with the call, as two `read`, and the method writes
 pub writtenByTwoReads : List String
 writtenByTwoReads =
@@ -54,7 +47,6 @@ halfRows =
     row (withLine 6 "set this n k" shared) (trial 1000) (24 ∷ 6 ∷ 2 ∷ three 1 0 0) ∷
     -- "`read` is shown by the first listed, unconsumed `acc` or `read`; taken from an `acc` it leaves a `read` of that path with its facts"
     row (withCard ("release read s n" ∷ "assert read s n eq s.n 0" ∷ [])) check (0 ∷ 0 ∷ []) ∷
-    row (withCard ("release read s n" ∷ "assert acc s n" ∷ [])) check (12 ∷ 12 ∷ []) ∷
     row (withCard ("release read s n" ∷ "set s n a" ∷ [])) check (12 ∷ 12 ∷ []) ∷
     row (withCard ("release read s n" ∷ "set s n a" ∷ [])) (trial 1000) (24 ∷ 12 ∷ 2 ∷ three 1 0 0) ∷
     row (withCard ("release read s n read s n" ∷ "assert eq s.n 0" ∷ [])) check (11 ∷ 12 ∷ []) ∷
@@ -73,7 +65,6 @@ halfRows =
     row (ofTwo "requires read this n read w n eq this w" ("assert acc this n" ∷ [])) check (12 ∷ 6 ∷ []) ∷
     row (ofTwo "requires read this n read w n eq this w" ("assert read this n read this n" ∷ [])) check (0 ∷ 0 ∷ []) ∷
     -- "Way (d) of showing `ne` needs an `acc` among the two."
-    row (ofTwo "requires read this n read w n" ("assert ne this w" ∷ [])) check (13 ∷ 6 ∷ []) ∷
     row (ofTwo "requires acc this n read w n" ("assert ne this w" ∷ [])) check (0 ∷ 0 ∷ []) ∷
     row (ofTwo "requires read this n acc w n" ("assert ne this w" ∷ [])) check (0 ∷ 0 ∷ []) ∷
     -- "For number 10, `read x f` serves as `acc x f` does."
@@ -88,5 +79,5 @@ halfRows =
     []
 
 pub halves-right : T (all right halfRows)
-unfolding computing ExampleRows.opened shared ofTwo withCard writtenByTwoReads
+unfolding computing ExampleRows.opened ExampleTexts.opened shared writtenByTwoReads
 halves-right = tt
