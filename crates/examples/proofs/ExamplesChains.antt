@@ -143,6 +143,7 @@ chainsShown =
     row (ofChain "requires chain this prev" ("assert chain w prev" ∷ [])) check (12 ∷ 7 ∷ []) ∷
     -- "else by x ~ null", which takes nothing
     row (cards ("let s null" ∷ "assert chain s prev chain s prev" ∷ [])) (run 1000) (0 ∷ 10 ∷ 3 ∷ three 0 0 0) ∷
+    row (cards ("let s null" ∷ "assert acc s prev" ∷ [])) check (12 ∷ 9 ∷ []) ∷
     row (cards ("assert chain s prev" ∷ [])) check (12 ∷ 8 ∷ []) ∷
     row (cards ("assert chain s prev" ∷ [])) (trial 1000) (0 ∷ 9 ∷ 2 ∷ three 0 0 0) ∷
     -- a chain is no listed path: not for resolving, nor for (c) and (d), nor for `acc` and `read`
@@ -151,6 +152,8 @@ chainsShown =
     row (shutBoth ("set s prev t" ∷ [])) check (12 ∷ 13 ∷ []) ∷
     row (linked ("assert chain t prev" ∷ [])) check (12 ∷ 11 ∷ []) ∷
     row (ofChain "requires chain this prev acc w prev" ("assert ne this w" ∷ [])) check (13 ∷ 7 ∷ []) ∷
+    row (ofChain "requires acc w prev chain this prev" ("assert ne this w" ∷ [])) check (13 ∷ 7 ∷ []) ∷
+    row (ofChain "requires read w prev chain this prev" ("assert ne this w" ∷ [])) check (13 ∷ 7 ∷ []) ∷
     row (ofChain "requires chain this prev chain w prev" ("assert ne this w" ∷ [])) check (13 ∷ 7 ∷ []) ∷
     -- nor a term to which another gives way
     row (linked ("let u s.prev" ∷ "shut t prev" ∷ "shut s prev" ∷ "assert eq u t chain s prev" ∷ [])) check (0 ∷ 0 ∷ []) ∷
