@@ -1,4 +1,7 @@
 pub mod Lists
+pub mod ExampleRows
+pub mod ExampleTexts
+pub mod Examples
 pub mod Tries
 pub mod Closure
 pub mod Successors
@@ -14,9 +17,6 @@ pub mod Counting
 pub mod Changes
 pub mod Disjoint
 pub mod Chains
-pub mod ExampleRows
-pub mod ExampleTexts
-pub mod Examples
 pub mod LinesTaken
 pub mod LineKinds
 pub mod Numbers
