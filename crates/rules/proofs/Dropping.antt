@@ -12,7 +12,8 @@ use Rattle.rules.specs.Syntax.{num, null, var, path, isPath}
 use Rattle.rules.specs.State.{Term, Permission, State, Renaming, entry, pathOf, equalIn, paths, becomes, lists, withoutPaths, factsWithout, dropPaths, unlisted, remainder, renameVariable, renameTerm, renamePermission, renamePermissions, variables, standIn, removedTerm, removeTo, remove}
 use Rattle.rules.proofs.Lists.{first-in, and-both, head-or, keep-member, member-keep, went-to, decide-test, F-false, some-inj, none-some, bind-some}
 use Rattle.rules.proofs.Closure.{equalIn-sound, equalIn-complete}
-use Rattle.rules.proofs.Successors.{Known, Formed, Joined, way-renamed, entry-listed, listed-entry, without-is, left-law, drop-law}
+use Rattle.rules.specs.Reached.{Known, Formed}
+use Rattle.rules.proofs.Successors.{Joined, way-renamed, entry-listed, listed-entry, without-is, left-law, drop-law}
 
 -- PATHS
 -- a path of s is one of ps, or gone

@@ -16,7 +16,8 @@ use Rattle.rules.specs.State.{variables, termsOf, becomes, renameFact, t
 use Rattle.rules.specs.Rules.{actual, substTerm, substAtom, addEqual, assignRule, addFields, initial, addInitial, newRule, setRule, callRule, openRule, shutRule, opposite, ifRule, rule}
 use Rattle.rules.proofs.Lists.{and-both, head-or, is-head, append-member, member-left, member-right, keep-member, came-from, end-member, bind-some, some-inj, none-some, first-in}
 use Rattle.rules.proofs.Tries.{bind-ok, check-ok, orElse-ok, ok-inj}
-use Rattle.rules.proofs.Successors.{Known, Formed, entry-listed, listed-entry, order-known, gives-way, successor-is, without-is}
+use Rattle.rules.specs.Reached.{Known, Formed}
+use Rattle.rules.proofs.Successors.{entry-listed, listed-entry, order-known, gives-way, successor-is, without-is}
 use Rattle.rules.proofs.Dropping.{LeftOr, still-known, kept-or-unlisted, renamed-known}
 
 -- TERMS OF FACTS

@@ -10,6 +10,7 @@ use lib.Dec.{T, leb, not-T}
 use Rattle.rules.specs.Base.{mapOption, bindOption, Member, at-head, further}
 use Rattle.rules.specs.Syntax.{offset, eq, num, null, var, path, isPath, same}
 use Rattle.rules.specs.State.{Term, Permission, Fact, State, Equality, Renaming, pathOf, isNe, equalIn, numbers, termsOf, variables, insert, rising, inOrder, isLeft, successor, givesWay, becomes, renameFact, trivial, renameFacts, paths, lists, withoutPaths}
+use Rattle.rules.specs.Reached.{Known}
 use Rattle.rules.proofs.Lists.{head-or, is-head, append-member, member-left, member-right, map-member, member-map, keep-member, member-keep, came-from, went-to, and-both, and-intro, any-in, in-any, first-in, first-some, none-some, some-inj, bind-some, option-cases, decide-test}
 use Rattle.rules.proofs.Closure.{Listed, here, there, Linked, itself, listed, back, onward, same→≡, same-refl, equalIn-sound, equalIn-complete}
 
@@ -209,15 +210,6 @@ module _ (fs : List Fact) (g : Renaming) where
         (after-before, λ j. let m : Meet (g a) (g b) = joined-meet j in let m₁ : Meet (some a) (g b) = rw ea at m in rw eb at m₁)
 
 -- STATES: "equalities and inequalities over variables, constants and listed paths"
-abbrev pub Known : List Permission → Term → Type 0
-Known ps (num n) = Unit {0}
-Known ps null = Unit {0}
-Known ps (var v) = Member v variables
-Known ps (path v f) = T (lists ps (path v f))
-
-abbrev pub Formed : State → Type 0
-Formed s = (t : Term) → Member t (termsOf (s .facts)) → Known (s .permissions) t
-
 -- the order has every such term
 insert-member : (n m : ℕ) (ns : List ℕ) → Member n ns ⊎ (n ≡ m) → Member n (insert m ns)
 unfolding insert

@@ -11,7 +11,8 @@ use Rattle.rules.specs.Syntax.{num, null, var, path}
 use Rattle.rules.specs.State.{Term, Permission, Fact, State, Renaming, entry, pathOf, equalIn, becomes, renameFact, trivial, renameFacts, paths, lists, withoutPaths, factsWithout}
 use Rattle.rules.specs.Machine.{Frame, Heap}
 use Rattle.rules.proofs.Lists.{keep-member, came-from, bind-some, some-inj}
-use Rattle.rules.proofs.Successors.{Known, order-known, entry-listed, listed-entry, successor-is, gives-way, without-is}
+use Rattle.rules.specs.Reached.{Known}
+use Rattle.rules.proofs.Successors.{order-known, entry-listed, listed-entry, successor-is, gives-way, without-is}
 use Rattle.soundness.proofs.Satisfied.{termValue, Listed, Reads, FactTrue, Satisfied, related-by}
 use Rattle.soundness.proofs.ShowSound.{equal-value}
 

@@ -28,5 +28,7 @@ pub mod Refusing
 pub mod RulesRefuse
 pub mod ReadRefuses
 pub mod RequiresAdded
+pub mod RowsNamed
+pub mod ReachedFormed
 pub mod RefusedAtALine
 pub mod Demand3
