@@ -138,7 +138,7 @@ module _ (t w : List ℕ) (c : Declared.Names) (fits : NamesFit c) where
   abbrev vs : List Variable
   vs = variablesIn t w c
 
-  path-fits : (x f : Name) → good Γ vs (path x f) ≡ true → SideFits (resolveExpr Γ vs (path x f))
+  pub path-fits : (x f : Name) → good Γ vs (path x f) ≡ true → SideFits (resolveExpr Γ vs (path x f))
   unfolding good knownExpr ofClassIn knownField SideFits resolveExpr
   path-fits x f g =
       let a = both-true (inScope vs x && knownField Γ vs x f) (not (isInt vs x)) g in
