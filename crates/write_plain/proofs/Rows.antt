@@ -33,7 +33,7 @@ use Rattle.write_rows.specs.Holds.{Holds}
 use Rattle.tables.specs.Decode.{operationOf}
 use Rattle.tables.specs.Tables.{HasField, SideFits, OperandsFit}
 use Rattle.tables.proofs.Statements.{set-means, new-means, call-means, return-means, else-means, again-means, end-means, compute-means, open-means, shut-means}
-use Rattle.write_rows.proofs.Rows.{row-written}
+use Rattle.write_rows.proofs.Rows.{no-field, row-written}
 use Rattle.resolve_pass.specs.Passes.{counts}
 use Rattle.read_declarations.specs.Texts.{SpanAfter}
 use Rattle.read_declarations.specs.Declares.{lineWith}
@@ -76,9 +76,6 @@ module _ (t w : List ℕ) (c : Counts.Names) (fits : NamesFit c) (n l : ℕ) whe
         one-atom = λ o. ⊎-elim (λ e. absurd (no-let e)) (λ e. absurd (no-if e)) o;
         condition = λ e. absurd (no-loop e);
       }
-
-  no-field : {A : Type 0} (k : ℕ) → (8 < k) × (k < 23) → HasField k → A
-  no-field k l h = ⊎-elim (λ e. absurd (omega arith)) (λ h. ⊎-elim (λ e. absurd (omega arith)) (λ e. absurd (omega arith)) h) h
 
   -- WHAT IS KNOWN
   or-right : (a b : Bool) → a ≡ false → (a || b) ≡ true → b ≡ true
