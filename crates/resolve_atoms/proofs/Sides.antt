@@ -119,7 +119,7 @@ module _ (t w : List ℕ) (c : Declared.Names) (fits : NamesFit c) where
       small-all _ (first-member (λ v. eqName (v .name) x) noVariable (variablesIn t w c) (subst T (sym e) tt))
 
   -- FIELDS
-  pub field-small :
+  field-small :
       (C f : Name) → any (isFieldOf (declarationsIn t w c) C f) (declarationsIn t w c .fields) ≡ true →
       fieldNumber (declarationsIn t w c) f < most-names
   unfolding isFieldOf fieldNumber declarationsIn

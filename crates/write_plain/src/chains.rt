@@ -60,7 +60,10 @@ pub fn open_row(text: &[u8], work: &[u8], c: Names, r: usize, line: usize) -> Tr
     let y = crate::variable_at(text, work, c, a);
     let x = chain_at(text, work, c, b, d);
     let good = open_fits(text, work, x, y);
-    crate::row_if(good, crate::row(Kind::OPEN, y, x.variable, 0, x.number, line))
+    crate::row_if(
+        good,
+        crate::row(Kind::OPEN, y, x.variable, 0, x.number, line),
+    )
 }
 
 // `shut x f`
@@ -71,5 +74,8 @@ pub fn shut_row(text: &[u8], work: &[u8], c: Names, r: usize, line: usize) -> Tr
     let a = read_declarations::span_after(text, r);
     let b = read_declarations::span_after(text, a.start + a.len);
     let x = chain_at(text, work, c, a, b);
-    crate::row_if(x.good, crate::row(Kind::SHUT, x.variable, 0, 0, x.number, line))
+    crate::row_if(
+        x.good,
+        crate::row(Kind::SHUT, x.variable, 0, 0, x.number, line),
+    )
 }

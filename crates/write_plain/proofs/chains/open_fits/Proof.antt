@@ -30,8 +30,11 @@ same-name-requires c κs = search needs
 
 returns-4 : tie.Need-returns-4
 returns-4 c =
+    let good = c .before .before .before .before .before .before .before .if1 .left in
+    let local = sym (c .before .before .before .before .before .before .is-local .ensures) ∙ not-false _ (c .before .before .before .before .before .if2 .left) in
+    let apart = c .before .before .before .if3 .left in
     rw
-    (not-false (c .before .before .before .before .before .before .before .before .before .before .before .args .x .good) (c .before .before .before .before .before .before .before .if1 .left), sym (c .before .before .before .before .before .before .is-local .ensures) ∙ not-false _ (c .before .before .before .before .before .if2 .left), ne-eqb _ _ (c .before .before .before .if3 .left), ← c .before .before .type-of .ensures, ← c .before .type-of2 .ensures)
+    (not-false (c .before .before .before .before .before .before .before .before .before .before .before .args .x .good) good, local, ne-eqb _ _ apart, ← c .before .before .type-of .ensures, ← c .before .type-of2 .ensures)
     (c .same-name .ensures)
 
 pub open-fits-spec : {M : Type 1} → statement M
