@@ -7,7 +7,7 @@ use crate::checker::{Permission, State};
 use crate::limits;
 use crate::names::{Action, Atom, Expr, Formula, Path};
 use crate::number;
-use crate::text::Share::{self, Acc, Read};
+use crate::text::Share::{self, Acc, Chain, Read};
 
 /// The permissions to a path that are asked for together.
 pub type Asked = &'static [Share];
@@ -63,6 +63,7 @@ impl<'p, 'a> Writer<'p, 'a> {
     pub(super) fn asked_of(&mut self, listed: &Permission<'a>) -> Formula<'a> {
         let shares = match listed.share {
             Read => &[Read],
+            Chain => &[Chain],
             Acc => asked(self.rng, self.style.halves),
         };
         let path = self.path(listed.var, listed.field);

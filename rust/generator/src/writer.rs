@@ -399,7 +399,7 @@ impl<'p, 'a> Writer<'p, 'a> {
 pub fn framed(formula: &[Atom]) -> bool {
     formula.iter().enumerate().all(|(place, atom)| {
         let holds = |atom: &Atom, path: Path| match *atom {
-            Atom::Permission(_, other) => other == path,
+            Atom::Permission(share, other) => share.lists_path() && other == path,
             _ => false,
         };
         let held = |side: &Expr| match *side {

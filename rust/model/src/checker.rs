@@ -55,7 +55,8 @@ impl<'a> State<'a> {
         let place = self
             .first_listed(Share::Acc, path)
             .ok_or(number::NO_PERMISSION)?;
-        let path = self.permissions[place].path();
+        let Permission { var, field, .. } = self.permissions[place];
+        let path = Term::Path(var, field);
         self.drop_terms(&[path]);
         self.add_fact(true, path, Term::Var(y))
     }
@@ -160,6 +161,8 @@ fn watched<'a, W: Watch<'a>>(
         Action::New(x, class) => state.create(*x, &program.classes[*class]),
         Action::Set(path, y) => state.set(*path, *y, at),
         Action::Call(call) => state.call(*call, &program.blocks[call.method], at),
+        Action::Open(open) => state.open(*open, at),
+        Action::Shut(path) => state.shut(*path, at),
         Action::Assert(formula) => {
             at.show(state, Purpose::Claim, formula);
             state.show(formula)

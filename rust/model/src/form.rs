@@ -122,6 +122,18 @@ pub const SHAPES: &[Shape] = &[
         Tail::Nothing,
         "call\tx\ty\tm\tz",
     ),
+    shape(
+        "open",
+        &[("y", Variable), ("x", Variable), ("f", Name)],
+        Tail::Nothing,
+        "open\ty\tx\tf",
+    ),
+    shape(
+        "shut",
+        &[("x", Variable), ("f", Name)],
+        Tail::Nothing,
+        "shut\tx\tf",
+    ),
     shape("return", &[("x", Variable)], Tail::Nothing, "return\tx"),
     shape("assert", &[], Tail::Formula, "assert"),
     shape("release", &[], Tail::Formula, "release"),
@@ -150,6 +162,11 @@ pub const ATOM_SHAPES: &[AtomShape] = &[
     },
     AtomShape {
         word: "read",
+        operands: [("x", Variable), ("f", Name)],
+        condition: false,
+    },
+    AtomShape {
+        word: "chain",
         operands: [("x", Variable), ("f", Name)],
         condition: false,
     },

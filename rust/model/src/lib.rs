@@ -7,6 +7,7 @@
 
 pub mod bounds;
 pub mod call;
+mod chains;
 pub mod checker;
 pub mod faults;
 pub mod form;

@@ -163,6 +163,11 @@ impl<'p, 'a> Machine<'p, 'a> {
             }
             Action::Compute(compute) => self.compute(*compute)?,
             Action::New(x, class) => self.create(*x, *class)?,
+            Action::Open(open) => {
+                let value = self.reader().open(open.path)?;
+                self.assign(open.y, value);
+            }
+            Action::Shut(path) => self.reader().shut(*path)?,
             Action::Assert(formula) | Action::Join(formula) => {
                 self.reader().formula(formula, Tested::Line)?;
             }

@@ -126,6 +126,8 @@ impl Reader {
             | Line::Compute(..)
             | Line::New(..)
             | Line::Call(..)
+            | Line::Open(..)
+            | Line::Shut(..)
             | Line::Assert(_)
             | Line::Release(_) => {}
             // "`return x` (methods only)"
