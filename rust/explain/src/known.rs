@@ -100,9 +100,14 @@ fn turned<'a>(
 ) -> Vec<(String, String)> {
     let names = script.names_at(place);
     let heir = |term| heir(script, place, before, term);
-    let permission = |held: &Permission<'a>, share| match heir(held.path())? {
-        Term::Path(var, field) => Some(names.held(&Permission { share, var, field })),
-        _ => None,
+    // A chain is no path: it goes with its variable.
+    let permission = |held: &Permission<'a>, share| {
+        let (var, field) = match heir(held.path().unwrap_or(Term::Var(held.var)))? {
+            Term::Path(var, field) => (var, field),
+            Term::Var(var) if !held.share.lists_path() => (var, held.field),
+            _ => return None,
+        };
+        Some(names.held(&Permission { share, var, field }))
     };
     let fact = |fact: &Fact<'a>| {
         let (left, right) = (heir(fact.left)?, heir(fact.right)?);
@@ -125,7 +130,9 @@ fn turned<'a>(
     };
     for held in &before.permissions {
         // Or a half went, or came back.
-        for share in [held.share].into_iter().chain(Share::ALL) {
+        let halves = Share::OF_PATHS.into_iter();
+        let halves = halves.filter(|_| held.share.lists_path());
+        for share in [held.share].into_iter().chain(halves) {
             turn(names.held(held), &|| permission(held, share));
         }
     }

@@ -132,6 +132,11 @@ pub fn reason(script: &Script, names: &Names, action: &Action, atom: Atom) -> St
             "which gives `{}` another value",
             names.expr(Expr::Path(*path))
         ),
+        Action::Open(open) if names_var(atom, open.y) => {
+            format!("which gives `{}` another value", names.var(open.y))
+        }
+        Action::Open(_) => "which opens it".to_string(),
+        Action::Shut(_) => "which takes it into a chain".to_string(),
         Action::Release(_) => "which lets it go".to_string(),
         Action::Join(_) => "after which only its own formula is known".to_string(),
         Action::Loop(_) => {
@@ -154,6 +159,7 @@ pub fn assigned<'s, 'a>(
         Action::Let(x, _) | Action::New(x, _) => *x == var,
         Action::Compute(compute) => compute.x == var,
         Action::Call(call) => call.x == var,
+        Action::Open(open) => open.y == var,
         Action::Join(_) | Action::Loop(_) | Action::Again(_) => true,
         _ => false,
     };

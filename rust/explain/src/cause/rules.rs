@@ -132,6 +132,10 @@ impl<'s, 'a> Unshown<'s, 'a> {
                 let (_, line) = self.script.contract_lines(block);
                 format!("`ensures` (line {line}) promises `{wanted}`, which is {missing} here")
             }
+            Purpose::Open => format!("`open` takes `{wanted}`, which is {missing} here"),
+            Purpose::Shut if self.read.is_none() => {
+                format!("`shut` takes `{wanted}`, which is {missing} here")
+            }
             _ if self.read.is_some() => format!("the line {needs}"),
             _ => format!("`{wanted}` is {missing} here"),
         }
@@ -207,6 +211,8 @@ impl<'s, 'a> Unshown<'s, 'a> {
             (Purpose::Requires, _) => 3..4,
             (Purpose::Ensures | Purpose::RoundEnd, _) => 0..1,
             (Purpose::Invariant, _) => 4 + 3 * at..7 + 3 * at,
+            (Purpose::Open, _) => 2..4,
+            (Purpose::Shut, _) => 1..3,
             _ => 1 + 3 * at..4 + 3 * at,
         };
         field_range(bytes, fields)
@@ -255,9 +261,10 @@ fn nearest<'a>(names: &Names, state: &State<'a>, wanted: Atom<'a>) -> Option<Str
         Atom::Permission(_, path) if state.equals(Term::Var(path.var)).contains(&Term::Null) => {
             Some(format!("`{}` is known to be null", names.var(path.var)))
         }
-        Atom::Permission(_, path) => {
+        Atom::Permission(share, path) => {
             let held = state.permissions.iter();
             let held: Vec<String> = held
+                .filter(|held| held.share.lists_path() == share.lists_path())
                 .filter(|held| {
                     held.field == path.field && names.kind(held.var) == names.kind(path.var)
                 })
@@ -325,6 +332,15 @@ fn went(unshown: &Unshown, steps: &[Step]) -> Option<String> {
     Some(told_fact(unshown.script, place, fact))
 }
 
+/// `shut` without a chain of the value of its path.
+fn no_rest(script: &Script, asked: &Asked, path: Path) -> Cause {
+    let names = script.names_at(asked.place);
+    let (shown_path, field) = (names.expr(Expr::Path(path)), shown(path.field));
+    Cause::new(format!(
+        "`shut` takes a chain by `{field}` of the value of `{shown_path}`, and none is held here"
+    ))
+}
+
 /// Number 14: what is full.
 fn full(script: &Script, record: &Record, number: u32) -> Option<Cause> {
     let place = script.statement_at(number)?;
@@ -357,8 +373,11 @@ pub fn cause_in(script: &Script, record: &Record, number: u32) -> Option<Cause> 
         return full(script, record, number);
     }
     let asked = record.asked.as_ref()?;
-    let unshown = Unshown::of(script, asked)?;
     let bytes = line(script.text, number)?;
+    if let Some(path) = asked.rest {
+        return Some(no_rest(script, asked, path).mark(field_range(bytes, 1..3)));
+    }
+    let unshown = Unshown::of(script, asked)?;
     let cause = Cause::new(unshown.said()).mark(unshown.mark(bytes));
     if let Some(short) = halves::short(&unshown) {
         let steps = route(script, record, unshown.target());
