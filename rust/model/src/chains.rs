@@ -7,6 +7,7 @@ use crate::locations::Locations;
 use crate::names::{Action, Atom, Expr, Kind, Open, Path, Type};
 use crate::number;
 use crate::scope::Scope;
+use crate::showing::Left;
 use crate::state::{Permission, Rule, State, Term};
 use crate::text::{self, Name, Share};
 use crate::watch::{At, Halt, Purpose, Watch};
@@ -63,17 +64,23 @@ impl<'a> State<'a> {
         self.add_chain(Path { var: y, ..path })
     }
 
-    /// "`shut x f` takes a chain of the value of `x.f`, shown by a chain, by the
-    /// same f, of a variable ~ to `x.f` or else by `x.f` ~ null, then the whole
-    /// permission to `x.f`, and gives the chain of x. What these lines fail to
-    /// show is 12, an unlisted `x.f` too". It takes before it gives.
-    pub(crate) fn shut<W: Watch<'a>>(&mut self, path: Path<'a>, at: &mut At<W>) -> Rule<()> {
-        at.read(self, Purpose::Shut, Expr::Path(path));
+    /// Takes "a chain of the value of `x.f`, shown by a chain, by the same f, of a
+    /// variable ~ to `x.f` or else by `x.f` ~ null"; "an unlisted `x.f`" is 12 too.
+    /// Gives what is left of each entry.
+    pub fn rest(&self, path: Path<'a>) -> Rule<Left> {
         let value = self.resolve(Expr::Path(path));
         let value = value.map_err(|_| number::NO_PERMISSION)?;
         let mut left = self.whole();
-        at.rest(self, Purpose::Shut, path);
         self.show_permission(Share::Chain, value, path.field, &mut left)?;
+        Ok(left)
+    }
+
+    /// "`shut x f` takes a chain of the value of `x.f` ..., then the whole permission
+    /// to `x.f`, and gives the chain of x." It takes before it gives.
+    pub(crate) fn shut<W: Watch<'a>>(&mut self, path: Path<'a>, at: &mut At<W>) -> Rule<()> {
+        at.read(self, Purpose::Shut, Expr::Path(path));
+        at.rest(self, Purpose::Shut, path);
+        let mut left = self.rest(path)?;
         at.show(self, Purpose::Shut, &[Atom::Permission(Share::Acc, path)]);
         self.show_permission(Share::Acc, Term::Var(path.var), path.field, &mut left)?;
         self.keep(left);

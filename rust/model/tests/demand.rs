@@ -7,8 +7,8 @@ mod common;
 
 use common::{example, script, text};
 use generator::{self as gen, rng::Rng};
-use model::machine::{callee_values, location, run, Location, Machine, Step};
-use model::names::{Action, Atom, Call, Program};
+use model::machine::{callee_values, location, run, Location, Machine, Step, Values};
+use model::names::{Action, Atom, Call, Path, Program};
 use model::text::Share;
 use model::{check, read, Judged};
 use std::collections::BTreeMap;
@@ -36,13 +36,29 @@ struct Seen {
     /// them that were handed over by two `read`.
     changed: usize,
     changed_by_reads: usize,
+    /// Those of them that were handed over by a chain.
+    changed_by_chains: usize,
     /// Fields of which a call hands over one half.
     shared: usize,
     /// The first field that changed though it was not handed over.
     violation: Option<(Location, u32)>,
 }
 
-/// What the `acc` and `read` atoms of requires take, by y and z for `this` and w.
+/// The locations on the way from x by f to null, each once.
+fn chain(machine: &Machine, values: &Values, path: Path) -> Vec<Location> {
+    let mut values = *values;
+    let mut passed = Vec::new();
+    while let Some(place) = location(&machine.objects, &values, path) {
+        if passed.contains(&place) {
+            break;
+        }
+        passed.push(place);
+        values[path.var] = machine.heap[place];
+    }
+    passed
+}
+
+/// What the permissions of requires take, by y and z for `this` and w.
 fn footprint(machine: &Machine, call: Call) -> Handed {
     let values = callee_values(&machine.frame().values, call);
     let mut handed = Handed::new();
@@ -50,7 +66,13 @@ fn footprint(machine: &Machine, call: Call) -> Handed {
         let Atom::Permission(share, path) = *atom else {
             continue;
         };
-        if let Some(place) = location(&machine.objects, &values, path) {
+        let places = match share {
+            Share::Chain => chain(machine, &values, path),
+            _ => location(&machine.objects, &values, path)
+                .into_iter()
+                .collect(),
+        };
+        for place in places {
             handed.entry(place).or_default().push(share);
         }
     }
@@ -73,6 +95,7 @@ fn look(machine: &Machine, open: &[OpenCall], line: u32, seen: &mut Seen) {
                 Some(shares) if whole(shares) => {
                     seen.changed += 1;
                     seen.changed_by_reads += usize::from(shares.len() == 2);
+                    seen.changed_by_chains += usize::from(shares[..] == [Share::Chain]);
                 }
                 _ => seen.violation = seen.violation.or(Some((place, line))),
             }
@@ -222,6 +245,7 @@ fn walk_one(text: &[u8], program: &Program, all: &mut Seen) {
     all.ended += seen.ended;
     all.changed += seen.changed;
     all.changed_by_reads += seen.changed_by_reads;
+    all.changed_by_chains += seen.changed_by_chains;
     all.shared += seen.shared;
     all.deepest = all.deepest.max(seen.deepest);
 }
