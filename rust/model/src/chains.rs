@@ -4,6 +4,7 @@
 use crate::faults::{Fault, Sides};
 use crate::formula::{Outcome, Reader};
 use crate::locations::Locations;
+use crate::machine::Machine;
 use crate::names::{Action, Atom, Expr, Kind, Open, Path, Type};
 use crate::number;
 use crate::scope::Scope;
@@ -116,19 +117,23 @@ impl Reader<'_> {
         Ok(passed)
     }
 
-    /// `open`: x null, then the walk from x. Gives the value of `x.f`, for y; "`open`
-    /// and `shut` never move permissions on the machine".
-    pub fn open<'a>(&self, path: Path<'a>) -> Outcome<'a, i32> {
-        let location = self.place(path)?;
-        self.chain(path, &Locations::NONE)?;
-        Ok(self.heap[location])
-    }
-
     /// `shut`: x null, no half of `x.f`, the walk from its value, both halves of
     /// `x.f` beside what the walk took.
     pub fn shut<'a>(&self, path: Path<'a>) -> Outcome<'a, ()> {
         let value = self.value(Expr::Path(path))?;
         let walked = self.walk(value, path, &Locations::NONE)?;
         self.location(path, Share::Acc, &walked).map(|_| ())
+    }
+}
+
+impl<'a> Machine<'_, 'a> {
+    /// `open`: x null, then the walk from x; y gets the value of `x.f`. "`open` and
+    /// `shut` never move permissions on the machine".
+    pub(crate) fn open(&mut self, open: Open<'a>) -> Outcome<'a, ()> {
+        let reader = self.reader();
+        let location = reader.place(open.path)?;
+        reader.chain(open.path, &Locations::NONE)?;
+        self.assign(open.y, self.heap[location]);
+        Ok(())
     }
 }

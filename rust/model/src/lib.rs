@@ -22,6 +22,7 @@ pub mod print;
 pub mod program;
 pub mod reader;
 pub mod scope;
+mod shapes;
 pub mod share;
 pub mod showing;
 pub mod state;

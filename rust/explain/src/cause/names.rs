@@ -448,27 +448,31 @@ pub fn unframed(text: &[u8], number: u32) -> Option<Cause> {
         true => &atoms[conditions..],
         false => &atoms[conditions..atom],
     };
-    let other = serving.iter().find_map(|atom| match atom {
-        text::Atom::Permission(share, y, f) if share.lists_path() && *f == field && *y != x => {
-            Some(format!(
+    let mut others = serving.iter().filter_map(|atom| of_field(atom, field));
+    let other = others.find(|&(_, y)| y != x).map(|(share, y)| {
+        format!(
             "`{}` does not count for `{path}`, also if the two are one card: it goes by the names \
              as written",
-            permission(*share, y, field)
-        ))
-        }
-        _ => None,
+            permission(share, y, field)
+        )
     });
-    let later = atoms[atom..].iter().find_map(|atom| match atom {
-        text::Atom::Permission(share, y, f) if share.lists_path() && (*y, *f) == (x, field) => {
-            Some(*share)
-        }
-        _ => None,
-    });
+    let mut later = atoms[atom..]
+        .iter()
+        .filter_map(|atom| of_field(atom, field));
+    let later = later.find(|&(_, y)| y == x).map(|(share, _)| share);
     Some(cause.or_note(other).help(match later {
         _ if condition => format!("write `{acc}` or `{half}` after the condition"),
         Some(share) => format!("move `{}` before it", permission(share, x, field)),
         None => format!("write `{acc}` or `{half}` before it"),
     }))
+}
+
+/// The share and the variable of a permission to a path of the field.
+fn of_field<'a>(atom: &text::Atom<'a>, field: Name) -> Option<(text::Share, Name<'a>)> {
+    match *atom {
+        text::Atom::Permission(share, y, f) if share.lists_path() && f == field => Some((share, y)),
+        _ => None,
+    }
 }
 
 /// `acc x f` or `read x f`.

@@ -7,7 +7,7 @@ use super::helps::help;
 use super::route::{dropped, lost, route, told, told_fact, Step};
 use super::Cause;
 use crate::script::{field_range, line, listed, shown, Names, Script};
-use model::checker::{State, Term};
+use model::checker::{Permission, State, Term};
 use model::limits;
 use model::names::{Action, Atom, Expr, Path, Statement};
 use model::number::STATE_FULL;
@@ -132,11 +132,8 @@ impl<'s, 'a> Unshown<'s, 'a> {
                 let (_, line) = self.script.contract_lines(block);
                 format!("`ensures` (line {line}) promises `{wanted}`, which is {missing} here")
             }
-            Purpose::Open => format!("`open` takes `{wanted}`, which is {missing} here"),
-            Purpose::Shut if self.read.is_none() => {
-                format!("`shut` takes `{wanted}`, which is {missing} here")
-            }
             _ if self.read.is_some() => format!("the line {needs}"),
+            Purpose::Open | Purpose::Shut => format!("it takes `{wanted}`, {missing} here"),
             _ => format!("`{wanted}` is {missing} here"),
         }
     }
@@ -255,6 +252,16 @@ fn lines_between(from: u32, to: u32) -> String {
     }
 }
 
+/// The permissions that are held for the field of another card of the class.
+fn held_like<'a>(names: &Names, state: &State<'a>, share: Share, path: Path<'a>) -> Vec<String> {
+    let like = |held: &&Permission| {
+        held.share.lists_path() == share.lists_path() && held.field == path.field
+    };
+    let held = state.permissions.iter().filter(like);
+    let held = held.filter(|held| names.kind(held.var) == names.kind(path.var));
+    held.map(|held| names.held(held)).collect()
+}
+
 /// What comes nearest to the atom in the state.
 fn nearest<'a>(names: &Names, state: &State<'a>, wanted: Atom<'a>) -> Option<String> {
     match wanted {
@@ -262,14 +269,7 @@ fn nearest<'a>(names: &Names, state: &State<'a>, wanted: Atom<'a>) -> Option<Str
             Some(format!("`{}` is known to be null", names.var(path.var)))
         }
         Atom::Permission(share, path) => {
-            let held = state.permissions.iter();
-            let held: Vec<String> = held
-                .filter(|held| held.share.lists_path() == share.lists_path())
-                .filter(|held| {
-                    held.field == path.field && names.kind(held.var) == names.kind(path.var)
-                })
-                .map(|held| names.held(held))
-                .collect();
+            let held = held_like(names, state, share, path);
             let var = names.var(path.var);
             match held.is_empty() {
                 true if state.permissions.is_empty() => Some("no permission is held here".into()),
@@ -333,12 +333,16 @@ fn went(unshown: &Unshown, steps: &[Step]) -> Option<String> {
 }
 
 /// `shut` without a chain of the value of its path.
-fn no_rest(script: &Script, asked: &Asked, path: Path) -> Cause {
+fn no_rest(script: &Script, record: &Record, number: u32) -> Option<Cause> {
+    let asked = record.asked.as_ref()?;
+    let path = asked.rest?;
     let names = script.names_at(asked.place);
     let (shown_path, field) = (names.expr(Expr::Path(path)), shown(path.field));
-    Cause::new(format!(
+    let bytes = line(script.text, number)?;
+    let cause = Cause::new(format!(
         "`shut` takes a chain by `{field}` of the value of `{shown_path}`, and none is held here"
-    ))
+    ));
+    Some(cause.mark(field_range(bytes, 1..3)))
 }
 
 /// Number 14: what is full.
@@ -369,15 +373,16 @@ pub fn cause(text: &[u8], number: u32) -> Option<Cause> {
 
 /// The same, of a check that was written down.
 pub fn cause_in(script: &Script, record: &Record, number: u32) -> Option<Cause> {
-    if record.refusal?.number == STATE_FULL {
-        return full(script, record, number);
+    match record.refusal?.number {
+        STATE_FULL => full(script, record, number),
+        _ => no_rest(script, record, number).or_else(|| not_shown(script, record, number)),
     }
+}
+
+fn not_shown(script: &Script, record: &Record, number: u32) -> Option<Cause> {
     let asked = record.asked.as_ref()?;
-    let bytes = line(script.text, number)?;
-    if let Some(path) = asked.rest {
-        return Some(no_rest(script, asked, path).mark(field_range(bytes, 1..3)));
-    }
     let unshown = Unshown::of(script, asked)?;
+    let bytes = line(script.text, number)?;
     let cause = Cause::new(unshown.said()).mark(unshown.mark(bytes));
     if let Some(short) = halves::short(&unshown) {
         let steps = route(script, record, unshown.target());

@@ -126,8 +126,7 @@ pub fn stop_cause(text: &[u8], steps: u32, stop: u32) -> Option<Cause> {
     let tested = formula(&script, &machine, halt.tested);
     let bytes = line(text, statement.line)?;
     let Some((at, tested)) = halt.atom.zip(tested) else {
-        let said = chains::walk(&machine, halt);
-        let said = said.or_else(|| full(&script, &machine, stop));
+        let said = chains::walk(&machine, halt).or_else(|| full(&script, &machine, stop));
         let said = said.or_else(|| half_written(&names, &statement.action, halt));
         let said = said.or_else(|| followed(&names, &statement.action, halt.path, stop));
         let said = said.or_else(|| overflow(&names, &machine));
@@ -162,9 +161,7 @@ fn history(script: &Script, machine: &Machine, trail: &Trail, halt: Halt) -> Vec
     let var = |var| trail.of_var(script, &own, var).filter(|_| inside);
     let mut found = Vec::new();
     match (halt.number, halt.path) {
-        // What a walk over a chain lacks is seldom the first field.
-        (number::PERMISSION_MISSING, Some(_)) if chains::walked(halt) => {}
-        (number::PERMISSION_MISSING, Some(path)) => {
+        (number::PERMISSION_MISSING, Some(path)) if !chains::walked(halt) => {
             // Where one half is held, what is said of the other tells it.
             let none = halt.missing.is_none_or(|missing| missing.held == 0);
             let went = trail.of_permission(script, machine, &names, &values, path);
