@@ -60,7 +60,11 @@ impl<'p, 'a> Writer<'p, 'a> {
     /// `if`, its branches and `join`, and the state after them; none if they do
     /// not fit.
     fn branches(&mut self, state: &State<'a>, depth: usize) -> Option<State<'a>> {
-        let condition = self.fact(state)?;
+        let of_chain = self.rng.chance(self.style.chains);
+        let condition = match of_chain {
+            true => self.chain_condition(state)?,
+            false => self.fact(state)?,
+        };
         let branch = Action::If(Branch {
             condition,
             other: 0,
@@ -70,6 +74,9 @@ impl<'p, 'a> Writer<'p, 'a> {
         first.add(&[condition]).ok()?;
         other.add(&[opposite(condition)]).ok()?;
         self.write(&branch);
+        if of_chain {
+            self.open_first(&mut first);
+        }
         let tries = self.rng.within(1, 8);
         let first = self.branch(first, depth + 1, tries);
         self.write(&Action::Else(0));
@@ -184,9 +191,10 @@ impl<'p, 'a> Writer<'p, 'a> {
     fn condition(&mut self, invariant: &[Atom<'a>]) -> Option<Atom<'a>> {
         let known = alone(invariant, None);
         (0..4).find_map(|_| {
-            let condition = match self.rng.chance(20) {
-                true => self.fact(&known),
-                false => self.any_fact(&known),
+            let condition = match self.rng.below(100) {
+                at if at < self.style.chains / 2 => self.chain_condition(&known),
+                80.. => self.fact(&known),
+                _ => self.any_fact(&known),
             };
             condition.filter(|&atom| framed(&[invariant, &[atom]].concat()))
         })

@@ -24,6 +24,7 @@ pub fn asked(rng: &mut Rng, halves: usize) -> Asked {
 pub fn given_back(rng: &mut Rng, halves: usize, asked_for: Asked) -> Asked {
     match asked_for {
         [Read] => &[Read],
+        [Chain] => &[Chain],
         _ => asked(rng, halves),
     }
 }
@@ -47,8 +48,11 @@ impl<'p, 'a> Writer<'p, 'a> {
         asked(self.rng, self.style.halves)[0]
     }
 
-    /// A permission to a path that the state lists; now and then to any path.
+    /// A permission to a path that the state lists, or a chain; now and then any.
     pub(super) fn known_permission(&mut self, state: &State<'a>) -> Option<Atom<'a>> {
+        if self.rng.chance(self.style.chains) {
+            return self.chain_atom(state);
+        }
         let (path, _) = self.known_path(state)?;
         Some(Atom::Permission(self.share(), path))
     }

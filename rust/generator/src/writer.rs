@@ -20,6 +20,8 @@ pub struct Style {
     pub loops: bool,
     /// Of a hundred permissions that are asked for, so many by halves.
     pub halves: usize,
+    /// Of a hundred links that are asked for, so many as chains.
+    pub chains: usize,
     /// Of a hundred lines, so many are kept whatever the checker says.
     pub wild: usize,
     /// One line for which the checker gives this number.
@@ -53,7 +55,7 @@ impl<'p, 'a> Writer<'p, 'a> {
     }
 
     /// The block's variables that a test holds of.
-    fn vars(&self, test: impl Fn(Var, Type<'a>) -> bool) -> Vec<Var> {
+    pub(super) fn vars(&self, test: impl Fn(Var, Type<'a>) -> bool) -> Vec<Var> {
         (0..VARS)
             .filter(|&var| self.type_of(var).is_some_and(|kind| test(var, kind)))
             .collect()
@@ -90,7 +92,9 @@ impl<'p, 'a> Writer<'p, 'a> {
     /// now and then any path.
     pub(super) fn known_path(&mut self, state: &State<'a>) -> Option<(Path<'a>, Type<'a>)> {
         let unknown = if self.style.miss.is_some() { 25 } else { 4 };
-        let listed = self.rng.choose(&state.permissions);
+        let listed = state.permissions.iter();
+        let listed: Vec<_> = listed.filter(|held| held.share.lists_path()).collect();
+        let listed = self.rng.choose(&listed);
         let Some(listed) = listed.filter(|_| !self.rng.chance(unknown)) else {
             let vars = self.vars(|_, kind| kind != Type::Int);
             let var = self.rng.choose(&vars)?;
@@ -269,6 +273,9 @@ impl<'p, 'a> Writer<'p, 'a> {
     /// One or more statements that make sense together.
     fn propose(&mut self, state: &State<'a>) -> Option<Vec<Action<'a>>> {
         let one = |action| Some(vec![action]);
+        if self.rng.chance(self.style.chains / 2) {
+            return self.chain_lines(state);
+        }
         match self.rng.below(100) {
             0..=11 => {
                 let vars = self
@@ -300,7 +307,7 @@ impl<'p, 'a> Writer<'p, 'a> {
     }
 
     /// All paths of a variable.
-    fn paths(&self, var: Var) -> Vec<(Path<'a>, Type<'a>)> {
+    pub(super) fn paths(&self, var: Var) -> Vec<(Path<'a>, Type<'a>)> {
         let Some(class) = self.class_of(var) else {
             return Vec::new();
         };
@@ -325,6 +332,9 @@ impl<'p, 'a> Writer<'p, 'a> {
 
     /// A statement that may well be refused with the number that is wanted.
     fn wrong(&mut self, state: &State<'a>) -> Option<Vec<Action<'a>>> {
+        if self.rng.chance(self.style.chains) {
+            return self.wrong_by_chains(state).map(|action| vec![action]);
+        }
         if self.rng.chance(self.style.halves) {
             return self.wrong_by_halves(state).map(|action| vec![action]);
         }
@@ -367,10 +377,15 @@ impl<'p, 'a> Writer<'p, 'a> {
             true => self.wrong(state),
             false => self.propose(state),
         };
-        let Some(actions) = proposed else {
-            return;
-        };
-        match self.after(state, &actions) {
+        if let Some(actions) = proposed {
+            self.offer(state, &actions);
+        }
+    }
+
+    /// Writes the statements if the checker takes them, and if the end can still be
+    /// reached.
+    pub(super) fn offer(&mut self, state: &mut State<'a>, actions: &[Action<'a>]) {
+        match self.after(state, actions) {
             Ok(after) if self.reaches(&after) => {
                 actions.iter().for_each(|action| self.write(action));
                 *state = after;
