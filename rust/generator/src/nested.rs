@@ -3,8 +3,8 @@
 use super::writer::{framed, Style, Writer};
 use crate::checker::{alone, opposite, State};
 use crate::limits;
-use crate::names::{Action, Atom, Branch, Formula, Loop, RESULT};
-use crate::text::Share;
+use crate::names::{Action, Atom, Branch, Compute, Expr, Formula, Loop, Type, FIRST_LOCAL, RESULT};
+use crate::text::{Operator, Share};
 
 /// What the writer had before it began to write an `if` or a `loop`.
 struct Mark {
@@ -202,7 +202,7 @@ impl<'p, 'a> Writer<'p, 'a> {
 
     /// Statements after which the end of a body shows the invariant. Most make
     /// the condition false as well, so that the loop ends; if a line is to be
-    /// refused, they may be left out, or a permission let go.
+    /// refused, they may be left out, or a permission or a fact let go.
     fn close(
         &mut self,
         end: &State<'a>,
@@ -218,7 +218,8 @@ impl<'p, 'a> Writer<'p, 'a> {
         let mut held = invariant.iter();
         let held = held.find(|atom| matches!(atom, Atom::Permission(..)));
         let lost = held.map(|&held| vec![Action::Release(vec![held])]);
-        for wrong in [Vec::new()].into_iter().chain(lost) {
+        let forgotten = invariant.iter().find_map(|&atom| self.forget(atom));
+        for wrong in [Vec::new()].into_iter().chain(forgotten).chain(lost) {
             let Ok(end) = self.after(end, &wrong) else {
                 continue;
             };
@@ -227,5 +228,24 @@ impl<'p, 'a> Writer<'p, 'a> {
             }
         }
         Some(closing)
+    }
+
+    /// Statements after which nothing is known of a number that the fact names.
+    fn forget(&self, fact: Atom<'a>) -> Option<Vec<Action<'a>>> {
+        let (Atom::Eq(left, right) | Atom::Ne(left, right)) = fact else {
+            return None;
+        };
+        let mut sides = [left, right].into_iter();
+        let x = sides.find_map(|side| match side {
+            Expr::Var(x @ FIRST_LOCAL..RESULT) if self.type_of(x) == Some(Type::Int) => Some(x),
+            _ => None,
+        })?;
+        let operator = Operator::Add;
+        Some(vec![Action::Compute(Compute {
+            operator,
+            x,
+            y: x,
+            z: x,
+        })])
     }
 }

@@ -40,14 +40,8 @@ pub fn walked(rng: &mut Rng) -> Vec<u8> {
 fn declared(rng: &mut Rng) -> Vec<String> {
     let mut lines = Vec::new();
     push(&mut lines, "class S\nfield int n\nfield S p\nfield S q");
-    let mut methods = vec![
-        len(rng),
-        mark(rng),
-        PUSH.to_string(),
-        rest(rng),
-        last(rng),
-        SWAP.to_string(),
-    ];
+    let mut methods = vec![len(rng), mark(rng), rest(rng), last(rng)];
+    methods.extend([PUSH, SWAP, CUT, TURN].map(str::to_string));
     // Now and then one lacks a line.
     if rng.chance(6) {
         let at = rng.below(methods.len());
@@ -124,6 +118,16 @@ const SWAP: &str = "method int swap S w\nrequires chain this p ne this null chai
     ensures chain this p chain w p\nvar S x\nvar S y\nopen x this p\nopen y w p\nset this p y\nset w p x\n\
     shut this p\nshut w p\nend";
 
+/// A chain split behind its first card.
+const CUT: &str = "method S cut int k\nrequires chain this p ne this null\n\
+    ensures chain this p chain result p ne this null\nvar S x\nvar S y\nopen x this p\nlet y null\n\
+    set this p y\nshut this p\nreturn x\nend";
+
+/// A chain turned round.
+const TURN: &str = "method S turn int k\nrequires chain this p ne this null\nensures chain result p\nvar S x\n\
+    var S y\nvar S z\nlet x this\nlet y null\nloop ne x null chain x p chain y p\nopen z x p\nset x p y\n\
+    shut x p\nlet y x\nlet x z\nagain\nreturn y\nend";
+
 /// A line of main, or some.
 fn line(rng: &mut Rng) -> String {
     let mut cards = ["s", "t", "u", "v"];
@@ -131,7 +135,7 @@ fn line(rng: &mut Rng) -> String {
     let [x, y, z, _] = cards;
     let (a, b) = rng.pick(&[("a", "b"), ("b", "c"), ("c", "a")]);
     let f = rng.pick(&["p", "p", "p", "q"]);
-    match rng.below(30) {
+    match rng.below(36) {
         0 => format!("new {x} S"),
         1 => format!("let {x} {y}"),
         2 => format!("let {x} null"),
@@ -157,13 +161,17 @@ fn line(rng: &mut Rng) -> String {
             format!("if ne {x} null\nelse\nnew {x} S\nshut {x} {f}\njoin chain {x} {f} ne {x} null")
         }
         24 => format!("if eq {a} {b}\nelse\njoin chain {x} {f} chain {y} {f}"),
+        25 => format!("call {y} {x} cut {a}"),
+        26 => format!("call {y} {x} turn {a}"),
+        27 => format!("new {y} S\nshut {y} p\ncall {a} {x} last {y}"),
+        28 => format!("new {y} S\nshut {y} p\ncall {a} {x} swap {y}"),
         _ => loops(rng, [x, y, z], [a, b]),
     }
 }
 
 /// A loop that grows a chain, takes one apart, or turns it round.
 fn loops(rng: &mut Rng, [x, y, z]: [&str; 3], [a, b]: [&str; 2]) -> String {
-    let count = rng.pick(&[0, 1, 3, 7, 40]);
+    let count = rng.pick(&[0, 1, 3, 7, 40, 200]);
     let grown = format!(
         "let {x} null\nlet {a} 0\nloop ne {a} {count} chain {x} p\nnew {y} S\nset {y} p {x}\nshut {y} p\n\
          let {x} {y}\nlet {b} 1\nadd {a} {a} {b}\nagain"
@@ -173,12 +181,16 @@ fn loops(rng: &mut Rng, [x, y, z]: [&str; 3], [a, b]: [&str; 2]) -> String {
         "let {y} null\nloop ne {x} null chain {x} p chain {y} p\nopen {z} {x} p\nset {x} p {y}\nshut {x} p\n\
          let {y} {x}\nlet {x} {z}\nagain"
     );
-    match rng.below(6) {
+    let walked = rng.pick(&["len", "turn", "cut", "rest", "mark"]);
+    let to = if walked == "len" { b } else { y };
+    let called = format!("if ne {x} null\ncall {to} {x} {walked} {a}\nelse\njoin");
+    match rng.below(8) {
         0 => apart,
         1 => turned,
         2 => format!("{grown}\n{turned}"),
         3 => format!("{grown}\n{apart}"),
         4 => grown.replace("set", rng.pick(&["assert chain t p\nset", "set"])),
+        5 | 6 => format!("{grown}\n{called}"),
         _ => grown,
     }
 }

@@ -183,5 +183,5 @@ fn what_the_checker_knows_is_so() {
     println!("{counts:?}");
     assert!(counts.texts > 1_000 && counts.states > 50_000);
     assert!(counts.permissions > 100_000 && counts.facts > 100_000);
-    assert!(counts.halves > 5_000);
+    assert!(counts.halves > 5_000 && counts.chains > 5_000);
 }
