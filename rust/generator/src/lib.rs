@@ -7,6 +7,7 @@
 mod chains;
 mod contracts;
 mod establish;
+mod facts;
 mod forms;
 mod full;
 mod links;

@@ -1,6 +1,7 @@
 //! The writer's bodies: statements, and branches and loops among them.
 
-use super::writer::{framed, Style, Writer};
+use super::facts::framed;
+use super::writer::{Style, Writer};
 use crate::checker::{alone, opposite, State};
 use crate::limits;
 use crate::names::{Action, Atom, Branch, Compute, Expr, Formula, Loop, Type, FIRST_LOCAL, RESULT};

@@ -1,10 +1,11 @@
 //! Whole programs: the declarations, contracts that can be met, and bodies.
 
 use super::contracts::contract;
+use super::facts::framed;
 use super::render;
 use super::rng::Rng;
 use super::skeleton::{skeleton, Size};
-use super::writer::{framed, Style, Writer};
+use super::writer::{Style, Writer};
 use crate::checker::{alone, State};
 use crate::limits;
 use crate::names::{Action, Atom, Block, Formula, Program};
