@@ -17,7 +17,7 @@ pub(super) fn push(lines: &mut Vec<String>, source: &str) {
 
 /// A program by one of the plans.
 pub fn recipe(rng: &mut Rng) -> Vec<u8> {
-    match rng.below(20) {
+    match rng.below(21) {
         0 => full_state(rng),
         1 => doubling(rng),
         2 => recursion(rng),
@@ -26,8 +26,8 @@ pub fn recipe(rng: &mut Rng) -> Vec<u8> {
         5 | 6 => droppings(rng),
         7 => list_walk(rng),
         8..=10 => rounds(rng),
-        11 | 12 => readers(rng),
-        13..=17 => walks(rng),
+        11..=13 => readers(rng),
+        14..=18 => walks(rng),
         _ => routes(rng),
     }
 }

@@ -51,7 +51,9 @@ impl<'p, 'a> Writer<'p, 'a> {
     /// A permission to a path that the state lists, or a chain; now and then any.
     pub(super) fn known_permission(&mut self, state: &State<'a>) -> Option<Atom<'a>> {
         if self.rng.chance(self.style.chains) {
-            return self.chain_atom(state);
+            if let Some(chain) = self.chain_atom(state) {
+                return Some(chain);
+            }
         }
         let (path, _) = self.known_path(state)?;
         Some(Atom::Permission(self.share(), path))

@@ -148,7 +148,9 @@ impl<'p, 'a> Writer<'p, 'a> {
     fn propose(&mut self, state: &State<'a>) -> Option<Vec<Action<'a>>> {
         let one = |action| Some(vec![action]);
         if self.rng.chance(self.style.chains / 2) {
-            return self.chain_lines(state);
+            if let Some(lines) = self.chain_lines(state) {
+                return Some(lines);
+            }
         }
         match self.rng.below(100) {
             0..=11 => {

@@ -3,7 +3,7 @@
 
 use crate::common::script;
 use crate::{main_with, method};
-use model::machine::Machine;
+use model::machine::{Machine, Step};
 use model::names::{Atom, Expr};
 use model::read;
 use model::text::{self, Share};
@@ -75,7 +75,7 @@ fn halted<T>(statements: &str, look: impl FnOnce(Halt) -> T) -> T {
     let text = script(&main_with(&format!("new s S\nnew t S\n{statements}")));
     let program = read(&text).expect("a program");
     let mut machine = Machine::new(&program);
-    while machine.step().is_ok() {}
+    while machine.step() == Ok(Step::On) {}
     look(machine.halt.expect("a stop"))
 }
 
