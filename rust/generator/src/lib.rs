@@ -4,10 +4,13 @@
 
 #![forbid(unsafe_code)]
 
+mod chains;
 mod contracts;
 mod establish;
+mod facts;
 mod forms;
 mod full;
+mod links;
 pub mod misses;
 pub mod mutate;
 mod nested;
@@ -15,11 +18,13 @@ pub mod program;
 pub mod readers;
 pub mod recipes;
 mod render;
+pub mod rings;
 pub mod rng;
 pub mod rounds;
 pub mod routes;
 mod shares;
 mod skeleton;
+pub mod walks;
 mod writer;
 
 // The parts of the model by which texts are written.

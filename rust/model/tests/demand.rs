@@ -7,8 +7,8 @@ mod common;
 
 use common::{example, script, text};
 use generator::{self as gen, rng::Rng};
-use model::machine::{callee_values, location, run, Location, Machine, Step};
-use model::names::{Action, Atom, Call, Program};
+use model::machine::{callee_values, location, run, Location, Machine, Step, Values};
+use model::names::{Action, Atom, Call, Path, Program};
 use model::text::Share;
 use model::{check, read, Judged};
 use std::collections::BTreeMap;
@@ -36,13 +36,29 @@ struct Seen {
     /// them that were handed over by two `read`.
     changed: usize,
     changed_by_reads: usize,
+    /// Those of them that were handed over by a chain.
+    changed_by_chains: usize,
     /// Fields of which a call hands over one half.
     shared: usize,
     /// The first field that changed though it was not handed over.
     violation: Option<(Location, u32)>,
 }
 
-/// What the `acc` and `read` atoms of requires take, by y and z for `this` and w.
+/// The locations on the way from x by f to null, each once.
+fn chain(machine: &Machine, values: &Values, path: Path) -> Vec<Location> {
+    let mut values = *values;
+    let mut passed = Vec::new();
+    while let Some(place) = location(&machine.objects, &values, path) {
+        if passed.contains(&place) {
+            break;
+        }
+        passed.push(place);
+        values[path.var] = machine.heap[place];
+    }
+    passed
+}
+
+/// What the permissions of requires take, by y and z for `this` and w.
 fn footprint(machine: &Machine, call: Call) -> Handed {
     let values = callee_values(&machine.frame().values, call);
     let mut handed = Handed::new();
@@ -50,7 +66,13 @@ fn footprint(machine: &Machine, call: Call) -> Handed {
         let Atom::Permission(share, path) = *atom else {
             continue;
         };
-        if let Some(place) = location(&machine.objects, &values, path) {
+        let places = match share {
+            Share::Chain => chain(machine, &values, path),
+            _ => location(&machine.objects, &values, path)
+                .into_iter()
+                .collect(),
+        };
+        for place in places {
             handed.entry(place).or_default().push(share);
         }
     }
@@ -73,6 +95,7 @@ fn look(machine: &Machine, open: &[OpenCall], line: u32, seen: &mut Seen) {
                 Some(shares) if whole(shares) => {
                     seen.changed += 1;
                     seen.changed_by_reads += usize::from(shares.len() == 2);
+                    seen.changed_by_chains += usize::from(shares[..] == [Share::Chain]);
                 }
                 _ => seen.violation = seen.violation.or(Some((place, line))),
             }
@@ -146,6 +169,35 @@ fn the_walk_goes_on_up_to_the_last_state() {
     assert_eq!(walk(&program, 1_000, true).violation, None);
 }
 
+/// The fields of a chain that is handed over may change, and no others: in a walk
+/// over the first two of three cards the second's `prev` may, not the third's.
+#[test]
+fn the_cards_of_a_chain_are_handed_over() {
+    let source = "class S\nfield S p\nfield int n\nmethod int m S w\nrequires chain this p ne this null\n\
+                  ensures chain this p\nvar S x\nvar S y\nopen x this p\nif ne x null\nopen y x p\n\
+                  let y null\nset x p y\nshut x p\nelse\nlet x null\njoin acc this p eq this.p x chain x p\n\
+                  shut this p\nend\nmain\nvar S s\nvar S t\nvar S u\nvar int a\nnew u S\nshut u p\nnew t S\n\
+                  set t p u\nshut t p\nnew s S\nset s p t\nshut s p\nnew u S\ncall a s m u\nend";
+    let text = script(source);
+    assert_eq!(check(&text), (0, 0));
+    let program = read(&text).unwrap();
+    let seen = walk(&program, 1_000, true);
+    assert_eq!((seen.calls, seen.ended, seen.violation), (1, 1, None));
+    assert!(seen.changed_by_chains > 0);
+    // `t.p`, the third card made being s: its place is 2, and it is set at line 13.
+    assert_eq!(walk(&program, 1_000, false).violation, Some((2, 13)));
+    let mut machine = Machine::new(&program);
+    while !matches!(machine.statement().action, Action::Call(_)) {
+        machine.step().unwrap();
+    }
+    let Action::Call(call) = machine.statement().action else {
+        unreachable!("the line of the call");
+    };
+    // The links of s, t and the first u; no other field, and not the new card's.
+    let handed: Vec<Location> = footprint(&machine, call).into_keys().collect();
+    assert_eq!(handed, [0, 2, 4]);
+}
+
 /// A field handed over by two `read` may change; one of which the caller keeps a
 /// half may not, and a machine that let it would be seen.
 #[test]
@@ -185,7 +237,7 @@ fn two_halves_are_handed_over_whole() {
 #[test]
 fn accepted_texts_stop_with_0_21_22_23_or_27() {
     let mut numbers = BTreeMap::new();
-    let mut texts = 0;
+    let (mut texts, mut with_chains) = (0, 0);
     for seed in 0..5_000 {
         let text = gen::text(0x1000_0000 + seed);
         let judged = Judged::new(&text);
@@ -193,6 +245,7 @@ fn accepted_texts_stop_with_0_21_22_23_or_27() {
             continue;
         };
         texts += 1;
+        with_chains += usize::from(has_chain(program));
         let whole = run(program, 5_000);
         let mut rng = Rng::new(seed);
         let few = 0..whole.steps.min(40);
@@ -208,10 +261,26 @@ fn accepted_texts_stop_with_0_21_22_23_or_27() {
             assert!(out || run == whole, "seed {seed}");
         }
     }
-    println!("{texts} accepted texts: {numbers:?}");
-    assert!(texts > 1_500);
+    println!("{texts} accepted texts, {with_chains} with chains: {numbers:?}");
+    assert!(texts > 1_500 && with_chains > 300);
     let numbers: Vec<u32> = numbers.into_keys().collect();
     assert_eq!(numbers, [0, 21, 22, 23, 27]);
+}
+
+/// Does a line of the program ask for a chain, open or shut one?
+fn has_chain(program: &Program) -> bool {
+    let chain = |formula: &[Atom]| {
+        let is = |atom: &Atom| matches!(atom, Atom::Permission(Share::Chain, _));
+        formula.iter().any(is)
+    };
+    let lines = program.statements.iter();
+    let contracts = program.blocks.iter();
+    let contracts = contracts.flat_map(|block| [&block.requires[..], &block.ensures[..]]);
+    let formulas = lines.clone().filter_map(|line| line.action.formula());
+    contracts.chain(formulas).any(chain)
+        || lines
+            .into_iter()
+            .any(|line| matches!(line.action, Action::Open(_) | Action::Shut(_)))
 }
 
 /// Adds what the walk of one text has seen to what the others have.
@@ -222,6 +291,7 @@ fn walk_one(text: &[u8], program: &Program, all: &mut Seen) {
     all.ended += seen.ended;
     all.changed += seen.changed;
     all.changed_by_reads += seen.changed_by_reads;
+    all.changed_by_chains += seen.changed_by_chains;
     all.shared += seen.shared;
     all.deepest = all.deepest.max(seen.deepest);
 }
@@ -241,6 +311,7 @@ fn calls_leave_what_is_not_handed_over_whole() {
     assert!(accepted.calls > 20_000 && accepted.ended > 10_000);
     assert!(accepted.changed > 10_000 && accepted.deepest == 64);
     assert!(accepted.shared > 2_000 && accepted.changed_by_reads > 200);
+    assert!(accepted.changed_by_chains > 200);
     assert!(refused.calls > 2_000 && refused.ended > 1_000);
     assert!(refused.changed > 500);
 }

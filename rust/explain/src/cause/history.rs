@@ -60,6 +60,7 @@ impl Trail {
         match &statement.action {
             Action::Let(x, _) => self.vars[depth - 1][*x] = at,
             Action::Compute(compute) => self.vars[depth - 1][compute.x] = at,
+            Action::Open(open) => self.vars[depth - 1][open.y] = at,
             Action::New(x, _) => {
                 self.vars[depth - 1][*x] = at;
                 self.fields.resize(machine.heap.len(), at);

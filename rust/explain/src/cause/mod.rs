@@ -4,6 +4,7 @@
 
 mod bounds;
 mod bytes;
+mod chains;
 mod form;
 mod half_helps;
 pub(crate) mod halves;

@@ -113,6 +113,7 @@ pub fn fault(text: &[u8], number: u32) -> Option<Cause> {
             .mark(name_mark(name))
         }
         Fault::NoInt(name) => no_int(&look, name).mark(name_mark(name)),
+        Fault::NoLink(x, field, kind) => no_link(x, field, kind).mark(name_mark(field)),
         Fault::Assigned(name) => assigned(&look, name).mark(name_mark(name)),
         Fault::Same(name) => same(&look, name).mark(name_mark(name)),
         _ => return None,
@@ -388,8 +389,22 @@ fn assigned(look: &Look, name: Name) -> Cause {
     }
 }
 
+/// The field of a chain that does not lead to a card of the same class.
+fn no_link(x: Name, field: Name, kind: Type) -> Cause {
+    let (x, field, kind) = (shown(x), shown(field), kind_shown(Kind::Of(kind)));
+    Cause::new(format!(
+        "`{x}.{field}` is {kind}; a chain goes by a field with the class of `{x}` as its type"
+    ))
+}
+
 fn same(look: &Look, name: Name) -> Cause {
     let name_shown = shown(name);
+    if matches!(look.line(), Some(Line::Open(..))) {
+        return Cause::new(format!(
+            "`{name_shown}` takes the next card, and is the card that is opened too"
+        ))
+        .help("take the next card in another variable");
+    }
     let role = match look.line() {
         Some(Line::Call(_, y, _, _)) if *y == name => "the receiver",
         _ => "the argument",
@@ -417,7 +432,7 @@ pub fn unframed(text: &[u8], number: u32) -> Option<Cause> {
     let look = Look::at(text, number)?;
     let (atoms, conditions) = framed_atoms(look.line()?)?;
     let (atom, x, field) = model::framing::unframed_in(look.line()?)?;
-    let [acc, half] = text::Share::ALL.map(|share| permission(share, x, field));
+    let [acc, half] = text::Share::OF_PATHS.map(|share| permission(share, x, field));
     let path = format!("{}.{}", shown(x), shown(field));
     let condition = atom < conditions;
     let said = match condition {
@@ -433,23 +448,31 @@ pub fn unframed(text: &[u8], number: u32) -> Option<Cause> {
         true => &atoms[conditions..],
         false => &atoms[conditions..atom],
     };
-    let other = serving.iter().find_map(|atom| match atom {
-        text::Atom::Permission(share, y, f) if *f == field && *y != x => Some(format!(
+    let mut others = serving.iter().filter_map(|atom| of_field(atom, field));
+    let other = others.find(|&(_, y)| y != x).map(|(share, y)| {
+        format!(
             "`{}` does not count for `{path}`, also if the two are one card: it goes by the names \
              as written",
-            permission(*share, y, field)
-        )),
-        _ => None,
+            permission(share, y, field)
+        )
     });
-    let later = atoms[atom..].iter().find_map(|atom| match atom {
-        text::Atom::Permission(share, y, f) if (*y, *f) == (x, field) => Some(*share),
-        _ => None,
-    });
+    let mut later = atoms[atom..]
+        .iter()
+        .filter_map(|atom| of_field(atom, field));
+    let later = later.find(|&(_, y)| y == x).map(|(share, _)| share);
     Some(cause.or_note(other).help(match later {
         _ if condition => format!("write `{acc}` or `{half}` after the condition"),
         Some(share) => format!("move `{}` before it", permission(share, x, field)),
         None => format!("write `{acc}` or `{half}` before it"),
     }))
+}
+
+/// The share and the variable of a permission to a path of the field.
+fn of_field<'a>(atom: &text::Atom<'a>, field: Name) -> Option<(text::Share, Name<'a>)> {
+    match *atom {
+        text::Atom::Permission(share, y, f) if share.lists_path() && f == field => Some((share, y)),
+        _ => None,
+    }
 }
 
 /// `acc x f` or `read x f`.

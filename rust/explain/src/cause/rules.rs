@@ -7,7 +7,7 @@ use super::helps::help;
 use super::route::{dropped, lost, route, told, told_fact, Step};
 use super::Cause;
 use crate::script::{field_range, line, listed, shown, Names, Script};
-use model::checker::{State, Term};
+use model::checker::{Permission, State, Term};
 use model::limits;
 use model::names::{Action, Atom, Expr, Path, Statement};
 use model::number::STATE_FULL;
@@ -133,6 +133,7 @@ impl<'s, 'a> Unshown<'s, 'a> {
                 format!("`ensures` (line {line}) promises `{wanted}`, which is {missing} here")
             }
             _ if self.read.is_some() => format!("the line {needs}"),
+            Purpose::Open | Purpose::Shut => format!("it takes `{wanted}`, {missing} here"),
             _ => format!("`{wanted}` is {missing} here"),
         }
     }
@@ -207,6 +208,8 @@ impl<'s, 'a> Unshown<'s, 'a> {
             (Purpose::Requires, _) => 3..4,
             (Purpose::Ensures | Purpose::RoundEnd, _) => 0..1,
             (Purpose::Invariant, _) => 4 + 3 * at..7 + 3 * at,
+            (Purpose::Open, _) => 2..4,
+            (Purpose::Shut, _) => 1..3,
             _ => 1 + 3 * at..4 + 3 * at,
         };
         field_range(bytes, fields)
@@ -249,20 +252,24 @@ fn lines_between(from: u32, to: u32) -> String {
     }
 }
 
+/// The permissions that are held for the field of another card of the class.
+fn held_like<'a>(names: &Names, state: &State<'a>, share: Share, path: Path<'a>) -> Vec<String> {
+    let like = |held: &&Permission| {
+        held.share.lists_path() == share.lists_path() && held.field == path.field
+    };
+    let held = state.permissions.iter().filter(like);
+    let held = held.filter(|held| names.kind(held.var) == names.kind(path.var));
+    held.map(|held| names.held(held)).collect()
+}
+
 /// What comes nearest to the atom in the state.
 fn nearest<'a>(names: &Names, state: &State<'a>, wanted: Atom<'a>) -> Option<String> {
     match wanted {
         Atom::Permission(_, path) if state.equals(Term::Var(path.var)).contains(&Term::Null) => {
             Some(format!("`{}` is known to be null", names.var(path.var)))
         }
-        Atom::Permission(_, path) => {
-            let held = state.permissions.iter();
-            let held: Vec<String> = held
-                .filter(|held| {
-                    held.field == path.field && names.kind(held.var) == names.kind(path.var)
-                })
-                .map(|held| names.held(held))
-                .collect();
+        Atom::Permission(share, path) => {
+            let held = held_like(names, state, share, path);
             let var = names.var(path.var);
             match held.is_empty() {
                 true if state.permissions.is_empty() => Some("no permission is held here".into()),
@@ -325,6 +332,19 @@ fn went(unshown: &Unshown, steps: &[Step]) -> Option<String> {
     Some(told_fact(unshown.script, place, fact))
 }
 
+/// `shut` without a chain of the value of its path.
+fn no_rest(script: &Script, record: &Record, number: u32) -> Option<Cause> {
+    let asked = record.asked.as_ref()?;
+    let path = asked.rest?;
+    let names = script.names_at(asked.place);
+    let (shown_path, field) = (names.expr(Expr::Path(path)), shown(path.field));
+    let bytes = line(script.text, number)?;
+    let cause = Cause::new(format!(
+        "`shut` takes a chain by `{field}` of the value of `{shown_path}`, and none is held here"
+    ));
+    Some(cause.mark(field_range(bytes, 1..3)))
+}
+
 /// Number 14: what is full.
 fn full(script: &Script, record: &Record, number: u32) -> Option<Cause> {
     let place = script.statement_at(number)?;
@@ -353,9 +373,13 @@ pub fn cause(text: &[u8], number: u32) -> Option<Cause> {
 
 /// The same, of a check that was written down.
 pub fn cause_in(script: &Script, record: &Record, number: u32) -> Option<Cause> {
-    if record.refusal?.number == STATE_FULL {
-        return full(script, record, number);
+    match record.refusal?.number {
+        STATE_FULL => full(script, record, number),
+        _ => no_rest(script, record, number).or_else(|| not_shown(script, record, number)),
     }
+}
+
+fn not_shown(script: &Script, record: &Record, number: u32) -> Option<Cause> {
     let asked = record.asked.as_ref()?;
     let unshown = Unshown::of(script, asked)?;
     let bytes = line(script.text, number)?;

@@ -1,5 +1,6 @@
 //! Why a run stopped, and the calls that are open then.
 
+use super::chains;
 use super::history::{open_loops, same_card, Trail};
 use super::stopped_halves::{half_written, lack, with_other};
 use super::Cause;
@@ -8,7 +9,7 @@ use crate::script::{field_range, line, quoted, shown, Names, Script};
 use model::machine::{Machine, Step, Values};
 use model::names::{Action, Atom, Expr, Path, Type};
 use model::number;
-use model::text::Operator;
+use model::text::{Operator, Share};
 use model::watch::{Halt, Tested};
 
 /// Longer runs are not done again to say more about them.
@@ -125,8 +126,8 @@ pub fn stop_cause(text: &[u8], steps: u32, stop: u32) -> Option<Cause> {
     let tested = formula(&script, &machine, halt.tested);
     let bytes = line(text, statement.line)?;
     let Some((at, tested)) = halt.atom.zip(tested) else {
-        let said = full(&script, &machine, stop);
-        let said = said.or_else(|| half_written(&names, halt));
+        let said = chains::walk(&machine, halt).or_else(|| full(&script, &machine, stop));
+        let said = said.or_else(|| half_written(&names, &statement.action, halt));
         let said = said.or_else(|| followed(&names, &statement.action, halt.path, stop));
         let said = said.or_else(|| overflow(&names, &machine));
         let looping = matches!(statement.action, Action::Loop(_));
@@ -160,7 +161,7 @@ fn history(script: &Script, machine: &Machine, trail: &Trail, halt: Halt) -> Vec
     let var = |var| trail.of_var(script, &own, var).filter(|_| inside);
     let mut found = Vec::new();
     match (halt.number, halt.path) {
-        (number::PERMISSION_MISSING, Some(path)) => {
+        (number::PERMISSION_MISSING, Some(path)) if !chains::walked(halt) => {
             // Where one half is held, what is said of the other tells it.
             let none = halt.missing.is_none_or(|missing| missing.held == 0);
             let went = trail.of_permission(script, machine, &names, &values, path);
@@ -271,6 +272,7 @@ fn reads(script: &Script, opened: &model::names::Loop) -> Option<String> {
             Action::Let(x, _) | Action::New(x, _) => var(*x),
             Action::Compute(compute) => var(compute.x),
             Action::Call(call) => var(call.x),
+            Action::Open(open) => var(open.y),
             Action::Set(path, _) => matches!(side, Expr::Path(read) if read.field == path.field),
             _ => false,
         }) || (calls && matches!(side, Expr::Path(_)))
@@ -339,6 +341,9 @@ fn false_atom(
                 .filter_map(|expr| side(machine, tested, expr))
                 .collect();
             format!("{shown} is false: {}", sides.join(", "))
+        }
+        (_, Atom::Permission(Share::Chain, _)) => {
+            format!("{shown}: {}", chains::walk(machine, halt)?)
         }
         (number::PERMISSION_MISSING, _) => {
             format!("{shown}: {} {}", names.title(), lack(halt.missing))
