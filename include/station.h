@@ -66,7 +66,7 @@ enum station_number {
     STATION_NAME = 6,               /* name undeclared, not allowed, reserved, declared twice */
     STATION_TYPE = 7,               /* wrong type */
     STATION_UNFINISHED = 8,         /* text ends before main's `end` */
-    STATION_ASSIGNED = 9,           /* variable that may not be assigned; `call x` with x as y or z */
+    STATION_ASSIGNED = 9,           /* variable that may not be assigned; `call x` with x as y or z; `open x x` */
     STATION_UNFRAMED = 10,          /* path read before its `acc` or `read` */
     STATION_UNRESOLVED = 11,        /* path that does not resolve */
     STATION_NO_PERMISSION = 12,     /* permission not shown */

@@ -1,8 +1,10 @@
 //! The answers in sentences, for the text and the page.
 
-use super::claims::{Theorem, AT_A_LINE, BOUND, EVERY_RUN, FRAMES, FRAME_KEPT, HALVES_KEPT, TRIAL};
+use super::claims::{
+    Theorem, AT_A_LINE, BOUND, CHAINS, EVERY_RUN, FRAMES, FRAME_KEPT, HALVES_KEPT, TRIAL,
+};
 use super::findings::Findings;
-use super::handed::Share;
+use super::handed::{has_chains, Share};
 use super::methods::{Handed, Row};
 use super::said::{self, code, joined, sentence, text, Piece, Said};
 use explain::routes::Leg;
@@ -169,20 +171,37 @@ pub fn proved(findings: &Findings, column: &str) -> Option<Proved> {
         Some(1) => "kept by a call",
         _ => return None,
     };
-    let theorem = match findings.refusal() {
-        None => &EVERY_RUN,
-        Some(_) => &TRIAL,
-    };
+    let theorem = of_calls(findings);
     Some(Proved { theorem, says })
 }
 
-/// What is proved of the two columns, in full.
+/// The theorem on calls: of a refused text that of trials.
+fn of_calls(findings: &Findings) -> &'static Theorem {
+    match findings.refusal() {
+        None => &EVERY_RUN,
+        Some(_) => &TRIAL,
+    }
+}
+
+/// What is proved of chains, if the text has to do with them.
+pub fn proved_of_chains(findings: &Findings) -> Option<Proved> {
+    let theorem = of_calls(findings);
+    let says = "whoever holds `chain x f` is at a list that ends in null: no ring, and no card of \
+                it is held by another";
+    let chains = findings.script.as_ref().is_some_and(has_chains);
+    chains.then_some(Proved { theorem, says })
+}
+
+/// What is proved of the two columns, and of chains, in full.
 pub fn proved_of_methods() -> String {
+    let [held, handed] = CHAINS;
     format!(
         "Proved: of the cards that are there at a call, it can change what is handed over, by \
          `acc` or by both halves, and nothing else; what is handed over for reading, by one \
          half, keeps its value (`{FRAME_KEPT}`). All frames together hold at most two halves of \
-         a field (`{HALVES_KEPT}`). The other columns are read off the text."
+         a field (`{HALVES_KEPT}`). By `chain x f` is handed over `x.f` and the `f` of each card that \
+         it leads to; whoever holds one is at a list that ends in null: no ring, and no card of it \
+         is held by another (`{held}`, `{handed}`). The other columns are read off the text."
     )
 }
 
@@ -222,8 +241,18 @@ fn whole(row: &Row) -> Said {
 /// What is handed over for reading.
 fn for_reading(row: &Row) -> Said {
     let handed = row.handed.iter();
-    let half = handed.filter(|handed| handed.share != Share::Whole);
+    let half = handed.filter(|handed| !matches!(handed.share, Share::Whole | Share::Chain));
     joined(half.map(|handed| handed_if(handed, "another")), "nothing")
+}
+
+/// What is not given back, and of which chains perhaps not all is.
+fn kept(row: &Row) -> Said {
+    let kept = row.handed.iter().filter(|handed| !handed.back);
+    let said = kept.map(|handed| match handed.perhaps {
+        true => vec![text("perhaps a part of "), code(handed.path.clone())],
+        false => vec![code(handed.path.clone())],
+    });
+    joined(said, "nothing")
 }
 
 /// What stands in the columns for a method or main.
@@ -256,7 +285,7 @@ pub fn cells(row: &Row) -> [Said; 7] {
         for_reading(row),
         joined(written, "nothing"),
         paths(&|handed| !handed.written),
-        paths(&|handed| !handed.back),
+        kept(row),
         joined(makes, "none"),
         joined(callers, never),
     ]

@@ -95,6 +95,10 @@ fn alters(out: &mut String, findings: &Findings) {
         let (says, name) = (proved.says, proved.theorem.name);
         row(out, "proved", &format!("`{column}` is {says}: {name}"));
     }
+    if let Some(proved) = answers::proved_of_chains(findings) {
+        let (says, name) = (proved.says, proved.theorem.name);
+        row(out, "proved", &format!("{says}: {name}"));
+    }
     let read: Vec<&str> = COLUMNS
         .into_iter()
         .filter(|one| proof(one).is_none())

@@ -113,7 +113,7 @@ pub fn fault(text: &[u8], number: u32) -> Option<Cause> {
             .mark(name_mark(name))
         }
         Fault::NoInt(name) => no_int(&look, name).mark(name_mark(name)),
-        Fault::NoLink(x, field, kind) => no_link(x, field, kind).mark(name_mark(field)),
+        Fault::NoLink(x, field, kind) => no_link(&look, x, field, kind).mark(name_mark(field)),
         Fault::Assigned(name) => assigned(&look, name).mark(name_mark(name)),
         Fault::Same(name) => same(&look, name).mark(name_mark(name)),
         _ => return None,
@@ -390,11 +390,26 @@ fn assigned(look: &Look, name: Name) -> Cause {
 }
 
 /// The field of a chain that does not lead to a card of the same class.
-fn no_link(x: Name, field: Name, kind: Type) -> Cause {
+fn no_link(look: &Look, x: Name, field: Name, kind: Type) -> Cause {
+    let own = look.variable_kind(x);
+    let class = own.and_then(|kind| match kind {
+        Type::Class(class) => look.class(class),
+        Type::Int => None,
+    });
+    let links = class.map_or(&[][..], |class| &class.fields).iter();
+    let links: Vec<String> = links
+        .filter(|field| Some(field.kind) == own)
+        .map(|field| shown(field.name))
+        .collect();
+    let class = class.map_or(String::new(), |class| shown(class.name));
     let (x, field, kind) = (shown(x), shown(field), kind_shown(Kind::Of(kind)));
-    Cause::new(format!(
+    let cause = Cause::new(format!(
         "`{x}.{field}` is {kind}; a chain goes by a field with the class of `{x}` as its type"
-    ))
+    ));
+    match links.is_empty() {
+        true => cause.note(format!("class {class} has no such field")),
+        false => cause.note(format!("class {class} has {}", listed(&links, "and"))),
+    }
 }
 
 fn same(look: &Look, name: Name) -> Cause {
@@ -456,6 +471,12 @@ pub fn unframed(text: &[u8], number: u32) -> Option<Cause> {
             permission(share, y, field)
         )
     });
+    let chain = atoms.contains(&text::Atom::Permission(text::Share::Chain, x, field));
+    let chain = chain.then(|| {
+        let chain = permission(text::Share::Chain, x, field);
+        format!("`{chain}` does not count: a link of a chain is read after `open`, in the body")
+    });
+    let cause = cause.or_note(chain);
     let mut later = atoms[atom..]
         .iter()
         .filter_map(|atom| of_field(atom, field));

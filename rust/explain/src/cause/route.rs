@@ -4,6 +4,7 @@
 use crate::script::{quoted, shown, Names, Script};
 use model::checker::{Fact, State, Term};
 use model::names::{Action, Atom, Expr, Statement, Var};
+use model::text::Share;
 use model::watch::Record;
 
 /// One statement of the way, with the states before and after it.
@@ -127,6 +128,11 @@ pub fn reason(script: &Script, names: &Names, action: &Action, atom: Atom) -> St
         }
         Action::Let(x, _) | Action::New(x, _) => another_value(names, *x),
         Action::Open(open) if names_var(atom, open.y) => another_value(names, open.y),
+        Action::Open(_) => "and not shut since".to_string(),
+        Action::Shut(path) => {
+            let chain = names.atom(Atom::Permission(Share::Chain, *path));
+            format!("which makes it a part of `{chain}`")
+        }
         Action::Compute(compute) => format!(
             "which gives `{}` another value, of which nothing is known",
             names.var(compute.x)

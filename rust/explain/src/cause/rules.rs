@@ -1,6 +1,7 @@
 //! Numbers 11 to 14: which atom is not shown, for what, where it went, and what
 //! comes nearest to it.
 
+use super::chains;
 use super::half_helps;
 use super::halves;
 use super::helps::help;
@@ -37,7 +38,14 @@ impl<'s, 'a> Unshown<'s, 'a> {
             _ => None,
         };
         let place = asked.unshown();
+        if let Some(path) = asked.rest {
+            let wanted = chains::rest(script, &asked.state, asked.place, path);
+            return Some(Unshown::wanting(script, asked, wanted));
+        }
         let (wanted, read) = match (asked.read, place) {
+            (Some(expr), _) if asked.purpose == Purpose::Shut => {
+                (Atom::Permission(Share::Acc, bare(expr)?), None)
+            }
             (Some(expr), _) => {
                 let path = bare(expr)?;
                 (Atom::Permission(Share::Read, path), Some(path))
@@ -62,6 +70,17 @@ impl<'s, 'a> Unshown<'s, 'a> {
             wanted,
             read,
         })
+    }
+
+    /// One atom that no formula has.
+    fn wanting(script: &'s Script<'a>, asked: &'s Asked<'a>, wanted: Atom<'a>) -> Self {
+        Unshown {
+            script,
+            asked,
+            place: None,
+            wanted,
+            read: None,
+        }
     }
 
     pub fn names(&self) -> Names<'s, 'a> {
@@ -133,7 +152,9 @@ impl<'s, 'a> Unshown<'s, 'a> {
                 format!("`ensures` (line {line}) promises `{wanted}`, which is {missing} here")
             }
             _ if self.read.is_some() => format!("the line {needs}"),
-            Purpose::Open | Purpose::Shut => format!("it takes `{wanted}`, {missing} here"),
+            Purpose::Open | Purpose::Shut => {
+                chains::said(self.asked.purpose, &names, self.wanted, missing)
+            }
             _ => format!("`{wanted}` is {missing} here"),
         }
     }
@@ -233,8 +254,13 @@ impl<'s, 'a> Unshown<'s, 'a> {
         };
         Some(match earlier {
             _ if one == other => format!("`{one}` is asked for twice, and it is held once"),
-            Atom::Permission(_, path) => format!(
-                "`{one}` and `{other}` ask for two cards, and `{}` and `{}` are known to be one",
+            Atom::Permission(share, path) => format!(
+                "`{one}` and `{other}` ask for two {}, and `{}` and `{}` are known to be one",
+                if share == Share::Chain {
+                    "chains"
+                } else {
+                    "cards"
+                },
                 names.var(path.var),
                 names.var(wanted.var)
             ),
@@ -332,19 +358,6 @@ fn went(unshown: &Unshown, steps: &[Step]) -> Option<String> {
     Some(told_fact(unshown.script, place, fact))
 }
 
-/// `shut` without a chain of the value of its path.
-fn no_rest(script: &Script, record: &Record, number: u32) -> Option<Cause> {
-    let asked = record.asked.as_ref()?;
-    let path = asked.rest?;
-    let names = script.names_at(asked.place);
-    let (shown_path, field) = (names.expr(Expr::Path(path)), shown(path.field));
-    let bytes = line(script.text, number)?;
-    let cause = Cause::new(format!(
-        "`shut` takes a chain by `{field}` of the value of `{shown_path}`, and none is held here"
-    ));
-    Some(cause.mark(field_range(bytes, 1..3)))
-}
-
 /// Number 14: what is full.
 fn full(script: &Script, record: &Record, number: u32) -> Option<Cause> {
     let place = script.statement_at(number)?;
@@ -357,6 +370,9 @@ fn full(script: &Script, record: &Record, number: u32) -> Option<Cause> {
         limits::FACTS.min(limits::PERMISSIONS)
     );
     let cause = Cause::new(text).mark(field_range(bytes, 0..usize::MAX));
+    let opens = matches!(script.program.statements[place].action, Action::Open(_));
+    let opens = opens.then_some("`open` takes a chain, and gives a permission, a fact and a chain");
+    let cause = cause.or_note(opens.map(str::to_string));
     // A fact of what is released passes on where something is equal to it.
     Some(match permissions < facts {
         true => cause.help("move a part into a method, whose `ensures` says only what is needed"),
@@ -375,7 +391,7 @@ pub fn cause(text: &[u8], number: u32) -> Option<Cause> {
 pub fn cause_in(script: &Script, record: &Record, number: u32) -> Option<Cause> {
     match record.refusal?.number {
         STATE_FULL => full(script, record, number),
-        _ => no_rest(script, record, number).or_else(|| not_shown(script, record, number)),
+        _ => chains::no_rest(script, record, number).or_else(|| not_shown(script, record, number)),
     }
 }
 
@@ -393,6 +409,9 @@ fn not_shown(script: &Script, record: &Record, number: u32) -> Option<Cause> {
     }
     let names = unshown.names();
     let steps = route(script, record, unshown.target());
+    if let Some(cause) = chains::broken(&cause, &unshown, &steps) {
+        return Some(cause);
+    }
     let lost_at = lost(&steps, unshown.wanted);
     let cause = match lost_at {
         Some(place) => cause.note(told(script, place, unshown.wanted)),
@@ -408,6 +427,7 @@ fn not_shown(script: &Script, record: &Record, number: u32) -> Option<Cause> {
         },
     };
     let cause = cause.or_note(nearest(&names, &asked.state, unshown.wanted));
+    let cause = cause.or_note(chains::inside(&names, &asked.state, unshown.wanted));
     let cause = cause.or_note(halves::may_be_one(&names, &asked.state, unshown.wanted));
     let wanted = half_helps::offered(&unshown, &steps, lost_at);
     let unshown = Unshown { wanted, ..unshown };

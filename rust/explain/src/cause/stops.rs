@@ -1,7 +1,7 @@
 //! Why a run stopped, and the calls that are open then.
 
-use super::chains;
 use super::history::{open_loops, same_card, Trail};
+use super::stopped_chains::{Walk, NO_RING};
 use super::stopped_halves::{half_written, lack, with_other};
 use super::Cause;
 use crate::rounds::Open;
@@ -126,24 +126,24 @@ pub fn stop_cause(text: &[u8], steps: u32, stop: u32) -> Option<Cause> {
     let tested = formula(&script, &machine, halt.tested);
     let bytes = line(text, statement.line)?;
     let Some((at, tested)) = halt.atom.zip(tested) else {
-        let said = chains::walk(&machine, halt).or_else(|| full(&script, &machine, stop));
+        let said = walk_said(&machine, names, halt).or_else(|| full(&script, &machine, stop));
         let said = said.or_else(|| half_written(&names, &statement.action, halt));
         let said = said.or_else(|| followed(&names, &statement.action, halt.path, stop));
         let said = said.or_else(|| overflow(&names, &machine));
         let looping = matches!(statement.action, Action::Loop(_));
         let mark = field_range(bytes, 1..4).filter(|_| looping);
-        let cause = said.map(|said| Cause::new(said).mark(mark));
+        let cause = said.map(|said| Cause::new(said).mark(mark).or_help(ring_help(halt)));
         let cause = cause.map(|cause| with_other(cause, &script, &machine, halt));
         return cause.map(|cause| history.into_iter().fold(cause, Cause::note));
     };
-    let said = false_atom(&machine, &names, &tested, *tested.atoms.get(at)?, halt)?;
+    let said = false_atom(&machine, &names, &tested, at, halt)?;
     let first = match halt.tested {
         Tested::Line => Some(at),
         Tested::Invariant => Some(at + 1),
         _ => None,
     };
     let mark = first.and_then(|at| field_range(bytes, 1 + 3 * at..4 + 3 * at));
-    let cause = Cause::new(said).mark(mark);
+    let cause = Cause::new(said).mark(mark).or_help(ring_help(halt));
     let cause = with_other(cause, &script, &machine, halt);
     Some(history.into_iter().fold(cause, Cause::note))
 }
@@ -157,11 +157,15 @@ fn history(script: &Script, machine: &Machine, trail: &Trail, halt: Halt) -> Vec
         Some(tested) => (tested.names, tested.values),
         None => (own, frame.values),
     };
+    let walk = Walk::of(machine, names, &values, &[], halt);
+    if let Some(walk) = walk {
+        return walk.history(script, trail, halt).into_iter().collect();
+    }
     let inside = !matches!(halt.tested, Tested::Requires);
     let var = |var| trail.of_var(script, &own, var).filter(|_| inside);
     let mut found = Vec::new();
     match (halt.number, halt.path) {
-        (number::PERMISSION_MISSING, Some(path)) if !chains::walked(halt) => {
+        (number::PERMISSION_MISSING, Some(path)) => {
             // Where one half is held, what is said of the other tells it.
             let none = halt.missing.is_none_or(|missing| missing.held == 0);
             let went = trail.of_permission(script, machine, &names, &values, path);
@@ -330,9 +334,10 @@ fn false_atom(
     machine: &Machine,
     names: &Names,
     tested: &Formula,
-    atom: Atom,
+    at: usize,
     halt: Halt,
 ) -> Option<String> {
+    let atom = *tested.atoms.get(at)?;
     let shown = format!("`{}`{}", tested.names.atom(atom), tested.of);
     Some(match (halt.number, atom) {
         (number::FORMULA_FALSE, Atom::Eq(left, right) | Atom::Ne(left, right)) => {
@@ -343,7 +348,9 @@ fn false_atom(
             format!("{shown} is false: {}", sides.join(", "))
         }
         (_, Atom::Permission(Share::Chain, _)) => {
-            format!("{shown}: {}", chains::walk(machine, halt)?)
+            let earlier = &tested.atoms[..at];
+            let walk = Walk::of(machine, tested.names, &tested.values, earlier, halt)?;
+            format!("{shown} {}", walk.said(halt, &names.title()))
         }
         (number::PERMISSION_MISSING, _) => {
             format!("{shown}: {} {}", names.title(), lack(halt.missing))
@@ -353,6 +360,31 @@ fn false_atom(
         }
         _ => return None,
     })
+}
+
+fn ring_help(halt: Halt) -> Option<String> {
+    halt.ring.map(|_| NO_RING.to_string())
+}
+
+/// The walk of an `open` or `shut`.
+fn walk_said(machine: &Machine, names: Names, halt: Halt) -> Option<String> {
+    let values = machine.frame().values;
+    let walk = Walk::of(machine, names, &values, &[], halt)?;
+    let taken = match machine.statement().action {
+        Action::Open(open) => {
+            let chain = Atom::Permission(Share::Chain, open.path);
+            format!("`open` takes `{}`", names.atom(chain))
+        }
+        Action::Shut(path) => {
+            let path = names.expr(Expr::Path(path));
+            format!("`shut` takes the chain from `{path}`")
+        }
+        _ => return None,
+    };
+    Some(format!(
+        "{taken}, which {}",
+        walk.said(halt, &names.title())
+    ))
 }
 
 /// What is full: the heap, or the frames and what they are of.

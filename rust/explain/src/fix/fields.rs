@@ -63,7 +63,7 @@ fn words(line: &[String], at: usize) -> Vec<Candidate> {
 }
 
 /// The words that begin an atom.
-pub const ATOM_WORDS: [&str; 4] = ["acc", "read", "eq", "ne"];
+pub const ATOM_WORDS: [&str; 5] = ["acc", "read", "chain", "eq", "ne"];
 
 fn atoms(line: &[String], at: usize, place: usize) -> Vec<Candidate> {
     let mut found = vec![rewritten(at, &without(line, place))];
@@ -116,7 +116,7 @@ fn field(
 
 /// Does the word begin an atom of a permission?
 fn permission(word: &str) -> bool {
-    matches!(word, "acc" | "read")
+    matches!(word, "acc" | "read" | "chain")
 }
 
 /// A variable of its own, declared at the head of the block, that takes a value
