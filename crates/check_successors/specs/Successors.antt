@@ -1,5 +1,5 @@
 -- The search for a successor: the first term left that is ~ a dropped one.
-use mathlib.Core.Bool.{Bool, true, false, cond, not, _&&_}
+use mathlib.Core.Bool.{Bool, true, false, cond, not, _&&_, _||_}
 use mathlib.Core.Path.{_≡_}
 use mathlib.Core.List.{List, map}
 use mathlib.Core.Option.{Option, none, some}
@@ -8,13 +8,13 @@ use lib.Dec.{eqb, ltb, leb}
 use lib.ListN.{length, getD}
 use Rattle.rules.specs.Base.{first, bindOption}
 use Rattle.rules.specs.Syntax.{offset, num, null, var, path}
-use Rattle.rules.specs.State.{Term, Equality, Renaming, Permission, isLeft, pathOf, numbers, rising, equalIn, successor}
-use Rattle.check_equality.specs.Layout.{left-sides, null-slot, mark-count}
+use Rattle.rules.specs.State.{Term, Equality, Renaming, Permission, isLeft, pathOf, paths, numbers, rising, equalIn, successor}
+use Rattle.check_equality.specs.Layout.{left-sides, null-slot, mark-count, chain-kind}
 use Rattle.check_equality.specs.Keys.{termOf, first-number}
 use Rattle.check_equality.specs.Links.{termAt, placeOf}
 use Rattle.check_equality.specs.Listing.{listed}
 use Rattle.check_state.specs.declared.Resolved.{Resolved}
-use Rattle.check_state.specs.States.{variableAt, fieldAt, pathAtEntry, entries, stateOf, factsOf}
+use Rattle.check_state.specs.States.{variableAt, fieldAt, kindAt, isPathAt, pathAtEntry, entries, stateOf, factsOf}
 use Rattle.check_state.specs.Questions.{places}
 use Rattle.check_inequality.specs.Ways.{numberLike}
 
@@ -62,9 +62,9 @@ pub record MarksLike (key b : List ℕ) (m t a : ℕ) (marks : List Bool) : Type
 unfoldable pub pathTest : Equality → Bool → ℕ → ℕ → ℕ → Bool
 pathTest _~_ skip x f t = not skip && _~_ (path x f) (termOf t)
 
--- of the entry i
+-- of the entry i: a chain is no path
 abbrev pub entryPathTest : Equality → List ℕ → List Bool → ℕ → ℕ → Bool
-entryPathTest _~_ b skip t i = pathTest _~_ (getD skip i false) (variableAt b i) (fieldAt b i) t
+entryPathTest _~_ b skip t i = pathTest _~_ (getD skip i false || leb chain-kind (kindAt b i)) (variableAt b i) (fieldAt b i) t
 
 -- SUCCESSORS
 -- a term by its key, or none
@@ -79,8 +79,8 @@ pub record Drops (ρ : Renaming) (ps : List Permission) (b : List ℕ) (skip : L
   pub numbers : (n : ℕ) → isLeft ρ (num n) ≡ true
   pub paths :
       (q : Term → Bool) →
-      first (λ u. isLeft ρ u && q u) (map pathOf ps)
-      ≡ bindOption (first (λ i. not (getD skip i false) && q (pathAtEntry b i)) (places (entries b))) (λ i. some (pathAtEntry b i))
+      first (λ u. isLeft ρ u && q u) (map pathOf (paths ps))
+      ≡ bindOption (first (λ i. isPathAt b i && (not (getD skip i false) && q (pathAtEntry b i))) (places (entries b))) (λ i. some (pathAtEntry b i))
 
 -- r is the successor of the term of t, whatever drops that
 abbrev pub IsSuccessor : List ℕ → List ℕ → List Bool → ℕ → ℕ → Resolved → Type 0

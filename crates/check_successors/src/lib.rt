@@ -149,7 +149,7 @@ fn path_like<'a>(
     check_equality::alike(k, c, t, a)
 }
 
-// The first of n entries that is not to be skipped and whose path is ~ the term of t, or n.
+// The first of n entries that is a path, not to be skipped and ~ the term of t, or n.
 fn first_entry<'a>(
     key: &'a [u64; State::SLOTS],
     b: &'a [u8; State::BYTES],
@@ -171,7 +171,7 @@ fn first_entry<'a>(
             b,
             m,
             &marks,
-            skip[i],
+            skip[i] | (State::CHAIN <= b[State::KINDS + i]),
             b[State::VARIABLES + i],
             b[State::FIELDS + i],
             t,
