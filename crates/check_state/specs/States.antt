@@ -1,7 +1,7 @@
 -- The checker's state in the code, and the state of the definitions that it means. It stands in two arrays, as
 -- `Layout` of check_equality says.
 use mathlib.Core.Path.{_≡_}
-use mathlib.Core.Bool.{Bool, cond}
+use mathlib.Core.Bool.{Bool, false, not, cond, _&&_}
 use mathlib.Core.List.{List}
 use Prim.Native.Nat.{ℕ, _+_, _*_, _≤_, _<_}
 use lib.Dec.{eqb, ltb}
@@ -39,6 +39,10 @@ kindAt b i = getD b (kinds-at + i) 0
 -- is it a listed path? A chain is none
 abbrev pub isPathAt : List ℕ → ℕ → Bool
 isPathAt b i = ltb (kindAt b i) chain-kind
+
+-- is it one without a flag?
+abbrev pub leftAt : List ℕ → List Bool → ℕ → Bool
+leftAt b flags i = not (getD flags i false) && isPathAt b i
 
 -- that path
 abbrev pub pathAtEntry : List ℕ → ℕ → Rules.Term
