@@ -17,7 +17,7 @@ use Rattle.rules.proofs.Lists.{decide-eq}
 use Rattle.check_equality.specs.Layout.{read-kind, acc-kind}
 use Rattle.check_state.specs.States.{variableAt, fieldAt, permitOf, IsKind}
 use Rattle.check_state.specs.Questions.{FirstPlace, entryTest, passes}
-use Rattle.check_entries.specs.Entries.{halvesOf, appended, leftIn}
+use Rattle.check_entries.specs.Entries.{entryLeft, appended, leftIn}
 use Rattle.check_entries.proofs.Halves.{appended-same}
 
 abbrev ahead : List Permission → Split → Split
@@ -137,20 +137,20 @@ module _ (_~_ : Equality) (y f x g : ℕ) where
   -- which halves an atom takes of those left
   abbrev Taken : ℕ → ℕ → Type 0
   Taken w l =
-      split (giving _~_ (permitOf w) y f) (halvesOf l x g) ≡ instead (passes _~_ y f (leb w l) x g) (entry (permitOf l) x g) (halvesOf (l - w) x g)
+      split (giving _~_ (permitOf w) y f) (entryLeft l x g) ≡ instead (passes _~_ y f (leb w l) x g) (entry (permitOf l) x g) (entryLeft (l - w) x g)
 
   none-taken : (w : ℕ) → IsKind w → Taken w 0
-  unfolding split passes halvesOf
+  unfolding split passes entryLeft
   none-taken w k = rw (lt-leb w 0 (omega arith))
 
   half-taken : (l : ℕ) → IsKind l → Taken read-kind l
-  unfolding giving leaves withPermit names passes halvesOf permitOf bindOption
+  unfolding giving leaves withPermit names passes entryLeft permitOf bindOption
   half-taken l k =
       ⊎-elim (λ e. rw e (gives-way (giving _~_ read y f) (entry read x g) named [] refl))
       (λ e. rw e (gives-way (giving _~_ read y f) (entry acc x g) named (entry read x g ∷ []) refl)) (a-kind l k)
 
   both-taken : (l : ℕ) → IsKind l → Taken acc-kind l
-  unfolding giving leaves withPermit names passes halvesOf permitOf bindOption
+  unfolding giving leaves withPermit names passes entryLeft permitOf bindOption
   both-taken l k =
       ⊎-elim (λ e. rw e (never (giving _~_ acc y f) (entry read x g) named refl)) (λ e. rw e (gives-way (giving _~_ acc y f) (entry acc x g) named [] refl))
       (a-kind l k)
@@ -172,8 +172,8 @@ module _ (_~_ : Equality) (y f x g : ℕ) where
 module _ (b left : List ℕ) (_~_ : Equality) (w y f n i : ℕ) (k : IsKind w) (most : (j : ℕ) → j < n → getD left j 0 ≤ acc-kind)
     (F : FirstPlace (entryTest b left w y f _~_) n i) where
   at : (j : ℕ) → j < n → (c : Bool) → entryTest b left w y f _~_ j ≡ c →
-      split (giving _~_ (permitOf w) y f) (halvesOf (getD left j 0) (variableAt b j) (fieldAt b j))
-      ≡ instead c (entry (permitOf (getD left j 0)) (variableAt b j) (fieldAt b j)) (halvesOf (getD left j 0 - w) (variableAt b j) (fieldAt b j))
+      split (giving _~_ (permitOf w) y f) (entryLeft (getD left j 0) (variableAt b j) (fieldAt b j))
+      ≡ instead c (entry (permitOf (getD left j 0)) (variableAt b j) (fieldAt b j)) (entryLeft (getD left j 0 - w) (variableAt b j) (fieldAt b j))
   at j h c e = taken-at _~_ y f (variableAt b j) (fieldAt b j) w (getD left j 0) k (most j h) ∙ rw e
 
   pub left-none : n ≤ i → split (giving _~_ (permitOf w) y f) (leftIn b left n) ≡ none
@@ -184,7 +184,7 @@ module _ (b left : List ℕ) (_~_ : Equality) (w y f n i : ℕ) (k : IsKind w) (
       split (giving _~_ (permitOf w) y f) (leftIn b left n)
       ≡ some (record {
         taken = entry (permitOf (getD left i 0)) (variableAt b i) (fieldAt b i);
-        left = halvesOf (getD left i 0 - w) (variableAt b i) (fieldAt b i);
+        left = entryLeft (getD left i 0 - w) (variableAt b i) (fieldAt b i);
         list = leftIn b (set left i (getD left i 0 - w)) n;
       })
   left-first h l =

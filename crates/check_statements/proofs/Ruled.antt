@@ -29,7 +29,7 @@ use Rattle.check_entailment.proofs.Answer.{the-type}
 use Rattle.check_state.specs.States.{Wf, stateOf, entries, variableAt, fieldAt, kindAt, permitOf, permissionAt, permissionsOf}
 use Rattle.check_state.specs.Questions.{FirstPlace, Bytes, entryTest}
 use Rattle.check_successors.specs.Successors.{termOr}
-use Rattle.check_entries.specs.Entries.{halvesOf, leftOf}
+use Rattle.check_entries.specs.Entries.{entryLeft, leftOf}
 use Rattle.check_forgetting.specs.Changes.{Becomes, withoutPath}
 use Rattle.check_entailment.specs.Answers.{answered, Adds}
 use Rattle.check_entries.proofs.Halves.{all-left}
@@ -93,7 +93,7 @@ module _ (key b : List ℕ) (w : Wf key b) (kinds : List ℕ) (B : Bytes (kindAt
   shown-by : i < entries b → (c : Split) × (given (permissionsOf b) ≡ some c) × (c .taken ≡ permissionAt b i)
   unfolding permitOf
   shown-by h =
-      let c : Split = record { taken = permissionAt b i; left = halvesOf (getD kinds i 0 - acc-kind) (variableAt b i) (fieldAt b i); list = leftOf b (set kinds i (getD kinds i 0 - acc-kind)) } in
+      let c : Split = record { taken = permissionAt b i; left = entryLeft (getD kinds i 0 - acc-kind) (variableAt b i) (fieldAt b i); list = leftOf b (set kinds i (getD kinds i 0 - acc-kind)) } in
       let e : given (leftOf b kinds) ≡ some c =
       left-first b kinds (equalIn (stateOf key b)) acc-kind x f (entries b) i (omega arith, omega arith) most F h (omega (arith, B .size, w .fit))
       ∙ rw (kind-at i h) in
