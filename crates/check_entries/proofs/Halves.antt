@@ -29,7 +29,7 @@ unfolding appended listed
 appended-listed f zero = refl
 appended-listed {A = A} f (suc n) = ap (λ (l : List A). l ++ (f n ∷ [])) (appended-listed f n)
 
-kept-parts : {A : Type 0} (out : List Bool) (f : ℕ → A) (n : ℕ) → kept out f n ≡ appended (λ i. cond (getD out i false) [] (f i ∷ [])) n
+pub kept-parts : {A : Type 0} (out : List Bool) (f : ℕ → A) (n : ℕ) → kept out f n ≡ appended (λ i. cond (getD out i false) [] (f i ∷ [])) n
 unfolding kept appended
 kept-parts out f zero = refl
 kept-parts {A = A} out f (suc n) = ap (λ (l : List A). l ++ cond (getD out n false) [] (f n ∷ [])) (kept-parts out f n)
