@@ -32,7 +32,7 @@ module _ (key b : List ℕ) (w : Wf key b) (left : List ℕ) (L : LeftFits b lef
   most : (j : ℕ) → j < entries b → getD left j 0 ≤ chain-kind
   most j h = omega (arith, L .most j h, w .kinds j h .1)
 
-  serving : i < entries b → (want ≤ getD left i 0) × (getD left i 0 ≤ mostServing want)
+  pub serving : i < entries b → (want ≤ getD left i 0) × (getD left i 0 ≤ mostServing want)
   unfolding passes inRange
   serving h =
       let e = first (leb want (getD left i 0) && leb (getD left i 0) (mostServing want)) _ (F .found h) in
@@ -45,9 +45,6 @@ module _ (key b : List ℕ) (w : Wf key b) (left : List ℕ) (L : LeftFits b lef
       second : (a c : Bool) → (a && c) ≡ true → c ≡ true
       second true c d = d
       second false c d = absurd (let z : _≡_ {A = ℕ} 0 1 = cc in omega arith)
-
-  pub enough : i < entries b → want ≤ getD left i 0
-  enough h = serving h .0
 
   -- nothing is left of a chain
   taken-whole : (l : ℕ) → l ≤ mostServing want → l ≡ chain-kind → l - want ≡ 0

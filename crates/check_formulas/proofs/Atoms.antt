@@ -17,7 +17,7 @@ use Rattle.rules.specs.State.{Permission, Equality, equalIn, showFrom}
 use Rattle.rules.specs.Rules.{actual, substTerm, substAtom}
 use Rattle.tables.specs.Numbers.{eq-atom}
 use Rattle.tables.specs.Decode.{run, isPermission, relOf, atomKindAt, leftAt, rightAt, atomAt, atomsFrom}
-use Rattle.check_state.specs.States.{Wf, stateOf, entries, kindAt}
+use Rattle.check_state.specs.States.{Wf, stateOf, entries, kindAt, permissionsOf}
 use Rattle.check_state.specs.Questions.{Bytes}
 use Rattle.check_entries.specs.Entries.{LeftFits, leftOf}
 use Rattle.check_entries.proofs.Halves.{all-left}
@@ -116,13 +116,17 @@ start-fits key b left w B =
       whole = λ i h g. inr (omega (arith, B .at i (omega (arith, w .fit)), w .kinds i h .1));
     }
 
+-- all is left at first
+pub start-left : (key b left : List ℕ) → Wf key b → Bytes (kindAt b) most-permissions left → leftOf b left ≡ permissionsOf b
+start-left key b left w B = all-left b left (entries b) (λ i h. B .at i (omega (arith, w .fit))) (w .kinds)
+
 pub show-start :
     (w : List ℕ) (y z x a n : ℕ) (key b left : List ℕ) → Wf key b → Bytes (kindAt b) most-permissions left →
     Showing key b (formula w y z x a n) (formula w y z x (a + 0) (n - 0)) left
 unfolding Rules.show
 show-start w y z x a n key b left W B =
     ap₂ (λ (φ : Formula ℕ) (kept : List Permission). showFrom (equalIn (stateOf key b)) (stateOf key b) φ kept) (formula-all w y z x a n)
-    (all-left b left (entries b) (λ i h. B .at i (omega (arith, W .fit))) (W .kinds))
+    (start-left key b left W B)
 
 module _ (key b : List ℕ) (φ rest : Formula ℕ) (left : List ℕ) (S : Showing key b φ rest left) where
   module _ (a : Atom ℕ) (more : Formula ℕ) (e : rest ≡ a ∷ more) (k : Answer) (left′ : List ℕ) (A : ShowsAtom key b left a k left′) where

@@ -1,5 +1,5 @@
 use native.Mathlib.Omega.{arith}
-use Rattle.check_entailment.proofs.Showing.{enough, access-fits, access-taken, access-left}
+use Rattle.check_entailment.proofs.Showing.{serving, access-fits, access-taken, access-left}
 use borrow.Author.Needs.{needs}
 use Rattle.check_entailment.proofs.take.Statement.{statement}
 use Rattle.check_entailment.proofs.take.Tie as tie
@@ -20,7 +20,7 @@ array-read-after : tie.Need-array-read-after
 array-read-after c = search needs
 
 sub-after : tie.Need-sub-after
-sub-after c = omega (arith, enough _ _ (c .before .before .before .before .before .pre .0) _ (c .before .before .before .before .before .pre .1) _ _ _ _ (c .before .before .before .before .before .pre .2) (rw (c .before .before .before .most-serving .ensures) at (c .before .before .entry .ensures)) (c .if1 .taken))
+sub-after c = omega (arith, serving _ _ (c .before .before .before .before .before .pre .0) _ (c .before .before .before .before .before .pre .1) _ _ _ _ (c .before .before .before .before .before .pre .2) (rw (c .before .before .before .most-serving .ensures) at (c .before .before .entry .ensures)) (c .if1 .taken) .0)
 
 array-write-after : tie.Need-array-write-after
 array-write-after c = search needs
