@@ -106,12 +106,7 @@ fn shut_path(
 }
 
 // `shut x f`
-pub fn shut_rule(
-    key: &mut [u64; State::SLOTS],
-    b: &mut [u8; State::BYTES],
-    x: u8,
-    f: u8,
-) -> Answer
+pub fn shut_rule(key: &mut [u64; State::SLOTS], b: &mut [u8; State::BYTES], x: u8, f: u8) -> Answer
     requires { ⌜ Wf (now key) (now b) ⌝ }
     ensures { λ r. ⌜ Adds (shutRule x f (stateOf (now (key .entry)) (now (b .entry)))) r (now (key .exit)) (now (b .exit)) ⌝ }
 {
