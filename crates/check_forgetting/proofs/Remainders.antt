@@ -1,19 +1,19 @@
 -- A remainder: the entries of which nothing is left go, and their paths are dropped, but for names still listed.
 use mathlib.Core.Path.{_≡_, refl, sym, ap, ap₂, _∙_, subst}
 use mathlib.Core.Bool.{Bool, true, false, cond, not, _&&_, _||_}
-use mathlib.Core.List.{List, [], _∷_, map}
-use mathlib.Core.Option.{Option, none, some}
+use mathlib.Core.List.{List, [], _∷_}
+use mathlib.Core.Option.{none, some}
 use mathlib.Core.Logic.{_⊎_, inl, inr, ⊎-elim}
 use Prim.Native.Nat.{ℕ, zero, suc, _+_, _≤_, _<_}
 use native.Mathlib.Omega.{arith}
 use native.Mathlib.Decide.{decLt}
 use lib.ListN.{getD}
 use borrow.Author.Tests.{eq-eqb, ne-eqb, lt-ltb}
-use Rattle.rules.specs.Base.{first, any, bindOption}
+use Rattle.rules.specs.Base.{any}
 use Rattle.rules.specs.Limits.{most-permissions}
 use Rattle.rules.specs.Syntax.{num, null, var, same}
 use Rattle.rules.specs.State as Rules
-use Rattle.rules.specs.State.{Term, Fact, Permission, State, Renaming, becomes, renameFacts, factsWithout, isLeft, pathOf, paths, lists, unlisted, withoutPaths}
+use Rattle.rules.specs.State.{Term, Fact, Permission, State, becomes, renameFacts, factsWithout, pathOf, paths, lists, unlisted, withoutPaths}
 use Rattle.rules.proofs.Lists.{T-true, decide-eq}
 use Rattle.rules.proofs.Closure.{same-refl}
 use Rattle.rules.proofs.Successors.{without-is}

@@ -1,14 +1,13 @@
 -- `open` and `shut`, step by step.
 use mathlib.Core.Path.{_≡_, refl, sym, ap, _∙_}
-use mathlib.Core.Bool.{Bool, true, false}
+use mathlib.Core.Bool.{true, false}
 use mathlib.Core.List.{List}
 use mathlib.Core.Option.{Option, none, some}
 use Prim.Native.Nat.{ℕ}
-use native.Mathlib.Omega.{arith}
-use Rattle.rules.specs.Base.{Try, ok, no, _>>=_, _>>_, check, orElse, first}
+use Rattle.rules.specs.Base.{ok, no, _>>=_, _>>_, check, orElse, first}
 use Rattle.rules.specs.Limits.{most-permissions}
-use Rattle.rules.specs.Answers.{Refusal, unresolved, noPermission, notShown}
-use Rattle.rules.specs.Syntax.{null, var, path, acc, chain}
+use Rattle.rules.specs.Answers.{unresolved, noPermission, notShown}
+use Rattle.rules.specs.Syntax.{var, path, acc, chain}
 use Rattle.rules.specs.State as Rules
 use Rattle.rules.specs.State.{Permission, entry, equalIn, names, pathOf, takeOwn}
 use Rattle.rules.specs.Rules.{openRule, shutRule}

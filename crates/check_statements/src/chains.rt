@@ -3,7 +3,6 @@ use check_entailment::Answer;
 use check_equality::State;
 use check_equality::Term;
 use check_state::Resolved;
-ghost use mathlib.Core.Path.{_≡_};
 ghost use Rattle.rules.specs.Rules.{openRule, shutRule};
 ghost use Rattle.check_equality.specs.Keys.{termOf};
 ghost use Rattle.check_state.specs.States.{Wf, stateOf};

@@ -24,7 +24,9 @@ add-permission-requires c κs = let w = c .before .before .before .before .befor
 
 returns : tie.Need-returns
 returns c =
-    read-apart _ _ (c .before .before .before .before .before .before .before .before .before .before .pre) _ _ _ _ (c .before .before .before .before .before .before .before .kinds .ensures) (rw (c .before .before .before .before .before .before .variable-key .ensures .0) at (c .before .before .before .entry .ensures)) (c .before .before .if1 .taken) _ _ (c .add-permission .ensures _ (c .before .before .before .before .before .before .before .before .before .before .pre))
+    read-apart _ _ (c .before .before .before .before .before .before .before .before .before .before .pre) _ _ _ _ (c .before .before .before .before .before .before .before .kinds .ensures)
+    (rw (c .before .before .before .before .before .before .variable-key .ensures .0) at (c .before .before .before .entry .ensures)) (c .before .before .if1 .taken) _ _
+    (c .add-permission .ensures _ (c .before .before .before .before .before .before .before .before .before .before .pre))
 
 add-b : tie.Need-add-b
 add-b c = omega (arith, c .before .before .before .before .before .before .before .before .pre .fit)

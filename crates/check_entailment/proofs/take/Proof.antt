@@ -20,14 +20,19 @@ array-read-after : tie.Need-array-read-after
 array-read-after c = search needs
 
 sub-after : tie.Need-sub-after
-sub-after c = omega (arith, serving _ _ (c .before .before .before .before .before .pre .0) _ (c .before .before .before .before .before .pre .1) _ _ _ _ (c .before .before .before .before .before .pre .2) (rw (c .before .before .before .most-serving .ensures) at (c .before .before .entry .ensures)) (c .if1 .taken) .0)
+sub-after c =
+    let start = c .before .before .before .before .before in
+    let found = rw (c .before .before .before .most-serving .ensures) at (c .before .before .entry .ensures) in
+    omega (arith, serving _ _ (start .pre .0) _ (start .pre .1) _ _ _ _ (start .pre .2) found (c .if1 .taken) .0)
 
 array-write-after : tie.Need-array-write-after
 array-write-after c = search needs
 
 returns : tie.Need-returns
 returns c =
-    (access-fits _ _ (c .before .before .before .before .before .pre .0) _ (c .before .before .before .before .before .pre .1) _ _ _ _ (c .before .before .before .before .before .pre .2) (rw (c .before .before .before .most-serving .ensures) at (c .before .before .entry .ensures)) (c .if1 .taken), access-taken _ _ (c .before .before .before .before .before .pre .0) _ (c .before .before .before .before .before .pre .1) _ _ _ _ (c .before .before .before .before .before .pre .2) (rw (c .before .before .before .most-serving .ensures) at (c .before .before .entry .ensures)) (c .if1 .taken))
+    let start = c .before .before .before .before .before in
+    let found = rw (c .before .before .before .most-serving .ensures) at (c .before .before .entry .ensures) in
+    (access-fits _ _ (start .pre .0) _ (start .pre .1) _ _ _ _ (start .pre .2) found (c .if1 .taken), access-taken _ _ (start .pre .0) _ (start .pre .1) _ _ _ _ (start .pre .2) found (c .if1 .taken))
 
 shown-by-null-requires : tie.Need-shown-by-null-requires
 shown-by-null-requires c κs = search needs
@@ -37,7 +42,9 @@ permitted-requires c κs = tt
 
 returns-2 : tie.Need-returns-2
 returns-2 c =
-    (c .before .before .before .before .before .before .before .pre .1, access-left _ _ (c .before .before .before .before .before .before .before .pre .0) _ (c .before .before .before .before .before .before .before .pre .1) _ _ _ _ (c .before .before .before .before .before .before .before .pre .2) (rw (c .before .before .before .before .before .most-serving .ensures) at (c .before .before .before .before .entry .ensures)) (c .before .before .if1 .left) _ (c .before .shown-by-null .ensures) _ (c .permitted .ensures))
+    let start = c .before .before .before .before .before .before .before in
+    let found = rw (c .before .before .before .before .before .most-serving .ensures) at (c .before .before .before .before .entry .ensures) in
+    (start .pre .1, access-left _ _ (start .pre .0) _ (start .pre .1) _ _ _ _ (start .pre .2) found (c .before .before .if1 .left) _ (c .before .shown-by-null .ensures) _ (c .permitted .ensures))
 
 pub take-spec : {M : Type 1} → statement M
 take-spec =

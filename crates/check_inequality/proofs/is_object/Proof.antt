@@ -3,7 +3,6 @@ use Rattle.check_state.specs.States.{permitOf}
 use Rattle.rules.specs.Syntax.{isPath}
 use mathlib.Core.Bool.{Bool, true, false, _&&_}
 use mathlib.Core.Path.{_≡_, refl, sym, _∙_}
-use borrow.Author.Needs.{needs}
 use Rattle.check_inequality.proofs.is_object.Statement.{statement}
 use Rattle.check_inequality.proofs.is_object.Tie as tie
 

@@ -57,7 +57,9 @@ returns c =
     let at-path-key = c .before .before .before .before .before .before .before .path-key in
     let at-without-path = c .before .before .before .before .without-path in
     let found = rw (c .before .before .before .before .before .before .before .before .before .before .before .before .before .before .before .before .variable-key .ensures .0) at (c .before .before .before .before .before .before .before .before .before .before .before .before .entry .ensures) in
-    adds-same _ _ _ _ _ (rw (at-path-key .ensures .0, c .before .variable-key2 .ensures .0, at-without-path .ensures .same) (sym (set-found (start .args .key .now) (start .args .b .now) (start .pre) _ (c .before .before .before .before .before .before .before .before .before .before .before .before .before .before .before .before .before .kinds .ensures) _ _ _ _ found (c .before .before .before .before .before .before .before .before .before .before .if1 .taken)))) (c .add-fact .ensures)
+    adds-same _ _ _ _ _ (rw (at-path-key .ensures .0, c .before .variable-key2 .ensures .0, at-without-path .ensures .same)
+    (sym (set-found (start .args .key .now) (start .args .b .now) (start .pre) _ (c .before .before .before .before .before .before .before .before .before .before .before .before .before .before .before .before .before .kinds .ensures) _ _ _ _ found (c .before .before .before .before .before .before .before .before .before .before .if1 .taken))))
+    (c .add-fact .ensures)
 
 returns-2 : tie.Need-returns-2
 unfolding answered

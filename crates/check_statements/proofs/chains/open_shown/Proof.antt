@@ -36,7 +36,11 @@ returns-2 : tie.Need-returns-2
 returns-2 c =
     let start = c .before .before .before .before .before .before .before .before .before .before .before .before .before .before .before .before .before .before .before in
     let took = c .before .before .before .before .before .before .before .before .before .before .before .before .before .take in
-    open-done (start .args .key .now) (start .args .b .now) (start .pre) _ (c .before .before .before .before .before .before .before .before .before .before .before .before .before .before .before .before .before .kinds .ensures) _ _ _ (took .result .left) (took .ensures .1) _ _ (c .before .before .before .before .before .before .before .before .before .before .before .before .before .before .before .before .variable-key .ensures .0) (c .before .before .before .before .before .before .before .before .before .before .before .enum-told .given .1) _ _ _ _ (c .before .before .before .before .before .before .remainder .ensures) (c .before .before .before .remove .ensures) _ _ _ (c .add-opened .ensures)
+    open-done (start .args .key .now) (start .args .b .now) (start .pre) _
+    (c .before .before .before .before .before .before .before .before .before .before .before .before .before .before .before .before .before .kinds .ensures) _ _ _ (took .result .left)
+    (took .ensures .1) _ _ (c .before .before .before .before .before .before .before .before .before .before .before .before .before .before .before .before .variable-key .ensures .0)
+    (c .before .before .before .before .before .before .before .before .before .before .before .enum-told .given .1) _ _ _ _ (c .before .before .before .before .before .before .remainder .ensures)
+    (c .before .before .before .remove .ensures) _ _ _ (c .add-opened .ensures)
 
 pub open-shown-spec : {M : Type 1} → statement M
 open-shown-spec =

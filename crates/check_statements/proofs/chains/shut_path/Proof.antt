@@ -34,7 +34,9 @@ returns-2 c =
     let start = c .before .before .before .before .before .before .before .before .before .before .before .before .before in
     let took = c .before .before .before .before .before .before .before .before .take in
     let took2 = c .before .take2 in
-    shut-second (start .args .key .now) (start .args .b .now) (start .pre) _ (c .before .before .before .before .before .before .before .before .before .before .before .kinds .ensures) _ _ _ (took .result .left) (took .ensures .1) _ (c .before .before .before .before .before .before .enum-told .given .1) _ (c .before .before .before .before .variable-key .ensures .0) _ (took2 .result .left) (took2 .ensures .1) (c .match2 .keys2)
+    shut-second (start .args .key .now) (start .args .b .now) (start .pre) _ (c .before .before .before .before .before .before .before .before .before .before .before .kinds .ensures) _ _ _
+    (took .result .left) (took .ensures .1) _ (c .before .before .before .before .before .before .enum-told .given .1) _ (c .before .before .before .before .variable-key .ensures .0) _
+    (took2 .result .left) (took2 .ensures .1) (c .match2 .keys2)
 
 remainder-requires : tie.Need-remainder-requires
 remainder-requires c κs = (c .before .before .before .before .before .before .before .before .before .before .before .before .before .before .before .before .before .before .pre, c .before .before .before .before .before .before .take2 .ensures .0)
@@ -48,7 +50,11 @@ returns-3 c =
     let took = c .before .before .before .before .before .before .before .before .before .before .before .before .before .before .before .before .take in
     let took2 = c .before .before .before .before .before .before .before .before .before .take2 in
     let left = c .before .before .remainder .ensures in
-    shut-done (start .args .key .now) (start .args .b .now) (start .pre) _ (c .before .before .before .before .before .before .before .before .before .before .before .before .before .before .before .before .before .before .before .kinds .ensures) _ _ _ (took .result .left) (took .ensures .1) _ (c .before .before .before .before .before .before .before .before .before .before .before .before .before .before .enum-told .given .1) _ (c .before .before .before .before .before .before .before .before .before .before .before .before .variable-key .ensures .0) _ (took2 .result .left) (took2 .ensures .1) (c .before .before .before .before .before .before .before .enum-told2 .given .1) _ _ left _ _ (c .add-permission .ensures _ (left .wf))
+    shut-done (start .args .key .now) (start .args .b .now) (start .pre) _
+    (c .before .before .before .before .before .before .before .before .before .before .before .before .before .before .before .before .before .before .before .kinds .ensures) _ _ _
+    (took .result .left) (took .ensures .1) _ (c .before .before .before .before .before .before .before .before .before .before .before .before .before .before .enum-told .given .1) _
+    (c .before .before .before .before .before .before .before .before .before .before .before .before .variable-key .ensures .0) _ (took2 .result .left) (took2 .ensures .1)
+    (c .before .before .before .before .before .before .before .enum-told2 .given .1) _ _ left _ _ (c .add-permission .ensures _ (left .wf))
 
 pub shut-path-spec : {M : Type 1} → statement M
 shut-path-spec =
