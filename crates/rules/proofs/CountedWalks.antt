@@ -5,15 +5,15 @@ use mathlib.Core.List.{List, [], _∷_, map}
 use mathlib.Core.Logic.{_⊎_, inl, inr, ⊎-elim}
 use Prim.Native.Nat.{ℕ, zero, suc, _+_, _≤_}
 use native.Mathlib.Omega.{arith}
-use lib.Dec.{T, eqb, eqb→eq, leb, leb→le, le→leb}
+use lib.Dec.{T, eqb, eqb→eq, leb, leb→le}
 use lib.ListN.{length}
 use Rattle.rules.specs.Base.{Member, at-head, further, Try, ok, no, check, _>>=_, _>>_}
 use Rattle.rules.specs.Answers.{Stop, permissionMissing, formulaFalse}
 use Rattle.rules.specs.Machine.{Frame, Heap, Location, halves, valueAt, walk}
-use Rattle.rules.proofs.Lists.{T-true, F-false, and-intro, and-both, decide-eq, head-or}
+use Rattle.rules.proofs.Lists.{T-true, F-false, and-both, decide-eq, head-or}
 use Rattle.rules.proofs.Tries.{ok-inj, no-ok}
 use Rattle.rules.proofs.Sets.{at-same, at-cases, halves-nil, halves-cons}
-use Rattle.rules.proofs.Walks.{Passed, fewer, passed-more, walk-bound, walk-ends, walk-goes, walk-ring, walk-stuck}
+use Rattle.rules.proofs.Walks.{fewer, walk-bound, walk-ends, walk-goes, walk-ring, walk-stuck}
 
 -- from object to object by `next`, over those that it may pass, fewer than n; the last first
 unfoldable pub count : (ℕ → ℕ) → (ℕ → Bool) → ℕ → ℕ → Try Stop (List ℕ)
@@ -36,7 +36,12 @@ no-inj e = cc
 true-false : {A : Type 0} {b : Bool} → b ≡ true → b ≡ false → A
 true-false e f = absurd (let z : _≡_ {A = ℕ} 0 1 = cc in omega arith)
 
-decide-bool : (b : Bool) → (b ≡ true) ⊎ (b ≡ false)
+before-no : {s : Stop} (o : ℕ) (t : Try Stop (List ℕ)) → (t >>= λ os. ok (o ∷ os)) ≡ no s → t ≡ no s
+unfolding _>>=_
+before-no o (ok os) q = no-ok (sym q)
+before-no o (no s) q = ap no (no-inj q)
+
+pub decide-bool : (b : Bool) → (b ≡ true) ⊎ (b ≡ false)
 decide-bool true = inl refl
 decide-bool false = inr refl
 
@@ -170,24 +175,20 @@ module _
       (λ z. no-ok (sym e ∙ count-null next free n o z))
       (λ z.
       ⊎-elim
-      (λ m. count-on next may n o z m ∙ rw (both-stuck n (next o) (before (count next free n (next o)) (sym (count-on next free n o z (less o m)) ∙ e))))
+      (λ m. count-on next may n o z m ∙ rw (both-stuck n (next o) (before-no o (count next free n (next o)) (sym (count-on next free n o z (less o m)) ∙ e))))
       (λ m. count-stuck next may n o z m)
       (decide-bool (may o)))
       (decide-eq o 0)
-    where
-      before : (t : Try Stop (List ℕ)) → (t >>= λ os. ok (o ∷ os)) ≡ no permissionMissing → t ≡ no permissionMissing
-      before (ok os) q = no-ok (sym q)
-      before (no s) q = ap no (no-inj q)
 
-  -- a walk that is too long for every bound from t on meets no such way
+  -- a walk that is too long for every bound meets no such way
   pub both-long :
       (t : ℕ) → ((o : ℕ) → D o → (os : List ℕ) × Goes next free t o os) → (n o : ℕ) →
-      ((m : ℕ) → t ≤ m → count next free m o ≡ no formulaFalse) → count next may n o ≡ no formulaFalse
+      ((m : ℕ) → count next free m o ≡ no formulaFalse) → count next may n o ≡ no formulaFalse
   unfolding count _>>=_
   both-long t way zero o e = refl
   both-long t way (suc n) o e =
       ⊎-elim
-      (λ z. no-ok (sym (e (suc t) (omega arith)) ∙ count-null next free t o z))
+      (λ z. no-ok (sym (e (suc t)) ∙ count-null next free t o z))
       (λ z.
       ⊎-elim
       (λ f.
@@ -195,16 +196,12 @@ module _
       (λ m.
       count-on next may n o z m
       ∙ rw (both-long t way n (next o)
-      (λ k l. before (count next free k (next o)) (sym (count-on next free k o z f) ∙ e (suc k) (omega arith)))))
-      (λ m. let (os, G) = way o (other o f m) in no-ok (sym (e t (omega arith)) ∙ goes-count next free G))
+      (λ k. before-no o (count next free k (next o)) (sym (count-on next free k o z f) ∙ e (suc k)))))
+      (λ m. let (os, G) = way o (other o f m) in no-ok (sym (e t) ∙ goes-count next free G))
       (decide-bool (may o)))
-      (λ f. stops-apart (no-inj (sym (count-stuck next free t o z f) ∙ e (suc t) (omega arith))))
+      (λ f. stops-apart (no-inj (sym (count-stuck next free t o z f) ∙ e (suc t))))
       (decide-bool (free o)))
       (decide-eq o 0)
-    where
-      before : (t : Try Stop (List ℕ)) → (t >>= λ os. ok (o ∷ os)) ≡ no formulaFalse → t ≡ no formulaFalse
-      before (ok os) q = no-ok (sym q)
-      before (no s) q = ap no (no-inj q)
 
   -- a walk to null met one where its last is on it, and else none
   to-last : {n o : ℕ} {os : List ℕ} (d : ℕ) → D d → next d ≡ o → Goes next free n o os → D (lastOf d os)
@@ -236,9 +233,145 @@ module _
       none (ended z) q = refl
       none (went z e G) q = absurd (z q)
 
--- THE WALK OF THE DEFINITIONS
+-- A RING
 abbrev at : ℕ → ℕ → Location
 at o f = record { object = o; field = f }
+
+-- the objects that are passed stand as their locations by f
+module _ (f : ℕ) (next : ℕ → ℕ) (may : ℕ → Bool) where
+  -- the way that led to o
+  data Trail : List Location → ℕ → Type 0 where
+    start : {o : ℕ} → Trail [] o
+    on : {passed : List Location} {o : ℕ} → (o ≡ 0 → ⊥) → Trail passed o → Trail (at o f ∷ passed) (next o)
+
+  -- each location on it is of an object by f, and the next is on it or is o
+  record Along (passed : List Location) (o : ℕ) (p : Location) : Type 0 where
+    by : p ≡ at (p .object) f
+    object : p .object ≡ 0 → ⊥
+    onward : (next (p .object) ≡ o) ⊎ (1 ≤ halves passed (at (next (p .object)) f))
+
+  along : {passed : List Location} {o : ℕ} → Trail passed o → (p : Location) → 1 ≤ halves passed p → Along passed o p
+  along start p l = absurd (omega (arith, l, halves-nil p))
+  along (on {passed} {o} z t) p l =
+      ⊎-elim
+      (λ (e, _). subst (Along (at o f ∷ passed) (next o)) (sym e) (record { by = refl; object = z; onward = inl refl }))
+      (λ (_, a).
+      let I = along t p (omega (arith, l, a, halves-cons (at o f) passed p)) in
+      record {
+        by = I .by;
+        object = I .object;
+        onward =
+            inr
+            (⊎-elim
+            (λ e. subst (λ x. 1 ≤ halves (at o f ∷ passed) (at x f)) (sym e) (omega (arith, halves-cons (at o f) passed (at o f), at-same (at o f))))
+            (λ j. omega (arith, j, halves-cons (at o f) passed (at (next (p .object)) f)))
+            (I .onward));
+      })
+      (at-cases (at o f) p)
+
+  -- each was passed once, and may be passed
+  abbrev Clean : List Location → Type 0
+  Clean passed = (p : Location) → 1 ≤ halves passed p → (halves passed p ≡ 1) × (may (p .object) ≡ true)
+
+  clean-more : (o : ℕ) (passed : List Location) → Clean passed → halves passed (at o f) ≡ 0 → may o ≡ true → Clean (at o f ∷ passed)
+  clean-more o passed K a m p i =
+      ⊎-elim
+      (λ (e, _).
+      subst (λ (r : Location). (halves (at o f ∷ passed) r ≡ 1) × (may (r .object) ≡ true)) (sym e)
+      (omega (arith, halves-cons (at o f) passed (at o f), at-same (at o f), a), m))
+      (λ (_, z).
+      let k = halves-cons (at o f) passed p in
+      let (x, y) = K p (omega (arith, i, k, z)) in
+      (omega (arith, x, k, z), y))
+      (at-cases (at o f) p)
+
+  clean-none : Clean []
+  clean-none p j = absurd (omega (arith, j, halves-nil p))
+
+  -- a ring is too long for every bound
+  ring :
+      {passed : List Location} {o : ℕ} → Trail passed o → Clean passed → 1 ≤ halves passed (at o f) → (n x : ℕ) →
+      1 ≤ halves passed (at x f) → count next may n x ≡ no formulaFalse
+  unfolding count _>>=_
+  ring t K l zero x i = refl
+  ring {passed} {o} t K l (suc n) x i =
+      let I = along t (at x f) i in
+      count-on next may n x (I .object) (K (at x f) i .1)
+      ∙ rw (ring t K l n (next x) (⊎-elim (λ e. subst (λ v. 1 ≤ halves passed (at v f)) (sym e) l) (λ j. j) (I .onward)))
+
+  all : ℕ → List Location
+  all zero = []
+  all (suc n) = at (suc n) f ∷ all n
+
+  all-length : (n : ℕ) → length (all n) ≡ n
+  unfolding all
+  all-length zero = refl
+  all-length (suc n) = ap suc (all-length n)
+
+  all-has : (n o : ℕ) → (o ≡ 0 → ⊥) → o ≤ n → 1 ≤ halves (all n) (at o f)
+  unfolding all
+  all-has zero o z l = absurd (z (omega arith))
+  all-has (suc n) o z l =
+      ⊎-elim
+      (λ (e : o ≡ suc n). rw e (omega (arith, halves-cons (at (suc n) f) (all n) (at (suc n) f), at-same (at (suc n) f))))
+      (λ (d : o ≡ suc n → ⊥). omega (arith, all-has n o z (omega arith), halves-cons (at (suc n) f) (all n) (at o f)))
+      (decide-eq o (suc n))
+
+  -- ONE OF N OBJECTS is each that it may pass
+  module _ (N : ℕ) (exists : (o : ℕ) → may o ≡ true → o ≤ N) where
+    short : {passed : List Location} {o : ℕ} → Trail passed o → Clean passed → length passed ≤ N
+    short {passed} t K =
+        omega (
+          arith,
+          all-length N,
+          fewer passed (all N)
+              (λ p.
+              ⊎-elim
+              (λ z. omega (arith, z))
+              (λ z.
+              let i : 1 ≤ halves passed p = omega (arith, z) in
+              let (x, y) = K p i in
+              let I = along t p i in
+              let j : 1 ≤ halves (all N) p =
+              subst (λ q. 1 ≤ halves (all N) q) (sym (I .by)) (all-has N (p .object) (I .object) (exists (p .object) y)) in
+              omega (arith, x, j))
+              (decide-eq (halves passed p) 0)),
+        )
+
+    long-from :
+        (n o : ℕ) (passed : List Location) → Trail passed o → Clean passed → n + length passed ≡ suc N →
+        count next may n o ≡ no formulaFalse → (m : ℕ) → count next may m o ≡ no formulaFalse
+    unfolding count _>>=_
+    long-from zero o passed t K e q m = absurd (omega (arith, short t K))
+    long-from (suc n) o passed t K e q m =
+        ⊎-elim
+        (λ z. no-ok (sym q ∙ count-null next may n o z))
+        (λ z.
+        ⊎-elim
+        (λ y.
+        ⊎-elim
+        (λ a.
+        more z y
+        (λ k.
+        long-from n (next o) (at o f ∷ passed) (on z t) (clean-more o passed K a y) (omega arith)
+        (before-no o (count next may n (next o)) (sym (count-on next may n o z y) ∙ q)) k) m)
+        (λ a. ring t K (omega (arith, a)) m o (omega (arith, a)))
+        (decide-eq (halves passed (at o f)) 0))
+        (λ y. stops-apart (no-inj (sym (count-stuck next may n o z y) ∙ q)))
+        (decide-bool (may o)))
+        (decide-eq o 0)
+      where
+        more :
+            (o ≡ 0 → ⊥) → may o ≡ true → ((k : ℕ) → count next may k (next o) ≡ no formulaFalse) → (m : ℕ) →
+            count next may m o ≡ no formulaFalse
+        more z y h zero = refl
+        more z y h (suc k) = count-on next may k o z y ∙ rw (h k)
+
+    -- what passes more than N of them is a ring: too long for every bound
+    pub long-ever : (o : ℕ) → count next may (suc N) o ≡ no formulaFalse → (m : ℕ) → count next may m o ≡ no formulaFalse
+    long-ever o = long-from (suc N) o [] start clean-none (omega arith)
+
+-- THE WALK OF THE DEFINITIONS
 
 -- these objects' locations
 unfoldable pub places : ℕ → List ℕ → List Location
@@ -251,6 +384,20 @@ pub data Same (f : ℕ) (passed : List Location) : Try Stop (List Location) → 
       Same f passed (ok B) (ok os)
   neither : {s : Stop} → Same f passed (no s) (no s)
 
+same-as :
+    {f : ℕ} {passed : List Location} {a a′ : Try Stop (List Location)} {b b′ : Try Stop (List ℕ)} → a ≡ a′ → b ≡ b′ → Same f passed a′ b′ →
+    Same f passed a b
+same-as {f} {passed} {a} {a′} {b} {b′} e g S = subst (λ x. Same f passed x b) (sym e) (subst (Same f passed a′) (sym g) S)
+
+-- one location more
+same-more :
+    (f o : ℕ) (passed : List Location) {a : Try Stop (List Location)} {b : Try Stop (List ℕ)} → Same f (at o f ∷ passed) a b →
+    Same f passed a (b >>= λ os. ok (o ∷ os))
+unfolding places _>>=_
+same-more f o passed (both {B} {os} k) =
+    both {B = B} {os = o ∷ os} (λ q. omega (arith, k q, halves-cons (at o f) (places f os) q, halves-cons (at o f) passed q))
+same-more f o passed neither = neither
+
 module _ (h : Heap) (F : Frame) (A : List Location) (f : ℕ) where
   abbrev pub onBy : ℕ → ℕ
   onBy o = valueAt h o f
@@ -258,117 +405,26 @@ module _ (h : Heap) (F : Frame) (A : List Location) (f : ℕ) where
   abbrev pub mayPass : ℕ → Bool
   mayPass o = leb 2 (halves (F .held) (at o f)) && eqb (halves A (at o f)) 0
 
-  -- the way that led to o
-  data Trail : List Location → ℕ → Type 0 where
-    start : {o : ℕ} → Trail [] o
-    on : {passed : List Location} {o : ℕ} → (o ≡ 0 → ⊥) → Trail passed o → Trail (at o f ∷ passed) (onBy o)
+  passes : (o : ℕ) → mayPass o ≡ true → (2 ≤ halves (F .held) (at o f)) × (halves A (at o f) ≡ 0)
+  passes o m =
+      let (c, d) = and-both (leb 2 (halves (F .held) (at o f))) _ (subst T (sym m) tt) in
+      (leb→le _ _ c, eqb→eq _ _ d)
 
-  -- each location on it is of an object by f, and the next is on it or is o
-  record Along (passed : List Location) (o : ℕ) (p : Location) : Type 0 where
-    by : p ≡ at (p .object) f
-    object : p .object ≡ 0 → ⊥
-    next : (onBy (p .object) ≡ o) ⊎ (1 ≤ halves passed (at (onBy (p .object)) f))
-
-  along : {passed : List Location} {o : ℕ} → Trail passed o → (p : Location) → 1 ≤ halves passed p → Along passed o p
-  along start p l = absurd (omega (arith, l, halves-nil p))
-  along (on {passed} {o} z t) p l =
-      ⊎-elim
-      (λ (e, _). subst (Along (at o f ∷ passed) (onBy o)) (sym e) (record { by = refl; object = z; next = inl refl }))
-      (λ (_, a).
-      let I = along t p (omega (arith, l, a, halves-cons (at o f) passed p)) in
-      record {
-        by = I .by;
-        object = I .object;
-        next =
-            inr
-            (⊎-elim
-            (λ e. subst (λ x. 1 ≤ halves (at o f ∷ passed) (at x f)) (sym e) (omega (arith, halves-cons (at o f) passed (at o f), at-same (at o f))))
-            (λ j. omega (arith, j, halves-cons (at o f) passed (at (onBy (p .object)) f)))
-            (I .next));
-      })
-      (at-cases (at o f) p)
-
-  may-pass : (o : ℕ) → 2 ≤ halves (F .held) (at o f) → halves A (at o f) ≡ 0 → mayPass o ≡ true
-  may-pass o l z =
-      T-true (mayPass o)
-      (and-intro (leb 2 (halves (F .held) (at o f))) _ (le→leb _ _ l) (subst (λ (v : ℕ). T (eqb v 0)) (sym z) tt))
-
-  -- a ring is too long for every bound
-  ring :
-      {passed : List Location} {o : ℕ} → Trail passed o → Passed F A passed → 1 ≤ halves passed (at o f) → (n x : ℕ) →
-      1 ≤ halves passed (at x f) → count onBy mayPass n x ≡ no formulaFalse
-  unfolding count _>>=_
-  ring t K l zero x i = refl
-  ring {passed} {o} t K l (suc n) x i =
-      let I = along t (at x f) i in
-      let (_, y, z) = K (at x f) i in
-      count-on onBy mayPass n x (I .object) (may-pass x y z)
-      ∙ rw (ring t K l n (onBy x) (⊎-elim (λ e. subst (λ v. 1 ≤ halves passed (at v f)) (sym e) l) (λ j. j) (I .next)))
-
-  -- EVERY LOCATION THAT IS HELD WHOLE IS OF ONE OF N OBJECTS
   module _ (N : ℕ) (exists : (p : Location) → 2 ≤ halves (F .held) p → p .object ≤ N) where
-    all : ℕ → List Location
-    all zero = []
-    all (suc n) = at (suc n) f ∷ all n
-
-    all-length : (n : ℕ) → length (all n) ≡ n
-    unfolding all
-    all-length zero = refl
-    all-length (suc n) = ap suc (all-length n)
-
-    all-has : (n o : ℕ) → (o ≡ 0 → ⊥) → o ≤ n → 1 ≤ halves (all n) (at o f)
-    unfolding all
-    all-has zero o z l = absurd (z (omega arith))
-    all-has (suc n) o z l =
-        ⊎-elim
-        (λ (e : o ≡ suc n). rw e (omega (arith, halves-cons (at (suc n) f) (all n) (at (suc n) f), at-same (at (suc n) f))))
-        (λ (d : o ≡ suc n → ⊥). omega (arith, all-has n o z (omega arith), halves-cons (at (suc n) f) (all n) (at o f)))
-        (decide-eq o (suc n))
-
-    short : {passed : List Location} {o : ℕ} → Trail passed o → Passed F A passed → length passed ≤ N
-    short {passed} t K =
-        omega (
-          arith,
-          all-length N,
-          fewer passed (all N)
-              (λ p.
-              ⊎-elim
-              (λ z. omega (arith, z))
-              (λ z.
-              let i : 1 ≤ halves passed p = omega (arith, z) in
-              let (x, y, _) = K p i in
-              let I = along t p i in
-              let j : 1 ≤ halves (all N) p =
-              subst (λ q. 1 ≤ halves (all N) q) (sym (I .by)) (all-has N (p .object) (I .object) (exists p y)) in
-              omega (arith, x, j))
-              (decide-eq (halves passed p) 0)),
-        )
-
-    same-as :
-        {passed : List Location} {a a′ : Try Stop (List Location)} {b b′ : Try Stop (List ℕ)} → a ≡ a′ → b ≡ b′ → Same f passed a′ b′ →
-        Same f passed a b
-    same-as {passed} {a} {a′} {b} {b′} e g S = subst (λ x. Same f passed x b) (sym e) (subst (Same f passed a′) (sym g) S)
-
-    -- one location more
-    same-more :
-        (o : ℕ) (passed : List Location) {a : Try Stop (List Location)} {b : Try Stop (List ℕ)} → Same f (at o f ∷ passed) a b →
-        Same f passed a (b >>= λ os. ok (o ∷ os))
-    unfolding places _>>=_
-    same-more o passed (both {B} {os} k) =
-        both {B = B} {os = o ∷ os} (λ q. omega (arith, k q, halves-cons (at o f) (places f os) q, halves-cons (at o f) passed q))
-    same-more o passed neither = neither
-
     counted :
-        (n o : ℕ) (passed : List Location) → Trail passed o → Passed F A passed → n + length passed ≡ suc N →
+        (n o : ℕ) (passed : List Location) → Trail f onBy mayPass passed o → Clean f onBy mayPass passed → n + length passed ≡ suc N →
         Same f passed (walk h F A f (n + length (F .held)) o passed) (count onBy mayPass n o)
     unfolding places
-    counted zero o passed t K e = absurd (omega (arith, short t K))
+    counted zero o passed t K e =
+        absurd (omega (arith, short f onBy mayPass N (λ o m. exists (at o f) (passes o m .0)) t K))
     counted (suc n) o passed t K e =
         let L : ℕ = n + length (F .held) in
         let s : walk h F A f (suc n + length (F .held)) o passed ≡ walk h F A f (suc L) o passed =
         ap (λ (m : ℕ). walk h F A f m o passed) (omega arith) in
         ⊎-elim
-        (λ z. same-as (s ∙ walk-ends h F A f (suc L) o passed z) (count-null onBy mayPass n o z) (both {B = passed} {os = []} (λ p. omega (arith, halves-nil p))))
+        (λ z.
+        same-as (s ∙ walk-ends h F A f (suc L) o passed z) (count-null onBy mayPass n o z)
+        (both {B = passed} {os = []} (λ p. omega (arith, halves-nil p))))
         (λ z.
         ⊎-elim
         (λ a.
@@ -376,24 +432,17 @@ module _ (h : Heap) (F : Frame) (A : List Location) (f : ℕ) where
         (λ m.
         let (c, d) = passes o m in
         same-as (s ∙ walk-goes h F A f L o passed z a c d) (count-on onBy mayPass n o z m)
-        (same-more o passed
-        (counted n (onBy o) (at o f ∷ passed) (on z t)
-        (passed-more h F A f o passed K (subst (λ (v : ℕ). T (eqb v 0)) (sym a) tt) (subst T (sym m) tt)) (omega arith))))
+        (same-more f o passed
+        (counted n (onBy o) (at o f ∷ passed) (on z t) (clean-more f onBy mayPass o passed K a m) (omega arith))))
         (λ m. same-as (s ∙ walk-stuck h F A f L o passed z a m) (count-stuck onBy mayPass n o z m) neither)
         (decide-bool (mayPass o)))
         (λ a.
         same-as (s ∙ walk-ring h F A f L o passed z a)
-        (ring t K (omega (arith, a)) (suc n) o (omega (arith, a))) neither)
+        (ring f onBy mayPass t K (omega (arith, a)) (suc n) o (omega (arith, a))) neither)
         (decide-eq (halves passed (at o f)) 0))
         (decide-eq o 0)
-      where
-        passes : (o : ℕ) → mayPass o ≡ true → (2 ≤ halves (F .held) (at o f)) × (halves A (at o f) ≡ 0)
-        passes o m =
-            let (c, d) = and-both (leb 2 (halves (F .held) (at o f))) _ (subst T (sym m) tt) in
-            (leb→le _ _ c, eqb→eq _ _ d)
 
     -- "The walk stops with 26 at a location that it has passed itself": as one that passes more than N does
     pub walk-counts : (o : ℕ) → Same f [] (walk h F A f (length (F .held)) o []) (count onBy mayPass (suc N) o)
     walk-counts o =
-        same-as (sym (walk-bound h F A f (suc N) o)) refl
-        (counted (suc N) o [] start (λ p j. absurd (omega (arith, j, halves-nil p))) (omega arith))
+        same-as (sym (walk-bound h F A f (suc N) o)) refl (counted (suc N) o [] start (clean-none f onBy mayPass) (omega arith))

@@ -24,7 +24,7 @@ pub data Walk (h : Heap) (f : ℕ) : ℕ → List Location → Type 0 where
       Walk h f o (record { object = o; field = f } ∷ ws)
 
 -- what was passed is passed once, held whole, and not taken
-abbrev pub Passed : Frame → List Location → List Location → Type 0
+abbrev Passed : Frame → List Location → List Location → Type 0
 Passed F A ws =
     (p : Location) → 1 ≤ halves ws p → (halves ws p ≡ 1) × (2 ≤ halves (F .held) p) × (halves A p ≡ 0)
 
@@ -248,7 +248,7 @@ module _ (h : Heap) (F : Frame) (A : List Location) (f : ℕ) where
       (λ z. let (x, y, _) = K p (omega (arith, z)) in omega (arith, x, y, halves-append passed passed p))
       (decide-eq (halves passed p) 0)))
 
-  pub passed-more :
+  passed-more :
       (o : ℕ) (passed : List Location) → Passed F A passed → T (eqb (halves passed (record { object = o; field = f })) 0) →
       T (leb 2 (halves (F .held) (record { object = o; field = f })) && eqb (halves A (record { object = o; field = f })) 0) →
       Passed F A (record { object = o; field = f } ∷ passed)

@@ -1,7 +1,7 @@
 -- Laws of walks as the code does them.
 use mathlib.Core.Path.{_≡_, refl, sym, ap, _∙_, subst}
 use mathlib.Core.Bool.{Bool, true, false}
-use mathlib.Core.List.{List}
+use mathlib.Core.List.{List, [], _∷_}
 use mathlib.Core.Logic.{⊎-elim}
 use mathlib.Core.Option.{Option, none, some}
 use Prim.Native.Nat.{ℕ, suc, _+_, _-_, _≤_, _<_}
@@ -15,7 +15,7 @@ use Rattle.rules.proofs.Lists.{decide-eq, none-some}
 use Rattle.rules.proofs.Tries.{bind-ok, check-ok, ok-inj, no-ok}
 use Rattle.run_heap.specs.declared.View.{View}
 use Rattle.run_heap.specs.Views.{halvesAt, cellValue, cellOf, present, foundOf, heldCell, Readable}
-use Rattle.run_heap.specs.Chains.{wholeCell, freeCell, walkIn, walkEnd}
+use Rattle.run_heap.specs.Chains.{wholeCell, freeCell, walkIn, walkEnd, atCell, cellsBy}
 use Rattle.run_heap.proofs.Reading.{cell-null, cell-small, found-is}
 
 module _ (w : List ℕ) (v : View) (f : ℕ) where
@@ -56,12 +56,15 @@ module _ (w : List ℕ) (v : View) (f : ℕ) where
           held true q = no-ok (sym q)
           held false q = cc
 
-  module _ (free : ℕ → Bool) (n o last : ℕ) where
+  module _ (free : ℕ → Bool) (o : ℕ) where
     free-whole : (k : ℕ) → freeCell w v free f o ≡ ok k → wholeCell w v f o ≡ ok k
     unfolding freeCell
     free-whole k e =
         let (j, a, b) = bind-ok (wholeCell w v f o) e in
         a ∙ ap ok (ok-inj (check-ok (free j) permissionMissing b .1))
+
+    pub free-small : (k : ℕ) → Readable w v → freeCell w v free f o ≡ ok k → k < heap-fields
+    free-small k R e = whole-small o k R (free-whole k e)
 
     free-lacks : (s : Stop) → (o ≡ 0 → ⊥) → freeCell w v free f o ≡ no s → s ≡ permissionMissing
     unfolding freeCell check _>>_ _>>=_
@@ -75,13 +78,14 @@ module _ (w : List ℕ) (v : View) (f : ℕ) where
             last-test true q = no-ok (sym q)
             last-test false q = cc
 
-    walk-on : (k : ℕ) → freeCell w v free f o ≡ ok k → walkIn w v free f (suc n) o last ≡ walkIn w v free f n (cellValue w k) o
+    pub walk-on :
+        (n last k : ℕ) → freeCell w v free f o ≡ ok k → walkIn w v free f (suc n) o last ≡ walkIn w v free f n (cellValue w k) o
     unfolding walkIn _>>=_
-    walk-on k e = rw (ne-eqb o 0 (whole-object o k (free-whole k e)), e)
+    walk-on n last k e = rw (ne-eqb o 0 (whole-object o k (free-whole k e)), e)
 
-    walk-off : (s : Stop) → freeCell w v free f o ≡ no s → walkIn w v free f (suc n) o last ≡ walkEnd o last
+    pub walk-off : (n last : ℕ) (s : Stop) → freeCell w v free f o ≡ no s → walkIn w v free f (suc n) o last ≡ walkEnd o last
     unfolding walkIn walkEnd _>>=_
-    walk-off s e =
+    walk-off n last s e =
         ⊎-elim
         (λ z. rw (eq-eqb o 0 z))
         (λ z. rw (ne-eqb o 0 z, e) (ap no (free-lacks s z e)))
@@ -95,11 +99,30 @@ module _ (w : List ℕ) (v : View) (f : ℕ) (free : ℕ → Bool) (n i o last :
   walk-next k l e =
       let a : suc n - (i + 1) ≡ n - i = omega arith in
       let b : suc n - i ≡ suc (n - i) = omega arith in
-      rw (a, b) (sym (walk-on w v f free (n - i) o last k e))
+      rw (a, b) (sym (walk-on w v f free o (n - i) last k e))
 
   pub walk-stops : (s : Stop) → i ≤ n → freeCell w v free f o ≡ no s → walkIn w v free f (suc n - i) o last ≡ walkEnd o last
-  walk-stops s l e = let b : suc n - i ≡ suc (n - i) = omega arith in rw b (walk-off w v f free (n - i) o last s e)
+  walk-stops s l e = let b : suc n - i ≡ suc (n - i) = omega arith in rw b (walk-off w v f free o (n - i) last s e)
 
   pub walk-over : n < i → walkIn w v free f (suc n - i) o last ≡ no formulaFalse
   unfolding walkIn
   walk-over l = let b : suc n - i ≡ 0 = omega arith in rw b
+
+-- an object without a cell
+pub found-none : (w : List ℕ) (n o f : ℕ) (s : Stop) → foundOf w n o f ≡ no s → cellOf w n o f ≡ none
+unfolding foundOf present check _>>_
+found-none w n o f s e = ⊎-elim (λ z. ap (λ (i : ℕ). cellOf w n i f) z ∙ cell-null w n f) (λ z. go (cellOf w n o f) (rw (ne-eqb o 0 z) at e)) (decide-eq o 0)
+  where
+    go : (c : Option ℕ) → present c ≡ no s → c ≡ none
+    go none q = refl
+    go (some k) q = no-ok (sym q)
+
+-- CELLS of a chain
+module _ (w : List ℕ) (n f m o : ℕ) where
+  pub cells-more : (k : ℕ) → cellOf w n o f ≡ some k → cellsBy w n f (suc m) o ≡ k ∷ cellsBy w n f m (cellValue w k)
+  unfolding cellsBy atCell
+  cells-more k e = rw e
+
+  pub cells-end : cellOf w n o f ≡ none → cellsBy w n f (suc m) o ≡ []
+  unfolding cellsBy atCell
+  cells-end e = rw e

@@ -28,11 +28,12 @@ walkIn w v free f (suc n) o last =
 unfoldable pub walkEnd : ℕ → ℕ → Try Stop ℕ
 walkEnd o last = cond (eqb o 0) (ok last) (no permissionMissing)
 
+-- what there is for a cell, or else d
+unfoldable pub atCell : List ℕ → Option ℕ → (ℕ → List ℕ) → List ℕ
+atCell d none g = d
+atCell d (some k) g = g k
+
 -- of n objects: the cells by f from the object o, at most m
 unfoldable pub cellsBy : List ℕ → ℕ → ℕ → ℕ → ℕ → List ℕ
 cellsBy w n f zero o = []
-cellsBy w n f (suc m) o =
-    elim (cellOf w n o f) [
-      | none ↦ []
-      | some k ↦ k ∷ cellsBy w n f m (cellValue w k)
-    ]
+cellsBy w n f (suc m) o = atCell [] (cellOf w n o f) (λ k. k ∷ cellsBy w n f m (cellValue w k))
