@@ -13,7 +13,7 @@ use Rattle.rules.proofs.Tries.{bind-ok, check-ok, ok-inj}
 use Rattle.rules.proofs.Sets.{at-cases, halves-nil, halves-append, locate-held, halves-replicate, replicate-other}
 use Rattle.rules.proofs.Walks.{walk-taken, walk-held}
 
-more-held :
+pub more-held :
     (F : Frame) (A : List Location) (n : ℕ) (q p : Location) → n + halves A q ≤ halves (F .held) q →
     halves A p ≤ halves (F .held) p → halves (replicate n q ++ A) p ≤ halves (F .held) p
 more-held F A n q p l m =

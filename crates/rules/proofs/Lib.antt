@@ -10,6 +10,7 @@ pub mod FormedStates
 pub mod Rising
 pub mod Sets
 pub mod Walks
+pub mod CountedWalks
 pub mod Footprints
 pub mod Heaps
 pub mod States

@@ -159,7 +159,7 @@ fewer (q ∷ A) B k =
       fewer A (lessOne q B) (λ p. omega (arith, k p, halves-cons q A p, halves-lessOne q B p)),
     )
 
-walk-goes :
+pub walk-goes :
     (h : Heap) (F : Frame) (A : List Location) (f n o : ℕ) (passed : List Location) → (o ≡ 0 → ⊥) →
     halves passed (record { object = o; field = f }) ≡ 0 → 2 ≤ halves (F .held) (record { object = o; field = f }) →
     halves A (record { object = o; field = f }) ≡ 0 →
@@ -172,11 +172,26 @@ walk-goes h F A f n o passed z a b c =
     ∙ pass (leb 2 (halves (F .held) p) && eqb (halves A p) 0) permissionMissing _
     (and-intro (leb 2 (halves (F .held) p)) _ (le→leb _ _ b) (subst (λ (v : ℕ). T (eqb v 0)) (sym c) tt)))
 
-walk-ends :
+pub walk-ends :
     (h : Heap) (F : Frame) (A : List Location) (f n o : ℕ) (passed : List Location) → o ≡ 0 → walk h F A f n o passed ≡ ok passed
 unfolding walk
 walk-ends h F A f zero o passed z = rw (T-true (eqb o 0) (subst (λ (v : ℕ). T (eqb v 0)) (sym z) tt))
 walk-ends h F A f (suc n) o passed z = rw (T-true (eqb o 0) (subst (λ (v : ℕ). T (eqb v 0)) (sym z) tt))
+
+pub walk-ring :
+    (h : Heap) (F : Frame) (A : List Location) (f n o : ℕ) (passed : List Location) → (o ≡ 0 → ⊥) →
+    (halves passed (record { object = o; field = f }) ≡ 0 → ⊥) → walk h F A f (suc n) o passed ≡ no formulaFalse
+unfolding walk _>>_ check
+walk-ring h F A f n o passed z a =
+    rw (F-false (eqb o 0) (λ t. z (eqb→eq o 0 t)), F-false (eqb (halves passed (record { object = o; field = f })) 0) (λ t. a (eqb→eq _ 0 t)))
+
+pub walk-stuck :
+    (h : Heap) (F : Frame) (A : List Location) (f n o : ℕ) (passed : List Location) → (o ≡ 0 → ⊥) →
+    halves passed (record { object = o; field = f }) ≡ 0 →
+    (leb 2 (halves (F .held) (record { object = o; field = f })) && eqb (halves A (record { object = o; field = f })) 0) ≡ false →
+    walk h F A f (suc n) o passed ≡ no permissionMissing
+unfolding walk _>>_ check
+walk-stuck h F A f n o passed z a b = rw (F-false (eqb o 0) (λ t. z (eqb→eq o 0 t)), a, b)
 
 pub walk-does :
     (h : Heap) (F : Frame) (A : List Location) (f n o : ℕ) (ws passed : List Location) → Walk h f o ws → length ws ≤ n →

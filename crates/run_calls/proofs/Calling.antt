@@ -28,10 +28,12 @@ use Rattle.run_footprint.specs.Footprints.{marked, takeIn, SharesFit}
 use Rattle.run_steps.specs.States.{FrameIs, CallerIs, CallersAre, Represents, Follows, Does, CanStep, AtKind}
 use Rattle.run_calls.specs.Calls.{Calling, Admits, called, callHere}
 use Rattle.run_heap.proofs.Reading.{cell-small}
-use Rattle.run_steps.proofs.Seeing.{Sees, Matches, FormulaOk, no-footprint, ok-footprint, atoms-ok}
+use Rattle.run_steps.proofs.Sights.{Sees}
+use Rattle.run_steps.proofs.Seeing.{Matches, FormulaOk, no-footprint, ok-footprint, atoms-ok}
 use Rattle.run_footprint.proofs.Regions.{Only, only-wide, only-tables, variable-kept, value-kept, halves-kept}
 use Rattle.run_footprint.proofs.Handing.{only-marked}
-use Rattle.run_steps.proofs.Keeping.{SameObjects, SameFrame, same-objects, same-frame, halves-of-kept, frame-kept, ensures-kept, callers-kept, heap-kept}
+use Rattle.run_footprint.proofs.Cells.{SameObjects, same-objects}
+use Rattle.run_steps.proofs.Keeping.{SameFrame, same-frame, halves-of-kept, frame-kept, ensures-kept, callers-kept, heap-kept}
 use Rattle.run_steps.proofs.Moves.{sees, readable, follow-stop, follow-stop-in, follow-on}
 use Rattle.run_steps.proofs.Changes.{marks-only, marks-tables, lost, gained, others-kept, heap-marked}
 use Rattle.run_steps.proofs.Steps.{frame-holding}

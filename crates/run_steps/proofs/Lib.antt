@@ -1,3 +1,6 @@
+pub mod Sights
+pub mod Sums
+pub mod Ways
 pub mod Seeing
 pub mod Keeping
 pub mod Moves
