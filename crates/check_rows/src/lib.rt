@@ -14,6 +14,9 @@ ghost use Rattle.check_entailment.specs.Answers.{Adds};
 ghost use Rattle.check_statements.specs.Statements.{Parts, endOf, JoinGives};
 ghost use Rattle.check_rows.specs.Rows.{RowIs, setAt, letAt, newAt, callAt, computeAt, openAt, shutAt, RuleGives, branches, bodyStarts, loopLeaves, Stepped};
 
+// The first number past those of the kinds.
+const UNKNOWN: u8 = Kind::LAST + 1;
+
 // `set x f y`
 fn set_at(w: &[u8], i: usize, key: &mut [u64; State::SLOTS], b: &mut [u8; State::BYTES]) -> Answer
     requires { ⌜ Tables (now w) × (i < rowCount (now w)) × Wf (now key) (now b) ⌝ }
@@ -225,6 +228,10 @@ pub fn statement(
         Kind::OPEN => open_at(w, i, key, b),
         Kind::SHUT => shut_at(w, i, key, b),
         // The other statements do not go on, and no row is of an unknown kind: any answer meets the contract.
-        _ => Answer::Malformed,
+        0..=Kind::VAR
+        | Kind::RETURN
+        | Kind::IF..=Kind::END
+        | Kind::LOOP..=Kind::AGAIN
+        | UNKNOWN..=u8::MAX => Answer::Malformed,
     }
 }

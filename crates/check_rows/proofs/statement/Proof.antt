@@ -97,20 +97,25 @@ returns-9 c =
     record { statement = _; is = compute-means _ _ (computes _ _ (c .before .before .before .before .before .before .kind-at .ensures) (c .before .before .before .before .if1 .left) (c .before .before .before .if2 .taken)); adds = c .compute-at .ensures }
 
 returns-10 : tie.Need-returns-10
+unfolding statementNumber
 returns-10 c =
+    absurd (c .before .before .before .pre .2 .3 (sym (c .before .kind-at .ensures) ∙ c .match .keys9))
+
+returns-11 : tie.Need-returns-11
+returns-11 c =
     let start = c .before .before .before .before in
     let is = c .before .before .kind-at .ensures in
-    let other = c .before .match .rest in
+    let other = c .before .match .rest .0 in
     absurd
     (no-kind _ (start .pre .0 .row-fits (start .args .i) (start .pre .1) .operands .kind) (start .pre .2) (λ e. other .0 .0 .0 .0 .0 .0 .0 .1 (is ∙ e)) (λ e. other .0 .0 .0 .0 .0 .0 .1 (is ∙ e)) (λ e. other .0 .0 .0 .0 .0 .1 (is ∙ e))
     (λ e. other .0 .0 .0 .0 .1 (is ∙ e)) (λ e. other .0 .0 .0 .1 (is ∙ e)) (λ e. other .0 .0 .1 (is ∙ e))
     (λ e. other .0 .1 (is ∙ e)) (λ e. other .1 (is ∙ e)) (inl (omega (arith, is, c .if1 .taken))))
 
-returns-11 : tie.Need-returns-11
-returns-11 c =
+returns-12 : tie.Need-returns-12
+returns-12 c =
     let start = c .before .before .before .before .before in
     let is = c .before .before .before .kind-at .ensures in
-    let other = c .before .before .match .rest in
+    let other = c .before .before .match .rest .0 in
     absurd
     (no-kind _ (start .pre .0 .row-fits (start .args .i) (start .pre .1) .operands .kind) (start .pre .2) (λ e. other .0 .0 .0 .0 .0 .0 .0 .1 (is ∙ e)) (λ e. other .0 .0 .0 .0 .0 .0 .1 (is ∙ e)) (λ e. other .0 .0 .0 .0 .0 .1 (is ∙ e))
     (λ e. other .0 .0 .0 .0 .1 (is ∙ e)) (λ e. other .0 .0 .0 .1 (is ∙ e)) (λ e. other .0 .0 .1 (is ∙ e))
@@ -140,4 +145,5 @@ statement-spec =
     returns-8
     returns-9
     returns-10
-    returns-11)
+    returns-11
+    returns-12)
