@@ -53,14 +53,14 @@ impl Kind {
     /// A kind, each in its share; a text that is too long is rare.
     pub fn random(rng: &mut Rng) -> Kind {
         match rng.below(1_000) {
-            0..=249 => Kind::Accepted,
-            250..=251 => Kind::Miss(2),
-            252..=579 => Kind::Miss(rng.pick(&[
+            0..=239 => Kind::Accepted,
+            240..=241 => Kind::Miss(2),
+            242..=574 => Kind::Miss(rng.pick(&[
                 3, 4, 5, 5, 6, 7, 8, 9, 9, 10, 10, 11, 11, 12, 12, 13, 13, 14, 14, 16,
             ])),
-            580..=669 => Kind::Wild,
-            670..=849 => Kind::Recipe,
-            850..=959 => Kind::Mutated,
+            575..=644 => Kind::Wild,
+            645..=894 => Kind::Recipe,
+            895..=974 => Kind::Mutated,
             _ => Kind::Arbitrary,
         }
     }

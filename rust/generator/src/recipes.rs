@@ -17,17 +17,17 @@ pub(super) fn push(lines: &mut Vec<String>, source: &str) {
 
 /// A program by one of the plans.
 pub fn recipe(rng: &mut Rng) -> Vec<u8> {
-    match rng.below(21) {
+    match rng.below(23) {
         0 => full_state(rng),
         1 => doubling(rng),
         2 => recursion(rng),
         3 => full_heap(rng),
         4 => counting(rng),
-        5 | 6 => droppings(rng),
-        7 => list_walk(rng),
-        8..=10 => rounds(rng),
-        11..=13 => readers(rng),
-        14..=18 => walks(rng),
+        5..=7 => droppings(rng),
+        8 => list_walk(rng),
+        9..=11 => rounds(rng),
+        12..=14 => readers(rng),
+        15..=19 => walks(rng),
         _ => routes(rng),
     }
 }

@@ -1,0 +1,13 @@
+//! Writes the text of a seed: `show 5` any text, `show accepted 5` an accepted one.
+
+use std::io::Write;
+
+fn main() {
+    let words: Vec<String> = std::env::args().skip(1).collect();
+    let seed = |word: Option<&String>| word.and_then(|word| word.parse().ok()).unwrap_or(0);
+    let text = match words.first().map(String::as_str) {
+        Some("accepted") => generator::accepted(seed(words.get(1))),
+        _ => generator::text(seed(words.first())),
+    };
+    std::io::stdout().write_all(&text).expect("standard output");
+}
