@@ -86,7 +86,7 @@ fn field(
     let fixed = |field: &str| vec![rewritten(at, &with(line, place, field))];
     match why {
         Malformed::Empty => vec![rewritten(at, &without(line, place))],
-        Malformed::PathForName if permission(&line[place - 1]) => {
+        Malformed::PathForName if permission(&line[place - 1]) || chained(line, place) => {
             let mut split = line.to_vec();
             let parts: Vec<String> = field.split('.').map(str::to_string).collect();
             split.splice(place..=place, parts);
@@ -112,6 +112,11 @@ fn field(
         }
         _ => Vec::new(),
     }
+}
+
+/// Is it the card of an `open` or `shut`, with its field in one?
+fn chained(line: &[String], place: usize) -> bool {
+    matches!((line[0].as_str(), place), ("shut", 1) | ("open", 2))
 }
 
 /// Does the word begin an atom of a permission?

@@ -321,7 +321,7 @@ const WITH: &str = "chain this p ne this null acc w p";
 /// What m requires, ensures and does, and what is told.
 const CHAINS: [(&str, &str, &str, &str); 9] = [
     (CHAIN, "chain this p", "", "chain this p chain back"),
-    (CHAIN, "", "", "chain this p chain"),
+    (CHAIN, "ne this null", "", "chain this p chain"),
     (
         CHAIN,
         "chain this p",
@@ -359,10 +359,10 @@ const CHAINS: [(&str, &str, &str, &str); 9] = [
         "chain this p chain written, w.p whole back",
     ),
     (
-        "acc this p",
-        "chain this p",
-        "let t null\nset this p t\nshut this p\n",
-        "this.p whole written back",
+        WITH,
+        "chain this p chain w p",
+        "let t null\nset w p t\nshut w p\n",
+        "chain this p chain back, w.p whole written back",
     ),
 ];
 
