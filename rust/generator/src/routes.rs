@@ -83,10 +83,10 @@ fn random(rng: &mut Rng) -> Plan {
         let first = rng.below(count);
         let last = rng.within(first, count - 1).min(first + 2);
         let next = |at: usize| if at == last { first } else { at + 1 };
-        for at in first..=last {
+        for (at, lines) in (first..).zip(&mut methods[first..=last]) {
             // No other call makes the ring shorter.
-            methods[at].retain(|line| !matches!(line, Planned::Call(to) if *to >= first));
-            methods[at].push(Planned::Call(next(at)));
+            lines.retain(|line| !matches!(line, Planned::Call(to) if *to >= first));
+            lines.push(Planned::Call(next(at)));
         }
     }
     let mut main: Vec<Planned> = (0..rng.below(5))
