@@ -21,7 +21,7 @@ impl<'p, 'a> Writer<'p, 'a> {
     }
 
     /// Is the path one by which a chain goes?
-    fn is_link(&self, path: Path<'a>) -> bool {
+    pub(super) fn is_link(&self, path: Path<'a>) -> bool {
         let kind = self.path(path.var, path.field).map(|(_, kind)| kind);
         kind.is_some() && kind == self.type_of(path.var)
     }

@@ -53,14 +53,14 @@ impl Kind {
     /// A kind, each in its share; a text that is too long is rare.
     pub fn random(rng: &mut Rng) -> Kind {
         match rng.below(1_000) {
-            0..=239 => Kind::Accepted,
-            240..=241 => Kind::Miss(2),
-            242..=574 => Kind::Miss(rng.pick(&[
+            0..=219 => Kind::Accepted,
+            220..=221 => Kind::Miss(2),
+            222..=549 => Kind::Miss(rng.pick(&[
                 3, 4, 5, 5, 6, 7, 8, 9, 9, 10, 10, 11, 11, 12, 12, 13, 13, 14, 14, 16,
             ])),
-            575..=644 => Kind::Wild,
-            645..=894 => Kind::Recipe,
-            895..=974 => Kind::Mutated,
+            550..=639 => Kind::Wild,
+            640..=909 => Kind::Recipe,
+            910..=979 => Kind::Mutated,
             _ => Kind::Arbitrary,
         }
     }

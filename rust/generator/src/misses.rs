@@ -7,6 +7,7 @@ use super::mutate::{exchange, fields_of, mutate_line, text_from};
 use super::program::{accepted, joined, with_miss};
 use super::readers::missed;
 use super::rng::Rng;
+use super::rounds::missed as no_round;
 use super::routes::passed;
 use super::walks::{missed as no_chain, walked};
 use crate::check;
@@ -29,6 +30,7 @@ pub fn miss(rng: &mut Rng, number: u32) -> Vec<u8> {
         number::BOUND_PASSED => passed(rng),
         number::NO_PERMISSION | number::NOT_SHOWN if rng.chance(15) => missed(rng, number),
         number::NO_PERMISSION | number::NOT_SHOWN if rng.chance(15) => no_chain(rng, number),
+        number::NO_PERMISSION | number::NOT_SHOWN if rng.chance(5) => no_round(rng, number),
         number::UNRESOLVED..=number::NOT_SHOWN if rng.chance(70) => with_miss(rng, number),
         _ => searched(rng, number),
     }

@@ -94,6 +94,9 @@ impl<'p, 'a> Writer<'p, 'a> {
     /// last.
     fn branch(&mut self, state: State<'a>, depth: usize, tries: usize) -> Option<State<'a>> {
         let state = self.body(state, depth, tries);
+        if self.rng.chance(self.style.wild / 4) && self.return_unasked() {
+            return None;
+        }
         if self.rng.chance(20) {
             if let Some(actions) = self.give_back(&state) {
                 actions.iter().for_each(|action| self.write(action));
@@ -101,6 +104,16 @@ impl<'p, 'a> Writer<'p, 'a> {
             }
         }
         Some(state)
+    }
+
+    /// A `return` of which no rule was asked; none in main.
+    fn return_unasked(&mut self) -> bool {
+        let kind = self.type_of(RESULT);
+        let x = kind.and_then(|kind| self.any_var(kind));
+        if let Some(x) = x {
+            self.write(&Action::Return(x));
+        }
+        x.is_some()
     }
 
     /// A formula that the ends show: what ensures and the loop around need

@@ -159,7 +159,7 @@ pub fn lines(rng: &mut Rng, style: Style) -> Vec<String> {
 }
 
 /// Of a hundred permissions so many by halves: programs have none, some or many.
-const HALVES: [usize; 3] = [0, 40, 70];
+const HALVES: [usize; 3] = [0, 50, 80];
 /// Of a hundred links so many as chains.
 const CHAINS: [usize; 4] = [0, 0, 40, 70];
 

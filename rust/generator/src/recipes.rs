@@ -17,17 +17,17 @@ pub(super) fn push(lines: &mut Vec<String>, source: &str) {
 
 /// A program by one of the plans.
 pub fn recipe(rng: &mut Rng) -> Vec<u8> {
-    match rng.below(23) {
+    match rng.below(27) {
         0 => full_state(rng),
         1 => doubling(rng),
         2 => recursion(rng),
         3 => full_heap(rng),
         4 => counting(rng),
-        5..=7 => droppings(rng),
-        8 => list_walk(rng),
-        9..=11 => rounds(rng),
-        12..=14 => readers(rng),
-        15..=19 => walks(rng),
+        5..=8 => droppings(rng),
+        9 => list_walk(rng),
+        10..=13 => rounds(rng),
+        14..=17 => readers(rng),
+        18..=23 => walks(rng),
         _ => routes(rng),
     }
 }

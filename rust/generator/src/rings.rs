@@ -12,8 +12,8 @@ const METHODS: &str = "class S\nfield int n\nfield S p\nfield S q\nmethod int as
 
 /// Methods that promise a chain which they may not have: check refuses them.
 const PROMISES: &str =
-    "method int give S w\nrequires acc this p\nensures chain this p\nset this p w\nend\n\
-    method int part S w\nrequires acc this p read w p\nensures chain this p\nend";
+    "method int give S w\nrequires acc this p\nensures chain this p\nvar int a\nset this p w\nend\n\
+    method int part S w\nrequires acc this p read w p\nensures chain this p\nvar int a\nend";
 
 /// A program by one of the plans.
 pub fn rings(rng: &mut Rng) -> Vec<u8> {
@@ -21,7 +21,9 @@ pub fn rings(rng: &mut Rng) -> Vec<u8> {
     push(&mut lines, METHODS);
     let promises = rng.chance(30);
     if promises {
-        push(&mut lines, PROMISES);
+        // At their `end`, or at a `return`.
+        let closed = rng.pick(&["end", "return a\nend"]);
+        push(&mut lines, &PROMISES.replace("end", closed));
     }
     push(&mut lines, "main\nvar int a\nvar int one\nvar S x");
     let cards = match rng.chance(25) {
@@ -117,7 +119,7 @@ fn walk(rng: &mut Rng, cards: usize, promises: bool) -> String {
         7 => format!("shut {c} p"),
         8 => format!("call a {c} ask {d}"),
         9 => format!("call a {c} both {d}"),
-        10 if promises => format!("call a {c} {} {d}", rng.pick(&["give", "part"])),
+        10 | 13 if promises => format!("call a {c} {} {d}", rng.pick(&["give", "part"])),
         11 => format!("loop ne a a chain {c} p {taken}\nagain"),
         12 => format!("if eq a a\nelse\njoin chain {c} p {taken}"),
         _ => format!(

@@ -73,7 +73,10 @@ impl<'p, 'a> Writer<'p, 'a> {
             Acc => asked(self.rng, self.style.halves),
         };
         let path = self.path(listed.var, listed.field);
-        let atoms = path.map(|(path, _)| {
+        let path = path.map(|(path, _)| path);
+        // A chain of what is null may have gone over to a variable of another class.
+        let path = path.filter(|&path| listed.share.lists_path() || self.is_link(path));
+        let atoms = path.map(|path| {
             let atom = |&share| Atom::Permission(share, path);
             shares.iter().map(atom).collect()
         });
@@ -93,9 +96,12 @@ impl<'p, 'a> Writer<'p, 'a> {
             None => self.known_path(state)?,
         };
         let wanted: &[Share] = match halves.is_empty() {
-            true => self
-                .rng
-                .pick(&[&[Acc, Read][..], &[Read, Acc], &[Read, Read, Read]]),
+            true => self.rng.pick(&[
+                &[Acc, Read][..],
+                &[Read, Acc],
+                &[Acc, Acc],
+                &[Read, Read, Read],
+            ]),
             false => self.rng.pick(&[&[Acc][..], &[Acc], &[Read, Read]]),
         };
         let atom = |&share| Atom::Permission(share, path);
