@@ -22,7 +22,7 @@ use Rattle.run_heap.specs.declared.View.{View}
 use Rattle.run_heap.specs.declared.Fault.{Fault}
 use Rattle.run_steps.specs.declared.Turn.{Turn}
 use Rattle.run_heap.specs.Views.{frameAt, variableAt, spot, readIn, viewOf, stopOf, Readable, frame-holder}
-use Rattle.run_footprint.specs.Footprints.{testIn, takeIn, marked, SharesFit}
+use Rattle.run_footprint.specs.Footprints.{testIn, spread, takeIn, marked, SharesFit}
 use Rattle.run_steps.specs.States.{Represents, Follows, Does, CanStep, NotEnd, AtKind, Chooses, Jumps, stepped, setHere, letHere, computeHere, assertHere, releaseHere, ifOn, loopHere, jumpHere}
 use Rattle.run_heap.proofs.Reading.{spot-small}
 use Rattle.run_steps.proofs.Seeing.{ok-footprint}
@@ -90,17 +90,18 @@ module _ {w : List ℕ} {c : Machine} (ready : CanStep w c) where
   assert-stops s e = does-stop s (λ m R. Moves.assert-stop R _ s (Moves.row-formula-ok R) e)
 
   -- the shares that a formula took
-  pub taken-fit : (ss : List ℕ) → takeIn w (viewOf c) (formulaAt w (c .row)) [] ≡ ok ss → SharesFit ss
+  pub taken-fit : (ss : List ℕ) → takeIn w (viewOf c) (formulaAt w (c .row)) [] ≡ ok ss → SharesFit (spread w (c .objects) ss)
   taken-fit ss e =
       let R = ready .represents in
       let (A, a, M) = ok-footprint (Moves.sees R) _ ss (Moves.row-formula-ok R) e in
       M .fit
 
   pub release-does :
-      (ss : List ℕ) {w′ : List ℕ} {d : Machine} → NotEnd w c → takeIn w (viewOf c) (formulaAt w (c .row)) [] ≡ ok ss → w′ ≡ marked w ss (c .holder) 0 →
+      (ss : List ℕ) {w′ : List ℕ} {d : Machine} → NotEnd w c → takeIn w (viewOf c) (formulaAt w (c .row)) [] ≡ ok ss →
+      w′ ≡ marked w (spread w (c .objects) ss) (c .holder) 0 →
       d ≡ stepped c (c .row + 1) → Does w c w′ (Turn.On d) (releaseHere w c)
   release-does ss n e p q =
-      does-on p q (only-tables (only-marked w ss (c .holder) 0 (taken-fit ss e)) (omega arith))
+      does-on p q (only-tables (only-marked w (spread w (c .objects) ss) (c .holder) 0 (taken-fit ss e)) (omega arith))
       (λ m R. Steps.release-on R _ ss (Moves.row-formula-ok R) n e)
 
   pub release-stops :
@@ -200,7 +201,7 @@ module _ {w : List ℕ} {c : Machine} (ready : CanStep w c) where
   module _ (k : AtKind w c Set) (v : View) (x f : ℕ) (ev : v ≡ viewOf c) (ex : x ≡ xAt w (c .row)) (ef : f ≡ memberAt w (c .row)) where
     pub set-operands : (x < frame-variables) × (f < most-names)
     unfolding statementNumber
-    set-operands = (omega (arith, fits .x), omega (arith, fits .field k))
+    set-operands = (omega (arith, fits .x), omega (arith, fits .field (inl k)))
 
     pub set-small : (j : ℕ) → spot w v 2 x f ≡ ok j → j < heap-fields
     set-small j e = spot-small 2 x f (view-readable ev) e

@@ -11,7 +11,8 @@ use Rattle.rules.specs.Answers.{Stop, overflow}
 use Rattle.rules.specs.Syntax.{Operation, Expr, Formula}
 use Rattle.rules.specs.Machine.{Frame, Location, Config, Step, halves, took, without, valueOf, advance, bind, holding, withFrame, stored, setStep, assignStep, computed, computeStep, releaseStep}
 use Rattle.rules.specs.declared.Machine.{Machine}
-use Rattle.rules.proofs.Sets.{halves-without, footprint-held}
+use Rattle.rules.proofs.Sets.{halves-without}
+use Rattle.rules.proofs.Footprints.{footprint-held}
 use Rattle.tables.specs.Layout.{frame-variables, values-at, holders-at, objects-at, frames-at}
 use Rattle.tables.specs.Decode.{rowCount, kindAt}
 use Rattle.tables.specs.Tables.{SideFits}
@@ -20,7 +21,7 @@ use Rattle.tables.proofs.Decoding.{tables-same, rows-count-same, kind-same}
 use Rattle.run_heap.specs.declared.Fault.{Fault}
 use Rattle.run_steps.specs.declared.Turn.{Turn}
 use Rattle.run_heap.specs.Views.{frameAt, variableAt, halvesOf, spot, readIn, viewOf, stopOf}
-use Rattle.run_footprint.specs.Footprints.{takeIn, marked}
+use Rattle.run_footprint.specs.Footprints.{spread, takeIn, marked}
 use Rattle.run_steps.specs.States.{FrameIs, Represents, Follows, stepped, NotEnd}
 use Rattle.run_steps.proofs.Seeing.{Matches, FormulaOk, locate-at, locate-no, value-is, no-footprint, ok-footprint}
 use Rattle.run_footprint.proofs.Regions.{Only, only-word, only-tables}
@@ -171,13 +172,14 @@ module _ {w : List ℕ} {c : Machine} {m : Config} (R : Represents w c m) where
 
   pub release-on :
       (φ : Formula ℕ) (ss : List ℕ) → FormulaOk φ → NotEnd w c → takeIn w (viewOf c) φ [] ≡ ok ss →
-      Follows (marked w ss (c .holder) 0) c (Turn.On (stepped c (c .row + 1))) m (took (releaseStep φ m))
+      Follows (marked w (spread w (c .objects) ss) (c .holder) 0) c (Turn.On (stepped c (c .row + 1))) m (took (releaseStep φ m))
   unfolding releaseStep _>>=_ withFrame advance holding
   release-on φ ss l n e =
+      let rs : List ℕ = spread w (c .objects) ss in
       let (A, a, M) = ok-footprint (sees R) φ ss l e in
-      let t : SameTables w (marked w ss (c .holder) 0) = marks-tables R A ss 0 M in
+      let t : SameTables w (marked w rs (c .holder) 0) = marks-tables R A rs 0 M in
       follow-on R _ _ _ (rw a) refl
-      (moved-on (released A ss M (footprint-held (m .heap) (m .frame) φ A a)) (λ z. n (sym (kind-kept (marked w ss (c .holder) 0) t) ∙ z)))
+      (moved-on (released A rs M (footprint-held (m .heap) (m .frame) φ A a)) (λ z. n (sym (kind-kept (marked w rs (c .holder) 0) t) ∙ z)))
 
   pub release-stop :
       (φ : Formula ℕ) (f : Fault) → FormulaOk φ → takeIn w (viewOf c) φ [] ≡ no (stopOf f) →
