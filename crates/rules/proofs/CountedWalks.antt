@@ -120,6 +120,28 @@ module _ (next : ℕ → ℕ) (may : ℕ → Bool) where
       (λ q. (o ∷ os, subst (λ y. Goes (suc n) y (o ∷ os)) (sym q) (went z e G), λ y l. l))
       (head-or i)
 
+  -- it never comes back to the object that led to its start
+  goes-behind : {n o : ℕ} {os : List ℕ} → Goes n o os → (x : ℕ) → Member x os → (us : List ℕ) × Goes n x us × (length us ≤ length os)
+  goes-behind (ended z) x i = elim i [ ]
+  goes-behind (went {n} {o} {os} z e G) x i =
+      ⊎-elim
+      (λ j. let (us, H, l) = goes-behind G x j in (us, goes-more (suc n) H (omega arith), omega (arith, l)))
+      (λ q. (o ∷ os, subst (λ y. Goes (suc n) y (o ∷ os)) (sym q) (went z e G), omega arith))
+      (head-or i)
+
+  same-length : {n m o : ℕ} {os us : List ℕ} → Goes n o os → Goes m o us → length os ≡ length us
+  same-length (ended z) (ended y) = refl
+  same-length (ended z) (went y e G) = absurd (y z)
+  same-length (went z e G) (ended y) = absurd (z y)
+  same-length (went z e G) (went y f H) = ap suc (same-length G H)
+
+  longer : {n m o : ℕ} {os us : List ℕ} → (o ≡ 0 → ⊥) → Goes n (next o) os → Goes m o us → length us ≤ length os → ⊥
+  longer y G (ended z) l = y z
+  longer y G (went z e H) l = omega (arith, l, same-length G H)
+
+  pub goes-away : {n o : ℕ} {os : List ℕ} → Goes n (next o) os → Member o os → ⊥
+  goes-away {o = o} G i = let (us, H, l) = goes-behind G o i in longer (goes-may G o i .1) G H l
+
   pub goes-next : {n o : ℕ} {os : List ℕ} → Goes n o os → (x : ℕ) → Member x os → (next x ≡ 0 → ⊥) → Member (next x) os
   goes-next (ended z) x i d = elim i [ ]
   goes-next (went {n} {o} {os} z e G) x i d =

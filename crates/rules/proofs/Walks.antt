@@ -228,6 +228,11 @@ takeWalk-does h F A f o ws W most k =
       λ p. omega (arith, s p, halves-nil p, halves-append C (C ++ A) p, halves-append C A p),
     )
 
+-- from null it takes nothing more
+pub walk-null : (h : Heap) (F : Frame) (f o : ℕ) (A : List Location) → o ≡ 0 → takeWalk h F f o A ≡ ok A
+unfolding takeWalk
+walk-null h F f o A z = bind-of-ok (walk h F A f (length (F .held)) o []) [] _ (walk-ends h F A f (length (F .held)) o [] z)
+
 -- THE BOUND OF A WALK CHANGES NOTHING: with n at least the count of halves that the frame holds, any greater n gives the same
 module _ (h : Heap) (F : Frame) (A : List Location) (f : ℕ) where
   -- two halves of each location that was passed are held

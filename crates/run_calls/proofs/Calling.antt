@@ -15,7 +15,8 @@ use Rattle.rules.specs.Answers.{Stop, nullFollowed}
 use Rattle.rules.specs.Grammar.{Call, statementNumber}
 use Rattle.rules.specs.Machine.{Frame, Location, Config, took, halves, without, valueOf, footprint, holding, entryValues, callFrame, entered, callStep}
 use Rattle.rules.specs.declared.Machine.{Machine}
-use Rattle.rules.proofs.Sets.{halves-without, footprint-held}
+use Rattle.rules.proofs.Sets.{halves-without}
+use Rattle.rules.proofs.Footprints.{footprint-held}
 use Rattle.tables.specs.Layout.{frame-variables, holders-at, objects-at, frames-at}
 use Rattle.tables.specs.Decode.{byteAt, halfAt, wordAt, yAt, zAt, memberAt, methodPlace, atomsFrom, atomCount, kindAt, methodCount, methodAt, requiresAt, ensuresAt, firstRowAt}
 use Rattle.tables.specs.Stores.{SameTables}

@@ -1,8 +1,8 @@
 -- Laws of the lists of shares that the code goes through.
-use mathlib.Core.Path.{_≡_, refl, sym, ap, _∙_, subst}
+use mathlib.Core.Path.{_≡_, refl, sym, ap, ap₂, _∙_, subst}
 use mathlib.Core.Bool.{Bool, true, false, _||_}
-use mathlib.Core.List.{List, [], _∷_, _++_, append-nil, append-assoc}
-use mathlib.Core.Logic.{⊎-elim}
+use mathlib.Core.List.{List, [], _∷_, _++_, map, append-nil, append-assoc}
+use mathlib.Core.Logic.{_⊎_, inl, inr, ⊎-elim}
 use Prim.Native.Nat.{ℕ, zero, suc, _+_, _/_, _≤_, _<_}
 use native.Mathlib.Numerals.{add-one}
 use native.Mathlib.Omega.{arith}
@@ -13,6 +13,7 @@ use borrow.Author.Tests.{eq-eqb, ne-eqb}
 use Rattle.rules.specs.Base.{any}
 use Rattle.rules.proofs.Lists.{or-cases, or-right, or-left}
 use Rattle.run_heap.specs.Views.{handed}
+use Rattle.run_heap.specs.Chains.{cellsBy}
 use Rattle.run_footprint.specs.Footprints.{shareOf, cellIn, halvesIn, partOf, taken, chainOf, isChain, startIn, fieldIn, spreadOne, spread, partBy, takenBy, marked, ShareFits, SharesFit}
 
 -- the i-th of the first n
@@ -140,6 +141,15 @@ unfolding any
 any-right t [] m e = e
 any-right t (a ∷ l) m e = or-right (t a) (any t (l ++ m)) (any-right t l m e)
 
+pub any-either : (t : ℕ → Bool) (l m : List ℕ) → T (any t (l ++ m)) → T (any t l) ⊎ T (any t m)
+unfolding any
+any-either t [] m e = inr e
+any-either t (a ∷ l) m e =
+    ⊎-elim
+    (λ q. inl (or-left (t a) (any t l) q))
+    (λ q. ⊎-elim (λ p. inl (or-right (t a) (any t l) p)) (λ p. inr p) (any-either t l m q))
+    (or-cases (t a) (any t (l ++ m)) e)
+
 -- what the i-th of the first n stands for is among what they all do
 pub spread-among :
     (w : List ℕ) (m j : ℕ) (l : List ℕ) (n i : ℕ) → n ≤ length l → i < n → T (any (eqb j) (spreadOne w m (getD l i 0))) →
@@ -152,7 +162,7 @@ spread-among w m j (a ∷ l) (suc n) (suc i) h k t =
     any-right (eqb j) (spreadOne w m a) (spread w m (take n l)) (spread-among w m j l n i (omega arith) (omega arith) t)
 
 -- CHAINS
-pub chain-is : (o f : ℕ) → isChain (chainOf o f) ≡ true
+chain-is : (o f : ℕ) → isChain (chainOf o f) ≡ true
 unfolding isChain
 chain-is o f = let e : halvesIn (chainOf o f) ≡ 3 = omega arith in rw e
 
@@ -170,6 +180,11 @@ share-plain s l = ne-eqb (halvesIn s) 3 (λ e. omega arith)
 pub spread-plain : (w : List ℕ) (n s : ℕ) → isChain s ≡ false → spreadOne w n s ≡ s ∷ []
 unfolding spreadOne
 spread-plain w n s e = rw e
+
+pub spread-is :
+    (w : List ℕ) (n o f : ℕ) → o < 4294967296 → f < 128 → spreadOne w n (chainOf o f) ≡ map (λ k. shareOf k 2) (cellsBy w n f n o)
+unfolding spreadOne
+spread-is w n o f l h = rw (chain-is o f) (ap₂ (λ (g i : ℕ). map (λ k. shareOf k 2) (cellsBy w n g n i)) (chain-field o f h) (chain-start o f l h))
 
 pub plain-fits : (w : List ℕ) (n s : ℕ) → isChain s ≡ false → SharesFit (spreadOne w n s) → ShareFits s
 unfolding any

@@ -11,7 +11,8 @@ use Rattle.rules.specs.Answers.{Stop}
 use Rattle.rules.specs.Grammar.{Call, statementNumber}
 use Rattle.rules.specs.Machine.{Heap, Frame, Location, halves, valueOf, footprint, advance, bind, holding, withFrame, statementOf, targetOf, returned, endStep}
 use Rattle.rules.specs.declared.Machine.{Machine}
-use Rattle.rules.proofs.Sets.{halves-append, footprint-held}
+use Rattle.rules.proofs.Sets.{halves-append}
+use Rattle.rules.proofs.Footprints.{footprint-held}
 use Rattle.tables.specs.Layout.{frame-variables, holders-at, objects-at, frames-at}
 use Rattle.tables.specs.Decode.{programIn, byteAt, halfAt, methodPlace, operandsAt, stmtAt, rowAt, kindAt, xAt, rowCount, methodCount, atomsFrom, atomCount, ensuresAt}
 use Rattle.tables.specs.Stores.{SameTables, putWord}

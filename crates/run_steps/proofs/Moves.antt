@@ -99,6 +99,7 @@ module _ {w : List ℕ} {c : Machine} {m : Config} (R : Represents w c m) where
         values = running .values;
         held = running .held;
         cells = R .heap .value;
+        most = R .heap .most-objects;
         small = λ o f k e. cell-small o f (R .tables) fit e;
         apart = cells-apart (R .tables) (R .heap);
       }

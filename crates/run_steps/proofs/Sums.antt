@@ -13,8 +13,8 @@ use Rattle.rules.proofs.CountedWalks.{decide-bool}
 use Rattle.run_footprint.specs.Footprints.{shareOf, cellIn, halvesIn, partOf, taken, isChain, fieldIn, cellsIn, spreadOne, spread, chainPart, partBy, takenBy, shareAt, SharesFit}
 use Rattle.run_footprint.proofs.Shares.{share-cell, share-halves, part-same, part-other, taken-none, taken-cons, by-none, by-cons, any-left, any-right, plain-fits}
 
--- in the list or not
-no-yes : {A : Type 0} {b : Bool} → b ≡ true → b ≡ false → A
+-- a test is not both
+pub no-yes : {A : Type 0} {b : Bool} → b ≡ true → b ≡ false → A
 no-yes e f = absurd (let z : _≡_ {A = ℕ} 0 1 = cc in omega arith)
 
 module _ (w : List ℕ) (n k : ℕ) where
@@ -23,10 +23,10 @@ module _ (w : List ℕ) (n k : ℕ) where
   taken-append (s ∷ ss) rs = omega (arith, taken-cons k s ss, taken-cons k s (ss ++ rs), taken-append ss rs)
 
   -- A CHAIN'S CELLS, each whole
-  cell-here : (j : ℕ) → j ≡ k → partOf k (shareOf j 2) ≡ 2
+  pub cell-here : (j : ℕ) → j ≡ k → partOf k (shareOf j 2) ≡ 2
   cell-here j e = part-same k (shareOf j 2) (share-cell j 2 (omega arith) ∙ e) ∙ share-halves j 2 (omega arith)
 
-  cell-there : (j : ℕ) → (j ≡ k → ⊥) → partOf k (shareOf j 2) ≡ 0
+  pub cell-there : (j : ℕ) → (j ≡ k → ⊥) → partOf k (shareOf j 2) ≡ 0
   cell-there j d = part-other k (shareOf j 2) (λ e. d (sym (share-cell j 2 (omega arith)) ∙ e))
 
   pub cell-part : (j : ℕ) (js : List ℕ) → taken k (map (λ i. shareOf i 2) (j ∷ js)) ≡ partOf k (shareOf j 2) + taken k (map (λ i. shareOf i 2) js)
@@ -160,7 +160,7 @@ module _ (w : List ℕ) (n k : ℕ) where
       (λ e. record { share = s; among = at-head; chain = c; has = e })
       (λ e. further-on (chained-from ss (omega (arith, (rw c at l), chain-has-not s c e))))
       (decide-bool (any (eqb k) (cellsIn w n s))))
-      (λ (c : isChain s ≡ false). further-on (chained-from ss (rw c at l)))
+      (λ (c : isChain s ≡ false). further-on (chained-from ss (omega (arith, (rw c at l)))))
       (decide-bool (isChain s))
     where
       further-on : Chained ss → Chained (s ∷ ss)
@@ -193,7 +193,7 @@ module _ (w : List ℕ) (n k : ℕ) where
         ((s : ℕ) → Member s ss → isChain s ≡ true → any (eqb k) (cellsIn w n s) ≡ true →
         (taken k (spreadOne w n s) ≤ 2) × (fieldIn s ≡ f)) →
         takenBy w n f k ss ≡ taken k (spread w n ss)
-    unfolding spread
+    unfolding spread partBy chainPart
     by-spread [] h = by-none w n f k ∙ sym (taken-none k)
     by-spread (s ∷ ss) h =
         omega (
@@ -210,17 +210,14 @@ module _ (w : List ℕ) (n k : ℕ) where
         of-chain :
             isChain s ≡ true → any (eqb k) (cellsIn w n s) ≡ true → (taken k (spreadOne w n s) ≤ 2) × (fieldIn s ≡ f) →
             partBy w n f k s ≡ taken k (spreadOne w n s)
-        unfolding partBy chainPart
         of-chain c e (l, q) = rw (c, eq-eqb (fieldIn s) f q, e) (omega (arith, chain-has s c e, l))
 
         of-other : isChain s ≡ true → any (eqb k) (cellsIn w n s) ≡ false → partBy w n f k s ≡ taken k (spreadOne w n s)
-        unfolding partBy chainPart
         of-other c e = rw (c, e) (either (eqb (fieldIn s) f) ∙ sym (chain-has-not s c e))
           where
-            either : (b : Bool) → cond (b && false) 2 0 ≡ 0
+            either : (b : Bool) → _≡_ {A = ℕ} (cond (b && false) 2 0) 0
             either true = refl
             either false = refl
 
         of-plain : isChain s ≡ false → partBy w n f k s ≡ taken k (spreadOne w n s)
-        unfolding partBy
         of-plain c = rw c (sym (plain-part s c))

@@ -1,29 +1,28 @@
 -- The walk of the code is a counting walk over the state that a view sees; and what chains among the shares are.
 use mathlib.Core.Path.{_≡_, refl, sym, ap, _∙_, subst}
-use mathlib.Core.Bool.{Bool, true, false, _&&_}
-use mathlib.Core.List.{List, [], _∷_, _++_, map}
+use mathlib.Core.Bool.{Bool, true, false, _&&_, _||_}
+use mathlib.Core.List.{List, [], _∷_, map}
 use mathlib.Core.Logic.{⊎-elim}
 use mathlib.Core.Option.{Option, none, some}
-use Prim.Native.Nat.{ℕ, zero, suc, _+_, _≤_, _<_}
+use Prim.Native.Nat.{ℕ, zero, suc, _+_, _≤_}
 use native.Mathlib.Omega.{arith}
 use lib.Dec.{T, eqb, leb, eqb→eq, leb→le}
 use borrow.Author.Tests.{eq-eqb, ne-eqb, eqb-true, le-leb}
-use Rattle.rules.specs.Limits.{heap-fields}
 use Rattle.rules.specs.Base.{Member, at-head, further, Try, ok, no, _>>=_, _>>_, check, any}
 use Rattle.rules.specs.Answers.{Stop, permissionMissing}
 use Rattle.rules.specs.Machine.{Heap, Frame, Location, halves, valueAt}
-use Rattle.rules.proofs.Lists.{T-true, and-both, decide-eq, head-or, some-inj, none-some}
+use Rattle.rules.proofs.Lists.{T-true, and-both, or-cases, decide-eq, head-or, some-inj}
 use Rattle.rules.proofs.Sets.{at-cases, halves-nil, halves-cons}
-use Rattle.rules.proofs.CountedWalks.{count, lastOf, count-null, count-stuck, count-on, Goes, ended, went, goes-may, goes-next, places, decide-bool}
+use Rattle.rules.proofs.CountedWalks.{count, lastOf, count-null, count-stuck, count-on, Goes, ended, went, places, decide-bool}
 use Rattle.run_heap.specs.declared.View.{View}
 use Rattle.run_heap.specs.Views.{cellValue, halvesAt, cellOf, present, foundOf, heldCell}
 use Rattle.run_heap.specs.Chains.{wholeCell, freeCell, walkIn, walkEnd, cellsBy}
 use Rattle.run_heap.proofs.Reading.{cell-null}
 use Rattle.run_heap.proofs.Walking.{walk-on, walk-off, cells-more, cells-end}
-use Rattle.run_footprint.specs.Footprints.{shareOf, taken, isChain, startIn, fieldIn, ShareFits, SharesFit}
-use Rattle.run_footprint.proofs.Shares.{share-cell, share-halves, part-same, part-other, taken-none}
-use Rattle.run_steps.proofs.Sights.{Sees, at, held-at}
-use Rattle.run_steps.proofs.Sums.{cell-part}
+use Rattle.run_footprint.specs.Footprints.{shareOf, taken, ShareFits, SharesFit}
+use Rattle.run_footprint.proofs.Shares.{share-cell, share-halves, taken-none}
+use Rattle.run_steps.proofs.Sights.{Sees, at}
+use Rattle.run_steps.proofs.Sums.{cell-here, cell-there, cell-part}
 
 module _ {w : List ℕ} {v : View} {h : Heap} {F : Frame} (S : Sees w v h F) where
   -- is the cell held whole and free?
@@ -71,20 +70,23 @@ module _ {w : List ℕ} {v : View} {h : Heap} {F : Frame} (S : Sees w v h F) whe
           (c : Option ℕ) → passable free c ≡ false →
           (((present c >>= heldCell w (v .holder) 2) >>= λ k. check (free k) permissionMissing >> ok k)) ≡ no permissionMissing
       go none e = refl
-      go (some k) e = tests (leb 2 (halvesAt w (v .holder) k)) (free k) e
+      go (some k) e = tests (leb 2 (halvesAt w (v .holder) k)) e
         where
+          last : (b : Bool) → b ≡ false → check b permissionMissing >> ok k ≡ no permissionMissing
+          last true e = absurd (let z : _≡_ {A = ℕ} 0 1 = cc in omega arith)
+          last false e = refl
+
           tests :
-              (a b : Bool) → (a && b) ≡ false →
-              ((check a permissionMissing >> ok k) >>= λ k. check b permissionMissing >> ok k) ≡ no permissionMissing
-          tests true true e = absurd (let z : _≡_ {A = ℕ} 0 1 = cc in omega arith)
-          tests true false e = refl
-          tests false b e = refl
+              (a : Bool) → (a && free k) ≡ false →
+              ((check a permissionMissing >> ok k) >>= λ i. check (free i) permissionMissing >> ok i) ≡ no permissionMissing
+          tests true e = last (free k) e
+          tests false e = refl
 
   -- THE WALK OF THE CODE
   pub walk-counted :
       (f : ℕ) (free : ℕ → Bool) (n o last : ℕ) →
       walkIn w v free f n o last ≡ (count (next f) (mayIn f free) n o >>= λ os. ok (lastOf last os))
-  unfolding walkIn count lastOf _>>=_
+  unfolding walkIn walkEnd count lastOf _>>=_
   walk-counted f free zero o last = refl
   walk-counted f free (suc n) o last =
       ⊎-elim
@@ -114,7 +116,6 @@ module _ {w : List ℕ} {v : View} {h : Heap} {F : Frame} (S : Sees w v h F) whe
       later (no s) = refl
 
       stops : (o ≡ 0 → ⊥) → walkEnd o last ≡ no permissionMissing
-      unfolding walkEnd
       stops z = rw (ne-eqb o 0 z)
 
   -- A WAY by f from the object o to null, over objects whose locations are held whole
@@ -122,23 +123,88 @@ module _ {w : List ℕ} {v : View} {h : Heap} {F : Frame} (S : Sees w v h F) whe
   Way f o os = Goes (next f) (mayIn f (λ _. true)) (suc (v .objects)) o os
 
   module _ (f : ℕ) (free : ℕ → Bool) where
+    or-true : (b : Bool) → (b || true) ≡ true
+    or-true true = refl
+    or-true false = refl
+
     -- its cells are those of its objects
     pub way-cell :
-        {n o : ℕ} {os : List ℕ} → Goes (next f) (mayIn f free) (suc n) o os → (x k : ℕ) → Member x os →
+        (n : ℕ) {o : ℕ} {os : List ℕ} → Goes (next f) (mayIn f free) (suc n) o os → (x k : ℕ) → Member x os →
         cellOf w (v .objects) x f ≡ some k → any (eqb k) (cellsBy w (v .objects) f n o) ≡ true
     unfolding any
-    way-cell (ended z) x k i e = elim i [ ]
-    way-cell {zero} (went {n} {o} z m ()) x k i e
-    way-cell {suc n} (went {n = m} {o} {os} z y G) x k i e =
+    way-cell n (ended z) x k i e = elim i [ ]
+    way-cell zero (went z y G) x k i e = elim G [ ]
+    way-cell (suc n) (went {o = o} z y G) x k i e =
         let (j, P) = may-cell f free o y in
         ⊎-elim
         (λ l.
-        rw (cells-more w (v .objects) f n o j (P .cell), ← S .cells o f j (P .cell), way-cell G x k l e)
-        (either (eqb k j)))
+        rw (cells-more w (v .objects) f n o j (P .cell), ← S .cells o f j (P .cell), way-cell n G x k l e) (or-true (eqb k j)))
         (λ q.
-        rw (cells-more w (v .objects) f n o j (P .cell), eq-eqb k j (some-inj (sym e ∙ (ap (λ (u : ℕ). cellOf w (v .objects) u f) q ∙ P .cell)))))
+        rw (
+          cells-more w (v .objects) f n o j (P .cell),
+          eq-eqb k j (some-inj (sym e ∙ (ap (λ (u : ℕ). cellOf w (v .objects) u f) q ∙ P .cell))),
+        ))
         (head-or i)
-      where
-        either : (b : Bool) → _≡_ {A = Bool} (b || true) true
-        either true = refl
-        either false = refl
+
+    pub cell-way :
+        (n : ℕ) {o : ℕ} {os : List ℕ} → Goes (next f) (mayIn f free) (suc n) o os → (k : ℕ) →
+        any (eqb k) (cellsBy w (v .objects) f n o) ≡ true → (x : ℕ) × Member x os × (cellOf w (v .objects) x f ≡ some k)
+    unfolding any cellsBy
+    cell-way zero (ended z) k e = absurd (let y : _≡_ {A = ℕ} 0 1 = cc in omega arith)
+    cell-way (suc n) (ended {o = o} z) k e =
+        let q = rw (cells-end w (v .objects) f n o (ap (λ (u : ℕ). cellOf w (v .objects) u f) z ∙ cell-null w (v .objects) f)) at e in
+        absurd (let y : _≡_ {A = ℕ} 0 1 = cc in omega arith)
+    cell-way zero (went z y G) k e = elim G [ ]
+    cell-way (suc n) (went {o = o} z y G) k e =
+        let (j, P) = may-cell f free o y in
+        let q = rw (cells-more w (v .objects) f n o j (P .cell), ← S .cells o f j (P .cell)) at e in
+        ⊎-elim
+        (λ (t : eqb k j ≡ true). (o, at-head, P .cell ∙ ap some (sym (eqb-true k j t))))
+        (λ (t : eqb k j ≡ false). let (x, i, c) = cell-way n G k (rw t at q) in (x, further i, c))
+        (decide-bool (eqb k j))
+
+    -- each of them taken whole is each of its locations taken whole
+    pub cells-places :
+        (n : ℕ) {o : ℕ} {os : List ℕ} → Goes (next f) (mayIn f free) (suc n) o os → (p : Location) (k : ℕ) →
+        cellOf w (v .objects) (p .object) (p .field) ≡ some k →
+        taken k (map (λ i. shareOf i 2) (cellsBy w (v .objects) f n o)) ≡ halves (places f os) p + halves (places f os) p
+    unfolding places cellsBy
+    cells-places zero (ended z) p k e = omega (arith, taken-none k, halves-nil p)
+    cells-places (suc n) (ended {o = o} z) p k e =
+        rw (cells-end w (v .objects) f n o (ap (λ (u : ℕ). cellOf w (v .objects) u f) z ∙ cell-null w (v .objects) f))
+        (omega (arith, taken-none k, halves-nil p))
+    cells-places zero (went z y G) p k e = elim G [ ]
+    cells-places (suc n) (went {o = o} {os = os} z y G) p k e =
+        let (j, P) = may-cell f free o y in
+        let c = halves-cons (at o f) (places f os) p in
+        let d = cell-part w (v .objects) k j (cellsBy w (v .objects) f n (next f o)) in
+        let i = cells-places n G p k e in
+        rw (cells-more w (v .objects) f n o j (P .cell), ← S .cells o f j (P .cell))
+        (⊎-elim
+        (λ (q, a).
+        let b : j ≡ k = some-inj (sym (P .cell) ∙ (ap (λ (r : Location). cellOf w (v .objects) (r .object) (r .field)) (sym q) ∙ e)) in
+        omega (arith, a, c, d, i, cell-here w (v .objects) k j b))
+        (λ (q, a).
+        omega (arith, a, c, d, i, cell-there w (v .objects) k j (λ b. q (S .apart p (at o f) k e (P .cell ∙ ap some b)))))
+        (at-cases (at o f) p))
+
+  -- cells of a chain are cells of the heap
+  pub cells-fit : (f n o : ℕ) → SharesFit (map (λ i. shareOf i 2) (cellsBy w (v .objects) f n o))
+  unfolding any cellsBy
+  cells-fit f zero o = λ j t. absurd t
+  cells-fit f (suc n) o = go (cellOf w (v .objects) o f) refl (cells-fit f n)
+    where
+      go :
+          (c : Option ℕ) → cellOf w (v .objects) o f ≡ c →
+          ((i : ℕ) → SharesFit (map (λ i. shareOf i 2) (cellsBy w (v .objects) f n i))) →
+          SharesFit (map (λ i. shareOf i 2) (cellsBy w (v .objects) f (suc n) o))
+      go none e h j t =
+          absurd (subst (λ (l : List ℕ). T (any (eqb j) (map (λ i. shareOf i 2) l))) (cells-end w (v .objects) f n o e) t)
+      go (some k) e h j t =
+          ⊎-elim
+          (λ q.
+          subst ShareFits (sym (eqb→eq j (shareOf k 2) q))
+          (rw (share-cell k 2 (omega arith)) (S .small o f k e), rw (share-halves k 2 (omega arith)) (omega arith)))
+          (h (cellValue w k) j)
+          (or-cases (eqb j (shareOf k 2)) (any (eqb j) (map (λ i. shareOf i 2) (cellsBy w (v .objects) f n (cellValue w k))))
+          (subst (λ (l : List ℕ). T (any (eqb j) (map (λ i. shareOf i 2) l))) (cells-more w (v .objects) f n o k e) t))
