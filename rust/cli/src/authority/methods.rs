@@ -164,19 +164,42 @@ impl<'s, 'a> Blocks<'s, 'a> {
         !apart && !self.contracts.differ(write.place, path.var, var)
     }
 
-    fn row(&self, block: usize) -> Row {
+    /// A path, or the atom of a chain, in the block's names.
+    fn told(&self, block: usize, its: &Permission<'a>) -> String {
         let names = self.script.names(block);
-        let path = |path: Path| names.expr(Expr::Path(path));
-        let told = |its: &Permission<'a>| match its.share {
+        match its.share {
             Share::Chain => names.atom(its.atom()),
-            _ => path(its.path),
-        };
+            _ => names.expr(Expr::Path(its.path)),
+        }
+    }
+
+    /// What a block is handed: how much of it, whether it comes back, and whether it
+    /// may be written.
+    fn handed_to(&self, block: usize, its: Permission<'a>, written: bool) -> Handed {
+        let perhaps = self.contracts.back(block, its);
+        let names = self.script.names(block);
+        Handed {
+            share: match its.share {
+                Share::Whole => Share::Whole,
+                Share::Half => Share::Half,
+                Share::Either(other) => Share::Either(names.expr(Expr::Path(other))),
+                Share::Chain => Share::Chain,
+            },
+            path: self.told(block, &its),
+            back: perhaps && !(written && its.share == Share::Chain),
+            perhaps,
+            written,
+        }
+    }
+
+    fn row(&self, block: usize) -> Row {
+        let header = self.script.program.blocks[block].header;
         let handed = self.handed[block].iter().zip(&self.altered[block]);
         let mut written: Vec<Written> = Vec::new();
         for write in self.writes(block) {
             let name = |method| block_name(self.script, method);
             let write = Written {
-                path: told(&write.to),
+                path: self.told(block, &write.to),
                 line: write.line,
                 by: write.by.map(name),
             };
@@ -185,25 +208,10 @@ impl<'s, 'a> Blocks<'s, 'a> {
             }
         }
         Row {
-            method: names
-                .block
-                .header
-                .map(|header| (shown(header.name), shown(header.class))),
+            method: header.map(|header| (shown(header.name), shown(header.class))),
             line: self.script.block_line(block),
             handed: handed
-                .map(|(&its, &written)| Handed {
-                    share: match its.share {
-                        Share::Whole => Share::Whole,
-                        Share::Half => Share::Half,
-                        Share::Either(other) => Share::Either(path(other)),
-                        Share::Chain => Share::Chain,
-                    },
-                    path: told(&its),
-                    back: self.contracts.back(block, its)
-                        && !(written && its.share == Share::Chain),
-                    perhaps: self.contracts.back(block, its),
-                    written,
-                })
+                .map(|(&its, &written)| self.handed_to(block, its, written))
                 .collect(),
             written,
             makes: makes(self.script, block),

@@ -471,12 +471,7 @@ pub fn unframed(text: &[u8], number: u32) -> Option<Cause> {
             permission(share, y, field)
         )
     });
-    let chain = atoms.contains(&text::Atom::Permission(text::Share::Chain, x, field));
-    let chain = chain.then(|| {
-        let chain = permission(text::Share::Chain, x, field);
-        format!("`{chain}` does not count: a link of a chain is read after `open`, in the body")
-    });
-    let cause = cause.or_note(chain);
+    let cause = cause.or_note(in_chain(&atoms, x, field));
     let mut later = atoms[atom..]
         .iter()
         .filter_map(|atom| of_field(atom, field));
@@ -486,6 +481,15 @@ pub fn unframed(text: &[u8], number: u32) -> Option<Cause> {
         Some(share) => format!("move `{}` before it", permission(share, x, field)),
         None => format!("write `{acc}` or `{half}` before it"),
     }))
+}
+
+/// A chain among the atoms that the path is in, which does not count.
+fn in_chain(atoms: &[text::Atom], x: Name, field: Name) -> Option<String> {
+    let chain = text::Atom::Permission(text::Share::Chain, x, field);
+    atoms.contains(&chain).then(|| {
+        let chain = permission(text::Share::Chain, x, field);
+        format!("`{chain}` does not count: a link of a chain is read after `open`, in the body")
+    })
 }
 
 /// The share and the variable of a permission to a path of the field.

@@ -129,10 +129,10 @@ pub fn reason(script: &Script, names: &Names, action: &Action, atom: Atom) -> St
         Action::Let(x, _) | Action::New(x, _) => another_value(names, *x),
         Action::Open(open) if names_var(atom, open.y) => another_value(names, open.y),
         Action::Open(_) => "and not shut since".to_string(),
-        Action::Shut(path) => {
-            let chain = names.atom(Atom::Permission(Share::Chain, *path));
-            format!("which makes it a part of `{chain}`")
-        }
+        Action::Shut(path) => format!(
+            "which makes it a part of `{}`",
+            names.atom(Atom::Permission(Share::Chain, *path))
+        ),
         Action::Compute(compute) => format!(
             "which gives `{}` another value, of which nothing is known",
             names.var(compute.x)

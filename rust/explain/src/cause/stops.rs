@@ -120,7 +120,8 @@ pub fn stop_cause(text: &[u8], steps: u32, stop: u32) -> Option<Cause> {
         return None;
     }
     let halt = machine.halt?;
-    let history = history(&script, &machine, &trail, halt);
+    let walk = walk_history(&script, &machine, &trail, halt);
+    let history = walk.unwrap_or_else(|| history(&script, &machine, &trail, halt));
     let names = script.names(machine.frame().block);
     let statement = machine.statement();
     let tested = formula(&script, &machine, halt.tested);
@@ -148,6 +149,21 @@ pub fn stop_cause(text: &[u8], steps: u32, stop: u32) -> Option<Cause> {
     Some(history.into_iter().fold(cause, Cause::note))
 }
 
+/// What led to the stop of a walk over a chain; none if no walk was stopped.
+fn walk_history(
+    script: &Script,
+    machine: &Machine,
+    trail: &Trail,
+    halt: Halt,
+) -> Option<Vec<String>> {
+    let frame = machine.frame();
+    let tested = formula(script, machine, halt.tested);
+    let tested = tested.map(|tested| (tested.names, tested.values));
+    let (names, values) = tested.unwrap_or((script.names(frame.block), frame.values));
+    let walk = Walk::of(machine, names, &values, &[], halt)?;
+    Some(walk.history(script, trail, halt).into_iter().collect())
+}
+
 /// What led to the stop: where values came from and permissions went.
 fn history(script: &Script, machine: &Machine, trail: &Trail, halt: Halt) -> Vec<String> {
     let tested = formula(script, machine, halt.tested);
@@ -157,10 +173,6 @@ fn history(script: &Script, machine: &Machine, trail: &Trail, halt: Halt) -> Vec
         Some(tested) => (tested.names, tested.values),
         None => (own, frame.values),
     };
-    let walk = Walk::of(machine, names, &values, &[], halt);
-    if let Some(walk) = walk {
-        return walk.history(script, trail, halt).into_iter().collect();
-    }
     let inside = !matches!(halt.tested, Tested::Requires);
     let var = |var| trail.of_var(script, &own, var).filter(|_| inside);
     let mut found = Vec::new();

@@ -130,11 +130,14 @@ pub fn unread(line: &[String], at: usize, first: usize) -> Vec<Candidate> {
     Some(fix).filter(|_| !condition).into_iter().collect()
 }
 
-/// Would a formula with both atoms ask for a link and for the chain that it is in?
-pub fn clash(one: &[String], other: &[String]) -> bool {
+/// Would a line with a further atom ask for a link and for the chain that it is in?
+pub fn clashes(line: &[String], further: &[String]) -> bool {
     let chain = |atom: &[String]| atom[0] == Share::Chain.word();
     let path = |atom: &[String]| Share::named(atom[0].as_bytes()).is_some();
-    one[1..] == other[1..] && path(one) && path(other) && chain(one) != chain(other)
+    let atoms = line.get(1..).unwrap_or_default().chunks(3);
+    atoms
+        .filter(|atom| path(atom) && path(further))
+        .any(|atom| atom[1..] == further[1..] && chain(atom) != chain(further))
 }
 
 /// Further atoms that would let a `shut` pass: that its link leads to a card whose

@@ -189,8 +189,7 @@ impl<'a> Refused<'_, 'a> {
         if let Some(whole) = self.made_whole(line, atom) {
             return Some(whole);
         }
-        let fields = self.draft.lines.get(line)?;
-        let mut fields = fields.clone();
+        let mut fields = self.draft.lines.get(line)?.clone();
         let holds = |fields: &[String], acc: &[String]| {
             fields
                 .get(1..)
@@ -199,8 +198,7 @@ impl<'a> Refused<'_, 'a> {
                 .any(|atom| atom == acc)
         };
         let atom: Vec<String> = atom.split(' ').map(str::to_string).collect();
-        let mut atoms = fields.get(1..)?.chunks(3).filter(|one| one.len() == 3);
-        if atoms.any(|one| chains::clash(one, &atom)) {
+        if chains::clashes(&fields, &atom) {
             return None;
         }
         for side in &atom[1..] {
