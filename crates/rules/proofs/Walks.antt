@@ -9,7 +9,6 @@ use lib.Dec.{T, eqb, eqb→eq, leb, leb→le, le→leb}
 use lib.ListN.{length, length-append}
 use Rattle.rules.specs.Base.{Try, ok, no, check, _>>_}
 use Rattle.rules.specs.Answers.{Stop, permissionMissing, formulaFalse}
-use Rattle.rules.specs.Syntax.{chain}
 use Rattle.rules.specs.Machine.{Frame, Heap, Location, halves, lessOne, valueAt, walk, takeWalk}
 use Rattle.rules.proofs.Lists.{T-true, F-false, and-intro, and-both, decide-eq}
 use Rattle.rules.proofs.Tries.{bind-ok, check-ok, ok-inj, no-ok, pass, bind-of-ok}
