@@ -261,7 +261,7 @@ module _ {w : List ℕ} {c : Machine} {f k : ℕ} (O : Opening w c f k) (v : Vie
   open-does y last ey ln e p q =
       does-on (p ∙ rw (ev, ey, en)) q (frame-words (O .ready) (xAt w (c .row)) (fits (O .ready) .x) (cellValue w k))
       (λ m R.
-      Steps.opened R (xAt w (c .row)) (yAt w (c .row)) (memberAt w (c .row)) k last (fits (O .ready) .x) (fits (O .ready) .y)
+      Steps.open-on R (xAt w (c .row)) (yAt w (c .row)) (memberAt w (c .row)) k last (fits (O .ready) .x) (fits (O .ready) .y)
       (omega (arith, ln, en)) (λ z. omega (arith, z, O .at-open)) here (walk-as w c v f _ n _ ev (O .field) en e))
 
   pub open-walk-stops :

@@ -15,7 +15,7 @@ use Rattle.tables.specs.Decode.{fieldCountAt}
 use Rattle.tables.specs.Tables.{Tables}
 use Rattle.tables.specs.Stores.{SameTables}
 use Rattle.tables.proofs.Decoding.{rows-count-same, kind-same, methods-count-same, field-count-same, ensures-same}
-use Rattle.run_heap.specs.Views.{frameAt, variableAt, savedHolder, savedRow, methodOf, cellValue, halvesAt, classIn, firstIn, cellOf, halvesIn, halvesOf, ObjectFits}
+use Rattle.run_heap.specs.Views.{frameAt, variableAt, savedHolder, savedRow, methodOf, cellValue, halvesAt, classIn, cellOf, halvesIn, halvesOf, ObjectFits}
 use Rattle.run_steps.specs.States.{HeapIs, FrameIs, EnsuresIs, CallerIs, CallersAre}
 use Rattle.run_heap.proofs.Reading.{cell-small}
 use Rattle.run_footprint.proofs.Regions.{Only, variable-kept, saved-holder-kept, saved-row-kept, method-kept}

@@ -11,7 +11,7 @@ use borrow.Author.Tests.{eq-eqb, ne-eqb, le-leb, lt-leb}
 use Rattle.rules.specs.Base.{Member, further, Try, ok, no, _>>=_, _>>_, check, any}
 use Rattle.rules.specs.Answers.{Stop, permissionMissing, nullFollowed}
 use Rattle.rules.specs.Syntax.{path}
-use Rattle.rules.specs.Machine.{Heap, Frame, Location, Config, halves, valueOf, locate, value, takeWalk, advance, bind, withFrame, openStep, shutStep}
+use Rattle.rules.specs.Machine.{Heap, Frame, Location, Config, halves, valueOf, locate, value, advance, bind, withFrame, openStep, shutStep}
 use Rattle.rules.proofs.Lists.{none-some, decide-eq, is-head}
 use Rattle.rules.proofs.Sets.{at-cases, halves-nil, halves-cons}
 use Rattle.rules.proofs.Tries.{bind-ok, no-ok}
@@ -108,11 +108,11 @@ module _ {w : List ℕ} {v : View} (m : Config) (S : Sees w v (m .heap) (m .fram
   o = valueOf (m .frame) x
 
   module _ (y : ℕ) where
-    pub open-on :
+    pub open-done :
         (k last : ℕ) → spot w v 2 x f ≡ ok k → walkIn w v (λ _. true) f (suc (v .objects)) (cellValue w k) 0 ≡ ok last →
         openStep y x f m ≡ ok (withFrame m (advance (bind y (cellValue w k) (m .frame))))
     unfolding openStep check _>>_ _>>=_
-    open-on k last e q =
+    open-done k last e q =
         let L = located S 2 x f k (omega arith) lx e in
         let (os, c) = walked-ok S f (cellValue w k) last q in
         let (B, t, _) = walk-ok S (nothing S) f (suc (v .objects)) o (o ∷ os) (omega arith) (walk-from S x f k L ∙ rw c) in

@@ -216,8 +216,7 @@ module _ {w : List ℕ} {v : View} {h : Heap} {F : Frame} (S : Sees w v h F) whe
       (by-spread w N k f ss
       (λ s i c t.
       let (os, W) = K .chains s i c in
-      let O = owner W k t in
-      (
+      let O = owner W k t in (
         omega (arith, part-least w N k s ss i, taken-most K o f k e),
         ap (λ (p : Location). p .field) (S .apart (at (O .object) (fieldIn s)) (at o f) k (O .cell) e),
       )))
@@ -453,7 +452,6 @@ module _ {w : List ℕ} {v : View} {h : Heap} {F : Frame} (S : Sees w v h F) whe
     unfolding takeWalk _>>=_
     walk-no m o s b e = go (walk h F A f (length (F .held)) o []) (count (next S f) may (suc m) o) refl (walks m o b) e
       where
-
         go :
             (a : Try Stop (List Location)) (b : Try Stop (List ℕ)) → walk h F A f (length (F .held)) o [] ≡ a → Same f [] a b → b ≡ no s →
             takeWalk h F f o A ≡ no s
@@ -513,8 +511,7 @@ module _ {w : List ℕ} {v : View} {h : Heap} {F : Frame} (S : Sees w v h F) whe
           chains = λ s i c.
               ⊎-elim
               (λ m. K .chains s m c)
-              (λ q.
-              (
+              (λ q. (
                 os,
                 subst (λ (r : ℕ). Way S (fieldIn r) (startIn r) os) (sym q)
                     (rw (chain-field o f lf, chain-start o f lo lf)

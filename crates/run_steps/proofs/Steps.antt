@@ -26,7 +26,7 @@ use Rattle.run_heap.specs.Chains.{walkIn}
 use Rattle.run_footprint.specs.Footprints.{spread, takeIn, marked}
 use Rattle.run_steps.specs.States.{FrameIs, Represents, Follows, stepped, NotEnd}
 use Rattle.run_steps.proofs.Seeing.{Matches, FormulaOk, locate-at, locate-no, value-is, no-footprint, ok-footprint}
-use Rattle.run_steps.proofs.Opening.{open-on, open-walk, open-no, shut-no, shut-walk, shut-half, shut-on}
+use Rattle.run_steps.proofs.Opening.{open-done, open-walk, open-no, shut-no, shut-walk, shut-half, shut-on}
 use Rattle.run_footprint.proofs.Regions.{Only, only-word, only-tables}
 use Rattle.run_steps.proofs.Keeping.{same-frame, ensures-kept, callers-kept}
 use Rattle.run_steps.proofs.Moves.{sees, moved-on, follow-stop, follow-on}
@@ -116,14 +116,14 @@ module _ {w : List ℕ} {c : Machine} {m : Config} (R : Represents w c m) where
     compute-stop r = bound-stop x _ Fault.Overflow (computed-is ∙ r)
 
   -- `open`
-  pub opened :
+  pub open-on :
       (y x f k last : ℕ) → y < frame-variables → x < frame-variables → cellValue w k < 4294967296 → NotEnd w c →
       spot w (viewOf c) 2 x f ≡ ok k → walkIn w (viewOf c) (λ _. true) f (suc (c .objects)) (cellValue w k) 0 ≡ ok last →
       Follows (putWord w (frameAt (c .frames - 1) + y * 4) (cellValue w k)) c (Turn.On (stepped c (c .row + 1))) m (took (openStep y x f m))
   unfolding _>>=_
-  opened y x f k last ly lx lv n e q =
+  open-on y x f k last ly lx lv n e q =
       subst (λ t. Follows (putWord w (frameAt (c .frames - 1) + y * 4) (cellValue w k)) c (Turn.On (stepped c (c .row + 1))) m (took t))
-      (sym (open-on m (sees R) x f lx y k last e q)) (bound-on y (ok (cellValue w k)) (cellValue w k) ly lv n refl)
+      (sym (open-done m (sees R) x f lx y k last e q)) (bound-on y (ok (cellValue w k)) (cellValue w k) ly lv n refl)
 
   pub open-stop :
       (y x f : ℕ) (s : Fault) → x < frame-variables → spot w (viewOf c) 2 x f ≡ no (stopOf s) →

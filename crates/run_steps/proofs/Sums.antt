@@ -5,10 +5,10 @@ use mathlib.Core.List.{List, [], _∷_, _++_, map}
 use mathlib.Core.Logic.{⊎-elim}
 use Prim.Native.Nat.{ℕ, _+_, _≤_}
 use native.Mathlib.Omega.{arith}
-use lib.Dec.{T, eqb}
+use lib.Dec.{eqb}
 use borrow.Author.Tests.{eq-eqb, eqb-true}
 use Rattle.rules.specs.Base.{Member, at-head, further, any}
-use Rattle.rules.proofs.Lists.{head-or, T-true, decide-eq}
+use Rattle.rules.proofs.Lists.{head-or}
 use Rattle.rules.proofs.CountedWalks.{decide-bool}
 use Rattle.run_footprint.specs.Footprints.{shareOf, cellIn, halvesIn, partOf, taken, isChain, fieldIn, cellsIn, spreadOne, spread, chainPart, partBy, takenBy, shareAt, SharesFit}
 use Rattle.run_footprint.proofs.Shares.{share-cell, share-halves, part-same, part-other, taken-none, taken-cons, by-none, by-cons, any-left, any-right, plain-fits}

@@ -6,11 +6,10 @@ use run_heap::Fault;
 use run_heap::Read;
 use run_heap::Spot;
 use run_heap::Stores;
-ghost use mathlib.Core.Path.{_≡_};
 ghost use Rattle.rules.specs.Grammar.{Open, Shut};
 ghost use Rattle.run_steps.specs.States.{CanStep, AtKind, Does, Opening, Shutting, Walked, openHere, shutHere};
 
-// Where the location of `x.f`, the cell k, is held whole: "the walk" goes on from its value, which y gets.
+// Where the location of `x.f`, the cell k, is held whole: the walk goes on from its value, which y gets.
 fn open_on(work: &mut [u8], c: Machine, f: usize, k: usize) -> Turn
     requires { ⌜ Opening (now work) c f k ⌝ }
     ensures { λ r. ⌜ Does (now (work .entry)) c (now (work .exit)) r (openHere (now (work .entry)) c) ⌝ }

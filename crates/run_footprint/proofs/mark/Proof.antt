@@ -51,7 +51,13 @@ loop-again c =
     let at-loop = c .before .before .before .before .before .before .loop in
     let at-loop-test = c .before .before .before .before .before .loop-test in
     let at-mark-one = c .before .before .mark-one in
-    let g : length (start .args .shares .now) ≡ 8 = start .pre .0 .1 .1 in let k = spread-one-kept (at-loop .inv .1) (start .pre .0 .0) (getD (start .args .shares .now) (at-loop .i) 0) in (omega arith, only-trans (at-loop .inv .1) (rw (at-mark-one .ensures, k) (only-marked _ _ _ _ (λ j t. start .pre .1 j (spread-among _ _ j (start .args .shares .now) _ _ (omega arith) (at-loop-test .taken) t)))), rw (at-mark-one .ensures, k) (mark-next _ _ (start .args .shares .now) _ _ _ _ _ (omega arith) (at-loop-test .taken) ∙ at-loop .inv .2))
+    let g : length (start .args .shares .now) ≡ 8 = start .pre .0 .1 .1 in
+    let k = spread-one-kept (at-loop .inv .1) (start .pre .0 .0) (getD (start .args .shares .now) (at-loop .i) 0) in (
+      omega arith,
+      only-trans (at-loop .inv .1)
+          (rw (at-mark-one .ensures, k) (only-marked _ _ _ _ (λ j t. start .pre .1 j (spread-among _ _ j (start .args .shares .now) _ _ (omega arith) (at-loop-test .taken) t)))),
+      rw (at-mark-one .ensures, k) (mark-next _ _ (start .args .shares .now) _ _ _ _ _ (omega arith) (at-loop-test .taken) ∙ at-loop .inv .2),
+    )
 
 same-length : tie.Need-same-length Inv-loop μ-loop
 same-length c =

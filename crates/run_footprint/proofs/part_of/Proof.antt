@@ -1,4 +1,3 @@
-use mathlib.Core.Path.{sym, _∙_}
 use borrow.Author.Tests.{eq-eqb, ne-eqb}
 use Rattle.run_footprint.specs.Footprints.{cellIn, partOf, partBy}
 use native.Mathlib.Omega.{arith}

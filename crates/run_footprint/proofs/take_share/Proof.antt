@@ -66,8 +66,7 @@ returns c =
     let at-atom-variable = c .before .before .before .before .before .before .before .before .atom-variable in
     let at-atom-field = c .before .before .before .before .before .before .before .atom-field in
     let at-locate = c .before .before .before .before .before .before .locate in
-    let at-k = c .before .before .before .before .k in
-    (
+    let at-k = c .before .before .before .before .k in (
       record {
         took = c .put-share .ensures .0 .took ∙ own-at _ (start .args .v) _ _ _ _ _ (start .pre .0 .0 .tables .atom-fits (start .args .a) (start .pre .0 .1 .0))
             (start .pre .0 .1 .1) (at-atom-kind .ensures .0) (at-atom-variable .ensures .0) (at-atom-field .ensures .0) _
@@ -85,8 +84,7 @@ returns-2 c =
     let at-atom-kind = c .before .before .before .before .before .before .atom-kind in
     let at-atom-variable = c .before .before .before .before .before .atom-variable in
     let at-atom-field = c .before .before .before .before .atom-field in
-    let at-locate = c .before .before .before .locate in
-    (
+    let at-locate = c .before .before .before .locate in (
       record {
         took = sym
             (own-lacking _ (start .args .v) _ _ _ _ _ (start .pre .0 .0 .tables .atom-fits (start .args .a) (start .pre .0 .1 .0)) (start .pre .0 .1 .1) (at-atom-kind .ensures .0)

@@ -1,5 +1,3 @@
-use mathlib.Core.Path.{sym, _∙_}
-use Rattle.run_footprint.specs.Footprints.{isChain}
 use borrow.Author.Needs.{needs}
 use Rattle.run_footprint.proofs.chains.chain_by.Statement.{statement}
 use Rattle.run_footprint.proofs.chains.chain_by.Tie as tie

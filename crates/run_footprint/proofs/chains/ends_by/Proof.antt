@@ -1,4 +1,3 @@
-use mathlib.Core.Path.{sym, _∙_}
 use Rattle.run_heap.proofs.Reading.{read-got, read-lacking}
 use Rattle.run_footprint.specs.Footprints.{endsBy, endIs}
 use borrow.Author.Needs.{needs}

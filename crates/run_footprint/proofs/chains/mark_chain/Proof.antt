@@ -91,7 +91,9 @@ loop-again c =
     let at-k = c .before .before .before .before .before .before .before .k in
     let at-cell-value = c .before .before .before .before .cell-value in
     let at-hand-over = c .before .before .hand-over in
-    let R = readable-kept (at-loop .inv .1) (start .pre) in let e = found-is _ _ _ _ _ (spot-at _ _ (at-k .given .1) (at-cell-of .ensures)) in (omega arith, rw (at-hand-over .ensures) (only-trans (at-loop .inv .1) (only-handed _ _ _ _ _ (cell-small _ _ (R .tables) (R .object) e))), rw (at-hand-over .ensures, at-cell-value .ensures) (over-on _ _ _ _ _ _ _ _ _ (at-loop-test .taken) e ∙ at-loop .inv .2))
+    let R = readable-kept (at-loop .inv .1) (start .pre) in
+    let e = found-is _ _ _ _ _ (spot-at _ _ (at-k .given .1) (at-cell-of .ensures)) in
+    (omega arith, rw (at-hand-over .ensures) (only-trans (at-loop .inv .1) (only-handed _ _ _ _ _ (cell-small _ _ (R .tables) (R .object) e))), rw (at-hand-over .ensures, at-cell-value .ensures) (over-on _ _ _ _ _ _ _ _ _ (at-loop-test .taken) e ∙ at-loop .inv .2))
 
 same-length-2 : tie.Need-same-length-2 Inv-loop μ-loop
 same-length-2 c =

@@ -1,4 +1,4 @@
-use mathlib.Core.Path.{sym, _∙_, subst}
+use mathlib.Core.Path.{sym, _∙_}
 use denote.Ref.{now}
 use Rattle.run_heap.specs.Views.{stopOf}
 use Rattle.run_footprint.specs.Footprints.{tookIs, countOf}

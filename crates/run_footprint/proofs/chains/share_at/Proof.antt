@@ -1,4 +1,3 @@
-use mathlib.Core.Path.{sym, _∙_}
 use Rattle.run_footprint.specs.Footprints.{shareAt}
 use borrow.Author.Needs.{needs}
 use Rattle.run_footprint.proofs.chains.share_at.Statement.{statement}

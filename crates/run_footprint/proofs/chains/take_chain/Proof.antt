@@ -74,8 +74,7 @@ returns-2 c =
     let at-variable = c .before .before .before .before .before .before .before .before .before .before .variable in
     let at-if1 = c .before .before .before .before .before .before .before .before .before .if1 in
     let at-walk-beside = c .before .before .before .before .before .before .walk-beside in
-    let at-last = c .before .before .before .before .last in
-    (
+    let at-last = c .before .before .before .before .last in (
       record {
         took = c .put-chain .ensures .0 .took ∙ sym (chain-takes _ (start .args .v) (start .args .a) _ _ _ _ (start .pre .0 .0 .tables .atom-fits (start .args .a) (start .pre .0 .1 .0)) (start .pre .0 .1 .1) (at-atom-variable .ensures .0) (at-atom-field .ensures .0) (at-variable .ensures)
             ∙ chain-walked _ _ _ _ _ _ (at-if1 .left) (read-got _ _ (at-last .given .1) (at-walk-beside .ensures)));
@@ -93,8 +92,7 @@ returns-3 c =
     let at-atom-field = c .before .before .before .before .before .before .before .before .atom-field in
     let at-variable = c .before .before .before .before .before .before .before .variable in
     let at-if1 = c .before .before .before .before .before .before .if1 in
-    let at-walk-beside = c .before .before .before .walk-beside in
-    (
+    let at-walk-beside = c .before .before .before .walk-beside in (
       record {
         took = sym (chain-takes _ (start .args .v) (start .args .a) _ _ _ _ (start .pre .0 .0 .tables .atom-fits (start .args .a) (start .pre .0 .1 .0)) (start .pre .0 .1 .1) (at-atom-variable .ensures .0) (at-atom-field .ensures .0) (at-variable .ensures)
             ∙ chain-stops _ _ _ _ _ _ (at-if1 .left) (read-lacking _ _ (c .before .t .given .1) (at-walk-beside .ensures)));

@@ -1,5 +1,4 @@
 use mathlib.Core.Path.{refl}
-use Prim.Native.Nat.{_<_}
 use Rattle.run_heap.proofs.Reading.{read-got, read-lacking}
 use Rattle.run_steps.proofs.Doing.{fits, size, frames-fit, base-fits, row-small, view-readable, open-operands, open-small, open-does, open-walk-stops}
 use native.Mathlib.Omega.{arith}
